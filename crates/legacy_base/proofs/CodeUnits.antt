@@ -1,0 +1,58 @@
+-- The bytes of a scalar, by its range.
+use Rattle.std.proofs.Common.{◌≡◌, ℕ, ◌+◌, ◌-◌, ◌/◌, ◌%◌, ◌≤◌, ◌<◌, [], ◌∷◌, length, refl, arith}
+use Rattle.std.proofs.lemmas.Bool.{lt-ltb, le-ltb}
+use lib.Utf8.{encode}
+use Rattle.std.proofs.lemmas.Bool.{cases_lt}
+use Rattle.std.proofs.Common.{inl, inr}
+use Rattle.legacy_base.specs.EncodingForm.{EncodingForm, code_units, Utf8, Utf16, bmp_room, wide_room}
+use Rattle.std.specs.Char.Escape.{encode_utf16}
+
+pub encode_1 : (c : ℕ) → c < 128 → encode c ≡ c ∷ []
+unfolding encode
+encode_1 c a = rw (lt-ltb c 128 a) refl
+
+pub encode_2 : (c : ℕ) → 128 ≤ c → c < 2048 → encode c ≡ (192 + c / 64) ∷ (128 + c % 64) ∷ []
+unfolding encode
+encode_2 c a b = rw (le-ltb c 128 a, lt-ltb c 2048 b) refl
+
+pub encode_3 : (c : ℕ) → 2048 ≤ c → c < 65536 → encode c ≡ (224 + c / 4096) ∷ (128 + c / 64 % 64) ∷ (128 + c % 64) ∷ []
+unfolding encode
+encode_3 c a b = let a' : 128 ≤ c = omega arith in rw (le-ltb c 128 a', le-ltb c 2048 a, lt-ltb c 65536 b) refl
+
+pub encode_4 : (c : ℕ) → 65536 ≤ c → encode c ≡ (240 + c / 262144) ∷ (128 + c / 4096 % 64) ∷ (128 + c / 64 % 64) ∷ (128 + c % 64) ∷ []
+unfolding encode
+encode_4 c a = let b : 128 ≤ c = omega arith in let d : 2048 ≤ c = omega arith in rw (le-ltb c 128 b, le-ltb c 2048 d, le-ltb c 65536 a) refl
+
+pub utf16_1 : (c : ℕ) → c < 65536 → encode_utf16 c ≡ c ∷ []
+utf16_1 c a = rw (lt-ltb c 65536 a) refl
+
+pub utf16_2 : (c : ℕ) → 65536 ≤ c → encode_utf16 c ≡ (55296 + (c - 65536) / 1024) ∷ (56320 + (c - 65536) % 1024) ∷ []
+utf16_2 c a = rw (le-ltb c 65536 a) refl
+
+pub ruleset encoding_utf16 = (utf16_1, utf16_2)
+
+pub ruleset encoding = (encode_1, encode_2, encode_3, encode_4)
+
+-- a scalar up to U+FFFF fits into the room for one
+pub length-code_units-bmp : (form : EncodingForm) (c : ℕ) → c < 65536 → length (code_units form c) ≤ bmp_room form
+length-code_units-bmp Utf16 c h = rw (lt-ltb c 65536 h) (omega arith)
+length-code_units-bmp Utf8 c h = elim (cases_lt c 128) [
+  | inl a ↦ rw (encode_1 c a) (omega arith)
+  | inr a ↦ elim (cases_lt c 2048) [
+    | inl b ↦ rw (encode_2 c a b) (omega arith)
+    | inr b ↦ rw (encode_3 c b h) (omega arith)
+  ]
+]
+
+-- any scalar fits into the room for any
+pub length-code_units-wide : (form : EncodingForm) (c : ℕ) → length (code_units form c) ≤ wide_room form
+length-code_units-wide Utf16 c = elim (cases_lt c 65536) [ inl h ↦ rw (lt-ltb c 65536 h) (omega arith) | inr h ↦ rw (le-ltb c 65536 h) (omega arith) ]
+length-code_units-wide Utf8 c = elim (cases_lt c 65536) [
+  | inl h ↦ let a = length-code_units-bmp Utf8 c h in omega arith
+  | inr h ↦ rw (encode_4 c h) (omega arith)
+]
+
+-- an ASCII scalar takes one unit
+pub length-code_units-ascii : (form : EncodingForm) (c : ℕ) → c < 128 → length (code_units form c) ≡ 1
+length-code_units-ascii Utf8 c h = rw (encode_1 c h) refl
+length-code_units-ascii Utf16 c h = let h' : c < 65536 = omega arith in rw (lt-ltb c 65536 h') refl

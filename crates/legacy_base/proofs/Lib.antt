@@ -1,0 +1,3 @@
+pub mod CodeUnits
+pub mod Shifts
+pub mod Cuts

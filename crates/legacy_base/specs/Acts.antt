@@ -1,0 +1,137 @@
+-- What a decoder does next, and how much room in the output that needs.
+use Rattle.std.specs.Prelude.{ℕ, ◌-◌, ◌<◌, ◌≤◌, List, [], ◌∷◌, Option, Some, None, Bool, true, false, not, ◌&&◌, ◌||◌, ◌==◌, if◌then◌else◌, IsTrue, MatchBool, nat_eq}
+use Rattle.std.specs.Char.{is_ascii}
+use Rattle.legacy_base.specs.declared.results.DecodeEvent.{DecodeEvent}
+use Rattle.legacy_base.specs.EncodingForm.{EncodingForm, unit_count, bmp_room, wide_room}
+use Rattle.legacy_base.specs.Grammar.{Grammar, single_byte, user_defined, replacement, utf16, big5, euc_kr, shift_jis, euc_jp, gb18030, iso_2022_jp, events_of}
+use Rattle.legacy_base.specs.States.{DecoderState, rests, is_empty}
+
+-- ---- the next act
+
+-- what a decoder does next: write a scalar that it holds back, read the byte b, or report what is left at the
+-- end of input as malformed
+pub data Act : Type 0 where
+  writes : Act
+  takes : (b : ℕ) → Act
+  reports : Act
+
+-- at the end of the last call, what is left is reported where it has events
+abbrev pub act_at_end : List DecodeEvent → Bool → Option Act
+act_at_end (event ∷ events) true = Some reports
+act_at_end _ _ = None
+
+-- the next act where what is held back rests
+abbrev pub act_at_rest : DecoderState → List ℕ → Bool → Option Act
+act_at_rest state (b ∷ unread) last = Some (takes b)
+act_at_rest state [] last = act_at_end (events_of state.grammar state.held) last
+
+-- the next act, with these bytes unread, on a call that is the last one or is not
+abbrev pub next_act : DecoderState → List ℕ → Bool → Option Act
+next_act state unread last =
+    if rests state.grammar state.held then act_at_rest state unread last else Some writes
+
+-- ---- its room: narrow and wide are the units of the longest scalar up to U+FFFF, and of the longest scalar
+
+-- the room for reading a byte past ASCII
+abbrev pub byte_room : ℕ → ℕ → Grammar → ℕ
+byte_room narrow wide (big5 index) = wide
+byte_room narrow wide (gb18030 index ranges) = wide
+byte_room narrow wide (utf16 big_endian) = wide
+byte_room narrow wide _ = narrow
+
+-- the room for writing what is held back, and for reporting at the end of input
+abbrev pub held_room : ℕ → ℕ → Grammar → ℕ
+held_room narrow wide (big5 index) = wide
+held_room narrow wide (gb18030 index ranges) = wide
+held_room narrow wide _ = narrow
+
+-- the codecs in which an ASCII byte needs one unit where nothing is held back
+abbrev pub has_short_ascii : Grammar → Bool
+has_short_ascii (single_byte table) = true
+has_short_ascii (big5 index) = true
+has_short_ascii (euc_kr index) = true
+has_short_ascii (shift_jis jis0208) = true
+has_short_ascii (euc_jp jis0208 jis0212) = true
+has_short_ascii (gb18030 index ranges) = true
+has_short_ascii _ = false
+
+-- a replacement decoder that has reported needs no room
+abbrev pub has_reported : Grammar → Bool
+has_reported (replacement reported) = reported
+has_reported _ = false
+
+-- the free units that an act needs
+abbrev pub act_room : ℕ → ℕ → DecoderState → Act → ℕ
+act_room narrow wide state writes = held_room narrow wide state.grammar
+act_room narrow wide state reports = held_room narrow wide state.grammar
+act_room narrow wide state (takes b) =
+    if has_reported state.grammar then 0
+    else if (is_ascii b && is_empty state.held) && has_short_ascii state.grammar then 1
+    else byte_room narrow wide state.grammar
+
+-- the room of an act, and 0 for none
+abbrev pub room_of_act : ℕ → ℕ → DecoderState → Option Act → ℕ
+room_of_act narrow wide state None = 0
+room_of_act narrow wide state (Some act) = act_room narrow wide state act
+
+-- the free units that the next act needs, and 0 where there is none
+abbrev pub need : ℕ → ℕ → DecoderState → List ℕ → Bool → ℕ
+need narrow wide state unread last = room_of_act narrow wide state (next_act state unread last)
+
+-- the free code units that the next act needs in an encoding form
+abbrev pub room_needed : EncodingForm → DecoderState → List ℕ → Bool → ℕ
+room_needed form state unread last = need (bmp_room form) (wide_room form) state unread last
+
+-- the next act needs more room than is free
+abbrev pub LacksRoom : EncodingForm → DecoderState → List ℕ → Bool → ℕ → Type 0
+LacksRoom form state unread last free = free < room_needed form state unread last
+
+-- ---- the room that was free before each scalar, and behind the last act
+
+-- the room in an encoding form for reading a byte past ASCII
+abbrev pub full_room : EncodingForm → Grammar → ℕ
+full_room form grammar = byte_room (bmp_room form) (wide_room form) grammar
+
+-- the room in an encoding form for writing what is held back, and for reporting at the end of input
+abbrev pub release_room : EncodingForm → Grammar → ℕ
+release_room form grammar = held_room (bmp_room form) (wide_room form) grammar
+
+-- the room behind a malformed sequence: at the end of input, with nothing read, that of its report
+abbrev pub fault_room : EncodingForm → Grammar → ℕ → ℕ
+fault_room form grammar read = if nat_eq read 0 then release_room form grammar else full_room form grammar
+
+-- Big5 has four pairs that give a letter and a combining mark
+abbrev pub has_marks : Grammar → Bool
+has_marks (big5 index) = true
+has_marks _ = false
+
+-- the scalar is one of those marks, behind one of those letters
+abbrev pub is_mark_behind : Option ℕ → ℕ → Bool
+is_mark_behind None c = false
+is_mark_behind (Some letter) c = (letter == 0xCA || letter == 0xEA) && (c == 0x304 || c == 0x30C)
+
+-- The scalar, behind the one before it, is only written where a byte past ASCII could be read. That is not so of
+-- ASCII where it needs less room, nor of a mark behind its letter.
+abbrev pub wants_full_room : Grammar → Option ℕ → ℕ → Bool
+wants_full_room grammar previous c =
+    not ((has_short_ascii grammar && is_ascii c) || (has_marks grammar && is_mark_behind previous c))
+
+-- each of the scalars was written with the room that it wants, where so many code units were free
+unfoldable pub HadRoom : EncodingForm → Grammar → Option ℕ → ℕ → List ℕ → Type 0
+HadRoom form grammar previous free [] = Unit {0}
+HadRoom form grammar previous free (c ∷ scalars) =
+    (IsTrue (wants_full_room grammar previous c) → full_room form grammar ≤ free)
+    × HadRoom form grammar (Some c) (free - unit_count form c) scalars
+
+-- the same where a scalar that was held back goes first
+unfoldable pub HadRoomReleased : EncodingForm → Grammar → ℕ → List ℕ → Type 0
+HadRoomReleased form grammar free [] = Unit {0}
+HadRoomReleased form grammar free (c ∷ scalars) =
+    (release_room form grammar ≤ free) × HadRoom form grammar (Some c) (free - unit_count form c) scalars
+
+-- the same from a state on
+abbrev pub HadRooms : EncodingForm → DecoderState → ℕ → List ℕ → Type 0
+HadRooms form state free scalars =
+    MatchBool (rests state.grammar state.held)
+    (HadRoom form state.grammar None free scalars)
+    (HadRoomReleased form state.grammar free scalars)

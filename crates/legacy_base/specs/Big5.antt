@@ -1,0 +1,36 @@
+-- The forms of Big5 (WHATWG Encoding Standard, "Big5 decoder").
+use Rattle.std.specs.Prelude.{ℕ, ◌+◌, ◌-◌, ◌*◌, List, [], ◌∷◌, Option, Some, None, ◌==◌, if◌then◌else◌, option_to_list}
+use Rattle.std.specs.Option.{option_map_or}
+use Rattle.std.specs.Int.{is_in_range}
+use Rattle.std.specs.Char.{is_ascii}
+use Rattle.legacy_base.specs.Fronts.{Front, reads, malformed, reads_or, trail_rule}
+use Rattle.legacy_base.specs.Indexes.{idx}
+
+-- the pointer of a lead and a trail, or none where the second byte is no trail
+abbrev pub big5_pointer : ℕ → ℕ → Option ℕ
+big5_pointer lead trail =
+    if is_in_range 0x40 0x7E trail then Some ((lead - 0x81) * 157 + (trail - 0x40))
+    else if is_in_range 0xA1 0xFE trail then Some ((lead - 0x81) * 157 + (trail - 0x62))
+    else None
+
+-- the scalars of a pointer: four pointers give a letter and a combining mark, the others their entry
+abbrev pub big5_scalars : List ℕ → ℕ → List ℕ
+big5_scalars index p =
+    if p == 1133 then 0xCA ∷ 0x304 ∷ []
+    else if p == 1135 then 0xCA ∷ 0x30C ∷ []
+    else if p == 1164 then 0xEA ∷ 0x304 ∷ []
+    else if p == 1166 then 0xEA ∷ 0x30C ∷ []
+    else option_to_list (idx index p)
+
+-- the front after a lead
+unfoldable pub big5_pair : List ℕ → ℕ → List ℕ → Front
+big5_pair index lead [] = malformed 1
+big5_pair index lead (t ∷ rest) =
+    reads_or 2 (option_map_or (big5_scalars index) (big5_pointer lead t) []) (trail_rule 1 t)
+
+-- the front of a list that begins with b
+unfoldable pub big5_front : List ℕ → ℕ → List ℕ → Front
+big5_front index b rest =
+    if is_ascii b then reads 1 (b ∷ [])
+    else if is_in_range 0x81 0xFE b then big5_pair index b rest
+    else malformed 1

@@ -1,0 +1,39 @@
+-- How most decoders of the WHATWG Encoding Standard see a list of bytes: cut into fronts, from first to last.
+use Rattle.std.specs.Prelude.{ℕ, pred, ◌+◌, List, [], ◌∷◌, ◌++◌, map, zero, suc, if◌then◌else◌}
+use Rattle.std.specs.Char.{is_ascii}
+use Rattle.legacy_base.specs.declared.results.DecodeEvent.{DecodeEvent}
+use Rattle.legacy_base.specs.declared.results.DecodeEvent.TheVariants.{Scalar, Bad}
+
+-- what stands at the front of a list: so many bytes that give these scalars, or so many malformed bytes
+pub data Front : Type 0 where
+  reads : ℕ → List ℕ → Front
+  malformed : ℕ → Front
+
+-- how many bytes a front has
+abbrev pub front_length : Front → ℕ
+front_length (reads n scalars) = n
+front_length (malformed n) = n
+
+-- what a front gives that begins at the place
+abbrev pub front_events : ℕ → Front → List DecodeEvent
+front_events place (reads n scalars) = map Scalar scalars
+front_events place (malformed n) = Bad place n ∷ []
+
+-- n bytes with these scalars, or the other front where there are none
+abbrev pub reads_or : ℕ → List ℕ → Front → Front
+reads_or n [] other = other
+reads_or n (c ∷ scalars) other = reads n (c ∷ scalars)
+
+-- The rule of all codecs with leads: n bytes and then t were looked at, and do not map. An ASCII t is no
+-- part of the malformed sequence, and is read again; any other t is its last byte.
+abbrev pub trail_rule : ℕ → ℕ → Front
+trail_rule n t = if is_ascii t then malformed n else malformed (n + 1)
+
+-- The events of a list whose first byte has the place. The first `skip` bytes belong to a front that began
+-- before; then each front begins where the one before it ends. `front b rest` is the front of `b ∷ rest`.
+unfoldable pub cut : (ℕ → List ℕ → Front) → ℕ → ℕ → List ℕ → List DecodeEvent
+cut front skip place [] = []
+cut front zero place (b ∷ rest) =
+    let f = front b rest in
+    front_events place f ++ cut front (pred (front_length f)) (place + 1) rest
+cut front (suc skip) place (b ∷ rest) = cut front skip (place + 1) rest

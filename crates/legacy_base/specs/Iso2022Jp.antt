@@ -1,0 +1,107 @@
+-- The events of ISO-2022-JP (WHATWG Encoding Standard, "ISO-2022-JP decoder"): the list is cut before each
+-- escape byte, and each part is read by itself.
+use Rattle.std.specs.Prelude.{ℕ, ◌+◌, ◌-◌, ◌*◌, List, [], ◌∷◌, ◌++◌, drop, Option, Some, None, Bool, false, not, ◌&&◌, ◌||◌, ◌==◌, if◌then◌else◌, length, is_some, option_to_list, unwrap_or}
+use Rattle.std.specs.Int.{is_in_range}
+use Rattle.std.specs.Char.{is_ascii}
+use Rattle.legacy_base.specs.declared.results.DecodeEvent.{DecodeEvent}
+use Rattle.legacy_base.specs.declared.results.DecodeEvent.TheVariants.{Bad}
+use Rattle.legacy_base.specs.Fronts.{Front, reads, malformed, reads_or, cut}
+use Rattle.legacy_base.specs.Indexes.{idx}
+
+-- how the bytes behind an escape are read
+pub data Mode : Type 0 where
+  ascii roman katakana two_byte : Mode
+
+-- the escape byte
+abbrev pub esc : ℕ
+esc = 0x1B
+
+-- the mode that an escape byte and these two bytes switch to
+abbrev pub escape_mode : ℕ → ℕ → Option Mode
+escape_mode a b =
+    if a == 0x28 && b == 0x42 then Some ascii
+    else if a == 0x28 && b == 0x4A then Some roman
+    else if a == 0x28 && b == 0x49 then Some katakana
+    else if a == 0x24 && (b == 0x40 || b == 0x42) then Some two_byte
+    else None
+
+-- ---- the parts
+
+-- a byte in front of the first part
+abbrev pub with_first : ℕ → List (List ℕ) → List (List ℕ)
+with_first b [] = (b ∷ []) ∷ []
+with_first b (part ∷ parts) = (b ∷ part) ∷ parts
+
+-- the list cut before each escape byte: the first part has none, and may be empty
+unfoldable pub parts_of : List ℕ → List (List ℕ)
+parts_of [] = [] ∷ []
+parts_of (b ∷ bytes) = if b == esc then [] ∷ with_first b (parts_of bytes) else with_first b (parts_of bytes)
+
+-- the mode of the valid escape that a part begins with, if it does
+unfoldable pub part_mode : List ℕ → Option Mode
+part_mode (e ∷ a ∷ b ∷ body) = if e == esc then escape_mode a b else None
+part_mode _ = None
+
+-- how many bytes stand before a part's body: a valid escape, or an escape byte that begins none
+unfoldable pub escape_length : List ℕ → ℕ
+escape_length [] = 0
+escape_length (b ∷ part) =
+    if is_some (part_mode (b ∷ part)) then 3
+    else if b == esc then 1
+    else 0
+
+-- the first part begins with a valid escape
+abbrev pub begins_valid : List (List ℕ) → Bool
+begins_valid [] = false
+begins_valid (part ∷ parts) = is_some (part_mode part)
+
+-- ---- bodies
+
+-- the front of a body that begins with b
+unfoldable pub iso_2022_jp_front : List ℕ → Mode → ℕ → List ℕ → Front
+iso_2022_jp_front jis0208 ascii b rest =
+    if (b == 0x0E || b == 0x0F) || not (is_ascii b) then malformed 1
+    else reads 1 (b ∷ [])
+iso_2022_jp_front jis0208 roman b rest =
+    if (b == 0x0E || b == 0x0F) || not (is_ascii b) then malformed 1
+    else if b == 0x5C then reads 1 (0xA5 ∷ [])
+    else if b == 0x7E then reads 1 (0x203E ∷ [])
+    else reads 1 (b ∷ [])
+iso_2022_jp_front jis0208 katakana b rest =
+    if is_in_range 0x21 0x5F b then reads 1 ((0xFF61 + (b - 0x21)) ∷ []) else malformed 1
+iso_2022_jp_front jis0208 two_byte b [] = malformed 1
+iso_2022_jp_front jis0208 two_byte b (t ∷ rest) =
+    if not (is_in_range 0x21 0x7E b) then malformed 1
+    else if is_in_range 0x21 0x7E t
+    then reads_or 2 (option_to_list (idx jis0208 ((b - 0x21) * 94 + (t - 0x21)))) (malformed 2)
+    else malformed 2
+
+-- ---- the events
+
+-- What stands before a body gives: an escape byte that begins no valid escape is malformed, and so is a
+-- valid escape with nothing behind it but the next valid escape. Any other valid escape gives nothing.
+unfoldable pub escape_events : ℕ → List ℕ → List (List ℕ) → List DecodeEvent
+escape_events place [] next = []
+escape_events place (b ∷ part) next =
+    if is_some (part_mode (b ∷ part))
+    then (if length (b ∷ part) == 3 && begins_valid next then Bad place 3 ∷ [] else [])
+    else if b == esc then Bad place 1 ∷ []
+    else []
+
+-- what a part gives that begins at the place, is read in the mode and has these parts behind it
+unfoldable pub part_events : List ℕ → Mode → ℕ → List ℕ → List (List ℕ) → List DecodeEvent
+part_events jis0208 mode place part next =
+    escape_events place part next
+    ++ cut (iso_2022_jp_front jis0208 mode) 0 (place + escape_length part) (drop (escape_length part) part)
+
+-- What parts give, the first at the place and after a part in the mode: each is in the mode of its own valid
+-- escape, or of the part before it.
+unfoldable pub parts_events : List ℕ → Mode → ℕ → List (List ℕ) → List DecodeEvent
+parts_events jis0208 mode place [] = []
+parts_events jis0208 mode place (part ∷ parts) =
+    part_events jis0208 (unwrap_or (part_mode part) mode) place part parts
+    ++ parts_events jis0208 (unwrap_or (part_mode part) mode) (place + length part) parts
+
+-- the events of a list that begins in the mode
+unfoldable pub iso_2022_jp_events : List ℕ → Mode → List ℕ → List DecodeEvent
+iso_2022_jp_events jis0208 mode bytes = parts_events jis0208 mode 0 (parts_of bytes)

@@ -1,0 +1,26 @@
+-- What the codecs mean, in the order in which a reader comes to believe it. An `abbrev` is a small case analysis, which
+-- proofs see through. What recurses on lists, or holds a codec's whole case analysis, is `unfoldable`: a proof opens it
+-- where it wants to, and else goes by its laws.
+pub mod Unicode
+pub mod EncodingForm
+pub mod Events
+pub mod Fronts
+pub mod Indexes
+pub mod SingleByte
+pub mod UserDefined
+pub mod Replacement
+pub mod Big5
+pub mod EucKr
+pub mod ShiftJis
+pub mod EucJp
+pub mod Gb18030
+pub mod Iso2022Jp
+pub mod Utf16
+pub mod Grammar
+pub mod States
+pub mod Acts
+pub mod Lengths
+pub mod Calls
+pub mod Cursor
+pub mod Destinations
+pub mod Latin1

@@ -1,0 +1,42 @@
+-- The forms of Shift_JIS (WHATWG Encoding Standard, "Shift_JIS decoder").
+use Rattle.std.specs.Prelude.{ℕ, ◌+◌, ◌-◌, ◌*◌, List, [], ◌∷◌, Option, Some, None, Bool, ◌||◌, ◌==◌, if◌then◌else◌, option_to_list}
+use Rattle.std.specs.Option.{option_map_or}
+use Rattle.std.specs.Int.{is_in_range}
+use Rattle.std.specs.Char.{is_ascii}
+use Rattle.legacy_base.specs.Fronts.{Front, reads, malformed, reads_or, trail_rule}
+use Rattle.legacy_base.specs.Indexes.{idx}
+
+-- the bytes that begin a pair
+abbrev pub is_shift_jis_lead : ℕ → Bool
+is_shift_jis_lead b = is_in_range 0x81 0x9F b || is_in_range 0xE0 0xFC b
+
+-- the number of a lead among the leads
+abbrev pub shift_jis_lead_part : ℕ → ℕ
+shift_jis_lead_part lead = if is_in_range 0x81 0x9F lead then lead - 0x81 else lead - 0xC1
+
+-- the pointer of a lead and a trail, or none where the second byte is no trail
+abbrev pub shift_jis_pointer : ℕ → ℕ → Option ℕ
+shift_jis_pointer lead trail =
+    if is_in_range 0x40 0x7E trail then Some (shift_jis_lead_part lead * 188 + (trail - 0x40))
+    else if is_in_range 0x80 0xFC trail then Some (shift_jis_lead_part lead * 188 + (trail - 0x41))
+    else None
+
+-- the scalar of a pointer, if there is one: those for private use go from U+E000 on
+abbrev pub shift_jis_scalars : List ℕ → ℕ → List ℕ
+shift_jis_scalars jis0208 p =
+    if is_in_range 8836 10715 p then (0xE000 + (p - 8836)) ∷ []
+    else option_to_list (idx jis0208 p)
+
+-- the front after a lead
+unfoldable pub shift_jis_pair : List ℕ → ℕ → List ℕ → Front
+shift_jis_pair jis0208 lead [] = malformed 1
+shift_jis_pair jis0208 lead (t ∷ rest) =
+    reads_or 2 (option_map_or (shift_jis_scalars jis0208) (shift_jis_pointer lead t) []) (trail_rule 1 t)
+
+-- the front of a list that begins with b
+unfoldable pub shift_jis_front : List ℕ → ℕ → List ℕ → Front
+shift_jis_front jis0208 b rest =
+    if is_ascii b || b == 0x80 then reads 1 (b ∷ [])
+    else if is_in_range 0xA1 0xDF b then reads 1 ((0xFF61 + (b - 0xA1)) ∷ [])
+    else if is_shift_jis_lead b then shift_jis_pair jis0208 b rest
+    else malformed 1

@@ -1,0 +1,51 @@
+-- The events of UTF-16 (WHATWG Encoding Standard, "shared UTF-16 decoder"): the bytes are turned into units,
+-- and then high and low surrogates that are neighbours are paired.
+use Rattle.std.specs.Prelude.{ℕ, ◌+◌, ◌*◌, List, [], ◌∷◌, ◌++◌, Bool, true, false, ◌&&◌, ◌||◌, if◌then◌else◌}
+use Rattle.std.specs.Char.Utf16.{is_high_surrogate, is_low_surrogate, surrogate_pair_char}
+use Rattle.legacy_base.specs.declared.results.DecodeEvent.{DecodeEvent}
+use Rattle.legacy_base.specs.declared.results.DecodeEvent.TheVariants.{Scalar, Bad}
+
+-- the unit of two bytes, in the byte order
+abbrev pub unit_of : Bool → ℕ → ℕ → ℕ
+unit_of big_endian a b = if big_endian then a * 0x100 + b else b * 0x100 + a
+
+-- the units of a list of bytes
+unfoldable pub units_of : Bool → List ℕ → List ℕ
+units_of big_endian [] = []
+units_of big_endian (a ∷ []) = []
+units_of big_endian (a ∷ b ∷ bytes) = unit_of big_endian a b ∷ units_of big_endian bytes
+
+-- a byte is left over at the end
+unfoldable pub has_odd_byte : List ℕ → Bool
+has_odd_byte [] = false
+has_odd_byte (a ∷ []) = true
+has_odd_byte (a ∷ b ∷ bytes) = has_odd_byte bytes
+
+-- what the unit with the index i gives, unpaired
+abbrev pub lone_unit_events : ℕ → ℕ → List DecodeEvent
+lone_unit_events i u =
+    if is_high_surrogate u || is_low_surrogate u then Bad (2 * i) 2 ∷ [] else Scalar u ∷ []
+
+-- what stands at the end gives: nothing, or a byte that is left over
+abbrev pub odd_byte_events : ℕ → Bool → List DecodeEvent
+odd_byte_events i false = []
+odd_byte_events i true = Bad (2 * i) 1 ∷ []
+
+-- what the last unit gives, unpaired: a high surrogate and a byte that is left over are one sequence
+abbrev pub last_unit_events : ℕ → ℕ → Bool → List DecodeEvent
+last_unit_events i u odd =
+    if is_high_surrogate u && odd then Bad (2 * i) 3 ∷ []
+    else lone_unit_events i u ++ odd_byte_events (i + 1) odd
+
+-- the events of units, the first with the index i, and perhaps of a byte behind them
+unfoldable pub units_events : ℕ → List ℕ → Bool → List DecodeEvent
+units_events i [] odd = odd_byte_events i odd
+units_events i (u ∷ []) odd = last_unit_events i u odd
+units_events i (u ∷ v ∷ units) odd = elim (is_high_surrogate u && is_low_surrogate v) [
+  | true ↦ Scalar (surrogate_pair_char u v) ∷ units_events (i + 2) units odd
+  | false ↦ lone_unit_events i u ++ units_events (i + 1) (v ∷ units) odd
+]
+
+-- the events of a list of bytes
+unfoldable pub utf16_events : Bool → List ℕ → List DecodeEvent
+utf16_events big_endian bytes = units_events 0 (units_of big_endian bytes) (has_odd_byte bytes)

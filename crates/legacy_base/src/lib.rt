@@ -1,0 +1,13 @@
+//! What all legacy codecs of the WHATWG Encoding Standard stand on: results and events, cursors,
+//! destinations, and the trait of the decoders with the law that each of their calls keeps.
+#![tactic(auto)]
+
+mod decoder;
+mod destination;
+mod results;
+mod source;
+
+pub use decoder::RawDecoder;
+pub use destination::{Destination, Utf8Destination, Utf16Destination};
+pub use results::{DecodeEvent, DecoderResult};
+pub use source::ByteSource;
