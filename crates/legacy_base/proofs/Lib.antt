@@ -1,3 +1,8 @@
+-- Laws of the definitions.
 pub mod CodeUnits
+pub mod SameUnits
 pub mod Shifts
 pub mod Cuts
+pub mod Progress
+pub mod Rooms
+pub mod Enough

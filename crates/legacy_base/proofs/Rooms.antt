@@ -1,0 +1,148 @@
+-- Laws of the room that acts need and scalars had.
+use Rattle.std.proofs.Common.{◌≡◌, ◌≢◌, ◌∙◌, ℕ, ◌+◌, ◌-◌, ◌≤◌, ◌<◌, List, [], ◌∷◌, ◌++◌, length, refl, ap, subst, arith, length-append, Bool, true, false, not, ◌||◌, ◌&&◌, IsTrue, Some, None, cond, Option}
+use Rattle.std.specs.Prelude.{MatchBool}
+use Rattle.std.specs.Char.{is_ascii}
+use Rattle.std.proofs.lemmas.List.Concat.{flat_map-append}
+use Rattle.std.proofs.Math.Nat.{sub-zero}
+use Rattle.legacy_base.specs.declared.results.DecodeEvent.{DecodeEvent}
+use Rattle.legacy_base.specs.EncodingForm.{EncodingForm, Utf8, Utf16, code_units, unit_count, all_code_units, total_unit_count, bmp_room, wide_room}
+use Rattle.legacy_base.specs.Grammar.{Grammar, events_of, single_byte, user_defined, replacement, utf16, big5, euc_kr, shift_jis, euc_jp, gb18030, iso_2022_jp}
+use Rattle.legacy_base.specs.States.{DecoderState, rests, is_empty}
+use Rattle.legacy_base.specs.Acts.{Act, writes, takes, reports, act_at_end, act_room, act_at_rest, room_of_act, byte_room, held_room, has_reported, has_short_ascii, has_marks, is_mark_behind, room_needed, LacksRoom, wants_full_room, release_room, HadRoom, HadRoomReleased, HadRooms}
+
+pub all_code_units-append : (form : EncodingForm) (xs ys : List ℕ) → all_code_units form (xs ++ ys) ≡ all_code_units form xs ++ all_code_units form ys
+all_code_units-append form xs ys = flat_map-append (code_units form) xs ys
+
+pub total_unit_count-append : (form : EncodingForm) (xs ys : List ℕ) → total_unit_count form (xs ++ ys) ≡ total_unit_count form xs + total_unit_count form ys
+total_unit_count-append form xs ys = ap length (all_code_units-append form xs ys) ∙ length-append (all_code_units form xs) (all_code_units form ys)
+
+-- ---- the room that scalars had
+
+-- a scalar wants no more room behind another than it wants first
+less_behind : (short marks : Bool) (behind : Bool) → IsTrue (not (short || (marks && behind))) → IsTrue (not (short || (marks && false)))
+less_behind true marks behind h = h
+less_behind false true behind h = refl
+less_behind false false behind h = refl
+
+HadRoom-behind : (form : EncodingForm) (g : Grammar) (p free : ℕ) (cs : List ℕ) → HadRoom form g None free cs → HadRoom form g (Some p) free cs
+unfolding HadRoom
+HadRoom-behind form g p free [] h = tt
+HadRoom-behind form g p free (c ∷ cs) h =
+    (λ w. h.0 (less_behind (has_short_ascii g && is_ascii c) (has_marks g) (is_mark_behind (Some p) c) w), h.1)
+
+joined : (form : EncodingForm) (free x : ℕ) (xs : List ℕ) → free - total_unit_count form (x ∷ xs) ≡ free - unit_count form x - total_unit_count form xs
+joined form free x xs = omega (arith, length-append (code_units form x) (all_code_units form xs))
+
+pub HadRoom-append : (form : EncodingForm) (g : Grammar) (previous : Option ℕ) (free : ℕ) (xs ys : List ℕ) → HadRoom form g previous free xs → HadRoom form g None (free - total_unit_count form xs) ys → HadRoom form g previous free (xs ++ ys)
+unfolding HadRoom
+HadRoom-append form g None free [] ys a b = subst (λ n. HadRoom form g None n ys) (sub-zero free) b
+HadRoom-append form g (Some p) free [] ys a b = HadRoom-behind form g p free ys (subst (λ n. HadRoom form g None n ys) (sub-zero free) b)
+HadRoom-append form g previous free (x ∷ xs) ys a b =
+    (a.0, HadRoom-append form g (Some x) (free - unit_count form x) xs ys a.1 (subst (λ n. HadRoom form g None n ys) (joined form free x xs) b))
+
+HadRoomReleased-append : (form : EncodingForm) (g : Grammar) (free : ℕ) (xs ys : List ℕ) → xs ≢ [] → HadRoomReleased form g free xs → HadRoom form g None (free - total_unit_count form xs) ys → HadRoomReleased form g free (xs ++ ys)
+unfolding HadRoomReleased
+HadRoomReleased-append form g free [] ys n a b = absurd (n refl)
+HadRoomReleased-append form g free (x ∷ xs) ys n a b =
+    (a.0, HadRoom-append form g (Some x) (free - unit_count form x) xs ys a.1 (subst (λ n. HadRoom form g None n ys) (joined form free x xs) b))
+
+pub HadRooms-append : (form : EncodingForm) (s : DecoderState) (free : ℕ) (xs ys : List ℕ) → (rests s.grammar s.held ≡ false → xs ≢ []) → HadRooms form s free xs → HadRoom form s.grammar None (free - total_unit_count form xs) ys → HadRooms form s free (xs ++ ys)
+HadRooms-append form s free xs ys n a b = by_rest (rests s.grammar s.held) n a where
+  by_rest : (r : Bool) → (r ≡ false → xs ≢ []) → MatchBool r (HadRoom form s.grammar None free xs) (HadRoomReleased form s.grammar free xs) → MatchBool r (HadRoom form s.grammar None free (xs ++ ys)) (HadRoomReleased form s.grammar free (xs ++ ys))
+  by_rest true n a = HadRoom-append form s.grammar None free xs ys a b
+  by_rest false n a = HadRoomReleased-append form s.grammar free xs ys (n refl) a b
+
+pub HadRooms-none : (form : EncodingForm) (s : DecoderState) (free : ℕ) → HadRooms form s free []
+unfolding HadRoom HadRoomReleased
+HadRooms-none form s free = by_rest (rests s.grammar s.held) where
+  by_rest : (r : Bool) → MatchBool r (HadRoom form s.grammar None free []) (HadRoomReleased form s.grammar free [])
+  by_rest true = tt
+  by_rest false = tt
+
+pub HadRooms-released : (form : EncodingForm) (s : DecoderState) (free c : ℕ) → rests s.grammar s.held ≡ false → release_room form s.grammar ≤ free → HadRooms form s free (c ∷ [])
+unfolding HadRoom HadRoomReleased
+HadRooms-released form s free c r h = rw r one where
+  one : HadRoomReleased form s.grammar free (c ∷ [])
+  one = (h, tt)
+
+-- ---- the next act
+
+pub room_needed-release : (form : EncodingForm) (s : DecoderState) (source : List ℕ) (last : Bool) → rests s.grammar s.held ≡ false → room_needed form s source last ≡ release_room form s.grammar
+room_needed-release form s source last e = rw e refl
+
+pub room_needed-read : (form : EncodingForm) (s : DecoderState) (x : ℕ) (xs : List ℕ) (last : Bool) → rests s.grammar s.held ≡ true → room_needed form s (x ∷ xs) last ≡ act_room (bmp_room form) (wide_room form) s (takes x)
+room_needed-read form s x xs last e = rw e refl
+
+-- there is an event at the end of input, or there is none
+pub is_none : List DecodeEvent → Bool
+is_none [] = true
+is_none (e ∷ es) = false
+
+pub room_needed-report : (form : EncodingForm) (s : DecoderState) → rests s.grammar s.held ≡ true → events_of s.grammar s.held ≢ [] → room_needed form s [] true ≡ release_room form s.grammar
+room_needed-report form s e f = rw e (by_events (events_of s.grammar s.held) f) where
+  by_events : (es : List DecodeEvent) → es ≢ [] → room_of_act (bmp_room form) (wide_room form) s (act_at_end es true) ≡ release_room form s.grammar
+  by_events [] f = absurd (f refl)
+  by_events (x ∷ es) f = refl
+
+pub room_needed-none : (form : EncodingForm) (s : DecoderState) (last : Bool) → rests s.grammar s.held ≡ true → (IsTrue last → events_of s.grammar s.held ≡ []) → room_needed form s [] last ≡ 0
+room_needed-none form s last e f = rw e (by_last last f) where
+  ended : (es : List DecodeEvent) → room_of_act (bmp_room form) (wide_room form) s (act_at_end es false) ≡ 0
+  ended [] = refl
+  ended (x ∷ es) = refl
+  by_last : (l : Bool) → (IsTrue l → events_of s.grammar s.held ≡ []) → room_of_act (bmp_room form) (wide_room form) s (act_at_end (events_of s.grammar s.held) l) ≡ 0
+  by_last false f = ended (events_of s.grammar s.held)
+  by_last true f = rw (f refl) refl
+
+bmp_small : (form : EncodingForm) → bmp_room form ≤ wide_room form
+bmp_small Utf8 = omega arith
+bmp_small Utf16 = omega arith
+
+wide_some : (form : EncodingForm) → 1 ≤ wide_room form
+wide_some Utf8 = omega arith
+wide_some Utf16 = omega arith
+
+byte_most : (form : EncodingForm) (g : Grammar) → byte_room (bmp_room form) (wide_room form) g ≤ wide_room form
+byte_most form (single_byte table) = bmp_small form
+byte_most form user_defined = bmp_small form
+byte_most form (replacement reported) = bmp_small form
+byte_most form (utf16 big_endian) = omega arith
+byte_most form (big5 index) = omega arith
+byte_most form (euc_kr index) = bmp_small form
+byte_most form (shift_jis jis0208) = bmp_small form
+byte_most form (euc_jp jis0208 jis0212) = bmp_small form
+byte_most form (gb18030 index ranges) = omega arith
+byte_most form (iso_2022_jp jis0208 mode) = bmp_small form
+
+release_most : (form : EncodingForm) (g : Grammar) → release_room form g ≤ wide_room form
+release_most form (single_byte table) = bmp_small form
+release_most form user_defined = bmp_small form
+release_most form (replacement reported) = bmp_small form
+release_most form (utf16 big_endian) = bmp_small form
+release_most form (big5 index) = omega arith
+release_most form (euc_kr index) = bmp_small form
+release_most form (shift_jis jis0208) = bmp_small form
+release_most form (euc_jp jis0208 jis0212) = bmp_small form
+release_most form (gb18030 index ranges) = omega arith
+release_most form (iso_2022_jp jis0208 mode) = bmp_small form
+
+two_tests : (a b : Bool) (x y most : ℕ) → x ≤ most → 1 ≤ most → cond a 0 (cond b 1 x) ≤ most
+two_tests true b x y most h k = omega arith
+two_tests false true x y most h k = k
+two_tests false false x y most h k = h
+
+act_most : (form : EncodingForm) (s : DecoderState) (act : Act) → act_room (bmp_room form) (wide_room form) s act ≤ wide_room form
+act_most form s writes = release_most form s.grammar
+act_most form s reports = release_most form s.grammar
+act_most form s (takes b) =
+    two_tests (has_reported s.grammar) ((is_ascii b && is_empty s.held) && has_short_ascii s.grammar) (byte_room (bmp_room form) (wide_room form) s.grammar) 0 (wide_room form)
+    (byte_most form s.grammar) (wide_some form)
+
+-- no act needs more than the room of any scalar
+pub lacks_small : (form : EncodingForm) (s : DecoderState) (source : List ℕ) (last : Bool) (free : ℕ) → LacksRoom form s source last free → free < wide_room form
+lacks_small form s source last free l = let m = any_most (rests s.grammar s.held) source in omega arith where
+  option_most : (o : Option Act) → room_of_act (bmp_room form) (wide_room form) s o ≤ wide_room form
+  option_most None = omega arith
+  option_most (Some act) = act_most form s act
+  any_most : (r : Bool) (source : List ℕ) → room_of_act (bmp_room form) (wide_room form) s (cond r (act_at_rest s source last) (Some writes)) ≤ wide_room form
+  any_most true source = option_most (act_at_rest s source last)
+  any_most false source = option_most (Some writes)
