@@ -1,0 +1,146 @@
+use Rattle.std.proofs.Common.{◌≡◌, ◌≢◌, ◌∙◌, ℕ, ◌+◌, ◌-◌, ◌≤◌, ◌<◌, [], ◌∷◌, ◌++◌, length, get_or, arith, refl, sym, ap, subst, Bool, true, false, IsTrue, append_assoc, append-nil, add-zero, length-append, ◌↔◌}
+use Rattle.std.proofs.lemmas.Bool.{iff_false, false≢true}
+use Rattle.std.proofs.Math.Nat.{sub-zero}
+use Rattle.legacy_base.specs.declared.results.DecoderResult.TheVariants.{InputEmpty, OutputFull, Malformed}
+use Rattle.legacy_base.specs.EncodingForm.{EncodingForm, unit_count, code_units, all_code_units, total_unit_count}
+use Rattle.legacy_base.specs.Grammar.{events_of}
+use Rattle.legacy_base.specs.Calls.{DecoderCall}
+use Rattle.legacy_base.proofs.Rooms.{all_code_units-append, total_unit_count-append}
+use Rattle.legacy_decoders.specs.declared.machine.Fed.{Fed}
+use Rattle.legacy_decoders.specs.declared.machine.Fed.TheVariants.{Nothing, One, Two, Fault}
+use Rattle.legacy_decoders.specs.Moves.{fed_scalars, IsFaulty}
+use Rattle.legacy_decoders.proofs.Going.{going_start, going_release, going_feed, call_full_read, call_full_release, call_full_report, call_fault_read, call_fault_unread, call_done, call_report}
+use Rattle.legacy_decoders.proofs.machine.drive.Goals as goal
+use Rattle.legacy_decoders.proofs.machine.drive.Goals.{then-not-rests+else-not-has_room+in-Some, else-not-rests, else-last-via-then-last+else-has_rest, else-last-via-else-last}
+
+no_room : (b : Bool) (asked have units free want : ℕ) → ((b ≡ true) ↔ (asked ≤ have)) → b ≡ false → asked ≡ want → have + units ≡ free → free - units < want
+no_room true asked have units free want i f e r = cc
+no_room false asked have units free want i f e r = let n = iff_false i f in let k : asked ≤ have → ⊥ = n in omega (arith, k)
+
+some_room : (b : Bool) (asked have units free want : ℕ) → ((b ≡ true) ↔ (asked ≤ have)) → b ≡ true → asked ≡ want → have + units ≡ free → want ≤ free - units
+some_room b asked have units free want i t e r = let k = i.0 t in omega arith
+
+sound : (fed : Fed) → ((a b : ℕ) (u : Bool) → fed ≡ Fault a b u → ⊥) → IsFaulty fed → ⊥
+sound Nothing h f = f
+sound (One c) h f = f
+sound (Two c d) h f = f
+sound (Fault a b u) h f = h a b u refl
+
+pub returns-then-not-has_room-2-clause-call : goal.returns-then-not-has_room-2-clause-call
+returns-then-not-has_room-2-clause-call g c =
+    let i = c.loop-read.invariant in
+    let F = g.T.Destination.form in (
+      i.0,
+      call_full_read F _ _ _ _ _ _ _ i.1 c.room-in-loop-read.ensures.covered (get_or c.args.src.now c.loop-read.read 0) c.loop-read-test.true refl
+          (no_room _ _ _ _ _ _ c.has_room-in-loop-read.ensures c.if-not-has_room-2.true (c.room-in-loop-read.ensures.units F) i.3),
+      i.2,
+    )
+
+pub returns-then-unread-clause-call : goal.returns-then-unread-clause-call
+returns-then-unread-clause-call g c =
+    let i = c.loop-read.invariant in
+    let F = g.T.Destination.form in
+    let f = c.in-Fault.ensures in (
+      i.0,
+      call_fault_unread F _ _ _ _ _ _ _ i.1 (get_or c.args.src.now c.loop-read.read 0) _ c.in-Fault.length c.in-Fault.back c.loop-read-test.true refl
+          (rw c.if-unread.true at f)
+          (some_room _ _ _ _ _ _ c.has_room-in-loop-read.ensures c.if-not-has_room-2.false (c.room-in-loop-read.ensures.units F) i.3),
+      i.2,
+    )
+
+pub returns-in-Fault-clause-call : goal.returns-in-Fault-clause-call
+returns-in-Fault-clause-call g c =
+    let i = c.loop-read.invariant in
+    let F = g.T.Destination.form in
+    let f = c.in-Fault.ensures in (
+      i.0,
+      call_fault_read F _ _ _ _ _ _ _ i.1 (get_or c.args.src.now c.loop-read.read 0) _ c.in-Fault.length c.in-Fault.back c.loop-read-test.true refl
+          (rw c.if-unread.false at f)
+          (some_room _ _ _ _ _ _ c.has_room-in-loop-read.ensures c.if-not-has_room-2.false (c.room-in-loop-read.ensures.units F) i.3),
+      i.2,
+    )
+
+pub loop-read-preserved : goal.loop-read-preserved
+loop-read-preserved g c =
+    let i = c.loop-read.invariant in
+    let F = g.T.Destination.form in
+    let room = some_room _ _ _ _ _ _ c.has_room-in-loop-read.ensures c.if-not-has_room-2.false (c.room-in-loop-read.ensures.units F) i.3 in (
+      i.0 ++ fed_scalars c.feed-fed.result,
+      going_feed F _ _ _ _ _ _ _ i.1 (get_or c.args.src.now c.loop-read.read 0) _ c.feed-fed.result c.loop-read-test.true refl c.feed-fed.ensures (sound c.feed-fed.result c.in_default-fed.not-Fault) room,
+      c.put_fed.ensures.contents ∙ ap (λ l. l ++ all_code_units F (fed_scalars c.feed-fed.result)) i.2 ∙ append_assoc (g.T.Destination.contents c.args.dst.now) (all_code_units F i.0) (all_code_units F (fed_scalars c.feed-fed.result)) ∙ ap (λ l. g.T.Destination.contents c.args.dst.now ++ l) (sym (all_code_units-append F i.0 (fed_scalars c.feed-fed.result))),
+      omega (arith, total_unit_count-append F i.0 (fed_scalars c.feed-fed.result), c.put_fed.ensures.room, i.3),
+      c.put_fed.ensures.loan ∙ i.4,
+    )
+
+one_more : (form : EncodingForm) (c : ℕ) (room free : ℕ) → room + unit_count form c ≡ free → room + total_unit_count form (c ∷ []) ≡ free
+one_more form c room free e = simp length-append (omega arith)
+
+pub loop-read-init : goal.loop-read-init
+loop-read-init g c =
+    let F = g.T.Destination.form in
+    let T = g.T.Destination in
+    elim c.if-not-rests.branch [
+      | then-not-rests+else-not-has_room+in-Some w ↦
+          let room = some_room _ _ _ 0 (T.room c.args.dst.now) _ w.has_room.ensures w.if-not-has_room.false (w.room.ensures.units F) (add-zero _) in
+          rw (w.decoder-is, w.dst-is) (
+            w.in-Some.scalar ∷ [],
+            going_release F _ _ _ _ _ w.in-Some.scalar (sym c.rests.ensures ∙ w.if-not-rests.true) (rw sub-zero at room) w.in-Some.ensures,
+            w.put.ensures.contents ∙ ap (λ l. T.contents c.args.dst.now ++ l) (sym (append-nil (code_units F w.in-Some.scalar))),
+            one_more F w.in-Some.scalar _ _ w.put.ensures.room,
+            w.put.ensures.loan,
+          )
+      | else-not-rests w ↦
+          rw (w.decoder-is, w.dst-is) (
+            [],
+            going_start F _ _ _ _ (sym c.rests.ensures ∙ w.if-not-rests.false),
+            sym (append-nil (T.contents c.args.dst.now)),
+            add-zero (T.room c.args.dst.now),
+            refl,
+          )
+    ]
+
+pub returns-then-not-has_room-clause-call : goal.returns-then-not-has_room-clause-call
+returns-then-not-has_room-clause-call g c =
+    let F = g.T.Destination.form in
+    let room = no_room _ _ _ 0 (g.T.Destination.room c.args.dst.now) _ c.has_room.ensures c.if-not-has_room.true (c.room.ensures.units F) (add-zero _) in
+    ([], call_full_release F _ _ _ _ c.room.ensures.covered (sym c.rests.ensures ∙ c.if-not-rests.true) (rw sub-zero at room), sym (append-nil (g.T.Destination.contents c.args.dst.now)))
+
+pub returns-then-not-has_room-3-clause-call : goal.returns-then-not-has_room-3-clause-call
+returns-then-not-has_room-3-clause-call g c =
+    let i = c.loop-read.invariant in
+    let F = g.T.Destination.form in
+    let all : c.loop-read.read ≡ length c.args.src.now = omega arith in (
+      i.0,
+      subst (λ n. DecoderCall F (g.D.Machine.state c.args.decoder.now) c.args.src.now c.args.last (g.T.Destination.room c.args.dst.now) (g.D.Machine.state c.loop-read.decoder) OutputFull n i.0) all
+          (call_full_report F _ _ _ _ _ _ _ i.1 c.room-then-has_rest.ensures.covered all c.if-last.true (c.has_rest.ensures.some c.if-has_rest.true)
+          (no_room _ _ _ _ _ _ c.has_room-then-has_rest.ensures c.if-not-has_room-3.true (c.room-then-has_rest.ensures.units F) i.3)),
+      i.2,
+    )
+
+pub returns-then-has_rest-clause-call : goal.returns-then-has_rest-clause-call
+returns-then-has_rest-clause-call g c =
+    let i = c.loop-read.invariant in
+    let F = g.T.Destination.form in
+    let all : c.loop-read.read ≡ length c.args.src.now = omega arith in (
+      i.0,
+      subst (λ n. DecoderCall F (g.D.Machine.state c.args.decoder.now) c.args.src.now c.args.last (g.T.Destination.room c.args.dst.now) (g.D.Machine.state c.report.new.self) (Malformed c.in-Some-report.length c.in-Some-report.back) n i.0) all
+          (call_report F _ _ _ _ _ _ _ i.1 _ _ _ all c.if-last.true (c.has_rest.ensures.some c.if-has_rest.true)
+          (some_room _ _ _ _ _ _ c.has_room-then-has_rest.ensures c.if-not-has_room-3.false (c.room-then-has_rest.ensures.units F) i.3) c.in-Some-report.ensures),
+      i.2,
+    )
+
+pub returns-clause-call : goal.returns-clause-call
+returns-clause-call g c =
+    let i = c.loop-read.invariant in
+    let F = g.T.Destination.form in
+    let all : c.loop-read.read ≡ length c.args.src.now = omega arith in
+    let none : IsTrue c.args.last → events_of (g.D.Machine.state c.loop-read.decoder).grammar (g.D.Machine.state c.loop-read.decoder).held ≡ [] =
+    elim c.else-last.branch [
+      | else-last-via-then-last+else-has_rest w ↦ λ l. w.has_rest.ensures.none w.if-has_rest.false
+      | else-last-via-else-last w ↦ λ l. absurd (false≢true (sym w.if-last.false ∙ l))
+    ] in (
+      i.0,
+      subst (λ n. DecoderCall F (g.D.Machine.state c.args.decoder.now) c.args.src.now c.args.last (g.T.Destination.room c.args.dst.now) (g.D.Machine.state c.loop-read.decoder) InputEmpty n i.0) all
+          (call_done F _ _ _ _ _ _ _ i.1 all none),
+      i.2,
+    )

@@ -1,0 +1,7 @@
+//! The decoders of the legacy encodings: each is a machine of small moves under one loop.
+#![tactic(auto)]
+
+mod machine;
+
+
+
