@@ -51,6 +51,6 @@ room-answer query s m n k h e =
     let v = answer-value (state_formula query s n) k e in
     let r = rises query s.grammar s.held m n h in
     by_test (has_reported s.grammar) (omega arith) where
-  by_test : (b : Bool) → value (state_formula query s m) ≤ k → cond b 0 (value (state_formula query s m)) ≤ k
-  by_test true p = omega arith
-  by_test false p = p
+      by_test : (b : Bool) → value (state_formula query s m) ≤ k → cond b 0 (value (state_formula query s m)) ≤ k
+      by_test true p = omega arith
+      by_test false p = p

@@ -89,6 +89,7 @@ room_needed-none form s last e f = rw e (by_last last f) where
   ended : (es : List DecodeEvent) → room_of_act (bmp_room form) (wide_room form) s (act_at_end es false) ≡ 0
   ended [] = refl
   ended (x ∷ es) = refl
+
   by_last : (l : Bool) → (IsTrue l → events_of s.grammar s.held ≡ []) → room_of_act (bmp_room form) (wide_room form) s (act_at_end (events_of s.grammar s.held) l) ≡ 0
   by_last false f = ended (events_of s.grammar s.held)
   by_last true f = rw (f refl) refl
@@ -143,6 +144,7 @@ lacks_small form s source last free l = let m = any_most (rests s.grammar s.held
   option_most : (o : Option Act) → room_of_act (bmp_room form) (wide_room form) s o ≤ wide_room form
   option_most None = omega arith
   option_most (Some act) = act_most form s act
+
   any_most : (r : Bool) (source : List ℕ) → room_of_act (bmp_room form) (wide_room form) s (cond r (act_at_rest s source last) (Some writes)) ≤ wide_room form
   any_most true source = option_most (act_at_rest s source last)
   any_most false source = option_most (Some writes)

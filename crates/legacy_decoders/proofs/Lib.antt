@@ -1,2 +1,25 @@
 -- How the moves of each decoder follow from its grammar, and calls from the moves.
 pub mod Going
+pub mod FrontMoves
+pub mod OneByteMoves
+pub mod TwoByteMoves
+pub mod EucJpMoves
+pub mod Gb18030Moves
+pub mod Utf16Moves
+pub mod Utf16Cut
+pub mod AllMoves
+pub mod Widths
+pub mod TwoByteCosts
+pub mod OtherCosts
+pub mod RoomMoves
+pub mod Big5Rooms
+pub mod EucKrRooms
+pub mod ShiftJisRooms
+pub mod EucJpRooms
+pub mod SingleByteRooms
+pub mod UserDefinedRooms
+pub mod Gb18030Rooms
+pub mod Utf16Rooms
+pub mod ReplacementRooms
+pub mod AllRooms
+pub mod SettledSteps

@@ -2,6 +2,3 @@
 #![tactic(auto)]
 
 mod machine;
-
-
-

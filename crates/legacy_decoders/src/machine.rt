@@ -39,11 +39,7 @@ pub enum Fed {
     Two(char, char),
     /// A malformed sequence of `length` bytes, with `back` bytes held back behind it. Where `unread`
     /// is set, the byte was not read.
-    Fault {
-        length: u8,
-        back: u8,
-        unread: bool,
-    },
+    Fault { length: u8, back: u8, unread: bool },
 }
 
 /// The moves of a decoder.
