@@ -6,6 +6,8 @@ mod decoder;
 mod destination;
 mod results;
 mod source;
+#[cfg(test)]
+mod tests;
 
 pub use decoder::RawDecoder;
 pub use destination::{Destination, Utf8Destination, Utf16Destination};
