@@ -6,3 +6,4 @@ pub mod Cuts
 pub mod Progress
 pub mod Rooms
 pub mod Enough
+pub mod Ascii
