@@ -24,3 +24,5 @@ pub mod ReplacementRooms
 pub mod AllRooms
 pub mod SettledSteps
 pub mod Feeding
+pub mod Writing
+pub mod AheadRuns

@@ -5,7 +5,8 @@ ghost use Rattle.legacy_decoders.specs.Machines.{user_defined_first};
 ghost use Rattle.legacy_decoders.specs.Feeding.{Took};
 ghost use Rattle.legacy_decoders.specs.Decoders.{new_state};
 
-use crate::machine::{Act, Fed, Machine, Room, drive};
+use crate::drive::drive;
+use crate::machine::{Act, Fed, Machine, Room};
 use legacy_base::{DecoderResult, Destination, RawDecoder};
 
 /// The decoder of x-user-defined (Encoding Standard, "x-user-defined decoder").
