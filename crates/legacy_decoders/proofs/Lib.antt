@@ -26,3 +26,5 @@ pub mod SettledSteps
 pub mod Feeding
 pub mod Writing
 pub mod AheadRuns
+pub mod RunForms
+pub mod UserDefinedRuns

@@ -70,7 +70,7 @@ pub writes_one : (form : EncodingForm) (g : Grammar) (src x y z : List ℕ) (at 
     → Writes form g (take (at + 1) src) x z
 writes_one form g src x y z at c h a b e =
     subst (λ l. Writes form g l x z) (sym (take_more src at 0 h))
-      (writes_more form g (take at src) (get_or src at 0 ∷ []) x y z (c ∷ []) a b (e ∙ ap (λ l. y ++ l) (sym (append-nil (code_units form c)))))
+    (writes_more form g (take at src) (get_or src at 0 ∷ []) x y z (c ∷ []) a b (e ∙ ap (λ l. y ++ l) (sym (append-nil (code_units form c)))))
 
 take_two : (src : List ℕ) (at : ℕ) → at + 1 < length src → take (at + 2) src ≡ take at src ++ get_or src at 0 ∷ get_or src (at + 1) 0 ∷ []
 take_two src at h =
@@ -83,7 +83,7 @@ pub writes_two : (form : EncodingForm) (g : Grammar) (src x y z : List ℕ) (at 
     → Writes form g (take (at + 2) src) x z
 writes_two form g src x y z at c h a b e =
     subst (λ l. Writes form g l x z) (sym (take_two src at h))
-      (writes_more form g (take at src) (get_or src at 0 ∷ get_or src (at + 1) 0 ∷ []) x y z (c ∷ []) a b (e ∙ ap (λ l. y ++ l) (sym (append-nil (code_units form c)))))
+    (writes_more form g (take at src) (get_or src at 0 ∷ get_or src (at + 1) 0 ∷ []) x y z (c ∷ []) a b (e ∙ ap (λ l. y ++ l) (sym (append-nil (code_units form c)))))
 
 -- a run behind what was read
 pub writes_run : (form : EncodingForm) (g : Grammar) (src x y z : List ℕ) (at r : ℕ) → Writes form g (take at src) x y → Writes form g (take r (take (length src - at) (drop at src))) y z → Writes form g (take (at + r) src) x z
@@ -98,7 +98,7 @@ pub writes_ascii : (form : EncodingForm) (g : Grammar) (src x y z : List ℕ) (a
 writes_ascii form g src x y z at r count law le a h e =
     let bytes : List ℕ = take r (take count (drop at src)) in
     subst (λ l. Writes form g l x z) (ap (λ l. take at src ++ l) (take-take r count (drop at src) le) ∙ sym (take-add at r src))
-      (writes_more form g (take at src) bytes x y z bytes a (runs_ascii g law bytes h) (e ∙ ap (λ l. y ++ l) (sym (all_code_units_ascii form bytes h))))
+    (writes_more form g (take at src) bytes x y z bytes a (runs_ascii g law bytes h) (e ∙ ap (λ l. y ++ l) (sym (all_code_units_ascii form bytes h))))
 
 -- a scalar up to U+FFFF fits into three code_units
 pub three_fit : (form : EncodingForm) (c room : ℕ) → c < 65536 → 3 ≤ room → length (code_units form c) ≤ room

@@ -14,7 +14,7 @@ returns-then-next-lt128-clause-writes g c =
     let byte : ℕ = get_or c.args.src.now c.loop-left.at 0 in
     let i = c.loop-left.invariant in
     writes_one g.T.Destination.form G c.args.src.now _ _ _ c.loop-left.at c.from.result (omega (arith, i.0, c.loop-left-test.true)) i.2
-      (subst (λ x. Runs G (byte ∷ []) (x ∷ [])) (sym c.from.ensures) (c.requires.idle.ascii byte c.if-byte-lt128.true)) c.put.ensures.contents
+    (subst (λ x. Runs G (byte ∷ []) (x ∷ [])) (sym c.from.ensures) (c.requires.idle.ascii byte c.if-byte-lt128.true)) c.put.ensures.contents
 
 pub put-requires-in-Pair : goal.put-requires-in-Pair
 put-requires-in-Pair g c = three_fit g.T.Destination.form c.in-Pair.c _ c.in-Pair.ensures.0 (omega (arith, c.loop-left.invariant.1))
