@@ -24,3 +24,7 @@ pub mod ReplacementRooms
 pub mod AllRooms
 pub mod SettledSteps
 pub mod Feeding
+pub mod TwoByteHeld
+pub mod EucKrHeld
+pub mod Big5Held
+pub mod ShiftJisHeld

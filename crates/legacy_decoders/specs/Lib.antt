@@ -8,3 +8,7 @@ pub mod Margins
 pub mod Feeding
 pub mod Decoders
 pub mod UserDefinedDecoder
+pub mod TwoByte
+pub mod EucKrDecoder
+pub mod Big5Decoder
+pub mod ShiftJisDecoder
