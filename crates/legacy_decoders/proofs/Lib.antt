@@ -28,3 +28,7 @@ pub mod TwoByteHeld
 pub mod EucKrHeld
 pub mod Big5Held
 pub mod ShiftJisHeld
+pub mod Writing
+pub mod AheadRuns
+pub mod RunForms
+pub mod UserDefinedRuns

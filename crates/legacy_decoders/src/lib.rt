@@ -4,6 +4,8 @@
 mod big5;
 mod euc_kr;
 mod held;
+mod ahead;
+mod drive;
 mod machine;
 mod shift_jis;
 mod two_byte;
