@@ -7,7 +7,8 @@ ghost use Rattle.legacy_base.specs.Lengths.{answer, weighted};
 ghost use Rattle.legacy_decoders.specs.Decoders.{new_state};
 
 use crate::held::Lead;
-use crate::machine::{Act, Fed, Machine, Room, drive};
+use crate::drive::drive;
+use crate::machine::{Act, Fed, Front, Machine, Room};
 use crate::two_byte::{read_first, read_trail};
 use legacy_base::{DecoderResult, Destination, IndexName, RawDecoder, Tables};
 

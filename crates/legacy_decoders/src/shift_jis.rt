@@ -10,7 +10,8 @@ ghost use Rattle.legacy_decoders.specs.Feeding.{Took};
 ghost use Rattle.legacy_decoders.specs.TwoByte.{shift_jis_lead_bytes};
 
 use crate::held::ShiftJisLead;
-use crate::machine::{Act, Fed, Machine, Room, drive};
+use crate::drive::drive;
+use crate::machine::{Act, Fed, Front, Machine, Room};
 use crate::two_byte::{fault_through, read_trail};
 use legacy_base::{DecoderResult, Destination, IndexName, RawDecoder, Tables};
 
