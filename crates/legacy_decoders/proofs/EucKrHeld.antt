@@ -1,5 +1,5 @@
 -- The moves of the EUC-KR decoder, by the lead that it holds back.
-use Rattle.std.proofs.Common.{◌≡◌, ◌≢◌, ℕ, [], ◌∷◌, Option, Some, None, is_some, true, false, refl}
+use Rattle.std.proofs.Common.{◌≡◌, ◌≢◌, ◌≤◌, ◌<◌, ◌+◌, ◌-◌, arith, sym, Bool, cond, ℕ, List, [], ◌∷◌, Option, Some, None, is_some, true, false, refl}
 use Rattle.legacy_base.specs.Unicode.{IsByte}
 use Rattle.legacy_base.specs.AcceptedTables.{AcceptedIndexes}
 use Rattle.legacy_base.specs.EucKr.{euc_kr_scalars}
@@ -12,7 +12,13 @@ use Rattle.legacy_decoders.specs.Machines.{two_byte_step, lead_first}
 use Rattle.legacy_decoders.specs.Costs.{state_of, HasNarrowIndexes}
 use Rattle.legacy_decoders.specs.Feeding.{Took}
 use Rattle.legacy_decoders.specs.TwoByte.{lead_bytes}
+use Rattle.std.specs.Char.{IsScalar, is_ascii}
+use Rattle.legacy_base.specs.States.{is_lead}
 use Rattle.legacy_decoders.proofs.Feeding as feeding
+use Rattle.legacy_decoders.specs.Ahead.{Runs, HasAscii}
+use Rattle.legacy_decoders.proofs.RunForms.{has_ascii, pair_runs}
+use Rattle.legacy_decoders.proofs.UserDefinedRuns.{ascii_is}
+use Rattle.legacy_decoders.proofs.TwoByteRuns.{lead_holds, euc_kr_below}
 use Rattle.legacy_decoders.proofs.TwoByteHeld.{lead_may, lead_are_bytes, lead_none, lead_some}
 
 module _ (tables : AcceptedIndexes) where
@@ -38,3 +44,14 @@ module _ (tables : AcceptedIndexes) where
 
   pub reports : (lead : Lead) → Reports (state_of grammar (lead_bytes (Some lead))) (state_of grammar []) 1 0
   reports lead = feeding.reports_all grammar refl narrow (lead_bytes (Some lead)) (lead_may (Some lead)) (lead_are_bytes (Some lead)) refl (lead_some (Some lead) refl)
+
+  -- ---- runs
+
+  pub ascii : HasAscii grammar
+  ascii = has_ascii grammar refl narrow (λ b. refl) (λ b h. let a = ascii_is b h in rw a refl)
+
+  -- a pair that gives one scalar
+  pub pair : (lead trail c : ℕ) → IsByte lead → IsByte trail → IsScalar c → is_lead lead ≡ true → euc_kr_scalars tables.flat.euc_kr lead trail ≡ c ∷ [] →
+      (c < 0x1_0000) × Runs grammar (lead ∷ trail ∷ []) (c ∷ [])
+  pair lead trail c byte byte' scalar is e =
+      (euc_kr_below tables.flat.euc_kr lead trail c narrow e, pair_runs grammar refl narrow lead trail c byte byte' scalar is refl refl refl (lead_holds lead is) (rw e refl))

@@ -25,6 +25,7 @@ pub mod AllRooms
 pub mod SettledSteps
 pub mod Feeding
 pub mod TwoByteHeld
+pub mod TwoByteRuns
 pub mod EucKrHeld
 pub mod Big5Held
 pub mod ShiftJisHeld

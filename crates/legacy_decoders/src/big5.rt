@@ -9,8 +9,8 @@ ghost use Rattle.legacy_decoders.specs.Steps.{trail_step};
 ghost use Rattle.legacy_decoders.specs.Machines.{big5_pair_scalars};
 ghost use Rattle.legacy_decoders.specs.Feeding.{Took};
 
-use crate::held::Lead;
 use crate::drive::drive;
+use crate::held::Lead;
 use crate::machine::{Act, Fed, Front, Machine, Room};
 use crate::two_byte::{read_first, read_trail};
 use legacy_base::{DecoderResult, Destination, IndexName, RawDecoder, Tables};
@@ -145,6 +145,22 @@ impl<'a> Machine for Big5Decoder<'a> {
                 Some((1, 0))
             }
             None => None,
+        }
+    }
+
+    #[inline]
+    fn is_idle(&self) -> bool {
+        self.held.is_none()
+    }
+
+    #[inline]
+    fn front(&self, lead: u8, trail: u8) -> Front {
+        let Some(lead) = Lead::new(lead) else {
+            return Front::Other;
+        };
+        match read_pair(self.tables, lead, trail) {
+            Fed::One(scalar) if scalar <= '\u{FFFF}' => Front::Pair(scalar),
+            _ => Front::Other,
         }
     }
 }

@@ -1,13 +1,14 @@
 //! The decoder of EUC-KR.
-ghost use Rattle.std.specs.Prelude.{◌≡◌, ◌≢◌, [], length, true, option_to_list};
+ghost use Rattle.std.specs.Prelude.{◌≡◌, ◌≢◌, [], length, true, option_to_list, IfSome};
+ghost use Rattle.std.specs.Char.{IsScalar};
 ghost use Rattle.legacy_base.specs.EucKr.{euc_kr_scalars};
 ghost use Rattle.legacy_base.specs.Grammar.{euc_kr};
 ghost use Rattle.legacy_base.specs.States.{is_neutral};
 ghost use Rattle.legacy_base.specs.Lengths.{answer, weighted};
 ghost use Rattle.legacy_decoders.specs.Decoders.{new_state};
 
-use crate::held::Lead;
 use crate::drive::drive;
+use crate::held::Lead;
 use crate::machine::{Act, Fed, Front, Machine, Room};
 use crate::two_byte::{read_first, read_trail};
 use legacy_base::{DecoderResult, Destination, IndexName, RawDecoder, Tables};
@@ -53,7 +54,8 @@ impl<'a> EucKrDecoder<'a> {
 /// The scalar of a lead and a trail, if they give one.
 #[inline]
 fn pair_scalar(tables: &Tables<'_>, lead: Lead, trail: u8) -> Option<char>
-    ensures { option_to_list result ≡ euc_kr_scalars tables.now.flat.euc_kr lead.byte trail }
+    ensures value { option_to_list result ≡ euc_kr_scalars tables.now.flat.euc_kr lead.byte trail }
+    ensures scalar { IfSome result IsScalar }
 {
     if trail < 0x41 || trail > 0xFE {
         return None;
@@ -112,6 +114,22 @@ impl<'a> Machine for EucKrDecoder<'a> {
                 Some((1, 0))
             }
             None => None,
+        }
+    }
+
+    #[inline]
+    fn is_idle(&self) -> bool {
+        self.held.is_none()
+    }
+
+    #[inline]
+    fn front(&self, lead: u8, trail: u8) -> Front {
+        let Some(lead) = Lead::new(lead) else {
+            return Front::Other;
+        };
+        match pair_scalar(self.tables, lead, trail) {
+            Some(scalar) => Front::Pair(scalar),
+            None => Front::Other,
         }
     }
 }

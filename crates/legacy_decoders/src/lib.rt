@@ -1,11 +1,11 @@
 //! The decoders of the legacy encodings: each is a machine of small moves under one loop.
 #![tactic(auto)]
 
+mod ahead;
 mod big5;
+mod drive;
 mod euc_kr;
 mod held;
-mod ahead;
-mod drive;
 mod machine;
 mod shift_jis;
 mod two_byte;

@@ -1,5 +1,6 @@
 //! The decoder of Shift_JIS.
-ghost use Rattle.std.specs.Prelude.{◌≡◌, ◌≢◌, ◌+◌, ◌-◌, ◌≤◌, [], length, true, option_to_list};
+ghost use Rattle.std.specs.Prelude.{◌≡◌, ◌≢◌, ◌+◌, ◌-◌, ◌≤◌, [], length, true, option_to_list, IfSome};
+ghost use Rattle.std.specs.Char.{IsScalar};
 ghost use Rattle.legacy_base.specs.ShiftJis.{shift_jis_lead_part, shift_jis_pointer, shift_jis_scalars};
 ghost use Rattle.legacy_base.specs.Grammar.{shift_jis};
 ghost use Rattle.legacy_base.specs.States.{is_neutral};
@@ -9,8 +10,8 @@ ghost use Rattle.legacy_decoders.specs.Machines.{shift_jis_first, shift_jis_pair
 ghost use Rattle.legacy_decoders.specs.Feeding.{Took};
 ghost use Rattle.legacy_decoders.specs.TwoByte.{shift_jis_lead_bytes};
 
-use crate::held::ShiftJisLead;
 use crate::drive::drive;
+use crate::held::ShiftJisLead;
 use crate::machine::{Act, Fed, Front, Machine, Room};
 use crate::two_byte::{fault_through, read_trail};
 use legacy_base::{DecoderResult, Destination, IndexName, RawDecoder, Tables};
@@ -64,23 +65,23 @@ fn read_first(byte: u8) -> (Fed, Option<ShiftJisLead>)
         return (Fed::One(char::from(byte)), None);
     }
     if byte >= 0xA1 && byte <= 0xDF {
-        return (katakana(byte), None);
+        return (Fed::One(katakana(byte)), None);
     }
-    if byte == 0xA0 || byte > 0xFC {
-        return (fault_through(1), None);
+    match ShiftJisLead::new(byte) {
+        Some(lead) => (Fed::Nothing, Some(lead)),
+        None => (fault_through(1), None),
     }
-    (Fed::Nothing, Some(ShiftJisLead { byte }))
 }
 
 /// The halfwidth katakana of a byte from A1 to DF.
 #[inline]
-fn katakana(byte: u8) -> Fed
+fn katakana(byte: u8) -> char
     requires low { 0xA1 ≤ byte }
     requires high { byte ≤ 0xDF }
-    ensures { result ≡ Fed.One (0xFF61 + (byte - 0xA1)) }
+    ensures { result ≡ 0xFF61 + (byte - 0xA1) }
 {
     match char::from_u32(0xFF61 + u32::from(byte - 0xA1)) {
-        Some(scalar) => Fed::One(scalar),
+        Some(scalar) => scalar,
         None => unreachable!(),
     }
 }
@@ -126,7 +127,8 @@ fn pointer_scalar(tables: &Tables<'_>, pointer: usize) -> Option<char>
 /// The scalar of a lead and a trail, if they give one.
 #[inline]
 fn pair_scalar(tables: &Tables<'_>, lead: ShiftJisLead, trail: u8) -> Option<char>
-    ensures { option_to_list result ≡ shift_jis_pair_scalars tables.now.flat.jis0208 lead.byte trail }
+    ensures value { option_to_list result ≡ shift_jis_pair_scalars tables.now.flat.jis0208 lead.byte trail }
+    ensures scalar { IfSome result IsScalar }
 {
     match pair_pointer(lead, trail) {
         Some(pointer) => pointer_scalar(tables, pointer),
@@ -184,6 +186,25 @@ impl<'a> Machine for ShiftJisDecoder<'a> {
                 Some((1, 0))
             }
             None => None,
+        }
+    }
+
+    #[inline]
+    fn is_idle(&self) -> bool {
+        self.held.is_none()
+    }
+
+    #[inline]
+    fn front(&self, lead: u8, trail: u8) -> Front {
+        if lead >= 0xA1 && lead <= 0xDF {
+            return Front::Single(katakana(lead));
+        }
+        let Some(lead) = ShiftJisLead::new(lead) else {
+            return Front::Other;
+        };
+        match pair_scalar(self.tables, lead, trail) {
+            Some(scalar) => Front::Pair(scalar),
+            None => Front::Other,
         }
     }
 }

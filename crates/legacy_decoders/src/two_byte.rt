@@ -29,10 +29,10 @@ pub fn read_first(byte: u8) -> (Fed, Option<Lead>)
     if byte < 0x80 {
         return (Fed::One(char::from(byte)), None);
     }
-    if byte == 0x80 || byte == 0xFF {
-        return (fault_through(1), None);
+    match Lead::new(byte) {
+        Some(lead) => (Fed::Nothing, Some(lead)),
+        None => (fault_through(1), None),
     }
-    (Fed::Nothing, Some(Lead { byte }))
 }
 
 /// Reads the trail behind a lead, where the pair gives this scalar, if it gives any. An ASCII trail of

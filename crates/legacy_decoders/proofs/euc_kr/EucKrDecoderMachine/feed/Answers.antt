@@ -6,7 +6,7 @@ pub returns-in-Some : goal.returns-in-Some
 returns-in-Some c =
     let byte : c.args.byte < 2 ^ 8 = omega arith in
     rw c.in-Some.is (feeds c.args.self.now.tables.now (Some c.in-Some.lead) c.args.byte byte c.read_trail.result None
-    (rw c.pair_scalar.ensures at (c.read_trail.ensures c.in-Some.lead.byte)))
+    (rw c.pair_scalar.ensures.value at (c.read_trail.ensures c.in-Some.lead.byte)))
 
 pub returns-in-None : goal.returns-in-None
 returns-in-None c =
