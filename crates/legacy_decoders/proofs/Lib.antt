@@ -24,6 +24,11 @@ pub mod ReplacementRooms
 pub mod AllRooms
 pub mod SettledSteps
 pub mod Feeding
+pub mod TwoByteHeld
+pub mod TwoByteRuns
+pub mod EucKrHeld
+pub mod Big5Held
+pub mod ShiftJisHeld
 pub mod Writing
 pub mod AheadRuns
 pub mod RunForms

@@ -9,3 +9,7 @@ pub mod Feeding
 pub mod Ahead
 pub mod Decoders
 pub mod UserDefinedDecoder
+pub mod TwoByte
+pub mod EucKrDecoder
+pub mod Big5Decoder
+pub mod ShiftJisDecoder

@@ -2,8 +2,16 @@
 #![tactic(auto)]
 
 mod ahead;
+mod big5;
 mod drive;
+mod euc_kr;
+mod held;
 mod machine;
+mod shift_jis;
+mod two_byte;
 mod user_defined;
 
+pub use big5::Big5Decoder;
+pub use euc_kr::EucKrDecoder;
+pub use shift_jis::ShiftJisDecoder;
 pub use user_defined::UserDefinedDecoder;
