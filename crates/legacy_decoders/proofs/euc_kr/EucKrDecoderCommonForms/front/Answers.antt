@@ -1,6 +1,6 @@
 use Rattle.std.proofs.Common.{◌<◌, ◌^◌, arith, sym}
 use Rattle.legacy_decoders.proofs.EucKrHeld.{pair}
-use Rattle.legacy_decoders.proofs.euc_kr.EucKrDecoderMachine.front.Goals as goal
+use Rattle.legacy_decoders.proofs.euc_kr.EucKrDecoderCommonForms.front.Goals as goal
 
 pub returns-in-Some-pair_scalar : goal.returns-in-Some-pair_scalar
 returns-in-Some-pair_scalar c =

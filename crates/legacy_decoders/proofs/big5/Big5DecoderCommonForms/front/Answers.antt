@@ -1,6 +1,6 @@
 use Rattle.std.proofs.Common.{◌<◌, ◌^◌, arith, sym}
 use Rattle.legacy_decoders.proofs.Big5Held.{pair}
-use Rattle.legacy_decoders.proofs.big5.Big5DecoderMachine.front.Goals as goal
+use Rattle.legacy_decoders.proofs.big5.Big5DecoderCommonForms.front.Goals as goal
 
 pub returns-in-One : goal.returns-in-One
 returns-in-One c =

@@ -1,6 +1,6 @@
 use Rattle.std.proofs.Common.{◌<◌, ◌^◌, arith, sym}
 use Rattle.legacy_decoders.proofs.ShiftJisHeld.{pair, katakana}
-use Rattle.legacy_decoders.proofs.shift_jis.ShiftJisDecoderMachine.front.Goals as goal
+use Rattle.legacy_decoders.proofs.shift_jis.ShiftJisDecoderCommonForms.front.Goals as goal
 
 pub returns-in-Some-pair_scalar : goal.returns-in-Some-pair_scalar
 returns-in-Some-pair_scalar c =
