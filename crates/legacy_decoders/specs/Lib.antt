@@ -8,3 +8,4 @@ pub mod Margins
 pub mod Feeding
 pub mod Decoders
 pub mod UserDefinedDecoder
+pub mod Utf16Decoder

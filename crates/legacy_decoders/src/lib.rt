@@ -3,5 +3,7 @@
 
 mod machine;
 mod user_defined;
+mod utf16;
 
 pub use user_defined::UserDefinedDecoder;
+pub use utf16::Utf16Decoder;
