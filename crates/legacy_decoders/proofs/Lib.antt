@@ -25,3 +25,4 @@ pub mod AllRooms
 pub mod SettledSteps
 pub mod Feeding
 pub mod Utf16Held
+pub mod ReplacementSteps

@@ -9,3 +9,4 @@ pub mod Feeding
 pub mod Decoders
 pub mod UserDefinedDecoder
 pub mod Utf16Decoder
+pub mod ReplacementDecoder

@@ -4,6 +4,8 @@
 mod machine;
 mod user_defined;
 mod utf16;
+mod replacement;
 
 pub use user_defined::UserDefinedDecoder;
 pub use utf16::Utf16Decoder;
+pub use replacement::ReplacementDecoder;
