@@ -26,3 +26,5 @@ pub mod SettledSteps
 pub mod Feeding
 pub mod Utf16Held
 pub mod ReplacementSteps
+pub mod SingleByteSteps
+pub mod Latin1Fronts

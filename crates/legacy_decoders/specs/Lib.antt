@@ -10,3 +10,4 @@ pub mod Decoders
 pub mod UserDefinedDecoder
 pub mod Utf16Decoder
 pub mod ReplacementDecoder
+pub mod SingleByteDecoder
