@@ -7,6 +7,8 @@ mod destination;
 mod results;
 mod single_byte_table;
 mod source;
+#[cfg(test)]
+mod tests;
 mod tables;
 
 pub use decoder::RawDecoder;

@@ -28,3 +28,7 @@ pub mod Utf16Held
 pub mod ReplacementSteps
 pub mod SingleByteSteps
 pub mod Latin1Fronts
+pub mod Writing
+pub mod AheadRuns
+pub mod RunForms
+pub mod UserDefinedRuns
