@@ -32,3 +32,4 @@ pub mod Writing
 pub mod AheadRuns
 pub mod RunForms
 pub mod UserDefinedRuns
+pub mod SingleByteRuns

@@ -3,7 +3,8 @@ ghost use Rattle.std.specs.Prelude.{◌≡◌, [], false};
 ghost use Rattle.legacy_base.specs.Grammar.{replacement};
 ghost use Rattle.legacy_decoders.specs.Decoders.{new_state};
 
-use crate::machine::{Act, Fed, Machine, Room, drive};
+use crate::drive::drive;
+use crate::machine::{Act, Fed, Machine, Room};
 use legacy_base::{DecoderResult, Destination, RawDecoder};
 
 /// The replacement decoder (Encoding Standard, "replacement decoder").

@@ -6,7 +6,8 @@ ghost use Rattle.legacy_decoders.specs.Machines.{single_byte_first};
 ghost use Rattle.legacy_decoders.specs.Feeding.{Took};
 ghost use Rattle.legacy_decoders.specs.Decoders.{new_state};
 
-use crate::machine::{Act, Fed, Machine, Room, drive};
+use crate::drive::drive;
+use crate::machine::{Act, Fed, Front, Machine, Room};
 use legacy_base::{DecoderResult, Destination, RawDecoder, SingleByteTable};
 
 /// The decoder of a single-byte encoding (Encoding Standard, "single-byte decoder").
@@ -110,6 +111,19 @@ impl Machine for SingleByteDecoder<'_> {
 
     fn report(&mut self) -> Option<(u8, u8)> {
         None
+    }
+
+    #[inline]
+    fn is_idle(&self) -> bool {
+        true
+    }
+
+    #[inline]
+    fn front(&self, lead: u8, _trail: u8) -> Front {
+        match self.table.scalar(usize::from(lead - 0x80)) {
+            Some(scalar) => Front::Single(scalar),
+            None => Front::Other,
+        }
     }
 }
 

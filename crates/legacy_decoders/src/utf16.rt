@@ -8,7 +8,8 @@ ghost use Rattle.legacy_decoders.specs.Decoders.{new_state};
 mod held;
 mod units;
 
-use crate::machine::{Act, Fed, Machine, Room, drive};
+use crate::drive::drive;
+use crate::machine::{Act, Fed, Machine, Room};
 use held::Held;
 use legacy_base::{DecoderResult, Destination, RawDecoder};
 use units::read_byte;
