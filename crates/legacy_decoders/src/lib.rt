@@ -4,12 +4,15 @@
 mod ahead;
 mod drive;
 mod machine;
-mod user_defined;
-mod utf16;
 mod replacement;
 mod single_byte;
+mod user_defined;
+mod utf16;
 
-pub use user_defined::UserDefinedDecoder;
-pub use utf16::Utf16Decoder;
 pub use replacement::ReplacementDecoder;
 pub use single_byte::SingleByteDecoder;
+pub use user_defined::UserDefinedDecoder;
+pub use utf16::Utf16Decoder;
+
+#[cfg(test)]
+mod tests;

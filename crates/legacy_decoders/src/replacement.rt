@@ -106,3 +106,6 @@ impl RawDecoder for ReplacementDecoder {
         Some(3)
     }
 }
+
+#[cfg(test)]
+mod tests;

@@ -153,3 +153,6 @@ impl RawDecoder for SingleByteDecoder<'_> {
         byte_length.checked_mul(3)
     }
 }
+
+#[cfg(test)]
+mod tests;

@@ -136,3 +136,6 @@ impl RawDecoder for Utf16Decoder {
         (bytes / 2).checked_mul(3)?.checked_add(1)
     }
 }
+
+#[cfg(test)]
+mod tests;

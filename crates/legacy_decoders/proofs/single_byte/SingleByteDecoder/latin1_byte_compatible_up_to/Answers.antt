@@ -13,7 +13,7 @@ returns-then-not-is_latin1 c =
 pub returns : goal.returns
 returns c =
     let all : (k : ℕ) → k < length c.args.bytes.now → is_latin1_byte (single_byte_entries c.args.self.now) (get_or c.args.bytes.now k 0) ≡ true =
-        λ k h. c.loop-place.invariant k (omega arith) in
+    λ k h. c.loop-place.invariant k (omega arith) in
     latin1_front-length (single_byte_entries c.args.self.now) c.args.bytes.now (length c.args.bytes.now) (omega arith) all (λ h. absurd (omega arith))
 
 pub loop-place-preserved : goal.loop-place-preserved
