@@ -3,6 +3,7 @@ ghost use Rattle.std.specs.Prelude.{◌≡◌, ◌≢◌, ◌+◌, [], ◌∷◌
 ghost use Rattle.legacy_base.specs.Grammar.{utf16};
 ghost use Rattle.legacy_base.specs.Utf16.{unit_of};
 ghost use Rattle.legacy_base.specs.States.{additional_from_state};
+ghost use Rattle.legacy_base.specs.Lengths.{answer, utf16_units};
 ghost use Rattle.legacy_decoders.specs.Decoders.{new_state};
 
 mod held;
@@ -53,6 +54,14 @@ impl Utf16Decoder {
             Held::High(_) | Held::Pending(_) => 3,
             Held::HighOdd(_, _) => 4,
         }
+    }
+
+    /// The code units that so many more bytes and those held back make, at most.
+    fn unit_limit(&self, byte_length: usize) -> Option<usize>
+        ensures { result ≡ answer (utf16_units (utf16_state self.now) byte_length) }
+    {
+        let bytes = byte_length.checked_add(self.additional_from_state())?;
+        Some(bytes / 2)
     }
 }
 
@@ -122,18 +131,16 @@ impl RawDecoder for Utf16Decoder {
     }
 
     fn max_utf16_buffer_length(&self, byte_length: usize) -> Option<usize> {
-        let bytes = byte_length.checked_add(self.additional_from_state())?;
-        (bytes / 2).checked_add(1)
+        self.unit_limit(byte_length)?.checked_add(1)
     }
 
     fn max_utf8_buffer_length_without_replacement(&self, byte_length: usize) -> Option<usize> {
-        let bytes = byte_length.checked_add(self.additional_from_state())?;
-        (bytes / 2).checked_mul(3)?.checked_add(1)
+        self.max_utf8_buffer_length(byte_length)
     }
 
     fn max_utf8_buffer_length(&self, byte_length: usize) -> Option<usize> {
-        let bytes = byte_length.checked_add(self.additional_from_state())?;
-        (bytes / 2).checked_mul(3)?.checked_add(1)
+        let units = self.unit_limit(byte_length)?;
+        units.checked_mul(3)?.checked_add(1)
     }
 }
 

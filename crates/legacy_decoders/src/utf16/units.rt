@@ -1,5 +1,5 @@
 //! What a decoder of UTF-16 does with a byte.
-ghost use Rattle.std.specs.Prelude.{◌≡◌, [], ◌∷◌, true, false};
+ghost use Rattle.std.specs.Prelude.{◌≡◌, [], ◌∷◌, true, false, Bool};
 ghost use Rattle.std.specs.Char.Utf16.{is_high_surrogate, is_low_surrogate, surrogate_pair_char};
 ghost use Rattle.legacy_base.specs.Grammar.{utf16};
 ghost use Rattle.legacy_base.specs.Utf16.{unit_of};
@@ -73,9 +73,10 @@ fn pair(high: HighSurrogate, low: u16) -> char
 }
 
 /// Holds back a unit that is no low surrogate.
-fn hold_unit(big_endian: bool, unit: u16) -> Held
+#[inline]
+fn hold_unit(unit: u16) -> Held
     requires { is_low_surrogate unit ≡ false }
-    ensures { held_bytes big_endian result ≡ first_byte big_endian unit ∷ second_byte big_endian unit ∷ [] }
+    ensures { (big_endian : Bool) → held_bytes big_endian result ≡ first_byte big_endian unit ∷ second_byte big_endian unit ∷ [] }
 {
     if is_high(unit) {
         return Held::High(HighSurrogate { unit });
@@ -101,7 +102,7 @@ fn read_fourth(big_endian: bool, high: HighSurrogate, third: OddByte, byte: u8) 
             back: 2,
             unread: false,
         },
-        hold_unit(big_endian, unit),
+        hold_unit(unit),
     )
 }
 
