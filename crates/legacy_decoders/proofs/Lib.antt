@@ -29,7 +29,12 @@ pub mod TwoByteRuns
 pub mod EucKrHeld
 pub mod Big5Held
 pub mod ShiftJisHeld
+pub mod Utf16Held
+pub mod ReplacementSteps
+pub mod SingleByteSteps
+pub mod Latin1Fronts
 pub mod Writing
 pub mod AheadRuns
 pub mod RunForms
 pub mod UserDefinedRuns
+pub mod SingleByteRuns
