@@ -6,3 +6,5 @@ pub mod Cuts
 pub mod Progress
 pub mod Rooms
 pub mod Enough
+pub mod Iso2022JpParts
+pub mod Iso2022JpFronts
