@@ -23,3 +23,10 @@ pub mod Utf16Rooms
 pub mod ReplacementRooms
 pub mod AllRooms
 pub mod SettledSteps
+pub mod Iso2022JpLaw
+pub mod Iso2022JpStep
+pub mod Iso2022JpHeld
+pub mod Iso2022JpEnd
+pub mod Iso2022JpRooms
+pub mod Iso2022JpFeeding
+pub mod Iso2022JpEnding

@@ -5,3 +5,6 @@ pub mod Utf16Fronts
 pub mod Machines
 pub mod Costs
 pub mod Margins
+pub mod Iso2022JpMachine
+pub mod Iso2022JpMoves
+pub mod Iso2022JpState
