@@ -8,3 +8,6 @@ pub mod Rooms
 pub mod Enough
 pub mod Iso2022JpParts
 pub mod Iso2022JpFronts
+pub mod TableLoops
+pub mod Accepted
+pub mod AcceptedTable
