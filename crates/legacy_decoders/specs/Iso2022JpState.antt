@@ -5,4 +5,4 @@ use Rattle.legacy_decoders.specs.Iso2022JpMoves.{state_in}
 
 -- its grammar, with its mode, and the bytes that it holds back
 abbrev pub iso_2022_jp_state : Iso2022JpDecoder → DecoderState
-iso_2022_jp_state decoder = state_in decoder.jis0208.now decoder.mode decoder.held
+iso_2022_jp_state decoder = state_in decoder.tables.now.flat.jis0208 decoder.mode decoder.held

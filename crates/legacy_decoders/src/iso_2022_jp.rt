@@ -1,5 +1,5 @@
 //! The decoder of ISO-2022-JP.
-ghost use Rattle.std.specs.Prelude.{◌≡◌, ◌<◌, [], All, true};
+ghost use Rattle.std.specs.Prelude.{◌≡◌, [], true};
 ghost use Rattle.legacy_base.specs.Grammar.{iso_2022_jp};
 ghost use Rattle.legacy_base.specs.Iso2022Jp.{ascii};
 ghost use Rattle.legacy_base.specs.States.{is_neutral};
@@ -9,7 +9,7 @@ ghost use Rattle.legacy_decoders.specs.Iso2022JpMoves.{weight_of};
 mod steps;
 
 use crate::machine::{Act, Fed, Machine, Room, drive};
-use legacy_base::{DecoderResult, Destination, RawDecoder};
+use legacy_base::{DecoderResult, Destination, RawDecoder, Tables};
 use steps::{Held, Mode, Start, finish, pending, read};
 
 /// Decodes ISO-2022-JP (Encoding Standard, "ISO-2022-JP decoder").
@@ -19,10 +19,9 @@ use steps::{Held, Mode, Start, finish, pending, read};
 /// that stands directly before another.
 #[derive(Drop)]
 pub struct Iso2022JpDecoder<'a> {
-    jis0208: &'a [char],
+    tables: &'a Tables<'a>,
     mode: Mode,
     held: Held,
-    ghost narrow: { All (λ c. c < 0x1_0000) jis0208.now },
     ghost sound: { is_held mode held ≡ true },
 }
 
@@ -31,12 +30,11 @@ impl<'a> Iso2022JpDecoder<'a> {
 
     /// A decoder at the beginning of a stream: in ASCII mode, with nothing held back. Pairs are looked
     /// up in index jis0208 of the tables.
-    pub fn new(jis0208: &'a [char]) -> Iso2022JpDecoder<'a>
-        requires { All (λ c. c < 0x1_0000) jis0208.now }
-        ensures { iso_2022_jp_state result ≡ record { grammar = iso_2022_jp jis0208.now ascii; held = [] } }
+    pub fn new(tables: &'a Tables<'a>) -> Iso2022JpDecoder<'a>
+        ensures { iso_2022_jp_state result ≡ record { grammar = iso_2022_jp tables.now.flat.jis0208 ascii; held = [] } }
     {
         Iso2022JpDecoder {
-            jis0208,
+            tables,
             mode: Mode::Ascii,
             held: Held::Begun(Start::Nothing),
         }
@@ -81,7 +79,7 @@ impl<'a> Machine for Iso2022JpDecoder<'a> {
 
     #[inline]
     fn feed(&mut self, byte: u8) -> Fed {
-        let outcome = read(self.jis0208, self.mode, self.held, byte);
+        let outcome = read(self.tables, self.mode, self.held, byte);
         self.mode = outcome.mode;
         self.held = outcome.held;
         outcome.fed()

@@ -1,6 +1,6 @@
 //! The steps of an ISO-2022-JP decoder: what each byte, and the end of the input, makes of its mode and
 //! of what it holds back (Encoding Standard, "ISO-2022-JP decoder").
-ghost use Rattle.std.specs.Prelude.{◌≡◌, ◌≤◌, ◌<◌, All, IfSome, length, true};
+ghost use Rattle.std.specs.Prelude.{◌≡◌, ◌≤◌, IfSome, length, true};
 ghost use Rattle.legacy_base.specs.Indexes.{idx};
 ghost use Rattle.legacy_decoders.specs.Iso2022JpMachine as machine;
 ghost use Rattle.legacy_decoders.specs.Iso2022JpMachine.{start_bytes, bytes_of, is_held, is_resting};
@@ -8,6 +8,7 @@ ghost use Rattle.legacy_decoders.specs.declared.iso_2022_jp.steps.Mode.TheVarian
 ghost use Rattle.legacy_decoders.specs.Iso2022JpMoves.{fed_of, weight_of, IsNarrow, IsNarrowScalar};
 
 use crate::machine::Fed;
+use legacy_base::{IndexName, Tables};
 
 /// How the bytes behind an escape are read.
 #[derive(Clone, Copy)]
@@ -227,15 +228,11 @@ fn completed(start: Start, byte: u8) -> Option<Escape>
 }
 
 /// The scalar of a pointer in index jis0208.
-fn entry(jis0208: &[char], pointer: usize) -> Option<char>
-    requires { All (λ c. c < 0x1_0000) jis0208.now }
-    ensures value { result ≡ idx jis0208.now pointer }
+fn entry(tables: &Tables, pointer: usize) -> Option<char>
+    ensures value { result ≡ idx tables.now.flat.jis0208 pointer }
     ensures narrow { IfSome result IsNarrowScalar }
 {
-    match jis0208.get(pointer) {
-        Some(c) if *c != '\0' => Some(*c),
-        _ => None,
-    }
+    tables.idx(IndexName::Jis0208, pointer)
 }
 
 /// A byte that is no escape byte, in two-byte mode with nothing held back.
@@ -278,11 +275,10 @@ fn read_plain(mode: Mode, byte: u8) -> Outcome
 }
 
 /// A byte behind a lead. An escape byte ends the lead, and is held back itself.
-fn read_trail(jis0208: &[char], lead: u8, byte: u8) -> Outcome
-    requires narrow { All (λ c. c < 0x1_0000) jis0208.now }
+fn read_trail(tables: &Tables, lead: u8, byte: u8) -> Outcome
     requires low { 0x21 ≤ lead }
     requires high { lead ≤ 0x7E }
-    ensures value { result ≡ machine.read_trail jis0208.now lead byte }
+    ensures value { result ≡ machine.read_trail tables.now.flat.jis0208 lead byte }
     ensures narrow { IsNarrow result.action }
 {
     if byte == ESCAPE {
@@ -295,7 +291,7 @@ fn read_trail(jis0208: &[char], lead: u8, byte: u8) -> Outcome
     let mut action = Move::Reports(2);
     if byte >= 0x21 && byte <= 0x7E {
         let pointer = usize::from(lead - 0x21) * 94 + usize::from(byte - 0x21);
-        if let Some(c) = entry(jis0208, pointer) {
+        if let Some(c) = entry(tables, pointer) {
             action = Move::Writes(c);
         }
     }
@@ -382,15 +378,14 @@ fn read_whole(mode: Mode, escape: Escape, start: Start, byte: u8) -> Outcome
 }
 
 /// The next byte, where what is held back rests.
-pub fn read(jis0208: &[char], mode: Mode, held: Held, byte: u8) -> Outcome
+pub fn read(tables: &Tables, mode: Mode, held: Held, byte: u8) -> Outcome
     requires sound { is_held mode held ≡ true }
     requires rests { is_resting mode held ≡ true }
-    requires narrow { All (λ c. c < 0x1_0000) jis0208.now }
-    ensures value { result ≡ machine.read jis0208.now mode held byte }
+    ensures value { result ≡ machine.read tables.now.flat.jis0208 mode held byte }
     ensures narrow { IsNarrow result.action }
 {
     match held {
-        Held::Byte(lead) => read_trail(jis0208, lead, byte),
+        Held::Byte(lead) => read_trail(tables, lead, byte),
         Held::Begun(start) => read_start(mode, start, byte),
         Held::Whole(escape, start) => read_whole(mode, escape, start, byte),
     }

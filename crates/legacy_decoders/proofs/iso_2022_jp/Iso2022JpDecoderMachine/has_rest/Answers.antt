@@ -6,9 +6,9 @@ use Rattle.legacy_decoders.proofs.iso_2022_jp.Iso2022JpDecoderMachine.has_rest.G
 pub returns-clause-some : goal.returns-clause-some
 returns-clause-some c =
     let s = c.args.self.now in
-    rest_some s.jis0208.now s.mode s.held c.is_some.result s.sound (c.is_some.ensures ∙ ap (λ o. is_some o) c.finish.ensures)
+    rest_some s.tables.now.flat.jis0208 s.mode s.held c.is_some.result s.sound (c.is_some.ensures ∙ ap (λ o. is_some o) c.finish.ensures)
 
 pub returns-clause-none : goal.returns-clause-none
 returns-clause-none c =
     let s = c.args.self.now in
-    rest_none s.jis0208.now s.mode s.held c.is_some.result s.sound (c.is_some.ensures ∙ ap (λ o. is_some o) c.finish.ensures)
+    rest_none s.tables.now.flat.jis0208 s.mode s.held c.is_some.result s.sound (c.is_some.ensures ∙ ap (λ o. is_some o) c.finish.ensures)

@@ -4,4 +4,4 @@ use Rattle.legacy_decoders.proofs.iso_2022_jp.Iso2022JpDecoderMachine.room.Goals
 pub returns-clause-covered : goal.returns-clause-covered
 returns-clause-covered c =
     let s = c.args.self.now in
-    covered s.jis0208.now s.mode s.held
+    covered s.tables.now.flat.jis0208 s.mode s.held
