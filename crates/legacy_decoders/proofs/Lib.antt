@@ -23,6 +23,7 @@ pub mod Utf16Rooms
 pub mod ReplacementRooms
 pub mod AllRooms
 pub mod SettledSteps
+pub mod Feeding
 pub mod Iso2022JpEntries
 pub mod Iso2022JpLaw
 pub mod Iso2022JpStep

@@ -5,6 +5,9 @@ pub mod Utf16Fronts
 pub mod Machines
 pub mod Costs
 pub mod Margins
+pub mod Feeding
+pub mod Decoders
+pub mod UserDefinedDecoder
 pub mod Iso2022JpMachine
 pub mod Iso2022JpMoves
-pub mod Iso2022JpState
+pub mod Iso2022JpDecoder

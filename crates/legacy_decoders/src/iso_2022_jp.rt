@@ -26,7 +26,7 @@ pub struct Iso2022JpDecoder<'a> {
 }
 
 impl<'a> Iso2022JpDecoder<'a> {
-    ghost use Rattle.legacy_decoders.specs.Iso2022JpState.{iso_2022_jp_state};
+    ghost use Rattle.legacy_decoders.specs.Iso2022JpDecoder.{iso_2022_jp_state};
 
     /// A decoder at the beginning of a stream: in ASCII mode, with nothing held back. Pairs are looked
     /// up in index jis0208 of the tables.
@@ -53,7 +53,7 @@ impl<'a> Iso2022JpDecoder<'a> {
 }
 
 impl<'a> Machine for Iso2022JpDecoder<'a> {
-    ghost use Rattle.legacy_decoders.specs.Iso2022JpState.{iso_2022_jp_state};
+    ghost use Rattle.legacy_decoders.specs.Iso2022JpDecoder.{iso_2022_jp_state};
 
     ghost state = { iso_2022_jp_state };
 
@@ -98,7 +98,7 @@ impl<'a> Machine for Iso2022JpDecoder<'a> {
 }
 
 impl<'a> RawDecoder for Iso2022JpDecoder<'a> {
-    ghost use Rattle.legacy_decoders.specs.Iso2022JpState.{iso_2022_jp_state};
+    ghost use Rattle.legacy_decoders.specs.Iso2022JpDecoder.{iso_2022_jp_state};
 
     ghost state = { iso_2022_jp_state };
 

@@ -3,5 +3,7 @@
 
 mod iso_2022_jp;
 mod machine;
+mod user_defined;
 
 pub use iso_2022_jp::Iso2022JpDecoder;
+pub use user_defined::UserDefinedDecoder;
