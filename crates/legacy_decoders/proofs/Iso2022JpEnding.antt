@@ -21,10 +21,6 @@ use Rattle.legacy_decoders.proofs.Iso2022JpRooms.{same_rooms, room-falls, replac
 
 -- ---- a scalar that is held back
 
--- where none is, what is held back rests
-pub nothing_released : (jis0208 : List ℕ) (mode : Mode) (held : Held) → is_held mode held ≡ true → None ≡ pending mode held → rests (iso_2022_jp jis0208 (mode_meaning mode)) (bytes_of held) ≡ true
-nothing_released jis0208 mode held sound none = held_rests jis0208 mode held sound ∙ none_pending mode held sound (sym none)
-
 -- what writing it does
 pub released : (jis0208 : List ℕ) (mode : Mode) (held : Held) (c : ℕ) → is_held mode held ≡ true → Some c ≡ pending mode held → IsNarrowScalar c
     → Releases (state_in jis0208 mode held) (state_in jis0208 mode (Begun Nothing)) c

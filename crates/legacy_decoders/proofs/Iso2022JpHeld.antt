@@ -19,21 +19,6 @@ use Rattle.legacy_decoders.proofs.Iso2022JpStep.{valid, second_kept}
 
 -- ---- the bytes of what is held back
 
-start_allowed : (s : Start) → is_escape_start (start_bytes s) ≡ true
-start_allowed Nothing = refl
-start_allowed EscapeByte = refl
-start_allowed Dollar = refl
-start_allowed Paren = refl
-
--- they may be held back
-pub held_allowed : (jis0208 : List ℕ) (mode : Mode) (held : Held) → is_held mode held ≡ true → may_hold (iso_2022_jp jis0208 (mode_meaning mode)) (bytes_of held) ≡ true
-held_allowed jis0208 mode (Byte b) h = or_right (b == esc) (is_held mode (Byte b)) h
-held_allowed jis0208 mode (Begun Nothing) h = refl
-held_allowed jis0208 mode (Begun EscapeByte) h = refl
-held_allowed jis0208 mode (Begun Dollar) h = refl
-held_allowed jis0208 mode (Begun Paren) h = refl
-held_allowed jis0208 mode (Whole e s) h = rw (valid e, start_allowed s)
-
 byte_rests : (jis0208 : List ℕ) (mode : Mode) (b : ℕ) → is_held mode (Byte b) ≡ true → rests (iso_2022_jp jis0208 (mode_meaning mode)) (b ∷ []) ≡ is_two_byte_mode (mode_meaning mode)
 byte_rests jis0208 TwoByte b h = refl
 byte_rests jis0208 Ascii b h = rw h

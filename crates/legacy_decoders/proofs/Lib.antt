@@ -32,3 +32,4 @@ pub mod Iso2022JpEnd
 pub mod Iso2022JpRooms
 pub mod Iso2022JpFeeding
 pub mod Iso2022JpEnding
+pub mod Iso2022JpStates
