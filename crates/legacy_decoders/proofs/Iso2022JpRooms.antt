@@ -122,9 +122,9 @@ module _ (query : LengthQuery) (jis0208 : List ℕ) (mode : Mode) where
   enough [] last held = heavy (Enough [] last)
       (let n = none last in omega arith)
       (λ h heavy_enough.
-          let m = most h [] last (rests (iso_2022_jp jis0208 (mode_meaning mode)) (bytes_of h)) in
-          let s = some_room query (0 + weight_of h) (omega arith) in
-          omega arith)
+      let m = most h [] last (rests (iso_2022_jp jis0208 (mode_meaning mode)) (bytes_of h)) in
+      let s = some_room query (0 + weight_of h) (omega arith) in
+      omega arith)
       held
 
   covers : (unread : List ℕ) (last : Bool) (held : Held) → needed held unread last (rests (iso_2022_jp jis0208 (mode_meaning mode)) (bytes_of held)) ≤ room query (state_in jis0208 mode held) (length unread)

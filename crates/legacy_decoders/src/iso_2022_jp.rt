@@ -3,10 +3,13 @@ ghost use Rattle.std.specs.Prelude.{◌≡◌, [], true};
 ghost use Rattle.legacy_base.specs.Grammar.{iso_2022_jp};
 ghost use Rattle.legacy_base.specs.Iso2022Jp.{ascii};
 ghost use Rattle.legacy_base.specs.States.{is_neutral};
+ghost use Rattle.legacy_decoders.specs.Decoders.{new_state};
 ghost use Rattle.legacy_decoders.specs.Iso2022JpMachine.{is_held};
 ghost use Rattle.legacy_decoders.specs.Iso2022JpMoves.{weight_of};
 
 mod steps;
+#[cfg(test)]
+mod tests;
 
 use crate::machine::{Act, Fed, Machine, Room, drive};
 use legacy_base::{DecoderResult, Destination, RawDecoder, Tables};
@@ -31,7 +34,7 @@ impl<'a> Iso2022JpDecoder<'a> {
     /// A decoder at the beginning of a stream: in ASCII mode, with nothing held back. Pairs are looked
     /// up in index jis0208 of the tables.
     pub fn new(tables: &'a Tables<'a>) -> Iso2022JpDecoder<'a>
-        ensures { iso_2022_jp_state result ≡ record { grammar = iso_2022_jp tables.now.flat.jis0208 ascii; held = [] } }
+        ensures { iso_2022_jp_state result ≡ new_state (iso_2022_jp tables.now.flat.jis0208 ascii) }
     {
         Iso2022JpDecoder {
             tables,

@@ -243,11 +243,7 @@ fn read_lead(byte: u8) -> Outcome
     if byte >= 0x21 && byte <= 0x7E {
         Outcome::new(Move::Holds, Mode::TwoByte, Held::Byte(byte))
     } else {
-        Outcome::new(
-            Move::Reports(1),
-            Mode::TwoByte,
-            Held::Begun(Start::Nothing),
-        )
+        Outcome::new(Move::Reports(1), Mode::TwoByte, Held::Begun(Start::Nothing))
     }
 }
 
