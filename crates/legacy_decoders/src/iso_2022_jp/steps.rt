@@ -390,7 +390,6 @@ pub fn read(tables: &Tables, mode: Mode, held: Held, byte: u8) -> Outcome
 /// The scalar that is to be written before anything is read, if there is one: `24` or `28` outside
 /// two-byte mode.
 pub fn pending(mode: Mode, held: Held) -> Option<char>
-    requires { is_held mode held ≡ true }
     ensures value { result ≡ machine.pending mode held }
     ensures narrow { IfSome result IsNarrowScalar }
 {
