@@ -1,7 +1,7 @@
 -- What writing a scalar that is held back, and the end of the input, are to the loop of all decoders.
-use Rattle.std.proofs.Common.{◌≡◌, ◌≢◌, ◌∙◌, ℕ, ◌+◌, ◌-◌, ◌*◌, ◌≤◌, Bool, true, false, Option, Some, None, List, [], ◌∷◌, ◌++◌, length, refl, sym, ap, arith, append-nil}
-use Rattle.std.specs.Prelude.{is_some, MatchOption}
-use Rattle.legacy_base.specs.EncodingForm.{unit_count, bmp_room}
+use Rattle.std.proofs.Common.{◌≡◌, ◌≢◌, ◌∙◌, ℕ, ◌+◌, ◌-◌, ◌≤◌, Bool, true, false, Option, Some, None, List, [], length, refl, sym, ap, arith, append-nil}
+use Rattle.std.specs.Prelude.{is_some}
+use Rattle.legacy_base.specs.EncodingForm.{unit_count}
 use Rattle.legacy_base.specs.Grammar.{iso_2022_jp, events_of}
 use Rattle.legacy_base.specs.States.{rests}
 use Rattle.legacy_base.specs.Lengths.{query_form, replacement_units}
@@ -12,11 +12,11 @@ use Rattle.legacy_decoders.specs.declared.iso_2022_jp.steps.Held.{Held}
 use Rattle.legacy_decoders.specs.declared.iso_2022_jp.steps.Held.TheVariants.{Byte, Begun, Whole}
 use Rattle.legacy_decoders.specs.Iso2022JpMachine as machine
 use Rattle.legacy_decoders.specs.Iso2022JpMachine.{mode_meaning, bytes_of, is_held, is_resting, pending}
-use Rattle.legacy_decoders.specs.Iso2022JpMoves.{state_in, weight_of, IsNarrowScalar}
+use Rattle.legacy_decoders.specs.Iso2022JpMoves.{state_in, IsNarrowScalar}
 use Rattle.legacy_decoders.specs.Moves.{Releases, Reports}
 use Rattle.legacy_decoders.proofs.Iso2022JpLaw.{MeetsEnd, ended}
-use Rattle.legacy_decoders.proofs.Iso2022JpEnd.{none_pending, write_law, write_some, end_law}
-use Rattle.legacy_decoders.proofs.Iso2022JpHeld.{held_rests, finish_sound, EndsSound, SoundEnd}
+use Rattle.legacy_decoders.proofs.Iso2022JpEnd.{write_law, write_some, end_law}
+use Rattle.legacy_decoders.proofs.Iso2022JpHeld.{held_rests, finish_sound, EndsSound}
 use Rattle.legacy_decoders.proofs.Iso2022JpRooms.{same_rooms, room-falls, replacement_fits, times_one}
 
 -- ---- a scalar that is held back

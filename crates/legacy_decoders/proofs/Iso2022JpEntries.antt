@@ -1,8 +1,7 @@
 -- The entries of index jis0208 in accepted tables.
-use Rattle.std.proofs.Common.{◌≡◌, ℕ, ◌<◌, Bool, true, false, cond, Option, Some, None, List, length, get_or, ◌==◌, arith, inl, inr, refl}
+use Rattle.std.proofs.Common.{ℕ, ◌<◌, Bool, true, false, cond, Some, None, length, get_or, ◌==◌, inl, inr}
 use Rattle.std.specs.Prelude.{IfSome}
 use Rattle.std.specs.Char.{IsScalar}
-use Rattle.std.specs.List.{All}
 use Rattle.std.proofs.lemmas.Bool.{cases_lt}
 use Rattle.std.proofs.lemmas.List.{get_or_past}
 use Rattle.std.proofs.lemmas.List.Elements.{All-get_or}

@@ -1,18 +1,15 @@
 -- What the machine holds back is what may be held back, and its numbers.
 use Rattle.std.proofs.Common.{◌≡◌, ℕ, ◌+◌, ◌≤◌, true, Option, Some, None, List, [], ◌∷◌, length, drop, refl, arith, lit≤}
-use Rattle.std.specs.Prelude.{◌==◌}
 use Rattle.std.proofs.lemmas.Bool.{or_right}
-use Rattle.legacy_base.specs.Iso2022Jp.{esc}
 use Rattle.legacy_base.specs.Grammar.{iso_2022_jp}
-use Rattle.legacy_base.specs.States.{is_two_byte_mode, is_escape_start, may_hold, rests}
+use Rattle.legacy_base.specs.States.{is_two_byte_mode, rests}
 use Rattle.legacy_base.specs.Lengths.{weight}
 use Rattle.legacy_decoders.specs.declared.iso_2022_jp.steps.Mode.{Mode}
 use Rattle.legacy_decoders.specs.declared.iso_2022_jp.steps.Mode.TheVariants.{Ascii, Roman, Katakana, TwoByte}
-use Rattle.legacy_decoders.specs.declared.iso_2022_jp.steps.Start.{Start}
 use Rattle.legacy_decoders.specs.declared.iso_2022_jp.steps.Start.TheVariants.{Nothing, EscapeByte, Dollar, Paren}
 use Rattle.legacy_decoders.specs.declared.iso_2022_jp.steps.Held.{Held}
 use Rattle.legacy_decoders.specs.declared.iso_2022_jp.steps.Held.TheVariants.{Byte, Begun, Whole}
-use Rattle.legacy_decoders.specs.Iso2022JpMachine.{mode_meaning, bytes_of, finish, is_held, is_resting, mode_of, start_bytes}
+use Rattle.legacy_decoders.specs.Iso2022JpMachine.{mode_meaning, bytes_of, finish, is_held, is_resting, mode_of}
 use Rattle.legacy_decoders.specs.Iso2022JpMoves.{weight_of}
 use Rattle.legacy_decoders.proofs.Iso2022JpLaw.{ended}
 use Rattle.legacy_decoders.proofs.Iso2022JpStep.{valid, second_kept}

@@ -1,11 +1,11 @@
 -- The room that an ISO-2022-JP decoder needs, and how it falls.
-use Rattle.std.proofs.Common.{◌≡◌, ◌∙◌, ℕ, ◌+◌, ◌*◌, ◌<◌, ◌≤◌, Bool, true, false, cond, Option, None, Some, List, [], ◌∷◌, length, refl, ap, arith, length-append, ◌&&◌, ◌++◌}
+use Rattle.std.proofs.Common.{◌≡◌, ℕ, ◌+◌, ◌*◌, ◌<◌, ◌≤◌, Bool, true, false, cond, Some, List, [], ◌∷◌, length, refl, arith, length-append, ◌&&◌}
 use Rattle.legacy_base.specs.declared.results.DecodeEvent.{DecodeEvent}
-use Rattle.legacy_base.specs.EncodingForm.{EncodingForm, bmp_room, wide_room, code_units, unit_count, total_unit_count}
+use Rattle.legacy_base.specs.EncodingForm.{EncodingForm, bmp_room, wide_room, code_units, total_unit_count}
 use Rattle.legacy_base.specs.Grammar.{iso_2022_jp, events_of}
-use Rattle.legacy_base.specs.States.{DecoderState, rests, is_empty}
+use Rattle.legacy_base.specs.States.{rests, is_empty}
 use Rattle.std.specs.Char.{is_ascii}
-use Rattle.legacy_base.specs.Acts.{Act, writes, act_at_end, act_at_rest, room_of_act}
+use Rattle.legacy_base.specs.Acts.{writes, act_at_end, act_at_rest, room_of_act}
 use Rattle.legacy_base.specs.Lengths.{LengthQuery, to_utf16, to_utf8, to_utf8_without_replacement, query_form, replacement_units, room}
 use Rattle.legacy_base.proofs.CodeUnits.{length-code_units-bmp}
 use Rattle.legacy_base.proofs.Iso2022JpFronts.{step_end}

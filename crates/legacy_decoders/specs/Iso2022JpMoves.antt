@@ -11,7 +11,6 @@ use Rattle.legacy_decoders.specs.declared.iso_2022_jp.steps.Mode.{Mode}
 use Rattle.legacy_decoders.specs.declared.iso_2022_jp.steps.Held.{Held}
 use Rattle.legacy_decoders.specs.declared.iso_2022_jp.steps.Move.{Move}
 use Rattle.legacy_decoders.specs.declared.iso_2022_jp.steps.Move.TheVariants.{Holds, Writes, Reports, Leaves}
-use Rattle.legacy_decoders.specs.declared.iso_2022_jp.steps.Start.{Start}
 use Rattle.legacy_decoders.specs.declared.iso_2022_jp.steps.Held.TheVariants.{Byte, Begun, Whole}
 use Rattle.legacy_decoders.specs.declared.iso_2022_jp.steps.Outcome.{Outcome}
 use Rattle.legacy_decoders.specs.Iso2022JpMachine.{mode_meaning, start_bytes, bytes_of}
