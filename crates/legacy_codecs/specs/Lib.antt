@@ -1,0 +1,2 @@
+-- What a run of a coder over a whole input is.
+pub mod Scalars
