@@ -1,5 +1,5 @@
 -- Runs of a decoder: its calls over an input in pieces, with outputs of given lengths.
-use Rattle.std.specs.Prelude.{◌≡◌, ℕ, ◌+◌, ◌-◌, ◌≤◌, ◌^◌, List, [], ◌∷◌, ◌++◌, length, drop, slice_get, slice_index_or, sum, sum_by, ◌⊎◌, Bool, true, false, Some}
+use Rattle.std.specs.Prelude.{◌≡◌, ℕ, ◌+◌, ◌-◌, ◌≤◌, ◌^◌, List, [], ◌∷◌, ◌++◌, length, drop, slice_get, sum, sum_by, ◌⊎◌, Bool, true, false, Some}
 use Rattle.legacy_base.specs.declared.results.DecodeEvent.{DecodeEvent}
 use Rattle.legacy_base.specs.declared.results.DecodeEvent.TheVariants.{Scalar, Bad}
 use Rattle.legacy_base.specs.declared.results.DecoderResult.{DecoderResult}

@@ -4,10 +4,13 @@
 
 mod run;
 mod scalars;
+#[cfg(test)]
+mod tests;
 
 pub use legacy_base::{
     ByteSource, DecodeEvent, DecoderResult, Destination, RawDecoder, Utf8Destination,
     Utf16Destination,
 };
+pub use legacy_decoders::UserDefinedDecoder;
 pub use run::{DecodeRun, RunError, decode_run_utf8, decode_run_utf16};
 pub use scalars::{OutputForm, ScalarBuffer, Utf8Form, Utf16Form};
