@@ -2,3 +2,4 @@
 pub mod Kept
 pub mod Runs
 pub mod Running
+pub mod Filling
