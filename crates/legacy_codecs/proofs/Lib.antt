@@ -3,3 +3,4 @@ pub mod Kept
 pub mod Runs
 pub mod Running
 pub mod Filling
+pub mod Finishing

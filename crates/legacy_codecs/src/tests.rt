@@ -1,5 +1,6 @@
 use crate::{
-    DecodeEvent, DecodeRun, RunError, UserDefinedDecoder, decode_run_utf8, decode_run_utf16,
+    DecodeEvent, DecodeRun, DecoderResult, Destination, RawDecoder, RunError, ScalarBuffer,
+    UserDefinedDecoder, Utf8Form, Utf16Form, decode_run_utf8, decode_run_utf16,
 };
 use std::test::Fail;
 
@@ -112,4 +113,21 @@ fn the_errors_print_their_texts(rt: HostRuntime) -> Result<(), Fail> {
     let text = format!(in rt.alloc(); "{}, {}", RunError::Memory, RunError::TooLong)?;
     assert_eq!(rt; text.as_str(), "memory, run is too long");
     Ok(())
+}
+
+#[test]
+fn a_buffer_of_scalars_counts_their_code_units(rt: HostRuntime) {
+    let mut places = ['\0'; 4];
+    let mut buffer = ScalarBuffer::<Utf8Form>::new(&mut places, 4);
+    let answer = UserDefinedDecoder::new().step(b"\x61\x80\x80", &mut buffer, true);
+    assert_eq!(rt; answer, (DecoderResult::OutputFull, 2));
+    assert_eq!(rt; buffer.written(), 4);
+    assert_eq!(rt; buffer.free(), 0);
+    assert!(rt; buffer.scalars() == ['\u{61}', '\u{F780}'].as_slice());
+    let mut buffer = ScalarBuffer::<Utf16Form>::new(&mut places, 4);
+    let answer = UserDefinedDecoder::new().step(b"\x61\x80\x80", &mut buffer, true);
+    assert_eq!(rt; answer, (DecoderResult::InputEmpty, 3));
+    assert_eq!(rt; buffer.written(), 3);
+    assert_eq!(rt; buffer.free(), 1);
+    assert!(rt; buffer.scalars() == ['\u{61}', '\u{F780}', '\u{F780}'].as_slice());
 }
