@@ -150,7 +150,7 @@ impl<'a> Machine for Big5Decoder<'a> {
 
     #[inline]
     fn is_idle(&self) -> bool {
-        self.held.is_none()
+        self.in_neutral_state()
     }
 
     #[inline]

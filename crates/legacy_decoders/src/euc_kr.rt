@@ -119,7 +119,7 @@ impl<'a> Machine for EucKrDecoder<'a> {
 
     #[inline]
     fn is_idle(&self) -> bool {
-        self.held.is_none()
+        self.in_neutral_state()
     }
 
     #[inline]

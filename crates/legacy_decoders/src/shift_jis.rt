@@ -191,7 +191,7 @@ impl<'a> Machine for ShiftJisDecoder<'a> {
 
     #[inline]
     fn is_idle(&self) -> bool {
-        self.held.is_none()
+        self.in_neutral_state()
     }
 
     #[inline]
