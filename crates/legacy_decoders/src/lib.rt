@@ -3,6 +3,8 @@
 
 mod ahead;
 mod big5;
+#[cfg(test)]
+mod collect;
 mod drive;
 mod euc_kr;
 mod held;
