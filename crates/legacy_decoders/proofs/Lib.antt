@@ -24,3 +24,4 @@ pub mod ReplacementRooms
 pub mod AllRooms
 pub mod SettledSteps
 pub mod Feeding
+pub mod Gb18030Held

@@ -8,3 +8,5 @@ pub mod Margins
 pub mod Feeding
 pub mod Decoders
 pub mod UserDefinedDecoder
+pub mod Gb18030Held
+pub mod Gb18030Decoder

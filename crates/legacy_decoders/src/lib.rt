@@ -1,7 +1,10 @@
 //! The decoders of the legacy encodings: each is a machine of small moves under one loop.
 #![tactic(auto)]
 
+mod gb18030;
+mod held;
 mod machine;
 mod user_defined;
 
+pub use gb18030::Gb18030Decoder;
 pub use user_defined::UserDefinedDecoder;
