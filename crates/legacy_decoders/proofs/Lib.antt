@@ -25,3 +25,4 @@ pub mod AllRooms
 pub mod SettledSteps
 pub mod Feeding
 pub mod Gb18030Held
+pub mod EucJpHeld

@@ -10,3 +10,5 @@ pub mod Decoders
 pub mod UserDefinedDecoder
 pub mod Gb18030Held
 pub mod Gb18030Decoder
+pub mod EucJpHeld
+pub mod EucJpDecoder

@@ -13,6 +13,7 @@ ghost use Rattle.legacy_decoders.specs.Gb18030Held.{held_bytes, is_resting};
 
 use crate::held::{Digit, Lead};
 use crate::machine::{Act, Fed, Machine, Room, drive};
+use crate::trail::unmapped;
 use legacy_base::{DecoderResult, Destination, IndexName, RawDecoder, Tables};
 
 /// What is held back: the first bytes of a form, or a digit of a broken form and what came behind it.
@@ -95,16 +96,7 @@ fn read_second(tables: &Tables, first: Lead, byte: u8) -> (Fed, Held)
     }
     let fed = match pair_scalar(tables, first, byte) {
         Some(scalar) => Fed::One(scalar),
-        None if byte < 0x80 => Fed::Fault {
-            length: 1,
-            back: 0,
-            unread: true,
-        },
-        None => Fed::Fault {
-            length: 2,
-            back: 0,
-            unread: false,
-        },
+        None => unmapped(1, byte),
     };
     (fed, Held::Nothing)
 }
