@@ -9,3 +9,4 @@ pub mod Enough
 pub mod TableLoops
 pub mod Accepted
 pub mod AcceptedTable
+pub mod Ascii

@@ -8,6 +8,8 @@ mod results;
 mod single_byte_table;
 mod source;
 mod tables;
+#[cfg(test)]
+mod tests;
 
 pub use decoder::RawDecoder;
 pub use destination::{Destination, Utf8Destination, Utf16Destination};

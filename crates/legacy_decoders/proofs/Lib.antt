@@ -26,3 +26,7 @@ pub mod SettledSteps
 pub mod Feeding
 pub mod Gb18030Held
 pub mod EucJpHeld
+pub mod Writing
+pub mod AheadRuns
+pub mod RunForms
+pub mod UserDefinedRuns

@@ -6,6 +6,7 @@ pub mod Machines
 pub mod Costs
 pub mod Margins
 pub mod Feeding
+pub mod Ahead
 pub mod Decoders
 pub mod UserDefinedDecoder
 pub mod Gb18030Held

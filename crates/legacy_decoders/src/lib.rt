@@ -4,6 +4,8 @@
 mod euc_jp;
 mod gb18030;
 mod held;
+mod ahead;
+mod drive;
 mod machine;
 mod trail;
 mod user_defined;
