@@ -12,8 +12,9 @@ ghost use Rattle.legacy_decoders.specs.Feeding.{Took};
 ghost use Rattle.legacy_decoders.specs.Decoders.{new_state};
 ghost use Rattle.legacy_decoders.specs.EucJpHeld.{held_bytes};
 
+use crate::drive::drive;
 use crate::held::EucJpLead;
-use crate::machine::{Act, Fed, Machine, Room, drive};
+use crate::machine::{Act, Fed, Machine, Room};
 use crate::trail::unmapped;
 use legacy_base::{DecoderResult, Destination, IndexName, RawDecoder, Tables};
 

@@ -11,8 +11,9 @@ ghost use Rattle.legacy_decoders.specs.Feeding.{Took};
 ghost use Rattle.legacy_decoders.specs.Decoders.{new_state};
 ghost use Rattle.legacy_decoders.specs.Gb18030Held.{held_bytes, is_resting};
 
+use crate::drive::drive;
 use crate::held::{Digit, Lead};
-use crate::machine::{Act, Fed, Machine, Room, drive};
+use crate::machine::{Act, Fed, Machine, Room};
 use crate::trail::unmapped;
 use legacy_base::{DecoderResult, Destination, IndexName, RawDecoder, Tables};
 

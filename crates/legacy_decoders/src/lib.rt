@@ -1,11 +1,11 @@
 //! The decoders of the legacy encodings: each is a machine of small moves under one loop.
 #![tactic(auto)]
 
+mod ahead;
+mod drive;
 mod euc_jp;
 mod gb18030;
 mod held;
-mod ahead;
-mod drive;
 mod machine;
 mod trail;
 mod user_defined;
