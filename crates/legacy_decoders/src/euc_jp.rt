@@ -12,6 +12,9 @@ ghost use Rattle.legacy_decoders.specs.Feeding.{Took};
 ghost use Rattle.legacy_decoders.specs.Decoders.{new_state};
 ghost use Rattle.legacy_decoders.specs.EucJpHeld.{held_bytes};
 
+#[cfg(test)]
+mod tests;
+
 use crate::drive::drive;
 use crate::held::EucJpLead;
 use crate::machine::{Act, Fed, Machine, Room};

@@ -11,6 +11,9 @@ ghost use Rattle.legacy_decoders.specs.Feeding.{Took};
 ghost use Rattle.legacy_decoders.specs.Decoders.{new_state};
 ghost use Rattle.legacy_decoders.specs.Gb18030Held.{held_bytes, is_resting};
 
+#[cfg(test)]
+mod tests;
+
 use crate::drive::drive;
 use crate::held::{Digit, Lead};
 use crate::machine::{Act, Fed, Machine, Room};

@@ -7,6 +7,8 @@ mod euc_jp;
 mod gb18030;
 mod held;
 mod machine;
+#[cfg(test)]
+mod tests;
 mod trail;
 mod user_defined;
 
