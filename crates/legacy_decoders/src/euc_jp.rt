@@ -17,7 +17,7 @@ mod tests;
 
 use crate::drive::drive;
 use crate::held::EucJpLead;
-use crate::machine::{Act, Fed, Machine, Room};
+use crate::machine::{Act, Fed, Front, Machine, Room};
 use crate::trail::unmapped;
 use legacy_base::{DecoderResult, Destination, IndexName, RawDecoder, Tables};
 
@@ -192,6 +192,7 @@ impl<'a> EucJpDecoder<'a> {
     }
 
     /// Whether no byte is held back.
+    #[inline]
     pub fn in_neutral_state(&self) -> bool
         ensures { result ≡ is_neutral (euc_jp_state self.now) }
     {
@@ -247,6 +248,22 @@ impl Machine for EucJpDecoder<'_> {
         }
         self.held = Held::Nothing;
         Some((length, 0))
+    }
+
+    #[inline]
+    fn is_idle(&self) -> bool {
+        self.in_neutral_state()
+    }
+
+    #[inline]
+    fn front(&self, lead: u8, trail: u8) -> Front {
+        if lead < 0xA1 || lead > 0xFE {
+            return Front::Other;
+        }
+        match pair_scalar(self.tables, IndexName::Jis0208, EucJpLead { byte: lead }, trail) {
+            Some(scalar) => Front::Pair(scalar),
+            None => Front::Other,
+        }
     }
 }
 

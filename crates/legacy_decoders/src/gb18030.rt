@@ -16,7 +16,7 @@ mod tests;
 
 use crate::drive::drive;
 use crate::held::{Digit, Lead};
-use crate::machine::{Act, Fed, Machine, Room};
+use crate::machine::{Act, Fed, Front, Machine, Room};
 use crate::trail::unmapped;
 use legacy_base::{DecoderResult, Destination, IndexName, RawDecoder, Tables};
 
@@ -211,6 +211,7 @@ impl<'a> Gb18030Decoder<'a> {
     }
 
     /// Whether no byte is held back.
+    #[inline]
     pub fn in_neutral_state(&self) -> bool
         ensures { result ≡ is_neutral (gb18030_state self.now) }
     {
@@ -274,6 +275,22 @@ impl Machine for Gb18030Decoder<'_> {
         }
         self.held = Held::Nothing;
         Some((length, 0))
+    }
+
+    #[inline]
+    fn is_idle(&self) -> bool {
+        self.in_neutral_state()
+    }
+
+    #[inline]
+    fn front(&self, lead: u8, trail: u8) -> Front {
+        if lead == 0x80 || lead == 0xFF {
+            return Front::Other;
+        }
+        match pair_scalar(self.tables, Lead { byte: lead }, trail) {
+            Some(scalar) => Front::Pair(scalar),
+            None => Front::Other,
+        }
     }
 }
 

@@ -1,6 +1,6 @@
 use crate::EucJpDecoder;
 use crate::tests::{find, no_entries};
-use legacy_base::{DecodeEvent, DecoderResult, RawDecoder, Tables};
+use legacy_base::{DecodeEvent, DecoderResult, Indexes, RawDecoder, Tables};
 use std::test::Fail;
 
 /// A malformed sequence.
@@ -40,9 +40,15 @@ fn pairs_go_by_jis0208_and_behind_8f_by_jis0212(rt: HostRuntime) -> Result<(), F
     jis0208[60] = 0xFF0D;
     let mut jis0212 = [0u16; 109];
     jis0212[108] = 0x02D8;
-    let mut indexes = no_entries();
-    indexes.jis0208 = &jis0208;
-    indexes.jis0212 = &jis0212;
+    let indexes = Indexes {
+        big5: &[],
+        euc_kr: &[],
+        jis0208: &jis0208,
+        jis0212: &jis0212,
+        gb18030: &[],
+        katakana: &[],
+        ranges: &[],
+    };
     let tables = Tables::new(&indexes)?;
     let mut units = [0u16; 8];
     let answer = EucJpDecoder::new(&tables).decode_to_utf16_raw(
