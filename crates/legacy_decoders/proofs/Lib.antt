@@ -24,9 +24,14 @@ pub mod ReplacementRooms
 pub mod AllRooms
 pub mod SettledSteps
 pub mod Feeding
-pub mod Gb18030Held
-pub mod EucJpHeld
+pub mod TwoByteHeld
+pub mod TwoByteRuns
+pub mod EucKrHeld
+pub mod Big5Held
+pub mod ShiftJisHeld
 pub mod Writing
 pub mod AheadRuns
 pub mod RunForms
 pub mod UserDefinedRuns
+pub mod Gb18030Held
+pub mod EucJpHeld

@@ -13,3 +13,7 @@ pub mod Gb18030Held
 pub mod Gb18030Decoder
 pub mod EucJpHeld
 pub mod EucJpDecoder
+pub mod TwoByte
+pub mod EucKrDecoder
+pub mod Big5Decoder
+pub mod ShiftJisDecoder

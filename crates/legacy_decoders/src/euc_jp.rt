@@ -1,5 +1,6 @@
 //! The decoder of EUC-JP.
-ghost use Rattle.std.specs.Prelude.{◌≡◌, ℕ, List, ◌∷◌, [], length, option_to_list};
+ghost use Rattle.std.specs.Prelude.{◌≡◌, ℕ, List, ◌∷◌, [], length, option_to_list, IfSome};
+ghost use Rattle.std.specs.Char.{IsScalar};
 ghost use Rattle.legacy_base.specs.EncodingForm.{EncodingForm};
 ghost use Rattle.legacy_base.specs.EucJp.{euc_jp_scalars};
 ghost use Rattle.legacy_base.specs.Grammar.{euc_jp};
@@ -19,6 +20,7 @@ use crate::drive::drive;
 use crate::held::EucJpLead;
 use crate::machine::{Act, Fed, Front, Machine, Room};
 use crate::trail::unmapped;
+use crate::two_byte::fault_through;
 use legacy_base::{DecoderResult, Destination, IndexName, RawDecoder, Tables};
 
 /// What is held back: the first bytes of a form.
@@ -54,7 +56,8 @@ pub struct EucJpDecoder<'a> {
 /// The scalar of a lead and a trail in the index.
 #[inline]
 fn pair_scalar(tables: &Tables, name: IndexName, lead: EucJpLead, trail: u8) -> Option<char>
-    ensures { option_to_list result ≡ euc_jp_scalars (index_list tables.now.flat name) lead.byte trail }
+    ensures value { option_to_list result ≡ euc_jp_scalars (index_list tables.now.flat name) lead.byte trail }
+    ensures scalar { IfSome result IsScalar }
 {
     if trail < 0xA1 || trail > 0xFE {
         return None;
@@ -80,14 +83,7 @@ fn read_first(byte: u8) -> (Fed, Held)
     if byte >= 0xA1 && byte <= 0xFE {
         return (Fed::Nothing, Held::Lead(EucJpLead { byte }));
     }
-    (
-        Fed::Fault {
-            length: 1,
-            back: 0,
-            unread: false,
-        },
-        Held::Nothing,
-    )
+    (fault_through(1), Held::Nothing)
 }
 
 /// What a byte leads to behind 8E.
@@ -257,10 +253,10 @@ impl Machine for EucJpDecoder<'_> {
 
     #[inline]
     fn front(&self, lead: u8, trail: u8) -> Front {
-        if lead < 0xA1 || lead > 0xFE {
+        let Some(lead) = EucJpLead::new(lead) else {
             return Front::Other;
-        }
-        match pair_scalar(self.tables, IndexName::Jis0208, EucJpLead { byte: lead }, trail) {
+        };
+        match pair_scalar(self.tables, IndexName::Jis0208, lead, trail) {
             Some(scalar) => Front::Pair(scalar),
             None => Front::Other,
         }

@@ -1,5 +1,6 @@
 //! The decoder of GB18030 and GBK.
-ghost use Rattle.std.specs.Prelude.{◌≡◌, ℕ, List, ◌∷◌, [], true, length, option_to_list};
+ghost use Rattle.std.specs.Prelude.{◌≡◌, ℕ, List, ◌∷◌, [], true, length, option_to_list, IfSome};
+ghost use Rattle.std.specs.Char.{IsScalar};
 ghost use Rattle.legacy_base.specs.EncodingForm.{EncodingForm};
 ghost use Rattle.legacy_base.specs.Gb18030.{gb18030_scalars};
 ghost use Rattle.legacy_base.specs.Grammar.{gb18030};
@@ -18,6 +19,7 @@ use crate::drive::drive;
 use crate::held::{Digit, Lead};
 use crate::machine::{Act, Fed, Front, Machine, Room};
 use crate::trail::unmapped;
+use crate::two_byte::fault_through;
 use legacy_base::{DecoderResult, Destination, IndexName, RawDecoder, Tables};
 
 /// What is held back: the first bytes of a form, or a digit of a broken form and what came behind it.
@@ -53,7 +55,8 @@ pub struct Gb18030Decoder<'a> {
 /// The scalar of a lead and a trail.
 #[inline]
 fn pair_scalar(tables: &Tables, lead: Lead, trail: u8) -> Option<char>
-    ensures { option_to_list result ≡ gb18030_scalars tables.now.flat.gb18030 lead.byte trail }
+    ensures value { option_to_list result ≡ gb18030_scalars tables.now.flat.gb18030 lead.byte trail }
+    ensures scalar { IfSome result IsScalar }
 {
     let row = usize::from(lead.byte - 0x81) * 190;
     if trail >= 0x40 && trail <= 0x7E {
@@ -79,14 +82,7 @@ fn read_first(byte: u8) -> (Fed, Held)
     if byte <= 0xFE {
         return (Fed::Nothing, Held::First(Lead { byte }));
     }
-    (
-        Fed::Fault {
-            length: 1,
-            back: 0,
-            unread: false,
-        },
-        Held::Nothing,
-    )
+    (fault_through(1), Held::Nothing)
 }
 
 /// What a byte leads to behind a lead.
@@ -146,11 +142,7 @@ fn read_fourth(tables: &Tables, first: Lead, second: Digit, third: Lead, byte: u
         + usize::from(byte - 0x30);
     let fed = match tables.range(pointer) {
         Some(scalar) => Fed::One(scalar),
-        None => Fed::Fault {
-            length: 4,
-            back: 0,
-            unread: false,
-        },
+        None => fault_through(4),
     };
     (fed, Held::Nothing)
 }
@@ -284,10 +276,10 @@ impl Machine for Gb18030Decoder<'_> {
 
     #[inline]
     fn front(&self, lead: u8, trail: u8) -> Front {
-        if lead == 0x80 || lead == 0xFF {
+        let Some(lead) = Lead::new(lead) else {
             return Front::Other;
-        }
-        match pair_scalar(self.tables, Lead { byte: lead }, trail) {
+        };
+        match pair_scalar(self.tables, lead, trail) {
             Some(scalar) => Front::Pair(scalar),
             None => Front::Other,
         }

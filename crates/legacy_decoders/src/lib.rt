@@ -2,16 +2,25 @@
 #![tactic(auto)]
 
 mod ahead;
+mod big5;
 mod drive;
 mod euc_jp;
+mod euc_kr;
+#[cfg(test)]
+mod fixtures;
 mod gb18030;
 mod held;
 mod machine;
+mod shift_jis;
 #[cfg(test)]
 mod tests;
 mod trail;
+mod two_byte;
 mod user_defined;
 
+pub use big5::Big5Decoder;
 pub use euc_jp::EucJpDecoder;
+pub use euc_kr::EucKrDecoder;
 pub use gb18030::Gb18030Decoder;
+pub use shift_jis::ShiftJisDecoder;
 pub use user_defined::UserDefinedDecoder;

@@ -1,96 +1,101 @@
-//! How the tests run a decoder over bytes that come one by one.
-use legacy_base::{DecodeEvent, DecoderResult, Indexes, RawDecoder};
+//! What the decoders' tests share.
+use legacy_base::DecodeEvent::{Bad, Scalar};
+use legacy_base::DecoderResult::{InputEmpty, Malformed};
+use legacy_base::{DecodeEvent, DecoderResult, RawDecoder};
 use std::alloc::{AllocError, Global};
+use std::process::Abort;
 
-/// Indexes without an entry.
-pub fn no_entries<'a>() -> Indexes<'a> {
-    Indexes {
-        big5: &[],
-        euc_kr: &[],
-        jis0208: &[],
-        jis0212: &[],
-        gb18030: &[],
-        katakana: &[],
-        ranges: &[],
+/// A malformed sequence.
+pub fn bad(place: usize, length: usize) -> DecodeEvent {
+    Bad { place, length }
+}
+
+/// The malformed sequence that an answer reports, with so many bytes read.
+fn reported(answer: DecoderResult, seen: usize) -> Option<DecodeEvent> {
+    match answer {
+        Malformed(length, back) => {
+            let behind = usize::from(back) + usize::from(length);
+            Some(bad(seen.saturating_sub(behind), usize::from(length)))
+        }
+        _ => None,
     }
 }
 
-/// One call into four bytes, whose scalars go behind the events.
-fn call_utf8<D: RawDecoder>(
+/// The events of the input cut into single bytes, over outputs of four bytes.
+pub fn utf8_events<D: RawDecoder>(
     alloc: Global,
     decoder: &mut D,
-    piece: &[u8],
-    last: bool,
-    events: &mut Vec<DecodeEvent>,
-) -> Result<(DecoderResult, usize), AllocError> {
-    let mut bytes = [0u8; 4];
-    let (answer, read, written) = decoder.decode_to_utf8_raw(piece, &mut bytes, last);
-    let text = String::from_utf8_lossy(alloc, &bytes[..written])?;
-    for scalar in text.chars() {
-        events.push(DecodeEvent::Scalar(scalar))?;
-    }
-    Ok((answer, read))
-}
-
-/// One call into two code units, whose scalars go behind the events.
-fn call_utf16<D: RawDecoder>(
-    alloc: Global,
-    decoder: &mut D,
-    piece: &[u8],
-    last: bool,
-    events: &mut Vec<DecodeEvent>,
-) -> Result<(DecoderResult, usize), AllocError> {
-    let mut units = [0u16; 2];
-    let (answer, read, written) = decoder.decode_to_utf16_raw(piece, &mut units, last);
-    let text = String::from_utf16_lossy(alloc, &units[..written])?;
-    for scalar in text.chars() {
-        events.push(DecodeEvent::Scalar(scalar))?;
-    }
-    Ok((answer, read))
-}
-
-/// The events of the bytes, handed in one by one, into outputs of two UTF-16 code units where `units`
-/// is set, and else of four UTF-8 bytes.
-fn collect<D: RawDecoder>(
-    alloc: Global,
-    decoder: &mut D,
-    bytes: &[u8],
-    units: bool,
+    input: &[u8],
 ) -> Result<Vec<DecodeEvent>, AllocError> {
     let mut events = Vec::new(alloc);
-    let mut at = 0usize;
-    for _ in 0..1000 {
-        let end = at.saturating_add(1).min(bytes.len());
-        let last = end == bytes.len();
-        let piece = bytes.get(at..end).unwrap_or_default();
-        let (answer, read) = if units {
-            call_utf16(alloc, decoder, piece, last, &mut events)?
-        } else {
-            call_utf8(alloc, decoder, piece, last, &mut events)?
-        };
-        at = at.saturating_add(read);
-        match answer {
-            DecoderResult::InputEmpty if last => return Ok(events),
-            DecoderResult::Malformed(length, back) => events.push(DecodeEvent::Bad {
-                place: at.saturating_sub(usize::from(length) + usize::from(back)),
-                length: usize::from(length),
-            })?,
-            _ => {}
+    for (place, byte) in input.iter().enumerate() {
+        let mut source: &[u8] = &[*byte];
+        for _call in 0..8 {
+            let mut output = [0u8; 4];
+            let last = place + 1 == input.len();
+            let (answer, read, written) = decoder.decode_to_utf8_raw(source, &mut output, last);
+            if let Ok(text) = str::from_utf8(&output[..written]) {
+                for scalar in text.chars() {
+                    events.push(Scalar(scalar))?;
+                }
+            }
+            if read == 1 {
+                source = &[];
+            }
+            let seen = place.saturating_add(1 - source.len().min(1));
+            if let Some(event) = reported(answer, seen) {
+                events.push(event)?;
+            } else if answer == InputEmpty {
+                break;
+            }
         }
     }
     Ok(events)
 }
 
-/// Whether decoders that were just made find exactly these events in bytes that come one by one, the one
-/// into UTF-8 and the other into UTF-16.
-pub fn find<D: RawDecoder>(
+/// The same over outputs of two UTF-16 units.
+pub fn utf16_events<D: RawDecoder>(
     alloc: Global,
-    narrow: &mut D,
-    wide: &mut D,
-    bytes: &[u8],
-    events: &[DecodeEvent],
-) -> Result<bool, AllocError> {
-    let by_bytes = collect(alloc, narrow, bytes, false)?;
-    let by_units = collect(alloc, wide, bytes, true)?;
-    Ok(by_bytes.as_slice() == events && by_units.as_slice() == events)
+    decoder: &mut D,
+    input: &[u8],
+) -> Result<Vec<DecodeEvent>, AllocError> {
+    let mut events = Vec::new(alloc);
+    for (place, byte) in input.iter().enumerate() {
+        let mut source: &[u8] = &[*byte];
+        for _call in 0..8 {
+            let mut output = [0u16; 2];
+            let last = place + 1 == input.len();
+            let (answer, read, written) = decoder.decode_to_utf16_raw(source, &mut output, last);
+            for unit in char::decode_utf16(output[..written].iter().copied()) {
+                if let Ok(scalar) = unit {
+                    events.push(Scalar(scalar))?;
+                }
+            }
+            if read == 1 {
+                source = &[];
+            }
+            let seen = place.saturating_add(1 - source.len().min(1));
+            if let Some(event) = reported(answer, seen) {
+                events.push(event)?;
+            } else if answer == InputEmpty {
+                break;
+            }
+        }
+    }
+    Ok(events)
+}
+
+/// Makes a call and compares its answer, and what it writes.
+pub fn assert_call<D: RawDecoder>(
+    rt: &impl Abort,
+    decoder: &mut D,
+    source: &[u8],
+    last: bool,
+    answer: (DecoderResult, usize),
+    text: &str,
+) {
+    let mut output = [0u8; 16];
+    let (result, read, written) = decoder.decode_to_utf8_raw(source, &mut output, last);
+    assert_eq!(rt; (result, read), answer, "at {text}");
+    assert!(rt; &output[..written] == text.as_bytes(), "at {text}");
 }

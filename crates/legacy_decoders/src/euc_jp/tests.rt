@@ -1,12 +1,8 @@
 use crate::EucJpDecoder;
-use crate::tests::{find, no_entries};
+use crate::fixtures::{find, no_entries};
+use crate::tests::bad;
 use legacy_base::{DecodeEvent, DecoderResult, Indexes, RawDecoder, Tables};
 use std::test::Fail;
-
-/// A malformed sequence.
-fn bad(place: usize, length: usize) -> DecodeEvent {
-    DecodeEvent::Bad { place, length }
-}
 
 #[test]
 fn an_ascii_byte_behind_8f_and_a_lead_is_read_again(rt: HostRuntime) -> Result<(), Fail> {

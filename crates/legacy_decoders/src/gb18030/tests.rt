@@ -1,12 +1,8 @@
 use crate::Gb18030Decoder;
-use crate::tests::{find, no_entries};
+use crate::fixtures::{find, no_entries};
+use crate::tests::bad;
 use legacy_base::{DecodeEvent, DecoderResult, RawDecoder, Tables};
 use std::test::Fail;
-
-/// A malformed sequence.
-fn bad(place: usize, length: usize) -> DecodeEvent {
-    DecodeEvent::Bad { place, length }
-}
 
 #[test]
 fn a_bad_fourth_byte_gives_the_second_and_third_back(rt: HostRuntime) -> Result<(), Fail> {
