@@ -29,9 +29,14 @@ pub mod TwoByteRuns
 pub mod EucKrHeld
 pub mod Big5Held
 pub mod ShiftJisHeld
+pub mod Utf16Held
+pub mod ReplacementSteps
+pub mod SingleByteSteps
+pub mod Latin1Fronts
 pub mod Writing
 pub mod AheadRuns
 pub mod RunForms
 pub mod UserDefinedRuns
 pub mod Gb18030Held
 pub mod EucJpHeld
+pub mod SingleByteRuns

@@ -17,3 +17,6 @@ pub mod TwoByte
 pub mod EucKrDecoder
 pub mod Big5Decoder
 pub mod ShiftJisDecoder
+pub mod Utf16Decoder
+pub mod ReplacementDecoder
+pub mod SingleByteDecoder
