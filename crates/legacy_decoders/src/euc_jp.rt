@@ -16,9 +16,10 @@ ghost use Rattle.legacy_decoders.specs.EucJpHeld.{held_bytes};
 #[cfg(test)]
 mod tests;
 
+use crate::ahead::{CommonForms, Front, ahead};
 use crate::drive::drive;
 use crate::held::EucJpLead;
-use crate::machine::{Act, Fed, Front, Machine, Room};
+use crate::machine::{Act, Fed, Machine, Room};
 use crate::trail::unmapped;
 use crate::two_byte::fault_through;
 use legacy_base::{DecoderResult, Destination, IndexName, RawDecoder, Tables};
@@ -245,6 +246,17 @@ impl Machine for EucJpDecoder<'_> {
         self.held = Held::Nothing;
         Some((length, 0))
     }
+
+    #[inline]
+    fn read_ahead<T: Destination>(&self, src: &[u8], dst: &mut T) -> usize {
+        ahead(self, src, dst)
+    }
+}
+
+impl CommonForms for EucJpDecoder<'_> {
+    ghost use Rattle.legacy_decoders.specs.EucJpDecoder.{euc_jp_state};
+
+    ghost state = { euc_jp_state };
 
     #[inline]
     fn is_idle(&self) -> bool {

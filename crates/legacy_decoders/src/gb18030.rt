@@ -15,9 +15,10 @@ ghost use Rattle.legacy_decoders.specs.Gb18030Held.{held_bytes, is_resting};
 #[cfg(test)]
 mod tests;
 
+use crate::ahead::{CommonForms, Front, ahead};
 use crate::drive::drive;
 use crate::held::{Digit, Lead};
-use crate::machine::{Act, Fed, Front, Machine, Room};
+use crate::machine::{Act, Fed, Machine, Room};
 use crate::trail::unmapped;
 use crate::two_byte::fault_through;
 use legacy_base::{DecoderResult, Destination, IndexName, RawDecoder, Tables};
@@ -268,6 +269,17 @@ impl Machine for Gb18030Decoder<'_> {
         self.held = Held::Nothing;
         Some((length, 0))
     }
+
+    #[inline]
+    fn read_ahead<T: Destination>(&self, src: &[u8], dst: &mut T) -> usize {
+        ahead(self, src, dst)
+    }
+}
+
+impl CommonForms for Gb18030Decoder<'_> {
+    ghost use Rattle.legacy_decoders.specs.Gb18030Decoder.{gb18030_state};
+
+    ghost state = { gb18030_state };
 
     #[inline]
     fn is_idle(&self) -> bool {

@@ -1,6 +1,6 @@
 use Rattle.std.proofs.Common.{sym, ◌∙◌}
 use Rattle.legacy_decoders.proofs.EucJpHeld.{ascii, neutral-empty}
-use Rattle.legacy_decoders.proofs.euc_jp.EucJpDecoderMachine.is_idle.Goals as goal
+use Rattle.legacy_decoders.proofs.euc_jp.EucJpDecoderCommonForms.is_idle.Goals as goal
 
 pub returns : goal.returns
 returns c e = record {

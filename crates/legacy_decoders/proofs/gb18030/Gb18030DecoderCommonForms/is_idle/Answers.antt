@@ -1,6 +1,6 @@
 use Rattle.std.proofs.Common.{sym, ◌∙◌}
 use Rattle.legacy_decoders.proofs.Gb18030Held.{ascii, neutral-empty}
-use Rattle.legacy_decoders.proofs.gb18030.Gb18030DecoderMachine.is_idle.Goals as goal
+use Rattle.legacy_decoders.proofs.gb18030.Gb18030DecoderCommonForms.is_idle.Goals as goal
 
 pub returns : goal.returns
 returns c e = record {

@@ -1,6 +1,6 @@
 use Rattle.std.proofs.Common.{◌<◌, ◌^◌, arith, sym}
-use Rattle.legacy_decoders.proofs.Gb18030Held.{pair}
-use Rattle.legacy_decoders.proofs.gb18030.Gb18030DecoderMachine.front.Goals as goal
+use Rattle.legacy_decoders.proofs.EucJpHeld.{pair}
+use Rattle.legacy_decoders.proofs.euc_jp.EucJpDecoderCommonForms.front.Goals as goal
 
 pub returns-in-Some-pair_scalar : goal.returns-in-Some-pair_scalar
 returns-in-Some-pair_scalar c =
