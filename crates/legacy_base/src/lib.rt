@@ -4,6 +4,7 @@
 
 mod decoder;
 mod destination;
+pub mod laws;
 mod results;
 mod single_byte_table;
 mod source;

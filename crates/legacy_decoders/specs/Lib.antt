@@ -13,3 +13,9 @@ pub mod TwoByte
 pub mod EucKrDecoder
 pub mod Big5Decoder
 pub mod ShiftJisDecoder
+pub mod Utf16Decoder
+pub mod ReplacementDecoder
+pub mod SingleByteDecoder
+pub mod Iso2022JpMachine
+pub mod Iso2022JpMoves
+pub mod Iso2022JpDecoder

@@ -9,9 +9,10 @@ ghost use Rattle.legacy_decoders.specs.Steps.{trail_step};
 ghost use Rattle.legacy_decoders.specs.Machines.{big5_pair_scalars};
 ghost use Rattle.legacy_decoders.specs.Feeding.{Took};
 
+use crate::ahead::{CommonForms, Front, ahead};
 use crate::drive::drive;
 use crate::held::Lead;
-use crate::machine::{Act, Fed, Front, Machine, Room};
+use crate::machine::{Act, Fed, Machine, Room};
 use crate::two_byte::{read_first, read_trail};
 use legacy_base::{DecoderResult, Destination, IndexName, RawDecoder, Tables};
 
@@ -147,6 +148,17 @@ impl<'a> Machine for Big5Decoder<'a> {
             None => None,
         }
     }
+
+    #[inline]
+    fn read_ahead<T: Destination>(&self, src: &[u8], dst: &mut T) -> usize {
+        ahead(self, src, dst)
+    }
+}
+
+impl<'a> CommonForms for Big5Decoder<'a> {
+    ghost use Rattle.legacy_decoders.specs.Big5Decoder.{big5_state};
+
+    ghost state = { big5_state };
 
     #[inline]
     fn is_idle(&self) -> bool {

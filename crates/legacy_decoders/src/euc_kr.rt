@@ -7,9 +7,10 @@ ghost use Rattle.legacy_base.specs.States.{is_neutral};
 ghost use Rattle.legacy_base.specs.Lengths.{answer, weighted};
 ghost use Rattle.legacy_decoders.specs.Decoders.{new_state};
 
+use crate::ahead::{CommonForms, Front, ahead};
 use crate::drive::drive;
 use crate::held::Lead;
-use crate::machine::{Act, Fed, Front, Machine, Room};
+use crate::machine::{Act, Fed, Machine, Room};
 use crate::two_byte::{read_first, read_trail};
 use legacy_base::{DecoderResult, Destination, IndexName, RawDecoder, Tables};
 
@@ -116,6 +117,17 @@ impl<'a> Machine for EucKrDecoder<'a> {
             None => None,
         }
     }
+
+    #[inline]
+    fn read_ahead<T: Destination>(&self, src: &[u8], dst: &mut T) -> usize {
+        ahead(self, src, dst)
+    }
+}
+
+impl<'a> CommonForms for EucKrDecoder<'a> {
+    ghost use Rattle.legacy_decoders.specs.EucKrDecoder.{euc_kr_state};
+
+    ghost state = { euc_kr_state };
 
     #[inline]
     fn is_idle(&self) -> bool {

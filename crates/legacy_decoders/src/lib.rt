@@ -8,12 +8,23 @@ mod collect;
 mod drive;
 mod euc_kr;
 mod held;
+mod iso_2022_jp;
 mod machine;
+mod replacement;
 mod shift_jis;
+mod single_byte;
 mod two_byte;
 mod user_defined;
+mod utf16;
 
 pub use big5::Big5Decoder;
 pub use euc_kr::EucKrDecoder;
+pub use iso_2022_jp::Iso2022JpDecoder;
+pub use replacement::ReplacementDecoder;
 pub use shift_jis::ShiftJisDecoder;
+pub use single_byte::SingleByteDecoder;
 pub use user_defined::UserDefinedDecoder;
+pub use utf16::Utf16Decoder;
+
+#[cfg(test)]
+mod tests;

@@ -10,9 +10,10 @@ ghost use Rattle.legacy_decoders.specs.Machines.{shift_jis_first, shift_jis_pair
 ghost use Rattle.legacy_decoders.specs.Feeding.{Took};
 ghost use Rattle.legacy_decoders.specs.TwoByte.{shift_jis_lead_bytes};
 
+use crate::ahead::{CommonForms, Front, ahead};
 use crate::drive::drive;
 use crate::held::ShiftJisLead;
-use crate::machine::{Act, Fed, Front, Machine, Room};
+use crate::machine::{Act, Fed, Machine, Room};
 use crate::two_byte::{fault_through, read_trail};
 use legacy_base::{DecoderResult, Destination, IndexName, RawDecoder, Tables};
 
@@ -188,6 +189,17 @@ impl<'a> Machine for ShiftJisDecoder<'a> {
             None => None,
         }
     }
+
+    #[inline]
+    fn read_ahead<T: Destination>(&self, src: &[u8], dst: &mut T) -> usize {
+        ahead(self, src, dst)
+    }
+}
+
+impl<'a> CommonForms for ShiftJisDecoder<'a> {
+    ghost use Rattle.legacy_decoders.specs.ShiftJisDecoder.{shift_jis_state};
+
+    ghost state = { shift_jis_state };
 
     #[inline]
     fn is_idle(&self) -> bool {
