@@ -3,8 +3,6 @@
 
 mod ahead;
 mod big5;
-#[cfg(test)]
-mod collect;
 mod drive;
 mod euc_jp;
 mod euc_kr;

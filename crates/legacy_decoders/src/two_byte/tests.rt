@@ -1,9 +1,8 @@
-use crate::collect::{bad, utf8_events, utf16_events};
+use crate::tests::{assert_call, bad, utf8_events, utf16_events};
 use crate::{Big5Decoder, EucKrDecoder, ShiftJisDecoder};
 use legacy_base::DecodeEvent::Scalar;
 use legacy_base::DecoderResult::{InputEmpty, Malformed, OutputFull};
-use legacy_base::{DecodeEvent, DecoderResult, Indexes, RawDecoder, TableError, Tables};
-use std::process::Abort;
+use legacy_base::{DecodeEvent, Indexes, RawDecoder, TableError, Tables};
 use std::test::Fail;
 
 /// Tables with these entries of index Big5 and index EUC-KR, and no others.
@@ -17,21 +16,6 @@ fn tables_of<'a>(big5: &'a [u32], euc_kr: &'a [u16]) -> Result<Tables<'a>, Table
         katakana: &[],
         ranges: &[],
     })
-}
-
-/// Makes a call in UTF-8 and compares its answer, and what it writes.
-fn assert_call<D: RawDecoder>(
-    rt: &impl Abort,
-    decoder: &mut D,
-    source: &[u8],
-    last: bool,
-    answer: (DecoderResult, usize),
-    text: &str,
-) {
-    let mut output = [0u8; 16];
-    let (result, read, written) = decoder.decode_to_utf8_raw(source, &mut output, last);
-    assert_eq!(rt; (result, read), answer, "at {text}");
-    assert!(rt; &output[..written] == text.as_bytes(), "at {text}");
 }
 
 // ---- Big5
