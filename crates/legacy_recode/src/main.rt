@@ -1,0 +1,6 @@
+//! The program that recodes bytes to lines of events.
+#![tactic(auto)]
+
+mod lines;
+
+fn main() {}
