@@ -8,7 +8,7 @@ use Rattle.legacy_base.specs.declared.results.DecodeEvent.{DecodeEvent}
 use Rattle.legacy_base.specs.EncodingForm.{EncodingForm, Utf8, Utf16, code_units, unit_count, all_code_units, total_unit_count, bmp_room, wide_room}
 use Rattle.legacy_base.specs.Grammar.{Grammar, events_of, single_byte, user_defined, replacement, utf16, big5, euc_kr, shift_jis, euc_jp, gb18030, iso_2022_jp}
 use Rattle.legacy_base.specs.States.{DecoderState, rests, is_empty}
-use Rattle.legacy_base.specs.Acts.{Act, writes, takes, reports, act_at_end, act_room, act_at_rest, room_of_act, byte_room, held_room, has_reported, has_short_ascii, has_marks, is_mark_behind, room_needed, LacksRoom, wants_full_room, release_room, HadRoom, HadRoomReleased, HadRooms}
+use Rattle.legacy_base.specs.Acts.{Act, writes, takes, reports, act_at_end, act_room, act_at_rest, room_of_act, byte_room, has_reported, has_short_ascii, has_marks, is_mark_behind, room_needed, LacksRoom, release_room, HadRoom, HadRoomReleased, HadRooms}
 
 pub all_code_units-append : (form : EncodingForm) (xs ys : List ℕ) → all_code_units form (xs ++ ys) ≡ all_code_units form xs ++ all_code_units form ys
 all_code_units-append form xs ys = flat_map-append (code_units form) xs ys

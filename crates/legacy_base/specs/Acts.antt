@@ -3,7 +3,7 @@ use Rattle.std.specs.Prelude.{ℕ, ◌-◌, ◌<◌, ◌≤◌, List, [], ◌∷
 use Rattle.std.specs.Char.{is_ascii}
 use Rattle.legacy_base.specs.declared.results.DecodeEvent.{DecodeEvent}
 use Rattle.legacy_base.specs.EncodingForm.{EncodingForm, unit_count, bmp_room, wide_room}
-use Rattle.legacy_base.specs.Grammar.{Grammar, single_byte, user_defined, replacement, utf16, big5, euc_kr, shift_jis, euc_jp, gb18030, iso_2022_jp, events_of}
+use Rattle.legacy_base.specs.Grammar.{Grammar, single_byte, replacement, utf16, big5, euc_kr, shift_jis, euc_jp, gb18030, events_of}
 use Rattle.legacy_base.specs.States.{DecoderState, rests, is_empty}
 
 -- ---- the next act

@@ -1,15 +1,14 @@
 -- A decoder between two calls: its grammar, and the bytes that were read and still matter. What it does next,
 -- and how much room in the output that needs.
-use Rattle.std.specs.Prelude.{ℕ, ◌+◌, ◌-◌, List, [], ◌∷◌, drop, Option, Some, None, Bool, true, false, not, ◌&&◌, ◌||◌, ◌==◌, if◌then◌else◌, length, min, is_some}
+use Rattle.std.specs.Prelude.{ℕ, ◌+◌, List, [], ◌∷◌, drop, Bool, true, false, not, ◌&&◌, ◌||◌, ◌==◌, if◌then◌else◌, length, is_some}
 use Rattle.std.specs.Int.{is_in_range}
-use Rattle.std.specs.Char.{is_ascii, is_ascii_digit}
+use Rattle.std.specs.Char.{is_ascii_digit}
 use Rattle.std.specs.Char.Utf16.{is_high_surrogate, is_low_surrogate}
-use Rattle.legacy_base.specs.declared.results.DecodeEvent.{DecodeEvent}
 use Rattle.legacy_base.specs.ShiftJis.{is_shift_jis_lead}
 use Rattle.legacy_base.specs.Gb18030.{is_gb18030_lead}
 use Rattle.legacy_base.specs.Iso2022Jp.{Mode, ascii, two_byte, esc, escape_mode}
 use Rattle.legacy_base.specs.Utf16.{unit_of}
-use Rattle.legacy_base.specs.Grammar.{Grammar, single_byte, replacement, utf16, big5, euc_kr, shift_jis, euc_jp, gb18030, iso_2022_jp, events_of}
+use Rattle.legacy_base.specs.Grammar.{Grammar, utf16, big5, euc_kr, shift_jis, euc_jp, gb18030, iso_2022_jp}
 
 -- what a decoder is between two calls
 pub record DecoderState : Type 0 where

@@ -23,3 +23,4 @@ pub mod Utf16Rooms
 pub mod ReplacementRooms
 pub mod AllRooms
 pub mod SettledSteps
+pub mod Feeding

@@ -1,10 +1,10 @@
 -- How many units of output a move of a decoder writes, and what that must be of its room.
-use Rattle.std.specs.Prelude.{ℕ, ◌+◌, ◌*◌, ◌<◌, ◌≤◌, ◌≡◌, List, [], ◌∷◌, Bool, true, false, drop, length, All, Option, Some, None, nat_lt, if◌then◌else◌}
+use Rattle.std.specs.Prelude.{ℕ, ◌+◌, ◌*◌, ◌<◌, ◌≤◌, ◌≡◌, List, [], ◌∷◌, Bool, true, false, drop, length, All, Option, Some, None}
 use Rattle.legacy_base.specs.Unicode.{IsByte, AreBytes}
 use Rattle.legacy_base.specs.Fronts.{reads, malformed}
 use Rattle.legacy_base.specs.Grammar.{Grammar, single_byte, euc_kr, shift_jis, euc_jp, gb18030}
 use Rattle.legacy_base.specs.States.{DecoderState, may_hold, rests}
-use Rattle.legacy_base.specs.Acts.{takes, writes, reports, act_room, need, has_reported}
+use Rattle.legacy_base.specs.Acts.{takes, writes, reports, act_room, need}
 use Rattle.legacy_base.specs.EncodingForm.{Utf8, Utf16, unit_count}
 use Rattle.legacy_base.specs.Lengths.{room, to_utf8, to_utf16, to_utf8_without_replacement}
 use Rattle.legacy_decoders.specs.Steps.{Step, hold, finish, leave, step_held, Machine}

@@ -5,3 +5,6 @@ pub mod Utf16Fronts
 pub mod Machines
 pub mod Costs
 pub mod Margins
+pub mod Feeding
+pub mod Decoders
+pub mod UserDefinedDecoder

@@ -2,3 +2,6 @@
 #![tactic(auto)]
 
 mod machine;
+mod user_defined;
+
+pub use user_defined::UserDefinedDecoder;
