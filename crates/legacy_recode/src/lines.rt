@@ -75,9 +75,10 @@ impl LineBuffer {
         ensures text { line_bytes self.new ≡ line_bytes self.old ++ decimal number }
         ensures room { line_room self.new + length (decimal number) ≡ line_room self.old }
     {
-        if number >= 10 {
-            self.push_decimal(number / 10);
+        if number < 10 {
+            return self.push_all(&[b'0' + number as u8]);
         }
+        self.push_decimal(number / 10);
         self.push_all(&[b'0' + (number % 10) as u8]);
     }
 

@@ -1,0 +1,2 @@
+-- Laws of lines and of recoding.
+pub mod EventLines
