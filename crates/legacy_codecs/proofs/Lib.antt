@@ -1,0 +1,4 @@
+-- Laws of runs.
+pub mod Kept
+pub mod Runs
+pub mod Running
