@@ -1,3 +1,4 @@
 -- What the program writes.
 pub mod Lines
 pub mod LineBuffers
+pub mod Recoding

@@ -23,6 +23,6 @@ event_line (Scalar c) = codes "U+" ++ hexadecimal c ++ codes "\n"
 event_line (Bad place length) = codes "bad " ++ decimal place ++ codes " " ++ decimal length ++ codes "\n"
 
 -- the lines of events
-unfoldable pub lines : List DecodeEvent → List ℕ
-lines [] = []
-lines (event ∷ events) = event_line event ++ lines events
+unfoldable pub event_lines : List DecodeEvent → List ℕ
+event_lines [] = []
+event_lines (event ∷ events) = event_line event ++ event_lines events

@@ -9,7 +9,7 @@ use Rattle.legacy_base.specs.Grammar.{events_of}
 use Rattle.legacy_base.specs.States.{DecoderState}
 use Rattle.legacy_base.specs.Calls.{Progress}
 use Rattle.legacy_codecs.specs.Runs.{placed}
-use Rattle.legacy_recode.specs.Lines.{lines}
+use Rattle.legacy_recode.specs.Lines.{event_lines}
 
 -- ---- one piece of the input
 
@@ -35,7 +35,7 @@ pub record RecodesPiece (before : DecoderState) (piece : List ℕ) (last : Bool)
   pub passed : ℕ
   pub events : List DecodeEvent
   pub progress : Progress last before piece passed after [] events
-  pub written : Appends old new (lines (input_events total (length before.held) events))
+  pub written : Appends old new (event_lines (input_events total (length before.held) events))
   pub ended : IsTrue last → events_of after.grammar after.held ≡ []
 
 -- ---- the whole input
@@ -46,7 +46,7 @@ pub record RecodesAll (before after : DecoderState) (input_old input_new output_
   pub bytes : List ℕ
   pub read : Consumes input_old input_new bytes
   pub at_end : IsAtEnd input_new
-  pub written : Appends output_old output_new (lines (placed (length before.held) (events_of before.grammar (before.held ++ bytes))))
+  pub written : Appends output_old output_new (event_lines (placed (length before.held) (events_of before.grammar (before.held ++ bytes))))
   pub ended : events_of after.grammar after.held ≡ []
 
 -- Some bytes of the input were read and decoded, and the lines of these events were written. They are a beginning of all
@@ -57,5 +57,5 @@ pub record RecodesBeginning (before after : DecoderState) (input_old input_new o
   pub passed : ℕ
   pub events : List DecodeEvent
   pub progress : Progress false before bytes passed after [] events
-  pub written : Appends output_old output_new (lines (placed (length before.held) events))
+  pub written : Appends output_old output_new (event_lines (placed (length before.held) events))
   pub beginning : (more : List ℕ) → (rest : List DecodeEvent) × (events_of before.grammar (before.held ++ (bytes ++ more)) ≡ events ++ rest)

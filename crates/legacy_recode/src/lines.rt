@@ -1,6 +1,6 @@
 //! The lines that tell events.
 ghost use Rattle.std.specs.Prelude.{◌≡◌, ℕ, ◌+◌, ◌*◌, ◌-◌, ◌<◌, ◌≤◌, List, [], ◌∷◌, ◌++◌, length, take, map, decimal};
-ghost use Rattle.legacy_recode.specs.Lines.{hex_digit, event_line, lines};
+ghost use Rattle.legacy_recode.specs.Lines.{hex_digit, event_line, event_lines};
 
 use legacy_base::DecodeEvent;
 
@@ -8,12 +8,13 @@ use legacy_base::DecodeEvent;
 pub const BATCH: usize = 256;
 
 /// The most bytes of a scalar's line.
-const SCALAR_LINE: usize = 9;
+pub const SCALAR_LINE: usize = 9;
 
 /// The most bytes of a malformed sequence's line.
-const BAD_LINE: usize = 46;
+pub const BAD_LINE: usize = 46;
 
-const CAPACITY: usize = BATCH * SCALAR_LINE + BAD_LINE;
+/// The bytes of the array.
+pub const CAPACITY: usize = BATCH * SCALAR_LINE + BAD_LINE;
 
 /// Lines that are made in an array, to be written at once.
 #[derive(Drop)]
@@ -107,7 +108,7 @@ impl LineBuffer {
     /// Puts the lines of scalars behind the others.
     pub fn push_scalars(&mut self, scalars: &[char])
         requires { length scalars.now * SCALAR_LINE ≤ line_room self.old }
-        ensures text { line_bytes self.new ≡ line_bytes self.old ++ lines (map DecodeEvent.Scalar scalars.now) }
+        ensures text { line_bytes self.new ≡ line_bytes self.old ++ event_lines (map DecodeEvent.Scalar scalars.now) }
         ensures room { line_room self.old ≤ line_room self.new + length scalars.now * SCALAR_LINE }
     {
         for scalar in scalars {

@@ -2,5 +2,6 @@
 #![tactic(auto)]
 
 mod lines;
+pub mod recode;
 
 fn main() {}

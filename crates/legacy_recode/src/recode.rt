@@ -1,12 +1,13 @@
 //! The engine of the program: bytes in, lines of events out.
-ghost use Rattle.std.specs.Prelude.{◌≡◌, ℕ, ◌+◌, ◌-◌, ◌^◌, ◌<◌, ◌≤◌, List, ◌++◌, length, drop, map, OnOk, IfOk};
+ghost use Rattle.std.specs.Prelude.{◌≡◌, ℕ, ◌+◌, ◌*◌, ◌-◌, ◌^◌, ◌<◌, ◌≤◌, List, ◌++◌, length, drop, map, OnOk, IfOk};
 ghost use Rattle.std.specs.Io.KnownBytes.{Appends};
 ghost use Rattle.legacy_base.specs.EncodingForm.{Utf16};
 ghost use Rattle.legacy_base.specs.Calls.{DecoderCall};
-ghost use Rattle.legacy_recode.specs.Lines.{lines};
+ghost use Rattle.legacy_recode.specs.Lines.{event_lines};
+ghost use Rattle.legacy_recode.specs.LineBuffers.{line_bytes, line_room};
 ghost use Rattle.legacy_recode.specs.Recoding.{fault_events, RecodesPiece, RecodesAll, RecodesBeginning};
 
-use crate::lines::{BATCH, LineBuffer};
+use crate::lines::{BAD_LINE, BATCH, LineBuffer, SCALAR_LINE};
 use legacy_base::{DecodeEvent, DecoderResult, RawDecoder};
 use legacy_codecs::{ScalarBuffer, Utf16Form};
 use std::io::{self, Read, Write};
@@ -26,6 +27,21 @@ pub enum RecodeError {
     Write,
 }
 
+/// Puts the lines of the scalars that a call wrote behind the others, and then that of what it reports. `read` bytes of
+/// the input were read.
+fn push_events(lines: &mut LineBuffer, scalars: &[char], answer: DecoderResult, read: usize)
+    requires { length scalars.now * SCALAR_LINE + BAD_LINE ≤ line_room lines.old }
+    ensures { line_bytes lines.new ≡ line_bytes lines.old
+        ++ event_lines (map DecodeEvent.Scalar scalars.now ++ fault_events read answer) }
+{
+    lines.push_scalars(scalars);
+    let DecoderResult::Malformed(sequence, back) = answer else {
+        return;
+    };
+    let behind = usize::from(sequence) + usize::from(back);
+    lines.push_bad(read.saturating_sub(behind), usize::from(sequence));
+}
+
 /// Makes one call of the decoder on the `unread` bytes, and writes the lines of its events. `total` bytes of the
 /// input stand before them. Answers what the call answered; an error is the writer's.
 fn recode_call<D: RawDecoder, W: Write>(
@@ -39,18 +55,13 @@ fn recode_call<D: RawDecoder, W: Write>(
     ensures { IfOk result (λ r. (scalars : List ℕ)
         × DecoderCall Utf16 (D.state decoder.old) unread.now last BATCH (D.state decoder.new) r.0 r.1 scalars
         × Appends (W.contents output.old) (W.contents output.new)
-            (lines (map DecodeEvent.Scalar scalars ++ fault_events (total + r.1) r.0))) }
+            (event_lines (map DecodeEvent.Scalar scalars ++ fault_events (total + r.1) r.0))) }
 {
     let mut buffer = ['\0'; BATCH];
     let mut kept = ScalarBuffer::<Utf16Form>::new(&mut buffer, BATCH);
     let (answer, read) = decoder.step(unread, &mut kept, last);
     let mut lines = LineBuffer::new();
-    lines.push_scalars(kept.scalars());
-    if let DecoderResult::Malformed(sequence, back) = answer {
-        let behind = usize::from(sequence) + usize::from(back);
-        let place = (total + read).saturating_sub(behind);
-        lines.push_bad(place, usize::from(sequence));
-    }
+    push_events(&mut lines, kept.scalars(), answer, total + read);
     output.write_all(lines.bytes())?;
     Ok((answer, read))
 }
