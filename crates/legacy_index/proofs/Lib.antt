@@ -1,0 +1,2 @@
+pub mod Lines
+pub mod Numbers
