@@ -1,5 +1,5 @@
 -- What the lines of an index file of the WHATWG Encoding Standard ("Indexes") give: the first malformed line, or the table.
-use Rattle.std.specs.Prelude.{◌≡◌, ℕ, ◌+◌, ◌<◌, Bool, true, false, ◌&&◌, List, [], ◌∷◌, Option, Some, None, nat_le, nat_lt, ◌==◌, if◌then◌else◌, length, max, slice_index}
+use Rattle.std.specs.Prelude.{◌≡◌, ℕ, ◌+◌, ◌<◌, ◌≤◌, Bool, true, false, ◌&&◌, List, [], ◌∷◌, Option, Some, None, nat_le, nat_lt, ◌==◌, if◌then◌else◌, length, max, slice_index}
 use Rattle.std.specs.Option.{option_or, unwrap_or}
 use Rattle.legacy_index.specs.declared.index_line.LineKind.{LineKind}
 use Rattle.legacy_index.specs.declared.index_line.LineKind.TheVariants.{Skipped, Entry, Malformed}
@@ -41,6 +41,11 @@ kind_within name (Entry pointer value) =
 -- what a line says in a file of the index
 abbrev pub says : FileIndex → List ℕ → LineKind
 says name line = kind_within name (line_kind line)
+
+-- whether an entry's pointer and value are in the index's range
+abbrev pub IsInRange : FileIndex → LineKind → Type 0
+IsInRange name (Entry pointer value) = (pointer < greatest_length name) × (value ≤ greatest_value name)
+IsInRange name _ = Unit {0}
 
 -- ---- the first malformed line
 

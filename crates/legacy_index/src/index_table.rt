@@ -2,7 +2,7 @@
 ghost use Rattle.std.specs.Prelude.{◌≡◌, ℕ, ◌<◌, ◌≤◌, ◌+◌, Some, None, Ok, Err, IfOk, MatchResult, length, slice_index};
 ghost use Rattle.std.specs.Option.{unwrap_or};
 ghost use Rattle.legacy_index.specs.IndexLine.{lines, line_kind};
-ghost use Rattle.legacy_index.specs.IndexTable.{greatest_length, greatest_value, is_left_out, kind_within, says, first_malformed, entries_of, table_length, last_value, HasValues, IsIndexOf};
+ghost use Rattle.legacy_index.specs.IndexTable.{greatest_length, greatest_value, is_left_out, kind_within, says, first_malformed, entries_of, table_length, last_value, HasValues, IsIndexOf, IsInRange};
 
 use std::alloc::{AllocError, Global};
 
@@ -109,7 +109,8 @@ fn fill_narrow(values: &mut [u16], name: FileIndex, text: &[u8])
 
 /// What a line says in a file of the index.
 fn read_line(name: FileIndex, line: &[u8]) -> LineKind
-    ensures { result ≡ says name line.now }
+    ensures says { result ≡ says name line.now }
+    ensures in_range { IsInRange name result }
 {
     match parse_line(line) {
         LineKind::Entry(pointer, value) => kind_in_range(name, pointer, value),
@@ -119,7 +120,8 @@ fn read_line(name: FileIndex, line: &[u8]) -> LineKind
 
 /// What the line of an entry says in a file of the index.
 fn kind_in_range(name: FileIndex, pointer: u32, value: u32) -> LineKind
-    ensures { result ≡ kind_within name (LineKind.Entry pointer value) }
+    ensures says { result ≡ kind_within name (LineKind.Entry pointer value) }
+    ensures in_range { IsInRange name result }
 {
     if name == FileIndex::Ranges && pointer == 189000 && value == 0x1_0000 {
         LineKind::Skipped
