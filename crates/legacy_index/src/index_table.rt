@@ -13,6 +13,7 @@ use crate::index_line::{LineKind, parse_line, split_line};
 pub(crate) fn check_lines(name: FileIndex, text: &[u8]) -> Result<usize, usize>
     ensures sound { MatchResult result (λ _. first_malformed name 1 (lines text.now) ≡ None) (λ n. first_malformed name 1 (lines text.now) ≡ Some n) }
     ensures length { IfOk result (λ n. n ≡ table_length (entries_of name (lines text.now))) }
+    ensures bound { IfOk result (λ n. n ≤ greatest_length name) }
 {
     let mut rest = text;
     let mut number = 0;
@@ -53,6 +54,7 @@ pub(crate) fn read_narrow(alloc: Global, name: FileIndex, length: usize, text: &
 
 /// The table of a single-byte encoding, whose text has no malformed line.
 pub(crate) fn read_single_byte(text: &[u8]) -> [u16; 128]
+    requires { table_length (entries_of FileIndex.SingleByte (lines text.now)) ≤ 128 }
     ensures { HasValues (entries_of FileIndex.SingleByte (lines text.now)) result }
 {
     let mut values = [0; 128];
