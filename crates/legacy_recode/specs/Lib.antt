@@ -2,3 +2,4 @@
 pub mod Lines
 pub mod LineBuffers
 pub mod Recoding
+pub mod Words

@@ -3,5 +3,6 @@
 
 mod lines;
 pub mod recode;
+pub mod words;
 
 fn main() {}

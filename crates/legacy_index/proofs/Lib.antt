@@ -1,0 +1,3 @@
+pub mod Lines
+pub mod Numbers
+pub mod Tables

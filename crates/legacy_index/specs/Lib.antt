@@ -1,0 +1,2 @@
+pub mod IndexLine
+pub mod IndexTable
