@@ -6,3 +6,7 @@ pub mod Cuts
 pub mod Progress
 pub mod Rooms
 pub mod Enough
+pub mod TableLoops
+pub mod Accepted
+pub mod AcceptedTable
+pub mod Ascii

@@ -8,7 +8,7 @@ use Rattle.legacy_base.specs.declared.results.DecodeEvent.{DecodeEvent}
 use Rattle.legacy_base.specs.EncodingForm.{EncodingForm, Utf8, Utf16, code_units, unit_count, all_code_units, total_unit_count, bmp_room, wide_room}
 use Rattle.legacy_base.specs.Grammar.{Grammar, events_of, single_byte, user_defined, replacement, utf16, big5, euc_kr, shift_jis, euc_jp, gb18030, iso_2022_jp}
 use Rattle.legacy_base.specs.States.{DecoderState, rests, is_empty}
-use Rattle.legacy_base.specs.Acts.{Act, writes, takes, reports, act_at_end, act_room, act_at_rest, room_of_act, byte_room, has_reported, has_short_ascii, has_marks, is_mark_behind, room_needed, LacksRoom, release_room, HadRoom, HadRoomReleased, HadRooms}
+use Rattle.legacy_base.specs.Acts.{Act, writes, takes, reports, act_at_end, act_room, act_at_rest, room_of_act, byte_room, has_reported, has_short_ascii, has_marks, is_mark_behind, room_needed, LacksRoom, full_room, release_room, HadRoom, HadRoomReleased, HadRooms}
 
 pub all_code_units-append : (form : EncodingForm) (xs ys : List ℕ) → all_code_units form (xs ++ ys) ≡ all_code_units form xs ++ all_code_units form ys
 all_code_units-append form xs ys = flat_map-append (code_units form) xs ys
@@ -102,17 +102,18 @@ wide_some : (form : EncodingForm) → 1 ≤ wide_room form
 wide_some Utf8 = omega arith
 wide_some Utf16 = omega arith
 
-byte_most : (form : EncodingForm) (g : Grammar) → byte_room (bmp_room form) (wide_room form) g ≤ wide_room form
-byte_most form (single_byte table) = bmp_small form
-byte_most form user_defined = bmp_small form
-byte_most form (replacement reported) = bmp_small form
-byte_most form (utf16 big_endian) = omega arith
-byte_most form (big5 index) = omega arith
-byte_most form (euc_kr index) = bmp_small form
-byte_most form (shift_jis jis0208) = bmp_small form
-byte_most form (euc_jp jis0208 jis0212) = bmp_small form
-byte_most form (gb18030 index ranges) = omega arith
-byte_most form (iso_2022_jp jis0208 mode) = bmp_small form
+-- a byte past ASCII needs no more than the room of any scalar
+pub full_most : (form : EncodingForm) (g : Grammar) → full_room form g ≤ wide_room form
+full_most form (single_byte table) = bmp_small form
+full_most form user_defined = bmp_small form
+full_most form (replacement reported) = bmp_small form
+full_most form (utf16 big_endian) = omega arith
+full_most form (big5 index) = omega arith
+full_most form (euc_kr index) = bmp_small form
+full_most form (shift_jis jis0208) = bmp_small form
+full_most form (euc_jp jis0208 jis0212) = bmp_small form
+full_most form (gb18030 index ranges) = omega arith
+full_most form (iso_2022_jp jis0208 mode) = bmp_small form
 
 release_most : (form : EncodingForm) (g : Grammar) → release_room form g ≤ wide_room form
 release_most form (single_byte table) = bmp_small form
@@ -136,7 +137,7 @@ act_most form s writes = release_most form s.grammar
 act_most form s reports = release_most form s.grammar
 act_most form s (takes b) =
     two_tests (has_reported s.grammar) ((is_ascii b && is_empty s.held) && has_short_ascii s.grammar) (byte_room (bmp_room form) (wide_room form) s.grammar) 0 (wide_room form)
-    (byte_most form s.grammar) (wide_some form)
+    (full_most form s.grammar) (wide_some form)
 
 -- no act needs more than the room of any scalar
 pub lacks_small : (form : EncodingForm) (s : DecoderState) (source : List ℕ) (last : Bool) (free : ℕ) → LacksRoom form s source last free → free < wide_room form

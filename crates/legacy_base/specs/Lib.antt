@@ -24,3 +24,6 @@ pub mod Calls
 pub mod Cursor
 pub mod Destinations
 pub mod Latin1
+pub mod TableChecks
+pub mod AcceptedTables
+pub mod Tables

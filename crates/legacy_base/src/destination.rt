@@ -1,7 +1,26 @@
 //! Where a decoder writes.
-ghost use Rattle.std.specs.Prelude.{◌≡◌, ℕ, ◌+◌, ◌-◌, ◌<◌, ◌≤◌, List, [], ◌∷◌, ◌++◌, length, take};
+ghost use Rattle.std.specs.Prelude.{◌≡◌, ℕ, ◌+◌, ◌-◌, ◌<◌, ◌≤◌, List, [], ◌∷◌, ◌++◌, length, take, slice_index, IsAscii};
 ghost use Rattle.std.specs.Borrow.{GName};
 ghost use Rattle.legacy_base.specs.EncodingForm.{EncodingForm, Utf8, Utf16, code_units, unit_count, bmp_room, wide_room};
+
+use std::simd::prelude::*;
+
+/// How many bytes at the front of a block are ASCII.
+// Inlined always: a call would pass the vector through memory, once for each block.
+#[inline(always)]
+fn ascii_count(block: u8x16) -> usize
+    ensures most { result ≤ 16 }
+    ensures ascii { IsAscii (take result block) }
+    ensures stops { result < 16 → 128 ≤ slice_index block result }
+{
+    let past = block.simd_ge(u8x16::splat(0x80)).to_bitmask();
+    if past == 0 {
+        return 16;
+    }
+    // `min` changes nothing, but tells the compiler that the count is below 16: without it the loop
+    // over blocks waits for the count of each.
+    (past.trailing_zeros() as usize).min(15)
+}
 
 /// An output of UTF-8 bytes or of UTF-16 code units, one of the two for each type.
 pub trait Destination {
@@ -45,6 +64,19 @@ pub trait Destination {
         ensures contents { contents self.new ≡ contents self.old ++ code_units form c }
         ensures room { room self.new + unit_count form c ≡ room self.old }
         ensures loan { loan self.new ≡ loan self.old };
+
+    /// Writes ASCII bytes from the front of the slice, as many as it cares to, and answers how many:
+    /// none, or whole blocks and then a part of one. A destination without blocks writes none.
+    fn copy_ascii(&mut self, bytes: &[u8]) -> usize
+        ensures read { result ≤ length bytes.now }
+        ensures ascii { IsAscii (take result bytes.now) }
+        ensures contents { contents self.new ≡ contents self.old ++ take result bytes.now }
+        ensures room { room self.new + result ≡ room self.old }
+        ensures loan { loan self.new ≡ loan self.old }
+    {
+        let _ = bytes;
+        0
+    }
 }
 
 /// UTF-8 into a slice of bytes, from its front on.
@@ -78,6 +110,23 @@ impl<'a> Utf8Destination<'a> {
         let at = self.filled;
         self.buffer[at] = byte;
         self.filled = at + 1;
+    }
+
+    /// Stores a block behind what was written, and keeps its ASCII front: answers that front's length.
+    #[inline(always)]
+    fn put_block(&mut self, block: u8x16) -> usize
+        requires { 16 ≤ utf8_free self.old }
+        ensures count { result ≤ 16 }
+        ensures ascii { IsAscii (take result block) }
+        ensures written { utf8_written self.new ≡ utf8_written self.old ++ take result block }
+        ensures free { utf8_free self.new + result ≡ utf8_free self.old }
+        ensures loan { utf8_loan self.new ≡ utf8_loan self.old }
+    {
+        let at = self.filled;
+        block.copy_to_slice(&mut self.buffer[at..]);
+        let count = ascii_count(block);
+        self.filled = at + count;
+        count
     }
 }
 
@@ -139,6 +188,19 @@ impl Destination for Utf8Destination<'_> {
             self.push((0x80 + code % 0x40) as u8);
         }
     }
+
+    #[inline]
+    fn copy_ascii(&mut self, bytes: &[u8]) -> usize {
+        let mut at = 0;
+        while bytes.len() - at >= 16 && self.buffer.len() - self.filled >= 16 {
+            let count = self.put_block(u8x16::from_slice(&bytes[at..]));
+            at += count;
+            if count < 16 {
+                return at;
+            }
+        }
+        at
+    }
 }
 
 /// UTF-16 into a slice of code units, from its front on.
@@ -172,6 +234,23 @@ impl<'a> Utf16Destination<'a> {
         let at = self.filled;
         self.buffer[at] = unit;
         self.filled = at + 1;
+    }
+
+    /// Stores a block behind what was written, and keeps its ASCII front: answers that front's length.
+    #[inline(always)]
+    fn put_block(&mut self, block: u8x16) -> usize
+        requires { 16 ≤ utf16_free self.old }
+        ensures count { result ≤ 16 }
+        ensures ascii { IsAscii (take result block) }
+        ensures written { utf16_written self.new ≡ utf16_written self.old ++ take result block }
+        ensures free { utf16_free self.new + result ≡ utf16_free self.old }
+        ensures loan { utf16_loan self.new ≡ utf16_loan self.old }
+    {
+        let at = self.filled;
+        block.cast::<u16>().copy_to_slice(&mut self.buffer[at..]);
+        let count = ascii_count(block);
+        self.filled = at + count;
+        count
     }
 }
 
@@ -223,5 +302,18 @@ impl Destination for Utf16Destination<'_> {
             self.push((0xD800 + over / 0x400) as u16);
             self.push((0xDC00 + over % 0x400) as u16);
         }
+    }
+
+    #[inline]
+    fn copy_ascii(&mut self, bytes: &[u8]) -> usize {
+        let mut at = 0;
+        while bytes.len() - at >= 16 && self.buffer.len() - self.filled >= 16 {
+            let count = self.put_block(u8x16::from_slice(&bytes[at..]));
+            at += count;
+            if count < 16 {
+                return at;
+            }
+        }
+        at
     }
 }

@@ -5,9 +5,15 @@
 mod decoder;
 mod destination;
 mod results;
+mod single_byte_table;
 mod source;
+#[cfg(test)]
+mod tests;
+mod tables;
 
 pub use decoder::RawDecoder;
 pub use destination::{Destination, Utf8Destination, Utf16Destination};
 pub use results::{DecodeEvent, DecoderResult};
+pub use single_byte_table::SingleByteTable;
 pub use source::ByteSource;
+pub use tables::{IndexName, Indexes, TableError, Tables};

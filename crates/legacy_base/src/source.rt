@@ -50,6 +50,7 @@ impl<'a> ByteSource<'a> {
     pub fn consumed(&self) -> usize
         ensures { result ≡ self.now.consumed }
     {
-        self.place
+        let ByteSource { place, .. } = self;
+        *place
     }
 }

@@ -39,7 +39,7 @@ pub record Going (form : EncodingForm) (before : DecoderState) (source : List �
   pub lowers : (query : LengthQuery) → query_form query ≡ form → (more : ℕ) →
       room query now (length (drop read source) + more) + total_unit_count form scalars ≤ room query before (length source + more)
 
-front_nil : (xs ys : List ℕ) → xs ++ ys ≡ [] → xs ≡ []
+pub front_nil : (xs ys : List ℕ) → xs ++ ys ≡ [] → xs ≡ []
 front_nil [] ys e = refl
 front_nil (x ∷ xs) ys e = cc
 

@@ -24,3 +24,7 @@ pub mod ReplacementRooms
 pub mod AllRooms
 pub mod SettledSteps
 pub mod Feeding
+pub mod Writing
+pub mod AheadRuns
+pub mod RunForms
+pub mod UserDefinedRuns

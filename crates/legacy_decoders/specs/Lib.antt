@@ -6,5 +6,6 @@ pub mod Machines
 pub mod Costs
 pub mod Margins
 pub mod Feeding
+pub mod Ahead
 pub mod Decoders
 pub mod UserDefinedDecoder

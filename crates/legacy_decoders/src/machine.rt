@@ -1,12 +1,10 @@
-//! The one loop of all decoders, over the small moves that each decoder makes.
-ghost use Rattle.std.specs.Prelude.{◌≡◌, ◌≢◌, ℕ, ◌+◌, ◌-◌, ◌≤◌, ◌↔◌, List, [], ◌++◌, length, Bool, true, false, IsTrue, MatchOption};
-ghost use Rattle.legacy_base.specs.EncodingForm.{EncodingForm, all_code_units, total_unit_count};
+//! The small moves that each decoder makes.
+ghost use Rattle.std.specs.Prelude.{◌≡◌, ◌≢◌, ◌≤◌, [], true, false, MatchOption};
+ghost use Rattle.legacy_base.specs.EncodingForm.{EncodingForm};
 ghost use Rattle.legacy_base.specs.Grammar.{events_of};
 ghost use Rattle.legacy_base.specs.States.{DecoderState, rests};
-ghost use Rattle.legacy_base.specs.Calls.{IsDecoderCall};
-ghost use Rattle.legacy_decoders.specs.Moves.{room_units, act_units, IsCovered, fed_scalars, Releases, Feeds, Reports};
-
-use legacy_base::{DecoderResult, Destination};
+ghost use Rattle.legacy_decoders.specs.Moves.{room_units, act_units, IsCovered, Releases, Feeds, Reports};
+ghost use Rattle.legacy_decoders.specs.Ahead.{IsIdle, FrontIs};
 
 /// An amount of room in the output.
 #[derive(Clone, Copy)]
@@ -42,6 +40,17 @@ pub enum Fed {
     Fault { length: u8, back: u8, unread: bool },
 }
 
+/// What stands at the front of the input, where its first byte is past ASCII.
+#[derive(Clone, Copy)]
+pub enum Front {
+    /// A scalar of one byte.
+    Single(char),
+    /// A scalar of two bytes.
+    Pair(char),
+    /// Anything else.
+    Other,
+}
+
 /// The moves of a decoder.
 pub trait Machine {
     /// The grammar, and the bytes that are held back.
@@ -75,87 +84,24 @@ pub trait Machine {
         requires { rests (state self.old).grammar (state self.old).held ≡ true }
         ensures { MatchOption result (events_of (state self.old).grammar (state self.old).held ≡ [])
             (λ report. Reports (state self.old) (state self.new) report.0 report.1) };
-}
 
-#[inline]
-fn has_room<T: Destination>(dst: &T, room: Room) -> bool
-    ensures { IsTrue result ↔ (room_units T.form room ≤ T.room dst.now) }
-{
-    match room {
-        Room::Nothing => true,
-        Room::Unit => dst.free() >= 1,
-        Room::Narrow => dst.free() >= T::narrow(),
-        Room::Wide => dst.free() >= T::wide(),
+    /// Whether nothing is held back and each ASCII byte is its own scalar, so that runs of common
+    /// forms may be read ahead of the machine. A decoder without common forms answers no.
+    #[inline]
+    fn is_idle(&self) -> bool
+        ensures { result ≡ true → IsIdle (state self.now) }
+    {
+        false
     }
-}
 
-#[inline]
-fn put_fed<T: Destination>(dst: &mut T, fed: Fed)
-    requires { total_unit_count T.form (fed_scalars fed) ≤ T.room dst.old }
-    ensures contents { T.contents dst.new ≡ T.contents dst.old ++ all_code_units T.form (fed_scalars fed) }
-    ensures room { T.room dst.new + total_unit_count T.form (fed_scalars fed) ≡ T.room dst.old }
-    ensures loan { T.loan dst.new ≡ T.loan dst.old }
-{
-    match fed {
-        Fed::One(c) => dst.put(c),
-        Fed::Two(c, d) => {
-            dst.put(c);
-            dst.put(d);
-        }
-        Fed::Nothing | Fed::Fault { .. } => {}
+    /// What stands at the front of the input, by a byte past ASCII and the byte behind it: a scalar up
+    /// to U+FFFF, or `Other` for whatever is rare. The machine reads that.
+    #[inline]
+    fn front(&self, lead: u8, trail: u8) -> Front
+        requires { 0x80 ≤ lead }
+        ensures { FrontIs (state self.now).grammar lead trail result }
+    {
+        let _ = (lead, trail);
+        Front::Other
     }
-}
-
-/// Lets the decoder make its moves until the input is read, room is lacking or a malformed sequence
-/// is to be reported. A scalar to be written first is held back only as a call begins.
-#[inline]
-pub fn drive<D: Machine, T: Destination>(
-    decoder: &mut D,
-    src: &[u8],
-    dst: &mut T,
-    last: bool,
-) -> (DecoderResult, usize)
-    ensures call { IsDecoderCall T.form (D.state decoder.old) src.now last (T.room dst.old) (D.state decoder.new)
-        result.0 result.1 (T.contents dst.old) (T.contents dst.new) }
-    ensures room { T.room dst.new + length (T.contents dst.new)
-        ≡ T.room dst.old + length (T.contents dst.old) }
-    ensures loan { T.loan dst.new ≡ T.loan dst.old }
-{
-    if !decoder.rests() {
-        if !has_room(dst, decoder.room(Act::Release)) {
-            return (DecoderResult::OutputFull, 0);
-        }
-        let Some(scalar) = decoder.release() else {
-            unreachable!()
-        };
-        dst.put(scalar);
-    }
-    for (read, byte) in src.iter().enumerate() {
-        if !has_room(dst, decoder.room(Act::Read(*byte))) {
-            return (DecoderResult::OutputFull, read);
-        }
-        let fed = decoder.feed(*byte);
-        if let Fed::Fault {
-            length,
-            back,
-            unread,
-        } = fed
-        {
-            if unread {
-                return (DecoderResult::Malformed(length, back), read);
-            }
-            return (DecoderResult::Malformed(length, back), read + 1);
-        }
-        put_fed(dst, fed);
-    }
-    if last && decoder.has_rest() {
-        if !has_room(dst, decoder.room(Act::Report)) {
-            return (DecoderResult::OutputFull, src.len());
-        }
-        let Some((length, back)) = decoder.report() else {
-            unreachable!()
-        };
-        return (DecoderResult::Malformed(length, back), src.len());
-    }
-    (DecoderResult::InputEmpty, src.len())
 }

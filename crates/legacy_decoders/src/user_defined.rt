@@ -1,11 +1,12 @@
 //! The decoder of x-user-defined.
-ghost use Rattle.std.specs.Prelude.{◌≡◌, [], length, true, ◌≢◌};
+ghost use Rattle.std.specs.Prelude.{◌≡◌, ◌≤◌, ◌+◌, ◌-◌, []};
 ghost use Rattle.legacy_base.specs.Grammar.{user_defined};
 ghost use Rattle.legacy_decoders.specs.Machines.{user_defined_first};
 ghost use Rattle.legacy_decoders.specs.Feeding.{Took};
 ghost use Rattle.legacy_decoders.specs.Decoders.{new_state};
 
-use crate::machine::{Act, Fed, Machine, Room, drive};
+use crate::drive::drive;
+use crate::machine::{Act, Fed, Front, Machine, Room};
 use legacy_base::{DecoderResult, Destination, RawDecoder};
 
 /// The decoder of x-user-defined (Encoding Standard, "x-user-defined decoder").
@@ -28,17 +29,27 @@ impl UserDefinedDecoder {
     }
 }
 
+/// The private-use scalar of a byte past ASCII.
+#[inline]
+fn private_use(byte: u8) -> char
+    requires { 0x80 ≤ byte }
+    ensures { result ≡ 0xF780 + (byte - 0x80) }
+{
+    match char::from_u32(0xF780 + (u32::from(byte) - 0x80)) {
+        Some(scalar) => scalar,
+        None => unreachable!(),
+    }
+}
+
 /// What a byte leads to.
 #[inline]
 fn read_byte(byte: u8) -> Fed
     ensures { Took (user_defined_first byte) [] byte result [] }
 {
     if byte < 0x80 {
-        return Fed::One(char::from(byte));
-    }
-    match char::from_u32(0xF780 + (u32::from(byte) - 0x80)) {
-        Some(scalar) => Fed::One(scalar),
-        None => unreachable!(),
+        Fed::One(char::from(byte))
+    } else {
+        Fed::One(private_use(byte))
     }
 }
 
@@ -73,6 +84,16 @@ impl Machine for UserDefinedDecoder {
 
     fn report(&mut self) -> Option<(u8, u8)> {
         None
+    }
+
+    #[inline]
+    fn is_idle(&self) -> bool {
+        true
+    }
+
+    #[inline]
+    fn front(&self, lead: u8, _trail: u8) -> Front {
+        Front::Single(private_use(lead))
     }
 }
 

@@ -1,7 +1,7 @@
-use Rattle.std.proofs.Common.{◌≡◌, ◌+◌, ◌++◌, ℕ, List}
+use Rattle.std.proofs.Common.{◌≡◌, ◌+◌, ◌-◌, ◌++◌, ℕ, List, length}
 use Rattle.legacy_base.specs.EncodingForm.{all_code_units, total_unit_count}
 use Rattle.legacy_decoders.proofs.Going.{Going}
-use Rattle.legacy_decoders.proofs.machine.drive.Given as goal
+use Rattle.legacy_decoders.proofs.drive.drive.Given as goal
 
 -- the call is under way, and the destination holds what was written
 abbrev pub invariant-loop-read : goal.invariant-loop-read
@@ -11,3 +11,6 @@ invariant-loop-read g l =
     × (T.contents l.dst ≡ T.contents l.fn.dst ++ all_code_units T.form scalars)
     × (T.room l.dst + total_unit_count T.form scalars ≡ T.room l.fn.dst)
     × (T.loan l.dst ≡ T.loan l.fn.dst)
+
+abbrev pub decreases-loop-read : goal.decreases-loop-read
+decreases-loop-read g l = length l.src - l.read

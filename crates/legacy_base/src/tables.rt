@@ -1,0 +1,182 @@
+//! Indexes, and tables that are made of them once they are checked.
+ghost use Rattle.std.specs.Prelude.{◌≡◌, MatchResult, Some};
+ghost use Rattle.legacy_base.specs.AcceptedTables.{flat_lists};
+ghost use Rattle.legacy_base.specs.TableChecks.{AreAccepted};
+
+pub(crate) mod checks;
+pub(crate) mod lookups;
+
+use std::fmt;
+use std::marker::Model;
+use thiserror::Error;
+
+/// The names of the indexes (Encoding Standard, "Indexes").
+#[derive(Clone, Copy, Debug, PartialEq, Eq)]
+pub enum IndexName {
+    /// Index Big5.
+    Big5,
+    /// Index EUC-KR.
+    EucKr,
+    /// Index jis0208.
+    Jis0208,
+    /// Index jis0212.
+    Jis0212,
+    /// Index gb18030.
+    Gb18030,
+    /// Index ISO-2022-JP katakana.
+    Katakana,
+    /// Index gb18030 ranges.
+    Ranges,
+}
+
+/// The index's word in messages.
+impl fmt::Display for IndexName {
+    fn fmt<W: fmt::Write>(&self, f: &mut fmt::Formatter<W>) -> fmt::Result {
+        f.write_str(match self {
+            IndexName::Big5 => "big5",
+            IndexName::EucKr => "euc-kr",
+            IndexName::Jis0208 => "jis0208",
+            IndexName::Jis0212 => "jis0212",
+            IndexName::Gb18030 => "gb18030",
+            IndexName::Katakana => "katakana",
+            IndexName::Ranges => "ranges",
+        })
+    }
+}
+
+/// Why indexes or a single-byte table are refused.
+#[derive(Debug, Drop, PartialEq, Eq, Error)]
+pub enum TableError {
+    /// The index has more entries than pointers.
+    #[error("index {0} is too long")]
+    TooLong(IndexName),
+    /// The entry is not 0 and no scalar that the index may hold.
+    #[error("index {0} has a bad entry at {1}")]
+    BadEntry(IndexName, usize),
+    /// The entry is not 0, though the decoder does not look it up.
+    #[error("index {0} must be empty at {1}")]
+    NotEmpty(IndexName, usize),
+    /// The katakana index has neither 0 nor 63 entries.
+    #[error("index katakana must have 0 or 63 entries")]
+    KatakanaLength,
+    /// The range at the place starts past the last pointer, or too low behind the range before.
+    #[error("ranges are out of order at {0}")]
+    RangeOrder(usize),
+    /// The range at the place has a scalar below U+0080, past U+FFFF, or a surrogate.
+    #[error("range {0} has a bad scalar")]
+    RangeValue(usize),
+    /// The entry at the place is not 0 and no scalar that a single-byte table may hold.
+    #[error("single-byte entry {0} is bad")]
+    BadByteEntry(usize),
+    /// The entry at the place is not 0 and stands at an earlier place too.
+    #[error("single-byte entry {0} is repeated")]
+    Repeated(usize),
+}
+
+/// Flat indexes, not checked yet. In each of the first six, entry `p` is the scalar value of pointer
+/// `p`, and 0 where the pointer has none; pointers past the end have none either.
+#[derive(Drop)]
+pub struct Indexes<'a> {
+    /// Index Big5, of at most 19782 entries. Pointers 1133, 1135, 1164 and 1166 stay 0: the decoder
+    /// gives a letter and a combining mark for each.
+    pub big5: &'a [u32],
+    /// Index EUC-KR, of at most 23940 entries.
+    pub euc_kr: &'a [u16],
+    /// Index jis0208, of at most 11280 entries. Pointers 8836 to 10715 stay 0: in Shift_JIS they are
+    /// U+E000 to U+E757.
+    pub jis0208: &'a [u16],
+    /// Index jis0212, of at most 8836 entries.
+    pub jis0212: &'a [u16],
+    /// Index gb18030, of at most 23940 entries.
+    pub gb18030: &'a [u16],
+    /// Index ISO-2022-JP katakana, of 63 entries or none.
+    pub katakana: &'a [u16],
+    /// Index gb18030 ranges, by rising pointers. `(p, s)` gives pointer `p` the scalar value `s`, `p + 1`
+    /// the scalar `s + 1`, and so on, up to the pointer before the next range's, or up to 39419. The
+    /// range from 189000 on is none of them: it is always there.
+    pub ranges: &'a [(u16, u16)],
+}
+
+/// Indexes that passed the check. They are seen as the flat lists that were handed in.
+#[derive(Drop)]
+pub struct Tables<'a> {
+    big5: &'a [u32],
+    euc_kr: &'a [u16],
+    jis0208: &'a [u16],
+    jis0212: &'a [u16],
+    gb18030: &'a [u16],
+    katakana: &'a [u16],
+    ranges: &'a [(u16, u16)],
+    ghost accepted: { AreAccepted (flat_lists big5.now euc_kr.now jis0208.now jis0212.now gb18030.now katakana.now ranges.now) },
+}
+
+impl<'a> Model for Tables<'a> {
+    ghost use Rattle.legacy_base.specs.AcceptedTables.{AcceptedIndexes, coded_indexes, flat_lists};
+
+    ghost Value = { AcceptedIndexes };
+
+    ghost coded = { coded_indexes };
+
+    ghost view = { λ t. record { flat = flat_lists t.big5.now t.euc_kr.now t.jis0208.now t.jis0212.now t.gb18030.now t.katakana.now t.ranges.now; accepted = t.accepted } };
+}
+
+impl<'a> Tables<'a> {
+    ghost use Rattle.legacy_base.specs.Indexes.{idx, range};
+    ghost use Rattle.legacy_base.specs.TableChecks.{table_fault};
+    ghost use Rattle.legacy_base.specs.Tables.{flat_indexes, index_list};
+
+    /// The tables of the indexes, or the first fault. The indexes are checked in the order of the
+    /// fields: the length first, then the entries by rising pointers; of the ranges the order first.
+    /// Empty indexes are accepted. It takes no memory, and the slices stay borrowed.
+    #[tactic(auto, unfolding(crate::specs::TableChecks::table_fault))]
+    pub fn new(indexes: &Indexes<'a>) -> Result<Tables<'a>, TableError>
+        ensures { MatchResult result
+            (λ tables. tables.flat ≡ flat_indexes indexes.now)
+            (λ fault. table_fault (flat_indexes indexes.now) ≡ Some fault) }
+    {
+        checks::check_big5(indexes.big5)?;
+        checks::check_index(IndexName::EucKr, 23940, indexes.euc_kr)?;
+        checks::check_index(IndexName::Jis0208, 11280, indexes.jis0208)?;
+        checks::check_index(IndexName::Jis0212, 8836, indexes.jis0212)?;
+        checks::check_index(IndexName::Gb18030, 23940, indexes.gb18030)?;
+        checks::check_katakana(indexes.katakana)?;
+        checks::check_range_order(indexes.ranges)?;
+        checks::check_range_scalars(indexes.ranges)?;
+        Ok(Tables {
+            big5: indexes.big5,
+            euc_kr: indexes.euc_kr,
+            jis0208: indexes.jis0208,
+            jis0212: indexes.jis0212,
+            gb18030: indexes.gb18030,
+            katakana: indexes.katakana,
+            ranges: indexes.ranges,
+        })
+    }
+
+    /// The scalar value of the pointer in the index of the name, or `None` where it has none: where the
+    /// entry is 0, and past the index's end (Encoding Standard, "index code point"). `None` for `Ranges`,
+    /// whose pointers `range` looks up.
+    #[inline]
+    pub fn idx(&self, name: IndexName, pointer: usize) -> Option<char>
+        ensures { result ≡ idx (index_list self.now.flat name) pointer }
+    {
+        match name {
+            IndexName::Big5 => lookups::wide_entry(self.big5, pointer),
+            IndexName::EucKr => lookups::narrow_entry(self.euc_kr, pointer),
+            IndexName::Jis0208 => lookups::narrow_entry(self.jis0208, pointer),
+            IndexName::Jis0212 => lookups::narrow_entry(self.jis0212, pointer),
+            IndexName::Gb18030 => lookups::narrow_entry(self.gb18030, pointer),
+            IndexName::Katakana => lookups::narrow_entry(self.katakana, pointer),
+            IndexName::Ranges => None,
+        }
+    }
+
+    /// The scalar value of a pointer of four bytes, or `None` where it has none (Encoding Standard,
+    /// "index gb18030 ranges code point"): 7457 gives U+E7C7, 189000 to 1237575 give U+10000 to U+10FFFF,
+    /// pointers up to 39419 go by the last range that starts at or before them.
+    pub fn range(&self, pointer: usize) -> Option<char>
+        ensures { result ≡ range self.now.flat.ranges pointer }
+    {
+        lookups::range_scalar(self.ranges, pointer)
+    }
+}

@@ -1,0 +1,89 @@
+//! Look-ups in checked indexes.
+ghost use Rattle.std.specs.Prelude.{◌≡◌, ℕ, ◌<◌, ◌≤◌, None, length, slice_index_or};
+ghost use Rattle.std.specs.Char.{IsScalar};
+ghost use Rattle.legacy_base.specs.Unicode.{AreScalars};
+ghost use Rattle.legacy_base.specs.Indexes.{entry_scalar, idx, last_range_scalar, range};
+ghost use Rattle.legacy_base.specs.TableChecks.{range_order_fault, range_value_fault};
+
+/// The scalar of an entry, or `None` where it is 0.
+#[inline]
+fn scalar_of(entry: u32) -> Option<char>
+    requires { IsScalar entry }
+    ensures { result ≡ entry_scalar entry }
+{
+    if entry == 0 {
+        None
+    } else {
+        char::from_u32(entry)
+    }
+}
+
+/// The scalar of a pointer in an index of wide entries.
+#[inline]
+pub fn wide_entry(index: &[u32], pointer: usize) -> Option<char>
+    requires { AreScalars index.now }
+    ensures { result ≡ idx index.now pointer }
+{
+    if pointer < index.len() {
+        scalar_of(index[pointer])
+    } else {
+        None
+    }
+}
+
+/// The scalar of a pointer in an index of narrow entries.
+#[inline]
+pub fn narrow_entry(index: &[u16], pointer: usize) -> Option<char>
+    requires { AreScalars index.now }
+    ensures { result ≡ idx index.now pointer }
+{
+    if pointer < index.len() {
+        scalar_of(u32::from(index[pointer]))
+    } else {
+        None
+    }
+}
+
+/// How many of the ranges start at or before a pointer: the ranges rise, so these are the first ones.
+fn started_count(ranges: &[(u16, u16)], pointer: usize) -> usize
+    requires { range_order_fault 0 None ranges.now ≡ None }
+    ensures within { result ≤ length ranges.now }
+    ensures started { (k : ℕ) → k < result → (slice_index_or ranges.now k (0, 0)).0 ≤ pointer }
+    ensures ahead { (k : ℕ) → result ≤ k → k < length ranges.now → pointer < (slice_index_or ranges.now k (0, 0)).0 }
+{
+    ranges.partition_point(|range| usize::from(range.0) <= pointer)
+}
+
+/// The scalar of a pointer by the last range that starts at or before it.
+fn last_range(ranges: &[(u16, u16)], pointer: usize) -> Option<char>
+    requires reached { pointer ≤ 39419 }
+    requires ordered { range_order_fault 0 None ranges.now ≡ None }
+    requires valued { range_value_fault 0 ranges.now ≡ None }
+    ensures { result ≡ last_range_scalar ranges.now pointer }
+{
+    let count = started_count(ranges, pointer);
+    if count == 0 {
+        return None;
+    }
+    let (first, scalar) = ranges[count - 1];
+    char::from_u32(u32::from(scalar) + (pointer - usize::from(first)) as u32)
+}
+
+/// The scalar of a pointer of four bytes.
+#[tactic(auto, unfolding(crate::specs::Indexes::range))]
+pub fn range_scalar(ranges: &[(u16, u16)], pointer: usize) -> Option<char>
+    requires ordered { range_order_fault 0 None ranges.now ≡ None }
+    requires valued { range_value_fault 0 ranges.now ≡ None }
+    ensures { result ≡ range ranges.now pointer }
+{
+    if pointer == 7457 {
+        return Some('\u{E7C7}');
+    }
+    if pointer >= 189000 && pointer <= 1237575 {
+        return char::from_u32(0x1_0000 + (pointer - 189000) as u32);
+    }
+    if pointer <= 39419 {
+        return last_range(ranges, pointer);
+    }
+    None
+}

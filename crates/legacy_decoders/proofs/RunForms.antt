@@ -1,0 +1,69 @@
+-- The forms of a machine as runs: what a loop may read ahead of it.
+use Rattle.std.proofs.Common.{rules, ◌≡◌, ◌∙◌, ℕ, ◌+◌, ◌≤◌, ◌<◌, List, [], ◌∷◌, ◌++◌, length, refl, sym, ap, arith, append-nil, Bool, true, All}
+use Rattle.std.proofs.lemmas.List.Elements.{All-nil, All-cons}
+use Rattle.std.specs.Char.{IsScalar}
+use Rattle.legacy_base.specs.Unicode.{IsByte, AreBytes}
+use Rattle.legacy_base.specs.EncodingForm.{unit_count, total_unit_count}
+use Rattle.legacy_base.specs.Fronts.{reads}
+use Rattle.legacy_base.specs.Grammar.{Grammar}
+use Rattle.legacy_base.specs.States.{rests, may_hold}
+use Rattle.legacy_base.specs.Lengths.{LengthQuery, query_form, replacement_units, room}
+use Rattle.legacy_decoders.specs.Ahead.{Runs, HasAscii}
+use Rattle.legacy_decoders.specs.Steps.{hold, finish, step_held}
+use Rattle.legacy_decoders.specs.Machines.{is_cut, machine}
+use Rattle.legacy_decoders.specs.Costs.{state_of, step_left, step_units, HasNarrowIndexes}
+use Rattle.legacy_decoders.proofs.AllMoves.{machine_meets}
+use Rattle.legacy_decoders.proofs.Feeding.{machine_rooms, units-total, may_none, rests-none}
+
+module _ (g : Grammar) (cut : is_cut g ≡ true) (narrow : HasNarrowIndexes g) where
+  one_byte : (b : ℕ) → IsByte b → AreBytes (b ∷ [])
+  one_byte b h = All-cons IsByte b [] h (All-nil IsByte)
+
+  -- the code units of one scalar
+  one_total : (query : LengthQuery) (c : ℕ) → unit_count (query_form query) c + 0 ≡ total_unit_count (query_form query) (c ∷ [])
+  one_total query c = units-total (query_form query) (c ∷ [])
+
+  -- a byte that is a scalar by itself
+  pub single_runs : (b c : ℕ) → IsByte b → IsScalar c → (machine g).to [] b ≡ g → (machine g).step [] b ≡ finish (reads 1 (c ∷ [])) → Runs g (b ∷ []) (c ∷ [])
+  single_runs b c byte scalar to_is is =
+      let meets = (machine_meets g cut).steps [] b (may_none g) (rests-none g) in
+      let meets' = rw (to_is, is) at meets in
+      record {
+        events = λ more. meets'.goes_on more;
+        scalar = All-cons IsScalar c [] scalar (All-nil IsScalar);
+        lowers = λ query n.
+            let p = (machine_rooms query g cut narrow).step_pays [] b n (may_none g) (rests-none g) (All-nil IsByte) byte in
+            let p' = rw (to_is, is) at p in
+            let z : n + 0 ≡ n = omega arith in
+            let p'' = rw z at p' in
+            rw (← one_total query c) p'';
+      }
+
+  -- a lead and a trail that are a scalar
+  pub pair_runs : (lead trail c : ℕ) → IsByte lead → IsByte trail → IsScalar c → may_hold g (lead ∷ []) ≡ true → rests g (lead ∷ []) ≡ true →
+      (machine g).to [] lead ≡ g → (machine g).to (lead ∷ []) trail ≡ g →
+      (machine g).step [] lead ≡ hold → (machine g).step (lead ∷ []) trail ≡ finish (reads 2 (c ∷ [])) → Runs g (lead ∷ trail ∷ []) (c ∷ [])
+  pair_runs lead trail c byte byte' scalar may resting to_first to_second first second =
+      let meets = (machine_meets g cut).steps (lead ∷ []) trail may resting in
+      let meets' = rw (to_second, second) at meets in
+      record {
+        events = λ more. meets'.goes_on more;
+        scalar = All-cons IsScalar c [] scalar (All-nil IsScalar);
+        lowers = λ query n.
+            let p = (machine_rooms query g cut narrow).step_pays [] lead (n + 1) (may_none g) (rests-none g) (All-nil IsByte) byte in
+            let p' = rw (to_first, first) at p in
+            let q = (machine_rooms query g cut narrow).step_pays (lead ∷ []) trail n may resting (one_byte lead byte) byte' in
+            let q' = rw (to_second, second) at q in
+            let z : n + 0 ≡ n = omega arith in
+            let z' : (n + 1) + 0 ≡ n + 1 = omega arith in
+            let e : n + 2 ≡ (n + 1) + 1 = omega arith in
+            let p'' = rw z' at p' in
+            let q'' = rw z at q' in
+            rw (← one_total query c, e) (omega arith);
+      }
+
+  -- each ASCII byte is its own scalar, where the machine says so
+  pub has_ascii : ((b : ℕ) → (machine g).to [] b ≡ g) → ((b : ℕ) → b < 0x80 → (machine g).step [] b ≡ finish (reads 1 (b ∷ []))) → HasAscii g
+  has_ascii to_is first b h = single_runs b b (omega arith) (small b h) (to_is b) (first b h) where
+    small : (x : ℕ) → x < 128 → IsScalar x
+    small x l = search rules

@@ -1,0 +1,96 @@
+//! The loop for runs: ASCII by blocks, and common forms without a test of room at each. It stands in
+//! front of the machine, which does all the rest: malformed sequences, held-back bytes, small outputs.
+ghost use Rattle.std.specs.Prelude.{◌≡◌, ℕ, ◌+◌, ◌-◌, ◌*◌, ◌<◌, ◌≤◌, [], true, length, take};
+ghost use Rattle.legacy_decoders.specs.Ahead.{IsIdle, Writes};
+
+use crate::machine::{Front, Machine};
+use legacy_base::Destination;
+
+/// Reads at most so many forms, which surely fit, and stops at two ASCII bytes in a row and at what
+/// is not common. Answers how many bytes were read.
+#[inline(always)]
+fn forms<D: Machine, T: Destination>(decoder: &D, src: &[u8], dst: &mut T, turns: usize) -> usize
+    requires idle { IsIdle (D.state decoder.now) }
+    requires source { 2 * turns ≤ length src.now }
+    requires room { 3 * turns + 3 ≤ T.room dst.old }
+    ensures read { result ≤ length src.now }
+    ensures writes { Writes T.form (D.state decoder.now).grammar (take result src.now) (T.contents dst.old) (T.contents dst.new) }
+    ensures room { T.room dst.new + length (T.contents dst.new) ≡ T.room dst.old + length (T.contents dst.old) }
+    ensures slack { 3 ≤ T.room dst.new }
+    ensures loan { T.loan dst.new ≡ T.loan dst.old }
+{
+    let mut at = 0;
+    let mut left = turns;
+    while left > 0 {
+        let byte = src[at];
+        let next = src[at + 1];
+        if byte < 0x80 {
+            dst.put(char::from(byte));
+            at += 1;
+            if next < 0x80 {
+                return at;
+            }
+        } else {
+            match decoder.front(byte, next) {
+                Front::Pair(c) => {
+                    dst.put(c);
+                    at += 2;
+                }
+                Front::Single(c) => {
+                    dst.put(c);
+                    at += 1;
+                }
+                Front::Other => return at,
+            }
+        }
+        left -= 1;
+    }
+    at
+}
+
+/// Reads common forms and runs of ASCII from the front, while three code units more than they need
+/// are free. Answers how many bytes were read.
+#[inline]
+fn run<D: Machine, T: Destination>(decoder: &D, src: &[u8], dst: &mut T) -> usize
+    requires idle { IsIdle (D.state decoder.now) }
+    ensures read { result ≤ length src.now }
+    ensures writes { Writes T.form (D.state decoder.now).grammar (take result src.now) (T.contents dst.old) (T.contents dst.new) }
+    ensures room { T.room dst.new + length (T.contents dst.new) ≡ T.room dst.old + length (T.contents dst.old) }
+    ensures slack { 0 < result → 3 ≤ T.room dst.new }
+    ensures had { 0 < result → 4 ≤ T.room dst.old }
+    ensures loan { T.loan dst.new ≡ T.loan dst.old }
+{
+    let mut at = 0;
+    loop {
+        let count = dst.free().saturating_sub(3).min(src.len() - at);
+        at += dst.copy_ascii(&src[at..at + count]);
+        let turns = ((src.len() - at) / 2).min(dst.free().saturating_sub(3) / 3);
+        if turns == 0 {
+            return at;
+        }
+        let read = forms(decoder, &src[at..], dst, turns);
+        if read == 0 {
+            return at;
+        }
+        at += read;
+    }
+}
+
+/// Reads common forms where nothing is held back. Answers how many bytes were read: none is an answer
+/// too.
+#[inline]
+pub fn ahead<D: Machine, T: Destination>(decoder: &D, src: &[u8], dst: &mut T) -> usize
+    ensures read { result ≤ length src.now }
+    ensures idle { 0 < result → (D.state decoder.now).held ≡ [] }
+    ensures writes { Writes T.form (D.state decoder.now).grammar (take result src.now) (T.contents dst.old) (T.contents dst.new) }
+    ensures room { T.room dst.new + length (T.contents dst.new) ≡ T.room dst.old + length (T.contents dst.old) }
+    ensures slack { 0 < result → 3 ≤ T.room dst.new }
+    ensures had { 0 < result → 4 ≤ T.room dst.old }
+    ensures loan { T.loan dst.new ≡ T.loan dst.old }
+{
+    if decoder.is_idle() {
+        run(decoder, src, dst)
+    } else {
+        0
+    }
+}
