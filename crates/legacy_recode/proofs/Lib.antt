@@ -2,3 +2,5 @@
 pub mod EventLines
 pub mod PieceUnderWay
 pub mod Whole
+pub mod CommandLine
+pub mod GivenFiles

@@ -3,3 +3,6 @@ pub mod Lines
 pub mod LineBuffers
 pub mod Recoding
 pub mod Words
+pub mod IndexTexts
+pub mod IndexTables
+pub mod Program
