@@ -10,3 +10,5 @@ pub mod TableLoops
 pub mod Accepted
 pub mod AcceptedTable
 pub mod Ascii
+pub mod FrontLaws
+pub mod GrammarLaws

@@ -106,3 +106,6 @@ impl SingleByteTable {
         place_of(&self.entries, u32::from(c))
     }
 }
+
+#[cfg(test)]
+mod tests;

@@ -4,7 +4,6 @@ ghost use Rattle.legacy_base.specs.EncodingForm.{all_code_units, total_unit_coun
 ghost use Rattle.legacy_base.specs.Calls.{IsDecoderCall};
 ghost use Rattle.legacy_decoders.specs.Moves.{room_units, fed_scalars};
 
-use crate::ahead::ahead;
 use crate::machine::{Act, Fed, Machine, Room};
 use legacy_base::{DecoderResult, Destination};
 
@@ -64,7 +63,7 @@ pub fn drive<D: Machine, T: Destination>(
     }
     let mut read = 0;
     loop {
-        read += ahead(&*decoder, &src[read..], dst);
+        read += decoder.read_ahead(&src[read..], dst);
         if read == src.len() {
             break;
         }

@@ -1,6 +1,6 @@
 use Rattle.std.proofs.Common.{◌<◌, ◌^◌, arith}
 use Rattle.legacy_decoders.proofs.UserDefinedRuns.{private_use_runs}
-use Rattle.legacy_decoders.proofs.user_defined.UserDefinedDecoderMachine.front.Goals as goal
+use Rattle.legacy_decoders.proofs.user_defined.UserDefinedDecoderCommonForms.front.Goals as goal
 
 pub returns : goal.returns
 returns c =
