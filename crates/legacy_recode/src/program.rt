@@ -1,13 +1,15 @@
 //! What the program does with its words, its files and its streams.
-ghost use Rattle.std.specs.Prelude.{◌≡◌, ◌↔◌, ◌≤◌, OnOk, None, IsTrue, OnErr};
+ghost use Rattle.std.specs.Prelude.{◌≡◌, ◌↔◌, ◌≤◌, OnOk, None, IsTrue};
+ghost use Rattle.legacy_base.specs.Grammar.{Grammar};
+ghost use Rattle.legacy_decoders.specs.Decoders.{new_state};
 ghost use Rattle.legacy_recode.specs.Words.{texts_of, are_indexes, codec_of_words};
-ghost use Rattle.legacy_recode.specs.IndexTexts.{contents_of};
-ghost use Rattle.legacy_recode.specs.Program.{grammar_of, RecodesInput};
+ghost use Rattle.legacy_recode.specs.IndexTexts.{contents_of, text_given};
+ghost use Rattle.legacy_recode.specs.Program.{grammar_of, RecodesInput, RecodesByTables, RecodesByTexts, RecodesByWords};
 
 use crate::index_tables::{IndexTables, read_files};
 use crate::recode::{RecodeError, recode};
 use crate::words::{Codec, codec_in};
-use legacy_base::{Indexes, SingleByteTable, TableError, Tables};
+use legacy_base::{Indexes, RawDecoder, SingleByteTable, TableError, Tables};
 use legacy_decoders::UserDefinedDecoder;
 use std::alloc::Global;
 use std::io::{Read, Write};
@@ -33,6 +35,18 @@ pub enum Fault<'a> {
     Memory,
 }
 
+/// Recodes the input by a decoder that has just been made.
+fn recode_from<D: RawDecoder + Drop, R: Read, W: Write>(
+    mut decoder: D,
+    input: &mut R,
+    output: &mut W,
+) -> Result<(), RecodeError>
+    ensures { (grammar : Grammar) → D.state decoder ≡ new_state grammar → OnOk result (RecodesInput grammar
+        (R.remaining input.old) (R.remaining input.new) (W.contents output.old) (W.contents output.new)) }
+{
+    recode(&mut decoder, input, output)
+}
+
 /// Recodes the input by the codec, from a decoder that has just been made.
 fn recode_by<R: Read, W: Write>(
     codec: Codec,
@@ -45,7 +59,7 @@ fn recode_by<R: Read, W: Write>(
         (R.remaining input.old) (R.remaining input.new) (W.contents output.old) (W.contents output.new)) }
 {
     match codec {
-        Codec::UserDefined => recode(&mut UserDefinedDecoder::new(), input, output),
+        Codec::UserDefined => recode_from(UserDefinedDecoder::new(), input, output),
     }
 }
 
@@ -76,6 +90,8 @@ fn recode_with<'a, R: Read, W: Write>(
     input: &mut R,
     output: &mut W,
 ) -> Result<(), Fault<'a>>
+    ensures { OnOk result (RecodesByTables codec indexes.now
+        (R.remaining input.old) (R.remaining input.new) (W.contents output.old) (W.contents output.new)) }
 {
     let tables = match Tables::new(&Indexes {
         big5: &indexes.big5,
@@ -109,12 +125,26 @@ fn recode_by_words<'a, R: Read, W: Write>(
     output: &mut W,
 ) -> Result<(), Fault<'a>>
     requires { IsTrue (are_indexes (texts_of indexes.now)) }
+    ensures { OnOk result (RecodesByTexts codec (text_given (texts_of indexes.now) (contents_of files.now))
+        (R.remaining input.old) (R.remaining input.new) (W.contents output.old) (W.contents output.new)) }
 {
     let indexes = read_files(alloc, indexes, files)?;
     recode_with(codec, &indexes, input, output)
 }
 
 /// Runs the program on its words, which are without its name, and answers its status.
+///
+/// The words are CODEC, and then INDEX and FILE any number of times, no INDEX twice. `files` has the contents of each
+/// FILE, in the same order, or `None` where it cannot be read; one that is missing counts as such. The words are
+/// checked first, then the files in their order, then the indexes, and then the input is recoded: each event of it is
+/// a line of the output, which is flushed at the end.
+///
+/// - 0: all events were written.
+/// - 2: the words are not of that form; nothing is read.
+/// - 1: a file cannot be read or has a bad line, an index is refused, the input cannot be read, the output cannot be
+///   written or flushed, or memory was refused. Lines that were written before stand.
+///
+/// With 1 and 2 a line on `errors` says why. That it cannot be written does not change the status.
 pub fn run<R: Read, W: Write, E: Write>(
     alloc: Global,
     words: &[&str],
@@ -123,8 +153,12 @@ pub fn run<R: Read, W: Write, E: Write>(
     output: &mut W,
     errors: &mut E,
 ) -> u8
-    ensures usage { (result ≡ 2) ↔ (codec_of_words (texts_of words.now) ≡ None) }
     ensures statuses { result ≤ 2 }
+    ensures usage { (result ≡ 2) ↔ (codec_of_words (texts_of words.now) ≡ None) }
+    ensures unread { result ≡ 2 → (input.new ≡ input.old) × (output.new ≡ output.old) }
+    ensures recoded { result ≡ 0 → RecodesByWords (texts_of words.now) (contents_of files.now)
+        (R.remaining input.old) (R.remaining input.new) (W.contents output.old) (W.contents output.new) }
+    ensures silent { result ≡ 0 → errors.new ≡ errors.old }
 {
     let Some(codec) = codec_in(words) else {
         let _ = errors.write_all(b"usage: legacy_recode CODEC [INDEX FILE]...\n");
