@@ -24,7 +24,17 @@ pub mod ReplacementRooms
 pub mod AllRooms
 pub mod SettledSteps
 pub mod Feeding
+pub mod TwoByteHeld
+pub mod TwoByteRuns
+pub mod EucKrHeld
+pub mod Big5Held
+pub mod ShiftJisHeld
+pub mod Utf16Held
+pub mod ReplacementSteps
+pub mod SingleByteSteps
+pub mod Latin1Fronts
 pub mod Writing
 pub mod AheadRuns
 pub mod RunForms
 pub mod UserDefinedRuns
+pub mod SingleByteRuns

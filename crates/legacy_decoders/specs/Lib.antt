@@ -9,3 +9,10 @@ pub mod Feeding
 pub mod Ahead
 pub mod Decoders
 pub mod UserDefinedDecoder
+pub mod TwoByte
+pub mod EucKrDecoder
+pub mod Big5Decoder
+pub mod ShiftJisDecoder
+pub mod Utf16Decoder
+pub mod ReplacementDecoder
+pub mod SingleByteDecoder

@@ -2,8 +2,25 @@
 #![tactic(auto)]
 
 mod ahead;
+mod big5;
 mod drive;
+mod euc_kr;
+mod held;
 mod machine;
+mod shift_jis;
+mod two_byte;
+mod replacement;
+mod single_byte;
 mod user_defined;
+mod utf16;
 
+pub use big5::Big5Decoder;
+pub use euc_kr::EucKrDecoder;
+pub use shift_jis::ShiftJisDecoder;
+pub use replacement::ReplacementDecoder;
+pub use single_byte::SingleByteDecoder;
 pub use user_defined::UserDefinedDecoder;
+pub use utf16::Utf16Decoder;
+
+#[cfg(test)]
+mod tests;

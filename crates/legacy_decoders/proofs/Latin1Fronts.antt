@@ -1,0 +1,12 @@
+-- How long the front of Latin-1 bytes is.
+use Rattle.std.proofs.Common.{◌≡◌, ◌∙◌, ℕ, ◌<◌, ◌≤◌, List, length, get_or, true, false, sym}
+use Rattle.std.proofs.lemmas.List.Folds.{length-prefix_len}
+use Rattle.std.proofs.lemmas.List.Sums.{prefix_len_is}
+use Rattle.legacy_base.specs.Latin1.{is_latin1_byte, latin1_front}
+
+pub latin1_front-length : (table bytes : List ℕ) (n : ℕ) → n ≤ length bytes →
+    ((k : ℕ) → k < n → is_latin1_byte table (get_or bytes k 0) ≡ true) → (n < length bytes → is_latin1_byte table (get_or bytes n 0) ≡ false) →
+    n ≡ length (latin1_front table bytes)
+unfolding latin1_front
+latin1_front-length table bytes n h pass stop =
+    sym (length-prefix_len (is_latin1_byte table) bytes ∙ prefix_len_is (is_latin1_byte table) bytes n 0 h pass stop)

@@ -1,0 +1,26 @@
+-- What the UTF-16 decoder is between two calls.
+use Rattle.std.specs.Prelude.{ℕ, ◌/◌, ◌%◌, List, [], ◌∷◌, Bool, if◌then◌else◌}
+use Rattle.legacy_base.specs.Grammar.{utf16}
+use Rattle.legacy_base.specs.States.{DecoderState}
+use Rattle.legacy_decoders.specs.declared.utf16.held.Held.{Held}
+use Rattle.legacy_decoders.specs.declared.utf16.held.Held.TheVariants.{Nothing, Odd, High, HighOdd, Pending}
+use Rattle.legacy_decoders.specs.declared.utf16.Utf16Decoder.{Utf16Decoder}
+
+-- the first byte of a unit, in the byte order, and the second
+abbrev pub first_byte : Bool → ℕ → ℕ
+first_byte big_endian u = if big_endian then u / 0x100 else u % 0x100
+
+abbrev pub second_byte : Bool → ℕ → ℕ
+second_byte big_endian u = if big_endian then u % 0x100 else u / 0x100
+
+-- the bytes that are held back
+abbrev pub held_bytes : Bool → Held → List ℕ
+held_bytes big_endian Nothing = []
+held_bytes big_endian (Odd odd) = odd.byte ∷ []
+held_bytes big_endian (High high) = first_byte big_endian high.unit ∷ second_byte big_endian high.unit ∷ []
+held_bytes big_endian (HighOdd high odd) = first_byte big_endian high.unit ∷ second_byte big_endian high.unit ∷ odd.byte ∷ []
+held_bytes big_endian (Pending pending) = first_byte big_endian pending.scalar ∷ second_byte big_endian pending.scalar ∷ []
+
+-- the state that its calls speak of
+abbrev pub utf16_state : Utf16Decoder → DecoderState
+utf16_state decoder = record { grammar = utf16 decoder.big_endian; held = held_bytes decoder.big_endian decoder.held }

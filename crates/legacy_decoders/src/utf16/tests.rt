@@ -1,0 +1,213 @@
+use super::Utf16Decoder;
+use crate::tests::{assert_call, bad, utf8_events, utf16_events};
+use legacy_base::DecodeEvent::Scalar;
+use legacy_base::DecoderResult::{InputEmpty, Malformed, OutputFull};
+use legacy_base::{DecodeEvent, RawDecoder};
+use std::test::Fail;
+
+#[test]
+fn the_unit_behind_a_lone_high_surrogate_is_held_back(rt: HostRuntime) {
+    let mut decoder = Utf16Decoder::new(false);
+    assert_call(&rt, &mut decoder, b"\x00\xD8", false, (InputEmpty, 2), "");
+    assert_call(
+        &rt,
+        &mut decoder,
+        b"\x00\x00\x00\x4E\x00\x4E",
+        false,
+        (Malformed(2, 2), 2),
+        "",
+    );
+    assert_eq!(rt;
+        decoder.max_utf8_buffer_length_without_replacement(4),
+        Some(10)
+    );
+    let mut output = [0u8; 10];
+    let answer = decoder.decode_to_utf8_raw(b"\x00\x4E\x00\x4E", &mut output, true);
+    assert_eq!(rt; answer, (InputEmpty, 4, 7));
+    assert!(rt; &output[..7] == "\0\u{4E00}\u{4E00}".as_bytes());
+}
+
+#[test]
+fn a_second_byte_is_read_only_with_the_room_of_any_scalar(rt: HostRuntime) {
+    let mut decoder = Utf16Decoder::new(false);
+    let mut output = [0u8; 4];
+    let answer = decoder.decode_to_utf8_raw(b"\x03", &mut output, false);
+    assert_eq!(rt; answer, (InputEmpty, 1, 0));
+    let answer = decoder.decode_to_utf8_raw(b"\x26\x03\x26", &mut output, false);
+    assert_eq!(rt; answer, (OutputFull, 1, 3));
+    assert!(rt; &output[..3] == [0xE2, 0x98, 0x83].as_slice());
+}
+
+#[test]
+fn the_unit_held_back_is_written_by_the_next_call(rt: HostRuntime) {
+    let mut decoder = Utf16Decoder::new(false);
+    let mut output = [0u16; 8];
+    let answer = decoder.decode_to_utf16_raw(b"\x41\x00\x3D\xD8", &mut output, false);
+    assert_eq!(rt; answer, (InputEmpty, 4, 1));
+    assert_eq!(rt; output[0], 0x41);
+    let answer = decoder.decode_to_utf16_raw(b"\x42\x00", &mut output, true);
+    assert_eq!(rt; answer, (Malformed(2, 2), 2, 0));
+    let answer = decoder.decode_to_utf16_raw(b"", &mut [], true);
+    assert_eq!(rt; answer, (OutputFull, 0, 0));
+    let answer = decoder.decode_to_utf16_raw(b"", &mut output, true);
+    assert_eq!(rt; answer, (InputEmpty, 0, 1));
+    assert_eq!(rt; output[0], 0x42);
+}
+
+#[test]
+fn a_high_surrogate_and_an_odd_byte_at_the_end_are_one_sequence(rt: HostRuntime) {
+    let mut decoder = Utf16Decoder::new(false);
+    assert_call(
+        &rt,
+        &mut decoder,
+        b"\x3D\xD8\xA9",
+        true,
+        (Malformed(3, 0), 3),
+        "",
+    );
+}
+
+#[test]
+fn a_pair_is_one_scalar_in_either_byte_order(rt: HostRuntime) {
+    let mut big = Utf16Decoder::new(true);
+    let answer = (InputEmpty, 4);
+    assert_call(
+        &rt,
+        &mut big,
+        b"\xD8\x3D\xDC\xA9",
+        true,
+        answer,
+        "\u{1F4A9}",
+    );
+    let mut little = Utf16Decoder::new(false);
+    assert_call(
+        &rt,
+        &mut little,
+        b"\x3D\xD8\xA9\xDC",
+        true,
+        answer,
+        "\u{1F4A9}",
+    );
+}
+
+#[test]
+fn what_is_held_back_adds_to_the_lengths(rt: HostRuntime) {
+    let mut decoder = Utf16Decoder::new(false);
+    assert_eq!(rt; decoder.additional_from_state(), 1);
+    assert_call(&rt, &mut decoder, b"\x3D", false, (InputEmpty, 1), "");
+    assert_eq!(rt; decoder.additional_from_state(), 2);
+    assert_call(&rt, &mut decoder, b"\xD8", false, (InputEmpty, 1), "");
+    assert_eq!(rt; decoder.additional_from_state(), 3);
+    assert_call(&rt, &mut decoder, b"\xA9", false, (InputEmpty, 1), "");
+    assert_eq!(rt; decoder.additional_from_state(), 4);
+    let mut decoder = Utf16Decoder::new(false);
+    assert_call(&rt, &mut decoder, b"\x00\xD8", false, (InputEmpty, 2), "");
+    assert_call(
+        &rt,
+        &mut decoder,
+        b"\x00\x00",
+        false,
+        (Malformed(2, 2), 2),
+        "",
+    );
+    assert_eq!(rt; decoder.additional_from_state(), 3);
+}
+
+#[test]
+fn a_length_that_is_no_length_is_none(rt: HostRuntime) {
+    let decoder = Utf16Decoder::new(true);
+    let most = decoder.max_utf16_buffer_length(usize::MAX - 1);
+    assert_eq!(rt; most, Some(usize::MAX / 2 + 1));
+    assert_eq!(rt; decoder.max_utf16_buffer_length(usize::MAX), None);
+}
+
+#[test]
+fn an_odd_byte_waits_for_the_next_call(rt: HostRuntime) {
+    let mut decoder = Utf16Decoder::new(false);
+    assert_call(&rt, &mut decoder, b"\xFF", false, (InputEmpty, 1), "");
+    assert_call(
+        &rt,
+        &mut decoder,
+        b"\xFD",
+        true,
+        (InputEmpty, 1),
+        "\u{FDFF}",
+    );
+    let mut decoder = Utf16Decoder::new(false);
+    assert_call(&rt, &mut decoder, b"\xFF", true, (Malformed(1, 0), 1), "");
+}
+
+#[test]
+fn single_bytes_and_small_outputs_give_all_events(rt: HostRuntime) -> Result<(), Fail> {
+    let rows: [(bool, &[u8], &[DecodeEvent]); 5] = [
+        (
+            false,
+            b"\x00\xD8\x00\x00\x3D\xD8\xA9",
+            &[bad(0, 2), Scalar('\0'), bad(4, 3)],
+        ),
+        (
+            false,
+            b"\x41\x00\x3D\xD8\x42\x00",
+            &[Scalar('A'), bad(2, 2), Scalar('B')],
+        ),
+        (
+            false,
+            b"\x00\xD8\x00\x00\x00\x4E\x00\x4E",
+            &[
+                bad(0, 2),
+                Scalar('\0'),
+                Scalar('\u{4E00}'),
+                Scalar('\u{4E00}'),
+            ],
+        ),
+        (
+            true,
+            b"\x00\x61\x00\xE4\x26\x03\xD8\x3D\xDC\xA9",
+            &[
+                Scalar('a'),
+                Scalar('\u{E4}'),
+                Scalar('\u{2603}'),
+                Scalar('\u{1F4A9}'),
+            ],
+        ),
+        (false, b"\xFF", &[bad(0, 1)]),
+    ];
+    for (big_endian, input, events) in rows {
+        let found = utf8_events(rt.alloc(), &mut Utf16Decoder::new(big_endian), input)?;
+        assert!(rt; found.as_slice() == events, "UTF-8 of {input:?}");
+        let found = utf16_events(rt.alloc(), &mut Utf16Decoder::new(big_endian), input)?;
+        assert!(rt; found.as_slice() == events, "UTF-16 of {input:?}");
+    }
+    Ok(())
+}
+
+#[test]
+fn lone_surrogates_among_zeros_are_malformed(rt: HostRuntime) -> Result<(), Fail> {
+    let mut input = [0u8; 50];
+    for (place, byte) in [
+        (8, 0x3D),
+        (9, 0xD8),
+        (10, 0xA9),
+        (11, 0xDC),
+        (20, 0x3D),
+        (21, 0xD8),
+        (30, 0xA9),
+        (31, 0xDC),
+        (48, 0x3D),
+        (49, 0xD8),
+    ] {
+        if place < 50 {
+            input[place] = byte;
+        }
+    }
+    let mut events = [Scalar('\0'); 24];
+    events[4] = Scalar('\u{1F4A9}');
+    events[9] = bad(20, 2);
+    events[14] = bad(30, 2);
+    events[23] = bad(48, 2);
+    let found = utf8_events(rt.alloc(), &mut Utf16Decoder::new(false), &input)?;
+    assert!(rt; found.as_slice() == events.as_slice());
+    let found = utf16_events(rt.alloc(), &mut Utf16Decoder::new(false), &input)?;
+    assert!(rt; found.as_slice() == events.as_slice());
+    Ok(())
+}
