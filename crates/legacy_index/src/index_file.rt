@@ -3,10 +3,9 @@ ghost use Rattle.std.specs.Prelude.{◌≡◌, ℕ, ◌↔◌, Some, None, Err, 
 ghost use Rattle.legacy_index.specs.IndexLine.{lines};
 ghost use Rattle.legacy_index.specs.IndexTable.{first_malformed, entries_of, IsTableOf};
 
+use crate::index_table::{check_lines, read_narrow, read_ranges, read_single_byte, read_wide};
 use std::alloc::Global;
 use thiserror::Error;
-
-use crate::index_table::{check_lines, read_narrow, read_ranges, read_single_byte, read_wide};
 
 /// An index of the WHATWG Encoding Standard ("Indexes") that a file can hold.
 #[derive(Clone, Copy, Debug, PartialEq, Eq)]

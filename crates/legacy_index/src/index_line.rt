@@ -103,7 +103,11 @@ fn parse_number(bytes: &[u8], radix: u32) -> Option<(u32, &[u8])>
         count += 1;
         rest = behind;
     }
-    if count == 0 { None } else { Some((value, rest)) }
+    if count == 0 {
+        None
+    } else {
+        Some((value, rest))
+    }
 }
 
 /// What follows the blanks at the front of `bytes`.
