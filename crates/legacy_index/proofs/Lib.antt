@@ -1,3 +1,4 @@
+pub mod Grammar
 pub mod Lines
 pub mod Numbers
 pub mod Tables

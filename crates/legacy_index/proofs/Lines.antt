@@ -16,7 +16,7 @@ at_end_cons : (b : ℕ) (bs : List ℕ) (at : Bool) (n : ℕ)
     → (n < length bs → lines bs ≡ take n bs ∷ lines (drop (n + 1) bs))
     → cond (not at) (1 + n) 0 < length (b ∷ bs)
     → cond at ([] ∷ lines bs) (before_first_line b (lines bs))
-      ≡ take (cond (not at) (1 + n) 0) (b ∷ bs) ∷ lines (drop (cond (not at) (1 + n) 0 + 1) (b ∷ bs))
+    ≡ take (cond (not at) (1 + n) 0) (b ∷ bs) ∷ lines (drop (cond (not at) (1 + n) 0 + 1) (b ∷ bs))
 at_end_cons b bs true n ih h = refl
 at_end_cons b bs false n ih h =
     let first : lines bs ≡ take n bs ∷ lines (drop (n + 1) bs) = ih (omega arith) in

@@ -29,6 +29,7 @@ past_digits-cons radix b bs below = ap (λ t. cond t (past_digits radix bs) (b �
 pub takes_digit : (radix value digit first : ℕ) (rest behind : List ℕ) → rest ≡ first ∷ behind → digit_value first < radix → digit ≡ digit_value first
     → TakesDigit radix value digit rest behind
 takes_digit radix value digit first rest behind split below is = record {
-    counted = rw split (ap length (digits_at-cons radix first behind below) ∙ omega arith);
-    number = rw (split, is) (ap (number_behind radix value) (digits_at-cons radix first behind below));
-    past = rw split (past_digits-cons radix first behind below) }
+  counted = rw split (ap length (digits_at-cons radix first behind below) ∙ omega arith);
+  number = rw (split, is) (ap (number_behind radix value) (digits_at-cons radix first behind below));
+  past = rw split (past_digits-cons radix first behind below);
+}

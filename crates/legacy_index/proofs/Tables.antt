@@ -1,9 +1,8 @@
 -- The step of filling a table.
-use Rattle.std.proofs.Common.{◌≡◌, ℕ, ◌+◌, ◌<◌, ◌≤◌, Bool, true, false, cond, ◌&&◌, List, [], ◌∷◌, length, set, get_or, nat_eq, nat_lt, nat_le, Option, Some, None, max, refl, sym, ◌∙◌, ap, arith}
+use Rattle.std.proofs.Common.{◌≡◌, ℕ, ◌<◌, ◌≤◌, cond, List, ◌∷◌, length, set, get_or, nat_eq, Option, Some, None, refl, sym, ◌∙◌, ap, arith}
 use Rattle.std.proofs.lemmas.Grind.{common_steps}
 use Rattle.std.proofs.lemmas.Bool.Decides.{nat_tests}
 use Rattle.std.specs.Option.{option_or, unwrap_or}
-use Rattle.legacy_index.specs.declared.index_line.LineKind.{LineKind}
 use Rattle.legacy_index.specs.declared.index_line.LineKind.TheVariants.{Entry}
 use Rattle.legacy_index.specs.declared.index_file.FileIndex.{FileIndex}
 use Rattle.legacy_index.specs.IndexLine.{lines}
@@ -44,6 +43,7 @@ fills_line name line rest behind values pointer value first said fits =
     let split : entries_of name (lines rest) ≡ (pointer, value) ∷ others = ap (entries_of name) first ∙ ap (λ kind. with_entry kind others) (sym said) in
     let has_room = room_with (entries_of name (lines rest)) others (length values) pointer value split fits in
     record {
-        room = has_room.0;
-        within = has_room.1;
-        at_each = λ p. fills_with (entries_of name (lines rest)) others values pointer value p split has_room.1 }
+      room = has_room.0;
+      within = has_room.1;
+      at_each = λ p. fills_with (entries_of name (lines rest)) others values pointer value p split has_room.1;
+    }

@@ -16,6 +16,18 @@ abbrev pub lines : List ℕ → List (List ℕ)
 lines [] = []
 lines (b ∷ bs) = if b == 0x0A then [] ∷ lines bs else before_first_line b (lines bs)
 
+-- ---- runs of bytes
+
+-- the bytes at the front that pass a test
+abbrev pub run_of : (ℕ → Bool) → List ℕ → List ℕ
+run_of test [] = []
+run_of test (b ∷ bs) = if test b then b ∷ run_of test bs else []
+
+-- what follows the bytes at the front that pass a test
+abbrev pub behind_run : (ℕ → Bool) → List ℕ → List ℕ
+behind_run test [] = []
+behind_run test (b ∷ bs) = if test b then behind_run test bs else b ∷ bs
+
 -- ---- blanks
 
 -- a blank is a space or a tab
@@ -24,8 +36,7 @@ is_blank b = b == 0x20 || b == 0x09
 
 -- what follows the blanks at the front
 abbrev pub past_blanks : List ℕ → List ℕ
-past_blanks [] = []
-past_blanks (b ∷ bs) = if is_blank b then past_blanks bs else b ∷ bs
+past_blanks bs = behind_run is_blank bs
 
 -- past its blanks, a line says nothing if it ends there, but for a carriage return, or if `#` stands there
 abbrev pub says_nothing : List ℕ → Bool
@@ -35,15 +46,17 @@ says_nothing (b ∷ c ∷ more) = b == 0x23
 
 -- ---- numbers
 
+-- a byte is a digit of a radix, where letters of either case stand for 10 to 35
+abbrev pub is_digit : ℕ → ℕ → Bool
+is_digit radix b = nat_lt (digit_value b) radix
+
 -- the digits of a radix at the front
 abbrev pub digits_at : ℕ → List ℕ → List ℕ
-digits_at radix [] = []
-digits_at radix (b ∷ bs) = if nat_lt (digit_value b) radix then b ∷ digits_at radix bs else []
+digits_at radix bs = run_of (is_digit radix) bs
 
 -- what follows the digits of a radix at the front
 abbrev pub past_digits : ℕ → List ℕ → List ℕ
-past_digits radix [] = []
-past_digits radix (b ∷ bs) = if nat_lt (digit_value b) radix then past_digits radix bs else b ∷ bs
+past_digits radix bs = behind_run (is_digit radix) bs
 
 -- the number that digits write behind others that write n
 abbrev pub number_behind : ℕ → ℕ → List ℕ → ℕ

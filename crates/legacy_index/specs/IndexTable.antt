@@ -1,5 +1,5 @@
 -- What the lines of an index file of the WHATWG Encoding Standard ("Indexes") give: the first malformed line, or the table.
-use Rattle.std.specs.Prelude.{◌≡◌, ℕ, ◌+◌, ◌<◌, ◌≤◌, Bool, true, false, ◌&&◌, List, [], ◌∷◌, Option, Some, None, nat_le, nat_lt, ◌==◌, if◌then◌else◌, length, max, slice_index}
+use Rattle.std.specs.Prelude.{◌≡◌, ℕ, ◌+◌, ◌<◌, ◌≤◌, Bool, false, ◌&&◌, List, [], ◌∷◌, Option, Some, None, nat_le, nat_lt, ◌==◌, if◌then◌else◌, length, max, slice_index}
 use Rattle.std.specs.Option.{option_or, unwrap_or}
 use Rattle.legacy_index.specs.declared.index_line.LineKind.{LineKind}
 use Rattle.legacy_index.specs.declared.index_line.LineKind.TheVariants.{Skipped, Entry, Malformed}

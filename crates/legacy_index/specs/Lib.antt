@@ -1,2 +1,3 @@
+pub mod IndexGrammar
 pub mod IndexLine
 pub mod IndexTable

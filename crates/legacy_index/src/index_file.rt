@@ -1,12 +1,12 @@
 //! The reader of an index file.
-ghost use Rattle.std.specs.Prelude.{◌≡◌, ℕ, ◌↔◌, Some, None, Err, IfOk};
-ghost use Rattle.legacy_index.specs.IndexLine.{lines};
+ghost use Rattle.std.specs.Prelude.{◌≡◌, ℕ, ◌↔◌, List, Some, None, Err, IfOk};
+ghost use Rattle.legacy_index.specs.IndexLine.{lines, line_kind};
+ghost use Rattle.legacy_index.specs.IndexGrammar.{IsOfKind};
 ghost use Rattle.legacy_index.specs.IndexTable.{first_malformed, entries_of, IsTableOf};
 
+use crate::index_table::{check_lines, read_narrow, read_ranges, read_single_byte, read_wide};
 use std::alloc::Global;
 use thiserror::Error;
-
-use crate::index_table::{check_lines, read_narrow, read_ranges, read_single_byte, read_wide};
 
 /// An index of the WHATWG Encoding Standard ("Indexes") that a file can hold.
 #[derive(Clone, Copy, Debug, PartialEq, Eq)]
@@ -63,9 +63,11 @@ pub enum IndexFileError {
 ///
 /// The answer is the table that the lines give: a pointer that stands twice takes its later value. The
 /// first line that is not so is answered as `Line`, and only where there is none, `Memory` can be.
+#[tactic(auto, using(crate::proofs::Grammar::kind_by_grammar))]
 pub fn read_index(alloc: Global, name: FileIndex, text: &[u8]) -> Result<FileTable, IndexFileError>
     ensures table { IfOk result (λ table. IsTableOf name (entries_of name (lines text.now)) table) }
     ensures line { (n : ℕ) → (result ≡ Err (IndexFileError.Line n)) ↔ (first_malformed name 1 (lines text.now) ≡ Some n) }
+    ensures grammar { (line : List ℕ) → IsOfKind line (line_kind line) }
 {
     let length = match check_lines(name, text) {
         Ok(length) => length,

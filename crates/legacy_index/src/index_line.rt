@@ -6,7 +6,7 @@ ghost use Rattle.legacy_index.specs.IndexLine.{lines, is_blank, past_blanks, say
 /// What a line of an index file says.
 #[derive(Clone, Copy, Debug, PartialEq, Eq)]
 pub(crate) enum LineKind {
-    /// Blanks alone or a comment.
+    /// Nothing: blanks alone, a comment, or the ranges' line of the supplementary planes.
     Skipped,
     /// A pointer and its value.
     Entry(u32, u32),
@@ -103,7 +103,11 @@ fn parse_number(bytes: &[u8], radix: u32) -> Option<(u32, &[u8])>
         count += 1;
         rest = behind;
     }
-    if count == 0 { None } else { Some((value, rest)) }
+    if count == 0 {
+        None
+    } else {
+        Some((value, rest))
+    }
 }
 
 /// What follows the blanks at the front of `bytes`.

@@ -4,10 +4,9 @@ ghost use Rattle.std.specs.Option.{unwrap_or};
 ghost use Rattle.legacy_index.specs.IndexLine.{lines, line_kind};
 ghost use Rattle.legacy_index.specs.IndexTable.{greatest_length, greatest_value, is_left_out, kind_within, says, first_malformed, entries_of, table_length, last_value, HasValues, IsIndexOf, IsInRange};
 
-use std::alloc::{AllocError, Global};
-
 use crate::index_file::FileIndex;
 use crate::index_line::{LineKind, parse_line, split_line};
+use std::alloc::{AllocError, Global};
 
 /// The first malformed line's number, or the length of the table that the lines give.
 pub(crate) fn check_lines(name: FileIndex, text: &[u8]) -> Result<usize, usize>
@@ -32,7 +31,12 @@ pub(crate) fn check_lines(name: FileIndex, text: &[u8]) -> Result<usize, usize>
 }
 
 /// The table of index Big5, whose text has no malformed line.
-pub(crate) fn read_wide(alloc: Global, name: FileIndex, length: usize, text: &[u8]) -> Result<Vec<u32>, AllocError>
+pub(crate) fn read_wide(
+    alloc: Global,
+    name: FileIndex,
+    length: usize,
+    text: &[u8],
+) -> Result<Vec<u32>, AllocError>
     requires len { length ≡ table_length (entries_of name (lines text.now)) }
     ensures { IfOk result (λ v. IsIndexOf (entries_of name (lines text.now)) v.items) }
 {
@@ -42,7 +46,12 @@ pub(crate) fn read_wide(alloc: Global, name: FileIndex, length: usize, text: &[u
 }
 
 /// The table of another index by pointer, whose text has no malformed line.
-pub(crate) fn read_narrow(alloc: Global, name: FileIndex, length: usize, text: &[u8]) -> Result<Vec<u16>, AllocError>
+pub(crate) fn read_narrow(
+    alloc: Global,
+    name: FileIndex,
+    length: usize,
+    text: &[u8],
+) -> Result<Vec<u16>, AllocError>
     requires narrow { greatest_value name ≡ 0xFFFF }
     requires len { length ≡ table_length (entries_of name (lines text.now)) }
     ensures { IfOk result (λ v. IsIndexOf (entries_of name (lines text.now)) v.items) }

@@ -6,3 +6,6 @@ mod index_line;
 mod index_table;
 
 pub use index_file::{FileIndex, FileTable, IndexFileError, read_index};
+
+#[cfg(test)]
+mod tests;

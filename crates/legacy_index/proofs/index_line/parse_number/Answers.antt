@@ -19,8 +19,9 @@ taken c = takes_digit c.args.radix c.loop-first.value c.in-Some-to_digit.digit c
 
 pub loop-first-preserved : goal.loop-first-preserved
 loop-first-preserved c = let step = taken c in record {
-    few = omega arith;
-    small = small_enough c;
-    count = omega (arith, step.counted, c.loop-first.invariant.count);
-    value = sym step.number ∙ c.loop-first.invariant.value;
-    behind = sym step.past ∙ c.loop-first.invariant.behind }
+  few = omega arith;
+  small = small_enough c;
+  count = omega (arith, step.counted, c.loop-first.invariant.count);
+  value = sym step.number ∙ c.loop-first.invariant.value;
+  behind = sym step.past ∙ c.loop-first.invariant.behind;
+}

@@ -1,4 +1,4 @@
-use Rattle.std.proofs.Common.{◌∙◌, arith, length-set}
+use Rattle.std.proofs.Common.{◌∙◌, length-set}
 use Rattle.legacy_index.proofs.Tables.{FillsLine, fills_line}
 use Rattle.legacy_index.proofs.index_table.fill_wide.Goals as goal
 
@@ -8,5 +8,6 @@ filled c = fills_line c.args.name c.split_line.result.0.now c.loop-rest.rest.now
 
 pub loop-rest-preserved-in-Entry : goal.loop-rest-preserved-in-Entry
 loop-rest-preserved-in-Entry c = let step = filled c in record {
-    room = rw length-set step.room;
-    at_each = λ p within. step.at_each p ∙ c.loop-rest.invariant.at_each p (rw length-set at within) }
+  room = rw length-set step.room;
+  at_each = λ p within. step.at_each p ∙ c.loop-rest.invariant.at_each p (rw length-set at within);
+}
