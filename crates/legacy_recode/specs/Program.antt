@@ -1,6 +1,6 @@
 -- What the program does.
-use Rattle.std.specs.Prelude.{◌≡◌, ℕ, List, [], drop, Option, Some}
-use Rattle.legacy_base.specs.Grammar.{Grammar, user_defined}
+use Rattle.std.specs.Prelude.{◌≡◌, ℕ, List, [], drop, true, false, Option, Some}
+use Rattle.legacy_base.specs.Grammar.{Grammar, user_defined, replacement, single_byte, utf16, big5, euc_kr, shift_jis}
 use Rattle.legacy_base.specs.States.{DecoderState}
 use Rattle.legacy_base.specs.Indexes.{FlatIndexes}
 use Rattle.legacy_base.specs.AcceptedTables.{flat_lists}
@@ -17,7 +17,14 @@ use Rattle.legacy_recode.specs.Recoding.{RecodesAll}
 
 -- the grammar of a codec, over indexes and the entries of a single-byte table
 abbrev pub grammar_of : Codec → FlatIndexes → List ℕ → Grammar
-grammar_of codec.UserDefined flat single_byte = user_defined
+grammar_of codec.UserDefined flat entries = user_defined
+grammar_of codec.Replacement flat entries = replacement false
+grammar_of codec.SingleByte flat entries = single_byte entries
+grammar_of codec.Utf16Le flat entries = utf16 false
+grammar_of codec.Utf16Be flat entries = utf16 true
+grammar_of codec.Big5 flat entries = big5 flat.big5
+grammar_of codec.EucKr flat entries = euc_kr flat.euc_kr
+grammar_of codec.ShiftJis flat entries = shift_jis flat.jis0208
 
 -- The input was read to its end, and the lines of all its events were written, from a decoder of the grammar that has just
 -- been made.

@@ -19,6 +19,13 @@ meaning (entry ∷ entries) word = if bytes_eq word entry.0 then Some entry.1 el
 abbrev pub codec_named : List ℕ → Option Codec
 codec_named = meaning (
     (codes "x-user-defined", codec.UserDefined)
+    ∷ (codes "replacement", codec.Replacement)
+    ∷ (codes "single-byte", codec.SingleByte)
+    ∷ (codes "utf-16le", codec.Utf16Le)
+    ∷ (codes "utf-16be", codec.Utf16Be)
+    ∷ (codes "big5", codec.Big5)
+    ∷ (codes "euc-kr", codec.EucKr)
+    ∷ (codes "shift_jis", codec.ShiftJis)
     ∷ [])
 
 -- the index that a word names

@@ -10,7 +10,10 @@ use crate::index_tables::{IndexTables, read_files};
 use crate::recode::{RecodeError, recode};
 use crate::words::{Codec, codec_in};
 use legacy_base::{Indexes, RawDecoder, SingleByteTable, TableError, Tables};
-use legacy_decoders::UserDefinedDecoder;
+use legacy_decoders::{
+    Big5Decoder, EucKrDecoder, ReplacementDecoder, ShiftJisDecoder, SingleByteDecoder, UserDefinedDecoder,
+    Utf16Decoder,
+};
 use std::alloc::Global;
 use std::io::{Read, Write};
 use thiserror::Error;
@@ -60,6 +63,13 @@ fn recode_by<R: Read, W: Write>(
 {
     match codec {
         Codec::UserDefined => recode_from(UserDefinedDecoder::new(), input, output),
+        Codec::Replacement => recode_from(ReplacementDecoder::new(), input, output),
+        Codec::SingleByte => recode_from(SingleByteDecoder::new(single_byte), input, output),
+        Codec::Utf16Le => recode_from(Utf16Decoder::new(false), input, output),
+        Codec::Utf16Be => recode_from(Utf16Decoder::new(true), input, output),
+        Codec::Big5 => recode_from(Big5Decoder::new(tables), input, output),
+        Codec::EucKr => recode_from(EucKrDecoder::new(tables), input, output),
+        Codec::ShiftJis => recode_from(ShiftJisDecoder::new(tables), input, output),
     }
 }
 

@@ -7,8 +7,22 @@ use legacy_index::FileIndex;
 /// A codec that the program knows by a word.
 #[derive(Clone, Copy, Debug, PartialEq, Eq)]
 pub enum Codec {
-    /// x-user-defined
+    /// `x-user-defined`
     UserDefined,
+    /// `replacement`
+    Replacement,
+    /// `single-byte`
+    SingleByte,
+    /// `utf-16le`
+    Utf16Le,
+    /// `utf-16be`
+    Utf16Be,
+    /// `big5`
+    Big5,
+    /// `euc-kr`
+    EucKr,
+    /// `shift_jis`
+    ShiftJis,
 }
 
 /// The codec that a word names.
@@ -17,6 +31,13 @@ fn codec_of(word: &str) -> Option<Codec>
 {
     match word {
         "x-user-defined" => Some(Codec::UserDefined),
+        "replacement" => Some(Codec::Replacement),
+        "single-byte" => Some(Codec::SingleByte),
+        "utf-16le" => Some(Codec::Utf16Le),
+        "utf-16be" => Some(Codec::Utf16Be),
+        "big5" => Some(Codec::Big5),
+        "euc-kr" => Some(Codec::EucKr),
+        "shift_jis" => Some(Codec::ShiftJis),
         _ => None,
     }
 }
