@@ -2,21 +2,21 @@
 use Rattle.std.proofs.Common.{◌≡◌, ℕ, ◌+◌, ◌-◌, take, drop, ◌≤◌, ◌<◌, List, [], ◌∷◌, length, refl, arith, Bool, true, false, Option, Some, None, replicate, sym, ap, subst, if◌then◌else◌}
 use Rattle.std.proofs.lemmas.List.{get_or-replicate, length-replicate}
 use Rattle.std.specs.Borrow.{Bor}
-use Rattle.legacy_index.specs.declared.index_file.FileIndex.{FileIndex}
-use Rattle.legacy_index.specs.IndexTable.{IsIndexOf, HasValues}
-use Rattle.legacy_recode.specs.declared.index_tables.IndexTables.{IndexTables}
+use Rattle.legacy_recode.specs.declared.index_file.FileIndex.{FileIndex}
+use Rattle.legacy_recode.specs.IndexTable.{IsIndexOf, HasValues}
+use Rattle.legacy_recode.specs.declared.given_indexes.GivenIndexes.{GivenIndexes}
 use Rattle.legacy_recode.specs.Words.{texts_of, first_index_named}
 use Rattle.legacy_recode.specs.IndexTexts.{is_index, no_text, with_text, text_given, contents_of}
-use Rattle.legacy_recode.specs.IndexTables.{HoldsTexts}
+use Rattle.legacy_recode.specs.GivenIndexes.{HoldsTexts}
 
 -- no INDEX and FILE
-pub few_words : (tables : IndexTables) (words : List (Bor (List ℕ))) (files : List (Option (Bor (List ℕ)))) → length words < 2 → HoldsTexts no_text tables → HoldsTexts (text_given (texts_of words) (contents_of files)) tables
+pub few_words : (tables : GivenIndexes) (words : List (Bor (List ℕ))) (files : List (Option (Bor (List ℕ)))) → length words < 2 → HoldsTexts no_text tables → HoldsTexts (text_given (texts_of words) (contents_of files)) tables
 few_words tables [] files h k = k
 few_words tables (w ∷ []) files h k = k
 few_words tables (v ∷ w ∷ words) files h k = absurd (omega arith)
 
 -- one more INDEX and FILE in front
-pub one_more_file : (tables : IndexTables) (words : List (Bor (List ℕ))) (name : FileIndex) (text : Bor (List ℕ)) (later files : List (Option (Bor (List ℕ)))) →
+pub one_more_file : (tables : GivenIndexes) (words : List (Bor (List ℕ))) (name : FileIndex) (text : Bor (List ℕ)) (later files : List (Option (Bor (List ℕ)))) →
     2 ≤ length words → first_index_named (texts_of words) ≡ Some name → files ≡ Some text ∷ later →
     HoldsTexts (with_text (text_given (texts_of (drop 2 words)) (contents_of later)) name text.now) tables → HoldsTexts (text_given (texts_of words) (contents_of files)) tables
 one_more_file tables [] name text later files h n f k = absurd (omega arith)

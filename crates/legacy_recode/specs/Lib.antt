@@ -2,7 +2,10 @@
 pub mod Lines
 pub mod LineBuffers
 pub mod Recoding
+pub mod IndexGrammar
+pub mod IndexLine
+pub mod IndexTable
 pub mod Words
 pub mod IndexTexts
-pub mod IndexTables
+pub mod GivenIndexes
 pub mod Program

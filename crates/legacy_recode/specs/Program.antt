@@ -8,11 +8,11 @@ use Rattle.legacy_base.specs.TableChecks.{AreAccepted, IsAcceptedTable}
 use Rattle.legacy_decoders.specs.Decoders.{new_state}
 use Rattle.legacy_recode.specs.declared.words.Codec.{Codec}
 use Rattle.legacy_recode.specs.declared.words.Codec.TheVariants as codec
-use Rattle.legacy_index.specs.declared.index_file.FileIndex.{FileIndex}
-use Rattle.legacy_recode.specs.declared.index_tables.IndexTables.{IndexTables}
+use Rattle.legacy_recode.specs.declared.index_file.FileIndex.{FileIndex}
+use Rattle.legacy_recode.specs.declared.given_indexes.GivenIndexes.{GivenIndexes}
 use Rattle.legacy_recode.specs.Words.{codec_of_words}
 use Rattle.legacy_recode.specs.IndexTexts.{text_given}
-use Rattle.legacy_recode.specs.IndexTables.{HoldsTexts}
+use Rattle.legacy_recode.specs.GivenIndexes.{HoldsTexts}
 use Rattle.legacy_recode.specs.Recoding.{RecodesAll}
 
 -- the grammar of a codec, over indexes and the entries of a single-byte table
@@ -33,19 +33,19 @@ RecodesInput grammar input_old input_new output_old output_new =
     (after : DecoderState) × RecodesAll (new_state grammar) after input_old input_new output_old output_new
 
 -- the flat lists of indexes; there is no file of the katakana index
-abbrev pub flat_of : IndexTables → FlatIndexes
+abbrev pub flat_of : GivenIndexes → FlatIndexes
 flat_of tables =
     flat_lists tables.big5.items tables.euc_kr.items tables.jis0208.items tables.jis0212.items tables.gb18030.items [] tables.ranges.items
 
 -- All indexes passed the check, those too that the codec does not use, and the input was recoded by the codec over them.
-abbrev pub RecodesByTables : Codec → IndexTables → Option (List ℕ) → Option (List ℕ) → Option (List ℕ) → Option (List ℕ) → Type 0
+abbrev pub RecodesByTables : Codec → GivenIndexes → Option (List ℕ) → Option (List ℕ) → Option (List ℕ) → Option (List ℕ) → Type 0
 RecodesByTables codec tables input_old input_new output_old output_new =
     AreAccepted (flat_of tables) × IsAcceptedTable tables.single_byte
     × RecodesInput (grammar_of codec (flat_of tables) tables.single_byte) input_old input_new output_old output_new
 
 -- The same over the indexes of these texts.
 pub record RecodesByTexts (codec : Codec) (texts : FileIndex → List ℕ) (input_old input_new output_old output_new : Option (List ℕ)) : Type 0 where
-  pub tables : IndexTables
+  pub tables : GivenIndexes
   pub holds : HoldsTexts texts tables
   pub recodes : RecodesByTables codec tables input_old input_new output_old output_new
 

@@ -2,7 +2,10 @@
 //! prints a line for each scalar and each malformed sequence.
 #![tactic(auto)]
 
-mod index_tables;
+mod given_indexes;
+pub mod index_file;
+mod index_line;
+mod index_table;
 mod lines;
 pub mod program;
 pub mod recode;

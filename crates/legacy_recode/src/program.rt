@@ -6,7 +6,7 @@ ghost use Rattle.legacy_recode.specs.Words.{texts_of, are_indexes, codec_of_word
 ghost use Rattle.legacy_recode.specs.IndexTexts.{contents_of, text_given};
 ghost use Rattle.legacy_recode.specs.Program.{grammar_of, RecodesInput, RecodesByTables, RecodesByTexts, RecodesByWords};
 
-use crate::index_tables::{IndexTables, read_files};
+use crate::given_indexes::{GivenIndexes, read_files};
 use crate::recode::{RecodeError, recode};
 use crate::words::{Codec, codec_in};
 use legacy_base::{Indexes, RawDecoder, SingleByteTable, TableError, Tables};
@@ -96,7 +96,7 @@ fn recode_and_flush<R: Read, W: Write>(
 /// Checks the indexes, and recodes the input by the codec.
 fn recode_with<'a, R: Read, W: Write>(
     codec: Codec,
-    indexes: &IndexTables,
+    indexes: &GivenIndexes,
     input: &mut R,
     output: &mut W,
 ) -> Result<(), Fault<'a>>

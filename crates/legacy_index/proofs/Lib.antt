@@ -1,4 +1,0 @@
-pub mod Grammar
-pub mod Lines
-pub mod Numbers
-pub mod Tables

@@ -1,3 +1,0 @@
-pub mod IndexGrammar
-pub mod IndexLine
-pub mod IndexTable
