@@ -6,6 +6,7 @@ mod big5;
 mod drive;
 mod euc_kr;
 mod held;
+mod iso_2022_jp;
 mod machine;
 mod shift_jis;
 mod two_byte;
@@ -19,6 +20,7 @@ pub use euc_kr::EucKrDecoder;
 pub use shift_jis::ShiftJisDecoder;
 pub use replacement::ReplacementDecoder;
 pub use single_byte::SingleByteDecoder;
+pub use iso_2022_jp::Iso2022JpDecoder;
 pub use user_defined::UserDefinedDecoder;
 pub use utf16::Utf16Decoder;
 

@@ -1,7 +1,7 @@
 use Rattle.std.proofs.Common.{◌≡◌, ◌<◌, ◌^◌, ◌-◌, ◌∙◌, Some, arith, sym, ap}
 use Rattle.legacy_base.specs.Indexes.{idx}
 use Rattle.legacy_decoders.proofs.SingleByteRuns.{front_runs}
-use Rattle.legacy_decoders.proofs.single_byte.SingleByteDecoderMachine.front.Goals as goal
+use Rattle.legacy_decoders.proofs.single_byte.SingleByteDecoderCommonForms.front.Goals as goal
 
 pub returns-in-Some : goal.returns-in-Some
 returns-in-Some c =
