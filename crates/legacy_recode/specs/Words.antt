@@ -26,6 +26,7 @@ codec_named = meaning (
     ∷ (codes "big5", codec.Big5)
     ∷ (codes "euc-kr", codec.EucKr)
     ∷ (codes "shift_jis", codec.ShiftJis)
+    ∷ (codes "iso-2022-jp", codec.Iso2022Jp)
     ∷ [])
 
 -- the index that a word names

@@ -23,6 +23,8 @@ pub enum Codec {
     EucKr,
     /// `shift_jis`
     ShiftJis,
+    /// `iso-2022-jp`
+    Iso2022Jp,
 }
 
 /// The codec that a word names.
@@ -38,6 +40,7 @@ fn codec_of(word: &str) -> Option<Codec>
         "big5" => Some(Codec::Big5),
         "euc-kr" => Some(Codec::EucKr),
         "shift_jis" => Some(Codec::ShiftJis),
+        "iso-2022-jp" => Some(Codec::Iso2022Jp),
         _ => None,
     }
 }
