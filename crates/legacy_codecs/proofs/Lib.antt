@@ -2,3 +2,5 @@
 pub mod Kept
 pub mod Runs
 pub mod Running
+pub mod Filling
+pub mod Finishing

@@ -92,7 +92,7 @@ Reaches-finished {form = form} {from = from} (called calls events passed p r fre
     ∙ ap (events_of after.grammar) (sym (place_behind-ahead p after answer read (λ q. (c.input_empty q).0)) ∙ rest)
     ∙ done.2 w.1
 
-place_before-ahead : (s : DecoderState) (pieces : List (List ℕ)) → events_of (place_before s pieces).state.grammar (ahead (place_before s pieces)) ≡ events_of s.grammar (s.held ++ all_bytes pieces)
+pub place_before-ahead : (s : DecoderState) (pieces : List (List ℕ)) → events_of (place_before s pieces).state.grammar (ahead (place_before s pieces)) ≡ events_of s.grammar (s.held ++ all_bytes pieces)
 place_before-ahead s [] = refl
 place_before-ahead s (p ∷ ps) = refl
 

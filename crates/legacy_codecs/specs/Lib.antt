@@ -2,3 +2,4 @@
 pub mod Scalars
 pub mod Pieces
 pub mod Runs
+pub mod Filling

@@ -1,10 +1,10 @@
 -- Runs of a decoder: its calls over an input in pieces, with outputs of given lengths.
-use Rattle.std.specs.Prelude.{◌≡◌, ℕ, ◌+◌, ◌-◌, ◌≤◌, ◌^◌, List, [], ◌∷◌, ◌++◌, length, drop, slice_get, slice_index_or, sum, sum_by, ◌⊎◌, Bool, true, false, Some}
+use Rattle.std.specs.Prelude.{◌≡◌, ℕ, ◌+◌, ◌-◌, ◌≤◌, ◌^◌, List, [], ◌∷◌, ◌++◌, length, drop, slice_get, sum, sum_by, ◌⊎◌, Bool, true, false, Some, All}
 use Rattle.legacy_base.specs.declared.results.DecodeEvent.{DecodeEvent}
 use Rattle.legacy_base.specs.declared.results.DecodeEvent.TheVariants.{Scalar, Bad}
 use Rattle.legacy_base.specs.declared.results.DecoderResult.{DecoderResult}
 use Rattle.legacy_base.specs.declared.results.DecoderResult.TheVariants.{InputEmpty, OutputFull, Malformed}
-use Rattle.legacy_base.specs.EncodingForm.{EncodingForm}
+use Rattle.legacy_base.specs.EncodingForm.{EncodingForm, wide_room}
 use Rattle.legacy_base.specs.Events.{shift}
 use Rattle.legacy_base.specs.Grammar.{events_of}
 use Rattle.legacy_base.specs.States.{DecoderState}
@@ -85,6 +85,16 @@ pub record IsBeginning (before : DecoderState) (pieces : List (List ℕ)) (finis
   pub rest : List DecodeEvent
   pub whole : placed (length before.held) (events_of before.grammar (before.held ++ all_bytes pieces)) ≡ answered ++ rest
   pub all : finished ≡ true → rest ≡ []
+
+-- how many pieces there are; no pieces count as one empty piece
+abbrev pub piece_count : List (List ℕ) → ℕ
+piece_count [] = 1
+piece_count (p ∷ ps) = length (p ∷ ps)
+
+-- Each output has room for any scalar, and there are as many as the whole input has events and pieces together, or more.
+pub record HasAmpleLengths (form : EncodingForm) (before : DecoderState) (pieces : List (List ℕ)) (lengths : List ℕ) : Type 0 where
+  pub wide : All (λ n. wide_room form ≤ n) lengths
+  pub many : length (events_of before.grammar (before.held ++ all_bytes pieces)) + piece_count pieces ≤ length lengths
 
 -- the sums that have to be lengths of the type `usize`: of the pieces' lengths, and of the outputs' with their number
 abbrev pub IsTooLong : List (List ℕ) → List ℕ → Type 0

@@ -1,10 +1,10 @@
 //! Runs of a decoder over an input in pieces, with outputs of given lengths.
-ghost use Rattle.std.specs.Prelude.{◌≡◌, ◌↔◌, ℕ, ◌+◌, ◌-◌, ◌^◌, ◌<◌, ◌≤◌, List, [], ◌∷◌, ◌++◌, length, drop, sum, sum_by, map, vec_len, vec_capacity, slice_index_or, All, IfOk, OnErr, SomeIff};
+ghost use Rattle.std.specs.Prelude.{◌≡◌, ◌↔◌, ℕ, ◌+◌, ◌-◌, ◌^◌, ◌<◌, ◌≤◌, List, [], ◌∷◌, ◌++◌, length, drop, sum, sum_by, map, vec_len, vec_capacity, slice_index_or, All, IfOk, OnErr, SomeIff, IsTrue};
 ghost use Rattle.legacy_base.specs.declared.results.DecodeEvent.TheVariants.{Scalar};
 ghost use Rattle.legacy_base.specs.EncodingForm.{EncodingForm, Utf8, Utf16};
 ghost use Rattle.legacy_base.specs.Calls.{DecoderCall};
 ghost use Rattle.legacy_codecs.specs.Pieces.{contents_of};
-ghost use Rattle.legacy_codecs.specs.Runs.{is_none, place_before, IsRun, IsBeginning, IsTooLong};
+ghost use Rattle.legacy_codecs.specs.Runs.{is_none, place_before, IsRun, IsBeginning, HasAmpleLengths, IsTooLong};
 
 use crate::scalars::{OutputForm, ScalarBuffer, Utf8Form, Utf16Form};
 use legacy_base::{DecodeEvent, DecoderResult, RawDecoder};
@@ -228,8 +228,12 @@ fn decode_run<D: RawDecoder, F: OutputForm>(
 ///
 /// The events are a beginning of those that the decoder's grammar gives the bytes that it held back and
 /// all pieces, and all of them where the run is finished. The decoder goes on from where the run ended.
+/// The run is sure to be finished where each length is at least 4, and there are as many as the whole
+/// input has events and pieces together, or more.
 ///
-/// After an `Err` the decoder is unchanged.
+/// `TooLong` is answered exactly where the pieces' lengths together, or `lengths` and their number
+/// together, are above `usize::MAX`, and `Memory` where memory was refused. After either of them no call
+/// was made and the decoder is unchanged.
 pub fn decode_run_utf8<D: RawDecoder>(
     alloc: Global,
     decoder: &mut D,
@@ -243,6 +247,10 @@ pub fn decode_run_utf8<D: RawDecoder>(
     // Its events are a beginning of those of all pieces, and all of them where it is finished.
     ensures beginning { IfOk result (λ run. IsBeginning (D.state decoder.old) (contents_of pieces.now)
         run.finished run.events.items) }
+
+    // It is finished where there are outputs enough, each with room for any scalar.
+    ensures finishes { IfOk result (λ run. HasAmpleLengths Utf8 (D.state decoder.old) (contents_of pieces.now) lengths.now
+        → IsTrue run.finished) }
     ensures too_long { (result ≡ Err RunError.TooLong) ↔ IsTooLong (contents_of pieces.now) lengths.now }
     ensures unchanged { OnErr result (decoder.new ≡ decoder.old) }
 {
@@ -251,7 +259,8 @@ pub fn decode_run_utf8<D: RawDecoder>(
 
 /// Decodes an input in pieces by calls with outputs of UTF-16, and answers what was found in it.
 ///
-/// It is as `decode_run_utf8`, but `lengths` count UTF-16 code units.
+/// It is as `decode_run_utf8`, but `lengths` count UTF-16 code units, of which a scalar has at most 2: the
+/// run is sure to be finished where each length is at least 2, and there are enough of them.
 pub fn decode_run_utf16<D: RawDecoder>(
     alloc: Global,
     decoder: &mut D,
@@ -262,6 +271,8 @@ pub fn decode_run_utf16<D: RawDecoder>(
         run.calls run.finished run.events.items (D.state decoder.new)) }
     ensures beginning { IfOk result (λ run. IsBeginning (D.state decoder.old) (contents_of pieces.now)
         run.finished run.events.items) }
+    ensures finishes { IfOk result (λ run. HasAmpleLengths Utf16 (D.state decoder.old) (contents_of pieces.now) lengths.now
+        → IsTrue run.finished) }
     ensures too_long { (result ≡ Err RunError.TooLong) ↔ IsTooLong (contents_of pieces.now) lengths.now }
     ensures unchanged { OnErr result (decoder.new ≡ decoder.old) }
 {

@@ -8,19 +8,19 @@ mod euc_kr;
 mod held;
 mod iso_2022_jp;
 mod machine;
-mod shift_jis;
-mod two_byte;
 mod replacement;
+mod shift_jis;
 mod single_byte;
+mod two_byte;
 mod user_defined;
 mod utf16;
 
 pub use big5::Big5Decoder;
 pub use euc_kr::EucKrDecoder;
-pub use shift_jis::ShiftJisDecoder;
-pub use replacement::ReplacementDecoder;
-pub use single_byte::SingleByteDecoder;
 pub use iso_2022_jp::Iso2022JpDecoder;
+pub use replacement::ReplacementDecoder;
+pub use shift_jis::ShiftJisDecoder;
+pub use single_byte::SingleByteDecoder;
 pub use user_defined::UserDefinedDecoder;
 pub use utf16::Utf16Decoder;
 
