@@ -1,6 +1,8 @@
+use crate::DecodeEvent::{Bad, Scalar};
 use crate::{
-    DecodeEvent, DecodeRun, DecoderResult, Destination, RawDecoder, RunError, ScalarBuffer,
-    UserDefinedDecoder, Utf8Form, Utf16Form, decode_run_utf8, decode_run_utf16,
+    Big5Decoder, DecodeEvent, DecodeRun, DecoderResult, Destination, Gb18030Decoder, Indexes,
+    RawDecoder, RunError, ScalarBuffer, Tables, UserDefinedDecoder, Utf8Form, Utf16Decoder,
+    Utf16Form, decode_run_utf8, decode_run_utf16,
 };
 use std::test::Fail;
 
@@ -130,4 +132,93 @@ fn a_buffer_of_scalars_counts_their_code_units(rt: HostRuntime) {
     assert_eq!(rt; buffer.written(), 3);
     assert_eq!(rt; buffer.free(), 1);
     assert!(rt; buffer.scalars() == ['\u{61}', '\u{F780}', '\u{F780}'].as_slice());
+}
+
+/// Indexes without an entry.
+fn no_entries<'a>() -> Indexes<'a> {
+    Indexes {
+        big5: &[],
+        euc_kr: &[],
+        jis0208: &[],
+        jis0212: &[],
+        gb18030: &[],
+        katakana: &[],
+        ranges: &[],
+    }
+}
+
+#[test]
+fn a_lone_high_surrogate_at_a_pieces_end_is_reported_with_its_place(
+    rt: HostRuntime,
+) -> Result<(), Fail> {
+    let mut decoder = Utf16Decoder::new(false);
+    let pieces: [&[u8]; 2] = [b"\x41\x00\x3D\xD8", b"\x42\x00"];
+    let run = decode_run_utf16(rt.alloc(), &mut decoder, &pieces, &[8, 8, 8])?;
+    let expected = [
+        Scalar('A'),
+        Bad {
+            place: 2,
+            length: 2,
+        },
+        Scalar('B'),
+    ];
+    assert!(rt; run.events.as_slice() == expected.as_slice());
+    assert_eq!(rt; run.calls, 3);
+    assert!(rt; run.finished);
+    Ok(())
+}
+
+#[test]
+fn a_refused_run_leaves_the_held_back_lead(rt: HostRuntime) -> Result<(), Fail> {
+    let indexes = no_entries();
+    let tables = Tables::new(&indexes)?;
+    let mut decoder = Big5Decoder::new(&tables);
+    let mut output = [0u8; 8];
+    let answer = decoder.decode_to_utf8_raw(b"\x88", &mut output, false);
+    assert_eq!(rt; answer, (DecoderResult::InputEmpty, 1, 0));
+    let refused = decode_run_utf8(rt.alloc(), &mut decoder, &[b"\x62"], &[usize::MAX]);
+    assert!(rt; matches!(refused, Err(RunError::TooLong)));
+    let answer = decoder.decode_to_utf8_raw(b"\x62", &mut output, true);
+    assert_eq!(rt; answer, (DecoderResult::InputEmpty, 1, 4));
+    assert!(rt; &output[..4] == "\u{CA}\u{304}".as_bytes());
+    Ok(())
+}
+
+#[test]
+fn broken_four_byte_forms_are_the_same_events_whole_and_in_bytes(
+    rt: HostRuntime,
+) -> Result<(), Fail> {
+    let indexes = no_entries();
+    let tables = Tables::new(&indexes)?;
+    let expected = [
+        Bad {
+            place: 0,
+            length: 1,
+        },
+        Scalar('2'),
+        Bad {
+            place: 2,
+            length: 1,
+        },
+        Scalar('\0'),
+        Bad {
+            place: 4,
+            length: 3,
+        },
+    ];
+    let lengths = [0, 1, 2, 3, 4, 0, 1, 2, 3, 4, 0, 1, 2, 3, 4, 0, 1, 2, 3, 4];
+    let whole: [&[u8]; 1] = [b"\xE3\x32\x9A\x00\x81\x30\x81"];
+    let mut decoder = Gb18030Decoder::new(&tables);
+    let run = decode_run_utf16(rt.alloc(), &mut decoder, &whole, &lengths)?;
+    assert!(rt; run.events.as_slice() == expected.as_slice());
+    assert!(rt; run.finished);
+    let bytes: [&[u8]; 7] = [
+        b"\xE3", b"\x32", b"\x9A", b"\x00", b"\x81", b"\x30", b"\x81",
+    ];
+    let fours = [4; 20];
+    let mut decoder = Gb18030Decoder::new(&tables);
+    let run = decode_run_utf8(rt.alloc(), &mut decoder, &bytes, &fours)?;
+    assert!(rt; run.events.as_slice() == expected.as_slice());
+    assert!(rt; run.finished);
+    Ok(())
 }
