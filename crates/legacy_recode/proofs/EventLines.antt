@@ -1,22 +1,22 @@
 -- Laws of lines.
 use Rattle.std.proofs.Common.{◌≡◌, ◌∙◌, ℕ, ◌+◌, ◌-◌, ◌/◌, ◌%◌, ◌≤◌, ◌<◌, ◌^◌, List, [], ◌∷◌, ◌++◌, length, take, map, get_or, refl, sym, ap, arith, append_assoc, append-nil, length-append, take-suc, add-one, decimal}
-use Rattle.std.proofs.lemmas.Bool.{lt-ltb, le-ltb}
 use Rattle.std.proofs.lemmas.Fmt.{decimal_step, decimal_digit, length-decimal-le}
 use Rattle.legacy_base.specs.declared.results.DecodeEvent.{DecodeEvent}
 use Rattle.legacy_base.specs.declared.results.DecodeEvent.TheVariants.{Scalar, Bad}
-use Rattle.legacy_recode.specs.Lines.{hex_digit, hexadecimal, event_line, event_lines}
+use Rattle.legacy_recode.specs.Lines.{event_line, event_lines}
+use Rattle.legacy_recode.proofs.Hexadecimal.{glyph, last_four, hexadecimal_4, hexadecimal_5, hexadecimal_6}
 
-pub line_of_four : (c : ℕ) → c < 0x1_0000 → event_line (Scalar c) ≡ 85 ∷ 43 ∷ hex_digit (c / 0x1000 % 16) ∷ hex_digit (c / 0x100 % 16) ∷ hex_digit (c / 0x10 % 16) ∷ hex_digit (c % 16) ∷ 10 ∷ []
-unfolding event_line hexadecimal
-line_of_four c h = rw (lt-ltb c 0x1_0000 h) refl
+pub line_of_four : (c : ℕ) → c < 0x1_0000 → event_line (Scalar c) ≡ 85 ∷ 43 ∷ (last_four c ++ 10 ∷ [])
+unfolding event_line
+line_of_four c h = rw (hexadecimal_4 c h) refl
 
-pub line_of_five : (c : ℕ) → 0x1_0000 ≤ c → c < 0x10_0000 → event_line (Scalar c) ≡ 85 ∷ 43 ∷ hex_digit (c / 0x1_0000 % 16) ∷ hex_digit (c / 0x1000 % 16) ∷ hex_digit (c / 0x100 % 16) ∷ hex_digit (c / 0x10 % 16) ∷ hex_digit (c % 16) ∷ 10 ∷ []
-unfolding event_line hexadecimal
-line_of_five c k h = rw (le-ltb c 0x1_0000 k, lt-ltb c 0x10_0000 h) refl
+pub line_of_five : (c : ℕ) → 0x1_0000 ≤ c → c < 0x10_0000 → event_line (Scalar c) ≡ 85 ∷ 43 ∷ glyph (c / 0x1_0000) ∷ (last_four c ++ 10 ∷ [])
+unfolding event_line
+line_of_five c k h = rw (hexadecimal_5 c k h) refl
 
-pub line_of_six : (c : ℕ) → 0x10_0000 ≤ c → event_line (Scalar c) ≡ 85 ∷ 43 ∷ hex_digit (c / 0x10_0000) ∷ hex_digit (c / 0x1_0000 % 16) ∷ hex_digit (c / 0x1000 % 16) ∷ hex_digit (c / 0x100 % 16) ∷ hex_digit (c / 0x10 % 16) ∷ hex_digit (c % 16) ∷ 10 ∷ []
-unfolding event_line hexadecimal
-line_of_six c h = let k : 0x1_0000 ≤ c = omega arith in rw (le-ltb c 0x1_0000 k, le-ltb c 0x10_0000 h) refl
+pub line_of_six : (c : ℕ) → 0x10_0000 ≤ c → c < 0x100_0000 → event_line (Scalar c) ≡ 85 ∷ 43 ∷ glyph (c / 0x10_0000) ∷ glyph (c / 0x1_0000) ∷ (last_four c ++ 10 ∷ [])
+unfolding event_line
+line_of_six c k h = rw (hexadecimal_6 c k h) refl
 
 -- the line of a malformed sequence, part by part
 pub bad_line : (o a b c d e : List ℕ) (place n : ℕ) → a ≡ o ++ 98 ∷ 97 ∷ 100 ∷ 32 ∷ [] → b ≡ a ++ decimal place → c ≡ b ++ 32 ∷ [] → d ≡ c ++ decimal n → e ≡ d ++ 10 ∷ [] → e ≡ o ++ event_line (Bad place n)

@@ -1,4 +1,5 @@
 -- Laws of lines and of recoding.
+pub mod Hexadecimal
 pub mod EventLines
 pub mod PieceUnderWay
 pub mod Whole

@@ -1,6 +1,6 @@
 -- What the program does.
 use Rattle.std.specs.Prelude.{◌≡◌, ℕ, List, [], drop, true, false, Option, Some}
-use Rattle.legacy_base.specs.Grammar.{Grammar, user_defined, replacement, single_byte, utf16, big5, euc_kr, shift_jis, iso_2022_jp}
+use Rattle.legacy_base.specs.Grammar.{Grammar, user_defined, replacement, single_byte, utf16, big5, euc_kr, shift_jis, euc_jp, gb18030, iso_2022_jp}
 use Rattle.legacy_base.specs.Iso2022Jp.{ascii}
 use Rattle.legacy_base.specs.States.{DecoderState}
 use Rattle.legacy_base.specs.Indexes.{FlatIndexes}
@@ -26,6 +26,9 @@ grammar_of codec.Utf16Be flat entries = utf16 true
 grammar_of codec.Big5 flat entries = big5 flat.big5
 grammar_of codec.EucKr flat entries = euc_kr flat.euc_kr
 grammar_of codec.ShiftJis flat entries = shift_jis flat.jis0208
+grammar_of codec.EucJp flat entries = euc_jp flat.jis0208 flat.jis0212
+grammar_of codec.Gb18030 flat entries = gb18030 flat.gb18030 flat.ranges
+grammar_of codec.Gbk flat entries = gb18030 flat.gb18030 flat.ranges
 grammar_of codec.Iso2022Jp flat entries = iso_2022_jp flat.jis0208 ascii
 
 -- The input was read to its end, and the lines of all its events were written, from a decoder of the grammar that has just

@@ -26,6 +26,9 @@ codec_named = meaning (
     ∷ (codes "big5", codec.Big5)
     ∷ (codes "euc-kr", codec.EucKr)
     ∷ (codes "shift_jis", codec.ShiftJis)
+    ∷ (codes "euc-jp", codec.EucJp)
+    ∷ (codes "gb18030", codec.Gb18030)
+    ∷ (codes "gbk", codec.Gbk)
     ∷ (codes "iso-2022-jp", codec.Iso2022Jp)
     ∷ [])
 

@@ -1,6 +1,7 @@
 //! The lines that tell events.
-ghost use Rattle.std.specs.Prelude.{◌≡◌, ℕ, ◌+◌, ◌*◌, ◌-◌, ◌<◌, ◌≤◌, List, [], ◌∷◌, ◌++◌, length, take, map, decimal};
-ghost use Rattle.legacy_recode.specs.Lines.{hex_digit, event_line, event_lines};
+ghost use Rattle.std.specs.Prelude.{◌≡◌, ℕ, ◌+◌, ◌*◌, ◌-◌, ◌<◌, ◌≤◌, List, [], ◌∷◌, ◌++◌, length, take, map, decimal, true};
+ghost use Rattle.std.specs.Fmt.{digit_glyph};
+ghost use Rattle.legacy_recode.specs.Lines.{event_line, event_lines};
 
 use legacy_base::DecodeEvent;
 
@@ -28,7 +29,7 @@ pub struct LineBuffer {
 #[inline]
 fn hex_digit_of(number: u32) -> u8
     requires { number < 16 }
-    ensures { result ≡ hex_digit number }
+    ensures { result ≡ digit_glyph true number }
 {
     if number < 10 {
         b'0' + number as u8
@@ -101,7 +102,7 @@ impl LineBuffer {
         if code < 0x10_0000 {
             return self.push_all(&[b'U', b'+', b, d, e, f, g, b'\n']);
         }
-        let a = hex_digit_of(code / 0x10_0000);
+        let a = hex_digit_of(code / 0x10_0000 % 16);
         self.push_all(&[b'U', b'+', a, b, d, e, f, g, b'\n']);
     }
 

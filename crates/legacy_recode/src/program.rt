@@ -11,8 +11,8 @@ use crate::recode::{RecodeError, recode};
 use crate::words::{Codec, codec_in};
 use legacy_base::{Indexes, RawDecoder, SingleByteTable, TableError, Tables};
 use legacy_decoders::{
-    Big5Decoder, EucKrDecoder, Iso2022JpDecoder, ReplacementDecoder, ShiftJisDecoder, SingleByteDecoder,
-    UserDefinedDecoder, Utf16Decoder,
+    Big5Decoder, EucJpDecoder, EucKrDecoder, Gb18030Decoder, Iso2022JpDecoder, ReplacementDecoder,
+    ShiftJisDecoder, SingleByteDecoder, UserDefinedDecoder, Utf16Decoder,
 };
 use std::alloc::Global;
 use std::io::{Read, Write};
@@ -70,6 +70,8 @@ fn recode_by<R: Read, W: Write>(
         Codec::Big5 => recode_from(Big5Decoder::new(tables), input, output),
         Codec::EucKr => recode_from(EucKrDecoder::new(tables), input, output),
         Codec::ShiftJis => recode_from(ShiftJisDecoder::new(tables), input, output),
+        Codec::EucJp => recode_from(EucJpDecoder::new(tables), input, output),
+        Codec::Gb18030 | Codec::Gbk => recode_from(Gb18030Decoder::new(tables), input, output),
         Codec::Iso2022Jp => recode_from(Iso2022JpDecoder::new(tables), input, output),
     }
 }

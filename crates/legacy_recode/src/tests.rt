@@ -308,6 +308,27 @@ fn reads_every_index(rt: HostRuntime) {
         b"U+0080\nU+FF61\nU+FF9F\nbad 3 1\nU+E000\n",
         b"",
     );
+    let ranges: &[u8] = b"0 0x0080\n36 0x00A5\n189000 0x10000\n";
+    for codec in ["gb18030", "gbk"] {
+        runs(
+            &rt,
+            &[codec, "ranges", "FILE"],
+            &[Some(ranges)],
+            b"\x81\x30\x81\x30\x94\x39\xDA\x33",
+            0,
+            b"U+0080\nU+1F4A9\n",
+            b"",
+        );
+    }
+    runs(
+        &rt,
+        &["euc-jp"],
+        &[],
+        b"\x8F\xA2\x41\x8F",
+        0,
+        b"bad 0 2\nU+0041\nbad 3 1\n",
+        b"",
+    );
     runs(&rt, &["utf-16le"], &[], b"\x41\x00\x3D\xD8\x42", 0, b"U+0041\nbad 2 3\n", b"");
 }
 

@@ -23,6 +23,12 @@ pub enum Codec {
     EucKr,
     /// `shift_jis`
     ShiftJis,
+    /// `euc-jp`
+    EucJp,
+    /// `gb18030`
+    Gb18030,
+    /// `gbk`, which is decoded as GB18030 is.
+    Gbk,
     /// `iso-2022-jp`
     Iso2022Jp,
 }
@@ -40,6 +46,9 @@ fn codec_of(word: &str) -> Option<Codec>
         "big5" => Some(Codec::Big5),
         "euc-kr" => Some(Codec::EucKr),
         "shift_jis" => Some(Codec::ShiftJis),
+        "euc-jp" => Some(Codec::EucJp),
+        "gb18030" => Some(Codec::Gb18030),
+        "gbk" => Some(Codec::Gbk),
         "iso-2022-jp" => Some(Codec::Iso2022Jp),
         _ => None,
     }

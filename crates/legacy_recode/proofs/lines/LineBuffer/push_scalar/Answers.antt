@@ -16,4 +16,5 @@ returns-then-code-lt1048576-clause-text c =
 pub returns-clause-text : goal.returns-clause-text
 returns-clause-text c =
     let h : 1048576 ≤ c.args.scalar = omega arith in
-    rw (line_of_six c.args.scalar h, ← c.hex_digit_of-a.ensures, ← c.hex_digit_of-b.ensures, ← c.hex_digit_of-d.ensures, ← c.hex_digit_of-e.ensures, ← c.hex_digit_of-f.ensures, ← c.hex_digit_of-g.ensures) c.push_all-2.ensures.text
+    let k : c.args.scalar < 0x100_0000 = omega arith in
+    rw (line_of_six c.args.scalar h k, ← c.hex_digit_of-a.ensures, ← c.hex_digit_of-b.ensures, ← c.hex_digit_of-d.ensures, ← c.hex_digit_of-e.ensures, ← c.hex_digit_of-f.ensures, ← c.hex_digit_of-g.ensures) c.push_all-2.ensures.text
