@@ -20,6 +20,7 @@ pub mod SingleByteRooms
 pub mod UserDefinedRooms
 pub mod Gb18030Rooms
 pub mod Utf16Rooms
+pub mod Utf16Runs
 pub mod ReplacementRooms
 pub mod AllRooms
 pub mod SettledSteps
