@@ -1,6 +1,6 @@
 -- The runs of ISO-2022-JP.
-use Rattle.std.proofs.Common.{◌≡◌, ◌≢◌, ◌∙◌, ℕ, suc, ◌+◌, ◌-◌, ◌*◌, ◌<◌, ◌≤◌, Bool, true, false, Option, Some, None, List, [], ◌∷◌, ◌++◌, length, take, get_or, refl, sym, ap, subst, arith, length-append}
-use Rattle.std.specs.Prelude.{◌==◌, All, IsAscii, IfSome}
+use Rattle.std.proofs.Common.{◌≡◌, ◌∙◌, ℕ, suc, ◌+◌, ◌-◌, ◌*◌, ◌<◌, ◌≤◌, true, Option, Some, None, List, [], ◌∷◌, ◌++◌, length, take, get_or, refl, sym, ap, subst, arith}
+use Rattle.std.specs.Prelude.{All, IsAscii, IfSome}
 use Rattle.std.proofs.lemmas.Bool.{ne_eqb}
 use Rattle.std.proofs.lemmas.Bool.Decides.{nat_tests}
 use Rattle.std.proofs.lemmas.List.{length-take, length-take-le, take-take, get_or-take}
@@ -10,7 +10,7 @@ use Rattle.std.specs.Char.{IsScalar, is_ascii}
 use Rattle.std.specs.Int.{is_in_range}
 use Rattle.legacy_base.specs.EncodingForm.{EncodingForm, code_units, total_unit_count}
 use Rattle.legacy_base.specs.Fronts.{reads}
-use Rattle.legacy_base.specs.Grammar.{Grammar, iso_2022_jp, events_of}
+use Rattle.legacy_base.specs.Grammar.{iso_2022_jp, events_of}
 use Rattle.legacy_base.specs.Indexes.{idx}
 use Rattle.legacy_base.specs.Iso2022Jp.{esc, ascii, two_byte, iso_2022_jp_front}
 use Rattle.legacy_base.specs.Lengths.{query_form}
@@ -18,7 +18,7 @@ use Rattle.legacy_base.proofs.Iso2022JpFronts.{step_one, step_two}
 use Rattle.legacy_decoders.specs.declared.iso_2022_jp.steps.Mode.TheVariants.{Ascii, TwoByte}
 use Rattle.legacy_decoders.specs.declared.iso_2022_jp.steps.Start.TheVariants.{Nothing}
 use Rattle.legacy_decoders.specs.declared.iso_2022_jp.steps.Held.TheVariants.{Begun}
-use Rattle.legacy_decoders.specs.Ahead.{Runs, IsPair, Writes, ReadsAhead}
+use Rattle.legacy_decoders.specs.Ahead.{Runs, IsPair, ReadsAhead}
 use Rattle.legacy_decoders.specs.Iso2022JpMoves.{IsNarrowScalar}
 use Rattle.legacy_decoders.specs.Iso2022JpRuns.{IsPlain, plain_state}
 use Rattle.legacy_decoders.proofs.Iso2022JpRooms.{one_fits, room-falls, times_one}
