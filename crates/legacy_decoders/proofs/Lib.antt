@@ -20,6 +20,7 @@ pub mod SingleByteRooms
 pub mod UserDefinedRooms
 pub mod Gb18030Rooms
 pub mod Utf16Rooms
+pub mod Utf16Runs
 pub mod ReplacementRooms
 pub mod AllRooms
 pub mod SettledSteps
@@ -46,6 +47,7 @@ pub mod Iso2022JpStep
 pub mod Iso2022JpHeld
 pub mod Iso2022JpEnd
 pub mod Iso2022JpRooms
+pub mod Iso2022JpRuns
 pub mod Iso2022JpFeeding
 pub mod Iso2022JpEnding
 pub mod Iso2022JpStates

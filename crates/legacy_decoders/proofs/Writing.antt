@@ -45,7 +45,7 @@ pub runs_ascii : (g : Grammar) → ((x : ℕ) → x < 128 → Runs g (x ∷ []) 
 runs_ascii g law [] h = runs_none g
 runs_ascii g law (x ∷ xs) h = runs_more g (x ∷ []) xs (x ∷ []) xs (law x (h 0)) (runs_ascii g law xs (λ i. h (suc i)))
 
-code_units_ascii : (form : EncodingForm) (c : ℕ) → c < 128 → code_units form c ≡ c ∷ []
+pub code_units_ascii : (form : EncodingForm) (c : ℕ) → c < 128 → code_units form c ≡ c ∷ []
 code_units_ascii Utf8 c h = encode_1 c h
 code_units_ascii Utf16 c h = utf16_1 c (omega arith)
 

@@ -27,6 +27,10 @@ pub record IsIdle (state : DecoderState) : Type 0 where
   pub empty : state.held ≡ []
   pub ascii : HasAscii state.grammar
 
+-- two bytes are a scalar up to U+FFFF
+abbrev pub IsPair : Grammar → ℕ → ℕ → ℕ → Type 0
+IsPair grammar first second c = (c < 0x1_0000) × Runs grammar (first ∷ second ∷ []) (c ∷ [])
+
 -- what a codec says of a byte past ASCII and the byte behind it: a scalar up to U+FFFF, or nothing
 abbrev pub FrontIs : Grammar → ℕ → ℕ → Front → Type 0
 FrontIs grammar lead trail (Single c) = (c < 0x1_0000) × Runs grammar (lead ∷ []) (c ∷ [])

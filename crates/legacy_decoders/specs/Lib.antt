@@ -22,4 +22,5 @@ pub mod ReplacementDecoder
 pub mod SingleByteDecoder
 pub mod Iso2022JpMachine
 pub mod Iso2022JpMoves
+pub mod Iso2022JpRuns
 pub mod Iso2022JpDecoder

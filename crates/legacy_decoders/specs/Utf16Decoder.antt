@@ -1,10 +1,11 @@
 -- What the UTF-16 decoder is between two calls.
 use Rattle.std.specs.Prelude.{ℕ, ◌/◌, ◌%◌, List, [], ◌∷◌, Bool, if◌then◌else◌}
-use Rattle.legacy_base.specs.Grammar.{utf16}
+use Rattle.legacy_base.specs.Grammar.{Grammar, utf16}
 use Rattle.legacy_base.specs.States.{DecoderState}
 use Rattle.legacy_decoders.specs.declared.utf16.held.Held.{Held}
 use Rattle.legacy_decoders.specs.declared.utf16.held.Held.TheVariants.{Nothing, Odd, High, HighOdd, Pending}
 use Rattle.legacy_decoders.specs.declared.utf16.Utf16Decoder.{Utf16Decoder}
+use Rattle.legacy_decoders.specs.declared.utf16.runs.Units.{Units}
 
 -- the first byte of a unit, in the byte order, and the second
 abbrev pub first_byte : Bool → ℕ → ℕ
@@ -24,3 +25,7 @@ held_bytes big_endian (Pending pending) = first_byte big_endian pending.scalar �
 -- the state that its calls speak of
 abbrev pub utf16_state : Utf16Decoder → DecoderState
 utf16_state decoder = record { grammar = utf16 decoder.big_endian; held = held_bytes decoder.big_endian decoder.held }
+
+-- the grammar of units in their byte order
+abbrev pub units_grammar : Units → Grammar
+units_grammar units = utf16 units.big_endian

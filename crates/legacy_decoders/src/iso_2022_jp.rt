@@ -7,13 +7,16 @@ ghost use Rattle.legacy_decoders.specs.Decoders.{new_state};
 ghost use Rattle.legacy_decoders.specs.Iso2022JpMachine.{is_held};
 ghost use Rattle.legacy_decoders.specs.Iso2022JpMoves.{weight_of};
 
+mod runs;
 mod steps;
 #[cfg(test)]
 mod tests;
 
 use crate::drive::drive;
 use crate::machine::{Act, Fed, Machine, Room};
+use crate::pairs::read_pairs;
 use legacy_base::{DecoderResult, Destination, RawDecoder, Tables};
+use runs::{Jis0208Pairs, read_plain};
 use steps::{Held, Mode, Start, finish, pending, read};
 
 /// The decoder of ISO-2022-JP (Encoding Standard, "ISO-2022-JP decoder").
@@ -99,6 +102,23 @@ impl<'a> Machine for Iso2022JpDecoder<'a> {
         self.mode = mode;
         self.held = held;
         Some((1, held.count()))
+    }
+
+    #[inline]
+    fn read_ahead<T: Destination>(&self, src: &[u8], dst: &mut T) -> usize {
+        if !matches!(self.held, Held::Begun(Start::Nothing)) {
+            return 0;
+        }
+        match self.mode {
+            Mode::Ascii => read_plain(src, dst),
+            Mode::TwoByte => {
+                let pairs = Jis0208Pairs {
+                    tables: self.tables,
+                };
+                read_pairs(&pairs, src, dst)
+            }
+            Mode::Roman | Mode::Katakana => 0,
+        }
     }
 }
 

@@ -12,6 +12,7 @@ mod gb18030;
 mod held;
 mod iso_2022_jp;
 mod machine;
+mod pairs;
 mod replacement;
 mod shift_jis;
 mod single_byte;

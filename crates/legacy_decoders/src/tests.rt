@@ -99,3 +99,30 @@ pub fn assert_call<D: RawDecoder>(
     assert_eq!(rt; (result, read), answer, "at {text}");
     assert!(rt; &output[..written] == text.as_bytes(), "at {text}");
 }
+
+/// The events of the input, in calls that see all of it that is left, over outputs of 48 bytes.
+pub fn whole_events<D: RawDecoder>(
+    alloc: Global,
+    decoder: &mut D,
+    input: &[u8],
+) -> Result<Vec<DecodeEvent>, AllocError> {
+    let mut events = Vec::new(alloc);
+    let mut seen = 0;
+    for _call in 0..64 {
+        let mut output = [0u8; 48];
+        let source = input.get(seen..).unwrap_or(&[]);
+        let (answer, read, written) = decoder.decode_to_utf8_raw(source, &mut output, true);
+        if let Ok(text) = str::from_utf8(&output[..written]) {
+            for scalar in text.chars() {
+                events.push(Scalar(scalar))?;
+            }
+        }
+        seen = seen.saturating_add(read);
+        if let Some(event) = reported(answer, seen) {
+            events.push(event)?;
+        } else if answer == InputEmpty {
+            break;
+        }
+    }
+    Ok(events)
+}

@@ -7,12 +7,15 @@ ghost use Rattle.legacy_base.specs.Lengths.{answer, utf16_units};
 ghost use Rattle.legacy_decoders.specs.Decoders.{new_state};
 
 mod held;
+mod runs;
 mod units;
 
 use crate::drive::drive;
 use crate::machine::{Act, Fed, Machine, Room};
+use crate::pairs::read_pairs;
 use held::Held;
 use legacy_base::{DecoderResult, Destination, RawDecoder};
+use runs::Units;
 use units::read_byte;
 
 /// The decoder of UTF-16 (Encoding Standard, "shared UTF-16 decoder", "UTF-16BE decoder" and "UTF-16LE
@@ -113,6 +116,18 @@ impl Machine for Utf16Decoder {
         };
         self.held = Held::Nothing;
         Some((length, 0))
+    }
+
+    // The byte order is decided here, and not at each unit.
+    #[inline]
+    fn read_ahead<T: Destination>(&self, src: &[u8], dst: &mut T) -> usize {
+        if !matches!(self.held, Held::Nothing) {
+            0
+        } else if self.big_endian {
+            read_pairs(&Units { big_endian: true }, src, dst)
+        } else {
+            read_pairs(&Units { big_endian: false }, src, dst)
+        }
     }
 }
 

@@ -228,7 +228,8 @@ fn completed(start: Start, byte: u8) -> Option<Escape>
 }
 
 /// The scalar of a pointer in index jis0208.
-fn entry(tables: &Tables, pointer: usize) -> Option<char>
+#[inline]
+pub fn entry(tables: &Tables, pointer: usize) -> Option<char>
     ensures value { result ≡ idx tables.now.flat.jis0208 pointer }
     ensures narrow { IfSome result IsNarrowScalar }
 {

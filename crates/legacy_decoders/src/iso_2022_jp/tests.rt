@@ -1,4 +1,5 @@
 use super::Iso2022JpDecoder;
+use crate::tests::whole_events;
 use legacy_base::DecodeEvent::{Bad, Scalar};
 use legacy_base::DecoderResult::{InputEmpty, Malformed, OutputFull};
 use legacy_base::{DecodeEvent, DecoderResult, Indexes, RawDecoder, TableError, Tables};
@@ -352,5 +353,57 @@ fn single_bytes_and_small_outputs_give_all_events(rt: HostRuntime) -> Result<(),
         let found = utf16_events(rt.alloc(), &tables, input)?;
         assert!(rt; found.as_slice() == events, "UTF-16 of {input:?}");
     }
+    Ok(())
+}
+
+#[test]
+fn runs_between_escapes_give_the_events_of_single_bytes(rt: HostRuntime) -> Result<(), Fail> {
+    let mut jis0208 = [0u16; 672];
+    jis0208[0] = 0x3000;
+    jis0208[95] = 0x2225;
+    jis0208[671] = 0x250F;
+    let tables = tables_of(&jis0208)?;
+    // ASCII with 0E and 80 in it, pairs of which one has no entry and one ends at an escape, Roman and
+    // katakana, and ASCII again
+    let input =
+        b"abcdefghijklmnopqrstuvwxyz\x0Eabc\x80de\x1B$B!!\"\"(.!!!~!!\"\"!!\x1B(J\\~\x1B(I!_\x1B$@!!!\x1B(Bxyz\x0F";
+    let mut events = Vec::new(rt.alloc());
+    for letter in 'a'..='z' {
+        events.push(Scalar(letter))?;
+    }
+    let behind = [
+        bad(26, 1),
+        Scalar('a'),
+        Scalar('b'),
+        Scalar('c'),
+        bad(30, 1),
+        Scalar('d'),
+        Scalar('e'),
+        Scalar('\u{3000}'),
+        Scalar('\u{2225}'),
+        Scalar('\u{250F}'),
+        Scalar('\u{3000}'),
+        bad(44, 2),
+        Scalar('\u{3000}'),
+        Scalar('\u{2225}'),
+        Scalar('\u{3000}'),
+        Scalar('\u{A5}'),
+        Scalar('\u{203E}'),
+        Scalar('\u{FF61}'),
+        Scalar('\u{FF9F}'),
+        Scalar('\u{3000}'),
+        bad(67, 1),
+        Scalar('x'),
+        Scalar('y'),
+        Scalar('z'),
+        bad(74, 1),
+    ];
+    for event in behind {
+        events.push(event)?;
+    }
+    let found = whole_events(rt.alloc(), &mut Iso2022JpDecoder::new(&tables), input)?;
+    assert!(rt; found.as_slice() == events.as_slice(), "at once");
+    let found = utf8_events(rt.alloc(), &tables, input)?;
+    assert!(rt; found.as_slice() == events.as_slice(), "in single bytes");
     Ok(())
 }

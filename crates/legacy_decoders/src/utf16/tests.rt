@@ -1,5 +1,5 @@
 use super::Utf16Decoder;
-use crate::tests::{assert_call, bad, utf8_events, utf16_events};
+use crate::tests::{assert_call, bad, utf8_events, utf16_events, whole_events};
 use legacy_base::DecodeEvent::Scalar;
 use legacy_base::DecoderResult::{InputEmpty, Malformed, OutputFull};
 use legacy_base::{DecodeEvent, RawDecoder};
@@ -210,4 +210,66 @@ fn lone_surrogates_among_zeros_are_malformed(rt: HostRuntime) -> Result<(), Fail
     let found = utf16_events(rt.alloc(), &mut Utf16Decoder::new(false), &input)?;
     assert!(rt; found.as_slice() == events.as_slice());
     Ok(())
+}
+
+#[test]
+fn runs_between_surrogates_give_the_events_of_single_bytes(rt: HostRuntime) -> Result<(), Fail> {
+    // a run, a pair, a run, a low surrogate, a run, a high surrogate, a run, an odd byte
+    let little =
+        b"\x41\x00\x03\x26\xE4\x00\x41\x00\xFF\xD7\x00\xE0\xFF\xFF\x3D\xD8\xA9\xDC\x42\x00\x03\x26\x42\x00\x03\x26\xFF\xDF\x43\x00\x00\x4E\x43\x00\x00\x4E\x00\xD8\x44\x00\x44\x00\x03\x26\x44\x00\x03\x26\x41";
+    let events = [
+        Scalar('A'),
+        Scalar('\u{2603}'),
+        Scalar('\u{E4}'),
+        Scalar('A'),
+        Scalar('\u{D7FF}'),
+        Scalar('\u{E000}'),
+        Scalar('\u{FFFF}'),
+        Scalar('\u{1F4A9}'),
+        Scalar('B'),
+        Scalar('\u{2603}'),
+        Scalar('B'),
+        Scalar('\u{2603}'),
+        bad(26, 2),
+        Scalar('C'),
+        Scalar('\u{4E00}'),
+        Scalar('C'),
+        Scalar('\u{4E00}'),
+        bad(36, 2),
+        Scalar('D'),
+        Scalar('D'),
+        Scalar('\u{2603}'),
+        Scalar('D'),
+        Scalar('\u{2603}'),
+        bad(48, 1),
+    ];
+    let found = whole_events(rt.alloc(), &mut Utf16Decoder::new(false), little)?;
+    assert!(rt; found.as_slice() == events.as_slice(), "at once");
+    let found = utf8_events(rt.alloc(), &mut Utf16Decoder::new(false), little)?;
+    assert!(rt; found.as_slice() == events.as_slice(), "in single bytes");
+    let mut big = [0u8; 49];
+    big[48] = 0x41;
+    for pair in 0..24 {
+        big[2 * pair] = little[2 * pair + 1];
+        big[2 * pair + 1] = little[2 * pair];
+    }
+    let found = whole_events(rt.alloc(), &mut Utf16Decoder::new(true), &big)?;
+    assert!(rt;
+        found.as_slice() == events.as_slice(),
+        "the greater byte first"
+    );
+    Ok(())
+}
+
+#[test]
+fn a_run_stops_where_a_unit_lacks_the_room_of_any_scalar(rt: HostRuntime) {
+    let mut output = [0u16; 6];
+    let mut decoder = Utf16Decoder::new(false);
+    let answer = decoder.decode_to_utf16_raw(
+        b"\x41\x00\x42\x00\x43\x00\x44\x00\x45\x00\x46\x00",
+        &mut output,
+        true,
+    );
+    assert_eq!(rt; answer, (OutputFull, 10, 5));
+    assert!(rt; output[..5] == [0x41, 0x42, 0x43, 0x44, 0x45]);
 }

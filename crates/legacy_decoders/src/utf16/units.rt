@@ -13,7 +13,7 @@ use crate::machine::Fed;
 
 /// The unit of two bytes.
 #[inline]
-fn unit(big_endian: bool, first: u8, second: u8) -> u16
+pub fn unit(big_endian: bool, first: u8, second: u8) -> u16
     ensures { result ≡ unit_of big_endian first second }
 {
     if big_endian {

@@ -1,0 +1,22 @@
+-- What an ISO-2022-JP decoder reads in runs.
+use Rattle.std.specs.Prelude.{◌≢◌, ℕ, ◌<◌, List}
+use Rattle.legacy_base.specs.Grammar.{Grammar, iso_2022_jp}
+use Rattle.legacy_base.specs.Iso2022Jp.{esc, two_byte}
+use Rattle.legacy_base.specs.States.{DecoderState}
+use Rattle.legacy_decoders.specs.declared.iso_2022_jp.runs.Jis0208Pairs.{Jis0208Pairs}
+use Rattle.legacy_decoders.specs.declared.iso_2022_jp.steps.Mode.TheVariants.{Ascii}
+use Rattle.legacy_decoders.specs.declared.iso_2022_jp.steps.Start.TheVariants.{Nothing}
+use Rattle.legacy_decoders.specs.declared.iso_2022_jp.steps.Held.TheVariants.{Begun}
+use Rattle.legacy_decoders.specs.Iso2022JpMoves.{state_in}
+
+-- an ASCII byte that is a scalar in ASCII mode, and no escape byte
+abbrev pub IsPlain : ℕ → Type 0
+IsPlain b = (b < 0x80) × (b ≢ 0x0E) × (b ≢ 0x0F) × (b ≢ esc)
+
+-- ASCII mode, with nothing held back
+abbrev pub plain_state : List ℕ → DecoderState
+plain_state jis0208 = state_in jis0208 Ascii (Begun Nothing)
+
+-- the grammar of pairs
+abbrev pub pairs_grammar : Jis0208Pairs → Grammar
+pairs_grammar pairs = iso_2022_jp pairs.tables.now.flat.jis0208 two_byte

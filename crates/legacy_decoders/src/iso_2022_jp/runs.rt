@@ -1,0 +1,67 @@
+//! The runs of ISO-2022-JP: plain ASCII in ASCII mode, and pairs of index jis0208 in two-byte mode.
+ghost use Rattle.std.specs.Prelude.{◌≡◌, ℕ, ◌+◌, ◌<◌, ◌≤◌, List, All, length, take, true};
+ghost use Rattle.legacy_decoders.specs.Iso2022JpRuns.{IsPlain, plain_state};
+ghost use Rattle.legacy_decoders.specs.Ahead.{ReadsAhead};
+
+use super::steps::entry;
+use crate::pairs::Pairs;
+use legacy_base::{Destination, Tables};
+
+/// The pairs of two-byte mode.
+#[derive(Drop)]
+pub struct Jis0208Pairs<'a> {
+    pub tables: &'a Tables<'a>,
+}
+
+impl Pairs for Jis0208Pairs<'_> {
+    ghost use Rattle.legacy_decoders.specs.Iso2022JpRuns.{pairs_grammar};
+
+    ghost grammar = { pairs_grammar };
+
+    #[inline(always)]
+    fn scalar(&self, first: u8, second: u8) -> Option<char> {
+        if first < 0x21 || first > 0x7E || second < 0x21 || second > 0x7E {
+            return None;
+        }
+        let pointer = usize::from(first - 0x21) * 94 + usize::from(second - 0x21);
+        entry(self.tables, pointer)
+    }
+}
+
+/// Whether the byte is its own scalar in ASCII mode, and begins no escape.
+#[inline]
+fn is_plain(byte: u8) -> bool
+    ensures { result ≡ true → IsPlain byte }
+{
+    byte < 0x80 && byte != 0x0E && byte != 0x0F && byte != 0x1B
+}
+
+/// How many such bytes are at the front.
+#[inline]
+fn plain_count(src: &[u8]) -> usize
+    ensures within { result ≤ length src.now }
+    ensures plain { All IsPlain (take result src.now) }
+{
+    let mut at = 0;
+    while at < src.len() && is_plain(src[at]) {
+        at += 1;
+    }
+    at
+}
+
+/// Reads such bytes from the front, in ASCII mode, as many as leave three code units free. Answers how
+/// many were read: none is an answer too.
+#[inline]
+pub fn read_plain<T: Destination>(src: &[u8], dst: &mut T) -> usize
+    ensures ahead { (jis0208 : List ℕ) → ReadsAhead T.form (plain_state jis0208) src.now result (T.contents dst.old) (T.contents dst.new) (T.room dst.old) (T.room dst.new) }
+    ensures loan { T.loan dst.new ≡ T.loan dst.old }
+{
+    let most = dst.free().saturating_sub(3).min(src.len());
+    let count = plain_count(&src[..most]);
+    let mut at = dst.copy_ascii(&src[..count]);
+    while at < count {
+        dst.put(char::from(src[at]));
+        at += 1;
+    }
+    count
+}
