@@ -1,6 +1,6 @@
 -- Laws of the words of the command line.
 use Rattle.std.proofs.Math.Seq.{take_all}
-use Rattle.std.proofs.Common.{◌≡◌, ℕ, ◌+◌, ◌-◌, take, drop, IsTrue, ◌≤◌, ◌<◌, List, [], ◌∷◌, length, refl, arith, Bool, true, false, ◌&&◌}
+use Rattle.std.proofs.Common.{◌≡◌, ap, ℕ, ◌-◌, take, drop, IsTrue, ◌≤◌, ◌<◌, List, [], ◌∷◌, length, refl, arith, Bool, true, false, ◌&&◌}
 use Rattle.std.specs.Borrow.{Bor}
 use Rattle.legacy_recode.specs.Words.{texts_of, are_indexes}
 
@@ -24,3 +24,8 @@ pub later_indexes : (words : List (Bor (List ℕ))) → 2 ≤ length words → I
 later_indexes [] h k = absurd (omega arith)
 later_indexes (w ∷ []) h k = absurd (omega arith)
 later_indexes (v ∷ w ∷ words) h k = second_true _ _ k
+
+-- the words behind CODEC
+pub words_behind_codec : (words : List (Bor (List ℕ))) → texts_of (take (length words - 1) (drop 1 words)) ≡ drop 1 (texts_of words)
+words_behind_codec [] = refl
+words_behind_codec (w ∷ words) = ap texts_of (take_all _ words (omega arith))

@@ -1,5 +1,5 @@
 -- Laws of the files that the program is given.
-use Rattle.std.proofs.Common.{◌≡◌, ℕ, ◌+◌, ◌-◌, take, drop, ◌≤◌, ◌<◌, List, [], ◌∷◌, length, refl, arith, Bool, true, false, Option, Some, None, replicate, sym, ap, subst, if◌then◌else◌}
+use Rattle.std.proofs.Common.{◌≡◌, ℕ, drop, ◌≤◌, ◌<◌, List, [], ◌∷◌, length, refl, arith, Option, Some, replicate, sym, ap, subst, if◌then◌else◌}
 use Rattle.std.proofs.lemmas.List.{get_or-replicate, length-replicate}
 use Rattle.std.specs.Borrow.{Bor}
 use Rattle.legacy_recode.specs.declared.index_file.FileIndex.{FileIndex}

@@ -6,9 +6,9 @@ ghost use Rattle.legacy_recode.specs.Words.{texts_of, are_indexes};
 ghost use Rattle.legacy_recode.specs.IndexTexts.{no_text, with_text, text_given, contents_of};
 ghost use Rattle.legacy_recode.specs.GivenIndexes.{HoldsTexts};
 
+use crate::index_file::{FileIndex, FileTable, IndexFileError, read_index};
 use crate::program::Fault;
 use crate::words::first_index;
-use crate::index_file::{FileIndex, FileTable, IndexFileError, read_index};
 use std::alloc::Global;
 
 /// The values of all indexes that a file can hold.

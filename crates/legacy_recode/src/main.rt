@@ -14,10 +14,9 @@ mod tests;
 pub mod words;
 
 use std::alloc::Global;
-use std::env;
-use std::fs;
 use std::io::{self, BufWriter, ErrorKind, Write};
 use std::process::ExitCode;
+use std::{env, fs};
 
 /// The words behind the program's name, where they can be had.
 fn arguments(rt: &HostRuntime, alloc: Global) -> io::Result<Vec<String>> {

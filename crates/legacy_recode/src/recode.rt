@@ -55,7 +55,7 @@ fn recode_call<D: RawDecoder, W: Write>(
     ensures { IfOk result (λ r. (scalars : List ℕ)
         × DecoderCall Utf16 (D.state decoder.old) unread.now last BATCH (D.state decoder.new) r.0 r.1 scalars
         × Appends (W.contents output.old) (W.contents output.new)
-            (event_lines (map DecodeEvent.Scalar scalars ++ fault_events (total + r.1) r.0))) }
+        (event_lines (map DecodeEvent.Scalar scalars ++ fault_events (total + r.1) r.0))) }
 {
     let mut buffer = ['\0'; BATCH];
     let mut kept = ScalarBuffer::<Utf16Form>::new(&mut buffer, BATCH);

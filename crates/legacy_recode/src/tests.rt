@@ -79,7 +79,17 @@ fn runs(
 ) {
     let mut output = Vec::new(rt.alloc());
     let mut errors = Vec::new(rt.alloc());
-    assert_eq!(rt; run(rt.alloc(), words, files, &mut input, &mut output, &mut errors), status);
+    assert_eq!(rt;
+        run(
+            rt.alloc(),
+            words,
+            files,
+            &mut input,
+            &mut output,
+            &mut errors
+        ),
+        status
+    );
     assert_eq!(rt; output.as_slice(), lines);
     assert_eq!(rt; errors.as_slice(), error);
 }
@@ -230,11 +240,43 @@ fn tells_why_it_ends(rt: HostRuntime) {
     let words = ["euc-kr", "euc-kr", "KR", "single-byte", "SB"];
     let none: &[u8] = b"";
     runs(&rt, &words, &[], b"A", 1, none, b"KR: cannot be read\n");
-    runs(&rt, &words, &[None, None], b"A", 1, none, b"KR: cannot be read\n");
-    runs(&rt, &words, &[Some(none), None], b"A", 1, none, b"SB: cannot be read\n");
+    runs(
+        &rt,
+        &words,
+        &[None, None],
+        b"A",
+        1,
+        none,
+        b"KR: cannot be read\n",
+    );
+    runs(
+        &rt,
+        &words,
+        &[Some(none), None],
+        b"A",
+        1,
+        none,
+        b"SB: cannot be read\n",
+    );
     let bad: &[u8] = b"# x\n1\n";
-    runs(&rt, &words, &[Some(bad), None], b"A", 1, none, b"KR: line 2\n");
-    runs(&rt, &words, &[None, Some(bad)], b"A", 1, none, b"KR: cannot be read\n");
+    runs(
+        &rt,
+        &words,
+        &[Some(bad), None],
+        b"A",
+        1,
+        none,
+        b"KR: line 2\n",
+    );
+    runs(
+        &rt,
+        &words,
+        &[None, Some(bad)],
+        b"A",
+        1,
+        none,
+        b"KR: cannot be read\n",
+    );
     let surrogate: &[u8] = b"0 0xD800\n";
     let low: &[u8] = b"3 0x007F\n";
     runs(
@@ -329,7 +371,15 @@ fn reads_every_index(rt: HostRuntime) {
         b"bad 0 2\nU+0041\nbad 3 1\n",
         b"",
     );
-    runs(&rt, &["utf-16le"], &[], b"\x41\x00\x3D\xD8\x42", 0, b"U+0041\nbad 2 3\n", b"");
+    runs(
+        &rt,
+        &["utf-16le"],
+        &[],
+        b"\x41\x00\x3D\xD8\x42",
+        0,
+        b"U+0041\nbad 2 3\n",
+        b"",
+    );
 }
 
 /// Runs x-user-defined from 61 80 FF, a byte at a read, to this writer, and asserts the status and the line of error.
@@ -344,7 +394,14 @@ fn fails(
         reads,
     };
     let mut errors = Vec::new(rt.alloc());
-    let status = run(rt.alloc(), &["x-user-defined"], &[], &mut input, output, &mut errors);
+    let status = run(
+        rt.alloc(),
+        &["x-user-defined"],
+        &[],
+        &mut input,
+        output,
+        &mut errors,
+    );
     assert_eq!(rt; status, 1);
     assert_eq!(rt; errors.as_slice(), error);
 }
@@ -377,9 +434,23 @@ fn a_failed_line_of_error_changes_no_status(rt: HostRuntime) {
     };
     let mut output = Vec::new(rt.alloc());
     let mut input: &[u8] = b"A";
-    let status = run(rt.alloc(), &["latin"], &[], &mut input, &mut output, &mut errors);
+    let status = run(
+        rt.alloc(),
+        &["latin"],
+        &[],
+        &mut input,
+        &mut output,
+        &mut errors,
+    );
     assert_eq!(rt; status, 2);
     let words = ["big5", "big5", "FILE"];
-    let status = run(rt.alloc(), &words, &[], &mut input, &mut output, &mut errors);
+    let status = run(
+        rt.alloc(),
+        &words,
+        &[],
+        &mut input,
+        &mut output,
+        &mut errors,
+    );
     assert_eq!(rt; status, 1);
 }

@@ -1,4 +1,4 @@
-use Rattle.std.proofs.Common.{rules, arith, sym, ap, ◌∙◌, ◌∷◌}
+use Rattle.std.proofs.Common.{rules, sym, ap, ◌∙◌, ◌∷◌}
 use Rattle.legacy_recode.proofs.CommandLine.{later_words, later_indexes}
 use Rattle.legacy_recode.proofs.GivenFiles.{few_words, one_more_file}
 use Rattle.legacy_recode.proofs.given_indexes.+read_files.Goals as goal

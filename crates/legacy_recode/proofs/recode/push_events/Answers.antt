@@ -1,4 +1,4 @@
-use Rattle.std.proofs.Common.{arith, ◌≡◌, ◌+◌, ◌-◌, sym}
+use Rattle.std.proofs.Common.{arith}
 use Rattle.legacy_recode.proofs.EventLines.{line_of_fault}
 use Rattle.legacy_recode.proofs.recode.push_events.Goals as goal
 

@@ -1,4 +1,4 @@
-use Rattle.std.proofs.Common.{◌≡◌, ◌∙◌, ◌+◌, length, ap, arith}
+use Rattle.std.proofs.Common.{◌∙◌, ◌+◌, length, ap, arith}
 use Rattle.legacy_base.specs.EncodingForm.{Utf16, all_code_units}
 use Rattle.legacy_base.proofs.SameUnits.{length-le-all_code_units}
 use Rattle.legacy_codecs.specs.Scalars.{kept_scalars}

@@ -1,6 +1,5 @@
-use Rattle.std.proofs.Common.{rules, arith, ◌≡◌, ◌+◌, ◌/◌, ◌++◌, length, sym, ap, decimal, ◌≤◌, ◌<◌}
+use Rattle.std.proofs.Common.{rules, arith}
 use Rattle.std.proofs.lemmas.Fmt.{decimal_digit}
-use Rattle.legacy_recode.specs.LineBuffers.{line_bytes}
 use Rattle.legacy_recode.proofs.EventLines.{decimal_more, length-decimal_digit, length-decimal_more}
 use Rattle.legacy_recode.proofs.lines.LineBuffer.+push_decimal.Goals as goal
 

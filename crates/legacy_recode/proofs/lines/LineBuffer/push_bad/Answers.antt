@@ -1,4 +1,4 @@
-use Rattle.std.proofs.Common.{arith, rules}
+use Rattle.std.proofs.Common.{arith}
 use Rattle.legacy_recode.proofs.EventLines.{bad_line, length-decimal_20}
 use Rattle.legacy_recode.proofs.lines.LineBuffer.push_bad.Goals as goal
 

@@ -1,4 +1,4 @@
-use Rattle.std.proofs.Common.{arith, rules}
+use Rattle.std.proofs.Common.{arith}
 use Rattle.legacy_recode.proofs.EventLines.{no_lines, one_more_line}
 use Rattle.legacy_recode.proofs.lines.LineBuffer.push_scalars.Goals as goal
 

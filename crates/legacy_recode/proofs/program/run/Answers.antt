@@ -1,0 +1,10 @@
+use Rattle.std.proofs.Common.{sym, ◌∙◌}
+use Rattle.legacy_recode.proofs.CommandLine.{words_behind_codec}
+use Rattle.legacy_recode.proofs.program.run.Goals as goal
+
+pub returns-in-Ok-clause-recoded : goal.returns-in-Ok-clause-recoded
+returns-in-Ok-clause-recoded g c e = record {
+  codec = c.in-Some.codec;
+  named = sym c.codec_in.ensures ∙ c.in-Some.is;
+  recodes = rw (words_behind_codec c.args.words.now) at c.in-Ok.ensures;
+}
