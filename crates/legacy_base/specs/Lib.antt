@@ -27,3 +27,4 @@ pub mod Latin1
 pub mod TableChecks
 pub mod AcceptedTables
 pub mod Tables
+pub mod Laws

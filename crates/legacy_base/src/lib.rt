@@ -4,12 +4,13 @@
 
 mod decoder;
 mod destination;
+pub mod laws;
 mod results;
 mod single_byte_table;
 mod source;
+mod tables;
 #[cfg(test)]
 mod tests;
-mod tables;
 
 pub use decoder::RawDecoder;
 pub use destination::{Destination, Utf8Destination, Utf16Destination};

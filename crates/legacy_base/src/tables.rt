@@ -180,3 +180,6 @@ impl<'a> Tables<'a> {
         lookups::range_scalar(self.ranges, pointer)
     }
 }
+
+#[cfg(test)]
+mod tests;

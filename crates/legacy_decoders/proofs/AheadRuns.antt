@@ -1,17 +1,17 @@
 -- A run of common forms within a call that is under way.
-use Rattle.std.proofs.Common.{◌≡◌, ◌≢◌, ◌∙◌, ℕ, zero, suc, ◌+◌, ◌-◌, ◌≤◌, ◌<◌, List, [], ◌∷◌, ◌++◌, length, map, take, drop, refl, sym, ap, subst, arith, append_assoc, append-nil, length-append, length-drop, Bool, true, false, IsTrue, Some, None, Option, All, inl, inr}
+use Rattle.std.proofs.Common.{◌≡◌, ◌∙◌, ℕ, suc, ◌+◌, ◌-◌, ◌≤◌, ◌<◌, List, [], ◌∷◌, ◌++◌, length, map, take, drop, refl, sym, ap, subst, arith, append_assoc, append-nil, length-append, length-drop, Bool, false, Some, None, Option, inl, inr}
 use Rattle.std.proofs.lemmas.List.{length-map, map-append, take-append-drop, length-take-le, drop-drop, take_all}
 use Rattle.std.proofs.lemmas.List.Elements.{All-append}
 use Rattle.std.proofs.lemmas.Bool.{cases_lt}
 use Rattle.std.specs.Char.{IsScalar}
 use Rattle.legacy_base.specs.declared.results.DecodeEvent.{DecodeEvent}
-use Rattle.legacy_base.specs.declared.results.DecodeEvent.TheVariants.{Scalar, Bad}
-use Rattle.legacy_base.specs.EncodingForm.{EncodingForm, Utf8, Utf16, code_units, unit_count, all_code_units, total_unit_count, bmp_room, wide_room}
+use Rattle.legacy_base.specs.declared.results.DecodeEvent.TheVariants.{Scalar}
+use Rattle.legacy_base.specs.EncodingForm.{EncodingForm, Utf8, Utf16, code_units, unit_count, all_code_units, total_unit_count, wide_room}
 use Rattle.legacy_base.specs.Events.{shift}
 use Rattle.legacy_base.specs.Grammar.{Grammar, events_of}
-use Rattle.legacy_base.specs.States.{DecoderState, rests}
-use Rattle.legacy_base.specs.Acts.{LacksRoom, HadRoom, full_room}
-use Rattle.legacy_base.specs.Lengths.{LengthQuery, query_form, room}
+use Rattle.legacy_base.specs.States.{DecoderState}
+use Rattle.legacy_base.specs.Acts.{LacksRoom, HadRoom}
+use Rattle.legacy_base.specs.Lengths.{room}
 use Rattle.legacy_base.specs.Calls.{Progress}
 use Rattle.legacy_base.proofs.Shifts.{shift-scalars}
 use Rattle.legacy_base.proofs.Progress.{after_that}

@@ -24,6 +24,11 @@ pub mod ReplacementRooms
 pub mod AllRooms
 pub mod SettledSteps
 pub mod Feeding
+pub mod TwoByteHeld
+pub mod TwoByteRuns
+pub mod EucKrHeld
+pub mod Big5Held
+pub mod ShiftJisHeld
 pub mod Utf16Held
 pub mod ReplacementSteps
 pub mod SingleByteSteps
@@ -32,4 +37,15 @@ pub mod Writing
 pub mod AheadRuns
 pub mod RunForms
 pub mod UserDefinedRuns
+pub mod Gb18030Held
+pub mod EucJpHeld
 pub mod SingleByteRuns
+pub mod Iso2022JpEntries
+pub mod Iso2022JpLaw
+pub mod Iso2022JpStep
+pub mod Iso2022JpHeld
+pub mod Iso2022JpEnd
+pub mod Iso2022JpRooms
+pub mod Iso2022JpFeeding
+pub mod Iso2022JpEnding
+pub mod Iso2022JpStates

@@ -1,5 +1,5 @@
 -- The forms of a machine as runs: what a loop may read ahead of it.
-use Rattle.std.proofs.Common.{rules, ◌≡◌, ◌∙◌, ℕ, ◌+◌, ◌≤◌, ◌<◌, List, [], ◌∷◌, ◌++◌, length, refl, sym, ap, arith, append-nil, Bool, true, All}
+use Rattle.std.proofs.Common.{rules, ◌≡◌, ℕ, ◌+◌, ◌<◌, [], ◌∷◌, arith, true}
 use Rattle.std.proofs.lemmas.List.Elements.{All-nil, All-cons}
 use Rattle.std.specs.Char.{IsScalar}
 use Rattle.legacy_base.specs.Unicode.{IsByte, AreBytes}
@@ -7,11 +7,11 @@ use Rattle.legacy_base.specs.EncodingForm.{unit_count, total_unit_count}
 use Rattle.legacy_base.specs.Fronts.{reads}
 use Rattle.legacy_base.specs.Grammar.{Grammar}
 use Rattle.legacy_base.specs.States.{rests, may_hold}
-use Rattle.legacy_base.specs.Lengths.{LengthQuery, query_form, replacement_units, room}
+use Rattle.legacy_base.specs.Lengths.{LengthQuery, query_form}
 use Rattle.legacy_decoders.specs.Ahead.{Runs, HasAscii}
-use Rattle.legacy_decoders.specs.Steps.{hold, finish, step_held}
+use Rattle.legacy_decoders.specs.Steps.{hold, finish}
 use Rattle.legacy_decoders.specs.Machines.{is_cut, machine}
-use Rattle.legacy_decoders.specs.Costs.{state_of, step_left, step_units, HasNarrowIndexes}
+use Rattle.legacy_decoders.specs.Costs.{HasNarrowIndexes}
 use Rattle.legacy_decoders.proofs.AllMoves.{machine_meets}
 use Rattle.legacy_decoders.proofs.Feeding.{machine_rooms, units-total, may_none, rests-none}
 

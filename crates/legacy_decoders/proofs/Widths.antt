@@ -40,7 +40,8 @@ width_utf8 = width_of Utf8
 pub width_utf16 : IsWidth utf16_count 1 2
 width_utf16 = width_of Utf16
 
-narrow_entry : (index : List ℕ) (p : ℕ) → IsNarrowIndex index → get_or index p 0 < 0x1_0000
+-- what an index of narrow entries holds at a pointer
+pub narrow_entry : (index : List ℕ) (p : ℕ) → IsNarrowIndex index → get_or index p 0 < 0x1_0000
 narrow_entry index p h = ⊎_elim (λ l. All-get_or (λ c. c < 0x1_0000) index p 0 l h) (λ l. rw (get_or_past index p 0 l) (omega arith)) (cases_lt p (length index))
 
 module _ (len : ℕ → ℕ) (narrow wide : ℕ) (w : IsWidth len narrow wide) where

@@ -1,19 +1,20 @@
 -- Laws of runs of bytes and of what is written for them.
-use Rattle.std.proofs.Common.{add-zero, ◌≡◌, ◌∙◌, ℕ, zero, suc, ◌+◌, ◌-◌, ◌≤◌, ◌<◌, List, [], ◌∷◌, ◌++◌, length, map, take, drop, get_or, refl, sym, ap, subst, arith, append_assoc, append-nil, length-append, All, IsAscii}
+use Rattle.std.proofs.Common.{add-zero, ◌≡◌, ◌∙◌, ℕ, suc, ◌+◌, ◌-◌, ◌≤◌, ◌<◌, List, [], ◌∷◌, ◌++◌, length, map, take, drop, get_or, refl, sym, ap, subst, arith, append_assoc, append-nil, length-append, IsAscii}
 use Rattle.std.proofs.lemmas.List.{map-append}
 use Rattle.std.proofs.lemmas.List.{take_more, take-take, take_all, length-drop}
-use Rattle.std.proofs.lemmas.List.Elements.{All-append, All-nil, All-cons}
+use Rattle.std.proofs.lemmas.List.Elements.{All-append, All-nil}
 use Rattle.std.proofs.Math.Seq.{take-add}
 use Rattle.std.specs.Char.{IsScalar}
 use Rattle.legacy_base.specs.declared.results.DecodeEvent.TheVariants.{Scalar}
 use Rattle.legacy_base.specs.EncodingForm.{EncodingForm, Utf8, Utf16, code_units, all_code_units}
 use Rattle.legacy_base.specs.Events.{shift}
 use Rattle.legacy_base.specs.Lengths.{query_form}
+use Rattle.legacy_base.specs.States.{DecoderState}
 use Rattle.legacy_base.specs.Grammar.{Grammar, events_of}
 use Rattle.legacy_base.proofs.Shifts.{shift-append, shift-zero, shift-shift, shift-scalars}
 use Rattle.legacy_base.proofs.Rooms.{all_code_units-append, total_unit_count-append}
 use Rattle.legacy_base.proofs.CodeUnits.{encode_1, utf16_1, length-code_units-bmp}
-use Rattle.legacy_decoders.specs.Ahead.{Runs, Writes}
+use Rattle.legacy_decoders.specs.Ahead.{Runs, Writes, ReadsAhead}
 
 -- no bytes
 pub runs_none : (g : Grammar) → Runs g [] []
@@ -55,6 +56,17 @@ all_code_units_ascii form (x ∷ xs) h = ap (λ l. l ++ all_code_units form xs) 
 
 pub writes_none : (form : EncodingForm) (g : Grammar) (old : List ℕ) → Writes form g [] old old
 writes_none form g old = record { scalars = []; runs = runs_none g; written = sym (append-nil old) }
+
+-- a run of no bytes
+pub reads_none : (form : EncodingForm) (state : DecoderState) (source old : List ℕ) (free : ℕ) → ReadsAhead form state source 0 old old free free
+reads_none form state source old free = record {
+  within = omega arith;
+  idle = λ h. absurd (omega arith);
+  writes = writes_none form state.grammar old;
+  room = refl;
+  slack = λ h. absurd (omega arith);
+  had = λ h. absurd (omega arith);
+}
 
 -- what was written, and then more
 pub writes_more : (form : EncodingForm) (g : Grammar) (xs ys x y z ds : List ℕ) → Writes form g xs x y → Runs g ys ds → z ≡ y ++ all_code_units form ds → Writes form g (xs ++ ys) x z

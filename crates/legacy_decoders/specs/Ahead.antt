@@ -1,5 +1,5 @@
 -- What the loop for runs of common forms reads and writes.
-use Rattle.std.specs.Prelude.{◌≡◌, ℕ, ◌+◌, ◌<◌, ◌≤◌, List, [], ◌∷◌, ◌++◌, length, map, All}
+use Rattle.std.specs.Prelude.{◌≡◌, ℕ, ◌+◌, ◌<◌, ◌≤◌, List, [], ◌∷◌, ◌++◌, length, map, take, All}
 use Rattle.std.specs.Char.{IsScalar}
 use Rattle.legacy_base.specs.declared.results.DecodeEvent.TheVariants.{Scalar}
 use Rattle.legacy_base.specs.EncodingForm.{EncodingForm, all_code_units, total_unit_count}
@@ -7,8 +7,8 @@ use Rattle.legacy_base.specs.Events.{shift}
 use Rattle.legacy_base.specs.Grammar.{Grammar, events_of}
 use Rattle.legacy_base.specs.States.{DecoderState}
 use Rattle.legacy_base.specs.Lengths.{LengthQuery, query_form, room}
-use Rattle.legacy_decoders.specs.declared.machine.Front.{Front}
-use Rattle.legacy_decoders.specs.declared.machine.Front.TheVariants.{Single, Pair, Other}
+use Rattle.legacy_decoders.specs.declared.ahead.Front.{Front}
+use Rattle.legacy_decoders.specs.declared.ahead.Front.TheVariants.{Single, Pair, Other}
 
 -- Whatever follows the bytes, their events are these scalars, and then those of what follows. The room that is still
 -- needed falls by what is written.
@@ -38,3 +38,13 @@ pub record Writes (form : EncodingForm) (grammar : Grammar) (bytes old new : Lis
   pub scalars : List ℕ
   pub runs : Runs grammar bytes scalars
   pub written : new ≡ old ++ all_code_units form scalars
+
+-- A run at the front of the source was read, and its scalars written: where any was, nothing is held back, four code
+-- units were free before it, and three are behind it.
+pub record ReadsAhead (form : EncodingForm) (state : DecoderState) (source : List ℕ) (read : ℕ) (old new : List ℕ) (room_before room_after : ℕ) : Type 0 where
+  pub within : read ≤ length source
+  pub idle : 0 < read → state.held ≡ []
+  pub writes : Writes form state.grammar (take read source) old new
+  pub room : room_after + length new ≡ room_before + length old
+  pub slack : 0 < read → 3 ≤ room_after
+  pub had : 0 < read → 4 ≤ room_before

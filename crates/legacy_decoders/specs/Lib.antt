@@ -9,6 +9,17 @@ pub mod Feeding
 pub mod Ahead
 pub mod Decoders
 pub mod UserDefinedDecoder
+pub mod Gb18030Held
+pub mod Gb18030Decoder
+pub mod EucJpHeld
+pub mod EucJpDecoder
+pub mod TwoByte
+pub mod EucKrDecoder
+pub mod Big5Decoder
+pub mod ShiftJisDecoder
 pub mod Utf16Decoder
 pub mod ReplacementDecoder
 pub mod SingleByteDecoder
+pub mod Iso2022JpMachine
+pub mod Iso2022JpMoves
+pub mod Iso2022JpDecoder

@@ -1,15 +1,47 @@
 //! The loop for runs: ASCII by blocks, and common forms without a test of room at each. It stands in
 //! front of the machine, which does all the rest: malformed sequences, held-back bytes, small outputs.
 ghost use Rattle.std.specs.Prelude.{◌≡◌, ℕ, ◌+◌, ◌-◌, ◌*◌, ◌<◌, ◌≤◌, [], true, length, take};
-ghost use Rattle.legacy_decoders.specs.Ahead.{IsIdle, Writes};
+ghost use Rattle.legacy_base.specs.States.{DecoderState};
+ghost use Rattle.legacy_decoders.specs.Ahead.{IsIdle, FrontIs, Writes, ReadsAhead};
 
-use crate::machine::{Front, Machine};
 use legacy_base::Destination;
+
+/// What stands at the front of the input, where its first byte is past ASCII.
+#[derive(Clone, Copy)]
+pub enum Front {
+    /// A scalar of one byte.
+    Single(char),
+    /// A scalar of two bytes.
+    Pair(char),
+    /// Anything else.
+    Other,
+}
+
+/// The common forms of a codec in which nothing is held back between two forms.
+pub trait CommonForms {
+    /// The grammar, and the bytes that are held back.
+    ghost state: { Self → DecoderState };
+
+    /// Whether nothing is held back, and each ASCII byte is its own scalar.
+    fn is_idle(&self) -> bool
+        ensures { result ≡ true → IsIdle (state self.now) };
+
+    /// What stands at the front of the input, by a byte past ASCII and the byte behind it: a scalar up
+    /// to U+FFFF, or `Other` for whatever is rare. The machine reads that.
+    fn front(&self, lead: u8, trail: u8) -> Front
+        requires { 0x80 ≤ lead }
+        ensures { FrontIs (state self.now).grammar lead trail result };
+}
 
 /// Reads at most so many forms, which surely fit, and stops at two ASCII bytes in a row and at what
 /// is not common. Answers how many bytes were read.
 #[inline(always)]
-fn forms<D: Machine, T: Destination>(decoder: &D, src: &[u8], dst: &mut T, turns: usize) -> usize
+fn forms<D: CommonForms, T: Destination>(
+    decoder: &D,
+    src: &[u8],
+    dst: &mut T,
+    turns: usize,
+) -> usize
     requires idle { IsIdle (D.state decoder.now) }
     requires source { 2 * turns ≤ length src.now }
     requires room { 3 * turns + 3 ≤ T.room dst.old }
@@ -51,7 +83,7 @@ fn forms<D: Machine, T: Destination>(decoder: &D, src: &[u8], dst: &mut T, turns
 /// Reads common forms and runs of ASCII from the front, while three code units more than they need
 /// are free. Answers how many bytes were read.
 #[inline]
-fn run<D: Machine, T: Destination>(decoder: &D, src: &[u8], dst: &mut T) -> usize
+fn run<D: CommonForms, T: Destination>(decoder: &D, src: &[u8], dst: &mut T) -> usize
     requires idle { IsIdle (D.state decoder.now) }
     ensures read { result ≤ length src.now }
     ensures writes { Writes T.form (D.state decoder.now).grammar (take result src.now) (T.contents dst.old) (T.contents dst.new) }
@@ -79,13 +111,8 @@ fn run<D: Machine, T: Destination>(decoder: &D, src: &[u8], dst: &mut T) -> usiz
 /// Reads common forms where nothing is held back. Answers how many bytes were read: none is an answer
 /// too.
 #[inline]
-pub fn ahead<D: Machine, T: Destination>(decoder: &D, src: &[u8], dst: &mut T) -> usize
-    ensures read { result ≤ length src.now }
-    ensures idle { 0 < result → (D.state decoder.now).held ≡ [] }
-    ensures writes { Writes T.form (D.state decoder.now).grammar (take result src.now) (T.contents dst.old) (T.contents dst.new) }
-    ensures room { T.room dst.new + length (T.contents dst.new) ≡ T.room dst.old + length (T.contents dst.old) }
-    ensures slack { 0 < result → 3 ≤ T.room dst.new }
-    ensures had { 0 < result → 4 ≤ T.room dst.old }
+pub fn ahead<D: CommonForms, T: Destination>(decoder: &D, src: &[u8], dst: &mut T) -> usize
+    ensures ahead { ReadsAhead T.form (D.state decoder.now) src.now result (T.contents dst.old) (T.contents dst.new) (T.room dst.old) (T.room dst.new) }
     ensures loan { T.loan dst.new ≡ T.loan dst.old }
 {
     if decoder.is_idle() {

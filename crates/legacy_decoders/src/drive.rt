@@ -1,10 +1,10 @@
 //! The one loop of all decoders, over the small moves that each decoder makes.
-ghost use Rattle.std.specs.Prelude.{◌≡◌, ℕ, ◌+◌, ◌≤◌, ◌↔◌, ◌++◌, length, IsTrue};
+ghost use Rattle.std.specs.Prelude.{◌≡◌, ℕ, ◌+◌, ◌≤◌, ◌↔◌, ◌++◌, length, IsTrue, true};
 ghost use Rattle.legacy_base.specs.EncodingForm.{all_code_units, total_unit_count};
+ghost use Rattle.legacy_base.specs.States.{rests};
 ghost use Rattle.legacy_base.specs.Calls.{IsDecoderCall};
-ghost use Rattle.legacy_decoders.specs.Moves.{room_units, fed_scalars};
+ghost use Rattle.legacy_decoders.specs.Moves.{room_units, fed_scalars, Finishes};
 
-use crate::ahead::ahead;
 use crate::machine::{Act, Fed, Machine, Room};
 use legacy_base::{DecoderResult, Destination};
 
@@ -37,6 +37,24 @@ fn put_fed<T: Destination>(dst: &mut T, fed: Fed)
     }
 }
 
+/// Ends a call whose input is read: where it is the last one, what is left is reported.
+#[inline]
+fn finish<D: Machine, T: Destination>(decoder: &mut D, dst: &T, last: bool) -> DecoderResult
+    requires { rests (D.state decoder.old).grammar (D.state decoder.old).held ≡ true }
+    ensures { Finishes T.form (D.state decoder.old) last (T.room dst.now) (D.state decoder.new) result }
+{
+    if !last || !decoder.has_rest() {
+        return DecoderResult::InputEmpty;
+    }
+    if !has_room(dst, decoder.room(Act::Report)) {
+        return DecoderResult::OutputFull;
+    }
+    match decoder.report() {
+        Some((length, back)) => DecoderResult::Malformed(length, back),
+        None => unreachable!(),
+    }
+}
+
 /// Lets the decoder make its moves until the input is read, room is lacking or a malformed sequence
 /// is to be reported. A scalar to be written first is held back only as a call begins. Runs of common
 /// forms are read ahead of the moves.
@@ -64,7 +82,7 @@ pub fn drive<D: Machine, T: Destination>(
     }
     let mut read = 0;
     loop {
-        read += ahead(&*decoder, &src[read..], dst);
+        read += decoder.read_ahead(&src[read..], dst);
         if read == src.len() {
             break;
         }
@@ -87,14 +105,5 @@ pub fn drive<D: Machine, T: Destination>(
         put_fed(dst, fed);
         read += 1;
     }
-    if last && decoder.has_rest() {
-        if !has_room(dst, decoder.room(Act::Report)) {
-            return (DecoderResult::OutputFull, src.len());
-        }
-        let Some((length, back)) = decoder.report() else {
-            unreachable!()
-        };
-        return (DecoderResult::Malformed(length, back), src.len());
-    }
-    (DecoderResult::InputEmpty, src.len())
+    (finish(decoder, dst, last), src.len())
 }

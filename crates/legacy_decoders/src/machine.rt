@@ -1,10 +1,12 @@
-//! The small moves that each decoder makes.
+//! The small moves that each decoder makes, and the runs that it reads ahead of them.
 ghost use Rattle.std.specs.Prelude.{◌≡◌, ◌≢◌, ◌≤◌, [], true, false, MatchOption};
 ghost use Rattle.legacy_base.specs.EncodingForm.{EncodingForm};
 ghost use Rattle.legacy_base.specs.Grammar.{events_of};
 ghost use Rattle.legacy_base.specs.States.{DecoderState, rests};
 ghost use Rattle.legacy_decoders.specs.Moves.{room_units, act_units, IsCovered, Releases, Feeds, Reports};
-ghost use Rattle.legacy_decoders.specs.Ahead.{IsIdle, FrontIs};
+ghost use Rattle.legacy_decoders.specs.Ahead.{ReadsAhead};
+
+use legacy_base::Destination;
 
 /// An amount of room in the output.
 #[derive(Clone, Copy)]
@@ -38,17 +40,6 @@ pub enum Fed {
     /// A malformed sequence of `length` bytes, with `back` bytes held back behind it. Where `unread`
     /// is set, the byte was not read.
     Fault { length: u8, back: u8, unread: bool },
-}
-
-/// What stands at the front of the input, where its first byte is past ASCII.
-#[derive(Clone, Copy)]
-pub enum Front {
-    /// A scalar of one byte.
-    Single(char),
-    /// A scalar of two bytes.
-    Pair(char),
-    /// Anything else.
-    Other,
 }
 
 /// The moves of a decoder.
@@ -85,23 +76,16 @@ pub trait Machine {
         ensures { MatchOption result (events_of (state self.old).grammar (state self.old).held ≡ [])
             (λ report. Reports (state self.old) (state self.new) report.0 report.1) };
 
-    /// Whether nothing is held back and each ASCII byte is its own scalar, so that runs of common
-    /// forms may be read ahead of the machine. A decoder without common forms answers no.
+    /// Reads a run of common forms from the front of the input and writes their scalars, as far as it
+    /// cares to, and answers how many bytes were read. It needs four free code units at least and leaves
+    /// three, so that no act of the machine would have lacked room. A decoder without common forms reads
+    /// none.
     #[inline]
-    fn is_idle(&self) -> bool
-        ensures { result ≡ true → IsIdle (state self.now) }
+    fn read_ahead<T: Destination>(&self, src: &[u8], dst: &mut T) -> usize
+        ensures ahead { ReadsAhead T.form (state self.now) src.now result (T.contents dst.old) (T.contents dst.new) (T.room dst.old) (T.room dst.new) }
+        ensures loan { T.loan dst.new ≡ T.loan dst.old }
     {
-        false
-    }
-
-    /// What stands at the front of the input, by a byte past ASCII and the byte behind it: a scalar up
-    /// to U+FFFF, or `Other` for whatever is rare. The machine reads that.
-    #[inline]
-    fn front(&self, lead: u8, trail: u8) -> Front
-        requires { 0x80 ≤ lead }
-        ensures { FrontIs (state self.now).grammar lead trail result }
-    {
-        let _ = (lead, trail);
-        Front::Other
+        let _ = (src.len(), dst.free());
+        0
     }
 }

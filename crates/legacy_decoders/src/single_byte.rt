@@ -6,8 +6,9 @@ ghost use Rattle.legacy_decoders.specs.Machines.{single_byte_first};
 ghost use Rattle.legacy_decoders.specs.Feeding.{Took};
 ghost use Rattle.legacy_decoders.specs.Decoders.{new_state};
 
+use crate::ahead::{CommonForms, Front, ahead};
 use crate::drive::drive;
-use crate::machine::{Act, Fed, Front, Machine, Room};
+use crate::machine::{Act, Fed, Machine, Room};
 use legacy_base::{DecoderResult, Destination, RawDecoder, SingleByteTable};
 
 /// The decoder of a single-byte encoding (Encoding Standard, "single-byte decoder").
@@ -112,6 +113,17 @@ impl Machine for SingleByteDecoder<'_> {
     fn report(&mut self) -> Option<(u8, u8)> {
         None
     }
+
+    #[inline]
+    fn read_ahead<T: Destination>(&self, src: &[u8], dst: &mut T) -> usize {
+        ahead(self, src, dst)
+    }
+}
+
+impl CommonForms for SingleByteDecoder<'_> {
+    ghost use Rattle.legacy_decoders.specs.SingleByteDecoder.{single_byte_state};
+
+    ghost state = { single_byte_state };
 
     #[inline]
     fn is_idle(&self) -> bool {

@@ -5,8 +5,9 @@ ghost use Rattle.legacy_decoders.specs.Machines.{user_defined_first};
 ghost use Rattle.legacy_decoders.specs.Feeding.{Took};
 ghost use Rattle.legacy_decoders.specs.Decoders.{new_state};
 
+use crate::ahead::{CommonForms, Front, ahead};
 use crate::drive::drive;
-use crate::machine::{Act, Fed, Front, Machine, Room};
+use crate::machine::{Act, Fed, Machine, Room};
 use legacy_base::{DecoderResult, Destination, RawDecoder};
 
 /// The decoder of x-user-defined (Encoding Standard, "x-user-defined decoder").
@@ -85,6 +86,17 @@ impl Machine for UserDefinedDecoder {
     fn report(&mut self) -> Option<(u8, u8)> {
         None
     }
+
+    #[inline]
+    fn read_ahead<T: Destination>(&self, src: &[u8], dst: &mut T) -> usize {
+        ahead(self, src, dst)
+    }
+}
+
+impl CommonForms for UserDefinedDecoder {
+    ghost use Rattle.legacy_decoders.specs.UserDefinedDecoder.{user_defined_state};
+
+    ghost state = { user_defined_state };
 
     #[inline]
     fn is_idle(&self) -> bool {

@@ -1,5 +1,5 @@
-use Rattle.legacy_decoders.proofs.Writing.{writes_none}
+use Rattle.legacy_decoders.proofs.Writing.{reads_none}
 use Rattle.legacy_decoders.proofs.ahead.ahead.Goals as goal
 
-pub returns-else-is_idle-clause-writes : goal.returns-else-is_idle-clause-writes
-returns-else-is_idle-clause-writes g c = writes_none g.T.Destination.form (g.D.Machine.state c.args.decoder.now).grammar (g.T.Destination.contents c.args.dst.now)
+pub returns-else-is_idle-clause-ahead : goal.returns-else-is_idle-clause-ahead
+returns-else-is_idle-clause-ahead g c = reads_none g.T.Destination.form (g.D.CommonForms.state c.args.decoder.now) c.args.src.now (g.T.Destination.contents c.args.dst.now) (g.T.Destination.room c.args.dst.now)

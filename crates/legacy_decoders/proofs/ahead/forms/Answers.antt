@@ -1,16 +1,15 @@
-use Rattle.std.proofs.Common.{◌≡◌, ◌∙◌, ℕ, ◌+◌, ◌-◌, ◌*◌, ◌<◌, ◌≤◌, List, [], ◌∷◌, ◌++◌, length, take, get_or, refl, sym, ap, subst, arith}
-use Rattle.legacy_base.specs.EncodingForm.{code_units}
-use Rattle.legacy_decoders.specs.Ahead.{Runs, FrontIs, Writes}
+use Rattle.std.proofs.Common.{◌∙◌, ℕ, [], ◌∷◌, get_or, refl, sym, subst, arith}
+use Rattle.legacy_decoders.specs.Ahead.{Runs}
 use Rattle.legacy_decoders.proofs.Writing.{writes_none, writes_one, writes_two, three_fit, short, room_step}
 use Rattle.legacy_decoders.proofs.ahead.forms.Goals as goal
 use Rattle.legacy_decoders.proofs.ahead.forms.Goals.{then-byte-lt128+else-next-lt128, else-byte-lt128+in-Pair, else-byte-lt128+in-Single}
 
 pub loop-left-init : goal.loop-left-init
-loop-left-init g c = (omega (arith, c.requires.source), c.requires.room, writes_none g.T.Destination.form ((g.D.Machine.state c.args.decoder.now).grammar) (g.T.Destination.contents c.args.dst.now), refl, refl)
+loop-left-init g c = (omega (arith, c.requires.source), c.requires.room, writes_none g.T.Destination.form ((g.D.CommonForms.state c.args.decoder.now).grammar) (g.T.Destination.contents c.args.dst.now), refl, refl)
 
 pub returns-then-next-lt128-clause-writes : goal.returns-then-next-lt128-clause-writes
 returns-then-next-lt128-clause-writes g c =
-    let G = (g.D.Machine.state c.args.decoder.now).grammar in
+    let G = (g.D.CommonForms.state c.args.decoder.now).grammar in
     let byte : ℕ = get_or c.args.src.now c.loop-left.at 0 in
     let i = c.loop-left.invariant in
     writes_one g.T.Destination.form G c.args.src.now _ _ _ c.loop-left.at c.from.result (omega (arith, i.0, c.loop-left-test.true)) i.2
@@ -25,7 +24,7 @@ put-requires-in-Single g c = three_fit g.T.Destination.form c.in-Single.c _ c.in
 pub loop-left-preserved : goal.loop-left-preserved
 loop-left-preserved g c =
     let F = g.T.Destination.form in
-    let G = (g.D.Machine.state c.args.decoder.now).grammar in
+    let G = (g.D.CommonForms.state c.args.decoder.now).grammar in
     let src = c.args.src.now in
     let byte : ℕ = get_or c.args.src.now c.loop-left.at 0 in
     let i = c.loop-left.invariant in

@@ -1,23 +1,23 @@
-use Rattle.std.proofs.Common.{◌≡◌, ◌∙◌, ℕ, ◌+◌, ◌-◌, ◌*◌, ◌<◌, ◌≤◌, List, [], ◌∷◌, ◌++◌, length, take, drop, get_or, refl, sym, ap, subst, arith}
+use Rattle.std.proofs.Common.{◌≡◌, ◌∙◌, ℕ, ◌+◌, ◌-◌, ◌≤◌, List, length, take, drop, refl, subst, arith}
 use Rattle.std.proofs.lemmas.List.{length-take, length-drop}
-use Rattle.legacy_decoders.specs.Ahead.{Runs, FrontIs, Writes}
+use Rattle.legacy_decoders.specs.Ahead.{Writes}
 use Rattle.legacy_decoders.proofs.Writing.{writes_none, writes_run, writes_ascii, room_step, room_falls}
 use Rattle.legacy_decoders.proofs.ahead.run.Goals as goal
 
 pub loop-at-init : goal.loop-at-init
-loop-at-init g c = (omega arith, (λ h. absurd (omega arith)), writes_none g.T.Destination.form ((g.D.Machine.state c.args.decoder.now).grammar) (g.T.Destination.contents c.args.dst.now), refl, refl, (λ h. absurd (omega arith)))
+loop-at-init g c = (omega arith, (λ h. absurd (omega arith)), writes_none g.T.Destination.form ((g.D.CommonForms.state c.args.decoder.now).grammar) (g.T.Destination.contents c.args.dst.now), refl, refl, (λ h. absurd (omega arith)))
 
 pub returns-then-turns-eq0-clause-writes : goal.returns-then-turns-eq0-clause-writes
 returns-then-turns-eq0-clause-writes g c =
     let e = c.copy_ascii-at.ensures in
     let count : ℕ = c.loop-at.at + c.min-count.result - c.loop-at.at in
-    writes_ascii g.T.Destination.form ((g.D.Machine.state c.args.decoder.now).grammar) c.args.src.now _ _ _ c.loop-at.at c.copy_ascii-at.result count (c.requires.idle.ascii)
+    writes_ascii g.T.Destination.form ((g.D.CommonForms.state c.args.decoder.now).grammar) c.args.src.now _ _ _ c.loop-at.at c.copy_ascii-at.result count (c.requires.idle.ascii)
     (omega (arith, e.read, length-take count (drop c.loop-at.at c.args.src.now))) c.loop-at.invariant.2 e.ascii e.contents
 
 pub returns-then-read-eq0-clause-writes : goal.returns-then-read-eq0-clause-writes
 returns-then-read-eq0-clause-writes g c =
     let F = g.T.Destination.form in
-    let G = (g.D.Machine.state c.args.decoder.now).grammar in
+    let G = (g.D.CommonForms.state c.args.decoder.now).grammar in
     let src = c.args.src.now in
     let e = c.copy_ascii-at.ensures in
     let count : ℕ = c.loop-at.at + c.min-count.result - c.loop-at.at in
@@ -31,7 +31,7 @@ returns-then-read-eq0-clause-writes g c =
 pub loop-at-preserved : goal.loop-at-preserved
 loop-at-preserved g c =
     let F = g.T.Destination.form in
-    let G = (g.D.Machine.state c.args.decoder.now).grammar in
+    let G = (g.D.CommonForms.state c.args.decoder.now).grammar in
     let src = c.args.src.now in
     let e = c.copy_ascii-at.ensures in
     let f = c.forms-read.ensures in

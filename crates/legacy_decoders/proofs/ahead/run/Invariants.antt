@@ -1,4 +1,4 @@
-use Rattle.std.proofs.Common.{◌≡◌, ℕ, ◌+◌, ◌-◌, ◌*◌, ◌<◌, ◌≤◌, length, take}
+use Rattle.std.proofs.Common.{◌≡◌, ◌+◌, ◌-◌, ◌<◌, ◌≤◌, length, take}
 use Rattle.legacy_decoders.specs.Ahead.{Writes}
 use Rattle.legacy_decoders.proofs.ahead.run.Given as goal
 
@@ -8,7 +8,7 @@ invariant-loop-at g l =
     let T = g.T.Destination in
     (l.at ≤ length l.src)
     × (0 < l.at → 3 ≤ T.room l.dst)
-    × Writes T.form ((g.D.Machine.state l.decoder).grammar) (take l.at l.src) (T.contents l.fn.dst) (T.contents l.dst)
+    × Writes T.form ((g.D.CommonForms.state l.decoder).grammar) (take l.at l.src) (T.contents l.fn.dst) (T.contents l.dst)
     × (T.room l.dst + length (T.contents l.dst) ≡ T.room l.fn.dst + length (T.contents l.fn.dst))
     × (T.loan l.dst ≡ T.loan l.fn.dst)
     × (0 < l.at → 4 ≤ T.room l.fn.dst)
