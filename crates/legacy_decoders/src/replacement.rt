@@ -1,5 +1,5 @@
 //! The replacement decoder.
-ghost use Rattle.std.specs.Prelude.{◌≡◌, [], false};
+ghost use Rattle.std.specs.Prelude.{◌≡◌, false};
 ghost use Rattle.legacy_base.specs.Grammar.{replacement};
 ghost use Rattle.legacy_decoders.specs.Decoders.{new_state};
 

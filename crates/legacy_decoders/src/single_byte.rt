@@ -1,5 +1,5 @@
 //! The decoder of the single-byte encodings.
-ghost use Rattle.std.specs.Prelude.{◌≡◌, [], ◌-◌, length};
+ghost use Rattle.std.specs.Prelude.{◌≡◌, [], length};
 ghost use Rattle.legacy_base.specs.Grammar.{single_byte};
 ghost use Rattle.legacy_base.specs.Latin1.{is_latin1_byte, latin1_front};
 ghost use Rattle.legacy_decoders.specs.Machines.{single_byte_first};

@@ -1,7 +1,6 @@
 //! The decoder of UTF-16.
-ghost use Rattle.std.specs.Prelude.{◌≡◌, ◌≢◌, ◌+◌, [], ◌∷◌, length, true};
+ghost use Rattle.std.specs.Prelude.{◌≡◌};
 ghost use Rattle.legacy_base.specs.Grammar.{utf16};
-ghost use Rattle.legacy_base.specs.Utf16.{unit_of};
 ghost use Rattle.legacy_base.specs.States.{additional_from_state};
 ghost use Rattle.legacy_base.specs.Lengths.{answer, utf16_units};
 ghost use Rattle.legacy_decoders.specs.Decoders.{new_state};
