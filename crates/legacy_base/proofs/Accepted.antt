@@ -1,8 +1,9 @@
 -- What is known of indexes and single-byte tables that passed their check.
-use Rattle.std.proofs.Common.{◌≡◌, ◌∙◌, ℕ, zero, suc, ◌+◌, ◌-◌, ◌≤◌, ◌<◌, List, [], ◌∷◌, length, get_or, refl, sym, ap, arith, Some, None, Option, true, false, Bool, ◌&&◌, ◌||◌, not, cond, eq-eqb, nat_le, subst, inl, inr}
+use Rattle.std.proofs.Common.{◌≡◌, ◌∙◌, ℕ, zero, suc, ◌+◌, ◌-◌, ◌≤◌, ◌<◌, List, [], ◌∷◌, length, get_or, refl, sym, ap, arith, Some, None, Option, true, false, Bool, ◌&&◌, ◌||◌, not, cond, eq-eqb, nat_le, subst, inl, inr, eqb, ◌==◌, IfSome}
 use Rattle.std.proofs.lemmas.Bool.{ne_eqb, cases_lt, true≢false}
 use Rattle.std.proofs.lemmas.Bool.Decides.{nat_tests}
-use Rattle.std.proofs.lemmas.List.Elements.{All-from_get_or}
+use Rattle.std.proofs.lemmas.List.{get_or_past}
+use Rattle.std.proofs.lemmas.List.Elements.{All-get_or, All-from_get_or}
 use Rattle.std.specs.List.{All}
 use Rattle.std.specs.Char.{IsScalar}
 use Rattle.std.specs.Option.{option_or, SomeIff}
@@ -13,7 +14,7 @@ use Rattle.legacy_base.specs.declared.tables.IndexName.{IndexName}
 use Rattle.legacy_base.specs.declared.tables.IndexName.TheVariants as names
 use Rattle.legacy_base.specs.declared.tables.TableError.{TableError}
 use Rattle.legacy_base.specs.declared.tables.TableError.TheVariants.{TooLong, BadEntry, NotEmpty, KatakanaLength, RangeOrder, RangeValue}
-use Rattle.legacy_base.specs.Indexes.{FlatIndexes, idx, last_range_scalar}
+use Rattle.legacy_base.specs.Indexes.{FlatIndexes, entry_scalar, idx, range, last_range_scalar}
 use Rattle.legacy_base.specs.Unicode.{AreScalars}
 use Rattle.legacy_base.specs.TableChecks.{is_narrow_entry, is_entry, must_be_empty, entry_fault, entries_fault, index_fault, katakana_fault, range_order_fault, next_pointer, has_range_scalars, range_value_fault, table_fault, AreAccepted}
 
@@ -278,3 +279,43 @@ last_range-scalar place (r ∷ ranges) e p c h is =
         let here : IsScalar (r.1 + (p - r.0)) = in_range-scalar r.0 r.1 (next_pointer ranges) p t.0 (leb-true r.0 p s) (next-above ranges p h q) in
         let same : r.1 + (p - r.0) ≡ c = cc in
         subst IsScalar same here
+
+-- what all entries of an index are, the scalar of each pointer is
+pub idx-all : (P : ℕ → Type 0) (index : List ℕ) → All P index → (p c : ℕ) → idx index p ≡ Some c → P c
+idx-all P index all p c e = elim (cases_lt p (length index)) [
+  | inl h ↦ subst P (idx-entry (get_or index p 0) c e) (All-get_or P index p 0 h all)
+  | inr h ↦ absurd (no_scalar (get_or index p 0) c (get_or_past index p 0 h) e)
+]
+  where
+    no_scalar : (entry c : ℕ) → entry ≡ 0 → entry_scalar entry ≡ Some c → ⊥
+    no_scalar entry c z h = let f = rw (eq-eqb entry 0 z) at h in cc
+
+    idx-entry : (entry c : ℕ) → entry_scalar entry ≡ Some c → entry ≡ c
+    idx-entry entry c h = go (eqb entry 0) h
+      where
+        go : (t : Bool) → cond t None (Some entry) ≡ Some c → entry ≡ c
+        go true z = cc
+        go false z = cc
+
+-- the same of what a look-up answers
+pub idx-holds : (P : ℕ → Type 0) (index : List ℕ) → All P index → (p : ℕ) → IfSome (idx index p) P
+idx-holds P index all p = go (idx index p) (λ c e. idx-all P index all p c e)
+  where
+    go : (o : Option ℕ) → ((c : ℕ) → o ≡ Some c → P c) → IfSome o P
+    go None h = tt
+    go (Some c) h = h c refl
+
+wide-scalar : (p : ℕ) → is_in_range 189000 1237575 p ≡ true → IsScalar (0x1_0000 + (p - 189000))
+wide-scalar p h = grind (arith, nat_tests)
+
+-- what `range` gives for accepted ranges is a scalar
+pub range-scalar : (flat : FlatIndexes) → AreAccepted flat → (p c : ℕ) → range flat.ranges p ≡ Some c → IsScalar c
+unfolding range
+range-scalar flat accepted p c e = go (p == 7457) (is_in_range 189000 1237575 p) (nat_le p 39419) refl refl e
+  where
+    go : (a b t : Bool) → is_in_range 189000 1237575 p ≡ b → nat_le p 39419 ≡ t
+        → cond a (Some 0xE7C7) (cond b (Some (0x1_0000 + (p - 189000))) (cond t (last_range_scalar flat.ranges p) None)) ≡ Some c → IsScalar c
+    go true b t q s z = let same : 0xE7C7 ≡ c = cc in subst IsScalar same refl
+    go false true t q s z = let same : 0x1_0000 + (p - 189000) ≡ c = cc in subst IsScalar same (wide-scalar p q)
+    go false false true q s z = last_range-scalar 0 flat.ranges (parts flat accepted).valued p c (leb-true p 39419 s) z
+    go false false false q s z = cc

@@ -18,6 +18,10 @@ cut-place front zero k p (b ∷ rest) =
     (ap₂ ◌++◌ (front_events-place k p (front b rest)) (cut-place front (pred (front_length (front b rest))) k (p + 1) rest))
 cut-place front (suc skip) k p (b ∷ rest) = rw add_assoc (cut-place front skip k (p + 1) rest)
 
+-- the same by what it gives at place 0
+pub cut_from_zero : (front : ℕ → List ℕ → Front) (skip p : ℕ) (bytes : List ℕ) → cut front skip p bytes ≡ shift p (cut front skip 0 bytes)
+cut_from_zero front skip p bytes = rw (← (cut-place front skip p 0 bytes), add-zero)
+
 -- the bytes of a front that began before
 pub cut-skip : (front : ℕ → List ℕ → Front) (n p : ℕ) (bytes : List ℕ) → cut front n p bytes ≡ cut front 0 (p + n) (drop n bytes)
 unfolding cut

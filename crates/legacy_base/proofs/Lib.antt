@@ -6,6 +6,8 @@ pub mod Cuts
 pub mod Progress
 pub mod Rooms
 pub mod Enough
+pub mod Iso2022JpParts
+pub mod Iso2022JpFronts
 pub mod TableLoops
 pub mod Accepted
 pub mod AcceptedTable

@@ -36,16 +36,20 @@ pub record AcceptedTable : Type 0 where
 -- ---- how proofs tell two of these values apart: by their lists alone
 
 module _ {A : Type 0} where
+  -- a test tells none
   abbrev by_test : (o : Option A) → true ≡ is_none o → None ≡ o
   by_test None e = refl
   by_test (Some x) e = absurd (true≢false e)
 
+  -- and tells its proofs apart
   by_test-ap : (o : Option A) (p : None ≡ o) → by_test o (ap is_none p) ≡ p
   by_test-ap o p = path_j (λ (z : Option A) (q : None ≡ z). by_test z (ap is_none q) ≡ q) refl p
 
+  -- an equation turned twice
   sym-sym : {x y : Option A} (p : x ≡ y) → sym (sym p) ≡ p
   sym-sym {x} p = path_j (λ (z : Option A) (q : x ≡ z). sym (sym q) ≡ q) (ap sym sym_refl ∙ sym_refl) p
 
+  -- the same the other way round
   from_none-prop : (o : Option A) → IsProp (None ≡ o)
   from_none-prop o p q = sym (by_test-ap o p) ∙ ap (by_test o) (Bool-set true (is_none o) (ap is_none p) (ap is_none q)) ∙ by_test-ap o q
 
@@ -53,9 +57,11 @@ module _ {A : Type 0} where
   pub none-prop : (o : Option A) → IsProp (o ≡ None)
   none-prop o p q = sym (sym-sym p) ∙ ap sym (from_none-prop o (sym p) (sym q)) ∙ sym-sym q
 
+-- a list of numbers is stored as it is
 abbrev numbers : Coded (List ℕ)
 numbers = coded_list coded_ℕ
 
+-- indexes are stored as their seven lists
 abbrev coded_flat : Coded FlatIndexes
 coded_flat =
     code_by (List ℕ × (List ℕ × (List ℕ × (List ℕ × (List ℕ × (List ℕ × List (ℕ × ℕ)))))))

@@ -96,7 +96,8 @@ impl SingleByteTable {
         narrow_entry(&self.entries, place)
     }
 
-    /// The place that holds the scalar value, or `None` where none does. No place holds U+0000.
+    /// The place that holds the scalar value, or `None` where none does (Encoding Standard, "index
+    /// pointer"). At most one place does. No place holds U+0000.
     pub fn place(&self, c: char) -> Option<usize>
         ensures { (place : ℕ) → (result ≡ Some place) ↔ (idx self.now.entries place ≡ Some c) }
     {

@@ -40,3 +40,12 @@ pub mod UserDefinedRuns
 pub mod Gb18030Held
 pub mod EucJpHeld
 pub mod SingleByteRuns
+pub mod Iso2022JpEntries
+pub mod Iso2022JpLaw
+pub mod Iso2022JpStep
+pub mod Iso2022JpHeld
+pub mod Iso2022JpEnd
+pub mod Iso2022JpRooms
+pub mod Iso2022JpFeeding
+pub mod Iso2022JpEnding
+pub mod Iso2022JpStates

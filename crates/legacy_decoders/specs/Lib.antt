@@ -20,3 +20,6 @@ pub mod ShiftJisDecoder
 pub mod Utf16Decoder
 pub mod ReplacementDecoder
 pub mod SingleByteDecoder
+pub mod Iso2022JpMachine
+pub mod Iso2022JpMoves
+pub mod Iso2022JpDecoder

@@ -9,7 +9,7 @@ use super::{IndexName, TableError};
 const LAST_RANGE_POINTER: u16 = 39419;
 
 /// Whether the entry is a scalar of the Basic Multilingual Plane past ASCII.
-pub fn is_narrow(entry: u32) -> bool
+pub(crate) fn is_narrow(entry: u32) -> bool
     ensures { result ≡ is_narrow_entry entry }
 {
     matches!(entry, 0x80..=0xD7FF | 0xE000..=0xFFFF)
@@ -53,7 +53,7 @@ fn check_entry(name: IndexName, pointer: usize, entry: u32) -> Result<(), TableE
 }
 
 /// Checks the length and the entries of index Big5.
-pub fn check_big5(index: &[u32]) -> Result<(), TableError>
+pub(super) fn check_big5(index: &[u32]) -> Result<(), TableError>
     ensures { let found = index_fault names.Big5 19782 index.now in MatchResult result (λ _. found ≡ None) (λ fault. found ≡ Some fault) }
 {
     if index.len() > 19782 {
@@ -76,7 +76,7 @@ fn check_entries(name: IndexName, index: &[u16]) -> Result<(), TableError>
 }
 
 /// Checks the length and the entries of an index of at most so many.
-pub fn check_index(name: IndexName, limit: usize, index: &[u16]) -> Result<(), TableError>
+pub(super) fn check_index(name: IndexName, limit: usize, index: &[u16]) -> Result<(), TableError>
     ensures { let found = index_fault name limit index.now in MatchResult result (λ _. found ≡ None) (λ fault. found ≡ Some fault) }
 {
     if index.len() > limit {
@@ -86,7 +86,7 @@ pub fn check_index(name: IndexName, limit: usize, index: &[u16]) -> Result<(), T
 }
 
 /// Checks the length and the entries of the katakana index.
-pub fn check_katakana(index: &[u16]) -> Result<(), TableError>
+pub(super) fn check_katakana(index: &[u16]) -> Result<(), TableError>
     ensures { let found = katakana_fault index.now in MatchResult result (λ _. found ≡ None) (λ fault. found ≡ Some fault) }
 {
     if index.len() != 0 && index.len() != 63 {
@@ -112,7 +112,7 @@ fn is_in_order(before: Option<(u16, u16)>, range: (u16, u16)) -> bool
 }
 
 /// Checks that pointers and scalars rise from range to range, and where the last one starts.
-pub fn check_range_order(ranges: &[(u16, u16)]) -> Result<(), TableError>
+pub(super) fn check_range_order(ranges: &[(u16, u16)]) -> Result<(), TableError>
     ensures { let found = range_order_fault 0 None ranges.now in MatchResult result (λ _. found ≡ None) (λ fault. found ≡ Some fault) }
 {
     let mut before = None;
@@ -146,7 +146,7 @@ fn end_of(ranges: &[(u16, u16)], place: usize) -> u16
 }
 
 /// Checks the scalars of each range.
-pub fn check_range_scalars(ranges: &[(u16, u16)]) -> Result<(), TableError>
+pub(super) fn check_range_scalars(ranges: &[(u16, u16)]) -> Result<(), TableError>
     ensures { let found = range_value_fault 0 ranges.now in MatchResult result (λ _. found ≡ None) (λ fault. found ≡ Some fault) }
 {
     for (place, range) in ranges.iter().enumerate() {

@@ -20,7 +20,7 @@ fn scalar_of(entry: u32) -> Option<char>
 
 /// The scalar of a pointer in an index of wide entries.
 #[inline]
-pub fn wide_entry(index: &[u32], pointer: usize) -> Option<char>
+pub(super) fn wide_entry(index: &[u32], pointer: usize) -> Option<char>
     requires { AreScalars index.now }
     ensures { result ≡ idx index.now pointer }
 {
@@ -33,7 +33,7 @@ pub fn wide_entry(index: &[u32], pointer: usize) -> Option<char>
 
 /// The scalar of a pointer in an index of narrow entries.
 #[inline]
-pub fn narrow_entry(index: &[u16], pointer: usize) -> Option<char>
+pub(crate) fn narrow_entry(index: &[u16], pointer: usize) -> Option<char>
     requires { AreScalars index.now }
     ensures { result ≡ idx index.now pointer }
 {
@@ -71,7 +71,7 @@ fn last_range(ranges: &[(u16, u16)], pointer: usize) -> Option<char>
 
 /// The scalar of a pointer of four bytes.
 #[tactic(auto, unfolding(crate::specs::Indexes::range))]
-pub fn range_scalar(ranges: &[(u16, u16)], pointer: usize) -> Option<char>
+pub(super) fn range_scalar(ranges: &[(u16, u16)], pointer: usize) -> Option<char>
     requires ordered { range_order_fault 0 None ranges.now ≡ None }
     requires valued { range_value_fault 0 ranges.now ≡ None }
     ensures { result ≡ range ranges.now pointer }

@@ -1,0 +1,133 @@
+-- The parts of a list that is cut before its escape bytes: the front up to the first escape byte, and the parts
+-- behind it. The events of a list, by these two.
+use Rattle.std.proofs.Common.{◌≡◌, ℕ, ◌+◌, Bool, true, false, cond, None, List, [], ◌∷◌, ◌++◌, drop, length, refl, add_assoc, zero-add, add-zero}
+use Rattle.std.specs.Prelude.{◌==◌, ◌&&◌, unwrap_or, is_some}
+use Rattle.legacy_base.specs.declared.results.DecodeEvent.TheVariants.{Bad}
+use Rattle.legacy_base.specs.Events.{shift}
+use Rattle.legacy_base.specs.Fronts.{cut}
+use Rattle.legacy_base.specs.Iso2022Jp.{Mode, esc, parts_of, part_mode, escape_length, begins_valid, iso_2022_jp_front, escape_events, part_events, parts_events, iso_2022_jp_events}
+use Rattle.legacy_base.proofs.Shifts.{shift-append}
+use Rattle.legacy_base.proofs.Cuts.{cut-place}
+
+-- the bytes before the first escape byte
+abbrev pub first_part : List ℕ → List ℕ
+first_part [] = []
+first_part (b ∷ bytes) = cond (b == esc) [] (b ∷ first_part bytes)
+
+-- the parts from the first escape byte on
+abbrev pub later_parts : List ℕ → List (List ℕ)
+later_parts [] = []
+later_parts (b ∷ bytes) = cond (b == esc) ((b ∷ first_part bytes) ∷ later_parts bytes) (later_parts bytes)
+
+-- the list cut before its escape bytes is these two
+pub parts_of-is : (bytes : List ℕ) → parts_of bytes ≡ first_part bytes ∷ later_parts bytes
+unfolding parts_of
+parts_of-is [] = refl
+parts_of-is (b ∷ bytes) = rw (parts_of-is bytes)
+    (elim (b == esc) as (λ t. cond t ([] ∷ (b ∷ first_part bytes) ∷ later_parts bytes) ((b ∷ first_part bytes) ∷ later_parts bytes)
+    ≡ cond t [] (b ∷ first_part bytes) ∷ cond t ((b ∷ first_part bytes) ∷ later_parts bytes) (later_parts bytes))
+    [ true ↦ refl | false ↦ refl ])
+
+-- a part that begins with another byte has no escape
+pub no_escape : (b : ℕ) (part : List ℕ) → (b == esc) ≡ false → part_mode (b ∷ part) ≡ None
+unfolding part_mode
+no_escape b [] h = refl
+no_escape b (a ∷ []) h = refl
+no_escape b (a ∷ c ∷ part) h = rw h
+
+-- what stands before the body of a part that begins with another byte, or is empty: nothing
+escape_length-none : (b : ℕ) (part : List ℕ) → (b == esc) ≡ false → escape_length (b ∷ part) ≡ 0
+unfolding escape_length
+escape_length-none b part h = rw (no_escape b part h, h)
+
+escape_events-none : (place b : ℕ) (part : List ℕ) (next : List (List ℕ)) → (b == esc) ≡ false → escape_events place (b ∷ part) next ≡ []
+unfolding escape_events
+escape_events-none place b part next h = rw (no_escape b part h, h)
+
+-- the first part has no escape, valid or not
+first_mode : (bytes : List ℕ) → part_mode (first_part bytes) ≡ None
+unfolding part_mode
+first_mode [] = refl
+first_mode (b ∷ bytes) = by_test (b == esc) refl
+  where
+    by_test : (t : Bool) → (b == esc) ≡ t → part_mode (cond t [] (b ∷ first_part bytes)) ≡ None
+    by_test true h = refl
+    by_test false h = no_escape b (first_part bytes) h
+
+first_length : (bytes : List ℕ) → escape_length (first_part bytes) ≡ 0
+unfolding escape_length
+first_length [] = refl
+first_length (b ∷ bytes) = by_test (b == esc) refl
+  where
+    by_test : (t : Bool) → (b == esc) ≡ t → escape_length (cond t [] (b ∷ first_part bytes)) ≡ 0
+    by_test true h = refl
+    by_test false h = escape_length-none b (first_part bytes) h
+
+first_escape_events : (place : ℕ) (bytes : List ℕ) (next : List (List ℕ)) → escape_events place (first_part bytes) next ≡ []
+unfolding escape_events
+first_escape_events place [] next = refl
+first_escape_events place (b ∷ bytes) next = by_test (b == esc) refl
+  where
+    by_test : (t : Bool) → (b == esc) ≡ t → escape_events place (cond t [] (b ∷ first_part bytes)) next ≡ []
+    by_test true h = refl
+    by_test false h = escape_events-none place b (first_part bytes) next h
+
+-- the first part is its body, in the mode in which the list begins
+first_events : (jis0208 : List ℕ) (mode : Mode) (place : ℕ) (bytes : List ℕ) (next : List (List ℕ))
+    → parts_events jis0208 mode place (first_part bytes ∷ next)
+    ≡ cut (iso_2022_jp_front jis0208 mode) 0 place (first_part bytes)
+    ++ parts_events jis0208 mode (place + length (first_part bytes)) next
+unfolding parts_events part_events
+first_events jis0208 mode place bytes next =
+    rw (first_mode bytes, first_escape_events place bytes next, first_length bytes, add-zero)
+
+-- what parts give that stand k places further on
+escape_events-shift : (k place : ℕ) (part : List ℕ) (next : List (List ℕ))
+    → escape_events (k + place) part next ≡ shift k (escape_events place part next)
+unfolding escape_events
+escape_events-shift k place [] next = refl
+escape_events-shift k place (b ∷ part) next = by_tests (is_some (part_mode (b ∷ part))) (b == esc) (length (b ∷ part) == 3 && begins_valid next)
+  where
+    by_tests : (valid escapes bare : Bool) →
+        cond valid (cond bare (Bad (k + place) 3 ∷ []) []) (cond escapes (Bad (k + place) 1 ∷ []) [])
+        ≡ shift k (cond valid (cond bare (Bad place 3 ∷ []) []) (cond escapes (Bad place 1 ∷ []) []))
+    by_tests true escapes true = refl
+    by_tests true escapes false = refl
+    by_tests false true bare = refl
+    by_tests false false bare = refl
+
+part_events-shift : (jis0208 : List ℕ) (mode : Mode) (k place : ℕ) (part : List ℕ) (next : List (List ℕ))
+    → part_events jis0208 mode (k + place) part next ≡ shift k (part_events jis0208 mode place part next)
+unfolding part_events
+part_events-shift jis0208 mode k place part next =
+    rw (shift-append, add_assoc, escape_events-shift k place part next, cut-place (iso_2022_jp_front jis0208 mode) 0 k (place + escape_length part) (drop (escape_length part) part))
+
+pub parts_events-shift : (jis0208 : List ℕ) (mode : Mode) (k place : ℕ) (parts : List (List ℕ))
+    → parts_events jis0208 mode (k + place) parts ≡ shift k (parts_events jis0208 mode place parts)
+unfolding parts_events
+parts_events-shift jis0208 mode k place [] = refl
+parts_events-shift jis0208 mode k place (part ∷ parts) =
+    rw (
+      shift-append,
+      add_assoc,
+      part_events-shift jis0208 (unwrap_or (part_mode part) mode) k place part parts,
+      parts_events-shift jis0208 (unwrap_or (part_mode part) mode) k (place + length part) parts,
+    )
+
+pub parts_events-at : (jis0208 : List ℕ) (mode : Mode) (place : ℕ) (parts : List (List ℕ))
+    → parts_events jis0208 mode place parts ≡ shift place (parts_events jis0208 mode 0 parts)
+parts_events-at jis0208 mode place parts = rw (← (parts_events-shift jis0208 mode place 0 parts), add-zero)
+
+-- the events of a list: its first part's, read in the mode, and those of the parts behind
+pub events-by_parts : (jis0208 : List ℕ) (mode : Mode) (bytes : List ℕ)
+    → iso_2022_jp_events jis0208 mode bytes
+    ≡ cut (iso_2022_jp_front jis0208 mode) 0 0 (first_part bytes)
+    ++ shift (length (first_part bytes)) (parts_events jis0208 mode 0 (later_parts bytes))
+unfolding iso_2022_jp_events
+events-by_parts jis0208 mode bytes =
+    rw (
+      parts_of-is bytes,
+      first_events jis0208 mode 0 bytes (later_parts bytes),
+      zero-add,
+      parts_events-at jis0208 mode (length (first_part bytes)) (later_parts bytes),
+    )
