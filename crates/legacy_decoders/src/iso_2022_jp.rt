@@ -11,7 +11,8 @@ mod steps;
 #[cfg(test)]
 mod tests;
 
-use crate::machine::{Act, Fed, Machine, Room, drive};
+use crate::drive::drive;
+use crate::machine::{Act, Fed, Machine, Room};
 use legacy_base::{DecoderResult, Destination, RawDecoder, Tables};
 use steps::{Held, Mode, Start, finish, pending, read};
 
