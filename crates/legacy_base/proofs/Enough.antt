@@ -13,7 +13,7 @@ answer-value f k e = by_test (has_lengths f) e where
   by_test false h = cc
 
 -- each formula rises with the number of bytes
-rises : (query : LengthQuery) (g : Grammar) (held : List ℕ) (m n : ℕ) → m ≤ n → value (state_formula query (record { grammar = g; held = held }) m) ≤ value (state_formula query (record { grammar = g; held = held }) n)
+pub rises : (query : LengthQuery) (g : Grammar) (held : List ℕ) (m n : ℕ) → m ≤ n → value (state_formula query (record { grammar = g; held = held }) m) ≤ value (state_formula query (record { grammar = g; held = held }) n)
 rises to_utf16 (single_byte table) held m n h = h
 rises to_utf16 user_defined held m n h = h
 rises to_utf16 (replacement reported) held m n h = omega arith

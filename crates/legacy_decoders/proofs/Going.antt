@@ -7,6 +7,7 @@ use Rattle.std.proofs.lemmas.Bool.{true≢false, ne_eqb}
 use Rattle.std.proofs.Math.ListN.{drop_of_length-le}
 use Rattle.std.specs.Char.{IsScalar}
 use Rattle.legacy_base.specs.declared.results.DecodeEvent.TheVariants.{Scalar, Bad}
+use Rattle.legacy_base.specs.declared.results.DecoderResult.{DecoderResult}
 use Rattle.legacy_base.specs.declared.results.DecoderResult.TheVariants.{InputEmpty, OutputFull, Malformed}
 use Rattle.legacy_base.specs.EncodingForm.{EncodingForm, unit_count, total_unit_count}
 use Rattle.legacy_base.specs.Events.{shift}
@@ -21,7 +22,7 @@ use Rattle.legacy_base.proofs.Rooms.{total_unit_count-append, HadRooms-append, H
 use Rattle.legacy_base.proofs.Enough.{room-answer}
 use Rattle.legacy_decoders.specs.declared.machine.Fed.{Fed}
 use Rattle.legacy_decoders.specs.declared.machine.Fed.TheVariants.{Nothing, One, Two, Fault}
-use Rattle.legacy_decoders.specs.Moves.{SameRooms, Feeds, Releases, Reports, IsCovered, read_room, fed_scalars, fed_fault, fed_units, unread_byte, FedHolds, IsFaulty}
+use Rattle.legacy_decoders.specs.Moves.{SameRooms, Feeds, Releases, Reports, Finishes, IsCovered, read_room, fed_scalars, fed_fault, fed_units, unread_byte, FedHolds, IsFaulty}
 
 -- A call under way: the decoder is in the state `now`, it has read so many bytes and written these scalars.
 pub record Going (form : EncodingForm) (before : DecoderState) (source : List ℕ) (last : Bool) (free : ℕ) (now : DecoderState) (read : ℕ) (scalars : List ℕ) : Type 0 where
@@ -340,6 +341,13 @@ module _ (form : EncodingForm) (before : DecoderState) (source : List ℕ) (last
           suffices = λ query q le x. cc;
           enough = λ query q n k le answered most x. cc;
         }
+
+    -- the call ends behind its input
+    pub call_finish : (next : DecoderState) (answer : DecoderResult) (left : ℕ) → read ≡ length source → left + total_unit_count form scalars ≡ free → Finishes form now last left next answer →
+        DecoderCall form before source last free next answer read scalars
+    call_finish next InputEmpty left all e f = rw f.0 (call_done all f.1)
+    call_finish next OutputFull left all e f = rw f.0 (call_full_report f.4 all f.1 f.2 (omega (arith, f.3)))
+    call_finish next (Malformed a b) left all e f = call_report next a b all f.0 f.1 (omega (arith, f.2)) f.3
 
   -- the scalar that is held back lacks its room
   pub call_full_release : IsCovered before → rests before.grammar before.held ≡ false → free < release_room form before.grammar → DecoderCall form before source last free before OutputFull 0 []

@@ -37,6 +37,8 @@ pub mod Writing
 pub mod AheadRuns
 pub mod RunForms
 pub mod UserDefinedRuns
+pub mod Gb18030Held
+pub mod EucJpHeld
 pub mod SingleByteRuns
 pub mod Iso2022JpEntries
 pub mod Iso2022JpLaw

@@ -1,8 +1,8 @@
 -- The runs of the single-byte decoders.
-use Rattle.std.proofs.Common.{◌≡◌, true, false, ℕ, ◌-◌, ◌≤◌, ◌<◌, ◌^◌, [], ◌∷◌, length, get_or, Some, refl, sym, subst, ◌∙◌, arith, inl, inr, All}
+use Rattle.std.proofs.Common.{◌≡◌, ℕ, ◌-◌, ◌≤◌, ◌<◌, ◌^◌, [], ◌∷◌, length, get_or, Some, refl, sym, subst, ◌∙◌, arith, inl, inr, All}
 use Rattle.std.proofs.lemmas.Bool.{ne_eqb, cases_lt}
 use Rattle.std.proofs.lemmas.List.{get_or_past}
-use Rattle.std.specs.Char.{IsScalar, is_ascii}
+use Rattle.std.specs.Char.{IsScalar}
 use Rattle.legacy_base.specs.Indexes.{entry_scalar, idx}
 use Rattle.legacy_base.specs.AcceptedTables.{AcceptedTable}
 use Rattle.legacy_base.specs.Grammar.{single_byte}

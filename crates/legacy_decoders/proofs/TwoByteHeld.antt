@@ -1,10 +1,10 @@
 -- What decoders of forms of two bytes hold back, they may hold back.
-use Rattle.std.proofs.Common.{◌≡◌, ◌≢◌, ◌≤◌, ◌^◌, ◌<◌, ℕ, List, [], ◌∷◌, Option, Some, None, is_some, true, false, refl, arith}
+use Rattle.std.proofs.Common.{◌≡◌, ◌≢◌, ◌≤◌, ◌^◌, ◌<◌, ℕ, List, [], ◌∷◌, Option, Some, None, is_some, ◌&&◌, true, false, refl, arith}
 use Rattle.std.proofs.lemmas.Bool.Decides.{nat_tests}
 use Rattle.std.proofs.lemmas.List.Elements.{All-nil, All-cons}
 use Rattle.legacy_base.specs.Unicode.{IsByte, AreBytes}
 use Rattle.legacy_base.specs.ShiftJis.{is_shift_jis_lead}
-use Rattle.legacy_base.specs.States.{is_lead, single_lead_may_hold}
+use Rattle.legacy_base.specs.States.{is_lead, is_empty, single_lead_may_hold}
 use Rattle.legacy_decoders.specs.declared.held.Lead.{Lead}
 use Rattle.legacy_decoders.specs.declared.held.ShiftJisLead.{ShiftJisLead}
 use Rattle.legacy_decoders.specs.TwoByte.{lead_bytes, shift_jis_lead_bytes}
@@ -14,6 +14,11 @@ is_lead-in b low high = grind (arith, nat_tests)
 
 is_shift_jis_lead-high : (b : ℕ) → is_shift_jis_lead b ≡ true → b ≤ 0xFC
 is_shift_jis_lead-high b e = grind (arith, nat_tests)
+
+-- a decoder is neutral where it holds nothing back
+pub neutral_empty : (bytes : List ℕ) → (is_empty bytes && true) ≡ true → bytes ≡ []
+neutral_empty [] e = refl
+neutral_empty (b ∷ bytes) e = cc
 
 -- ---- a lead from 81 to FE
 

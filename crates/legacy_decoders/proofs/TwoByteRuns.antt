@@ -48,7 +48,7 @@ entry_below entry c h e = go (entry == 0) e
     go true e = cc
     go false e = let same : entry ≡ c = cc in omega arith
 
-idx_below : (index : List ℕ) (p c : ℕ) → IsNarrowIndex index → option_to_list (idx index p) ≡ c ∷ [] → c < 0x1_0000
+pub idx_below : (index : List ℕ) (p c : ℕ) → IsNarrowIndex index → option_to_list (idx index p) ≡ c ∷ [] → c < 0x1_0000
 idx_below index p c narrow e = entry_below (get_or index p 0) c (narrow_entry index p narrow) e
 
 pub euc_kr_below : (index : List ℕ) (lead trail c : ℕ) → IsNarrowIndex index → euc_kr_scalars index lead trail ≡ c ∷ [] → c < 0x1_0000

@@ -9,6 +9,10 @@ pub mod Feeding
 pub mod Ahead
 pub mod Decoders
 pub mod UserDefinedDecoder
+pub mod Gb18030Held
+pub mod Gb18030Decoder
+pub mod EucJpHeld
+pub mod EucJpDecoder
 pub mod TwoByte
 pub mod EucKrDecoder
 pub mod Big5Decoder

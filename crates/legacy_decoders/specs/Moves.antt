@@ -1,10 +1,12 @@
 -- What the small moves of a decoder do, of which its calls are made. A move is the same in both encoding forms.
-use Rattle.std.specs.Prelude.{◌≡◌, ◌≢◌, ℕ, ◌+◌, ◌-◌, ◌≤◌, List, [], ◌∷◌, ◌++◌, length, map, true, false, IsTrue, Bool, Option, None, ◌⊎◌, All, if◌then◌else◌}
+use Rattle.std.specs.Prelude.{◌≡◌, ◌≢◌, ℕ, ◌+◌, ◌-◌, ◌<◌, ◌≤◌, List, [], ◌∷◌, ◌++◌, length, map, true, false, IsTrue, Bool, Option, None, ◌⊎◌, All, if◌then◌else◌}
 use Rattle.std.specs.Char.{IsScalar}
 use Rattle.legacy_base.specs.declared.results.DecodeEvent.{DecodeEvent}
 use Rattle.legacy_base.specs.declared.results.DecodeEvent.TheVariants.{Scalar, Bad}
+use Rattle.legacy_base.specs.declared.results.DecoderResult.{DecoderResult}
+use Rattle.legacy_base.specs.declared.results.DecoderResult.TheVariants.{InputEmpty, OutputFull, Malformed}
 use Rattle.legacy_base.specs.EncodingForm.{EncodingForm, unit_count, total_unit_count, bmp_room, wide_room}
-use Rattle.legacy_base.specs.Grammar.{Grammar}
+use Rattle.legacy_base.specs.Grammar.{Grammar, events_of}
 use Rattle.legacy_base.specs.States.{DecoderState, rests}
 use Rattle.legacy_base.specs.Acts as acts
 use Rattle.legacy_base.specs.Acts.{act_room, full_room, release_room, room_needed, wants_full_room, HadRoom}
@@ -130,3 +132,14 @@ pub record Reports (before : DecoderState) (after : DecoderState) (sequence back
   pub progress : Progress true before [] passed after [] (Bad (passed - sequence) sequence ∷ [])
   pub holds : IsFault (passed + length after.held) after sequence back
   pub lowers : (query : LengthQuery) → room query after 0 + replacement_units query ≤ room query before 0
+
+-- ---- the end of a call
+
+-- Behind the input a call with so much room ended with this answer: InputEmpty where nothing is left to report or it is
+-- not the last call, OutputFull where the report lacks its room, else the report.
+abbrev pub Finishes : EncodingForm → DecoderState → Bool → ℕ → DecoderState → DecoderResult → Type 0
+Finishes form before last free after InputEmpty = (after ≡ before) × (IsTrue last → events_of before.grammar before.held ≡ [])
+Finishes form before last free after OutputFull =
+    (after ≡ before) × (last ≡ true) × (events_of before.grammar before.held ≢ []) × (free < release_room form before.grammar) × IsCovered before
+Finishes form before last free after (Malformed length back) =
+    (last ≡ true) × (events_of before.grammar before.held ≢ []) × (release_room form before.grammar ≤ free) × Reports before after length back

@@ -162,7 +162,7 @@ impl<'a> CommonForms for Big5Decoder<'a> {
 
     #[inline]
     fn is_idle(&self) -> bool {
-        self.held.is_none()
+        self.in_neutral_state()
     }
 
     #[inline]

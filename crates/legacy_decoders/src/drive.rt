@@ -1,8 +1,9 @@
 //! The one loop of all decoders, over the small moves that each decoder makes.
-ghost use Rattle.std.specs.Prelude.{◌≡◌, ℕ, ◌+◌, ◌≤◌, ◌↔◌, ◌++◌, length, IsTrue};
+ghost use Rattle.std.specs.Prelude.{◌≡◌, ℕ, ◌+◌, ◌≤◌, ◌↔◌, ◌++◌, length, IsTrue, true};
 ghost use Rattle.legacy_base.specs.EncodingForm.{all_code_units, total_unit_count};
+ghost use Rattle.legacy_base.specs.States.{rests};
 ghost use Rattle.legacy_base.specs.Calls.{IsDecoderCall};
-ghost use Rattle.legacy_decoders.specs.Moves.{room_units, fed_scalars};
+ghost use Rattle.legacy_decoders.specs.Moves.{room_units, fed_scalars, Finishes};
 
 use crate::machine::{Act, Fed, Machine, Room};
 use legacy_base::{DecoderResult, Destination};
@@ -33,6 +34,24 @@ fn put_fed<T: Destination>(dst: &mut T, fed: Fed)
             dst.put(d);
         }
         Fed::Nothing | Fed::Fault { .. } => {}
+    }
+}
+
+/// Ends a call whose input is read: where it is the last one, what is left is reported.
+#[inline]
+fn finish<D: Machine, T: Destination>(decoder: &mut D, dst: &T, last: bool) -> DecoderResult
+    requires { rests (D.state decoder.old).grammar (D.state decoder.old).held ≡ true }
+    ensures { Finishes T.form (D.state decoder.old) last (T.room dst.now) (D.state decoder.new) result }
+{
+    if !last || !decoder.has_rest() {
+        return DecoderResult::InputEmpty;
+    }
+    if !has_room(dst, decoder.room(Act::Report)) {
+        return DecoderResult::OutputFull;
+    }
+    match decoder.report() {
+        Some((length, back)) => DecoderResult::Malformed(length, back),
+        None => unreachable!(),
     }
 }
 
@@ -86,14 +105,5 @@ pub fn drive<D: Machine, T: Destination>(
         put_fed(dst, fed);
         read += 1;
     }
-    if last && decoder.has_rest() {
-        if !has_room(dst, decoder.room(Act::Report)) {
-            return (DecoderResult::OutputFull, src.len());
-        }
-        let Some((length, back)) = decoder.report() else {
-            unreachable!()
-        };
-        return (DecoderResult::Malformed(length, back), src.len());
-    }
-    (DecoderResult::InputEmpty, src.len())
+    (finish(decoder, dst, last), src.len())
 }

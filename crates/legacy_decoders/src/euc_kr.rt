@@ -131,7 +131,7 @@ impl<'a> CommonForms for EucKrDecoder<'a> {
 
     #[inline]
     fn is_idle(&self) -> bool {
-        self.held.is_none()
+        self.in_neutral_state()
     }
 
     #[inline]

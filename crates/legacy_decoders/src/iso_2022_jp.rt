@@ -16,11 +16,12 @@ use crate::machine::{Act, Fed, Machine, Room};
 use legacy_base::{DecoderResult, Destination, RawDecoder, Tables};
 use steps::{Held, Mode, Start, finish, pending, read};
 
-/// Decodes ISO-2022-JP (Encoding Standard, "ISO-2022-JP decoder").
+/// The decoder of ISO-2022-JP (Encoding Standard, "ISO-2022-JP decoder").
 ///
 /// An escape of three bytes switches between ASCII, JIS X 0201 Roman, half-width katakana and the pairs
-/// of JIS X 0208. An escape byte that begins no valid escape is malformed, and so is a valid escape
-/// that stands directly before another.
+/// of JIS X 0208; the mode lasts over calls. An escape byte that begins no valid escape is malformed,
+/// and so is a valid escape that stands directly before another. At most five bytes are held back: a
+/// whole escape, which is kept till a byte that is no part of an escape follows it, and two bytes.
 #[derive(Drop)]
 pub struct Iso2022JpDecoder<'a> {
     tables: &'a Tables<'a>,
@@ -32,8 +33,8 @@ pub struct Iso2022JpDecoder<'a> {
 impl<'a> Iso2022JpDecoder<'a> {
     ghost use Rattle.legacy_decoders.specs.Iso2022JpDecoder.{iso_2022_jp_state};
 
-    /// A decoder at the beginning of a stream: in ASCII mode, with nothing held back. Pairs are looked
-    /// up in index jis0208 of the tables.
+    /// A decoder before its first byte: in ASCII mode, with nothing held back. Pairs are looked up in
+    /// index jis0208 of the tables, which stay borrowed.
     pub fn new(tables: &'a Tables<'a>) -> Iso2022JpDecoder<'a>
         ensures { iso_2022_jp_state result ≡ new_state (iso_2022_jp tables.now.flat.jis0208 ascii) }
     {
@@ -44,8 +45,8 @@ impl<'a> Iso2022JpDecoder<'a> {
         }
     }
 
-    /// Whether the decoder is as a new one: no byte is held back and the mode is ASCII. An escape to
-    /// ASCII mode is held back until something else follows it.
+    /// Whether no byte is held back and the mode is ASCII, as in a new decoder. An escape with nothing
+    /// behind it is held back, so behind an escape to ASCII mode alone the answer is false.
     pub fn in_neutral_state(&self) -> bool
         ensures { result ≡ is_neutral (iso_2022_jp_state self.now) }
     {

@@ -203,7 +203,7 @@ impl<'a> CommonForms for ShiftJisDecoder<'a> {
 
     #[inline]
     fn is_idle(&self) -> bool {
-        self.held.is_none()
+        self.in_neutral_state()
     }
 
     #[inline]

@@ -9,10 +9,10 @@ use Rattle.legacy_base.proofs.Rooms.{all_code_units-append, total_unit_count-app
 use Rattle.legacy_decoders.specs.declared.machine.Fed.{Fed}
 use Rattle.legacy_decoders.specs.declared.machine.Fed.TheVariants.{Nothing, One, Two, Fault}
 use Rattle.legacy_decoders.specs.Moves.{fed_scalars, IsFaulty}
-use Rattle.legacy_decoders.proofs.Going.{going_start, going_release, going_feed, call_full_read, call_full_release, call_full_report, call_fault_read, call_fault_unread, call_done, call_report}
+use Rattle.legacy_decoders.proofs.Going.{going_start, going_release, going_feed, call_full_read, call_full_release, call_fault_read, call_fault_unread, call_finish}
 use Rattle.legacy_decoders.proofs.AheadRuns.{ahead_going}
 use Rattle.legacy_decoders.proofs.drive.drive.Goals as goal
-use Rattle.legacy_decoders.proofs.drive.drive.Goals.{then-not-rests+else-not-has_room+in-Some, else-not-rests, else-last-via-then-last+else-has_rest, else-last-via-else-last}
+use Rattle.legacy_decoders.proofs.drive.drive.Goals.{then-not-rests+else-not-has_room+in-Some, else-not-rests}
 
 no_room : (b : Bool) (asked have units free want : ℕ) → ((b ≡ true) ↔ (asked ≤ have)) → b ≡ false → asked ≡ want → have + units ≡ free → free - units < want
 no_room true asked have units free want i f e r = cc
@@ -118,51 +118,15 @@ returns-then-not-has_room-clause-call g c =
     let room = no_room _ _ _ 0 (g.T.Destination.room c.args.dst.now) _ c.has_room.ensures c.if-not-has_room.true (c.room.ensures.units F) (add-zero _) in
     ([], call_full_release F _ _ _ _ c.room.ensures.covered (sym c.rests.ensures ∙ c.if-not-rests.true) (rw sub-zero at room), sym (append-nil (g.T.Destination.contents c.args.dst.now)))
 
-pub returns-then-not-has_room-3-clause-call : goal.returns-then-not-has_room-3-clause-call
-returns-then-not-has_room-3-clause-call g c =
-    let T = g.T.Destination in
-    let b = c.loop-read.invariant in
-    let a = c.read_ahead-read.ensures.ahead in
-    let i = ahead_going T.form _ _ _ _ _ _ _ c.read_ahead-read.result _ _ _ _ _ b.1 b.2 b.3 a.within a.idle a.writes a.room a.slack a.had in
-    let F = g.T.Destination.form in
-    let all : c.loop-read.read + c.read_ahead-read.result ≡ length c.args.src.now = c.if-read-src.true in (
-      i.0,
-      subst (λ n. DecoderCall F (g.D.Machine.state c.args.decoder.now) c.args.src.now c.args.last (g.T.Destination.room c.args.dst.now) (g.D.Machine.state c.loop-read.decoder) OutputFull n i.0) all
-          (call_full_report F _ _ _ _ _ _ _ i.1 c.room-then-has_rest.ensures.covered all c.if-last.true (c.has_rest.ensures.some c.if-has_rest.true)
-          (no_room _ _ _ _ _ _ c.has_room-then-has_rest.ensures c.if-not-has_room-3.true (c.room-then-has_rest.ensures.units F) i.3)),
-      i.2,
-    )
-
-pub returns-then-has_rest-clause-call : goal.returns-then-has_rest-clause-call
-returns-then-has_rest-clause-call g c =
-    let T = g.T.Destination in
-    let b = c.loop-read.invariant in
-    let a = c.read_ahead-read.ensures.ahead in
-    let i = ahead_going T.form _ _ _ _ _ _ _ c.read_ahead-read.result _ _ _ _ _ b.1 b.2 b.3 a.within a.idle a.writes a.room a.slack a.had in
-    let F = g.T.Destination.form in
-    let all : c.loop-read.read + c.read_ahead-read.result ≡ length c.args.src.now = c.if-read-src.true in (
-      i.0,
-      subst (λ n. DecoderCall F (g.D.Machine.state c.args.decoder.now) c.args.src.now c.args.last (g.T.Destination.room c.args.dst.now) (g.D.Machine.state c.report.new.self) (Malformed c.in-Some-report.length c.in-Some-report.back) n i.0) all
-          (call_report F _ _ _ _ _ _ _ i.1 _ _ _ all c.if-last.true (c.has_rest.ensures.some c.if-has_rest.true)
-          (some_room _ _ _ _ _ _ c.has_room-then-has_rest.ensures c.if-not-has_room-3.false (c.room-then-has_rest.ensures.units F) i.3) c.in-Some-report.ensures),
-      i.2,
-    )
-
 pub returns-clause-call : goal.returns-clause-call
 returns-clause-call g c =
     let T = g.T.Destination in
     let b = c.loop-read.invariant in
     let a = c.read_ahead-read.ensures.ahead in
     let i = ahead_going T.form _ _ _ _ _ _ _ c.read_ahead-read.result _ _ _ _ _ b.1 b.2 b.3 a.within a.idle a.writes a.room a.slack a.had in
-    let F = g.T.Destination.form in
-    let all : c.loop-read.read + c.read_ahead-read.result ≡ length c.args.src.now = c.if-read-src.true in
-    let none : IsTrue c.args.last → events_of (g.D.Machine.state c.loop-read.decoder).grammar (g.D.Machine.state c.loop-read.decoder).held ≡ [] =
-    elim c.else-last.branch [
-      | else-last-via-then-last+else-has_rest w ↦ λ l. w.has_rest.ensures.none w.if-has_rest.false
-      | else-last-via-else-last w ↦ λ l. absurd (false≢true (sym w.if-last.false ∙ l))
-    ] in (
+    let all : c.loop-read.read + c.read_ahead-read.result ≡ length c.args.src.now = c.if-read-src.true in (
       i.0,
-      subst (λ n. DecoderCall F (g.D.Machine.state c.args.decoder.now) c.args.src.now c.args.last (g.T.Destination.room c.args.dst.now) (g.D.Machine.state c.loop-read.decoder) InputEmpty n i.0) all
-          (call_done F _ _ _ _ _ _ _ i.1 all none),
+      subst (λ n. DecoderCall T.form (g.D.Machine.state c.args.decoder.now) c.args.src.now c.args.last (T.room c.args.dst.now) (g.D.Machine.state c.finish.new.decoder) c.finish.result n i.0) all
+          (call_finish T.form _ _ _ _ _ _ _ i.1 (g.D.Machine.state c.finish.new.decoder) c.finish.result _ all i.3 c.finish.ensures),
       i.2,
     )

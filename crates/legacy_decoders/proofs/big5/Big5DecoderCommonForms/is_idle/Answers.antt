@@ -1,7 +1,8 @@
-use Rattle.std.proofs.Common.{◌∙◌, ap, not}
-use Rattle.legacy_decoders.proofs.TwoByteHeld.{lead_none}
+use Rattle.std.proofs.Common.{◌∙◌, sym}
+use Rattle.legacy_decoders.specs.TwoByte.{lead_bytes}
+use Rattle.legacy_decoders.proofs.TwoByteHeld.{neutral_empty}
 use Rattle.legacy_decoders.proofs.Big5Held.{ascii}
 use Rattle.legacy_decoders.proofs.big5.Big5DecoderCommonForms.is_idle.Goals as goal
 
 pub returns : goal.returns
-returns c e = record { empty = lead_none c.args.self.now.held (c.is_none.ensures ∙ ap not e); ascii = ascii c.args.self.now.tables.now }
+returns c e = record { empty = neutral_empty (lead_bytes c.args.self.now.held) (sym c.in_neutral_state.ensures ∙ e); ascii = ascii c.args.self.now.tables.now }

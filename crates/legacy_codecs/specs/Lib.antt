@@ -1,0 +1,5 @@
+-- What a run of a coder over a whole input is.
+pub mod Scalars
+pub mod Pieces
+pub mod Runs
+pub mod Filling

@@ -1,0 +1,15 @@
+//! Laws of many calls together, each as the contract of a function that does nothing.
+ghost use Rattle.legacy_base.specs.Lengths.{to_utf16, to_utf8, to_utf8_without_replacement};
+ghost use Rattle.legacy_codecs.specs.Filling.{QueriedLengthSuffices};
+
+/// A length query that a decoder answers for all bytes to come is enough for all calls with them.
+///
+/// Let an output have the length that one of a decoder's three length queries answered for `n` bytes, or
+/// more code units. Then let calls be made into that output, each into what is still free of it, until
+/// `n` bytes are read, in pieces of any lengths. Where the query counts U+FFFD, let it be written behind
+/// each `Malformed`. Then no call answers `OutputFull`, and what is written always fits.
+pub fn queried_length_suffices()
+    ensures utf16 { QueriedLengthSuffices to_utf16 }
+    ensures utf8 { QueriedLengthSuffices to_utf8 }
+    ensures utf8_without_replacement { QueriedLengthSuffices to_utf8_without_replacement }
+{}

@@ -1,0 +1,79 @@
+-- Laws of lines.
+use Rattle.std.proofs.Common.{◌≡◌, ◌∙◌, ℕ, ◌+◌, ◌-◌, ◌/◌, ◌%◌, ◌≤◌, ◌<◌, ◌^◌, List, [], ◌∷◌, ◌++◌, length, take, map, get_or, refl, sym, ap, arith, append_assoc, append-nil, length-append, take-suc, add-one, decimal}
+use Rattle.std.proofs.lemmas.Bool.{lt-ltb, le-ltb}
+use Rattle.std.proofs.lemmas.Fmt.{decimal_step, decimal_digit, length-decimal-le}
+use Rattle.legacy_base.specs.declared.results.DecodeEvent.{DecodeEvent}
+use Rattle.legacy_base.specs.declared.results.DecodeEvent.TheVariants.{Scalar, Bad}
+use Rattle.legacy_recode.specs.Lines.{hex_digit, hexadecimal, event_line, event_lines}
+
+pub line_of_four : (c : ℕ) → c < 0x1_0000 → event_line (Scalar c) ≡ 85 ∷ 43 ∷ hex_digit (c / 0x1000 % 16) ∷ hex_digit (c / 0x100 % 16) ∷ hex_digit (c / 0x10 % 16) ∷ hex_digit (c % 16) ∷ 10 ∷ []
+unfolding event_line hexadecimal
+line_of_four c h = rw (lt-ltb c 0x1_0000 h) refl
+
+pub line_of_five : (c : ℕ) → 0x1_0000 ≤ c → c < 0x10_0000 → event_line (Scalar c) ≡ 85 ∷ 43 ∷ hex_digit (c / 0x1_0000 % 16) ∷ hex_digit (c / 0x1000 % 16) ∷ hex_digit (c / 0x100 % 16) ∷ hex_digit (c / 0x10 % 16) ∷ hex_digit (c % 16) ∷ 10 ∷ []
+unfolding event_line hexadecimal
+line_of_five c k h = rw (le-ltb c 0x1_0000 k, lt-ltb c 0x10_0000 h) refl
+
+pub line_of_six : (c : ℕ) → 0x10_0000 ≤ c → event_line (Scalar c) ≡ 85 ∷ 43 ∷ hex_digit (c / 0x10_0000) ∷ hex_digit (c / 0x1_0000 % 16) ∷ hex_digit (c / 0x1000 % 16) ∷ hex_digit (c / 0x100 % 16) ∷ hex_digit (c / 0x10 % 16) ∷ hex_digit (c % 16) ∷ 10 ∷ []
+unfolding event_line hexadecimal
+line_of_six c h = let k : 0x1_0000 ≤ c = omega arith in rw (le-ltb c 0x1_0000 k, le-ltb c 0x10_0000 h) refl
+
+-- the line of a malformed sequence, part by part
+pub bad_line : (o a b c d e : List ℕ) (place n : ℕ) → a ≡ o ++ 98 ∷ 97 ∷ 100 ∷ 32 ∷ [] → b ≡ a ++ decimal place → c ≡ b ++ 32 ∷ [] → d ≡ c ++ decimal n → e ≡ d ++ 10 ∷ [] → e ≡ o ++ event_line (Bad place n)
+unfolding event_line
+bad_line o a b c d e place n p q r s t = rw (t, s, r, q, p) (simp append_assoc)
+
+pub event_lines-append : (xs ys : List DecodeEvent) → event_lines (xs ++ ys) ≡ event_lines xs ++ event_lines ys
+unfolding event_lines
+event_lines-append [] ys = refl
+event_lines-append (x ∷ xs) ys = ap (λ (l : List ℕ). event_line x ++ l) (event_lines-append xs ys) ∙ sym (append_assoc (event_line x) (event_lines xs) (event_lines ys))
+
+pub event_lines-one : (event : DecodeEvent) → event_lines (event ∷ []) ≡ event_line event
+unfolding event_lines
+event_lines-one event = append-nil (event_line event)
+
+pub event_lines-none : event_lines [] ≡ []
+unfolding event_lines
+event_lines-none = refl
+
+pub no_lines : (o : List ℕ) → o ≡ o ++ event_lines []
+unfolding event_lines
+no_lines o = sym (append-nil o)
+
+map-append : (xs ys : List ℕ) → map Scalar (xs ++ ys) ≡ map Scalar xs ++ map Scalar ys
+map-append [] ys = refl
+map-append (x ∷ xs) ys = ap (λ (l : List DecodeEvent). Scalar x ∷ l) (map-append xs ys)
+
+-- one more scalar
+pub one_more_line : (o a b : List ℕ) (scalars : List ℕ) (i c : ℕ) → i < length scalars → c ≡ get_or scalars i c → a ≡ o ++ event_lines (map Scalar (take i scalars)) → b ≡ a ++ event_line (Scalar c) → b ≡ o ++ event_lines (map Scalar (take (i + 1) scalars))
+one_more_line o a b scalars i c h e p q =
+    let same : event_lines (map Scalar (take (i + 1) scalars)) ≡ event_lines (map Scalar (take i scalars)) ++ event_line (Scalar c) =
+    ap (λ n. event_lines (map Scalar (take n scalars))) (add-one i) ∙ ap (λ l. event_lines (map Scalar l)) (take-suc scalars i c h)
+    ∙ ap event_lines (map-append (take i scalars) (get_or scalars i c ∷ []))
+    ∙ event_lines-append (map Scalar (take i scalars)) (Scalar (get_or scalars i c) ∷ [])
+    ∙ ap (λ (l : List ℕ). event_lines (map Scalar (take i scalars)) ++ l) (event_lines-one (Scalar (get_or scalars i c)) ∙ ap (λ d. event_line (Scalar d)) (sym e)) in
+    rw (same, q, p) (simp append_assoc)
+
+-- the digits of a number
+pub decimal_more : (o a b : List ℕ) (n : ℕ) → 10 ≤ n → n < 2 ^ 64 → a ≡ o ++ decimal (n / 10) → b ≡ a ++ (48 + n % 10) ∷ [] → b ≡ o ++ decimal n
+decimal_more o a b n h k p q = rw (q, p, decimal_step n h k) (simp append_assoc)
+
+pub length-decimal_digit : (n : ℕ) → n < 10 → length (decimal n) ≡ 1
+length-decimal_digit n h = ap length (decimal_digit n h)
+
+pub length-decimal_more : (n : ℕ) → 10 ≤ n → n < 2 ^ 64 → length (decimal n) ≡ length (decimal (n / 10)) + 1
+length-decimal_more n h k = ap length (decimal_step n h k) ∙ length-append (decimal (n / 10)) ((48 + n % 10) ∷ [])
+
+pub length-decimal_20 : (n : ℕ) → n < 2 ^ 64 → length (decimal n) ≤ 20
+length-decimal_20 n h = length-decimal-le 20 n (omega arith) (omega arith) h
+
+-- the lines of a call that reports a malformed sequence
+pub line_of_fault : (o a b : List ℕ) (scalars : List ℕ) (place n read sequence back : ℕ) → a ≡ o ++ event_lines (map Scalar scalars) → b ≡ a ++ event_line (Bad place n) → place ≡ read - (sequence + back) → n ≡ sequence →
+    b ≡ o ++ event_lines (map Scalar scalars ++ Bad (read - (sequence + back)) sequence ∷ [])
+line_of_fault o a b scalars place n read sequence back p q e f =
+    rw (event_lines-append (map Scalar scalars) (Bad (read - (sequence + back)) sequence ∷ []), event_lines-one (Bad (read - (sequence + back)) sequence), ← e, ← f, q, p) (append_assoc o _ _)
+
+-- what is written after a call
+pub lines_of_call : (bytes made before : List ℕ) (kept scalars : List ℕ) (fault : List DecodeEvent) → bytes ≡ made → made ≡ before ++ event_lines (map Scalar kept ++ fault) → before ≡ [] → kept ≡ scalars →
+    bytes ≡ event_lines (map Scalar scalars ++ fault)
+lines_of_call bytes made before kept scalars fault p q r s = rw (p, q, r, s) refl

@@ -1,0 +1,13 @@
+use Rattle.legacy_recode.proofs.GivenFiles.{empty_index, empty_bytes}
+use Rattle.legacy_recode.proofs.given_indexes.GivenIndexes.new.Goals as goal
+
+pub returns : goal.returns
+returns c = record {
+  big5 = empty_index _ c.new.ensures.items;
+  euc_kr = empty_index _ c.new-2.ensures.items;
+  jis0208 = empty_index _ c.new-3.ensures.items;
+  jis0212 = empty_index _ c.new-4.ensures.items;
+  gb18030 = empty_index _ c.new-5.ensures.items;
+  ranges = c.new-6.ensures.items;
+  single_byte = empty_bytes;
+}

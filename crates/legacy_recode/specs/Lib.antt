@@ -1,0 +1,11 @@
+-- What the program writes.
+pub mod Lines
+pub mod LineBuffers
+pub mod Recoding
+pub mod IndexGrammar
+pub mod IndexLine
+pub mod IndexTable
+pub mod Words
+pub mod IndexTexts
+pub mod GivenIndexes
+pub mod Program

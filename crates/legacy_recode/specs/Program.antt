@@ -1,0 +1,58 @@
+-- What the program does.
+use Rattle.std.specs.Prelude.{◌≡◌, ℕ, List, [], drop, true, false, Option, Some}
+use Rattle.legacy_base.specs.Grammar.{Grammar, user_defined, replacement, single_byte, utf16, big5, euc_kr, shift_jis, iso_2022_jp}
+use Rattle.legacy_base.specs.Iso2022Jp.{ascii}
+use Rattle.legacy_base.specs.States.{DecoderState}
+use Rattle.legacy_base.specs.Indexes.{FlatIndexes}
+use Rattle.legacy_base.specs.AcceptedTables.{flat_lists}
+use Rattle.legacy_base.specs.TableChecks.{AreAccepted, IsAcceptedTable}
+use Rattle.legacy_decoders.specs.Decoders.{new_state}
+use Rattle.legacy_recode.specs.declared.words.Codec.{Codec}
+use Rattle.legacy_recode.specs.declared.words.Codec.TheVariants as codec
+use Rattle.legacy_recode.specs.declared.index_file.FileIndex.{FileIndex}
+use Rattle.legacy_recode.specs.declared.given_indexes.GivenIndexes.{GivenIndexes}
+use Rattle.legacy_recode.specs.Words.{codec_of_words}
+use Rattle.legacy_recode.specs.IndexTexts.{text_given}
+use Rattle.legacy_recode.specs.GivenIndexes.{HoldsTexts}
+use Rattle.legacy_recode.specs.Recoding.{RecodesAll}
+
+-- the grammar of a codec, over indexes and the entries of a single-byte table
+abbrev pub grammar_of : Codec → FlatIndexes → List ℕ → Grammar
+grammar_of codec.UserDefined flat entries = user_defined
+grammar_of codec.Replacement flat entries = replacement false
+grammar_of codec.SingleByte flat entries = single_byte entries
+grammar_of codec.Utf16Le flat entries = utf16 false
+grammar_of codec.Utf16Be flat entries = utf16 true
+grammar_of codec.Big5 flat entries = big5 flat.big5
+grammar_of codec.EucKr flat entries = euc_kr flat.euc_kr
+grammar_of codec.ShiftJis flat entries = shift_jis flat.jis0208
+grammar_of codec.Iso2022Jp flat entries = iso_2022_jp flat.jis0208 ascii
+
+-- The input was read to its end, and the lines of all its events were written, from a decoder of the grammar that has just
+-- been made.
+abbrev pub RecodesInput : Grammar → Option (List ℕ) → Option (List ℕ) → Option (List ℕ) → Option (List ℕ) → Type 0
+RecodesInput grammar input_old input_new output_old output_new =
+    (after : DecoderState) × RecodesAll (new_state grammar) after input_old input_new output_old output_new
+
+-- the flat lists of indexes; there is no file of the katakana index
+abbrev pub flat_of : GivenIndexes → FlatIndexes
+flat_of tables =
+    flat_lists tables.big5.items tables.euc_kr.items tables.jis0208.items tables.jis0212.items tables.gb18030.items [] tables.ranges.items
+
+-- All indexes passed the check, those too that the codec does not use, and the input was recoded by the codec over them.
+abbrev pub RecodesByTables : Codec → GivenIndexes → Option (List ℕ) → Option (List ℕ) → Option (List ℕ) → Option (List ℕ) → Type 0
+RecodesByTables codec tables input_old input_new output_old output_new =
+    AreAccepted (flat_of tables) × IsAcceptedTable tables.single_byte
+    × RecodesInput (grammar_of codec (flat_of tables) tables.single_byte) input_old input_new output_old output_new
+
+-- The same over the indexes of these texts.
+pub record RecodesByTexts (codec : Codec) (texts : FileIndex → List ℕ) (input_old input_new output_old output_new : Option (List ℕ)) : Type 0 where
+  pub tables : GivenIndexes
+  pub holds : HoldsTexts texts tables
+  pub recodes : RecodesByTables codec tables input_old input_new output_old output_new
+
+-- The same by the codec and the index files that the program's words name.
+pub record RecodesByWords (words : List (List ℕ)) (files : List (Option (List ℕ))) (input_old input_new output_old output_new : Option (List ℕ)) : Type 0 where
+  pub codec : Codec
+  pub named : codec_of_words words ≡ Some codec
+  pub recodes : RecodesByTexts codec (text_given (drop 1 words) files) input_old input_new output_old output_new

@@ -1,0 +1,61 @@
+-- What the engine of the program writes.
+use Rattle.std.specs.Prelude.{◌≡◌, ℕ, ◌+◌, ◌-◌, List, [], ◌∷◌, ◌++◌, length, Bool, true, false, IsTrue, Option}
+use Rattle.std.specs.Io.KnownBytes.{Appends, Consumes, IsAtEnd}
+use Rattle.legacy_base.specs.declared.results.DecodeEvent.{DecodeEvent}
+use Rattle.legacy_base.specs.declared.results.DecodeEvent.TheVariants.{Scalar, Bad}
+use Rattle.legacy_base.specs.declared.results.DecoderResult.{DecoderResult}
+use Rattle.legacy_base.specs.declared.results.DecoderResult.TheVariants.{InputEmpty, OutputFull, Malformed}
+use Rattle.legacy_base.specs.Grammar.{events_of}
+use Rattle.legacy_base.specs.States.{DecoderState}
+use Rattle.legacy_base.specs.Calls.{Progress}
+use Rattle.legacy_codecs.specs.Runs.{placed}
+use Rattle.legacy_recode.specs.Lines.{event_lines}
+
+-- ---- one piece of the input
+
+-- An event of what is held back and a piece, its place counted in the whole input: `total` bytes of it stand before the
+-- piece, and the last of them are those held back. A place before the input is 0.
+abbrev pub input_event : ℕ → ℕ → DecodeEvent → DecodeEvent
+input_event total held (Scalar c) = Scalar c
+input_event total held (Bad place length) = Bad (total + place - held) length
+
+-- the same of each event of a list
+unfoldable pub input_events : ℕ → ℕ → List DecodeEvent → List DecodeEvent
+input_events total held [] = []
+input_events total held (event ∷ events) = input_event total held event ∷ input_events total held events
+
+-- the malformed sequence that a call reports, where so many bytes of the input were read
+abbrev pub fault_events : ℕ → DecoderResult → List DecodeEvent
+fault_events read InputEmpty = []
+fault_events read OutputFull = []
+fault_events read (Malformed length back) = Bad (read - (length + back)) length ∷ []
+
+-- The whole piece was decoded, and the lines of its events were written.
+pub record RecodesPiece (before : DecoderState) (piece : List ℕ) (last : Bool) (total : ℕ) (after : DecoderState) (old new : Option (List ℕ)) : Type 0 where
+  pub passed : ℕ
+  pub events : List DecodeEvent
+  pub progress : Progress last before piece passed after [] events
+  pub written : Appends old new (event_lines (input_events total (length before.held) events))
+  pub ended : IsTrue last → events_of after.grammar after.held ≡ []
+
+-- ---- the whole input
+
+-- The input was read to its end, and the lines of all events of what was held back and read were written. No event is
+-- left in the decoder.
+pub record RecodesAll (before after : DecoderState) (input_old input_new output_old output_new : Option (List ℕ)) : Type 0 where
+  pub bytes : List ℕ
+  pub read : Consumes input_old input_new bytes
+  pub at_end : IsAtEnd input_new
+  pub written : Appends output_old output_new (event_lines (placed (length before.held) (events_of before.grammar (before.held ++ bytes))))
+  pub ended : events_of after.grammar after.held ≡ []
+
+-- Some bytes of the input were read and decoded, and the lines of these events were written. They are a beginning of all
+-- events, whatever else the input holds, and the decoder stands behind those bytes.
+pub record RecodesBeginning (before after : DecoderState) (input_old input_new output_old output_new : Option (List ℕ)) : Type 0 where
+  pub bytes : List ℕ
+  pub read : Consumes input_old input_new bytes
+  pub passed : ℕ
+  pub events : List DecodeEvent
+  pub progress : Progress false before bytes passed after [] events
+  pub written : Appends output_old output_new (event_lines (placed (length before.held) events))
+  pub beginning : (more : List ℕ) → (rest : List DecodeEvent) × (events_of before.grammar (before.held ++ (bytes ++ more)) ≡ events ++ rest)

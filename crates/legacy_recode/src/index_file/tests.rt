@@ -1,0 +1,218 @@
+use crate::index_file::{FileIndex, FileTable, IndexFileError, read_index};
+use std::alloc::{AllocError, Global};
+use std::process::Abort;
+use std::test::Fail;
+
+const EUC_KR: FileIndex = FileIndex::EucKr;
+
+/// Asserts that a file of index EUC-KR gives these values.
+fn reads(rt: &impl Abort, alloc: Global, text: &[u8], values: &[u16]) -> Result<(), AllocError> {
+    let table = FileTable::Narrow(Vec::from_slice(alloc, values)?);
+    assert_eq!(rt; read_index(alloc, EUC_KR, text), Ok(table));
+    Ok(())
+}
+
+/// Asserts that a file's first malformed line is this one.
+fn refuses(rt: &impl Abort, alloc: Global, name: FileIndex, text: &[u8], number: usize) {
+    assert_eq!(rt;
+        read_index(alloc, name, text),
+        Err(IndexFileError::Line(number))
+    );
+}
+
+#[test]
+fn skips_comments_and_empty_lines(rt: HostRuntime) -> Result<(), Fail> {
+    reads(&rt, rt.alloc(), b"# x\n\n1 0xAC02g\n", &[0, 0xAC02])?;
+    reads(
+        &rt,
+        rt.alloc(),
+        b" \t\n\r\n \t\r\n\t# 1 0x41\n##\n0 0x41",
+        &[0x41],
+    )?;
+    Ok(())
+}
+
+#[test]
+fn refuses_what_is_no_entry(rt: HostRuntime) {
+    let lines: [&[u8]; 14] = [
+        b"1 0x",
+        b"1 0x1234567",
+        b"23940 0xAC02",
+        b"1 0x10000",
+        b"1 0X41",
+        b"1 41",
+        b"10x41",
+        b"1 0 x41",
+        b"1 0xg",
+        b"0000001 0x41",
+        b"a 0x41",
+        b"-1 0x41",
+        b"1",
+        b"\r\r",
+    ];
+    for line in lines {
+        refuses(&rt, rt.alloc(), EUC_KR, line, 1);
+    }
+}
+
+#[test]
+fn reads_the_form_of_the_published_files(rt: HostRuntime) -> Result<(), Fail> {
+    let text =
+        "# For details on index-jis0212.txt see the Encoding Standard\n\n    0\t0x4E02\t\u{4E02} (<CJK Ideograph>)\n    1\t0x02D8\t\u{02D8} (BREVE)\n";
+    reads(&rt, rt.alloc(), text.as_bytes(), &[0x4E02, 0x02D8])?;
+    Ok(())
+}
+
+#[test]
+fn reads_carriage_returns_and_a_last_line_without_its_end(rt: HostRuntime) -> Result<(), Fail> {
+    reads(
+        &rt,
+        rt.alloc(),
+        b"# x\r\n\r\n0\t0x0041\tA\r\n2\t0x0043",
+        &[0x41, 0, 0x43],
+    )?;
+    reads(&rt, rt.alloc(), b"0 0x41\r\n1 0x42\r\n", &[0x41, 0x42])?;
+    Ok(())
+}
+
+#[test]
+fn reads_digits_of_either_case_up_to_six(rt: HostRuntime) -> Result<(), Fail> {
+    reads(
+        &rt,
+        rt.alloc(),
+        b"000002\t \t0x00aBcD(name)\n1 0x000001",
+        &[0, 1, 0xABCD],
+    )?;
+    Ok(())
+}
+
+#[test]
+fn takes_the_later_value_of_a_pointer(rt: HostRuntime) -> Result<(), Fail> {
+    reads(&rt, rt.alloc(), b"1 0x41\n0 0x42\n1 0x43\n", &[0x42, 0x43])?;
+    reads(&rt, rt.alloc(), b"1 0x41\n1 0x0\n", &[0, 0])?;
+    Ok(())
+}
+
+#[test]
+fn keeps_the_order_of_ranges(rt: HostRuntime) -> Result<(), Fail> {
+    let ranges = vec![in rt.alloc(); (36, 0xA5), (0, 0x80), (36, 0xA9), (65535, 0xFFFF)]?;
+    let text = b"36 0xA5\n0 0x80\n36 0xA9\n65535 0xFFFF\n";
+    let table = read_index(rt.alloc(), FileIndex::Ranges, text);
+    assert_eq!(rt; table, Ok(FileTable::Ranges(ranges)));
+    Ok(())
+}
+
+#[test]
+fn skips_the_range_of_the_supplementary_planes(rt: HostRuntime) -> Result<(), Fail> {
+    let ranges = vec![in rt.alloc(); (0, 0x80), (1, 0x81)]?;
+    let text = b"0 0x0080\n189000 0x10000\n1 0x0081\n";
+    let table = read_index(rt.alloc(), FileIndex::Ranges, text);
+    assert_eq!(rt; table, Ok(FileTable::Ranges(ranges)));
+    refuses(
+        &rt,
+        rt.alloc(),
+        FileIndex::Ranges,
+        b"0 0x0080\n189000 0x10001",
+        2,
+    );
+    refuses(&rt, rt.alloc(), FileIndex::Ranges, b"189001 0x10000", 1);
+    refuses(&rt, rt.alloc(), EUC_KR, b"189000 0x10000", 1);
+    Ok(())
+}
+
+#[test]
+fn reads_wide_values_of_big5_alone(rt: HostRuntime) -> Result<(), Fail> {
+    let values = vec![in rt.alloc(); 0x43F0, 0x10FFFF]?;
+    let table = read_index(rt.alloc(), FileIndex::Big5, b"0 0x43F0\n1 0x10FFFF");
+    assert_eq!(rt; table, Ok(FileTable::Wide(values)));
+    refuses(&rt, rt.alloc(), FileIndex::Big5, b"0 0x110000", 1);
+    Ok(())
+}
+
+#[test]
+fn reads_a_single_byte_index(rt: HostRuntime) {
+    let mut values = [0; 128];
+    values[0] = 0x20AC;
+    values[127] = 0x02D9;
+    let table = read_index(
+        rt.alloc(),
+        FileIndex::SingleByte,
+        b"  0\t0x20AC\n127\t0x02D9\n",
+    );
+    assert_eq!(rt; table, Ok(FileTable::Bytes(values)));
+    let empty = read_index(rt.alloc(), FileIndex::SingleByte, b"");
+    assert_eq!(rt; empty, Ok(FileTable::Bytes([0; 128])));
+}
+
+#[test]
+fn reads_pointers_below_the_greatest_length(rt: HostRuntime) {
+    let cases: [(FileIndex, &[u8], &[u8]); 7] = [
+        (FileIndex::Big5, b"19781 0x1", b"19782 0x1"),
+        (FileIndex::EucKr, b"23939 0x1", b"23940 0x1"),
+        (FileIndex::Jis0208, b"11279 0x1", b"11280 0x1"),
+        (FileIndex::Jis0212, b"8835 0x1", b"8836 0x1"),
+        (FileIndex::Gb18030, b"23939 0x1", b"23940 0x1"),
+        (FileIndex::Ranges, b"65535 0x1", b"65536 0x1"),
+        (FileIndex::SingleByte, b"127 0x1", b"128 0x1"),
+    ];
+    for (name, last, past) in cases {
+        assert!(rt; read_index(rt.alloc(), name, last).is_ok(), "{name:?}");
+        refuses(&rt, rt.alloc(), name, past, 1);
+    }
+}
+
+#[test]
+fn answers_the_first_malformed_line(rt: HostRuntime) {
+    refuses(&rt, rt.alloc(), EUC_KR, b"0 0x41\n\nx\n1 0x42\ny\n", 3);
+    refuses(&rt, rt.alloc(), FileIndex::Big5, b"# x\r\n0 0x41\r\n1", 3);
+}
+
+#[test]
+fn reads_an_index_of_each_pointer(rt: HostRuntime) -> Result<(), Fail> {
+    let mut text = String::new(rt.alloc());
+    let mut values = Vec::new(rt.alloc());
+    for pointer in 0..23940u16 {
+        let line = format!(in rt.alloc(); "{pointer:5}\t0x{:04X}\tname\n", pointer + 7)?;
+        text.push_str(&line)?;
+        values.push(pointer + 7)?;
+    }
+    reads(&rt, rt.alloc(), text.as_bytes(), &values)?;
+    Ok(())
+}
+
+#[test]
+fn shows_its_faults(rt: HostRuntime) -> Result<(), Fail> {
+    let line = format!(in rt.alloc(); "{}", IndexFileError::Line(3))?;
+    let memory = format!(in rt.alloc(); "{}", IndexFileError::Memory)?;
+    assert_eq!(rt; line.as_str(), "line 3");
+    assert_eq!(rt; memory.as_str(), "memory");
+    Ok(())
+}
+
+// In a run where one allocation is refused, whichever it is, the call that asked for it answers `Memory`,
+// and every other one its table.
+#[test]
+fn answers_memory_only_where_a_growth_is_refused(rt: HostRuntime) {
+    let text = b"0 0x1\n1 0x2\n2 0x3\n3 0x4\n4 0x5\n5 0x6\n6 0x7\n7 0x8\n8 0x9";
+    let mut refused = false;
+    for name in [FileIndex::Big5, FileIndex::Jis0208, FileIndex::Ranges] {
+        match read_index(rt.alloc(), name, text) {
+            Ok(FileTable::Wide(values)) => assert_eq!(rt;
+                values.as_slice(),
+                [1, 2, 3, 4, 5, 6, 7, 8, 9].as_slice()
+            ),
+            Ok(FileTable::Narrow(values)) => assert_eq!(rt;
+                values.as_slice(),
+                [1, 2, 3, 4, 5, 6, 7, 8, 9].as_slice()
+            ),
+            Ok(FileTable::Ranges(ranges)) => assert_eq!(rt; ranges.len(), 9),
+            Ok(FileTable::Bytes(_)) => assert!(rt; false),
+            Err(fault) => {
+                assert_eq!(rt; fault, IndexFileError::Memory);
+                assert!(rt; !refused);
+                refused = true;
+            }
+        }
+        refuses(&rt, rt.alloc(), name, b"0 0x1\nx", 2);
+    }
+}

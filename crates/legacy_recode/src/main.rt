@@ -1,0 +1,84 @@
+//! `legacy_recode CODEC [INDEX FILE]...` decodes standard input by a legacy codec of the WHATWG Encoding Standard, and
+//! prints a line for each scalar and each malformed sequence.
+#![tactic(auto)]
+
+mod given_indexes;
+pub mod index_file;
+mod index_line;
+mod index_table;
+mod lines;
+pub mod program;
+pub mod recode;
+#[cfg(test)]
+mod tests;
+pub mod words;
+
+use std::alloc::Global;
+use std::env;
+use std::fs;
+use std::io::{self, BufWriter, ErrorKind, Write};
+use std::process::ExitCode;
+
+/// The words behind the program's name, where they can be had.
+fn arguments(rt: &HostRuntime, alloc: Global) -> io::Result<Vec<String>> {
+    let mut words = Vec::new(alloc);
+    for word in env::args(rt)?.skip(1) {
+        words.push(word)?;
+    }
+    Ok(words)
+}
+
+/// The bytes of the file, or `None` where it cannot be read. An error is that memory was refused.
+fn contents(rt: &HostRuntime, path: &str) -> io::Result<Option<Vec<u8>>> {
+    match fs::read(rt, path) {
+        Ok(bytes) => Ok(Some(bytes)),
+        Err(error) if error.kind() == ErrorKind::OutOfMemory => Err(error),
+        Err(_) => Ok(None),
+    }
+}
+
+/// The contents of each FILE among the words, in their order.
+fn files(rt: &HostRuntime, alloc: Global, words: &[&str]) -> io::Result<Vec<Option<Vec<u8>>>> {
+    let mut files = Vec::new(alloc);
+    if words::codec_in(words).is_some() {
+        for (place, word) in words.iter().enumerate() {
+            if place > 0 && place % 2 == 0 {
+                files.push(contents(rt, word)?)?;
+            }
+        }
+    }
+    Ok(files)
+}
+
+/// Hands the words, the files and the streams to the program.
+fn run_on(rt: &HostRuntime, alloc: Global) -> io::Result<u8> {
+    let arguments = arguments(rt, alloc)?;
+    let mut words: Vec<&str> = Vec::with_capacity(alloc, arguments.len())?;
+    for argument in &arguments {
+        words.push(argument.as_str())?;
+    }
+    let files = files(rt, alloc, words.as_slice())?;
+    let mut texts: Vec<Option<&[u8]>> = Vec::with_capacity(alloc, files.len())?;
+    for file in &files {
+        texts.push(file.as_deref())?;
+    }
+    let mut output = BufWriter::new(alloc, rt.stdout())?;
+    Ok(program::run(
+        alloc,
+        words.as_slice(),
+        texts.as_slice(),
+        &mut rt.stdin(),
+        &mut output,
+        &mut rt.stderr(),
+    ))
+}
+
+fn main(rt: HostRuntime) -> ExitCode {
+    match run_on(&rt, rt.alloc()) {
+        Ok(status) => ExitCode::from(status),
+        Err(_) => {
+            let _ = rt.stderr().write_all(b"memory\n");
+            ExitCode::from(1)
+        }
+    }
+}

@@ -1,0 +1,185 @@
+//! What the program does with its words, its files and its streams.
+ghost use Rattle.std.specs.Prelude.{◌≡◌, ◌↔◌, ◌≤◌, OnOk, None, IsTrue};
+ghost use Rattle.legacy_base.specs.Grammar.{Grammar};
+ghost use Rattle.legacy_decoders.specs.Decoders.{new_state};
+ghost use Rattle.legacy_recode.specs.Words.{texts_of, are_indexes, codec_of_words};
+ghost use Rattle.legacy_recode.specs.IndexTexts.{contents_of, text_given};
+ghost use Rattle.legacy_recode.specs.Program.{grammar_of, RecodesInput, RecodesByTables, RecodesByTexts, RecodesByWords};
+
+use crate::given_indexes::{GivenIndexes, read_files};
+use crate::recode::{RecodeError, recode};
+use crate::words::{Codec, codec_in};
+use legacy_base::{Indexes, RawDecoder, SingleByteTable, TableError, Tables};
+use legacy_decoders::{
+    Big5Decoder, EucKrDecoder, Iso2022JpDecoder, ReplacementDecoder, ShiftJisDecoder, SingleByteDecoder,
+    UserDefinedDecoder, Utf16Decoder,
+};
+use std::alloc::Global;
+use std::io::{Read, Write};
+use thiserror::Error;
+
+/// Why the program ends with status 1.
+#[derive(Debug, Drop, Error)]
+pub enum Fault<'a> {
+    /// The file cannot be read.
+    #[error("{0}: cannot be read")]
+    Unread(&'a str),
+    /// The line of the file, counted from 1, is not of the form, or its pointer or value is out of range.
+    #[error("{0}: line {1}")]
+    Line(&'a str, usize),
+    /// The indexes or the single-byte table are refused.
+    #[error("tables: {0}")]
+    Tables(TableError),
+    /// The input cannot be read, or the output cannot be written.
+    #[error("{0}")]
+    Recode(RecodeError),
+    /// Memory was refused.
+    #[error("memory")]
+    Memory,
+}
+
+/// Recodes the input by a decoder that has just been made.
+fn recode_from<D: RawDecoder + Drop, R: Read, W: Write>(
+    mut decoder: D,
+    input: &mut R,
+    output: &mut W,
+) -> Result<(), RecodeError>
+    ensures { (grammar : Grammar) → D.state decoder ≡ new_state grammar → OnOk result (RecodesInput grammar
+        (R.remaining input.old) (R.remaining input.new) (W.contents output.old) (W.contents output.new)) }
+{
+    recode(&mut decoder, input, output)
+}
+
+/// Recodes the input by the codec, from a decoder that has just been made.
+fn recode_by<R: Read, W: Write>(
+    codec: Codec,
+    tables: &Tables,
+    single_byte: &SingleByteTable,
+    input: &mut R,
+    output: &mut W,
+) -> Result<(), RecodeError>
+    ensures { OnOk result (RecodesInput (grammar_of codec tables.now.flat single_byte.now.entries)
+        (R.remaining input.old) (R.remaining input.new) (W.contents output.old) (W.contents output.new)) }
+{
+    match codec {
+        Codec::UserDefined => recode_from(UserDefinedDecoder::new(), input, output),
+        Codec::Replacement => recode_from(ReplacementDecoder::new(), input, output),
+        Codec::SingleByte => recode_from(SingleByteDecoder::new(single_byte), input, output),
+        Codec::Utf16Le => recode_from(Utf16Decoder::new(false), input, output),
+        Codec::Utf16Be => recode_from(Utf16Decoder::new(true), input, output),
+        Codec::Big5 => recode_from(Big5Decoder::new(tables), input, output),
+        Codec::EucKr => recode_from(EucKrDecoder::new(tables), input, output),
+        Codec::ShiftJis => recode_from(ShiftJisDecoder::new(tables), input, output),
+        Codec::Iso2022Jp => recode_from(Iso2022JpDecoder::new(tables), input, output),
+    }
+}
+
+/// Recodes the input by the codec and flushes the output, also where the input could not be read.
+fn recode_and_flush<R: Read, W: Write>(
+    codec: Codec,
+    tables: &Tables,
+    single_byte: &SingleByteTable,
+    input: &mut R,
+    output: &mut W,
+) -> Result<(), RecodeError>
+    ensures { OnOk result (RecodesInput (grammar_of codec tables.now.flat single_byte.now.entries)
+        (R.remaining input.old) (R.remaining input.new) (W.contents output.old) (W.contents output.new)) }
+{
+    let recoded = recode_by(codec, tables, single_byte, input, output);
+    let flushed = output.flush();
+    recoded?;
+    match flushed {
+        Ok(()) => Ok(()),
+        Err(_) => Err(RecodeError::Write),
+    }
+}
+
+/// Checks the indexes, and recodes the input by the codec.
+fn recode_with<'a, R: Read, W: Write>(
+    codec: Codec,
+    indexes: &GivenIndexes,
+    input: &mut R,
+    output: &mut W,
+) -> Result<(), Fault<'a>>
+    ensures { OnOk result (RecodesByTables codec indexes.now
+        (R.remaining input.old) (R.remaining input.new) (W.contents output.old) (W.contents output.new)) }
+{
+    let tables = match Tables::new(&Indexes {
+        big5: &indexes.big5,
+        euc_kr: &indexes.euc_kr,
+        jis0208: &indexes.jis0208,
+        jis0212: &indexes.jis0212,
+        gb18030: &indexes.gb18030,
+        katakana: &[],
+        ranges: &indexes.ranges,
+    }) {
+        Ok(tables) => tables,
+        Err(fault) => return Err(Fault::Tables(fault)),
+    };
+    let single_byte = match SingleByteTable::new(&indexes.single_byte) {
+        Ok(table) => table,
+        Err(fault) => return Err(Fault::Tables(fault)),
+    };
+    match recode_and_flush(codec, &tables, &single_byte, input, output) {
+        Ok(()) => Ok(()),
+        Err(fault) => Err(Fault::Recode(fault)),
+    }
+}
+
+/// Reads the files of the indexes that the words name, checks them, and recodes the input by the codec.
+fn recode_by_words<'a, R: Read, W: Write>(
+    alloc: Global,
+    codec: Codec,
+    indexes: &[&'a str],
+    files: &[Option<&[u8]>],
+    input: &mut R,
+    output: &mut W,
+) -> Result<(), Fault<'a>>
+    requires { IsTrue (are_indexes (texts_of indexes.now)) }
+    ensures { OnOk result (RecodesByTexts codec (text_given (texts_of indexes.now) (contents_of files.now))
+        (R.remaining input.old) (R.remaining input.new) (W.contents output.old) (W.contents output.new)) }
+{
+    let indexes = read_files(alloc, indexes, files)?;
+    recode_with(codec, &indexes, input, output)
+}
+
+/// Runs the program on its words, which are without its name, and answers its status.
+///
+/// The words are CODEC, and then INDEX and FILE any number of times, no INDEX twice. `files` has the contents of each
+/// FILE, in the same order, or `None` where it cannot be read; one that is missing counts as such. The words are
+/// checked first, then the files in their order, then the indexes, and then the input is recoded: each event of it is
+/// a line of the output, which is flushed at the end.
+///
+/// - 0: all events were written.
+/// - 2: the words are not of that form; nothing is read.
+/// - 1: a file cannot be read or has a bad line, an index is refused, the input cannot be read, the output cannot be
+///   written or flushed, or memory was refused. Lines that were written before stand.
+///
+/// With 1 and 2 a line on `errors` says why. That it cannot be written does not change the status.
+pub fn run<R: Read, W: Write, E: Write>(
+    alloc: Global,
+    words: &[&str],
+    files: &[Option<&[u8]>],
+    input: &mut R,
+    output: &mut W,
+    errors: &mut E,
+) -> u8
+    ensures statuses { result ≤ 2 }
+    ensures usage { (result ≡ 2) ↔ (codec_of_words (texts_of words.now) ≡ None) }
+    ensures unread { result ≡ 2 → (input.new ≡ input.old) × (output.new ≡ output.old) }
+    ensures recoded { result ≡ 0 → RecodesByWords (texts_of words.now) (contents_of files.now)
+        (R.remaining input.old) (R.remaining input.new) (W.contents output.old) (W.contents output.new) }
+    ensures silent { result ≡ 0 → errors.new ≡ errors.old }
+{
+    let Some(codec) = codec_in(words) else {
+        let _ = errors.write_all(b"usage: legacy_recode CODEC [INDEX FILE]...\n");
+        return 2;
+    };
+    match recode_by_words(alloc, codec, &words[1..], files, input, output) {
+        Ok(()) => 0,
+        Err(fault) => {
+            let _ = writeln!(errors, "{fault}");
+            1
+        }
+    }
+}

@@ -1,0 +1,364 @@
+//! What no clause says: the texts, the statuses 1, and what stands where a read, a write or memory fails.
+use crate::program::run;
+use crate::recode::{RecodeError, recode};
+use legacy_base::{Indexes, RawDecoder, Tables};
+use legacy_decoders::{EucKrDecoder, UserDefinedDecoder};
+use std::io::{self, Error, ErrorKind, Read, Write};
+use std::process::Abort;
+use std::test::Fail;
+
+const USAGE: &[u8] = b"usage: legacy_recode CODEC [INDEX FILE]...\n";
+
+/// Gives a byte at each read, and an error after so many reads.
+#[derive(Drop)]
+struct FailingReader<'a> {
+    bytes: &'a [u8],
+    reads: usize,
+}
+
+impl Read for FailingReader<'_> {
+    fn read(&mut self, buf: &mut [u8]) -> io::Result<usize> {
+        if self.reads == 0 {
+            return Err(Error::from(ErrorKind::Other));
+        }
+        self.reads -= 1;
+        if self.bytes.is_empty() || buf.is_empty() {
+            return Ok(0);
+        }
+        buf[0] = self.bytes[0];
+        self.bytes = &self.bytes[1..];
+        Ok(1)
+    }
+}
+
+/// Takes all bytes of a write, and gives an error after so many writes, or at a flush.
+#[derive(Drop)]
+struct FailingWriter {
+    written: Vec<u8>,
+    writes: usize,
+    flushes: bool,
+}
+
+impl Write for FailingWriter {
+    fn write(&mut self, buf: &[u8]) -> io::Result<usize> {
+        if self.writes == 0 {
+            return Err(Error::from(ErrorKind::Other));
+        }
+        self.writes -= 1;
+        self.written.extend_from_slice(buf)?;
+        Ok(buf.len())
+    }
+
+    fn flush(&mut self) -> io::Result<()> {
+        if self.flushes {
+            return Ok(());
+        }
+        Err(Error::from(ErrorKind::Other))
+    }
+}
+
+/// The lines of 61 80 FF in x-user-defined, up to so many of them.
+fn first_lines(lines: usize) -> &'static [u8] {
+    match lines {
+        0 => b"",
+        1 => b"U+0061\n",
+        2 => b"U+0061\nU+F780\n",
+        _ => b"U+0061\nU+F780\nU+F7FF\n",
+    }
+}
+
+/// Runs the program on the words, the files and the input, and asserts its status, its output and its line of error.
+fn runs(
+    rt: &(impl Abort + Alloc<A = std::alloc::Global>),
+    words: &[&str],
+    files: &[Option<&[u8]>],
+    mut input: &[u8],
+    status: u8,
+    lines: &[u8],
+    error: &[u8],
+) {
+    let mut output = Vec::new(rt.alloc());
+    let mut errors = Vec::new(rt.alloc());
+    assert_eq!(rt; run(rt.alloc(), words, files, &mut input, &mut output, &mut errors), status);
+    assert_eq!(rt; output.as_slice(), lines);
+    assert_eq!(rt; errors.as_slice(), error);
+}
+
+#[test]
+fn recodes_to_lines(rt: HostRuntime) {
+    let mut output = Vec::new(rt.alloc());
+    let mut input: &[u8] = b"\x61\x80\xFF";
+    let result = recode(&mut UserDefinedDecoder::new(), &mut input, &mut output);
+    assert_eq!(rt; result, Ok(()));
+    assert_eq!(rt; output.as_slice(), first_lines(3));
+}
+
+#[test]
+fn recodes_more_than_a_piece(rt: HostRuntime) -> Result<(), Fail> {
+    let bytes = vec![in rt.alloc(); b'A'; 5000]?;
+    let mut input: &[u8] = bytes.as_slice();
+    let mut output = Vec::new(rt.alloc());
+    let result = recode(&mut UserDefinedDecoder::new(), &mut input, &mut output);
+    assert_eq!(rt; result, Ok(()));
+    assert_eq!(rt; output.len(), 5000 * 7);
+    for line in output.as_slice().chunks(7) {
+        assert_eq!(rt; line, b"U+0041\n".as_slice());
+    }
+    Ok(())
+}
+
+#[test]
+fn writes_all_lengths_of_digits(rt: HostRuntime) {
+    runs(
+        &rt,
+        &["utf-16be"],
+        &[],
+        b"\x00\x0A\xD7\xFF\xD8\x00\xDC\x00\xD8\x3D\xDC\xA9\xDB\xBF\xDF\xFF\xDB\xFF\xDF\xFF",
+        0,
+        b"U+000A\nU+D7FF\nU+10000\nU+1F4A9\nU+FFFFF\nU+10FFFF\n",
+        b"",
+    );
+    runs(
+        &rt,
+        &["euc-kr"],
+        &[],
+        b"aaaaaaaaa\x80a\x80\x81",
+        0,
+        b"U+0061\nU+0061\nU+0061\nU+0061\nU+0061\nU+0061\nU+0061\nU+0061\nU+0061\nbad 9 1\nU+0061\nbad 11 1\nbad 12 1\n",
+        b"",
+    );
+}
+
+#[test]
+fn places_count_behind_what_was_held_back(rt: HostRuntime) -> Result<(), Fail> {
+    let indexes = Indexes {
+        big5: &[],
+        euc_kr: &[],
+        jis0208: &[],
+        jis0212: &[],
+        gb18030: &[],
+        katakana: &[],
+        ranges: &[],
+    };
+    let Ok(tables) = Tables::new(&indexes) else {
+        assert!(rt; false);
+        return Ok(());
+    };
+    let mut decoder = EucKrDecoder::new(&tables);
+    decoder.decode_to_utf8_raw(b"\x81", &mut [0; 4], false);
+    let mut input: &[u8] = b"\x20\x81";
+    let mut output = Vec::new(rt.alloc());
+    assert_eq!(rt; recode(&mut decoder, &mut input, &mut output), Ok(()));
+    assert_eq!(rt; output.as_slice(), b"bad 0 1\nU+0020\nbad 1 1\n".as_slice());
+    Ok(())
+}
+
+#[test]
+fn a_failed_read_keeps_the_lines_before_it(rt: HostRuntime) {
+    for reads in 0..5 {
+        let mut input = FailingReader {
+            bytes: b"\x61\x80\xFF",
+            reads,
+        };
+        let mut output = Vec::new(rt.alloc());
+        let result = recode(&mut UserDefinedDecoder::new(), &mut input, &mut output);
+        if reads < 4 {
+            assert_eq!(rt; result, Err(RecodeError::Read));
+        } else {
+            assert_eq!(rt; result, Ok(()));
+        }
+        assert_eq!(rt; output.as_slice(), first_lines(reads));
+    }
+    let mut input = FailingReader {
+        bytes: b"\x80",
+        reads: 1,
+    };
+    let mut output = Vec::new(rt.alloc());
+    let result = recode(&mut UserDefinedDecoder::new(), &mut input, &mut output);
+    assert_eq!(rt; result, Err(RecodeError::Read));
+    assert_eq!(rt; output.as_slice(), b"U+F780\n".as_slice());
+}
+
+#[test]
+fn a_failed_write_keeps_the_lines_before_it(rt: HostRuntime) {
+    for writes in 0..4 {
+        let mut input = FailingReader {
+            bytes: b"\x61\x80\xFF",
+            reads: 4,
+        };
+        let mut output = FailingWriter {
+            written: Vec::new(rt.alloc()),
+            writes,
+            flushes: true,
+        };
+        let result = recode(&mut UserDefinedDecoder::new(), &mut input, &mut output);
+        if writes < 3 {
+            assert_eq!(rt; result, Err(RecodeError::Write));
+        } else {
+            assert_eq!(rt; result, Ok(()));
+        }
+        assert_eq!(rt; output.written.as_slice(), first_lines(writes));
+    }
+}
+
+#[test]
+fn replacement_reports_once(rt: HostRuntime) {
+    runs(&rt, &["replacement"], &[], b"AB", 0, b"bad 0 1\n", b"");
+    runs(&rt, &["replacement"], &[], b"", 0, b"", b"");
+}
+
+#[test]
+fn refuses_words_that_are_no_request(rt: HostRuntime) {
+    let wrong: [&[&str]; 9] = [
+        &[],
+        &["latin"],
+        &["Big5"],
+        &["big5", "big5"],
+        &["big5", "latin", "FILE"],
+        &["big5", "katakana", "FILE"],
+        &["big5", "big5", "FILE", "ranges"],
+        &["big5", "big5", "FILE", "big5", "FILE"],
+        &["big5", "big5", "FILE", "ranges", "FILE", "big5", "FILE"],
+    ];
+    for words in wrong {
+        runs(&rt, words, &[], b"A", 2, b"", USAGE);
+    }
+}
+
+#[test]
+fn tells_why_it_ends(rt: HostRuntime) {
+    let words = ["euc-kr", "euc-kr", "KR", "single-byte", "SB"];
+    let none: &[u8] = b"";
+    runs(&rt, &words, &[], b"A", 1, none, b"KR: cannot be read\n");
+    runs(&rt, &words, &[None, None], b"A", 1, none, b"KR: cannot be read\n");
+    runs(&rt, &words, &[Some(none), None], b"A", 1, none, b"SB: cannot be read\n");
+    let bad: &[u8] = b"# x\n1\n";
+    runs(&rt, &words, &[Some(bad), None], b"A", 1, none, b"KR: line 2\n");
+    runs(&rt, &words, &[None, Some(bad)], b"A", 1, none, b"KR: cannot be read\n");
+    let surrogate: &[u8] = b"0 0xD800\n";
+    let low: &[u8] = b"3 0x007F\n";
+    runs(
+        &rt,
+        &words,
+        &[Some(surrogate), Some(low)],
+        b"A",
+        1,
+        none,
+        b"tables: index euc-kr has a bad entry at 0\n",
+    );
+    runs(
+        &rt,
+        &words,
+        &[Some(none), Some(low)],
+        b"A",
+        1,
+        none,
+        b"tables: single-byte entry 3 is bad\n",
+    );
+}
+
+#[test]
+fn reads_every_index(rt: HostRuntime) {
+    let hangul: &[u8] = b"0 0xAC02\n";
+    runs(
+        &rt,
+        &["euc-kr", "euc-kr", "FILE"],
+        &[Some(hangul)],
+        b"\x81\x41\x81\x5B",
+        0,
+        b"U+AC02\nbad 2 1\nU+005B\n",
+        b"",
+    );
+    let bytes: &[u8] = b"65 0x0391\n116 0x03C4\n";
+    runs(
+        &rt,
+        &["single-byte", "single-byte", "FILE", "euc-kr", "FILE"],
+        &[Some(bytes), Some(hangul)],
+        b"\xC1\xF4\x80",
+        0,
+        b"U+0391\nU+03C4\nbad 2 1\n",
+        b"",
+    );
+    let chinese: &[u8] = b"19780 0x2910D\n";
+    runs(
+        &rt,
+        &["big5", "big5", "FILE"],
+        &[Some(chinese)],
+        b"\xFE\xFD\x88\x62",
+        0,
+        b"U+2910D\nU+00CA\nU+0304\n",
+        b"",
+    );
+    let japanese: &[u8] = b"4861 0x58FA\n";
+    runs(
+        &rt,
+        &["iso-2022-jp", "jis0208", "FILE"],
+        &[Some(japanese)],
+        b"\x1B\x24\x42\x54\x64\x1B\x28\x42A",
+        0,
+        b"U+58FA\nU+0041\n",
+        b"",
+    );
+    runs(
+        &rt,
+        &["shift_jis"],
+        &[],
+        b"\x80\xA1\xDF\xA0\xF0\x40",
+        0,
+        b"U+0080\nU+FF61\nU+FF9F\nbad 3 1\nU+E000\n",
+        b"",
+    );
+    runs(&rt, &["utf-16le"], &[], b"\x41\x00\x3D\xD8\x42", 0, b"U+0041\nbad 2 3\n", b"");
+}
+
+/// Runs x-user-defined from 61 80 FF, a byte at a read, to this writer, and asserts the status and the line of error.
+fn fails(
+    rt: &(impl Abort + Alloc<A = std::alloc::Global>),
+    reads: usize,
+    output: &mut FailingWriter,
+    error: &[u8],
+) {
+    let mut input = FailingReader {
+        bytes: b"\x61\x80\xFF",
+        reads,
+    };
+    let mut errors = Vec::new(rt.alloc());
+    let status = run(rt.alloc(), &["x-user-defined"], &[], &mut input, output, &mut errors);
+    assert_eq!(rt; status, 1);
+    assert_eq!(rt; errors.as_slice(), error);
+}
+
+#[test]
+fn tells_that_a_stream_fails(rt: HostRuntime) {
+    let mut output = FailingWriter {
+        written: Vec::new(rt.alloc()),
+        writes: 2,
+        flushes: true,
+    };
+    fails(&rt, 2, &mut output, b"input: cannot be read\n");
+    assert_eq!(rt; output.written.as_slice(), first_lines(2));
+    fails(&rt, 4, &mut output, b"output: cannot be written\n");
+    let mut unflushed = FailingWriter {
+        written: Vec::new(rt.alloc()),
+        writes: 9,
+        flushes: false,
+    };
+    fails(&rt, 4, &mut unflushed, b"output: cannot be written\n");
+    fails(&rt, 0, &mut unflushed, b"input: cannot be read\n");
+}
+
+#[test]
+fn a_failed_line_of_error_changes_no_status(rt: HostRuntime) {
+    let mut errors = FailingWriter {
+        written: Vec::new(rt.alloc()),
+        writes: 0,
+        flushes: true,
+    };
+    let mut output = Vec::new(rt.alloc());
+    let mut input: &[u8] = b"A";
+    let status = run(rt.alloc(), &["latin"], &[], &mut input, &mut output, &mut errors);
+    assert_eq!(rt; status, 2);
+    let words = ["big5", "big5", "FILE"];
+    let status = run(rt.alloc(), &words, &[], &mut input, &mut output, &mut errors);
+    assert_eq!(rt; status, 1);
+}

@@ -1,0 +1,109 @@
+//! The words of the program's command line: CODEC, and then INDEX and FILE any number of times.
+ghost use Rattle.std.specs.Prelude.{◌≡◌, length};
+ghost use Rattle.legacy_recode.specs.Words.{texts_of, codec_named, index_named, first_index_named, stands_among, are_indexes, codec_of_words};
+
+use crate::index_file::FileIndex;
+
+/// A codec that the program knows by a word.
+#[derive(Clone, Copy, Debug, PartialEq, Eq)]
+pub enum Codec {
+    /// `x-user-defined`
+    UserDefined,
+    /// `replacement`
+    Replacement,
+    /// `single-byte`
+    SingleByte,
+    /// `utf-16le`
+    Utf16Le,
+    /// `utf-16be`
+    Utf16Be,
+    /// `big5`
+    Big5,
+    /// `euc-kr`
+    EucKr,
+    /// `shift_jis`
+    ShiftJis,
+    /// `iso-2022-jp`
+    Iso2022Jp,
+}
+
+/// The codec that a word names.
+fn codec_of(word: &str) -> Option<Codec>
+    ensures { result ≡ codec_named word.now }
+{
+    match word {
+        "x-user-defined" => Some(Codec::UserDefined),
+        "replacement" => Some(Codec::Replacement),
+        "single-byte" => Some(Codec::SingleByte),
+        "utf-16le" => Some(Codec::Utf16Le),
+        "utf-16be" => Some(Codec::Utf16Be),
+        "big5" => Some(Codec::Big5),
+        "euc-kr" => Some(Codec::EucKr),
+        "shift_jis" => Some(Codec::ShiftJis),
+        "iso-2022-jp" => Some(Codec::Iso2022Jp),
+        _ => None,
+    }
+}
+
+/// The index that a word names.
+fn index_of(word: &str) -> Option<FileIndex>
+    ensures { result ≡ index_named word.now }
+{
+    match word {
+        "big5" => Some(FileIndex::Big5),
+        "euc-kr" => Some(FileIndex::EucKr),
+        "jis0208" => Some(FileIndex::Jis0208),
+        "jis0212" => Some(FileIndex::Jis0212),
+        "gb18030" => Some(FileIndex::Gb18030),
+        "ranges" => Some(FileIndex::Ranges),
+        "single-byte" => Some(FileIndex::SingleByte),
+        _ => None,
+    }
+}
+
+/// The index that the first word names.
+pub fn first_index(words: &[&str]) -> Option<FileIndex>
+    ensures { result ≡ first_index_named (texts_of words.now) }
+{
+    match words {
+        [index, ..] => index_of(index),
+        [] => None,
+    }
+}
+
+/// Whether the word stands among the words at the places 0, 2, 4 and so on.
+fn is_index_again(word: &str, words: &[&str]) -> bool
+    ensures { result ≡ stands_among word.now (texts_of words.now) }
+{
+    match words {
+        [index, _file, rest @ ..] => *index == word || is_index_again(word, rest),
+        _ => false,
+    }
+}
+
+/// Whether the words are INDEX and FILE any number of times, with no INDEX twice.
+fn is_indexes(words: &[&str]) -> bool
+    ensures { result ≡ are_indexes (texts_of words.now) }
+{
+    match words {
+        [] => true,
+        [_] => false,
+        [index, _file, rest @ ..] => {
+            index_of(index).is_some() && !is_index_again(index, rest) && is_indexes(rest)
+        }
+    }
+}
+
+/// The codec of the program's words, which are without the program's name. `None` where they are not a word of a codec,
+/// and then INDEX and FILE any number of times, each a word of an index that stands once and any word.
+pub fn codec_in(words: &[&str]) -> Option<Codec>
+    ensures { result ≡ codec_of_words (texts_of words.now) }
+{
+    let [codec, indexes @ ..] = words else {
+        return None;
+    };
+    if is_indexes(indexes) {
+        return codec_of(codec);
+    }
+    None
+}
