@@ -46,8 +46,9 @@ fn entity(name: &str) -> Option<char> {
     })
 }
 
-/// The pages without their tags, with entities as characters and each run of blanks as one.
-pub fn text(pages: &str) -> String {
+/// The lines of the pages in which at least so great a share of the letters is past ASCII, without tags,
+/// with entities as characters and each run of blanks as one: what is not translated is left out.
+pub fn text(pages: &str, share: f64) -> String {
     let mut bare = String::new();
     for part in pages.split('<').skip(1) {
         let Some((_, mut rest)) = part.split_once('>') else { continue };
@@ -67,8 +68,14 @@ pub fn text(pages: &str) -> String {
         bare.push_str(rest);
     }
     let lines = bare.lines().map(|line| line.split(' ').filter(|word| !word.is_empty()).collect::<Vec<_>>().join(" "));
-    let kept: Vec<String> = lines.filter(|line| !line.is_empty()).collect();
+    let kept: Vec<String> = lines.filter(|line| is_translated(line, share)).collect();
     kept.join("\n") + "\n"
+}
+
+fn is_translated(line: &str, share: f64) -> bool {
+    let letters: Vec<char> = line.chars().filter(|c| c.is_alphabetic()).collect();
+    let foreign = letters.iter().filter(|c| !c.is_ascii()).count();
+    foreign > 0 && foreign as f64 >= share * letters.len() as f64
 }
 
 /// The text in an encoding, without what the encoding lacks.

@@ -59,7 +59,8 @@ pub fn gb18030() -> Vec<u16> {
     })
 }
 
-/// The ranges' first pointers and first scalars.
+/// The ranges' first pointers and first scalars. Pointer 7457 has a scalar by a rule of its own, and is
+/// inside a range of the others.
 pub fn ranges() -> (Vec<u16>, Vec<u16>) {
     let (mut pointers, mut scalars) = (Vec::new(), Vec::new());
     let mut next = 0;
@@ -71,6 +72,10 @@ pub fn ranges() -> (Vec<u16>, Vec<u16>) {
             (pointer % 10 + 0x30) as u8,
         ];
         let found = scalar(GB18030, &bytes);
+        if pointer == 7457 {
+            next += 1;
+            continue;
+        }
         if found != next {
             pointers.push(pointer as u16);
             scalars.push(found as u16);

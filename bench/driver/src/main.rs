@@ -12,20 +12,21 @@ use encoding_rs::Encoding;
 use ours::Ours;
 use std::collections::HashMap;
 use std::hint::black_box;
-use std::time::{Duration, Instant};
+use std::time::Duration;
 
-/// A language's folder, the corpus's name, and its encodings.
-const CORPORA: &[(&str, &str, &[&str])] = &[
-    ("ko-KR", "ko", &["EUC-KR"]),
-    ("ja-JP", "ja", &["Shift_JIS", "EUC-JP", "ISO-2022-JP", "UTF-16LE"]),
-    ("zh-TW", "tw", &["Big5"]),
-    ("zh-CN", "cn", &["GBK", "gb18030", "UTF-16LE"]),
-    ("fr-FR", "fr", &["windows-1252", "x-user-defined", "UTF-16LE"]),
-    ("ru-RU", "ru", &["windows-1251"]),
+/// A language's folder, the corpus's name, the least share of letters past ASCII in a line of its text,
+/// and its encodings.
+const CORPORA: &[(&str, &str, f64, &[&str])] = &[
+    ("ko-KR", "ko", 0.5, &["EUC-KR"]),
+    ("ja-JP", "ja", 0.5, &["Shift_JIS", "EUC-JP", "ISO-2022-JP", "UTF-16LE"]),
+    ("zh-TW", "tw", 0.5, &["Big5"]),
+    ("zh-CN", "cn", 0.5, &["GBK", "gb18030", "UTF-16LE"]),
+    ("fr-FR", "fr", 0.01, &["windows-1252", "x-user-defined", "UTF-16LE"]),
+    ("ru-RU", "ru", 0.5, &["windows-1251"]),
 ];
 
 /// How many times each measured call decodes the source.
-const ROUNDS: usize = 3;
+const ROUNDS: usize = 1;
 
 /// The length of a small piece in bytes.
 const PIECE: usize = 64;
@@ -57,10 +58,27 @@ impl Unit for u16 {
     }
 }
 
+/// The time that this thread has run: what other programs take of the processor does not count.
+fn thread_time() -> Duration {
+    #[repr(C)]
+    struct Timespec {
+        seconds: i64,
+        nanoseconds: i64,
+    }
+    extern "C" {
+        fn clock_gettime(clock: i32, time: *mut Timespec) -> i32;
+    }
+    const CLOCK_THREAD_CPUTIME_ID: i32 = 3;
+    let mut time = Timespec { seconds: 0, nanoseconds: 0 };
+    let answer = unsafe { clock_gettime(CLOCK_THREAD_CPUTIME_ID, &mut time) };
+    assert_eq!(answer, 0, "the thread's clock");
+    Duration::new(time.seconds as u64, time.nanoseconds as u32)
+}
+
 fn best(least: &mut Duration, call: impl FnOnce() -> usize) {
-    let start = Instant::now();
+    let start = thread_time();
     black_box(call());
-    *least = (*least).min(start.elapsed());
+    *least = (*least).min(thread_time() - start);
 }
 
 /// Megabytes of the source a second, of encoding_rs and of ours.
@@ -112,9 +130,9 @@ fn main() -> Result<(), String> {
     println!("| corpus | encoding | to | encoding_rs MB/s | ours MB/s | ratio | encoding_rs, pieces of {PIECE} | ours | ratio |");
     println!("|---|---|---|---|---|---|---|---|---|");
     let mut decoders: HashMap<&str, Ours> = HashMap::new();
-    for (language, name, encodings) in CORPORA {
+    for (language, name, share, encodings) in CORPORA {
         let pages = corpora::html(language).map_err(|error| format!("{language}: {error}"))?;
-        for (kind, content) in [("text", corpora::text(&pages)), ("html", pages)] {
+        for (kind, content) in [("text", corpora::text(&pages, *share)), ("html", pages)] {
             let corpus = format!("{name}-{kind}");
             for label in *encodings {
                 if !words.is_empty() && !words.iter().any(|word| word == &corpus || word == label || word == name) {

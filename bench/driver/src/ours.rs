@@ -18,6 +18,10 @@ exports! {
     legacy_euc_kr_to_utf16(u16) -> u16;
     legacy_shift_jis_to_utf8(u16) -> u8;
     legacy_shift_jis_to_utf16(u16) -> u16;
+    legacy_euc_jp_to_utf8(u16, u16) -> u8;
+    legacy_euc_jp_to_utf16(u16, u16) -> u16;
+    legacy_gb18030_to_utf8(u16, u16, u16) -> u8;
+    legacy_gb18030_to_utf16(u16, u16, u16) -> u16;
     legacy_iso_2022_jp_to_utf8(u16) -> u8;
     legacy_iso_2022_jp_to_utf16(u16) -> u16;
     legacy_single_byte_to_utf8(u16) -> u8;
@@ -35,6 +39,8 @@ pub enum Ours {
     Big5(Vec<u32>),
     EucKr(Vec<u16>),
     ShiftJis(Vec<u16>),
+    EucJp(Vec<u16>, Vec<u16>),
+    Gb18030(Vec<u16>, (Vec<u16>, Vec<u16>)),
     Iso2022Jp(Vec<u16>),
     SingleByte(Vec<u16>),
     UserDefined,
@@ -54,6 +60,8 @@ impl Ours {
             "Big5" => Ours::Big5(indexes::big5()),
             "EUC-KR" => Ours::EucKr(indexes::euc_kr()),
             "Shift_JIS" => Ours::ShiftJis(indexes::jis0208()),
+            "EUC-JP" => Ours::EucJp(indexes::jis0208(), indexes::jis0212()),
+            "GBK" | "gb18030" => Ours::Gb18030(indexes::gb18030(), indexes::ranges()),
             "ISO-2022-JP" => Ours::Iso2022Jp(indexes::jis0208()),
             "x-user-defined" => Ours::UserDefined,
             "UTF-16LE" => Ours::Utf16Le,
@@ -67,6 +75,8 @@ impl Ours {
             Ours::Big5(index) => call!(legacy_big5_to_utf8, [index], src, dst, piece, rounds),
             Ours::EucKr(index) => call!(legacy_euc_kr_to_utf8, [index], src, dst, piece, rounds),
             Ours::ShiftJis(index) => call!(legacy_shift_jis_to_utf8, [index], src, dst, piece, rounds),
+            Ours::EucJp(first, second) => call!(legacy_euc_jp_to_utf8, [first, second], src, dst, piece, rounds),
+            Ours::Gb18030(index, (pointers, scalars)) => call!(legacy_gb18030_to_utf8, [index, pointers, scalars], src, dst, piece, rounds),
             Ours::Iso2022Jp(index) => call!(legacy_iso_2022_jp_to_utf8, [index], src, dst, piece, rounds),
             Ours::SingleByte(index) => call!(legacy_single_byte_to_utf8, [index], src, dst, piece, rounds),
             Ours::UserDefined => call!(legacy_user_defined_to_utf8, [], src, dst, piece, rounds),
@@ -80,6 +90,8 @@ impl Ours {
             Ours::Big5(index) => call!(legacy_big5_to_utf16, [index], src, dst, piece, rounds),
             Ours::EucKr(index) => call!(legacy_euc_kr_to_utf16, [index], src, dst, piece, rounds),
             Ours::ShiftJis(index) => call!(legacy_shift_jis_to_utf16, [index], src, dst, piece, rounds),
+            Ours::EucJp(first, second) => call!(legacy_euc_jp_to_utf16, [first, second], src, dst, piece, rounds),
+            Ours::Gb18030(index, (pointers, scalars)) => call!(legacy_gb18030_to_utf16, [index, pointers, scalars], src, dst, piece, rounds),
             Ours::Iso2022Jp(index) => call!(legacy_iso_2022_jp_to_utf16, [index], src, dst, piece, rounds),
             Ours::SingleByte(index) => call!(legacy_single_byte_to_utf16, [index], src, dst, piece, rounds),
             Ours::UserDefined => call!(legacy_user_defined_to_utf16, [], src, dst, piece, rounds),
