@@ -60,14 +60,12 @@ impl<'a> Big5Decoder<'a> {
 fn pair_pointer(lead: Lead, trail: u8) -> Option<usize>
     ensures { result ≡ big5_pointer lead.byte trail }
 {
-    let row = usize::from(lead.byte - 0x81) * 157;
-    if trail >= 0x40 && trail <= 0x7E {
-        return Some(row + usize::from(trail - 0x40));
+    if trail < 0x40 || (trail > 0x7E && trail < 0xA1) || trail > 0xFE {
+        return None;
     }
-    if trail >= 0xA1 && trail <= 0xFE {
-        return Some(row + usize::from(trail - 0x62));
-    }
-    None
+    // Chosen without a branch: which range a trail is from follows no pattern.
+    let offset = if trail < 0x7F { 0x40 } else { 0x62 };
+    Some(usize::from(lead.byte - 0x81) * 157 + usize::from(trail - offset))
 }
 
 /// Reads a trail behind its lead, which have this pointer: four pointers give a letter and a combining

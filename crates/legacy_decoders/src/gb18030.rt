@@ -59,14 +59,13 @@ fn pair_scalar(tables: &Tables, lead: Lead, trail: u8) -> Option<char>
     ensures value { option_to_list result ≡ gb18030_scalars tables.now.flat.gb18030 lead.byte trail }
     ensures scalar { IfSome result IsScalar }
 {
+    if trail < 0x40 || trail == 0x7F || trail > 0xFE {
+        return None;
+    }
+    // Chosen without a branch: which range a trail is from follows no pattern.
+    let offset = if trail < 0x7F { 0x40 } else { 0x41 };
     let row = usize::from(lead.byte - 0x81) * 190;
-    if trail >= 0x40 && trail <= 0x7E {
-        return tables.idx(IndexName::Gb18030, row + usize::from(trail - 0x40));
-    }
-    if trail >= 0x80 && trail <= 0xFE {
-        return tables.idx(IndexName::Gb18030, row + usize::from(trail - 0x41));
-    }
-    None
+    tables.idx(IndexName::Gb18030, row + usize::from(trail - offset))
 }
 
 /// What a byte leads to where nothing is held back.

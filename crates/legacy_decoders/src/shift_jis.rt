@@ -92,11 +92,9 @@ fn katakana(byte: u8) -> char
 fn lead_part(lead: ShiftJisLead) -> usize
     ensures { result ≡ shift_jis_lead_part lead.byte }
 {
-    if lead.byte < 0xA0 {
-        usize::from(lead.byte - 0x81)
-    } else {
-        usize::from(lead.byte - 0xC1)
-    }
+    // Chosen without a branch, as in `pair_pointer`.
+    let offset = if lead.byte < 0xA0 { 0x81 } else { 0xC1 };
+    usize::from(lead.byte - offset)
 }
 
 /// The pointer of a lead and a trail, or `None` where the second byte is no trail.
@@ -104,14 +102,12 @@ fn lead_part(lead: ShiftJisLead) -> usize
 fn pair_pointer(lead: ShiftJisLead, trail: u8) -> Option<usize>
     ensures { result ≡ shift_jis_pointer lead.byte trail }
 {
-    let row = lead_part(lead) * 188;
-    if trail >= 0x40 && trail <= 0x7E {
-        return Some(row + usize::from(trail - 0x40));
+    if trail < 0x40 || trail == 0x7F || trail > 0xFC {
+        return None;
     }
-    if trail >= 0x80 && trail <= 0xFC {
-        return Some(row + usize::from(trail - 0x41));
-    }
-    None
+    // Chosen without a branch: which range a trail is from follows no pattern.
+    let offset = if trail < 0x7F { 0x40 } else { 0x41 };
+    Some(lead_part(lead) * 188 + usize::from(trail - offset))
 }
 
 /// The scalar of a pointer, if it has one: the pointers 8836 to 10715 are for private use.

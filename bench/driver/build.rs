@@ -1,0 +1,9 @@
+//! Links the static library of the decoders, which `rt lib` leaves in its crate's folder.
+
+fn main() {
+    let here = std::env::var("CARGO_MANIFEST_DIR").expect("cargo gives the folder");
+    let library = format!("{here}/../../crates/legacy_exports/out");
+    println!("cargo:rustc-link-search=native={library}");
+    println!("cargo:rustc-link-lib=static=legacy_exports");
+    println!("cargo:rerun-if-changed={library}/liblegacy_exports.a");
+}

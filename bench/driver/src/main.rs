@@ -1,0 +1,150 @@
+//! Times the decoders beside encoding_rs, and compares what both write.
+//!
+//! Arguments: words that a line of the table must have, as `ja-text` or `Big5` (none: all lines are
+//! made), and a number: how many times each call is timed.
+
+mod corpora;
+mod indexes;
+mod ours;
+mod theirs;
+
+use encoding_rs::Encoding;
+use ours::Ours;
+use std::collections::HashMap;
+use std::hint::black_box;
+use std::time::Duration;
+
+/// A language's folder, the corpus's name, the least share of letters past ASCII in a line of its text,
+/// and its encodings.
+const CORPORA: &[(&str, &str, f64, &[&str])] = &[
+    ("ko-KR", "ko", 0.5, &["EUC-KR"]),
+    ("ja-JP", "ja", 0.5, &["Shift_JIS", "EUC-JP", "ISO-2022-JP", "UTF-16LE"]),
+    ("zh-TW", "tw", 0.5, &["Big5"]),
+    ("zh-CN", "cn", 0.5, &["GBK", "gb18030", "UTF-16LE"]),
+    ("fr-FR", "fr", 0.01, &["windows-1252", "x-user-defined", "UTF-16LE"]),
+    ("ru-RU", "ru", 0.5, &["windows-1251"]),
+];
+
+/// How many times each measured call decodes the source.
+const ROUNDS: usize = 1;
+
+/// The length of a small piece in bytes.
+const PIECE: usize = 64;
+
+/// The code units of one output form, with both libraries' calls into it.
+trait Unit: Copy + PartialEq + Default {
+    const NAME: &'static str;
+    fn ours(ours: &Ours, src: &[u8], dst: &mut [Self], piece: usize, rounds: usize) -> usize;
+    fn theirs(encoding: &'static Encoding, src: &[u8], dst: &mut [Self], piece: usize, rounds: usize) -> usize;
+}
+
+impl Unit for u8 {
+    const NAME: &'static str = "UTF-8";
+    fn ours(ours: &Ours, src: &[u8], dst: &mut [u8], piece: usize, rounds: usize) -> usize {
+        ours.to_utf8(src, dst, piece, rounds)
+    }
+    fn theirs(encoding: &'static Encoding, src: &[u8], dst: &mut [u8], piece: usize, rounds: usize) -> usize {
+        theirs::to_utf8(encoding, src, dst, piece, rounds)
+    }
+}
+
+impl Unit for u16 {
+    const NAME: &'static str = "UTF-16";
+    fn ours(ours: &Ours, src: &[u8], dst: &mut [u16], piece: usize, rounds: usize) -> usize {
+        ours.to_utf16(src, dst, piece, rounds)
+    }
+    fn theirs(encoding: &'static Encoding, src: &[u8], dst: &mut [u16], piece: usize, rounds: usize) -> usize {
+        theirs::to_utf16(encoding, src, dst, piece, rounds)
+    }
+}
+
+/// The time that this thread has run: what other programs take of the processor does not count.
+fn thread_time() -> Duration {
+    #[repr(C)]
+    struct Timespec {
+        seconds: i64,
+        nanoseconds: i64,
+    }
+    extern "C" {
+        fn clock_gettime(clock: i32, time: *mut Timespec) -> i32;
+    }
+    const CLOCK_THREAD_CPUTIME_ID: i32 = 3;
+    let mut time = Timespec { seconds: 0, nanoseconds: 0 };
+    let answer = unsafe { clock_gettime(CLOCK_THREAD_CPUTIME_ID, &mut time) };
+    assert_eq!(answer, 0, "the thread's clock");
+    Duration::new(time.seconds as u64, time.nanoseconds as u32)
+}
+
+fn best(least: &mut Duration, call: impl FnOnce() -> usize) {
+    let start = thread_time();
+    black_box(call());
+    *least = (*least).min(thread_time() - start);
+}
+
+/// Megabytes of the source a second, of encoding_rs and of ours.
+fn speeds<U: Unit>(ours: &Ours, encoding: &'static Encoding, src: &[u8], dst: &mut [U], piece: usize, times: usize) -> (f64, f64) {
+    let [mut their_time, mut our_time, mut check_time] = [Duration::MAX; 3];
+    for _ in 0..times {
+        best(&mut their_time, || U::theirs(encoding, src, dst, piece, ROUNDS));
+        best(&mut our_time, || U::ours(ours, src, dst, piece, ROUNDS));
+        best(&mut check_time, || U::ours(ours, &[], dst, piece, 1));
+    }
+    let speed = |time: Duration| (src.len() * ROUNDS) as f64 / time.as_secs_f64() / 1e6;
+    (speed(their_time), speed(our_time - check_time))
+}
+
+/// Compares what both write, whole and in pieces.
+fn compare<U: Unit>(ours: &Ours, encoding: &'static Encoding, src: &[u8], dst: &mut [U]) -> Result<(), String> {
+    let length = U::theirs(encoding, src, dst, 0, 1);
+    let wanted = dst[..length].to_vec();
+    for piece in [0, 1, 7, PIECE] {
+        dst.fill(U::default());
+        let written = U::ours(ours, src, dst, piece, 1);
+        if written != length || dst[..length] != wanted[..] {
+            let place = (0..length).find(|at| dst[*at] != wanted[*at]);
+            return Err(format!("{} in pieces of {piece}: {written} code units, not {length}; first difference at {place:?}", U::NAME));
+        }
+    }
+    Ok(())
+}
+
+/// One line of the table.
+fn line<U: Unit>(corpus: &str, ours: &Ours, encoding: &'static Encoding, src: &[u8], times: usize) -> Result<(), String> {
+    let mut dst = vec![U::default(); src.len() * 3 + 64];
+    compare::<U>(ours, encoding, src, &mut dst).map_err(|error| format!("{corpus} {}: {error}", encoding.name()))?;
+    let (their_whole, our_whole) = speeds::<U>(ours, encoding, src, &mut dst, 0, times);
+    let (their_pieces, our_pieces) = speeds::<U>(ours, encoding, src, &mut dst, PIECE, times);
+    println!(
+        "| {corpus} | {} | {} | {their_whole:.0} | {our_whole:.0} | {:.2} | {their_pieces:.0} | {our_pieces:.0} | {:.2} |",
+        encoding.name(),
+        U::NAME,
+        our_whole / their_whole,
+        our_pieces / their_pieces,
+    );
+    Ok(())
+}
+
+fn main() -> Result<(), String> {
+    let (numbers, words): (Vec<String>, Vec<String>) = std::env::args().skip(1).partition(|word| word.parse::<usize>().is_ok());
+    let times = numbers.first().map_or(Ok(20), |number| number.parse()).map_err(|_| "not a number".to_string())?;
+    println!("| corpus | encoding | to | encoding_rs MB/s | ours MB/s | ratio | encoding_rs, pieces of {PIECE} | ours | ratio |");
+    println!("|---|---|---|---|---|---|---|---|---|");
+    let mut decoders: HashMap<&str, Ours> = HashMap::new();
+    for (language, name, share, encodings) in CORPORA {
+        let pages = corpora::html(language).map_err(|error| format!("{language}: {error}"))?;
+        for (kind, content) in [("text", corpora::text(&pages, *share)), ("html", pages)] {
+            let corpus = format!("{name}-{kind}");
+            for label in *encodings {
+                if !words.is_empty() && !words.iter().any(|word| word == &corpus || word == label || word == name) {
+                    continue;
+                }
+                let encoding = Encoding::for_label(label.as_bytes()).ok_or("no such encoding")?;
+                let src = corpora::encode(encoding, &content);
+                let ours = decoders.entry(label).or_insert_with(|| Ours::new(encoding));
+                line::<u8>(&corpus, ours, encoding, &src, times)?;
+                line::<u16>(&corpus, ours, encoding, &src, times)?;
+            }
+        }
+    }
+    Ok(())
+}
