@@ -1,0 +1,53 @@
+use super::UserDefinedDecoder;
+use crate::tests::{utf8_events, utf16_events};
+use legacy_base::DecodeEvent::Scalar;
+use legacy_base::DecoderResult::{InputEmpty, OutputFull};
+use legacy_base::RawDecoder;
+use std::test::Fail;
+
+#[test]
+fn ascii_and_private_use_scalars_go_into_both_outputs(rt: HostRuntime) {
+    let mut bytes = [0u8; 16];
+    let answer = UserDefinedDecoder::new().decode_to_utf8_raw(b"\x61\x80\xFF", &mut bytes, true);
+    assert_eq!(rt; answer, (InputEmpty, 3, 7));
+    let expected = [0x61, 0xEF, 0x9E, 0x80, 0xEF, 0x9F, 0xBF];
+    assert!(rt; &bytes[..7] == expected.as_slice());
+    let mut units = [0u16; 16];
+    let answer = UserDefinedDecoder::new().decode_to_utf16_raw(b"\x61\x80\xFF", &mut units, true);
+    assert_eq!(rt; answer, (InputEmpty, 3, 3));
+    assert!(rt; &units[..3] == [0x61, 0xF780, 0xF7FF].as_slice());
+}
+
+#[test]
+fn a_scalar_waits_for_its_room(rt: HostRuntime) {
+    let mut decoder = UserDefinedDecoder::new();
+    let mut small = [0u8; 2];
+    let answer = decoder.decode_to_utf8_raw(b"\x80", &mut small, true);
+    assert_eq!(rt; answer, (OutputFull, 0, 0));
+    let mut enough = [0u8; 3];
+    let answer = decoder.decode_to_utf8_raw(b"\x80", &mut enough, true);
+    assert_eq!(rt; answer, (InputEmpty, 1, 3));
+}
+
+#[test]
+fn the_lengths_are_one_unit_and_three_bytes_for_each_byte(rt: HostRuntime) {
+    let decoder = UserDefinedDecoder::new();
+    assert_eq!(rt; decoder.max_utf16_buffer_length(3), Some(3));
+    let without = decoder.max_utf8_buffer_length_without_replacement(3);
+    assert_eq!(rt; without, Some(9));
+    assert_eq!(rt; decoder.max_utf8_buffer_length(3), Some(9));
+    let most = usize::MAX / 3;
+    assert_eq!(rt; decoder.max_utf8_buffer_length(most), Some(usize::MAX));
+    assert_eq!(rt; decoder.max_utf8_buffer_length(most + 1), None);
+}
+
+#[test]
+fn single_bytes_give_the_same_events(rt: HostRuntime) -> Result<(), Fail> {
+    let expected = [Scalar('\u{7F}'), Scalar('\u{F780}')];
+    let mut decoder = UserDefinedDecoder::new();
+    let events = utf8_events(rt.alloc(), &mut decoder, b"\x7F\x80")?;
+    assert!(rt; events.as_slice() == expected.as_slice());
+    let events = utf16_events(rt.alloc(), &mut decoder, b"\x7F\x80")?;
+    assert!(rt; events.as_slice() == expected.as_slice());
+    Ok(())
+}
