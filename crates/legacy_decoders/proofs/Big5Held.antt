@@ -1,5 +1,5 @@
 -- The moves of the Big5 decoder, by the lead that it holds back.
-use Rattle.std.proofs.Common.{◌≡◌, ◌≢◌, ◌≤◌, ◌<◌, ◌+◌, ◌-◌, arith, sym, Bool, cond, ℕ, List, [], ◌∷◌, Option, Some, None, is_some, true, false, refl}
+use Rattle.std.proofs.Common.{◌≡◌, ◌≢◌, Bool, cond, ℕ, List, [], ◌∷◌, Option, Some, is_some, true, false, refl}
 use Rattle.legacy_base.specs.Unicode.{IsByte}
 use Rattle.legacy_base.specs.AcceptedTables.{AcceptedIndexes}
 use Rattle.legacy_base.specs.Grammar.{Grammar, big5, events_of}

@@ -1,5 +1,5 @@
 -- What the EUC-JP decoder holds back is what its machine may hold back, and its moves are the machine's.
-use Rattle.std.proofs.Common.{◌≡◌, ◌≢◌, ◌∙◌, ℕ, ◌+◌, ◌-◌, ◌*◌, ◌^◌, ◌<◌, ◌≤◌, List, [], ◌∷◌, length, Bool, true, false, not, ◌&&◌, ◌||◌, ◌==◌, refl, sym, ap, arith, cond}
+use Rattle.std.proofs.Common.{◌≡◌, ◌≢◌, ℕ, ◌+◌, ◌-◌, ◌*◌, ◌^◌, ◌<◌, ◌≤◌, List, [], ◌∷◌, length, Bool, true, false, ◌&&◌, ◌==◌, refl, arith, cond}
 use Rattle.std.proofs.lemmas.Bool.{false≢true}
 use Rattle.std.proofs.lemmas.Bool.Decides.{nat_tests}
 use Rattle.std.proofs.lemmas.List.Elements.{All-nil, All-cons}
@@ -11,7 +11,7 @@ use Rattle.legacy_base.specs.EucJp.{euc_jp_scalars}
 use Rattle.legacy_base.specs.Unicode.{IsByte, AreBytes}
 use Rattle.legacy_base.specs.AcceptedTables.{AcceptedIndexes}
 use Rattle.legacy_base.specs.Grammar.{Grammar, euc_jp, events_of}
-use Rattle.legacy_base.specs.States.{is_euc_jp_lead, euc_jp_may_hold, rests, is_empty}
+use Rattle.legacy_base.specs.States.{is_euc_jp_lead, euc_jp_may_hold, is_empty}
 use Rattle.legacy_base.proofs.Accepted.{jis0208-below, jis0212-below}
 use Rattle.legacy_decoders.specs.declared.euc_jp.Held.{Held}
 use Rattle.legacy_decoders.specs.declared.euc_jp.Held.TheVariants.{Nothing, Katakana, Jis0212, Lead, Jis0212Lead}

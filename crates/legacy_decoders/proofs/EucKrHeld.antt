@@ -1,5 +1,5 @@
 -- The moves of the EUC-KR decoder, by the lead that it holds back.
-use Rattle.std.proofs.Common.{◌≡◌, ◌≢◌, ◌≤◌, ◌<◌, ◌+◌, ◌-◌, arith, sym, Bool, cond, ℕ, List, [], ◌∷◌, Option, Some, None, is_some, true, false, refl}
+use Rattle.std.proofs.Common.{◌≡◌, ◌≢◌, ◌<◌, ℕ, [], ◌∷◌, Option, Some, is_some, true, false, refl}
 use Rattle.legacy_base.specs.Unicode.{IsByte}
 use Rattle.legacy_base.specs.AcceptedTables.{AcceptedIndexes}
 use Rattle.legacy_base.specs.EucKr.{euc_kr_scalars}
@@ -12,7 +12,7 @@ use Rattle.legacy_decoders.specs.Machines.{two_byte_step, lead_first}
 use Rattle.legacy_decoders.specs.Costs.{state_of, HasNarrowIndexes}
 use Rattle.legacy_decoders.specs.Feeding.{Took}
 use Rattle.legacy_decoders.specs.TwoByte.{lead_bytes}
-use Rattle.std.specs.Char.{IsScalar, is_ascii}
+use Rattle.std.specs.Char.{IsScalar}
 use Rattle.legacy_base.specs.States.{is_lead}
 use Rattle.legacy_decoders.proofs.Feeding as feeding
 use Rattle.legacy_decoders.specs.Ahead.{Runs, HasAscii}

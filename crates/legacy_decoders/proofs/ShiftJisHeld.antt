@@ -1,5 +1,5 @@
 -- The moves of the Shift_JIS decoder, by the lead that it holds back.
-use Rattle.std.proofs.Common.{◌≡◌, ◌≢◌, ◌≤◌, ◌<◌, ◌+◌, ◌-◌, arith, sym, Bool, cond, ℕ, List, [], ◌∷◌, Option, Some, None, is_some, true, false, refl}
+use Rattle.std.proofs.Common.{◌≡◌, ◌≢◌, ◌≤◌, ◌<◌, ◌+◌, ◌-◌, arith, ℕ, [], ◌∷◌, Option, Some, is_some, true, false, refl}
 use Rattle.legacy_base.specs.Unicode.{IsByte}
 use Rattle.legacy_base.specs.AcceptedTables.{AcceptedIndexes}
 use Rattle.legacy_base.specs.Grammar.{Grammar, shift_jis, events_of}
@@ -11,7 +11,7 @@ use Rattle.legacy_decoders.specs.Machines.{two_byte_step, shift_jis_first, shift
 use Rattle.legacy_decoders.specs.Costs.{state_of, HasNarrowIndexes}
 use Rattle.legacy_decoders.specs.Feeding.{Took}
 use Rattle.legacy_decoders.specs.TwoByte.{shift_jis_lead_bytes}
-use Rattle.std.specs.Char.{IsScalar, is_ascii}
+use Rattle.std.specs.Char.{IsScalar}
 use Rattle.legacy_base.specs.ShiftJis.{is_shift_jis_lead}
 use Rattle.legacy_decoders.proofs.Feeding as feeding
 use Rattle.legacy_decoders.specs.Ahead.{Runs, HasAscii}

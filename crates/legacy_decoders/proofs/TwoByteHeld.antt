@@ -1,5 +1,5 @@
 -- What decoders of forms of two bytes hold back, they may hold back.
-use Rattle.std.proofs.Common.{◌≡◌, ◌≢◌, ◌≤◌, ◌^◌, ◌<◌, ℕ, List, [], ◌∷◌, Option, Some, None, is_some, ◌&&◌, true, false, refl, arith}
+use Rattle.std.proofs.Common.{◌≡◌, ◌≢◌, ◌≤◌, ℕ, List, [], ◌∷◌, Option, Some, None, is_some, ◌&&◌, true, false, refl, arith}
 use Rattle.std.proofs.lemmas.Bool.Decides.{nat_tests}
 use Rattle.std.proofs.lemmas.List.Elements.{All-nil, All-cons}
 use Rattle.legacy_base.specs.Unicode.{IsByte, AreBytes}

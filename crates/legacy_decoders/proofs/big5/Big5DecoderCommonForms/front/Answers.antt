@@ -1,4 +1,4 @@
-use Rattle.std.proofs.Common.{◌<◌, ◌^◌, arith, sym}
+use Rattle.std.proofs.Common.{◌<◌, ◌^◌, arith}
 use Rattle.legacy_decoders.proofs.Big5Held.{pair}
 use Rattle.legacy_decoders.proofs.big5.Big5DecoderCommonForms.front.Goals as goal
 

@@ -1,4 +1,4 @@
-use Rattle.std.proofs.Common.{arith, sym, ap, length, ◌∙◌, ◌≡◌, ◌≢◌, []}
+use Rattle.std.proofs.Common.{arith, ap, length, ◌≡◌, ◌≢◌, []}
 use Rattle.legacy_decoders.specs.EucJpHeld.{held_bytes}
 use Rattle.legacy_decoders.proofs.EucJpHeld.{events-empty, reports}
 use Rattle.legacy_decoders.proofs.euc_jp.EucJpDecoderMachine.report.Goals as goal

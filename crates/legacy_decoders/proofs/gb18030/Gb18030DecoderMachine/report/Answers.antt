@@ -1,4 +1,4 @@
-use Rattle.std.proofs.Common.{arith, sym, ap, length, ◌∙◌, ◌≡◌, ◌≢◌, []}
+use Rattle.std.proofs.Common.{arith, ap, length, ◌≡◌, ◌≢◌, []}
 use Rattle.legacy_decoders.specs.Gb18030Held.{held_bytes}
 use Rattle.legacy_decoders.proofs.Gb18030Held.{events-empty, reports}
 use Rattle.legacy_decoders.proofs.gb18030.Gb18030DecoderMachine.report.Goals as goal
