@@ -131,7 +131,7 @@ impl RawDecoder for UserDefinedDecoder {
     }
 
     fn max_utf8_buffer_length_without_replacement(&self, byte_length: usize) -> Option<usize> {
-        byte_length.checked_mul(3)
+        self.max_utf8_buffer_length(byte_length)
     }
 
     fn max_utf8_buffer_length(&self, byte_length: usize) -> Option<usize> {
