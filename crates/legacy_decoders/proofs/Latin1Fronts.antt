@@ -1,5 +1,7 @@
 -- How long the front of Latin-1 bytes is.
-use Rattle.std.proofs.Common.{◌≡◌, ◌∙◌, ℕ, ◌<◌, ◌≤◌, List, length, get_or, true, false, sym}
+use Rattle.std.proofs.Common.{◌≡◌, ◌∙◌, ℕ, ◌<◌, ◌≤◌, List, length, get_or, take, true, false, refl, sym, arith, get_or-take, IsAscii}
+use Rattle.std.proofs.lemmas.Bool.Decides.{nat_tests}
+use Rattle.std.specs.Char.{is_ascii}
 use Rattle.std.proofs.lemmas.List.Folds.{length-prefix_len}
 use Rattle.std.proofs.lemmas.List.Sums.{prefix_len_is}
 use Rattle.legacy_base.specs.Latin1.{is_latin1_byte, latin1_front}
@@ -10,3 +12,10 @@ pub latin1_front-length : (table bytes : List ℕ) (n : ℕ) → n ≤ length by
 unfolding latin1_front
 latin1_front-length table bytes n h pass stop =
     sym (length-prefix_len (is_latin1_byte table) bytes ∙ prefix_len_is (is_latin1_byte table) bytes n 0 h pass stop)
+
+-- a front that is ASCII is Latin-1
+pub latin1-ascii : (table bytes : List ℕ) (n : ℕ) → IsAscii (take n bytes) → (k : ℕ) → k < n → is_latin1_byte table (get_or bytes k 0) ≡ true
+latin1-ascii table bytes n h k l =
+    let small : get_or bytes k 0 < 128 = rw (← get_or-take n bytes k 0 l) (h k) in
+    let ascii : is_ascii (get_or bytes k 0) ≡ true = grind (arith, nat_tests) in
+    rw ascii refl

@@ -1,5 +1,5 @@
 //! The decoder of the single-byte encodings.
-ghost use Rattle.std.specs.Prelude.{◌≡◌, [], length};
+ghost use Rattle.std.specs.Prelude.{◌≡◌, ◌≤◌, [], length, take, IsAscii};
 ghost use Rattle.legacy_base.specs.Grammar.{single_byte};
 ghost use Rattle.legacy_base.specs.Latin1.{is_latin1_byte, latin1_front};
 ghost use Rattle.legacy_decoders.specs.Machines.{single_byte_first};
@@ -10,6 +10,7 @@ use crate::ahead::{CommonForms, Front, ahead};
 use crate::drive::drive;
 use crate::machine::{Act, Fed, Machine, Room};
 use legacy_base::{DecoderResult, Destination, RawDecoder, SingleByteTable};
+use std::simd::prelude::*;
 
 /// The decoder of a single-byte encoding (Encoding Standard, "single-byte decoder").
 ///
@@ -46,6 +47,25 @@ fn is_latin1(table: &SingleByteTable, byte: u8) -> bool
     byte < 0x80 || table.scalar(usize::from(byte - 0x80)) == Some(char::from(byte))
 }
 
+/// How many bytes at the front are in whole blocks of 16 ASCII bytes.
+#[inline]
+fn ascii_blocks(bytes: &[u8]) -> usize
+    ensures within { result ≤ length bytes.now }
+    ensures ascii { IsAscii (take result bytes.now) }
+{
+    let mut count = 0;
+    while bytes.len() - count >= 16 {
+        let block = u8x16::from_slice(&bytes[count..]);
+        let past = block.simd_ge(u8x16::splat(0x80)).to_bitmask();
+        if past == 0 {
+            count += 16;
+        } else {
+            return count;
+        }
+    }
+    count
+}
+
 impl<'a> SingleByteDecoder<'a> {
     ghost use Rattle.legacy_decoders.specs.SingleByteDecoder.{single_byte_entries, single_byte_state};
 
@@ -63,12 +83,11 @@ impl<'a> SingleByteDecoder<'a> {
     pub fn latin1_byte_compatible_up_to(&self, bytes: &[u8]) -> usize
         ensures { result ≡ length (latin1_front (single_byte_entries self.now) bytes.now) }
     {
-        for (place, byte) in bytes.iter().enumerate() {
-            if !is_latin1(self.table, *byte) {
-                return place;
-            }
+        let mut count = ascii_blocks(bytes);
+        while count < bytes.len() && is_latin1(self.table, bytes[count]) {
+            count += 1;
         }
-        bytes.len()
+        count
     }
 }
 

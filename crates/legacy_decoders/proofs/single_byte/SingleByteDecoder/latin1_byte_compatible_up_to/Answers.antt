@@ -1,21 +1,24 @@
-use Rattle.std.proofs.Common.{◌≡◌, ◌<◌, ◌≤◌, ◌∙◌, ℕ, length, get_or, true, sym, arith}
+use Rattle.std.proofs.Common.{◌≡◌, ◌<◌, ◌∙◌, ℕ, length, get_or, take, true, sym, arith, get_or-take, IsAscii, List, ◌≤◌}
+use Rattle.std.proofs.lemmas.Bool.Decides.{nat_tests}
 use Rattle.legacy_base.specs.Latin1.{is_latin1_byte}
 use Rattle.legacy_decoders.specs.SingleByteDecoder.{single_byte_entries}
-use Rattle.legacy_decoders.proofs.Latin1Fronts.{latin1_front-length}
+use Rattle.legacy_decoders.proofs.Latin1Fronts.{latin1_front-length, latin1-ascii}
 use Rattle.legacy_decoders.proofs.single_byte.SingleByteDecoder.latin1_byte_compatible_up_to.Goals as goal
 use borrow.Author.Count.{below_more}
 
-pub returns-then-not-is_latin1 : goal.returns-then-not-is_latin1
-returns-then-not-is_latin1 c =
-    let in_range : c.loop-place.place ≤ length c.args.bytes.now = omega arith in
-    latin1_front-length (single_byte_entries c.args.self.now) c.args.bytes.now c.loop-place.place in_range c.loop-place.invariant (λ h. sym c.is_latin1.ensures ∙ c.if-not-is_latin1.true)
+pub loop-count-init : goal.loop-count-init
+loop-count-init c = (c.ascii_blocks-count.ensures.within, latin1-ascii (single_byte_entries c.args.self.now) c.args.bytes.now c.ascii_blocks-count.result c.ascii_blocks-count.ensures.ascii)
 
-pub returns : goal.returns
-returns c =
-    let all : (k : ℕ) → k < length c.args.bytes.now → is_latin1_byte (single_byte_entries c.args.self.now) (get_or c.args.bytes.now k 0) ≡ true =
-    λ k h. c.loop-place.invariant k (omega arith) in
-    latin1_front-length (single_byte_entries c.args.self.now) c.args.bytes.now (length c.args.bytes.now) (omega arith) all (λ h. absurd (omega arith))
+pub loop-count-preserved : goal.loop-count-preserved
+loop-count-preserved c = (
+  omega (arith, c.loop-count-test.true),
+  below_more (λ k. is_latin1_byte (single_byte_entries c.args.self.now) (get_or c.args.bytes.now k 0) ≡ true) c.loop-count.count c.loop-count.invariant.1 (sym c.is_latin1.ensures ∙ c.if-is_latin1.true),
+)
 
-pub loop-place-preserved : goal.loop-place-preserved
-loop-place-preserved c =
-    below_more (λ k. is_latin1_byte (single_byte_entries c.args.self.now) (get_or c.args.bytes.now k 0) ≡ true) c.loop-place.place c.loop-place.invariant (sym c.is_latin1.ensures ∙ c.if-not-is_latin1.false)
+pub returns-else-is_latin1 : goal.returns-else-is_latin1
+returns-else-is_latin1 c =
+    latin1_front-length (single_byte_entries c.args.self.now) c.args.bytes.now c.loop-count.count c.loop-count.invariant.0 c.loop-count.invariant.1 (λ h. sym c.is_latin1.ensures ∙ c.if-is_latin1.false)
+
+pub returns-after-loop-count : goal.returns-after-loop-count
+returns-after-loop-count c =
+    latin1_front-length (single_byte_entries c.args.self.now) c.args.bytes.now c.loop-count.count c.loop-count.invariant.0 c.loop-count.invariant.1 (λ h. absurd (omega (arith, c.loop-count-test.false)))
