@@ -1,7 +1,6 @@
 use Rattle.std.proofs.Common.{◌≤◌, ◌∙◌, ℕ, ◌-◌, ◌*◌, List, [], length, take, drop, refl, arith}
 use Rattle.std.proofs.lemmas.List.{length-take, length-drop}
 use Rattle.legacy_base.specs.Grammar.{utf16}
-use Rattle.legacy_base.specs.States.{DecoderState}
 use Rattle.legacy_decoders.specs.Costs.{state_of}
 use Rattle.legacy_decoders.proofs.MoreRuns.{reads_more}
 use Rattle.legacy_decoders.proofs.Utf16Runs.{reads_block}
