@@ -36,6 +36,7 @@ pub mod SingleByteSteps
 pub mod Latin1Fronts
 pub mod Writing
 pub mod AheadRuns
+pub mod MoreRuns
 pub mod RunForms
 pub mod UserDefinedRuns
 pub mod Gb18030Held

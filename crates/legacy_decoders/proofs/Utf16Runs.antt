@@ -1,15 +1,24 @@
 -- The runs of UTF-16.
-use Rattle.std.proofs.Common.{◌≡◌, ℕ, ◌<◌, Bool, true, false, Option, Some, None, refl, subst, arith}
-use Rattle.std.specs.Prelude.{IfSome}
+use Rattle.std.proofs.Common.{rules, ◌≡◌, ◌∙◌, ℕ, zero, suc, ◌+◌, ◌*◌, ◌<◌, ◌≤◌, ◌^◌, List, [], ◌∷◌, ◌++◌, Bool, true, false, Option, Some, None, length, take, get_or, sym, ap, subst, arith, append-nil, append_assoc, refl, inl, inr}
+use Rattle.std.proofs.Math.ListN.{set}
+use Rattle.std.specs.Prelude.{IfSome, IsAscii}
 use Rattle.std.specs.Option.{SomeIff}
 use Rattle.std.specs.Char.{IsScalar}
+use Rattle.std.proofs.lemmas.Bool.{cases_lt}
 use Rattle.std.proofs.lemmas.Bool.Decides.{nat_tests}
+use Rattle.std.proofs.lemmas.List.{take_more, length-take-le, get_or-take, get_or-set_same, get_or-set_other}
+use Rattle.std.proofs.lemmas.List.Elements.{All-get_or}
+use Rattle.std.proofs.lemmas.Str.Ascii.{All-from_ascii}
 use Rattle.std.specs.Char.Utf16.{is_high_surrogate, is_low_surrogate}
+use Rattle.legacy_base.specs.EncodingForm.{EncodingForm}
 use Rattle.legacy_base.specs.Unicode.{IsByte}
 use Rattle.legacy_base.specs.Grammar.{utf16}
 use Rattle.legacy_base.specs.Utf16.{unit_of}
-use Rattle.legacy_decoders.specs.Ahead.{IsPair}
+use Rattle.legacy_decoders.specs.Ahead.{Runs, IsPair, Writes, ReadsAhead}
+use Rattle.legacy_decoders.specs.Costs.{state_of}
+use Rattle.legacy_decoders.specs.Utf16Decoder.{AreNarrow}
 use Rattle.legacy_decoders.proofs.RunForms.{pair_runs}
+use Rattle.legacy_decoders.proofs.Writing.{writes_none, writes_two, room_step, code_units_ascii}
 
 not_high : (u : ℕ) → IsScalar u → is_high_surrogate u ≡ false
 not_high u h = grind (arith, nat_tests)
@@ -34,3 +43,63 @@ unit_scalar be a b code byte byte' is None h = tt
 unit_scalar be a b code byte byte' is (Some c) h =
     let same : c ≡ unit_of be a b = cc in
     rw same (unit_pair be a b byte byte' (subst IsScalar is h.0))
+
+-- ---- blocks of ASCII
+
+small : (x : ℕ) → x < 0x80 → IsScalar x
+small x h = search rules
+
+suc_is : (n : ℕ) → suc n ≡ n + 1
+suc_is n = omega arith
+
+-- a unit below 80
+unit_runs : (be : Bool) (a b u : ℕ) → unit_of be a b ≡ u → u < 0x80 → Runs (utf16 be) (a ∷ b ∷ []) (u ∷ [])
+unit_runs true a b u e h =
+    let byte : a < 2 ^ 8 = omega arith in
+    let byte' : b < 2 ^ 8 = omega arith in
+    subst (λ c. Runs (utf16 true) (a ∷ b ∷ []) (c ∷ [])) e ((unit_pair true a b byte byte' (small (unit_of true a b) (omega arith))).1)
+unit_runs false a b u e h =
+    let byte : a < 2 ^ 8 = omega arith in
+    let byte' : b < 2 ^ 8 = omega arith in
+    subst (λ c. Runs (utf16 false) (a ∷ b ∷ []) (c ∷ [])) e ((unit_pair false a b byte byte' (small (unit_of false a b) (omega arith))).1)
+
+block_writes : (form : EncodingForm) (be : Bool) (source block old : List ℕ) (r : ℕ) → 2 * r ≤ length source → r ≤ length block → AreNarrow be source block r → ((k : ℕ) → k < r → get_or block k 0 < 0x80)
+    → Writes form (utf16 be) (take (2 * r) source) old (old ++ take r block)
+block_writes form be source block old zero within room narrow ascii = subst (λ l. Writes form (utf16 be) [] old l) (sym (append-nil old)) (writes_none form (utf16 be) old)
+block_writes form be source block old (suc r) within room narrow ascii =
+    let u : ℕ = get_or block r 0 in
+    let here : r < length block = omega arith in
+    let low : u < 0x80 = ascii r (omega arith) in
+    let before = block_writes form be source block old r (omega arith) (omega arith) (λ k h. narrow k (omega arith)) (λ k h. ascii k (omega arith)) in
+    let next : take (suc r) block ≡ take r block ++ u ∷ [] = ap (λ n. take n block) (suc_is r) ∙ take_more block r 0 here in
+    let place : 2 * suc r ≡ 2 * r + 2 = omega arith in
+    subst (λ n. Writes form (utf16 be) (take n source) old (old ++ take (suc r) block)) (sym place)
+    (writes_two form (utf16 be) source old (old ++ take r block) (old ++ take (suc r) block) (2 * r) u (omega arith) before
+    (unit_runs be (get_or source (2 * r) 0) (get_or source (2 * r + 1) 0) u (narrow r (omega arith)) low)
+    (ap (λ l. old ++ l) next ∙ sym (append_assoc old (take r block) (u ∷ [])) ∙ ap (λ l. (old ++ take r block) ++ l) (sym (code_units_ascii form u low))))
+
+-- a block of which so many units were written
+pub reads_block : (form : EncodingForm) (be : Bool) (source block old new : List ℕ) (r before after : ℕ) → 32 ≤ length source → length block ≡ 16 → AreNarrow be source block 16 → r ≤ length block → IsAscii (take r block)
+    → new ≡ old ++ take r block → after + r ≡ before → 19 ≤ before → ReadsAhead form (state_of (utf16 be) []) source (2 * r) old new before after
+reads_block form be source block old new r before after within long narrow count ascii e room enough =
+    let all = All-from_ascii (take r block) ascii in
+    let l : length (take r block) ≡ r = length-take-le r block count in
+    record {
+      within = omega arith;
+      idle = λ h. refl;
+      writes = rw e (block_writes form be source block old r (omega arith) count (λ k h. narrow k (omega arith))
+          (λ k h. subst (λ u. u < 0x80) (get_or-take r block k 0 h) (All-get_or (λ u. u < 0x80) (take r block) k 0 (omega arith) all)));
+      room = room_step after before new old (take r block) e (omega arith);
+      slack = λ h. omega arith;
+      had = λ h. omega arith;
+    }
+
+-- one more unit of a block
+pub narrow_more : (be : Bool) (source block : List ℕ) (at low : ℕ) → at < length block → AreNarrow be source block at → unit_of be (get_or source (2 * at) 0) (get_or source (2 * at + 1) 0) ≡ low
+    → AreNarrow be source (set block at low) (at + 1)
+narrow_more be source block at low here narrow e k h = elim (cases_lt k at) [
+  | inl l ↦ narrow k l ∙ sym (get_or-set_other block at k low 0 (λ s. absurd (omega arith)))
+  | inr g ↦
+      let same : k ≡ at = omega arith in
+      subst (λ n. unit_of be (get_or source (2 * n) 0) (get_or source (2 * n + 1) 0) ≡ get_or (set block at low) n 0) (sym same) (e ∙ sym (get_or-set_same block at low 0 here))
+]

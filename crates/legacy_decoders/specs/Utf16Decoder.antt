@@ -1,6 +1,7 @@
 -- What the UTF-16 decoder is between two calls.
-use Rattle.std.specs.Prelude.{ℕ, ◌/◌, ◌%◌, List, [], ◌∷◌, Bool, if◌then◌else◌}
+use Rattle.std.specs.Prelude.{◌≡◌, ℕ, ◌+◌, ◌*◌, ◌<◌, slice_index, ◌/◌, ◌%◌, List, [], ◌∷◌, Bool, if◌then◌else◌}
 use Rattle.legacy_base.specs.Grammar.{Grammar, utf16}
+use Rattle.legacy_base.specs.Utf16.{unit_of}
 use Rattle.legacy_base.specs.States.{DecoderState}
 use Rattle.legacy_decoders.specs.declared.utf16.held.Held.{Held}
 use Rattle.legacy_decoders.specs.declared.utf16.held.Held.TheVariants.{Nothing, Odd, High, HighOdd, Pending}
@@ -29,3 +30,7 @@ utf16_state decoder = record { grammar = utf16 decoder.big_endian; held = held_b
 -- the grammar of units in their byte order
 abbrev pub units_grammar : Units → Grammar
 units_grammar units = utf16 units.big_endian
+
+-- the first n units of the bytes are the numbers of the block
+abbrev pub AreNarrow : Bool → List ℕ → List ℕ → ℕ → Type 0
+AreNarrow big_endian bytes block n = (k : ℕ) → k < n → unit_of big_endian (slice_index bytes (2 * k)) (slice_index bytes (2 * k + 1)) ≡ slice_index block k

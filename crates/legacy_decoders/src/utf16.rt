@@ -11,7 +11,6 @@ mod units;
 
 use crate::drive::drive;
 use crate::machine::{Act, Fed, Machine, Room};
-use crate::pairs::read_pairs;
 use held::Held;
 use legacy_base::{DecoderResult, Destination, RawDecoder};
 use runs::Units;
@@ -123,9 +122,9 @@ impl Machine for Utf16Decoder {
         if !matches!(self.held, Held::Nothing) {
             0
         } else if self.big_endian {
-            read_pairs(&Units { big_endian: true }, src, dst)
+            Units { big_endian: true }.read_units(src, dst)
         } else {
-            read_pairs(&Units { big_endian: false }, src, dst)
+            Units { big_endian: false }.read_units(src, dst)
         }
     }
 }

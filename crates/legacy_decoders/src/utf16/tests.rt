@@ -273,3 +273,39 @@ fn a_run_stops_where_a_unit_lacks_the_room_of_any_scalar(rt: HostRuntime) {
     assert_eq!(rt; answer, (OutputFull, 10, 5));
     assert!(rt; output[..5] == [0x41, 0x42, 0x43, 0x44, 0x45]);
 }
+
+#[test]
+fn blocks_of_ascii_end_where_a_unit_is_wider(rt: HostRuntime) -> Result<(), Fail> {
+    let mut little = [0u8; 160];
+    for at in 0..80 {
+        little[2 * at] = 0x41;
+    }
+    // U+0141, U+0080 and U+4100 among 77 times U+0041, each in a block of its own
+    little[2 * 20 + 1] = 0x01;
+    little[2 * 47] = 0x80;
+    little[2 * 63] = 0x00;
+    little[2 * 63 + 1] = 0x41;
+    let mut events = Vec::new(rt.alloc());
+    for at in 0..80 {
+        let scalar = match at {
+            20 => '\u{141}',
+            47 => '\u{80}',
+            63 => '\u{4100}',
+            _ => 'A',
+        };
+        events.push(Scalar(scalar))?;
+    }
+    let found = whole_events(rt.alloc(), &mut Utf16Decoder::new(false), &little)?;
+    assert!(rt; found.as_slice() == events.as_slice(), "at once");
+    let mut big = [0u8; 160];
+    for at in 0..80 {
+        big[2 * at] = little[2 * at + 1];
+        big[2 * at + 1] = little[2 * at];
+    }
+    let found = whole_events(rt.alloc(), &mut Utf16Decoder::new(true), &big)?;
+    assert!(rt;
+        found.as_slice() == events.as_slice(),
+        "the greater byte first"
+    );
+    Ok(())
+}

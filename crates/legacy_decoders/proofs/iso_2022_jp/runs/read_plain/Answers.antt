@@ -1,4 +1,4 @@
-use Rattle.std.proofs.Common.{◌≡◌, ◌∙◌, ℕ, ◌+◌, ◌≤◌, ◌<◌, ◌++◌, [], ◌∷◌, length, take, get_or, sym, ap, subst, arith, append_assoc}
+use Rattle.std.proofs.Common.{◌≡◌, ◌∙◌, ◌<◌, ◌++◌, [], ◌∷◌, length, take, get_or, sym, ap, arith, append_assoc}
 use Rattle.std.proofs.lemmas.List.{take_more}
 use Rattle.legacy_base.specs.EncodingForm.{code_units}
 use Rattle.legacy_decoders.proofs.Iso2022JpRuns.{plain_front, plain_units, reads_plain}
