@@ -236,7 +236,7 @@ fn refuses_words_that_are_no_request(rt: HostRuntime) {
 }
 
 #[test]
-fn tells_why_it_ends(rt: HostRuntime) {
+fn tells_which_file_cannot_be_read(rt: HostRuntime) {
     let words = ["euc-kr", "euc-kr", "KR", "single-byte", "SB"];
     let none: &[u8] = b"";
     runs(&rt, &words, &[], b"A", 1, none, b"KR: cannot be read\n");
@@ -258,6 +258,12 @@ fn tells_why_it_ends(rt: HostRuntime) {
         none,
         b"SB: cannot be read\n",
     );
+}
+
+#[test]
+fn tells_which_line_is_bad(rt: HostRuntime) {
+    let words = ["euc-kr", "euc-kr", "KR", "single-byte", "SB"];
+    let none: &[u8] = b"";
     let bad: &[u8] = b"# x\n1\n";
     runs(
         &rt,
@@ -277,8 +283,15 @@ fn tells_why_it_ends(rt: HostRuntime) {
         none,
         b"KR: cannot be read\n",
     );
+}
+
+#[test]
+fn tells_which_table_is_refused(rt: HostRuntime) {
+    let words = ["euc-kr", "euc-kr", "KR", "single-byte", "SB"];
+    let none: &[u8] = b"";
     let surrogate: &[u8] = b"0 0xD800\n";
     let low: &[u8] = b"3 0x007F\n";
+    let error = b"tables: index euc-kr has a bad entry at 0\n";
     runs(
         &rt,
         &words,
@@ -286,98 +299,103 @@ fn tells_why_it_ends(rt: HostRuntime) {
         b"A",
         1,
         none,
-        b"tables: index euc-kr has a bad entry at 0\n",
+        error,
     );
+    let error = b"tables: single-byte entry 3 is bad\n";
+    runs(&rt, &words, &[Some(none), Some(low)], b"A", 1, none, error);
+}
+
+/// Runs the program on the words and the only file, and asserts that it prints the lines.
+fn prints(
+    rt: &(impl Abort + Alloc<A = std::alloc::Global>),
+    words: &[&str],
+    file: &[u8],
+    input: &[u8],
+    lines: &[u8],
+) {
+    runs(rt, words, &[Some(file)], input, 0, lines, b"");
+}
+
+#[test]
+fn reads_the_indexes_of_pairs(rt: HostRuntime) {
+    let hangul = b"0 0xAC02\n";
+    let words = ["euc-kr", "euc-kr", "FILE"];
+    prints(
+        &rt,
+        &words,
+        hangul,
+        b"\x81\x41\x81\x5B",
+        b"U+AC02\nbad 2 1\nU+005B\n",
+    );
+    let chinese = b"19780 0x2910D\n";
+    let words = ["big5", "big5", "FILE"];
+    prints(
+        &rt,
+        &words,
+        chinese,
+        b"\xFE\xFD\x88\x62",
+        b"U+2910D\nU+00CA\nU+0304\n",
+    );
+    let japanese = b"4861 0x58FA\n";
+    let words = ["iso-2022-jp", "jis0208", "FILE"];
+    let input = b"\x1B\x24\x42\x54\x64\x1B\x28\x42A";
+    prints(&rt, &words, japanese, input, b"U+58FA\nU+0041\n");
+}
+
+#[test]
+fn reads_the_ranges(rt: HostRuntime) {
+    let ranges = b"0 0x0080\n36 0x00A5\n189000 0x10000\n";
+    let input = b"\x81\x30\x81\x30\x94\x39\xDA\x33";
+    for codec in ["gb18030", "gbk"] {
+        prints(
+            &rt,
+            &[codec, "ranges", "FILE"],
+            ranges,
+            input,
+            b"U+0080\nU+1F4A9\n",
+        );
+    }
+}
+
+#[test]
+fn reads_a_single_byte_index_and_one_that_is_not_used(rt: HostRuntime) {
+    let bytes: &[u8] = b"65 0x0391\n116 0x03C4\n";
+    let hangul: &[u8] = b"0 0xAC02\n";
+    let words = ["single-byte", "single-byte", "FILE", "euc-kr", "FILE"];
+    let lines = b"U+0391\nU+03C4\nbad 2 1\n";
     runs(
         &rt,
         &words,
-        &[Some(none), Some(low)],
-        b"A",
-        1,
-        none,
-        b"tables: single-byte entry 3 is bad\n",
+        &[Some(bytes), Some(hangul)],
+        b"\xC1\xF4\x80",
+        0,
+        lines,
+        b"",
     );
 }
 
 #[test]
-fn reads_every_index(rt: HostRuntime) {
-    let hangul: &[u8] = b"0 0xAC02\n";
-    runs(
-        &rt,
-        &["euc-kr", "euc-kr", "FILE"],
-        &[Some(hangul)],
-        b"\x81\x41\x81\x5B",
-        0,
-        b"U+AC02\nbad 2 1\nU+005B\n",
-        b"",
-    );
-    let bytes: &[u8] = b"65 0x0391\n116 0x03C4\n";
-    runs(
-        &rt,
-        &["single-byte", "single-byte", "FILE", "euc-kr", "FILE"],
-        &[Some(bytes), Some(hangul)],
-        b"\xC1\xF4\x80",
-        0,
-        b"U+0391\nU+03C4\nbad 2 1\n",
-        b"",
-    );
-    let chinese: &[u8] = b"19780 0x2910D\n";
-    runs(
-        &rt,
-        &["big5", "big5", "FILE"],
-        &[Some(chinese)],
-        b"\xFE\xFD\x88\x62",
-        0,
-        b"U+2910D\nU+00CA\nU+0304\n",
-        b"",
-    );
-    let japanese: &[u8] = b"4861 0x58FA\n";
-    runs(
-        &rt,
-        &["iso-2022-jp", "jis0208", "FILE"],
-        &[Some(japanese)],
-        b"\x1B\x24\x42\x54\x64\x1B\x28\x42A",
-        0,
-        b"U+58FA\nU+0041\n",
-        b"",
-    );
+fn decodes_with_no_index(rt: HostRuntime) {
+    let lines = b"U+0080\nU+FF61\nU+FF9F\nbad 3 1\nU+E000\n";
     runs(
         &rt,
         &["shift_jis"],
         &[],
         b"\x80\xA1\xDF\xA0\xF0\x40",
         0,
-        b"U+0080\nU+FF61\nU+FF9F\nbad 3 1\nU+E000\n",
+        lines,
         b"",
     );
-    let ranges: &[u8] = b"0 0x0080\n36 0x00A5\n189000 0x10000\n";
-    for codec in ["gb18030", "gbk"] {
-        runs(
-            &rt,
-            &[codec, "ranges", "FILE"],
-            &[Some(ranges)],
-            b"\x81\x30\x81\x30\x94\x39\xDA\x33",
-            0,
-            b"U+0080\nU+1F4A9\n",
-            b"",
-        );
-    }
-    runs(
-        &rt,
-        &["euc-jp"],
-        &[],
-        b"\x8F\xA2\x41\x8F",
-        0,
-        b"bad 0 2\nU+0041\nbad 3 1\n",
-        b"",
-    );
+    let lines = b"bad 0 2\nU+0041\nbad 3 1\n";
+    runs(&rt, &["euc-jp"], &[], b"\x8F\xA2\x41\x8F", 0, lines, b"");
+    let lines = b"U+0041\nbad 2 3\n";
     runs(
         &rt,
         &["utf-16le"],
         &[],
         b"\x41\x00\x3D\xD8\x42",
         0,
-        b"U+0041\nbad 2 3\n",
+        lines,
         b"",
     );
 }
@@ -453,4 +471,30 @@ fn a_failed_line_of_error_changes_no_status(rt: HostRuntime) {
         &mut errors,
     );
     assert_eq!(rt; status, 1);
+}
+
+// In a run where one allocation is refused, a call that it hits tells so, and else it prints its lines.
+#[test]
+fn tells_that_memory_is_refused(rt: HostRuntime) {
+    let hangul: &[u8] = b"0 0xAC02\n";
+    let words = ["euc-kr", "euc-kr", "FILE"];
+    let mut lines = [0u8; 7];
+    let mut output: &mut [u8] = &mut lines;
+    let mut line = [0u8; 7];
+    let mut errors: &mut [u8] = &mut line;
+    let mut input: &[u8] = b"\x81\x41";
+    let status = run(
+        rt.alloc(),
+        &words,
+        &[Some(hangul)],
+        &mut input,
+        &mut output,
+        &mut errors,
+    );
+    if status == 0 {
+        assert_eq!(rt; lines.as_slice(), b"U+AC02\n".as_slice());
+    } else {
+        assert_eq!(rt; status, 1);
+        assert_eq!(rt; line.as_slice(), b"memory\n".as_slice());
+    }
 }
