@@ -1,5 +1,5 @@
 //! Where a decoder writes.
-ghost use Rattle.std.specs.Prelude.{◌≡◌, ℕ, ◌+◌, ◌-◌, ◌<◌, ◌≤◌, List, [], ◌∷◌, ◌++◌, length, take, slice_index, IsAscii};
+ghost use Rattle.std.specs.Prelude.{◌≡◌, ℕ, ◌+◌, ◌-◌, ◌<◌, ◌≤◌, List, [], ◌∷◌, ◌++◌, length, take, slice_index, IsAscii, encode_utf8};
 ghost use Rattle.std.specs.Borrow.{GName};
 ghost use Rattle.legacy_base.specs.EncodingForm.{EncodingForm, Utf8, Utf16, code_units, unit_count, bmp_room, wide_room};
 
@@ -112,6 +112,31 @@ impl<'a> Utf8Destination<'a> {
         self.filled = at + 1;
     }
 
+    /// Writes the one or two bytes of a scalar below U+0800. Where two bytes are free it stores both, and
+    /// keeps as many as there are: which it is follows no pattern in text, and so is no branch.
+    #[inline]
+    fn push_short(&mut self, code: u32)
+        requires below { code < 0x800 }
+        requires room { length (encode_utf8 code) ≤ utf8_free self.old }
+        ensures written { utf8_written self.new ≡ utf8_written self.old ++ encode_utf8 code }
+        ensures free { utf8_free self.new + length (encode_utf8 code) ≡ utf8_free self.old }
+        ensures loan { utf8_loan self.new ≡ utf8_loan self.old }
+    {
+        let at = self.filled;
+        if self.buffer.len() - at < 2 {
+            self.push(code as u8);
+            return;
+        }
+        let (first, count) = if code < 0x80 {
+            (code, 1)
+        } else {
+            (0xC0 + code / 0x40, 2)
+        };
+        self.push(first as u8);
+        self.push((0x80 + code % 0x40) as u8);
+        self.filled = at + count;
+    }
+
     /// Stores a block behind what was written, and keeps its ASCII front: answers that front's length.
     #[inline(always)]
     fn put_block(&mut self, block: u8x16) -> usize
@@ -176,11 +201,8 @@ impl Destination for Utf8Destination<'_> {
             self.push((0xE0 + code / 0x1000) as u8);
             self.push((0x80 + code / 0x40 % 0x40) as u8);
             self.push((0x80 + code % 0x40) as u8);
-        } else if code < 0x80 {
-            self.push(code as u8);
         } else if code < 0x800 {
-            self.push((0xC0 + code / 0x40) as u8);
-            self.push((0x80 + code % 0x40) as u8);
+            self.push_short(code);
         } else {
             self.push((0xF0 + code / 0x4_0000) as u8);
             self.push((0x80 + code / 0x1000 % 0x40) as u8);

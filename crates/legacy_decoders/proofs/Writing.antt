@@ -6,13 +6,14 @@ use Rattle.std.proofs.lemmas.List.Elements.{All-append, All-nil}
 use Rattle.std.proofs.Math.Seq.{take-add}
 use Rattle.std.specs.Char.{IsScalar}
 use Rattle.legacy_base.specs.declared.results.DecodeEvent.TheVariants.{Scalar}
-use Rattle.legacy_base.specs.EncodingForm.{EncodingForm, Utf8, Utf16, code_units, all_code_units}
+use Rattle.legacy_base.specs.EncodingForm.{EncodingForm, Utf8, Utf16, code_units, all_code_units, bmp_room}
 use Rattle.legacy_base.specs.Events.{shift}
 use Rattle.legacy_base.specs.Lengths.{query_form}
 use Rattle.legacy_base.specs.States.{DecoderState}
 use Rattle.legacy_base.specs.Grammar.{Grammar, events_of}
 use Rattle.legacy_base.proofs.Shifts.{shift-append, shift-zero, shift-shift, shift-scalars}
 use Rattle.legacy_base.proofs.Rooms.{all_code_units-append, total_unit_count-append}
+use Rattle.legacy_base.proofs.SameUnits.{some_unit}
 use Rattle.legacy_base.proofs.CodeUnits.{encode_1, utf16_1, length-code_units-bmp}
 use Rattle.legacy_decoders.specs.Ahead.{Runs, Writes, ReadsAhead}
 
@@ -128,3 +129,7 @@ room_step rn ro new old us e f = let l : length new ≡ length old + length us =
 -- what was written takes room
 pub room_falls : (form : EncodingForm) (g : Grammar) (bytes x y : List ℕ) (rn ro : ℕ) → Writes form g bytes x y → rn + length y ≡ ro + length x → rn ≤ ro
 room_falls form g bytes x y rn ro w e = let l : length y ≡ length x + length (all_code_units form w.scalars) = ap length w.written ∙ length-append x (all_code_units form w.scalars) in omega arith
+
+-- a scalar up to U+FFFF is one code unit where there is a room of one for it
+pub one_unit : (form : EncodingForm) (c : ℕ) → bmp_room form ≡ 1 → c < 65536 → length (code_units form c) ≡ 1
+one_unit form c room h = let most = length-code_units-bmp form c h in let least = some_unit form c in omega arith

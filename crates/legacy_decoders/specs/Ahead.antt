@@ -27,14 +27,18 @@ pub record IsIdle (state : DecoderState) : Type 0 where
   pub empty : state.held ≡ []
   pub ascii : HasAscii state.grammar
 
+-- a byte is a scalar up to U+FFFF
+abbrev pub IsSingle : Grammar → ℕ → ℕ → Type 0
+IsSingle grammar byte c = (c < 0x1_0000) × Runs grammar (byte ∷ []) (c ∷ [])
+
 -- two bytes are a scalar up to U+FFFF
 abbrev pub IsPair : Grammar → ℕ → ℕ → ℕ → Type 0
 IsPair grammar first second c = (c < 0x1_0000) × Runs grammar (first ∷ second ∷ []) (c ∷ [])
 
--- what a codec says of a byte past ASCII and the byte behind it: a scalar up to U+FFFF, or nothing
+-- what a codec says of a byte and the byte behind it: a scalar up to U+FFFF, or nothing
 abbrev pub FrontIs : Grammar → ℕ → ℕ → Front → Type 0
-FrontIs grammar lead trail (Single c) = (c < 0x1_0000) × Runs grammar (lead ∷ []) (c ∷ [])
-FrontIs grammar lead trail (Pair c) = (c < 0x1_0000) × Runs grammar (lead ∷ trail ∷ []) (c ∷ [])
+FrontIs grammar lead trail (Single c) = IsSingle grammar lead c
+FrontIs grammar lead trail (Pair c) = IsPair grammar lead trail c
 FrontIs grammar lead trail Other = Unit {0}
 
 -- the bytes were read, and their scalars written behind what was written before

@@ -19,6 +19,7 @@ pub mod Big5Decoder
 pub mod ShiftJisDecoder
 pub mod Utf16Decoder
 pub mod ReplacementDecoder
+pub mod ByteEntries
 pub mod SingleByteDecoder
 pub mod Iso2022JpMachine
 pub mod Iso2022JpMoves

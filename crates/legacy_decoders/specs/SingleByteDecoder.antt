@@ -7,7 +7,7 @@ use Rattle.legacy_decoders.specs.declared.single_byte.SingleByteDecoder.{SingleB
 
 -- the entries of its table
 abbrev pub single_byte_entries : SingleByteDecoder → List ℕ
-single_byte_entries decoder = decoder.table.now.entries
+single_byte_entries decoder = decoder.scalars.table.now.entries
 
 -- the state that its calls speak of
 abbrev pub single_byte_state : SingleByteDecoder → DecoderState

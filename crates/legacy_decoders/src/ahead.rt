@@ -17,7 +17,8 @@ pub enum Front {
     Other,
 }
 
-/// The common forms of a codec in which nothing is held back between two forms.
+/// The common forms of a codec in which nothing is held back between two forms. A codec tells them by
+/// `front`, or for all bytes alike by `form`.
 pub trait CommonForms {
     /// The grammar, and the bytes that are held back.
     ghost state: { Self → DecoderState };
@@ -28,13 +29,73 @@ pub trait CommonForms {
 
     /// What stands at the front of the input, by a byte past ASCII and the byte behind it: a scalar up
     /// to U+FFFF, or `Other` for whatever is rare. The machine reads that.
+    #[inline(always)]
     fn front(&self, lead: u8, trail: u8) -> Front
         requires { 0x80 ≤ lead }
-        ensures { FrontIs (state self.now).grammar lead trail result };
+        ensures { FrontIs (state self.now).grammar lead trail result }
+    {
+        let _ = (lead, trail);
+        Front::Other
+    }
+
+    /// The same by any byte and the byte behind it.
+    #[inline(always)]
+    fn form(&self, first: u8, second: u8) -> Front
+        requires { IsIdle (state self.now) }
+        ensures { FrontIs (state self.now).grammar first second result }
+    {
+        if first < 0x80 {
+            Front::Single(char::from(first))
+        } else {
+            self.front(first, second)
+        }
+    }
 }
 
 /// Reads at most so many forms, which surely fit, and stops at two ASCII bytes in a row and at what
 /// is not common. Answers how many bytes were read.
+#[inline(always)]
+fn some_forms<D: CommonForms, T: Destination>(
+    decoder: &D,
+    src: &[u8],
+    dst: &mut T,
+    turns: usize,
+) -> usize
+    requires idle { IsIdle (D.state decoder.now) }
+    requires source { 2 * turns ≤ length src.now }
+    requires room { 3 * turns + 3 ≤ T.room dst.old }
+    ensures read { result ≤ 2 * turns }
+    ensures writes { Writes T.form (D.state decoder.now).grammar (take result src.now) (T.contents dst.old) (T.contents dst.new) }
+    ensures room { T.room dst.new + length (T.contents dst.new) ≡ T.room dst.old + length (T.contents dst.old) }
+    ensures slack { T.room dst.old ≤ T.room dst.new + 3 * turns }
+    ensures loan { T.loan dst.new ≡ T.loan dst.old }
+{
+    let mut at = 0;
+    let mut left = turns;
+    while left > 0 {
+        let byte = src[at];
+        let next = src[at + 1];
+        match decoder.form(byte, next) {
+            Front::Pair(c) => {
+                dst.put(c);
+                at += 2;
+            }
+            Front::Single(c) => {
+                dst.put(c);
+                at += 1;
+                if (byte | next) < 0x80 {
+                    return at;
+                }
+            }
+            Front::Other => return at,
+        }
+        left -= 1;
+    }
+    at
+}
+
+/// Reads forms as `some_forms` does, four at a time: of so many the compiler makes code without a loop,
+/// in which each place has its own branches, and so its own history of them.
 #[inline(always)]
 fn forms<D: CommonForms, T: Destination>(
     decoder: &D,
@@ -52,32 +113,16 @@ fn forms<D: CommonForms, T: Destination>(
     ensures loan { T.loan dst.new ≡ T.loan dst.old }
 {
     let mut at = 0;
-    let mut left = turns;
+    let mut left = turns / 4;
     while left > 0 {
-        let byte = src[at];
-        let next = src[at + 1];
-        if byte < 0x80 {
-            dst.put(char::from(byte));
-            at += 1;
-            if next < 0x80 {
-                return at;
-            }
-        } else {
-            match decoder.front(byte, next) {
-                Front::Pair(c) => {
-                    dst.put(c);
-                    at += 2;
-                }
-                Front::Single(c) => {
-                    dst.put(c);
-                    at += 1;
-                }
-                Front::Other => return at,
-            }
+        let read = some_forms(decoder, &src[at..], dst, 4);
+        at += read;
+        if read < 4 {
+            return at;
         }
         left -= 1;
     }
-    at
+    at + some_forms(decoder, &src[at..], dst, turns % 4)
 }
 
 /// Reads common forms and runs of ASCII from the front, while three code units more than they need

@@ -6,10 +6,15 @@ ghost use Rattle.legacy_decoders.specs.Machines.{single_byte_first};
 ghost use Rattle.legacy_decoders.specs.Feeding.{Took};
 ghost use Rattle.legacy_decoders.specs.Decoders.{new_state};
 
+mod scalars;
+#[cfg(test)]
+mod tests;
+
 use crate::ahead::{CommonForms, Front, ahead};
 use crate::drive::drive;
 use crate::machine::{Act, Fed, Machine, Room};
 use legacy_base::{DecoderResult, Destination, RawDecoder, SingleByteTable};
+use scalars::ByteScalars;
 use std::simd::prelude::*;
 
 /// The decoder of a single-byte encoding (Encoding Standard, "single-byte decoder").
@@ -18,7 +23,7 @@ use std::simd::prelude::*;
 /// has none is a malformed sequence. No byte is held back.
 #[derive(Drop)]
 pub struct SingleByteDecoder<'a> {
-    table: &'a SingleByteTable,
+    scalars: ByteScalars<'a>,
 }
 
 /// What a byte leads to.
@@ -74,7 +79,9 @@ impl<'a> SingleByteDecoder<'a> {
         ensures state { single_byte_state result ≡ new_state (single_byte table.now.entries) }
         ensures entries { single_byte_entries result ≡ table.now.entries }
     {
-        SingleByteDecoder { table }
+        SingleByteDecoder {
+            scalars: ByteScalars::new(table),
+        }
     }
 
     /// How many bytes stand at the front of `bytes` that each decode to the scalar of the same number, as
@@ -84,7 +91,7 @@ impl<'a> SingleByteDecoder<'a> {
         ensures { result ≡ length (latin1_front (single_byte_entries self.now) bytes.now) }
     {
         let mut count = ascii_blocks(bytes);
-        while count < bytes.len() && is_latin1(self.table, bytes[count]) {
+        while count < bytes.len() && is_latin1(self.scalars.table, bytes[count]) {
             count += 1;
         }
         count
@@ -121,7 +128,7 @@ impl Machine for SingleByteDecoder<'_> {
 
     #[inline]
     fn feed(&mut self, byte: u8) -> Fed {
-        read_byte(self.table, byte)
+        read_byte(self.scalars.table, byte)
     }
 
     #[inline]
@@ -149,9 +156,9 @@ impl CommonForms for SingleByteDecoder<'_> {
         true
     }
 
-    #[inline]
-    fn front(&self, lead: u8, _trail: u8) -> Front {
-        match self.table.scalar(usize::from(lead - 0x80)) {
+    #[inline(always)]
+    fn form(&self, first: u8, _second: u8) -> Front {
+        match self.scalars.scalar(first) {
             Some(scalar) => Front::Single(scalar),
             None => Front::Other,
         }
@@ -184,6 +191,3 @@ impl RawDecoder for SingleByteDecoder<'_> {
         byte_length.checked_mul(3)
     }
 }
-
-#[cfg(test)]
-mod tests;

@@ -1,7 +1,9 @@
 //! The decoder of x-user-defined.
 ghost use Rattle.std.specs.Prelude.{◌≡◌, ◌≤◌, ◌+◌, ◌-◌, []};
+ghost use Rattle.legacy_base.specs.EncodingForm.{bmp_room};
 ghost use Rattle.legacy_base.specs.Grammar.{user_defined};
 ghost use Rattle.legacy_decoders.specs.Machines.{user_defined_first};
+ghost use Rattle.legacy_decoders.specs.Ahead.{IsSingle, ReadsAhead};
 ghost use Rattle.legacy_decoders.specs.Feeding.{Took};
 ghost use Rattle.legacy_decoders.specs.Decoders.{new_state};
 
@@ -57,6 +59,37 @@ fn read_byte(byte: u8) -> Fed
     }
 }
 
+/// The scalar of any byte.
+// The choice is one between two numbers, so it is no branch and the compiler makes vectors of it.
+#[inline(always)]
+fn scalar_of(byte: u8) -> char
+    ensures { IsSingle user_defined byte result }
+{
+    let code = if byte < 0x80 {
+        u32::from(byte)
+    } else {
+        0xF700 + u32::from(byte)
+    };
+    unsafe { char::from_u32_unchecked(code) }
+}
+
+/// Reads bytes from the front where each scalar up to U+FFFF is one code unit, as many as leave three
+/// free. Answers how many were read: none is an answer too.
+#[inline(always)]
+fn read_units<T: Destination>(src: &[u8], dst: &mut T) -> usize
+    requires { bmp_room T.form ≡ 1 }
+    ensures ahead { ReadsAhead T.form (new_state user_defined) src.now result (T.contents dst.old) (T.contents dst.new) (T.room dst.old) (T.room dst.new) }
+    ensures loan { T.loan dst.new ≡ T.loan dst.old }
+{
+    let count = src.len().min(dst.free().saturating_sub(3));
+    let mut at = 0;
+    while at < count {
+        dst.put(scalar_of(src[at]));
+        at += 1;
+    }
+    count
+}
+
 impl Machine for UserDefinedDecoder {
     ghost use Rattle.legacy_decoders.specs.UserDefinedDecoder.{user_defined_state};
 
@@ -92,7 +125,11 @@ impl Machine for UserDefinedDecoder {
 
     #[inline]
     fn read_ahead<T: Destination>(&self, src: &[u8], dst: &mut T) -> usize {
-        ahead(self, src, dst)
+        if T::narrow() == 1 {
+            read_units(src, dst)
+        } else {
+            ahead(self, src, dst)
+        }
     }
 }
 

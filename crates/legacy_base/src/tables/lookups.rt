@@ -6,6 +6,7 @@ ghost use Rattle.legacy_base.specs.Indexes.{entry_scalar, idx, last_range_scalar
 ghost use Rattle.legacy_base.specs.TableChecks.{range_order_fault, range_value_fault};
 
 /// The scalar of an entry, or `None` where it is 0.
+// No test of what the check of the tables has shown: it would be one more branch for each look-up.
 #[inline]
 fn scalar_of(entry: u32) -> Option<char>
     requires { IsScalar entry }
@@ -14,7 +15,7 @@ fn scalar_of(entry: u32) -> Option<char>
     if entry == 0 {
         None
     } else {
-        char::from_u32(entry)
+        Some(unsafe { char::from_u32_unchecked(entry) })
     }
 }
 

@@ -5,4 +5,4 @@ use Rattle.legacy_decoders.proofs.single_byte.SingleByteDecoderMachine.feed.Goal
 pub returns : goal.returns
 returns c =
     let byte : c.args.byte < 2 ^ 8 = omega arith in
-    feeds c.args.self.now.table.now c.args.byte byte c.read_byte.result c.read_byte.ensures
+    feeds c.args.self.now.scalars.table.now c.args.byte byte c.read_byte.result c.read_byte.ensures

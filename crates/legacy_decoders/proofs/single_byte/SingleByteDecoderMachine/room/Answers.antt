@@ -2,10 +2,10 @@ use Rattle.legacy_decoders.proofs.SingleByteSteps.{covered}
 use Rattle.legacy_decoders.proofs.single_byte.SingleByteDecoderMachine.room.Goals as goal
 
 pub returns-then-byte-lt128-clause-covered : goal.returns-then-byte-lt128-clause-covered
-returns-then-byte-lt128-clause-covered c = covered c.args.self.now.table.now
+returns-then-byte-lt128-clause-covered c = covered c.args.self.now.scalars.table.now
 
 pub returns-else-byte-lt128-clause-covered : goal.returns-else-byte-lt128-clause-covered
-returns-else-byte-lt128-clause-covered c = covered c.args.self.now.table.now
+returns-else-byte-lt128-clause-covered c = covered c.args.self.now.scalars.table.now
 
 pub returns-in-Release-clause-covered : goal.returns-in-Release-clause-covered
-returns-in-Release-clause-covered c = covered c.args.self.now.table.now
+returns-in-Release-clause-covered c = covered c.args.self.now.scalars.table.now

@@ -1,0 +1,10 @@
+-- The entry of a byte by a single-byte table, ASCII too.
+use Rattle.std.specs.Prelude.{◌≡◌, ◌<◌, ◌≤◌, ℕ, ◌-◌, List, slice_index}
+
+-- the byte itself where it is ASCII, and otherwise what the table holds
+abbrev pub IsByteEntry : List ℕ → ℕ → ℕ → Type 0
+IsByteEntry table byte entry = (byte < 0x80 → entry ≡ byte) × (0x80 ≤ byte → entry ≡ slice_index table (byte - 0x80))
+
+-- the first n entries are those of the first n bytes
+abbrev pub AreByteEntries : List ℕ → List ℕ → ℕ → Type 0
+AreByteEntries table entries n = (byte : ℕ) → byte < n → IsByteEntry table byte (slice_index entries byte)
