@@ -5,7 +5,7 @@ use Rattle.std.proofs.lemmas.List.{take-take, length-take, length-drop}
 use Rattle.std.proofs.Math.Seq.{take-add}
 use Rattle.legacy_base.specs.EncodingForm.{EncodingForm, all_code_units}
 use Rattle.legacy_base.specs.States.{DecoderState}
-use Rattle.legacy_decoders.specs.Ahead.{Runs, ReadsAhead}
+use Rattle.legacy_decoders.specs.Ahead.{Runs, Writes, ReadsAhead}
 use Rattle.legacy_decoders.proofs.AheadRuns.{runs_nothing}
 use Rattle.legacy_decoders.proofs.Writing.{writes_more, room_falls}
 
@@ -43,3 +43,15 @@ reads_more form state source old mid new r s n before between after a b =
         | inr z ↦ let q = b.had (omega arith) in omega arith
       ];
     }
+
+-- what was read and written, with the room that it left
+pub reads_written : (form : EncodingForm) (state : DecoderState) (source old new : List ℕ) (r before after : ℕ) → r ≤ length source → state.held ≡ [] → Writes form state.grammar (take r source) old new
+    → after + length new ≡ before + length old → 3 ≤ after → 4 ≤ before → ReadsAhead form state source r old new before after
+reads_written form state source old new r before after within empty writes room slack had = record {
+  within = within;
+  idle = λ h. empty;
+  writes = writes;
+  room = room;
+  slack = λ h. slack;
+  had = λ h. had;
+}

@@ -1,5 +1,5 @@
 -- The runs of UTF-16.
-use Rattle.std.proofs.Common.{rules, ◌≡◌, ◌∙◌, ℕ, zero, suc, ◌+◌, ◌*◌, ◌<◌, ◌≤◌, ◌^◌, List, [], ◌∷◌, ◌++◌, Bool, true, false, Option, Some, None, length, take, get_or, sym, ap, subst, arith, append-nil, append_assoc, refl, inl, inr}
+use Rattle.std.proofs.Common.{rules, ◌≡◌, ◌∙◌, ℕ, zero, suc, ◌+◌, ◌*◌, ◌<◌, ◌≤◌, ◌^◌, List, [], ◌∷◌, ◌++◌, Bool, true, false, Option, Some, None, length, take, get_or, sym, ap, subst, arith, append-nil, append_assoc, refl, inl, inr, ◌⊎◌}
 use Rattle.std.proofs.Math.ListN.{set}
 use Rattle.std.specs.Prelude.{IfSome, IsAscii}
 use Rattle.std.specs.Option.{SomeIff}
@@ -10,13 +10,13 @@ use Rattle.std.proofs.lemmas.List.{take_more, length-take-le, get_or-take, get_o
 use Rattle.std.proofs.lemmas.List.Elements.{All-get_or}
 use Rattle.std.proofs.lemmas.Str.Ascii.{All-from_ascii}
 use Rattle.std.specs.Char.Utf16.{is_high_surrogate, is_low_surrogate}
-use Rattle.legacy_base.specs.EncodingForm.{EncodingForm}
+use Rattle.legacy_base.specs.EncodingForm.{EncodingForm, code_units}
 use Rattle.legacy_base.specs.Unicode.{IsByte}
 use Rattle.legacy_base.specs.Grammar.{utf16}
 use Rattle.legacy_base.specs.Utf16.{unit_of}
 use Rattle.legacy_decoders.specs.Ahead.{Runs, IsPair, Writes, ReadsAhead}
 use Rattle.legacy_decoders.specs.Costs.{state_of}
-use Rattle.legacy_decoders.specs.Utf16Decoder.{AreNarrow}
+use Rattle.legacy_decoders.specs.Utf16Decoder.{HasAsciiUnits, AreScalarUnits, unit_at}
 use Rattle.legacy_decoders.proofs.RunForms.{pair_runs}
 use Rattle.legacy_decoders.proofs.Writing.{writes_none, writes_two, room_step, code_units_ascii}
 
@@ -63,7 +63,7 @@ unit_runs false a b u e h =
     let byte' : b < 2 ^ 8 = omega arith in
     subst (λ c. Runs (utf16 false) (a ∷ b ∷ []) (c ∷ [])) e ((unit_pair false a b byte byte' (small (unit_of false a b) (omega arith))).1)
 
-block_writes : (form : EncodingForm) (be : Bool) (source block old : List ℕ) (r : ℕ) → 2 * r ≤ length source → r ≤ length block → AreNarrow be source block r → ((k : ℕ) → k < r → get_or block k 0 < 0x80)
+block_writes : (form : EncodingForm) (be : Bool) (source block old : List ℕ) (r : ℕ) → 2 * r ≤ length source → r ≤ length block → HasAsciiUnits be source block r → ((k : ℕ) → k < r → get_or block k 0 < 0x80)
     → Writes form (utf16 be) (take (2 * r) source) old (old ++ take r block)
 block_writes form be source block old zero within room narrow ascii = subst (λ l. Writes form (utf16 be) [] old l) (sym (append-nil old)) (writes_none form (utf16 be) old)
 block_writes form be source block old (suc r) within room narrow ascii =
@@ -75,11 +75,11 @@ block_writes form be source block old (suc r) within room narrow ascii =
     let place : 2 * suc r ≡ 2 * r + 2 = omega arith in
     subst (λ n. Writes form (utf16 be) (take n source) old (old ++ take (suc r) block)) (sym place)
     (writes_two form (utf16 be) source old (old ++ take r block) (old ++ take (suc r) block) (2 * r) u (omega arith) before
-    (unit_runs be (get_or source (2 * r) 0) (get_or source (2 * r + 1) 0) u (narrow r (omega arith)) low)
+    (unit_runs be (get_or source (2 * r) 0) (get_or source (2 * r + 1) 0) u (narrow r (omega arith) low) low)
     (ap (λ l. old ++ l) next ∙ sym (append_assoc old (take r block) (u ∷ [])) ∙ ap (λ l. (old ++ take r block) ++ l) (sym (code_units_ascii form u low))))
 
 -- a block of which so many units were written
-pub reads_block : (form : EncodingForm) (be : Bool) (source block old new : List ℕ) (r before after : ℕ) → 32 ≤ length source → length block ≡ 16 → AreNarrow be source block 16 → r ≤ length block → IsAscii (take r block)
+pub reads_block : (form : EncodingForm) (be : Bool) (source block old new : List ℕ) (r before after : ℕ) → 32 ≤ length source → length block ≡ 16 → HasAsciiUnits be source block 16 → r ≤ length block → IsAscii (take r block)
     → new ≡ old ++ take r block → after + r ≡ before → 19 ≤ before → ReadsAhead form (state_of (utf16 be) []) source (2 * r) old new before after
 reads_block form be source block old new r before after within long narrow count ascii e room enough =
     let all = All-from_ascii (take r block) ascii in
@@ -95,11 +95,48 @@ reads_block form be source block old new r before after within long narrow count
     }
 
 -- one more unit of a block
-pub narrow_more : (be : Bool) (source block : List ℕ) (at low : ℕ) → at < length block → AreNarrow be source block at → unit_of be (get_or source (2 * at) 0) (get_or source (2 * at + 1) 0) ≡ low
-    → AreNarrow be source (set block at low) (at + 1)
-narrow_more be source block at low here narrow e k h = elim (cases_lt k at) [
-  | inl l ↦ narrow k l ∙ sym (get_or-set_other block at k low 0 (λ s. absurd (omega arith)))
+pub narrow_more : (be : Bool) (source block : List ℕ) (at x : ℕ) → at < length block → HasAsciiUnits be source block at → (x < 0x80 → unit_at be source at ≡ x)
+    → HasAsciiUnits be source (set block at x) (at + 1)
+narrow_more be source block at x here narrow e k h small = elim (cases_lt k at) [
+  | inl l ↦
+      let same : get_or (set block at x) k 0 ≡ get_or block k 0 = get_or-set_other block at k x 0 (λ s. absurd (omega arith)) in
+      narrow k l (subst (λ u. u < 0x80) same small) ∙ sym same
   | inr g ↦
-      let same : k ≡ at = omega arith in
-      subst (λ n. unit_of be (get_or source (2 * n) 0) (get_or source (2 * n + 1) 0) ≡ get_or (set block at low) n 0) (sym same) (e ∙ sym (get_or-set_same block at low 0 here))
+      let place : k ≡ at = omega arith in
+      let same : get_or (set block at x) k 0 ≡ x = ap (λ n. get_or (set block at x) n 0) place ∙ get_or-set_same block at x 0 here in
+      ap (unit_at be source) place ∙ e (subst (λ u. u < 0x80) same small) ∙ sym same
 ]
+
+-- ---- blocks without surrogates
+
+low_scalar : (u : ℕ) → u < 0xD800 → IsScalar u
+low_scalar u h = grind (arith, nat_tests)
+
+high_scalar : (u : ℕ) → 0xE000 ≤ u → u < 0x1_0000 → IsScalar u
+high_scalar u h k = grind (arith, nat_tests)
+
+outside : (u : ℕ) → (u < 0xD800) ⊎ (0xE000 ≤ u) → u < 0x1_0000 → IsScalar u
+outside u (inl l) below = low_scalar u l
+outside u (inr g) below = high_scalar u g below
+
+-- a unit whose high byte is none of a surrogate's
+pub scalar_unit : (be : Bool) (a b : ℕ) → IsByte a → IsByte b → (be ≡ true → (a < 0xD8) ⊎ (0xDF < a)) → (be ≡ false → (b < 0xD8) ⊎ (0xDF < b)) → IsScalar (unit_of be a b)
+scalar_unit true a b byte byte' h k = elim (h refl) [ inl l ↦ low_scalar (a * 0x100 + b) (omega arith) | inr g ↦ high_scalar (a * 0x100 + b) (omega arith) (omega arith) ]
+scalar_unit false a b byte byte' h k = elim (k refl) [ inl l ↦ low_scalar (b * 0x100 + a) (omega arith) | inr g ↦ high_scalar (b * 0x100 + a) (omega arith) (omega arith) ]
+
+-- one more unit that is a scalar
+pub scalars_more : (be : Bool) (bytes : List ℕ) (at : ℕ) → AreScalarUnits be bytes at → IsScalar (unit_at be bytes at) → AreScalarUnits be bytes (at + 1)
+scalars_more be bytes at before next k h = elim (cases_lt k at) [
+  | inl l ↦ before k l
+  | inr g ↦ let same : at ≡ k = omega arith in subst (λ n. IsScalar (unit_at be bytes n)) same next
+]
+
+-- one more unit is written
+pub writes_unit : (form : EncodingForm) (be : Bool) (source old mid new : List ℕ) (at c : ℕ) → ((k : ℕ) → IsByte (get_or source k 0)) → 2 * at + 1 < length source → Writes form (utf16 be) (take (2 * at) source) old mid → IsScalar (unit_at be source at)
+    → c ≡ unit_at be source at → new ≡ mid ++ code_units form c → Writes form (utf16 be) (take (2 * (at + 1)) source) old new
+writes_unit form be source old mid new at c bytes within before scalar is e =
+    let place : 2 * (at + 1) ≡ 2 * at + 2 = omega arith in
+    let byte = bytes (2 * at) in
+    let byte' = bytes (2 * at + 1) in
+    rw place (writes_two form (utf16 be) source old mid new (2 * at) c within before (subst (λ x. Runs (utf16 be) (get_or source (2 * at) 0 ∷ get_or source (2 * at + 1) 0 ∷ []) (x ∷ [])) (sym is)
+    ((unit_pair be (get_or source (2 * at) 0) (get_or source (2 * at + 1) 0) byte byte' scalar).1)) e)

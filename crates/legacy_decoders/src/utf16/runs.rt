@@ -1,9 +1,9 @@
-//! The runs of UTF-16: units that are no surrogates, and those of ASCII by blocks.
-ghost use Rattle.std.specs.Prelude.{◌≡◌, ◌*◌, ◌≤◌, [], length, IfSome};
+//! The runs of UTF-16: blocks of ASCII, and blocks and single units that are no surrogates.
+ghost use Rattle.std.specs.Prelude.{◌≡◌, ◌+◌, ◌*◌, ◌≤◌, [], length, take, true};
 ghost use Rattle.legacy_base.specs.Grammar.{utf16};
-ghost use Rattle.legacy_decoders.specs.Ahead.{ReadsAhead};
+ghost use Rattle.legacy_decoders.specs.Ahead.{Writes, ReadsAhead};
 ghost use Rattle.legacy_decoders.specs.Costs.{state_of};
-ghost use Rattle.legacy_decoders.specs.Utf16Decoder.{AreNarrow};
+ghost use Rattle.legacy_decoders.specs.Utf16Decoder.{HasAsciiUnits, AreScalarUnits};
 
 use super::units::unit;
 use crate::pairs::{Pairs, read_pairs};
@@ -27,14 +27,14 @@ impl Pairs for Units {
 }
 
 impl Units {
-    /// Sixteen units from the front as bytes, where each is below 100.
+    /// The first sixteen units as bytes: those below 100 as they are, and FF for the others.
     #[inline(always)]
-    fn narrow_block(&self, src: &[u8]) -> Option<[u8; 16]>
+    fn narrow_block(&self, src: &[u8]) -> [u8; 16]
         requires { 32 ≤ length src.now }
-        ensures { IfSome result (λ block. AreNarrow self.now.big_endian src.now block 16) }
+        ensures count { length result ≡ 16 }
+        ensures narrow { HasAsciiUnits self.now.big_endian src.now result 16 }
     {
         let mut block = [0u8; 16];
-        let mut narrow = true;
         let mut at = 0;
         while at < 16 {
             let first = src[2 * at];
@@ -44,15 +44,14 @@ impl Units {
             } else {
                 (second, first)
             };
-            block[at] = low;
-            narrow = narrow && high == 0;
+            block[at] = if high == 0 { low } else { 0xFF };
             at += 1;
         }
-        if narrow { Some(block) } else { None }
+        block
     }
 
-    /// Reads units of ASCII from the front by blocks of sixteen, as far as they go. Answers how many
-    /// bytes were read: none is an answer too.
+    /// Reads units of ASCII from the front by blocks of sixteen, up to the first that is none. Answers
+    /// how many bytes were read: none is an answer too.
     #[inline(always)]
     fn read_ascii<T: Destination>(&self, src: &[u8], dst: &mut T) -> usize
         ensures ahead { ReadsAhead T.form (state_of (utf16 self.now.big_endian) []) src.now result (T.contents dst.old) (T.contents dst.new) (T.room dst.old) (T.room dst.new) }
@@ -60,9 +59,7 @@ impl Units {
     {
         let mut at = 0;
         while src.len() - at >= 32 && dst.free() >= 19 {
-            let Some(block) = self.narrow_block(&src[at..]) else {
-                return at;
-            };
+            let block = self.narrow_block(&src[at..]);
             let count = dst.copy_ascii(&block);
             at += 2 * count;
             if count < 16 {
@@ -72,8 +69,95 @@ impl Units {
         at
     }
 
-    /// Reads units that are no surrogates from the front. Answers how many bytes were read: none is an
+    /// Whether none of so many units from the front is a surrogate.
+    #[inline(always)]
+    fn has_no_surrogate(&self, src: &[u8], count: usize) -> bool
+        requires { 2 * count ≤ length src.now }
+        ensures { result ≡ true → AreScalarUnits self.now.big_endian src.now count }
+    {
+        let mut holds = true;
+        let mut at = 0;
+        while at < count {
+            let high = if self.big_endian {
+                src[2 * at]
+            } else {
+                src[2 * at + 1]
+            };
+            holds = holds && (high < 0xD8 || high > 0xDF);
+            at += 1;
+        }
+        holds
+    }
+
+    /// Writes so many units from the front, which are no surrogates.
+    // No turn ends early, so the compiler makes vectors of it where a scalar is one code unit.
+    #[inline(always)]
+    fn put_units<T: Destination>(&self, src: &[u8], dst: &mut T, count: usize)
+        requires source { 2 * count ≤ length src.now }
+        requires scalars { AreScalarUnits self.now.big_endian src.now count }
+        requires room { 3 * count + 3 ≤ T.room dst.old }
+        ensures writes { Writes T.form (utf16 self.now.big_endian) (take (2 * count) src.now) (T.contents dst.old) (T.contents dst.new) }
+        ensures room { T.room dst.new + length (T.contents dst.new) ≡ T.room dst.old + length (T.contents dst.old) }
+        ensures slack { 3 ≤ T.room dst.new }
+        ensures loan { T.loan dst.new ≡ T.loan dst.old }
+    {
+        let mut at = 0;
+        while at < count {
+            let code = u32::from(unit(self.big_endian, src[2 * at], src[2 * at + 1]));
+            dst.put(unsafe { char::from_u32_unchecked(code) });
+            at += 1;
+        }
+    }
+
+    /// Reads units by blocks of so many, up to the first block with a surrogate, or where it is asked for
+    /// behind a block whose last two units are ASCII. Answers how many bytes were read: none is an
     /// answer too.
+    #[inline(always)]
+    fn read_blocks<T: Destination>(
+        &self,
+        src: &[u8],
+        dst: &mut T,
+        count: usize,
+        stops_at_ascii: bool,
+    ) -> usize
+        requires some { 2 ≤ count }
+        requires few { count ≤ 16 }
+        ensures ahead { ReadsAhead T.form (state_of (utf16 self.now.big_endian) []) src.now result (T.contents dst.old) (T.contents dst.new) (T.room dst.old) (T.room dst.new) }
+        ensures loan { T.loan dst.new ≡ T.loan dst.old }
+    {
+        let mut at = 0;
+        while src.len() - at >= 2 * count && dst.free() >= 3 * count + 3 {
+            if !self.has_no_surrogate(&src[at..], count) {
+                return at;
+            }
+            self.put_units(&src[at..], dst, count);
+            at += 2 * count;
+            let before = unit(self.big_endian, src[at - 4], src[at - 3]);
+            let last = unit(self.big_endian, src[at - 2], src[at - 1]);
+            if stops_at_ascii && (before | last) < 0x80 {
+                return at;
+            }
+        }
+        at
+    }
+
+    /// Reads units from the front by the blocks that suit the encoding form: of sixteen where each scalar
+    /// is one code unit, and otherwise of ASCII and then of four. Answers how many bytes were read: none
+    /// is an answer too.
+    #[inline(always)]
+    fn read_part<T: Destination>(&self, src: &[u8], dst: &mut T) -> usize
+        ensures ahead { ReadsAhead T.form (state_of (utf16 self.now.big_endian) []) src.now result (T.contents dst.old) (T.contents dst.new) (T.room dst.old) (T.room dst.new) }
+        ensures loan { T.loan dst.new ≡ T.loan dst.old }
+    {
+        if T::narrow() == 1 {
+            return self.read_blocks(src, dst, 16, false);
+        }
+        let ascii = self.read_ascii(src, dst);
+        ascii + self.read_blocks(&src[ascii..], dst, 4, true)
+    }
+
+    /// Reads units that are no surrogates from the front, by blocks and where there is none one by one.
+    /// Answers how many bytes were read: none is an answer too.
     #[inline(always)]
     pub fn read_units<T: Destination>(&self, src: &[u8], dst: &mut T) -> usize
         ensures ahead { ReadsAhead T.form (state_of (utf16 self.now.big_endian) []) src.now result (T.contents dst.old) (T.contents dst.new) (T.room dst.old) (T.room dst.new) }
@@ -81,13 +165,16 @@ impl Units {
     {
         let mut at = 0;
         loop {
-            at += self.read_ascii(&src[at..], dst);
-            let part = (src.len() - at).min(32);
-            let read = read_pairs(self, &src[at..at + part], dst);
-            if read == 0 {
-                return at;
-            }
+            let read = self.read_part(&src[at..], dst);
             at += read;
+            if read == 0 {
+                let part = (src.len() - at).min(32);
+                let single = read_pairs(self, &src[at..at + part], dst);
+                if single == 0 {
+                    return at;
+                }
+                at += single;
+            }
         }
     }
 }

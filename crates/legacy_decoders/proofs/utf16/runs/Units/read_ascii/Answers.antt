@@ -20,7 +20,7 @@ returns-then-count-lt16-clause-ahead g c =
     let rest : List ℕ = take (length src - at) (drop at src) in
     let long : 32 ≤ length rest = omega (arith, length-take (length src - at) (drop at src), length-drop at src, c.loop-at-test.true) in
     reads_more F (state_of (utf16 be) []) src _ _ _ at (2 * c.copy_ascii-count.result) (length src - at) _ _ _ c.loop-at.invariant.0
-    (reads_block F be rest c.in-Some.block _ _ c.copy_ascii-count.result _ _ long (omega arith) c.in-Some.ensures e.read e.ascii e.contents e.room (omega arith))
+    (reads_block F be rest c.narrow_block-block.result _ _ c.copy_ascii-count.result _ _ long c.narrow_block-block.ensures.count c.narrow_block-block.ensures.narrow e.read e.ascii e.contents e.room (omega arith))
 
 pub loop-at-preserved : goal.loop-at-preserved
 loop-at-preserved g c =
@@ -32,6 +32,6 @@ loop-at-preserved g c =
     let rest : List ℕ = take (length src - at) (drop at src) in
     let long : 32 ≤ length rest = omega (arith, length-take (length src - at) (drop at src), length-drop at src, c.loop-at-test.true) in (
       reads_more F (state_of (utf16 be) []) src _ _ _ at (2 * c.copy_ascii-count.result) (length src - at) _ _ _ c.loop-at.invariant.0
-          (reads_block F be rest c.in-Some.block _ _ c.copy_ascii-count.result _ _ long (omega arith) c.in-Some.ensures e.read e.ascii e.contents e.room (omega arith)),
+          (reads_block F be rest c.narrow_block-block.result _ _ c.copy_ascii-count.result _ _ long c.narrow_block-block.ensures.count c.narrow_block-block.ensures.narrow e.read e.ascii e.contents e.room (omega arith)),
       e.loan ∙ c.loop-at.invariant.1,
     )
