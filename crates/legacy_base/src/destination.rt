@@ -112,8 +112,8 @@ impl<'a> Utf8Destination<'a> {
         self.filled = at + 1;
     }
 
-    /// Writes the one or two bytes of a scalar below U+0800. Where two bytes are free it stores both, and
-    /// keeps as many as there are: which it is follows no pattern in text, and so is no branch.
+    /// Writes the one or two bytes of a scalar below U+0800. The last byte is stored behind a lead, or
+    /// over it where there is none: which of them it is follows no pattern in text, and so is no branch.
     #[inline]
     fn push_short(&mut self, code: u32)
         requires below { code < 0x800 }
@@ -123,18 +123,14 @@ impl<'a> Utf8Destination<'a> {
         ensures loan { utf8_loan self.new ≡ utf8_loan self.old }
     {
         let at = self.filled;
-        if self.buffer.len() - at < 2 {
-            self.push(code as u8);
-            return;
-        }
-        let (first, count) = if code < 0x80 {
-            (code, 1)
+        let (leads, last) = if code < 0x80 {
+            (0, code)
         } else {
-            (0xC0 + code / 0x40, 2)
+            (1, 0x80 + code % 0x40)
         };
-        self.push(first as u8);
-        self.push((0x80 + code % 0x40) as u8);
-        self.filled = at + count;
+        self.push((0xC0 + code / 0x40) as u8);
+        self.filled = at + leads;
+        self.push(last as u8);
     }
 
     /// Stores a block behind what was written, and keeps its ASCII front: answers that front's length.

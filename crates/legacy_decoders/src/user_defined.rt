@@ -60,16 +60,13 @@ fn read_byte(byte: u8) -> Fed
 }
 
 /// The scalar of any byte.
-// The choice is one between two numbers, so it is no branch and the compiler makes vectors of it.
+// Of an addition and a product the compiler makes vectors, and no branch.
 #[inline(always)]
 fn scalar_of(byte: u8) -> char
     ensures { IsSingle user_defined byte result }
 {
-    let code = if byte < 0x80 {
-        u32::from(byte)
-    } else {
-        0xF700 + u32::from(byte)
-    };
+    let past_ascii = u32::from(byte) / 0x80;
+    let code = u32::from(byte) + past_ascii * 0xF700;
     unsafe { char::from_u32_unchecked(code) }
 }
 

@@ -141,9 +141,41 @@ impl Units {
         at
     }
 
+    /// Reads so many units from the front, or fewer up to a surrogate. Answers how many bytes were read:
+    /// none is an answer too.
+    #[inline(always)]
+    fn read_some<T: Destination>(&self, src: &[u8], dst: &mut T, most: usize) -> usize
+        requires { most ≤ 16 }
+        ensures ahead { ReadsAhead T.form (state_of (utf16 self.now.big_endian) []) src.now result (T.contents dst.old) (T.contents dst.new) (T.room dst.old) (T.room dst.new) }
+        ensures loan { T.loan dst.new ≡ T.loan dst.old }
+    {
+        let part = src.len().min(2 * most);
+        read_pairs(self, &src[..part], dst)
+    }
+
+    /// Whether the first unit is ASCII.
+    #[inline(always)]
+    fn begins_with_ascii(&self, src: &[u8]) -> bool {
+        src.len() >= 2 && unit(self.big_endian, src[0], src[1]) < 0x80
+    }
+
+    /// Reads units of ASCII from the front by blocks, and then the unit behind them. Answers how many bytes
+    /// were read: none is an answer too.
+    #[inline(always)]
+    fn read_ascii_and_next<T: Destination>(&self, src: &[u8], dst: &mut T) -> usize
+        ensures ahead { ReadsAhead T.form (state_of (utf16 self.now.big_endian) []) src.now result (T.contents dst.old) (T.contents dst.new) (T.room dst.old) (T.room dst.new) }
+        ensures loan { T.loan dst.new ≡ T.loan dst.old }
+    {
+        let at = self.read_ascii(src, dst);
+        if at == 0 {
+            return at;
+        }
+        at + self.read_some(&src[at..], dst, 1)
+    }
+
     /// Reads units from the front by the blocks that suit the encoding form: of sixteen where each scalar
-    /// is one code unit, and otherwise of ASCII and then of four. Answers how many bytes were read: none
-    /// is an answer too.
+    /// is one code unit. Otherwise blocks of ASCII with the unit that ends them, and unless ASCII goes on
+    /// behind it blocks of eight. Answers how many bytes were read: none is an answer too.
     #[inline(always)]
     fn read_part<T: Destination>(&self, src: &[u8], dst: &mut T) -> usize
         ensures ahead { ReadsAhead T.form (state_of (utf16 self.now.big_endian) []) src.now result (T.contents dst.old) (T.contents dst.new) (T.room dst.old) (T.room dst.new) }
@@ -152,8 +184,11 @@ impl Units {
         if T::narrow() == 1 {
             return self.read_blocks(src, dst, 16, false);
         }
-        let ascii = self.read_ascii(src, dst);
-        ascii + self.read_blocks(&src[ascii..], dst, 4, true)
+        let at = self.read_ascii_and_next(src, dst);
+        if at > 0 && self.begins_with_ascii(&src[at..]) {
+            return at;
+        }
+        at + self.read_blocks(&src[at..], dst, 8, true)
     }
 
     /// Reads units that are no surrogates from the front, by blocks and where there is none one by one.
@@ -168,8 +203,7 @@ impl Units {
             let read = self.read_part(&src[at..], dst);
             at += read;
             if read == 0 {
-                let part = (src.len() - at).min(32);
-                let single = read_pairs(self, &src[at..at + part], dst);
+                let single = self.read_some(&src[at..], dst, 16);
                 if single == 0 {
                     return at;
                 }

@@ -1,0 +1,10 @@
+use Rattle.std.proofs.Common.{ℕ, ◌-◌, [], length}
+use Rattle.legacy_base.specs.Grammar.{utf16}
+use Rattle.legacy_decoders.specs.Costs.{state_of}
+use Rattle.legacy_decoders.proofs.MoreRuns.{reads_more}
+use Rattle.legacy_decoders.proofs.utf16.runs.Units.read_ascii_and_next.Goals as goal
+
+pub returns-clause-ahead : goal.returns-clause-ahead
+returns-clause-ahead g c =
+    let T = g.T.Destination in
+    reads_more T.form (state_of (utf16 c.args.self.now.big_endian) []) c.args.src.now _ _ _ c.read_ascii-at.result c.read_some.result (length c.args.src.now - c.read_ascii-at.result) _ _ _ c.read_ascii-at.ensures.ahead c.read_some.ensures.ahead
