@@ -17,7 +17,7 @@ use std::time::Duration;
 /// A language's folder, the corpus's name, the least share of letters past ASCII in a line of its text,
 /// and its encodings.
 const CORPORA: &[(&str, &str, f64, &[&str])] = &[
-    ("ko-KR", "ko", 0.5, &["EUC-KR"]),
+    ("ko-KR", "ko", 0.5, &["EUC-KR", "gb18030"]),
     ("ja-JP", "ja", 0.5, &["Shift_JIS", "EUC-JP", "ISO-2022-JP", "UTF-16LE"]),
     ("zh-TW", "tw", 0.5, &["Big5"]),
     ("zh-CN", "cn", 0.5, &["GBK", "gb18030", "UTF-16LE"]),

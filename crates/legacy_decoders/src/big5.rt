@@ -60,12 +60,13 @@ impl<'a> Big5Decoder<'a> {
 fn pair_pointer(lead: Lead, trail: u8) -> Option<usize>
     ensures { result ≡ big5_pointer lead.byte trail }
 {
-    if trail < 0x40 || (trail > 0x7E && trail < 0xA1) || trail > 0xFE {
+    // Chosen without a branch: which range a trail is from follows no pattern. Both its ends are one test.
+    let offset = if trail < 0x7F { 0x40 } else { 0x62 };
+    let column = trail.wrapping_sub(offset);
+    if column >= 157 || (trail > 0x7E && trail < 0xA1) {
         return None;
     }
-    // Chosen without a branch: which range a trail is from follows no pattern.
-    let offset = if trail < 0x7F { 0x40 } else { 0x62 };
-    Some(usize::from(lead.byte - 0x81) * 157 + usize::from(trail - offset))
+    Some(usize::from(lead.byte - 0x81) * 157 + usize::from(column))
 }
 
 /// Reads a trail behind its lead, which have this pointer: four pointers give a letter and a combining

@@ -102,12 +102,13 @@ fn lead_part(lead: ShiftJisLead) -> usize
 fn pair_pointer(lead: ShiftJisLead, trail: u8) -> Option<usize>
     ensures { result ≡ shift_jis_pointer lead.byte trail }
 {
-    if trail < 0x40 || trail == 0x7F || trail > 0xFC {
+    // Chosen without a branch: which range a trail is from follows no pattern. Both its ends are one test.
+    let offset = if trail < 0x7F { 0x40 } else { 0x41 };
+    let column = trail.wrapping_sub(offset);
+    if column >= 188 || trail == 0x7F {
         return None;
     }
-    // Chosen without a branch: which range a trail is from follows no pattern.
-    let offset = if trail < 0x7F { 0x40 } else { 0x41 };
-    Some(lead_part(lead) * 188 + usize::from(trail - offset))
+    Some(lead_part(lead) * 188 + usize::from(column))
 }
 
 /// The scalar of a pointer, if it has one: the pointers 8836 to 10715 are for private use.
