@@ -1,18 +1,18 @@
 -- What the GB18030 decoder holds back is what its machine may hold back, and its moves are the machine's.
-use Rattle.std.proofs.Common.{◌≡◌, ◌≢◌, ◌∙◌, ℕ, ◌+◌, ◌-◌, ◌*◌, ◌^◌, ◌<◌, ◌≤◌, List, [], ◌∷◌, length, append-nil, Bool, true, false, ◌&&◌, refl, ap, arith, Some, cond, ◌==◌}
+use Rattle.std.proofs.Common.{◌≡◌, ◌≢◌, ◌∙◌, ℕ, ◌+◌, ◌-◌, ◌*◌, ◌^◌, ◌<◌, ◌≤◌, List, [], ◌∷◌, length, append-nil, Bool, true, false, ◌&&◌, refl, sym, ap, arith, Option, Some, None, cond, ◌==◌}
 use Rattle.std.proofs.lemmas.Bool.{false≢true}
 use Rattle.std.proofs.lemmas.Bool.Decides.{nat_tests}
 use Rattle.std.proofs.lemmas.List.Elements.{All-nil, All-cons}
-use Rattle.std.specs.Prelude.{option_to_list}
+use Rattle.std.specs.Prelude.{option_to_list, IfSome}
 use Rattle.std.specs.Int.{is_in_range}
 use Rattle.std.specs.Char.{IsScalar, is_ascii, is_ascii_digit}
 use Rattle.legacy_base.specs.Unicode.{IsByte, AreBytes}
-use Rattle.legacy_base.specs.Indexes.{idx}
+use Rattle.legacy_base.specs.Indexes.{idx, range}
 use Rattle.legacy_base.specs.AcceptedTables.{AcceptedIndexes}
-use Rattle.legacy_base.specs.Gb18030.{is_gb18030_lead, gb18030_scalars}
+use Rattle.legacy_base.specs.Gb18030.{is_gb18030_lead, gb18030_scalars, gb18030_range_pointer}
 use Rattle.legacy_base.specs.Grammar.{Grammar, gb18030, events_of}
 use Rattle.legacy_base.specs.States.{gb18030_may_hold, rests, is_empty}
-use Rattle.legacy_base.proofs.Accepted.{gb18030-below}
+use Rattle.legacy_base.proofs.Accepted.{gb18030-below, range-scalar}
 use Rattle.legacy_decoders.specs.declared.gb18030.Held.{Held}
 use Rattle.legacy_decoders.specs.declared.gb18030.Held.TheVariants.{Nothing, First, Second, Third, Digit, DigitLead}
 use Rattle.legacy_decoders.specs.declared.held.Lead.{Lead}
@@ -26,7 +26,7 @@ use Rattle.legacy_decoders.specs.Machines.{gb18030_step, gb18030_pending}
 use Rattle.legacy_decoders.specs.Gb18030Held.{held_bytes, is_resting}
 use Rattle.legacy_decoders.proofs.Feeding as moves
 use Rattle.legacy_decoders.proofs.Gb18030Moves.{gb18030_meets}
-use Rattle.legacy_decoders.proofs.RunForms.{pair_runs, has_ascii}
+use Rattle.legacy_decoders.proofs.RunForms.{pair_runs, four_runs, has_ascii}
 use Rattle.legacy_decoders.proofs.TwoByteRuns.{idx_below}
 use Rattle.legacy_decoders.proofs.UserDefinedRuns.{ascii_is}
 
@@ -179,3 +179,22 @@ module _ (tables : AcceptedIndexes) where
         pair_runs g refl (gb18030-below tables.flat tables.accepted) lead trail c byte byte' scalar (rw is refl) (rw other.2 refl) refl refl
             (rw (other.0, other.1, is) refl) (rw (trail_other, e) refl),
       )
+
+  -- four bytes that give a scalar
+  pub four : (a b c d x : ℕ) → 0x81 ≤ a → a ≤ 0xFE → 0x30 ≤ b → b ≤ 0x39 → 0x81 ≤ c → c ≤ 0xFE → 0x30 ≤ d → d ≤ 0x39 → Some x ≡ range tables.flat.ranges (gb18030_range_pointer a b c d) → Runs g (a ∷ b ∷ c ∷ d ∷ []) (x ∷ [])
+  four a b c d x a_low a_high b_low b_high c_low c_high d_low d_high e =
+      let first = lead_is a a_low a_high in
+      let second = digit_is b b_low b_high in
+      let third = lead_is c c_low c_high in
+      let fourth = digit_is d d_low d_high in
+      let other = lead_other a first.0 in
+      let scalar : IsScalar x = range-scalar tables.flat tables.accepted (gb18030_range_pointer a b c d) x (sym e) in
+      four_runs g refl (gb18030-below tables.flat tables.accepted) a b c d x first.2 second.2 third.2 fourth.2 scalar
+      (rw first.0 refl) (rw (first.0, second.0) refl) (rw (first.0, second.0, third.0) refl) (rw first.1 refl) (rw first.1 refl) (rw first.1 refl) (λ held byte. refl)
+      (rw (other.0, other.1, first.0) refl) (rw second.0 refl) (rw third.0 refl) (rw (fourth.0, ← e) refl)
+
+  -- what such bytes' pointer gives
+  pub four_if : (a b c d p : ℕ) → 0x81 ≤ a → a ≤ 0xFE → 0x30 ≤ b → b ≤ 0x39 → 0x81 ≤ c → c ≤ 0xFE → 0x30 ≤ d → d ≤ 0x39 → p ≡ gb18030_range_pointer a b c d → (found : Option ℕ) → found ≡ range tables.flat.ranges p →
+      IfSome found (λ x. Runs g (a ∷ b ∷ c ∷ d ∷ []) (x ∷ []))
+  four_if a b c d p a_low a_high b_low b_high c_low c_high d_low d_high is None e = tt
+  four_if a b c d p a_low a_high b_low b_high c_low c_high d_low d_high is (Some x) e = four a b c d x a_low a_high b_low b_high c_low c_high d_low d_high (e ∙ ap (range tables.flat.ranges) is)

@@ -1,5 +1,5 @@
 -- The forms of a machine as runs: what a loop may read ahead of it.
-use Rattle.std.proofs.Common.{rules, ◌≡◌, ℕ, ◌+◌, ◌<◌, [], ◌∷◌, arith, true}
+use Rattle.std.proofs.Common.{rules, ◌≡◌, ℕ, ◌+◌, ◌<◌, List, [], ◌∷◌, arith, true}
 use Rattle.std.proofs.lemmas.List.Elements.{All-nil, All-cons}
 use Rattle.std.specs.Char.{IsScalar}
 use Rattle.legacy_base.specs.Unicode.{IsByte, AreBytes}
@@ -60,6 +60,41 @@ module _ (g : Grammar) (cut : is_cut g ≡ true) (narrow : HasNarrowIndexes g) w
             let p'' = rw z' at p' in
             let q'' = rw z at q' in
             rw (← one_total query c, e) (omega arith);
+      }
+
+  -- four bytes that are a scalar
+  pub four_runs : (a b c d x : ℕ) → IsByte a → IsByte b → IsByte c → IsByte d → IsScalar x →
+      may_hold g (a ∷ []) ≡ true → may_hold g (a ∷ b ∷ []) ≡ true → may_hold g (a ∷ b ∷ c ∷ []) ≡ true →
+      rests g (a ∷ []) ≡ true → rests g (a ∷ b ∷ []) ≡ true → rests g (a ∷ b ∷ c ∷ []) ≡ true →
+      ((held : List ℕ) (byte : ℕ) → (machine g).to held byte ≡ g) →
+      (machine g).step [] a ≡ hold → (machine g).step (a ∷ []) b ≡ hold → (machine g).step (a ∷ b ∷ []) c ≡ hold → (machine g).step (a ∷ b ∷ c ∷ []) d ≡ finish (reads 4 (x ∷ [])) →
+      Runs g (a ∷ b ∷ c ∷ d ∷ []) (x ∷ [])
+  four_runs a b c d x byte_a byte_b byte_c byte_d scalar may_a may_b may_c rest_a rest_b rest_c to_same first second third fourth =
+      let meets = (machine_meets g cut).steps (a ∷ b ∷ c ∷ []) d may_c rest_c in
+      let meets' = rw (to_same (a ∷ b ∷ c ∷ []) d, fourth) at meets in
+      record {
+        events = λ more. meets'.goes_on more;
+        scalar = All-cons IsScalar x [] scalar (All-nil IsScalar);
+        lowers = λ query n.
+            let rooms = machine_rooms query g cut narrow in
+            let p = rooms.step_pays [] a (n + 1 + 1 + 1) (may_none g) (rests-none g) (All-nil IsByte) byte_a in
+            let p' = rw (to_same [] a, first) at p in
+            let q = rooms.step_pays (a ∷ []) b (n + 1 + 1) may_a rest_a (one_byte a byte_a) byte_b in
+            let q' = rw (to_same (a ∷ []) b, second) at q in
+            let r = rooms.step_pays (a ∷ b ∷ []) c (n + 1) may_b rest_b (All-cons IsByte a (b ∷ []) byte_a (one_byte b byte_b)) byte_c in
+            let r' = rw (to_same (a ∷ b ∷ []) c, third) at r in
+            let s = rooms.step_pays (a ∷ b ∷ c ∷ []) d n may_c rest_c (All-cons IsByte a (b ∷ c ∷ []) byte_a (All-cons IsByte b (c ∷ []) byte_b (one_byte c byte_c))) byte_d in
+            let s' = rw (to_same (a ∷ b ∷ c ∷ []) d, fourth) at s in
+            let z0 : n + 0 ≡ n = omega arith in
+            let z1 : (n + 1) + 0 ≡ n + 1 = omega arith in
+            let z2 : (n + 1 + 1) + 0 ≡ n + 1 + 1 = omega arith in
+            let z3 : (n + 1 + 1 + 1) + 0 ≡ n + 1 + 1 + 1 = omega arith in
+            let e : n + 4 ≡ (n + 1 + 1 + 1) + 1 = omega arith in
+            let p'' = rw z3 at p' in
+            let q'' = rw z2 at q' in
+            let r'' = rw z1 at r' in
+            let s'' = rw z0 at s' in
+            rw (← one_total query x, e) (omega arith);
       }
 
   -- each ASCII byte is its own scalar, where the machine says so

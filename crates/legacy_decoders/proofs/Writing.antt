@@ -14,7 +14,7 @@ use Rattle.legacy_base.specs.Grammar.{Grammar, events_of}
 use Rattle.legacy_base.proofs.Shifts.{shift-append, shift-zero, shift-shift, shift-scalars}
 use Rattle.legacy_base.proofs.Rooms.{all_code_units-append, total_unit_count-append}
 use Rattle.legacy_base.proofs.SameUnits.{some_unit}
-use Rattle.legacy_base.proofs.CodeUnits.{encode_1, utf16_1, length-code_units-bmp}
+use Rattle.legacy_base.proofs.CodeUnits.{encode_1, utf16_1, length-code_units-bmp, length-code_units-wide}
 use Rattle.legacy_decoders.specs.Ahead.{Runs, Writes, ReadsAhead}
 
 -- no bytes
@@ -97,6 +97,25 @@ pub writes_two : (form : EncodingForm) (g : Grammar) (src x y z : List ℕ) (at 
 writes_two form g src x y z at c h a b e =
     subst (λ l. Writes form g l x z) (sym (take_two src at h))
     (writes_more form g (take at src) (get_or src at 0 ∷ get_or src (at + 1) 0 ∷ []) x y z (c ∷ []) a b (e ∙ ap (λ l. y ++ l) (sym (append-nil (code_units form c)))))
+
+-- a next form of four bytes
+pub writes_four : (form : EncodingForm) (g : Grammar) (src x y z : List ℕ) (at c : ℕ) → at + 3 < length src → Writes form g (take at src) x y
+    → Runs g (get_or src at 0 ∷ get_or src (at + 1) 0 ∷ get_or src (at + 2) 0 ∷ get_or src (at + 3) 0 ∷ []) (c ∷ []) → z ≡ y ++ code_units form c → Writes form g (take (at + 4) src) x z
+writes_four form g src x y z at c h a b e =
+    let two : at + 2 + 2 ≡ at + 4 = omega arith in
+    let three : at + 2 + 1 ≡ at + 3 = omega arith in
+    let first : List ℕ = get_or src at 0 ∷ get_or src (at + 1) 0 ∷ [] in
+    let last : List ℕ = get_or src (at + 2) 0 ∷ get_or src (at + 3) 0 ∷ [] in
+    let place : take (at + 4) src ≡ take at src ++ (first ++ last) =
+        ap (λ n. take n src) (sym two) ∙ take_two src (at + 2) (omega arith) ∙ ap (λ n. take (at + 2) src ++ get_or src (at + 2) 0 ∷ get_or src n 0 ∷ []) three
+        ∙ ap (λ l. l ++ last) (take_two src at (omega arith)) ∙ append_assoc (take at src) first last
+    in
+    subst (λ l. Writes form g l x z) (sym place) (writes_more form g (take at src) (first ++ last) x y z (c ∷ []) a b (e ∙ ap (λ l. y ++ l) (sym (append-nil (code_units form c)))))
+
+-- any scalar fits into four code units
+pub four_fit : (form : EncodingForm) (c room : ℕ) → 4 ≤ room → length (code_units form c) ≤ room
+four_fit Utf8 c room h = omega (arith, length-code_units-wide Utf8 c, h)
+four_fit Utf16 c room h = omega (arith, length-code_units-wide Utf16 c, h)
 
 -- a run behind what was read
 pub writes_run : (form : EncodingForm) (g : Grammar) (src x y z : List ℕ) (at r : ℕ) → Writes form g (take at src) x y → Writes form g (take r (take (length src - at) (drop at src))) y z → Writes form g (take (at + r) src) x z

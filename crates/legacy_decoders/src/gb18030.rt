@@ -12,15 +12,17 @@ ghost use Rattle.legacy_decoders.specs.Feeding.{Took};
 ghost use Rattle.legacy_decoders.specs.Decoders.{new_state};
 ghost use Rattle.legacy_decoders.specs.Gb18030Held.{held_bytes, is_resting};
 
+mod fours;
 #[cfg(test)]
 mod tests;
 
-use crate::ahead::{CommonForms, Front, ahead};
+use crate::ahead::{CommonForms, Front};
 use crate::drive::drive;
 use crate::held::{Digit, Lead};
 use crate::machine::{Act, Fed, Machine, Room};
 use crate::trail::unmapped;
 use crate::two_byte::fault_through;
+use fours::read_forms;
 use legacy_base::{DecoderResult, Destination, IndexName, RawDecoder, Tables};
 
 /// What is held back: the first bytes of a form, or a digit of a broken form and what came behind it.
@@ -271,7 +273,11 @@ impl Machine for Gb18030Decoder<'_> {
 
     #[inline]
     fn read_ahead<T: Destination>(&self, src: &[u8], dst: &mut T) -> usize {
-        ahead(self, src, dst)
+        if self.is_idle() {
+            read_forms(self, src, dst)
+        } else {
+            0
+        }
     }
 }
 
