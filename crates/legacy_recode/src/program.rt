@@ -19,7 +19,7 @@ use std::io::{Read, Write};
 use thiserror::Error;
 
 /// Why the program ends with status 1.
-#[derive(Debug, Drop, Error)]
+#[derive(Debug, PartialEq, Eq, Drop, Error)]
 pub enum Fault<'a> {
     /// The file cannot be read.
     #[error("{0}: cannot be read")]
