@@ -1,8 +1,7 @@
 //! What no clause says: the texts, the statuses 1, and what stands where a read, a write or memory fails.
 use crate::program::{Fault, run};
 use crate::recode::{RecodeError, recode};
-use legacy_base::{Indexes, RawDecoder, Tables};
-use legacy_decoders::{EucKrDecoder, UserDefinedDecoder};
+use legacy_codecs::{EucKrDecoder, Indexes, RawDecoder, Tables, UserDefinedDecoder};
 use std::io::{self, Error, ErrorKind, Read, Write};
 use std::process::Abort;
 use std::test::Fail;
