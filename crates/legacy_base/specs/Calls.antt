@@ -27,8 +27,11 @@ out_events seen scalars answer = map Scalar scalars ++ reported_events seen answ
 -- done with `passed` bytes of those held back and the source, and what it holds back and left is the rest of them.
 -- Whatever bytes come behind, but nothing at the last end: all events are `out`, and then those of the rest.
 pub record Progress (last : Bool) (before : DecoderState) (source : List ℕ) (passed : ℕ) (after : DecoderState) (left : List ℕ) (out : List DecodeEvent) : Type 0 where
+  -- the bytes that are done with, and those held back and left, are as many as were held back and in the source
   pub counts : passed + (length after.held + length left) ≡ length before.held + length source
+  -- what is held back and left is the rest of them, byte for byte
   pub rest : drop passed (before.held ++ source) ≡ after.held ++ left
+  -- all events are `out`, and then those of the rest, whatever follows
   pub events : (more : List ℕ) → (IsTrue last → more ≡ []) →
       events_of before.grammar (before.held ++ (source ++ more))
       ≡ out ++ shift passed (events_of after.grammar (after.held ++ (left ++ more)))
@@ -36,10 +39,15 @@ pub record Progress (last : Bool) (before : DecoderState) (source : List ℕ) (p
 -- A malformed sequence has one to four bytes. The bytes behind it, at most three, are those that are held back, and it
 -- lies among the `seen` bytes.
 pub record IsFault (seen : ℕ) (after : DecoderState) (sequence back : ℕ) : Type 0 where
+  -- it has a byte or more
   pub some : 1 ≤ sequence
+  -- and four at most
   pub few : sequence ≤ 4
+  -- at most three bytes stand behind it
   pub near : back ≤ 3
+  -- and those are held back
   pub held : back ≡ length after.held
+  -- it and they are among the bytes seen
   pub within : sequence + back ≤ seen
 
 -- so it is with the malformed sequence of an answer, if it reports one
@@ -57,22 +65,27 @@ IsMalformed (Malformed length back) = Unit {0}
 -- A call from the state `before` with so many code units free, which read so many bytes of the source, wrote these
 -- scalars, gave this answer and came to the state `after`.
 pub record DecoderCall (form : EncodingForm) (before : DecoderState) (source : List ℕ) (last : Bool) (free : ℕ) (after : DecoderState) (answer : DecoderResult) (read : ℕ) (scalars : List ℕ) : Type 0 where
-  -- no more is read than the source has, and no more written than is free
+  -- no more is read than the source has
   pub within : read ≤ length source
+  -- no more is written than is free
   pub fits : total_unit_count form scalars ≤ free
+  -- what is written are Unicode scalar values
   pub scalar : All IsScalar scalars
-  -- what it gave, and then the events of what is left, are the grammar's events, whatever follows
+  -- so many bytes, of those held back and the source, are done with
   pub passed : ℕ
+  -- what it gave, and then the events of what is left, are the grammar's events, whatever follows
   pub progress : Progress last before source passed after (drop read source) (out_events (length before.held + read) scalars answer)
   -- what Malformed reports is short, lies among the bytes seen, and the bytes behind it are those held back
   pub fault : HoldsBack (length before.held + read) after answer
   -- at InputEmpty all is read and no scalar is held back; at the last end no event is left
   pub input_empty : answer ≡ InputEmpty → (read ≡ length source) × IsTrue (rests after.grammar after.held) × (IsTrue last → events_of after.grammar after.held ≡ [])
-  -- at OutputFull the next act lacks its room; where it did as the call began, nothing was done
+  -- at OutputFull the next act lacks its room
   pub output_full : answer ≡ OutputFull → LacksRoom form after (drop read source) last (free - total_unit_count form scalars)
+  -- where the next act lacks its room as the call begins, the answer is OutputFull and nothing was done
   pub full_at_once : LacksRoom form before source last free → (answer ≡ OutputFull) × (read ≡ 0) × (scalars ≡ []) × (after ≡ before)
-  -- behind a malformed sequence there is room for U+FFFD, and the room of a byte where one was read and some are held back
+  -- behind a malformed sequence there is room for U+FFFD
   pub room_at_fault : IsMalformed answer → fault_room form before.grammar read ≤ free - total_unit_count form scalars
+  -- where a byte was read and some are held back, there is the room of a byte
   pub room_held : 0 < read → after.held ≢ [] → full_room form before.grammar ≤ free - total_unit_count form scalars
   -- each scalar was written with the room that it wants
   pub had_room : HadRooms form before free scalars
@@ -80,8 +93,9 @@ pub record DecoderCall (form : EncodingForm) (before : DecoderState) (source : L
   pub lowers : (query : LengthQuery) → query_form query ≡ form → (more : ℕ) → (IsTrue last → more ≡ 0) →
       room query after (length (drop read source) + more) + (total_unit_count form scalars + answer_units query answer)
       ≤ room query before (length source + more)
-  -- with that room free, or with a length that a query answered for at least so many bytes, the output is never full
+  -- with the room free that the source still needs, the output is never full
   pub suffices : (query : LengthQuery) → query_form query ≡ form → room query before (length source) ≤ free → answer ≢ OutputFull
+  -- with a length free that a query answered for at least so many bytes, the output is never full
   pub enough : (query : LengthQuery) → query_form query ≡ form → (n k : ℕ) → length source ≤ n → query_answer query before n ≡ Some k → k ≤ free → answer ≢ OutputFull
 
 -- a call, by what the destination held before it and after it

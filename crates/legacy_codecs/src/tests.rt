@@ -176,8 +176,8 @@ fn a_refused_run_leaves_the_held_back_lead(rt: HostRuntime) -> Result<(), Fail> 
     let mut output = [0u8; 8];
     let answer = decoder.decode_to_utf8_raw(b"\x88", &mut output, false);
     assert_eq!(rt; answer, (DecoderResult::InputEmpty, 1, 0));
-    let refused = decode_run_utf8(rt.alloc(), &mut decoder, &[b"\x62"], &[usize::MAX]);
-    assert!(rt; matches!(refused, Err(RunError::TooLong)));
+    let refused = decode_run_utf8(rt.alloc(), &mut decoder, &[b"\x62"], &[usize::MAX - 1]);
+    assert!(rt; matches!(refused, Err(RunError::Memory)));
     let answer = decoder.decode_to_utf8_raw(b"\x62", &mut output, true);
     assert_eq!(rt; answer, (DecoderResult::InputEmpty, 1, 4));
     assert!(rt; &output[..4] == "\u{CA}\u{304}".as_bytes());

@@ -1,4 +1,4 @@
-//! What the tests of decoders that read by tables share.
+//! What the tests of more than one decoder share beside `tests`: no entries, and one comparison for both outputs.
 use crate::tests::{utf8_events, utf16_events};
 use legacy_base::{DecodeEvent, Indexes, RawDecoder};
 use std::alloc::{AllocError, Global};

@@ -3,7 +3,7 @@ ghost use Rattle.std.specs.Prelude.{◌≡◌, ℕ, ◌+◌, ◌*◌, ◌-◌, �
 ghost use Rattle.std.specs.Fmt.{digit_glyph};
 ghost use Rattle.legacy_recode.specs.Lines.{event_line, event_lines};
 
-use legacy_base::DecodeEvent;
+use legacy_codecs::DecodeEvent;
 
 /// The most scalars whose lines are made before they are written.
 pub const BATCH: usize = 256;

@@ -9,17 +9,17 @@ ghost use Rattle.legacy_recode.specs.Program.{grammar_of, RecodesInput, RecodesB
 use crate::given_indexes::{GivenIndexes, read_files};
 use crate::recode::{RecodeError, recode};
 use crate::words::{Codec, codec_in};
-use legacy_base::{Indexes, RawDecoder, SingleByteTable, TableError, Tables};
-use legacy_decoders::{
-    Big5Decoder, EucJpDecoder, EucKrDecoder, Gb18030Decoder, Iso2022JpDecoder, ReplacementDecoder,
-    ShiftJisDecoder, SingleByteDecoder, UserDefinedDecoder, Utf16Decoder,
+use legacy_codecs::{
+    Big5Decoder, EucJpDecoder, EucKrDecoder, Gb18030Decoder, Indexes, Iso2022JpDecoder, RawDecoder,
+    ReplacementDecoder, ShiftJisDecoder, SingleByteDecoder, SingleByteTable, TableError, Tables,
+    UserDefinedDecoder, Utf16Decoder,
 };
 use std::alloc::Global;
 use std::io::{Read, Write};
 use thiserror::Error;
 
 /// Why the program ends with status 1.
-#[derive(Debug, Drop, Error)]
+#[derive(Debug, PartialEq, Eq, Drop, Error)]
 pub enum Fault<'a> {
     /// The file cannot be read.
     #[error("{0}: cannot be read")]

@@ -8,8 +8,7 @@ ghost use Rattle.legacy_recode.specs.LineBuffers.{line_bytes, line_room};
 ghost use Rattle.legacy_recode.specs.Recoding.{fault_events, RecodesPiece, RecodesAll, RecodesBeginning};
 
 use crate::lines::{BAD_LINE, BATCH, LineBuffer, SCALAR_LINE};
-use legacy_base::{DecodeEvent, DecoderResult, RawDecoder};
-use legacy_codecs::{ScalarBuffer, Utf16Form};
+use legacy_codecs::{DecodeEvent, DecoderResult, RawDecoder, ScalarBuffer, Utf16Form};
 use std::io::{self, Read, Write};
 use thiserror::Error;
 

@@ -1,8 +1,7 @@
 //! What no clause says: the texts, the statuses 1, and what stands where a read, a write or memory fails.
-use crate::program::run;
+use crate::program::{Fault, run};
 use crate::recode::{RecodeError, recode};
-use legacy_base::{Indexes, RawDecoder, Tables};
-use legacy_decoders::{EucKrDecoder, UserDefinedDecoder};
+use legacy_codecs::{EucKrDecoder, Indexes, RawDecoder, Tables, UserDefinedDecoder};
 use std::io::{self, Error, ErrorKind, Read, Write};
 use std::process::Abort;
 use std::test::Fail;
@@ -115,6 +114,19 @@ fn recodes_more_than_a_piece(rt: HostRuntime) -> Result<(), Fail> {
         assert_eq!(rt; line, b"U+0041\n".as_slice());
     }
     Ok(())
+}
+
+#[test]
+fn runs_on_one_word(rt: HostRuntime) {
+    runs(
+        &rt,
+        &["x-user-defined"],
+        &[],
+        b"\x61\x80\xFF",
+        0,
+        first_lines(3),
+        b"",
+    );
 }
 
 #[test]
@@ -303,6 +315,17 @@ fn tells_which_table_is_refused(rt: HostRuntime) {
     );
     let error = b"tables: single-byte entry 3 is bad\n";
     runs(&rt, &words, &[Some(none), Some(low)], b"A", 1, none, error);
+    let words = ["gb18030", "ranges", "R"];
+    let twice: &[u8] = b"0 0x0080\n0 0x0100\n";
+    let error = b"tables: ranges are out of order at 1\n";
+    runs(&rt, &words, &[Some(twice)], b"A", 1, none, error);
+}
+
+#[test]
+fn the_faults_print_their_texts(rt: HostRuntime) -> Result<(), Fail> {
+    let text = format!(in rt.alloc(); "{}, {}", Fault::Memory, Fault::Line("KR", 3))?;
+    assert_eq!(rt; text.as_str(), "memory, KR: line 3");
+    Ok(())
 }
 
 /// Runs the program on the words and the only file, and asserts that it prints the lines.

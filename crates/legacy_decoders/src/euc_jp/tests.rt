@@ -64,7 +64,7 @@ fn pairs_go_by_jis0208_and_behind_8f_by_jis0212(rt: HostRuntime) -> Result<(), F
 #[test]
 fn malformed_forms_are_found_byte_by_byte(rt: HostRuntime) -> Result<(), Fail> {
     let tables = Tables::new(&no_entries())?;
-    let cases: [(&[u8], &[DecodeEvent]); 4] = [
+    let cases: [(&[u8], &[DecodeEvent]); 3] = [
         (
             b"\x8E\xA1\x8E\xE0\x8F\x41\x8F\x80",
             &[
@@ -89,7 +89,6 @@ fn malformed_forms_are_found_byte_by_byte(rt: HostRuntime) -> Result<(), Fail> {
                 DecodeEvent::Scalar('0'),
             ],
         ),
-        (b"", &[]),
     ];
     for (bytes, events) in cases {
         let mut narrow = EucJpDecoder::new(&tables);

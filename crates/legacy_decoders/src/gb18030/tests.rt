@@ -26,15 +26,15 @@ fn a_bad_fourth_byte_gives_the_second_and_third_back(rt: HostRuntime) -> Result<
 fn the_lead_behind_a_digit_begins_a_form(rt: HostRuntime) -> Result<(), Fail> {
     let tables = Tables::new(&no_entries())?;
     let mut decoder = Gb18030Decoder::new(&tables);
-    let mut units = [0u16; 8];
-    let answer = decoder.decode_to_utf16_raw(b"\x81\x30\x82\x40", &mut units, true);
+    let mut bytes = [0u8; 8];
+    let answer = decoder.decode_to_utf8_raw(b"\x81\x30\x82\x40", &mut bytes, true);
     assert_eq!(rt; answer, (DecoderResult::Malformed(1, 2), 3, 0));
-    let answer = decoder.decode_to_utf16_raw(b"\x40", &mut units, true);
+    let answer = decoder.decode_to_utf8_raw(b"\x40", &mut bytes, true);
     assert_eq!(rt; answer, (DecoderResult::Malformed(1, 0), 0, 1));
-    assert_eq!(rt; units[0], 0x30);
-    let answer = decoder.decode_to_utf16_raw(b"\x40", &mut units, true);
+    assert_eq!(rt; bytes[0], 0x30);
+    let answer = decoder.decode_to_utf8_raw(b"\x40", &mut bytes, true);
     assert_eq!(rt; answer, (DecoderResult::InputEmpty, 1, 1));
-    assert_eq!(rt; units[0], 0x40);
+    assert_eq!(rt; bytes[0], 0x40);
     Ok(())
 }
 
@@ -46,13 +46,23 @@ fn a_digit_that_was_put_back_is_written_first(rt: HostRuntime) -> Result<(), Fai
     let answer = decoder.decode_to_utf8_raw(b"\x81\x30\x41", &mut bytes, true);
     assert_eq!(rt; answer, (DecoderResult::Malformed(1, 1), 2, 0));
     assert!(rt; !decoder.in_neutral_state());
-    let answer = decoder.decode_to_utf8_raw(b"\x41", &mut bytes[..3], true);
-    assert_eq!(rt; answer, (DecoderResult::OutputFull, 0, 0));
-    assert!(rt; !decoder.in_neutral_state());
     let answer = decoder.decode_to_utf8_raw(b"\x41", &mut bytes, true);
     assert_eq!(rt; answer, (DecoderResult::InputEmpty, 1, 2));
     assert!(rt; bytes[..2] == [0x30, 0x41]);
     assert!(rt; decoder.in_neutral_state());
+    Ok(())
+}
+
+#[test]
+fn a_digit_that_was_put_back_waits_for_its_room(rt: HostRuntime) -> Result<(), Fail> {
+    let tables = Tables::new(&no_entries())?;
+    let mut decoder = Gb18030Decoder::new(&tables);
+    let mut bytes = [0u8; 8];
+    let answer = decoder.decode_to_utf8_raw(b"\x81\x30\x41", &mut bytes, true);
+    assert_eq!(rt; answer, (DecoderResult::Malformed(1, 1), 2, 0));
+    let answer = decoder.decode_to_utf8_raw(b"\x41", &mut bytes[..3], true);
+    assert_eq!(rt; answer, (DecoderResult::OutputFull, 0, 0));
+    assert!(rt; !decoder.in_neutral_state());
     Ok(())
 }
 
@@ -149,6 +159,15 @@ fn ranges_give_their_scalars(rt: HostRuntime) -> Result<(), Fail> {
 fn malformed_forms_are_found_byte_by_byte(rt: HostRuntime) -> Result<(), Fail> {
     let tables = Tables::new(&no_entries())?;
     let cases: [(&[u8], &[DecodeEvent]); 8] = [
+        (
+            b"\xE3\x32\x9A\x00",
+            &[
+                bad(0, 1),
+                DecodeEvent::Scalar('2'),
+                bad(2, 1),
+                DecodeEvent::Scalar('\0'),
+            ],
+        ),
         (b"\xE3\xFF\x9A\x33", &[bad(0, 2), bad(2, 2)]),
         (
             b"\xE3\xFF\x9A\x33\x00",
@@ -190,7 +209,6 @@ fn malformed_forms_are_found_byte_by_byte(rt: HostRuntime) -> Result<(), Fail> {
             ],
         ),
         (b"\x80\x81", &[DecodeEvent::Scalar('\u{20AC}'), bad(1, 1)]),
-        (b"", &[]),
     ];
     for (bytes, events) in cases {
         let mut narrow = Gb18030Decoder::new(&tables);

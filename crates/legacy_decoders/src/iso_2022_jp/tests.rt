@@ -1,10 +1,8 @@
 use super::Iso2022JpDecoder;
-use crate::tests::whole_events;
-use legacy_base::DecodeEvent::{Bad, Scalar};
+use crate::tests::{assert_call, bad, utf8_events, utf16_events, whole_events};
+use legacy_base::DecodeEvent::Scalar;
 use legacy_base::DecoderResult::{InputEmpty, Malformed, OutputFull};
-use legacy_base::{DecodeEvent, DecoderResult, Indexes, RawDecoder, TableError, Tables};
-use std::alloc::{AllocError, Global};
-use std::process::Abort;
+use legacy_base::{DecodeEvent, Indexes, RawDecoder, TableError, Tables};
 use std::test::Fail;
 
 /// Tables in which index jis0208 has these entries, and the others none.
@@ -18,107 +16,6 @@ fn tables_of<'a>(jis0208: &'a [u16]) -> Result<Tables<'a>, TableError> {
         katakana: &[],
         ranges: &[],
     })
-}
-
-/// The events of the input cut into single bytes, over outputs of four bytes.
-fn utf8_events(
-    alloc: Global,
-    tables: &Tables,
-    input: &[u8],
-) -> Result<Vec<DecodeEvent>, AllocError> {
-    let mut events = Vec::new(alloc);
-    let mut decoder = Iso2022JpDecoder::new(tables);
-    for (place, byte) in input.iter().enumerate() {
-        let last = place + 1 == input.len();
-        let mut source: &[u8] = &[*byte];
-        for _call in 0..8 {
-            let mut output = [0u8; 4];
-            let (answer, read, written) = decoder.decode_to_utf8_raw(source, &mut output, last);
-            if let Ok(text) = str::from_utf8(&output[..written]) {
-                for scalar in text.chars() {
-                    events.push(Scalar(scalar))?;
-                }
-            }
-            if read == 1 {
-                source = &[];
-            }
-            if let Some(event) = reported(
-                answer,
-                place.saturating_add(usize::from(source.is_empty())),
-            ) {
-                events.push(event)?;
-            } else if answer == InputEmpty {
-                break;
-            }
-        }
-    }
-    Ok(events)
-}
-
-/// The same over outputs of two UTF-16 units.
-fn utf16_events(
-    alloc: Global,
-    tables: &Tables,
-    input: &[u8],
-) -> Result<Vec<DecodeEvent>, AllocError> {
-    let mut events = Vec::new(alloc);
-    let mut decoder = Iso2022JpDecoder::new(tables);
-    for (place, byte) in input.iter().enumerate() {
-        let last = place + 1 == input.len();
-        let mut source: &[u8] = &[*byte];
-        for _call in 0..8 {
-            let mut output = [0u16; 2];
-            let (answer, read, written) = decoder.decode_to_utf16_raw(source, &mut output, last);
-            for unit in &output[..written] {
-                if let Some(scalar) = char::from_u32(u32::from(*unit)) {
-                    events.push(Scalar(scalar))?;
-                }
-            }
-            if read == 1 {
-                source = &[];
-            }
-            if let Some(event) = reported(
-                answer,
-                place.saturating_add(usize::from(source.is_empty())),
-            ) {
-                events.push(event)?;
-            } else if answer == InputEmpty {
-                break;
-            }
-        }
-    }
-    Ok(events)
-}
-
-/// A malformed sequence.
-fn bad(place: usize, length: usize) -> DecodeEvent {
-    Bad { place, length }
-}
-
-/// The malformed sequence that an answer reports, with so many bytes read.
-fn reported(answer: DecoderResult, seen: usize) -> Option<DecodeEvent> {
-    match answer {
-        Malformed(length, back) => {
-            let behind = usize::from(back) + usize::from(length);
-            Some(bad(seen.saturating_sub(behind), usize::from(length)))
-        }
-        _ => None,
-    }
-}
-
-/// Makes a call and compares its answer, and what it writes.
-fn assert_call(
-    rt: &impl Abort,
-    decoder: &mut Iso2022JpDecoder,
-    source: &[u8],
-    last: bool,
-    answer: (DecoderResult, usize),
-    text: &str,
-) {
-    let mut output = [0u8; 16];
-    let (result, read, written) = decoder.decode_to_utf8_raw(source, &mut output, last);
-    assert_eq!(rt; (result, read), answer, "at {text}");
-    assert!(rt; &output[..written] == text.as_bytes(), "at {text}");
 }
 
 #[test]
@@ -286,15 +183,12 @@ fn lengths_count_what_is_held_back(rt: HostRuntime) -> Result<(), Fail> {
         decoder.max_utf8_buffer_length_without_replacement(1),
         Some(12)
     );
-    assert_call(&rt, &mut decoder, b"\x21", true, (Malformed(1, 1), 0), "");
-    assert_call(
-        &rt,
-        &mut decoder,
-        b"\x21",
-        true,
-        (InputEmpty, 1),
-        "\u{FF64}\u{FF61}",
-    );
+    let mut output = [0u8; 12];
+    let answer = decoder.decode_to_utf8_raw(b"\x21", &mut output, true);
+    assert_eq!(rt; answer, (Malformed(1, 1), 0, 0));
+    let answer = decoder.decode_to_utf8_raw(b"\x21", &mut output, true);
+    assert_eq!(rt; answer, (InputEmpty, 1, 6));
+    assert!(rt; &output[..6] == "\u{FF64}\u{FF61}".as_bytes());
     Ok(())
 }
 
@@ -348,9 +242,9 @@ fn single_bytes_and_small_outputs_give_all_events(rt: HostRuntime) -> Result<(),
         ),
     ];
     for (input, events) in rows {
-        let found = utf8_events(rt.alloc(), &tables, input)?;
+        let found = utf8_events(rt.alloc(), &mut Iso2022JpDecoder::new(&tables), input)?;
         assert!(rt; found.as_slice() == events, "UTF-8 of {input:?}");
-        let found = utf16_events(rt.alloc(), &tables, input)?;
+        let found = utf16_events(rt.alloc(), &mut Iso2022JpDecoder::new(&tables), input)?;
         assert!(rt; found.as_slice() == events, "UTF-16 of {input:?}");
     }
     Ok(())
@@ -403,7 +297,7 @@ fn runs_between_escapes_give_the_events_of_single_bytes(rt: HostRuntime) -> Resu
     }
     let found = whole_events(rt.alloc(), &mut Iso2022JpDecoder::new(&tables), input)?;
     assert!(rt; found.as_slice() == events.as_slice(), "at once");
-    let found = utf8_events(rt.alloc(), &tables, input)?;
+    let found = utf8_events(rt.alloc(), &mut Iso2022JpDecoder::new(&tables), input)?;
     assert!(rt; found.as_slice() == events.as_slice(), "in single bytes");
     Ok(())
 }

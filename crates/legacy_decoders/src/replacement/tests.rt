@@ -1,5 +1,6 @@
 use super::ReplacementDecoder;
-use crate::tests::{assert_call, bad, utf8_events, utf16_events};
+use crate::fixtures::find;
+use crate::tests::{assert_call, bad};
 use legacy_base::DecoderResult::{InputEmpty, Malformed, OutputFull};
 use legacy_base::RawDecoder;
 use std::test::Fail;
@@ -50,9 +51,17 @@ fn lengths_are_those_of_one_replacement(rt: HostRuntime) {
 
 #[test]
 fn single_bytes_and_small_outputs_give_one_event(rt: HostRuntime) -> Result<(), Fail> {
-    let found = utf8_events(rt.alloc(), &mut ReplacementDecoder::new(), b"\x41\x42")?;
-    assert!(rt; found.as_slice() == [bad(0, 1)].as_slice());
-    let found = utf16_events(rt.alloc(), &mut ReplacementDecoder::new(), b"\x41\x42")?;
-    assert!(rt; found.as_slice() == [bad(0, 1)].as_slice());
+    let cases: [&[u8]; 4] = [
+        b"\x41\x42",
+        b"\xFF",
+        b"\x00\x1B\x80",
+        b"\x80\x81\x30\x81\x30",
+    ];
+    for bytes in cases {
+        let mut narrow = ReplacementDecoder::new();
+        let mut wide = ReplacementDecoder::new();
+        let found = find(rt.alloc(), &mut narrow, &mut wide, bytes, &[bad(0, 1)])?;
+        assert!(rt; found, "bytes {bytes:?}");
+    }
     Ok(())
 }

@@ -1,8 +1,9 @@
 use super::UserDefinedDecoder;
-use crate::tests::{utf8_events, utf16_events};
+use crate::fixtures::find;
+use crate::tests::assert_call;
 use legacy_base::DecodeEvent::Scalar;
 use legacy_base::DecoderResult::{InputEmpty, OutputFull};
-use legacy_base::RawDecoder;
+use legacy_base::{DecodeEvent, RawDecoder};
 use std::test::Fail;
 
 #[test]
@@ -43,11 +44,32 @@ fn the_lengths_are_one_unit_and_three_bytes_for_each_byte(rt: HostRuntime) {
 
 #[test]
 fn single_bytes_give_the_same_events(rt: HostRuntime) -> Result<(), Fail> {
-    let expected = [Scalar('\u{7F}'), Scalar('\u{F780}')];
-    let mut decoder = UserDefinedDecoder::new();
-    let events = utf8_events(rt.alloc(), &mut decoder, b"\x7F\x80")?;
-    assert!(rt; events.as_slice() == expected.as_slice());
-    let events = utf16_events(rt.alloc(), &mut decoder, b"\x7F\x80")?;
-    assert!(rt; events.as_slice() == expected.as_slice());
+    let cases: [(&[u8], &[DecodeEvent]); 4] = [
+        (b"\x7F\x80", &[Scalar('\u{7F}'), Scalar('\u{F780}')]),
+        (b"\xFF\x00", &[Scalar('\u{F7FF}'), Scalar('\0')]),
+        (
+            b"\x61\x80\xC3\xFF\x62",
+            &[
+                Scalar('a'),
+                Scalar('\u{F780}'),
+                Scalar('\u{F7C3}'),
+                Scalar('\u{F7FF}'),
+                Scalar('b'),
+            ],
+        ),
+        (b"\xE4", &[Scalar('\u{F7E4}')]),
+    ];
+    for (bytes, events) in cases {
+        let mut narrow = UserDefinedDecoder::new();
+        let mut wide = UserDefinedDecoder::new();
+        let found = find(rt.alloc(), &mut narrow, &mut wide, bytes, events)?;
+        assert!(rt; found, "bytes {bytes:?}");
+    }
     Ok(())
+}
+
+#[test]
+fn empty_input_has_no_event(rt: HostRuntime) {
+    let mut decoder = UserDefinedDecoder::new();
+    assert_call(&rt, &mut decoder, b"", true, (InputEmpty, 0), "");
 }

@@ -21,6 +21,7 @@ fn the_unit_behind_a_lone_high_surrogate_is_held_back(rt: HostRuntime) {
         decoder.max_utf8_buffer_length_without_replacement(4),
         Some(10)
     );
+    assert_eq!(rt; decoder.additional_from_state(), 3);
     let mut output = [0u8; 10];
     let answer = decoder.decode_to_utf8_raw(b"\x00\x4E\x00\x4E", &mut output, true);
     assert_eq!(rt; answer, (InputEmpty, 4, 7));
@@ -47,11 +48,20 @@ fn the_unit_held_back_is_written_by_the_next_call(rt: HostRuntime) {
     assert_eq!(rt; output[0], 0x41);
     let answer = decoder.decode_to_utf16_raw(b"\x42\x00", &mut output, true);
     assert_eq!(rt; answer, (Malformed(2, 2), 2, 0));
-    let answer = decoder.decode_to_utf16_raw(b"", &mut [], true);
-    assert_eq!(rt; answer, (OutputFull, 0, 0));
     let answer = decoder.decode_to_utf16_raw(b"", &mut output, true);
     assert_eq!(rt; answer, (InputEmpty, 0, 1));
     assert_eq!(rt; output[0], 0x42);
+}
+
+#[test]
+fn the_unit_held_back_waits_for_its_room(rt: HostRuntime) {
+    let mut decoder = Utf16Decoder::new(false);
+    let mut output = [0u16; 8];
+    let answer = decoder.decode_to_utf16_raw(b"\x3D\xD8\x42\x00", &mut output, true);
+    assert_eq!(rt; answer, (Malformed(2, 2), 4, 0));
+    let answer = decoder.decode_to_utf16_raw(b"", &mut [], true);
+    assert_eq!(rt; answer, (OutputFull, 0, 0));
+    assert_eq!(rt; decoder.additional_from_state(), 3);
 }
 
 #[test]
