@@ -1,11 +1,14 @@
-//! Times the decoders beside encoding_rs, and compares what both write.
+//! Times the decoders beside encoding_rs, and compares what both write; and times the program
+//! `legacy_recode`.
 //!
-//! Arguments: words that a line of the table must have, as `ja-text` or `Big5` (none: all lines are
-//! made), and a number: how many times each call is timed.
+//! Arguments: words that a line of the decoders' table must have, as `ja-text` or `Big5`, or `recode` for
+//! the program's table (none: all lines of both are made), and a number: how many times each call of a
+//! decoder is timed.
 
 mod corpora;
 mod indexes;
 mod ours;
+mod recode;
 mod theirs;
 
 use encoding_rs::Encoding;
@@ -124,9 +127,8 @@ fn line<U: Unit>(corpus: &str, ours: &Ours, encoding: &'static Encoding, src: &[
     Ok(())
 }
 
-fn main() -> Result<(), String> {
-    let (numbers, words): (Vec<String>, Vec<String>) = std::env::args().skip(1).partition(|word| word.parse::<usize>().is_ok());
-    let times = numbers.first().map_or(Ok(20), |number| number.parse()).map_err(|_| "not a number".to_string())?;
+/// The decoders' table: the lines that have one of the words, or all where there is none.
+fn table(words: &[String], times: usize) -> Result<(), String> {
     println!("| corpus | encoding | to | encoding_rs MB/s | ours MB/s | ratio | encoding_rs, pieces of {PIECE} | ours | ratio |");
     println!("|---|---|---|---|---|---|---|---|---|");
     let mut decoders: HashMap<&str, Ours> = HashMap::new();
@@ -145,6 +147,25 @@ fn main() -> Result<(), String> {
                 line::<u16>(&corpus, ours, encoding, &src, times)?;
             }
         }
+    }
+    Ok(())
+}
+
+fn main() -> Result<(), String> {
+    let (numbers, mut words): (Vec<String>, Vec<String>) = std::env::args().skip(1).partition(|word| word.parse::<usize>().is_ok());
+    let times = numbers.first().map_or(Ok(20), |number| number.parse()).map_err(|_| "not a number".to_string())?;
+    let all = words.is_empty();
+    let program = all || words.iter().any(|word| word == "recode");
+    words.retain(|word| word != "recode");
+    let decoders = all || !words.is_empty();
+    if decoders {
+        table(&words, times)?;
+    }
+    if decoders && program {
+        println!();
+    }
+    if program {
+        recode::table()?;
     }
     Ok(())
 }
