@@ -257,10 +257,6 @@ next-above (r ∷ ranges) p h e = go (last_range_scalar ranges p) (nat_le r.0 p)
 in_range-scalar : (r0 r1 end p : ℕ) → (nat_le 0x80 r1 && (nat_le (r1 + (end - r0)) 0xD800 || (nat_le 0xE000 r1 && nat_le (r1 + (end - r0)) 0x1_0000))) ≡ true → r0 ≤ p → p < end → IsScalar (r1 + (p - r0))
 in_range-scalar r0 r1 end p h l g = grind (arith, nat_tests)
 
-pub is_some : (o : Option ℕ) (n : ℕ) → IsScalar n → SomeIff o (IsScalar n) n → o ≡ Some n
-is_some None n h s = absurd (s h)
-is_some (Some x) n h s = ap Some s.1
-
 -- what ranges give is a scalar
 pub last_range-scalar : (place : ℕ) (ranges : List (ℕ × ℕ)) → range_value_fault place ranges ≡ None → (p c : ℕ) → p ≤ 39419 → last_range_scalar ranges p ≡ Some c → IsScalar c
 unfolding range_value_fault

@@ -65,9 +65,9 @@ fn read_byte(byte: u8) -> Fed
 fn scalar_of(byte: u8) -> char
     ensures { IsSingle user_defined byte result }
 {
-    let past_ascii = u32::from(byte) / 0x80;
-    let code = u32::from(byte) + past_ascii * 0xF700;
-    unsafe { char::from_u32_unchecked(code) }
+    let past_ascii = u16::from(byte) / 0x80;
+    let unit = u16::from(byte) + past_ascii * 0xF700;
+    unsafe { char::from_u32_unchecked(u32::from(unit)) }
 }
 
 /// Reads bytes from the front where each scalar up to U+FFFF is one code unit, as many as leave three

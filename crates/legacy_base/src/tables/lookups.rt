@@ -46,6 +46,7 @@ pub(crate) fn narrow_entry(index: &[u16], pointer: usize) -> Option<char>
 }
 
 /// How many of the ranges start at or before a pointer: the ranges rise, so these are the first ones.
+#[inline]
 fn started_count(ranges: &[(u16, u16)], pointer: usize) -> usize
     requires { range_order_fault 0 None ranges.now ≡ None }
     ensures within { result ≤ length ranges.now }
@@ -56,6 +57,7 @@ fn started_count(ranges: &[(u16, u16)], pointer: usize) -> usize
 }
 
 /// The scalar of a pointer by the last range that starts at or before it.
+#[inline]
 fn last_range(ranges: &[(u16, u16)], pointer: usize) -> Option<char>
     requires reached { pointer ≤ 39419 }
     requires ordered { range_order_fault 0 None ranges.now ≡ None }
@@ -67,10 +69,12 @@ fn last_range(ranges: &[(u16, u16)], pointer: usize) -> Option<char>
         return None;
     }
     let (first, scalar) = ranges[count - 1];
-    char::from_u32(u32::from(scalar) + (pointer - usize::from(first)) as u32)
+    let code = u32::from(scalar) + (pointer - usize::from(first)) as u32;
+    Some(unsafe { char::from_u32_unchecked(code) })
 }
 
 /// The scalar of a pointer of four bytes.
+#[inline]
 #[tactic(auto, unfolding(crate::specs::Indexes::range))]
 pub(super) fn range_scalar(ranges: &[(u16, u16)], pointer: usize) -> Option<char>
     requires ordered { range_order_fault 0 None ranges.now ≡ None }
