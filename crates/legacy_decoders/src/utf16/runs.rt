@@ -78,12 +78,8 @@ impl Units {
         let mut holds = true;
         let mut at = 0;
         while at < count {
-            let high = if self.big_endian {
-                src[2 * at]
-            } else {
-                src[2 * at + 1]
-            };
-            holds = holds && (high < 0xD8 || high > 0xDF);
+            let unit = unit(self.big_endian, src[2 * at], src[2 * at + 1]);
+            holds = holds && (unit < 0xD800 || unit > 0xDFFF);
             at += 1;
         }
         holds
@@ -109,17 +105,10 @@ impl Units {
         }
     }
 
-    /// Reads units by blocks of so many, up to the first block with a surrogate, or where it is asked for
-    /// behind a block whose last two units are ASCII. Answers how many bytes were read: none is an
-    /// answer too.
+    /// Reads units by blocks of so many, up to the first block with a surrogate, or up to a block whose
+    /// last two units are ASCII, with it. Answers how many bytes were read: none is an answer too.
     #[inline(always)]
-    fn read_blocks<T: Destination>(
-        &self,
-        src: &[u8],
-        dst: &mut T,
-        count: usize,
-        stops_at_ascii: bool,
-    ) -> usize
+    fn read_blocks<T: Destination>(&self, src: &[u8], dst: &mut T, count: usize) -> usize
         requires some { 2 ≤ count }
         requires few { count ≤ 16 }
         ensures ahead { ReadsAhead T.form (state_of (utf16 self.now.big_endian) []) src.now result (T.contents dst.old) (T.contents dst.new) (T.room dst.old) (T.room dst.new) }
@@ -134,7 +123,7 @@ impl Units {
             at += 2 * count;
             let before = unit(self.big_endian, src[at - 4], src[at - 3]);
             let last = unit(self.big_endian, src[at - 2], src[at - 1]);
-            if stops_at_ascii && (before | last) < 0x80 {
+            if (before | last) < 0x80 {
                 return at;
             }
         }
@@ -151,6 +140,27 @@ impl Units {
     {
         let part = src.len().min(2 * most);
         read_pairs(self, &src[..part], dst)
+    }
+
+    /// Reads units by long blocks, up to the first with a surrogate. Answers how many bytes were read:
+    /// none is an answer too.
+    // How long a block is follows from the source and the room: of loops of a length that is not known
+    // the compiler makes vectors, where it would write out short ones unit by unit.
+    #[inline(always)]
+    fn read_long_blocks<T: Destination>(&self, src: &[u8], dst: &mut T) -> usize
+        ensures ahead { ReadsAhead T.form (state_of (utf16 self.now.big_endian) []) src.now result (T.contents dst.old) (T.contents dst.new) (T.room dst.old) (T.room dst.new) }
+        ensures loan { T.loan dst.new ≡ T.loan dst.old }
+    {
+        let mut at = 0;
+        loop {
+            let fitting = dst.free().saturating_sub(3) / 3;
+            let count = ((src.len() - at) / 2).min(fitting).min(128);
+            if count == 0 || !self.has_no_surrogate(&src[at..], count) {
+                return at;
+            }
+            self.put_units(&src[at..], dst, count);
+            at += 2 * count;
+        }
     }
 
     /// Whether the first unit is ASCII.
@@ -173,7 +183,7 @@ impl Units {
         at + self.read_some(&src[at..], dst, 1)
     }
 
-    /// Reads units from the front by the blocks that suit the encoding form: of sixteen where each scalar
+    /// Reads units from the front by the blocks that suit the encoding form: long ones where each scalar
     /// is one code unit. Otherwise blocks of ASCII with the unit that ends them, and unless ASCII goes on
     /// behind it blocks of eight. Answers how many bytes were read: none is an answer too.
     #[inline(always)]
@@ -182,13 +192,13 @@ impl Units {
         ensures loan { T.loan dst.new ≡ T.loan dst.old }
     {
         if T::narrow() == 1 {
-            return self.read_blocks(src, dst, 16, false);
+            return self.read_long_blocks(src, dst);
         }
         let at = self.read_ascii_and_next(src, dst);
         if at > 0 && self.begins_with_ascii(&src[at..]) {
             return at;
         }
-        at + self.read_blocks(&src[at..], dst, 8, true)
+        at + self.read_blocks(&src[at..], dst, 8)
     }
 
     /// Reads units that are no surrogates from the front, by blocks and where there is none one by one.

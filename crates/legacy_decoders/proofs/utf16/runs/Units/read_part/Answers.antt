@@ -7,4 +7,4 @@ use Rattle.legacy_decoders.proofs.utf16.runs.Units.read_part.Goals as goal
 pub returns-clause-ahead : goal.returns-clause-ahead
 returns-clause-ahead g c =
     let T = g.T.Destination in
-    reads_more T.form (state_of (utf16 c.args.self.now.big_endian) []) c.args.src.now _ _ _ c.read_ascii_and_next-at.result c.read_blocks-2.result (length c.args.src.now - c.read_ascii_and_next-at.result) _ _ _ c.read_ascii_and_next-at.ensures.ahead c.read_blocks-2.ensures.ahead
+    reads_more T.form (state_of (utf16 c.args.self.now.big_endian) []) c.args.src.now _ _ _ c.read_ascii_and_next-at.result c.read_blocks.result (length c.args.src.now - c.read_ascii_and_next-at.result) _ _ _ c.read_ascii_and_next-at.ensures.ahead c.read_blocks.ensures.ahead
