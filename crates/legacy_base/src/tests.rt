@@ -74,3 +74,34 @@ fn the_rooms_are_those_of_the_forms(rt: HostRuntime) -> Result<(), Fail> {
     );
     Ok(())
 }
+
+/// Puts scalars of one and two bytes that fit, one after another.
+#[tactic(auto, using(crate::proofs::CodeUnits::encoding))]
+fn put_short(dst: &mut Utf8Destination, scalars: &[char]) {
+    for scalar in scalars {
+        let code = *scalar as u32;
+        let length = if code < 0x80 { 1 } else { 2 };
+        if code < 0x800 && length <= dst.free() {
+            dst.put(*scalar);
+        }
+    }
+}
+
+#[test]
+fn utf_8_fills_its_last_bytes_with_short_scalars(rt: HostRuntime) {
+    let mut one = [0xAAu8; 1];
+    let mut dst = Utf8Destination::new(&mut one);
+    put_short(&mut dst, &['a']);
+    assert_eq!(rt; (dst.written(), dst.free()), (1, 0));
+    assert!(rt; one == [0x61]);
+    let mut two = [0xAAu8; 2];
+    let mut dst = Utf8Destination::new(&mut two);
+    put_short(&mut dst, &['\u{E9}']);
+    assert_eq!(rt; (dst.written(), dst.free()), (2, 0));
+    assert!(rt; two == [0xC3, 0xA9]);
+    let mut six = [0xAAu8; 6];
+    let mut dst = Utf8Destination::new(&mut six);
+    put_short(&mut dst, &['\u{80}', '\u{7F}', 'a', '\u{7FF}']);
+    assert_eq!(rt; (dst.written(), dst.free()), (6, 0));
+    assert!(rt; six == [0xC2, 0x80, 0x7F, 0x61, 0xDF, 0xBF]);
+}

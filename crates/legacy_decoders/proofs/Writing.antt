@@ -107,8 +107,8 @@ writes_four form g src x y z at c h a b e =
     let first : List ℕ = get_or src at 0 ∷ get_or src (at + 1) 0 ∷ [] in
     let last : List ℕ = get_or src (at + 2) 0 ∷ get_or src (at + 3) 0 ∷ [] in
     let place : take (at + 4) src ≡ take at src ++ (first ++ last) =
-        ap (λ n. take n src) (sym two) ∙ take_two src (at + 2) (omega arith) ∙ ap (λ n. take (at + 2) src ++ get_or src (at + 2) 0 ∷ get_or src n 0 ∷ []) three
-        ∙ ap (λ l. l ++ last) (take_two src at (omega arith)) ∙ append_assoc (take at src) first last
+    ap (λ n. take n src) (sym two) ∙ take_two src (at + 2) (omega arith) ∙ ap (λ n. take (at + 2) src ++ get_or src (at + 2) 0 ∷ get_or src n 0 ∷ []) three
+    ∙ ap (λ l. l ++ last) (take_two src at (omega arith)) ∙ append_assoc (take at src) first last
     in
     subst (λ l. Writes form g l x z) (sym place) (writes_more form g (take at src) (first ++ last) x y z (c ∷ []) a b (e ∙ ap (λ l. y ++ l) (sym (append-nil (code_units form c)))))
 

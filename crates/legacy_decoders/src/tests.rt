@@ -126,3 +126,30 @@ pub fn whole_events<D: RawDecoder>(
     }
     Ok(events)
 }
+
+/// The same over outputs of 96 UTF-16 units.
+pub fn whole_utf16_events<D: RawDecoder>(
+    alloc: Global,
+    decoder: &mut D,
+    input: &[u8],
+) -> Result<Vec<DecodeEvent>, AllocError> {
+    let mut events = Vec::new(alloc);
+    let mut seen = 0;
+    for _call in 0..64 {
+        let mut output = [0u16; 96];
+        let source = input.get(seen..).unwrap_or(&[]);
+        let (answer, read, written) = decoder.decode_to_utf16_raw(source, &mut output, true);
+        for unit in char::decode_utf16(output[..written].iter().copied()) {
+            if let Ok(scalar) = unit {
+                events.push(Scalar(scalar))?;
+            }
+        }
+        seen = seen.saturating_add(read);
+        if let Some(event) = reported(answer, seen) {
+            events.push(event)?;
+        } else if answer == InputEmpty {
+            break;
+        }
+    }
+    Ok(events)
+}

@@ -1,8 +1,8 @@
 use super::SingleByteDecoder;
-use crate::tests::{assert_call, bad, utf8_events, utf16_events};
+use crate::tests::{assert_call, bad, utf8_events, utf16_events, whole_events, whole_utf16_events};
 use legacy_base::DecodeEvent::Scalar;
 use legacy_base::DecoderResult::{InputEmpty, Malformed, OutputFull};
-use legacy_base::{RawDecoder, SingleByteTable};
+use legacy_base::{DecodeEvent, RawDecoder, SingleByteTable};
 use std::test::Fail;
 
 /// Greek letters at the places that some encodings have them.
@@ -110,5 +110,50 @@ fn lengths_are_one_unit_or_three_bytes_for_each_byte(rt: HostRuntime) -> Result<
         decoder.max_utf8_buffer_length_without_replacement(7),
         Some(21)
     );
+    Ok(())
+}
+
+/// The letters of ISO-8859-7: the bytes C1 to FE are the scalars from U+0391 on, but D2 has none.
+fn letters() -> [u16; 128] {
+    let mut entries = [0u16; 128];
+    let mut scalar = 0x391;
+    for place in 65..127 {
+        if place != 82 {
+            entries[place] = scalar;
+        }
+        scalar = scalar.saturating_add(1);
+    }
+    entries
+}
+
+/// What a byte at a place is by these letters.
+fn event_of(place: usize, byte: u8) -> DecodeEvent {
+    if byte < 0x80 {
+        return Scalar(char::from(byte));
+    }
+    match char::from_u32(0x2D0 + u32::from(byte)) {
+        Some(letter) if byte != 0xD2 => Scalar(letter),
+        _ => bad(place, 1),
+    }
+}
+
+#[test]
+fn words_of_letters_and_ascii_give_the_events_of_their_bytes(rt: HostRuntime) -> Result<(), Fail> {
+    // three words, ASCII, a word that the byte without an entry cuts, ASCII, and single letters
+    let input =
+        b"\xC1\xE8\xDE\xED\xE1 \xEA\xE1\xE9 \xD0\xE5\xE9\xF1\xE1\xE9\xDC\xF2, ab\x7F \xD3\xF5\xED\xD2\xFE\xC1 in 1 2 or 30 steps: \xE1 \xE2 \xE3 a\xE4b\xE5c\xE6d \xF9\xFA\xFB\xFE";
+    let mut events = Vec::new(rt.alloc());
+    for (place, byte) in input.iter().enumerate() {
+        events.push(event_of(place, *byte))?;
+    }
+    let table = SingleByteTable::new(&letters())?;
+    let found = whole_events(rt.alloc(), &mut SingleByteDecoder::new(&table), input)?;
+    assert!(rt; found.as_slice() == events.as_slice(), "bytes at once");
+    let found = whole_utf16_events(rt.alloc(), &mut SingleByteDecoder::new(&table), input)?;
+    assert!(rt; found.as_slice() == events.as_slice(), "units at once");
+    let found = utf8_events(rt.alloc(), &mut SingleByteDecoder::new(&table), input)?;
+    assert!(rt; found.as_slice() == events.as_slice(), "bytes in turn");
+    let found = utf16_events(rt.alloc(), &mut SingleByteDecoder::new(&table), input)?;
+    assert!(rt; found.as_slice() == events.as_slice(), "units in turn");
     Ok(())
 }

@@ -73,3 +73,35 @@ fn empty_input_has_no_event(rt: HostRuntime) {
     let mut decoder = UserDefinedDecoder::new();
     assert_call(&rt, &mut decoder, b"", true, (InputEmpty, 0), "");
 }
+
+/// The unit of a byte: an ASCII byte is itself, and a byte past ASCII is as far behind F780 as behind 80.
+fn unit_of(byte: u8) -> u16 {
+    if byte < 0x80 {
+        u16::from(byte)
+    } else {
+        0xF780 + (u16::from(byte) - 0x80)
+    }
+}
+
+#[test]
+fn each_byte_is_one_unit_of_an_output_without_a_unit_more(rt: HostRuntime) {
+    let input: &[u8; 40] =
+        b"\x61\x80\xFF\x7F\x20\xC1\xC2\xC3\x62\x63\x64\x81\x00\xFE\xDF\xE0\x41\xA0\x42\xA1\x43\xA2\x44\x9F\x90\x8F\x88\x7E\x01\xF7\xF8\xBF\xC0\x30\x31\x32\xD7\xD8\x80\xFF";
+    let mut expected = [0u16; 40];
+    for at in 0..40 {
+        expected[at] = unit_of(input[at]);
+    }
+    let mut units = [0u16; 40];
+    let answer = UserDefinedDecoder::new().decode_to_utf16_raw(input, &mut units, true);
+    assert_eq!(rt; answer, (InputEmpty, 40, 40));
+    assert!(rt; units == expected);
+    let mut decoder = UserDefinedDecoder::new();
+    let mut front = [0u16; 17];
+    let answer = decoder.decode_to_utf16_raw(input, &mut front, true);
+    assert_eq!(rt; answer, (OutputFull, 17, 17));
+    assert!(rt; front.as_slice() == &expected[..17]);
+    let mut rest = [0u16; 23];
+    let answer = decoder.decode_to_utf16_raw(&input[17..], &mut rest, true);
+    assert_eq!(rt; answer, (InputEmpty, 23, 23));
+    assert!(rt; rest.as_slice() == &expected[17..]);
+}

@@ -1,5 +1,5 @@
 use super::Utf16Decoder;
-use crate::tests::{assert_call, bad, utf8_events, utf16_events, whole_events};
+use crate::tests::{assert_call, bad, utf8_events, utf16_events, whole_events, whole_utf16_events};
 use legacy_base::DecodeEvent::Scalar;
 use legacy_base::DecoderResult::{InputEmpty, Malformed, OutputFull};
 use legacy_base::{DecodeEvent, RawDecoder};
@@ -317,5 +317,45 @@ fn blocks_of_ascii_end_where_a_unit_is_wider(rt: HostRuntime) -> Result<(), Fail
         found.as_slice() == events.as_slice(),
         "the greater byte first"
     );
+    Ok(())
+}
+
+#[test]
+fn units_of_any_length_give_their_events_in_either_byte_order(rt: HostRuntime) -> Result<(), Fail> {
+    // U+0041, U+00E9 and U+4E00 in turn; units 19 and 20 are a pair, and unit 39 is a lone surrogate
+    let mut little = [0u8; 80];
+    let mut big = [0u8; 80];
+    let mut events = Vec::new(rt.alloc());
+    for at in 0..40 {
+        let (high, low, event) = match at {
+            19 => (0xD8, 0x3D, Some(Scalar('\u{1F4A9}'))),
+            20 => (0xDC, 0xA9, None),
+            39 => (0xD8, 0x3D, Some(bad(78, 2))),
+            _ => match at % 3 {
+                0 => (0x00, 0x41, Some(Scalar('A'))),
+                1 => (0x00, 0xE9, Some(Scalar('\u{E9}'))),
+                _ => (0x4E, 0x00, Some(Scalar('\u{4E00}'))),
+            },
+        };
+        big[2 * at] = high;
+        big[2 * at + 1] = low;
+        little[2 * at] = low;
+        little[2 * at + 1] = high;
+        if let Some(event) = event {
+            events.push(event)?;
+        }
+    }
+    for (big_endian, input) in [(false, &little), (true, &big)] {
+        let found = whole_events(rt.alloc(), &mut Utf16Decoder::new(big_endian), input)?;
+        assert!(rt;
+            found.as_slice() == events.as_slice(),
+            "UTF-8, {big_endian}"
+        );
+        let found = whole_utf16_events(rt.alloc(), &mut Utf16Decoder::new(big_endian), input)?;
+        assert!(rt;
+            found.as_slice() == events.as_slice(),
+            "UTF-16, {big_endian}"
+        );
+    }
     Ok(())
 }
