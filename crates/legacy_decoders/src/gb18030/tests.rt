@@ -1,6 +1,6 @@
 use crate::Gb18030Decoder;
 use crate::fixtures::{find, no_entries};
-use crate::tests::bad;
+use crate::tests::{bad, whole_events, whole_utf16_events};
 use legacy_base::{DecodeEvent, DecoderResult, RawDecoder, Tables};
 use std::test::Fail;
 
@@ -152,6 +152,40 @@ fn ranges_give_their_scalars(rt: HostRuntime) -> Result<(), Fail> {
         DecodeEvent::Scalar('\u{1F4A9}'),
     ];
     assert!(rt; find(rt.alloc(), &mut narrow, &mut wide, bytes, &events)?);
+    Ok(())
+}
+
+#[test]
+fn runs_of_four_bytes_give_the_events_of_single_bytes(rt: HostRuntime) -> Result<(), Fail> {
+    let mut indexes = no_entries();
+    indexes.ranges = &[(0, 0x0080), (36, 0x00A5)];
+    let tables = Tables::new(&indexes)?;
+    // pointers 0, 1 and 36, U+1F4A9, the last scalar, the pointer behind it, pointer 0, three bytes
+    let bytes =
+        b"\x81\x30\x81\x30\x61\x81\x30\x81\x31\x81\x30\x84\x36\x94\x39\xDA\x33\x62\x63\xE3\x32\x9A\x35\xE3\x32\x9A\x36\x81\x30\x81\x30\x81\x30\x81";
+    let events = [
+        DecodeEvent::Scalar('\u{80}'),
+        DecodeEvent::Scalar('a'),
+        DecodeEvent::Scalar('\u{81}'),
+        DecodeEvent::Scalar('\u{A5}'),
+        DecodeEvent::Scalar('\u{1F4A9}'),
+        DecodeEvent::Scalar('b'),
+        DecodeEvent::Scalar('c'),
+        DecodeEvent::Scalar('\u{10FFFF}'),
+        bad(23, 4),
+        DecodeEvent::Scalar('\u{80}'),
+        bad(31, 3),
+    ];
+    let found = whole_events(rt.alloc(), &mut Gb18030Decoder::new(&tables), bytes)?;
+    assert!(rt; found.as_slice() == events.as_slice(), "at once");
+    let found = whole_utf16_events(rt.alloc(), &mut Gb18030Decoder::new(&tables), bytes)?;
+    assert!(rt; found.as_slice() == events.as_slice(), "at once, in UTF-16");
+    let mut narrow = Gb18030Decoder::new(&tables);
+    let mut wide = Gb18030Decoder::new(&tables);
+    assert!(rt;
+        find(rt.alloc(), &mut narrow, &mut wide, bytes, &events)?,
+        "in single bytes"
+    );
     Ok(())
 }
 
