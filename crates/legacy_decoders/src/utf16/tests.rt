@@ -311,9 +311,7 @@ fn blocks_of_ascii_end_where_a_unit_is_wider(rt: HostRuntime) -> Result<(), Fail
 }
 
 #[test]
-fn units_of_any_length_give_their_events_in_either_byte_order(
-    rt: HostRuntime,
-) -> Result<(), Fail> {
+fn units_of_any_length_give_their_events_in_either_byte_order(rt: HostRuntime) -> Result<(), Fail> {
     // U+0041, U+00E9 and U+4E00 in turn; units 19 and 20 are a pair, and unit 39 is a lone surrogate
     let mut little = [0u8; 80];
     let mut big = [0u8; 80];
@@ -339,9 +337,15 @@ fn units_of_any_length_give_their_events_in_either_byte_order(
     }
     for (big_endian, input) in [(false, &little), (true, &big)] {
         let found = whole_events(rt.alloc(), &mut Utf16Decoder::new(big_endian), input)?;
-        assert!(rt; found.as_slice() == events.as_slice(), "UTF-8, {big_endian}");
+        assert!(rt;
+            found.as_slice() == events.as_slice(),
+            "UTF-8, {big_endian}"
+        );
         let found = whole_utf16_events(rt.alloc(), &mut Utf16Decoder::new(big_endian), input)?;
-        assert!(rt; found.as_slice() == events.as_slice(), "UTF-16, {big_endian}");
+        assert!(rt;
+            found.as_slice() == events.as_slice(),
+            "UTF-16, {big_endian}"
+        );
     }
     Ok(())
 }
