@@ -107,6 +107,7 @@ pub struct Tables<'a> {
     gb18030: &'a [u16],
     katakana: &'a [u16],
     ranges: &'a [(u16, u16)],
+    likely_places: [u8; 154],
     ghost accepted: { AreAccepted (flat_lists big5.now euc_kr.now jis0208.now jis0212.now gb18030.now katakana.now ranges.now) },
 }
 
@@ -150,6 +151,7 @@ impl<'a> Tables<'a> {
             gb18030: indexes.gb18030,
             katakana: indexes.katakana,
             ranges: indexes.ranges,
+            likely_places: lookups::likely_places(indexes.ranges),
         })
     }
 
@@ -177,7 +179,7 @@ impl<'a> Tables<'a> {
     pub fn range(&self, pointer: usize) -> Option<char>
         ensures { result ≡ range self.now.flat.ranges pointer }
     {
-        lookups::range_scalar(self.ranges, pointer)
+        lookups::range_scalar(self.ranges, &self.likely_places, pointer)
     }
 }
 

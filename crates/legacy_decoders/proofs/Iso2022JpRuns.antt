@@ -1,5 +1,5 @@
 -- The runs of ISO-2022-JP.
-use Rattle.std.proofs.Common.{◌≡◌, ◌∙◌, ℕ, suc, ◌+◌, ◌-◌, ◌*◌, ◌<◌, ◌≤◌, true, Option, Some, None, List, [], ◌∷◌, ◌++◌, length, take, get_or, refl, sym, ap, subst, arith}
+use Rattle.std.proofs.Common.{◌≡◌, ◌∙◌, ℕ, suc, ◌+◌, ◌-◌, ◌*◌, ◌<◌, ◌≤◌, Bool, true, false, cond, Option, Some, None, List, [], ◌∷◌, ◌++◌, length, take, get_or, refl, sym, ap, subst, arith}
 use Rattle.std.specs.Prelude.{All, IsAscii, IfSome}
 use Rattle.std.proofs.lemmas.Bool.{ne_eqb}
 use Rattle.std.proofs.lemmas.Bool.Decides.{nat_tests}
@@ -21,6 +21,8 @@ use Rattle.legacy_decoders.specs.declared.iso_2022_jp.steps.Held.TheVariants.{Be
 use Rattle.legacy_decoders.specs.Ahead.{Runs, IsPair, ReadsAhead}
 use Rattle.legacy_decoders.specs.Iso2022JpMoves.{IsNarrowScalar}
 use Rattle.legacy_decoders.specs.Iso2022JpRuns.{IsPlain, plain_state}
+use Rattle.legacy_decoders.specs.PairPlaces.{jis_lead_place, jis_trail_place}
+use Rattle.legacy_decoders.proofs.PairPlaces.{idx_past}
 use Rattle.legacy_decoders.proofs.Iso2022JpRooms.{one_fits, room-falls, times_one}
 use Rattle.legacy_decoders.proofs.Writing.{runs_none, runs_more, room_step, code_units_ascii, all_code_units_ascii}
 
@@ -71,6 +73,25 @@ pub pair_scalar : (jis0208 : List ℕ) (a b : ℕ) → 0x21 ≤ a → a ≤ 0x7E
 pair_scalar jis0208 a b low high low' high' pointer at None is narrow = tt
 pair_scalar jis0208 a b low high low' high' pointer at (Some c) is narrow =
     pair_run jis0208 a b c low high low' high' narrow.0 narrow.1 (ap (λ p. idx jis0208 p) (sym at) ∙ sym is)
+
+in_94 : (b : ℕ) → is_in_range 0x21 0x7E b ≡ true → (0x21 ≤ b) × (b ≤ 0x7E)
+in_94 b is = (grind (arith, nat_tests), grind (arith, nat_tests))
+
+-- what two bytes give by the sum of their places
+pub placed_scalar : (jis0208 : List ℕ) → length jis0208 ≤ 65535 → (a b : ℕ) (found : Option ℕ) → found ≡ idx jis0208 (jis_lead_place a + jis_trail_place b)
+    → IfSome found IsNarrowScalar → IfSome found (λ c. IsPair (iso_2022_jp jis0208 two_byte) a b c)
+unfolding jis_lead_place jis_trail_place
+placed_scalar jis0208 short a b found is narrow = go (is_in_range 0x21 0x7E a) (is_in_range 0x21 0x7E b) refl refl is
+  where
+    none : (p : ℕ) → 65535 ≤ p → found ≡ idx jis0208 p → IfSome found (λ c. IsPair (iso_2022_jp jis0208 two_byte) a b c)
+    none p h e = rw (e, idx_past jis0208 p (omega arith)) tt
+
+    go : (l t : Bool) → is_in_range 0x21 0x7E a ≡ l → is_in_range 0x21 0x7E b ≡ t → found ≡ idx jis0208 (cond l ((a - 0x21) * 94) 65535 + cond t (b - 0x21) 65535)
+        → IfSome found (λ c. IsPair (iso_2022_jp jis0208 two_byte) a b c)
+    go true true u v e = pair_scalar jis0208 a b (in_94 a u).0 (in_94 a u).1 (in_94 b v).0 (in_94 b v).1 ((a - 0x21) * 94 + (b - 0x21)) refl found e narrow
+    go true false u v e = none ((a - 0x21) * 94 + 65535) (omega arith) e
+    go false true u v e = none (65535 + (b - 0x21)) (omega arith) e
+    go false false u v e = none (65535 + 65535) (omega arith) e
 
 -- ---- a run of plain bytes
 

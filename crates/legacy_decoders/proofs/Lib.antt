@@ -52,3 +52,4 @@ pub mod Iso2022JpRuns
 pub mod Iso2022JpFeeding
 pub mod Iso2022JpEnding
 pub mod Iso2022JpStates
+pub mod PairPlaces

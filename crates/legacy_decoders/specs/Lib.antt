@@ -25,3 +25,4 @@ pub mod Iso2022JpMachine
 pub mod Iso2022JpMoves
 pub mod Iso2022JpRuns
 pub mod Iso2022JpDecoder
+pub mod PairPlaces

@@ -13,9 +13,6 @@ ghost use Rattle.legacy_decoders.specs.Feeding.{Took};
 ghost use Rattle.legacy_decoders.specs.Decoders.{new_state};
 ghost use Rattle.legacy_decoders.specs.EucJpHeld.{held_bytes};
 
-#[cfg(test)]
-mod tests;
-
 use crate::ahead::{CommonForms, Front, ahead};
 use crate::drive::drive;
 use crate::held::EucJpLead;

@@ -1,9 +1,9 @@
 //! The decoder of EUC-KR.
-ghost use Rattle.std.specs.Prelude.{◌≡◌, ◌≢◌, [], length, true, option_to_list, IfSome};
+ghost use Rattle.std.specs.Prelude.{◌≡◌, ◌≢◌, [], length, true, option_to_list, IfSome, if◌then◌else◌};
 ghost use Rattle.std.specs.Char.{IsScalar};
 ghost use Rattle.legacy_base.specs.EucKr.{euc_kr_scalars};
 ghost use Rattle.legacy_base.specs.Grammar.{euc_kr};
-ghost use Rattle.legacy_base.specs.States.{is_neutral};
+ghost use Rattle.legacy_base.specs.States.{is_lead, is_neutral};
 ghost use Rattle.legacy_base.specs.Lengths.{answer, weighted};
 ghost use Rattle.legacy_decoders.specs.Decoders.{new_state};
 
@@ -11,6 +11,7 @@ use crate::ahead::{CommonForms, Front, ahead};
 use crate::drive::drive;
 use crate::held::Lead;
 use crate::machine::{Act, Fed, Machine, Room};
+use crate::places::euc_kr_pointer;
 use crate::two_byte::{read_first, read_trail};
 use legacy_base::{DecoderResult, Destination, IndexName, RawDecoder, Tables};
 
@@ -52,17 +53,22 @@ impl<'a> EucKrDecoder<'a> {
     }
 }
 
+/// The scalar of two bytes, if they are a lead and a trail and give one.
+#[inline]
+fn form_scalar(tables: &Tables<'_>, lead: u8, trail: u8) -> Option<char>
+    ensures value { option_to_list result ≡ (if is_lead lead then euc_kr_scalars tables.now.flat.euc_kr lead trail else []) }
+    ensures scalar { IfSome result IsScalar }
+{
+    tables.idx(IndexName::EucKr, euc_kr_pointer(lead, trail))
+}
+
 /// The scalar of a lead and a trail, if they give one.
 #[inline]
 fn pair_scalar(tables: &Tables<'_>, lead: Lead, trail: u8) -> Option<char>
     ensures value { option_to_list result ≡ euc_kr_scalars tables.now.flat.euc_kr lead.byte trail }
     ensures scalar { IfSome result IsScalar }
 {
-    if trail < 0x41 || trail > 0xFE {
-        return None;
-    }
-    let row = usize::from(lead.byte - 0x81);
-    tables.idx(IndexName::EucKr, row * 190 + usize::from(trail - 0x41))
+    form_scalar(tables, lead.byte, trail)
 }
 
 impl<'a> Machine for EucKrDecoder<'a> {
@@ -136,10 +142,7 @@ impl<'a> CommonForms for EucKrDecoder<'a> {
 
     #[inline]
     fn front(&self, lead: u8, trail: u8) -> Front {
-        let Some(lead) = Lead::new(lead) else {
-            return Front::Other;
-        };
-        match pair_scalar(self.tables, lead, trail) {
+        match form_scalar(self.tables, lead, trail) {
             Some(scalar) => Front::Pair(scalar),
             None => Front::Other,
         }

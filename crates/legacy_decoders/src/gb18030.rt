@@ -1,10 +1,10 @@
 //! The decoder of GB18030 and GBK.
-ghost use Rattle.std.specs.Prelude.{◌≡◌, ℕ, List, ◌∷◌, [], true, length, option_to_list, IfSome};
+ghost use Rattle.std.specs.Prelude.{◌≡◌, ℕ, List, ◌∷◌, [], true, length, option_to_list, IfSome, if◌then◌else◌};
 ghost use Rattle.std.specs.Char.{IsScalar};
 ghost use Rattle.legacy_base.specs.EncodingForm.{EncodingForm};
 ghost use Rattle.legacy_base.specs.Gb18030.{gb18030_scalars};
 ghost use Rattle.legacy_base.specs.Grammar.{gb18030};
-ghost use Rattle.legacy_base.specs.States.{is_neutral};
+ghost use Rattle.legacy_base.specs.States.{is_lead, is_neutral};
 ghost use Rattle.legacy_decoders.specs.Machines.{gb18030_step};
 ghost use Rattle.legacy_decoders.specs.Costs.{state_of};
 ghost use Rattle.legacy_decoders.specs.Moves.{act_units, room_units};
@@ -13,13 +13,12 @@ ghost use Rattle.legacy_decoders.specs.Decoders.{new_state};
 ghost use Rattle.legacy_decoders.specs.Gb18030Held.{held_bytes, is_resting};
 
 mod fours;
-#[cfg(test)]
-mod tests;
 
 use crate::ahead::{CommonForms, Front};
 use crate::drive::drive;
 use crate::held::{Digit, Lead};
 use crate::machine::{Act, Fed, Machine, Room};
+use crate::places::gb18030_pointer;
 use crate::trail::unmapped;
 use crate::two_byte::fault_through;
 use fours::read_forms;
@@ -55,19 +54,22 @@ pub struct Gb18030Decoder<'a> {
     held: Held,
 }
 
+/// The scalar of two bytes, if they are a lead and a trail and give one.
+#[inline]
+fn form_scalar(tables: &Tables, lead: u8, trail: u8) -> Option<char>
+    ensures value { option_to_list result ≡ (if is_lead lead then gb18030_scalars tables.now.flat.gb18030 lead trail else []) }
+    ensures scalar { IfSome result IsScalar }
+{
+    tables.idx(IndexName::Gb18030, gb18030_pointer(lead, trail))
+}
+
 /// The scalar of a lead and a trail.
 #[inline]
 fn pair_scalar(tables: &Tables, lead: Lead, trail: u8) -> Option<char>
     ensures value { option_to_list result ≡ gb18030_scalars tables.now.flat.gb18030 lead.byte trail }
     ensures scalar { IfSome result IsScalar }
 {
-    if trail < 0x40 || trail == 0x7F || trail > 0xFE {
-        return None;
-    }
-    // Chosen without a branch: which range a trail is from follows no pattern.
-    let offset = if trail < 0x7F { 0x40 } else { 0x41 };
-    let row = usize::from(lead.byte - 0x81) * 190;
-    tables.idx(IndexName::Gb18030, row + usize::from(trail - offset))
+    form_scalar(tables, lead.byte, trail)
 }
 
 /// What a byte leads to where nothing is held back.
@@ -293,10 +295,7 @@ impl CommonForms for Gb18030Decoder<'_> {
 
     #[inline]
     fn front(&self, lead: u8, trail: u8) -> Front {
-        let Some(lead) = Lead::new(lead) else {
-            return Front::Other;
-        };
-        match pair_scalar(self.tables, lead, trail) {
+        match form_scalar(self.tables, lead, trail) {
             Some(scalar) => Front::Pair(scalar),
             None => Front::Other,
         }

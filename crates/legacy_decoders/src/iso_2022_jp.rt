@@ -9,8 +9,6 @@ ghost use Rattle.legacy_decoders.specs.Iso2022JpMoves.{weight_of};
 
 mod runs;
 mod steps;
-#[cfg(test)]
-mod tests;
 
 use crate::drive::drive;
 use crate::machine::{Act, Fed, Machine, Room};

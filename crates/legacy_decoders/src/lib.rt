@@ -6,18 +6,15 @@ mod big5;
 mod drive;
 mod euc_jp;
 mod euc_kr;
-#[cfg(test)]
-mod fixtures;
 mod gb18030;
 mod held;
 mod iso_2022_jp;
 mod machine;
 mod pairs;
+mod places;
 mod replacement;
 mod shift_jis;
 mod single_byte;
-#[cfg(test)]
-mod tests;
 mod trail;
 mod two_byte;
 mod user_defined;

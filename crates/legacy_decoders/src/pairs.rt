@@ -1,8 +1,8 @@
 //! The loop for runs of forms of two bytes, without a test of room at each. It stands in front of the
 //! machine, which does all the rest.
-ghost use Rattle.std.specs.Prelude.{◌≡◌, ◌+◌, ◌≤◌, [], length, IfSome};
+ghost use Rattle.std.specs.Prelude.{◌≡◌, ◌+◌, ◌*◌, ◌≤◌, [], length, take, IfSome};
 ghost use Rattle.legacy_base.specs.Grammar.{Grammar};
-ghost use Rattle.legacy_decoders.specs.Ahead.{IsPair, ReadsAhead};
+ghost use Rattle.legacy_decoders.specs.Ahead.{IsPair, Writes, ReadsAhead};
 ghost use Rattle.legacy_decoders.specs.Costs.{state_of};
 
 use legacy_base::Destination;
@@ -16,18 +16,18 @@ pub trait Pairs {
         ensures { IfSome result (λ c. IsPair (grammar self.now) first second c) };
 }
 
-/// Reads forms of two bytes from the front, as many as surely fit, and stops at what is rare. Answers
-/// how many bytes were read: none is an answer too.
-// Inlined always: the forms are then known, and are no call for each pair.
+/// Reads at most so many pairs, which surely fit, and stops at what is rare. Answers how many bytes were
+/// read.
 #[inline(always)]
-pub fn read_pairs<P: Pairs, T: Destination>(pairs: &P, src: &[u8], dst: &mut T) -> usize
-    ensures ahead { ReadsAhead T.form (state_of (P.grammar pairs.now) []) src.now result (T.contents dst.old) (T.contents dst.new) (T.room dst.old) (T.room dst.new) }
+fn some_pairs<P: Pairs, T: Destination>(pairs: &P, src: &[u8], dst: &mut T, turns: usize) -> usize
+    requires source { 2 * turns ≤ length src.now }
+    requires room { 3 * turns + 3 ≤ T.room dst.old }
+    ensures read { result ≤ 2 * turns }
+    ensures writes { Writes T.form (P.grammar pairs.now) (take result src.now) (T.contents dst.old) (T.contents dst.new) }
+    ensures room { T.room dst.new + length (T.contents dst.new) ≡ T.room dst.old + length (T.contents dst.old) }
+    ensures slack { T.room dst.old ≤ T.room dst.new + 3 * turns }
     ensures loan { T.loan dst.new ≡ T.loan dst.old }
 {
-    let turns = (src.len() / 2).min(dst.free().saturating_sub(3) / 3);
-    if turns == 0 {
-        return 0;
-    }
     let mut at = 0;
     let mut left = turns;
     while left > 0 {
@@ -39,4 +39,30 @@ pub fn read_pairs<P: Pairs, T: Destination>(pairs: &P, src: &[u8], dst: &mut T) 
         left -= 1;
     }
     at
+}
+
+/// Reads forms of two bytes from the front, as many as surely fit, and stops at what is rare. Answers
+/// how many bytes were read: none is an answer too.
+// Inlined always: the forms are then known, and are no call for each pair. They go four at a time, as in
+// `ahead`: of so many the compiler makes code without a loop.
+#[inline(always)]
+pub fn read_pairs<P: Pairs, T: Destination>(pairs: &P, src: &[u8], dst: &mut T) -> usize
+    ensures ahead { ReadsAhead T.form (state_of (P.grammar pairs.now) []) src.now result (T.contents dst.old) (T.contents dst.new) (T.room dst.old) (T.room dst.new) }
+    ensures loan { T.loan dst.new ≡ T.loan dst.old }
+{
+    let turns = (src.len() / 2).min(dst.free().saturating_sub(3) / 3);
+    if turns == 0 {
+        return 0;
+    }
+    let mut at = 0;
+    let mut left = turns / 4;
+    while left > 0 {
+        let read = some_pairs(pairs, &src[at..], dst, 4);
+        at += read;
+        if read < 8 {
+            return at;
+        }
+        left -= 1;
+    }
+    at + some_pairs(pairs, &src[at..], dst, turns % 4)
 }

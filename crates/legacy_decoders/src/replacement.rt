@@ -106,6 +106,3 @@ impl RawDecoder for ReplacementDecoder {
         Some(3)
     }
 }
-
-#[cfg(test)]
-mod tests;

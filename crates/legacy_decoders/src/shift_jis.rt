@@ -1,7 +1,7 @@
 //! The decoder of Shift_JIS.
-ghost use Rattle.std.specs.Prelude.{◌≡◌, ◌≢◌, ◌+◌, ◌-◌, ◌≤◌, [], length, true, option_to_list, IfSome};
+ghost use Rattle.std.specs.Prelude.{◌≡◌, ◌≢◌, ◌+◌, ◌-◌, ◌≤◌, [], length, true, option_to_list, IfSome, if◌then◌else◌};
 ghost use Rattle.std.specs.Char.{IsScalar};
-ghost use Rattle.legacy_base.specs.ShiftJis.{shift_jis_lead_part, shift_jis_pointer, shift_jis_scalars};
+ghost use Rattle.legacy_base.specs.ShiftJis.{is_shift_jis_lead, shift_jis_scalars};
 ghost use Rattle.legacy_base.specs.Grammar.{shift_jis};
 ghost use Rattle.legacy_base.specs.States.{is_neutral};
 ghost use Rattle.legacy_base.specs.Lengths.{answer, weighted};
@@ -14,6 +14,7 @@ use crate::ahead::{CommonForms, Front, ahead};
 use crate::drive::drive;
 use crate::held::ShiftJisLead;
 use crate::machine::{Act, Fed, Machine, Room};
+use crate::places::shift_jis_pointer;
 use crate::two_byte::{fault_through, read_trail};
 use legacy_base::{DecoderResult, Destination, IndexName, RawDecoder, Tables};
 
@@ -87,30 +88,6 @@ fn katakana(byte: u8) -> char
     }
 }
 
-/// The number of a lead among the leads.
-#[inline]
-fn lead_part(lead: ShiftJisLead) -> usize
-    ensures { result ≡ shift_jis_lead_part lead.byte }
-{
-    // Chosen without a branch, as in `pair_pointer`.
-    let offset = if lead.byte < 0xA0 { 0x81 } else { 0xC1 };
-    usize::from(lead.byte - offset)
-}
-
-/// The pointer of a lead and a trail, or `None` where the second byte is no trail.
-#[inline]
-fn pair_pointer(lead: ShiftJisLead, trail: u8) -> Option<usize>
-    ensures { result ≡ shift_jis_pointer lead.byte trail }
-{
-    // Chosen without a branch: which range a trail is from follows no pattern. Both its ends are one test.
-    let offset = if trail < 0x7F { 0x40 } else { 0x41 };
-    let column = trail.wrapping_sub(offset);
-    if column >= 188 || trail == 0x7F {
-        return None;
-    }
-    Some(lead_part(lead) * 188 + usize::from(column))
-}
-
 /// The scalar of a pointer, if it has one: the pointers 8836 to 10715 are for private use.
 #[inline]
 fn pointer_scalar(tables: &Tables<'_>, pointer: usize) -> Option<char>
@@ -122,16 +99,22 @@ fn pointer_scalar(tables: &Tables<'_>, pointer: usize) -> Option<char>
     tables.idx(IndexName::Jis0208, pointer)
 }
 
+/// The scalar of two bytes, if they are a lead and a trail and give one.
+#[inline]
+fn form_scalar(tables: &Tables<'_>, lead: u8, trail: u8) -> Option<char>
+    ensures value { option_to_list result ≡ (if is_shift_jis_lead lead then shift_jis_pair_scalars tables.now.flat.jis0208 lead trail else []) }
+    ensures scalar { IfSome result IsScalar }
+{
+    pointer_scalar(tables, shift_jis_pointer(lead, trail))
+}
+
 /// The scalar of a lead and a trail, if they give one.
 #[inline]
 fn pair_scalar(tables: &Tables<'_>, lead: ShiftJisLead, trail: u8) -> Option<char>
     ensures value { option_to_list result ≡ shift_jis_pair_scalars tables.now.flat.jis0208 lead.byte trail }
     ensures scalar { IfSome result IsScalar }
 {
-    match pair_pointer(lead, trail) {
-        Some(pointer) => pointer_scalar(tables, pointer),
-        None => None,
-    }
+    form_scalar(tables, lead.byte, trail)
 }
 
 impl<'a> Machine for ShiftJisDecoder<'a> {
@@ -205,15 +188,15 @@ impl<'a> CommonForms for ShiftJisDecoder<'a> {
 
     #[inline]
     fn front(&self, lead: u8, trail: u8) -> Front {
-        if lead >= 0xA1 && lead <= 0xDF {
-            return Front::Single(katakana(lead));
-        }
-        let Some(lead) = ShiftJisLead::new(lead) else {
-            return Front::Other;
-        };
-        match pair_scalar(self.tables, lead, trail) {
+        match form_scalar(self.tables, lead, trail) {
             Some(scalar) => Front::Pair(scalar),
-            None => Front::Other,
+            None => {
+                if lead >= 0xA1 && lead <= 0xDF {
+                    Front::Single(katakana(lead))
+                } else {
+                    Front::Other
+                }
+            }
         }
     }
 }

@@ -7,8 +7,6 @@ ghost use Rattle.legacy_decoders.specs.Feeding.{Took};
 ghost use Rattle.legacy_decoders.specs.Decoders.{new_state};
 
 mod scalars;
-#[cfg(test)]
-mod tests;
 
 use crate::ahead::{CommonForms, Front, ahead};
 use crate::drive::drive;

@@ -8,9 +8,6 @@ ghost use Rattle.legacy_decoders.specs.TwoByte.{lead_bytes};
 use crate::held::Lead;
 use crate::machine::Fed;
 
-#[cfg(test)]
-mod tests;
-
 /// A malformed sequence that the byte ends, with nothing held back behind it.
 #[inline]
 pub fn fault_through(length: u8) -> Fed

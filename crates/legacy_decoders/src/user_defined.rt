@@ -7,9 +7,6 @@ ghost use Rattle.legacy_decoders.specs.Ahead.{IsSingle, ReadsAhead};
 ghost use Rattle.legacy_decoders.specs.Feeding.{Took};
 ghost use Rattle.legacy_decoders.specs.Decoders.{new_state};
 
-#[cfg(test)]
-mod tests;
-
 use crate::ahead::{CommonForms, Front, ahead};
 use crate::drive::drive;
 use crate::machine::{Act, Fed, Machine, Room};

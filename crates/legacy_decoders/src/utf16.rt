@@ -156,6 +156,3 @@ impl RawDecoder for Utf16Decoder {
         units.checked_mul(3)?.checked_add(1)
     }
 }
-
-#[cfg(test)]
-mod tests;

@@ -1,5 +1,5 @@
 //! Look-ups in checked indexes.
-ghost use Rattle.std.specs.Prelude.{◌≡◌, ℕ, ◌<◌, ◌≤◌, None, length, slice_index_or};
+ghost use Rattle.std.specs.Prelude.{◌≡◌, ℕ, ◌<◌, ◌≤◌, None, true, length, slice_index_or};
 ghost use Rattle.std.specs.Char.{IsScalar};
 ghost use Rattle.legacy_base.specs.Unicode.{AreScalars};
 ghost use Rattle.legacy_base.specs.Indexes.{entry_scalar, idx, last_range_scalar, range};
@@ -56,15 +56,63 @@ fn started_count(ranges: &[(u16, u16)], pointer: usize) -> usize
     ranges.partition_point(|range| usize::from(range.0) <= pointer)
 }
 
-/// The scalar of a pointer by the last range that starts at or before it.
+/// Whether the range at the place is the last that starts at or before a pointer.
 #[inline]
-fn last_range(ranges: &[(u16, u16)], pointer: usize) -> Option<char>
+fn is_last_started(ranges: &[(u16, u16)], place: usize, pointer: usize) -> bool
+    requires { range_order_fault 0 None ranges.now ≡ None }
+    ensures within { result ≡ true → place < length ranges.now }
+    ensures started { result ≡ true → (k : ℕ) → k ≤ place → (slice_index_or ranges.now k (0, 0)).0 ≤ pointer }
+    ensures ahead { result ≡ true → (k : ℕ) → place < k → k < length ranges.now → pointer < (slice_index_or ranges.now k (0, 0)).0 }
+{
+    if place >= ranges.len() || usize::from(ranges[place].0) > pointer {
+        return false;
+    }
+    place + 1 == ranges.len() || usize::from(ranges[place + 1].0) > pointer
+}
+
+/// How many of the ranges start at or before a pointer, of which the last is perhaps the one at the place.
+#[inline]
+fn started_count_near(ranges: &[(u16, u16)], place: usize, pointer: usize) -> usize
+    requires { range_order_fault 0 None ranges.now ≡ None }
+    ensures within { result ≤ length ranges.now }
+    ensures started { (k : ℕ) → k < result → (slice_index_or ranges.now k (0, 0)).0 ≤ pointer }
+    ensures ahead { (k : ℕ) → result ≤ k → k < length ranges.now → pointer < (slice_index_or ranges.now k (0, 0)).0 }
+{
+    if is_last_started(ranges, place, pointer) {
+        place + 1
+    } else {
+        started_count(ranges, pointer)
+    }
+}
+
+/// For each 256 pointers of four bytes, the place of the last range that starts at or before the last of
+/// them. Most ranges that are in use are longer, and so it is found without a search. Nothing but time
+/// rests on it: each place is tried before it is taken.
+pub(super) fn likely_places(ranges: &[(u16, u16)]) -> [u8; 154]
+    requires { range_order_fault 0 None ranges.now ≡ None }
+    ensures { length result ≡ 154 }
+{
+    let mut places = [0u8; 154];
+    let mut block = 0;
+    while block < 154 {
+        let count = started_count(ranges, 256 * block + 255);
+        places[block] = count.saturating_sub(1).min(255) as u8;
+        block += 1;
+    }
+    places
+}
+
+/// The scalar of a pointer by the last range that starts at or before it, of which the places tell where it
+/// likely is.
+#[inline]
+fn last_range(ranges: &[(u16, u16)], places: &[u8; 154], pointer: usize) -> Option<char>
     requires reached { pointer ≤ 39419 }
     requires ordered { range_order_fault 0 None ranges.now ≡ None }
     requires valued { range_value_fault 0 ranges.now ≡ None }
     ensures { result ≡ last_range_scalar ranges.now pointer }
 {
-    let count = started_count(ranges, pointer);
+    let likely = usize::from(places[pointer / 256]);
+    let count = started_count_near(ranges, likely, pointer);
     if count == 0 {
         return None;
     }
@@ -76,7 +124,11 @@ fn last_range(ranges: &[(u16, u16)], pointer: usize) -> Option<char>
 /// The scalar of a pointer of four bytes.
 #[inline]
 #[tactic(auto, unfolding(crate::specs::Indexes::range))]
-pub(super) fn range_scalar(ranges: &[(u16, u16)], pointer: usize) -> Option<char>
+pub(super) fn range_scalar(
+    ranges: &[(u16, u16)],
+    places: &[u8; 154],
+    pointer: usize,
+) -> Option<char>
     requires ordered { range_order_fault 0 None ranges.now ≡ None }
     requires valued { range_value_fault 0 ranges.now ≡ None }
     ensures { result ≡ range ranges.now pointer }
@@ -84,11 +136,11 @@ pub(super) fn range_scalar(ranges: &[(u16, u16)], pointer: usize) -> Option<char
     if pointer == 7457 {
         return Some('\u{E7C7}');
     }
+    if pointer <= 39419 {
+        return last_range(ranges, places, pointer);
+    }
     if pointer >= 189000 && pointer <= 1237575 {
         return char::from_u32(0x1_0000 + (pointer - 189000) as u32);
-    }
-    if pointer <= 39419 {
-        return last_range(ranges, pointer);
     }
     None
 }

@@ -5,6 +5,7 @@ ghost use Rattle.legacy_decoders.specs.Ahead.{ReadsAhead};
 
 use super::steps::entry;
 use crate::pairs::Pairs;
+use crate::places::jis_pointer;
 use legacy_base::{Destination, Tables};
 
 /// The pairs of two-byte mode.
@@ -20,11 +21,7 @@ impl Pairs for Jis0208Pairs<'_> {
 
     #[inline(always)]
     fn scalar(&self, first: u8, second: u8) -> Option<char> {
-        if first < 0x21 || first > 0x7E || second < 0x21 || second > 0x7E {
-            return None;
-        }
-        let pointer = usize::from(first - 0x21) * 94 + usize::from(second - 0x21);
-        entry(self.tables, pointer)
+        entry(self.tables, jis_pointer(first, second))
     }
 }
 

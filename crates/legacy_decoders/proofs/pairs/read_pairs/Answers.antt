@@ -1,6 +1,7 @@
-use Rattle.std.proofs.Common.{◌∙◌, [], refl, arith}
+use Rattle.std.proofs.Common.{◌∙◌, ◌+◌, [], refl, arith}
 use Rattle.legacy_decoders.specs.Costs.{state_of}
-use Rattle.legacy_decoders.proofs.Writing.{writes_none, writes_two, reads_none, three_fit, short, room_step}
+use Rattle.legacy_decoders.proofs.Writing.{writes_none, writes_run, reads_none}
+use Rattle.legacy_decoders.proofs.MoreRuns.{reads_written}
 use Rattle.legacy_decoders.proofs.pairs.read_pairs.Goals as goal
 
 pub returns-then-turns-eq0-clause-ahead : goal.returns-then-turns-eq0-clause-ahead
@@ -15,18 +16,39 @@ loop-left-init g c = (
   refl,
 )
 
-pub put-requires : goal.put-requires
-put-requires g c = three_fit g.T.Destination.form c.in-Some.scalar _ c.in-Some.ensures.0 (omega (arith, c.loop-left.invariant.1))
-
 pub loop-left-preserved : goal.loop-left-preserved
 loop-left-preserved g c =
-    let F = g.T.Destination.form in
     let i = c.loop-left.invariant in
-    let e = c.put.ensures in
-    let s = short F c.in-Some.scalar c.in-Some.ensures.0 in (
-      omega (arith, i.0, c.loop-left-test.true),
-      omega (arith, i.1, c.loop-left-test.true, s, e.room),
-      writes_two F (g.P.Pairs.grammar c.args.pairs.now) c.args.src.now _ _ _ c.loop-left.at c.in-Some.scalar (omega (arith, i.0, c.loop-left-test.true)) i.2 c.in-Some.ensures.1 e.contents,
-      room_step _ _ _ _ _ e.contents e.room ∙ i.3,
-      e.loan ∙ i.4,
+    let f = c.some_pairs-read.ensures in (
+      omega (arith, i.0, c.loop-left-test.true, f.read),
+      omega (arith, i.1, c.loop-left-test.true, f.slack),
+      writes_run g.T.Destination.form (g.P.Pairs.grammar c.args.pairs.now) c.args.src.now _ _ _ c.loop-left.at c.some_pairs-read.result i.2 f.writes,
+      f.room ∙ i.3,
+      f.loan ∙ i.4,
     )
+
+pub returns-then-read-lt8-clause-ahead : goal.returns-then-read-lt8-clause-ahead
+returns-then-read-lt8-clause-ahead g c =
+    let D = g.T.Destination in
+    let G = g.P.Pairs.grammar c.args.pairs.now in
+    let i = c.loop-left.invariant in
+    let f = c.some_pairs-read.ensures in
+    reads_written D.form (state_of G []) c.args.src.now (D.contents c.args.dst.now) (D.contents c.some_pairs-read.new.dst) (c.loop-left.at + c.some_pairs-read.result) (D.room c.args.dst.now) (D.room c.some_pairs-read.new.dst)
+    (omega (arith, i.0, f.read, c.loop-left-test.true)) refl
+    (writes_run D.form G c.args.src.now _ _ _ c.loop-left.at c.some_pairs-read.result i.2 f.writes)
+    (f.room ∙ i.3)
+    (omega (arith, i.1, f.slack, c.loop-left-test.true))
+    (omega (arith, c.min-turns.ensures, c.saturating_sub.ensures, c.free.ensures, c.if-turns-eq0.false))
+
+pub returns-clause-ahead : goal.returns-clause-ahead
+returns-clause-ahead g c =
+    let D = g.T.Destination in
+    let G = g.P.Pairs.grammar c.args.pairs.now in
+    let i = c.loop-left.invariant in
+    let f = c.some_pairs.ensures in
+    reads_written D.form (state_of G []) c.args.src.now (D.contents c.args.dst.now) (D.contents c.some_pairs.new.dst) (c.loop-left.at + c.some_pairs.result) (D.room c.args.dst.now) (D.room c.some_pairs.new.dst)
+    (omega (arith, i.0, f.read)) refl
+    (writes_run D.form G c.args.src.now _ _ _ c.loop-left.at c.some_pairs.result i.2 f.writes)
+    (f.room ∙ i.3)
+    (omega (arith, i.1, f.slack))
+    (omega (arith, c.min-turns.ensures, c.saturating_sub.ensures, c.free.ensures, c.if-turns-eq0.false))

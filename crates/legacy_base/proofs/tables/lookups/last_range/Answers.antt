@@ -3,25 +3,25 @@ use Rattle.legacy_base.proofs.Accepted.{last-none, last-at, last_range-scalar}
 use Rattle.legacy_base.proofs.tables.lookups.last_range.Goals as goal
 
 pub returns-then-count-eq0 : goal.returns-then-count-eq0
-returns-then-count-eq0 c = sym (last-none c.args.ranges.now c.args.pointer (λ k h. c.started_count-count.ensures.ahead k (omega arith) h))
+returns-then-count-eq0 c = sym (last-none c.args.ranges.now c.args.pointer (λ k h. c.started_count_near-count.ensures.ahead k (omega arith) h))
 
 pub overflow_sub-code : goal.overflow_sub-code
 overflow_sub-code c =
-    let h : (get_or c.args.ranges.now (c.started_count-count.result - 1) (0, 0)).0 ≤ c.args.pointer =
-    c.started_count-count.ensures.started (c.started_count-count.result - 1) (omega arith)
+    let h : (get_or c.args.ranges.now (c.started_count_near-count.result - 1) (0, 0)).0 ≤ c.args.pointer =
+    c.started_count_near-count.ensures.started (c.started_count_near-count.result - 1) (omega arith)
     in
     omega arith
 
 pub from_u32_unchecked-requires : goal.from_u32_unchecked-requires
 from_u32_unchecked-requires c =
-    let n : ℕ = c.started_count-count.result - 1 in
-    let at = last-at c.args.ranges.now c.args.pointer n (omega arith) (c.started_count-count.ensures.started n (omega arith))
-    (λ k m h. c.started_count-count.ensures.ahead k (omega arith) h) in
+    let n : ℕ = c.started_count_near-count.result - 1 in
+    let at = last-at c.args.ranges.now c.args.pointer n (omega arith) (c.started_count_near-count.ensures.started n (omega arith))
+    (λ k m h. c.started_count_near-count.ensures.ahead k (omega arith) h) in
     rw (c.from.ensures, c.from-2.ensures) (last_range-scalar 0 c.args.ranges.now c.requires.valued c.args.pointer _ c.requires.reached at)
 
 pub returns : goal.returns
 returns c =
-    let n : ℕ = c.started_count-count.result - 1 in
-    let at = last-at c.args.ranges.now c.args.pointer n (omega arith) (c.started_count-count.ensures.started n (omega arith))
-    (λ k m h. c.started_count-count.ensures.ahead k (omega arith) h) in
+    let n : ℕ = c.started_count_near-count.result - 1 in
+    let at = last-at c.args.ranges.now c.args.pointer n (omega arith) (c.started_count_near-count.ensures.started n (omega arith))
+    (λ k m h. c.started_count_near-count.ensures.ahead k (omega arith) h) in
     rw (c.from_u32_unchecked.ensures, c.from.ensures, c.from-2.ensures) (sym at)

@@ -1,63 +1,54 @@
-use Rattle.std.proofs.Common.{◌≡◌, ◌∙◌, ◌+◌, ◌<◌, ◌≤◌, [], ◌∷◌, get_or, refl, sym, subst, arith}
-use Rattle.legacy_decoders.specs.Ahead.{Runs}
+use Rattle.std.proofs.Common.{◌∙◌, ◌+◌, refl, arith}
 use Rattle.legacy_decoders.specs.Gb18030Decoder.{gb18030_state}
 use Rattle.legacy_decoders.proofs.MoreRuns.{reads_written}
-use Rattle.legacy_decoders.proofs.Writing.{writes_none, writes_one, writes_four, four_fit, short, room_step, room_falls}
+use Rattle.legacy_decoders.proofs.Writing.{writes_none, writes_run, reads_none}
 use Rattle.legacy_decoders.proofs.gb18030.fours.read_fours.Goals as goal
 
-pub loop-at-init : goal.loop-at-init
-loop-at-init g c = (omega arith, (λ h. absurd (omega arith)), (λ h. absurd (omega arith)), writes_none g.T.Destination.form ((gb18030_state c.args.decoder.now).grammar) (g.T.Destination.contents c.args.dst.now), refl, refl)
+pub returns-then-turns-eq0-clause-ahead : goal.returns-then-turns-eq0-clause-ahead
+returns-then-turns-eq0-clause-ahead g c = reads_none g.T.Destination.form (gb18030_state c.args.decoder.now) c.args.src.now (g.T.Destination.contents c.args.dst.now) (g.T.Destination.room c.args.dst.now)
 
-pub returns-then-next-lt128-clause-ahead : goal.returns-then-next-lt128-clause-ahead
-returns-then-next-lt128-clause-ahead g c =
-    let T = g.T.Destination in
-    let state = gb18030_state c.args.decoder.now in
-    let src = c.args.src.now in
-    let i = c.loop-at.invariant in
-    let e = c.put.ensures in
-    let below : c.from.result < 65536 = omega (arith, c.from.ensures, c.if-byte-lt128.true) in
-    let s = short T.form c.from.result below in
-    let falls = room_falls T.form state.grammar _ _ _ _ _ i.3 i.4 in
-    reads_written T.form state src _ _ (c.loop-at.at + 1) _ _ (omega (arith, c.loop-at-test.true)) c.requires.idle.empty
-    (writes_one T.form state.grammar src _ _ _ c.loop-at.at c.from.result (omega (arith, c.loop-at-test.true)) i.3
-    (subst (λ x. Runs state.grammar (get_or src c.loop-at.at 0 ∷ []) (x ∷ [])) (sym c.from.ensures) (c.requires.idle.ascii (get_or src c.loop-at.at 0) c.if-byte-lt128.true)) e.contents)
-    (room_step _ _ _ _ _ e.contents e.room ∙ i.4) (omega (arith, c.if-free-ge7.true, c.free.ensures, s, e.room)) (omega (arith, c.if-free-ge7.true, c.free.ensures, falls))
+pub loop-left-init : goal.loop-left-init
+loop-left-init g c = (
+  omega (arith, c.min-turns.ensures),
+  omega (arith, c.min-turns.ensures, c.saturating_sub.ensures, c.free.ensures, c.if-turns-eq0.false),
+  writes_none g.T.Destination.form ((gb18030_state c.args.decoder.now).grammar) (g.T.Destination.contents c.args.dst.now),
+  refl,
+  refl,
+)
 
-pub loop-at-preserved-else-next-lt128 : goal.loop-at-preserved-else-next-lt128
-loop-at-preserved-else-next-lt128 g c =
-    let T = g.T.Destination in
-    let state = gb18030_state c.args.decoder.now in
-    let src = c.args.src.now in
-    let i = c.loop-at.invariant in
-    let e = c.put.ensures in
-    let below : c.from.result < 65536 = omega (arith, c.from.ensures, c.if-byte-lt128.true) in
-    let s = short T.form c.from.result below in
-    let falls = room_falls T.form state.grammar _ _ _ _ _ i.3 i.4 in (
-      omega (arith, c.loop-at-test.true),
-      (λ h. omega (arith, c.if-free-ge7.true, c.free.ensures, s, e.room)),
-      (λ h. omega (arith, c.if-free-ge7.true, c.free.ensures, falls)),
-      writes_one T.form state.grammar src _ _ _ c.loop-at.at c.from.result (omega (arith, c.loop-at-test.true)) i.3
-          (subst (λ x. Runs state.grammar (get_or src c.loop-at.at 0 ∷ []) (x ∷ [])) (sym c.from.ensures) (c.requires.idle.ascii (get_or src c.loop-at.at 0) c.if-byte-lt128.true)) e.contents,
-      room_step _ _ _ _ _ e.contents e.room ∙ i.4,
-      e.loan ∙ i.5,
+pub loop-left-preserved : goal.loop-left-preserved
+loop-left-preserved g c =
+    let i = c.loop-left.invariant in
+    let f = c.some_fours-read.ensures in (
+      omega (arith, i.0, c.loop-left-test.true, f.read),
+      omega (arith, i.1, c.loop-left-test.true, f.slack),
+      writes_run g.T.Destination.form ((gb18030_state c.args.decoder.now).grammar) c.args.src.now _ _ _ c.loop-left.at c.some_fours-read.result i.2 f.writes,
+      f.room ∙ i.3,
+      f.loan ∙ i.4,
     )
 
-pub put-requires-in-Some : goal.put-requires-in-Some
-put-requires-in-Some g c = four_fit g.T.Destination.form c.in-Some.scalar _ (omega (arith, c.if-free-ge7.true, c.free.ensures))
-
-pub loop-at-preserved : goal.loop-at-preserved
-loop-at-preserved g c =
-    let T = g.T.Destination in
+pub returns-then-read-lt4-clause-ahead : goal.returns-then-read-lt4-clause-ahead
+returns-then-read-lt4-clause-ahead g c =
+    let D = g.T.Destination in
     let state = gb18030_state c.args.decoder.now in
-    let src = c.args.src.now in
-    let i = c.loop-at.invariant in
-    let e = c.put-in-Some.ensures in
-    let s = four_fit T.form c.in-Some.scalar 4 (omega arith) in
-    let falls = room_falls T.form state.grammar _ _ _ _ _ i.3 i.4 in (
-      omega (arith, c.loop-at-test.true),
-      (λ h. omega (arith, c.if-free-ge7.true, c.free.ensures, s, e.room)),
-      (λ h. omega (arith, c.if-free-ge7.true, c.free.ensures, falls)),
-      writes_four T.form state.grammar src _ _ _ c.loop-at.at c.in-Some.scalar (omega (arith, c.loop-at-test.true)) i.3 c.in-Some.ensures e.contents,
-      room_step _ _ _ _ _ e.contents e.room ∙ i.4,
-      e.loan ∙ i.5,
-    )
+    let i = c.loop-left.invariant in
+    let f = c.some_fours-read.ensures in
+    reads_written D.form state c.args.src.now (D.contents c.args.dst.now) (D.contents c.some_fours-read.new.dst) (c.loop-left.at + c.some_fours-read.result) (D.room c.args.dst.now) (D.room c.some_fours-read.new.dst)
+    (omega (arith, i.0, f.read, c.loop-left-test.true)) c.requires.idle.empty
+    (writes_run D.form state.grammar c.args.src.now _ _ _ c.loop-left.at c.some_fours-read.result i.2 f.writes)
+    (f.room ∙ i.3)
+    (omega (arith, i.1, f.slack, c.loop-left-test.true))
+    (omega (arith, c.min-turns.ensures, c.saturating_sub.ensures, c.free.ensures, c.if-turns-eq0.false))
+
+pub returns-clause-ahead : goal.returns-clause-ahead
+returns-clause-ahead g c =
+    let D = g.T.Destination in
+    let state = gb18030_state c.args.decoder.now in
+    let i = c.loop-left.invariant in
+    let f = c.some_fours.ensures in
+    reads_written D.form state c.args.src.now (D.contents c.args.dst.now) (D.contents c.some_fours.new.dst) (c.loop-left.at + c.some_fours.result) (D.room c.args.dst.now) (D.room c.some_fours.new.dst)
+    (omega (arith, i.0, f.read)) c.requires.idle.empty
+    (writes_run D.form state.grammar c.args.src.now _ _ _ c.loop-left.at c.some_fours.result i.2 f.writes)
+    (f.room ∙ i.3)
+    (omega (arith, i.1, f.slack))
+    (omega (arith, c.min-turns.ensures, c.saturating_sub.ensures, c.free.ensures, c.if-turns-eq0.false))

@@ -1,14 +1,17 @@
-use Rattle.std.proofs.Common.{◌<◌, ◌^◌, arith, sym}
+use Rattle.std.proofs.Common.{◌<◌, ◌^◌, arith}
+use Rattle.legacy_base.specs.ShiftJis.{is_shift_jis_lead}
+use Rattle.legacy_decoders.specs.Machines.{shift_jis_pair_scalars}
+use Rattle.legacy_decoders.proofs.PairPlaces.{found}
 use Rattle.legacy_decoders.proofs.ShiftJisHeld.{pair, katakana}
 use Rattle.legacy_decoders.proofs.shift_jis.ShiftJisDecoderCommonForms.front.Goals as goal
 
-pub returns-in-Some-pair_scalar : goal.returns-in-Some-pair_scalar
-returns-in-Some-pair_scalar c =
+pub returns-in-Some : goal.returns-in-Some
+returns-in-Some c =
+    let tables = c.args.self.now.tables.now in
     let byte : c.args.lead < 2 ^ 8 = omega arith in
     let byte' : c.args.trail < 2 ^ 8 = omega arith in
-    let found = c.in-Some-pair_scalar.ensures in
-    let value = rw c.in-Some.ensures.0 at found.value in
-    pair c.args.self.now.tables.now c.args.lead c.args.trail c.in-Some-pair_scalar.scalar byte byte' found.scalar c.in-Some.ensures.1 (sym value)
+    let both = found (is_shift_jis_lead c.args.lead) (shift_jis_pair_scalars tables.flat.jis0208 c.args.lead c.args.trail) c.in-Some.scalar c.in-Some.ensures.value in
+    pair tables c.args.lead c.args.trail c.in-Some.scalar byte byte' c.in-Some.ensures.scalar both.0 both.1
 
 pub returns-then-lead-le223 : goal.returns-then-lead-le223
 returns-then-lead-le223 c =

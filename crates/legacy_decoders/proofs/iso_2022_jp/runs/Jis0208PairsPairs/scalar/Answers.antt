@@ -1,11 +1,10 @@
-use Rattle.std.proofs.Common.{◌≤◌, arith}
-use Rattle.legacy_decoders.proofs.Iso2022JpRuns.{pair_scalar}
+use Rattle.std.proofs.Common.{◌≤◌, length, arith}
+use Rattle.legacy_base.proofs.Accepted.{length-jis0208}
+use Rattle.legacy_decoders.proofs.Iso2022JpRuns.{placed_scalar}
 use Rattle.legacy_decoders.proofs.iso_2022_jp.runs.Jis0208PairsPairs.scalar.Goals as goal
 
 pub returns : goal.returns
 returns c =
-    let low : 0x21 ≤ c.args.first = omega arith in
-    let high : c.args.first ≤ 0x7E = omega arith in
-    let low' : 0x21 ≤ c.args.second = omega arith in
-    let high' : c.args.second ≤ 0x7E = omega arith in
-    pair_scalar c.args.self.now.tables.now.flat.jis0208 c.args.first c.args.second low high low' high' _ (omega (arith, c.from.ensures, c.from-2.ensures)) c.entry.result c.entry.ensures.value c.entry.ensures.narrow
+    let tables = c.args.self.now.tables.now in
+    let short : length tables.flat.jis0208 ≤ 65535 = let most = length-jis0208 tables.flat tables.accepted in omega arith in
+    placed_scalar tables.flat.jis0208 short c.args.first c.args.second c.entry.result (rw c.jis_pointer.ensures at c.entry.ensures.value) c.entry.ensures.narrow

@@ -1,7 +1,7 @@
-use crate::EucJpDecoder;
+use crate::calls::bad;
 use crate::fixtures::{find, no_entries};
-use crate::tests::bad;
 use legacy_base::{DecodeEvent, DecoderResult, Indexes, RawDecoder, Tables};
+use legacy_decoders::EucJpDecoder;
 use std::test::Fail;
 
 #[test]

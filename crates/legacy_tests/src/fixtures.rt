@@ -1,5 +1,5 @@
 //! What the tests of more than one decoder share beside `tests`: no entries, and one comparison for both outputs.
-use crate::tests::{utf8_events, utf16_events};
+use crate::calls::{utf8_events, utf16_events};
 use legacy_base::{DecodeEvent, Indexes, RawDecoder};
 use std::alloc::{AllocError, Global};
 

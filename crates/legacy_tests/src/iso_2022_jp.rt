@@ -1,8 +1,8 @@
-use super::Iso2022JpDecoder;
-use crate::tests::{assert_call, bad, utf8_events, utf16_events, whole_events};
+use crate::calls::{assert_call, bad, utf8_events, utf16_events, whole_events};
 use legacy_base::DecodeEvent::Scalar;
 use legacy_base::DecoderResult::{InputEmpty, Malformed, OutputFull};
 use legacy_base::{DecodeEvent, Indexes, RawDecoder, TableError, Tables};
+use legacy_decoders::Iso2022JpDecoder;
 use std::test::Fail;
 
 /// Tables in which index jis0208 has these entries, and the others none.

@@ -1,8 +1,8 @@
-use crate::tests::{assert_call, bad, utf8_events, utf16_events};
-use crate::{Big5Decoder, EucKrDecoder, ShiftJisDecoder};
+use crate::calls::{assert_call, bad, utf8_events, utf16_events};
 use legacy_base::DecodeEvent::Scalar;
 use legacy_base::DecoderResult::{InputEmpty, Malformed, OutputFull};
 use legacy_base::{DecodeEvent, Indexes, RawDecoder, TableError, Tables};
+use legacy_decoders::{Big5Decoder, EucKrDecoder, ShiftJisDecoder};
 use std::test::Fail;
 
 /// Tables with these entries of index Big5 and index EUC-KR, and no others.

@@ -1,8 +1,8 @@
-use super::ReplacementDecoder;
+use crate::calls::{assert_call, bad};
 use crate::fixtures::find;
-use crate::tests::{assert_call, bad};
 use legacy_base::DecoderResult::{InputEmpty, Malformed, OutputFull};
 use legacy_base::RawDecoder;
+use legacy_decoders::ReplacementDecoder;
 use std::test::Fail;
 
 #[test]

@@ -1,8 +1,8 @@
-use super::SingleByteDecoder;
-use crate::tests::{assert_call, bad, utf8_events, utf16_events, whole_events, whole_utf16_events};
+use crate::calls::{assert_call, bad, utf8_events, utf16_events, whole_events, whole_utf16_events};
 use legacy_base::DecodeEvent::Scalar;
 use legacy_base::DecoderResult::{InputEmpty, Malformed, OutputFull};
 use legacy_base::{DecodeEvent, RawDecoder, SingleByteTable};
+use legacy_decoders::SingleByteDecoder;
 use std::test::Fail;
 
 /// Greek letters at the places that some encodings have them.

@@ -1,7 +1,7 @@
-use crate::Gb18030Decoder;
+use crate::calls::{bad, whole_events, whole_utf16_events};
 use crate::fixtures::{find, no_entries};
-use crate::tests::{bad, whole_events, whole_utf16_events};
 use legacy_base::{DecodeEvent, DecoderResult, RawDecoder, Tables};
+use legacy_decoders::Gb18030Decoder;
 use std::test::Fail;
 
 #[test]

@@ -1,9 +1,9 @@
-use super::UserDefinedDecoder;
+use crate::calls::assert_call;
 use crate::fixtures::find;
-use crate::tests::assert_call;
 use legacy_base::DecodeEvent::Scalar;
 use legacy_base::DecoderResult::{InputEmpty, OutputFull};
 use legacy_base::{DecodeEvent, RawDecoder};
+use legacy_decoders::UserDefinedDecoder;
 use std::test::Fail;
 
 #[test]
