@@ -1,5 +1,5 @@
-use crate::calls::{bad, whole_events, whole_utf16_events};
-use crate::fixtures::{find, no_entries};
+use crate::tests::calls::{bad, whole_events, whole_utf16_events};
+use crate::tests::fixtures::{find, no_entries};
 use legacy_base::{DecodeEvent, DecoderResult, RawDecoder, Tables};
 use legacy_decoders::Gb18030Decoder;
 use std::test::Fail;

@@ -1,5 +1,5 @@
-use crate::calls::assert_call;
-use crate::fixtures::find;
+use crate::tests::calls::assert_call;
+use crate::tests::fixtures::find;
 use legacy_base::DecodeEvent::Scalar;
 use legacy_base::DecoderResult::{InputEmpty, OutputFull};
 use legacy_base::{DecodeEvent, RawDecoder};

@@ -1,4 +1,6 @@
-use crate::calls::{assert_call, bad, utf8_events, utf16_events, whole_events, whole_utf16_events};
+use crate::tests::calls::{
+    assert_call, bad, utf8_events, utf16_events, whole_events, whole_utf16_events,
+};
 use legacy_base::DecodeEvent::Scalar;
 use legacy_base::DecoderResult::{InputEmpty, Malformed, OutputFull};
 use legacy_base::{DecodeEvent, RawDecoder, SingleByteTable};

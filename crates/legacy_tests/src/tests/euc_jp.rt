@@ -1,5 +1,5 @@
-use crate::calls::bad;
-use crate::fixtures::{find, no_entries};
+use crate::tests::calls::bad;
+use crate::tests::fixtures::{find, no_entries};
 use legacy_base::{DecodeEvent, DecoderResult, Indexes, RawDecoder, Tables};
 use legacy_decoders::EucJpDecoder;
 use std::test::Fail;

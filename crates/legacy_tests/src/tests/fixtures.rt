@@ -1,10 +1,10 @@
-//! What the tests of more than one decoder share beside `tests`: no entries, and one comparison for both outputs.
-use crate::calls::{utf8_events, utf16_events};
+//! What the tests of more than one decoder share beside `calls`: no entries, and one comparison for both outputs.
+use crate::tests::calls::{utf8_events, utf16_events};
 use legacy_base::{DecodeEvent, Indexes, RawDecoder};
 use std::alloc::{AllocError, Global};
 
 /// Indexes without an entry.
-pub fn no_entries<'a>() -> Indexes<'a> {
+pub(crate) fn no_entries<'a>() -> Indexes<'a> {
     Indexes {
         big5: &[],
         euc_kr: &[],
@@ -18,7 +18,7 @@ pub fn no_entries<'a>() -> Indexes<'a> {
 
 /// Whether decoders that were just made find exactly these events in bytes that come one by one, the one
 /// into UTF-8 and the other into UTF-16.
-pub fn find<D: RawDecoder>(
+pub(crate) fn find<D: RawDecoder>(
     alloc: Global,
     narrow: &mut D,
     wide: &mut D,

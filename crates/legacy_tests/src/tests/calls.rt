@@ -6,7 +6,7 @@ use std::alloc::{AllocError, Global};
 use std::process::Abort;
 
 /// A malformed sequence.
-pub fn bad(place: usize, length: usize) -> DecodeEvent {
+pub(crate) fn bad(place: usize, length: usize) -> DecodeEvent {
     Bad { place, length }
 }
 
@@ -22,7 +22,7 @@ fn reported(answer: DecoderResult, seen: usize) -> Option<DecodeEvent> {
 }
 
 /// The events of the input cut into single bytes, over outputs of four bytes.
-pub fn utf8_events<D: RawDecoder>(
+pub(crate) fn utf8_events<D: RawDecoder>(
     alloc: Global,
     decoder: &mut D,
     input: &[u8],
@@ -54,7 +54,7 @@ pub fn utf8_events<D: RawDecoder>(
 }
 
 /// The same over outputs of two UTF-16 units.
-pub fn utf16_events<D: RawDecoder>(
+pub(crate) fn utf16_events<D: RawDecoder>(
     alloc: Global,
     decoder: &mut D,
     input: &[u8],
@@ -86,7 +86,7 @@ pub fn utf16_events<D: RawDecoder>(
 }
 
 /// Makes a call and compares its answer, and what it writes.
-pub fn assert_call<D: RawDecoder>(
+pub(crate) fn assert_call<D: RawDecoder>(
     rt: &impl Abort,
     decoder: &mut D,
     source: &[u8],
@@ -101,7 +101,7 @@ pub fn assert_call<D: RawDecoder>(
 }
 
 /// The events of the input, in calls that see all of it that is left, over outputs of 48 bytes.
-pub fn whole_events<D: RawDecoder>(
+pub(crate) fn whole_events<D: RawDecoder>(
     alloc: Global,
     decoder: &mut D,
     input: &[u8],
@@ -128,7 +128,7 @@ pub fn whole_events<D: RawDecoder>(
 }
 
 /// The same over outputs of 96 UTF-16 units.
-pub fn whole_utf16_events<D: RawDecoder>(
+pub(crate) fn whole_utf16_events<D: RawDecoder>(
     alloc: Global,
     decoder: &mut D,
     input: &[u8],

@@ -1,5 +1,5 @@
-use crate::calls::{assert_call, bad};
-use crate::fixtures::find;
+use crate::tests::calls::{assert_call, bad};
+use crate::tests::fixtures::find;
 use legacy_base::DecoderResult::{InputEmpty, Malformed, OutputFull};
 use legacy_base::RawDecoder;
 use legacy_decoders::ReplacementDecoder;

@@ -1,4 +1,4 @@
-use crate::calls::{assert_call, bad, utf8_events, utf16_events, whole_events};
+use crate::tests::calls::{assert_call, bad, utf8_events, utf16_events, whole_events};
 use legacy_base::DecodeEvent::Scalar;
 use legacy_base::DecoderResult::{InputEmpty, Malformed, OutputFull};
 use legacy_base::{DecodeEvent, Indexes, RawDecoder, TableError, Tables};
