@@ -53,3 +53,4 @@ pub mod Iso2022JpFeeding
 pub mod Iso2022JpEnding
 pub mod Iso2022JpStates
 pub mod PairPlaces
+pub mod Utf16Vectors

@@ -1,13 +1,16 @@
 //! The runs of UTF-16: blocks of ASCII, and blocks and single units that are no surrogates.
-ghost use Rattle.std.specs.Prelude.{◌≡◌, ◌+◌, ◌*◌, ◌≤◌, [], length, take, true};
+ghost use Rattle.std.specs.Prelude.{◌≡◌, ◌+◌, ◌*◌, ◌<◌, ◌≤◌, ℕ, [], length, take, true, false, slice_index, ◌++◌};
+ghost use Rattle.std.specs.Char.{IsScalar};
+ghost use Rattle.legacy_base.specs.EncodingForm.{code_units, unit_count};
 ghost use Rattle.legacy_base.specs.Grammar.{utf16};
 ghost use Rattle.legacy_decoders.specs.Ahead.{Writes, ReadsAhead};
 ghost use Rattle.legacy_decoders.specs.Costs.{state_of};
-ghost use Rattle.legacy_decoders.specs.Utf16Decoder.{HasAsciiUnits, AreScalarUnits};
+ghost use Rattle.legacy_decoders.specs.Utf16Decoder.{HasAsciiUnits, AreScalarUnits, unit_at};
 
 use super::units::unit;
 use crate::pairs::{Pairs, read_pairs};
 use legacy_base::Destination;
+use std::simd::prelude::*;
 
 /// The units of a byte order.
 #[derive(Drop)]
@@ -26,47 +29,118 @@ impl Pairs for Units {
     }
 }
 
+/// The first eight units where the second byte of each is the high one.
+#[inline(always)]
+fn little_units(src: &[u8]) -> u16x8
+    requires { 16 ≤ length src.now }
+    ensures { (k : ℕ) → k < 8 → slice_index result k ≡ unit_at false src.now k }
+{
+    u16x8::from_le_bytes(u8x16::from_slice(src))
+}
+
+/// The first eight units where the first byte of each is the high one.
+#[inline(always)]
+fn big_units(src: &[u8]) -> u16x8
+    requires { 16 ≤ length src.now }
+    ensures { (k : ℕ) → k < 8 → slice_index result k ≡ unit_at true src.now k }
+{
+    let swapped = u8x16::from_slice(src).swizzle([
+        1, 0, 3, 2, 5, 4, 7, 6, 9, 8, 11, 10, 13, 12, 15, 14,
+    ]);
+    u16x8::from_le_bytes(swapped)
+}
+
+/// The first sixteen units where the second byte of each is the high one.
+#[inline(always)]
+fn sixteen_little_units(src: &[u8]) -> u16x16
+    requires { 32 ≤ length src.now }
+    ensures { (k : ℕ) → k < 16 → slice_index result k ≡ unit_at false src.now k }
+{
+    u16x16::from_le_bytes(u8x32::from_slice(src))
+}
+
+/// The first sixteen units where the first byte of each is the high one.
+#[inline(always)]
+fn sixteen_big_units(src: &[u8]) -> u16x16
+    requires { 32 ≤ length src.now }
+    ensures { (k : ℕ) → k < 16 → slice_index result k ≡ unit_at true src.now k }
+{
+    let swapped = u8x32::from_slice(src).swizzle([
+        1, 0, 3, 2, 5, 4, 7, 6, 9, 8, 11, 10, 13, 12, 15, 14, 17, 16, 19, 18, 21, 20, 23, 22, 25,
+        24, 27, 26, 29, 28, 31, 30,
+    ]);
+    u16x16::from_le_bytes(swapped)
+}
+
+/// Whether any of eight units is a surrogate.
+#[inline(always)]
+fn has_surrogate(units: &[u16; 8]) -> bool
+    ensures { result ≡ false → (k : ℕ) → k < 8 → IsScalar (slice_index units.now k) }
+{
+    let mut found = false;
+    let mut at = 0;
+    while at < 8 {
+        found = found || (units[at] >= 0xD800 && units[at] <= 0xDFFF);
+        at += 1;
+    }
+    found
+}
+
+/// Writes a unit that is a scalar.
+#[inline(always)]
+fn put_unit<T: Destination>(dst: &mut T, unit: u16)
+    requires scalar { IsScalar unit }
+    requires room { 3 ≤ T.room dst.old }
+    ensures contents { T.contents dst.new ≡ T.contents dst.old ++ code_units T.form unit }
+    ensures room { T.room dst.new + unit_count T.form unit ≡ T.room dst.old }
+    ensures loan { T.loan dst.new ≡ T.loan dst.old }
+{
+    dst.put(unsafe { char::from_u32_unchecked(u32::from(unit)) });
+}
+
 impl Units {
+    /// The first sixteen units.
+    #[inline(always)]
+    fn sixteen_units(&self, src: &[u8]) -> u16x16
+        requires { 32 ≤ length src.now }
+        ensures { (k : ℕ) → k < 16 → slice_index result k ≡ unit_at self.now.big_endian src.now k }
+    {
+        if self.big_endian {
+            sixteen_big_units(src)
+        } else {
+            sixteen_little_units(src)
+        }
+    }
+
     /// The first sixteen units as bytes: those below 100 as they are, and FF for the others.
+    // Of units in a vector the compiler makes two operations of this.
     #[inline(always)]
     fn narrow_block(&self, src: &[u8]) -> [u8; 16]
         requires { 32 ≤ length src.now }
         ensures count { length result ≡ 16 }
         ensures narrow { HasAsciiUnits self.now.big_endian src.now result 16 }
     {
+        let units = self.sixteen_units(src).to_array();
         let mut block = [0u8; 16];
         let mut at = 0;
         while at < 16 {
-            let first = src[2 * at];
-            let second = src[2 * at + 1];
-            let (high, low) = if self.big_endian {
-                (first, second)
-            } else {
-                (second, first)
-            };
-            block[at] = if high == 0 { low } else { 0xFF };
+            block[at] = units[at].min(0xFF) as u8;
             at += 1;
         }
         block
     }
 
-    /// Reads units of ASCII from the front by blocks of sixteen, up to the first that is none. Answers
-    /// how many bytes were read: none is an answer too.
+    /// The first eight units.
     #[inline(always)]
-    fn read_ascii<T: Destination>(&self, src: &[u8], dst: &mut T) -> usize
-        ensures ahead { ReadsAhead T.form (state_of (utf16 self.now.big_endian) []) src.now result (T.contents dst.old) (T.contents dst.new) (T.room dst.old) (T.room dst.new) }
-        ensures loan { T.loan dst.new ≡ T.loan dst.old }
+    fn units(&self, src: &[u8]) -> u16x8
+        requires { 16 ≤ length src.now }
+        ensures { (k : ℕ) → k < 8 → slice_index result k ≡ unit_at self.now.big_endian src.now k }
     {
-        let mut at = 0;
-        while src.len() - at >= 32 && dst.free() >= 19 {
-            let block = self.narrow_block(&src[at..]);
-            let count = dst.copy_ascii(&block);
-            at += 2 * count;
-            if count < 16 {
-                return at;
-            }
+        if self.big_endian {
+            big_units(src)
+        } else {
+            little_units(src)
         }
-        at
     }
 
     /// Whether none of so many units from the front is a surrogate.
@@ -103,31 +177,6 @@ impl Units {
             dst.put(unsafe { char::from_u32_unchecked(code) });
             at += 1;
         }
-    }
-
-    /// Reads units by blocks of so many, up to the first block with a surrogate, or up to a block whose
-    /// last two units are ASCII, with it. Answers how many bytes were read: none is an answer too.
-    #[inline(always)]
-    fn read_blocks<T: Destination>(&self, src: &[u8], dst: &mut T, count: usize) -> usize
-        requires some { 2 ≤ count }
-        requires few { count ≤ 16 }
-        ensures ahead { ReadsAhead T.form (state_of (utf16 self.now.big_endian) []) src.now result (T.contents dst.old) (T.contents dst.new) (T.room dst.old) (T.room dst.new) }
-        ensures loan { T.loan dst.new ≡ T.loan dst.old }
-    {
-        let mut at = 0;
-        while src.len() - at >= 2 * count && dst.free() >= 3 * count + 3 {
-            if !self.has_no_surrogate(&src[at..], count) {
-                return at;
-            }
-            self.put_units(&src[at..], dst, count);
-            at += 2 * count;
-            let before = unit(self.big_endian, src[at - 4], src[at - 3]);
-            let last = unit(self.big_endian, src[at - 2], src[at - 1]);
-            if (before | last) < 0x80 {
-                return at;
-            }
-        }
-        at
     }
 
     /// Reads so many units from the front, or fewer up to a surrogate. Answers how many bytes were read:
@@ -169,23 +218,117 @@ impl Units {
         src.len() >= 2 && unit(self.big_endian, src[0], src[1]) < 0x80
     }
 
-    /// Reads units of ASCII from the front by blocks, and then the unit behind them. Answers how many bytes
-    /// were read: none is an answer too.
+    /// Reads the first unit, unless it is a surrogate. Answers how many bytes were read: none is an answer
+    /// too.
     #[inline(always)]
-    fn read_ascii_and_next<T: Destination>(&self, src: &[u8], dst: &mut T) -> usize
+    fn read_unit<T: Destination>(&self, src: &[u8], dst: &mut T) -> usize
         ensures ahead { ReadsAhead T.form (state_of (utf16 self.now.big_endian) []) src.now result (T.contents dst.old) (T.contents dst.new) (T.room dst.old) (T.room dst.new) }
         ensures loan { T.loan dst.new ≡ T.loan dst.old }
     {
-        let at = self.read_ascii(src, dst);
-        if at == 0 {
-            return at;
+        if src.len() < 2 || dst.free() < 6 {
+            return 0;
         }
-        at + self.read_some(&src[at..], dst, 1)
+        match self.scalar(src[0], src[1]) {
+            Some(scalar) => {
+                dst.put(scalar);
+                2
+            }
+            None => 0,
+        }
     }
 
-    /// Reads units from the front by the blocks that suit the encoding form: long ones where each scalar
-    /// is one code unit. Otherwise blocks of ASCII with the unit that ends them, and unless ASCII goes on
-    /// behind it blocks of eight. Answers how many bytes were read: none is an answer too.
+    /// Reads up to eight units from the front: none where one of them is a surrogate, and otherwise those
+    /// before two of ASCII in a row. Answers how many bytes were read.
+    // A put for each length of a scalar: each then knows its length, and three bytes are tested first.
+    #[inline(always)]
+    fn read_eight<T: Destination>(&self, src: &[u8], dst: &mut T) -> usize
+        requires source { 16 ≤ length src.now }
+        requires room { 27 ≤ T.room dst.old }
+        ensures read { result ≤ 16 }
+        ensures writes { Writes T.form (utf16 self.now.big_endian) (take result src.now) (T.contents dst.old) (T.contents dst.new) }
+        ensures room { T.room dst.new + length (T.contents dst.new) ≡ T.room dst.old + length (T.contents dst.old) }
+        ensures slack { 3 ≤ T.room dst.new }
+        ensures loan { T.loan dst.new ≡ T.loan dst.old }
+    {
+        let units = self.units(src).to_array();
+        if has_surrogate(&units) {
+            return 0;
+        }
+        let mut at = 0;
+        while at < 8 {
+            let unit = units[at];
+            if unit >= 0x800 {
+                put_unit(dst, unit);
+            } else if unit >= 0x80 {
+                put_unit(dst, unit);
+            } else if at < 7 && units[at + 1] < 0x80 {
+                return 2 * at;
+            } else {
+                put_unit(dst, unit);
+            }
+            at += 1;
+        }
+        16
+    }
+
+    /// Reads units past ASCII from the front, and single ones of ASCII between them, by blocks of eight. Stops
+    /// at two units of ASCII in a row, and at a block with a surrogate. Answers how many bytes were read: none
+    /// is an answer too.
+    #[inline(always)]
+    fn read_past_ascii<T: Destination>(&self, src: &[u8], dst: &mut T) -> usize
+        ensures ahead { ReadsAhead T.form (state_of (utf16 self.now.big_endian) []) src.now result (T.contents dst.old) (T.contents dst.new) (T.room dst.old) (T.room dst.new) }
+        ensures loan { T.loan dst.new ≡ T.loan dst.old }
+    {
+        let mut at = 0;
+        while src.len() - at >= 16 && dst.free() >= 27 {
+            let read = self.read_eight(&src[at..], dst);
+            at += read;
+            if read < 16 {
+                return at;
+            }
+        }
+        at
+    }
+
+    /// Reads the first unit, and unless ASCII goes on behind it what `read_past_ascii` does. Answers how many
+    /// bytes were read: none is an answer too.
+    #[inline(always)]
+    fn read_unit_and_next<T: Destination>(&self, src: &[u8], dst: &mut T) -> usize
+        ensures ahead { ReadsAhead T.form (state_of (utf16 self.now.big_endian) []) src.now result (T.contents dst.old) (T.contents dst.new) (T.room dst.old) (T.room dst.new) }
+        ensures loan { T.loan dst.new ≡ T.loan dst.old }
+    {
+        let at = self.read_unit(src, dst);
+        if at == 0 || self.begins_with_ascii(&src[at..]) {
+            return at;
+        }
+        at + self.read_past_ascii(&src[at..], dst)
+    }
+
+    /// Reads units of ASCII by blocks of sixteen, and behind each front of a block that is shorter what
+    /// `read_unit_and_next` does. Answers how many bytes were read: none is an answer too.
+    #[inline(always)]
+    fn read_mixed<T: Destination>(&self, src: &[u8], dst: &mut T) -> usize
+        ensures ahead { ReadsAhead T.form (state_of (utf16 self.now.big_endian) []) src.now result (T.contents dst.old) (T.contents dst.new) (T.room dst.old) (T.room dst.new) }
+        ensures loan { T.loan dst.new ≡ T.loan dst.old }
+    {
+        let mut at = 0;
+        while src.len() - at >= 32 && dst.free() >= 19 {
+            let block = self.narrow_block(&src[at..]);
+            let count = dst.copy_ascii(&block);
+            at += 2 * count;
+            if count < 16 {
+                let read = self.read_unit_and_next(&src[at..], dst);
+                if read == 0 {
+                    return at;
+                }
+                at += read;
+            }
+        }
+        at
+    }
+
+    /// Reads units from the front as suits the encoding form: by long blocks where each scalar is one code
+    /// unit, and otherwise by what each block has. Answers how many bytes were read: none is an answer too.
     #[inline(always)]
     fn read_part<T: Destination>(&self, src: &[u8], dst: &mut T) -> usize
         ensures ahead { ReadsAhead T.form (state_of (utf16 self.now.big_endian) []) src.now result (T.contents dst.old) (T.contents dst.new) (T.room dst.old) (T.room dst.new) }
@@ -194,11 +337,7 @@ impl Units {
         if T::narrow() == 1 {
             return self.read_long_blocks(src, dst);
         }
-        let at = self.read_ascii_and_next(src, dst);
-        if at > 0 && self.begins_with_ascii(&src[at..]) {
-            return at;
-        }
-        at + self.read_blocks(&src[at..], dst, 8)
+        self.read_mixed(src, dst)
     }
 
     /// Reads units that are no surrogates from the front, by blocks and where there is none one by one.
