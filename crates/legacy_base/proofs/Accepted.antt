@@ -1,12 +1,12 @@
 -- What is known of indexes and single-byte tables that passed their check.
-use Rattle.std.proofs.Common.{◌≡◌, ◌∙◌, ℕ, zero, suc, ◌+◌, ◌-◌, ◌≤◌, ◌<◌, List, [], ◌∷◌, length, get_or, refl, sym, ap, arith, Some, None, Option, true, false, Bool, ◌&&◌, ◌||◌, not, cond, eq-eqb, nat_le, subst, inl, inr, eqb, ◌==◌, IfSome}
+use Rattle.std.proofs.Common.{◌≡◌, ◌∙◌, ℕ, zero, suc, ◌+◌, ◌-◌, ◌≤◌, ◌<◌, List, [], ◌∷◌, length, get_or, refl, sym, arith, Some, None, Option, true, false, Bool, ◌&&◌, ◌||◌, not, cond, eq-eqb, nat_le, subst, inl, inr, eqb, ◌==◌, IfSome}
 use Rattle.std.proofs.lemmas.Bool.{ne_eqb, cases_lt, true≢false}
 use Rattle.std.proofs.lemmas.Bool.Decides.{nat_tests}
 use Rattle.std.proofs.lemmas.List.{get_or_past}
 use Rattle.std.proofs.lemmas.List.Elements.{All-get_or, All-from_get_or}
 use Rattle.std.specs.List.{All}
 use Rattle.std.specs.Char.{IsScalar}
-use Rattle.std.specs.Option.{option_or, SomeIff}
+use Rattle.std.specs.Option.{option_or}
 use Rattle.std.specs.Int.{is_in_range}
 use Rattle.std.specs.List.Sorted.{IsNonDecreasingBy}
 use borrow.Author.Tests.{ltb-false, ltb-true, leb-true, leb-false, le-leb, lt-leb}

@@ -3,7 +3,7 @@ use Rattle.std.proofs.Common.{ℕ, suc, ◌+◌, ◌≤◌, ◌<◌, List, [], �
 use Rattle.std.specs.Option.{option_map_or}
 use Rattle.std.specs.Int.{is_in_range}
 use Rattle.std.specs.Char.{is_ascii, is_ascii_digit}
-use Rattle.legacy_base.specs.Fronts.{Front, reads, malformed, front_length, reads_or, trail_rule}
+use Rattle.legacy_base.specs.Fronts.{Front, reads, malformed, reads_or, trail_rule}
 use Rattle.legacy_base.specs.Laws.{IsFrontOf}
 use Rattle.legacy_base.specs.SingleByte.{single_byte_front}
 use Rattle.legacy_base.specs.UserDefined.{user_defined_front}

@@ -1,6 +1,5 @@
 -- Laws of whole lists.
 use Rattle.std.proofs.Common.{◌≡◌, ◌∙◌, ℕ, List, [], ◌∷◌, ◌++◌, length, drop, refl, sym, ap, append-nil, true, false}
-use Rattle.legacy_base.specs.declared.results.DecodeEvent.{DecodeEvent}
 use Rattle.legacy_base.specs.Events.{shift}
 use Rattle.legacy_base.specs.Fronts.{Front, front_length, front_events, cut}
 use Rattle.legacy_base.specs.Iso2022Jp.{parts_of, part_mode, escape_length, escape_events, part_events, parts_events, iso_2022_jp_events}

@@ -1,12 +1,10 @@
 -- The runs of UTF-16.
-use Rattle.std.proofs.Common.{rules, ◌≡◌, ◌∙◌, ℕ, zero, suc, ◌+◌, ◌*◌, ◌<◌, ◌≤◌, ◌^◌, List, [], ◌∷◌, ◌++◌, Bool, true, false, Option, Some, None, length, take, get_or, sym, ap, subst, arith, append-nil, append_assoc, refl, inl, inr, ◌⊎◌}
-use Rattle.std.proofs.Math.ListN.{set}
+use Rattle.std.proofs.Common.{rules, ◌≡◌, ◌∙◌, ℕ, zero, suc, ◌+◌, ◌*◌, ◌<◌, ◌≤◌, ◌^◌, List, [], ◌∷◌, ◌++◌, Bool, true, false, Option, Some, None, length, take, get_or, sym, ap, subst, arith, append-nil, append_assoc, refl}
 use Rattle.std.specs.Prelude.{IfSome, IsAscii}
 use Rattle.std.specs.Option.{SomeIff}
 use Rattle.std.specs.Char.{IsScalar}
-use Rattle.std.proofs.lemmas.Bool.{cases_lt}
 use Rattle.std.proofs.lemmas.Bool.Decides.{nat_tests}
-use Rattle.std.proofs.lemmas.List.{take_more, length-take-le, get_or-take, get_or-set_same, get_or-set_other}
+use Rattle.std.proofs.lemmas.List.{take_more, length-take-le, get_or-take}
 use Rattle.std.proofs.lemmas.List.Elements.{All-get_or}
 use Rattle.std.proofs.lemmas.Str.Ascii.{All-from_ascii}
 use Rattle.std.specs.Char.Utf16.{is_high_surrogate, is_low_surrogate}
@@ -16,7 +14,7 @@ use Rattle.legacy_base.specs.Grammar.{utf16}
 use Rattle.legacy_base.specs.Utf16.{unit_of}
 use Rattle.legacy_decoders.specs.Ahead.{Runs, IsPair, Writes, ReadsAhead}
 use Rattle.legacy_decoders.specs.Costs.{state_of}
-use Rattle.legacy_decoders.specs.Utf16Decoder.{HasAsciiUnits, AreScalarUnits, unit_at}
+use Rattle.legacy_decoders.specs.Utf16Decoder.{HasAsciiUnits, unit_at}
 use Rattle.legacy_decoders.proofs.RunForms.{pair_runs}
 use Rattle.legacy_decoders.proofs.Writing.{writes_none, writes_two, room_step, code_units_ascii}
 
@@ -94,42 +92,7 @@ reads_block form be source block old new r before after within long narrow count
       had = λ h. omega arith;
     }
 
--- one more unit of a block
-pub narrow_more : (be : Bool) (source block : List ℕ) (at x : ℕ) → at < length block → HasAsciiUnits be source block at → (x < 0x80 → unit_at be source at ≡ x)
-    → HasAsciiUnits be source (set block at x) (at + 1)
-narrow_more be source block at x here narrow e k h small = elim (cases_lt k at) [
-  | inl l ↦
-      let same : get_or (set block at x) k 0 ≡ get_or block k 0 = get_or-set_other block at k x 0 (λ s. absurd (omega arith)) in
-      narrow k l (subst (λ u. u < 0x80) same small) ∙ sym same
-  | inr g ↦
-      let place : k ≡ at = omega arith in
-      let same : get_or (set block at x) k 0 ≡ x = ap (λ n. get_or (set block at x) n 0) place ∙ get_or-set_same block at x 0 here in
-      ap (unit_at be source) place ∙ e (subst (λ u. u < 0x80) same small) ∙ sym same
-]
-
 -- ---- blocks without surrogates
-
-low_scalar : (u : ℕ) → u < 0xD800 → IsScalar u
-low_scalar u h = grind (arith, nat_tests)
-
-high_scalar : (u : ℕ) → 0xE000 ≤ u → u < 0x1_0000 → IsScalar u
-high_scalar u h k = grind (arith, nat_tests)
-
-outside : (u : ℕ) → (u < 0xD800) ⊎ (0xE000 ≤ u) → u < 0x1_0000 → IsScalar u
-outside u (inl l) below = low_scalar u l
-outside u (inr g) below = high_scalar u g below
-
--- a unit whose high byte is none of a surrogate's
-pub scalar_unit : (be : Bool) (a b : ℕ) → IsByte a → IsByte b → (be ≡ true → (a < 0xD8) ⊎ (0xDF < a)) → (be ≡ false → (b < 0xD8) ⊎ (0xDF < b)) → IsScalar (unit_of be a b)
-scalar_unit true a b byte byte' h k = elim (h refl) [ inl l ↦ low_scalar (a * 0x100 + b) (omega arith) | inr g ↦ high_scalar (a * 0x100 + b) (omega arith) (omega arith) ]
-scalar_unit false a b byte byte' h k = elim (k refl) [ inl l ↦ low_scalar (b * 0x100 + a) (omega arith) | inr g ↦ high_scalar (b * 0x100 + a) (omega arith) (omega arith) ]
-
--- one more unit that is a scalar
-pub scalars_more : (be : Bool) (bytes : List ℕ) (at : ℕ) → AreScalarUnits be bytes at → IsScalar (unit_at be bytes at) → AreScalarUnits be bytes (at + 1)
-scalars_more be bytes at before next k h = elim (cases_lt k at) [
-  | inl l ↦ before k l
-  | inr g ↦ let same : at ≡ k = omega arith in subst (λ n. IsScalar (unit_at be bytes n)) same next
-]
 
 -- one more unit is written
 pub writes_unit : (form : EncodingForm) (be : Bool) (source old mid new : List ℕ) (at c : ℕ) → ((k : ℕ) → IsByte (get_or source k 0)) → 2 * at + 1 < length source → Writes form (utf16 be) (take (2 * at) source) old mid → IsScalar (unit_at be source at)

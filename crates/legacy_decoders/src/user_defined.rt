@@ -57,13 +57,12 @@ fn read_byte(byte: u8) -> Fed
 }
 
 /// The scalar of any byte.
-// Of an addition and a product the compiler makes vectors, and no branch.
+// Bit 7 is carried into all higher bits, and bit 11 cleared: the compiler makes vectors of it, and no branch.
 #[inline(always)]
 fn scalar_of(byte: u8) -> char
     ensures { IsSingle user_defined byte result }
 {
-    let past_ascii = u16::from(byte) / 0x80;
-    let unit = u16::from(byte) + past_ascii * 0xF700;
+    let unit = (u16::from(byte) ^ 0x80).wrapping_sub(0x80) & 0xF7FF;
     unsafe { char::from_u32_unchecked(u32::from(unit)) }
 }
 

@@ -8,6 +8,7 @@ ghost use Rattle.legacy_decoders.specs.Decoders.{new_state};
 mod held;
 mod runs;
 mod units;
+mod vectors;
 
 use crate::drive::drive;
 use crate::machine::{Act, Fed, Machine, Room};

@@ -5,12 +5,12 @@ ghost use Rattle.legacy_base.specs.EncodingForm.{code_units, unit_count};
 ghost use Rattle.legacy_base.specs.Grammar.{utf16};
 ghost use Rattle.legacy_decoders.specs.Ahead.{Writes, ReadsAhead};
 ghost use Rattle.legacy_decoders.specs.Costs.{state_of};
-ghost use Rattle.legacy_decoders.specs.Utf16Decoder.{HasAsciiUnits, AreScalarUnits, unit_at};
+ghost use Rattle.legacy_decoders.specs.Utf16Decoder.{HasAsciiUnits, AreScalarUnits};
 
 use super::units::unit;
+use super::vectors::{eight_units, sixteen_units};
 use crate::pairs::{Pairs, read_pairs};
 use legacy_base::Destination;
-use std::simd::prelude::*;
 
 /// The units of a byte order.
 #[derive(Drop)]
@@ -27,49 +27,6 @@ impl Pairs for Units {
     fn scalar(&self, first: u8, second: u8) -> Option<char> {
         char::from_u32(u32::from(unit(self.big_endian, first, second)))
     }
-}
-
-/// The first eight units where the second byte of each is the high one.
-#[inline(always)]
-fn little_units(src: &[u8]) -> u16x8
-    requires { 16 ≤ length src.now }
-    ensures { (k : ℕ) → k < 8 → slice_index result k ≡ unit_at false src.now k }
-{
-    u16x8::from_le_bytes(u8x16::from_slice(src))
-}
-
-/// The first eight units where the first byte of each is the high one.
-#[inline(always)]
-fn big_units(src: &[u8]) -> u16x8
-    requires { 16 ≤ length src.now }
-    ensures { (k : ℕ) → k < 8 → slice_index result k ≡ unit_at true src.now k }
-{
-    let swapped = u8x16::from_slice(src).swizzle([
-        1, 0, 3, 2, 5, 4, 7, 6, 9, 8, 11, 10, 13, 12, 15, 14,
-    ]);
-    u16x8::from_le_bytes(swapped)
-}
-
-/// The first sixteen units where the second byte of each is the high one.
-#[inline(always)]
-fn sixteen_little_units(src: &[u8]) -> u16x16
-    requires { 32 ≤ length src.now }
-    ensures { (k : ℕ) → k < 16 → slice_index result k ≡ unit_at false src.now k }
-{
-    u16x16::from_le_bytes(u8x32::from_slice(src))
-}
-
-/// The first sixteen units where the first byte of each is the high one.
-#[inline(always)]
-fn sixteen_big_units(src: &[u8]) -> u16x16
-    requires { 32 ≤ length src.now }
-    ensures { (k : ℕ) → k < 16 → slice_index result k ≡ unit_at true src.now k }
-{
-    let swapped = u8x32::from_slice(src).swizzle([
-        1, 0, 3, 2, 5, 4, 7, 6, 9, 8, 11, 10, 13, 12, 15, 14, 17, 16, 19, 18, 21, 20, 23, 22, 25,
-        24, 27, 26, 29, 28, 31, 30,
-    ]);
-    u16x16::from_le_bytes(swapped)
 }
 
 /// Whether any of eight units is a surrogate.
@@ -99,19 +56,6 @@ fn put_unit<T: Destination>(dst: &mut T, unit: u16)
 }
 
 impl Units {
-    /// The first sixteen units.
-    #[inline(always)]
-    fn sixteen_units(&self, src: &[u8]) -> u16x16
-        requires { 32 ≤ length src.now }
-        ensures { (k : ℕ) → k < 16 → slice_index result k ≡ unit_at self.now.big_endian src.now k }
-    {
-        if self.big_endian {
-            sixteen_big_units(src)
-        } else {
-            sixteen_little_units(src)
-        }
-    }
-
     /// The first sixteen units as bytes: those below 100 as they are, and FF for the others.
     // Of units in a vector the compiler makes two operations of this.
     #[inline(always)]
@@ -120,7 +64,7 @@ impl Units {
         ensures count { length result ≡ 16 }
         ensures narrow { HasAsciiUnits self.now.big_endian src.now result 16 }
     {
-        let units = self.sixteen_units(src).to_array();
+        let units = sixteen_units(self.big_endian, src).to_array();
         let mut block = [0u8; 16];
         let mut at = 0;
         while at < 16 {
@@ -128,19 +72,6 @@ impl Units {
             at += 1;
         }
         block
-    }
-
-    /// The first eight units.
-    #[inline(always)]
-    fn units(&self, src: &[u8]) -> u16x8
-        requires { 16 ≤ length src.now }
-        ensures { (k : ℕ) → k < 8 → slice_index result k ≡ unit_at self.now.big_endian src.now k }
-    {
-        if self.big_endian {
-            big_units(src)
-        } else {
-            little_units(src)
-        }
     }
 
     /// Whether none of so many units from the front is a surrogate.
@@ -250,7 +181,7 @@ impl Units {
         ensures slack { 3 ≤ T.room dst.new }
         ensures loan { T.loan dst.new ≡ T.loan dst.old }
     {
-        let units = self.units(src).to_array();
+        let units = eight_units(self.big_endian, src).to_array();
         if has_surrogate(&units) {
             return 0;
         }

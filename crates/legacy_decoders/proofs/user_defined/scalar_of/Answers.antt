@@ -1,11 +1,10 @@
-use Rattle.std.proofs.Common.{◌<◌, ◌^◌, arith}
-use Rattle.legacy_decoders.proofs.UserDefinedRuns.{byte_runs}
+use Rattle.std.proofs.Common.{◌∙◌, arith, subst, sym}
+use Rattle.std.specs.Char.{IsScalar}
+use Rattle.legacy_decoders.proofs.UserDefinedRuns.{bits_scalar, bits_run}
 use Rattle.legacy_decoders.proofs.user_defined.scalar_of.Goals as goal
 
+pub from_u32_unchecked-requires : goal.from_u32_unchecked-requires
+from_u32_unchecked-requires c = subst IsScalar (sym (rw c.from.ensures at c.from-2.ensures)) (bits_scalar c.args.byte (omega arith))
+
 pub returns : goal.returns
-returns c =
-    let byte : c.args.byte < 2 ^ 8 = omega arith in
-    let e = c.from_u32_unchecked.ensures in
-    let a = c.from.ensures in
-    let b = c.from-past_ascii.ensures in
-    byte_runs c.args.byte c.from_u32_unchecked.result byte (λ h. omega arith) (λ h. omega arith) c.from_u32_unchecked.type_inv.1.1
+returns c = bits_run c.args.byte c.from_u32_unchecked.result (omega arith) (c.from_u32_unchecked.ensures ∙ rw c.from.ensures at c.from-2.ensures)

@@ -1,4 +1,4 @@
-use Rattle.std.proofs.Common.{◌≡◌, ◌≤◌, ◌+◌, List, ℕ, length, arith, map, ap, subst, sym}
+use Rattle.std.proofs.Common.{arith, subst, sym}
 use Rattle.std.proofs.lemmas.List.{map-id}
 use Rattle.legacy_base.proofs.Ascii.{stored, StoresFront}
 use Rattle.legacy_base.proofs.destination.Utf16Destination.put_block.Goals as goal

@@ -1,4 +1,4 @@
-use Rattle.std.proofs.Common.{◌≡◌, ℕ, ◌+◌, ◌-◌, ◌<◌, ◌≤◌, ◌++◌, length, take, IsAscii}
+use Rattle.std.proofs.Common.{◌≡◌, ◌+◌, ◌-◌, ◌≤◌, ◌++◌, length, take, IsAscii}
 use Rattle.legacy_base.specs.Destinations.{utf16_written, utf16_free, utf16_loan}
 use Rattle.legacy_base.proofs.destination.Utf16DestinationDestination.copy_ascii.Given as goal
 

@@ -1,4 +1,4 @@
-use Rattle.std.proofs.Common.{◌≡◌, ◌∙◌, ℕ, List, ◌+◌, ◌++◌, take, arith, IsAscii}
+use Rattle.std.proofs.Common.{◌∙◌, arith}
 use Rattle.legacy_base.proofs.Ascii.{ascii_next, written_next}
 use Rattle.legacy_base.proofs.destination.Utf8DestinationDestination.copy_ascii.Goals as goal
 

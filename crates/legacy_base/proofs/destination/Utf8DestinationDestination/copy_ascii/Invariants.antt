@@ -1,4 +1,4 @@
-use Rattle.std.proofs.Common.{◌≡◌, ℕ, ◌+◌, ◌-◌, ◌<◌, ◌≤◌, ◌++◌, length, take, IsAscii}
+use Rattle.std.proofs.Common.{◌≡◌, ◌+◌, ◌-◌, ◌≤◌, ◌++◌, length, take, IsAscii}
 use Rattle.legacy_base.specs.Destinations.{utf8_written, utf8_free, utf8_loan}
 use Rattle.legacy_base.proofs.destination.Utf8DestinationDestination.copy_ascii.Given as goal
 

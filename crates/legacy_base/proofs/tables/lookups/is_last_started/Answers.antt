@@ -1,4 +1,4 @@
-use Rattle.std.proofs.Common.{ℕ, ◌+◌, ◌≤◌, ◌<◌, None, get_or, rules, arith}
+use Rattle.std.proofs.Common.{◌+◌, ◌≤◌, ◌<◌, None, get_or, rules, arith}
 use Rattle.legacy_base.proofs.Accepted.{rising}
 use Rattle.legacy_base.proofs.tables.lookups.is_last_started.Goals as goal
 

@@ -1,4 +1,4 @@
-use Rattle.std.proofs.Common.{◌<◌, [], ◌∷◌, sym, subst, arith}
+use Rattle.std.proofs.Common.{[], ◌∷◌, sym, subst, arith}
 use Rattle.legacy_decoders.specs.Ahead.{Runs}
 use Rattle.legacy_decoders.proofs.ahead.CommonForms.form.Goals as goal
 

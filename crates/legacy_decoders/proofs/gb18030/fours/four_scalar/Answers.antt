@@ -1,4 +1,4 @@
-use Rattle.std.proofs.Common.{◌≡◌, ◌∙◌, ◌+◌, ◌*◌, arith, ap}
+use Rattle.std.proofs.Common.{◌+◌, ◌*◌, arith}
 use Rattle.legacy_decoders.proofs.Gb18030Held.{four_if}
 use Rattle.legacy_decoders.proofs.gb18030.fours.four_scalar.Goals as goal
 

@@ -1,4 +1,4 @@
-use Rattle.std.proofs.Common.{◌≡◌, ◌∙◌, ◌+◌, ◌<◌, ◌≤◌, [], ◌∷◌, get_or, refl, sym, subst, arith}
+use Rattle.std.proofs.Common.{◌∙◌, ◌<◌, [], ◌∷◌, get_or, refl, sym, subst, arith}
 use Rattle.legacy_decoders.specs.Ahead.{Runs}
 use Rattle.legacy_decoders.specs.Gb18030Decoder.{gb18030_state}
 use Rattle.legacy_decoders.proofs.Writing.{writes_none, writes_one, writes_four, four_fit, short, room_step}

@@ -1,5 +1,4 @@
-use Rattle.std.proofs.Common.{◌≡◌, ◌<◌, ◌∙◌, ℕ, length, get_or, take, true, sym, arith, get_or-take, IsAscii, List, ◌≤◌}
-use Rattle.std.proofs.lemmas.Bool.Decides.{nat_tests}
+use Rattle.std.proofs.Common.{◌≡◌, ◌∙◌, get_or, true, sym, arith}
 use Rattle.legacy_base.specs.Latin1.{is_latin1_byte}
 use Rattle.legacy_decoders.specs.SingleByteDecoder.{single_byte_entries}
 use Rattle.legacy_decoders.proofs.Latin1Fronts.{latin1_front-length, latin1-ascii}

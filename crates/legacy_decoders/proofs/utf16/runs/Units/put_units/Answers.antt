@@ -1,7 +1,5 @@
-use Rattle.std.proofs.Common.{◌≡◌, ◌<◌, ◌∙◌, ◌^◌, refl, arith, All, subst}
-use Rattle.std.specs.Char.{IsScalar}
+use Rattle.std.proofs.Common.{◌≡◌, ◌<◌, ◌∙◌, refl, arith}
 use Rattle.legacy_base.specs.Grammar.{utf16}
-use Rattle.legacy_base.specs.Unicode.{IsByte}
 use Rattle.legacy_decoders.specs.Utf16Decoder.{unit_at}
 use Rattle.legacy_decoders.proofs.Utf16Runs.{writes_unit}
 use Rattle.legacy_decoders.proofs.Writing.{writes_none, three_fit, short, room_step}

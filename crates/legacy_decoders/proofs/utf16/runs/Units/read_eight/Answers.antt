@@ -22,10 +22,10 @@ loop-at-preserved g c =
     let at = c.loop-at.at in
     let i = c.loop-at.invariant in
     let here : at < 8 = c.loop-at-test.true in
-    let scalar : IsScalar (get_or c.units.result at 0) = c.has_surrogate.ensures c.if-has_surrogate.false at here in
-    let is : get_or c.units.result at 0 ≡ unit_at be src at = c.units.ensures at here in
-    let below : get_or c.units.result at 0 < 65536 = omega (arith, c.loop-at-test.element_fits.fits) in
-    let s = short F (get_or c.units.result at 0) below in
+    let scalar : IsScalar (get_or c.eight_units.result at 0) = c.has_surrogate.ensures c.if-has_surrogate.false at here in
+    let is : get_or c.eight_units.result at 0 ≡ unit_at be src at = c.eight_units.ensures at here in
+    let below : get_or c.eight_units.result at 0 < 65536 = omega (arith, c.loop-at-test.element_fits.fits) in
+    let s = short F (get_or c.eight_units.result at 0) below in
     let bytes : (k : ℕ) → IsByte (get_or src k 0) = λ k. let f = c.type_inv.src k in omega arith in
     let within : 2 * at + 1 < length src = omega (arith, here, c.requires.source) in
     elim c.if-unit-ge2048.branch [
@@ -34,7 +34,7 @@ loop-at-preserved g c =
           rw w.dst-is (
             omega (arith, here),
             omega (arith, i.1, s, e.room),
-            writes_unit F be src _ _ _ at (get_or c.units.result at 0) bytes within i.2 (subst IsScalar is scalar) is e.contents,
+            writes_unit F be src _ _ _ at (get_or c.eight_units.result at 0) bytes within i.2 (subst IsScalar is scalar) is e.contents,
             room_step _ _ _ _ _ e.contents e.room ∙ i.3,
             e.loan ∙ i.4,
           )
@@ -43,7 +43,7 @@ loop-at-preserved g c =
           rw w.dst-is (
             omega (arith, here),
             omega (arith, i.1, s, e.room),
-            writes_unit F be src _ _ _ at (get_or c.units.result at 0) bytes within i.2 (subst IsScalar is scalar) is e.contents,
+            writes_unit F be src _ _ _ at (get_or c.eight_units.result at 0) bytes within i.2 (subst IsScalar is scalar) is e.contents,
             room_step _ _ _ _ _ e.contents e.room ∙ i.3,
             e.loan ∙ i.4,
           )
@@ -52,7 +52,7 @@ loop-at-preserved g c =
           rw w.dst-is (
             omega (arith, here),
             omega (arith, i.1, s, e.room),
-            writes_unit F be src _ _ _ at (get_or c.units.result at 0) bytes within i.2 (subst IsScalar is scalar) is e.contents,
+            writes_unit F be src _ _ _ at (get_or c.eight_units.result at 0) bytes within i.2 (subst IsScalar is scalar) is e.contents,
             room_step _ _ _ _ _ e.contents e.room ∙ i.3,
             e.loan ∙ i.4,
           )

@@ -1,4 +1,4 @@
-use Rattle.std.proofs.Common.{◌≡◌, ◌≤◌, ◌∙◌, ℕ, ◌+◌, ◌-◌, ◌*◌, List, [], length, take, drop, refl, arith}
+use Rattle.std.proofs.Common.{◌≤◌, ◌∙◌, ℕ, ◌-◌, ◌*◌, List, [], length, take, drop, refl, arith}
 use Rattle.std.proofs.lemmas.List.{length-take, length-drop}
 use Rattle.legacy_base.specs.Grammar.{utf16}
 use Rattle.legacy_decoders.specs.Costs.{state_of}
