@@ -85,16 +85,16 @@ module _ (index : List ℕ) (short : length index ≤ 65535) where
   at_none : (p : ℕ) → 65535 ≤ p → option_to_list (idx index p) ≡ []
   at_none p h = ap option_to_list (idx_past index p (omega arith))
 
-  -- by whether the byte is a lead, and in which of two ranges the other is, with what they are in each of them
-  pair_entry : (l a b : Bool) (row low high : ℕ) →
-      option_to_list (idx index (cond l row 65535 + cond a low (cond b high 65535)))
-      ≡ cond l (cond a (option_to_list (idx index (row + low))) (cond b (option_to_list (idx index (row + high))) [])) []
-  pair_entry true true b row low high = refl
-  pair_entry true false true row low high = refl
-  pair_entry true false false row low high = at_none (row + 65535) (omega arith)
-  pair_entry false true b row low high = at_none (65535 + low) (omega arith)
-  pair_entry false false true row low high = at_none (65535 + high) (omega arith)
-  pair_entry false false false row low high = at_none (65535 + 65535) (omega arith)
+  -- by whether the byte is a lead, and in which of two ranges the other is, with the places that they then have
+  pair_entry : (l a b : Bool) (base low high : ℕ) →
+      option_to_list (idx index (cond l base 65535 + cond a low (cond b high 65535)))
+      ≡ cond l (cond a (option_to_list (idx index (base + low))) (cond b (option_to_list (idx index (base + high))) [])) []
+  pair_entry true true b base low high = refl
+  pair_entry true false true base low high = refl
+  pair_entry true false false base low high = at_none (base + 65535) (omega arith)
+  pair_entry false true b base low high = at_none (65535 + low) (omega arith)
+  pair_entry false false true base low high = at_none (65535 + high) (omega arith)
+  pair_entry false false false base low high = at_none (65535 + 65535) (omega arith)
 
   pub gb18030_entry : (lead trail : ℕ) → option_to_list (idx index (lead_place lead + gb18030_trail_place trail)) ≡ cond (is_lead lead) (gb18030_scalars index lead trail) []
   unfolding lead_place gb18030_trail_place
@@ -112,15 +112,15 @@ module _ (index : List ℕ) (short : length index ≤ 65535) where
       past_private : (p : ℕ) → 65535 ≤ p → is_in_range 8836 10715 p ≡ false
       past_private p h = grind (arith, nat_tests)
 
-  shift_jis_pair : (l a b : Bool) (row low high : ℕ) →
-      shift_jis_scalars index (cond l row 65535 + cond a low (cond b high 65535))
-      ≡ cond l (option_map_or (shift_jis_scalars index) (cond a (Some (row + low)) (cond b (Some (row + high)) None)) []) []
-  shift_jis_pair true true b row low high = refl
-  shift_jis_pair true false true row low high = refl
-  shift_jis_pair true false false row low high = scalars_none (row + 65535) (omega arith)
-  shift_jis_pair false true b row low high = scalars_none (65535 + low) (omega arith)
-  shift_jis_pair false false true row low high = scalars_none (65535 + high) (omega arith)
-  shift_jis_pair false false false row low high = scalars_none (65535 + 65535) (omega arith)
+  shift_jis_pair : (l a b : Bool) (base low high : ℕ) →
+      shift_jis_scalars index (cond l base 65535 + cond a low (cond b high 65535))
+      ≡ cond l (option_map_or (shift_jis_scalars index) (cond a (Some (base + low)) (cond b (Some (base + high)) None)) []) []
+  shift_jis_pair true true b base low high = refl
+  shift_jis_pair true false true base low high = refl
+  shift_jis_pair true false false base low high = scalars_none (base + 65535) (omega arith)
+  shift_jis_pair false true b base low high = scalars_none (65535 + low) (omega arith)
+  shift_jis_pair false false true base low high = scalars_none (65535 + high) (omega arith)
+  shift_jis_pair false false false base low high = scalars_none (65535 + 65535) (omega arith)
 
   pub shift_jis_entry : (lead trail : ℕ) → shift_jis_scalars index (shift_jis_lead_place lead + shift_jis_trail_place trail) ≡ cond (is_shift_jis_lead lead) (shift_jis_pair_scalars index lead trail) []
   unfolding shift_jis_lead_place shift_jis_trail_place
