@@ -54,3 +54,4 @@ pub mod Iso2022JpEnding
 pub mod Iso2022JpStates
 pub mod PairPlaces
 pub mod Utf16Vectors
+pub mod FourPlaces

@@ -19,7 +19,7 @@ use Rattle.legacy_decoders.specs.declared.places.TheConstants.{LEADS, EUC_KR_TRA
 -- ---- the tables
 
 -- a table of all bytes, as it was written out
-read : (table : List ℕ) (place : ℕ → ℕ) → table ≡ map place (range_with_len 0 256) → (b : ℕ) → b < 256 → get_or table b 0 ≡ place b
+pub read : (table : List ℕ) (place : ℕ → ℕ) → table ≡ map place (range_with_len 0 256) → (b : ℕ) → b < 256 → get_or table b 0 ≡ place b
 read table place is b h = ap (λ t. get_or t b 0) is ∙ get_or-map-range_with_len place 0 256 b b 0 h (omega arith)
 
 leads_are : LEADS ≡ map lead_place (range_with_len 0 256)

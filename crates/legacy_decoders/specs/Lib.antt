@@ -26,3 +26,4 @@ pub mod Iso2022JpMoves
 pub mod Iso2022JpRuns
 pub mod Iso2022JpDecoder
 pub mod PairPlaces
+pub mod FourPlaces

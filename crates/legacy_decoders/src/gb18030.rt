@@ -12,6 +12,7 @@ ghost use Rattle.legacy_decoders.specs.Feeding.{Took};
 ghost use Rattle.legacy_decoders.specs.Decoders.{new_state};
 ghost use Rattle.legacy_decoders.specs.Gb18030Held.{held_bytes, is_resting};
 
+mod four_places;
 mod fours;
 
 use crate::ahead::{CommonForms, Front};

@@ -6,6 +6,7 @@ ghost use Rattle.legacy_decoders.specs.Ahead.{Runs, IsIdle, Writes, ReadsAhead};
 ghost use Rattle.legacy_decoders.specs.Gb18030Decoder.{gb18030_state};
 
 use super::Gb18030Decoder;
+use super::four_places::four_pointer;
 use crate::ahead::ahead;
 use legacy_base::{Destination, Tables};
 
@@ -14,17 +15,7 @@ use legacy_base::{Destination, Tables};
 fn four_scalar(tables: &Tables, first: u8, second: u8, third: u8, fourth: u8) -> Option<char>
     ensures { IfSome result (λ c. Runs (gb18030 tables.now.flat.gb18030 tables.now.flat.ranges) (first ∷ second ∷ third ∷ fourth ∷ []) (c ∷ [])) }
 {
-    if first < 0x81 || first > 0xFE || third < 0x81 || third > 0xFE {
-        return None;
-    }
-    if second < 0x30 || second > 0x39 || fourth < 0x30 || fourth > 0x39 {
-        return None;
-    }
-    let pointer = 12600 * usize::from(first - 0x81)
-        + 1260 * usize::from(second - 0x30)
-        + 10 * usize::from(third - 0x81)
-        + usize::from(fourth - 0x30);
-    tables.range(pointer)
+    tables.range(four_pointer(first, second, third, fourth))
 }
 
 /// Reads at most so many forms of four bytes and ASCII bytes, which surely fit, and stops at two ASCII bytes

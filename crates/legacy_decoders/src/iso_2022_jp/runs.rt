@@ -33,13 +33,42 @@ fn is_plain(byte: u8) -> bool
     byte < 0x80 && byte != 0x0E && byte != 0x0F && byte != 0x1B
 }
 
+/// Whether the first sixteen bytes are all such.
+// No byte ends the loop early, so the compiler tests them at once.
+#[inline(always)]
+fn are_plain(src: &[u8]) -> bool
+    requires { 16 ≤ length src.now }
+    ensures { result ≡ true → All IsPlain (take 16 src.now) }
+{
+    let mut hold = true;
+    let mut at = 0;
+    while at < 16 {
+        hold = hold && is_plain(src[at]);
+        at += 1;
+    }
+    hold
+}
+
+/// How many bytes at the front are in blocks of sixteen such bytes.
+#[inline]
+fn plain_blocks(src: &[u8]) -> usize
+    ensures within { result ≤ length src.now }
+    ensures plain { All IsPlain (take result src.now) }
+{
+    let mut at = 0;
+    while src.len() - at >= 16 && are_plain(&src[at..]) {
+        at += 16;
+    }
+    at
+}
+
 /// How many such bytes are at the front.
 #[inline]
 fn plain_count(src: &[u8]) -> usize
     ensures within { result ≤ length src.now }
     ensures plain { All IsPlain (take result src.now) }
 {
-    let mut at = 0;
+    let mut at = plain_blocks(src);
     while at < src.len() && is_plain(src[at]) {
         at += 1;
     }
