@@ -1,12 +1,12 @@
 -- The tables of places of four bytes hold the places, and what the ranges have at their sum.
-use Rattle.std.proofs.Common.{◌≡◌, ◌∙◌, ℕ, ◌+◌, ◌-◌, ◌*◌, ◌≤◌, ◌<◌, List, [], ◌∷◌, map, get_or, Bool, true, false, cond, Option, Some, None, ◌==◌, nat_le, refl, sym, ap, arith}
+use Rattle.std.proofs.Common.{◌≡◌, ℕ, ◌+◌, ◌-◌, ◌*◌, ◌≤◌, ◌<◌, List, [], ◌∷◌, map, get_or, Bool, true, false, cond, Option, None, ◌==◌, nat_le, refl, arith}
 use Rattle.std.proofs.lemmas.Bool.Decides.{nat_tests}
 use Rattle.std.specs.List.{range_with_len}
 use Rattle.std.specs.Prelude.{IfSome}
 use Rattle.std.specs.Int.{is_in_range}
 use Rattle.std.specs.Char.{is_ascii_digit}
 use Rattle.legacy_base.specs.AcceptedTables.{AcceptedIndexes}
-use Rattle.legacy_base.specs.Gb18030.{is_gb18030_lead, gb18030_range_pointer}
+use Rattle.legacy_base.specs.Gb18030.{is_gb18030_lead}
 use Rattle.legacy_base.specs.Grammar.{gb18030}
 use Rattle.legacy_base.specs.Indexes.{range}
 use Rattle.legacy_decoders.specs.Ahead.{Runs}
