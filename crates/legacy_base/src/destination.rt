@@ -134,6 +134,7 @@ impl<'a> Utf8Destination<'a> {
     }
 
     /// Stores a block behind what was written, and keeps its ASCII front: answers that front's length.
+    // Inlined always, as `ascii_count` is.
     #[inline(always)]
     fn put_block(&mut self, block: u8x16) -> usize
         requires { 16 ≤ utf8_free self.old }
@@ -255,6 +256,7 @@ impl<'a> Utf16Destination<'a> {
     }
 
     /// Stores a block behind what was written, and keeps its ASCII front: answers that front's length.
+    // Inlined always, as `ascii_count` is.
     #[inline(always)]
     fn put_block(&mut self, block: u8x16) -> usize
         requires { 16 ≤ utf16_free self.old }

@@ -1,5 +1,7 @@
 //! The loop for runs: ASCII by blocks, and common forms without a test of room at each. It stands in
 //! front of the machine, which does all the rest: malformed sequences, held-back bytes, small outputs.
+// Inlined always is what runs for each form or block: a call would pass vectors through memory, and put the
+// destination's place there from form to form.
 ghost use Rattle.std.specs.Prelude.{◌≡◌, ℕ, ◌+◌, ◌-◌, ◌*◌, ◌<◌, ◌≤◌, [], true, length, take};
 ghost use Rattle.legacy_base.specs.States.{DecoderState};
 ghost use Rattle.legacy_decoders.specs.Ahead.{IsIdle, FrontIs, Writes, ReadsAhead};

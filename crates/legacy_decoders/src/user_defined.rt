@@ -1,4 +1,6 @@
 //! The decoder of x-user-defined.
+// Inlined always is what runs for each form or block: a call would pass vectors through memory, and put the
+// destination's place there from form to form.
 ghost use Rattle.std.specs.Prelude.{◌≡◌, ◌≤◌, ◌+◌, ◌-◌, []};
 ghost use Rattle.legacy_base.specs.EncodingForm.{bmp_room};
 ghost use Rattle.legacy_base.specs.Grammar.{user_defined};

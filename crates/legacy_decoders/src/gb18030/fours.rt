@@ -1,5 +1,7 @@
 //! The runs of GB18030: forms of four bytes, with ASCII bytes between them, beside the runs that all codecs
 //! with leads have.
+// Inlined always is what runs for each form or block: a call would pass vectors through memory, and put the
+// destination's place there from form to form.
 ghost use Rattle.std.specs.Prelude.{◌≡◌, ◌+◌, ◌*◌, ◌≤◌, [], ◌∷◌, length, take, IfSome};
 ghost use Rattle.legacy_base.specs.Grammar.{gb18030};
 ghost use Rattle.legacy_decoders.specs.Ahead.{Runs, IsIdle, Writes, ReadsAhead};

@@ -1,4 +1,6 @@
 //! The runs of ISO-2022-JP: plain ASCII in ASCII mode, and pairs of index jis0208 in two-byte mode.
+// Inlined always is what runs for each form or block: a call would pass vectors through memory, and put the
+// destination's place there from form to form.
 ghost use Rattle.std.specs.Prelude.{◌≡◌, ℕ, ◌+◌, ◌<◌, ◌≤◌, List, All, length, take, true};
 ghost use Rattle.legacy_decoders.specs.Iso2022JpRuns.{IsPlain, plain_state};
 ghost use Rattle.legacy_decoders.specs.Ahead.{ReadsAhead};

@@ -1,5 +1,7 @@
 //! The scalars of all bytes by a single-byte table, ASCII too: one load for any byte, and no branch on what
 //! kind of byte it is. In text with letters past ASCII such a branch follows no pattern.
+// Inlined always is what runs for each form or block: a call would pass vectors through memory, and put the
+// destination's place there from form to form.
 ghost use Rattle.std.specs.Prelude.{◌≡◌, ◌<◌, ℕ, length, IfSome};
 ghost use Rattle.legacy_base.specs.Grammar.{single_byte};
 ghost use Rattle.legacy_decoders.specs.Ahead.{IsSingle};

@@ -1,4 +1,6 @@
 //! The runs of UTF-16: blocks of ASCII, and blocks and single units that are no surrogates.
+// Inlined always is what runs for each form or block: a call would pass vectors through memory, and put the
+// destination's place there from form to form.
 ghost use Rattle.std.specs.Prelude.{◌≡◌, ◌+◌, ◌*◌, ◌<◌, ◌≤◌, ℕ, [], length, take, true, false, slice_index, ◌++◌};
 ghost use Rattle.std.specs.Char.{IsScalar};
 ghost use Rattle.legacy_base.specs.EncodingForm.{code_units, unit_count};

@@ -1,4 +1,6 @@
 //! Units by vectors of bytes: a loop that reads them byte by byte would gather them one by one.
+// Inlined always is what runs for each form or block: a call would pass vectors through memory, and put the
+// destination's place there from form to form.
 ghost use Rattle.std.specs.Prelude.{◌≡◌, ◌<◌, ◌≤◌, ℕ, length, true, false, slice_index};
 ghost use Rattle.legacy_decoders.specs.Utf16Decoder.{unit_at};
 
