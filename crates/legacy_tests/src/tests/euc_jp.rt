@@ -1,31 +1,122 @@
-use crate::tests::calls::bad;
-use crate::tests::fixtures::{find, no_entries};
-use legacy_base::{DecodeEvent, DecoderResult, Indexes, RawDecoder, Tables};
+use crate::tests::rows::Row::{
+    BareLength, Case, Neutral, Split, Utf8, Utf8Length, Utf16, Utf16Length,
+};
+use crate::tests::rows::follow;
+use legacy_base::DecodeEvent::{Bad, Scalar};
+use legacy_base::DecoderResult::{InputEmpty, Malformed, OutputFull};
+use legacy_base::{Indexes, TableError, Tables};
 use legacy_decoders::EucJpDecoder;
 use std::test::Fail;
 
+/// Tables with these entries of index jis0208 and index jis0212, and no others.
+fn tables_of<'a>(jis0208: &'a [u16], jis0212: &'a [u16]) -> Result<Tables<'a>, TableError> {
+    Tables::new(&Indexes {
+        big5: &[],
+        euc_kr: &[],
+        jis0208,
+        jis0212,
+        gb18030: &[],
+        katakana: &[],
+        ranges: &[],
+    })
+}
+
 #[test]
-fn an_ascii_byte_behind_8f_and_a_lead_is_read_again(rt: HostRuntime) -> Result<(), Fail> {
-    let tables = Tables::new(&no_entries())?;
-    let mut decoder = EucJpDecoder::new(&tables);
-    let mut bytes = [0u8; 8];
-    let answer = decoder.decode_to_utf8_raw(b"\x8F\xA2\x41", &mut bytes, true);
-    assert_eq!(rt; answer, (DecoderResult::Malformed(2, 0), 2, 0));
-    assert!(rt; decoder.in_neutral_state());
-    let answer = decoder.decode_to_utf8_raw(b"\x41", &mut bytes, true);
-    assert_eq!(rt; answer, (DecoderResult::InputEmpty, 1, 1));
-    assert_eq!(rt; bytes[0], 0x41);
+fn forms_without_an_index(rt: HostRuntime) -> Result<(), Fail> {
+    let tables = tables_of(&[], &[])?;
+    let rows = [
+        Case("an ASCII byte behind 8F and a lead is read again"),
+        Utf8(b"\x8F\xA2\x41", 8, true, Malformed(2, 0), 2, ""),
+        Neutral(true),
+        Utf8(b"\x41", 8, true, InputEmpty, 1, "A"),
+        Case("a form of three bytes that is cut off is malformed as a whole"),
+        Utf8(b"\x8F\xA2", 3, true, Malformed(2, 0), 2, ""),
+        Case("a form of two bytes that is cut off is malformed as a whole"),
+        Utf8(b"\x8E", 3, true, Malformed(1, 0), 1, ""),
+        Case("lengths count a form that began as one byte"),
+        Utf16Length(usize::MAX, Some(usize::MAX)),
+        Utf8Length(usize::MAX / 3, Some(usize::MAX)),
+        BareLength(0, Some(2)),
+        BareLength(3, Some(7)),
+        BareLength(usize::MAX, None),
+        Utf8(b"\x8F\xA2", 4, false, InputEmpty, 2, ""),
+        Neutral(false),
+        Utf16Length(0, Some(1)),
+        BareLength(0, Some(4)),
+        Utf8Length(0, Some(3)),
+        Utf16Length(usize::MAX, None),
+        Case("malformed forms are found byte by byte"),
+        Split(
+            b"\x8E\xA1\x8E\xE0\x8F\x41\x8F\x80",
+            &[
+                Scalar('\u{FF61}'),
+                Bad {
+                    place: 2,
+                    length: 2,
+                },
+                Bad {
+                    place: 4,
+                    length: 1,
+                },
+                Scalar('A'),
+                Bad {
+                    place: 6,
+                    length: 2,
+                },
+            ],
+        ),
+        Split(
+            b"\x8F\xA2\x41\x8F",
+            &[
+                Bad {
+                    place: 0,
+                    length: 2,
+                },
+                Scalar('A'),
+                Bad {
+                    place: 3,
+                    length: 1,
+                },
+            ],
+        ),
+        Split(
+            b"\x80\xA1\x7F\x8E\x30",
+            &[
+                Bad {
+                    place: 0,
+                    length: 1,
+                },
+                Bad {
+                    place: 1,
+                    length: 1,
+                },
+                Scalar('\u{7F}'),
+                Bad {
+                    place: 3,
+                    length: 1,
+                },
+                Scalar('0'),
+            ],
+        ),
+    ];
+    follow::<EucJpDecoder>(&rt, rt.alloc(), &tables, &rows);
     Ok(())
 }
 
 #[test]
-fn a_form_that_is_cut_off_is_malformed_as_a_whole(rt: HostRuntime) -> Result<(), Fail> {
-    let tables = Tables::new(&no_entries())?;
-    let mut bytes = [0u8; 3];
-    let answer = EucJpDecoder::new(&tables).decode_to_utf8_raw(b"\x8F\xA2", &mut bytes, true);
-    assert_eq!(rt; answer, (DecoderResult::Malformed(2, 0), 2, 0));
-    let answer = EucJpDecoder::new(&tables).decode_to_utf8_raw(b"\x8E", &mut bytes, true);
-    assert_eq!(rt; answer, (DecoderResult::Malformed(1, 0), 1, 0));
+fn a_byte_past_ascii_needs_three_bytes_or_one_unit(rt: HostRuntime) -> Result<(), Fail> {
+    let tables = tables_of(&[], &[])?;
+    let rows = [
+        Utf8(b"\x61\x8E", 3, false, OutputFull, 1, "a"),
+        Utf16(b"\x8E", 0, false, OutputFull, 0, &[]),
+        Utf16(b"\x8E", 1, false, InputEmpty, 1, &[]),
+        Utf8(b"\xA1", 2, true, OutputFull, 0, ""),
+        Utf8(b"\xA1", 3, true, InputEmpty, 1, "\u{FF61}"),
+        Utf8(b"\xA1", 3, false, InputEmpty, 1, ""),
+        Utf8(b"", 2, true, OutputFull, 0, ""),
+        Utf8(b"", 3, true, Malformed(1, 0), 0, ""),
+    ];
+    follow::<EucJpDecoder>(&rt, rt.alloc(), &tables, &rows);
     Ok(())
 }
 
@@ -36,125 +127,21 @@ fn pairs_go_by_jis0208_and_behind_8f_by_jis0212(rt: HostRuntime) -> Result<(), F
     jis0208[60] = 0xFF0D;
     let mut jis0212 = [0u16; 109];
     jis0212[108] = 0x02D8;
-    let indexes = Indexes {
-        big5: &[],
-        euc_kr: &[],
-        jis0208: &jis0208,
-        jis0212: &jis0212,
-        gb18030: &[],
-        katakana: &[],
-        ranges: &[],
-    };
-    let tables = Tables::new(&indexes)?;
-    let mut units = [0u16; 8];
-    let answer = EucJpDecoder::new(&tables).decode_to_utf16_raw(
-        b"\xA1\xA1\xA1\xDD\x8F\xA2\xAF\x8E\xDF",
-        &mut units,
-        true,
-    );
-    assert_eq!(rt; answer, (DecoderResult::InputEmpty, 9, 4));
-    assert!(rt; units[..4] == [0x3000, 0xFF0D, 0x02D8, 0xFF9F]);
-    let answer = EucJpDecoder::new(&tables).decode_to_utf16_raw(b"\xA2\xAF", &mut units, true);
-    assert_eq!(rt; answer, (DecoderResult::Malformed(2, 0), 2, 0));
-    let answer = EucJpDecoder::new(&tables).decode_to_utf16_raw(b"\x8F\xA1\xA1", &mut units, true);
-    assert_eq!(rt; answer, (DecoderResult::Malformed(3, 0), 3, 0));
-    Ok(())
-}
-
-#[test]
-fn malformed_forms_are_found_byte_by_byte(rt: HostRuntime) -> Result<(), Fail> {
-    let tables = Tables::new(&no_entries())?;
-    let cases: [(&[u8], &[DecodeEvent]); 3] = [
-        (
-            b"\x8E\xA1\x8E\xE0\x8F\x41\x8F\x80",
-            &[
-                DecodeEvent::Scalar('\u{FF61}'),
-                bad(2, 2),
-                bad(4, 1),
-                DecodeEvent::Scalar('A'),
-                bad(6, 2),
-            ],
+    let tables = tables_of(&jis0208, &jis0212)?;
+    let rows = [
+        Utf16(
+            b"\xA1\xA1\xA1\xDD\x8F\xA2\xAF\x8E\xDF",
+            8,
+            true,
+            InputEmpty,
+            9,
+            &[0x3000, 0xFF0D, 0x02D8, 0xFF9F],
         ),
-        (
-            b"\x8F\xA2\x41\x8F",
-            &[bad(0, 2), DecodeEvent::Scalar('A'), bad(3, 1)],
-        ),
-        (
-            b"\x80\xA1\x7F\x8E\x30",
-            &[
-                bad(0, 1),
-                bad(1, 1),
-                DecodeEvent::Scalar('\u{7F}'),
-                bad(3, 1),
-                DecodeEvent::Scalar('0'),
-            ],
-        ),
+        Case("a pointer that index jis0208 lacks"),
+        Utf16(b"\xA2\xAF", 8, true, Malformed(2, 0), 2, &[]),
+        Case("a pointer that index jis0212 lacks"),
+        Utf16(b"\x8F\xA1\xA1", 8, true, Malformed(3, 0), 3, &[]),
     ];
-    for (bytes, events) in cases {
-        let mut narrow = EucJpDecoder::new(&tables);
-        let mut wide = EucJpDecoder::new(&tables);
-        let found = find(rt.alloc(), &mut narrow, &mut wide, bytes, events)?;
-        assert!(rt; found, "bytes {bytes:?}");
-    }
-    Ok(())
-}
-
-#[test]
-fn lengths_count_a_form_that_began_as_one_byte(rt: HostRuntime) -> Result<(), Fail> {
-    let tables = Tables::new(&no_entries())?;
-    let mut decoder = EucJpDecoder::new(&tables);
-    assert_eq!(rt;
-        decoder.max_utf16_buffer_length(usize::MAX),
-        Some(usize::MAX)
-    );
-    assert_eq!(rt;
-        decoder.max_utf8_buffer_length(usize::MAX / 3),
-        Some(usize::MAX)
-    );
-    assert_eq!(rt;
-        decoder.max_utf8_buffer_length_without_replacement(0),
-        Some(2)
-    );
-    assert_eq!(rt;
-        decoder.max_utf8_buffer_length_without_replacement(3),
-        Some(7)
-    );
-    assert_eq!(rt;
-        decoder.max_utf8_buffer_length_without_replacement(usize::MAX),
-        None
-    );
-    let answer = decoder.decode_to_utf8_raw(b"\x8F\xA2", &mut [0u8; 4], false);
-    assert_eq!(rt; answer, (DecoderResult::InputEmpty, 2, 0));
-    assert!(rt; !decoder.in_neutral_state());
-    assert_eq!(rt; decoder.max_utf16_buffer_length(0), Some(1));
-    assert_eq!(rt;
-        decoder.max_utf8_buffer_length_without_replacement(0),
-        Some(4)
-    );
-    assert_eq!(rt; decoder.max_utf8_buffer_length(0), Some(3));
-    assert_eq!(rt; decoder.max_utf16_buffer_length(usize::MAX), None);
-    Ok(())
-}
-
-#[test]
-fn a_byte_past_ascii_needs_three_bytes_or_one_unit(rt: HostRuntime) -> Result<(), Fail> {
-    let tables = Tables::new(&no_entries())?;
-    let mut decoder = EucJpDecoder::new(&tables);
-    let answer = decoder.decode_to_utf8_raw(b"\x61\x8E", &mut [0u8; 3], false);
-    assert_eq!(rt; answer, (DecoderResult::OutputFull, 1, 1));
-    let answer = decoder.decode_to_utf16_raw(b"\x8E", &mut [0u16; 0], false);
-    assert_eq!(rt; answer, (DecoderResult::OutputFull, 0, 0));
-    let answer = decoder.decode_to_utf16_raw(b"\x8E", &mut [0u16; 1], false);
-    assert_eq!(rt; answer, (DecoderResult::InputEmpty, 1, 0));
-    let answer = decoder.decode_to_utf8_raw(b"\xA1", &mut [0u8; 2], true);
-    assert_eq!(rt; answer, (DecoderResult::OutputFull, 0, 0));
-    let answer = decoder.decode_to_utf8_raw(b"\xA1", &mut [0u8; 3], true);
-    assert_eq!(rt; answer, (DecoderResult::InputEmpty, 1, 3));
-    let answer = decoder.decode_to_utf8_raw(b"\xA1", &mut [0u8; 3], false);
-    assert_eq!(rt; answer, (DecoderResult::InputEmpty, 1, 0));
-    let answer = decoder.decode_to_utf8_raw(b"", &mut [0u8; 2], true);
-    assert_eq!(rt; answer, (DecoderResult::OutputFull, 0, 0));
-    let answer = decoder.decode_to_utf8_raw(b"", &mut [0u8; 3], true);
-    assert_eq!(rt; answer, (DecoderResult::Malformed(1, 0), 0, 0));
+    follow::<EucJpDecoder>(&rt, rt.alloc(), &tables, &rows);
     Ok(())
 }

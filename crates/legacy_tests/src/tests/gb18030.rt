@@ -1,119 +1,97 @@
-use crate::tests::calls::{bad, whole_events, whole_utf16_events};
-use crate::tests::fixtures::{find, no_entries};
-use legacy_base::{DecodeEvent, DecoderResult, RawDecoder, Tables};
+use crate::tests::rows::Row::{
+    BareLength, Case, Neutral, Split, Utf8, Utf8Length, Utf16, Utf16Length, Whole,
+};
+use crate::tests::rows::follow;
+use legacy_base::DecodeEvent::{Bad, Scalar};
+use legacy_base::DecoderResult::{InputEmpty, Malformed, OutputFull};
+use legacy_base::{Indexes, RawDecoder, TableError, Tables};
 use legacy_decoders::Gb18030Decoder;
 use std::test::Fail;
 
+/// Tables with these entries of index gb18030 and these ranges, and no others.
+fn tables_of<'a>(gb18030: &'a [u16], ranges: &'a [(u16, u16)]) -> Result<Tables<'a>, TableError> {
+    Tables::new(&Indexes {
+        big5: &[],
+        euc_kr: &[],
+        jis0208: &[],
+        jis0212: &[],
+        gb18030,
+        katakana: &[],
+        ranges,
+    })
+}
+
 #[test]
-fn a_bad_fourth_byte_gives_the_second_and_third_back(rt: HostRuntime) -> Result<(), Fail> {
-    let tables = Tables::new(&no_entries())?;
-    let mut decoder = Gb18030Decoder::new(&tables);
-    let mut bytes = [0u8; 8];
-    let answer = decoder.decode_to_utf8_raw(b"\xE3\x32\x9A\x00", &mut bytes, true);
-    assert_eq!(rt; answer, (DecoderResult::Malformed(1, 2), 3, 0));
-    assert!(rt; !decoder.in_neutral_state());
-    let answer = decoder.decode_to_utf8_raw(b"\x00", &mut bytes, true);
-    assert_eq!(rt; answer, (DecoderResult::Malformed(1, 0), 0, 1));
-    assert_eq!(rt; bytes[0], 0x32);
-    assert!(rt; decoder.in_neutral_state());
-    let answer = decoder.decode_to_utf8_raw(b"\x00", &mut bytes, true);
-    assert_eq!(rt; answer, (DecoderResult::InputEmpty, 1, 1));
-    assert_eq!(rt; bytes[0], 0);
+fn what_is_put_back_is_read_again(rt: HostRuntime) -> Result<(), Fail> {
+    let tables = tables_of(&[], &[])?;
+    let rows = [
+        Case("a bad fourth byte gives the second and third back"),
+        Utf8(b"\xE3\x32\x9A\x00", 8, true, Malformed(1, 2), 3, ""),
+        Neutral(false),
+        Utf8(b"\x00", 8, true, Malformed(1, 0), 0, "2"),
+        Neutral(true),
+        Utf8(b"\x00", 8, true, InputEmpty, 1, "\0"),
+        Case("the lead behind a digit begins a form"),
+        Utf8(b"\x81\x30\x82\x40", 8, true, Malformed(1, 2), 3, ""),
+        Utf8(b"\x40", 8, true, Malformed(1, 0), 0, "0"),
+        Utf8(b"\x40", 8, true, InputEmpty, 1, "@"),
+        Case("a digit that was put back is written first"),
+        Utf8(b"\x81\x30\x41", 8, true, Malformed(1, 1), 2, ""),
+        Neutral(false),
+        Utf8(b"\x41", 8, true, InputEmpty, 1, "0A"),
+        Neutral(true),
+        Case("a digit that was put back waits for its room"),
+        Utf8(b"\x81\x30\x41", 8, true, Malformed(1, 1), 2, ""),
+        Utf8(b"\x41", 3, true, OutputFull, 0, ""),
+        Neutral(false),
+        Case("a digit is written also where no byte comes"),
+        Utf16(b"\x81\x39\x41", 2, false, Malformed(1, 1), 2, &[]),
+        Utf16(b"", 1, false, OutputFull, 0, &[]),
+        Utf16(b"", 2, false, InputEmpty, 0, &[0x39]),
+        Neutral(true),
+    ];
+    follow::<Gb18030Decoder>(&rt, rt.alloc(), &tables, &rows);
     Ok(())
 }
 
 #[test]
-fn the_lead_behind_a_digit_begins_a_form(rt: HostRuntime) -> Result<(), Fail> {
-    let tables = Tables::new(&no_entries())?;
-    let mut decoder = Gb18030Decoder::new(&tables);
-    let mut bytes = [0u8; 8];
-    let answer = decoder.decode_to_utf8_raw(b"\x81\x30\x82\x40", &mut bytes, true);
-    assert_eq!(rt; answer, (DecoderResult::Malformed(1, 2), 3, 0));
-    let answer = decoder.decode_to_utf8_raw(b"\x40", &mut bytes, true);
-    assert_eq!(rt; answer, (DecoderResult::Malformed(1, 0), 0, 1));
-    assert_eq!(rt; bytes[0], 0x30);
-    let answer = decoder.decode_to_utf8_raw(b"\x40", &mut bytes, true);
-    assert_eq!(rt; answer, (DecoderResult::InputEmpty, 1, 1));
-    assert_eq!(rt; bytes[0], 0x40);
-    Ok(())
-}
-
-#[test]
-fn a_digit_that_was_put_back_is_written_first(rt: HostRuntime) -> Result<(), Fail> {
-    let tables = Tables::new(&no_entries())?;
-    let mut decoder = Gb18030Decoder::new(&tables);
-    let mut bytes = [0u8; 8];
-    let answer = decoder.decode_to_utf8_raw(b"\x81\x30\x41", &mut bytes, true);
-    assert_eq!(rt; answer, (DecoderResult::Malformed(1, 1), 2, 0));
-    assert!(rt; !decoder.in_neutral_state());
-    let answer = decoder.decode_to_utf8_raw(b"\x41", &mut bytes, true);
-    assert_eq!(rt; answer, (DecoderResult::InputEmpty, 1, 2));
-    assert!(rt; bytes[..2] == [0x30, 0x41]);
-    assert!(rt; decoder.in_neutral_state());
-    Ok(())
-}
-
-#[test]
-fn a_digit_that_was_put_back_waits_for_its_room(rt: HostRuntime) -> Result<(), Fail> {
-    let tables = Tables::new(&no_entries())?;
-    let mut decoder = Gb18030Decoder::new(&tables);
-    let mut bytes = [0u8; 8];
-    let answer = decoder.decode_to_utf8_raw(b"\x81\x30\x41", &mut bytes, true);
-    assert_eq!(rt; answer, (DecoderResult::Malformed(1, 1), 2, 0));
-    let answer = decoder.decode_to_utf8_raw(b"\x41", &mut bytes[..3], true);
-    assert_eq!(rt; answer, (DecoderResult::OutputFull, 0, 0));
-    assert!(rt; !decoder.in_neutral_state());
-    Ok(())
-}
-
-#[test]
-fn a_digit_is_written_also_where_no_byte_comes(rt: HostRuntime) -> Result<(), Fail> {
-    let tables = Tables::new(&no_entries())?;
-    let mut decoder = Gb18030Decoder::new(&tables);
-    let mut units = [0u16; 2];
-    let answer = decoder.decode_to_utf16_raw(b"\x81\x39\x41", &mut units, false);
-    assert_eq!(rt; answer, (DecoderResult::Malformed(1, 1), 2, 0));
-    let answer = decoder.decode_to_utf16_raw(b"", &mut units[..1], false);
-    assert_eq!(rt; answer, (DecoderResult::OutputFull, 0, 0));
-    let answer = decoder.decode_to_utf16_raw(b"", &mut units, false);
-    assert_eq!(rt; answer, (DecoderResult::InputEmpty, 0, 1));
-    assert_eq!(rt; units[0], 0x39);
-    assert!(rt; decoder.in_neutral_state());
-    Ok(())
-}
-
-#[test]
-fn four_bytes_go_up_to_the_last_scalar(rt: HostRuntime) -> Result<(), Fail> {
-    let tables = Tables::new(&no_entries())?;
-    let mut bytes = [0u8; 4];
-    let mut units = [0u16; 2];
-    let answer = Gb18030Decoder::new(&tables).decode_to_utf8_raw(
-        b"\xE3\x32\x9A\x35",
-        &mut bytes,
-        true,
-    );
-    assert_eq!(rt; answer, (DecoderResult::InputEmpty, 4, 4));
-    assert!(rt; bytes == [0xF4, 0x8F, 0xBF, 0xBF]);
-    let answer = Gb18030Decoder::new(&tables).decode_to_utf16_raw(
-        b"\xE3\x32\x9A\x35",
-        &mut units,
-        true,
-    );
-    assert_eq!(rt; answer, (DecoderResult::InputEmpty, 4, 2));
-    assert!(rt; units == [0xDBFF, 0xDFFF]);
-    let answer = Gb18030Decoder::new(&tables).decode_to_utf8_raw(
-        b"\xE3\x32\x9A\x36",
-        &mut bytes,
-        true,
-    );
-    assert_eq!(rt; answer, (DecoderResult::Malformed(4, 0), 4, 0));
-    let answer = Gb18030Decoder::new(&tables).decode_to_utf16_raw(
-        b"\x81\x35\xF4\x37",
-        &mut units,
-        true,
-    );
-    assert_eq!(rt; answer, (DecoderResult::InputEmpty, 4, 1));
-    assert_eq!(rt; units[0], 0xE7C7);
+fn lengths_rooms_and_the_last_scalar(rt: HostRuntime) -> Result<(), Fail> {
+    let tables = tables_of(&[], &[])?;
+    let rows = [
+        Case("four bytes go up to the last scalar"),
+        Utf8(b"\xE3\x32\x9A\x35", 4, true, InputEmpty, 4, "\u{10FFFF}"),
+        Case("four bytes go up to the last scalar, in UTF-16"),
+        Utf16(
+            b"\xE3\x32\x9A\x35",
+            2,
+            true,
+            InputEmpty,
+            4,
+            &[0xDBFF, 0xDFFF],
+        ),
+        Case("the pointer behind that of the last scalar has none"),
+        Utf8(b"\xE3\x32\x9A\x36", 4, true, Malformed(4, 0), 4, ""),
+        Case("pointer 7457 is U+E7C7 whatever the ranges"),
+        Utf16(b"\x81\x35\xF4\x37", 2, true, InputEmpty, 4, &[0xE7C7]),
+        Case("lengths count what is held back"),
+        Utf8Length(4, Some(13)),
+        Utf16Length(usize::MAX, None),
+        Utf16Length(usize::MAX - 1, Some(usize::MAX)),
+        Utf8Length(usize::MAX / 3, None),
+        Utf8Length(usize::MAX / 3 - 1, Some(usize::MAX - 2)),
+        Utf8(b"\xE3\x32\x9A", 4, false, InputEmpty, 3, ""),
+        Utf16Length(0, Some(4)),
+        BareLength(0, Some(10)),
+        Utf8Length(0, Some(10)),
+        Case("a byte past ASCII needs four bytes or two units"),
+        Utf8(b"\x61\x80", 4, true, OutputFull, 1, "a"),
+        Utf16(b"\x80", 1, true, OutputFull, 0, &[]),
+        Utf8(b"\x80", 4, true, InputEmpty, 1, "\u{20AC}"),
+        Utf8(b"\x81\x30\x81", 4, false, InputEmpty, 3, ""),
+        Utf8(b"", 3, true, OutputFull, 0, ""),
+        Utf8(b"", 4, true, Malformed(3, 0), 0, ""),
+    ];
+    follow::<Gb18030Decoder>(&rt, rt.alloc(), &tables, &rows);
     Ok(())
 }
 
@@ -125,157 +103,178 @@ fn pairs_are_looked_up_on_both_sides_of_7f(rt: HostRuntime) -> Result<(), Fail> 
     index[63] = 0x4E85;
     index[189] = 0x4F22;
     index[190] = 0x4F23;
-    let mut indexes = no_entries();
-    indexes.gb18030 = &index;
-    let tables = Tables::new(&indexes)?;
-    let mut units = [0u16; 8];
-    let answer = Gb18030Decoder::new(&tables).decode_to_utf16_raw(
+    let tables = tables_of(&index, &[])?;
+    let rows = [Utf16(
         b"\x81\x40\x81\x7E\x81\x80\x81\xFE\x82\x40\x80",
-        &mut units,
+        8,
         true,
-    );
-    assert_eq!(rt; answer, (DecoderResult::InputEmpty, 11, 6));
-    assert!(rt; units[..6] == [0x4E02, 0x4E79, 0x4E85, 0x4F22, 0x4F23, 0x20AC]);
+        InputEmpty,
+        11,
+        &[0x4E02, 0x4E79, 0x4E85, 0x4F22, 0x4F23, 0x20AC],
+    )];
+    follow::<Gb18030Decoder>(&rt, rt.alloc(), &tables, &rows);
     Ok(())
 }
 
 #[test]
 fn ranges_give_their_scalars(rt: HostRuntime) -> Result<(), Fail> {
-    let mut indexes = no_entries();
-    indexes.ranges = &[(0, 0x0080), (36, 0x00A5)];
-    let tables = Tables::new(&indexes)?;
-    let mut narrow = Gb18030Decoder::new(&tables);
-    let mut wide = Gb18030Decoder::new(&tables);
-    let bytes = b"\x81\x30\x81\x30\x94\x39\xDA\x33";
-    let events = [
-        DecodeEvent::Scalar('\u{80}'),
-        DecodeEvent::Scalar('\u{1F4A9}'),
-    ];
-    assert!(rt; find(rt.alloc(), &mut narrow, &mut wide, bytes, &events)?);
-    Ok(())
-}
-
-#[test]
-fn runs_of_four_bytes_give_the_events_of_single_bytes(rt: HostRuntime) -> Result<(), Fail> {
-    let mut indexes = no_entries();
-    indexes.ranges = &[(0, 0x0080), (36, 0x00A5)];
-    let tables = Tables::new(&indexes)?;
+    let tables = tables_of(&[], &[(0, 0x0080), (36, 0x00A5)])?;
     // pointers 0, 1 and 36, U+1F4A9, the last scalar, the pointer behind it, pointer 0, three bytes
-    let bytes =
+    let run =
         b"\x81\x30\x81\x30\x61\x81\x30\x81\x31\x81\x30\x84\x36\x94\x39\xDA\x33\x62\x63\xE3\x32\x9A\x35\xE3\x32\x9A\x36\x81\x30\x81\x30\x81\x30\x81";
     let events = [
-        DecodeEvent::Scalar('\u{80}'),
-        DecodeEvent::Scalar('a'),
-        DecodeEvent::Scalar('\u{81}'),
-        DecodeEvent::Scalar('\u{A5}'),
-        DecodeEvent::Scalar('\u{1F4A9}'),
-        DecodeEvent::Scalar('b'),
-        DecodeEvent::Scalar('c'),
-        DecodeEvent::Scalar('\u{10FFFF}'),
-        bad(23, 4),
-        DecodeEvent::Scalar('\u{80}'),
-        bad(31, 3),
+        Scalar('\u{80}'),
+        Scalar('a'),
+        Scalar('\u{81}'),
+        Scalar('\u{A5}'),
+        Scalar('\u{1F4A9}'),
+        Scalar('b'),
+        Scalar('c'),
+        Scalar('\u{10FFFF}'),
+        Bad {
+            place: 23,
+            length: 4,
+        },
+        Scalar('\u{80}'),
+        Bad {
+            place: 31,
+            length: 3,
+        },
     ];
-    let found = whole_events(rt.alloc(), &mut Gb18030Decoder::new(&tables), bytes)?;
-    assert!(rt; found.as_slice() == events.as_slice(), "at once");
-    let found = whole_utf16_events(rt.alloc(), &mut Gb18030Decoder::new(&tables), bytes)?;
-    assert!(rt; found.as_slice() == events.as_slice(), "at once, in UTF-16");
-    let mut narrow = Gb18030Decoder::new(&tables);
-    let mut wide = Gb18030Decoder::new(&tables);
-    assert!(rt;
-        find(rt.alloc(), &mut narrow, &mut wide, bytes, &events)?,
-        "in single bytes"
-    );
+    let two = [Scalar('\u{80}'), Scalar('\u{1F4A9}')];
+    let rows = [
+        Case("two scalars"),
+        Split(b"\x81\x30\x81\x30\x94\x39\xDA\x33", &two),
+        Case("a run gives the events of its single bytes"),
+        Whole(run, &events),
+        Split(run, &events),
+    ];
+    follow::<Gb18030Decoder>(&rt, rt.alloc(), &tables, &rows);
     Ok(())
 }
 
 #[test]
 fn malformed_forms_are_found_byte_by_byte(rt: HostRuntime) -> Result<(), Fail> {
-    let tables = Tables::new(&no_entries())?;
-    let cases: [(&[u8], &[DecodeEvent]); 8] = [
-        (
+    let tables = tables_of(&[], &[])?;
+    let rows = [
+        Split(
             b"\xE3\x32\x9A\x00",
             &[
-                bad(0, 1),
-                DecodeEvent::Scalar('2'),
-                bad(2, 1),
-                DecodeEvent::Scalar('\0'),
+                Bad {
+                    place: 0,
+                    length: 1,
+                },
+                Scalar('2'),
+                Bad {
+                    place: 2,
+                    length: 1,
+                },
+                Scalar('\0'),
             ],
         ),
-        (b"\xE3\xFF\x9A\x33", &[bad(0, 2), bad(2, 2)]),
-        (
+        Split(
+            b"\xE3\xFF\x9A\x33",
+            &[
+                Bad {
+                    place: 0,
+                    length: 2,
+                },
+                Bad {
+                    place: 2,
+                    length: 2,
+                },
+            ],
+        ),
+        Split(
             b"\xE3\xFF\x9A\x33\x00",
             &[
-                bad(0, 2),
-                bad(2, 1),
-                DecodeEvent::Scalar('3'),
-                DecodeEvent::Scalar('\0'),
+                Bad {
+                    place: 0,
+                    length: 2,
+                },
+                Bad {
+                    place: 2,
+                    length: 1,
+                },
+                Scalar('3'),
+                Scalar('\0'),
             ],
         ),
-        (
+        Split(
             b"\x81\x30\x82\x40",
             &[
-                bad(0, 1),
-                DecodeEvent::Scalar('0'),
-                bad(2, 1),
-                DecodeEvent::Scalar('@'),
+                Bad {
+                    place: 0,
+                    length: 1,
+                },
+                Scalar('0'),
+                Bad {
+                    place: 2,
+                    length: 1,
+                },
+                Scalar('@'),
             ],
         ),
-        (
+        Split(
             b"\xE3\x32\x9A\x00\x81\x30\x81",
             &[
-                bad(0, 1),
-                DecodeEvent::Scalar('2'),
-                bad(2, 1),
-                DecodeEvent::Scalar('\0'),
-                bad(4, 3),
+                Bad {
+                    place: 0,
+                    length: 1,
+                },
+                Scalar('2'),
+                Bad {
+                    place: 2,
+                    length: 1,
+                },
+                Scalar('\0'),
+                Bad {
+                    place: 4,
+                    length: 3,
+                },
             ],
         ),
-        (b"\xE3\x32\x9A\x36\x81\x30", &[bad(0, 4), bad(4, 2)]),
-        (
+        Split(
+            b"\xE3\x32\x9A\x36\x81\x30",
+            &[
+                Bad {
+                    place: 0,
+                    length: 4,
+                },
+                Bad {
+                    place: 4,
+                    length: 2,
+                },
+            ],
+        ),
+        Split(
             b"\xFF\x32\x9A\x33\x00",
             &[
-                bad(0, 1),
-                DecodeEvent::Scalar('2'),
-                bad(2, 1),
-                DecodeEvent::Scalar('3'),
-                DecodeEvent::Scalar('\0'),
+                Bad {
+                    place: 0,
+                    length: 1,
+                },
+                Scalar('2'),
+                Bad {
+                    place: 2,
+                    length: 1,
+                },
+                Scalar('3'),
+                Scalar('\0'),
             ],
         ),
-        (b"\x80\x81", &[DecodeEvent::Scalar('\u{20AC}'), bad(1, 1)]),
+        Split(
+            b"\x80\x81",
+            &[
+                Scalar('\u{20AC}'),
+                Bad {
+                    place: 1,
+                    length: 1,
+                },
+            ],
+        ),
     ];
-    for (bytes, events) in cases {
-        let mut narrow = Gb18030Decoder::new(&tables);
-        let mut wide = Gb18030Decoder::new(&tables);
-        let found = find(rt.alloc(), &mut narrow, &mut wide, bytes, events)?;
-        assert!(rt; found, "bytes {bytes:?}");
-    }
-    Ok(())
-}
-
-#[test]
-fn lengths_count_what_is_held_back(rt: HostRuntime) -> Result<(), Fail> {
-    let tables = Tables::new(&no_entries())?;
-    let mut decoder = Gb18030Decoder::new(&tables);
-    assert_eq!(rt; decoder.max_utf8_buffer_length(4), Some(13));
-    assert_eq!(rt; decoder.max_utf16_buffer_length(usize::MAX), None);
-    assert_eq!(rt;
-        decoder.max_utf16_buffer_length(usize::MAX - 1),
-        Some(usize::MAX)
-    );
-    assert_eq!(rt; decoder.max_utf8_buffer_length(usize::MAX / 3), None);
-    assert_eq!(rt;
-        decoder.max_utf8_buffer_length(usize::MAX / 3 - 1),
-        Some(usize::MAX - 2)
-    );
-    let answer = decoder.decode_to_utf8_raw(b"\xE3\x32\x9A", &mut [0u8; 4], false);
-    assert_eq!(rt; answer, (DecoderResult::InputEmpty, 3, 0));
-    assert_eq!(rt; decoder.max_utf16_buffer_length(0), Some(4));
-    assert_eq!(rt;
-        decoder.max_utf8_buffer_length_without_replacement(0),
-        Some(10)
-    );
-    assert_eq!(rt; decoder.max_utf8_buffer_length(0), Some(10));
+    follow::<Gb18030Decoder>(&rt, rt.alloc(), &tables, &rows);
     Ok(())
 }
 
@@ -301,10 +300,10 @@ fn replaced(
         at = at.saturating_add(read);
         filled = filled.saturating_add(written);
         match answer {
-            DecoderResult::OutputFull => return None,
-            DecoderResult::InputEmpty if last => return Some(filled),
-            DecoderResult::InputEmpty => {}
-            DecoderResult::Malformed(_, _) => {
+            OutputFull => return None,
+            InputEmpty if last => return Some(filled),
+            InputEmpty => {}
+            Malformed(_, _) => {
                 let end = filled.saturating_add(3);
                 output
                     .get_mut(filled..end)?
@@ -318,7 +317,7 @@ fn replaced(
 
 #[test]
 fn the_queried_length_is_enough_for_all_calls(rt: HostRuntime) -> Result<(), Fail> {
-    let tables = Tables::new(&no_entries())?;
+    let tables = tables_of(&[], &[])?;
     for size in [4, 1] {
         let mut decoder = Gb18030Decoder::new(&tables);
         let mut output = [0u8; 13];
@@ -326,24 +325,5 @@ fn the_queried_length_is_enough_for_all_calls(rt: HostRuntime) -> Result<(), Fai
         assert_eq!(rt; filled, Some(8), "pieces of {size}");
         assert!(rt; output[..8] == [0xEF, 0xBF, 0xBD, 0x32, 0xEF, 0xBF, 0xBD, 0x00]);
     }
-    Ok(())
-}
-
-#[test]
-fn a_byte_past_ascii_needs_four_bytes_or_two_units(rt: HostRuntime) -> Result<(), Fail> {
-    let tables = Tables::new(&no_entries())?;
-    let mut decoder = Gb18030Decoder::new(&tables);
-    let answer = decoder.decode_to_utf8_raw(b"\x61\x80", &mut [0u8; 4], true);
-    assert_eq!(rt; answer, (DecoderResult::OutputFull, 1, 1));
-    let answer = decoder.decode_to_utf16_raw(b"\x80", &mut [0u16; 1], true);
-    assert_eq!(rt; answer, (DecoderResult::OutputFull, 0, 0));
-    let answer = decoder.decode_to_utf8_raw(b"\x80", &mut [0u8; 4], true);
-    assert_eq!(rt; answer, (DecoderResult::InputEmpty, 1, 3));
-    let answer = decoder.decode_to_utf8_raw(b"\x81\x30\x81", &mut [0u8; 4], false);
-    assert_eq!(rt; answer, (DecoderResult::InputEmpty, 3, 0));
-    let answer = decoder.decode_to_utf8_raw(b"", &mut [0u8; 3], true);
-    assert_eq!(rt; answer, (DecoderResult::OutputFull, 0, 0));
-    let answer = decoder.decode_to_utf8_raw(b"", &mut [0u8; 4], true);
-    assert_eq!(rt; answer, (DecoderResult::Malformed(3, 0), 0, 0));
     Ok(())
 }

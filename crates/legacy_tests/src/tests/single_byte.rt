@@ -1,9 +1,9 @@
-use crate::tests::calls::{
-    assert_call, bad, utf8_events, utf16_events, whole_events, whole_utf16_events,
-};
-use legacy_base::DecodeEvent::Scalar;
+use crate::tests::events::{is_split_into, is_wholly};
+use crate::tests::rows::Row::{BareLength, Case, Split, Utf8, Utf8Length, Utf16Length};
+use crate::tests::rows::follow;
+use legacy_base::DecodeEvent::{Bad, Scalar};
 use legacy_base::DecoderResult::{InputEmpty, Malformed, OutputFull};
-use legacy_base::{DecodeEvent, RawDecoder, SingleByteTable};
+use legacy_base::{DecodeEvent, SingleByteTable};
 use legacy_decoders::SingleByteDecoder;
 use std::test::Fail;
 
@@ -22,64 +22,61 @@ fn entries_of(some: &[(usize, u16)]) -> [u16; 128] {
 }
 
 #[test]
-fn an_ascii_byte_needs_one_unit(rt: HostRuntime) -> Result<(), Fail> {
+fn without_entries_ascii_is_read_and_the_rest_is_malformed(rt: HostRuntime) -> Result<(), Fail> {
     let table = SingleByteTable::new(&[0; 128])?;
-    let mut decoder = SingleByteDecoder::new(&table);
-    let mut output = [0u8; 1];
-    let answer = decoder.decode_to_utf8_raw(b"\x41", &mut output, true);
-    assert_eq!(rt; answer, (InputEmpty, 1, 1));
-    assert_eq!(rt; output, [0x41]);
-    let answer = decoder.decode_to_utf8_raw(b"\x80", &mut [0; 2], true);
-    assert_eq!(rt; answer, (OutputFull, 0, 0));
-    let answer = decoder.decode_to_utf8_raw(b"\x80", &mut [0; 3], true);
-    assert_eq!(rt; answer, (Malformed(1, 0), 1, 0));
+    let rows = [
+        Case("an ASCII byte needs one byte, any other three"),
+        Utf8(b"\x41", 1, true, InputEmpty, 1, "A"),
+        Utf8(b"\x80", 2, true, OutputFull, 0, ""),
+        Utf8(b"\x80", 3, true, Malformed(1, 0), 1, ""),
+        Case("lengths are one unit or three bytes for each byte"),
+        Utf16Length(usize::MAX, Some(usize::MAX)),
+        Utf8Length(7, Some(21)),
+        BareLength(7, Some(21)),
+        Case("all events"),
+        Split(
+            b"\x41\x80",
+            &[
+                Scalar('A'),
+                Bad {
+                    place: 1,
+                    length: 1,
+                },
+            ],
+        ),
+    ];
+    follow::<SingleByteDecoder>(&rt, rt.alloc(), &table, &rows);
     Ok(())
 }
 
 #[test]
 fn a_byte_without_an_entry_is_malformed(rt: HostRuntime) -> Result<(), Fail> {
     let table = SingleByteTable::new(&entries_of(&GREEK))?;
-    let mut decoder = SingleByteDecoder::new(&table);
-    let source = b"\xC1\xF5\xD2\xF4\xFC";
-    assert_call(
-        &rt,
-        &mut decoder,
-        source,
-        true,
-        (Malformed(1, 0), 3),
-        "\u{391}\u{3C5}",
-    );
-    assert_call(
-        &rt,
-        &mut decoder,
-        &source[3..],
-        true,
-        (InputEmpty, 2),
-        "\u{3C4}\u{3CC}",
-    );
-    Ok(())
-}
-
-#[test]
-fn single_bytes_and_small_outputs_give_all_events(rt: HostRuntime) -> Result<(), Fail> {
-    let table = SingleByteTable::new(&entries_of(&GREEK))?;
-    let input = b"\xC1\xF5\xD2\xF4\xFC";
-    let events = [
-        Scalar('\u{391}'),
-        Scalar('\u{3C5}'),
-        bad(2, 1),
-        Scalar('\u{3C4}'),
-        Scalar('\u{3CC}'),
+    let rows = [
+        Utf8(
+            b"\xC1\xF5\xD2\xF4\xFC",
+            16,
+            true,
+            Malformed(1, 0),
+            3,
+            "\u{391}\u{3C5}",
+        ),
+        Utf8(b"\xF4\xFC", 16, true, InputEmpty, 2, "\u{3C4}\u{3CC}"),
+        Split(
+            b"\xC1\xF5\xD2\xF4\xFC",
+            &[
+                Scalar('\u{391}'),
+                Scalar('\u{3C5}'),
+                Bad {
+                    place: 2,
+                    length: 1,
+                },
+                Scalar('\u{3C4}'),
+                Scalar('\u{3CC}'),
+            ],
+        ),
     ];
-    let found = utf8_events(rt.alloc(), &mut SingleByteDecoder::new(&table), input)?;
-    assert!(rt; found.as_slice() == events.as_slice());
-    let found = utf16_events(rt.alloc(), &mut SingleByteDecoder::new(&table), input)?;
-    assert!(rt; found.as_slice() == events.as_slice());
-    let table = SingleByteTable::new(&[0; 128])?;
-    let found = utf8_events(rt.alloc(), &mut SingleByteDecoder::new(&table), b"\x41\x80")?;
-    assert!(rt; found.as_slice() == [Scalar('A'), bad(1, 1)].as_slice());
-    let found = utf16_events(rt.alloc(), &mut SingleByteDecoder::new(&table), b"\x41\x80")?;
-    assert!(rt; found.as_slice() == [Scalar('A'), bad(1, 1)].as_slice());
+    follow::<SingleByteDecoder>(&rt, rt.alloc(), &table, &rows);
     Ok(())
 }
 
@@ -95,22 +92,6 @@ fn the_front_of_latin_1_ends_at_another_scalar(rt: HostRuntime) -> Result<(), Fa
     assert_eq!(rt;
         decoder.latin1_byte_compatible_up_to(b"\x61\x85\x62\x86"),
         3
-    );
-    Ok(())
-}
-
-#[test]
-fn lengths_are_one_unit_or_three_bytes_for_each_byte(rt: HostRuntime) -> Result<(), Fail> {
-    let table = SingleByteTable::new(&[0; 128])?;
-    let decoder = SingleByteDecoder::new(&table);
-    assert_eq!(rt;
-        decoder.max_utf16_buffer_length(usize::MAX),
-        Some(usize::MAX)
-    );
-    assert_eq!(rt; decoder.max_utf8_buffer_length(7), Some(21));
-    assert_eq!(rt;
-        decoder.max_utf8_buffer_length_without_replacement(7),
-        Some(21)
     );
     Ok(())
 }
@@ -135,7 +116,7 @@ fn event_of(place: usize, byte: u8) -> DecodeEvent {
     }
     match char::from_u32(0x2D0 + u32::from(byte)) {
         Some(letter) if byte != 0xD2 => Scalar(letter),
-        _ => bad(place, 1),
+        _ => Bad { place, length: 1 },
     }
 }
 
@@ -149,13 +130,17 @@ fn words_of_letters_and_ascii_give_the_events_of_their_bytes(rt: HostRuntime) ->
         events.push(event_of(place, *byte))?;
     }
     let table = SingleByteTable::new(&letters())?;
-    let found = whole_events(rt.alloc(), &mut SingleByteDecoder::new(&table), input)?;
-    assert!(rt; found.as_slice() == events.as_slice(), "bytes at once");
-    let found = whole_utf16_events(rt.alloc(), &mut SingleByteDecoder::new(&table), input)?;
-    assert!(rt; found.as_slice() == events.as_slice(), "units at once");
-    let found = utf8_events(rt.alloc(), &mut SingleByteDecoder::new(&table), input)?;
-    assert!(rt; found.as_slice() == events.as_slice(), "bytes in turn");
-    let found = utf16_events(rt.alloc(), &mut SingleByteDecoder::new(&table), input)?;
-    assert!(rt; found.as_slice() == events.as_slice(), "units in turn");
+    let mut narrow = SingleByteDecoder::new(&table);
+    let mut wide = SingleByteDecoder::new(&table);
+    assert!(rt;
+        is_wholly(rt.alloc(), &mut narrow, &mut wide, input, &events),
+        "at once"
+    );
+    let mut narrow = SingleByteDecoder::new(&table);
+    let mut wide = SingleByteDecoder::new(&table);
+    assert!(rt;
+        is_split_into(rt.alloc(), &mut narrow, &mut wide, input, &events),
+        "in turn"
+    );
     Ok(())
 }

@@ -1,53 +1,46 @@
-use crate::tests::calls::assert_call;
-use crate::tests::fixtures::find;
+use crate::tests::rows::Row::{BareLength, Case, Split, Utf8, Utf8Length, Utf16, Utf16Length};
+use crate::tests::rows::follow;
 use legacy_base::DecodeEvent::Scalar;
 use legacy_base::DecoderResult::{InputEmpty, OutputFull};
-use legacy_base::{DecodeEvent, RawDecoder};
+use legacy_base::RawDecoder;
 use legacy_decoders::UserDefinedDecoder;
-use std::test::Fail;
 
 #[test]
-fn ascii_and_private_use_scalars_go_into_both_outputs(rt: HostRuntime) {
-    let mut bytes = [0u8; 16];
-    let answer = UserDefinedDecoder::new().decode_to_utf8_raw(b"\x61\x80\xFF", &mut bytes, true);
-    assert_eq!(rt; answer, (InputEmpty, 3, 7));
-    let expected = [0x61, 0xEF, 0x9E, 0x80, 0xEF, 0x9F, 0xBF];
-    assert!(rt; &bytes[..7] == expected.as_slice());
-    let mut units = [0u16; 16];
-    let answer = UserDefinedDecoder::new().decode_to_utf16_raw(b"\x61\x80\xFF", &mut units, true);
-    assert_eq!(rt; answer, (InputEmpty, 3, 3));
-    assert!(rt; &units[..3] == [0x61, 0xF780, 0xF7FF].as_slice());
-}
-
-#[test]
-fn a_scalar_waits_for_its_room(rt: HostRuntime) {
-    let mut decoder = UserDefinedDecoder::new();
-    let mut small = [0u8; 2];
-    let answer = decoder.decode_to_utf8_raw(b"\x80", &mut small, true);
-    assert_eq!(rt; answer, (OutputFull, 0, 0));
-    let mut enough = [0u8; 3];
-    let answer = decoder.decode_to_utf8_raw(b"\x80", &mut enough, true);
-    assert_eq!(rt; answer, (InputEmpty, 1, 3));
-}
-
-#[test]
-fn the_lengths_are_one_unit_and_three_bytes_for_each_byte(rt: HostRuntime) {
-    let decoder = UserDefinedDecoder::new();
-    assert_eq!(rt; decoder.max_utf16_buffer_length(3), Some(3));
-    let without = decoder.max_utf8_buffer_length_without_replacement(3);
-    assert_eq!(rt; without, Some(9));
-    assert_eq!(rt; decoder.max_utf8_buffer_length(3), Some(9));
-    let most = usize::MAX / 3;
-    assert_eq!(rt; decoder.max_utf8_buffer_length(most), Some(usize::MAX));
-    assert_eq!(rt; decoder.max_utf8_buffer_length(most + 1), None);
-}
-
-#[test]
-fn single_bytes_give_the_same_events(rt: HostRuntime) -> Result<(), Fail> {
-    let cases: [(&[u8], &[DecodeEvent]); 4] = [
-        (b"\x7F\x80", &[Scalar('\u{7F}'), Scalar('\u{F780}')]),
-        (b"\xFF\x00", &[Scalar('\u{F7FF}'), Scalar('\0')]),
-        (
+fn bytes_past_ascii_are_private_use_scalars(rt: HostRuntime) {
+    let rows = [
+        Case("into UTF-8"),
+        Utf8(
+            b"\x61\x80\xFF",
+            16,
+            true,
+            InputEmpty,
+            3,
+            "a\u{F780}\u{F7FF}",
+        ),
+        Case("into UTF-16"),
+        Utf16(
+            b"\x61\x80\xFF",
+            16,
+            true,
+            InputEmpty,
+            3,
+            &[0x61, 0xF780, 0xF7FF],
+        ),
+        Case("a scalar waits for its room"),
+        Utf8(b"\x80", 2, true, OutputFull, 0, ""),
+        Utf8(b"\x80", 3, true, InputEmpty, 1, "\u{F780}"),
+        Case("the lengths are one unit and three bytes for each byte"),
+        Utf16Length(3, Some(3)),
+        BareLength(3, Some(9)),
+        Utf8Length(3, Some(9)),
+        Utf8Length(usize::MAX / 3, Some(usize::MAX)),
+        Utf8Length(usize::MAX / 3 + 1, None),
+        Case("empty input has no event"),
+        Utf8(b"", 16, true, InputEmpty, 0, ""),
+        Case("single bytes give the same events"),
+        Split(b"\x7F\x80", &[Scalar('\u{7F}'), Scalar('\u{F780}')]),
+        Split(b"\xFF\x00", &[Scalar('\u{F7FF}'), Scalar('\0')]),
+        Split(
             b"\x61\x80\xC3\xFF\x62",
             &[
                 Scalar('a'),
@@ -57,21 +50,9 @@ fn single_bytes_give_the_same_events(rt: HostRuntime) -> Result<(), Fail> {
                 Scalar('b'),
             ],
         ),
-        (b"\xE4", &[Scalar('\u{F7E4}')]),
+        Split(b"\xE4", &[Scalar('\u{F7E4}')]),
     ];
-    for (bytes, events) in cases {
-        let mut narrow = UserDefinedDecoder::new();
-        let mut wide = UserDefinedDecoder::new();
-        let found = find(rt.alloc(), &mut narrow, &mut wide, bytes, events)?;
-        assert!(rt; found, "bytes {bytes:?}");
-    }
-    Ok(())
-}
-
-#[test]
-fn empty_input_has_no_event(rt: HostRuntime) {
-    let mut decoder = UserDefinedDecoder::new();
-    assert_call(&rt, &mut decoder, b"", true, (InputEmpty, 0), "");
+    follow::<UserDefinedDecoder>(&rt, rt.alloc(), (), &rows);
 }
 
 /// The unit of a byte: an ASCII byte is itself, and a byte past ASCII is as far behind F780 as behind 80.
