@@ -9,8 +9,6 @@ mod results;
 mod single_byte_table;
 mod source;
 mod tables;
-#[cfg(test)]
-mod tests;
 
 pub use decoder::RawDecoder;
 pub use destination::{Destination, Utf8Destination, Utf16Destination};

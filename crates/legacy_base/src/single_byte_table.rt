@@ -107,6 +107,3 @@ impl SingleByteTable {
         place_of(&self.entries, u32::from(c))
     }
 }
-
-#[cfg(test)]
-mod tests;

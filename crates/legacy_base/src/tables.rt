@@ -182,6 +182,3 @@ impl<'a> Tables<'a> {
         lookups::range_scalar(self.ranges, &self.likely_places, pointer)
     }
 }
-
-#[cfg(test)]
-mod tests;

@@ -5,8 +5,6 @@
 pub mod laws;
 mod run;
 mod scalars;
-#[cfg(test)]
-mod tests;
 
 pub use legacy_base::{
     ByteSource, DecodeEvent, DecoderResult, Destination, IndexName, Indexes, RawDecoder,
