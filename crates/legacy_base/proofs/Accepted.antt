@@ -257,24 +257,36 @@ next-above (r ∷ ranges) p h e = go (last_range_scalar ranges p) (nat_le r.0 p)
 in_range-scalar : (r0 r1 end p : ℕ) → (nat_le 0x80 r1 && (nat_le (r1 + (end - r0)) 0xD800 || (nat_le 0xE000 r1 && nat_le (r1 + (end - r0)) 0x1_0000))) ≡ true → r0 ≤ p → p < end → IsScalar (r1 + (p - r0))
 in_range-scalar r0 r1 end p h l g = grind (arith, nat_tests)
 
--- what ranges give is a scalar
-pub last_range-scalar : (place : ℕ) (ranges : List (ℕ × ℕ)) → range_value_fault place ranges ≡ None → (p c : ℕ) → p ≤ 39419 → last_range_scalar ranges p ≡ Some c → IsScalar c
+in_range-below : (r0 r1 end p : ℕ) → (nat_le 0x80 r1 && (nat_le (r1 + (end - r0)) 0xD800 || (nat_le 0xE000 r1 && nat_le (r1 + (end - r0)) 0x1_0000))) ≡ true → r0 ≤ p → p < end → r1 + (p - r0) < 0x1_0000
+in_range-below r0 r1 end p h l g = grind (arith, nat_tests)
+
+-- what a range's check gives its scalars, it gives what the ranges give
+last_range-all : (P : ℕ → Type 0) → ((r0 r1 end p : ℕ) → (nat_le 0x80 r1 && (nat_le (r1 + (end - r0)) 0xD800 || (nat_le 0xE000 r1 && nat_le (r1 + (end - r0)) 0x1_0000))) ≡ true → r0 ≤ p → p < end → P (r1 + (p - r0))) →
+    (place : ℕ) (ranges : List (ℕ × ℕ)) → range_value_fault place ranges ≡ None → (p c : ℕ) → p ≤ 39419 → last_range_scalar ranges p ≡ Some c → P c
 unfolding range_value_fault
-last_range-scalar place [] e p c h is = cc
-last_range-scalar place (r ∷ ranges) e p c h is =
-    go (last_range_scalar ranges p) (nat_le r.0 p) refl refl is (last_range-scalar (place + 1) ranges t.1 p c h)
+last_range-all P checked place [] e p c h is = cc
+last_range-all P checked place (r ∷ ranges) e p c h is =
+    go (last_range_scalar ranges p) (nat_le r.0 p) refl refl is (last_range-all P checked (place + 1) ranges t.1 p c h)
   where
     t : (has_range_scalars r (next_pointer ranges) ≡ true) × (range_value_fault (place + 1) ranges ≡ None)
     t = taken _ (RangeValue place) (range_value_fault (place + 1) ranges) e
 
     go : (o : Option ℕ) (b : Bool) → last_range_scalar ranges p ≡ o → nat_le r.0 p ≡ b → option_or o (cond b (Some (r.1 + (p - r.0))) None) ≡ Some c →
-        (last_range_scalar ranges p ≡ Some c → IsScalar c) → IsScalar c
+        (last_range_scalar ranges p ≡ Some c → P c) → P c
     go (Some x) b q s z more = more (q ∙ z)
     go None false q s z more = cc
     go None true q s z more =
-        let here : IsScalar (r.1 + (p - r.0)) = in_range-scalar r.0 r.1 (next_pointer ranges) p t.0 (leb-true r.0 p s) (next-above ranges p h q) in
+        let here : P (r.1 + (p - r.0)) = checked r.0 r.1 (next_pointer ranges) p t.0 (leb-true r.0 p s) (next-above ranges p h q) in
         let same : r.1 + (p - r.0) ≡ c = cc in
-        subst IsScalar same here
+        subst P same here
+
+-- what ranges give is a scalar
+pub last_range-scalar : (place : ℕ) (ranges : List (ℕ × ℕ)) → range_value_fault place ranges ≡ None → (p c : ℕ) → p ≤ 39419 → last_range_scalar ranges p ≡ Some c → IsScalar c
+last_range-scalar = last_range-all IsScalar in_range-scalar
+
+-- and below U+10000
+pub last_range-below : (place : ℕ) (ranges : List (ℕ × ℕ)) → range_value_fault place ranges ≡ None → (p c : ℕ) → p ≤ 39419 → last_range_scalar ranges p ≡ Some c → c < 0x1_0000
+last_range-below = last_range-all (λ c. c < 0x1_0000) in_range-below
 
 -- what all entries of an index are, the scalar of each pointer is
 pub idx-all : (P : ℕ → Type 0) (index : List ℕ) → All P index → (p c : ℕ) → idx index p ≡ Some c → P c

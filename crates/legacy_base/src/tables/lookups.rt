@@ -104,6 +104,7 @@ pub(super) fn likely_places(ranges: &[(u16, u16)]) -> [u8; 154]
 
 /// The scalar of a pointer by the last range that starts at or before it, of which the places tell where it
 /// likely is.
+// It is made as a number of 16 bits: then whoever writes it need not ask whether it is past U+FFFF.
 #[inline]
 fn last_range(ranges: &[(u16, u16)], places: &[u8; 154], pointer: usize) -> Option<char>
     requires reached { pointer ≤ 39419 }
@@ -117,8 +118,8 @@ fn last_range(ranges: &[(u16, u16)], places: &[u8; 154], pointer: usize) -> Opti
         return None;
     }
     let (first, scalar) = ranges[count - 1];
-    let code = u32::from(scalar) + (pointer - usize::from(first)) as u32;
-    Some(unsafe { char::from_u32_unchecked(code) })
+    let unit = scalar + (pointer - usize::from(first)) as u16;
+    Some(unsafe { char::from_u32_unchecked(u32::from(unit)) })
 }
 
 /// The scalar of a pointer of four bytes.
