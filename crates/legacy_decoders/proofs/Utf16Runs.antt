@@ -94,6 +94,10 @@ reads_block form be source block old new r before after within long narrow count
 
 -- ---- blocks without surrogates
 
+-- no unit of at most two bytes in UTF-8 is a surrogate
+pub below_scalar : (c : ℕ) → c < 0x800 → IsScalar c
+below_scalar c h = search rules
+
 -- one more unit is written
 pub writes_unit : (form : EncodingForm) (be : Bool) (source old mid new : List ℕ) (at c : ℕ) → ((k : ℕ) → IsByte (get_or source k 0)) → 2 * at + 1 < length source → Writes form (utf16 be) (take (2 * at) source) old mid → IsScalar (unit_at be source at)
     → c ≡ unit_at be source at → new ≡ mid ++ code_units form c → Writes form (utf16 be) (take (2 * (at + 1)) source) old new

@@ -145,21 +145,26 @@ impl Units {
         }
     }
 
-    /// Whether the first unit is ASCII.
+    /// Whether there is a first unit and it is below the bound.
     #[inline(always)]
-    fn begins_with_ascii(&self, src: &[u8]) -> bool {
-        src.len() >= 2 && unit(self.big_endian, src[0], src[1]) < 0x80
+    fn begins_below(&self, src: &[u8], bound: u16) -> bool {
+        src.len() >= 2 && unit(self.big_endian, src[0], src[1]) < bound
     }
 
     /// Reads the first unit, unless it is a surrogate. Answers how many bytes were read: none is an answer
     /// too.
+    // Units of at most two bytes in UTF-8 come first: of them no other test is left.
     #[inline(always)]
     fn read_unit<T: Destination>(&self, src: &[u8], dst: &mut T) -> usize
+        requires source { 2 ≤ length src.now }
+        requires room { 6 ≤ T.room dst.old }
         ensures ahead { ReadsAhead T.form (state_of (utf16 self.now.big_endian) []) src.now result (T.contents dst.old) (T.contents dst.new) (T.room dst.old) (T.room dst.new) }
         ensures loan { T.loan dst.new ≡ T.loan dst.old }
     {
-        if src.len() < 2 || dst.free() < 6 {
-            return 0;
+        let first = unit(self.big_endian, src[0], src[1]);
+        if first < 0x800 {
+            put_unit(dst, first);
+            return 2;
         }
         match self.scalar(src[0], src[1]) {
             Some(scalar) => {
@@ -225,13 +230,25 @@ impl Units {
 
     /// Reads the first unit, and unless ASCII goes on behind it what `read_past_ascii` does. Answers how many
     /// bytes were read: none is an answer too.
+    // Between ASCII and a unit below U+0800, which is a letter of a Latin script there, ASCII goes on: the unit
+    // behind it is not looked at.
     #[inline(always)]
-    fn read_unit_and_next<T: Destination>(&self, src: &[u8], dst: &mut T) -> usize
+    fn read_unit_and_next<T: Destination>(
+        &self,
+        src: &[u8],
+        dst: &mut T,
+        is_behind_ascii: bool,
+    ) -> usize
+        requires source { 2 ≤ length src.now }
+        requires room { 6 ≤ T.room dst.old }
         ensures ahead { ReadsAhead T.form (state_of (utf16 self.now.big_endian) []) src.now result (T.contents dst.old) (T.contents dst.new) (T.room dst.old) (T.room dst.new) }
         ensures loan { T.loan dst.new ≡ T.loan dst.old }
     {
         let at = self.read_unit(src, dst);
-        if at == 0 || self.begins_with_ascii(&src[at..]) {
+        if at == 0 || (is_behind_ascii && self.begins_below(src, 0x800)) {
+            return at;
+        }
+        if self.begins_below(&src[at..], 0x80) {
             return at;
         }
         at + self.read_past_ascii(&src[at..], dst)
@@ -245,12 +262,12 @@ impl Units {
         ensures loan { T.loan dst.new ≡ T.loan dst.old }
     {
         let mut at = 0;
-        while src.len() - at >= 32 && dst.free() >= 19 {
+        while src.len() - at >= 32 && dst.free() >= 21 {
             let block = self.narrow_block(&src[at..]);
             let count = dst.copy_ascii(&block);
             at += 2 * count;
             if count < 16 {
-                let read = self.read_unit_and_next(&src[at..], dst);
+                let read = self.read_unit_and_next(&src[at..], dst, count > 0);
                 if read == 0 {
                     return at;
                 }
