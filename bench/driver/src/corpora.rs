@@ -5,8 +5,11 @@ use std::collections::HashMap;
 use std::path::Path;
 use std::{fs, io};
 
-/// How many bytes a corpus has at least: the pages are repeated up to it.
+/// How many bytes a long corpus has at least: the pages are repeated up to it.
 const LEAST: usize = 3_000_000;
+
+/// How many characters a short corpus has. With its output it lies in a processor's own cache of a megabyte.
+const SHORT: usize = 100_000;
 
 /// All pages of a language.
 pub fn html(language: &str) -> io::Result<String> {
@@ -76,6 +79,12 @@ fn is_translated(line: &str, share: f64) -> bool {
     let letters: Vec<char> = line.chars().filter(|c| c.is_alphabetic()).collect();
     let foreign = letters.iter().filter(|c| !c.is_ascii()).count();
     foreign > 0 && foreign as f64 >= share * letters.len() as f64
+}
+
+/// The first characters of the text, which is repeated where it has too few, in an encoding.
+pub fn encode_short(encoding: &'static Encoding, text: &str) -> Vec<u8> {
+    let short: String = text.chars().cycle().take(SHORT).collect();
+    encode_once(encoding, &short)
 }
 
 /// The text in an encoding, without what the encoding lacks.

@@ -28,8 +28,8 @@ const CORPORA: &[(&str, &str, f64, &[&str])] = &[
     ("ru-RU", "ru", 0.5, &["windows-1251"]),
 ];
 
-/// How many times each measured call decodes the source.
-const ROUNDS: usize = 1;
+/// How many times a measured call decodes a short source, so that it takes as long as a call on a long one.
+const SHORT_ROUNDS: usize = 16;
 
 /// The length of a small piece in bytes.
 const PIECE: usize = 64;
@@ -85,14 +85,14 @@ fn best(least: &mut Duration, call: impl FnOnce() -> usize) {
 }
 
 /// Megabytes of the source a second, of encoding_rs and of ours.
-fn speeds<U: Unit>(ours: &Ours, encoding: &'static Encoding, src: &[u8], dst: &mut [U], piece: usize, times: usize) -> (f64, f64) {
+fn speeds<U: Unit>(ours: &Ours, encoding: &'static Encoding, src: &[u8], dst: &mut [U], piece: usize, rounds: usize, times: usize) -> (f64, f64) {
     let [mut their_time, mut our_time, mut check_time] = [Duration::MAX; 3];
     for _ in 0..times {
-        best(&mut their_time, || U::theirs(encoding, src, dst, piece, ROUNDS));
-        best(&mut our_time, || U::ours(ours, src, dst, piece, ROUNDS));
+        best(&mut their_time, || U::theirs(encoding, src, dst, piece, rounds));
+        best(&mut our_time, || U::ours(ours, src, dst, piece, rounds));
         best(&mut check_time, || U::ours(ours, &[], dst, piece, 1));
     }
-    let speed = |time: Duration| (src.len() * ROUNDS) as f64 / time.as_secs_f64() / 1e6;
+    let speed = |time: Duration| (src.len() * rounds) as f64 / time.as_secs_f64() / 1e6;
     (speed(their_time), speed(our_time - check_time))
 }
 
@@ -111,26 +111,25 @@ fn compare<U: Unit>(ours: &Ours, encoding: &'static Encoding, src: &[u8], dst: &
     Ok(())
 }
 
-/// One line of the table.
-fn line<U: Unit>(corpus: &str, ours: &Ours, encoding: &'static Encoding, src: &[u8], times: usize) -> Result<(), String> {
-    let mut dst = vec![U::default(); src.len() * 3 + 64];
-    compare::<U>(ours, encoding, src, &mut dst).map_err(|error| format!("{corpus} {}: {error}", encoding.name()))?;
-    let (their_whole, our_whole) = speeds::<U>(ours, encoding, src, &mut dst, 0, times);
-    let (their_pieces, our_pieces) = speeds::<U>(ours, encoding, src, &mut dst, PIECE, times);
-    println!(
-        "| {corpus} | {} | {} | {their_whole:.0} | {our_whole:.0} | {:.2} | {their_pieces:.0} | {our_pieces:.0} | {:.2} |",
-        encoding.name(),
-        U::NAME,
-        our_whole / their_whole,
-        our_pieces / their_pieces,
-    );
+/// One line of the table: the long source in one call and in pieces, and between them the short one.
+fn line<U: Unit>(corpus: &str, ours: &Ours, encoding: &'static Encoding, long: &[u8], short: &[u8], times: usize) -> Result<(), String> {
+    let mut dst = vec![U::default(); long.len() * 3 + 64];
+    for src in [long, short] {
+        compare::<U>(ours, encoding, src, &mut dst).map_err(|error| format!("{corpus} {}: {error}", encoding.name()))?;
+    }
+    print!("| {corpus} | {} | {} |", encoding.name(), U::NAME);
+    for (src, piece, rounds) in [(long, 0, 1), (short, 0, SHORT_ROUNDS), (long, PIECE, 1)] {
+        let (theirs, ours) = speeds::<U>(ours, encoding, src, &mut dst, piece, rounds, times);
+        print!(" {theirs:.0} | {ours:.0} | {:.2} |", ours / theirs);
+    }
+    println!();
     Ok(())
 }
 
 /// The decoders' table: the lines that have one of the words, or all where there is none.
 fn table(words: &[String], times: usize) -> Result<(), String> {
-    println!("| corpus | encoding | to | encoding_rs MB/s | ours MB/s | ratio | encoding_rs, pieces of {PIECE} | ours | ratio |");
-    println!("|---|---|---|---|---|---|---|---|---|");
+    println!("| corpus | encoding | to | encoding_rs MB/s, long | ours | ratio | encoding_rs, short | ours | ratio | encoding_rs, pieces of {PIECE} | ours | ratio |");
+    println!("|---|---|---|---|---|---|---|---|---|---|---|---|");
     let mut decoders: HashMap<&str, Ours> = HashMap::new();
     for (language, name, share, encodings) in CORPORA {
         let pages = corpora::html(language).map_err(|error| format!("{language}: {error}"))?;
@@ -141,10 +140,11 @@ fn table(words: &[String], times: usize) -> Result<(), String> {
                     continue;
                 }
                 let encoding = Encoding::for_label(label.as_bytes()).ok_or("no such encoding")?;
-                let src = corpora::encode(encoding, &content);
+                let long = corpora::encode(encoding, &content);
+                let short = corpora::encode_short(encoding, &content);
                 let ours = decoders.entry(label).or_insert_with(|| Ours::new(encoding));
-                line::<u8>(&corpus, ours, encoding, &src, times)?;
-                line::<u16>(&corpus, ours, encoding, &src, times)?;
+                line::<u8>(&corpus, ours, encoding, &long, &short, times)?;
+                line::<u16>(&corpus, ours, encoding, &long, &short, times)?;
             }
         }
     }

@@ -117,37 +117,121 @@ fn recodes_more_than_a_piece(rt: HostRuntime) -> Result<(), Fail> {
 }
 
 #[test]
-fn runs_on_one_word(rt: HostRuntime) {
+fn recodes_without_files(rt: HostRuntime) {
+    let rows: [(&str, &[u8], &[u8]); 8] = [
+        ("x-user-defined", b"\x61\x80\xFF", first_lines(3)),
+        ("replacement", b"AB", b"bad 0 1\n"),
+        ("replacement", b"", b""),
+        (
+            "shift_jis",
+            b"\x80\xA1\xDF\xA0\xF0\x40",
+            b"U+0080\nU+FF61\nU+FF9F\nbad 3 1\nU+E000\n",
+        ),
+        ("euc-jp", b"\x8F\xA2\x41\x8F", b"bad 0 2\nU+0041\nbad 3 1\n"),
+        ("utf-16le", b"\x41\x00\x3D\xD8\x42", b"U+0041\nbad 2 3\n"),
+        (
+            "utf-16be",
+            b"\x00\x0A\xD7\xFF\xD8\x00\xDC\x00\xD8\x3D\xDC\xA9\xDB\xBF\xDF\xFF\xDB\xFF\xDF\xFF",
+            b"U+000A\nU+D7FF\nU+10000\nU+1F4A9\nU+FFFFF\nU+10FFFF\n",
+        ),
+        (
+            "euc-kr",
+            b"aaaaaaaaa\x80a\x80\x81",
+            b"U+0061\nU+0061\nU+0061\nU+0061\nU+0061\nU+0061\nU+0061\nU+0061\nU+0061\nbad 9 1\nU+0061\nbad 11 1\nbad 12 1\n",
+        ),
+    ];
+    for (codec, input, lines) in rows {
+        runs(&rt, &[codec], &[], input, 0, lines, b"");
+    }
+}
+
+#[test]
+fn recodes_with_a_file(rt: HostRuntime) {
+    let ranges: &[u8] = b"0 0x0080\n36 0x00A5\n189000 0x10000\n";
+    let four: &[u8] = b"\x81\x30\x81\x30\x94\x39\xDA\x33";
+    let rows: [(&str, &str, &[u8], &[u8], &[u8]); 5] = [
+        (
+            "euc-kr",
+            "euc-kr",
+            b"0 0xAC02\n",
+            b"\x81\x41\x81\x5B",
+            b"U+AC02\nbad 2 1\nU+005B\n",
+        ),
+        (
+            "big5",
+            "big5",
+            b"19780 0x2910D\n",
+            b"\xFE\xFD\x88\x62",
+            b"U+2910D\nU+00CA\nU+0304\n",
+        ),
+        (
+            "iso-2022-jp",
+            "jis0208",
+            b"4861 0x58FA\n",
+            b"\x1B\x24\x42\x54\x64\x1B\x28\x42A",
+            b"U+58FA\nU+0041\n",
+        ),
+        ("gb18030", "ranges", ranges, four, b"U+0080\nU+1F4A9\n"),
+        ("gbk", "ranges", ranges, four, b"U+0080\nU+1F4A9\n"),
+    ];
+    for (codec, index, file, input, lines) in rows {
+        runs(
+            &rt,
+            &[codec, index, "FILE"],
+            &[Some(file)],
+            input,
+            0,
+            lines,
+            b"",
+        );
+    }
+    let words = ["single-byte", "single-byte", "FILE", "euc-kr", "FILE"];
+    let (used, unused): (&[u8], &[u8]) = (b"65 0x0391\n116 0x03C4\n", b"0 0xAC02\n");
+    let lines = b"U+0391\nU+03C4\nbad 2 1\n";
     runs(
         &rt,
-        &["x-user-defined"],
-        &[],
-        b"\x61\x80\xFF",
+        &words,
+        &[Some(used), Some(unused)],
+        b"\xC1\xF4\x80",
         0,
-        first_lines(3),
+        lines,
         b"",
     );
 }
 
 #[test]
-fn writes_all_lengths_of_digits(rt: HostRuntime) {
+fn tells_what_is_wrong_with_the_files(rt: HostRuntime) {
+    let words = ["euc-kr", "euc-kr", "KR", "single-byte", "SB"];
+    let none: Option<&[u8]> = Some(b"");
+    let bad: Option<&[u8]> = Some(b"# x\n1\n");
+    let surrogate: Option<&[u8]> = Some(b"0 0xD800\n");
+    let low: Option<&[u8]> = Some(b"3 0x007F\n");
+    let rows: [(Option<&[u8]>, Option<&[u8]>, &[u8]); 6] = [
+        (None, None, b"KR: cannot be read\n"),
+        (none, None, b"SB: cannot be read\n"),
+        (bad, None, b"KR: line 2\n"),
+        (None, bad, b"KR: cannot be read\n"),
+        (
+            surrogate,
+            low,
+            b"tables: index euc-kr has a bad entry at 0\n",
+        ),
+        (none, low, b"tables: single-byte entry 3 is bad\n"),
+    ];
+    for (first, second, error) in rows {
+        runs(&rt, &words, &[first, second], b"A", 1, b"", error);
+    }
+    runs(&rt, &words, &[], b"A", 1, b"", b"KR: cannot be read\n");
+    let twice: Option<&[u8]> = Some(b"0 0x0080\n0 0x0100\n");
+    let error = b"tables: ranges are out of order at 1\n";
     runs(
         &rt,
-        &["utf-16be"],
-        &[],
-        b"\x00\x0A\xD7\xFF\xD8\x00\xDC\x00\xD8\x3D\xDC\xA9\xDB\xBF\xDF\xFF\xDB\xFF\xDF\xFF",
-        0,
-        b"U+000A\nU+D7FF\nU+10000\nU+1F4A9\nU+FFFFF\nU+10FFFF\n",
+        &["gb18030", "ranges", "R"],
+        &[twice],
+        b"A",
+        1,
         b"",
-    );
-    runs(
-        &rt,
-        &["euc-kr"],
-        &[],
-        b"aaaaaaaaa\x80a\x80\x81",
-        0,
-        b"U+0061\nU+0061\nU+0061\nU+0061\nU+0061\nU+0061\nU+0061\nU+0061\nU+0061\nbad 9 1\nU+0061\nbad 11 1\nbad 12 1\n",
-        b"",
+        error,
     );
 }
 
@@ -224,12 +308,6 @@ fn a_failed_write_keeps_the_lines_before_it(rt: HostRuntime) {
 }
 
 #[test]
-fn replacement_reports_once(rt: HostRuntime) {
-    runs(&rt, &["replacement"], &[], b"AB", 0, b"bad 0 1\n", b"");
-    runs(&rt, &["replacement"], &[], b"", 0, b"", b"");
-}
-
-#[test]
 fn refuses_words_that_are_no_request(rt: HostRuntime) {
     let wrong: [&[&str]; 9] = [
         &[],
@@ -248,179 +326,10 @@ fn refuses_words_that_are_no_request(rt: HostRuntime) {
 }
 
 #[test]
-fn tells_which_file_cannot_be_read(rt: HostRuntime) {
-    let words = ["euc-kr", "euc-kr", "KR", "single-byte", "SB"];
-    let none: &[u8] = b"";
-    runs(&rt, &words, &[], b"A", 1, none, b"KR: cannot be read\n");
-    runs(
-        &rt,
-        &words,
-        &[None, None],
-        b"A",
-        1,
-        none,
-        b"KR: cannot be read\n",
-    );
-    runs(
-        &rt,
-        &words,
-        &[Some(none), None],
-        b"A",
-        1,
-        none,
-        b"SB: cannot be read\n",
-    );
-}
-
-#[test]
-fn tells_which_line_is_bad(rt: HostRuntime) {
-    let words = ["euc-kr", "euc-kr", "KR", "single-byte", "SB"];
-    let none: &[u8] = b"";
-    let bad: &[u8] = b"# x\n1\n";
-    runs(
-        &rt,
-        &words,
-        &[Some(bad), None],
-        b"A",
-        1,
-        none,
-        b"KR: line 2\n",
-    );
-    runs(
-        &rt,
-        &words,
-        &[None, Some(bad)],
-        b"A",
-        1,
-        none,
-        b"KR: cannot be read\n",
-    );
-}
-
-#[test]
-fn tells_which_table_is_refused(rt: HostRuntime) {
-    let words = ["euc-kr", "euc-kr", "KR", "single-byte", "SB"];
-    let none: &[u8] = b"";
-    let surrogate: &[u8] = b"0 0xD800\n";
-    let low: &[u8] = b"3 0x007F\n";
-    let error = b"tables: index euc-kr has a bad entry at 0\n";
-    runs(
-        &rt,
-        &words,
-        &[Some(surrogate), Some(low)],
-        b"A",
-        1,
-        none,
-        error,
-    );
-    let error = b"tables: single-byte entry 3 is bad\n";
-    runs(&rt, &words, &[Some(none), Some(low)], b"A", 1, none, error);
-    let words = ["gb18030", "ranges", "R"];
-    let twice: &[u8] = b"0 0x0080\n0 0x0100\n";
-    let error = b"tables: ranges are out of order at 1\n";
-    runs(&rt, &words, &[Some(twice)], b"A", 1, none, error);
-}
-
-#[test]
 fn the_faults_print_their_texts(rt: HostRuntime) -> Result<(), Fail> {
     let text = format!(in rt.alloc(); "{}, {}", Fault::Memory, Fault::Line("KR", 3))?;
     assert_eq!(rt; text.as_str(), "memory, KR: line 3");
     Ok(())
-}
-
-/// Runs the program on the words and the only file, and asserts that it prints the lines.
-fn prints(
-    rt: &(impl Abort + Alloc<A = std::alloc::Global>),
-    words: &[&str],
-    file: &[u8],
-    input: &[u8],
-    lines: &[u8],
-) {
-    runs(rt, words, &[Some(file)], input, 0, lines, b"");
-}
-
-#[test]
-fn reads_the_indexes_of_pairs(rt: HostRuntime) {
-    let hangul = b"0 0xAC02\n";
-    let words = ["euc-kr", "euc-kr", "FILE"];
-    prints(
-        &rt,
-        &words,
-        hangul,
-        b"\x81\x41\x81\x5B",
-        b"U+AC02\nbad 2 1\nU+005B\n",
-    );
-    let chinese = b"19780 0x2910D\n";
-    let words = ["big5", "big5", "FILE"];
-    prints(
-        &rt,
-        &words,
-        chinese,
-        b"\xFE\xFD\x88\x62",
-        b"U+2910D\nU+00CA\nU+0304\n",
-    );
-    let japanese = b"4861 0x58FA\n";
-    let words = ["iso-2022-jp", "jis0208", "FILE"];
-    let input = b"\x1B\x24\x42\x54\x64\x1B\x28\x42A";
-    prints(&rt, &words, japanese, input, b"U+58FA\nU+0041\n");
-}
-
-#[test]
-fn reads_the_ranges(rt: HostRuntime) {
-    let ranges = b"0 0x0080\n36 0x00A5\n189000 0x10000\n";
-    let input = b"\x81\x30\x81\x30\x94\x39\xDA\x33";
-    for codec in ["gb18030", "gbk"] {
-        prints(
-            &rt,
-            &[codec, "ranges", "FILE"],
-            ranges,
-            input,
-            b"U+0080\nU+1F4A9\n",
-        );
-    }
-}
-
-#[test]
-fn reads_a_single_byte_index_and_one_that_is_not_used(rt: HostRuntime) {
-    let bytes: &[u8] = b"65 0x0391\n116 0x03C4\n";
-    let hangul: &[u8] = b"0 0xAC02\n";
-    let words = ["single-byte", "single-byte", "FILE", "euc-kr", "FILE"];
-    let lines = b"U+0391\nU+03C4\nbad 2 1\n";
-    runs(
-        &rt,
-        &words,
-        &[Some(bytes), Some(hangul)],
-        b"\xC1\xF4\x80",
-        0,
-        lines,
-        b"",
-    );
-}
-
-#[test]
-fn decodes_with_no_index(rt: HostRuntime) {
-    let lines = b"U+0080\nU+FF61\nU+FF9F\nbad 3 1\nU+E000\n";
-    runs(
-        &rt,
-        &["shift_jis"],
-        &[],
-        b"\x80\xA1\xDF\xA0\xF0\x40",
-        0,
-        lines,
-        b"",
-    );
-    let lines = b"bad 0 2\nU+0041\nbad 3 1\n";
-    runs(&rt, &["euc-jp"], &[], b"\x8F\xA2\x41\x8F", 0, lines, b"");
-    let lines = b"U+0041\nbad 2 3\n";
-    runs(
-        &rt,
-        &["utf-16le"],
-        &[],
-        b"\x41\x00\x3D\xD8\x42",
-        0,
-        lines,
-        b"",
-    );
 }
 
 /// Runs x-user-defined from 61 80 FF, a byte at a read, to this writer, and asserts the status and the line of error.

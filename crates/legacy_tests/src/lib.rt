@@ -1,4 +1,4 @@
-//! Tests of the decoders by their public calls, in a crate of their own: the tests of a crate are proved
+//! Tests of the libraries by their public calls, in a crate of their own: the tests of a crate are proved
 //! beside all of that crate, and these need none of it.
 #![tactic(auto)]
 
