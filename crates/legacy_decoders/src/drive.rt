@@ -20,7 +20,7 @@ fn has_room<T: Destination>(dst: &T, room: Room) -> bool
     }
 }
 
-#[inline]
+#[inline(always)]
 fn put_fed<T: Destination>(dst: &mut T, fed: Fed)
     requires { total_unit_count T.form (fed_scalars fed) ≤ T.room dst.old }
     ensures contents { T.contents dst.new ≡ T.contents dst.old ++ all_code_units T.form (fed_scalars fed) }
