@@ -3,10 +3,11 @@
 //!
 //! Arguments: words that a line of the decoders' table must have, as `ja-text` or `Big5`, or `recode` for
 //! the program's table (none: all lines of both are made), and a number: how many times each call of a
-//! decoder is timed.
+//! decoder is timed. Or `medians` and the files of the tables of several builds, of which one table is made.
 
 mod corpora;
 mod indexes;
+mod medians;
 mod ours;
 mod recode;
 mod theirs;
@@ -140,7 +141,7 @@ fn table(words: &[String], times: usize) -> Result<(), String> {
                     continue;
                 }
                 let encoding = Encoding::for_label(label.as_bytes()).ok_or("no such encoding")?;
-                let long = corpora::encode(encoding, &content);
+                let long = corpora::encode_long(encoding, &content);
                 let short = corpora::encode_short(encoding, &content);
                 let ours = decoders.entry(label).or_insert_with(|| Ours::new(encoding));
                 line::<u8>(&corpus, ours, encoding, &long, &short, times)?;
@@ -152,6 +153,9 @@ fn table(words: &[String], times: usize) -> Result<(), String> {
 }
 
 fn main() -> Result<(), String> {
+    if std::env::args().nth(1).is_some_and(|word| word == "medians") {
+        return medians::table(std::env::args().skip(2));
+    }
     let (numbers, mut words): (Vec<String>, Vec<String>) = std::env::args().skip(1).partition(|word| word.parse::<usize>().is_ok());
     let times = numbers.first().map_or(Ok(20), |number| number.parse()).map_err(|_| "not a number".to_string())?;
     let all = words.is_empty();

@@ -82,7 +82,7 @@ fn write_repeated(path: &str, bytes: &[u8], repeats: usize) -> io::Result<()> {
 /// Makes the index file and both inputs. Answers the corpus and how often the long input has it.
 fn make_files() -> Result<(Vec<u8>, usize), String> {
     let pages = corpora::html("ja-JP").map_err(|error| format!("ja-JP: {error}"))?;
-    let corpus = corpora::encode(SHIFT_JIS, &pages);
+    let corpus = corpora::encode_once(SHIFT_JIS, &pages);
     let repeats = LEAST.div_ceil(corpus.len());
     for (path, bytes, repeats) in [(INDEX, index_text().as_bytes(), 1), (SHORT, &corpus, 1), (LONG, &corpus, repeats)] {
         write_repeated(path, bytes, repeats).map_err(|error| format!("{path}: {error}"))?;
