@@ -3,7 +3,7 @@
 
 use std::fs;
 
-/// The columns of a line behind the corpus, the encoding and the form: which are ratios, and which are shown.
+/// The columns of a line behind the corpus, the encoding and the form, and which of them are ratios.
 const COLUMNS: [(&str, bool); 9] = [
     ("encoding_rs MB/s, 3 MB", false),
     ("ours", false),
