@@ -15,6 +15,10 @@ pub record DecoderState : Type 0 where
   pub grammar : Grammar
   pub held : List ℕ
 
+-- a decoder that holds nothing back
+abbrev pub new_state : Grammar → DecoderState
+new_state grammar = record { grammar = grammar; held = [] }
+
 -- ---- the bytes that are held back
 
 -- the bytes that begin a two-byte form of Big5 and of EUC-KR

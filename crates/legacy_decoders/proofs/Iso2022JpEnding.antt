@@ -13,7 +13,7 @@ use Rattle.legacy_decoders.specs.declared.iso_2022_jp.steps.Held.TheVariants.{By
 use Rattle.legacy_decoders.specs.Iso2022JpMachine as machine
 use Rattle.legacy_decoders.specs.Iso2022JpMachine.{mode_meaning, bytes_of, is_held, is_resting, pending}
 use Rattle.legacy_decoders.specs.Iso2022JpMoves.{state_in, IsNarrowScalar}
-use Rattle.legacy_decoders.specs.Moves.{Releases, Reports}
+use Rattle.legacy_machines.specs.Moves.{Releases, Reports}
 use Rattle.legacy_decoders.proofs.Iso2022JpLaw.{MeetsEnd, ended}
 use Rattle.legacy_decoders.proofs.Iso2022JpEnd.{write_law, write_some, end_law}
 use Rattle.legacy_decoders.proofs.Iso2022JpHeld.{held_rests, finish_sound, EndsSound}

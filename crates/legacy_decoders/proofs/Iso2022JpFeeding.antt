@@ -9,7 +9,7 @@ use Rattle.legacy_base.specs.Grammar.{iso_2022_jp, events_of}
 use Rattle.legacy_base.specs.States.{rests}
 use Rattle.legacy_base.specs.Acts.{HadRoom}
 use Rattle.legacy_base.specs.Lengths.{LengthQuery, query_form}
-use Rattle.legacy_decoders.specs.declared.machine.Fed.{Fed}
+use Rattle.legacy_machines.specs.declared.machine.Fed.{Fed}
 use Rattle.legacy_decoders.specs.declared.iso_2022_jp.steps.Mode.{Mode}
 use Rattle.legacy_decoders.specs.declared.iso_2022_jp.steps.Held.{Held}
 use Rattle.legacy_decoders.specs.declared.iso_2022_jp.steps.Move.{Move}
@@ -18,7 +18,7 @@ use Rattle.legacy_decoders.specs.declared.iso_2022_jp.steps.Outcome.{Outcome}
 use Rattle.legacy_decoders.specs.Iso2022JpMachine as machine
 use Rattle.legacy_decoders.specs.Iso2022JpMachine.{mode_meaning, bytes_of, is_held, is_resting}
 use Rattle.legacy_decoders.specs.Iso2022JpMoves.{state_in, is_left, move_events, rooms_of, fed_by, fed_of, weight_of, IsNarrow}
-use Rattle.legacy_decoders.specs.Moves.{fed_scalars, fed_fault, fed_units, unread_byte, FedHolds, Feeds}
+use Rattle.legacy_machines.specs.Moves.{fed_scalars, fed_fault, fed_units, unread_byte, FedHolds, Feeds}
 use Rattle.legacy_decoders.proofs.Iso2022JpLaw.{HasSizes, RestsAfter, done}
 use Rattle.legacy_decoders.proofs.Iso2022JpStep.{IsStep, read_step}
 use Rattle.legacy_decoders.proofs.Iso2022JpHeld.{held_rests}

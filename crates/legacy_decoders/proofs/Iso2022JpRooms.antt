@@ -15,7 +15,7 @@ use Rattle.legacy_decoders.specs.declared.iso_2022_jp.steps.Held.{Held}
 use Rattle.legacy_decoders.specs.declared.iso_2022_jp.steps.Held.TheVariants.{Byte, Begun, Whole}
 use Rattle.legacy_decoders.specs.Iso2022JpMachine.{mode_meaning, bytes_of}
 use Rattle.legacy_decoders.specs.Iso2022JpMoves.{state_in, weight_of}
-use Rattle.legacy_decoders.specs.Moves.{IsCovered, SameRooms, read_room}
+use Rattle.legacy_machines.specs.Moves.{IsCovered, SameRooms, read_room}
 use Rattle.legacy_decoders.proofs.Iso2022JpHeld.{held_weight}
 
 -- ---- the room of an act

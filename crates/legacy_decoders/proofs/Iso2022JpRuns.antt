@@ -18,13 +18,13 @@ use Rattle.legacy_base.proofs.Iso2022JpFronts.{step_one, step_two}
 use Rattle.legacy_decoders.specs.declared.iso_2022_jp.steps.Mode.TheVariants.{Ascii, TwoByte}
 use Rattle.legacy_decoders.specs.declared.iso_2022_jp.steps.Start.TheVariants.{Nothing}
 use Rattle.legacy_decoders.specs.declared.iso_2022_jp.steps.Held.TheVariants.{Begun}
-use Rattle.legacy_decoders.specs.Ahead.{Runs, IsPair, ReadsAhead}
+use Rattle.legacy_machines.specs.Ahead.{Runs, IsPair, ReadsAhead}
 use Rattle.legacy_decoders.specs.Iso2022JpMoves.{IsNarrowScalar}
 use Rattle.legacy_decoders.specs.Iso2022JpRuns.{IsPlain, plain_state}
-use Rattle.legacy_decoders.specs.PairPlaces.{jis_lead_place, jis_trail_place}
-use Rattle.legacy_decoders.proofs.PairPlaces.{idx_past}
+use Rattle.legacy_machines.specs.PairPlaces.{jis_lead_place, jis_trail_place}
+use Rattle.legacy_machines.proofs.PairPlaces.{idx_past}
 use Rattle.legacy_decoders.proofs.Iso2022JpRooms.{one_fits, room-falls, times_one}
-use Rattle.legacy_decoders.proofs.Writing.{runs_none, runs_more, room_step, code_units_ascii, all_code_units_ascii}
+use Rattle.legacy_machines.proofs.Writing.{runs_none, runs_more, room_step, code_units_ascii, all_code_units_ascii}
 
 -- ---- a plain byte
 

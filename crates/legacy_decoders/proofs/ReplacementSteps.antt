@@ -3,10 +3,10 @@ use Rattle.std.proofs.Common.{◌≡◌, ℕ, [], Bool, true, false, refl}
 use Rattle.std.proofs.lemmas.List.Elements.{All-nil}
 use Rattle.legacy_base.specs.Unicode.{IsByte}
 use Rattle.legacy_base.specs.Grammar.{replacement, events_of}
-use Rattle.legacy_decoders.specs.declared.machine.Fed.TheVariants.{Nothing, Fault}
-use Rattle.legacy_decoders.specs.Moves.{IsCovered, Feeds}
-use Rattle.legacy_decoders.specs.Costs.{state_of}
-use Rattle.legacy_decoders.proofs.Feeding as moves
+use Rattle.legacy_machines.specs.declared.machine.Fed.TheVariants.{Nothing, Fault}
+use Rattle.legacy_machines.specs.Moves.{IsCovered, Feeds}
+use Rattle.legacy_machines.specs.Costs.{state_of}
+use Rattle.legacy_machines.proofs.Feeding as moves
 
 -- the first byte is reported
 pub feeds_first : (reported : Bool) (b : ℕ) → IsByte b → reported ≡ false →

@@ -8,10 +8,9 @@ use Rattle.legacy_base.specs.Indexes.{entry_scalar, idx}
 use Rattle.legacy_base.specs.AcceptedTables.{AcceptedTable}
 use Rattle.legacy_base.specs.Grammar.{single_byte}
 use Rattle.legacy_base.proofs.AcceptedTable.{table-below, table-scalars}
-use Rattle.legacy_decoders.specs.Ahead.{Runs, IsSingle, HasAscii}
+use Rattle.legacy_machines.specs.Ahead.{Runs, IsSingle, HasAscii}
 use Rattle.legacy_decoders.specs.ByteEntries.{IsByteEntry, AreByteEntries}
-use Rattle.legacy_decoders.proofs.RunForms.{single_runs, has_ascii}
-use Rattle.legacy_decoders.proofs.UserDefinedRuns.{ascii_is, past_ascii}
+use Rattle.legacy_machines.proofs.RunForms.{single_runs, has_ascii, ascii_is, past_ascii}
 
 -- an entry that is a scalar is that scalar
 pub entry_is : (e c : ℕ) → entry_scalar e ≡ Some c → e ≡ c

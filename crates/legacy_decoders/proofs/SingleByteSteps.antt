@@ -5,12 +5,12 @@ use Rattle.legacy_base.specs.Unicode.{IsByte}
 use Rattle.legacy_base.specs.AcceptedTables.{AcceptedTable}
 use Rattle.legacy_base.specs.Grammar.{single_byte, events_of}
 use Rattle.legacy_base.proofs.AcceptedTable.{table-below}
-use Rattle.legacy_decoders.specs.declared.machine.Fed.{Fed}
-use Rattle.legacy_decoders.specs.Moves.{IsCovered, Feeds}
-use Rattle.legacy_decoders.specs.Costs.{state_of}
-use Rattle.legacy_decoders.specs.Feeding.{Took}
-use Rattle.legacy_decoders.specs.Machines.{single_byte_first}
-use Rattle.legacy_decoders.proofs.Feeding as moves
+use Rattle.legacy_machines.specs.declared.machine.Fed.{Fed}
+use Rattle.legacy_machines.specs.Moves.{IsCovered, Feeds}
+use Rattle.legacy_machines.specs.Costs.{state_of}
+use Rattle.legacy_machines.specs.Feeding.{Took}
+use Rattle.legacy_machines.specs.Machines.{single_byte_first}
+use Rattle.legacy_machines.proofs.Feeding as moves
 
 module _ (table : AcceptedTable) where
   pub covered : IsCovered (state_of (single_byte table.entries) [])

@@ -6,14 +6,8 @@ use Rattle.std.proofs.lemmas.Bool.{cases_lt}
 use Rattle.std.proofs.lemmas.Bool.Decides.{nat_tests}
 use Rattle.std.specs.Char.{IsScalar, is_ascii}
 use Rattle.legacy_base.specs.Grammar.{user_defined}
-use Rattle.legacy_decoders.specs.Ahead.{Runs, IsSingle, HasAscii}
-use Rattle.legacy_decoders.proofs.RunForms.{single_runs, has_ascii}
-
-pub ascii_is : (b : ℕ) → b < 0x80 → is_ascii b ≡ true
-ascii_is b h = grind (arith, nat_tests)
-
-pub past_ascii : (b : ℕ) → 0x80 ≤ b → is_ascii b ≡ false
-past_ascii b h = grind (arith, nat_tests)
+use Rattle.legacy_machines.specs.Ahead.{Runs, IsSingle, HasAscii}
+use Rattle.legacy_machines.proofs.RunForms.{ascii_is, past_ascii, single_runs, has_ascii}
 
 pub user_defined_ascii : HasAscii user_defined
 user_defined_ascii = has_ascii user_defined refl tt (λ b. refl) (λ b h. let a = ascii_is b h in rw a refl)

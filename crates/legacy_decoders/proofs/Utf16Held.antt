@@ -11,14 +11,14 @@ use Rattle.legacy_base.specs.Utf16.{unit_of}
 use Rattle.legacy_decoders.specs.declared.utf16.held.Held.{Held}
 use Rattle.legacy_decoders.specs.declared.utf16.held.Held.TheVariants.{Nothing, Odd, High, HighOdd, Pending}
 use Rattle.legacy_decoders.specs.declared.utf16.held.UnitScalar.{UnitScalar}
-use Rattle.legacy_decoders.specs.declared.machine.Fed.{Fed}
-use Rattle.legacy_decoders.specs.Moves.{IsCovered, Feeds, Releases, Reports}
-use Rattle.legacy_decoders.specs.Costs.{state_of}
-use Rattle.legacy_decoders.specs.Feeding.{Took}
-use Rattle.legacy_decoders.specs.Machines.{utf16_step, utf16_pending}
+use Rattle.legacy_machines.specs.declared.machine.Fed.{Fed}
+use Rattle.legacy_machines.specs.Moves.{IsCovered, Feeds, Releases, Reports}
+use Rattle.legacy_machines.specs.Costs.{state_of}
+use Rattle.legacy_machines.specs.Feeding.{Took}
+use Rattle.legacy_machines.specs.Machines.{utf16_step, utf16_pending}
 use Rattle.legacy_decoders.specs.Utf16Decoder.{first_byte, second_byte, held_bytes}
-use Rattle.legacy_decoders.proofs.Feeding as moves
-use Rattle.legacy_decoders.proofs.Utf16Moves.{utf16_meets}
+use Rattle.legacy_machines.proofs.Feeding as moves
+use Rattle.legacy_machines.proofs.Utf16Moves.{utf16_meets}
 
 -- the two bytes of a unit make the unit
 pub unit_of-bytes : (be : Bool) (u : ℕ) → unit_of be (first_byte be u) (second_byte be u) ≡ u

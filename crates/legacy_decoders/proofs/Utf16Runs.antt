@@ -12,11 +12,11 @@ use Rattle.legacy_base.specs.EncodingForm.{EncodingForm, code_units}
 use Rattle.legacy_base.specs.Unicode.{IsByte}
 use Rattle.legacy_base.specs.Grammar.{utf16}
 use Rattle.legacy_base.specs.Utf16.{unit_of}
-use Rattle.legacy_decoders.specs.Ahead.{Runs, IsPair, Writes, ReadsAhead}
-use Rattle.legacy_decoders.specs.Costs.{state_of}
+use Rattle.legacy_machines.specs.Ahead.{Runs, IsPair, Writes, ReadsAhead}
+use Rattle.legacy_machines.specs.Costs.{state_of}
 use Rattle.legacy_decoders.specs.Utf16Decoder.{HasAsciiUnits, unit_at}
-use Rattle.legacy_decoders.proofs.RunForms.{pair_runs}
-use Rattle.legacy_decoders.proofs.Writing.{writes_none, writes_two, room_step, code_units_ascii}
+use Rattle.legacy_machines.proofs.RunForms.{pair_runs}
+use Rattle.legacy_machines.proofs.Writing.{writes_none, writes_two, room_step, code_units_ascii}
 
 not_high : (u : ℕ) → IsScalar u → is_high_surrogate u ≡ false
 not_high u h = grind (arith, nat_tests)

@@ -5,8 +5,8 @@ use Rattle.legacy_base.specs.declared.results.DecodeEvent.{DecodeEvent}
 use Rattle.legacy_base.specs.declared.results.DecodeEvent.TheVariants.{Scalar, Bad}
 use Rattle.legacy_base.specs.Grammar.{iso_2022_jp}
 use Rattle.legacy_base.specs.States.{DecoderState}
-use Rattle.legacy_decoders.specs.declared.machine.Fed.{Fed}
-use Rattle.legacy_decoders.specs.declared.machine.Fed.TheVariants.{Nothing, One, Fault}
+use Rattle.legacy_machines.specs.declared.machine.Fed.{Fed}
+use Rattle.legacy_machines.specs.declared.machine.Fed.TheVariants.{Nothing, One, Fault}
 use Rattle.legacy_decoders.specs.declared.iso_2022_jp.steps.Mode.{Mode}
 use Rattle.legacy_decoders.specs.declared.iso_2022_jp.steps.Held.{Held}
 use Rattle.legacy_decoders.specs.declared.iso_2022_jp.steps.Move.{Move}

@@ -1,8 +1,7 @@
 -- What a single-byte decoder is between two calls: it holds nothing back.
 use Rattle.std.specs.Prelude.{ℕ, List}
 use Rattle.legacy_base.specs.Grammar.{single_byte}
-use Rattle.legacy_base.specs.States.{DecoderState}
-use Rattle.legacy_decoders.specs.Decoders.{new_state}
+use Rattle.legacy_base.specs.States.{DecoderState, new_state}
 use Rattle.legacy_decoders.specs.declared.single_byte.SingleByteDecoder.{SingleByteDecoder}
 
 -- the entries of its table

@@ -2,18 +2,17 @@
 ghost use Rattle.std.specs.Prelude.{◌≡◌, [], true};
 ghost use Rattle.legacy_base.specs.Grammar.{iso_2022_jp};
 ghost use Rattle.legacy_base.specs.Iso2022Jp.{ascii};
-ghost use Rattle.legacy_base.specs.States.{is_neutral};
-ghost use Rattle.legacy_decoders.specs.Decoders.{new_state};
+ghost use Rattle.legacy_base.specs.States.{is_neutral, new_state};
 ghost use Rattle.legacy_decoders.specs.Iso2022JpMachine.{is_held};
 ghost use Rattle.legacy_decoders.specs.Iso2022JpMoves.{weight_of};
 
 mod runs;
 mod steps;
 
-use crate::drive::drive;
-use crate::machine::{Act, Fed, Machine, Room};
-use crate::pairs::read_pairs;
 use legacy_base::{DecoderResult, Destination, RawDecoder, Tables};
+use legacy_machines::drive::drive;
+use legacy_machines::machine::{Act, Fed, Machine, Room};
+use legacy_machines::pairs::read_pairs;
 use runs::{Jis0208Pairs, read_plain};
 use steps::{Held, Mode, Start, finish, pending, read};
 

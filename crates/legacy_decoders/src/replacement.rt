@@ -1,11 +1,11 @@
 //! The replacement decoder.
 ghost use Rattle.std.specs.Prelude.{◌≡◌, false};
 ghost use Rattle.legacy_base.specs.Grammar.{replacement};
-ghost use Rattle.legacy_decoders.specs.Decoders.{new_state};
+ghost use Rattle.legacy_base.specs.States.{new_state};
 
-use crate::drive::drive;
-use crate::machine::{Act, Fed, Machine, Room};
 use legacy_base::{DecoderResult, Destination, RawDecoder};
+use legacy_machines::drive::drive;
+use legacy_machines::machine::{Act, Fed, Machine, Room};
 
 /// The replacement decoder (Encoding Standard, "replacement decoder").
 ///

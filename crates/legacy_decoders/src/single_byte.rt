@@ -2,16 +2,16 @@
 ghost use Rattle.std.specs.Prelude.{◌≡◌, ◌≤◌, [], length, take, IsAscii};
 ghost use Rattle.legacy_base.specs.Grammar.{single_byte};
 ghost use Rattle.legacy_base.specs.Latin1.{is_latin1_byte, latin1_front};
-ghost use Rattle.legacy_decoders.specs.Machines.{single_byte_first};
-ghost use Rattle.legacy_decoders.specs.Feeding.{Took};
-ghost use Rattle.legacy_decoders.specs.Decoders.{new_state};
+ghost use Rattle.legacy_base.specs.States.{new_state};
+ghost use Rattle.legacy_machines.specs.Machines.{single_byte_first};
+ghost use Rattle.legacy_machines.specs.Feeding.{Took};
 
 mod scalars;
 
-use crate::ahead::{CommonForms, Front, ahead};
-use crate::drive::drive;
-use crate::machine::{Act, Fed, Machine, Room};
 use legacy_base::{DecoderResult, Destination, RawDecoder, SingleByteTable};
+use legacy_machines::ahead::{CommonForms, Front, ahead};
+use legacy_machines::drive::drive;
+use legacy_machines::machine::{Act, Fed, Machine, Room};
 use scalars::ByteScalars;
 use std::simd::prelude::*;
 

@@ -4,15 +4,15 @@
 ghost use Rattle.std.specs.Prelude.{◌≡◌, ◌≤◌, ◌+◌, ◌-◌, []};
 ghost use Rattle.legacy_base.specs.EncodingForm.{bmp_room};
 ghost use Rattle.legacy_base.specs.Grammar.{user_defined};
-ghost use Rattle.legacy_decoders.specs.Machines.{user_defined_first};
-ghost use Rattle.legacy_decoders.specs.Ahead.{IsSingle, ReadsAhead};
-ghost use Rattle.legacy_decoders.specs.Feeding.{Took};
-ghost use Rattle.legacy_decoders.specs.Decoders.{new_state};
+ghost use Rattle.legacy_base.specs.States.{new_state};
+ghost use Rattle.legacy_machines.specs.Machines.{user_defined_first};
+ghost use Rattle.legacy_machines.specs.Ahead.{IsSingle, ReadsAhead};
+ghost use Rattle.legacy_machines.specs.Feeding.{Took};
 
-use crate::ahead::{CommonForms, Front, ahead};
-use crate::drive::drive;
-use crate::machine::{Act, Fed, Machine, Room};
 use legacy_base::{DecoderResult, Destination, RawDecoder};
+use legacy_machines::ahead::{CommonForms, Front, ahead};
+use legacy_machines::drive::drive;
+use legacy_machines::machine::{Act, Fed, Machine, Room};
 
 /// The decoder of x-user-defined (Encoding Standard, "x-user-defined decoder").
 ///

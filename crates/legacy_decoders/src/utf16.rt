@@ -1,19 +1,18 @@
 //! The decoder of UTF-16.
 ghost use Rattle.std.specs.Prelude.{◌≡◌};
 ghost use Rattle.legacy_base.specs.Grammar.{utf16};
-ghost use Rattle.legacy_base.specs.States.{additional_from_state};
+ghost use Rattle.legacy_base.specs.States.{additional_from_state, new_state};
 ghost use Rattle.legacy_base.specs.Lengths.{answer, utf16_units};
-ghost use Rattle.legacy_decoders.specs.Decoders.{new_state};
 
 mod held;
 mod runs;
 mod units;
 mod vectors;
 
-use crate::drive::drive;
-use crate::machine::{Act, Fed, Machine, Room};
 use held::Held;
 use legacy_base::{DecoderResult, Destination, RawDecoder};
+use legacy_machines::drive::drive;
+use legacy_machines::machine::{Act, Fed, Machine, Room};
 use runs::Units;
 use units::read_byte;
 

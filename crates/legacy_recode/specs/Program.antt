@@ -2,11 +2,10 @@
 use Rattle.std.specs.Prelude.{◌≡◌, ℕ, List, [], drop, true, false, Option, Some}
 use Rattle.legacy_base.specs.Grammar.{Grammar, user_defined, replacement, single_byte, utf16, big5, euc_kr, shift_jis, euc_jp, gb18030, iso_2022_jp}
 use Rattle.legacy_base.specs.Iso2022Jp.{ascii}
-use Rattle.legacy_base.specs.States.{DecoderState}
+use Rattle.legacy_base.specs.States.{DecoderState, new_state}
 use Rattle.legacy_base.specs.Indexes.{FlatIndexes}
 use Rattle.legacy_base.specs.AcceptedTables.{flat_lists}
 use Rattle.legacy_base.specs.TableChecks.{AreAccepted, IsAcceptedTable}
-use Rattle.legacy_decoders.specs.Decoders.{new_state}
 use Rattle.legacy_recode.specs.declared.words.Codec.{Codec}
 use Rattle.legacy_recode.specs.declared.words.Codec.TheVariants as codec
 use Rattle.legacy_recode.specs.declared.index_file.FileIndex.{FileIndex}

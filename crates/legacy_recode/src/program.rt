@@ -1,7 +1,7 @@
 //! What the program does with its words, its files and its streams.
 ghost use Rattle.std.specs.Prelude.{◌≡◌, ◌↔◌, ◌≤◌, OnOk, None, IsTrue};
 ghost use Rattle.legacy_base.specs.Grammar.{Grammar};
-ghost use Rattle.legacy_decoders.specs.Decoders.{new_state};
+ghost use Rattle.legacy_base.specs.States.{new_state};
 ghost use Rattle.legacy_recode.specs.Words.{texts_of, are_indexes, codec_of_words};
 ghost use Rattle.legacy_recode.specs.IndexTexts.{contents_of, text_given};
 ghost use Rattle.legacy_recode.specs.Program.{grammar_of, RecodesInput, RecodesByTables, RecodesByTexts, RecodesByWords};

@@ -3,12 +3,12 @@
 // destination's place there from form to form.
 ghost use Rattle.std.specs.Prelude.{◌≡◌, ℕ, ◌+◌, ◌<◌, ◌≤◌, List, All, length, take, true};
 ghost use Rattle.legacy_decoders.specs.Iso2022JpRuns.{IsPlain, plain_state};
-ghost use Rattle.legacy_decoders.specs.Ahead.{ReadsAhead};
+ghost use Rattle.legacy_machines.specs.Ahead.{ReadsAhead};
 
 use super::steps::entry;
-use crate::pairs::Pairs;
-use crate::places::jis_pointer;
 use legacy_base::{Destination, Tables};
+use legacy_machines::pairs::Pairs;
+use legacy_machines::places::jis_pointer;
 
 /// The pairs of two-byte mode.
 #[derive(Drop)]

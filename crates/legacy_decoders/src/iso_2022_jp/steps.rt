@@ -7,8 +7,8 @@ ghost use Rattle.legacy_decoders.specs.Iso2022JpMachine.{start_bytes, bytes_of, 
 ghost use Rattle.legacy_decoders.specs.declared.iso_2022_jp.steps.Mode.TheVariants.{Ascii, TwoByte};
 ghost use Rattle.legacy_decoders.specs.Iso2022JpMoves.{fed_of, weight_of, IsNarrow, IsNarrowScalar};
 
-use crate::machine::Fed;
 use legacy_base::{IndexName, Tables};
+use legacy_machines::machine::Fed;
 
 /// How the bytes behind an escape are read.
 #[derive(Clone, Copy)]

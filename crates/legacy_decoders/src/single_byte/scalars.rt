@@ -4,7 +4,7 @@
 // destination's place there from form to form.
 ghost use Rattle.std.specs.Prelude.{◌≡◌, ◌<◌, ℕ, length, IfSome};
 ghost use Rattle.legacy_base.specs.Grammar.{single_byte};
-ghost use Rattle.legacy_decoders.specs.Ahead.{IsSingle};
+ghost use Rattle.legacy_machines.specs.Ahead.{IsSingle};
 ghost use Rattle.legacy_decoders.specs.ByteEntries.{IsByteEntry, AreByteEntries};
 
 use legacy_base::SingleByteTable;

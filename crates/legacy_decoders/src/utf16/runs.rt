@@ -5,14 +5,14 @@ ghost use Rattle.std.specs.Prelude.{◌≡◌, ◌+◌, ◌*◌, ◌<◌, ◌≤
 ghost use Rattle.std.specs.Char.{IsScalar};
 ghost use Rattle.legacy_base.specs.EncodingForm.{code_units, unit_count};
 ghost use Rattle.legacy_base.specs.Grammar.{utf16};
-ghost use Rattle.legacy_decoders.specs.Ahead.{Writes, ReadsAhead};
-ghost use Rattle.legacy_decoders.specs.Costs.{state_of};
+ghost use Rattle.legacy_machines.specs.Ahead.{Writes, ReadsAhead};
+ghost use Rattle.legacy_machines.specs.Costs.{state_of};
 ghost use Rattle.legacy_decoders.specs.Utf16Decoder.{HasAsciiUnits, AreScalarUnits};
 
 use super::units::unit;
 use super::vectors::{eight_units, sixteen_units};
-use crate::pairs::{Pairs, read_pairs};
 use legacy_base::Destination;
+use legacy_machines::pairs::{Pairs, read_pairs};
 
 /// The units of a byte order.
 #[derive(Drop)]

@@ -4,12 +4,12 @@ ghost use Rattle.std.specs.Char.Utf16.{is_high_surrogate, is_low_surrogate, surr
 ghost use Rattle.legacy_base.specs.Grammar.{utf16};
 ghost use Rattle.legacy_base.specs.Utf16.{unit_of};
 ghost use Rattle.legacy_base.specs.States.{rests};
-ghost use Rattle.legacy_decoders.specs.Machines.{utf16_step};
-ghost use Rattle.legacy_decoders.specs.Feeding.{Took};
+ghost use Rattle.legacy_machines.specs.Machines.{utf16_step};
+ghost use Rattle.legacy_machines.specs.Feeding.{Took};
 ghost use Rattle.legacy_decoders.specs.Utf16Decoder.{first_byte, second_byte, held_bytes};
 
 use super::held::{Held, HighSurrogate, OddByte, UnitScalar};
-use crate::machine::Fed;
+use legacy_machines::machine::Fed;
 
 /// The unit of two bytes.
 #[inline]

@@ -1,6 +1,6 @@
 use Rattle.std.proofs.Common.{◌∙◌, refl, arith}
 use Rattle.legacy_base.specs.Grammar.{user_defined}
-use Rattle.legacy_decoders.proofs.Writing.{writes_none, writes_one, one_unit, room_step}
+use Rattle.legacy_machines.proofs.Writing.{writes_none, writes_one, one_unit, room_step}
 use Rattle.legacy_decoders.proofs.user_defined.read_units.Goals as goal
 
 pub loop-at-init : goal.loop-at-init

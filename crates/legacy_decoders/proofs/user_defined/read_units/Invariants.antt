@@ -1,6 +1,6 @@
 use Rattle.std.proofs.Common.{◌≡◌, ◌+◌, ◌-◌, ◌≤◌, length, take}
 use Rattle.legacy_base.specs.Grammar.{user_defined}
-use Rattle.legacy_decoders.specs.Ahead.{Writes}
+use Rattle.legacy_machines.specs.Ahead.{Writes}
 use Rattle.legacy_decoders.proofs.user_defined.read_units.Given as goal
 
 -- what was read was written, a unit for each byte

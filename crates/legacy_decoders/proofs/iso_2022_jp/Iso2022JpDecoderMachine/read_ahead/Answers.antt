@@ -2,7 +2,7 @@ use Rattle.std.proofs.Common.{◌≡◌, ◌∙◌, ap}
 use Rattle.legacy_decoders.specs.declared.iso_2022_jp.steps.Start.TheVariants.{Nothing}
 use Rattle.legacy_decoders.specs.declared.iso_2022_jp.steps.Held.TheVariants.{Begun}
 use Rattle.legacy_decoders.specs.Iso2022JpDecoder.{iso_2022_jp_state}
-use Rattle.legacy_decoders.proofs.Writing.{reads_none}
+use Rattle.legacy_machines.proofs.Writing.{reads_none}
 use Rattle.legacy_decoders.proofs.iso_2022_jp.Iso2022JpDecoderMachine.read_ahead.Goals as goal
 use Rattle.legacy_decoders.proofs.iso_2022_jp.Iso2022JpDecoderMachine.read_ahead.Goals.{in-Begun-Nothing, in_default, in_default-2}
 

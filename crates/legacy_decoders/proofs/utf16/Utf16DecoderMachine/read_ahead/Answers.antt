@@ -1,5 +1,5 @@
 use Rattle.legacy_decoders.specs.Utf16Decoder.{utf16_state}
-use Rattle.legacy_decoders.proofs.Writing.{reads_none}
+use Rattle.legacy_machines.proofs.Writing.{reads_none}
 use Rattle.legacy_decoders.proofs.utf16.Utf16DecoderMachine.read_ahead.Goals as goal
 
 pub returns-then-not-matches-clause-ahead : goal.returns-then-not-matches-clause-ahead

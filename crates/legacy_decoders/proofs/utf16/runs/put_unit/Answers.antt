@@ -1,5 +1,5 @@
 use Rattle.std.proofs.Common.{◌<◌, arith}
-use Rattle.legacy_decoders.proofs.Writing.{three_fit}
+use Rattle.legacy_machines.proofs.Writing.{three_fit}
 use Rattle.legacy_decoders.proofs.utf16.runs.put_unit.Goals as goal
 
 pub put-requires : goal.put-requires

@@ -1,7 +1,7 @@
 use Rattle.std.proofs.Common.{◌≡◌, ◌<◌, ◌^◌, ◌∙◌, get_or, sym, ap, subst, arith}
 use Rattle.std.specs.Char.{IsScalar}
 use Rattle.legacy_base.specs.Grammar.{single_byte}
-use Rattle.legacy_decoders.specs.Ahead.{IsSingle}
+use Rattle.legacy_machines.specs.Ahead.{IsSingle}
 use Rattle.legacy_decoders.proofs.SingleByteRuns.{entry_below, entry_runs}
 use Rattle.legacy_decoders.proofs.single_byte.scalars.ByteScalars.scalar.Goals as goal
 

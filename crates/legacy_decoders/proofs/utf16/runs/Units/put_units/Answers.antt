@@ -2,7 +2,7 @@ use Rattle.std.proofs.Common.{◌≡◌, ◌<◌, ◌∙◌, refl, arith}
 use Rattle.legacy_base.specs.Grammar.{utf16}
 use Rattle.legacy_decoders.specs.Utf16Decoder.{unit_at}
 use Rattle.legacy_decoders.proofs.Utf16Runs.{writes_unit}
-use Rattle.legacy_decoders.proofs.Writing.{writes_none, three_fit, short, room_step}
+use Rattle.legacy_machines.proofs.Writing.{writes_none, three_fit, short, room_step}
 use Rattle.legacy_decoders.proofs.utf16.runs.Units.put_units.Goals as goal
 
 pub loop-at-init : goal.loop-at-init

@@ -1,6 +1,6 @@
 use Rattle.std.proofs.Common.{◌≡◌, ◌+◌, ◌*◌, ◌-◌, ◌≤◌, length, take}
 use Rattle.legacy_base.specs.Grammar.{utf16}
-use Rattle.legacy_decoders.specs.Ahead.{Writes}
+use Rattle.legacy_machines.specs.Ahead.{Writes}
 use Rattle.legacy_decoders.proofs.utf16.runs.Units.put_units.Given as goal
 
 -- the units that were passed are written, each as three code units at the most

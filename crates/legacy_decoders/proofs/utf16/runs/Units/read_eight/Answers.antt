@@ -4,7 +4,7 @@ use Rattle.legacy_base.specs.Grammar.{utf16}
 use Rattle.legacy_base.specs.Unicode.{IsByte}
 use Rattle.legacy_decoders.specs.Utf16Decoder.{unit_at}
 use Rattle.legacy_decoders.proofs.Utf16Runs.{writes_unit}
-use Rattle.legacy_decoders.proofs.Writing.{writes_none, short, room_step}
+use Rattle.legacy_machines.proofs.Writing.{writes_none, short, room_step}
 use Rattle.legacy_decoders.proofs.utf16.runs.Units.read_eight.Goals as goal
 use Rattle.legacy_decoders.proofs.utf16.runs.Units.read_eight.Goals.{then-unit-ge2048, else-unit-ge2048+then-unit-ge128, else-unit-ge2048+else-unit-ge128+else-at-lt7}
 

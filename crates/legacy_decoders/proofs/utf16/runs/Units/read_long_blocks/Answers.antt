@@ -1,9 +1,9 @@
 use Rattle.std.proofs.Common.{◌≤◌, ◌∙◌, ℕ, ◌-◌, ◌*◌, List, [], length, take, drop, refl, arith}
 use Rattle.std.proofs.lemmas.List.{length-take, length-drop}
 use Rattle.legacy_base.specs.Grammar.{utf16}
-use Rattle.legacy_decoders.specs.Costs.{state_of}
-use Rattle.legacy_decoders.proofs.MoreRuns.{reads_more, reads_written}
-use Rattle.legacy_decoders.proofs.Writing.{reads_none}
+use Rattle.legacy_machines.specs.Costs.{state_of}
+use Rattle.legacy_machines.proofs.MoreRuns.{reads_more, reads_written}
+use Rattle.legacy_machines.proofs.Writing.{reads_none}
 use Rattle.legacy_decoders.proofs.utf16.runs.Units.read_long_blocks.Goals as goal
 
 pub loop-at-init : goal.loop-at-init

@@ -1,11 +1,11 @@
 use Rattle.std.proofs.Common.{◌≡◌, ◌≤◌, ◌∙◌, ℕ, ◌+◌, ◌-◌, ◌*◌, List, [], length, take, drop, refl, subst, arith}
 use Rattle.std.proofs.lemmas.List.{length-take, length-drop}
 use Rattle.legacy_base.specs.Grammar.{utf16}
-use Rattle.legacy_decoders.specs.Ahead.{ReadsAhead}
-use Rattle.legacy_decoders.specs.Costs.{state_of}
-use Rattle.legacy_decoders.proofs.MoreRuns.{reads_more}
+use Rattle.legacy_machines.specs.Ahead.{ReadsAhead}
+use Rattle.legacy_machines.specs.Costs.{state_of}
+use Rattle.legacy_machines.proofs.MoreRuns.{reads_more}
 use Rattle.legacy_decoders.proofs.Utf16Runs.{reads_block}
-use Rattle.legacy_decoders.proofs.Writing.{reads_none}
+use Rattle.legacy_machines.proofs.Writing.{reads_none}
 use Rattle.legacy_decoders.proofs.utf16.runs.Units.read_mixed.Goals as goal
 
 pub loop-at-init : goal.loop-at-init

@@ -1,7 +1,7 @@
 use Rattle.std.proofs.Common.{◌≡◌, ◌-◌, [], length}
 use Rattle.legacy_base.specs.Grammar.{utf16}
-use Rattle.legacy_decoders.specs.Ahead.{ReadsAhead}
-use Rattle.legacy_decoders.specs.Costs.{state_of}
+use Rattle.legacy_machines.specs.Ahead.{ReadsAhead}
+use Rattle.legacy_machines.specs.Costs.{state_of}
 use Rattle.legacy_decoders.proofs.utf16.runs.Units.read_mixed.Given as goal
 
 -- what was read was written

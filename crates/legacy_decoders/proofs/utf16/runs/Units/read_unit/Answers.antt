@@ -2,10 +2,10 @@ use Rattle.std.proofs.Common.{ℕ, [], get_or, refl, subst, arith}
 use Rattle.std.specs.Char.{IsScalar}
 use Rattle.legacy_base.specs.Grammar.{utf16}
 use Rattle.legacy_base.specs.Unicode.{IsByte}
-use Rattle.legacy_decoders.specs.Costs.{state_of}
-use Rattle.legacy_decoders.proofs.MoreRuns.{reads_written}
+use Rattle.legacy_machines.specs.Costs.{state_of}
+use Rattle.legacy_machines.proofs.MoreRuns.{reads_written}
 use Rattle.legacy_decoders.proofs.Utf16Runs.{below_scalar, writes_unit}
-use Rattle.legacy_decoders.proofs.Writing.{writes_none, writes_two, reads_none, three_fit, short, room_step}
+use Rattle.legacy_machines.proofs.Writing.{writes_none, writes_two, reads_none, three_fit, short, room_step}
 use Rattle.legacy_decoders.proofs.utf16.runs.Units.read_unit.Goals as goal
 
 pub returns-then-first-lt2048-clause-ahead : goal.returns-then-first-lt2048-clause-ahead

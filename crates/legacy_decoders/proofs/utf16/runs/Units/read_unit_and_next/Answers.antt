@@ -1,7 +1,7 @@
 use Rattle.std.proofs.Common.{◌-◌, [], length}
 use Rattle.legacy_base.specs.Grammar.{utf16}
-use Rattle.legacy_decoders.specs.Costs.{state_of}
-use Rattle.legacy_decoders.proofs.MoreRuns.{reads_more}
+use Rattle.legacy_machines.specs.Costs.{state_of}
+use Rattle.legacy_machines.proofs.MoreRuns.{reads_more}
 use Rattle.legacy_decoders.proofs.utf16.runs.Units.read_unit_and_next.Goals as goal
 
 pub returns-clause-ahead : goal.returns-clause-ahead

@@ -1,9 +1,9 @@
 use Rattle.std.proofs.Common.{◌≡◌, ◌∙◌, ℕ, ◌+◌, ◌-◌, [], length, refl, subst, arith}
 use Rattle.legacy_base.specs.Grammar.{utf16}
-use Rattle.legacy_decoders.specs.Ahead.{ReadsAhead}
-use Rattle.legacy_decoders.specs.Costs.{state_of}
-use Rattle.legacy_decoders.proofs.MoreRuns.{reads_more}
-use Rattle.legacy_decoders.proofs.Writing.{reads_none}
+use Rattle.legacy_machines.specs.Ahead.{ReadsAhead}
+use Rattle.legacy_machines.specs.Costs.{state_of}
+use Rattle.legacy_machines.proofs.MoreRuns.{reads_more}
+use Rattle.legacy_machines.proofs.Writing.{reads_none}
 use Rattle.legacy_decoders.proofs.utf16.runs.Units.read_units.Goals as goal
 
 pub loop-dst-init : goal.loop-dst-init

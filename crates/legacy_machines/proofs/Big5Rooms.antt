@@ -1,0 +1,59 @@
+-- The rooms of Big5.
+use Rattle.std.proofs.Common.{◌≡◌, ℕ, List, [], ◌∷◌, length, true, refl, arith}
+use Rattle.std.proofs.lemmas.Bool.{false≢true}
+use Rattle.std.specs.Char.{is_ascii}
+use Rattle.legacy_machines.specs.Costs.{utf8_count}
+use Rattle.legacy_base.specs.Unicode.{IsByte, AreBytes}
+use Rattle.legacy_base.specs.Grammar.{big5}
+use Rattle.legacy_base.specs.States.{is_lead, single_lead_may_hold}
+use Rattle.legacy_base.specs.Acts.{act_room, takes}
+use Rattle.legacy_machines.specs.Costs.{utf8_room, utf16_room}
+use Rattle.legacy_machines.specs.Machines.{big5_machine}
+use Rattle.legacy_machines.specs.Costs.{utf16_count, IsWidth, state_of, Cost, RoomMeets, utf8_without_room}
+use Rattle.legacy_machines.proofs.TwoByteMoves.{big5_meets}
+use Rattle.legacy_machines.proofs.TwoByteCosts.{big5_first_cost, big5_pair_cost}
+use Rattle.legacy_machines.proofs.Widths.{width_utf8, width_utf16}
+use Rattle.legacy_machines.proofs.RoomMoves.{first_room, held_room_is, cond_most, HasCosts, rooms_utf8, rooms_utf16, rooms_without}
+
+module _ (index : List ℕ) where
+  costs : HasCosts (big5 index) (big5_machine index) length 4
+  costs = record { to_is = λ held b. refl; cost = cost }
+    where
+      cost : (len : ℕ → ℕ) (narrow wide : ℕ) → IsWidth len narrow wide → (held : List ℕ) (b : ℕ) → single_lead_may_hold is_lead held ≡ true → true ≡ true → AreBytes held → IsByte b →
+          Cost len narrow (act_room narrow wide (state_of (big5 index) held) (takes b)) length 4 held b ((big5_machine index).step held b)
+      cost len narrow wide w [] b h r bytes byte = rw (first_room (is_ascii b) 1 wide) (big5_first_cost len narrow wide w b)
+      cost len narrow wide w (lead ∷ []) b h r bytes byte = rw (held_room_is (is_ascii b) true 1 wide) (big5_pair_cost len narrow wide w index lead b)
+      cost len narrow wide w (lead ∷ c ∷ held) b h r bytes byte = absurd (false≢true h)
+
+  pub big5_utf8 : RoomMeets utf8_count 3 4 3 utf8_room (big5 index) (big5_machine index)
+  big5_utf8 = rooms_utf8 utf8_room (big5 index) (big5_machine index) length 4 (big5_meets index) refl costs width_utf8 record {
+    sloped = λ held held' n n' u h. omega arith;
+    write_pays = λ held h r bytes. tt;
+    report_fits = λ held. omega arith;
+    report_pays = λ b held h r. omega arith;
+    take_need = λ held b n h p. cond_most _ 1 4 _ (omega arith) (omega arith);
+    write_need = λ held n h p. omega arith;
+    rises = λ held n m h. omega arith;
+  }
+
+  pub big5_utf16 : RoomMeets utf16_count 1 2 1 utf16_room (big5 index) (big5_machine index)
+  big5_utf16 = rooms_utf16 utf16_room (big5 index) (big5_machine index) length 4 (big5_meets index) refl costs width_utf16 record {
+    sloped = λ held held' n n' u h. omega arith;
+    write_pays = λ held h r bytes. tt;
+    report_fits = λ held. omega arith;
+    report_pays = λ b held h r. omega arith;
+    take_need = λ held b n h p. cond_most _ 1 2 _ (omega arith) (omega arith);
+    write_need = λ held n h p. omega arith;
+    rises = λ held n m h. omega arith;
+  }
+
+  pub big5_without : RoomMeets utf8_count 3 4 0 utf8_without_room (big5 index) (big5_machine index)
+  big5_without = rooms_without utf8_without_room (big5 index) (big5_machine index) length 4 (big5_meets index) refl costs width_utf8 record {
+    sloped = λ held held' n n' u h. omega arith;
+    write_pays = λ held h r bytes. tt;
+    report_fits = λ held. omega arith;
+    report_pays = λ b held h r. omega arith;
+    take_need = λ held b n h p. cond_most _ 1 4 _ (omega arith) (omega arith);
+    write_need = λ held n h p. omega arith;
+    rises = λ held n m h. omega arith;
+  }

@@ -1,0 +1,10 @@
+-- How the decoders work inside: nothing here has to be believed. What they promise is said by legacy_base.
+pub mod Gb18030Held
+pub mod Gb18030Decoder
+pub mod EucJpHeld
+pub mod EucJpDecoder
+pub mod TwoByte
+pub mod EucKrDecoder
+pub mod Big5Decoder
+pub mod ShiftJisDecoder
+pub mod FourPlaces
