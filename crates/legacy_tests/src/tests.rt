@@ -5,6 +5,7 @@ mod destinations;
 mod euc_jp;
 mod events;
 mod gb18030;
+mod indexes;
 mod iso_2022_jp;
 mod replacement;
 mod rows;

@@ -4,17 +4,15 @@ use legacy_base::DecoderResult::{InputEmpty, Malformed};
 use legacy_base::{DecodeEvent, DecoderResult, RawDecoder};
 use std::alloc::{AllocError, Global};
 
-/// A malformed sequence.
-pub(crate) fn bad(place: usize, length: usize) -> DecodeEvent {
-    Bad { place, length }
-}
-
 /// The malformed sequence that an answer reports, with so many bytes read.
 fn reported(answer: DecoderResult, seen: usize) -> Option<DecodeEvent> {
     match answer {
         Malformed(length, back) => {
             let behind = usize::from(back) + usize::from(length);
-            Some(bad(seen.saturating_sub(behind), usize::from(length)))
+            Some(Bad {
+                place: seen.saturating_sub(behind),
+                length: usize::from(length),
+            })
         }
         _ => None,
     }

@@ -1,3 +1,4 @@
+use crate::tests::indexes::no_entries;
 use crate::tests::rows::Row::{
     BareLength, Case, Neutral, Split, Utf8, Utf8Length, Utf16, Utf16Length, Whole,
 };
@@ -11,13 +12,9 @@ use std::test::Fail;
 /// Tables with these entries of index gb18030 and these ranges, and no others.
 fn tables_of<'a>(gb18030: &'a [u16], ranges: &'a [(u16, u16)]) -> Result<Tables<'a>, TableError> {
     Tables::new(&Indexes {
-        big5: &[],
-        euc_kr: &[],
-        jis0208: &[],
-        jis0212: &[],
         gb18030,
-        katakana: &[],
         ranges,
+        ..no_entries()
     })
 }
 

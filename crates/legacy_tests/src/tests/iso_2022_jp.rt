@@ -1,3 +1,4 @@
+use crate::tests::indexes::no_entries;
 use crate::tests::rows::Row::{
     BareLength, Case, Neutral, Split, Utf8, Utf8Length, Utf16, Utf16Length, Whole,
 };
@@ -11,13 +12,8 @@ use std::test::Fail;
 /// Tables in which index jis0208 has these entries, and the others none.
 fn tables_of<'a>(jis0208: &'a [u16]) -> Result<Tables<'a>, TableError> {
     Tables::new(&Indexes {
-        big5: &[],
-        euc_kr: &[],
         jis0208,
-        jis0212: &[],
-        gb18030: &[],
-        katakana: &[],
-        ranges: &[],
+        ..no_entries()
     })
 }
 

@@ -1,8 +1,9 @@
 //! Runs: calls over pieces and outputs, to their end.
+use crate::tests::indexes::no_entries;
 use crate::tests::rows::Tested;
 use legacy_base::DecodeEvent::{Bad, Scalar};
 use legacy_base::DecoderResult::{InputEmpty, OutputFull};
-use legacy_base::{DecodeEvent, Destination, Indexes, RawDecoder, Tables};
+use legacy_base::{DecodeEvent, Destination, RawDecoder, Tables};
 use legacy_codecs::{
     DecodeRun, RunError, ScalarBuffer, Utf8Form, Utf16Form, decode_run_utf8, decode_run_utf16,
 };
@@ -157,19 +158,6 @@ fn a_buffer_of_scalars_counts_their_code_units(rt: HostRuntime) {
     assert_eq!(rt; buffer.written(), 3);
     assert_eq!(rt; buffer.free(), 1);
     assert!(rt; buffer.scalars() == ['\u{61}', '\u{F780}', '\u{F780}'].as_slice());
-}
-
-/// Indexes without an entry.
-fn no_entries<'a>() -> Indexes<'a> {
-    Indexes {
-        big5: &[],
-        euc_kr: &[],
-        jis0208: &[],
-        jis0212: &[],
-        gb18030: &[],
-        katakana: &[],
-        ranges: &[],
-    }
 }
 
 #[test]

@@ -1,4 +1,5 @@
 use crate::tests::events::{is_split_into, is_wholly};
+use crate::tests::indexes::entries_of;
 use crate::tests::rows::Row::{BareLength, Case, Split, Utf8, Utf8Length, Utf16Length};
 use crate::tests::rows::follow;
 use legacy_base::DecodeEvent::{Bad, Scalar};
@@ -9,17 +10,6 @@ use std::test::Fail;
 
 /// Greek letters at the places that some encodings have them.
 const GREEK: [(usize, u16); 4] = [(65, 0x391), (117, 0x3C5), (116, 0x3C4), (124, 0x3CC)];
-
-/// A table of these entries alone, by their places.
-fn entries_of(some: &[(usize, u16)]) -> [u16; 128] {
-    let mut entries = [0u16; 128];
-    for (place, entry) in some {
-        if *place < 128 {
-            entries[*place] = *entry;
-        }
-    }
-    entries
-}
 
 #[test]
 fn without_entries_ascii_is_read_and_the_rest_is_malformed(rt: HostRuntime) -> Result<(), Fail> {

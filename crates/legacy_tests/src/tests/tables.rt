@@ -1,24 +1,12 @@
 //! The checks of the tables, and look-ups in them.
+use crate::tests::indexes::{entries_of, no_entries};
 use legacy_base::{IndexName, Indexes, SingleByteTable, TableError, Tables};
 use std::alloc::{AllocError, Global};
 use std::test::Fail;
 
-/// Indexes without an entry.
-fn empty<'a>() -> Indexes<'a> {
-    Indexes {
-        big5: &[],
-        euc_kr: &[],
-        jis0208: &[],
-        jis0212: &[],
-        gb18030: &[],
-        katakana: &[],
-        ranges: &[],
-    }
-}
-
 /// Indexes in which one index of entries up to U+FFFF has these, and the others none.
 fn narrow<'a>(name: IndexName, entries: &'a [u16]) -> Indexes<'a> {
-    let mut indexes = empty();
+    let mut indexes = no_entries();
     match name {
         IndexName::EucKr => indexes.euc_kr = entries,
         IndexName::Jis0208 => indexes.jis0208 = entries,
@@ -56,14 +44,14 @@ fn big5_fault(
     if let Some(place) = entries.get_mut(pointer) {
         *place = entry;
     }
-    let mut indexes = empty();
+    let mut indexes = no_entries();
     indexes.big5 = &entries;
     Ok(Tables::new(&indexes).err())
 }
 
 /// The fault of ranges alone.
 fn ranges_fault(ranges: &[(u16, u16)]) -> Option<TableError> {
-    let mut indexes = empty();
+    let mut indexes = no_entries();
     indexes.ranges = ranges;
     Tables::new(&indexes).err()
 }
@@ -172,7 +160,7 @@ fn a_pointer_has_its_entry_in_the_named_index(rt: HostRuntime) -> Result<(), Fai
 
 /// Compares the scalars that these ranges give some pointers of four bytes with these scalars.
 fn give(ranges: &[(u16, u16)], rows: &[(usize, Option<char>)]) -> Result<bool, TableError> {
-    let mut indexes = empty();
+    let mut indexes = no_entries();
     indexes.ranges = ranges;
     let tables = Tables::new(&indexes)?;
     Ok(
@@ -251,17 +239,6 @@ fn the_words_of_faults_and_indexes(rt: HostRuntime) -> Result<(), Fail> {
 /// The fault of a single-byte table of these entries alone, by their places.
 fn byte_fault(some: &[(usize, u16)]) -> Option<TableError> {
     SingleByteTable::new(&entries_of(some)).err()
-}
-
-/// These entries alone, by their places.
-fn entries_of(some: &[(usize, u16)]) -> [u16; 128] {
-    let mut entries = [0u16; 128];
-    for (place, entry) in some {
-        if *place < 128 {
-            entries[*place] = *entry;
-        }
-    }
-    entries
 }
 
 #[test]

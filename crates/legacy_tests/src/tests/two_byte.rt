@@ -1,4 +1,5 @@
 //! Big5, EUC-KR and Shift_JIS.
+use crate::tests::indexes::no_entries;
 use crate::tests::rows::Row::{
     BareLength, Case, Neutral, Split, Utf8, Utf8Length, Utf16, Utf16Length,
 };
@@ -14,11 +15,7 @@ fn tables_of<'a>(big5: &'a [u32], euc_kr: &'a [u16]) -> Result<Tables<'a>, Table
     Tables::new(&Indexes {
         big5,
         euc_kr,
-        jis0208: &[],
-        jis0212: &[],
-        gb18030: &[],
-        katakana: &[],
-        ranges: &[],
+        ..no_entries()
     })
 }
 
