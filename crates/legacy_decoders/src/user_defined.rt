@@ -1,13 +1,12 @@
 //! The decoder of x-user-defined.
 // Inlined always is what runs for each form or block: a call would pass vectors through memory, and put the
 // destination's place there from form to form.
-ghost use Rattle.std.specs.Prelude.{◌≡◌, ◌≤◌, ◌+◌, ◌-◌, []};
+ghost use Rattle.std.specs.Prelude.{◌≡◌, ◌+◌, ◌-◌, if◌then◌else◌};
+ghost use Rattle.std.specs.Char.{is_ascii};
 ghost use Rattle.legacy_base.specs.EncodingForm.{bmp_room};
 ghost use Rattle.legacy_base.specs.Grammar.{user_defined};
 ghost use Rattle.legacy_base.specs.States.{new_state};
-ghost use Rattle.legacy_machines.specs.Machines.{user_defined_first};
-ghost use Rattle.legacy_machines.specs.Ahead.{IsSingle, ReadsAhead};
-ghost use Rattle.legacy_machines.specs.Feeding.{Took};
+ghost use Rattle.legacy_machines.specs.Ahead.{ReadsAhead};
 
 use legacy_base::{DecoderResult, Destination, RawDecoder};
 use legacy_machines::ahead::{CommonForms, Front, ahead};
@@ -34,35 +33,11 @@ impl UserDefinedDecoder {
     }
 }
 
-/// The private-use scalar of a byte past ASCII.
-#[inline]
-fn private_use(byte: u8) -> char
-    requires { 0x80 ≤ byte }
-    ensures { result ≡ 0xF780 + (byte - 0x80) }
-{
-    match char::from_u32(0xF780 + (u32::from(byte) - 0x80)) {
-        Some(scalar) => scalar,
-        None => unreachable!(),
-    }
-}
-
-/// What a byte leads to.
-#[inline]
-fn read_byte(byte: u8) -> Fed
-    ensures { Took (user_defined_first byte) [] byte result [] }
-{
-    if byte < 0x80 {
-        Fed::One(char::from(byte))
-    } else {
-        Fed::One(private_use(byte))
-    }
-}
-
-/// The scalar of any byte.
+/// The scalar of any byte: ASCII is itself, and a byte past it a private-use scalar.
 // Bit 7 is carried into all higher bits, and bit 11 cleared: the compiler makes vectors of it, and no branch.
 #[inline(always)]
 fn scalar_of(byte: u8) -> char
-    ensures { IsSingle user_defined byte result }
+    ensures { result ≡ (if is_ascii byte then byte else 0xF780 + (byte - 0x80)) }
 {
     let unit = (u16::from(byte) ^ 0x80).wrapping_sub(0x80) & 0xF7FF;
     unsafe { char::from_u32_unchecked(u32::from(unit)) }
@@ -106,7 +81,7 @@ impl Machine for UserDefinedDecoder {
 
     #[inline]
     fn feed(&mut self, byte: u8) -> Fed {
-        read_byte(byte)
+        Fed::One(scalar_of(byte))
     }
 
     #[inline]
@@ -140,7 +115,7 @@ impl CommonForms for UserDefinedDecoder {
 
     #[inline]
     fn front(&self, lead: u8, _trail: u8) -> Front {
-        Front::Single(private_use(lead))
+        Front::Single(scalar_of(lead))
     }
 }
 

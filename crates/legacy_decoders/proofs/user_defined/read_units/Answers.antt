@@ -1,6 +1,7 @@
 use Rattle.std.proofs.Common.{◌∙◌, refl, arith}
 use Rattle.legacy_base.specs.Grammar.{user_defined}
 use Rattle.legacy_machines.proofs.Writing.{writes_none, writes_one, one_unit, room_step}
+use Rattle.legacy_decoders.proofs.UserDefinedRuns.{is_single}
 use Rattle.legacy_decoders.proofs.user_defined.read_units.Goals as goal
 
 pub loop-at-init : goal.loop-at-init
@@ -11,7 +12,7 @@ loop-at-preserved g c =
     let F = g.T.Destination.form in
     let i = c.loop-at.invariant in
     let e = c.put.ensures in
-    let s = c.scalar_of.ensures in
+    let s = is_single _ c.scalar_of.result (omega arith) c.scalar_of.type_inv.1.1 c.scalar_of.ensures in
     let one = one_unit F c.scalar_of.result c.requires s.0 in (
       omega (arith, c.loop-at-test.true),
       omega (arith, i.1, one, e.room),

@@ -3,9 +3,11 @@ use Rattle.std.proofs.lemmas.List.Elements.{All-nil}
 use Rattle.legacy_base.specs.Unicode.{IsByte}
 use Rattle.legacy_base.specs.Grammar.{user_defined}
 use Rattle.legacy_machines.proofs.Feeding.{feeds}
+use Rattle.legacy_decoders.proofs.UserDefinedRuns.{takes_step}
 use Rattle.legacy_decoders.proofs.user_defined.UserDefinedDecoderMachine.feed.Goals as goal
 
 pub returns : goal.returns
 returns c =
     let byte : c.args.byte < 2 ^ 8 = omega arith in
-    feeds user_defined refl tt [] refl (All-nil IsByte) c.args.byte byte refl c.read_byte.result [] c.read_byte.ensures
+    let took = takes_step c.args.byte c.scalar_of.result c.scalar_of.type_inv.1.1 c.scalar_of.ensures in
+    feeds user_defined refl tt [] refl (All-nil IsByte) c.args.byte byte refl _ [] took
