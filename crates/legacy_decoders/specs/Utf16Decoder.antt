@@ -1,6 +1,5 @@
 -- What the UTF-16 decoder is between two calls.
 use Rattle.std.specs.Prelude.{◌≡◌, ℕ, ◌+◌, ◌*◌, ◌<◌, slice_index, ◌/◌, ◌%◌, List, [], ◌∷◌, Bool, if◌then◌else◌}
-use Rattle.std.specs.Char.{IsScalar}
 use Rattle.legacy_base.specs.Grammar.{Grammar, utf16}
 use Rattle.legacy_base.specs.Utf16.{unit_of}
 use Rattle.legacy_base.specs.States.{DecoderState}
@@ -39,7 +38,3 @@ unit_at big_endian bytes k = unit_of big_endian (slice_index bytes (2 * k)) (sli
 -- where one of the first n numbers of the block is ASCII, the unit is that number
 abbrev pub HasAsciiUnits : Bool → List ℕ → List ℕ → ℕ → Type 0
 HasAsciiUnits big_endian bytes block n = (k : ℕ) → k < n → slice_index block k < 0x80 → unit_at big_endian bytes k ≡ slice_index block k
-
--- the first n units are scalars: none is a surrogate
-abbrev pub AreScalarUnits : Bool → List ℕ → ℕ → Type 0
-AreScalarUnits big_endian bytes n = (k : ℕ) → k < n → IsScalar (unit_at big_endian bytes k)

@@ -7,7 +7,7 @@ ghost use Rattle.legacy_base.specs.EncodingForm.{code_units, unit_count};
 ghost use Rattle.legacy_base.specs.Grammar.{utf16};
 ghost use Rattle.legacy_machines.specs.Ahead.{Writes, ReadsAhead};
 ghost use Rattle.legacy_machines.specs.Costs.{state_of};
-ghost use Rattle.legacy_decoders.specs.Utf16Decoder.{HasAsciiUnits, AreScalarUnits};
+ghost use Rattle.legacy_decoders.specs.Utf16Decoder.{HasAsciiUnits};
 
 use super::units::unit;
 use super::vectors::{eight_units, sixteen_units};
@@ -31,14 +31,14 @@ impl Pairs for Units {
     }
 }
 
-/// Whether any of eight units is a surrogate.
+/// Whether any of the units is a surrogate.
 #[inline(always)]
-fn has_surrogate(units: &[u16; 8]) -> bool
-    ensures { result ≡ false → (k : ℕ) → k < 8 → IsScalar (slice_index units.now k) }
+fn has_surrogate(units: &[u16]) -> bool
+    ensures { result ≡ false → (k : ℕ) → k < length units.now → IsScalar (slice_index units.now k) }
 {
     let mut found = false;
     let mut at = 0;
-    while at < 8 {
+    while at < units.len() {
         found = found || (units[at] >= 0xD800 && units[at] <= 0xDFFF);
         at += 1;
     }
@@ -76,42 +76,6 @@ impl Units {
         block
     }
 
-    /// Whether none of so many units from the front is a surrogate.
-    #[inline(always)]
-    fn has_no_surrogate(&self, src: &[u8], count: usize) -> bool
-        requires { 2 * count ≤ length src.now }
-        ensures { result ≡ true → AreScalarUnits self.now.big_endian src.now count }
-    {
-        let mut holds = true;
-        let mut at = 0;
-        while at < count {
-            let unit = unit(self.big_endian, src[2 * at], src[2 * at + 1]);
-            holds = holds && (unit < 0xD800 || unit > 0xDFFF);
-            at += 1;
-        }
-        holds
-    }
-
-    /// Writes so many units from the front, which are no surrogates.
-    // No turn ends early, so the compiler makes vectors of it where a scalar is one code unit.
-    #[inline(always)]
-    fn put_units<T: Destination>(&self, src: &[u8], dst: &mut T, count: usize)
-        requires source { 2 * count ≤ length src.now }
-        requires scalars { AreScalarUnits self.now.big_endian src.now count }
-        requires room { 3 * count + 3 ≤ T.room dst.old }
-        ensures writes { Writes T.form (utf16 self.now.big_endian) (take (2 * count) src.now) (T.contents dst.old) (T.contents dst.new) }
-        ensures room { T.room dst.new + length (T.contents dst.new) ≡ T.room dst.old + length (T.contents dst.old) }
-        ensures slack { 3 ≤ T.room dst.new }
-        ensures loan { T.loan dst.new ≡ T.loan dst.old }
-    {
-        let mut at = 0;
-        while at < count {
-            let code = u32::from(unit(self.big_endian, src[2 * at], src[2 * at + 1]));
-            dst.put(unsafe { char::from_u32_unchecked(code) });
-            at += 1;
-        }
-    }
-
     /// Reads so many units from the front, or fewer up to a surrogate. Answers how many bytes were read:
     /// none is an answer too.
     #[inline(always)]
@@ -124,25 +88,49 @@ impl Units {
         read_pairs(self, &src[..part], dst)
     }
 
-    /// Reads units by long blocks, up to the first with a surrogate. Answers how many bytes were read:
-    /// none is an answer too.
-    // How long a block is follows from the source and the room: of loops of a length that is not known
-    // the compiler makes vectors, where it would write out short ones unit by unit.
+    /// Reads sixteen units from the front, or none where one of them is a surrogate. Answers how many bytes
+    /// were read.
+    // No turn ends early and the units are those of a vector, so where a scalar is one code unit the compiler
+    // stores the vector as it is.
     #[inline(always)]
-    fn read_long_blocks<T: Destination>(&self, src: &[u8], dst: &mut T) -> usize
+    fn read_sixteen<T: Destination>(&self, src: &[u8], dst: &mut T) -> usize
+        requires source { 32 ≤ length src.now }
+        requires room { 51 ≤ T.room dst.old }
+        ensures read { result ≤ 32 }
+        ensures writes { Writes T.form (utf16 self.now.big_endian) (take result src.now) (T.contents dst.old) (T.contents dst.new) }
+        ensures room { T.room dst.new + length (T.contents dst.new) ≡ T.room dst.old + length (T.contents dst.old) }
+        ensures slack { 3 ≤ T.room dst.new }
+        ensures loan { T.loan dst.new ≡ T.loan dst.old }
+    {
+        let units = sixteen_units(self.big_endian, src).to_array();
+        if has_surrogate(&units) {
+            return 0;
+        }
+        let mut at = 0;
+        while at < 16 {
+            let unit = units[at];
+            put_unit(dst, unit);
+            at += 1;
+        }
+        32
+    }
+
+    /// Reads units by blocks of sixteen, up to the first with a surrogate. Answers how many bytes were read:
+    /// none is an answer too.
+    #[inline(always)]
+    fn read_blocks<T: Destination>(&self, src: &[u8], dst: &mut T) -> usize
         ensures ahead { ReadsAhead T.form (state_of (utf16 self.now.big_endian) []) src.now result (T.contents dst.old) (T.contents dst.new) (T.room dst.old) (T.room dst.new) }
         ensures loan { T.loan dst.new ≡ T.loan dst.old }
     {
         let mut at = 0;
-        loop {
-            let fitting = dst.free().saturating_sub(3) / 3;
-            let count = ((src.len() - at) / 2).min(fitting).min(128);
-            if count == 0 || !self.has_no_surrogate(&src[at..], count) {
+        while src.len() - at >= 32 && dst.free() >= 51 {
+            let read = self.read_sixteen(&src[at..], dst);
+            at += read;
+            if read < 32 {
                 return at;
             }
-            self.put_units(&src[at..], dst, count);
-            at += 2 * count;
         }
+        at
     }
 
     /// Whether there is a first unit and it is below the bound.
@@ -277,15 +265,15 @@ impl Units {
         at
     }
 
-    /// Reads units from the front as suits the encoding form: by long blocks where each scalar is one code
-    /// unit, and otherwise by what each block has. Answers how many bytes were read: none is an answer too.
+    /// Reads units from the front as suits the encoding form: by blocks where each scalar is one code unit,
+    /// and otherwise by what each block has. Answers how many bytes were read: none is an answer too.
     #[inline(always)]
     fn read_part<T: Destination>(&self, src: &[u8], dst: &mut T) -> usize
         ensures ahead { ReadsAhead T.form (state_of (utf16 self.now.big_endian) []) src.now result (T.contents dst.old) (T.contents dst.new) (T.room dst.old) (T.room dst.new) }
         ensures loan { T.loan dst.new ≡ T.loan dst.old }
     {
         if T::narrow() == 1 {
-            return self.read_long_blocks(src, dst);
+            return self.read_blocks(src, dst);
         }
         self.read_mixed(src, dst)
     }

@@ -2,7 +2,7 @@ use Rattle.std.proofs.Common.{◌≡◌, ◌-◌, [], length}
 use Rattle.legacy_base.specs.Grammar.{utf16}
 use Rattle.legacy_machines.specs.Ahead.{ReadsAhead}
 use Rattle.legacy_machines.specs.Costs.{state_of}
-use Rattle.legacy_decoders.proofs.utf16.runs.Units.read_long_blocks.Given as goal
+use Rattle.legacy_decoders.proofs.utf16.runs.Units.read_blocks.Given as goal
 
 -- what was read was written
 abbrev pub invariant-loop-at : goal.invariant-loop-at
