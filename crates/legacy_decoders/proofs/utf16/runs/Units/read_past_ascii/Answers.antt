@@ -18,7 +18,7 @@ returns-then-read-lt16-clause-ahead g c =
     let e = c.read_eight-read.ensures in
     let rest : List ℕ = take (length src - at) (drop at src) in
     let long : c.read_eight-read.result ≤ length rest = omega (arith, length-take (length src - at) (drop at src), length-drop at src, c.loop-at-test.true, e.read) in
-    let had : 4 ≤ T.room c.loop-at.dst = omega (arith, c.if-free-ge27.true, c.free.ensures) in
+    let had : 4 ≤ T.room c.loop-at.dst = omega (arith, c.free.ensures) in
     reads_more T.form state src _ _ _ at c.read_eight-read.result (length src - at) _ _ _ c.loop-at.invariant.0 (reads_written T.form state rest _ _ c.read_eight-read.result _ _ long refl e.writes e.room e.slack had)
 
 pub loop-at-preserved : goal.loop-at-preserved
@@ -30,7 +30,7 @@ loop-at-preserved g c =
     let e = c.read_eight-read.ensures in
     let rest : List ℕ = take (length src - at) (drop at src) in
     let long : c.read_eight-read.result ≤ length rest = omega (arith, length-take (length src - at) (drop at src), length-drop at src, c.loop-at-test.true, e.read) in
-    let had : 4 ≤ T.room c.loop-at.dst = omega (arith, c.if-free-ge27.true, c.free.ensures) in (
+    let had : 4 ≤ T.room c.loop-at.dst = omega (arith, c.free.ensures) in (
       reads_more T.form state src _ _ _ at c.read_eight-read.result (length src - at) _ _ _ c.loop-at.invariant.0 (reads_written T.form state rest _ _ c.read_eight-read.result _ _ long refl e.writes e.room e.slack had),
       e.loan ∙ c.loop-at.invariant.1,
     )
