@@ -1,4 +1,4 @@
--- How the moves of each decoder follow from its grammar, and calls from the moves.
+-- How the other decoders take the steps of their machines, and how ISO-2022-JP keeps to its grammar.
 pub mod Utf16Runs
 pub mod Utf16Held
 pub mod ReplacementSteps

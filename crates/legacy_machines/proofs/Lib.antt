@@ -1,4 +1,4 @@
--- How the moves of each decoder follow from its grammar, and calls from the moves.
+-- How the moves of each machine follow from its grammar, and calls from the moves.
 pub mod Going
 pub mod FrontMoves
 pub mod OneByteMoves

@@ -1,4 +1,4 @@
--- How the moves of each decoder follow from its grammar, and calls from the moves.
+-- How the decoders of forms of several bytes take the steps of their machines.
 pub mod TwoByteHeld
 pub mod EucKrHeld
 pub mod Big5Held
