@@ -23,7 +23,7 @@ use Rattle.legacy_decoders.specs.Iso2022JpMoves.{IsNarrowScalar}
 use Rattle.legacy_decoders.specs.Iso2022JpRuns.{IsPlain, plain_state}
 use Rattle.legacy_machines.specs.PairPlaces.{jis_lead_place, jis_trail_place}
 use Rattle.legacy_machines.proofs.PairPlaces.{idx_past}
-use Rattle.legacy_decoders.proofs.Iso2022JpRooms.{one_fits, room-falls, times_one}
+use Rattle.legacy_decoders.proofs.Iso2022JpRooms.{same_rooms, one_fits, room-falls, times_one}
 use Rattle.legacy_machines.proofs.Writing.{runs_none, runs_more, room_step, code_units_ascii, all_code_units_ascii}
 
 -- ---- a plain byte
@@ -121,6 +121,9 @@ reads_plain form jis0208 source old new count before after within plain e room e
     record {
       within = within;
       idle = λ h. refl;
+      empties = λ h. refl;
+      stays = λ z. refl;
+      rooms = same_rooms jis0208 Ascii Ascii;
       writes = record {
         scalars = take count source;
         runs = plain_bytes jis0208 (take count source) plain;

@@ -12,6 +12,7 @@ pub mod Iso2022JpHeld
 pub mod Iso2022JpEnd
 pub mod Iso2022JpRooms
 pub mod Iso2022JpRuns
+pub mod Iso2022JpEscapes
 pub mod Iso2022JpFeeding
 pub mod Iso2022JpEnding
 pub mod Iso2022JpStates

@@ -16,6 +16,7 @@ use Rattle.legacy_machines.specs.Ahead.{Runs, IsPair, Writes, ReadsAhead}
 use Rattle.legacy_machines.specs.Costs.{state_of}
 use Rattle.legacy_decoders.specs.Utf16Decoder.{HasAsciiUnits, unit_at}
 use Rattle.legacy_machines.proofs.RunForms.{pair_runs}
+use Rattle.legacy_machines.proofs.MoreRuns.{reads_written}
 use Rattle.legacy_machines.proofs.Writing.{writes_none, writes_two, room_step, code_units_ascii}
 
 not_high : (u : ℕ) → IsScalar u → is_high_surrogate u ≡ false
@@ -82,15 +83,10 @@ pub reads_block : (form : EncodingForm) (be : Bool) (source block old new : List
 reads_block form be source block old new r before after within long narrow count ascii e room enough =
     let all = All-from_ascii (take r block) ascii in
     let l : length (take r block) ≡ r = length-take-le r block count in
-    record {
-      within = omega arith;
-      idle = λ h. refl;
-      writes = rw e (block_writes form be source block old r (omega arith) count (λ k h. narrow k (omega arith))
-          (λ k h. subst (λ u. u < 0x80) (get_or-take r block k 0 h) (All-get_or (λ u. u < 0x80) (take r block) k 0 (omega arith) all)));
-      room = room_step after before new old (take r block) e (omega arith);
-      slack = λ h. omega arith;
-      had = λ h. omega arith;
-    }
+    reads_written form (state_of (utf16 be) []) source old new (2 * r) before after (omega arith) refl
+    (rw e (block_writes form be source block old r (omega arith) count (λ k h. narrow k (omega arith))
+    (λ k h. subst (λ u. u < 0x80) (get_or-take r block k 0 h) (All-get_or (λ u. u < 0x80) (take r block) k 0 (omega arith) all))))
+    (room_step after before new old (take r block) e (omega arith)) (omega arith) (omega arith)
 
 -- ---- blocks without surrogates
 

@@ -12,8 +12,7 @@ mod steps;
 use legacy_base::{DecoderResult, Destination, RawDecoder, Tables};
 use legacy_machines::drive::drive;
 use legacy_machines::machine::{Act, Fed, Machine, Room};
-use legacy_machines::pairs::read_pairs;
-use runs::{Jis0208Pairs, read_plain};
+use runs::read_modes;
 use steps::{Held, Mode, Start, finish, pending, read};
 
 /// The decoder of ISO-2022-JP (Encoding Standard, "ISO-2022-JP decoder").
@@ -102,20 +101,13 @@ impl<'a> Machine for Iso2022JpDecoder<'a> {
     }
 
     #[inline]
-    fn read_ahead<T: Destination>(&self, src: &[u8], dst: &mut T) -> usize {
+    fn read_runs<T: Destination>(&mut self, src: &[u8], dst: &mut T) -> usize {
         if !matches!(self.held, Held::Begun(Start::Nothing)) {
             return 0;
         }
-        match self.mode {
-            Mode::Ascii => read_plain(src, dst),
-            Mode::TwoByte => {
-                let pairs = Jis0208Pairs {
-                    tables: self.tables,
-                };
-                read_pairs(&pairs, src, dst)
-            }
-            Mode::Roman | Mode::Katakana => 0,
-        }
+        let (mode, read) = read_modes(self.tables, self.mode, src, dst);
+        self.mode = mode;
+        read
     }
 }
 

@@ -57,7 +57,7 @@ HadRoom-same form g h previous free (c ∷ cs) s a =
 pub same_rooms : (g : Grammar) → SameRooms g g
 same_rooms g = record { full = λ form. refl; report = λ form. refl; wants = λ p c. refl }
 
-both_rooms : (g h k : Grammar) → SameRooms g h → SameRooms h k → SameRooms g k
+pub both_rooms : (g h k : Grammar) → SameRooms g h → SameRooms h k → SameRooms g k
 both_rooms g h k a b = record { full = λ form. b.full form ∙ a.full form; report = λ form. b.report form ∙ a.report form; wants = λ p c. b.wants p c ∙ a.wants p c }
 
 sound-out : (p : ℕ) (fed : Fed) → (IsFaulty fed → ⊥) → map Scalar (fed_scalars fed) ++ fed_fault p fed ≡ map Scalar (fed_scalars fed)

@@ -15,24 +15,25 @@ use Rattle.legacy_base.proofs.Shifts.{shift-append, shift-zero, shift-shift, shi
 use Rattle.legacy_base.proofs.Rooms.{all_code_units-append, total_unit_count-append}
 use Rattle.legacy_base.proofs.SameUnits.{some_unit}
 use Rattle.legacy_base.proofs.CodeUnits.{encode_1, utf16_1, length-code_units-bmp, length-code_units-wide}
-use Rattle.legacy_machines.specs.Ahead.{Runs, Writes, ReadsAhead}
+use Rattle.legacy_machines.specs.Ahead.{RunsTo, Runs, WritesTo, Writes, ReadsAhead}
+use Rattle.legacy_machines.proofs.Going.{same_rooms}
 
 -- no bytes
 pub runs_none : (g : Grammar) → Runs g [] []
 runs_none g = record { events = λ more. sym (shift-zero (events_of g more)); scalar = All-nil IsScalar; lowers = λ query n. rw (add-zero n) (omega arith) }
 
 -- bytes, and then more bytes
-pub runs_more : (g : Grammar) (xs ys cs ds : List ℕ) → Runs g xs cs → Runs g ys ds → Runs g (xs ++ ys) (cs ++ ds)
-runs_more g xs ys cs ds a b = record {
+pub runs_then : (g h k : Grammar) (xs ys cs ds : List ℕ) → RunsTo g h xs cs → RunsTo h k ys ds → RunsTo g k (xs ++ ys) (cs ++ ds)
+runs_then g h k xs ys cs ds a b = record {
   events = λ more.
       ap (events_of g) (append_assoc xs ys more) ∙ a.events (ys ++ more)
       ∙ ap (λ es. map Scalar cs ++ shift (length xs) es) (b.events more)
-      ∙ ap (λ es. map Scalar cs ++ es) (shift-append (length xs) (map Scalar ds) (shift (length ys) (events_of g more)))
-      ∙ ap (λ es. map Scalar cs ++ (es ++ shift (length xs) (shift (length ys) (events_of g more)))) (shift-scalars (length xs) ds)
-      ∙ ap (λ es. map Scalar cs ++ (map Scalar ds ++ es)) (shift-shift (length xs) (length ys) (events_of g more))
-      ∙ sym (append_assoc (map Scalar cs) (map Scalar ds) (shift (length xs + length ys) (events_of g more)))
-      ∙ ap (λ es. es ++ shift (length xs + length ys) (events_of g more)) (sym (map-append Scalar cs ds))
-      ∙ ap (λ n. map Scalar (cs ++ ds) ++ shift n (events_of g more)) (sym (length-append xs ys));
+      ∙ ap (λ es. map Scalar cs ++ es) (shift-append (length xs) (map Scalar ds) (shift (length ys) (events_of k more)))
+      ∙ ap (λ es. map Scalar cs ++ (es ++ shift (length xs) (shift (length ys) (events_of k more)))) (shift-scalars (length xs) ds)
+      ∙ ap (λ es. map Scalar cs ++ (map Scalar ds ++ es)) (shift-shift (length xs) (length ys) (events_of k more))
+      ∙ sym (append_assoc (map Scalar cs) (map Scalar ds) (shift (length xs + length ys) (events_of k more)))
+      ∙ ap (λ es. es ++ shift (length xs + length ys) (events_of k more)) (sym (map-append Scalar cs ds))
+      ∙ ap (λ n. map Scalar (cs ++ ds) ++ shift n (events_of k more)) (sym (length-append xs ys));
   scalar = All-append IsScalar cs ds a.scalar b.scalar;
   lowers = λ query n.
       let p = b.lowers query n in
@@ -40,6 +41,10 @@ runs_more g xs ys cs ds a b = record {
       let e : n + length (xs ++ ys) ≡ (n + length ys) + length xs = omega (arith, length-append xs ys) in
       rw e (omega (arith, total_unit_count-append (query_form query) cs ds));
 }
+
+-- the same in one grammar
+pub runs_more : (g : Grammar) (xs ys cs ds : List ℕ) → Runs g xs cs → Runs g ys ds → Runs g (xs ++ ys) (cs ++ ds)
+runs_more g xs ys cs ds a b = runs_then g g g xs ys cs ds a b
 
 -- ASCII bytes, where each is its own scalar
 pub runs_ascii : (g : Grammar) → ((x : ℕ) → x < 128 → Runs g (x ∷ []) (x ∷ [])) → (xs : List ℕ) → IsAscii xs → Runs g xs xs
@@ -63,6 +68,9 @@ pub reads_none : (form : EncodingForm) (state : DecoderState) (source old : List
 reads_none form state source old free = record {
   within = omega arith;
   idle = λ h. absurd (omega arith);
+  empties = λ h. absurd (omega arith);
+  stays = λ e. refl;
+  rooms = same_rooms state.grammar;
   writes = writes_none form state.grammar old;
   room = refl;
   slack = λ h. absurd (omega arith);
@@ -70,13 +78,17 @@ reads_none form state source old free = record {
 }
 
 -- what was written, and then more
-pub writes_more : (form : EncodingForm) (g : Grammar) (xs ys x y z ds : List ℕ) → Writes form g xs x y → Runs g ys ds → z ≡ y ++ all_code_units form ds → Writes form g (xs ++ ys) x z
-writes_more form g xs ys x y z ds a b e = record {
+pub writes_then : (form : EncodingForm) (g h k : Grammar) (xs ys x y z ds : List ℕ) → WritesTo form g h xs x y → RunsTo h k ys ds → z ≡ y ++ all_code_units form ds → WritesTo form g k (xs ++ ys) x z
+writes_then form g h k xs ys x y z ds a b e = record {
   scalars = a.scalars ++ ds;
-  runs = runs_more g xs ys a.scalars ds a.runs b;
+  runs = runs_then g h k xs ys a.scalars ds a.runs b;
   written = e ∙ ap (λ l. l ++ all_code_units form ds) a.written ∙ append_assoc x (all_code_units form a.scalars) (all_code_units form ds)
       ∙ ap (λ l. x ++ l) (sym (all_code_units-append form a.scalars ds));
 }
+
+-- the same in one grammar
+pub writes_more : (form : EncodingForm) (g : Grammar) (xs ys x y z ds : List ℕ) → Writes form g xs x y → Runs g ys ds → z ≡ y ++ all_code_units form ds → Writes form g (xs ++ ys) x z
+writes_more form g xs ys x y z ds a b e = writes_then form g g g xs ys x y z ds a b e
 
 -- a next byte
 pub writes_one : (form : EncodingForm) (g : Grammar) (src x y z : List ℕ) (at c : ℕ) → at < length src → Writes form g (take at src) x y → Runs g (get_or src at 0 ∷ []) (c ∷ []) → z ≡ y ++ code_units form c
@@ -146,8 +158,8 @@ pub room_step : (rn ro : ℕ) (new old us : List ℕ) → new ≡ old ++ us → 
 room_step rn ro new old us e f = let l : length new ≡ length old + length us = ap length e ∙ length-append old us in omega arith
 
 -- what was written takes room
-pub room_falls : (form : EncodingForm) (g : Grammar) (bytes x y : List ℕ) (rn ro : ℕ) → Writes form g bytes x y → rn + length y ≡ ro + length x → rn ≤ ro
-room_falls form g bytes x y rn ro w e = let l : length y ≡ length x + length (all_code_units form w.scalars) = ap length w.written ∙ length-append x (all_code_units form w.scalars) in omega arith
+pub room_falls : (form : EncodingForm) (g h : Grammar) (bytes x y : List ℕ) (rn ro : ℕ) → WritesTo form g h bytes x y → rn + length y ≡ ro + length x → rn ≤ ro
+room_falls form g h bytes x y rn ro w e = let l : length y ≡ length x + length (all_code_units form w.scalars) = ap length w.written ∙ length-append x (all_code_units form w.scalars) in omega arith
 
 -- a scalar up to U+FFFF is one code unit where there is a room of one for it
 pub one_unit : (form : EncodingForm) (c : ℕ) → bmp_room form ≡ 1 → c < 65536 → length (code_units form c) ≡ 1

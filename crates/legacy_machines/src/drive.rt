@@ -83,7 +83,7 @@ pub fn drive<D: Machine, T: Destination>(
     }
     let mut read = 0;
     loop {
-        read += decoder.read_ahead(&src[read..], dst);
+        read += decoder.read_runs(&src[read..], dst);
         if read == src.len() {
             break;
         }

@@ -4,7 +4,7 @@ ghost use Rattle.legacy_base.specs.EncodingForm.{EncodingForm};
 ghost use Rattle.legacy_base.specs.Grammar.{events_of};
 ghost use Rattle.legacy_base.specs.States.{DecoderState, rests};
 ghost use Rattle.legacy_machines.specs.Moves.{room_units, act_units, IsCovered, Releases, Feeds, Reports};
-ghost use Rattle.legacy_machines.specs.Ahead.{ReadsAhead};
+ghost use Rattle.legacy_machines.specs.Ahead.{ReadsTo, ReadsAhead};
 
 use legacy_base::Destination;
 
@@ -94,5 +94,15 @@ pub trait Machine {
     {
         let _ = (src.len(), dst.free());
         0
+    }
+
+    /// Reads ahead as `read_ahead` does, and where the codec has bytes that switch how those behind them
+    /// are read, from one run over such bytes to the next: then the decoder changes with them.
+    #[inline]
+    fn read_runs<T: Destination>(&mut self, src: &[u8], dst: &mut T) -> usize
+        ensures runs { ReadsTo T.form (state self.old) (state self.new) src.now result (T.contents dst.old) (T.contents dst.new) (T.room dst.old) (T.room dst.new) }
+        ensures loan { T.loan dst.new ≡ T.loan dst.old }
+    {
+        self.read_ahead(src, dst)
     }
 }

@@ -1,19 +1,20 @@
-//! The runs of ISO-2022-JP: plain ASCII in ASCII mode, and pairs of index jis0208 in two-byte mode.
+//! The runs of ISO-2022-JP: plain ASCII in ASCII mode, pairs of index jis0208 in two-byte mode, and the
+//! escapes between them.
 // Inlined always is what runs for each form or block: a call would pass vectors through memory, and put the
 // destination's place there from form to form.
-ghost use Rattle.std.specs.Prelude.{◌≡◌, ℕ, ◌+◌, ◌<◌, ◌≤◌, List, All, length, take, true};
-ghost use Rattle.legacy_decoders.specs.Iso2022JpRuns.{IsPlain, plain_state};
-ghost use Rattle.legacy_machines.specs.Ahead.{ReadsAhead};
+ghost use Rattle.std.specs.Prelude.{◌≡◌, ℕ, ◌+◌, ◌<◌, ◌≤◌, List, All, IfSome, length, take, true};
+ghost use Rattle.legacy_decoders.specs.Iso2022JpRuns.{IsPlain, plain_state, run_state, HasEscape};
+ghost use Rattle.legacy_machines.specs.Ahead.{ReadsTo, ReadsAhead};
 
-use super::steps::entry;
+use super::steps::{DOLLAR, ESCAPE, Escape, Mode, PAREN, Start, completed, entry};
 use legacy_base::{Destination, Tables};
-use legacy_machines::pairs::Pairs;
+use legacy_machines::pairs::{Pairs, read_pairs};
 use legacy_machines::places::jis_pointer;
 
 /// The pairs of two-byte mode.
 #[derive(Drop)]
-pub struct Jis0208Pairs<'a> {
-    pub tables: &'a Tables<'a>,
+struct Jis0208Pairs<'a> {
+    tables: &'a Tables<'a>,
 }
 
 impl Pairs for Jis0208Pairs<'_> {
@@ -80,7 +81,7 @@ fn plain_count(src: &[u8]) -> usize
 /// Reads such bytes from the front, in ASCII mode, as many as leave three code units free. Answers how
 /// many were read: none is an answer too.
 #[inline]
-pub fn read_plain<T: Destination>(src: &[u8], dst: &mut T) -> usize
+fn read_plain<T: Destination>(src: &[u8], dst: &mut T) -> usize
     ensures ahead { (jis0208 : List ℕ) → ReadsAhead T.form (plain_state jis0208) src.now result (T.contents dst.old) (T.contents dst.new) (T.room dst.old) (T.room dst.new) }
     ensures loan { T.loan dst.new ≡ T.loan dst.old }
 {
@@ -92,4 +93,59 @@ pub fn read_plain<T: Destination>(src: &[u8], dst: &mut T) -> usize
         at += 1;
     }
     count
+}
+
+/// Reads a run of the mode from the front. Answers how many bytes were read: none is an answer too.
+fn read_mode<T: Destination>(tables: &Tables, mode: Mode, src: &[u8], dst: &mut T) -> usize
+    ensures ahead { ReadsAhead T.form (run_state tables.now.flat.jis0208 mode) src.now result (T.contents dst.old) (T.contents dst.new) (T.room dst.old) (T.room dst.new) }
+    ensures loan { T.loan dst.new ≡ T.loan dst.old }
+{
+    match mode {
+        Mode::Ascii => read_plain(src, dst),
+        Mode::TwoByte => read_pairs(&Jis0208Pairs { tables }, src, dst),
+        Mode::Roman | Mode::Katakana => 0,
+    }
+}
+
+/// The valid escape at the front, where a byte that is no escape byte stands behind it.
+#[inline]
+fn escape_at(src: &[u8]) -> Option<Escape>
+    ensures { IfSome result (λ escape. HasEscape escape src.now) }
+{
+    if src.len() < 4 || src[0] != ESCAPE || src[3] == ESCAPE {
+        return None;
+    }
+    if src[1] == DOLLAR {
+        completed(Start::Dollar, src[2])
+    } else if src[1] == PAREN {
+        completed(Start::Paren, src[2])
+    } else {
+        None
+    }
+}
+
+/// Reads a run of the mode from the front, and on behind each escape that a run of its mode follows.
+/// Answers the mode at the end, and how many bytes were read.
+#[inline]
+pub fn read_modes<T: Destination>(
+    tables: &Tables,
+    first: Mode,
+    src: &[u8],
+    dst: &mut T,
+) -> (Mode, usize)
+    ensures runs { ReadsTo T.form (run_state tables.now.flat.jis0208 first) (run_state tables.now.flat.jis0208 result.0) src.now result.1 (T.contents dst.old) (T.contents dst.new) (T.room dst.old) (T.room dst.new) }
+    ensures loan { T.loan dst.new ≡ T.loan dst.old }
+{
+    let mut mode = first;
+    let mut at = read_mode(tables, mode, src, dst);
+    while let Some(escape) = escape_at(&src[at..]) {
+        let next = escape.mode();
+        let read = read_mode(tables, next, &src[at + 3..], dst);
+        if read == 0 {
+            break;
+        }
+        mode = next;
+        at += 3 + read;
+    }
+    (mode, at)
 }

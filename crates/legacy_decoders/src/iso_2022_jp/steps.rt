@@ -69,15 +69,15 @@ pub struct Outcome {
 }
 
 /// The escape byte.
-const ESCAPE: u8 = 0x1B;
+pub const ESCAPE: u8 = 0x1B;
 /// The second byte of the escapes to two-byte mode.
-const DOLLAR: u8 = 0x24;
+pub const DOLLAR: u8 = 0x24;
 /// The second byte of the other escapes.
-const PAREN: u8 = 0x28;
+pub const PAREN: u8 = 0x28;
 
 impl Escape {
     /// The mode that the escape switches to.
-    fn mode(self) -> Mode
+    pub fn mode(self) -> Mode
         ensures { result ≡ machine.mode_of self }
     {
         match self {
@@ -198,7 +198,7 @@ fn single_scalar(mode: Mode, byte: u8) -> Option<char>
 }
 
 /// The escape that a byte completes.
-fn completed(start: Start, byte: u8) -> Option<Escape>
+pub fn completed(start: Start, byte: u8) -> Option<Escape>
     ensures { result ≡ machine.completes start byte }
 {
     match start {

@@ -288,3 +288,42 @@ fn runs_between_escapes_give_the_events_of_single_bytes(rt: HostRuntime) -> Resu
     follow::<Iso2022JpDecoder>(&rt, rt.alloc(), &tables, &rows);
     Ok(())
 }
+
+#[test]
+fn runs_on_both_sides_of_an_escape(rt: HostRuntime) -> Result<(), Fail> {
+    let tables = tables_of(&[0x3000])?;
+    let rows = [
+        Case("the mode of a run behind an escape lasts into the next call"),
+        Utf8(b"ab\x1B$B!!", 64, false, InputEmpty, 7, "ab\u{3000}"),
+        Neutral(false),
+        Utf8(b"!!", 64, true, InputEmpty, 2, "\u{3000}"),
+        Case("the same back to ASCII, into UTF-16"),
+        Utf16(
+            b"\x1B$B!!\x1B(Ba\x1B$@!!\x1B(Bbc",
+            64,
+            true,
+            InputEmpty,
+            19,
+            &[0x3000, 0x61, 0x3000, 0x62, 0x63],
+        ),
+        Neutral(true),
+        Case("an escape behind a run is held back where nothing stands behind it"),
+        Utf8(b"\x1B$B!!\x1B(B", 64, false, InputEmpty, 8, "\u{3000}"),
+        Neutral(false),
+        Utf8Length(1, Some(6)),
+        Utf8(b"a", 64, true, InputEmpty, 1, "a"),
+        Neutral(true),
+        Case("an escape behind a run is malformed where the next follows directly"),
+        Utf8(b"a\x1B$B\x1B(Bb", 64, true, Malformed(3, 3), 7, "a"),
+        Utf8(b"b", 64, true, InputEmpty, 1, "b"),
+        Case("an escape behind a run takes effect where no form follows it"),
+        Utf8(b"a\x1B$B\x80", 64, false, Malformed(1, 0), 5, "a"),
+        Neutral(false),
+        Utf8(b"!!", 64, true, InputEmpty, 2, "\u{3000}"),
+        Case("an escape behind a run takes effect where the output is small"),
+        Utf8(b"a\x1B$B!!", 6, false, InputEmpty, 6, "a\u{3000}"),
+        Neutral(false),
+    ];
+    follow::<Iso2022JpDecoder>(&rt, rt.alloc(), &tables, &rows);
+    Ok(())
+}

@@ -48,6 +48,6 @@ loop-at-preserved g c =
       writes_run F G src _ _ _ place c.forms-read.result first f.writes,
       f.room ∙ room_step _ _ _ _ bytes e.contents shown ∙ i.3,
       f.loan ∙ e.loan ∙ i.4,
-      (λ h. let falls = room_falls F G _ _ _ _ _ first (room_step _ _ _ _ bytes e.contents shown ∙ i.3) in
+      (λ h. let falls = room_falls F G G _ _ _ _ _ first (room_step _ _ _ _ bytes e.contents shown ∙ i.3) in
           omega (arith, c.if-turns-eq0.false, c.min-turns.ensures, c.saturating_sub-in-loop-at.ensures, c.free-in-loop-at.ensures, falls)),
     )
