@@ -1,17 +1,16 @@
 -- The runs of ISO-2022-JP on both sides of an escape.
-use Rattle.std.proofs.Common.{◌≡◌, ◌≢◌, ◌∙◌, ℕ, suc, ◌+◌, ◌-◌, ◌<◌, ◌≤◌, List, [], ◌∷◌, ◌++◌, length, map, take, drop, get_or, refl, sym, ap, subst, arith, append-nil, length-drop}
+use Rattle.std.proofs.Common.{◌≡◌, ◌≢◌, ◌∙◌, ℕ, suc, ◌+◌, ◌-◌, ◌<◌, List, ◌∷◌, ◌++◌, length, map, take, drop, get_or, refl, sym, ap, subst, arith, append-nil, length-drop}
 use Rattle.std.proofs.lemmas.Bool.{ne_eqb}
 use Rattle.std.proofs.lemmas.List.{take_all, drop-drop}
 use Rattle.std.proofs.Math.Seq.{drop-cons, take-add}
 use Rattle.legacy_base.specs.declared.results.DecodeEvent.TheVariants.{Scalar}
-use Rattle.legacy_base.specs.EncodingForm.{EncodingForm, all_code_units, total_unit_count}
+use Rattle.legacy_base.specs.EncodingForm.{EncodingForm, all_code_units}
 use Rattle.legacy_base.specs.Events.{shift}
 use Rattle.legacy_base.specs.Grammar.{iso_2022_jp, events_of}
 use Rattle.legacy_base.specs.Iso2022Jp.{esc}
-use Rattle.legacy_base.specs.Lengths.{query_form}
 use Rattle.legacy_base.proofs.Iso2022JpParts.{no_escape}
 use Rattle.legacy_base.proofs.Shifts.{shift-append, shift-shift, shift-scalars}
-use Rattle.legacy_machines.specs.Ahead.{RunsTo, Runs, WritesTo, ReadsTo, ReadsAhead}
+use Rattle.legacy_machines.specs.Ahead.{RunsTo, Runs, ReadsTo, ReadsAhead}
 use Rattle.legacy_machines.proofs.AheadRuns.{reads_nothing}
 use Rattle.legacy_machines.proofs.MoreRuns.{reads_then}
 use Rattle.legacy_decoders.specs.declared.iso_2022_jp.steps.Mode.{Mode}
@@ -44,21 +43,17 @@ escape_runs jis0208 mode e x bytes ds alone runs = record {
       omega arith;
 }
 
--- the bytes of an escape, and of a run behind it
+-- the bytes of a run behind three others, and those of an escape and of the run behind it
+run_bytes : (source : List ℕ) (read : ℕ) → 3 < length source → 0 < read → take read (drop 3 source) ≡ get_or source 3 0 ∷ take (read - 1) (drop 4 source)
+run_bytes source read within some =
+    let one_more : read ≡ suc (read - 1) = omega arith in
+    ap (λ bytes. take read bytes) (drop-cons source 3 0 within) ∙ ap (λ n. take n (get_or source 3 0 ∷ drop 4 source)) one_more
+
 escape_bytes : (e : Escape) (source : List ℕ) (read : ℕ) → HasEscape e source → 0 < read
     → take (3 + read) source ≡ esc ∷ second_of e ∷ third_of e ∷ get_or source 3 0 ∷ take (read - 1) (drop 4 source)
 escape_bytes e source read has some =
-    let front : drop 3 source ≡ get_or source 3 0 ∷ drop 4 source = drop-cons source 3 0 has.within in
-    let one_more : read ≡ suc (read - 1) = omega arith in
     take-add 3 read source ∙ ap (λ bytes. bytes ++ take read (drop 3 source)) has.begins
-    ∙ ap (λ bytes. esc ∷ second_of e ∷ third_of e ∷ take read bytes) front
-    ∙ ap (λ n. esc ∷ second_of e ∷ third_of e ∷ take n (get_or source 3 0 ∷ drop 4 source)) one_more
-
-run_bytes : (source : List ℕ) (read : ℕ) → 3 < length source → 0 < read → take read (drop 3 source) ≡ get_or source 3 0 ∷ take (read - 1) (drop 4 source)
-run_bytes source read within some =
-    let front : drop 3 source ≡ get_or source 3 0 ∷ drop 4 source = drop-cons source 3 0 within in
-    let one_more : read ≡ suc (read - 1) = omega arith in
-    ap (λ bytes. take read bytes) front ∙ ap (λ n. take n (get_or source 3 0 ∷ drop 4 source)) one_more
+    ∙ ap (λ bytes. esc ∷ second_of e ∷ third_of e ∷ bytes) (run_bytes source read has.within some)
 
 -- an escape and a run of its mode
 reads_escape : (form : EncodingForm) (jis0208 : List ℕ) (mode : Mode) (e : Escape) (source old new : List ℕ) (read before after : ℕ) → HasEscape e source → 0 < read
