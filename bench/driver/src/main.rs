@@ -2,8 +2,8 @@
 //! `legacy_recode`.
 //!
 //! Arguments: words that a line of the decoders' table must have, as `ja-text` or `Big5`, or `recode` for
-//! the program's table (none: all lines of both are made), and a number: how many times each call of a
-//! decoder is timed. Or `medians` and the files of the tables of several builds, of which one table is made.
+//! the program's table (none: all lines of both are made), and a number: how many times at the least each call
+//! of a decoder is timed. Or `medians` and the files of the tables of several builds, of which one table is made.
 
 mod corpora;
 mod indexes;
@@ -34,6 +34,9 @@ const SHORT_ROUNDS: usize = 16;
 
 /// The length of a small piece in bytes.
 const PIECE: usize = 64;
+
+/// How long the calls of a cell are timed at the least: the best of a few short calls moves from run to run.
+const LEAST_TIME: Duration = Duration::from_millis(200);
 
 /// The code units of one output form, with both libraries' calls into it.
 trait Unit: Copy + PartialEq + Default {
@@ -88,10 +91,12 @@ fn best(least: &mut Duration, call: impl FnOnce() -> usize) {
 /// Megabytes of the source a second, of encoding_rs and of ours.
 fn speeds<U: Unit>(ours: &Ours, encoding: &'static Encoding, src: &[u8], dst: &mut [U], piece: usize, rounds: usize, times: usize) -> (f64, f64) {
     let [mut their_time, mut our_time, mut check_time] = [Duration::MAX; 3];
-    for _ in 0..times {
+    let (start, mut turns) = (thread_time(), 0);
+    while turns < times || thread_time() - start < LEAST_TIME {
         best(&mut their_time, || U::theirs(encoding, src, dst, piece, rounds));
         best(&mut our_time, || U::ours(ours, src, dst, piece, rounds));
         best(&mut check_time, || U::ours(ours, &[], dst, piece, 1));
+        turns += 1;
     }
     let speed = |time: Duration| (src.len() * rounds) as f64 / time.as_secs_f64() / 1e6;
     (speed(their_time), speed(our_time - check_time))

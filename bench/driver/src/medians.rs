@@ -27,7 +27,7 @@ fn cells(line: &str) -> Vec<&str> {
 /// A cell of the numbers of one column in all builds.
 fn cell(mut numbers: Vec<f64>, is_ratio: bool) -> String {
     numbers.sort_by(f64::total_cmp);
-    let median = numbers[numbers.len() / 2];
+    let median = (numbers[(numbers.len() - 1) / 2] + numbers[numbers.len() / 2]) / 2.0;
     if is_ratio {
         return format!("{median:.2} ({:.2} to {:.2})", numbers[0], numbers[numbers.len() - 1]);
     }
