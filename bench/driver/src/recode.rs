@@ -25,7 +25,7 @@ const LONG: &str = concat!(env!("CARGO_MANIFEST_DIR"), "/../target/recode-long.t
 const LEAST: usize = 100_000_000;
 
 /// How many times each run is timed.
-const TIMES: usize = 3;
+const TIMES: usize = 12;
 
 /// The words of each run, where FILE stands for the index file. The first is a label of the encoding too.
 const REQUESTS: &[&[&str]] = &[&["shift_jis", "jis0208", "FILE"], &["x-user-defined"]];
