@@ -20,7 +20,7 @@ use Rattle.legacy_decoders.specs.declared.iso_2022_jp.steps.Start.TheVariants.{N
 use Rattle.legacy_decoders.specs.declared.iso_2022_jp.steps.Held.TheVariants.{Begun}
 use Rattle.legacy_machines.specs.Ahead.{Runs, IsPair, ReadsAhead}
 use Rattle.legacy_decoders.specs.Iso2022JpMoves.{IsNarrowScalar}
-use Rattle.legacy_decoders.specs.Iso2022JpRuns.{IsPlain, plain_state}
+use Rattle.legacy_decoders.specs.Iso2022JpRuns.{IsPlain, run_state}
 use Rattle.legacy_machines.specs.PairPlaces.{jis_lead_place, jis_trail_place}
 use Rattle.legacy_machines.proofs.PairPlaces.{idx_past}
 use Rattle.legacy_decoders.proofs.Iso2022JpRooms.{same_rooms, one_fits, room-falls, times_one}
@@ -115,7 +115,7 @@ are_ascii : (bytes : List ℕ) → All IsPlain bytes → IsAscii bytes
 are_ascii bytes h = IsAscii-from_all bytes (λ i d l. (h i d l).0)
 
 pub reads_plain : (form : EncodingForm) (jis0208 source old new : List ℕ) (count before after : ℕ) → count ≤ length source → All IsPlain (take count source)
-    → new ≡ old ++ take count source → after + count ≡ before → (0 < count → count + 3 ≤ before) → ReadsAhead form (plain_state jis0208) source count old new before after
+    → new ≡ old ++ take count source → after + count ≡ before → (0 < count → count + 3 ≤ before) → ReadsAhead form (run_state jis0208 Ascii) source count old new before after
 reads_plain form jis0208 source old new count before after within plain e room enough =
     let l : length (take count source) ≡ count = length-take-le count source within in
     record {

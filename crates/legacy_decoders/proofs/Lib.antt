@@ -5,6 +5,7 @@ pub mod ReplacementSteps
 pub mod SingleByteSteps
 pub mod Latin1Fronts
 pub mod SingleByteRuns
+pub mod SingleByteBlocks
 pub mod Iso2022JpEntries
 pub mod Iso2022JpLaw
 pub mod Iso2022JpStep

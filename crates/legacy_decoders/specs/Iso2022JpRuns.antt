@@ -6,7 +6,6 @@ use Rattle.legacy_base.specs.States.{DecoderState}
 use Rattle.legacy_decoders.specs.declared.iso_2022_jp.runs.Jis0208Pairs.{Jis0208Pairs}
 use Rattle.legacy_decoders.specs.declared.iso_2022_jp.steps.Escape.{Escape}
 use Rattle.legacy_decoders.specs.declared.iso_2022_jp.steps.Mode.{Mode}
-use Rattle.legacy_decoders.specs.declared.iso_2022_jp.steps.Mode.TheVariants.{Ascii}
 use Rattle.legacy_decoders.specs.declared.iso_2022_jp.steps.Start.TheVariants.{Nothing}
 use Rattle.legacy_decoders.specs.declared.iso_2022_jp.steps.Held.TheVariants.{Begun}
 use Rattle.legacy_decoders.specs.Iso2022JpMachine.{second_of, third_of}
@@ -15,10 +14,6 @@ use Rattle.legacy_decoders.specs.Iso2022JpMoves.{state_in}
 -- an ASCII byte that is a scalar in ASCII mode, and no escape byte
 abbrev pub IsPlain : ℕ → Type 0
 IsPlain b = (b < 0x80) × (b ≢ 0x0E) × (b ≢ 0x0F) × (b ≢ esc)
-
--- ASCII mode, with nothing held back
-abbrev pub plain_state : List ℕ → DecoderState
-plain_state jis0208 = state_in jis0208 Ascii (Begun Nothing)
 
 -- a mode, with nothing held back
 abbrev pub run_state : List ℕ → Mode → DecoderState

@@ -6,6 +6,7 @@ ghost use Rattle.legacy_base.specs.States.{new_state};
 ghost use Rattle.legacy_machines.specs.Machines.{single_byte_first};
 ghost use Rattle.legacy_machines.specs.Feeding.{Took};
 
+mod blocks;
 mod scalars;
 
 use legacy_base::{DecoderResult, Destination, RawDecoder, SingleByteTable};
@@ -138,9 +139,14 @@ impl Machine for SingleByteDecoder<'_> {
         None
     }
 
+    // In UTF-8 eight bytes at a time do not pay: text with few letters past ASCII loses a fifth.
     #[inline]
     fn read_ahead<T: Destination>(&self, src: &[u8], dst: &mut T) -> usize {
-        ahead(self, src, dst)
+        if T::narrow() > 1 {
+            return ahead(self, src, dst);
+        }
+        let read = self.scalars.read_blocks(src, dst);
+        read + ahead(self, &src[read..], dst)
     }
 }
 

@@ -3,7 +3,7 @@
 // Inlined always is what runs for each form or block: a call would pass vectors through memory, and put the
 // destination's place there from form to form.
 ghost use Rattle.std.specs.Prelude.{◌≡◌, ℕ, ◌+◌, ◌<◌, ◌≤◌, List, All, IfSome, length, take, true};
-ghost use Rattle.legacy_decoders.specs.Iso2022JpRuns.{IsPlain, plain_state, run_state, HasEscape};
+ghost use Rattle.legacy_decoders.specs.Iso2022JpRuns.{IsPlain, run_state, HasEscape};
 ghost use Rattle.legacy_machines.specs.Ahead.{ReadsTo, ReadsAhead};
 
 use super::steps::{DOLLAR, ESCAPE, Escape, Mode, PAREN, Start, completed, entry};
@@ -82,7 +82,7 @@ fn plain_count(src: &[u8]) -> usize
 /// many were read: none is an answer too.
 #[inline]
 fn read_plain<T: Destination>(src: &[u8], dst: &mut T) -> usize
-    ensures ahead { (jis0208 : List ℕ) → ReadsAhead T.form (plain_state jis0208) src.now result (T.contents dst.old) (T.contents dst.new) (T.room dst.old) (T.room dst.new) }
+    ensures ahead { (jis0208 : List ℕ) → ReadsAhead T.form (run_state jis0208 Mode.Ascii) src.now result (T.contents dst.old) (T.contents dst.new) (T.room dst.old) (T.room dst.new) }
     ensures loan { T.loan dst.new ≡ T.loan dst.old }
 {
     let most = dst.free().saturating_sub(3).min(src.len());

@@ -112,9 +112,10 @@ fn event_of(place: usize, byte: u8) -> DecodeEvent {
 
 #[test]
 fn words_of_letters_and_ascii_give_the_events_of_their_bytes(rt: HostRuntime) -> Result<(), Fail> {
-    // three words, ASCII, a word that the byte without an entry cuts, ASCII, and single letters
+    // three words, ASCII, a word that the byte without an entry cuts, ASCII, single letters, and the byte 00 among
+    // letters
     let input =
-        b"\xC1\xE8\xDE\xED\xE1 \xEA\xE1\xE9 \xD0\xE5\xE9\xF1\xE1\xE9\xDC\xF2, ab\x7F \xD3\xF5\xED\xD2\xFE\xC1 in 1 2 or 30 steps: \xE1 \xE2 \xE3 a\xE4b\xE5c\xE6d \xF9\xFA\xFB\xFE";
+        b"\xC1\xE8\xDE\xED\xE1 \xEA\xE1\xE9 \xD0\xE5\xE9\xF1\xE1\xE9\xDC\xF2, ab\x7F \xD3\xF5\xED\xD2\xFE\xC1 in 1 2 or 30 steps: \xE1 \xE2 \xE3 a\xE4b\xE5c\xE6d \xF9\xFA\x00\xFB\xFE in the last sixteen";
     let mut events = Vec::new(rt.alloc());
     for (place, byte) in input.iter().enumerate() {
         events.push(event_of(place, *byte))?;
