@@ -2,8 +2,8 @@
 use Rattle.std.proofs.Common.{◌≡◌, ℕ, drop, ◌≤◌, ◌<◌, List, [], ◌∷◌, length, refl, arith, Option, Some, replicate, sym, ap, subst, if◌then◌else◌}
 use Rattle.std.proofs.lemmas.List.{get_or-replicate, length-replicate}
 use Rattle.std.specs.Borrow.{Bor}
-use Rattle.legacy_recode.specs.declared.index_file.FileIndex.{FileIndex}
-use Rattle.legacy_recode.specs.IndexTable.{IsIndexOf, HasValues}
+use Rattle.legacy_index_files.specs.declared.index_file.FileIndex.{FileIndex}
+use Rattle.legacy_index_files.specs.IndexTable.{IsIndexOf, HasValues}
 use Rattle.legacy_recode.specs.declared.given_indexes.GivenIndexes.{GivenIndexes}
 use Rattle.legacy_recode.specs.Words.{texts_of, first_index_named}
 use Rattle.legacy_recode.specs.IndexTexts.{is_index, no_text, with_text, text_given, contents_of}

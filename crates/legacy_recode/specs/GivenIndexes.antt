@@ -1,9 +1,9 @@
 -- The indexes that the program is given in files.
 use Rattle.std.specs.Prelude.{◌≡◌, ℕ, List}
-use Rattle.legacy_recode.specs.declared.index_file.FileIndex.{FileIndex}
-use Rattle.legacy_recode.specs.declared.index_file.FileIndex.TheVariants.{Big5, EucKr, Jis0208, Jis0212, Gb18030, Ranges, SingleByte}
-use Rattle.legacy_recode.specs.IndexLine.{lines}
-use Rattle.legacy_recode.specs.IndexTable.{entries_of, IsIndexOf, HasValues}
+use Rattle.legacy_index_files.specs.declared.index_file.FileIndex.{FileIndex}
+use Rattle.legacy_index_files.specs.declared.index_file.FileIndex.TheVariants.{Big5, EucKr, Jis0208, Jis0212, Gb18030, Ranges, SingleByte}
+use Rattle.legacy_index_files.specs.IndexLine.{lines}
+use Rattle.legacy_index_files.specs.IndexTable.{entries_of, IsIndexOf, HasValues}
 use Rattle.legacy_recode.specs.declared.given_indexes.GivenIndexes.{GivenIndexes}
 
 -- the entries of an index, where each index has a text

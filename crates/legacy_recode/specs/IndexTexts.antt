@@ -2,8 +2,8 @@
 use Rattle.std.specs.Prelude.{ℕ, List, [], ◌∷◌, map, Option, Some, Bool, true, false, if◌then◌else◌}
 use Rattle.std.specs.Option.{option_map}
 use Rattle.std.specs.Borrow.{Bor}
-use Rattle.legacy_recode.specs.declared.index_file.FileIndex.{FileIndex}
-use Rattle.legacy_recode.specs.declared.index_file.FileIndex.TheVariants.{Big5, EucKr, Jis0208, Jis0212, Gb18030, Ranges, SingleByte}
+use Rattle.legacy_index_files.specs.declared.index_file.FileIndex.{FileIndex}
+use Rattle.legacy_index_files.specs.declared.index_file.FileIndex.TheVariants.{Big5, EucKr, Jis0208, Jis0212, Gb18030, Ranges, SingleByte}
 use Rattle.legacy_recode.specs.Words.{index_named}
 
 -- the contents of each file, or none where it cannot be read

@@ -2,9 +2,6 @@
 pub mod Lines
 pub mod LineBuffers
 pub mod Recoding
-pub mod IndexGrammar
-pub mod IndexLine
-pub mod IndexTable
 pub mod Words
 pub mod IndexTexts
 pub mod GivenIndexes

@@ -8,7 +8,7 @@ use Rattle.legacy_base.specs.AcceptedTables.{flat_lists}
 use Rattle.legacy_base.specs.TableChecks.{AreAccepted, IsAcceptedTable}
 use Rattle.legacy_recode.specs.declared.words.Codec.{Codec}
 use Rattle.legacy_recode.specs.declared.words.Codec.TheVariants as codec
-use Rattle.legacy_recode.specs.declared.index_file.FileIndex.{FileIndex}
+use Rattle.legacy_index_files.specs.declared.index_file.FileIndex.{FileIndex}
 use Rattle.legacy_recode.specs.declared.given_indexes.GivenIndexes.{GivenIndexes}
 use Rattle.legacy_recode.specs.Words.{codec_of_words}
 use Rattle.legacy_recode.specs.IndexTexts.{text_given}

@@ -1,8 +1,8 @@
 -- The words of the program's command line: CODEC, and then INDEX and FILE any number of times.
 use Rattle.std.specs.Prelude.{ℕ, List, [], ◌∷◌, map, Option, Some, None, is_some, Bool, true, false, not, ◌&&◌, ◌||◌, codes, bytes_eq, if◌then◌else◌}
 use Rattle.std.specs.Borrow.{Bor}
-use Rattle.legacy_recode.specs.declared.index_file.FileIndex.{FileIndex}
-use Rattle.legacy_recode.specs.declared.index_file.FileIndex.TheVariants as index
+use Rattle.legacy_index_files.specs.declared.index_file.FileIndex.{FileIndex}
+use Rattle.legacy_index_files.specs.declared.index_file.FileIndex.TheVariants as index
 use Rattle.legacy_recode.specs.declared.words.Codec.{Codec}
 use Rattle.legacy_recode.specs.declared.words.Codec.TheVariants as codec
 

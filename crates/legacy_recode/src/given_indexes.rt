@@ -1,14 +1,14 @@
 //! The indexes that the program is given in files.
 ghost use Rattle.std.specs.Prelude.{◌≡◌, ℕ, List, IfOk, IsTrue, length};
-ghost use Rattle.legacy_recode.specs.IndexLine.{lines};
-ghost use Rattle.legacy_recode.specs.IndexTable.{entries_of, IsTableOf};
+ghost use Rattle.legacy_index_files.specs.IndexLine.{lines};
+ghost use Rattle.legacy_index_files.specs.IndexTable.{entries_of, IsTableOf};
 ghost use Rattle.legacy_recode.specs.Words.{texts_of, are_indexes};
 ghost use Rattle.legacy_recode.specs.IndexTexts.{no_text, with_text, text_given, contents_of};
 ghost use Rattle.legacy_recode.specs.GivenIndexes.{HoldsTexts};
 
-use crate::index_file::{FileIndex, FileTable, IndexFileError, read_index};
 use crate::program::Fault;
 use crate::words::first_index;
+use legacy_index_files::{FileIndex, FileTable, IndexFileError, read_index};
 use std::alloc::Global;
 
 /// The values of all indexes that a file can hold.

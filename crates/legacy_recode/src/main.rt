@@ -3,9 +3,6 @@
 #![tactic(auto)]
 
 mod given_indexes;
-pub mod index_file;
-mod index_line;
-mod index_table;
 mod lines;
 pub mod program;
 pub mod recode;

@@ -2,7 +2,7 @@
 ghost use Rattle.std.specs.Prelude.{◌≡◌, length};
 ghost use Rattle.legacy_recode.specs.Words.{texts_of, codec_named, index_named, first_index_named, stands_among, are_indexes, codec_of_words};
 
-use crate::index_file::FileIndex;
+use legacy_index_files::FileIndex;
 
 /// A codec that the program knows by a word.
 #[derive(Clone, Copy, Debug, PartialEq, Eq)]

@@ -1,0 +1,5 @@
+-- Laws of the lines of an index file, of their grammar and of their table.
+pub mod IndexGrammars
+pub mod IndexLines
+pub mod IndexNumbers
+pub mod IndexValues

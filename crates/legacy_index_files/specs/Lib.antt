@@ -1,0 +1,4 @@
+-- What an index file says.
+pub mod IndexGrammar
+pub mod IndexLine
+pub mod IndexTable

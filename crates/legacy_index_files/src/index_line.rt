@@ -1,0 +1,131 @@
+//! One line of an index file: skipped, an entry of a pointer and a value, or malformed.
+ghost use Rattle.std.specs.Prelude.{◌≡◌, ◌<◌, ◌≤◌, ◌+◌, ◌∷◌, Some, None, MatchOption, length, ◌==◌, position};
+ghost use Rattle.std.specs.Option.{option_copied};
+ghost use Rattle.legacy_index_files.specs.IndexLine.{lines, is_blank, past_blanks, says_nothing, value_digits, number_at, entry_at, line_kind};
+
+/// What a line of an index file says.
+#[derive(Clone, Copy, Debug, PartialEq, Eq)]
+pub(crate) enum LineKind {
+    /// Nothing: blanks alone, a comment, or the ranges' line of the supplementary planes.
+    Skipped,
+    /// A pointer and its value.
+    Entry(u32, u32),
+    /// Anything else.
+    Malformed,
+}
+
+/// The most digits of a pointer or a value.
+const MOST_DIGITS: usize = 6;
+
+/// Splits a text that is not empty behind its first line: the line without its 0A, and what follows it.
+pub(crate) fn split_line(text: &[u8]) -> (&[u8], &[u8])
+    requires { 0 < length text.now }
+    ensures first { lines text.now ≡ result.0.now ∷ lines result.1.now }
+    ensures shorter { length result.1.now < length text.now }
+{
+    match line_end(text) {
+        Some(end) => (&text[..end], &text[end + 1..]),
+        None => (text, &[]),
+    }
+}
+
+/// The place of the first 0A.
+fn line_end(text: &[u8]) -> Option<usize>
+    ensures { result ≡ position (λ byte. byte == 0x0A) text.now }
+{
+    text.iter().position(|byte| *byte == b'\n')
+}
+
+/// What a line, given without its 0A, says by its form.
+pub(crate) fn parse_line(line: &[u8]) -> LineKind
+    ensures { result ≡ line_kind line.now }
+{
+    let body = skip_blanks(line);
+    if is_skipped(body) {
+        return LineKind::Skipped;
+    }
+    match parse_entry(body) {
+        Some((pointer, value)) => LineKind::Entry(pointer, value),
+        None => LineKind::Malformed,
+    }
+}
+
+/// Whether a line says nothing, from its first byte that is no blank on: it is at its end, has a lone
+/// 0D there, or is a comment.
+fn is_skipped(body: &[u8]) -> bool
+    ensures { result ≡ says_nothing body.now }
+{
+    matches!(body, [] | [b'\r'] | [b'#', ..])
+}
+
+/// The pointer and the value of an entry that begins at the front of `body`.
+fn parse_entry(body: &[u8]) -> Option<(u32, u32)>
+    ensures { result ≡ entry_at body.now }
+{
+    let (pointer, behind) = parse_number(body, 10)?;
+    let digits = skip_to_value(behind)?;
+    let (value, _) = parse_number(digits, 16)?;
+    Some((pointer, value))
+}
+
+/// What follows `0x`, where at least one blank and then `0x` stand at the front of `behind`.
+fn skip_to_value(behind: &[u8]) -> Option<&[u8]>
+    ensures { option_copied result ≡ value_digits behind.now }
+{
+    let (first, rest) = behind.split_first()?;
+    if !is_blank_byte(*first) {
+        return None;
+    }
+    match skip_blanks(rest) {
+        [b'0', b'x', digits @ ..] => Some(digits),
+        _ => None,
+    }
+}
+
+/// The number that the digits at the front of `bytes` write, and what follows them: `None` where they
+/// are not one to six.
+fn parse_number(bytes: &[u8], radix: u32) -> Option<(u32, &[u8])>
+    requires low { 2 ≤ radix }
+    requires high { radix ≤ 16 }
+    ensures { MatchOption result (number_at radix bytes.now ≡ None) (λ n. number_at radix bytes.now ≡ Some (n.0, n.1.now)) }
+{
+    let mut rest = bytes;
+    let mut value = 0;
+    let mut count = 0;
+    while let Some((first, behind)) = rest.split_first() {
+        let Some(digit) = (*first as char).to_digit(radix) else {
+            break;
+        };
+        if count == MOST_DIGITS {
+            return None;
+        }
+        value = value * radix + digit;
+        count += 1;
+        rest = behind;
+    }
+    if count == 0 {
+        None
+    } else {
+        Some((value, rest))
+    }
+}
+
+/// What follows the blanks at the front of `bytes`.
+fn skip_blanks(bytes: &[u8]) -> &[u8]
+    ensures { result.now ≡ past_blanks bytes.now }
+{
+    let mut rest = bytes;
+    while let Some((first, behind)) = rest.split_first() {
+        if !is_blank_byte(*first) {
+            break;
+        }
+        rest = behind;
+    }
+    rest
+}
+
+fn is_blank_byte(byte: u8) -> bool
+    ensures { result ≡ is_blank byte }
+{
+    byte == b' ' || byte == b'\t'
+}

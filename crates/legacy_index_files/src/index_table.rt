@@ -1,0 +1,168 @@
+//! The table that the lines of an index file give.
+ghost use Rattle.std.specs.Prelude.{◌≡◌, ℕ, ◌<◌, ◌≤◌, ◌+◌, Some, None, Ok, Err, IfOk, MatchResult, length, slice_index};
+ghost use Rattle.std.specs.Option.{unwrap_or};
+ghost use Rattle.legacy_index_files.specs.IndexLine.{lines, line_kind};
+ghost use Rattle.legacy_index_files.specs.IndexTable.{greatest_length, greatest_value, is_left_out, kind_within, says, first_malformed, entries_of, table_length, last_value, HasValues, IsIndexOf, IsInRange};
+
+use crate::index_file::FileIndex;
+use crate::index_line::{LineKind, parse_line, split_line};
+use std::alloc::{AllocError, Global};
+
+/// The first malformed line's number, or the length of the table that the lines give.
+pub(crate) fn check_lines(name: FileIndex, text: &[u8]) -> Result<usize, usize>
+    ensures sound { MatchResult result (λ _. first_malformed name 1 (lines text.now) ≡ None) (λ n. first_malformed name 1 (lines text.now) ≡ Some n) }
+    ensures length { IfOk result (λ n. n ≡ table_length (entries_of name (lines text.now))) }
+    ensures bound { IfOk result (λ n. n ≤ greatest_length name) }
+{
+    let mut rest = text;
+    let mut number = 0;
+    let mut length = 0;
+    while !rest.is_empty() {
+        let (line, behind) = split_line(rest);
+        number += 1;
+        match read_line(name, line) {
+            LineKind::Skipped => {}
+            LineKind::Entry(pointer, _) => length = length.max(pointer as usize + 1),
+            LineKind::Malformed => return Err(number),
+        }
+        rest = behind;
+    }
+    Ok(length)
+}
+
+/// The table of index Big5, whose text has no malformed line.
+pub(crate) fn read_wide(
+    alloc: Global,
+    name: FileIndex,
+    length: usize,
+    text: &[u8],
+) -> Result<Vec<u32>, AllocError>
+    requires len { length ≡ table_length (entries_of name (lines text.now)) }
+    ensures { IfOk result (λ v. IsIndexOf (entries_of name (lines text.now)) v.items) }
+{
+    let mut values = vec![in alloc; 0; length]?;
+    fill_wide(&mut values, name, text);
+    Ok(values)
+}
+
+/// The table of another index by pointer, whose text has no malformed line.
+pub(crate) fn read_narrow(
+    alloc: Global,
+    name: FileIndex,
+    length: usize,
+    text: &[u8],
+) -> Result<Vec<u16>, AllocError>
+    requires narrow { greatest_value name ≡ 0xFFFF }
+    requires len { length ≡ table_length (entries_of name (lines text.now)) }
+    ensures { IfOk result (λ v. IsIndexOf (entries_of name (lines text.now)) v.items) }
+{
+    let mut values = vec![in alloc; 0; length]?;
+    fill_narrow(&mut values, name, text);
+    Ok(values)
+}
+
+/// The table of a single-byte encoding, whose text has no malformed line.
+pub(crate) fn read_single_byte(text: &[u8]) -> [u16; 128]
+    requires { table_length (entries_of FileIndex.SingleByte (lines text.now)) ≤ 128 }
+    ensures { HasValues (entries_of FileIndex.SingleByte (lines text.now)) result }
+{
+    let mut values = [0; 128];
+    fill_narrow(&mut values, FileIndex::SingleByte, text);
+    values
+}
+
+/// The lines of index gb18030 ranges, whose text has no malformed line.
+pub(crate) fn read_ranges(alloc: Global, text: &[u8]) -> Result<Vec<(u16, u16)>, AllocError>
+    ensures { IfOk result (λ v. v.items ≡ entries_of FileIndex.Ranges (lines text.now)) }
+{
+    let mut ranges = Vec::new(alloc);
+    let mut rest = text;
+    while !rest.is_empty() {
+        let (line, behind) = split_line(rest);
+        if let LineKind::Entry(pointer, value) = read_line(FileIndex::Ranges, line) {
+            ranges.push((pointer as u16, value as u16))?;
+        }
+        rest = behind;
+    }
+    Ok(ranges)
+}
+
+/// Writes each line's value to its pointer's place, in the lines' order.
+fn fill_wide(values: &mut [u32], name: FileIndex, text: &[u8])
+    requires { table_length (entries_of name (lines text.now)) ≤ length values.old }
+    ensures { (p : ℕ) → p < length values.old → slice_index values.new p ≡ unwrap_or (last_value (entries_of name (lines text.now)) p) (slice_index values.old p) }
+{
+    let mut rest = text;
+    while !rest.is_empty() {
+        let (line, behind) = split_line(rest);
+        if let LineKind::Entry(pointer, value) = read_line(name, line) {
+            values[pointer as usize] = value;
+        }
+        rest = behind;
+    }
+}
+
+/// Writes each line's value to its pointer's place, in the lines' order.
+fn fill_narrow(values: &mut [u16], name: FileIndex, text: &[u8])
+    requires narrow { greatest_value name ≡ 0xFFFF }
+    requires room { table_length (entries_of name (lines text.now)) ≤ length values.old }
+    ensures { (p : ℕ) → p < length values.old → slice_index values.new p ≡ unwrap_or (last_value (entries_of name (lines text.now)) p) (slice_index values.old p) }
+{
+    let mut rest = text;
+    while !rest.is_empty() {
+        let (line, behind) = split_line(rest);
+        if let LineKind::Entry(pointer, value) = read_line(name, line) {
+            values[pointer as usize] = value as u16;
+        }
+        rest = behind;
+    }
+}
+
+/// What a line says in a file of the index.
+fn read_line(name: FileIndex, line: &[u8]) -> LineKind
+    ensures says { result ≡ says name line.now }
+    ensures in_range { IsInRange name result }
+{
+    match parse_line(line) {
+        LineKind::Entry(pointer, value) => kind_in_range(name, pointer, value),
+        other => other,
+    }
+}
+
+/// What the line of an entry says in a file of the index.
+fn kind_in_range(name: FileIndex, pointer: u32, value: u32) -> LineKind
+    ensures says { result ≡ kind_within name (LineKind.Entry pointer value) }
+    ensures in_range { IsInRange name result }
+{
+    if name == FileIndex::Ranges && pointer == 189000 && value == 0x1_0000 {
+        LineKind::Skipped
+    } else if pointer < pointer_limit(name) && value <= value_limit(name) {
+        LineKind::Entry(pointer, value)
+    } else {
+        LineKind::Malformed
+    }
+}
+
+/// The index's greatest length: its pointers are below it.
+fn pointer_limit(name: FileIndex) -> u32
+    ensures { result ≡ greatest_length name }
+{
+    match name {
+        FileIndex::Big5 => 19782,
+        FileIndex::EucKr | FileIndex::Gb18030 => 23940,
+        FileIndex::Jis0208 => 11280,
+        FileIndex::Jis0212 => 8836,
+        FileIndex::Ranges => 65536,
+        FileIndex::SingleByte => 128,
+    }
+}
+
+/// The index's greatest value.
+fn value_limit(name: FileIndex) -> u32
+    ensures { result ≡ greatest_value name }
+{
+    match name {
+        FileIndex::Big5 => 0x10_FFFF,
+        _ => 0xFFFF,
+    }
+}
