@@ -5,7 +5,8 @@ use Rattle.legacy_base.specs.Fronts.{Front, front_length, front_events, cut}
 use Rattle.legacy_base.specs.Iso2022Jp.{parts_of, part_mode, escape_length, escape_events, part_events, parts_events, iso_2022_jp_events}
 use Rattle.legacy_base.specs.Utf16.{units_of, has_odd_byte, units_events, utf16_events}
 use Rattle.legacy_base.specs.Replacement.{replacement_events}
-use Rattle.legacy_base.specs.Grammar.{Grammar, single_byte, user_defined, replacement, utf16, big5, euc_kr, shift_jis, euc_jp, gb18030, iso_2022_jp, events_of}
+use Rattle.legacy_base.specs.Grammar.{Grammar, single_byte, user_defined, replacement, utf16, big5, euc_kr, shift_jis, euc_jp, gb18030, events_of}
+use Rattle.legacy_base.specs.States.{may_hold, rests}
 use Rattle.legacy_base.specs.Laws.{IsFrontOf, IsReadByFronts, AreReadByFronts, HasNoneOfNothing, CutsDoNotMatter}
 use Rattle.legacy_base.proofs.Cuts.{cut-front}
 use Rattle.legacy_base.proofs.FrontLaws.{single_byte_front-of, user_defined_front-of, big5_front-of, euc_kr_front-of, shift_jis_front-of, euc_jp_front-of, gb18030_front-of}
@@ -27,17 +28,17 @@ read_by_fronts = record {
 
 pub none_of_nothing : HasNoneOfNothing
 unfolding events_of cut replacement_events utf16_events units_of has_odd_byte units_events iso_2022_jp_events parts_of part_mode escape_length escape_events part_events parts_events
-none_of_nothing (single_byte table) = refl
-none_of_nothing user_defined = refl
 none_of_nothing (replacement true) = refl
-none_of_nothing (replacement false) = refl
-none_of_nothing (utf16 big_endian) = refl
-none_of_nothing (big5 index) = refl
-none_of_nothing (euc_kr index) = refl
-none_of_nothing (shift_jis jis0208) = refl
-none_of_nothing (euc_jp jis0208 jis0212) = refl
-none_of_nothing (gb18030 index ranges) = refl
-none_of_nothing (iso_2022_jp jis0208 mode) = refl
+none_of_nothing _ = refl
+
+-- nothing may always be held back, and rests
+pub may_none : (g : Grammar) → may_hold g [] ≡ true
+may_none user_defined = refl
+may_none _ = refl
+
+pub rests-none : (g : Grammar) → rests g [] ≡ true
+rests-none user_defined = refl
+rests-none _ = refl
 
 pub cuts_do_not_matter : CutsDoNotMatter
 cuts_do_not_matter before after source passed out p none =

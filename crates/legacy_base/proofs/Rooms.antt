@@ -6,9 +6,10 @@ use Rattle.std.proofs.lemmas.List.Concat.{flat_map-append}
 use Rattle.std.proofs.Math.Nat.{sub-zero}
 use Rattle.legacy_base.specs.declared.results.DecodeEvent.{DecodeEvent}
 use Rattle.legacy_base.specs.EncodingForm.{EncodingForm, Utf8, Utf16, code_units, unit_count, all_code_units, total_unit_count, bmp_room, wide_room}
-use Rattle.legacy_base.specs.Grammar.{Grammar, events_of, single_byte, user_defined, replacement, utf16, big5, euc_kr, shift_jis, euc_jp, gb18030, iso_2022_jp}
+use Rattle.legacy_base.specs.Profile.{Rooms, narrow_acts, wide_reads, wide_acts}
+use Rattle.legacy_base.specs.Grammar.{Grammar, profile, events_of}
 use Rattle.legacy_base.specs.States.{DecoderState, rests, is_empty}
-use Rattle.legacy_base.specs.Acts.{Act, writes, takes, reports, act_at_end, act_room, act_at_rest, room_of_act, byte_room, has_reported, has_short_ascii, has_marks, is_mark_behind, room_needed, LacksRoom, full_room, release_room, HadRoom, HadRoomReleased, HadRooms}
+use Rattle.legacy_base.specs.Acts.{Act, writes, takes, reports, act_at_end, act_room, act_at_rest, room_of_act, byte_room, reading_room, writing_room, has_reported, has_short_ascii, has_marks, is_mark_behind, room_needed, LacksRoom, full_room, release_room, HadRoom, HadRoomReleased, HadRooms}
 
 pub all_code_units-append : (form : EncodingForm) (xs ys : List ℕ) → all_code_units form (xs ++ ys) ≡ all_code_units form xs ++ all_code_units form ys
 all_code_units-append form xs ys = flat_map-append (code_units form) xs ys
@@ -104,28 +105,26 @@ wide_some Utf16 = omega arith
 
 -- a byte past ASCII needs no more than the room of any scalar
 pub full_most : (form : EncodingForm) (g : Grammar) → full_room form g ≤ wide_room form
-full_most form (single_byte table) = bmp_small form
-full_most form user_defined = bmp_small form
-full_most form (replacement reported) = bmp_small form
-full_most form (utf16 big_endian) = omega arith
-full_most form (big5 index) = omega arith
-full_most form (euc_kr index) = bmp_small form
-full_most form (shift_jis jis0208) = bmp_small form
-full_most form (euc_jp jis0208 jis0212) = bmp_small form
-full_most form (gb18030 index ranges) = omega arith
-full_most form (iso_2022_jp jis0208 mode) = bmp_small form
+full_most form g = by_rooms (profile g).rooms where
+  by_rooms : (r : Rooms) → reading_room (bmp_room form) (wide_room form) r ≤ wide_room form
+  by_rooms narrow_acts = bmp_small form
+  by_rooms wide_reads = omega arith
+  by_rooms wide_acts = omega arith
 
 release_most : (form : EncodingForm) (g : Grammar) → release_room form g ≤ wide_room form
-release_most form (single_byte table) = bmp_small form
-release_most form user_defined = bmp_small form
-release_most form (replacement reported) = bmp_small form
-release_most form (utf16 big_endian) = bmp_small form
-release_most form (big5 index) = omega arith
-release_most form (euc_kr index) = bmp_small form
-release_most form (shift_jis jis0208) = bmp_small form
-release_most form (euc_jp jis0208 jis0212) = bmp_small form
-release_most form (gb18030 index ranges) = omega arith
-release_most form (iso_2022_jp jis0208 mode) = bmp_small form
+release_most form g = by_rooms (profile g).rooms where
+  by_rooms : (r : Rooms) → writing_room (bmp_room form) (wide_room form) r ≤ wide_room form
+  by_rooms narrow_acts = bmp_small form
+  by_rooms wide_reads = bmp_small form
+  by_rooms wide_acts = omega arith
+
+-- a report needs no more room than a byte past ASCII
+pub release-full : (form : EncodingForm) (g : Grammar) → release_room form g ≤ full_room form g
+release-full form g = by_rooms (profile g).rooms where
+  by_rooms : (r : Rooms) → writing_room (bmp_room form) (wide_room form) r ≤ reading_room (bmp_room form) (wide_room form) r
+  by_rooms narrow_acts = omega arith
+  by_rooms wide_reads = bmp_small form
+  by_rooms wide_acts = omega arith
 
 two_tests : (a b : Bool) (x y most : ℕ) → x ≤ most → 1 ≤ most → cond a 0 (cond b 1 x) ≤ most
 two_tests true b x y most h k = omega arith

@@ -3,7 +3,8 @@ use Rattle.std.specs.Prelude.{ℕ, ◌-◌, ◌<◌, ◌≤◌, List, [], ◌∷
 use Rattle.std.specs.Char.{is_ascii}
 use Rattle.legacy_base.specs.declared.results.DecodeEvent.{DecodeEvent}
 use Rattle.legacy_base.specs.EncodingForm.{EncodingForm, unit_count, bmp_room, wide_room}
-use Rattle.legacy_base.specs.Grammar.{Grammar, single_byte, replacement, utf16, big5, euc_kr, shift_jis, euc_jp, gb18030, events_of}
+use Rattle.legacy_base.specs.Grammar.{Grammar, profile, events_of}
+use Rattle.legacy_base.specs.Profile.{Rooms, narrow_acts, wide_reads, wide_acts}
 use Rattle.legacy_base.specs.States.{DecoderState, rests, is_empty}
 
 -- ---- the next act
@@ -33,32 +34,30 @@ next_act state unread last =
 -- ---- its room: narrow and wide are the units of the longest scalar up to U+FFFF, and of the longest scalar
 
 -- the room for reading a byte past ASCII
+abbrev pub reading_room : ℕ → ℕ → Rooms → ℕ
+reading_room narrow wide narrow_acts = narrow
+reading_room narrow wide wide_reads = wide
+reading_room narrow wide wide_acts = wide
+
 abbrev pub byte_room : ℕ → ℕ → Grammar → ℕ
-byte_room narrow wide (big5 index) = wide
-byte_room narrow wide (gb18030 index ranges) = wide
-byte_room narrow wide (utf16 big_endian) = wide
-byte_room narrow wide _ = narrow
+byte_room narrow wide grammar = reading_room narrow wide (profile grammar).rooms
 
 -- the room for writing what is held back, and for reporting at the end of input
+abbrev pub writing_room : ℕ → ℕ → Rooms → ℕ
+writing_room narrow wide narrow_acts = narrow
+writing_room narrow wide wide_reads = narrow
+writing_room narrow wide wide_acts = wide
+
 abbrev pub held_room : ℕ → ℕ → Grammar → ℕ
-held_room narrow wide (big5 index) = wide
-held_room narrow wide (gb18030 index ranges) = wide
-held_room narrow wide _ = narrow
+held_room narrow wide grammar = writing_room narrow wide (profile grammar).rooms
 
 -- the codecs in which an ASCII byte needs one unit where nothing is held back
 abbrev pub has_short_ascii : Grammar → Bool
-has_short_ascii (single_byte table) = true
-has_short_ascii (big5 index) = true
-has_short_ascii (euc_kr index) = true
-has_short_ascii (shift_jis jis0208) = true
-has_short_ascii (euc_jp jis0208 jis0212) = true
-has_short_ascii (gb18030 index ranges) = true
-has_short_ascii _ = false
+has_short_ascii grammar = (profile grammar).short_ascii
 
 -- a replacement decoder that has reported needs no room
 abbrev pub has_reported : Grammar → Bool
-has_reported (replacement reported) = reported
-has_reported _ = false
+has_reported grammar = (profile grammar).reported
 
 -- the free units that an act needs
 abbrev pub act_room : ℕ → ℕ → DecoderState → Act → ℕ
@@ -102,8 +101,7 @@ fault_room form grammar read = if nat_eq read 0 then release_room form grammar e
 
 -- Big5 has four pairs that give a letter and a combining mark
 abbrev pub has_marks : Grammar → Bool
-has_marks (big5 index) = true
-has_marks _ = false
+has_marks grammar = (profile grammar).marks
 
 -- the scalar is one of those marks, behind one of those letters
 abbrev pub is_mark_behind : Option ℕ → ℕ → Bool

@@ -1,10 +1,12 @@
 -- The forms of Big5 (WHATWG Encoding Standard, "Big5 decoder").
-use Rattle.std.specs.Prelude.{ℕ, ◌+◌, ◌-◌, ◌*◌, List, [], ◌∷◌, Option, Some, None, ◌==◌, if◌then◌else◌, option_to_list}
+use Rattle.std.specs.Prelude.{ℕ, ◌+◌, ◌-◌, ◌*◌, List, [], ◌∷◌, length, true, false, Option, Some, None, ◌==◌, if◌then◌else◌, option_to_list}
 use Rattle.std.specs.Option.{option_map_or}
 use Rattle.std.specs.Int.{is_in_range}
 use Rattle.std.specs.Char.{is_ascii}
-use Rattle.legacy_base.specs.Fronts.{Front, reads, malformed, reads_or, trail_rule}
+use Rattle.legacy_base.specs.Fronts.{Front, reads, malformed, reads_or, trail_rule, cut}
 use Rattle.legacy_base.specs.Indexes.{idx}
+use Rattle.legacy_base.specs.Profile.{Profile, wide_acts, is_lead, single_lead_may_hold, always_rests}
+use Rattle.legacy_base.specs.Formulas.{weighed, constant, ◌⊞◌, ◌⊠◌}
 
 -- the pointer of a lead and a trail, or none where the second byte is no trail
 abbrev pub big5_pointer : ℕ → ℕ → Option ℕ
@@ -34,3 +36,20 @@ big5_front index b rest =
     if is_ascii b then reads 1 (b ∷ [])
     else if is_in_range 0x81 0xFE b then big5_pair index b rest
     else malformed 1
+
+-- the codec
+abbrev pub big5_profile : List ℕ → Profile
+big5_profile index = record {
+  events = cut (big5_front index) 0 0;
+  may_hold = single_lead_may_hold is_lead;
+  rests = always_rests;
+  begins_in_ascii = true;
+  rooms = wide_acts;
+  short_ascii = true;
+  reported = false;
+  marks = true;
+  weight = length;
+  utf16_length = constant 1 ⊞ weighed;
+  utf8_length = constant 3 ⊞ constant 3 ⊠ weighed;
+  utf8_length_without_replacement = constant 2 ⊞ constant 2 ⊠ weighed;
+}

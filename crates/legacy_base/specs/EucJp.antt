@@ -1,9 +1,11 @@
 -- The forms of EUC-JP (WHATWG Encoding Standard, "EUC-JP decoder").
-use Rattle.std.specs.Prelude.{ℕ, ◌+◌, ◌-◌, ◌*◌, List, [], ◌∷◌, ◌==◌, if◌then◌else◌, option_to_list}
+use Rattle.std.specs.Prelude.{ℕ, ◌+◌, ◌-◌, ◌*◌, List, [], ◌∷◌, length, min, Bool, true, false, ◌&&◌, ◌||◌, ◌==◌, if◌then◌else◌, option_to_list}
 use Rattle.std.specs.Int.{is_in_range}
 use Rattle.std.specs.Char.{is_ascii}
-use Rattle.legacy_base.specs.Fronts.{Front, reads, malformed, reads_or, trail_rule}
+use Rattle.legacy_base.specs.Fronts.{Front, reads, malformed, reads_or, trail_rule, cut}
 use Rattle.legacy_base.specs.Indexes.{idx}
+use Rattle.legacy_base.specs.Profile.{Profile, narrow_acts, always_rests}
+use Rattle.legacy_base.specs.Formulas.{weighed, constant, ◌⊞◌, ◌⊠◌, halved}
 
 -- the scalar of two bytes from 0xA1 on in an index with 94 columns, if there is one
 abbrev pub euc_jp_scalars : List ℕ → ℕ → ℕ → List ℕ
@@ -41,3 +43,35 @@ euc_jp_front jis0208 jis0212 b rest =
     else if b == 0x8F then euc_jp_second jis0212 rest
     else if is_in_range 0xA1 0xFE b then euc_jp_pair jis0208 b rest
     else malformed 1
+
+-- the bytes that begin a pair of EUC-JP, and stand behind 0x8F
+abbrev pub is_euc_jp_lead : ℕ → Bool
+is_euc_jp_lead b = is_in_range 0xA1 0xFE b
+
+-- nothing, 0x8E, 0x8F, a lead, or 0x8F and a lead
+abbrev pub euc_jp_may_hold : List ℕ → Bool
+euc_jp_may_hold [] = true
+euc_jp_may_hold (b ∷ []) = (b == 0x8E || b == 0x8F) || is_euc_jp_lead b
+euc_jp_may_hold (b ∷ c ∷ []) = b == 0x8F && is_euc_jp_lead c
+euc_jp_may_hold _ = false
+
+-- what is held back is worth one byte
+abbrev pub euc_jp_weight : List ℕ → ℕ
+euc_jp_weight held = min 1 (length held)
+
+-- the codec
+abbrev pub euc_jp_profile : List ℕ → List ℕ → Profile
+euc_jp_profile jis0208 jis0212 = record {
+  events = cut (euc_jp_front jis0208 jis0212) 0 0;
+  may_hold = euc_jp_may_hold;
+  rests = always_rests;
+  begins_in_ascii = true;
+  rooms = narrow_acts;
+  short_ascii = true;
+  reported = false;
+  marks = false;
+  weight = euc_jp_weight;
+  utf16_length = weighed;
+  utf8_length = constant 3 ⊠ weighed;
+  utf8_length_without_replacement = constant 2 ⊞ (weighed ⊞ halved (weighed ⊞ constant 1));
+}

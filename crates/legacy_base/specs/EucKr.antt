@@ -1,9 +1,11 @@
 -- The forms of EUC-KR (WHATWG Encoding Standard, "EUC-KR decoder").
-use Rattle.std.specs.Prelude.{ℕ, ◌+◌, ◌-◌, ◌*◌, List, [], ◌∷◌, if◌then◌else◌, option_to_list}
+use Rattle.std.specs.Prelude.{ℕ, ◌+◌, ◌-◌, ◌*◌, List, [], ◌∷◌, length, true, false, if◌then◌else◌, option_to_list}
 use Rattle.std.specs.Int.{is_in_range}
 use Rattle.std.specs.Char.{is_ascii}
-use Rattle.legacy_base.specs.Fronts.{Front, reads, malformed, reads_or, trail_rule}
+use Rattle.legacy_base.specs.Fronts.{Front, reads, malformed, reads_or, trail_rule, cut}
 use Rattle.legacy_base.specs.Indexes.{idx}
+use Rattle.legacy_base.specs.Profile.{Profile, narrow_acts, is_lead, single_lead_may_hold, always_rests}
+use Rattle.legacy_base.specs.Formulas.{weighed, constant, ◌⊞◌, ◌⊠◌, halved}
 
 -- the scalar of a lead and a trail, if there is one
 abbrev pub euc_kr_scalars : List ℕ → ℕ → ℕ → List ℕ
@@ -22,3 +24,20 @@ euc_kr_front index b rest =
     if is_ascii b then reads 1 (b ∷ [])
     else if is_in_range 0x81 0xFE b then euc_kr_pair index b rest
     else malformed 1
+
+-- the codec
+abbrev pub euc_kr_profile : List ℕ → Profile
+euc_kr_profile index = record {
+  events = cut (euc_kr_front index) 0 0;
+  may_hold = single_lead_may_hold is_lead;
+  rests = always_rests;
+  begins_in_ascii = true;
+  rooms = narrow_acts;
+  short_ascii = true;
+  reported = false;
+  marks = false;
+  weight = length;
+  utf16_length = weighed;
+  utf8_length = constant 3 ⊠ weighed;
+  utf8_length_without_replacement = constant 2 ⊞ (weighed ⊞ halved (weighed ⊞ constant 1));
+}

@@ -1,9 +1,11 @@
 -- The forms of GB18030 and GBK (WHATWG Encoding Standard, "gb18030 decoder").
-use Rattle.std.specs.Prelude.{ℕ, ◌+◌, ◌-◌, ◌*◌, List, [], ◌∷◌, Bool, ◌==◌, if◌then◌else◌, option_to_list}
+use Rattle.std.specs.Prelude.{ℕ, ◌+◌, ◌-◌, ◌*◌, List, [], ◌∷◌, length, Bool, true, false, not, ◌&&◌, ◌||◌, ◌==◌, if◌then◌else◌, option_to_list}
 use Rattle.std.specs.Int.{is_in_range}
 use Rattle.std.specs.Char.{is_ascii, is_ascii_digit}
-use Rattle.legacy_base.specs.Fronts.{Front, reads, malformed, reads_or, trail_rule}
+use Rattle.legacy_base.specs.Fronts.{Front, reads, malformed, reads_or, trail_rule, cut}
 use Rattle.legacy_base.specs.Indexes.{idx, range}
+use Rattle.legacy_base.specs.Profile.{Profile, wide_acts}
+use Rattle.legacy_base.specs.Formulas.{weighed, constant, ◌⊞◌, ◌⊠◌}
 
 -- the bytes that begin a form of two or four bytes, and stand third in one of four
 abbrev pub is_gb18030_lead : ℕ → Bool
@@ -49,3 +51,33 @@ gb18030_front index ranges b rest =
     else if b == 0x80 then reads 1 (0x20AC ∷ [])
     else if is_gb18030_lead b then gb18030_second index ranges b rest
     else malformed 1
+
+-- nothing, the first one to three bytes of four, a digit to be written, or that and a lead
+abbrev pub gb18030_may_hold : List ℕ → Bool
+gb18030_may_hold [] = true
+gb18030_may_hold (b ∷ []) = is_gb18030_lead b || is_ascii_digit b
+gb18030_may_hold (b ∷ c ∷ []) = (is_gb18030_lead b && is_ascii_digit c) || (is_ascii_digit b && is_gb18030_lead c)
+gb18030_may_hold (b ∷ c ∷ d ∷ []) = (is_gb18030_lead b && is_ascii_digit c) && is_gb18030_lead d
+gb18030_may_hold _ = false
+
+-- a digit of a broken form is still to be written
+abbrev pub gb18030_rests : List ℕ → Bool
+gb18030_rests (b ∷ bytes) = not (is_ascii_digit b)
+gb18030_rests _ = true
+
+-- the codec
+abbrev pub gb18030_profile : List ℕ → List (ℕ × ℕ) → Profile
+gb18030_profile index ranges = record {
+  events = cut (gb18030_front index ranges) 0 0;
+  may_hold = gb18030_may_hold;
+  rests = gb18030_rests;
+  begins_in_ascii = true;
+  rooms = wide_acts;
+  short_ascii = true;
+  reported = false;
+  marks = false;
+  weight = length;
+  utf16_length = constant 1 ⊞ weighed;
+  utf8_length = constant 1 ⊞ constant 3 ⊠ weighed;
+  utf8_length_without_replacement = constant 1 ⊞ constant 3 ⊠ weighed;
+}

@@ -1,17 +1,17 @@
 -- What each decoder gives of a whole list of bytes.
 use Rattle.std.specs.Prelude.{ℕ, List, Bool}
 use Rattle.legacy_base.specs.declared.results.DecodeEvent.{DecodeEvent}
-use Rattle.legacy_base.specs.Fronts.{cut}
-use Rattle.legacy_base.specs.SingleByte.{single_byte_front}
-use Rattle.legacy_base.specs.UserDefined.{user_defined_front}
-use Rattle.legacy_base.specs.Big5.{big5_front}
-use Rattle.legacy_base.specs.EucKr.{euc_kr_front}
-use Rattle.legacy_base.specs.ShiftJis.{shift_jis_front}
-use Rattle.legacy_base.specs.EucJp.{euc_jp_front}
-use Rattle.legacy_base.specs.Gb18030.{gb18030_front}
-use Rattle.legacy_base.specs.Iso2022Jp.{Mode, iso_2022_jp_events}
-use Rattle.legacy_base.specs.Utf16.{utf16_events}
-use Rattle.legacy_base.specs.Replacement.{replacement_events}
+use Rattle.legacy_base.specs.Profile.{Profile}
+use Rattle.legacy_base.specs.SingleByte.{single_byte_profile}
+use Rattle.legacy_base.specs.UserDefined.{user_defined_profile}
+use Rattle.legacy_base.specs.Big5.{big5_profile}
+use Rattle.legacy_base.specs.EucKr.{euc_kr_profile}
+use Rattle.legacy_base.specs.ShiftJis.{shift_jis_profile}
+use Rattle.legacy_base.specs.EucJp.{euc_jp_profile}
+use Rattle.legacy_base.specs.Gb18030.{gb18030_profile}
+use Rattle.legacy_base.specs.Iso2022Jp.{Mode, iso_2022_jp_profile}
+use Rattle.legacy_base.specs.Utf16.{utf16_profile}
+use Rattle.legacy_base.specs.Replacement.{replacement_profile}
 
 -- A decoder with the lists that it reads by. In ISO-2022-JP also the mode in which a list begins, in UTF-16
 -- the byte order, in the replacement decoder whether the fault was reported.
@@ -27,15 +27,19 @@ pub data Grammar : Type 0 where
   gb18030 : (index : List ℕ) (ranges : List (ℕ × ℕ)) → Grammar
   iso_2022_jp : (jis0208 : List ℕ) (mode : Mode) → Grammar
 
+-- the codec of a grammar
+abbrev pub profile : Grammar → Profile
+profile (single_byte table) = single_byte_profile table
+profile user_defined = user_defined_profile
+profile (replacement reported) = replacement_profile reported
+profile (utf16 big_endian) = utf16_profile big_endian
+profile (big5 index) = big5_profile index
+profile (euc_kr index) = euc_kr_profile index
+profile (shift_jis jis0208) = shift_jis_profile jis0208
+profile (euc_jp jis0208 jis0212) = euc_jp_profile jis0208 jis0212
+profile (gb18030 index ranges) = gb18030_profile index ranges
+profile (iso_2022_jp jis0208 mode) = iso_2022_jp_profile jis0208 mode
+
 -- the events of a list of bytes
 unfoldable pub events_of : Grammar → List ℕ → List DecodeEvent
-events_of (single_byte table) bytes = cut (single_byte_front table) 0 0 bytes
-events_of user_defined bytes = cut user_defined_front 0 0 bytes
-events_of (replacement reported) bytes = replacement_events reported bytes
-events_of (utf16 big_endian) bytes = utf16_events big_endian bytes
-events_of (big5 index) bytes = cut (big5_front index) 0 0 bytes
-events_of (euc_kr index) bytes = cut (euc_kr_front index) 0 0 bytes
-events_of (shift_jis jis0208) bytes = cut (shift_jis_front jis0208) 0 0 bytes
-events_of (euc_jp jis0208 jis0212) bytes = cut (euc_jp_front jis0208 jis0212) 0 0 bytes
-events_of (gb18030 index ranges) bytes = cut (gb18030_front index ranges) 0 0 bytes
-events_of (iso_2022_jp jis0208 mode) bytes = iso_2022_jp_events jis0208 mode bytes
+events_of grammar bytes = (profile grammar).events bytes

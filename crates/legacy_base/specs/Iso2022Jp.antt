@@ -1,12 +1,14 @@
 -- The events of ISO-2022-JP (WHATWG Encoding Standard, "ISO-2022-JP decoder"): the list is cut before each
 -- escape byte, and each part is read by itself.
-use Rattle.std.specs.Prelude.{ℕ, ◌+◌, ◌-◌, ◌*◌, List, [], ◌∷◌, ◌++◌, drop, Option, Some, None, Bool, false, not, ◌&&◌, ◌||◌, ◌==◌, if◌then◌else◌, length, is_some, option_to_list, unwrap_or}
+use Rattle.std.specs.Prelude.{ℕ, ◌+◌, ◌-◌, ◌*◌, List, [], ◌∷◌, ◌++◌, drop, Option, Some, None, Bool, true, false, not, ◌&&◌, ◌||◌, ◌==◌, if◌then◌else◌, length, is_some, option_to_list, unwrap_or}
 use Rattle.std.specs.Int.{is_in_range}
 use Rattle.std.specs.Char.{is_ascii}
 use Rattle.legacy_base.specs.declared.results.DecodeEvent.{DecodeEvent}
 use Rattle.legacy_base.specs.declared.results.DecodeEvent.TheVariants.{Bad}
 use Rattle.legacy_base.specs.Fronts.{Front, reads, malformed, reads_or, cut}
 use Rattle.legacy_base.specs.Indexes.{idx}
+use Rattle.legacy_base.specs.Profile.{Profile, narrow_acts}
+use Rattle.legacy_base.specs.Formulas.{weighed, constant, ◌⊠◌}
 
 -- how the bytes behind an escape are read
 pub data Mode : Type 0 where
@@ -105,3 +107,67 @@ parts_events jis0208 mode place (part ∷ parts) =
 -- the events of a list that begins in the mode
 unfoldable pub iso_2022_jp_events : List ℕ → Mode → List ℕ → List DecodeEvent
 iso_2022_jp_events jis0208 mode bytes = parts_events jis0208 mode 0 (parts_of bytes)
+
+-- ---- what is held back
+
+-- the two-byte mode
+abbrev pub is_two_byte_mode : Mode → Bool
+is_two_byte_mode two_byte = true
+is_two_byte_mode _ = false
+
+-- the ASCII mode
+abbrev pub is_ascii_mode : Mode → Bool
+is_ascii_mode ascii = true
+is_ascii_mode _ = false
+
+-- the second byte of the valid escapes
+abbrev pub is_escape_second : ℕ → Bool
+is_escape_second b = b == 0x24 || b == 0x28
+
+-- less than a whole escape, but one may come: nothing, the escape byte, or that and a second byte
+abbrev pub is_escape_start : List ℕ → Bool
+is_escape_start [] = true
+is_escape_start (e ∷ []) = e == esc
+is_escape_start (e ∷ a ∷ []) = e == esc && is_escape_second a
+is_escape_start _ = false
+
+-- the bytes begin with a valid escape
+abbrev pub is_whole_escape : List ℕ → Bool
+is_whole_escape (e ∷ a ∷ b ∷ bytes) = e == esc && is_some (escape_mode a b)
+is_whole_escape _ = false
+
+-- a byte by itself that is held back: a lead, or what came behind a lone escape byte
+abbrev pub is_iso_2022_jp_byte : Mode → ℕ → Bool
+is_iso_2022_jp_byte mode b = if is_two_byte_mode mode then is_in_range 0x21 0x7E b else is_escape_second b
+
+-- a byte by itself, less than a whole escape, or a whole one and less than the next
+abbrev pub iso_2022_jp_may_hold : Mode → List ℕ → Bool
+iso_2022_jp_may_hold mode (b ∷ []) = b == esc || is_iso_2022_jp_byte mode b
+iso_2022_jp_may_hold mode bytes =
+    is_escape_start bytes || (is_whole_escape bytes && is_escape_start (drop 3 bytes))
+
+-- what came behind a lone escape byte outside two-byte mode is still to be written
+abbrev pub iso_2022_jp_rests : Mode → List ℕ → Bool
+iso_2022_jp_rests mode (b ∷ []) = is_two_byte_mode mode || not (is_escape_second b)
+iso_2022_jp_rests mode _ = true
+
+-- a whole escape counts as one byte
+abbrev pub iso_2022_jp_weight : List ℕ → ℕ
+iso_2022_jp_weight bytes = if is_whole_escape bytes then length bytes - 2 else length bytes
+
+-- the codec in a mode
+abbrev pub iso_2022_jp_profile : List ℕ → Mode → Profile
+iso_2022_jp_profile jis0208 mode = record {
+  events = iso_2022_jp_events jis0208 mode;
+  may_hold = iso_2022_jp_may_hold mode;
+  rests = iso_2022_jp_rests mode;
+  begins_in_ascii = is_ascii_mode mode;
+  rooms = narrow_acts;
+  short_ascii = false;
+  reported = false;
+  marks = false;
+  weight = iso_2022_jp_weight;
+  utf16_length = weighed;
+  utf8_length = constant 3 ⊠ weighed;
+  utf8_length_without_replacement = constant 3 ⊠ weighed;
+}

@@ -6,6 +6,8 @@ pub mod EncodingForm
 pub mod Events
 pub mod Fronts
 pub mod Indexes
+pub mod Formulas
+pub mod Profile
 pub mod SingleByte
 pub mod UserDefined
 pub mod Replacement

@@ -1,10 +1,12 @@
 -- The forms of Shift_JIS (WHATWG Encoding Standard, "Shift_JIS decoder").
-use Rattle.std.specs.Prelude.{ℕ, ◌+◌, ◌-◌, ◌*◌, List, [], ◌∷◌, Option, Some, None, Bool, ◌||◌, ◌==◌, if◌then◌else◌, option_to_list}
+use Rattle.std.specs.Prelude.{ℕ, ◌+◌, ◌-◌, ◌*◌, List, [], ◌∷◌, length, Option, Some, None, Bool, true, false, ◌||◌, ◌==◌, if◌then◌else◌, option_to_list}
 use Rattle.std.specs.Option.{option_map_or}
 use Rattle.std.specs.Int.{is_in_range}
 use Rattle.std.specs.Char.{is_ascii}
-use Rattle.legacy_base.specs.Fronts.{Front, reads, malformed, reads_or, trail_rule}
+use Rattle.legacy_base.specs.Fronts.{Front, reads, malformed, reads_or, trail_rule, cut}
 use Rattle.legacy_base.specs.Indexes.{idx}
+use Rattle.legacy_base.specs.Profile.{Profile, narrow_acts, single_lead_may_hold, always_rests}
+use Rattle.legacy_base.specs.Formulas.{weighed, constant, ◌⊠◌}
 
 -- the bytes that begin a pair
 abbrev pub is_shift_jis_lead : ℕ → Bool
@@ -40,3 +42,20 @@ shift_jis_front jis0208 b rest =
     else if is_in_range 0xA1 0xDF b then reads 1 ((0xFF61 + (b - 0xA1)) ∷ [])
     else if is_shift_jis_lead b then shift_jis_pair jis0208 b rest
     else malformed 1
+
+-- the codec
+abbrev pub shift_jis_profile : List ℕ → Profile
+shift_jis_profile jis0208 = record {
+  events = cut (shift_jis_front jis0208) 0 0;
+  may_hold = single_lead_may_hold is_shift_jis_lead;
+  rests = always_rests;
+  begins_in_ascii = true;
+  rooms = narrow_acts;
+  short_ascii = true;
+  reported = false;
+  marks = false;
+  weight = length;
+  utf16_length = weighed;
+  utf8_length = constant 3 ⊠ weighed;
+  utf8_length_without_replacement = constant 3 ⊠ weighed;
+}

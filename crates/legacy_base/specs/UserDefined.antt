@@ -1,10 +1,29 @@
 -- The forms of x-user-defined (WHATWG Encoding Standard, "x-user-defined decoder").
-use Rattle.std.specs.Prelude.{ℕ, ◌+◌, ◌-◌, List, [], ◌∷◌, if◌then◌else◌}
+use Rattle.std.specs.Prelude.{ℕ, ◌+◌, ◌-◌, List, [], ◌∷◌, true, false, if◌then◌else◌}
 use Rattle.std.specs.Char.{is_ascii}
-use Rattle.legacy_base.specs.Fronts.{Front, reads}
+use Rattle.legacy_base.specs.Fronts.{Front, reads, cut}
+use Rattle.legacy_base.specs.Profile.{Profile, narrow_acts, is_empty, always_rests, weightless}
+use Rattle.legacy_base.specs.Formulas.{to_come, constant, ◌⊠◌}
 
 -- ASCII is itself, and the bytes from 0x80 on are U+F780 to U+F7FF
 unfoldable pub user_defined_front : ℕ → List ℕ → Front
 user_defined_front b rest =
     if is_ascii b then reads 1 (b ∷ [])
     else reads 1 ((0xF780 + (b - 0x80)) ∷ [])
+
+-- the codec
+abbrev pub user_defined_profile : Profile
+user_defined_profile = record {
+  events = cut user_defined_front 0 0;
+  may_hold = is_empty;
+  rests = always_rests;
+  begins_in_ascii = true;
+  rooms = narrow_acts;
+  short_ascii = false;
+  reported = false;
+  marks = false;
+  weight = weightless;
+  utf16_length = to_come;
+  utf8_length = constant 3 ⊠ to_come;
+  utf8_length_without_replacement = constant 3 ⊠ to_come;
+}

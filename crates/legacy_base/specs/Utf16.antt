@@ -1,9 +1,11 @@
 -- The events of UTF-16 (WHATWG Encoding Standard, "shared UTF-16 decoder"): the bytes are turned into units,
 -- and then high and low surrogates that are neighbours are paired.
-use Rattle.std.specs.Prelude.{ℕ, ◌+◌, ◌*◌, List, [], ◌∷◌, ◌++◌, Bool, true, false, ◌&&◌, ◌||◌, if◌then◌else◌}
+use Rattle.std.specs.Prelude.{ℕ, ◌+◌, ◌*◌, List, [], ◌∷◌, ◌++◌, Bool, true, false, not, ◌&&◌, ◌||◌, if◌then◌else◌}
 use Rattle.std.specs.Char.Utf16.{is_high_surrogate, is_low_surrogate, surrogate_pair_char}
 use Rattle.legacy_base.specs.declared.results.DecodeEvent.{DecodeEvent}
 use Rattle.legacy_base.specs.declared.results.DecodeEvent.TheVariants.{Scalar, Bad}
+use Rattle.legacy_base.specs.Profile.{Profile, wide_reads, weightless}
+use Rattle.legacy_base.specs.Formulas.{paired, constant, ◌⊞◌, ◌⊠◌}
 
 -- the unit of two bytes, in the byte order
 abbrev pub unit_of : Bool → ℕ → ℕ → ℕ
@@ -49,3 +51,33 @@ units_events i (u ∷ v ∷ units) odd = elim (is_high_surrogate u && is_low_sur
 -- the events of a list of bytes
 unfoldable pub utf16_events : Bool → List ℕ → List DecodeEvent
 utf16_events big_endian bytes = units_events 0 (units_of big_endian bytes) (has_odd_byte bytes)
+
+-- nothing, an odd byte, a unit that can stand first, or a high surrogate and an odd byte
+abbrev pub utf16_may_hold : Bool → List ℕ → Bool
+utf16_may_hold big_endian [] = true
+utf16_may_hold big_endian (a ∷ []) = true
+utf16_may_hold big_endian (a ∷ b ∷ []) = not (is_low_surrogate (unit_of big_endian a b))
+utf16_may_hold big_endian (a ∷ b ∷ c ∷ []) = is_high_surrogate (unit_of big_endian a b)
+utf16_may_hold big_endian _ = false
+
+-- a unit that is no high surrogate is still to be written
+abbrev pub utf16_rests : Bool → List ℕ → Bool
+utf16_rests big_endian (a ∷ b ∷ []) = is_high_surrogate (unit_of big_endian a b)
+utf16_rests big_endian _ = true
+
+-- the codec
+abbrev pub utf16_profile : Bool → Profile
+utf16_profile big_endian = record {
+  events = utf16_events big_endian;
+  may_hold = utf16_may_hold big_endian;
+  rests = utf16_rests big_endian;
+  begins_in_ascii = true;
+  rooms = wide_reads;
+  short_ascii = false;
+  reported = false;
+  marks = false;
+  weight = weightless;
+  utf16_length = constant 1 ⊞ paired;
+  utf8_length = constant 1 ⊞ constant 3 ⊠ paired;
+  utf8_length_without_replacement = constant 1 ⊞ constant 3 ⊠ paired;
+}

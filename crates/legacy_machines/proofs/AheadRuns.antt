@@ -1,5 +1,5 @@
 -- A run of common forms within a call that is under way.
-use Rattle.std.proofs.Common.{◌≡◌, ◌∙◌, ℕ, suc, ◌+◌, ◌-◌, ◌≤◌, List, [], ◌∷◌, ◌++◌, length, map, take, drop, refl, sym, ap, subst, arith, append_assoc, append-nil, length-append, length-drop, Bool, true, false, Some, None, Option, inl, inr}
+use Rattle.std.proofs.Common.{◌≡◌, ◌∙◌, ℕ, suc, ◌+◌, ◌-◌, ◌≤◌, List, [], ◌∷◌, ◌++◌, length, map, take, drop, refl, sym, ap, subst, arith, append_assoc, append-nil, length-append, length-drop, Bool, false, Some, None, Option, inl, inr}
 use Rattle.std.proofs.lemmas.List.{length-map, map-append, take-append-drop, length-take-le, drop-drop, take_all}
 use Rattle.std.proofs.lemmas.List.Elements.{All-append}
 use Rattle.std.proofs.lemmas.Bool.{cases_lt}
@@ -8,11 +8,12 @@ use Rattle.legacy_base.specs.declared.results.DecodeEvent.{DecodeEvent}
 use Rattle.legacy_base.specs.declared.results.DecodeEvent.TheVariants.{Scalar}
 use Rattle.legacy_base.specs.EncodingForm.{EncodingForm, Utf8, Utf16, code_units, unit_count, all_code_units, total_unit_count, wide_room}
 use Rattle.legacy_base.specs.Events.{shift}
-use Rattle.legacy_base.specs.Grammar.{Grammar, single_byte, user_defined, replacement, utf16, big5, euc_kr, shift_jis, euc_jp, gb18030, iso_2022_jp, events_of}
+use Rattle.legacy_base.specs.Grammar.{Grammar, events_of}
 use Rattle.legacy_base.specs.States.{DecoderState, new_state, rests}
 use Rattle.legacy_base.specs.Acts.{LacksRoom, HadRoom}
 use Rattle.legacy_base.specs.Lengths.{room}
 use Rattle.legacy_base.specs.Calls.{Progress}
+use Rattle.legacy_base.proofs.GrammarLaws.{rests-none}
 use Rattle.legacy_base.proofs.Shifts.{shift-scalars}
 use Rattle.legacy_base.proofs.Progress.{after_that}
 use Rattle.legacy_base.proofs.Rooms.{all_code_units-append, total_unit_count-append, lacks_small, full_most, HadRooms-append}
@@ -62,19 +63,6 @@ run_progress now next source read r ds h e f runs =
 with_empty : (s : DecoderState) → s.held ≡ [] → s ≡ new_state s.grammar
 with_empty s e = ap (λ h. record { grammar = s.grammar; held = h }) e
 
--- no bytes rest
-none_rest : (g : Grammar) → rests g [] ≡ true
-none_rest (single_byte table) = refl
-none_rest user_defined = refl
-none_rest (replacement reported) = refl
-none_rest (utf16 big_endian) = refl
-none_rest (big5 index) = refl
-none_rest (euc_kr index) = refl
-none_rest (shift_jis jis0208) = refl
-none_rest (euc_jp jis0208 jis0212) = refl
-none_rest (gb18030 index ranges) = refl
-none_rest (iso_2022_jp jis0208 mode) = refl
-
 -- a call under way that reads a run
 going_run : (form : EncodingForm) (before : DecoderState) (source : List ℕ) (last : Bool) (free : ℕ) (now next : DecoderState) (read : ℕ) (scalars : List ℕ) (r : ℕ) (ds : List ℕ)
     → (going : Going form before source last free now read scalars) → r ≤ length (drop read source) → now.held ≡ [] → next.held ≡ [] → SameRooms now.grammar next.grammar
@@ -87,7 +75,7 @@ going_run form before source last free now next read scalars r ds going h e f sa
       within = omega (arith, h, length-drop read source, going.within);
       passed = going.passed + r;
       progress = subst (λ o. Progress false before source (going.passed + r) next (drop (read + r) source) o) (ap (λ es. map Scalar scalars ++ es) (shift-scalars going.passed ds) ∙ sym (map-append Scalar scalars ds)) j;
-      resting = ap (rests next.grammar) f ∙ none_rest next.grammar;
+      resting = ap (rests next.grammar) f ∙ rests-none next.grammar;
       rooms = both_rooms before.grammar now.grammar next.grammar going.rooms same;
       held = λ a ne. absurd (ne f);
       had = HadRooms-append form before free scalars ds going.released going.had (ample form before.grammar None (free - total_unit_count form scalars) ds after3);

@@ -1,5 +1,5 @@
 -- The moves of a machine that meets its grammar and keeps its rooms are the moves that the loop asks for.
-use Rattle.std.proofs.Common.{◌≡◌, ◌≢◌, ◌∙◌, ℕ, suc, zero-add, add-zero, ◌+◌, ◌-◌, ◌≤◌, List, [], ◌∷◌, ◌++◌, length, drop, refl, sym, ap, subst, arith, append-nil, length-append, length-drop, drop_of_length-le, Bool, true, false, not, ◌&&◌, ◌||◌, IsTrue, Some, None, ◌⊎◌, inl, inr, All}
+use Rattle.std.proofs.Common.{◌≡◌, ◌≢◌, ◌∙◌, ℕ, suc, zero-add, add-zero, ◌+◌, ◌-◌, ◌≤◌, List, [], ◌∷◌, ◌++◌, length, drop, refl, sym, ap, subst, arith, append-nil, length-append, length-drop, drop_of_length-le, Bool, true, false, not, ◌&&◌, ◌||◌, IsTrue, Some, None, inl, inr, All}
 use Rattle.std.proofs.lemmas.List.{drop-append-le}
 use Rattle.std.proofs.lemmas.List.Elements.{All-nil, All-cons}
 use Rattle.std.proofs.lemmas.Bool.{false≢true}
@@ -7,21 +7,22 @@ use Rattle.std.specs.Char.{IsScalar, is_ascii}
 use Rattle.legacy_base.specs.EncodingForm.{EncodingForm, Utf8, Utf16, code_units, unit_count, all_code_units, total_unit_count, bmp_room, wide_room}
 use Rattle.legacy_base.specs.Unicode.{IsByte, AreBytes}
 use Rattle.legacy_base.specs.Fronts.{reads, malformed}
-use Rattle.legacy_base.specs.Grammar.{Grammar, events_of, single_byte, user_defined, replacement, utf16, big5, euc_kr, shift_jis, euc_jp, gb18030, iso_2022_jp}
+use Rattle.legacy_base.specs.Grammar.{Grammar, events_of}
 use Rattle.legacy_base.specs.States.{DecoderState, rests, may_hold}
 use Rattle.legacy_base.specs.Acts.{has_short_ascii, has_reported, has_marks, is_mark_behind, full_room, release_room, HadRoom}
-use Rattle.legacy_base.specs.Lengths.{LengthQuery, to_utf16, to_utf8, to_utf8_without_replacement, query_form, replacement_units, room}
+use Rattle.legacy_base.specs.Lengths.{LengthQuery, to_utf16, to_utf8, query_form, replacement_units, room}
 use Rattle.legacy_machines.specs.declared.machine.Fed.{Fed}
 use Rattle.legacy_machines.specs.declared.machine.Fed.TheVariants.{Nothing, One, Two, Fault}
-use Rattle.legacy_machines.specs.Moves.{IsCovered, read_room, fed_scalars, fed_fault, fed_units, unread_byte, FedHolds, IsFaulty, SameRooms, Feeds, Releases, Reports}
+use Rattle.legacy_machines.specs.Moves.{IsCovered, read_room, fed_scalars, fed_fault, fed_units, unread_byte, FedHolds, IsFaulty, Feeds, Releases, Reports}
 use Rattle.legacy_machines.specs.Steps.{Step, hold, finish, leave, step_held, StepMeets, end_events}
 use Rattle.legacy_machines.specs.Machines.{is_cut, machine}
-use Rattle.legacy_machines.specs.Costs.{state_of, units, step_units, step_left, HasNarrowIndexes, RoomMeets}
+use Rattle.legacy_machines.specs.Costs.{state_of, units, step_units, step_left, HasNarrowIndexes}
 use Rattle.legacy_machines.specs.Margins.{IsOneOrMarked, Settles}
 use Rattle.legacy_machines.specs.Feeding.{fed_form, fed_of, HasScalars, Took}
-use Rattle.legacy_machines.proofs.AllMoves.{machine_meets}
-use Rattle.legacy_machines.proofs.AllRooms.{machine_utf8, machine_utf16, machine_without}
-use Rattle.legacy_machines.proofs.SettledSteps.{machine_settles, machine_write_settles, short_or_usual}
+use Rattle.legacy_base.proofs.Rooms.{release-full}
+use Rattle.legacy_base.proofs.GrammarLaws.{may_none, rests-none}
+use Rattle.legacy_machines.proofs.Shown.{KeepsRooms, short_or_usual}
+use Rattle.legacy_machines.proofs.AllShown.{shown}
 
 -- ---- rooms of all three queries
 
@@ -30,10 +31,8 @@ pub units-total : (form : EncodingForm) (cs : List ℕ) → units (unit_count fo
 units-total form [] = refl
 units-total form (c ∷ cs) = let e = units-total form cs in omega (arith, length-append (code_units form c) (all_code_units form cs))
 
-pub machine_rooms : (query : LengthQuery) (g : Grammar) → is_cut g ≡ true → HasNarrowIndexes g → RoomMeets (unit_count (query_form query)) (bmp_room (query_form query)) (wide_room (query_form query)) (replacement_units query) (room query) g (machine g)
-machine_rooms to_utf16 g h n = machine_utf16 g h n
-machine_rooms to_utf8 g h n = machine_utf8 g h n
-machine_rooms to_utf8_without_replacement g h n = machine_without g h n
+pub machine_rooms : (query : LengthQuery) (g : Grammar) → is_cut g ≡ true → HasNarrowIndexes g → KeepsRooms query g (machine g)
+machine_rooms query g h n = (shown g h).rooms n query
 
 -- an encoding form has a query
 query_of : EncodingForm → LengthQuery
@@ -49,48 +48,6 @@ writes_form : (form : EncodingForm) (g : Grammar) → is_cut g ≡ true → HasN
     unit_count form c ≤ release_room form g
 writes_form Utf8 g h i held n c m r bytes e = let w = (machine_rooms to_utf8 g h i).write_pays held m r bytes in let w' = rw e at w in w'.0
 writes_form Utf16 g h i held n c m r bytes e = let w = (machine_rooms to_utf16 g h i).write_pays held m r bytes in let w' = rw e at w in w'.0
-
--- ---- facts on grammars
-
--- a report needs no more room than a byte past ASCII
-pub release-full : (form : EncodingForm) (g : Grammar) → release_room form g ≤ full_room form g
-release-full form (single_byte table) = omega arith
-release-full form user_defined = omega arith
-release-full form (replacement reported) = omega arith
-release-full Utf8 (utf16 big_endian) = omega arith
-release-full Utf16 (utf16 big_endian) = omega arith
-release-full form (big5 index) = omega arith
-release-full form (euc_kr index) = omega arith
-release-full form (shift_jis jis0208) = omega arith
-release-full form (euc_jp jis0208 jis0212) = omega arith
-release-full form (gb18030 index ranges) = omega arith
-release-full form (iso_2022_jp jis0208 mode) = omega arith
-
--- nothing that is held back rests
-pub rests-none : (g : Grammar) → rests g [] ≡ true
-rests-none (single_byte table) = refl
-rests-none user_defined = refl
-rests-none (replacement reported) = refl
-rests-none (utf16 big_endian) = refl
-rests-none (big5 index) = refl
-rests-none (euc_kr index) = refl
-rests-none (shift_jis jis0208) = refl
-rests-none (euc_jp jis0208 jis0212) = refl
-rests-none (gb18030 index ranges) = refl
-rests-none (iso_2022_jp jis0208 mode) = refl
-
--- a step stays in the grammar's rooms: only that of replacement changes it
-to_rooms : (g : Grammar) (held : List ℕ) (b : ℕ) → SameRooms g ((machine g).to held b)
-to_rooms (single_byte table) held b = record { full = λ form. refl; report = λ form. refl; wants = λ p c. refl }
-to_rooms user_defined held b = record { full = λ form. refl; report = λ form. refl; wants = λ p c. refl }
-to_rooms (replacement reported) held b = record { full = λ form. refl; report = λ form. refl; wants = λ p c. refl }
-to_rooms (utf16 big_endian) held b = record { full = λ form. refl; report = λ form. refl; wants = λ p c. refl }
-to_rooms (big5 index) held b = record { full = λ form. refl; report = λ form. refl; wants = λ p c. refl }
-to_rooms (euc_kr index) held b = record { full = λ form. refl; report = λ form. refl; wants = λ p c. refl }
-to_rooms (shift_jis jis0208) held b = record { full = λ form. refl; report = λ form. refl; wants = λ p c. refl }
-to_rooms (euc_jp jis0208 jis0212) held b = record { full = λ form. refl; report = λ form. refl; wants = λ p c. refl }
-to_rooms (gb18030 index ranges) held b = record { full = λ form. refl; report = λ form. refl; wants = λ p c. refl }
-to_rooms (iso_2022_jp jis0208 mode) held b = record { full = λ form. refl; report = λ form. refl; wants = λ p c. refl }
 
 -- ---- what a step is
 
@@ -149,44 +106,6 @@ has_scalars (Fault sequence back unread) h = All-nil IsScalar
 reads_same : (m n : ℕ) (xs ys : List ℕ) → finish (reads m xs) ≡ finish (reads n ys) → xs ≡ ys
 reads_same m n xs ys e = cc
 
-marks_of : (g : Grammar) (held : List ℕ) (b : ℕ) → has_marks ((machine g).to held b) ≡ has_marks g
-marks_of (single_byte table) held b = refl
-marks_of user_defined held b = refl
-marks_of (replacement reported) held b = refl
-marks_of (utf16 big_endian) held b = refl
-marks_of (big5 index) held b = refl
-marks_of (euc_kr index) held b = refl
-marks_of (shift_jis jis0208) held b = refl
-marks_of (euc_jp jis0208 jis0212) held b = refl
-marks_of (gb18030 index ranges) held b = refl
-marks_of (iso_2022_jp jis0208 mode) held b = refl
-
--- nothing may always be held back
-pub may_none : (g : Grammar) → may_hold g [] ≡ true
-may_none (single_byte table) = refl
-may_none user_defined = refl
-may_none (replacement reported) = refl
-may_none (utf16 big_endian) = refl
-may_none (big5 index) = refl
-may_none (euc_kr index) = refl
-may_none (shift_jis jis0208) = refl
-may_none (euc_jp jis0208 jis0212) = refl
-may_none (gb18030 index ranges) = refl
-may_none (iso_2022_jp jis0208 mode) = refl
-
-is_reported : (g : Grammar) → (has_reported g ≡ false) ⊎ ((reported : Bool) × (g ≡ replacement true))
-is_reported (single_byte table) = inl refl
-is_reported user_defined = inl refl
-is_reported (replacement true) = inr (true, refl)
-is_reported (replacement false) = inl refl
-is_reported (utf16 big_endian) = inl refl
-is_reported (big5 index) = inl refl
-is_reported (euc_kr index) = inl refl
-is_reported (shift_jis jis0208) = inl refl
-is_reported (euc_jp jis0208 jis0212) = inl refl
-is_reported (gb18030 index ranges) = inl refl
-is_reported (iso_2022_jp jis0208 mode) = inl refl
-
 all_dropped : (n : ℕ) (held : List ℕ) (b : ℕ) → n ≡ suc (length held) → drop n (held ++ b ∷ []) ≡ []
 all_dropped n held b e = drop_of_length-le (held ++ b ∷ []) (omega (arith, length-append held (b ∷ [])))
 
@@ -208,8 +127,8 @@ module _ (g : Grammar) (cut : is_cut g ≡ true) (narrow : HasNarrowIndexes g) (
     known : Known ((machine g).step held b)
     known = record {
       is = refl;
-      meets = (machine_meets g cut).steps held b may resting;
-      settles = machine_settles g held b cut may resting;
+      meets = (shown g cut).meets.steps held b may resting;
+      settles = (shown g cut).settles held b may resting;
     }
 
     fits_step : (form : EncodingForm) (s : Step) → (machine g).step held b ≡ s → step_units (unit_count form) (bmp_room form) s ≤ read_room form (state_of g held) b
@@ -221,13 +140,10 @@ module _ (g : Grammar) (cut : is_cut g ≡ true) (narrow : HasNarrowIndexes g) (
 
     -- a step that is no scalar of its own byte had the full room
     usual_step : (form : EncodingForm) (s : Step) → (machine g).step held b ≡ s → (s ≡ finish (reads 1 (b ∷ [])) → ⊥) → has_reported g ≡ false → full_room form g ≤ read_room form (state_of g held) b
-    usual_step form s e ne reported = elim (short_or_usual (bmp_room form) (wide_room form) g held b cut may reported) [
+    usual_step form s e ne reported = elim (short_or_usual (bmp_room form) (wide_room form) g (machine g) (shown g cut) held b reported) [
       | inl h ↦ h
       | inr h ↦ absurd (ne (sym e ∙ h.1))
     ]
-
-    reported_step : (g' : Grammar) → g' ≡ replacement true → (held' : List ℕ) → (machine g').step held' b ≡ finish (reads 1 [])
-    reported_step g' e held' = rw e refl
 
     hold_feeds : Known hold → Feeds (state_of g held) b (state_of ((machine g).to held b) (held ++ b ∷ [])) Nothing
     unfolding HadRoom
@@ -239,12 +155,12 @@ module _ (g : Grammar) (cut : is_cut g ≡ true) (narrow : HasNarrowIndexes g) (
         events = λ more l. k.meets.goes_on more;
       };
       holds = k.settles;
-      rooms = to_rooms g held b;
+      rooms = (shown g cut).same_rooms held b;
       empties = λ n. absurd (n refl);
       report = λ form. release-full form g;
-      full = λ form x. elim (is_reported g) [
+      full = λ form x. elim ((shown g cut).swallows) [
         | inl r ↦ usual_step form hold (k.is) (λ z. cc) r
-        | inr r ↦ let z = sym (k.is) ∙ reported_step g (r.1) held in absurd (let y : hold ≡ finish (reads 1 []) → ⊥ = λ w. cc in y z)
+        | inr r ↦ let z = sym (k.is) ∙ r held b in absurd (let y : hold ≡ finish (reads 1 []) → ⊥ = λ w. cc in y z)
       ];
       fits = λ form. omega arith;
       had = λ form free l. tt;
@@ -264,12 +180,12 @@ module _ (g : Grammar) (cut : is_cut g ≡ true) (narrow : HasNarrowIndexes g) (
             events = λ more l. rw zero_place (k.meets.goes_on more);
           };
           holds = record { some = k.meets.fault.0; few = k.meets.fault.1; near = k.meets.few; held = refl; within = omega arith };
-          rooms = to_rooms g held b;
+          rooms = (shown g cut).same_rooms held b;
           empties = λ e. absurd (e refl);
           report = λ form. release-full form g;
-          full = λ form x. elim (is_reported g) [
+          full = λ form x. elim ((shown g cut).swallows) [
             | inl r ↦ usual_step form (finish (malformed n)) (k.is) (λ z. cc) r
-            | inr r ↦ let z = sym (k.is) ∙ reported_step g (r.1) held in absurd (let y : finish (malformed n) ≡ finish (reads 1 []) → ⊥ = λ w. cc in y z)
+            | inr r ↦ let z = sym (k.is) ∙ r held b in absurd (let y : finish (malformed n) ≡ finish (reads 1 []) → ⊥ = λ w. cc in y z)
           ];
           fits = λ form. omega arith;
           had = λ form free l. tt;
@@ -291,12 +207,12 @@ module _ (g : Grammar) (cut : is_cut g ≡ true) (narrow : HasNarrowIndexes g) (
             events = λ more l. rw zero_place (k.meets.goes_on more);
           };
           holds = record { some = k.meets.fault.0; few = k.meets.fault.1; near = k.meets.few; held = refl; within = omega arith };
-          rooms = to_rooms g held b;
+          rooms = (shown g cut).same_rooms held b;
           empties = λ e. absurd (e refl);
           report = λ form. release-full form g;
-          full = λ form x. elim (is_reported g) [
+          full = λ form x. elim ((shown g cut).swallows) [
             | inl r ↦ usual_step form (leave n) (k.is) (λ z. cc) r
-            | inr r ↦ let z = sym (k.is) ∙ reported_step g (r.1) held in absurd (let y : leave n ≡ finish (reads 1 []) → ⊥ = λ w. cc in y z)
+            | inr r ↦ let z = sym (k.is) ∙ r held b in absurd (let y : leave n ≡ finish (reads 1 []) → ⊥ = λ w. cc in y z)
           ];
           fits = λ form. omega arith;
           had = λ form free l. tt;
@@ -309,19 +225,19 @@ module _ (g : Grammar) (cut : is_cut g ≡ true) (narrow : HasNarrowIndexes g) (
     scalars_are cs one = (sound_form ((machine g).to held b) cs one).0
 
     marks_to : has_marks ((machine g).to held b) ≡ has_marks g
-    marks_to = marks_of g held b
+    marks_to = (shown g cut).same_marks held b
 
     full_form : (n : ℕ) (cs : List ℕ) → Known (finish (reads n cs)) → (form : EncodingForm) → drop n (held ++ b ∷ []) ≢ [] → full_room form g ≤ read_room form (state_of g held) b
     full_form n cs k form ne = absurd (ne (all_dropped n held b (k.settles.0)))
 
     had_form : (form : EncodingForm) (free n : ℕ) (cs : List ℕ) → Known (finish (reads n cs)) → read_room form (state_of g held) b ≤ free → HadRoom form g None free cs
     unfolding HadRoom
-    had_form form free n cs k le = elim (is_reported g) [
+    had_form form free n cs k le = elim ((shown g cut).swallows) [
       | inr r ↦
-          let z = sym (k.is) ∙ reported_step g (r.1) held in
+          let z = sym (k.is) ∙ r held b in
           let e : cs ≡ [] = reads_same n 1 cs [] z in
           rw e tt
-      | inl r ↦ elim (short_or_usual (bmp_room form) (wide_room form) g held b cut may r) [
+      | inl r ↦ elim (short_or_usual (bmp_room form) (wide_room form) g (machine g) (shown g cut) held b r) [
         | inl h ↦ had_usual form g free cs (subst (λ m. IsOneOrMarked m cs) marks_to (k.settles.1)) (let h' : full_room form g ≤ read_room form (state_of g held) b = h in omega arith)
         | inr h ↦
             let z = sym (k.is) ∙ h.1 in
@@ -343,7 +259,7 @@ module _ (g : Grammar) (cut : is_cut g ≡ true) (narrow : HasNarrowIndexes g) (
             events = λ more l. rw (sound.3 b) (k.meets.goes_on more);
           });
           holds = form_holds n (state_of ((machine g).to held b) (drop n (held ++ b ∷ []))) cs (rw nothing (rests-none ((machine g).to held b)));
-          rooms = to_rooms g held b;
+          rooms = (shown g cut).same_rooms held b;
           empties = λ e. nothing;
           report = λ form. release-full form g;
           full = λ form x. elim x [
@@ -376,9 +292,9 @@ module _ (g : Grammar) (cut : is_cut g ≡ true) (narrow : HasNarrowIndexes g) (
   -- a scalar that is held back is written
   pub releases : (n c : ℕ) → rests g held ≡ false → (machine g).pending held ≡ Some (n, c) → IsScalar c → Releases (state_of g held) (state_of g (drop n held)) c
   releases n c r e scalar =
-      let w = (machine_meets g cut).writes held may in
+      let w = (shown g cut).meets.writes held may in
       let w' = (rw e at w).1 in
-      let s = machine_write_settles g held cut may in
+      let s = (shown g cut).write_settles held may in
       let s' = (rw e at s).0 in
       record {
         passed = n;
@@ -400,9 +316,9 @@ module _ (g : Grammar) (cut : is_cut g ≡ true) (narrow : HasNarrowIndexes g) (
     by_held : (l : List ℕ) → may_hold g l ≡ true → rests g l ≡ true → l ≢ [] → l ≡ held → Reports (state_of g l) (state_of g []) (length l) 0
     by_held [] m r' n e = absurd (n refl)
     by_held (x ∷ xs) m r' n e =
-        let few = (machine_meets g cut).few (x ∷ xs) m in
+        let few = (shown g cut).meets.few (x ∷ xs) m in
         let zero_place : length (x ∷ xs) - length (x ∷ xs) ≡ 0 = omega arith in
-        let none : events_of g [] ≡ [] = (machine_meets g cut).ends [] (may_none g) (rests-none g) in
+        let none : events_of g [] ≡ [] = (shown g cut).meets.ends [] (may_none g) (rests-none g) in
         record {
           passed = length (x ∷ xs);
           holding = λ z. cc;
@@ -411,7 +327,7 @@ module _ (g : Grammar) (cut : is_cut g ≡ true) (narrow : HasNarrowIndexes g) (
             rest = ap (drop (length (x ∷ xs))) (append-nil (x ∷ xs)) ∙ (let le : length (x ∷ xs) ≤ length (x ∷ xs) = omega arith in drop_of_length-le (x ∷ xs) le);
             events = λ more l.
                 let z = l refl in
-                ap (λ q. events_of g ((x ∷ xs) ++ q)) z ∙ ap (events_of g) (append-nil (x ∷ xs)) ∙ (machine_meets g cut).ends (x ∷ xs) m r' ∙ rw (zero_place, z, none) refl;
+                ap (λ q. events_of g ((x ∷ xs) ++ q)) z ∙ ap (events_of g) (append-nil (x ∷ xs)) ∙ (shown g cut).meets.ends (x ∷ xs) m r' ∙ rw (zero_place, z, none) refl;
           };
           holds = record { some = omega arith; few = omega arith; near = omega arith; held = refl; within = omega arith };
           lowers = λ query. (machine_rooms query g cut narrow).report_pays x xs m r';
@@ -419,10 +335,10 @@ module _ (g : Grammar) (cut : is_cut g ≡ true) (narrow : HasNarrowIndexes g) (
 
   -- at the end of input there is something to report exactly where bytes are held back
   pub ends_none : rests g held ≡ true → held ≡ [] → events_of g held ≡ []
-  ends_none r e = (machine_meets g cut).ends held may r ∙ rw e refl
+  ends_none r e = (shown g cut).meets.ends held may r ∙ rw e refl
 
   pub ends_some : rests g held ≡ true → held ≢ [] → events_of g held ≢ []
-  ends_some r n e = by_held held n (sym ((machine_meets g cut).ends held may r) ∙ e) where
+  ends_some r n e = by_held held n (sym ((shown g cut).meets.ends held may r) ∙ e) where
     by_held : (l : List ℕ) → l ≢ [] → end_events l ≡ [] → ⊥
     by_held [] n e = n refl
     by_held (x ∷ xs) n e = cc

@@ -1,19 +1,21 @@
--- The rooms of GB18030.
-use Rattle.std.proofs.Common.{◌≡◌, ℕ, ◌+◌, ◌<◌, ◌≤◌, List, [], ◌∷◌, length, Bool, true, false, cond, Some, None, refl, arith}
+-- What is shown of GB18030.
+use Rattle.std.proofs.Common.{◌≡◌, ℕ, ◌+◌, ◌<◌, ◌≤◌, List, [], ◌∷◌, length, Bool, true, false, cond, Some, None, refl, inl, arith}
 use Rattle.std.proofs.lemmas.Bool.Decides.{nat_tests}
 use Rattle.std.specs.Char.{is_ascii, is_ascii_digit}
-use Rattle.legacy_machines.specs.Costs.{utf8_count}
 use Rattle.legacy_base.specs.Unicode.{IsByte, AreBytes}
 use Rattle.legacy_base.specs.Grammar.{gb18030}
 use Rattle.legacy_base.specs.States.{DecoderState, gb18030_may_hold, rests}
 use Rattle.legacy_base.specs.Acts.{act_room, takes}
-use Rattle.legacy_machines.specs.Costs.{utf8_room, utf16_room}
-use Rattle.legacy_machines.specs.Costs.{utf16_count, IsWidth, state_of, Cost, RoomMeets, WritePays, utf8_without_room}
-use Rattle.legacy_machines.proofs.Widths.{width_utf8, width_utf16}
-use Rattle.legacy_machines.proofs.RoomMoves.{first_room, held_room_is, cond_most, HasCosts, rooms_utf8, rooms_utf16, rooms_without}
+use Rattle.legacy_base.specs.Lengths.{to_utf16, room}
+use Rattle.legacy_machines.specs.Costs.{utf8_count, utf16_count, IsWidth, state_of, Cost, WritePays}
 use Rattle.legacy_machines.specs.Machines.{gb18030_machine, gb18030_pending}
+use Rattle.legacy_machines.proofs.Widths.{width_utf8, width_utf16}
+use Rattle.legacy_machines.proofs.Shown.{IsShown, WriteSettles}
+use Rattle.legacy_machines.proofs.Going.{same_rooms}
+use Rattle.legacy_machines.proofs.RoomMoves.{first_room, held_room_is, HasCosts, IsSloped, sloped_rooms}
 use Rattle.legacy_machines.proofs.Gb18030Moves.{gb18030_meets}
 use Rattle.legacy_machines.proofs.OtherCosts.{gb18030_first_cost, gb18030_held_cost}
+use Rattle.legacy_machines.proofs.SettledSteps.{gb18030_settles, write_test, gb18030_write, digit_is_ascii}
 
 digit_below : (b : ℕ) → is_ascii_digit b ≡ true → b < 0x80
 digit_below b h = grind (arith, nat_tests)
@@ -37,35 +39,30 @@ module _ (index : List ℕ) (ranges : List (ℕ × ℕ)) where
       go true d = let e : len b ≡ 1 = w.ascii b (digit_below b d) in (w.every b, λ n. let f = falls b held n in omega arith)
       go false d = tt
 
-  pub gb18030_utf8 : RoomMeets utf8_count 3 4 3 utf8_room (gb18030 index ranges) (gb18030_machine index ranges)
-  gb18030_utf8 = rooms_utf8 utf8_room (gb18030 index ranges) (gb18030_machine index ranges) length 6 (gb18030_meets index ranges) refl costs width_utf8 record {
-    sloped = λ held held' n n' u h. omega arith;
-    write_pays = λ held h r bytes. digit_pays utf8_count 3 4 width_utf8 utf8_room (λ b held n. omega arith) held;
-    report_fits = λ held. omega arith;
-    report_pays = λ b held h r. omega arith;
-    take_need = λ held b n h p. cond_most _ 1 4 _ (omega arith) (omega arith);
-    write_need = λ held n h p. omega arith;
-    rises = λ held n m h. omega arith;
+  sloped : IsSloped (gb18030 index ranges) (gb18030_machine index ranges) length 6
+  sloped = record {
+    heavy = λ b held h. omega arith;
+    falls = elim [ to_utf16 ↦ λ held held' n n' u h. omega arith | _ ↦ λ held held' n n' u h. omega arith ];
+    writes = elim [
+      | to_utf16 ↦ λ held h r bytes. digit_pays utf16_count 1 2 width_utf16 (room to_utf16) (λ b held n. omega arith) held
+      | query ↦ λ held h r bytes. digit_pays utf8_count 3 4 width_utf8 (room query) (λ b held n. omega arith) held
+    ];
+    reads = elim [ to_utf16 ↦ λ held. omega arith | _ ↦ λ held. omega arith ];
+    holds = elim [ to_utf16 ↦ λ b held h. omega arith | _ ↦ λ b held h. omega arith ];
   }
 
-  pub gb18030_utf16 : RoomMeets utf16_count 1 2 1 utf16_room (gb18030 index ranges) (gb18030_machine index ranges)
-  gb18030_utf16 = rooms_utf16 utf16_room (gb18030 index ranges) (gb18030_machine index ranges) length 6 (gb18030_meets index ranges) refl costs width_utf16 record {
-    sloped = λ held held' n n' u h. omega arith;
-    write_pays = λ held h r bytes. digit_pays utf16_count 1 2 width_utf16 utf16_room (λ b held n. omega arith) held;
-    report_fits = λ held. omega arith;
-    report_pays = λ b held h r. omega arith;
-    take_need = λ held b n h p. cond_most _ 1 2 _ (omega arith) (omega arith);
-    write_need = λ held n h p. omega arith;
-    rises = λ held n m h. omega arith;
-  }
+  write_settles : (held : List ℕ) → gb18030_may_hold held ≡ true → WriteSettles (gb18030 index ranges) held (gb18030_pending held)
+  write_settles [] h = tt
+  write_settles (b ∷ held) h = write_test (gb18030 index ranges) (b ∷ held) (is_ascii_digit b) (Some (1, b)) None (λ d. (gb18030_write index ranges b held h d, λ e. digit_is_ascii b d)) (λ d. tt)
 
-  pub gb18030_without : RoomMeets utf8_count 3 4 0 utf8_without_room (gb18030 index ranges) (gb18030_machine index ranges)
-  gb18030_without = rooms_without utf8_without_room (gb18030 index ranges) (gb18030_machine index ranges) length 6 (gb18030_meets index ranges) refl costs width_utf8 record {
-    sloped = λ held held' n n' u h. omega arith;
-    write_pays = λ held h r bytes. digit_pays utf8_count 3 4 width_utf8 utf8_without_room (λ b held n. omega arith) held;
-    report_fits = λ held. omega arith;
-    report_pays = λ b held h r. omega arith;
-    take_need = λ held b n h p. cond_most _ 1 4 _ (omega arith) (omega arith);
-    write_need = λ held n h p. omega arith;
-    rises = λ held n m h. omega arith;
+  pub gb18030_shown : IsShown (gb18030 index ranges) (gb18030_machine index ranges)
+  gb18030_shown = record {
+    meets = gb18030_meets index ranges;
+    rooms = λ n query. sloped_rooms (gb18030 index ranges) (gb18030_machine index ranges) length 6 (gb18030_meets index ranges) costs sloped query;
+    settles = λ held b h r. gb18030_settles index ranges held b h r;
+    write_settles = write_settles;
+    same_rooms = λ held b. same_rooms (gb18030 index ranges);
+    same_marks = λ held b. refl;
+    ascii_first = λ s b a. rw a refl;
+    swallows = inl refl;
   }

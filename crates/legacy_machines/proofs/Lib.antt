@@ -1,5 +1,6 @@
 -- How the moves of each machine follow from its grammar, and calls from the moves.
 pub mod Going
+pub mod Shown
 pub mod FrontMoves
 pub mod OneByteMoves
 pub mod TwoByteMoves
@@ -7,22 +8,22 @@ pub mod EucJpMoves
 pub mod Gb18030Moves
 pub mod Utf16Moves
 pub mod Utf16Cut
-pub mod AllMoves
 pub mod Widths
 pub mod TwoByteCosts
 pub mod OtherCosts
 pub mod RoomMoves
-pub mod Big5Rooms
-pub mod EucKrRooms
-pub mod ShiftJisRooms
+pub mod SettledSteps
+pub mod TwoByteShown
+pub mod Big5
+pub mod EucKr
+pub mod ShiftJis
 pub mod EucJpRooms
 pub mod SingleByteRooms
 pub mod UserDefinedRooms
 pub mod Gb18030Rooms
 pub mod Utf16Rooms
 pub mod ReplacementRooms
-pub mod AllRooms
-pub mod SettledSteps
+pub mod AllShown
 pub mod Feeding
 pub mod Writing
 pub mod AheadRuns

@@ -1,5 +1,5 @@
--- The rooms of the replacement decoder.
-use Rattle.std.proofs.Common.{◌≡◌, ℕ, List, [], ◌∷◌, length, Bool, true, false, refl, arith}
+-- What is shown of the replacement decoder.
+use Rattle.std.proofs.Common.{◌≡◌, ℕ, List, [], ◌∷◌, length, Bool, true, false, refl, ◌⊎◌, inl, inr, arith}
 use Rattle.std.proofs.lemmas.Bool.{false≢true}
 use Rattle.legacy_machines.specs.Costs.{utf8_count}
 use Rattle.legacy_base.specs.Grammar.{replacement}
@@ -7,6 +7,11 @@ use Rattle.legacy_base.specs.States.{is_empty}
 use Rattle.legacy_machines.specs.Costs.{utf8_room, utf16_room}
 use Rattle.legacy_machines.specs.Machines.{replacement_machine}
 use Rattle.legacy_machines.specs.Costs.{utf16_count, state_of, RoomMeets, utf8_without_room}
+use Rattle.legacy_base.specs.Lengths.{LengthQuery, to_utf16, to_utf8, to_utf8_without_replacement}
+use Rattle.legacy_base.specs.Fronts.{reads}
+use Rattle.legacy_machines.specs.Steps.{finish}
+use Rattle.legacy_machines.specs.Margins.{Settles}
+use Rattle.legacy_machines.proofs.Shown.{KeepsRooms, IsShown}
 use Rattle.legacy_machines.proofs.OneByteMoves.{replacement_meets}
 use Rattle.legacy_machines.proofs.RoomMoves.{no_short_room, cond_most, all_needs}
 
@@ -36,7 +41,7 @@ utf8_false = record {
   rises = λ held n m h. omega arith;
 }
 
-pub replacement_utf8 : (reported : Bool) → RoomMeets utf8_count 3 4 3 utf8_room (replacement reported) (replacement_machine reported)
+replacement_utf8 : (reported : Bool) → RoomMeets utf8_count 3 4 3 utf8_room (replacement reported) (replacement_machine reported)
 replacement_utf8 true = utf8_true
 replacement_utf8 false = utf8_false
 
@@ -62,7 +67,7 @@ utf16_false = record {
   rises = λ held n m h. omega arith;
 }
 
-pub replacement_utf16 : (reported : Bool) → RoomMeets utf16_count 1 2 1 utf16_room (replacement reported) (replacement_machine reported)
+replacement_utf16 : (reported : Bool) → RoomMeets utf16_count 1 2 1 utf16_room (replacement reported) (replacement_machine reported)
 replacement_utf16 true = utf16_true
 replacement_utf16 false = utf16_false
 
@@ -88,6 +93,32 @@ without_false = record {
   rises = λ held n m h. omega arith;
 }
 
-pub replacement_without : (reported : Bool) → RoomMeets utf8_count 3 4 0 utf8_without_room (replacement reported) (replacement_machine reported)
+replacement_without : (reported : Bool) → RoomMeets utf8_count 3 4 0 utf8_without_room (replacement reported) (replacement_machine reported)
 replacement_without true = without_true
 replacement_without false = without_false
+
+settles : (reported : Bool) (held : List ℕ) (b : ℕ) → is_empty held ≡ true → Settles (replacement true) held b ((replacement_machine reported).step held b)
+settles true [] b h = (refl, tt)
+settles false [] b h = tt
+settles reported (a ∷ held) b h = absurd (false≢true h)
+
+rooms : (reported : Bool) (query : LengthQuery) → KeepsRooms query (replacement reported) (replacement_machine reported)
+rooms reported to_utf16 = replacement_utf16 reported
+rooms reported to_utf8 = replacement_utf8 reported
+rooms reported to_utf8_without_replacement = replacement_without reported
+
+pub replacement_shown : (reported : Bool) → IsShown (replacement reported) (replacement_machine reported)
+replacement_shown reported = record {
+  meets = replacement_meets reported;
+  rooms = λ n. rooms reported;
+  settles = λ held b h r. settles reported held b h;
+  write_settles = λ held h. tt;
+  same_rooms = λ held b. record { full = λ form. refl; report = λ form. refl; wants = λ p c. refl };
+  same_marks = λ held b. refl;
+  ascii_first = λ s b a. absurd (false≢true s);
+  swallows = by_flag reported;
+}
+  where
+    by_flag : (t : Bool) → (t ≡ false) ⊎ ((held : List ℕ) (b : ℕ) → (replacement_machine t).step held b ≡ finish (reads 1 []))
+    by_flag true = inr (λ held b. refl)
+    by_flag false = inl refl

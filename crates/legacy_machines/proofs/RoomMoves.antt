@@ -1,13 +1,21 @@
 -- From what a decoder's steps write to what its rooms promise.
 use Rattle.std.proofs.Common.{◌≡◌, ℕ, ◌+◌, ◌*◌, ◌<◌, ◌≤◌, List, [], ◌∷◌, length, Bool, true, false, cond, Some, refl, sym, ◌∙◌, ◌&&◌, mul-add, arith}
 use Rattle.std.proofs.lemmas.Bool.{false≢true}
-use Rattle.legacy_machines.specs.Costs.{utf8_count}
 use Rattle.legacy_base.specs.Unicode.{IsByte, AreBytes}
-use Rattle.legacy_base.specs.Grammar.{Grammar}
-use Rattle.legacy_base.specs.States.{DecoderState, may_hold, rests}
-use Rattle.legacy_base.specs.Acts.{takes, writes, reports, act_at_end, act_at_rest, act_room, room_of_act, need}
+use Rattle.legacy_base.specs.Grammar.{Grammar, profile}
+use Rattle.legacy_base.specs.States.{DecoderState, may_hold, rests, is_empty}
+use Rattle.legacy_base.specs.Acts.{takes, writes, reports, act_at_end, act_at_rest, act_room, room_of_act, need, has_reported, has_short_ascii, byte_room, held_room, reading_room, writing_room, full_room, release_room}
+use Rattle.legacy_base.specs.EncodingForm.{unit_count, bmp_room, wide_room}
+use Rattle.legacy_base.specs.Lengths.{LengthQuery, to_utf16, to_utf8, to_utf8_without_replacement, query_form, replacement_units, room}
+use Rattle.legacy_base.specs.Profile.{Rooms, narrow_acts, wide_reads, wide_acts}
+use Rattle.legacy_base.proofs.Enough.{room-rises}
+use Rattle.legacy_base.proofs.GrammarLaws.{rests-none}
+use Rattle.std.proofs.Math.Nat.{mul-le-mul_left}
+use Rattle.std.specs.Char.{is_ascii}
 use Rattle.legacy_machines.specs.Steps.{Step, step_held, end_events, Machine, Meets}
-use Rattle.legacy_machines.specs.Costs.{utf16_count, step_units, step_left, IsWidth, state_of, Cost, RoomMeets, WritePays}
+use Rattle.legacy_machines.specs.Costs.{step_units, step_left, IsWidth, state_of, Cost, WritePays}
+use Rattle.legacy_machines.proofs.Shown.{KeepsRooms}
+use Rattle.legacy_machines.proofs.Widths.{width_of}
 
 -- ---- tests
 
@@ -56,8 +64,8 @@ all_needs narrow wide room g m meets empty held may take write unread last = go 
 -- ---- rooms that fall by a slope for each byte, or for each two
 
 -- half of `slope` units are needed less for each byte less
-abbrev pub IsSloped : (DecoderState → ℕ → ℕ) → Grammar → (List ℕ → ℕ) → ℕ → Type 0
-IsSloped room g wt slope = (held held' : List ℕ) (n n' u : ℕ) → 2 * u + slope * (n' + wt held') ≤ slope * (n + wt held) → room (state_of g held') n' + u ≤ room (state_of g held) n
+abbrev pub Falls : (DecoderState → ℕ → ℕ) → Grammar → (List ℕ → ℕ) → ℕ → Type 0
+Falls room g wt slope = (held held' : List ℕ) (n n' u : ℕ) → 2 * u + slope * (n' + wt held') ≤ slope * (n + wt held) → room (state_of g held') n' + u ≤ room (state_of g held) n
 
 -- the same with n more bytes on both sides
 more_bytes : (slope x y n u : ℕ) → 2 * u + slope * x ≤ slope * y → 2 * u + slope * (n + x) ≤ slope * (n + y)
@@ -66,7 +74,7 @@ more_bytes slope x y n u h =
     let f : slope * (n + y) ≡ slope * n + slope * y = mul-add slope n y in
     omega arith
 
-pub sloped_pays : (room : DecoderState → ℕ → ℕ) (g : Grammar) (wt : List ℕ → ℕ) (slope : ℕ) → IsSloped room g wt slope → (held held' : List ℕ) (left n u : ℕ) →
+pub sloped_pays : (room : DecoderState → ℕ → ℕ) (g : Grammar) (wt : List ℕ → ℕ) (slope : ℕ) → Falls room g wt slope → (held held' : List ℕ) (left n u : ℕ) →
     2 * u + slope * (wt held' + left) ≤ slope * (wt held + 1) → room (state_of g held') (n + left) + u ≤ room (state_of g held) (n + 1)
 sloped_pays room g wt slope sloped held held' left n u h =
     let e : (n + left) + wt held' ≡ n + (wt held' + left) = omega arith in
@@ -81,40 +89,97 @@ pub record HasCosts (g : Grammar) (m : Machine) (wt : List ℕ → ℕ) (slope :
   pub cost : (len : ℕ → ℕ) (narrow wide : ℕ) → IsWidth len narrow wide → (held : List ℕ) (b : ℕ) → may_hold g held ≡ true → rests g held ≡ true → AreBytes held → IsByte b →
       Cost len narrow (act_room narrow wide (state_of g held) (takes b)) wt slope held b (m.step held b)
 
--- what is left to show of one room
-pub record RoomFacts (len : ℕ → ℕ) (narrow wide fault : ℕ) (room : DecoderState → ℕ → ℕ) (g : Grammar) (m : Machine) (wt : List ℕ → ℕ) (slope : ℕ) : Type 0 where
-  pub sloped : IsSloped room g wt slope
-  pub write_pays : (held : List ℕ) → may_hold g held ≡ true → rests g held ≡ false → AreBytes held → WritePays len narrow wide room g held (m.pending held)
-  pub report_fits : (held : List ℕ) → narrow ≤ act_room narrow wide (state_of g held) reports
-  pub report_pays : (b : ℕ) (held : List ℕ) → may_hold g (b ∷ held) ≡ true → rests g (b ∷ held) ≡ true → room (state_of g []) 0 + fault ≤ room (state_of g (b ∷ held)) 0
-  pub take_need : (held : List ℕ) (b n : ℕ) → may_hold g held ≡ true → 0 < n → act_room narrow wide (state_of g held) (takes b) ≤ room (state_of g held) n
-  pub write_need : (held : List ℕ) (n : ℕ) → may_hold g held ≡ true → 0 < length held → act_room narrow wide (state_of g held) writes ≤ room (state_of g held) n
-  pub rises : (held : List ℕ) (n m : ℕ) → n ≤ m → room (state_of g held) n ≤ room (state_of g held) m
+-- half of so many units are needed less for each byte less
+abbrev pub query_slope : ℕ → LengthQuery → ℕ
+query_slope paid to_utf16 = 2
+query_slope paid to_utf8 = 6
+query_slope paid to_utf8_without_replacement = paid
 
-assemble : (len : ℕ → ℕ) (narrow wide fault : ℕ) (room : DecoderState → ℕ → ℕ) (g : Grammar) (m : Machine) (wt : List ℕ → ℕ) (paid slope : ℕ) → Meets g m → rests g [] ≡ true → HasCosts g m wt paid → IsWidth len narrow wide →
-    ((at_most : ℕ) (held : List ℕ) (b : ℕ) (s : Step) → Cost len narrow at_most wt paid held b s → 2 * step_units len fault s + slope * (wt (step_held s held b) + step_left s) ≤ slope * (wt held + 1)) →
-    RoomFacts len narrow wide fault room g m wt slope → RoomMeets len narrow wide fault room g m
-assemble len narrow wide fault room g m wt paid slope meets empty costs w pick facts = record {
-  step_fits = λ held b h r bytes byte. (costs.cost len narrow wide w held b h r bytes byte).fits;
-  step_pays = λ held b n h r bytes byte. rw (costs.to_is held b)
-      (sloped_pays room g wt slope facts.sloped held (step_held (m.step held b) held b) (step_left (m.step held b)) n (step_units len fault (m.step held b))
-      (pick (act_room narrow wide (state_of g held) (takes b)) held b (m.step held b) (costs.cost len narrow wide w held b h r bytes byte)));
-  write_pays = facts.write_pays;
-  report_fits = facts.report_fits;
-  report_pays = facts.report_pays;
-  needs = λ held unread last h. all_needs narrow wide (room (state_of g held)) g m meets empty held h (λ b n p. facts.take_need held b n h p) (λ n p. facts.write_need held n h p) unread last;
-  rises = facts.rises;
-}
+-- What is left to show of the rooms of a codec. What is held back weighs more than nothing; each room falls by its
+-- slope; what is held back and is to be written pays; and the room covers a byte, and what is held back.
+pub record IsSloped (g : Grammar) (m : Machine) (wt : List ℕ → ℕ) (paid : ℕ) : Type 0 where
+  pub heavy : (b : ℕ) (held : List ℕ) → may_hold g (b ∷ held) ≡ true → wt [] + 1 ≤ wt (b ∷ held)
+  pub falls : (query : LengthQuery) → Falls (room query) g wt (query_slope paid query)
+  pub writes : (query : LengthQuery) (held : List ℕ) → may_hold g held ≡ true → rests g held ≡ false → AreBytes held →
+      WritePays (unit_count (query_form query)) (bmp_room (query_form query)) (wide_room (query_form query)) (room query) g held (m.pending held)
+  pub reads : (query : LengthQuery) (held : List ℕ) → full_room (query_form query) g ≤ room query (state_of g held) 1
+  pub holds : (query : LengthQuery) (b : ℕ) (held : List ℕ) → may_hold g (b ∷ held) ≡ true → release_room (query_form query) g ≤ room query (state_of g (b ∷ held)) 0
 
--- in UTF-8 with U+FFFD for each malformed sequence, in UTF-16 with it, and in UTF-8 without
-pub rooms_utf8 : (room : DecoderState → ℕ → ℕ) (g : Grammar) (m : Machine) (wt : List ℕ → ℕ) (paid : ℕ) → Meets g m → rests g [] ≡ true → HasCosts g m wt paid → IsWidth utf8_count 3 4 → RoomFacts utf8_count 3 4 3 room g m wt 6 → RoomMeets utf8_count 3 4 3 room g m
-rooms_utf8 room g m wt paid meets empty costs w facts =
-    assemble utf8_count 3 4 3 room g m wt paid 6 meets empty costs w (λ at_most held b s c. let p = c.pays in omega arith) facts
+-- what a step is to lower the room by
+paid_of : (query : LengthQuery) (wt : List ℕ → ℕ) (paid at_most : ℕ) (held : List ℕ) (b : ℕ) (s : Step) → Cost (unit_count (query_form query)) (bmp_room (query_form query)) at_most wt paid held b s →
+    2 * step_units (unit_count (query_form query)) (replacement_units query) s + query_slope paid query * (wt (step_held s held b) + step_left s) ≤ query_slope paid query * (wt held + 1)
+paid_of to_utf16 wt paid at_most held b s c = let p = c.pays in omega arith
+paid_of to_utf8 wt paid at_most held b s c = let p = c.pays in omega arith
+paid_of to_utf8_without_replacement wt paid at_most held b s c = c.pays_without
 
-pub rooms_utf16 : (room : DecoderState → ℕ → ℕ) (g : Grammar) (m : Machine) (wt : List ℕ → ℕ) (paid : ℕ) → Meets g m → rests g [] ≡ true → HasCosts g m wt paid → IsWidth utf16_count 1 2 → RoomFacts utf16_count 1 2 1 room g m wt 2 → RoomMeets utf16_count 1 2 1 room g m
-rooms_utf16 room g m wt paid meets empty costs w facts =
-    assemble utf16_count 1 2 1 room g m wt paid 2 meets empty costs w (λ at_most held b s c. let p = c.pays in omega arith) facts
+-- a malformed sequence is paid by a byte
+fault_paid : (query : LengthQuery) (paid x y : ℕ) → x + 1 ≤ y → 2 * replacement_units query + query_slope paid query * (0 + x) ≤ query_slope paid query * (0 + y)
+fault_paid to_utf16 paid x y h = omega arith
+fault_paid to_utf8 paid x y h = omega arith
+fault_paid to_utf8_without_replacement paid x y h = let le : 0 + x ≤ 0 + y = omega arith in let m : paid * (0 + x) ≤ paid * (0 + y) = mul-le-mul_left paid le in omega arith
 
-pub rooms_without : (room : DecoderState → ℕ → ℕ) (g : Grammar) (m : Machine) (wt : List ℕ → ℕ) (paid : ℕ) → Meets g m → rests g [] ≡ true → HasCosts g m wt paid → IsWidth utf8_count 3 4 → RoomFacts utf8_count 3 4 0 room g m wt paid → RoomMeets utf8_count 3 4 0 room g m
-rooms_without room g m wt paid meets empty costs w facts =
-    assemble utf8_count 3 4 0 room g m wt paid paid meets empty costs w (λ at_most held b s c. c.pays_without) facts
+-- ---- the room of an act, in any codec
+
+read_most : (narrow wide : ℕ) → 1 ≤ narrow → narrow ≤ wide → (g : Grammar) (held : List ℕ) (b : ℕ) → act_room narrow wide (state_of g held) (takes b) ≤ byte_room narrow wide g
+read_most narrow wide some rises g held b = by_tests (has_reported g) ((is_ascii b && is_empty held) && has_short_ascii g)
+  where
+    by_rooms : (r : Rooms) → 1 ≤ reading_room narrow wide r
+    by_rooms narrow_acts = some
+    by_rooms wide_reads = omega arith
+    by_rooms wide_acts = omega arith
+
+    one : 1 ≤ byte_room narrow wide g
+    one = by_rooms (profile g).rooms
+
+    by_tests : (t u : Bool) → cond t 0 (cond u 1 (byte_room narrow wide g)) ≤ byte_room narrow wide g
+    by_tests true u = omega arith
+    by_tests false true = one
+    by_tests false false = omega arith
+
+pub narrow_read : (narrow wide : ℕ) → narrow ≤ wide → (g : Grammar) → (narrow ≤ byte_room narrow wide g) × (byte_room narrow wide g ≤ wide)
+narrow_read narrow wide rises g = by_rooms (profile g).rooms
+  where
+    by_rooms : (r : Rooms) → (narrow ≤ reading_room narrow wide r) × (reading_room narrow wide r ≤ wide)
+    by_rooms narrow_acts = (omega arith, rises)
+    by_rooms wide_reads = (rises, omega arith)
+    by_rooms wide_acts = (rises, omega arith)
+
+pub narrow_held : (narrow wide : ℕ) → narrow ≤ wide → (g : Grammar) → narrow ≤ held_room narrow wide g
+narrow_held narrow wide rises g = by_rooms (profile g).rooms
+  where
+    by_rooms : (r : Rooms) → narrow ≤ writing_room narrow wide r
+    by_rooms narrow_acts = omega arith
+    by_rooms wide_reads = omega arith
+    by_rooms wide_acts = rises
+
+-- the rooms of a codec whose rooms fall by slopes
+module _ (g : Grammar) (m : Machine) (wt : List ℕ → ℕ) (paid : ℕ) (meets : Meets g m) (costs : HasCosts g m wt paid) (is : IsSloped g m wt paid) (query : LengthQuery) where
+  w : IsWidth (unit_count (query_form query)) (bmp_room (query_form query)) (wide_room (query_form query))
+  w = width_of (query_form query)
+
+  takes_covered : (held : List ℕ) (b n : ℕ) → 0 < n → act_room (bmp_room (query_form query)) (wide_room (query_form query)) (state_of g held) (takes b) ≤ room query (state_of g held) n
+  takes_covered held b n p =
+      let most = read_most (bmp_room (query_form query)) (wide_room (query_form query)) w.some w.rises g held b in
+      let least = is.reads query held in
+      let rises : room query (state_of g held) 1 ≤ room query (state_of g held) n = room-rises query (state_of g held) 1 n (omega arith) in
+      omega arith
+
+  holds_covered : (held : List ℕ) → may_hold g held ≡ true → (n : ℕ) → 0 < length held → act_room (bmp_room (query_form query)) (wide_room (query_form query)) (state_of g held) writes ≤ room query (state_of g held) n
+  holds_covered [] h n p = absurd (omega arith)
+  holds_covered (b ∷ held) h n p =
+      let least = is.holds query b held h in
+      let rises : room query (state_of g (b ∷ held)) 0 ≤ room query (state_of g (b ∷ held)) n = room-rises query (state_of g (b ∷ held)) 0 n (omega arith) in
+      omega arith
+
+  pub sloped_rooms : KeepsRooms query g m
+  sloped_rooms = record {
+    step_fits = λ held b h r bytes byte. (costs.cost (unit_count (query_form query)) (bmp_room (query_form query)) (wide_room (query_form query)) w held b h r bytes byte).fits;
+    step_pays = λ held b n h r bytes byte. rw (costs.to_is held b)
+        (sloped_pays (room query) g wt (query_slope paid query) (is.falls query) held (step_held (m.step held b) held b) (step_left (m.step held b)) n (step_units (unit_count (query_form query)) (replacement_units query) (m.step held b))
+        (paid_of query wt paid (act_room (bmp_room (query_form query)) (wide_room (query_form query)) (state_of g held) (takes b)) held b (m.step held b) (costs.cost (unit_count (query_form query)) (bmp_room (query_form query)) (wide_room (query_form query)) w held b h r bytes byte)));
+    write_pays = is.writes query;
+    report_fits = λ held. narrow_held (bmp_room (query_form query)) (wide_room (query_form query)) w.rises g;
+    report_pays = λ b held h r. is.falls query (b ∷ held) [] 0 0 (replacement_units query) (fault_paid query paid (wt []) (wt (b ∷ held)) (is.heavy b held h));
+    needs = λ held unread last h. all_needs (bmp_room (query_form query)) (wide_room (query_form query)) (room query (state_of g held)) g m meets (rests-none g) held h (takes_covered held) (holds_covered held h) unread last;
+    rises = λ held n m' le. room-rises query (state_of g held) n m' le;
+  }

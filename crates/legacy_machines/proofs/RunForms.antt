@@ -13,8 +13,9 @@ use Rattle.legacy_machines.specs.Ahead.{Runs, HasAscii}
 use Rattle.legacy_machines.specs.Steps.{hold, finish}
 use Rattle.legacy_machines.specs.Machines.{is_cut, machine}
 use Rattle.legacy_machines.specs.Costs.{HasNarrowIndexes}
-use Rattle.legacy_machines.proofs.AllMoves.{machine_meets}
-use Rattle.legacy_machines.proofs.Feeding.{machine_rooms, units-total, may_none, rests-none}
+use Rattle.legacy_base.proofs.GrammarLaws.{may_none, rests-none}
+use Rattle.legacy_machines.proofs.AllShown.{shown}
+use Rattle.legacy_machines.proofs.Feeding.{machine_rooms, units-total}
 
 -- ---- which bytes are ASCII
 
@@ -37,7 +38,7 @@ module _ (g : Grammar) (cut : is_cut g ≡ true) (narrow : HasNarrowIndexes g) w
   -- a byte that is a scalar by itself
   pub single_runs : (b c : ℕ) → IsByte b → IsScalar c → (machine g).to [] b ≡ g → (machine g).step [] b ≡ finish (reads 1 (c ∷ [])) → Runs g (b ∷ []) (c ∷ [])
   single_runs b c byte scalar to_is is =
-      let meets = (machine_meets g cut).steps [] b (may_none g) (rests-none g) in
+      let meets = (shown g cut).meets.steps [] b (may_none g) (rests-none g) in
       let meets' = rw (to_is, is) at meets in
       record {
         events = λ more. meets'.goes_on more;
@@ -55,7 +56,7 @@ module _ (g : Grammar) (cut : is_cut g ≡ true) (narrow : HasNarrowIndexes g) w
       (machine g).to [] lead ≡ g → (machine g).to (lead ∷ []) trail ≡ g →
       (machine g).step [] lead ≡ hold → (machine g).step (lead ∷ []) trail ≡ finish (reads 2 (c ∷ [])) → Runs g (lead ∷ trail ∷ []) (c ∷ [])
   pair_runs lead trail c byte byte' scalar may resting to_first to_second first second =
-      let meets = (machine_meets g cut).steps (lead ∷ []) trail may resting in
+      let meets = (shown g cut).meets.steps (lead ∷ []) trail may resting in
       let meets' = rw (to_second, second) at meets in
       record {
         events = λ more. meets'.goes_on more;
@@ -81,7 +82,7 @@ module _ (g : Grammar) (cut : is_cut g ≡ true) (narrow : HasNarrowIndexes g) w
       (machine g).step [] a ≡ hold → (machine g).step (a ∷ []) b ≡ hold → (machine g).step (a ∷ b ∷ []) c ≡ hold → (machine g).step (a ∷ b ∷ c ∷ []) d ≡ finish (reads 4 (x ∷ [])) →
       Runs g (a ∷ b ∷ c ∷ d ∷ []) (x ∷ [])
   four_runs a b c d x byte_a byte_b byte_c byte_d scalar may_a may_b may_c rest_a rest_b rest_c to_same first second third fourth =
-      let meets = (machine_meets g cut).steps (a ∷ b ∷ c ∷ []) d may_c rest_c in
+      let meets = (shown g cut).meets.steps (a ∷ b ∷ c ∷ []) d may_c rest_c in
       let meets' = rw (to_same (a ∷ b ∷ c ∷ []) d, fourth) at meets in
       record {
         events = λ more. meets'.goes_on more;

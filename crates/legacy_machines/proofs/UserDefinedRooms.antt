@@ -1,62 +1,53 @@
--- The rooms of x-user-defined.
-use Rattle.std.proofs.Common.{◌≡◌, ℕ, List, [], ◌∷◌, length, true, refl, ◌&&◌, arith}
+-- What is shown of x-user-defined.
+use Rattle.std.proofs.Common.{◌≡◌, ℕ, ◌+◌, ◌-◌, List, [], ◌∷◌, true, refl, inl, ◌&&◌, arith}
 use Rattle.std.proofs.lemmas.Bool.{false≢true}
 use Rattle.std.specs.Char.{is_ascii}
-use Rattle.legacy_machines.specs.Costs.{utf8_count}
 use Rattle.legacy_base.specs.Unicode.{IsByte, AreBytes}
+use Rattle.legacy_base.specs.Fronts.{reads}
 use Rattle.legacy_base.specs.Grammar.{user_defined}
 use Rattle.legacy_base.specs.States.{is_empty}
 use Rattle.legacy_base.specs.Acts.{act_room, takes}
-use Rattle.legacy_machines.specs.Costs.{utf8_room, utf16_room}
-use Rattle.legacy_machines.specs.Costs.{utf16_count, IsWidth, state_of, Cost, RoomMeets, utf8_without_room}
-use Rattle.legacy_machines.proofs.Widths.{width_utf8, width_utf16}
-use Rattle.legacy_machines.proofs.RoomMoves.{no_short_room, cond_most, HasCosts, rooms_utf8, rooms_utf16, rooms_without}
+use Rattle.legacy_base.specs.Lengths.{to_utf16}
+use Rattle.legacy_machines.specs.Steps.{finish}
+use Rattle.legacy_machines.specs.Costs.{IsWidth, state_of, Cost}
 use Rattle.legacy_machines.specs.Machines.{user_defined_machine}
+use Rattle.legacy_machines.specs.Margins.{Settles}
+use Rattle.legacy_machines.proofs.Shown.{IsShown}
+use Rattle.legacy_machines.proofs.Going.{same_rooms}
+use Rattle.legacy_machines.proofs.RoomMoves.{no_short_room, HasCosts, IsSloped, sloped_rooms}
 use Rattle.legacy_machines.proofs.OneByteMoves.{user_defined_meets}
 use Rattle.legacy_machines.proofs.OtherCosts.{no_weight, user_defined_cost}
+use Rattle.legacy_machines.proofs.SettledSteps.{settles_test}
 
-none_held : (held : List ℕ) → is_empty held ≡ true → length held ≡ 0
-none_held [] h = refl
-none_held (b ∷ held) h = absurd (false≢true h)
+costs : HasCosts user_defined user_defined_machine no_weight 6
+costs = record { to_is = λ held b. refl; cost = cost }
+  where
+    cost : (len : ℕ → ℕ) (narrow wide : ℕ) → IsWidth len narrow wide → (held : List ℕ) (b : ℕ) → is_empty held ≡ true → true ≡ true → AreBytes held → IsByte b →
+        Cost len narrow (act_room narrow wide (state_of user_defined held) (takes b)) no_weight 6 held b (user_defined_machine.step held b)
+    cost len narrow wide w [] b h r bytes byte = rw (no_short_room (is_ascii b && true) 1 narrow) (user_defined_cost len narrow wide w b byte)
+    cost len narrow wide w (c ∷ held) b h r bytes byte = absurd (false≢true h)
 
-module _ (unit : Unit {0}) where
-  costs : HasCosts user_defined user_defined_machine no_weight 6
-  costs = record { to_is = λ held b. refl; cost = cost }
-    where
-      cost : (len : ℕ → ℕ) (narrow wide : ℕ) → IsWidth len narrow wide → (held : List ℕ) (b : ℕ) → is_empty held ≡ true → true ≡ true → AreBytes held → IsByte b →
-          Cost len narrow (act_room narrow wide (state_of user_defined held) (takes b)) no_weight 6 held b (user_defined_machine.step held b)
-      cost len narrow wide w [] b h r bytes byte = rw (no_short_room (is_ascii b && true) 1 narrow) (user_defined_cost len narrow wide w b byte)
-      cost len narrow wide w (c ∷ held) b h r bytes byte = absurd (false≢true h)
+sloped : IsSloped user_defined user_defined_machine no_weight 6
+sloped = record {
+  heavy = λ b held h. absurd (false≢true h);
+  falls = elim [ to_utf16 ↦ λ held held' n n' u h. omega arith | _ ↦ λ held held' n n' u h. omega arith ];
+  writes = λ query held h r bytes. tt;
+  reads = elim [ to_utf16 ↦ λ held. omega arith | _ ↦ λ held. omega arith ];
+  holds = λ query b held h. absurd (false≢true h);
+}
 
-  pub user_defined_utf8 : RoomMeets utf8_count 3 4 3 utf8_room user_defined user_defined_machine
-  user_defined_utf8 = rooms_utf8 utf8_room user_defined user_defined_machine no_weight 6 user_defined_meets refl costs width_utf8 record {
-    sloped = λ held held' n n' u h. omega arith;
-    write_pays = λ held h r bytes. tt;
-    report_fits = λ held. omega arith;
-    report_pays = λ b held h r. absurd (false≢true h);
-    take_need = λ held b n h p. cond_most _ 1 3 _ (omega arith) (omega arith);
-    write_need = λ held n h p. let none : length held ≡ 0 = none_held held h in absurd (omega arith);
-    rises = λ held n m h. omega arith;
-  }
+settles : (held : List ℕ) (b : ℕ) → is_empty held ≡ true → Settles user_defined held b (user_defined_machine.step held b)
+settles [] b h = settles_test user_defined [] b (is_ascii b) (finish (reads 1 (b ∷ []))) (finish (reads 1 ((0xF780 + (b - 0x80)) ∷ []))) (λ a. (refl, tt)) (λ a. (refl, tt))
+settles (a ∷ held) b h = absurd (false≢true h)
 
-  pub user_defined_utf16 : RoomMeets utf16_count 1 2 1 utf16_room user_defined user_defined_machine
-  user_defined_utf16 = rooms_utf16 utf16_room user_defined user_defined_machine no_weight 6 user_defined_meets refl costs width_utf16 record {
-    sloped = λ held held' n n' u h. omega arith;
-    write_pays = λ held h r bytes. tt;
-    report_fits = λ held. omega arith;
-    report_pays = λ b held h r. absurd (false≢true h);
-    take_need = λ held b n h p. cond_most _ 1 1 _ (omega arith) (omega arith);
-    write_need = λ held n h p. let none : length held ≡ 0 = none_held held h in absurd (omega arith);
-    rises = λ held n m h. omega arith;
-  }
-
-  pub user_defined_without : RoomMeets utf8_count 3 4 0 utf8_without_room user_defined user_defined_machine
-  user_defined_without = rooms_without utf8_without_room user_defined user_defined_machine no_weight 6 user_defined_meets refl costs width_utf8 record {
-    sloped = λ held held' n n' u h. omega arith;
-    write_pays = λ held h r bytes. tt;
-    report_fits = λ held. omega arith;
-    report_pays = λ b held h r. absurd (false≢true h);
-    take_need = λ held b n h p. cond_most _ 1 3 _ (omega arith) (omega arith);
-    write_need = λ held n h p. let none : length held ≡ 0 = none_held held h in absurd (omega arith);
-    rises = λ held n m h. omega arith;
-  }
+pub user_defined_shown : IsShown user_defined user_defined_machine
+user_defined_shown = record {
+  meets = user_defined_meets;
+  rooms = λ n query. sloped_rooms user_defined user_defined_machine no_weight 6 user_defined_meets costs sloped query;
+  settles = λ held b h r. settles held b h;
+  write_settles = λ held h. tt;
+  same_rooms = λ held b. same_rooms user_defined;
+  same_marks = λ held b. refl;
+  ascii_first = λ s b a. absurd (false≢true s);
+  swallows = inl refl;
+}

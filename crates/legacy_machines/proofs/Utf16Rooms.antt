@@ -1,6 +1,6 @@
--- The rooms of UTF-16.
-use Rattle.std.proofs.Common.{◌≡◌, ℕ, ◌+◌, ◌*◌, ◌<◌, ◌≤◌, List, [], ◌∷◌, length, get_or, Bool, true, false, cond, Some, None, refl, arith}
-use Rattle.std.proofs.lemmas.Bool.{false≢true}
+-- What is shown of UTF-16.
+use Rattle.std.proofs.Common.{◌≡◌, ℕ, ◌+◌, ◌*◌, ◌<◌, ◌≤◌, List, [], ◌∷◌, length, get_or, Bool, true, false, cond, Some, None, refl, inl, arith}
+use Rattle.std.proofs.lemmas.Bool.{false≢true, true≢false}
 use Rattle.legacy_machines.specs.Costs.{utf8_count}
 use Rattle.std.specs.Char.Utf16.{is_high_surrogate, is_low_surrogate, surrogate_pair_char}
 use Rattle.legacy_base.specs.Unicode.{IsByte, AreBytes}
@@ -14,6 +14,10 @@ use Rattle.legacy_machines.specs.Steps.{Step, hold, finish, leave, step_held}
 use Rattle.legacy_machines.specs.Machines.{utf16_machine, utf16_pending, utf16_step}
 use Rattle.legacy_machines.specs.Costs.{utf16_count, step_units, step_left, IsWidth, state_of, RoomMeets, WritePays, utf8_without_room}
 use Rattle.legacy_machines.proofs.Utf16Moves.{utf16_meets}
+use Rattle.legacy_base.specs.Lengths.{LengthQuery, to_utf16, to_utf8, to_utf8_without_replacement}
+use Rattle.legacy_machines.proofs.Shown.{KeepsRooms, IsShown, WriteSettles}
+use Rattle.legacy_machines.proofs.Going.{same_rooms}
+use Rattle.legacy_machines.proofs.SettledSteps.{utf16_settles, write_test}
 use Rattle.legacy_machines.proofs.Widths.{width_utf8, width_utf16}
 use Rattle.legacy_machines.proofs.RoomMoves.{no_short_room, cond_most, all_needs}
 
@@ -84,7 +88,7 @@ module _ (be : Bool) where
         let c : Halved len narrow wide held b (utf16_step be held b) = halved held b h r bytes byte in
         falls held (step_held (utf16_step be held b) held b) (n + 1) (n + step_left (utf16_step be held b)) (step_units len narrow (utf16_step be held b)) c.pairs c.units_most (let f = c.fewer in omega arith)
 
-  pub utf16_utf8 : RoomMeets utf8_count 3 4 3 utf8_room (utf16 be) (utf16_machine be)
+  utf16_utf8 : RoomMeets utf8_count 3 4 3 utf8_room (utf16 be) (utf16_machine be)
   utf16_utf8 = record {
     step_fits = step_fits utf8_count 3 4 width_utf8;
     step_pays = step_pays utf8_count 3 4 width_utf8 utf8_room (λ held held' n n' u pairs h k. omega arith);
@@ -95,7 +99,7 @@ module _ (be : Bool) where
     rises = λ held n m h. omega arith;
   }
 
-  pub utf16_utf16 : RoomMeets utf16_count 1 2 1 utf16_room (utf16 be) (utf16_machine be)
+  utf16_utf16 : RoomMeets utf16_count 1 2 1 utf16_room (utf16 be) (utf16_machine be)
   utf16_utf16 = record {
     step_fits = step_fits utf16_count 1 2 width_utf16;
     step_pays = step_pays utf16_count 1 2 width_utf16 utf16_room (λ held held' n n' u pairs h k. omega arith);
@@ -119,7 +123,7 @@ module _ (be : Bool) where
       let p = step_pays utf8_count 3 4 width_utf8 utf8_without_room (λ held held' n n' u pairs h k. omega arith) held b n h r bytes byte in
       let q = fewer_units utf8_count 3 (utf16_step be held b) in omega arith
 
-  pub utf16_without : RoomMeets utf8_count 3 4 0 utf8_without_room (utf16 be) (utf16_machine be)
+  utf16_without : RoomMeets utf8_count 3 4 0 utf8_without_room (utf16 be) (utf16_machine be)
   utf16_without = record {
     step_fits = step_fits utf8_count 3 4 width_utf8;
     step_pays = λ held b n h r bytes byte. without_pays held b n h r bytes byte;
@@ -128,4 +132,27 @@ module _ (be : Bool) where
     report_pays = λ b held h r. omega arith;
     needs = λ held unread last h. all_needs 3 4 (utf8_without_room (state_of (utf16 be) held)) (utf16 be) (utf16_machine be) (utf16_meets be) refl held h (λ b n p. cond_most _ 1 4 _ (omega arith) (omega arith)) (λ n p. omega arith) unread last;
     rises = λ held n m h. omega arith;
+  }
+
+  rooms : (query : LengthQuery) → KeepsRooms query (utf16 be) (utf16_machine be)
+  rooms to_utf16 = utf16_utf16
+  rooms to_utf8 = utf16_utf8
+  rooms to_utf8_without_replacement = utf16_without
+
+  write_settles : (held : List ℕ) → utf16_may_hold be held ≡ true → WriteSettles (utf16 be) held (utf16_pending be held)
+  write_settles [] h = tt
+  write_settles (a ∷ []) h = tt
+  write_settles (a ∷ b ∷ []) h = write_test (utf16 be) (a ∷ b ∷ []) (is_high_surrogate (unit_of be a b)) None (Some (2, unit_of be a b)) (λ k. tt) (λ k. (refl, λ e. absurd (true≢false e)))
+  write_settles (a ∷ b ∷ d ∷ held) h = tt
+
+  pub utf16_shown : IsShown (utf16 be) (utf16_machine be)
+  utf16_shown = record {
+    meets = utf16_meets be;
+    rooms = λ n. rooms;
+    settles = λ held b h r. utf16_settles be held b h r;
+    write_settles = write_settles;
+    same_rooms = λ held b. same_rooms (utf16 be);
+    same_marks = λ held b. refl;
+    ascii_first = λ s b a. absurd (false≢true s);
+    swallows = inl refl;
   }

@@ -8,3 +8,4 @@ pub mod Margins
 pub mod Feeding
 pub mod Ahead
 pub mod PairPlaces
+pub mod LeadCodecs

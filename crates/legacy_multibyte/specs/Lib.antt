@@ -4,7 +4,4 @@ pub mod Gb18030Decoder
 pub mod EucJpHeld
 pub mod EucJpDecoder
 pub mod TwoByte
-pub mod EucKrDecoder
-pub mod Big5Decoder
-pub mod ShiftJisDecoder
 pub mod FourPlaces

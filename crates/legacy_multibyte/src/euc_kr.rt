@@ -1,18 +1,23 @@
 //! The decoder of EUC-KR.
-ghost use Rattle.std.specs.Prelude.{◌≡◌, ◌≢◌, [], length, true, option_to_list, IfSome, if◌then◌else◌};
+ghost use Rattle.std.specs.Prelude.{◌≡◌, [], option_to_list, IfSome, if◌then◌else◌};
 ghost use Rattle.std.specs.Char.{IsScalar};
 ghost use Rattle.legacy_base.specs.EucKr.{euc_kr_scalars};
 ghost use Rattle.legacy_base.specs.Grammar.{euc_kr};
-ghost use Rattle.legacy_base.specs.States.{is_lead, is_neutral, new_state};
-ghost use Rattle.legacy_base.specs.Lengths.{answer, weighted};
+ghost use Rattle.legacy_base.specs.States.{is_lead};
+ghost use Rattle.legacy_machines.specs.Machines.{lead_first};
+ghost use Rattle.legacy_machines.proofs.EucKr.{euc_kr_codec};
+ghost use Rattle.legacy_machines.proofs.TwoByteMoves.{is_lead-in};
 
 use crate::held::Lead;
+use crate::lead::{LeadCodec, LeadDecoder};
 use crate::two_byte::{read_first, read_trail};
-use legacy_base::{DecoderResult, Destination, IndexName, RawDecoder, Tables};
-use legacy_machines::ahead::{CommonForms, Front, ahead};
-use legacy_machines::drive::drive;
-use legacy_machines::machine::{Act, Fed, Machine, Room};
+use legacy_base::{IndexName, Tables};
+use legacy_machines::ahead::Front;
+use legacy_machines::machine::{Fed, Room};
 use legacy_machines::places::euc_kr_pointer;
+
+/// The codec of EUC-KR.
+pub struct EucKr;
 
 /// The decoder of EUC-KR (Encoding Standard, "EUC-KR decoder").
 ///
@@ -20,37 +25,7 @@ use legacy_machines::places::euc_kr_pointer;
 /// pointer in index EUC-KR. Malformed are the bytes 80 and FF where a form begins, a lead at the end of
 /// the input, and a lead with a byte that gives no scalar with it: both of them, or where that byte is
 /// ASCII the lead alone, and the byte is read again.
-#[derive(Drop)]
-pub struct EucKrDecoder<'a> {
-    tables: &'a Tables<'a>,
-    held: Option<Lead>,
-}
-
-impl<'a> EucKrDecoder<'a> {
-    ghost use Rattle.legacy_multibyte.specs.EucKrDecoder.{euc_kr_state};
-
-    /// A decoder before its first byte, which reads by index EUC-KR of the tables.
-    pub fn new(tables: &'a Tables<'a>) -> EucKrDecoder<'a>
-        ensures { euc_kr_state result ≡ new_state (euc_kr tables.now.flat.euc_kr) }
-    {
-        EucKrDecoder { tables, held: None }
-    }
-
-    /// Whether no lead is held back.
-    pub fn in_neutral_state(&self) -> bool
-        ensures { result ≡ is_neutral (euc_kr_state self.now) }
-    {
-        self.held.is_none()
-    }
-
-    /// The bytes of the input to come, and the lead.
-    #[inline]
-    fn weighted_length(&self, byte_length: usize) -> Option<usize>
-        ensures { result ≡ answer (weighted (euc_kr_state self.now) byte_length) }
-    {
-        byte_length.checked_add(usize::from(self.held.is_some()))
-    }
-}
+pub type EucKrDecoder<'a> = LeadDecoder<'a, EucKr>;
 
 /// The scalar of two bytes, if they are a lead and a trail and give one.
 #[inline]
@@ -70,109 +45,57 @@ fn pair_scalar(tables: &Tables<'_>, lead: Lead, trail: u8) -> Option<char>
     form_scalar(tables, lead.byte, trail)
 }
 
-impl<'a> Machine for EucKrDecoder<'a> {
-    ghost use Rattle.legacy_multibyte.specs.EucKrDecoder.{euc_kr_state};
+impl LeadCodec for EucKr {
+    type Lead = Lead;
 
-    ghost state = { euc_kr_state };
+    ghost grammar = { λ flat. euc_kr flat.euc_kr };
 
-    #[inline]
-    fn rests(&self) -> bool {
-        true
-    }
+    ghost is_lead = { is_lead };
 
-    #[inline]
-    fn room(&self, act: Act) -> Room {
-        match act {
-            Act::Read(byte) if byte < 0x80 && self.held.is_none() => Room::Unit,
-            Act::Read(_) => Room::Narrow,
-            Act::Release | Act::Report => Room::Narrow,
-        }
-    }
+    ghost byte_of = { λ lead. lead.byte };
 
-    fn release(&mut self) -> Option<char> {
-        None
-    }
+    ghost first = { lead_first };
+
+    ghost scalars = { λ flat. euc_kr_scalars flat.euc_kr };
+
+    ghost codec = { euc_kr_codec };
+
+    ghost leads = { λ lead. is_lead-in lead.byte lead.low lead.high };
 
     #[inline]
-    fn feed(&mut self, byte: u8) -> Fed {
-        match self.held {
-            Some(lead) => {
-                self.held = None;
-                read_trail(pair_scalar(self.tables, lead, byte), byte)
-            }
-            None => {
-                let (fed, held) = read_first(byte);
-                self.held = held;
-                fed
-            }
-        }
+    fn read_first(byte: u8) -> (Fed, Option<Lead>) {
+        read_first(byte)
     }
 
     #[inline]
-    fn has_rest(&self) -> bool {
-        self.held.is_some()
-    }
-
-    fn report(&mut self) -> Option<(u8, u8)> {
-        match self.held {
-            Some(_) => {
-                self.held = None;
-                Some((1, 0))
-            }
-            None => None,
-        }
+    fn read_pair(tables: &Tables<'_>, lead: Lead, trail: u8) -> Fed {
+        read_trail(pair_scalar(tables, lead, trail), trail)
     }
 
     #[inline]
-    fn read_ahead<T: Destination>(&self, src: &[u8], dst: &mut T) -> usize {
-        ahead(self, src, dst)
-    }
-}
-
-impl<'a> CommonForms for EucKrDecoder<'a> {
-    ghost use Rattle.legacy_multibyte.specs.EucKrDecoder.{euc_kr_state};
-
-    ghost state = { euc_kr_state };
-
-    #[inline]
-    fn is_idle(&self) -> bool {
-        self.in_neutral_state()
-    }
-
-    #[inline]
-    fn front(&self, lead: u8, trail: u8) -> Front {
-        match form_scalar(self.tables, lead, trail) {
+    fn front(tables: &Tables<'_>, lead: u8, trail: u8) -> Front {
+        match form_scalar(tables, lead, trail) {
             Some(scalar) => Front::Pair(scalar),
             None => Front::Other,
         }
     }
-}
 
-impl<'a> RawDecoder for EucKrDecoder<'a> {
-    ghost use Rattle.legacy_multibyte.specs.EucKrDecoder.{euc_kr_state};
-
-    ghost state = { euc_kr_state };
-
-    fn step<T: Destination>(
-        &mut self,
-        src: &[u8],
-        dst: &mut T,
-        last: bool,
-    ) -> (DecoderResult, usize) {
-        drive(self, src, dst, last)
+    #[inline]
+    fn room() -> Room {
+        Room::Narrow
     }
 
-    fn max_utf16_buffer_length(&self, byte_length: usize) -> Option<usize> {
-        self.weighted_length(byte_length)
+    fn utf16_length(byte_length: usize, held: usize) -> Option<usize> {
+        byte_length.checked_add(held)
     }
 
-    fn max_utf8_buffer_length_without_replacement(&self, byte_length: usize) -> Option<usize> {
-        let weighted = self.weighted_length(byte_length)?;
+    fn utf8_length_without_replacement(byte_length: usize, held: usize) -> Option<usize> {
+        let weighted = byte_length.checked_add(held)?;
         let half = weighted.checked_add(1)? / 2;
         weighted.checked_add(half)?.checked_add(2)
     }
 
-    fn max_utf8_buffer_length(&self, byte_length: usize) -> Option<usize> {
-        self.weighted_length(byte_length)?.checked_mul(3)
+    fn utf8_length(byte_length: usize, held: usize) -> Option<usize> {
+        byte_length.checked_add(held)?.checked_mul(3)
     }
 }

@@ -1,21 +1,23 @@
 //! The decoder of Shift_JIS.
-ghost use Rattle.std.specs.Prelude.{◌≡◌, ◌≢◌, ◌+◌, ◌-◌, ◌≤◌, [], length, true, option_to_list, IfSome, if◌then◌else◌};
+ghost use Rattle.std.specs.Prelude.{◌≡◌, ◌+◌, ◌-◌, ◌≤◌, [], option_to_list, IfSome, if◌then◌else◌};
 ghost use Rattle.std.specs.Char.{IsScalar};
 ghost use Rattle.legacy_base.specs.ShiftJis.{is_shift_jis_lead, shift_jis_scalars};
 ghost use Rattle.legacy_base.specs.Grammar.{shift_jis};
-ghost use Rattle.legacy_base.specs.States.{is_neutral, new_state};
-ghost use Rattle.legacy_base.specs.Lengths.{answer, weighted};
 ghost use Rattle.legacy_machines.specs.Machines.{shift_jis_first, shift_jis_pair_scalars};
 ghost use Rattle.legacy_machines.specs.Feeding.{Took};
+ghost use Rattle.legacy_machines.proofs.ShiftJis.{shift_jis_codec};
 ghost use Rattle.legacy_multibyte.specs.TwoByte.{shift_jis_lead_bytes};
 
 use crate::held::ShiftJisLead;
+use crate::lead::{LeadCodec, LeadDecoder};
 use crate::two_byte::{fault_through, read_trail};
-use legacy_base::{DecoderResult, Destination, IndexName, RawDecoder, Tables};
-use legacy_machines::ahead::{CommonForms, Front, ahead};
-use legacy_machines::drive::drive;
-use legacy_machines::machine::{Act, Fed, Machine, Room};
+use legacy_base::{IndexName, Tables};
+use legacy_machines::ahead::Front;
+use legacy_machines::machine::{Fed, Room};
 use legacy_machines::places::shift_jis_pointer;
+
+/// The codec of Shift_JIS.
+pub struct ShiftJis;
 
 /// The decoder of Shift_JIS (Encoding Standard, "Shift_JIS decoder").
 ///
@@ -25,41 +27,11 @@ use legacy_machines::places::shift_jis_pointer;
 /// U+E000 to U+E757. Malformed are the bytes A0 and FD to FF where a form begins, a lead at the end of
 /// the input, and a lead with a byte that gives no scalar with it: both of them, or where that byte is
 /// ASCII the lead alone, and the byte is read again.
-#[derive(Drop)]
-pub struct ShiftJisDecoder<'a> {
-    tables: &'a Tables<'a>,
-    held: Option<ShiftJisLead>,
-}
-
-impl<'a> ShiftJisDecoder<'a> {
-    ghost use Rattle.legacy_multibyte.specs.ShiftJisDecoder.{shift_jis_state};
-
-    /// A decoder before its first byte, which reads by index jis0208 of the tables.
-    pub fn new(tables: &'a Tables<'a>) -> ShiftJisDecoder<'a>
-        ensures { shift_jis_state result ≡ new_state (shift_jis tables.now.flat.jis0208) }
-    {
-        ShiftJisDecoder { tables, held: None }
-    }
-
-    /// Whether no lead is held back.
-    pub fn in_neutral_state(&self) -> bool
-        ensures { result ≡ is_neutral (shift_jis_state self.now) }
-    {
-        self.held.is_none()
-    }
-
-    /// The bytes of the input to come, and the lead.
-    #[inline]
-    fn weighted_length(&self, byte_length: usize) -> Option<usize>
-        ensures { result ≡ answer (weighted (shift_jis_state self.now) byte_length) }
-    {
-        byte_length.checked_add(usize::from(self.held.is_some()))
-    }
-}
+pub type ShiftJisDecoder<'a> = LeadDecoder<'a, ShiftJis>;
 
 /// Reads the first byte of a form.
 #[inline]
-fn read_first(byte: u8) -> (Fed, Option<ShiftJisLead>)
+fn first_byte(byte: u8) -> (Fed, Option<ShiftJisLead>)
     ensures { Took (shift_jis_first byte) [] byte result.0 (shift_jis_lead_bytes result.1) }
 {
     if byte <= 0x80 {
@@ -116,78 +88,36 @@ fn pair_scalar(tables: &Tables<'_>, lead: ShiftJisLead, trail: u8) -> Option<cha
     form_scalar(tables, lead.byte, trail)
 }
 
-impl<'a> Machine for ShiftJisDecoder<'a> {
-    ghost use Rattle.legacy_multibyte.specs.ShiftJisDecoder.{shift_jis_state};
+impl LeadCodec for ShiftJis {
+    type Lead = ShiftJisLead;
 
-    ghost state = { shift_jis_state };
+    ghost grammar = { λ flat. shift_jis flat.jis0208 };
 
-    #[inline]
-    fn rests(&self) -> bool {
-        true
-    }
+    ghost is_lead = { is_shift_jis_lead };
 
-    #[inline]
-    fn room(&self, act: Act) -> Room {
-        match act {
-            Act::Read(byte) if byte < 0x80 && self.held.is_none() => Room::Unit,
-            Act::Read(_) => Room::Narrow,
-            Act::Release | Act::Report => Room::Narrow,
-        }
-    }
+    ghost byte_of = { λ lead. lead.byte };
 
-    fn release(&mut self) -> Option<char> {
-        None
-    }
+    ghost first = { shift_jis_first };
+
+    ghost scalars = { λ flat. shift_jis_pair_scalars flat.jis0208 };
+
+    ghost codec = { shift_jis_codec };
+
+    ghost leads = { λ lead. lead.lead };
 
     #[inline]
-    fn feed(&mut self, byte: u8) -> Fed {
-        match self.held {
-            Some(lead) => {
-                self.held = None;
-                read_trail(pair_scalar(self.tables, lead, byte), byte)
-            }
-            None => {
-                let (fed, held) = read_first(byte);
-                self.held = held;
-                fed
-            }
-        }
+    fn read_first(byte: u8) -> (Fed, Option<ShiftJisLead>) {
+        first_byte(byte)
     }
 
     #[inline]
-    fn has_rest(&self) -> bool {
-        self.held.is_some()
-    }
-
-    fn report(&mut self) -> Option<(u8, u8)> {
-        match self.held {
-            Some(_) => {
-                self.held = None;
-                Some((1, 0))
-            }
-            None => None,
-        }
+    fn read_pair(tables: &Tables<'_>, lead: ShiftJisLead, trail: u8) -> Fed {
+        read_trail(pair_scalar(tables, lead, trail), trail)
     }
 
     #[inline]
-    fn read_ahead<T: Destination>(&self, src: &[u8], dst: &mut T) -> usize {
-        ahead(self, src, dst)
-    }
-}
-
-impl<'a> CommonForms for ShiftJisDecoder<'a> {
-    ghost use Rattle.legacy_multibyte.specs.ShiftJisDecoder.{shift_jis_state};
-
-    ghost state = { shift_jis_state };
-
-    #[inline]
-    fn is_idle(&self) -> bool {
-        self.in_neutral_state()
-    }
-
-    #[inline]
-    fn front(&self, lead: u8, trail: u8) -> Front {
-        match form_scalar(self.tables, lead, trail) {
+    fn front(tables: &Tables<'_>, lead: u8, trail: u8) -> Front {
+        match form_scalar(tables, lead, trail) {
             Some(scalar) => Front::Pair(scalar),
             None => {
                 if lead >= 0xA1 && lead <= 0xDF {
@@ -198,31 +128,21 @@ impl<'a> CommonForms for ShiftJisDecoder<'a> {
             }
         }
     }
-}
 
-impl<'a> RawDecoder for ShiftJisDecoder<'a> {
-    ghost use Rattle.legacy_multibyte.specs.ShiftJisDecoder.{shift_jis_state};
-
-    ghost state = { shift_jis_state };
-
-    fn step<T: Destination>(
-        &mut self,
-        src: &[u8],
-        dst: &mut T,
-        last: bool,
-    ) -> (DecoderResult, usize) {
-        drive(self, src, dst, last)
+    #[inline]
+    fn room() -> Room {
+        Room::Narrow
     }
 
-    fn max_utf16_buffer_length(&self, byte_length: usize) -> Option<usize> {
-        self.weighted_length(byte_length)
+    fn utf16_length(byte_length: usize, held: usize) -> Option<usize> {
+        byte_length.checked_add(held)
     }
 
-    fn max_utf8_buffer_length_without_replacement(&self, byte_length: usize) -> Option<usize> {
-        self.weighted_length(byte_length)?.checked_mul(3)
+    fn utf8_length_without_replacement(byte_length: usize, held: usize) -> Option<usize> {
+        byte_length.checked_add(held)?.checked_mul(3)
     }
 
-    fn max_utf8_buffer_length(&self, byte_length: usize) -> Option<usize> {
-        self.weighted_length(byte_length)?.checked_mul(3)
+    fn utf8_length(byte_length: usize, held: usize) -> Option<usize> {
+        byte_length.checked_add(held)?.checked_mul(3)
     }
 }
