@@ -1,17 +1,9 @@
-//! The decoders of the legacy encodings: each is a machine of small moves under one loop.
+//! The decoders of the legacy encodings, by name: each stands in the crate of its chapter of the Encoding
+//! Standard.
 #![tactic(auto)]
 
-mod iso_2022_jp;
-mod replacement;
-mod single_byte;
-mod user_defined;
-mod utf16;
-
-pub use iso_2022_jp::Iso2022JpDecoder;
-pub use legacy_multibyte::{
-    Big5Decoder, EucJpDecoder, EucKrDecoder, Gb18030Decoder, ShiftJisDecoder,
-};
-pub use replacement::ReplacementDecoder;
-pub use single_byte::SingleByteDecoder;
-pub use user_defined::UserDefinedDecoder;
-pub use utf16::Utf16Decoder;
+pub use legacy_chinese::{Big5Decoder, Gb18030Decoder};
+pub use legacy_japanese::{EucJpDecoder, Iso2022JpDecoder, ShiftJisDecoder};
+pub use legacy_korean::EucKrDecoder;
+pub use legacy_miscellaneous::{ReplacementDecoder, UserDefinedDecoder, Utf16Decoder};
+pub use legacy_single_byte::SingleByteDecoder;

@@ -1,0 +1,51 @@
+-- What the steps of gb18030 write.
+use Rattle.std.proofs.Common.{◌≡◌, ℕ, ◌+◌, ◌-◌, ◌*◌, ◌≤◌, List, [], ◌∷◌, length, true, false, cond, ◌==◌, option_to_list, arith}
+use Rattle.std.proofs.lemmas.Bool.{false≢true, ltb-true}
+use Rattle.std.specs.Int.{is_in_range}
+use Rattle.std.specs.Char.{is_ascii, is_ascii_digit}
+use Rattle.legacy_base.specs.Fronts.{reads, malformed, reads_or}
+use Rattle.legacy_base.specs.Indexes.{range}
+use Rattle.legacy_base.specs.Gb18030.{is_gb18030_lead, gb18030_scalars, gb18030_range_pointer}
+use Rattle.legacy_base.specs.States.{gb18030_may_hold}
+use Rattle.legacy_decoder_engine.specs.Steps.{hold, finish, leave, trail_step}
+use Rattle.legacy_chinese.specs.Gb18030Machine.{gb18030_first, gb18030_step}
+use Rattle.legacy_decoder_engine.specs.Costs.{units, IsWidth, Cost}
+use Rattle.legacy_decoder_engine.proofs.Widths.{idx_units, option_units}
+use Rattle.legacy_decoder_engine.proofs.TwoByteCosts.{cost_test, units_test, trail_cost}
+
+module _ (len : ℕ → ℕ) (narrow wide : ℕ) (w : IsWidth len narrow wide) where
+  pub gb18030_first_cost : (b : ℕ) → Cost len narrow (cond (is_ascii b) 1 wide) length 6 [] b (gb18030_first b)
+  gb18030_first_cost b =
+      cost_test len narrow (cond (is_ascii b) 1 wide) length 6 [] b (is_ascii b) (finish (reads 1 (b ∷ []))) _
+      (λ a. let e : len b ≡ 1 = w.ascii b (ltb-true b 0x80 a) in record { fits = rw a (omega arith); pays = omega arith; pays_without = omega arith })
+      (λ a. cost_test len narrow (cond (is_ascii b) 1 wide) length 6 [] b (b == 0x80) (finish (reads 1 (0x20AC ∷ []))) _
+      (λ e. let q : len 0x20AC ≤ narrow = w.bmp 0x20AC (omega arith) in record { fits = rw a (omega arith); pays = omega arith; pays_without = omega arith })
+      (λ e. cost_test len narrow (cond (is_ascii b) 1 wide) length 6 [] b (is_gb18030_lead b) hold (finish (malformed 1))
+      (λ l. record { fits = omega arith; pays = omega arith; pays_without = omega arith })
+      (λ l. record { fits = rw a (omega arith); pays = omega arith; pays_without = omega arith })))
+
+  gb18030_units : (index : List ℕ) (lead b : ℕ) → units len (gb18030_scalars index lead b) ≤ wide
+  gb18030_units index lead b =
+      units_test len narrow wide w wide (is_in_range 0x40 0x7E b) _ _
+      (λ e. idx_units len narrow wide w index ((lead - 0x81) * 190 + (b - 0x40)))
+      (λ e. units_test len narrow wide w wide (is_in_range 0x80 0xFE b) _ []
+      (λ f. idx_units len narrow wide w index ((lead - 0x81) * 190 + (b - 0x41))) (λ f. omega arith))
+
+  pub gb18030_held_cost : (index : List ℕ) (ranges : List (ℕ × ℕ)) (a : ℕ) (held : List ℕ) (b : ℕ) → gb18030_may_hold (a ∷ held) ≡ true → Cost len narrow wide length 6 (a ∷ held) b (gb18030_step index ranges (a ∷ held) b)
+  gb18030_held_cost index ranges a [] b h =
+      cost_test len narrow wide length 6 (a ∷ []) b (is_ascii_digit b) hold (trail_step 1 (gb18030_scalars index a b) b)
+      (λ d. record { fits = omega arith; pays = omega arith; pays_without = omega arith })
+      (λ d. trail_cost len narrow wide w wide 6 a b (gb18030_scalars index a b) (gb18030_units index a b) (omega arith) (omega arith) (omega arith))
+  gb18030_held_cost index ranges a (c ∷ []) b h =
+      cost_test len narrow wide length 6 (a ∷ c ∷ []) b (is_gb18030_lead b) hold (leave 1)
+      (λ d. record { fits = omega arith; pays = omega arith; pays_without = omega arith })
+      (λ d. record { fits = omega arith; pays = omega arith; pays_without = omega arith })
+  gb18030_held_cost index ranges a (c ∷ d ∷ []) b h =
+      cost_test len narrow wide length 6 (a ∷ c ∷ d ∷ []) b (is_ascii_digit b) _ (leave 1)
+      (λ e. four (option_to_list (range ranges (gb18030_range_pointer a c d b))) (option_units len narrow wide w (range ranges (gb18030_range_pointer a c d b))))
+      (λ e. record { fits = omega arith; pays = omega arith; pays_without = omega arith })
+    where
+      four : (cs : List ℕ) → units len cs ≤ wide → Cost len narrow wide length 6 (a ∷ c ∷ d ∷ []) b (finish (reads_or 4 cs (malformed 4)))
+      four [] u = record { fits = omega arith; pays = omega arith; pays_without = omega arith }
+      four (x ∷ cs) u = record { fits = u; pays = omega arith; pays_without = omega arith }
+  gb18030_held_cost index ranges a (c ∷ d ∷ e ∷ held) b h = absurd (false≢true h)

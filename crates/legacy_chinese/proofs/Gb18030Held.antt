@@ -1,0 +1,204 @@
+-- What the GB18030 decoder holds back is what its machine may hold back, and its moves are the machine's.
+use Rattle.std.proofs.Common.{◌≡◌, ◌≢◌, ◌∙◌, ℕ, ◌+◌, ◌-◌, ◌*◌, ◌^◌, ◌<◌, ◌≤◌, List, [], ◌∷◌, length, append-nil, Bool, true, false, ◌&&◌, refl, sym, ap, arith, Option, Some, None, cond, ◌==◌}
+use Rattle.std.proofs.lemmas.Bool.{false≢true}
+use Rattle.std.proofs.lemmas.Bool.Decides.{nat_tests}
+use Rattle.std.proofs.lemmas.List.Elements.{All-nil, All-cons}
+use Rattle.std.specs.Prelude.{option_to_list, IfSome}
+use Rattle.std.specs.Int.{is_in_range}
+use Rattle.std.specs.Char.{IsScalar, is_ascii, is_ascii_digit}
+use Rattle.legacy_base.specs.Unicode.{IsByte, AreBytes}
+use Rattle.legacy_base.specs.Indexes.{idx, range}
+use Rattle.legacy_base.specs.AcceptedTables.{AcceptedIndexes}
+use Rattle.legacy_base.specs.Gb18030.{is_gb18030_lead, gb18030_scalars, gb18030_range_pointer}
+use Rattle.legacy_base.specs.Grammar.{Grammar, gb18030, events_of}
+use Rattle.legacy_base.specs.States.{gb18030_may_hold, rests, is_empty}
+use Rattle.legacy_base.proofs.Accepted.{gb18030-below, range-scalar}
+use Rattle.legacy_chinese.specs.declared.gb18030.decoder.Held.{Held}
+use Rattle.legacy_chinese.specs.declared.gb18030.decoder.Held.TheVariants.{Nothing, First, Second, Third, Digit, DigitLead}
+use Rattle.legacy_decoder_engine.specs.declared.held.Lead.{Lead}
+use Rattle.legacy_chinese.specs.declared.gb18030.digit.Digit.{Digit as HeldDigit}
+use Rattle.legacy_decoder_engine.specs.declared.machine.Fed.{Fed}
+use Rattle.legacy_decoder_engine.specs.Moves.{IsCovered, Feeds, Releases, Reports}
+use Rattle.legacy_decoder_engine.specs.Costs.{state_of, IsNarrowIndex}
+use Rattle.legacy_decoder_engine.specs.Ahead.{Runs, HasAscii}
+use Rattle.legacy_decoder_engine.specs.Feeding.{Took}
+use Rattle.legacy_chinese.specs.Gb18030Machine.{gb18030_step, gb18030_pending, gb18030_machine}
+use Rattle.legacy_chinese.specs.Gb18030Held.{held_bytes, is_resting}
+use Rattle.legacy_decoder_engine.proofs.Feeding as moves
+use Rattle.legacy_chinese.proofs.Gb18030Meets.{gb18030_meets}
+use Rattle.legacy_decoder_engine.proofs.RunForms.{pair_runs, four_runs, has_ascii, ascii_is}
+use Rattle.legacy_decoder_engine.proofs.Widths.{idx_below}
+use Rattle.legacy_decoder_engine.specs.Shown.{IsShown}
+use Rattle.legacy_chinese.proofs.Gb18030Shown.{gb18030_shown}
+
+lead_is : (b : ℕ) → 0x81 ≤ b → b ≤ 0xFE → (is_gb18030_lead b ≡ true) × (is_ascii_digit b ≡ false) × (b < 2 ^ 8)
+lead_is b low high = (grind (arith, nat_tests), grind (arith, nat_tests), omega arith)
+
+digit_is : (b : ℕ) → 0x30 ≤ b → b ≤ 0x39 → (is_ascii_digit b ≡ true) × (is_gb18030_lead b ≡ false) × (b < 2 ^ 8) × IsScalar b
+digit_is b low high = (grind (arith, nat_tests), grind (arith, nat_tests), omega arith, grind (arith, nat_tests))
+
+of_lead : (lead : Lead) → (is_gb18030_lead lead.byte ≡ true) × (is_ascii_digit lead.byte ≡ false) × (lead.byte < 2 ^ 8)
+of_lead lead = lead_is lead.byte lead.low lead.high
+
+of_digit : (digit : HeldDigit) → (is_ascii_digit digit.byte ≡ true) × (is_gb18030_lead digit.byte ≡ false) × (digit.byte < 2 ^ 8) × IsScalar digit.byte
+of_digit digit = digit_is digit.byte digit.low digit.high
+
+may : (held : Held) → gb18030_may_hold (held_bytes held) ≡ true
+may Nothing = refl
+may (First first) = rw (of_lead first).0 refl
+may (Second first second) = rw ((of_lead first).0, (of_digit second).0) refl
+may (Third first second third) = rw ((of_lead first).0, (of_digit second).0, (of_lead third).0) refl
+may (Digit digit) = rw ((of_digit digit).0, (of_digit digit).1) refl
+may (DigitLead digit lead) = rw ((of_digit digit).0, (of_digit digit).1, (of_lead lead).0) refl
+
+one : (b : ℕ) (bytes : List ℕ) → IsByte b → AreBytes bytes → AreBytes (b ∷ bytes)
+one b bytes byte all = All-cons IsByte b bytes byte all
+
+are_bytes : (held : Held) → AreBytes (held_bytes held)
+are_bytes Nothing = All-nil IsByte
+are_bytes (First first) = one first.byte [] (of_lead first).2 (All-nil IsByte)
+are_bytes (Second first second) = one first.byte (second.byte ∷ []) (of_lead first).2 (one second.byte [] (of_digit second).2 (All-nil IsByte))
+are_bytes (Third first second third) =
+    one first.byte (second.byte ∷ third.byte ∷ []) (of_lead first).2
+    (one second.byte (third.byte ∷ []) (of_digit second).2 (one third.byte [] (of_lead third).2 (All-nil IsByte)))
+are_bytes (Digit digit) = one digit.byte [] (of_digit digit).2 (All-nil IsByte)
+are_bytes (DigitLead digit lead) = one digit.byte (lead.byte ∷ []) (of_digit digit).2 (one lead.byte [] (of_lead lead).2 (All-nil IsByte))
+
+-- nothing is held back in the neutral state
+pub neutral-empty : (held : Held) → (is_empty (held_bytes held) && true) ≡ true → held_bytes held ≡ []
+neutral-empty Nothing e = refl
+neutral-empty (First first) e = absurd (false≢true e)
+neutral-empty (Second first second) e = absurd (false≢true e)
+neutral-empty (Third first second third) e = absurd (false≢true e)
+neutral-empty (Digit digit) e = absurd (false≢true e)
+neutral-empty (DigitLead digit lead) e = absurd (false≢true e)
+
+-- ---- pairs
+
+lead_other : (b : ℕ) → is_gb18030_lead b ≡ true → (is_ascii b ≡ false) × ((b == 0x80) ≡ false) × (is_ascii_digit b ≡ false)
+lead_other b is = (grind (arith, nat_tests), grind (arith, nat_tests), grind (arith, nat_tests))
+
+digit_no_trail : (b : ℕ) → is_ascii_digit b ≡ true → (is_in_range 0x40 0x7E b ≡ false) × (is_in_range 0x80 0xFE b ≡ false)
+digit_no_trail b is = (grind (arith, nat_tests), grind (arith, nat_tests))
+
+trail_not_digit : (index : List ℕ) (lead trail c : ℕ) → gb18030_scalars index lead trail ≡ c ∷ [] → is_ascii_digit trail ≡ false
+trail_not_digit index lead trail c e = go (is_ascii_digit trail) refl
+  where
+    go : (t : Bool) → is_ascii_digit trail ≡ t → t ≡ false
+    go false is = refl
+    go true is =
+        let none = digit_no_trail trail is in
+        let nothing : gb18030_scalars index lead trail ≡ [] = rw (none.0, none.1) refl in
+        cc
+
+pair_below : (index : List ℕ) (lead trail c : ℕ) → IsNarrowIndex index → gb18030_scalars index lead trail ≡ c ∷ [] → c < 0x1_0000
+pair_below index lead trail c narrow e = go (is_in_range 0x40 0x7E trail) (is_in_range 0x80 0xFE trail) e
+  where
+    go : (low high : Bool) →
+        cond low (option_to_list (idx index ((lead - 0x81) * 190 + (trail - 0x40)))) (cond high (option_to_list (idx index ((lead - 0x81) * 190 + (trail - 0x41)))) []) ≡ c ∷ [] → c < 0x1_0000
+    go true high e = idx_below index _ c narrow e
+    go false true e = idx_below index _ c narrow e
+    go false false e = cc
+
+module _ (tables : AcceptedIndexes) where
+  abbrev g : Grammar
+  g = gb18030 tables.flat.gb18030 tables.flat.ranges
+
+  -- a digit to be written is what does not rest
+  pub rests-held : (held : Held) → rests (gb18030 tables.flat.gb18030 tables.flat.ranges) (held_bytes held) ≡ is_resting held
+  rests-held Nothing = refl
+  rests-held (First first) = rw (of_lead first).1 refl
+  rests-held (Second first second) = rw (of_lead first).1 refl
+  rests-held (Third first second third) = rw (of_lead first).1 refl
+  rests-held (Digit digit) = rw (of_digit digit).0 refl
+  rests-held (DigitLead digit lead) = rw (of_digit digit).0 refl
+
+  shown : IsShown (gb18030 tables.flat.gb18030 tables.flat.ranges) (gb18030_machine tables.flat.gb18030 tables.flat.ranges)
+  shown = gb18030_shown tables.flat.gb18030 tables.flat.ranges
+
+  pub covered : (held : Held) → IsCovered (state_of g (held_bytes held))
+  covered held = moves.covered shown (held_bytes held) (may held) (are_bytes held)
+
+  pub feeds : (held : Held) (b : ℕ) → IsByte b → rests g (held_bytes held) ≡ true → (fed : Fed) (kept : List ℕ) →
+      Took (gb18030_step tables.flat.gb18030 tables.flat.ranges (held_bytes held) b) (held_bytes held) b fed kept → Feeds (state_of g (held_bytes held)) b (state_of g kept) fed
+  feeds held b byte r fed kept took = moves.feeds shown (held_bytes held) (may held) (are_bytes held) b byte r fed kept took
+
+  -- a digit that is held back, with what stands behind it
+  pub releases-digit : (digit : HeldDigit) → Releases (state_of g (held_bytes (Digit digit))) (state_of g []) digit.byte
+  releases-digit digit =
+      moves.releases shown (held_bytes (Digit digit)) (may (Digit digit)) (are_bytes (Digit digit))
+      1 digit.byte (rests-held (Digit digit)) (rw (of_digit digit).0 refl) (of_digit digit).3
+
+  pub releases-digit_lead : (digit : HeldDigit) (lead : Lead) → Releases (state_of g (held_bytes (DigitLead digit lead))) (state_of g (held_bytes (First lead))) digit.byte
+  releases-digit_lead digit lead =
+      moves.releases shown (held_bytes (DigitLead digit lead)) (may (DigitLead digit lead)) (are_bytes (DigitLead digit lead))
+      1 digit.byte (rests-held (DigitLead digit lead)) (rw (of_digit digit).0 refl) (of_digit digit).3
+
+  pub reports : (held : Held) → rests g (held_bytes held) ≡ true → held_bytes held ≢ [] → Reports (state_of g (held_bytes held)) (state_of g []) (length (held_bytes held)) 0
+  reports held r some = moves.reports_all shown (held_bytes held) (may held) (are_bytes held) r some
+
+  -- there is something to report exactly where something is held back
+  pub events-none : events_of (gb18030 tables.flat.gb18030 tables.flat.ranges) [] ≡ []
+  events-none = moves.ends_none shown [] refl (All-nil IsByte) refl refl
+
+  some_rest : (held : Held) → is_resting held ≡ true → held_bytes held ≢ [] → events_of g (held_bytes held) ≢ []
+  some_rest held r n = moves.ends_some shown (held_bytes held) (may held) (are_bytes held) (rests-held held ∙ r) n
+
+  some_pending : (held : Held) (c : ℕ) → gb18030_pending (held_bytes held) ≡ Some (1, c) → events_of g (held_bytes held) ≢ []
+  some_pending held c p e =
+      let w = (gb18030_meets tables.flat.gb18030 tables.flat.ranges).writes (held_bytes held) (may held) in
+      let w' = rw p at w in
+      let first = w'.1.goes_on [] in
+      let all = ap (events_of g) (append-nil (held_bytes held)) in
+      cc
+
+  pub events-some : (held : Held) → (held ≡ Nothing → ⊥) → events_of (gb18030 tables.flat.gb18030 tables.flat.ranges) (held_bytes held) ≢ []
+  events-some Nothing n = absurd (n refl)
+  events-some (First first) n = some_rest (First first) refl (λ e. cc)
+  events-some (Second first second) n = some_rest (Second first second) refl (λ e. cc)
+  events-some (Third first second third) n = some_rest (Third first second third) refl (λ e. cc)
+  events-some (Digit digit) n = some_pending (Digit digit) digit.byte (rw (of_digit digit).0 refl)
+  events-some (DigitLead digit lead) n = some_pending (DigitLead digit lead) digit.byte (rw (of_digit digit).0 refl)
+
+  pub events-empty : (held : Held) → length (held_bytes held) ≡ 0 → events_of (gb18030 tables.flat.gb18030 tables.flat.ranges) (held_bytes held) ≡ []
+  events-empty Nothing e = events-none
+  events-empty (First first) e = absurd (omega arith)
+  events-empty (Second first second) e = absurd (omega arith)
+  events-empty (Third first second third) e = absurd (omega arith)
+  events-empty (Digit digit) e = absurd (omega arith)
+  events-empty (DigitLead digit lead) e = absurd (omega arith)
+
+  -- ---- runs
+
+  pub ascii : HasAscii g
+  ascii = has_ascii shown (λ b. refl) (λ b h. let a = ascii_is b h in rw a refl)
+
+  -- a pair that gives one scalar
+  pub pair : (lead trail c : ℕ) → IsByte lead → IsByte trail → IsScalar c → is_gb18030_lead lead ≡ true → gb18030_scalars tables.flat.gb18030 lead trail ≡ c ∷ [] →
+      (c < 0x1_0000) × Runs g (lead ∷ trail ∷ []) (c ∷ [])
+  pair lead trail c byte byte' scalar is e =
+      let other = lead_other lead is in
+      let trail_other = trail_not_digit tables.flat.gb18030 lead trail c e in (
+        pair_below tables.flat.gb18030 lead trail c (gb18030-below tables.flat tables.accepted) e,
+        pair_runs shown lead trail c byte byte' scalar (rw is refl) (rw other.2 refl) refl refl
+            (rw (other.0, other.1, is) refl) (rw (trail_other, e) refl),
+      )
+
+  -- four bytes that give a scalar
+  pub four : (a b c d x : ℕ) → 0x81 ≤ a → a ≤ 0xFE → 0x30 ≤ b → b ≤ 0x39 → 0x81 ≤ c → c ≤ 0xFE → 0x30 ≤ d → d ≤ 0x39 → Some x ≡ range tables.flat.ranges (gb18030_range_pointer a b c d) → Runs g (a ∷ b ∷ c ∷ d ∷ []) (x ∷ [])
+  four a b c d x a_low a_high b_low b_high c_low c_high d_low d_high e =
+      let first = lead_is a a_low a_high in
+      let second = digit_is b b_low b_high in
+      let third = lead_is c c_low c_high in
+      let fourth = digit_is d d_low d_high in
+      let other = lead_other a first.0 in
+      let scalar : IsScalar x = range-scalar tables.flat tables.accepted (gb18030_range_pointer a b c d) x (sym e) in
+      four_runs shown a b c d x first.2 second.2 third.2 fourth.2 scalar
+      (rw first.0 refl) (rw (first.0, second.0) refl) (rw (first.0, second.0, third.0) refl) (rw first.1 refl) (rw first.1 refl) (rw first.1 refl) (λ held byte. refl)
+      (rw (other.0, other.1, first.0) refl) (rw second.0 refl) (rw third.0 refl) (rw (fourth.0, ← e) refl)
+
+  -- what such bytes' pointer gives
+  pub four_if : (a b c d p : ℕ) → 0x81 ≤ a → a ≤ 0xFE → 0x30 ≤ b → b ≤ 0x39 → 0x81 ≤ c → c ≤ 0xFE → 0x30 ≤ d → d ≤ 0x39 → p ≡ gb18030_range_pointer a b c d → (found : Option ℕ) → found ≡ range tables.flat.ranges p →
+      IfSome found (λ x. Runs g (a ∷ b ∷ c ∷ d ∷ []) (x ∷ []))
+  four_if a b c d p a_low a_high b_low b_high c_low c_high d_low d_high is None e = tt
+  four_if a b c d p a_low a_high b_low b_high c_low c_high d_low d_high is (Some x) e = four a b c d x a_low a_high b_low b_high c_low c_high d_low d_high (e ∙ ap (range tables.flat.ranges) is)

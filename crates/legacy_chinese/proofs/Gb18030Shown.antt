@@ -1,0 +1,69 @@
+-- What is shown of GB18030.
+use Rattle.std.proofs.Common.{◌≡◌, ℕ, ◌+◌, ◌<◌, ◌≤◌, List, [], ◌∷◌, length, Bool, true, false, cond, Some, None, refl, inl, arith}
+use Rattle.std.proofs.lemmas.Bool.Decides.{nat_tests}
+use Rattle.std.specs.Char.{is_ascii, is_ascii_digit}
+use Rattle.legacy_base.specs.Unicode.{IsByte, AreBytes}
+use Rattle.legacy_base.specs.Grammar.{gb18030}
+use Rattle.legacy_base.specs.States.{DecoderState, gb18030_may_hold, rests}
+use Rattle.legacy_base.specs.Acts.{act_room, takes}
+use Rattle.legacy_base.specs.Lengths.{to_utf16, room}
+use Rattle.legacy_decoder_engine.specs.Costs.{utf8_count, utf16_count, IsWidth, state_of, Cost, WritePays}
+use Rattle.legacy_chinese.specs.Gb18030Machine.{gb18030_machine, gb18030_pending}
+use Rattle.legacy_decoder_engine.proofs.Widths.{width_utf8, width_utf16}
+use Rattle.legacy_decoder_engine.specs.Shown.{IsShown, WriteSettles}
+use Rattle.legacy_decoder_engine.proofs.CallUnderWay.{same_rooms}
+use Rattle.legacy_decoder_engine.proofs.RoomMoves.{first_room, held_room_is, HasCosts, IsSloped, sloped_rooms}
+use Rattle.legacy_chinese.proofs.Gb18030Meets.{gb18030_meets}
+use Rattle.legacy_chinese.proofs.Gb18030Costs.{gb18030_first_cost, gb18030_held_cost}
+use Rattle.legacy_chinese.proofs.Gb18030Settles.{gb18030_settles, gb18030_write}
+use Rattle.legacy_decoder_engine.proofs.SettledSteps.{write_test}
+
+digit_below : (b : ℕ) → is_ascii_digit b ≡ true → b < 0x80
+digit_below b h = grind (arith, nat_tests)
+
+module _ (index : List ℕ) (ranges : List (ℕ × ℕ)) where
+  costs : HasCosts (gb18030 index ranges) (gb18030_machine index ranges) length 6
+  costs = record { to_is = λ held b. refl; cost = cost }
+    where
+      cost : (len : ℕ → ℕ) (narrow wide : ℕ) → IsWidth len narrow wide → (held : List ℕ) (b : ℕ) → gb18030_may_hold held ≡ true → rests (gb18030 index ranges) held ≡ true → AreBytes held → IsByte b →
+          Cost len narrow (act_room narrow wide (state_of (gb18030 index ranges) held) (takes b)) length 6 held b ((gb18030_machine index ranges).step held b)
+      cost len narrow wide w [] b h r bytes byte = rw (first_room (is_ascii b) 1 wide) (gb18030_first_cost len narrow wide w b)
+      cost len narrow wide w (a ∷ held) b h r bytes byte = rw (held_room_is (is_ascii b) true 1 wide) (gb18030_held_cost len narrow wide w index ranges a held b h)
+
+  -- a digit that is written
+  digit_pays : (len : ℕ → ℕ) (narrow wide : ℕ) → IsWidth len narrow wide → (room : DecoderState → ℕ → ℕ) → ((b : ℕ) (held : List ℕ) (n : ℕ) → room (state_of (gb18030 index ranges) held) n + 1 ≤ room (state_of (gb18030 index ranges) (b ∷ held)) n) →
+      (held : List ℕ) → WritePays len narrow wide room (gb18030 index ranges) held (gb18030_pending held)
+  digit_pays len narrow wide w room falls [] = tt
+  digit_pays len narrow wide w room falls (b ∷ held) = go (is_ascii_digit b) refl
+    where
+      go : (t : Bool) → is_ascii_digit b ≡ t → WritePays len narrow wide room (gb18030 index ranges) (b ∷ held) (cond t (Some (1, b)) None)
+      go true d = let e : len b ≡ 1 = w.ascii b (digit_below b d) in (w.every b, λ n. let f = falls b held n in omega arith)
+      go false d = tt
+
+  sloped : IsSloped (gb18030 index ranges) (gb18030_machine index ranges) length 6
+  sloped = record {
+    heavy = λ b held h. omega arith;
+    falls = elim [ to_utf16 ↦ λ held held' n n' u h. omega arith | _ ↦ λ held held' n n' u h. omega arith ];
+    writes = elim [
+      | to_utf16 ↦ λ held h r bytes. digit_pays utf16_count 1 2 width_utf16 (room to_utf16) (λ b held n. omega arith) held
+      | query ↦ λ held h r bytes. digit_pays utf8_count 3 4 width_utf8 (room query) (λ b held n. omega arith) held
+    ];
+    reads = elim [ to_utf16 ↦ λ held. omega arith | _ ↦ λ held. omega arith ];
+    holds = elim [ to_utf16 ↦ λ b held h. omega arith | _ ↦ λ b held h. omega arith ];
+  }
+
+  write_settles : (held : List ℕ) → gb18030_may_hold held ≡ true → WriteSettles (gb18030 index ranges) held (gb18030_pending held)
+  write_settles [] h = tt
+  write_settles (b ∷ held) h = write_test (gb18030 index ranges) (b ∷ held) (is_ascii_digit b) (Some (1, b)) None (λ d. gb18030_write index ranges b held h d) (λ d. tt)
+
+  pub gb18030_shown : IsShown (gb18030 index ranges) (gb18030_machine index ranges)
+  gb18030_shown = record {
+    meets = gb18030_meets index ranges;
+    rooms = λ query. sloped_rooms (gb18030 index ranges) (gb18030_machine index ranges) length 6 (gb18030_meets index ranges) costs sloped query;
+    settles = λ held b h r. gb18030_settles index ranges held b h r;
+    write_settles = write_settles;
+    same_rooms = λ held b. same_rooms (gb18030 index ranges);
+    same_marks = λ held b. refl;
+    ascii_first = λ s b a. rw a refl;
+    swallows = inl refl;
+  }

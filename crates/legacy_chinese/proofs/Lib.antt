@@ -1,0 +1,8 @@
+-- How each decoder takes the steps of its machine, and each machine keeps to its grammar.
+pub mod Gb18030Meets
+pub mod Gb18030Costs
+pub mod Gb18030Settles
+pub mod Gb18030Shown
+pub mod Gb18030Held
+pub mod FourPlaces
+pub mod Gb18030Places

@@ -1,0 +1,13 @@
+use Rattle.std.proofs.Common.{◌≡◌, ◌-◌, length}
+use Rattle.legacy_decoder_engine.specs.Ahead.{ReadsAhead}
+use Rattle.legacy_chinese.specs.Gb18030Decoder.{gb18030_state}
+use Rattle.legacy_chinese.proofs.gb18030.fours.read_forms.Given as goal
+
+-- what was read was written
+abbrev pub invariant-loop-at : goal.invariant-loop-at
+invariant-loop-at g l =
+    let T = g.T.Destination in
+    ReadsAhead T.form (gb18030_state l.decoder) l.src l.at (T.contents l.fn.dst) (T.contents l.dst) (T.room l.fn.dst) (T.room l.dst) × (T.loan l.dst ≡ T.loan l.fn.dst)
+
+abbrev pub decreases-loop-at : goal.decreases-loop-at
+decreases-loop-at g l = length l.src - l.at

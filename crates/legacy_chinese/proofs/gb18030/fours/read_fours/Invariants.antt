@@ -1,0 +1,17 @@
+use Rattle.std.proofs.Common.{◌≡◌, ◌+◌, ◌*◌, ◌%◌, ◌≤◌, length, take}
+use Rattle.legacy_decoder_engine.specs.Ahead.{Writes}
+use Rattle.legacy_chinese.specs.Gb18030Decoder.{gb18030_state}
+use Rattle.legacy_chinese.proofs.gb18030.fours.read_fours.Given as goal
+
+-- what was read was written, and the turns that are left fit
+abbrev pub invariant-loop-left : goal.invariant-loop-left
+invariant-loop-left g l =
+    let T = g.T.Destination in
+    (l.at + (16 * l.left + 4 * (l.turns % 4)) ≤ length l.src)
+    × (16 * l.left + 4 * (l.turns % 4) + 3 ≤ T.room l.dst)
+    × Writes T.form ((gb18030_state l.decoder).grammar) (take l.at l.src) (T.contents l.fn.dst) (T.contents l.dst)
+    × (T.room l.dst + length (T.contents l.dst) ≡ T.room l.fn.dst + length (T.contents l.fn.dst))
+    × (T.loan l.dst ≡ T.loan l.fn.dst)
+
+abbrev pub decreases-loop-left : goal.decreases-loop-left
+decreases-loop-left g l = l.left

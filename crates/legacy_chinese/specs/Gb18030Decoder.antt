@@ -1,0 +1,12 @@
+-- What the GB18030 decoder is between two calls.
+use Rattle.legacy_base.specs.Grammar.{gb18030}
+use Rattle.legacy_base.specs.States.{DecoderState}
+use Rattle.legacy_chinese.specs.declared.gb18030.decoder.Gb18030Decoder.{Gb18030Decoder}
+use Rattle.legacy_chinese.specs.Gb18030Held.{held_bytes}
+
+-- the state that its calls speak of
+abbrev pub gb18030_state : Gb18030Decoder → DecoderState
+gb18030_state decoder = record {
+  grammar = gb18030 decoder.tables.now.flat.gb18030 decoder.tables.now.flat.ranges;
+  held = held_bytes decoder.held;
+}

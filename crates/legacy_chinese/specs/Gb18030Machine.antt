@@ -1,0 +1,38 @@
+-- The machine of the gb18030 decoder, byte by byte.
+use Rattle.std.specs.Prelude.{ℕ, ◌-◌, List, [], ◌∷◌, Option, Some, None, ◌==◌, if◌then◌else◌, option_to_list}
+use Rattle.std.specs.Char.{is_ascii, is_ascii_digit}
+use Rattle.legacy_base.specs.Fronts.{reads, malformed, reads_or}
+use Rattle.legacy_base.specs.Indexes.{range}
+use Rattle.legacy_base.specs.Gb18030.{is_gb18030_lead, gb18030_scalars, gb18030_range_pointer}
+use Rattle.legacy_base.specs.Grammar.{gb18030}
+use Rattle.legacy_decoder_engine.specs.Steps.{Step, hold, finish, leave, Machine, trail_step}
+
+-- a digit of a broken form
+abbrev pub gb18030_pending : List ℕ → Option (ℕ × ℕ)
+gb18030_pending [] = None
+gb18030_pending (b ∷ held) = if is_ascii_digit b then Some (1, b) else None
+
+abbrev pub gb18030_first : ℕ → Step
+gb18030_first b =
+    if is_ascii b then finish (reads 1 (b ∷ []))
+    else if b == 0x80 then finish (reads 1 (0x20AC ∷ []))
+    else if is_gb18030_lead b then hold
+    else finish (malformed 1)
+
+abbrev pub gb18030_step : List ℕ → List (ℕ × ℕ) → List ℕ → ℕ → Step
+gb18030_step index ranges [] b = gb18030_first b
+gb18030_step index ranges (first ∷ []) b =
+    if is_ascii_digit b then hold else trail_step 1 (gb18030_scalars index first b) b
+gb18030_step index ranges (first ∷ second ∷ []) b =
+    if is_gb18030_lead b then hold else leave 1
+gb18030_step index ranges (first ∷ second ∷ third ∷ held) b =
+    if is_ascii_digit b
+    then finish (reads_or 4 (option_to_list (range ranges (gb18030_range_pointer first second third b))) (malformed 4))
+    else leave 1
+
+abbrev pub gb18030_machine : List ℕ → List (ℕ × ℕ) → Machine
+gb18030_machine index ranges = record {
+  pending = gb18030_pending;
+  step = gb18030_step index ranges;
+  to = λ held b. gb18030 index ranges;
+}

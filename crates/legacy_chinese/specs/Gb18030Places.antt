@@ -1,0 +1,10 @@
+-- The places of trails in the rows of index gb18030.
+use Rattle.std.specs.Prelude.{ℕ, ◌-◌, if◌then◌else◌}
+use Rattle.std.specs.Int.{is_in_range}
+
+-- the place of a trail in its row, or a number past the end of the index
+unfoldable pub gb18030_trail_place : ℕ → ℕ
+gb18030_trail_place trail =
+    if is_in_range 0x40 0x7E trail then trail - 0x40
+    else if is_in_range 0x80 0xFE trail then trail - 0x41
+    else 65535

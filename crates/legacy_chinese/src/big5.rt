@@ -1,0 +1,2 @@
+//! Big5.
+pub mod decoder;

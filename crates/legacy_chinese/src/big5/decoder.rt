@@ -1,0 +1,128 @@
+//! The decoder of Big5.
+ghost use Rattle.std.specs.Prelude.{◌≡◌, ℕ, [], ◌∷◌};
+ghost use Rattle.legacy_base.specs.Big5.{big5_pointer, big5_scalars};
+ghost use Rattle.legacy_base.specs.Grammar.{big5};
+ghost use Rattle.legacy_base.specs.States.{is_lead};
+ghost use Rattle.legacy_decoder_engine.specs.Steps.{trail_step};
+ghost use Rattle.legacy_decoder_engine.specs.LeadMachines.{lead_first};
+ghost use Rattle.legacy_chinese.specs.Big5Machine.{big5_pair_scalars};
+ghost use Rattle.legacy_decoder_engine.specs.Feeding.{Took};
+ghost use Rattle.legacy_chinese.specs.Big5Shown.{big5_codec};
+ghost use Rattle.legacy_decoder_engine.proofs.TwoByteMeets.{is_lead-in};
+
+use legacy_decoder_engine::held::Lead;
+use legacy_decoder_engine::lead::{LeadCodec, LeadDecoder};
+use legacy_decoder_engine::two_byte::{read_first, read_trail};
+use legacy_base::{IndexName, Tables};
+use legacy_decoder_engine::ahead::Front;
+use legacy_decoder_engine::machine::{Fed, Room};
+
+/// The codec of Big5.
+pub struct Big5;
+
+/// The decoder of Big5 (Encoding Standard, "Big5 decoder").
+///
+/// ASCII bytes are themselves. A lead from 81 to FE and a trail from 40 to 7E or from A1 to FE give the
+/// scalar of their pointer in index Big5; the pointers 1133, 1135, 1164 and 1166 give a letter and a
+/// combining mark. Malformed are the bytes 80 and FF where a form begins, a lead at the end of the
+/// input, and a lead with a byte that gives no scalar with it: both of them, or where that byte is ASCII
+/// the lead alone, and the byte is read again.
+pub type Big5Decoder<'a> = LeadDecoder<'a, Big5>;
+
+/// The pointer of a lead and a trail, or `None` where the second byte is no trail.
+#[inline]
+fn pair_pointer(lead: Lead, trail: u8) -> Option<usize>
+    ensures { result ≡ big5_pointer lead.byte trail }
+{
+    // Chosen without a branch: which range a trail is from follows no pattern. Both its ends are one test.
+    let offset = if trail < 0x7F { 0x40 } else { 0x62 };
+    let column = trail.wrapping_sub(offset);
+    if column >= 157 || (trail > 0x7E && trail < 0xA1) {
+        return None;
+    }
+    Some(usize::from(lead.byte - 0x81) * 157 + usize::from(column))
+}
+
+/// Reads a trail behind its lead, which have this pointer: four pointers give a letter and a combining
+/// mark, and the others their entry.
+#[inline]
+fn read_pointer(tables: &Tables<'_>, pointer: usize, trail: u8) -> Fed
+    ensures { (lead : ℕ) → Took (trail_step 1 (big5_scalars tables.now.flat.big5 pointer) trail) (lead ∷ []) trail result [] }
+{
+    match pointer {
+        1133 => Fed::Two('\u{CA}', '\u{304}'),
+        1135 => Fed::Two('\u{CA}', '\u{30C}'),
+        1164 => Fed::Two('\u{EA}', '\u{304}'),
+        1166 => Fed::Two('\u{EA}', '\u{30C}'),
+        _ => read_trail(tables.idx(IndexName::Big5, pointer), trail),
+    }
+}
+
+/// Reads the byte behind a lead.
+#[inline]
+fn pair(tables: &Tables<'_>, lead: Lead, trail: u8) -> Fed
+    ensures { Took (trail_step 1 (big5_pair_scalars tables.now.flat.big5 lead.byte trail) trail) (lead.byte ∷ []) trail result [] }
+{
+    match pair_pointer(lead, trail) {
+        Some(pointer) => read_pointer(tables, pointer, trail),
+        None => read_trail(None, trail),
+    }
+}
+
+impl LeadCodec for Big5 {
+    type Lead = Lead;
+
+    ghost grammar = { λ flat. big5 flat.big5 };
+
+    ghost is_lead = { is_lead };
+
+    ghost byte_of = { λ lead. lead.byte };
+
+    ghost first = { lead_first };
+
+    ghost scalars = { λ flat. big5_pair_scalars flat.big5 };
+
+    ghost codec = { big5_codec };
+
+    ghost leads = { λ lead. is_lead-in lead.byte lead.low lead.high };
+
+    #[inline]
+    fn read_first(byte: u8) -> (Fed, Option<Lead>) {
+        read_first(byte)
+    }
+
+    #[inline]
+    fn read_pair(tables: &Tables<'_>, lead: Lead, trail: u8) -> Fed {
+        pair(tables, lead, trail)
+    }
+
+    #[inline]
+    fn front(tables: &Tables<'_>, lead: u8, trail: u8) -> Front {
+        let Some(lead) = Lead::new(lead) else {
+            return Front::Other;
+        };
+        match pair(tables, lead, trail) {
+            Fed::One(scalar) if scalar <= '\u{FFFF}' => Front::Pair(scalar),
+            _ => Front::Other,
+        }
+    }
+
+    #[inline]
+    fn room() -> Room {
+        Room::Wide
+    }
+
+    fn utf16_length(byte_length: usize, held: usize) -> Option<usize> {
+        byte_length.checked_add(held)?.checked_add(1)
+    }
+
+    fn utf8_length_without_replacement(byte_length: usize, held: usize) -> Option<usize> {
+        let twice = byte_length.checked_add(held)?.checked_mul(2)?;
+        twice.checked_add(2)
+    }
+
+    fn utf8_length(byte_length: usize, held: usize) -> Option<usize> {
+        let thrice = byte_length.checked_add(held)?.checked_mul(3)?;
+        thrice.checked_add(3)
+    }
+}

@@ -1,0 +1,9 @@
+//! The legacy multi-byte Chinese encodings (Encoding Standard, sections "Legacy multi-byte Chinese
+//! (simplified) encodings" and "(traditional)"): gb18030, GBK too, and Big5.
+#![tactic(auto)]
+
+mod big5;
+mod gb18030;
+
+pub use big5::decoder::{Big5, Big5Decoder};
+pub use gb18030::decoder::Gb18030Decoder;

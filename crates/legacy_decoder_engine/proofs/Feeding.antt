@@ -1,0 +1,340 @@
+-- The moves of a machine that meets its grammar and keeps its rooms are the moves that the loop asks for.
+use Rattle.std.proofs.Common.{◌≡◌, ◌≢◌, ◌∙◌, ℕ, suc, zero-add, add-zero, ◌+◌, ◌-◌, ◌≤◌, List, [], ◌∷◌, ◌++◌, length, drop, refl, sym, ap, subst, arith, append-nil, length-append, length-drop, drop_of_length-le, Bool, true, false, not, ◌&&◌, ◌||◌, IsTrue, Some, None, inl, inr, All}
+use Rattle.std.proofs.lemmas.List.{drop-append-le}
+use Rattle.std.proofs.lemmas.List.Elements.{All-nil, All-cons}
+use Rattle.std.proofs.lemmas.Bool.{false≢true}
+use Rattle.std.specs.Char.{IsScalar, is_ascii}
+use Rattle.legacy_base.specs.EncodingForm.{EncodingForm, Utf8, Utf16, code_units, unit_count, all_code_units, total_unit_count, bmp_room, wide_room}
+use Rattle.legacy_base.specs.Unicode.{IsByte, AreBytes}
+use Rattle.legacy_base.specs.Fronts.{reads, malformed}
+use Rattle.legacy_base.specs.Grammar.{Grammar, events_of}
+use Rattle.legacy_base.specs.States.{DecoderState, rests, may_hold}
+use Rattle.legacy_base.specs.Acts.{has_short_ascii, has_reported, has_marks, is_mark_behind, full_room, release_room, HadRoom}
+use Rattle.legacy_base.specs.Lengths.{LengthQuery, to_utf16, to_utf8, query_form, replacement_units, room}
+use Rattle.legacy_decoder_engine.specs.declared.machine.Fed.{Fed}
+use Rattle.legacy_decoder_engine.specs.declared.machine.Fed.TheVariants.{Nothing, One, Two, Fault}
+use Rattle.legacy_decoder_engine.specs.Moves.{IsCovered, read_room, fed_scalars, fed_fault, fed_units, unread_byte, FedHolds, IsFaulty, Feeds, Releases, Reports}
+use Rattle.legacy_decoder_engine.specs.Steps.{Step, hold, finish, leave, step_held, StepMeets, end_events, Machine}
+use Rattle.legacy_decoder_engine.specs.Costs.{state_of, units, step_units, step_left}
+use Rattle.legacy_decoder_engine.specs.Settling.{IsOneOrMarked, Settles}
+use Rattle.legacy_decoder_engine.specs.Feeding.{fed_form, fed_of, HasScalars, Took}
+use Rattle.legacy_base.proofs.Rooms.{release-full}
+use Rattle.legacy_base.proofs.GrammarLaws.{may_none, rests-none}
+use Rattle.legacy_decoder_engine.specs.Shown.{IsShown}
+use Rattle.legacy_decoder_engine.proofs.ShortRooms.{short_or_usual}
+
+-- ---- rooms of all three queries
+
+-- the units of scalars, counted one by one
+pub units-total : (form : EncodingForm) (cs : List ℕ) → units (unit_count form) cs ≡ total_unit_count form cs
+units-total form [] = refl
+units-total form (c ∷ cs) = let e = units-total form cs in omega (arith, length-append (code_units form c) (all_code_units form cs))
+
+-- an encoding form has a query
+query_of : EncodingForm → LengthQuery
+query_of Utf8 = to_utf8
+query_of Utf16 = to_utf16
+
+fits_form : (form : EncodingForm) {g : Grammar} {m : Machine} → IsShown g m → (held : List ℕ) (b : ℕ) → may_hold g held ≡ true → rests g held ≡ true → AreBytes held → IsByte b →
+    step_units (unit_count form) (bmp_room form) (m.step held b) ≤ read_room form (state_of g held) b
+fits_form Utf8 shown held b m r bytes byte = (shown.rooms to_utf8).step_fits held b m r bytes byte
+fits_form Utf16 shown held b m r bytes byte = (shown.rooms to_utf16).step_fits held b m r bytes byte
+
+writes_form : (form : EncodingForm) {g : Grammar} {m : Machine} → IsShown g m → (held : List ℕ) (n c : ℕ) → may_hold g held ≡ true → rests g held ≡ false → AreBytes held → m.pending held ≡ Some (n, c) →
+    unit_count form c ≤ release_room form g
+writes_form Utf8 shown held n c m r bytes e = let w = (shown.rooms to_utf8).write_pays held m r bytes in let w' = rw e at w in w'.0
+writes_form Utf16 shown held n c m r bytes e = let w = (shown.rooms to_utf16).write_pays held m r bytes in let w' = rw e at w in w'.0
+
+-- ---- what a step is
+
+-- a form gives no scalar, one, or a letter and its mark
+sound_form : (g : Grammar) (cs : List ℕ) → IsOneOrMarked (has_marks g) cs → (fed_scalars (fed_form cs) ≡ cs) × (fed_fault 0 (fed_form cs) ≡ []) × ((query : LengthQuery) → fed_units query (fed_form cs) ≡ 0) × ((byte : ℕ) → unread_byte byte (fed_form cs) ≡ [])
+sound_form g [] h = (refl, refl, λ q. refl, λ b. refl)
+sound_form g (c ∷ []) h = (refl, refl, λ q. refl, λ b. refl)
+sound_form g (c ∷ d ∷ []) h = (refl, refl, λ q. refl, λ b. refl)
+sound_form g (c ∷ d ∷ e ∷ cs) h = absurd h
+
+form_fault : (passed : ℕ) (cs : List ℕ) → fed_fault passed (fed_form cs) ≡ []
+form_fault passed [] = refl
+form_fault passed (c ∷ []) = refl
+form_fault passed (c ∷ d ∷ cs) = refl
+
+form_sound : (cs : List ℕ) → IsFaulty (fed_form cs) → ⊥
+form_sound [] f = f
+form_sound (c ∷ []) f = f
+form_sound (c ∷ d ∷ cs) f = f
+
+form_holds : (passed : ℕ) (after : DecoderState) (cs : List ℕ) → IsTrue (rests after.grammar after.held) → FedHolds passed after (fed_form cs)
+form_holds passed after [] h = h
+form_holds passed after (c ∷ []) h = h
+form_holds passed after (c ∷ d ∷ cs) h = h
+
+-- ---- the room that the scalars of a step had
+
+-- a scalar that is ASCII, where that is short, wants no more
+short_wants : (short marks mark : Bool) (want : ℕ) (free : ℕ) → short ≡ true → IsTrue (not (short || (marks && mark))) → want ≤ free
+short_wants true marks mark want free e w = absurd (false≢true w)
+short_wants false marks mark want free e w = absurd (false≢true e)
+
+mark_wants : (short : Bool) (both : Bool) (want free : ℕ) → both ≡ true → IsTrue (not (short || both)) → want ≤ free
+mark_wants true true want free e w = absurd (false≢true w)
+mark_wants false true want free e w = absurd (false≢true w)
+mark_wants short false want free e w = absurd (false≢true e)
+
+had_usual : (form : EncodingForm) (g : Grammar) (free : ℕ) (cs : List ℕ) → IsOneOrMarked (has_marks g) cs → full_room form g ≤ free → HadRoom form g None free cs
+unfolding HadRoom
+had_usual form g free [] h full = tt
+had_usual form g free (c ∷ []) h full = (λ w. full, tt)
+had_usual form g free (c ∷ d ∷ []) h full =
+    (λ w. full, (λ w. mark_wants (has_short_ascii g && is_ascii d) (has_marks g && is_mark_behind (Some c) d) (full_room form g) (free - unit_count form c) h w, tt))
+had_usual form g free (c ∷ d ∷ e ∷ cs) h full = absurd h
+
+had_short : (form : EncodingForm) (g : Grammar) (free b : ℕ) → (has_short_ascii g && is_ascii b) ≡ true → HadRoom form g None free (b ∷ [])
+unfolding HadRoom
+had_short form g free b h = (λ w. short_wants (has_short_ascii g && is_ascii b) (has_marks g) false (full_room form g) free h w, tt)
+
+has_scalars : (fed : Fed) → HasScalars fed → All IsScalar (fed_scalars fed)
+has_scalars Nothing h = All-nil IsScalar
+has_scalars (One c) h = All-cons IsScalar c [] h (All-nil IsScalar)
+has_scalars (Two c d) h = All-cons IsScalar c (d ∷ []) h.0 (All-cons IsScalar d [] h.1 (All-nil IsScalar))
+has_scalars (Fault sequence back unread) h = All-nil IsScalar
+
+reads_same : (m n : ℕ) (xs ys : List ℕ) → finish (reads m xs) ≡ finish (reads n ys) → xs ≡ ys
+reads_same m n xs ys e = cc
+
+all_dropped : (n : ℕ) (held : List ℕ) (b : ℕ) → n ≡ suc (length held) → drop n (held ++ b ∷ []) ≡ []
+all_dropped n held b e = drop_of_length-le (held ++ b ∷ []) (omega (arith, length-append held (b ∷ [])))
+
+module _ {g : Grammar} {m : Machine} (shown : IsShown g m) (held : List ℕ) (may : may_hold g held ≡ true) (bytes : AreBytes held) where
+  -- no next act needs more than the room of a query
+  pub covered : IsCovered (state_of g held)
+  covered = record { covers = λ query unread last. (shown.rooms query).needs held unread last may }
+
+  module _ (b : ℕ) (byte : IsByte b) (resting : rests g held ≡ true) where
+    to : Grammar
+    to = m.to held b
+
+    -- the step at the byte, with what is known of it
+    record Known (s : Step) : Type 0 where
+      pub is : m.step held b ≡ s
+      pub meets : StepMeets g held b s (m.to held b)
+      pub settles : Settles (m.to held b) held b s
+
+    known : Known (m.step held b)
+    known = record {
+      is = refl;
+      meets = shown.meets.steps held b may resting;
+      settles = shown.settles held b may resting;
+    }
+
+    fits_step : (form : EncodingForm) (s : Step) → m.step held b ≡ s → step_units (unit_count form) (bmp_room form) s ≤ read_room form (state_of g held) b
+    fits_step form s e = rw (← e) (fits_form form shown held b may resting bytes byte)
+
+    pays_step : (query : LengthQuery) (n : ℕ) (s : Step) → m.step held b ≡ s →
+        room query (state_of (m.to held b) (step_held s held b)) (n + step_left s) + step_units (unit_count (query_form query)) (replacement_units query) s ≤ room query (state_of g held) (n + 1)
+    pays_step query n s e = rw (← e) ((shown.rooms query).step_pays held b n may resting bytes byte)
+
+    -- a step that is no scalar of its own byte had the full room
+    usual_step : (form : EncodingForm) (s : Step) → m.step held b ≡ s → (s ≡ finish (reads 1 (b ∷ [])) → ⊥) → has_reported g ≡ false → full_room form g ≤ read_room form (state_of g held) b
+    usual_step form s e ne reported = elim (short_or_usual (bmp_room form) (wide_room form) g m shown held b reported) [
+      | inl h ↦ h
+      | inr h ↦ absurd (ne (sym e ∙ h.1))
+    ]
+
+    hold_feeds : Known hold → Feeds (state_of g held) b (state_of (m.to held b) (held ++ b ∷ [])) Nothing
+    unfolding HadRoom
+    hold_feeds k = record {
+      passed = 0;
+      progress = record {
+        counts = let c = k.meets.counts in omega arith;
+        rest = sym (append-nil (held ++ b ∷ []));
+        events = λ more l. k.meets.goes_on more;
+      };
+      holds = k.settles;
+      rooms = shown.same_rooms held b;
+      empties = λ n. absurd (n refl);
+      report = λ form. release-full form g;
+      full = λ form x. elim (shown.swallows) [
+        | inl r ↦ usual_step form hold (k.is) (λ z. cc) r
+        | inr r ↦ let z = sym (k.is) ∙ r held b in absurd (let y : hold ≡ finish (reads 1 []) → ⊥ = λ w. cc in y z)
+      ];
+      fits = λ form. omega arith;
+      had = λ form free l. tt;
+      scalar = λ i d l. absurd (omega arith);
+      lowers = λ query n. pays_step query n hold (k.is);
+    }
+
+    fault_feeds : (n : ℕ) → Known (finish (malformed n)) → Feeds (state_of g held) b (state_of (m.to held b) (drop n (held ++ b ∷ []))) (Fault n (length (drop n (held ++ b ∷ []))) false)
+    unfolding HadRoom
+    fault_feeds n k =
+        let zero_place : n - n ≡ 0 = omega arith in
+        record {
+          passed = n;
+          progress = record {
+            counts = let c = k.meets.counts in omega arith;
+            rest = sym (append-nil (drop n (held ++ b ∷ [])));
+            events = λ more l. rw zero_place (k.meets.goes_on more);
+          };
+          holds = record { some = k.meets.fault.0; few = k.meets.fault.1; near = k.meets.few; held = refl; within = omega arith };
+          rooms = shown.same_rooms held b;
+          empties = λ e. absurd (e refl);
+          report = λ form. release-full form g;
+          full = λ form x. elim (shown.swallows) [
+            | inl r ↦ usual_step form (finish (malformed n)) (k.is) (λ z. cc) r
+            | inr r ↦ let z = sym (k.is) ∙ r held b in absurd (let y : finish (malformed n) ≡ finish (reads 1 []) → ⊥ = λ w. cc in y z)
+          ];
+          fits = λ form. omega arith;
+          had = λ form free l. tt;
+          scalar = λ i d l. absurd (omega arith);
+          lowers = λ query m. rw (zero-add (replacement_units query)) (pays_step query m (finish (malformed n)) (k.is));
+        }
+
+    leave_feeds : (n : ℕ) → Known (leave n) → Feeds (state_of g held) b (state_of (m.to held b) (drop n held)) (Fault n (length (drop n held)) true)
+    unfolding HadRoom
+    leave_feeds n k =
+        let zero_place : n - n ≡ 0 = omega arith in
+        let c = k.meets.counts in
+        let within : n ≤ length held = omega (arith, length-drop n held) in
+        record {
+          passed = n;
+          progress = record {
+            counts = omega arith;
+            rest = drop-append-le n held (b ∷ []) within;
+            events = λ more l. rw zero_place (k.meets.goes_on more);
+          };
+          holds = record { some = k.meets.fault.0; few = k.meets.fault.1; near = k.meets.few; held = refl; within = omega arith };
+          rooms = shown.same_rooms held b;
+          empties = λ e. absurd (e refl);
+          report = λ form. release-full form g;
+          full = λ form x. elim (shown.swallows) [
+            | inl r ↦ usual_step form (leave n) (k.is) (λ z. cc) r
+            | inr r ↦ let z = sym (k.is) ∙ r held b in absurd (let y : leave n ≡ finish (reads 1 []) → ⊥ = λ w. cc in y z)
+          ];
+          fits = λ form. omega arith;
+          had = λ form free l. tt;
+          scalar = λ i d l. absurd (omega arith);
+          lowers = λ query m. rw (zero-add (replacement_units query)) (pays_step query m (leave n) (k.is));
+        }
+
+    -- the form was read, and all its scalars are scalars
+    scalars_are : (cs : List ℕ) → IsOneOrMarked (has_marks (m.to held b)) cs → fed_scalars (fed_form cs) ≡ cs
+    scalars_are cs one = (sound_form (m.to held b) cs one).0
+
+    marks_to : has_marks (m.to held b) ≡ has_marks g
+    marks_to = shown.same_marks held b
+
+    full_form : (n : ℕ) (cs : List ℕ) → Known (finish (reads n cs)) → (form : EncodingForm) → drop n (held ++ b ∷ []) ≢ [] → full_room form g ≤ read_room form (state_of g held) b
+    full_form n cs k form ne = absurd (ne (all_dropped n held b (k.settles.0)))
+
+    had_form : (form : EncodingForm) (free n : ℕ) (cs : List ℕ) → Known (finish (reads n cs)) → read_room form (state_of g held) b ≤ free → HadRoom form g None free cs
+    unfolding HadRoom
+    had_form form free n cs k le = elim (shown.swallows) [
+      | inr r ↦
+          let z = sym (k.is) ∙ r held b in
+          let e : cs ≡ [] = reads_same n 1 cs [] z in
+          rw e tt
+      | inl r ↦ elim (short_or_usual (bmp_room form) (wide_room form) g m shown held b r) [
+        | inl h ↦ had_usual form g free cs (subst (λ m. IsOneOrMarked m cs) marks_to (k.settles.1)) (let h' : full_room form g ≤ read_room form (state_of g held) b = h in omega arith)
+        | inr h ↦
+            let z = sym (k.is) ∙ h.1 in
+            let e : cs ≡ b ∷ [] = reads_same n 1 cs (b ∷ []) z in
+            rw e (had_short form g free b (h.0))
+      ]
+    ]
+
+    reads_feeds : (n : ℕ) (cs : List ℕ) → Known (finish (reads n cs)) → All IsScalar (fed_scalars (fed_form cs)) → Feeds (state_of g held) b (state_of (m.to held b) (drop n (held ++ b ∷ []))) (fed_form cs)
+    reads_feeds n cs k scalar =
+        let same = scalars_are cs (k.settles.1) in
+        let sound = sound_form (m.to held b) cs (k.settles.1) in
+        let nothing = all_dropped n held b (k.settles.0) in
+        record {
+          passed = n;
+          progress = rw (form_fault n cs, append-nil, same) (record {
+            counts = let c = k.meets.counts in rw (sound.3 b) (omega arith);
+            rest = rw (sound.3 b) (sym (append-nil (drop n (held ++ b ∷ []))));
+            events = λ more l. rw (sound.3 b) (k.meets.goes_on more);
+          });
+          holds = form_holds n (state_of (m.to held b) (drop n (held ++ b ∷ []))) cs (rw nothing (rests-none (m.to held b)));
+          rooms = shown.same_rooms held b;
+          empties = λ e. nothing;
+          report = λ form. release-full form g;
+          full = λ form x. elim x [
+            | inl f ↦ absurd (form_sound cs f)
+            | inr ne ↦ full_form n cs k form ne
+          ];
+          fits = λ form. rw (same, ← units-total form cs) (fits_step form (finish (reads n cs)) (k.is));
+          had = λ form free le. rw same (had_form form free n cs k le);
+          scalar = scalar;
+          lowers = λ query m.
+              let p = pays_step query m (finish (reads n cs)) (k.is) in
+              let p' = rw (units-total (query_form query) cs) at p in
+              rw (same, sound.2 query, sound.3 b, add-zero (total_unit_count (query_form query) cs)) p';
+        }
+
+    -- the step at the byte, whatever it is
+    step_feeds : (s : Step) → Known s → All IsScalar (fed_scalars (fed_of s held b)) → Feeds (state_of g held) b (state_of (m.to held b) (step_held s held b)) (fed_of s held b)
+    step_feeds hold k scalar = hold_feeds k
+    step_feeds (finish (reads n cs)) k scalar = reads_feeds n cs k scalar
+    step_feeds (finish (malformed n)) k scalar = fault_feeds n k
+    step_feeds (leave n) k scalar = leave_feeds n k
+
+    -- a decoder that took the step has made the move
+    pub feeds : (fed : Fed) (kept : List ℕ) → Took (m.step held b) held b fed kept → Feeds (state_of g held) b (state_of (m.to held b) kept) fed
+    feeds fed kept took =
+        let scalar : All IsScalar (fed_scalars fed) = has_scalars fed took.scalar in
+        let scalar' = rw (took.answer) at scalar in
+        rw (took.answer, took.holds) (step_feeds (m.step held b) known scalar')
+
+  -- a scalar that is held back is written
+  pub releases : (n c : ℕ) → rests g held ≡ false → m.pending held ≡ Some (n, c) → IsScalar c → Releases (state_of g held) (state_of g (drop n held)) c
+  releases n c r e scalar =
+      let w = shown.meets.writes held may in
+      let w' = (rw e at w).1 in
+      let s = shown.write_settles held may in
+      let s' = rw e at s in
+      record {
+        passed = n;
+        progress = record {
+          counts = let q = w'.counts in omega arith;
+          rest = rw append-nil (sym (append-nil (drop n held)));
+          events = λ more l. w'.goes_on more;
+        };
+        resting = s';
+        rooms = record { full = λ form. refl; report = λ form. refl; wants = λ p c'. refl };
+        fits = λ form. writes_form form shown held n c may r bytes e;
+        scalar = scalar;
+        lowers = λ query m. let p = (shown.rooms query).write_pays held may r bytes in let p' = rw e at p in p'.1 m;
+      }
+
+  -- at the end of input all that is held back is reported
+  pub reports_all : rests g held ≡ true → held ≢ [] → Reports (state_of g held) (state_of g []) (length held) 0
+  reports_all r some = by_held held may r some refl where
+    by_held : (l : List ℕ) → may_hold g l ≡ true → rests g l ≡ true → l ≢ [] → l ≡ held → Reports (state_of g l) (state_of g []) (length l) 0
+    by_held [] m r' n e = absurd (n refl)
+    by_held (x ∷ xs) m r' n e =
+        let few = shown.meets.few (x ∷ xs) m in
+        let zero_place : length (x ∷ xs) - length (x ∷ xs) ≡ 0 = omega arith in
+        let none : events_of g [] ≡ [] = shown.meets.ends [] (may_none g) (rests-none g) in
+        record {
+          passed = length (x ∷ xs);
+          holding = λ z. cc;
+          progress = record {
+            counts = omega arith;
+            rest = ap (drop (length (x ∷ xs))) (append-nil (x ∷ xs)) ∙ (let le : length (x ∷ xs) ≤ length (x ∷ xs) = omega arith in drop_of_length-le (x ∷ xs) le);
+            events = λ more l.
+                let z = l refl in
+                ap (λ q. events_of g ((x ∷ xs) ++ q)) z ∙ ap (events_of g) (append-nil (x ∷ xs)) ∙ shown.meets.ends (x ∷ xs) m r' ∙ rw (zero_place, z, none) refl;
+          };
+          holds = record { some = omega arith; few = omega arith; near = omega arith; held = refl; within = omega arith };
+          lowers = λ query. (shown.rooms query).report_pays x xs m r';
+        }
+
+  -- at the end of input there is something to report exactly where bytes are held back
+  pub ends_none : rests g held ≡ true → held ≡ [] → events_of g held ≡ []
+  ends_none r e = shown.meets.ends held may r ∙ rw e refl
+
+  pub ends_some : rests g held ≡ true → held ≢ [] → events_of g held ≢ []
+  ends_some r n e = by_held held n (sym (shown.meets.ends held may r) ∙ e) where
+    by_held : (l : List ℕ) → l ≢ [] → end_events l ≡ [] → ⊥
+    by_held [] n e = n refl
+    by_held (x ∷ xs) n e = cc

@@ -1,0 +1,101 @@
+-- From the front of a list to what one move of a decoder does, for every continuation.
+use Rattle.std.proofs.Common.{◌≡◌, ℕ, suc, ◌+◌, ◌<◌, ◌≤◌, List, [], ◌∷◌, ◌++◌, drop, length, Bool, true, false, cond, ◌-◌, refl, sym, ap, ◌∙◌, append_assoc, length-append, length-drop, drop_of_length-le, le_refl, arith}
+use Rattle.std.proofs.Math.Seq.{drop-length}
+use Rattle.std.specs.Char.{is_ascii}
+use Rattle.std.proofs.lemmas.List.{drop-append-le}
+use Rattle.legacy_base.specs.Events.{shift}
+use Rattle.legacy_base.specs.Fronts.{Front, reads, malformed, front_length, front_events, reads_or, trail_rule, cut}
+use Rattle.legacy_base.specs.Grammar.{Grammar, events_of}
+use Rattle.legacy_base.specs.States.{may_hold}
+use Rattle.legacy_decoder_engine.specs.Steps.{Step, hold, finish, leave, HasFaultLength, StepMeets, WriteMeets, end_events, trail_step}
+use Rattle.legacy_base.proofs.Shifts.{shift-zero}
+use Rattle.legacy_base.proofs.Cuts.{cut-nil, cut-front}
+
+-- the list begins with the front
+abbrev pub HasFront : (ℕ → List ℕ → Front) → List ℕ → Front → Type 0
+HasFront front [] f = ⊥
+HasFront front (b ∷ rest) f = front b rest ≡ f
+
+-- the front, and then what is behind it
+pub front_move : (front : ℕ → List ℕ → Front) (bytes behind : List ℕ) (f : Front) → HasFront front bytes f → 0 < front_length f → drop (front_length f) bytes ≡ behind →
+    cut front 0 0 bytes ≡ front_events 0 f ++ shift (front_length f) (cut front 0 0 behind)
+front_move front [] behind f h pos e = absurd h
+front_move front (b ∷ rest) behind f h pos e = rw (← e, ← h) (cut-front front b rest (rw h pos))
+
+-- what a codec shows of a step: its front is the same for every continuation
+abbrev pub Fits : (ℕ → List ℕ → Front) → (List ℕ → Bool) → List ℕ → ℕ → Step → Type 0
+Fits front may held b hold = (length held ≤ 2) × (may (held ++ b ∷ []) ≡ true)
+Fits front may held b (finish f) = ((more : List ℕ) → HasFront front (held ++ b ∷ more) f) × (0 < front_length f) × (front_length f ≤ suc (length held)) × (may (drop (front_length f) (held ++ b ∷ [])) ≡ true)
+Fits front may held b (leave n) = ((more : List ℕ) → HasFront front (held ++ b ∷ more) (malformed n)) × (0 < n) × (n ≤ length held) × (may (drop n held) ≡ true)
+
+-- a test decides what a step is
+pub fits_test : (front : ℕ → List ℕ → Front) (may : List ℕ → Bool) (held : List ℕ) (b : ℕ) (t : Bool) (s₁ s₂ : Step) →
+    (t ≡ true → Fits front may held b s₁) → (t ≡ false → Fits front may held b s₂) → Fits front may held b (cond t s₁ s₂)
+fits_test front may held b true s₁ s₂ f₁ f₂ = f₁ refl
+fits_test front may held b false s₁ s₂ f₁ f₂ = f₂ refl
+
+all_dropped : (xs : List ℕ) (x : ℕ) → drop (length xs + 1) (xs ++ x ∷ []) ≡ []
+all_dropped xs x = drop_of_length-le (xs ++ x ∷ []) (omega (arith, length-append xs (x ∷ [])))
+
+-- the trail rule
+pub fits_trail : (front : ℕ → List ℕ → Front) (may : List ℕ → Bool) (held : List ℕ) (scalars : List ℕ) (t : ℕ) → may [] ≡ true → 0 < length held →
+    ((more : List ℕ) → HasFront front (held ++ t ∷ more) (reads_or (length held + 1) scalars (trail_rule (length held) t))) →
+    Fits front may held t (trail_step (length held) scalars t)
+fits_trail front may held (c ∷ scalars) t empty pos h = (h, omega arith, omega arith, rw (all_dropped held t) empty)
+fits_trail front may held [] t empty pos h =
+    fits_test front may held t (is_ascii t) (leave (length held)) (finish (malformed (length held + 1)))
+    (λ e. (λ more. rw e at (h more), pos, le_refl (length held), rw drop-length empty))
+    (λ e. (λ more. rw e at (h more), omega arith, omega arith, rw (all_dropped held t) empty))
+
+fault_length : (f : Front) (n : ℕ) → n ≤ 3 → 0 < front_length f → front_length f ≤ suc n → HasFaultLength f
+fault_length (reads k cs) n le pos h = tt
+fault_length (malformed k) n le pos h = (pos, omega arith)
+
+module _ (g : Grammar) (front : ℕ → List ℕ → Front) (ev_is : (bytes : List ℕ) → events_of g bytes ≡ cut front 0 0 bytes) where
+  pub ev_front : (bytes behind : List ℕ) (f : Front) → HasFront front bytes f → 0 < front_length f → drop (front_length f) bytes ≡ behind →
+      events_of g bytes ≡ front_events 0 f ++ shift (front_length f) (events_of g behind)
+  ev_front bytes behind f h pos e = rw (ev_is bytes, ev_is behind) (front_move front bytes behind f h pos e)
+
+  pub fits_meets : (may : List ℕ → Bool) → ((held : List ℕ) → may_hold g held ≡ may held) → (held : List ℕ) (b : ℕ) (s : Step) → length held ≤ 3 → Fits front may held b s → StepMeets g held b s g
+  fits_meets may may_is held b hold few fits =
+      let l : length (held ++ b ∷ []) ≡ length held + 1 = length-append held (b ∷ []) in record {
+        goes_on = λ more. rw (append_assoc, shift-zero);
+        counts = omega arith;
+        fault = tt;
+        few = omega (arith, fits.0);
+        allowed = may_is _ ∙ fits.1;
+      }
+  fits_meets may may_is held b (finish f) few fits =
+      let l : length (held ++ b ∷ []) ≡ suc (length held) = omega (arith, length-append held (b ∷ [])) in
+      let within : front_length f ≤ length (held ++ b ∷ []) = rw l (fits.2) in
+      let d : length (drop (front_length f) (held ++ b ∷ [])) ≡ length (held ++ b ∷ []) - front_length f = length-drop (front_length f) (held ++ b ∷ []) in record {
+        goes_on = λ more. ev_front (held ++ b ∷ more) _ f (fits.0 more) (fits.1) (ap (drop (front_length f)) (sym (append_assoc held (b ∷ []) more)) ∙ drop-append-le (front_length f) (held ++ b ∷ []) more within);
+        counts = omega arith;
+        fault = fault_length f (length held) few (fits.1) (fits.2);
+        few = omega (arith, fits.1);
+        allowed = may_is _ ∙ fits.3;
+      }
+  fits_meets may may_is held b (leave n) few fits =
+      let d : length (drop n held) ≡ length held - n = length-drop n held in record {
+        goes_on = λ more. ev_front (held ++ b ∷ more) _ (malformed n) (fits.0 more) (fits.1) (drop-append-le n held (b ∷ more) (fits.2));
+        counts = omega (arith, fits.2);
+        fault = (fits.1, omega (arith, fits.2));
+        few = omega arith;
+        allowed = may_is _ ∙ fits.3;
+      }
+
+  -- a scalar that is held back, whatever comes
+  pub write_meets : (held : List ℕ) (n c : ℕ) → ((more : List ℕ) → HasFront front (held ++ more) (reads n (c ∷ []))) → 0 < n → n ≤ length held → may_hold g (drop n held) ≡ true → WriteMeets g held n c
+  write_meets held n c has pos le may =
+      let d : length (drop n held) ≡ length held - n = length-drop n held in record {
+        goes_on = λ more. ev_front (held ++ more) _ (reads n (c ∷ [])) (has more) pos (drop-append-le n held more le);
+        counts = omega arith;
+        some = pos;
+        allowed = may;
+      }
+
+  -- all that is held back is malformed at the end of input
+  pub end_meets : (b : ℕ) (held : List ℕ) → front b held ≡ malformed (length (b ∷ held)) → events_of g (b ∷ held) ≡ end_events (b ∷ held)
+  end_meets b held h =
+      let none : events_of g [] ≡ [] = ev_is [] ∙ cut-nil front in
+      ev_front (b ∷ held) [] (malformed (length (b ∷ held))) h (omega arith) (drop-length (b ∷ held)) ∙ rw none

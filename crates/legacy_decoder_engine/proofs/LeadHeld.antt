@@ -1,0 +1,93 @@
+-- The moves of the decoder of codecs with leads, by the lead that it holds back.
+use Rattle.std.proofs.Common.{◌≡◌, ◌≢◌, ◌∙◌, ℕ, List, [], ◌∷◌, Bool, Option, Some, None, is_some, ◌&&◌, true, false, cond, refl}
+use Rattle.std.proofs.lemmas.List.Elements.{All-nil, All-cons}
+use Rattle.std.specs.Char.{IsScalar, is_ascii}
+use Rattle.legacy_base.specs.Unicode.{IsByte, AreBytes}
+use Rattle.legacy_base.specs.AcceptedTables.{AcceptedIndexes}
+use Rattle.legacy_base.specs.Indexes.{FlatIndexes}
+use Rattle.legacy_base.specs.Grammar.{Grammar, events_of}
+use Rattle.legacy_base.specs.States.{may_hold, single_lead_may_hold, is_empty}
+use Rattle.legacy_decoder_engine.specs.declared.machine.Fed.{Fed}
+use Rattle.legacy_decoder_engine.specs.Steps.{Step, finish, leave, trail_step}
+use Rattle.legacy_decoder_engine.specs.Moves.{IsCovered, Feeds, Reports}
+use Rattle.legacy_decoder_engine.specs.LeadMachines.{two_byte_step, two_byte_machine}
+use Rattle.legacy_decoder_engine.specs.Shown.{IsShown}
+use Rattle.legacy_decoder_engine.specs.Feeding.{Took, fed_of}
+use Rattle.legacy_decoder_engine.specs.declared.machine.Fed.TheVariants.{One}
+use Rattle.legacy_base.specs.Fronts.{malformed}
+use Rattle.legacy_decoder_engine.specs.Ahead.{Runs, HasAscii}
+use Rattle.legacy_decoder_engine.specs.LeadCodecs.{IsLeadCodec, held_bytes, lead_state}
+use Rattle.legacy_decoder_engine.proofs.Feeding as feeding
+use Rattle.legacy_decoder_engine.proofs.RunForms.{has_ascii, pair_runs, ascii_is}
+
+-- a decoder is neutral where it holds nothing back
+pub neutral_empty : (bytes : List ℕ) → (is_empty bytes && true) ≡ true → bytes ≡ []
+neutral_empty [] e = refl
+neutral_empty (b ∷ bytes) e = cc
+
+module _ {L : Type 0} (grammar : FlatIndexes → Grammar) (is_lead_byte : ℕ → Bool) (first : ℕ → Step) (scalars : FlatIndexes → ℕ → ℕ → List ℕ) (is : IsLeadCodec grammar is_lead_byte first scalars)
+    (byte : L → ℕ) (leads : (lead : L) → is_lead_byte (byte lead) ≡ true) (tables : AcceptedIndexes) where
+  abbrev g : Grammar
+  g = grammar tables.flat
+
+  shown : IsShown (grammar tables.flat) (two_byte_machine (grammar tables.flat) first (scalars tables.flat))
+  shown = is.shown tables.flat tables.accepted
+
+  may : (held : Option L) → may_hold (grammar tables.flat) (held_bytes byte held) ≡ true
+  may held = is.may_is tables.flat (held_bytes byte held) ∙ by_held held
+    where
+      by_held : (held : Option L) → single_lead_may_hold is_lead_byte (held_bytes byte held) ≡ true
+      by_held None = refl
+      by_held (Some lead) = leads lead
+
+  are_bytes : (held : Option L) → AreBytes (held_bytes byte held)
+  are_bytes None = All-nil IsByte
+  are_bytes (Some lead) = All-cons IsByte (byte lead) [] (is.bytes (byte lead) (leads lead)) (All-nil IsByte)
+
+  none_held : (held : Option L) → is_some held ≡ false → held_bytes byte held ≡ []
+  none_held None e = refl
+  none_held (Some lead) e = cc
+
+  some_held : (held : Option L) → is_some held ≡ true → held_bytes byte held ≢ []
+  some_held None e = λ z. cc
+  some_held (Some lead) e = λ z. cc
+
+  pub covered : (held : Option L) → IsCovered (lead_state grammar byte tables held)
+  covered held = feeding.covered shown (held_bytes byte held) (may held) (are_bytes held)
+
+  pub feeds : (held : Option L) (b : ℕ) → IsByte b → (fed : Fed) (kept : Option L) → Took (two_byte_step first (scalars tables.flat) (held_bytes byte held) b) (held_bytes byte held) b fed (held_bytes byte kept) →
+      Feeds (lead_state grammar byte tables held) b (lead_state grammar byte tables kept) fed
+  feeds held b is_byte fed kept took =
+      feeding.feeds shown (held_bytes byte held) (may held) (are_bytes held) b is_byte (is.rests_is tables.flat (held_bytes byte held)) fed (held_bytes byte kept) took
+
+  pub ends_none : (held : Option L) → is_some held ≡ false → events_of (grammar tables.flat) (held_bytes byte held) ≡ []
+  ends_none held e = feeding.ends_none shown (held_bytes byte held) (may held) (are_bytes held) (is.rests_is tables.flat (held_bytes byte held)) (none_held held e)
+
+  pub ends_some : (held : Option L) → is_some held ≡ true → events_of (grammar tables.flat) (held_bytes byte held) ≢ []
+  ends_some held e = feeding.ends_some shown (held_bytes byte held) (may held) (are_bytes held) (is.rests_is tables.flat (held_bytes byte held)) (some_held held e)
+
+  pub reports : (lead : L) → Reports (lead_state grammar byte tables (Some lead)) (lead_state grammar byte tables None) 1 0
+  reports lead = feeding.reports_all shown (held_bytes byte (Some lead)) (may (Some lead)) (are_bytes (Some lead)) (is.rests_is tables.flat (held_bytes byte (Some lead))) (some_held (Some lead) refl)
+
+  -- ---- runs
+
+  pub ascii : HasAscii (grammar tables.flat)
+  ascii = has_ascii shown (λ b. refl) (λ b h. is.ascii_first b (ascii_is b h))
+
+-- a pair that gives one scalar
+module _ (grammar : FlatIndexes → Grammar) (is_lead_byte : ℕ → Bool) (first : ℕ → Step) (scalars : FlatIndexes → ℕ → ℕ → List ℕ) (is : IsLeadCodec grammar is_lead_byte first scalars) (tables : AcceptedIndexes) where
+  pub pair : (lead trail c : ℕ) → IsByte lead → IsByte trail → IsScalar c → is_lead_byte lead ≡ true → scalars tables.flat lead trail ≡ c ∷ [] → Runs (grammar tables.flat) (lead ∷ trail ∷ []) (c ∷ [])
+  pair lead trail c is_byte is_byte' scalar is_lead e =
+      pair_runs (is.shown tables.flat tables.accepted) lead trail c is_byte is_byte' scalar
+      (is.may_is tables.flat (lead ∷ []) ∙ is_lead) (is.rests_is tables.flat (lead ∷ []))
+      refl refl (is.lead_first lead is_lead) (rw e refl)
+
+-- a trail that led to one scalar
+pub one_scalar : (scalars : List ℕ) (trail c : ℕ) (held : List ℕ) → One c ≡ fed_of (trail_step 1 scalars trail) held trail → scalars ≡ c ∷ []
+one_scalar [] trail c held e = go (is_ascii trail) e
+  where
+    go : (t : Bool) → One c ≡ fed_of (cond t (leave 1) (finish (malformed 2))) held trail → [] ≡ c ∷ []
+    go true e = cc
+    go false e = cc
+one_scalar (d ∷ []) trail c held e = let same : c ≡ d = cc in rw same refl
+one_scalar (d ∷ d' ∷ scalars) trail c held e = cc

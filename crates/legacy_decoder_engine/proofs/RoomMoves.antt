@@ -1,0 +1,185 @@
+-- From what a decoder's steps write to what its rooms promise.
+use Rattle.std.proofs.Common.{◌≡◌, ℕ, ◌+◌, ◌*◌, ◌<◌, ◌≤◌, List, [], ◌∷◌, length, Bool, true, false, cond, Some, refl, sym, ◌∙◌, ◌&&◌, mul-add, arith}
+use Rattle.std.proofs.lemmas.Bool.{false≢true}
+use Rattle.legacy_base.specs.Unicode.{IsByte, AreBytes}
+use Rattle.legacy_base.specs.Grammar.{Grammar, profile}
+use Rattle.legacy_base.specs.States.{DecoderState, may_hold, rests, is_empty}
+use Rattle.legacy_base.specs.Acts.{takes, writes, reports, act_at_end, act_at_rest, act_room, room_of_act, need, has_reported, has_short_ascii, byte_room, held_room, reading_room, writing_room, full_room, release_room}
+use Rattle.legacy_base.specs.EncodingForm.{unit_count, bmp_room, wide_room}
+use Rattle.legacy_base.specs.Lengths.{LengthQuery, to_utf16, to_utf8, to_utf8_without_replacement, query_form, replacement_units, room}
+use Rattle.legacy_base.specs.Profile.{Rooms, narrow_acts, wide_reads, wide_acts}
+use Rattle.legacy_base.proofs.Enough.{room-rises}
+use Rattle.legacy_base.proofs.GrammarLaws.{rests-none}
+use Rattle.std.proofs.Math.Nat.{mul-le-mul_left}
+use Rattle.std.specs.Char.{is_ascii}
+use Rattle.legacy_decoder_engine.specs.Steps.{Step, step_held, end_events, Machine, Meets}
+use Rattle.legacy_decoder_engine.specs.Costs.{step_units, step_left, IsWidth, state_of, Cost, WritePays}
+use Rattle.legacy_decoder_engine.specs.Shown.{KeepsRooms}
+use Rattle.legacy_decoder_engine.proofs.Widths.{width_of}
+
+-- ---- tests
+
+pub first_room : (t : Bool) (x y : ℕ) → cond ((t && true) && true) x y ≡ cond t x y
+first_room true x y = refl
+first_room false x y = refl
+
+pub held_room_is : (t u : Bool) (x y : ℕ) → cond ((t && false) && u) x y ≡ y
+held_room_is true u x y = refl
+held_room_is false u x y = refl
+
+pub no_short_room : (t : Bool) (x y : ℕ) → cond (t && false) x y ≡ y
+no_short_room true x y = refl
+no_short_room false x y = refl
+
+pub cond_most : (t : Bool) (x y z : ℕ) → x ≤ z → y ≤ z → cond t x y ≤ z
+cond_most true x y z h k = h
+cond_most false x y z h k = k
+
+-- ---- the next act
+
+-- no next act needs more than the room, where none of the three kinds does
+pub all_needs : (narrow wide : ℕ) (room : ℕ → ℕ) (g : Grammar) (m : Machine) → Meets g m → rests g [] ≡ true → (held : List ℕ) → may_hold g held ≡ true →
+    ((b n : ℕ) → 0 < n → act_room narrow wide (state_of g held) (takes b) ≤ room n) →
+    ((n : ℕ) → 0 < length held → act_room narrow wide (state_of g held) writes ≤ room n) →
+    (unread : List ℕ) (last : Bool) → need narrow wide (state_of g held) unread last ≤ room (length unread)
+all_needs narrow wide room g m meets empty held may take write unread last = go (rests g held) refl
+  where
+    at_end : (held' : List ℕ) → (0 < length held' → act_room narrow wide (state_of g held) reports ≤ room 0) → (last : Bool) → room_of_act narrow wide (state_of g held) (act_at_end (end_events held') last) ≤ room 0
+    at_end [] h last = omega arith
+    at_end (b ∷ held') h true = h (omega arith)
+    at_end (b ∷ held') h false = omega arith
+
+    some_held : (held' : List ℕ) → rests g held' ≡ false → 0 < length held'
+    some_held [] r = absurd (false≢true (sym r ∙ empty))
+    some_held (b ∷ held') r = omega arith
+
+    at_rest : rests g held ≡ true → (unread : List ℕ) → room_of_act narrow wide (state_of g held) (act_at_rest (state_of g held) unread last) ≤ room (length unread)
+    at_rest r (b ∷ unread) = take b (length (b ∷ unread)) (omega arith)
+    at_rest r [] = rw (meets.ends held may r) (at_end held (λ h. write 0 h) last)
+
+    go : (t : Bool) → rests g held ≡ t → room_of_act narrow wide (state_of g held) (cond t (act_at_rest (state_of g held) unread last) (Some writes)) ≤ room (length unread)
+    go true r = at_rest r unread
+    go false r = write (length unread) (some_held held r)
+
+-- ---- rooms that fall by a slope for each byte, or for each two
+
+-- half of `slope` units are needed less for each byte less
+abbrev pub Falls : (DecoderState → ℕ → ℕ) → Grammar → (List ℕ → ℕ) → ℕ → Type 0
+Falls room g wt slope = (held held' : List ℕ) (n n' u : ℕ) → 2 * u + slope * (n' + wt held') ≤ slope * (n + wt held) → room (state_of g held') n' + u ≤ room (state_of g held) n
+
+-- the same with n more bytes on both sides
+more_bytes : (slope x y n u : ℕ) → 2 * u + slope * x ≤ slope * y → 2 * u + slope * (n + x) ≤ slope * (n + y)
+more_bytes slope x y n u h =
+    let e : slope * (n + x) ≡ slope * n + slope * x = mul-add slope n x in
+    let f : slope * (n + y) ≡ slope * n + slope * y = mul-add slope n y in
+    omega arith
+
+pub sloped_pays : (room : DecoderState → ℕ → ℕ) (g : Grammar) (wt : List ℕ → ℕ) (slope : ℕ) → Falls room g wt slope → (held held' : List ℕ) (left n u : ℕ) →
+    2 * u + slope * (wt held' + left) ≤ slope * (wt held + 1) → room (state_of g held') (n + left) + u ≤ room (state_of g held) (n + 1)
+sloped_pays room g wt slope sloped held held' left n u h =
+    let e : (n + left) + wt held' ≡ n + (wt held' + left) = omega arith in
+    let f : (n + 1) + wt held ≡ n + (wt held + 1) = omega arith in
+    sloped held held' (n + 1) (n + left) u (rw (e, f) (more_bytes slope (wt held' + left) (wt held + 1) n u h))
+
+-- ---- a whole codec
+
+-- what a codec's steps write, at either width
+pub record HasCosts (g : Grammar) (m : Machine) (wt : List ℕ → ℕ) (slope : ℕ) : Type 0 where
+  pub to_is : (held : List ℕ) (b : ℕ) → m.to held b ≡ g
+  pub cost : (len : ℕ → ℕ) (narrow wide : ℕ) → IsWidth len narrow wide → (held : List ℕ) (b : ℕ) → may_hold g held ≡ true → rests g held ≡ true → AreBytes held → IsByte b →
+      Cost len narrow (act_room narrow wide (state_of g held) (takes b)) wt slope held b (m.step held b)
+
+-- half of so many units are needed less for each byte less
+abbrev pub query_slope : ℕ → LengthQuery → ℕ
+query_slope paid to_utf16 = 2
+query_slope paid to_utf8 = 6
+query_slope paid to_utf8_without_replacement = paid
+
+-- What is left to show of the rooms of a codec. What is held back weighs more than nothing; each room falls by its
+-- slope; what is held back and is to be written pays; and the room covers a byte, and what is held back.
+pub record IsSloped (g : Grammar) (m : Machine) (wt : List ℕ → ℕ) (paid : ℕ) : Type 0 where
+  pub heavy : (b : ℕ) (held : List ℕ) → may_hold g (b ∷ held) ≡ true → wt [] + 1 ≤ wt (b ∷ held)
+  pub falls : (query : LengthQuery) → Falls (room query) g wt (query_slope paid query)
+  pub writes : (query : LengthQuery) (held : List ℕ) → may_hold g held ≡ true → rests g held ≡ false → AreBytes held →
+      WritePays (unit_count (query_form query)) (bmp_room (query_form query)) (wide_room (query_form query)) (room query) g held (m.pending held)
+  pub reads : (query : LengthQuery) (held : List ℕ) → full_room (query_form query) g ≤ room query (state_of g held) 1
+  pub holds : (query : LengthQuery) (b : ℕ) (held : List ℕ) → may_hold g (b ∷ held) ≡ true → release_room (query_form query) g ≤ room query (state_of g (b ∷ held)) 0
+
+-- what a step is to lower the room by
+paid_of : (query : LengthQuery) (wt : List ℕ → ℕ) (paid at_most : ℕ) (held : List ℕ) (b : ℕ) (s : Step) → Cost (unit_count (query_form query)) (bmp_room (query_form query)) at_most wt paid held b s →
+    2 * step_units (unit_count (query_form query)) (replacement_units query) s + query_slope paid query * (wt (step_held s held b) + step_left s) ≤ query_slope paid query * (wt held + 1)
+paid_of to_utf16 wt paid at_most held b s c = let p = c.pays in omega arith
+paid_of to_utf8 wt paid at_most held b s c = let p = c.pays in omega arith
+paid_of to_utf8_without_replacement wt paid at_most held b s c = c.pays_without
+
+-- a malformed sequence is paid by a byte
+fault_paid : (query : LengthQuery) (paid x y : ℕ) → x + 1 ≤ y → 2 * replacement_units query + query_slope paid query * (0 + x) ≤ query_slope paid query * (0 + y)
+fault_paid to_utf16 paid x y h = omega arith
+fault_paid to_utf8 paid x y h = omega arith
+fault_paid to_utf8_without_replacement paid x y h = let le : 0 + x ≤ 0 + y = omega arith in let m : paid * (0 + x) ≤ paid * (0 + y) = mul-le-mul_left paid le in omega arith
+
+-- ---- the room of an act, in any codec
+
+read_most : (narrow wide : ℕ) → 1 ≤ narrow → narrow ≤ wide → (g : Grammar) (held : List ℕ) (b : ℕ) → act_room narrow wide (state_of g held) (takes b) ≤ byte_room narrow wide g
+read_most narrow wide some rises g held b = by_tests (has_reported g) ((is_ascii b && is_empty held) && has_short_ascii g)
+  where
+    by_rooms : (r : Rooms) → 1 ≤ reading_room narrow wide r
+    by_rooms narrow_acts = some
+    by_rooms wide_reads = omega arith
+    by_rooms wide_acts = omega arith
+
+    one : 1 ≤ byte_room narrow wide g
+    one = by_rooms (profile g).rooms
+
+    by_tests : (t u : Bool) → cond t 0 (cond u 1 (byte_room narrow wide g)) ≤ byte_room narrow wide g
+    by_tests true u = omega arith
+    by_tests false true = one
+    by_tests false false = omega arith
+
+pub narrow_read : (narrow wide : ℕ) → narrow ≤ wide → (g : Grammar) → (narrow ≤ byte_room narrow wide g) × (byte_room narrow wide g ≤ wide)
+narrow_read narrow wide rises g = by_rooms (profile g).rooms
+  where
+    by_rooms : (r : Rooms) → (narrow ≤ reading_room narrow wide r) × (reading_room narrow wide r ≤ wide)
+    by_rooms narrow_acts = (omega arith, rises)
+    by_rooms wide_reads = (rises, omega arith)
+    by_rooms wide_acts = (rises, omega arith)
+
+pub narrow_held : (narrow wide : ℕ) → narrow ≤ wide → (g : Grammar) → narrow ≤ held_room narrow wide g
+narrow_held narrow wide rises g = by_rooms (profile g).rooms
+  where
+    by_rooms : (r : Rooms) → narrow ≤ writing_room narrow wide r
+    by_rooms narrow_acts = omega arith
+    by_rooms wide_reads = omega arith
+    by_rooms wide_acts = rises
+
+-- the rooms of a codec whose rooms fall by slopes
+module _ (g : Grammar) (m : Machine) (wt : List ℕ → ℕ) (paid : ℕ) (meets : Meets g m) (costs : HasCosts g m wt paid) (is : IsSloped g m wt paid) (query : LengthQuery) where
+  w : IsWidth (unit_count (query_form query)) (bmp_room (query_form query)) (wide_room (query_form query))
+  w = width_of (query_form query)
+
+  takes_covered : (held : List ℕ) (b n : ℕ) → 0 < n → act_room (bmp_room (query_form query)) (wide_room (query_form query)) (state_of g held) (takes b) ≤ room query (state_of g held) n
+  takes_covered held b n p =
+      let most = read_most (bmp_room (query_form query)) (wide_room (query_form query)) w.some w.rises g held b in
+      let least = is.reads query held in
+      let rises : room query (state_of g held) 1 ≤ room query (state_of g held) n = room-rises query (state_of g held) 1 n (omega arith) in
+      omega arith
+
+  holds_covered : (held : List ℕ) → may_hold g held ≡ true → (n : ℕ) → 0 < length held → act_room (bmp_room (query_form query)) (wide_room (query_form query)) (state_of g held) writes ≤ room query (state_of g held) n
+  holds_covered [] h n p = absurd (omega arith)
+  holds_covered (b ∷ held) h n p =
+      let least = is.holds query b held h in
+      let rises : room query (state_of g (b ∷ held)) 0 ≤ room query (state_of g (b ∷ held)) n = room-rises query (state_of g (b ∷ held)) 0 n (omega arith) in
+      omega arith
+
+  pub sloped_rooms : KeepsRooms query g m
+  sloped_rooms = record {
+    step_fits = λ held b h r bytes byte. (costs.cost (unit_count (query_form query)) (bmp_room (query_form query)) (wide_room (query_form query)) w held b h r bytes byte).fits;
+    step_pays = λ held b n h r bytes byte. rw (costs.to_is held b)
+        (sloped_pays (room query) g wt (query_slope paid query) (is.falls query) held (step_held (m.step held b) held b) (step_left (m.step held b)) n (step_units (unit_count (query_form query)) (replacement_units query) (m.step held b))
+        (paid_of query wt paid (act_room (bmp_room (query_form query)) (wide_room (query_form query)) (state_of g held) (takes b)) held b (m.step held b) (costs.cost (unit_count (query_form query)) (bmp_room (query_form query)) (wide_room (query_form query)) w held b h r bytes byte)));
+    write_pays = is.writes query;
+    report_fits = λ held. narrow_held (bmp_room (query_form query)) (wide_room (query_form query)) w.rises g;
+    report_pays = λ b held h r. is.falls query (b ∷ held) [] 0 0 (replacement_units query) (fault_paid query paid (wt []) (wt (b ∷ held)) (is.heavy b held h));
+    needs = λ held unread last h. all_needs (bmp_room (query_form query)) (wide_room (query_form query)) (room query (state_of g held)) g m meets (rests-none g) held h (takes_covered held) (holds_covered held h) unread last;
+    rises = λ held n m' le. room-rises query (state_of g held) n m' le;
+  }

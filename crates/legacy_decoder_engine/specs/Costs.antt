@@ -1,0 +1,92 @@
+-- How many units of output a move of a decoder writes, and what that must be of its room.
+use Rattle.std.specs.Prelude.{ℕ, ◌+◌, ◌*◌, ◌<◌, ◌≤◌, ◌≡◌, List, [], ◌∷◌, Bool, true, false, drop, length, All, Option, Some, None}
+use Rattle.legacy_base.specs.Unicode.{IsByte, AreBytes}
+use Rattle.legacy_base.specs.Fronts.{reads, malformed}
+use Rattle.legacy_base.specs.Grammar.{Grammar}
+use Rattle.legacy_base.specs.States.{DecoderState, may_hold, rests}
+use Rattle.legacy_base.specs.Acts.{takes, writes, reports, act_room, need}
+use Rattle.legacy_base.specs.EncodingForm.{Utf8, Utf16, unit_count}
+use Rattle.legacy_base.specs.Lengths.{room, to_utf8, to_utf16, to_utf8_without_replacement}
+use Rattle.legacy_decoder_engine.specs.Steps.{Step, hold, finish, leave, step_held, Machine}
+
+-- how many bytes a scalar has in UTF-8, and how many units in UTF-16
+abbrev pub utf8_count : ℕ → ℕ
+utf8_count c = unit_count Utf8 c
+
+abbrev pub utf16_count : ℕ → ℕ
+utf16_count c = unit_count Utf16 c
+
+-- the units of scalars
+abbrev pub units : (ℕ → ℕ) → List ℕ → ℕ
+units len [] = 0
+units len (c ∷ scalars) = len c + units len scalars
+
+-- the units that a step writes, with `fault` for a malformed sequence
+abbrev pub step_units : (ℕ → ℕ) → ℕ → Step → ℕ
+step_units len fault hold = 0
+step_units len fault (finish (reads n scalars)) = units len scalars
+step_units len fault (finish (malformed n)) = fault
+step_units len fault (leave n) = fault
+
+-- 1 where the byte is still to be read, and 0 where it was
+abbrev pub step_left : Step → ℕ
+step_left hold = 0
+step_left (finish f) = 0
+step_left (leave n) = 1
+
+-- what the units of UTF-8 and of UTF-16 have in common: `narrow` is that of the longest scalar up to U+FFFF, and of
+-- U+FFFD, and `wide` that of the longest one
+pub record IsWidth (len : ℕ → ℕ) (narrow wide : ℕ) : Type 0 where
+  pub ascii : (c : ℕ) → c < 0x80 → len c ≡ 1
+  pub two : (c : ℕ) → c < 0x800 → len c + len c ≤ wide
+  pub bmp : (c : ℕ) → c < 0x1_0000 → len c ≤ narrow
+  pub every : (c : ℕ) → len c ≤ wide
+  pub some : 1 ≤ narrow
+  pub most : narrow ≤ 3
+  pub rises : narrow ≤ wide
+  pub twice : wide ≤ narrow + 1
+
+-- no entry is above U+FFFF
+abbrev pub IsNarrowIndex : List ℕ → Type 0
+IsNarrowIndex index = All (λ c. c < 0x1_0000) index
+
+abbrev pub state_of : Grammar → List ℕ → DecoderState
+state_of g held = record { grammar = g; held = held }
+
+-- What a step is to write: no more than the room of reading the byte, and no more than the room that n more bytes
+-- need less than before. `wt` is the weight of what is held back. The last part counts no malformed sequence; twice
+-- what is written is paid by `slope` for each byte.
+pub record Cost (len : ℕ → ℕ) (narrow at_most : ℕ) (wt : List ℕ → ℕ) (slope : ℕ) (held : List ℕ) (b : ℕ) (s : Step) : Type 0 where
+  pub fits : step_units len narrow s ≤ at_most
+  pub pays : step_units len narrow s + narrow * (wt (step_held s held b) + step_left s) ≤ narrow * (wt held + 1)
+  pub pays_without : 2 * step_units len 0 s + slope * (wt (step_held s held b) + step_left s) ≤ slope * (wt held + 1)
+
+-- the rooms of the three length queries
+abbrev pub utf8_room : DecoderState → ℕ → ℕ
+utf8_room state n = room to_utf8 state n
+
+abbrev pub utf16_room : DecoderState → ℕ → ℕ
+utf16_room state n = room to_utf16 state n
+
+abbrev pub utf8_without_room : DecoderState → ℕ → ℕ
+utf8_without_room state n = room to_utf8_without_replacement state n
+
+-- a scalar that is held back in the first k bytes has its room, and the room needed then falls by its units
+abbrev pub WritePays : (ℕ → ℕ) → ℕ → ℕ → (DecoderState → ℕ → ℕ) → Grammar → List ℕ → Option (ℕ × ℕ) → Type 0
+WritePays len narrow wide room g held None = Unit {0}
+WritePays len narrow wide room g held (Some (k, c)) =
+    (len c ≤ act_room narrow wide (state_of g held) writes)
+    × ((n : ℕ) → room (state_of g (drop k held)) n + len c ≤ room (state_of g held) n)
+
+-- Each move has its room, lowers the room of what is still to come by what it writes (and by `fault` for a malformed
+-- sequence), and no next act needs more than the room.
+pub record RoomMeets (len : ℕ → ℕ) (narrow wide fault : ℕ) (room : DecoderState → ℕ → ℕ) (g : Grammar) (m : Machine) : Type 0 where
+  pub step_fits : (held : List ℕ) (b : ℕ) → may_hold g held ≡ true → rests g held ≡ true → AreBytes held → IsByte b →
+      step_units len narrow (m.step held b) ≤ act_room narrow wide (state_of g held) (takes b)
+  pub step_pays : (held : List ℕ) (b n : ℕ) → may_hold g held ≡ true → rests g held ≡ true → AreBytes held → IsByte b →
+      room (state_of (m.to held b) (step_held (m.step held b) held b)) (n + step_left (m.step held b)) + step_units len fault (m.step held b) ≤ room (state_of g held) (n + 1)
+  pub write_pays : (held : List ℕ) → may_hold g held ≡ true → rests g held ≡ false → AreBytes held → WritePays len narrow wide room g held (m.pending held)
+  pub report_fits : (held : List ℕ) → narrow ≤ act_room narrow wide (state_of g held) reports
+  pub report_pays : (b : ℕ) (held : List ℕ) → may_hold g (b ∷ held) ≡ true → rests g (b ∷ held) ≡ true → room (state_of g []) 0 + fault ≤ room (state_of g (b ∷ held)) 0
+  pub needs : (held unread : List ℕ) (last : Bool) → may_hold g held ≡ true → need narrow wide (state_of g held) unread last ≤ room (state_of g held) (length unread)
+  pub rises : (held : List ℕ) (n m : ℕ) → n ≤ m → room (state_of g held) n ≤ room (state_of g held) m

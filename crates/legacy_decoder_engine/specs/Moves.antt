@@ -1,0 +1,145 @@
+-- What the small moves of a decoder do, of which its calls are made. A move is the same in both encoding forms.
+use Rattle.std.specs.Prelude.{◌≡◌, ◌≢◌, ℕ, ◌+◌, ◌-◌, ◌<◌, ◌≤◌, List, [], ◌∷◌, ◌++◌, length, map, true, false, IsTrue, Bool, Option, None, ◌⊎◌, All, if◌then◌else◌}
+use Rattle.std.specs.Char.{IsScalar}
+use Rattle.legacy_base.specs.declared.results.DecodeEvent.{DecodeEvent}
+use Rattle.legacy_base.specs.declared.results.DecodeEvent.TheVariants.{Scalar, Bad}
+use Rattle.legacy_base.specs.declared.results.DecoderResult.{DecoderResult}
+use Rattle.legacy_base.specs.declared.results.DecoderResult.TheVariants.{InputEmpty, OutputFull, Malformed}
+use Rattle.legacy_base.specs.EncodingForm.{EncodingForm, unit_count, total_unit_count, bmp_room, wide_room}
+use Rattle.legacy_base.specs.Grammar.{Grammar, events_of}
+use Rattle.legacy_base.specs.States.{DecoderState, rests}
+use Rattle.legacy_base.specs.Acts as acts
+use Rattle.legacy_base.specs.Acts.{act_room, full_room, release_room, room_needed, wants_full_room, HadRoom}
+use Rattle.legacy_base.specs.Lengths.{LengthQuery, query_form, replacement_units, room}
+use Rattle.legacy_base.specs.Calls.{Progress, IsFault}
+use Rattle.legacy_decoder_engine.specs.declared.machine.Room.{Room}
+use Rattle.legacy_decoder_engine.specs.declared.machine.Room.TheVariants.{Nothing as NoRoom, Unit as OneUnit, Narrow, Wide}
+use Rattle.legacy_decoder_engine.specs.declared.machine.Act.{Act}
+use Rattle.legacy_decoder_engine.specs.declared.machine.Act.TheVariants.{Release, Read, Report}
+use Rattle.legacy_decoder_engine.specs.declared.machine.Fed.{Fed}
+use Rattle.legacy_decoder_engine.specs.declared.machine.Fed.TheVariants.{Nothing, One, Two, Fault}
+
+-- how many code units an amount of room is
+abbrev pub room_units : EncodingForm → Room → ℕ
+room_units form NoRoom = 0
+room_units form OneUnit = 1
+room_units form Narrow = bmp_room form
+room_units form Wide = wide_room form
+
+-- the room for reading a byte
+abbrev pub read_room : EncodingForm → DecoderState → ℕ → ℕ
+read_room form state byte = act_room (bmp_room form) (wide_room form) state (acts.takes byte)
+
+-- the room that an act needs
+abbrev pub act_units : EncodingForm → DecoderState → Act → ℕ
+act_units form state Release = release_room form state.grammar
+act_units form state (Read byte) = read_room form state byte
+act_units form state Report = release_room form state.grammar
+
+-- the room of a length query is enough for the next act
+pub record IsCovered (state : DecoderState) : Type 0 where
+  pub covers : (query : LengthQuery) (unread : List ℕ) (last : Bool) → room_needed (query_form query) state unread last ≤ room query state (length unread)
+
+-- ---- reading a byte
+
+-- the scalars that a byte led to
+abbrev pub fed_scalars : Fed → List ℕ
+fed_scalars Nothing = []
+fed_scalars (One c) = c ∷ []
+fed_scalars (Two c d) = c ∷ d ∷ []
+fed_scalars (Fault sequence back unread) = []
+
+-- the malformed sequence that a byte led to, which ends the bytes that are done with
+abbrev pub fed_fault : ℕ → Fed → List DecodeEvent
+fed_fault passed Nothing = []
+fed_fault passed (One c) = []
+fed_fault passed (Two c d) = []
+fed_fault passed (Fault sequence back unread) = Bad (passed - sequence) sequence ∷ []
+
+-- the code units that a length query sets aside for it
+abbrev pub fed_units : LengthQuery → Fed → ℕ
+fed_units query Nothing = 0
+fed_units query (One c) = 0
+fed_units query (Two c d) = 0
+fed_units query (Fault sequence back unread) = replacement_units query
+
+-- the byte, where it is not read
+abbrev pub unread_byte : ℕ → Fed → List ℕ
+unread_byte byte Nothing = []
+unread_byte byte (One c) = []
+unread_byte byte (Two c d) = []
+unread_byte byte (Fault sequence back unread) = if unread then byte ∷ [] else []
+
+-- What is held back rests, but behind a malformed sequence, which lies among the bytes seen and ends before those that
+-- are held back.
+abbrev pub FedHolds : ℕ → DecoderState → Fed → Type 0
+FedHolds passed after Nothing = IsTrue (rests after.grammar after.held)
+FedHolds passed after (One c) = IsTrue (rests after.grammar after.held)
+FedHolds passed after (Two c d) = IsTrue (rests after.grammar after.held)
+FedHolds passed after (Fault sequence back unread) = IsFault (passed + length after.held) after sequence back
+
+-- a byte led to a malformed sequence
+abbrev pub IsFaulty : Fed → Type 0
+IsFaulty Nothing = ⊥
+IsFaulty (One c) = ⊥
+IsFaulty (Two c d) = ⊥
+IsFaulty (Fault sequence back unread) = Unit {0}
+
+-- two grammars need the same room, for the same scalars
+pub record SameRooms (before after : Grammar) : Type 0 where
+  pub full : (form : EncodingForm) → full_room form after ≡ full_room form before
+  pub report : (form : EncodingForm) → release_room form after ≡ release_room form before
+  pub wants : (previous : Option ℕ) (c : ℕ) → wants_full_room after previous c ≡ wants_full_room before previous c
+
+-- what reading a byte does, where what is held back rests
+pub record Feeds (before : DecoderState) (byte : ℕ) (after : DecoderState) (fed : Fed) : Type 0 where
+  -- it goes on through the input
+  pub passed : ℕ
+  pub progress : Progress false before (byte ∷ []) passed after (unread_byte byte fed) (map Scalar (fed_scalars fed) ++ fed_fault passed fed)
+  pub holds : FedHolds passed after fed
+  pub rooms : SameRooms before.grammar after.grammar
+  -- what gave a scalar leaves nothing held back
+  pub empties : fed_scalars fed ≢ [] → after.held ≡ []
+  -- a malformed sequence, and a byte that is held back, had the full room, and a report needs no more
+  pub report : (form : EncodingForm) → release_room form before.grammar ≤ full_room form before.grammar
+  pub full : (form : EncodingForm) → (IsFaulty fed ⊎ (after.held ≢ [])) → full_room form before.grammar ≤ read_room form before byte
+  -- the scalars fit into the room for reading the byte, and have the room that they want
+  pub fits : (form : EncodingForm) → total_unit_count form (fed_scalars fed) ≤ read_room form before byte
+  pub had : (form : EncodingForm) (free : ℕ) → read_room form before byte ≤ free → HadRoom form before.grammar None free (fed_scalars fed)
+  pub scalar : All IsScalar (fed_scalars fed)
+  -- the room that is still needed falls by what is written
+  pub lowers : (query : LengthQuery) (n : ℕ) →
+      room query after (n + length (unread_byte byte fed)) + (total_unit_count (query_form query) (fed_scalars fed) + fed_units query fed) ≤ room query before (n + 1)
+
+-- ---- writing a scalar that is held back
+
+-- what writing it does
+pub record Releases (before : DecoderState) (after : DecoderState) (c : ℕ) : Type 0 where
+  pub passed : ℕ
+  pub progress : Progress false before [] passed after [] (Scalar c ∷ [])
+  pub resting : IsTrue (rests after.grammar after.held)
+  pub rooms : SameRooms before.grammar after.grammar
+  pub fits : (form : EncodingForm) → unit_count form c ≤ release_room form before.grammar
+  pub scalar : IsScalar c
+  pub lowers : (query : LengthQuery) (n : ℕ) → room query after n + unit_count (query_form query) c ≤ room query before n
+
+-- ---- the end of input
+
+-- what reporting a malformed sequence of so many bytes does, with so many held back behind it
+pub record Reports (before : DecoderState) (after : DecoderState) (sequence back : ℕ) : Type 0 where
+  pub passed : ℕ
+  pub holding : before.held ≢ []
+  pub progress : Progress true before [] passed after [] (Bad (passed - sequence) sequence ∷ [])
+  pub holds : IsFault (passed + length after.held) after sequence back
+  pub lowers : (query : LengthQuery) → room query after 0 + replacement_units query ≤ room query before 0
+
+-- ---- the end of a call
+
+-- Behind the input a call with so much room ended with this answer: InputEmpty where nothing is left to report or it is
+-- not the last call, OutputFull where the report lacks its room, else the report.
+abbrev pub Finishes : EncodingForm → DecoderState → Bool → ℕ → DecoderState → DecoderResult → Type 0
+Finishes form before last free after InputEmpty = (after ≡ before) × (IsTrue last → events_of before.grammar before.held ≡ [])
+Finishes form before last free after OutputFull =
+    (after ≡ before) × (last ≡ true) × (events_of before.grammar before.held ≢ []) × (free < release_room form before.grammar) × IsCovered before
+Finishes form before last free after (Malformed length back) =
+    (last ≡ true) × (events_of before.grammar before.held ≢ []) × (release_room form before.grammar ≤ free) × Reports before after length back

@@ -1,0 +1,110 @@
+//! The one loop of all decoders, over the small moves that each decoder makes.
+ghost use Rattle.std.specs.Prelude.{◌≡◌, ℕ, ◌+◌, ◌≤◌, ◌↔◌, ◌++◌, length, IsTrue, true};
+ghost use Rattle.legacy_base.specs.EncodingForm.{all_code_units, total_unit_count};
+ghost use Rattle.legacy_base.specs.States.{rests};
+ghost use Rattle.legacy_base.specs.Calls.{IsDecoderCall};
+ghost use Rattle.legacy_decoder_engine.specs.Moves.{room_units, fed_scalars, Finishes};
+
+use crate::machine::{Act, Fed, Machine, Room};
+use legacy_base::{DecoderResult, Destination};
+
+#[inline]
+fn has_room<T: Destination>(dst: &T, room: Room) -> bool
+    ensures { IsTrue result ↔ (room_units T.form room ≤ T.room dst.now) }
+{
+    match room {
+        Room::Nothing => true,
+        Room::Unit => dst.free() >= 1,
+        Room::Narrow => dst.free() >= T::narrow(),
+        Room::Wide => dst.free() >= T::wide(),
+    }
+}
+
+#[inline(always)]
+fn put_fed<T: Destination>(dst: &mut T, fed: Fed)
+    requires { total_unit_count T.form (fed_scalars fed) ≤ T.room dst.old }
+    ensures contents { T.contents dst.new ≡ T.contents dst.old ++ all_code_units T.form (fed_scalars fed) }
+    ensures room { T.room dst.new + total_unit_count T.form (fed_scalars fed) ≡ T.room dst.old }
+    ensures loan { T.loan dst.new ≡ T.loan dst.old }
+{
+    match fed {
+        Fed::One(c) => dst.put(c),
+        Fed::Two(c, d) => {
+            dst.put(c);
+            dst.put(d);
+        }
+        Fed::Nothing | Fed::Fault { .. } => {}
+    }
+}
+
+/// Ends a call whose input is read: where it is the last one, what is left is reported.
+#[inline]
+fn finish<D: Machine, T: Destination>(decoder: &mut D, dst: &T, last: bool) -> DecoderResult
+    requires { rests (D.state decoder.old).grammar (D.state decoder.old).held ≡ true }
+    ensures { Finishes T.form (D.state decoder.old) last (T.room dst.now) (D.state decoder.new) result }
+{
+    if !last || !decoder.has_rest() {
+        return DecoderResult::InputEmpty;
+    }
+    if !has_room(dst, decoder.room(Act::Report)) {
+        return DecoderResult::OutputFull;
+    }
+    match decoder.report() {
+        Some((length, back)) => DecoderResult::Malformed(length, back),
+        None => unreachable!(),
+    }
+}
+
+/// One call of a decoder: lets it make its moves until the input is read, room is lacking or a malformed
+/// sequence is to be reported. Answers which of the three, and how many bytes of `src` were read; the
+/// scalars stand in `dst` behind what it held. With `last` nothing comes behind `src`. A scalar to be
+/// written first is held back only as a call begins. Runs of common forms are read ahead of the moves.
+#[inline]
+pub fn drive<D: Machine, T: Destination>(
+    decoder: &mut D,
+    src: &[u8],
+    dst: &mut T,
+    last: bool,
+) -> (DecoderResult, usize)
+    ensures call { IsDecoderCall T.form (D.state decoder.old) src.now last (T.room dst.old) (D.state decoder.new)
+        result.0 result.1 (T.contents dst.old) (T.contents dst.new) }
+    ensures room { T.room dst.new + length (T.contents dst.new)
+        ≡ T.room dst.old + length (T.contents dst.old) }
+    ensures loan { T.loan dst.new ≡ T.loan dst.old }
+{
+    if !decoder.rests() {
+        if !has_room(dst, decoder.room(Act::Release)) {
+            return (DecoderResult::OutputFull, 0);
+        }
+        let Some(scalar) = decoder.release() else {
+            unreachable!()
+        };
+        dst.put(scalar);
+    }
+    let mut read = 0;
+    loop {
+        read += decoder.read_runs(&src[read..], dst);
+        if read == src.len() {
+            break;
+        }
+        let byte = src[read];
+        if !has_room(dst, decoder.room(Act::Read(byte))) {
+            return (DecoderResult::OutputFull, read);
+        }
+        let fed = decoder.feed(byte);
+        if let Fed::Fault {
+            length,
+            back,
+            unread,
+        } = fed
+        {
+            if unread {
+                return (DecoderResult::Malformed(length, back), read);
+            }
+            return (DecoderResult::Malformed(length, back), read + 1);
+        }
+        put_fed(dst, fed);
+        read += 1;
+    }
+    (finish(decoder, dst, last), src.len())
+}

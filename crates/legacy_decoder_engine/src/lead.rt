@@ -1,0 +1,201 @@
+//! The one decoder of the codecs whose forms have one byte, or a lead and a trail.
+ghost use Rattle.std.specs.Prelude.{◌≡◌, ◌≤◌, ℕ, List, [], ◌∷◌, Bool, true, length};
+ghost use Rattle.legacy_base.specs.Indexes.{FlatIndexes};
+ghost use Rattle.legacy_base.specs.EncodingForm.{EncodingForm};
+ghost use Rattle.legacy_base.specs.Grammar.{Grammar};
+ghost use Rattle.legacy_base.specs.States.{is_neutral, new_state};
+ghost use Rattle.legacy_base.specs.Acts.{full_room, release_room};
+ghost use Rattle.legacy_base.specs.Formulas.{Formula, number, ◌⊕◌};
+ghost use Rattle.legacy_base.specs.Lengths.{answer, utf16_formula, utf8_formula, utf8_without_replacement_formula};
+ghost use Rattle.legacy_decoder_engine.specs.Steps.{Step, trail_step};
+ghost use Rattle.legacy_decoder_engine.specs.Moves.{room_units};
+ghost use Rattle.legacy_decoder_engine.specs.Ahead.{FrontIs};
+ghost use Rattle.legacy_decoder_engine.specs.Feeding.{Took};
+ghost use Rattle.legacy_decoder_engine.specs.LeadCodecs.{IsLeadCodec, held_bytes, lead_state};
+
+use legacy_base::{DecoderResult, Destination, RawDecoder, Tables};
+use crate::ahead::{CommonForms, Front, ahead};
+use crate::drive::drive;
+use crate::machine::{Act, Fed, Machine, Room};
+
+/// A codec whose forms have one byte, or a lead and a trail: all that its decoder does not share.
+pub trait LeadCodec {
+    /// A byte that begins a form of two and is held back.
+    type Lead: Copy;
+
+    /// The grammar, by the flat indexes.
+    ghost grammar: { FlatIndexes → Grammar };
+
+    /// Which bytes are leads.
+    ghost is_lead: { ℕ → Bool };
+
+    /// The byte of a lead.
+    ghost byte_of: { Self.Lead → ℕ };
+
+    /// The step at the first byte of a form.
+    ghost first: { ℕ → Step };
+
+    /// The scalars of a lead and a trail.
+    ghost scalars: { FlatIndexes → ℕ → ℕ → List ℕ };
+
+    /// Reads the first byte of a form.
+    fn read_first(byte: u8) -> (Fed, Option<Self::Lead>)
+        ensures { Took (first byte) [] byte result.0 (held_bytes byte_of result.1) };
+
+    /// Reads the byte behind a lead.
+    fn read_pair(tables: &Tables<'_>, lead: Self::Lead, trail: u8) -> Fed
+        ensures { Took (trail_step 1 (scalars tables.now.flat (byte_of lead) trail) trail) (byte_of lead ∷ []) trail result [] };
+
+    /// What stands at the front of the input, by a byte past ASCII and the byte behind it.
+    fn front(tables: &Tables<'_>, lead: u8, trail: u8) -> Front
+        requires { 0x80 ≤ lead }
+        ensures { FrontIs (grammar tables.now.flat) lead trail result };
+
+    /// The room of every act but reading ASCII with nothing held back.
+    fn room() -> Room
+        ensures reads { (form : EncodingForm) (flat : FlatIndexes) → room_units form result ≡ full_room form (grammar flat) }
+        ensures writes { (form : EncodingForm) (flat : FlatIndexes) → room_units form result ≡ release_room form (grammar flat) };
+
+    /// `max_utf16_buffer_length`, where so many bytes are held back.
+    fn utf16_length(byte_length: usize, held: usize) -> Option<usize>
+        ensures { (flat : FlatIndexes) (units : Formula) → result ≡ answer (utf16_formula (grammar flat) (number byte_length) (number byte_length ⊕ number held) units) };
+
+    /// `max_utf8_buffer_length_without_replacement`, where so many bytes are held back.
+    fn utf8_length_without_replacement(byte_length: usize, held: usize) -> Option<usize>
+        ensures { (flat : FlatIndexes) (units : Formula) → result ≡ answer (utf8_without_replacement_formula (grammar flat) (number byte_length) (number byte_length ⊕ number held) units) };
+
+    /// `max_utf8_buffer_length`, where so many bytes are held back.
+    fn utf8_length(byte_length: usize, held: usize) -> Option<usize>
+        ensures { (flat : FlatIndexes) (units : Formula) → result ≡ answer (utf8_formula (grammar flat) (number byte_length) (number byte_length ⊕ number held) units) };
+
+    ghost codec: { IsLeadCodec grammar is_lead first scalars };
+
+    ghost leads: { (lead : Self.Lead) → is_lead (byte_of lead) ≡ true };
+}
+
+/// The decoder of such a codec. It holds back a lead, or nothing.
+#[derive(Drop)]
+pub struct LeadDecoder<'a, C: LeadCodec> {
+    tables: &'a Tables<'a>,
+    held: Option<C::Lead>,
+}
+
+impl<'a, C: LeadCodec> LeadDecoder<'a, C> {
+    /// A decoder before its first byte, which reads by the codec's index of the tables.
+    pub fn new(tables: &'a Tables<'a>) -> LeadDecoder<'a, C>
+        ensures { lead_state C.grammar C.byte_of result.tables.now result.held ≡ new_state (C.grammar tables.now.flat) }
+    {
+        LeadDecoder { tables, held: None }
+    }
+
+    /// Whether no lead is held back.
+    pub fn in_neutral_state(&self) -> bool
+        ensures { result ≡ is_neutral (lead_state C.grammar C.byte_of self.now.tables.now self.now.held) }
+    {
+        self.held.is_none()
+    }
+
+    /// How many bytes are held back.
+    #[inline]
+    fn held_count(&self) -> usize
+        ensures { result ≡ length (held_bytes C.byte_of self.now.held) }
+    {
+        usize::from(self.held.is_some())
+    }
+}
+
+impl<'a, C: LeadCodec> Machine for LeadDecoder<'a, C> {
+    ghost state = { λ d. lead_state C.grammar C.byte_of d.tables.now d.held };
+
+    #[inline]
+    fn rests(&self) -> bool {
+        true
+    }
+
+    #[inline]
+    fn room(&self, act: Act) -> Room {
+        match act {
+            Act::Read(byte) if byte < 0x80 && self.held.is_none() => Room::Unit,
+            Act::Read(_) => C::room(),
+            Act::Release | Act::Report => C::room(),
+        }
+    }
+
+    fn release(&mut self) -> Option<char> {
+        None
+    }
+
+    #[inline]
+    fn feed(&mut self, byte: u8) -> Fed {
+        match self.held {
+            Some(lead) => {
+                self.held = None;
+                C::read_pair(self.tables, lead, byte)
+            }
+            None => {
+                let (fed, held) = C::read_first(byte);
+                self.held = held;
+                fed
+            }
+        }
+    }
+
+    #[inline]
+    fn has_rest(&self) -> bool {
+        self.held.is_some()
+    }
+
+    fn report(&mut self) -> Option<(u8, u8)> {
+        match self.held {
+            Some(_) => {
+                self.held = None;
+                Some((1, 0))
+            }
+            None => None,
+        }
+    }
+
+    #[inline]
+    fn read_ahead<T: Destination>(&self, src: &[u8], dst: &mut T) -> usize {
+        ahead(self, src, dst)
+    }
+}
+
+impl<'a, C: LeadCodec> CommonForms for LeadDecoder<'a, C> {
+    ghost state = { λ d. lead_state C.grammar C.byte_of d.tables.now d.held };
+
+    #[inline]
+    fn is_idle(&self) -> bool {
+        self.in_neutral_state()
+    }
+
+    #[inline]
+    fn front(&self, lead: u8, trail: u8) -> Front {
+        C::front(self.tables, lead, trail)
+    }
+}
+
+impl<'a, C: LeadCodec> RawDecoder for LeadDecoder<'a, C> {
+    ghost state = { λ d. lead_state C.grammar C.byte_of d.tables.now d.held };
+
+    fn step<T: Destination>(
+        &mut self,
+        src: &[u8],
+        dst: &mut T,
+        last: bool,
+    ) -> (DecoderResult, usize) {
+        drive(self, src, dst, last)
+    }
+
+    fn max_utf16_buffer_length(&self, byte_length: usize) -> Option<usize> {
+        C::utf16_length(byte_length, self.held_count())
+    }
+
+    fn max_utf8_buffer_length_without_replacement(&self, byte_length: usize) -> Option<usize> {
+        C::utf8_length_without_replacement(byte_length, self.held_count())
+    }
+
+    fn max_utf8_buffer_length(&self, byte_length: usize) -> Option<usize> {
+        C::utf8_length(byte_length, self.held_count())
+    }
+}

@@ -1,0 +1,14 @@
+//! What all decoders of the legacy encodings share: the small moves that a decoder is made of, the one
+//! loop that makes calls of them, the loops that read runs of common forms ahead of it, and the one decoder
+//! of the codecs whose forms have a lead and a trail.
+#![tactic(auto)]
+
+pub mod ahead;
+pub mod drive;
+pub mod held;
+pub mod lead;
+pub mod machine;
+pub mod pairs;
+pub mod places;
+pub mod trail;
+pub mod two_byte;

@@ -1,0 +1,53 @@
+//! What the codecs with forms of one lead and one trail have in common.
+ghost use Rattle.std.specs.Prelude.{◌≡◌, ℕ, [], ◌∷◌, false, option_to_list};
+ghost use Rattle.legacy_decoder_engine.specs.Steps.{trail_step};
+ghost use Rattle.legacy_decoder_engine.specs.LeadMachines.{lead_first};
+ghost use Rattle.legacy_decoder_engine.specs.Feeding.{Took};
+ghost use Rattle.legacy_decoder_engine.specs.LeadCodecs.{held_bytes};
+
+use crate::held::Lead;
+use crate::machine::Fed;
+
+/// A malformed sequence that the byte ends, with nothing held back behind it.
+#[inline]
+pub fn fault_through(length: u8) -> Fed
+    ensures { result ≡ Fed.Fault length 0 false }
+{
+    Fed::Fault {
+        length,
+        back: 0,
+        unread: false,
+    }
+}
+
+/// Reads the first byte of a form: ASCII is itself, 81 to FE is a lead and held back, and 80 and FF
+/// are malformed.
+#[inline]
+pub fn read_first(byte: u8) -> (Fed, Option<Lead>)
+    ensures { Took (lead_first byte) [] byte result.0 (held_bytes (λ l. l.byte) result.1) }
+{
+    if byte < 0x80 {
+        return (Fed::One(char::from(byte)), None);
+    }
+    match Lead::new(byte) {
+        Some(lead) => (Fed::Nothing, Some(lead)),
+        None => (fault_through(1), None),
+    }
+}
+
+/// Reads the trail behind a lead, where the pair gives this scalar, if it gives any. An ASCII trail of
+/// a pair that gives none is left unread, and the lead alone is malformed; else both are.
+#[inline]
+pub fn read_trail(scalar: Option<char>, trail: u8) -> Fed
+    ensures { (lead : ℕ) → Took (trail_step 1 (option_to_list scalar) trail) (lead ∷ []) trail result [] }
+{
+    match scalar {
+        Some(scalar) => Fed::One(scalar),
+        None if trail < 0x80 => Fed::Fault {
+            length: 1,
+            back: 0,
+            unread: true,
+        },
+        None => fault_through(2),
+    }
+}

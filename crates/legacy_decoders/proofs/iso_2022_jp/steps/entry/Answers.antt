@@ -1,5 +1,0 @@
-use Rattle.legacy_decoders.proofs.Iso2022JpEntries.{entry_narrow}
-use Rattle.legacy_decoders.proofs.iso_2022_jp.steps.entry.Goals as goal
-
-pub returns-clause-narrow : goal.returns-clause-narrow
-returns-clause-narrow c = rw c.idx.ensures (entry_narrow c.args.tables.now c.args.pointer)

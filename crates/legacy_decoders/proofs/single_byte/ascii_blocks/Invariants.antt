@@ -1,9 +1,0 @@
-use Rattle.std.proofs.Common.{◌≤◌, ◌-◌, length, take, IsAscii}
-use Rattle.legacy_decoders.proofs.single_byte.ascii_blocks.Given as goal
-
--- all bytes that were passed are ASCII
-abbrev pub invariant-loop-count : goal.invariant-loop-count
-invariant-loop-count l = (l.count ≤ length l.bytes) × IsAscii (take l.count l.bytes)
-
-abbrev pub decreases-loop-count : goal.decreases-loop-count
-decreases-loop-count l = length l.bytes - l.count

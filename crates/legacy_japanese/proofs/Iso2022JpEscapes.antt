@@ -1,0 +1,113 @@
+-- The runs of ISO-2022-JP on both sides of an escape.
+use Rattle.std.proofs.Common.{◌≡◌, ◌≢◌, ◌∙◌, ℕ, suc, ◌+◌, ◌-◌, ◌<◌, List, ◌∷◌, ◌++◌, length, map, take, drop, get_or, refl, sym, ap, subst, arith, append-nil, length-drop}
+use Rattle.std.proofs.lemmas.Bool.{ne_eqb}
+use Rattle.std.proofs.lemmas.List.{take_all, drop-drop}
+use Rattle.std.proofs.Math.Seq.{drop-cons, take-add}
+use Rattle.legacy_base.specs.declared.results.DecodeEvent.TheVariants.{Scalar}
+use Rattle.legacy_base.specs.EncodingForm.{EncodingForm, all_code_units}
+use Rattle.legacy_base.specs.Events.{shift}
+use Rattle.legacy_base.specs.Grammar.{iso_2022_jp, events_of}
+use Rattle.legacy_base.specs.Iso2022Jp.{esc}
+use Rattle.legacy_base.proofs.Iso2022JpParts.{no_escape}
+use Rattle.legacy_base.proofs.Shifts.{shift-append, shift-shift, shift-scalars}
+use Rattle.legacy_decoder_engine.specs.Ahead.{RunsTo, Runs, ReadsTo, ReadsAhead}
+use Rattle.legacy_decoder_engine.proofs.AheadRuns.{reads_nothing}
+use Rattle.legacy_decoder_engine.proofs.JoinedRuns.{reads_then}
+use Rattle.legacy_japanese.specs.declared.iso_2022_jp.steps.Mode.{Mode}
+use Rattle.legacy_japanese.specs.declared.iso_2022_jp.steps.Escape.{Escape}
+use Rattle.legacy_japanese.specs.declared.iso_2022_jp.steps.Start.TheVariants.{Nothing}
+use Rattle.legacy_japanese.specs.declared.iso_2022_jp.steps.Held.TheVariants.{Begun}
+use Rattle.legacy_japanese.specs.Iso2022JpMachine.{mode_meaning, mode_of, second_of, third_of}
+use Rattle.legacy_japanese.specs.Iso2022JpRuns.{run_state, HasEscape}
+use Rattle.legacy_japanese.proofs.Iso2022JpRooms.{same_rooms, room-falls}
+use Rattle.legacy_japanese.proofs.Iso2022JpLaw.{events_in}
+use Rattle.legacy_japanese.proofs.Iso2022JpStep.{escape_alone}
+
+-- an escape in front of a run of its mode, which begins with no escape byte
+escape_runs : (jis0208 : List ℕ) (mode : Mode) (e : Escape) (x : ℕ) (bytes ds : List ℕ) → x ≢ esc → Runs (iso_2022_jp jis0208 (mode_meaning (mode_of e))) (x ∷ bytes) ds
+    → RunsTo (iso_2022_jp jis0208 (mode_meaning mode)) (iso_2022_jp jis0208 (mode_meaning (mode_of e))) (esc ∷ second_of e ∷ third_of e ∷ x ∷ bytes) ds
+unfolding events_of
+escape_runs jis0208 mode e x bytes ds alone runs = record {
+  events = λ more.
+      let left = events_in jis0208 (mode_of e) more in
+      escape_alone jis0208 mode e (x ∷ bytes ++ more) (no_escape x (bytes ++ more) (ne_eqb x esc alone))
+      ∙ ap (shift 3) (runs.events more)
+      ∙ shift-append 3 (map Scalar ds) (shift (length (x ∷ bytes)) left)
+      ∙ ap (λ es. es ++ shift 3 (shift (length (x ∷ bytes)) left)) (shift-scalars 3 ds)
+      ∙ ap (λ es. map Scalar ds ++ es) (shift-shift 3 (length (x ∷ bytes)) left)
+      ∙ ap (λ n. map Scalar ds ++ shift n left) (omega arith);
+  scalar = runs.scalar;
+  lowers = λ query n.
+      let inner = runs.lowers query n in
+      let outer = room-falls query jis0208 mode (mode_of e) (Begun Nothing) (Begun Nothing) (n + suc (suc (suc (suc (length bytes))))) (n + suc (length bytes)) 3 0 (omega arith) (omega arith) in
+      omega arith;
+}
+
+-- the bytes of a run behind three others, and those of an escape and of the run behind it
+run_bytes : (source : List ℕ) (read : ℕ) → 3 < length source → 0 < read → take read (drop 3 source) ≡ get_or source 3 0 ∷ take (read - 1) (drop 4 source)
+run_bytes source read within some =
+    let one_more : read ≡ suc (read - 1) = omega arith in
+    ap (λ bytes. take read bytes) (drop-cons source 3 0 within) ∙ ap (λ n. take n (get_or source 3 0 ∷ drop 4 source)) one_more
+
+escape_bytes : (e : Escape) (source : List ℕ) (read : ℕ) → HasEscape e source → 0 < read
+    → take (3 + read) source ≡ esc ∷ second_of e ∷ third_of e ∷ get_or source 3 0 ∷ take (read - 1) (drop 4 source)
+escape_bytes e source read has some =
+    take-add 3 read source ∙ ap (λ bytes. bytes ++ take read (drop 3 source)) has.begins
+    ∙ ap (λ bytes. esc ∷ second_of e ∷ third_of e ∷ bytes) (run_bytes source read has.within some)
+
+-- an escape and a run of its mode
+reads_escape : (form : EncodingForm) (jis0208 : List ℕ) (mode : Mode) (e : Escape) (source old new : List ℕ) (read before after : ℕ) → HasEscape e source → 0 < read
+    → ReadsAhead form (run_state jis0208 (mode_of e)) (drop 3 source) read old new before after → ReadsTo form (run_state jis0208 mode) (run_state jis0208 (mode_of e)) source (3 + read) old new before after
+reads_escape form jis0208 mode e source old new read before after has some reads = record {
+  within = let w = reads.within in let l = length-drop 3 source in let k = has.within in omega arith;
+  idle = λ h. refl;
+  empties = λ h. refl;
+  stays = λ z. absurd (omega arith);
+  rooms = same_rooms jis0208 mode (mode_of e);
+  writes = record {
+    scalars = reads.writes.scalars;
+    runs =
+        let g = iso_2022_jp jis0208 (mode_meaning (mode_of e)) in
+        let ds : List ℕ = reads.writes.scalars in
+        let run : Runs g (get_or source 3 0 ∷ take (read - 1) (drop 4 source)) ds = subst (λ bytes. Runs g bytes ds) (run_bytes source read has.within some) reads.writes.runs in
+        subst (λ bytes. RunsTo (iso_2022_jp jis0208 (mode_meaning mode)) g bytes ds) (sym (escape_bytes e source read has some))
+        (escape_runs jis0208 mode e (get_or source 3 0) (take (read - 1) (drop 4 source)) ds has.alone run);
+    written = reads.writes.written;
+  };
+  room = reads.room;
+  slack = λ h. reads.slack some;
+  had = λ h. reads.had some;
+}
+
+-- what is behind so many bytes of a source, as the code has it
+rest_of : (source : List ℕ) (at : ℕ) → take (length source - at) (drop at source) ≡ drop at source
+rest_of source at = take_all (length source - at) (drop at source) (let l = length-drop at source in omega arith)
+
+-- runs, then an escape and a run of its mode
+pub reads_on : (form : EncodingForm) (jis0208 : List ℕ) (first mode next : Mode) (e : Escape) (source old mid new : List ℕ) (at read before between after : ℕ) → next ≡ mode_of e
+    → HasEscape e (take (length source - at) (drop at source)) → 0 < read
+    → ReadsTo form (run_state jis0208 first) (run_state jis0208 mode) source at old mid before between
+    → ReadsAhead form (run_state jis0208 next) (take (length source - (at + 3)) (drop (at + 3) source)) read mid new between after
+    → ReadsTo form (run_state jis0208 first) (run_state jis0208 next) source (at + (3 + read)) old new before after
+reads_on form jis0208 first mode next e source old mid new at read before between after is has some runs reads =
+    let S : List ℕ = take (length source - at) (drop at source) in
+    let rest : take (length source - (at + 3)) (drop (at + 3) source) ≡ drop 3 S = rest_of source (at + 3) ∙ sym (drop-drop 3 at source) ∙ ap (drop 3) (sym (rest_of source at)) in
+    let run : ReadsAhead form (run_state jis0208 (mode_of e)) (drop 3 S) read mid new between after =
+    subst (λ m. ReadsAhead form (run_state jis0208 m) (drop 3 S) read mid new between after) is (subst (λ bytes. ReadsAhead form (run_state jis0208 next) bytes read mid new between after) rest reads)
+    in
+    let both = reads_then form (run_state jis0208 first) (run_state jis0208 mode) (run_state jis0208 (mode_of e)) source old mid new at (3 + read) (length source - at) before between after runs
+    (reads_escape form jis0208 mode e S mid new read between after has some run)
+    in
+    subst (λ m. ReadsTo form (run_state jis0208 first) (run_state jis0208 m) source (at + (3 + read)) old new before after) (sym is) both
+
+-- runs, behind which nothing was read
+pub reads_end : (form : EncodingForm) (jis0208 : List ℕ) (first mode next : Mode) (source behind old mid new : List ℕ) (at read before between after : ℕ) → read ≡ 0
+    → ReadsTo form (run_state jis0208 first) (run_state jis0208 mode) source at old mid before between
+    → ReadsAhead form (run_state jis0208 next) behind read mid new between after
+    → ReadsTo form (run_state jis0208 first) (run_state jis0208 mode) source at old new before after
+reads_end form jis0208 first mode next source behind old mid new at read before between after none runs reads =
+    let nothing = reads_nothing form (run_state jis0208 next) (run_state jis0208 next) behind mid new read between after reads none in
+    let same : new ≡ mid = reads.writes.written ∙ ap (λ cs. mid ++ all_code_units form cs) nothing ∙ append-nil mid in
+    let room : after ≡ between = let l = ap length same in let k = reads.room in omega arith in
+    subst (λ n. ReadsTo form (run_state jis0208 first) (run_state jis0208 mode) source at old n before after) (sym same)
+    (subst (λ n. ReadsTo form (run_state jis0208 first) (run_state jis0208 mode) source at old mid before n) (sym room) runs)

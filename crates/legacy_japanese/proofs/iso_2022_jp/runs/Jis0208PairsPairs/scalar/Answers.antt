@@ -1,0 +1,10 @@
+use Rattle.std.proofs.Common.{◌≤◌, length, arith}
+use Rattle.legacy_base.proofs.Accepted.{length-jis0208}
+use Rattle.legacy_japanese.proofs.Iso2022JpRuns.{placed_scalar}
+use Rattle.legacy_japanese.proofs.iso_2022_jp.runs.Jis0208PairsPairs.scalar.Goals as goal
+
+pub returns : goal.returns
+returns c =
+    let tables = c.args.self.now.tables.now in
+    let short : length tables.flat.jis0208 ≤ 65535 = let most = length-jis0208 tables.flat tables.accepted in omega arith in
+    placed_scalar tables.flat.jis0208 short c.args.first c.args.second c.entry.result (rw c.pair_pointer.ensures at c.entry.ensures.value) c.entry.ensures.narrow

@@ -1,0 +1,36 @@
+-- The machine of the EUC-JP decoder, byte by byte.
+use Rattle.std.specs.Prelude.{ℕ, ◌+◌, ◌-◌, List, [], ◌∷◌, ◌||◌, ◌==◌, if◌then◌else◌}
+use Rattle.std.specs.Int.{is_in_range}
+use Rattle.std.specs.Char.{is_ascii}
+use Rattle.legacy_base.specs.Fronts.{reads, malformed}
+use Rattle.legacy_base.specs.EucJp.{euc_jp_scalars}
+use Rattle.legacy_base.specs.Grammar.{euc_jp}
+use Rattle.legacy_base.specs.States.{is_euc_jp_lead}
+use Rattle.legacy_decoder_engine.specs.Steps.{no_pending}
+use Rattle.legacy_decoder_engine.specs.Steps.{Step, hold, finish, Machine, trail_step}
+
+abbrev pub euc_jp_first : ℕ → Step
+euc_jp_first b =
+    if is_ascii b then finish (reads 1 (b ∷ []))
+    else if (b == 0x8E || b == 0x8F) || is_euc_jp_lead b then hold
+    else finish (malformed 1)
+
+abbrev pub euc_jp_second_step : List ℕ → ℕ → ℕ → Step
+euc_jp_second_step jis0208 lead b =
+    if lead == 0x8E
+    then (if is_in_range 0xA1 0xDF b then finish (reads 2 ((0xFF61 + (b - 0xA1)) ∷ [])) else trail_step 1 [] b)
+    else if lead == 0x8F
+    then (if is_euc_jp_lead b then hold else trail_step 1 [] b)
+    else trail_step 1 (euc_jp_scalars jis0208 lead b) b
+
+abbrev pub euc_jp_step : List ℕ → List ℕ → List ℕ → ℕ → Step
+euc_jp_step jis0208 jis0212 [] b = euc_jp_first b
+euc_jp_step jis0208 jis0212 (lead ∷ []) b = euc_jp_second_step jis0208 lead b
+euc_jp_step jis0208 jis0212 (first ∷ lead ∷ held) b = trail_step 2 (euc_jp_scalars jis0212 lead b) b
+
+abbrev pub euc_jp_machine : List ℕ → List ℕ → Machine
+euc_jp_machine jis0208 jis0212 = record {
+  pending = no_pending;
+  step = euc_jp_step jis0208 jis0212;
+  to = λ held b. euc_jp jis0208 jis0212;
+}

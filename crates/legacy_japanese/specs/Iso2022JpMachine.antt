@@ -1,0 +1,175 @@
+-- An ISO-2022-JP decoder as the code has it, in small functions: it reads a byte at a time, and keeps a mode and what it
+-- holds back.
+use Rattle.std.specs.Prelude.{ℕ, ◌+◌, ◌-◌, ◌*◌, Bool, true, not, ◌==◌, ◌||◌, if◌then◌else◌, Option, Some, None, List, [], ◌∷◌}
+use Rattle.std.specs.Int.{is_in_range}
+use Rattle.std.specs.Char.{is_ascii}
+use Rattle.legacy_base.specs.Indexes.{idx}
+use Rattle.legacy_base.specs.Iso2022Jp as iso
+use Rattle.legacy_base.specs.Iso2022Jp.{esc}
+use Rattle.legacy_base.specs.States.{is_iso_2022_jp_byte, is_two_byte_mode}
+use Rattle.legacy_japanese.specs.declared.iso_2022_jp.steps.Mode.{Mode}
+use Rattle.legacy_japanese.specs.declared.iso_2022_jp.steps.Mode.TheVariants.{Ascii, Roman, Katakana, TwoByte}
+use Rattle.legacy_japanese.specs.declared.iso_2022_jp.steps.Escape.{Escape}
+use Rattle.legacy_japanese.specs.declared.iso_2022_jp.steps.Escape.TheVariants.{ToAscii, ToRoman, ToKatakana, ToJis1978, ToJis1983}
+use Rattle.legacy_japanese.specs.declared.iso_2022_jp.steps.Start.{Start}
+use Rattle.legacy_japanese.specs.declared.iso_2022_jp.steps.Start.TheVariants.{Nothing, EscapeByte, Dollar, Paren}
+use Rattle.legacy_japanese.specs.declared.iso_2022_jp.steps.Held.{Held}
+use Rattle.legacy_japanese.specs.declared.iso_2022_jp.steps.Held.TheVariants.{Byte, Begun, Whole}
+use Rattle.legacy_japanese.specs.declared.iso_2022_jp.steps.Move.{Move}
+use Rattle.legacy_japanese.specs.declared.iso_2022_jp.steps.Move.TheVariants.{Holds, Writes, Reports, Leaves}
+use Rattle.legacy_japanese.specs.declared.iso_2022_jp.steps.Outcome.{Outcome}
+
+-- the mode as the definitions speak of it
+abbrev pub mode_meaning : Mode → iso.Mode
+mode_meaning Ascii = iso.ascii
+mode_meaning Roman = iso.roman
+mode_meaning Katakana = iso.katakana
+mode_meaning TwoByte = iso.two_byte
+
+abbrev pub second_of : Escape → ℕ
+second_of ToAscii = 0x28
+second_of ToRoman = 0x28
+second_of ToKatakana = 0x28
+second_of ToJis1978 = 0x24
+second_of ToJis1983 = 0x24
+
+abbrev pub third_of : Escape → ℕ
+third_of ToAscii = 0x42
+third_of ToRoman = 0x4A
+third_of ToKatakana = 0x49
+third_of ToJis1978 = 0x40
+third_of ToJis1983 = 0x42
+
+abbrev pub mode_of : Escape → Mode
+mode_of ToAscii = Ascii
+mode_of ToRoman = Roman
+mode_of ToKatakana = Katakana
+mode_of ToJis1978 = TwoByte
+mode_of ToJis1983 = TwoByte
+
+abbrev pub start_bytes : Start → List ℕ
+start_bytes Nothing = []
+start_bytes EscapeByte = esc ∷ []
+start_bytes Dollar = esc ∷ 0x24 ∷ []
+start_bytes Paren = esc ∷ 0x28 ∷ []
+
+abbrev pub bytes_of : Held → List ℕ
+bytes_of (Byte b) = b ∷ []
+bytes_of (Begun s) = start_bytes s
+bytes_of (Whole e s) = esc ∷ second_of e ∷ third_of e ∷ start_bytes s
+
+-- a move, with what it leaves
+abbrev pub moves : Move → Mode → Held → Outcome
+moves move mode held = record { action = move; mode = mode; held = held }
+
+-- the scalar of a byte outside two-byte mode
+abbrev pub single : Mode → ℕ → Option ℕ
+single Ascii b = if (b == 0x0E || b == 0x0F) || not (is_ascii b) then None else Some b
+single Roman b =
+    if (b == 0x0E || b == 0x0F) || not (is_ascii b) then None
+    else if b == 0x5C then Some 0xA5
+    else if b == 0x7E then Some 0x203E
+    else Some b
+single Katakana b = if is_in_range 0x21 0x5F b then Some (0xFF61 + (b - 0x21)) else None
+single TwoByte b = None
+
+abbrev pub read_single : Mode → Option ℕ → Outcome
+read_single mode (Some c) = moves (Writes c) mode (Begun Nothing)
+read_single mode None = moves (Reports 1) mode (Begun Nothing)
+
+-- a byte that is no escape byte, with nothing held back
+abbrev pub read_plain : Mode → ℕ → Outcome
+read_plain TwoByte b =
+    if is_in_range 0x21 0x7E b then moves Holds TwoByte (Byte b) else moves (Reports 1) TwoByte (Begun Nothing)
+read_plain mode b = read_single mode (single mode b)
+
+abbrev pub read_pair : Option ℕ → Outcome
+read_pair (Some c) = moves (Writes c) TwoByte (Begun Nothing)
+read_pair None = moves (Reports 2) TwoByte (Begun Nothing)
+
+-- a byte behind a lead
+abbrev pub read_trail : List ℕ → ℕ → ℕ → Outcome
+read_trail jis0208 l b =
+    if b == esc then moves (Reports 1) TwoByte (Begun EscapeByte)
+    else if is_in_range 0x21 0x7E b then read_pair (idx jis0208 ((l - 0x21) * 94 + (b - 0x21)))
+    else moves (Reports 2) TwoByte (Begun Nothing)
+
+-- the escape that a byte completes
+abbrev pub completes : Start → ℕ → Option Escape
+completes Dollar b = if b == 0x40 then Some ToJis1978 else if b == 0x42 then Some ToJis1983 else None
+completes Paren b =
+    if b == 0x42 then Some ToAscii
+    else if b == 0x4A then Some ToRoman
+    else if b == 0x49 then Some ToKatakana
+    else None
+completes _ b = None
+
+-- an escape is whole, or was none: its second byte stands then at the front
+abbrev pub read_third : Mode → ℕ → Option Escape → Outcome
+read_third mode a (Some e) = moves Holds mode (Whole e Nothing)
+read_third mode a None = moves Leaves mode (Byte a)
+
+abbrev pub read_start : Mode → Start → ℕ → Outcome
+read_start mode Nothing b = if b == esc then moves Holds mode (Begun EscapeByte) else read_plain mode b
+read_start mode EscapeByte b =
+    if b == 0x24 then moves Holds mode (Begun Dollar)
+    else if b == 0x28 then moves Holds mode (Begun Paren)
+    else moves Leaves mode (Begun Nothing)
+read_start mode Dollar b = read_third mode 0x24 (completes Dollar b)
+read_start mode Paren b = read_third mode 0x28 (completes Paren b)
+
+-- the next escape is whole, and the one before it had nothing behind it; or it was none
+abbrev pub read_next_third : Mode → ℕ → Option Escape → Outcome
+read_next_third mode a (Some e) = moves (Reports 3) mode (Whole e Nothing)
+read_next_third mode a None = moves Leaves mode (Byte a)
+
+-- a byte behind a whole escape: its mode holds from then on
+abbrev pub read_whole : Mode → Escape → Start → ℕ → Outcome
+read_whole mode e Nothing b = if b == esc then moves Holds mode (Whole e EscapeByte) else read_plain (mode_of e) b
+read_whole mode e EscapeByte b =
+    if b == 0x24 then moves Holds mode (Whole e Dollar)
+    else if b == 0x28 then moves Holds mode (Whole e Paren)
+    else moves Leaves (mode_of e) (Begun Nothing)
+read_whole mode e Dollar b = read_next_third (mode_of e) 0x24 (completes Dollar b)
+read_whole mode e Paren b = read_next_third (mode_of e) 0x28 (completes Paren b)
+
+-- the next byte
+abbrev pub read : List ℕ → Mode → Held → ℕ → Outcome
+read jis0208 mode (Byte l) b = read_trail jis0208 l b
+read jis0208 mode (Begun s) b = read_start mode s b
+read jis0208 mode (Whole e s) b = read_whole mode e s b
+
+-- ---- what is held back
+
+-- what may be held back in a mode: a byte alone is a lead, or outside two-byte mode `24` or `28`
+abbrev pub is_held : Mode → Held → Bool
+is_held mode (Byte b) = is_iso_2022_jp_byte (mode_meaning mode) b
+is_held mode (Begun s) = true
+is_held mode (Whole e s) = true
+
+-- a byte alone outside two-byte mode is written before anything is read
+abbrev pub is_resting : Mode → Held → Bool
+is_resting mode (Byte b) = is_two_byte_mode (mode_meaning mode)
+is_resting mode (Begun s) = true
+is_resting mode (Whole e s) = true
+
+-- ---- without a byte
+
+-- the scalar that is to be written first: of `24` or `28`, outside two-byte mode
+abbrev pub pending : Mode → Held → Option ℕ
+pending mode (Byte b) = single mode b
+pending mode (Begun s) = None
+pending mode (Whole e s) = None
+
+-- The end of input, with nothing to write: it reports one malformed byte, and this is the mode and what is held back
+-- then; or nothing is left.
+abbrev pub finish_start : Mode → Start → Option (Mode × Held)
+finish_start mode Nothing = None
+finish_start mode EscapeByte = Some (mode, Begun Nothing)
+finish_start mode Dollar = Some (mode, Byte 0x24)
+finish_start mode Paren = Some (mode, Byte 0x28)
+
+abbrev pub finish : Mode → Held → Option (Mode × Held)
+finish mode (Byte l) = Some (mode, Begun Nothing)
+finish mode (Begun s) = finish_start mode s
+finish mode (Whole e s) = finish_start (mode_of e) s

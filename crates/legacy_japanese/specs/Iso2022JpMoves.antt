@@ -1,0 +1,70 @@
+-- What the steps of an ISO-2022-JP decoder are to the loop of all decoders.
+use Rattle.std.specs.Prelude.{ℕ, ◌+◌, ◌-◌, ◌<◌, List, [], ◌∷◌, Bool, true, false, Option, Some, None, length}
+use Rattle.std.specs.Char.{IsScalar}
+use Rattle.legacy_base.specs.declared.results.DecodeEvent.{DecodeEvent}
+use Rattle.legacy_base.specs.declared.results.DecodeEvent.TheVariants.{Scalar, Bad}
+use Rattle.legacy_base.specs.Grammar.{iso_2022_jp}
+use Rattle.legacy_base.specs.States.{DecoderState}
+use Rattle.legacy_decoder_engine.specs.declared.machine.Fed.{Fed}
+use Rattle.legacy_decoder_engine.specs.declared.machine.Fed.TheVariants.{Nothing, One, Fault}
+use Rattle.legacy_japanese.specs.declared.iso_2022_jp.steps.Mode.{Mode}
+use Rattle.legacy_japanese.specs.declared.iso_2022_jp.steps.Held.{Held}
+use Rattle.legacy_japanese.specs.declared.iso_2022_jp.steps.Move.{Move}
+use Rattle.legacy_japanese.specs.declared.iso_2022_jp.steps.Move.TheVariants.{Holds, Writes, Reports, Leaves}
+use Rattle.legacy_japanese.specs.declared.iso_2022_jp.steps.Held.TheVariants.{Byte, Begun, Whole}
+use Rattle.legacy_japanese.specs.declared.iso_2022_jp.steps.Outcome.{Outcome}
+use Rattle.legacy_japanese.specs.Iso2022JpMachine.{mode_meaning, start_bytes, bytes_of}
+
+-- the state with this index, in this mode, with this held back
+abbrev pub state_in : List ℕ → Mode → Held → DecoderState
+state_in jis0208 mode held = record { grammar = iso_2022_jp jis0208 (mode_meaning mode); held = bytes_of held }
+
+-- the byte is left unread
+abbrev pub is_left : Move → Bool
+is_left Leaves = true
+is_left _ = false
+
+-- the events of a move behind which so many bytes are done with
+abbrev pub move_events : ℕ → Move → List DecodeEvent
+move_events taken Holds = []
+move_events taken (Writes c) = Scalar c ∷ []
+move_events taken (Reports a) = Bad (taken - a) a ∷ []
+move_events taken Leaves = Bad (taken - 1) 1 ∷ []
+
+-- how often a move takes the room of a scalar
+abbrev pub rooms_of : Move → ℕ
+rooms_of Holds = 0
+rooms_of (Writes c) = 1
+rooms_of (Reports a) = 1
+rooms_of Leaves = 1
+
+-- what the loop is told of a move behind which so many bytes are held back
+abbrev pub fed_by : Move → ℕ → Fed
+fed_by Holds back = Nothing
+fed_by (Writes c) back = One c
+fed_by (Reports a) back = Fault a back false
+fed_by Leaves back = Fault 1 back true
+
+-- what the loop is told of a step
+abbrev pub fed_of : Outcome → Fed
+fed_of o = fed_by o.action (length (bytes_of o.held))
+
+-- what the loop is told of the end of the input: one malformed byte, and how many are held back behind it
+abbrev pub report_of : Option (Mode × Held) → Option (ℕ × ℕ)
+report_of None = None
+report_of (Some o) = Some (1, length (bytes_of o.1))
+
+-- how many bytes to come those held back are worth: a whole escape counts as one
+abbrev pub weight_of : Held → ℕ
+weight_of (Byte b) = 1
+weight_of (Begun s) = length (start_bytes s)
+weight_of (Whole e s) = 1 + length (start_bytes s)
+
+-- a scalar up to U+FFFF
+abbrev pub IsNarrowScalar : ℕ → Type 0
+IsNarrowScalar c = (c < 0x1_0000) × IsScalar c
+
+-- a move writes no other
+abbrev pub IsNarrow : Move → Type 0
+IsNarrow (Writes c) = IsNarrowScalar c
+IsNarrow _ = Unit {0}

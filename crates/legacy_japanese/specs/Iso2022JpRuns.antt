@@ -1,0 +1,30 @@
+-- What an ISO-2022-JP decoder reads in runs.
+use Rattle.std.specs.Prelude.{◌≡◌, ◌≢◌, ℕ, ◌<◌, List, [], ◌∷◌, length, take, get_or}
+use Rattle.legacy_base.specs.Grammar.{Grammar, iso_2022_jp}
+use Rattle.legacy_base.specs.Iso2022Jp.{esc, two_byte}
+use Rattle.legacy_base.specs.States.{DecoderState}
+use Rattle.legacy_japanese.specs.declared.iso_2022_jp.runs.Jis0208Pairs.{Jis0208Pairs}
+use Rattle.legacy_japanese.specs.declared.iso_2022_jp.steps.Escape.{Escape}
+use Rattle.legacy_japanese.specs.declared.iso_2022_jp.steps.Mode.{Mode}
+use Rattle.legacy_japanese.specs.declared.iso_2022_jp.steps.Start.TheVariants.{Nothing}
+use Rattle.legacy_japanese.specs.declared.iso_2022_jp.steps.Held.TheVariants.{Begun}
+use Rattle.legacy_japanese.specs.Iso2022JpMachine.{second_of, third_of}
+use Rattle.legacy_japanese.specs.Iso2022JpMoves.{state_in}
+
+-- an ASCII byte that is a scalar in ASCII mode, and no escape byte
+abbrev pub IsPlain : ℕ → Type 0
+IsPlain b = (b < 0x80) × (b ≢ 0x0E) × (b ≢ 0x0F) × (b ≢ esc)
+
+-- a mode, with nothing held back
+abbrev pub run_state : List ℕ → Mode → DecoderState
+run_state jis0208 mode = state_in jis0208 mode (Begun Nothing)
+
+-- the bytes begin with the escape, and a byte that is no escape byte stands behind it
+pub record HasEscape (escape : Escape) (bytes : List ℕ) : Type 0 where
+  pub within : 3 < length bytes
+  pub begins : take 3 bytes ≡ esc ∷ second_of escape ∷ third_of escape ∷ []
+  pub alone : get_or bytes 3 0 ≢ esc
+
+-- the grammar of pairs
+abbrev pub pairs_grammar : Jis0208Pairs → Grammar
+pairs_grammar pairs = iso_2022_jp pairs.tables.now.flat.jis0208 two_byte

@@ -1,0 +1,12 @@
+-- How the decoders work inside: nothing here has to be believed. What they promise is said by legacy_base.
+pub mod EucJpHeld
+pub mod EucJpDecoder
+pub mod EucJpMachine
+pub mod Iso2022JpMachine
+pub mod Iso2022JpMoves
+pub mod Iso2022JpDecoder
+pub mod Iso2022JpRuns
+pub mod Jis0208Places
+pub mod ShiftJisMachine
+pub mod ShiftJisPlaces
+pub mod ShiftJisShown

@@ -1,0 +1,3 @@
+//! EUC-JP.
+pub mod decoder;
+pub mod lead;

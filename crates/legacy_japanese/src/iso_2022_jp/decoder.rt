@@ -1,0 +1,136 @@
+//! The decoder of ISO-2022-JP.
+ghost use Rattle.std.specs.Prelude.{◌≡◌, [], true};
+ghost use Rattle.legacy_base.specs.Grammar.{iso_2022_jp};
+ghost use Rattle.legacy_base.specs.Iso2022Jp.{ascii};
+ghost use Rattle.legacy_base.specs.States.{is_neutral, new_state};
+ghost use Rattle.legacy_japanese.specs.Iso2022JpMachine.{is_held};
+ghost use Rattle.legacy_japanese.specs.Iso2022JpMoves.{weight_of};
+
+use legacy_base::{DecoderResult, Destination, RawDecoder, Tables};
+use legacy_decoder_engine::drive::drive;
+use legacy_decoder_engine::machine::{Act, Fed, Machine, Room};
+use super::runs::read_modes;
+use super::steps::{Held, Mode, Start, finish, pending, read};
+
+/// The decoder of ISO-2022-JP (Encoding Standard, "ISO-2022-JP decoder").
+///
+/// An escape of three bytes switches between ASCII, JIS X 0201 Roman, half-width katakana and the pairs
+/// of JIS X 0208; the mode lasts over calls. An escape byte that begins no valid escape is malformed,
+/// and so is a valid escape that stands directly before another. At most five bytes are held back: a
+/// whole escape, which is kept till a byte that is no part of an escape follows it, and two bytes.
+#[derive(Drop)]
+pub struct Iso2022JpDecoder<'a> {
+    tables: &'a Tables<'a>,
+    mode: Mode,
+    held: Held,
+    ghost sound: { is_held mode held ≡ true },
+}
+
+impl<'a> Iso2022JpDecoder<'a> {
+    ghost use Rattle.legacy_japanese.specs.Iso2022JpDecoder.{iso_2022_jp_state};
+
+    /// A decoder before its first byte: in ASCII mode, with nothing held back. Pairs are looked up in
+    /// index jis0208 of the tables, which stay borrowed.
+    pub fn new(tables: &'a Tables<'a>) -> Iso2022JpDecoder<'a>
+        ensures { iso_2022_jp_state result ≡ new_state (iso_2022_jp tables.now.flat.jis0208 ascii) }
+    {
+        Iso2022JpDecoder {
+            tables,
+            mode: Mode::Ascii,
+            held: Held::Begun(Start::Nothing),
+        }
+    }
+
+    /// Whether no byte is held back and the mode is ASCII, as in a new decoder. An escape with nothing
+    /// behind it is held back, so behind an escape to ASCII mode alone the answer is false.
+    pub fn in_neutral_state(&self) -> bool
+        ensures { result ≡ is_neutral (iso_2022_jp_state self.now) }
+    {
+        match (self.mode, self.held) {
+            (Mode::Ascii, Held::Begun(Start::Nothing)) => true,
+            _ => false,
+        }
+    }
+}
+
+impl<'a> Machine for Iso2022JpDecoder<'a> {
+    ghost use Rattle.legacy_japanese.specs.Iso2022JpDecoder.{iso_2022_jp_state};
+
+    ghost state = { iso_2022_jp_state };
+
+    #[inline]
+    fn rests(&self) -> bool {
+        match (self.mode, self.held) {
+            (Mode::TwoByte, _) => true,
+            (_, Held::Byte(_)) => false,
+            _ => true,
+        }
+    }
+
+    #[inline]
+    fn room(&self, _act: Act) -> Room {
+        Room::Narrow
+    }
+
+    fn release(&mut self) -> Option<char> {
+        let scalar = pending(self.mode, self.held)?;
+        self.held = Held::Begun(Start::Nothing);
+        Some(scalar)
+    }
+
+    #[inline]
+    fn feed(&mut self, byte: u8) -> Fed {
+        let outcome = read(self.tables, self.mode, self.held, byte);
+        self.mode = outcome.mode;
+        self.held = outcome.held;
+        outcome.fed()
+    }
+
+    fn has_rest(&self) -> bool {
+        finish(self.mode, self.held).is_some()
+    }
+
+    fn report(&mut self) -> Option<(u8, u8)> {
+        let (mode, held) = finish(self.mode, self.held)?;
+        self.mode = mode;
+        self.held = held;
+        Some((1, held.count()))
+    }
+
+    #[inline]
+    fn read_runs<T: Destination>(&mut self, src: &[u8], dst: &mut T) -> usize {
+        if !matches!(self.held, Held::Begun(Start::Nothing)) {
+            return 0;
+        }
+        let (mode, read) = read_modes(self.tables, self.mode, src, dst);
+        self.mode = mode;
+        read
+    }
+}
+
+impl<'a> RawDecoder for Iso2022JpDecoder<'a> {
+    ghost use Rattle.legacy_japanese.specs.Iso2022JpDecoder.{iso_2022_jp_state};
+
+    ghost state = { iso_2022_jp_state };
+
+    fn step<T: Destination>(
+        &mut self,
+        src: &[u8],
+        dst: &mut T,
+        last: bool,
+    ) -> (DecoderResult, usize) {
+        drive(self, src, dst, last)
+    }
+
+    fn max_utf16_buffer_length(&self, byte_length: usize) -> Option<usize> {
+        byte_length.checked_add(self.held.weight())
+    }
+
+    fn max_utf8_buffer_length_without_replacement(&self, byte_length: usize) -> Option<usize> {
+        byte_length.checked_add(self.held.weight())?.checked_mul(3)
+    }
+
+    fn max_utf8_buffer_length(&self, byte_length: usize) -> Option<usize> {
+        byte_length.checked_add(self.held.weight())?.checked_mul(3)
+    }
+}

@@ -1,0 +1,151 @@
+//! The runs of ISO-2022-JP: plain ASCII in ASCII mode, pairs of index jis0208 in two-byte mode, and the
+//! escapes between them.
+// Inlined always is what runs for each form or block: a call would pass vectors through memory, and put the
+// destination's place there from form to form.
+ghost use Rattle.std.specs.Prelude.{◌≡◌, ℕ, ◌+◌, ◌<◌, ◌≤◌, List, All, IfSome, length, take, true};
+ghost use Rattle.legacy_japanese.specs.Iso2022JpRuns.{IsPlain, run_state, HasEscape};
+ghost use Rattle.legacy_decoder_engine.specs.Ahead.{ReadsTo, ReadsAhead};
+
+use super::steps::{DOLLAR, ESCAPE, Escape, Mode, PAREN, Start, completed, entry};
+use legacy_base::{Destination, Tables};
+use legacy_decoder_engine::pairs::{Pairs, read_pairs};
+use super::places::pair_pointer;
+
+/// The pairs of two-byte mode.
+#[derive(Drop)]
+struct Jis0208Pairs<'a> {
+    tables: &'a Tables<'a>,
+}
+
+impl Pairs for Jis0208Pairs<'_> {
+    ghost use Rattle.legacy_japanese.specs.Iso2022JpRuns.{pairs_grammar};
+
+    ghost grammar = { pairs_grammar };
+
+    #[inline(always)]
+    fn scalar(&self, first: u8, second: u8) -> Option<char> {
+        entry(self.tables, pair_pointer(first, second))
+    }
+}
+
+/// Whether the byte is its own scalar in ASCII mode, and begins no escape.
+#[inline]
+fn is_plain(byte: u8) -> bool
+    ensures { result ≡ true → IsPlain byte }
+{
+    byte < 0x80 && byte != 0x0E && byte != 0x0F && byte != 0x1B
+}
+
+/// Whether the first sixteen bytes are all such.
+// No byte ends the loop early, so the compiler tests them at once.
+#[inline(always)]
+fn are_plain(src: &[u8]) -> bool
+    requires { 16 ≤ length src.now }
+    ensures { result ≡ true → All IsPlain (take 16 src.now) }
+{
+    let mut hold = true;
+    let mut at = 0;
+    while at < 16 {
+        hold = hold && is_plain(src[at]);
+        at += 1;
+    }
+    hold
+}
+
+/// How many bytes at the front are in blocks of sixteen such bytes.
+#[inline]
+fn plain_blocks(src: &[u8]) -> usize
+    ensures within { result ≤ length src.now }
+    ensures plain { All IsPlain (take result src.now) }
+{
+    let mut at = 0;
+    while src.len() - at >= 16 && are_plain(&src[at..]) {
+        at += 16;
+    }
+    at
+}
+
+/// How many such bytes are at the front.
+#[inline]
+fn plain_count(src: &[u8]) -> usize
+    ensures within { result ≤ length src.now }
+    ensures plain { All IsPlain (take result src.now) }
+{
+    let mut at = plain_blocks(src);
+    while at < src.len() && is_plain(src[at]) {
+        at += 1;
+    }
+    at
+}
+
+/// Reads such bytes from the front, in ASCII mode, as many as leave three code units free. Answers how
+/// many were read: none is an answer too.
+#[inline]
+fn read_plain<T: Destination>(src: &[u8], dst: &mut T) -> usize
+    ensures ahead { (jis0208 : List ℕ) → ReadsAhead T.form (run_state jis0208 Mode.Ascii) src.now result (T.contents dst.old) (T.contents dst.new) (T.room dst.old) (T.room dst.new) }
+    ensures loan { T.loan dst.new ≡ T.loan dst.old }
+{
+    let most = dst.free().saturating_sub(3).min(src.len());
+    let count = plain_count(&src[..most]);
+    let mut at = dst.copy_ascii(&src[..count]);
+    while at < count {
+        dst.put(char::from(src[at]));
+        at += 1;
+    }
+    count
+}
+
+/// Reads a run of the mode from the front. Answers how many bytes were read: none is an answer too.
+fn read_mode<T: Destination>(tables: &Tables, mode: Mode, src: &[u8], dst: &mut T) -> usize
+    ensures ahead { ReadsAhead T.form (run_state tables.now.flat.jis0208 mode) src.now result (T.contents dst.old) (T.contents dst.new) (T.room dst.old) (T.room dst.new) }
+    ensures loan { T.loan dst.new ≡ T.loan dst.old }
+{
+    match mode {
+        Mode::Ascii => read_plain(src, dst),
+        Mode::TwoByte => read_pairs(&Jis0208Pairs { tables }, src, dst),
+        Mode::Roman | Mode::Katakana => 0,
+    }
+}
+
+/// The valid escape at the front, where a byte that is no escape byte stands behind it.
+#[inline]
+fn escape_at(src: &[u8]) -> Option<Escape>
+    ensures { IfSome result (λ escape. HasEscape escape src.now) }
+{
+    if src.len() < 4 || src[0] != ESCAPE || src[3] == ESCAPE {
+        return None;
+    }
+    if src[1] == DOLLAR {
+        completed(Start::Dollar, src[2])
+    } else if src[1] == PAREN {
+        completed(Start::Paren, src[2])
+    } else {
+        None
+    }
+}
+
+/// Reads a run of the mode from the front, and on behind each escape that a run of its mode follows.
+/// Answers the mode at the end, and how many bytes were read.
+#[inline]
+pub fn read_modes<T: Destination>(
+    tables: &Tables,
+    first: Mode,
+    src: &[u8],
+    dst: &mut T,
+) -> (Mode, usize)
+    ensures runs { ReadsTo T.form (run_state tables.now.flat.jis0208 first) (run_state tables.now.flat.jis0208 result.0) src.now result.1 (T.contents dst.old) (T.contents dst.new) (T.room dst.old) (T.room dst.new) }
+    ensures loan { T.loan dst.new ≡ T.loan dst.old }
+{
+    let mut mode = first;
+    let mut at = read_mode(tables, mode, src, dst);
+    while let Some(escape) = escape_at(&src[at..]) {
+        let next = escape.mode();
+        let read = read_mode(tables, next, &src[at + 3..], dst);
+        if read == 0 {
+            break;
+        }
+        mode = next;
+        at += 3 + read;
+    }
+    (mode, at)
+}

@@ -1,0 +1,425 @@
+//! The steps of an ISO-2022-JP decoder: what each byte, and the end of the input, makes of its mode and
+//! of what it holds back (Encoding Standard, "ISO-2022-JP decoder").
+ghost use Rattle.std.specs.Prelude.{◌≡◌, ◌≤◌, IfSome, length, true};
+ghost use Rattle.legacy_base.specs.Indexes.{idx};
+ghost use Rattle.legacy_japanese.specs.Iso2022JpMachine as machine;
+ghost use Rattle.legacy_japanese.specs.Iso2022JpMachine.{start_bytes, bytes_of, is_held, is_resting};
+ghost use Rattle.legacy_japanese.specs.declared.iso_2022_jp.steps.Mode.TheVariants.{Ascii, TwoByte};
+ghost use Rattle.legacy_japanese.specs.Iso2022JpMoves.{fed_of, weight_of, IsNarrow, IsNarrowScalar};
+
+use legacy_base::{IndexName, Tables};
+use legacy_decoder_engine::machine::Fed;
+
+/// How the bytes behind an escape are read.
+#[derive(Clone, Copy)]
+pub enum Mode {
+    Ascii,
+    Roman,
+    Katakana,
+    TwoByte,
+}
+
+/// The five valid escapes.
+#[derive(Clone, Copy)]
+pub enum Escape {
+    ToAscii,
+    ToRoman,
+    ToKatakana,
+    ToJis1978,
+    ToJis1983,
+}
+
+/// How far an escape has come: nothing, `1B`, `1B 24` or `1B 28`.
+#[derive(Clone, Copy)]
+pub enum Start {
+    Nothing,
+    EscapeByte,
+    Dollar,
+    Paren,
+}
+
+/// What is held back: a byte by itself, the start of an escape, or a whole escape and the start of the
+/// next. A byte by itself is a lead in two-byte mode, and else `24` or `28`, to be read in the mode.
+#[derive(Clone, Copy)]
+pub enum Held {
+    Byte(u8),
+    Begun(Start),
+    Whole(Escape, Start),
+}
+
+/// What a step does that shows.
+#[derive(Clone, Copy)]
+pub enum Move {
+    /// The byte is held back.
+    Holds,
+    /// The byte completes a scalar.
+    Writes(char),
+    /// The byte ends a malformed sequence of so many bytes, or stands behind it and is held back.
+    Reports(u8),
+    /// The first byte that was held back is malformed, and the byte is not read.
+    Leaves,
+}
+
+/// What a step does, and leaves.
+#[derive(Clone, Copy)]
+pub struct Outcome {
+    pub action: Move,
+    pub mode: Mode,
+    pub held: Held,
+}
+
+/// The escape byte.
+pub const ESCAPE: u8 = 0x1B;
+/// The second byte of the escapes to two-byte mode.
+pub const DOLLAR: u8 = 0x24;
+/// The second byte of the other escapes.
+pub const PAREN: u8 = 0x28;
+
+impl Escape {
+    /// The mode that the escape switches to.
+    pub fn mode(self) -> Mode
+        ensures { result ≡ machine.mode_of self }
+    {
+        match self {
+            Escape::ToAscii => Mode::Ascii,
+            Escape::ToRoman => Mode::Roman,
+            Escape::ToKatakana => Mode::Katakana,
+            Escape::ToJis1978 => Mode::TwoByte,
+            Escape::ToJis1983 => Mode::TwoByte,
+        }
+    }
+}
+
+impl Start {
+    /// How many bytes it has.
+    fn count(self) -> u8
+        ensures value { result ≡ length (start_bytes self) }
+        ensures few { result ≤ 2 }
+    {
+        match self {
+            Start::Nothing => 0,
+            Start::EscapeByte => 1,
+            Start::Dollar => 2,
+            Start::Paren => 2,
+        }
+    }
+}
+
+impl Held {
+    /// How many bytes it has.
+    pub fn count(self) -> u8
+        ensures { result ≡ length (bytes_of self) }
+    {
+        match self {
+            Held::Byte(_) => 1,
+            Held::Begun(start) => start.count(),
+            Held::Whole(_, start) => 3 + start.count(),
+        }
+    }
+
+    /// How many bytes to come it is worth in a length: a whole escape counts as one.
+    pub fn weight(self) -> usize
+        ensures { result ≡ weight_of self }
+    {
+        match self {
+            Held::Byte(_) => 1,
+            Held::Begun(start) => usize::from(start.count()),
+            Held::Whole(_, start) => 1 + usize::from(start.count()),
+        }
+    }
+}
+
+impl Outcome {
+    /// A move, with what it leaves.
+    fn new(action: Move, mode: Mode, held: Held) -> Outcome
+        ensures { result ≡ machine.moves action mode held }
+    {
+        Outcome { action, mode, held }
+    }
+
+    /// What the loop is told of the step.
+    pub fn fed(self) -> Fed
+        ensures { result ≡ fed_of self }
+    {
+        match self.action {
+            Move::Holds => Fed::Nothing,
+            Move::Writes(c) => Fed::One(c),
+            Move::Reports(length) => Fed::Fault {
+                length,
+                back: self.held.count(),
+                unread: false,
+            },
+            Move::Leaves => Fed::Fault {
+                length: 1,
+                back: self.held.count(),
+                unread: true,
+            },
+        }
+    }
+}
+
+/// The scalar of an ASCII byte that the codec gives one.
+fn ascii_scalar(byte: u8) -> Option<char>
+    ensures value { result ≡ machine.single Ascii byte }
+    ensures narrow { IfSome result IsNarrowScalar }
+{
+    if byte == 0x0E || byte == 0x0F || byte >= 0x80 {
+        None
+    } else {
+        Some(char::from(byte))
+    }
+}
+
+/// The scalar of a byte outside two-byte mode.
+fn single_scalar(mode: Mode, byte: u8) -> Option<char>
+    ensures value { result ≡ machine.single mode byte }
+    ensures narrow { IfSome result IsNarrowScalar }
+{
+    match mode {
+        Mode::Ascii => ascii_scalar(byte),
+        Mode::Roman => {
+            if byte == 0x5C {
+                Some('\u{A5}')
+            } else if byte == 0x7E {
+                Some('\u{203E}')
+            } else {
+                ascii_scalar(byte)
+            }
+        }
+        Mode::Katakana => {
+            if byte >= 0x21 && byte <= 0x5F {
+                char::from_u32(0xFF61 + u32::from(byte - 0x21))
+            } else {
+                None
+            }
+        }
+        Mode::TwoByte => None,
+    }
+}
+
+/// The escape that a byte completes.
+pub fn completed(start: Start, byte: u8) -> Option<Escape>
+    ensures { result ≡ machine.completes start byte }
+{
+    match start {
+        Start::Nothing => None,
+        Start::EscapeByte => None,
+        Start::Dollar => {
+            if byte == 0x40 {
+                Some(Escape::ToJis1978)
+            } else if byte == 0x42 {
+                Some(Escape::ToJis1983)
+            } else {
+                None
+            }
+        }
+        Start::Paren => {
+            if byte == 0x42 {
+                Some(Escape::ToAscii)
+            } else if byte == 0x4A {
+                Some(Escape::ToRoman)
+            } else if byte == 0x49 {
+                Some(Escape::ToKatakana)
+            } else {
+                None
+            }
+        }
+    }
+}
+
+/// The scalar of a pointer in index jis0208.
+#[inline]
+pub fn entry(tables: &Tables, pointer: usize) -> Option<char>
+    ensures value { result ≡ idx tables.now.flat.jis0208 pointer }
+    ensures narrow { IfSome result IsNarrowScalar }
+{
+    tables.idx(IndexName::Jis0208, pointer)
+}
+
+/// A byte that is no escape byte, in two-byte mode with nothing held back.
+fn read_lead(byte: u8) -> Outcome
+    ensures value { result ≡ machine.read_plain TwoByte byte }
+    ensures narrow { IsNarrow result.action }
+{
+    if byte >= 0x21 && byte <= 0x7E {
+        Outcome::new(Move::Holds, Mode::TwoByte, Held::Byte(byte))
+    } else {
+        Outcome::new(Move::Reports(1), Mode::TwoByte, Held::Begun(Start::Nothing))
+    }
+}
+
+/// What a scalar in the mode leads to, or its lack.
+fn read_single(mode: Mode, scalar: Option<char>) -> Outcome
+    requires { IfSome scalar IsNarrowScalar }
+    ensures value { result ≡ machine.read_single mode scalar }
+    ensures narrow { IsNarrow result.action }
+{
+    match scalar {
+        Some(c) => Outcome::new(Move::Writes(c), mode, Held::Begun(Start::Nothing)),
+        None => Outcome::new(Move::Reports(1), mode, Held::Begun(Start::Nothing)),
+    }
+}
+
+/// A byte that is no escape byte, with nothing held back.
+fn read_plain(mode: Mode, byte: u8) -> Outcome
+    ensures value { result ≡ machine.read_plain mode byte }
+    ensures narrow { IsNarrow result.action }
+{
+    match mode {
+        Mode::TwoByte => read_lead(byte),
+        _ => read_single(mode, single_scalar(mode, byte)),
+    }
+}
+
+/// A byte behind a lead. An escape byte ends the lead, and is held back itself.
+fn read_trail(tables: &Tables, lead: u8, byte: u8) -> Outcome
+    requires low { 0x21 ≤ lead }
+    requires high { lead ≤ 0x7E }
+    ensures value { result ≡ machine.read_trail tables.now.flat.jis0208 lead byte }
+    ensures narrow { IsNarrow result.action }
+{
+    if byte == ESCAPE {
+        return Outcome::new(
+            Move::Reports(1),
+            Mode::TwoByte,
+            Held::Begun(Start::EscapeByte),
+        );
+    }
+    let mut action = Move::Reports(2);
+    if byte >= 0x21 && byte <= 0x7E {
+        let pointer = usize::from(lead - 0x21) * 94 + usize::from(byte - 0x21);
+        if let Some(c) = entry(tables, pointer) {
+            action = Move::Writes(c);
+        }
+    }
+    Outcome::new(action, Mode::TwoByte, Held::Begun(Start::Nothing))
+}
+
+/// A byte behind an escape byte and a second byte: the escape is whole, or the escape byte is malformed
+/// and the second byte is held back by itself.
+fn read_third(mode: Mode, second: u8, escape: Option<Escape>) -> Outcome
+    ensures value { result ≡ machine.read_third mode second escape }
+    ensures narrow { IsNarrow result.action }
+{
+    match escape {
+        Some(escape) => Outcome::new(Move::Holds, mode, Held::Whole(escape, Start::Nothing)),
+        None => Outcome::new(Move::Leaves, mode, Held::Byte(second)),
+    }
+}
+
+/// A byte behind less than a whole escape.
+fn read_start(mode: Mode, start: Start, byte: u8) -> Outcome
+    ensures value { result ≡ machine.read_start mode start byte }
+    ensures narrow { IsNarrow result.action }
+{
+    match start {
+        Start::Nothing => {
+            if byte == ESCAPE {
+                Outcome::new(Move::Holds, mode, Held::Begun(Start::EscapeByte))
+            } else {
+                read_plain(mode, byte)
+            }
+        }
+        Start::EscapeByte => {
+            if byte == DOLLAR {
+                Outcome::new(Move::Holds, mode, Held::Begun(Start::Dollar))
+            } else if byte == PAREN {
+                Outcome::new(Move::Holds, mode, Held::Begun(Start::Paren))
+            } else {
+                Outcome::new(Move::Leaves, mode, Held::Begun(Start::Nothing))
+            }
+        }
+        Start::Dollar => read_third(mode, DOLLAR, completed(start, byte)),
+        Start::Paren => read_third(mode, PAREN, completed(start, byte)),
+    }
+}
+
+/// A byte behind a whole escape, an escape byte and a second byte: the next escape is whole, and the one
+/// before it is malformed, since nothing stands between them; or the escape byte is malformed.
+fn read_next_third(mode: Mode, second: u8, escape: Option<Escape>) -> Outcome
+    ensures value { result ≡ machine.read_next_third mode second escape }
+    ensures narrow { IsNarrow result.action }
+{
+    match escape {
+        Some(next) => Outcome::new(Move::Reports(3), mode, Held::Whole(next, Start::Nothing)),
+        None => Outcome::new(Move::Leaves, mode, Held::Byte(second)),
+    }
+}
+
+/// A byte behind a whole escape, whose mode holds from then on.
+fn read_whole(mode: Mode, escape: Escape, start: Start, byte: u8) -> Outcome
+    ensures value { result ≡ machine.read_whole mode escape start byte }
+    ensures narrow { IsNarrow result.action }
+{
+    let new_mode = escape.mode();
+    match start {
+        Start::Nothing => {
+            if byte == ESCAPE {
+                Outcome::new(Move::Holds, mode, Held::Whole(escape, Start::EscapeByte))
+            } else {
+                read_plain(new_mode, byte)
+            }
+        }
+        Start::EscapeByte => {
+            if byte == DOLLAR {
+                Outcome::new(Move::Holds, mode, Held::Whole(escape, Start::Dollar))
+            } else if byte == PAREN {
+                Outcome::new(Move::Holds, mode, Held::Whole(escape, Start::Paren))
+            } else {
+                Outcome::new(Move::Leaves, new_mode, Held::Begun(Start::Nothing))
+            }
+        }
+        Start::Dollar => read_next_third(new_mode, DOLLAR, completed(start, byte)),
+        Start::Paren => read_next_third(new_mode, PAREN, completed(start, byte)),
+    }
+}
+
+/// The next byte, where what is held back rests.
+pub fn read(tables: &Tables, mode: Mode, held: Held, byte: u8) -> Outcome
+    requires sound { is_held mode held ≡ true }
+    requires rests { is_resting mode held ≡ true }
+    ensures value { result ≡ machine.read tables.now.flat.jis0208 mode held byte }
+    ensures narrow { IsNarrow result.action }
+{
+    match held {
+        Held::Byte(lead) => read_trail(tables, lead, byte),
+        Held::Begun(start) => read_start(mode, start, byte),
+        Held::Whole(escape, start) => read_whole(mode, escape, start, byte),
+    }
+}
+
+/// The scalar that is to be written before anything is read, if there is one: `24` or `28` outside
+/// two-byte mode.
+pub fn pending(mode: Mode, held: Held) -> Option<char>
+    ensures value { result ≡ machine.pending mode held }
+    ensures narrow { IfSome result IsNarrowScalar }
+{
+    match held {
+        Held::Byte(byte) => single_scalar(mode, byte),
+        Held::Begun(_) => None,
+        Held::Whole(_, _) => None,
+    }
+}
+
+/// The end of the input behind the start of an escape: its first byte is malformed.
+fn finish_start(mode: Mode, start: Start) -> Option<(Mode, Held)>
+    ensures { result ≡ machine.finish_start mode start }
+{
+    match start {
+        Start::Nothing => None,
+        Start::EscapeByte => Some((mode, Held::Begun(Start::Nothing))),
+        Start::Dollar => Some((mode, Held::Byte(DOLLAR))),
+        Start::Paren => Some((mode, Held::Byte(PAREN))),
+    }
+}
+
+/// The end of the input: what one malformed byte leaves, or nothing where none is left.
+pub fn finish(mode: Mode, held: Held) -> Option<(Mode, Held)>
+    ensures { result ≡ machine.finish mode held }
+{
+    match held {
+        Held::Byte(_) => Some((mode, Held::Begun(Start::Nothing))),
+        Held::Begun(start) => finish_start(mode, start),
+        Held::Whole(escape, start) => finish_start(escape.mode(), start),
+    }
+}

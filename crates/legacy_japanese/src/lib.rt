@@ -1,0 +1,11 @@
+//! The legacy multi-byte Japanese encodings (Encoding Standard, section "Legacy multi-byte Japanese
+//! encodings"): EUC-JP, ISO-2022-JP and Shift_JIS.
+#![tactic(auto)]
+
+mod euc_jp;
+mod iso_2022_jp;
+mod shift_jis;
+
+pub use euc_jp::decoder::EucJpDecoder;
+pub use iso_2022_jp::decoder::Iso2022JpDecoder;
+pub use shift_jis::decoder::{ShiftJis, ShiftJisDecoder};

@@ -1,0 +1,4 @@
+//! Shift_JIS.
+pub mod decoder;
+pub mod lead;
+pub mod places;

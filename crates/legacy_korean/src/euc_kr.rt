@@ -1,0 +1,3 @@
+//! EUC-KR.
+pub mod decoder;
+pub mod places;

@@ -1,7 +1,0 @@
-use Rattle.std.proofs.Common.{refl, arith}
-use Rattle.legacy_machines.proofs.PairPlaces.{lead_read, gb18030_trail_read}
-use Rattle.legacy_machines.proofs.places.gb18030_pointer.Goals as goal
-
-pub returns : goal.returns
-returns c =
-    rw (c.from-2.ensures, c.from-4.ensures, c.from.ensures, c.from-3.ensures, lead_read c.args.lead (omega arith), gb18030_trail_read c.args.trail (omega arith)) refl

@@ -1,0 +1,30 @@
+-- The machine of the replacement decoder does what its grammar says.
+use Rattle.std.proofs.Common.{◌≡◌, ℕ, List, [], ◌∷◌, Bool, true, false, cond, refl, arith}
+use Rattle.std.proofs.lemmas.Bool.{false≢true}
+use Rattle.legacy_base.specs.Fronts.{reads, malformed}
+use Rattle.legacy_base.specs.Grammar.{replacement, events_of}
+use Rattle.legacy_base.specs.Replacement.{replacement_events}
+use Rattle.legacy_base.specs.States.{is_empty}
+use Rattle.legacy_decoder_engine.specs.Steps.{finish, StepMeets, end_events, Meets}
+use Rattle.legacy_miscellaneous.specs.ReplacementMachine.{replacement_machine}
+use Rattle.legacy_decoder_engine.proofs.OneByteMeets.{few_held}
+
+replacement_steps : (reported : Bool) (held : List ℕ) (b : ℕ) → is_empty held ≡ true → StepMeets (replacement reported) held b (cond reported (finish (reads 1 [])) (finish (malformed 1))) (replacement true)
+unfolding events_of replacement_events
+replacement_steps true [] b h = record { goes_on = λ more. refl; counts = omega arith; fault = tt; few = omega arith; allowed = refl }
+replacement_steps false [] b h = record { goes_on = λ more. refl; counts = omega arith; fault = (omega arith, omega arith); few = omega arith; allowed = refl }
+replacement_steps reported (c ∷ held) b h = absurd (false≢true h)
+
+replacement_ends : (reported : Bool) (held : List ℕ) → is_empty held ≡ true → events_of (replacement reported) held ≡ end_events held
+unfolding events_of replacement_events
+replacement_ends true [] h = refl
+replacement_ends false [] h = refl
+replacement_ends reported (b ∷ held) h = absurd (false≢true h)
+
+pub replacement_meets : (reported : Bool) → Meets (replacement reported) (replacement_machine reported)
+replacement_meets reported = record {
+  writes = λ held h. refl;
+  steps = λ held b h r. replacement_steps reported held b h;
+  ends = λ held h r. replacement_ends reported held h;
+  few = few_held;
+}

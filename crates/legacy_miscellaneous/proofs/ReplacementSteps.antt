@@ -1,0 +1,29 @@
+-- The moves of the replacement decoder, which holds nothing back.
+use Rattle.std.proofs.Common.{◌≡◌, ℕ, [], Bool, true, false, refl}
+use Rattle.std.proofs.lemmas.List.Elements.{All-nil}
+use Rattle.legacy_base.specs.Unicode.{IsByte}
+use Rattle.legacy_base.specs.Grammar.{replacement, events_of}
+use Rattle.legacy_decoder_engine.specs.declared.machine.Fed.TheVariants.{Nothing, Fault}
+use Rattle.legacy_decoder_engine.specs.Moves.{IsCovered, Feeds}
+use Rattle.legacy_decoder_engine.specs.Costs.{state_of}
+use Rattle.legacy_decoder_engine.proofs.Feeding as moves
+use Rattle.legacy_miscellaneous.proofs.ReplacementShown.{replacement_shown}
+
+-- the first byte is reported
+pub feeds_first : (reported : Bool) (b : ℕ) → IsByte b → reported ≡ false →
+    Feeds (state_of (replacement reported) []) b (state_of (replacement true) []) (Fault 1 0 false)
+feeds_first reported b byte e =
+    rw e (moves.feeds (replacement_shown false) [] refl (All-nil IsByte) b byte refl (Fault 1 0 false) [] (record { answer = refl; holds = refl; scalar = tt }))
+
+-- each byte behind it is swallowed
+pub feeds_more : (reported : Bool) (b : ℕ) → IsByte b → reported ≡ true →
+    Feeds (state_of (replacement reported) []) b (state_of (replacement reported) []) Nothing
+feeds_more reported b byte e =
+    rw e (moves.feeds (replacement_shown true) [] refl (All-nil IsByte) b byte refl Nothing [] (record { answer = refl; holds = refl; scalar = tt }))
+
+module _ (reported : Bool) where
+  pub covered : IsCovered (state_of (replacement reported) [])
+  covered = moves.covered (replacement_shown reported) [] refl (All-nil IsByte)
+
+  pub events-none : events_of (replacement reported) [] ≡ []
+  events-none = moves.ends_none (replacement_shown reported) [] refl (All-nil IsByte) refl refl

@@ -1,0 +1,71 @@
+-- The events of UTF-16 by way of units are those of the fronts.
+use Rattle.std.proofs.Common.{◌≡◌, ℕ, ◌+◌, ◌*◌, List, [], ◌∷◌, ◌++◌, Bool, true, false, cond, refl, sym, ap, ◌∙◌, ◌||◌, ◌&&◌, arith}
+use Rattle.std.proofs.lemmas.Bool.{and_left, and_right}
+use Rattle.std.specs.Char.Utf16.{is_high_surrogate, is_low_surrogate, surrogate_pair_char}
+use Rattle.legacy_base.specs.declared.results.DecodeEvent.{DecodeEvent}
+use Rattle.legacy_base.specs.declared.results.DecodeEvent.TheVariants.{Scalar, Bad}
+use Rattle.legacy_base.specs.Fronts.{Front, reads, malformed, cut}
+use Rattle.legacy_base.specs.Utf16.{unit_of, units_of, has_odd_byte, lone_unit_events, last_unit_events, units_events}
+use Rattle.legacy_miscellaneous.specs.Utf16Fronts.{lone_unit_front, utf16_front}
+use Rattle.legacy_base.proofs.Cuts.{cut_at}
+
+-- ---- units
+
+paired : (i u v : ℕ) (units : List ℕ) (odd : Bool) → (is_high_surrogate u && is_low_surrogate v) ≡ true →
+    units_events i (u ∷ v ∷ units) odd ≡ Scalar (surrogate_pair_char u v) ∷ units_events (i + 2) units odd
+unfolding units_events
+paired i u v units odd e = rw (e, units_events)
+
+unpaired : (i u v : ℕ) (units : List ℕ) (odd : Bool) → (is_high_surrogate u && is_low_surrogate v) ≡ false →
+    units_events i (u ∷ v ∷ units) odd ≡ lone_unit_events i u ++ units_events (i + 1) (v ∷ units) odd
+unfolding units_events
+unpaired i u v units odd e = rw (e, units_events)
+
+-- ---- fronts
+
+-- two bytes of a lone unit
+cut_lone : (front : ℕ → List ℕ → Front) (i u a b : ℕ) (rest : List ℕ) → front a (b ∷ rest) ≡ lone_unit_front u →
+    cut front 0 (2 * i) (a ∷ b ∷ rest) ≡ lone_unit_events i u ++ cut front 0 (2 * (i + 1)) rest
+cut_lone front i u a b rest h = go (is_high_surrogate u || is_low_surrogate u) h
+  where
+    place : 2 * i + 2 ≡ 2 * (i + 1)
+    place = omega arith
+
+    go : (t : Bool) → front a (b ∷ rest) ≡ cond t (malformed 2) (reads 2 (u ∷ [])) →
+        cut front 0 (2 * i) (a ∷ b ∷ rest) ≡ cond t (Bad (2 * i) 2 ∷ []) (Scalar u ∷ []) ++ cut front 0 (2 * (i + 1)) rest
+    go true h = rw (← place) (cut_at front (2 * i) a (b ∷ rest) (malformed 2) h (omega arith))
+    go false h = rw (← place) (cut_at front (2 * i) a (b ∷ rest) (reads 2 (u ∷ [])) h (omega arith))
+
+-- ---- both
+
+pub utf16_cut : (be : Bool) (i : ℕ) (bytes : List ℕ) → units_events i (units_of be bytes) (has_odd_byte bytes) ≡ cut (utf16_front be) 0 (2 * i) bytes
+unfolding units_of has_odd_byte units_events utf16_front cut
+utf16_cut be i [] = refl
+utf16_cut be i (a ∷ []) = refl
+utf16_cut be i (a ∷ b ∷ []) =
+    let e : (is_high_surrogate (unit_of be a b) && false) ≡ false = and_right (is_high_surrogate (unit_of be a b)) false refl in
+    rw e (sym (cut_lone (utf16_front be) i (unit_of be a b) a b [] refl))
+utf16_cut be i (a ∷ b ∷ c ∷ []) = three (is_high_surrogate (unit_of be a b)) refl
+  where
+    three : (t : Bool) → is_high_surrogate (unit_of be a b) ≡ t → last_unit_events i (unit_of be a b) true ≡ cut (utf16_front be) 0 (2 * i) (a ∷ b ∷ c ∷ [])
+    three true e = rw e
+    three false e =
+        let f : (is_high_surrogate (unit_of be a b) && true) ≡ false = and_left (is_high_surrogate (unit_of be a b)) true e in
+        rw f (sym (cut_lone (utf16_front be) i (unit_of be a b) a b (c ∷ []) (rw e)))
+utf16_cut be i (a ∷ b ∷ c ∷ d ∷ rest) = four (utf16_cut be (i + 2) rest) (utf16_cut be (i + 1) (c ∷ d ∷ rest)) (is_high_surrogate (unit_of be a b) && is_low_surrogate (unit_of be c d)) refl
+  where
+    place : 2 * i + 4 ≡ 2 * (i + 2)
+    place = omega arith
+
+    four : units_events (i + 2) (units_of be rest) (has_odd_byte rest) ≡ cut (utf16_front be) 0 (2 * (i + 2)) rest →
+        units_events (i + 1) (units_of be (c ∷ d ∷ rest)) (has_odd_byte (c ∷ d ∷ rest)) ≡ cut (utf16_front be) 0 (2 * (i + 1)) (c ∷ d ∷ rest) →
+        (t : Bool) → (is_high_surrogate (unit_of be a b) && is_low_surrogate (unit_of be c d)) ≡ t →
+        units_events i (unit_of be a b ∷ unit_of be c d ∷ units_of be rest) (has_odd_byte rest) ≡ cut (utf16_front be) 0 (2 * i) (a ∷ b ∷ c ∷ d ∷ rest)
+    four h₂ h₁ true e =
+        paired i (unit_of be a b) (unit_of be c d) (units_of be rest) (has_odd_byte rest) e
+        ∙ (ap (λ (es : List DecodeEvent). Scalar (surrogate_pair_char (unit_of be a b) (unit_of be c d)) ∷ es) (h₂ ∙ ap (λ (p : ℕ). cut (utf16_front be) 0 p rest) (sym place))
+        ∙ sym (cut_at (utf16_front be) (2 * i) a (b ∷ c ∷ d ∷ rest) (reads 4 (surrogate_pair_char (unit_of be a b) (unit_of be c d) ∷ [])) (rw e) (omega arith)))
+    four h₂ h₁ false e =
+        unpaired i (unit_of be a b) (unit_of be c d) (units_of be rest) (has_odd_byte rest) e
+        ∙ (ap (λ (es : List DecodeEvent). lone_unit_events i (unit_of be a b) ++ es) h₁
+        ∙ sym (cut_lone (utf16_front be) i (unit_of be a b) a b (c ∷ d ∷ rest) (rw e)))

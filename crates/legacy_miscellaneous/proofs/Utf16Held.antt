@@ -1,0 +1,101 @@
+-- What a UTF-16 decoder holds back is what its machine may hold back.
+use Rattle.std.proofs.Common.{◌≡◌, ◌≢◌, ℕ, ◌<◌, List, [], ◌∷◌, length, Bool, true, false, refl, arith, Some}
+use Rattle.std.proofs.lemmas.Bool.Decides.{nat_tests}
+use Rattle.std.proofs.lemmas.List.Elements.{All-nil, All-cons}
+use Rattle.std.specs.Char.{IsScalar}
+use Rattle.std.specs.Char.Utf16.{is_high_surrogate, is_low_surrogate}
+use Rattle.legacy_base.specs.Unicode.{IsByte, AreBytes}
+use Rattle.legacy_base.specs.Grammar.{utf16, events_of}
+use Rattle.legacy_base.specs.States.{utf16_may_hold, rests}
+use Rattle.legacy_base.specs.Utf16.{unit_of}
+use Rattle.legacy_miscellaneous.specs.declared.utf16.held.Held.{Held}
+use Rattle.legacy_miscellaneous.specs.declared.utf16.held.Held.TheVariants.{Nothing, Odd, High, HighOdd, Pending}
+use Rattle.legacy_miscellaneous.specs.declared.utf16.held.UnitScalar.{UnitScalar}
+use Rattle.legacy_decoder_engine.specs.declared.machine.Fed.{Fed}
+use Rattle.legacy_decoder_engine.specs.Moves.{IsCovered, Feeds, Releases, Reports}
+use Rattle.legacy_decoder_engine.specs.Costs.{state_of}
+use Rattle.legacy_decoder_engine.specs.Feeding.{Took}
+use Rattle.legacy_miscellaneous.specs.Utf16Machine.{utf16_step, utf16_pending}
+use Rattle.legacy_miscellaneous.specs.Utf16Decoder.{first_byte, second_byte, held_bytes}
+use Rattle.legacy_decoder_engine.proofs.Feeding as moves
+use Rattle.legacy_miscellaneous.proofs.Utf16Meets.{utf16_meets}
+use Rattle.legacy_miscellaneous.proofs.Utf16Shown.{utf16_shown}
+
+-- the two bytes of a unit make the unit
+pub unit_of-bytes : (be : Bool) (u : ℕ) → unit_of be (first_byte be u) (second_byte be u) ≡ u
+unit_of-bytes true u = omega arith
+unit_of-bytes false u = omega arith
+
+first_below : (be : Bool) (u : ℕ) → u < 0x1_0000 → IsByte (first_byte be u)
+first_below true u h = omega arith
+first_below false u h = omega arith
+
+second_below : (be : Bool) (u : ℕ) → u < 0x1_0000 → IsByte (second_byte be u)
+second_below true u h = omega arith
+second_below false u h = omega arith
+
+high_below : (u : ℕ) → is_high_surrogate u ≡ true → u < 0x1_0000
+high_below u h = grind (arith, nat_tests)
+
+high_not_low : (u : ℕ) → is_high_surrogate u ≡ true → is_low_surrogate u ≡ false
+high_not_low u h = grind (arith, nat_tests)
+
+scalar_is : (u : ℕ) → u < 0x1_0000 → is_high_surrogate u ≡ false → is_low_surrogate u ≡ false → IsScalar u
+scalar_is u h k l = grind (arith, nat_tests)
+
+are_two : (be : Bool) (u : ℕ) → u < 0x1_0000 → (bytes : List ℕ) → AreBytes bytes → AreBytes (first_byte be u ∷ second_byte be u ∷ bytes)
+are_two be u h bytes all = All-cons IsByte (first_byte be u) (second_byte be u ∷ bytes) (first_below be u h) (All-cons IsByte (second_byte be u) bytes (second_below be u h) all)
+
+module _ (be : Bool) where
+  may : (h : Held) → utf16_may_hold be (held_bytes be h) ≡ true
+  may Nothing = refl
+  may (Odd odd) = refl
+  may (High high) = rw (unit_of-bytes be high.unit, high_not_low high.unit high.is_high) refl
+  may (HighOdd high odd) = rw (unit_of-bytes be high.unit) high.is_high
+  may (Pending pending) = rw (unit_of-bytes be pending.scalar, pending.is_not_low) refl
+
+  bytes : (h : Held) → AreBytes (held_bytes be h)
+  bytes Nothing = All-nil IsByte
+  bytes (Odd odd) = All-cons IsByte odd.byte [] odd.is_byte (All-nil IsByte)
+  bytes (High high) = are_two be high.unit (high_below high.unit high.is_high) [] (All-nil IsByte)
+  bytes (HighOdd high odd) = are_two be high.unit (high_below high.unit high.is_high) (odd.byte ∷ []) (All-cons IsByte odd.byte [] odd.is_byte (All-nil IsByte))
+  bytes (Pending pending) = are_two be pending.scalar pending.is_unit [] (All-nil IsByte)
+
+  pub covered : (h : Held) → IsCovered (state_of (utf16 be) (held_bytes be h))
+  covered h = moves.covered (utf16_shown be) (held_bytes be h) (may h) (bytes h)
+
+  pub feeds : (h : Held) (b : ℕ) → IsByte b → rests (utf16 be) (held_bytes be h) ≡ true → (fed : Fed) (kept : List ℕ) →
+      Took (utf16_step be (held_bytes be h) b) (held_bytes be h) b fed kept → Feeds (state_of (utf16 be) (held_bytes be h)) b (state_of (utf16 be) kept) fed
+  feeds h b byte r fed kept took = moves.feeds (utf16_shown be) (held_bytes be h) (may h) (bytes h) b byte r fed kept took
+
+  resting : (h : Held) (pending : UnitScalar) → h ≡ Pending pending → rests (utf16 be) (held_bytes be h) ≡ false
+  resting h p e = rw (e, unit_of-bytes be p.scalar) p.is_not_high
+
+  pending_is : (p : UnitScalar) → utf16_pending be (held_bytes be (Pending p)) ≡ Some (2, p.scalar)
+  pending_is p = rw (unit_of-bytes be p.scalar, p.is_not_high) refl
+
+  pub releases : (p : UnitScalar) → Releases (state_of (utf16 be) (held_bytes be (Pending p))) (state_of (utf16 be) []) p.scalar
+  releases p =
+      moves.releases (utf16_shown be) (held_bytes be (Pending p)) (may (Pending p)) (bytes (Pending p)) 2 p.scalar (resting (Pending p) p refl) (pending_is p)
+      (scalar_is p.scalar p.is_unit p.is_not_high p.is_not_low)
+
+  pub reports : (h : Held) → rests (utf16 be) (held_bytes be h) ≡ true → held_bytes be h ≢ [] → Reports (state_of (utf16 be) (held_bytes be h)) (state_of (utf16 be) []) (length (held_bytes be h)) 0
+  reports h r some = moves.reports_all (utf16_shown be) (held_bytes be h) (may h) (bytes h) r some
+
+  -- there is something to report exactly where something is held back
+  pub events-none : events_of (utf16 be) [] ≡ []
+  events-none = moves.ends_none (utf16_shown be) [] refl (All-nil IsByte) refl refl
+
+  some_rest : (h : Held) → rests (utf16 be) (held_bytes be h) ≡ true → held_bytes be h ≢ [] → events_of (utf16 be) (held_bytes be h) ≢ []
+  some_rest h r n = moves.ends_some (utf16_shown be) (held_bytes be h) (may h) (bytes h) r n
+
+  pub events-some : (h : Held) → (h ≡ Nothing → ⊥) → events_of (utf16 be) (held_bytes be h) ≢ []
+  events-some Nothing n = absurd (n refl)
+  events-some (Odd odd) n = some_rest (Odd odd) refl (λ e. cc)
+  events-some (High high) n = some_rest (High high) (rw (unit_of-bytes be high.unit) high.is_high) (λ e. cc)
+  events-some (HighOdd high odd) n = some_rest (HighOdd high odd) refl (λ e. cc)
+  events-some (Pending p) n = λ e.
+      let w = (utf16_meets be).writes (held_bytes be (Pending p)) (may (Pending p)) in
+      let w' = rw (pending_is p) at w in
+      let g = w'.1.goes_on [] in
+      cc

@@ -1,0 +1,159 @@
+-- What is shown of UTF-16.
+use Rattle.std.proofs.Common.{◌≡◌, ℕ, ◌+◌, ◌*◌, ◌<◌, ◌≤◌, List, [], ◌∷◌, length, get_or, Bool, true, false, cond, Some, None, refl, inl, arith}
+use Rattle.std.proofs.lemmas.Bool.{false≢true, true≢false}
+use Rattle.legacy_decoder_engine.specs.Costs.{utf8_count}
+use Rattle.std.specs.Char.Utf16.{is_high_surrogate, is_low_surrogate, surrogate_pair_char}
+use Rattle.legacy_base.specs.Unicode.{IsByte, AreBytes}
+use Rattle.legacy_base.specs.Fronts.{reads, malformed}
+use Rattle.legacy_base.specs.Grammar.{utf16}
+use Rattle.legacy_base.specs.Utf16.{unit_of}
+use Rattle.legacy_base.specs.States.{DecoderState, utf16_may_hold, rests}
+use Rattle.legacy_base.specs.Acts.{act_room, takes}
+use Rattle.legacy_decoder_engine.specs.Costs.{utf8_room, utf16_room}
+use Rattle.legacy_decoder_engine.specs.Steps.{Step, hold, finish, leave, step_held}
+use Rattle.legacy_miscellaneous.specs.Utf16Machine.{utf16_machine, utf16_pending, utf16_step}
+use Rattle.legacy_decoder_engine.specs.Costs.{utf16_count, step_units, step_left, IsWidth, state_of, RoomMeets, WritePays, utf8_without_room}
+use Rattle.legacy_miscellaneous.proofs.Utf16Meets.{utf16_meets}
+use Rattle.legacy_base.specs.Lengths.{LengthQuery, to_utf16, to_utf8, to_utf8_without_replacement}
+use Rattle.legacy_decoder_engine.specs.Shown.{KeepsRooms, IsShown, WriteSettles}
+use Rattle.legacy_decoder_engine.proofs.CallUnderWay.{same_rooms}
+use Rattle.legacy_miscellaneous.proofs.Utf16Settles.{utf16_settles}
+use Rattle.legacy_decoder_engine.proofs.SettledSteps.{write_test}
+use Rattle.legacy_decoder_engine.proofs.Widths.{width_utf8, width_utf16}
+use Rattle.legacy_decoder_engine.proofs.RoomMoves.{no_short_room, cond_most, all_needs}
+
+-- What a step is to write: `narrow` for each two bytes that the input and what is held back have less.
+record Halved (len : ℕ → ℕ) (narrow wide : ℕ) (held : List ℕ) (b : ℕ) (s : Step) : Type 0 where
+  pairs : ℕ
+  fits : step_units len narrow s ≤ wide
+  units_most : step_units len narrow s ≤ narrow * pairs
+  fewer : (length (step_held s held b) + step_left s) + 2 * pairs ≤ length held + 1
+
+halved_test : (len : ℕ → ℕ) (narrow wide : ℕ) (held : List ℕ) (b : ℕ) (t : Bool) (s₁ s₂ : Step) →
+    (t ≡ true → Halved len narrow wide held b s₁) → (t ≡ false → Halved len narrow wide held b s₂) → Halved len narrow wide held b (cond t s₁ s₂)
+halved_test len narrow wide held b true s₁ s₂ f₁ f₂ = f₁ refl
+halved_test len narrow wide held b false s₁ s₂ f₁ f₂ = f₂ refl
+
+unit_below : (be : Bool) (a b : ℕ) → a < 0x100 → b < 0x100 → unit_of be a b < 0x1_0000
+unit_below true a b h k = omega arith
+unit_below false a b h k = omega arith
+
+byte_at : (held : List ℕ) (i : ℕ) → AreBytes held → i < length held → get_or held i 0 < 0x100
+byte_at held i h l = h i 0 l
+
+-- the room of `held` bytes and n to come falls by u where these have 2 * pairs fewer
+abbrev IsHalved : (DecoderState → ℕ → ℕ) → Bool → ℕ → Type 0
+IsHalved room be narrow = (held held' : List ℕ) (n n' u pairs : ℕ) → u ≤ narrow * pairs → (n' + length held') + 2 * pairs ≤ n + length held → room (state_of (utf16 be) held') n' + u ≤ room (state_of (utf16 be) held) n
+
+module _ (be : Bool) where
+  module _ (len : ℕ → ℕ) (narrow wide : ℕ) (w : IsWidth len narrow wide) where
+    halved : (held : List ℕ) (b : ℕ) → utf16_may_hold be held ≡ true → rests (utf16 be) held ≡ true → AreBytes held → IsByte b → Halved len narrow wide held b (utf16_step be held b)
+    halved [] b h r bytes byte = record { pairs = 0; fits = omega arith; units_most = omega arith; fewer = omega arith }
+    halved (a ∷ []) b h r bytes byte =
+        let below : unit_of be a b < 0x1_0000 = unit_below be a b (byte_at (a ∷ []) 0 bytes (omega arith)) byte in
+        let q : len (unit_of be a b) ≤ narrow = w.bmp (unit_of be a b) below in
+        halved_test len narrow wide (a ∷ []) b (is_high_surrogate (unit_of be a b)) hold _
+        (λ k. record { pairs = 0; fits = omega arith; units_most = omega arith; fewer = omega arith })
+        (λ k. halved_test len narrow wide (a ∷ []) b (is_low_surrogate (unit_of be a b)) (finish (malformed 2)) (finish (reads 2 (unit_of be a b ∷ [])))
+        (λ l. record { pairs = 1; fits = omega arith; units_most = omega arith; fewer = omega arith })
+        (λ l. record { pairs = 1; fits = omega arith; units_most = omega arith; fewer = omega arith }))
+    halved (a ∷ b ∷ []) c h r bytes byte = record { pairs = 0; fits = omega arith; units_most = omega arith; fewer = omega arith }
+    halved (a ∷ b ∷ c ∷ []) d h r bytes byte =
+        let q : len (surrogate_pair_char (unit_of be a b) (unit_of be c d)) ≤ wide = w.every (surrogate_pair_char (unit_of be a b) (unit_of be c d)) in
+        halved_test len narrow wide (a ∷ b ∷ c ∷ []) d (is_low_surrogate (unit_of be c d)) (finish (reads 4 (surrogate_pair_char (unit_of be a b) (unit_of be c d) ∷ []))) (finish (malformed 2))
+        (λ l. record { pairs = 2; fits = omega arith; units_most = omega arith; fewer = omega arith })
+        (λ l. record { pairs = 1; fits = omega arith; units_most = omega arith; fewer = omega arith })
+    halved (a ∷ b ∷ c ∷ d ∷ held) e h r bytes byte = absurd (false≢true h)
+
+    step_fits : (held : List ℕ) (b : ℕ) → utf16_may_hold be held ≡ true → rests (utf16 be) held ≡ true → AreBytes held → IsByte b →
+        step_units len narrow (utf16_step be held b) ≤ act_room narrow wide (state_of (utf16 be) held) (takes b)
+    step_fits held b h r bytes byte = rw (no_short_room _ 1 wide) ((halved held b h r bytes byte).fits)
+
+    -- a unit that is written
+    unit_pays : (room : DecoderState → ℕ → ℕ) → IsHalved room be narrow → (held : List ℕ) → utf16_may_hold be held ≡ true → AreBytes held → WritePays len narrow wide room (utf16 be) held (utf16_pending be held)
+    unit_pays room falls [] h bytes = tt
+    unit_pays room falls (a ∷ []) h bytes = tt
+    unit_pays room falls (a ∷ b ∷ []) h bytes = go (is_high_surrogate (unit_of be a b))
+      where
+        below : unit_of be a b < 0x1_0000
+        below = unit_below be a b (byte_at (a ∷ b ∷ []) 0 bytes (omega arith)) (byte_at (a ∷ b ∷ []) 1 bytes (omega arith))
+
+        go : (t : Bool) → WritePays len narrow wide room (utf16 be) (a ∷ b ∷ []) (cond t None (Some (2, unit_of be a b)))
+        go true = tt
+        go false = let q : len (unit_of be a b) ≤ narrow = w.bmp (unit_of be a b) below in (q, λ n. falls (a ∷ b ∷ []) [] n n (len (unit_of be a b)) 1 (omega arith) (omega arith))
+    unit_pays room falls (a ∷ b ∷ c ∷ held) h bytes = tt
+
+    step_pays : (room : DecoderState → ℕ → ℕ) → IsHalved room be narrow → (held : List ℕ) (b n : ℕ) → utf16_may_hold be held ≡ true → rests (utf16 be) held ≡ true → AreBytes held → IsByte b →
+        room (state_of (utf16 be) (step_held (utf16_step be held b) held b)) (n + step_left (utf16_step be held b)) + step_units len narrow (utf16_step be held b) ≤ room (state_of (utf16 be) held) (n + 1)
+    step_pays room falls held b n h r bytes byte =
+        let c : Halved len narrow wide held b (utf16_step be held b) = halved held b h r bytes byte in
+        falls held (step_held (utf16_step be held b) held b) (n + 1) (n + step_left (utf16_step be held b)) (step_units len narrow (utf16_step be held b)) c.pairs c.units_most (let f = c.fewer in omega arith)
+
+  utf16_utf8 : RoomMeets utf8_count 3 4 3 utf8_room (utf16 be) (utf16_machine be)
+  utf16_utf8 = record {
+    step_fits = step_fits utf8_count 3 4 width_utf8;
+    step_pays = step_pays utf8_count 3 4 width_utf8 utf8_room (λ held held' n n' u pairs h k. omega arith);
+    write_pays = λ held h r bytes. unit_pays utf8_count 3 4 width_utf8 utf8_room (λ held held' n n' u pairs h k. omega arith) held h bytes;
+    report_fits = λ held. omega arith;
+    report_pays = λ b held h r. omega arith;
+    needs = λ held unread last h. all_needs 3 4 (utf8_room (state_of (utf16 be) held)) (utf16 be) (utf16_machine be) (utf16_meets be) refl held h (λ b n p. cond_most _ 1 4 _ (omega arith) (omega arith)) (λ n p. omega arith) unread last;
+    rises = λ held n m h. omega arith;
+  }
+
+  utf16_utf16 : RoomMeets utf16_count 1 2 1 utf16_room (utf16 be) (utf16_machine be)
+  utf16_utf16 = record {
+    step_fits = step_fits utf16_count 1 2 width_utf16;
+    step_pays = step_pays utf16_count 1 2 width_utf16 utf16_room (λ held held' n n' u pairs h k. omega arith);
+    write_pays = λ held h r bytes. unit_pays utf16_count 1 2 width_utf16 utf16_room (λ held held' n n' u pairs h k. omega arith) held h bytes;
+    report_fits = λ held. omega arith;
+    report_pays = λ b held h r. omega arith;
+    needs = λ held unread last h. all_needs 1 2 (utf16_room (state_of (utf16 be) held)) (utf16 be) (utf16_machine be) (utf16_meets be) refl held h (λ b n p. cond_most _ 1 2 _ (omega arith) (omega arith)) (λ n p. omega arith) unread last;
+    rises = λ held n m h. omega arith;
+  }
+
+  -- with no malformed sequence counted
+  fewer_units : (len : ℕ → ℕ) (narrow : ℕ) (s : Step) → step_units len 0 s ≤ step_units len narrow s
+  fewer_units len narrow hold = omega arith
+  fewer_units len narrow (finish (reads n cs)) = omega arith
+  fewer_units len narrow (finish (malformed n)) = omega arith
+  fewer_units len narrow (leave n) = omega arith
+
+  without_pays : (held : List ℕ) (b n : ℕ) → utf16_may_hold be held ≡ true → rests (utf16 be) held ≡ true → AreBytes held → IsByte b →
+      utf8_without_room (state_of (utf16 be) (step_held (utf16_step be held b) held b)) (n + step_left (utf16_step be held b)) + step_units utf8_count 0 (utf16_step be held b) ≤ utf8_without_room (state_of (utf16 be) held) (n + 1)
+  without_pays held b n h r bytes byte =
+      let p = step_pays utf8_count 3 4 width_utf8 utf8_without_room (λ held held' n n' u pairs h k. omega arith) held b n h r bytes byte in
+      let q = fewer_units utf8_count 3 (utf16_step be held b) in omega arith
+
+  utf16_without : RoomMeets utf8_count 3 4 0 utf8_without_room (utf16 be) (utf16_machine be)
+  utf16_without = record {
+    step_fits = step_fits utf8_count 3 4 width_utf8;
+    step_pays = λ held b n h r bytes byte. without_pays held b n h r bytes byte;
+    write_pays = λ held h r bytes. unit_pays utf8_count 3 4 width_utf8 utf8_without_room (λ held held' n n' u pairs h k. omega arith) held h bytes;
+    report_fits = λ held. omega arith;
+    report_pays = λ b held h r. omega arith;
+    needs = λ held unread last h. all_needs 3 4 (utf8_without_room (state_of (utf16 be) held)) (utf16 be) (utf16_machine be) (utf16_meets be) refl held h (λ b n p. cond_most _ 1 4 _ (omega arith) (omega arith)) (λ n p. omega arith) unread last;
+    rises = λ held n m h. omega arith;
+  }
+
+  rooms : (query : LengthQuery) → KeepsRooms query (utf16 be) (utf16_machine be)
+  rooms to_utf16 = utf16_utf16
+  rooms to_utf8 = utf16_utf8
+  rooms to_utf8_without_replacement = utf16_without
+
+  write_settles : (held : List ℕ) → utf16_may_hold be held ≡ true → WriteSettles (utf16 be) held (utf16_pending be held)
+  write_settles [] h = tt
+  write_settles (a ∷ []) h = tt
+  write_settles (a ∷ b ∷ []) h = write_test (utf16 be) (a ∷ b ∷ []) (is_high_surrogate (unit_of be a b)) None (Some (2, unit_of be a b)) (λ k. tt) (λ k. refl)
+  write_settles (a ∷ b ∷ d ∷ held) h = tt
+
+  pub utf16_shown : IsShown (utf16 be) (utf16_machine be)
+  utf16_shown = record {
+    meets = utf16_meets be;
+    rooms = rooms;
+    settles = λ held b h r. utf16_settles be held b h r;
+    write_settles = write_settles;
+    same_rooms = λ held b. same_rooms (utf16 be);
+    same_marks = λ held b. refl;
+    ascii_first = λ s b a. absurd (false≢true s);
+    swallows = inl refl;
+  }

@@ -1,0 +1,19 @@
+-- The machine of the x-user-defined decoder, byte by byte.
+use Rattle.std.specs.Prelude.{ℕ, ◌+◌, ◌-◌, [], ◌∷◌, if◌then◌else◌}
+use Rattle.std.specs.Char.{is_ascii}
+use Rattle.legacy_base.specs.Fronts.{reads}
+use Rattle.legacy_base.specs.Grammar.{user_defined}
+use Rattle.legacy_decoder_engine.specs.Steps.{no_pending}
+use Rattle.legacy_decoder_engine.specs.Steps.{Step, finish, Machine}
+
+abbrev pub user_defined_first : ℕ → Step
+user_defined_first b =
+    if is_ascii b then finish (reads 1 (b ∷ []))
+    else finish (reads 1 ((0xF780 + (b - 0x80)) ∷ []))
+
+abbrev pub user_defined_machine : Machine
+user_defined_machine = record {
+  pending = no_pending;
+  step = λ held b. user_defined_first b;
+  to = λ held b. user_defined;
+}

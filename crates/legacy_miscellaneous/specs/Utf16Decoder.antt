@@ -1,0 +1,40 @@
+-- What the UTF-16 decoder is between two calls.
+use Rattle.std.specs.Prelude.{◌≡◌, ℕ, ◌+◌, ◌*◌, ◌<◌, slice_index, ◌/◌, ◌%◌, List, [], ◌∷◌, Bool, if◌then◌else◌}
+use Rattle.legacy_base.specs.Grammar.{Grammar, utf16}
+use Rattle.legacy_base.specs.Utf16.{unit_of}
+use Rattle.legacy_base.specs.States.{DecoderState}
+use Rattle.legacy_miscellaneous.specs.declared.utf16.held.Held.{Held}
+use Rattle.legacy_miscellaneous.specs.declared.utf16.held.Held.TheVariants.{Nothing, Odd, High, HighOdd, Pending}
+use Rattle.legacy_miscellaneous.specs.declared.utf16.decoder.Utf16Decoder.{Utf16Decoder}
+use Rattle.legacy_miscellaneous.specs.declared.utf16.runs.Units.{Units}
+
+-- the first byte of a unit, in the byte order, and the second
+abbrev pub first_byte : Bool → ℕ → ℕ
+first_byte big_endian u = if big_endian then u / 0x100 else u % 0x100
+
+abbrev pub second_byte : Bool → ℕ → ℕ
+second_byte big_endian u = if big_endian then u % 0x100 else u / 0x100
+
+-- the bytes that are held back
+abbrev pub held_bytes : Bool → Held → List ℕ
+held_bytes big_endian Nothing = []
+held_bytes big_endian (Odd odd) = odd.byte ∷ []
+held_bytes big_endian (High high) = first_byte big_endian high.unit ∷ second_byte big_endian high.unit ∷ []
+held_bytes big_endian (HighOdd high odd) = first_byte big_endian high.unit ∷ second_byte big_endian high.unit ∷ odd.byte ∷ []
+held_bytes big_endian (Pending pending) = first_byte big_endian pending.scalar ∷ second_byte big_endian pending.scalar ∷ []
+
+-- the state that its calls speak of
+abbrev pub utf16_state : Utf16Decoder → DecoderState
+utf16_state decoder = record { grammar = utf16 decoder.big_endian; held = held_bytes decoder.big_endian decoder.held }
+
+-- the grammar of units in their byte order
+abbrev pub units_grammar : Units → Grammar
+units_grammar units = utf16 units.big_endian
+
+-- the unit at a place
+abbrev pub unit_at : Bool → List ℕ → ℕ → ℕ
+unit_at big_endian bytes k = unit_of big_endian (slice_index bytes (2 * k)) (slice_index bytes (2 * k + 1))
+
+-- where one of the first n numbers of the block is ASCII, the unit is that number
+abbrev pub HasAsciiUnits : Bool → List ℕ → List ℕ → ℕ → Type 0
+HasAsciiUnits big_endian bytes block n = (k : ℕ) → k < n → slice_index block k < 0x80 → unit_at big_endian bytes k ≡ slice_index block k

@@ -1,0 +1,35 @@
+-- The machine of the UTF-16 decoders, byte by byte.
+use Rattle.std.specs.Prelude.{ℕ, ◌-◌, List, [], ◌∷◌, Bool, Option, Some, None, if◌then◌else◌}
+use Rattle.std.specs.Char.Utf16.{is_high_surrogate, is_low_surrogate, surrogate_pair_char}
+use Rattle.legacy_base.specs.Fronts.{reads, malformed}
+use Rattle.legacy_base.specs.Utf16.{unit_of}
+use Rattle.legacy_base.specs.Grammar.{utf16}
+use Rattle.legacy_decoder_engine.specs.Steps.{Step, hold, finish, Machine}
+
+-- a unit that is no high surrogate
+abbrev pub utf16_pending : Bool → List ℕ → Option (ℕ × ℕ)
+utf16_pending big_endian (a ∷ b ∷ []) = if is_high_surrogate (unit_of big_endian a b) then None else Some (2, unit_of big_endian a b)
+utf16_pending big_endian _ = None
+
+-- the step at a whole unit with nothing in front of it
+abbrev pub utf16_unit_step : ℕ → Step
+utf16_unit_step u =
+    if is_high_surrogate u then hold
+    else if is_low_surrogate u then finish (malformed 2)
+    else finish (reads 2 (u ∷ []))
+
+abbrev pub utf16_step : Bool → List ℕ → ℕ → Step
+utf16_step big_endian [] b = hold
+utf16_step big_endian (a ∷ []) b = utf16_unit_step (unit_of big_endian a b)
+utf16_step big_endian (a ∷ b ∷ []) c = hold
+utf16_step big_endian (a ∷ b ∷ c ∷ held) d =
+    if is_low_surrogate (unit_of big_endian c d)
+    then finish (reads 4 (surrogate_pair_char (unit_of big_endian a b) (unit_of big_endian c d) ∷ []))
+    else finish (malformed 2)
+
+abbrev pub utf16_machine : Bool → Machine
+utf16_machine big_endian = record {
+  pending = utf16_pending big_endian;
+  step = utf16_step big_endian;
+  to = λ held b. utf16 big_endian;
+}

@@ -1,0 +1,11 @@
+//! The legacy miscellaneous encodings (Encoding Standard, section "Legacy miscellaneous encodings"):
+//! replacement, UTF-16 in both byte orders, and x-user-defined.
+#![tactic(auto)]
+
+mod replacement;
+mod user_defined;
+mod utf16;
+
+pub use replacement::decoder::ReplacementDecoder;
+pub use user_defined::decoder::UserDefinedDecoder;
+pub use utf16::decoder::Utf16Decoder;

@@ -1,0 +1,2 @@
+//! The replacement decoder.
+pub mod decoder;

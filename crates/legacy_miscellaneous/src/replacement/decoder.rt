@@ -1,0 +1,108 @@
+//! The replacement decoder.
+ghost use Rattle.std.specs.Prelude.{◌≡◌, false};
+ghost use Rattle.legacy_base.specs.Grammar.{replacement};
+ghost use Rattle.legacy_base.specs.States.{new_state};
+
+use legacy_base::{DecoderResult, Destination, RawDecoder};
+use legacy_decoder_engine::drive::drive;
+use legacy_decoder_engine::machine::{Act, Fed, Machine, Room};
+
+/// The replacement decoder (Encoding Standard, "replacement decoder").
+///
+/// The first byte is a malformed sequence, and every byte behind it is swallowed. No scalar is ever
+/// written, and no byte is held back.
+#[derive(Drop)]
+pub struct ReplacementDecoder {
+    has_reported: bool,
+}
+
+impl ReplacementDecoder {
+    ghost use Rattle.legacy_miscellaneous.specs.ReplacementDecoder.{replacement_state};
+
+    /// A decoder before its first byte.
+    pub fn new() -> ReplacementDecoder
+        ensures { replacement_state result ≡ new_state (replacement false) }
+    {
+        ReplacementDecoder {
+            has_reported: false,
+        }
+    }
+}
+
+impl Machine for ReplacementDecoder {
+    ghost use Rattle.legacy_miscellaneous.specs.ReplacementDecoder.{replacement_state};
+
+    ghost state = { replacement_state };
+
+    #[inline]
+    fn rests(&self) -> bool {
+        true
+    }
+
+    #[inline]
+    fn room(&self, act: Act) -> Room {
+        match act {
+            Act::Read(_) => {
+                if self.has_reported {
+                    Room::Nothing
+                } else {
+                    Room::Narrow
+                }
+            }
+            Act::Release | Act::Report => Room::Narrow,
+        }
+    }
+
+    fn release(&mut self) -> Option<char> {
+        None
+    }
+
+    #[inline]
+    fn feed(&mut self, _byte: u8) -> Fed {
+        if self.has_reported {
+            return Fed::Nothing;
+        }
+        self.has_reported = true;
+        Fed::Fault {
+            length: 1,
+            back: 0,
+            unread: false,
+        }
+    }
+
+    #[inline]
+    fn has_rest(&self) -> bool {
+        false
+    }
+
+    fn report(&mut self) -> Option<(u8, u8)> {
+        None
+    }
+}
+
+impl RawDecoder for ReplacementDecoder {
+    ghost use Rattle.legacy_miscellaneous.specs.ReplacementDecoder.{replacement_state};
+
+    ghost state = { replacement_state };
+
+    fn step<T: Destination>(
+        &mut self,
+        src: &[u8],
+        dst: &mut T,
+        last: bool,
+    ) -> (DecoderResult, usize) {
+        drive(self, src, dst, last)
+    }
+
+    fn max_utf16_buffer_length(&self, _byte_length: usize) -> Option<usize> {
+        Some(1)
+    }
+
+    fn max_utf8_buffer_length_without_replacement(&self, _byte_length: usize) -> Option<usize> {
+        Some(3)
+    }
+
+    fn max_utf8_buffer_length(&self, _byte_length: usize) -> Option<usize> {
+        Some(3)
+    }
+}

@@ -1,0 +1,2 @@
+//! x-user-defined.
+pub mod decoder;

@@ -1,0 +1,147 @@
+//! The decoder of x-user-defined.
+// Inlined always is what runs for each form or block: a call would pass vectors through memory, and put the
+// destination's place there from form to form.
+ghost use Rattle.std.specs.Prelude.{◌≡◌, ◌+◌, ◌-◌, if◌then◌else◌};
+ghost use Rattle.std.specs.Char.{is_ascii};
+ghost use Rattle.legacy_base.specs.EncodingForm.{bmp_room};
+ghost use Rattle.legacy_base.specs.Grammar.{user_defined};
+ghost use Rattle.legacy_base.specs.States.{new_state};
+ghost use Rattle.legacy_decoder_engine.specs.Ahead.{ReadsAhead};
+
+use legacy_base::{DecoderResult, Destination, RawDecoder};
+use legacy_decoder_engine::ahead::{CommonForms, Front, ahead};
+use legacy_decoder_engine::drive::drive;
+use legacy_decoder_engine::machine::{Act, Fed, Machine, Room};
+
+/// The decoder of x-user-defined (Encoding Standard, "x-user-defined decoder").
+///
+/// ASCII bytes are themselves, and the bytes 80 to FF are the private-use scalars U+F780 to U+F7FF.
+/// No byte is malformed and none is held back.
+#[derive(Drop)]
+pub struct UserDefinedDecoder {
+    _made_by_new: (),
+}
+
+impl UserDefinedDecoder {
+    ghost use Rattle.legacy_miscellaneous.specs.UserDefinedDecoder.{user_defined_state};
+
+    /// A decoder before its first byte.
+    pub fn new() -> UserDefinedDecoder
+        ensures { user_defined_state result ≡ new_state user_defined }
+    {
+        UserDefinedDecoder { _made_by_new: () }
+    }
+}
+
+/// The scalar of any byte: ASCII is itself, and a byte past it a private-use scalar.
+// Bit 7 is carried into all higher bits, and bit 11 cleared: the compiler makes vectors of it, and no branch.
+#[inline(always)]
+fn scalar_of(byte: u8) -> char
+    ensures { result ≡ (if is_ascii byte then byte else 0xF780 + (byte - 0x80)) }
+{
+    let unit = (u16::from(byte) ^ 0x80).wrapping_sub(0x80) & 0xF7FF;
+    unsafe { char::from_u32_unchecked(u32::from(unit)) }
+}
+
+/// Reads bytes from the front where each scalar up to U+FFFF is one code unit, as many as leave three
+/// free. Answers how many were read: none is an answer too.
+#[inline(always)]
+fn read_units<T: Destination>(src: &[u8], dst: &mut T) -> usize
+    requires { bmp_room T.form ≡ 1 }
+    ensures ahead { ReadsAhead T.form (new_state user_defined) src.now result (T.contents dst.old) (T.contents dst.new) (T.room dst.old) (T.room dst.new) }
+    ensures loan { T.loan dst.new ≡ T.loan dst.old }
+{
+    let count = src.len().min(dst.free().saturating_sub(3));
+    let mut at = 0;
+    while at < count {
+        dst.put(scalar_of(src[at]));
+        at += 1;
+    }
+    count
+}
+
+impl Machine for UserDefinedDecoder {
+    ghost use Rattle.legacy_miscellaneous.specs.UserDefinedDecoder.{user_defined_state};
+
+    ghost state = { user_defined_state };
+
+    #[inline]
+    fn rests(&self) -> bool {
+        true
+    }
+
+    #[inline]
+    fn room(&self, _act: Act) -> Room {
+        Room::Narrow
+    }
+
+    fn release(&mut self) -> Option<char> {
+        None
+    }
+
+    #[inline]
+    fn feed(&mut self, byte: u8) -> Fed {
+        Fed::One(scalar_of(byte))
+    }
+
+    #[inline]
+    fn has_rest(&self) -> bool {
+        false
+    }
+
+    fn report(&mut self) -> Option<(u8, u8)> {
+        None
+    }
+
+    #[inline]
+    fn read_ahead<T: Destination>(&self, src: &[u8], dst: &mut T) -> usize {
+        if T::narrow() == 1 {
+            read_units(src, dst)
+        } else {
+            ahead(self, src, dst)
+        }
+    }
+}
+
+impl CommonForms for UserDefinedDecoder {
+    ghost use Rattle.legacy_miscellaneous.specs.UserDefinedDecoder.{user_defined_state};
+
+    ghost state = { user_defined_state };
+
+    #[inline]
+    fn is_idle(&self) -> bool {
+        true
+    }
+
+    #[inline]
+    fn front(&self, lead: u8, _trail: u8) -> Front {
+        Front::Single(scalar_of(lead))
+    }
+}
+
+impl RawDecoder for UserDefinedDecoder {
+    ghost use Rattle.legacy_miscellaneous.specs.UserDefinedDecoder.{user_defined_state};
+
+    ghost state = { user_defined_state };
+
+    fn step<T: Destination>(
+        &mut self,
+        src: &[u8],
+        dst: &mut T,
+        last: bool,
+    ) -> (DecoderResult, usize) {
+        drive(self, src, dst, last)
+    }
+
+    fn max_utf16_buffer_length(&self, byte_length: usize) -> Option<usize> {
+        Some(byte_length)
+    }
+
+    fn max_utf8_buffer_length_without_replacement(&self, byte_length: usize) -> Option<usize> {
+        self.max_utf8_buffer_length(byte_length)
+    }
+
+    fn max_utf8_buffer_length(&self, byte_length: usize) -> Option<usize> {
+        byte_length.checked_mul(3)
+    }
+}

@@ -1,0 +1,153 @@
+//! The decoder of UTF-16.
+ghost use Rattle.std.specs.Prelude.{◌≡◌};
+ghost use Rattle.legacy_base.specs.Grammar.{utf16};
+ghost use Rattle.legacy_base.specs.States.{additional_from_state, new_state};
+ghost use Rattle.legacy_base.specs.Lengths.{answer, utf16_units};
+
+use super::held::Held;
+use legacy_base::{DecoderResult, Destination, RawDecoder};
+use legacy_decoder_engine::drive::drive;
+use legacy_decoder_engine::machine::{Act, Fed, Machine, Room};
+use super::runs::Units;
+use super::units::read_byte;
+
+/// The decoder of UTF-16 (Encoding Standard, "shared UTF-16 decoder", "UTF-16BE decoder" and "UTF-16LE
+/// decoder").
+///
+/// Two bytes are a code unit. A high surrogate (D800 to DBFF) and a low one behind it (DC00 to DFFF) are
+/// one scalar, and any unit that is no surrogate is one. A surrogate that is in no pair is a malformed
+/// sequence of two bytes; at the end of the input an odd byte is one of its own, or of three bytes
+/// together with a high surrogate before it. The unit behind a high surrogate that is in no pair is read
+/// and held back, so that the answer is `Malformed(2, 2)`. A byte order mark is a scalar like any other.
+#[derive(Drop)]
+pub struct Utf16Decoder {
+    big_endian: bool,
+    held: Held,
+}
+
+impl Utf16Decoder {
+    ghost use Rattle.legacy_miscellaneous.specs.Utf16Decoder.{utf16_state};
+
+    /// A decoder before its first byte. Of the two bytes of a unit the first is the greater where
+    /// `big_endian` is set, and the second otherwise.
+    pub fn new(big_endian: bool) -> Utf16Decoder
+        ensures { utf16_state result ≡ new_state (utf16 big_endian) }
+    {
+        Utf16Decoder {
+            big_endian,
+            held: Held::Nothing,
+        }
+    }
+
+    /// One, and the number of bytes that are held back: one for an odd byte, and two for a unit. It is
+    /// what the length queries add to the number of bytes to come.
+    pub fn additional_from_state(&self) -> usize
+        ensures { result ≡ additional_from_state (utf16_state self.now) }
+    {
+        match self.held {
+            Held::Nothing => 1,
+            Held::Odd(_) => 2,
+            Held::High(_) | Held::Pending(_) => 3,
+            Held::HighOdd(_, _) => 4,
+        }
+    }
+
+    /// The code units that so many more bytes and those held back make, at most.
+    fn unit_limit(&self, byte_length: usize) -> Option<usize>
+        ensures { result ≡ answer (utf16_units (utf16_state self.now) byte_length) }
+    {
+        let bytes = byte_length.checked_add(self.additional_from_state())?;
+        Some(bytes / 2)
+    }
+}
+
+impl Machine for Utf16Decoder {
+    ghost use Rattle.legacy_miscellaneous.specs.Utf16Decoder.{utf16_state};
+
+    ghost state = { utf16_state };
+
+    #[inline]
+    fn rests(&self) -> bool {
+        !matches!(self.held, Held::Pending(_))
+    }
+
+    #[inline]
+    fn room(&self, act: Act) -> Room {
+        match act {
+            Act::Read(_) => Room::Wide,
+            Act::Release | Act::Report => Room::Narrow,
+        }
+    }
+
+    fn release(&mut self) -> Option<char> {
+        let Held::Pending(pending) = self.held else {
+            return None;
+        };
+        self.held = Held::Nothing;
+        Some(pending.scalar)
+    }
+
+    #[inline]
+    fn feed(&mut self, byte: u8) -> Fed {
+        let (fed, held) = read_byte(self.big_endian, self.held, byte);
+        self.held = held;
+        fed
+    }
+
+    #[inline]
+    fn has_rest(&self) -> bool {
+        !matches!(self.held, Held::Nothing)
+    }
+
+    fn report(&mut self) -> Option<(u8, u8)> {
+        let length = match self.held {
+            Held::Nothing => return None,
+            Held::Odd(_) => 1,
+            Held::High(_) => 2,
+            Held::HighOdd(_, _) => 3,
+            Held::Pending(_) => unreachable!(),
+        };
+        self.held = Held::Nothing;
+        Some((length, 0))
+    }
+
+    // The byte order is decided here, and not at each unit.
+    #[inline]
+    fn read_ahead<T: Destination>(&self, src: &[u8], dst: &mut T) -> usize {
+        if !matches!(self.held, Held::Nothing) {
+            0
+        } else if self.big_endian {
+            Units { big_endian: true }.read_units(src, dst)
+        } else {
+            Units { big_endian: false }.read_units(src, dst)
+        }
+    }
+}
+
+impl RawDecoder for Utf16Decoder {
+    ghost use Rattle.legacy_miscellaneous.specs.Utf16Decoder.{utf16_state};
+
+    ghost state = { utf16_state };
+
+    fn step<T: Destination>(
+        &mut self,
+        src: &[u8],
+        dst: &mut T,
+        last: bool,
+    ) -> (DecoderResult, usize) {
+        drive(self, src, dst, last)
+    }
+
+    fn max_utf16_buffer_length(&self, byte_length: usize) -> Option<usize> {
+        self.unit_limit(byte_length)?.checked_add(1)
+    }
+
+    fn max_utf8_buffer_length_without_replacement(&self, byte_length: usize) -> Option<usize> {
+        self.max_utf8_buffer_length(byte_length)
+    }
+
+    fn max_utf8_buffer_length(&self, byte_length: usize) -> Option<usize> {
+        let units = self.unit_limit(byte_length)?;
+        units.checked_mul(3)?.checked_add(1)
+    }
+}

@@ -1,0 +1,76 @@
+//! Units by vectors of bytes: a loop that reads them byte by byte would gather them one by one.
+// Inlined always is what runs for each form or block: a call would pass vectors through memory, and put the
+// destination's place there from form to form.
+ghost use Rattle.std.specs.Prelude.{◌≡◌, ◌<◌, ◌≤◌, ℕ, length, true, false, slice_index};
+ghost use Rattle.legacy_miscellaneous.specs.Utf16Decoder.{unit_at};
+
+use std::simd::prelude::*;
+
+/// The first eight units where the second byte of each is the high one.
+#[inline(always)]
+fn eight_little(src: &[u8]) -> u16x8
+    requires { 16 ≤ length src.now }
+    ensures { (k : ℕ) → k < 8 → slice_index result k ≡ unit_at false src.now k }
+{
+    u16x8::from_le_bytes(u8x16::from_slice(src))
+}
+
+/// The first eight units where the first byte of each is the high one.
+#[inline(always)]
+fn eight_big(src: &[u8]) -> u16x8
+    requires { 16 ≤ length src.now }
+    ensures { (k : ℕ) → k < 8 → slice_index result k ≡ unit_at true src.now k }
+{
+    let swapped = u8x16::from_slice(src).swizzle([
+        1, 0, 3, 2, 5, 4, 7, 6, 9, 8, 11, 10, 13, 12, 15, 14,
+    ]);
+    u16x8::from_le_bytes(swapped)
+}
+
+/// The first sixteen units where the second byte of each is the high one.
+#[inline(always)]
+fn sixteen_little(src: &[u8]) -> u16x16
+    requires { 32 ≤ length src.now }
+    ensures { (k : ℕ) → k < 16 → slice_index result k ≡ unit_at false src.now k }
+{
+    u16x16::from_le_bytes(u8x32::from_slice(src))
+}
+
+/// The first sixteen units where the first byte of each is the high one.
+#[inline(always)]
+fn sixteen_big(src: &[u8]) -> u16x16
+    requires { 32 ≤ length src.now }
+    ensures { (k : ℕ) → k < 16 → slice_index result k ≡ unit_at true src.now k }
+{
+    let swapped = u8x32::from_slice(src).swizzle([
+        1, 0, 3, 2, 5, 4, 7, 6, 9, 8, 11, 10, 13, 12, 15, 14, 17, 16, 19, 18, 21, 20, 23, 22, 25,
+        24, 27, 26, 29, 28, 31, 30,
+    ]);
+    u16x16::from_le_bytes(swapped)
+}
+
+/// The first eight units.
+#[inline(always)]
+pub fn eight_units(big_endian: bool, src: &[u8]) -> u16x8
+    requires { 16 ≤ length src.now }
+    ensures { (k : ℕ) → k < 8 → slice_index result k ≡ unit_at big_endian src.now k }
+{
+    if big_endian {
+        eight_big(src)
+    } else {
+        eight_little(src)
+    }
+}
+
+/// The first sixteen units.
+#[inline(always)]
+pub fn sixteen_units(big_endian: bool, src: &[u8]) -> u16x16
+    requires { 32 ≤ length src.now }
+    ensures { (k : ℕ) → k < 16 → slice_index result k ≡ unit_at big_endian src.now k }
+{
+    if big_endian {
+        sixteen_big(src)
+    } else {
+        sixteen_little(src)
+    }
+}

@@ -1,9 +1,0 @@
-use Rattle.std.proofs.Common.{sym, ◌∙◌}
-use Rattle.legacy_multibyte.proofs.Gb18030Held.{ascii, neutral-empty}
-use Rattle.legacy_multibyte.proofs.gb18030.Gb18030DecoderCommonForms.is_idle.Goals as goal
-
-pub returns : goal.returns
-returns c e = record {
-  empty = neutral-empty c.args.self.now.held (sym c.in_neutral_state.ensures ∙ e);
-  ascii = ascii c.args.self.now.tables.now;
-}

@@ -1,9 +1,0 @@
-use Rattle.std.proofs.Common.{◌∙◌, ap}
-use Rattle.legacy_base.specs.Indexes.{range}
-use Rattle.legacy_multibyte.proofs.FourPlaces.{four_placed}
-use Rattle.legacy_multibyte.proofs.gb18030.fours.four_scalar.Goals as goal
-
-pub returns : goal.returns
-returns c =
-    let tables = c.args.tables.now in
-    four_placed tables c.args.first c.args.second c.args.third c.args.fourth c.range.result (c.range.ensures ∙ ap (range tables.flat.ranges) c.four_pointer.ensures)

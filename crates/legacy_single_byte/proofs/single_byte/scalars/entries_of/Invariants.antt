@@ -1,0 +1,10 @@
+use Rattle.std.proofs.Common.{◌≡◌, ◌-◌, ◌≤◌, length}
+use Rattle.legacy_single_byte.specs.ByteEntries.{AreByteEntries}
+use Rattle.legacy_single_byte.proofs.single_byte.scalars.entries_of.Given as goal
+
+-- the entries of the bytes that were passed are there
+abbrev pub invariant-loop-byte : goal.invariant-loop-byte
+invariant-loop-byte l = (l.byte ≤ 256) × (length l.entries ≡ 256) × AreByteEntries l.table.entries l.entries l.byte
+
+abbrev pub decreases-loop-byte : goal.decreases-loop-byte
+decreases-loop-byte l = 256 - l.byte

@@ -1,0 +1,13 @@
+-- What a single-byte decoder is between two calls: it holds nothing back.
+use Rattle.std.specs.Prelude.{ℕ, List}
+use Rattle.legacy_base.specs.Grammar.{single_byte}
+use Rattle.legacy_base.specs.States.{DecoderState, new_state}
+use Rattle.legacy_single_byte.specs.declared.single_byte.decoder.SingleByteDecoder.{SingleByteDecoder}
+
+-- the entries of its table
+abbrev pub single_byte_entries : SingleByteDecoder → List ℕ
+single_byte_entries decoder = decoder.scalars.table.now.entries
+
+-- the state that its calls speak of
+abbrev pub single_byte_state : SingleByteDecoder → DecoderState
+single_byte_state decoder = new_state (single_byte (single_byte_entries decoder))

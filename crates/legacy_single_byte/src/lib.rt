@@ -1,0 +1,6 @@
+//! The legacy single-byte encodings (Encoding Standard, section "Legacy single-byte encodings").
+#![tactic(auto)]
+
+mod single_byte;
+
+pub use single_byte::decoder::SingleByteDecoder;

@@ -1,0 +1,4 @@
+//! The single-byte encodings, each by its table of 128 entries.
+pub mod blocks;
+pub mod decoder;
+pub mod scalars;

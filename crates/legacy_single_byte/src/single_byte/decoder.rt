@@ -1,0 +1,194 @@
+//! The decoder of the single-byte encodings.
+ghost use Rattle.std.specs.Prelude.{◌≡◌, ◌≤◌, [], length, take, IsAscii};
+ghost use Rattle.legacy_base.specs.Grammar.{single_byte};
+ghost use Rattle.legacy_base.specs.Latin1.{is_latin1_byte, latin1_front};
+ghost use Rattle.legacy_base.specs.States.{new_state};
+ghost use Rattle.legacy_single_byte.specs.SingleByteMachine.{single_byte_first};
+ghost use Rattle.legacy_decoder_engine.specs.Feeding.{Took};
+
+use legacy_base::{DecoderResult, Destination, RawDecoder, SingleByteTable};
+use legacy_decoder_engine::ahead::{CommonForms, Front, ahead};
+use legacy_decoder_engine::drive::drive;
+use legacy_decoder_engine::machine::{Act, Fed, Machine, Room};
+use super::scalars::ByteScalars;
+use std::simd::prelude::*;
+
+/// The decoder of a single-byte encoding (Encoding Standard, "single-byte decoder").
+///
+/// ASCII bytes are themselves, and byte 0x80 + `p` is the scalar at place `p` of the table. A byte that
+/// has none is a malformed sequence. No byte is held back.
+#[derive(Drop)]
+pub struct SingleByteDecoder<'a> {
+    scalars: ByteScalars<'a>,
+}
+
+/// What a byte leads to.
+#[inline]
+fn read_byte(table: &SingleByteTable, byte: u8) -> Fed
+    ensures { Took (single_byte_first table.now.entries byte) [] byte result [] }
+{
+    if byte < 0x80 {
+        return Fed::One(char::from(byte));
+    }
+    match table.scalar(usize::from(byte - 0x80)) {
+        Some(scalar) => Fed::One(scalar),
+        None => Fed::Fault {
+            length: 1,
+            back: 0,
+            unread: false,
+        },
+    }
+}
+
+/// Whether the byte decodes to the scalar of the same number.
+#[inline]
+fn is_latin1(table: &SingleByteTable, byte: u8) -> bool
+    ensures { result ≡ is_latin1_byte table.now.entries byte }
+{
+    byte < 0x80 || table.scalar(usize::from(byte - 0x80)) == Some(char::from(byte))
+}
+
+/// How many bytes at the front are in whole blocks of 16 ASCII bytes.
+#[inline]
+fn ascii_blocks(bytes: &[u8]) -> usize
+    ensures within { result ≤ length bytes.now }
+    ensures ascii { IsAscii (take result bytes.now) }
+{
+    let mut count = 0;
+    while bytes.len() - count >= 16 {
+        let block = u8x16::from_slice(&bytes[count..]);
+        let past = block.simd_ge(u8x16::splat(0x80)).to_bitmask();
+        if past == 0 {
+            count += 16;
+        } else {
+            return count;
+        }
+    }
+    count
+}
+
+impl<'a> SingleByteDecoder<'a> {
+    ghost use Rattle.legacy_single_byte.specs.SingleByteDecoder.{single_byte_entries, single_byte_state};
+
+    /// A decoder before its first byte, which reads the bytes from 0x80 on by the table.
+    pub fn new(table: &'a SingleByteTable) -> SingleByteDecoder<'a>
+        ensures state { single_byte_state result ≡ new_state (single_byte table.now.entries) }
+        ensures entries { single_byte_entries result ≡ table.now.entries }
+    {
+        SingleByteDecoder {
+            scalars: ByteScalars::new(table),
+        }
+    }
+
+    /// How many bytes stand at the front of `bytes` that each decode to the scalar of the same number, as
+    /// all bytes do in Latin-1: `bytes.len()` where all of them do. ASCII bytes always do. The decoder is
+    /// unchanged.
+    pub fn latin1_byte_compatible_up_to(&self, bytes: &[u8]) -> usize
+        ensures { result ≡ length (latin1_front (single_byte_entries self.now) bytes.now) }
+    {
+        let mut count = ascii_blocks(bytes);
+        while count < bytes.len() && is_latin1(self.scalars.table, bytes[count]) {
+            count += 1;
+        }
+        count
+    }
+}
+
+impl Machine for SingleByteDecoder<'_> {
+    ghost use Rattle.legacy_single_byte.specs.SingleByteDecoder.{single_byte_state};
+
+    ghost state = { single_byte_state };
+
+    #[inline]
+    fn rests(&self) -> bool {
+        true
+    }
+
+    #[inline]
+    fn room(&self, act: Act) -> Room {
+        match act {
+            Act::Read(byte) => {
+                if byte < 0x80 {
+                    Room::Unit
+                } else {
+                    Room::Narrow
+                }
+            }
+            Act::Release | Act::Report => Room::Narrow,
+        }
+    }
+
+    fn release(&mut self) -> Option<char> {
+        None
+    }
+
+    #[inline]
+    fn feed(&mut self, byte: u8) -> Fed {
+        read_byte(self.scalars.table, byte)
+    }
+
+    #[inline]
+    fn has_rest(&self) -> bool {
+        false
+    }
+
+    fn report(&mut self) -> Option<(u8, u8)> {
+        None
+    }
+
+    // In UTF-8 eight bytes at a time do not pay: text with few letters past ASCII loses a fifth.
+    #[inline]
+    fn read_ahead<T: Destination>(&self, src: &[u8], dst: &mut T) -> usize {
+        if T::narrow() > 1 {
+            return ahead(self, src, dst);
+        }
+        let read = self.scalars.read_blocks(src, dst);
+        read + ahead(self, &src[read..], dst)
+    }
+}
+
+impl CommonForms for SingleByteDecoder<'_> {
+    ghost use Rattle.legacy_single_byte.specs.SingleByteDecoder.{single_byte_state};
+
+    ghost state = { single_byte_state };
+
+    #[inline]
+    fn is_idle(&self) -> bool {
+        true
+    }
+
+    #[inline(always)]
+    fn form(&self, first: u8, _second: u8) -> Front {
+        match self.scalars.scalar(first) {
+            Some(scalar) => Front::Single(scalar),
+            None => Front::Other,
+        }
+    }
+}
+
+impl RawDecoder for SingleByteDecoder<'_> {
+    ghost use Rattle.legacy_single_byte.specs.SingleByteDecoder.{single_byte_state};
+
+    ghost state = { single_byte_state };
+
+    fn step<T: Destination>(
+        &mut self,
+        src: &[u8],
+        dst: &mut T,
+        last: bool,
+    ) -> (DecoderResult, usize) {
+        drive(self, src, dst, last)
+    }
+
+    fn max_utf16_buffer_length(&self, byte_length: usize) -> Option<usize> {
+        Some(byte_length)
+    }
+
+    fn max_utf8_buffer_length_without_replacement(&self, byte_length: usize) -> Option<usize> {
+        byte_length.checked_mul(3)
+    }
+
+    fn max_utf8_buffer_length(&self, byte_length: usize) -> Option<usize> {
+        byte_length.checked_mul(3)
+    }
+}
