@@ -11,7 +11,8 @@ use Rattle.legacy_base.specs.Big5.{big5_pointer, big5_scalars, big5_pair, big5_f
 use Rattle.legacy_base.specs.EucKr.{euc_kr_scalars, euc_kr_pair, euc_kr_front}
 use Rattle.legacy_base.specs.ShiftJis.{is_shift_jis_lead, shift_jis_pointer, shift_jis_scalars, shift_jis_pair, shift_jis_front}
 use Rattle.legacy_base.specs.EucJp.{euc_jp_scalars, euc_jp_katakana, euc_jp_third, euc_jp_second, euc_jp_pair, euc_jp_front}
-use Rattle.legacy_base.specs.Gb18030.{is_gb18030_lead, gb18030_scalars, gb18030_fourth, gb18030_third, gb18030_second, gb18030_front}
+use Rattle.legacy_base.specs.Gb18030.{gb18030_scalars, gb18030_fourth, gb18030_third, gb18030_second, gb18030_front}
+use Rattle.legacy_base.specs.States.{is_lead}
 use Rattle.legacy_base.specs.Iso2022Jp.{Mode, ascii, roman, katakana, two_byte, iso_2022_jp_front}
 
 front_of-cond : (size : ℕ) (t : Bool) (f g : Front) → IsFrontOf size f → IsFrontOf size g → IsFrontOf size (cond t f g)
@@ -66,7 +67,7 @@ pub big5_front-of : (index : List ℕ) (b : ℕ) (rest : List ℕ) → IsFrontOf
 unfolding big5_front
 big5_front-of index b rest =
     front_of-cond _ (is_ascii b) _ _ (byte rest b)
-    (front_of-cond _ (is_in_range 0x81 0xFE b) _ _ (big5_pair-of index b rest) (bad rest))
+    (front_of-cond _ (is_lead b) _ _ (big5_pair-of index b rest) (bad rest))
 
 euc_kr_pair-of : (index : List ℕ) (lead : ℕ) (rest : List ℕ) → IsFrontOf (suc (length rest)) (euc_kr_pair index lead rest)
 unfolding euc_kr_pair
@@ -77,7 +78,7 @@ pub euc_kr_front-of : (index : List ℕ) (b : ℕ) (rest : List ℕ) → IsFront
 unfolding euc_kr_front
 euc_kr_front-of index b rest =
     front_of-cond _ (is_ascii b) _ _ (byte rest b)
-    (front_of-cond _ (is_in_range 0x81 0xFE b) _ _ (euc_kr_pair-of index b rest) (bad rest))
+    (front_of-cond _ (is_lead b) _ _ (euc_kr_pair-of index b rest) (bad rest))
 
 shift_jis_pair-of : (jis0208 : List ℕ) (lead : ℕ) (rest : List ℕ) → IsFrontOf (suc (length rest)) (shift_jis_pair jis0208 lead rest)
 unfolding shift_jis_pair
@@ -141,7 +142,7 @@ gb18030_third-of : (ranges : List (ℕ × ℕ)) (first second : ℕ) (rest : Lis
 unfolding gb18030_third
 gb18030_third-of ranges first second [] = front_of-malformed _ 2 (omega arith) (omega arith) (omega arith)
 gb18030_third-of ranges first second (third ∷ rest) =
-    front_of-cond _ (is_gb18030_lead third) _ _ (gb18030_fourth-of ranges first second third rest)
+    front_of-cond _ (is_lead third) _ _ (gb18030_fourth-of ranges first second third rest)
     (front_of-malformed _ 1 (omega arith) (omega arith) (omega arith))
 
 gb18030_second-of : (index : List ℕ) (ranges : List (ℕ × ℕ)) (first : ℕ) (rest : List ℕ)
@@ -158,7 +159,7 @@ unfolding gb18030_front
 gb18030_front-of index ranges b rest =
     front_of-cond _ (is_ascii b) _ _ (byte rest b)
     (front_of-cond _ (b == 0x80) _ _ (byte rest 0x20AC)
-    (front_of-cond _ (is_gb18030_lead b) _ _ (gb18030_second-of index ranges b rest) (bad rest)))
+    (front_of-cond _ (is_lead b) _ _ (gb18030_second-of index ranges b rest) (bad rest)))
 
 pub iso_2022_jp_front-of : (jis0208 : List ℕ) (mode : Mode) (b : ℕ) (rest : List ℕ)
     → IsFrontOf (suc (length rest)) (iso_2022_jp_front jis0208 mode b rest)

@@ -9,7 +9,7 @@ use Rattle.legacy_base.specs.EncodingForm.{EncodingForm, Utf8, Utf16, code_units
 use Rattle.legacy_base.specs.Profile.{Rooms, narrow_acts, wide_reads, wide_acts}
 use Rattle.legacy_base.specs.Grammar.{Grammar, profile, events_of}
 use Rattle.legacy_base.specs.States.{DecoderState, rests, is_empty}
-use Rattle.legacy_base.specs.Acts.{Act, writes, takes, reports, act_at_end, act_room, act_at_rest, room_of_act, byte_room, reading_room, writing_room, has_reported, has_short_ascii, has_marks, is_mark_behind, room_needed, LacksRoom, full_room, release_room, HadRoom, HadRoomReleased, HadRooms}
+use Rattle.legacy_base.specs.Acts.{Act, writes, takes, reports, act_at_end, act_room, act_at_rest, room_of_act, full_room, reading_room, writing_room, has_reported, has_short_ascii, has_marks, is_mark_behind, room_needed, LacksRoom, full_room_in, release_room_in, HadRoom, HadRoomReleased, HadRooms}
 
 pub all_code_units-append : (form : EncodingForm) (xs ys : List ℕ) → all_code_units form (xs ++ ys) ≡ all_code_units form xs ++ all_code_units form ys
 all_code_units-append form xs ys = flat_map-append (code_units form) xs ys
@@ -60,7 +60,7 @@ HadRooms-none form s free = by_rest (rests s.grammar s.held) where
   by_rest true = tt
   by_rest false = tt
 
-pub HadRooms-released : (form : EncodingForm) (s : DecoderState) (free c : ℕ) → rests s.grammar s.held ≡ false → release_room form s.grammar ≤ free → HadRooms form s free (c ∷ [])
+pub HadRooms-released : (form : EncodingForm) (s : DecoderState) (free c : ℕ) → rests s.grammar s.held ≡ false → release_room_in form s.grammar ≤ free → HadRooms form s free (c ∷ [])
 unfolding HadRoom HadRoomReleased
 HadRooms-released form s free c r h = rw r one where
   one : HadRoomReleased form s.grammar free (c ∷ [])
@@ -68,7 +68,7 @@ HadRooms-released form s free c r h = rw r one where
 
 -- ---- the next act
 
-pub room_needed-release : (form : EncodingForm) (s : DecoderState) (source : List ℕ) (last : Bool) → rests s.grammar s.held ≡ false → room_needed form s source last ≡ release_room form s.grammar
+pub room_needed-release : (form : EncodingForm) (s : DecoderState) (source : List ℕ) (last : Bool) → rests s.grammar s.held ≡ false → room_needed form s source last ≡ release_room_in form s.grammar
 room_needed-release form s source last e = rw e refl
 
 pub room_needed-read : (form : EncodingForm) (s : DecoderState) (x : ℕ) (xs : List ℕ) (last : Bool) → rests s.grammar s.held ≡ true → room_needed form s (x ∷ xs) last ≡ act_room (bmp_room form) (wide_room form) s (takes x)
@@ -79,9 +79,9 @@ pub is_none : List DecodeEvent → Bool
 is_none [] = true
 is_none (e ∷ es) = false
 
-pub room_needed-report : (form : EncodingForm) (s : DecoderState) → rests s.grammar s.held ≡ true → events_of s.grammar s.held ≢ [] → room_needed form s [] true ≡ release_room form s.grammar
+pub room_needed-report : (form : EncodingForm) (s : DecoderState) → rests s.grammar s.held ≡ true → events_of s.grammar s.held ≢ [] → room_needed form s [] true ≡ release_room_in form s.grammar
 room_needed-report form s e f = rw e (by_events (events_of s.grammar s.held) f) where
-  by_events : (es : List DecodeEvent) → es ≢ [] → room_of_act (bmp_room form) (wide_room form) s (act_at_end es true) ≡ release_room form s.grammar
+  by_events : (es : List DecodeEvent) → es ≢ [] → room_of_act (bmp_room form) (wide_room form) s (act_at_end es true) ≡ release_room_in form s.grammar
   by_events [] f = absurd (f refl)
   by_events (x ∷ es) f = refl
 
@@ -104,14 +104,14 @@ wide_some Utf8 = omega arith
 wide_some Utf16 = omega arith
 
 -- a byte past ASCII needs no more than the room of any scalar
-pub full_most : (form : EncodingForm) (g : Grammar) → full_room form g ≤ wide_room form
+pub full_most : (form : EncodingForm) (g : Grammar) → full_room_in form g ≤ wide_room form
 full_most form g = by_rooms (profile g).rooms where
   by_rooms : (r : Rooms) → reading_room (bmp_room form) (wide_room form) r ≤ wide_room form
   by_rooms narrow_acts = bmp_small form
   by_rooms wide_reads = omega arith
   by_rooms wide_acts = omega arith
 
-release_most : (form : EncodingForm) (g : Grammar) → release_room form g ≤ wide_room form
+release_most : (form : EncodingForm) (g : Grammar) → release_room_in form g ≤ wide_room form
 release_most form g = by_rooms (profile g).rooms where
   by_rooms : (r : Rooms) → writing_room (bmp_room form) (wide_room form) r ≤ wide_room form
   by_rooms narrow_acts = bmp_small form
@@ -119,7 +119,7 @@ release_most form g = by_rooms (profile g).rooms where
   by_rooms wide_acts = omega arith
 
 -- a report needs no more room than a byte past ASCII
-pub release-full : (form : EncodingForm) (g : Grammar) → release_room form g ≤ full_room form g
+pub release-full : (form : EncodingForm) (g : Grammar) → release_room_in form g ≤ full_room_in form g
 release-full form g = by_rooms (profile g).rooms where
   by_rooms : (r : Rooms) → writing_room (bmp_room form) (wide_room form) r ≤ reading_room (bmp_room form) (wide_room form) r
   by_rooms narrow_acts = omega arith
@@ -135,7 +135,7 @@ act_most : (form : EncodingForm) (s : DecoderState) (act : Act) → act_room (bm
 act_most form s writes = release_most form s.grammar
 act_most form s reports = release_most form s.grammar
 act_most form s (takes b) =
-    two_tests (has_reported s.grammar) ((is_ascii b && is_empty s.held) && has_short_ascii s.grammar) (byte_room (bmp_room form) (wide_room form) s.grammar) 0 (wide_room form)
+    two_tests (has_reported s.grammar) ((is_ascii b && is_empty s.held) && has_short_ascii s.grammar) (full_room (bmp_room form) (wide_room form) s.grammar) 0 (wide_room form)
     (full_most form s.grammar) (wide_some form)
 
 -- no act needs more than the room of any scalar

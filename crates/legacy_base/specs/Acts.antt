@@ -39,8 +39,8 @@ reading_room narrow wide narrow_acts = narrow
 reading_room narrow wide wide_reads = wide
 reading_room narrow wide wide_acts = wide
 
-abbrev pub byte_room : ℕ → ℕ → Grammar → ℕ
-byte_room narrow wide grammar = reading_room narrow wide (profile grammar).rooms
+abbrev pub full_room : ℕ → ℕ → Grammar → ℕ
+full_room narrow wide grammar = reading_room narrow wide (profile grammar).rooms
 
 -- the room for writing what is held back, and for reporting at the end of input
 abbrev pub writing_room : ℕ → ℕ → Rooms → ℕ
@@ -48,8 +48,8 @@ writing_room narrow wide narrow_acts = narrow
 writing_room narrow wide wide_reads = narrow
 writing_room narrow wide wide_acts = wide
 
-abbrev pub held_room : ℕ → ℕ → Grammar → ℕ
-held_room narrow wide grammar = writing_room narrow wide (profile grammar).rooms
+abbrev pub release_room : ℕ → ℕ → Grammar → ℕ
+release_room narrow wide grammar = writing_room narrow wide (profile grammar).rooms
 
 -- the codecs in which an ASCII byte needs one unit where nothing is held back
 abbrev pub has_short_ascii : Grammar → Bool
@@ -61,12 +61,12 @@ has_reported grammar = (profile grammar).reported
 
 -- the free units that an act needs
 abbrev pub act_room : ℕ → ℕ → DecoderState → Act → ℕ
-act_room narrow wide state writes = held_room narrow wide state.grammar
-act_room narrow wide state reports = held_room narrow wide state.grammar
+act_room narrow wide state writes = release_room narrow wide state.grammar
+act_room narrow wide state reports = release_room narrow wide state.grammar
 act_room narrow wide state (takes b) =
     if has_reported state.grammar then 0
     else if (is_ascii b && is_empty state.held) && has_short_ascii state.grammar then 1
-    else byte_room narrow wide state.grammar
+    else full_room narrow wide state.grammar
 
 -- the room of an act, and 0 for none
 abbrev pub room_of_act : ℕ → ℕ → DecoderState → Option Act → ℕ
@@ -88,16 +88,16 @@ LacksRoom form state unread last free = free < room_needed form state unread las
 -- ---- the room that was free before each scalar, and behind the last act
 
 -- the room in an encoding form for reading a byte past ASCII
-abbrev pub full_room : EncodingForm → Grammar → ℕ
-full_room form grammar = byte_room (bmp_room form) (wide_room form) grammar
+abbrev pub full_room_in : EncodingForm → Grammar → ℕ
+full_room_in form grammar = full_room (bmp_room form) (wide_room form) grammar
 
 -- the room in an encoding form for writing what is held back, and for reporting at the end of input
-abbrev pub release_room : EncodingForm → Grammar → ℕ
-release_room form grammar = held_room (bmp_room form) (wide_room form) grammar
+abbrev pub release_room_in : EncodingForm → Grammar → ℕ
+release_room_in form grammar = release_room (bmp_room form) (wide_room form) grammar
 
 -- the room behind a malformed sequence: at the end of input, with nothing read, that of its report
 abbrev pub fault_room : EncodingForm → Grammar → ℕ → ℕ
-fault_room form grammar read = if nat_eq read 0 then release_room form grammar else full_room form grammar
+fault_room form grammar read = if nat_eq read 0 then release_room_in form grammar else full_room_in form grammar
 
 -- Big5 has four pairs that give a letter and a combining mark
 abbrev pub has_marks : Grammar → Bool
@@ -118,14 +118,14 @@ wants_full_room grammar previous c =
 unfoldable pub HadRoom : EncodingForm → Grammar → Option ℕ → ℕ → List ℕ → Type 0
 HadRoom form grammar previous free [] = Unit {0}
 HadRoom form grammar previous free (c ∷ scalars) =
-    (IsTrue (wants_full_room grammar previous c) → full_room form grammar ≤ free)
+    (IsTrue (wants_full_room grammar previous c) → full_room_in form grammar ≤ free)
     × HadRoom form grammar (Some c) (free - unit_count form c) scalars
 
 -- the same where a scalar that was held back goes first
 unfoldable pub HadRoomReleased : EncodingForm → Grammar → ℕ → List ℕ → Type 0
 HadRoomReleased form grammar free [] = Unit {0}
 HadRoomReleased form grammar free (c ∷ scalars) =
-    (release_room form grammar ≤ free) × HadRoom form grammar (Some c) (free - unit_count form c) scalars
+    (release_room_in form grammar ≤ free) × HadRoom form grammar (Some c) (free - unit_count form c) scalars
 
 -- the same from a state on
 abbrev pub HadRooms : EncodingForm → DecoderState → ℕ → List ℕ → Type 0

@@ -34,7 +34,7 @@ big5_pair index lead (t ∷ rest) =
 unfoldable pub big5_front : List ℕ → ℕ → List ℕ → Front
 big5_front index b rest =
     if is_ascii b then reads 1 (b ∷ [])
-    else if is_in_range 0x81 0xFE b then big5_pair index b rest
+    else if is_lead b then big5_pair index b rest
     else malformed 1
 
 -- the codec

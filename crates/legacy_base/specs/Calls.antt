@@ -9,7 +9,7 @@ use Rattle.legacy_base.specs.EncodingForm.{EncodingForm, all_code_units, total_u
 use Rattle.legacy_base.specs.Events.{shift}
 use Rattle.legacy_base.specs.Grammar.{events_of}
 use Rattle.legacy_base.specs.States.{DecoderState, rests}
-use Rattle.legacy_base.specs.Acts.{LacksRoom, HadRooms, fault_room, full_room}
+use Rattle.legacy_base.specs.Acts.{LacksRoom, HadRooms, fault_room, full_room_in}
 use Rattle.legacy_base.specs.Lengths.{LengthQuery, query_form, query_answer, answer_units, room}
 
 -- What an answer reports: the malformed sequence has `length` bytes, and ends `back` bytes before the end of the `seen`
@@ -86,7 +86,7 @@ pub record DecoderCall (form : EncodingForm) (before : DecoderState) (source : L
   -- behind a malformed sequence there is room for U+FFFD
   pub room_at_fault : IsMalformed answer → fault_room form before.grammar read ≤ free - total_unit_count form scalars
   -- where a byte was read and some are held back, there is the room of a byte
-  pub room_held : 0 < read → after.held ≢ [] → full_room form before.grammar ≤ free - total_unit_count form scalars
+  pub room_held : 0 < read → after.held ≢ [] → full_room_in form before.grammar ≤ free - total_unit_count form scalars
   -- each scalar was written with the room that it wants
   pub had_room : HadRooms form before free scalars
   -- what was written, with U+FFFD where the query counts it, lowers the room that is still needed

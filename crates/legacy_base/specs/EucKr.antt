@@ -22,7 +22,7 @@ euc_kr_pair index lead (t ∷ rest) = reads_or 2 (euc_kr_scalars index lead t) (
 unfoldable pub euc_kr_front : List ℕ → ℕ → List ℕ → Front
 euc_kr_front index b rest =
     if is_ascii b then reads 1 (b ∷ [])
-    else if is_in_range 0x81 0xFE b then euc_kr_pair index b rest
+    else if is_lead b then euc_kr_pair index b rest
     else malformed 1
 
 -- the codec

@@ -4,12 +4,8 @@ use Rattle.std.specs.Int.{is_in_range}
 use Rattle.std.specs.Char.{is_ascii, is_ascii_digit}
 use Rattle.legacy_base.specs.Fronts.{Front, reads, malformed, reads_or, trail_rule, cut}
 use Rattle.legacy_base.specs.Indexes.{idx, range}
-use Rattle.legacy_base.specs.Profile.{Profile, wide_acts}
+use Rattle.legacy_base.specs.Profile.{Profile, wide_acts, is_lead}
 use Rattle.legacy_base.specs.Formulas.{weighed, constant, ◌⊞◌, ◌⊠◌}
-
--- the bytes that begin a form of two or four bytes, and stand third in one of four
-abbrev pub is_gb18030_lead : ℕ → Bool
-is_gb18030_lead b = is_in_range 0x81 0xFE b
 
 -- the scalar of a lead and a trail, if there is one
 abbrev pub gb18030_scalars : List ℕ → ℕ → ℕ → List ℕ
@@ -35,7 +31,7 @@ gb18030_fourth ranges first second third (fourth ∷ rest) =
 unfoldable pub gb18030_third : List (ℕ × ℕ) → ℕ → ℕ → List ℕ → Front
 gb18030_third ranges first second [] = malformed 2
 gb18030_third ranges first second (third ∷ rest) =
-    if is_gb18030_lead third then gb18030_fourth ranges first second third rest else malformed 1
+    if is_lead third then gb18030_fourth ranges first second third rest else malformed 1
 
 -- the front after a lead
 unfoldable pub gb18030_second : List ℕ → List (ℕ × ℕ) → ℕ → List ℕ → Front
@@ -49,15 +45,15 @@ unfoldable pub gb18030_front : List ℕ → List (ℕ × ℕ) → ℕ → List �
 gb18030_front index ranges b rest =
     if is_ascii b then reads 1 (b ∷ [])
     else if b == 0x80 then reads 1 (0x20AC ∷ [])
-    else if is_gb18030_lead b then gb18030_second index ranges b rest
+    else if is_lead b then gb18030_second index ranges b rest
     else malformed 1
 
 -- nothing, the first one to three bytes of four, a digit to be written, or that and a lead
 abbrev pub gb18030_may_hold : List ℕ → Bool
 gb18030_may_hold [] = true
-gb18030_may_hold (b ∷ []) = is_gb18030_lead b || is_ascii_digit b
-gb18030_may_hold (b ∷ c ∷ []) = (is_gb18030_lead b && is_ascii_digit c) || (is_ascii_digit b && is_gb18030_lead c)
-gb18030_may_hold (b ∷ c ∷ d ∷ []) = (is_gb18030_lead b && is_ascii_digit c) && is_gb18030_lead d
+gb18030_may_hold (b ∷ []) = is_lead b || is_ascii_digit b
+gb18030_may_hold (b ∷ c ∷ []) = (is_lead b && is_ascii_digit c) || (is_ascii_digit b && is_lead c)
+gb18030_may_hold (b ∷ c ∷ d ∷ []) = (is_lead b && is_ascii_digit c) && is_lead d
 gb18030_may_hold _ = false
 
 -- a digit of a broken form is still to be written

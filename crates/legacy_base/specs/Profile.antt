@@ -37,7 +37,7 @@ pub record Profile : Type 0 where
 
 -- ---- what several codecs hold back
 
--- the bytes that begin a two-byte form of Big5 and of EUC-KR
+-- the bytes that begin a longer form of Big5, EUC-KR and gb18030
 abbrev pub is_lead : ℕ → Bool
 is_lead b = is_in_range 0x81 0xFE b
 

@@ -13,9 +13,13 @@ pub record DecoderState : Type 0 where
   pub grammar : Grammar
   pub held : List ℕ
 
+-- a decoder of the grammar that holds these bytes back
+abbrev pub state_of : Grammar → List ℕ → DecoderState
+state_of grammar held = record { grammar = grammar; held = held }
+
 -- a decoder that holds nothing back
 abbrev pub new_state : Grammar → DecoderState
-new_state grammar = record { grammar = grammar; held = [] }
+new_state grammar = state_of grammar []
 
 -- ---- what is held back
 

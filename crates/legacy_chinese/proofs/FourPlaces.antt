@@ -6,7 +6,7 @@ use Rattle.std.specs.Prelude.{IfSome}
 use Rattle.std.specs.Int.{is_in_range}
 use Rattle.std.specs.Char.{is_ascii_digit}
 use Rattle.legacy_base.specs.AcceptedTables.{AcceptedIndexes}
-use Rattle.legacy_base.specs.Gb18030.{is_gb18030_lead}
+use Rattle.legacy_base.specs.States.{is_lead}
 use Rattle.legacy_base.specs.Grammar.{gb18030}
 use Rattle.legacy_base.specs.Indexes.{range}
 use Rattle.legacy_decoder_engine.specs.Ahead.{Runs}
@@ -51,7 +51,7 @@ range_past : (ranges : List (ℕ × ℕ)) (p : ℕ) → 2_000_000 ≤ p → rang
 unfolding range
 range_past ranges p h = let t = past_tests p h in rw (t.0, t.1, t.2) refl
 
-lead_bounds : (b : ℕ) → is_gb18030_lead b ≡ true → (0x81 ≤ b) × (b ≤ 0xFE)
+lead_bounds : (b : ℕ) → is_lead b ≡ true → (0x81 ≤ b) × (b ≤ 0xFE)
 lead_bounds b is = (grind (arith, nat_tests), grind (arith, nat_tests))
 
 digit_bounds : (b : ℕ) → is_ascii_digit b ≡ true → (0x30 ≤ b) × (b ≤ 0x39)
@@ -61,12 +61,12 @@ digit_bounds b is = (grind (arith, nat_tests), grind (arith, nat_tests))
 pub four_placed : (tables : AcceptedIndexes) (a b c d : ℕ) (found : Option ℕ) → found ≡ range tables.flat.ranges (first_place a + second_place b + third_place c + fourth_place d)
     → IfSome found (λ x. Runs (gb18030 tables.flat.gb18030 tables.flat.ranges) (a ∷ b ∷ c ∷ d ∷ []) (x ∷ []))
 unfolding first_place second_place third_place fourth_place
-four_placed tables a b c d found e = go (is_gb18030_lead a) (is_ascii_digit b) (is_gb18030_lead c) (is_ascii_digit d) refl refl refl refl e
+four_placed tables a b c d found e = go (is_lead a) (is_ascii_digit b) (is_lead c) (is_ascii_digit d) refl refl refl refl e
   where
     none : (p : ℕ) → 2_000_000 ≤ p → found ≡ range tables.flat.ranges p → IfSome found (λ x. Runs (gb18030 tables.flat.gb18030 tables.flat.ranges) (a ∷ b ∷ c ∷ d ∷ []) (x ∷ []))
     none p h is = rw (is, range_past tables.flat.ranges p h) tt
 
-    go : (l m n o : Bool) → is_gb18030_lead a ≡ l → is_ascii_digit b ≡ m → is_gb18030_lead c ≡ n → is_ascii_digit d ≡ o
+    go : (l m n o : Bool) → is_lead a ≡ l → is_ascii_digit b ≡ m → is_lead c ≡ n → is_ascii_digit d ≡ o
         → found ≡ range tables.flat.ranges (cond l (12600 * (a - 0x81)) 2_000_000 + cond m (1260 * (b - 0x30)) 2_000_000 + cond n (10 * (c - 0x81)) 2_000_000 + cond o (d - 0x30) 2_000_000) → IfSome found (λ x. Runs (gb18030 tables.flat.gb18030 tables.flat.ranges) (a ∷ b ∷ c ∷ d ∷ []) (x ∷ []))
     go true true true true u v w x is =
         four_if tables a b c d (12600 * (a - 0x81) + 1260 * (b - 0x30) + 10 * (c - 0x81) + (d - 0x30)) (lead_bounds a u).0 (lead_bounds a u).1 (digit_bounds b v).0 (digit_bounds b v).1

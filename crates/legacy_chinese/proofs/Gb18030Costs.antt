@@ -5,7 +5,8 @@ use Rattle.std.specs.Int.{is_in_range}
 use Rattle.std.specs.Char.{is_ascii, is_ascii_digit}
 use Rattle.legacy_base.specs.Fronts.{reads, malformed, reads_or}
 use Rattle.legacy_base.specs.Indexes.{range}
-use Rattle.legacy_base.specs.Gb18030.{is_gb18030_lead, gb18030_scalars, gb18030_range_pointer}
+use Rattle.legacy_base.specs.Gb18030.{gb18030_scalars, gb18030_range_pointer}
+use Rattle.legacy_base.specs.States.{is_lead}
 use Rattle.legacy_base.specs.States.{gb18030_may_hold}
 use Rattle.legacy_decoder_engine.specs.Steps.{hold, finish, leave, trail_step}
 use Rattle.legacy_chinese.specs.Gb18030Machine.{gb18030_first, gb18030_step}
@@ -20,7 +21,7 @@ module _ (len : ℕ → ℕ) (narrow wide : ℕ) (w : IsWidth len narrow wide) w
       (λ a. let e : len b ≡ 1 = w.ascii b (ltb-true b 0x80 a) in record { fits = rw a (omega arith); pays = omega arith; pays_without = omega arith })
       (λ a. cost_test len narrow (cond (is_ascii b) 1 wide) length 6 [] b (b == 0x80) (finish (reads 1 (0x20AC ∷ []))) _
       (λ e. let q : len 0x20AC ≤ narrow = w.bmp 0x20AC (omega arith) in record { fits = rw a (omega arith); pays = omega arith; pays_without = omega arith })
-      (λ e. cost_test len narrow (cond (is_ascii b) 1 wide) length 6 [] b (is_gb18030_lead b) hold (finish (malformed 1))
+      (λ e. cost_test len narrow (cond (is_ascii b) 1 wide) length 6 [] b (is_lead b) hold (finish (malformed 1))
       (λ l. record { fits = omega arith; pays = omega arith; pays_without = omega arith })
       (λ l. record { fits = rw a (omega arith); pays = omega arith; pays_without = omega arith })))
 
@@ -37,7 +38,7 @@ module _ (len : ℕ → ℕ) (narrow wide : ℕ) (w : IsWidth len narrow wide) w
       (λ d. record { fits = omega arith; pays = omega arith; pays_without = omega arith })
       (λ d. trail_cost len narrow wide w wide 6 a b (gb18030_scalars index a b) (gb18030_units index a b) (omega arith) (omega arith) (omega arith))
   gb18030_held_cost index ranges a (c ∷ []) b h =
-      cost_test len narrow wide length 6 (a ∷ c ∷ []) b (is_gb18030_lead b) hold (leave 1)
+      cost_test len narrow wide length 6 (a ∷ c ∷ []) b (is_lead b) hold (leave 1)
       (λ d. record { fits = omega arith; pays = omega arith; pays_without = omega arith })
       (λ d. record { fits = omega arith; pays = omega arith; pays_without = omega arith })
   gb18030_held_cost index ranges a (c ∷ d ∷ []) b h =

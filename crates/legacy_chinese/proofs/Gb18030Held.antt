@@ -9,7 +9,8 @@ use Rattle.std.specs.Char.{IsScalar, is_ascii, is_ascii_digit}
 use Rattle.legacy_base.specs.Unicode.{IsByte, AreBytes}
 use Rattle.legacy_base.specs.Indexes.{idx, range}
 use Rattle.legacy_base.specs.AcceptedTables.{AcceptedIndexes}
-use Rattle.legacy_base.specs.Gb18030.{is_gb18030_lead, gb18030_scalars, gb18030_range_pointer}
+use Rattle.legacy_base.specs.Gb18030.{gb18030_scalars, gb18030_range_pointer}
+use Rattle.legacy_base.specs.States.{is_lead}
 use Rattle.legacy_base.specs.Grammar.{Grammar, gb18030, events_of}
 use Rattle.legacy_base.specs.States.{gb18030_may_hold, rests, is_empty}
 use Rattle.legacy_base.proofs.Accepted.{gb18030-below, range-scalar}
@@ -17,9 +18,10 @@ use Rattle.legacy_chinese.specs.declared.gb18030.decoder.Held.{Held}
 use Rattle.legacy_chinese.specs.declared.gb18030.decoder.Held.TheVariants.{Nothing, First, Second, Third, Digit, DigitLead}
 use Rattle.legacy_decoder_engine.specs.declared.held.Lead.{Lead}
 use Rattle.legacy_chinese.specs.declared.gb18030.digit.Digit.{Digit as HeldDigit}
-use Rattle.legacy_decoder_engine.specs.declared.machine.Fed.{Fed}
+use Rattle.legacy_decoder_engine.specs.declared.moves.Fed.{Fed}
 use Rattle.legacy_decoder_engine.specs.Moves.{IsCovered, Feeds, Releases, Reports}
-use Rattle.legacy_decoder_engine.specs.Costs.{state_of, IsNarrowIndex}
+use Rattle.legacy_decoder_engine.specs.Costs.{IsNarrowIndex}
+use Rattle.legacy_base.specs.States.{state_of}
 use Rattle.legacy_decoder_engine.specs.Ahead.{Runs, HasAscii}
 use Rattle.legacy_decoder_engine.specs.Feeding.{Took}
 use Rattle.legacy_chinese.specs.Gb18030Machine.{gb18030_step, gb18030_pending, gb18030_machine}
@@ -31,16 +33,16 @@ use Rattle.legacy_decoder_engine.proofs.Widths.{idx_below}
 use Rattle.legacy_decoder_engine.specs.Shown.{IsShown}
 use Rattle.legacy_chinese.proofs.Gb18030Shown.{gb18030_shown}
 
-lead_is : (b : ℕ) → 0x81 ≤ b → b ≤ 0xFE → (is_gb18030_lead b ≡ true) × (is_ascii_digit b ≡ false) × (b < 2 ^ 8)
+lead_is : (b : ℕ) → 0x81 ≤ b → b ≤ 0xFE → (is_lead b ≡ true) × (is_ascii_digit b ≡ false) × (b < 2 ^ 8)
 lead_is b low high = (grind (arith, nat_tests), grind (arith, nat_tests), omega arith)
 
-digit_is : (b : ℕ) → 0x30 ≤ b → b ≤ 0x39 → (is_ascii_digit b ≡ true) × (is_gb18030_lead b ≡ false) × (b < 2 ^ 8) × IsScalar b
+digit_is : (b : ℕ) → 0x30 ≤ b → b ≤ 0x39 → (is_ascii_digit b ≡ true) × (is_lead b ≡ false) × (b < 2 ^ 8) × IsScalar b
 digit_is b low high = (grind (arith, nat_tests), grind (arith, nat_tests), omega arith, grind (arith, nat_tests))
 
-of_lead : (lead : Lead) → (is_gb18030_lead lead.byte ≡ true) × (is_ascii_digit lead.byte ≡ false) × (lead.byte < 2 ^ 8)
+of_lead : (lead : Lead) → (is_lead lead.byte ≡ true) × (is_ascii_digit lead.byte ≡ false) × (lead.byte < 2 ^ 8)
 of_lead lead = lead_is lead.byte lead.low lead.high
 
-of_digit : (digit : HeldDigit) → (is_ascii_digit digit.byte ≡ true) × (is_gb18030_lead digit.byte ≡ false) × (digit.byte < 2 ^ 8) × IsScalar digit.byte
+of_digit : (digit : HeldDigit) → (is_ascii_digit digit.byte ≡ true) × (is_lead digit.byte ≡ false) × (digit.byte < 2 ^ 8) × IsScalar digit.byte
 of_digit digit = digit_is digit.byte digit.low digit.high
 
 may : (held : Held) → gb18030_may_hold (held_bytes held) ≡ true
@@ -75,7 +77,7 @@ neutral-empty (DigitLead digit lead) e = absurd (false≢true e)
 
 -- ---- pairs
 
-lead_other : (b : ℕ) → is_gb18030_lead b ≡ true → (is_ascii b ≡ false) × ((b == 0x80) ≡ false) × (is_ascii_digit b ≡ false)
+lead_other : (b : ℕ) → is_lead b ≡ true → (is_ascii b ≡ false) × ((b == 0x80) ≡ false) × (is_ascii_digit b ≡ false)
 lead_other b is = (grind (arith, nat_tests), grind (arith, nat_tests), grind (arith, nat_tests))
 
 digit_no_trail : (b : ℕ) → is_ascii_digit b ≡ true → (is_in_range 0x40 0x7E b ≡ false) × (is_in_range 0x80 0xFE b ≡ false)
@@ -174,7 +176,7 @@ module _ (tables : AcceptedIndexes) where
   ascii = has_ascii shown (λ b. refl) (λ b h. let a = ascii_is b h in rw a refl)
 
   -- a pair that gives one scalar
-  pub pair : (lead trail c : ℕ) → IsByte lead → IsByte trail → IsScalar c → is_gb18030_lead lead ≡ true → gb18030_scalars tables.flat.gb18030 lead trail ≡ c ∷ [] →
+  pub pair : (lead trail c : ℕ) → IsByte lead → IsByte trail → IsScalar c → is_lead lead ≡ true → gb18030_scalars tables.flat.gb18030 lead trail ≡ c ∷ [] →
       (c < 0x1_0000) × Runs g (lead ∷ trail ∷ []) (c ∷ [])
   pair lead trail c byte byte' scalar is e =
       let other = lead_other lead is in

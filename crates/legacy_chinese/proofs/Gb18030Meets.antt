@@ -6,20 +6,21 @@ use Rattle.std.specs.Char.{is_ascii, is_ascii_digit}
 use Rattle.legacy_base.specs.Fronts.{Front, reads, malformed, reads_or, cut}
 use Rattle.legacy_base.specs.Indexes.{range}
 use Rattle.legacy_base.specs.Grammar.{gb18030, events_of}
-use Rattle.legacy_base.specs.Gb18030.{is_gb18030_lead, gb18030_scalars, gb18030_range_pointer, gb18030_fourth, gb18030_third, gb18030_second, gb18030_front}
+use Rattle.legacy_base.specs.Gb18030.{gb18030_scalars, gb18030_range_pointer, gb18030_fourth, gb18030_third, gb18030_second, gb18030_front}
+use Rattle.legacy_base.specs.States.{is_lead}
 use Rattle.legacy_base.specs.States.{gb18030_may_hold, rests}
 use Rattle.legacy_decoder_engine.specs.Steps.{hold, finish, leave, PendingMeets, end_events, trail_step, Meets}
 use Rattle.legacy_chinese.specs.Gb18030Machine.{gb18030_pending, gb18030_first, gb18030_step, gb18030_machine}
 use Rattle.legacy_base.proofs.Cuts.{cut-nil}
 use Rattle.legacy_decoder_engine.proofs.FrontMoves.{HasFront, Fits, fits_test, fits_trail, fits_meets, write_meets, end_meets}
 
-lead_not_ascii : (b : ℕ) → is_gb18030_lead b ≡ true → (is_ascii b ≡ false) × ((b == 0x80) ≡ false)
+lead_not_ascii : (b : ℕ) → is_lead b ≡ true → (is_ascii b ≡ false) × ((b == 0x80) ≡ false)
 lead_not_ascii b h = (grind (arith, nat_tests), grind (arith, nat_tests))
 
 digit_is_ascii : (b : ℕ) → is_ascii_digit b ≡ true → is_ascii b ≡ true
 digit_is_ascii b h = grind (arith, nat_tests)
 
-digit_not_lead : (b : ℕ) → is_ascii_digit b ≡ true → is_gb18030_lead b ≡ false
+digit_not_lead : (b : ℕ) → is_ascii_digit b ≡ true → is_lead b ≡ false
 digit_not_lead b h = grind (arith, nat_tests)
 
 -- n bytes that give these scalars, or are malformed
@@ -31,23 +32,23 @@ reads_fits front may held b (c ∷ scalars) m l h = (h, omega arith, omega arith
 -- ---- what may be held back
 
 -- a byte that rests is a lead
-one_lead : (first : ℕ) → gb18030_may_hold (first ∷ []) ≡ true → not (is_ascii_digit first) ≡ true → is_gb18030_lead first ≡ true
-one_lead first h r = let d = not-true (is_ascii_digit first) r in ⊎_elim (λ l. l) (λ e. absurd (both_ways (is_ascii_digit first) d e)) (or_cases (is_gb18030_lead first) (is_ascii_digit first) h)
+one_lead : (first : ℕ) → gb18030_may_hold (first ∷ []) ≡ true → not (is_ascii_digit first) ≡ true → is_lead first ≡ true
+one_lead first h r = let d = not-true (is_ascii_digit first) r in ⊎_elim (λ l. l) (λ e. absurd (both_ways (is_ascii_digit first) d e)) (or_cases (is_lead first) (is_ascii_digit first) h)
 
-two_lead : (first second : ℕ) → gb18030_may_hold (first ∷ second ∷ []) ≡ true → not (is_ascii_digit first) ≡ true → (is_gb18030_lead first ≡ true) × (is_ascii_digit second ≡ true)
+two_lead : (first second : ℕ) → gb18030_may_hold (first ∷ second ∷ []) ≡ true → not (is_ascii_digit first) ≡ true → (is_lead first ≡ true) × (is_ascii_digit second ≡ true)
 two_lead first second h r = let d = not-true (is_ascii_digit first) r in
-    ⊎_elim (λ l. and_parts (is_gb18030_lead first) (is_ascii_digit second) l)
-    (λ e. absurd (both_ways (is_ascii_digit first) d ((and_parts (is_ascii_digit first) (is_gb18030_lead second) e).0)))
-    (or_cases (is_gb18030_lead first && is_ascii_digit second) (is_ascii_digit first && is_gb18030_lead second) h)
+    ⊎_elim (λ l. and_parts (is_lead first) (is_ascii_digit second) l)
+    (λ e. absurd (both_ways (is_ascii_digit first) d ((and_parts (is_ascii_digit first) (is_lead second) e).0)))
+    (or_cases (is_lead first && is_ascii_digit second) (is_ascii_digit first && is_lead second) h)
 
-three_lead : (first second third : ℕ) → gb18030_may_hold (first ∷ second ∷ third ∷ []) ≡ true → (is_gb18030_lead first ≡ true) × (is_ascii_digit second ≡ true) × (is_gb18030_lead third ≡ true)
+three_lead : (first second third : ℕ) → gb18030_may_hold (first ∷ second ∷ third ∷ []) ≡ true → (is_lead first ≡ true) × (is_ascii_digit second ≡ true) × (is_lead third ≡ true)
 three_lead first second third h =
-    let p = and_parts (is_gb18030_lead first && is_ascii_digit second) (is_gb18030_lead third) h in
-    let q = and_parts (is_gb18030_lead first) (is_ascii_digit second) p.0 in
+    let p = and_parts (is_lead first && is_ascii_digit second) (is_lead third) h in
+    let q = and_parts (is_lead first) (is_ascii_digit second) p.0 in
     (q.0, q.1, p.1)
 
 module _ (index : List ℕ) (ranges : List (ℕ × ℕ)) where
-  front_lead : (b : ℕ) (rest : List ℕ) → is_gb18030_lead b ≡ true → gb18030_front index ranges b rest ≡ gb18030_second index ranges b rest
+  front_lead : (b : ℕ) (rest : List ℕ) → is_lead b ≡ true → gb18030_front index ranges b rest ≡ gb18030_second index ranges b rest
   unfolding gb18030_front
   front_lead b rest h = let a = lead_not_ascii b h in rw (a.0, a.1, h)
 
@@ -58,27 +59,27 @@ module _ (index : List ℕ) (ranges : List (ℕ × ℕ)) where
       (λ a. (λ more. rw a, omega arith, omega arith, refl))
       (λ a. fits_test (gb18030_front index ranges) gb18030_may_hold [] b (b == 0x80) (finish (reads 1 (0x20AC ∷ []))) _
       (λ e. (λ more. rw (a, e), omega arith, omega arith, refl))
-      (λ e. fits_test (gb18030_front index ranges) gb18030_may_hold [] b (is_gb18030_lead b) hold (finish (malformed 1))
-      (λ l. (omega arith, or_left (is_gb18030_lead b) (is_ascii_digit b) l))
+      (λ e. fits_test (gb18030_front index ranges) gb18030_may_hold [] b (is_lead b) hold (finish (malformed 1))
+      (λ l. (omega arith, or_left (is_lead b) (is_ascii_digit b) l))
       (λ l. (λ more. rw (a, e, l), omega arith, omega arith, refl))))
 
-  second_fits : (first b : ℕ) → is_gb18030_lead first ≡ true → Fits (gb18030_front index ranges) gb18030_may_hold (first ∷ []) b (gb18030_step index ranges (first ∷ []) b)
+  second_fits : (first b : ℕ) → is_lead first ≡ true → Fits (gb18030_front index ranges) gb18030_may_hold (first ∷ []) b (gb18030_step index ranges (first ∷ []) b)
   unfolding gb18030_second
   second_fits first b l =
       fits_test (gb18030_front index ranges) gb18030_may_hold (first ∷ []) b (is_ascii_digit b) hold (trail_step 1 (gb18030_scalars index first b) b)
-      (λ d. (omega arith, or_left (is_gb18030_lead first && is_ascii_digit b) (is_ascii_digit first && is_gb18030_lead b) (and_from (is_gb18030_lead first) (is_ascii_digit b) l d)))
+      (λ d. (omega arith, or_left (is_lead first && is_ascii_digit b) (is_ascii_digit first && is_lead b) (and_from (is_lead first) (is_ascii_digit b) l d)))
       (λ d. fits_trail (gb18030_front index ranges) gb18030_may_hold (first ∷ []) (gb18030_scalars index first b) b refl (omega arith)
       (λ more. front_lead first (b ∷ more) l ∙ rw d))
 
-  third_fits : (first second b : ℕ) → is_gb18030_lead first ≡ true → is_ascii_digit second ≡ true →
+  third_fits : (first second b : ℕ) → is_lead first ≡ true → is_ascii_digit second ≡ true →
       Fits (gb18030_front index ranges) gb18030_may_hold (first ∷ second ∷ []) b (gb18030_step index ranges (first ∷ second ∷ []) b)
   unfolding gb18030_second gb18030_third
   third_fits first second b l d =
-      fits_test (gb18030_front index ranges) gb18030_may_hold (first ∷ second ∷ []) b (is_gb18030_lead b) hold (leave 1)
-      (λ k. (omega arith, and_from (is_gb18030_lead first && is_ascii_digit second) (is_gb18030_lead b) (and_from (is_gb18030_lead first) (is_ascii_digit second) l d) k))
-      (λ k. (λ more. front_lead first (second ∷ b ∷ more) l ∙ rw (d, k), omega arith, omega arith, or_right (is_gb18030_lead second) (is_ascii_digit second) d))
+      fits_test (gb18030_front index ranges) gb18030_may_hold (first ∷ second ∷ []) b (is_lead b) hold (leave 1)
+      (λ k. (omega arith, and_from (is_lead first && is_ascii_digit second) (is_lead b) (and_from (is_lead first) (is_ascii_digit second) l d) k))
+      (λ k. (λ more. front_lead first (second ∷ b ∷ more) l ∙ rw (d, k), omega arith, omega arith, or_right (is_lead second) (is_ascii_digit second) d))
 
-  fourth_fits : (first second third b : ℕ) → is_gb18030_lead first ≡ true → is_ascii_digit second ≡ true → is_gb18030_lead third ≡ true →
+  fourth_fits : (first second third b : ℕ) → is_lead first ≡ true → is_ascii_digit second ≡ true → is_lead third ≡ true →
       Fits (gb18030_front index ranges) gb18030_may_hold (first ∷ second ∷ third ∷ []) b (gb18030_step index ranges (first ∷ second ∷ third ∷ []) b)
   unfolding gb18030_second gb18030_third gb18030_fourth
   fourth_fits first second third b l d k =
@@ -89,7 +90,7 @@ module _ (index : List ℕ) (ranges : List (ℕ × ℕ)) where
         λ more. front_lead first (second ∷ third ∷ b ∷ more) l ∙ rw (d, k, e),
         omega arith,
         omega arith,
-        or_right (is_gb18030_lead second && is_ascii_digit third) (is_ascii_digit second && is_gb18030_lead third) (and_from (is_ascii_digit second) (is_gb18030_lead third) d k),
+        or_right (is_lead second && is_ascii_digit third) (is_ascii_digit second && is_lead third) (and_from (is_ascii_digit second) (is_lead third) d k),
       ))
 
   fits : (held : List ℕ) (b : ℕ) → gb18030_may_hold held ≡ true → rests (gb18030 index ranges) held ≡ true → Fits (gb18030_front index ranges) gb18030_may_hold held b (gb18030_step index ranges held b)
@@ -116,8 +117,8 @@ module _ (index : List ℕ) (ranges : List (ℕ × ℕ)) where
   behind_digit b [] h d = refl
   behind_digit b (c ∷ []) h d =
       let l = digit_not_lead b d in
-      or_left (is_gb18030_lead c) (is_ascii_digit c) (rw (l, d) at h)
-  behind_digit b (c ∷ e ∷ []) h d = let p = three_lead b c e h in absurd (both_ways (is_gb18030_lead b) (digit_not_lead b d) p.0)
+      or_left (is_lead c) (is_ascii_digit c) (rw (l, d) at h)
+  behind_digit b (c ∷ e ∷ []) h d = let p = three_lead b c e h in absurd (both_ways (is_lead b) (digit_not_lead b d) p.0)
   behind_digit b (c ∷ e ∷ f ∷ held) h d = absurd (false≢true h)
 
   digit_front : (b : ℕ) (rest : List ℕ) → is_ascii_digit b ≡ true → gb18030_front index ranges b rest ≡ reads 1 (b ∷ [])

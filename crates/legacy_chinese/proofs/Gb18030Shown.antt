@@ -7,7 +7,8 @@ use Rattle.legacy_base.specs.Grammar.{gb18030}
 use Rattle.legacy_base.specs.States.{DecoderState, gb18030_may_hold, rests}
 use Rattle.legacy_base.specs.Acts.{act_room, takes}
 use Rattle.legacy_base.specs.Lengths.{to_utf16, room}
-use Rattle.legacy_decoder_engine.specs.Costs.{utf8_count, utf16_count, IsWidth, state_of, Cost, WritePays}
+use Rattle.legacy_decoder_engine.specs.Costs.{utf8_count, utf16_count, IsWidth, Cost, WritePays}
+use Rattle.legacy_base.specs.States.{state_of}
 use Rattle.legacy_chinese.specs.Gb18030Machine.{gb18030_machine, gb18030_pending}
 use Rattle.legacy_decoder_engine.proofs.Widths.{width_utf8, width_utf16}
 use Rattle.legacy_decoder_engine.specs.Shown.{IsShown, WriteSettles}

@@ -3,9 +3,10 @@ use Rattle.std.specs.Prelude.{ℕ, ◌-◌, List, [], ◌∷◌, Option, Some, N
 use Rattle.std.specs.Char.{is_ascii, is_ascii_digit}
 use Rattle.legacy_base.specs.Fronts.{reads, malformed, reads_or}
 use Rattle.legacy_base.specs.Indexes.{range}
-use Rattle.legacy_base.specs.Gb18030.{is_gb18030_lead, gb18030_scalars, gb18030_range_pointer}
+use Rattle.legacy_base.specs.Gb18030.{gb18030_scalars, gb18030_range_pointer}
+use Rattle.legacy_base.specs.States.{is_lead}
 use Rattle.legacy_base.specs.Grammar.{gb18030}
-use Rattle.legacy_decoder_engine.specs.Steps.{Step, hold, finish, leave, Machine, trail_step}
+use Rattle.legacy_decoder_engine.specs.Steps.{Step, hold, finish, leave, DecoderMachine, trail_step}
 
 -- a digit of a broken form
 abbrev pub gb18030_pending : List ℕ → Option (ℕ × ℕ)
@@ -16,7 +17,7 @@ abbrev pub gb18030_first : ℕ → Step
 gb18030_first b =
     if is_ascii b then finish (reads 1 (b ∷ []))
     else if b == 0x80 then finish (reads 1 (0x20AC ∷ []))
-    else if is_gb18030_lead b then hold
+    else if is_lead b then hold
     else finish (malformed 1)
 
 abbrev pub gb18030_step : List ℕ → List (ℕ × ℕ) → List ℕ → ℕ → Step
@@ -24,13 +25,13 @@ gb18030_step index ranges [] b = gb18030_first b
 gb18030_step index ranges (first ∷ []) b =
     if is_ascii_digit b then hold else trail_step 1 (gb18030_scalars index first b) b
 gb18030_step index ranges (first ∷ second ∷ []) b =
-    if is_gb18030_lead b then hold else leave 1
+    if is_lead b then hold else leave 1
 gb18030_step index ranges (first ∷ second ∷ third ∷ held) b =
     if is_ascii_digit b
     then finish (reads_or 4 (option_to_list (range ranges (gb18030_range_pointer first second third b))) (malformed 4))
     else leave 1
 
-abbrev pub gb18030_machine : List ℕ → List (ℕ × ℕ) → Machine
+abbrev pub gb18030_machine : List ℕ → List (ℕ × ℕ) → DecoderMachine
 gb18030_machine index ranges = record {
   pending = gb18030_pending;
   step = gb18030_step index ranges;

@@ -13,15 +13,15 @@ use Rattle.legacy_base.specs.EncodingForm.{EncodingForm, unit_count, total_unit_
 use Rattle.legacy_base.specs.Events.{shift}
 use Rattle.legacy_base.specs.Grammar.{Grammar, events_of}
 use Rattle.legacy_base.specs.States.{DecoderState, rests}
-use Rattle.legacy_base.specs.Acts.{room_needed, LacksRoom, HadRoom, HadRooms, fault_room, full_room, release_room}
+use Rattle.legacy_base.specs.Acts.{room_needed, LacksRoom, HadRoom, HadRooms, fault_room, full_room_in, release_room_in}
 use Rattle.legacy_base.specs.Lengths.{LengthQuery, query_form, room}
 use Rattle.legacy_base.specs.Calls.{Progress, DecoderCall, IsFault, out_events, reported_events}
 use Rattle.legacy_base.proofs.Shifts.{shift-scalars}
 use Rattle.legacy_base.proofs.Progress.{stay, at_last, behind, after_that}
 use Rattle.legacy_base.proofs.Rooms.{total_unit_count-append, HadRooms-append, HadRooms-none, HadRooms-released, room_needed-release, room_needed-read, room_needed-report, room_needed-none}
 use Rattle.legacy_base.proofs.Enough.{room-answer}
-use Rattle.legacy_decoder_engine.specs.declared.machine.Fed.{Fed}
-use Rattle.legacy_decoder_engine.specs.declared.machine.Fed.TheVariants.{Nothing, One, Two, Fault}
+use Rattle.legacy_decoder_engine.specs.declared.moves.Fed.{Fed}
+use Rattle.legacy_decoder_engine.specs.declared.moves.Fed.TheVariants.{Nothing, One, Two, Fault}
 use Rattle.legacy_decoder_engine.specs.Moves.{SameRooms, Feeds, Releases, Reports, Finishes, IsCovered, read_room, fed_scalars, fed_fault, fed_units, unread_byte, FedHolds, IsFaulty}
 
 -- A call under way: the decoder is in the state `now`, it has read so many bytes and written these scalars.
@@ -31,7 +31,7 @@ pub record Going (form : EncodingForm) (before : DecoderState) (source : List �
   pub progress : Progress false before source passed now (drop read source) (map Scalar scalars)
   pub resting : rests now.grammar now.held ≡ true
   pub rooms : SameRooms before.grammar now.grammar
-  pub held : 0 < read → now.held ≢ [] → full_room form before.grammar ≤ free - total_unit_count form scalars
+  pub held : 0 < read → now.held ≢ [] → full_room_in form before.grammar ≤ free - total_unit_count form scalars
   pub had : HadRooms form before free scalars
   pub released : rests before.grammar before.held ≡ false → scalars ≢ []
   pub fits : total_unit_count form scalars ≤ free
@@ -44,7 +44,7 @@ pub front_nil : (xs ys : List ℕ) → xs ++ ys ≡ [] → xs ≡ []
 front_nil [] ys e = refl
 front_nil (x ∷ xs) ys e = cc
 
-fault_room_at : (form : EncodingForm) (g : Grammar) (read n : ℕ) → (read ≡ 0 → release_room form g ≤ n) → (0 < read → full_room form g ≤ n) → fault_room form g read ≤ n
+fault_room_at : (form : EncodingForm) (g : Grammar) (read n : ℕ) → (read ≡ 0 → release_room_in form g ≤ n) → (0 < read → full_room_in form g ≤ n) → fault_room form g read ≤ n
 fault_room_at form g zero n a b = a refl
 fault_room_at form g (suc r) n a b = let z : suc r ≡ 0 → ⊥ = λ e. omega arith in rw (ne_eqb (suc r) 0 z) (b (omega arith))
 
@@ -108,7 +108,7 @@ module _ (form : EncodingForm) (before : DecoderState) (source : List ℕ) (last
     lowers = λ query e more. omega arith;
   }
 
-  pub going_release : (now : DecoderState) (c : ℕ) → rests before.grammar before.held ≡ false → release_room form before.grammar ≤ free → Releases before now c → Going form before source last free now 0 (c ∷ [])
+  pub going_release : (now : DecoderState) (c : ℕ) → rests before.grammar before.held ≡ false → release_room_in form before.grammar ≤ free → Releases before now c → Going form before source last free now 0 (c ∷ [])
   going_release now c r enough h = record {
     within = omega arith;
     passed = h.passed;
@@ -298,17 +298,17 @@ module _ (form : EncodingForm) (before : DecoderState) (source : List ℕ) (last
           enough = λ query q n k le answered most x. cc;
         }
 
-    needs_report : read ≡ length source → last ≡ true → events_of now.grammar now.held ≢ [] → room_needed form now (drop read source) last ≡ release_room form now.grammar
+    needs_report : read ≡ length source → last ≡ true → events_of now.grammar now.held ≢ [] → room_needed form now (drop read source) last ≡ release_room_in form now.grammar
     needs_report all end some =
         let nothing_left : drop read source ≡ [] = drop_of_length-le source (omega arith) in
         rw (nothing_left, end) (room_needed-report form now going.resting some)
 
     -- what is left at the last end lacks the room for its report
-    pub call_full_report : IsCovered now → read ≡ length source → last ≡ true → events_of now.grammar now.held ≢ [] → free - total_unit_count form scalars < release_room form now.grammar → DecoderCall form before source last free now OutputFull read scalars
+    pub call_full_report : IsCovered now → read ≡ length source → last ≡ true → events_of now.grammar now.held ≢ [] → free - total_unit_count form scalars < release_room_in form now.grammar → DecoderCall form before source last free now OutputFull read scalars
     call_full_report c all end some lacks = call_full c (rw (needs_report all end some) lacks)
 
     -- what is left at the last end is reported
-    pub call_report : (next : DecoderState) (a b : ℕ) → read ≡ length source → last ≡ true → events_of now.grammar now.held ≢ [] → release_room form now.grammar ≤ free - total_unit_count form scalars → Reports now next a b →
+    pub call_report : (next : DecoderState) (a b : ℕ) → read ≡ length source → last ≡ true → events_of now.grammar now.held ≢ [] → release_room_in form now.grammar ≤ free - total_unit_count form scalars → Reports now next a b →
         DecoderCall form before source last free next (Malformed a b) read scalars
     call_report next a b all end some enough f =
         let nothing_left : drop read source ≡ [] = drop_of_length-le source (omega arith) in
@@ -350,7 +350,7 @@ module _ (form : EncodingForm) (before : DecoderState) (source : List ℕ) (last
     call_finish next (Malformed a b) left all e f = call_report next a b all f.0 f.1 (omega (arith, f.2)) f.3
 
   -- the scalar that is held back lacks its room
-  pub call_full_release : IsCovered before → rests before.grammar before.held ≡ false → free < release_room form before.grammar → DecoderCall form before source last free before OutputFull 0 []
+  pub call_full_release : IsCovered before → rests before.grammar before.held ≡ false → free < release_room_in form before.grammar → DecoderCall form before source last free before OutputFull 0 []
   unfolding HadRoom
   call_full_release c r lacks =
       let e = room_needed-release form before source last r in

@@ -9,13 +9,14 @@ use Rattle.legacy_base.specs.Unicode.{IsByte, AreBytes}
 use Rattle.legacy_base.specs.Fronts.{reads, malformed}
 use Rattle.legacy_base.specs.Grammar.{Grammar, events_of}
 use Rattle.legacy_base.specs.States.{DecoderState, rests, may_hold}
-use Rattle.legacy_base.specs.Acts.{has_short_ascii, has_reported, has_marks, is_mark_behind, full_room, release_room, HadRoom}
+use Rattle.legacy_base.specs.Acts.{has_short_ascii, has_reported, has_marks, is_mark_behind, full_room_in, release_room_in, HadRoom}
 use Rattle.legacy_base.specs.Lengths.{LengthQuery, to_utf16, to_utf8, query_form, replacement_units, room}
-use Rattle.legacy_decoder_engine.specs.declared.machine.Fed.{Fed}
-use Rattle.legacy_decoder_engine.specs.declared.machine.Fed.TheVariants.{Nothing, One, Two, Fault}
+use Rattle.legacy_decoder_engine.specs.declared.moves.Fed.{Fed}
+use Rattle.legacy_decoder_engine.specs.declared.moves.Fed.TheVariants.{Nothing, One, Two, Fault}
 use Rattle.legacy_decoder_engine.specs.Moves.{IsCovered, read_room, fed_scalars, fed_fault, fed_units, unread_byte, FedHolds, IsFaulty, Feeds, Releases, Reports}
-use Rattle.legacy_decoder_engine.specs.Steps.{Step, hold, finish, leave, step_held, StepMeets, end_events, Machine}
-use Rattle.legacy_decoder_engine.specs.Costs.{state_of, units, step_units, step_left}
+use Rattle.legacy_decoder_engine.specs.Steps.{Step, hold, finish, leave, step_held, StepMeets, end_events, DecoderMachine}
+use Rattle.legacy_decoder_engine.specs.Costs.{units, step_units, step_left}
+use Rattle.legacy_base.specs.States.{state_of}
 use Rattle.legacy_decoder_engine.specs.Settling.{IsOneOrMarked, Settles}
 use Rattle.legacy_decoder_engine.specs.Feeding.{fed_form, fed_of, HasScalars, Took}
 use Rattle.legacy_base.proofs.Rooms.{release-full}
@@ -35,13 +36,13 @@ query_of : EncodingForm → LengthQuery
 query_of Utf8 = to_utf8
 query_of Utf16 = to_utf16
 
-fits_form : (form : EncodingForm) {g : Grammar} {m : Machine} → IsShown g m → (held : List ℕ) (b : ℕ) → may_hold g held ≡ true → rests g held ≡ true → AreBytes held → IsByte b →
+fits_form : (form : EncodingForm) {g : Grammar} {m : DecoderMachine} → IsShown g m → (held : List ℕ) (b : ℕ) → may_hold g held ≡ true → rests g held ≡ true → AreBytes held → IsByte b →
     step_units (unit_count form) (bmp_room form) (m.step held b) ≤ read_room form (state_of g held) b
 fits_form Utf8 shown held b m r bytes byte = (shown.rooms to_utf8).step_fits held b m r bytes byte
 fits_form Utf16 shown held b m r bytes byte = (shown.rooms to_utf16).step_fits held b m r bytes byte
 
-writes_form : (form : EncodingForm) {g : Grammar} {m : Machine} → IsShown g m → (held : List ℕ) (n c : ℕ) → may_hold g held ≡ true → rests g held ≡ false → AreBytes held → m.pending held ≡ Some (n, c) →
-    unit_count form c ≤ release_room form g
+writes_form : (form : EncodingForm) {g : Grammar} {m : DecoderMachine} → IsShown g m → (held : List ℕ) (n c : ℕ) → may_hold g held ≡ true → rests g held ≡ false → AreBytes held → m.pending held ≡ Some (n, c) →
+    unit_count form c ≤ release_room_in form g
 writes_form Utf8 shown held n c m r bytes e = let w = (shown.rooms to_utf8).write_pays held m r bytes in let w' = rw e at w in w'.0
 writes_form Utf16 shown held n c m r bytes e = let w = (shown.rooms to_utf16).write_pays held m r bytes in let w' = rw e at w in w'.0
 
@@ -81,17 +82,17 @@ mark_wants true true want free e w = absurd (false≢true w)
 mark_wants false true want free e w = absurd (false≢true w)
 mark_wants short false want free e w = absurd (false≢true e)
 
-had_usual : (form : EncodingForm) (g : Grammar) (free : ℕ) (cs : List ℕ) → IsOneOrMarked (has_marks g) cs → full_room form g ≤ free → HadRoom form g None free cs
+had_usual : (form : EncodingForm) (g : Grammar) (free : ℕ) (cs : List ℕ) → IsOneOrMarked (has_marks g) cs → full_room_in form g ≤ free → HadRoom form g None free cs
 unfolding HadRoom
 had_usual form g free [] h full = tt
 had_usual form g free (c ∷ []) h full = (λ w. full, tt)
 had_usual form g free (c ∷ d ∷ []) h full =
-    (λ w. full, (λ w. mark_wants (has_short_ascii g && is_ascii d) (has_marks g && is_mark_behind (Some c) d) (full_room form g) (free - unit_count form c) h w, tt))
+    (λ w. full, (λ w. mark_wants (has_short_ascii g && is_ascii d) (has_marks g && is_mark_behind (Some c) d) (full_room_in form g) (free - unit_count form c) h w, tt))
 had_usual form g free (c ∷ d ∷ e ∷ cs) h full = absurd h
 
 had_short : (form : EncodingForm) (g : Grammar) (free b : ℕ) → (has_short_ascii g && is_ascii b) ≡ true → HadRoom form g None free (b ∷ [])
 unfolding HadRoom
-had_short form g free b h = (λ w. short_wants (has_short_ascii g && is_ascii b) (has_marks g) false (full_room form g) free h w, tt)
+had_short form g free b h = (λ w. short_wants (has_short_ascii g && is_ascii b) (has_marks g) false (full_room_in form g) free h w, tt)
 
 has_scalars : (fed : Fed) → HasScalars fed → All IsScalar (fed_scalars fed)
 has_scalars Nothing h = All-nil IsScalar
@@ -105,7 +106,7 @@ reads_same m n xs ys e = cc
 all_dropped : (n : ℕ) (held : List ℕ) (b : ℕ) → n ≡ suc (length held) → drop n (held ++ b ∷ []) ≡ []
 all_dropped n held b e = drop_of_length-le (held ++ b ∷ []) (omega (arith, length-append held (b ∷ [])))
 
-module _ {g : Grammar} {m : Machine} (shown : IsShown g m) (held : List ℕ) (may : may_hold g held ≡ true) (bytes : AreBytes held) where
+module _ {g : Grammar} {m : DecoderMachine} (shown : IsShown g m) (held : List ℕ) (may : may_hold g held ≡ true) (bytes : AreBytes held) where
   -- no next act needs more than the room of a query
   pub covered : IsCovered (state_of g held)
   covered = record { covers = λ query unread last. (shown.rooms query).needs held unread last may }
@@ -135,7 +136,7 @@ module _ {g : Grammar} {m : Machine} (shown : IsShown g m) (held : List ℕ) (ma
     pays_step query n s e = rw (← e) ((shown.rooms query).step_pays held b n may resting bytes byte)
 
     -- a step that is no scalar of its own byte had the full room
-    usual_step : (form : EncodingForm) (s : Step) → m.step held b ≡ s → (s ≡ finish (reads 1 (b ∷ [])) → ⊥) → has_reported g ≡ false → full_room form g ≤ read_room form (state_of g held) b
+    usual_step : (form : EncodingForm) (s : Step) → m.step held b ≡ s → (s ≡ finish (reads 1 (b ∷ [])) → ⊥) → has_reported g ≡ false → full_room_in form g ≤ read_room form (state_of g held) b
     usual_step form s e ne reported = elim (short_or_usual (bmp_room form) (wide_room form) g m shown held b reported) [
       | inl h ↦ h
       | inr h ↦ absurd (ne (sym e ∙ h.1))
@@ -223,7 +224,7 @@ module _ {g : Grammar} {m : Machine} (shown : IsShown g m) (held : List ℕ) (ma
     marks_to : has_marks (m.to held b) ≡ has_marks g
     marks_to = shown.same_marks held b
 
-    full_form : (n : ℕ) (cs : List ℕ) → Known (finish (reads n cs)) → (form : EncodingForm) → drop n (held ++ b ∷ []) ≢ [] → full_room form g ≤ read_room form (state_of g held) b
+    full_form : (n : ℕ) (cs : List ℕ) → Known (finish (reads n cs)) → (form : EncodingForm) → drop n (held ++ b ∷ []) ≢ [] → full_room_in form g ≤ read_room form (state_of g held) b
     full_form n cs k form ne = absurd (ne (all_dropped n held b (k.settles.0)))
 
     had_form : (form : EncodingForm) (free n : ℕ) (cs : List ℕ) → Known (finish (reads n cs)) → read_room form (state_of g held) b ≤ free → HadRoom form g None free cs
@@ -234,7 +235,7 @@ module _ {g : Grammar} {m : Machine} (shown : IsShown g m) (held : List ℕ) (ma
           let e : cs ≡ [] = reads_same n 1 cs [] z in
           rw e tt
       | inl r ↦ elim (short_or_usual (bmp_room form) (wide_room form) g m shown held b r) [
-        | inl h ↦ had_usual form g free cs (subst (λ m. IsOneOrMarked m cs) marks_to (k.settles.1)) (let h' : full_room form g ≤ read_room form (state_of g held) b = h in omega arith)
+        | inl h ↦ had_usual form g free cs (subst (λ m. IsOneOrMarked m cs) marks_to (k.settles.1)) (let h' : full_room_in form g ≤ read_room form (state_of g held) b = h in omega arith)
         | inr h ↦
             let z = sym (k.is) ∙ h.1 in
             let e : cs ≡ b ∷ [] = reads_same n 1 cs (b ∷ []) z in

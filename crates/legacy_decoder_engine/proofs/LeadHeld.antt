@@ -7,13 +7,13 @@ use Rattle.legacy_base.specs.AcceptedTables.{AcceptedIndexes}
 use Rattle.legacy_base.specs.Indexes.{FlatIndexes}
 use Rattle.legacy_base.specs.Grammar.{Grammar, events_of}
 use Rattle.legacy_base.specs.States.{may_hold, single_lead_may_hold, is_empty}
-use Rattle.legacy_decoder_engine.specs.declared.machine.Fed.{Fed}
+use Rattle.legacy_decoder_engine.specs.declared.moves.Fed.{Fed}
 use Rattle.legacy_decoder_engine.specs.Steps.{Step, finish, leave, trail_step}
 use Rattle.legacy_decoder_engine.specs.Moves.{IsCovered, Feeds, Reports}
 use Rattle.legacy_decoder_engine.specs.LeadMachines.{two_byte_step, two_byte_machine}
 use Rattle.legacy_decoder_engine.specs.Shown.{IsShown}
 use Rattle.legacy_decoder_engine.specs.Feeding.{Took, fed_of}
-use Rattle.legacy_decoder_engine.specs.declared.machine.Fed.TheVariants.{One}
+use Rattle.legacy_decoder_engine.specs.declared.moves.Fed.TheVariants.{One}
 use Rattle.legacy_base.specs.Fronts.{malformed}
 use Rattle.legacy_decoder_engine.specs.Ahead.{Runs, HasAscii}
 use Rattle.legacy_decoder_engine.specs.LeadCodecs.{IsLeadCodec, held_bytes, lead_state}

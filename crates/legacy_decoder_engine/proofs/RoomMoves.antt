@@ -4,7 +4,7 @@ use Rattle.std.proofs.lemmas.Bool.{false≢true}
 use Rattle.legacy_base.specs.Unicode.{IsByte, AreBytes}
 use Rattle.legacy_base.specs.Grammar.{Grammar, profile}
 use Rattle.legacy_base.specs.States.{DecoderState, may_hold, rests, is_empty}
-use Rattle.legacy_base.specs.Acts.{takes, writes, reports, act_at_end, act_at_rest, act_room, room_of_act, need, has_reported, has_short_ascii, byte_room, held_room, reading_room, writing_room, full_room, release_room}
+use Rattle.legacy_base.specs.Acts.{takes, writes, reports, act_at_end, act_at_rest, act_room, room_of_act, need, has_reported, has_short_ascii, full_room, release_room, reading_room, writing_room, full_room_in, release_room_in}
 use Rattle.legacy_base.specs.EncodingForm.{unit_count, bmp_room, wide_room}
 use Rattle.legacy_base.specs.Lengths.{LengthQuery, to_utf16, to_utf8, to_utf8_without_replacement, query_form, replacement_units, room}
 use Rattle.legacy_base.specs.Profile.{Rooms, narrow_acts, wide_reads, wide_acts}
@@ -12,8 +12,9 @@ use Rattle.legacy_base.proofs.Enough.{room-rises}
 use Rattle.legacy_base.proofs.GrammarLaws.{rests-none}
 use Rattle.std.proofs.Math.Nat.{mul-le-mul_left}
 use Rattle.std.specs.Char.{is_ascii}
-use Rattle.legacy_decoder_engine.specs.Steps.{Step, step_held, end_events, Machine, Meets}
-use Rattle.legacy_decoder_engine.specs.Costs.{step_units, step_left, IsWidth, state_of, Cost, WritePays}
+use Rattle.legacy_decoder_engine.specs.Steps.{Step, step_held, end_events, DecoderMachine, Meets}
+use Rattle.legacy_decoder_engine.specs.Costs.{step_units, step_left, IsWidth, Cost, WritePays}
+use Rattle.legacy_base.specs.States.{state_of}
 use Rattle.legacy_decoder_engine.specs.Shown.{KeepsRooms}
 use Rattle.legacy_decoder_engine.proofs.Widths.{width_of}
 
@@ -38,7 +39,7 @@ cond_most false x y z h k = k
 -- ---- the next act
 
 -- no next act needs more than the room, where none of the three kinds does
-pub all_needs : (narrow wide : ℕ) (room : ℕ → ℕ) (g : Grammar) (m : Machine) → Meets g m → rests g [] ≡ true → (held : List ℕ) → may_hold g held ≡ true →
+pub all_needs : (narrow wide : ℕ) (room : ℕ → ℕ) (g : Grammar) (m : DecoderMachine) → Meets g m → rests g [] ≡ true → (held : List ℕ) → may_hold g held ≡ true →
     ((b n : ℕ) → 0 < n → act_room narrow wide (state_of g held) (takes b) ≤ room n) →
     ((n : ℕ) → 0 < length held → act_room narrow wide (state_of g held) writes ≤ room n) →
     (unread : List ℕ) (last : Bool) → need narrow wide (state_of g held) unread last ≤ room (length unread)
@@ -84,7 +85,7 @@ sloped_pays room g wt slope sloped held held' left n u h =
 -- ---- a whole codec
 
 -- what a codec's steps write, at either width
-pub record HasCosts (g : Grammar) (m : Machine) (wt : List ℕ → ℕ) (slope : ℕ) : Type 0 where
+pub record HasCosts (g : Grammar) (m : DecoderMachine) (wt : List ℕ → ℕ) (slope : ℕ) : Type 0 where
   pub to_is : (held : List ℕ) (b : ℕ) → m.to held b ≡ g
   pub cost : (len : ℕ → ℕ) (narrow wide : ℕ) → IsWidth len narrow wide → (held : List ℕ) (b : ℕ) → may_hold g held ≡ true → rests g held ≡ true → AreBytes held → IsByte b →
       Cost len narrow (act_room narrow wide (state_of g held) (takes b)) wt slope held b (m.step held b)
@@ -97,13 +98,13 @@ query_slope paid to_utf8_without_replacement = paid
 
 -- What is left to show of the rooms of a codec. What is held back weighs more than nothing; each room falls by its
 -- slope; what is held back and is to be written pays; and the room covers a byte, and what is held back.
-pub record IsSloped (g : Grammar) (m : Machine) (wt : List ℕ → ℕ) (paid : ℕ) : Type 0 where
+pub record IsSloped (g : Grammar) (m : DecoderMachine) (wt : List ℕ → ℕ) (paid : ℕ) : Type 0 where
   pub heavy : (b : ℕ) (held : List ℕ) → may_hold g (b ∷ held) ≡ true → wt [] + 1 ≤ wt (b ∷ held)
   pub falls : (query : LengthQuery) → Falls (room query) g wt (query_slope paid query)
   pub writes : (query : LengthQuery) (held : List ℕ) → may_hold g held ≡ true → rests g held ≡ false → AreBytes held →
       WritePays (unit_count (query_form query)) (bmp_room (query_form query)) (wide_room (query_form query)) (room query) g held (m.pending held)
-  pub reads : (query : LengthQuery) (held : List ℕ) → full_room (query_form query) g ≤ room query (state_of g held) 1
-  pub holds : (query : LengthQuery) (b : ℕ) (held : List ℕ) → may_hold g (b ∷ held) ≡ true → release_room (query_form query) g ≤ room query (state_of g (b ∷ held)) 0
+  pub reads : (query : LengthQuery) (held : List ℕ) → full_room_in (query_form query) g ≤ room query (state_of g held) 1
+  pub holds : (query : LengthQuery) (b : ℕ) (held : List ℕ) → may_hold g (b ∷ held) ≡ true → release_room_in (query_form query) g ≤ room query (state_of g (b ∷ held)) 0
 
 -- what a step is to lower the room by
 paid_of : (query : LengthQuery) (wt : List ℕ → ℕ) (paid at_most : ℕ) (held : List ℕ) (b : ℕ) (s : Step) → Cost (unit_count (query_form query)) (bmp_room (query_form query)) at_most wt paid held b s →
@@ -120,7 +121,7 @@ fault_paid to_utf8_without_replacement paid x y h = let le : 0 + x ≤ 0 + y = o
 
 -- ---- the room of an act, in any codec
 
-read_most : (narrow wide : ℕ) → 1 ≤ narrow → narrow ≤ wide → (g : Grammar) (held : List ℕ) (b : ℕ) → act_room narrow wide (state_of g held) (takes b) ≤ byte_room narrow wide g
+read_most : (narrow wide : ℕ) → 1 ≤ narrow → narrow ≤ wide → (g : Grammar) (held : List ℕ) (b : ℕ) → act_room narrow wide (state_of g held) (takes b) ≤ full_room narrow wide g
 read_most narrow wide some rises g held b = by_tests (has_reported g) ((is_ascii b && is_empty held) && has_short_ascii g)
   where
     by_rooms : (r : Rooms) → 1 ≤ reading_room narrow wide r
@@ -128,15 +129,15 @@ read_most narrow wide some rises g held b = by_tests (has_reported g) ((is_ascii
     by_rooms wide_reads = omega arith
     by_rooms wide_acts = omega arith
 
-    one : 1 ≤ byte_room narrow wide g
+    one : 1 ≤ full_room narrow wide g
     one = by_rooms (profile g).rooms
 
-    by_tests : (t u : Bool) → cond t 0 (cond u 1 (byte_room narrow wide g)) ≤ byte_room narrow wide g
+    by_tests : (t u : Bool) → cond t 0 (cond u 1 (full_room narrow wide g)) ≤ full_room narrow wide g
     by_tests true u = omega arith
     by_tests false true = one
     by_tests false false = omega arith
 
-pub narrow_read : (narrow wide : ℕ) → narrow ≤ wide → (g : Grammar) → (narrow ≤ byte_room narrow wide g) × (byte_room narrow wide g ≤ wide)
+pub narrow_read : (narrow wide : ℕ) → narrow ≤ wide → (g : Grammar) → (narrow ≤ full_room narrow wide g) × (full_room narrow wide g ≤ wide)
 narrow_read narrow wide rises g = by_rooms (profile g).rooms
   where
     by_rooms : (r : Rooms) → (narrow ≤ reading_room narrow wide r) × (reading_room narrow wide r ≤ wide)
@@ -144,7 +145,7 @@ narrow_read narrow wide rises g = by_rooms (profile g).rooms
     by_rooms wide_reads = (rises, omega arith)
     by_rooms wide_acts = (rises, omega arith)
 
-pub narrow_held : (narrow wide : ℕ) → narrow ≤ wide → (g : Grammar) → narrow ≤ held_room narrow wide g
+pub narrow_held : (narrow wide : ℕ) → narrow ≤ wide → (g : Grammar) → narrow ≤ release_room narrow wide g
 narrow_held narrow wide rises g = by_rooms (profile g).rooms
   where
     by_rooms : (r : Rooms) → narrow ≤ writing_room narrow wide r
@@ -153,7 +154,7 @@ narrow_held narrow wide rises g = by_rooms (profile g).rooms
     by_rooms wide_acts = rises
 
 -- the rooms of a codec whose rooms fall by slopes
-module _ (g : Grammar) (m : Machine) (wt : List ℕ → ℕ) (paid : ℕ) (meets : Meets g m) (costs : HasCosts g m wt paid) (is : IsSloped g m wt paid) (query : LengthQuery) where
+module _ (g : Grammar) (m : DecoderMachine) (wt : List ℕ → ℕ) (paid : ℕ) (meets : Meets g m) (costs : HasCosts g m wt paid) (is : IsSloped g m wt paid) (query : LengthQuery) where
   w : IsWidth (unit_count (query_form query)) (bmp_room (query_form query)) (wide_room (query_form query))
   w = width_of (query_form query)
 

@@ -10,7 +10,7 @@ use Rattle.legacy_base.specs.Grammar.{Grammar}
 use Rattle.legacy_base.specs.States.{rests, may_hold}
 use Rattle.legacy_base.specs.Lengths.{LengthQuery, query_form}
 use Rattle.legacy_decoder_engine.specs.Ahead.{Runs, HasAscii}
-use Rattle.legacy_decoder_engine.specs.Steps.{hold, finish, Machine}
+use Rattle.legacy_decoder_engine.specs.Steps.{hold, finish, DecoderMachine}
 use Rattle.legacy_base.proofs.GrammarLaws.{may_none, rests-none}
 use Rattle.legacy_decoder_engine.proofs.Feeding.{units-total}
 use Rattle.legacy_decoder_engine.specs.Shown.{IsShown}
@@ -25,7 +25,7 @@ past_ascii b h = grind (arith, nat_tests)
 
 -- ---- the forms
 
-module _ {g : Grammar} {m : Machine} (shown : IsShown g m) where
+module _ {g : Grammar} {m : DecoderMachine} (shown : IsShown g m) where
   one_byte : (b : ℕ) → IsByte b → AreBytes (b ∷ [])
   one_byte b h = All-cons IsByte b [] h (All-nil IsByte)
 

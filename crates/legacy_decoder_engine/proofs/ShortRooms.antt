@@ -5,21 +5,22 @@ use Rattle.legacy_base.specs.EncodingForm.{unit_count, bmp_room, wide_room}
 use Rattle.legacy_base.specs.Fronts.{reads}
 use Rattle.legacy_base.specs.Grammar.{Grammar}
 use Rattle.legacy_base.specs.States.{may_hold, rests, is_empty}
-use Rattle.legacy_base.specs.Acts.{act_room, takes, byte_room, has_short_ascii, has_reported, has_marks}
+use Rattle.legacy_base.specs.Acts.{act_room, takes, full_room, has_short_ascii, has_reported, has_marks}
 use Rattle.legacy_base.specs.Lengths.{LengthQuery, query_form, replacement_units, room}
-use Rattle.legacy_decoder_engine.specs.Steps.{finish, Machine, Meets}
+use Rattle.legacy_decoder_engine.specs.Steps.{finish, DecoderMachine, Meets}
 use Rattle.legacy_decoder_engine.specs.Moves.{SameRooms}
-use Rattle.legacy_decoder_engine.specs.Costs.{state_of, RoomMeets}
+use Rattle.legacy_decoder_engine.specs.Costs.{RoomMeets}
+use Rattle.legacy_base.specs.States.{state_of}
 use Rattle.legacy_decoder_engine.specs.Settling.{Settles}
 use Rattle.legacy_decoder_engine.specs.Shown.{IsShown}
 
 -- when a byte needs less than the usual room: ASCII with nothing held back, which is then its own scalar
-pub short_or_usual : (narrow wide : ℕ) (g : Grammar) (m : Machine) → IsShown g m → (held : List ℕ) (b : ℕ) → has_reported g ≡ false →
-    (byte_room narrow wide g ≤ act_room narrow wide (state_of g held) (takes b)) ⊎ (((has_short_ascii g && is_ascii b) ≡ true) × (m.step held b ≡ finish (reads 1 (b ∷ []))))
+pub short_or_usual : (narrow wide : ℕ) (g : Grammar) (m : DecoderMachine) → IsShown g m → (held : List ℕ) (b : ℕ) → has_reported g ≡ false →
+    (full_room narrow wide g ≤ act_room narrow wide (state_of g held) (takes b)) ⊎ (((has_short_ascii g && is_ascii b) ≡ true) × (m.step held b ≡ finish (reads 1 (b ∷ []))))
 short_or_usual narrow wide g m shown held b r = rw r (by_held held)
   where
     usual : ℕ
-    usual = byte_room narrow wide g
+    usual = full_room narrow wide g
 
     held_most : (a s : Bool) → usual ≤ cond ((a && false) && s) 1 usual
     held_most true s = omega arith

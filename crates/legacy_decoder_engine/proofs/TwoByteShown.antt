@@ -5,11 +5,12 @@ use Rattle.std.specs.Char.{is_ascii}
 use Rattle.legacy_base.specs.Fronts.{Front}
 use Rattle.legacy_base.specs.Grammar.{Grammar}
 use Rattle.legacy_base.specs.States.{single_lead_may_hold}
-use Rattle.legacy_base.specs.Acts.{act_room, takes, byte_room, full_room, release_room}
+use Rattle.legacy_base.specs.Acts.{act_room, takes, full_room, full_room_in, release_room_in}
 use Rattle.legacy_base.specs.Lengths.{LengthQuery, query_form, room}
 use Rattle.legacy_decoder_engine.specs.Steps.{Step}
 use Rattle.legacy_decoder_engine.specs.LeadMachines.{two_byte_step, two_byte_machine}
-use Rattle.legacy_decoder_engine.specs.Costs.{units, IsWidth, state_of, Cost}
+use Rattle.legacy_decoder_engine.specs.Costs.{units, IsWidth, Cost}
+use Rattle.legacy_base.specs.States.{state_of}
 use Rattle.legacy_decoder_engine.specs.Settling.{Settles}
 use Rattle.legacy_decoder_engine.proofs.CallUnderWay.{same_rooms}
 use Rattle.legacy_decoder_engine.specs.Shown.{IsShown}
@@ -21,12 +22,12 @@ use Rattle.legacy_decoder_engine.proofs.SettledSteps.{trail_settles}
 -- What such a codec shows of its rooms: what the first step and a pair write; that `paid` for each two bytes is
 -- enough; and of the rooms of the three queries how they fall, and that they cover a byte and a lead.
 pub record HasTwoByteRooms (g : Grammar) (first : ℕ → Step) (scalars : ℕ → ℕ → List ℕ) (paid : ℕ) : Type 0 where
-  pub first_cost : (len : ℕ → ℕ) (narrow wide : ℕ) → IsWidth len narrow wide → (b : ℕ) → Cost len narrow (cond (is_ascii b) 1 (byte_room narrow wide g)) length paid [] b (first b)
-  pub pair_units : (len : ℕ → ℕ) (narrow wide : ℕ) → IsWidth len narrow wide → (lead b : ℕ) → units len (scalars lead b) ≤ byte_room narrow wide g
-  pub is_paid : (len : ℕ → ℕ) (narrow wide : ℕ) → IsWidth len narrow wide → byte_room narrow wide g ≤ paid
+  pub first_cost : (len : ℕ → ℕ) (narrow wide : ℕ) → IsWidth len narrow wide → (b : ℕ) → Cost len narrow (cond (is_ascii b) 1 (full_room narrow wide g)) length paid [] b (first b)
+  pub pair_units : (len : ℕ → ℕ) (narrow wide : ℕ) → IsWidth len narrow wide → (lead b : ℕ) → units len (scalars lead b) ≤ full_room narrow wide g
+  pub is_paid : (len : ℕ → ℕ) (narrow wide : ℕ) → IsWidth len narrow wide → full_room narrow wide g ≤ paid
   pub falls : (query : LengthQuery) → Falls (room query) g length (query_slope paid query)
-  pub reads : (query : LengthQuery) (held : List ℕ) → full_room (query_form query) g ≤ room query (state_of g held) 1
-  pub holds : (query : LengthQuery) (b : ℕ) (held : List ℕ) → release_room (query_form query) g ≤ room query (state_of g (b ∷ held)) 0
+  pub reads : (query : LengthQuery) (held : List ℕ) → full_room_in (query_form query) g ≤ room query (state_of g held) 1
+  pub holds : (query : LengthQuery) (b : ℕ) (held : List ℕ) → release_room_in (query_form query) g ≤ room query (state_of g (b ∷ held)) 0
 
 module _ (g : Grammar) (front : ℕ → List ℕ → Front) (is_lead_byte : ℕ → Bool) (first : ℕ → Step) (scalars : ℕ → ℕ → List ℕ) (paid : ℕ)
     (is : IsTwoByte g front is_lead_byte first scalars) (has_rooms : HasTwoByteRooms g first scalars paid) where
@@ -40,13 +41,13 @@ module _ (g : Grammar) (front : ℕ → List ℕ → Front) (is_lead_byte : ℕ 
     where
       cost : (len : ℕ → ℕ) (narrow wide : ℕ) → IsWidth len narrow wide → (held : List ℕ) (b : ℕ) → single_lead_may_hold is_lead_byte held ≡ true →
           Cost len narrow (act_room narrow wide (state_of g held) (takes b)) length paid held b (two_byte_step first scalars held b)
-      cost len narrow wide w [] b h = rw (is.unreported, is.short_ascii, first_room (is_ascii b) 1 (byte_room narrow wide g)) (has_rooms.first_cost len narrow wide w b)
+      cost len narrow wide w [] b h = rw (is.unreported, is.short_ascii, first_room (is_ascii b) 1 (full_room narrow wide g)) (has_rooms.first_cost len narrow wide w b)
       cost len narrow wide w (lead ∷ []) b h =
           let between = narrow_read narrow wide w.rises g in
           let some = w.some in
           let twice = w.twice in
-          rw (is.unreported, is.short_ascii, held_room_is (is_ascii b) true 1 (byte_room narrow wide g))
-          (trail_cost len narrow wide w (byte_room narrow wide g) paid lead b (scalars lead b) (has_rooms.pair_units len narrow wide w lead b) (between.0) (omega arith) (has_rooms.is_paid len narrow wide w))
+          rw (is.unreported, is.short_ascii, held_room_is (is_ascii b) true 1 (full_room narrow wide g))
+          (trail_cost len narrow wide w (full_room narrow wide g) paid lead b (scalars lead b) (has_rooms.pair_units len narrow wide w lead b) (between.0) (omega arith) (has_rooms.is_paid len narrow wide w))
       cost len narrow wide w (lead ∷ c ∷ held) b h = absurd (false≢true h)
 
   sloped : IsSloped g (two_byte_machine g first scalars) length paid

@@ -8,8 +8,8 @@ use Rattle.legacy_base.specs.Grammar.{Grammar, events_of}
 use Rattle.legacy_base.specs.States.{DecoderState, new_state}
 use Rattle.legacy_base.specs.Lengths.{LengthQuery, query_form, room}
 use Rattle.legacy_decoder_engine.specs.Moves.{SameRooms}
-use Rattle.legacy_decoder_engine.specs.declared.ahead.Front.{Front}
-use Rattle.legacy_decoder_engine.specs.declared.ahead.Front.TheVariants.{Single, Pair, Other}
+use Rattle.legacy_decoder_engine.specs.declared.ahead.CommonForm.{CommonForm}
+use Rattle.legacy_decoder_engine.specs.declared.ahead.CommonForm.TheVariants.{Single, Pair, Other}
 
 -- Whatever follows the bytes, their events by the one grammar are these scalars, and then those of what follows by the
 -- other. The room that is still needed falls by what is written.
@@ -41,10 +41,10 @@ abbrev pub IsPair : Grammar → ℕ → ℕ → ℕ → Type 0
 IsPair grammar first second c = (c < 0x1_0000) × Runs grammar (first ∷ second ∷ []) (c ∷ [])
 
 -- what a codec says of a byte and the byte behind it: a scalar up to U+FFFF, or nothing
-abbrev pub FrontIs : Grammar → ℕ → ℕ → Front → Type 0
-FrontIs grammar lead trail (Single c) = IsSingle grammar lead c
-FrontIs grammar lead trail (Pair c) = IsPair grammar lead trail c
-FrontIs grammar lead trail Other = Unit {0}
+abbrev pub IsCommonForm : Grammar → ℕ → ℕ → CommonForm → Type 0
+IsCommonForm grammar lead trail (Single c) = IsSingle grammar lead c
+IsCommonForm grammar lead trail (Pair c) = IsPair grammar lead trail c
+IsCommonForm grammar lead trail Other = Unit {0}
 
 -- the bytes were read, and their scalars written behind what was written before
 pub record WritesTo (form : EncodingForm) (before after : Grammar) (bytes old new : List ℕ) : Type 0 where

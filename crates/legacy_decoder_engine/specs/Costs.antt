@@ -3,11 +3,11 @@ use Rattle.std.specs.Prelude.{ℕ, ◌+◌, ◌*◌, ◌<◌, ◌≤◌, ◌≡�
 use Rattle.legacy_base.specs.Unicode.{IsByte, AreBytes}
 use Rattle.legacy_base.specs.Fronts.{reads, malformed}
 use Rattle.legacy_base.specs.Grammar.{Grammar}
-use Rattle.legacy_base.specs.States.{DecoderState, may_hold, rests}
+use Rattle.legacy_base.specs.States.{DecoderState, state_of, may_hold, rests}
 use Rattle.legacy_base.specs.Acts.{takes, writes, reports, act_room, need}
 use Rattle.legacy_base.specs.EncodingForm.{Utf8, Utf16, unit_count}
 use Rattle.legacy_base.specs.Lengths.{room, to_utf8, to_utf16, to_utf8_without_replacement}
-use Rattle.legacy_decoder_engine.specs.Steps.{Step, hold, finish, leave, step_held, Machine}
+use Rattle.legacy_decoder_engine.specs.Steps.{Step, hold, finish, leave, step_held, DecoderMachine}
 
 -- how many bytes a scalar has in UTF-8, and how many units in UTF-16
 abbrev pub utf8_count : ℕ → ℕ
@@ -50,9 +50,6 @@ pub record IsWidth (len : ℕ → ℕ) (narrow wide : ℕ) : Type 0 where
 abbrev pub IsNarrowIndex : List ℕ → Type 0
 IsNarrowIndex index = All (λ c. c < 0x1_0000) index
 
-abbrev pub state_of : Grammar → List ℕ → DecoderState
-state_of g held = record { grammar = g; held = held }
-
 -- What a step is to write: no more than the room of reading the byte, and no more than the room that n more bytes
 -- need less than before. `wt` is the weight of what is held back. The last part counts no malformed sequence; twice
 -- what is written is paid by `slope` for each byte.
@@ -80,7 +77,7 @@ WritePays len narrow wide room g held (Some (k, c)) =
 
 -- Each move has its room, lowers the room of what is still to come by what it writes (and by `fault` for a malformed
 -- sequence), and no next act needs more than the room.
-pub record RoomMeets (len : ℕ → ℕ) (narrow wide fault : ℕ) (room : DecoderState → ℕ → ℕ) (g : Grammar) (m : Machine) : Type 0 where
+pub record RoomMeets (len : ℕ → ℕ) (narrow wide fault : ℕ) (room : DecoderState → ℕ → ℕ) (g : Grammar) (m : DecoderMachine) : Type 0 where
   pub step_fits : (held : List ℕ) (b : ℕ) → may_hold g held ≡ true → rests g held ≡ true → AreBytes held → IsByte b →
       step_units len narrow (m.step held b) ≤ act_room narrow wide (state_of g held) (takes b)
   pub step_pays : (held : List ℕ) (b n : ℕ) → may_hold g held ≡ true → rests g held ≡ true → AreBytes held → IsByte b →

@@ -2,8 +2,8 @@
 use Rattle.std.specs.Prelude.{◌≡◌, ℕ, List, [], ◌∷◌, ◌++◌, drop, length, true, false}
 use Rattle.std.specs.Char.{IsScalar}
 use Rattle.legacy_base.specs.Fronts.{reads, malformed}
-use Rattle.legacy_decoder_engine.specs.declared.machine.Fed.{Fed}
-use Rattle.legacy_decoder_engine.specs.declared.machine.Fed.TheVariants.{Nothing, One, Two, Fault}
+use Rattle.legacy_decoder_engine.specs.declared.moves.Fed.{Fed}
+use Rattle.legacy_decoder_engine.specs.declared.moves.Fed.TheVariants.{Nothing, One, Two, Fault}
 use Rattle.legacy_decoder_engine.specs.Steps.{Step, hold, finish, leave, step_held}
 
 -- the scalars that a form gave: none, one, or two

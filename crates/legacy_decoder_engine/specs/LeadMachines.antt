@@ -5,14 +5,14 @@ use Rattle.legacy_base.specs.Fronts.{reads, malformed}
 use Rattle.legacy_base.specs.Grammar.{Grammar}
 use Rattle.legacy_base.specs.States.{is_lead}
 use Rattle.legacy_decoder_engine.specs.Steps.{no_pending}
-use Rattle.legacy_decoder_engine.specs.Steps.{Step, hold, finish, Machine, trail_step}
+use Rattle.legacy_decoder_engine.specs.Steps.{Step, hold, finish, DecoderMachine, trail_step}
 
 -- the step at a byte, by the first byte of a form, and by the scalars of a lead and a trail
 abbrev pub two_byte_step : (ℕ → Step) → (ℕ → ℕ → List ℕ) → List ℕ → ℕ → Step
 two_byte_step first scalars [] b = first b
 two_byte_step first scalars (lead ∷ held) b = trail_step 1 (scalars lead b) b
 
-abbrev pub two_byte_machine : Grammar → (ℕ → Step) → (ℕ → ℕ → List ℕ) → Machine
+abbrev pub two_byte_machine : Grammar → (ℕ → Step) → (ℕ → ℕ → List ℕ) → DecoderMachine
 two_byte_machine g first scalars = record {
   pending = no_pending;
   step = two_byte_step first scalars;

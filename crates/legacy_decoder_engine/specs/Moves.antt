@@ -9,15 +9,15 @@ use Rattle.legacy_base.specs.EncodingForm.{EncodingForm, unit_count, total_unit_
 use Rattle.legacy_base.specs.Grammar.{Grammar, events_of}
 use Rattle.legacy_base.specs.States.{DecoderState, rests}
 use Rattle.legacy_base.specs.Acts as acts
-use Rattle.legacy_base.specs.Acts.{act_room, full_room, release_room, room_needed, wants_full_room, HadRoom}
+use Rattle.legacy_base.specs.Acts.{act_room, full_room_in, release_room_in, room_needed, wants_full_room, HadRoom}
 use Rattle.legacy_base.specs.Lengths.{LengthQuery, query_form, replacement_units, room}
 use Rattle.legacy_base.specs.Calls.{Progress, IsFault}
-use Rattle.legacy_decoder_engine.specs.declared.machine.Room.{Room}
-use Rattle.legacy_decoder_engine.specs.declared.machine.Room.TheVariants.{Nothing as NoRoom, Unit as OneUnit, Narrow, Wide}
-use Rattle.legacy_decoder_engine.specs.declared.machine.Act.{Act}
-use Rattle.legacy_decoder_engine.specs.declared.machine.Act.TheVariants.{Release, Read, Report}
-use Rattle.legacy_decoder_engine.specs.declared.machine.Fed.{Fed}
-use Rattle.legacy_decoder_engine.specs.declared.machine.Fed.TheVariants.{Nothing, One, Two, Fault}
+use Rattle.legacy_decoder_engine.specs.declared.moves.Room.{Room}
+use Rattle.legacy_decoder_engine.specs.declared.moves.Room.TheVariants.{Nothing as NoRoom, Unit as OneUnit, Narrow, Wide}
+use Rattle.legacy_decoder_engine.specs.declared.moves.Move.{Move}
+use Rattle.legacy_decoder_engine.specs.declared.moves.Move.TheVariants.{Release, Read, Report}
+use Rattle.legacy_decoder_engine.specs.declared.moves.Fed.{Fed}
+use Rattle.legacy_decoder_engine.specs.declared.moves.Fed.TheVariants.{Nothing, One, Two, Fault}
 
 -- how many code units an amount of room is
 abbrev pub room_units : EncodingForm → Room → ℕ
@@ -31,10 +31,10 @@ abbrev pub read_room : EncodingForm → DecoderState → ℕ → ℕ
 read_room form state byte = act_room (bmp_room form) (wide_room form) state (acts.takes byte)
 
 -- the room that an act needs
-abbrev pub act_units : EncodingForm → DecoderState → Act → ℕ
-act_units form state Release = release_room form state.grammar
-act_units form state (Read byte) = read_room form state byte
-act_units form state Report = release_room form state.grammar
+abbrev pub move_units : EncodingForm → DecoderState → Move → ℕ
+move_units form state Release = release_room_in form state.grammar
+move_units form state (Read byte) = read_room form state byte
+move_units form state Report = release_room_in form state.grammar
 
 -- the room of a length query is enough for the next act
 pub record IsCovered (state : DecoderState) : Type 0 where
@@ -87,8 +87,8 @@ IsFaulty (Fault sequence back unread) = Unit {0}
 
 -- two grammars need the same room, for the same scalars
 pub record SameRooms (before after : Grammar) : Type 0 where
-  pub full : (form : EncodingForm) → full_room form after ≡ full_room form before
-  pub report : (form : EncodingForm) → release_room form after ≡ release_room form before
+  pub full : (form : EncodingForm) → full_room_in form after ≡ full_room_in form before
+  pub report : (form : EncodingForm) → release_room_in form after ≡ release_room_in form before
   pub wants : (previous : Option ℕ) (c : ℕ) → wants_full_room after previous c ≡ wants_full_room before previous c
 
 -- what reading a byte does, where what is held back rests
@@ -101,8 +101,8 @@ pub record Feeds (before : DecoderState) (byte : ℕ) (after : DecoderState) (fe
   -- what gave a scalar leaves nothing held back
   pub empties : fed_scalars fed ≢ [] → after.held ≡ []
   -- a malformed sequence, and a byte that is held back, had the full room, and a report needs no more
-  pub report : (form : EncodingForm) → release_room form before.grammar ≤ full_room form before.grammar
-  pub full : (form : EncodingForm) → (IsFaulty fed ⊎ (after.held ≢ [])) → full_room form before.grammar ≤ read_room form before byte
+  pub report : (form : EncodingForm) → release_room_in form before.grammar ≤ full_room_in form before.grammar
+  pub full : (form : EncodingForm) → (IsFaulty fed ⊎ (after.held ≢ [])) → full_room_in form before.grammar ≤ read_room form before byte
   -- the scalars fit into the room for reading the byte, and have the room that they want
   pub fits : (form : EncodingForm) → total_unit_count form (fed_scalars fed) ≤ read_room form before byte
   pub had : (form : EncodingForm) (free : ℕ) → read_room form before byte ≤ free → HadRoom form before.grammar None free (fed_scalars fed)
@@ -119,7 +119,7 @@ pub record Releases (before : DecoderState) (after : DecoderState) (c : ℕ) : T
   pub progress : Progress false before [] passed after [] (Scalar c ∷ [])
   pub resting : IsTrue (rests after.grammar after.held)
   pub rooms : SameRooms before.grammar after.grammar
-  pub fits : (form : EncodingForm) → unit_count form c ≤ release_room form before.grammar
+  pub fits : (form : EncodingForm) → unit_count form c ≤ release_room_in form before.grammar
   pub scalar : IsScalar c
   pub lowers : (query : LengthQuery) (n : ℕ) → room query after n + unit_count (query_form query) c ≤ room query before n
 
@@ -140,6 +140,6 @@ pub record Reports (before : DecoderState) (after : DecoderState) (sequence back
 abbrev pub Finishes : EncodingForm → DecoderState → Bool → ℕ → DecoderState → DecoderResult → Type 0
 Finishes form before last free after InputEmpty = (after ≡ before) × (IsTrue last → events_of before.grammar before.held ≡ [])
 Finishes form before last free after OutputFull =
-    (after ≡ before) × (last ≡ true) × (events_of before.grammar before.held ≢ []) × (free < release_room form before.grammar) × IsCovered before
+    (after ≡ before) × (last ≡ true) × (events_of before.grammar before.held ≢ []) × (free < release_room_in form before.grammar) × IsCovered before
 Finishes form before last free after (Malformed length back) =
-    (last ≡ true) × (events_of before.grammar before.held ≢ []) × (release_room form before.grammar ≤ free) × Reports before after length back
+    (last ≡ true) × (events_of before.grammar before.held ≢ []) × (release_room_in form before.grammar ≤ free) × Reports before after length back

@@ -5,15 +5,16 @@ use Rattle.legacy_base.specs.EncodingForm.{unit_count, bmp_room, wide_room}
 use Rattle.legacy_base.specs.Fronts.{reads}
 use Rattle.legacy_base.specs.Grammar.{Grammar}
 use Rattle.legacy_base.specs.States.{may_hold, rests, is_empty}
-use Rattle.legacy_base.specs.Acts.{act_room, takes, byte_room, has_short_ascii, has_reported, has_marks}
+use Rattle.legacy_base.specs.Acts.{act_room, takes, full_room, has_short_ascii, has_reported, has_marks}
 use Rattle.legacy_base.specs.Lengths.{LengthQuery, query_form, replacement_units, room}
-use Rattle.legacy_decoder_engine.specs.Steps.{finish, Machine, Meets}
+use Rattle.legacy_decoder_engine.specs.Steps.{finish, DecoderMachine, Meets}
 use Rattle.legacy_decoder_engine.specs.Moves.{SameRooms}
-use Rattle.legacy_decoder_engine.specs.Costs.{state_of, RoomMeets}
+use Rattle.legacy_decoder_engine.specs.Costs.{RoomMeets}
+use Rattle.legacy_base.specs.States.{state_of}
 use Rattle.legacy_decoder_engine.specs.Settling.{Settles}
 
 -- the rooms of one query are kept
-abbrev pub KeepsRooms : LengthQuery → Grammar → Machine → Type 0
+abbrev pub KeepsRooms : LengthQuery → Grammar → DecoderMachine → Type 0
 KeepsRooms query g m = RoomMeets (unit_count (query_form query)) (bmp_room (query_form query)) (wide_room (query_form query)) (replacement_units query) (room query) g m
 
 -- a scalar that is held back leaves a state that rests
@@ -22,7 +23,7 @@ WriteSettles g held None = Unit {0}
 WriteSettles g held (Some (n, c)) = rests g (drop n held) ≡ true
 
 -- what a codec shows of its machine
-pub record IsShown (g : Grammar) (m : Machine) : Type 0 where
+pub record IsShown (g : Grammar) (m : DecoderMachine) : Type 0 where
   -- it does what the grammar says, and keeps the rooms of the three queries
   pub meets : Meets g m
   pub rooms : (query : LengthQuery) → KeepsRooms query g m

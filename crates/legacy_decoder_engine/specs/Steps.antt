@@ -83,7 +83,7 @@ end_events (b ∷ held) = Bad 0 (length (b ∷ held)) ∷ []
 
 -- A decoder's machine: the scalar that is to be written first, with the number of its bytes; the step at a
 -- byte; and the grammar behind that step.
-pub record Machine : Type 0 where
+pub record DecoderMachine : Type 0 where
   pub pending : List ℕ → Option (ℕ × ℕ)
   pub step : List ℕ → ℕ → Step
   pub to : List ℕ → ℕ → Grammar
@@ -97,7 +97,7 @@ PendingMeets g held None = rests g held ≡ true
 PendingMeets g held (Some (n, c)) = (rests g held ≡ false) × WriteMeets g held n c
 
 -- the machine does what the grammar says, from every state
-pub record Meets (g : Grammar) (m : Machine) : Type 0 where
+pub record Meets (g : Grammar) (m : DecoderMachine) : Type 0 where
   pub writes : (held : List ℕ) → may_hold g held ≡ true → PendingMeets g held (m.pending held)
   pub steps : (held : List ℕ) (b : ℕ) → may_hold g held ≡ true → rests g held ≡ true → StepMeets g held b (m.step held b) (m.to held b)
   pub ends : (held : List ℕ) → may_hold g held ≡ true → rests g held ≡ true → events_of g held ≡ end_events held

@@ -4,13 +4,13 @@
 // destination's place there from form to form.
 ghost use Rattle.std.specs.Prelude.{◌≡◌, ℕ, ◌+◌, ◌-◌, ◌*◌, ◌<◌, ◌≤◌, [], true, length, take};
 ghost use Rattle.legacy_base.specs.States.{DecoderState};
-ghost use Rattle.legacy_decoder_engine.specs.Ahead.{IsIdle, FrontIs, Writes, ReadsAhead};
+ghost use Rattle.legacy_decoder_engine.specs.Ahead.{IsIdle, IsCommonForm, Writes, ReadsAhead};
 
 use legacy_base::Destination;
 
 /// What stands at the front of the input, where its first byte is past ASCII.
 #[derive(Clone, Copy)]
-pub enum Front {
+pub enum CommonForm {
     /// A scalar of one byte.
     Single(char),
     /// A scalar of two bytes.
@@ -32,22 +32,22 @@ pub trait CommonForms {
     /// What stands at the front of the input, by a byte past ASCII and the byte behind it: a scalar up
     /// to U+FFFF, or `Other` for whatever is rare. The machine reads that.
     #[inline(always)]
-    fn front(&self, lead: u8, trail: u8) -> Front
+    fn front(&self, lead: u8, trail: u8) -> CommonForm
         requires { 0x80 ≤ lead }
-        ensures { FrontIs (state self.now).grammar lead trail result }
+        ensures { IsCommonForm (state self.now).grammar lead trail result }
     {
         let _ = (lead, trail);
-        Front::Other
+        CommonForm::Other
     }
 
     /// The same by any byte and the byte behind it.
     #[inline(always)]
-    fn form(&self, first: u8, second: u8) -> Front
+    fn form(&self, first: u8, second: u8) -> CommonForm
         requires { IsIdle (state self.now) }
-        ensures { FrontIs (state self.now).grammar first second result }
+        ensures { IsCommonForm (state self.now).grammar first second result }
     {
         if first < 0x80 {
-            Front::Single(char::from(first))
+            CommonForm::Single(char::from(first))
         } else {
             self.front(first, second)
         }
@@ -78,18 +78,18 @@ fn some_forms<D: CommonForms, T: Destination>(
         let byte = src[at];
         let next = src[at + 1];
         match decoder.form(byte, next) {
-            Front::Pair(c) => {
+            CommonForm::Pair(c) => {
                 dst.put(c);
                 at += 2;
             }
-            Front::Single(c) => {
+            CommonForm::Single(c) => {
                 dst.put(c);
                 at += 1;
                 if (byte | next) < 0x80 {
                     return at;
                 }
             }
-            Front::Other => return at,
+            CommonForm::Other => return at,
         }
         left -= 1;
     }

@@ -5,7 +5,7 @@ ghost use Rattle.legacy_base.specs.States.{rests};
 ghost use Rattle.legacy_base.specs.Calls.{IsDecoderCall};
 ghost use Rattle.legacy_decoder_engine.specs.Moves.{room_units, fed_scalars, Finishes};
 
-use crate::machine::{Act, Fed, Machine, Room};
+use crate::moves::{Move, Fed, DecoderMoves, Room};
 use legacy_base::{DecoderResult, Destination};
 
 #[inline]
@@ -39,14 +39,14 @@ fn put_fed<T: Destination>(dst: &mut T, fed: Fed)
 
 /// Ends a call whose input is read: where it is the last one, what is left is reported.
 #[inline]
-fn finish<D: Machine, T: Destination>(decoder: &mut D, dst: &T, last: bool) -> DecoderResult
+fn finish<D: DecoderMoves, T: Destination>(decoder: &mut D, dst: &T, last: bool) -> DecoderResult
     requires { rests (D.state decoder.old).grammar (D.state decoder.old).held ≡ true }
     ensures { Finishes T.form (D.state decoder.old) last (T.room dst.now) (D.state decoder.new) result }
 {
     if !last || !decoder.has_rest() {
         return DecoderResult::InputEmpty;
     }
-    if !has_room(dst, decoder.room(Act::Report)) {
+    if !has_room(dst, decoder.room(Move::Report)) {
         return DecoderResult::OutputFull;
     }
     match decoder.report() {
@@ -60,7 +60,7 @@ fn finish<D: Machine, T: Destination>(decoder: &mut D, dst: &T, last: bool) -> D
 /// scalars stand in `dst` behind what it held. With `last` nothing comes behind `src`. A scalar to be
 /// written first is held back only as a call begins. Runs of common forms are read ahead of the moves.
 #[inline]
-pub fn drive<D: Machine, T: Destination>(
+pub fn drive_decoder<D: DecoderMoves, T: Destination>(
     decoder: &mut D,
     src: &[u8],
     dst: &mut T,
@@ -73,7 +73,7 @@ pub fn drive<D: Machine, T: Destination>(
     ensures loan { T.loan dst.new ≡ T.loan dst.old }
 {
     if !decoder.rests() {
-        if !has_room(dst, decoder.room(Act::Release)) {
+        if !has_room(dst, decoder.room(Move::Release)) {
             return (DecoderResult::OutputFull, 0);
         }
         let Some(scalar) = decoder.release() else {
@@ -88,7 +88,7 @@ pub fn drive<D: Machine, T: Destination>(
             break;
         }
         let byte = src[read];
-        if !has_room(dst, decoder.room(Act::Read(byte))) {
+        if !has_room(dst, decoder.room(Move::Read(byte))) {
             return (DecoderResult::OutputFull, read);
         }
         let fed = decoder.feed(byte);

@@ -4,19 +4,19 @@ ghost use Rattle.legacy_base.specs.Indexes.{FlatIndexes};
 ghost use Rattle.legacy_base.specs.EncodingForm.{EncodingForm};
 ghost use Rattle.legacy_base.specs.Grammar.{Grammar};
 ghost use Rattle.legacy_base.specs.States.{is_neutral, new_state};
-ghost use Rattle.legacy_base.specs.Acts.{full_room, release_room};
+ghost use Rattle.legacy_base.specs.Acts.{full_room_in, release_room_in};
 ghost use Rattle.legacy_base.specs.Formulas.{Formula, number, ◌⊕◌};
 ghost use Rattle.legacy_base.specs.Lengths.{answer, utf16_formula, utf8_formula, utf8_without_replacement_formula};
 ghost use Rattle.legacy_decoder_engine.specs.Steps.{Step, trail_step};
 ghost use Rattle.legacy_decoder_engine.specs.Moves.{room_units};
-ghost use Rattle.legacy_decoder_engine.specs.Ahead.{FrontIs};
+ghost use Rattle.legacy_decoder_engine.specs.Ahead.{IsCommonForm};
 ghost use Rattle.legacy_decoder_engine.specs.Feeding.{Took};
 ghost use Rattle.legacy_decoder_engine.specs.LeadCodecs.{IsLeadCodec, held_bytes, lead_state};
 
 use legacy_base::{DecoderResult, Destination, RawDecoder, Tables};
-use crate::ahead::{CommonForms, Front, ahead};
-use crate::drive::drive;
-use crate::machine::{Act, Fed, Machine, Room};
+use crate::ahead::{CommonForms, CommonForm, ahead};
+use crate::drive::drive_decoder;
+use crate::moves::{Move, Fed, DecoderMoves, Room};
 
 /// A codec whose forms have one byte, or a lead and a trail: all that its decoder does not share.
 pub trait LeadCodec {
@@ -47,14 +47,14 @@ pub trait LeadCodec {
         ensures { Took (trail_step 1 (scalars tables.now.flat (byte_of lead) trail) trail) (byte_of lead ∷ []) trail result [] };
 
     /// What stands at the front of the input, by a byte past ASCII and the byte behind it.
-    fn front(tables: &Tables<'_>, lead: u8, trail: u8) -> Front
+    fn front(tables: &Tables<'_>, lead: u8, trail: u8) -> CommonForm
         requires { 0x80 ≤ lead }
-        ensures { FrontIs (grammar tables.now.flat) lead trail result };
+        ensures { IsCommonForm (grammar tables.now.flat) lead trail result };
 
     /// The room of every act but reading ASCII with nothing held back.
     fn room() -> Room
-        ensures reads { (form : EncodingForm) (flat : FlatIndexes) → room_units form result ≡ full_room form (grammar flat) }
-        ensures writes { (form : EncodingForm) (flat : FlatIndexes) → room_units form result ≡ release_room form (grammar flat) };
+        ensures reads { (form : EncodingForm) (flat : FlatIndexes) → room_units form result ≡ full_room_in form (grammar flat) }
+        ensures writes { (form : EncodingForm) (flat : FlatIndexes) → room_units form result ≡ release_room_in form (grammar flat) };
 
     /// `max_utf16_buffer_length`, where so many bytes are held back.
     fn utf16_length(byte_length: usize, held: usize) -> Option<usize>
@@ -104,7 +104,7 @@ impl<'a, C: LeadCodec> LeadDecoder<'a, C> {
     }
 }
 
-impl<'a, C: LeadCodec> Machine for LeadDecoder<'a, C> {
+impl<'a, C: LeadCodec> DecoderMoves for LeadDecoder<'a, C> {
     ghost state = { λ d. lead_state C.grammar C.byte_of d.tables.now d.held };
 
     #[inline]
@@ -113,11 +113,11 @@ impl<'a, C: LeadCodec> Machine for LeadDecoder<'a, C> {
     }
 
     #[inline]
-    fn room(&self, act: Act) -> Room {
-        match act {
-            Act::Read(byte) if byte < 0x80 && self.held.is_none() => Room::Unit,
-            Act::Read(_) => C::room(),
-            Act::Release | Act::Report => C::room(),
+    fn room(&self, next: Move) -> Room {
+        match next {
+            Move::Read(byte) if byte < 0x80 && self.held.is_none() => Room::Unit,
+            Move::Read(_) => C::room(),
+            Move::Release | Move::Report => C::room(),
         }
     }
 
@@ -170,7 +170,7 @@ impl<'a, C: LeadCodec> CommonForms for LeadDecoder<'a, C> {
     }
 
     #[inline]
-    fn front(&self, lead: u8, trail: u8) -> Front {
+    fn front(&self, lead: u8, trail: u8) -> CommonForm {
         C::front(self.tables, lead, trail)
     }
 }
@@ -184,7 +184,7 @@ impl<'a, C: LeadCodec> RawDecoder for LeadDecoder<'a, C> {
         dst: &mut T,
         last: bool,
     ) -> (DecoderResult, usize) {
-        drive(self, src, dst, last)
+        drive_decoder(self, src, dst, last)
     }
 
     fn max_utf16_buffer_length(&self, byte_length: usize) -> Option<usize> {

@@ -7,7 +7,7 @@ pub mod ahead;
 pub mod drive;
 pub mod held;
 pub mod lead;
-pub mod machine;
+pub mod moves;
 pub mod pairs;
 pub mod places;
 pub mod trail;

@@ -3,7 +3,7 @@
 ghost use Rattle.std.specs.Prelude.{◌≡◌, ◌+◌, ◌*◌, ◌≤◌, [], length, take, IfSome};
 ghost use Rattle.legacy_base.specs.Grammar.{Grammar};
 ghost use Rattle.legacy_decoder_engine.specs.Ahead.{IsPair, Writes, ReadsAhead};
-ghost use Rattle.legacy_decoder_engine.specs.Costs.{state_of};
+ghost use Rattle.legacy_base.specs.States.{state_of};
 
 use legacy_base::Destination;
 

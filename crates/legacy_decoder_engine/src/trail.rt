@@ -2,7 +2,7 @@
 ghost use Rattle.std.specs.Prelude.{◌≡◌, ◌+◌, ◌<◌, true, false, if◌then◌else◌};
 ghost use Rattle.std.specs.Char.{is_ascii};
 
-use crate::machine::Fed;
+use crate::moves::Fed;
 
 /// What a byte leads to that ends the bytes before it, which are so many, without a scalar: an ASCII
 /// byte is left unread behind the malformed sequence, any other byte is its last one.

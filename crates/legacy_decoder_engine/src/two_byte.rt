@@ -6,7 +6,7 @@ ghost use Rattle.legacy_decoder_engine.specs.Feeding.{Took};
 ghost use Rattle.legacy_decoder_engine.specs.LeadCodecs.{held_bytes};
 
 use crate::held::Lead;
-use crate::machine::Fed;
+use crate::moves::Fed;
 
 /// A malformed sequence that the byte ends, with nothing held back behind it.
 #[inline]

@@ -16,9 +16,10 @@ use Rattle.legacy_base.proofs.Accepted.{jis0208-below, jis0212-below}
 use Rattle.legacy_japanese.specs.declared.euc_jp.decoder.Held.{Held}
 use Rattle.legacy_japanese.specs.declared.euc_jp.decoder.Held.TheVariants.{Nothing, Katakana, Jis0212, Lead, Jis0212Lead}
 use Rattle.legacy_japanese.specs.declared.euc_jp.lead.EucJpLead.{EucJpLead}
-use Rattle.legacy_decoder_engine.specs.declared.machine.Fed.{Fed}
+use Rattle.legacy_decoder_engine.specs.declared.moves.Fed.{Fed}
 use Rattle.legacy_decoder_engine.specs.Moves.{IsCovered, Feeds, Reports}
-use Rattle.legacy_decoder_engine.specs.Costs.{state_of, IsNarrowIndex}
+use Rattle.legacy_decoder_engine.specs.Costs.{IsNarrowIndex}
+use Rattle.legacy_base.specs.States.{state_of}
 use Rattle.legacy_decoder_engine.specs.Ahead.{Runs, HasAscii}
 use Rattle.legacy_decoder_engine.specs.Feeding.{Took}
 use Rattle.legacy_japanese.specs.EucJpMachine.{euc_jp_step, euc_jp_machine}

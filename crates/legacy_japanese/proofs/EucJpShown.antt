@@ -11,7 +11,8 @@ use Rattle.legacy_base.specs.States.{is_euc_jp_lead, euc_jp_may_hold}
 use Rattle.legacy_base.specs.Acts.{act_room, takes}
 use Rattle.legacy_base.specs.Lengths.{to_utf16}
 use Rattle.legacy_decoder_engine.specs.Steps.{hold, finish, trail_step}
-use Rattle.legacy_decoder_engine.specs.Costs.{IsWidth, IsNarrowIndex, state_of, Cost}
+use Rattle.legacy_decoder_engine.specs.Costs.{IsWidth, IsNarrowIndex, Cost}
+use Rattle.legacy_base.specs.States.{state_of}
 use Rattle.legacy_japanese.specs.EucJpMachine.{euc_jp_machine}
 use Rattle.legacy_decoder_engine.specs.Settling.{Settles}
 use Rattle.legacy_decoder_engine.specs.Shown.{IsShown}

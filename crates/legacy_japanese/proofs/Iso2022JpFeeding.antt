@@ -9,11 +9,11 @@ use Rattle.legacy_base.specs.Grammar.{iso_2022_jp, events_of}
 use Rattle.legacy_base.specs.States.{rests}
 use Rattle.legacy_base.specs.Acts.{HadRoom}
 use Rattle.legacy_base.specs.Lengths.{LengthQuery, query_form}
-use Rattle.legacy_decoder_engine.specs.declared.machine.Fed.{Fed}
+use Rattle.legacy_decoder_engine.specs.declared.moves.Fed.{Fed}
 use Rattle.legacy_japanese.specs.declared.iso_2022_jp.steps.Mode.{Mode}
 use Rattle.legacy_japanese.specs.declared.iso_2022_jp.steps.Held.{Held}
-use Rattle.legacy_japanese.specs.declared.iso_2022_jp.steps.Move.{Move}
-use Rattle.legacy_japanese.specs.declared.iso_2022_jp.steps.Move.TheVariants.{Holds, Writes, Reports, Leaves}
+use Rattle.legacy_japanese.specs.declared.iso_2022_jp.steps.Action.{Action}
+use Rattle.legacy_japanese.specs.declared.iso_2022_jp.steps.Action.TheVariants.{Holds, Writes, Reports, Leaves}
 use Rattle.legacy_japanese.specs.declared.iso_2022_jp.steps.Outcome.{Outcome}
 use Rattle.legacy_japanese.specs.Iso2022JpMachine as machine
 use Rattle.legacy_japanese.specs.Iso2022JpMachine.{mode_meaning, bytes_of, is_held, is_resting}
@@ -26,62 +26,62 @@ use Rattle.legacy_japanese.proofs.Iso2022JpRooms.{same_rooms, read_room-is, one_
 
 -- ---- a move, and what the loop is told
 
-events_are : (k : ℕ) (move : Move) (back : ℕ) → move_events k move ≡ map Scalar (fed_scalars (fed_by move back)) ++ fed_fault k (fed_by move back)
+events_are : (k : ℕ) (move : Action) (back : ℕ) → move_events k move ≡ map Scalar (fed_scalars (fed_by move back)) ++ fed_fault k (fed_by move back)
 events_are k Holds back = refl
 events_are k (Writes c) back = refl
 events_are k (Reports a) back = refl
 events_are k Leaves back = refl
 
-left_is : (move : Move) (back b : ℕ) (more : List ℕ) → (if is_left move then b ∷ more else more) ≡ unread_byte b (fed_by move back) ++ more
+left_is : (move : Action) (back b : ℕ) (more : List ℕ) → (if is_left move then b ∷ more else more) ≡ unread_byte b (fed_by move back) ++ more
 left_is Holds back b more = refl
 left_is (Writes c) back b more = refl
 left_is (Reports a) back b more = refl
 left_is Leaves back b more = refl
 
-left_counts : (move : Move) (back b p q : ℕ) → q ≤ p + (if is_left move then 0 else 1) → ((p + (if is_left move then 0 else 1)) - q) + (q + length (unread_byte b (fed_by move back))) ≡ p + 1
+left_counts : (move : Action) (back b p q : ℕ) → q ≤ p + (if is_left move then 0 else 1) → ((p + (if is_left move then 0 else 1)) - q) + (q + length (unread_byte b (fed_by move back))) ≡ p + 1
 left_counts Holds back b p q h = omega arith
 left_counts (Writes c) back b p q h = omega arith
 left_counts (Reports a) back b p q h = omega arith
 left_counts Leaves back b p q h = omega arith
 
-left_weight : (move : Move) (back b n v w r : ℕ) → v + r ≤ w + (if is_left move then 0 else 1) → ((n + length (unread_byte b (fed_by move back))) + v) + r ≤ (n + 1) + w
+left_weight : (move : Action) (back b n v w r : ℕ) → v + r ≤ w + (if is_left move then 0 else 1) → ((n + length (unread_byte b (fed_by move back))) + v) + r ≤ (n + 1) + w
 left_weight Holds back b n v w r h = omega arith
 left_weight (Writes c) back b n v w r h = omega arith
 left_weight (Reports a) back b n v w r h = omega arith
 left_weight Leaves back b n v w r h = omega arith
 
-scalars_fit : (form : EncodingForm) (move : Move) (back : ℕ) → IsNarrow move → total_unit_count form (fed_scalars (fed_by move back)) ≤ bmp_room form
+scalars_fit : (form : EncodingForm) (move : Action) (back : ℕ) → IsNarrow move → total_unit_count form (fed_scalars (fed_by move back)) ≤ bmp_room form
 scalars_fit form Holds back h = omega arith
 scalars_fit form (Writes c) back h = one_fits form c (h.0)
 scalars_fit form (Reports a) back h = omega arith
 scalars_fit form Leaves back h = omega arith
 
-had_room : (form : EncodingForm) (jis0208 : List ℕ) (mode : Mode) (free : ℕ) (move : Move) (back : ℕ) → bmp_room form ≤ free → HadRoom form (iso_2022_jp jis0208 (mode_meaning mode)) None free (fed_scalars (fed_by move back))
+had_room : (form : EncodingForm) (jis0208 : List ℕ) (mode : Mode) (free : ℕ) (move : Action) (back : ℕ) → bmp_room form ≤ free → HadRoom form (iso_2022_jp jis0208 (mode_meaning mode)) None free (fed_scalars (fed_by move back))
 unfolding HadRoom
 had_room form jis0208 mode free Holds back h = tt
 had_room form jis0208 mode free (Writes c) back h = (λ wants. h, tt)
 had_room form jis0208 mode free (Reports a) back h = tt
 had_room form jis0208 mode free Leaves back h = tt
 
-are_scalars : (move : Move) (back : ℕ) → IsNarrow move → All IsScalar (fed_scalars (fed_by move back))
+are_scalars : (move : Action) (back : ℕ) → IsNarrow move → All IsScalar (fed_scalars (fed_by move back))
 are_scalars Holds back h = All-nil IsScalar
 are_scalars (Writes c) back h = All-cons IsScalar c [] (h.1) (All-nil IsScalar)
 are_scalars (Reports a) back h = All-nil IsScalar
 are_scalars Leaves back h = All-nil IsScalar
 
-units_paid : (query : LengthQuery) (move : Move) (back : ℕ) → IsNarrow move → total_unit_count (query_form query) (fed_scalars (fed_by move back)) + fed_units query (fed_by move back) ≤ bmp_room (query_form query) * rooms_of move
+units_paid : (query : LengthQuery) (move : Action) (back : ℕ) → IsNarrow move → total_unit_count (query_form query) (fed_scalars (fed_by move back)) + fed_units query (fed_by move back) ≤ bmp_room (query_form query) * rooms_of move
 units_paid query Holds back h = omega arith
 units_paid query (Writes c) back h = let l = times_one query (total_unit_count (query_form query) (c ∷ [])) (one_fits (query_form query) c (h.0)) in omega arith
 units_paid query (Reports a) back h = let l = replacement_fits query in omega arith
 units_paid query Leaves back h = let l = replacement_fits query in omega arith
 
-nothing_held : (move : Move) (mode : Mode) (held : Held) (back : ℕ) → RestsAfter move mode held → fed_scalars (fed_by move back) ≢ [] → bytes_of held ≡ []
+nothing_held : (move : Action) (mode : Mode) (held : Held) (back : ℕ) → RestsAfter move mode held → fed_scalars (fed_by move back) ≢ [] → bytes_of held ≡ []
 nothing_held Holds mode held back rest some = absurd (some refl)
 nothing_held (Writes c) mode held back rest some = ap bytes_of rest
 nothing_held (Reports a) mode held back rest some = absurd (some refl)
 nothing_held Leaves mode held back rest some = absurd (some refl)
 
-holds_back : (jis0208 : List ℕ) (k : ℕ) (move : Move) (mode : Mode) (held : Held)
+holds_back : (jis0208 : List ℕ) (k : ℕ) (move : Action) (mode : Mode) (held : Held)
     → is_held mode held ≡ true
     → HasSizes k move (bytes_of held)
     → RestsAfter move mode held

@@ -10,8 +10,8 @@ use Rattle.legacy_japanese.specs.declared.iso_2022_jp.steps.Mode.{Mode}
 use Rattle.legacy_japanese.specs.declared.iso_2022_jp.steps.Start.TheVariants.{Nothing}
 use Rattle.legacy_japanese.specs.declared.iso_2022_jp.steps.Held.{Held}
 use Rattle.legacy_japanese.specs.declared.iso_2022_jp.steps.Held.TheVariants.{Begun}
-use Rattle.legacy_japanese.specs.declared.iso_2022_jp.steps.Move.{Move}
-use Rattle.legacy_japanese.specs.declared.iso_2022_jp.steps.Move.TheVariants.{Holds, Writes, Reports, Leaves}
+use Rattle.legacy_japanese.specs.declared.iso_2022_jp.steps.Action.{Action}
+use Rattle.legacy_japanese.specs.declared.iso_2022_jp.steps.Action.TheVariants.{Holds, Writes, Reports, Leaves}
 use Rattle.legacy_japanese.specs.declared.iso_2022_jp.steps.Outcome.{Outcome}
 use Rattle.legacy_japanese.specs.Iso2022JpMoves.{is_left, move_events, rooms_of, weight_of}
 use Rattle.legacy_japanese.specs.Iso2022JpMachine.{mode_meaning, bytes_of, is_held, is_resting}
@@ -55,13 +55,13 @@ abbrev pub HasReport : ℕ → ℕ → List ℕ → Type 0
 HasReport k a held = (1 ≤ a) × (a ≤ 3) × (a ≤ k) × (length held ≤ 3)
 
 -- the numbers of a move
-abbrev pub HasSizes : ℕ → Move → List ℕ → Type 0
+abbrev pub HasSizes : ℕ → Action → List ℕ → Type 0
 HasSizes k (Reports a) held = HasReport k a held
 HasSizes k Leaves held = HasReport k 1 held
 HasSizes k _ held = Unit {0}
 
 -- what a move leaves to be done: after a scalar nothing is held back, and where nothing shows what is held back rests
-abbrev pub RestsAfter : Move → Mode → Held → Type 0
+abbrev pub RestsAfter : Action → Mode → Held → Type 0
 RestsAfter Holds mode held = is_resting mode held ≡ true
 RestsAfter (Writes c) mode held = held ≡ Begun Nothing
 RestsAfter _ mode held = Unit {0}

@@ -22,8 +22,8 @@ use Rattle.legacy_japanese.specs.declared.iso_2022_jp.steps.Start.{Start}
 use Rattle.legacy_japanese.specs.declared.iso_2022_jp.steps.Start.TheVariants.{Nothing, EscapeByte, Dollar, Paren}
 use Rattle.legacy_japanese.specs.declared.iso_2022_jp.steps.Held.{Held}
 use Rattle.legacy_japanese.specs.declared.iso_2022_jp.steps.Held.TheVariants.{Byte, Begun, Whole}
-use Rattle.legacy_japanese.specs.declared.iso_2022_jp.steps.Move.{Move}
-use Rattle.legacy_japanese.specs.declared.iso_2022_jp.steps.Move.TheVariants.{Holds, Writes, Reports, Leaves}
+use Rattle.legacy_japanese.specs.declared.iso_2022_jp.steps.Action.{Action}
+use Rattle.legacy_japanese.specs.declared.iso_2022_jp.steps.Action.TheVariants.{Holds, Writes, Reports, Leaves}
 use Rattle.legacy_japanese.specs.declared.iso_2022_jp.steps.Outcome.{Outcome}
 use Rattle.legacy_japanese.specs.Iso2022JpMachine.{mode_meaning, bytes_of, completes, is_held, is_resting, mode_of, moves, read, read_next_third, read_pair, read_plain, read_single, read_start, read_third, read_trail, read_whole, second_of, single, start_bytes, third_of}
 use Rattle.legacy_japanese.specs.Iso2022JpMoves.{is_left, move_events, rooms_of, weight_of}
@@ -35,7 +35,7 @@ use Rattle.legacy_japanese.proofs.Iso2022JpLaw.{HasReport, HasSizes, MeetsLaw, R
 abbrev has_report : ℕ → ℕ → List ℕ → Bool
 has_report k a held = (leb 1 a && leb a 3) && (leb a k && leb (length held) 3)
 
-abbrev has_sizes : ℕ → Move → List ℕ → Bool
+abbrev has_sizes : ℕ → Action → List ℕ → Bool
 has_sizes k (Reports a) held = has_report k a held
 has_sizes k Leaves held = has_report k 1 held
 has_sizes k _ held = true
@@ -44,7 +44,7 @@ abbrev is_nothing : Held → Bool
 is_nothing (Begun Nothing) = true
 is_nothing _ = false
 
-abbrev rests_after : Move → Mode → Held → Bool
+abbrev rests_after : Action → Mode → Held → Bool
 rests_after Holds mode held = is_resting mode held
 rests_after (Writes c) mode held = is_nothing held
 rests_after _ mode held = true
@@ -65,7 +65,7 @@ report_from k a held h =
     let r = and_parts (leb a k) (leb (length held) 3) p.1 in
     (leb-true 1 a q.0, leb-true a 3 q.1, leb-true a k r.0, leb-true (length held) 3 r.1)
 
-sizes_from : (k : ℕ) (move : Move) (held : List ℕ) → has_sizes k move held ≡ true → HasSizes k move held
+sizes_from : (k : ℕ) (move : Action) (held : List ℕ) → has_sizes k move held ≡ true → HasSizes k move held
 sizes_from k (Reports a) held h = report_from k a held h
 sizes_from k Leaves held h = report_from k 1 held h
 sizes_from k Holds held h = tt
@@ -79,7 +79,7 @@ nothing_from (Begun Paren) h = cc
 nothing_from (Byte b) h = cc
 nothing_from (Whole e s) h = cc
 
-rest_from : (move : Move) (mode : Mode) (held : Held) → rests_after move mode held ≡ true → RestsAfter move mode held
+rest_from : (move : Action) (mode : Mode) (held : Held) → rests_after move mode held ≡ true → RestsAfter move mode held
 rest_from Holds mode held h = h
 rest_from (Writes c) mode held h = nothing_from held h
 rest_from (Reports a) mode held h = tt
@@ -143,13 +143,13 @@ escape_again : (jis0208 : List ℕ) (mode : Mode) (next : iso.Mode) (e : Escape)
     → events_in jis0208 mode (esc ∷ second_of e ∷ third_of e ∷ more) ≡ Bad 0 3 ∷ shift 3 (events_in jis0208 (mode_of e) more)
 escape_again jis0208 mode next e more h = rw (step_escape jis0208 (mode_meaning mode) (mode_meaning (mode_of e)) (second_of e) (third_of e) more (valid e), h)
 
-three_further : (k : ℕ) (move : Move) (held : List ℕ) → HasSizes k move held → shift 3 (move_events k move) ≡ move_events (suc (suc (suc k))) move
+three_further : (k : ℕ) (move : Action) (held : List ℕ) → HasSizes k move held → shift 3 (move_events k move) ≡ move_events (suc (suc (suc k))) move
 three_further k Holds held h = refl
 three_further k (Writes c) held h = refl
 three_further k (Reports a) held h = ap (λ place. Bad place a ∷ []) (let fits = h.2 in omega arith)
 three_further k Leaves held h = ap (λ place. Bad place 1 ∷ []) (let fits = h.2 in omega arith)
 
-three_sizes : (k : ℕ) (move : Move) (held : List ℕ) → HasSizes k move held → HasSizes (suc (suc (suc k))) move held
+three_sizes : (k : ℕ) (move : Action) (held : List ℕ) → HasSizes k move held → HasSizes (suc (suc (suc k))) move held
 three_sizes k Holds held h = tt
 three_sizes k (Writes c) held h = tt
 three_sizes k (Reports a) held h = (h.0, h.1, omega arith, h.3)

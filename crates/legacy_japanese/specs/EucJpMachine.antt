@@ -7,7 +7,7 @@ use Rattle.legacy_base.specs.EucJp.{euc_jp_scalars}
 use Rattle.legacy_base.specs.Grammar.{euc_jp}
 use Rattle.legacy_base.specs.States.{is_euc_jp_lead}
 use Rattle.legacy_decoder_engine.specs.Steps.{no_pending}
-use Rattle.legacy_decoder_engine.specs.Steps.{Step, hold, finish, Machine, trail_step}
+use Rattle.legacy_decoder_engine.specs.Steps.{Step, hold, finish, DecoderMachine, trail_step}
 
 abbrev pub euc_jp_first : ℕ → Step
 euc_jp_first b =
@@ -28,7 +28,7 @@ euc_jp_step jis0208 jis0212 [] b = euc_jp_first b
 euc_jp_step jis0208 jis0212 (lead ∷ []) b = euc_jp_second_step jis0208 lead b
 euc_jp_step jis0208 jis0212 (first ∷ lead ∷ held) b = trail_step 2 (euc_jp_scalars jis0212 lead b) b
 
-abbrev pub euc_jp_machine : List ℕ → List ℕ → Machine
+abbrev pub euc_jp_machine : List ℕ → List ℕ → DecoderMachine
 euc_jp_machine jis0208 jis0212 = record {
   pending = no_pending;
   step = euc_jp_step jis0208 jis0212;

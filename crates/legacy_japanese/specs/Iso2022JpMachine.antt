@@ -15,8 +15,8 @@ use Rattle.legacy_japanese.specs.declared.iso_2022_jp.steps.Start.{Start}
 use Rattle.legacy_japanese.specs.declared.iso_2022_jp.steps.Start.TheVariants.{Nothing, EscapeByte, Dollar, Paren}
 use Rattle.legacy_japanese.specs.declared.iso_2022_jp.steps.Held.{Held}
 use Rattle.legacy_japanese.specs.declared.iso_2022_jp.steps.Held.TheVariants.{Byte, Begun, Whole}
-use Rattle.legacy_japanese.specs.declared.iso_2022_jp.steps.Move.{Move}
-use Rattle.legacy_japanese.specs.declared.iso_2022_jp.steps.Move.TheVariants.{Holds, Writes, Reports, Leaves}
+use Rattle.legacy_japanese.specs.declared.iso_2022_jp.steps.Action.{Action}
+use Rattle.legacy_japanese.specs.declared.iso_2022_jp.steps.Action.TheVariants.{Holds, Writes, Reports, Leaves}
 use Rattle.legacy_japanese.specs.declared.iso_2022_jp.steps.Outcome.{Outcome}
 
 -- the mode as the definitions speak of it
@@ -59,7 +59,7 @@ bytes_of (Begun s) = start_bytes s
 bytes_of (Whole e s) = esc ∷ second_of e ∷ third_of e ∷ start_bytes s
 
 -- a move, with what it leaves
-abbrev pub moves : Move → Mode → Held → Outcome
+abbrev pub moves : Action → Mode → Held → Outcome
 moves move mode held = record { action = move; mode = mode; held = held }
 
 -- the scalar of a byte outside two-byte mode

@@ -5,12 +5,12 @@ use Rattle.legacy_base.specs.declared.results.DecodeEvent.{DecodeEvent}
 use Rattle.legacy_base.specs.declared.results.DecodeEvent.TheVariants.{Scalar, Bad}
 use Rattle.legacy_base.specs.Grammar.{iso_2022_jp}
 use Rattle.legacy_base.specs.States.{DecoderState}
-use Rattle.legacy_decoder_engine.specs.declared.machine.Fed.{Fed}
-use Rattle.legacy_decoder_engine.specs.declared.machine.Fed.TheVariants.{Nothing, One, Fault}
+use Rattle.legacy_decoder_engine.specs.declared.moves.Fed.{Fed}
+use Rattle.legacy_decoder_engine.specs.declared.moves.Fed.TheVariants.{Nothing, One, Fault}
 use Rattle.legacy_japanese.specs.declared.iso_2022_jp.steps.Mode.{Mode}
 use Rattle.legacy_japanese.specs.declared.iso_2022_jp.steps.Held.{Held}
-use Rattle.legacy_japanese.specs.declared.iso_2022_jp.steps.Move.{Move}
-use Rattle.legacy_japanese.specs.declared.iso_2022_jp.steps.Move.TheVariants.{Holds, Writes, Reports, Leaves}
+use Rattle.legacy_japanese.specs.declared.iso_2022_jp.steps.Action.{Action}
+use Rattle.legacy_japanese.specs.declared.iso_2022_jp.steps.Action.TheVariants.{Holds, Writes, Reports, Leaves}
 use Rattle.legacy_japanese.specs.declared.iso_2022_jp.steps.Held.TheVariants.{Byte, Begun, Whole}
 use Rattle.legacy_japanese.specs.declared.iso_2022_jp.steps.Outcome.{Outcome}
 use Rattle.legacy_japanese.specs.Iso2022JpMachine.{mode_meaning, start_bytes, bytes_of}
@@ -20,26 +20,26 @@ abbrev pub state_in : List ℕ → Mode → Held → DecoderState
 state_in jis0208 mode held = record { grammar = iso_2022_jp jis0208 (mode_meaning mode); held = bytes_of held }
 
 -- the byte is left unread
-abbrev pub is_left : Move → Bool
+abbrev pub is_left : Action → Bool
 is_left Leaves = true
 is_left _ = false
 
 -- the events of a move behind which so many bytes are done with
-abbrev pub move_events : ℕ → Move → List DecodeEvent
+abbrev pub move_events : ℕ → Action → List DecodeEvent
 move_events taken Holds = []
 move_events taken (Writes c) = Scalar c ∷ []
 move_events taken (Reports a) = Bad (taken - a) a ∷ []
 move_events taken Leaves = Bad (taken - 1) 1 ∷ []
 
 -- how often a move takes the room of a scalar
-abbrev pub rooms_of : Move → ℕ
+abbrev pub rooms_of : Action → ℕ
 rooms_of Holds = 0
 rooms_of (Writes c) = 1
 rooms_of (Reports a) = 1
 rooms_of Leaves = 1
 
 -- what the loop is told of a move behind which so many bytes are held back
-abbrev pub fed_by : Move → ℕ → Fed
+abbrev pub fed_by : Action → ℕ → Fed
 fed_by Holds back = Nothing
 fed_by (Writes c) back = One c
 fed_by (Reports a) back = Fault a back false
@@ -65,6 +65,6 @@ abbrev pub IsNarrowScalar : ℕ → Type 0
 IsNarrowScalar c = (c < 0x1_0000) × IsScalar c
 
 -- a move writes no other
-abbrev pub IsNarrow : Move → Type 0
+abbrev pub IsNarrow : Action → Type 0
 IsNarrow (Writes c) = IsNarrowScalar c
 IsNarrow _ = Unit {0}

@@ -7,7 +7,7 @@ use Rattle.legacy_base.specs.Fronts.{reads, malformed}
 use Rattle.legacy_base.specs.ShiftJis.{is_shift_jis_lead, shift_jis_pointer, shift_jis_scalars}
 use Rattle.legacy_base.specs.Grammar.{shift_jis}
 use Rattle.legacy_decoder_engine.specs.LeadMachines.{two_byte_machine}
-use Rattle.legacy_decoder_engine.specs.Steps.{Step, hold, finish, Machine}
+use Rattle.legacy_decoder_engine.specs.Steps.{Step, hold, finish, DecoderMachine}
 
 abbrev pub shift_jis_first : ℕ → Step
 shift_jis_first b =
@@ -19,5 +19,5 @@ shift_jis_first b =
 abbrev pub shift_jis_pair_scalars : List ℕ → ℕ → ℕ → List ℕ
 shift_jis_pair_scalars jis0208 lead trail = option_map_or (shift_jis_scalars jis0208) (shift_jis_pointer lead trail) []
 
-abbrev pub shift_jis_machine : List ℕ → Machine
+abbrev pub shift_jis_machine : List ℕ → DecoderMachine
 shift_jis_machine jis0208 = two_byte_machine (shift_jis jis0208) shift_jis_first (shift_jis_pair_scalars jis0208)

@@ -6,7 +6,8 @@ use Rattle.legacy_base.specs.Grammar.{replacement}
 use Rattle.legacy_base.specs.States.{is_empty}
 use Rattle.legacy_decoder_engine.specs.Costs.{utf8_room, utf16_room}
 use Rattle.legacy_miscellaneous.specs.ReplacementMachine.{replacement_machine}
-use Rattle.legacy_decoder_engine.specs.Costs.{utf16_count, state_of, RoomMeets, utf8_without_room}
+use Rattle.legacy_decoder_engine.specs.Costs.{utf16_count, RoomMeets, utf8_without_room}
+use Rattle.legacy_base.specs.States.{state_of}
 use Rattle.legacy_base.specs.Lengths.{LengthQuery, to_utf16, to_utf8, to_utf8_without_replacement}
 use Rattle.legacy_base.specs.Fronts.{reads}
 use Rattle.legacy_decoder_engine.specs.Steps.{finish}

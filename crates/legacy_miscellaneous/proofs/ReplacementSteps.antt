@@ -3,9 +3,9 @@ use Rattle.std.proofs.Common.{◌≡◌, ℕ, [], Bool, true, false, refl}
 use Rattle.std.proofs.lemmas.List.Elements.{All-nil}
 use Rattle.legacy_base.specs.Unicode.{IsByte}
 use Rattle.legacy_base.specs.Grammar.{replacement, events_of}
-use Rattle.legacy_decoder_engine.specs.declared.machine.Fed.TheVariants.{Nothing, Fault}
+use Rattle.legacy_decoder_engine.specs.declared.moves.Fed.TheVariants.{Nothing, Fault}
 use Rattle.legacy_decoder_engine.specs.Moves.{IsCovered, Feeds}
-use Rattle.legacy_decoder_engine.specs.Costs.{state_of}
+use Rattle.legacy_base.specs.States.{state_of}
 use Rattle.legacy_decoder_engine.proofs.Feeding as moves
 use Rattle.legacy_miscellaneous.proofs.ReplacementShown.{replacement_shown}
 

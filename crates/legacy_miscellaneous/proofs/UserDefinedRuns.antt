@@ -6,7 +6,7 @@ use Rattle.std.proofs.lemmas.Bool.Decides.{nat_tests}
 use Rattle.std.specs.Char.{IsScalar, is_ascii}
 use Rattle.legacy_base.specs.Grammar.{user_defined}
 use Rattle.legacy_base.specs.Fronts.{reads}
-use Rattle.legacy_decoder_engine.specs.declared.machine.Fed.TheVariants.{One}
+use Rattle.legacy_decoder_engine.specs.declared.moves.Fed.TheVariants.{One}
 use Rattle.legacy_decoder_engine.specs.Ahead.{IsSingle, HasAscii}
 use Rattle.legacy_decoder_engine.specs.Steps.{finish}
 use Rattle.legacy_miscellaneous.specs.UserDefinedMachine.{user_defined_first}

@@ -9,7 +9,8 @@ use Rattle.legacy_base.specs.States.{is_empty}
 use Rattle.legacy_base.specs.Acts.{act_room, takes}
 use Rattle.legacy_base.specs.Lengths.{to_utf16}
 use Rattle.legacy_decoder_engine.specs.Steps.{finish}
-use Rattle.legacy_decoder_engine.specs.Costs.{IsWidth, state_of, Cost}
+use Rattle.legacy_decoder_engine.specs.Costs.{IsWidth, Cost}
+use Rattle.legacy_base.specs.States.{state_of}
 use Rattle.legacy_miscellaneous.specs.UserDefinedMachine.{user_defined_machine}
 use Rattle.legacy_decoder_engine.specs.Settling.{Settles}
 use Rattle.legacy_decoder_engine.specs.Shown.{IsShown}

@@ -11,9 +11,9 @@ use Rattle.legacy_base.specs.Utf16.{unit_of}
 use Rattle.legacy_miscellaneous.specs.declared.utf16.held.Held.{Held}
 use Rattle.legacy_miscellaneous.specs.declared.utf16.held.Held.TheVariants.{Nothing, Odd, High, HighOdd, Pending}
 use Rattle.legacy_miscellaneous.specs.declared.utf16.held.UnitScalar.{UnitScalar}
-use Rattle.legacy_decoder_engine.specs.declared.machine.Fed.{Fed}
+use Rattle.legacy_decoder_engine.specs.declared.moves.Fed.{Fed}
 use Rattle.legacy_decoder_engine.specs.Moves.{IsCovered, Feeds, Releases, Reports}
-use Rattle.legacy_decoder_engine.specs.Costs.{state_of}
+use Rattle.legacy_base.specs.States.{state_of}
 use Rattle.legacy_decoder_engine.specs.Feeding.{Took}
 use Rattle.legacy_miscellaneous.specs.Utf16Machine.{utf16_step, utf16_pending}
 use Rattle.legacy_miscellaneous.specs.Utf16Decoder.{first_byte, second_byte, held_bytes}

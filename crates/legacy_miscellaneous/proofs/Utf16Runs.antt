@@ -13,7 +13,7 @@ use Rattle.legacy_base.specs.Unicode.{IsByte}
 use Rattle.legacy_base.specs.Grammar.{utf16}
 use Rattle.legacy_base.specs.Utf16.{unit_of}
 use Rattle.legacy_decoder_engine.specs.Ahead.{Runs, IsPair, Writes, ReadsAhead}
-use Rattle.legacy_decoder_engine.specs.Costs.{state_of}
+use Rattle.legacy_base.specs.States.{state_of}
 use Rattle.legacy_miscellaneous.specs.Utf16Decoder.{HasAsciiUnits, unit_at}
 use Rattle.legacy_decoder_engine.proofs.RunForms.{pair_runs}
 use Rattle.legacy_decoder_engine.proofs.JoinedRuns.{reads_written}

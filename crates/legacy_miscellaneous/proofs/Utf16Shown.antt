@@ -12,7 +12,8 @@ use Rattle.legacy_base.specs.Acts.{act_room, takes}
 use Rattle.legacy_decoder_engine.specs.Costs.{utf8_room, utf16_room}
 use Rattle.legacy_decoder_engine.specs.Steps.{Step, hold, finish, leave, step_held}
 use Rattle.legacy_miscellaneous.specs.Utf16Machine.{utf16_machine, utf16_pending, utf16_step}
-use Rattle.legacy_decoder_engine.specs.Costs.{utf16_count, step_units, step_left, IsWidth, state_of, RoomMeets, WritePays, utf8_without_room}
+use Rattle.legacy_decoder_engine.specs.Costs.{utf16_count, step_units, step_left, IsWidth, RoomMeets, WritePays, utf8_without_room}
+use Rattle.legacy_base.specs.States.{state_of}
 use Rattle.legacy_miscellaneous.proofs.Utf16Meets.{utf16_meets}
 use Rattle.legacy_base.specs.Lengths.{LengthQuery, to_utf16, to_utf8, to_utf8_without_replacement}
 use Rattle.legacy_decoder_engine.specs.Shown.{KeepsRooms, IsShown, WriteSettles}

@@ -3,13 +3,13 @@ use Rattle.std.specs.Prelude.{◌-◌, [], Bool, true, if◌then◌else◌}
 use Rattle.legacy_base.specs.Fronts.{reads, malformed}
 use Rattle.legacy_base.specs.Grammar.{replacement}
 use Rattle.legacy_decoder_engine.specs.Steps.{no_pending}
-use Rattle.legacy_decoder_engine.specs.Steps.{Step, finish, Machine}
+use Rattle.legacy_decoder_engine.specs.Steps.{Step, finish, DecoderMachine}
 
 -- the fault is reported once, and then each byte is swallowed
 abbrev pub replacement_first : Bool → Step
 replacement_first reported = if reported then finish (reads 1 []) else finish (malformed 1)
 
-abbrev pub replacement_machine : Bool → Machine
+abbrev pub replacement_machine : Bool → DecoderMachine
 replacement_machine reported = record {
   pending = no_pending;
   step = λ held b. replacement_first reported;

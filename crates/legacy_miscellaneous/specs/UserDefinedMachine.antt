@@ -4,14 +4,14 @@ use Rattle.std.specs.Char.{is_ascii}
 use Rattle.legacy_base.specs.Fronts.{reads}
 use Rattle.legacy_base.specs.Grammar.{user_defined}
 use Rattle.legacy_decoder_engine.specs.Steps.{no_pending}
-use Rattle.legacy_decoder_engine.specs.Steps.{Step, finish, Machine}
+use Rattle.legacy_decoder_engine.specs.Steps.{Step, finish, DecoderMachine}
 
 abbrev pub user_defined_first : ℕ → Step
 user_defined_first b =
     if is_ascii b then finish (reads 1 (b ∷ []))
     else finish (reads 1 ((0xF780 + (b - 0x80)) ∷ []))
 
-abbrev pub user_defined_machine : Machine
+abbrev pub user_defined_machine : DecoderMachine
 user_defined_machine = record {
   pending = no_pending;
   step = λ held b. user_defined_first b;

@@ -4,7 +4,7 @@ use Rattle.std.specs.Char.Utf16.{is_high_surrogate, is_low_surrogate, surrogate_
 use Rattle.legacy_base.specs.Fronts.{reads, malformed}
 use Rattle.legacy_base.specs.Utf16.{unit_of}
 use Rattle.legacy_base.specs.Grammar.{utf16}
-use Rattle.legacy_decoder_engine.specs.Steps.{Step, hold, finish, Machine}
+use Rattle.legacy_decoder_engine.specs.Steps.{Step, hold, finish, DecoderMachine}
 
 -- a unit that is no high surrogate
 abbrev pub utf16_pending : Bool → List ℕ → Option (ℕ × ℕ)
@@ -27,7 +27,7 @@ utf16_step big_endian (a ∷ b ∷ c ∷ held) d =
     then finish (reads 4 (surrogate_pair_char (unit_of big_endian a b) (unit_of big_endian c d) ∷ []))
     else finish (malformed 2)
 
-abbrev pub utf16_machine : Bool → Machine
+abbrev pub utf16_machine : Bool → DecoderMachine
 utf16_machine big_endian = record {
   pending = utf16_pending big_endian;
   step = utf16_step big_endian;

@@ -10,7 +10,8 @@ use Rattle.legacy_base.specs.States.{is_empty}
 use Rattle.legacy_base.specs.Acts.{act_room, takes}
 use Rattle.legacy_base.specs.Lengths.{to_utf16}
 use Rattle.legacy_decoder_engine.specs.Steps.{finish}
-use Rattle.legacy_decoder_engine.specs.Costs.{units, IsWidth, IsNarrowIndex, state_of, Cost}
+use Rattle.legacy_decoder_engine.specs.Costs.{units, IsWidth, IsNarrowIndex, Cost}
+use Rattle.legacy_base.specs.States.{state_of}
 use Rattle.legacy_single_byte.specs.SingleByteMachine.{single_byte_machine}
 use Rattle.legacy_decoder_engine.specs.Settling.{Settles}
 use Rattle.legacy_decoder_engine.specs.Shown.{IsShown}

@@ -5,9 +5,9 @@ use Rattle.legacy_base.specs.Unicode.{IsByte}
 use Rattle.legacy_base.specs.AcceptedTables.{AcceptedTable}
 use Rattle.legacy_base.specs.Grammar.{single_byte, events_of}
 use Rattle.legacy_base.proofs.AcceptedTable.{table-below}
-use Rattle.legacy_decoder_engine.specs.declared.machine.Fed.{Fed}
+use Rattle.legacy_decoder_engine.specs.declared.moves.Fed.{Fed}
 use Rattle.legacy_decoder_engine.specs.Moves.{IsCovered, Feeds}
-use Rattle.legacy_decoder_engine.specs.Costs.{state_of}
+use Rattle.legacy_base.specs.States.{state_of}
 use Rattle.legacy_decoder_engine.specs.Feeding.{Took}
 use Rattle.legacy_single_byte.specs.SingleByteMachine.{single_byte_first}
 use Rattle.legacy_decoder_engine.proofs.Feeding as moves

@@ -5,14 +5,14 @@ use Rattle.legacy_base.specs.Fronts.{reads, malformed, reads_or}
 use Rattle.legacy_base.specs.Indexes.{idx}
 use Rattle.legacy_base.specs.Grammar.{single_byte}
 use Rattle.legacy_decoder_engine.specs.Steps.{no_pending}
-use Rattle.legacy_decoder_engine.specs.Steps.{Step, finish, Machine}
+use Rattle.legacy_decoder_engine.specs.Steps.{Step, finish, DecoderMachine}
 
 abbrev pub single_byte_first : List ℕ → ℕ → Step
 single_byte_first table b =
     if is_ascii b then finish (reads 1 (b ∷ []))
     else finish (reads_or 1 (option_to_list (idx table (b - 0x80))) (malformed 1))
 
-abbrev pub single_byte_machine : List ℕ → Machine
+abbrev pub single_byte_machine : List ℕ → DecoderMachine
 single_byte_machine table = record {
   pending = no_pending;
   step = λ held b. single_byte_first table b;

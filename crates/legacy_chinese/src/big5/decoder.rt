@@ -14,8 +14,8 @@ use legacy_decoder_engine::held::Lead;
 use legacy_decoder_engine::lead::{LeadCodec, LeadDecoder};
 use legacy_decoder_engine::two_byte::{read_first, read_trail};
 use legacy_base::{IndexName, Tables};
-use legacy_decoder_engine::ahead::Front;
-use legacy_decoder_engine::machine::{Fed, Room};
+use legacy_decoder_engine::ahead::CommonForm;
+use legacy_decoder_engine::moves::{Fed, Room};
 
 /// The codec of Big5.
 pub struct Big5;
@@ -97,13 +97,13 @@ impl LeadCodec for Big5 {
     }
 
     #[inline]
-    fn front(tables: &Tables<'_>, lead: u8, trail: u8) -> Front {
+    fn front(tables: &Tables<'_>, lead: u8, trail: u8) -> CommonForm {
         let Some(lead) = Lead::new(lead) else {
-            return Front::Other;
+            return CommonForm::Other;
         };
         match pair(tables, lead, trail) {
-            Fed::One(scalar) if scalar <= '\u{FFFF}' => Front::Pair(scalar),
-            _ => Front::Other,
+            Fed::One(scalar) if scalar <= '\u{FFFF}' => CommonForm::Pair(scalar),
+            _ => CommonForm::Other,
         }
     }
 

@@ -6,8 +6,8 @@ ghost use Rattle.legacy_base.specs.Gb18030.{gb18030_scalars};
 ghost use Rattle.legacy_base.specs.Grammar.{gb18030};
 ghost use Rattle.legacy_base.specs.States.{is_lead, is_neutral, new_state};
 ghost use Rattle.legacy_chinese.specs.Gb18030Machine.{gb18030_step};
-ghost use Rattle.legacy_decoder_engine.specs.Costs.{state_of};
-ghost use Rattle.legacy_decoder_engine.specs.Moves.{act_units, room_units};
+ghost use Rattle.legacy_base.specs.States.{state_of};
+ghost use Rattle.legacy_decoder_engine.specs.Moves.{move_units, room_units};
 ghost use Rattle.legacy_decoder_engine.specs.Feeding.{Took};
 ghost use Rattle.legacy_chinese.specs.Gb18030Held.{held_bytes, is_resting};
 
@@ -18,9 +18,9 @@ use legacy_decoder_engine::held::Lead;
 use legacy_decoder_engine::trail::unmapped;
 use legacy_decoder_engine::two_byte::fault_through;
 use legacy_base::{DecoderResult, Destination, IndexName, RawDecoder, Tables};
-use legacy_decoder_engine::ahead::{CommonForms, Front};
-use legacy_decoder_engine::drive::drive;
-use legacy_decoder_engine::machine::{Act, Fed, Machine, Room};
+use legacy_decoder_engine::ahead::{CommonForms, CommonForm};
+use legacy_decoder_engine::drive::drive_decoder;
+use legacy_decoder_engine::moves::{Move, Fed, DecoderMoves, Room};
 
 /// What is held back: the first bytes of a form, or a digit of a broken form and what came behind it.
 #[derive(Clone, Copy)]
@@ -167,12 +167,12 @@ fn read(tables: &Tables, held: Held, byte: u8) -> (Fed, Held)
 
 /// The room that an act needs.
 #[inline]
-fn room_of(held: Held, act: Act) -> Room
+fn room_of(held: Held, next: Move) -> Room
     ensures { (index : List ℕ) (ranges : List (ℕ × ℕ)) (form : EncodingForm) →
-        room_units form result ≡ act_units form (state_of (gb18030 index ranges) (held_bytes held)) act }
+        room_units form result ≡ move_units form (state_of (gb18030 index ranges) (held_bytes held)) next }
 {
-    match act {
-        Act::Read(byte) if byte < 0x80 && matches!(held, Held::Nothing) => Room::Unit,
+    match next {
+        Move::Read(byte) if byte < 0x80 && matches!(held, Held::Nothing) => Room::Unit,
         _ => Room::Wide,
     }
 }
@@ -220,7 +220,7 @@ impl<'a> Gb18030Decoder<'a> {
     }
 }
 
-impl Machine for Gb18030Decoder<'_> {
+impl DecoderMoves for Gb18030Decoder<'_> {
     ghost use Rattle.legacy_chinese.specs.Gb18030Decoder.{gb18030_state};
 
     ghost state = { gb18030_state };
@@ -231,8 +231,8 @@ impl Machine for Gb18030Decoder<'_> {
     }
 
     #[inline]
-    fn room(&self, act: Act) -> Room {
-        room_of(self.held, act)
+    fn room(&self, next: Move) -> Room {
+        room_of(self.held, next)
     }
 
     #[inline]
@@ -292,10 +292,10 @@ impl CommonForms for Gb18030Decoder<'_> {
     }
 
     #[inline]
-    fn front(&self, lead: u8, trail: u8) -> Front {
+    fn front(&self, lead: u8, trail: u8) -> CommonForm {
         match form_scalar(self.tables, lead, trail) {
-            Some(scalar) => Front::Pair(scalar),
-            None => Front::Other,
+            Some(scalar) => CommonForm::Pair(scalar),
+            None => CommonForm::Other,
         }
     }
 }
@@ -311,7 +311,7 @@ impl RawDecoder for Gb18030Decoder<'_> {
         dst: &mut T,
         last: bool,
     ) -> (DecoderResult, usize) {
-        drive(self, src, dst, last)
+        drive_decoder(self, src, dst, last)
     }
 
     fn max_utf16_buffer_length(&self, byte_length: usize) -> Option<usize> {

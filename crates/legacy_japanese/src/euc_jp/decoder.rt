@@ -6,9 +6,9 @@ ghost use Rattle.legacy_base.specs.EucJp.{euc_jp_scalars};
 ghost use Rattle.legacy_base.specs.Grammar.{euc_jp};
 ghost use Rattle.legacy_base.specs.States.{is_neutral, new_state};
 ghost use Rattle.legacy_base.specs.Tables.{index_list};
-ghost use Rattle.legacy_decoder_engine.specs.Costs.{state_of};
+ghost use Rattle.legacy_base.specs.States.{state_of};
 ghost use Rattle.legacy_japanese.specs.EucJpMachine.{euc_jp_step};
-ghost use Rattle.legacy_decoder_engine.specs.Moves.{act_units, room_units};
+ghost use Rattle.legacy_decoder_engine.specs.Moves.{move_units, room_units};
 ghost use Rattle.legacy_decoder_engine.specs.Feeding.{Took};
 ghost use Rattle.legacy_japanese.specs.EucJpHeld.{held_bytes};
 
@@ -16,9 +16,9 @@ use super::lead::EucJpLead;
 use legacy_decoder_engine::trail::unmapped;
 use legacy_decoder_engine::two_byte::fault_through;
 use legacy_base::{DecoderResult, Destination, IndexName, RawDecoder, Tables};
-use legacy_decoder_engine::ahead::{CommonForms, Front, ahead};
-use legacy_decoder_engine::drive::drive;
-use legacy_decoder_engine::machine::{Act, Fed, Machine, Room};
+use legacy_decoder_engine::ahead::{CommonForms, CommonForm, ahead};
+use legacy_decoder_engine::drive::drive_decoder;
+use legacy_decoder_engine::moves::{Move, Fed, DecoderMoves, Room};
 
 /// What is held back: the first bytes of a form.
 #[derive(Clone, Copy)]
@@ -148,12 +148,12 @@ fn read(tables: &Tables, held: Held, byte: u8) -> (Fed, Held)
 
 /// The room that an act needs.
 #[inline]
-fn room_of(held: Held, act: Act) -> Room
+fn room_of(held: Held, next: Move) -> Room
     ensures { (jis0208 jis0212 : List ℕ) (form : EncodingForm) →
-        room_units form result ≡ act_units form (state_of (euc_jp jis0208 jis0212) (held_bytes held)) act }
+        room_units form result ≡ move_units form (state_of (euc_jp jis0208 jis0212) (held_bytes held)) next }
 {
-    match act {
-        Act::Read(byte) if byte < 0x80 && matches!(held, Held::Nothing) => Room::Unit,
+    match next {
+        Move::Read(byte) if byte < 0x80 && matches!(held, Held::Nothing) => Room::Unit,
         _ => Room::Narrow,
     }
 }
@@ -203,7 +203,7 @@ impl<'a> EucJpDecoder<'a> {
     }
 }
 
-impl Machine for EucJpDecoder<'_> {
+impl DecoderMoves for EucJpDecoder<'_> {
     ghost use Rattle.legacy_japanese.specs.EucJpDecoder.{euc_jp_state};
 
     ghost state = { euc_jp_state };
@@ -214,8 +214,8 @@ impl Machine for EucJpDecoder<'_> {
     }
 
     #[inline]
-    fn room(&self, act: Act) -> Room {
-        room_of(self.held, act)
+    fn room(&self, next: Move) -> Room {
+        room_of(self.held, next)
     }
 
     fn release(&mut self) -> Option<char> {
@@ -260,13 +260,13 @@ impl CommonForms for EucJpDecoder<'_> {
     }
 
     #[inline]
-    fn front(&self, lead: u8, trail: u8) -> Front {
+    fn front(&self, lead: u8, trail: u8) -> CommonForm {
         let Some(lead) = EucJpLead::new(lead) else {
-            return Front::Other;
+            return CommonForm::Other;
         };
         match pair_scalar(self.tables, IndexName::Jis0208, lead, trail) {
-            Some(scalar) => Front::Pair(scalar),
-            None => Front::Other,
+            Some(scalar) => CommonForm::Pair(scalar),
+            None => CommonForm::Other,
         }
     }
 }
@@ -282,7 +282,7 @@ impl RawDecoder for EucJpDecoder<'_> {
         dst: &mut T,
         last: bool,
     ) -> (DecoderResult, usize) {
-        drive(self, src, dst, last)
+        drive_decoder(self, src, dst, last)
     }
 
     fn max_utf16_buffer_length(&self, byte_length: usize) -> Option<usize> {

@@ -7,8 +7,8 @@ ghost use Rattle.legacy_japanese.specs.Iso2022JpMachine.{is_held};
 ghost use Rattle.legacy_japanese.specs.Iso2022JpMoves.{weight_of};
 
 use legacy_base::{DecoderResult, Destination, RawDecoder, Tables};
-use legacy_decoder_engine::drive::drive;
-use legacy_decoder_engine::machine::{Act, Fed, Machine, Room};
+use legacy_decoder_engine::drive::drive_decoder;
+use legacy_decoder_engine::moves::{Move, Fed, DecoderMoves, Room};
 use super::runs::read_modes;
 use super::steps::{Held, Mode, Start, finish, pending, read};
 
@@ -53,7 +53,7 @@ impl<'a> Iso2022JpDecoder<'a> {
     }
 }
 
-impl<'a> Machine for Iso2022JpDecoder<'a> {
+impl<'a> DecoderMoves for Iso2022JpDecoder<'a> {
     ghost use Rattle.legacy_japanese.specs.Iso2022JpDecoder.{iso_2022_jp_state};
 
     ghost state = { iso_2022_jp_state };
@@ -68,7 +68,7 @@ impl<'a> Machine for Iso2022JpDecoder<'a> {
     }
 
     #[inline]
-    fn room(&self, _act: Act) -> Room {
+    fn room(&self, _next: Move) -> Room {
         Room::Narrow
     }
 
@@ -119,7 +119,7 @@ impl<'a> RawDecoder for Iso2022JpDecoder<'a> {
         dst: &mut T,
         last: bool,
     ) -> (DecoderResult, usize) {
-        drive(self, src, dst, last)
+        drive_decoder(self, src, dst, last)
     }
 
     fn max_utf16_buffer_length(&self, byte_length: usize) -> Option<usize> {

@@ -8,7 +8,7 @@ ghost use Rattle.legacy_japanese.specs.declared.iso_2022_jp.steps.Mode.TheVarian
 ghost use Rattle.legacy_japanese.specs.Iso2022JpMoves.{fed_of, weight_of, IsNarrow, IsNarrowScalar};
 
 use legacy_base::{IndexName, Tables};
-use legacy_decoder_engine::machine::Fed;
+use legacy_decoder_engine::moves::Fed;
 
 /// How the bytes behind an escape are read.
 #[derive(Clone, Copy)]
@@ -49,7 +49,7 @@ pub enum Held {
 
 /// What a step does that shows.
 #[derive(Clone, Copy)]
-pub enum Move {
+pub enum Action {
     /// The byte is held back.
     Holds,
     /// The byte completes a scalar.
@@ -63,7 +63,7 @@ pub enum Move {
 /// What a step does, and leaves.
 #[derive(Clone, Copy)]
 pub struct Outcome {
-    pub action: Move,
+    pub action: Action,
     pub mode: Mode,
     pub held: Held,
 }
@@ -131,7 +131,7 @@ impl Held {
 
 impl Outcome {
     /// A move, with what it leaves.
-    fn new(action: Move, mode: Mode, held: Held) -> Outcome
+    fn new(action: Action, mode: Mode, held: Held) -> Outcome
         ensures { result ≡ machine.moves action mode held }
     {
         Outcome { action, mode, held }
@@ -142,14 +142,14 @@ impl Outcome {
         ensures { result ≡ fed_of self }
     {
         match self.action {
-            Move::Holds => Fed::Nothing,
-            Move::Writes(c) => Fed::One(c),
-            Move::Reports(length) => Fed::Fault {
+            Action::Holds => Fed::Nothing,
+            Action::Writes(c) => Fed::One(c),
+            Action::Reports(length) => Fed::Fault {
                 length,
                 back: self.held.count(),
                 unread: false,
             },
-            Move::Leaves => Fed::Fault {
+            Action::Leaves => Fed::Fault {
                 length: 1,
                 back: self.held.count(),
                 unread: true,
@@ -242,9 +242,9 @@ fn read_lead(byte: u8) -> Outcome
     ensures narrow { IsNarrow result.action }
 {
     if byte >= 0x21 && byte <= 0x7E {
-        Outcome::new(Move::Holds, Mode::TwoByte, Held::Byte(byte))
+        Outcome::new(Action::Holds, Mode::TwoByte, Held::Byte(byte))
     } else {
-        Outcome::new(Move::Reports(1), Mode::TwoByte, Held::Begun(Start::Nothing))
+        Outcome::new(Action::Reports(1), Mode::TwoByte, Held::Begun(Start::Nothing))
     }
 }
 
@@ -255,8 +255,8 @@ fn read_single(mode: Mode, scalar: Option<char>) -> Outcome
     ensures narrow { IsNarrow result.action }
 {
     match scalar {
-        Some(c) => Outcome::new(Move::Writes(c), mode, Held::Begun(Start::Nothing)),
-        None => Outcome::new(Move::Reports(1), mode, Held::Begun(Start::Nothing)),
+        Some(c) => Outcome::new(Action::Writes(c), mode, Held::Begun(Start::Nothing)),
+        None => Outcome::new(Action::Reports(1), mode, Held::Begun(Start::Nothing)),
     }
 }
 
@@ -280,16 +280,16 @@ fn read_trail(tables: &Tables, lead: u8, byte: u8) -> Outcome
 {
     if byte == ESCAPE {
         return Outcome::new(
-            Move::Reports(1),
+            Action::Reports(1),
             Mode::TwoByte,
             Held::Begun(Start::EscapeByte),
         );
     }
-    let mut action = Move::Reports(2);
+    let mut action = Action::Reports(2);
     if byte >= 0x21 && byte <= 0x7E {
         let pointer = usize::from(lead - 0x21) * 94 + usize::from(byte - 0x21);
         if let Some(c) = entry(tables, pointer) {
-            action = Move::Writes(c);
+            action = Action::Writes(c);
         }
     }
     Outcome::new(action, Mode::TwoByte, Held::Begun(Start::Nothing))
@@ -302,8 +302,8 @@ fn read_third(mode: Mode, second: u8, escape: Option<Escape>) -> Outcome
     ensures narrow { IsNarrow result.action }
 {
     match escape {
-        Some(escape) => Outcome::new(Move::Holds, mode, Held::Whole(escape, Start::Nothing)),
-        None => Outcome::new(Move::Leaves, mode, Held::Byte(second)),
+        Some(escape) => Outcome::new(Action::Holds, mode, Held::Whole(escape, Start::Nothing)),
+        None => Outcome::new(Action::Leaves, mode, Held::Byte(second)),
     }
 }
 
@@ -315,18 +315,18 @@ fn read_start(mode: Mode, start: Start, byte: u8) -> Outcome
     match start {
         Start::Nothing => {
             if byte == ESCAPE {
-                Outcome::new(Move::Holds, mode, Held::Begun(Start::EscapeByte))
+                Outcome::new(Action::Holds, mode, Held::Begun(Start::EscapeByte))
             } else {
                 read_plain(mode, byte)
             }
         }
         Start::EscapeByte => {
             if byte == DOLLAR {
-                Outcome::new(Move::Holds, mode, Held::Begun(Start::Dollar))
+                Outcome::new(Action::Holds, mode, Held::Begun(Start::Dollar))
             } else if byte == PAREN {
-                Outcome::new(Move::Holds, mode, Held::Begun(Start::Paren))
+                Outcome::new(Action::Holds, mode, Held::Begun(Start::Paren))
             } else {
-                Outcome::new(Move::Leaves, mode, Held::Begun(Start::Nothing))
+                Outcome::new(Action::Leaves, mode, Held::Begun(Start::Nothing))
             }
         }
         Start::Dollar => read_third(mode, DOLLAR, completed(start, byte)),
@@ -341,8 +341,8 @@ fn read_next_third(mode: Mode, second: u8, escape: Option<Escape>) -> Outcome
     ensures narrow { IsNarrow result.action }
 {
     match escape {
-        Some(next) => Outcome::new(Move::Reports(3), mode, Held::Whole(next, Start::Nothing)),
-        None => Outcome::new(Move::Leaves, mode, Held::Byte(second)),
+        Some(next) => Outcome::new(Action::Reports(3), mode, Held::Whole(next, Start::Nothing)),
+        None => Outcome::new(Action::Leaves, mode, Held::Byte(second)),
     }
 }
 
@@ -355,18 +355,18 @@ fn read_whole(mode: Mode, escape: Escape, start: Start, byte: u8) -> Outcome
     match start {
         Start::Nothing => {
             if byte == ESCAPE {
-                Outcome::new(Move::Holds, mode, Held::Whole(escape, Start::EscapeByte))
+                Outcome::new(Action::Holds, mode, Held::Whole(escape, Start::EscapeByte))
             } else {
                 read_plain(new_mode, byte)
             }
         }
         Start::EscapeByte => {
             if byte == DOLLAR {
-                Outcome::new(Move::Holds, mode, Held::Whole(escape, Start::Dollar))
+                Outcome::new(Action::Holds, mode, Held::Whole(escape, Start::Dollar))
             } else if byte == PAREN {
-                Outcome::new(Move::Holds, mode, Held::Whole(escape, Start::Paren))
+                Outcome::new(Action::Holds, mode, Held::Whole(escape, Start::Paren))
             } else {
-                Outcome::new(Move::Leaves, new_mode, Held::Begun(Start::Nothing))
+                Outcome::new(Action::Leaves, new_mode, Held::Begun(Start::Nothing))
             }
         }
         Start::Dollar => read_next_third(new_mode, DOLLAR, completed(start, byte)),

@@ -13,8 +13,8 @@ use super::places::pair_pointer;
 use legacy_decoder_engine::lead::{LeadCodec, LeadDecoder};
 use legacy_decoder_engine::two_byte::{fault_through, read_trail};
 use legacy_base::{IndexName, Tables};
-use legacy_decoder_engine::ahead::Front;
-use legacy_decoder_engine::machine::{Fed, Room};
+use legacy_decoder_engine::ahead::CommonForm;
+use legacy_decoder_engine::moves::{Fed, Room};
 
 /// The codec of Shift_JIS.
 pub struct ShiftJis;
@@ -116,14 +116,14 @@ impl LeadCodec for ShiftJis {
     }
 
     #[inline]
-    fn front(tables: &Tables<'_>, lead: u8, trail: u8) -> Front {
+    fn front(tables: &Tables<'_>, lead: u8, trail: u8) -> CommonForm {
         match form_scalar(tables, lead, trail) {
-            Some(scalar) => Front::Pair(scalar),
+            Some(scalar) => CommonForm::Pair(scalar),
             None => {
                 if lead >= 0xA1 && lead <= 0xDF {
-                    Front::Single(katakana(lead))
+                    CommonForm::Single(katakana(lead))
                 } else {
-                    Front::Other
+                    CommonForm::Other
                 }
             }
         }

@@ -12,8 +12,8 @@ use legacy_decoder_engine::held::Lead;
 use legacy_decoder_engine::lead::{LeadCodec, LeadDecoder};
 use legacy_decoder_engine::two_byte::{read_first, read_trail};
 use legacy_base::{IndexName, Tables};
-use legacy_decoder_engine::ahead::Front;
-use legacy_decoder_engine::machine::{Fed, Room};
+use legacy_decoder_engine::ahead::CommonForm;
+use legacy_decoder_engine::moves::{Fed, Room};
 use super::places::pair_pointer;
 
 /// The codec of EUC-KR.
@@ -73,10 +73,10 @@ impl LeadCodec for EucKr {
     }
 
     #[inline]
-    fn front(tables: &Tables<'_>, lead: u8, trail: u8) -> Front {
+    fn front(tables: &Tables<'_>, lead: u8, trail: u8) -> CommonForm {
         match form_scalar(tables, lead, trail) {
-            Some(scalar) => Front::Pair(scalar),
-            None => Front::Other,
+            Some(scalar) => CommonForm::Pair(scalar),
+            None => CommonForm::Other,
         }
     }
 

@@ -4,8 +4,8 @@ ghost use Rattle.legacy_base.specs.Grammar.{replacement};
 ghost use Rattle.legacy_base.specs.States.{new_state};
 
 use legacy_base::{DecoderResult, Destination, RawDecoder};
-use legacy_decoder_engine::drive::drive;
-use legacy_decoder_engine::machine::{Act, Fed, Machine, Room};
+use legacy_decoder_engine::drive::drive_decoder;
+use legacy_decoder_engine::moves::{Move, Fed, DecoderMoves, Room};
 
 /// The replacement decoder (Encoding Standard, "replacement decoder").
 ///
@@ -29,7 +29,7 @@ impl ReplacementDecoder {
     }
 }
 
-impl Machine for ReplacementDecoder {
+impl DecoderMoves for ReplacementDecoder {
     ghost use Rattle.legacy_miscellaneous.specs.ReplacementDecoder.{replacement_state};
 
     ghost state = { replacement_state };
@@ -40,16 +40,16 @@ impl Machine for ReplacementDecoder {
     }
 
     #[inline]
-    fn room(&self, act: Act) -> Room {
-        match act {
-            Act::Read(_) => {
+    fn room(&self, next: Move) -> Room {
+        match next {
+            Move::Read(_) => {
                 if self.has_reported {
                     Room::Nothing
                 } else {
                     Room::Narrow
                 }
             }
-            Act::Release | Act::Report => Room::Narrow,
+            Move::Release | Move::Report => Room::Narrow,
         }
     }
 
@@ -91,7 +91,7 @@ impl RawDecoder for ReplacementDecoder {
         dst: &mut T,
         last: bool,
     ) -> (DecoderResult, usize) {
-        drive(self, src, dst, last)
+        drive_decoder(self, src, dst, last)
     }
 
     fn max_utf16_buffer_length(&self, _byte_length: usize) -> Option<usize> {

@@ -9,9 +9,9 @@ ghost use Rattle.legacy_base.specs.States.{new_state};
 ghost use Rattle.legacy_decoder_engine.specs.Ahead.{ReadsAhead};
 
 use legacy_base::{DecoderResult, Destination, RawDecoder};
-use legacy_decoder_engine::ahead::{CommonForms, Front, ahead};
-use legacy_decoder_engine::drive::drive;
-use legacy_decoder_engine::machine::{Act, Fed, Machine, Room};
+use legacy_decoder_engine::ahead::{CommonForms, CommonForm, ahead};
+use legacy_decoder_engine::drive::drive_decoder;
+use legacy_decoder_engine::moves::{Move, Fed, DecoderMoves, Room};
 
 /// The decoder of x-user-defined (Encoding Standard, "x-user-defined decoder").
 ///
@@ -60,7 +60,7 @@ fn read_units<T: Destination>(src: &[u8], dst: &mut T) -> usize
     count
 }
 
-impl Machine for UserDefinedDecoder {
+impl DecoderMoves for UserDefinedDecoder {
     ghost use Rattle.legacy_miscellaneous.specs.UserDefinedDecoder.{user_defined_state};
 
     ghost state = { user_defined_state };
@@ -71,7 +71,7 @@ impl Machine for UserDefinedDecoder {
     }
 
     #[inline]
-    fn room(&self, _act: Act) -> Room {
+    fn room(&self, _next: Move) -> Room {
         Room::Narrow
     }
 
@@ -114,8 +114,8 @@ impl CommonForms for UserDefinedDecoder {
     }
 
     #[inline]
-    fn front(&self, lead: u8, _trail: u8) -> Front {
-        Front::Single(scalar_of(lead))
+    fn front(&self, lead: u8, _trail: u8) -> CommonForm {
+        CommonForm::Single(scalar_of(lead))
     }
 }
 
@@ -130,7 +130,7 @@ impl RawDecoder for UserDefinedDecoder {
         dst: &mut T,
         last: bool,
     ) -> (DecoderResult, usize) {
-        drive(self, src, dst, last)
+        drive_decoder(self, src, dst, last)
     }
 
     fn max_utf16_buffer_length(&self, byte_length: usize) -> Option<usize> {

@@ -6,8 +6,8 @@ ghost use Rattle.legacy_base.specs.Lengths.{answer, utf16_units};
 
 use super::held::Held;
 use legacy_base::{DecoderResult, Destination, RawDecoder};
-use legacy_decoder_engine::drive::drive;
-use legacy_decoder_engine::machine::{Act, Fed, Machine, Room};
+use legacy_decoder_engine::drive::drive_decoder;
+use legacy_decoder_engine::moves::{Move, Fed, DecoderMoves, Room};
 use super::runs::Units;
 use super::units::read_byte;
 
@@ -61,7 +61,7 @@ impl Utf16Decoder {
     }
 }
 
-impl Machine for Utf16Decoder {
+impl DecoderMoves for Utf16Decoder {
     ghost use Rattle.legacy_miscellaneous.specs.Utf16Decoder.{utf16_state};
 
     ghost state = { utf16_state };
@@ -72,10 +72,10 @@ impl Machine for Utf16Decoder {
     }
 
     #[inline]
-    fn room(&self, act: Act) -> Room {
-        match act {
-            Act::Read(_) => Room::Wide,
-            Act::Release | Act::Report => Room::Narrow,
+    fn room(&self, next: Move) -> Room {
+        match next {
+            Move::Read(_) => Room::Wide,
+            Move::Release | Move::Report => Room::Narrow,
         }
     }
 
@@ -135,7 +135,7 @@ impl RawDecoder for Utf16Decoder {
         dst: &mut T,
         last: bool,
     ) -> (DecoderResult, usize) {
-        drive(self, src, dst, last)
+        drive_decoder(self, src, dst, last)
     }
 
     fn max_utf16_buffer_length(&self, byte_length: usize) -> Option<usize> {

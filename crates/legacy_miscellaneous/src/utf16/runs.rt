@@ -6,7 +6,7 @@ ghost use Rattle.std.specs.Char.{IsScalar};
 ghost use Rattle.legacy_base.specs.EncodingForm.{code_units, unit_count};
 ghost use Rattle.legacy_base.specs.Grammar.{utf16};
 ghost use Rattle.legacy_decoder_engine.specs.Ahead.{Writes, ReadsAhead};
-ghost use Rattle.legacy_decoder_engine.specs.Costs.{state_of};
+ghost use Rattle.legacy_base.specs.States.{state_of};
 ghost use Rattle.legacy_miscellaneous.specs.Utf16Decoder.{HasAsciiUnits};
 
 use super::units::unit;

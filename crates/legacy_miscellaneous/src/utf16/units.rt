@@ -9,7 +9,7 @@ ghost use Rattle.legacy_decoder_engine.specs.Feeding.{Took};
 ghost use Rattle.legacy_miscellaneous.specs.Utf16Decoder.{first_byte, second_byte, held_bytes};
 
 use super::held::{Held, HighSurrogate, OddByte, UnitScalar};
-use legacy_decoder_engine::machine::Fed;
+use legacy_decoder_engine::moves::Fed;
 
 /// The unit of two bytes.
 #[inline]

@@ -7,9 +7,9 @@ ghost use Rattle.legacy_single_byte.specs.SingleByteMachine.{single_byte_first};
 ghost use Rattle.legacy_decoder_engine.specs.Feeding.{Took};
 
 use legacy_base::{DecoderResult, Destination, RawDecoder, SingleByteTable};
-use legacy_decoder_engine::ahead::{CommonForms, Front, ahead};
-use legacy_decoder_engine::drive::drive;
-use legacy_decoder_engine::machine::{Act, Fed, Machine, Room};
+use legacy_decoder_engine::ahead::{CommonForms, CommonForm, ahead};
+use legacy_decoder_engine::drive::drive_decoder;
+use legacy_decoder_engine::moves::{Move, Fed, DecoderMoves, Room};
 use super::scalars::ByteScalars;
 use std::simd::prelude::*;
 
@@ -94,7 +94,7 @@ impl<'a> SingleByteDecoder<'a> {
     }
 }
 
-impl Machine for SingleByteDecoder<'_> {
+impl DecoderMoves for SingleByteDecoder<'_> {
     ghost use Rattle.legacy_single_byte.specs.SingleByteDecoder.{single_byte_state};
 
     ghost state = { single_byte_state };
@@ -105,16 +105,16 @@ impl Machine for SingleByteDecoder<'_> {
     }
 
     #[inline]
-    fn room(&self, act: Act) -> Room {
-        match act {
-            Act::Read(byte) => {
+    fn room(&self, next: Move) -> Room {
+        match next {
+            Move::Read(byte) => {
                 if byte < 0x80 {
                     Room::Unit
                 } else {
                     Room::Narrow
                 }
             }
-            Act::Release | Act::Report => Room::Narrow,
+            Move::Release | Move::Report => Room::Narrow,
         }
     }
 
@@ -158,10 +158,10 @@ impl CommonForms for SingleByteDecoder<'_> {
     }
 
     #[inline(always)]
-    fn form(&self, first: u8, _second: u8) -> Front {
+    fn form(&self, first: u8, _second: u8) -> CommonForm {
         match self.scalars.scalar(first) {
-            Some(scalar) => Front::Single(scalar),
-            None => Front::Other,
+            Some(scalar) => CommonForm::Single(scalar),
+            None => CommonForm::Other,
         }
     }
 }
@@ -177,7 +177,7 @@ impl RawDecoder for SingleByteDecoder<'_> {
         dst: &mut T,
         last: bool,
     ) -> (DecoderResult, usize) {
-        drive(self, src, dst, last)
+        drive_decoder(self, src, dst, last)
     }
 
     fn max_utf16_buffer_length(&self, byte_length: usize) -> Option<usize> {

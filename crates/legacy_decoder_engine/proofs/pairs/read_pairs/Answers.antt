@@ -1,5 +1,5 @@
 use Rattle.std.proofs.Common.{◌∙◌, ◌+◌, [], refl, arith}
-use Rattle.legacy_decoder_engine.specs.Costs.{state_of}
+use Rattle.legacy_base.specs.States.{state_of}
 use Rattle.legacy_decoder_engine.proofs.WrittenRuns.{writes_none, writes_run, reads_none}
 use Rattle.legacy_decoder_engine.proofs.JoinedRuns.{reads_written}
 use Rattle.legacy_decoder_engine.proofs.pairs.read_pairs.Goals as goal

@@ -2,7 +2,7 @@ use Rattle.std.proofs.Common.{◌≡◌, ◌≤◌, ◌∙◌, ℕ, ◌+◌, ◌
 use Rattle.std.proofs.lemmas.List.{length-take, length-drop}
 use Rattle.legacy_base.specs.Grammar.{utf16}
 use Rattle.legacy_decoder_engine.specs.Ahead.{ReadsAhead}
-use Rattle.legacy_decoder_engine.specs.Costs.{state_of}
+use Rattle.legacy_base.specs.States.{state_of}
 use Rattle.legacy_decoder_engine.proofs.JoinedRuns.{reads_more}
 use Rattle.legacy_miscellaneous.proofs.Utf16Runs.{reads_block}
 use Rattle.legacy_decoder_engine.proofs.WrittenRuns.{reads_none}

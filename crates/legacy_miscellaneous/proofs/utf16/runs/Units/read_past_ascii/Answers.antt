@@ -1,7 +1,7 @@
 use Rattle.std.proofs.Common.{◌≤◌, ◌∙◌, ℕ, ◌-◌, List, [], length, take, drop, refl, arith}
 use Rattle.std.proofs.lemmas.List.{length-take, length-drop}
 use Rattle.legacy_base.specs.Grammar.{utf16}
-use Rattle.legacy_decoder_engine.specs.Costs.{state_of}
+use Rattle.legacy_base.specs.States.{state_of}
 use Rattle.legacy_decoder_engine.proofs.JoinedRuns.{reads_more, reads_written}
 use Rattle.legacy_decoder_engine.proofs.WrittenRuns.{reads_none}
 use Rattle.legacy_miscellaneous.proofs.utf16.runs.Units.read_past_ascii.Goals as goal

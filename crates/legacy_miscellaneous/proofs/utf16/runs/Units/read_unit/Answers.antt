@@ -2,7 +2,7 @@ use Rattle.std.proofs.Common.{ℕ, [], get_or, refl, subst, arith}
 use Rattle.std.specs.Char.{IsScalar}
 use Rattle.legacy_base.specs.Grammar.{utf16}
 use Rattle.legacy_base.specs.Unicode.{IsByte}
-use Rattle.legacy_decoder_engine.specs.Costs.{state_of}
+use Rattle.legacy_base.specs.States.{state_of}
 use Rattle.legacy_decoder_engine.proofs.JoinedRuns.{reads_written}
 use Rattle.legacy_miscellaneous.proofs.Utf16Runs.{below_scalar, writes_unit}
 use Rattle.legacy_decoder_engine.proofs.WrittenRuns.{writes_none, writes_two, reads_none, three_fit, short, room_step}

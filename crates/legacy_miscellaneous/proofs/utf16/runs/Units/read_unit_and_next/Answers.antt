@@ -1,6 +1,6 @@
 use Rattle.std.proofs.Common.{◌-◌, [], length}
 use Rattle.legacy_base.specs.Grammar.{utf16}
-use Rattle.legacy_decoder_engine.specs.Costs.{state_of}
+use Rattle.legacy_base.specs.States.{state_of}
 use Rattle.legacy_decoder_engine.proofs.JoinedRuns.{reads_more}
 use Rattle.legacy_miscellaneous.proofs.utf16.runs.Units.read_unit_and_next.Goals as goal
 

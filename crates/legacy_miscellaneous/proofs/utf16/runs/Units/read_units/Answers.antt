@@ -1,7 +1,7 @@
 use Rattle.std.proofs.Common.{◌≡◌, ◌∙◌, ℕ, ◌+◌, ◌-◌, [], length, refl, subst, arith}
 use Rattle.legacy_base.specs.Grammar.{utf16}
 use Rattle.legacy_decoder_engine.specs.Ahead.{ReadsAhead}
-use Rattle.legacy_decoder_engine.specs.Costs.{state_of}
+use Rattle.legacy_base.specs.States.{state_of}
 use Rattle.legacy_decoder_engine.proofs.JoinedRuns.{reads_more}
 use Rattle.legacy_decoder_engine.proofs.WrittenRuns.{reads_none}
 use Rattle.legacy_miscellaneous.proofs.utf16.runs.Units.read_units.Goals as goal

@@ -1,7 +1,7 @@
 use Rattle.std.proofs.Common.{◌≡◌, ◌-◌, [], length}
 use Rattle.legacy_base.specs.Grammar.{utf16}
 use Rattle.legacy_decoder_engine.specs.Ahead.{ReadsAhead}
-use Rattle.legacy_decoder_engine.specs.Costs.{state_of}
+use Rattle.legacy_base.specs.States.{state_of}
 use Rattle.legacy_miscellaneous.proofs.utf16.runs.Units.read_units.Given as goal
 
 -- what was read was written

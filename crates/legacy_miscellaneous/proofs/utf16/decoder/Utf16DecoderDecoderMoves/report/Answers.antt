@@ -1,0 +1,15 @@
+use Rattle.std.proofs.Common.{refl}
+use Rattle.legacy_miscellaneous.specs.declared.utf16.held.Held.TheVariants.{Odd, High, HighOdd}
+use Rattle.legacy_miscellaneous.proofs.Utf16Held.{events-none, reports}
+use Rattle.legacy_miscellaneous.proofs.utf16.decoder.Utf16DecoderDecoderMoves.report.Goals as goal
+use Rattle.legacy_miscellaneous.proofs.utf16.decoder.Utf16DecoderDecoderMoves.report.Goals.{in-Odd, in-High, in-HighOdd}
+
+pub returns-in-Nothing : goal.returns-in-Nothing
+returns-in-Nothing c = rw c.in-Nothing.is (events-none c.args.self.now.big_endian)
+
+pub returns : goal.returns
+returns c = elim c.match-self.branch [
+  | in-Odd w ↦ rw (w.length-is, w.in-Odd.is) (reports c.args.self.now.big_endian (Odd w.in-Odd.field-0) refl (λ e. cc))
+  | in-High w ↦ rw (w.length-is, w.in-High.is) (reports c.args.self.now.big_endian (High w.in-High.field-0) (rw w.in-High.is at c.requires) (λ e. cc))
+  | in-HighOdd w ↦ rw (w.length-is, w.in-HighOdd.is) (reports c.args.self.now.big_endian (HighOdd w.in-HighOdd.field-0 w.in-HighOdd.field-1) refl (λ e. cc))
+]

@@ -1,0 +1,11 @@
+use Rattle.legacy_single_byte.proofs.SingleByteSteps.{covered}
+use Rattle.legacy_single_byte.proofs.single_byte.decoder.SingleByteDecoderDecoderMoves.room.Goals as goal
+
+pub returns-then-byte-lt128-clause-covered : goal.returns-then-byte-lt128-clause-covered
+returns-then-byte-lt128-clause-covered c = covered c.args.self.now.scalars.table.now
+
+pub returns-else-byte-lt128-clause-covered : goal.returns-else-byte-lt128-clause-covered
+returns-else-byte-lt128-clause-covered c = covered c.args.self.now.scalars.table.now
+
+pub returns-in-Release-clause-covered : goal.returns-in-Release-clause-covered
+returns-in-Release-clause-covered c = covered c.args.self.now.scalars.table.now
