@@ -8,7 +8,7 @@ use Rattle.legacy_base.specs.declared.results.DecoderResult.TheVariants.{InputEm
 use Rattle.legacy_base.specs.EncodingForm.{EncodingForm, all_code_units, total_unit_count}
 use Rattle.legacy_base.specs.Events.{shift}
 use Rattle.legacy_base.specs.Grammar.{events_of}
-use Rattle.legacy_base.specs.States.{DecoderState, rests}
+use Rattle.legacy_base.specs.States.{DecoderState, may_hold, rests}
 use Rattle.legacy_base.specs.Acts.{LacksRoom, HadRooms, fault_room, full_room_in}
 use Rattle.legacy_base.specs.Lengths.{LengthQuery, query_form, query_answer, answer_units, room}
 
@@ -75,6 +75,8 @@ pub record DecoderCall (form : EncodingForm) (before : DecoderState) (source : L
   pub passed : ℕ
   -- what it gave, and then the events of what is left, are the grammar's events, whatever follows
   pub progress : Progress last before source passed after (drop read source) (out_events (length before.held + read) scalars answer)
+  -- what is held back is one of the lists that the codec may hold back
+  pub allowed : IsTrue (may_hold after.grammar after.held)
   -- what Malformed reports is short, lies among the bytes seen, and the bytes behind it are those held back
   pub fault : HoldsBack (length before.held + read) after answer
   -- at InputEmpty all is read and no scalar is held back; at the last end no event is left

@@ -9,11 +9,11 @@ use Rattle.legacy_base.specs.declared.results.DecodeEvent.TheVariants.{Scalar}
 use Rattle.legacy_base.specs.EncodingForm.{EncodingForm, Utf8, Utf16, code_units, unit_count, all_code_units, total_unit_count, wide_room}
 use Rattle.legacy_base.specs.Events.{shift}
 use Rattle.legacy_base.specs.Grammar.{Grammar, events_of}
-use Rattle.legacy_base.specs.States.{DecoderState, new_state, rests}
+use Rattle.legacy_base.specs.States.{DecoderState, new_state, rests, may_hold}
 use Rattle.legacy_base.specs.Acts.{LacksRoom, HadRoom}
 use Rattle.legacy_base.specs.Lengths.{room}
 use Rattle.legacy_base.specs.Calls.{Progress}
-use Rattle.legacy_base.proofs.GrammarLaws.{rests-none}
+use Rattle.legacy_base.proofs.GrammarLaws.{rests-none, may_none}
 use Rattle.legacy_base.proofs.Shifts.{shift-scalars}
 use Rattle.legacy_base.proofs.Progress.{after_that}
 use Rattle.legacy_base.proofs.Rooms.{all_code_units-append, total_unit_count-append, lacks_small, full_most, HadRooms-append}
@@ -76,6 +76,7 @@ going_run form before source last free now next read scalars r ds going h e f sa
       passed = going.passed + r;
       progress = subst (λ o. Progress false before source (going.passed + r) next (drop (read + r) source) o) (ap (λ es. map Scalar scalars ++ es) (shift-scalars going.passed ds) ∙ sym (map-append Scalar scalars ds)) j;
       resting = ap (rests next.grammar) f ∙ rests-none next.grammar;
+      allowed = ap (may_hold next.grammar) f ∙ may_none next.grammar;
       rooms = both_rooms before.grammar now.grammar next.grammar going.rooms same;
       held = λ a ne. absurd (ne f);
       had = HadRooms-append form before free scalars ds going.released going.had (ample form before.grammar None (free - total_unit_count form scalars) ds after3);

@@ -12,7 +12,7 @@ use Rattle.legacy_base.specs.declared.results.DecoderResult.TheVariants.{InputEm
 use Rattle.legacy_base.specs.EncodingForm.{EncodingForm, unit_count, total_unit_count}
 use Rattle.legacy_base.specs.Events.{shift}
 use Rattle.legacy_base.specs.Grammar.{Grammar, events_of}
-use Rattle.legacy_base.specs.States.{DecoderState, rests}
+use Rattle.legacy_base.specs.States.{DecoderState, may_hold, rests}
 use Rattle.legacy_base.specs.Acts.{room_needed, LacksRoom, HadRoom, HadRooms, fault_room, full_room_in, release_room_in}
 use Rattle.legacy_base.specs.Lengths.{LengthQuery, query_form, room}
 use Rattle.legacy_base.specs.Calls.{Progress, DecoderCall, IsFault, out_events, reported_events}
@@ -30,6 +30,7 @@ pub record Going (form : EncodingForm) (before : DecoderState) (source : List �
   pub passed : ℕ
   pub progress : Progress false before source passed now (drop read source) (map Scalar scalars)
   pub resting : rests now.grammar now.held ≡ true
+  pub allowed : may_hold now.grammar now.held ≡ true
   pub rooms : SameRooms before.grammar now.grammar
   pub held : 0 < read → now.held ≢ [] → full_room_in form before.grammar ≤ free - total_unit_count form scalars
   pub had : HadRooms form before free scalars
@@ -91,13 +92,14 @@ gave (Two c d) = inr (λ e. cc)
 gave (Fault a b u) = inl refl
 
 module _ (form : EncodingForm) (before : DecoderState) (source : List ℕ) (last : Bool) (free : ℕ) where
-  pub going_start : rests before.grammar before.held ≡ true → Going form before source last free before 0 []
+  pub going_start : rests before.grammar before.held ≡ true → may_hold before.grammar before.held ≡ true → Going form before source last free before 0 []
   unfolding HadRoom
-  going_start r = record {
+  going_start r m = record {
     within = omega arith;
     passed = 0;
     progress = stay false before source;
     resting = r;
+    allowed = m;
     rooms = same_rooms before.grammar;
     held = λ a. absurd (omega arith);
     had = HadRooms-none form before free;
@@ -114,6 +116,7 @@ module _ (form : EncodingForm) (before : DecoderState) (source : List ℕ) (last
     passed = h.passed;
     progress = behind before [] h.passed now [] (Scalar c ∷ []) source h.progress;
     resting = h.resting;
+    allowed = h.allowed;
     rooms = h.rooms;
     held = λ a. absurd (omega arith);
     had = HadRooms-released form before free c r enough;
@@ -147,6 +150,7 @@ module _ (form : EncodingForm) (before : DecoderState) (source : List ℕ) (last
       scalar = going.scalar;
       passed = going.passed;
       progress = rw append-nil (at_last last before source going.passed now (drop read source) (map Scalar scalars) going.progress);
+      allowed = going.allowed;
       fault = tt;
       input_empty = λ e. cc;
       output_full = λ e. l;
@@ -199,6 +203,7 @@ module _ (form : EncodingForm) (before : DecoderState) (source : List ℕ) (last
           let k = rw (sound-left byte fed sound, sound-out f.passed fed sound, shift-scalars going.passed (fed_scalars fed)) at j in
           rw (map-append Scalar scalars (fed_scalars fed)) k;
       resting = sound-rests f.passed next fed sound f.holds;
+      allowed = f.allowed;
       rooms = both_rooms before.grammar now.grammar next.grammar going.rooms f.rooms;
       held = λ a ne. elim (gave fed) [
         | inl z ↦
@@ -249,6 +254,7 @@ module _ (form : EncodingForm) (before : DecoderState) (source : List ℕ) (last
           passed = going.passed + f.passed;
           progress = at_last last before source (going.passed + f.passed) next (drop now_read source) (out_events (length before.held + now_read) scalars (Malformed a b))
               (subst (λ o. Progress false before source (going.passed + f.passed) next (drop now_read source) o) end.0 t);
+          allowed = f.allowed;
           fault = end.1;
           input_empty = λ x. cc;
           output_full = λ x. cc;
@@ -286,6 +292,7 @@ module _ (form : EncodingForm) (before : DecoderState) (source : List ℕ) (last
           scalar = going.scalar;
           passed = going.passed;
           progress = rw append-nil (at_last last before source going.passed now (drop read source) (map Scalar scalars) going.progress);
+          allowed = going.allowed;
           fault = tt;
           input_empty = λ e. (all, going.resting, none);
           output_full = λ e. cc;
@@ -324,6 +331,7 @@ module _ (form : EncodingForm) (before : DecoderState) (source : List ℕ) (last
           scalar = going.scalar;
           passed = going.passed + f.passed;
           progress = subst (λ o. Progress last before source (going.passed + f.passed) next (drop read source) o) end'.0 t;
+          allowed = f.allowed;
           fault = end'.1;
           input_empty = λ x. cc;
           output_full = λ x. cc;
@@ -350,9 +358,9 @@ module _ (form : EncodingForm) (before : DecoderState) (source : List ℕ) (last
     call_finish next (Malformed a b) left all e f = call_report next a b all f.0 f.1 (omega (arith, f.2)) f.3
 
   -- the scalar that is held back lacks its room
-  pub call_full_release : IsCovered before → rests before.grammar before.held ≡ false → free < release_room_in form before.grammar → DecoderCall form before source last free before OutputFull 0 []
+  pub call_full_release : IsCovered before → may_hold before.grammar before.held ≡ true → rests before.grammar before.held ≡ false → free < release_room_in form before.grammar → DecoderCall form before source last free before OutputFull 0 []
   unfolding HadRoom
-  call_full_release c r lacks =
+  call_full_release c m r lacks =
       let e = room_needed-release form before source last r in
       let l : LacksRoom form before source last free = omega arith in
       let full : (query : LengthQuery) → query_form query ≡ form → room query before (length source) ≤ free → ⊥ =
@@ -363,6 +371,7 @@ module _ (form : EncodingForm) (before : DecoderState) (source : List ℕ) (last
         scalar = All-nil IsScalar;
         passed = 0;
         progress = stay last before source;
+        allowed = m;
         fault = tt;
         input_empty = λ x. cc;
         output_full = λ x. rw sub-zero l;

@@ -152,6 +152,7 @@ module _ {g : Grammar} {m : DecoderMachine} (shown : IsShown g m) (held : List �
         events = λ more l. k.meets.goes_on more;
       };
       holds = k.settles;
+      allowed = k.meets.allowed;
       rooms = shown.same_rooms held b;
       empties = λ n. absurd (n refl);
       report = λ form. release-full form g;
@@ -177,6 +178,7 @@ module _ {g : Grammar} {m : DecoderMachine} (shown : IsShown g m) (held : List �
             events = λ more l. rw zero_place (k.meets.goes_on more);
           };
           holds = record { some = k.meets.fault.0; few = k.meets.fault.1; near = k.meets.few; held = refl; within = omega arith };
+          allowed = k.meets.allowed;
           rooms = shown.same_rooms held b;
           empties = λ e. absurd (e refl);
           report = λ form. release-full form g;
@@ -204,6 +206,7 @@ module _ {g : Grammar} {m : DecoderMachine} (shown : IsShown g m) (held : List �
             events = λ more l. rw zero_place (k.meets.goes_on more);
           };
           holds = record { some = k.meets.fault.0; few = k.meets.fault.1; near = k.meets.few; held = refl; within = omega arith };
+          allowed = k.meets.allowed;
           rooms = shown.same_rooms held b;
           empties = λ e. absurd (e refl);
           report = λ form. release-full form g;
@@ -256,6 +259,7 @@ module _ {g : Grammar} {m : DecoderMachine} (shown : IsShown g m) (held : List �
             events = λ more l. rw (sound.3 b) (k.meets.goes_on more);
           });
           holds = form_holds n (state_of (m.to held b) (drop n (held ++ b ∷ []))) cs (rw nothing (rests-none (m.to held b)));
+          allowed = k.meets.allowed;
           rooms = shown.same_rooms held b;
           empties = λ e. nothing;
           report = λ form. release-full form g;
@@ -301,6 +305,7 @@ module _ {g : Grammar} {m : DecoderMachine} (shown : IsShown g m) (held : List �
           events = λ more l. w'.goes_on more;
         };
         resting = s';
+        allowed = w'.allowed;
         rooms = record { full = λ form. refl; report = λ form. refl; wants = λ p c'. refl };
         fits = λ form. writes_form form shown held n c may r bytes e;
         scalar = scalar;
@@ -327,6 +332,7 @@ module _ {g : Grammar} {m : DecoderMachine} (shown : IsShown g m) (held : List �
                 ap (λ q. events_of g ((x ∷ xs) ++ q)) z ∙ ap (events_of g) (append-nil (x ∷ xs)) ∙ shown.meets.ends (x ∷ xs) m r' ∙ rw (zero_place, z, none) refl;
           };
           holds = record { some = omega arith; few = omega arith; near = omega arith; held = refl; within = omega arith };
+          allowed = may_none g;
           lowers = λ query. (shown.rooms query).report_pays x xs m r';
         }
 

@@ -7,7 +7,7 @@ use Rattle.legacy_base.specs.declared.results.DecoderResult.{DecoderResult}
 use Rattle.legacy_base.specs.declared.results.DecoderResult.TheVariants.{InputEmpty, OutputFull, Malformed}
 use Rattle.legacy_base.specs.EncodingForm.{EncodingForm, unit_count, total_unit_count, bmp_room, wide_room}
 use Rattle.legacy_base.specs.Grammar.{Grammar, events_of}
-use Rattle.legacy_base.specs.States.{DecoderState, rests}
+use Rattle.legacy_base.specs.States.{DecoderState, may_hold, rests}
 use Rattle.legacy_base.specs.Acts as acts
 use Rattle.legacy_base.specs.Acts.{act_room, full_room_in, release_room_in, room_needed, wants_full_room, HadRoom}
 use Rattle.legacy_base.specs.Lengths.{LengthQuery, query_form, replacement_units, room}
@@ -97,6 +97,7 @@ pub record Feeds (before : DecoderState) (byte : ℕ) (after : DecoderState) (fe
   pub passed : ℕ
   pub progress : Progress false before (byte ∷ []) passed after (unread_byte byte fed) (map Scalar (fed_scalars fed) ++ fed_fault passed fed)
   pub holds : FedHolds passed after fed
+  pub allowed : may_hold after.grammar after.held ≡ true
   pub rooms : SameRooms before.grammar after.grammar
   -- what gave a scalar leaves nothing held back
   pub empties : fed_scalars fed ≢ [] → after.held ≡ []
@@ -118,6 +119,7 @@ pub record Releases (before : DecoderState) (after : DecoderState) (c : ℕ) : T
   pub passed : ℕ
   pub progress : Progress false before [] passed after [] (Scalar c ∷ [])
   pub resting : IsTrue (rests after.grammar after.held)
+  pub allowed : may_hold after.grammar after.held ≡ true
   pub rooms : SameRooms before.grammar after.grammar
   pub fits : (form : EncodingForm) → unit_count form c ≤ release_room_in form before.grammar
   pub scalar : IsScalar c
@@ -131,6 +133,7 @@ pub record Reports (before : DecoderState) (after : DecoderState) (sequence back
   pub holding : before.held ≢ []
   pub progress : Progress true before [] passed after [] (Bad (passed - sequence) sequence ∷ [])
   pub holds : IsFault (passed + length after.held) after sequence back
+  pub allowed : may_hold after.grammar after.held ≡ true
   pub lowers : (query : LengthQuery) → room query after 0 + replacement_units query ≤ room query before 0
 
 -- ---- the end of a call

@@ -2,7 +2,7 @@
 ghost use Rattle.std.specs.Prelude.{◌≡◌, ◌≢◌, ◌≤◌, [], true, false, MatchOption};
 ghost use Rattle.legacy_base.specs.EncodingForm.{EncodingForm};
 ghost use Rattle.legacy_base.specs.Grammar.{events_of};
-ghost use Rattle.legacy_base.specs.States.{DecoderState, rests};
+ghost use Rattle.legacy_base.specs.States.{DecoderState, may_hold, rests};
 ghost use Rattle.legacy_decoder_engine.specs.Moves.{room_units, move_units, IsCovered, Releases, Feeds, Reports};
 ghost use Rattle.legacy_decoder_engine.specs.Ahead.{ReadsTo, ReadsAhead};
 
@@ -52,9 +52,11 @@ pub trait DecoderMoves {
     /// The grammar, and the bytes that are held back.
     ghost state: { Self → DecoderState };
 
-    /// Whether no scalar is held back that is to be written first. Nothing changes.
+    /// Whether no scalar is held back that is to be written first. Nothing changes. What is held back is
+    /// one of the lists that the codec may hold back, in every state that the decoder can be in.
     fn rests(&self) -> bool
-        ensures { result ≡ rests (state self.now).grammar (state self.now).held };
+        ensures is { result ≡ rests (state self.now).grammar (state self.now).held }
+        ensures allowed { may_hold (state self.now).grammar (state self.now).held ≡ true };
 
     /// The room that an act needs, whatever comes of it. Nothing changes.
     fn room(&self, next: Move) -> Room

@@ -18,6 +18,7 @@ use Rattle.legacy_japanese.proofs.Iso2022JpLaw.{MeetsEnd, ended}
 use Rattle.legacy_japanese.proofs.Iso2022JpEnd.{write_law, write_some, end_law}
 use Rattle.legacy_japanese.proofs.Iso2022JpHeld.{held_rests, finish_sound, EndsSound}
 use Rattle.legacy_japanese.proofs.Iso2022JpRooms.{same_rooms, room-falls, replacement_fits, times_one}
+use Rattle.legacy_japanese.proofs.Iso2022JpStates.{held_allowed}
 
 -- ---- a scalar that is held back
 
@@ -33,6 +34,7 @@ released jis0208 mode (Byte b) c sound is narrow = record {
     events = λ more never. write_law jis0208 mode b c more sound (sym is);
   };
   resting = refl;
+  allowed = refl;
   rooms = same_rooms jis0208 mode mode;
   fits = λ form. length-code_units-bmp form c (narrow.0);
   scalar = narrow.1;
@@ -78,6 +80,7 @@ end_facts jis0208 mode held (Some o) law sound =
           events = λ more last. rw (last refl, append-nil (bytes_of h), append-nil (bytes_of k)) law;
         };
         holds = record { some = omega arith; few = omega arith; near = sound.short; held = refl; within = ended_within (length (bytes_of h)) (length (bytes_of k)) sound.fits };
+        allowed = held_allowed jis0208 n k sound.kept;
         lowers = λ query. room-falls query jis0208 m n h k 0 0 1 (replacement_units query) (let r = sound.room in omega arith) (replacement_fits query);
       },
       λ none. (let e = sym none ∙ law in cc),

@@ -22,6 +22,7 @@ use Rattle.legacy_decoder_engine.specs.Moves.{fed_scalars, fed_fault, fed_units,
 use Rattle.legacy_japanese.proofs.Iso2022JpLaw.{HasSizes, RestsAfter, done}
 use Rattle.legacy_japanese.proofs.Iso2022JpStep.{IsStep, read_step}
 use Rattle.legacy_japanese.proofs.Iso2022JpHeld.{held_rests}
+use Rattle.legacy_japanese.proofs.Iso2022JpStates.{held_allowed}
 use Rattle.legacy_japanese.proofs.Iso2022JpRooms.{same_rooms, read_room-is, one_fits, room-falls, replacement_fits, times_one}
 
 -- ---- a move, and what the loop is told
@@ -114,6 +115,7 @@ feeds_from jis0208 mode held byte o step narrow =
         events = λ more never. rw (← (events_are (done h o) o.action back), ← (left_is o.action back byte more)) (law more);
       };
       holds = holds_back jis0208 (done h o) o.action n k sound.kept sound.sizes sound.rest;
+      allowed = held_allowed jis0208 n k sound.kept;
       rooms = same_rooms jis0208 m n;
       empties = nothing_held o.action n k back sound.rest;
       report = λ form. omega arith;

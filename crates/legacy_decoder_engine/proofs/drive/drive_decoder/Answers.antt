@@ -101,7 +101,7 @@ loop-read-init g c =
           let room = some_room _ _ _ 0 (T.room c.args.dst.now) _ w.has_room.ensures w.if-not-has_room.false (w.room.ensures.units F) (add-zero _) in
           rw (w.decoder-is, w.dst-is) (
             w.in-Some.scalar ∷ [],
-            going_release F _ _ _ _ _ w.in-Some.scalar (sym c.rests.ensures ∙ w.if-not-rests.true) (rw sub-zero at room) w.in-Some.ensures,
+            going_release F _ _ _ _ _ w.in-Some.scalar (sym c.rests.ensures.is ∙ w.if-not-rests.true) (rw sub-zero at room) w.in-Some.ensures,
             w.put.ensures.contents ∙ ap (λ l. T.contents c.args.dst.now ++ l) (sym (append-nil (code_units F w.in-Some.scalar))),
             one_more F w.in-Some.scalar _ _ w.put.ensures.room,
             w.put.ensures.loan,
@@ -109,7 +109,7 @@ loop-read-init g c =
       | else-not-rests w ↦
           rw (w.decoder-is, w.dst-is) (
             [],
-            going_start F _ _ _ _ (sym c.rests.ensures ∙ w.if-not-rests.false),
+            going_start F _ _ _ _ (sym c.rests.ensures.is ∙ w.if-not-rests.false) c.rests.ensures.allowed,
             sym (append-nil (T.contents c.args.dst.now)),
             add-zero (T.room c.args.dst.now),
             refl,
@@ -120,7 +120,7 @@ pub returns-then-not-has_room-clause-call : goal.returns-then-not-has_room-claus
 returns-then-not-has_room-clause-call g c =
     let F = g.T.Destination.form in
     let room = no_room _ _ _ 0 (g.T.Destination.room c.args.dst.now) _ c.has_room.ensures c.if-not-has_room.true (c.room.ensures.units F) (add-zero _) in
-    ([], call_full_release F _ _ _ _ c.room.ensures.covered (sym c.rests.ensures ∙ c.if-not-rests.true) (rw sub-zero at room), sym (append-nil (g.T.Destination.contents c.args.dst.now)))
+    ([], call_full_release F _ _ _ _ c.room.ensures.covered c.rests.ensures.allowed (sym c.rests.ensures.is ∙ c.if-not-rests.true) (rw sub-zero at room), sym (append-nil (g.T.Destination.contents c.args.dst.now)))
 
 pub returns-clause-call : goal.returns-clause-call
 returns-clause-call g c =
