@@ -2,7 +2,7 @@ use Rattle.std.proofs.Common.{length, arith, ap, ◌∙◌, refl}
 use Rattle.legacy_base.specs.EncodingForm.{all_code_units}
 use Rattle.legacy_base.proofs.SameUnits.{length-le-all_code_units}
 use Rattle.legacy_codecs.specs.Scalars.{kept_scalars}
-use Rattle.legacy_codecs.proofs.Kept.{kept_is}
+use Rattle.legacy_codecs.proofs.KeptAsWritten.{kept_is}
 use Rattle.legacy_codecs.proofs.run.call_once.Goals as goal
 
 pub returns-clause-call : goal.returns-clause-call
