@@ -18,7 +18,8 @@ room-rises query s m n h = by_test (has_reported s.grammar) (rises query s.gramm
   by_test true h = omega arith
   by_test false h = h
 
-module _ (query : LengthQuery) (before : DecoderState) (bytes free : ℕ) (after : DecoderState) (answer : DecoderResult) (read : ℕ) (scalars : List ℕ) (n : NextCall query before bytes free after answer read scalars) where
+module _ (query : LengthQuery) (before : DecoderState) (bytes free : ℕ) (after : DecoderState) (answer : DecoderResult) (read : ℕ) (scalars : List ℕ)
+    (n : NextCall query before bytes free after answer read scalars) where
   next-lowers : room query after (bytes - read) + (total_unit_count (query_form query) scalars + answer_units query answer) ≤ room query before bytes
   next-lowers =
       let some = n.some in

@@ -13,7 +13,7 @@ use Rattle.legacy_base.specs.States.{DecoderState}
 use Rattle.legacy_base.specs.Calls.{out_events}
 use Rattle.legacy_base.proofs.Shifts.{shift-append, shift-shift, shift-zero}
 use Rattle.legacy_codecs.specs.Pieces.{all_bytes}
-use Rattle.legacy_codecs.specs.Runs.{RunPlace, is_none, place_before, place_behind, ends_run, Reaches, placed_event, placed, IsRun, IsBeginning, HasNoneLeft, FinishedRun, CutsDoNotMatter}
+use Rattle.legacy_codecs.specs.Runs.{RunPlace, is_none, place_before, place_behind, Reaches, placed_event, placed, IsRun, IsBeginning, HasNoneLeft, FinishedRun, CutsDoNotMatter}
 use Rattle.legacy_codecs.specs.Runs.Reaches.{begun, called}
 
 pub placed-append : (h : ℕ) (a b : List DecodeEvent) → placed h (a ++ b) ≡ placed h a ++ placed h b

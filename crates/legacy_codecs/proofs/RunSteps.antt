@@ -1,5 +1,6 @@
 -- A run under way, call by call.
-use Rattle.std.proofs.Common.{◌≡◌, ◌∙◌, ℕ, ◌+◌, ◌-◌, ◌≤◌, ◌<◌, List, [], ◌∷◌, ◌++◌, length, drop, get_or, map, refl, sym, ap, arith, append_assoc, length-drop, drop-cons, add-one, Bool, true, false, Some, eqb, eq-eqb, inl, inr}
+use Rattle.std.proofs.Common.{◌≡◌, ◌∙◌, ℕ, ◌+◌, ◌-◌, ◌≤◌, ◌<◌, List, [], ◌∷◌, ◌++◌, length, drop, get_or, map, Bool, false, Some, eqb, inl, inr}
+use Rattle.std.proofs.Common.{refl, sym, ap, arith, append_assoc, length-drop, drop-cons, add-one, eq-eqb}
 use Rattle.std.proofs.lemmas.List.{drop-drop}
 use Rattle.std.proofs.lemmas.List.Sums.{sum_by-cons}
 use Rattle.std.proofs.Math.ListN.{drop_of_length-le}
@@ -71,11 +72,19 @@ module _ {form : EncodingForm} {from : RunPlace} {lengths : List ℕ} {calls : �
       let h = length from.state.held in
       let fault = reported_events (length p.state.held + read) answer in
       let same = reported-placed h r.passed (length p.state.held) total read after answer c.fault r.passed_is in
-      rw (placed-append h r.events (shift r.passed (map Scalar scalars ++ fault)), shift-append r.passed (map Scalar scalars) fault, shift-scalars r.passed scalars,
-      placed-append h (map Scalar scalars) (shift r.passed fault), placed-scalars h scalars, same, ← r.items_are) (append_assoc items (map Scalar scalars) (reported_behind (total + read) answer))
+      rw (
+        placed-append h r.events (shift r.passed (map Scalar scalars ++ fault)),
+        shift-append r.passed (map Scalar scalars) fault,
+        shift-scalars r.passed scalars,
+        placed-append h (map Scalar scalars) (shift r.passed fault),
+        placed-scalars h scalars,
+        same,
+        ← r.items_are,
+      ) (append_assoc items (map Scalar scalars) (reported_behind (total + read) answer))
 
-  pub running_call : Running form from lengths (calls + 1) ((items ++ map Scalar scalars) ++ reported_behind (total + read) answer) (total + read) (ends_run p answer) (place_behind p after answer read)
-  running_call = record {
+  call_behind : Running form from lengths (calls + 1) ((items ++ map Scalar scalars) ++ reported_behind (total + read) answer) (total + read)
+      (ends_run p answer) (place_behind p after answer read)
+  call_behind = record {
     events = r.events ++ shift r.passed (out_events (length p.state.held + read) scalars answer);
     passed = r.passed + c.passed;
     reaches = called calls r.events r.passed p r.reaches free given after answer read scalars c;
@@ -87,10 +96,14 @@ module _ {form : EncodingForm} {from : RunPlace} {lengths : List ℕ} {calls : �
     bytes = let b = place_behind-bytes p after answer read c.within (λ e. (c.input_empty e).0) in omega (arith, r.bytes);
   }
 
--- the same by other words for its events, its end and its place
-pub running_as : {form : EncodingForm} {from : RunPlace} {lengths : List ℕ} {calls : ℕ} {items items' : List DecodeEvent} {total : ℕ} {finished finished' : Bool} {p p' : RunPlace} →
-    Running form from lengths calls items total finished p → items ≡ items' → finished ≡ finished' → p ≡ p' → Running form from lengths calls items' total finished' p'
-running_as r i f q = rw (← i, ← f, ← q) r
+-- the same by other words for what went in and what came out
+pub running_call : {form : EncodingForm} {from : RunPlace} {lengths : List ℕ} {calls : ℕ} {items items' : List DecodeEvent} {total : ℕ} {p p' : RunPlace} {free : ℕ} {after : DecoderState}
+    {unread : List ℕ} {last finished : Bool} {given_back answer : DecoderResult} {read : ℕ} {scalars : List ℕ} →
+    Running form from lengths calls items total false p → slice_get lengths calls ≡ Some free → DecoderCall form p.state unread last free after given_back read scalars →
+    unread ≡ p.piece → last ≡ is_none p.later → given_back ≡ answer →
+    items' ≡ (items ++ map Scalar scalars) ++ reported_behind (total + read) answer → finished ≡ ends_run p answer → p' ≡ place_behind p after answer read →
+    Running form from lengths (calls + 1) items' (total + read) finished p'
+running_call r given c u l a i f q = let c' = rw (u, l, a) at c in rw (i, f, q) (call_behind r given c')
 
 pub is_run : {form : EncodingForm} {from : RunPlace} {lengths : List ℕ} {calls : ℕ} {items : List DecodeEvent} {total : ℕ} {finished : Bool} {p : RunPlace} {after : DecoderState} →
     Running form from lengths calls items total finished p → p.state ≡ after → calls ≤ length lengths → (finished ≡ false → calls ≡ length lengths) → IsRun form from lengths calls finished items after
@@ -106,15 +119,15 @@ piece_at pieces index = slice_index_or pieces index []
 abbrev pub place_at : List (List ℕ) → DecoderState → ℕ → ℕ → RunPlace
 place_at pieces now index offset = record { state = now; piece = drop offset (piece_at pieces index); later = drop (index + 1) pieces }
 
-pub place_at-first : (s : DecoderState) (pieces : List (List ℕ)) → 0 < length pieces → place_before s pieces ≡ place_at pieces s 0 0
+pub place_at-first : (s : DecoderState) (pieces : List (List ℕ)) → 0 < length pieces → place_at pieces s 0 0 ≡ place_before s pieces
 place_at-first s [] h = absurd (omega arith)
 place_at-first s (p ∷ ps) h = refl
 
 pub place_at-more : (pieces : List (List ℕ)) (s : DecoderState) (index offset read : ℕ) →
-    record { state = s; piece = drop read (drop offset (piece_at pieces index)); later = drop (index + 1) pieces } ≡ place_at pieces s index (offset + read)
+    place_at pieces s index (offset + read) ≡ record { state = s; piece = drop read (drop offset (piece_at pieces index)); later = drop (index + 1) pieces }
 place_at-more pieces s index offset read = rw (drop-drop read offset (piece_at pieces index)) refl
 
-pub place_at-next : (pieces : List (List ℕ)) (s : DecoderState) (index : ℕ) → index + 1 < length pieces → place_before s (drop (index + 1) pieces) ≡ place_at pieces s (index + 1) 0
+pub place_at-next : (pieces : List (List ℕ)) (s : DecoderState) (index : ℕ) → index + 1 < length pieces → place_at pieces s (index + 1) 0 ≡ place_before s (drop (index + 1) pieces)
 place_at-next pieces s index h = rw (drop-cons pieces (index + 1) [] h, add-one (index + 1)) refl
 
 -- whether the piece at an index is the last

@@ -17,7 +17,7 @@ pub fn queried_length_suffices()
 
 /// Two finished runs over the same bytes answer the same events.
 ///
-/// Let a decoder of one state go through the same bytes twice, cut into pieces in any two ways, with outputs
+/// Let decoders go from one state through the same bytes, cut into pieces in any two ways, with outputs
 /// of any lengths, in UTF-8 or UTF-16. Where both runs are finished, they answer the same scalars and
 /// malformed sequences in the same order: no place and no length depends on the cuts.
 pub fn cuts_do_not_matter()
