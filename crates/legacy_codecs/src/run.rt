@@ -202,7 +202,8 @@ fn decode_run<D: RawDecoder, F: OutputForm>(
 ) -> Result<DecodeRun, RunError>
     ensures run { IfOk result (λ run.
         let from = place_before (D.state decoder.old) (contents_of pieces.now) in
-        IsRun F.form from lengths.now run.calls run.finished run.events.items (D.state decoder.new)) }
+        IsRun F.form from lengths.now run.calls run.finished run.events.items
+        (D.state decoder.new)) }
     ensures too_long { (result ≡ Err RunError.TooLong)
         ↔ IsTooLong (contents_of pieces.now) lengths.now }
     ensures unchanged { OnErr result (decoder.new ≡ decoder.old) }
@@ -251,7 +252,8 @@ pub fn decode_run_utf8<D: RawDecoder>(
     // The answer is that of a run, which ends in the decoder's new state.
     ensures run { IfOk result (λ run.
         let from = place_before (D.state decoder.old) (contents_of pieces.now) in
-        IsRun Utf8 from lengths.now run.calls run.finished run.events.items (D.state decoder.new)) }
+        IsRun Utf8 from lengths.now run.calls run.finished run.events.items
+        (D.state decoder.new)) }
 
     // Its events are a beginning of those of all pieces, and all of them where it is finished.
     ensures beginning { IfOk result (λ run.
@@ -284,7 +286,8 @@ pub fn decode_run_utf16<D: RawDecoder>(
 ) -> Result<DecodeRun, RunError>
     ensures run { IfOk result (λ run.
         let from = place_before (D.state decoder.old) (contents_of pieces.now) in
-        IsRun Utf16 from lengths.now run.calls run.finished run.events.items (D.state decoder.new)) }
+        IsRun Utf16 from lengths.now run.calls run.finished run.events.items
+        (D.state decoder.new)) }
     ensures beginning { IfOk result (λ run.
         IsBeginning (D.state decoder.old) (contents_of pieces.now) run.finished run.events.items) }
     ensures none_left { IfOk result (λ run.
