@@ -5,7 +5,7 @@ ghost use Rattle.legacy_base.specs.States.{rests};
 ghost use Rattle.legacy_base.specs.Calls.{IsDecoderCall};
 ghost use Rattle.legacy_decoder_engine.specs.Moves.{room_units, fed_scalars, Finishes};
 
-use crate::moves::{Move, Fed, DecoderMoves, Room};
+use crate::moves::{DecoderMoves, Fed, Move, Room};
 use legacy_base::{DecoderResult, Destination};
 
 #[inline]

@@ -14,13 +14,13 @@ ghost use Rattle.legacy_chinese.specs.Gb18030Held.{held_bytes, is_resting};
 use super::digit::Digit;
 use super::fours::read_forms;
 use super::pair_places::pair_pointer;
+use legacy_base::{DecoderResult, Destination, IndexName, RawDecoder, Tables};
+use legacy_decoder_engine::ahead::{CommonForm, CommonForms};
+use legacy_decoder_engine::drive::drive_decoder;
 use legacy_decoder_engine::held::Lead;
+use legacy_decoder_engine::moves::{DecoderMoves, Fed, Move, Room};
 use legacy_decoder_engine::trail::unmapped;
 use legacy_decoder_engine::two_byte::fault_through;
-use legacy_base::{DecoderResult, Destination, IndexName, RawDecoder, Tables};
-use legacy_decoder_engine::ahead::{CommonForms, CommonForm};
-use legacy_decoder_engine::drive::drive_decoder;
-use legacy_decoder_engine::moves::{Move, Fed, DecoderMoves, Room};
 
 /// What is held back: the first bytes of a form, or a digit of a broken form and what came behind it.
 #[derive(Clone, Copy)]

@@ -9,9 +9,9 @@ ghost use Rattle.legacy_base.specs.States.{new_state};
 ghost use Rattle.legacy_decoder_engine.specs.Ahead.{ReadsAhead};
 
 use legacy_base::{DecoderResult, Destination, RawDecoder};
-use legacy_decoder_engine::ahead::{CommonForms, CommonForm, ahead};
+use legacy_decoder_engine::ahead::{CommonForm, CommonForms, ahead};
 use legacy_decoder_engine::drive::drive_decoder;
-use legacy_decoder_engine::moves::{Move, Fed, DecoderMoves, Room};
+use legacy_decoder_engine::moves::{DecoderMoves, Fed, Move, Room};
 
 /// The decoder of x-user-defined (Encoding Standard, "x-user-defined decoder").
 ///
