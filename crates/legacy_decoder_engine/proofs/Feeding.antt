@@ -108,9 +108,11 @@ all_dropped n held b e = drop_of_length-le (held ++ b ∷ []) (omega (arith, len
 module _ {g : Grammar} {m : DecoderMachine} (shown : IsShown g m) (held : List ℕ) (may : may_hold g held ≡ true) (bytes : AreBytes held) where
   -- no next act needs more than the room of a query
   pub covered : IsCovered (state_of g held)
-  covered = record { covers = λ query unread last.
-      all_needs (bmp_room (query_form query)) (wide_room (query_form query)) (room query (state_of g held)) g m shown.meets (rests-none g) held may
-      (λ b n p. (shown.rooms query).reads_covered held b n may p) (λ n p. (shown.rooms query).holds_covered held n may p) unread last }
+  covered = record {
+    covers = λ query unread last.
+        all_needs (bmp_room (query_form query)) (wide_room (query_form query)) (room query (state_of g held)) g m shown.meets (rests-none g) held may
+        (λ b n p. (shown.rooms query).reads_covered held b n may p) (λ n p. (shown.rooms query).holds_covered held n may p) unread last;
+  }
 
   module _ (b : ℕ) (byte : IsByte b) (resting : rests g held ≡ true) where
     to : Grammar

@@ -47,7 +47,8 @@ fn pair_pointer(lead: Lead, trail: u8) -> Option<usize>
 /// mark, and the others their entry.
 #[inline]
 fn read_pointer(tables: &Tables<'_>, pointer: usize, trail: u8) -> Fed
-    ensures { (lead : ℕ) → Took (trail_step 1 (big5_scalars tables.now.flat.big5 pointer) trail) (lead ∷ []) trail result [] }
+    ensures { (lead : ℕ) → Took (trail_step 1 (big5_scalars tables.now.flat.big5 pointer) trail)
+        (lead ∷ []) trail result [] }
 {
     match pointer {
         1133 => Fed::Two('\u{CA}', '\u{304}'),
@@ -61,7 +62,8 @@ fn read_pointer(tables: &Tables<'_>, pointer: usize, trail: u8) -> Fed
 /// Reads the byte behind a lead.
 #[inline]
 fn pair(tables: &Tables<'_>, lead: Lead, trail: u8) -> Fed
-    ensures { Took (trail_step 1 (big5_pair_scalars tables.now.flat.big5 lead.byte trail) trail) (lead.byte ∷ []) trail result [] }
+    ensures { Took (trail_step 1 (big5_pair_scalars tables.now.flat.big5 lead.byte trail) trail)
+        (lead.byte ∷ []) trail result [] }
 {
     match pair_pointer(lead, trail) {
         Some(pointer) => read_pointer(tables, pointer, trail),

@@ -30,7 +30,8 @@ pub type EucKrDecoder<'a> = LeadDecoder<'a, EucKr>;
 /// The scalar of two bytes, if they are a lead and a trail and give one.
 #[inline]
 fn form_scalar(tables: &Tables<'_>, lead: u8, trail: u8) -> Option<char>
-    ensures value { option_to_list result ≡ (if is_lead lead then euc_kr_scalars tables.now.flat.euc_kr lead trail else []) }
+    ensures value { option_to_list result
+        ≡ (if is_lead lead then euc_kr_scalars tables.now.flat.euc_kr lead trail else []) }
     ensures scalar { IfSome result IsScalar }
 {
     tables.idx(IndexName::EucKr, pair_pointer(lead, trail))

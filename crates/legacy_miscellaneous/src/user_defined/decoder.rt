@@ -48,7 +48,8 @@ fn scalar_of(byte: u8) -> char
 #[inline(always)]
 fn read_units<T: Destination>(src: &[u8], dst: &mut T) -> usize
     requires { bmp_room T.form ≡ 1 }
-    ensures ahead { ReadsAhead T.form (new_state user_defined) src.now result (T.contents dst.old) (T.contents dst.new) (T.room dst.old) (T.room dst.new) }
+    ensures ahead { ReadsAhead T.form (new_state user_defined) src.now result (T.contents dst.old)
+        (T.contents dst.new) (T.room dst.old) (T.room dst.new) }
     ensures loan { T.loan dst.new ≡ T.loan dst.old }
 {
     let count = src.len().min(dst.free().saturating_sub(3));
