@@ -67,7 +67,8 @@ four_placed tables a b c d found e = go (is_lead a) (is_ascii_digit b) (is_lead 
     none p h is = rw (is, range_past tables.flat.ranges p h) tt
 
     go : (l m n o : Bool) → is_lead a ≡ l → is_ascii_digit b ≡ m → is_lead c ≡ n → is_ascii_digit d ≡ o
-        → found ≡ range tables.flat.ranges (cond l (12600 * (a - 0x81)) 2_000_000 + cond m (1260 * (b - 0x30)) 2_000_000 + cond n (10 * (c - 0x81)) 2_000_000 + cond o (d - 0x30) 2_000_000) → IfSome found (λ x. Runs (gb18030 tables.flat.gb18030 tables.flat.ranges) (a ∷ b ∷ c ∷ d ∷ []) (x ∷ []))
+        → found ≡ range tables.flat.ranges (cond l (12600 * (a - 0x81)) 2_000_000 + cond m (1260 * (b - 0x30)) 2_000_000 + cond n (10 * (c - 0x81)) 2_000_000 + cond o (d - 0x30) 2_000_000) →
+        IfSome found (λ x. Runs (gb18030 tables.flat.gb18030 tables.flat.ranges) (a ∷ b ∷ c ∷ d ∷ []) (x ∷ []))
     go true true true true u v w x is =
         four_if tables a b c d (12600 * (a - 0x81) + 1260 * (b - 0x30) + 10 * (c - 0x81) + (d - 0x30)) (lead_bounds a u).0 (lead_bounds a u).1 (digit_bounds b v).0 (digit_bounds b v).1
         (lead_bounds c w).0 (lead_bounds c w).1 (digit_bounds d x).0 (digit_bounds d x).1 refl found is

@@ -17,5 +17,6 @@ returns-in-Some c =
     let byte' : c.args.trail < 2 ^ 8 = omega arith in
     let both = found (is_lead c.args.lead) (euc_kr_scalars tables.flat.euc_kr c.args.lead c.args.trail) c.in-Some.scalar c.in-Some.ensures.value in (
       euc_kr_below tables.flat.euc_kr c.args.lead c.args.trail c.in-Some.scalar (euc_kr-below tables.flat tables.accepted) both.1,
-      pair (λ flat. euc_kr flat.euc_kr) is_lead lead_first (λ flat. euc_kr_scalars flat.euc_kr) euc_kr_codec tables c.args.lead c.args.trail c.in-Some.scalar byte byte' c.in-Some.ensures.scalar both.0 both.1,
+      pair (λ flat. euc_kr flat.euc_kr) is_lead lead_first (λ flat. euc_kr_scalars flat.euc_kr) euc_kr_codec tables c.args.lead c.args.trail c.in-Some.scalar byte byte' c.in-Some.ensures.scalar
+          both.0 both.1,
     )
