@@ -1,9 +1,10 @@
 //! The decoder of a codec.
-ghost use Rattle.std.specs.Prelude.{◌≡◌, ◌≢◌, ◌≤◌, ◌⊎◌, length, IfSome};
+ghost use Rattle.std.specs.Prelude.{◌≡◌, ◌≢◌, ◌≤◌, ◌⊎◌, length, IfSome, IsSome};
 ghost use Rattle.legacy_exports.specs.Codecs.{number_of};
+ghost use Rattle.legacy_exports.specs.Taken.{AreTaken};
 
 use crate::codec::{Codec, codec_of_number};
-use crate::indexes::{IndexSlices, RANGE_LIMIT, flat_indexes, range_pairs, single_byte_table};
+use crate::indexes::{IndexSlices, RANGE_LIMIT, range_pairs, single_byte_table, with_ranges};
 use crate::pieces::{Reading, decode_times};
 use crate::unit::CodeUnit;
 use legacy_base::Tables;
@@ -21,14 +22,15 @@ pub fn decode<U: CodeUnit>(
     reading: Reading,
     output: &mut [U],
 ) -> Option<usize>
-    ensures { IfSome result (λ written. written ≤ length output.new) }
+    ensures units { IfSome result (λ written. written ≤ length output.new) }
+    ensures taken { AreTaken codec indexes.now → IsSome result }
 {
     let range_count = indexes.ranges.len();
     if range_count > RANGE_LIMIT {
         return None;
     }
     let pairs = range_pairs(indexes.ranges);
-    let flat = flat_indexes(indexes, &pairs[..range_count]);
+    let flat = with_ranges(indexes, &pairs[..range_count]);
     let Ok(tables) = Tables::new(&flat) else {
         return None;
     };
@@ -66,6 +68,7 @@ pub fn decode_by_number<U: CodeUnit>(
     output: &mut [U],
 ) -> usize
     ensures units { (result ≤ length output.new) ⊎ (result ≡ 0xFFFF_FFFF_FFFF_FFFF) }
+    ensures taken { (c : Codec) → number_of c ≡ number → AreTaken c indexes.now → result ≤ length output.new }
     ensures unknown { ((c : Codec) → number_of c ≢ number) → result ≡ 0xFFFF_FFFF_FFFF_FFFF }
 {
     let Some(codec) = codec_of_number(number) else {

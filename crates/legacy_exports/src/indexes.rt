@@ -1,4 +1,8 @@
 //! The indexes as a caller in another language hands them in.
+ghost use Rattle.std.specs.Prelude.{◌≡◌, ◌≤◌, length, map, take, IsSome};
+ghost use Rattle.legacy_base.specs.AcceptedTables.{flat_lists};
+ghost use Rattle.legacy_base.specs.Tables.{flat_indexes};
+ghost use Rattle.legacy_exports.specs.Taken.{range_pair, IsTakenTable};
 
 use legacy_base::{Indexes, SingleByteTable};
 
@@ -36,17 +40,26 @@ pub struct IndexSlices<'a> {
 /// The most ranges that are taken.
 pub const RANGE_LIMIT: usize = 256;
 
-/// The ranges as pairs, up to the most that are taken.
-pub fn range_pairs(ranges: &[IndexRange]) -> [(u16, u16); RANGE_LIMIT] {
+/// The ranges as pairs, at the front.
+pub fn range_pairs(ranges: &[IndexRange]) -> [(u16, u16); RANGE_LIMIT]
+    requires { length ranges.now ≤ 256 }
+    ensures count { length result ≡ 256 }
+    ensures same { take (length ranges.now) result ≡ map range_pair ranges.now }
+{
     let mut pairs = [(0u16, 0u16); RANGE_LIMIT];
-    for (pair, range) in pairs.iter_mut().zip(ranges) {
-        *pair = (range.pointer, range.scalar);
+    let mut place = 0;
+    while place < ranges.len() {
+        pairs[place] = (ranges[place].pointer, ranges[place].scalar);
+        place += 1;
     }
     pairs
 }
 
 /// The indexes of pointers, with these ranges.
-pub fn flat_indexes<'a: 'r, 'r>(slices: &IndexSlices<'a>, ranges: &'r [(u16, u16)]) -> Indexes<'r> {
+pub fn with_ranges<'a: 'r, 'r>(slices: &IndexSlices<'a>, ranges: &'r [(u16, u16)]) -> Indexes<'r>
+    ensures { flat_indexes result ≡ flat_lists slices.now.big5.now slices.now.euc_kr.now slices.now.jis0208.now
+        slices.now.jis0212.now slices.now.gb18030.now slices.now.katakana.now ranges.now }
+{
     Indexes {
         big5: slices.big5,
         euc_kr: slices.euc_kr,
@@ -59,7 +72,9 @@ pub fn flat_indexes<'a: 'r, 'r>(slices: &IndexSlices<'a>, ranges: &'r [(u16, u16
 }
 
 /// The table of these entries, if there are 128 and they are accepted.
-pub fn single_byte_table(entries: &[u16]) -> Option<SingleByteTable> {
+pub fn single_byte_table(entries: &[u16]) -> Option<SingleByteTable>
+    ensures { IsTakenTable entries.now → IsSome result }
+{
     if entries.len() != 128 {
         return None;
     }

@@ -10,6 +10,7 @@
 
 ghost use Rattle.std.specs.Prelude.{◌≡◌, ◌≢◌, ◌≤◌, ◌⊎◌, length};
 ghost use Rattle.legacy_exports.specs.Codecs.{number_of};
+ghost use Rattle.legacy_exports.specs.Taken.{AreTaken};
 ghost use Rattle.legacy_exports.specs.declared.codec.Codec.{Codec};
 
 mod codec;
@@ -33,6 +34,7 @@ pub extern "C" fn legacy_decode_to_utf8(
     times: usize,
 ) -> usize
     ensures units { (result ≤ length output.new) ⊎ (result ≡ 0xFFFF_FFFF_FFFF_FFFF) }
+    ensures taken { (c : Codec) → number_of c ≡ codec → AreTaken c indexes.now → result ≤ length output.new }
     ensures unknown { ((c : Codec) → number_of c ≢ codec) → result ≡ 0xFFFF_FFFF_FFFF_FFFF }
 {
     let reading = Reading {
@@ -54,6 +56,7 @@ pub extern "C" fn legacy_decode_to_utf16(
     times: usize,
 ) -> usize
     ensures units { (result ≤ length output.new) ⊎ (result ≡ 0xFFFF_FFFF_FFFF_FFFF) }
+    ensures taken { (c : Codec) → number_of c ≡ codec → AreTaken c indexes.now → result ≤ length output.new }
     ensures unknown { ((c : Codec) → number_of c ≢ codec) → result ≡ 0xFFFF_FFFF_FFFF_FFFF }
 {
     let reading = Reading {
