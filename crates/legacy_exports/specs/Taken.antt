@@ -5,6 +5,7 @@ use Rattle.legacy_base.specs.AcceptedTables.{flat_lists}
 use Rattle.legacy_base.specs.TableChecks.{AreAccepted, IsAcceptedTable}
 use Rattle.legacy_exports.specs.declared.codec.Codec.{Codec}
 use Rattle.legacy_exports.specs.declared.codec.Codec.TheVariants.{SingleByte}
+use Rattle.legacy_exports.specs.Codecs.{number_of}
 use Rattle.legacy_exports.specs.declared.indexes.IndexRange.{IndexRange}
 use Rattle.legacy_exports.specs.declared.indexes.IndexSlices.{IndexSlices}
 
@@ -28,3 +29,11 @@ AreTaken codec slices =
     (length slices.ranges.now ≤ 256)
     × AreAccepted (handed_indexes slices)
     × (codec ≡ SingleByte → IsTakenTable slices.single_byte.now)
+
+-- a codec has the number, and the indexes are taken for it
+abbrev pub IsTaken : ℕ → IndexSlices → Type 0
+IsTaken number slices = (codec : Codec) × (number_of codec ≡ number) × AreTaken codec slices
+
+-- no codec has the number, or the indexes are not taken for it
+abbrev pub IsRefused : ℕ → IndexSlices → Type 0
+IsRefused number slices = IsTaken number slices → ⊥

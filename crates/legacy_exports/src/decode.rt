@@ -1,7 +1,6 @@
 //! The decoder of a codec.
-ghost use Rattle.std.specs.Prelude.{◌≡◌, ◌≢◌, ◌≤◌, ◌⊎◌, length, IfSome, IsSome};
-ghost use Rattle.legacy_exports.specs.Codecs.{number_of};
-ghost use Rattle.legacy_exports.specs.Taken.{AreTaken};
+ghost use Rattle.std.specs.Prelude.{◌≡◌, ◌≤◌, ◌⊎◌, ◌↔◌, length, IfSome, IsSome};
+ghost use Rattle.legacy_exports.specs.Taken.{AreTaken, IsRefused, IsTaken};
 
 use crate::codec::{Codec, codec_of_number};
 use crate::indexes::{IndexSlices, RANGE_LIMIT, range_pairs, single_byte_table, with_ranges};
@@ -23,7 +22,7 @@ pub fn decode<U: CodeUnit>(
     output: &mut [U],
 ) -> Option<usize>
     ensures units { IfSome result (λ written. written ≤ length output.new) }
-    ensures taken { AreTaken codec indexes.now → IsSome result }
+    ensures taken { IsSome result ↔ AreTaken codec indexes.now }
 {
     let range_count = indexes.ranges.len();
     if range_count > RANGE_LIMIT {
@@ -68,8 +67,8 @@ pub fn decode_by_number<U: CodeUnit>(
     output: &mut [U],
 ) -> usize
     ensures units { (result ≤ length output.new) ⊎ (result ≡ 0xFFFF_FFFF_FFFF_FFFF) }
-    ensures taken { (c : Codec) → number_of c ≡ number → AreTaken c indexes.now → result ≤ length output.new }
-    ensures unknown { ((c : Codec) → number_of c ≢ number) → result ≡ 0xFFFF_FFFF_FFFF_FFFF }
+    ensures taken { IsTaken number indexes.now → result ≤ length output.new }
+    ensures refused { IsRefused number indexes.now → result ≡ 0xFFFF_FFFF_FFFF_FFFF }
 {
     let Some(codec) = codec_of_number(number) else {
         return usize::MAX;

@@ -8,10 +8,8 @@
 //! `usize::MAX`.
 #![tactic(auto)]
 
-ghost use Rattle.std.specs.Prelude.{◌≡◌, ◌≢◌, ◌≤◌, ◌⊎◌, length};
-ghost use Rattle.legacy_exports.specs.Codecs.{number_of};
-ghost use Rattle.legacy_exports.specs.Taken.{AreTaken};
-ghost use Rattle.legacy_exports.specs.declared.codec.Codec.{Codec};
+ghost use Rattle.std.specs.Prelude.{◌≡◌, ◌≤◌, ◌⊎◌, length};
+ghost use Rattle.legacy_exports.specs.Taken.{IsRefused, IsTaken};
 
 mod codec;
 mod decode;
@@ -34,8 +32,8 @@ pub extern "C" fn legacy_decode_to_utf8(
     times: usize,
 ) -> usize
     ensures units { (result ≤ length output.new) ⊎ (result ≡ 0xFFFF_FFFF_FFFF_FFFF) }
-    ensures taken { (c : Codec) → number_of c ≡ codec → AreTaken c indexes.now → result ≤ length output.new }
-    ensures unknown { ((c : Codec) → number_of c ≢ codec) → result ≡ 0xFFFF_FFFF_FFFF_FFFF }
+    ensures taken { IsTaken codec indexes.now → result ≤ length output.new }
+    ensures refused { IsRefused codec indexes.now → result ≡ 0xFFFF_FFFF_FFFF_FFFF }
 {
     let reading = Reading {
         source,
@@ -56,8 +54,8 @@ pub extern "C" fn legacy_decode_to_utf16(
     times: usize,
 ) -> usize
     ensures units { (result ≤ length output.new) ⊎ (result ≡ 0xFFFF_FFFF_FFFF_FFFF) }
-    ensures taken { (c : Codec) → number_of c ≡ codec → AreTaken c indexes.now → result ≤ length output.new }
-    ensures unknown { ((c : Codec) → number_of c ≢ codec) → result ≡ 0xFFFF_FFFF_FFFF_FFFF }
+    ensures taken { IsTaken codec indexes.now → result ≤ length output.new }
+    ensures refused { IsRefused codec indexes.now → result ≡ 0xFFFF_FFFF_FFFF_FFFF }
 {
     let reading = Reading {
         source,
