@@ -1,6 +1,6 @@
-/* The codecs of the WHATWG Encoding Standard's legacy encodings, as the static library legacy_exports
- * offers them to other languages: a function for each direction and each encoding form, and a number
- * for each codec, which all of the functions share. */
+/* The codecs of the WHATWG Encoding Standard's legacy encodings, as the static library
+ * legacy_exports offers them to other languages: a function for each direction and each encoding
+ * form, and a number for each codec, which all of the functions share. */
 #ifndef LEGACY_CODECS_H
 #define LEGACY_CODECS_H
 
@@ -11,8 +11,8 @@
 extern "C" {
 #endif
 
-/* The numbers of the codecs, in the order of the standard. No codec has the number 0, and a number is
- * never given to another codec. GBK and gb18030 are one decoder and two codecs. */
+/* The numbers of the codecs, in the order of the standard. No codec has the number 0, and a number
+ * is never given to another codec. GBK and gb18030 are one decoder and two codecs. */
 enum legacy_codec {
     LEGACY_SINGLE_BYTE = 1, /* any single-byte encoding: its index says which */
     LEGACY_GBK = 2,
@@ -28,8 +28,8 @@ enum legacy_codec {
     LEGACY_X_USER_DEFINED = 12
 };
 
-/* What a function answers in place of a number of code units where it refuses the codec's number or the
- * indexes. Nothing has been written then. */
+/* What a function answers in place of a number of code units where it refuses the codec's number
+ * or the indexes. Nothing has been written then. */
 #define LEGACY_REFUSED SIZE_MAX
 
 /* A range of index gb18030 ranges: its first pointer, and the scalar value of that pointer. */
@@ -38,11 +38,11 @@ struct legacy_range {
     uint16_t scalar;
 };
 
-/* The standard's indexes, each as a pointer to its entries and then their number. Entry p of an index is
- * the scalar value of pointer p, or 0 where it has none; pointers past the end have none either. An
- * index that the codec does not read by may be empty, with any pointer that is not null. Whatever the
- * codec, all but single_byte are checked: one of too many entries, or with an entry that the index cannot
- * have, is refused. */
+/* The standard's indexes, each as a pointer to its entries and then their number. Entry p of an
+ * index is the scalar value of pointer p, or 0 where it has none; pointers past the end have none
+ * either. An index that the codec does not read by may be empty, with any pointer that is aligned
+ * and not null. Whatever the codec, all but single_byte are checked: one of too many entries, or
+ * with an entry that the index cannot have, is refused. */
 struct legacy_indexes {
     /* index Big5, at most 19782 entries: Big5 */
     const uint32_t *big5;
@@ -62,12 +62,12 @@ struct legacy_indexes {
     /* index ISO-2022-JP katakana, 63 entries or none: no decoder reads by it */
     const uint16_t *katakana;
     size_t katakana_length;
-    /* index gb18030 ranges, at most 256, by rising pointers, without the one from 189000 on, which is
-     * always there: GBK, gb18030 */
+    /* index gb18030 ranges, at most 256, by rising pointers, without the one from 189000 on, which
+     * is always there: GBK, gb18030 */
     const struct legacy_range *ranges;
     size_t ranges_length;
-    /* the index of a single-byte encoding, 128 entries for the bytes 80 to FF: the codec single-byte,
-     * which refuses any other number of them; no other codec looks at it */
+    /* the index of a single-byte encoding, 128 entries for the bytes 80 to FF: single-byte, which
+     * refuses any other number of them; no other codec looks at it */
     const uint16_t *single_byte;
     size_t single_byte_length;
 };
@@ -84,11 +84,11 @@ struct legacy_indexes {
  * output:        where the code units go, which must not overlap the source
  * output_length: how many code units there is room for
  * piece:         how many bytes of the source the decoder is handed in each call, or 0: all of them
- * times:         how often the source is decoded, each time to the front of the output and all times by
- *                one decoder, so that a caller can time short sources; 0: not at all
+ * times:         how often the source is decoded, each time to the front of the output and all
+ *                times by one decoder, so that a caller can time short sources; 0: not at all
  *
- * The answer is how many code units were written the last time, at most output_length, or LEGACY_REFUSED.
- * No pointer may be null, also where the length is 0. */
+ * The answer is how many code units were written the last time, at most output_length, or
+ * LEGACY_REFUSED. No pointer may be null, also where the length is 0. */
 
 /* Decodes to UTF-8: a code unit is a byte. */
 size_t legacy_decode_to_utf8(uint32_t codec, const struct legacy_indexes *indexes,

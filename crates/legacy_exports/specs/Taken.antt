@@ -13,11 +13,10 @@ use Rattle.legacy_exports.specs.declared.indexes.IndexSlices.{IndexSlices}
 abbrev pub range_pair : IndexRange → ℕ × ℕ
 range_pair range = (range.pointer, range.scalar)
 
--- the indexes of pointers that were handed in
-abbrev pub handed_indexes : IndexSlices → FlatIndexes
-handed_indexes slices =
-    flat_lists slices.big5.now slices.euc_kr.now slices.jis0208.now slices.jis0212.now slices.gb18030.now slices.katakana.now
-    (map range_pair slices.ranges.now)
+-- the handed-in indexes of pointers, with these pairs as ranges
+abbrev pub indexes_with : IndexSlices → List (ℕ × ℕ) → FlatIndexes
+indexes_with slices ranges =
+    flat_lists slices.big5.now slices.euc_kr.now slices.jis0208.now slices.jis0212.now slices.gb18030.now slices.katakana.now ranges
 
 -- the index of a single-byte encoding is accepted
 abbrev pub IsTakenTable : List ℕ → Type 0
@@ -27,7 +26,7 @@ IsTakenTable entries = (length entries ≡ 128) × IsAcceptedTable entries
 abbrev pub AreTaken : Codec → IndexSlices → Type 0
 AreTaken codec slices =
     (length slices.ranges.now ≤ 256)
-    × AreAccepted (handed_indexes slices)
+    × AreAccepted (indexes_with slices (map range_pair slices.ranges.now))
     × (codec ≡ SingleByte → IsTakenTable slices.single_byte.now)
 
 -- a codec has the number, and the indexes are taken for it

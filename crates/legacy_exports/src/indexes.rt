@@ -1,8 +1,7 @@
 //! The indexes as a caller in another language hands them in.
 ghost use Rattle.std.specs.Prelude.{◌≡◌, ◌≤◌, ◌↔◌, length, map, take, IsSome};
-ghost use Rattle.legacy_base.specs.AcceptedTables.{flat_lists};
 ghost use Rattle.legacy_base.specs.Tables.{flat_indexes};
-ghost use Rattle.legacy_exports.specs.Taken.{range_pair, IsTakenTable};
+ghost use Rattle.legacy_exports.specs.Taken.{indexes_with, range_pair, IsTakenTable};
 
 use legacy_base::{Indexes, SingleByteTable};
 
@@ -57,8 +56,7 @@ pub fn range_pairs(ranges: &[IndexRange]) -> [(u16, u16); RANGE_LIMIT]
 
 /// The indexes of pointers, with these ranges.
 pub fn with_ranges<'a: 'r, 'r>(slices: &IndexSlices<'a>, ranges: &'r [(u16, u16)]) -> Indexes<'r>
-    ensures { flat_indexes result ≡ flat_lists slices.now.big5.now slices.now.euc_kr.now slices.now.jis0208.now
-        slices.now.jis0212.now slices.now.gb18030.now slices.now.katakana.now ranges.now }
+    ensures { flat_indexes result ≡ indexes_with slices.now ranges.now }
 {
     Indexes {
         big5: slices.big5,
