@@ -3,6 +3,8 @@ ghost use Rattle.legacy_base.specs.Lengths.{to_utf16, to_utf8, to_utf8_without_r
 ghost use Rattle.legacy_codecs.specs.Filling.{QueriedLengthSuffices};
 ghost use Rattle.legacy_codecs.specs.Runs.{CutsDoNotMatter};
 
+pub use legacy_decoders::laws::{lists_are_read_by_fronts, nothing_has_no_events};
+
 /// A length query that a decoder answers for all bytes to come is enough for all calls with them.
 ///
 /// Let an output have the length that one of a decoder's three length queries answered for `n` bytes, or

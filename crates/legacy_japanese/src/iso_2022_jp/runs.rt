@@ -6,10 +6,10 @@ ghost use Rattle.std.specs.Prelude.{◌≡◌, ℕ, ◌+◌, ◌<◌, ◌≤◌,
 ghost use Rattle.legacy_japanese.specs.Iso2022JpRuns.{IsPlain, run_state, HasEscape};
 ghost use Rattle.legacy_decoder_engine.specs.Ahead.{ReadsTo, ReadsAhead};
 
+use super::places::pair_pointer;
 use super::steps::{DOLLAR, ESCAPE, Escape, Mode, PAREN, Start, completed, entry};
 use legacy_base::{Destination, Tables};
 use legacy_decoder_engine::pairs::{Pairs, read_pairs};
-use super::places::pair_pointer;
 
 /// The pairs of two-byte mode.
 #[derive(Drop)]
