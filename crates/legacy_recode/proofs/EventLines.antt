@@ -1,5 +1,6 @@
 -- Laws of lines.
-use Rattle.std.proofs.Common.{◌≡◌, ◌∙◌, ℕ, ◌+◌, ◌-◌, ◌/◌, ◌%◌, ◌≤◌, ◌<◌, ◌^◌, List, [], ◌∷◌, ◌++◌, length, take, map, get_or, refl, sym, ap, arith, append_assoc, append-nil, length-append, take-suc, add-one, decimal}
+use Rattle.std.proofs.Common.{◌≡◌, ◌∙◌, ℕ, ◌+◌, ◌-◌, ◌/◌, ◌%◌, ◌≤◌, ◌<◌, ◌^◌, List, [], ◌∷◌, ◌++◌, length, take, drop, set, map, get_or, refl, sym, ap, arith, append_assoc, append-nil, length-append, take-suc, add-one, decimal}
+use Rattle.std.proofs.lemmas.List.{drop-set}
 use Rattle.std.proofs.lemmas.Fmt.{decimal_step, decimal_digit, length-decimal-le}
 use Rattle.legacy_base.specs.declared.results.DecodeEvent.{DecodeEvent}
 use Rattle.legacy_base.specs.declared.results.DecodeEvent.TheVariants.{Scalar, Bad}
@@ -77,3 +78,20 @@ line_of_fault o a b scalars place n read sequence back p q e f =
 pub lines_of_call : (bytes made before : List ℕ) (kept scalars : List ℕ) (fault : List DecodeEvent) → bytes ≡ made → made ≡ before ++ event_lines (map Scalar kept ++ fault) → before ≡ [] → kept ≡ scalars →
     bytes ≡ event_lines (map Scalar scalars ++ fault)
 lines_of_call bytes made before kept scalars fault p q r s = rw (p, q, r, s) refl
+
+-- a digit is put in front of those that stand at the end
+pub digit_before : (digits : List ℕ) (place rest all : ℕ) → 10 ≤ rest → rest < 2 ^ 64 → 1 ≤ place → place ≤ length digits → decimal rest ++ drop place digits ≡ decimal all →
+    decimal (rest / 10) ++ drop (place - 1) (set digits (place - 1) (48 + rest % 10)) ≡ decimal all
+digit_before digits place rest all h k one within e =
+    let at : place - 1 < length digits = omega arith in
+    let next : place - 1 + 1 ≡ place = omega arith in
+    rw (drop-set digits (place - 1) (48 + rest % 10) at, next)
+    (sym (append_assoc (decimal (rest / 10)) ((48 + rest % 10) ∷ []) (drop place digits)) ∙ ap (λ l. l ++ drop place digits) (sym (decimal_step rest h k)) ∙ e)
+
+-- the first digit is put in front of the others
+pub last_digit : (digits : List ℕ) (place rest all : ℕ) → rest < 10 → 1 ≤ place → place ≤ length digits → decimal rest ++ drop place digits ≡ decimal all →
+    drop (place - 1) (set digits (place - 1) (48 + rest)) ≡ decimal all
+last_digit digits place rest all h one within e =
+    let at : place - 1 < length digits = omega arith in
+    let next : place - 1 + 1 ≡ place = omega arith in
+    rw (drop-set digits (place - 1) (48 + rest) at, next) (ap (λ l. l ++ drop place digits) (sym (decimal_digit rest h)) ∙ e)

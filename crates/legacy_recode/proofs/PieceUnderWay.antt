@@ -1,5 +1,5 @@
 -- A piece under way.
-use Rattle.std.proofs.Common.{◌≡◌, ◌∙◌, ℕ, suc, ◌+◌, ◌-◌, ◌≤◌, ◌<◌, List, [], ◌∷◌, ◌++◌, length, drop, refl, ap, arith, append-nil, length-append, length-drop, map, Bool, Option}
+use Rattle.std.proofs.Common.{◌≡◌, ◌∙◌, ℕ, suc, ◌+◌, ◌-◌, ◌≤◌, ◌<◌, List, [], ◌∷◌, ◌++◌, length, take, drop, take-append-drop, refl, sym, ap, arith, append_assoc, append-nil, length-append, length-drop, map, Bool, Option}
 use Rattle.std.proofs.lemmas.List.{drop-drop}
 use Rattle.std.proofs.Math.ListN.{drop_of_length-le}
 use Rattle.std.specs.Io.KnownBytes.{Appends}
@@ -16,17 +16,19 @@ use Rattle.legacy_base.proofs.Shifts.{shift-append, shift-scalars}
 use Rattle.legacy_base.proofs.Progress.{stay, after_that}
 use Rattle.legacy_base.proofs.Rooms.{lacks_small}
 use Rattle.legacy_recode.specs.Lines.{event_lines}
-use Rattle.legacy_recode.specs.Recoding.{input_event, input_events, fault_events, RecodesPiece}
+use Rattle.legacy_recode.specs.Recoding.{input_event, input_events, fault_events, RecodesPiece, RecodesFront}
 use Rattle.legacy_recode.proofs.EventLines.{event_lines-append, event_lines-none}
 use Rattle.std.proofs.KnownBytes.{Appends-nil, Appends-trans}
 
--- So much of the piece was decoded, and the lines of its events were written.
-pub record IsUnderWay (before : DecoderState) (piece : List ℕ) (last : Bool) (total : ℕ) (now : DecoderState) (offset : ℕ) (old new : Option (List ℕ)) : Type 0 where
+-- So much of the piece was decoded. The lines of its events were written, but for those at the end that are pending.
+pub record IsUnderWay (before : DecoderState) (piece : List ℕ) (last : Bool) (total : ℕ) (now : DecoderState) (offset : ℕ) (pending : List ℕ) (old new : Option (List ℕ)) : Type 0 where
   pub within : offset ≤ length piece
   pub passed : ℕ
   pub events : List DecodeEvent
   pub progress : Progress last before piece passed now (drop offset piece) events
-  pub written : Appends old new (event_lines (input_events total (length before.held) events))
+  pub sent : List ℕ
+  pub written : Appends old new sent
+  pub lines : event_lines (input_events total (length before.held) events) ≡ sent ++ pending
 
 input_events-append : (t h : ℕ) (a b : List DecodeEvent) → input_events t h (a ++ b) ≡ input_events t h a ++ input_events t h b
 unfolding input_events
@@ -38,23 +40,52 @@ unfolding input_events
 input_events-scalars t h [] = refl
 input_events-scalars t h (c ∷ cs) = ap (λ (l : List DecodeEvent). Scalar c ∷ l) (input_events-scalars t h cs)
 
-pub piece_start : (before : DecoderState) (piece : List ℕ) (last : Bool) (total : ℕ) (old : Option (List ℕ)) → IsUnderWay before piece last total before 0 old old
+pub piece_start : (before : DecoderState) (piece : List ℕ) (last : Bool) (total : ℕ) (pending : List ℕ) (old : Option (List ℕ)) → pending ≡ [] → IsUnderWay before piece last total before 0 pending old old
 unfolding input_events
-piece_start before piece last total old = record {
+piece_start before piece last total pending old e = record {
   within = omega arith;
   passed = 0;
   events = [];
   progress = stay last before piece;
-  written = rw event_lines-none (Appends-nil old);
+  sent = [];
+  written = Appends-nil old;
+  lines = event_lines-none ∙ sym e;
+}
+
+-- a front of the pending lines was written
+pub piece_front : (before : DecoderState) (piece : List ℕ) (last : Bool) (total : ℕ) (now : DecoderState) (offset : ℕ) (pending : List ℕ) (old mid new : Option (List ℕ)) → IsUnderWay before piece last total now offset pending old mid →
+    (count : ℕ) → Appends mid new (take count pending) → RecodesFront before piece last total now old new
+piece_front before piece last total now offset pending old mid new u count w = record {
+  passed = u.passed;
+  left = drop offset piece;
+  events = u.events;
+  progress = u.progress;
+  sent = u.sent ++ take count pending;
+  unsent = drop count pending;
+  lines = u.lines ∙ ap (λ l. u.sent ++ l) (sym (take-append-drop count pending)) ∙ sym (append_assoc u.sent (take count pending) (drop count pending));
+  written = Appends-trans old mid new u.sent (take count pending) u.written w;
+}
+
+-- pending lines were written
+pub piece_sent : (before : DecoderState) (piece : List ℕ) (last : Bool) (total : ℕ) (now : DecoderState) (offset : ℕ) (pending kept : List ℕ) (old mid new : Option (List ℕ)) → IsUnderWay before piece last total now offset pending old mid →
+    (sent : List ℕ) → Appends mid new sent → pending ≡ sent ++ kept → IsUnderWay before piece last total now offset kept old new
+piece_sent before piece last total now offset pending kept old mid new u sent w e = record {
+  within = u.within;
+  passed = u.passed;
+  events = u.events;
+  progress = u.progress;
+  sent = u.sent ++ sent;
+  written = Appends-trans old mid new u.sent sent u.written w;
+  lines = u.lines ∙ ap (λ l. u.sent ++ l) e ∙ sym (append_assoc u.sent sent kept);
 }
 
 length-shift : (k : ℕ) (es : List DecodeEvent) → length (shift k es) ≡ length es
 length-shift k [] = refl
 length-shift k (e ∷ es) = ap suc (length-shift k es)
 
-module _ (before : DecoderState) (piece : List ℕ) (last : Bool) (total : ℕ) (now : DecoderState) (offset : ℕ) (old mid new : Option (List ℕ)) (u : IsUnderWay before piece last total now offset old mid)
+module _ (before : DecoderState) (piece : List ℕ) (last : Bool) (total : ℕ) (now : DecoderState) (offset : ℕ) (pending more : List ℕ) (old mid : Option (List ℕ)) (u : IsUnderWay before piece last total now offset pending old mid)
     (after : DecoderState) (answer : DecoderResult) (read : ℕ) (scalars : List ℕ) (c : DecoderCall Utf16 now (drop offset piece) last 256 after answer read scalars)
-    (w : Appends mid new (event_lines (map Scalar scalars ++ fault_events (total + offset + read) answer))) where
+    (w : more ≡ pending ++ event_lines (map Scalar scalars ++ fault_events (total + offset + read) answer)) where
   fault_is : (x : DecoderResult) → answer ≡ x → input_events total (length before.held) (shift u.passed (reported_events (length now.held + read) x)) ≡ fault_events (total + offset + read) x
   unfolding input_events
   fault_is InputEmpty e = refl
@@ -67,10 +98,11 @@ module _ (before : DecoderState) (piece : List ℕ) (last : Bool) (total : ℕ) 
       let p : total + (u.passed + (length now.held + read - b - a)) - length before.held ≡ total + offset + read - (a + b) = omega (arith, length-drop offset piece) in
       ap (λ n. Bad n a ∷ []) p
 
-  pub piece_step : IsUnderWay before piece last total after (offset + read) old new
+  pub piece_step : IsUnderWay before piece last total after (offset + read) more old mid
   piece_step =
       let h = length before.held in
       let d = drop-drop read offset piece in
+      let made : List DecodeEvent = map Scalar scalars ++ fault_events (total + offset + read) answer in
       let same : input_events total h (u.events ++ shift u.passed (map Scalar scalars ++ reported_events (length now.held + read) answer)) ≡ input_events total h u.events ++ (map Scalar scalars ++ fault_events (total + offset + read) answer) =
       input_events-append total h u.events (shift u.passed (map Scalar scalars ++ reported_events (length now.held + read) answer))
       ∙ ap (λ l. input_events total h u.events ++ l) (ap (input_events total h) (shift-append u.passed (map Scalar scalars) (reported_events (length now.held + read) answer) ∙ ap (λ l. l ++ shift u.passed (reported_events (length now.held + read) answer)) (shift-scalars u.passed scalars))
@@ -82,11 +114,14 @@ module _ (before : DecoderState) (piece : List ℕ) (last : Bool) (total : ℕ) 
         passed = u.passed + c.passed;
         events = u.events ++ shift u.passed (map Scalar scalars ++ reported_events (length now.held + read) answer);
         progress = rw (← d) (after_that last before piece u.passed now (drop offset piece) u.events c.passed after (drop read (drop offset piece)) (map Scalar scalars ++ reported_events (length now.held + read) answer) u.progress c.progress);
-        written = rw (same, event_lines-append) (Appends-trans old mid new (event_lines (input_events total h u.events)) (event_lines (map Scalar scalars ++ fault_events (total + offset + read) answer)) u.written w);
+        sent = u.sent;
+        written = u.written;
+        lines = ap event_lines same ∙ event_lines-append (input_events total h u.events) made ∙ ap (λ l. l ++ event_lines made) u.lines ∙ append_assoc u.sent pending (event_lines made) ∙ ap (λ l. u.sent ++ l) (sym w);
       }
 
-  pub piece_end : answer ≡ InputEmpty → RecodesPiece before piece last total after old new
-  piece_end e =
+  -- the piece is read, and all lines were written
+  pub piece_end : answer ≡ InputEmpty → (new : Option (List ℕ)) → Appends mid new more → RecodesPiece before piece last total after old new
+  piece_end e new v =
       let s = piece_step in
       let done = c.input_empty e in
       let none : drop (offset + read) piece ≡ [] = drop_of_length-le piece (let l = done.0 in omega (arith, length-drop offset piece)) in
@@ -94,7 +129,7 @@ module _ (before : DecoderState) (piece : List ℕ) (last : Bool) (total : ℕ) 
         passed = s.passed;
         events = s.events;
         progress = rw (← none) s.progress;
-        written = s.written;
+        written = rw s.lines (Appends-trans old mid new s.sent more s.written v);
         ended = λ l. done.2 l;
       }
 

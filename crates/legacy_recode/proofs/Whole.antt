@@ -1,5 +1,5 @@
 -- The recoding of a whole input under way.
-use Rattle.std.proofs.Common.{◌≡◌, ◌∙◌, ℕ, ◌+◌, ◌-◌, List, [], ◌∷◌, ◌++◌, length, refl, sym, ap, arith, append-nil, length-append, Bool, true, false, Option}
+use Rattle.std.proofs.Common.{◌≡◌, ◌∙◌, ℕ, ◌+◌, ◌-◌, List, [], ◌∷◌, ◌++◌, length, refl, sym, ap, arith, append-nil, length-append, Bool, true, false, IsTrue, Option, append_assoc}
 use Rattle.std.specs.Io.KnownBytes.{Appends, Consumes, IsAtEnd, Keeps}
 use Rattle.legacy_base.specs.declared.results.DecodeEvent.{DecodeEvent}
 use Rattle.legacy_base.specs.declared.results.DecodeEvent.TheVariants.{Scalar, Bad}
@@ -10,8 +10,8 @@ use Rattle.legacy_base.specs.Calls.{Progress}
 use Rattle.legacy_base.proofs.Progress.{stay, after_that, at_last, behind}
 use Rattle.legacy_recode.specs.Lines.{event_lines}
 use Rattle.legacy_codecs.specs.Runs.{placed}
-use Rattle.legacy_recode.specs.Recoding.{input_events, RecodesPiece, RecodesAll, RecodesBeginning}
-use Rattle.std.specs.Prelude.{Result, Ok, Err, OnOk}
+use Rattle.legacy_recode.specs.Recoding.{input_events, RecodesPiece, RecodesFront, RecodesAll, RecodesBeginning, RecodesPartly}
+use Rattle.std.specs.Prelude.{Result, Ok, Err, OnOk, OnErr}
 use Rattle.std.specs.Result.{is_err}
 use Rattle.legacy_codecs.proofs.Runs.{placed-append}
 use Rattle.std.proofs.KnownBytes.{Appends-nil, Appends-trans, Consumes-nil, Consumes-trans, Consumes-kept, Keeps-refl}
@@ -87,6 +87,32 @@ module _ (before : DecoderState) (total : ℕ) (now : DecoderState) (left_old le
         ended = p.ended refl;
       }
 
+  -- what stands where writing fails
+  pub whole_partly : (last : Bool) → (IsTrue last → IsAtEnd left) → RecodesFront now piece last total after mid new → RecodesPartly before after left_old left old new
+  whole_partly last at_end p =
+      let h = length before.held in
+      let k : w.passed + length now.held ≡ h + total = omega (arith, w.progress.counts, w.count) in
+      let first = event_lines (placed h w.events) in
+      let progress = after_that last before (w.bytes ++ piece) w.passed now piece w.events p.passed after p.left p.events
+      (at_last last before (w.bytes ++ piece) w.passed now piece w.events (behind before w.bytes w.passed now [] w.events piece w.progress)) p.progress in
+      record {
+        bytes = w.bytes ++ piece;
+        read = Consumes-trans left_old left_mid left w.bytes piece w.read r;
+        last = last;
+        at_end = at_end;
+        passed = w.passed + p.passed;
+        left = p.left;
+        events = w.events ++ shift w.passed p.events;
+        progress = progress;
+        sent = first ++ p.sent;
+        unsent = p.unsent;
+        lines =
+            ap event_lines (placed-append h w.events (shift w.passed p.events) ∙ ap (λ l. placed h w.events ++ l) (placed-shift h w.passed total (length now.held) p.events k)) ∙ event_lines-append (placed h w.events) (input_events total (length now.held) p.events)
+            ∙ ap (λ l. first ++ l) p.lines ∙ sym (append_assoc first p.sent p.unsent);
+        written = Appends-trans old mid new first p.sent w.written p.written;
+        beginning = λ more e. (shift (w.passed + p.passed) (events_of after.grammar (after.held ++ (p.left ++ more))), progress.events more e);
+      }
+
 -- what stands where reading fails
 pub whole_beginning : (before : DecoderState) (total : ℕ) (now : DecoderState) (left_old left_mid left old new : Option (List ℕ)) → Whole before total now left_old left_mid old new → Keeps left_mid left → RecodesBeginning before now left_old left old new
 whole_beginning before total now left_old left_mid left old new w k = record {
@@ -105,3 +131,7 @@ whole_beginning_here before total now left_old left old new w = whole_beginning 
 pub ok_part : {A E : Type 0} (r : Result A E) (P : Type 0) → is_err r ≡ false → OnOk r P → P
 ok_part (Ok x) P e h = h
 ok_part (Err x) P e h = cc
+
+pub err_part : {A E : Type 0} (r : Result A E) (P : Type 0) → is_err r ≡ true → OnErr r P → P
+err_part (Ok x) P e h = cc
+err_part (Err x) P e h = h
