@@ -2,9 +2,10 @@
 use Rattle.std.specs.Prelude.{◌≡◌, ℕ, ◌+◌, ◌-◌, List, [], ◌∷◌, ◌++◌, length, Bool, false, IsTrue, Option}
 use Rattle.std.specs.Io.KnownBytes.{Appends, Consumes, IsAtEnd}
 use Rattle.legacy_base.specs.declared.results.DecodeEvent.{DecodeEvent}
-use Rattle.legacy_base.specs.declared.results.DecodeEvent.TheVariants.{Scalar, Bad}
+use Rattle.legacy_base.specs.declared.results.DecodeEvent.TheVariants.{Bad}
 use Rattle.legacy_base.specs.declared.results.DecoderResult.{DecoderResult}
 use Rattle.legacy_base.specs.declared.results.DecoderResult.TheVariants.{InputEmpty, OutputFull, Malformed}
+use Rattle.legacy_base.specs.Events.{shift}
 use Rattle.legacy_base.specs.Grammar.{events_of}
 use Rattle.legacy_base.specs.States.{DecoderState}
 use Rattle.legacy_base.specs.Calls.{Progress}
@@ -13,16 +14,10 @@ use Rattle.legacy_recode.specs.Lines.{event_lines}
 
 -- ---- one piece of the input
 
--- An event of what is held back and a piece, its place counted in the whole input: `total` bytes of it stand before the
--- piece, and the last of them are those held back. A place before the input is 0.
-abbrev pub input_event : ℕ → ℕ → DecodeEvent → DecodeEvent
-input_event total held (Scalar c) = Scalar c
-input_event total held (Bad place length) = Bad (total + place - held) length
-
--- the same of each event of a list
+-- The events of what is held back and a piece, with the places that they have in the whole input: `total` bytes of it
+-- stand before the piece, and the last of them are those held back. A place before the input is 0.
 unfoldable pub input_events : ℕ → ℕ → List DecodeEvent → List DecodeEvent
-input_events total held [] = []
-input_events total held (event ∷ events) = input_event total held event ∷ input_events total held events
+input_events total held events = placed held (shift total events)
 
 -- the malformed sequence that a call reports, where so many bytes of the input were read
 abbrev pub fault_events : ℕ → DecoderResult → List DecodeEvent

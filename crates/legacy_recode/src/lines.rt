@@ -69,8 +69,7 @@ impl LineBuffer {
 
     /// No lines.
     pub fn new() -> LineBuffer
-        ensures text { line_bytes result ≡ [] }
-        ensures room { line_room result ≡ CAPACITY }
+        ensures { line_bytes result ≡ [] }
     {
         LineBuffer {
             bytes: [0; CAPACITY],

@@ -39,16 +39,16 @@ fn push_events(lines: &mut LineBuffer, scalars: &[char], answer: DecoderResult, 
 }
 
 /// Makes one call of the decoder on the `unread` bytes, and puts the lines of its events behind the others. `total` bytes
-/// of the input stand before them. Answers what the call answered. What `scalars` holds is lost.
+/// of the input stand before them. Answers what the call answered. What `batch` holds is lost.
 fn recode_call<D: RawDecoder>(
     decoder: &mut D,
     unread: &[u8],
     last: bool,
     total: usize,
-    scalars: &mut [char],
+    batch: &mut [char],
     lines: &mut LineBuffer,
 ) -> (DecoderResult, usize)
-    requires batch { BATCH ≤ length scalars.old }
+    requires batch { BATCH ≤ length batch.old }
     requires room { CALL_LINES ≤ line_room lines.old }
     requires total { total + length unread.now < 2 ^ 64 }
     ensures { (given : List ℕ)
@@ -58,45 +58,43 @@ fn recode_call<D: RawDecoder>(
         ++ event_lines (map DecodeEvent.Scalar given
         ++ fault_events (total + result.1) result.0)) }
 {
-    let mut kept = ScalarBuffer::<Utf16Form>::new(scalars, BATCH);
+    let mut kept = ScalarBuffer::<Utf16Form>::new(batch, BATCH);
     let (answer, read) = decoder.step(unread, &mut kept, last);
     push_events(lines, kept.scalars(), answer, total + read);
     (answer, read)
 }
 
 /// Decodes a whole piece, and writes the lines of its events. `total` bytes of the input stand before it. An error is
-/// the writer's. What `scalars` holds is lost, and `lines` holds no line at either end.
+/// the writer's. What `batch` holds is lost, and `lines` holds no line at either end.
 fn recode_piece<D: RawDecoder, W: Write>(
     decoder: &mut D,
     piece: &[u8],
     last: bool,
     total: usize,
-    scalars: &mut [char],
+    batch: &mut [char],
     lines: &mut LineBuffer,
     output: &mut W,
 ) -> io::Result<()>
-    requires batch { BATCH ≤ length scalars.old }
+    requires batch { BATCH ≤ length batch.old }
     requires empty { line_bytes lines.old ≡ [] }
-    requires room { CALL_LINES ≤ line_room lines.old }
     requires total { total + length piece.now < 2 ^ 64 }
     ensures piece { OnOk result (RecodesPiece
         (D.state decoder.old) piece.now last total (D.state decoder.new)
         (W.contents output.old) (W.contents output.new)) }
     ensures empty { OnOk result (line_bytes lines.new ≡ []) }
-    ensures room { OnOk result (CALL_LINES ≤ line_room lines.new) }
     ensures err { OnErr result (RecodesFront
         (D.state decoder.old) piece.now last total (D.state decoder.new)
         (W.contents output.old) (W.contents output.new)) }
 {
     let mut offset: usize = 0;
     'calls: loop {
+        lines.make_room(output)?;
         let unread = rest_of(piece, offset);
-        let (answer, read) = recode_call(decoder, unread, last, total + offset, scalars, lines);
+        let (answer, read) = recode_call(decoder, unread, last, total + offset, batch, lines);
         offset += read;
         if let DecoderResult::InputEmpty = answer {
             return lines.write_to(output);
         }
-        lines.make_room(output)?;
     }
 }
 
@@ -128,7 +126,7 @@ pub fn recode<D: RawDecoder, R: Read, W: Write>(
         (W.contents output.old) (W.contents output.new) }
 {
     let mut buffer = [0u8; PIECE];
-    let mut scalars = ['\0'; BATCH];
+    let mut batch = ['\0'; BATCH];
     let mut lines = LineBuffer::new();
     let mut total: usize = 0;
     'pieces: loop {
@@ -137,19 +135,10 @@ pub fn recode<D: RawDecoder, R: Read, W: Write>(
         };
         let last = count == 0;
         let piece = &buffer[..count];
-        if recode_piece(
-            decoder,
-            piece,
-            last,
-            total,
-            &mut scalars,
-            &mut lines,
-            output,
-        )
-        .is_err()
-        {
+        let Ok(()) = recode_piece(decoder, piece, last, total, &mut batch, &mut lines, output)
+        else {
             return Err(RecodeError::Write);
-        }
+        };
         if last {
             return Ok(());
         }

@@ -3,47 +3,41 @@ use Rattle.legacy_recode.proofs.PieceUnderWay.{piece_start, piece_step, piece_se
 use Rattle.legacy_recode.proofs.recode.recode_piece.Goals as goal
 
 pub calls-init : goal.calls-init
-calls-init g c = record { way = piece_start _ c.args.piece.now c.args.last c.args.total _ _ c.requires.empty; room = c.requires.room }
-
-pub returns-in-InputEmpty-clause-piece : goal.returns-in-InputEmpty-clause-piece
-returns-in-InputEmpty-clause-piece g c =
-    let call = c.recode_call-answer.ensures in
-    let one = rw c.rest_of-unread.ensures at call.1 in
-    on_ok_weaker c.write_to.result
-    (λ w. piece_end _ _ _ _ _ _ _ _ _ _ c.calls.invariant.way _ _ _ call.0 one call.2 c.in-InputEmpty.is _ w)
-    c.write_to.ensures.written
-
-pub calls-preserved : goal.calls-preserved
-calls-preserved g c =
-    let call = c.recode_call-answer.ensures in
-    let one = rw c.rest_of-unread.ensures at call.1 in
-    let sent = c.in_ok-make_room.ensures.written in
-    let step = piece_step _ _ _ _ _ _ _ _ _ _ c.calls.invariant.way _ _ _ call.0 one call.2 in
-    record {
-      way = piece_sent _ _ _ _ _ _ _ _ _ _ _ step sent.0 sent.1 sent.2;
-      room = c.in_ok-make_room.ensures.room;
-    }
-
-pub calls-smaller : goal.calls-smaller
-calls-smaller g c =
-    let call = c.recode_call-answer.ensures in
-    let one = rw c.rest_of-unread.ensures at call.1 in
-    piece_less _ _ _ _ _ _ _ _ _ _ c.calls.invariant.way _ _ _ call.0 one call.2 c.in_default.not-InputEmpty
-
-pub returns-in-InputEmpty-clause-err : goal.returns-in-InputEmpty-clause-err
-returns-in-InputEmpty-clause-err g c =
-    let call = c.recode_call-answer.ensures in
-    let one = rw c.rest_of-unread.ensures at call.1 in
-    let step = piece_step _ _ _ _ _ _ _ _ _ _ c.calls.invariant.way _ _ _ call.0 one call.2 in
-    on_err_weaker c.write_to.result
-    (λ w. piece_front _ _ _ _ _ _ _ _ _ _ step w.0 w.1)
-    c.write_to.ensures.err
+calls-init g c = piece_start _ c.args.piece.now c.args.last c.args.total _ _ c.requires.empty
 
 pub returns-in_err-make_room-clause-err : goal.returns-in_err-make_room-clause-err
 returns-in_err-make_room-clause-err g c =
+    let w = c.in_err-make_room.ensures.err in
+    rw (err_from_is_err_and c.from_residual.result c.from_residual.ensures.1).1 (piece_front c.calls.invariant w.0 w.1)
+
+pub returns-in-InputEmpty-clause-piece : goal.returns-in-InputEmpty-clause-piece
+returns-in-InputEmpty-clause-piece g c =
+    let sent = c.in_ok-make_room.ensures.written in
     let call = c.recode_call-answer.ensures in
     let one = rw c.rest_of-unread.ensures at call.1 in
-    let step = piece_step _ _ _ _ _ _ _ _ _ _ c.calls.invariant.way _ _ _ call.0 one call.2 in
-    let w = c.in_err-make_room.ensures.err in
-    let p = err_from_is_err_and c.from_residual.result c.from_residual.ensures.1 in
-    rw p.1 (piece_front _ _ _ _ _ _ _ _ _ _ step w.0 w.1)
+    on_ok_weaker c.write_to.result
+    (λ w. piece_end (piece_sent c.calls.invariant sent.0 sent.1 sent.2) one call.2 c.in-InputEmpty.is w)
+    c.write_to.ensures.written
+
+pub returns-in-InputEmpty-clause-err : goal.returns-in-InputEmpty-clause-err
+returns-in-InputEmpty-clause-err g c =
+    let sent = c.in_ok-make_room.ensures.written in
+    let call = c.recode_call-answer.ensures in
+    let one = rw c.rest_of-unread.ensures at call.1 in
+    on_err_weaker c.write_to.result
+    (λ w. piece_front (piece_step (piece_sent c.calls.invariant sent.0 sent.1 sent.2) one call.2) w.0 w.1)
+    c.write_to.ensures.err
+
+pub calls-preserved : goal.calls-preserved
+calls-preserved g c =
+    let sent = c.in_ok-make_room.ensures.written in
+    let call = c.recode_call-answer.ensures in
+    let one = rw c.rest_of-unread.ensures at call.1 in
+    piece_step (piece_sent c.calls.invariant sent.0 sent.1 sent.2) one call.2
+
+pub calls-smaller : goal.calls-smaller
+calls-smaller g c =
+    let sent = c.in_ok-make_room.ensures.written in
+    let call = c.recode_call-answer.ensures in
+    let one = rw c.rest_of-unread.ensures at call.1 in
+    piece_less (piece_sent c.calls.invariant sent.0 sent.1 sent.2) one call.2 c.in_default.not-InputEmpty
