@@ -10,7 +10,8 @@ use Rattle.legacy_recode.specs.IndexTexts.{is_index, no_text, with_text, text_gi
 use Rattle.legacy_recode.specs.GivenIndexes.{HoldsTexts}
 
 -- no INDEX and FILE
-pub few_words : (tables : GivenIndexes) (words : List (Bor (List ℕ))) (files : List (Option (Bor (List ℕ)))) → length words < 2 → HoldsTexts no_text tables → HoldsTexts (text_given (texts_of words) (contents_of files)) tables
+pub few_words : (tables : GivenIndexes) (words : List (Bor (List ℕ))) (files : List (Option (Bor (List ℕ)))) → length words < 2
+    → HoldsTexts no_text tables → HoldsTexts (text_given (texts_of words) (contents_of files)) tables
 few_words tables [] files h k = k
 few_words tables (w ∷ []) files h k = k
 few_words tables (v ∷ w ∷ words) files h k = absurd (omega arith)

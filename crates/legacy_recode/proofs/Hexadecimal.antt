@@ -41,7 +41,8 @@ digits_5 n l h =
     ∙ next_digit 60 (n / 16 / 16 / 16) (glyph (n / 16 / 16) ∷ glyph (n / 16) ∷ glyph n ∷ []) (λ e. omega arith)
     ∙ last_digit 59 (n / 16 / 16 / 16 / 16) (glyph (n / 16 / 16 / 16) ∷ glyph (n / 16 / 16) ∷ glyph (n / 16) ∷ glyph n ∷ []) (omega arith)
 
-digits_6 : (n : ℕ) → 0x10_0000 ≤ n → n < 0x100_0000 → digits 16 true n ≡ glyph (n / 16 / 16 / 16 / 16 / 16) ∷ glyph (n / 16 / 16 / 16 / 16) ∷ glyph (n / 16 / 16 / 16) ∷ glyph (n / 16 / 16) ∷ glyph (n / 16) ∷ glyph n ∷ []
+digits_6 : (n : ℕ) → 0x10_0000 ≤ n → n < 0x100_0000
+    → digits 16 true n ≡ glyph (n / 16 / 16 / 16 / 16 / 16) ∷ glyph (n / 16 / 16 / 16 / 16) ∷ glyph (n / 16 / 16 / 16) ∷ glyph (n / 16 / 16) ∷ glyph (n / 16) ∷ glyph n ∷ []
 unfolding digits
 digits_6 n l h =
     next_digit 63 n [] (λ e. omega arith) ∙ next_digit 62 (n / 16) (glyph n ∷ []) (λ e. omega arith) ∙ next_digit 61 (n / 16 / 16) (glyph (n / 16) ∷ glyph n ∷ []) (λ e. omega arith)

@@ -48,6 +48,7 @@ fn hex_digit_of(number: u32) -> u8
 }
 
 /// Puts the digits of the number at the end of the array, and answers the place of the first.
+#[tactic(auto, using(crate::proofs::EventLines::decimal_lengths))]
 fn put_digits(digits: &mut [u8; DIGITS], number: usize) -> usize
     ensures place { result ≤ DIGITS }
     ensures digits { drop result digits.new ≡ decimal number }
@@ -128,6 +129,7 @@ impl LineBuffer {
     }
 
     /// Puts the digits of the number behind the other bytes.
+    #[tactic(auto, using(crate::proofs::EventLines::decimal_lengths))]
     fn push_decimal(&mut self, number: usize)
         requires { length (decimal number) ≤ line_room self.old }
         ensures text { line_bytes self.new ≡ line_bytes self.old ++ decimal number }
@@ -177,6 +179,7 @@ impl LineBuffer {
     }
 
     /// Puts the line of a malformed sequence behind the others.
+    #[tactic(auto, using(crate::proofs::EventLines::decimal_lengths))]
     pub fn push_bad(&mut self, place: usize, length_in_bytes: usize)
         requires { BAD_LINE ≤ line_room self.old }
         ensures text { line_bytes self.new ≡ line_bytes self.old

@@ -13,12 +13,6 @@ digits-init c =
       digits = ap (λ l. decimal c.args.number ++ l) none ∙ append-nil (decimal c.args.number);
     }
 
-pub overflow_sub-place : goal.overflow_sub-place
-overflow_sub-place c = omega (arith, length-decimal_more c.digits.rest c.digits-test.true (omega arith))
-
-pub overflow_sub-place-2 : goal.overflow_sub-place-2
-overflow_sub-place-2 c = omega (arith, length-decimal_digit c.digits.rest c.digits-test.false)
-
 pub digits-preserved : goal.digits-preserved
 digits-preserved c =
     let i = c.digits.invariant in
@@ -26,10 +20,11 @@ digits-preserved c =
     record {
       place = omega arith;
       room = omega (arith, more);
-      digits = digit_before c.digits.digits c.digits.place c.digits.rest c.args.number c.digits-test.true (omega arith) (omega (arith, more)) (omega arith) i.digits;
+      digits = digit_before c.digits.digits c.digits.place c.digits.rest c.args.number c.digits-test.true
+          (omega arith) (omega (arith, more)) (omega arith) i.digits;
     }
 
 pub returns-clause-digits : goal.returns-clause-digits
 returns-clause-digits c =
-    let i = c.digits.invariant in
-    last_digit c.digits.digits c.digits.place c.digits.rest c.args.number c.digits-test.false (omega (arith, length-decimal_digit c.digits.rest c.digits-test.false)) (omega arith) i.digits
+    let one = length-decimal_digit c.digits.rest c.digits-test.false in
+    last_digit c.digits.digits c.digits.place c.digits.rest c.args.number c.digits-test.false (omega (arith, one)) (omega arith) c.digits.invariant.digits
