@@ -62,21 +62,24 @@ module _ {before now : DecoderState} {total : ℕ} {left_old left_mid old mid : 
       ap event_lines (placed-append h w.events (shift w.passed events) ∙ ap (λ l. placed h w.events ++ l) (placed-shift h w.passed total (length now.held) events k))
       ∙ event_lines-append (placed h w.events) (input_events total (length now.held) events)
 
-  pub whole_step : (piece : List ℕ) {after : DecoderState} {left new : Option (List ℕ)} → Consumes left_mid left piece
-      → RecodesPiece now piece false total after mid new → Whole before (total + length piece) after left_old left old new
-  whole_step piece r p = record {
-    bytes = w.bytes ++ piece;
-    count = length-append w.bytes piece ∙ ap (λ n. n + length piece) w.count;
-    read = Consumes-trans _ _ _ _ _ w.read r;
-    passed = w.passed + p.passed;
-    events = w.events ++ shift w.passed p.events;
-    progress = joined_progress false piece p.progress;
-    written = rw (joined_lines p.events) (Appends-trans _ _ _ _ _ w.written p.written);
-  }
+  pub whole_step : (piece : List ℕ) {last : Bool} {after : DecoderState} {left new : Option (List ℕ)} → Consumes left_mid left piece → last ≡ false
+      → RecodesPiece now piece last total after mid new → Whole before (total + length piece) after left_old left old new
+  whole_step piece r e given =
+      let p = rw e at given in
+      record {
+        bytes = w.bytes ++ piece;
+        count = length-append w.bytes piece ∙ ap (λ n. n + length piece) w.count;
+        read = Consumes-trans _ _ _ _ _ w.read r;
+        passed = w.passed + p.passed;
+        events = w.events ++ shift w.passed p.events;
+        progress = joined_progress false piece p.progress;
+        written = rw (joined_lines p.events) (Appends-trans _ _ _ _ _ w.written p.written);
+      }
 
-  pub whole_end : (piece : List ℕ) {after : DecoderState} {left new : Option (List ℕ)} → Consumes left_mid left piece → IsAtEnd left
-      → RecodesPiece now piece true total after mid new → RecodesAll before after left_old left old new
-  whole_end piece {after} r at_end p =
+  pub whole_end : (piece : List ℕ) {last : Bool} {after : DecoderState} {left new : Option (List ℕ)} → Consumes left_mid left piece → IsAtEnd left
+      → last ≡ true → RecodesPiece now piece last total after mid new → RecodesAll before after left_old left old new
+  whole_end piece {last} {after} r at_end is_last given =
+      let p = rw is_last at given in
       let all = w.events ++ shift w.passed p.events in
       let e : events_of before.grammar (before.held ++ (w.bytes ++ piece)) ≡ all =
       ap (λ l. events_of before.grammar (before.held ++ l)) (sym (append-nil (w.bytes ++ piece))) ∙ (joined_progress true piece p.progress).events [] (λ _. refl)

@@ -103,8 +103,8 @@ fn recode_piece<D: RawDecoder, W: Write>(
 /// one that lies before it, in bytes that the decoder held back, is 0.
 ///
 /// The input is read in pieces of up to 4096 bytes, and the lines of a piece are written before the next one is read.
-/// An empty read is the end. Lines that were written before an error stand, and the decoder stands behind the bytes
-/// that were decoded.
+/// An empty read is the end. What was written before an error stands, and after a failed write it may end inside a line.
+/// The decoder stands behind the bytes that were decoded.
 pub fn recode<D: RawDecoder, R: Read, W: Write>(
     decoder: &mut D,
     input: &mut R,

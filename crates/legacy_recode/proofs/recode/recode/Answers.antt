@@ -12,17 +12,15 @@ returns-in_default-clause-read g c e = whole_beginning c.pieces.invariant.whole 
 pub returns-then-last-clause-ok : goal.returns-then-last-clause-ok
 returns-then-last-clause-ok g c =
     let read = c.in-Some.ensures.bytes in
-    let last = rw (eq-eqb c.in-Some.count 0 c.if-last.true) at c.in-Ok.ensures.piece in
-    whole_end c.pieces.invariant.whole _ read.0 (read.1 c.if-last.true) last
+    whole_end c.pieces.invariant.whole _ read.0 (read.1 c.if-last.true) (eq-eqb c.in-Some.count 0 c.if-last.true) c.in-Ok.ensures.piece
 
 pub pieces-preserved : goal.pieces-preserved
 pieces-preserved g c =
     let count = c.in-Some.count in
     let within = c.in-Some.ensures.count in
-    let more = rw (ne_eqb count 0 c.if-last.false) at c.in-Ok.ensures.piece in
     let long : length (take count c.read_piece.new.buffer) ≡ count = simp length-take (omega (arith, within)) in
     record {
-      whole = rw (← long) (whole_step c.pieces.invariant.whole _ c.in-Some.ensures.bytes.0 more);
+      whole = rw (← long) (whole_step c.pieces.invariant.whole _ c.in-Some.ensures.bytes.0 (ne_eqb count 0 c.if-last.false) c.in-Ok.ensures.piece);
       small = within.1;
       empty = c.in-Ok.ensures.empty;
     }
