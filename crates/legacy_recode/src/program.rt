@@ -44,8 +44,10 @@ fn recode_from<D: RawDecoder + Drop, R: Read, W: Write>(
     input: &mut R,
     output: &mut W,
 ) -> Result<(), RecodeError>
-    ensures { (grammar : Grammar) → D.state decoder ≡ new_state grammar → OnOk result (RecodesInput grammar
-        (R.remaining input.old) (R.remaining input.new) (W.contents output.old) (W.contents output.new)) }
+    ensures { (grammar : Grammar) → D.state decoder ≡ new_state grammar
+        → OnOk result (RecodesInput grammar
+        (R.remaining input.old) (R.remaining input.new)
+        (W.contents output.old) (W.contents output.new)) }
 {
     recode(&mut decoder, input, output)
 }
@@ -59,7 +61,8 @@ fn recode_by<R: Read, W: Write>(
     output: &mut W,
 ) -> Result<(), RecodeError>
     ensures { OnOk result (RecodesInput (grammar_of codec tables.now.flat single_byte.now.entries)
-        (R.remaining input.old) (R.remaining input.new) (W.contents output.old) (W.contents output.new)) }
+        (R.remaining input.old) (R.remaining input.new)
+        (W.contents output.old) (W.contents output.new)) }
 {
     match codec {
         Codec::UserDefined => recode_from(UserDefinedDecoder::new(), input, output),
@@ -85,7 +88,8 @@ fn recode_and_flush<R: Read, W: Write>(
     output: &mut W,
 ) -> Result<(), RecodeError>
     ensures { OnOk result (RecodesInput (grammar_of codec tables.now.flat single_byte.now.entries)
-        (R.remaining input.old) (R.remaining input.new) (W.contents output.old) (W.contents output.new)) }
+        (R.remaining input.old) (R.remaining input.new)
+        (W.contents output.old) (W.contents output.new)) }
 {
     let recoded = recode_by(codec, tables, single_byte, input, output);
     let flushed = output.flush();
@@ -104,7 +108,8 @@ fn recode_with<'a, R: Read, W: Write>(
     output: &mut W,
 ) -> Result<(), Fault<'a>>
     ensures { OnOk result (RecodesByTables codec indexes.now
-        (R.remaining input.old) (R.remaining input.new) (W.contents output.old) (W.contents output.new)) }
+        (R.remaining input.old) (R.remaining input.new)
+        (W.contents output.old) (W.contents output.new)) }
 {
     let tables = match Tables::new(&Indexes {
         big5: &indexes.big5,
@@ -138,8 +143,10 @@ fn recode_by_words<'a, R: Read, W: Write>(
     output: &mut W,
 ) -> Result<(), Fault<'a>>
     requires { IsTrue (are_indexes (texts_of indexes.now)) }
-    ensures { OnOk result (RecodesByTexts codec (text_given (texts_of indexes.now) (contents_of files.now))
-        (R.remaining input.old) (R.remaining input.new) (W.contents output.old) (W.contents output.new)) }
+    ensures { OnOk result (RecodesByTexts codec
+        (text_given (texts_of indexes.now) (contents_of files.now))
+        (R.remaining input.old) (R.remaining input.new)
+        (W.contents output.old) (W.contents output.new)) }
 {
     let indexes = read_files(alloc, indexes, files)?;
     recode_with(codec, &indexes, input, output)
@@ -170,7 +177,8 @@ pub fn run<R: Read, W: Write, E: Write>(
     ensures usage { (result ≡ 2) ↔ (codec_of_words (texts_of words.now) ≡ None) }
     ensures unread { result ≡ 2 → (input.new ≡ input.old) × (output.new ≡ output.old) }
     ensures recoded { result ≡ 0 → RecodesByWords (texts_of words.now) (contents_of files.now)
-        (R.remaining input.old) (R.remaining input.new) (W.contents output.old) (W.contents output.new) }
+        (R.remaining input.old) (R.remaining input.new)
+        (W.contents output.old) (W.contents output.new) }
     ensures silent { result ≡ 0 → errors.new ≡ errors.old }
 {
     let Some(codec) = codec_in(words) else {

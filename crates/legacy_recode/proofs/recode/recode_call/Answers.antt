@@ -1,10 +1,8 @@
-use Rattle.std.proofs.Common.{◌∙◌, ◌+◌, length, ap, arith}
+use Rattle.std.proofs.Common.{◌∙◌, length, ap, arith}
 use Rattle.legacy_base.specs.EncodingForm.{Utf16, all_code_units}
 use Rattle.legacy_base.proofs.SameUnits.{length-le-all_code_units}
 use Rattle.legacy_codecs.specs.Scalars.{kept_scalars}
 use Rattle.legacy_codecs.proofs.KeptAsWritten.{kept_is}
-use Rattle.legacy_recode.specs.Recoding.{fault_events}
-use Rattle.legacy_recode.proofs.EventLines.{lines_of_call}
 use Rattle.legacy_recode.proofs.recode.recode_call.Goals as goal
 
 pub push_events-requires : goal.push_events-requires
@@ -15,6 +13,7 @@ push_events-requires g c =
     let l = length-le-all_code_units Utf16 call.0 in
     let f = call.1.fits in
     let r = c.new-kept.ensures.free in
+    let room = c.requires.room in
     omega arith
 
 pub returns : goal.returns
@@ -22,5 +21,4 @@ returns g c =
     let call = c.step-answer.ensures.call in
     let same = kept_is Utf16 c.scalars.result.now call.0 (kept_scalars c.new-kept.result) c.new-kept.ensures.kept c.scalars.ensures.scalar call.1.scalar
     (ap (all_code_units Utf16) c.scalars.ensures.value ∙ call.2) in
-    let e = lines_of_call _ _ _ c.scalars.result.now call.0 (fault_events (c.args.total + c.step-answer.result.1) c.step-answer.result.0) c.bytes.ensures c.push_events.ensures c.new-lines.ensures.text same in
-    (call.0, rw c.new-kept.ensures.free at call.1, rw (← e) c.in_ok-write_all.ensures.bytes)
+    (call.0, rw c.new-kept.ensures.free at call.1, rw same at c.push_events.ensures)
