@@ -16,7 +16,7 @@ use Rattle.legacy_base.specs.Calls.{Progress, DecoderCall, reported_events, out_
 use Rattle.legacy_base.proofs.Shifts.{shift-append, shift-scalars}
 use Rattle.legacy_base.proofs.Progress.{stay, after_that}
 use Rattle.legacy_base.proofs.Rooms.{lacks_small}
-use Rattle.legacy_codecs.proofs.Runs.{placed-append, placed-scalars}
+use Rattle.legacy_codecs.proofs.RunEvents.{placed-append, placed-scalars}
 use Rattle.legacy_codecs.specs.Runs.{placed}
 use Rattle.legacy_recode.specs.Lines.{event_lines}
 use Rattle.legacy_recode.specs.Recoding.{input_events, fault_events, RecodesPiece, RecodesFront}
