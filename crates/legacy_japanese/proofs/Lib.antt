@@ -5,7 +5,6 @@ pub mod EucJpShown
 pub mod EucJpHeld
 pub mod Iso2022JpLaw
 pub mod Iso2022JpStep
-pub mod Iso2022JpEnd
 pub mod Iso2022JpHeld
 pub mod Iso2022JpRooms
 pub mod Iso2022JpEnding
@@ -13,7 +12,6 @@ pub mod Iso2022JpEntries
 pub mod Iso2022JpEscapes
 pub mod Iso2022JpFeeding
 pub mod Iso2022JpRuns
-pub mod Iso2022JpStates
 pub mod Jis0208Places
 pub mod ShiftJisPlaces
 pub mod ShiftJisRuns
