@@ -9,9 +9,9 @@ use Rattle.legacy_base.specs.Grammar.{iso_2022_jp, events_of}
 use Rattle.legacy_base.specs.Lengths.{LengthQuery, query_form}
 use Rattle.legacy_decoder_engine.specs.Moves.{fed_scalars, fed_fault, fed_units, unread_byte, FedHolds, Feeds}
 use Rattle.legacy_japanese.specs.declared.iso_2022_jp.steps.{Mode.Mode, Held.Held, Action.Action, Outcome.Outcome}
-use Rattle.legacy_japanese.specs.declared.iso_2022_jp.steps.Action.TheVariants.{Holds, Writes, Reports, Leaves}
+use Rattle.legacy_japanese.specs.declared.iso_2022_jp.steps.Action.TheVariants.{Holds, Writes, Leaves}
 use Rattle.legacy_japanese.specs.Iso2022JpMachine.{mode_meaning, bytes_of, is_held, read}
-use Rattle.legacy_japanese.specs.Iso2022JpMoves.{state_in, is_left, move_events, rooms_of, fed_by, fed_of, weight_of, IsNarrow}
+use Rattle.legacy_japanese.specs.Iso2022JpMoves.{state_in, is_left, move_events, rooms_of, fed_by, fed_of, IsNarrow}
 use Rattle.legacy_japanese.proofs.Iso2022JpLaw.{HasSizes, RestsAfter, done}
 use Rattle.legacy_japanese.proofs.Iso2022JpStep.{IsStep, read_step}
 use Rattle.legacy_japanese.proofs.Iso2022JpHeld.{held_allowed, held_rests}

@@ -4,8 +4,7 @@ use Rattle.std.specs.Prelude.{◌==◌}
 use Rattle.std.proofs.lemmas.Bool.{or_right}
 use Rattle.legacy_base.specs.{Grammar.iso_2022_jp, Iso2022Jp.esc, Lengths.weight}
 use Rattle.legacy_base.specs.States.{is_escape_start, is_two_byte_mode, may_hold, rests}
-use Rattle.legacy_japanese.specs.declared.iso_2022_jp.steps.{Mode.Mode, Mode.TheVariants.TwoByte, Start.Start, Held.Held}
-use Rattle.legacy_japanese.specs.declared.iso_2022_jp.steps.Start.TheVariants.{Nothing, EscapeByte, Dollar, Paren}
+use Rattle.legacy_japanese.specs.declared.iso_2022_jp.steps.{Mode.Mode, Mode.TheVariants.TwoByte, Start.Start, Start.TheVariants.Nothing, Start.TheVariants.EscapeByte, Held.Held}
 use Rattle.legacy_japanese.specs.declared.iso_2022_jp.steps.Held.TheVariants.{Byte, Begun, Whole}
 use Rattle.legacy_japanese.specs.Iso2022JpMachine.{mode_meaning, bytes_of, finish, is_held, is_resting, mode_of, start_bytes}
 use Rattle.legacy_japanese.specs.Iso2022JpMoves.{weight_of}

@@ -1,7 +1,7 @@
 -- Each step of the machine meets its law, and leaves what may be held back.
-use Rattle.std.proofs.Common.{◌≡◌, ℕ, suc, ◌+◌, ◌-◌, ◌*◌, ◌≤◌, Bool, true, false, cond, leb, Option, Some, None, List, [], ◌∷◌, ◌++◌, length, drop, refl, sym, ap, ◌∙◌, append_assoc, length-append, arith, lit≤}
-use Rattle.std.specs.Prelude.{◌==◌, ◌||◌, not, if◌then◌else◌, option_to_list}
-use Rattle.std.specs.{Int.is_in_range, Char.is_ascii}
+use Rattle.std.proofs.Common.{◌≡◌, ℕ, suc, ◌+◌, ◌-◌, ◌*◌, ◌≤◌, Bool, true, false, cond, leb, Option, Some, None, List, [], ◌∷◌, ◌++◌, length, refl, sym, ap, ◌∙◌, append_assoc, length-append, arith, lit≤}
+use Rattle.std.specs.Prelude.{◌==◌, if◌then◌else◌, option_to_list}
+use Rattle.std.specs.Int.{is_in_range}
 use Rattle.std.proofs.lemmas.Bool.{eqb-true, ne_eqb, leb-true, and_parts, cond_both}
 use Rattle.legacy_base.specs.declared.results.DecodeEvent.TheVariants.{Bad}
 use Rattle.legacy_base.specs.{Events.shift, Indexes.idx, States.is_two_byte_mode}
@@ -11,12 +11,11 @@ use Rattle.legacy_base.specs.Iso2022Jp.{esc, escape_mode, part_mode, iso_2022_jp
 use Rattle.legacy_base.proofs.Shifts.{shift-append, shift-shift, shift-zero}
 use Rattle.legacy_base.proofs.Iso2022JpParts.{first_part, no_escape}
 use Rattle.legacy_base.proofs.Iso2022JpFronts.{step_one, step_two, step_no_escape, step_escape, escape_ahead}
-use Rattle.legacy_japanese.specs.declared.iso_2022_jp.steps.{Mode.Mode, Escape.Escape, Start.Start, Held.Held, Action.Action, Outcome.Outcome}
+use Rattle.legacy_japanese.specs.declared.iso_2022_jp.steps.{Mode.Mode, Escape.Escape, Escape.TheVariants.ToAscii, Start.Start, Held.Held, Action.Action, Outcome.Outcome}
 use Rattle.legacy_japanese.specs.declared.iso_2022_jp.steps.Mode.TheVariants.{Ascii, Roman, Katakana, TwoByte}
-use Rattle.legacy_japanese.specs.declared.iso_2022_jp.steps.Escape.TheVariants.{ToAscii, ToRoman, ToKatakana, ToJis1978, ToJis1983}
 use Rattle.legacy_japanese.specs.declared.iso_2022_jp.steps.Start.TheVariants.{Nothing, EscapeByte, Dollar, Paren}
 use Rattle.legacy_japanese.specs.declared.iso_2022_jp.steps.Held.TheVariants.{Byte, Begun, Whole}
-use Rattle.legacy_japanese.specs.declared.iso_2022_jp.steps.Action.TheVariants.{Holds, Writes, Reports, Leaves}
+use Rattle.legacy_japanese.specs.declared.iso_2022_jp.steps.Action.TheVariants.{Holds, Reports, Leaves}
 use Rattle.legacy_japanese.specs.Iso2022JpMachine.{mode_meaning, bytes_of, completes, is_held, is_resting, mode_of, moves, read, read_next_third, read_pair, read_plain, read_single, read_start, read_third, read_trail}
 use Rattle.legacy_japanese.specs.Iso2022JpMachine.{read_whole, second_of, single, start_bytes, third_of}
 use Rattle.legacy_japanese.specs.Iso2022JpMoves.{is_left, move_events, weight_of}
@@ -244,11 +243,11 @@ module _ (jis0208 : List ℕ) where
   again_step : (mode : Mode) (e next : Escape) (s : Start) (a b : ℕ) → start_bytes s ≡ esc ∷ a ∷ [] → second_of next ≡ a → third_of next ≡ b
       → IsStep mode (Whole e s) b (moves (Reports 3) (mode_of e) (Whole next Nothing))
   again_step mode e next s a b is second third = rw (← third) (
-    let bytes : start_bytes s ≡ esc ∷ second_of next ∷ [] = is ∙ ap (λ x. esc ∷ x ∷ []) (sym second) in record {
-      law = λ more. rw bytes (escape_again mode (mode_meaning (mode_of next)) e (esc ∷ second_of next ∷ third_of next ∷ more)
-          (escape_ahead (second_of next) (third_of next) (mode_meaning (mode_of next)) more (valid next)));
-      sound = record { kept = refl; suffix = λ more. rw bytes; sizes = rw bytes (lit≤ tt, lit≤ tt, lit≤ tt, lit≤ tt); room = rw bytes (lit≤ tt); fits = rw bytes (lit≤ tt); rest = tt };
-    })
+      let bytes : start_bytes s ≡ esc ∷ second_of next ∷ [] = is ∙ ap (λ x. esc ∷ x ∷ []) (sym second) in record {
+        law = λ more. rw bytes (escape_again mode (mode_meaning (mode_of next)) e (esc ∷ second_of next ∷ third_of next ∷ more)
+            (escape_ahead (second_of next) (third_of next) (mode_meaning (mode_of next)) more (valid next)));
+        sound = record { kept = refl; suffix = λ more. rw bytes; sizes = rw bytes (lit≤ tt, lit≤ tt, lit≤ tt, lit≤ tt); room = rw bytes (lit≤ tt); fits = rw bytes (lit≤ tt); rest = tt };
+      })
 
   next_third_step : (mode : Mode) (e : Escape) (s : Start) (a b : ℕ) (o : Option Escape) → start_bytes s ≡ esc ∷ a ∷ []
       → is_held (mode_of e) (Byte a) ≡ true → Completed a b o → IsStep mode (Whole e s) b (read_next_third (mode_of e) a o)
