@@ -1,6 +1,6 @@
 -- What the EUC-JP decoder holds back is what its machine may hold back, and its moves are the machine's.
 use Rattle.std.proofs.Common.{◌≡◌, ◌≢◌, ℕ, ◌+◌, ◌-◌, ◌*◌, ◌^◌, ◌<◌, ◌≤◌, List, [], ◌∷◌, length, Bool, true, false, ◌&&◌, ◌==◌, refl, arith, cond}
-use Rattle.std.proofs.lemmas.Bool.{false≢true}
+use Rattle.std.proofs.lemmas.Bool.{cond_both}
 use Rattle.std.proofs.lemmas.Bool.Decides.{nat_tests}
 use Rattle.std.proofs.lemmas.List.Elements.{All-nil, All-cons}
 use Rattle.std.specs.{Int.is_in_range, Char.IsScalar, Char.is_ascii, Prelude.option_to_list}
@@ -39,22 +39,18 @@ are_bytes Jis0212 = first_byte 0x8F (omega arith)
 are_bytes (Lead lead) = first_byte lead.byte (of_lead lead).3
 are_bytes (Jis0212Lead lead) = All-cons IsByte 0x8F (lead.byte ∷ []) (omega arith) (first_byte lead.byte (of_lead lead).3)
 
--- nothing is held back in the neutral state
-pub neutral-empty : (held : Held) → (is_empty (held_bytes held) && true) ≡ true → held_bytes held ≡ []
-neutral-empty Nothing e = refl
-neutral-empty _ e = absurd (false≢true e)
-
 -- ---- pairs
 
 lead_other : (b : ℕ) → is_euc_jp_lead b ≡ true → (is_ascii b ≡ false) × ((b == 0x8E) ≡ false) × ((b == 0x8F) ≡ false)
 lead_other b is = (grind (arith, nat_tests), grind (arith, nat_tests), grind (arith, nat_tests))
 
 pair_below : (index : List ℕ) (lead trail c : ℕ) → IsNarrowIndex index → euc_jp_scalars index lead trail ≡ c ∷ [] → c < 0x1_0000
-pair_below index lead trail c narrow e = go (is_in_range 0xA1 0xFE trail) e
-  where
-    go : (t : Bool) → cond t (option_to_list (idx index ((lead - 0xA1) * 94 + (trail - 0xA1)))) [] ≡ c ∷ [] → c < 0x1_0000
-    go true e = idx_below index _ c narrow e
-    go false e = cc
+pair_below index lead trail c narrow e =
+    cond_both (is_in_range 0xA1 0xFE trail) _ [] (λ scalars. scalars ≡ c ∷ [] → c < 0x1_0000) (λ t. idx_below index _ c narrow) (λ t none. cc) e
+
+bytes-some : (held : Held) → (held ≡ Nothing → ⊥) → held_bytes held ≢ []
+bytes-some Nothing n = absurd (n refl)
+bytes-some _ n = λ e. cc
 
 module _ (tables : AcceptedIndexes) where
   abbrev g : Grammar
@@ -74,19 +70,11 @@ module _ (tables : AcceptedIndexes) where
   reports held some = moves.reports_all shown (held_bytes held) (may held) (are_bytes held) refl some
 
   -- there is something to report exactly where something is held back
-  pub events-none : events_of (euc_jp tables.flat.jis0208 tables.flat.jis0212) [] ≡ []
-  events-none = moves.ends_none shown [] refl (All-nil IsByte) refl refl
-
-  bytes-some : (held : Held) → (held ≡ Nothing → ⊥) → held_bytes held ≢ []
-  bytes-some Nothing n = absurd (n refl)
-  bytes-some _ n = λ e. cc
+  pub events-none : (held : Held) → held_bytes held ≡ [] → events_of (euc_jp tables.flat.jis0208 tables.flat.jis0212) (held_bytes held) ≡ []
+  events-none held = moves.ends_none shown (held_bytes held) (may held) (are_bytes held) refl
 
   pub events-some : (held : Held) → (held ≡ Nothing → ⊥) → events_of (euc_jp tables.flat.jis0208 tables.flat.jis0212) (held_bytes held) ≢ []
   events-some held n = moves.ends_some shown (held_bytes held) (may held) (are_bytes held) refl (bytes-some held n)
-
-  pub events-empty : (held : Held) → length (held_bytes held) ≡ 0 → events_of (euc_jp tables.flat.jis0208 tables.flat.jis0212) (held_bytes held) ≡ []
-  events-empty Nothing e = events-none
-  events-empty _ e = absurd (omega arith)
 
   -- ---- runs
 

@@ -6,10 +6,6 @@ pub mod Iso2022JpStep
 pub mod Iso2022JpHeld
 pub mod Iso2022JpRooms
 pub mod Iso2022JpEnding
-pub mod Iso2022JpEntries
 pub mod Iso2022JpEscapes
 pub mod Iso2022JpFeeding
 pub mod Iso2022JpRuns
-pub mod Jis0208Places
-pub mod ShiftJisPlaces
-pub mod ShiftJisRuns
