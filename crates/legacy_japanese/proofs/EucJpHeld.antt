@@ -1,13 +1,13 @@
 -- What the EUC-JP decoder holds back is what its machine may hold back, and its moves are the machine's.
-use Rattle.std.proofs.Common.{◌≡◌, ◌≢◌, ℕ, ◌+◌, ◌-◌, ◌*◌, ◌^◌, ◌<◌, ◌≤◌, List, [], ◌∷◌, length, Bool, true, false, ◌&&◌, ◌==◌, refl, arith, cond}
+use Rattle.std.proofs.Common.{◌≡◌, ◌≢◌, ℕ, ◌^◌, ◌<◌, ◌≤◌, List, [], ◌∷◌, length, true, false, ◌==◌, refl, arith}
 use Rattle.std.proofs.lemmas.Bool.{cond_both}
 use Rattle.std.proofs.lemmas.Bool.Decides.{nat_tests}
 use Rattle.std.proofs.lemmas.List.Elements.{All-nil, All-cons}
-use Rattle.std.specs.{Int.is_in_range, Char.IsScalar, Char.is_ascii, Prelude.option_to_list}
-use Rattle.legacy_base.specs.{Indexes.idx, EucJp.euc_jp_scalars, AcceptedTables.AcceptedIndexes}
+use Rattle.std.specs.{Int.is_in_range, Char.IsScalar, Char.is_ascii}
+use Rattle.legacy_base.specs.{EucJp.euc_jp_scalars, AcceptedTables.AcceptedIndexes}
 use Rattle.legacy_base.specs.Unicode.{IsByte, AreBytes}
 use Rattle.legacy_base.specs.Grammar.{Grammar, euc_jp, events_of}
-use Rattle.legacy_base.specs.States.{is_euc_jp_lead, euc_jp_may_hold, is_empty, state_of}
+use Rattle.legacy_base.specs.States.{is_euc_jp_lead, euc_jp_may_hold, state_of}
 use Rattle.legacy_base.proofs.Accepted.{jis0208-below, jis0212-below}
 use Rattle.legacy_decoder_engine.specs.Moves.{IsCovered, Feeds, Reports}
 use Rattle.legacy_decoder_engine.specs.{declared.moves.Fed.Fed, Costs.IsNarrowIndex, Feeding.Took, Shown.IsShown, Ahead.Runs, Ahead.HasAscii}

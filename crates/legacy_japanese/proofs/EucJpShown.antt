@@ -3,20 +3,20 @@ use Rattle.std.proofs.Common.{◌≡◌, ℕ, ◌+◌, ◌-◌, ◌*◌, ◌≤�
 use Rattle.std.proofs.lemmas.Bool.{false≢true, eqb-true, and_parts, or_parts, ltb-true, cond_both}
 use Rattle.std.proofs.lemmas.Bool.Decides.{nat_tests}
 use Rattle.std.specs.{Int.is_in_range, Char.is_ascii}
-use Rattle.legacy_base.specs.Fronts.{reads, malformed, reads_or, trail_rule, cut}
+use Rattle.legacy_base.specs.Fronts.{malformed, reads_or, trail_rule, cut}
 use Rattle.legacy_base.specs.EucJp.{euc_jp_front, euc_jp_katakana, euc_jp_second, euc_jp_third, euc_jp_pair, euc_jp_scalars, euc_jp_weight}
-use Rattle.legacy_base.specs.Grammar.{Grammar, euc_jp, events_of}
+use Rattle.legacy_base.specs.Grammar.{euc_jp, events_of}
 use Rattle.legacy_base.specs.{Acts.act_room, Acts.takes, Lengths.to_utf16}
 use Rattle.legacy_base.specs.States.{is_euc_jp_lead, euc_jp_may_hold, state_of}
 use Rattle.legacy_base.proofs.Cuts.{cut-nil}
-use Rattle.legacy_decoder_engine.specs.Steps.{Step, hold, finish, leave, end_events, trail_step, Meets}
+use Rattle.legacy_decoder_engine.specs.Steps.{Step, finish, leave, end_events, trail_step, Meets}
 use Rattle.legacy_decoder_engine.specs.Costs.{units, IsWidth, IsNarrowIndex, Cost}
 use Rattle.legacy_decoder_engine.specs.Settling.{IsOneOrMarked, Settles}
 use Rattle.legacy_decoder_engine.specs.Shown.{IsShown}
-use Rattle.legacy_decoder_engine.proofs.FrontMoves.{Fits, HasFront, fits_trail, fits_meets, end_meets}
+use Rattle.legacy_decoder_engine.proofs.FrontMoves.{Fits, fits_trail, fits_meets, end_meets}
 use Rattle.legacy_decoder_engine.proofs.{CallUnderWay.same_rooms, Widths.narrow_idx_units}
 use Rattle.legacy_decoder_engine.proofs.RoomMoves.{first_room, held_room_is, HasCosts, IsSloped, sloped_rooms}
-use Rattle.legacy_decoder_engine.proofs.TwoByteCosts.{cost_test, units_test, katakana_below}
+use Rattle.legacy_decoder_engine.proofs.TwoByteCosts.{units_test, katakana_below}
 use Rattle.legacy_decoder_engine.proofs.SettledSteps.{one_test, one_option, trail_settles}
 use Rattle.legacy_japanese.specs.EucJpMachine.{euc_jp_first, euc_jp_second_step, euc_jp_step, euc_jp_machine}
 

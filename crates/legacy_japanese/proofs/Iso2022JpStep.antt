@@ -1,5 +1,6 @@
 -- Each step of the machine meets its law, and leaves what may be held back.
-use Rattle.std.proofs.Common.{◌≡◌, ℕ, suc, ◌+◌, ◌-◌, ◌*◌, ◌≤◌, Bool, true, false, cond, leb, Option, Some, None, List, [], ◌∷◌, ◌++◌, length, refl, sym, ap, ◌∙◌, append_assoc, length-append, arith, lit≤}
+use Rattle.std.proofs.Common.{◌≡◌, ℕ, suc, ◌+◌, ◌-◌, ◌*◌, ◌≤◌, Bool, true, false, cond, leb, Option, Some, None}
+use Rattle.std.proofs.Common.{List, [], ◌∷◌, ◌++◌, length, refl, sym, ap, ◌∙◌, append_assoc, length-append, arith, lit≤}
 use Rattle.std.specs.Prelude.{◌==◌, if◌then◌else◌, option_to_list}
 use Rattle.std.specs.Int.{is_in_range}
 use Rattle.std.proofs.lemmas.Bool.{eqb-true, ne_eqb, leb-true, and_parts, cond_both}
@@ -16,8 +17,8 @@ use Rattle.legacy_japanese.specs.declared.iso_2022_jp.steps.Mode.TheVariants.{As
 use Rattle.legacy_japanese.specs.declared.iso_2022_jp.steps.Start.TheVariants.{Nothing, EscapeByte, Dollar, Paren}
 use Rattle.legacy_japanese.specs.declared.iso_2022_jp.steps.Held.TheVariants.{Byte, Begun, Whole}
 use Rattle.legacy_japanese.specs.declared.iso_2022_jp.steps.Action.TheVariants.{Holds, Reports, Leaves}
-use Rattle.legacy_japanese.specs.Iso2022JpMachine.{mode_meaning, bytes_of, completes, is_held, is_resting, mode_of, moves, read, read_next_third, read_pair, read_plain, read_single, read_start, read_third, read_trail}
-use Rattle.legacy_japanese.specs.Iso2022JpMachine.{read_whole, second_of, single, start_bytes, third_of}
+use Rattle.legacy_japanese.specs.Iso2022JpMachine.{mode_meaning, bytes_of, completes, is_held, is_resting, mode_of, moves, read, read_next_third, read_pair, read_plain}
+use Rattle.legacy_japanese.specs.Iso2022JpMachine.{read_single, read_start, read_third, read_trail, read_whole, second_of, single, start_bytes, third_of}
 use Rattle.legacy_japanese.specs.Iso2022JpMoves.{is_left, move_events, weight_of}
 use Rattle.legacy_japanese.proofs.Iso2022JpLaw.{HasSizes, MeetsLaw, Sound, done, events_in, front_in}
 

@@ -1,4 +1,4 @@
-use Rattle.std.proofs.Common.{ℕ, ◌<◌, cond, Some, None, length, get_or, ◌==◌, inl, inr}
+use Rattle.std.proofs.Common.{ℕ, ◌<◌, Some, None, length, get_or, ◌==◌, inl, inr}
 use Rattle.std.specs.Char.{IsScalar}
 use Rattle.std.specs.Prelude.{IfSome}
 use Rattle.std.proofs.lemmas.Bool.{cases_lt, cond_both}

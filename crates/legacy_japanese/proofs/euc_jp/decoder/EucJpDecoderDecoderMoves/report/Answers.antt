@@ -1,4 +1,4 @@
-use Rattle.std.proofs.Common.{arith, ap, length, ◌≡◌, ◌≢◌, []}
+use Rattle.std.proofs.Common.{arith, ap, length}
 use Rattle.std.proofs.lemmas.List.{nil_from_length}
 use Rattle.legacy_japanese.specs.EucJpHeld.{held_bytes}
 use Rattle.legacy_japanese.proofs.EucJpHeld.{events-none, reports}
