@@ -1,34 +1,22 @@
 -- What the EUC-JP decoder holds back is what its machine may hold back, and its moves are the machine's.
-use Rattle.std.proofs.Common.{◌≡◌, ◌≢◌, ℕ, ◌+◌, ◌-◌, ◌*◌, ◌^◌, ◌<◌, ◌≤◌, List, [], ◌∷◌, length, Bool, true, false, ◌&&◌, ◌==◌, refl, arith, cond}
-use Rattle.std.proofs.lemmas.Bool.{false≢true}
+use Rattle.std.proofs.Common.{◌≡◌, ◌≢◌, ℕ, ◌^◌, ◌<◌, ◌≤◌, List, [], ◌∷◌, length, true, false, ◌==◌, refl, arith}
+use Rattle.std.proofs.lemmas.Bool.{cond_both}
 use Rattle.std.proofs.lemmas.Bool.Decides.{nat_tests}
 use Rattle.std.proofs.lemmas.List.Elements.{All-nil, All-cons}
-use Rattle.std.specs.Prelude.{option_to_list}
-use Rattle.std.specs.Int.{is_in_range}
-use Rattle.std.specs.Char.{IsScalar, is_ascii}
-use Rattle.legacy_base.specs.Indexes.{idx}
-use Rattle.legacy_base.specs.EucJp.{euc_jp_scalars}
+use Rattle.std.specs.{Int.is_in_range, Char.IsScalar, Char.is_ascii}
+use Rattle.legacy_base.specs.{EucJp.euc_jp_scalars, AcceptedTables.AcceptedIndexes}
 use Rattle.legacy_base.specs.Unicode.{IsByte, AreBytes}
-use Rattle.legacy_base.specs.AcceptedTables.{AcceptedIndexes}
 use Rattle.legacy_base.specs.Grammar.{Grammar, euc_jp, events_of}
-use Rattle.legacy_base.specs.States.{is_euc_jp_lead, euc_jp_may_hold, is_empty}
+use Rattle.legacy_base.specs.States.{is_euc_jp_lead, euc_jp_may_hold, state_of}
 use Rattle.legacy_base.proofs.Accepted.{jis0208-below, jis0212-below}
-use Rattle.legacy_japanese.specs.declared.euc_jp.decoder.Held.{Held}
-use Rattle.legacy_japanese.specs.declared.euc_jp.decoder.Held.TheVariants.{Nothing, Katakana, Jis0212, Lead, Jis0212Lead}
-use Rattle.legacy_japanese.specs.declared.euc_jp.lead.EucJpLead.{EucJpLead}
-use Rattle.legacy_decoder_engine.specs.declared.moves.Fed.{Fed}
 use Rattle.legacy_decoder_engine.specs.Moves.{IsCovered, Feeds, Reports}
-use Rattle.legacy_decoder_engine.specs.Costs.{IsNarrowIndex}
-use Rattle.legacy_base.specs.States.{state_of}
-use Rattle.legacy_decoder_engine.specs.Ahead.{Runs, HasAscii}
-use Rattle.legacy_decoder_engine.specs.Feeding.{Took}
-use Rattle.legacy_japanese.specs.EucJpMachine.{euc_jp_step, euc_jp_machine}
-use Rattle.legacy_decoder_engine.specs.Shown.{IsShown}
-use Rattle.legacy_japanese.proofs.EucJpShown.{euc_jp_shown}
-use Rattle.legacy_japanese.specs.EucJpHeld.{held_bytes}
+use Rattle.legacy_decoder_engine.specs.{declared.moves.Fed.Fed, Costs.IsNarrowIndex, Feeding.Took, Shown.IsShown, Ahead.Runs, Ahead.HasAscii}
 use Rattle.legacy_decoder_engine.proofs.Feeding as moves
-use Rattle.legacy_decoder_engine.proofs.RunForms.{pair_runs, has_ascii, ascii_is}
-use Rattle.legacy_decoder_engine.proofs.Widths.{idx_below}
+use Rattle.legacy_decoder_engine.proofs.{RunForms.pair_runs, RunForms.has_ascii, RunForms.ascii_is, Widths.idx_below}
+use Rattle.legacy_japanese.specs.declared.euc_jp.{decoder.Held.Held, lead.EucJpLead.EucJpLead}
+use Rattle.legacy_japanese.specs.declared.euc_jp.decoder.Held.TheVariants.{Nothing, Katakana, Jis0212, Lead, Jis0212Lead}
+use Rattle.legacy_japanese.specs.{EucJpHeld.held_bytes, EucJpMachine.euc_jp_step, EucJpMachine.euc_jp_machine}
+use Rattle.legacy_japanese.proofs.EucJpShown.{euc_jp_shown}
 
 lead_is : (b : ℕ) → 0xA1 ≤ b → b ≤ 0xFE → (is_euc_jp_lead b ≡ true) × ((b == 0x8E) ≡ false) × ((b == 0x8F) ≡ false) × (b < 2 ^ 8)
 lead_is b low high = (grind (arith, nat_tests), grind (arith, nat_tests), grind (arith, nat_tests), omega arith)
@@ -37,11 +25,9 @@ of_lead : (lead : EucJpLead) → (is_euc_jp_lead lead.byte ≡ true) × ((lead.b
 of_lead lead = lead_is lead.byte lead.low lead.high
 
 may : (held : Held) → euc_jp_may_hold (held_bytes held) ≡ true
-may Nothing = refl
-may Katakana = refl
-may Jis0212 = refl
 may (Lead lead) = rw ((of_lead lead).0, (of_lead lead).1, (of_lead lead).2) refl
 may (Jis0212Lead lead) = rw (of_lead lead).0 refl
+may _ = refl
 
 first_byte : (b : ℕ) → b < 2 ^ 8 → AreBytes (b ∷ [])
 first_byte b byte = All-cons IsByte b [] byte (All-nil IsByte)
@@ -53,25 +39,18 @@ are_bytes Jis0212 = first_byte 0x8F (omega arith)
 are_bytes (Lead lead) = first_byte lead.byte (of_lead lead).3
 are_bytes (Jis0212Lead lead) = All-cons IsByte 0x8F (lead.byte ∷ []) (omega arith) (first_byte lead.byte (of_lead lead).3)
 
--- nothing is held back in the neutral state
-pub neutral-empty : (held : Held) → (is_empty (held_bytes held) && true) ≡ true → held_bytes held ≡ []
-neutral-empty Nothing e = refl
-neutral-empty Katakana e = absurd (false≢true e)
-neutral-empty Jis0212 e = absurd (false≢true e)
-neutral-empty (Lead lead) e = absurd (false≢true e)
-neutral-empty (Jis0212Lead lead) e = absurd (false≢true e)
-
 -- ---- pairs
 
 lead_other : (b : ℕ) → is_euc_jp_lead b ≡ true → (is_ascii b ≡ false) × ((b == 0x8E) ≡ false) × ((b == 0x8F) ≡ false)
 lead_other b is = (grind (arith, nat_tests), grind (arith, nat_tests), grind (arith, nat_tests))
 
 pair_below : (index : List ℕ) (lead trail c : ℕ) → IsNarrowIndex index → euc_jp_scalars index lead trail ≡ c ∷ [] → c < 0x1_0000
-pair_below index lead trail c narrow e = go (is_in_range 0xA1 0xFE trail) e
-  where
-    go : (t : Bool) → cond t (option_to_list (idx index ((lead - 0xA1) * 94 + (trail - 0xA1)))) [] ≡ c ∷ [] → c < 0x1_0000
-    go true e = idx_below index _ c narrow e
-    go false e = cc
+pair_below index lead trail c narrow e =
+    cond_both (is_in_range 0xA1 0xFE trail) _ [] (λ scalars. scalars ≡ c ∷ [] → c < 0x1_0000) (λ t. idx_below index _ c narrow) (λ t none. cc) e
+
+bytes-some : (held : Held) → (held ≡ Nothing → ⊥) → held_bytes held ≢ []
+bytes-some Nothing n = absurd (n refl)
+bytes-some _ n = λ e. cc
 
 module _ (tables : AcceptedIndexes) where
   abbrev g : Grammar
@@ -91,25 +70,11 @@ module _ (tables : AcceptedIndexes) where
   reports held some = moves.reports_all shown (held_bytes held) (may held) (are_bytes held) refl some
 
   -- there is something to report exactly where something is held back
-  pub events-none : events_of (euc_jp tables.flat.jis0208 tables.flat.jis0212) [] ≡ []
-  events-none = moves.ends_none shown [] refl (All-nil IsByte) refl refl
-
-  pub bytes-some : (held : Held) → (held ≡ Nothing → ⊥) → held_bytes held ≢ []
-  bytes-some Nothing n = absurd (n refl)
-  bytes-some Katakana n = λ e. cc
-  bytes-some Jis0212 n = λ e. cc
-  bytes-some (Lead lead) n = λ e. cc
-  bytes-some (Jis0212Lead lead) n = λ e. cc
+  pub events-none : (held : Held) → held_bytes held ≡ [] → events_of (euc_jp tables.flat.jis0208 tables.flat.jis0212) (held_bytes held) ≡ []
+  events-none held = moves.ends_none shown (held_bytes held) (may held) (are_bytes held) refl
 
   pub events-some : (held : Held) → (held ≡ Nothing → ⊥) → events_of (euc_jp tables.flat.jis0208 tables.flat.jis0212) (held_bytes held) ≢ []
   events-some held n = moves.ends_some shown (held_bytes held) (may held) (are_bytes held) refl (bytes-some held n)
-
-  pub events-empty : (held : Held) → length (held_bytes held) ≡ 0 → events_of (euc_jp tables.flat.jis0208 tables.flat.jis0212) (held_bytes held) ≡ []
-  events-empty Nothing e = events-none
-  events-empty Katakana e = absurd (omega arith)
-  events-empty Jis0212 e = absurd (omega arith)
-  events-empty (Lead lead) e = absurd (omega arith)
-  events-empty (Jis0212Lead lead) e = absurd (omega arith)
 
   -- ---- runs
 

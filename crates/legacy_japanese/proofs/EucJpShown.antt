@@ -1,40 +1,187 @@
 -- What is shown of EUC-JP.
-use Rattle.std.proofs.Common.{◌≡◌, ℕ, ◌+◌, ◌-◌, List, [], ◌∷◌, true, refl, inl, ◌||◌, ◌==◌, arith}
-use Rattle.std.proofs.lemmas.Bool.{false≢true}
-use Rattle.std.specs.Int.{is_in_range}
-use Rattle.std.specs.Char.{is_ascii}
-use Rattle.legacy_base.specs.Unicode.{IsByte, AreBytes}
-use Rattle.legacy_base.specs.Fronts.{reads, malformed}
-use Rattle.legacy_base.specs.EucJp.{euc_jp_scalars}
-use Rattle.legacy_base.specs.Grammar.{euc_jp}
-use Rattle.legacy_base.specs.States.{is_euc_jp_lead, euc_jp_may_hold}
-use Rattle.legacy_base.specs.Acts.{act_room, takes}
-use Rattle.legacy_base.specs.Lengths.{to_utf16}
-use Rattle.legacy_decoder_engine.specs.Steps.{hold, finish, trail_step}
-use Rattle.legacy_decoder_engine.specs.Costs.{IsWidth, IsNarrowIndex, Cost}
-use Rattle.legacy_base.specs.States.{state_of}
-use Rattle.legacy_japanese.specs.EucJpMachine.{euc_jp_machine}
-use Rattle.legacy_decoder_engine.specs.Settling.{Settles}
+use Rattle.std.proofs.Common.{◌≡◌, ℕ, ◌+◌, ◌-◌, ◌*◌, ◌≤◌, List, [], ◌∷◌, length, Bool, true, false, cond, refl, inl, ◌∙◌, ◌||◌, ◌==◌, arith}
+use Rattle.std.proofs.lemmas.Bool.{false≢true, eqb-true, and_parts, or_parts, ltb-true, cond_both}
+use Rattle.std.proofs.lemmas.Bool.Decides.{nat_tests}
+use Rattle.std.specs.{Int.is_in_range, Char.is_ascii}
+use Rattle.legacy_base.specs.Fronts.{malformed, reads_or, trail_rule, cut}
+use Rattle.legacy_base.specs.EucJp.{euc_jp_front, euc_jp_katakana, euc_jp_second, euc_jp_third, euc_jp_pair, euc_jp_scalars, euc_jp_weight}
+use Rattle.legacy_base.specs.Grammar.{euc_jp, events_of}
+use Rattle.legacy_base.specs.{Acts.act_room, Acts.takes, Lengths.to_utf16}
+use Rattle.legacy_base.specs.States.{is_euc_jp_lead, euc_jp_may_hold, state_of}
+use Rattle.legacy_base.proofs.Cuts.{cut-nil}
+use Rattle.legacy_decoder_engine.specs.Steps.{Step, finish, leave, end_events, trail_step, Meets}
+use Rattle.legacy_decoder_engine.specs.Costs.{units, IsWidth, IsNarrowIndex, Cost}
+use Rattle.legacy_decoder_engine.specs.Settling.{IsOneOrMarked, Settles}
 use Rattle.legacy_decoder_engine.specs.Shown.{IsShown}
-use Rattle.legacy_decoder_engine.proofs.CallUnderWay.{same_rooms}
+use Rattle.legacy_decoder_engine.proofs.FrontMoves.{Fits, fits_trail, fits_meets, end_meets}
+use Rattle.legacy_decoder_engine.proofs.{CallUnderWay.same_rooms, Widths.narrow_idx_units}
 use Rattle.legacy_decoder_engine.proofs.RoomMoves.{first_room, held_room_is, HasCosts, IsSloped, sloped_rooms}
-use Rattle.legacy_japanese.proofs.EucJpMeets.{euc_jp_meets}
-use Rattle.legacy_japanese.proofs.EucJpCosts.{some_held, euc_jp_first_cost, euc_jp_second_cost, euc_jp_third_cost}
-use Rattle.legacy_decoder_engine.proofs.SettledSteps.{settles_test, trail_settles}
-use Rattle.legacy_japanese.proofs.EucJpCosts.{euc_jp_one}
+use Rattle.legacy_decoder_engine.proofs.TwoByteCosts.{units_test, katakana_below}
+use Rattle.legacy_decoder_engine.proofs.SettledSteps.{one_test, one_option, trail_settles}
+use Rattle.legacy_japanese.specs.EucJpMachine.{euc_jp_first, euc_jp_second_step, euc_jp_step, euc_jp_machine}
+
+-- ---- the scalars of a form
+
+-- one at most, and up to U+FFFF
+record IsSmall (scalars : List ℕ) : Type 0 where
+  one : IsOneOrMarked false scalars
+  fits : (len : ℕ → ℕ) (narrow wide : ℕ) → IsWidth len narrow wide → units len scalars ≤ narrow
+
+none_small : IsSmall []
+none_small = record { one = tt; fits = λ len narrow wide w. omega arith }
+
+pair_small : (index : List ℕ) (lead b : ℕ) → IsNarrowIndex index → IsSmall (euc_jp_scalars index lead b)
+pair_small index lead b h = record {
+  one = one_test false (is_in_range 0xA1 0xFE b) _ [] (one_option false _) tt;
+  fits = λ len narrow wide w. units_test len narrow wide w narrow (is_in_range 0xA1 0xFE b) _ []
+      (λ e. narrow_idx_units len narrow wide w index ((lead - 0xA1) * 94 + (b - 0xA1)) h) (λ e. omega arith);
+}
+
+one_cost : (len : ℕ → ℕ) (narrow lead b : ℕ) (scalars : List ℕ) → narrow ≤ 3 → units len scalars ≤ narrow
+    → Cost len narrow narrow euc_jp_weight 3 (lead ∷ []) b (trail_step 1 scalars b)
+one_cost len narrow lead b (c ∷ scalars) m h = record { fits = h; pays = omega arith; pays_without = omega arith }
+one_cost len narrow lead b [] m h = cond_both (is_ascii b) (leave 1) (finish (malformed 2)) (Cost len narrow narrow euc_jp_weight 3 (lead ∷ []) b)
+    (λ a. record { fits = omega arith; pays = omega arith; pays_without = omega arith })
+    (λ a. record { fits = omega arith; pays = omega arith; pays_without = omega arith })
+
+two_cost : (len : ℕ → ℕ) (narrow first lead b : ℕ) (scalars : List ℕ) → narrow ≤ 3 → units len scalars ≤ narrow
+    → Cost len narrow narrow euc_jp_weight 3 (first ∷ lead ∷ []) b (trail_step 2 scalars b)
+two_cost len narrow first lead b (c ∷ scalars) m h = record { fits = h; pays = omega arith; pays_without = omega arith }
+two_cost len narrow first lead b [] m h = cond_both (is_ascii b) (leave 2) (finish (malformed 3)) (Cost len narrow narrow euc_jp_weight 3 (first ∷ lead ∷ []) b)
+    (λ a. record { fits = omega arith; pays = omega arith; pays_without = omega arith })
+    (λ a. record { fits = omega arith; pays = omega arith; pays_without = omega arith })
+
+-- the room of a byte
+abbrev most : List ℕ → ℕ → ℕ → ℕ
+most [] b narrow = cond (is_ascii b) 1 narrow
+most (a ∷ held) b narrow = narrow
 
 module _ (jis0208 jis0212 : List ℕ) where
-  costs : IsNarrowIndex jis0208 → IsNarrowIndex jis0212 → HasCosts (euc_jp jis0208 jis0212) (euc_jp_machine jis0208 jis0212) some_held 3
-  costs accepted accepted2 = record { to_is = λ held b. refl; cost = cost }
-    where
-      cost : (len : ℕ → ℕ) (narrow wide : ℕ) → IsWidth len narrow wide → (held : List ℕ) (b : ℕ) → euc_jp_may_hold held ≡ true → true ≡ true → AreBytes held → IsByte b →
-          Cost len narrow (act_room narrow wide (state_of (euc_jp jis0208 jis0212) held) (takes b)) some_held 3 held b ((euc_jp_machine jis0208 jis0212).step held b)
-      cost len narrow wide w [] b h r bytes byte = rw (first_room (is_ascii b) 1 narrow) (euc_jp_first_cost len narrow wide w b)
-      cost len narrow wide w (lead ∷ []) b h r bytes byte = rw (held_room_is (is_ascii b) true 1 narrow) (euc_jp_second_cost len narrow wide w jis0208 lead b accepted)
-      cost len narrow wide w (first ∷ lead ∷ []) b h r bytes byte = rw (held_room_is (is_ascii b) true 1 narrow) (euc_jp_third_cost len narrow wide w jis0212 first lead b accepted2)
-      cost len narrow wide w (first ∷ lead ∷ c ∷ held) b h r bytes byte = absurd (false≢true h)
+  -- what is shown of a step
+  record Shows (held : List ℕ) (b : ℕ) (s : Step) : Type 0 where
+    fits : Fits (euc_jp_front jis0208 jis0212) euc_jp_may_hold held b s
+    settles : Settles (euc_jp jis0208 jis0212) held b s
+    costs : (len : ℕ → ℕ) (narrow wide : ℕ) → IsWidth len narrow wide → Cost len narrow (most held b narrow) euc_jp_weight 3 held b s
 
-  sloped : IsSloped (euc_jp jis0208 jis0212) (euc_jp_machine jis0208 jis0212) some_held 3
+  -- ---- the front behind each first byte that may be held back
+
+  front_katakana : (b : ℕ) (rest : List ℕ) → (b == 0x8E) ≡ true → euc_jp_front jis0208 jis0212 b rest ≡ euc_jp_katakana rest
+  unfolding euc_jp_front
+  front_katakana b rest e = rw (eqb-true b 0x8E e)
+
+  front_second : (b : ℕ) (rest : List ℕ) → (b == 0x8F) ≡ true → euc_jp_front jis0208 jis0212 b rest ≡ euc_jp_second jis0212 rest
+  unfolding euc_jp_front
+  front_second b rest f = rw (eqb-true b 0x8F f)
+
+  front_pair : (b : ℕ) (rest : List ℕ) → (b == 0x8E) ≡ false → (b == 0x8F) ≡ false → is_euc_jp_lead b ≡ true → euc_jp_front jis0208 jis0212 b rest ≡ euc_jp_pair jis0208 b rest
+  unfolding euc_jp_front
+  front_pair b rest e f l = let a : is_ascii b ≡ false = grind (arith, nat_tests) in rw (a, e, f, l)
+
+  -- ---- each step
+
+  first_shows : (b : ℕ) → Shows [] b (euc_jp_first b)
+  unfolding euc_jp_front
+  first_shows b = cond_both (is_ascii b) _ _ (Shows [] b)
+      (λ a. record {
+        fits = (λ more. rw a, omega arith, omega arith, refl);
+        settles = (refl, tt);
+        costs = λ len narrow wide w. let e : len b ≡ 1 = w.ascii b (ltb-true b 0x80 a) in record { fits = rw a (omega arith); pays = omega arith; pays_without = omega arith };
+      })
+      (λ a. cond_both ((b == 0x8E || b == 0x8F) || is_euc_jp_lead b) _ _ (Shows [] b)
+      (λ l. record {
+        fits = (omega arith, l);
+        settles = refl;
+        costs = λ len narrow wide w. record { fits = omega arith; pays = omega arith; pays_without = omega arith };
+      })
+      (λ l. let p = or_parts (b == 0x8E || b == 0x8F) (is_euc_jp_lead b) l in let q = or_parts (b == 0x8E) (b == 0x8F) p.0 in record {
+        fits = (λ more. rw (a, q.0, q.1, p.1), omega arith, omega arith, refl);
+        settles = tt;
+        costs = λ len narrow wide w. record { fits = rw a (omega arith); pays = omega arith; pays_without = omega arith };
+      }))
+
+  -- a trail behind one byte
+  one_shows : (lead b : ℕ) (scalars : List ℕ) → IsSmall scalars
+      → ((more : List ℕ) → euc_jp_front jis0208 jis0212 lead (b ∷ more) ≡ reads_or 2 scalars (trail_rule 1 b)) → Shows (lead ∷ []) b (trail_step 1 scalars b)
+  one_shows lead b scalars small front = record {
+    fits = fits_trail (euc_jp_front jis0208 jis0212) euc_jp_may_hold (lead ∷ []) scalars b refl (omega arith) front;
+    settles = trail_settles (euc_jp jis0208 jis0212) (lead ∷ []) b scalars small.one;
+    costs = λ len narrow wide w. one_cost len narrow lead b scalars w.most (small.fits len narrow wide w);
+  }
+
+  -- a byte behind one that is held back
+  second_shows : IsNarrowIndex jis0208 → (lead b : ℕ) → euc_jp_may_hold (lead ∷ []) ≡ true → Shows (lead ∷ []) b (euc_jp_second_step jis0208 lead b)
+  unfolding euc_jp_katakana euc_jp_second euc_jp_pair
+  second_shows narrow_index lead b h = cond_both (lead == 0x8E) _ _ (Shows (lead ∷ []) b)
+      (λ e. cond_both (is_in_range 0xA1 0xDF b) _ _ (Shows (lead ∷ []) b)
+      (λ k. record {
+        fits = (λ more. front_katakana lead (b ∷ more) e ∙ rw k, omega arith, omega arith, refl);
+        settles = (refl, tt);
+        costs = λ len narrow wide w. let l = katakana_below b k in let q : len (0xFF61 + (b - 0xA1)) ≤ narrow = w.bmp (0xFF61 + (b - 0xA1)) (omega arith) in
+            record { fits = omega arith; pays = omega arith; pays_without = omega arith };
+      })
+      (λ k. one_shows lead b [] none_small (λ more. front_katakana lead (b ∷ more) e ∙ rw k)))
+      (λ e. cond_both (lead == 0x8F) _ _ (Shows (lead ∷ []) b)
+      (λ f. cond_both (is_euc_jp_lead b) _ _ (Shows (lead ∷ []) b)
+      (λ l. record {
+        fits = (omega arith, rw (f, l));
+        settles = refl;
+        costs = λ len narrow wide w. record { fits = omega arith; pays = omega arith; pays_without = omega arith };
+      })
+      (λ l. one_shows lead b [] none_small (λ more. front_second lead (b ∷ more) f ∙ rw l)))
+      (λ f. one_shows lead b (euc_jp_scalars jis0208 lead b) (pair_small jis0208 lead b narrow_index) (λ more. front_pair lead (b ∷ more) e f (rw (e, f) at h))))
+
+  -- a byte behind two
+  third_shows : IsNarrowIndex jis0212 → (first lead b : ℕ) → euc_jp_may_hold (first ∷ lead ∷ []) ≡ true → Shows (first ∷ lead ∷ []) b (trail_step 2 (euc_jp_scalars jis0212 lead b) b)
+  unfolding euc_jp_second euc_jp_third
+  third_shows narrow_index first lead b h =
+      let p = and_parts (first == 0x8F) (is_euc_jp_lead lead) h in
+      let small = pair_small jis0212 lead b narrow_index in record {
+        fits = fits_trail (euc_jp_front jis0208 jis0212) euc_jp_may_hold (first ∷ lead ∷ []) (euc_jp_scalars jis0212 lead b) b refl (omega arith)
+            (λ more. front_second first (lead ∷ b ∷ more) p.0 ∙ rw p.1);
+        settles = trail_settles (euc_jp jis0208 jis0212) (first ∷ lead ∷ []) b (euc_jp_scalars jis0212 lead b) small.one;
+        costs = λ len narrow wide w. two_cost len narrow first lead b (euc_jp_scalars jis0212 lead b) w.most (small.fits len narrow wide w);
+      }
+
+  step_shows : IsNarrowIndex jis0208 → IsNarrowIndex jis0212 → (held : List ℕ) (b : ℕ) → euc_jp_may_hold held ≡ true → Shows held b (euc_jp_step jis0208 jis0212 held b)
+  step_shows n m [] b h = first_shows b
+  step_shows n m (lead ∷ []) b h = second_shows n lead b h
+  step_shows n m (first ∷ lead ∷ []) b h = third_shows m first lead b h
+  step_shows n m (first ∷ lead ∷ c ∷ held) b h = absurd (false≢true h)
+
+  -- ---- the end of input
+
+  ev_is : (bytes : List ℕ) → events_of (euc_jp jis0208 jis0212) bytes ≡ cut (euc_jp_front jis0208 jis0212) 0 0 bytes
+  unfolding events_of
+  ev_is bytes = refl
+
+  few_held : (held : List ℕ) → euc_jp_may_hold held ≡ true → length held ≤ 3
+  few_held (first ∷ lead ∷ c ∷ held) h = absurd (false≢true h)
+  few_held held h = omega arith
+
+  -- what is held back has a front at the end of input
+  one_ends : (b : ℕ) → euc_jp_may_hold (b ∷ []) ≡ true → (e f : Bool) → (b == 0x8E) ≡ e → (b == 0x8F) ≡ f → euc_jp_front jis0208 jis0212 b [] ≡ malformed 1
+  unfolding euc_jp_katakana euc_jp_second euc_jp_pair
+  one_ends b h true f is_e is_f = front_katakana b [] is_e
+  one_ends b h false true is_e is_f = front_second b [] is_f
+  one_ends b h false false is_e is_f = front_pair b [] is_e is_f (rw (is_e, is_f) at h)
+
+  two_end : (first lead : ℕ) → euc_jp_may_hold (first ∷ lead ∷ []) ≡ true → euc_jp_front jis0208 jis0212 first (lead ∷ []) ≡ malformed 2
+  unfolding euc_jp_second euc_jp_third
+  two_end first lead h = let p = and_parts (first == 0x8F) (is_euc_jp_lead lead) h in front_second first (lead ∷ []) p.0 ∙ rw p.1
+
+  all_end : (held : List ℕ) → euc_jp_may_hold held ≡ true → events_of (euc_jp jis0208 jis0212) held ≡ end_events held
+  all_end [] h = ev_is [] ∙ cut-nil (euc_jp_front jis0208 jis0212)
+  all_end (b ∷ []) h = end_meets (euc_jp jis0208 jis0212) (euc_jp_front jis0208 jis0212) ev_is b [] (one_ends b h (b == 0x8E) (b == 0x8F) refl refl)
+  all_end (first ∷ lead ∷ []) h = end_meets (euc_jp jis0208 jis0212) (euc_jp_front jis0208 jis0212) ev_is first (lead ∷ []) (two_end first lead h)
+  all_end (first ∷ lead ∷ c ∷ held) h = absurd (false≢true h)
+
+  -- ---- all of it
+
+  room_is : (len : ℕ → ℕ) (narrow wide : ℕ) (held : List ℕ) (b : ℕ) → act_room narrow wide (state_of (euc_jp jis0208 jis0212) held) (takes b) ≡ most held b narrow
+  room_is len narrow wide [] b = first_room (is_ascii b) 1 narrow
+  room_is len narrow wide (a ∷ held) b = held_room_is (is_ascii b) true 1 narrow
+
+  sloped : IsSloped (euc_jp jis0208 jis0212) (euc_jp_machine jis0208 jis0212) euc_jp_weight 3
   sloped = record {
     heavy = λ b held h. omega arith;
     falls = elim [ to_utf16 ↦ λ held held' n n' u h. omega arith | _ ↦ λ held held' n n' u h. omega arith ];
@@ -43,27 +190,25 @@ module _ (jis0208 jis0212 : List ℕ) where
     holds = elim [ to_utf16 ↦ λ b held h. omega arith | _ ↦ λ b held h. omega arith ];
   }
 
-  settles : (held : List ℕ) (b : ℕ) → euc_jp_may_hold held ≡ true → Settles (euc_jp jis0208 jis0212) held b ((euc_jp_machine jis0208 jis0212).step held b)
-  settles [] b h =
-      settles_test (euc_jp jis0208 jis0212) [] b (is_ascii b) (finish (reads 1 (b ∷ []))) _ (λ a. (refl, tt))
-      (λ a. settles_test (euc_jp jis0208 jis0212) [] b ((b == 0x8E || b == 0x8F) || is_euc_jp_lead b) hold (finish (malformed 1)) (λ l. refl) (λ l. tt))
-  settles (a ∷ []) b h =
-      settles_test (euc_jp jis0208 jis0212) (a ∷ []) b (a == 0x8E) _ _
-      (λ e. settles_test (euc_jp jis0208 jis0212) (a ∷ []) b (is_in_range 0xA1 0xDF b) (finish (reads 2 ((0xFF61 + (b - 0xA1)) ∷ []))) (trail_step 1 [] b) (λ k. (refl, tt)) (λ k. trail_settles (euc_jp jis0208 jis0212) (a ∷ []) b [] tt))
-      (λ e. settles_test (euc_jp jis0208 jis0212) (a ∷ []) b (a == 0x8F) _ _
-      (λ f. settles_test (euc_jp jis0208 jis0212) (a ∷ []) b (is_euc_jp_lead b) hold (trail_step 1 [] b) (λ l. refl) (λ l. trail_settles (euc_jp jis0208 jis0212) (a ∷ []) b [] tt))
-      (λ f. trail_settles (euc_jp jis0208 jis0212) (a ∷ []) b (euc_jp_scalars jis0208 a b) (euc_jp_one jis0208 a b)))
-  settles (a ∷ d ∷ []) b h = trail_settles (euc_jp jis0208 jis0212) (a ∷ d ∷ []) b (euc_jp_scalars jis0212 d b) (euc_jp_one jis0212 d b)
-  settles (a ∷ d ∷ e ∷ held) b h = absurd (false≢true h)
-
   pub euc_jp_shown : IsNarrowIndex jis0208 → IsNarrowIndex jis0212 → IsShown (euc_jp jis0208 jis0212) (euc_jp_machine jis0208 jis0212)
-  euc_jp_shown narrow narrow2 = record {
-    meets = euc_jp_meets jis0208 jis0212;
-    rooms = λ query. sloped_rooms (euc_jp jis0208 jis0212) (euc_jp_machine jis0208 jis0212) some_held 3 (euc_jp_meets jis0208 jis0212) (costs narrow narrow2) sloped query;
-    settles = λ held b h r. settles held b h;
-    write_settles = λ held h. tt;
-    same_rooms = λ held b. same_rooms (euc_jp jis0208 jis0212);
-    same_marks = λ held b. refl;
-    ascii_first = λ s b a. rw a refl;
-    swallows = inl refl;
-  }
+  euc_jp_shown n m =
+      let meets : Meets (euc_jp jis0208 jis0212) (euc_jp_machine jis0208 jis0212) = record {
+        writes = λ held h. refl;
+        steps = λ held b h r. let s = step_shows n m held b h in
+            fits_meets (euc_jp jis0208 jis0212) (euc_jp_front jis0208 jis0212) ev_is euc_jp_may_hold (λ held'. refl) held b (euc_jp_step jis0208 jis0212 held b) (few_held held h) s.fits;
+        ends = λ held h r. all_end held h;
+        few = few_held;
+      } in
+      let costs : HasCosts (euc_jp jis0208 jis0212) (euc_jp_machine jis0208 jis0212) euc_jp_weight 3 = record {
+        to_is = λ held b. refl;
+        cost = λ len narrow wide w held b h r bytes byte. rw (room_is len narrow wide held b) (let s = step_shows n m held b h in s.costs len narrow wide w);
+      } in record {
+        meets = meets;
+        rooms = λ query. sloped_rooms (euc_jp jis0208 jis0212) (euc_jp_machine jis0208 jis0212) euc_jp_weight 3 meets costs sloped query;
+        settles = λ held b h r. let s = step_shows n m held b h in s.settles;
+        write_settles = λ held h. tt;
+        same_rooms = λ held b. same_rooms (euc_jp jis0208 jis0212);
+        same_marks = λ held b. refl;
+        ascii_first = λ s b a. rw a refl;
+        swallows = inl refl;
+      }

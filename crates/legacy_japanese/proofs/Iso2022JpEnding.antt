@@ -1,134 +1,156 @@
 -- What writing a scalar that is held back, and the end of the input, are to the loop of all decoders.
-use Rattle.std.proofs.Common.{◌≡◌, ◌≢◌, ◌∙◌, ℕ, ◌+◌, ◌-◌, ◌≤◌, Bool, true, false, Option, Some, None, List, [], length, refl, sym, ap, arith, append-nil}
-use Rattle.std.specs.Prelude.{is_some}
-use Rattle.legacy_base.specs.EncodingForm.{unit_count}
-use Rattle.legacy_base.specs.Grammar.{iso_2022_jp, events_of}
-use Rattle.legacy_base.specs.States.{rests}
+use Rattle.std.proofs.Common.{◌≡◌, ◌≢◌, ◌∙◌, ℕ, Bool, true, false, Option, Some, None, List, [], ◌∷◌, inl, inr, length, refl, sym, ap, arith, append-nil}
+use Rattle.std.specs.Prelude.{◌==◌, is_some}
+use Rattle.std.proofs.lemmas.Bool.{eqb-true, or_cases}
+use Rattle.legacy_base.specs.declared.results.DecodeEvent.TheVariants.{Scalar}
+use Rattle.legacy_base.specs.{EncodingForm.unit_count, Events.shift, Grammar.iso_2022_jp, Grammar.events_of}
+use Rattle.legacy_base.specs.Fronts.{reads, malformed}
+use Rattle.legacy_base.specs.Iso2022Jp.{esc, part_mode}
 use Rattle.legacy_base.specs.Lengths.{query_form, replacement_units}
-use Rattle.legacy_base.proofs.CodeUnits.{length-code_units-bmp}
-use Rattle.legacy_japanese.specs.declared.iso_2022_jp.steps.Mode.{Mode}
-use Rattle.legacy_japanese.specs.declared.iso_2022_jp.steps.Start.TheVariants.{Nothing}
-use Rattle.legacy_japanese.specs.declared.iso_2022_jp.steps.Held.{Held}
-use Rattle.legacy_japanese.specs.declared.iso_2022_jp.steps.Held.TheVariants.{Byte, Begun, Whole}
-use Rattle.legacy_japanese.specs.Iso2022JpMachine as machine
-use Rattle.legacy_japanese.specs.Iso2022JpMachine.{mode_meaning, bytes_of, is_held, is_resting, pending}
-use Rattle.legacy_japanese.specs.Iso2022JpMoves.{state_in, IsNarrowScalar}
+use Rattle.legacy_base.specs.States.{is_escape_second, is_two_byte_mode, rests}
+use Rattle.legacy_base.proofs.{CodeUnits.length-code_units-bmp, Shifts.shift-shift, Iso2022JpParts.first_part}
+use Rattle.legacy_base.proofs.Iso2022JpFronts.{step_end, step_one, step_no_escape}
 use Rattle.legacy_decoder_engine.specs.Moves.{Releases, Reports}
-use Rattle.legacy_japanese.proofs.Iso2022JpLaw.{MeetsEnd, ended}
-use Rattle.legacy_japanese.proofs.Iso2022JpEnd.{write_law, write_some, end_law}
-use Rattle.legacy_japanese.proofs.Iso2022JpHeld.{held_rests, finish_sound, EndsSound}
+use Rattle.legacy_japanese.specs.declared.iso_2022_jp.steps.{Mode.Mode, Mode.TheVariants.TwoByte, Start.Start, Held.Held}
+use Rattle.legacy_japanese.specs.declared.iso_2022_jp.steps.Start.TheVariants.{Nothing, EscapeByte, Dollar, Paren}
+use Rattle.legacy_japanese.specs.declared.iso_2022_jp.steps.Held.TheVariants.{Byte, Begun, Whole}
+use Rattle.legacy_japanese.specs.Iso2022JpMachine.{mode_meaning, bytes_of, finish, finish_start, is_held, is_resting, mode_of, pending, single, start_bytes}
+use Rattle.legacy_japanese.specs.Iso2022JpMoves.{state_in, IsNarrowScalar}
+use Rattle.legacy_japanese.proofs.Iso2022JpLaw.{MeetsEnd, ended, events_in, front_in}
+use Rattle.legacy_japanese.proofs.Iso2022JpStep.{front-lone, front-single, front_of, escape_alone, in_range_plain}
+use Rattle.legacy_japanese.proofs.Iso2022JpHeld.{held_allowed, held_rests, finish_sound, EndsSound}
 use Rattle.legacy_japanese.proofs.Iso2022JpRooms.{same_rooms, room-falls, replacement_fits, times_one}
-use Rattle.legacy_japanese.proofs.Iso2022JpStates.{held_allowed}
 
--- ---- a scalar that is held back
+-- ---- a byte that is held back alone
 
--- what writing it does
-pub released : (jis0208 : List ℕ) (mode : Mode) (held : Held) (c : ℕ) → is_held mode held ≡ true → Some c ≡ pending mode held → IsNarrowScalar c
-    → Releases (state_in jis0208 mode held) (state_in jis0208 mode (Begun Nothing)) c
-unfolding events_of
-released jis0208 mode (Byte b) c sound is narrow = record {
-  passed = 1;
-  progress = record {
-    counts = refl;
-    rest = refl;
-    events = λ more never. write_law jis0208 mode b c more sound (sym is);
-  };
-  resting = refl;
-  allowed = refl;
-  rooms = same_rooms jis0208 mode mode;
-  fits = λ form. length-code_units-bmp form c (narrow.0);
-  scalar = narrow.1;
-  lowers = λ query n. room-falls query jis0208 mode mode (Byte b) (Begun Nothing) n n 1 (unit_count (query_form query) c) (omega arith)
-      (times_one query (unit_count (query_form query) c) (length-code_units-bmp (query_form query) c (narrow.0)));
-}
-released jis0208 mode (Begun s) c sound is narrow = cc
-released jis0208 mode (Whole e s) c sound is narrow = cc
+by_second : (P : ℕ → Type 0) (b : ℕ) → is_escape_second b ≡ true → P 0x24 → P 0x28 → P b
+by_second P b h p q = elim (or_cases (b == 0x24) (b == 0x28) h) [ inl e ↦ rw (eqb-true b 0x24 e) p | inr e ↦ rw (eqb-true b 0x28 e) q ]
 
--- ---- the end
+-- outside two-byte mode it is `24` or `28`, and has a scalar
+second_scalar : (mode : Mode) (b : ℕ) → is_held mode (Byte b) ≡ true → is_resting mode (Byte b) ≡ false → is_some (single mode b) ≡ true
+second_scalar TwoByte b held two = cc
+second_scalar mode b held two = by_second (λ b. is_some (single mode b) ≡ true) b held refl refl
 
--- what the end of the input does, by the answer of `finish`
-abbrev pub EndFacts : List ℕ → Mode → Held → Option (Mode × Held) → Type 0
-EndFacts jis0208 mode held None = events_of (iso_2022_jp jis0208 (mode_meaning mode)) (bytes_of held) ≡ []
-EndFacts jis0208 mode held (Some o) =
-    Reports (state_in jis0208 mode held) (state_in jis0208 o.0 o.1) 1 (length (bytes_of o.1))
-    × (events_of (iso_2022_jp jis0208 (mode_meaning mode)) (bytes_of held) ≢ [])
-    × (is_held o.0 o.1 ≡ true)
+-- it is no escape byte
+byte_plain : (mode : Mode) (b : ℕ) → is_held mode (Byte b) ≡ true → (b == esc) ≡ false
+byte_plain TwoByte b h = in_range_plain b h
+byte_plain mode b h = by_second (λ b. (b == esc) ≡ false) b h refl refl
 
-ended_counts : (p q : ℕ) → q + 1 ≤ p → (p - q) + (q + 0) ≡ p + 0
-ended_counts p q h = omega arith
+module _ (jis0208 : List ℕ) where
+  write_front : (mode : Mode) (b c : ℕ) (rest : List ℕ) → single mode b ≡ Some c → front_in jis0208 mode b rest ≡ reads 1 (c ∷ [])
+  write_front TwoByte b c rest e = cc
+  write_front mode b c rest e = front-single jis0208 mode b rest refl ∙ ap front_of e
 
-ended_within : (p q : ℕ) → q + 1 ≤ p → 1 + q ≤ (p - q) + q
-ended_within p q h = omega arith
+  -- a byte with a scalar by itself gives it, whatever comes
+  write_law : (mode : Mode) (b c : ℕ) (more : List ℕ) → is_held mode (Byte b) ≡ true → single mode b ≡ Some c
+      → events_in jis0208 mode (b ∷ more) ≡ Scalar c ∷ shift 1 (events_in jis0208 mode more)
+  write_law mode b c more held is = step_one jis0208 (mode_meaning mode) b more (reads 1 (c ∷ [])) (byte_plain mode b held) (write_front mode b c (first_part more) is) refl
 
-some_held : (bytes : List ℕ) (q : ℕ) → q + 1 ≤ length bytes → bytes ≢ []
-some_held bytes q h none = let e = ap length none in absurd (omega arith)
+  -- so it has an event
+  write_some : (mode : Mode) (b : ℕ) → is_held mode (Byte b) ≡ true → is_resting mode (Byte b) ≡ false → events_in jis0208 mode (b ∷ []) ≢ []
+  write_some mode b held two = by_option (single mode b) refl (second_scalar mode b held two)
+    where
+      by_option : (o : Option ℕ) → single mode b ≡ o → is_some o ≡ true → events_in jis0208 mode (b ∷ []) ≢ []
+      by_option None e s n = cc
+      by_option (Some c) e s n = let l = write_law mode b c [] held e in cc
 
-end_facts : (jis0208 : List ℕ) (mode : Mode) (held : Held) (o : Option (Mode × Held)) → MeetsEnd jis0208 mode held o → EndsSound held o → EndFacts jis0208 mode held o
-unfolding events_of
-end_facts jis0208 mode held None law sound = law
-end_facts jis0208 mode held (Some o) law sound =
-    let m = mode in
-    let h = held in
-    let n = o.0 in
-    let k = o.1 in (
-      record {
-        passed = ended h k;
-        holding = some_held (bytes_of h) (length (bytes_of k)) sound.fits;
-        progress = record {
-          counts = ended_counts (length (bytes_of h)) (length (bytes_of k)) sound.fits;
-          rest = rw (append-nil (bytes_of h), append-nil (bytes_of k)) sound.suffix;
-          events = λ more last. rw (last refl, append-nil (bytes_of h), append-nil (bytes_of k)) law;
-        };
-        holds = record { some = omega arith; few = omega arith; near = sound.short; held = refl; within = ended_within (length (bytes_of h)) (length (bytes_of k)) sound.fits };
-        allowed = held_allowed jis0208 n k sound.kept;
-        lowers = λ query. room-falls query jis0208 m n h k 0 0 1 (replacement_units query) (let r = sound.room in omega arith) (replacement_fits query);
-      },
-      λ none. (let e = sym none ∙ law in cc),
-      sound.kept,
-    )
+  -- what writing it does
+  pub released : (mode : Mode) (held : Held) (c : ℕ) → is_held mode held ≡ true → Some c ≡ pending mode held → IsNarrowScalar c
+      → Releases (state_in jis0208 mode held) (state_in jis0208 mode (Begun Nothing)) c
+  unfolding events_of
+  released mode (Byte b) c sound is narrow = record {
+    passed = 1;
+    progress = record { counts = refl; rest = refl; events = λ more never. write_law mode b c more sound (sym is) };
+    resting = refl;
+    allowed = refl;
+    rooms = same_rooms jis0208 mode mode;
+    fits = λ form. length-code_units-bmp form c (narrow.0);
+    scalar = narrow.1;
+    lowers = λ query n. room-falls query jis0208 mode mode (Byte b) (Begun Nothing) n n 1 (unit_count (query_form query) c) (omega arith)
+        (times_one query (unit_count (query_form query) c) (length-code_units-bmp (query_form query) c (narrow.0)));
+  }
+  released mode _ c sound is narrow = cc
 
-pub ends : (jis0208 : List ℕ) (mode : Mode) (held : Held) (o : Option (Mode × Held))
-    → is_held mode held ≡ true
-    → rests (iso_2022_jp jis0208 (mode_meaning mode)) (bytes_of held) ≡ true
-    → o ≡ machine.finish mode held
-    → EndFacts jis0208 mode held o
-ends jis0208 mode held o sound rest is =
-    let m = mode in
-    let h = held in
-    let r : is_resting m h ≡ true = sym (held_rests jis0208 m h sound) ∙ rest in
-    end_facts jis0208 mode held o
-    (let law = end_law jis0208 m h sound r in rw (← is) at law)
-    (let s = finish_sound m h in rw (← is) at s)
+  -- ---- the end of the input
 
--- ---- whether an event is left
+  no_escape_yet : (s : Start) → part_mode (start_bytes s) ≡ None
+  unfolding part_mode
+  no_escape_yet Nothing = refl
+  no_escape_yet _ = refl
 
--- there is one, or there is none
-abbrev pub HasRest : List ℕ → Mode → Held → Bool → Type 0
-HasRest jis0208 mode held true = events_of (iso_2022_jp jis0208 (mode_meaning mode)) (bytes_of held) ≢ []
-HasRest jis0208 mode held false = events_of (iso_2022_jp jis0208 (mode_meaning mode)) (bytes_of held) ≡ []
+  start_end : (mode : Mode) (s : Start) → MeetsEnd jis0208 mode (Begun s) (finish_start mode s)
+  start_end mode Nothing = step_end jis0208 (mode_meaning mode)
+  start_end mode EscapeByte = step_no_escape jis0208 (mode_meaning mode) [] (no_escape_yet EscapeByte)
+  start_end mode Dollar = step_no_escape jis0208 (mode_meaning mode) (0x24 ∷ []) (no_escape_yet Dollar)
+  start_end mode Paren = step_no_escape jis0208 (mode_meaning mode) (0x28 ∷ []) (no_escape_yet Paren)
 
-from_facts : (jis0208 : List ℕ) (mode : Mode) (held : Held) (o : Option (Mode × Held)) → EndFacts jis0208 mode held o → HasRest jis0208 mode held (is_some o)
-from_facts jis0208 mode held None facts = facts
-from_facts jis0208 mode held (Some o) facts = facts.1
+  lead_end : (mode : Mode) (l : ℕ) → is_held mode (Byte l) ≡ true → is_two_byte_mode (mode_meaning mode) ≡ true → MeetsEnd jis0208 mode (Byte l) (finish mode (Byte l))
+  lead_end TwoByte l held two = step_one jis0208 (mode_meaning TwoByte) l [] (malformed 1) (in_range_plain l held) (front-lone jis0208 l) refl
+  lead_end _ l held two = cc
 
-resting_rest : (jis0208 : List ℕ) (mode : Mode) (held : Held) → is_held mode held ≡ true → is_resting mode held ≡ true → HasRest jis0208 mode held (is_some (machine.finish mode held))
-resting_rest jis0208 mode held sound resting =
-    from_facts jis0208 mode held (machine.finish mode held) (ends jis0208 mode held (machine.finish mode held) sound (held_rests jis0208 mode held sound ∙ resting) refl)
+  end_law : (mode : Mode) (held : Held) → is_held mode held ≡ true → is_resting mode held ≡ true → MeetsEnd jis0208 mode held (finish mode held)
+  end_law mode (Byte l) h r = lead_end mode l h r
+  end_law mode (Begun s) h r = start_end mode s
+  end_law mode (Whole e Nothing) h r = rw (escape_alone jis0208 mode e [] (no_escape_yet Nothing), start_end (mode_of e) Nothing)
+  end_law mode (Whole e s) h r = rw (escape_alone jis0208 mode e (start_bytes s) (no_escape_yet s), start_end (mode_of e) s, shift-shift 3 1)
 
-rest_is : (jis0208 : List ℕ) (mode : Mode) (held : Held) → is_held mode held ≡ true → HasRest jis0208 mode held (is_some (machine.finish mode held))
-unfolding events_of
-rest_is jis0208 mode (Begun s) sound = resting_rest jis0208 mode (Begun s) sound refl
-rest_is jis0208 mode (Whole e s) sound = resting_rest jis0208 mode (Whole e s) sound refl
-rest_is jis0208 mode (Byte b) sound = by_test (is_resting mode (Byte b)) refl
-  where
-    by_test : (t : Bool) → is_resting mode (Byte b) ≡ t → HasRest jis0208 mode (Byte b) true
-    by_test true e = resting_rest jis0208 mode (Byte b) sound e
-    by_test false e = write_some jis0208 mode b sound e
+  -- what it does, by the answer of `finish`
+  abbrev pub EndFacts : Mode → Held → Option (Mode × Held) → Type 0
+  EndFacts mode held None = events_of (iso_2022_jp jis0208 (mode_meaning mode)) (bytes_of held) ≡ []
+  EndFacts mode held (Some o) =
+      Reports (state_in jis0208 mode held) (state_in jis0208 o.0 o.1) 1 (length (bytes_of o.1))
+      × (events_of (iso_2022_jp jis0208 (mode_meaning mode)) (bytes_of held) ≢ [])
+      × (is_held o.0 o.1 ≡ true)
 
-pub rest_some : (jis0208 : List ℕ) (mode : Mode) (held : Held) (t : Bool) → is_held mode held ≡ true → t ≡ is_some (machine.finish mode held) → t ≡ true
-    → events_of (iso_2022_jp jis0208 (mode_meaning mode)) (bytes_of held) ≢ []
-rest_some jis0208 mode held t sound is test = (let r = rest_is jis0208 mode held sound in rw (← is, test) at r)
+  end_facts : (mode : Mode) (held : Held) (o : Option (Mode × Held)) → MeetsEnd jis0208 mode held o → EndsSound held o → EndFacts mode held o
+  unfolding events_of
+  end_facts mode held None law sound = law
+  end_facts mode held (Some o) law sound =
+      let fits = sound.fits in
+      let some : events_in jis0208 mode (bytes_of held) ≢ [] = λ none. (let e = sym none ∙ law in cc) in (
+        record {
+          passed = ended held o.1;
+          holding = λ none. (let e = ap length none in absurd (omega arith));
+          progress = record {
+            counts = omega arith;
+            rest = rw (append-nil (bytes_of held), append-nil (bytes_of o.1)) sound.suffix;
+            events = λ more last. rw (last refl, append-nil (bytes_of held), append-nil (bytes_of o.1)) law;
+          };
+          holds = record { some = omega arith; few = omega arith; near = sound.short; held = refl; within = omega arith };
+          allowed = held_allowed jis0208 o.0 o.1 sound.kept;
+          lowers = λ query. room-falls query jis0208 mode o.0 held o.1 0 0 1 (replacement_units query) (let r = sound.room in omega arith) (replacement_fits query);
+        },
+        some,
+        sound.kept,
+      )
 
-pub rest_none : (jis0208 : List ℕ) (mode : Mode) (held : Held) (t : Bool) → is_held mode held ≡ true → t ≡ is_some (machine.finish mode held) → t ≡ false
-    → events_of (iso_2022_jp jis0208 (mode_meaning mode)) (bytes_of held) ≡ []
-rest_none jis0208 mode held t sound is test = (let r = rest_is jis0208 mode held sound in rw (← is, test) at r)
+  pub ends : (mode : Mode) (held : Held) (o : Option (Mode × Held)) → is_held mode held ≡ true
+      → rests (iso_2022_jp jis0208 (mode_meaning mode)) (bytes_of held) ≡ true → o ≡ finish mode held → EndFacts mode held o
+  ends mode held o sound rest is =
+      rw is (end_facts mode held (finish mode held) (end_law mode held sound (sym (held_rests jis0208 mode held sound) ∙ rest)) (finish_sound mode held))
+
+  -- ---- whether an event is left
+
+  abbrev HasRest : Mode → Held → Bool → Type 0
+  HasRest mode held t =
+      (t ≡ true → events_of (iso_2022_jp jis0208 (mode_meaning mode)) (bytes_of held) ≢ [])
+      × (t ≡ false → events_of (iso_2022_jp jis0208 (mode_meaning mode)) (bytes_of held) ≡ [])
+
+  from_facts : (mode : Mode) (held : Held) (o : Option (Mode × Held)) → EndFacts mode held o → HasRest mode held (is_some o)
+  from_facts mode held None facts = (λ e. cc, λ e. facts)
+  from_facts mode held (Some o) facts = (λ e. facts.1, λ e. cc)
+
+  resting_rest : (mode : Mode) (held : Held) → is_held mode held ≡ true → is_resting mode held ≡ true → HasRest mode held (is_some (finish mode held))
+  resting_rest mode held sound resting = from_facts mode held (finish mode held) (ends mode held (finish mode held) sound (held_rests jis0208 mode held sound ∙ resting) refl)
+
+  rest_is : (mode : Mode) (held : Held) → is_held mode held ≡ true → HasRest mode held (is_some (finish mode held))
+  unfolding events_of
+  rest_is mode (Byte b) sound = by_test (is_resting mode (Byte b)) refl
+    where
+      by_test : (t : Bool) → is_resting mode (Byte b) ≡ t → HasRest mode (Byte b) true
+      by_test true e = resting_rest mode (Byte b) sound e
+      by_test false e = (λ t. write_some mode b sound e, λ f. cc)
+  rest_is mode held sound = resting_rest mode held sound refl
+
+  pub rest_known : (mode : Mode) (held : Held) (t : Bool) → is_held mode held ≡ true → t ≡ is_some (finish mode held) → HasRest mode held t
+  rest_known mode held t sound is = rw is (rest_is mode held sound)

@@ -1,44 +1,44 @@
 -- What the machine holds back is what may be held back, and its numbers.
-use Rattle.std.proofs.Common.{◌≡◌, ℕ, ◌+◌, ◌≤◌, true, Option, Some, None, List, [], ◌∷◌, length, drop, refl, arith, lit≤}
+use Rattle.std.proofs.Common.{◌≡◌, ℕ, ◌+◌, ◌≤◌, true, Option, Some, None, List, [], ◌∷◌, length, drop, refl, arith, rules, lit≤}
+use Rattle.std.specs.Prelude.{◌==◌}
 use Rattle.std.proofs.lemmas.Bool.{or_right}
-use Rattle.legacy_base.specs.Grammar.{iso_2022_jp}
-use Rattle.legacy_base.specs.States.{is_two_byte_mode, rests}
-use Rattle.legacy_base.specs.Lengths.{weight}
-use Rattle.legacy_japanese.specs.declared.iso_2022_jp.steps.Mode.{Mode}
-use Rattle.legacy_japanese.specs.declared.iso_2022_jp.steps.Mode.TheVariants.{Ascii, Roman, Katakana, TwoByte}
-use Rattle.legacy_japanese.specs.declared.iso_2022_jp.steps.Start.TheVariants.{Nothing, EscapeByte, Dollar, Paren}
-use Rattle.legacy_japanese.specs.declared.iso_2022_jp.steps.Held.{Held}
+use Rattle.legacy_base.specs.{Grammar.iso_2022_jp, Iso2022Jp.esc, Lengths.weight}
+use Rattle.legacy_base.specs.States.{is_escape_start, is_two_byte_mode, may_hold, rests}
+use Rattle.legacy_japanese.specs.declared.iso_2022_jp.steps.{Mode.Mode, Mode.TheVariants.TwoByte, Start.Start, Start.TheVariants.Nothing, Start.TheVariants.EscapeByte, Held.Held}
 use Rattle.legacy_japanese.specs.declared.iso_2022_jp.steps.Held.TheVariants.{Byte, Begun, Whole}
-use Rattle.legacy_japanese.specs.Iso2022JpMachine.{mode_meaning, bytes_of, finish, is_held, is_resting, mode_of}
+use Rattle.legacy_japanese.specs.Iso2022JpMachine.{mode_meaning, bytes_of, finish, is_held, is_resting, mode_of, start_bytes}
 use Rattle.legacy_japanese.specs.Iso2022JpMoves.{weight_of}
 use Rattle.legacy_japanese.proofs.Iso2022JpLaw.{ended}
 use Rattle.legacy_japanese.proofs.Iso2022JpStep.{valid, second_kept}
 
 -- ---- the bytes of what is held back
 
+start_allowed : (s : Start) → is_escape_start (start_bytes s) ≡ true
+start_allowed Nothing = refl
+start_allowed _ = refl
+
+-- they may be held back
+pub held_allowed : (jis0208 : List ℕ) (mode : Mode) (held : Held) → is_held mode held ≡ true → may_hold (iso_2022_jp jis0208 (mode_meaning mode)) (bytes_of held) ≡ true
+held_allowed jis0208 mode (Byte b) h = or_right (b == esc) (is_held mode (Byte b)) h
+held_allowed jis0208 mode (Whole e s) h = rw (valid e, start_allowed s)
+held_allowed jis0208 mode (Begun Nothing) h = refl
+held_allowed jis0208 mode _ h = refl
+
 byte_rests : (jis0208 : List ℕ) (mode : Mode) (b : ℕ) → is_held mode (Byte b) ≡ true → rests (iso_2022_jp jis0208 (mode_meaning mode)) (b ∷ []) ≡ is_two_byte_mode (mode_meaning mode)
 byte_rests jis0208 TwoByte b h = refl
-byte_rests jis0208 Ascii b h = rw h
-byte_rests jis0208 Roman b h = rw h
-byte_rests jis0208 Katakana b h = rw h
+byte_rests jis0208 _ b h = rw h
 
 -- they rest where the machine reads on
 pub held_rests : (jis0208 : List ℕ) (mode : Mode) (held : Held) → is_held mode held ≡ true → rests (iso_2022_jp jis0208 (mode_meaning mode)) (bytes_of held) ≡ is_resting mode held
 held_rests jis0208 mode (Byte b) h = byte_rests jis0208 mode b h
-held_rests jis0208 mode (Begun Nothing) h = refl
 held_rests jis0208 mode (Begun EscapeByte) h = or_right (is_two_byte_mode (mode_meaning mode)) true refl
-held_rests jis0208 mode (Begun Dollar) h = refl
-held_rests jis0208 mode (Begun Paren) h = refl
-held_rests jis0208 mode (Whole e s) h = refl
+held_rests jis0208 mode _ h = refl
 
 -- their weight
 pub held_weight : (jis0208 : List ℕ) (mode : Mode) (held : Held) → weight (iso_2022_jp jis0208 (mode_meaning mode)) (bytes_of held) ≡ weight_of held
-held_weight jis0208 mode (Byte b) = refl
-held_weight jis0208 mode (Begun Nothing) = refl
-held_weight jis0208 mode (Begun EscapeByte) = refl
-held_weight jis0208 mode (Begun Dollar) = refl
-held_weight jis0208 mode (Begun Paren) = refl
 held_weight jis0208 mode (Whole e s) = rw (valid e) (omega arith)
+held_weight jis0208 mode (Begun Nothing) = refl
+held_weight jis0208 mode _ = refl
 
 -- ---- the end
 
@@ -55,12 +55,7 @@ EndsSound held None = Unit {0}
 EndsSound held (Some o) = SoundEnd held o.0 o.1
 
 pub finish_sound : (mode : Mode) (held : Held) → EndsSound held (finish mode held)
-finish_sound mode (Byte b) = record { kept = refl; suffix = refl; fits = lit≤ tt; short = lit≤ tt; room = lit≤ tt }
 finish_sound mode (Begun Nothing) = tt
-finish_sound mode (Begun EscapeByte) = record { kept = refl; suffix = refl; fits = lit≤ tt; short = lit≤ tt; room = lit≤ tt }
-finish_sound mode (Begun Dollar) = record { kept = (second_kept mode).0; suffix = refl; fits = lit≤ tt; short = lit≤ tt; room = lit≤ tt }
-finish_sound mode (Begun Paren) = record { kept = (second_kept mode).1; suffix = refl; fits = lit≤ tt; short = lit≤ tt; room = lit≤ tt }
 finish_sound mode (Whole e Nothing) = tt
-finish_sound mode (Whole e EscapeByte) = record { kept = refl; suffix = refl; fits = lit≤ tt; short = lit≤ tt; room = lit≤ tt }
-finish_sound mode (Whole e Dollar) = record { kept = (second_kept (mode_of e)).0; suffix = refl; fits = lit≤ tt; short = lit≤ tt; room = lit≤ tt }
-finish_sound mode (Whole e Paren) = record { kept = (second_kept (mode_of e)).1; suffix = refl; fits = lit≤ tt; short = lit≤ tt; room = lit≤ tt }
+finish_sound mode (Whole e _) = record { kept = search (rules, (second_kept (mode_of e)).0, (second_kept (mode_of e)).1); suffix = refl; fits = lit≤ tt; short = lit≤ tt; room = lit≤ tt }
+finish_sound mode _ = record { kept = search (rules, (second_kept mode).0, (second_kept mode).1); suffix = refl; fits = lit≤ tt; short = lit≤ tt; room = lit≤ tt }

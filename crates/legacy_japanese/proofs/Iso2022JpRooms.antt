@@ -1,32 +1,24 @@
 -- The room that an ISO-2022-JP decoder needs, and how it falls.
 use Rattle.std.proofs.Common.{◌≡◌, ℕ, ◌+◌, ◌*◌, ◌<◌, ◌≤◌, Bool, true, false, cond, Some, List, [], ◌∷◌, length, refl, arith, length-append, ◌&&◌}
+use Rattle.std.specs.Char.{is_ascii}
 use Rattle.legacy_base.specs.declared.results.DecodeEvent.{DecodeEvent}
 use Rattle.legacy_base.specs.EncodingForm.{EncodingForm, bmp_room, wide_room, code_units, total_unit_count}
 use Rattle.legacy_base.specs.Grammar.{iso_2022_jp, events_of}
 use Rattle.legacy_base.specs.States.{rests, is_empty}
-use Rattle.std.specs.Char.{is_ascii}
 use Rattle.legacy_base.specs.Acts.{writes, act_at_end, act_at_rest, room_of_act}
-use Rattle.legacy_base.specs.Lengths.{LengthQuery, to_utf16, to_utf8, to_utf8_without_replacement, query_form, replacement_units, room}
-use Rattle.legacy_base.proofs.CodeUnits.{length-code_units-bmp}
-use Rattle.legacy_base.proofs.Iso2022JpFronts.{step_end}
-use Rattle.legacy_japanese.specs.declared.iso_2022_jp.steps.Mode.{Mode}
-use Rattle.legacy_japanese.specs.declared.iso_2022_jp.steps.Start.TheVariants.{Nothing, EscapeByte, Dollar, Paren}
-use Rattle.legacy_japanese.specs.declared.iso_2022_jp.steps.Held.{Held}
-use Rattle.legacy_japanese.specs.declared.iso_2022_jp.steps.Held.TheVariants.{Byte, Begun, Whole}
+use Rattle.legacy_base.specs.Lengths.{LengthQuery, to_utf16, query_form, replacement_units, room}
+use Rattle.legacy_base.proofs.{CodeUnits.length-code_units-bmp, Iso2022JpFronts.step_end}
+use Rattle.legacy_decoder_engine.specs.Moves.{IsCovered, SameRooms, read_room}
+use Rattle.legacy_japanese.specs.declared.iso_2022_jp.steps.{Mode.Mode, Start.TheVariants.Nothing, Held.Held, Held.TheVariants.Begun}
 use Rattle.legacy_japanese.specs.Iso2022JpMachine.{mode_meaning, bytes_of}
 use Rattle.legacy_japanese.specs.Iso2022JpMoves.{state_in, weight_of}
-use Rattle.legacy_decoder_engine.specs.Moves.{IsCovered, SameRooms, read_room}
 use Rattle.legacy_japanese.proofs.Iso2022JpHeld.{held_weight}
 
 -- ---- the room of an act
 
 -- the modes need the same room
 pub same_rooms : (jis0208 : List ℕ) (before after : Mode) → SameRooms (iso_2022_jp jis0208 (mode_meaning before)) (iso_2022_jp jis0208 (mode_meaning after))
-same_rooms jis0208 before after = record {
-  full = λ form. refl;
-  report = λ form. refl;
-  wants = λ previous c. refl;
-}
+same_rooms jis0208 before after = record { full = λ form. refl; report = λ form. refl; wants = λ previous c. refl }
 
 no_short : (t : Bool) (x : ℕ) → cond (t && false) 1 x ≡ x
 no_short true x = refl
@@ -45,18 +37,15 @@ one_fits form c h = let l = length-code_units-bmp form c h in let a = length-app
 -- the room of the bytes to come and of those that are held back, for each a scalar up to U+FFFF
 pub room-is : (query : LengthQuery) (jis0208 : List ℕ) (mode : Mode) (held : Held) (n : ℕ) → room query (state_in jis0208 mode held) n ≡ bmp_room (query_form query) * (n + weight_of held)
 room-is to_utf16 jis0208 mode held n = rw (held_weight jis0208 mode held) (omega arith)
-room-is to_utf8 jis0208 mode held n = rw (held_weight jis0208 mode held) refl
-room-is to_utf8_without_replacement jis0208 mode held n = rw (held_weight jis0208 mode held) refl
+room-is _ jis0208 mode held n = rw (held_weight jis0208 mode held) refl
 
 falls : (query : LengthQuery) (x y r u : ℕ) → x + r ≤ y → u ≤ bmp_room (query_form query) * r → bmp_room (query_form query) * x + u ≤ bmp_room (query_form query) * y
 falls to_utf16 x y r u h k = omega arith
-falls to_utf8 x y r u h k = omega arith
-falls to_utf8_without_replacement x y r u h k = omega arith
+falls _ x y r u h k = omega arith
 
 -- it falls by what is written, where the weight falls by the scalars and reports
 pub room-falls : (query : LengthQuery) (jis0208 : List ℕ) (mode new_mode : Mode) (held new_held : Held) (n m r u : ℕ)
-    → (m + weight_of new_held) + r ≤ n + weight_of held
-    → u ≤ bmp_room (query_form query) * r
+    → (m + weight_of new_held) + r ≤ n + weight_of held → u ≤ bmp_room (query_form query) * r
     → room query (state_in jis0208 new_mode new_held) m + u ≤ room query (state_in jis0208 mode held) n
 room-falls query jis0208 mode new_mode held new_held n m r u h k =
     rw (room-is query jis0208 mode held n, room-is query jis0208 new_mode new_held m) (falls query (m + weight_of new_held) (n + weight_of held) r u h k)
@@ -64,29 +53,17 @@ room-falls query jis0208 mode new_mode held new_held n m r u h k =
 -- the room of a malformed sequence
 pub replacement_fits : (query : LengthQuery) → replacement_units query ≤ bmp_room (query_form query) * 1
 replacement_fits to_utf16 = omega arith
-replacement_fits to_utf8 = omega arith
-replacement_fits to_utf8_without_replacement = omega arith
+replacement_fits _ = omega arith
 
 pub times_one : (query : LengthQuery) (u : ℕ) → u ≤ bmp_room (query_form query) → u ≤ bmp_room (query_form query) * 1
 times_one to_utf16 u h = omega arith
-times_one to_utf8 u h = omega arith
-times_one to_utf8_without_replacement u h = omega arith
+times_one _ u h = omega arith
 
 -- ---- the next act has its room
 
 some_room : (query : LengthQuery) (x : ℕ) → 1 ≤ x → bmp_room (query_form query) ≤ bmp_room (query_form query) * x
 some_room to_utf16 x h = omega arith
-some_room to_utf8 x h = omega arith
-some_room to_utf8_without_replacement x h = omega arith
-
--- nothing is held back, or it has weight
-heavy : (P : Held → Type 0) → P (Begun Nothing) → ((held : Held) → 1 ≤ weight_of held → P held) → (held : Held) → P held
-heavy P nothing some (Byte b) = some (Byte b) (omega arith)
-heavy P nothing some (Begun Nothing) = nothing
-heavy P nothing some (Begun EscapeByte) = some (Begun EscapeByte) (omega arith)
-heavy P nothing some (Begun Dollar) = some (Begun Dollar) (omega arith)
-heavy P nothing some (Begun Paren) = some (Begun Paren) (omega arith)
-heavy P nothing some (Whole e s) = some (Whole e s) (omega arith)
+some_room _ x h = omega arith
 
 module _ (query : LengthQuery) (jis0208 : List ℕ) (mode : Mode) where
   -- the room of the next act, at a test that what is held back rests
@@ -95,7 +72,8 @@ module _ (query : LengthQuery) (jis0208 : List ℕ) (mode : Mode) where
       room_of_act (bmp_room (query_form query)) (wide_room (query_form query)) (state_in jis0208 mode held)
       (cond resting (act_at_rest (state_in jis0208 mode held) unread last) (Some writes))
 
-  end_most : (held : Held) (events : List DecodeEvent) (last : Bool) → room_of_act (bmp_room (query_form query)) (wide_room (query_form query)) (state_in jis0208 mode held) (act_at_end events last) ≤ bmp_room (query_form query)
+  end_most : (held : Held) (events : List DecodeEvent) (last : Bool)
+      → room_of_act (bmp_room (query_form query)) (wide_room (query_form query)) (state_in jis0208 mode held) (act_at_end events last) ≤ bmp_room (query_form query)
   end_most held [] last = omega arith
   end_most held (event ∷ events) true = omega arith
   end_most held (event ∷ events) false = omega arith
@@ -110,28 +88,15 @@ module _ (query : LengthQuery) (jis0208 : List ℕ) (mode : Mode) where
   unfolding needed events_of
   none last = rw (step_end jis0208 (mode_meaning mode)) refl
 
-  Enough : List ℕ → Bool → Held → Type 0
-  Enough unread last held = needed held unread last (rests (iso_2022_jp jis0208 (mode_meaning mode)) (bytes_of held)) ≤ bmp_room (query_form query) * (length unread + weight_of held)
-
-  enough : (unread : List ℕ) (last : Bool) (held : Held) → Enough unread last held
-  unfolding Enough
-  enough (b ∷ unread) last held =
-      let m = most held (b ∷ unread) last (rests (iso_2022_jp jis0208 (mode_meaning mode)) (bytes_of held)) in
-      let s = some_room query (length (b ∷ unread) + weight_of held) (omega arith) in
+  enough : (unread : List ℕ) (last : Bool) (held : Held)
+      → needed held unread last (rests (iso_2022_jp jis0208 (mode_meaning mode)) (bytes_of held)) ≤ bmp_room (query_form query) * (length unread + weight_of held)
+  enough [] last (Begun Nothing) = let n = none last in omega arith
+  enough unread last held =
+      let m = most held unread last (rests (iso_2022_jp jis0208 (mode_meaning mode)) (bytes_of held)) in
+      let s = some_room query (length unread + weight_of held) (omega arith) in
       omega arith
-  enough [] last held = heavy (Enough [] last)
-      (let n = none last in omega arith)
-      (λ h heavy_enough.
-      let m = most h [] last (rests (iso_2022_jp jis0208 (mode_meaning mode)) (bytes_of h)) in
-      let s = some_room query (0 + weight_of h) (omega arith) in
-      omega arith)
-      held
-
-  covers : (unread : List ℕ) (last : Bool) (held : Held) → needed held unread last (rests (iso_2022_jp jis0208 (mode_meaning mode)) (bytes_of held)) ≤ room query (state_in jis0208 mode held) (length unread)
-  unfolding Enough
-  covers unread last held = rw (room-is query jis0208 mode held (length unread)) (enough unread last held)
 
 -- the room of a length query is enough for the next act
 pub covered : (jis0208 : List ℕ) (mode : Mode) (held : Held) → IsCovered (state_in jis0208 mode held)
 unfolding needed
-covered jis0208 mode held = record { covers = λ query unread last. covers query jis0208 mode unread last held }
+covered jis0208 mode held = record { covers = λ query unread last. rw (room-is query jis0208 mode held (length unread)) (enough query jis0208 mode unread last held) }

@@ -1,19 +1,11 @@
 -- How each decoder takes the steps of its machine, and each machine keeps to its grammar.
-pub mod EucJpCosts
-pub mod EucJpMeets
 pub mod EucJpShown
 pub mod EucJpHeld
 pub mod Iso2022JpLaw
 pub mod Iso2022JpStep
-pub mod Iso2022JpEnd
 pub mod Iso2022JpHeld
 pub mod Iso2022JpRooms
 pub mod Iso2022JpEnding
-pub mod Iso2022JpEntries
 pub mod Iso2022JpEscapes
 pub mod Iso2022JpFeeding
 pub mod Iso2022JpRuns
-pub mod Iso2022JpStates
-pub mod Jis0208Places
-pub mod ShiftJisPlaces
-pub mod ShiftJisRuns

@@ -214,6 +214,7 @@ impl DecoderMoves for EucJpDecoder<'_> {
     }
 
     #[inline]
+    #[tactic(auto, using(crate::proofs::EucJpHeld::covered))]
     fn room(&self, next: Move) -> Room {
         room_of(self.held, next)
     }

@@ -68,6 +68,7 @@ impl<'a> DecoderMoves for Iso2022JpDecoder<'a> {
     }
 
     #[inline]
+    #[tactic(auto, using(crate::proofs::Iso2022JpRooms::covered))]
     fn room(&self, _next: Move) -> Room {
         Room::Narrow
     }

@@ -1,7 +1,16 @@
-use Rattle.std.proofs.Common.{refl, arith}
-use Rattle.legacy_japanese.proofs.Jis0208Places.{jis_lead_read, jis_trail_read}
+use Rattle.std.proofs.Common.{◌≡◌, ℕ, ◌<◌, get_or, refl, arith}
+use Rattle.legacy_decoder_engine.proofs.RowPlaces.{read}
+use Rattle.legacy_japanese.specs.Jis0208Places.{jis_lead_place, jis_trail_place}
+use Rattle.legacy_japanese.specs.declared.iso_2022_jp.places.TheConstants.{LEADS, TRAILS}
 use Rattle.legacy_japanese.proofs.iso_2022_jp.places.pair_pointer.Goals as goal
 
+lead_read : (b : ℕ) → b < 256 → get_or LEADS b 0 ≡ jis_lead_place b
+unfolding jis_lead_place
+lead_read = read LEADS jis_lead_place refl
+
+trail_read : (b : ℕ) → b < 256 → get_or TRAILS b 0 ≡ jis_trail_place b
+unfolding jis_trail_place
+trail_read = read TRAILS jis_trail_place refl
+
 pub returns : goal.returns
-returns c =
-    rw (c.from-2.ensures, c.from-4.ensures, c.from.ensures, c.from-3.ensures, jis_lead_read c.args.lead (omega arith), jis_trail_read c.args.trail (omega arith)) refl
+returns c = rw (c.from-2.ensures, c.from-4.ensures, c.from.ensures, c.from-3.ensures, lead_read c.args.lead (omega arith), trail_read c.args.trail (omega arith)) refl

@@ -1,16 +1,14 @@
+use Rattle.std.proofs.Common.{ap}
 use Rattle.std.proofs.lemmas.Bool.{false≢true, true≢false}
+use Rattle.legacy_japanese.specs.EucJpHeld.{held_bytes}
 use Rattle.legacy_japanese.proofs.EucJpHeld.{events-none, events-some}
 use Rattle.legacy_japanese.proofs.euc_jp.decoder.EucJpDecoderDecoderMoves.has_rest.Goals as goal
 use Rattle.legacy_japanese.proofs.euc_jp.decoder.EucJpDecoderDecoderMoves.has_rest.Goals.{in-Nothing, in_default}
 
-pub returns-clause-some : goal.returns-clause-some
-returns-clause-some c = λ t. elim c.match-matches.branch [
-  | in-Nothing w ↦ absurd (false≢true (rw w.matches-is at t))
-  | in_default w ↦ events-some c.args.self.now.tables.now c.args.self.now.held w.in_default.not-Nothing
-]
-
-pub returns-clause-none : goal.returns-clause-none
-returns-clause-none c = λ f. elim c.match-matches.branch [
-  | in-Nothing w ↦ rw w.in-Nothing.is (events-none c.args.self.now.tables.now)
-  | in_default w ↦ absurd (true≢false (rw w.matches-is at f))
-]
+pub returns : goal.returns
+returns c =
+    let s = c.args.self.now in
+    elim c.match-matches.branch [
+      | in-Nothing w ↦ record { some = λ t. absurd (false≢true (rw w.matches-is at t)); none = λ f. events-none s.tables.now s.held (ap (λ held. held_bytes held) w.in-Nothing.is) }
+      | in_default w ↦ record { some = λ t. events-some s.tables.now s.held w.in_default.not-Nothing; none = λ f. absurd (true≢false (rw w.matches-is at f)) }
+    ]

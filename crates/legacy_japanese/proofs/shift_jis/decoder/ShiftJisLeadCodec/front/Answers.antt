@@ -1,30 +1,58 @@
-use Rattle.std.proofs.Common.{◌<◌, ◌^◌, refl, arith}
-use Rattle.legacy_base.specs.ShiftJis.{is_shift_jis_lead}
-use Rattle.legacy_base.specs.Grammar.{shift_jis}
+-- Forms of Shift_JIS that give one scalar.
+use Rattle.std.proofs.Common.{◌≡◌, ◌≤◌, ◌<◌, ◌^◌, ◌+◌, ◌-◌, ◌==◌, ℕ, List, [], ◌∷◌, Option, Some, None, false, true, refl, arith}
+use Rattle.std.proofs.lemmas.Bool.{cond_both}
+use Rattle.std.proofs.lemmas.Bool.Decides.{nat_tests}
+use Rattle.std.specs.{Char.is_ascii, Int.is_in_range, Option.option_map_or, Prelude.option_to_list}
+use Rattle.legacy_base.specs.{Fronts.reads, Grammar.shift_jis, Indexes.idx}
+use Rattle.legacy_base.specs.ShiftJis.{is_shift_jis_lead, shift_jis_pointer, shift_jis_scalars}
 use Rattle.legacy_base.proofs.Accepted.{jis0208-below}
+use Rattle.legacy_decoder_engine.specs.{Costs.IsNarrowIndex, Steps.finish}
+use Rattle.legacy_decoder_engine.proofs.{LeadHeld.pair, RowPlaces.found, RunForms.single_runs, Widths.idx_below}
 use Rattle.legacy_japanese.specs.ShiftJisMachine.{shift_jis_first, shift_jis_pair_scalars}
 use Rattle.legacy_japanese.specs.ShiftJisShown.{shift_jis_shown, shift_jis_codec}
-use Rattle.legacy_decoder_engine.proofs.RowPlaces.{found}
-use Rattle.legacy_decoder_engine.proofs.RunForms.{single_runs}
-use Rattle.legacy_japanese.proofs.ShiftJisRuns.{shift_jis_below, katakana_first}
-use Rattle.legacy_decoder_engine.proofs.LeadHeld.{pair}
 use Rattle.legacy_japanese.proofs.shift_jis.decoder.ShiftJisLeadCodec.front.Goals as goal
+
+-- ---- the scalars of pairs are below U+10000
+
+private_use_below : (p c : ℕ) → is_in_range 8836 10715 p ≡ true → (0xE000 + (p - 8836)) ∷ [] ≡ c ∷ [] → c < 0x1_0000
+private_use_below p c t e =
+    let high : p ≤ 10715 = grind (arith, nat_tests) in
+    let same : 0xE000 + (p - 8836) ≡ c = cc in
+    omega arith
+
+scalar_below : (jis0208 : List ℕ) (o : Option ℕ) (c : ℕ) → IsNarrowIndex jis0208 → option_map_or (shift_jis_scalars jis0208) o [] ≡ c ∷ [] → c < 0x1_0000
+scalar_below jis0208 None c narrow e = cc
+scalar_below jis0208 (Some p) c narrow e = cond_both (is_in_range 8836 10715 p) ((0xE000 + (p - 8836)) ∷ []) (option_to_list (idx jis0208 p))
+    (λ scalars. scalars ≡ c ∷ [] → c < 0x1_0000) (private_use_below p c) (λ t. idx_below jis0208 p c narrow) e
 
 pub returns-in-Some : goal.returns-in-Some
 returns-in-Some c =
     let tables = c.args.tables.now in
-    let byte : c.args.lead < 2 ^ 8 = omega arith in
-    let byte' : c.args.trail < 2 ^ 8 = omega arith in
-    let both = found (is_shift_jis_lead c.args.lead) (shift_jis_pair_scalars tables.flat.jis0208 c.args.lead c.args.trail) c.in-Some.scalar c.in-Some.ensures.value in (
-      shift_jis_below tables.flat.jis0208 c.args.lead c.args.trail c.in-Some.scalar (jis0208-below tables.flat tables.accepted) both.1,
-      pair (λ flat. shift_jis flat.jis0208) is_shift_jis_lead shift_jis_first (λ flat. shift_jis_pair_scalars flat.jis0208) shift_jis_codec tables c.args.lead c.args.trail c.in-Some.scalar byte byte' c.in-Some.ensures.scalar both.0 both.1,
+    let lead = c.args.lead in
+    let trail = c.args.trail in
+    let scalar = c.in-Some.scalar in
+    let byte : lead < 2 ^ 8 = omega arith in
+    let byte' : trail < 2 ^ 8 = omega arith in
+    let both = found (is_shift_jis_lead lead) (shift_jis_pair_scalars tables.flat.jis0208 lead trail) scalar c.in-Some.ensures.value in (
+      scalar_below tables.flat.jis0208 (shift_jis_pointer lead trail) scalar (jis0208-below tables.flat tables.accepted) both.1,
+      pair (λ flat. shift_jis flat.jis0208) is_shift_jis_lead shift_jis_first (λ flat. shift_jis_pair_scalars flat.jis0208) shift_jis_codec tables lead trail scalar
+          byte byte' c.in-Some.ensures.scalar both.0 both.1,
     )
+
+-- ---- halfwidth katakana
+
+katakana_tests : (b : ℕ) → 0xA1 ≤ b → b ≤ 0xDF → (is_ascii b ≡ false) × ((b == 0x80) ≡ false) × (is_in_range 0xA1 0xDF b ≡ true)
+katakana_tests b low high = (grind (arith, nat_tests), grind (arith, nat_tests), grind (arith, nat_tests))
+
+katakana_first : (b : ℕ) → 0xA1 ≤ b → b ≤ 0xDF → shift_jis_first b ≡ finish (reads 1 ((0xFF61 + (b - 0xA1)) ∷ []))
+katakana_first b low high = let tests = katakana_tests b low high in rw (tests.0, tests.1, tests.2) refl
 
 pub returns-then-lead-le223 : goal.returns-then-lead-le223
 returns-then-lead-le223 c =
     let tables = c.args.tables.now in
     let byte : c.args.lead < 2 ^ 8 = omega arith in
-    let low = c.if-lead-ge161.true in
-    let high = c.if-lead-le223.true in
-    let e = c.katakana.ensures in
-    (omega arith, single_runs (shift_jis_shown tables.flat.jis0208 (jis0208-below tables.flat tables.accepted)) c.args.lead c.katakana.result byte c.katakana.type_inv.1.1 refl (rw (katakana_first c.args.lead low high, e) refl))
+    let first = katakana_first c.args.lead c.if-lead-ge161.true c.if-lead-le223.true in (
+      omega (arith, c.if-lead-le223.true, c.katakana.ensures),
+      single_runs (shift_jis_shown tables.flat.jis0208 (jis0208-below tables.flat tables.accepted)) c.args.lead c.katakana.result byte c.katakana.type_inv.1.1 refl
+          (rw (first, c.katakana.ensures) refl),
+    )

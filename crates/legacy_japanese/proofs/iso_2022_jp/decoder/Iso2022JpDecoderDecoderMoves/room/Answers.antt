@@ -1,7 +1,0 @@
-use Rattle.legacy_japanese.proofs.Iso2022JpRooms.{covered}
-use Rattle.legacy_japanese.proofs.iso_2022_jp.decoder.Iso2022JpDecoderDecoderMoves.room.Goals as goal
-
-pub returns-clause-covered : goal.returns-clause-covered
-returns-clause-covered c =
-    let s = c.args.self.now in
-    covered s.tables.now.flat.jis0208 s.mode s.held
