@@ -1,10 +1,11 @@
 //! What is proved of the definitions themselves. The functions do nothing: each carries a law as its
 //! contract.
-ghost use Rattle.legacy_base.specs.Laws.{AreReadByFronts, HasNoneOfNothing, CutsDoNotMatter};
+ghost use Rattle.legacy_base.specs.Laws.{AreReadByFronts, HasNoneOfNothing};
 
 /// The events of a list that is not empty are those of its front, and then those of what stands
-/// behind the front. So each list has exactly one list of events, by its fronts, and each front has one
-/// to four bytes of the list. It holds of the seven codecs that are read front by front.
+/// behind the front. So each list has exactly one list of events, by its fronts. Each front has one to
+/// four bytes of the list, and is malformed or gives one scalar or two, which are Unicode scalar values
+/// where the tables passed their check. It holds of the seven codecs that are read front by front.
 pub fn lists_are_read_by_fronts()
     ensures { AreReadByFronts }
 {}
@@ -12,10 +13,4 @@ pub fn lists_are_read_by_fronts()
 /// An empty list has no events, in any codec.
 pub fn nothing_has_no_events()
     ensures { HasNoneOfNothing }
-{}
-
-/// However the input is cut, a decoder that goes through it to the end and leaves no event gave the
-/// events of the whole input: no place and no length depends on the cuts.
-pub fn cuts_do_not_matter()
-    ensures { CutsDoNotMatter }
 {}

@@ -13,7 +13,7 @@ use Rattle.legacy_codecs.specs.Runs.{placed}
 use Rattle.legacy_recode.specs.Recoding.{input_events, RecodesPiece, RecodesAll, RecodesBeginning}
 use Rattle.std.specs.Prelude.{Result, Ok, Err, OnOk}
 use Rattle.std.specs.Result.{is_err}
-use Rattle.legacy_codecs.proofs.Runs.{placed-append}
+use Rattle.legacy_codecs.proofs.RunEvents.{placed-append}
 use Rattle.std.proofs.KnownBytes.{Appends-nil, Appends-trans, Consumes-nil, Consumes-trans, Consumes-kept, Keeps-refl}
 use Rattle.legacy_recode.proofs.EventLines.{event_lines-append, event_lines-none}
 

@@ -2,7 +2,7 @@ use Rattle.std.proofs.Common.{◌∙◌, ◌+◌, length, ap, arith}
 use Rattle.legacy_base.specs.EncodingForm.{Utf16, all_code_units}
 use Rattle.legacy_base.proofs.SameUnits.{length-le-all_code_units}
 use Rattle.legacy_codecs.specs.Scalars.{kept_scalars}
-use Rattle.legacy_codecs.proofs.Kept.{kept_is}
+use Rattle.legacy_codecs.proofs.KeptAsWritten.{kept_is}
 use Rattle.legacy_recode.specs.Recoding.{fault_events}
 use Rattle.legacy_recode.proofs.EventLines.{lines_of_call}
 use Rattle.legacy_recode.proofs.recode.recode_call.Goals as goal

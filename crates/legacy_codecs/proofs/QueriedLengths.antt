@@ -13,11 +13,13 @@ use Rattle.legacy_codecs.specs.Filling.Fills.{begun, called}
 -- more bytes need no less room
 room-rises : (query : LengthQuery) (s : DecoderState) (m n : ℕ) → m ≤ n → room query s m ≤ room query s n
 room-rises query s m n h = by_test (has_reported s.grammar) (rises query s.grammar s.held m n h) where
-  by_test : (b : Bool) → value (state_formula query s m) ≤ value (state_formula query s n) → cond b 0 (value (state_formula query s m)) ≤ cond b 0 (value (state_formula query s n))
+  by_test : (b : Bool) → value (state_formula query s m) ≤ value (state_formula query s n) →
+      cond b 0 (value (state_formula query s m)) ≤ cond b 0 (value (state_formula query s n))
   by_test true h = omega arith
   by_test false h = h
 
-module _ (query : LengthQuery) (before : DecoderState) (bytes free : ℕ) (after : DecoderState) (answer : DecoderResult) (read : ℕ) (scalars : List ℕ) (n : NextCall query before bytes free after answer read scalars) where
+module _ (query : LengthQuery) (before : DecoderState) (bytes free : ℕ) (after : DecoderState) (answer : DecoderResult) (read : ℕ) (scalars : List ℕ)
+    (n : NextCall query before bytes free after answer read scalars) where
   next-lowers : room query after (bytes - read) + (total_unit_count (query_form query) scalars + answer_units query answer) ≤ room query before bytes
   next-lowers =
       let some = n.some in
@@ -34,7 +36,8 @@ module _ (query : LengthQuery) (before : DecoderState) (bytes free : ℕ) (after
       let r = room-rises query before (length n.source) bytes n.some in
       n.call.suffices query refl (omega arith)
 
-fills-room : {query : LengthQuery} {from : DecoderState} {bytes free : ℕ} {s : DecoderState} {to_come left : ℕ} → Fills query from bytes free s to_come left → room query from bytes ≤ free → room query s to_come ≤ left
+fills-room : {query : LengthQuery} {from : DecoderState} {bytes free : ℕ} {s : DecoderState} {to_come left : ℕ} →
+    Fills query from bytes free s to_come left → room query from bytes ≤ free → room query s to_come ≤ left
 fills-room begun h = h
 fills-room {query = query} (called before to_come left f after answer read scalars n) h =
     let r = fills-room f h in

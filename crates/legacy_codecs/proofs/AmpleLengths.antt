@@ -10,13 +10,12 @@ use Rattle.legacy_base.specs.declared.results.DecoderResult.{DecoderResult}
 use Rattle.legacy_base.specs.declared.results.DecoderResult.TheVariants.{InputEmpty, OutputFull, Malformed}
 use Rattle.legacy_base.specs.EncodingForm.{EncodingForm, wide_room, total_unit_count}
 use Rattle.legacy_base.specs.Events.{shift}
-use Rattle.legacy_base.specs.Grammar.{events_of}
 use Rattle.legacy_base.specs.States.{DecoderState}
 use Rattle.legacy_base.specs.Calls.{DecoderCall, reported_events, out_events}
 use Rattle.legacy_base.proofs.Rooms.{lacks_small}
 use Rattle.legacy_codecs.specs.Runs.{RunPlace, is_none, place_before, place_behind, ends_run, Reaches, IsRun, piece_count, HasAmpleLengths}
 use Rattle.legacy_codecs.specs.Runs.Reaches.{begun, called}
-use Rattle.legacy_codecs.proofs.Runs.{ahead, place_before-ahead, Reaches-events}
+use Rattle.legacy_codecs.proofs.RunEvents.{events_ahead, place_before-ahead, Reaches-events}
 
 length-shift : (k : ℕ) (es : List DecodeEvent) → length (shift k es) ≡ length es
 length-shift k [] = refl
@@ -52,8 +51,8 @@ progresses form p free after (Malformed a b) read scalars w c e =
     omega arith
 
 -- so there are no more calls than events and pieces
-calls-few : {form : EncodingForm} {from : RunPlace} {lengths : List ℕ} {calls : ℕ} {events : List DecodeEvent} {passed : ℕ} {finished : Bool} {p : RunPlace} → Reaches form from lengths calls events passed finished p →
-    All (λ n. wide_room form ≤ n) lengths → finished ≡ false → calls + length p.later ≤ length events + length from.later
+calls-few : {form : EncodingForm} {from : RunPlace} {lengths : List ℕ} {calls : ℕ} {events : List DecodeEvent} {passed : ℕ} {finished : Bool} {p : RunPlace} →
+    Reaches form from lengths calls events passed finished p → All (λ n. wide_room form ≤ n) lengths → finished ≡ false → calls + length p.later ≤ length events + length from.later
 calls-few begun w h = omega arith
 calls-few {form = form} {from = from} {lengths = lengths} (called calls events passed p r free e after answer read scalars c) w h =
     let before = calls-few r w refl in
@@ -70,12 +69,12 @@ later_count : (s : DecoderState) (pieces : List (List ℕ)) → length (place_be
 later_count s [] = refl
 later_count s (p ∷ ps) = omega arith
 
-pub is_finished : (form : EncodingForm) (before : DecoderState) (pieces : List (List ℕ)) (lengths : List ℕ) (calls : ℕ) (finished : Bool) (items : List DecodeEvent) (after : DecoderState) →
+pub is_finished : {form : EncodingForm} {before : DecoderState} {pieces : List (List ℕ)} {lengths : List ℕ} {calls : ℕ} {finished : Bool} {items : List DecodeEvent} {after : DecoderState} →
     IsRun form (place_before before pieces) lengths calls finished items after → HasAmpleLengths form before pieces lengths → IsTrue finished
-is_finished form before pieces lengths calls true items after r h = refl
-is_finished form before pieces lengths calls false items after r h =
+is_finished {finished = true} r h = refl
+is_finished {before = before} {pieces = pieces} {finished = false} r h =
     let few = calls-few r.reaches h.wide refl in
-    let left = shift r.passed (events_of r.place.state.grammar (ahead r.place)) in
+    let left = shift r.passed (events_ahead r.place) in
     let whole = ap length (sym (place_before-ahead before pieces) ∙ Reaches-events r.reaches) ∙ length-append r.events left in
     let pieces_are = later_count before pieces in
     let calls_are = r.all refl in
