@@ -59,6 +59,7 @@ fn check_entry(place: usize, before: &[u16], entry: u16) -> Result<(), TableErro
 }
 
 /// Checks all entries.
+#[tactic(auto, using(crate::proofs::TableLoops::bytes_steps))]
 fn check_entries(entries: &[u16]) -> Result<(), TableError>
     ensures { let found = single_byte_fault entries.now in MatchResult result (λ _. found ≡ None) (λ fault. found ≡ Some fault) }
 {

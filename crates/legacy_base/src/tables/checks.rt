@@ -53,6 +53,7 @@ fn check_entry(name: IndexName, pointer: usize, entry: u32) -> Result<(), TableE
 }
 
 /// Checks the length and the entries of index Big5.
+#[tactic(auto, using(crate::proofs::TableLoops::entries_steps))]
 pub(super) fn check_big5(index: &[u32]) -> Result<(), TableError>
     ensures { let found = index_fault names.Big5 19782 index.now in MatchResult result (λ _. found ≡ None) (λ fault. found ≡ Some fault) }
 {
@@ -66,6 +67,7 @@ pub(super) fn check_big5(index: &[u32]) -> Result<(), TableError>
 }
 
 /// Checks the entries of any other index.
+#[tactic(auto, using(crate::proofs::TableLoops::entries_steps))]
 fn check_entries(name: IndexName, index: &[u16]) -> Result<(), TableError>
     ensures { let found = entries_fault name 0 index.now in MatchResult result (λ _. found ≡ None) (λ fault. found ≡ Some fault) }
 {
