@@ -9,7 +9,6 @@ use Rattle.std.proofs.Math.ListN.{drop_of_length-le}
 use Rattle.std.specs.List.{list_any}
 use Rattle.std.specs.Option.{option_or}
 use Rattle.legacy_base.specs.declared.tables.IndexName.{IndexName}
-use Rattle.legacy_base.specs.declared.tables.TableError.{TableError}
 use Rattle.legacy_base.specs.declared.tables.TableError.TheVariants.{RangeOrder, RangeValue}
 use Rattle.legacy_base.specs.TableChecks.{entry_fault, entries_fault, follows_range, range_order_fault, next_pointer, has_range_scalars, range_value_fault, byte_entry_fault, byte_entries_fault}
 

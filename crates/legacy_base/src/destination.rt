@@ -8,6 +8,7 @@ use std::simd::prelude::*;
 /// How many bytes at the front of a block are ASCII.
 // Inlined always: a call would pass the vector through memory, once for each block.
 #[inline(always)]
+#[tactic(auto, using(crate::proofs::Ascii::count_steps))]
 fn ascii_count(block: u8x16) -> usize
     ensures most { result ≤ 16 }
     ensures ascii { IsAscii (take result block) }
@@ -106,6 +107,8 @@ impl<'a> Utf8Destination<'a> {
         ensures written { utf8_written self.new ≡ utf8_written self.old ++ byte ∷ [] }
         ensures free { utf8_free self.new + 1 ≡ utf8_free self.old }
         ensures loan { utf8_loan self.new ≡ utf8_loan self.old }
+        ensures filled { self.new.filled ≡ self.old.filled + 1 }
+        ensures kept { take self.old.filled self.new.buffer.now ≡ utf8_written self.old }
     {
         let at = self.filled;
         self.buffer[at] = byte;
@@ -115,6 +118,7 @@ impl<'a> Utf8Destination<'a> {
     /// Writes the one or two bytes of a scalar below U+0800. The last byte is stored behind a lead, or
     /// over it where there is none: which of them it is follows no pattern in text, and so is no branch.
     #[inline]
+    #[tactic(auto, using(crate::proofs::CodeUnits::encoding))]
     fn push_short(&mut self, code: u32)
         requires below { code < 0x800 }
         requires room { length (encode_utf8 code) ≤ utf8_free self.old }
@@ -136,6 +140,7 @@ impl<'a> Utf8Destination<'a> {
     /// Stores a block behind what was written, and keeps its ASCII front: answers that front's length.
     // Inlined always, as `ascii_count` is.
     #[inline(always)]
+    #[tactic(auto, using(crate::proofs::Ascii::stored))]
     fn put_block(&mut self, block: u8x16) -> usize
         requires { 16 ≤ utf8_free self.old }
         ensures count { result ≤ 16 }
@@ -209,6 +214,7 @@ impl Destination for Utf8Destination<'_> {
     }
 
     #[inline]
+    #[tactic(auto, using(crate::proofs::Ascii::block_steps))]
     fn copy_ascii(&mut self, bytes: &[u8]) -> usize {
         let mut at = 0;
         while bytes.len() - at >= 16 && self.buffer.len() - self.filled >= 16 {
@@ -325,6 +331,7 @@ impl Destination for Utf16Destination<'_> {
     }
 
     #[inline]
+    #[tactic(auto, using(crate::proofs::Ascii::block_steps))]
     fn copy_ascii(&mut self, bytes: &[u8]) -> usize {
         let mut at = 0;
         while bytes.len() - at >= 16 && self.buffer.len() - self.filled >= 16 {
