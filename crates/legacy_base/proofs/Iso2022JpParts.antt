@@ -125,9 +125,4 @@ pub events-by_parts : (jis0208 : List ℕ) (mode : Mode) (bytes : List ℕ)
     ++ shift (length (first_part bytes)) (parts_events jis0208 mode 0 (later_parts bytes))
 unfolding iso_2022_jp_events
 events-by_parts jis0208 mode bytes =
-    rw (
-      parts_of-is bytes,
-      first_events jis0208 mode 0 bytes (later_parts bytes),
-      zero-add,
-      parts_events-at jis0208 mode (length (first_part bytes)) (later_parts bytes),
-    )
+    rw (parts_of-is bytes, first_events jis0208 mode 0 bytes (later_parts bytes), zero-add, parts_events-at jis0208 mode (length (first_part bytes)) (later_parts bytes))
