@@ -1,7 +1,8 @@
 //! Runs: calls over pieces and outputs, to their end.
-use crate::tests::indexes::no_entries;
-use crate::tests::rows::Tested;
-use legacy_base::DecodeEvent::{Bad, Scalar};
+use crate::events::bad;
+use crate::indexes::no_entries;
+use crate::rows::Tested;
+use legacy_base::DecodeEvent::Scalar;
 use legacy_base::DecoderResult::{InputEmpty, OutputFull};
 use legacy_base::{DecodeEvent, Destination, RawDecoder, Tables};
 use legacy_codecs::{
@@ -9,77 +10,118 @@ use legacy_codecs::{
 };
 use legacy_decoders::{Big5Decoder, Gb18030Decoder, UserDefinedDecoder, Utf16Decoder};
 use std::alloc::Global;
+use std::process::Abort;
 use std::test::Fail;
 
-/// Whether a run found these events, by so many calls where a number is given, and was finished or not.
+/// A run, and what must come of it: the pieces, the lengths of the outputs, the events, how many calls it
+/// has where that is stated, and whether it is finished.
+#[derive(Clone, Copy)]
+enum Run<'a> {
+    ToUtf8(&'a [&'a [u8]], &'a [usize], &'a [DecodeEvent], Option<usize>, bool),
+    ToUtf16(&'a [&'a [u8]], &'a [usize], &'a [DecodeEvent], Option<usize>, bool),
+}
+
+/// Compares what came of a run with what is wanted.
 fn is_run(
+    rt: &impl Abort,
+    (codec, row): (&str, usize),
     run: Result<DecodeRun, RunError>,
-    events: &[DecodeEvent],
-    calls: Option<usize>,
-    finished: bool,
-) -> bool {
+    (events, calls, finished): (&[DecodeEvent], Option<usize>, bool),
+) {
     match run {
-        Ok(run) => {
-            let has_calls = match calls {
-                Some(calls) => run.calls == calls,
-                None => true,
-            };
-            has_calls && run.events.as_slice() == events && run.finished == finished
-        }
-        Err(_) => false,
+        Ok(run) => assert!(rt;
+            run.events.as_slice() == events
+                && run.calls == calls.unwrap_or(run.calls)
+                && run.finished == finished,
+            "{codec}, run {row}\n  came:   {run:?}\n  wanted: {events:?}, calls: {calls:?}, finished: {finished}"
+        ),
+        Err(error) => panic!(rt; "{codec}, run {row}: {error}"),
     }
 }
 
-/// Whether a run of a decoder that is made of this, over these pieces and outputs in UTF-8, is so.
-fn in_utf8<D: Tested>(
-    alloc: Global,
-    of: D::Of,
-    pieces: &[&[u8]],
-    lengths: &[usize],
-    events: &[DecodeEvent],
-    calls: Option<usize>,
-    finished: bool,
-) -> bool {
-    let run = decode_run_utf8(alloc, &mut D::made(of), pieces, lengths);
-    is_run(run, events, calls, finished)
+/// Makes the runs, each with a decoder of its own.
+fn make<D: Tested>(rt: &impl Abort, alloc: Global, of: D::Of, runs: &[Run]) {
+    for (row, run) in runs.iter().enumerate() {
+        let mut decoder = D::made(of);
+        let place = (D::CODEC, row);
+        match run {
+            Run::ToUtf8(pieces, lengths, events, calls, finished) => {
+                let came = decode_run_utf8(alloc, &mut decoder, pieces, lengths);
+                is_run(rt, place, came, (*events, *calls, *finished));
+            }
+            Run::ToUtf16(pieces, lengths, events, calls, finished) => {
+                let came = decode_run_utf16(alloc, &mut decoder, pieces, lengths);
+                is_run(rt, place, came, (*events, *calls, *finished));
+            }
+        }
+    }
 }
 
-/// The same in UTF-16.
-fn in_utf16<D: Tested>(
-    alloc: Global,
-    of: D::Of,
-    pieces: &[&[u8]],
-    lengths: &[usize],
-    events: &[DecodeEvent],
-    calls: Option<usize>,
-    finished: bool,
-) -> bool {
-    let run = decode_run_utf16(alloc, &mut D::made(of), pieces, lengths);
-    is_run(run, events, calls, finished)
-}
-
-#[test]
-fn a_small_output_is_followed_by_the_next(rt: HostRuntime) {
-    let found = [Scalar('\u{F780}')];
-    let alloc = rt.alloc();
-    let pieces: [&[u8]; 1] = [b"\x80"];
-    assert!(rt; in_utf8::<UserDefinedDecoder>(alloc, (), &pieces, &[2, 3], &found, Some(2), true));
-    assert!(rt; in_utf16::<UserDefinedDecoder>(alloc, (), &pieces, &[0, 1], &found, Some(2), true));
-}
+const OF_USER_DEFINED: &[Run] = &[
+    // a small output is followed by the next
+    Run::ToUtf8(&[b"\x80"], &[2, 3], &[Scalar('\u{F780}')], Some(2), true),
+    Run::ToUtf16(&[b"\x80"], &[0, 1], &[Scalar('\u{F780}')], Some(2), true),
+    // without room the run is not finished
+    Run::ToUtf8(&[b"\x80"], &[2], &[], Some(1), false),
+    Run::ToUtf16(&[b"\x80"], &[0], &[], Some(1), false),
+    // no pieces are one empty piece
+    Run::ToUtf8(&[], &[0], &[], Some(1), true),
+    Run::ToUtf16(&[], &[0], &[], Some(1), true),
+];
 
 #[test]
-fn a_run_without_room_is_not_finished(rt: HostRuntime) {
-    let alloc = rt.alloc();
-    let pieces: [&[u8]; 1] = [b"\x80"];
-    assert!(rt; in_utf8::<UserDefinedDecoder>(alloc, (), &pieces, &[2], &[], Some(1), false));
-    assert!(rt; in_utf16::<UserDefinedDecoder>(alloc, (), &pieces, &[0], &[], Some(1), false));
+fn runs_go_on_while_there_are_outputs(rt: HostRuntime) {
+    make::<UserDefinedDecoder>(&rt, rt.alloc(), (), OF_USER_DEFINED);
 }
 
+const OF_UTF_16: &[Run] = &[Run::ToUtf16(
+    &[b"\x41\x00\x3D\xD8", b"\x42\x00"],
+    &[8, 8, 8],
+    &[Scalar('A'), bad!(2, 2), Scalar('B')],
+    Some(3),
+    true,
+)];
+
 #[test]
-fn no_pieces_are_one_empty_piece(rt: HostRuntime) {
-    let alloc = rt.alloc();
-    assert!(rt; in_utf8::<UserDefinedDecoder>(alloc, (), &[], &[0], &[], Some(1), true));
-    assert!(rt; in_utf16::<UserDefinedDecoder>(alloc, (), &[], &[0], &[], Some(1), true));
+fn a_lone_high_surrogate_at_a_pieces_end_is_malformed_at_its_place(rt: HostRuntime) {
+    make::<Utf16Decoder>(&rt, rt.alloc(), false, OF_UTF_16);
+}
+
+/// The events of two broken forms of four bytes, of which the end cuts off the second.
+const BROKEN: &[DecodeEvent] = &[
+    bad!(0, 1),
+    Scalar('2'),
+    bad!(2, 1),
+    Scalar('\0'),
+    bad!(4, 3),
+];
+
+const OF_GB18030: &[Run] = &[
+    Run::ToUtf16(
+        &[b"\xE3\x32\x9A\x00\x81\x30\x81"],
+        &[0, 1, 2, 3, 4, 0, 1, 2, 3, 4, 0, 1, 2, 3, 4, 0, 1, 2, 3, 4],
+        BROKEN,
+        None,
+        true,
+    ),
+    Run::ToUtf8(
+        &[
+            b"\xE3", b"\x32", b"\x9A", b"\x00", b"\x81", b"\x30", b"\x81",
+        ],
+        &[4; 20],
+        BROKEN,
+        None,
+        true,
+    ),
+];
+
+#[test]
+fn broken_forms_of_four_bytes_are_the_same_events_whole_and_in_bytes(
+    rt: HostRuntime,
+) -> Result<(), Fail> {
+    let tables = Tables::new(&no_entries())?;
+    make::<Gb18030Decoder>(&rt, rt.alloc(), &tables, OF_GB18030);
+    Ok(())
 }
 
 /// The errors of a run of one byte with one output of so many units, in UTF-8 and in UTF-16.
@@ -161,23 +203,6 @@ fn a_buffer_of_scalars_counts_their_code_units(rt: HostRuntime) {
 }
 
 #[test]
-fn a_lone_high_surrogate_at_a_pieces_end_is_reported_with_its_place(rt: HostRuntime) {
-    let pieces: [&[u8]; 2] = [b"\x41\x00\x3D\xD8", b"\x42\x00"];
-    let events = [
-        Scalar('A'),
-        Bad {
-            place: 2,
-            length: 2,
-        },
-        Scalar('B'),
-    ];
-    let lengths = [8, 8, 8];
-    assert!(rt;
-        in_utf16::<Utf16Decoder>(rt.alloc(), false, &pieces, &lengths, &events, Some(3), true)
-    );
-}
-
-#[test]
 fn a_refused_run_leaves_the_held_back_lead(rt: HostRuntime) -> Result<(), Fail> {
     let indexes = no_entries();
     let tables = Tables::new(&indexes)?;
@@ -190,39 +215,5 @@ fn a_refused_run_leaves_the_held_back_lead(rt: HostRuntime) -> Result<(), Fail> 
     let answer = decoder.decode_to_utf8_raw(b"\x62", &mut output, true);
     assert_eq!(rt; answer, (InputEmpty, 1, 4));
     assert!(rt; &output[..4] == "\u{CA}\u{304}".as_bytes());
-    Ok(())
-}
-
-#[test]
-fn broken_four_byte_forms_are_the_same_events_whole_and_in_bytes(
-    rt: HostRuntime,
-) -> Result<(), Fail> {
-    let alloc = rt.alloc();
-    let indexes = no_entries();
-    let tables = Tables::new(&indexes)?;
-    let events = [
-        Bad {
-            place: 0,
-            length: 1,
-        },
-        Scalar('2'),
-        Bad {
-            place: 2,
-            length: 1,
-        },
-        Scalar('\0'),
-        Bad {
-            place: 4,
-            length: 3,
-        },
-    ];
-    let lengths = [0, 1, 2, 3, 4, 0, 1, 2, 3, 4, 0, 1, 2, 3, 4, 0, 1, 2, 3, 4];
-    let whole: [&[u8]; 1] = [b"\xE3\x32\x9A\x00\x81\x30\x81"];
-    assert!(rt; in_utf16::<Gb18030Decoder>(alloc, &tables, &whole, &lengths, &events, None, true));
-    let bytes: [&[u8]; 7] = [
-        b"\xE3", b"\x32", b"\x9A", b"\x00", b"\x81", b"\x30", b"\x81",
-    ];
-    let fours = [4; 20];
-    assert!(rt; in_utf8::<Gb18030Decoder>(alloc, &tables, &bytes, &fours, &events, None, true));
     Ok(())
 }

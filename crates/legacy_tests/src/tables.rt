@@ -1,5 +1,5 @@
 //! The checks of the tables, and look-ups in them.
-use crate::tests::indexes::{entries_of, no_entries};
+use crate::indexes::{entries_of, no_entries};
 use legacy_base::{IndexName, Indexes, SingleByteTable, TableError, Tables};
 use std::alloc::{AllocError, Global};
 use std::test::Fail;

@@ -4,6 +4,18 @@ use legacy_base::DecoderResult::{InputEmpty, Malformed};
 use legacy_base::{DecodeEvent, DecoderResult, RawDecoder};
 use std::alloc::{AllocError, Global};
 
+/// A malformed sequence: the place of its first byte, and how many bytes it has.
+macro_rules! bad {
+    ($place:expr, $length:expr) => {
+        legacy_base::DecodeEvent::Bad {
+            place: $place,
+            length: $length,
+        }
+    };
+}
+
+pub(crate) use bad;
+
 /// The malformed sequence that an answer reports, with so many bytes read.
 fn reported(answer: DecoderResult, seen: usize) -> Option<DecodeEvent> {
     match answer {
@@ -19,7 +31,7 @@ fn reported(answer: DecoderResult, seen: usize) -> Option<DecodeEvent> {
 }
 
 /// The events of the input in calls of at most so many bytes, into UTF-8 with so many bytes free.
-fn utf8_events<D: RawDecoder>(
+pub(crate) fn utf8_events<D: RawDecoder>(
     alloc: Global,
     decoder: &mut D,
     input: &[u8],
@@ -57,7 +69,7 @@ fn utf8_events<D: RawDecoder>(
 }
 
 /// The same into UTF-16 with so many code units free.
-fn utf16_events<D: RawDecoder>(
+pub(crate) fn utf16_events<D: RawDecoder>(
     alloc: Global,
     decoder: &mut D,
     input: &[u8],
@@ -92,40 +104,4 @@ fn utf16_events<D: RawDecoder>(
         }
     }
     Ok(events)
-}
-
-/// Whether these are the events of the input in single bytes, into UTF-8 with four bytes free and into
-/// UTF-16 with two code units free.
-pub(crate) fn is_split_into<D: RawDecoder>(
-    alloc: Global,
-    narrow: &mut D,
-    wide: &mut D,
-    input: &[u8],
-    events: &[DecodeEvent],
-) -> bool {
-    let by_bytes = utf8_events(alloc, narrow, input, 1, 4);
-    let by_units = utf16_events(alloc, wide, input, 1, 2);
-    is_found(by_bytes, events) && is_found(by_units, events)
-}
-
-/// Whether these are the events of the input in calls with all that is left of it, into UTF-8 with 48
-/// bytes free and into UTF-16 with 96 code units free.
-pub(crate) fn is_wholly<D: RawDecoder>(
-    alloc: Global,
-    narrow: &mut D,
-    wide: &mut D,
-    input: &[u8],
-    events: &[DecodeEvent],
-) -> bool {
-    let by_bytes = utf8_events(alloc, narrow, input, usize::MAX, 48);
-    let by_units = utf16_events(alloc, wide, input, usize::MAX, 96);
-    is_found(by_bytes, events) && is_found(by_units, events)
-}
-
-/// Whether there was memory, and these events were found.
-fn is_found(found: Result<Vec<DecodeEvent>, AllocError>, events: &[DecodeEvent]) -> bool {
-    match found {
-        Ok(found) => found.as_slice() == events,
-        Err(_) => false,
-    }
 }
