@@ -1,5 +1,6 @@
+//! Big5.
 use crate::events::bad;
-use crate::indexes::no_entries;
+use crate::indexes::{no_entries, tables_of};
 use crate::rows::Row::{
     BareLength, Decoder, Events, Neutral, ToUtf8, ToUtf16, Utf8Length, Utf16Length,
 };
@@ -8,11 +9,8 @@ use legacy_base::DecodeEvent::Scalar;
 use legacy_base::DecoderResult::{InputEmpty, Malformed, OutputFull};
 use legacy_base::{Indexes, Tables};
 use legacy_decoders::Big5Decoder;
-use std::test::Fail;
 
 impl<'a> Tested for Big5Decoder<'a> {
-    const CODEC: &'static str = "Big5";
-
     type Of = &'a Tables<'a>;
 
     fn made(of: &'a Tables<'a>) -> Big5Decoder<'a> {
@@ -81,10 +79,9 @@ const WITHOUT_ENTRIES: &[Row] = &[
 ];
 
 #[test]
-fn decoder_without_entries(rt: HostRuntime) -> Result<(), Fail> {
-    let tables = Tables::new(&no_entries())?;
-    follow::<Big5Decoder>(&rt, rt.alloc(), &tables, WITHOUT_ENTRIES);
-    Ok(())
+fn decodes_with_an_empty_index(rt: HostRuntime) {
+    let tables = tables_of(&rt, &no_entries());
+    follow::<Big5Decoder>(&rt, &tables, WITHOUT_ENTRIES);
 }
 
 const THE_LAST_POINTER: &[Row] = &[
@@ -103,13 +100,15 @@ const THE_LAST_POINTER: &[Row] = &[
 ];
 
 #[test]
-fn decoder_at_the_last_pointer(rt: HostRuntime) -> Result<(), Fail> {
+fn decodes_the_last_pointer(rt: HostRuntime) {
     let mut index = [0u32; 19781];
     index[19780] = 0x2_910D;
-    let tables = Tables::new(&Indexes {
-        big5: &index,
-        ..no_entries()
-    })?;
-    follow::<Big5Decoder>(&rt, rt.alloc(), &tables, THE_LAST_POINTER);
-    Ok(())
+    let tables = tables_of(
+        &rt,
+        &Indexes {
+            big5: &index,
+            ..no_entries()
+        },
+    );
+    follow::<Big5Decoder>(&rt, &tables, THE_LAST_POINTER);
 }

@@ -1,18 +1,18 @@
 //! The input and the outputs of a call.
+use crate::units::Hex;
 use legacy_base::{ByteSource, Destination, Utf8Destination, Utf16Destination};
+use std::process::Abort;
 
 #[test]
 fn a_cursor_goes_over_its_bytes_to_their_end(rt: HostRuntime) {
     let mut source = ByteSource::new(b"\x61\x80");
-    for (byte, consumed) in [(0x61, 0), (0x80, 1)] {
-        assert!(rt; source.peek() == Some(byte));
-        assert!(rt; source.peek() == Some(byte), "peeking stays");
-        assert!(rt; source.consumed() == consumed);
-        if source.peek().is_some() {
+    for (byte, consumed) in [(Some(0x61), 0), (Some(0x80), 1), (None, 2)] {
+        let (first, again) = (source.peek(), source.peek());
+        assert_eq!(rt; (first, again, source.consumed()), (byte, byte, consumed));
+        if again.is_some() {
             source.advance();
         }
     }
-    assert!(rt; source.peek().is_none() && source.consumed() == 2);
     assert!(rt; ByteSource::new(b"").peek().is_none());
 }
 
@@ -34,51 +34,72 @@ fn put_units(dst: &mut Utf16Destination, scalars: &[char]) {
     }
 }
 
+/// Puts the scalars into so many bytes that are AA, and compares how many are written, and all of them, with
+/// what is wanted.
+fn put_in_utf8<const N: usize>(rt: &impl Abort, scalars: &[char], written: usize, wanted: [u8; N]) {
+    let mut bytes = [0xAAu8; N];
+    let mut dst = Utf8Destination::new(&mut bytes);
+    let free = dst.free();
+    put_bytes(&mut dst, scalars);
+    let came = (free, dst.written(), dst.free());
+    assert_eq!(rt; came, (N, written, N.saturating_sub(written)));
+    assert!(rt;
+        bytes == wanted,
+        "came {}, wanted {}",
+        Hex(&bytes),
+        Hex(&wanted)
+    );
+}
+
+/// The same with code units that are AAAA.
+fn put_in_utf16<const N: usize>(
+    rt: &impl Abort,
+    scalars: &[char],
+    written: usize,
+    wanted: [u16; N],
+) {
+    let mut units = [0xAAAAu16; N];
+    let mut dst = Utf16Destination::new(&mut units);
+    let free = dst.free();
+    put_units(&mut dst, scalars);
+    let came = (free, dst.written(), dst.free());
+    assert_eq!(rt; came, (N, written, N.saturating_sub(written)));
+    assert!(rt;
+        units == wanted,
+        "came {}, wanted {}",
+        Hex(&units),
+        Hex(&wanted)
+    );
+}
+
 #[test]
 fn utf_8_takes_one_to_four_bytes_for_a_scalar(rt: HostRuntime) {
-    let mut bytes = [0xAAu8; 12];
-    let mut dst = Utf8Destination::new(&mut bytes);
-    assert!(rt; dst.free() == 12);
-    put_bytes(&mut dst, &['a', '\u{E9}', '\u{F780}', '\u{1F4A9}']);
-    assert!(rt; (dst.written(), dst.free()) == (10, 2));
-    let expected = [
+    let wanted = [
         0x61, 0xC3, 0xA9, 0xEF, 0x9E, 0x80, 0xF0, 0x9F, 0x92, 0xA9, 0xAA, 0xAA,
     ];
-    assert!(rt; bytes == expected);
+    put_in_utf8(&rt, &['a', '\u{E9}', '\u{F780}', '\u{1F4A9}'], 10, wanted);
+}
+
+#[test]
+fn utf_8_fills_its_last_bytes_with_short_scalars(rt: HostRuntime) {
+    put_in_utf8(&rt, &['a'], 1, [0x61]);
+    put_in_utf8(&rt, &['\u{E9}'], 2, [0xC3, 0xA9]);
+    let four = ['\u{80}', '\u{7F}', 'a', '\u{7FF}'];
+    put_in_utf8(&rt, &four, 6, [0xC2, 0x80, 0x7F, 0x61, 0xDF, 0xBF]);
 }
 
 #[test]
 fn utf_16_takes_one_or_two_units_for_a_scalar(rt: HostRuntime) {
-    let mut units = [0xAAAAu16; 6];
-    let mut dst = Utf16Destination::new(&mut units);
-    assert!(rt; dst.free() == 6);
-    put_units(&mut dst, &['a', '\u{F780}', '\u{1F4A9}']);
-    assert!(rt; (dst.written(), dst.free()) == (4, 2));
-    assert!(rt; units == [0x61, 0xF780, 0xD83D, 0xDCA9, 0xAAAA, 0xAAAA]);
+    let wanted = [0x61, 0xF780, 0xD83D, 0xDCA9, 0xAAAA, 0xAAAA];
+    put_in_utf16(&rt, &['a', '\u{F780}', '\u{1F4A9}'], 4, wanted);
 }
 
 #[test]
 fn the_rooms_are_those_of_the_forms(rt: HostRuntime) {
     let constants = (Utf8Destination::BMP_ROOM, Utf8Destination::WIDE_ROOM);
-    assert!(rt; constants == (3, 4));
-    assert!(rt; (Utf8Destination::narrow(), Utf8Destination::wide()) == (3, 4));
+    let answers = (Utf8Destination::narrow(), Utf8Destination::wide());
+    assert_eq!(rt; (constants, answers), ((3, 4), (3, 4)));
     let constants = (Utf16Destination::BMP_ROOM, Utf16Destination::WIDE_ROOM);
-    assert!(rt; constants == (1, 2));
-    assert!(rt; (Utf16Destination::narrow(), Utf16Destination::wide()) == (1, 2));
-}
-
-/// Whether these scalars fill so many bytes with these.
-fn fill<const N: usize>(scalars: &[char], bytes: [u8; N]) -> bool {
-    let mut output = [0xAAu8; N];
-    let mut dst = Utf8Destination::new(&mut output);
-    put_bytes(&mut dst, scalars);
-    dst.written() == N && dst.free() == 0 && output == bytes
-}
-
-#[test]
-fn utf_8_fills_its_last_bytes_with_short_scalars(rt: HostRuntime) {
-    assert!(rt; fill(&['a'], [0x61]));
-    assert!(rt; fill(&['\u{E9}'], [0xC3, 0xA9]));
-    let four = ['\u{80}', '\u{7F}', 'a', '\u{7FF}'];
-    assert!(rt; fill(&four, [0xC2, 0x80, 0x7F, 0x61, 0xDF, 0xBF]));
+    let answers = (Utf16Destination::narrow(), Utf16Destination::wide());
+    assert_eq!(rt; (constants, answers), ((1, 2), (1, 2)));
 }

@@ -1,5 +1,6 @@
+//! EUC-JP.
 use crate::events::bad;
-use crate::indexes::no_entries;
+use crate::indexes::{no_entries, tables_of};
 use crate::rows::Row::{
     BareLength, Decoder, Events, Neutral, ToUtf8, ToUtf16, Utf8Length, Utf16Length,
 };
@@ -8,11 +9,8 @@ use legacy_base::DecodeEvent::Scalar;
 use legacy_base::DecoderResult::{InputEmpty, Malformed, OutputFull};
 use legacy_base::{Indexes, Tables};
 use legacy_decoders::EucJpDecoder;
-use std::test::Fail;
 
 impl<'a> Tested for EucJpDecoder<'a> {
-    const CODEC: &'static str = "EUC-JP";
-
     type Of = &'a Tables<'a>;
 
     fn made(of: &'a Tables<'a>) -> EucJpDecoder<'a> {
@@ -80,10 +78,9 @@ const WITHOUT_ENTRIES: &[Row] = &[
 ];
 
 #[test]
-fn decoder_without_entries(rt: HostRuntime) -> Result<(), Fail> {
-    let tables = Tables::new(&no_entries())?;
-    follow::<EucJpDecoder>(&rt, rt.alloc(), &tables, WITHOUT_ENTRIES);
-    Ok(())
+fn decodes_with_empty_indexes(rt: HostRuntime) {
+    let tables = tables_of(&rt, &no_entries());
+    follow::<EucJpDecoder>(&rt, &tables, WITHOUT_ENTRIES);
 }
 
 const PAIRS: &[Row] = &[
@@ -103,17 +100,19 @@ const PAIRS: &[Row] = &[
 ];
 
 #[test]
-fn decoder_of_pairs(rt: HostRuntime) -> Result<(), Fail> {
+fn decodes_pairs_by_jis0208_and_behind_8f_by_jis0212(rt: HostRuntime) {
     let mut jis0208 = [0u16; 109];
     jis0208[0] = 0x3000;
     jis0208[60] = 0xFF0D;
     let mut jis0212 = [0u16; 109];
     jis0212[108] = 0x02D8;
-    let tables = Tables::new(&Indexes {
-        jis0208: &jis0208,
-        jis0212: &jis0212,
-        ..no_entries()
-    })?;
-    follow::<EucJpDecoder>(&rt, rt.alloc(), &tables, PAIRS);
-    Ok(())
+    let tables = tables_of(
+        &rt,
+        &Indexes {
+            jis0208: &jis0208,
+            jis0212: &jis0212,
+            ..no_entries()
+        },
+    );
+    follow::<EucJpDecoder>(&rt, &tables, PAIRS);
 }

@@ -1,5 +1,6 @@
+//! EUC-KR.
 use crate::events::bad;
-use crate::indexes::no_entries;
+use crate::indexes::{no_entries, tables_of};
 use crate::rows::Row::{
     BareLength, Decoder, Events, Neutral, ToUtf8, ToUtf16, Utf8Length, Utf16Length,
 };
@@ -8,11 +9,8 @@ use legacy_base::DecodeEvent::Scalar;
 use legacy_base::DecoderResult::{InputEmpty, Malformed, OutputFull};
 use legacy_base::{Indexes, Tables};
 use legacy_decoders::EucKrDecoder;
-use std::test::Fail;
 
 impl<'a> Tested for EucKrDecoder<'a> {
-    const CODEC: &'static str = "EUC-KR";
-
     type Of = &'a Tables<'a>;
 
     fn made(of: &'a Tables<'a>) -> EucKrDecoder<'a> {
@@ -70,11 +68,13 @@ const ROWS: &[Row] = &[
 ];
 
 #[test]
-fn decoder(rt: HostRuntime) -> Result<(), Fail> {
-    let tables = Tables::new(&Indexes {
-        euc_kr: &[0xAC02],
-        ..no_entries()
-    })?;
-    follow::<EucKrDecoder>(&rt, rt.alloc(), &tables, ROWS);
-    Ok(())
+fn decodes_with_one_entry(rt: HostRuntime) {
+    let tables = tables_of(
+        &rt,
+        &Indexes {
+            euc_kr: &[0xAC02],
+            ..no_entries()
+        },
+    );
+    follow::<EucKrDecoder>(&rt, &tables, ROWS);
 }

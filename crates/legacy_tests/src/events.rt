@@ -1,8 +1,8 @@
 //! The events that a decoder finds in the whole of an input, however it is cut.
+use crate::units::Form;
 use legacy_base::DecodeEvent::{Bad, Scalar};
 use legacy_base::DecoderResult::{InputEmpty, Malformed};
 use legacy_base::{DecodeEvent, DecoderResult, RawDecoder};
-use std::alloc::{AllocError, Global};
 
 /// A malformed sequence: the place of its first byte, and how many bytes it has.
 macro_rules! bad {
@@ -15,6 +15,33 @@ macro_rules! bad {
 }
 
 pub(crate) use bad;
+
+/// The first events that were found, at most 160 of them.
+#[derive(Drop)]
+pub(crate) struct Found {
+    events: [DecodeEvent; 160],
+    count: usize,
+}
+
+impl Found {
+    pub(crate) fn new() -> Found {
+        Found {
+            events: [Scalar('\0'); 160],
+            count: 0,
+        }
+    }
+
+    pub(crate) fn push(&mut self, event: DecodeEvent) {
+        if self.count < 160 {
+            self.events[self.count] = event;
+            self.count += 1;
+        }
+    }
+
+    pub(crate) fn as_slice(&self) -> &[DecodeEvent] {
+        &self.events[..self.count.min(160)]
+    }
+}
 
 /// The malformed sequence that an answer reports, with so many bytes read.
 fn reported(answer: DecoderResult, seen: usize) -> Option<DecodeEvent> {
@@ -30,34 +57,23 @@ fn reported(answer: DecoderResult, seen: usize) -> Option<DecodeEvent> {
     }
 }
 
-/// The events of the input in calls of at most so many bytes, into UTF-8 with so many bytes free.
-pub(crate) fn utf8_events<D: RawDecoder>(
-    alloc: Global,
+/// The events of the input in calls of at most so many bytes, with so many code units free.
+pub(crate) fn events<F: Form, D: RawDecoder>(
     decoder: &mut D,
     input: &[u8],
     piece: usize,
     room: usize,
-) -> Result<Vec<DecodeEvent>, AllocError> {
-    let mut events = Vec::new(alloc);
+) -> Found {
+    let mut found = Found::new();
     let mut seen = 0usize;
     let mut end = piece.min(input.len());
     for _call in 0..1000 {
-        let mut output = [0u8; 48];
         let source = input.get(seen..end).unwrap_or(&[]);
         let last = end == input.len();
-        let (answer, read, written) = decoder.decode_to_utf8_raw(
-            source,
-            &mut output[..room.min(48)],
-            last,
-        );
-        if let Ok(text) = str::from_utf8(&output[..written.min(48)]) {
-            for scalar in text.chars() {
-                events.push(Scalar(scalar))?;
-            }
-        }
+        let (answer, read) = F::call(decoder, source, room, last, &mut found);
         seen = seen.saturating_add(read);
         if let Some(event) = reported(answer, seen) {
-            events.push(event)?;
+            found.push(event);
         } else if answer == InputEmpty {
             if last {
                 break;
@@ -65,43 +81,5 @@ pub(crate) fn utf8_events<D: RawDecoder>(
             end = end.saturating_add(piece).min(input.len());
         }
     }
-    Ok(events)
-}
-
-/// The same into UTF-16 with so many code units free.
-pub(crate) fn utf16_events<D: RawDecoder>(
-    alloc: Global,
-    decoder: &mut D,
-    input: &[u8],
-    piece: usize,
-    room: usize,
-) -> Result<Vec<DecodeEvent>, AllocError> {
-    let mut events = Vec::new(alloc);
-    let mut seen = 0usize;
-    let mut end = piece.min(input.len());
-    for _call in 0..1000 {
-        let mut output = [0u16; 96];
-        let source = input.get(seen..end).unwrap_or(&[]);
-        let last = end == input.len();
-        let (answer, read, written) = decoder.decode_to_utf16_raw(
-            source,
-            &mut output[..room.min(96)],
-            last,
-        );
-        for unit in char::decode_utf16(output[..written.min(96)].iter().copied()) {
-            if let Ok(scalar) = unit {
-                events.push(Scalar(scalar))?;
-            }
-        }
-        seen = seen.saturating_add(read);
-        if let Some(event) = reported(answer, seen) {
-            events.push(event)?;
-        } else if answer == InputEmpty {
-            if last {
-                break;
-            }
-            end = end.saturating_add(piece).min(input.len());
-        }
-    }
-    Ok(events)
+    found
 }

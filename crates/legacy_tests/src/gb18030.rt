@@ -1,5 +1,6 @@
+//! gb18030.
 use crate::events::bad;
-use crate::indexes::no_entries;
+use crate::indexes::{no_entries, tables_of};
 use crate::rows::Row::{
     BareLength, Decoder, Events, Neutral, ToUtf8, ToUtf16, Utf8Length, Utf16Length,
 };
@@ -8,11 +9,8 @@ use legacy_base::DecodeEvent::Scalar;
 use legacy_base::DecoderResult::{InputEmpty, Malformed, OutputFull};
 use legacy_base::{Indexes, Tables};
 use legacy_decoders::Gb18030Decoder;
-use std::test::Fail;
 
 impl<'a> Tested for Gb18030Decoder<'a> {
-    const CODEC: &'static str = "gb18030";
-
     type Of = &'a Tables<'a>;
 
     fn made(of: &'a Tables<'a>) -> Gb18030Decoder<'a> {
@@ -60,10 +58,9 @@ const PUT_BACK: &[Row] = &[
 ];
 
 #[test]
-fn decoder_puts_bytes_back(rt: HostRuntime) -> Result<(), Fail> {
-    let tables = Tables::new(&no_entries())?;
-    follow::<Gb18030Decoder>(&rt, rt.alloc(), &tables, PUT_BACK);
-    Ok(())
+fn decodes_again_what_was_put_back(rt: HostRuntime) {
+    let tables = tables_of(&rt, &no_entries());
+    follow::<Gb18030Decoder>(&rt, &tables, PUT_BACK);
 }
 
 const WITHOUT_ENTRIES: &[Row] = &[
@@ -142,10 +139,9 @@ const WITHOUT_ENTRIES: &[Row] = &[
 ];
 
 #[test]
-fn decoder_without_entries(rt: HostRuntime) -> Result<(), Fail> {
-    let tables = Tables::new(&no_entries())?;
-    follow::<Gb18030Decoder>(&rt, rt.alloc(), &tables, WITHOUT_ENTRIES);
-    Ok(())
+fn decodes_with_empty_indexes(rt: HostRuntime) {
+    let tables = tables_of(&rt, &no_entries());
+    follow::<Gb18030Decoder>(&rt, &tables, WITHOUT_ENTRIES);
 }
 
 const PAIRS: &[Row] = &[
@@ -161,19 +157,21 @@ const PAIRS: &[Row] = &[
 ];
 
 #[test]
-fn decoder_of_pairs(rt: HostRuntime) -> Result<(), Fail> {
+fn decodes_pairs_on_both_sides_of_7f(rt: HostRuntime) {
     let mut index = [0u16; 192];
     index[0] = 0x4E02;
     index[62] = 0x4E79;
     index[63] = 0x4E85;
     index[189] = 0x4F22;
     index[190] = 0x4F23;
-    let tables = Tables::new(&Indexes {
-        gb18030: &index,
-        ..no_entries()
-    })?;
-    follow::<Gb18030Decoder>(&rt, rt.alloc(), &tables, PAIRS);
-    Ok(())
+    let tables = tables_of(
+        &rt,
+        &Indexes {
+            gb18030: &index,
+            ..no_entries()
+        },
+    );
+    follow::<Gb18030Decoder>(&rt, &tables, PAIRS);
 }
 
 /// The rows with the ranges from pointer 0 and U+0080, and from pointer 36 and U+00A5.
@@ -205,11 +203,13 @@ const RANGES: &[Row] = &[
 ];
 
 #[test]
-fn decoder_of_ranges(rt: HostRuntime) -> Result<(), Fail> {
-    let tables = Tables::new(&Indexes {
-        ranges: &[(0, 0x0080), (36, 0x00A5)],
-        ..no_entries()
-    })?;
-    follow::<Gb18030Decoder>(&rt, rt.alloc(), &tables, RANGES);
-    Ok(())
+fn decodes_four_bytes_by_the_ranges(rt: HostRuntime) {
+    let tables = tables_of(
+        &rt,
+        &Indexes {
+            ranges: &[(0, 0x0080), (36, 0x00A5)],
+            ..no_entries()
+        },
+    );
+    follow::<Gb18030Decoder>(&rt, &tables, RANGES);
 }

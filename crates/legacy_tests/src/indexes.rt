@@ -1,5 +1,6 @@
-//! Indexes, and entries of a single-byte table, to test with.
-use legacy_base::Indexes;
+//! Tables to test with, their indexes, and the entries of a single-byte table.
+use legacy_base::{Indexes, SingleByteTable, Tables};
+use std::process::Abort;
 
 /// Indexes without an entry.
 pub(crate) fn no_entries<'a>() -> Indexes<'a> {
@@ -23,4 +24,20 @@ pub(crate) fn entries_of(some: &[(usize, u16)]) -> [u16; 128] {
         }
     }
     entries
+}
+
+/// Tables of these indexes.
+pub(crate) fn tables_of<'a>(rt: &impl Abort, indexes: &Indexes<'a>) -> Tables<'a> {
+    match Tables::new(indexes) {
+        Ok(tables) => tables,
+        Err(fault) => panic!(rt; "{fault}"),
+    }
+}
+
+/// The single-byte table of these entries.
+pub(crate) fn byte_table_of(rt: &impl Abort, entries: &[u16; 128]) -> SingleByteTable {
+    match SingleByteTable::new(entries) {
+        Ok(table) => table,
+        Err(fault) => panic!(rt; "{fault}"),
+    }
 }

@@ -1,5 +1,6 @@
+//! ISO-2022-JP.
 use crate::events::bad;
-use crate::indexes::no_entries;
+use crate::indexes::{no_entries, tables_of};
 use crate::rows::Row::{
     BareLength, Decoder, Events, Neutral, ToUtf8, ToUtf16, Utf8Length, Utf16Length,
 };
@@ -8,11 +9,8 @@ use legacy_base::DecodeEvent::Scalar;
 use legacy_base::DecoderResult::{InputEmpty, Malformed, OutputFull};
 use legacy_base::{Indexes, Tables};
 use legacy_decoders::Iso2022JpDecoder;
-use std::test::Fail;
 
 impl<'a> Tested for Iso2022JpDecoder<'a> {
-    const CODEC: &'static str = "ISO-2022-JP";
-
     type Of = &'a Tables<'a>;
 
     fn made(of: &'a Tables<'a>) -> Iso2022JpDecoder<'a> {
@@ -122,10 +120,9 @@ const WITHOUT_ENTRIES: &[Row] = &[
 ];
 
 #[test]
-fn decoder_without_entries(rt: HostRuntime) -> Result<(), Fail> {
-    let tables = Tables::new(&no_entries())?;
-    follow::<Iso2022JpDecoder>(&rt, rt.alloc(), &tables, WITHOUT_ENTRIES);
-    Ok(())
+fn decodes_with_an_empty_index(rt: HostRuntime) {
+    let tables = tables_of(&rt, &no_entries());
+    follow::<Iso2022JpDecoder>(&rt, &tables, WITHOUT_ENTRIES);
 }
 
 /// The rows with pointers 0, 95 and 671 of index jis0208.
@@ -229,15 +226,17 @@ const PAIRS: &[Row] = &[
 ];
 
 #[test]
-fn decoder_of_pairs(rt: HostRuntime) -> Result<(), Fail> {
+fn decodes_pairs_between_escapes(rt: HostRuntime) {
     let mut jis0208 = [0u16; 672];
     jis0208[0] = 0x3000;
     jis0208[95] = 0x2225;
     jis0208[671] = 0x250F;
-    let tables = Tables::new(&Indexes {
-        jis0208: &jis0208,
-        ..no_entries()
-    })?;
-    follow::<Iso2022JpDecoder>(&rt, rt.alloc(), &tables, PAIRS);
-    Ok(())
+    let tables = tables_of(
+        &rt,
+        &Indexes {
+            jis0208: &jis0208,
+            ..no_entries()
+        },
+    );
+    follow::<Iso2022JpDecoder>(&rt, &tables, PAIRS);
 }

@@ -30,11 +30,11 @@ mod runs;
 #[cfg(test)]
 mod shift_jis;
 #[cfg(test)]
-mod shown;
-#[cfg(test)]
 mod single_byte;
 #[cfg(test)]
 mod tables;
+#[cfg(test)]
+mod units;
 #[cfg(test)]
 mod user_defined;
 #[cfg(test)]

@@ -1,3 +1,4 @@
+//! The replacement codec.
 use crate::events::bad;
 use crate::rows::Row::{BareLength, Decoder, Events, ToUtf8, ToUtf16, Utf8Length, Utf16Length};
 use crate::rows::{Row, Tested, follow};
@@ -5,8 +6,6 @@ use legacy_base::DecoderResult::{InputEmpty, Malformed, OutputFull};
 use legacy_decoders::ReplacementDecoder;
 
 impl Tested for ReplacementDecoder {
-    const CODEC: &'static str = "replacement";
-
     type Of = ();
 
     fn made(_of: ()) -> ReplacementDecoder {
@@ -37,6 +36,6 @@ const ROWS: &[Row] = &[
 ];
 
 #[test]
-fn decoder(rt: HostRuntime) {
-    follow::<ReplacementDecoder>(&rt, rt.alloc(), (), ROWS);
+fn decodes_the_first_byte_as_malformed_and_swallows_the_rest(rt: HostRuntime) {
+    follow::<ReplacementDecoder>(&rt, (), ROWS);
 }

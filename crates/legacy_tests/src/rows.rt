@@ -1,8 +1,7 @@
 //! Rows: calls and queries of a decoder with what must come of each, and the function that follows them.
-use crate::events::{utf8_events, utf16_events};
-use crate::shown::{Hex, Place};
+use crate::events::events;
+use crate::units::{Bytes, Form, Hex, Units};
 use legacy_base::{DecodeEvent, DecoderResult, RawDecoder};
-use std::alloc::{AllocError, Global};
 use std::fmt::Debug;
 use std::process::Abort;
 
@@ -33,9 +32,6 @@ pub(crate) enum Row<'a> {
 
 /// A decoder, what it is made of, and the queries that only some have.
 pub(crate) trait Tested: RawDecoder + Drop {
-    /// The name of the codec.
-    const CODEC: &'static str;
-
     /// What the decoder is made of.
     type Of: Copy;
 
@@ -50,174 +46,180 @@ pub(crate) trait Tested: RawDecoder + Drop {
     }
 }
 
-/// Makes a call into UTF-8, and compares its answer, what it read and what it wrote with what is wanted.
-fn writes_text<D: RawDecoder>(
+/// Where a row stands: the name of its case, and its place among all rows.
+pub(crate) type Place<'a> = (&'a str, usize);
+
+/// The bytes of a call, how many code units are free, and whether these bytes are the last.
+pub(crate) type Call<'a> = (&'a [u8], usize, bool);
+
+/// Compares the answer of a call, what it read and what it wrote with what is wanted.
+fn is_call<U: Copy + PartialEq + Into<u32>>(
     rt: &impl Abort,
-    place: Place,
-    decoder: &mut D,
-    (source, room, last): (&[u8], usize, bool),
-    (answer, read, text): (DecoderResult, usize, &str),
+    (case, row): Place,
+    form: &str,
+    (source, room, last): Call,
+    (res, seen, came): (DecoderResult, usize, &[U]),
+    (answer, read, wanted): (DecoderResult, usize, &[U]),
 ) {
-    let mut output = [0u8; 96];
-    let (result, seen, written) = decoder.decode_to_utf8_raw(
-        source,
-        &mut output[..room.min(96)],
-        last,
-    );
-    let came = &output[..written.min(96)];
-    let wanted = text.as_bytes();
     assert!(rt;
-        (result, seen) == (answer, read) && came == wanted,
-        "{place}: {} into {room} bytes of UTF-8, last: {last}\n  came:   {result:?}, {seen} read, {}\n  wanted: {answer:?}, {read} read, {}",
+        res == answer && seen == read && came == wanted,
+        "\"{case}\", row {row}: {} into {form}, {room} free, last: {last}\n  came:   {res:?}, {seen} read, {}\n  wanted: {answer:?}, {read} read, {}",
         Hex(source),
         Hex(came),
         Hex(wanted)
     );
 }
 
-/// Makes a call into UTF-16, and compares its answer, what it read and what it wrote with what is wanted.
+/// Makes a call into UTF-8, and compares what comes of it with what is wanted.
+pub(crate) fn writes_text<D: RawDecoder>(
+    rt: &impl Abort,
+    place: Place,
+    decoder: &mut D,
+    call: Call,
+    wanted: (DecoderResult, usize, &str),
+) {
+    let (source, room, last) = call;
+    let mut output = [0u8; 96];
+    let (result, read, written) = decoder.decode_to_utf8_raw(
+        source,
+        &mut output[..room.min(96)],
+        last,
+    );
+    let came = (result, read, &output[..written.min(96)]);
+    is_call(
+        rt,
+        place,
+        "UTF-8",
+        call,
+        came,
+        (wanted.0, wanted.1, wanted.2.as_bytes()),
+    );
+}
+
+/// Makes a call into UTF-16, and compares what comes of it with what is wanted.
 fn writes_units<D: RawDecoder>(
     rt: &impl Abort,
     place: Place,
     decoder: &mut D,
-    (source, room, last): (&[u8], usize, bool),
-    (answer, read, wanted): (DecoderResult, usize, &[u16]),
+    call: Call,
+    wanted: (DecoderResult, usize, &[u16]),
 ) {
+    let (source, room, last) = call;
     let mut output = [0u16; 96];
-    let (result, seen, written) = decoder.decode_to_utf16_raw(
+    let (result, read, written) = decoder.decode_to_utf16_raw(
         source,
         &mut output[..room.min(96)],
         last,
     );
-    let came = &output[..written.min(96)];
-    assert!(rt;
-        (result, seen) == (answer, read) && came == wanted,
-        "{place}: {} into {room} units of UTF-16, last: {last}\n  came:   {result:?}, {seen} read, {}\n  wanted: {answer:?}, {read} read, {}",
-        Hex(source),
-        Hex(came),
-        Hex(wanted)
-    );
+    let came = (result, read, &output[..written.min(96)]);
+    is_call(rt, place, "UTF-16", call, came, wanted);
 }
 
 /// Compares the length for so many bytes with what is wanted.
-fn is_length(
+fn has_length(
     rt: &impl Abort,
-    place: Place,
+    (case, row): Place,
     (form, bytes): (&str, usize),
     came: Option<usize>,
     wanted: Option<usize>,
 ) {
     assert!(rt;
         came == wanted,
-        "{place}: length in {form} for {bytes} bytes\n  came:   {came:?}\n  wanted: {wanted:?}"
+        "\"{case}\", row {row}: the length in {form} for {bytes}\n  came:   {came:?}\n  wanted: {wanted:?}"
     );
 }
 
-/// Compares the answer of a query that only some decoders have with what is wanted.
-fn is_answer<T: PartialEq + Debug + Copy>(
+/// Compares what the decoder says of its state, where it has that query, with what is wanted.
+fn says<T: PartialEq + Debug + Copy>(
     rt: &impl Abort,
-    place: Place,
+    (case, row): Place,
     query: &str,
     came: Option<T>,
     wanted: T,
 ) {
     assert!(rt;
         came == Some(wanted),
-        "{place}: {query}\n  came:   {came:?}\n  wanted: {wanted:?}"
+        "\"{case}\", row {row}: {query}\n  came:   {came:?}\n  wanted: {wanted:?}"
     );
 }
 
-/// Compares the events that were found, where there was memory, with those that are wanted.
-fn are_found(
+/// Finds the events of the input in calls of at most so many bytes, with so many code units free, and
+/// compares them with those that are wanted.
+fn finds<F: Form, D: RawDecoder + Drop>(
     rt: &impl Abort,
-    place: Place,
-    way: &str,
-    found: Result<Vec<DecodeEvent>, AllocError>,
-    wanted: &[DecodeEvent],
-) {
-    match found {
-        Ok(found) => assert!(rt;
-            found.as_slice() == wanted,
-            "{place}: events {way}\n  came:   {found:?}\n  wanted: {wanted:?}"
-        ),
-        Err(_) => panic!(rt; "{place}: no memory"),
-    }
-}
-
-/// Finds the events of the input at once and byte by byte, into UTF-8 and into UTF-16, and compares them
-/// with those that are wanted.
-fn finds<D: Tested>(
-    rt: &impl Abort,
-    alloc: Global,
-    place: Place,
-    of: D::Of,
+    (case, row): Place,
+    mut decoder: D,
     input: &[u8],
+    (piece, room): (usize, usize),
     wanted: &[DecodeEvent],
 ) {
-    let found = utf8_events(alloc, &mut D::made(of), input, usize::MAX, 48);
-    are_found(rt, place, "in UTF-8, at once", found, wanted);
-    let found = utf16_events(alloc, &mut D::made(of), input, usize::MAX, 96);
-    are_found(rt, place, "in UTF-16, at once", found, wanted);
-    let found = utf8_events(alloc, &mut D::made(of), input, 1, 4);
-    are_found(rt, place, "in UTF-8, byte by byte", found, wanted);
-    let found = utf16_events(alloc, &mut D::made(of), input, 1, 2);
-    are_found(rt, place, "in UTF-16, byte by byte", found, wanted);
+    let found = events::<F, D>(&mut decoder, input, piece, room);
+    let came = found.as_slice();
+    assert!(rt;
+        came == wanted,
+        "\"{case}\", row {row}: {} in pieces of {piece} into {}, {room} free\n  came:   {came:?}\n  wanted: {wanted:?}",
+        Hex(input),
+        F::NAME
+    );
 }
 
-/// Follows one row: makes its call or its query, and compares what comes of it with what is wanted.
-fn follow_row<D: Tested>(
-    rt: &impl Abort,
-    alloc: Global,
-    place: Place,
-    of: D::Of,
-    decoder: &mut D,
-    row: &Row,
-) {
+/// Follows the row of a query: compares the answer with what is wanted.
+fn follow_query<D: Tested>(rt: &impl Abort, place: Place, decoder: &D, row: &Row) {
     match row {
-        Row::Decoder(_) => *decoder = D::made(of),
-        Row::ToUtf8(source, room, last, answer, read, text) => {
-            let (call, wanted) = ((*source, *room, *last), (*answer, *read, *text));
-            writes_text(rt, place, decoder, call, wanted);
-        }
-        Row::ToUtf16(source, room, last, answer, read, units) => {
-            let (call, wanted) = ((*source, *room, *last), (*answer, *read, *units));
-            writes_units(rt, place, decoder, call, wanted);
-        }
         Row::Utf16Length(bytes, length) => {
             let came = decoder.max_utf16_buffer_length(*bytes);
-            is_length(rt, place, ("UTF-16", *bytes), came, *length);
+            has_length(rt, place, ("UTF-16", *bytes), came, *length);
         }
         Row::Utf8Length(bytes, length) => {
             let came = decoder.max_utf8_buffer_length(*bytes);
-            is_length(rt, place, ("UTF-8", *bytes), came, *length);
+            has_length(rt, place, ("UTF-8", *bytes), came, *length);
         }
         Row::BareLength(bytes, length) => {
             let came = decoder.max_utf8_buffer_length_without_replacement(*bytes);
-            is_length(rt, place, ("UTF-8 without U+FFFD", *bytes), came, *length);
+            has_length(rt, place, ("UTF-8 without U+FFFD", *bytes), came, *length);
         }
         Row::Neutral(is_neutral) => {
-            is_answer(rt, place, "neutral", decoder.neutral(), *is_neutral);
+            let came = decoder.neutral();
+            says(rt, place, "in_neutral_state", came, *is_neutral);
         }
         Row::Additional(more) => {
-            is_answer(rt, place, "additional", decoder.additional(), *more);
+            let came = decoder.additional();
+            says(rt, place, "additional_from_state", came, *more);
         }
-        Row::Events(input, events) => finds::<D>(rt, alloc, place, of, input, events),
+        Row::Decoder(_) | Row::ToUtf8(..) | Row::ToUtf16(..) | Row::Events(..) => {}
+    }
+}
+
+/// Follows one row: makes its call or its query, and compares what comes of it with what is wanted.
+fn follow_row<D: Tested>(rt: &impl Abort, place: Place, of: D::Of, decoder: &mut D, row: &Row) {
+    match row {
+        Row::Decoder(_) => *decoder = D::made(of),
+        Row::ToUtf8(source, room, last, answer, read, text) => {
+            let wanted = (*answer, *read, *text);
+            writes_text(rt, place, decoder, (source, *room, *last), wanted);
+        }
+        Row::ToUtf16(source, room, last, answer, read, units) => {
+            let wanted = (*answer, *read, *units);
+            writes_units(rt, place, decoder, (source, *room, *last), wanted);
+        }
+        Row::Events(input, events) => {
+            finds::<Bytes, D>(rt, place, D::made(of), input, (input.len(), 48), events);
+            finds::<Units, D>(rt, place, D::made(of), input, (input.len(), 96), events);
+            finds::<Bytes, D>(rt, place, D::made(of), input, (1, 4), events);
+            finds::<Units, D>(rt, place, D::made(of), input, (1, 2), events);
+        }
+        _ => follow_query(rt, place, decoder, row),
     }
 }
 
 /// Follows the rows in turn.
-pub(crate) fn follow<D: Tested>(rt: &impl Abort, alloc: Global, of: D::Of, rows: &[Row]) {
+pub(crate) fn follow<D: Tested>(rt: &impl Abort, of: D::Of, rows: &[Row]) {
     let mut case = "";
     let mut decoder = D::made(of);
     for (at, row) in rows.iter().enumerate() {
         if let Row::Decoder(name) = row {
             case = name;
         }
-        let place = Place {
-            codec: D::CODEC,
-            case,
-            row: at,
-        };
-        follow_row(rt, alloc, place, of, &mut decoder, row);
+        follow_row(rt, (case, at), of, &mut decoder, row);
     }
 }

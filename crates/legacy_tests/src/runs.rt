@@ -1,12 +1,13 @@
 //! Runs: calls over pieces and outputs, to their end.
 use crate::events::bad;
-use crate::indexes::no_entries;
-use crate::rows::Tested;
+use crate::indexes::{no_entries, tables_of};
+use crate::rows::{Tested, writes_text};
 use legacy_base::DecodeEvent::Scalar;
 use legacy_base::DecoderResult::{InputEmpty, OutputFull};
-use legacy_base::{DecodeEvent, Destination, RawDecoder, Tables};
+use legacy_base::{DecodeEvent, DecoderResult, Destination, RawDecoder};
 use legacy_codecs::{
-    DecodeRun, RunError, ScalarBuffer, Utf8Form, Utf16Form, decode_run_utf8, decode_run_utf16,
+    DecodeRun, OutputForm, RunError, ScalarBuffer, Utf8Form, Utf16Form, decode_run_utf8,
+    decode_run_utf16,
 };
 use legacy_decoders::{Big5Decoder, Gb18030Decoder, UserDefinedDecoder, Utf16Decoder};
 use std::alloc::Global;
@@ -15,7 +16,6 @@ use std::test::Fail;
 
 /// A run, and what must come of it: the pieces, the lengths of the outputs, the events, how many calls it
 /// has where that is stated, and whether it is finished.
-#[derive(Clone, Copy)]
 enum Run<'a> {
     ToUtf8(&'a [&'a [u8]], &'a [usize], &'a [DecodeEvent], Option<usize>, bool),
     ToUtf16(&'a [&'a [u8]], &'a [usize], &'a [DecodeEvent], Option<usize>, bool),
@@ -24,7 +24,7 @@ enum Run<'a> {
 /// Compares what came of a run with what is wanted.
 fn is_run(
     rt: &impl Abort,
-    (codec, row): (&str, usize),
+    (form, row): (&str, usize),
     run: Result<DecodeRun, RunError>,
     (events, calls, finished): (&[DecodeEvent], Option<usize>, bool),
 ) {
@@ -33,9 +33,9 @@ fn is_run(
             run.events.as_slice() == events
                 && run.calls == calls.unwrap_or(run.calls)
                 && run.finished == finished,
-            "{codec}, run {row}\n  came:   {run:?}\n  wanted: {events:?}, calls: {calls:?}, finished: {finished}"
+            "{form}, run {row}\n  came:   {run:?}\n  wanted: {events:?}, calls: {calls:?}, finished: {finished}"
         ),
-        Err(error) => panic!(rt; "{codec}, run {row}: {error}"),
+        Err(error) => panic!(rt; "{form}, run {row}: {error}"),
     }
 }
 
@@ -43,15 +43,14 @@ fn is_run(
 fn make<D: Tested>(rt: &impl Abort, alloc: Global, of: D::Of, runs: &[Run]) {
     for (row, run) in runs.iter().enumerate() {
         let mut decoder = D::made(of);
-        let place = (D::CODEC, row);
         match run {
             Run::ToUtf8(pieces, lengths, events, calls, finished) => {
                 let came = decode_run_utf8(alloc, &mut decoder, pieces, lengths);
-                is_run(rt, place, came, (*events, *calls, *finished));
+                is_run(rt, ("UTF-8", row), came, (*events, *calls, *finished));
             }
             Run::ToUtf16(pieces, lengths, events, calls, finished) => {
                 let came = decode_run_utf16(alloc, &mut decoder, pieces, lengths);
-                is_run(rt, place, came, (*events, *calls, *finished));
+                is_run(rt, ("UTF-16", row), came, (*events, *calls, *finished));
             }
         }
     }
@@ -116,36 +115,60 @@ const OF_GB18030: &[Run] = &[
 ];
 
 #[test]
-fn broken_forms_of_four_bytes_are_the_same_events_whole_and_in_bytes(
-    rt: HostRuntime,
-) -> Result<(), Fail> {
-    let tables = Tables::new(&no_entries())?;
+fn broken_forms_of_four_bytes_are_the_same_events_whole_and_in_bytes(rt: HostRuntime) {
+    let tables = tables_of(&rt, &no_entries());
     make::<Gb18030Decoder>(&rt, rt.alloc(), &tables, OF_GB18030);
-    Ok(())
 }
 
-/// The errors of a run of one byte with one output of so many units, in UTF-8 and in UTF-16.
-fn errors(alloc: Global, length: usize) -> (Option<RunError>, Option<RunError>) {
-    let mut decoder = UserDefinedDecoder::new();
-    let narrow = decode_run_utf8(alloc, &mut decoder, &[b"\x80"], &[length]).err();
-    let wide = decode_run_utf16(alloc, &mut decoder, &[b"\x80"], &[length]).err();
+/// The errors of a run of one piece with one output of so many units, in UTF-8 and in UTF-16.
+fn errors<D: RawDecoder>(
+    alloc: Global,
+    decoder: &mut D,
+    piece: &[u8],
+    length: usize,
+) -> (Option<RunError>, Option<RunError>) {
+    let narrow = decode_run_utf8(alloc, decoder, &[piece], &[length]).err();
+    let wide = decode_run_utf16(alloc, decoder, &[piece], &[length]).err();
     (narrow, wide)
 }
 
 #[test]
 fn lengths_that_have_no_sum_are_refused(rt: HostRuntime) {
-    let (narrow, wide) = errors(rt.alloc(), usize::MAX);
-    assert!(rt; narrow == Some(RunError::TooLong) && wide == Some(RunError::TooLong));
+    let came = errors(
+        rt.alloc(),
+        &mut UserDefinedDecoder::new(),
+        b"\x80",
+        usize::MAX,
+    );
+    assert_eq!(rt; came, (Some(RunError::TooLong), Some(RunError::TooLong)));
 }
 
 #[test]
-fn lengths_that_have_a_sum_past_all_memory_are_refused_as_memory(rt: HostRuntime) {
-    let (narrow, wide) = errors(rt.alloc(), usize::MAX - 1);
-    assert!(rt; narrow == Some(RunError::Memory) && wide == Some(RunError::Memory));
+fn a_run_that_is_refused_as_memory_leaves_the_lead_that_is_held_back(rt: HostRuntime) {
+    let tables = tables_of(&rt, &no_entries());
+    let mut decoder = Big5Decoder::new(&tables);
+    let wanted = (InputEmpty, 1, "");
+    writes_text(
+        &rt,
+        ("a lead", 0),
+        &mut decoder,
+        (b"\x88", 8, false),
+        wanted,
+    );
+    let came = errors(rt.alloc(), &mut decoder, b"\x62", usize::MAX - 1);
+    assert_eq!(rt; came, (Some(RunError::Memory), Some(RunError::Memory)));
+    let wanted = (InputEmpty, 1, "\u{CA}\u{304}");
+    writes_text(
+        &rt,
+        ("its trail", 1),
+        &mut decoder,
+        (b"\x62", 8, true),
+        wanted,
+    );
 }
 
 /// The run of three pieces, with memory asked for again where it was refused.
-fn run_again(rt: &HostRuntime, in_utf16: bool) -> Option<DecodeRun> {
+fn run_again(rt: &HostRuntime, in_utf16: bool) -> Result<DecodeRun, RunError> {
     let mut decoder = UserDefinedDecoder::new();
     let pieces: [&[u8]; 3] = [b"\x61\x80", b"", b"\xFF"];
     for _attempt in 0..4 {
@@ -155,27 +178,20 @@ fn run_again(rt: &HostRuntime, in_utf16: bool) -> Option<DecodeRun> {
             decode_run_utf8(rt.alloc(), &mut decoder, &pieces, &[3, 3, 3, 3, 3])
         };
         match run {
-            Ok(run) => return Some(run),
             Err(RunError::Memory) => {}
-            Err(RunError::TooLong) => return None,
+            other => return other,
         }
     }
-    None
+    Err(RunError::Memory)
 }
 
 // With the first allocation of a test refused, or the second, the answer is that of the next attempt.
 #[test]
 fn refused_memory_leaves_a_decoder_unchanged(rt: HostRuntime) {
-    for in_utf16 in [false, true] {
-        let Some(run) = run_again(&rt, in_utf16) else {
-            assert!(rt; false, "no run");
-            return;
-        };
-        let events = [Scalar('\u{61}'), Scalar('\u{F780}'), Scalar('\u{F7FF}')];
-        assert!(rt; run.events.as_slice() == events.as_slice());
-        assert_eq!(rt; run.calls, 4);
-        assert!(rt; run.finished);
-    }
+    let events = [Scalar('\u{61}'), Scalar('\u{F780}'), Scalar('\u{F7FF}')];
+    let wanted: (&[DecodeEvent], _, _) = (&events, Some(4), true);
+    is_run(&rt, ("UTF-8", 0), run_again(&rt, false), wanted);
+    is_run(&rt, ("UTF-16", 0), run_again(&rt, true), wanted);
 }
 
 #[test]
@@ -185,35 +201,22 @@ fn the_errors_print_their_texts(rt: HostRuntime) -> Result<(), Fail> {
     Ok(())
 }
 
-#[test]
-fn a_buffer_of_scalars_counts_their_code_units(rt: HostRuntime) {
+/// Whether a buffer with room for four code units takes so many scalars of 61, 80 and 80, of so many units.
+fn takes<F: OutputForm>(rt: &impl Abort, answer: (DecoderResult, usize), units: usize) {
     let mut places = ['\0'; 4];
-    let mut buffer = ScalarBuffer::<Utf8Form>::new(&mut places, 4);
-    let answer = UserDefinedDecoder::new().step(b"\x61\x80\x80", &mut buffer, true);
-    assert_eq!(rt; answer, (OutputFull, 2));
-    assert_eq!(rt; buffer.written(), 4);
-    assert_eq!(rt; buffer.free(), 0);
-    assert!(rt; buffer.scalars() == ['\u{61}', '\u{F780}'].as_slice());
-    let mut buffer = ScalarBuffer::<Utf16Form>::new(&mut places, 4);
-    let answer = UserDefinedDecoder::new().step(b"\x61\x80\x80", &mut buffer, true);
-    assert_eq!(rt; answer, (InputEmpty, 3));
-    assert_eq!(rt; buffer.written(), 3);
-    assert_eq!(rt; buffer.free(), 1);
-    assert!(rt; buffer.scalars() == ['\u{61}', '\u{F780}', '\u{F780}'].as_slice());
+    let mut buffer = ScalarBuffer::<F>::new(&mut places, 4);
+    let came = UserDefinedDecoder::new().step(b"\x61\x80\x80", &mut buffer, true);
+    assert_eq!(rt; came, answer);
+    assert_eq!(rt;
+        (buffer.written(), buffer.free()),
+        (units, 4usize.saturating_sub(units))
+    );
+    let scalars = ['\u{61}', '\u{F780}', '\u{F780}'];
+    assert!(rt; buffer.scalars() == &scalars[..answer.1.min(3)]);
 }
 
 #[test]
-fn a_refused_run_leaves_the_held_back_lead(rt: HostRuntime) -> Result<(), Fail> {
-    let indexes = no_entries();
-    let tables = Tables::new(&indexes)?;
-    let mut decoder = Big5Decoder::new(&tables);
-    let mut output = [0u8; 8];
-    let answer = decoder.decode_to_utf8_raw(b"\x88", &mut output, false);
-    assert_eq!(rt; answer, (InputEmpty, 1, 0));
-    let refused = decode_run_utf8(rt.alloc(), &mut decoder, &[b"\x62"], &[usize::MAX - 1]);
-    assert!(rt; matches!(refused, Err(RunError::Memory)));
-    let answer = decoder.decode_to_utf8_raw(b"\x62", &mut output, true);
-    assert_eq!(rt; answer, (InputEmpty, 1, 4));
-    assert!(rt; &output[..4] == "\u{CA}\u{304}".as_bytes());
-    Ok(())
+fn a_buffer_of_scalars_counts_their_code_units(rt: HostRuntime) {
+    takes::<Utf8Form>(&rt, (OutputFull, 2), 4);
+    takes::<Utf16Form>(&rt, (InputEmpty, 3), 3);
 }

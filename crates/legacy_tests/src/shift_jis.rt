@@ -1,16 +1,14 @@
+//! Shift_JIS.
 use crate::events::bad;
-use crate::indexes::no_entries;
+use crate::indexes::{no_entries, tables_of};
 use crate::rows::Row::{BareLength, Decoder, Events, Neutral, ToUtf8, Utf8Length, Utf16Length};
 use crate::rows::{Row, Tested, follow};
 use legacy_base::DecodeEvent::Scalar;
 use legacy_base::DecoderResult::{InputEmpty, Malformed, OutputFull};
 use legacy_base::Tables;
 use legacy_decoders::ShiftJisDecoder;
-use std::test::Fail;
 
 impl<'a> Tested for ShiftJisDecoder<'a> {
-    const CODEC: &'static str = "Shift_JIS";
-
     type Of = &'a Tables<'a>;
 
     fn made(of: &'a Tables<'a>) -> ShiftJisDecoder<'a> {
@@ -69,8 +67,7 @@ const WITHOUT_ENTRIES: &[Row] = &[
 ];
 
 #[test]
-fn decoder_without_entries(rt: HostRuntime) -> Result<(), Fail> {
-    let tables = Tables::new(&no_entries())?;
-    follow::<ShiftJisDecoder>(&rt, rt.alloc(), &tables, WITHOUT_ENTRIES);
-    Ok(())
+fn decodes_with_an_empty_index(rt: HostRuntime) {
+    let tables = tables_of(&rt, &no_entries());
+    follow::<ShiftJisDecoder>(&rt, &tables, WITHOUT_ENTRIES);
 }

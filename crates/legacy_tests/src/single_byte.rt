@@ -1,16 +1,15 @@
-use crate::events::bad;
-use crate::indexes::entries_of;
+//! The single-byte codecs.
+use crate::events::{Found, bad};
+use crate::indexes::{byte_table_of, entries_of};
 use crate::rows::Row::{BareLength, Decoder, Events, ToUtf8, Utf8Length, Utf16Length};
 use crate::rows::{Row, Tested, follow};
+use crate::units::Hex;
 use legacy_base::DecodeEvent::{Bad, Scalar};
 use legacy_base::DecoderResult::{InputEmpty, Malformed, OutputFull};
 use legacy_base::{DecodeEvent, SingleByteTable};
 use legacy_decoders::SingleByteDecoder;
-use std::test::Fail;
 
 impl<'a> Tested for SingleByteDecoder<'a> {
-    const CODEC: &'static str = "single-byte";
-
     type Of = &'a SingleByteTable;
 
     fn made(of: &'a SingleByteTable) -> SingleByteDecoder<'a> {
@@ -31,10 +30,9 @@ const WITHOUT_ENTRIES: &[Row] = &[
 ];
 
 #[test]
-fn decoder_without_entries(rt: HostRuntime) -> Result<(), Fail> {
-    let table = SingleByteTable::new(&[0; 128])?;
-    follow::<SingleByteDecoder>(&rt, rt.alloc(), &table, WITHOUT_ENTRIES);
-    Ok(())
+fn decodes_ascii_alone_with_an_empty_table(rt: HostRuntime) {
+    let table = byte_table_of(&rt, &[0; 128]);
+    follow::<SingleByteDecoder>(&rt, &table, WITHOUT_ENTRIES);
 }
 
 /// The rows with four letters at the places that ISO-8859-7 has them.
@@ -62,27 +60,31 @@ const GREEK: &[Row] = &[
 ];
 
 #[test]
-fn decoder_of_greek(rt: HostRuntime) -> Result<(), Fail> {
+fn decodes_greek_letters(rt: HostRuntime) {
     let entries = entries_of(&[(65, 0x391), (117, 0x3C5), (116, 0x3C4), (124, 0x3CC)]);
-    let table = SingleByteTable::new(&entries)?;
-    follow::<SingleByteDecoder>(&rt, rt.alloc(), &table, GREEK);
-    Ok(())
+    let table = byte_table_of(&rt, &entries);
+    follow::<SingleByteDecoder>(&rt, &table, GREEK);
 }
 
+/// The entry of byte 85, bytes, and how many of them stand before the first that is another scalar.
+const FRONTS: &[(u16, &[u8], usize)] = &[
+    (0, b"abc", 3),
+    (0, b"\x61\x80", 1),
+    (0, b"", 0),
+    (0x85, b"\x61\x85\x62\x86", 3),
+];
+
 #[test]
-fn the_front_of_latin_1_ends_at_another_scalar(rt: HostRuntime) -> Result<(), Fail> {
-    let rows: [(u16, &[u8], usize); 4] = [
-        (0, b"abc", 3),
-        (0, b"\x61\x80", 1),
-        (0, b"", 0),
-        (0x85, b"\x61\x85\x62\x86", 3),
-    ];
-    for (entry, bytes, front) in rows {
-        let table = SingleByteTable::new(&entries_of(&[(5, entry)]))?;
+fn the_front_of_latin_1_ends_at_another_scalar(rt: HostRuntime) {
+    for (entry, bytes, front) in FRONTS {
+        let table = byte_table_of(&rt, &entries_of(&[(5, *entry)]));
         let came = SingleByteDecoder::new(&table).latin1_byte_compatible_up_to(bytes);
-        assert_eq!(rt; came, front, "{bytes:?} with entry {entry:x} at 5");
+        assert!(rt;
+            came == *front,
+            "{}: came {came}, wanted {front}",
+            Hex(bytes)
+        );
     }
-    Ok(())
 }
 
 /// The letters of ISO-8859-7: the bytes C1 to FE are the scalars from U+0391 on, but D2 has none.
@@ -110,16 +112,16 @@ fn event_of(place: usize, byte: u8) -> DecodeEvent {
 }
 
 #[test]
-fn decoder_of_words_and_ascii(rt: HostRuntime) -> Result<(), Fail> {
+fn decodes_words_of_letters_and_ascii(rt: HostRuntime) {
     // three words, ASCII, a word that the byte without an entry cuts, ASCII, single letters, and the byte 00 among
     // letters
     let input =
         b"\xC1\xE8\xDE\xED\xE1 \xEA\xE1\xE9 \xD0\xE5\xE9\xF1\xE1\xE9\xDC\xF2, ab\x7F \xD3\xF5\xED\xD2\xFE\xC1 in 1 2 or 30 steps: \xE1 \xE2 \xE3 a\xE4b\xE5c\xE6d \xF9\xFA\x00\xFB\xFE in the last sixteen";
-    let mut events = Vec::new(rt.alloc());
+    let mut events = Found::new();
     for (place, byte) in input.iter().enumerate() {
-        events.push(event_of(place, *byte))?;
+        events.push(event_of(place, *byte));
     }
-    let table = SingleByteTable::new(&letters())?;
-    follow::<SingleByteDecoder>(&rt, rt.alloc(), &table, &[Events(input, &events)]);
-    Ok(())
+    let table = byte_table_of(&rt, &letters());
+    let rows = [Events(input, events.as_slice())];
+    follow::<SingleByteDecoder>(&rt, &table, &rows);
 }

@@ -1,3 +1,4 @@
+//! x-user-defined.
 use crate::rows::Row::{BareLength, Decoder, Events, ToUtf8, ToUtf16, Utf8Length, Utf16Length};
 use crate::rows::{Row, Tested, follow};
 use legacy_base::DecodeEvent::Scalar;
@@ -5,8 +6,6 @@ use legacy_base::DecoderResult::{InputEmpty, OutputFull};
 use legacy_decoders::UserDefinedDecoder;
 
 impl Tested for UserDefinedDecoder {
-    const CODEC: &'static str = "x-user-defined";
-
     type Of = ();
 
     fn made(_of: ()) -> UserDefinedDecoder {
@@ -96,6 +95,6 @@ const ROWS: &[Row] = &[
 ];
 
 #[test]
-fn decoder(rt: HostRuntime) {
-    follow::<UserDefinedDecoder>(&rt, rt.alloc(), (), ROWS);
+fn decodes_bytes_past_ascii_as_private_use_scalars(rt: HostRuntime) {
+    follow::<UserDefinedDecoder>(&rt, (), ROWS);
 }

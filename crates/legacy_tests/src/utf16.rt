@@ -1,3 +1,4 @@
+//! UTF-16.
 use crate::events::bad;
 use crate::rows::Row::{Additional, BareLength, Decoder, Events, ToUtf8, ToUtf16, Utf16Length};
 use crate::rows::{Row, Tested, follow};
@@ -5,13 +6,10 @@ use legacy_base::DecodeEvent;
 use legacy_base::DecodeEvent::Scalar;
 use legacy_base::DecoderResult::{InputEmpty, Malformed, OutputFull};
 use legacy_decoders::Utf16Decoder;
-use std::alloc::{AllocError, Global};
+use std::alloc::Global;
 use std::process::Abort;
-use std::test::Fail;
 
 impl Tested for Utf16Decoder {
-    const CODEC: &'static str = "UTF-16";
-
     /// Whether the greater byte of a unit comes first.
     type Of = bool;
 
@@ -104,8 +102,8 @@ const LITTLE_ENDIAN: &[Row] = &[
 ];
 
 #[test]
-fn decoder_of_little_endian(rt: HostRuntime) {
-    follow::<Utf16Decoder>(&rt, rt.alloc(), false, LITTLE_ENDIAN);
+fn decodes_the_lesser_byte_first(rt: HostRuntime) {
+    follow::<Utf16Decoder>(&rt, false, LITTLE_ENDIAN);
 }
 
 const BIG_ENDIAN: &[Row] = &[
@@ -126,8 +124,8 @@ const BIG_ENDIAN: &[Row] = &[
 ];
 
 #[test]
-fn decoder_of_big_endian(rt: HostRuntime) {
-    follow::<Utf16Decoder>(&rt, rt.alloc(), true, BIG_ENDIAN);
+fn decodes_the_greater_byte_first(rt: HostRuntime) {
+    follow::<Utf16Decoder>(&rt, true, BIG_ENDIAN);
 }
 
 /// Looks for the events of these units, and of an odd byte where there is one, in either byte order.
@@ -137,7 +135,7 @@ fn in_either_order(
     units: &[u16],
     odd: &[u8],
     events: &[DecodeEvent],
-) -> Result<(), AllocError> {
+) {
     for big_endian in [false, true] {
         let mut bytes = Vec::new(alloc);
         for unit in units {
@@ -146,16 +144,15 @@ fn in_either_order(
             } else {
                 unit.to_le_bytes()
             };
-            bytes.extend_from_slice(&pair)?;
+            bytes.extend_from_slice(&pair).expect(rt, "no memory");
         }
-        bytes.extend_from_slice(odd)?;
-        follow::<Utf16Decoder>(rt, alloc, big_endian, &[Events(&bytes, events)]);
+        bytes.extend_from_slice(odd).expect(rt, "no memory");
+        follow::<Utf16Decoder>(rt, big_endian, &[Events(&bytes, events)]);
     }
-    Ok(())
 }
 
 #[test]
-fn decoder_of_surrogates_among_zeros(rt: HostRuntime) -> Result<(), Fail> {
+fn decodes_surrogates_among_zeros(rt: HostRuntime) {
     let mut units = [0u16; 25];
     units[4] = 0xD83D;
     units[5] = 0xDCA9;
@@ -167,8 +164,7 @@ fn decoder_of_surrogates_among_zeros(rt: HostRuntime) -> Result<(), Fail> {
     events[9] = bad!(20, 2);
     events[14] = bad!(30, 2);
     events[23] = bad!(48, 2);
-    in_either_order(&rt, rt.alloc(), &units, b"", &events)?;
-    Ok(())
+    in_either_order(&rt, rt.alloc(), &units, b"", &events);
 }
 
 /// A run, a pair, a run, a low surrogate, a run, a high surrogate, and a run before an odd byte.
@@ -205,13 +201,12 @@ const EVENTS_OF_RUNS: &[DecodeEvent] = &[
 ];
 
 #[test]
-fn decoder_of_runs_between_surrogates(rt: HostRuntime) -> Result<(), Fail> {
-    in_either_order(&rt, rt.alloc(), RUNS, b"\x41", EVENTS_OF_RUNS)?;
-    Ok(())
+fn decodes_runs_between_surrogates(rt: HostRuntime) {
+    in_either_order(&rt, rt.alloc(), RUNS, b"\x41", EVENTS_OF_RUNS);
 }
 
 #[test]
-fn decoder_of_ascii_among_which_units_are_wider(rt: HostRuntime) -> Result<(), Fail> {
+fn decodes_ascii_among_which_units_are_wider(rt: HostRuntime) {
     let mut units = [0x41u16; 80];
     units[20] = 0x0141;
     units[47] = 0x0080;
@@ -220,8 +215,7 @@ fn decoder_of_ascii_among_which_units_are_wider(rt: HostRuntime) -> Result<(), F
     events[20] = Scalar('\u{141}');
     events[47] = Scalar('\u{80}');
     events[63] = Scalar('\u{4100}');
-    in_either_order(&rt, rt.alloc(), &units, b"", &events)?;
-    Ok(())
+    in_either_order(&rt, rt.alloc(), &units, b"", &events);
 }
 
 /// Units of one, two and three bytes in UTF-8 in turn, a pair at 19 and 20, and a lone surrogate at 39.
@@ -274,7 +268,6 @@ const EVENTS_OF_UNITS: &[DecodeEvent] = &[
 ];
 
 #[test]
-fn decoder_of_units_of_any_length(rt: HostRuntime) -> Result<(), Fail> {
-    in_either_order(&rt, rt.alloc(), UNITS, b"", EVENTS_OF_UNITS)?;
-    Ok(())
+fn decodes_units_of_any_length(rt: HostRuntime) {
+    in_either_order(&rt, rt.alloc(), UNITS, b"", EVENTS_OF_UNITS);
 }
