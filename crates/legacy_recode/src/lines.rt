@@ -79,13 +79,13 @@ impl LineBuffer {
     }
 
     /// The bytes of the lines.
-    pub fn bytes(&self) -> &[u8]
+    fn bytes(&self) -> &[u8]
         ensures { result.now ≡ line_bytes self.now }
     {
         &self.bytes[..self.filled]
     }
 
-    /// Writes the lines, and then holds none. After an error a front of their bytes was written, and it holds them still.
+    /// Writes the lines, and then holds none. After an error a front of their bytes was written.
     pub fn write_to<W: Write>(&mut self, output: &mut W) -> io::Result<()>
         ensures written { OnOk result (Appends
             (W.contents output.old) (W.contents output.new) (line_bytes self.old)) }
