@@ -70,11 +70,11 @@ module _ (tables : AcceptedIndexes) where
   reports held some = moves.reports_all shown (held_bytes held) (may held) (are_bytes held) refl some
 
   -- there is something to report exactly where something is held back
-  pub events-none : (held : Held) → held_bytes held ≡ [] → events_of (euc_jp tables.flat.jis0208 tables.flat.jis0212) (held_bytes held) ≡ []
-  events-none held = moves.ends_none shown (held_bytes held) (may held) (are_bytes held) refl
+  pub events_none : (held : Held) → held_bytes held ≡ [] → events_of (euc_jp tables.flat.jis0208 tables.flat.jis0212) (held_bytes held) ≡ []
+  events_none held = moves.ends_none shown (held_bytes held) (may held) (are_bytes held) refl
 
-  pub events-some : (held : Held) → (held ≡ Nothing → ⊥) → events_of (euc_jp tables.flat.jis0208 tables.flat.jis0212) (held_bytes held) ≢ []
-  events-some held n = moves.ends_some shown (held_bytes held) (may held) (are_bytes held) refl (bytes-some held n)
+  pub events_some : (held : Held) → (held ≡ Nothing → ⊥) → events_of (euc_jp tables.flat.jis0208 tables.flat.jis0212) (held_bytes held) ≢ []
+  events_some held n = moves.ends_some shown (held_bytes held) (may held) (are_bytes held) refl (bytes-some held n)
 
   -- ---- runs
 

@@ -129,6 +129,15 @@ module _ (jis0208 : List ℕ) where
   ends mode held o sound rest is =
       rw is (end_facts mode held (finish mode held) (end_law mode held sound (sym (held_rests jis0208 mode held sound) ∙ rest)) (finish_sound mode held))
 
+  pub ends_none : (mode : Mode) (held : Held) → is_held mode held ≡ true → rests (iso_2022_jp jis0208 (mode_meaning mode)) (bytes_of held) ≡ true
+      → None ≡ finish mode held → events_of (iso_2022_jp jis0208 (mode_meaning mode)) (bytes_of held) ≡ []
+  ends_none mode held = ends mode held None
+
+  pub ends_reports : (mode : Mode) (held : Held) (new_mode : Mode) (new_held : Held) → is_held mode held ≡ true
+      → rests (iso_2022_jp jis0208 (mode_meaning mode)) (bytes_of held) ≡ true → Some (new_mode, new_held) ≡ finish mode held
+      → Reports (state_in jis0208 mode held) (state_in jis0208 new_mode new_held) 1 (length (bytes_of new_held))
+  ends_reports mode held new_mode new_held sound rest is = (ends mode held (Some (new_mode, new_held)) sound rest is).0
+
   -- ---- whether an event is left
 
   abbrev HasRest : Mode → Held → Bool → Type 0

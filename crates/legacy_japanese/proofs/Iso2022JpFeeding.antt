@@ -65,18 +65,25 @@ holds_back jis0208 k _ mode held kept sizes rest = record { some = sizes.0; few 
 -- ---- a step
 
 -- it is what the machine reads
-pub stepped : (jis0208 : List ℕ) (mode : Mode) (held : Held) (byte : ℕ) (o : Outcome) → is_held mode held ≡ true
+stepped : (jis0208 : List ℕ) (mode : Mode) (held : Held) (byte : ℕ) (o : Outcome) → is_held mode held ≡ true
     → rests (iso_2022_jp jis0208 (mode_meaning mode)) (bytes_of held) ≡ true → o ≡ read jis0208 mode held byte → IsStep jis0208 mode held byte o
 stepped jis0208 mode held byte o sound rest is = rw is (read_step jis0208 mode held byte sound (sym (held_rests jis0208 mode held sound) ∙ rest))
 
+-- what is held back then may be
+pub kept : (jis0208 : List ℕ) (mode : Mode) (held : Held) (byte : ℕ) (o : Outcome) → is_held mode held ≡ true
+    → rests (iso_2022_jp jis0208 (mode_meaning mode)) (bytes_of held) ≡ true → o ≡ read jis0208 mode held byte → is_held o.mode o.held ≡ true
+kept jis0208 mode held byte o sound rest is = (let s = stepped jis0208 mode held byte o sound rest is in s.sound.kept)
+
 -- and what the loop is told of it
-pub fed : (jis0208 : List ℕ) (mode : Mode) (held : Held) (byte : ℕ) (o : Outcome) → IsStep jis0208 mode held byte o → IsNarrow o.action
+pub feeds : (jis0208 : List ℕ) (mode : Mode) (held : Held) (byte : ℕ) (o : Outcome) → is_held mode held ≡ true
+    → rests (iso_2022_jp jis0208 (mode_meaning mode)) (bytes_of held) ≡ true → o ≡ read jis0208 mode held byte → IsNarrow o.action
     → Feeds (state_in jis0208 mode held) byte (state_in jis0208 o.mode o.held) (fed_of o)
 unfolding events_of
-fed jis0208 mode held byte o step narrow =
+feeds jis0208 mode held byte o may rest is narrow =
+    let step = stepped jis0208 mode held byte o may rest is in
     let sound = step.sound in
     let fits = sound.fits in
-    let room = sound.room in
+    let lower = sound.room in
     let back = length (bytes_of o.held) in
     let counts = left_counts o.action back byte in
     record {
@@ -95,6 +102,6 @@ fed jis0208 mode held byte o step narrow =
       fits = λ form. rw (read_room-is form jis0208 mode held byte) (scalars_fit form o.action back narrow);
       had = λ form free enough. had_room form jis0208 mode free o.action back (let e = read_room-is form jis0208 mode held byte in omega arith);
       scalar = are_scalars o.action back narrow;
-      lowers = λ query rest. room-falls query jis0208 mode o.mode held o.held (rest + 1) (rest + length (unread_byte byte (fed_of o))) (rooms_of o.action)
+      lowers = λ query n. room-falls query jis0208 mode o.mode held o.held (n + 1) (n + length (unread_byte byte (fed_of o))) (rooms_of o.action)
           (total_unit_count (query_form query) (fed_scalars (fed_of o)) + fed_units query (fed_of o)) (omega arith) (units_paid query o.action back narrow);
     }

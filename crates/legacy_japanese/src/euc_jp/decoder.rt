@@ -224,6 +224,7 @@ impl DecoderMoves for EucJpDecoder<'_> {
     }
 
     #[inline]
+    #[tactic(auto, using(crate::proofs::EucJpHeld::feeds))]
     fn feed(&mut self, byte: u8) -> Fed {
         let (fed, held) = read(self.tables, self.held, byte);
         self.held = held;
@@ -231,10 +232,12 @@ impl DecoderMoves for EucJpDecoder<'_> {
     }
 
     #[inline]
+    #[tactic(auto, using(crate::proofs::EucJpHeld::events_none, crate::proofs::EucJpHeld::events_some))]
     fn has_rest(&self) -> bool {
         !matches!(self.held, Held::Nothing)
     }
 
+    #[tactic(auto, using(std::proofs::lemmas::List::nil_from_length, crate::proofs::EucJpHeld::events_none, crate::proofs::EucJpHeld::reports))]
     fn report(&mut self) -> Option<(u8, u8)> {
         let length = held_length(self.held);
         if length == 0 {

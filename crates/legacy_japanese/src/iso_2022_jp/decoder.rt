@@ -73,6 +73,7 @@ impl<'a> DecoderMoves for Iso2022JpDecoder<'a> {
         Room::Narrow
     }
 
+    #[tactic(auto, using(crate::proofs::Iso2022JpEnding::released))]
     fn release(&mut self) -> Option<char> {
         let scalar = pending(self.mode, self.held)?;
         self.held = Held::Begun(Start::Nothing);
@@ -80,6 +81,7 @@ impl<'a> DecoderMoves for Iso2022JpDecoder<'a> {
     }
 
     #[inline]
+    #[tactic(auto, using(crate::proofs::Iso2022JpFeeding::kept, crate::proofs::Iso2022JpFeeding::feeds))]
     fn feed(&mut self, byte: u8) -> Fed {
         let outcome = read(self.tables, self.mode, self.held, byte);
         self.mode = outcome.mode;
@@ -87,10 +89,12 @@ impl<'a> DecoderMoves for Iso2022JpDecoder<'a> {
         outcome.fed()
     }
 
+    #[tactic(auto, using(crate::proofs::Iso2022JpEnding::rest_known))]
     fn has_rest(&self) -> bool {
         finish(self.mode, self.held).is_some()
     }
 
+    #[tactic(auto, using(crate::proofs::Iso2022JpEnding::ends_none, crate::proofs::Iso2022JpEnding::ends_reports))]
     fn report(&mut self) -> Option<(u8, u8)> {
         let (mode, held) = finish(self.mode, self.held)?;
         self.mode = mode;
