@@ -4,7 +4,7 @@ use Rattle.legacy_base.specs.Grammar.{shift_jis}
 use Rattle.legacy_base.proofs.Accepted.{jis0208-below}
 use Rattle.legacy_japanese.specs.ShiftJisMachine.{shift_jis_first, shift_jis_pair_scalars}
 use Rattle.legacy_japanese.specs.ShiftJisShown.{shift_jis_shown, shift_jis_codec}
-use Rattle.legacy_decoder_engine.proofs.RowPlaces.{found}
+use Rattle.legacy_decoder_engine.proofs.PairPlaces.{found}
 use Rattle.legacy_decoder_engine.proofs.RunForms.{single_runs}
 use Rattle.legacy_japanese.proofs.ShiftJisRuns.{shift_jis_below, katakana_first}
 use Rattle.legacy_decoder_engine.proofs.LeadHeld.{pair}
