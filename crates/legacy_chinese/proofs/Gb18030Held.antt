@@ -1,6 +1,5 @@
 -- What the GB18030 decoder holds back is what its machine may hold back, and its moves are the machine's.
-use Rattle.std.proofs.Common.{◌≡◌, ◌≢◌, ◌∙◌, ℕ, ◌+◌, ◌-◌, ◌*◌, ◌^◌, ◌<◌, ◌≤◌, List, [], ◌∷◌, length, append-nil, Bool, true, false, ◌&&◌, refl, sym, ap, arith, Option, Some, None, cond, ◌==◌}
-use Rattle.std.proofs.lemmas.Bool.{false≢true}
+use Rattle.std.proofs.Common.{◌≡◌, ◌≢◌, ◌∙◌, ℕ, ◌+◌, ◌-◌, ◌*◌, ◌^◌, ◌<◌, ◌≤◌, List, [], ◌∷◌, length, append-nil, Bool, true, false, refl, sym, ap, arith, Option, Some, None, cond, ◌==◌}
 use Rattle.std.proofs.lemmas.Bool.Decides.{nat_tests}
 use Rattle.std.proofs.lemmas.List.Elements.{All-nil, All-cons}
 use Rattle.std.specs.Prelude.{option_to_list, IfSome}
@@ -12,7 +11,7 @@ use Rattle.legacy_base.specs.AcceptedTables.{AcceptedIndexes}
 use Rattle.legacy_base.specs.Gb18030.{gb18030_scalars, gb18030_range_pointer}
 use Rattle.legacy_base.specs.States.{is_lead}
 use Rattle.legacy_base.specs.Grammar.{Grammar, gb18030, events_of}
-use Rattle.legacy_base.specs.States.{gb18030_may_hold, rests, is_empty}
+use Rattle.legacy_base.specs.States.{gb18030_may_hold, rests}
 use Rattle.legacy_base.proofs.Accepted.{gb18030-below, range-scalar}
 use Rattle.legacy_chinese.specs.declared.gb18030.decoder.Held.{Held}
 use Rattle.legacy_chinese.specs.declared.gb18030.decoder.Held.TheVariants.{Nothing, First, Second, Third, Digit, DigitLead}

@@ -1,5 +1,5 @@
 -- Machines that hold nothing back.
-use Rattle.std.proofs.Common.{◌≡◌, ℕ, ◌-◌, ◌≤◌, List, [], ◌∷◌, length, true, false, refl, arith}
+use Rattle.std.proofs.Common.{◌≡◌, ℕ, ◌≤◌, List, [], ◌∷◌, length, true, refl, arith}
 use Rattle.std.proofs.lemmas.Bool.{false≢true}
 use Rattle.legacy_base.specs.Fronts.{Front, malformed, reads_or}
 use Rattle.legacy_base.specs.States.{is_empty}

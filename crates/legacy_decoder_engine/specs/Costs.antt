@@ -1,10 +1,10 @@
 -- How many units of output a move of a decoder writes, and what that must be of its room.
-use Rattle.std.specs.Prelude.{ℕ, ◌+◌, ◌*◌, ◌<◌, ◌≤◌, ◌≡◌, List, [], ◌∷◌, Bool, true, false, drop, length, All, Option, Some, None}
+use Rattle.std.specs.Prelude.{ℕ, ◌+◌, ◌*◌, ◌<◌, ◌≤◌, ◌≡◌, List, [], ◌∷◌, true, false, drop, length, All, Option, Some, None}
 use Rattle.legacy_base.specs.Unicode.{IsByte, AreBytes}
 use Rattle.legacy_base.specs.Fronts.{reads, malformed}
 use Rattle.legacy_base.specs.Grammar.{Grammar}
 use Rattle.legacy_base.specs.States.{DecoderState, state_of, may_hold, rests}
-use Rattle.legacy_base.specs.Acts.{takes, writes, reports, act_room, need}
+use Rattle.legacy_base.specs.Acts.{takes, writes, act_room}
 use Rattle.legacy_decoder_engine.specs.Steps.{Step, hold, finish, leave, step_held, DecoderMachine}
 
 -- the units of scalars

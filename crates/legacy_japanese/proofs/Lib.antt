@@ -9,3 +9,5 @@ pub mod Iso2022JpEnding
 pub mod Iso2022JpEscapes
 pub mod Iso2022JpFeeding
 pub mod Iso2022JpRuns
+pub mod ShiftJisPlaces
+pub mod Jis0208Places

@@ -13,12 +13,13 @@ ghost use Rattle.legacy_chinese.specs.Gb18030Held.{held_bytes, is_resting};
 
 use super::digit::Digit;
 use super::fours::read_forms;
-use super::pair_places::pair_pointer;
+use super::pair_places::TRAILS;
 use legacy_base::{DecoderResult, Destination, IndexName, RawDecoder, Tables};
 use legacy_decoder_engine::ahead::{CommonForm, CommonForms};
 use legacy_decoder_engine::drive::drive_decoder;
 use legacy_decoder_engine::held::Lead;
 use legacy_decoder_engine::moves::{DecoderMoves, Fed, Move, Room};
+use legacy_decoder_engine::places::{ROWS_OF_190, pair_pointer};
 use legacy_decoder_engine::trail::unmapped;
 use legacy_decoder_engine::two_byte::fault_through;
 
@@ -59,7 +60,8 @@ fn form_scalar(tables: &Tables, lead: u8, trail: u8) -> Option<char>
         ≡ (if is_lead lead then gb18030_scalars tables.now.flat.gb18030 lead trail else []) }
     ensures scalar { IfSome result IsScalar }
 {
-    tables.idx(IndexName::Gb18030, pair_pointer(lead, trail))
+    let pointer = pair_pointer(&ROWS_OF_190, &TRAILS, lead, trail);
+    tables.idx(IndexName::Gb18030, pointer)
 }
 
 /// The scalar of a lead and a trail.

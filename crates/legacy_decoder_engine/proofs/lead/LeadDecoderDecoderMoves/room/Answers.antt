@@ -1,4 +1,4 @@
-use Rattle.std.proofs.Common.{refl, inl, inr}
+use Rattle.std.proofs.Common.{inl, inr}
 use Rattle.legacy_decoder_engine.proofs.LeadHeld.{covered}
 use Rattle.legacy_decoder_engine.proofs.lead.LeadDecoderDecoderMoves.room.Goals as goal
 

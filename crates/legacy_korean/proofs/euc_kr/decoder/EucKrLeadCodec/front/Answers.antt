@@ -5,7 +5,7 @@ use Rattle.legacy_base.specs.Grammar.{euc_kr}
 use Rattle.legacy_base.proofs.Accepted.{euc_kr-below}
 use Rattle.legacy_decoder_engine.specs.LeadMachines.{lead_first}
 use Rattle.legacy_korean.specs.EucKrShown.{euc_kr_codec}
-use Rattle.legacy_decoder_engine.proofs.RowPlaces.{found}
+use Rattle.legacy_decoder_engine.proofs.PairPlaces.{found}
 use Rattle.legacy_korean.proofs.EucKrRuns.{euc_kr_below}
 use Rattle.legacy_decoder_engine.proofs.LeadHeld.{pair}
 use Rattle.legacy_korean.proofs.euc_kr.decoder.EucKrLeadCodec.front.Goals as goal
