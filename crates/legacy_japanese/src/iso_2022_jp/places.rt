@@ -1,6 +1,6 @@
-//! Where the entry of a pair is in its index: a place for each lead, and one for each trail, of which the
-//! pointer is the sum. A byte that is none has a place past the end of every index, so what tests the pointer
-//! tests both bytes, and which of them a trail is makes no branch.
+//! Where the entry of a pair is in its index: a place for each lead, and one for each trail, of
+//! which the pointer is the sum. A byte that is none has a place past the end of every index, so
+//! what tests the pointer tests both bytes, and which of them a trail is makes no branch.
 ghost use Rattle.std.specs.Prelude.{◌≡◌, ◌+◌};
 ghost use Rattle.legacy_japanese.specs.Jis0208Places.{jis_lead_place, jis_trail_place};
 
@@ -44,8 +44,8 @@ static TRAILS: [u16; 256] = [
     65535, 65535, 65535, 65535, 65535, 65535, 65535, 65535, 65535, 65535, 65535, 65535, 65535, 65535, 65535, 65535,
 ];
 
-/// The pointer into index jis0208 of the two bytes of a pair in two-byte mode (Encoding Standard, "ISO-2022-JP
-/// decoder"), or a number past its end where one of them begins or ends no pair.
+/// The pointer into index jis0208 of the two bytes of a pair in two-byte mode (Encoding Standard,
+/// "ISO-2022-JP decoder"), or a number past its end where one of them begins or ends no pair.
 #[inline]
 pub fn pair_pointer(lead: u8, trail: u8) -> usize
     ensures { result ≡ jis_lead_place lead + jis_trail_place trail }

@@ -1,6 +1,6 @@
-//! Where the entry of a pair is in its index: a place for each lead, and one for each trail, of which the
-//! pointer is the sum. A byte that is none has a place past the end of every index, so what tests the pointer
-//! tests both bytes, and which of them a trail is makes no branch.
+//! Where the entry of a pair is in its index: a place for each lead, and one for each trail, of
+//! which the pointer is the sum. A byte that is none has a place past the end of every index, so
+//! what tests the pointer tests both bytes, and which of them a trail is makes no branch.
 ghost use Rattle.std.specs.Prelude.{◌≡◌, ◌+◌};
 ghost use Rattle.legacy_japanese.specs.ShiftJisPlaces.{shift_jis_lead_place, shift_jis_trail_place};
 
@@ -44,8 +44,8 @@ static TRAILS: [u16; 256] = [
     175, 176, 177, 178, 179, 180, 181, 182, 183, 184, 185, 186, 187, 65535, 65535, 65535,
 ];
 
-/// The pointer into index jis0208 of a lead and a trail (Encoding Standard, "Shift_JIS decoder"), or a number
-/// past its end where one of the bytes is none.
+/// The pointer into index jis0208 of a lead and a trail (Encoding Standard, "Shift_JIS decoder"),
+/// or a number past its end where one of the bytes is none.
 #[inline]
 pub fn pair_pointer(lead: u8, trail: u8) -> usize
     ensures { result ≡ shift_jis_lead_place lead + shift_jis_trail_place trail }
