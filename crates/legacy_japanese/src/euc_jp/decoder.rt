@@ -238,12 +238,12 @@ impl DecoderMoves for EucJpDecoder<'_> {
     }
 
     #[inline]
-    #[tactic(auto, using(crate::proofs::EucJpHeld::events_none, crate::proofs::EucJpHeld::events_some))]
+    #[tactic(auto, using(crate::proofs::EucJpHeld::ends_none, crate::proofs::EucJpHeld::ends_some))]
     fn has_rest(&self) -> bool {
         !matches!(self.held, Held::Nothing)
     }
 
-    #[tactic(auto, using(std::proofs::lemmas::List::nil_from_length, crate::proofs::EucJpHeld::events_none, crate::proofs::EucJpHeld::reports))]
+    #[tactic(auto, using(crate::proofs::EucJpHeld::ends_none, crate::proofs::EucJpHeld::reports))]
     fn report(&mut self) -> Option<(u8, u8)> {
         let length = held_length(self.held);
         if length == 0 {
