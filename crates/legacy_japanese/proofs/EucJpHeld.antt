@@ -2,6 +2,7 @@
 use Rattle.std.proofs.Common.{◌≡◌, ◌≢◌, ℕ, ◌^◌, ◌<◌, ◌≤◌, List, [], ◌∷◌, length, true, false, ◌==◌, refl, arith}
 use Rattle.std.proofs.lemmas.Bool.{cond_both}
 use Rattle.std.proofs.lemmas.Bool.Decides.{nat_tests}
+use Rattle.std.proofs.lemmas.List.{nil_from_length}
 use Rattle.std.proofs.lemmas.List.Elements.{All-nil, All-cons}
 use Rattle.std.specs.{Int.is_in_range, Char.IsScalar, Char.is_ascii}
 use Rattle.legacy_base.specs.{EucJp.euc_jp_scalars, AcceptedTables.AcceptedIndexes}
@@ -70,11 +71,11 @@ module _ (tables : AcceptedIndexes) where
   reports held some = moves.reports_all shown (held_bytes held) (may held) (are_bytes held) refl some
 
   -- there is something to report exactly where something is held back
-  pub events_none : (held : Held) → held_bytes held ≡ [] → events_of (euc_jp tables.flat.jis0208 tables.flat.jis0212) (held_bytes held) ≡ []
-  events_none held = moves.ends_none shown (held_bytes held) (may held) (are_bytes held) refl
+  pub ends_none : (held : Held) → length (held_bytes held) ≡ 0 → events_of (euc_jp tables.flat.jis0208 tables.flat.jis0212) (held_bytes held) ≡ []
+  ends_none held none = moves.ends_none shown (held_bytes held) (may held) (are_bytes held) refl (nil_from_length (held_bytes held) none)
 
-  pub events_some : (held : Held) → (held ≡ Nothing → ⊥) → events_of (euc_jp tables.flat.jis0208 tables.flat.jis0212) (held_bytes held) ≢ []
-  events_some held n = moves.ends_some shown (held_bytes held) (may held) (are_bytes held) refl (bytes-some held n)
+  pub ends_some : (held : Held) → (held ≡ Nothing → ⊥) → events_of (euc_jp tables.flat.jis0208 tables.flat.jis0212) (held_bytes held) ≢ []
+  ends_some held n = moves.ends_some shown (held_bytes held) (may held) (are_bytes held) refl (bytes-some held n)
 
   -- ---- runs
 

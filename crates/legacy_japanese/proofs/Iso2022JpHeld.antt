@@ -1,5 +1,5 @@
 -- What the machine holds back is what may be held back, and its numbers.
-use Rattle.std.proofs.Common.{◌≡◌, ℕ, ◌+◌, ◌≤◌, true, Option, Some, None, List, [], ◌∷◌, length, drop, refl, arith, rules, lit≤}
+use Rattle.std.proofs.Common.{◌≡◌, ℕ, ◌+◌, ◌≤◌, true, Option, Some, None, List, [], ◌∷◌, length, drop, refl, arith, lit≤}
 use Rattle.std.specs.Prelude.{◌==◌}
 use Rattle.std.proofs.lemmas.Bool.{or_right}
 use Rattle.legacy_base.specs.{Grammar.iso_2022_jp, Iso2022Jp.esc, Lengths.weight}
@@ -57,5 +57,5 @@ EndsSound held (Some o) = SoundEnd held o.0 o.1
 pub finish_sound : (mode : Mode) (held : Held) → EndsSound held (finish mode held)
 finish_sound mode (Begun Nothing) = tt
 finish_sound mode (Whole e Nothing) = tt
-finish_sound mode (Whole e _) = record { kept = search (rules, (second_kept (mode_of e)).0, (second_kept (mode_of e)).1); suffix = refl; fits = lit≤ tt; short = lit≤ tt; room = lit≤ tt }
-finish_sound mode _ = record { kept = search (rules, (second_kept mode).0, (second_kept mode).1); suffix = refl; fits = lit≤ tt; short = lit≤ tt; room = lit≤ tt }
+finish_sound mode (Whole e _) = record { kept = first_of (cc, assumption (second_kept (mode_of e))); suffix = refl; fits = lit≤ tt; short = lit≤ tt; room = lit≤ tt }
+finish_sound mode _ = record { kept = first_of (cc, assumption (second_kept mode)); suffix = refl; fits = lit≤ tt; short = lit≤ tt; room = lit≤ tt }

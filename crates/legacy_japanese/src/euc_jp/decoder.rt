@@ -36,14 +36,14 @@ pub(crate) enum Held {
 
 /// The decoder of EUC-JP (Encoding Standard, "EUC-JP decoder").
 ///
-/// ASCII bytes are themselves. 8E and a byte A1 to DF are the half-width katakana U+FF61 to U+FF9F. 8F,
-/// a lead A1 to FE and a trail A1 to FE are looked up in index jis0212, and a lead and a trail alone
-/// in index jis0208.
+/// ASCII bytes are themselves. 8E and a byte A1 to DF are the half-width katakana U+FF61 to U+FF9F.
+/// 8F, a lead A1 to FE and a trail A1 to FE are looked up in index jis0212, and a lead and a trail
+/// alone in index jis0208.
 ///
-/// Malformed are: another byte past ASCII (1 byte); 8E, 8F or a lead with a byte that does not go on
-/// or does not map (2 bytes, or the first one alone where the second is ASCII, which is then read
-/// again); 8F, a lead and a byte that does not map (3 bytes, or the first two where the third is
-/// ASCII); the bytes of a form that is cut off by the end of the input (1 or 2 bytes).
+/// Malformed are: another byte past ASCII (1 byte); 8E, 8F or a lead with a byte that does not go
+/// on or does not map (2 bytes, or the first one alone where the second is ASCII, which is then
+/// read again); 8F, a lead and a byte that does not map (3 bytes, or the first two where the third
+/// is ASCII); the bytes of a form that is cut off by the end of the input (1 or 2 bytes).
 #[derive(Drop)]
 pub struct EucJpDecoder<'a> {
     tables: &'a Tables<'a>,
@@ -53,7 +53,8 @@ pub struct EucJpDecoder<'a> {
 /// The scalar of a lead and a trail in the index.
 #[inline]
 fn pair_scalar(tables: &Tables, name: IndexName, lead: EucJpLead, trail: u8) -> Option<char>
-    ensures value { option_to_list result ≡ euc_jp_scalars (index_list tables.now.flat name) lead.byte trail }
+    ensures value { option_to_list result
+        ≡ euc_jp_scalars (index_list tables.now.flat name) lead.byte trail }
     ensures scalar { IfSome result IsScalar }
 {
     if trail < 0xA1 || trail > 0xFE {
@@ -100,7 +101,8 @@ fn read_katakana(byte: u8) -> Fed
 /// What a byte leads to behind 8F.
 #[inline]
 fn read_jis0212_lead(byte: u8) -> (Fed, Held)
-    ensures { Took (euc_jp_step [] [] (0x8F ∷ []) byte) (0x8F ∷ []) byte result.0 (held_bytes result.1) }
+    ensures { Took (euc_jp_step [] [] (0x8F ∷ []) byte) (0x8F ∷ []) byte
+        result.0 (held_bytes result.1) }
 {
     if byte >= 0xA1 && byte <= 0xFE {
         return (Fed::Nothing, Held::Jis0212Lead(EucJpLead { byte }));
@@ -111,7 +113,8 @@ fn read_jis0212_lead(byte: u8) -> (Fed, Held)
 /// What a byte leads to behind a lead.
 #[inline]
 fn read_jis0208_trail(tables: &Tables, lead: EucJpLead, byte: u8) -> Fed
-    ensures { Took (euc_jp_step tables.now.flat.jis0208 [] (lead.byte ∷ []) byte) (lead.byte ∷ []) byte result [] }
+    ensures { Took (euc_jp_step tables.now.flat.jis0208 [] (lead.byte ∷ []) byte)
+        (lead.byte ∷ []) byte result [] }
 {
     match pair_scalar(tables, IndexName::Jis0208, lead, byte) {
         Some(scalar) => Fed::One(scalar),
@@ -134,7 +137,8 @@ fn read_jis0212_trail(tables: &Tables, lead: EucJpLead, byte: u8) -> Fed
 /// What a byte leads to, and what is held back then.
 #[inline]
 fn read(tables: &Tables, held: Held, byte: u8) -> (Fed, Held)
-    ensures { Took (euc_jp_step tables.now.flat.jis0208 tables.now.flat.jis0212 (held_bytes held) byte)
+    ensures { Took
+        (euc_jp_step tables.now.flat.jis0208 tables.now.flat.jis0212 (held_bytes held) byte)
         (held_bytes held) byte result.0 (held_bytes result.1) }
 {
     match held {
@@ -150,7 +154,8 @@ fn read(tables: &Tables, held: Held, byte: u8) -> (Fed, Held)
 #[inline]
 fn room_of(held: Held, next: Move) -> Room
     ensures { (jis0208 jis0212 : List ℕ) (form : EncodingForm) →
-        room_units form result ≡ move_units form (state_of (euc_jp jis0208 jis0212) (held_bytes held)) next }
+        room_units form result
+        ≡ move_units form (state_of (euc_jp jis0208 jis0212) (held_bytes held)) next }
 {
     match next {
         Move::Read(byte) if byte < 0x80 && matches!(held, Held::Nothing) => Room::Unit,
@@ -176,7 +181,8 @@ impl<'a> EucJpDecoder<'a> {
 
     /// A decoder before its first byte, which reads by the tables.
     pub fn new(tables: &'a Tables<'a>) -> EucJpDecoder<'a>
-        ensures { euc_jp_state result ≡ new_state (euc_jp tables.now.flat.jis0208 tables.now.flat.jis0212) }
+        ensures { euc_jp_state result
+            ≡ new_state (euc_jp tables.now.flat.jis0208 tables.now.flat.jis0212) }
     {
         EucJpDecoder {
             tables,
@@ -232,12 +238,12 @@ impl DecoderMoves for EucJpDecoder<'_> {
     }
 
     #[inline]
-    #[tactic(auto, using(crate::proofs::EucJpHeld::events_none, crate::proofs::EucJpHeld::events_some))]
+    #[tactic(auto, using(crate::proofs::EucJpHeld::ends_none, crate::proofs::EucJpHeld::ends_some))]
     fn has_rest(&self) -> bool {
         !matches!(self.held, Held::Nothing)
     }
 
-    #[tactic(auto, using(std::proofs::lemmas::List::nil_from_length, crate::proofs::EucJpHeld::events_none, crate::proofs::EucJpHeld::reports))]
+    #[tactic(auto, using(crate::proofs::EucJpHeld::ends_none, crate::proofs::EucJpHeld::reports))]
     fn report(&mut self) -> Option<(u8, u8)> {
         let length = held_length(self.held);
         if length == 0 {

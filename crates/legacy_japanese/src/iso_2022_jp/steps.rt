@@ -1,5 +1,5 @@
-//! The steps of an ISO-2022-JP decoder: what each byte, and the end of the input, makes of its mode and
-//! of what it holds back (Encoding Standard, "ISO-2022-JP decoder").
+//! The steps of an ISO-2022-JP decoder: what each byte, and the end of the input, makes of its mode
+//! and of what it holds back (Encoding Standard, "ISO-2022-JP decoder").
 ghost use Rattle.std.specs.Prelude.{◌≡◌, ◌≤◌, IfSome, length, true};
 ghost use Rattle.legacy_base.specs.Indexes.{idx};
 ghost use Rattle.legacy_japanese.specs.Iso2022JpMachine as machine;
@@ -38,8 +38,9 @@ pub enum Start {
     Paren,
 }
 
-/// What is held back: a byte by itself, the start of an escape, or a whole escape and the start of the
-/// next. A byte by itself is a lead in two-byte mode, and else `24` or `28`, to be read in the mode.
+/// What is held back: a byte by itself, the start of an escape, or a whole escape and the start of
+/// the next. A byte by itself is a lead in two-byte mode, and else `24` or `28`, to be read in the
+/// mode.
 #[derive(Clone, Copy)]
 pub enum Held {
     Byte(u8),
@@ -299,8 +300,8 @@ fn read_trail(tables: &Tables, lead: u8, byte: u8) -> Outcome
     Outcome::new(action, Mode::TwoByte, Held::Begun(Start::Nothing))
 }
 
-/// A byte behind an escape byte and a second byte: the escape is whole, or the escape byte is malformed
-/// and the second byte is held back by itself.
+/// A byte behind an escape byte and a second byte: the escape is whole, or the escape byte is
+/// malformed and the second byte is held back by itself.
 fn read_third(mode: Mode, second: u8, escape: Option<Escape>) -> Outcome
     ensures value { result ≡ machine.read_third mode second escape }
     ensures narrow { IsNarrow result.action }
@@ -338,8 +339,9 @@ fn read_start(mode: Mode, start: Start, byte: u8) -> Outcome
     }
 }
 
-/// A byte behind a whole escape, an escape byte and a second byte: the next escape is whole, and the one
-/// before it is malformed, since nothing stands between them; or the escape byte is malformed.
+/// A byte behind a whole escape, an escape byte and a second byte: the next escape is whole, and
+/// the one before it is malformed, since nothing stands between them; or the escape byte is
+/// malformed.
 fn read_next_third(mode: Mode, second: u8, escape: Option<Escape>) -> Outcome
     ensures value { result ≡ machine.read_next_third mode second escape }
     ensures narrow { IsNarrow result.action }

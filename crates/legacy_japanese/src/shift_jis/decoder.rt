@@ -22,12 +22,12 @@ pub struct ShiftJis;
 
 /// The decoder of Shift_JIS (Encoding Standard, "Shift_JIS decoder").
 ///
-/// ASCII bytes and the byte 80 are themselves, and the bytes A1 to DF are the halfwidth katakana U+FF61
-/// to U+FF9F. A lead from 81 to 9F or from E0 to FC and a trail from 40 to 7E or from 80 to FC give the
-/// scalar of their pointer in index jis0208; the pointers 8836 to 10715 give the private-use scalars
-/// U+E000 to U+E757. Malformed are the bytes A0 and FD to FF where a form begins, a lead at the end of
-/// the input, and a lead with a byte that gives no scalar with it: both of them, or where that byte is
-/// ASCII the lead alone, and the byte is read again.
+/// ASCII bytes and the byte 80 are themselves, and the bytes A1 to DF are the halfwidth katakana
+/// U+FF61 to U+FF9F. A lead from 81 to 9F or from E0 to FC and a trail from 40 to 7E or from 80 to
+/// FC give the scalar of their pointer in index jis0208; the pointers 8836 to 10715 give the
+/// private-use scalars U+E000 to U+E757. Malformed are the bytes A0 and FD to FF where a form
+/// begins, a lead at the end of the input, and a lead with a byte that gives no scalar with it:
+/// both of them, or where that byte is ASCII the lead alone, and the byte is read again.
 pub type ShiftJisDecoder<'a> = LeadDecoder<'a, ShiftJis>;
 
 /// Reads the first byte of a form.
@@ -74,7 +74,10 @@ fn pointer_scalar(tables: &Tables<'_>, pointer: usize) -> Option<char>
 /// The scalar of two bytes, if they are a lead and a trail and give one.
 #[inline]
 fn form_scalar(tables: &Tables<'_>, lead: u8, trail: u8) -> Option<char>
-    ensures value { option_to_list result ≡ (if is_shift_jis_lead lead then shift_jis_pair_scalars tables.now.flat.jis0208 lead trail else []) }
+    ensures value { option_to_list result
+        ≡ (if is_shift_jis_lead lead
+        then shift_jis_pair_scalars tables.now.flat.jis0208 lead trail
+        else []) }
     ensures scalar { IfSome result IsScalar }
 {
     pointer_scalar(tables, pair_pointer(&LEADS, &TRAILS, lead, trail))
@@ -83,7 +86,8 @@ fn form_scalar(tables: &Tables<'_>, lead: u8, trail: u8) -> Option<char>
 /// The scalar of a lead and a trail, if they give one.
 #[inline]
 fn pair_scalar(tables: &Tables<'_>, lead: ShiftJisLead, trail: u8) -> Option<char>
-    ensures value { option_to_list result ≡ shift_jis_pair_scalars tables.now.flat.jis0208 lead.byte trail }
+    ensures value { option_to_list result
+        ≡ shift_jis_pair_scalars tables.now.flat.jis0208 lead.byte trail }
     ensures scalar { IfSome result IsScalar }
 {
     form_scalar(tables, lead.byte, trail)

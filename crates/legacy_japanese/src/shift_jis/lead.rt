@@ -13,7 +13,8 @@ impl ShiftJisLead {
     /// The byte as a lead, if it is one.
     #[inline]
     pub fn new(byte: u8) -> Option<ShiftJisLead>
-        ensures { MatchOption result (is_shift_jis_lead byte ≡ false) (λ lead. (lead.byte ≡ byte) × (is_shift_jis_lead byte ≡ true)) }
+        ensures { MatchOption result (is_shift_jis_lead byte ≡ false)
+            (λ lead. (lead.byte ≡ byte) × (is_shift_jis_lead byte ≡ true)) }
     {
         if byte < 0x81 || byte > 0xFC || (byte > 0x9F && byte < 0xE0) {
             return None;
