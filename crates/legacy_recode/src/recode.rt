@@ -40,7 +40,7 @@ fn push_events(lines: &mut LineBuffer, scalars: &[char], answer: DecoderResult, 
 
 /// Makes one call of the decoder on the `unread` bytes, and puts the lines of its events behind the others. `total` bytes
 /// of the input stand before them. Answers what the call answered. What `batch` holds is lost.
-fn recode_call<D: RawDecoder>(
+fn lines_of_one_call<D: RawDecoder>(
     decoder: &mut D,
     unread: &[u8],
     last: bool,
@@ -90,7 +90,7 @@ fn recode_piece<D: RawDecoder, W: Write>(
     'calls: loop {
         lines.make_room(output)?;
         let unread = rest_of(piece, offset);
-        let (answer, read) = recode_call(decoder, unread, last, total + offset, batch, lines);
+        let (answer, read) = lines_of_one_call(decoder, unread, last, total + offset, batch, lines);
         offset += read;
         if let DecoderResult::InputEmpty = answer {
             return lines.write_to(output);

@@ -13,7 +13,7 @@ returns-in_err-make_room-clause-err g c =
 pub returns-in-InputEmpty-clause-piece : goal.returns-in-InputEmpty-clause-piece
 returns-in-InputEmpty-clause-piece g c =
     let sent = c.in_ok-make_room.ensures.written in
-    let call = c.recode_call-answer.ensures in
+    let call = c.lines_of_one_call-answer.ensures in
     let one = rw c.rest_of-unread.ensures at call.1 in
     on_ok_weaker c.write_to.result
     (λ w. piece_end (piece_sent c.calls.invariant sent.0 sent.1 sent.2) one call.2 c.in-InputEmpty.is w)
@@ -22,7 +22,7 @@ returns-in-InputEmpty-clause-piece g c =
 pub returns-in-InputEmpty-clause-err : goal.returns-in-InputEmpty-clause-err
 returns-in-InputEmpty-clause-err g c =
     let sent = c.in_ok-make_room.ensures.written in
-    let call = c.recode_call-answer.ensures in
+    let call = c.lines_of_one_call-answer.ensures in
     let one = rw c.rest_of-unread.ensures at call.1 in
     on_err_weaker c.write_to.result
     (λ w. piece_front (piece_step (piece_sent c.calls.invariant sent.0 sent.1 sent.2) one call.2) w.0 w.1)
@@ -31,13 +31,13 @@ returns-in-InputEmpty-clause-err g c =
 pub calls-preserved : goal.calls-preserved
 calls-preserved g c =
     let sent = c.in_ok-make_room.ensures.written in
-    let call = c.recode_call-answer.ensures in
+    let call = c.lines_of_one_call-answer.ensures in
     let one = rw c.rest_of-unread.ensures at call.1 in
     piece_step (piece_sent c.calls.invariant sent.0 sent.1 sent.2) one call.2
 
 pub calls-smaller : goal.calls-smaller
 calls-smaller g c =
     let sent = c.in_ok-make_room.ensures.written in
-    let call = c.recode_call-answer.ensures in
+    let call = c.lines_of_one_call-answer.ensures in
     let one = rw c.rest_of-unread.ensures at call.1 in
     piece_less (piece_sent c.calls.invariant sent.0 sent.1 sent.2) one call.2 c.in_default.not-InputEmpty

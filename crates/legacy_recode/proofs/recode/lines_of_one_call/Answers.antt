@@ -3,7 +3,7 @@ use Rattle.legacy_base.specs.EncodingForm.{Utf16, all_code_units}
 use Rattle.legacy_base.proofs.SameUnits.{length-le-all_code_units}
 use Rattle.legacy_codecs.specs.Scalars.{kept_scalars}
 use Rattle.legacy_codecs.proofs.KeptAsWritten.{kept_is}
-use Rattle.legacy_recode.proofs.recode.recode_call.Goals as goal
+use Rattle.legacy_recode.proofs.recode.lines_of_one_call.Goals as goal
 
 pub push_events-requires : goal.push_events-requires
 push_events-requires g c =
