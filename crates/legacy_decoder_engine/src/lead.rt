@@ -13,10 +13,10 @@ ghost use Rattle.legacy_decoder_engine.specs.Ahead.{IsCommonForm};
 ghost use Rattle.legacy_decoder_engine.specs.Feeding.{Took};
 ghost use Rattle.legacy_decoder_engine.specs.LeadCodecs.{IsLeadCodec, held_bytes, lead_state};
 
-use legacy_base::{DecoderResult, Destination, RawDecoder, Tables};
-use crate::ahead::{CommonForms, CommonForm, ahead};
+use crate::common_forms::{CommonForm, CommonForms, read_common_forms};
 use crate::drive::drive_decoder;
-use crate::moves::{Move, Fed, DecoderMoves, Room};
+use crate::moves::{DecoderMoves, Fed, Move, Room};
+use legacy_base::{DecoderResult, Destination, RawDecoder, Tables};
 
 /// A codec whose forms have one byte, or a lead and a trail: all that its decoder does not share.
 pub trait LeadCodec {
@@ -157,7 +157,7 @@ impl<'a, C: LeadCodec> DecoderMoves for LeadDecoder<'a, C> {
 
     #[inline]
     fn read_ahead<T: Destination>(&self, src: &[u8], dst: &mut T) -> usize {
-        ahead(self, src, dst)
+        read_common_forms(self, src, dst)
     }
 }
 

@@ -6,11 +6,11 @@ ghost use Rattle.legacy_base.specs.States.{is_neutral, new_state};
 ghost use Rattle.legacy_japanese.specs.Iso2022JpMachine.{is_held};
 ghost use Rattle.legacy_japanese.specs.Iso2022JpMoves.{weight_of};
 
-use legacy_base::{DecoderResult, Destination, RawDecoder, Tables};
-use legacy_decoder_engine::drive::drive_decoder;
-use legacy_decoder_engine::moves::{Move, Fed, DecoderMoves, Room};
 use super::runs::read_modes;
 use super::steps::{Held, Mode, Start, finish, pending, read};
+use legacy_base::{DecoderResult, Destination, RawDecoder, Tables};
+use legacy_decoder_engine::drive::drive_decoder;
+use legacy_decoder_engine::moves::{DecoderMoves, Fed, Move, Room};
 
 /// The decoder of ISO-2022-JP (Encoding Standard, "ISO-2022-JP decoder").
 ///

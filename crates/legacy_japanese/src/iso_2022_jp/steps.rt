@@ -244,7 +244,11 @@ fn read_lead(byte: u8) -> Outcome
     if byte >= 0x21 && byte <= 0x7E {
         Outcome::new(Action::Holds, Mode::TwoByte, Held::Byte(byte))
     } else {
-        Outcome::new(Action::Reports(1), Mode::TwoByte, Held::Begun(Start::Nothing))
+        Outcome::new(
+            Action::Reports(1),
+            Mode::TwoByte,
+            Held::Begun(Start::Nothing),
+        )
     }
 }
 

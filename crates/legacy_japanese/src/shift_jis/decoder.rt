@@ -10,11 +10,11 @@ ghost use Rattle.legacy_decoder_engine.specs.LeadCodecs.{held_bytes};
 
 use super::lead::ShiftJisLead;
 use super::places::pair_pointer;
-use legacy_decoder_engine::lead::{LeadCodec, LeadDecoder};
-use legacy_decoder_engine::two_byte::{fault_through, read_trail};
 use legacy_base::{IndexName, Tables};
-use legacy_decoder_engine::ahead::CommonForm;
+use legacy_decoder_engine::common_forms::CommonForm;
+use legacy_decoder_engine::lead::{LeadCodec, LeadDecoder};
 use legacy_decoder_engine::moves::{Fed, Room};
+use legacy_decoder_engine::two_byte::{fault_through, read_trail};
 
 /// The codec of Shift_JIS.
 pub struct ShiftJis;

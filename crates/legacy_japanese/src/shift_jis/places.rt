@@ -50,6 +50,5 @@ static TRAILS: [u16; 256] = [
 pub fn pair_pointer(lead: u8, trail: u8) -> usize
     ensures { result ≡ shift_jis_lead_place lead + shift_jis_trail_place trail }
 {
-    usize::from(LEADS[usize::from(lead)])
-        + usize::from(TRAILS[usize::from(trail)])
+    usize::from(LEADS[usize::from(lead)]) + usize::from(TRAILS[usize::from(trail)])
 }

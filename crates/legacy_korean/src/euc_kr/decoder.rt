@@ -8,13 +8,13 @@ ghost use Rattle.legacy_decoder_engine.specs.LeadMachines.{lead_first};
 ghost use Rattle.legacy_korean.specs.EucKrShown.{euc_kr_codec};
 ghost use Rattle.legacy_decoder_engine.proofs.TwoByteMeets.{is_lead-in};
 
+use super::places::pair_pointer;
+use legacy_base::{IndexName, Tables};
+use legacy_decoder_engine::common_forms::CommonForm;
 use legacy_decoder_engine::held::Lead;
 use legacy_decoder_engine::lead::{LeadCodec, LeadDecoder};
-use legacy_decoder_engine::two_byte::{read_first, read_trail};
-use legacy_base::{IndexName, Tables};
-use legacy_decoder_engine::ahead::CommonForm;
 use legacy_decoder_engine::moves::{Fed, Room};
-use super::places::pair_pointer;
+use legacy_decoder_engine::two_byte::{read_first, read_trail};
 
 /// The codec of EUC-KR.
 pub struct EucKr;
