@@ -4,6 +4,7 @@ use Rattle.std.proofs.lemmas.List.{length-map, map-append, take-append-drop, len
 use Rattle.std.proofs.lemmas.List.Elements.{All-append}
 use Rattle.std.proofs.lemmas.Bool.{cases_lt}
 use Rattle.std.specs.Char.{IsScalar}
+use Rattle.legacy_base.specs.declared.destination.Destination.{Ghosts}
 use Rattle.legacy_base.specs.declared.results.DecodeEvent.{DecodeEvent}
 use Rattle.legacy_base.specs.declared.results.DecodeEvent.TheVariants.{Scalar}
 use Rattle.legacy_base.specs.EncodingForm.{EncodingForm, Utf8, Utf16, code_units, unit_count, all_code_units, total_unit_count, wide_room}
@@ -60,7 +61,7 @@ run_progress now next source read r ds h e f runs =
           ∙ ap (λ k. map Scalar ds ++ shift r (events_of next.grammar (k ++ (drop (read + r) source ++ more)))) (sym f);
     }
 
-with_empty : (s : DecoderState) → s.held ≡ [] → s ≡ new_state s.grammar
+pub with_empty : (s : DecoderState) → s.held ≡ [] → s ≡ new_state s.grammar
 with_empty s e = ap (λ h. record { grammar = s.grammar; held = h }) e
 
 -- a call under way that reads a run
@@ -110,36 +111,37 @@ runs_nothing g cs h =
     let e : length (events_of g []) ≡ length (map Scalar cs ++ shift 0 (events_of g [])) = ap length (h.events []) in
     no_length cs (omega (arith, e, length-append (map Scalar cs) (shift 0 (events_of g [])), length-map cs Scalar, length-shift 0 (events_of g [])))
 
-pub reads_nothing : (form : EncodingForm) (before after : DecoderState) (source old new : List ℕ) (r free left : ℕ) → (reads : ReadsTo form before after source r old new free left) → r ≡ 0 → reads.writes.scalars ≡ []
-reads_nothing form before after source old new r free left reads e =
-    let ds : List ℕ = reads.writes.scalars in
-    let none : RunsTo before.grammar after.grammar [] ds = subst (λ n. RunsTo before.grammar after.grammar (take n source) ds) e reads.writes.runs in
-    runs_nothing before.grammar ds (subst (λ s. RunsTo before.grammar s.grammar [] ds) (reads.stays e) none)
+module _ {D : Type 0} {T : Ghosts D} where
+  pub reads_nothing : {before after : DecoderState} {source : List ℕ} {old new : D} {r : ℕ} → (reads : ReadsTo T before after source r old new) → r ≡ 0 → reads.writes.scalars ≡ []
+  reads_nothing {before} {after} {source} {old} {new} {r} reads e =
+      let ds : List ℕ = reads.writes.scalars in
+      let none : RunsTo before.grammar after.grammar [] ds = subst (λ n. RunsTo before.grammar after.grammar (take n source) ds) e reads.writes.runs in
+      runs_nothing before.grammar ds (subst (λ s. RunsTo before.grammar s.grammar [] ds) (reads.stays e) none)
 
--- a call under way, once common forms were read ahead
-pub ahead_going : (form : EncodingForm) (before : DecoderState) (source : List ℕ) (last : Bool) (free : ℕ) (now next : DecoderState) (read : ℕ) (scalars : List ℕ) (r : ℕ) (front old new : List ℕ) (ro rn : ℕ)
-    → Going form before source last free now read scalars → old ≡ front ++ all_code_units form scalars → ro + total_unit_count form scalars ≡ free
-    → ReadsTo form now next (take (length source - read) (drop read source)) r old new ro rn
-    → (cs : List ℕ) × Going form before source last free next (read + r) cs × (new ≡ front ++ all_code_units form cs) × (rn + total_unit_count form cs ≡ free)
-ahead_going form before source last free now next read scalars r front old new ro rn going e room reads =
-    let ds : List ℕ = reads.writes.scalars in
-    let D : List ℕ = drop read source in
-    let whole : take (length source - read) D ≡ D = take_all (length source - read) D (omega (arith, length-drop read source)) in
-    let runs : RunsTo now.grammar next.grammar (take r D) ds = subst (λ l. RunsTo now.grammar next.grammar (take r l) ds) whole reads.writes.runs in
-    let long : length new ≡ length old + total_unit_count form ds = ap length reads.writes.written ∙ length-append old (all_code_units form ds) in
-    let within : r ≤ length D = omega (arith, reads.within, ap length whole) in
-    let both : total_unit_count form (scalars ++ ds) ≡ total_unit_count form scalars + total_unit_count form ds = total_unit_count-append form scalars ds in (
-      scalars ++ ds,
-      elim (cases_lt 0 r) [
-        | inl p ↦ going_run form before source last free now next read scalars r ds going within (reads.idle p) (reads.empties p) reads.rooms runs (omega (arith, reads.had p, room)) (omega (arith, reads.slack p, room, reads.room, long))
-        | inr z ↦
-            let none_read : r ≡ 0 = omega arith in
-            let none : ds ≡ [] = reads_nothing form now next (take (length source - read) D) old new r ro rn reads none_read in
-            let same : scalars ≡ scalars ++ ds = sym (append-nil scalars) ∙ ap (λ l. scalars ++ l) (sym none) in
-            let place : read ≡ read + r = omega arith in
-            subst (λ s. Going form before source last free s (read + r) (scalars ++ ds)) (sym (reads.stays none_read))
-            (subst (λ n. Going form before source last free now n (scalars ++ ds)) place (subst (λ cs. Going form before source last free now read cs) same going))
-      ],
-      reads.writes.written ∙ ap (λ l. l ++ all_code_units form ds) e ∙ append_assoc front (all_code_units form scalars) (all_code_units form ds) ∙ ap (λ l. front ++ l) (sym (all_code_units-append form scalars ds)),
-      omega (arith, both, long, reads.room, room),
-    )
+  -- a call under way, once forms were read ahead
+  pub ahead_going : (before : DecoderState) (source : List ℕ) (last : Bool) (now next : DecoderState) (read : ℕ) (scalars : List ℕ) (r : ℕ) (first old new : D)
+      → Going T.form before source last (T.room first) now read scalars → T.contents old ≡ T.contents first ++ all_code_units T.form scalars → T.room old + total_unit_count T.form scalars ≡ T.room first
+      → ReadsTo T now next (take (length source - read) (drop read source)) r old new
+      → (cs : List ℕ) × Going T.form before source last (T.room first) next (read + r) cs × (T.contents new ≡ T.contents first ++ all_code_units T.form cs) × (T.room new + total_unit_count T.form cs ≡ T.room first)
+  ahead_going before source last now next read scalars r first old new going e room reads =
+      let ds : List ℕ = reads.writes.scalars in
+      let rest : List ℕ = drop read source in
+      let free : ℕ = T.room first in
+      let whole : take (length source - read) rest ≡ rest = take_all (length source - read) rest (omega (arith, length-drop read source)) in
+      let runs : RunsTo now.grammar next.grammar (take r rest) ds = subst (λ l. RunsTo now.grammar next.grammar (take r l) ds) whole reads.writes.runs in
+      let within : r ≤ length rest = omega (arith, reads.within, ap length whole) in (
+        scalars ++ ds,
+        elim (cases_lt 0 r) [
+          | inl p ↦ going_run T.form before source last free now next read scalars r ds going within (reads.idle p) (reads.empties p) reads.rooms runs (omega (arith, reads.had p, room))
+              (omega (arith, reads.slack p, room, reads.writes.room))
+          | inr z ↦
+              let none_read : r ≡ 0 = omega arith in
+              let same : scalars ≡ scalars ++ ds = sym (append-nil scalars) ∙ ap (λ l. scalars ++ l) (sym (reads_nothing reads none_read)) in
+              let place : read ≡ read + r = omega arith in
+              subst (λ s. Going T.form before source last free s (read + r) (scalars ++ ds)) (sym (reads.stays none_read))
+              (subst (λ n. Going T.form before source last free now n (scalars ++ ds)) place (subst (λ cs. Going T.form before source last free now read cs) same going))
+        ],
+        reads.writes.written ∙ ap (λ l. l ++ all_code_units T.form ds) e ∙ append_assoc (T.contents first) (all_code_units T.form scalars) (all_code_units T.form ds)
+            ∙ ap (λ l. T.contents first ++ l) (sym (all_code_units-append T.form scalars ds)),
+        omega (arith, total_unit_count-append T.form scalars ds, reads.writes.room, room),
+      )

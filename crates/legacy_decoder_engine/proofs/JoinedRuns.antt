@@ -1,72 +1,67 @@
 -- Runs that are read one behind another.
-use Rattle.std.proofs.Common.{◌≡◌, ◌∙◌, ℕ, ◌+◌, ◌≤◌, List, [], ◌++◌, length, take, drop, refl, sym, ap, arith, append-nil, inl, inr}
+use Rattle.std.proofs.Common.{◌≡◌, ◌∙◌, ℕ, ◌+◌, ◌-◌, ◌≤◌, List, ◌++◌, length, take, drop, refl, sym, ap, subst, arith, inl, inr}
 use Rattle.std.proofs.lemmas.Bool.{cases_lt}
 use Rattle.std.proofs.lemmas.List.{take-take, length-take, length-drop}
 use Rattle.std.proofs.Math.Seq.{take-add}
-use Rattle.legacy_base.specs.EncodingForm.{EncodingForm, all_code_units}
-use Rattle.legacy_base.specs.States.{DecoderState}
-use Rattle.legacy_decoder_engine.specs.Ahead.{Writes, ReadsTo, ReadsAhead}
+use Rattle.legacy_base.specs.declared.destination.Destination.{Ghosts}
+use Rattle.legacy_base.specs.EncodingForm.{total_unit_count}
+use Rattle.legacy_base.specs.Grammar.{Grammar}
+use Rattle.legacy_base.specs.States.{DecoderState, new_state}
+use Rattle.legacy_decoder_engine.specs.Ahead.{Writes, WritesTo, ReadsTo, ReadsAhead}
 use Rattle.legacy_decoder_engine.proofs.AheadRuns.{reads_nothing}
 use Rattle.legacy_decoder_engine.proofs.CallUnderWay.{same_rooms, both_rooms}
-use Rattle.legacy_decoder_engine.proofs.WrittenRuns.{writes_then, room_falls}
+use Rattle.legacy_decoder_engine.proofs.WrittenRuns.{writes_then}
 
--- a run, and then a run behind it
-pub reads_then : (form : EncodingForm) (first next last : DecoderState) (source old mid new : List ℕ) (r s n before between after : ℕ) → ReadsTo form first next source r old mid before between
-    → ReadsTo form next last (take n (drop r source)) s mid new between after → ReadsTo form first last source (r + s) old new before after
-reads_then form first next last source old mid new r s n before between after a b =
-    let l = length-take n (drop r source) in
-    let d = length-drop r source in
-    let w = b.within in
-    let low : s ≤ n = omega arith in
-    let place : take (r + s) source ≡ take r source ++ take s (take n (drop r source)) = take-add r s source ∙ ap (λ bytes. take r source ++ bytes) (sym (take-take s n (drop r source) low)) in
-    let falls = room_falls form first.grammar next.grammar (take r source) old mid between before a.writes a.room in
-    record {
-      within = let v = a.within in omega arith;
-      idle = λ h. elim (cases_lt 0 r) [
-        | inl p ↦ a.idle p
-        | inr z ↦ ap DecoderState.held (sym (a.stays (omega arith))) ∙ b.idle (omega arith)
-      ];
-      empties = λ h. elim (cases_lt 0 s) [
-        | inl p ↦ b.empties p
-        | inr z ↦ ap DecoderState.held (b.stays (omega arith)) ∙ a.empties (omega arith)
-      ];
-      stays = λ e. b.stays (omega arith) ∙ a.stays (omega arith);
-      rooms = both_rooms first.grammar next.grammar last.grammar a.rooms b.rooms;
-      writes = rw place (writes_then form first.grammar next.grammar last.grammar (take r source) (take s (take n (drop r source))) old mid new b.writes.scalars a.writes b.writes.runs b.writes.written);
-      room = b.room ∙ a.room;
-      slack = λ h. elim (cases_lt 0 s) [
-        | inl p ↦ b.slack p
-        | inr z ↦
-            let none : s ≡ 0 = omega arith in
-            let k = a.slack (omega arith) in
-            let nothing : b.writes.scalars ≡ [] = reads_nothing form next last (take n (drop r source)) mid new s between after b none in
-            let same : new ≡ mid = b.writes.written ∙ ap (λ cs. mid ++ all_code_units form cs) nothing ∙ append-nil mid in
-            let e = b.room in
-            let f = ap length same in
-            omega arith
-      ];
-      had = λ h. elim (cases_lt 0 r) [
-        | inl p ↦ a.had p
-        | inr z ↦ let q = b.had (omega arith) in omega arith
-      ];
-    }
+module _ {D : Type 0} {T : Ghosts D} {source : List ℕ} {old mid new : D} {r s : ℕ} where
+  -- a run, and then a run behind it
+  pub reads_then : {first next last : DecoderState} → ReadsTo T first next source r old mid → ReadsTo T next last (take (length source - r) (drop r source)) s mid new → ReadsTo T first last source (r + s) old new
+  reads_then {first} {next} {last} a b =
+      let n : ℕ = length source - r in
+      let l = length-take n (drop r source) in
+      let d = length-drop r source in
+      let w = b.within in
+      let low : s ≤ n = omega arith in
+      let place : take (r + s) source ≡ take r source ++ take s (take (length source - r) (drop r source)) = take-add r s source ∙ ap (λ bytes. take r source ++ bytes) (sym (take-take s n (drop r source) low)) in
+      record {
+        within = let v = a.within in omega arith;
+        idle = λ h. elim (cases_lt 0 r) [
+          | inl p ↦ a.idle p
+          | inr z ↦ ap DecoderState.held (sym (a.stays (omega arith))) ∙ b.idle (omega arith)
+        ];
+        empties = λ h. elim (cases_lt 0 s) [
+          | inl p ↦ b.empties p
+          | inr z ↦ ap DecoderState.held (b.stays (omega arith)) ∙ a.empties (omega arith)
+        ];
+        stays = λ e. b.stays (omega arith) ∙ a.stays (omega arith);
+        rooms = both_rooms first.grammar next.grammar last.grammar a.rooms b.rooms;
+        writes = subst (λ bytes. WritesTo T first.grammar last.grammar bytes old new) (sym place) (writes_then T a.writes b.writes);
+        slack = λ h. elim (cases_lt 0 s) [
+          | inl p ↦ b.slack p
+          | inr z ↦
+              let none : s ≡ 0 = omega arith in
+              let nothing = ap (total_unit_count T.form) (reads_nothing b none) in
+              omega (arith, a.slack (omega arith), b.writes.room, nothing)
+        ];
+        had = λ h. elim (cases_lt 0 r) [
+          | inl p ↦ a.had p
+          | inr z ↦ omega (arith, b.had (omega arith), a.writes.room)
+        ];
+      }
 
--- the same in one state
-pub reads_more : (form : EncodingForm) (state : DecoderState) (source old mid new : List ℕ) (r s n before between after : ℕ) → ReadsAhead form state source r old mid before between
-    → ReadsAhead form state (take n (drop r source)) s mid new between after → ReadsAhead form state source (r + s) old new before after
-reads_more form state source old mid new r s n before between after a b = reads_then form state state state source old mid new r s n before between after a b
+  -- the same in one state
+  pub reads_more : {state : DecoderState} → ReadsAhead T state source r old mid → ReadsAhead T state (take (length source - r) (drop r source)) s mid new → ReadsAhead T state source (r + s) old new
+  reads_more a b = reads_then a b
 
 -- what was read and written, with the room that it left
-pub reads_written : (form : EncodingForm) (state : DecoderState) (source old new : List ℕ) (r before after : ℕ) → r ≤ length source → state.held ≡ [] → Writes form state.grammar (take r source) old new
-    → after + length new ≡ before + length old → 3 ≤ after → 4 ≤ before → ReadsAhead form state source r old new before after
-reads_written form state source old new r before after within empty writes room slack had = record {
+pub reads_written : {D : Type 0} {T : Ghosts D} {g : Grammar} {source : List ℕ} {old new : D} {r : ℕ} → r ≤ length source → Writes T g (take r source) old new → 3 ≤ T.room new → 4 ≤ T.room old
+    → ReadsAhead T (new_state g) source r old new
+reads_written {D} {T} {g} within writes slack had = record {
   within = within;
-  idle = λ h. empty;
-  empties = λ h. empty;
+  idle = λ h. refl;
+  empties = λ h. refl;
   stays = λ e. refl;
-  rooms = same_rooms state.grammar;
+  rooms = same_rooms g;
   writes = writes;
-  room = room;
   slack = λ h. slack;
   had = λ h. had;
 }

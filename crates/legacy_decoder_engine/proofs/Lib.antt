@@ -16,3 +16,4 @@ pub mod SettledSteps
 pub mod TwoByteCosts
 pub mod TwoByteMeets
 pub mod TwoByteShown
+pub mod Turns

@@ -1,15 +1,16 @@
 -- What the loop for runs of common forms reads and writes.
 use Rattle.std.specs.Prelude.{◌≡◌, ℕ, ◌+◌, ◌<◌, ◌≤◌, List, [], ◌∷◌, ◌++◌, length, map, take, All}
 use Rattle.std.specs.Char.{IsScalar}
+use Rattle.legacy_base.specs.declared.destination.Destination.{Ghosts}
 use Rattle.legacy_base.specs.declared.results.DecodeEvent.TheVariants.{Scalar}
-use Rattle.legacy_base.specs.EncodingForm.{EncodingForm, all_code_units, total_unit_count}
+use Rattle.legacy_base.specs.EncodingForm.{all_code_units, total_unit_count}
 use Rattle.legacy_base.specs.Events.{shift}
 use Rattle.legacy_base.specs.Grammar.{Grammar, events_of}
 use Rattle.legacy_base.specs.States.{DecoderState, new_state}
 use Rattle.legacy_base.specs.Lengths.{LengthQuery, query_form, room}
 use Rattle.legacy_decoder_engine.specs.Moves.{SameRooms}
-use Rattle.legacy_decoder_engine.specs.declared.ahead.CommonForm.{CommonForm}
-use Rattle.legacy_decoder_engine.specs.declared.ahead.CommonForm.TheVariants.{Single, Pair, Other}
+use Rattle.legacy_decoder_engine.specs.declared.common_forms.CommonForm.{CommonForm}
+use Rattle.legacy_decoder_engine.specs.declared.common_forms.CommonForm.TheVariants.{Single, Pair, Other}
 
 -- Whatever follows the bytes, their events by the one grammar are these scalars, and then those of what follows by the
 -- other. The room that is still needed falls by what is written.
@@ -46,29 +47,31 @@ IsCommonForm grammar lead trail (Single c) = IsSingle grammar lead c
 IsCommonForm grammar lead trail (Pair c) = IsPair grammar lead trail c
 IsCommonForm grammar lead trail Other = Unit {0}
 
--- the bytes were read, and their scalars written behind what was written before
-pub record WritesTo (form : EncodingForm) (before after : Grammar) (bytes old new : List ℕ) : Type 0 where
+-- The bytes were read, and their scalars written behind what was written before, which took so much room. The
+-- destination is still the same buffer.
+pub record WritesTo {D : Type 0} (T : Ghosts D) (before after : Grammar) (bytes : List ℕ) (old new : D) : Type 0 where
   pub scalars : List ℕ
   pub runs : RunsTo before after bytes scalars
-  pub written : new ≡ old ++ all_code_units form scalars
+  pub written : T.contents new ≡ T.contents old ++ all_code_units T.form scalars
+  pub room : T.room new + total_unit_count T.form scalars ≡ T.room old
+  pub loan : T.loan new ≡ T.loan old
 
 -- they leave the grammar as it is
-abbrev pub Writes : EncodingForm → Grammar → List ℕ → List ℕ → List ℕ → Type 0
-Writes form grammar bytes old new = WritesTo form grammar grammar bytes old new
+abbrev pub Writes : {D : Type 0} → Ghosts D → Grammar → List ℕ → D → D → Type 0
+Writes T grammar bytes old new = WritesTo T grammar grammar bytes old new
 
--- A run at the front of the source was read, and its scalars written: where any was, nothing is held back before it and
--- behind it, four code units were free before it, and three are behind it. Both states need the same room.
-pub record ReadsTo (form : EncodingForm) (before after : DecoderState) (source : List ℕ) (read : ℕ) (old new : List ℕ) (room_before room_after : ℕ) : Type 0 where
+-- Bytes at the front of the source were read, and their scalars written: where any were, nothing is held back before
+-- them and behind them, four code units were free before them, and three are behind them. Both states need the same room.
+pub record ReadsTo {D : Type 0} (T : Ghosts D) (before after : DecoderState) (source : List ℕ) (read : ℕ) (old new : D) : Type 0 where
   pub within : read ≤ length source
   pub idle : 0 < read → before.held ≡ []
   pub empties : 0 < read → after.held ≡ []
   pub stays : read ≡ 0 → after ≡ before
   pub rooms : SameRooms before.grammar after.grammar
-  pub writes : WritesTo form before.grammar after.grammar (take read source) old new
-  pub room : room_after + length new ≡ room_before + length old
-  pub slack : 0 < read → 3 ≤ room_after
-  pub had : 0 < read → 4 ≤ room_before
+  pub writes : WritesTo T before.grammar after.grammar (take read source) old new
+  pub slack : 0 < read → 3 ≤ T.room new
+  pub had : 0 < read → 4 ≤ T.room old
 
--- it leaves the state as it is
-abbrev pub ReadsAhead : EncodingForm → DecoderState → List ℕ → ℕ → List ℕ → List ℕ → ℕ → ℕ → Type 0
-ReadsAhead form state source read old new room_before room_after = ReadsTo form state state source read old new room_before room_after
+-- they leave the state as it is
+abbrev pub ReadsAhead : {D : Type 0} → Ghosts D → DecoderState → List ℕ → ℕ → D → D → Type 0
+ReadsAhead T state source read old new = ReadsTo T state state source read old new

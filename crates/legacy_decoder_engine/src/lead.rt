@@ -13,7 +13,7 @@ ghost use Rattle.legacy_decoder_engine.specs.Ahead.{IsCommonForm};
 ghost use Rattle.legacy_decoder_engine.specs.Feeding.{Took};
 ghost use Rattle.legacy_decoder_engine.specs.LeadCodecs.{IsLeadCodec, held_bytes, lead_state};
 
-use crate::ahead::{CommonForm, CommonForms, ahead};
+use crate::common_forms::{CommonForm, CommonForms, read_common_forms};
 use crate::drive::drive_decoder;
 use crate::moves::{DecoderMoves, Fed, Move, Room};
 use legacy_base::{DecoderResult, Destination, RawDecoder, Tables};
@@ -168,7 +168,7 @@ impl<'a, C: LeadCodec> DecoderMoves for LeadDecoder<'a, C> {
 
     #[inline]
     fn read_ahead<T: Destination>(&self, src: &[u8], dst: &mut T) -> usize {
-        ahead(self, src, dst)
+        read_common_forms(self, src, dst)
     }
 }
 

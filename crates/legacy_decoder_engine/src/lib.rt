@@ -3,12 +3,13 @@
 //! of the codecs whose forms have a lead and a trail.
 #![tactic(auto)]
 
-pub mod ahead;
+pub mod common_forms;
 pub mod drive;
 pub mod held;
 pub mod lead;
 pub mod moves;
 pub mod pairs;
 pub mod places;
+pub mod runs;
 pub mod trail;
 pub mod two_byte;

@@ -95,9 +95,7 @@ pub trait DecoderMoves {
     /// none.
     #[inline]
     fn read_ahead<T: Destination>(&self, src: &[u8], dst: &mut T) -> usize
-        ensures ahead { ReadsAhead T.form (state self.now) src.now result (T.contents dst.old)
-            (T.contents dst.new) (T.room dst.old) (T.room dst.new) }
-        ensures loan { T.loan dst.new ≡ T.loan dst.old }
+        ensures { ReadsAhead T.Destination (state self.now) src.now result dst.old dst.new }
     {
         let _ = (src.len(), dst.free());
         0
@@ -107,9 +105,8 @@ pub trait DecoderMoves {
     /// are read, from one run over such bytes to the next: then the decoder changes with them.
     #[inline]
     fn read_runs<T: Destination>(&mut self, src: &[u8], dst: &mut T) -> usize
-        ensures runs { ReadsTo T.form (state self.old) (state self.new) src.now result
-            (T.contents dst.old) (T.contents dst.new) (T.room dst.old) (T.room dst.new) }
-        ensures loan { T.loan dst.new ≡ T.loan dst.old }
+        ensures runs { ReadsTo T.Destination (state self.old) (state self.new) src.now result
+            dst.old dst.new }
     {
         self.read_ahead(src, dst)
     }

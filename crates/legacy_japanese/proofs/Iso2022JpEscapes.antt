@@ -1,10 +1,12 @@
 -- The runs of ISO-2022-JP on both sides of an escape.
 use Rattle.std.proofs.Common.{◌≡◌, ◌≢◌, ◌∙◌, ℕ, suc, ◌+◌, ◌-◌, ◌<◌, List, ◌∷◌, ◌++◌, length, map, take, drop, get_or, refl, sym, ap, subst, arith, append-nil, length-drop}
 use Rattle.std.proofs.lemmas.Bool.{ne_eqb}
-use Rattle.std.proofs.lemmas.List.{take_all, drop-drop}
+use Rattle.std.proofs.lemmas.List.{drop-drop}
 use Rattle.std.proofs.Math.Seq.{drop-cons, take-add}
+use Rattle.legacy_base.specs.declared.destination.Destination.{Ghosts}
 use Rattle.legacy_base.specs.declared.results.DecodeEvent.TheVariants.{Scalar}
-use Rattle.legacy_base.specs.EncodingForm.{EncodingForm, all_code_units}
+use Rattle.legacy_base.specs.EncodingForm.{all_code_units}
+use Rattle.legacy_base.specs.States.{DecoderState}
 use Rattle.legacy_base.specs.Events.{shift}
 use Rattle.legacy_base.specs.Grammar.{iso_2022_jp, events_of}
 use Rattle.legacy_base.specs.Iso2022Jp.{esc}
@@ -13,6 +15,7 @@ use Rattle.legacy_base.proofs.Shifts.{shift-append, shift-shift, shift-scalars}
 use Rattle.legacy_decoder_engine.specs.Ahead.{RunsTo, Runs, ReadsTo, ReadsAhead}
 use Rattle.legacy_decoder_engine.proofs.AheadRuns.{reads_nothing}
 use Rattle.legacy_decoder_engine.proofs.JoinedRuns.{reads_then}
+use Rattle.legacy_decoder_engine.proofs.WrittenRuns.{rest_of}
 use Rattle.legacy_japanese.specs.declared.iso_2022_jp.steps.Mode.{Mode}
 use Rattle.legacy_japanese.specs.declared.iso_2022_jp.steps.Escape.{Escape}
 use Rattle.legacy_japanese.specs.declared.iso_2022_jp.steps.Start.TheVariants.{Nothing}
@@ -55,59 +58,65 @@ escape_bytes e source read has some =
     take-add 3 read source ∙ ap (λ bytes. bytes ++ take read (drop 3 source)) has.begins
     ∙ ap (λ bytes. esc ∷ second_of e ∷ third_of e ∷ bytes) (run_bytes source read has.within some)
 
--- an escape and a run of its mode
-reads_escape : (form : EncodingForm) (jis0208 : List ℕ) (mode : Mode) (e : Escape) (source old new : List ℕ) (read before after : ℕ) → HasEscape e source → 0 < read
-    → ReadsAhead form (run_state jis0208 (mode_of e)) (drop 3 source) read old new before after → ReadsTo form (run_state jis0208 mode) (run_state jis0208 (mode_of e)) source (3 + read) old new before after
-reads_escape form jis0208 mode e source old new read before after has some reads = record {
-  within = let w = reads.within in let l = length-drop 3 source in let k = has.within in omega arith;
-  idle = λ h. refl;
-  empties = λ h. refl;
-  stays = λ z. absurd (omega arith);
-  rooms = same_rooms jis0208 mode (mode_of e);
-  writes = record {
-    scalars = reads.writes.scalars;
-    runs =
-        let g = iso_2022_jp jis0208 (mode_meaning (mode_of e)) in
-        let ds : List ℕ = reads.writes.scalars in
-        let run : Runs g (get_or source 3 0 ∷ take (read - 1) (drop 4 source)) ds = subst (λ bytes. Runs g bytes ds) (run_bytes source read has.within some) reads.writes.runs in
-        subst (λ bytes. RunsTo (iso_2022_jp jis0208 (mode_meaning mode)) g bytes ds) (sym (escape_bytes e source read has some))
-        (escape_runs jis0208 mode e (get_or source 3 0) (take (read - 1) (drop 4 source)) ds has.alone run);
-    written = reads.writes.written;
-  };
-  room = reads.room;
-  slack = λ h. reads.slack some;
-  had = λ h. reads.had some;
-}
+module _ {D : Type 0} {T : Ghosts D} where
+  -- an escape and a run of its mode
+  reads_escape : (jis0208 : List ℕ) (mode : Mode) (e : Escape) (source : List ℕ) (old new : D) (read : ℕ) → HasEscape e source → 0 < read
+      → ReadsAhead T (run_state jis0208 (mode_of e)) (drop 3 source) read old new → ReadsTo T (run_state jis0208 mode) (run_state jis0208 (mode_of e)) source (3 + read) old new
+  reads_escape jis0208 mode e source old new read has some reads = record {
+    within = let w = reads.within in let l = length-drop 3 source in let k = has.within in omega arith;
+    idle = λ h. refl;
+    empties = λ h. refl;
+    stays = λ z. absurd (omega arith);
+    rooms = same_rooms jis0208 mode (mode_of e);
+    writes = record {
+      scalars = reads.writes.scalars;
+      runs =
+          let g = iso_2022_jp jis0208 (mode_meaning (mode_of e)) in
+          let ds : List ℕ = reads.writes.scalars in
+          let run : Runs g (get_or source 3 0 ∷ take (read - 1) (drop 4 source)) ds = subst (λ bytes. Runs g bytes ds) (run_bytes source read has.within some) reads.writes.runs in
+          subst (λ bytes. RunsTo (iso_2022_jp jis0208 (mode_meaning mode)) g bytes ds) (sym (escape_bytes e source read has some))
+          (escape_runs jis0208 mode e (get_or source 3 0) (take (read - 1) (drop 4 source)) ds has.alone run);
+      written = reads.writes.written;
+      room = reads.writes.room;
+      loan = reads.writes.loan;
+    };
+    slack = λ h. reads.slack some;
+    had = λ h. reads.had some;
+  }
 
--- what is behind so many bytes of a source, as the code has it
-rest_of : (source : List ℕ) (at : ℕ) → take (length source - at) (drop at source) ≡ drop at source
-rest_of source at = take_all (length source - at) (drop at source) (let l = length-drop at source in omega arith)
+  -- runs, then an escape and a run of its mode
+  pub reads_on : (jis0208 : List ℕ) (first mode next : Mode) (e : Escape) (source : List ℕ) {old mid new : D} (at read : ℕ) → next ≡ mode_of e
+      → HasEscape e (take (length source - at) (drop at source)) → 0 < read
+      → ReadsTo T (run_state jis0208 first) (run_state jis0208 mode) source at old mid
+      → ReadsAhead T (run_state jis0208 next) (take (length source - (at + 3)) (drop (at + 3) source)) read mid new
+      → ReadsTo T (run_state jis0208 first) (run_state jis0208 next) source (at + (3 + read)) old new
+  reads_on jis0208 first mode next e source {old} {mid} {new} at read is has some runs reads =
+      let S : List ℕ = take (length source - at) (drop at source) in
+      let rest : take (length source - (at + 3)) (drop (at + 3) source) ≡ drop 3 S = rest_of source (at + 3) ∙ sym (drop-drop 3 at source) ∙ ap (drop 3) (sym (rest_of source at)) in
+      let run : ReadsAhead T (run_state jis0208 (mode_of e)) (drop 3 S) read mid new =
+      subst (λ m. ReadsAhead T (run_state jis0208 m) (drop 3 S) read mid new) is (subst (λ bytes. ReadsAhead T (run_state jis0208 next) bytes read mid new) rest reads)
+      in
+      subst (λ m. ReadsTo T (run_state jis0208 first) (run_state jis0208 m) source (at + (3 + read)) old new) (sym is) (reads_then runs (reads_escape jis0208 mode e S mid new read has some run))
 
--- runs, then an escape and a run of its mode
-pub reads_on : (form : EncodingForm) (jis0208 : List ℕ) (first mode next : Mode) (e : Escape) (source old mid new : List ℕ) (at read before between after : ℕ) → next ≡ mode_of e
-    → HasEscape e (take (length source - at) (drop at source)) → 0 < read
-    → ReadsTo form (run_state jis0208 first) (run_state jis0208 mode) source at old mid before between
-    → ReadsAhead form (run_state jis0208 next) (take (length source - (at + 3)) (drop (at + 3) source)) read mid new between after
-    → ReadsTo form (run_state jis0208 first) (run_state jis0208 next) source (at + (3 + read)) old new before after
-reads_on form jis0208 first mode next e source old mid new at read before between after is has some runs reads =
-    let S : List ℕ = take (length source - at) (drop at source) in
-    let rest : take (length source - (at + 3)) (drop (at + 3) source) ≡ drop 3 S = rest_of source (at + 3) ∙ sym (drop-drop 3 at source) ∙ ap (drop 3) (sym (rest_of source at)) in
-    let run : ReadsAhead form (run_state jis0208 (mode_of e)) (drop 3 S) read mid new between after =
-    subst (λ m. ReadsAhead form (run_state jis0208 m) (drop 3 S) read mid new between after) is (subst (λ bytes. ReadsAhead form (run_state jis0208 next) bytes read mid new between after) rest reads)
-    in
-    let both = reads_then form (run_state jis0208 first) (run_state jis0208 mode) (run_state jis0208 (mode_of e)) source old mid new at (3 + read) (length source - at) before between after runs
-    (reads_escape form jis0208 mode e S mid new read between after has some run)
-    in
-    subst (λ m. ReadsTo form (run_state jis0208 first) (run_state jis0208 m) source (at + (3 + read)) old new before after) (sym is) both
-
--- runs, behind which nothing was read
-pub reads_end : (form : EncodingForm) (jis0208 : List ℕ) (first mode next : Mode) (source behind old mid new : List ℕ) (at read before between after : ℕ) → read ≡ 0
-    → ReadsTo form (run_state jis0208 first) (run_state jis0208 mode) source at old mid before between
-    → ReadsAhead form (run_state jis0208 next) behind read mid new between after
-    → ReadsTo form (run_state jis0208 first) (run_state jis0208 mode) source at old new before after
-reads_end form jis0208 first mode next source behind old mid new at read before between after none runs reads =
-    let nothing = reads_nothing form (run_state jis0208 next) (run_state jis0208 next) behind mid new read between after reads none in
-    let same : new ≡ mid = reads.writes.written ∙ ap (λ cs. mid ++ all_code_units form cs) nothing ∙ append-nil mid in
-    let room : after ≡ between = let l = ap length same in let k = reads.room in omega arith in
-    subst (λ n. ReadsTo form (run_state jis0208 first) (run_state jis0208 mode) source at old n before after) (sym same)
-    (subst (λ n. ReadsTo form (run_state jis0208 first) (run_state jis0208 mode) source at old mid before n) (sym room) runs)
+  -- runs, behind which nothing was read
+  pub reads_end : {before after other : DecoderState} {source behind : List ℕ} {old mid new : D} {at read : ℕ} → read ≡ 0 → ReadsTo T before after source at old mid → ReadsAhead T other behind read mid new
+      → ReadsTo T before after source at old new
+  reads_end {mid = mid} none runs reads =
+      let nothing = reads_nothing reads none in
+      let units = ap (all_code_units T.form) nothing in
+      record {
+        within = runs.within;
+        idle = runs.idle;
+        empties = runs.empties;
+        stays = runs.stays;
+        rooms = runs.rooms;
+        writes = record {
+          scalars = runs.writes.scalars;
+          runs = runs.writes.runs;
+          written = reads.writes.written ∙ ap (λ l. T.contents mid ++ l) units ∙ append-nil (T.contents mid) ∙ runs.writes.written;
+          room = omega (arith, ap length units, reads.writes.room, runs.writes.room);
+          loan = reads.writes.loan ∙ runs.writes.loan;
+        };
+        slack = λ h. omega (arith, ap length units, reads.writes.room, runs.slack h);
+        had = runs.had;
+      }

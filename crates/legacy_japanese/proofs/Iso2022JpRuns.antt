@@ -8,6 +8,7 @@ use Rattle.std.proofs.lemmas.List.Elements.{All-nil, All-cons, All-get_or}
 use Rattle.std.proofs.lemmas.Str.Ascii.{IsAscii-from_all}
 use Rattle.std.specs.Char.{IsScalar, is_ascii}
 use Rattle.std.specs.Int.{is_in_range}
+use Rattle.legacy_base.specs.declared.destination.Destination.{Ghosts}
 use Rattle.legacy_base.specs.EncodingForm.{EncodingForm, code_units, total_unit_count}
 use Rattle.legacy_base.specs.Fronts.{reads}
 use Rattle.legacy_base.specs.Grammar.{iso_2022_jp, events_of}
@@ -24,7 +25,7 @@ use Rattle.legacy_japanese.specs.Iso2022JpRuns.{IsPlain, run_state}
 use Rattle.legacy_japanese.specs.Jis0208Places.{jis_lead_place, jis_trail_place}
 use Rattle.legacy_decoder_engine.proofs.PairPlaces.{idx_past}
 use Rattle.legacy_japanese.proofs.Iso2022JpRooms.{same_rooms, one_fits, room-falls, times_one}
-use Rattle.legacy_decoder_engine.proofs.WrittenRuns.{runs_none, runs_more, room_step, code_units_ascii, all_code_units_ascii}
+use Rattle.legacy_decoder_engine.proofs.WrittenRuns.{runs_none, runs_more, code_units_ascii, all_code_units_ascii}
 
 -- ---- a plain byte
 
@@ -114,10 +115,12 @@ plain_units form source count at within plain h = code_units_ascii form (get_or 
 are_ascii : (bytes : List ℕ) → All IsPlain bytes → IsAscii bytes
 are_ascii bytes h = IsAscii-from_all bytes (λ i d l. (h i d l).0)
 
-pub reads_plain : (form : EncodingForm) (jis0208 source old new : List ℕ) (count before after : ℕ) → count ≤ length source → All IsPlain (take count source)
-    → new ≡ old ++ take count source → after + count ≡ before → (0 < count → count + 3 ≤ before) → ReadsAhead form (run_state jis0208 Ascii) source count old new before after
-reads_plain form jis0208 source old new count before after within plain e room enough =
+pub reads_plain : {D : Type 0} (T : Ghosts D) (jis0208 source : List ℕ) (old new : D) (count : ℕ) → count ≤ length source → All IsPlain (take count source)
+    → T.contents new ≡ T.contents old ++ take count source → T.room new + count ≡ T.room old → T.loan new ≡ T.loan old → (0 < count → count + 3 ≤ T.room old)
+    → ReadsAhead T (run_state jis0208 Ascii) source count old new
+reads_plain T jis0208 source old new count within plain contents room loan enough =
     let l : length (take count source) ≡ count = length-take-le count source within in
+    let same = all_code_units_ascii T.form (take count source) (are_ascii (take count source) plain) in
     record {
       within = within;
       idle = λ h. refl;
@@ -127,9 +130,10 @@ reads_plain form jis0208 source old new count before after within plain e room e
       writes = record {
         scalars = take count source;
         runs = plain_bytes jis0208 (take count source) plain;
-        written = e ∙ ap (λ units. old ++ units) (sym (all_code_units_ascii form (take count source) (are_ascii (take count source) plain)));
+        written = contents ∙ ap (λ units. T.contents old ++ units) (sym same);
+        room = omega (arith, ap length same, l, room);
+        loan = loan;
       };
-      room = room_step after before new old (take count source) e (omega arith);
       slack = λ h. let q = enough h in omega arith;
       had = λ h. let q = enough h in omega arith;
     }

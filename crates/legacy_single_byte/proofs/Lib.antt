@@ -1,6 +1,5 @@
 -- How each decoder takes the steps of its machine, and each machine keeps to its grammar.
 pub mod Latin1Fronts
-pub mod SingleByteBlocks
 pub mod SingleByteMeets
 pub mod SingleByteShown
 pub mod SingleByteRuns

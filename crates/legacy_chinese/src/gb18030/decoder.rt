@@ -12,14 +12,14 @@ ghost use Rattle.legacy_decoder_engine.specs.Feeding.{Took};
 ghost use Rattle.legacy_chinese.specs.Gb18030Held.{held_bytes, is_resting};
 
 use super::digit::Digit;
-use super::fours::read_forms;
 use super::pair_places::TRAILS;
 use legacy_base::{DecoderResult, Destination, IndexName, RawDecoder, Tables};
-use legacy_decoder_engine::ahead::{CommonForm, CommonForms};
+use legacy_decoder_engine::common_forms::{CommonForm, CommonForms};
 use legacy_decoder_engine::drive::drive_decoder;
 use legacy_decoder_engine::held::Lead;
 use legacy_decoder_engine::moves::{DecoderMoves, Fed, Move, Room};
 use legacy_decoder_engine::places::{ROWS_OF_190, pair_pointer};
+use legacy_decoder_engine::runs::read_blocks;
 use legacy_decoder_engine::trail::unmapped;
 use legacy_decoder_engine::two_byte::fault_through;
 
@@ -281,7 +281,7 @@ impl DecoderMoves for Gb18030Decoder<'_> {
     #[inline]
     fn read_ahead<T: Destination>(&self, src: &[u8], dst: &mut T) -> usize {
         if self.is_idle() {
-            read_forms(self, src, dst)
+            read_blocks(self, src, dst)
         } else {
             0
         }

@@ -14,7 +14,7 @@ ghost use Rattle.legacy_japanese.specs.EucJpHeld.{held_bytes};
 
 use super::lead::EucJpLead;
 use legacy_base::{DecoderResult, Destination, IndexName, RawDecoder, Tables};
-use legacy_decoder_engine::ahead::{CommonForm, CommonForms, ahead};
+use legacy_decoder_engine::common_forms::{CommonForm, CommonForms, read_common_forms};
 use legacy_decoder_engine::drive::drive_decoder;
 use legacy_decoder_engine::moves::{DecoderMoves, Fed, Move, Room};
 use legacy_decoder_engine::trail::unmapped;
@@ -255,7 +255,7 @@ impl DecoderMoves for EucJpDecoder<'_> {
 
     #[inline]
     fn read_ahead<T: Destination>(&self, src: &[u8], dst: &mut T) -> usize {
-        ahead(self, src, dst)
+        read_common_forms(self, src, dst)
     }
 }
 

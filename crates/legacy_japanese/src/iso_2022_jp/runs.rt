@@ -83,8 +83,8 @@ fn plain_count(src: &[u8]) -> usize
 /// many were read: none is an answer too.
 #[inline]
 fn read_plain<T: Destination>(src: &[u8], dst: &mut T) -> usize
-    ensures ahead { (jis0208 : List ℕ) → ReadsAhead T.form (run_state jis0208 Mode.Ascii) src.now result (T.contents dst.old) (T.contents dst.new) (T.room dst.old) (T.room dst.new) }
-    ensures loan { T.loan dst.new ≡ T.loan dst.old }
+    ensures { (jis0208 : List ℕ)
+        → ReadsAhead T.Destination (run_state jis0208 Mode.Ascii) src.now result dst.old dst.new }
 {
     let most = dst.free().saturating_sub(3).min(src.len());
     let count = plain_count(&src[..most]);
@@ -98,8 +98,8 @@ fn read_plain<T: Destination>(src: &[u8], dst: &mut T) -> usize
 
 /// Reads a run of the mode from the front. Answers how many bytes were read: none is an answer too.
 fn read_mode<T: Destination>(tables: &Tables, mode: Mode, src: &[u8], dst: &mut T) -> usize
-    ensures ahead { ReadsAhead T.form (run_state tables.now.flat.jis0208 mode) src.now result (T.contents dst.old) (T.contents dst.new) (T.room dst.old) (T.room dst.new) }
-    ensures loan { T.loan dst.new ≡ T.loan dst.old }
+    ensures { ReadsAhead T.Destination (run_state tables.now.flat.jis0208 mode) src.now result
+        dst.old dst.new }
 {
     match mode {
         Mode::Ascii => read_plain(src, dst),
@@ -134,8 +134,8 @@ pub fn read_modes<T: Destination>(
     src: &[u8],
     dst: &mut T,
 ) -> (Mode, usize)
-    ensures runs { ReadsTo T.form (run_state tables.now.flat.jis0208 first) (run_state tables.now.flat.jis0208 result.0) src.now result.1 (T.contents dst.old) (T.contents dst.new) (T.room dst.old) (T.room dst.new) }
-    ensures loan { T.loan dst.new ≡ T.loan dst.old }
+    ensures { ReadsTo T.Destination (run_state tables.now.flat.jis0208 first)
+        (run_state tables.now.flat.jis0208 result.0) src.now result.1 dst.old dst.new }
 {
     let mut mode = first;
     let mut at = read_mode(tables, mode, src, dst);

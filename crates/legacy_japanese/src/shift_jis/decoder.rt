@@ -11,7 +11,7 @@ ghost use Rattle.legacy_decoder_engine.specs.LeadCodecs.{held_bytes};
 use super::lead::ShiftJisLead;
 use super::places::{LEADS, TRAILS};
 use legacy_base::{IndexName, Tables};
-use legacy_decoder_engine::ahead::CommonForm;
+use legacy_decoder_engine::common_forms::CommonForm;
 use legacy_decoder_engine::lead::{LeadCodec, LeadDecoder};
 use legacy_decoder_engine::moves::{Fed, Room};
 use legacy_decoder_engine::places::pair_pointer;

@@ -10,7 +10,7 @@ ghost use Rattle.legacy_decoder_engine.proofs.TwoByteMeets.{is_lead-in};
 
 use super::places::TRAILS;
 use legacy_base::{IndexName, Tables};
-use legacy_decoder_engine::ahead::CommonForm;
+use legacy_decoder_engine::common_forms::CommonForm;
 use legacy_decoder_engine::held::Lead;
 use legacy_decoder_engine::lead::{LeadCodec, LeadDecoder};
 use legacy_decoder_engine::moves::{Fed, Room};

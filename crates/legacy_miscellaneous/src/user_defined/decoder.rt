@@ -9,7 +9,7 @@ ghost use Rattle.legacy_base.specs.States.{new_state};
 ghost use Rattle.legacy_decoder_engine.specs.Ahead.{ReadsAhead};
 
 use legacy_base::{DecoderResult, Destination, RawDecoder};
-use legacy_decoder_engine::ahead::{CommonForm, CommonForms, ahead};
+use legacy_decoder_engine::common_forms::{CommonForm, CommonForms, read_common_forms};
 use legacy_decoder_engine::drive::drive_decoder;
 use legacy_decoder_engine::moves::{DecoderMoves, Fed, Move, Room};
 
@@ -48,9 +48,7 @@ fn scalar_of(byte: u8) -> char
 #[inline(always)]
 fn read_units<T: Destination>(src: &[u8], dst: &mut T) -> usize
     requires { bmp_room T.form ≡ 1 }
-    ensures ahead { ReadsAhead T.form (new_state user_defined) src.now result (T.contents dst.old)
-        (T.contents dst.new) (T.room dst.old) (T.room dst.new) }
-    ensures loan { T.loan dst.new ≡ T.loan dst.old }
+    ensures { ReadsAhead T.Destination (new_state user_defined) src.now result dst.old dst.new }
 {
     let count = src.len().min(dst.free().saturating_sub(3));
     let mut at = 0;
@@ -99,7 +97,7 @@ impl DecoderMoves for UserDefinedDecoder {
         if T::narrow() == 1 {
             read_units(src, dst)
         } else {
-            ahead(self, src, dst)
+            read_common_forms(self, src, dst)
         }
     }
 }

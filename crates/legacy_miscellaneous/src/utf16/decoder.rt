@@ -10,6 +10,7 @@ use super::units::read_byte;
 use legacy_base::{DecoderResult, Destination, RawDecoder};
 use legacy_decoder_engine::drive::drive_decoder;
 use legacy_decoder_engine::moves::{DecoderMoves, Fed, Move, Room};
+use legacy_decoder_engine::runs::read_blocks;
 
 /// The decoder of UTF-16 (Encoding Standard, "shared UTF-16 decoder", "UTF-16BE decoder" and "UTF-16LE
 /// decoder").
@@ -117,9 +118,9 @@ impl DecoderMoves for Utf16Decoder {
         if !matches!(self.held, Held::Nothing) {
             0
         } else if self.big_endian {
-            Units { big_endian: true }.read_units(src, dst)
+            read_blocks(&Units { big_endian: true }, src, dst)
         } else {
-            Units { big_endian: false }.read_units(src, dst)
+            read_blocks(&Units { big_endian: false }, src, dst)
         }
     }
 }

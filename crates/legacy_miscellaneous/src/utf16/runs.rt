@@ -1,18 +1,19 @@
-//! The runs of UTF-16: blocks of ASCII, and blocks and single units that are no surrogates.
+//! The blocks of UTF-16: units of ASCII, and units that are no surrogates.
 // Inlined always is what runs for each form or block: a call would pass vectors through memory, and put the
 // destination's place there from form to form.
-ghost use Rattle.std.specs.Prelude.{◌≡◌, ◌+◌, ◌*◌, ◌<◌, ◌≤◌, ℕ, [], length, take, true, false, slice_index, ◌++◌};
+ghost use Rattle.std.specs.Prelude.{◌≡◌, ◌+◌, ◌<◌, ◌≤◌, ℕ, length, false, slice_index, ◌++◌};
 ghost use Rattle.std.specs.Char.{IsScalar};
 ghost use Rattle.legacy_base.specs.EncodingForm.{code_units, unit_count};
 ghost use Rattle.legacy_base.specs.Grammar.{utf16};
-ghost use Rattle.legacy_decoder_engine.specs.Ahead.{Writes, ReadsAhead};
-ghost use Rattle.legacy_base.specs.States.{state_of};
+ghost use Rattle.legacy_base.specs.States.{new_state};
+ghost use Rattle.legacy_decoder_engine.specs.Ahead.{ReadsAhead};
 ghost use Rattle.legacy_miscellaneous.specs.Utf16Decoder.{HasAsciiUnits};
 
 use super::units::unit;
 use super::vectors::{eight_units, sixteen_units};
 use legacy_base::Destination;
 use legacy_decoder_engine::pairs::{Pairs, read_pairs};
+use legacy_decoder_engine::runs::{Blocks, read_blocks};
 
 /// The units of a byte order.
 #[derive(Drop)]
@@ -57,6 +58,76 @@ fn put_unit<T: Destination>(dst: &mut T, unit: u16)
     dst.put(unsafe { char::from_u32_unchecked(u32::from(unit)) });
 }
 
+/// Sixteen units at a time.
+#[derive(Drop)]
+struct Sixteens<'a> {
+    units: &'a Units,
+}
+
+impl Blocks for Sixteens<'_> {
+    ghost grammar = { λ blocks. utf16 blocks.units.now.big_endian };
+
+    /// Reads sixteen units, or none where one of them is a surrogate.
+    // No turn ends early and the units are those of a vector, so where a scalar is one code unit the compiler
+    // stores the vector as it is.
+    #[inline(always)]
+    fn read_block<T: Destination>(&self, src: &[u8], dst: &mut T) -> (usize, bool) {
+        if src.len() < 32 || dst.free() < 51 {
+            return (0, false);
+        }
+        let units = sixteen_units(self.units.big_endian, src).to_array();
+        if has_surrogate(&units) {
+            return (0, false);
+        }
+        let mut at = 0;
+        while at < 16 {
+            let unit = units[at];
+            put_unit(dst, unit);
+            at += 1;
+        }
+        (32, true)
+    }
+}
+
+/// Units past ASCII by eights, and single ones of ASCII between them.
+#[derive(Drop)]
+struct PastAscii<'a> {
+    units: &'a Units,
+}
+
+impl Blocks for PastAscii<'_> {
+    ghost grammar = { λ blocks. utf16 blocks.units.now.big_endian };
+
+    /// Reads up to eight units: none where one of them is a surrogate, and otherwise those before two of ASCII
+    /// in a row.
+    // A put for each length of a scalar: each then knows its length, and three bytes are tested first.
+    #[inline(always)]
+    fn read_block<T: Destination>(&self, src: &[u8], dst: &mut T) -> (usize, bool) {
+        if src.len() < 16 || dst.free() < 27 {
+            return (0, false);
+        }
+        let units = eight_units(self.units.big_endian, src).to_array();
+        if has_surrogate(&units) {
+            return (0, false);
+        }
+        let mut at = 0;
+        while at < 8 {
+            let unit = units[at];
+            if unit >= 0x800 {
+                put_unit(dst, unit);
+            } else if unit >= 0x80 {
+                put_unit(dst, unit);
+            } else if at < 7 && units[at + 1] < 0x80 {
+                return (2 * at, false);
+            } else {
+                put_unit(dst, unit);
+            }
+            at += 1;
+        }
+        (16, true)
+    }
+}
+
 impl Units {
     /// The first sixteen units as bytes: those below 100 as they are, and FF for the others.
     // Of units in a vector the compiler makes two operations of this.
@@ -76,63 +147,6 @@ impl Units {
         block
     }
 
-    /// Reads so many units from the front, or fewer up to a surrogate. Answers how many bytes were read:
-    /// none is an answer too.
-    #[inline(always)]
-    fn read_some<T: Destination>(&self, src: &[u8], dst: &mut T, most: usize) -> usize
-        requires { most ≤ 16 }
-        ensures ahead { ReadsAhead T.form (state_of (utf16 self.now.big_endian) []) src.now result (T.contents dst.old) (T.contents dst.new) (T.room dst.old) (T.room dst.new) }
-        ensures loan { T.loan dst.new ≡ T.loan dst.old }
-    {
-        let part = src.len().min(2 * most);
-        read_pairs(self, &src[..part], dst)
-    }
-
-    /// Reads sixteen units from the front, or none where one of them is a surrogate. Answers how many bytes
-    /// were read.
-    // No turn ends early and the units are those of a vector, so where a scalar is one code unit the compiler
-    // stores the vector as it is.
-    #[inline(always)]
-    fn read_sixteen<T: Destination>(&self, src: &[u8], dst: &mut T) -> usize
-        requires source { 32 ≤ length src.now }
-        requires room { 51 ≤ T.room dst.old }
-        ensures read { result ≤ 32 }
-        ensures writes { Writes T.form (utf16 self.now.big_endian) (take result src.now) (T.contents dst.old) (T.contents dst.new) }
-        ensures room { T.room dst.new + length (T.contents dst.new) ≡ T.room dst.old + length (T.contents dst.old) }
-        ensures slack { 3 ≤ T.room dst.new }
-        ensures loan { T.loan dst.new ≡ T.loan dst.old }
-    {
-        let units = sixteen_units(self.big_endian, src).to_array();
-        if has_surrogate(&units) {
-            return 0;
-        }
-        let mut at = 0;
-        while at < 16 {
-            let unit = units[at];
-            put_unit(dst, unit);
-            at += 1;
-        }
-        32
-    }
-
-    /// Reads units by blocks of sixteen, up to the first with a surrogate. Answers how many bytes were read:
-    /// none is an answer too.
-    #[inline(always)]
-    fn read_blocks<T: Destination>(&self, src: &[u8], dst: &mut T) -> usize
-        ensures ahead { ReadsAhead T.form (state_of (utf16 self.now.big_endian) []) src.now result (T.contents dst.old) (T.contents dst.new) (T.room dst.old) (T.room dst.new) }
-        ensures loan { T.loan dst.new ≡ T.loan dst.old }
-    {
-        let mut at = 0;
-        while src.len() - at >= 32 && dst.free() >= 51 {
-            let read = self.read_sixteen(&src[at..], dst);
-            at += read;
-            if read < 32 {
-                return at;
-            }
-        }
-        at
-    }
-
     /// Whether there is a first unit and it is below the bound.
     #[inline(always)]
     fn begins_below(&self, src: &[u8], bound: u16) -> bool {
@@ -146,8 +160,8 @@ impl Units {
     fn read_unit<T: Destination>(&self, src: &[u8], dst: &mut T) -> usize
         requires source { 2 ≤ length src.now }
         requires room { 6 ≤ T.room dst.old }
-        ensures ahead { ReadsAhead T.form (state_of (utf16 self.now.big_endian) []) src.now result (T.contents dst.old) (T.contents dst.new) (T.room dst.old) (T.room dst.new) }
-        ensures loan { T.loan dst.new ≡ T.loan dst.old }
+        ensures { ReadsAhead T.Destination (new_state (utf16 self.now.big_endian)) src.now result
+            dst.old dst.new }
     {
         let first = unit(self.big_endian, src[0], src[1]);
         if first < 0x800 {
@@ -163,60 +177,7 @@ impl Units {
         }
     }
 
-    /// Reads up to eight units from the front: none where one of them is a surrogate, and otherwise those
-    /// before two of ASCII in a row. Answers how many bytes were read.
-    // A put for each length of a scalar: each then knows its length, and three bytes are tested first.
-    #[inline(always)]
-    fn read_eight<T: Destination>(&self, src: &[u8], dst: &mut T) -> usize
-        requires source { 16 ≤ length src.now }
-        requires room { 27 ≤ T.room dst.old }
-        ensures read { result ≤ 16 }
-        ensures writes { Writes T.form (utf16 self.now.big_endian) (take result src.now) (T.contents dst.old) (T.contents dst.new) }
-        ensures room { T.room dst.new + length (T.contents dst.new) ≡ T.room dst.old + length (T.contents dst.old) }
-        ensures slack { 3 ≤ T.room dst.new }
-        ensures loan { T.loan dst.new ≡ T.loan dst.old }
-    {
-        let units = eight_units(self.big_endian, src).to_array();
-        if has_surrogate(&units) {
-            return 0;
-        }
-        let mut at = 0;
-        while at < 8 {
-            let unit = units[at];
-            if unit >= 0x800 {
-                put_unit(dst, unit);
-            } else if unit >= 0x80 {
-                put_unit(dst, unit);
-            } else if at < 7 && units[at + 1] < 0x80 {
-                return 2 * at;
-            } else {
-                put_unit(dst, unit);
-            }
-            at += 1;
-        }
-        16
-    }
-
-    /// Reads units past ASCII from the front, and single ones of ASCII between them, by blocks of eight. Stops
-    /// at two units of ASCII in a row, and at a block with a surrogate. Answers how many bytes were read: none
-    /// is an answer too.
-    #[inline(always)]
-    fn read_past_ascii<T: Destination>(&self, src: &[u8], dst: &mut T) -> usize
-        ensures ahead { ReadsAhead T.form (state_of (utf16 self.now.big_endian) []) src.now result (T.contents dst.old) (T.contents dst.new) (T.room dst.old) (T.room dst.new) }
-        ensures loan { T.loan dst.new ≡ T.loan dst.old }
-    {
-        let mut at = 0;
-        while src.len() - at >= 16 && dst.free() >= 27 {
-            let read = self.read_eight(&src[at..], dst);
-            at += read;
-            if read < 16 {
-                return at;
-            }
-        }
-        at
-    }
-
-    /// Reads the first unit, and unless ASCII goes on behind it what `read_past_ascii` does. Answers how many
+    /// Reads the first unit, and unless ASCII goes on behind it the units past ASCII there. Answers how many
     /// bytes were read: none is an answer too.
     // Between ASCII and a unit below U+0800, which is a letter of a Latin script there, ASCII goes on: the unit
     // behind it is not looked at.
@@ -229,8 +190,8 @@ impl Units {
     ) -> usize
         requires source { 2 ≤ length src.now }
         requires room { 6 ≤ T.room dst.old }
-        ensures ahead { ReadsAhead T.form (state_of (utf16 self.now.big_endian) []) src.now result (T.contents dst.old) (T.contents dst.new) (T.room dst.old) (T.room dst.new) }
-        ensures loan { T.loan dst.new ≡ T.loan dst.old }
+        ensures { ReadsAhead T.Destination (new_state (utf16 self.now.big_endian)) src.now result
+            dst.old dst.new }
     {
         let at = self.read_unit(src, dst);
         if at == 0 || (is_behind_ascii && self.begins_below(src, 0x800)) {
@@ -239,63 +200,74 @@ impl Units {
         if self.begins_below(&src[at..], 0x80) {
             return at;
         }
-        at + self.read_past_ascii(&src[at..], dst)
+        at + read_blocks(&PastAscii { units: self }, &src[at..], dst)
     }
+}
 
-    /// Reads units of ASCII by blocks of sixteen, and behind each front of a block that is shorter what
-    /// `read_unit_and_next` does. Answers how many bytes were read: none is an answer too.
+/// Units of ASCII by sixteens, and what is between them.
+#[derive(Drop)]
+struct MixedUnits<'a> {
+    units: &'a Units,
+}
+
+impl Blocks for MixedUnits<'_> {
+    ghost grammar = { λ blocks. utf16 blocks.units.now.big_endian };
+
+    /// Reads sixteen units of ASCII, or fewer and what `read_unit_and_next` does behind them.
     #[inline(always)]
-    fn read_mixed<T: Destination>(&self, src: &[u8], dst: &mut T) -> usize
-        ensures ahead { ReadsAhead T.form (state_of (utf16 self.now.big_endian) []) src.now result (T.contents dst.old) (T.contents dst.new) (T.room dst.old) (T.room dst.new) }
-        ensures loan { T.loan dst.new ≡ T.loan dst.old }
-    {
-        let mut at = 0;
-        while src.len() - at >= 32 && dst.free() >= 21 {
-            let block = self.narrow_block(&src[at..]);
-            let count = dst.copy_ascii(&block);
-            at += 2 * count;
-            if count < 16 {
-                let read = self.read_unit_and_next(&src[at..], dst, count > 0);
-                if read == 0 {
-                    return at;
-                }
-                at += read;
-            }
+    fn read_block<T: Destination>(&self, src: &[u8], dst: &mut T) -> (usize, bool) {
+        if src.len() < 32 || dst.free() < 21 {
+            return (0, false);
         }
-        at
+        let block = self.units.narrow_block(src);
+        let count = dst.copy_ascii(&block);
+        let at = 2 * count;
+        if count >= 16 {
+            return (at, true);
+        }
+        let read = self.units.read_unit_and_next(&src[at..], dst, count > 0);
+        (at + read, read > 0)
     }
+}
 
-    /// Reads units from the front as suits the encoding form: by blocks where each scalar is one code unit,
-    /// and otherwise by what each block has. Answers how many bytes were read: none is an answer too.
+impl Units {
+    /// Reads units that are no surrogates as suits the encoding form: by sixteens where each scalar is one
+    /// code unit, and otherwise by what each sixteen have. Answers how many bytes were read: none is an
+    /// answer too.
     #[inline(always)]
     fn read_part<T: Destination>(&self, src: &[u8], dst: &mut T) -> usize
-        ensures ahead { ReadsAhead T.form (state_of (utf16 self.now.big_endian) []) src.now result (T.contents dst.old) (T.contents dst.new) (T.room dst.old) (T.room dst.new) }
-        ensures loan { T.loan dst.new ≡ T.loan dst.old }
+        ensures { ReadsAhead T.Destination (new_state (utf16 self.now.big_endian)) src.now result
+            dst.old dst.new }
     {
         if T::narrow() == 1 {
-            return self.read_blocks(src, dst);
+            return read_blocks(&Sixteens { units: self }, src, dst);
         }
-        self.read_mixed(src, dst)
+        read_blocks(&MixedUnits { units: self }, src, dst)
     }
 
-    /// Reads units that are no surrogates from the front, by blocks and where there is none one by one.
-    /// Answers how many bytes were read: none is an answer too.
+    /// Reads up to sixteen units from the front, one by one. Answers how many bytes were read: none is an
+    /// answer too.
     #[inline(always)]
-    pub fn read_units<T: Destination>(&self, src: &[u8], dst: &mut T) -> usize
-        ensures ahead { ReadsAhead T.form (state_of (utf16 self.now.big_endian) []) src.now result (T.contents dst.old) (T.contents dst.new) (T.room dst.old) (T.room dst.new) }
-        ensures loan { T.loan dst.new ≡ T.loan dst.old }
+    fn read_some<T: Destination>(&self, src: &[u8], dst: &mut T) -> usize
+        ensures { ReadsAhead T.Destination (new_state (utf16 self.now.big_endian)) src.now result
+            dst.old dst.new }
     {
-        let mut at = 0;
-        loop {
-            let read = self.read_part(&src[at..], dst);
-            at += read;
-            if read == 0 {
-                let single = self.read_some(&src[at..], dst, 16);
-                if single == 0 {
-                    return at;
-                }
-                at += single;
-            }
+        let part = src.len().min(32);
+        read_pairs(self, &src[..part], dst)
+    }
+}
+
+impl Blocks for Units {
+    ghost grammar = { λ units. utf16 units.big_endian };
+
+    /// Reads units by vectors, or where there are none for them up to sixteen one by one.
+    #[inline(always)]
+    fn read_block<T: Destination>(&self, src: &[u8], dst: &mut T) -> (usize, bool) {
+        let at = self.read_part(src, dst);
+        if at > 0 {
+            return (at, true);
         }
+        let read = self.read_some(&src[at..], dst);
+        (at + read, read > 0)
     }
 }

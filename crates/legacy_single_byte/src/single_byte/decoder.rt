@@ -8,9 +8,10 @@ ghost use Rattle.legacy_decoder_engine.specs.Feeding.{Took};
 
 use super::scalars::ByteScalars;
 use legacy_base::{DecoderResult, Destination, RawDecoder, SingleByteTable};
-use legacy_decoder_engine::ahead::{CommonForm, CommonForms, ahead};
+use legacy_decoder_engine::common_forms::{CommonForm, CommonForms, read_common_forms};
 use legacy_decoder_engine::drive::drive_decoder;
 use legacy_decoder_engine::moves::{DecoderMoves, Fed, Move, Room};
+use legacy_decoder_engine::runs::read_blocks;
 use std::simd::prelude::*;
 
 /// The decoder of a single-byte encoding (Encoding Standard, "single-byte decoder").
@@ -140,10 +141,10 @@ impl DecoderMoves for SingleByteDecoder<'_> {
     #[inline]
     fn read_ahead<T: Destination>(&self, src: &[u8], dst: &mut T) -> usize {
         if T::narrow() > 1 {
-            return ahead(self, src, dst);
+            return read_common_forms(self, src, dst);
         }
-        let read = self.scalars.read_blocks(src, dst);
-        read + ahead(self, &src[read..], dst)
+        let read = read_blocks(&self.scalars, src, dst);
+        read + read_common_forms(self, &src[read..], dst)
     }
 }
 

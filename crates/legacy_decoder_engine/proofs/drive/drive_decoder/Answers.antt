@@ -27,14 +27,14 @@ pub feed-fed-requires : goal.feed-fed-requires
 feed-fed-requires g c =
     let T = g.T.Destination in
     let b = c.loop-read.invariant in
-    (ahead_going T.form _ _ _ _ _ _ _ _ c.read_runs-read.result _ _ _ _ _ b.1 b.2 b.3 c.read_runs-read.ensures.runs).1.resting
+    (ahead_going _ _ _ _ _ _ _ c.read_runs-read.result _ _ _ b.1 b.2 b.3 c.read_runs-read.ensures.runs).1.resting
 
 pub returns-then-not-has_room-2-clause-call : goal.returns-then-not-has_room-2-clause-call
 returns-then-not-has_room-2-clause-call g c =
     let T = g.T.Destination in
     let b = c.loop-read.invariant in
     let a = c.read_runs-read.ensures.runs in
-    let i = ahead_going T.form _ _ _ _ _ _ _ _ c.read_runs-read.result _ _ _ _ _ b.1 b.2 b.3 a in
+    let i = ahead_going _ _ _ _ _ _ _ c.read_runs-read.result _ _ _ b.1 b.2 b.3 a in
     let F = g.T.Destination.form in (
       i.0,
       call_full_read F _ _ _ _ _ _ _ i.1 c.room-in-loop-read.ensures.covered (get_or c.args.src.now (c.loop-read.read + c.read_runs-read.result) 0)
@@ -48,7 +48,7 @@ returns-then-unread-clause-call g c =
     let T = g.T.Destination in
     let b = c.loop-read.invariant in
     let a = c.read_runs-read.ensures.runs in
-    let i = ahead_going T.form _ _ _ _ _ _ _ _ c.read_runs-read.result _ _ _ _ _ b.1 b.2 b.3 a in
+    let i = ahead_going _ _ _ _ _ _ _ c.read_runs-read.result _ _ _ b.1 b.2 b.3 a in
     let F = g.T.Destination.form in
     let f = c.in-Fault.ensures in (
       i.0,
@@ -64,7 +64,7 @@ returns-in-Fault-clause-call g c =
     let T = g.T.Destination in
     let b = c.loop-read.invariant in
     let a = c.read_runs-read.ensures.runs in
-    let i = ahead_going T.form _ _ _ _ _ _ _ _ c.read_runs-read.result _ _ _ _ _ b.1 b.2 b.3 a in
+    let i = ahead_going _ _ _ _ _ _ _ c.read_runs-read.result _ _ _ b.1 b.2 b.3 a in
     let F = g.T.Destination.form in
     let f = c.in-Fault.ensures in (
       i.0,
@@ -80,7 +80,7 @@ loop-read-preserved g c =
     let T = g.T.Destination in
     let b = c.loop-read.invariant in
     let a = c.read_runs-read.ensures.runs in
-    let i = ahead_going T.form _ _ _ _ _ _ _ _ c.read_runs-read.result _ _ _ _ _ b.1 b.2 b.3 a in
+    let i = ahead_going _ _ _ _ _ _ _ c.read_runs-read.result _ _ _ b.1 b.2 b.3 a in
     let F = g.T.Destination.form in
     let room = some_room _ _ _ _ _ _ c.has_room-in-loop-read.ensures c.if-not-has_room-2.false (c.room-in-loop-read.ensures.units F) i.3 in (
       i.0 ++ fed_scalars c.feed-fed.result,
@@ -89,7 +89,7 @@ loop-read-preserved g c =
       c.put_fed.ensures.contents ∙ ap (λ l. l ++ all_code_units F (fed_scalars c.feed-fed.result)) i.2 ∙ append_assoc (g.T.Destination.contents c.args.dst.now) (all_code_units F i.0)
           (all_code_units F (fed_scalars c.feed-fed.result)) ∙ ap (λ l. g.T.Destination.contents c.args.dst.now ++ l) (sym (all_code_units-append F i.0 (fed_scalars c.feed-fed.result))),
       omega (arith, total_unit_count-append F i.0 (fed_scalars c.feed-fed.result), c.put_fed.ensures.room, i.3),
-      c.put_fed.ensures.loan ∙ (c.read_runs-read.ensures.loan ∙ b.4),
+      c.put_fed.ensures.loan ∙ (c.read_runs-read.ensures.runs.writes.loan ∙ b.4),
     )
 
 one_more : (form : EncodingForm) (c : ℕ) (room free : ℕ) → room + unit_count form c ≡ free → room + total_unit_count form (c ∷ []) ≡ free
@@ -133,7 +133,7 @@ returns-clause-call g c =
     let T = g.T.Destination in
     let b = c.loop-read.invariant in
     let a = c.read_runs-read.ensures.runs in
-    let i = ahead_going T.form _ _ _ _ _ _ _ _ c.read_runs-read.result _ _ _ _ _ b.1 b.2 b.3 a in
+    let i = ahead_going _ _ _ _ _ _ _ c.read_runs-read.result _ _ _ b.1 b.2 b.3 a in
     let all : c.loop-read.read + c.read_runs-read.result ≡ length c.args.src.now = c.if-read-src.true in (
       i.0,
       subst (λ n. DecoderCall T.form (g.D.DecoderMoves.state c.args.decoder.now) c.args.src.now c.args.last (T.room c.args.dst.now)

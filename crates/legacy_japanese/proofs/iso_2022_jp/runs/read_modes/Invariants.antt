@@ -1,4 +1,4 @@
-use Rattle.std.proofs.Common.{◌≡◌, ◌-◌, length}
+use Rattle.std.proofs.Common.{◌-◌, length}
 use Rattle.legacy_japanese.specs.Iso2022JpRuns.{run_state}
 use Rattle.legacy_decoder_engine.specs.Ahead.{ReadsTo}
 use Rattle.legacy_japanese.proofs.iso_2022_jp.runs.read_modes.Given as goal
@@ -6,9 +6,7 @@ use Rattle.legacy_japanese.proofs.iso_2022_jp.runs.read_modes.Given as goal
 -- what was read was written, and the mode is that of the last run
 abbrev pub invariant-loop-escape : goal.invariant-loop-escape
 invariant-loop-escape g l =
-    let T = g.T.Destination in
-    ReadsTo T.form (run_state l.tables.flat.jis0208 l.fn.first) (run_state l.tables.flat.jis0208 l.mode) l.src l.at (T.contents l.fn.dst) (T.contents l.dst) (T.room l.fn.dst) (T.room l.dst)
-    × (T.loan l.dst ≡ T.loan l.fn.dst)
+    ReadsTo g.T.Destination (run_state l.tables.flat.jis0208 l.fn.first) (run_state l.tables.flat.jis0208 l.mode) l.src l.at l.fn.dst l.dst
 
 abbrev pub decreases-loop-escape : goal.decreases-loop-escape
 decreases-loop-escape g l = length l.src - l.at

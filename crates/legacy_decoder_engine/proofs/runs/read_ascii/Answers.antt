@@ -1,0 +1,25 @@
+use Rattle.std.proofs.Common.{take, refl, arith, subst}
+use Rattle.std.proofs.lemmas.List.{length-take, length-take-le, take-take}
+use Rattle.legacy_decoder_engine.specs.Ahead.{Writes}
+use Rattle.legacy_decoder_engine.proofs.CallUnderWay.{same_rooms}
+use Rattle.legacy_decoder_engine.proofs.WrittenRuns.{writes_ascii}
+use Rattle.legacy_decoder_engine.proofs.runs.read_ascii.Goals as goal
+
+pub returns-clause-ahead : goal.returns-clause-ahead
+returns-clause-ahead g c grammar law =
+    let T = g.T.Destination in
+    let src = c.args.src.now in
+    let e = c.copy_ascii.ensures in
+    let l = length-take c.min-most.result src in
+    let long = length-take-le c.copy_ascii.result (take c.min-most.result src) e.read in
+    record {
+      within = omega (arith, e.read, l);
+      idle = λ h. refl;
+      empties = λ h. refl;
+      stays = λ z. refl;
+      rooms = same_rooms grammar;
+      writes = subst (λ bytes. Writes T grammar bytes c.args.dst.now c.copy_ascii.new.self) (take-take c.copy_ascii.result c.min-most.result src (omega (arith, e.read, l)))
+          (writes_ascii T grammar c.args.dst.now c.copy_ascii.new.self (take c.copy_ascii.result (take c.min-most.result src)) law e.ascii e.contents (omega (arith, long, e.room)) e.loan);
+      slack = λ h. omega (arith, e.read, l, e.room, c.min-most.ensures, c.saturating_sub.ensures, c.free.ensures);
+      had = λ h. omega (arith, e.read, l, e.room, c.min-most.ensures, c.saturating_sub.ensures, c.free.ensures);
+    }
