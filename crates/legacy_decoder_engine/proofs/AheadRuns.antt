@@ -43,7 +43,8 @@ pub never_lacks : (form : EncodingForm) (s : DecoderState) (source : List ℕ) (
 never_lacks form s source last free h l = let m = lacks_small form s source last free l in let w = wide_most form in omega arith
 
 -- the state holds nothing back, and reads a run, behind which nothing is held back
-run_progress : (now next : DecoderState) (source : List ℕ) (read r : ℕ) (ds : List ℕ) → r ≤ length (drop read source) → now.held ≡ [] → next.held ≡ [] → RunsTo now.grammar next.grammar (take r (drop read source)) ds
+run_progress : (now next : DecoderState) (source : List ℕ) (read r : ℕ) (ds : List ℕ) → r ≤ length (drop read source) → now.held ≡ [] → next.held ≡ []
+    → RunsTo now.grammar next.grammar (take r (drop read source)) ds
     → Progress false now (drop read source) r next (drop (read + r) source) (map Scalar ds)
 run_progress now next source read r ds h e f runs =
     let D : List ℕ = drop read source in
@@ -71,11 +72,13 @@ going_run : (form : EncodingForm) (before : DecoderState) (source : List ℕ) (l
     → 4 ≤ free - total_unit_count form scalars → total_unit_count form ds + 3 ≤ free - total_unit_count form scalars
     → Going form before source last free next (read + r) (scalars ++ ds)
 going_run form before source last free now next read scalars r ds going h e f same runs before4 after3 =
-    let j = after_that false before source going.passed now (drop read source) (map Scalar scalars) r next (drop (read + r) source) (map Scalar ds) going.progress (run_progress now next source read r ds h e f runs) in
+    let run = run_progress now next source read r ds h e f runs in
+    let j = after_that false before source going.passed now (drop read source) (map Scalar scalars) r next (drop (read + r) source) (map Scalar ds) going.progress run in
     record {
       within = omega (arith, h, length-drop read source, going.within);
       passed = going.passed + r;
-      progress = subst (λ o. Progress false before source (going.passed + r) next (drop (read + r) source) o) (ap (λ es. map Scalar scalars ++ es) (shift-scalars going.passed ds) ∙ sym (map-append Scalar scalars ds)) j;
+      progress = subst (λ o. Progress false before source (going.passed + r) next (drop (read + r) source) o)
+          (ap (λ es. map Scalar scalars ++ es) (shift-scalars going.passed ds) ∙ sym (map-append Scalar scalars ds)) j;
       resting = ap (rests next.grammar) f ∙ rests-none next.grammar;
       allowed = ap (may_hold next.grammar) f ∙ may_none next.grammar;
       rooms = both_rooms before.grammar now.grammar next.grammar going.rooms same;
@@ -89,10 +92,12 @@ going_run form before source last free now next read scalars r ds going h e f sa
           let k = going.lowers query q more in
           let l = runs.lowers query (length (drop (read + r) source) + more) in
           let l' = rw q at l in
-          let l'' = subst (λ s. room query s (length (drop (read + r) source) + more) + total_unit_count form ds ≤ room query (new_state now.grammar) ((length (drop (read + r) source) + more) + length (take r (drop read source)))) (sym (with_empty next f)) l' in
-          let m = subst (λ s. room query next (length (drop (read + r) source) + more) + total_unit_count form ds ≤ room query s ((length (drop (read + r) source) + more) + length (take r (drop read source)))) (sym (with_empty now e)) l'' in
+          let rest : ℕ = length (drop (read + r) source) + more in
+          let whole : ℕ = rest + length (take r (drop read source)) in
+          let l'' = subst (λ s. room query s rest + total_unit_count form ds ≤ room query (new_state now.grammar) whole) (sym (with_empty next f)) l' in
+          let m = subst (λ s. room query next rest + total_unit_count form ds ≤ room query s whole) (sym (with_empty now e)) l'' in
           let long : length (take r (drop read source)) ≡ r = length-take-le r (drop read source) h in
-          let count : (length (drop (read + r) source) + more) + length (take r (drop read source)) ≡ length (drop read source) + more = omega (arith, h, length-drop read source, length-drop (read + r) source) in
+          let count : whole ≡ length (drop read source) + more = omega (arith, h, length-drop read source, length-drop (read + r) source) in
           let m' = rw count at m in
           omega (arith, total_unit_count-append form scalars ds);
     }
@@ -120,9 +125,11 @@ module _ {D : Type 0} {T : Ghosts D} where
 
   -- a call under way, once forms were read ahead
   pub ahead_going : (before : DecoderState) (source : List ℕ) (last : Bool) (now next : DecoderState) (read : ℕ) (scalars : List ℕ) (r : ℕ) (first old new : D)
-      → Going T.form before source last (T.room first) now read scalars → T.contents old ≡ T.contents first ++ all_code_units T.form scalars → T.room old + total_unit_count T.form scalars ≡ T.room first
+      → Going T.form before source last (T.room first) now read scalars → T.contents old ≡ T.contents first ++ all_code_units T.form scalars
+      → T.room old + total_unit_count T.form scalars ≡ T.room first
       → ReadsTo T now next (take (length source - read) (drop read source)) r old new
-      → (cs : List ℕ) × Going T.form before source last (T.room first) next (read + r) cs × (T.contents new ≡ T.contents first ++ all_code_units T.form cs) × (T.room new + total_unit_count T.form cs ≡ T.room first)
+      → (cs : List ℕ) × Going T.form before source last (T.room first) next (read + r) cs
+      × (T.contents new ≡ T.contents first ++ all_code_units T.form cs) × (T.room new + total_unit_count T.form cs ≡ T.room first)
   ahead_going before source last now next read scalars r first old new going e room reads =
       let ds : List ℕ = reads.writes.scalars in
       let rest : List ℕ = drop read source in

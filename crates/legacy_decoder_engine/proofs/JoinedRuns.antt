@@ -7,21 +7,23 @@ use Rattle.legacy_base.specs.declared.destination.Destination.{Ghosts}
 use Rattle.legacy_base.specs.EncodingForm.{total_unit_count}
 use Rattle.legacy_base.specs.Grammar.{Grammar}
 use Rattle.legacy_base.specs.States.{DecoderState, new_state}
-use Rattle.legacy_decoder_engine.specs.Ahead.{Writes, WritesTo, ReadsTo, ReadsAhead}
-use Rattle.legacy_decoder_engine.proofs.AheadRuns.{reads_nothing}
+use Rattle.legacy_decoder_engine.specs.Ahead.{IsIdle, Writes, WritesTo, ReadsTo, ReadsAhead}
+use Rattle.legacy_decoder_engine.proofs.AheadRuns.{reads_nothing, with_empty}
 use Rattle.legacy_decoder_engine.proofs.CallUnderWay.{same_rooms, both_rooms}
 use Rattle.legacy_decoder_engine.proofs.WrittenRuns.{writes_then}
 
 module _ {D : Type 0} {T : Ghosts D} {source : List ℕ} {old mid new : D} {r s : ℕ} where
   -- a run, and then a run behind it
-  pub reads_then : {first next last : DecoderState} → ReadsTo T first next source r old mid → ReadsTo T next last (take (length source - r) (drop r source)) s mid new → ReadsTo T first last source (r + s) old new
+  pub reads_then : {first next last : DecoderState} → ReadsTo T first next source r old mid → ReadsTo T next last (take (length source - r) (drop r source)) s mid new
+      → ReadsTo T first last source (r + s) old new
   reads_then {first} {next} {last} a b =
       let n : ℕ = length source - r in
       let l = length-take n (drop r source) in
       let d = length-drop r source in
       let w = b.within in
       let low : s ≤ n = omega arith in
-      let place : take (r + s) source ≡ take r source ++ take s (take (length source - r) (drop r source)) = take-add r s source ∙ ap (λ bytes. take r source ++ bytes) (sym (take-take s n (drop r source) low)) in
+      let place : take (r + s) source ≡ take r source ++ take s (take (length source - r) (drop r source))
+      = take-add r s source ∙ ap (λ bytes. take r source ++ bytes) (sym (take-take s n (drop r source) low)) in
       record {
         within = let v = a.within in omega arith;
         idle = λ h. elim (cases_lt 0 r) [
@@ -51,6 +53,11 @@ module _ {D : Type 0} {T : Ghosts D} {source : List ℕ} {old mid new : D} {r s 
   -- the same in one state
   pub reads_more : {state : DecoderState} → ReadsAhead T state source r old mid → ReadsAhead T state (take (length source - r) (drop r source)) s mid new → ReadsAhead T state source (r + s) old new
   reads_more a b = reads_then a b
+
+-- what a decoder reads that holds nothing back
+pub reads_idle : {D : Type 0} {T : Ghosts D} {state : DecoderState} {source : List ℕ} {old new : D} {r : ℕ} → IsIdle state → ReadsAhead T (new_state state.grammar) source r old new
+    → ReadsAhead T state source r old new
+reads_idle {D} {T} {state} {source} {old} {new} {r} idle reads = subst (λ s. ReadsAhead T s source r old new) (sym (with_empty state idle.empty)) reads
 
 -- what was read and written, with the room that it left
 pub reads_written : {D : Type 0} {T : Ghosts D} {g : Grammar} {source : List ℕ} {old new : D} {r : ℕ} → r ≤ length source → Writes T g (take r source) old new → 3 ≤ T.room new → 4 ≤ T.room old

@@ -52,6 +52,10 @@ pub runs_ascii : (g : Grammar) → HasAscii g → (xs : List ℕ) → IsAscii xs
 runs_ascii g law [] h = runs_none g
 runs_ascii g law (x ∷ xs) h = runs_more g (x ∷ []) xs (x ∷ []) xs (law x (h 0)) (runs_ascii g law xs (λ i. h (suc i)))
 
+-- a scalar that is an ASCII byte
+pub runs_byte : {g : Grammar} → HasAscii g → (b c : ℕ) → b < 128 → c ≡ b → Runs g (b ∷ []) (c ∷ [])
+runs_byte {g} law b c below e = subst (λ x. Runs g (b ∷ []) (x ∷ [])) (sym e) (law b below)
+
 pub code_units_ascii : (form : EncodingForm) (c : ℕ) → c < 128 → code_units form c ≡ c ∷ []
 code_units_ascii Utf8 c h = encode_1 c h
 code_units_ascii Utf16 c h = utf16_1 c (omega arith)
@@ -161,7 +165,8 @@ module _ {D : Type 0} (T : Ghosts D) where
     writes_run src at r a b = subst (λ l. Writes T g l x z) (sym (take-add at r src)) (writes_then a (subst (λ l. Writes T g (take r l) y z) (rest_of src at) b))
 
   -- ASCII bytes that were copied
-  pub writes_ascii : (g : Grammar) (old new : D) (bytes : List ℕ) → HasAscii g → IsAscii bytes → T.contents new ≡ T.contents old ++ bytes → T.room new + length bytes ≡ T.room old → T.loan new ≡ T.loan old
+  pub writes_ascii : (g : Grammar) (old new : D) (bytes : List ℕ) → HasAscii g → IsAscii bytes → T.contents new ≡ T.contents old ++ bytes
+      → T.room new + length bytes ≡ T.room old → T.loan new ≡ T.loan old
       → Writes T g bytes old new
   writes_ascii g old new bytes law ascii contents room loan =
       let same = all_code_units_ascii T.form bytes ascii in

@@ -99,7 +99,8 @@ module _ {D : Type 0} {T : Ghosts D} where
       subst (λ m. ReadsTo T (run_state jis0208 first) (run_state jis0208 m) source (at + (3 + read)) old new) (sym is) (reads_then runs (reads_escape jis0208 mode e S mid new read has some run))
 
   -- runs, behind which nothing was read
-  pub reads_end : {before after other : DecoderState} {source behind : List ℕ} {old mid new : D} {at read : ℕ} → read ≡ 0 → ReadsTo T before after source at old mid → ReadsAhead T other behind read mid new
+  pub reads_end : {before after other : DecoderState} {source behind : List ℕ} {old mid new : D} {at read : ℕ} → read ≡ 0 → ReadsTo T before after source at old mid
+      → ReadsAhead T other behind read mid new
       → ReadsTo T before after source at old new
   reads_end {mid = mid} none runs reads =
       let nothing = reads_nothing reads none in

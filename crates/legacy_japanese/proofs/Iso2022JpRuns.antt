@@ -47,7 +47,8 @@ plain_runs jis0208 b h = record {
 
 plain_bytes : (jis0208 : List ℕ) (bytes : List ℕ) → All IsPlain bytes → Runs (iso_2022_jp jis0208 ascii) bytes bytes
 plain_bytes jis0208 [] h = runs_none (iso_2022_jp jis0208 ascii)
-plain_bytes jis0208 (b ∷ bytes) h = runs_more (iso_2022_jp jis0208 ascii) (b ∷ []) bytes (b ∷ []) bytes (plain_runs jis0208 b (h 0 0 (omega arith))) (plain_bytes jis0208 bytes (λ i y l. h (suc i) y (omega arith)))
+plain_bytes jis0208 (b ∷ bytes) h = runs_more (iso_2022_jp jis0208 ascii) (b ∷ []) bytes (b ∷ []) bytes
+    (plain_runs jis0208 b (h 0 0 (omega arith))) (plain_bytes jis0208 bytes (λ i y l. h (suc i) y (omega arith)))
 
 -- ---- a pair
 
@@ -60,7 +61,8 @@ unfolding events_of iso_2022_jp_front
 pair_run jis0208 a b c low high low' high' narrow scalar is = (
   narrow,
   record {
-    events = λ more. step_two jis0208 two_byte a b more (reads 2 (c ∷ [])) (ne_eqb a esc (λ e. omega arith)) (ne_eqb b esc (λ e. omega arith)) (rw (in_range a low high, in_range b low' high', is) refl) refl;
+    events = λ more. step_two jis0208 two_byte a b more (reads 2 (c ∷ [])) (ne_eqb a esc (λ e. omega arith)) (ne_eqb b esc (λ e. omega arith))
+        (rw (in_range a low high, in_range b low' high', is) refl) refl;
     scalar = All-cons IsScalar c [] scalar (All-nil IsScalar);
     lowers = λ query n.
         room-falls query jis0208 TwoByte TwoByte (Begun Nothing) (Begun Nothing) (n + 2) n 1 (total_unit_count (query_form query) (c ∷ [])) (omega arith)
@@ -109,7 +111,8 @@ plain_at source count at within plain h =
     subst IsPlain (get_or-take count source at 0 h) (All-get_or IsPlain (take count source) at 0 (omega arith) plain)
 
 -- its code units, one for a byte
-pub plain_units : (form : EncodingForm) (source : List ℕ) (count at : ℕ) → count ≤ length source → All IsPlain (take count source) → at < count → code_units form (get_or source at 0) ≡ get_or source at 0 ∷ []
+pub plain_units : (form : EncodingForm) (source : List ℕ) (count at : ℕ) → count ≤ length source → All IsPlain (take count source) → at < count
+    → code_units form (get_or source at 0) ≡ get_or source at 0 ∷ []
 plain_units form source count at within plain h = code_units_ascii form (get_or source at 0) ((plain_at source count at within plain h).0)
 
 are_ascii : (bytes : List ℕ) → All IsPlain bytes → IsAscii bytes

@@ -80,7 +80,8 @@ block_runs be source block (suc r) within room narrow ascii =
     (runs_more (utf16 be) (take (2 * r) source) (a ∷ b ∷ []) (take r block) (u ∷ []) before (unit_runs be a b u (narrow r (omega arith) low) low)))
 
 -- a block of which so many units were written
-pub reads_block : {D : Type 0} (T : Ghosts D) (be : Bool) (source block : List ℕ) (old new : D) (r : ℕ) → 32 ≤ length source → length block ≡ 16 → HasAsciiUnits be source block 16 → r ≤ length block → IsAscii (take r block)
+pub reads_block : {D : Type 0} (T : Ghosts D) (be : Bool) (source block : List ℕ) (old new : D) (r : ℕ)
+    → 32 ≤ length source → length block ≡ 16 → HasAsciiUnits be source block 16 → r ≤ length block → IsAscii (take r block)
     → T.contents new ≡ T.contents old ++ take r block → T.room new + r ≡ T.room old → T.loan new ≡ T.loan old → 19 ≤ T.room old → ReadsAhead T (new_state (utf16 be)) source (2 * r) old new
 reads_block T be source block old new r within long narrow count ascii contents room loan enough =
     let all = All-from_ascii (take r block) ascii in
@@ -102,11 +103,14 @@ pub below_scalar : (c : ℕ) → c < 0x800 → IsScalar c
 below_scalar c h = search rules
 
 -- one more unit is written
-pub writes_unit : {D : Type 0} (T : Ghosts D) (be : Bool) (source : List ℕ) {old mid new : D} (at c : ℕ) → ((k : ℕ) → IsByte (get_or source k 0)) → 2 * at + 1 < length source → Writes T (utf16 be) (take (2 * at) source) old mid
-    → IsScalar (unit_at be source at) → c ≡ unit_at be source at → T.contents new ≡ T.contents mid ++ code_units T.form c → T.room new + length (code_units T.form c) ≡ T.room mid → T.loan new ≡ T.loan mid
+pub writes_unit : {D : Type 0} (T : Ghosts D) (be : Bool) (source : List ℕ) {old mid new : D} (at c : ℕ) → ((k : ℕ) → IsByte (get_or source k 0)) → 2 * at + 1 < length source
+    → Writes T (utf16 be) (take (2 * at) source) old mid
+    → IsScalar (unit_at be source at) → c ≡ unit_at be source at → T.contents new ≡ T.contents mid ++ code_units T.form c
+    → T.room new + length (code_units T.form c) ≡ T.room mid → T.loan new ≡ T.loan mid
     → Writes T (utf16 be) (take (2 * (at + 1)) source) old new
 writes_unit T be source at c bytes within before scalar is contents room loan =
     let place : 2 * (at + 1) ≡ 2 * at + 2 = omega arith in
     let a : ℕ = get_or source (2 * at) 0 in
     let b : ℕ = get_or source (2 * at + 1) 0 in
-    rw place (writes_two T source (2 * at) c within before (subst (λ x. Runs (utf16 be) (a ∷ b ∷ []) (x ∷ [])) (sym is) ((unit_pair be a b (bytes (2 * at)) (bytes (2 * at + 1)) scalar).1)) contents room loan)
+    let run = subst (λ x. Runs (utf16 be) (a ∷ b ∷ []) (x ∷ [])) (sym is) ((unit_pair be a b (bytes (2 * at)) (bytes (2 * at + 1)) scalar).1) in
+    rw place (writes_two T source (2 * at) c within before run contents room loan)

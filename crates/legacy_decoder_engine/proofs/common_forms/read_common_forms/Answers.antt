@@ -1,6 +1,4 @@
-use Rattle.std.proofs.Common.{sym, subst}
-use Rattle.legacy_decoder_engine.specs.Ahead.{ReadsAhead}
-use Rattle.legacy_decoder_engine.proofs.AheadRuns.{with_empty}
+use Rattle.legacy_decoder_engine.proofs.JoinedRuns.{reads_idle}
 use Rattle.legacy_decoder_engine.proofs.WrittenRuns.{reads_none}
 use Rattle.legacy_decoder_engine.proofs.common_forms.read_common_forms.Goals as goal
 
@@ -8,9 +6,7 @@ pub read_blocks-requires : goal.read_blocks-requires
 read_blocks-requires g c = (c.is_idle.ensures c.if-is_idle.true).ascii
 
 pub returns-then-is_idle : goal.returns-then-is_idle
-returns-then-is_idle g c =
-    let state = g.D.CommonForms.state c.args.decoder.now in
-    subst (λ s. ReadsAhead g.T.Destination s c.args.src.now c.read_blocks.result c.args.dst.now c.read_blocks.new.dst) (sym (with_empty state ((c.is_idle.ensures c.if-is_idle.true).empty))) c.read_blocks.ensures
+returns-then-is_idle g c = reads_idle (c.is_idle.ensures c.if-is_idle.true) c.read_blocks.ensures
 
 pub returns-else-is_idle : goal.returns-else-is_idle
 returns-else-is_idle g c = reads_none g.T.Destination (g.D.CommonForms.state c.args.decoder.now) c.args.src.now c.args.dst.now

@@ -21,11 +21,13 @@ loop-at-preserved g c =
     let i = c.loop-at.invariant in
     let p = c.put.ensures in
     let front = plain_front src c.min-most.result c.plain_count-count.result e.within e.plain in
-    let units : code_units T.form c.from.result ≡ get_or src c.loop-at.at 0 ∷ [] = rw c.from.ensures (plain_units T.form src c.plain_count-count.result c.loop-at.at front.0 front.2 c.loop-at-test.true) in
+    let units : code_units T.form c.from.result ≡ get_or src c.loop-at.at 0 ∷ []
+    = rw c.from.ensures (plain_units T.form src c.plain_count-count.result c.loop-at.at front.0 front.2 c.loop-at-test.true) in
     let one = ap length units in
     let here : c.loop-at.at < length src = omega (arith, front.0, c.loop-at-test.true) in (
       omega (arith, c.loop-at-test.true),
-      p.contents ∙ ap (λ l. T.contents c.loop-at.dst ++ l) units ∙ ap (λ l. l ++ get_or src c.loop-at.at 0 ∷ []) i.1 ∙ append_assoc (T.contents c.args.dst.now) (take c.loop-at.at src) (get_or src c.loop-at.at 0 ∷ [])
+      p.contents ∙ ap (λ l. T.contents c.loop-at.dst ++ l) units ∙ ap (λ l. l ++ get_or src c.loop-at.at 0 ∷ []) i.1
+          ∙ append_assoc (T.contents c.args.dst.now) (take c.loop-at.at src) (get_or src c.loop-at.at 0 ∷ [])
           ∙ ap (λ l. T.contents c.args.dst.now ++ l) (sym (take_more src c.loop-at.at 0 here)),
       omega (arith, p.room, one, i.2),
       p.loan ∙ i.3,

@@ -1,7 +1,6 @@
-use Rattle.std.proofs.Common.{◌<◌, [], ◌∷◌, get_or, sym, subst, arith}
+use Rattle.std.proofs.Common.{◌<◌, get_or, arith}
 use Rattle.legacy_base.specs.Grammar.{gb18030}
-use Rattle.legacy_decoder_engine.specs.Ahead.{Runs}
-use Rattle.legacy_decoder_engine.proofs.WrittenRuns.{writes_none, writes_one, writes_four, four_fit, short}
+use Rattle.legacy_decoder_engine.proofs.WrittenRuns.{runs_byte, writes_none, writes_one, writes_four, four_fit, short}
 use Rattle.legacy_chinese.proofs.Gb18030Held.{ascii}
 use Rattle.legacy_chinese.proofs.gb18030.fours.FourByteFormsForms.read_forms.Goals as goal
 use Rattle.legacy_chinese.proofs.gb18030.fours.FourByteFormsForms.read_forms.Goals.{then-byte-lt128+else-next-lt128, else-byte-lt128+in-Some}
@@ -16,7 +15,7 @@ returns-then-next-lt128-clause-writes g c =
     let i = c.loop-left.invariant in
     let e = c.put.ensures in
     writes_one g.T.Destination src c.loop-left.at c.from.result (omega (arith, i.0, c.loop-left-test.true, c.requires.source)) i.2
-    (subst (λ x. Runs (gb18030 tables.flat.gb18030 tables.flat.ranges) (get_or src c.loop-left.at 0 ∷ []) (x ∷ [])) (sym c.from.ensures) (ascii tables (get_or src c.loop-left.at 0) c.if-byte-lt128.true)) e.contents e.room e.loan
+    (runs_byte (ascii tables) (get_or src c.loop-left.at 0) c.from.result c.if-byte-lt128.true c.from.ensures) e.contents e.room e.loan
 
 pub put-requires-in-Some : goal.put-requires-in-Some
 put-requires-in-Some g c = four_fit g.T.Destination.form c.in-Some.scalar _ (omega (arith, c.loop-left.invariant.1, c.requires.room, c.loop-left-test.true))
@@ -35,7 +34,7 @@ loop-left-preserved g c =
             omega (arith, i.0, c.loop-left-test.true),
             omega (arith, i.1, c.loop-left-test.true, short T.form w.from.result below, e.room),
             writes_one T src c.loop-left.at w.from.result (omega (arith, i.0, c.loop-left-test.true, c.requires.source)) i.2
-                (subst (λ x. Runs (gb18030 tables.flat.gb18030 tables.flat.ranges) (get_or src c.loop-left.at 0 ∷ []) (x ∷ [])) (sym w.from.ensures) (ascii tables (get_or src c.loop-left.at 0) w.if-byte-lt128.true))
+                (runs_byte (ascii tables) (get_or src c.loop-left.at 0) w.from.result w.if-byte-lt128.true w.from.ensures)
                 e.contents e.room e.loan,
           )
       | else-byte-lt128+in-Some w ↦

@@ -17,8 +17,9 @@ returns-then-first-lt2048 g c =
     let e = c.put_unit.ensures in
     let bytes : (k : ℕ) → IsByte (get_or src k 0) = λ k. omega (arith, c.type_inv.src k) in
     let s = short T.form unit.result (omega (arith, c.if-first-lt2048.true)) in
+    let scalar = subst IsScalar unit.ensures (below_scalar unit.result c.if-first-lt2048.true) in
     reads_written c.requires.source
-    (writes_unit T be src 0 unit.result bytes (omega (arith, c.requires.source)) (writes_none T (utf16 be) c.args.dst.now) (subst IsScalar unit.ensures (below_scalar unit.result c.if-first-lt2048.true)) unit.ensures e.contents e.room e.loan)
+    (writes_unit T be src 0 unit.result bytes (omega (arith, c.requires.source)) (writes_none T (utf16 be) c.args.dst.now) scalar unit.ensures e.contents e.room e.loan)
     (omega (arith, c.requires.room, s, e.room)) (omega (arith, c.requires.room))
 
 pub put-requires : goal.put-requires
