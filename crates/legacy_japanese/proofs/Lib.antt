@@ -9,3 +9,4 @@ pub mod Iso2022JpEnding
 pub mod Iso2022JpEscapes
 pub mod Iso2022JpFeeding
 pub mod Iso2022JpRuns
+pub mod ShiftJisRuns
