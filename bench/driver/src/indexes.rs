@@ -1,5 +1,6 @@
 //! The flat indexes, as encoding_rs has them: each pointer's bytes are decoded.
 
+use crate::ours::Range;
 use encoding_rs::{Encoding, BIG5, EUC_JP, EUC_KR, GB18030, SHIFT_JIS};
 
 /// The scalar of these bytes, or 0 where they give none, or more than one.
@@ -59,10 +60,9 @@ pub fn gb18030() -> Vec<u16> {
     })
 }
 
-/// The ranges' first pointers and first scalars. Pointer 7457 has a scalar by a rule of its own, and is
-/// inside a range of the others.
-pub fn ranges() -> (Vec<u16>, Vec<u16>) {
-    let (mut pointers, mut scalars) = (Vec::new(), Vec::new());
+/// The ranges. Pointer 7457 has a scalar by a rule of its own, and is inside a range of the others.
+pub fn ranges() -> Vec<Range> {
+    let mut ranges = Vec::new();
     let mut next = 0;
     for pointer in 0..=39419usize {
         let bytes = [
@@ -77,12 +77,11 @@ pub fn ranges() -> (Vec<u16>, Vec<u16>) {
             continue;
         }
         if found != next {
-            pointers.push(pointer as u16);
-            scalars.push(found as u16);
+            ranges.push(Range { pointer: pointer as u16, scalar: found as u16 });
         }
         next = found + 1;
     }
-    (pointers, scalars)
+    ranges
 }
 
 /// The scalars of the bytes from 80 on.

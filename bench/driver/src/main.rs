@@ -3,8 +3,10 @@
 //!
 //! Arguments: words that a line of the decoders' table must have, as `ja-text` or `Big5`, or `recode` for
 //! the program's table (none: all lines of both are made), and a number: how many times at the least each call
-//! of a decoder is timed. Or `medians` and the files of the tables of several builds, of which one table is made.
+//! of a decoder is timed. Or `agreement`: all codecs are compared and nothing is timed. Or `medians` and the files
+//! of the tables of several builds, of which one table is made.
 
+mod agreement;
 mod corpora;
 mod indexes;
 mod medians;
@@ -160,6 +162,9 @@ fn table(words: &[String], times: usize) -> Result<(), String> {
 fn main() -> Result<(), String> {
     if std::env::args().nth(1).is_some_and(|word| word == "medians") {
         return medians::table(std::env::args().skip(2));
+    }
+    if std::env::args().nth(1).is_some_and(|word| word == "agreement") {
+        return agreement::report();
     }
     let (numbers, mut words): (Vec<String>, Vec<String>) = std::env::args().skip(1).partition(|word| word.parse::<usize>().is_ok());
     let times = numbers.first().map_or(Ok(20), |number| number.parse()).map_err(|_| "not a number".to_string())?;

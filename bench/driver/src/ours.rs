@@ -1,102 +1,169 @@
-//! The decoders of the static library.
+//! The decoders of the static library, as `bench/legacy_codecs.h` declares them.
 
 use crate::indexes;
 use encoding_rs::Encoding;
 
-macro_rules! exports {
-    ($($name:ident($($index:ty),*) -> $unit:ty;)*) => {
-        extern "C" {
-            $(fn $name($(_: *const $index, _: usize,)* src: *const u8, src_len: usize, dst: *mut $unit, dst_len: usize, piece: usize, rounds: usize) -> usize;)*
+/// The numbers of the codecs, by the header's names: `build.rs` reads them there.
+mod numbers {
+    include!(concat!(env!("OUT_DIR"), "/numbers.rs"));
+}
+
+/// A slice in a struct of the header: a pointer and then a length.
+#[repr(C)]
+struct Slice<T> {
+    entries: *const T,
+    length: usize,
+}
+
+impl<T> From<&Vec<T>> for Slice<T> {
+    fn from(entries: &Vec<T>) -> Slice<T> {
+        Slice { entries: entries.as_ptr(), length: entries.len() }
+    }
+}
+
+/// `struct legacy_range`.
+#[repr(C)]
+pub struct Range {
+    pub pointer: u16,
+    pub scalar: u16,
+}
+
+/// `struct legacy_indexes`.
+#[repr(C)]
+struct IndexSlices {
+    big5: Slice<u32>,
+    euc_kr: Slice<u16>,
+    jis0208: Slice<u16>,
+    jis0212: Slice<u16>,
+    gb18030: Slice<u16>,
+    katakana: Slice<u16>,
+    ranges: Slice<Range>,
+    single_byte: Slice<u16>,
+}
+
+extern "C" {
+    fn legacy_decode_to_utf8(
+        codec: u32,
+        indexes: *const IndexSlices,
+        source: *const u8,
+        source_length: usize,
+        output: *mut u8,
+        output_length: usize,
+        piece: usize,
+        times: usize,
+    ) -> usize;
+
+    fn legacy_decode_to_utf16(
+        codec: u32,
+        indexes: *const IndexSlices,
+        source: *const u8,
+        source_length: usize,
+        output: *mut u16,
+        output_length: usize,
+        piece: usize,
+        times: usize,
+    ) -> usize;
+}
+
+/// The indexes that a codec reads by; the others are empty.
+#[derive(Default)]
+struct Indexes {
+    big5: Vec<u32>,
+    euc_kr: Vec<u16>,
+    jis0208: Vec<u16>,
+    jis0212: Vec<u16>,
+    gb18030: Vec<u16>,
+    ranges: Vec<Range>,
+    single_byte: Vec<u16>,
+}
+
+impl Indexes {
+    /// The indexes of this codec, and those of this encoding where it is a single-byte one.
+    fn of(codec: u32, encoding: &'static Encoding) -> Indexes {
+        let none = Indexes::default();
+        match codec {
+            numbers::LEGACY_GBK | numbers::LEGACY_GB18030 => {
+                Indexes { gb18030: indexes::gb18030(), ranges: indexes::ranges(), ..none }
+            }
+            numbers::LEGACY_BIG5 => Indexes { big5: indexes::big5(), ..none },
+            numbers::LEGACY_EUC_JP => {
+                Indexes { jis0208: indexes::jis0208(), jis0212: indexes::jis0212(), ..none }
+            }
+            numbers::LEGACY_ISO_2022_JP | numbers::LEGACY_SHIFT_JIS => {
+                Indexes { jis0208: indexes::jis0208(), ..none }
+            }
+            numbers::LEGACY_EUC_KR => Indexes { euc_kr: indexes::euc_kr(), ..none },
+            numbers::LEGACY_SINGLE_BYTE => Indexes { single_byte: indexes::single_byte(encoding), ..none },
+            _ => none,
         }
-    };
+    }
+
+    fn slices(&self) -> IndexSlices {
+        IndexSlices {
+            big5: Slice::from(&self.big5),
+            euc_kr: Slice::from(&self.euc_kr),
+            jis0208: Slice::from(&self.jis0208),
+            jis0212: Slice::from(&self.jis0212),
+            gb18030: Slice::from(&self.gb18030),
+            katakana: Slice::from(&Vec::new()),
+            ranges: Slice::from(&self.ranges),
+            single_byte: Slice::from(&self.single_byte),
+        }
+    }
 }
 
-exports! {
-    legacy_big5_to_utf8(u32) -> u8;
-    legacy_big5_to_utf16(u32) -> u16;
-    legacy_euc_kr_to_utf8(u16) -> u8;
-    legacy_euc_kr_to_utf16(u16) -> u16;
-    legacy_shift_jis_to_utf8(u16) -> u8;
-    legacy_shift_jis_to_utf16(u16) -> u16;
-    legacy_euc_jp_to_utf8(u16, u16) -> u8;
-    legacy_euc_jp_to_utf16(u16, u16) -> u16;
-    legacy_gb18030_to_utf8(u16, u16, u16) -> u8;
-    legacy_gb18030_to_utf16(u16, u16, u16) -> u16;
-    legacy_iso_2022_jp_to_utf8(u16) -> u8;
-    legacy_iso_2022_jp_to_utf16(u16) -> u16;
-    legacy_single_byte_to_utf8(u16) -> u8;
-    legacy_single_byte_to_utf16(u16) -> u16;
-    legacy_user_defined_to_utf8() -> u8;
-    legacy_user_defined_to_utf16() -> u16;
-    legacy_utf16le_to_utf8() -> u8;
-    legacy_utf16le_to_utf16() -> u16;
-    legacy_utf16be_to_utf8() -> u8;
-    legacy_utf16be_to_utf16() -> u16;
-}
-
-/// A decoder and the indexes that it reads by.
-pub enum Ours {
-    Big5(Vec<u32>),
-    EucKr(Vec<u16>),
-    ShiftJis(Vec<u16>),
-    EucJp(Vec<u16>, Vec<u16>),
-    Gb18030(Vec<u16>, (Vec<u16>, Vec<u16>)),
-    Iso2022Jp(Vec<u16>),
-    SingleByte(Vec<u16>),
-    UserDefined,
-    Utf16Le,
-    Utf16Be,
-}
-
-macro_rules! call {
-    ($name:ident, [$($index:expr),*], $src:expr, $dst:expr, $piece:expr, $rounds:expr) => {
-        unsafe { $name($($index.as_ptr(), $index.len(),)* $src.as_ptr(), $src.len(), $dst.as_mut_ptr(), $dst.len(), $piece, $rounds) }
-    };
+/// A codec, by its number, and its indexes.
+pub struct Ours {
+    codec: u32,
+    indexes: Indexes,
 }
 
 impl Ours {
     pub fn new(encoding: &'static Encoding) -> Ours {
-        match encoding.name() {
-            "Big5" => Ours::Big5(indexes::big5()),
-            "EUC-KR" => Ours::EucKr(indexes::euc_kr()),
-            "Shift_JIS" => Ours::ShiftJis(indexes::jis0208()),
-            "EUC-JP" => Ours::EucJp(indexes::jis0208(), indexes::jis0212()),
-            "GBK" | "gb18030" => Ours::Gb18030(indexes::gb18030(), indexes::ranges()),
-            "ISO-2022-JP" => Ours::Iso2022Jp(indexes::jis0208()),
-            "x-user-defined" => Ours::UserDefined,
-            "UTF-16LE" => Ours::Utf16Le,
-            "UTF-16BE" => Ours::Utf16Be,
-            _ => Ours::SingleByte(indexes::single_byte(encoding)),
+        let codec = match encoding.name() {
+            "GBK" => numbers::LEGACY_GBK,
+            "gb18030" => numbers::LEGACY_GB18030,
+            "Big5" => numbers::LEGACY_BIG5,
+            "EUC-JP" => numbers::LEGACY_EUC_JP,
+            "ISO-2022-JP" => numbers::LEGACY_ISO_2022_JP,
+            "Shift_JIS" => numbers::LEGACY_SHIFT_JIS,
+            "EUC-KR" => numbers::LEGACY_EUC_KR,
+            "replacement" => numbers::LEGACY_REPLACEMENT,
+            "UTF-16BE" => numbers::LEGACY_UTF_16BE,
+            "UTF-16LE" => numbers::LEGACY_UTF_16LE,
+            "x-user-defined" => numbers::LEGACY_X_USER_DEFINED,
+            _ => numbers::LEGACY_SINGLE_BYTE,
+        };
+        Ours { codec, indexes: Indexes::of(codec, encoding) }
+    }
+
+    pub fn to_utf8(&self, source: &[u8], output: &mut [u8], piece: usize, times: usize) -> usize {
+        unsafe {
+            legacy_decode_to_utf8(
+                self.codec,
+                &self.indexes.slices(),
+                source.as_ptr(),
+                source.len(),
+                output.as_mut_ptr(),
+                output.len(),
+                piece,
+                times,
+            )
         }
     }
 
-    pub fn to_utf8(&self, src: &[u8], dst: &mut [u8], piece: usize, rounds: usize) -> usize {
-        match self {
-            Ours::Big5(index) => call!(legacy_big5_to_utf8, [index], src, dst, piece, rounds),
-            Ours::EucKr(index) => call!(legacy_euc_kr_to_utf8, [index], src, dst, piece, rounds),
-            Ours::ShiftJis(index) => call!(legacy_shift_jis_to_utf8, [index], src, dst, piece, rounds),
-            Ours::EucJp(first, second) => call!(legacy_euc_jp_to_utf8, [first, second], src, dst, piece, rounds),
-            Ours::Gb18030(index, (pointers, scalars)) => call!(legacy_gb18030_to_utf8, [index, pointers, scalars], src, dst, piece, rounds),
-            Ours::Iso2022Jp(index) => call!(legacy_iso_2022_jp_to_utf8, [index], src, dst, piece, rounds),
-            Ours::SingleByte(index) => call!(legacy_single_byte_to_utf8, [index], src, dst, piece, rounds),
-            Ours::UserDefined => call!(legacy_user_defined_to_utf8, [], src, dst, piece, rounds),
-            Ours::Utf16Le => call!(legacy_utf16le_to_utf8, [], src, dst, piece, rounds),
-            Ours::Utf16Be => call!(legacy_utf16be_to_utf8, [], src, dst, piece, rounds),
-        }
-    }
-
-    pub fn to_utf16(&self, src: &[u8], dst: &mut [u16], piece: usize, rounds: usize) -> usize {
-        match self {
-            Ours::Big5(index) => call!(legacy_big5_to_utf16, [index], src, dst, piece, rounds),
-            Ours::EucKr(index) => call!(legacy_euc_kr_to_utf16, [index], src, dst, piece, rounds),
-            Ours::ShiftJis(index) => call!(legacy_shift_jis_to_utf16, [index], src, dst, piece, rounds),
-            Ours::EucJp(first, second) => call!(legacy_euc_jp_to_utf16, [first, second], src, dst, piece, rounds),
-            Ours::Gb18030(index, (pointers, scalars)) => call!(legacy_gb18030_to_utf16, [index, pointers, scalars], src, dst, piece, rounds),
-            Ours::Iso2022Jp(index) => call!(legacy_iso_2022_jp_to_utf16, [index], src, dst, piece, rounds),
-            Ours::SingleByte(index) => call!(legacy_single_byte_to_utf16, [index], src, dst, piece, rounds),
-            Ours::UserDefined => call!(legacy_user_defined_to_utf16, [], src, dst, piece, rounds),
-            Ours::Utf16Le => call!(legacy_utf16le_to_utf16, [], src, dst, piece, rounds),
-            Ours::Utf16Be => call!(legacy_utf16be_to_utf16, [], src, dst, piece, rounds),
+    pub fn to_utf16(&self, source: &[u8], output: &mut [u16], piece: usize, times: usize) -> usize {
+        unsafe {
+            legacy_decode_to_utf16(
+                self.codec,
+                &self.indexes.slices(),
+                source.as_ptr(),
+                source.len(),
+                output.as_mut_ptr(),
+                output.len(),
+                piece,
+                times,
+            )
         }
     }
 }

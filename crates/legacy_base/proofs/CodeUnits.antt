@@ -1,5 +1,5 @@
 -- The bytes of a scalar, by its range.
-use Rattle.std.proofs.Common.{◌≡◌, ℕ, ◌+◌, ◌-◌, ◌/◌, ◌%◌, ◌≤◌, ◌<◌, [], ◌∷◌, length, refl, arith}
+use Rattle.std.proofs.Common.{◌≡◌, ℕ, ◌+◌, ◌-◌, ◌/◌, ◌%◌, ◌≤◌, ◌<◌, [], ◌∷◌, length, refl, arith, append_assoc}
 use Rattle.std.proofs.lemmas.Bool.{lt-ltb, le-ltb}
 use lib.Utf8.{encode}
 use Rattle.std.proofs.lemmas.Bool.{cases_lt}
@@ -31,7 +31,7 @@ utf16_2 c a = rw (le-ltb c 65536 a) refl
 
 pub ruleset encoding_utf16 = (utf16_1, utf16_2)
 
-pub ruleset encoding = (encode_1, encode_2, encode_3, encode_4)
+pub ruleset encoding = (encode_1, encode_2, encode_3, encode_4, append_assoc)
 
 -- a scalar up to U+FFFF fits into the room for one
 pub length-code_units-bmp : (form : EncodingForm) (c : ℕ) → c < 65536 → length (code_units form c) ≤ bmp_room form

@@ -1,182 +1,206 @@
--- Each front of each codec has one to four bytes of the list, so that every list has its events.
-use Rattle.std.proofs.Common.{ℕ, suc, ◌+◌, ◌≤◌, ◌<◌, List, [], ◌∷◌, Bool, true, false, cond, length, ◌||◌, ◌==◌, not, arith}
+-- Each front of each codec has one to four bytes of the list, so that every list has its events. It gives one scalar or two,
+-- or is malformed.
+use Rattle.std.proofs.Common.{◌≡◌, ℕ, suc, ◌+◌, ◌-◌, ◌≤◌, ◌<◌, List, [], ◌∷◌, Bool, true, cond, length, ◌||◌, ◌==◌, Option, Some, None, option_to_list, refl, arith}
 use Rattle.std.specs.Option.{option_map_or}
 use Rattle.std.specs.Int.{is_in_range}
-use Rattle.std.specs.Char.{is_ascii, is_ascii_digit}
-use Rattle.legacy_base.specs.Fronts.{Front, reads, malformed, reads_or, trail_rule}
+use Rattle.std.specs.Char.{IsScalar, is_ascii, is_ascii_digit}
+use Rattle.std.proofs.lemmas.Bool.{cond_both}
+use Rattle.std.proofs.lemmas.Bool.Decides.{nat_tests}
+use Rattle.std.proofs.lemmas.List.Elements.{All-nil, All-cons}
+use Rattle.legacy_base.specs.Indexes.{idx, range}
+use Rattle.legacy_base.specs.Unicode.{IsByte, AreScalars, is_katakana_byte, katakana_of}
+use Rattle.legacy_base.specs.Fronts.{Front, reads, malformed, reads_or, trail_rule, trail_front}
 use Rattle.legacy_base.specs.Laws.{IsFrontOf}
+use Rattle.legacy_base.specs.Profile.{is_lead}
 use Rattle.legacy_base.specs.SingleByte.{single_byte_front}
 use Rattle.legacy_base.specs.UserDefined.{user_defined_front}
 use Rattle.legacy_base.specs.Big5.{big5_pointer, big5_scalars, big5_pair, big5_front}
-use Rattle.legacy_base.specs.EucKr.{euc_kr_scalars, euc_kr_pair, euc_kr_front}
+use Rattle.legacy_base.specs.EucKr.{euc_kr_pair, euc_kr_front}
 use Rattle.legacy_base.specs.ShiftJis.{is_shift_jis_lead, shift_jis_pointer, shift_jis_scalars, shift_jis_pair, shift_jis_front}
-use Rattle.legacy_base.specs.EucJp.{euc_jp_scalars, euc_jp_katakana, euc_jp_third, euc_jp_second, euc_jp_pair, euc_jp_front}
-use Rattle.legacy_base.specs.Gb18030.{gb18030_scalars, gb18030_fourth, gb18030_third, gb18030_second, gb18030_front}
-use Rattle.legacy_base.specs.States.{is_lead}
-use Rattle.legacy_base.specs.Iso2022Jp.{Mode, ascii, roman, katakana, two_byte, iso_2022_jp_front}
+use Rattle.legacy_base.specs.EucJp.{is_euc_jp_lead, euc_jp_scalars, euc_jp_katakana, euc_jp_third, euc_jp_second, euc_jp_pair, euc_jp_front}
+use Rattle.legacy_base.specs.Gb18030.{gb18030_scalars, gb18030_range_pointer, gb18030_fourth, gb18030_third, gb18030_second, gb18030_front}
+use Rattle.legacy_base.proofs.Accepted.{idx-all}
 
-front_of-cond : (size : ℕ) (t : Bool) (f g : Front) → IsFrontOf size f → IsFrontOf size g → IsFrontOf size (cond t f g)
-front_of-cond size true f g h k = h
-front_of-cond size false f g h k = k
+-- ---- scalars by a test
 
-front_of-reads : (size n : ℕ) (scalars : List ℕ) → 0 < n → n ≤ size → n ≤ 4 → IsFrontOf size (reads n scalars)
-front_of-reads size n scalars some within short = record { some = some; within = within; short = short }
+is_ascii-scalar : (b : ℕ) → is_ascii b ≡ true → IsScalar b
+is_ascii-scalar b h = grind (arith, nat_tests)
 
-front_of-malformed : (size n : ℕ) → 0 < n → n ≤ size → n ≤ 4 → IsFrontOf size (malformed n)
-front_of-malformed size n some within short = record { some = some; within = within; short = short }
+katakana-scalar : (t : ℕ) → is_katakana_byte t ≡ true → IsScalar (katakana_of t)
+katakana-scalar t h = grind (arith, nat_tests)
 
-front_of-reads_or : (size n : ℕ) (scalars : List ℕ) (other : Front) → 0 < n → n ≤ size → n ≤ 4 → IsFrontOf size other → IsFrontOf size (reads_or n scalars other)
-front_of-reads_or size n [] other some within short h = h
-front_of-reads_or size n (c ∷ scalars) other some within short h = front_of-reads size n (c ∷ scalars) some within short
+user_defined-scalar : (b : ℕ) → IsByte b → IsScalar (0xF780 + (b - 0x80))
+user_defined-scalar b h = grind (arith, nat_tests)
 
-front_of-trail_rule : (size n t : ℕ) → 0 < n → n < size → n < 4 → IsFrontOf size (trail_rule n t)
-front_of-trail_rule size n t some within short =
-    front_of-cond size (is_ascii t) (malformed n) (malformed (n + 1))
-    (front_of-malformed size n some (omega arith) (omega arith))
-    (front_of-malformed size (n + 1) (omega arith) (omega arith) (omega arith))
+shift_jis-private : (p : ℕ) → is_in_range 8836 10715 p ≡ true → IsScalar (0xE000 + (p - 8836))
+shift_jis-private p h = grind (arith, nat_tests)
 
--- a byte by itself
-byte : (rest : List ℕ) (c : ℕ) → IsFrontOf (suc (length rest)) (reads 1 (c ∷ []))
-byte rest c = front_of-reads (suc (length rest)) 1 (c ∷ []) (omega arith) (omega arith) (omega arith)
+shift_jis-single : (b : ℕ) → (is_ascii b || b == 0x80) ≡ true → IsScalar b
+shift_jis-single b h = grind (arith, nat_tests)
 
-bad : (rest : List ℕ) → IsFrontOf (suc (length rest)) (malformed 1)
-bad rest = front_of-malformed (suc (length rest)) 1 (omega arith) (omega arith) (omega arith)
+-- ---- what a front gives
 
--- a lead and a trail
-pair_or : (rest : List ℕ) (t : ℕ) (scalars : List ℕ) → IsFrontOf (suc (suc (length rest))) (reads_or 2 scalars (trail_rule 1 t))
-pair_or rest t scalars =
-    front_of-reads_or (suc (suc (length rest))) 2 scalars (trail_rule 1 t) (omega arith) (omega arith) (omega arith)
-    (front_of-trail_rule (suc (suc (length rest))) 1 t (omega arith) (omega arith) (omega arith))
+-- scalars that a front may give: two at most, and Unicode scalar values where it is checked
+abbrev MayGive : Type 0 → List ℕ → Type 0
+MayGive P scalars = (length scalars ≤ 2) × (P → AreScalars scalars)
 
-pub single_byte_front-of : (table : List ℕ) (b : ℕ) (rest : List ℕ) → IsFrontOf (suc (length rest)) (single_byte_front table b rest)
-unfolding single_byte_front
-single_byte_front-of table b rest =
-    front_of-cond _ (is_ascii b) _ _ (byte rest b)
-    (front_of-reads_or _ 1 _ _ (omega arith) (omega arith) (omega arith) (bad rest))
+module _ {P : Type 0} where
+  give-none : MayGive P []
+  give-none = (omega arith, λ p. All-nil IsScalar)
 
-pub user_defined_front-of : (b : ℕ) (rest : List ℕ) → IsFrontOf (suc (length rest)) (user_defined_front b rest)
-unfolding user_defined_front
-user_defined_front-of b rest = front_of-cond _ (is_ascii b) _ _ (byte rest b) (byte rest _)
+  give-one : (c : ℕ) → (P → IsScalar c) → MayGive P (c ∷ [])
+  give-one c h = (omega arith, λ p. All-cons IsScalar c [] (h p) (All-nil IsScalar))
 
-big5_pair-of : (index : List ℕ) (lead : ℕ) (rest : List ℕ) → IsFrontOf (suc (length rest)) (big5_pair index lead rest)
-unfolding big5_pair
-big5_pair-of index lead [] = bad []
-big5_pair-of index lead (t ∷ rest) = pair_or rest t (option_map_or (big5_scalars index) (big5_pointer lead t) [])
+  give-two : (c d : ℕ) → IsScalar c → IsScalar d → MayGive P (c ∷ d ∷ [])
+  give-two c d h k = (omega arith, λ p. All-cons IsScalar c (d ∷ []) h (All-cons IsScalar d [] k (All-nil IsScalar)))
 
-pub big5_front-of : (index : List ℕ) (b : ℕ) (rest : List ℕ) → IsFrontOf (suc (length rest)) (big5_front index b rest)
-unfolding big5_front
-big5_front-of index b rest =
-    front_of-cond _ (is_ascii b) _ _ (byte rest b)
-    (front_of-cond _ (is_lead b) _ _ (big5_pair-of index b rest) (bad rest))
+  give-option : (o : Option ℕ) → ((c : ℕ) → o ≡ Some c → P → IsScalar c) → MayGive P (option_to_list o)
+  give-option None h = give-none
+  give-option (Some c) h = give-one c (h c refl)
 
-euc_kr_pair-of : (index : List ℕ) (lead : ℕ) (rest : List ℕ) → IsFrontOf (suc (length rest)) (euc_kr_pair index lead rest)
-unfolding euc_kr_pair
-euc_kr_pair-of index lead [] = bad []
-euc_kr_pair-of index lead (t ∷ rest) = pair_or rest t (euc_kr_scalars index lead t)
+  give-idx : (index : List ℕ) → (P → AreScalars index) → (p : ℕ) → MayGive P (option_to_list (idx index p))
+  give-idx index all p = give-option (idx index p) (λ c e q. idx-all IsScalar index (all q) p c e)
 
-pub euc_kr_front-of : (index : List ℕ) (b : ℕ) (rest : List ℕ) → IsFrontOf (suc (length rest)) (euc_kr_front index b rest)
-unfolding euc_kr_front
-euc_kr_front-of index b rest =
-    front_of-cond _ (is_ascii b) _ _ (byte rest b)
-    (front_of-cond _ (is_lead b) _ _ (euc_kr_pair-of index b rest) (bad rest))
+  give-cond : (t : Bool) (xs ys : List ℕ) → (t ≡ true → MayGive P xs) → MayGive P ys → MayGive P (cond t xs ys)
+  give-cond t xs ys h k = cond_both t xs ys (MayGive P) h (λ _. k)
 
-shift_jis_pair-of : (jis0208 : List ℕ) (lead : ℕ) (rest : List ℕ) → IsFrontOf (suc (length rest)) (shift_jis_pair jis0208 lead rest)
-unfolding shift_jis_pair
-shift_jis_pair-of jis0208 lead [] = bad []
-shift_jis_pair-of jis0208 lead (t ∷ rest) = pair_or rest t (option_map_or (shift_jis_scalars jis0208) (shift_jis_pointer lead t) [])
+  give-pointer : (scalars : ℕ → List ℕ) (o : Option ℕ) → ((p : ℕ) → MayGive P (scalars p)) → MayGive P (option_map_or scalars o [])
+  give-pointer scalars None h = give-none
+  give-pointer scalars (Some p) h = h p
 
-pub shift_jis_front-of : (jis0208 : List ℕ) (b : ℕ) (rest : List ℕ) → IsFrontOf (suc (length rest)) (shift_jis_front jis0208 b rest)
-unfolding shift_jis_front
-shift_jis_front-of jis0208 b rest =
-    front_of-cond _ (is_ascii b || b == 0x80) _ _ (byte rest b)
-    (front_of-cond _ (is_in_range 0xA1 0xDF b) _ _ (byte rest _)
-    (front_of-cond _ (is_shift_jis_lead b) _ _ (shift_jis_pair-of jis0208 b rest) (bad rest)))
+  -- ---- fronts by their form
 
-euc_jp_katakana-of : (rest : List ℕ) → IsFrontOf (suc (length rest)) (euc_jp_katakana rest)
-unfolding euc_jp_katakana
-euc_jp_katakana-of [] = bad []
-euc_jp_katakana-of (t ∷ rest) =
-    front_of-cond _ (is_in_range 0xA1 0xDF t) _ _
-    (front_of-reads _ 2 _ (omega arith) (omega arith) (omega arith))
-    (front_of-trail_rule _ 1 t (omega arith) (omega arith) (omega arith))
+  front_of-cond : (size : ℕ) (t : Bool) (f g : Front) → (t ≡ true → IsFrontOf size P f) → IsFrontOf size P g → IsFrontOf size P (cond t f g)
+  front_of-cond size t f g h k = cond_both t f g (IsFrontOf size P) h (λ _. k)
 
-euc_jp_third-of : (jis0212 : List ℕ) (lead : ℕ) (rest : List ℕ) → IsFrontOf (suc (suc (length rest))) (euc_jp_third jis0212 lead rest)
-unfolding euc_jp_third
-euc_jp_third-of jis0212 lead [] = front_of-malformed _ 2 (omega arith) (omega arith) (omega arith)
-euc_jp_third-of jis0212 lead (t ∷ rest) =
-    front_of-reads_or _ 3 _ _ (omega arith) (omega arith) (omega arith)
-    (front_of-trail_rule _ 2 t (omega arith) (omega arith) (omega arith))
+  front_of-malformed : (size n : ℕ) → 0 < n → n ≤ size → n ≤ 4 → IsFrontOf size P (malformed n)
+  front_of-malformed size n some within short = record { some = some; within = within; short = short; few = tt; scalars = λ p. All-nil IsScalar }
 
-euc_jp_second-of : (jis0212 : List ℕ) (rest : List ℕ) → IsFrontOf (suc (length rest)) (euc_jp_second jis0212 rest)
-unfolding euc_jp_second
-euc_jp_second-of jis0212 [] = bad []
-euc_jp_second-of jis0212 (t ∷ rest) =
-    front_of-cond _ (is_in_range 0xA1 0xFE t) _ _ (euc_jp_third-of jis0212 t rest)
-    (front_of-trail_rule _ 1 t (omega arith) (omega arith) (omega arith))
+  front_of-reads_or : (size n : ℕ) (scalars : List ℕ) (other : Front) → 0 < n → n ≤ size → n ≤ 4 → MayGive P scalars → IsFrontOf size P other →
+      IsFrontOf size P (reads_or n scalars other)
+  front_of-reads_or size n [] other some within short given h = h
+  front_of-reads_or size n (c ∷ scalars) other some within short given h =
+      record { some = some; within = within; short = short; few = (omega arith, given.0); scalars = given.1 }
 
-euc_jp_pair-of : (jis0208 : List ℕ) (lead : ℕ) (rest : List ℕ) → IsFrontOf (suc (length rest)) (euc_jp_pair jis0208 lead rest)
-unfolding euc_jp_pair
-euc_jp_pair-of jis0208 lead [] = bad []
-euc_jp_pair-of jis0208 lead (t ∷ rest) = pair_or rest t (euc_jp_scalars jis0208 lead t)
+  front_of-trail_rule : (size n t : ℕ) → 0 < n → n < size → n < 4 → IsFrontOf size P (trail_rule n t)
+  front_of-trail_rule size n t some within short =
+      front_of-cond size (is_ascii t) (malformed n) (malformed (n + 1)) (λ _. front_of-malformed size n some (omega arith) (omega arith))
+      (front_of-malformed size (n + 1) (omega arith) (omega arith) (omega arith))
 
-pub euc_jp_front-of : (jis0208 jis0212 : List ℕ) (b : ℕ) (rest : List ℕ) → IsFrontOf (suc (length rest)) (euc_jp_front jis0208 jis0212 b rest)
-unfolding euc_jp_front
-euc_jp_front-of jis0208 jis0212 b rest =
-    front_of-cond _ (is_ascii b) _ _ (byte rest b)
-    (front_of-cond _ (b == 0x8E) _ _ (euc_jp_katakana-of rest)
-    (front_of-cond _ (b == 0x8F) _ _ (euc_jp_second-of jis0212 rest)
-    (front_of-cond _ (is_in_range 0xA1 0xFE b) _ _ (euc_jp_pair-of jis0208 b rest) (bad rest))))
+  front_of-trail_front : (size n : ℕ) (scalars : ℕ → List ℕ) (rest : List ℕ) → 0 < n → n < 4 → n + length rest ≡ size → ((t : ℕ) → MayGive P (scalars t)) →
+      IsFrontOf size P (trail_front n scalars rest)
+  front_of-trail_front size n scalars [] some short all given = front_of-malformed size n some (omega arith) (omega arith)
+  front_of-trail_front size n scalars (t ∷ rest) some short all given =
+      front_of-reads_or size (n + 1) (scalars t) (trail_rule n t) (omega arith) (omega arith) (omega arith) (given t)
+      (front_of-trail_rule size n t some (omega arith) short)
 
-gb18030_fourth-of : (ranges : List (ℕ × ℕ)) (first second third : ℕ) (rest : List ℕ)
-    → IsFrontOf (suc (suc (suc (length rest)))) (gb18030_fourth ranges first second third rest)
-unfolding gb18030_fourth
-gb18030_fourth-of ranges first second third [] = front_of-malformed _ 3 (omega arith) (omega arith) (omega arith)
-gb18030_fourth-of ranges first second third (fourth ∷ rest) =
-    front_of-cond _ (is_ascii_digit fourth) _ _
-    (front_of-reads_or _ 4 _ _ (omega arith) (omega arith) (omega arith)
-    (front_of-malformed _ 4 (omega arith) (omega arith) (omega arith)))
-    (front_of-malformed _ 1 (omega arith) (omega arith) (omega arith))
+  bad : (rest : List ℕ) → IsFrontOf (suc (length rest)) P (malformed 1)
+  bad rest = front_of-malformed (suc (length rest)) 1 (omega arith) (omega arith) (omega arith)
 
-gb18030_third-of : (ranges : List (ℕ × ℕ)) (first second : ℕ) (rest : List ℕ)
-    → IsFrontOf (suc (suc (length rest))) (gb18030_third ranges first second rest)
-unfolding gb18030_third
-gb18030_third-of ranges first second [] = front_of-malformed _ 2 (omega arith) (omega arith) (omega arith)
-gb18030_third-of ranges first second (third ∷ rest) =
-    front_of-cond _ (is_lead third) _ _ (gb18030_fourth-of ranges first second third rest)
-    (front_of-malformed _ 1 (omega arith) (omega arith) (omega arith))
+  -- a byte by itself
+  byte : (rest : List ℕ) (c : ℕ) → (P → IsScalar c) → IsFrontOf (suc (length rest)) P (reads 1 (c ∷ []))
+  byte rest c h = front_of-reads_or _ 1 (c ∷ []) (malformed 1) (omega arith) (omega arith) (omega arith) (give-one c h) (bad rest)
 
-gb18030_second-of : (index : List ℕ) (ranges : List (ℕ × ℕ)) (first : ℕ) (rest : List ℕ)
-    → IsFrontOf (suc (length rest)) (gb18030_second index ranges first rest)
-unfolding gb18030_second
-gb18030_second-of index ranges first [] = bad []
-gb18030_second-of index ranges first (second ∷ rest) =
-    front_of-cond _ (is_ascii_digit second) _ _ (gb18030_third-of ranges first second rest)
-    (pair_or rest second (gb18030_scalars index first second))
+  -- ASCII is itself
+  ascii_or : (b : ℕ) (rest : List ℕ) (other : Front) → IsFrontOf (suc (length rest)) P other → IsFrontOf (suc (length rest)) P (cond (is_ascii b) (reads 1 (b ∷ [])) other)
+  ascii_or b rest other h = front_of-cond _ (is_ascii b) _ _ (λ e. byte rest b (λ _. is_ascii-scalar b e)) h
 
-pub gb18030_front-of : (index : List ℕ) (ranges : List (ℕ × ℕ)) (b : ℕ) (rest : List ℕ)
-    → IsFrontOf (suc (length rest)) (gb18030_front index ranges b rest)
-unfolding gb18030_front
-gb18030_front-of index ranges b rest =
-    front_of-cond _ (is_ascii b) _ _ (byte rest b)
-    (front_of-cond _ (b == 0x80) _ _ (byte rest 0x20AC)
-    (front_of-cond _ (is_lead b) _ _ (gb18030_second-of index ranges b rest) (bad rest)))
+  -- a lead, and no trail or any
+  pair : (scalars : ℕ → List ℕ) (rest : List ℕ) → ((t : ℕ) → MayGive P (scalars t)) → IsFrontOf (suc (length rest)) P (trail_front 1 scalars rest)
+  pair scalars rest given = front_of-trail_front _ 1 scalars rest (omega arith) (omega arith) (omega arith) given
 
-pub iso_2022_jp_front-of : (jis0208 : List ℕ) (mode : Mode) (b : ℕ) (rest : List ℕ)
-    → IsFrontOf (suc (length rest)) (iso_2022_jp_front jis0208 mode b rest)
-unfolding iso_2022_jp_front
-iso_2022_jp_front-of jis0208 ascii b rest =
-    front_of-cond _ ((b == 0x0E || b == 0x0F) || not (is_ascii b)) _ _ (bad rest) (byte rest b)
-iso_2022_jp_front-of jis0208 roman b rest =
-    front_of-cond _ ((b == 0x0E || b == 0x0F) || not (is_ascii b)) _ _ (bad rest)
-    (front_of-cond _ (b == 0x5C) _ _ (byte rest 0xA5)
-    (front_of-cond _ (b == 0x7E) _ _ (byte rest 0x203E) (byte rest b)))
-iso_2022_jp_front-of jis0208 katakana b rest =
-    front_of-cond _ (is_in_range 0x21 0x5F b) _ _ (byte rest _) (bad rest)
-iso_2022_jp_front-of jis0208 two_byte b [] = bad []
-iso_2022_jp_front-of jis0208 two_byte b (t ∷ rest) =
-    front_of-cond _ (not (is_in_range 0x21 0x7E b)) _ _
-    (front_of-malformed _ 1 (omega arith) (omega arith) (omega arith))
-    (front_of-cond _ (is_in_range 0x21 0x7E t) _ _
-    (front_of-reads_or _ 2 _ _ (omega arith) (omega arith) (omega arith)
-    (front_of-malformed _ 2 (omega arith) (omega arith) (omega arith)))
-    (front_of-malformed _ 2 (omega arith) (omega arith) (omega arith)))
+  -- ---- the codecs
+
+  pub user_defined_front-of : (b : ℕ) → (P → IsByte b) → (rest : List ℕ) → IsFrontOf (suc (length rest)) P (user_defined_front b rest)
+  unfolding user_defined_front
+  user_defined_front-of b is rest = ascii_or b rest _ (byte rest _ (λ p. user_defined-scalar b (is p)))
+
+module _ {P : Type 0} (index : List ℕ) (checked : P → AreScalars index) where
+  pub single_byte_front-of : (b : ℕ) (rest : List ℕ) → IsFrontOf (suc (length rest)) P (single_byte_front index b rest)
+  unfolding single_byte_front
+  single_byte_front-of b rest =
+      ascii_or b rest _ (front_of-reads_or _ 1 _ _ (omega arith) (omega arith) (omega arith) (give-idx index checked (b - 0x80)) (bad rest))
+
+  big5-gives : (p : ℕ) → MayGive P (big5_scalars index p)
+  big5-gives p =
+      give-cond (p == 1133) _ _ (λ _. give-two 0xCA 0x304 refl refl) (give-cond (p == 1135) _ _ (λ _. give-two 0xCA 0x30C refl refl)
+      (give-cond (p == 1164) _ _ (λ _. give-two 0xEA 0x304 refl refl) (give-cond (p == 1166) _ _ (λ _. give-two 0xEA 0x30C refl refl) (give-idx index checked p))))
+
+  pub big5_front-of : (b : ℕ) (rest : List ℕ) → IsFrontOf (suc (length rest)) P (big5_front index b rest)
+  unfolding big5_front big5_pair
+  big5_front-of b rest =
+      ascii_or b rest _ (front_of-cond _ (is_lead b) _ _ (λ _. pair _ rest (λ t. give-pointer (big5_scalars index) (big5_pointer b t) big5-gives)) (bad rest))
+
+  pub euc_kr_front-of : (b : ℕ) (rest : List ℕ) → IsFrontOf (suc (length rest)) P (euc_kr_front index b rest)
+  unfolding euc_kr_front euc_kr_pair
+  euc_kr_front-of b rest =
+      ascii_or b rest _
+      (front_of-cond _ (is_lead b) _ _ (λ _. pair _ rest (λ t. give-cond (is_in_range 0x41 0xFE t) _ _ (λ _. give-idx index checked _) give-none)) (bad rest))
+
+  shift_jis-gives : (p : ℕ) → MayGive P (shift_jis_scalars index p)
+  shift_jis-gives p = give-cond (is_in_range 8836 10715 p) _ _ (λ e. give-one _ (λ _. shift_jis-private p e)) (give-idx index checked p)
+
+  pub shift_jis_front-of : (b : ℕ) (rest : List ℕ) → IsFrontOf (suc (length rest)) P (shift_jis_front index b rest)
+  unfolding shift_jis_front shift_jis_pair
+  shift_jis_front-of b rest =
+      front_of-cond _ (is_ascii b || b == 0x80) _ _ (λ e. byte rest b (λ _. shift_jis-single b e))
+      (front_of-cond _ (is_katakana_byte b) _ _ (λ e. byte rest _ (λ _. katakana-scalar b e))
+      (front_of-cond _ (is_shift_jis_lead b) _ _ (λ _. pair _ rest (λ t. give-pointer (shift_jis_scalars index) (shift_jis_pointer b t) shift_jis-gives)) (bad rest)))
+
+  euc_jp-gives : (lead t : ℕ) → MayGive P (euc_jp_scalars index lead t)
+  euc_jp-gives lead t = give-cond (is_euc_jp_lead t) _ _ (λ _. give-idx index checked _) give-none
+
+  euc_jp_second-of : (rest : List ℕ) → IsFrontOf (suc (length rest)) P (euc_jp_second index rest)
+  unfolding euc_jp_second euc_jp_third
+  euc_jp_second-of [] = bad []
+  euc_jp_second-of (t ∷ rest) =
+      front_of-cond _ (is_euc_jp_lead t) _ _ (λ _. front_of-trail_front _ 2 _ rest (omega arith) (omega arith) (omega arith) (euc_jp-gives t))
+      (front_of-trail_rule _ 1 t (omega arith) (omega arith) (omega arith))
+
+module _ {P : Type 0} (jis0208 jis0212 : List ℕ) (checked : P → AreScalars jis0208) (checked_too : P → AreScalars jis0212) where
+  euc_jp_katakana-of : (rest : List ℕ) → IsFrontOf (suc (length rest)) P (euc_jp_katakana rest)
+  unfolding euc_jp_katakana
+  euc_jp_katakana-of [] = bad []
+  euc_jp_katakana-of (t ∷ rest) =
+      let other : IsFrontOf (suc (suc (length rest))) P (trail_rule 1 t) = front_of-trail_rule (suc (suc (length rest))) 1 t (omega arith) (omega arith) (omega arith) in
+      front_of-cond _ (is_katakana_byte t) _ _
+      (λ e. front_of-reads_or _ 2 (katakana_of t ∷ []) _ (omega arith) (omega arith) (omega arith) (give-one _ (λ _. katakana-scalar t e)) other) other
+
+  pub euc_jp_front-of : (b : ℕ) (rest : List ℕ) → IsFrontOf (suc (length rest)) P (euc_jp_front jis0208 jis0212 b rest)
+  unfolding euc_jp_front euc_jp_pair
+  euc_jp_front-of b rest =
+      ascii_or b rest _
+      (front_of-cond _ (b == 0x8E) _ _ (λ _. euc_jp_katakana-of rest)
+      (front_of-cond _ (b == 0x8F) _ _ (λ _. euc_jp_second-of jis0212 checked_too rest)
+      (front_of-cond _ (is_euc_jp_lead b) _ _ (λ _. pair _ rest (euc_jp-gives jis0208 checked b)) (bad rest))))
+
+module _ {P : Type 0} (index : List ℕ) (ranges : List (ℕ × ℕ)) (checked : P → AreScalars index) (ranged : (p c : ℕ) → range ranges p ≡ Some c → P → IsScalar c) where
+  gb18030_third-of : (first second : ℕ) (rest : List ℕ) → IsFrontOf (suc (suc (length rest))) P (gb18030_third ranges first second rest)
+  unfolding gb18030_third gb18030_fourth
+  gb18030_third-of first second [] = front_of-malformed _ 2 (omega arith) (omega arith) (omega arith)
+  gb18030_third-of first second (third ∷ []) =
+      front_of-cond _ (is_lead third) _ _ (λ _. front_of-malformed _ 3 (omega arith) (omega arith) (omega arith)) (front_of-malformed _ 1 (omega arith) (omega arith) (omega arith))
+  gb18030_third-of first second (third ∷ fourth ∷ rest) =
+      let p = gb18030_range_pointer first second third fourth in
+      let other : IsFrontOf (suc (suc (suc (suc (length rest))))) P (malformed 1) = front_of-malformed _ 1 (omega arith) (omega arith) (omega arith) in
+      front_of-cond _ (is_lead third) _ _ (λ _. front_of-cond _ (is_ascii_digit fourth) _ _
+      (λ _. front_of-reads_or _ 4 _ _ (omega arith) (omega arith) (omega arith) (give-option (range ranges p) (ranged p))
+      (front_of-malformed _ 4 (omega arith) (omega arith) (omega arith))) other) other
+
+  gb18030-gives : (first second : ℕ) → MayGive P (gb18030_scalars index first second)
+  gb18030-gives first second =
+      give-cond (is_in_range 0x40 0x7E second) _ _ (λ _. give-idx index checked _)
+      (give-cond (is_in_range 0x80 0xFE second) _ _ (λ _. give-idx index checked _) give-none)
+
+  gb18030_second-of : (first : ℕ) (rest : List ℕ) → IsFrontOf (suc (length rest)) P (gb18030_second index ranges first rest)
+  unfolding gb18030_second
+  gb18030_second-of first [] = bad []
+  gb18030_second-of first (second ∷ rest) =
+      front_of-cond _ (is_ascii_digit second) _ _ (λ _. gb18030_third-of first second rest) (pair _ (second ∷ rest) (gb18030-gives first))
+
+  pub gb18030_front-of : (b : ℕ) (rest : List ℕ) → IsFrontOf (suc (length rest)) P (gb18030_front index ranges b rest)
+  unfolding gb18030_front
+  gb18030_front-of b rest =
+      ascii_or b rest _
+      (front_of-cond _ (b == 0x80) _ _ (λ _. byte rest 0x20AC (λ _. refl))
+      (front_of-cond _ (is_lead b) _ _ (λ _. gb18030_second-of b rest) (bad rest)))

@@ -2,6 +2,7 @@
 -- behind it. The events of a list, by these two.
 use Rattle.std.proofs.Common.{◌≡◌, ℕ, ◌+◌, Bool, true, false, cond, None, List, [], ◌∷◌, ◌++◌, drop, length, refl, add_assoc, zero-add, add-zero}
 use Rattle.std.specs.Prelude.{◌==◌, ◌&&◌, unwrap_or, is_some}
+use Rattle.std.proofs.lemmas.Bool.{cond_both}
 use Rattle.legacy_base.specs.declared.results.DecodeEvent.TheVariants.{Bad}
 use Rattle.legacy_base.specs.Events.{shift}
 use Rattle.legacy_base.specs.Fronts.{cut}
@@ -35,42 +36,14 @@ no_escape b [] h = refl
 no_escape b (a ∷ []) h = refl
 no_escape b (a ∷ c ∷ part) h = rw h
 
--- what stands before the body of a part that begins with another byte, or is empty: nothing
-escape_length-none : (b : ℕ) (part : List ℕ) → (b == esc) ≡ false → escape_length (b ∷ part) ≡ 0
-unfolding escape_length
-escape_length-none b part h = rw (no_escape b part h, h)
-
-escape_events-none : (place b : ℕ) (part : List ℕ) (next : List (List ℕ)) → (b == esc) ≡ false → escape_events place (b ∷ part) next ≡ []
-unfolding escape_events
-escape_events-none place b part next h = rw (no_escape b part h, h)
-
 -- the first part has no escape, valid or not
-first_mode : (bytes : List ℕ) → part_mode (first_part bytes) ≡ None
-unfolding part_mode
-first_mode [] = refl
-first_mode (b ∷ bytes) = by_test (b == esc) refl
-  where
-    by_test : (t : Bool) → (b == esc) ≡ t → part_mode (cond t [] (b ∷ first_part bytes)) ≡ None
-    by_test true h = refl
-    by_test false h = no_escape b (first_part bytes) h
-
-first_length : (bytes : List ℕ) → escape_length (first_part bytes) ≡ 0
-unfolding escape_length
-first_length [] = refl
-first_length (b ∷ bytes) = by_test (b == esc) refl
-  where
-    by_test : (t : Bool) → (b == esc) ≡ t → escape_length (cond t [] (b ∷ first_part bytes)) ≡ 0
-    by_test true h = refl
-    by_test false h = escape_length-none b (first_part bytes) h
-
-first_escape_events : (place : ℕ) (bytes : List ℕ) (next : List (List ℕ)) → escape_events place (first_part bytes) next ≡ []
-unfolding escape_events
-first_escape_events place [] next = refl
-first_escape_events place (b ∷ bytes) next = by_test (b == esc) refl
-  where
-    by_test : (t : Bool) → (b == esc) ≡ t → escape_events place (cond t [] (b ∷ first_part bytes)) next ≡ []
-    by_test true h = refl
-    by_test false h = escape_events-none place b (first_part bytes) next h
+first_plain : (place : ℕ) (bytes : List ℕ) (next : List (List ℕ)) →
+    (part_mode (first_part bytes) ≡ None) × (escape_length (first_part bytes) ≡ 0) × (escape_events place (first_part bytes) next ≡ [])
+unfolding part_mode escape_length escape_events
+first_plain place [] next = (refl, refl, refl)
+first_plain place (b ∷ bytes) next =
+    cond_both (b == esc) [] (b ∷ first_part bytes) (λ l. (part_mode l ≡ None) × (escape_length l ≡ 0) × (escape_events place l next ≡ [])) (λ _. (refl, refl, refl))
+    (λ h. let none = no_escape b (first_part bytes) h in (none, rw (none, h), rw (none, h)))
 
 -- the first part is its body, in the mode in which the list begins
 first_events : (jis0208 : List ℕ) (mode : Mode) (place : ℕ) (bytes : List ℕ) (next : List (List ℕ))
@@ -79,7 +52,7 @@ first_events : (jis0208 : List ℕ) (mode : Mode) (place : ℕ) (bytes : List �
     ++ parts_events jis0208 mode (place + length (first_part bytes)) next
 unfolding parts_events part_events
 first_events jis0208 mode place bytes next =
-    rw (first_mode bytes, first_escape_events place bytes next, first_length bytes, add-zero)
+    let plain = first_plain place bytes next in rw (plain.0, plain.2, plain.1, add-zero)
 
 -- what parts give that stand k places further on
 escape_events-shift : (k place : ℕ) (part : List ℕ) (next : List (List ℕ))
@@ -91,10 +64,9 @@ escape_events-shift k place (b ∷ part) next = by_tests (is_some (part_mode (b 
     by_tests : (valid escapes bare : Bool) →
         cond valid (cond bare (Bad (k + place) 3 ∷ []) []) (cond escapes (Bad (k + place) 1 ∷ []) [])
         ≡ shift k (cond valid (cond bare (Bad place 3 ∷ []) []) (cond escapes (Bad place 1 ∷ []) []))
-    by_tests true escapes true = refl
-    by_tests true escapes false = refl
-    by_tests false true bare = refl
-    by_tests false false bare = refl
+    by_tests true _ true = refl
+    by_tests false true _ = refl
+    by_tests _ _ _ = refl
 
 part_events-shift : (jis0208 : List ℕ) (mode : Mode) (k place : ℕ) (part : List ℕ) (next : List (List ℕ))
     → part_events jis0208 mode (k + place) part next ≡ shift k (part_events jis0208 mode place part next)
@@ -107,12 +79,8 @@ pub parts_events-shift : (jis0208 : List ℕ) (mode : Mode) (k place : ℕ) (par
 unfolding parts_events
 parts_events-shift jis0208 mode k place [] = refl
 parts_events-shift jis0208 mode k place (part ∷ parts) =
-    rw (
-      shift-append,
-      add_assoc,
-      part_events-shift jis0208 (unwrap_or (part_mode part) mode) k place part parts,
-      parts_events-shift jis0208 (unwrap_or (part_mode part) mode) k (place + length part) parts,
-    )
+    let m = unwrap_or (part_mode part) mode in
+    rw (shift-append, add_assoc, part_events-shift jis0208 m k place part parts, parts_events-shift jis0208 m k (place + length part) parts)
 
 pub parts_events-at : (jis0208 : List ℕ) (mode : Mode) (place : ℕ) (parts : List (List ℕ))
     → parts_events jis0208 mode place parts ≡ shift place (parts_events jis0208 mode 0 parts)
@@ -125,9 +93,4 @@ pub events-by_parts : (jis0208 : List ℕ) (mode : Mode) (bytes : List ℕ)
     ++ shift (length (first_part bytes)) (parts_events jis0208 mode 0 (later_parts bytes))
 unfolding iso_2022_jp_events
 events-by_parts jis0208 mode bytes =
-    rw (
-      parts_of-is bytes,
-      first_events jis0208 mode 0 bytes (later_parts bytes),
-      zero-add,
-      parts_events-at jis0208 mode (length (first_part bytes)) (later_parts bytes),
-    )
+    rw (parts_of-is bytes, first_events jis0208 mode 0 bytes (later_parts bytes), zero-add, parts_events-at jis0208 mode (length (first_part bytes)) (later_parts bytes))

@@ -1,6 +1,5 @@
 -- Laws of the definitions.
 pub mod CodeUnits
-pub mod ShortForms
 pub mod SameUnits
 pub mod Shifts
 pub mod Cuts

@@ -3,7 +3,7 @@ use Rattle.std.specs.Prelude.{ℕ, ◌+◌, ◌-◌, ◌*◌, List, [], ◌∷�
 use Rattle.std.specs.Option.{option_map_or}
 use Rattle.std.specs.Int.{is_in_range}
 use Rattle.std.specs.Char.{is_ascii}
-use Rattle.legacy_base.specs.Fronts.{Front, reads, malformed, reads_or, trail_rule, cut}
+use Rattle.legacy_base.specs.Fronts.{Front, reads, malformed, trail_front, cut}
 use Rattle.legacy_base.specs.Indexes.{idx}
 use Rattle.legacy_base.specs.Profile.{Profile, wide_acts, is_lead, single_lead_may_hold, always_rests}
 use Rattle.legacy_base.specs.Formulas.{weighed, constant, ◌⊞◌, ◌⊠◌}
@@ -26,9 +26,7 @@ big5_scalars index p =
 
 -- the front after a lead
 unfoldable pub big5_pair : List ℕ → ℕ → List ℕ → Front
-big5_pair index lead [] = malformed 1
-big5_pair index lead (t ∷ rest) =
-    reads_or 2 (option_map_or (big5_scalars index) (big5_pointer lead t) []) (trail_rule 1 t)
+big5_pair index lead rest = trail_front 1 (λ t. option_map_or (big5_scalars index) (big5_pointer lead t) []) rest
 
 -- the front of a list that begins with b
 unfoldable pub big5_front : List ℕ → ℕ → List ℕ → Front

@@ -2,38 +2,41 @@
 use Rattle.std.specs.Prelude.{ℕ, ◌+◌, ◌-◌, ◌*◌, List, [], ◌∷◌, length, min, Bool, true, false, ◌&&◌, ◌||◌, ◌==◌, if◌then◌else◌, option_to_list}
 use Rattle.std.specs.Int.{is_in_range}
 use Rattle.std.specs.Char.{is_ascii}
-use Rattle.legacy_base.specs.Fronts.{Front, reads, malformed, reads_or, trail_rule, cut}
+use Rattle.legacy_base.specs.Fronts.{Front, reads, malformed, trail_rule, trail_front, cut}
+use Rattle.legacy_base.specs.Unicode.{is_katakana_byte, katakana_of}
 use Rattle.legacy_base.specs.Indexes.{idx}
 use Rattle.legacy_base.specs.Profile.{Profile, narrow_acts, always_rests}
 use Rattle.legacy_base.specs.Formulas.{weighed, constant, ◌⊞◌, ◌⊠◌, halved}
 
+-- the bytes that begin a pair of EUC-JP, and stand behind 0x8F
+abbrev pub is_euc_jp_lead : ℕ → Bool
+is_euc_jp_lead b = is_in_range 0xA1 0xFE b
+
 -- the scalar of two bytes from 0xA1 on in an index with 94 columns, if there is one
 abbrev pub euc_jp_scalars : List ℕ → ℕ → ℕ → List ℕ
 euc_jp_scalars index lead trail =
-    if is_in_range 0xA1 0xFE trail then option_to_list (idx index ((lead - 0xA1) * 94 + (trail - 0xA1)))
+    if is_euc_jp_lead trail then option_to_list (idx index ((lead - 0xA1) * 94 + (trail - 0xA1)))
     else []
 
 -- the front after 0x8E: half-width katakana
 unfoldable pub euc_jp_katakana : List ℕ → Front
 euc_jp_katakana [] = malformed 1
 euc_jp_katakana (t ∷ rest) =
-    if is_in_range 0xA1 0xDF t then reads 2 ((0xFF61 + (t - 0xA1)) ∷ []) else trail_rule 1 t
+    if is_katakana_byte t then reads 2 (katakana_of t ∷ []) else trail_rule 1 t
 
 -- the front after 0x8F and a lead: JIS X 0212
 unfoldable pub euc_jp_third : List ℕ → ℕ → List ℕ → Front
-euc_jp_third jis0212 lead [] = malformed 2
-euc_jp_third jis0212 lead (t ∷ rest) = reads_or 3 (euc_jp_scalars jis0212 lead t) (trail_rule 2 t)
+euc_jp_third jis0212 lead rest = trail_front 2 (euc_jp_scalars jis0212 lead) rest
 
 -- the front after 0x8F
 unfoldable pub euc_jp_second : List ℕ → List ℕ → Front
 euc_jp_second jis0212 [] = malformed 1
 euc_jp_second jis0212 (t ∷ rest) =
-    if is_in_range 0xA1 0xFE t then euc_jp_third jis0212 t rest else trail_rule 1 t
+    if is_euc_jp_lead t then euc_jp_third jis0212 t rest else trail_rule 1 t
 
 -- the front after a lead: JIS X 0208
 unfoldable pub euc_jp_pair : List ℕ → ℕ → List ℕ → Front
-euc_jp_pair jis0208 lead [] = malformed 1
-euc_jp_pair jis0208 lead (t ∷ rest) = reads_or 2 (euc_jp_scalars jis0208 lead t) (trail_rule 1 t)
+euc_jp_pair jis0208 lead rest = trail_front 1 (euc_jp_scalars jis0208 lead) rest
 
 -- the front of a list that begins with b
 unfoldable pub euc_jp_front : List ℕ → List ℕ → ℕ → List ℕ → Front
@@ -41,12 +44,8 @@ euc_jp_front jis0208 jis0212 b rest =
     if is_ascii b then reads 1 (b ∷ [])
     else if b == 0x8E then euc_jp_katakana rest
     else if b == 0x8F then euc_jp_second jis0212 rest
-    else if is_in_range 0xA1 0xFE b then euc_jp_pair jis0208 b rest
+    else if is_euc_jp_lead b then euc_jp_pair jis0208 b rest
     else malformed 1
-
--- the bytes that begin a pair of EUC-JP, and stand behind 0x8F
-abbrev pub is_euc_jp_lead : ℕ → Bool
-is_euc_jp_lead b = is_in_range 0xA1 0xFE b
 
 -- nothing, 0x8E, 0x8F, a lead, or 0x8F and a lead
 abbrev pub euc_jp_may_hold : List ℕ → Bool

@@ -2,7 +2,7 @@
 use Rattle.std.specs.Prelude.{ℕ, ◌+◌, ◌-◌, ◌*◌, List, [], ◌∷◌, length, true, false, if◌then◌else◌, option_to_list}
 use Rattle.std.specs.Int.{is_in_range}
 use Rattle.std.specs.Char.{is_ascii}
-use Rattle.legacy_base.specs.Fronts.{Front, reads, malformed, reads_or, trail_rule, cut}
+use Rattle.legacy_base.specs.Fronts.{Front, reads, malformed, trail_front, cut}
 use Rattle.legacy_base.specs.Indexes.{idx}
 use Rattle.legacy_base.specs.Profile.{Profile, narrow_acts, is_lead, single_lead_may_hold, always_rests}
 use Rattle.legacy_base.specs.Formulas.{weighed, constant, ◌⊞◌, ◌⊠◌, halved}
@@ -15,8 +15,7 @@ euc_kr_scalars index lead trail =
 
 -- the front after a lead
 unfoldable pub euc_kr_pair : List ℕ → ℕ → List ℕ → Front
-euc_kr_pair index lead [] = malformed 1
-euc_kr_pair index lead (t ∷ rest) = reads_or 2 (euc_kr_scalars index lead t) (trail_rule 1 t)
+euc_kr_pair index lead rest = trail_front 1 (euc_kr_scalars index lead) rest
 
 -- the front of a list that begins with b
 unfoldable pub euc_kr_front : List ℕ → ℕ → List ℕ → Front

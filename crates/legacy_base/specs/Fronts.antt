@@ -29,6 +29,12 @@ reads_or n (c ∷ scalars) other = reads n (c ∷ scalars)
 abbrev pub trail_rule : ℕ → ℕ → Front
 trail_rule n t = if is_ascii t then malformed n else malformed (n + 1)
 
+-- The front after n bytes that want a trail, by the scalars that each trail gives, if any. Without a trail, the n
+-- bytes are malformed.
+abbrev pub trail_front : ℕ → (ℕ → List ℕ) → List ℕ → Front
+trail_front n scalars [] = malformed n
+trail_front n scalars (t ∷ rest) = reads_or (n + 1) (scalars t) (trail_rule n t)
+
 -- The events of a list whose first byte has the place. The first `skip` bytes belong to a front that began
 -- before; then each front begins where the one before it ends. `front b rest` is the front of `b ∷ rest`.
 unfoldable pub cut : (ℕ → List ℕ → Front) → ℕ → ℕ → List ℕ → List DecodeEvent

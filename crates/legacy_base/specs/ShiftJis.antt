@@ -3,7 +3,8 @@ use Rattle.std.specs.Prelude.{ℕ, ◌+◌, ◌-◌, ◌*◌, List, [], ◌∷�
 use Rattle.std.specs.Option.{option_map_or}
 use Rattle.std.specs.Int.{is_in_range}
 use Rattle.std.specs.Char.{is_ascii}
-use Rattle.legacy_base.specs.Fronts.{Front, reads, malformed, reads_or, trail_rule, cut}
+use Rattle.legacy_base.specs.Fronts.{Front, reads, malformed, trail_front, cut}
+use Rattle.legacy_base.specs.Unicode.{is_katakana_byte, katakana_of}
 use Rattle.legacy_base.specs.Indexes.{idx}
 use Rattle.legacy_base.specs.Profile.{Profile, narrow_acts, single_lead_may_hold, always_rests}
 use Rattle.legacy_base.specs.Formulas.{weighed, constant, ◌⊠◌}
@@ -31,15 +32,14 @@ shift_jis_scalars jis0208 p =
 
 -- the front after a lead
 unfoldable pub shift_jis_pair : List ℕ → ℕ → List ℕ → Front
-shift_jis_pair jis0208 lead [] = malformed 1
-shift_jis_pair jis0208 lead (t ∷ rest) =
-    reads_or 2 (option_map_or (shift_jis_scalars jis0208) (shift_jis_pointer lead t) []) (trail_rule 1 t)
+shift_jis_pair jis0208 lead rest =
+    trail_front 1 (λ t. option_map_or (shift_jis_scalars jis0208) (shift_jis_pointer lead t) []) rest
 
 -- the front of a list that begins with b
 unfoldable pub shift_jis_front : List ℕ → ℕ → List ℕ → Front
 shift_jis_front jis0208 b rest =
     if is_ascii b || b == 0x80 then reads 1 (b ∷ [])
-    else if is_in_range 0xA1 0xDF b then reads 1 ((0xFF61 + (b - 0xA1)) ∷ [])
+    else if is_katakana_byte b then reads 1 (katakana_of b ∷ [])
     else if is_shift_jis_lead b then shift_jis_pair jis0208 b rest
     else malformed 1
 

@@ -1,13 +1,16 @@
 //! Where a decoder writes.
-ghost use Rattle.std.specs.Prelude.{◌≡◌, ℕ, ◌+◌, ◌-◌, ◌<◌, ◌≤◌, List, [], ◌∷◌, ◌++◌, length, take, slice_index, IsAscii, encode_utf8};
+ghost use Rattle.std.specs.Prelude.{◌≡◌, ℕ, ◌+◌, ◌-◌, ◌<◌, ◌≤◌, List, [], ◌∷◌, ◌++◌, length, take};
+ghost use Rattle.std.specs.Prelude.{slice_index, IsAscii, encode_utf8};
 ghost use Rattle.std.specs.Borrow.{GName};
-ghost use Rattle.legacy_base.specs.EncodingForm.{EncodingForm, Utf8, Utf16, code_units, unit_count, bmp_room, wide_room};
+ghost use Rattle.legacy_base.specs.EncodingForm.{EncodingForm, Utf8, Utf16, code_units, unit_count};
+ghost use Rattle.legacy_base.specs.EncodingForm.{bmp_room, wide_room};
 
 use std::simd::prelude::*;
 
 /// How many bytes at the front of a block are ASCII.
 // Inlined always: a call would pass the vector through memory, once for each block.
 #[inline(always)]
+#[tactic(auto, using(crate::proofs::Ascii::count_steps))]
 fn ascii_count(block: u8x16) -> usize
     ensures most { result ≤ 16 }
     ensures ascii { IsAscii (take result block) }
@@ -58,15 +61,17 @@ pub trait Destination {
     fn written(&self) -> usize
         ensures { result ≡ length (contents self.now) };
 
-    /// Writes the code units of the scalar behind those written so far. They must fit: `free` tells.
+    /// Writes the code units of the scalar behind those written so far. They must fit: `free`
+    /// tells.
     fn put(&mut self, c: char)
         requires { unit_count form c ≤ room self.old }
         ensures contents { contents self.new ≡ contents self.old ++ code_units form c }
         ensures room { room self.new + unit_count form c ≡ room self.old }
         ensures loan { loan self.new ≡ loan self.old };
 
-    /// Writes ASCII bytes from the front of the slice, as many as it cares to, and answers how many:
-    /// none, or whole blocks and then a part of one. A destination without blocks writes none.
+    /// Writes ASCII bytes from the front of the slice, as many as it cares to, and answers how
+    /// many: none, or whole blocks and then a part of one. A destination without blocks writes
+    /// none.
     fn copy_ascii(&mut self, bytes: &[u8]) -> usize
         ensures read { result ≤ length bytes.now }
         ensures ascii { IsAscii (take result bytes.now) }
@@ -88,7 +93,8 @@ pub struct Utf8Destination<'a> {
 }
 
 impl<'a> Utf8Destination<'a> {
-    ghost use Rattle.legacy_base.specs.Destinations.{utf8_written, utf8_free, utf8_loan, utf8_buffer};
+    ghost use Rattle.legacy_base.specs.Destinations.{utf8_written, utf8_free, utf8_loan};
+    ghost use Rattle.legacy_base.specs.Destinations.{utf8_buffer};
 
     /// A destination that has written nothing and has the whole slice free.
     pub fn new(buffer: &'a mut [u8]) -> Utf8Destination<'a>
@@ -106,15 +112,19 @@ impl<'a> Utf8Destination<'a> {
         ensures written { utf8_written self.new ≡ utf8_written self.old ++ byte ∷ [] }
         ensures free { utf8_free self.new + 1 ≡ utf8_free self.old }
         ensures loan { utf8_loan self.new ≡ utf8_loan self.old }
+        ensures filled { self.new.filled ≡ self.old.filled + 1 }
+        ensures kept { take self.old.filled self.new.buffer.now ≡ utf8_written self.old }
     {
         let at = self.filled;
         self.buffer[at] = byte;
         self.filled = at + 1;
     }
 
-    /// Writes the one or two bytes of a scalar below U+0800. The last byte is stored behind a lead, or
-    /// over it where there is none: which of them it is follows no pattern in text, and so is no branch.
+    /// Writes the one or two bytes of a scalar below U+0800. The last byte is stored behind a lead,
+    /// or over it where there is none: which of them it is follows no pattern in text, and so is no
+    /// branch.
     #[inline]
+    #[tactic(auto, using(crate::proofs::CodeUnits::encoding))]
     fn push_short(&mut self, code: u32)
         requires below { code < 0x800 }
         requires room { length (encode_utf8 code) ≤ utf8_free self.old }
@@ -133,9 +143,11 @@ impl<'a> Utf8Destination<'a> {
         self.push(last as u8);
     }
 
-    /// Stores a block behind what was written, and keeps its ASCII front: answers that front's length.
+    /// Stores a block behind what was written, and keeps its ASCII front: answers that front's
+    /// length.
     // Inlined always, as `ascii_count` is.
     #[inline(always)]
+    #[tactic(auto, using(crate::proofs::Ascii::stored))]
     fn put_block(&mut self, block: u8x16) -> usize
         requires { 16 ≤ utf8_free self.old }
         ensures count { result ≤ 16 }
@@ -209,6 +221,7 @@ impl Destination for Utf8Destination<'_> {
     }
 
     #[inline]
+    #[tactic(auto, using(crate::proofs::Ascii::block_steps))]
     fn copy_ascii(&mut self, bytes: &[u8]) -> usize {
         let mut at = 0;
         while bytes.len() - at >= 16 && self.buffer.len() - self.filled >= 16 {
@@ -231,7 +244,8 @@ pub struct Utf16Destination<'a> {
 }
 
 impl<'a> Utf16Destination<'a> {
-    ghost use Rattle.legacy_base.specs.Destinations.{utf16_written, utf16_free, utf16_loan, utf16_buffer};
+    ghost use Rattle.legacy_base.specs.Destinations.{utf16_written, utf16_free, utf16_loan};
+    ghost use Rattle.legacy_base.specs.Destinations.{utf16_buffer};
 
     /// A destination that has written nothing and has the whole slice free.
     pub fn new(buffer: &'a mut [u16]) -> Utf16Destination<'a>
@@ -255,7 +269,8 @@ impl<'a> Utf16Destination<'a> {
         self.filled = at + 1;
     }
 
-    /// Stores a block behind what was written, and keeps its ASCII front: answers that front's length.
+    /// Stores a block behind what was written, and keeps its ASCII front: answers that front's
+    /// length.
     // Inlined always, as `ascii_count` is.
     #[inline(always)]
     fn put_block(&mut self, block: u8x16) -> usize
@@ -325,6 +340,7 @@ impl Destination for Utf16Destination<'_> {
     }
 
     #[inline]
+    #[tactic(auto, using(crate::proofs::Ascii::block_steps))]
     fn copy_ascii(&mut self, bytes: &[u8]) -> usize {
         let mut at = 0;
         while bytes.len() - at >= 16 && self.buffer.len() - self.filled >= 16 {

@@ -4,7 +4,6 @@
 
 mod decoder;
 mod destination;
-pub mod laws;
 mod results;
 mod single_byte_table;
 mod source;

@@ -1,7 +1,8 @@
 //! The tables of the single-byte codecs.
 ghost use Rattle.std.specs.Prelude.{◌≡◌, ◌↔◌, ℕ, MatchResult, Some, None, length, ◌==◌, position};
 ghost use Rattle.std.specs.List.{list_any};
-ghost use Rattle.legacy_base.specs.TableChecks.{IsAcceptedTable, is_byte_entry, byte_entry_fault, single_byte_fault};
+ghost use Rattle.legacy_base.specs.TableChecks.{IsAcceptedTable, is_byte_entry, byte_entry_fault};
+ghost use Rattle.legacy_base.specs.TableChecks.{single_byte_fault};
 ghost use Rattle.legacy_base.specs.Indexes.{idx};
 
 use crate::tables::TableError;
@@ -9,8 +10,8 @@ use crate::tables::checks::is_narrow;
 use crate::tables::lookups::narrow_entry;
 use std::marker::Model;
 
-/// The scalars of the bytes from 0x80 on, checked (Encoding Standard, "single-byte indexes"). It is seen
-/// as its 128 entries: place `p` belongs to byte 0x80 + `p`, and an entry 0 is no scalar.
+/// The scalars of the bytes from 0x80 on, checked (Encoding Standard, "single-byte indexes"). It is
+/// seen as its 128 entries: place `p` belongs to byte 0x80 + `p`, and an entry 0 is no scalar.
 #[derive(Drop)]
 pub struct SingleByteTable {
     entries: [u16; 128],
@@ -25,7 +26,11 @@ impl Model for SingleByteTable {
 
     ghost coded = { coded_table };
 
-    ghost view = { λ t. record { entries = t.entries; entry_count = t.entry_count; accepted = t.accepted } };
+    ghost view = { λ t. record {
+      entries = t.entries;
+      entry_count = t.entry_count;
+      accepted = t.accepted;
+    } };
 }
 
 /// Whether the entry is a scalar from U+0080 to U+FFFF, but not U+FFFD.
@@ -44,7 +49,8 @@ fn stands_among(earlier: &[u16], entry: u16) -> bool
 
 /// Checks the entry of a place, where these stand before it.
 fn check_entry(place: usize, before: &[u16], entry: u16) -> Result<(), TableError>
-    ensures { let found = byte_entry_fault place before.now entry in MatchResult result (λ _. found ≡ None) (λ fault. found ≡ Some fault) }
+    ensures { let found = byte_entry_fault place before.now entry in
+        MatchResult result (λ _. found ≡ None) (λ fault. found ≡ Some fault) }
 {
     if entry == 0 {
         return Ok(());
@@ -59,8 +65,10 @@ fn check_entry(place: usize, before: &[u16], entry: u16) -> Result<(), TableErro
 }
 
 /// Checks all entries.
+#[tactic(auto, using(crate::proofs::TableLoops::bytes_steps))]
 fn check_entries(entries: &[u16]) -> Result<(), TableError>
-    ensures { let found = single_byte_fault entries.now in MatchResult result (λ _. found ≡ None) (λ fault. found ≡ Some fault) }
+    ensures { let found = single_byte_fault entries.now in
+        MatchResult result (λ _. found ≡ None) (λ fault. found ≡ Some fault) }
 {
     for (place, entry) in entries.iter().enumerate() {
         check_entry(place, &entries[..place], *entry)?;
@@ -76,9 +84,9 @@ fn place_of(entries: &[u16], code: u32) -> Option<usize>
 }
 
 impl SingleByteTable {
-    /// The table of 128 entries, or the first fault by rising places: an entry that is not 0 and lies below
-    /// 0x80, is a surrogate or is 0xFFFD; or one that is not 0 and stands at an earlier place too. It takes
-    /// no memory.
+    /// The table of 128 entries, or the first fault by rising places: an entry that is not 0 and
+    /// lies below 0x80, is a surrogate or is 0xFFFD; or one that is not 0 and stands at an earlier
+    /// place too. It takes no memory.
     pub fn new(entries: &[u16; 128]) -> Result<SingleByteTable, TableError>
         ensures { MatchResult result
             (λ table. table.entries ≡ entries.now)

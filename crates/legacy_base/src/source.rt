@@ -16,7 +16,10 @@ impl<'a> Model for ByteSource<'a> {
 
     ghost Value = { Cursor };
 
-    ghost view = { λ source. record { left = drop source.place source.bytes.now; consumed = source.place } };
+    ghost view = { λ source. record {
+      left = drop source.place source.bytes.now;
+      consumed = source.place;
+    } };
 
     ghost invariant = { λ source. source.place ≤ length source.bytes.now };
 }

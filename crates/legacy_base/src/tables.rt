@@ -73,8 +73,8 @@ pub enum TableError {
     Repeated(usize),
 }
 
-/// Flat indexes, not checked yet. In each of the first six, entry `p` is the scalar value of pointer
-/// `p`, and 0 where the pointer has none; pointers past the end have none either.
+/// Flat indexes, not checked yet. In each of the first six, entry `p` is the scalar value of
+/// pointer `p`, and 0 where the pointer has none; pointers past the end have none either.
 #[derive(Drop)]
 pub struct Indexes<'a> {
     /// Index Big5, of at most 19782 entries. Pointers 1133, 1135, 1164 and 1166 stay 0: the decoder
@@ -82,8 +82,8 @@ pub struct Indexes<'a> {
     pub big5: &'a [u32],
     /// Index EUC-KR, of at most 23940 entries.
     pub euc_kr: &'a [u16],
-    /// Index jis0208, of at most 11280 entries. Pointers 8836 to 10715 stay 0: in Shift_JIS they are
-    /// U+E000 to U+E757.
+    /// Index jis0208, of at most 11280 entries. Pointers 8836 to 10715 stay 0: in Shift_JIS they
+    /// are U+E000 to U+E757.
     pub jis0208: &'a [u16],
     /// Index jis0212, of at most 8836 entries.
     pub jis0212: &'a [u16],
@@ -91,9 +91,9 @@ pub struct Indexes<'a> {
     pub gb18030: &'a [u16],
     /// Index ISO-2022-JP katakana, of 63 entries or none.
     pub katakana: &'a [u16],
-    /// Index gb18030 ranges, by rising pointers. `(p, s)` gives pointer `p` the scalar value `s`, `p + 1`
-    /// the scalar `s + 1`, and so on, up to the pointer before the next range's, or up to 39419. The
-    /// range from 189000 on is none of them: it is always there.
+    /// Index gb18030 ranges, by rising pointers. `(p, s)` gives pointer `p` the scalar value `s`,
+    /// `p + 1` the scalar `s + 1`, and so on, up to the pointer before the next range's, or up to
+    /// 39419. The range from 189000 on is none of them: it is always there.
     pub ranges: &'a [(u16, u16)],
 }
 
@@ -108,7 +108,8 @@ pub struct Tables<'a> {
     katakana: &'a [u16],
     ranges: &'a [(u16, u16)],
     likely_places: [u8; 154],
-    ghost accepted: { AreAccepted (flat_lists big5.now euc_kr.now jis0208.now jis0212.now gb18030.now katakana.now ranges.now) },
+    ghost accepted: { AreAccepted (flat_lists big5.now euc_kr.now jis0208.now jis0212.now
+        gb18030.now katakana.now ranges.now) },
 }
 
 impl<'a> Model for Tables<'a> {
@@ -118,7 +119,11 @@ impl<'a> Model for Tables<'a> {
 
     ghost coded = { coded_indexes };
 
-    ghost view = { λ t. record { flat = flat_lists t.big5.now t.euc_kr.now t.jis0208.now t.jis0212.now t.gb18030.now t.katakana.now t.ranges.now; accepted = t.accepted } };
+    ghost view = { λ t. record {
+      flat = flat_lists t.big5.now t.euc_kr.now t.jis0208.now t.jis0212.now
+          t.gb18030.now t.katakana.now t.ranges.now;
+      accepted = t.accepted;
+    } };
 }
 
 impl<'a> Tables<'a> {
@@ -127,8 +132,8 @@ impl<'a> Tables<'a> {
     ghost use Rattle.legacy_base.specs.Tables.{flat_indexes, index_list};
 
     /// The tables of the indexes, or the first fault. The indexes are checked in the order of the
-    /// fields: the length first, then the entries by rising pointers; of the ranges the order first.
-    /// Empty indexes are accepted. It takes no memory, and the slices stay borrowed.
+    /// fields: the length first, then the entries by rising pointers; of the ranges the order
+    /// first. Empty indexes are accepted. It takes no memory, and the slices stay borrowed.
     #[tactic(auto, unfolding(crate::specs::TableChecks::table_fault))]
     pub fn new(indexes: &Indexes<'a>) -> Result<Tables<'a>, TableError>
         ensures { MatchResult result
@@ -155,9 +160,9 @@ impl<'a> Tables<'a> {
         })
     }
 
-    /// The scalar value of the pointer in the index of the name, or `None` where it has none: where the
-    /// entry is 0, and past the index's end (Encoding Standard, "index code point"). `None` for `Ranges`,
-    /// whose pointers `range` looks up.
+    /// The scalar value of the pointer in the index of the name, or `None` where it has none: where
+    /// the entry is 0, and past the index's end (Encoding Standard, "index code point"). `None` for
+    /// `Ranges`, whose pointers `range` looks up.
     #[inline]
     pub fn idx(&self, name: IndexName, pointer: usize) -> Option<char>
         ensures { result ≡ idx (index_list self.now.flat name) pointer }
@@ -174,8 +179,8 @@ impl<'a> Tables<'a> {
     }
 
     /// The scalar value of a pointer of four bytes, or `None` where it has none (Encoding Standard,
-    /// "index gb18030 ranges code point"): 7457 gives U+E7C7, 189000 to 1237575 give U+10000 to U+10FFFF,
-    /// pointers up to 39419 go by the last range that starts at or before them.
+    /// "index gb18030 ranges code point"): 7457 gives U+E7C7, 189000 to 1237575 give U+10000 to
+    /// U+10FFFF, pointers up to 39419 go by the last range that starts at or before them.
     pub fn range(&self, pointer: usize) -> Option<char>
         ensures { result ≡ range self.now.flat.ranges pointer }
     {

@@ -1,7 +1,6 @@
 -- The tables of places of four bytes hold the places, and what the ranges have at their sum.
-use Rattle.std.proofs.Common.{◌≡◌, ℕ, ◌+◌, ◌-◌, ◌*◌, ◌≤◌, ◌<◌, List, [], ◌∷◌, map, get_or, Bool, true, false, cond, Option, None, ◌==◌, nat_le, refl, arith}
+use Rattle.std.proofs.Common.{◌≡◌, ℕ, ◌+◌, ◌-◌, ◌*◌, ◌≤◌, ◌<◌, List, [], ◌∷◌, get_or, Bool, true, false, cond, Option, None, ◌==◌, nat_le, refl, arith}
 use Rattle.std.proofs.lemmas.Bool.Decides.{nat_tests}
-use Rattle.std.specs.List.{range_with_len}
 use Rattle.std.specs.Prelude.{IfSome}
 use Rattle.std.specs.Int.{is_in_range}
 use Rattle.std.specs.Char.{is_ascii_digit}
@@ -13,35 +12,23 @@ use Rattle.legacy_decoder_engine.specs.Ahead.{Runs}
 use Rattle.legacy_chinese.specs.FourPlaces.{first_place, second_place, third_place, fourth_place}
 use Rattle.legacy_chinese.specs.declared.gb18030.four_places.TheConstants.{FIRSTS, SECONDS, THIRDS, FOURTHS}
 use Rattle.legacy_chinese.proofs.Gb18030Held.{four_if}
-use Rattle.legacy_decoder_engine.proofs.RowPlaces.{read}
-
-firsts_are : FIRSTS ≡ map first_place (range_with_len 0 256)
-unfolding first_place
-firsts_are = refl
-
-seconds_are : SECONDS ≡ map second_place (range_with_len 0 256)
-unfolding second_place
-seconds_are = refl
-
-thirds_are : THIRDS ≡ map third_place (range_with_len 0 256)
-unfolding third_place
-thirds_are = refl
-
-fourths_are : FOURTHS ≡ map fourth_place (range_with_len 0 256)
-unfolding fourth_place
-fourths_are = refl
+use Rattle.legacy_decoder_engine.proofs.PairPlaces.{read}
 
 pub first_read : (b : ℕ) → b < 256 → get_or FIRSTS b 0 ≡ first_place b
-first_read = read FIRSTS first_place firsts_are
+unfolding first_place
+first_read = read FIRSTS first_place refl
 
 pub second_read : (b : ℕ) → b < 256 → get_or SECONDS b 0 ≡ second_place b
-second_read = read SECONDS second_place seconds_are
+unfolding second_place
+second_read = read SECONDS second_place refl
 
 pub third_read : (b : ℕ) → b < 256 → get_or THIRDS b 0 ≡ third_place b
-third_read = read THIRDS third_place thirds_are
+unfolding third_place
+third_read = read THIRDS third_place refl
 
 pub fourth_read : (b : ℕ) → b < 256 → get_or FOURTHS b 0 ≡ fourth_place b
-fourth_read = read FOURTHS fourth_place fourths_are
+unfolding fourth_place
+fourth_read = read FOURTHS fourth_place refl
 
 -- past all pointers there is no scalar
 past_tests : (p : ℕ) → 2_000_000 ≤ p → ((p == 7457) ≡ false) × (is_in_range 189000 1237575 p ≡ false) × (nat_le p 39419 ≡ false)
@@ -67,7 +54,8 @@ four_placed tables a b c d found e = go (is_lead a) (is_ascii_digit b) (is_lead 
     none p h is = rw (is, range_past tables.flat.ranges p h) tt
 
     go : (l m n o : Bool) → is_lead a ≡ l → is_ascii_digit b ≡ m → is_lead c ≡ n → is_ascii_digit d ≡ o
-        → found ≡ range tables.flat.ranges (cond l (12600 * (a - 0x81)) 2_000_000 + cond m (1260 * (b - 0x30)) 2_000_000 + cond n (10 * (c - 0x81)) 2_000_000 + cond o (d - 0x30) 2_000_000) → IfSome found (λ x. Runs (gb18030 tables.flat.gb18030 tables.flat.ranges) (a ∷ b ∷ c ∷ d ∷ []) (x ∷ []))
+        → found ≡ range tables.flat.ranges (cond l (12600 * (a - 0x81)) 2_000_000 + cond m (1260 * (b - 0x30)) 2_000_000 + cond n (10 * (c - 0x81)) 2_000_000 + cond o (d - 0x30) 2_000_000) →
+        IfSome found (λ x. Runs (gb18030 tables.flat.gb18030 tables.flat.ranges) (a ∷ b ∷ c ∷ d ∷ []) (x ∷ []))
     go true true true true u v w x is =
         four_if tables a b c d (12600 * (a - 0x81) + 1260 * (b - 0x30) + 10 * (c - 0x81) + (d - 0x30)) (lead_bounds a u).0 (lead_bounds a u).1 (digit_bounds b v).0 (digit_bounds b v).1
         (lead_bounds c w).0 (lead_bounds c w).1 (digit_bounds d x).0 (digit_bounds d x).1 refl found is

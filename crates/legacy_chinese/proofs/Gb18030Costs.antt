@@ -1,5 +1,5 @@
 -- What the steps of gb18030 write.
-use Rattle.std.proofs.Common.{◌≡◌, ℕ, ◌+◌, ◌-◌, ◌*◌, ◌≤◌, List, [], ◌∷◌, length, true, false, cond, ◌==◌, option_to_list, arith}
+use Rattle.std.proofs.Common.{◌≡◌, ℕ, ◌+◌, ◌-◌, ◌*◌, ◌≤◌, List, [], ◌∷◌, length, true, cond, ◌==◌, option_to_list, arith}
 use Rattle.std.proofs.lemmas.Bool.{false≢true, ltb-true}
 use Rattle.std.specs.Int.{is_in_range}
 use Rattle.std.specs.Char.{is_ascii, is_ascii_digit}
@@ -32,7 +32,8 @@ module _ (len : ℕ → ℕ) (narrow wide : ℕ) (w : IsWidth len narrow wide) w
       (λ e. units_test len narrow wide w wide (is_in_range 0x80 0xFE b) _ []
       (λ f. idx_units len narrow wide w index ((lead - 0x81) * 190 + (b - 0x41))) (λ f. omega arith))
 
-  pub gb18030_held_cost : (index : List ℕ) (ranges : List (ℕ × ℕ)) (a : ℕ) (held : List ℕ) (b : ℕ) → gb18030_may_hold (a ∷ held) ≡ true → Cost len narrow wide length 6 (a ∷ held) b (gb18030_step index ranges (a ∷ held) b)
+  pub gb18030_held_cost : (index : List ℕ) (ranges : List (ℕ × ℕ)) (a : ℕ) (held : List ℕ) (b : ℕ) → gb18030_may_hold (a ∷ held) ≡ true →
+      Cost len narrow wide length 6 (a ∷ held) b (gb18030_step index ranges (a ∷ held) b)
   gb18030_held_cost index ranges a [] b h =
       cost_test len narrow wide length 6 (a ∷ []) b (is_ascii_digit b) hold (trail_step 1 (gb18030_scalars index a b) b)
       (λ d. record { fits = omega arith; pays = omega arith; pays_without = omega arith })

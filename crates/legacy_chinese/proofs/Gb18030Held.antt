@@ -1,6 +1,5 @@
 -- What the GB18030 decoder holds back is what its machine may hold back, and its moves are the machine's.
-use Rattle.std.proofs.Common.{◌≡◌, ◌≢◌, ◌∙◌, ℕ, ◌+◌, ◌-◌, ◌*◌, ◌^◌, ◌<◌, ◌≤◌, List, [], ◌∷◌, length, append-nil, Bool, true, false, ◌&&◌, refl, sym, ap, arith, Option, Some, None, cond, ◌==◌}
-use Rattle.std.proofs.lemmas.Bool.{false≢true}
+use Rattle.std.proofs.Common.{◌≡◌, ◌≢◌, ◌∙◌, ℕ, ◌+◌, ◌-◌, ◌*◌, ◌^◌, ◌<◌, ◌≤◌, List, [], ◌∷◌, length, append-nil, Bool, true, false, refl, sym, ap, arith, Option, Some, None, cond, ◌==◌}
 use Rattle.std.proofs.lemmas.Bool.Decides.{nat_tests}
 use Rattle.std.proofs.lemmas.List.Elements.{All-nil, All-cons}
 use Rattle.std.specs.Prelude.{option_to_list, IfSome}
@@ -12,7 +11,7 @@ use Rattle.legacy_base.specs.AcceptedTables.{AcceptedIndexes}
 use Rattle.legacy_base.specs.Gb18030.{gb18030_scalars, gb18030_range_pointer}
 use Rattle.legacy_base.specs.States.{is_lead}
 use Rattle.legacy_base.specs.Grammar.{Grammar, gb18030, events_of}
-use Rattle.legacy_base.specs.States.{gb18030_may_hold, rests, is_empty}
+use Rattle.legacy_base.specs.States.{gb18030_may_hold, rests}
 use Rattle.legacy_base.proofs.Accepted.{gb18030-below, range-scalar}
 use Rattle.legacy_chinese.specs.declared.gb18030.decoder.Held.{Held}
 use Rattle.legacy_chinese.specs.declared.gb18030.decoder.Held.TheVariants.{Nothing, First, Second, Third, Digit, DigitLead}
@@ -65,15 +64,6 @@ are_bytes (Third first second third) =
     (one second.byte (third.byte ∷ []) (of_digit second).2 (one third.byte [] (of_lead third).2 (All-nil IsByte)))
 are_bytes (Digit digit) = one digit.byte [] (of_digit digit).2 (All-nil IsByte)
 are_bytes (DigitLead digit lead) = one digit.byte (lead.byte ∷ []) (of_digit digit).2 (one lead.byte [] (of_lead lead).2 (All-nil IsByte))
-
--- nothing is held back in the neutral state
-pub neutral-empty : (held : Held) → (is_empty (held_bytes held) && true) ≡ true → held_bytes held ≡ []
-neutral-empty Nothing e = refl
-neutral-empty (First first) e = absurd (false≢true e)
-neutral-empty (Second first second) e = absurd (false≢true e)
-neutral-empty (Third first second third) e = absurd (false≢true e)
-neutral-empty (Digit digit) e = absurd (false≢true e)
-neutral-empty (DigitLead digit lead) e = absurd (false≢true e)
 
 -- ---- pairs
 
@@ -163,12 +153,7 @@ module _ (tables : AcceptedIndexes) where
   events-some (DigitLead digit lead) n = some_pending (DigitLead digit lead) digit.byte (rw (of_digit digit).0 refl)
 
   pub events-empty : (held : Held) → length (held_bytes held) ≡ 0 → events_of (gb18030 tables.flat.gb18030 tables.flat.ranges) (held_bytes held) ≡ []
-  events-empty Nothing e = events-none
-  events-empty (First first) e = absurd (omega arith)
-  events-empty (Second first second) e = absurd (omega arith)
-  events-empty (Third first second third) e = absurd (omega arith)
-  events-empty (Digit digit) e = absurd (omega arith)
-  events-empty (DigitLead digit lead) e = absurd (omega arith)
+  events-empty held e = moves.ends_empty shown (held_bytes held) (may held) (are_bytes held) e
 
   -- ---- runs
 
@@ -187,7 +172,8 @@ module _ (tables : AcceptedIndexes) where
       )
 
   -- four bytes that give a scalar
-  pub four : (a b c d x : ℕ) → 0x81 ≤ a → a ≤ 0xFE → 0x30 ≤ b → b ≤ 0x39 → 0x81 ≤ c → c ≤ 0xFE → 0x30 ≤ d → d ≤ 0x39 → Some x ≡ range tables.flat.ranges (gb18030_range_pointer a b c d) → Runs g (a ∷ b ∷ c ∷ d ∷ []) (x ∷ [])
+  pub four : (a b c d x : ℕ) → 0x81 ≤ a → a ≤ 0xFE → 0x30 ≤ b → b ≤ 0x39 → 0x81 ≤ c → c ≤ 0xFE → 0x30 ≤ d → d ≤ 0x39 → Some x ≡ range tables.flat.ranges (gb18030_range_pointer a b c d) →
+      Runs g (a ∷ b ∷ c ∷ d ∷ []) (x ∷ [])
   four a b c d x a_low a_high b_low b_high c_low c_high d_low d_high e =
       let first = lead_is a a_low a_high in
       let second = digit_is b b_low b_high in
@@ -200,7 +186,8 @@ module _ (tables : AcceptedIndexes) where
       (rw (other.0, other.1, first.0) refl) (rw second.0 refl) (rw third.0 refl) (rw (fourth.0, ← e) refl)
 
   -- what such bytes' pointer gives
-  pub four_if : (a b c d p : ℕ) → 0x81 ≤ a → a ≤ 0xFE → 0x30 ≤ b → b ≤ 0x39 → 0x81 ≤ c → c ≤ 0xFE → 0x30 ≤ d → d ≤ 0x39 → p ≡ gb18030_range_pointer a b c d → (found : Option ℕ) → found ≡ range tables.flat.ranges p →
+  pub four_if : (a b c d p : ℕ) → 0x81 ≤ a → a ≤ 0xFE → 0x30 ≤ b → b ≤ 0x39 → 0x81 ≤ c → c ≤ 0xFE → 0x30 ≤ d → d ≤ 0x39 → p ≡ gb18030_range_pointer a b c d →
+      (found : Option ℕ) → found ≡ range tables.flat.ranges p →
       IfSome found (λ x. Runs g (a ∷ b ∷ c ∷ d ∷ []) (x ∷ []))
   four_if a b c d p a_low a_high b_low b_high c_low c_high d_low d_high is None e = tt
   four_if a b c d p a_low a_high b_low b_high c_low c_high d_low d_high is (Some x) e = four a b c d x a_low a_high b_low b_high c_low c_high d_low d_high (e ∙ ap (range tables.flat.ranges) is)

@@ -93,7 +93,8 @@ module _ (index : List ℕ) (ranges : List (ℕ × ℕ)) where
         or_right (is_lead second && is_ascii_digit third) (is_ascii_digit second && is_lead third) (and_from (is_ascii_digit second) (is_lead third) d k),
       ))
 
-  fits : (held : List ℕ) (b : ℕ) → gb18030_may_hold held ≡ true → rests (gb18030 index ranges) held ≡ true → Fits (gb18030_front index ranges) gb18030_may_hold held b (gb18030_step index ranges held b)
+  fits : (held : List ℕ) (b : ℕ) → gb18030_may_hold held ≡ true → rests (gb18030 index ranges) held ≡ true →
+      Fits (gb18030_front index ranges) gb18030_may_hold held b (gb18030_step index ranges held b)
   fits [] b h r = first_fits b
   fits (first ∷ []) b h r = second_fits first b (one_lead first h r)
   fits (first ∷ second ∷ []) b h r = let p = two_lead first second h r in third_fits first second b p.0 p.1
@@ -105,11 +106,8 @@ module _ (index : List ℕ) (ranges : List (ℕ × ℕ)) where
   ev_is bytes = refl
 
   few_held : (held : List ℕ) → gb18030_may_hold held ≡ true → length held ≤ 3
-  few_held [] h = omega arith
-  few_held (a ∷ []) h = omega arith
-  few_held (a ∷ b ∷ []) h = omega arith
-  few_held (a ∷ b ∷ c ∷ []) h = omega arith
   few_held (a ∷ b ∷ c ∷ d ∷ held) h = absurd (false≢true h)
+  few_held held h = omega arith
 
   -- ---- a digit that is to be written
 
@@ -126,7 +124,11 @@ module _ (index : List ℕ) (ranges : List (ℕ × ℕ)) where
   digit_front b rest d = rw (digit_is_ascii b d)
 
   pending : (b : ℕ) (held : List ℕ) → gb18030_may_hold (b ∷ held) ≡ true → (d : Bool) → is_ascii_digit b ≡ d → PendingMeets (gb18030 index ranges) (b ∷ held) (cond d (Some (1, b)) None)
-  pending b held h true d = (rw d, write_meets (gb18030 index ranges) (gb18030_front index ranges) ev_is (b ∷ held) 1 b (λ more. digit_front b (held ++ more) d) (omega arith) (omega arith) (behind_digit b held h d))
+  pending b held h true d = (
+    rw d,
+    write_meets (gb18030 index ranges) (gb18030_front index ranges) ev_is (b ∷ held) 1 b (λ more. digit_front b (held ++ more) d) (omega arith) (omega arith)
+        (behind_digit b held h d),
+  )
   pending b held h false d = rw d
 
   writes : (held : List ℕ) → gb18030_may_hold held ≡ true → PendingMeets (gb18030 index ranges) held (gb18030_pending held)
@@ -146,7 +148,8 @@ module _ (index : List ℕ) (ranges : List (ℕ × ℕ)) where
   pub gb18030_meets : Meets (gb18030 index ranges) (gb18030_machine index ranges)
   gb18030_meets = record {
     writes = writes;
-    steps = λ held b h r. fits_meets (gb18030 index ranges) (gb18030_front index ranges) ev_is gb18030_may_hold (λ held'. refl) held b (gb18030_step index ranges held b) (few_held held h) (fits held b h r);
+    steps = λ held b h r. fits_meets (gb18030 index ranges) (gb18030_front index ranges) ev_is gb18030_may_hold (λ held'. refl) held b (gb18030_step index ranges held b) (few_held held h)
+        (fits held b h r);
     ends = all_end;
     few = few_held;
   }

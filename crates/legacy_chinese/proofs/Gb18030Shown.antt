@@ -6,11 +6,12 @@ use Rattle.legacy_base.specs.Unicode.{IsByte, AreBytes}
 use Rattle.legacy_base.specs.Grammar.{gb18030}
 use Rattle.legacy_base.specs.States.{DecoderState, gb18030_may_hold, rests}
 use Rattle.legacy_base.specs.Acts.{act_room, takes}
-use Rattle.legacy_base.specs.Lengths.{to_utf16, room}
-use Rattle.legacy_decoder_engine.specs.Costs.{utf8_count, utf16_count, IsWidth, Cost, WritePays}
+use Rattle.legacy_base.specs.Lengths.{LengthQuery, to_utf16, query_form, room}
+use Rattle.legacy_base.specs.EncodingForm.{unit_count, bmp_room, wide_room}
+use Rattle.legacy_decoder_engine.specs.Costs.{IsWidth, Cost, WritePays}
 use Rattle.legacy_base.specs.States.{state_of}
 use Rattle.legacy_chinese.specs.Gb18030Machine.{gb18030_machine, gb18030_pending}
-use Rattle.legacy_decoder_engine.proofs.Widths.{width_utf8, width_utf16}
+use Rattle.legacy_decoder_engine.proofs.Widths.{width_of}
 use Rattle.legacy_decoder_engine.specs.Shown.{IsShown, WriteSettles}
 use Rattle.legacy_decoder_engine.proofs.CallUnderWay.{same_rooms}
 use Rattle.legacy_decoder_engine.proofs.RoomMoves.{first_room, held_room_is, HasCosts, IsSloped, sloped_rooms}
@@ -32,7 +33,8 @@ module _ (index : List ℕ) (ranges : List (ℕ × ℕ)) where
       cost len narrow wide w (a ∷ held) b h r bytes byte = rw (held_room_is (is_ascii b) true 1 wide) (gb18030_held_cost len narrow wide w index ranges a held b h)
 
   -- a digit that is written
-  digit_pays : (len : ℕ → ℕ) (narrow wide : ℕ) → IsWidth len narrow wide → (room : DecoderState → ℕ → ℕ) → ((b : ℕ) (held : List ℕ) (n : ℕ) → room (state_of (gb18030 index ranges) held) n + 1 ≤ room (state_of (gb18030 index ranges) (b ∷ held)) n) →
+  digit_pays : (len : ℕ → ℕ) (narrow wide : ℕ) → IsWidth len narrow wide → (room : DecoderState → ℕ → ℕ) →
+      ((b : ℕ) (held : List ℕ) (n : ℕ) → room (state_of (gb18030 index ranges) held) n + 1 ≤ room (state_of (gb18030 index ranges) (b ∷ held)) n) →
       (held : List ℕ) → WritePays len narrow wide room (gb18030 index ranges) held (gb18030_pending held)
   digit_pays len narrow wide w room falls [] = tt
   digit_pays len narrow wide w room falls (b ∷ held) = go (is_ascii_digit b) refl
@@ -41,14 +43,16 @@ module _ (index : List ℕ) (ranges : List (ℕ × ℕ)) where
       go true d = let e : len b ≡ 1 = w.ascii b (digit_below b d) in (w.every b, λ n. let f = falls b held n in omega arith)
       go false d = tt
 
+  digit_falls : (query : LengthQuery) (b : ℕ) (held : List ℕ) (n : ℕ) → room query (state_of (gb18030 index ranges) held) n + 1 ≤ room query (state_of (gb18030 index ranges) (b ∷ held)) n
+  digit_falls to_utf16 b held n = omega arith
+  digit_falls _ b held n = omega arith
+
   sloped : IsSloped (gb18030 index ranges) (gb18030_machine index ranges) length 6
   sloped = record {
     heavy = λ b held h. omega arith;
     falls = elim [ to_utf16 ↦ λ held held' n n' u h. omega arith | _ ↦ λ held held' n n' u h. omega arith ];
-    writes = elim [
-      | to_utf16 ↦ λ held h r bytes. digit_pays utf16_count 1 2 width_utf16 (room to_utf16) (λ b held n. omega arith) held
-      | query ↦ λ held h r bytes. digit_pays utf8_count 3 4 width_utf8 (room query) (λ b held n. omega arith) held
-    ];
+    writes = λ query held h r bytes. digit_pays (unit_count (query_form query)) (bmp_room (query_form query)) (wide_room (query_form query)) (width_of (query_form query)) (room query)
+        (digit_falls query) held;
     reads = elim [ to_utf16 ↦ λ held. omega arith | _ ↦ λ held. omega arith ];
     holds = elim [ to_utf16 ↦ λ b held h. omega arith | _ ↦ λ b held h. omega arith ];
   }

@@ -1,5 +1,5 @@
 -- The machine of the gb18030 decoder, byte by byte.
-use Rattle.std.specs.Prelude.{ℕ, ◌-◌, List, [], ◌∷◌, Option, Some, None, ◌==◌, if◌then◌else◌, option_to_list}
+use Rattle.std.specs.Prelude.{ℕ, List, [], ◌∷◌, Option, Some, None, ◌==◌, if◌then◌else◌, option_to_list}
 use Rattle.std.specs.Char.{is_ascii, is_ascii_digit}
 use Rattle.legacy_base.specs.Fronts.{reads, malformed, reads_or}
 use Rattle.legacy_base.specs.Indexes.{range}

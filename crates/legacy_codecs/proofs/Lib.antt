@@ -1,6 +1,6 @@
 -- Laws of runs.
-pub mod Kept
-pub mod Runs
-pub mod Running
-pub mod Filling
-pub mod Finishing
+pub mod KeptAsWritten
+pub mod RunEvents
+pub mod RunSteps
+pub mod QueriedLengths
+pub mod AmpleLengths

@@ -86,6 +86,10 @@ pub record IsBeginning (before : DecoderState) (pieces : List (List ℕ)) (finis
   pub whole : placed (length before.held) (events_of before.grammar (before.held ++ all_bytes pieces)) ≡ answered ++ rest
   pub all : finished ≡ true → rest ≡ []
 
+-- Nothing is left in a state: what is held back has no events.
+abbrev pub HasNoneLeft : DecoderState → Type 0
+HasNoneLeft state = events_of state.grammar state.held ≡ []
+
 -- how many pieces there are; no pieces count as one empty piece
 abbrev pub piece_count : List (List ℕ) → ℕ
 piece_count [] = 1
@@ -99,3 +103,23 @@ pub record HasAmpleLengths (form : EncodingForm) (before : DecoderState) (pieces
 -- the sums that have to be lengths of the type `usize`: of the pieces' lengths, and of the outputs' with their number
 abbrev pub IsTooLong : List (List ℕ) → List ℕ → Type 0
 IsTooLong pieces lengths = (2 ^ 64 ≤ sum_by length pieces) ⊎ (2 ^ 64 ≤ sum lengths + length lengths)
+
+-- ---- runs of the same bytes
+
+-- Some finished run from the state answers these events: in some encoding form, with outputs of some lengths, over pieces
+-- that are these bytes together.
+pub record FinishedRun (before : DecoderState) (bytes : List ℕ) (answered : List DecodeEvent) : Type 0 where
+  pub form : EncodingForm
+  pub pieces : List (List ℕ)
+  pub same : all_bytes pieces ≡ bytes
+  pub lengths : List ℕ
+  pub calls : ℕ
+  pub after : DecoderState
+  pub run : IsRun form (place_before before pieces) lengths calls true answered after
+
+-- However the same bytes are cut into pieces, whatever lengths the outputs have, and in UTF-8 and UTF-16 alike: any two
+-- finished runs from one state answer the same events, with the same places and lengths.
+abbrev pub CutsDoNotMatter : Type 0
+CutsDoNotMatter =
+    (before : DecoderState) (bytes : List ℕ) (one other : List DecodeEvent) →
+    FinishedRun before bytes one → FinishedRun before bytes other → one ≡ other

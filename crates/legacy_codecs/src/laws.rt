@@ -1,6 +1,9 @@
 //! Laws of many calls together, each as the contract of a function that does nothing.
 ghost use Rattle.legacy_base.specs.Lengths.{to_utf16, to_utf8, to_utf8_without_replacement};
 ghost use Rattle.legacy_codecs.specs.Filling.{QueriedLengthSuffices};
+ghost use Rattle.legacy_codecs.specs.Runs.{CutsDoNotMatter};
+
+pub use legacy_decoders::laws::{lists_are_read_by_fronts, nothing_has_no_events};
 
 /// A length query that a decoder answers for all bytes to come is enough for all calls with them.
 ///
@@ -12,4 +15,13 @@ pub fn queried_length_suffices()
     ensures utf16 { QueriedLengthSuffices to_utf16 }
     ensures utf8 { QueriedLengthSuffices to_utf8 }
     ensures utf8_without_replacement { QueriedLengthSuffices to_utf8_without_replacement }
+{}
+
+/// Two finished runs over the same bytes answer the same events.
+///
+/// Let decoders go from one state through the same bytes, cut into pieces in any two ways, with outputs
+/// of any lengths, in UTF-8 or UTF-16. Where both runs are finished, they answer the same scalars and
+/// malformed sequences in the same order: no place and no length depends on the cuts.
+pub fn cuts_do_not_matter()
+    ensures { CutsDoNotMatter }
 {}

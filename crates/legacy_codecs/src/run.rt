@@ -4,7 +4,7 @@ ghost use Rattle.legacy_base.specs.declared.results.DecodeEvent.TheVariants.{Sca
 ghost use Rattle.legacy_base.specs.EncodingForm.{EncodingForm, Utf8, Utf16};
 ghost use Rattle.legacy_base.specs.Calls.{DecoderCall};
 ghost use Rattle.legacy_codecs.specs.Pieces.{contents_of};
-ghost use Rattle.legacy_codecs.specs.Runs.{is_none, place_before, IsRun, IsBeginning, HasAmpleLengths, IsTooLong};
+ghost use Rattle.legacy_codecs.specs.Runs.{is_none, place_before, IsRun, IsBeginning, HasNoneLeft, HasAmpleLengths, IsTooLong};
 
 use crate::scalars::{OutputForm, ScalarBuffer, Utf8Form, Utf16Form};
 use legacy_base::{DecodeEvent, DecoderResult, RawDecoder};
@@ -37,7 +37,8 @@ pub enum RunError {
 
 /// The sum of the pieces' lengths, where it is a `usize`.
 fn total_length(pieces: &[&[u8]]) -> Option<usize>
-    ensures { SomeIff result (sum_by length (contents_of pieces.now) < 2 ^ 64) (sum_by length (contents_of pieces.now)) }
+    ensures { SomeIff result (sum_by length (contents_of pieces.now) < 2 ^ 64)
+        (sum_by length (contents_of pieces.now)) }
 {
     let mut total: usize = 0;
     for piece in pieces {
@@ -48,7 +49,8 @@ fn total_length(pieces: &[&[u8]]) -> Option<usize>
 
 /// The sum of the lengths and their number, where it is a `usize`.
 fn total_room(lengths: &[usize]) -> Option<usize>
-    ensures { SomeIff result (sum lengths.now + length lengths.now < 2 ^ 64) (sum lengths.now + length lengths.now) }
+    ensures { SomeIff result (sum lengths.now + length lengths.now < 2 ^ 64)
+        (sum lengths.now + length lengths.now) }
 {
     let mut total: usize = 0;
     for length in lengths {
@@ -97,8 +99,10 @@ fn call_once<D: RawDecoder, F: OutputForm>(
 ) -> (DecoderResult, usize)
     requires buffer { free ≤ length buffer.old }
     requires room { vec_len events.old + free ≤ vec_capacity events.old }
-    ensures call { (scalars : List ℕ) × DecoderCall F.form (D.state decoder.old) unread.now last free
-        (D.state decoder.new) result.0 result.1 scalars × (events.new.items ≡ events.old.items ++ map Scalar scalars) }
+    ensures call { (scalars : List ℕ)
+        × DecoderCall F.form (D.state decoder.old) unread.now last free (D.state decoder.new)
+        result.0 result.1 scalars
+        × (events.new.items ≡ events.old.items ++ map Scalar scalars) }
     ensures len { vec_len events.new ≤ vec_len events.old + free }
     ensures capacity { vec_capacity events.old ≤ vec_capacity events.new }
 {
@@ -151,8 +155,9 @@ fn run_calls<D: RawDecoder, F: OutputForm>(
     requires empty { events.items ≡ [] }
     requires room { sum lengths.now + length lengths.now ≤ vec_capacity events }
     requires total { sum_by length (contents_of pieces.now) < 2 ^ 64 }
-    ensures { IsRun F.form (place_before (D.state decoder.old) (contents_of pieces.now)) lengths.now
-        result.calls result.finished result.events.items (D.state decoder.new) }
+    ensures { let from = place_before (D.state decoder.old) (contents_of pieces.now) in
+        IsRun F.form from lengths.now result.calls result.finished result.events.items
+        (D.state decoder.new) }
 {
     let mut index: usize = 0;
     let mut offset: usize = 0;
@@ -195,9 +200,12 @@ fn decode_run<D: RawDecoder, F: OutputForm>(
     pieces: &[&[u8]],
     lengths: &[usize],
 ) -> Result<DecodeRun, RunError>
-    ensures run { IfOk result (λ run. IsRun F.form (place_before (D.state decoder.old) (contents_of pieces.now)) lengths.now
-        run.calls run.finished run.events.items (D.state decoder.new)) }
-    ensures too_long { (result ≡ Err RunError.TooLong) ↔ IsTooLong (contents_of pieces.now) lengths.now }
+    ensures run { IfOk result (λ run.
+        let from = place_before (D.state decoder.old) (contents_of pieces.now) in
+        IsRun F.form from lengths.now run.calls run.finished run.events.items
+        (D.state decoder.new)) }
+    ensures too_long { (result ≡ Err RunError.TooLong)
+        ↔ IsTooLong (contents_of pieces.now) lengths.now }
     ensures unchanged { OnErr result (decoder.new ≡ decoder.old) }
 {
     if total_length(pieces).is_none() {
@@ -227,7 +235,8 @@ fn decode_run<D: RawDecoder, F: OutputForm>(
 /// empty piece. The run is finished at an `InputEmpty` on the final piece, and else ends with the lengths.
 ///
 /// The events are a beginning of those that the decoder's grammar gives the bytes that it held back and
-/// all pieces, and all of them where the run is finished. The decoder goes on from where the run ended.
+/// all pieces. Where the run is finished they are all of them, and the decoder then holds back nothing
+/// that has an event. The decoder goes on from where the run ended.
 /// The run is sure to be finished where each length is at least 4, and there are as many as the whole
 /// input has events and pieces together, or more.
 ///
@@ -241,17 +250,25 @@ pub fn decode_run_utf8<D: RawDecoder>(
     lengths: &[usize],
 ) -> Result<DecodeRun, RunError>
     // The answer is that of a run, which ends in the decoder's new state.
-    ensures run { IfOk result (λ run. IsRun Utf8 (place_before (D.state decoder.old) (contents_of pieces.now)) lengths.now
-        run.calls run.finished run.events.items (D.state decoder.new)) }
+    ensures run { IfOk result (λ run.
+        let from = place_before (D.state decoder.old) (contents_of pieces.now) in
+        IsRun Utf8 from lengths.now run.calls run.finished run.events.items
+        (D.state decoder.new)) }
 
     // Its events are a beginning of those of all pieces, and all of them where it is finished.
-    ensures beginning { IfOk result (λ run. IsBeginning (D.state decoder.old) (contents_of pieces.now)
-        run.finished run.events.items) }
+    ensures beginning { IfOk result (λ run.
+        IsBeginning (D.state decoder.old) (contents_of pieces.now) run.finished run.events.items) }
+
+    // Where it is finished, the decoder holds back nothing that has an event.
+    ensures none_left { IfOk result (λ run.
+        IsTrue run.finished → HasNoneLeft (D.state decoder.new)) }
 
     // It is finished where there are outputs enough, each with room for any scalar.
-    ensures finishes { IfOk result (λ run. HasAmpleLengths Utf8 (D.state decoder.old) (contents_of pieces.now) lengths.now
+    ensures finishes { IfOk result (λ run.
+        HasAmpleLengths Utf8 (D.state decoder.old) (contents_of pieces.now) lengths.now
         → IsTrue run.finished) }
-    ensures too_long { (result ≡ Err RunError.TooLong) ↔ IsTooLong (contents_of pieces.now) lengths.now }
+    ensures too_long { (result ≡ Err RunError.TooLong)
+        ↔ IsTooLong (contents_of pieces.now) lengths.now }
     ensures unchanged { OnErr result (decoder.new ≡ decoder.old) }
 {
     decode_run::<D, Utf8Form>(alloc, decoder, pieces, lengths)
@@ -267,13 +284,19 @@ pub fn decode_run_utf16<D: RawDecoder>(
     pieces: &[&[u8]],
     lengths: &[usize],
 ) -> Result<DecodeRun, RunError>
-    ensures run { IfOk result (λ run. IsRun Utf16 (place_before (D.state decoder.old) (contents_of pieces.now)) lengths.now
-        run.calls run.finished run.events.items (D.state decoder.new)) }
-    ensures beginning { IfOk result (λ run. IsBeginning (D.state decoder.old) (contents_of pieces.now)
-        run.finished run.events.items) }
-    ensures finishes { IfOk result (λ run. HasAmpleLengths Utf16 (D.state decoder.old) (contents_of pieces.now) lengths.now
+    ensures run { IfOk result (λ run.
+        let from = place_before (D.state decoder.old) (contents_of pieces.now) in
+        IsRun Utf16 from lengths.now run.calls run.finished run.events.items
+        (D.state decoder.new)) }
+    ensures beginning { IfOk result (λ run.
+        IsBeginning (D.state decoder.old) (contents_of pieces.now) run.finished run.events.items) }
+    ensures none_left { IfOk result (λ run.
+        IsTrue run.finished → HasNoneLeft (D.state decoder.new)) }
+    ensures finishes { IfOk result (λ run.
+        HasAmpleLengths Utf16 (D.state decoder.old) (contents_of pieces.now) lengths.now
         → IsTrue run.finished) }
-    ensures too_long { (result ≡ Err RunError.TooLong) ↔ IsTooLong (contents_of pieces.now) lengths.now }
+    ensures too_long { (result ≡ Err RunError.TooLong)
+        ↔ IsTooLong (contents_of pieces.now) lengths.now }
     ensures unchanged { OnErr result (decoder.new ≡ decoder.old) }
 {
     decode_run::<D, Utf16Form>(alloc, decoder, pieces, lengths)

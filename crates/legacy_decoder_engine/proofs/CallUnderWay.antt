@@ -1,5 +1,6 @@
 -- How the moves of a decoder make a call.
-use Rattle.std.proofs.Common.{◌≡◌, ◌≢◌, ◌∙◌, ℕ, zero, suc, ◌+◌, ◌-◌, ◌≤◌, ◌<◌, List, [], ◌∷◌, ◌++◌, length, map, get_or, drop, refl, sym, ap, subst, arith, length-append, length-drop, drop-cons, add-one, append-nil, Bool, true, false, IsTrue, Some, None, Option, ◌⊎◌, inl, inr, All}
+use Rattle.std.proofs.Common.{◌≡◌, ◌≢◌, ◌∙◌, ℕ, zero, suc, ◌+◌, ◌-◌, ◌≤◌, ◌<◌, List, [], ◌∷◌, ◌++◌, length, map, get_or, drop, refl, sym, ap, subst, arith, length-append, length-drop, drop-cons}
+use Rattle.std.proofs.Common.{add-one, append-nil, Bool, true, false, IsTrue, Some, None, Option, ◌⊎◌, inl, inr, All}
 use Rattle.std.proofs.lemmas.List.{map-append}
 use Rattle.std.proofs.lemmas.List.Elements.{All-append, All-nil, All-cons}
 use Rattle.std.proofs.Math.Nat.{sub-zero}
@@ -62,28 +63,20 @@ pub both_rooms : (g h k : Grammar) → SameRooms g h → SameRooms h k → SameR
 both_rooms g h k a b = record { full = λ form. b.full form ∙ a.full form; report = λ form. b.report form ∙ a.report form; wants = λ p c. b.wants p c ∙ a.wants p c }
 
 sound-out : (p : ℕ) (fed : Fed) → (IsFaulty fed → ⊥) → map Scalar (fed_scalars fed) ++ fed_fault p fed ≡ map Scalar (fed_scalars fed)
-sound-out p Nothing h = refl
-sound-out p (One c) h = refl
-sound-out p (Two c d) h = refl
 sound-out p (Fault a b u) h = absurd (h tt)
+sound-out p fed h = refl
 
 sound-left : (byte : ℕ) (fed : Fed) → (IsFaulty fed → ⊥) → unread_byte byte fed ≡ []
-sound-left byte Nothing h = refl
-sound-left byte (One c) h = refl
-sound-left byte (Two c d) h = refl
 sound-left byte (Fault a b u) h = absurd (h tt)
+sound-left byte fed h = refl
 
 sound-units : (query : LengthQuery) (fed : Fed) → (IsFaulty fed → ⊥) → fed_units query fed ≡ 0
-sound-units query Nothing h = refl
-sound-units query (One c) h = refl
-sound-units query (Two c d) h = refl
 sound-units query (Fault a b u) h = absurd (h tt)
+sound-units query fed h = refl
 
 sound-rests : (p : ℕ) (next : DecoderState) (fed : Fed) → (IsFaulty fed → ⊥) → FedHolds p next fed → rests next.grammar next.held ≡ true
-sound-rests p next Nothing h f = f
-sound-rests p next (One c) h f = f
-sound-rests p next (Two c d) h f = f
 sound-rests p next (Fault a b u) h f = absurd (h tt)
+sound-rests p next fed h f = f
 
 gave : (fed : Fed) → (fed_scalars fed ≡ []) ⊎ (fed_scalars fed ≢ [])
 gave Nothing = inl refl
@@ -110,7 +103,8 @@ module _ (form : EncodingForm) (before : DecoderState) (source : List ℕ) (last
     lowers = λ query e more. omega arith;
   }
 
-  pub going_release : (now : DecoderState) (c : ℕ) → rests before.grammar before.held ≡ false → release_room_in form before.grammar ≤ free → Releases before now c → Going form before source last free now 0 (c ∷ [])
+  pub going_release : (now : DecoderState) (c : ℕ) → rests before.grammar before.held ≡ false → release_room_in form before.grammar ≤ free → Releases before now c →
+      Going form before source last free now 0 (c ∷ [])
   going_release now c r enough h = record {
     within = omega arith;
     passed = h.passed;
@@ -133,7 +127,8 @@ module _ (form : EncodingForm) (before : DecoderState) (source : List ℕ) (last
     still l = let e = going.once l in rw (e.0, e.1, e.2, sub-zero free) l
 
     -- the room that lengths promise is there
-    covered_full : IsCovered now → LacksRoom form now (drop read source) last (free - total_unit_count form scalars) → (query : LengthQuery) → query_form query ≡ form → room query before (length source) ≤ free → ⊥
+    covered_full : IsCovered now → LacksRoom form now (drop read source) last (free - total_unit_count form scalars) →
+        (query : LengthQuery) → query_form query ≡ form → room query before (length source) ≤ free → ⊥
     covered_full c l query e enough =
         let k = going.lowers query e 0 in
         let n = c.covers query (drop read source) last in
@@ -176,15 +171,20 @@ module _ (form : EncodingForm) (before : DecoderState) (source : List ℕ) (last
 
     -- reading a byte, with what it led to
     joined : (byte : ℕ) (next : DecoderState) (fed : Fed) → read < length source → get_or source read 0 ≡ byte → (f : Feeds now byte next fed) →
-        Progress false before source (going.passed + f.passed) next (unread_byte byte fed ++ drop (read + 1) source) (map Scalar scalars ++ shift going.passed (map Scalar (fed_scalars fed) ++ fed_fault f.passed fed))
+        Progress false before source (going.passed + f.passed) next (unread_byte byte fed ++ drop (read + 1) source)
+        (map Scalar scalars ++ shift going.passed (map Scalar (fed_scalars fed) ++ fed_fault f.passed fed))
     joined byte next fed h e f =
-        after_that false before source going.passed now (drop read source) (map Scalar scalars) f.passed next (unread_byte byte fed ++ drop (read + 1) source) (map Scalar (fed_scalars fed) ++ fed_fault f.passed fed)
+        after_that false before source going.passed now (drop read source) (map Scalar scalars) f.passed next (unread_byte byte fed ++ drop (read + 1) source)
+        (map Scalar (fed_scalars fed) ++ fed_fault f.passed fed)
         going.progress
-        (subst (λ l. Progress false now l f.passed next (unread_byte byte fed ++ drop (read + 1) source) (map Scalar (fed_scalars fed) ++ fed_fault f.passed fed)) (sym (next_byte byte h e)) (behind now (byte ∷ []) f.passed next (unread_byte byte fed) (map Scalar (fed_scalars fed) ++ fed_fault f.passed fed) (drop (read + 1) source) f.progress))
+        (subst (λ l. Progress false now l f.passed next (unread_byte byte fed ++ drop (read + 1) source) (map Scalar (fed_scalars fed) ++ fed_fault f.passed fed)) (sym (next_byte byte h e))
+        (behind now (byte ∷ []) f.passed next (unread_byte byte fed) (map Scalar (fed_scalars fed) ++ fed_fault f.passed fed) (drop (read + 1) source) f.progress))
 
     -- the room that is still needed, behind a byte
-    lowered : (byte : ℕ) (next : DecoderState) (fed : Fed) → read < length source → get_or source read 0 ≡ byte → Feeds now byte next fed → (query : LengthQuery) → query_form query ≡ form → (more : ℕ) →
-        room query next ((length (drop (read + 1) source) + more) + length (unread_byte byte fed)) + (total_unit_count form (fed_scalars fed) + fed_units query fed) + total_unit_count form scalars ≤ room query before (length source + more)
+    lowered : (byte : ℕ) (next : DecoderState) (fed : Fed) → read < length source → get_or source read 0 ≡ byte → Feeds now byte next fed → (query : LengthQuery) → query_form query ≡ form →
+        (more : ℕ) →
+        room query next ((length (drop (read + 1) source) + more) + length (unread_byte byte fed)) + (total_unit_count form (fed_scalars fed) + fed_units query fed) + total_unit_count form scalars ≤
+        room query before (length source + more)
     lowered byte next fed h e f query q more =
         let k = going.lowers query q more in
         let l = f.lowers query (length (drop (read + 1) source) + more) in
@@ -209,7 +209,8 @@ module _ (form : EncodingForm) (before : DecoderState) (source : List ℕ) (last
         | inl z ↦
             let w = f.full form (inr ne) in
             let r = going.rooms.full form in
-            let l : total_unit_count form (scalars ++ fed_scalars fed) ≡ total_unit_count form scalars = ap (λ cs. total_unit_count form (scalars ++ cs)) z ∙ ap (λ cs. total_unit_count form cs) (append-nil scalars) in
+            let l : total_unit_count form (scalars ++ fed_scalars fed) ≡ total_unit_count form scalars =
+            ap (λ cs. total_unit_count form (scalars ++ cs)) z ∙ ap (λ cs. total_unit_count form cs) (append-nil scalars) in
             omega arith
         | inr z ↦ absurd (ne (f.empties z))
       ];
@@ -228,8 +229,10 @@ module _ (form : EncodingForm) (before : DecoderState) (source : List ℕ) (last
     }
 
     -- a malformed sequence that was reported, with `now_read` bytes read and `gone` bytes done with
-    ended : (next : DecoderState) (a b now_read gone : ℕ) → now_read ≤ length source → IsFault (gone + length next.held) next a b → going.passed + gone + (length next.held + length (drop now_read source)) ≡ length before.held + length source →
-        (map Scalar scalars ++ shift going.passed (Bad (gone - a) a ∷ []) ≡ map Scalar scalars ++ reported_events (length before.held + now_read) (Malformed a b)) × IsFault (length before.held + now_read) next a b
+    ended : (next : DecoderState) (a b now_read gone : ℕ) → now_read ≤ length source → IsFault (gone + length next.held) next a b →
+        going.passed + gone + (length next.held + length (drop now_read source)) ≡ length before.held + length source →
+        (map Scalar scalars ++ shift going.passed (Bad (gone - a) a ∷ []) ≡ map Scalar scalars ++ reported_events (length before.held + now_read) (Malformed a b)) × IsFault
+        (length before.held + now_read) next a b
     ended next a b now_read gone h f counts =
         let d = length-drop now_read source in
         let w = f.within in
@@ -259,12 +262,14 @@ module _ (form : EncodingForm) (before : DecoderState) (source : List ℕ) (last
           input_empty = λ x. cc;
           output_full = λ x. cc;
           full_at_once = λ l. absurd (not_once (needs_byte byte h e) enough l);
-          room_at_fault = λ x. fault_room_at form before.grammar now_read (free - total_unit_count form scalars) (λ z. let q = f.report form in let q' = going.rooms.report form in omega arith) (λ z. omega arith);
+          room_at_fault = λ x. fault_room_at form before.grammar now_read (free - total_unit_count form scalars) (λ z. let q = f.report form in let q' = going.rooms.report form in omega arith)
+              (λ z. omega arith);
           room_held = λ x y. omega arith;
           had_room = going.had;
           lowers = λ query q more z.
               let l = lowered byte next (Fault a b unread) h e f query q more in
-              let c : length (drop now_read source) + more ≡ (length (drop (read + 1) source) + more) + length (unread_byte byte (Fault a b unread)) = omega (arith, ap length left_is, length-append (unread_byte byte (Fault a b unread)) (drop (read + 1) source)) in
+              let c : length (drop now_read source) + more ≡ (length (drop (read + 1) source) + more) + length (unread_byte byte (Fault a b unread)) =
+              omega (arith, ap length left_is, length-append (unread_byte byte (Fault a b unread)) (drop (read + 1) source)) in
               rw c (omega arith);
           suffices = λ query q le x. cc;
           enough = λ query q n k le answered most x. cc;
@@ -279,7 +284,8 @@ module _ (form : EncodingForm) (before : DecoderState) (source : List ℕ) (last
     call_fault_unread byte next a b h e f enough = call_fault byte next a b true read h e f enough going.within (next_byte byte h e)
 
     -- the next byte lacks its room
-    pub call_full_read : IsCovered now → (byte : ℕ) → read < length source → get_or source read 0 ≡ byte → free - total_unit_count form scalars < read_room form now byte → DecoderCall form before source last free now OutputFull read scalars
+    pub call_full_read : IsCovered now → (byte : ℕ) → read < length source → get_or source read 0 ≡ byte → free - total_unit_count form scalars < read_room form now byte →
+        DecoderCall form before source last free now OutputFull read scalars
     call_full_read c byte h e lacks = call_full c (rw (needs_byte byte h e) lacks)
 
     -- all is read, and nothing is left to report
@@ -311,11 +317,13 @@ module _ (form : EncodingForm) (before : DecoderState) (source : List ℕ) (last
         rw (nothing_left, end) (room_needed-report form now going.resting some)
 
     -- what is left at the last end lacks the room for its report
-    pub call_full_report : IsCovered now → read ≡ length source → last ≡ true → events_of now.grammar now.held ≢ [] → free - total_unit_count form scalars < release_room_in form now.grammar → DecoderCall form before source last free now OutputFull read scalars
+    pub call_full_report : IsCovered now → read ≡ length source → last ≡ true → events_of now.grammar now.held ≢ [] → free - total_unit_count form scalars < release_room_in form now.grammar →
+        DecoderCall form before source last free now OutputFull read scalars
     call_full_report c all end some lacks = call_full c (rw (needs_report all end some) lacks)
 
     -- what is left at the last end is reported
-    pub call_report : (next : DecoderState) (a b : ℕ) → read ≡ length source → last ≡ true → events_of now.grammar now.held ≢ [] → release_room_in form now.grammar ≤ free - total_unit_count form scalars → Reports now next a b →
+    pub call_report : (next : DecoderState) (a b : ℕ) → read ≡ length source → last ≡ true → events_of now.grammar now.held ≢ [] → release_room_in form now.grammar ≤
+        free - total_unit_count form scalars → Reports now next a b →
         DecoderCall form before source last free next (Malformed a b) read scalars
     call_report next a b all end some enough f =
         let nothing_left : drop read source ≡ [] = drop_of_length-le source (omega arith) in
@@ -358,7 +366,8 @@ module _ (form : EncodingForm) (before : DecoderState) (source : List ℕ) (last
     call_finish next (Malformed a b) left all e f = call_report next a b all f.0 f.1 (omega (arith, f.2)) f.3
 
   -- the scalar that is held back lacks its room
-  pub call_full_release : IsCovered before → may_hold before.grammar before.held ≡ true → rests before.grammar before.held ≡ false → free < release_room_in form before.grammar → DecoderCall form before source last free before OutputFull 0 []
+  pub call_full_release : IsCovered before → may_hold before.grammar before.held ≡ true → rests before.grammar before.held ≡ false → free < release_room_in form before.grammar →
+      DecoderCall form before source last free before OutputFull 0 []
   unfolding HadRoom
   call_full_release c m r lacks =
       let e = room_needed-release form before source last r in

@@ -1,6 +1,7 @@
 -- The moves of a machine that meets its grammar and keeps its rooms are the moves that the loop asks for.
-use Rattle.std.proofs.Common.{◌≡◌, ◌≢◌, ◌∙◌, ℕ, suc, zero-add, add-zero, ◌+◌, ◌-◌, ◌≤◌, List, [], ◌∷◌, ◌++◌, length, drop, refl, sym, ap, subst, arith, append-nil, length-append, length-drop, drop_of_length-le, Bool, true, false, not, ◌&&◌, ◌||◌, IsTrue, Some, None, inl, inr, All}
-use Rattle.std.proofs.lemmas.List.{drop-append-le}
+use Rattle.std.proofs.Common.{◌≡◌, ◌≢◌, ◌∙◌, ℕ, suc, zero-add, add-zero, ◌+◌, ◌-◌, ◌≤◌, List, [], ◌∷◌, ◌++◌, length, drop, refl, sym, ap, subst, arith, append-nil, length-append, length-drop}
+use Rattle.std.proofs.Common.{drop_of_length-le, Bool, true, false, not, ◌&&◌, ◌||◌, IsTrue, Some, None, inl, inr, All}
+use Rattle.std.proofs.lemmas.List.{drop-append-le, nil_from_length}
 use Rattle.std.proofs.lemmas.List.Elements.{All-nil, All-cons}
 use Rattle.std.proofs.lemmas.Bool.{false≢true}
 use Rattle.std.specs.Char.{IsScalar, is_ascii}
@@ -23,6 +24,7 @@ use Rattle.legacy_base.proofs.Rooms.{release-full}
 use Rattle.legacy_base.proofs.GrammarLaws.{may_none, rests-none}
 use Rattle.legacy_decoder_engine.specs.Shown.{IsShown}
 use Rattle.legacy_decoder_engine.proofs.ShortRooms.{short_or_usual}
+use Rattle.legacy_decoder_engine.proofs.RoomMoves.{all_needs}
 
 -- ---- rooms of all three queries
 
@@ -41,7 +43,8 @@ fits_form : (form : EncodingForm) {g : Grammar} {m : DecoderMachine} → IsShown
 fits_form Utf8 shown held b m r bytes byte = (shown.rooms to_utf8).step_fits held b m r bytes byte
 fits_form Utf16 shown held b m r bytes byte = (shown.rooms to_utf16).step_fits held b m r bytes byte
 
-writes_form : (form : EncodingForm) {g : Grammar} {m : DecoderMachine} → IsShown g m → (held : List ℕ) (n c : ℕ) → may_hold g held ≡ true → rests g held ≡ false → AreBytes held → m.pending held ≡ Some (n, c) →
+writes_form : (form : EncodingForm) {g : Grammar} {m : DecoderMachine} → IsShown g m →
+    (held : List ℕ) (n c : ℕ) → may_hold g held ≡ true → rests g held ≡ false → AreBytes held → m.pending held ≡ Some (n, c) →
     unit_count form c ≤ release_room_in form g
 writes_form Utf8 shown held n c m r bytes e = let w = (shown.rooms to_utf8).write_pays held m r bytes in let w' = rw e at w in w'.0
 writes_form Utf16 shown held n c m r bytes e = let w = (shown.rooms to_utf16).write_pays held m r bytes in let w' = rw e at w in w'.0
@@ -49,26 +52,22 @@ writes_form Utf16 shown held n c m r bytes e = let w = (shown.rooms to_utf16).wr
 -- ---- what a step is
 
 -- a form gives no scalar, one, or a letter and its mark
-sound_form : (g : Grammar) (cs : List ℕ) → IsOneOrMarked (has_marks g) cs → (fed_scalars (fed_form cs) ≡ cs) × (fed_fault 0 (fed_form cs) ≡ []) × ((query : LengthQuery) → fed_units query (fed_form cs) ≡ 0) × ((byte : ℕ) → unread_byte byte (fed_form cs) ≡ [])
-sound_form g [] h = (refl, refl, λ q. refl, λ b. refl)
-sound_form g (c ∷ []) h = (refl, refl, λ q. refl, λ b. refl)
-sound_form g (c ∷ d ∷ []) h = (refl, refl, λ q. refl, λ b. refl)
+sound_form : (g : Grammar) (cs : List ℕ) → IsOneOrMarked (has_marks g) cs →
+    (fed_scalars (fed_form cs) ≡ cs) × (fed_fault 0 (fed_form cs) ≡ []) × ((query : LengthQuery) → fed_units query (fed_form cs) ≡ 0) × ((byte : ℕ) → unread_byte byte (fed_form cs) ≡ [])
 sound_form g (c ∷ d ∷ e ∷ cs) h = absurd h
+sound_form g cs h = (refl, refl, λ q. refl, λ b. refl)
 
 form_fault : (passed : ℕ) (cs : List ℕ) → fed_fault passed (fed_form cs) ≡ []
-form_fault passed [] = refl
-form_fault passed (c ∷ []) = refl
 form_fault passed (c ∷ d ∷ cs) = refl
+form_fault passed cs = refl
 
 form_sound : (cs : List ℕ) → IsFaulty (fed_form cs) → ⊥
-form_sound [] f = f
-form_sound (c ∷ []) f = f
 form_sound (c ∷ d ∷ cs) f = f
+form_sound cs f = f
 
 form_holds : (passed : ℕ) (after : DecoderState) (cs : List ℕ) → IsTrue (rests after.grammar after.held) → FedHolds passed after (fed_form cs)
-form_holds passed after [] h = h
-form_holds passed after (c ∷ []) h = h
 form_holds passed after (c ∷ d ∷ cs) h = h
+form_holds passed after cs h = h
 
 -- ---- the room that the scalars of a step had
 
@@ -109,7 +108,11 @@ all_dropped n held b e = drop_of_length-le (held ++ b ∷ []) (omega (arith, len
 module _ {g : Grammar} {m : DecoderMachine} (shown : IsShown g m) (held : List ℕ) (may : may_hold g held ≡ true) (bytes : AreBytes held) where
   -- no next act needs more than the room of a query
   pub covered : IsCovered (state_of g held)
-  covered = record { covers = λ query unread last. (shown.rooms query).needs held unread last may }
+  covered = record {
+    covers = λ query unread last.
+        all_needs (bmp_room (query_form query)) (wide_room (query_form query)) (room query (state_of g held)) g m shown.meets (rests-none g) held may
+        (λ b n p. (shown.rooms query).reads_covered held b n may p) (λ n p. (shown.rooms query).holds_covered held n may p) unread last;
+  }
 
   module _ (b : ℕ) (byte : IsByte b) (resting : rests g held ≡ true) where
     to : Grammar
@@ -246,7 +249,8 @@ module _ {g : Grammar} {m : DecoderMachine} (shown : IsShown g m) (held : List �
       ]
     ]
 
-    reads_feeds : (n : ℕ) (cs : List ℕ) → Known (finish (reads n cs)) → All IsScalar (fed_scalars (fed_form cs)) → Feeds (state_of g held) b (state_of (m.to held b) (drop n (held ++ b ∷ []))) (fed_form cs)
+    reads_feeds : (n : ℕ) (cs : List ℕ) → Known (finish (reads n cs)) → All IsScalar (fed_scalars (fed_form cs)) →
+        Feeds (state_of g held) b (state_of (m.to held b) (drop n (held ++ b ∷ []))) (fed_form cs)
     reads_feeds n cs k scalar =
         let same = scalars_are cs (k.settles.1) in
         let sound = sound_form (m.to held b) cs (k.settles.1) in
@@ -339,6 +343,9 @@ module _ {g : Grammar} {m : DecoderMachine} (shown : IsShown g m) (held : List �
   -- at the end of input there is something to report exactly where bytes are held back
   pub ends_none : rests g held ≡ true → held ≡ [] → events_of g held ≡ []
   ends_none r e = shown.meets.ends held may r ∙ rw e refl
+
+  pub ends_empty : length held ≡ 0 → events_of g held ≡ []
+  ends_empty e = ap (events_of g) (nil_from_length held e) ∙ shown.meets.ends [] (may_none g) (rests-none g)
 
   pub ends_some : rests g held ≡ true → held ≢ [] → events_of g held ≢ []
   ends_some r n e = by_held held n (sym (shown.meets.ends held may r) ∙ e) where

@@ -1,5 +1,6 @@
 -- From the front of a list to what one move of a decoder does, for every continuation.
-use Rattle.std.proofs.Common.{◌≡◌, ℕ, suc, ◌+◌, ◌<◌, ◌≤◌, List, [], ◌∷◌, ◌++◌, drop, length, Bool, true, false, cond, ◌-◌, refl, sym, ap, ◌∙◌, append_assoc, length-append, length-drop, drop_of_length-le, le_refl, arith}
+use Rattle.std.proofs.Common.{◌≡◌, ℕ, suc, ◌+◌, ◌<◌, ◌≤◌, List, [], ◌∷◌, ◌++◌, drop, length, Bool, true, false, cond, ◌-◌, refl, sym, ap, ◌∙◌, append_assoc, length-append, length-drop}
+use Rattle.std.proofs.Common.{drop_of_length-le, le_refl, arith}
 use Rattle.std.proofs.Math.Seq.{drop-length}
 use Rattle.std.specs.Char.{is_ascii}
 use Rattle.std.proofs.lemmas.List.{drop-append-le}
@@ -25,7 +26,8 @@ front_move front (b ∷ rest) behind f h pos e = rw (← e, ← h) (cut-front fr
 -- what a codec shows of a step: its front is the same for every continuation
 abbrev pub Fits : (ℕ → List ℕ → Front) → (List ℕ → Bool) → List ℕ → ℕ → Step → Type 0
 Fits front may held b hold = (length held ≤ 2) × (may (held ++ b ∷ []) ≡ true)
-Fits front may held b (finish f) = ((more : List ℕ) → HasFront front (held ++ b ∷ more) f) × (0 < front_length f) × (front_length f ≤ suc (length held)) × (may (drop (front_length f) (held ++ b ∷ [])) ≡ true)
+Fits front may held b (finish f) = ((more : List ℕ) → HasFront front (held ++ b ∷ more) f) × (0 < front_length f) × (front_length f ≤ suc (length held)) ×
+    (may (drop (front_length f) (held ++ b ∷ [])) ≡ true)
 Fits front may held b (leave n) = ((more : List ℕ) → HasFront front (held ++ b ∷ more) (malformed n)) × (0 < n) × (n ≤ length held) × (may (drop n held) ≡ true)
 
 -- a test decides what a step is
@@ -69,7 +71,8 @@ module _ (g : Grammar) (front : ℕ → List ℕ → Front) (ev_is : (bytes : Li
       let l : length (held ++ b ∷ []) ≡ suc (length held) = omega (arith, length-append held (b ∷ [])) in
       let within : front_length f ≤ length (held ++ b ∷ []) = rw l (fits.2) in
       let d : length (drop (front_length f) (held ++ b ∷ [])) ≡ length (held ++ b ∷ []) - front_length f = length-drop (front_length f) (held ++ b ∷ []) in record {
-        goes_on = λ more. ev_front (held ++ b ∷ more) _ f (fits.0 more) (fits.1) (ap (drop (front_length f)) (sym (append_assoc held (b ∷ []) more)) ∙ drop-append-le (front_length f) (held ++ b ∷ []) more within);
+        goes_on = λ more. ev_front (held ++ b ∷ more) _ f (fits.0 more) (fits.1)
+            (ap (drop (front_length f)) (sym (append_assoc held (b ∷ []) more)) ∙ drop-append-le (front_length f) (held ++ b ∷ []) more within);
         counts = omega arith;
         fault = fault_length f (length held) few (fits.1) (fits.2);
         few = omega (arith, fits.1);

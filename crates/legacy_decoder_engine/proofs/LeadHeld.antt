@@ -55,7 +55,8 @@ module _ {L : Type 0} (grammar : FlatIndexes → Grammar) (is_lead_byte : ℕ �
   pub covered : (held : Option L) → IsCovered (lead_state grammar byte tables held)
   covered held = feeding.covered shown (held_bytes byte held) (may held) (are_bytes held)
 
-  pub feeds : (held : Option L) (b : ℕ) → IsByte b → (fed : Fed) (kept : Option L) → Took (two_byte_step first (scalars tables.flat) (held_bytes byte held) b) (held_bytes byte held) b fed (held_bytes byte kept) →
+  pub feeds : (held : Option L) (b : ℕ) → IsByte b →
+      (fed : Fed) (kept : Option L) → Took (two_byte_step first (scalars tables.flat) (held_bytes byte held) b) (held_bytes byte held) b fed (held_bytes byte kept) →
       Feeds (lead_state grammar byte tables held) b (lead_state grammar byte tables kept) fed
   feeds held b is_byte fed kept took =
       feeding.feeds shown (held_bytes byte held) (may held) (are_bytes held) b is_byte (is.rests_is tables.flat (held_bytes byte held)) fed (held_bytes byte kept) took
@@ -75,7 +76,8 @@ module _ {L : Type 0} (grammar : FlatIndexes → Grammar) (is_lead_byte : ℕ �
   ascii = has_ascii shown (λ b. refl) (λ b h. is.ascii_first b (ascii_is b h))
 
 -- a pair that gives one scalar
-module _ (grammar : FlatIndexes → Grammar) (is_lead_byte : ℕ → Bool) (first : ℕ → Step) (scalars : FlatIndexes → ℕ → ℕ → List ℕ) (is : IsLeadCodec grammar is_lead_byte first scalars) (tables : AcceptedIndexes) where
+module _ (grammar : FlatIndexes → Grammar) (is_lead_byte : ℕ → Bool) (first : ℕ → Step) (scalars : FlatIndexes → ℕ → ℕ → List ℕ) (is : IsLeadCodec grammar is_lead_byte first scalars)
+    (tables : AcceptedIndexes) where
   pub pair : (lead trail c : ℕ) → IsByte lead → IsByte trail → IsScalar c → is_lead_byte lead ≡ true → scalars tables.flat lead trail ≡ c ∷ [] → Runs (grammar tables.flat) (lead ∷ trail ∷ []) (c ∷ [])
   pair lead trail c is_byte is_byte' scalar is_lead e =
       pair_runs (is.shown tables.flat tables.accepted) lead trail c is_byte is_byte' scalar

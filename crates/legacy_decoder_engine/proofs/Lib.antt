@@ -9,7 +9,7 @@ pub mod JoinedRuns
 pub mod RunForms
 pub mod LeadHeld
 pub mod OneByteMeets
-pub mod RowPlaces
+pub mod PairPlaces
 pub mod Widths
 pub mod RoomMoves
 pub mod SettledSteps

@@ -1,5 +1,5 @@
 -- Machines that hold nothing back.
-use Rattle.std.proofs.Common.{◌≡◌, ℕ, ◌-◌, ◌≤◌, List, [], ◌∷◌, length, true, false, refl, arith}
+use Rattle.std.proofs.Common.{◌≡◌, ℕ, ◌≤◌, List, [], ◌∷◌, length, true, refl, arith}
 use Rattle.std.proofs.lemmas.Bool.{false≢true}
 use Rattle.legacy_base.specs.Fronts.{Front, malformed, reads_or}
 use Rattle.legacy_base.specs.States.{is_empty}
@@ -11,6 +11,7 @@ few_held [] h = omega arith
 few_held (b ∷ held) h = absurd (false≢true h)
 
 -- one byte that gives these scalars, or is malformed
-pub one_fits : (front : ℕ → List ℕ → Front) (b : ℕ) (scalars : List ℕ) → ((more : List ℕ) → front b more ≡ reads_or 1 scalars (malformed 1)) → Fits front is_empty [] b (finish (reads_or 1 scalars (malformed 1)))
+pub one_fits : (front : ℕ → List ℕ → Front) (b : ℕ) (scalars : List ℕ) →
+    ((more : List ℕ) → front b more ≡ reads_or 1 scalars (malformed 1)) → Fits front is_empty [] b (finish (reads_or 1 scalars (malformed 1)))
 one_fits front b [] h = (h, omega arith, omega arith, refl)
 one_fits front b (c ∷ scalars) h = (h, omega arith, omega arith, refl)

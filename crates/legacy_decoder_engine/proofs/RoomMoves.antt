@@ -4,12 +4,12 @@ use Rattle.std.proofs.lemmas.Bool.{false≢true}
 use Rattle.legacy_base.specs.Unicode.{IsByte, AreBytes}
 use Rattle.legacy_base.specs.Grammar.{Grammar, profile}
 use Rattle.legacy_base.specs.States.{DecoderState, may_hold, rests, is_empty}
-use Rattle.legacy_base.specs.Acts.{takes, writes, reports, act_at_end, act_at_rest, act_room, room_of_act, need, has_reported, has_short_ascii, full_room, release_room, reading_room, writing_room, full_room_in, release_room_in}
+use Rattle.legacy_base.specs.Acts.{takes, writes, reports, act_at_end, act_at_rest, act_room, room_of_act, need, has_reported, has_short_ascii, full_room, reading_room}
+use Rattle.legacy_base.specs.Acts.{full_room_in, release_room_in}
 use Rattle.legacy_base.specs.EncodingForm.{unit_count, bmp_room, wide_room}
 use Rattle.legacy_base.specs.Lengths.{LengthQuery, to_utf16, to_utf8, to_utf8_without_replacement, query_form, replacement_units, room}
 use Rattle.legacy_base.specs.Profile.{Rooms, narrow_acts, wide_reads, wide_acts}
 use Rattle.legacy_base.proofs.Enough.{room-rises}
-use Rattle.legacy_base.proofs.GrammarLaws.{rests-none}
 use Rattle.std.proofs.Math.Nat.{mul-le-mul_left}
 use Rattle.std.specs.Char.{is_ascii}
 use Rattle.legacy_decoder_engine.specs.Steps.{Step, step_held, end_events, DecoderMachine, Meets}
@@ -45,7 +45,8 @@ pub all_needs : (narrow wide : ℕ) (room : ℕ → ℕ) (g : Grammar) (m : Deco
     (unread : List ℕ) (last : Bool) → need narrow wide (state_of g held) unread last ≤ room (length unread)
 all_needs narrow wide room g m meets empty held may take write unread last = go (rests g held) refl
   where
-    at_end : (held' : List ℕ) → (0 < length held' → act_room narrow wide (state_of g held) reports ≤ room 0) → (last : Bool) → room_of_act narrow wide (state_of g held) (act_at_end (end_events held') last) ≤ room 0
+    at_end : (held' : List ℕ) → (0 < length held' → act_room narrow wide (state_of g held) reports ≤ room 0) →
+        (last : Bool) → room_of_act narrow wide (state_of g held) (act_at_end (end_events held') last) ≤ room 0
     at_end [] h last = omega arith
     at_end (b ∷ held') h true = h (omega arith)
     at_end (b ∷ held') h false = omega arith
@@ -145,14 +146,6 @@ narrow_read narrow wide rises g = by_rooms (profile g).rooms
     by_rooms wide_reads = (rises, omega arith)
     by_rooms wide_acts = (rises, omega arith)
 
-pub narrow_held : (narrow wide : ℕ) → narrow ≤ wide → (g : Grammar) → narrow ≤ release_room narrow wide g
-narrow_held narrow wide rises g = by_rooms (profile g).rooms
-  where
-    by_rooms : (r : Rooms) → narrow ≤ writing_room narrow wide r
-    by_rooms narrow_acts = omega arith
-    by_rooms wide_reads = omega arith
-    by_rooms wide_acts = rises
-
 -- the rooms of a codec whose rooms fall by slopes
 module _ (g : Grammar) (m : DecoderMachine) (wt : List ℕ → ℕ) (paid : ℕ) (meets : Meets g m) (costs : HasCosts g m wt paid) (is : IsSloped g m wt paid) (query : LengthQuery) where
   w : IsWidth (unit_count (query_form query)) (bmp_room (query_form query)) (wide_room (query_form query))
@@ -165,7 +158,8 @@ module _ (g : Grammar) (m : DecoderMachine) (wt : List ℕ → ℕ) (paid : ℕ)
       let rises : room query (state_of g held) 1 ≤ room query (state_of g held) n = room-rises query (state_of g held) 1 n (omega arith) in
       omega arith
 
-  holds_covered : (held : List ℕ) → may_hold g held ≡ true → (n : ℕ) → 0 < length held → act_room (bmp_room (query_form query)) (wide_room (query_form query)) (state_of g held) writes ≤ room query (state_of g held) n
+  holds_covered : (held : List ℕ) → may_hold g held ≡ true → (n : ℕ) → 0 < length held → act_room (bmp_room (query_form query)) (wide_room (query_form query)) (state_of g held) writes ≤
+      room query (state_of g held) n
   holds_covered [] h n p = absurd (omega arith)
   holds_covered (b ∷ held) h n p =
       let least = is.holds query b held h in
@@ -176,11 +170,12 @@ module _ (g : Grammar) (m : DecoderMachine) (wt : List ℕ → ℕ) (paid : ℕ)
   sloped_rooms = record {
     step_fits = λ held b h r bytes byte. (costs.cost (unit_count (query_form query)) (bmp_room (query_form query)) (wide_room (query_form query)) w held b h r bytes byte).fits;
     step_pays = λ held b n h r bytes byte. rw (costs.to_is held b)
-        (sloped_pays (room query) g wt (query_slope paid query) (is.falls query) held (step_held (m.step held b) held b) (step_left (m.step held b)) n (step_units (unit_count (query_form query)) (replacement_units query) (m.step held b))
-        (paid_of query wt paid (act_room (bmp_room (query_form query)) (wide_room (query_form query)) (state_of g held) (takes b)) held b (m.step held b) (costs.cost (unit_count (query_form query)) (bmp_room (query_form query)) (wide_room (query_form query)) w held b h r bytes byte)));
+        (sloped_pays (room query) g wt (query_slope paid query) (is.falls query) held (step_held (m.step held b) held b) (step_left (m.step held b)) n
+        (step_units (unit_count (query_form query)) (replacement_units query) (m.step held b))
+        (paid_of query wt paid (act_room (bmp_room (query_form query)) (wide_room (query_form query)) (state_of g held) (takes b)) held b (m.step held b)
+        (costs.cost (unit_count (query_form query)) (bmp_room (query_form query)) (wide_room (query_form query)) w held b h r bytes byte)));
     write_pays = is.writes query;
-    report_fits = λ held. narrow_held (bmp_room (query_form query)) (wide_room (query_form query)) w.rises g;
     report_pays = λ b held h r. is.falls query (b ∷ held) [] 0 0 (replacement_units query) (fault_paid query paid (wt []) (wt (b ∷ held)) (is.heavy b held h));
-    needs = λ held unread last h. all_needs (bmp_room (query_form query)) (wide_room (query_form query)) (room query (state_of g held)) g m meets (rests-none g) held h (takes_covered held) (holds_covered held h) unread last;
-    rises = λ held n m' le. room-rises query (state_of g held) n m' le;
+    reads_covered = λ held b n h p. takes_covered held b n p;
+    holds_covered = λ held n h p. holds_covered held h n p;
   }

@@ -1,17 +1,12 @@
 -- When a byte needs less than the usual room.
-use Rattle.std.proofs.Common.{◌≡◌, ℕ, ◌≤◌, List, [], ◌∷◌, Bool, true, false, cond, Option, Some, None, drop, refl, ◌&&◌, ◌⊎◌, inl, inr, arith}
+use Rattle.std.proofs.Common.{◌≡◌, ℕ, ◌≤◌, List, [], ◌∷◌, Bool, true, false, cond, refl, ◌&&◌, ◌⊎◌, inl, inr, arith}
 use Rattle.std.specs.Char.{is_ascii}
-use Rattle.legacy_base.specs.EncodingForm.{unit_count, bmp_room, wide_room}
 use Rattle.legacy_base.specs.Fronts.{reads}
 use Rattle.legacy_base.specs.Grammar.{Grammar}
-use Rattle.legacy_base.specs.States.{may_hold, rests, is_empty}
-use Rattle.legacy_base.specs.Acts.{act_room, takes, full_room, has_short_ascii, has_reported, has_marks}
-use Rattle.legacy_base.specs.Lengths.{LengthQuery, query_form, replacement_units, room}
-use Rattle.legacy_decoder_engine.specs.Steps.{finish, DecoderMachine, Meets}
-use Rattle.legacy_decoder_engine.specs.Moves.{SameRooms}
-use Rattle.legacy_decoder_engine.specs.Costs.{RoomMeets}
+use Rattle.legacy_base.specs.States.{is_empty}
+use Rattle.legacy_base.specs.Acts.{act_room, takes, full_room, has_short_ascii, has_reported}
+use Rattle.legacy_decoder_engine.specs.Steps.{finish, DecoderMachine}
 use Rattle.legacy_base.specs.States.{state_of}
-use Rattle.legacy_decoder_engine.specs.Settling.{Settles}
 use Rattle.legacy_decoder_engine.specs.Shown.{IsShown}
 
 -- when a byte needs less than the usual room: ASCII with nothing held back, which is then its own scalar

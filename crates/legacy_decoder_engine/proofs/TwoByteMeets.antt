@@ -48,7 +48,8 @@ module _ (g : Grammar) (front : ℕ → List ℕ → Front) (is_lead_byte : ℕ 
   pub two_byte_meets : Meets g (two_byte_machine g first scalars)
   two_byte_meets = record {
     writes = λ held h. is.rests_is held;
-    steps = λ held b h r. fits_meets g front (is.ev_is) (single_lead_may_hold is_lead_byte) (is.may_is) held b (two_byte_step first scalars held b) (few_held held (rw (is.may_is held) at h)) (step_fits held b (rw (is.may_is held) at h));
+    steps = λ held b h r. fits_meets g front (is.ev_is) (single_lead_may_hold is_lead_byte) (is.may_is) held b (two_byte_step first scalars held b) (few_held held (rw (is.may_is held) at h))
+        (step_fits held b (rw (is.may_is held) at h));
     ends = λ held h r. all_ends held (rw (is.may_is held) at h);
     few = λ held h. few_held held (rw (is.may_is held) at h);
   }

@@ -47,7 +47,8 @@ module _ (g : Grammar) (front : ℕ → List ℕ → Front) (is_lead_byte : ℕ 
           let some = w.some in
           let twice = w.twice in
           rw (is.unreported, is.short_ascii, held_room_is (is_ascii b) true 1 (full_room narrow wide g))
-          (trail_cost len narrow wide w (full_room narrow wide g) paid lead b (scalars lead b) (has_rooms.pair_units len narrow wide w lead b) (between.0) (omega arith) (has_rooms.is_paid len narrow wide w))
+          (trail_cost len narrow wide w (full_room narrow wide g) paid lead b (scalars lead b) (has_rooms.pair_units len narrow wide w lead b) (between.0) (omega arith)
+          (has_rooms.is_paid len narrow wide w))
       cost len narrow wide w (lead ∷ c ∷ held) b h = absurd (false≢true h)
 
   sloped : IsSloped g (two_byte_machine g first scalars) length paid

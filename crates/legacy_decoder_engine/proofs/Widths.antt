@@ -1,13 +1,12 @@
 -- The units of scalars in UTF-8 and in UTF-16, and the scalars of indexes.
-use Rattle.std.proofs.Common.{◌≡◌, [], ◌∷◌, refl, ℕ, ◌+◌, ◌<◌, ◌≤◌, List, length, get_or, Bool, true, false, cond, Option, Some, None, arith, ◌==◌, option_to_list, ⊎_elim}
+use Rattle.std.proofs.Common.{◌≡◌, [], ◌∷◌, ℕ, ◌+◌, ◌<◌, ◌≤◌, List, length, get_or, Bool, true, false, cond, Option, Some, None, arith, ◌==◌, option_to_list, ⊎_elim}
 use Rattle.std.proofs.lemmas.Bool.{cases_lt}
 use Rattle.std.proofs.lemmas.List.Elements.{All-get_or}
 use Rattle.std.proofs.lemmas.List.{get_or_past}
-use Rattle.legacy_decoder_engine.specs.Costs.{utf8_count}
 use Rattle.legacy_base.specs.EncodingForm.{EncodingForm, Utf8, Utf16, unit_count, bmp_room, wide_room}
 use Rattle.legacy_base.specs.Indexes.{entry_scalar, idx}
 use Rattle.legacy_base.proofs.CodeUnits.{encode_2, length-code_units-ascii, length-code_units-bmp, length-code_units-wide}
-use Rattle.legacy_decoder_engine.specs.Costs.{utf16_count, units, IsWidth, IsNarrowIndex}
+use Rattle.legacy_decoder_engine.specs.Costs.{units, IsWidth, IsNarrowIndex}
 
 -- UTF-8 and UTF-16 have what `IsWidth` asks
 pub width_of : (form : EncodingForm) → IsWidth (unit_count form) (bmp_room form) (wide_room form)
@@ -33,12 +32,6 @@ width_of Utf16 = record {
   rises = omega arith;
   twice = omega arith;
 }
-
-pub width_utf8 : IsWidth utf8_count 3 4
-width_utf8 = width_of Utf8
-
-pub width_utf16 : IsWidth utf16_count 1 2
-width_utf16 = width_of Utf16
 
 -- what an index of narrow entries holds at a pointer
 pub narrow_entry : (index : List ℕ) (p : ℕ) → IsNarrowIndex index → get_or index p 0 < 0x1_0000

@@ -1,20 +1,11 @@
 -- How many units of output a move of a decoder writes, and what that must be of its room.
-use Rattle.std.specs.Prelude.{ℕ, ◌+◌, ◌*◌, ◌<◌, ◌≤◌, ◌≡◌, List, [], ◌∷◌, Bool, true, false, drop, length, All, Option, Some, None}
+use Rattle.std.specs.Prelude.{ℕ, ◌+◌, ◌*◌, ◌<◌, ◌≤◌, ◌≡◌, List, [], ◌∷◌, true, false, drop, length, All, Option, Some, None}
 use Rattle.legacy_base.specs.Unicode.{IsByte, AreBytes}
 use Rattle.legacy_base.specs.Fronts.{reads, malformed}
 use Rattle.legacy_base.specs.Grammar.{Grammar}
 use Rattle.legacy_base.specs.States.{DecoderState, state_of, may_hold, rests}
-use Rattle.legacy_base.specs.Acts.{takes, writes, reports, act_room, need}
-use Rattle.legacy_base.specs.EncodingForm.{Utf8, Utf16, unit_count}
-use Rattle.legacy_base.specs.Lengths.{room, to_utf8, to_utf16, to_utf8_without_replacement}
+use Rattle.legacy_base.specs.Acts.{takes, writes, act_room}
 use Rattle.legacy_decoder_engine.specs.Steps.{Step, hold, finish, leave, step_held, DecoderMachine}
-
--- how many bytes a scalar has in UTF-8, and how many units in UTF-16
-abbrev pub utf8_count : ℕ → ℕ
-utf8_count c = unit_count Utf8 c
-
-abbrev pub utf16_count : ℕ → ℕ
-utf16_count c = unit_count Utf16 c
 
 -- the units of scalars
 abbrev pub units : (ℕ → ℕ) → List ℕ → ℕ
@@ -58,16 +49,6 @@ pub record Cost (len : ℕ → ℕ) (narrow at_most : ℕ) (wt : List ℕ → �
   pub pays : step_units len narrow s + narrow * (wt (step_held s held b) + step_left s) ≤ narrow * (wt held + 1)
   pub pays_without : 2 * step_units len 0 s + slope * (wt (step_held s held b) + step_left s) ≤ slope * (wt held + 1)
 
--- the rooms of the three length queries
-abbrev pub utf8_room : DecoderState → ℕ → ℕ
-utf8_room state n = room to_utf8 state n
-
-abbrev pub utf16_room : DecoderState → ℕ → ℕ
-utf16_room state n = room to_utf16 state n
-
-abbrev pub utf8_without_room : DecoderState → ℕ → ℕ
-utf8_without_room state n = room to_utf8_without_replacement state n
-
 -- a scalar that is held back in the first k bytes has its room, and the room needed then falls by its units
 abbrev pub WritePays : (ℕ → ℕ) → ℕ → ℕ → (DecoderState → ℕ → ℕ) → Grammar → List ℕ → Option (ℕ × ℕ) → Type 0
 WritePays len narrow wide room g held None = Unit {0}
@@ -75,15 +56,14 @@ WritePays len narrow wide room g held (Some (k, c)) =
     (len c ≤ act_room narrow wide (state_of g held) writes)
     × ((n : ℕ) → room (state_of g (drop k held)) n + len c ≤ room (state_of g held) n)
 
--- Each move has its room, lowers the room of what is still to come by what it writes (and by `fault` for a malformed
--- sequence), and no next act needs more than the room.
+-- Each move has its room, and lowers the room of what is still to come by what it writes (and by `fault` for a malformed
+-- sequence). That room covers reading a byte, and writing or reporting what is held back.
 pub record RoomMeets (len : ℕ → ℕ) (narrow wide fault : ℕ) (room : DecoderState → ℕ → ℕ) (g : Grammar) (m : DecoderMachine) : Type 0 where
   pub step_fits : (held : List ℕ) (b : ℕ) → may_hold g held ≡ true → rests g held ≡ true → AreBytes held → IsByte b →
       step_units len narrow (m.step held b) ≤ act_room narrow wide (state_of g held) (takes b)
   pub step_pays : (held : List ℕ) (b n : ℕ) → may_hold g held ≡ true → rests g held ≡ true → AreBytes held → IsByte b →
       room (state_of (m.to held b) (step_held (m.step held b) held b)) (n + step_left (m.step held b)) + step_units len fault (m.step held b) ≤ room (state_of g held) (n + 1)
   pub write_pays : (held : List ℕ) → may_hold g held ≡ true → rests g held ≡ false → AreBytes held → WritePays len narrow wide room g held (m.pending held)
-  pub report_fits : (held : List ℕ) → narrow ≤ act_room narrow wide (state_of g held) reports
   pub report_pays : (b : ℕ) (held : List ℕ) → may_hold g (b ∷ held) ≡ true → rests g (b ∷ held) ≡ true → room (state_of g []) 0 + fault ≤ room (state_of g (b ∷ held)) 0
-  pub needs : (held unread : List ℕ) (last : Bool) → may_hold g held ≡ true → need narrow wide (state_of g held) unread last ≤ room (state_of g held) (length unread)
-  pub rises : (held : List ℕ) (n m : ℕ) → n ≤ m → room (state_of g held) n ≤ room (state_of g held) m
+  pub reads_covered : (held : List ℕ) (b n : ℕ) → may_hold g held ≡ true → 0 < n → act_room narrow wide (state_of g held) (takes b) ≤ room (state_of g held) n
+  pub holds_covered : (held : List ℕ) (n : ℕ) → may_hold g held ≡ true → 0 < length held → act_room narrow wide (state_of g held) writes ≤ room (state_of g held) n

@@ -1,5 +1,5 @@
 -- The machines of the codecs whose forms have one byte, or a lead and a trail.
-use Rattle.std.specs.Prelude.{ℕ, ◌-◌, List, [], ◌∷◌, if◌then◌else◌}
+use Rattle.std.specs.Prelude.{ℕ, List, [], ◌∷◌, if◌then◌else◌}
 use Rattle.std.specs.Char.{is_ascii}
 use Rattle.legacy_base.specs.Fronts.{reads, malformed}
 use Rattle.legacy_base.specs.Grammar.{Grammar}

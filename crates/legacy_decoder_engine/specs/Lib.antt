@@ -6,6 +6,6 @@ pub mod Costs
 pub mod Feeding
 pub mod LeadMachines
 pub mod LeadCodecs
-pub mod RowPlaces
+pub mod Places
 pub mod Settling
 pub mod Shown

@@ -1,16 +1,15 @@
 -- What is shown of a codec's machine, all in one. The proofs for all codecs take this, and know of no codec.
-use Rattle.std.specs.Prelude.{◌≡◌, ℕ, ◌≤◌, List, [], ◌∷◌, Bool, true, false, Option, Some, None, drop, ◌&&◌, ◌⊎◌}
+use Rattle.std.specs.Prelude.{◌≡◌, ℕ, List, [], ◌∷◌, true, false, Option, Some, None, drop, ◌⊎◌}
 use Rattle.std.specs.Char.{is_ascii}
 use Rattle.legacy_base.specs.EncodingForm.{unit_count, bmp_room, wide_room}
 use Rattle.legacy_base.specs.Fronts.{reads}
 use Rattle.legacy_base.specs.Grammar.{Grammar}
-use Rattle.legacy_base.specs.States.{may_hold, rests, is_empty}
-use Rattle.legacy_base.specs.Acts.{act_room, takes, full_room, has_short_ascii, has_reported, has_marks}
+use Rattle.legacy_base.specs.States.{may_hold, rests}
+use Rattle.legacy_base.specs.Acts.{has_short_ascii, has_reported, has_marks}
 use Rattle.legacy_base.specs.Lengths.{LengthQuery, query_form, replacement_units, room}
 use Rattle.legacy_decoder_engine.specs.Steps.{finish, DecoderMachine, Meets}
 use Rattle.legacy_decoder_engine.specs.Moves.{SameRooms}
 use Rattle.legacy_decoder_engine.specs.Costs.{RoomMeets}
-use Rattle.legacy_base.specs.States.{state_of}
 use Rattle.legacy_decoder_engine.specs.Settling.{Settles}
 
 -- the rooms of one query are kept

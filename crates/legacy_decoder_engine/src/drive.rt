@@ -5,7 +5,7 @@ ghost use Rattle.legacy_base.specs.States.{rests};
 ghost use Rattle.legacy_base.specs.Calls.{IsDecoderCall};
 ghost use Rattle.legacy_decoder_engine.specs.Moves.{room_units, fed_scalars, Finishes};
 
-use crate::moves::{Move, Fed, DecoderMoves, Room};
+use crate::moves::{DecoderMoves, Fed, Move, Room};
 use legacy_base::{DecoderResult, Destination};
 
 #[inline]
@@ -23,7 +23,8 @@ fn has_room<T: Destination>(dst: &T, room: Room) -> bool
 #[inline(always)]
 fn put_fed<T: Destination>(dst: &mut T, fed: Fed)
     requires { total_unit_count T.form (fed_scalars fed) ≤ T.room dst.old }
-    ensures contents { T.contents dst.new ≡ T.contents dst.old ++ all_code_units T.form (fed_scalars fed) }
+    ensures contents { T.contents dst.new ≡ T.contents dst.old ++ all_code_units T.form
+        (fed_scalars fed) }
     ensures room { T.room dst.new + total_unit_count T.form (fed_scalars fed) ≡ T.room dst.old }
     ensures loan { T.loan dst.new ≡ T.loan dst.old }
 {
@@ -41,7 +42,8 @@ fn put_fed<T: Destination>(dst: &mut T, fed: Fed)
 #[inline]
 fn finish<D: DecoderMoves, T: Destination>(decoder: &mut D, dst: &T, last: bool) -> DecoderResult
     requires { rests (D.state decoder.old).grammar (D.state decoder.old).held ≡ true }
-    ensures { Finishes T.form (D.state decoder.old) last (T.room dst.now) (D.state decoder.new) result }
+    ensures { Finishes T.form (D.state decoder.old) last (T.room dst.now)
+        (D.state decoder.new) result }
 {
     if !last || !decoder.has_rest() {
         return DecoderResult::InputEmpty;
@@ -66,7 +68,8 @@ pub fn drive_decoder<D: DecoderMoves, T: Destination>(
     dst: &mut T,
     last: bool,
 ) -> (DecoderResult, usize)
-    ensures call { IsDecoderCall T.form (D.state decoder.old) src.now last (T.room dst.old) (D.state decoder.new)
+    ensures call { IsDecoderCall T.form (D.state decoder.old) src.now last (T.room dst.old)
+        (D.state decoder.new)
         result.0 result.1 (T.contents dst.old) (T.contents dst.new) }
     ensures room { T.room dst.new + length (T.contents dst.new)
         ≡ T.room dst.old + length (T.contents dst.old) }

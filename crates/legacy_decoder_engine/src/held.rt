@@ -14,7 +14,8 @@ impl Lead {
     /// The byte as a lead, if it is one.
     #[inline]
     pub fn new(byte: u8) -> Option<Lead>
-        ensures { MatchOption result (is_lead byte ≡ false) (λ lead. (lead.byte ≡ byte) × (is_lead byte ≡ true)) }
+        ensures { MatchOption result (is_lead byte ≡ false)
+            (λ lead. (lead.byte ≡ byte) × (is_lead byte ≡ true)) }
     {
         if byte < 0x81 || byte > 0xFE {
             return None;

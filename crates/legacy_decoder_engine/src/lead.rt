@@ -13,10 +13,10 @@ ghost use Rattle.legacy_decoder_engine.specs.Ahead.{IsCommonForm};
 ghost use Rattle.legacy_decoder_engine.specs.Feeding.{Took};
 ghost use Rattle.legacy_decoder_engine.specs.LeadCodecs.{IsLeadCodec, held_bytes, lead_state};
 
-use legacy_base::{DecoderResult, Destination, RawDecoder, Tables};
-use crate::ahead::{CommonForms, CommonForm, ahead};
+use crate::ahead::{CommonForm, CommonForms, ahead};
 use crate::drive::drive_decoder;
-use crate::moves::{Move, Fed, DecoderMoves, Room};
+use crate::moves::{DecoderMoves, Fed, Move, Room};
+use legacy_base::{DecoderResult, Destination, RawDecoder, Tables};
 
 /// A codec whose forms have one byte, or a lead and a trail: all that its decoder does not share.
 pub trait LeadCodec {
@@ -44,7 +44,8 @@ pub trait LeadCodec {
 
     /// Reads the byte behind a lead.
     fn read_pair(tables: &Tables<'_>, lead: Self::Lead, trail: u8) -> Fed
-        ensures { Took (trail_step 1 (scalars tables.now.flat (byte_of lead) trail) trail) (byte_of lead ∷ []) trail result [] };
+        ensures { Took (trail_step 1 (scalars tables.now.flat (byte_of lead) trail) trail)
+            (byte_of lead ∷ []) trail result [] };
 
     /// What stands at the front of the input, by a byte past ASCII and the byte behind it.
     fn front(tables: &Tables<'_>, lead: u8, trail: u8) -> CommonForm
@@ -53,20 +54,28 @@ pub trait LeadCodec {
 
     /// The room of every act but reading ASCII with nothing held back.
     fn room() -> Room
-        ensures reads { (form : EncodingForm) (flat : FlatIndexes) → room_units form result ≡ full_room_in form (grammar flat) }
-        ensures writes { (form : EncodingForm) (flat : FlatIndexes) → room_units form result ≡ release_room_in form (grammar flat) };
+        ensures reads { (form : EncodingForm) (flat : FlatIndexes) →
+            room_units form result ≡ full_room_in form (grammar flat) }
+        ensures writes { (form : EncodingForm) (flat : FlatIndexes) →
+            room_units form result ≡ release_room_in form (grammar flat) };
 
     /// `max_utf16_buffer_length`, where so many bytes are held back.
     fn utf16_length(byte_length: usize, held: usize) -> Option<usize>
-        ensures { (flat : FlatIndexes) (units : Formula) → result ≡ answer (utf16_formula (grammar flat) (number byte_length) (number byte_length ⊕ number held) units) };
+        ensures { (flat : FlatIndexes) (units : Formula) →
+            result ≡ answer (utf16_formula (grammar flat) (number byte_length)
+            (number byte_length ⊕ number held) units) };
 
     /// `max_utf8_buffer_length_without_replacement`, where so many bytes are held back.
     fn utf8_length_without_replacement(byte_length: usize, held: usize) -> Option<usize>
-        ensures { (flat : FlatIndexes) (units : Formula) → result ≡ answer (utf8_without_replacement_formula (grammar flat) (number byte_length) (number byte_length ⊕ number held) units) };
+        ensures { (flat : FlatIndexes) (units : Formula) →
+            result ≡ answer (utf8_without_replacement_formula (grammar flat) (number byte_length)
+            (number byte_length ⊕ number held) units) };
 
     /// `max_utf8_buffer_length`, where so many bytes are held back.
     fn utf8_length(byte_length: usize, held: usize) -> Option<usize>
-        ensures { (flat : FlatIndexes) (units : Formula) → result ≡ answer (utf8_formula (grammar flat) (number byte_length) (number byte_length ⊕ number held) units) };
+        ensures { (flat : FlatIndexes) (units : Formula) →
+            result ≡ answer (utf8_formula (grammar flat) (number byte_length)
+            (number byte_length ⊕ number held) units) };
 
     ghost codec: { IsLeadCodec grammar is_lead first scalars };
 
@@ -83,14 +92,16 @@ pub struct LeadDecoder<'a, C: LeadCodec> {
 impl<'a, C: LeadCodec> LeadDecoder<'a, C> {
     /// A decoder before its first byte, which reads by the codec's index of the tables.
     pub fn new(tables: &'a Tables<'a>) -> LeadDecoder<'a, C>
-        ensures { lead_state C.grammar C.byte_of result.tables.now result.held ≡ new_state (C.grammar tables.now.flat) }
+        ensures { lead_state C.grammar C.byte_of result.tables.now result.held ≡ new_state
+            (C.grammar tables.now.flat) }
     {
         LeadDecoder { tables, held: None }
     }
 
     /// Whether no lead is held back.
     pub fn in_neutral_state(&self) -> bool
-        ensures { result ≡ is_neutral (lead_state C.grammar C.byte_of self.now.tables.now self.now.held) }
+        ensures { result ≡ is_neutral
+            (lead_state C.grammar C.byte_of self.now.tables.now self.now.held) }
     {
         self.held.is_none()
     }

@@ -60,13 +60,15 @@ pub trait DecoderMoves {
 
     /// The room that an act needs, whatever comes of it. Nothing changes.
     fn room(&self, next: Move) -> Room
-        ensures units { (form : EncodingForm) → room_units form result ≡ move_units form (state self.now) next }
+        ensures units { (form : EncodingForm) → room_units form result ≡ move_units form
+            (state self.now) next }
         ensures covered { IsCovered (state self.now) };
 
     /// Gives the scalar that is held back and is to be written first, and holds it back no longer; `None`
     /// exactly where there is none.
     fn release(&mut self) -> Option<char>
-        ensures { MatchOption result (rests (state self.old).grammar (state self.old).held ≡ true) (λ c. Releases (state self.old) (state self.new) c) };
+        ensures { MatchOption result (rests (state self.old).grammar (state self.old).held ≡ true)
+            (λ c. Releases (state self.old) (state self.new) c) };
 
     /// Reads a byte behind those that are held back, and answers what it led to.
     fn feed(&mut self, byte: u8) -> Fed
@@ -75,8 +77,10 @@ pub trait DecoderMoves {
 
     /// Whether something is left to report at the end of the input. Nothing changes.
     fn has_rest(&self) -> bool
-        ensures some { result ≡ true → events_of (state self.now).grammar (state self.now).held ≢ [] }
-        ensures none { result ≡ false → events_of (state self.now).grammar (state self.now).held ≡ [] };
+        ensures some { result ≡ true → events_of (state self.now).grammar
+            (state self.now).held ≢ [] }
+        ensures none { result ≡ false → events_of (state self.now).grammar (state self.now).held
+            ≡ [] };
 
     /// Reports the malformed sequence that is left at the end of the input: its length in bytes, and how many
     /// bytes stand behind it, which are held back still. `None` exactly where nothing is left.
@@ -91,7 +95,8 @@ pub trait DecoderMoves {
     /// none.
     #[inline]
     fn read_ahead<T: Destination>(&self, src: &[u8], dst: &mut T) -> usize
-        ensures ahead { ReadsAhead T.form (state self.now) src.now result (T.contents dst.old) (T.contents dst.new) (T.room dst.old) (T.room dst.new) }
+        ensures ahead { ReadsAhead T.form (state self.now) src.now result (T.contents dst.old)
+            (T.contents dst.new) (T.room dst.old) (T.room dst.new) }
         ensures loan { T.loan dst.new ≡ T.loan dst.old }
     {
         let _ = (src.len(), dst.free());
@@ -102,7 +107,8 @@ pub trait DecoderMoves {
     /// are read, from one run over such bytes to the next: then the decoder changes with them.
     #[inline]
     fn read_runs<T: Destination>(&mut self, src: &[u8], dst: &mut T) -> usize
-        ensures runs { ReadsTo T.form (state self.old) (state self.new) src.now result (T.contents dst.old) (T.contents dst.new) (T.room dst.old) (T.room dst.new) }
+        ensures runs { ReadsTo T.form (state self.old) (state self.new) src.now result
+            (T.contents dst.old) (T.contents dst.new) (T.room dst.old) (T.room dst.new) }
         ensures loan { T.loan dst.new ≡ T.loan dst.old }
     {
         self.read_ahead(src, dst)

@@ -1,10 +1,12 @@
-//! Where the rows of leads from 81 to FE begin in an index whose rows have 190 entries. A byte that is no such
-//! lead has a place past the end of every index.
-ghost use Rattle.std.specs.Prelude.{◌≡◌};
-ghost use Rattle.legacy_decoder_engine.specs.RowPlaces.{lead_place};
+//! Where the entry of a pair is in its index: a place for each lead, and one for each trail, of which the
+//! pointer is the sum. A byte that is none has a place past the end of every index, so what tests the pointer
+//! tests both bytes, and which of them a trail is makes no branch.
+ghost use Rattle.std.specs.Prelude.{◌≡◌, ℕ, ◌+◌};
+ghost use Rattle.legacy_decoder_engine.specs.Places.{IsTableOf};
 
+/// The places of the leads 81 to FE in an index whose rows have 190 entries.
 #[rattlefmt::skip]
-static LEADS: [u16; 256] = [
+pub static ROWS_OF_190: [u16; 256] = [
     65535, 65535, 65535, 65535, 65535, 65535, 65535, 65535, 65535, 65535, 65535, 65535, 65535, 65535, 65535, 65535,
     65535, 65535, 65535, 65535, 65535, 65535, 65535, 65535, 65535, 65535, 65535, 65535, 65535, 65535, 65535, 65535,
     65535, 65535, 65535, 65535, 65535, 65535, 65535, 65535, 65535, 65535, 65535, 65535, 65535, 65535, 65535, 65535,
@@ -23,10 +25,12 @@ static LEADS: [u16; 256] = [
     21090, 21280, 21470, 21660, 21850, 22040, 22230, 22420, 22610, 22800, 22990, 23180, 23370, 23560, 23750, 65535,
 ];
 
-/// The place of a lead's row, or a number past the end of every index where the byte is no lead.
-#[inline]
-pub fn lead_row(lead: u8) -> u16
-    ensures { result ≡ lead_place lead }
+/// The pointer of two bytes, by a table of places for each of them.
+// Inlined always, so that the tables are constants where their entries are read.
+#[inline(always)]
+pub fn pair_pointer(leads: &[u16; 256], trails: &[u16; 256], lead: u8, trail: u8) -> usize
+    ensures { (lead_place trail_place : ℕ → ℕ) → IsTableOf lead_place leads.now →
+        IsTableOf trail_place trails.now → result ≡ lead_place lead + trail_place trail }
 {
-    LEADS[usize::from(lead)]
+    usize::from(leads[usize::from(lead)]) + usize::from(trails[usize::from(trail)])
 }

@@ -9,7 +9,8 @@ use crate::moves::Fed;
 #[inline]
 pub fn unmapped(before: u8, byte: u8) -> Fed
     requires { before < 4 }
-    ensures { result ≡ (if is_ascii byte then Fed.Fault before 0 true else Fed.Fault (before + 1) 0 false) }
+    ensures { result ≡ (if is_ascii byte then Fed.Fault before 0 true else Fed.Fault
+        (before + 1) 0 false) }
 {
     if byte < 0x80 {
         return Fed::Fault {

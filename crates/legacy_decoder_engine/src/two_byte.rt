@@ -39,7 +39,8 @@ pub fn read_first(byte: u8) -> (Fed, Option<Lead>)
 /// a pair that gives none is left unread, and the lead alone is malformed; else both are.
 #[inline]
 pub fn read_trail(scalar: Option<char>, trail: u8) -> Fed
-    ensures { (lead : ℕ) → Took (trail_step 1 (option_to_list scalar) trail) (lead ∷ []) trail result [] }
+    ensures { (lead : ℕ) → Took (trail_step 1 (option_to_list scalar) trail)
+        (lead ∷ []) trail result [] }
 {
     match scalar {
         Some(scalar) => Fed::One(scalar),

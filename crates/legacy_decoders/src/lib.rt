@@ -1,6 +1,8 @@
-//! The decoders of the legacy encodings, by name: each stands in the crate of its chapter of the Encoding
-//! Standard.
+//! The decoders of the legacy encodings, by name, and laws of their grammars. Each decoder stands in the
+//! crate of its chapter of the Encoding Standard.
 #![tactic(auto)]
+
+pub mod laws;
 
 pub use legacy_chinese::{Big5Decoder, Gb18030Decoder};
 pub use legacy_japanese::{EucJpDecoder, Iso2022JpDecoder, ShiftJisDecoder};

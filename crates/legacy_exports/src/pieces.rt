@@ -1,7 +1,19 @@
-//! Whole inputs, piece by piece.
-ghost use Rattle.std.specs.Prelude.{◌≡◌, ◌+◌, ◌≤◌, length, IfSome};
+//! Whole sources, piece by piece.
+ghost use Rattle.std.specs.Prelude.{◌≡◌, ◌≤◌, length};
 
+use crate::unit::CodeUnit;
 use legacy_base::{DecoderResult, RawDecoder};
+
+/// How a source is read: in pieces of so many bytes (0: in one piece), and so many times.
+#[derive(Clone, Copy)]
+pub struct Reading<'a> {
+    /// The bytes.
+    pub source: &'a [u8],
+    /// The length of a piece.
+    pub piece: usize,
+    /// How often.
+    pub times: usize,
+}
 
 /// The end of a piece of so many bytes, where 0 stands for all that is left.
 fn piece_end(read: usize, len: usize, piece: usize) -> usize
@@ -16,54 +28,35 @@ fn piece_end(read: usize, len: usize, piece: usize) -> usize
     }
 }
 
-/// Writes U+FFFD at a place in UTF-8, and answers the place behind it.
-fn replace_utf8(dst: &mut [u8], at: usize) -> Option<usize>
-    ensures length { length dst.new ≡ length dst.old }
-    ensures end { IfSome result (λ end. (end ≡ at + 3) × (end ≤ length dst.new)) }
-{
-    if dst.len().saturating_sub(at) < 3 {
-        return None;
-    }
-    dst[at] = 0xEF;
-    dst[at + 1] = 0xBF;
-    dst[at + 2] = 0xBD;
-    Some(at + 3)
-}
-
-/// Writes U+FFFD at a place in UTF-16, and answers the place behind it.
-fn replace_utf16(dst: &mut [u16], at: usize) -> Option<usize>
-    ensures length { length dst.new ≡ length dst.old }
-    ensures end { IfSome result (λ end. (end ≡ at + 1) × (end ≤ length dst.new)) }
-{
-    if at >= dst.len() {
-        return None;
-    }
-    dst[at] = 0xFFFD;
-    Some(at + 1)
-}
-
-/// Decodes the source to UTF-8, with U+FFFD for each malformed sequence, in pieces of so many bytes, and
-/// answers how many bytes were written. It stops where the output is full.
-fn to_utf8<D: RawDecoder>(decoder: &mut D, src: &[u8], dst: &mut [u8], piece: usize) -> usize
-    ensures { result ≤ length dst.new }
+/// Decodes the source in pieces of so many bytes, with U+FFFD for each malformed sequence, and answers how
+/// many code units it wrote. It stops where the output is full.
+#[inline(always)]
+fn decode_once<U: CodeUnit, D: RawDecoder>(
+    decoder: &mut D,
+    source: &[u8],
+    output: &mut [U],
+    piece: usize,
+) -> usize
+    ensures { result ≤ length output.new }
 {
     let mut read = 0;
     let mut written = 0;
-    let mut end = piece_end(0, src.len(), piece);
+    let mut end = piece_end(0, source.len(), piece);
     for _ in 0..u64::MAX {
-        let last = end == src.len();
-        let (answer, more, units) = decoder.decode_to_utf8_raw(
-            &src[read..end],
-            &mut dst[written..],
+        let last = end == source.len();
+        let (answer, more, units) = U::decode_raw(
+            decoder,
+            &source[read..end],
+            &mut output[written..],
             last,
         );
         read += more;
         written += units;
         match answer {
             DecoderResult::InputEmpty if last => return written,
-            DecoderResult::InputEmpty => end = piece_end(read, src.len(), piece),
+            DecoderResult::InputEmpty => end = piece_end(read, source.len(), piece),
             DecoderResult::OutputFull => return written,
-            DecoderResult::Malformed(_, _) => match replace_utf8(dst, written) {
+            DecoderResult::Malformed(_, _) => match U::replace(output, written) {
                 Some(behind) => written = behind,
                 None => return written,
             },
@@ -72,68 +65,19 @@ fn to_utf8<D: RawDecoder>(decoder: &mut D, src: &[u8], dst: &mut [u8], piece: us
     written
 }
 
-/// Decodes the source to UTF-16, with U+FFFD for each malformed sequence, in pieces of so many bytes, and
-/// answers how many code units were written. It stops where the output is full.
-fn to_utf16<D: RawDecoder>(decoder: &mut D, src: &[u8], dst: &mut [u16], piece: usize) -> usize
-    ensures { result ≤ length dst.new }
-{
-    let mut read = 0;
-    let mut written = 0;
-    let mut end = piece_end(0, src.len(), piece);
-    for _ in 0..u64::MAX {
-        let last = end == src.len();
-        let (answer, more, units) = decoder.decode_to_utf16_raw(
-            &src[read..end],
-            &mut dst[written..],
-            last,
-        );
-        read += more;
-        written += units;
-        match answer {
-            DecoderResult::InputEmpty if last => return written,
-            DecoderResult::InputEmpty => end = piece_end(read, src.len(), piece),
-            DecoderResult::OutputFull => return written,
-            DecoderResult::Malformed(_, _) => match replace_utf16(dst, written) {
-                Some(behind) => written = behind,
-                None => return written,
-            },
-        }
-    }
-    written
-}
-
-/// Decodes the source so many times by one decoder, and answers how many bytes were written the last
-/// time.
-pub fn rounds_to_utf8<D: RawDecoder>(
+/// Decodes a source by one decoder as often as it is read, and answers how many code units it wrote the
+/// last time.
+#[inline(always)]
+pub fn decode_times<U: CodeUnit, D: RawDecoder>(
     decoder: &mut D,
-    src: &[u8],
-    dst: &mut [u8],
-    piece: usize,
-    rounds: usize,
+    reading: Reading,
+    output: &mut [U],
 ) -> usize
-    ensures { result ≤ length dst.new }
+    ensures { result ≤ length output.new }
 {
     let mut written = 0;
-    for _ in 0..rounds {
-        written = to_utf8(decoder, src, dst, piece);
-    }
-    written
-}
-
-/// Decodes the source so many times by one decoder, and answers how many code units were written the last
-/// time.
-pub fn rounds_to_utf16<D: RawDecoder>(
-    decoder: &mut D,
-    src: &[u8],
-    dst: &mut [u16],
-    piece: usize,
-    rounds: usize,
-) -> usize
-    ensures { result ≤ length dst.new }
-{
-    let mut written = 0;
-    for _ in 0..rounds {
-        written = to_utf16(decoder, src, dst, piece);
+    for _ in 0..reading.times {
+        written = decode_once(decoder, reading.source, output, reading.piece);
     }
     written
 }

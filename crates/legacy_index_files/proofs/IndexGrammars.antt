@@ -1,25 +1,13 @@
 -- What a line says is what it is by the grammar.
-use Rattle.std.proofs.Common.{◌≡◌, ℕ, ◌≤◌, ◌⊎◌, Bool, true, false, cond, ◌&&◌, ◌||◌, List, [], ◌∷◌, ◌++◌, length, Option, Some, None, nat_eq, nat_le, refl, sym, ◌∙◌, ap, subst, inl, inr, arith}
-use Rattle.std.proofs.lemmas.Bool.{eqb-true, leb-true, le-leb}
+use Rattle.std.proofs.Common.{◌≡◌, ℕ, ◌≤◌, Bool, true, false, cond, ◌&&◌, ◌||◌, List, [], ◌∷◌, ◌++◌, length, Option, Some, None, nat_eq, nat_le, refl, sym, ◌∙◌, ap, subst, inl, inr, arith}
+use Rattle.std.proofs.lemmas.Bool.{and_parts, or_cases, eqb-true, leb-true, le-leb}
+use Rattle.std.proofs.lemmas.Option.{cond_some}
 use Rattle.legacy_index_files.specs.declared.index_line.LineKind.{LineKind}
 use Rattle.legacy_index_files.specs.declared.index_line.LineKind.TheVariants.{Skipped, Entry}
 use Rattle.legacy_index_files.specs.IndexLine.{run_of, behind_run, is_blank, past_blanks, says_nothing, is_digit, digits_at, past_digits, number_behind, number_at, past_mark, value_digits, entry_with, entry_behind, entry_at, kind_of_entry, line_kind}
 use Rattle.legacy_index_files.specs.IndexGrammar.{Passes, EndsRun, IsNumber, HasValue, HasEntry, IsEntryLine, SaysNothing, IsSkippedLine, IsOfKind}
 
 -- ---- tests
-
-and_true : (s t : Bool) → s && t ≡ true → (s ≡ true) × (t ≡ true)
-and_true true true h = (refl, refl)
-and_true true false h = absurd (cc)
-and_true false t h = absurd (cc)
-
-or_true : (s t : Bool) → s || t ≡ true → (s ≡ true) ⊎ (t ≡ true)
-or_true true t h = inl refl
-or_true false t h = inr h
-
-cond_some : {A : Type 0} (t : Bool) (x y : A) → cond t (Some x) None ≡ Some y → (t ≡ true) × (x ≡ y)
-cond_some true x y h = (refl, (cc))
-cond_some false x y h = absurd (cc)
 
 cond_true : {A : Type 0} (t : Bool) (o : Option A) (y : A) → cond t o None ≡ Some y → (t ≡ true) × (o ≡ Some y)
 cond_true true o y h = (refl, h)
@@ -68,7 +56,7 @@ pub number_sound : (radix : ℕ) (bs : List ℕ) (n : ℕ × List ℕ) → numbe
 number_sound radix bs n h =
     let digits = digits_at radix bs in
     let found = cond_some (nat_le 1 (length digits) && nat_le (length digits) 6) (number_behind radix 0 digits, past_digits radix bs) n h in
-    let counts = and_true (nat_le 1 (length digits)) (nat_le (length digits) 6) found.0 in (
+    let counts = and_parts (nat_le 1 (length digits)) (nat_le (length digits) 6) found.0 in (
       record {
         some = leb-true 1 (length digits) counts.0;
         few = leb-true (length digits) 6 counts.1;
@@ -98,7 +86,7 @@ mark_sound [] digits h = absurd (cc)
 mark_sound (b ∷ []) digits h = absurd (cc)
 mark_sound (b ∷ c ∷ more) digits h =
     let found = cond_some (nat_eq b 0x30 && nat_eq c 0x78) more digits h in
-    let marks = and_true (nat_eq b 0x30) (nat_eq c 0x78) found.0 in
+    let marks = and_parts (nat_eq b 0x30) (nat_eq c 0x78) found.0 in
     let first = eqb-true b 0x30 marks.0 in
     let second = eqb-true c 0x78 marks.1 in
     let rest = found.1 in
@@ -179,7 +167,7 @@ entry_sound bytes entry h = entry_sound_at bytes (number_at 10 bytes) entry refl
 
 -- a blank is no digit, and a digit is none of the bytes that are not
 blank_ends : (b : ℕ) → is_blank b ≡ true → is_digit 10 b ≡ false
-blank_ends b h = elim (or_true (nat_eq b 0x20) (nat_eq b 0x09) h) [
+blank_ends b h = elim (or_cases (nat_eq b 0x20) (nat_eq b 0x09) h) [
   | inl space ↦ ap (is_digit 10) (eqb-true b 0x20 space)
   | inr tab ↦ ap (is_digit 10) (eqb-true b 0x09 tab)
 ]
@@ -219,7 +207,7 @@ entry_complete bytes pointer value h =
 
 nothing_sound : (bytes : List ℕ) → says_nothing bytes ≡ true → SaysNothing bytes
 nothing_sound [] h = inl refl
-nothing_sound (b ∷ []) h = elim (or_true (nat_eq b 0x0D) (nat_eq b 0x23) h) [
+nothing_sound (b ∷ []) h = elim (or_cases (nat_eq b 0x0D) (nat_eq b 0x23) h) [
   | inl return ↦ inr (inl (ap (λ x. x ∷ []) (eqb-true b 0x0D return)))
   | inr comment ↦ inr (inr ([], ap (λ x. x ∷ []) (eqb-true b 0x23 comment)))
 ]

@@ -90,6 +90,11 @@ pub record IsIndexOf (entries : List (ℕ × ℕ)) (values : List ℕ) : Type 0 
   pub len : length values ≡ table_length entries
   pub at_each : HasValues entries values
 
+-- whether a list has the values of the entries for all pointers of a single-byte index
+pub record IsSingleByteIndexOf (entries : List (ℕ × ℕ)) (values : List ℕ) : Type 0 where
+  pub len : length values ≡ greatest_length SingleByte
+  pub at_each : HasValues entries values
+
 -- whether a table of the index is the one that the entries give
 abbrev pub IsTableOf : FileIndex → List (ℕ × ℕ) → FileTable → Type 0
 IsTableOf Big5 entries (table.Wide v) = IsIndexOf entries v.items
@@ -98,5 +103,5 @@ IsTableOf Jis0208 entries (table.Narrow v) = IsIndexOf entries v.items
 IsTableOf Jis0212 entries (table.Narrow v) = IsIndexOf entries v.items
 IsTableOf Gb18030 entries (table.Narrow v) = IsIndexOf entries v.items
 IsTableOf Ranges entries (table.Ranges v) = v.items ≡ entries
-IsTableOf SingleByte entries (table.Bytes values) = HasValues entries values
+IsTableOf SingleByte entries (table.Bytes values) = IsSingleByteIndexOf entries values
 IsTableOf _ _ _ = ⊥

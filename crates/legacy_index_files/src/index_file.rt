@@ -66,7 +66,8 @@ pub enum IndexFileError {
 #[tactic(auto, using(crate::proofs::IndexGrammars::kind_by_grammar))]
 pub fn read_index(alloc: Global, name: FileIndex, text: &[u8]) -> Result<FileTable, IndexFileError>
     ensures table { IfOk result (λ table. IsTableOf name (entries_of name (lines text.now)) table) }
-    ensures line { (n : ℕ) → (result ≡ Err (IndexFileError.Line n)) ↔ (first_malformed name 1 (lines text.now) ≡ Some n) }
+    ensures line { (n : ℕ) → (result ≡ Err (IndexFileError.Line n))
+        ↔ (first_malformed name 1 (lines text.now) ≡ Some n) }
     ensures grammar { (line : List ℕ) → IsOfKind line (line_kind line) }
 {
     let length = match check_lines(name, text) {

@@ -87,7 +87,8 @@ fn skip_to_value(behind: &[u8]) -> Option<&[u8]>
 fn parse_number(bytes: &[u8], radix: u32) -> Option<(u32, &[u8])>
     requires low { 2 ≤ radix }
     requires high { radix ≤ 16 }
-    ensures { MatchOption result (number_at radix bytes.now ≡ None) (λ n. number_at radix bytes.now ≡ Some (n.0, n.1.now)) }
+    ensures { MatchOption result (number_at radix bytes.now ≡ None)
+        (λ n. number_at radix bytes.now ≡ Some (n.0, n.1.now)) }
 {
     let mut rest = bytes;
     let mut value = 0;

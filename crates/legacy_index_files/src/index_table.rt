@@ -2,7 +2,7 @@
 ghost use Rattle.std.specs.Prelude.{◌≡◌, ℕ, ◌<◌, ◌≤◌, ◌+◌, Some, None, Ok, Err, IfOk, MatchResult, length, slice_index};
 ghost use Rattle.std.specs.Option.{unwrap_or};
 ghost use Rattle.legacy_index_files.specs.IndexLine.{lines, line_kind};
-ghost use Rattle.legacy_index_files.specs.IndexTable.{greatest_length, greatest_value, is_left_out, kind_within, says, first_malformed, entries_of, table_length, last_value, HasValues, IsIndexOf, IsInRange};
+ghost use Rattle.legacy_index_files.specs.IndexTable.{greatest_length, greatest_value, is_left_out, kind_within, says, first_malformed, entries_of, table_length, last_value, IsIndexOf, IsSingleByteIndexOf, IsInRange};
 
 use crate::index_file::FileIndex;
 use crate::index_line::{LineKind, parse_line, split_line};
@@ -10,7 +10,9 @@ use std::alloc::{AllocError, Global};
 
 /// The first malformed line's number, or the length of the table that the lines give.
 pub(crate) fn check_lines(name: FileIndex, text: &[u8]) -> Result<usize, usize>
-    ensures sound { MatchResult result (λ _. first_malformed name 1 (lines text.now) ≡ None) (λ n. first_malformed name 1 (lines text.now) ≡ Some n) }
+    ensures sound { MatchResult result
+        (λ _. first_malformed name 1 (lines text.now) ≡ None)
+        (λ n. first_malformed name 1 (lines text.now) ≡ Some n) }
     ensures length { IfOk result (λ n. n ≡ table_length (entries_of name (lines text.now))) }
     ensures bound { IfOk result (λ n. n ≤ greatest_length name) }
 {
@@ -64,7 +66,7 @@ pub(crate) fn read_narrow(
 /// The table of a single-byte encoding, whose text has no malformed line.
 pub(crate) fn read_single_byte(text: &[u8]) -> [u16; 128]
     requires { table_length (entries_of FileIndex.SingleByte (lines text.now)) ≤ 128 }
-    ensures { HasValues (entries_of FileIndex.SingleByte (lines text.now)) result }
+    ensures { IsSingleByteIndexOf (entries_of FileIndex.SingleByte (lines text.now)) result }
 {
     let mut values = [0; 128];
     fill_narrow(&mut values, FileIndex::SingleByte, text);
@@ -90,7 +92,8 @@ pub(crate) fn read_ranges(alloc: Global, text: &[u8]) -> Result<Vec<(u16, u16)>,
 /// Writes each line's value to its pointer's place, in the lines' order.
 fn fill_wide(values: &mut [u32], name: FileIndex, text: &[u8])
     requires { table_length (entries_of name (lines text.now)) ≤ length values.old }
-    ensures { (p : ℕ) → p < length values.old → slice_index values.new p ≡ unwrap_or (last_value (entries_of name (lines text.now)) p) (slice_index values.old p) }
+    ensures { (p : ℕ) → p < length values.old → slice_index values.new p
+        ≡ unwrap_or (last_value (entries_of name (lines text.now)) p) (slice_index values.old p) }
 {
     let mut rest = text;
     while !rest.is_empty() {
@@ -106,7 +109,8 @@ fn fill_wide(values: &mut [u32], name: FileIndex, text: &[u8])
 fn fill_narrow(values: &mut [u16], name: FileIndex, text: &[u8])
     requires narrow { greatest_value name ≡ 0xFFFF }
     requires room { table_length (entries_of name (lines text.now)) ≤ length values.old }
-    ensures { (p : ℕ) → p < length values.old → slice_index values.new p ≡ unwrap_or (last_value (entries_of name (lines text.now)) p) (slice_index values.old p) }
+    ensures { (p : ℕ) → p < length values.old → slice_index values.new p
+        ≡ unwrap_or (last_value (entries_of name (lines text.now)) p) (slice_index values.old p) }
 {
     let mut rest = text;
     while !rest.is_empty() {

@@ -2,7 +2,7 @@
 //! line that is not of the form.
 #![tactic(auto)]
 
-pub mod index_file;
+mod index_file;
 mod index_line;
 mod index_table;
 

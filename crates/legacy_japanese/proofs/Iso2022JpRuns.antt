@@ -22,7 +22,7 @@ use Rattle.legacy_decoder_engine.specs.Ahead.{Runs, IsPair, ReadsAhead}
 use Rattle.legacy_japanese.specs.Iso2022JpMoves.{IsNarrowScalar}
 use Rattle.legacy_japanese.specs.Iso2022JpRuns.{IsPlain, run_state}
 use Rattle.legacy_japanese.specs.Jis0208Places.{jis_lead_place, jis_trail_place}
-use Rattle.legacy_decoder_engine.proofs.RowPlaces.{idx_past}
+use Rattle.legacy_decoder_engine.proofs.PairPlaces.{idx_past}
 use Rattle.legacy_japanese.proofs.Iso2022JpRooms.{same_rooms, one_fits, room-falls, times_one}
 use Rattle.legacy_decoder_engine.proofs.WrittenRuns.{runs_none, runs_more, room_step, code_units_ascii, all_code_units_ascii}
 

@@ -7,7 +7,7 @@ use Rattle.legacy_base.specs.{AcceptedTables.AcceptedIndexes, Grammar.shift_jis,
 use Rattle.legacy_base.specs.ShiftJis.{is_shift_jis_lead, shift_jis_pointer, shift_jis_scalars}
 use Rattle.legacy_base.proofs.Accepted.{jis0208-below}
 use Rattle.legacy_decoder_engine.specs.{Ahead.Runs, Costs.IsNarrowIndex}
-use Rattle.legacy_decoder_engine.proofs.{LeadHeld.pair, RowPlaces.found, RunForms.single_runs, Widths.idx_below}
+use Rattle.legacy_decoder_engine.proofs.{LeadHeld.pair, PairPlaces.found, RunForms.single_runs, Widths.idx_below}
 use Rattle.legacy_japanese.specs.ShiftJisMachine.{shift_jis_first, shift_jis_pair_scalars}
 use Rattle.legacy_japanese.specs.ShiftJisShown.{shift_jis_shown, shift_jis_codec}
 

@@ -9,7 +9,8 @@ use Rattle.legacy_decoder_engine.specs.Steps.{finish, StepMeets, end_events, Mee
 use Rattle.legacy_miscellaneous.specs.ReplacementMachine.{replacement_machine}
 use Rattle.legacy_decoder_engine.proofs.OneByteMeets.{few_held}
 
-replacement_steps : (reported : Bool) (held : List ℕ) (b : ℕ) → is_empty held ≡ true → StepMeets (replacement reported) held b (cond reported (finish (reads 1 [])) (finish (malformed 1))) (replacement true)
+replacement_steps : (reported : Bool) (held : List ℕ) (b : ℕ) → is_empty held ≡ true →
+    StepMeets (replacement reported) held b (cond reported (finish (reads 1 [])) (finish (malformed 1))) (replacement true)
 unfolding events_of replacement_events
 replacement_steps true [] b h = record { goes_on = λ more. refl; counts = omega arith; fault = tt; few = omega arith; allowed = refl }
 replacement_steps false [] b h = record { goes_on = λ more. refl; counts = omega arith; fault = (omega arith, omega arith); few = omega arith; allowed = refl }

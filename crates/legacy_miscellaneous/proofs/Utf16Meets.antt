@@ -27,7 +27,8 @@ module _ (be : Bool) where
   unfolding utf16_front
   front_lone a b [] h = refl
   front_lone a b (c ∷ []) h = rw h
-  front_lone a b (c ∷ d ∷ rest) h = let e : (is_high_surrogate (unit_of be a b) && is_low_surrogate (unit_of be c d)) ≡ false = and_left (is_high_surrogate (unit_of be a b)) (is_low_surrogate (unit_of be c d)) h in rw e
+  front_lone a b (c ∷ d ∷ rest) h = let e : (is_high_surrogate (unit_of be a b) && is_low_surrogate (unit_of be c d)) ≡ false =
+      and_left (is_high_surrogate (unit_of be a b)) (is_low_surrogate (unit_of be c d)) h in rw e
 
   front_low : (a b : ℕ) (more : List ℕ) → is_high_surrogate (unit_of be a b) ≡ false → is_low_surrogate (unit_of be a b) ≡ true → utf16_front be a (b ∷ more) ≡ malformed 2
   front_low a b more h l = front_lone a b more h ∙ rw (h, l)
@@ -54,17 +55,15 @@ module _ (be : Bool) where
       (λ l. (λ more. front_scalar a b more k l, omega arith, omega arith, refl)))
   fits (a ∷ b ∷ []) c h r = (omega arith, r)
   fits (a ∷ b ∷ c ∷ []) d h r =
-      fits_test (utf16_front be) (utf16_may_hold be) (a ∷ b ∷ c ∷ []) d (is_low_surrogate (unit_of be c d)) (finish (reads 4 (surrogate_pair_char (unit_of be a b) (unit_of be c d) ∷ []))) (finish (malformed 2))
+      fits_test (utf16_front be) (utf16_may_hold be) (a ∷ b ∷ c ∷ []) d (is_low_surrogate (unit_of be c d)) (finish (reads 4 (surrogate_pair_char (unit_of be a b) (unit_of be c d) ∷ [])))
+      (finish (malformed 2))
       (λ l. (λ more. front_pair a b c d more h l, omega arith, omega arith, refl))
       (λ l. (λ more. front_unpaired a b c d more h l, omega arith, omega arith, not_from_false (is_low_surrogate (unit_of be c d)) l))
   fits (a ∷ b ∷ c ∷ d ∷ held) e h r = absurd (false≢true h)
 
   few_held : (held : List ℕ) → utf16_may_hold be held ≡ true → length held ≤ 3
-  few_held [] h = omega arith
-  few_held (a ∷ []) h = omega arith
-  few_held (a ∷ b ∷ []) h = omega arith
-  few_held (a ∷ b ∷ c ∷ []) h = omega arith
   few_held (a ∷ b ∷ c ∷ d ∷ held) h = absurd (false≢true h)
+  few_held held h = omega arith
 
   -- ---- a unit that is to be written
 

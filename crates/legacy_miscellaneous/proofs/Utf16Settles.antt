@@ -18,5 +18,6 @@ utf16_settles be (a ∷ []) b h r =
     (λ k. settles_test (utf16 be) (a ∷ []) b (is_low_surrogate (unit_of be a b)) (finish (malformed 2)) (finish (reads 2 (unit_of be a b ∷ []))) (λ l. tt) (λ l. (refl, tt)))
 utf16_settles be (a ∷ b ∷ []) c h r = refl
 utf16_settles be (a ∷ b ∷ c ∷ []) d h r =
-    settles_test (utf16 be) (a ∷ b ∷ c ∷ []) d (is_low_surrogate (unit_of be c d)) (finish (reads 4 (surrogate_pair_char (unit_of be a b) (unit_of be c d) ∷ []))) (finish (malformed 2)) (λ l. (refl, tt)) (λ l. tt)
+    settles_test (utf16 be) (a ∷ b ∷ c ∷ []) d (is_low_surrogate (unit_of be c d)) (finish (reads 4 (surrogate_pair_char (unit_of be a b) (unit_of be c d) ∷ []))) (finish (malformed 2))
+    (λ l. (refl, tt)) (λ l. tt)
 utf16_settles be (a ∷ b ∷ c ∷ d ∷ held) e h r = absurd (false≢true h)

@@ -1,7 +1,6 @@
 -- What is shown of UTF-16.
 use Rattle.std.proofs.Common.{◌≡◌, ℕ, ◌+◌, ◌*◌, ◌<◌, ◌≤◌, List, [], ◌∷◌, length, get_or, Bool, true, false, cond, Some, None, refl, inl, arith}
 use Rattle.std.proofs.lemmas.Bool.{false≢true, true≢false}
-use Rattle.legacy_decoder_engine.specs.Costs.{utf8_count}
 use Rattle.std.specs.Char.Utf16.{is_high_surrogate, is_low_surrogate, surrogate_pair_char}
 use Rattle.legacy_base.specs.Unicode.{IsByte, AreBytes}
 use Rattle.legacy_base.specs.Fronts.{reads, malformed}
@@ -9,19 +8,19 @@ use Rattle.legacy_base.specs.Grammar.{utf16}
 use Rattle.legacy_base.specs.Utf16.{unit_of}
 use Rattle.legacy_base.specs.States.{DecoderState, utf16_may_hold, rests}
 use Rattle.legacy_base.specs.Acts.{act_room, takes}
-use Rattle.legacy_decoder_engine.specs.Costs.{utf8_room, utf16_room}
+use Rattle.legacy_base.specs.EncodingForm.{unit_count, bmp_room, wide_room}
 use Rattle.legacy_decoder_engine.specs.Steps.{Step, hold, finish, leave, step_held}
 use Rattle.legacy_miscellaneous.specs.Utf16Machine.{utf16_machine, utf16_pending, utf16_step}
-use Rattle.legacy_decoder_engine.specs.Costs.{utf16_count, step_units, step_left, IsWidth, RoomMeets, WritePays, utf8_without_room}
+use Rattle.legacy_decoder_engine.specs.Costs.{step_units, step_left, IsWidth, WritePays}
 use Rattle.legacy_base.specs.States.{state_of}
 use Rattle.legacy_miscellaneous.proofs.Utf16Meets.{utf16_meets}
-use Rattle.legacy_base.specs.Lengths.{LengthQuery, to_utf16, to_utf8, to_utf8_without_replacement}
+use Rattle.legacy_base.specs.Lengths.{LengthQuery, to_utf16, to_utf8, to_utf8_without_replacement, query_form, replacement_units, room}
 use Rattle.legacy_decoder_engine.specs.Shown.{KeepsRooms, IsShown, WriteSettles}
 use Rattle.legacy_decoder_engine.proofs.CallUnderWay.{same_rooms}
 use Rattle.legacy_miscellaneous.proofs.Utf16Settles.{utf16_settles}
 use Rattle.legacy_decoder_engine.proofs.SettledSteps.{write_test}
-use Rattle.legacy_decoder_engine.proofs.Widths.{width_utf8, width_utf16}
-use Rattle.legacy_decoder_engine.proofs.RoomMoves.{no_short_room, cond_most, all_needs}
+use Rattle.legacy_decoder_engine.proofs.Widths.{width_of}
+use Rattle.legacy_decoder_engine.proofs.RoomMoves.{no_short_room, cond_most}
 
 -- What a step is to write: `narrow` for each two bytes that the input and what is held back have less.
 record Halved (len : ℕ → ℕ) (narrow wide : ℕ) (held : List ℕ) (b : ℕ) (s : Step) : Type 0 where
@@ -44,7 +43,8 @@ byte_at held i h l = h i 0 l
 
 -- the room of `held` bytes and n to come falls by u where these have 2 * pairs fewer
 abbrev IsHalved : (DecoderState → ℕ → ℕ) → Bool → ℕ → Type 0
-IsHalved room be narrow = (held held' : List ℕ) (n n' u pairs : ℕ) → u ≤ narrow * pairs → (n' + length held') + 2 * pairs ≤ n + length held → room (state_of (utf16 be) held') n' + u ≤ room (state_of (utf16 be) held) n
+IsHalved room be narrow = (held held' : List ℕ) (n n' u pairs : ℕ) → u ≤ narrow * pairs →
+    (n' + length held') + 2 * pairs ≤ n + length held → room (state_of (utf16 be) held') n' + u ≤ room (state_of (utf16 be) held) n
 
 module _ (be : Bool) where
   module _ (len : ℕ → ℕ) (narrow wide : ℕ) (w : IsWidth len narrow wide) where
@@ -71,7 +71,8 @@ module _ (be : Bool) where
     step_fits held b h r bytes byte = rw (no_short_room _ 1 wide) ((halved held b h r bytes byte).fits)
 
     -- a unit that is written
-    unit_pays : (room : DecoderState → ℕ → ℕ) → IsHalved room be narrow → (held : List ℕ) → utf16_may_hold be held ≡ true → AreBytes held → WritePays len narrow wide room (utf16 be) held (utf16_pending be held)
+    unit_pays : (room : DecoderState → ℕ → ℕ) → IsHalved room be narrow →
+        (held : List ℕ) → utf16_may_hold be held ≡ true → AreBytes held → WritePays len narrow wide room (utf16 be) held (utf16_pending be held)
     unit_pays room falls [] h bytes = tt
     unit_pays room falls (a ∷ []) h bytes = tt
     unit_pays room falls (a ∷ b ∷ []) h bytes = go (is_high_surrogate (unit_of be a b))
@@ -85,61 +86,49 @@ module _ (be : Bool) where
     unit_pays room falls (a ∷ b ∷ c ∷ held) h bytes = tt
 
     step_pays : (room : DecoderState → ℕ → ℕ) → IsHalved room be narrow → (held : List ℕ) (b n : ℕ) → utf16_may_hold be held ≡ true → rests (utf16 be) held ≡ true → AreBytes held → IsByte b →
-        room (state_of (utf16 be) (step_held (utf16_step be held b) held b)) (n + step_left (utf16_step be held b)) + step_units len narrow (utf16_step be held b) ≤ room (state_of (utf16 be) held) (n + 1)
+        room (state_of (utf16 be) (step_held (utf16_step be held b) held b)) (n + step_left (utf16_step be held b)) + step_units len narrow (utf16_step be held b) ≤
+        room (state_of (utf16 be) held) (n + 1)
     step_pays room falls held b n h r bytes byte =
         let c : Halved len narrow wide held b (utf16_step be held b) = halved held b h r bytes byte in
-        falls held (step_held (utf16_step be held b) held b) (n + 1) (n + step_left (utf16_step be held b)) (step_units len narrow (utf16_step be held b)) c.pairs c.units_most (let f = c.fewer in omega arith)
+        falls held (step_held (utf16_step be held b) held b) (n + 1) (n + step_left (utf16_step be held b)) (step_units len narrow (utf16_step be held b)) c.pairs c.units_most
+        (let f = c.fewer in omega arith)
 
-  utf16_utf8 : RoomMeets utf8_count 3 4 3 utf8_room (utf16 be) (utf16_machine be)
-  utf16_utf8 = record {
-    step_fits = step_fits utf8_count 3 4 width_utf8;
-    step_pays = step_pays utf8_count 3 4 width_utf8 utf8_room (λ held held' n n' u pairs h k. omega arith);
-    write_pays = λ held h r bytes. unit_pays utf8_count 3 4 width_utf8 utf8_room (λ held held' n n' u pairs h k. omega arith) held h bytes;
-    report_fits = λ held. omega arith;
-    report_pays = λ b held h r. omega arith;
-    needs = λ held unread last h. all_needs 3 4 (utf8_room (state_of (utf16 be) held)) (utf16 be) (utf16_machine be) (utf16_meets be) refl held h (λ b n p. cond_most _ 1 4 _ (omega arith) (omega arith)) (λ n p. omega arith) unread last;
-    rises = λ held n m h. omega arith;
-  }
+  falls : (query : LengthQuery) → IsHalved (room query) be (bmp_room (query_form query))
+  falls to_utf16 = λ held held' n n' u pairs h k. omega arith
+  falls _ = λ held held' n n' u pairs h k. omega arith
 
-  utf16_utf16 : RoomMeets utf16_count 1 2 1 utf16_room (utf16 be) (utf16_machine be)
-  utf16_utf16 = record {
-    step_fits = step_fits utf16_count 1 2 width_utf16;
-    step_pays = step_pays utf16_count 1 2 width_utf16 utf16_room (λ held held' n n' u pairs h k. omega arith);
-    write_pays = λ held h r bytes. unit_pays utf16_count 1 2 width_utf16 utf16_room (λ held held' n n' u pairs h k. omega arith) held h bytes;
-    report_fits = λ held. omega arith;
-    report_pays = λ b held h r. omega arith;
-    needs = λ held unread last h. all_needs 1 2 (utf16_room (state_of (utf16 be) held)) (utf16 be) (utf16_machine be) (utf16_meets be) refl held h (λ b n p. cond_most _ 1 2 _ (omega arith) (omega arith)) (λ n p. omega arith) unread last;
-    rises = λ held n m h. omega arith;
-  }
+  -- a malformed sequence is no more than a scalar of its length, or is not counted
+  fewer_units : (query : LengthQuery) (len : ℕ → ℕ) (s : Step) → step_units len (replacement_units query) s ≤ step_units len (bmp_room (query_form query)) s
+  fewer_units to_utf16 len s = omega arith
+  fewer_units to_utf8 len s = omega arith
+  fewer_units to_utf8_without_replacement len hold = omega arith
+  fewer_units to_utf8_without_replacement len (finish (malformed n)) = omega arith
+  fewer_units to_utf8_without_replacement len s = omega arith
 
-  -- with no malformed sequence counted
-  fewer_units : (len : ℕ → ℕ) (narrow : ℕ) (s : Step) → step_units len 0 s ≤ step_units len narrow s
-  fewer_units len narrow hold = omega arith
-  fewer_units len narrow (finish (reads n cs)) = omega arith
-  fewer_units len narrow (finish (malformed n)) = omega arith
-  fewer_units len narrow (leave n) = omega arith
+  -- the length of a byte to come covers any scalar, and that of a byte held back one up to U+FFFF
+  byte_covered : (query : LengthQuery) (held : List ℕ) (n : ℕ) → 0 < n → wide_room (query_form query) ≤ room query (state_of (utf16 be) held) n
+  byte_covered to_utf16 held n p = omega arith
+  byte_covered _ held n p = omega arith
 
-  without_pays : (held : List ℕ) (b n : ℕ) → utf16_may_hold be held ≡ true → rests (utf16 be) held ≡ true → AreBytes held → IsByte b →
-      utf8_without_room (state_of (utf16 be) (step_held (utf16_step be held b) held b)) (n + step_left (utf16_step be held b)) + step_units utf8_count 0 (utf16_step be held b) ≤ utf8_without_room (state_of (utf16 be) held) (n + 1)
-  without_pays held b n h r bytes byte =
-      let p = step_pays utf8_count 3 4 width_utf8 utf8_without_room (λ held held' n n' u pairs h k. omega arith) held b n h r bytes byte in
-      let q = fewer_units utf8_count 3 (utf16_step be held b) in omega arith
+  held_covered : (query : LengthQuery) (held : List ℕ) (n : ℕ) → 0 < length held → bmp_room (query_form query) ≤ room query (state_of (utf16 be) held) n
+  held_covered to_utf16 held n p = omega arith
+  held_covered _ held n p = omega arith
 
-  utf16_without : RoomMeets utf8_count 3 4 0 utf8_without_room (utf16 be) (utf16_machine be)
-  utf16_without = record {
-    step_fits = step_fits utf8_count 3 4 width_utf8;
-    step_pays = λ held b n h r bytes byte. without_pays held b n h r bytes byte;
-    write_pays = λ held h r bytes. unit_pays utf8_count 3 4 width_utf8 utf8_without_room (λ held held' n n' u pairs h k. omega arith) held h bytes;
-    report_fits = λ held. omega arith;
-    report_pays = λ b held h r. omega arith;
-    needs = λ held unread last h. all_needs 3 4 (utf8_without_room (state_of (utf16 be) held)) (utf16 be) (utf16_machine be) (utf16_meets be) refl held h (λ b n p. cond_most _ 1 4 _ (omega arith) (omega arith)) (λ n p. omega arith) unread last;
-    rises = λ held n m h. omega arith;
-  }
+  report_pays : (query : LengthQuery) (b : ℕ) (held : List ℕ) → room query (state_of (utf16 be) []) 0 + replacement_units query ≤ room query (state_of (utf16 be) (b ∷ held)) 0
+  report_pays to_utf16 b held = omega arith
+  report_pays _ b held = omega arith
 
   rooms : (query : LengthQuery) → KeepsRooms query (utf16 be) (utf16_machine be)
-  rooms to_utf16 = utf16_utf16
-  rooms to_utf8 = utf16_utf8
-  rooms to_utf8_without_replacement = utf16_without
+  rooms query = let form = query_form query in let w = width_of form in record {
+    step_fits = step_fits (unit_count form) (bmp_room form) (wide_room form) w;
+    step_pays = λ held b n h r bytes byte.
+        let p = step_pays (unit_count form) (bmp_room form) (wide_room form) w (room query) (falls query) held b n h r bytes byte in
+        let q = fewer_units query (unit_count form) (utf16_step be held b) in omega arith;
+    write_pays = λ held h r bytes. unit_pays (unit_count form) (bmp_room form) (wide_room form) w (room query) (falls query) held h bytes;
+    report_pays = λ b held h r. report_pays query b held;
+    reads_covered = λ held b n h p. let c = byte_covered query held n p in let s = w.some in let r = w.rises in cond_most _ 1 (wide_room form) _ (omega arith) c;
+    holds_covered = λ held n h p. held_covered query held n p;
+  }
 
   write_settles : (held : List ℕ) → utf16_may_hold be held ≡ true → WriteSettles (utf16 be) held (utf16_pending be held)
   write_settles [] h = tt

@@ -51,7 +51,10 @@ front n src j within h = let l = length-take-le n src within in get_or_append_le
 
 -- the bytes of eight units, swapped in each
 abbrev eight : List ℕ → List ℕ
-eight src = get_or (take 16 src ++ take 16 src) 1 0 ∷ get_or (take 16 src ++ take 16 src) 0 0 ∷ get_or (take 16 src ++ take 16 src) 3 0 ∷ get_or (take 16 src ++ take 16 src) 2 0 ∷ get_or (take 16 src ++ take 16 src) 5 0 ∷ get_or (take 16 src ++ take 16 src) 4 0 ∷ get_or (take 16 src ++ take 16 src) 7 0 ∷ get_or (take 16 src ++ take 16 src) 6 0 ∷ get_or (take 16 src ++ take 16 src) 9 0 ∷ get_or (take 16 src ++ take 16 src) 8 0 ∷ get_or (take 16 src ++ take 16 src) 11 0 ∷ get_or (take 16 src ++ take 16 src) 10 0 ∷ get_or (take 16 src ++ take 16 src) 13 0 ∷ get_or (take 16 src ++ take 16 src) 12 0 ∷ get_or (take 16 src ++ take 16 src) 15 0 ∷ get_or (take 16 src ++ take 16 src) 14 0 ∷ []
+eight src = get_or (take 16 src ++ take 16 src) 1 0 ∷ get_or (take 16 src ++ take 16 src) 0 0 ∷ get_or (take 16 src ++ take 16 src) 3 0 ∷ get_or (take 16 src ++ take 16 src) 2 0 ∷ get_or
+    (take 16 src ++ take 16 src) 5 0 ∷ get_or (take 16 src ++ take 16 src) 4 0 ∷ get_or (take 16 src ++ take 16 src) 7 0 ∷ get_or (take 16 src ++ take 16 src) 6 0 ∷ get_or
+    (take 16 src ++ take 16 src) 9 0 ∷ get_or (take 16 src ++ take 16 src) 8 0 ∷ get_or (take 16 src ++ take 16 src) 11 0 ∷ get_or (take 16 src ++ take 16 src) 10 0 ∷ get_or
+    (take 16 src ++ take 16 src) 13 0 ∷ get_or (take 16 src ++ take 16 src) 12 0 ∷ get_or (take 16 src ++ take 16 src) 15 0 ∷ get_or (take 16 src ++ take 16 src) 14 0 ∷ []
 
 eight_at : (src : List ℕ) → 16 ≤ length src → (k : ℕ) → k < 8 → (get_or (eight src) (2 * k) 0 ≡ get_or src (2 * k + 1) 0) × (get_or (eight src) (2 * k + 1) 0 ≡ get_or src (2 * k) 0)
 eight_at src within zero h = (front 16 src 1 within (omega arith), front 16 src 0 within (omega arith))
@@ -66,7 +69,14 @@ eight_at src within (suc (suc (suc (suc (suc (suc (suc (suc n)))))))) h = absurd
 
 -- the bytes of sixteen units, swapped in each
 abbrev sixteen : List ℕ → List ℕ
-sixteen src = get_or (take 32 src ++ take 32 src) 1 0 ∷ get_or (take 32 src ++ take 32 src) 0 0 ∷ get_or (take 32 src ++ take 32 src) 3 0 ∷ get_or (take 32 src ++ take 32 src) 2 0 ∷ get_or (take 32 src ++ take 32 src) 5 0 ∷ get_or (take 32 src ++ take 32 src) 4 0 ∷ get_or (take 32 src ++ take 32 src) 7 0 ∷ get_or (take 32 src ++ take 32 src) 6 0 ∷ get_or (take 32 src ++ take 32 src) 9 0 ∷ get_or (take 32 src ++ take 32 src) 8 0 ∷ get_or (take 32 src ++ take 32 src) 11 0 ∷ get_or (take 32 src ++ take 32 src) 10 0 ∷ get_or (take 32 src ++ take 32 src) 13 0 ∷ get_or (take 32 src ++ take 32 src) 12 0 ∷ get_or (take 32 src ++ take 32 src) 15 0 ∷ get_or (take 32 src ++ take 32 src) 14 0 ∷ get_or (take 32 src ++ take 32 src) 17 0 ∷ get_or (take 32 src ++ take 32 src) 16 0 ∷ get_or (take 32 src ++ take 32 src) 19 0 ∷ get_or (take 32 src ++ take 32 src) 18 0 ∷ get_or (take 32 src ++ take 32 src) 21 0 ∷ get_or (take 32 src ++ take 32 src) 20 0 ∷ get_or (take 32 src ++ take 32 src) 23 0 ∷ get_or (take 32 src ++ take 32 src) 22 0 ∷ get_or (take 32 src ++ take 32 src) 25 0 ∷ get_or (take 32 src ++ take 32 src) 24 0 ∷ get_or (take 32 src ++ take 32 src) 27 0 ∷ get_or (take 32 src ++ take 32 src) 26 0 ∷ get_or (take 32 src ++ take 32 src) 29 0 ∷ get_or (take 32 src ++ take 32 src) 28 0 ∷ get_or (take 32 src ++ take 32 src) 31 0 ∷ get_or (take 32 src ++ take 32 src) 30 0 ∷ []
+sixteen src = get_or (take 32 src ++ take 32 src) 1 0 ∷ get_or (take 32 src ++ take 32 src) 0 0 ∷ get_or (take 32 src ++ take 32 src) 3 0 ∷ get_or (take 32 src ++ take 32 src) 2 0 ∷ get_or
+    (take 32 src ++ take 32 src) 5 0 ∷ get_or (take 32 src ++ take 32 src) 4 0 ∷ get_or (take 32 src ++ take 32 src) 7 0 ∷ get_or (take 32 src ++ take 32 src) 6 0 ∷ get_or
+    (take 32 src ++ take 32 src) 9 0 ∷ get_or (take 32 src ++ take 32 src) 8 0 ∷ get_or (take 32 src ++ take 32 src) 11 0 ∷ get_or (take 32 src ++ take 32 src) 10 0 ∷ get_or
+    (take 32 src ++ take 32 src) 13 0 ∷ get_or (take 32 src ++ take 32 src) 12 0 ∷ get_or (take 32 src ++ take 32 src) 15 0 ∷ get_or (take 32 src ++ take 32 src) 14 0 ∷ get_or
+    (take 32 src ++ take 32 src) 17 0 ∷ get_or (take 32 src ++ take 32 src) 16 0 ∷ get_or (take 32 src ++ take 32 src) 19 0 ∷ get_or (take 32 src ++ take 32 src) 18 0 ∷ get_or
+    (take 32 src ++ take 32 src) 21 0 ∷ get_or (take 32 src ++ take 32 src) 20 0 ∷ get_or (take 32 src ++ take 32 src) 23 0 ∷ get_or (take 32 src ++ take 32 src) 22 0 ∷ get_or
+    (take 32 src ++ take 32 src) 25 0 ∷ get_or (take 32 src ++ take 32 src) 24 0 ∷ get_or (take 32 src ++ take 32 src) 27 0 ∷ get_or (take 32 src ++ take 32 src) 26 0 ∷ get_or
+    (take 32 src ++ take 32 src) 29 0 ∷ get_or (take 32 src ++ take 32 src) 28 0 ∷ get_or (take 32 src ++ take 32 src) 31 0 ∷ get_or (take 32 src ++ take 32 src) 30 0 ∷ []
 
 sixteen_at : (src : List ℕ) → 32 ≤ length src → (k : ℕ) → k < 16 → (get_or (sixteen src) (2 * k) 0 ≡ get_or src (2 * k + 1) 0) × (get_or (sixteen src) (2 * k + 1) 0 ≡ get_or src (2 * k) 0)
 sixteen_at src within zero h = (front 32 src 1 within (omega arith), front 32 src 0 within (omega arith))

@@ -1,5 +1,6 @@
 -- Laws of lines.
-use Rattle.std.proofs.Common.{◌≡◌, ◌∙◌, ℕ, ◌+◌, ◌-◌, ◌/◌, ◌%◌, ◌≤◌, ◌<◌, ◌^◌, List, [], ◌∷◌, ◌++◌, length, take, map, get_or, refl, sym, ap, arith, append_assoc, append-nil, length-append, take-suc, add-one, decimal}
+use Rattle.std.proofs.Common.{◌≡◌, ◌∙◌, ℕ, ◌+◌, ◌-◌, ◌/◌, ◌%◌, ◌≤◌, ◌<◌, ◌^◌, List, [], ◌∷◌, ◌++◌, length, take, drop, set, map, get_or, refl, sym, ap, arith, append_assoc, append-nil, length-append, take-suc, add-one, decimal}
+use Rattle.std.proofs.lemmas.List.{drop-set, map-append}
 use Rattle.std.proofs.lemmas.Fmt.{decimal_step, decimal_digit, length-decimal-le}
 use Rattle.legacy_base.specs.declared.results.DecodeEvent.{DecodeEvent}
 use Rattle.legacy_base.specs.declared.results.DecodeEvent.TheVariants.{Scalar, Bad}
@@ -19,14 +20,15 @@ unfolding event_line
 line_of_six c k h = rw (hexadecimal_6 c k h) refl
 
 -- the line of a malformed sequence, part by part
-pub bad_line : (o a b c d e : List ℕ) (place n : ℕ) → a ≡ o ++ 98 ∷ 97 ∷ 100 ∷ 32 ∷ [] → b ≡ a ++ decimal place → c ≡ b ++ 32 ∷ [] → d ≡ c ++ decimal n → e ≡ d ++ 10 ∷ [] → e ≡ o ++ event_line (Bad place n)
+pub bad_line : (o : List ℕ) {a b c d e : List ℕ} (place n : ℕ) → a ≡ o ++ 98 ∷ 97 ∷ 100 ∷ 32 ∷ [] → b ≡ a ++ decimal place
+    → c ≡ b ++ 32 ∷ [] → d ≡ c ++ decimal n → e ≡ d ++ 10 ∷ [] → e ≡ o ++ event_line (Bad place n)
 unfolding event_line
-bad_line o a b c d e place n p q r s t = rw (t, s, r, q, p) (simp append_assoc)
+bad_line o place n p q r s t = rw (t, s, r, q, p) (simp append_assoc)
 
 pub event_lines-append : (xs ys : List DecodeEvent) → event_lines (xs ++ ys) ≡ event_lines xs ++ event_lines ys
 unfolding event_lines
 event_lines-append [] ys = refl
-event_lines-append (x ∷ xs) ys = ap (λ (l : List ℕ). event_line x ++ l) (event_lines-append xs ys) ∙ sym (append_assoc (event_line x) (event_lines xs) (event_lines ys))
+event_lines-append (x ∷ xs) ys = simp (event_lines-append xs ys, append_assoc)
 
 pub event_lines-one : (event : DecodeEvent) → event_lines (event ∷ []) ≡ event_line event
 unfolding event_lines
@@ -40,23 +42,12 @@ pub no_lines : (o : List ℕ) → o ≡ o ++ event_lines []
 unfolding event_lines
 no_lines o = sym (append-nil o)
 
-map-append : (xs ys : List ℕ) → map Scalar (xs ++ ys) ≡ map Scalar xs ++ map Scalar ys
-map-append [] ys = refl
-map-append (x ∷ xs) ys = ap (λ (l : List DecodeEvent). Scalar x ∷ l) (map-append xs ys)
-
 -- one more scalar
-pub one_more_line : (o a b : List ℕ) (scalars : List ℕ) (i c : ℕ) → i < length scalars → c ≡ get_or scalars i c → a ≡ o ++ event_lines (map Scalar (take i scalars)) → b ≡ a ++ event_line (Scalar c) → b ≡ o ++ event_lines (map Scalar (take (i + 1) scalars))
-one_more_line o a b scalars i c h e p q =
-    let same : event_lines (map Scalar (take (i + 1) scalars)) ≡ event_lines (map Scalar (take i scalars)) ++ event_line (Scalar c) =
-    ap (λ n. event_lines (map Scalar (take n scalars))) (add-one i) ∙ ap (λ l. event_lines (map Scalar l)) (take-suc scalars i c h)
-    ∙ ap event_lines (map-append (take i scalars) (get_or scalars i c ∷ []))
-    ∙ event_lines-append (map Scalar (take i scalars)) (Scalar (get_or scalars i c) ∷ [])
-    ∙ ap (λ (l : List ℕ). event_lines (map Scalar (take i scalars)) ++ l) (event_lines-one (Scalar (get_or scalars i c)) ∙ ap (λ d. event_line (Scalar d)) (sym e)) in
-    rw (same, q, p) (simp append_assoc)
-
--- the digits of a number
-pub decimal_more : (o a b : List ℕ) (n : ℕ) → 10 ≤ n → n < 2 ^ 64 → a ≡ o ++ decimal (n / 10) → b ≡ a ++ (48 + n % 10) ∷ [] → b ≡ o ++ decimal n
-decimal_more o a b n h k p q = rw (q, p, decimal_step n h k) (simp append_assoc)
+pub one_more_line : (o : List ℕ) {a b : List ℕ} (scalars : List ℕ) (i c : ℕ) → i < length scalars → c ≡ get_or scalars i c
+    → a ≡ o ++ event_lines (map Scalar (take i scalars)) → b ≡ a ++ event_line (Scalar c)
+    → b ≡ o ++ event_lines (map Scalar (take (i + 1) scalars))
+one_more_line o scalars i c h e p q =
+    rw (q, p, add-one i, take-suc scalars i c h, map-append, event_lines-append, event_lines-one, ← e) (append_assoc o _ _)
 
 pub length-decimal_digit : (n : ℕ) → n < 10 → length (decimal n) ≡ 1
 length-decimal_digit n h = ap length (decimal_digit n h)
@@ -67,13 +58,29 @@ length-decimal_more n h k = ap length (decimal_step n h k) ∙ length-append (de
 pub length-decimal_20 : (n : ℕ) → n < 2 ^ 64 → length (decimal n) ≤ 20
 length-decimal_20 n h = length-decimal-le 20 n (omega arith) (omega arith) h
 
--- the lines of a call that reports a malformed sequence
-pub line_of_fault : (o a b : List ℕ) (scalars : List ℕ) (place n read sequence back : ℕ) → a ≡ o ++ event_lines (map Scalar scalars) → b ≡ a ++ event_line (Bad place n) → place ≡ read - (sequence + back) → n ≡ sequence →
-    b ≡ o ++ event_lines (map Scalar scalars ++ Bad (read - (sequence + back)) sequence ∷ [])
-line_of_fault o a b scalars place n read sequence back p q e f =
-    rw (event_lines-append (map Scalar scalars) (Bad (read - (sequence + back)) sequence ∷ []), event_lines-one (Bad (read - (sequence + back)) sequence), ← e, ← f, q, p) (append_assoc o _ _)
+-- how many digits a number has
+pub ruleset decimal_lengths = (length-decimal_digit, length-decimal_more, length-decimal_20)
 
--- what is written after a call
-pub lines_of_call : (bytes made before : List ℕ) (kept scalars : List ℕ) (fault : List DecodeEvent) → bytes ≡ made → made ≡ before ++ event_lines (map Scalar kept ++ fault) → before ≡ [] → kept ≡ scalars →
-    bytes ≡ event_lines (map Scalar scalars ++ fault)
-lines_of_call bytes made before kept scalars fault p q r s = rw (p, q, r, s) refl
+-- the lines of a call that reports a malformed sequence
+pub line_of_fault : (o : List ℕ) {a b : List ℕ} (scalars : List ℕ) {place n : ℕ} (read sequence back : ℕ)
+    → a ≡ o ++ event_lines (map Scalar scalars) → b ≡ a ++ event_line (Bad place n) → place ≡ read - (sequence + back) → n ≡ sequence
+    → b ≡ o ++ event_lines (map Scalar scalars ++ Bad (read - (sequence + back)) sequence ∷ [])
+line_of_fault o scalars read sequence back p q e f = rw (event_lines-append, event_lines-one, ← e, ← f, q, p) (append_assoc o _ _)
+
+-- a digit is put in front of those that stand at the end
+pub digit_before : (digits : List ℕ) (place rest all : ℕ) → 10 ≤ rest → rest < 2 ^ 64 → 1 ≤ place → place ≤ length digits
+    → decimal rest ++ drop place digits ≡ decimal all
+    → decimal (rest / 10) ++ drop (place - 1) (set digits (place - 1) (48 + rest % 10)) ≡ decimal all
+digit_before digits place rest all h k one within e =
+    let at : place - 1 < length digits = omega arith in
+    let next : place - 1 + 1 ≡ place = omega arith in
+    rw (drop-set digits (place - 1) (48 + rest % 10) at, next)
+    (sym (append_assoc (decimal (rest / 10)) ((48 + rest % 10) ∷ []) (drop place digits)) ∙ ap (λ l. l ++ drop place digits) (sym (decimal_step rest h k)) ∙ e)
+
+-- the first digit is put in front of the others
+pub last_digit : (digits : List ℕ) (place rest all : ℕ) → rest < 10 → 1 ≤ place → place ≤ length digits
+    → decimal rest ++ drop place digits ≡ decimal all → drop (place - 1) (set digits (place - 1) (48 + rest)) ≡ decimal all
+last_digit digits place rest all h one within e =
+    let at : place - 1 < length digits = omega arith in
+    let next : place - 1 + 1 ≡ place = omega arith in
+    rw (drop-set digits (place - 1) (48 + rest) at, next) (ap (λ l. l ++ drop place digits) (sym (decimal_digit rest h)) ∙ e)

@@ -3,14 +3,15 @@ use Rattle.std.proofs.Common.{◌≡◌, ℕ, drop, ◌≤◌, ◌<◌, List, []
 use Rattle.std.proofs.lemmas.List.{get_or-replicate, length-replicate}
 use Rattle.std.specs.Borrow.{Bor}
 use Rattle.legacy_index_files.specs.declared.index_file.FileIndex.{FileIndex}
-use Rattle.legacy_index_files.specs.IndexTable.{IsIndexOf, HasValues}
+use Rattle.legacy_index_files.specs.IndexTable.{IsIndexOf, IsSingleByteIndexOf}
 use Rattle.legacy_recode.specs.declared.given_indexes.GivenIndexes.{GivenIndexes}
 use Rattle.legacy_recode.specs.Words.{texts_of, first_index_named}
 use Rattle.legacy_recode.specs.IndexTexts.{is_index, no_text, with_text, text_given, contents_of}
 use Rattle.legacy_recode.specs.GivenIndexes.{HoldsTexts}
 
 -- no INDEX and FILE
-pub few_words : (tables : GivenIndexes) (words : List (Bor (List ℕ))) (files : List (Option (Bor (List ℕ)))) → length words < 2 → HoldsTexts no_text tables → HoldsTexts (text_given (texts_of words) (contents_of files)) tables
+pub few_words : (tables : GivenIndexes) (words : List (Bor (List ℕ))) (files : List (Option (Bor (List ℕ)))) → length words < 2
+    → HoldsTexts no_text tables → HoldsTexts (text_given (texts_of words) (contents_of files)) tables
 few_words tables [] files h k = k
 few_words tables (w ∷ []) files h k = k
 few_words tables (v ∷ w ∷ words) files h k = absurd (omega arith)
@@ -32,5 +33,8 @@ one_more_file tables (v ∷ w ∷ words) name text later files h n f k =
 pub empty_index : (values : List ℕ) → values ≡ [] → IsIndexOf [] values
 empty_index values e = record { len = rw e refl; at_each = record { at = λ p h. absurd (let n : length values ≡ 0 = rw e refl in omega arith) } }
 
-pub empty_bytes : HasValues [] (replicate 128 0)
-empty_bytes = record { at = λ p h. get_or-replicate 128 p 0 0 (omega (arith, length-replicate {A = ℕ} 128 0)) }
+pub empty_single_byte : IsSingleByteIndexOf [] (replicate 128 0)
+empty_single_byte = record {
+  len = length-replicate {A = ℕ} 128 0;
+  at_each = record { at = λ p h. get_or-replicate 128 p 0 0 (omega (arith, length-replicate {A = ℕ} 128 0)) };
+}

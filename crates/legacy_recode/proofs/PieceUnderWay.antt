@@ -1,7 +1,8 @@
 -- A piece under way.
-use Rattle.std.proofs.Common.{◌≡◌, ◌∙◌, ℕ, suc, ◌+◌, ◌-◌, ◌≤◌, ◌<◌, List, [], ◌∷◌, ◌++◌, length, drop, refl, ap, arith, append-nil, length-append, length-drop, map, Bool, Option}
+use Rattle.std.proofs.Common.{◌≡◌, ◌∙◌, ℕ, suc, ◌+◌, ◌-◌, ◌≤◌, ◌<◌, List, [], ◌∷◌, ◌++◌, length, take, drop, take-append-drop, refl, sym, ap, arith, append_assoc, append-nil, length-append, length-drop, map, Bool, Option}
 use Rattle.std.proofs.lemmas.List.{drop-drop}
 use Rattle.std.proofs.Math.ListN.{drop_of_length-le}
+use Rattle.std.proofs.KnownBytes.{Appends-nil, Appends-trans}
 use Rattle.std.specs.Io.KnownBytes.{Appends}
 use Rattle.legacy_base.specs.declared.results.DecodeEvent.{DecodeEvent}
 use Rattle.legacy_base.specs.declared.results.DecodeEvent.TheVariants.{Scalar, Bad}
@@ -11,111 +12,151 @@ use Rattle.legacy_base.specs.EncodingForm.{Utf16, total_unit_count}
 use Rattle.legacy_base.specs.Events.{shift}
 use Rattle.legacy_base.specs.Grammar.{events_of}
 use Rattle.legacy_base.specs.States.{DecoderState}
-use Rattle.legacy_base.specs.Calls.{Progress, DecoderCall, reported_events}
+use Rattle.legacy_base.specs.Calls.{Progress, DecoderCall, reported_events, out_events}
 use Rattle.legacy_base.proofs.Shifts.{shift-append, shift-scalars}
 use Rattle.legacy_base.proofs.Progress.{stay, after_that}
 use Rattle.legacy_base.proofs.Rooms.{lacks_small}
+use Rattle.legacy_codecs.proofs.RunEvents.{placed-append, placed-scalars}
+use Rattle.legacy_codecs.specs.Runs.{placed}
 use Rattle.legacy_recode.specs.Lines.{event_lines}
-use Rattle.legacy_recode.specs.Recoding.{input_event, input_events, fault_events, RecodesPiece}
+use Rattle.legacy_recode.specs.Recoding.{input_events, fault_events, RecodesPiece, RecodesFront}
 use Rattle.legacy_recode.proofs.EventLines.{event_lines-append, event_lines-none}
-use Rattle.std.proofs.KnownBytes.{Appends-nil, Appends-trans}
 
--- So much of the piece was decoded, and the lines of its events were written.
-pub record IsUnderWay (before : DecoderState) (piece : List ℕ) (last : Bool) (total : ℕ) (now : DecoderState) (offset : ℕ) (old new : Option (List ℕ)) : Type 0 where
+-- So much of the piece was decoded. The lines of its events were written, but for those at the end that are pending.
+pub record IsUnderWay (before : DecoderState) (piece : List ℕ) (last : Bool) (total : ℕ) (now : DecoderState) (offset : ℕ)
+    (pending : List ℕ) (old new : Option (List ℕ)) : Type 0 where
   pub within : offset ≤ length piece
   pub passed : ℕ
   pub events : List DecodeEvent
   pub progress : Progress last before piece passed now (drop offset piece) events
-  pub written : Appends old new (event_lines (input_events total (length before.held) events))
+  pub sent : List ℕ
+  pub written : Appends old new sent
+  pub lines : event_lines (input_events total (length before.held) events) ≡ sent ++ pending
 
 input_events-append : (t h : ℕ) (a b : List DecodeEvent) → input_events t h (a ++ b) ≡ input_events t h a ++ input_events t h b
 unfolding input_events
-input_events-append t h [] b = refl
-input_events-append t h (x ∷ a) b = ap (λ (l : List DecodeEvent). input_event t h x ∷ l) (input_events-append t h a b)
+input_events-append t h a b = ap (placed h) (shift-append t a b) ∙ placed-append h (shift t a) (shift t b)
 
 input_events-scalars : (t h : ℕ) (cs : List ℕ) → input_events t h (map Scalar cs) ≡ map Scalar cs
 unfolding input_events
-input_events-scalars t h [] = refl
-input_events-scalars t h (c ∷ cs) = ap (λ (l : List DecodeEvent). Scalar c ∷ l) (input_events-scalars t h cs)
+input_events-scalars t h cs = ap (placed h) (shift-scalars t cs) ∙ placed-scalars h cs
 
-pub piece_start : (before : DecoderState) (piece : List ℕ) (last : Bool) (total : ℕ) (old : Option (List ℕ)) → IsUnderWay before piece last total before 0 old old
-unfolding input_events
-piece_start before piece last total old = record {
+pub piece_start : (before : DecoderState) (piece : List ℕ) (last : Bool) (total : ℕ) (pending : List ℕ) (old : Option (List ℕ))
+    → pending ≡ [] → IsUnderWay before piece last total before 0 pending old old
+unfolding input_events placed
+piece_start before piece last total pending old e = record {
   within = omega arith;
   passed = 0;
   events = [];
   progress = stay last before piece;
-  written = rw event_lines-none (Appends-nil old);
+  sent = [];
+  written = Appends-nil old;
+  lines = event_lines-none ∙ sym e;
 }
 
 length-shift : (k : ℕ) (es : List DecodeEvent) → length (shift k es) ≡ length es
 length-shift k [] = refl
 length-shift k (e ∷ es) = ap suc (length-shift k es)
 
-module _ (before : DecoderState) (piece : List ℕ) (last : Bool) (total : ℕ) (now : DecoderState) (offset : ℕ) (old mid new : Option (List ℕ)) (u : IsUnderWay before piece last total now offset old mid)
-    (after : DecoderState) (answer : DecoderResult) (read : ℕ) (scalars : List ℕ) (c : DecoderCall Utf16 now (drop offset piece) last 256 after answer read scalars)
-    (w : Appends mid new (event_lines (map Scalar scalars ++ fault_events (total + offset + read) answer))) where
-  fault_is : (x : DecoderResult) → answer ≡ x → input_events total (length before.held) (shift u.passed (reported_events (length now.held + read) x)) ≡ fault_events (total + offset + read) x
-  unfolding input_events
-  fault_is InputEmpty e = refl
-  fault_is OutputFull e = refl
-  fault_is (Malformed a b) e =
-      let f = rw e at c.fault in
-      let t = f.within in
-      let k = u.progress.counts in
-      let within = u.within in
-      let p : total + (u.passed + (length now.held + read - b - a)) - length before.held ≡ total + offset + read - (a + b) = omega (arith, length-drop offset piece) in
-      ap (λ n. Bad n a ∷ []) p
+module _ {before : DecoderState} {piece : List ℕ} {last : Bool} {total : ℕ} {now : DecoderState} {offset : ℕ} {pending : List ℕ}
+    {old mid : Option (List ℕ)} (u : IsUnderWay before piece last total now offset pending old mid) where
+  -- a front of the pending lines was written
+  pub piece_front : {new : Option (List ℕ)} (count : ℕ) → Appends mid new (take count pending)
+      → RecodesFront before piece last total now old new
+  piece_front count w = record {
+    passed = u.passed;
+    left = drop offset piece;
+    events = u.events;
+    progress = u.progress;
+    sent = u.sent ++ take count pending;
+    unsent = drop count pending;
+    lines = u.lines ∙ ap (λ l. u.sent ++ l) (sym (take-append-drop count pending)) ∙ sym (append_assoc u.sent (take count pending) (drop count pending));
+    written = Appends-trans _ _ _ _ _ u.written w;
+  }
 
-  pub piece_step : IsUnderWay before piece last total after (offset + read) old new
-  piece_step =
-      let h = length before.held in
-      let d = drop-drop read offset piece in
-      let same : input_events total h (u.events ++ shift u.passed (map Scalar scalars ++ reported_events (length now.held + read) answer)) ≡ input_events total h u.events ++ (map Scalar scalars ++ fault_events (total + offset + read) answer) =
-      input_events-append total h u.events (shift u.passed (map Scalar scalars ++ reported_events (length now.held + read) answer))
-      ∙ ap (λ l. input_events total h u.events ++ l) (ap (input_events total h) (shift-append u.passed (map Scalar scalars) (reported_events (length now.held + read) answer) ∙ ap (λ l. l ++ shift u.passed (reported_events (length now.held + read) answer)) (shift-scalars u.passed scalars))
-      ∙ input_events-append total h (map Scalar scalars) (shift u.passed (reported_events (length now.held + read) answer))
-      ∙ ap (λ l. l ++ input_events total h (shift u.passed (reported_events (length now.held + read) answer))) (input_events-scalars total h scalars)
-      ∙ ap (λ l. map Scalar scalars ++ l) (fault_is answer refl)) in
-      record {
-        within = let r = c.within in let v = u.within in omega (arith, length-drop offset piece);
-        passed = u.passed + c.passed;
-        events = u.events ++ shift u.passed (map Scalar scalars ++ reported_events (length now.held + read) answer);
-        progress = rw (← d) (after_that last before piece u.passed now (drop offset piece) u.events c.passed after (drop read (drop offset piece)) (map Scalar scalars ++ reported_events (length now.held + read) answer) u.progress c.progress);
-        written = rw (same, event_lines-append) (Appends-trans old mid new (event_lines (input_events total h u.events)) (event_lines (map Scalar scalars ++ fault_events (total + offset + read) answer)) u.written w);
-      }
+  -- pending lines were written
+  pub piece_sent : {kept : List ℕ} {new : Option (List ℕ)} (sent : List ℕ) → Appends mid new sent → pending ≡ sent ++ kept
+      → IsUnderWay before piece last total now offset kept old new
+  piece_sent sent w e = record {
+    within = u.within;
+    passed = u.passed;
+    events = u.events;
+    progress = u.progress;
+    sent = u.sent ++ sent;
+    written = Appends-trans _ _ _ _ _ u.written w;
+    lines = u.lines ∙ ap (λ l. u.sent ++ l) e ∙ sym (append_assoc u.sent sent _);
+  }
 
-  pub piece_end : answer ≡ InputEmpty → RecodesPiece before piece last total after old new
-  piece_end e =
-      let s = piece_step in
-      let done = c.input_empty e in
-      let none : drop (offset + read) piece ≡ [] = drop_of_length-le piece (let l = done.0 in omega (arith, length-drop offset piece)) in
-      record {
-        passed = s.passed;
-        events = s.events;
-        progress = rw (← none) s.progress;
-        written = s.written;
-        ended = λ l. done.2 l;
-      }
+  module _ {after : DecoderState} {answer : DecoderResult} {read : ℕ} {scalars more : List ℕ}
+      (c : DecoderCall Utf16 now (drop offset piece) last 256 after answer read scalars)
+      (w : more ≡ pending ++ event_lines (map Scalar scalars ++ fault_events (total + offset + read) answer)) where
+    -- what the call gave
+    abbrev given : List DecodeEvent
+    given = out_events (length now.held + read) scalars answer
 
-  some_cases : (x : DecoderResult) → answer ≡ x → (cs : List ℕ) → scalars ≡ cs → (answer ≡ InputEmpty → ⊥) → 1 ≤ length (map Scalar scalars ++ reported_events (length now.held + read) answer)
-  some_cases InputEmpty e cs f h = absurd (h e)
-  some_cases (Malformed a b) e cs f h = rw e (omega (arith, length-append (map Scalar scalars) (Bad (length now.held + read - b - a) a ∷ [])))
-  some_cases OutputFull e [] f h =
-      let l = lacks_small Utf16 after (drop read (drop offset piece)) last (256 - total_unit_count Utf16 scalars) (c.output_full e) in
-      let z : total_unit_count Utf16 scalars ≡ 0 = rw f refl in
-      absurd (omega arith)
-  some_cases OutputFull e (d ∷ ds) f h = rw (f, e) (omega arith)
+    fault_is : (x : DecoderResult) → answer ≡ x
+        → input_events total (length before.held) (shift u.passed (reported_events (length now.held + read) x)) ≡ fault_events (total + offset + read) x
+    unfolding input_events placed
+    fault_is InputEmpty e = refl
+    fault_is OutputFull e = refl
+    fault_is (Malformed a b) e =
+        let f = rw e at c.fault in
+        let t = f.within in
+        let k = u.progress.counts in
+        let within = u.within in
+        let p : total + (u.passed + (length now.held + read - b - a)) - length before.held ≡ total + offset + read - (a + b) = omega (arith, length-drop offset piece) in
+        ap (λ n. Bad n a ∷ []) p
 
-  -- a call that does not end the piece gives an event
-  some_event : (answer ≡ InputEmpty → ⊥) → 1 ≤ length (map Scalar scalars ++ reported_events (length now.held + read) answer)
-  some_event h = some_cases answer refl scalars refl h
+    given_is : input_events total (length before.held) (shift u.passed given) ≡ map Scalar scalars ++ fault_events (total + offset + read) answer
+    given_is =
+        let reported = reported_events (length now.held + read) answer in
+        rw (shift-append u.passed (map Scalar scalars) reported, shift-scalars u.passed scalars, input_events-append, input_events-scalars, fault_is answer refl) refl
 
-  pub piece_less : (answer ≡ InputEmpty → ⊥) → length (events_of after.grammar (after.held ++ drop (offset + read) piece)) < length (events_of now.grammar (now.held ++ drop offset piece))
-  piece_less h =
-      let e = c.progress.events [] (λ _. refl) in
-      let s = some_event h in
-      let x : length (events_of now.grammar (now.held ++ (drop offset piece ++ []))) ≡ length (map Scalar scalars ++ reported_events (length now.held + read) answer) + length (events_of after.grammar (after.held ++ (drop read (drop offset piece) ++ []))) =
-      ap length e ∙ length-append (map Scalar scalars ++ reported_events (length now.held + read) answer) _ ∙ ap (λ n. length (map Scalar scalars ++ reported_events (length now.held + read) answer) + n) (length-shift c.passed _) in
-      let y = rw (append-nil, append-nil, drop-drop) at x in
-      omega arith
+    pub piece_step : IsUnderWay before piece last total after (offset + read) more old mid
+    piece_step =
+        let h = length before.held in
+        let made : List DecodeEvent = map Scalar scalars ++ fault_events (total + offset + read) answer in
+        record {
+          within = let r = c.within in let v = u.within in omega (arith, length-drop offset piece);
+          passed = u.passed + c.passed;
+          events = u.events ++ shift u.passed given;
+          progress = rw (← drop-drop read offset piece) (after_that _ _ _ _ _ _ _ _ _ _ _ u.progress c.progress);
+          sent = u.sent;
+          written = u.written;
+          lines =
+              ap event_lines (input_events-append total h u.events (shift u.passed given) ∙ ap (λ l. input_events total h u.events ++ l) given_is)
+              ∙ event_lines-append (input_events total h u.events) made ∙ ap (λ l. l ++ event_lines made) u.lines
+              ∙ append_assoc u.sent pending (event_lines made) ∙ ap (λ l. u.sent ++ l) (sym w);
+        }
+
+    -- the piece is read, and all lines were written
+    pub piece_end : {new : Option (List ℕ)} → answer ≡ InputEmpty → Appends mid new more → RecodesPiece before piece last total after old new
+    piece_end e v =
+        let s = piece_step in
+        let done = c.input_empty e in
+        let none : drop (offset + read) piece ≡ [] = drop_of_length-le piece (let l = done.0 in omega (arith, length-drop offset piece)) in
+        record {
+          passed = s.passed;
+          events = s.events;
+          progress = rw (← none) s.progress;
+          written = rw s.lines (Appends-trans _ _ _ _ _ s.written v);
+          ended = λ l. done.2 l;
+        }
+
+    some_cases : (x : DecoderResult) → answer ≡ x → (cs : List ℕ) → scalars ≡ cs → (answer ≡ InputEmpty → ⊥) → 1 ≤ length given
+    some_cases InputEmpty e cs f h = absurd (h e)
+    some_cases (Malformed a b) e cs f h = rw e (omega (arith, length-append (map Scalar scalars) (Bad (length now.held + read - b - a) a ∷ [])))
+    some_cases OutputFull e [] f h =
+        let l = lacks_small Utf16 after (drop read (drop offset piece)) last (256 - total_unit_count Utf16 scalars) (c.output_full e) in
+        let z : total_unit_count Utf16 scalars ≡ 0 = rw f refl in
+        absurd (omega arith)
+    some_cases OutputFull e (d ∷ ds) f h = rw (f, e) (omega arith)
+
+    -- a call that does not end the piece gives an event
+    pub piece_less : (answer ≡ InputEmpty → ⊥)
+        → length (events_of after.grammar (after.held ++ drop (offset + read) piece)) < length (events_of now.grammar (now.held ++ drop offset piece))
+    piece_less h =
+        let some = some_cases answer refl scalars refl h in
+        let all = ap length (c.progress.events [] (λ _. refl)) in
+        let counted = rw (append-nil, append-nil, drop-drop, length-append, length-shift) at all in
+        omega arith

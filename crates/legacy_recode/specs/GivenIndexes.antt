@@ -3,7 +3,7 @@ use Rattle.std.specs.Prelude.{◌≡◌, ℕ, List}
 use Rattle.legacy_index_files.specs.declared.index_file.FileIndex.{FileIndex}
 use Rattle.legacy_index_files.specs.declared.index_file.FileIndex.TheVariants.{Big5, EucKr, Jis0208, Jis0212, Gb18030, Ranges, SingleByte}
 use Rattle.legacy_index_files.specs.IndexLine.{lines}
-use Rattle.legacy_index_files.specs.IndexTable.{entries_of, IsIndexOf, HasValues}
+use Rattle.legacy_index_files.specs.IndexTable.{entries_of, IsIndexOf, IsSingleByteIndexOf}
 use Rattle.legacy_recode.specs.declared.given_indexes.GivenIndexes.{GivenIndexes}
 
 -- the entries of an index, where each index has a text
@@ -18,4 +18,4 @@ pub record HoldsTexts (texts : FileIndex → List ℕ) (tables : GivenIndexes) :
   pub jis0212 : IsIndexOf (text_entries texts Jis0212) tables.jis0212.items
   pub gb18030 : IsIndexOf (text_entries texts Gb18030) tables.gb18030.items
   pub ranges : tables.ranges.items ≡ text_entries texts Ranges
-  pub single_byte : HasValues (text_entries texts SingleByte) tables.single_byte
+  pub single_byte : IsSingleByteIndexOf (text_entries texts SingleByte) tables.single_byte

@@ -6,8 +6,8 @@ use Rattle.legacy_base.specs.States.{DecoderState, new_state}
 use Rattle.legacy_base.specs.Indexes.{FlatIndexes}
 use Rattle.legacy_base.specs.AcceptedTables.{flat_lists}
 use Rattle.legacy_base.specs.TableChecks.{AreAccepted, IsAcceptedTable}
-use Rattle.legacy_recode.specs.declared.words.Codec.{Codec}
-use Rattle.legacy_recode.specs.declared.words.Codec.TheVariants as codec
+use Rattle.legacy_recode.specs.declared.words.CodecWord.{CodecWord}
+use Rattle.legacy_recode.specs.declared.words.CodecWord.TheVariants as codec
 use Rattle.legacy_index_files.specs.declared.index_file.FileIndex.{FileIndex}
 use Rattle.legacy_recode.specs.declared.given_indexes.GivenIndexes.{GivenIndexes}
 use Rattle.legacy_recode.specs.Words.{codec_of_words}
@@ -16,7 +16,7 @@ use Rattle.legacy_recode.specs.GivenIndexes.{HoldsTexts}
 use Rattle.legacy_recode.specs.Recoding.{RecodesAll}
 
 -- the grammar of a codec, over indexes and the entries of a single-byte table
-abbrev pub grammar_of : Codec → FlatIndexes → List ℕ → Grammar
+abbrev pub grammar_of : CodecWord → FlatIndexes → List ℕ → Grammar
 grammar_of codec.UserDefined flat entries = user_defined
 grammar_of codec.Replacement flat entries = replacement false
 grammar_of codec.SingleByte flat entries = single_byte entries
@@ -42,19 +42,19 @@ flat_of tables =
     flat_lists tables.big5.items tables.euc_kr.items tables.jis0208.items tables.jis0212.items tables.gb18030.items [] tables.ranges.items
 
 -- All indexes passed the check, those too that the codec does not use, and the input was recoded by the codec over them.
-abbrev pub RecodesByTables : Codec → GivenIndexes → Option (List ℕ) → Option (List ℕ) → Option (List ℕ) → Option (List ℕ) → Type 0
+abbrev pub RecodesByTables : CodecWord → GivenIndexes → Option (List ℕ) → Option (List ℕ) → Option (List ℕ) → Option (List ℕ) → Type 0
 RecodesByTables codec tables input_old input_new output_old output_new =
     AreAccepted (flat_of tables) × IsAcceptedTable tables.single_byte
     × RecodesInput (grammar_of codec (flat_of tables) tables.single_byte) input_old input_new output_old output_new
 
 -- The same over the indexes of these texts.
-pub record RecodesByTexts (codec : Codec) (texts : FileIndex → List ℕ) (input_old input_new output_old output_new : Option (List ℕ)) : Type 0 where
+pub record RecodesByTexts (codec : CodecWord) (texts : FileIndex → List ℕ) (input_old input_new output_old output_new : Option (List ℕ)) : Type 0 where
   pub tables : GivenIndexes
   pub holds : HoldsTexts texts tables
   pub recodes : RecodesByTables codec tables input_old input_new output_old output_new
 
 -- The same by the codec and the index files that the program's words name.
 pub record RecodesByWords (words : List (List ℕ)) (files : List (Option (List ℕ))) (input_old input_new output_old output_new : Option (List ℕ)) : Type 0 where
-  pub codec : Codec
+  pub codec : CodecWord
   pub named : codec_of_words words ≡ Some codec
   pub recodes : RecodesByTexts codec (text_given (drop 1 words) files) input_old input_new output_old output_new

@@ -42,7 +42,8 @@ impl GivenIndexes {
     /// Puts the table of an index file in its index's place.
     fn set(&mut self, name: FileIndex, table: FileTable)
         ensures { (texts : FileIndex → List ℕ) (text : List ℕ) → HoldsTexts texts self.old
-            → IsTableOf name (entries_of name (lines text)) table → HoldsTexts (with_text texts name text) self.new }
+            → IsTableOf name (entries_of name (lines text)) table
+            → HoldsTexts (with_text texts name text) self.new }
     {
         match (name, table) {
             (FileIndex::Big5, FileTable::Wide(values)) => self.big5 = values,

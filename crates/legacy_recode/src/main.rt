@@ -4,6 +4,7 @@
 
 mod given_indexes;
 mod lines;
+mod pieces;
 pub mod program;
 pub mod recode;
 #[cfg(test)]
@@ -11,7 +12,7 @@ mod tests;
 pub mod words;
 
 use std::alloc::Global;
-use std::io::{self, BufWriter, ErrorKind, Write};
+use std::io::{self, ErrorKind, Write};
 use std::process::ExitCode;
 use std::{env, fs};
 
@@ -58,13 +59,12 @@ fn run_on(rt: &HostRuntime, alloc: Global) -> io::Result<u8> {
     for file in &files {
         texts.push(file.as_deref())?;
     }
-    let mut output = BufWriter::new(alloc, rt.stdout())?;
     Ok(program::run(
         alloc,
         words.as_slice(),
         texts.as_slice(),
         &mut rt.stdin(),
-        &mut output,
+        &mut rt.stdout(),
         &mut rt.stderr(),
     ))
 }

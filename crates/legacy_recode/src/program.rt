@@ -8,7 +8,7 @@ ghost use Rattle.legacy_recode.specs.Program.{grammar_of, RecodesInput, RecodesB
 
 use crate::given_indexes::{GivenIndexes, read_files};
 use crate::recode::{RecodeError, recode};
-use crate::words::{Codec, codec_in};
+use crate::words::{CodecWord, codec_in};
 use legacy_codecs::{
     Big5Decoder, EucJpDecoder, EucKrDecoder, Gb18030Decoder, Indexes, Iso2022JpDecoder, RawDecoder,
     ReplacementDecoder, ShiftJisDecoder, SingleByteDecoder, SingleByteTable, TableError, Tables,
@@ -39,55 +39,67 @@ pub enum Fault<'a> {
 }
 
 /// Recodes the input by a decoder that has just been made.
-fn recode_from<D: RawDecoder + Drop, R: Read, W: Write>(
+fn decode_from_start<D: RawDecoder + Drop, R: Read, W: Write>(
     mut decoder: D,
     input: &mut R,
     output: &mut W,
 ) -> Result<(), RecodeError>
-    ensures { (grammar : Grammar) → D.state decoder ≡ new_state grammar → OnOk result (RecodesInput grammar
-        (R.remaining input.old) (R.remaining input.new) (W.contents output.old) (W.contents output.new)) }
+    ensures { (grammar : Grammar) → D.state decoder ≡ new_state grammar
+        → OnOk result (RecodesInput grammar
+        (R.remaining input.old) (R.remaining input.new)
+        (W.contents output.old) (W.contents output.new)) }
 {
     recode(&mut decoder, input, output)
 }
 
 /// Recodes the input by the codec, from a decoder that has just been made.
-fn recode_by<R: Read, W: Write>(
-    codec: Codec,
+fn decode_by_codec<R: Read, W: Write>(
+    codec: CodecWord,
     tables: &Tables,
     single_byte: &SingleByteTable,
     input: &mut R,
     output: &mut W,
 ) -> Result<(), RecodeError>
     ensures { OnOk result (RecodesInput (grammar_of codec tables.now.flat single_byte.now.entries)
-        (R.remaining input.old) (R.remaining input.new) (W.contents output.old) (W.contents output.new)) }
+        (R.remaining input.old) (R.remaining input.new)
+        (W.contents output.old) (W.contents output.new)) }
 {
     match codec {
-        Codec::UserDefined => recode_from(UserDefinedDecoder::new(), input, output),
-        Codec::Replacement => recode_from(ReplacementDecoder::new(), input, output),
-        Codec::SingleByte => recode_from(SingleByteDecoder::new(single_byte), input, output),
-        Codec::Utf16Le => recode_from(Utf16Decoder::new(false), input, output),
-        Codec::Utf16Be => recode_from(Utf16Decoder::new(true), input, output),
-        Codec::Big5 => recode_from(Big5Decoder::new(tables), input, output),
-        Codec::EucKr => recode_from(EucKrDecoder::new(tables), input, output),
-        Codec::ShiftJis => recode_from(ShiftJisDecoder::new(tables), input, output),
-        Codec::EucJp => recode_from(EucJpDecoder::new(tables), input, output),
-        Codec::Gb18030 | Codec::Gbk => recode_from(Gb18030Decoder::new(tables), input, output),
-        Codec::Iso2022Jp => recode_from(Iso2022JpDecoder::new(tables), input, output),
+        CodecWord::UserDefined => decode_from_start(UserDefinedDecoder::new(), input, output),
+        CodecWord::Replacement => decode_from_start(ReplacementDecoder::new(), input, output),
+        CodecWord::SingleByte => decode_from_start(
+            SingleByteDecoder::new(single_byte),
+            input,
+            output,
+        ),
+        CodecWord::Utf16Le => decode_from_start(Utf16Decoder::new(false), input, output),
+        CodecWord::Utf16Be => decode_from_start(Utf16Decoder::new(true), input, output),
+        CodecWord::Big5 => decode_from_start(Big5Decoder::new(tables), input, output),
+        CodecWord::EucKr => decode_from_start(EucKrDecoder::new(tables), input, output),
+        CodecWord::ShiftJis => decode_from_start(ShiftJisDecoder::new(tables), input, output),
+        CodecWord::EucJp => decode_from_start(EucJpDecoder::new(tables), input, output),
+        CodecWord::Gb18030 | CodecWord::Gbk => decode_from_start(
+            Gb18030Decoder::new(tables),
+            input,
+            output,
+        ),
+        CodecWord::Iso2022Jp => decode_from_start(Iso2022JpDecoder::new(tables), input, output),
     }
 }
 
 /// Recodes the input by the codec and flushes the output, also where the input could not be read.
-fn recode_and_flush<R: Read, W: Write>(
-    codec: Codec,
+fn decode_and_flush<R: Read, W: Write>(
+    codec: CodecWord,
     tables: &Tables,
     single_byte: &SingleByteTable,
     input: &mut R,
     output: &mut W,
 ) -> Result<(), RecodeError>
     ensures { OnOk result (RecodesInput (grammar_of codec tables.now.flat single_byte.now.entries)
-        (R.remaining input.old) (R.remaining input.new) (W.contents output.old) (W.contents output.new)) }
+        (R.remaining input.old) (R.remaining input.new)
+        (W.contents output.old) (W.contents output.new)) }
 {
-    let recoded = recode_by(codec, tables, single_byte, input, output);
+    let recoded = decode_by_codec(codec, tables, single_byte, input, output);
     let flushed = output.flush();
     recoded?;
     match flushed {
@@ -97,14 +109,15 @@ fn recode_and_flush<R: Read, W: Write>(
 }
 
 /// Checks the indexes, and recodes the input by the codec.
-fn recode_with<'a, R: Read, W: Write>(
-    codec: Codec,
+fn check_and_decode<'a, R: Read, W: Write>(
+    codec: CodecWord,
     indexes: &GivenIndexes,
     input: &mut R,
     output: &mut W,
 ) -> Result<(), Fault<'a>>
     ensures { OnOk result (RecodesByTables codec indexes.now
-        (R.remaining input.old) (R.remaining input.new) (W.contents output.old) (W.contents output.new)) }
+        (R.remaining input.old) (R.remaining input.new)
+        (W.contents output.old) (W.contents output.new)) }
 {
     let tables = match Tables::new(&Indexes {
         big5: &indexes.big5,
@@ -122,27 +135,29 @@ fn recode_with<'a, R: Read, W: Write>(
         Ok(table) => table,
         Err(fault) => return Err(Fault::Tables(fault)),
     };
-    match recode_and_flush(codec, &tables, &single_byte, input, output) {
+    match decode_and_flush(codec, &tables, &single_byte, input, output) {
         Ok(()) => Ok(()),
         Err(fault) => Err(Fault::Recode(fault)),
     }
 }
 
 /// Reads the files of the indexes that the words name, checks them, and recodes the input by the codec.
-fn recode_by_words<'a, R: Read, W: Write>(
+fn read_and_decode<'a, R: Read, W: Write>(
     alloc: Global,
-    codec: Codec,
+    codec: CodecWord,
     indexes: &[&'a str],
     files: &[Option<&[u8]>],
     input: &mut R,
     output: &mut W,
 ) -> Result<(), Fault<'a>>
     requires { IsTrue (are_indexes (texts_of indexes.now)) }
-    ensures { OnOk result (RecodesByTexts codec (text_given (texts_of indexes.now) (contents_of files.now))
-        (R.remaining input.old) (R.remaining input.new) (W.contents output.old) (W.contents output.new)) }
+    ensures { OnOk result (RecodesByTexts codec
+        (text_given (texts_of indexes.now) (contents_of files.now))
+        (R.remaining input.old) (R.remaining input.new)
+        (W.contents output.old) (W.contents output.new)) }
 {
     let indexes = read_files(alloc, indexes, files)?;
-    recode_with(codec, &indexes, input, output)
+    check_and_decode(codec, &indexes, input, output)
 }
 
 /// Runs the program on its words, which are without its name, and answers its status.
@@ -170,14 +185,15 @@ pub fn run<R: Read, W: Write, E: Write>(
     ensures usage { (result ≡ 2) ↔ (codec_of_words (texts_of words.now) ≡ None) }
     ensures unread { result ≡ 2 → (input.new ≡ input.old) × (output.new ≡ output.old) }
     ensures recoded { result ≡ 0 → RecodesByWords (texts_of words.now) (contents_of files.now)
-        (R.remaining input.old) (R.remaining input.new) (W.contents output.old) (W.contents output.new) }
+        (R.remaining input.old) (R.remaining input.new)
+        (W.contents output.old) (W.contents output.new) }
     ensures silent { result ≡ 0 → errors.new ≡ errors.old }
 {
     let Some(codec) = codec_in(words) else {
         let _ = errors.write_all(b"usage: legacy_recode CODEC [INDEX FILE]...\n");
         return 2;
     };
-    match recode_by_words(alloc, codec, &words[1..], files, input, output) {
+    match read_and_decode(alloc, codec, &words[1..], files, input, output) {
         Ok(()) => 0,
         Err(fault) => {
             let _ = writeln!(errors, "{fault}");

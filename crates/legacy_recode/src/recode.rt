@@ -1,19 +1,16 @@
 //! The engine of the program: bytes in, lines of events out.
-ghost use Rattle.std.specs.Prelude.{◌≡◌, ℕ, ◌+◌, ◌*◌, ◌-◌, ◌^◌, ◌<◌, ◌≤◌, List, ◌++◌, length, drop, map, OnOk, IfOk};
-ghost use Rattle.std.specs.Io.KnownBytes.{Appends};
+ghost use Rattle.std.specs.Prelude.{◌≡◌, ℕ, ◌+◌, ◌*◌, ◌-◌, ◌^◌, ◌<◌, ◌≤◌, List, [], ◌++◌, length, map, OnOk, OnErr};
 ghost use Rattle.legacy_base.specs.EncodingForm.{Utf16};
 ghost use Rattle.legacy_base.specs.Calls.{DecoderCall};
 ghost use Rattle.legacy_recode.specs.Lines.{event_lines};
 ghost use Rattle.legacy_recode.specs.LineBuffers.{line_bytes, line_room};
-ghost use Rattle.legacy_recode.specs.Recoding.{fault_events, RecodesPiece, RecodesAll, RecodesBeginning};
+ghost use Rattle.legacy_recode.specs.Recoding.{fault_events, RecodesPiece, RecodesFront, RecodesAll, RecodesBeginning, RecodesPartly};
 
-use crate::lines::{BAD_LINE, BATCH, LineBuffer, SCALAR_LINE};
+use crate::lines::{BAD_LINE, BATCH, CALL_LINES, LineBuffer, SCALAR_LINE};
+use crate::pieces::{PIECE, read_piece, rest_of};
 use legacy_codecs::{DecodeEvent, DecoderResult, RawDecoder, ScalarBuffer, Utf16Form};
 use std::io::{self, Read, Write};
 use thiserror::Error;
-
-/// The most bytes that are read at once.
-const PIECE: usize = 4096;
 
 /// Why recoding stopped.
 #[derive(Debug, PartialEq, Eq, Drop, Error)]
@@ -41,58 +38,62 @@ fn push_events(lines: &mut LineBuffer, scalars: &[char], answer: DecoderResult, 
     lines.push_bad(read.saturating_sub(behind), usize::from(sequence));
 }
 
-/// Makes one call of the decoder on the `unread` bytes, and writes the lines of its events. `total` bytes of the
-/// input stand before them. Answers what the call answered; an error is the writer's.
-fn recode_call<D: RawDecoder, W: Write>(
+/// Makes one call of the decoder on the `unread` bytes, and puts the lines of its events behind the others. `total` bytes
+/// of the input stand before them. Answers what the call answered. What `batch` holds is lost.
+fn lines_of_one_call<D: RawDecoder>(
     decoder: &mut D,
     unread: &[u8],
     last: bool,
     total: usize,
-    output: &mut W,
-) -> io::Result<(DecoderResult, usize)>
-    requires { total + length unread.now < 2 ^ 64 }
-    ensures { IfOk result (λ r. (scalars : List ℕ)
-        × DecoderCall Utf16 (D.state decoder.old) unread.now last BATCH (D.state decoder.new) r.0 r.1 scalars
-        × Appends (W.contents output.old) (W.contents output.new)
-        (event_lines (map DecodeEvent.Scalar scalars ++ fault_events (total + r.1) r.0))) }
+    batch: &mut [char],
+    lines: &mut LineBuffer,
+) -> (DecoderResult, usize)
+    requires batch { BATCH ≤ length batch.old }
+    requires room { CALL_LINES ≤ line_room lines.old }
+    requires total { total + length unread.now < 2 ^ 64 }
+    ensures { (given : List ℕ)
+        × DecoderCall Utf16 (D.state decoder.old) unread.now last BATCH (D.state decoder.new)
+        result.0 result.1 given
+        × (line_bytes lines.new ≡ line_bytes lines.old
+        ++ event_lines (map DecodeEvent.Scalar given
+        ++ fault_events (total + result.1) result.0)) }
 {
-    let mut buffer = ['\0'; BATCH];
-    let mut kept = ScalarBuffer::<Utf16Form>::new(&mut buffer, BATCH);
+    let mut kept = ScalarBuffer::<Utf16Form>::new(batch, BATCH);
     let (answer, read) = decoder.step(unread, &mut kept, last);
-    let mut lines = LineBuffer::new();
-    push_events(&mut lines, kept.scalars(), answer, total + read);
-    output.write_all(lines.bytes())?;
-    Ok((answer, read))
-}
-
-/// The bytes of the piece from the offset on.
-fn rest_of(piece: &[u8], offset: usize) -> &[u8]
-    requires { offset ≤ length piece.now }
-    ensures { result.now ≡ drop offset piece.now }
-{
-    &piece[offset..]
+    push_events(lines, kept.scalars(), answer, total + read);
+    (answer, read)
 }
 
 /// Decodes a whole piece, and writes the lines of its events. `total` bytes of the input stand before it. An error is
-/// the writer's.
+/// the writer's. What `batch` holds is lost, and `lines` holds no line at either end.
 fn recode_piece<D: RawDecoder, W: Write>(
     decoder: &mut D,
     piece: &[u8],
     last: bool,
     total: usize,
+    batch: &mut [char],
+    lines: &mut LineBuffer,
     output: &mut W,
 ) -> io::Result<()>
-    requires { total + length piece.now < 2 ^ 64 }
-    ensures { OnOk result (RecodesPiece (D.state decoder.old) piece.now last total (D.state decoder.new)
+    requires batch { BATCH ≤ length batch.old }
+    requires empty { line_bytes lines.old ≡ [] }
+    requires total { total + length piece.now < 2 ^ 64 }
+    ensures piece { OnOk result (RecodesPiece
+        (D.state decoder.old) piece.now last total (D.state decoder.new)
+        (W.contents output.old) (W.contents output.new)) }
+    ensures empty { OnOk result (line_bytes lines.new ≡ []) }
+    ensures err { OnErr result (RecodesFront
+        (D.state decoder.old) piece.now last total (D.state decoder.new)
         (W.contents output.old) (W.contents output.new)) }
 {
     let mut offset: usize = 0;
     'calls: loop {
+        lines.make_room(output)?;
         let unread = rest_of(piece, offset);
-        let (answer, read) = recode_call(decoder, unread, last, total + offset, output)?;
+        let (answer, read) = lines_of_one_call(decoder, unread, last, total + offset, batch, lines);
         offset += read;
         if let DecoderResult::InputEmpty = answer {
-            return Ok(());
+            return lines.write_to(output);
         }
     }
 }
@@ -102,8 +103,8 @@ fn recode_piece<D: RawDecoder, W: Write>(
 /// one that lies before it, in bytes that the decoder held back, is 0.
 ///
 /// The input is read in pieces of up to 4096 bytes, and the lines of a piece are written before the next one is read.
-/// An empty read is the end. Lines that were written before an error stand, and the decoder stands behind the bytes
-/// that were decoded.
+/// An empty read is the end. What was written before an error stands, and after a failed write it may end inside a line.
+/// The decoder stands behind the bytes that were decoded.
 pub fn recode<D: RawDecoder, R: Read, W: Write>(
     decoder: &mut D,
     input: &mut R,
@@ -111,25 +112,33 @@ pub fn recode<D: RawDecoder, R: Read, W: Write>(
 ) -> Result<(), RecodeError>
     // All was read, and the lines of all events of what was held back and read were written.
     ensures ok { OnOk result (RecodesAll (D.state decoder.old) (D.state decoder.new)
-        (R.remaining input.old) (R.remaining input.new) (W.contents output.old) (W.contents output.new)) }
+        (R.remaining input.old) (R.remaining input.new)
+        (W.contents output.old) (W.contents output.new)) }
     // The lines of a beginning of the events were written.
-    ensures read { result ≡ Err RecodeError.Read → RecodesBeginning (D.state decoder.old) (D.state decoder.new)
-        (R.remaining input.old) (R.remaining input.new) (W.contents output.old) (W.contents output.new) }
+    ensures read { result ≡ Err RecodeError.Read → RecodesBeginning
+        (D.state decoder.old) (D.state decoder.new)
+        (R.remaining input.old) (R.remaining input.new)
+        (W.contents output.old) (W.contents output.new) }
+    // The lines of a beginning of the events were written, and then perhaps a part of the lines of the next ones.
+    ensures write { result ≡ Err RecodeError.Write → RecodesPartly
+        (D.state decoder.old) (D.state decoder.new)
+        (R.remaining input.old) (R.remaining input.new)
+        (W.contents output.old) (W.contents output.new) }
 {
     let mut buffer = [0u8; PIECE];
+    let mut batch = ['\0'; BATCH];
+    let mut lines = LineBuffer::new();
     let mut total: usize = 0;
     'pieces: loop {
-        let most = (usize::MAX - total).min(PIECE);
-        if most == 0 {
-            return Err(RecodeError::Read);
-        }
-        let Ok(count) = input.read(&mut buffer[..most]) else {
+        let Some(count) = read_piece(input, &mut buffer, total) else {
             return Err(RecodeError::Read);
         };
         let last = count == 0;
-        if recode_piece(decoder, &buffer[..count], last, total, output).is_err() {
+        let piece = &buffer[..count];
+        let Ok(()) = recode_piece(decoder, piece, last, total, &mut batch, &mut lines, output)
+        else {
             return Err(RecodeError::Write);
-        }
+        };
         if last {
             return Ok(());
         }

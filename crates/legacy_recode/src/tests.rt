@@ -30,10 +30,11 @@ impl Read for FailingReader<'_> {
     }
 }
 
-/// Takes all bytes of a write, and gives an error after so many writes, or at a flush.
+/// Takes so many bytes of a write at the most, and gives an error after so many writes, or at a flush.
 #[derive(Drop)]
 struct FailingWriter {
     written: Vec<u8>,
+    most: usize,
     writes: usize,
     flushes: bool,
 }
@@ -44,8 +45,9 @@ impl Write for FailingWriter {
             return Err(Error::from(ErrorKind::Other));
         }
         self.writes -= 1;
-        self.written.extend_from_slice(buf)?;
-        Ok(buf.len())
+        let taken = buf.len().min(self.most);
+        self.written.extend_from_slice(&buf[..taken])?;
+        Ok(taken)
     }
 
     fn flush(&mut self) -> io::Result<()> {
@@ -285,25 +287,57 @@ fn a_failed_read_keeps_the_lines_before_it(rt: HostRuntime) {
     assert_eq!(rt; output.as_slice(), b"U+F780\n".as_slice());
 }
 
+/// Recodes 61 80 FF to a writer of so many writes of so many bytes, and asserts that so many bytes of the lines stand
+/// then: all of them, or those before a write that failed.
+fn writes_a_front(
+    rt: &(impl Abort + Alloc<A = std::alloc::Global>),
+    input: &mut impl Read,
+    most: usize,
+    writes: usize,
+    bytes: usize,
+) {
+    let mut output = FailingWriter {
+        written: Vec::new(rt.alloc()),
+        most,
+        writes,
+        flushes: true,
+    };
+    let result = recode(&mut UserDefinedDecoder::new(), input, &mut output);
+    let lines = first_lines(3);
+    if bytes < lines.len() {
+        assert_eq!(rt; result, Err(RecodeError::Write));
+    } else {
+        assert_eq!(rt; result, Ok(()));
+    }
+    assert_eq!(rt; output.written.as_slice(), &lines[..bytes.min(lines.len())]);
+}
+
+// Three lines of seven bytes are written one after another where each byte is a piece, and at once where all three are.
 #[test]
-fn a_failed_write_keeps_the_lines_before_it(rt: HostRuntime) {
-    for writes in 0..4 {
+fn a_failed_write_keeps_the_bytes_before_it(rt: HostRuntime) {
+    let line_by_line: [(usize, usize, usize); 11] = [
+        (7, 0, 0),
+        (7, 1, 7),
+        (7, 2, 14),
+        (7, 3, 21),
+        (4, 1, 4),
+        (4, 2, 7),
+        (4, 3, 11),
+        (4, 4, 14),
+        (4, 5, 18),
+        (4, 6, 21),
+        (0, 9, 0),
+    ];
+    for (most, writes, bytes) in line_by_line {
         let mut input = FailingReader {
             bytes: b"\x61\x80\xFF",
             reads: 4,
         };
-        let mut output = FailingWriter {
-            written: Vec::new(rt.alloc()),
-            writes,
-            flushes: true,
-        };
-        let result = recode(&mut UserDefinedDecoder::new(), &mut input, &mut output);
-        if writes < 3 {
-            assert_eq!(rt; result, Err(RecodeError::Write));
-        } else {
-            assert_eq!(rt; result, Ok(()));
-        }
-        assert_eq!(rt; output.written.as_slice(), first_lines(writes));
+        writes_a_front(&rt, &mut input, most, writes, bytes);
+    }
+    for (most, writes, bytes) in [(10, 1, 10), (10, 2, 20), (10, 3, 21), (21, 1, 21)] {
+        let mut input: &[u8] = b"\x61\x80\xFF";
+        writes_a_front(&rt, &mut input, most, writes, bytes);
     }
 }
 
@@ -360,6 +394,7 @@ fn fails(
 fn tells_that_a_stream_fails(rt: HostRuntime) {
     let mut output = FailingWriter {
         written: Vec::new(rt.alloc()),
+        most: 7,
         writes: 2,
         flushes: true,
     };
@@ -368,6 +403,7 @@ fn tells_that_a_stream_fails(rt: HostRuntime) {
     fails(&rt, 4, &mut output, b"output: cannot be written\n");
     let mut unflushed = FailingWriter {
         written: Vec::new(rt.alloc()),
+        most: 7,
         writes: 9,
         flushes: false,
     };
@@ -379,6 +415,7 @@ fn tells_that_a_stream_fails(rt: HostRuntime) {
 fn a_failed_line_of_error_changes_no_status(rt: HostRuntime) {
     let mut errors = FailingWriter {
         written: Vec::new(rt.alloc()),
+        most: 7,
         writes: 0,
         flushes: true,
     };

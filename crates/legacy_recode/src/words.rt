@@ -6,7 +6,7 @@ use legacy_index_files::FileIndex;
 
 /// A codec that the program knows by a word.
 #[derive(Clone, Copy, Debug, PartialEq, Eq)]
-pub enum Codec {
+pub enum CodecWord {
     /// `x-user-defined`
     UserDefined,
     /// `replacement`
@@ -34,22 +34,22 @@ pub enum Codec {
 }
 
 /// The codec that a word names.
-fn codec_of(word: &str) -> Option<Codec>
+fn codec_of(word: &str) -> Option<CodecWord>
     ensures { result ≡ codec_named word.now }
 {
     match word {
-        "x-user-defined" => Some(Codec::UserDefined),
-        "replacement" => Some(Codec::Replacement),
-        "single-byte" => Some(Codec::SingleByte),
-        "utf-16le" => Some(Codec::Utf16Le),
-        "utf-16be" => Some(Codec::Utf16Be),
-        "big5" => Some(Codec::Big5),
-        "euc-kr" => Some(Codec::EucKr),
-        "shift_jis" => Some(Codec::ShiftJis),
-        "euc-jp" => Some(Codec::EucJp),
-        "gb18030" => Some(Codec::Gb18030),
-        "gbk" => Some(Codec::Gbk),
-        "iso-2022-jp" => Some(Codec::Iso2022Jp),
+        "x-user-defined" => Some(CodecWord::UserDefined),
+        "replacement" => Some(CodecWord::Replacement),
+        "single-byte" => Some(CodecWord::SingleByte),
+        "utf-16le" => Some(CodecWord::Utf16Le),
+        "utf-16be" => Some(CodecWord::Utf16Be),
+        "big5" => Some(CodecWord::Big5),
+        "euc-kr" => Some(CodecWord::EucKr),
+        "shift_jis" => Some(CodecWord::ShiftJis),
+        "euc-jp" => Some(CodecWord::EucJp),
+        "gb18030" => Some(CodecWord::Gb18030),
+        "gbk" => Some(CodecWord::Gbk),
+        "iso-2022-jp" => Some(CodecWord::Iso2022Jp),
         _ => None,
     }
 }
@@ -105,7 +105,7 @@ fn is_indexes(words: &[&str]) -> bool
 
 /// The codec of the program's words, which are without the program's name. `None` where they are not a word of a codec,
 /// and then INDEX and FILE any number of times, each a word of an index that stands once and any word.
-pub fn codec_in(words: &[&str]) -> Option<Codec>
+pub fn codec_in(words: &[&str]) -> Option<CodecWord>
     ensures { result ≡ codec_of_words (texts_of words.now) }
 {
     let [codec, indexes @ ..] = words else {

@@ -29,7 +29,8 @@ pub single_byte_meets : (table : List ℕ) → Meets (single_byte table) (single
 unfolding events_of
 single_byte_meets table = record {
   writes = λ held h. refl;
-  steps = λ held b h r. fits_meets (single_byte table) (single_byte_front table) (λ bytes. refl) is_empty (λ held'. refl) held b (single_byte_first table b) (few_held held h) (single_byte_fits table held b h);
+  steps = λ held b h r. fits_meets (single_byte table) (single_byte_front table) (λ bytes. refl) is_empty (λ held'. refl) held b (single_byte_first table b) (few_held held h)
+      (single_byte_fits table held b h);
   ends = λ held h r. single_byte_ends table held h;
   few = few_held;
 }

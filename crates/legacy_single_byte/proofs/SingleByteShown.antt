@@ -55,7 +55,8 @@ module _ (table : List ℕ) where
 
   settles : (held : List ℕ) (b : ℕ) → is_empty held ≡ true → Settles (single_byte table) held b ((single_byte_machine table).step held b)
   settles [] b h =
-      settles_test (single_byte table) [] b (is_ascii b) (finish (reads 1 (b ∷ []))) _ (λ a. (refl, tt)) (λ a. or_settles (single_byte table) [] b (option_to_list (idx table (b - 0x80))) (one_option false _))
+      settles_test (single_byte table) [] b (is_ascii b) (finish (reads 1 (b ∷ []))) _ (λ a. (refl, tt))
+      (λ a. or_settles (single_byte table) [] b (option_to_list (idx table (b - 0x80))) (one_option false _))
   settles (a ∷ held) b h = absurd (false≢true h)
 
   pub single_byte_shown : IsNarrowIndex table → IsShown (single_byte table) (single_byte_machine table)

@@ -1,6 +1,41 @@
 //! Tests of the libraries by their public calls, in a crate of their own: the tests of a crate are proved
 //! beside all of that crate, and these need none of it.
+//!
+//! Each codec has one file, with rows of calls and what must come of them. `rows` follows the rows of a
+//! decoder, and a row that does not hold is printed with what came of it beside what was wanted.
 #![tactic(auto)]
 
 #[cfg(test)]
-mod tests;
+mod big5;
+#[cfg(test)]
+mod destinations;
+#[cfg(test)]
+mod euc_jp;
+#[cfg(test)]
+mod euc_kr;
+#[cfg(test)]
+mod events;
+#[cfg(test)]
+mod gb18030;
+#[cfg(test)]
+mod indexes;
+#[cfg(test)]
+mod iso_2022_jp;
+#[cfg(test)]
+mod replacement;
+#[cfg(test)]
+mod rows;
+#[cfg(test)]
+mod runs;
+#[cfg(test)]
+mod shift_jis;
+#[cfg(test)]
+mod single_byte;
+#[cfg(test)]
+mod tables;
+#[cfg(test)]
+mod units;
+#[cfg(test)]
+mod user_defined;
+#[cfg(test)]
+mod utf16;

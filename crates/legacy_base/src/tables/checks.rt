@@ -1,7 +1,11 @@
 //! The checks of indexes. Each answers the first fault that it finds.
-ghost use Rattle.std.specs.Prelude.{◌≡◌, ℕ, ◌+◌, ◌<◌, length, drop, MatchResult, Some, None, nat_le, ◌&&◌};
+ghost use Rattle.std.specs.Prelude.{◌≡◌, ℕ, ◌+◌, ◌<◌, length, drop};
+ghost use Rattle.std.specs.Prelude.{MatchResult, Some, None, nat_le, ◌&&◌};
 ghost use Rattle.legacy_base.specs.declared.tables.IndexName.TheVariants as names;
-ghost use Rattle.legacy_base.specs.TableChecks.{is_narrow_entry, is_entry, must_be_empty, entry_fault, index_fault, katakana_fault, entries_fault, follows_range, range_order_fault, next_pointer, has_range_scalars, range_value_fault};
+ghost use Rattle.legacy_base.specs.TableChecks.{is_narrow_entry, is_entry, must_be_empty};
+ghost use Rattle.legacy_base.specs.TableChecks.{entry_fault, index_fault, katakana_fault};
+ghost use Rattle.legacy_base.specs.TableChecks.{entries_fault, follows_range, range_order_fault};
+ghost use Rattle.legacy_base.specs.TableChecks.{next_pointer, has_range_scalars, range_value_fault};
 
 use super::{IndexName, TableError};
 
@@ -38,7 +42,9 @@ fn stays_empty(name: IndexName, pointer: usize) -> bool
 
 /// Checks the entry of a pointer.
 fn check_entry(name: IndexName, pointer: usize, entry: u32) -> Result<(), TableError>
-    ensures { MatchResult result (λ _. entry_fault name pointer entry ≡ None) (λ fault. entry_fault name pointer entry ≡ Some fault) }
+    ensures { MatchResult result
+        (λ _. entry_fault name pointer entry ≡ None)
+        (λ fault. entry_fault name pointer entry ≡ Some fault) }
 {
     if entry == 0 {
         return Ok(());
@@ -53,8 +59,10 @@ fn check_entry(name: IndexName, pointer: usize, entry: u32) -> Result<(), TableE
 }
 
 /// Checks the length and the entries of index Big5.
+#[tactic(auto, using(crate::proofs::TableLoops::entries_steps))]
 pub(super) fn check_big5(index: &[u32]) -> Result<(), TableError>
-    ensures { let found = index_fault names.Big5 19782 index.now in MatchResult result (λ _. found ≡ None) (λ fault. found ≡ Some fault) }
+    ensures { let found = index_fault names.Big5 19782 index.now in
+        MatchResult result (λ _. found ≡ None) (λ fault. found ≡ Some fault) }
 {
     if index.len() > 19782 {
         return Err(TableError::TooLong(IndexName::Big5));
@@ -66,8 +74,10 @@ pub(super) fn check_big5(index: &[u32]) -> Result<(), TableError>
 }
 
 /// Checks the entries of any other index.
+#[tactic(auto, using(crate::proofs::TableLoops::entries_steps))]
 fn check_entries(name: IndexName, index: &[u16]) -> Result<(), TableError>
-    ensures { let found = entries_fault name 0 index.now in MatchResult result (λ _. found ≡ None) (λ fault. found ≡ Some fault) }
+    ensures { let found = entries_fault name 0 index.now in
+        MatchResult result (λ _. found ≡ None) (λ fault. found ≡ Some fault) }
 {
     for (pointer, entry) in index.iter().enumerate() {
         check_entry(name, pointer, u32::from(*entry))?;
@@ -77,7 +87,8 @@ fn check_entries(name: IndexName, index: &[u16]) -> Result<(), TableError>
 
 /// Checks the length and the entries of an index of at most so many.
 pub(super) fn check_index(name: IndexName, limit: usize, index: &[u16]) -> Result<(), TableError>
-    ensures { let found = index_fault name limit index.now in MatchResult result (λ _. found ≡ None) (λ fault. found ≡ Some fault) }
+    ensures { let found = index_fault name limit index.now in
+        MatchResult result (λ _. found ≡ None) (λ fault. found ≡ Some fault) }
 {
     if index.len() > limit {
         return Err(TableError::TooLong(name));
@@ -87,7 +98,8 @@ pub(super) fn check_index(name: IndexName, limit: usize, index: &[u16]) -> Resul
 
 /// Checks the length and the entries of the katakana index.
 pub(super) fn check_katakana(index: &[u16]) -> Result<(), TableError>
-    ensures { let found = katakana_fault index.now in MatchResult result (λ _. found ≡ None) (λ fault. found ≡ Some fault) }
+    ensures { let found = katakana_fault index.now in
+        MatchResult result (λ _. found ≡ None) (λ fault. found ≡ Some fault) }
 {
     if index.len() != 0 && index.len() != 63 {
         return Err(TableError::KatakanaLength);
@@ -113,7 +125,8 @@ fn is_in_order(before: Option<(u16, u16)>, range: (u16, u16)) -> bool
 
 /// Checks that pointers and scalars rise from range to range, and where the last one starts.
 pub(super) fn check_range_order(ranges: &[(u16, u16)]) -> Result<(), TableError>
-    ensures { let found = range_order_fault 0 None ranges.now in MatchResult result (λ _. found ≡ None) (λ fault. found ≡ Some fault) }
+    ensures { let found = range_order_fault 0 None ranges.now in
+        MatchResult result (λ _. found ≡ None) (λ fault. found ≡ Some fault) }
 {
     let mut before = None;
     for (place, range) in ranges.iter().enumerate() {
@@ -147,7 +160,8 @@ fn end_of(ranges: &[(u16, u16)], place: usize) -> u16
 
 /// Checks the scalars of each range.
 pub(super) fn check_range_scalars(ranges: &[(u16, u16)]) -> Result<(), TableError>
-    ensures { let found = range_value_fault 0 ranges.now in MatchResult result (λ _. found ≡ None) (λ fault. found ≡ Some fault) }
+    ensures { let found = range_value_fault 0 ranges.now in
+        MatchResult result (λ _. found ≡ None) (λ fault. found ≡ Some fault) }
 {
     for (place, range) in ranges.iter().enumerate() {
         if !has_scalars(*range, end_of(ranges, place)) {

@@ -45,13 +45,15 @@ pub(crate) fn narrow_entry(index: &[u16], pointer: usize) -> Option<char>
     }
 }
 
-/// How many of the ranges start at or before a pointer: the ranges rise, so these are the first ones.
+/// How many of the ranges start at or before a pointer: the ranges rise, so these are the first
+/// ones.
 #[inline]
 fn started_count(ranges: &[(u16, u16)], pointer: usize) -> usize
     requires { range_order_fault 0 None ranges.now ≡ None }
     ensures within { result ≤ length ranges.now }
     ensures started { (k : ℕ) → k < result → (slice_index_or ranges.now k (0, 0)).0 ≤ pointer }
-    ensures ahead { (k : ℕ) → result ≤ k → k < length ranges.now → pointer < (slice_index_or ranges.now k (0, 0)).0 }
+    ensures ahead { (k : ℕ) → result ≤ k → k < length ranges.now →
+        pointer < (slice_index_or ranges.now k (0, 0)).0 }
 {
     ranges.partition_point(|range| usize::from(range.0) <= pointer)
 }
@@ -61,8 +63,10 @@ fn started_count(ranges: &[(u16, u16)], pointer: usize) -> usize
 fn is_last_started(ranges: &[(u16, u16)], place: usize, pointer: usize) -> bool
     requires { range_order_fault 0 None ranges.now ≡ None }
     ensures within { result ≡ true → place < length ranges.now }
-    ensures started { result ≡ true → (k : ℕ) → k ≤ place → (slice_index_or ranges.now k (0, 0)).0 ≤ pointer }
-    ensures ahead { result ≡ true → (k : ℕ) → place < k → k < length ranges.now → pointer < (slice_index_or ranges.now k (0, 0)).0 }
+    ensures started { result ≡ true → (k : ℕ) → k ≤ place →
+        (slice_index_or ranges.now k (0, 0)).0 ≤ pointer }
+    ensures ahead { result ≡ true → (k : ℕ) → place < k → k < length ranges.now →
+        pointer < (slice_index_or ranges.now k (0, 0)).0 }
 {
     if place >= ranges.len() || usize::from(ranges[place].0) > pointer {
         return false;
@@ -70,13 +74,15 @@ fn is_last_started(ranges: &[(u16, u16)], place: usize, pointer: usize) -> bool
     place + 1 == ranges.len() || usize::from(ranges[place + 1].0) > pointer
 }
 
-/// How many of the ranges start at or before a pointer, of which the last is perhaps the one at the place.
+/// How many of the ranges start at or before a pointer, of which the last is perhaps the one at the
+/// place.
 #[inline]
 fn started_count_near(ranges: &[(u16, u16)], place: usize, pointer: usize) -> usize
     requires { range_order_fault 0 None ranges.now ≡ None }
     ensures within { result ≤ length ranges.now }
     ensures started { (k : ℕ) → k < result → (slice_index_or ranges.now k (0, 0)).0 ≤ pointer }
-    ensures ahead { (k : ℕ) → result ≤ k → k < length ranges.now → pointer < (slice_index_or ranges.now k (0, 0)).0 }
+    ensures ahead { (k : ℕ) → result ≤ k → k < length ranges.now →
+        pointer < (slice_index_or ranges.now k (0, 0)).0 }
 {
     if is_last_started(ranges, place, pointer) {
         place + 1
@@ -85,9 +91,9 @@ fn started_count_near(ranges: &[(u16, u16)], place: usize, pointer: usize) -> us
     }
 }
 
-/// For each 256 pointers of four bytes, the place of the last range that starts at or before the last of
-/// them. Most ranges that are in use are longer, and so it is found without a search. Nothing but time
-/// rests on it: each place is tried before it is taken.
+/// For each 256 pointers of four bytes, the place of the last range that starts at or before the
+/// last of them. Most ranges that are in use are longer, and so it is found without a search.
+/// Nothing but time rests on it: each place is tried before it is taken.
 pub(super) fn likely_places(ranges: &[(u16, u16)]) -> [u8; 154]
     requires { range_order_fault 0 None ranges.now ≡ None }
     ensures { length result ≡ 154 }
@@ -102,8 +108,8 @@ pub(super) fn likely_places(ranges: &[(u16, u16)]) -> [u8; 154]
     places
 }
 
-/// The scalar of a pointer by the last range that starts at or before it, of which the places tell where it
-/// likely is.
+/// The scalar of a pointer by the last range that starts at or before it, of which the places tell
+/// where it likely is.
 // It is made as a number of 16 bits: then whoever writes it need not ask whether it is past U+FFFF.
 #[inline]
 fn last_range(ranges: &[(u16, u16)], places: &[u8; 154], pointer: usize) -> Option<char>

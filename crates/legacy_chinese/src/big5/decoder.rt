@@ -10,12 +10,12 @@ ghost use Rattle.legacy_decoder_engine.specs.Feeding.{Took};
 ghost use Rattle.legacy_chinese.specs.Big5Shown.{big5_codec};
 ghost use Rattle.legacy_decoder_engine.proofs.TwoByteMeets.{is_lead-in};
 
-use legacy_decoder_engine::held::Lead;
-use legacy_decoder_engine::lead::{LeadCodec, LeadDecoder};
-use legacy_decoder_engine::two_byte::{read_first, read_trail};
 use legacy_base::{IndexName, Tables};
 use legacy_decoder_engine::ahead::CommonForm;
+use legacy_decoder_engine::held::Lead;
+use legacy_decoder_engine::lead::{LeadCodec, LeadDecoder};
 use legacy_decoder_engine::moves::{Fed, Room};
+use legacy_decoder_engine::two_byte::{read_first, read_trail};
 
 /// The codec of Big5.
 pub struct Big5;
@@ -47,7 +47,8 @@ fn pair_pointer(lead: Lead, trail: u8) -> Option<usize>
 /// mark, and the others their entry.
 #[inline]
 fn read_pointer(tables: &Tables<'_>, pointer: usize, trail: u8) -> Fed
-    ensures { (lead : ℕ) → Took (trail_step 1 (big5_scalars tables.now.flat.big5 pointer) trail) (lead ∷ []) trail result [] }
+    ensures { (lead : ℕ) → Took (trail_step 1 (big5_scalars tables.now.flat.big5 pointer) trail)
+        (lead ∷ []) trail result [] }
 {
     match pointer {
         1133 => Fed::Two('\u{CA}', '\u{304}'),
@@ -61,7 +62,8 @@ fn read_pointer(tables: &Tables<'_>, pointer: usize, trail: u8) -> Fed
 /// Reads the byte behind a lead.
 #[inline]
 fn pair(tables: &Tables<'_>, lead: Lead, trail: u8) -> Fed
-    ensures { Took (trail_step 1 (big5_pair_scalars tables.now.flat.big5 lead.byte trail) trail) (lead.byte ∷ []) trail result [] }
+    ensures { Took (trail_step 1 (big5_pair_scalars tables.now.flat.big5 lead.byte trail) trail)
+        (lead.byte ∷ []) trail result [] }
 {
     match pair_pointer(lead, trail) {
         Some(pointer) => read_pointer(tables, pointer, trail),

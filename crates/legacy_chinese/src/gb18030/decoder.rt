@@ -13,14 +13,15 @@ ghost use Rattle.legacy_chinese.specs.Gb18030Held.{held_bytes, is_resting};
 
 use super::digit::Digit;
 use super::fours::read_forms;
-use super::pair_places::pair_pointer;
+use super::pair_places::TRAILS;
+use legacy_base::{DecoderResult, Destination, IndexName, RawDecoder, Tables};
+use legacy_decoder_engine::ahead::{CommonForm, CommonForms};
+use legacy_decoder_engine::drive::drive_decoder;
 use legacy_decoder_engine::held::Lead;
+use legacy_decoder_engine::moves::{DecoderMoves, Fed, Move, Room};
+use legacy_decoder_engine::places::{ROWS_OF_190, pair_pointer};
 use legacy_decoder_engine::trail::unmapped;
 use legacy_decoder_engine::two_byte::fault_through;
-use legacy_base::{DecoderResult, Destination, IndexName, RawDecoder, Tables};
-use legacy_decoder_engine::ahead::{CommonForms, CommonForm};
-use legacy_decoder_engine::drive::drive_decoder;
-use legacy_decoder_engine::moves::{Move, Fed, DecoderMoves, Room};
 
 /// What is held back: the first bytes of a form, or a digit of a broken form and what came behind it.
 #[derive(Clone, Copy)]
@@ -55,16 +56,19 @@ pub struct Gb18030Decoder<'a> {
 /// The scalar of two bytes, if they are a lead and a trail and give one.
 #[inline]
 fn form_scalar(tables: &Tables, lead: u8, trail: u8) -> Option<char>
-    ensures value { option_to_list result ≡ (if is_lead lead then gb18030_scalars tables.now.flat.gb18030 lead trail else []) }
+    ensures value { option_to_list result
+        ≡ (if is_lead lead then gb18030_scalars tables.now.flat.gb18030 lead trail else []) }
     ensures scalar { IfSome result IsScalar }
 {
-    tables.idx(IndexName::Gb18030, pair_pointer(lead, trail))
+    let pointer = pair_pointer(&ROWS_OF_190, &TRAILS, lead, trail);
+    tables.idx(IndexName::Gb18030, pointer)
 }
 
 /// The scalar of a lead and a trail.
 #[inline]
 fn pair_scalar(tables: &Tables, lead: Lead, trail: u8) -> Option<char>
-    ensures value { option_to_list result ≡ gb18030_scalars tables.now.flat.gb18030 lead.byte trail }
+    ensures value { option_to_list result ≡ gb18030_scalars tables.now.flat.gb18030 lead.byte
+        trail }
     ensures scalar { IfSome result IsScalar }
 {
     form_scalar(tables, lead.byte, trail)
@@ -125,7 +129,8 @@ fn read_third(first: Lead, second: Digit, byte: u8) -> (Fed, Held)
 /// What a byte leads to behind a lead, a digit and a lead.
 #[inline]
 fn read_fourth(tables: &Tables, first: Lead, second: Digit, third: Lead, byte: u8) -> (Fed, Held)
-    ensures { Took (gb18030_step [] tables.now.flat.ranges (first.byte ∷ second.byte ∷ third.byte ∷ []) byte)
+    ensures { Took (gb18030_step [] tables.now.flat.ranges
+        (first.byte ∷ second.byte ∷ third.byte ∷ []) byte)
         (first.byte ∷ second.byte ∷ third.byte ∷ []) byte result.0 (held_bytes result.1) }
 {
     if byte < 0x30 || byte > 0x39 {
@@ -153,7 +158,8 @@ fn read_fourth(tables: &Tables, first: Lead, second: Digit, third: Lead, byte: u
 #[inline]
 fn read(tables: &Tables, held: Held, byte: u8) -> (Fed, Held)
     requires { is_resting held ≡ true }
-    ensures { Took (gb18030_step tables.now.flat.gb18030 tables.now.flat.ranges (held_bytes held) byte)
+    ensures { Took (gb18030_step tables.now.flat.gb18030 tables.now.flat.ranges
+        (held_bytes held) byte)
         (held_bytes held) byte result.0 (held_bytes result.1) }
 {
     match held {
@@ -196,7 +202,8 @@ impl<'a> Gb18030Decoder<'a> {
 
     /// A decoder before its first byte, which reads by the tables.
     pub fn new(tables: &'a Tables<'a>) -> Gb18030Decoder<'a>
-        ensures { gb18030_state result ≡ new_state (gb18030 tables.now.flat.gb18030 tables.now.flat.ranges) }
+        ensures { gb18030_state result ≡ new_state
+            (gb18030 tables.now.flat.gb18030 tables.now.flat.ranges) }
     {
         Gb18030Decoder {
             tables,

@@ -150,7 +150,8 @@ static FOURTHS: [u32; 256] = [
 /// The pointer of four bytes, or a number past all pointers where they are no form.
 #[inline]
 pub fn four_pointer(first: u8, second: u8, third: u8, fourth: u8) -> usize
-    ensures { result ≡ first_place first + second_place second + third_place third + fourth_place fourth }
+    ensures { result ≡ first_place first + second_place second + third_place third + fourth_place
+        fourth }
 {
     FIRSTS[usize::from(first)] as usize
         + SECONDS[usize::from(second)] as usize

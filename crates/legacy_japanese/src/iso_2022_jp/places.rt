@@ -1,11 +1,8 @@
-//! Where the entry of a pair is in its index: a place for each lead, and one for each trail, of
-//! which the pointer is the sum. A byte that is none has a place past the end of every index, so
-//! what tests the pointer tests both bytes, and which of them a trail is makes no branch.
-ghost use Rattle.std.specs.Prelude.{◌≡◌, ◌+◌};
-ghost use Rattle.legacy_japanese.specs.Jis0208Places.{jis_lead_place, jis_trail_place};
+//! The places of the two bytes of a pair in index jis0208, in the two-byte mode of ISO-2022-JP.
 
+/// Those of the leads 21 to 7E, whose rows have 94 entries.
 #[rattlefmt::skip]
-static LEADS: [u16; 256] = [
+pub static LEADS: [u16; 256] = [
     65535, 65535, 65535, 65535, 65535, 65535, 65535, 65535, 65535, 65535, 65535, 65535, 65535, 65535, 65535, 65535,
     65535, 65535, 65535, 65535, 65535, 65535, 65535, 65535, 65535, 65535, 65535, 65535, 65535, 65535, 65535, 65535,
     65535, 0, 94, 188, 282, 376, 470, 564, 658, 752, 846, 940, 1034, 1128, 1222, 1316,
@@ -24,8 +21,9 @@ static LEADS: [u16; 256] = [
     65535, 65535, 65535, 65535, 65535, 65535, 65535, 65535, 65535, 65535, 65535, 65535, 65535, 65535, 65535, 65535,
 ];
 
+/// Those of the trails 21 to 7E.
 #[rattlefmt::skip]
-static TRAILS: [u16; 256] = [
+pub static TRAILS: [u16; 256] = [
     65535, 65535, 65535, 65535, 65535, 65535, 65535, 65535, 65535, 65535, 65535, 65535, 65535, 65535, 65535, 65535,
     65535, 65535, 65535, 65535, 65535, 65535, 65535, 65535, 65535, 65535, 65535, 65535, 65535, 65535, 65535, 65535,
     65535, 0, 1, 2, 3, 4, 5, 6, 7, 8, 9, 10, 11, 12, 13, 14,
@@ -43,12 +41,3 @@ static TRAILS: [u16; 256] = [
     65535, 65535, 65535, 65535, 65535, 65535, 65535, 65535, 65535, 65535, 65535, 65535, 65535, 65535, 65535, 65535,
     65535, 65535, 65535, 65535, 65535, 65535, 65535, 65535, 65535, 65535, 65535, 65535, 65535, 65535, 65535, 65535,
 ];
-
-/// The pointer into index jis0208 of the two bytes of a pair in two-byte mode (Encoding Standard,
-/// "ISO-2022-JP decoder"), or a number past its end where one of them begins or ends no pair.
-#[inline]
-pub fn pair_pointer(lead: u8, trail: u8) -> usize
-    ensures { result ≡ jis_lead_place lead + jis_trail_place trail }
-{
-    usize::from(LEADS[usize::from(lead)]) + usize::from(TRAILS[usize::from(trail)])
-}

@@ -6,10 +6,11 @@ ghost use Rattle.std.specs.Prelude.{◌≡◌, ℕ, ◌+◌, ◌<◌, ◌≤◌,
 ghost use Rattle.legacy_japanese.specs.Iso2022JpRuns.{IsPlain, run_state, HasEscape};
 ghost use Rattle.legacy_decoder_engine.specs.Ahead.{ReadsTo, ReadsAhead};
 
+use super::places::{LEADS, TRAILS};
 use super::steps::{DOLLAR, ESCAPE, Escape, Mode, PAREN, Start, completed, entry};
 use legacy_base::{Destination, Tables};
 use legacy_decoder_engine::pairs::{Pairs, read_pairs};
-use super::places::pair_pointer;
+use legacy_decoder_engine::places::pair_pointer;
 
 /// The pairs of two-byte mode.
 #[derive(Drop)]
@@ -24,7 +25,7 @@ impl Pairs for Jis0208Pairs<'_> {
 
     #[inline(always)]
     fn scalar(&self, first: u8, second: u8) -> Option<char> {
-        entry(self.tables, pair_pointer(first, second))
+        entry(self.tables, pair_pointer(&LEADS, &TRAILS, first, second))
     }
 }
 

@@ -9,11 +9,12 @@ ghost use Rattle.legacy_japanese.specs.ShiftJisShown.{shift_jis_codec};
 ghost use Rattle.legacy_decoder_engine.specs.LeadCodecs.{held_bytes};
 
 use super::lead::ShiftJisLead;
-use super::places::pair_pointer;
+use super::places::{LEADS, TRAILS};
 use legacy_base::{IndexName, Tables};
 use legacy_decoder_engine::ahead::CommonForm;
 use legacy_decoder_engine::lead::{LeadCodec, LeadDecoder};
 use legacy_decoder_engine::moves::{Fed, Room};
+use legacy_decoder_engine::places::pair_pointer;
 use legacy_decoder_engine::two_byte::{fault_through, read_trail};
 
 /// The codec of Shift_JIS.
@@ -79,7 +80,7 @@ fn form_scalar(tables: &Tables<'_>, lead: u8, trail: u8) -> Option<char>
         else []) }
     ensures scalar { IfSome result IsScalar }
 {
-    pointer_scalar(tables, pair_pointer(lead, trail))
+    pointer_scalar(tables, pair_pointer(&LEADS, &TRAILS, lead, trail))
 }
 
 /// The scalar of a lead and a trail, if they give one.

@@ -1,11 +1,8 @@
-//! Where the entry of a pair is in its index: a place for each lead, and one for each trail, of
-//! which the pointer is the sum. A byte that is none has a place past the end of every index, so
-//! what tests the pointer tests both bytes, and which of them a trail is makes no branch.
-ghost use Rattle.std.specs.Prelude.{◌≡◌, ◌+◌};
-ghost use Rattle.legacy_japanese.specs.ShiftJisPlaces.{shift_jis_lead_place, shift_jis_trail_place};
+//! The places of the leads and trails of Shift_JIS in index jis0208.
 
+/// Those of the leads 81 to 9F and E0 to FC, whose rows have 188 entries.
 #[rattlefmt::skip]
-static LEADS: [u16; 256] = [
+pub static LEADS: [u16; 256] = [
     65535, 65535, 65535, 65535, 65535, 65535, 65535, 65535, 65535, 65535, 65535, 65535, 65535, 65535, 65535, 65535,
     65535, 65535, 65535, 65535, 65535, 65535, 65535, 65535, 65535, 65535, 65535, 65535, 65535, 65535, 65535, 65535,
     65535, 65535, 65535, 65535, 65535, 65535, 65535, 65535, 65535, 65535, 65535, 65535, 65535, 65535, 65535, 65535,
@@ -24,8 +21,9 @@ static LEADS: [u16; 256] = [
     8836, 9024, 9212, 9400, 9588, 9776, 9964, 10152, 10340, 10528, 10716, 10904, 11092, 65535, 65535, 65535,
 ];
 
+/// Those of the trails 40 to 7E and 80 to FC.
 #[rattlefmt::skip]
-static TRAILS: [u16; 256] = [
+pub static TRAILS: [u16; 256] = [
     65535, 65535, 65535, 65535, 65535, 65535, 65535, 65535, 65535, 65535, 65535, 65535, 65535, 65535, 65535, 65535,
     65535, 65535, 65535, 65535, 65535, 65535, 65535, 65535, 65535, 65535, 65535, 65535, 65535, 65535, 65535, 65535,
     65535, 65535, 65535, 65535, 65535, 65535, 65535, 65535, 65535, 65535, 65535, 65535, 65535, 65535, 65535, 65535,
@@ -43,12 +41,3 @@ static TRAILS: [u16; 256] = [
     159, 160, 161, 162, 163, 164, 165, 166, 167, 168, 169, 170, 171, 172, 173, 174,
     175, 176, 177, 178, 179, 180, 181, 182, 183, 184, 185, 186, 187, 65535, 65535, 65535,
 ];
-
-/// The pointer into index jis0208 of a lead and a trail (Encoding Standard, "Shift_JIS decoder"),
-/// or a number past its end where one of the bytes is none.
-#[inline]
-pub fn pair_pointer(lead: u8, trail: u8) -> usize
-    ensures { result ≡ shift_jis_lead_place lead + shift_jis_trail_place trail }
-{
-    usize::from(LEADS[usize::from(lead)]) + usize::from(TRAILS[usize::from(trail)])
-}

@@ -8,13 +8,14 @@ ghost use Rattle.legacy_decoder_engine.specs.LeadMachines.{lead_first};
 ghost use Rattle.legacy_korean.specs.EucKrShown.{euc_kr_codec};
 ghost use Rattle.legacy_decoder_engine.proofs.TwoByteMeets.{is_lead-in};
 
-use legacy_decoder_engine::held::Lead;
-use legacy_decoder_engine::lead::{LeadCodec, LeadDecoder};
-use legacy_decoder_engine::two_byte::{read_first, read_trail};
+use super::places::TRAILS;
 use legacy_base::{IndexName, Tables};
 use legacy_decoder_engine::ahead::CommonForm;
+use legacy_decoder_engine::held::Lead;
+use legacy_decoder_engine::lead::{LeadCodec, LeadDecoder};
 use legacy_decoder_engine::moves::{Fed, Room};
-use super::places::pair_pointer;
+use legacy_decoder_engine::places::{ROWS_OF_190, pair_pointer};
+use legacy_decoder_engine::two_byte::{read_first, read_trail};
 
 /// The codec of EUC-KR.
 pub struct EucKr;
@@ -30,10 +31,12 @@ pub type EucKrDecoder<'a> = LeadDecoder<'a, EucKr>;
 /// The scalar of two bytes, if they are a lead and a trail and give one.
 #[inline]
 fn form_scalar(tables: &Tables<'_>, lead: u8, trail: u8) -> Option<char>
-    ensures value { option_to_list result ≡ (if is_lead lead then euc_kr_scalars tables.now.flat.euc_kr lead trail else []) }
+    ensures value { option_to_list result
+        ≡ (if is_lead lead then euc_kr_scalars tables.now.flat.euc_kr lead trail else []) }
     ensures scalar { IfSome result IsScalar }
 {
-    tables.idx(IndexName::EucKr, pair_pointer(lead, trail))
+    let pointer = pair_pointer(&ROWS_OF_190, &TRAILS, lead, trail);
+    tables.idx(IndexName::EucKr, pointer)
 }
 
 /// The scalar of a lead and a trail, if they give one.

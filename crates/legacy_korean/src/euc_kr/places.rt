@@ -1,14 +1,8 @@
-//! Where the entry of a pair is in its index: a place for each lead, and one for each trail, of which the
-//! pointer is the sum. A byte that is none has a place past the end of every index, so what tests the pointer
-//! tests both bytes, and which of them a trail is makes no branch.
-ghost use Rattle.std.specs.Prelude.{◌≡◌, ◌+◌};
-ghost use Rattle.legacy_decoder_engine.specs.RowPlaces.{lead_place};
-ghost use Rattle.legacy_korean.specs.EucKrPlaces.{euc_kr_trail_place};
+//! The places of the trails of EUC-KR in the rows of its index.
 
-use legacy_decoder_engine::places::lead_row;
-
+/// Those of the trails 41 to FE.
 #[rattlefmt::skip]
-static TRAILS: [u16; 256] = [
+pub static TRAILS: [u16; 256] = [
     65535, 65535, 65535, 65535, 65535, 65535, 65535, 65535, 65535, 65535, 65535, 65535, 65535, 65535, 65535, 65535,
     65535, 65535, 65535, 65535, 65535, 65535, 65535, 65535, 65535, 65535, 65535, 65535, 65535, 65535, 65535, 65535,
     65535, 65535, 65535, 65535, 65535, 65535, 65535, 65535, 65535, 65535, 65535, 65535, 65535, 65535, 65535, 65535,
@@ -26,12 +20,3 @@ static TRAILS: [u16; 256] = [
     159, 160, 161, 162, 163, 164, 165, 166, 167, 168, 169, 170, 171, 172, 173, 174,
     175, 176, 177, 178, 179, 180, 181, 182, 183, 184, 185, 186, 187, 188, 189, 65535,
 ];
-
-/// The pointer into index EUC-KR of a lead and a trail (Encoding Standard, "EUC-KR decoder"), or a number
-/// past its end where one of the bytes is none.
-#[inline]
-pub fn pair_pointer(lead: u8, trail: u8) -> usize
-    ensures { result ≡ lead_place lead + euc_kr_trail_place trail }
-{
-    usize::from(lead_row(lead)) + usize::from(TRAILS[usize::from(trail)])
-}

@@ -5,7 +5,7 @@ ghost use Rattle.legacy_base.specs.States.{new_state};
 
 use legacy_base::{DecoderResult, Destination, RawDecoder};
 use legacy_decoder_engine::drive::drive_decoder;
-use legacy_decoder_engine::moves::{Move, Fed, DecoderMoves, Room};
+use legacy_decoder_engine::moves::{DecoderMoves, Fed, Move, Room};
 
 /// The replacement decoder (Encoding Standard, "replacement decoder").
 ///

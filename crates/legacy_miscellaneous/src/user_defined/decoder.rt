@@ -9,9 +9,9 @@ ghost use Rattle.legacy_base.specs.States.{new_state};
 ghost use Rattle.legacy_decoder_engine.specs.Ahead.{ReadsAhead};
 
 use legacy_base::{DecoderResult, Destination, RawDecoder};
-use legacy_decoder_engine::ahead::{CommonForms, CommonForm, ahead};
+use legacy_decoder_engine::ahead::{CommonForm, CommonForms, ahead};
 use legacy_decoder_engine::drive::drive_decoder;
-use legacy_decoder_engine::moves::{Move, Fed, DecoderMoves, Room};
+use legacy_decoder_engine::moves::{DecoderMoves, Fed, Move, Room};
 
 /// The decoder of x-user-defined (Encoding Standard, "x-user-defined decoder").
 ///
@@ -48,7 +48,8 @@ fn scalar_of(byte: u8) -> char
 #[inline(always)]
 fn read_units<T: Destination>(src: &[u8], dst: &mut T) -> usize
     requires { bmp_room T.form ≡ 1 }
-    ensures ahead { ReadsAhead T.form (new_state user_defined) src.now result (T.contents dst.old) (T.contents dst.new) (T.room dst.old) (T.room dst.new) }
+    ensures ahead { ReadsAhead T.form (new_state user_defined) src.now result (T.contents dst.old)
+        (T.contents dst.new) (T.room dst.old) (T.room dst.new) }
     ensures loan { T.loan dst.new ≡ T.loan dst.old }
 {
     let count = src.len().min(dst.free().saturating_sub(3));

@@ -5,11 +5,11 @@ ghost use Rattle.legacy_base.specs.States.{additional_from_state, new_state};
 ghost use Rattle.legacy_base.specs.Lengths.{answer, utf16_units};
 
 use super::held::Held;
-use legacy_base::{DecoderResult, Destination, RawDecoder};
-use legacy_decoder_engine::drive::drive_decoder;
-use legacy_decoder_engine::moves::{Move, Fed, DecoderMoves, Room};
 use super::runs::Units;
 use super::units::read_byte;
+use legacy_base::{DecoderResult, Destination, RawDecoder};
+use legacy_decoder_engine::drive::drive_decoder;
+use legacy_decoder_engine::moves::{DecoderMoves, Fed, Move, Room};
 
 /// The decoder of UTF-16 (Encoding Standard, "shared UTF-16 decoder", "UTF-16BE decoder" and "UTF-16LE
 /// decoder").

@@ -40,7 +40,8 @@ fn is_low(unit: u16) -> bool
 /// What the second byte of a unit leads to, where nothing is held back in front of the first.
 #[inline]
 fn read_second(big_endian: bool, first: OddByte, byte: u8) -> (Fed, Held)
-    ensures { let held = first.byte ∷ [] in Took (utf16_step big_endian held byte) held byte result.0 (held_bytes big_endian result.1) }
+    ensures { let held = first.byte ∷ [] in Took (utf16_step big_endian held byte) held byte
+        result.0 (held_bytes big_endian result.1) }
 {
     let unit = unit(big_endian, first.byte, byte);
     if is_high(unit) {
@@ -76,7 +77,8 @@ fn pair(high: HighSurrogate, low: u16) -> char
 #[inline]
 fn hold_unit(unit: u16) -> Held
     requires { is_low_surrogate unit ≡ false }
-    ensures { (big_endian : Bool) → held_bytes big_endian result ≡ first_byte big_endian unit ∷ second_byte big_endian unit ∷ [] }
+    ensures { (big_endian : Bool) → held_bytes big_endian result
+        ≡ first_byte big_endian unit ∷ second_byte big_endian unit ∷ [] }
 {
     if is_high(unit) {
         return Held::High(HighSurrogate { unit });
@@ -90,7 +92,8 @@ fn hold_unit(unit: u16) -> Held
 /// What the second byte of a unit leads to, where a high surrogate stands in front of the first.
 #[inline]
 fn read_fourth(big_endian: bool, high: HighSurrogate, third: OddByte, byte: u8) -> (Fed, Held)
-    ensures { let held = held_bytes big_endian (Held.HighOdd high third) in Took (utf16_step big_endian held byte) held byte result.0 (held_bytes big_endian result.1) }
+    ensures { let held = held_bytes big_endian (Held.HighOdd high third) in Took
+        (utf16_step big_endian held byte) held byte result.0 (held_bytes big_endian result.1) }
 {
     let unit = unit(big_endian, third.byte, byte);
     if is_low(unit) {
@@ -110,7 +113,8 @@ fn read_fourth(big_endian: bool, high: HighSurrogate, third: OddByte, byte: u8) 
 #[inline]
 pub fn read_byte(big_endian: bool, held: Held, byte: u8) -> (Fed, Held)
     requires { rests (utf16 big_endian) (held_bytes big_endian held) ≡ true }
-    ensures { Took (utf16_step big_endian (held_bytes big_endian held) byte) (held_bytes big_endian held) byte result.0 (held_bytes big_endian result.1) }
+    ensures { Took (utf16_step big_endian (held_bytes big_endian held) byte)
+        (held_bytes big_endian held) byte result.0 (held_bytes big_endian result.1) }
 {
     match held {
         Held::Nothing => (Fed::Nothing, Held::Odd(OddByte { byte })),

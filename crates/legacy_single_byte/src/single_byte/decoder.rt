@@ -6,11 +6,11 @@ ghost use Rattle.legacy_base.specs.States.{new_state};
 ghost use Rattle.legacy_single_byte.specs.SingleByteMachine.{single_byte_first};
 ghost use Rattle.legacy_decoder_engine.specs.Feeding.{Took};
 
-use legacy_base::{DecoderResult, Destination, RawDecoder, SingleByteTable};
-use legacy_decoder_engine::ahead::{CommonForms, CommonForm, ahead};
-use legacy_decoder_engine::drive::drive_decoder;
-use legacy_decoder_engine::moves::{Move, Fed, DecoderMoves, Room};
 use super::scalars::ByteScalars;
+use legacy_base::{DecoderResult, Destination, RawDecoder, SingleByteTable};
+use legacy_decoder_engine::ahead::{CommonForm, CommonForms, ahead};
+use legacy_decoder_engine::drive::drive_decoder;
+use legacy_decoder_engine::moves::{DecoderMoves, Fed, Move, Room};
 use std::simd::prelude::*;
 
 /// The decoder of a single-byte encoding (Encoding Standard, "single-byte decoder").

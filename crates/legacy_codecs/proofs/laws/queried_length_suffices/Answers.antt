@@ -1,5 +1,5 @@
 use Rattle.legacy_base.specs.Lengths.{to_utf16, to_utf8, to_utf8_without_replacement}
-use Rattle.legacy_codecs.proofs.Filling.{queried_length_suffices}
+use Rattle.legacy_codecs.proofs.QueriedLengths.{queried_length_suffices}
 use Rattle.legacy_codecs.proofs.laws.queried_length_suffices.Goals as goal
 
 pub returns-clause-utf16 : goal.returns-clause-utf16

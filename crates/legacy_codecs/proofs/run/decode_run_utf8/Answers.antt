@@ -1,18 +1,13 @@
 use Rattle.std.proofs.lemmas.Result.{IfOk-weaker}
-use Rattle.legacy_base.specs.EncodingForm.{Utf8}
-use Rattle.legacy_codecs.specs.Pieces.{contents_of}
-use Rattle.legacy_codecs.proofs.Runs.{is_beginning}
-use Rattle.legacy_codecs.proofs.Finishing.{is_finished}
+use Rattle.legacy_codecs.proofs.RunEvents.{is_beginning, none_left}
+use Rattle.legacy_codecs.proofs.AmpleLengths.{is_finished}
 use Rattle.legacy_codecs.proofs.run.decode_run_utf8.Goals as goal
 
 pub returns-clause-beginning : goal.returns-clause-beginning
-returns-clause-beginning g c =
-    IfOk-weaker c.decode_run.result _ _
-    (λ run h. is_beginning Utf8 (g.D.RawDecoder.state c.args.decoder.now) (contents_of c.args.pieces.now) c.args.lengths.now run.calls run.finished run.events.items (g.D.RawDecoder.state c.decode_run.new.decoder) h)
-    c.decode_run.ensures.run
+returns-clause-beginning g c = IfOk-weaker c.decode_run.result _ _ (λ run r. is_beginning r) c.decode_run.ensures.run
+
+pub returns-clause-none_left : goal.returns-clause-none_left
+returns-clause-none_left g c = IfOk-weaker c.decode_run.result _ _ (λ run r. none_left r) c.decode_run.ensures.run
 
 pub returns-clause-finishes : goal.returns-clause-finishes
-returns-clause-finishes g c =
-    IfOk-weaker c.decode_run.result _ _
-    (λ run h. is_finished Utf8 (g.D.RawDecoder.state c.args.decoder.now) (contents_of c.args.pieces.now) c.args.lengths.now run.calls run.finished run.events.items (g.D.RawDecoder.state c.decode_run.new.decoder) h)
-    c.decode_run.ensures.run
+returns-clause-finishes g c = IfOk-weaker c.decode_run.result _ _ (λ run r. is_finished r) c.decode_run.ensures.run

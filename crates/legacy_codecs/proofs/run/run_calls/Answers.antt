@@ -1,9 +1,10 @@
-use Rattle.std.proofs.Common.{◌≡◌, [], get_or, length, arith, ap, sym, ◌∙◌, vec_len}
+use Rattle.std.proofs.Common.{◌≡◌, ◌+◌, [], drop, length, refl, arith, ap, sym, ◌∙◌, vec_len, append-nil, length-drop, Vec, Global}
+use Rattle.std.proofs.lemmas.Bool.{true≢false}
 use Rattle.std.proofs.lemmas.Option.{slice_get-get_or}
 use Rattle.std.proofs.lemmas.List.{length-map}
 use Rattle.legacy_codecs.specs.Pieces.{contents_of}
-use Rattle.legacy_codecs.proofs.Running.{running_start, running_full, running_bad, running_next, running_done, running_out, room_step, last_length, not_last_length}
-use Rattle.std.proofs.Common.{Vec, Global}
+use Rattle.legacy_codecs.proofs.RunEvents.{place_before-state}
+use Rattle.legacy_codecs.proofs.RunSteps.{running_start, running_call, is_run, place_at-first, place_at-more, place_at-next, piece_at, pieces-bytes, not_last, room_step}
 use Rattle.legacy_codecs.proofs.run.run_calls.Goals as goal
 use Rattle.legacy_codecs.proofs.run.run_calls.Goals.{in-InputEmpty+else-last, in-OutputFull, in-Malformed}
 
@@ -14,61 +15,85 @@ none v e = v.ok.0 ∙ ap length e
 pub loop-calls-init : goal.loop-calls-init
 loop-calls-init g c =
     let n = none c.args.events c.requires.empty in
+    let first = place_at-first (g.D.RawDecoder.state c.args.decoder.now) (contents_of c.args.pieces.now) (rw length-map c.requires.some) in
     record {
-      running = rw c.requires.empty (running_start g.F.OutputForm.form (g.D.RawDecoder.state c.args.decoder.now) (contents_of c.args.pieces.now) c.args.lengths.now (rw length-map c.requires.some));
+      running = rw (c.requires.empty, first) (running_start _ _ _);
       room = let r = c.requires.room in omega arith;
       buffer = c.requires.buffer;
       inside = c.requires.some;
+      within = omega arith;
     }
+
+pub overflow_add-total : goal.overflow_add-total
+overflow_add-total g c =
+    let pieces = contents_of c.args.pieces.now in
+    let bytes = c.loop-calls.invariant.running.bytes in
+    let all = pieces-bytes (g.D.RawDecoder.state c.args.decoder.now) pieces in
+    let one = c.call_once-answer.ensures.call.1.within in
+    let unread = ap length c.unread_of-unread.ensures in
+    omega (arith, c.requires.total)
 
 pub returns-then-last : goal.returns-then-last
 returns-then-last g c =
+    let after = g.D.RawDecoder.state c.call_once-answer.new.decoder in
+    let later = drop (c.loop-calls.index + 1) (contents_of c.args.pieces.now) in
     let call = c.call_once-answer.ensures.call in
-    let one = rw (c.unread_of-unread.ensures, c.is_last-last.ensures, c.in-InputEmpty.is) at call.1 in
-    let i = c.loop-calls.invariant.running in
-    rw call.2 (running_done g.F.OutputForm.form (g.D.RawDecoder.state c.args.decoder.now) (contents_of c.args.pieces.now) c.args.lengths.now (g.D.RawDecoder.state c.loop-calls.decoder) c.loop-calls.index c.loop-calls.offset c.loop-calls.calls c.loop-calls.events.items c.loop-calls.total i
-    (get_or c.args.lengths.now c.loop-calls.calls 0) (slice_get-get_or c.args.lengths.now c.loop-calls.calls 0 c.loop-calls-test.true) (g.D.RawDecoder.state c.call_once-answer.new.decoder) c.call_once-answer.result.1 call.0 (last_length (contents_of c.args.pieces.now) c.loop-calls.index i.inside (sym c.is_last-last.ensures ∙ c.if-last.true)) c.loop-calls-test.true one)
+    let given = slice_get-get_or c.args.lengths.now c.loop-calls.calls 0 c.loop-calls-test.true in
+    let last = c.is_last-last.ensures in
+    let items = call.2 ∙ sym (append-nil _) in
+    let ended = sym c.if-last.true ∙ last in
+    let few = c.loop-calls-test.true in
+    is_run (running_call c.loop-calls.invariant.running given call.1 c.unread_of-unread.ensures last c.in-InputEmpty.is items ended refl)
+    (place_before-state after later) (omega arith) (λ e. absurd (true≢false e))
 
 pub returns : goal.returns
 returns g c =
-    let i = c.loop-calls.invariant.running in
     let all : c.loop-calls.calls ≡ length c.args.lengths.now = omega arith in
-    rw (← all) (running_out _ _ _ _ _ _ _ _ _ _ i all)
+    rw (← all) (is_run c.loop-calls.invariant.running refl (omega arith) (λ e. all))
 
 pub loop-calls-preserved : goal.loop-calls-preserved
 loop-calls-preserved g c =
-    let i = c.loop-calls.invariant.running in
+    let pieces = contents_of c.args.pieces.now in
+    let index = c.loop-calls.index in
+    let offset = c.loop-calls.offset in
+    let i = c.loop-calls.invariant in
     let call = c.call_once-answer.ensures.call in
+    let unread = c.unread_of-unread.ensures in
+    let last = c.is_last-last.ensures in
     let given = slice_get-get_or c.args.lengths.now c.loop-calls.calls 0 c.loop-calls-test.true in
     let step = room_step c.args.lengths.now c.loop-calls.calls c.loop-calls-test.true in
-    let room = c.loop-calls.invariant.room in
     let len = c.call_once-answer.ensures.len in
     let capacity = c.call_once-answer.ensures.capacity in
+    let room = i.room in
+    let read = call.1.within in
+    let unread_length = ap length unread in
     elim c.match-answer.branch [
       | in-InputEmpty+else-last w ↦
-          let one = rw (c.unread_of-unread.ensures, c.is_last-last.ensures, w.in-InputEmpty.is) at call.1 in
-          let more = not_last_length (contents_of c.args.pieces.now) c.loop-calls.index (sym c.is_last-last.ensures ∙ w.if-last.false) in
-          let same : length (contents_of c.args.pieces.now) ≡ length c.args.pieces.now = simp length-map in
+          let goes = sym w.if-last.false ∙ last in
+          let more = not_last pieces index (sym goes) in
+          let same : length pieces ≡ length c.args.pieces.now = simp length-map in
           rw (w.events-is, w.index-is, w.offset-is) record {
-            running = rw call.2 (running_next _ _ _ _ _ _ _ _ _ _ i _ given _ _ _ more one);
+            running = running_call i.running given call.1 unread last w.in-InputEmpty.is (call.2 ∙ sym (append-nil _)) goes (place_at-next pieces _ index more);
             room = omega arith;
-            buffer = λ k d h. let b = c.loop-calls.invariant.buffer k d h in omega arith;
+            buffer = λ k d h. let b = i.buffer k d h in omega arith;
             inside = omega (arith, more, same);
+            within = omega arith;
           }
       | in-OutputFull w ↦
-          let one = rw (c.unread_of-unread.ensures, c.is_last-last.ensures, w.in-OutputFull.is) at call.1 in
           rw (w.events-is, w.index-is, w.offset-is) record {
-            running = rw call.2 (running_full _ _ _ _ _ _ _ _ _ _ i _ given _ _ _ one);
+            running = running_call i.running given call.1 unread last w.in-OutputFull.is (call.2 ∙ sym (append-nil _)) refl (place_at-more pieces _ index offset _);
             room = omega arith;
-            buffer = λ k d h. let b = c.loop-calls.invariant.buffer k d h in omega arith;
-            inside = c.loop-calls.invariant.inside;
+            buffer = λ k d h. let b = i.buffer k d h in omega arith;
+            inside = i.inside;
+            within = omega (arith, i.within, length-drop offset (piece_at pieces index));
           }
       | in-Malformed w ↦
-          let one = rw (c.unread_of-unread.ensures, c.is_last-last.ensures, w.in-Malformed.is) at call.1 in
           rw (w.events-is, w.index-is, w.offset-is) record {
-            running = rw (w.push_within.ensures.items, w.bad_event.ensures, call.2) (running_bad _ _ _ _ _ _ _ _ _ _ i _ given _ _ _ w.in-Malformed.length w.in-Malformed.back one);
+            running = running_call i.running given call.1 unread last w.in-Malformed.is (w.push_within.ensures.items ∙ (rw (w.bad_event.ensures, call.2) refl)) refl
+                (place_at-more pieces _ index offset _);
             room = omega arith;
-            buffer = λ k d h. let b = c.loop-calls.invariant.buffer k d h in omega arith;
-            inside = c.loop-calls.invariant.inside;
+            buffer = λ k d h. let b = i.buffer k d h in omega arith;
+            inside = i.inside;
+            within = omega (arith, i.within, length-drop offset (piece_at pieces index));
           }
     ]

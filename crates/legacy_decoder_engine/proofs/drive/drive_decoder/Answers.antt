@@ -20,10 +20,8 @@ some_room : (b : Bool) (asked have units free want : ℕ) → ((b ≡ true) ↔ 
 some_room b asked have units free want i t e r = let k = i.0 t in omega arith
 
 sound : (fed : Fed) → ((a b : ℕ) (u : Bool) → fed ≡ Fault a b u → ⊥) → IsFaulty fed → ⊥
-sound Nothing h f = f
-sound (One c) h f = f
-sound (Two c d) h f = f
 sound (Fault a b u) h f = h a b u refl
+sound fed h f = f
 
 pub feed-fed-requires : goal.feed-fed-requires
 feed-fed-requires g c =
@@ -39,7 +37,8 @@ returns-then-not-has_room-2-clause-call g c =
     let i = ahead_going T.form _ _ _ _ _ _ _ _ c.read_runs-read.result _ _ _ _ _ b.1 b.2 b.3 a in
     let F = g.T.Destination.form in (
       i.0,
-      call_full_read F _ _ _ _ _ _ _ i.1 c.room-in-loop-read.ensures.covered (get_or c.args.src.now (c.loop-read.read + c.read_runs-read.result) 0) (omega (arith, i.1.within, c.if-read-src.false)) refl
+      call_full_read F _ _ _ _ _ _ _ i.1 c.room-in-loop-read.ensures.covered (get_or c.args.src.now (c.loop-read.read + c.read_runs-read.result) 0)
+          (omega (arith, i.1.within, c.if-read-src.false)) refl
           (no_room _ _ _ _ _ _ c.has_room-in-loop-read.ensures c.if-not-has_room-2.true (c.room-in-loop-read.ensures.units F) i.3),
       i.2,
     )
@@ -53,7 +52,8 @@ returns-then-unread-clause-call g c =
     let F = g.T.Destination.form in
     let f = c.in-Fault.ensures in (
       i.0,
-      call_fault_unread F _ _ _ _ _ _ _ i.1 (get_or c.args.src.now (c.loop-read.read + c.read_runs-read.result) 0) _ c.in-Fault.length c.in-Fault.back (omega (arith, i.1.within, c.if-read-src.false)) refl
+      call_fault_unread F _ _ _ _ _ _ _ i.1 (get_or c.args.src.now (c.loop-read.read + c.read_runs-read.result) 0) _ c.in-Fault.length c.in-Fault.back
+          (omega (arith, i.1.within, c.if-read-src.false)) refl
           (rw c.if-unread.true at f)
           (some_room _ _ _ _ _ _ c.has_room-in-loop-read.ensures c.if-not-has_room-2.false (c.room-in-loop-read.ensures.units F) i.3),
       i.2,
@@ -68,7 +68,8 @@ returns-in-Fault-clause-call g c =
     let F = g.T.Destination.form in
     let f = c.in-Fault.ensures in (
       i.0,
-      call_fault_read F _ _ _ _ _ _ _ i.1 (get_or c.args.src.now (c.loop-read.read + c.read_runs-read.result) 0) _ c.in-Fault.length c.in-Fault.back (omega (arith, i.1.within, c.if-read-src.false)) refl
+      call_fault_read F _ _ _ _ _ _ _ i.1 (get_or c.args.src.now (c.loop-read.read + c.read_runs-read.result) 0) _ c.in-Fault.length c.in-Fault.back
+          (omega (arith, i.1.within, c.if-read-src.false)) refl
           (rw c.if-unread.false at f)
           (some_room _ _ _ _ _ _ c.has_room-in-loop-read.ensures c.if-not-has_room-2.false (c.room-in-loop-read.ensures.units F) i.3),
       i.2,
@@ -83,8 +84,10 @@ loop-read-preserved g c =
     let F = g.T.Destination.form in
     let room = some_room _ _ _ _ _ _ c.has_room-in-loop-read.ensures c.if-not-has_room-2.false (c.room-in-loop-read.ensures.units F) i.3 in (
       i.0 ++ fed_scalars c.feed-fed.result,
-      going_feed F _ _ _ _ _ _ _ i.1 (get_or c.args.src.now (c.loop-read.read + c.read_runs-read.result) 0) _ c.feed-fed.result (omega (arith, i.1.within, c.if-read-src.false)) refl c.feed-fed.ensures (sound c.feed-fed.result c.in_default-fed.not-Fault) room,
-      c.put_fed.ensures.contents ∙ ap (λ l. l ++ all_code_units F (fed_scalars c.feed-fed.result)) i.2 ∙ append_assoc (g.T.Destination.contents c.args.dst.now) (all_code_units F i.0) (all_code_units F (fed_scalars c.feed-fed.result)) ∙ ap (λ l. g.T.Destination.contents c.args.dst.now ++ l) (sym (all_code_units-append F i.0 (fed_scalars c.feed-fed.result))),
+      going_feed F _ _ _ _ _ _ _ i.1 (get_or c.args.src.now (c.loop-read.read + c.read_runs-read.result) 0) _ c.feed-fed.result
+          (omega (arith, i.1.within, c.if-read-src.false)) refl c.feed-fed.ensures (sound c.feed-fed.result c.in_default-fed.not-Fault) room,
+      c.put_fed.ensures.contents ∙ ap (λ l. l ++ all_code_units F (fed_scalars c.feed-fed.result)) i.2 ∙ append_assoc (g.T.Destination.contents c.args.dst.now) (all_code_units F i.0)
+          (all_code_units F (fed_scalars c.feed-fed.result)) ∙ ap (λ l. g.T.Destination.contents c.args.dst.now ++ l) (sym (all_code_units-append F i.0 (fed_scalars c.feed-fed.result))),
       omega (arith, total_unit_count-append F i.0 (fed_scalars c.feed-fed.result), c.put_fed.ensures.room, i.3),
       c.put_fed.ensures.loan ∙ (c.read_runs-read.ensures.loan ∙ b.4),
     )
@@ -119,8 +122,11 @@ loop-read-init g c =
 pub returns-then-not-has_room-clause-call : goal.returns-then-not-has_room-clause-call
 returns-then-not-has_room-clause-call g c =
     let F = g.T.Destination.form in
-    let room = no_room _ _ _ 0 (g.T.Destination.room c.args.dst.now) _ c.has_room.ensures c.if-not-has_room.true (c.room.ensures.units F) (add-zero _) in
-    ([], call_full_release F _ _ _ _ c.room.ensures.covered c.rests.ensures.allowed (sym c.rests.ensures.is ∙ c.if-not-rests.true) (rw sub-zero at room), sym (append-nil (g.T.Destination.contents c.args.dst.now)))
+    let room = no_room _ _ _ 0 (g.T.Destination.room c.args.dst.now) _ c.has_room.ensures c.if-not-has_room.true (c.room.ensures.units F) (add-zero _) in (
+      [],
+      call_full_release F _ _ _ _ c.room.ensures.covered c.rests.ensures.allowed (sym c.rests.ensures.is ∙ c.if-not-rests.true) (rw sub-zero at room),
+      sym (append-nil (g.T.Destination.contents c.args.dst.now)),
+    )
 
 pub returns-clause-call : goal.returns-clause-call
 returns-clause-call g c =
@@ -130,7 +136,8 @@ returns-clause-call g c =
     let i = ahead_going T.form _ _ _ _ _ _ _ _ c.read_runs-read.result _ _ _ _ _ b.1 b.2 b.3 a in
     let all : c.loop-read.read + c.read_runs-read.result ≡ length c.args.src.now = c.if-read-src.true in (
       i.0,
-      subst (λ n. DecoderCall T.form (g.D.DecoderMoves.state c.args.decoder.now) c.args.src.now c.args.last (T.room c.args.dst.now) (g.D.DecoderMoves.state c.finish.new.decoder) c.finish.result n i.0) all
+      subst (λ n. DecoderCall T.form (g.D.DecoderMoves.state c.args.decoder.now) c.args.src.now c.args.last (T.room c.args.dst.now)
+          (g.D.DecoderMoves.state c.finish.new.decoder) c.finish.result n i.0) all
           (call_finish T.form _ _ _ _ _ _ _ i.1 (g.D.DecoderMoves.state c.finish.new.decoder) c.finish.result _ all i.3 c.finish.ensures),
       i.2,
     )

@@ -7,8 +7,13 @@ use Rattle.legacy_index_files.specs.IndexTable.{entries_of, last_value}
 use Rattle.legacy_index_files.proofs.index_table.read_single_byte.Goals as goal
 
 pub returns : goal.returns
-returns c = record {
-  at = λ p within.
-      let below : p < 128 = omega (arith, c.fill_narrow.auto.values) in
-      c.fill_narrow.ensures p below ∙ ap (unwrap_or (last_value (entries_of SingleByte (lines c.args.text.now)) p)) (get_or-replicate 128 p 0 0 below);
-}
+returns c =
+    let entries = entries_of SingleByte (lines c.args.text.now) in
+    record {
+      len = omega (arith, c.fill_narrow.auto.values);
+      at_each = record {
+        at = λ p within.
+            let below : p < 128 = omega (arith, c.fill_narrow.auto.values) in
+            c.fill_narrow.ensures p below ∙ ap (unwrap_or (last_value entries p)) (get_or-replicate 128 p 0 0 below);
+      };
+    }

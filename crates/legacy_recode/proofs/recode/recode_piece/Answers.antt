@@ -1,20 +1,43 @@
-use Rattle.legacy_recode.proofs.PieceUnderWay.{piece_start, piece_step, piece_end, piece_less}
+use Rattle.std.proofs.lemmas.Result.{on_ok_weaker, on_err_weaker, err_from_is_err_and}
+use Rattle.legacy_recode.proofs.PieceUnderWay.{piece_start, piece_step, piece_sent, piece_front, piece_end, piece_less}
 use Rattle.legacy_recode.proofs.recode.recode_piece.Goals as goal
 
 pub calls-init : goal.calls-init
-calls-init g c = piece_start _ c.args.piece.now c.args.last c.args.total _
+calls-init g c = piece_start _ c.args.piece.now c.args.last c.args.total _ _ c.requires.empty
+
+pub returns-in_err-make_room-clause-err : goal.returns-in_err-make_room-clause-err
+returns-in_err-make_room-clause-err g c =
+    let w = c.in_err-make_room.ensures.err in
+    rw (err_from_is_err_and c.from_residual.result c.from_residual.ensures.1).1 (piece_front c.calls.invariant w.0 w.1)
+
+pub returns-in-InputEmpty-clause-piece : goal.returns-in-InputEmpty-clause-piece
+returns-in-InputEmpty-clause-piece g c =
+    let sent = c.in_ok-make_room.ensures.written in
+    let call = c.lines_of_one_call-answer.ensures in
+    let one = rw c.rest_of-unread.ensures at call.1 in
+    on_ok_weaker c.write_to.result
+    (λ w. piece_end (piece_sent c.calls.invariant sent.0 sent.1 sent.2) one call.2 c.in-InputEmpty.is w)
+    c.write_to.ensures.written
+
+pub returns-in-InputEmpty-clause-err : goal.returns-in-InputEmpty-clause-err
+returns-in-InputEmpty-clause-err g c =
+    let sent = c.in_ok-make_room.ensures.written in
+    let call = c.lines_of_one_call-answer.ensures in
+    let one = rw c.rest_of-unread.ensures at call.1 in
+    on_err_weaker c.write_to.result
+    (λ w. piece_front (piece_step (piece_sent c.calls.invariant sent.0 sent.1 sent.2) one call.2) w.0 w.1)
+    c.write_to.ensures.err
 
 pub calls-preserved : goal.calls-preserved
 calls-preserved g c =
-    let call = c.in_ok-answer.ensures in
-    piece_step _ _ _ _ _ _ _ _ _ c.calls.invariant _ _ _ call.0 (rw c.rest_of-unread.ensures at call.1) call.2
-
-pub returns-in-InputEmpty : goal.returns-in-InputEmpty
-returns-in-InputEmpty g c =
-    let call = c.in_ok-answer.ensures in
-    piece_end _ _ _ _ _ _ _ _ _ c.calls.invariant _ _ _ call.0 (rw c.rest_of-unread.ensures at call.1) call.2 c.in-InputEmpty.is
+    let sent = c.in_ok-make_room.ensures.written in
+    let call = c.lines_of_one_call-answer.ensures in
+    let one = rw c.rest_of-unread.ensures at call.1 in
+    piece_step (piece_sent c.calls.invariant sent.0 sent.1 sent.2) one call.2
 
 pub calls-smaller : goal.calls-smaller
 calls-smaller g c =
-    let call = c.in_ok-answer.ensures in
-    piece_less _ _ _ _ _ _ _ _ _ c.calls.invariant _ _ _ call.0 (rw c.rest_of-unread.ensures at call.1) call.2 c.in_default.not-InputEmpty
+    let sent = c.in_ok-make_room.ensures.written in
+    let call = c.lines_of_one_call-answer.ensures in
+    let one = rw c.rest_of-unread.ensures at call.1 in
+    piece_less (piece_sent c.calls.invariant sent.0 sent.1 sent.2) one call.2 c.in_default.not-InputEmpty

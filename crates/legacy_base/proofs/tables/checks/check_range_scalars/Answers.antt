@@ -1,16 +1,13 @@
-use Rattle.std.proofs.Common.{◌∙◌, sym}
-use Rattle.legacy_base.proofs.TableLoops.{value_pass, value_fail, value_end}
+use Rattle.std.proofs.Common.{◌∙◌, refl}
+use Rattle.legacy_base.proofs.TableLoops.{value_next, value_end}
 use Rattle.legacy_base.proofs.tables.checks.check_range_scalars.Goals as goal
 
 pub returns-then-not-has_scalars : goal.returns-then-not-has_scalars
 returns-then-not-has_scalars c =
-    let is = rw c.end_of.ensures at c.has_scalars.ensures in
-    value_fail c.args.ranges.now c.loop-place.place _ c.loop-place.invariant c.loop-place-test.true (sym is ∙ c.if-not-has_scalars.true)
+    c.loop-place.invariant ∙ value_next _ _ c.loop-place-test.true ∙ rw (← c.end_of.ensures, ← c.has_scalars.ensures, c.if-not-has_scalars.true) refl
 
 pub loop-place-preserved : goal.loop-place-preserved
-loop-place-preserved c =
-    let is = rw c.end_of.ensures at c.has_scalars.ensures in
-    value_pass c.args.ranges.now c.loop-place.place _ c.loop-place.invariant c.loop-place-test.true (sym is ∙ c.if-not-has_scalars.false)
+loop-place-preserved c = c.loop-place.invariant ∙ value_next _ _ c.loop-place-test.true ∙ rw (← c.end_of.ensures, ← c.has_scalars.ensures, c.if-not-has_scalars.false) refl
 
 pub returns : goal.returns
-returns c = value_end c.args.ranges.now c.loop-place.place _ c.loop-place.invariant c.loop-place-test.false
+returns c = c.loop-place.invariant ∙ value_end _ _ c.loop-place-test.false

@@ -1,4 +1,4 @@
-use Rattle.legacy_recode.proofs.GivenFiles.{empty_index, empty_bytes}
+use Rattle.legacy_recode.proofs.GivenFiles.{empty_index, empty_single_byte}
 use Rattle.legacy_recode.proofs.given_indexes.GivenIndexes.new.Goals as goal
 
 pub returns : goal.returns
@@ -9,5 +9,5 @@ returns c = record {
   jis0212 = empty_index _ c.new-4.ensures.items;
   gb18030 = empty_index _ c.new-5.ensures.items;
   ranges = c.new-6.ensures.items;
-  single_byte = empty_bytes;
+  single_byte = empty_single_byte;
 }

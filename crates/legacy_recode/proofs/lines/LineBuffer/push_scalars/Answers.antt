@@ -7,6 +7,6 @@ loop-scalar-init c = record { text = no_lines _; room = omega arith }
 
 pub loop-scalar-preserved : goal.loop-scalar-preserved
 loop-scalar-preserved c = record {
-  text = one_more_line _ _ _ c.args.scalars.now c.loop-scalar.scalar-index c.scalar-item.result c.loop-scalar-test.true c.scalar-item.is c.loop-scalar.invariant.text c.push_scalar.ensures.text;
+  text = one_more_line _ c.args.scalars.now c.loop-scalar.scalar-index c.scalar-item.result c.loop-scalar-test.true c.scalar-item.is c.loop-scalar.invariant.text c.push_scalar.ensures.text;
   room = let a = c.loop-scalar.invariant.room in let b = c.push_scalar.ensures.room in omega arith;
 }

@@ -1,7 +1,7 @@
 use Rattle.std.proofs.Common.{◌<◌, ◌^◌, arith}
 use Rattle.legacy_base.specs.States.{is_lead}
 use Rattle.legacy_base.specs.Gb18030.{gb18030_scalars}
-use Rattle.legacy_decoder_engine.proofs.RowPlaces.{found}
+use Rattle.legacy_decoder_engine.proofs.PairPlaces.{found}
 use Rattle.legacy_chinese.proofs.Gb18030Held.{pair}
 use Rattle.legacy_chinese.proofs.gb18030.decoder.Gb18030DecoderCommonForms.front.Goals as goal
 

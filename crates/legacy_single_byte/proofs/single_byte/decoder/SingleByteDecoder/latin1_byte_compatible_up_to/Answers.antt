@@ -11,13 +11,16 @@ loop-count-init c = (c.ascii_blocks-count.ensures.within, latin1-ascii (single_b
 pub loop-count-preserved : goal.loop-count-preserved
 loop-count-preserved c = (
   omega (arith, c.loop-count-test.true),
-  below_more (λ k. is_latin1_byte (single_byte_entries c.args.self.now) (get_or c.args.bytes.now k 0) ≡ true) c.loop-count.count c.loop-count.invariant.1 (sym c.is_latin1.ensures ∙ c.if-is_latin1.true),
+  below_more (λ k. is_latin1_byte (single_byte_entries c.args.self.now) (get_or c.args.bytes.now k 0) ≡ true) c.loop-count.count c.loop-count.invariant.1
+      (sym c.is_latin1.ensures ∙ c.if-is_latin1.true),
 )
 
 pub returns-else-is_latin1 : goal.returns-else-is_latin1
 returns-else-is_latin1 c =
-    latin1_front-length (single_byte_entries c.args.self.now) c.args.bytes.now c.loop-count.count c.loop-count.invariant.0 c.loop-count.invariant.1 (λ h. sym c.is_latin1.ensures ∙ c.if-is_latin1.false)
+    latin1_front-length (single_byte_entries c.args.self.now) c.args.bytes.now c.loop-count.count c.loop-count.invariant.0 c.loop-count.invariant.1
+    (λ h. sym c.is_latin1.ensures ∙ c.if-is_latin1.false)
 
 pub returns-after-loop-count : goal.returns-after-loop-count
 returns-after-loop-count c =
-    latin1_front-length (single_byte_entries c.args.self.now) c.args.bytes.now c.loop-count.count c.loop-count.invariant.0 c.loop-count.invariant.1 (λ h. absurd (omega (arith, c.loop-count-test.false)))
+    latin1_front-length (single_byte_entries c.args.self.now) c.args.bytes.now c.loop-count.count c.loop-count.invariant.0 c.loop-count.invariant.1
+    (λ h. absurd (omega (arith, c.loop-count-test.false)))

@@ -1,9 +1,0 @@
--- What an output that keeps the scalars kept.
-use Rattle.std.proofs.Common.{◌≡◌, ◌∙◌, ℕ, List, [], ◌++◌, ap, All}
-use Rattle.std.specs.Char.{IsScalar}
-use Rattle.legacy_base.specs.EncodingForm.{EncodingForm, all_code_units}
-use Rattle.legacy_base.proofs.SameUnits.{all_units_same}
-
--- what was kept is what was written
-pub kept_is : (form : EncodingForm) (kept scalars before : List ℕ) → before ≡ [] → All IsScalar kept → All IsScalar scalars → all_code_units form kept ≡ all_code_units form before ++ all_code_units form scalars → kept ≡ scalars
-kept_is form kept scalars before z p q e = all_units_same form kept scalars p q (e ∙ ap (λ l. all_code_units form l ++ all_code_units form scalars) z)

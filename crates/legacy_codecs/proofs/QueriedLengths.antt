@@ -1,0 +1,52 @@
+-- Calls that fill one output leave the room that the bytes to come need.
+use Rattle.std.proofs.Common.{◌≡◌, ◌≢◌, ℕ, ◌+◌, ◌-◌, ◌≤◌, List, length, drop, length-drop, refl, arith, Bool, true, false, cond, IsTrue}
+use Rattle.legacy_base.specs.declared.results.DecoderResult.{DecoderResult}
+use Rattle.legacy_base.specs.declared.results.DecoderResult.TheVariants.{OutputFull}
+use Rattle.legacy_base.specs.EncodingForm.{total_unit_count}
+use Rattle.legacy_base.specs.States.{DecoderState}
+use Rattle.legacy_base.specs.Acts.{has_reported}
+use Rattle.legacy_base.specs.Lengths.{LengthQuery, query_form, answer_units, value, state_formula, room}
+use Rattle.legacy_base.proofs.Enough.{rises, room-answer}
+use Rattle.legacy_codecs.specs.Filling.{NextCall, Fills, QueriedLengthSuffices}
+use Rattle.legacy_codecs.specs.Filling.Fills.{begun, called}
+
+-- more bytes need no less room
+room-rises : (query : LengthQuery) (s : DecoderState) (m n : ℕ) → m ≤ n → room query s m ≤ room query s n
+room-rises query s m n h = by_test (has_reported s.grammar) (rises query s.grammar s.held m n h) where
+  by_test : (b : Bool) → value (state_formula query s m) ≤ value (state_formula query s n) →
+      cond b 0 (value (state_formula query s m)) ≤ cond b 0 (value (state_formula query s n))
+  by_test true h = omega arith
+  by_test false h = h
+
+module _ (query : LengthQuery) (before : DecoderState) (bytes free : ℕ) (after : DecoderState) (answer : DecoderResult) (read : ℕ) (scalars : List ℕ)
+    (n : NextCall query before bytes free after answer read scalars) where
+  next-lowers : room query after (bytes - read) + (total_unit_count (query_form query) scalars + answer_units query answer) ≤ room query before bytes
+  next-lowers =
+      let some = n.some in
+      let within = n.call.within in
+      let behind = length-drop read n.source in
+      let rest : length (drop read n.source) + (bytes - length n.source) ≡ bytes - read = omega arith in
+      let all : length n.source + (bytes - length n.source) ≡ bytes = omega arith in
+      let last : IsTrue n.last → bytes - length n.source ≡ 0 = λ l. let e = n.all l in omega arith in
+      let low = n.call.lowers query refl (bytes - length n.source) last in
+      rw (rest, all) at low
+
+  next-suffices : room query before bytes ≤ free → answer ≢ OutputFull
+  next-suffices h =
+      let r = room-rises query before (length n.source) bytes n.some in
+      n.call.suffices query refl (omega arith)
+
+fills-room : {query : LengthQuery} {from : DecoderState} {bytes free : ℕ} {s : DecoderState} {to_come left : ℕ} →
+    Fills query from bytes free s to_come left → room query from bytes ≤ free → room query s to_come ≤ left
+fills-room begun h = h
+fills-room {query = query} (called before to_come left f after answer read scalars n) h =
+    let r = fills-room f h in
+    let low = next-lowers query before to_come left after answer read scalars n in
+    omega arith
+
+pub queried_length_suffices : (query : LengthQuery) → QueriedLengthSuffices query
+queried_length_suffices query from bytes units free e h before to_come left f after answer read scalars n =
+    let start = room-answer query from bytes bytes units (omega arith) e in
+    let r : room query before to_come ≤ left = fills-room f (omega arith) in
+    let low = next-lowers query before to_come left after answer read scalars n in
+    (next-suffices query before to_come left after answer read scalars n r, omega arith)

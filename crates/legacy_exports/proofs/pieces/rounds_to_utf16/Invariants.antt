@@ -1,6 +1,0 @@
-use Rattle.std.proofs.Common.{◌≡◌, ◌≤◌, length}
-use Rattle.legacy_exports.proofs.pieces.rounds_to_utf16.Given as goal
-
--- what was written fits
-abbrev pub invariant-loop : goal.invariant-loop
-invariant-loop g l = l.written ≤ length l.dst

@@ -1,0 +1,2 @@
+pub mod Codecs
+pub mod Taken

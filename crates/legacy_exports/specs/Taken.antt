@@ -1,0 +1,38 @@
+-- What of a caller's indexes is taken.
+use Rattle.std.specs.Prelude.{◌≡◌, ◌≤◌, ℕ, List, length, map}
+use Rattle.legacy_base.specs.Indexes.{FlatIndexes}
+use Rattle.legacy_base.specs.AcceptedTables.{flat_lists}
+use Rattle.legacy_base.specs.TableChecks.{AreAccepted, IsAcceptedTable}
+use Rattle.legacy_exports.specs.declared.codec.Codec.{Codec}
+use Rattle.legacy_exports.specs.declared.codec.Codec.TheVariants.{SingleByte}
+use Rattle.legacy_exports.specs.Codecs.{number_of}
+use Rattle.legacy_exports.specs.declared.indexes.IndexRange.{IndexRange}
+use Rattle.legacy_exports.specs.declared.indexes.IndexSlices.{IndexSlices}
+
+-- a range as a pair
+abbrev pub range_pair : IndexRange → ℕ × ℕ
+range_pair range = (range.pointer, range.scalar)
+
+-- the handed-in indexes of pointers, with these pairs as ranges
+abbrev pub indexes_with : IndexSlices → List (ℕ × ℕ) → FlatIndexes
+indexes_with slices ranges =
+    flat_lists slices.big5.now slices.euc_kr.now slices.jis0208.now slices.jis0212.now slices.gb18030.now slices.katakana.now ranges
+
+-- the index of a single-byte encoding is accepted
+abbrev pub IsTakenTable : List ℕ → Type 0
+IsTakenTable entries = (length entries ≡ 128) × IsAcceptedTable entries
+
+-- the indexes are accepted, that of a single-byte encoding where the codec is one, and the ranges are not too many
+abbrev pub AreTaken : Codec → IndexSlices → Type 0
+AreTaken codec slices =
+    (length slices.ranges.now ≤ 256)
+    × AreAccepted (indexes_with slices (map range_pair slices.ranges.now))
+    × (codec ≡ SingleByte → IsTakenTable slices.single_byte.now)
+
+-- a codec has the number, and the indexes are taken for it
+abbrev pub IsTaken : ℕ → IndexSlices → Type 0
+IsTaken number slices = (codec : Codec) × (number_of codec ≡ number) × AreTaken codec slices
+
+-- no codec has the number, or the indexes are not taken for it
+abbrev pub IsRefused : ℕ → IndexSlices → Type 0
+IsRefused number slices = IsTaken number slices → ⊥

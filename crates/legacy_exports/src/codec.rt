@@ -1,0 +1,53 @@
+//! The codecs by their numbers.
+ghost use Rattle.std.specs.Prelude.{◌≡◌, ◌≢◌, MatchOption};
+ghost use Rattle.legacy_exports.specs.Codecs.{number_of};
+
+/// A codec of the Encoding Standard, in its order.
+#[derive(Clone, Copy)]
+pub enum Codec {
+    /// A single-byte encoding, by its table.
+    SingleByte,
+    /// GBK.
+    Gbk,
+    /// gb18030.
+    Gb18030,
+    /// Big5.
+    Big5,
+    /// EUC-JP.
+    EucJp,
+    /// ISO-2022-JP.
+    Iso2022Jp,
+    /// Shift_JIS.
+    ShiftJis,
+    /// EUC-KR.
+    EucKr,
+    /// replacement.
+    Replacement,
+    /// UTF-16BE.
+    Utf16Be,
+    /// UTF-16LE.
+    Utf16Le,
+    /// x-user-defined.
+    UserDefined,
+}
+
+/// The codec of this number, or `None` where no codec has it. `bench/legacy_codecs.h` has the same numbers.
+pub fn codec_of_number(number: u32) -> Option<Codec>
+    ensures { MatchOption result ((c : Codec) → number_of c ≢ number) (λ c. number_of c ≡ number) }
+{
+    match number {
+        1 => Some(Codec::SingleByte),
+        2 => Some(Codec::Gbk),
+        3 => Some(Codec::Gb18030),
+        4 => Some(Codec::Big5),
+        5 => Some(Codec::EucJp),
+        6 => Some(Codec::Iso2022Jp),
+        7 => Some(Codec::ShiftJis),
+        8 => Some(Codec::EucKr),
+        9 => Some(Codec::Replacement),
+        10 => Some(Codec::Utf16Be),
+        11 => Some(Codec::Utf16Le),
+        12 => Some(Codec::UserDefined),
+        _ => None,
+    }
+}

@@ -1,0 +1,62 @@
+//! The code units of the outputs.
+ghost use Rattle.std.specs.Prelude.{◌≡◌, ◌≤◌, length, IfSome};
+
+use legacy_base::{DecoderResult, RawDecoder};
+
+/// A code unit of an output: a byte of UTF-8, or a code unit of UTF-16.
+pub trait CodeUnit: Copy {
+    /// A call of a decoder to such an output: answers the result, the bytes read and the code units
+    /// written.
+    fn decode_raw<D: RawDecoder>(
+        decoder: &mut D,
+        source: &[u8],
+        output: &mut [Self],
+        last: bool,
+    ) -> (DecoderResult, usize, usize)
+        ensures read { result.1 ≤ length source.now }
+        ensures written { result.2 ≤ length output.new };
+
+    /// Writes U+FFFD at a place, and answers the place behind it, or `None` where it has no room.
+    fn replace(output: &mut [Self], at: usize) -> Option<usize>
+        ensures { IfSome result (λ end. end ≤ length output.new) };
+}
+
+impl CodeUnit for u8 {
+    fn decode_raw<D: RawDecoder>(
+        decoder: &mut D,
+        source: &[u8],
+        output: &mut [u8],
+        last: bool,
+    ) -> (DecoderResult, usize, usize) {
+        decoder.decode_to_utf8_raw(source, output, last)
+    }
+
+    fn replace(output: &mut [u8], at: usize) -> Option<usize> {
+        if output.len().saturating_sub(at) < 3 {
+            return None;
+        }
+        output[at] = 0xEF;
+        output[at + 1] = 0xBF;
+        output[at + 2] = 0xBD;
+        Some(at + 3)
+    }
+}
+
+impl CodeUnit for u16 {
+    fn decode_raw<D: RawDecoder>(
+        decoder: &mut D,
+        source: &[u8],
+        output: &mut [u16],
+        last: bool,
+    ) -> (DecoderResult, usize, usize) {
+        decoder.decode_to_utf16_raw(source, output, last)
+    }
+
+    fn replace(output: &mut [u16], at: usize) -> Option<usize> {
+        if at >= output.len() {
+            return None;
+        }
+        output[at] = 0xFFFD;
+        Some(at + 1)
+    }
+}

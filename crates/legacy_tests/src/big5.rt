@@ -1,0 +1,114 @@
+//! Big5.
+use crate::events::bad;
+use crate::indexes::{no_entries, tables_of};
+use crate::rows::Row::{
+    BareLength, Decoder, Events, Neutral, ToUtf8, ToUtf16, Utf8Length, Utf16Length,
+};
+use crate::rows::{Row, Tested, follow};
+use legacy_base::DecodeEvent::Scalar;
+use legacy_base::DecoderResult::{InputEmpty, Malformed, OutputFull};
+use legacy_base::{Indexes, Tables};
+use legacy_decoders::Big5Decoder;
+
+impl<'a> Tested for Big5Decoder<'a> {
+    type Of = &'a Tables<'a>;
+
+    fn made(of: &'a Tables<'a>) -> Big5Decoder<'a> {
+        Big5Decoder::new(of)
+    }
+
+    fn neutral(&self) -> Option<bool> {
+        Some(self.in_neutral_state())
+    }
+}
+
+const WITHOUT_ENTRIES: &[Row] = &[
+    Decoder("pointers 1133, 1135, 1164 and 1166 are a letter and a mark"),
+    ToUtf8(b"\x88\x62", 16, true, InputEmpty, 2, "\u{CA}\u{304}"),
+    ToUtf16(b"\x88\x62", 1, true, OutputFull, 0, &[]),
+    ToUtf16(b"\x88\x62", 2, true, InputEmpty, 2, &[0xCA, 0x304]),
+    Events(b"\x88\x62", &[Scalar('\u{CA}'), Scalar('\u{304}')]),
+    ToUtf8(
+        b"\x88\xA3\x88\xA5",
+        16,
+        true,
+        InputEmpty,
+        4,
+        "\u{EA}\u{304}\u{EA}\u{30C}",
+    ),
+    Events(
+        b"\x88\xA3\x88\xA5",
+        &[
+            Scalar('\u{EA}'),
+            Scalar('\u{304}'),
+            Scalar('\u{EA}'),
+            Scalar('\u{30C}'),
+        ],
+    ),
+    Decoder("a lead is held back until its trail comes"),
+    Neutral(true),
+    ToUtf8(b"\x88", 16, false, InputEmpty, 1, ""),
+    Neutral(false),
+    ToUtf8(b"\x62", 16, true, InputEmpty, 1, "\u{CA}\u{304}"),
+    Neutral(true),
+    Decoder("an ASCII trail without a scalar is read again"),
+    ToUtf8(b"\x87\x66", 16, true, Malformed(1, 0), 1, ""),
+    ToUtf8(b"\x66", 16, true, InputEmpty, 1, "f"),
+    Events(b"\x87\x66", &[bad!(0, 1), Scalar('f')]),
+    Decoder("a lead at the end is malformed"),
+    Events(
+        b"\x88\x62\x88",
+        &[Scalar('\u{CA}'), Scalar('\u{304}'), bad!(2, 1)],
+    ),
+    Decoder("a lead that is held back counts in the lengths"),
+    Utf16Length(usize::MAX - 1, Some(usize::MAX)),
+    Utf16Length(usize::MAX, None),
+    Utf16Length(5, Some(6)),
+    BareLength(5, Some(12)),
+    Utf8Length(5, Some(18)),
+    ToUtf8(b"\x88", 16, false, InputEmpty, 1, ""),
+    Utf16Length(5, Some(7)),
+    BareLength(5, Some(14)),
+    Utf8Length(5, Some(21)),
+    Utf16Length(usize::MAX - 1, None),
+    Decoder("a byte past ASCII needs four bytes or two units, an ASCII byte one"),
+    ToUtf8(b"\x61\x88\x62", 4, true, OutputFull, 1, "a"),
+    ToUtf8(b"\x88\x61", 4, false, Malformed(1, 0), 1, ""),
+    ToUtf8(b"\x61", 1, true, InputEmpty, 1, "a"),
+    ToUtf16(b"\x61\x88", 2, true, OutputFull, 1, &[0x61]),
+];
+
+#[test]
+fn decodes_with_an_empty_index(rt: HostRuntime) {
+    let tables = tables_of(&rt, &no_entries());
+    follow::<Big5Decoder>(&rt, &tables, WITHOUT_ENTRIES);
+}
+
+const THE_LAST_POINTER: &[Row] = &[
+    Decoder("the last pointer's scalar is past U+FFFF"),
+    ToUtf8(b"\xFE\xFD", 16, true, InputEmpty, 2, "\u{2910D}"),
+    ToUtf16(b"\xFE\xFD", 2, true, InputEmpty, 2, &[0xD864, 0xDD0D]),
+    Events(
+        b"\x61\xFE\xFD\xFE\xFD\x87\xFE",
+        &[
+            Scalar('a'),
+            Scalar('\u{2910D}'),
+            Scalar('\u{2910D}'),
+            bad!(5, 2),
+        ],
+    ),
+];
+
+#[test]
+fn decodes_the_last_pointer(rt: HostRuntime) {
+    let mut index = [0u32; 19781];
+    index[19780] = 0x2_910D;
+    let tables = tables_of(
+        &rt,
+        &Indexes {
+            big5: &index,
+            ..no_entries()
+        },
+    );
+    follow::<Big5Decoder>(&rt, &tables, THE_LAST_POINTER);
+}

@@ -1,0 +1,118 @@
+//! EUC-JP.
+use crate::events::bad;
+use crate::indexes::{no_entries, tables_of};
+use crate::rows::Row::{
+    BareLength, Decoder, Events, Neutral, ToUtf8, ToUtf16, Utf8Length, Utf16Length,
+};
+use crate::rows::{Row, Tested, follow};
+use legacy_base::DecodeEvent::Scalar;
+use legacy_base::DecoderResult::{InputEmpty, Malformed, OutputFull};
+use legacy_base::{Indexes, Tables};
+use legacy_decoders::EucJpDecoder;
+
+impl<'a> Tested for EucJpDecoder<'a> {
+    type Of = &'a Tables<'a>;
+
+    fn made(of: &'a Tables<'a>) -> EucJpDecoder<'a> {
+        EucJpDecoder::new(of)
+    }
+
+    fn neutral(&self) -> Option<bool> {
+        Some(self.in_neutral_state())
+    }
+}
+
+const WITHOUT_ENTRIES: &[Row] = &[
+    Decoder("an ASCII byte behind 8F and a lead is read again"),
+    ToUtf8(b"\x8F\xA2\x41", 8, true, Malformed(2, 0), 2, ""),
+    Neutral(true),
+    ToUtf8(b"\x41", 8, true, InputEmpty, 1, "A"),
+    Decoder("a form of three bytes that the end cuts off is malformed as a whole"),
+    ToUtf8(b"\x8F\xA2", 3, true, Malformed(2, 0), 2, ""),
+    Decoder("a form of two bytes that the end cuts off is malformed as a whole"),
+    ToUtf8(b"\x8E", 3, true, Malformed(1, 0), 1, ""),
+    Decoder("a form that began counts as one byte in the lengths"),
+    Utf16Length(usize::MAX, Some(usize::MAX)),
+    Utf8Length(usize::MAX / 3, Some(usize::MAX)),
+    BareLength(0, Some(2)),
+    BareLength(3, Some(7)),
+    BareLength(usize::MAX, None),
+    ToUtf8(b"\x8F\xA2", 4, false, InputEmpty, 2, ""),
+    Neutral(false),
+    Utf16Length(0, Some(1)),
+    BareLength(0, Some(4)),
+    Utf8Length(0, Some(3)),
+    Utf16Length(usize::MAX, None),
+    Decoder("behind 8E stand A1 to DF, which are U+FF61 to U+FF9F, and behind 8F a lead"),
+    Events(
+        b"\x8E\xA1\x8E\xE0\x8F\x41\x8F\x80",
+        &[
+            Scalar('\u{FF61}'),
+            bad!(2, 2),
+            bad!(4, 1),
+            Scalar('A'),
+            bad!(6, 2),
+        ],
+    ),
+    Events(b"\x8F\xA2\x41\x8F", &[bad!(0, 2), Scalar('A'), bad!(3, 1)]),
+    Events(
+        b"\x80\xA1\x7F\x8E\x30",
+        &[
+            bad!(0, 1),
+            bad!(1, 1),
+            Scalar('\u{7F}'),
+            bad!(3, 1),
+            Scalar('0'),
+        ],
+    ),
+    Decoder("a byte past ASCII needs three bytes or one unit"),
+    ToUtf8(b"\x61\x8E", 3, false, OutputFull, 1, "a"),
+    ToUtf16(b"\x8E", 0, false, OutputFull, 0, &[]),
+    ToUtf16(b"\x8E", 1, false, InputEmpty, 1, &[]),
+    ToUtf8(b"\xA1", 2, true, OutputFull, 0, ""),
+    ToUtf8(b"\xA1", 3, true, InputEmpty, 1, "\u{FF61}"),
+    Decoder("a lead at the end is reported where there is room for U+FFFD"),
+    ToUtf8(b"\xA1", 3, false, InputEmpty, 1, ""),
+    ToUtf8(b"", 2, true, OutputFull, 0, ""),
+    ToUtf8(b"", 3, true, Malformed(1, 0), 0, ""),
+];
+
+#[test]
+fn decodes_with_empty_indexes(rt: HostRuntime) {
+    let tables = tables_of(&rt, &no_entries());
+    follow::<EucJpDecoder>(&rt, &tables, WITHOUT_ENTRIES);
+}
+
+const PAIRS: &[Row] = &[
+    Decoder("pairs go by index jis0208, and behind 8F by index jis0212"),
+    ToUtf16(
+        b"\xA1\xA1\xA1\xDD\x8F\xA2\xAF\x8E\xDF",
+        8,
+        true,
+        InputEmpty,
+        9,
+        &[0x3000, 0xFF0D, 0x02D8, 0xFF9F],
+    ),
+    Decoder("a pointer that index jis0208 lacks"),
+    ToUtf16(b"\xA2\xAF", 8, true, Malformed(2, 0), 2, &[]),
+    Decoder("a pointer that index jis0212 lacks"),
+    ToUtf16(b"\x8F\xA1\xA1", 8, true, Malformed(3, 0), 3, &[]),
+];
+
+#[test]
+fn decodes_pairs_by_jis0208_and_behind_8f_by_jis0212(rt: HostRuntime) {
+    let mut jis0208 = [0u16; 109];
+    jis0208[0] = 0x3000;
+    jis0208[60] = 0xFF0D;
+    let mut jis0212 = [0u16; 109];
+    jis0212[108] = 0x02D8;
+    let tables = tables_of(
+        &rt,
+        &Indexes {
+            jis0208: &jis0208,
+            jis0212: &jis0212,
+            ..no_entries()
+        },
+    );
+    follow::<EucJpDecoder>(&rt, &tables, PAIRS);
+}

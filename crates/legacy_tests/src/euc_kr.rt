@@ -1,0 +1,80 @@
+//! EUC-KR.
+use crate::events::bad;
+use crate::indexes::{no_entries, tables_of};
+use crate::rows::Row::{
+    BareLength, Decoder, Events, Neutral, ToUtf8, ToUtf16, Utf8Length, Utf16Length,
+};
+use crate::rows::{Row, Tested, follow};
+use legacy_base::DecodeEvent::Scalar;
+use legacy_base::DecoderResult::{InputEmpty, Malformed, OutputFull};
+use legacy_base::{Indexes, Tables};
+use legacy_decoders::EucKrDecoder;
+
+impl<'a> Tested for EucKrDecoder<'a> {
+    type Of = &'a Tables<'a>;
+
+    fn made(of: &'a Tables<'a>) -> EucKrDecoder<'a> {
+        EucKrDecoder::new(of)
+    }
+
+    fn neutral(&self) -> Option<bool> {
+        Some(self.in_neutral_state())
+    }
+}
+
+/// The rows with U+AC02 at pointer 0, and no other scalar.
+const ROWS: &[Row] = &[
+    Decoder("a lead and a byte past ASCII without a scalar are malformed together"),
+    ToUtf8(b"\x81\xFF", 16, true, Malformed(2, 0), 2, ""),
+    Events(b"\x81\xFF", &[bad!(0, 2)]),
+    Decoder("a lead before an ASCII byte without a scalar is malformed alone"),
+    ToUtf8(
+        b"\x81\x41\x81\x5B",
+        16,
+        true,
+        Malformed(1, 0),
+        3,
+        "\u{AC02}",
+    ),
+    ToUtf8(b"\x5B", 16, true, InputEmpty, 1, "["),
+    Events(
+        b"\x81\x41\x81\x5B",
+        &[Scalar('\u{AC02}'), bad!(2, 1), Scalar('[')],
+    ),
+    Decoder("a lead at the end is malformed"),
+    Neutral(true),
+    ToUtf8(b"\x81", 16, false, InputEmpty, 1, ""),
+    Neutral(false),
+    ToUtf8(b"", 16, true, Malformed(1, 0), 0, ""),
+    Neutral(true),
+    ToUtf8(b"", 16, true, InputEmpty, 0, ""),
+    Events(b"\x81", &[bad!(0, 1)]),
+    Events(b"\x81\x41\x81", &[Scalar('\u{AC02}'), bad!(2, 1)]),
+    Decoder("a lead that is held back counts in the lengths"),
+    Utf16Length(usize::MAX, Some(usize::MAX)),
+    Utf16Length(5, Some(5)),
+    BareLength(5, Some(10)),
+    BareLength(usize::MAX, None),
+    Utf8Length(5, Some(15)),
+    ToUtf8(b"\x81", 16, false, InputEmpty, 1, ""),
+    Utf16Length(usize::MAX, None),
+    Utf16Length(5, Some(6)),
+    BareLength(5, Some(11)),
+    Utf8Length(5, Some(18)),
+    Decoder("a byte past ASCII needs three bytes or one unit, an ASCII byte one"),
+    ToUtf8(b"\x61\x81\x41", 3, true, OutputFull, 1, "a"),
+    ToUtf8(b"\x61\x81\x41", 4, true, InputEmpty, 3, "a\u{AC02}"),
+    ToUtf16(b"\x61\x81\x41", 1, true, OutputFull, 1, &[0x61]),
+];
+
+#[test]
+fn decodes_with_one_entry(rt: HostRuntime) {
+    let tables = tables_of(
+        &rt,
+        &Indexes {
+            euc_kr: &[0xAC02],
+            ..no_entries()
+        },
+    );
+    follow::<EucKrDecoder>(&rt, &tables, ROWS);
+}

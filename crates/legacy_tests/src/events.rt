@@ -1,0 +1,85 @@
+//! The events that a decoder finds in the whole of an input, however it is cut.
+use crate::units::Form;
+use legacy_base::DecodeEvent::{Bad, Scalar};
+use legacy_base::DecoderResult::{InputEmpty, Malformed};
+use legacy_base::{DecodeEvent, DecoderResult, RawDecoder};
+
+/// A malformed sequence: the place of its first byte, and how many bytes it has.
+macro_rules! bad {
+    ($place:expr, $length:expr) => {
+        legacy_base::DecodeEvent::Bad {
+            place: $place,
+            length: $length,
+        }
+    };
+}
+
+pub(crate) use bad;
+
+/// The first events that were found, at most 160 of them.
+#[derive(Drop)]
+pub(crate) struct Found {
+    events: [DecodeEvent; 160],
+    count: usize,
+}
+
+impl Found {
+    pub(crate) fn new() -> Found {
+        Found {
+            events: [Scalar('\0'); 160],
+            count: 0,
+        }
+    }
+
+    pub(crate) fn push(&mut self, event: DecodeEvent) {
+        if self.count < 160 {
+            self.events[self.count] = event;
+            self.count += 1;
+        }
+    }
+
+    pub(crate) fn as_slice(&self) -> &[DecodeEvent] {
+        &self.events[..self.count.min(160)]
+    }
+}
+
+/// The malformed sequence that an answer reports, with so many bytes read.
+fn reported(answer: DecoderResult, seen: usize) -> Option<DecodeEvent> {
+    match answer {
+        Malformed(length, back) => {
+            let behind = usize::from(back) + usize::from(length);
+            Some(Bad {
+                place: seen.saturating_sub(behind),
+                length: usize::from(length),
+            })
+        }
+        _ => None,
+    }
+}
+
+/// The events of the input in calls of at most so many bytes, with so many code units free.
+pub(crate) fn events<F: Form, D: RawDecoder>(
+    decoder: &mut D,
+    input: &[u8],
+    piece: usize,
+    room: usize,
+) -> Found {
+    let mut found = Found::new();
+    let mut seen = 0usize;
+    let mut end = piece.min(input.len());
+    for _call in 0..1000 {
+        let source = input.get(seen..end).unwrap_or(&[]);
+        let last = end == input.len();
+        let (answer, read) = F::call(decoder, source, room, last, &mut found);
+        seen = seen.saturating_add(read);
+        if let Some(event) = reported(answer, seen) {
+            found.push(event);
+        } else if answer == InputEmpty {
+            if last {
+                break;
+            }
+            end = end.saturating_add(piece).min(input.len());
+        }
+    }
+    found
+}

@@ -1,0 +1,215 @@
+//! gb18030.
+use crate::events::bad;
+use crate::indexes::{no_entries, tables_of};
+use crate::rows::Row::{
+    BareLength, Decoder, Events, Neutral, ToUtf8, ToUtf16, Utf8Length, Utf16Length,
+};
+use crate::rows::{Row, Tested, follow};
+use legacy_base::DecodeEvent::Scalar;
+use legacy_base::DecoderResult::{InputEmpty, Malformed, OutputFull};
+use legacy_base::{Indexes, Tables};
+use legacy_decoders::Gb18030Decoder;
+
+impl<'a> Tested for Gb18030Decoder<'a> {
+    type Of = &'a Tables<'a>;
+
+    fn made(of: &'a Tables<'a>) -> Gb18030Decoder<'a> {
+        Gb18030Decoder::new(of)
+    }
+
+    fn neutral(&self) -> Option<bool> {
+        Some(self.in_neutral_state())
+    }
+}
+
+const PUT_BACK: &[Row] = &[
+    Decoder("a bad fourth byte gives the second and third back"),
+    ToUtf8(b"\xE3\x32\x9A\x00", 8, true, Malformed(1, 2), 3, ""),
+    Neutral(false),
+    ToUtf8(b"\x00", 8, true, Malformed(1, 0), 0, "2"),
+    Neutral(true),
+    ToUtf8(b"\x00", 8, true, InputEmpty, 1, "\0"),
+    Events(
+        b"\xE3\x32\x9A\x00",
+        &[bad!(0, 1), Scalar('2'), bad!(2, 1), Scalar('\0')],
+    ),
+    Decoder("the lead behind a digit begins a form"),
+    ToUtf8(b"\x81\x30\x82\x40", 8, true, Malformed(1, 2), 3, ""),
+    ToUtf8(b"\x40", 8, true, Malformed(1, 0), 0, "0"),
+    ToUtf8(b"\x40", 8, true, InputEmpty, 1, "@"),
+    Events(
+        b"\x81\x30\x82\x40",
+        &[bad!(0, 1), Scalar('0'), bad!(2, 1), Scalar('@')],
+    ),
+    Decoder("a digit that was put back is written first"),
+    ToUtf8(b"\x81\x30\x41", 8, true, Malformed(1, 1), 2, ""),
+    Neutral(false),
+    ToUtf8(b"\x41", 8, true, InputEmpty, 1, "0A"),
+    Neutral(true),
+    Decoder("a digit that was put back waits for its room"),
+    ToUtf8(b"\x81\x30\x41", 8, true, Malformed(1, 1), 2, ""),
+    ToUtf8(b"\x41", 3, true, OutputFull, 0, ""),
+    Neutral(false),
+    Decoder("a digit is written also where no byte comes"),
+    ToUtf16(b"\x81\x39\x41", 2, false, Malformed(1, 1), 2, &[]),
+    ToUtf16(b"", 1, false, OutputFull, 0, &[]),
+    ToUtf16(b"", 2, false, InputEmpty, 0, &[0x39]),
+    Neutral(true),
+];
+
+#[test]
+fn decodes_again_what_was_put_back(rt: HostRuntime) {
+    let tables = tables_of(&rt, &no_entries());
+    follow::<Gb18030Decoder>(&rt, &tables, PUT_BACK);
+}
+
+const WITHOUT_ENTRIES: &[Row] = &[
+    Decoder("pointer 1237575 is the last scalar"),
+    ToUtf8(b"\xE3\x32\x9A\x35", 4, true, InputEmpty, 4, "\u{10FFFF}"),
+    Decoder("pointer 1237575 is the last scalar, in UTF-16"),
+    ToUtf16(
+        b"\xE3\x32\x9A\x35",
+        2,
+        true,
+        InputEmpty,
+        4,
+        &[0xDBFF, 0xDFFF],
+    ),
+    Decoder("pointer 1237576 has no scalar"),
+    ToUtf8(b"\xE3\x32\x9A\x36", 4, true, Malformed(4, 0), 4, ""),
+    Decoder("pointer 7457 is U+E7C7 whatever the ranges"),
+    ToUtf16(b"\x81\x35\xF4\x37", 2, true, InputEmpty, 4, &[0xE7C7]),
+    Decoder("each byte that is held back counts in the lengths"),
+    Utf8Length(4, Some(13)),
+    Utf16Length(usize::MAX, None),
+    Utf16Length(usize::MAX - 1, Some(usize::MAX)),
+    Utf8Length(usize::MAX / 3, None),
+    Utf8Length(usize::MAX / 3 - 1, Some(usize::MAX - 2)),
+    ToUtf8(b"\xE3\x32\x9A", 4, false, InputEmpty, 3, ""),
+    Utf16Length(0, Some(4)),
+    BareLength(0, Some(10)),
+    Utf8Length(0, Some(10)),
+    Decoder("a byte past ASCII needs four bytes or two units"),
+    ToUtf8(b"\x61\x80", 4, true, OutputFull, 1, "a"),
+    ToUtf16(b"\x80", 1, true, OutputFull, 0, &[]),
+    ToUtf8(b"\x80", 4, true, InputEmpty, 1, "\u{20AC}"),
+    ToUtf8(b"\x81\x30\x81", 4, false, InputEmpty, 3, ""),
+    ToUtf8(b"", 3, true, OutputFull, 0, ""),
+    ToUtf8(b"", 4, true, Malformed(3, 0), 0, ""),
+    Decoder("13 bytes, the length for 4, are enough with U+FFFD for each malformed sequence"),
+    Utf8Length(4, Some(13)),
+    ToUtf8(b"\xE3\x32\x9A\x00", 13, true, Malformed(1, 2), 3, ""),
+    ToUtf8(b"\x00", 10, true, Malformed(1, 0), 0, "2"),
+    ToUtf8(b"\x00", 6, true, InputEmpty, 1, "\0"),
+    Decoder("13 bytes are enough also byte by byte"),
+    ToUtf8(b"\xE3", 13, false, InputEmpty, 1, ""),
+    ToUtf8(b"\x32", 13, false, InputEmpty, 1, ""),
+    ToUtf8(b"\x9A", 13, false, InputEmpty, 1, ""),
+    ToUtf8(b"\x00", 13, true, Malformed(1, 2), 0, ""),
+    ToUtf8(b"\x00", 10, true, Malformed(1, 0), 0, "2"),
+    ToUtf8(b"\x00", 6, true, InputEmpty, 1, "\0"),
+    Decoder("malformed forms"),
+    Events(b"\xE3\xFF\x9A\x33", &[bad!(0, 2), bad!(2, 2)]),
+    Events(
+        b"\xE3\xFF\x9A\x33\x00",
+        &[bad!(0, 2), bad!(2, 1), Scalar('3'), Scalar('\0')],
+    ),
+    Events(
+        b"\xE3\x32\x9A\x00\x81\x30\x81",
+        &[
+            bad!(0, 1),
+            Scalar('2'),
+            bad!(2, 1),
+            Scalar('\0'),
+            bad!(4, 3),
+        ],
+    ),
+    Events(b"\xE3\x32\x9A\x36\x81\x30", &[bad!(0, 4), bad!(4, 2)]),
+    Events(
+        b"\xFF\x32\x9A\x33\x00",
+        &[
+            bad!(0, 1),
+            Scalar('2'),
+            bad!(2, 1),
+            Scalar('3'),
+            Scalar('\0'),
+        ],
+    ),
+    Events(b"\x80\x81", &[Scalar('\u{20AC}'), bad!(1, 1)]),
+];
+
+#[test]
+fn decodes_with_empty_indexes(rt: HostRuntime) {
+    let tables = tables_of(&rt, &no_entries());
+    follow::<Gb18030Decoder>(&rt, &tables, WITHOUT_ENTRIES);
+}
+
+const PAIRS: &[Row] = &[
+    Decoder("trails are 40 to 7E and 80 to FE, and 80 alone is U+20AC"),
+    ToUtf16(
+        b"\x81\x40\x81\x7E\x81\x80\x81\xFE\x82\x40\x80",
+        8,
+        true,
+        InputEmpty,
+        11,
+        &[0x4E02, 0x4E79, 0x4E85, 0x4F22, 0x4F23, 0x20AC],
+    ),
+];
+
+#[test]
+fn decodes_pairs_on_both_sides_of_7f(rt: HostRuntime) {
+    let mut index = [0u16; 192];
+    index[0] = 0x4E02;
+    index[62] = 0x4E79;
+    index[63] = 0x4E85;
+    index[189] = 0x4F22;
+    index[190] = 0x4F23;
+    let tables = tables_of(
+        &rt,
+        &Indexes {
+            gb18030: &index,
+            ..no_entries()
+        },
+    );
+    follow::<Gb18030Decoder>(&rt, &tables, PAIRS);
+}
+
+/// The rows with the ranges from pointer 0 and U+0080, and from pointer 36 and U+00A5.
+const RANGES: &[Row] = &[
+    Decoder("forms of four bytes go by the ranges"),
+    Events(
+        b"\x81\x30\x81\x30\x94\x39\xDA\x33",
+        &[Scalar('\u{80}'), Scalar('\u{1F4A9}')],
+    ),
+    Decoder(
+        "pointers 0, 1 and 36, U+1F4A9, the last scalar, the pointer behind it, and three bytes",
+    ),
+    Events(
+        b"\x81\x30\x81\x30\x61\x81\x30\x81\x31\x81\x30\x84\x36\x94\x39\xDA\x33\x62\x63\xE3\x32\x9A\x35\xE3\x32\x9A\x36\x81\x30\x81\x30\x81\x30\x81",
+        &[
+            Scalar('\u{80}'),
+            Scalar('a'),
+            Scalar('\u{81}'),
+            Scalar('\u{A5}'),
+            Scalar('\u{1F4A9}'),
+            Scalar('b'),
+            Scalar('c'),
+            Scalar('\u{10FFFF}'),
+            bad!(23, 4),
+            Scalar('\u{80}'),
+            bad!(31, 3),
+        ],
+    ),
+];
+
+#[test]
+fn decodes_four_bytes_by_the_ranges(rt: HostRuntime) {
+    let tables = tables_of(
+        &rt,
+        &Indexes {
+            ranges: &[(0, 0x0080), (36, 0x00A5)],
+            ..no_entries()
+        },
+    );
+    follow::<Gb18030Decoder>(&rt, &tables, RANGES);
+}

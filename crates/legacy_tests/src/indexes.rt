@@ -1,0 +1,43 @@
+//! Tables to test with, their indexes, and the entries of a single-byte table.
+use legacy_base::{Indexes, SingleByteTable, Tables};
+use std::process::Abort;
+
+/// Indexes without an entry.
+pub(crate) fn no_entries<'a>() -> Indexes<'a> {
+    Indexes {
+        big5: &[],
+        euc_kr: &[],
+        jis0208: &[],
+        jis0212: &[],
+        gb18030: &[],
+        katakana: &[],
+        ranges: &[],
+    }
+}
+
+/// The entries of a single-byte table: these, by their places, and no others.
+pub(crate) fn entries_of(some: &[(usize, u16)]) -> [u16; 128] {
+    let mut entries = [0u16; 128];
+    for (place, entry) in some {
+        if *place < 128 {
+            entries[*place] = *entry;
+        }
+    }
+    entries
+}
+
+/// Tables of these indexes.
+pub(crate) fn tables_of<'a>(rt: &impl Abort, indexes: &Indexes<'a>) -> Tables<'a> {
+    match Tables::new(indexes) {
+        Ok(tables) => tables,
+        Err(fault) => panic!(rt; "{fault}"),
+    }
+}
+
+/// The single-byte table of these entries.
+pub(crate) fn byte_table_of(rt: &impl Abort, entries: &[u16; 128]) -> SingleByteTable {
+    match SingleByteTable::new(entries) {
+        Ok(table) => table,
+        Err(fault) => panic!(rt; "{fault}"),
+    }
+}

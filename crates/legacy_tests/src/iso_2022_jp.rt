@@ -1,0 +1,242 @@
+//! ISO-2022-JP.
+use crate::events::bad;
+use crate::indexes::{no_entries, tables_of};
+use crate::rows::Row::{
+    BareLength, Decoder, Events, Neutral, ToUtf8, ToUtf16, Utf8Length, Utf16Length,
+};
+use crate::rows::{Row, Tested, follow};
+use legacy_base::DecodeEvent::Scalar;
+use legacy_base::DecoderResult::{InputEmpty, Malformed, OutputFull};
+use legacy_base::{Indexes, Tables};
+use legacy_decoders::Iso2022JpDecoder;
+
+impl<'a> Tested for Iso2022JpDecoder<'a> {
+    type Of = &'a Tables<'a>;
+
+    fn made(of: &'a Tables<'a>) -> Iso2022JpDecoder<'a> {
+        Iso2022JpDecoder::new(of)
+    }
+
+    fn neutral(&self) -> Option<bool> {
+        Some(self.in_neutral_state())
+    }
+}
+
+const WITHOUT_ENTRIES: &[Row] = &[
+    Decoder("an escape directly behind an escape makes the first one malformed"),
+    ToUtf8(
+        b"\x1B\x28\x42\x1B\x28\x4A",
+        16,
+        true,
+        Malformed(3, 3),
+        6,
+        "",
+    ),
+    ToUtf8(b"", 16, true, InputEmpty, 0, ""),
+    Events(b"\x1B\x28\x42\x1B\x28\x4A", &[bad!(0, 3)]),
+    Decoder("an escape directly behind an escape, byte by byte"),
+    ToUtf8(b"\x1B", 16, false, InputEmpty, 1, ""),
+    ToUtf8(b"\x28", 16, false, InputEmpty, 1, ""),
+    ToUtf8(b"\x42", 16, false, InputEmpty, 1, ""),
+    ToUtf8(b"\x1B", 16, false, InputEmpty, 1, ""),
+    ToUtf8(b"\x28", 16, false, InputEmpty, 1, ""),
+    ToUtf8(b"\x4A", 16, true, Malformed(3, 3), 1, ""),
+    Decoder("a lead before 1B is malformed, and so is a 1B that begins no escape"),
+    ToUtf8(
+        b"\x1B\x24\x42\x39\x1B\x24",
+        16,
+        true,
+        Malformed(1, 1),
+        5,
+        "",
+    ),
+    ToUtf8(b"\x24", 16, true, Malformed(1, 1), 1, ""),
+    ToUtf8(b"", 16, true, Malformed(1, 0), 0, ""),
+    ToUtf8(b"", 16, true, InputEmpty, 0, ""),
+    Events(
+        b"\x1B\x24\x42\x39\x1B\x24",
+        &[bad!(3, 1), bad!(4, 1), bad!(5, 1)],
+    ),
+    Events(
+        b"\x1B\x28\x42\x1B\x28\x4A\x5C\x1B\x24\x42\x39\x1B\x24",
+        &[
+            bad!(0, 3),
+            Scalar('\u{A5}'),
+            bad!(10, 1),
+            bad!(11, 1),
+            bad!(12, 1),
+        ],
+    ),
+    Decoder("katakana mode lasts into the next call"),
+    ToUtf8(b"\x1B\x28\x49", 16, false, InputEmpty, 3, ""),
+    Utf8Length(1, Some(6)),
+    ToUtf8(b"\x21", 16, true, InputEmpty, 1, "\u{FF61}"),
+    Events(b"\x1B\x28\x49\x21", &[Scalar('\u{FF61}')]),
+    Decoder("what follows a 1B that begins no escape is read in the old mode"),
+    ToUtf8(
+        b"\x1B\x28\x42\x1B\x28\x41",
+        16,
+        true,
+        Malformed(1, 1),
+        5,
+        "",
+    ),
+    ToUtf8(b"\x41", 16, true, InputEmpty, 1, "(A"),
+    Events(
+        b"\x1B\x28\x42\x1B\x28\x41",
+        &[bad!(3, 1), Scalar('('), Scalar('A')],
+    ),
+    Decoder("an escape behind a lead takes effect"),
+    ToUtf8(
+        b"\x1B\x24\x42\x39\x1B\x28\x42",
+        16,
+        true,
+        Malformed(1, 1),
+        5,
+        "",
+    ),
+    ToUtf8(b"\x28\x42", 16, true, InputEmpty, 2, ""),
+    Events(b"\x1B\x24\x42\x39\x1B\x28\x42", &[bad!(3, 1)]),
+    Decoder("an escape with nothing behind it is held back and gives no event"),
+    Neutral(true),
+    ToUtf8(b"\x1B\x28\x42", 16, true, InputEmpty, 3, ""),
+    Neutral(false),
+    Events(b"\x1B\x28\x42", &[]),
+    Decoder("an escape counts as one byte in the lengths, what else is held back as it is"),
+    ToUtf8(b"\x1B\x28\x49\x1B\x24", 16, false, InputEmpty, 5, ""),
+    Utf16Length(1, Some(4)),
+    Utf8Length(1, Some(12)),
+    BareLength(1, Some(12)),
+    ToUtf8(b"\x21", 12, true, Malformed(1, 1), 0, ""),
+    ToUtf8(b"\x21", 12, true, InputEmpty, 1, "\u{FF64}\u{FF61}"),
+    Events(
+        b"\x1B\x28\x49\x1B\x24\x21",
+        &[bad!(3, 1), Scalar('\u{FF64}'), Scalar('\u{FF61}')],
+    ),
+    Decoder("any byte needs three bytes or one unit, and a short output leaves all as it was"),
+    ToUtf8(b"\x1B", 2, true, OutputFull, 0, ""),
+    Neutral(true),
+    ToUtf16(b"\x1B", 1, true, Malformed(1, 0), 1, &[]),
+];
+
+#[test]
+fn decodes_with_an_empty_index(rt: HostRuntime) {
+    let tables = tables_of(&rt, &no_entries());
+    follow::<Iso2022JpDecoder>(&rt, &tables, WITHOUT_ENTRIES);
+}
+
+/// The rows with pointers 0, 95 and 671 of index jis0208.
+const PAIRS: &[Row] = &[
+    Decoder("in two-byte mode the byte behind a lone 1B is a lead"),
+    ToUtf8(
+        b"\x1B\x24\x42\x1B\x28\x2E",
+        16,
+        true,
+        Malformed(1, 1),
+        5,
+        "",
+    ),
+    ToUtf8(b"\x2E", 16, true, InputEmpty, 1, "\u{250F}"),
+    Events(
+        b"\x1B\x24\x42\x1B\x28\x2E",
+        &[bad!(3, 1), Scalar('\u{250F}')],
+    ),
+    Decoder(
+        "a run of ASCII with 0E and 80 in it, of pairs of which one has no scalar, Roman, katakana",
+    ),
+    Events(
+        b"abcdefghijklmnopqrs\x0Eabc\x80de\x1B$B!!\"\"(.!!!~!!\"\"!!\x1B(J\\~\x1B(I!_\x1B$@!!!\x1B(Bxyz\x0F",
+        &[
+            Scalar('a'),
+            Scalar('b'),
+            Scalar('c'),
+            Scalar('d'),
+            Scalar('e'),
+            Scalar('f'),
+            Scalar('g'),
+            Scalar('h'),
+            Scalar('i'),
+            Scalar('j'),
+            Scalar('k'),
+            Scalar('l'),
+            Scalar('m'),
+            Scalar('n'),
+            Scalar('o'),
+            Scalar('p'),
+            Scalar('q'),
+            Scalar('r'),
+            Scalar('s'),
+            bad!(19, 1),
+            Scalar('a'),
+            Scalar('b'),
+            Scalar('c'),
+            bad!(23, 1),
+            Scalar('d'),
+            Scalar('e'),
+            Scalar('\u{3000}'),
+            Scalar('\u{2225}'),
+            Scalar('\u{250F}'),
+            Scalar('\u{3000}'),
+            bad!(37, 2),
+            Scalar('\u{3000}'),
+            Scalar('\u{2225}'),
+            Scalar('\u{3000}'),
+            Scalar('\u{A5}'),
+            Scalar('\u{203E}'),
+            Scalar('\u{FF61}'),
+            Scalar('\u{FF9F}'),
+            Scalar('\u{3000}'),
+            bad!(60, 1),
+            Scalar('x'),
+            Scalar('y'),
+            Scalar('z'),
+            bad!(67, 1),
+        ],
+    ),
+    Decoder("the mode of an escape behind a run lasts into the next call"),
+    ToUtf8(b"ab\x1B$B!!", 64, false, InputEmpty, 7, "ab\u{3000}"),
+    Neutral(false),
+    ToUtf8(b"!!", 64, true, InputEmpty, 2, "\u{3000}"),
+    Decoder("the same back to ASCII, into UTF-16"),
+    ToUtf16(
+        b"\x1B$B!!\x1B(Ba\x1B$@!!\x1B(Bbc",
+        64,
+        true,
+        InputEmpty,
+        19,
+        &[0x3000, 0x61, 0x3000, 0x62, 0x63],
+    ),
+    Neutral(true),
+    Decoder("an escape behind a run is held back where nothing stands behind it"),
+    ToUtf8(b"\x1B$B!!\x1B(B", 64, false, InputEmpty, 8, "\u{3000}"),
+    Neutral(false),
+    Utf8Length(1, Some(6)),
+    ToUtf8(b"a", 64, true, InputEmpty, 1, "a"),
+    Neutral(true),
+    Decoder("an escape behind a run is malformed where the next follows directly"),
+    ToUtf8(b"a\x1B$B\x1B(Bb", 64, true, Malformed(3, 3), 7, "a"),
+    ToUtf8(b"b", 64, true, InputEmpty, 1, "b"),
+    Decoder("an escape behind a run takes effect where no form follows it"),
+    ToUtf8(b"a\x1B$B\x80", 64, false, Malformed(1, 0), 5, "a"),
+    Neutral(false),
+    ToUtf8(b"!!", 64, true, InputEmpty, 2, "\u{3000}"),
+    Decoder("an escape behind a run takes effect where the output is small"),
+    ToUtf8(b"a\x1B$B!!", 6, false, InputEmpty, 6, "a\u{3000}"),
+    Neutral(false),
+];
+
+#[test]
+fn decodes_pairs_between_escapes(rt: HostRuntime) {
+    let mut jis0208 = [0u16; 672];
+    jis0208[0] = 0x3000;
+    jis0208[95] = 0x2225;
+    jis0208[671] = 0x250F;
+    let tables = tables_of(
+        &rt,
+        &Indexes {
+            jis0208: &jis0208,
+            ..no_entries()
+        },
+    );
+    follow::<Iso2022JpDecoder>(&rt, &tables, PAIRS);
+}

@@ -1,0 +1,41 @@
+//! The replacement codec.
+use crate::events::bad;
+use crate::rows::Row::{BareLength, Decoder, Events, ToUtf8, ToUtf16, Utf8Length, Utf16Length};
+use crate::rows::{Row, Tested, follow};
+use legacy_base::DecoderResult::{InputEmpty, Malformed, OutputFull};
+use legacy_decoders::ReplacementDecoder;
+
+impl Tested for ReplacementDecoder {
+    type Of = ();
+
+    fn made(_of: ()) -> ReplacementDecoder {
+        ReplacementDecoder::new()
+    }
+}
+
+const ROWS: &[Row] = &[
+    Decoder("empty input gives nothing"),
+    ToUtf8(b"", 16, true, InputEmpty, 0, ""),
+    Events(b"", &[]),
+    Decoder("the first byte is malformed, once, and the rest is swallowed"),
+    ToUtf8(b"\x41\x42", 16, true, Malformed(1, 0), 1, ""),
+    ToUtf8(b"\x42", 16, true, InputEmpty, 1, ""),
+    Events(b"\x41\x42", &[bad!(0, 1)]),
+    Events(b"\xFF", &[bad!(0, 1)]),
+    Events(b"\x00\x1B\x80", &[bad!(0, 1)]),
+    Events(b"\x80\x81\x30\x81\x30", &[bad!(0, 1)]),
+    Decoder("the malformed byte needs three bytes or one unit, and swallowing needs none"),
+    ToUtf8(b"\x41", 2, true, OutputFull, 0, ""),
+    ToUtf16(b"\x41", 0, true, OutputFull, 0, &[]),
+    ToUtf16(b"\x41", 1, true, Malformed(1, 0), 1, &[]),
+    ToUtf8(b"\x41\x42", 0, true, InputEmpty, 2, ""),
+    Decoder("the lengths are those of one U+FFFD"),
+    Utf16Length(usize::MAX, Some(1)),
+    Utf8Length(usize::MAX, Some(3)),
+    BareLength(usize::MAX, Some(3)),
+];
+
+#[test]
+fn decodes_the_first_byte_as_malformed_and_swallows_the_rest(rt: HostRuntime) {
+    follow::<ReplacementDecoder>(&rt, (), ROWS);
+}

@@ -1,0 +1,73 @@
+//! Shift_JIS.
+use crate::events::bad;
+use crate::indexes::{no_entries, tables_of};
+use crate::rows::Row::{BareLength, Decoder, Events, Neutral, ToUtf8, Utf8Length, Utf16Length};
+use crate::rows::{Row, Tested, follow};
+use legacy_base::DecodeEvent::Scalar;
+use legacy_base::DecoderResult::{InputEmpty, Malformed, OutputFull};
+use legacy_base::Tables;
+use legacy_decoders::ShiftJisDecoder;
+
+impl<'a> Tested for ShiftJisDecoder<'a> {
+    type Of = &'a Tables<'a>;
+
+    fn made(of: &'a Tables<'a>) -> ShiftJisDecoder<'a> {
+        ShiftJisDecoder::new(of)
+    }
+
+    fn neutral(&self) -> Option<bool> {
+        Some(self.in_neutral_state())
+    }
+}
+
+const WITHOUT_ENTRIES: &[Row] = &[
+    Decoder("pointers 8836 to 10715 are U+E000 to U+E757"),
+    ToUtf8(b"\xF0\x40", 16, true, InputEmpty, 2, "\u{E000}"),
+    ToUtf8(b"\xF9\xFC", 16, true, InputEmpty, 2, "\u{E757}"),
+    ToUtf8(b"\xEF\xFC", 16, true, Malformed(2, 0), 2, ""),
+    Events(b"\xF0\x40", &[Scalar('\u{E000}')]),
+    Events(b"\xF9\xFC", &[Scalar('\u{E757}')]),
+    Events(b"\xEF\xFC", &[bad!(0, 2)]),
+    Decoder("80 is U+0080, A1 to DF are U+FF61 to U+FF9F, and A0 is malformed"),
+    ToUtf8(
+        b"\x80\xA1\xDF\xA0",
+        16,
+        true,
+        Malformed(1, 0),
+        4,
+        "\u{80}\u{FF61}\u{FF9F}",
+    ),
+    Neutral(true),
+    Events(
+        b"\x80\xA1\xDF\xA0",
+        &[
+            Scalar('\u{80}'),
+            Scalar('\u{FF61}'),
+            Scalar('\u{FF9F}'),
+            bad!(3, 1),
+        ],
+    ),
+    Decoder("a lead as trail is malformed with the lead before it"),
+    Events(
+        b"\xA1\xE0\xF0\x40",
+        &[Scalar('\u{FF61}'), bad!(1, 2), Scalar('@')],
+    ),
+    Decoder("a byte past ASCII needs three bytes"),
+    ToUtf8(b"\x61\xA1", 3, true, OutputFull, 1, "a"),
+    Decoder("a lead that is held back counts in the lengths"),
+    Utf16Length(5, Some(5)),
+    BareLength(5, Some(15)),
+    Utf8Length(5, Some(15)),
+    ToUtf8(b"\xE0", 16, false, InputEmpty, 1, ""),
+    Neutral(false),
+    Utf16Length(5, Some(6)),
+    BareLength(5, Some(18)),
+    Utf8Length(5, Some(18)),
+    Utf16Length(usize::MAX, None),
+];
+
+#[test]
+fn decodes_with_an_empty_index(rt: HostRuntime) {
+    let tables = tables_of(&rt, &no_entries());
+    follow::<ShiftJisDecoder>(&rt, &tables, WITHOUT_ENTRIES);
+}

@@ -1,0 +1,127 @@
+//! The single-byte codecs.
+use crate::events::{Found, bad};
+use crate::indexes::{byte_table_of, entries_of};
+use crate::rows::Row::{BareLength, Decoder, Events, ToUtf8, Utf8Length, Utf16Length};
+use crate::rows::{Row, Tested, follow};
+use crate::units::Hex;
+use legacy_base::DecodeEvent::{Bad, Scalar};
+use legacy_base::DecoderResult::{InputEmpty, Malformed, OutputFull};
+use legacy_base::{DecodeEvent, SingleByteTable};
+use legacy_decoders::SingleByteDecoder;
+
+impl<'a> Tested for SingleByteDecoder<'a> {
+    type Of = &'a SingleByteTable;
+
+    fn made(of: &'a SingleByteTable) -> SingleByteDecoder<'a> {
+        SingleByteDecoder::new(of)
+    }
+}
+
+const WITHOUT_ENTRIES: &[Row] = &[
+    Decoder("an ASCII byte needs one byte, any other three"),
+    ToUtf8(b"\x41", 1, true, InputEmpty, 1, "A"),
+    ToUtf8(b"\x80", 2, true, OutputFull, 0, ""),
+    ToUtf8(b"\x80", 3, true, Malformed(1, 0), 1, ""),
+    Events(b"\x41\x80", &[Scalar('A'), bad!(1, 1)]),
+    Decoder("the lengths are one unit and three bytes for each byte"),
+    Utf16Length(usize::MAX, Some(usize::MAX)),
+    Utf8Length(7, Some(21)),
+    BareLength(7, Some(21)),
+];
+
+#[test]
+fn decodes_ascii_alone_with_an_empty_table(rt: HostRuntime) {
+    let table = byte_table_of(&rt, &[0; 128]);
+    follow::<SingleByteDecoder>(&rt, &table, WITHOUT_ENTRIES);
+}
+
+/// The rows with four letters at the places that ISO-8859-7 has them.
+const GREEK: &[Row] = &[
+    Decoder("a byte without an entry is malformed"),
+    ToUtf8(
+        b"\xC1\xF5\xD2\xF4\xFC",
+        16,
+        true,
+        Malformed(1, 0),
+        3,
+        "\u{391}\u{3C5}",
+    ),
+    ToUtf8(b"\xF4\xFC", 16, true, InputEmpty, 2, "\u{3C4}\u{3CC}"),
+    Events(
+        b"\xC1\xF5\xD2\xF4\xFC",
+        &[
+            Scalar('\u{391}'),
+            Scalar('\u{3C5}'),
+            bad!(2, 1),
+            Scalar('\u{3C4}'),
+            Scalar('\u{3CC}'),
+        ],
+    ),
+];
+
+#[test]
+fn decodes_greek_letters(rt: HostRuntime) {
+    let entries = entries_of(&[(65, 0x391), (117, 0x3C5), (116, 0x3C4), (124, 0x3CC)]);
+    let table = byte_table_of(&rt, &entries);
+    follow::<SingleByteDecoder>(&rt, &table, GREEK);
+}
+
+/// The entry of byte 85, bytes, and how many of them stand before the first that is another scalar.
+const FRONTS: &[(u16, &[u8], usize)] = &[
+    (0, b"abc", 3),
+    (0, b"\x61\x80", 1),
+    (0, b"", 0),
+    (0x85, b"\x61\x85\x62\x86", 3),
+];
+
+#[test]
+fn the_front_of_latin_1_ends_at_another_scalar(rt: HostRuntime) {
+    for (entry, bytes, front) in FRONTS {
+        let table = byte_table_of(&rt, &entries_of(&[(5, *entry)]));
+        let came = SingleByteDecoder::new(&table).latin1_byte_compatible_up_to(bytes);
+        assert!(rt;
+            came == *front,
+            "{}: came {came}, wanted {front}",
+            Hex(bytes)
+        );
+    }
+}
+
+/// The letters of ISO-8859-7: the bytes C1 to FE are the scalars from U+0391 on, but D2 has none.
+fn letters() -> [u16; 128] {
+    let mut entries = [0u16; 128];
+    let mut scalar = 0x391;
+    for place in 65..127 {
+        if place != 82 {
+            entries[place] = scalar;
+        }
+        scalar = scalar.saturating_add(1);
+    }
+    entries
+}
+
+/// What a byte at a place is by these letters.
+fn event_of(place: usize, byte: u8) -> DecodeEvent {
+    if byte < 0x80 {
+        return Scalar(char::from(byte));
+    }
+    match char::from_u32(0x2D0 + u32::from(byte)) {
+        Some(letter) if byte != 0xD2 => Scalar(letter),
+        _ => Bad { place, length: 1 },
+    }
+}
+
+#[test]
+fn decodes_words_of_letters_and_ascii(rt: HostRuntime) {
+    // three words, ASCII, a word that the byte without an entry cuts, ASCII, single letters, and the byte 00 among
+    // letters
+    let input =
+        b"\xC1\xE8\xDE\xED\xE1 \xEA\xE1\xE9 \xD0\xE5\xE9\xF1\xE1\xE9\xDC\xF2, ab\x7F \xD3\xF5\xED\xD2\xFE\xC1 in 1 2 or 30 steps: \xE1 \xE2 \xE3 a\xE4b\xE5c\xE6d \xF9\xFA\x00\xFB\xFE in the last sixteen";
+    let mut events = Found::new();
+    for (place, byte) in input.iter().enumerate() {
+        events.push(event_of(place, *byte));
+    }
+    let table = byte_table_of(&rt, &letters());
+    let rows = [Events(input, events.as_slice())];
+    follow::<SingleByteDecoder>(&rt, &table, &rows);
+}

@@ -1,0 +1,273 @@
+//! UTF-16.
+use crate::events::bad;
+use crate::rows::Row::{Additional, BareLength, Decoder, Events, ToUtf8, ToUtf16, Utf16Length};
+use crate::rows::{Row, Tested, follow};
+use legacy_base::DecodeEvent;
+use legacy_base::DecodeEvent::Scalar;
+use legacy_base::DecoderResult::{InputEmpty, Malformed, OutputFull};
+use legacy_decoders::Utf16Decoder;
+use std::alloc::Global;
+use std::process::Abort;
+
+impl Tested for Utf16Decoder {
+    /// Whether the greater byte of a unit comes first.
+    type Of = bool;
+
+    fn made(of: bool) -> Utf16Decoder {
+        Utf16Decoder::new(of)
+    }
+
+    fn additional(&self) -> Option<usize> {
+        Some(self.additional_from_state())
+    }
+}
+
+const LITTLE_ENDIAN: &[Row] = &[
+    Decoder("the unit behind a lone high surrogate is held back"),
+    ToUtf8(b"\x00\xD8", 16, false, InputEmpty, 2, ""),
+    ToUtf8(
+        b"\x00\x00\x00\x4E\x00\x4E",
+        16,
+        false,
+        Malformed(2, 2),
+        2,
+        "",
+    ),
+    BareLength(4, Some(10)),
+    Additional(3),
+    ToUtf8(
+        b"\x00\x4E\x00\x4E",
+        10,
+        true,
+        InputEmpty,
+        4,
+        "\0\u{4E00}\u{4E00}",
+    ),
+    Decoder("a byte needs four bytes or two units"),
+    ToUtf8(b"\x03", 4, false, InputEmpty, 1, ""),
+    ToUtf8(b"\x26\x03\x26", 4, false, OutputFull, 1, "\u{2603}"),
+    Decoder("the unit held back is written by the next call"),
+    ToUtf16(b"\x41\x00\x3D\xD8", 8, false, InputEmpty, 4, &[0x41]),
+    ToUtf16(b"\x42\x00", 8, true, Malformed(2, 2), 2, &[]),
+    ToUtf16(b"", 8, true, InputEmpty, 0, &[0x42]),
+    Decoder("the unit held back waits for its room"),
+    ToUtf16(b"\x3D\xD8\x42\x00", 8, true, Malformed(2, 2), 4, &[]),
+    ToUtf16(b"", 0, true, OutputFull, 0, &[]),
+    Additional(3),
+    Decoder("a high surrogate and an odd byte at the end are one malformed sequence"),
+    ToUtf8(b"\x3D\xD8\xA9", 16, true, Malformed(3, 0), 3, ""),
+    Decoder("a high and a low surrogate are one scalar"),
+    ToUtf8(b"\x3D\xD8\xA9\xDC", 16, true, InputEmpty, 4, "\u{1F4A9}"),
+    Decoder("an odd byte adds one to the lengths, a unit held back two"),
+    Additional(1),
+    ToUtf8(b"\x3D", 16, false, InputEmpty, 1, ""),
+    Additional(2),
+    ToUtf8(b"\xD8", 16, false, InputEmpty, 1, ""),
+    Additional(3),
+    ToUtf8(b"\xA9", 16, false, InputEmpty, 1, ""),
+    Additional(4),
+    Decoder("an odd byte waits for the next call"),
+    ToUtf8(b"\xFF", 16, false, InputEmpty, 1, ""),
+    ToUtf8(b"\xFD", 16, true, InputEmpty, 1, "\u{FDFF}"),
+    Decoder("an odd byte at the end is malformed"),
+    ToUtf8(b"\xFF", 16, true, Malformed(1, 0), 1, ""),
+    Events(b"\xFF", &[bad!(0, 1)]),
+    Decoder("a run stops where a unit lacks the room of any scalar"),
+    ToUtf16(
+        b"\x41\x00\x42\x00\x43\x00\x44\x00\x45\x00\x46\x00",
+        6,
+        true,
+        OutputFull,
+        10,
+        &[0x41, 0x42, 0x43, 0x44, 0x45],
+    ),
+    Decoder("a surrogate without its other half is malformed"),
+    Events(
+        b"\x00\xD8\x00\x00\x3D\xD8\xA9",
+        &[bad!(0, 2), Scalar('\0'), bad!(4, 3)],
+    ),
+    Events(
+        b"\x41\x00\x3D\xD8\x42\x00",
+        &[Scalar('A'), bad!(2, 2), Scalar('B')],
+    ),
+    Events(
+        b"\x00\xD8\x00\x00\x00\x4E\x00\x4E",
+        &[
+            bad!(0, 2),
+            Scalar('\0'),
+            Scalar('\u{4E00}'),
+            Scalar('\u{4E00}'),
+        ],
+    ),
+];
+
+#[test]
+fn decodes_the_lesser_byte_first(rt: HostRuntime) {
+    follow::<Utf16Decoder>(&rt, false, LITTLE_ENDIAN);
+}
+
+const BIG_ENDIAN: &[Row] = &[
+    Decoder("a high and a low surrogate are one scalar"),
+    ToUtf8(b"\xD8\x3D\xDC\xA9", 16, true, InputEmpty, 4, "\u{1F4A9}"),
+    Events(
+        b"\x00\x61\x00\xE4\x26\x03\xD8\x3D\xDC\xA9",
+        &[
+            Scalar('a'),
+            Scalar('\u{E4}'),
+            Scalar('\u{2603}'),
+            Scalar('\u{1F4A9}'),
+        ],
+    ),
+    Decoder("the length in UTF-16 is one more than the units"),
+    Utf16Length(usize::MAX - 1, Some(usize::MAX / 2 + 1)),
+    Utf16Length(usize::MAX, None),
+];
+
+#[test]
+fn decodes_the_greater_byte_first(rt: HostRuntime) {
+    follow::<Utf16Decoder>(&rt, true, BIG_ENDIAN);
+}
+
+/// Looks for the events of these units, and of an odd byte where there is one, in either byte order.
+fn in_either_order(
+    rt: &impl Abort,
+    alloc: Global,
+    units: &[u16],
+    odd: &[u8],
+    events: &[DecodeEvent],
+) {
+    for big_endian in [false, true] {
+        let mut bytes = Vec::new(alloc);
+        for unit in units {
+            let pair = if big_endian {
+                unit.to_be_bytes()
+            } else {
+                unit.to_le_bytes()
+            };
+            bytes.extend_from_slice(&pair).expect(rt, "no memory");
+        }
+        bytes.extend_from_slice(odd).expect(rt, "no memory");
+        follow::<Utf16Decoder>(rt, big_endian, &[Events(&bytes, events)]);
+    }
+}
+
+#[test]
+fn decodes_surrogates_among_zeros(rt: HostRuntime) {
+    let mut units = [0u16; 25];
+    units[4] = 0xD83D;
+    units[5] = 0xDCA9;
+    units[10] = 0xD83D;
+    units[15] = 0xDCA9;
+    units[24] = 0xD83D;
+    let mut events = [Scalar('\0'); 24];
+    events[4] = Scalar('\u{1F4A9}');
+    events[9] = bad!(20, 2);
+    events[14] = bad!(30, 2);
+    events[23] = bad!(48, 2);
+    in_either_order(&rt, rt.alloc(), &units, b"", &events);
+}
+
+/// A run, a pair, a run, a low surrogate, a run, a high surrogate, and a run before an odd byte.
+const RUNS: &[u16] = &[
+    0x41, 0x2603, 0xE4, 0x41, 0xD7FF, 0xE000, 0xFFFF, 0xD83D, 0xDCA9, 0x42, 0x2603, 0x42, 0x2603,
+    0xDFFF, 0x43, 0x4E00, 0x43, 0x4E00, 0xD800, 0x44, 0x44, 0x2603, 0x44, 0x2603,
+];
+
+const EVENTS_OF_RUNS: &[DecodeEvent] = &[
+    Scalar('A'),
+    Scalar('\u{2603}'),
+    Scalar('\u{E4}'),
+    Scalar('A'),
+    Scalar('\u{D7FF}'),
+    Scalar('\u{E000}'),
+    Scalar('\u{FFFF}'),
+    Scalar('\u{1F4A9}'),
+    Scalar('B'),
+    Scalar('\u{2603}'),
+    Scalar('B'),
+    Scalar('\u{2603}'),
+    bad!(26, 2),
+    Scalar('C'),
+    Scalar('\u{4E00}'),
+    Scalar('C'),
+    Scalar('\u{4E00}'),
+    bad!(36, 2),
+    Scalar('D'),
+    Scalar('D'),
+    Scalar('\u{2603}'),
+    Scalar('D'),
+    Scalar('\u{2603}'),
+    bad!(48, 1),
+];
+
+#[test]
+fn decodes_runs_between_surrogates(rt: HostRuntime) {
+    in_either_order(&rt, rt.alloc(), RUNS, b"\x41", EVENTS_OF_RUNS);
+}
+
+#[test]
+fn decodes_ascii_among_which_units_are_wider(rt: HostRuntime) {
+    let mut units = [0x41u16; 80];
+    units[20] = 0x0141;
+    units[47] = 0x0080;
+    units[63] = 0x4100;
+    let mut events = [Scalar('A'); 80];
+    events[20] = Scalar('\u{141}');
+    events[47] = Scalar('\u{80}');
+    events[63] = Scalar('\u{4100}');
+    in_either_order(&rt, rt.alloc(), &units, b"", &events);
+}
+
+/// Units of one, two and three bytes in UTF-8 in turn, a pair at 19 and 20, and a lone surrogate at 39.
+const UNITS: &[u16] = &[
+    0x41, 0xE9, 0x4E00, 0x41, 0xE9, 0x4E00, 0x41, 0xE9, 0x4E00, 0x41, 0xE9, 0x4E00, 0x41, 0xE9,
+    0x4E00, 0x41, 0xE9, 0x4E00, 0x41, 0xD83D, 0xDCA9, 0x41, 0xE9, 0x4E00, 0x41, 0xE9, 0x4E00, 0x41,
+    0xE9, 0x4E00, 0x41, 0xE9, 0x4E00, 0x41, 0xE9, 0x4E00, 0x41, 0xE9, 0x4E00, 0xD83D,
+];
+
+const EVENTS_OF_UNITS: &[DecodeEvent] = &[
+    Scalar('A'),
+    Scalar('\u{E9}'),
+    Scalar('\u{4E00}'),
+    Scalar('A'),
+    Scalar('\u{E9}'),
+    Scalar('\u{4E00}'),
+    Scalar('A'),
+    Scalar('\u{E9}'),
+    Scalar('\u{4E00}'),
+    Scalar('A'),
+    Scalar('\u{E9}'),
+    Scalar('\u{4E00}'),
+    Scalar('A'),
+    Scalar('\u{E9}'),
+    Scalar('\u{4E00}'),
+    Scalar('A'),
+    Scalar('\u{E9}'),
+    Scalar('\u{4E00}'),
+    Scalar('A'),
+    Scalar('\u{1F4A9}'),
+    Scalar('A'),
+    Scalar('\u{E9}'),
+    Scalar('\u{4E00}'),
+    Scalar('A'),
+    Scalar('\u{E9}'),
+    Scalar('\u{4E00}'),
+    Scalar('A'),
+    Scalar('\u{E9}'),
+    Scalar('\u{4E00}'),
+    Scalar('A'),
+    Scalar('\u{E9}'),
+    Scalar('\u{4E00}'),
+    Scalar('A'),
+    Scalar('\u{E9}'),
+    Scalar('\u{4E00}'),
+    Scalar('A'),
+    Scalar('\u{E9}'),
+    Scalar('\u{4E00}'),
+    bad!(78, 2),
+];
+
+#[test]
+fn decodes_units_of_any_length(rt: HostRuntime) {
+    in_either_order(&rt, rt.alloc(), UNITS, b"", EVENTS_OF_UNITS);
+}
