@@ -23,6 +23,7 @@ use Rattle.legacy_japanese.proofs.Iso2022JpRooms.{same_rooms, room-falls, replac
 
 -- ---- a byte that is held back alone
 
+-- what holds of `24` and of `28` holds of the byte that is one of them
 by_second : (P : ℕ → Type 0) (b : ℕ) → is_escape_second b ≡ true → P 0x24 → P 0x28 → P b
 by_second P b h p q = elim (or_cases (b == 0x24) (b == 0x28) h) [ inl e ↦ rw (eqb-true b 0x24 e) p | inr e ↦ rw (eqb-true b 0x28 e) q ]
 
@@ -95,19 +96,18 @@ module _ (jis0208 : List ℕ) where
   end_law mode (Whole e s) h r = rw (escape_alone jis0208 mode e (start_bytes s) (no_escape_yet s), start_end (mode_of e) s, shift-shift 3 1)
 
   -- what it does, by the answer of `finish`
-  abbrev pub EndFacts : Mode → Held → Option (Mode × Held) → Type 0
+  abbrev EndFacts : Mode → Held → Option (Mode × Held) → Type 0
   EndFacts mode held None = events_of (iso_2022_jp jis0208 (mode_meaning mode)) (bytes_of held) ≡ []
   EndFacts mode held (Some o) =
       Reports (state_in jis0208 mode held) (state_in jis0208 o.0 o.1) 1 (length (bytes_of o.1))
       × (events_of (iso_2022_jp jis0208 (mode_meaning mode)) (bytes_of held) ≢ [])
-      × (is_held o.0 o.1 ≡ true)
 
   end_facts : (mode : Mode) (held : Held) (o : Option (Mode × Held)) → MeetsEnd jis0208 mode held o → EndsSound held o → EndFacts mode held o
   unfolding events_of
   end_facts mode held None law sound = law
   end_facts mode held (Some o) law sound =
       let fits = sound.fits in
-      let some : events_in jis0208 mode (bytes_of held) ≢ [] = λ none. (let e = sym none ∙ law in cc) in (
+      let fewer = sound.room in (
         record {
           passed = ended held o.1;
           holding = λ none. (let e = ap length none in absurd (omega arith));
@@ -118,13 +118,12 @@ module _ (jis0208 : List ℕ) where
           };
           holds = record { some = omega arith; few = omega arith; near = sound.short; held = refl; within = omega arith };
           allowed = held_allowed jis0208 o.0 o.1 sound.kept;
-          lowers = λ query. room-falls query jis0208 mode o.0 held o.1 0 0 1 (replacement_units query) (let r = sound.room in omega arith) (replacement_fits query);
+          lowers = λ query. room-falls query jis0208 mode o.0 held o.1 0 0 1 (replacement_units query) (omega arith) (replacement_fits query);
         },
-        some,
-        sound.kept,
+        λ none. (let e = sym none ∙ law in cc),
       )
 
-  pub ends : (mode : Mode) (held : Held) (o : Option (Mode × Held)) → is_held mode held ≡ true
+  ends : (mode : Mode) (held : Held) (o : Option (Mode × Held)) → is_held mode held ≡ true
       → rests (iso_2022_jp jis0208 (mode_meaning mode)) (bytes_of held) ≡ true → o ≡ finish mode held → EndFacts mode held o
   ends mode held o sound rest is =
       rw is (end_facts mode held (finish mode held) (end_law mode held sound (sym (held_rests jis0208 mode held sound) ∙ rest)) (finish_sound mode held))
@@ -140,6 +139,7 @@ module _ (jis0208 : List ℕ) where
 
   -- ---- whether an event is left
 
+  -- there is one, or there is none
   abbrev HasRest : Mode → Held → Bool → Type 0
   HasRest mode held t =
       (t ≡ true → events_of (iso_2022_jp jis0208 (mode_meaning mode)) (bytes_of held) ≢ [])

@@ -6,8 +6,7 @@ use Rattle.legacy_base.specs.Fronts.{reads, malformed}
 use Rattle.legacy_base.specs.EucJp.{euc_jp_scalars}
 use Rattle.legacy_base.specs.Grammar.{euc_jp}
 use Rattle.legacy_base.specs.States.{is_euc_jp_lead}
-use Rattle.legacy_decoder_engine.specs.Steps.{no_pending}
-use Rattle.legacy_decoder_engine.specs.Steps.{Step, hold, finish, DecoderMachine, trail_step}
+use Rattle.legacy_decoder_engine.specs.Steps.{Step, hold, finish, DecoderMachine, no_pending, trail_step}
 
 abbrev pub euc_jp_first : ℕ → Step
 euc_jp_first b =

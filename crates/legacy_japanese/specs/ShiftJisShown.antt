@@ -1,29 +1,20 @@
 -- What is shown of Shift_JIS.
 use Rattle.std.proofs.Common.{◌≡◌, ℕ, ◌+◌, ◌-◌, ◌<◌, ◌≤◌, List, [], ◌∷◌, length, Option, Some, None, true, false, cond, refl, ◌||◌, ◌==◌, arith}
-use Rattle.std.proofs.lemmas.Bool.{ltb-true, cond_both, or_parts}
+use Rattle.std.proofs.lemmas.Bool.{ltb-true, cond_both, or_left, or_parts}
 use Rattle.std.proofs.lemmas.Bool.Decides.{nat_tests}
-use Rattle.std.specs.Int.{is_in_range}
-use Rattle.std.specs.Option.{option_map_or}
-use Rattle.std.specs.Char.{is_ascii}
-use Rattle.legacy_base.specs.Fronts.{reads, malformed}
-use Rattle.legacy_base.specs.Indexes.{idx}
+use Rattle.std.specs.{Int.is_in_range, Option.option_map_or, Char.is_ascii}
+use Rattle.legacy_base.specs.{Fronts.reads, Fronts.malformed, Indexes.idx, States.single_lead_may_hold, Lengths.to_utf16}
 use Rattle.legacy_base.specs.ShiftJis.{shift_jis_front, shift_jis_pair, is_shift_jis_lead, shift_jis_scalars, shift_jis_pointer}
 use Rattle.legacy_base.specs.Grammar.{shift_jis, events_of}
-use Rattle.legacy_base.specs.States.{single_lead_may_hold}
-use Rattle.legacy_base.specs.Lengths.{to_utf16}
-use Rattle.legacy_decoder_engine.specs.Steps.{hold, finish}
-use Rattle.legacy_japanese.specs.ShiftJisMachine.{shift_jis_first, shift_jis_machine, shift_jis_pair_scalars}
+use Rattle.legacy_base.proofs.Accepted.{jis0208-below}
+use Rattle.legacy_decoder_engine.specs.{Steps.hold, Steps.finish, Shown.IsShown, LeadCodecs.IsLeadCodec}
 use Rattle.legacy_decoder_engine.specs.Costs.{units, IsWidth, IsNarrowIndex, Cost}
 use Rattle.legacy_decoder_engine.specs.Settling.{IsOneOrMarked, Settles}
-use Rattle.legacy_decoder_engine.proofs.Widths.{narrow_idx_units}
-use Rattle.legacy_decoder_engine.specs.Shown.{IsShown}
-use Rattle.legacy_decoder_engine.proofs.FrontMoves.{Fits, fits_test}
+use Rattle.legacy_decoder_engine.proofs.{Widths.narrow_idx_units, FrontMoves.Fits, FrontMoves.fits_test, TwoByteMeets.IsTwoByte}
 use Rattle.legacy_decoder_engine.proofs.SettledSteps.{settles_test, one_test, one_option}
-use Rattle.legacy_decoder_engine.proofs.TwoByteMeets.{IsTwoByte}
 use Rattle.legacy_decoder_engine.proofs.TwoByteCosts.{cost_test, units_test, katakana_below}
 use Rattle.legacy_decoder_engine.proofs.TwoByteShown.{HasTwoByteRooms, two_byte_shown}
-use Rattle.legacy_decoder_engine.specs.LeadCodecs.{IsLeadCodec}
-use Rattle.legacy_base.proofs.Accepted.{jis0208-below}
+use Rattle.legacy_japanese.specs.ShiftJisMachine.{shift_jis_first, shift_jis_machine, shift_jis_pair_scalars}
 
 -- the tests in front of a lead's
 lead_tests : (b : ℕ) → is_shift_jis_lead b ≡ true → ((is_ascii b || b == 0x80) ≡ false) × (is_in_range 0xA1 0xDF b ≡ false)
@@ -43,9 +34,6 @@ first_fits jis0208 b =
 one : (jis0208 : List ℕ) (o : Option ℕ) → IsOneOrMarked false (option_map_or (shift_jis_scalars jis0208) o [])
 one jis0208 None = tt
 one jis0208 (Some p) = one_test false (is_in_range 8836 10715 p) ((0xE000 + (p - 8836)) ∷ []) _ tt (one_option false (idx jis0208 p))
-
-ascii_or_0x80 : (b : ℕ) → is_ascii b ≡ true → (is_ascii b || b == 0x80) ≡ true
-ascii_or_0x80 b a = rw a refl
 
 below_0x81 : (b : ℕ) → (is_ascii b || b == 0x80) ≡ true → b < 0x10000
 below_0x81 b h = grind (arith, nat_tests)
@@ -95,7 +83,7 @@ module _ (jis0208 : List ℕ) where
     end_is = λ lead h. let a = lead_tests lead h in rw (a.0, a.1, h);
     first_settles = first_settles;
     pair_one = λ lead t. one jis0208 (shift_jis_pointer lead t);
-    ascii_first = λ b a. rw (ascii_or_0x80 b a) refl;
+    ascii_first = λ b a. rw (or_left (is_ascii b) (b == 0x80) a) refl;
     short_ascii = refl;
     unreported = refl;
   }
@@ -125,7 +113,7 @@ shift_jis_codec = record {
   short_ascii = λ flat. refl;
   unreported = λ flat. refl;
   neutral = λ flat. refl;
-  ascii_first = λ b a. rw (ascii_or_0x80 b a) refl;
+  ascii_first = λ b a. rw (or_left (is_ascii b) (b == 0x80) a) refl;
   lead_first = λ b l. let a = lead_tests b l in rw (a.0, a.1, l) refl;
   bytes = lead_byte_below;
 }

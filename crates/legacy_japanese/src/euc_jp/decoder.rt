@@ -270,6 +270,7 @@ impl CommonForms for EucJpDecoder<'_> {
     }
 
     #[inline]
+    #[tactic(auto, using(crate::proofs::EucJpHeld::pair))]
     fn front(&self, lead: u8, trail: u8) -> CommonForm {
         let Some(lead) = EucJpLead::new(lead) else {
             return CommonForm::Other;

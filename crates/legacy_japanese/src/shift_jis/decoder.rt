@@ -121,6 +121,7 @@ impl LeadCodec for ShiftJis {
     }
 
     #[inline]
+    #[tactic(auto, using(crate::proofs::ShiftJisRuns::pair_form))]
     fn front(tables: &Tables<'_>, lead: u8, trail: u8) -> CommonForm {
         match form_scalar(tables, lead, trail) {
             Some(scalar) => CommonForm::Pair(scalar),

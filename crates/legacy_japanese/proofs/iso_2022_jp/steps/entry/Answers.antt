@@ -1,23 +1,17 @@
-use Rattle.std.proofs.Common.{ℕ, ◌<◌, Some, None, length, get_or, ◌==◌, inl, inr}
-use Rattle.std.specs.Char.{IsScalar}
-use Rattle.std.specs.Prelude.{IfSome}
-use Rattle.std.proofs.lemmas.Bool.{cases_lt, cond_both}
-use Rattle.std.proofs.lemmas.List.{get_or_past}
-use Rattle.std.proofs.lemmas.List.Elements.{All-get_or}
+use Rattle.std.proofs.Common.{◌≡◌, ℕ, ◌<◌, Option, Some, None, sym}
+use Rattle.std.specs.{Char.IsScalar, Prelude.IfSome}
 use Rattle.legacy_base.specs.{Indexes.idx, AcceptedTables.AcceptedIndexes}
-use Rattle.legacy_base.proofs.Accepted.{jis0208-below, jis0208-scalars}
+use Rattle.legacy_base.proofs.Accepted.{idx-all, jis0208-below, jis0208-scalars}
 use Rattle.legacy_japanese.specs.Iso2022JpMoves.{IsNarrowScalar}
 use Rattle.legacy_japanese.proofs.iso_2022_jp.steps.entry.Goals as goal
 
 -- the entries of index jis0208 in accepted tables are scalars up to U+FFFF
-entry_narrow : (tables : AcceptedIndexes) (p : ℕ) → IfSome (idx tables.flat.jis0208 p) IsNarrowScalar
-entry_narrow tables p = elim (cases_lt p (length tables.flat.jis0208)) [
-  | inl h ↦ cond_both (get_or tables.flat.jis0208 p 0 == 0) None (Some (get_or tables.flat.jis0208 p 0)) (λ o. IfSome o IsNarrowScalar) (λ t. tt) (λ t. (
-    All-get_or (λ c. c < 0x1_0000) tables.flat.jis0208 p 0 h (jis0208-below tables.flat tables.accepted),
-    All-get_or IsScalar tables.flat.jis0208 p 0 h (jis0208-scalars tables.flat tables.accepted),
-  ))
-  | inr h ↦ rw (get_or_past tables.flat.jis0208 p 0 h) tt
-]
+entry_narrow : (tables : AcceptedIndexes) (p : ℕ) (o : Option ℕ) → o ≡ idx tables.flat.jis0208 p → IfSome o IsNarrowScalar
+entry_narrow tables p None is = tt
+entry_narrow tables p (Some c) is = (
+  idx-all (λ c. c < 0x1_0000) tables.flat.jis0208 (jis0208-below tables.flat tables.accepted) p c (sym is),
+  idx-all IsScalar tables.flat.jis0208 (jis0208-scalars tables.flat tables.accepted) p c (sym is),
+)
 
 pub returns-clause-narrow : goal.returns-clause-narrow
-returns-clause-narrow c = rw c.idx.ensures (entry_narrow c.args.tables.now c.args.pointer)
+returns-clause-narrow c = entry_narrow c.args.tables.now c.args.pointer c.idx.result c.idx.ensures

@@ -1,0 +1,45 @@
+-- Forms of Shift_JIS that give one scalar.
+use Rattle.std.proofs.Common.{◌≡◌, ◌≤◌, ◌<◌, ◌^◌, ◌+◌, ◌-◌, ◌==◌, ℕ, List, [], ◌∷◌, Option, Some, None, false, true, cond, refl, arith}
+use Rattle.std.proofs.lemmas.Bool.{cond_both}
+use Rattle.std.proofs.lemmas.Bool.Decides.{nat_tests}
+use Rattle.std.specs.{Char.IsScalar, Char.is_ascii, Int.is_in_range, Option.option_map_or, Prelude.option_to_list}
+use Rattle.legacy_base.specs.{AcceptedTables.AcceptedIndexes, Grammar.shift_jis, Indexes.idx}
+use Rattle.legacy_base.specs.ShiftJis.{is_shift_jis_lead, shift_jis_pointer, shift_jis_scalars}
+use Rattle.legacy_base.proofs.Accepted.{jis0208-below}
+use Rattle.legacy_decoder_engine.specs.{Ahead.Runs, Costs.IsNarrowIndex}
+use Rattle.legacy_decoder_engine.proofs.{LeadHeld.pair, PairPlaces.found, RunForms.single_runs, Widths.idx_below}
+use Rattle.legacy_japanese.specs.ShiftJisMachine.{shift_jis_first, shift_jis_pair_scalars}
+use Rattle.legacy_japanese.specs.ShiftJisShown.{shift_jis_shown, shift_jis_codec}
+
+private_use_below : (p c : ℕ) → is_in_range 8836 10715 p ≡ true → (0xE000 + (p - 8836)) ∷ [] ≡ c ∷ [] → c < 0x1_0000
+private_use_below p c t e =
+    let high : p ≤ 10715 = grind (arith, nat_tests) in
+    let same : 0xE000 + (p - 8836) ≡ c = cc in
+    omega arith
+
+scalar_below : (jis0208 : List ℕ) (o : Option ℕ) (c : ℕ) → IsNarrowIndex jis0208 → option_map_or (shift_jis_scalars jis0208) o [] ≡ c ∷ [] → c < 0x1_0000
+scalar_below jis0208 None c narrow e = cc
+scalar_below jis0208 (Some p) c narrow e = cond_both (is_in_range 8836 10715 p) ((0xE000 + (p - 8836)) ∷ []) (option_to_list (idx jis0208 p))
+    (λ scalars. scalars ≡ c ∷ [] → c < 0x1_0000) (private_use_below p c) (λ t. idx_below jis0208 p c narrow) e
+
+katakana_tests : (b : ℕ) → 0xA1 ≤ b → b ≤ 0xDF → (is_ascii b ≡ false) × ((b == 0x80) ≡ false) × (is_in_range 0xA1 0xDF b ≡ true)
+katakana_tests b low high = (grind (arith, nat_tests), grind (arith, nat_tests), grind (arith, nat_tests))
+
+module _ (tables : AcceptedIndexes) where
+  -- a lead and a trail
+  pub pair_form : (lead trail c : ℕ) → lead < 2 ^ 8 → trail < 2 ^ 8 → IsScalar c
+      → c ∷ [] ≡ cond (is_shift_jis_lead lead) (shift_jis_pair_scalars tables.flat.jis0208 lead trail) []
+      → (c < 0x1_0000) × Runs (shift_jis tables.flat.jis0208) (lead ∷ trail ∷ []) (c ∷ [])
+  pair_form lead trail c byte byte' scalar e =
+      let both = found (is_shift_jis_lead lead) (shift_jis_pair_scalars tables.flat.jis0208 lead trail) c e in (
+        scalar_below tables.flat.jis0208 (shift_jis_pointer lead trail) c (jis0208-below tables.flat tables.accepted) both.1,
+        pair (λ flat. shift_jis flat.jis0208) is_shift_jis_lead shift_jis_first (λ flat. shift_jis_pair_scalars flat.jis0208) shift_jis_codec tables lead trail c
+            byte byte' scalar both.0 both.1,
+      )
+
+  -- halfwidth katakana
+  pub katakana_form : (b c : ℕ) → 0xA1 ≤ b → b ≤ 0xDF → c ≡ 0xFF61 + (b - 0xA1) → (c < 0x1_0000) × Runs (shift_jis tables.flat.jis0208) (b ∷ []) (c ∷ [])
+  katakana_form b c low high e =
+      let tests = katakana_tests b low high in
+      let scalar : IsScalar c = grind (arith, nat_tests) in
+      (omega arith, single_runs (shift_jis_shown tables.flat.jis0208 (jis0208-below tables.flat tables.accepted)) b c (omega arith) scalar refl (rw (tests.0, tests.1, tests.2, e) refl))
