@@ -78,3 +78,5 @@ module _ (table : List ℕ) (accepted : IsAcceptedTable table) where
       here e =
           let h = entry_scalar-is (get_or table place 0) c e in
           rw (first_place 0 [] table place c accepted h.1 h.0, lt-ltb place (length table) (within place c h.1 h.0)) refl
+
+pub ruleset accepted_table = (table-scalars)
