@@ -1,5 +1,6 @@
 -- What is known of single-byte tables that passed their check.
-use Rattle.std.proofs.Common.{◌≡◌, ◌≢◌, ◌∙◌, ℕ, zero, suc, ◌+◌, ◌<◌, List, [], ◌∷◌, length, get_or, refl, sym, one-add, arith, Some, None, true, false, Bool, ◌||◌, ◌↔◌, not, cond, eqb, eq-eqb, ◌==◌, position, inl, inr, subst}
+use Rattle.std.proofs.Common.{◌≡◌, ◌≢◌, ◌∙◌, ℕ, zero, suc, ◌+◌, ◌<◌, List, [], ◌∷◌, length, get_or, refl, sym, one-add, arith}
+use Rattle.std.proofs.Common.{Some, None, true, false, Bool, ◌||◌, ◌↔◌, not, cond, eqb, eq-eqb, ◌==◌, position, inl, inr, subst}
 use Rattle.std.proofs.lemmas.Bool.{eqb-true, ne_eqb, cases_lt, lt-ltb}
 use Rattle.std.proofs.lemmas.Bool.Decides.{nat_tests}
 use Rattle.std.proofs.lemmas.List.{get_or_past}
@@ -78,3 +79,5 @@ module _ (table : List ℕ) (accepted : IsAcceptedTable table) where
       here e =
           let h = entry_scalar-is (get_or table place 0) c e in
           rw (first_place 0 [] table place c accepted h.1 h.0, lt-ltb place (length table) (within place c h.1 h.0)) refl
+
+pub ruleset accepted_table = (table-scalars)

@@ -2,8 +2,7 @@
 use Rattle.std.proofs.Common.{◌≡◌, ℕ, ◌+◌, ◌-◌, ◌/◌, ◌%◌, ◌≤◌, ◌<◌, [], ◌∷◌, length, refl, arith, append_assoc}
 use Rattle.std.proofs.lemmas.Bool.{lt-ltb, le-ltb}
 use lib.Utf8.{encode}
-use Rattle.std.proofs.lemmas.Bool.{cases_lt}
-use Rattle.std.proofs.Common.{inl, inr}
+use Rattle.std.proofs.lemmas.Bool.Decides.{nat_tests}
 use Rattle.legacy_base.specs.EncodingForm.{EncodingForm, code_units, Utf8, Utf16, bmp_room, wide_room}
 use Rattle.std.specs.Char.Escape.{encode_utf16}
 
@@ -35,24 +34,18 @@ pub ruleset encoding = (encode_1, encode_2, encode_3, encode_4, append_assoc)
 
 -- a scalar up to U+FFFF fits into the room for one
 pub length-code_units-bmp : (form : EncodingForm) (c : ℕ) → c < 65536 → length (code_units form c) ≤ bmp_room form
-length-code_units-bmp Utf16 c h = rw (lt-ltb c 65536 h) (omega arith)
-length-code_units-bmp Utf8 c h = elim (cases_lt c 128) [
-  | inl a ↦ rw (encode_1 c a) (omega arith)
-  | inr a ↦ elim (cases_lt c 2048) [
-    | inl b ↦ rw (encode_2 c a b) (omega arith)
-    | inr b ↦ rw (encode_3 c b h) (omega arith)
-  ]
-]
+unfolding encode
+length-code_units-bmp Utf16 c h = grind (arith, nat_tests)
+length-code_units-bmp Utf8 c h = grind (arith, nat_tests)
 
 -- any scalar fits into the room for any
 pub length-code_units-wide : (form : EncodingForm) (c : ℕ) → length (code_units form c) ≤ wide_room form
-length-code_units-wide Utf16 c = elim (cases_lt c 65536) [ inl h ↦ rw (lt-ltb c 65536 h) (omega arith) | inr h ↦ rw (le-ltb c 65536 h) (omega arith) ]
-length-code_units-wide Utf8 c = elim (cases_lt c 65536) [
-  | inl h ↦ let a = length-code_units-bmp Utf8 c h in omega arith
-  | inr h ↦ rw (encode_4 c h) (omega arith)
-]
+unfolding encode
+length-code_units-wide Utf16 c = grind (arith, nat_tests)
+length-code_units-wide Utf8 c = grind (arith, nat_tests)
 
 -- an ASCII scalar takes one unit
 pub length-code_units-ascii : (form : EncodingForm) (c : ℕ) → c < 128 → length (code_units form c) ≡ 1
-length-code_units-ascii Utf8 c h = rw (encode_1 c h) refl
-length-code_units-ascii Utf16 c h = let h' : c < 65536 = omega arith in rw (lt-ltb c 65536 h') refl
+unfolding encode
+length-code_units-ascii Utf16 c h = grind (arith, nat_tests)
+length-code_units-ascii Utf8 c h = grind (arith, nat_tests)

@@ -1,5 +1,5 @@
 -- How a list of bytes that is cut into fronts unfolds, front by front.
-use Rattle.std.proofs.Common.{◌≡◌, ℕ, zero, suc, pred, ◌+◌, ◌<◌, List, [], ◌∷◌, ◌++◌, drop, refl, sym, ap, ap₂, ◌∙◌, add_assoc, add-zero, arith}
+use Rattle.std.proofs.Common.{◌≡◌, ℕ, zero, suc, pred, ◌+◌, ◌<◌, List, [], ◌∷◌, ◌++◌, drop, refl, sym, ap, ap₂, add_assoc, add-zero, zero-add, arith}
 use Rattle.legacy_base.specs.declared.results.DecodeEvent.{DecodeEvent}
 use Rattle.legacy_base.specs.Events.{shift}
 use Rattle.legacy_base.specs.Fronts.{Front, reads, malformed, front_length, front_events, cut}
@@ -31,23 +31,11 @@ cut-skip front (suc n) p (b ∷ rest) =
     let e : (p + 1) + n ≡ p + suc n = omega arith in
     rw (← e) (cut-skip front n (p + 1) rest)
 
--- the first front, and then what is behind it
-pub cut-front : (front : ℕ → List ℕ → Front) (b : ℕ) (rest : List ℕ) → 0 < front_length (front b rest) →
-    cut front 0 0 (b ∷ rest) ≡ front_events 0 (front b rest) ++ shift (front_length (front b rest)) (cut front 0 0 (drop (front_length (front b rest)) (b ∷ rest)))
-unfolding cut
-cut-front front b rest pos = ap (λ (es : List DecodeEvent). front_events 0 (front b rest) ++ es) (behind (front_length (front b rest)) pos)
-  where
-    behind : (n : ℕ) → 0 < n → cut front (pred n) 1 rest ≡ shift n (cut front 0 0 (drop n (b ∷ rest)))
-    behind zero h = absurd (omega arith)
-    behind (suc n) h =
-        let e : 1 + n ≡ suc n + 0 = omega arith in
-        cut-skip front n 1 rest ∙ (rw e (cut-place front 0 (suc n) 0 (drop n rest)))
-
 pub cut-nil : (front : ℕ → List ℕ → Front) → cut front 0 0 [] ≡ []
 unfolding cut
 cut-nil front = refl
 
--- the same at any place, where the front is known
+-- the first front at a place, where it is known, and then what is behind it
 pub cut_at : (front : ℕ → List ℕ → Front) (p b : ℕ) (rest : List ℕ) (f : Front) → front b rest ≡ f → 0 < front_length f →
     cut front 0 p (b ∷ rest) ≡ front_events p f ++ cut front 0 (p + front_length f) (drop (front_length f) (b ∷ rest))
 unfolding cut
@@ -58,3 +46,10 @@ cut_at front p b rest f e pos = rw e (ap (λ (es : List DecodeEvent). front_even
     behind (suc n) h =
         let q : (p + 1) + n ≡ p + suc n = omega arith in
         rw (← q) (cut-skip front n (p + 1) rest)
+
+-- the first front, and then what is behind it
+pub cut-front : (front : ℕ → List ℕ → Front) (b : ℕ) (rest : List ℕ) → 0 < front_length (front b rest) →
+    cut front 0 0 (b ∷ rest) ≡ front_events 0 (front b rest) ++ shift (front_length (front b rest)) (cut front 0 0 (drop (front_length (front b rest)) (b ∷ rest)))
+cut-front front b rest pos =
+    let n = front_length (front b rest) in
+    rw (cut_at front 0 b rest (front b rest) refl pos, zero-add n, cut_from_zero front 0 n (drop n (b ∷ rest))) refl

@@ -13,22 +13,15 @@ never more f = cc
 
 -- nothing was done
 pub stay : (last : Bool) (s : DecoderState) (source : List ℕ) → Progress last s source 0 s source []
-stay last s source = record {
-  counts = omega arith;
-  rest = refl;
-  events = λ more h. sym (shift-zero _);
-}
+stay last s source = record { counts = omega arith; rest = refl; events = λ more h. sym (shift-zero _) }
 
 -- what holds whatever follows holds at a last end too
 pub at_last : (last : Bool) (s : DecoderState) (xs : List ℕ) (n : ℕ) (t : DecoderState) (ys : List ℕ) (out : List DecodeEvent) → Progress false s xs n t ys out → Progress last s xs n t ys out
-at_last last s xs n t ys out h = record {
-  counts = h.counts;
-  rest = h.rest;
-  events = λ more e. h.events more (never more);
-}
+at_last last s xs n t ys out h = record { counts = h.counts; rest = h.rest; events = λ more e. h.events more (never more) }
 
 -- with more source behind it
-pub behind : (s : DecoderState) (xs : List ℕ) (n : ℕ) (t : DecoderState) (ys : List ℕ) (out : List DecodeEvent) (zs : List ℕ) → Progress false s xs n t ys out → Progress false s (xs ++ zs) n t (ys ++ zs) out
+pub behind : (s : DecoderState) (xs : List ℕ) (n : ℕ) (t : DecoderState) (ys : List ℕ) (out : List DecodeEvent) (zs : List ℕ) →
+    Progress false s xs n t ys out → Progress false s (xs ++ zs) n t (ys ++ zs) out
 behind s xs n t ys out zs h = record {
   counts = simp length-append (omega (arith, h.counts));
   rest =

@@ -1,5 +1,6 @@
 -- What a loop over an index, over ranges or over a single-byte table finds at its next step, and at its end.
-use Rattle.std.proofs.Common.{◌≡◌, ◌∙◌, ℕ, ◌+◌, ◌≤◌, ◌<◌, List, [], ◌∷◌, ◌++◌, length, get_or, take, reverse, drop, drop-cons, add-one, refl, sym, Some, None, Option, Bool, ◌&&◌, ◌||◌, cond, eqb, nat_le}
+use Rattle.std.proofs.Common.{◌≡◌, ◌∙◌, ℕ, ◌+◌, ◌≤◌, ◌<◌, List, [], ◌∷◌, ◌++◌, length, get_or, take, reverse}
+use Rattle.std.proofs.Common.{drop, drop-cons, add-one, refl, sym, Some, None, Option, Bool, ◌&&◌, ◌||◌, cond, eqb, nat_le}
 use Rattle.std.proofs.lemmas.Result.{err_from_is_err_and}
 use Rattle.std.proofs.lemmas.Bool.{le-ltb}
 use Rattle.std.proofs.lemmas.List.{reverse-append}

@@ -98,6 +98,7 @@ impl SingleByteTable {
 
     /// The scalar value of byte 0x80 + `place`, or `None` where it has none, and from place 128 on.
     #[inline]
+    #[tactic(auto, using(crate::proofs::AcceptedTable::accepted_table))]
     pub fn scalar(&self, place: usize) -> Option<char>
         ensures { result ≡ idx self.now.entries place }
     {

@@ -1,19 +1,11 @@
-use Rattle.std.proofs.Common.{ℕ, Bool, None, rules, arith, nat_le}
+use Rattle.std.proofs.Common.{ℕ, None, rules, arith, nat_le}
 use Rattle.std.proofs.lemmas.List.Sorted.{IsPartitionPoint-from_clause, IsPartitionedBy-leb}
 use borrow.Author.Tests.{leb-true, leb-false}
 use Rattle.legacy_base.proofs.Accepted.{rising}
 use Rattle.legacy_base.proofs.tables.lookups.started_count.Goals as goal
 
-pub returns-clause-started : goal.returns-clause-started
-returns-clause-started c =
-    let p : ℕ × ℕ → Bool = λ r. nat_le r.0 c.args.pointer in
-    let point = IsPartitionPoint-from_clause p c.args.ranges.now c.partition_point.result c.partition_point.ensures.partitioned
+pub returns : goal.returns
+returns c =
+    let point = IsPartitionPoint-from_clause (λ (r : ℕ × ℕ). nat_le r.0 c.args.pointer) c.args.ranges.now c.partition_point.result c.partition_point.ensures.partitioned
     (IsPartitionedBy-leb (λ (r : ℕ × ℕ). r.0) c.args.ranges.now c.args.pointer (rising 0 None c.args.ranges.now c.requires)) (λ a r q k. search rules) in
-    λ k h. leb-true _ _ (point.0 k (0, 0) (omega arith) h)
-
-pub returns-clause-ahead : goal.returns-clause-ahead
-returns-clause-ahead c =
-    let p : ℕ × ℕ → Bool = λ r. nat_le r.0 c.args.pointer in
-    let point = IsPartitionPoint-from_clause p c.args.ranges.now c.partition_point.result c.partition_point.ensures.partitioned
-    (IsPartitionedBy-leb (λ (r : ℕ × ℕ). r.0) c.args.ranges.now c.args.pointer (rising 0 None c.args.ranges.now c.requires)) (λ a r q k. search rules) in
-    λ k h l. leb-false _ _ (point.1 k (0, 0) h l)
+    record { within = search rules; started = λ k h. leb-true _ _ (point.0 k (0, 0) (omega arith) h); ahead = λ k h l. leb-false _ _ (point.1 k (0, 0) h l) }
