@@ -7,27 +7,11 @@ use Rattle.std.specs.Prelude.{option_to_list, ◌==◌}
 use Rattle.std.specs.Char.{is_ascii}
 use Rattle.legacy_base.specs.Fronts.{reads}
 use Rattle.legacy_base.specs.Indexes.{idx}
-use Rattle.legacy_base.specs.ShiftJis.{is_shift_jis_lead, shift_jis_pointer, shift_jis_scalars}
-use Rattle.legacy_decoder_engine.specs.Steps.{hold, finish}
+use Rattle.legacy_base.specs.ShiftJis.{shift_jis_pointer, shift_jis_scalars}
+use Rattle.legacy_decoder_engine.specs.Steps.{finish}
 use Rattle.legacy_japanese.specs.ShiftJisMachine.{shift_jis_first, shift_jis_pair_scalars}
 use Rattle.legacy_decoder_engine.specs.Costs.{IsNarrowIndex}
 use Rattle.legacy_decoder_engine.proofs.Widths.{idx_below}
-
-is_shift_jis_lead-past : (b : ℕ) → is_shift_jis_lead b ≡ true → is_ascii b ≡ false
-is_shift_jis_lead-past b e = grind (arith, nat_tests)
-
-is_shift_jis_lead-other : (b : ℕ) → is_shift_jis_lead b ≡ true → (b == 0x80) ≡ false
-is_shift_jis_lead-other b e = grind (arith, nat_tests)
-
-is_shift_jis_lead-range : (b : ℕ) → is_shift_jis_lead b ≡ true → is_in_range 0xA1 0xDF b ≡ false
-is_shift_jis_lead-range b e = grind (arith, nat_tests)
-
-pub shift_jis_lead_holds : (b : ℕ) → is_shift_jis_lead b ≡ true → shift_jis_first b ≡ hold
-shift_jis_lead_holds b e =
-    let a = is_shift_jis_lead-past b e in
-    let o = is_shift_jis_lead-other b e in
-    let r = is_shift_jis_lead-range b e in
-    rw (a, o, r, e) refl
 
 -- ---- the scalars of pairs are below U+10000
 
