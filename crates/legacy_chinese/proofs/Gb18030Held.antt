@@ -1,5 +1,5 @@
 -- What the GB18030 decoder holds back is what its machine may hold back, and its moves are the machine's.
-use Rattle.std.proofs.Common.{◌≡◌, ◌≢◌, ◌∙◌, ℕ, ◌+◌, ◌-◌, ◌*◌, ◌^◌, ◌<◌, ◌≤◌, List, [], ◌∷◌, length, append-nil, Bool, true, false, refl, sym, ap, arith, Option, Some, None, cond, ◌==◌}
+use Rattle.std.proofs.Common.{◌≡◌, ◌≢◌, ◌∙◌, ℕ, ◌+◌, ◌-◌, ◌*◌, ◌^◌, ◌<◌, ◌≤◌, List, [], ◌∷◌, length, Bool, true, false, refl, sym, ap, arith, Option, Some, None, cond, ◌==◌}
 use Rattle.std.proofs.lemmas.Bool.Decides.{nat_tests}
 use Rattle.std.proofs.lemmas.List.Elements.{All-nil, All-cons}
 use Rattle.std.specs.Prelude.{option_to_list, IfSome}
@@ -23,10 +23,9 @@ use Rattle.legacy_decoder_engine.specs.Costs.{IsNarrowIndex}
 use Rattle.legacy_base.specs.States.{state_of}
 use Rattle.legacy_decoder_engine.specs.Ahead.{Runs, HasAscii}
 use Rattle.legacy_decoder_engine.specs.Feeding.{Took}
-use Rattle.legacy_chinese.specs.Gb18030Machine.{gb18030_step, gb18030_pending, gb18030_machine}
+use Rattle.legacy_chinese.specs.Gb18030Machine.{gb18030_step, gb18030_machine}
 use Rattle.legacy_chinese.specs.Gb18030Held.{held_bytes, is_resting}
 use Rattle.legacy_decoder_engine.proofs.Feeding as moves
-use Rattle.legacy_chinese.proofs.Gb18030Meets.{gb18030_meets}
 use Rattle.legacy_decoder_engine.proofs.RunForms.{pair_runs, four_runs, has_ascii, ascii_is}
 use Rattle.legacy_decoder_engine.proofs.Widths.{idx_below}
 use Rattle.legacy_decoder_engine.specs.Shown.{IsShown}
@@ -92,6 +91,10 @@ pair_below index lead trail c narrow e = go (is_in_range 0x40 0x7E trail) (is_in
     go false true e = idx_below index _ c narrow e
     go false false e = cc
 
+bytes-some : (held : Held) → (held ≡ Nothing → ⊥) → held_bytes held ≢ []
+bytes-some Nothing n = absurd (n refl)
+bytes-some _ n = λ e. cc
+
 module _ (tables : AcceptedIndexes) where
   abbrev g : Grammar
   g = gb18030 tables.flat.gb18030 tables.flat.ranges
@@ -130,30 +133,11 @@ module _ (tables : AcceptedIndexes) where
   reports held r some = moves.reports_all shown (held_bytes held) (may held) (are_bytes held) r some
 
   -- there is something to report exactly where something is held back
-  pub events-none : events_of (gb18030 tables.flat.gb18030 tables.flat.ranges) [] ≡ []
-  events-none = moves.ends_none shown [] refl (All-nil IsByte) refl refl
+  pub ends_none : (held : Held) → length (held_bytes held) ≡ 0 → events_of (gb18030 tables.flat.gb18030 tables.flat.ranges) (held_bytes held) ≡ []
+  ends_none held e = moves.ends_empty shown (held_bytes held) (may held) (are_bytes held) e
 
-  some_rest : (held : Held) → is_resting held ≡ true → held_bytes held ≢ [] → events_of g (held_bytes held) ≢ []
-  some_rest held r n = moves.ends_some shown (held_bytes held) (may held) (are_bytes held) (rests-held held ∙ r) n
-
-  some_pending : (held : Held) (c : ℕ) → gb18030_pending (held_bytes held) ≡ Some (1, c) → events_of g (held_bytes held) ≢ []
-  some_pending held c p e =
-      let w = (gb18030_meets tables.flat.gb18030 tables.flat.ranges).writes (held_bytes held) (may held) in
-      let w' = rw p at w in
-      let first = w'.1.goes_on [] in
-      let all = ap (events_of g) (append-nil (held_bytes held)) in
-      cc
-
-  pub events-some : (held : Held) → (held ≡ Nothing → ⊥) → events_of (gb18030 tables.flat.gb18030 tables.flat.ranges) (held_bytes held) ≢ []
-  events-some Nothing n = absurd (n refl)
-  events-some (First first) n = some_rest (First first) refl (λ e. cc)
-  events-some (Second first second) n = some_rest (Second first second) refl (λ e. cc)
-  events-some (Third first second third) n = some_rest (Third first second third) refl (λ e. cc)
-  events-some (Digit digit) n = some_pending (Digit digit) digit.byte (rw (of_digit digit).0 refl)
-  events-some (DigitLead digit lead) n = some_pending (DigitLead digit lead) digit.byte (rw (of_digit digit).0 refl)
-
-  pub events-empty : (held : Held) → length (held_bytes held) ≡ 0 → events_of (gb18030 tables.flat.gb18030 tables.flat.ranges) (held_bytes held) ≡ []
-  events-empty held e = moves.ends_empty shown (held_bytes held) (may held) (are_bytes held) e
+  pub ends_some : (held : Held) → (held ≡ Nothing → ⊥) → events_of (gb18030 tables.flat.gb18030 tables.flat.ranges) (held_bytes held) ≢ []
+  ends_some held n = moves.ends_held shown (held_bytes held) (may held) (are_bytes held) (bytes-some held n)
 
   -- ---- runs
 

@@ -1,24 +1,21 @@
 -- What is shown of Big5.
-use Rattle.std.proofs.Common.{◌≡◌, ℕ, ◌<◌, ◌≤◌, List, [], ◌∷◌, Option, Some, None, true, false, refl, ◌==◌, arith}
+use Rattle.std.proofs.Common.{ℕ, ◌<◌, ◌≤◌, List, [], ◌∷◌, Option, Some, None, true, refl, ◌==◌, arith}
 use Rattle.std.specs.Option.{option_map_or}
-use Rattle.std.specs.Char.{is_ascii}
 use Rattle.legacy_base.specs.Big5.{big5_front, big5_pair, big5_scalars, big5_pointer}
 use Rattle.legacy_base.specs.Indexes.{idx}
-use Rattle.legacy_base.specs.Grammar.{big5, events_of}
+use Rattle.legacy_base.specs.Grammar.{big5}
 use Rattle.legacy_base.specs.States.{is_lead}
 use Rattle.legacy_base.specs.Lengths.{to_utf16}
 use Rattle.legacy_decoder_engine.specs.LeadMachines.{lead_first}
-use Rattle.legacy_chinese.specs.Big5Machine.{big5_machine, big5_pair_scalars}
+use Rattle.legacy_chinese.specs.Big5Machine.{big5_pair_scalars}
 use Rattle.legacy_decoder_engine.specs.Costs.{units, IsWidth}
 use Rattle.legacy_decoder_engine.specs.Settling.{IsOneOrMarked}
 use Rattle.legacy_decoder_engine.proofs.Widths.{idx_units}
-use Rattle.legacy_decoder_engine.specs.Shown.{IsShown}
-use Rattle.legacy_decoder_engine.proofs.SettledSteps.{lead_settles, one_test, one_option}
-use Rattle.legacy_decoder_engine.proofs.TwoByteMeets.{IsTwoByte, lead_not_ascii, lead_first_fits}
-use Rattle.legacy_decoder_engine.proofs.TwoByteCosts.{lead_first_cost, units_test}
-use Rattle.legacy_decoder_engine.proofs.TwoByteShown.{HasTwoByteRooms, two_byte_shown}
+use Rattle.legacy_decoder_engine.proofs.SettledSteps.{one_test, one_option}
+use Rattle.legacy_decoder_engine.proofs.TwoByteMeets.{IsTwoByte, lead_byte_below, lead_first_is, lead_front_is}
+use Rattle.legacy_decoder_engine.proofs.TwoByteCosts.{units_test}
+use Rattle.legacy_decoder_engine.proofs.TwoByteShown.{HasTwoByteRooms, lead_codec}
 use Rattle.legacy_decoder_engine.specs.LeadCodecs.{IsLeadCodec}
-use Rattle.legacy_decoder_engine.proofs.TwoByteMeets.{lead_byte_below, lead_holds}
 
 -- four pointers give a letter and a mark
 one : (index : List ℕ) (o : Option ℕ) → IsOneOrMarked true (option_map_or (big5_scalars index) o [])
@@ -42,46 +39,23 @@ module _ (len : ℕ → ℕ) (narrow wide : ℕ) (w : IsWidth len narrow wide) w
       (λ f. units_test len narrow wide w wide (p == 1166) (0xEA ∷ 0x30C ∷ []) _ (λ g. two_units 0xEA 0x30C (omega arith) (omega arith))
       (λ g. idx_units len narrow wide w index p))))
 
-module _ (index : List ℕ) where
-  is : IsTwoByte (big5 index) (big5_front index) is_lead lead_first (big5_pair_scalars index)
-  unfolding events_of big5_front big5_pair
-  is = record {
-    ev_is = λ bytes. refl;
-    may_is = λ held. refl;
-    rests_is = λ held. refl;
-    first_fits = lead_first_fits (big5_front index) (λ b rest a. rw a) (λ b rest a l. rw (a, l));
-    pair_is = λ lead t more h. let a : is_ascii lead ≡ false = lead_not_ascii lead h in rw (a, h);
-    end_is = λ lead h. let a : is_ascii lead ≡ false = lead_not_ascii lead h in rw (a, h);
-    first_settles = λ b. lead_settles (big5 index) b refl;
-    pair_one = λ lead t. one index (big5_pointer lead t);
-    ascii_first = λ b a. rw a refl;
-    short_ascii = refl;
-    unreported = refl;
-  }
+is : (index : List ℕ) → IsTwoByte (big5 index) (big5_front index) is_lead lead_first (big5_pair_scalars index)
+unfolding big5_front big5_pair
+is index = record {
+  profile_is = refl;
+  front_is = λ b. elim [ [] ↦ lead_front_is (big5_pair_scalars index b) [] _ b refl | t ∷ rest ↦ lead_front_is (big5_pair_scalars index b) (t ∷ rest) _ b refl ];
+  pair_one = λ lead t. one index (big5_pointer lead t);
+}
 
-  rooms : HasTwoByteRooms (big5 index) lead_first (big5_pair_scalars index) 4
-  rooms = record {
-    first_cost = λ len narrow wide w b. lead_first_cost len narrow wide w wide 4 b (omega arith) (omega arith);
-    pair_units = λ len narrow wide w lead b. scalar_units len narrow wide w index (big5_pointer lead b);
-    is_paid = λ len narrow wide w. omega arith;
-    falls = elim [ to_utf16 ↦ λ held held' n n' u h. omega arith | _ ↦ λ held held' n n' u h. omega arith ];
-    reads = elim [ to_utf16 ↦ λ held. omega arith | _ ↦ λ held. omega arith ];
-    holds = elim [ to_utf16 ↦ λ b held. omega arith | _ ↦ λ b held. omega arith ];
-  }
-
-  pub big5_shown : IsShown (big5 index) (big5_machine index)
-  big5_shown = two_byte_shown (big5 index) (big5_front index) is_lead lead_first (big5_pair_scalars index) 4 is rooms
+rooms : (index : List ℕ) → HasTwoByteRooms (big5 index) (big5_pair_scalars index) 4
+rooms index = record {
+  pair_units = λ len narrow wide w lead b. scalar_units len narrow wide w index (big5_pointer lead b);
+  is_paid = λ len narrow wide w. omega arith;
+  falls = elim [ to_utf16 ↦ λ held held' n n' u h. omega arith | _ ↦ λ held held' n n' u h. omega arith ];
+  reads = elim [ to_utf16 ↦ λ held. omega arith | _ ↦ λ held. omega arith ];
+  holds = elim [ to_utf16 ↦ λ b held. omega arith | _ ↦ λ b held. omega arith ];
+}
 
 pub big5_codec : IsLeadCodec (λ flat. big5 flat.big5) is_lead lead_first (λ flat. big5_pair_scalars flat.big5)
-big5_codec = record {
-  shown = λ flat accepted. big5_shown flat.big5;
-  may_is = λ flat held. refl;
-  rests_is = λ flat held. refl;
-  weight_is = λ flat held. refl;
-  short_ascii = λ flat. refl;
-  unreported = λ flat. refl;
-  neutral = λ flat. refl;
-  ascii_first = λ b a. rw a refl;
-  lead_first = lead_holds;
-  bytes = lead_byte_below;
-}
+big5_codec = lead_codec (λ flat. big5 flat.big5) (λ flat. big5_front flat.big5) is_lead lead_first (λ flat. big5_pair_scalars flat.big5) (λ flat. is flat.big5)
+    4 (lead_first_is 4 (omega arith)) (λ flat accepted. rooms flat.big5) lead_byte_below

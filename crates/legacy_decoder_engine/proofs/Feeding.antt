@@ -1,6 +1,6 @@
 -- The moves of a machine that meets its grammar and keeps its rooms are the moves that the loop asks for.
 use Rattle.std.proofs.Common.{◌≡◌, ◌≢◌, ◌∙◌, ℕ, suc, zero-add, add-zero, ◌+◌, ◌-◌, ◌≤◌, List, [], ◌∷◌, ◌++◌, length, drop, refl, sym, ap, subst, arith, append-nil, length-append, length-drop}
-use Rattle.std.proofs.Common.{drop_of_length-le, Bool, true, false, not, ◌&&◌, ◌||◌, IsTrue, Some, None, inl, inr, All}
+use Rattle.std.proofs.Common.{drop_of_length-le, Bool, true, false, not, ◌&&◌, ◌||◌, IsTrue, Option, Some, None, inl, inr, All}
 use Rattle.std.proofs.lemmas.List.{drop-append-le, nil_from_length}
 use Rattle.std.proofs.lemmas.List.Elements.{All-nil, All-cons}
 use Rattle.std.proofs.lemmas.Bool.{false≢true}
@@ -15,7 +15,7 @@ use Rattle.legacy_base.specs.Lengths.{LengthQuery, to_utf16, to_utf8, query_form
 use Rattle.legacy_decoder_engine.specs.declared.moves.Fed.{Fed}
 use Rattle.legacy_decoder_engine.specs.declared.moves.Fed.TheVariants.{Nothing, One, Two, Fault}
 use Rattle.legacy_decoder_engine.specs.Moves.{IsCovered, read_room, fed_scalars, fed_fault, fed_units, unread_byte, FedHolds, IsFaulty, Feeds, Releases, Reports}
-use Rattle.legacy_decoder_engine.specs.Steps.{Step, hold, finish, leave, step_held, StepMeets, end_events, DecoderMachine}
+use Rattle.legacy_decoder_engine.specs.Steps.{Step, hold, finish, leave, step_held, StepMeets, PendingMeets, end_events, DecoderMachine}
 use Rattle.legacy_decoder_engine.specs.Costs.{units, step_units, step_left}
 use Rattle.legacy_base.specs.States.{state_of}
 use Rattle.legacy_decoder_engine.specs.Settling.{IsOneOrMarked, Settles}
@@ -352,3 +352,10 @@ module _ {g : Grammar} {m : DecoderMachine} (shown : IsShown g m) (held : List �
     by_held : (l : List ℕ) → l ≢ [] → end_events l ≡ [] → ⊥
     by_held [] n e = n refl
     by_held (x ∷ xs) n e = cc
+
+  -- also where a scalar is still to be written
+  pub ends_held : held ≢ [] → events_of g held ≢ []
+  ends_held n = by_pending (m.pending held) (shown.meets.writes held may) where
+    by_pending : (p : Option (ℕ × ℕ)) → PendingMeets g held p → events_of g held ≢ []
+    by_pending None r = ends_some r n
+    by_pending (Some (k, c)) w = λ e. let first = w.1.goes_on [] in let all = ap (events_of g) (append-nil held) in cc

@@ -1,12 +1,10 @@
 -- What steps leave.
 use Rattle.std.proofs.Common.{◌≡◌, ℕ, suc, ◌+◌, List, [], ◌∷◌, length, Bool, true, false, cond, Option, Some, None, refl, option_to_list, arith}
 use Rattle.std.specs.Char.{is_ascii}
-use Rattle.legacy_base.specs.Fronts.{reads, malformed, reads_or}
+use Rattle.legacy_base.specs.Fronts.{malformed, reads_or}
 use Rattle.legacy_base.specs.Grammar.{Grammar}
-use Rattle.legacy_base.specs.States.{is_lead, rests}
 use Rattle.legacy_base.specs.Acts.{has_marks}
-use Rattle.legacy_decoder_engine.specs.Steps.{Step, hold, finish, leave, trail_step}
-use Rattle.legacy_decoder_engine.specs.LeadMachines.{lead_first}
+use Rattle.legacy_decoder_engine.specs.Steps.{Step, finish, leave, trail_step}
 use Rattle.legacy_decoder_engine.specs.Settling.{IsOneOrMarked, Settles}
 use Rattle.legacy_decoder_engine.specs.Shown.{WriteSettles}
 
@@ -29,9 +27,6 @@ one_option marks (Some c) = tt
 pub trail_settles : (g : Grammar) (held : List ℕ) (b : ℕ) (cs : List ℕ) → IsOneOrMarked (has_marks g) cs → Settles g held b (trail_step (length held) cs b)
 trail_settles g held b (c ∷ cs) one = (omega arith, one)
 trail_settles g held b [] one = settles_test g held b (is_ascii b) (leave (length held)) (finish (malformed (length held + 1))) (λ a. tt) (λ a. tt)
-
-pub lead_settles : (g : Grammar) (b : ℕ) → rests g (b ∷ []) ≡ true → Settles g [] b (lead_first b)
-lead_settles g b r = settles_test g [] b (is_ascii b) (finish (reads 1 (b ∷ []))) _ (λ a. (refl, tt)) (λ a. settles_test g [] b (is_lead b) hold (finish (malformed 1)) (λ l. r) (λ l. tt))
 
 pub or_settles : (g : Grammar) (held : List ℕ) (b : ℕ) (cs : List ℕ) → IsOneOrMarked (has_marks g) cs → Settles g held b (finish (reads_or (suc (length held)) cs (malformed (suc (length held)))))
 or_settles g held b [] one = tt

@@ -4,11 +4,10 @@ use Rattle.std.proofs.lemmas.Bool.{ltb-true}
 use Rattle.std.proofs.lemmas.Bool.Decides.{nat_tests}
 use Rattle.std.specs.Int.{is_in_range}
 use Rattle.std.specs.Char.{is_ascii}
-use Rattle.legacy_base.specs.Fronts.{reads, malformed}
-use Rattle.legacy_base.specs.States.{is_lead}
-use Rattle.legacy_decoder_engine.specs.Steps.{Step, hold, finish, leave, trail_step}
-use Rattle.legacy_decoder_engine.specs.LeadMachines.{lead_first}
+use Rattle.legacy_base.specs.Fronts.{malformed}
+use Rattle.legacy_decoder_engine.specs.Steps.{Step, finish, leave, trail_step}
 use Rattle.legacy_decoder_engine.specs.Costs.{units, IsWidth, Cost}
+use Rattle.legacy_decoder_engine.proofs.TwoByteMeets.{IsFirst, ascii, other, leads, fails}
 
 -- a test decides what a step is
 pub cost_test : (len : ℕ → ℕ) (narrow at_most : ℕ) (wt : List ℕ → ℕ) (slope : ℕ) (held : List ℕ) (b : ℕ) (t : Bool) (s₁ s₂ : Step) →
@@ -29,14 +28,14 @@ module _ (len : ℕ → ℕ) (narrow wide : ℕ) (w : IsWidth len narrow wide) w
       (λ a. record { fits = n; pays = omega arith; pays_without = omega arith })
       (λ a. record { fits = n; pays = omega arith; pays_without = omega arith })
 
-  -- ASCII, a lead, or neither
-  pub lead_first_cost : (at_most slope b : ℕ) → narrow ≤ at_most → 2 ≤ slope → Cost len narrow (cond (is_ascii b) 1 at_most) length slope [] b (lead_first b)
-  lead_first_cost at_most slope b n s =
-      cost_test len narrow (cond (is_ascii b) 1 at_most) length slope [] b (is_ascii b) (finish (reads 1 (b ∷ []))) _
-      (λ a. let e : len b ≡ 1 = w.ascii b (ltb-true b 0x80 a) in let p = w.some in record { fits = rw a (omega arith); pays = omega arith; pays_without = omega arith })
-      (λ a. cost_test len narrow (cond (is_ascii b) 1 at_most) length slope [] b (is_lead b) hold (finish (malformed 1))
-      (λ l. record { fits = omega arith; pays = omega arith; pays_without = omega arith })
-      (λ l. record { fits = rw a n; pays = omega arith; pays_without = omega arith }))
+  -- the step at the first byte
+  pub first_cost : (is_lead_byte : ℕ → Bool) (paid at_most b : ℕ) (s : Step) → narrow ≤ at_most → IsFirst is_lead_byte paid b s → Cost len narrow (cond (is_ascii b) 1 at_most) length paid [] b s
+  first_cost is_lead_byte paid at_most b s n (ascii e a l p) =
+      let one : len b ≡ 1 = w.ascii b (ltb-true b 0x80 a) in let some = w.some in rw e (record { fits = rw a (omega arith); pays = omega arith; pays_without = omega arith })
+  first_cost is_lead_byte paid at_most b s n (other c e a l below p) =
+      let fits = w.bmp c below in let most = w.most in rw e (record { fits = rw a (omega arith); pays = omega arith; pays_without = omega arith })
+  first_cost is_lead_byte paid at_most b s n (leads e a l) = rw e (record { fits = omega arith; pays = omega arith; pays_without = omega arith })
+  first_cost is_lead_byte paid at_most b s n (fails e a l) = rw e (record { fits = rw a n; pays = omega arith; pays_without = omega arith })
 
   pub units_test : (n : ℕ) (t : Bool) (xs ys : List ℕ) → (t ≡ true → units len xs ≤ n) → (t ≡ false → units len ys ≤ n) → units len (cond t xs ys) ≤ n
   units_test n true xs ys f g = f refl

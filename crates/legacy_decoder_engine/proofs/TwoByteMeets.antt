@@ -1,58 +1,149 @@
 -- The machines of the codecs with forms of one and two bytes: what they owe, and that they do what their grammars say.
-use Rattle.std.proofs.Common.{◌≡◌, ℕ, ◌<◌, ◌≤◌, List, [], ◌∷◌, length, Bool, true, false, refl, ◌∙◌, arith}
+use Rattle.std.proofs.Common.{◌≡◌, ◌∙◌, ℕ, ◌<◌, ◌≤◌, List, [], ◌∷◌, length, Bool, true, false, cond, refl, ap, arith}
 use Rattle.std.proofs.lemmas.Bool.{false≢true}
 use Rattle.std.proofs.lemmas.Bool.Decides.{nat_tests}
 use Rattle.std.specs.Char.{is_ascii}
 use Rattle.legacy_base.specs.Fronts.{Front, reads, malformed, reads_or, trail_rule, cut}
-use Rattle.legacy_base.specs.Grammar.{Grammar, events_of}
+use Rattle.legacy_base.specs.Profile.{Profile, always_rests}
+use Rattle.legacy_base.specs.Grammar.{Grammar, profile, events_of}
 use Rattle.legacy_base.specs.States.{is_lead, single_lead_may_hold, may_hold, rests}
-use Rattle.legacy_base.specs.Acts.{has_marks, has_short_ascii, has_reported}
+use Rattle.legacy_base.specs.Acts.{has_marks}
 use Rattle.legacy_decoder_engine.specs.Steps.{Step, hold, finish, end_events, Meets}
 use Rattle.legacy_decoder_engine.specs.LeadMachines.{two_byte_step, two_byte_machine, lead_first}
 use Rattle.legacy_decoder_engine.specs.Settling.{IsOneOrMarked, Settles}
 use Rattle.legacy_base.proofs.Cuts.{cut-nil}
-use Rattle.legacy_decoder_engine.proofs.FrontMoves.{Fits, fits_test, fits_trail, fits_meets, end_meets}
+use Rattle.legacy_decoder_engine.proofs.FrontMoves.{Fits, fits_trail, fits_meets, end_meets}
 
--- What a codec with leads and trails shows: that its events are a cut, what its states are, its front at a lead, with
--- a trail and at the end, and its first step; what the steps leave; and that ASCII needs less room.
+-- What the first byte of a form is: ASCII, and itself; another scalar up to U+FFFF; a lead; or malformed. `paid` for
+-- each two bytes is enough for the scalar.
+pub data IsFirst (is_lead_byte : ℕ → Bool) (paid b : ℕ) (s : Step) : Type 0 where
+  ascii : s ≡ finish (reads 1 (b ∷ [])) → is_ascii b ≡ true → is_lead_byte b ≡ false → 2 ≤ paid → IsFirst is_lead_byte paid b s
+  other : (c : ℕ) → s ≡ finish (reads 1 (c ∷ [])) → is_ascii b ≡ false → is_lead_byte b ≡ false → c < 0x1_0000 → 6 ≤ paid → IsFirst is_lead_byte paid b s
+  leads : s ≡ hold → is_ascii b ≡ false → is_lead_byte b ≡ true → IsFirst is_lead_byte paid b s
+  fails : s ≡ finish (malformed 1) → is_ascii b ≡ false → is_lead_byte b ≡ false → IsFirst is_lead_byte paid b s
+
+-- the front of a list that begins with a byte with this first step
+abbrev pub step_front : (ℕ → List ℕ) → List ℕ → Step → Front
+step_front scalars rest (finish f) = f
+step_front scalars [] s = malformed 1
+step_front scalars (t ∷ rest) s = reads_or 2 (scalars t) (trail_rule 1 t)
+
+-- what such codecs have in common, and the rest of one
+abbrev pub two_byte_profile : (ℕ → List ℕ → Front) → (ℕ → Bool) → Profile → Profile
+two_byte_profile front is_lead_byte own = record {
+  events = cut front 0 0;
+  may_hold = single_lead_may_hold is_lead_byte;
+  rests = always_rests;
+  begins_in_ascii = true;
+  rooms = own.rooms;
+  short_ascii = true;
+  reported = false;
+  marks = own.marks;
+  weight = length;
+  utf16_length = own.utf16_length;
+  utf8_length = own.utf8_length;
+  utf8_length_without_replacement = own.utf8_length_without_replacement;
+}
+
+-- what a codec with leads and trails shows: its profile, its front by the first step, and that a pair gives one scalar
 pub record IsTwoByte (g : Grammar) (front : ℕ → List ℕ → Front) (is_lead_byte : ℕ → Bool) (first : ℕ → Step) (scalars : ℕ → ℕ → List ℕ) : Type 0 where
-  pub ev_is : (bytes : List ℕ) → events_of g bytes ≡ cut front 0 0 bytes
-  pub may_is : (held : List ℕ) → may_hold g held ≡ single_lead_may_hold is_lead_byte held
-  pub rests_is : (held : List ℕ) → rests g held ≡ true
-  pub first_fits : (b : ℕ) → Fits front (single_lead_may_hold is_lead_byte) [] b (first b)
-  pub pair_is : (lead t : ℕ) (more : List ℕ) → is_lead_byte lead ≡ true → front lead (t ∷ more) ≡ reads_or 2 (scalars lead t) (trail_rule 1 t)
-  pub end_is : (lead : ℕ) → is_lead_byte lead ≡ true → front lead [] ≡ malformed 1
-  pub first_settles : (b : ℕ) → Settles g [] b (first b)
+  pub profile_is : profile g ≡ two_byte_profile front is_lead_byte (profile g)
+  pub front_is : (b : ℕ) (rest : List ℕ) → front b rest ≡ step_front (scalars b) rest (first b)
   pub pair_one : (lead t : ℕ) → IsOneOrMarked (has_marks g) (scalars lead t)
-  pub ascii_first : (b : ℕ) → is_ascii b ≡ true → first b ≡ finish (reads 1 (b ∷ []))
-  pub short_ascii : has_short_ascii g ≡ true
-  pub unreported : has_reported g ≡ false
 
-module _ (g : Grammar) (front : ℕ → List ℕ → Front) (is_lead_byte : ℕ → Bool) (first : ℕ → Step) (scalars : ℕ → ℕ → List ℕ) (is : IsTwoByte g front is_lead_byte first scalars) where
+module _ (is_lead_byte : ℕ → Bool) (paid : ℕ) (first : ℕ → Step) (firsts : (b : ℕ) → IsFirst is_lead_byte paid b (first b)) where
+  pub ascii_first : (b : ℕ) → is_ascii b ≡ true → first b ≡ finish (reads 1 (b ∷ []))
+  ascii_first b a = by (firsts b)
+    where
+      by : IsFirst is_lead_byte paid b (first b) → first b ≡ finish (reads 1 (b ∷ []))
+      by (ascii e a' n p) = e
+      by (other c e a' n q p) = cc
+      by (leads e a' l) = cc
+      by (fails e a' n) = cc
+
+  pub lead_holds : (b : ℕ) → is_lead_byte b ≡ true → first b ≡ hold
+  lead_holds b l = by (firsts b)
+    where
+      by : IsFirst is_lead_byte paid b (first b) → first b ≡ hold
+      by (ascii e a n p) = cc
+      by (other c e a n q p) = cc
+      by (leads e a l') = e
+      by (fails e a n) = cc
+
+module _ (g : Grammar) (front : ℕ → List ℕ → Front) (is_lead_byte : ℕ → Bool) (first : ℕ → Step) (scalars : ℕ → ℕ → List ℕ) (is : IsTwoByte g front is_lead_byte first scalars)
+    (paid : ℕ) (firsts : (b : ℕ) → IsFirst is_lead_byte paid b (first b)) where
+  pub may_is : (held : List ℕ) → may_hold g held ≡ single_lead_may_hold is_lead_byte held
+  may_is held = ap (λ p. p.may_hold held) is.profile_is
+
+  ev_is : (bytes : List ℕ) → events_of g bytes ≡ cut front 0 0 bytes
+  unfolding events_of
+  ev_is bytes = ap (λ p. p.events bytes) is.profile_is
+
+  pub rests_is : (held : List ℕ) → rests g held ≡ true
+  rests_is held = ap (λ p. p.rests held) is.profile_is
+
+  -- ---- the first byte
+
+  first_fits : (b : ℕ) → Fits front (single_lead_may_hold is_lead_byte) [] b (first b)
+  first_fits b = by (firsts b)
+    where
+      at : (f : Front) → first b ≡ finish f → (more : List ℕ) → front b more ≡ f
+      at f e more = is.front_is b more ∙ ap (step_front (scalars b) more) e
+
+      by : IsFirst is_lead_byte paid b (first b) → Fits front (single_lead_may_hold is_lead_byte) [] b (first b)
+      by (ascii e a n p) = rw e (at (reads 1 (b ∷ [])) e, omega arith, omega arith, refl)
+      by (other c e a n q p) = rw e (at (reads 1 (c ∷ [])) e, omega arith, omega arith, refl)
+      by (leads e a l) = rw e (omega arith, l)
+      by (fails e a n) = rw e (at (malformed 1) e, omega arith, omega arith, refl)
+
+  pub first_settles : (b : ℕ) → Settles g [] b (first b)
+  first_settles b = by (firsts b)
+    where
+      by : IsFirst is_lead_byte paid b (first b) → Settles g [] b (first b)
+      by (ascii e a n p) = rw e (refl, tt)
+      by (other c e a n q p) = rw e (refl, tt)
+      by (leads e a l) = rw e (rests_is (b ∷ []))
+      by (fails e a n) = rw e tt
+
+  -- ---- all steps
+
   few_held : (held : List ℕ) → single_lead_may_hold is_lead_byte held ≡ true → length held ≤ 3
   few_held [] h = omega arith
   few_held (b ∷ []) h = omega arith
   few_held (b ∷ c ∷ held) h = absurd (false≢true h)
 
   step_fits : (held : List ℕ) (b : ℕ) → single_lead_may_hold is_lead_byte held ≡ true → Fits front (single_lead_may_hold is_lead_byte) held b (two_byte_step first scalars held b)
-  step_fits [] b h = is.first_fits b
+  step_fits [] b h = first_fits b
   step_fits (lead ∷ []) b h =
-      fits_trail front (single_lead_may_hold is_lead_byte) (lead ∷ []) (scalars lead b) b refl (omega arith) (λ more. is.pair_is lead b more h)
+      fits_trail front (single_lead_may_hold is_lead_byte) (lead ∷ []) (scalars lead b) b refl (omega arith)
+      (λ more. is.front_is lead (b ∷ more) ∙ ap (step_front (scalars lead) (b ∷ more)) (lead_holds is_lead_byte paid first firsts lead h))
   step_fits (lead ∷ c ∷ held) b h = absurd (false≢true h)
 
   all_ends : (held : List ℕ) → single_lead_may_hold is_lead_byte held ≡ true → events_of g held ≡ end_events held
-  all_ends [] h = is.ev_is [] ∙ cut-nil front
-  all_ends (b ∷ []) h = end_meets g front (is.ev_is) b [] (is.end_is b h)
+  all_ends [] h = ev_is [] ∙ cut-nil front
+  all_ends (b ∷ []) h = end_meets g front ev_is b [] (is.front_is b [] ∙ ap (step_front (scalars b) []) (lead_holds is_lead_byte paid first firsts b h))
   all_ends (b ∷ c ∷ held) h = absurd (false≢true h)
 
   pub two_byte_meets : Meets g (two_byte_machine g first scalars)
   two_byte_meets = record {
-    writes = λ held h. is.rests_is held;
-    steps = λ held b h r. fits_meets g front (is.ev_is) (single_lead_may_hold is_lead_byte) (is.may_is) held b (two_byte_step first scalars held b) (few_held held (rw (is.may_is held) at h))
-        (step_fits held b (rw (is.may_is held) at h));
-    ends = λ held h r. all_ends held (rw (is.may_is held) at h);
-    few = λ held h. few_held held (rw (is.may_is held) at h);
+    writes = λ held h. rests_is held;
+    steps = λ held b h r. fits_meets g front ev_is (single_lead_may_hold is_lead_byte) may_is held b (two_byte_step first scalars held b) (few_held held (rw (may_is held) at h))
+        (step_fits held b (rw (may_is held) at h));
+    ends = λ held h r. all_ends held (rw (may_is held) at h);
+    few = λ held h. few_held held (rw (may_is held) at h);
   }
+
+-- ---- tests of the first byte
+
+pub first_test : (is_lead_byte : ℕ → Bool) (paid b : ℕ) (t : Bool) (s₁ s₂ : Step) →
+    (t ≡ true → IsFirst is_lead_byte paid b s₁) → (t ≡ false → IsFirst is_lead_byte paid b s₂) → IsFirst is_lead_byte paid b (cond t s₁ s₂)
+first_test is_lead_byte paid b true s₁ s₂ f₁ f₂ = f₁ refl
+first_test is_lead_byte paid b false s₁ s₂ f₁ f₂ = f₂ refl
+
+pub front_test : (scalars : ℕ → List ℕ) (rest : List ℕ) (t : Bool) (f₁ f₂ : Front) (s₁ s₂ : Step) →
+    f₁ ≡ step_front scalars rest s₁ → f₂ ≡ step_front scalars rest s₂ → cond t f₁ f₂ ≡ step_front scalars rest (cond t s₁ s₂)
+front_test scalars rest true f₁ f₂ s₁ s₂ e₁ e₂ = e₁
+front_test scalars rest false f₁ f₂ s₁ s₂ e₁ e₂ = e₂
 
 -- ---- codecs whose leads are 81 to FE
 
@@ -62,17 +153,14 @@ lead_byte_below b h = grind (arith, nat_tests)
 pub is_lead-in : (b : ℕ) → 0x81 ≤ b → b ≤ 0xFE → is_lead b ≡ true
 is_lead-in b low high = grind (arith, nat_tests)
 
-pub lead_not_ascii : (b : ℕ) → is_lead b ≡ true → is_ascii b ≡ false
-lead_not_ascii b h = grind (arith, nat_tests)
+ascii_no_lead : (b : ℕ) → is_ascii b ≡ true → is_lead b ≡ false
+ascii_no_lead b a = grind (arith, nat_tests)
 
-pub lead_holds : (b : ℕ) → is_lead b ≡ true → lead_first b ≡ hold
-lead_holds b e = let a : is_ascii b ≡ false = lead_not_ascii b e in rw (a, e) refl
+pub lead_first_is : (paid : ℕ) → 2 ≤ paid → (b : ℕ) → IsFirst is_lead paid b (lead_first b)
+lead_first_is paid enough b =
+    first_test is_lead paid b (is_ascii b) (finish (reads 1 (b ∷ []))) _ (λ a. ascii refl a (ascii_no_lead b a) enough)
+    (λ a. first_test is_lead paid b (is_lead b) hold (finish (malformed 1)) (λ l. leads refl a l) (λ l. fails refl a l))
 
-pub lead_first_fits : (front : ℕ → List ℕ → Front) → ((b : ℕ) (rest : List ℕ) → is_ascii b ≡ true → front b rest ≡ reads 1 (b ∷ [])) →
-    ((b : ℕ) (rest : List ℕ) → is_ascii b ≡ false → is_lead b ≡ false → front b rest ≡ malformed 1) → (b : ℕ) → Fits front (single_lead_may_hold is_lead) [] b (lead_first b)
-lead_first_fits front one none b =
-    fits_test front (single_lead_may_hold is_lead) [] b (is_ascii b) (finish (reads 1 (b ∷ []))) _
-    (λ a. (λ more. one b more a, omega arith, omega arith, refl))
-    (λ a. fits_test front (single_lead_may_hold is_lead) [] b (is_lead b) hold (finish (malformed 1))
-    (λ l. (omega arith, l))
-    (λ l. (λ more. none b more a l, omega arith, omega arith, refl)))
+pub lead_front_is : (scalars : ℕ → List ℕ) (rest : List ℕ) (pair : Front) (b : ℕ) → pair ≡ step_front scalars rest hold →
+    cond (is_ascii b) (reads 1 (b ∷ [])) (cond (is_lead b) pair (malformed 1)) ≡ step_front scalars rest (lead_first b)
+lead_front_is scalars rest pair b e = front_test scalars rest (is_ascii b) _ _ (finish (reads 1 (b ∷ []))) _ refl (front_test scalars rest (is_lead b) _ _ hold (finish (malformed 1)) e refl)

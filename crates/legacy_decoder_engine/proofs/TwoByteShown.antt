@@ -1,11 +1,13 @@
 -- What is shown of the codecs with forms of one and two bytes, from little that each shows of its own.
-use Rattle.std.proofs.Common.{◌≡◌, ℕ, ◌≤◌, List, [], ◌∷◌, length, Bool, true, cond, refl, inl, arith}
+use Rattle.std.proofs.Common.{◌≡◌, ℕ, ◌<◌, ◌≤◌, List, [], ◌∷◌, length, Bool, true, false, refl, inl, ap, arith}
 use Rattle.std.proofs.lemmas.Bool.{false≢true}
 use Rattle.std.specs.Char.{is_ascii}
 use Rattle.legacy_base.specs.Fronts.{Front}
 use Rattle.legacy_base.specs.Grammar.{Grammar}
-use Rattle.legacy_base.specs.States.{single_lead_may_hold}
-use Rattle.legacy_base.specs.Acts.{act_room, takes, full_room, full_room_in, release_room_in}
+use Rattle.legacy_base.specs.Indexes.{FlatIndexes}
+use Rattle.legacy_base.specs.TableChecks.{AreAccepted}
+use Rattle.legacy_base.specs.States.{single_lead_may_hold, may_hold}
+use Rattle.legacy_base.specs.Acts.{act_room, takes, full_room, full_room_in, release_room_in, has_short_ascii, has_reported}
 use Rattle.legacy_base.specs.Lengths.{LengthQuery, query_form, room}
 use Rattle.legacy_decoder_engine.specs.Steps.{Step}
 use Rattle.legacy_decoder_engine.specs.LeadMachines.{two_byte_step, two_byte_machine}
@@ -14,45 +16,56 @@ use Rattle.legacy_base.specs.States.{state_of}
 use Rattle.legacy_decoder_engine.specs.Settling.{Settles}
 use Rattle.legacy_decoder_engine.proofs.CallUnderWay.{same_rooms}
 use Rattle.legacy_decoder_engine.specs.Shown.{IsShown}
-use Rattle.legacy_decoder_engine.proofs.TwoByteMeets.{IsTwoByte, two_byte_meets}
-use Rattle.legacy_decoder_engine.proofs.TwoByteCosts.{trail_cost}
+use Rattle.legacy_decoder_engine.specs.LeadCodecs.{IsLeadCodec}
+use Rattle.legacy_decoder_engine.proofs.TwoByteMeets.{IsFirst, IsTwoByte, may_is, rests_is, ascii_first, lead_holds, first_settles, two_byte_meets}
+use Rattle.legacy_decoder_engine.proofs.TwoByteCosts.{first_cost, trail_cost}
 use Rattle.legacy_decoder_engine.proofs.RoomMoves.{first_room, held_room_is, narrow_read, Falls, query_slope, HasCosts, IsSloped, sloped_rooms}
 use Rattle.legacy_decoder_engine.proofs.SettledSteps.{trail_settles}
 
--- What such a codec shows of its rooms: what the first step and a pair write; that `paid` for each two bytes is
--- enough; and of the rooms of the three queries how they fall, and that they cover a byte and a lead.
-pub record HasTwoByteRooms (g : Grammar) (first : ℕ → Step) (scalars : ℕ → ℕ → List ℕ) (paid : ℕ) : Type 0 where
-  pub first_cost : (len : ℕ → ℕ) (narrow wide : ℕ) → IsWidth len narrow wide → (b : ℕ) → Cost len narrow (cond (is_ascii b) 1 (full_room narrow wide g)) length paid [] b (first b)
+-- What such a codec shows of its rooms: what a pair writes; that `paid` for each two bytes is enough; and of the rooms of the three queries how they fall, and that they cover a byte and a lead.
+pub record HasTwoByteRooms (g : Grammar) (scalars : ℕ → ℕ → List ℕ) (paid : ℕ) : Type 0 where
   pub pair_units : (len : ℕ → ℕ) (narrow wide : ℕ) → IsWidth len narrow wide → (lead b : ℕ) → units len (scalars lead b) ≤ full_room narrow wide g
   pub is_paid : (len : ℕ → ℕ) (narrow wide : ℕ) → IsWidth len narrow wide → full_room narrow wide g ≤ paid
   pub falls : (query : LengthQuery) → Falls (room query) g length (query_slope paid query)
   pub reads : (query : LengthQuery) (held : List ℕ) → full_room_in (query_form query) g ≤ room query (state_of g held) 1
   pub holds : (query : LengthQuery) (b : ℕ) (held : List ℕ) → release_room_in (query_form query) g ≤ room query (state_of g (b ∷ held)) 0
 
-module _ (g : Grammar) (front : ℕ → List ℕ → Front) (is_lead_byte : ℕ → Bool) (first : ℕ → Step) (scalars : ℕ → ℕ → List ℕ) (paid : ℕ)
-    (is : IsTwoByte g front is_lead_byte first scalars) (has_rooms : HasTwoByteRooms g first scalars paid) where
+module _ (g : Grammar) (front : ℕ → List ℕ → Front) (is_lead_byte : ℕ → Bool) (first : ℕ → Step) (scalars : ℕ → ℕ → List ℕ) (is : IsTwoByte g front is_lead_byte first scalars)
+    (paid : ℕ) (firsts : (b : ℕ) → IsFirst is_lead_byte paid b (first b)) where
+  pub short_ascii : has_short_ascii g ≡ true
+  short_ascii = ap (λ p. p.short_ascii) is.profile_is
+
+  pub unreported : has_reported g ≡ false
+  unreported = ap (λ p. p.reported) is.profile_is
+
   settles : (held : List ℕ) (b : ℕ) → single_lead_may_hold is_lead_byte held ≡ true → Settles g held b (two_byte_step first scalars held b)
-  settles [] b h = is.first_settles b
+  settles [] b h = first_settles g front is_lead_byte first scalars is paid firsts b
   settles (lead ∷ []) b h = trail_settles g (lead ∷ []) b (scalars lead b) (is.pair_one lead b)
   settles (lead ∷ c ∷ held) b h = absurd (false≢true h)
 
-  costs : HasCosts g (two_byte_machine g first scalars) length paid
-  costs = record { to_is = λ held b. refl; cost = λ len narrow wide w held b h r bytes byte. cost len narrow wide w held b (rw (is.may_is held) at h) }
+  may : (held : List ℕ) → may_hold g held ≡ single_lead_may_hold is_lead_byte held
+  may = may_is g front is_lead_byte first scalars is paid firsts
+
+  costs : HasTwoByteRooms g scalars paid → HasCosts g (two_byte_machine g first scalars) length paid
+  costs has_rooms = record { to_is = λ held b. refl; cost = λ len narrow wide w held b h r bytes byte. cost len narrow wide w held b (rw (may held) at h) }
     where
       cost : (len : ℕ → ℕ) (narrow wide : ℕ) → IsWidth len narrow wide → (held : List ℕ) (b : ℕ) → single_lead_may_hold is_lead_byte held ≡ true →
           Cost len narrow (act_room narrow wide (state_of g held) (takes b)) length paid held b (two_byte_step first scalars held b)
-      cost len narrow wide w [] b h = rw (is.unreported, is.short_ascii, first_room (is_ascii b) 1 (full_room narrow wide g)) (has_rooms.first_cost len narrow wide w b)
+      cost len narrow wide w [] b h =
+          let between = narrow_read narrow wide w.rises g in
+          rw (unreported, short_ascii, first_room (is_ascii b) 1 (full_room narrow wide g))
+          (first_cost len narrow wide w is_lead_byte paid (full_room narrow wide g) b (first b) between.0 (firsts b))
       cost len narrow wide w (lead ∷ []) b h =
           let between = narrow_read narrow wide w.rises g in
           let some = w.some in
           let twice = w.twice in
-          rw (is.unreported, is.short_ascii, held_room_is (is_ascii b) true 1 (full_room narrow wide g))
+          rw (unreported, short_ascii, held_room_is (is_ascii b) true 1 (full_room narrow wide g))
           (trail_cost len narrow wide w (full_room narrow wide g) paid lead b (scalars lead b) (has_rooms.pair_units len narrow wide w lead b) (between.0) (omega arith)
           (has_rooms.is_paid len narrow wide w))
       cost len narrow wide w (lead ∷ c ∷ held) b h = absurd (false≢true h)
 
-  sloped : IsSloped g (two_byte_machine g first scalars) length paid
-  sloped = record {
+  sloped : HasTwoByteRooms g scalars paid → IsSloped g (two_byte_machine g first scalars) length paid
+  sloped has_rooms = record {
     heavy = λ b held h. omega arith;
     falls = has_rooms.falls;
     writes = λ query held h r bytes. tt;
@@ -60,14 +73,34 @@ module _ (g : Grammar) (front : ℕ → List ℕ → Front) (is_lead_byte : ℕ 
     holds = λ query b held h. has_rooms.holds query b held;
   }
 
-  pub two_byte_shown : IsShown g (two_byte_machine g first scalars)
-  two_byte_shown = record {
-    meets = two_byte_meets g front is_lead_byte first scalars is;
-    rooms = λ query. sloped_rooms g (two_byte_machine g first scalars) length paid (two_byte_meets g front is_lead_byte first scalars is) costs sloped query;
-    settles = λ held b h r. settles held b (rw (is.may_is held) at h);
-    write_settles = λ held h. tt;
-    same_rooms = λ held b. same_rooms g;
-    same_marks = λ held b. refl;
-    ascii_first = λ s b a. is.ascii_first b a;
-    swallows = inl (is.unreported);
+  pub two_byte_shown : HasTwoByteRooms g scalars paid → IsShown g (two_byte_machine g first scalars)
+  two_byte_shown has_rooms =
+      let meets = two_byte_meets g front is_lead_byte first scalars is paid firsts in
+      record {
+        meets = meets;
+        rooms = λ query. sloped_rooms g (two_byte_machine g first scalars) length paid meets (costs has_rooms) (sloped has_rooms) query;
+        settles = λ held b h r. settles held b (rw (may held) at h);
+        write_settles = λ held h. tt;
+        same_rooms = λ held b. same_rooms g;
+        same_marks = λ held b. refl;
+        ascii_first = λ s. ascii_first is_lead_byte paid first firsts;
+        swallows = inl unreported;
+      }
+
+-- what the decoder asks, of a codec that shows this for each index
+module _ (grammar : FlatIndexes → Grammar) (front : FlatIndexes → ℕ → List ℕ → Front) (is_lead_byte : ℕ → Bool) (first : ℕ → Step) (scalars : FlatIndexes → ℕ → ℕ → List ℕ)
+    (is : (flat : FlatIndexes) → IsTwoByte (grammar flat) (front flat) is_lead_byte first (scalars flat)) (paid : ℕ) (firsts : (b : ℕ) → IsFirst is_lead_byte paid b (first b)) where
+  pub lead_codec : ((flat : FlatIndexes) → AreAccepted flat → HasTwoByteRooms (grammar flat) (scalars flat) paid) → ((b : ℕ) → is_lead_byte b ≡ true → b < 0x100) →
+      IsLeadCodec grammar is_lead_byte first scalars
+  lead_codec rooms bytes = record {
+    shown = λ flat accepted. two_byte_shown (grammar flat) (front flat) is_lead_byte first (scalars flat) (is flat) paid firsts (rooms flat accepted);
+    may_is = λ flat. may_is (grammar flat) (front flat) is_lead_byte first (scalars flat) (is flat) paid firsts;
+    rests_is = λ flat. rests_is (grammar flat) (front flat) is_lead_byte first (scalars flat) (is flat) paid firsts;
+    weight_is = λ flat held. ap (λ p. p.weight held) (is flat).profile_is;
+    short_ascii = λ flat. short_ascii (grammar flat) (front flat) is_lead_byte first (scalars flat) (is flat) paid firsts;
+    unreported = λ flat. unreported (grammar flat) (front flat) is_lead_byte first (scalars flat) (is flat) paid firsts;
+    neutral = λ flat. ap (λ p. p.begins_in_ascii) (is flat).profile_is;
+    ascii_first = ascii_first is_lead_byte paid first firsts;
+    lead_first = lead_holds is_lead_byte paid first firsts;
+    bytes = bytes;
   }

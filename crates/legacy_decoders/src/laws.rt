@@ -7,13 +7,11 @@ ghost use Rattle.legacy_base.specs.Laws.{AreReadByFronts, HasNoneOfNothing};
 /// to four bytes of the list, and is malformed or gives one scalar or two, which are Unicode scalar
 /// values where the tables passed their check. It holds of the seven codecs that are read front by
 /// front.
-#[tactic(auto, using(crate::proofs::GrammarLaws::read_by_fronts))]
 pub fn lists_are_read_by_fronts()
     ensures { AreReadByFronts }
 {}
 
 /// An empty list has no events, in any codec.
-#[tactic(auto, using(crate::proofs::GrammarLaws::none_of_nothing))]
 pub fn nothing_has_no_events()
     ensures { HasNoneOfNothing }
 {}

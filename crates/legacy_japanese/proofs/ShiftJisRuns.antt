@@ -9,7 +9,7 @@ use Rattle.legacy_base.proofs.Accepted.{jis0208-below}
 use Rattle.legacy_decoder_engine.specs.{Ahead.Runs, Costs.IsNarrowIndex}
 use Rattle.legacy_decoder_engine.proofs.{LeadHeld.pair, PairPlaces.found, RunForms.single_runs, Widths.idx_below}
 use Rattle.legacy_japanese.specs.ShiftJisMachine.{shift_jis_first, shift_jis_pair_scalars}
-use Rattle.legacy_japanese.specs.ShiftJisShown.{shift_jis_shown, shift_jis_codec}
+use Rattle.legacy_japanese.specs.ShiftJisShown.{shift_jis_codec}
 
 private_use_below : (p c : ℕ) → is_in_range 8836 10715 p ≡ true → (0xE000 + (p - 8836)) ∷ [] ≡ c ∷ [] → c < 0x1_0000
 private_use_below p c t e =
@@ -42,4 +42,4 @@ module _ (tables : AcceptedIndexes) where
   katakana_form b c low high e =
       let tests = katakana_tests b low high in
       let scalar : IsScalar c = grind (arith, nat_tests) in
-      (omega arith, single_runs (shift_jis_shown tables.flat.jis0208 (jis0208-below tables.flat tables.accepted)) b c (omega arith) scalar refl (rw (tests.0, tests.1, tests.2, e) refl))
+      (omega arith, single_runs (shift_jis_codec.shown tables.flat tables.accepted) b c (omega arith) scalar refl (rw (tests.0, tests.1, tests.2, e) refl))

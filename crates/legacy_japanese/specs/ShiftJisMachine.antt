@@ -1,13 +1,11 @@
--- The machine of the Shift_JIS decoder, byte by byte.
+-- The first step of the Shift_JIS decoder, and the scalars of its pairs.
 use Rattle.std.specs.Prelude.{ℕ, ◌+◌, ◌-◌, List, [], ◌∷◌, ◌||◌, ◌==◌, if◌then◌else◌}
 use Rattle.std.specs.Option.{option_map_or}
 use Rattle.std.specs.Int.{is_in_range}
 use Rattle.std.specs.Char.{is_ascii}
 use Rattle.legacy_base.specs.Fronts.{reads, malformed}
 use Rattle.legacy_base.specs.ShiftJis.{is_shift_jis_lead, shift_jis_pointer, shift_jis_scalars}
-use Rattle.legacy_base.specs.Grammar.{shift_jis}
-use Rattle.legacy_decoder_engine.specs.LeadMachines.{two_byte_machine}
-use Rattle.legacy_decoder_engine.specs.Steps.{Step, hold, finish, DecoderMachine}
+use Rattle.legacy_decoder_engine.specs.Steps.{Step, hold, finish}
 
 abbrev pub shift_jis_first : ℕ → Step
 shift_jis_first b =
@@ -18,6 +16,3 @@ shift_jis_first b =
 
 abbrev pub shift_jis_pair_scalars : List ℕ → ℕ → ℕ → List ℕ
 shift_jis_pair_scalars jis0208 lead trail = option_map_or (shift_jis_scalars jis0208) (shift_jis_pointer lead trail) []
-
-abbrev pub shift_jis_machine : List ℕ → DecoderMachine
-shift_jis_machine jis0208 = two_byte_machine (shift_jis jis0208) shift_jis_first (shift_jis_pair_scalars jis0208)

@@ -1,4 +1,3 @@
 -- How the decoders work inside: nothing here has to be believed. What they promise is said by legacy_base.
-pub mod EucKrMachine
 pub mod EucKrPlaces
 pub mod EucKrShown

@@ -18,7 +18,6 @@ use Rattle.legacy_decoder_engine.specs.Feeding.{Took}
 use Rattle.legacy_miscellaneous.specs.Utf16Machine.{utf16_step, utf16_pending}
 use Rattle.legacy_miscellaneous.specs.Utf16Decoder.{first_byte, second_byte, held_bytes}
 use Rattle.legacy_decoder_engine.proofs.Feeding as moves
-use Rattle.legacy_miscellaneous.proofs.Utf16Meets.{utf16_meets}
 use Rattle.legacy_miscellaneous.proofs.Utf16Shown.{utf16_shown}
 
 -- the two bytes of a unit make the unit
@@ -83,19 +82,12 @@ module _ (be : Bool) where
   reports h r some = moves.reports_all (utf16_shown be) (held_bytes be h) (may h) (bytes h) r some
 
   -- there is something to report exactly where something is held back
-  pub events-none : events_of (utf16 be) [] ≡ []
-  events-none = moves.ends_none (utf16_shown be) [] refl (All-nil IsByte) refl refl
+  pub ends_none : events_of (utf16 be) [] ≡ []
+  ends_none = moves.ends_none (utf16_shown be) [] refl (All-nil IsByte) refl refl
 
-  some_rest : (h : Held) → rests (utf16 be) (held_bytes be h) ≡ true → held_bytes be h ≢ [] → events_of (utf16 be) (held_bytes be h) ≢ []
-  some_rest h r n = moves.ends_some (utf16_shown be) (held_bytes be h) (may h) (bytes h) r n
-
-  pub events-some : (h : Held) → (h ≡ Nothing → ⊥) → events_of (utf16 be) (held_bytes be h) ≢ []
-  events-some Nothing n = absurd (n refl)
-  events-some (Odd odd) n = some_rest (Odd odd) refl (λ e. cc)
-  events-some (High high) n = some_rest (High high) (rw (unit_of-bytes be high.unit) high.is_high) (λ e. cc)
-  events-some (HighOdd high odd) n = some_rest (HighOdd high odd) refl (λ e. cc)
-  events-some (Pending p) n = λ e.
-      let w = (utf16_meets be).writes (held_bytes be (Pending p)) (may (Pending p)) in
-      let w' = rw (pending_is p) at w in
-      let g = w'.1.goes_on [] in
-      cc
+  pub ends_some : (h : Held) → (h ≡ Nothing → ⊥) → events_of (utf16 be) (held_bytes be h) ≢ []
+  ends_some h n = moves.ends_held (utf16_shown be) (held_bytes be h) (may h) (bytes h) (some h n)
+    where
+      some : (h : Held) → (h ≡ Nothing → ⊥) → held_bytes be h ≢ []
+      some Nothing n = absurd (n refl)
+      some _ n = λ e. cc

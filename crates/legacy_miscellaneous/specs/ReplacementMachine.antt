@@ -1,5 +1,5 @@
 -- The machine of the replacement decoder, byte by byte.
-use Rattle.std.specs.Prelude.{◌-◌, [], Bool, true, if◌then◌else◌}
+use Rattle.std.specs.Prelude.{[], Bool, true, if◌then◌else◌}
 use Rattle.legacy_base.specs.Fronts.{reads, malformed}
 use Rattle.legacy_base.specs.Grammar.{replacement}
 use Rattle.legacy_decoder_engine.specs.Steps.{no_pending}

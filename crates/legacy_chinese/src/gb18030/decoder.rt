@@ -265,10 +265,12 @@ impl DecoderMoves for Gb18030Decoder<'_> {
     }
 
     #[inline]
+    #[tactic(auto, using(crate::proofs::Gb18030Held::ends_none, crate::proofs::Gb18030Held::ends_some))]
     fn has_rest(&self) -> bool {
         !matches!(self.held, Held::Nothing)
     }
 
+    #[tactic(auto, using(crate::proofs::Gb18030Held::ends_none, crate::proofs::Gb18030Held::reports))]
     fn report(&mut self) -> Option<(u8, u8)> {
         let length = held_length(self.held);
         if length == 0 {

@@ -1,11 +1,11 @@
 use Rattle.std.proofs.Common.{refl}
 use Rattle.legacy_miscellaneous.specs.declared.utf16.held.Held.TheVariants.{Odd, High, HighOdd}
-use Rattle.legacy_miscellaneous.proofs.Utf16Held.{events-none, reports}
+use Rattle.legacy_miscellaneous.proofs.Utf16Held.{ends_none, reports}
 use Rattle.legacy_miscellaneous.proofs.utf16.decoder.Utf16DecoderDecoderMoves.report.Goals as goal
 use Rattle.legacy_miscellaneous.proofs.utf16.decoder.Utf16DecoderDecoderMoves.report.Goals.{in-Odd, in-High, in-HighOdd}
 
 pub returns-in-Nothing : goal.returns-in-Nothing
-returns-in-Nothing c = rw c.in-Nothing.is (events-none c.args.self.now.big_endian)
+returns-in-Nothing c = rw c.in-Nothing.is (ends_none c.args.self.now.big_endian)
 
 pub returns : goal.returns
 returns c = elim c.match-self.branch [
