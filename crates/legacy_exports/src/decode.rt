@@ -12,9 +12,10 @@ use legacy_decoders::{
     ShiftJisDecoder, SingleByteDecoder, UserDefinedDecoder, Utf16Decoder,
 };
 
-/// Decodes by the codec's decoder, as `decode_times` does, or answers `None` where the indexes are refused.
-// That loop is inlined here: so a decoder's loop is compiled where its tables are, and need not read from
-// memory again where they lie.
+// The loop of `decode_times` is inlined here: so a decoder's loop is compiled where its tables are, and
+// need not read from memory again where they lie.
+/// Decodes by the codec's decoder, as `decode_times` does, or answers `None` where the indexes are
+/// refused.
 pub fn decode<U: CodeUnit>(
     codec: Codec,
     indexes: &IndexSlices,

@@ -4,7 +4,8 @@ use Rattle.std.proofs.lemmas.Bool.{and_parts, or_cases, eqb-true, leb-true, le-l
 use Rattle.std.proofs.lemmas.Option.{cond_some}
 use Rattle.legacy_index_files.specs.declared.index_line.LineKind.{LineKind}
 use Rattle.legacy_index_files.specs.declared.index_line.LineKind.TheVariants.{Skipped, Entry}
-use Rattle.legacy_index_files.specs.IndexLine.{run_of, behind_run, is_blank, past_blanks, says_nothing, is_digit, digits_at, past_digits, number_behind, number_at, past_mark, value_digits, entry_with, entry_behind, entry_at, kind_of_entry, line_kind}
+use Rattle.legacy_index_files.specs.IndexLine.{run_of, behind_run, is_blank, past_blanks, says_nothing, is_digit, digits_at, past_digits, number_behind, number_at, past_mark, value_digits}
+use Rattle.legacy_index_files.specs.IndexLine.{entry_with, entry_behind, entry_at, kind_of_entry, line_kind}
 use Rattle.legacy_index_files.specs.IndexGrammar.{Passes, EndsRun, IsNumber, HasValue, HasEntry, IsEntryLine, SaysNothing, IsSkippedLine, IsOfKind}
 
 -- ---- tests

@@ -50,7 +50,8 @@ hexadecimal_4 n h = elim (cases_lt n 0x10) [
     | inl b ↦ rw (digits_are 1 n (omega arith) (a, omega arith), zero_glyph (n / 0x1000) (omega arith), zero_glyph (n / 0x100) (omega arith)) refl
     | inr b ↦ elim (cases_lt n 0x1000) [
       | inl d ↦ let e : n / 16 / 16 ≡ n / 0x100 = omega arith in rw (digits_are 2 n (omega arith) (omega arith, (omega arith, omega arith)), zero_glyph (n / 0x1000) (omega arith), e) refl
-      | inr d ↦ let e : n / 16 / 16 ≡ n / 0x100 = omega arith in let f : n / 16 / 16 / 16 ≡ n / 0x1000 = omega arith in rw (digits_are 3 n (omega arith) (omega arith, (omega arith, (omega arith, omega arith))), f, e) refl
+      | inr d ↦ let e : n / 16 / 16 ≡ n / 0x100 = omega arith in let f : n / 16 / 16 / 16 ≡ n / 0x1000 = omega arith in
+          rw (digits_are 3 n (omega arith) (omega arith, (omega arith, (omega arith, omega arith))), f, e) refl
     ]
   ]
 ]
