@@ -175,7 +175,8 @@ fn read(tables: &Tables, held: Held, byte: u8) -> (Fed, Held)
 #[inline]
 fn room_of(held: Held, next: Move) -> Room
     ensures { (index : List ℕ) (ranges : List (ℕ × ℕ)) (form : EncodingForm) →
-        room_units form result ≡ move_units form (state_of (gb18030 index ranges) (held_bytes held)) next }
+        room_units form result
+        ≡ move_units form (state_of (gb18030 index ranges) (held_bytes held)) next }
 {
     match next {
         Move::Read(byte) if byte < 0x80 && matches!(held, Held::Nothing) => Room::Unit,
