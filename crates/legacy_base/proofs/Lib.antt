@@ -12,5 +12,6 @@ pub mod TableLoops
 pub mod Accepted
 pub mod AcceptedTable
 pub mod Ascii
+pub mod Texts
 pub mod FrontLaws
 pub mod GrammarLaws

@@ -8,6 +8,8 @@ pub mod Fronts
 pub mod Indexes
 pub mod Formulas
 pub mod Profile
+pub mod EncodeEvents
+pub mod EncoderProfile
 pub mod SingleByte
 pub mod UserDefined
 pub mod Replacement
@@ -23,8 +25,13 @@ pub mod States
 pub mod Acts
 pub mod Lengths
 pub mod Calls
+pub mod Texts
+pub mod Encoders
+pub mod EncoderCalls
 pub mod Cursor
 pub mod Destinations
+pub mod NextScalars
+pub mod TextSources
 pub mod Latin1
 pub mod TableChecks
 pub mod AcceptedTables

@@ -1,8 +1,11 @@
--- The forms of x-user-defined (WHATWG Encoding Standard, "x-user-defined decoder").
-use Rattle.std.specs.Prelude.{ℕ, ◌+◌, ◌-◌, List, [], ◌∷◌, true, false, if◌then◌else◌}
+-- The forms and the codes of x-user-defined (WHATWG Encoding Standard, "x-user-defined decoder" and "x-user-defined
+-- encoder").
+use Rattle.std.specs.Prelude.{ℕ, ◌+◌, ◌-◌, List, [], ◌∷◌, Option, Some, None, true, false, if◌then◌else◌}
 use Rattle.std.specs.Char.{is_ascii}
+use Rattle.std.specs.Int.{is_in_range}
 use Rattle.legacy_base.specs.Fronts.{Front, reads, cut}
 use Rattle.legacy_base.specs.Profile.{Profile, narrow_acts, is_empty, always_rests, weightless}
+use Rattle.legacy_base.specs.EncoderProfile.{EncoderProfile, plain_encoder}
 use Rattle.legacy_base.specs.Formulas.{to_come, constant, ◌⊠◌}
 
 -- ASCII is itself, and the bytes from 0x80 on are U+F780 to U+F7FF
@@ -11,7 +14,7 @@ user_defined_front b rest =
     if is_ascii b then reads 1 (b ∷ [])
     else reads 1 ((0xF780 + (b - 0x80)) ∷ [])
 
--- the codec
+-- the decoder
 abbrev pub user_defined_profile : Profile
 user_defined_profile = record {
   events = cut user_defined_front 0 0;
@@ -27,3 +30,16 @@ user_defined_profile = record {
   utf8_length = constant 3 ⊠ to_come;
   utf8_length_without_replacement = constant 3 ⊠ to_come;
 }
+
+-- ---- encoding
+
+-- the code of a scalar: ASCII is itself, and U+F780 to U+F7FF are the bytes from 0x80 on
+unfoldable pub user_defined_code : ℕ → Option (List ℕ)
+user_defined_code c =
+    if is_ascii c then Some (c ∷ [])
+    else if is_in_range 0xF780 0xF7FF c then Some ((0x80 + (c - 0xF780)) ∷ [])
+    else None
+
+-- the encoder
+abbrev pub user_defined_encoder : EncoderProfile
+user_defined_encoder = plain_encoder user_defined_code 1 (λ n. n) (λ n. n)

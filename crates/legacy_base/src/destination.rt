@@ -5,25 +5,8 @@ ghost use Rattle.std.specs.Borrow.{GName};
 ghost use Rattle.legacy_base.specs.EncodingForm.{EncodingForm, Utf8, Utf16, code_units, unit_count};
 ghost use Rattle.legacy_base.specs.EncodingForm.{bmp_room, wide_room};
 
+use crate::blocks::ascii_count;
 use std::simd::prelude::*;
-
-/// How many bytes at the front of a block are ASCII.
-// Inlined always: a call would pass the vector through memory, once for each block.
-#[inline(always)]
-#[tactic(auto, using(crate::proofs::Ascii::count_steps))]
-fn ascii_count(block: u8x16) -> usize
-    ensures most { result ≤ 16 }
-    ensures ascii { IsAscii (take result block) }
-    ensures stops { result < 16 → 128 ≤ slice_index block result }
-{
-    let past = block.simd_ge(u8x16::splat(0x80)).to_bitmask();
-    if past == 0 {
-        return 16;
-    }
-    // `min` changes nothing, but tells the compiler that the count is below 16: without it the loop
-    // over blocks waits for the count of each.
-    (past.trailing_zeros() as usize).min(15)
-}
 
 /// An output of UTF-8 bytes or of UTF-16 code units, one of the two for each type.
 pub trait Destination {

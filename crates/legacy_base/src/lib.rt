@@ -1,17 +1,23 @@
 //! What all legacy codecs of the WHATWG Encoding Standard stand on: results and events, cursors,
-//! destinations, and the trait of the decoders with the law that each of their calls keeps.
+//! sources, destinations, and the traits of the decoders and of the encoders with the law that each of
+//! their calls keeps.
 #![tactic(auto)]
 
+mod blocks;
 mod decoder;
 mod destination;
+mod encoder;
 mod results;
 mod single_byte_table;
 mod source;
 mod tables;
+mod text_source;
 
 pub use decoder::RawDecoder;
 pub use destination::{Destination, Utf8Destination, Utf16Destination};
-pub use results::{DecodeEvent, DecoderResult};
+pub use encoder::RawEncoder;
+pub use results::{DecodeEvent, DecoderResult, EncodeEvent, EncoderResult};
 pub use single_byte_table::SingleByteTable;
 pub use source::ByteSource;
 pub use tables::{IndexName, Indexes, TableError, Tables};
+pub use text_source::{Next, Source, Utf8Source, Utf16Source};

@@ -1,4 +1,4 @@
-//! What a call of a decoder answers, and what a decoder finds in its input.
+//! What a call of a decoder or an encoder answers, and what it finds in its input.
 
 /// How a call of a decoder ended (Encoding Standard, "process an item": continue, and error).
 #[derive(Clone, Copy, Debug, PartialEq, Eq)]
@@ -25,4 +25,24 @@ pub enum DecodeEvent {
         /// How many bytes it has.
         length: usize,
     },
+}
+
+/// How a call of an encoder ended (Encoding Standard, "process an item": continue, and error).
+#[derive(Clone, Copy, Debug, PartialEq, Eq)]
+pub enum EncoderResult {
+    /// The whole input was read, and its bytes were written; where it was the last, its end too.
+    InputEmpty,
+    /// The encoder's next act needs more room than the output has left.
+    OutputFull,
+    /// The scalar was read, and the encoding has no bytes for it.
+    Unmappable(char),
+}
+
+/// One thing that encoding gives.
+#[derive(Clone, Copy, Debug, PartialEq, Eq)]
+pub enum EncodeEvent {
+    /// A byte.
+    Byte(u8),
+    /// A scalar value for which the encoding has no bytes.
+    Unmappable(char),
 }

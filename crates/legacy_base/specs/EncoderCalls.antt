@@ -1,0 +1,62 @@
+-- The law of one call of an encoder.
+use Rattle.std.specs.Prelude.{◌≡◌, ◌≢◌, ℕ, ◌+◌, ◌-◌, ◌<◌, ◌≤◌, List, [], ◌∷◌, ◌++◌, length, take, slice_index, map, Bool, false, IsTrue, Some}
+use Rattle.legacy_base.specs.declared.results.EncodeEvent.{EncodeEvent}
+use Rattle.legacy_base.specs.declared.results.EncodeEvent.TheVariants.{Byte}
+use Rattle.legacy_base.specs.declared.results.EncodeEvent.TheVariants as events
+use Rattle.legacy_base.specs.declared.results.EncoderResult.{EncoderResult}
+use Rattle.legacy_base.specs.declared.results.EncoderResult.TheVariants.{InputEmpty, OutputFull, Unmappable}
+use Rattle.legacy_base.specs.EncodingForm.{EncodingForm, total_unit_count}
+use Rattle.legacy_base.specs.EncodeEvents.{byte_count, code_length}
+use Rattle.legacy_base.specs.Encoders.{EncoderState, code, encoded, end_bytes, scalar_room, encoder_need, encoder_answer, encoder_room}
+
+-- what an answer reports
+abbrev pub reported : EncoderResult → List EncodeEvent
+reported InputEmpty = []
+reported OutputFull = []
+reported (Unmappable c) = events.Unmappable c ∷ []
+
+-- the next act needs more room than is free
+abbrev pub EncoderLacksRoom : EncoderState → List ℕ → Bool → ℕ → Type 0
+EncoderLacksRoom state unread last free = free < encoder_need state unread last
+
+-- how many bytes a text and then the scalar c give, but for the own bytes of c: those before them, or before its report
+abbrev pub bytes_before : EncoderState → List ℕ → ℕ → ℕ
+bytes_before state text c = byte_count (encoded state (text ++ c ∷ []) false) - code_length (code state c)
+
+-- a text goes on behind the call
+abbrev pub GoesOn : Bool → EncoderResult → Type 0
+GoesOn last InputEmpty = last ≡ false
+GoesOn last OutputFull = ⊥
+GoesOn last (Unmappable c) = Unit {0}
+
+-- From the state `before`, with the scalars `source` and so many bytes free, an encoder gave this answer, came to the
+-- state `after`, left the scalars `left` and wrote these bytes.
+pub record EncoderCall (before : EncoderState) (source : List ℕ) (last : Bool) (free : ℕ) (after : EncoderState) (answer : EncoderResult) (left bytes : List ℕ) : Type 0 where
+  -- the scalars that were read, and those that are left, are the source
+  pub taken : List ℕ
+  pub cut : source ≡ taken ++ left
+  -- no more is written than is free
+  pub fits : length bytes ≤ free
+  -- The events of the source and whatever comes behind it, ended or not, are what was written and reported, and then
+  -- those of what is left. On a last call nothing but the end comes behind.
+  pub events : (more : List ℕ) (ended : Bool) → (IsTrue last → (more ≡ []) × IsTrue ended) →
+      encoded before (source ++ more) ended ≡ map Byte bytes ++ (reported answer ++ encoded after (left ++ more) ended)
+  -- at InputEmpty all is read; on a last call the end has nothing left to write
+  pub input_empty : answer ≡ InputEmpty → (left ≡ []) × (IsTrue last → end_bytes after ≡ [])
+  -- at OutputFull the next act lacks its room
+  pub output_full : answer ≡ OutputFull → EncoderLacksRoom after left last (free - length bytes)
+  -- where the next act lacks its room as the call begins, the answer is OutputFull and nothing was done
+  pub full_at_once : EncoderLacksRoom before source last free → (answer ≡ OutputFull) × (left ≡ source) × (bytes ≡ []) × (after ≡ before)
+  -- before the own bytes, or the report, of each scalar that was read its room was free
+  pub had_room : (k : ℕ) → k < length taken →
+      bytes_before before (take k taken) (slice_index taken k) + scalar_room before (slice_index taken k) ≤ free
+  -- what was written lowers the room that is still needed
+  pub lowers : (form : EncodingForm) (more : ℕ) → GoesOn last answer →
+      encoder_room form after (total_unit_count form left + more) + length bytes ≤ encoder_room form before (total_unit_count form source + more)
+  -- at the end of the text it fits into the room that was needed
+  pub ends : (form : EncodingForm) → answer ≡ InputEmpty → IsTrue last →
+      length bytes ≤ encoder_room form before (total_unit_count form source)
+  -- with the room free that the source needs, the output is never full
+  pub suffices : (form : EncodingForm) → encoder_room form before (total_unit_count form source) ≤ free → answer ≢ OutputFull
+  -- with a length free that a query answered for at least so many code units, the output is never full
+  pub enough : (form : EncodingForm) (n k : ℕ) → total_unit_count form source ≤ n → encoder_answer form before n ≡ Some k → k ≤ free → answer ≢ OutputFull

@@ -1,0 +1,71 @@
+-- The encoders: what each gives of a text, and the numbers by which its outputs are sized.
+use Rattle.std.specs.Prelude.{ℕ, ◌-◌, List, [], ◌∷◌, length, Option, Bool, true, false, not}
+use Rattle.legacy_base.specs.declared.results.EncodeEvent.{EncodeEvent}
+use Rattle.legacy_base.specs.EncodingForm.{EncodingForm}
+use Rattle.legacy_base.specs.EncoderProfile.{EncoderProfile, EncoderMode, in_ascii}
+use Rattle.legacy_base.specs.Lengths.{Formula, number, value, answer}
+use Rattle.legacy_base.specs.Profile.{is_empty}
+use Rattle.legacy_base.specs.SingleByte.{single_byte_encoder}
+use Rattle.legacy_base.specs.UserDefined.{user_defined_encoder}
+
+-- A codec with the lists of both its directions.
+pub data Codec : Type 0 where
+  single_byte : (table : List ℕ) → Codec
+  user_defined : Codec
+
+-- the encoder of a codec
+abbrev pub encoder_profile : Codec → EncoderProfile
+encoder_profile (single_byte table) = single_byte_encoder table
+encoder_profile user_defined = user_defined_encoder
+
+-- ---- an encoder between two calls
+
+-- what an encoder is between two calls: its codec, and the mode that it is in
+pub record EncoderState : Type 0 where
+  pub codec : Codec
+  pub mode : EncoderMode
+
+-- an encoder before its first scalar
+abbrev pub new_encoder : Codec → EncoderState
+new_encoder codec = record { codec = codec; mode = in_ascii }
+
+-- the bytes of a scalar, or none
+abbrev pub code : EncoderState → ℕ → Option (List ℕ)
+code state c = (encoder_profile state.codec).code c
+
+-- the events of the scalars of a text, which ends with them or goes on
+abbrev pub encoded : EncoderState → List ℕ → Bool → List EncodeEvent
+encoded state scalars ended = (encoder_profile state.codec).events state.mode scalars ended
+
+-- what the end of a text writes
+abbrev pub end_bytes : EncoderState → List ℕ
+end_bytes state = (encoder_profile state.codec).end_bytes state.mode
+
+-- the end of a text writes something
+abbrev pub is_pending : EncoderState → Bool
+is_pending state = not (is_empty (end_bytes state))
+
+-- ---- room, and the length queries
+
+-- the free bytes that a scalar needs, mapped or not
+abbrev pub scalar_room : EncoderState → ℕ → ℕ
+scalar_room state c = (encoder_profile state.codec).scalar_room c
+
+-- The free bytes that the next act needs, and 0 where there is none: the next of the unread scalars, with an escape
+-- before it or not, or the end of the last call.
+abbrev pub encoder_need : EncoderState → List ℕ → Bool → ℕ
+encoder_need state (c ∷ unread) last = scalar_room state c
+encoder_need state [] true = length (end_bytes state)
+encoder_need state [] false = 0
+
+-- the formula of the length query for a text's form, for n more code units
+abbrev pub encoder_formula : EncodingForm → EncoderState → ℕ → Formula
+encoder_formula form state n = (encoder_profile state.codec).formula form (number n)
+
+-- what a length query answers, for n more code units
+abbrev pub encoder_answer : EncodingForm → EncoderState → ℕ → Option ℕ
+encoder_answer form state n = answer (encoder_formula form state n)
+
+-- the room that n more code units can still take, over numbers without a limit
+abbrev pub encoder_room : EncodingForm → EncoderState → ℕ → ℕ
+encoder_room form state n = value (encoder_formula form state n) - (encoder_profile state.codec).surplus form state.mode n

@@ -1,0 +1,3 @@
+-- How the encoders work inside. Nobody has to believe it.
+pub mod Moves
+pub mod Underway

@@ -1,0 +1,96 @@
+//! The one loop of all encoders, over the small moves that each encoder makes.
+ghost use Rattle.std.specs.Prelude.{◌≡◌, ◌+◌, ◌<◌, ◌≤◌, [], ◌∷◌, ◌++◌, length, take};
+ghost use Rattle.legacy_base.specs.EncodingForm.{total_unit_count};
+ghost use Rattle.legacy_base.specs.EncoderCalls.{EncoderCall};
+ghost use Rattle.legacy_encoder_engine.specs.Moves.{move_bytes};
+
+use crate::machine::{Machine, Move};
+use legacy_base::{EncoderResult, Source};
+
+/// Writes a byte at a place.
+#[inline]
+fn put(dst: &mut [u8], at: usize, byte: u8)
+    requires { at < length dst.old }
+    ensures { take (at + 1) dst.new ≡ take at dst.old ++ byte ∷ [] }
+{
+    dst[at] = byte;
+}
+
+/// Writes the bytes of a move from a place on, and answers where they end.
+#[inline]
+pub(crate) fn put_move(dst: &mut [u8], at: usize, step: Move) -> usize
+    requires { at + length (move_bytes step) ≤ length dst.old }
+    ensures bytes { take result dst.new ≡ take at dst.old ++ move_bytes step }
+    ensures end { result ≡ at + length (move_bytes step) }
+{
+    match step {
+        Move::One(a) => {
+            put(dst, at, a);
+            at + 1
+        }
+        Move::Two(a, b) => {
+            put(dst, at, a);
+            put(dst, at + 1, b);
+            at + 2
+        }
+        Move::Four(a, b, c, d) => {
+            put(dst, at, a);
+            put(dst, at + 1, b);
+            put(dst, at + 2, c);
+            put(dst, at + 3, d);
+            at + 4
+        }
+        Move::Escape(a, b) => {
+            put(dst, at, 0x1B);
+            put(dst, at + 1, a);
+            put(dst, at + 2, b);
+            at + 3
+        }
+        Move::Unmappable(_) => at,
+    }
+}
+
+/// One call of an encoder: lets it make its moves until the source is read, room is lacking or a scalar
+/// has no bytes. Answers which of the three, and how many bytes were written, which stand at the front
+/// of `dst`. With `last` nothing comes behind the source, and the end is written. Runs of common scalars
+/// are read ahead of the moves.
+#[inline]
+pub fn drive<E: Machine, S: Source>(
+    encoder: &mut E,
+    src: &mut S,
+    dst: &mut [u8],
+    last: bool,
+) -> (EncoderResult, usize)
+    ensures call { EncoderCall (E.state encoder.old) (S.left src.old) last (length dst.old)
+        (E.state encoder.new) result.0 (S.left src.new) (take result.1 dst.new) }
+    ensures written { result.1 ≤ length dst.new }
+    ensures passed { S.passed src.new + total_unit_count S.form (S.left src.new)
+        ≡ S.passed src.old + total_unit_count S.form (S.left src.old) }
+{
+    let mut written = 0;
+    loop {
+        written = encoder.read_ahead(src, dst, written);
+        let Some(c) = src.peek() else { break };
+        if dst.len() - written < encoder.room(c) {
+            return (EncoderResult::OutputFull, written);
+        }
+        let step = encoder.next(c);
+        if let Move::Unmappable(reported) = step {
+            src.advance();
+            return (EncoderResult::Unmappable(reported), written);
+        }
+        written = put_move(dst, written, step);
+        if let Move::Escape(_, _) = step {
+            continue;
+        }
+        src.advance();
+    }
+    if last && encoder.is_pending() {
+        if dst.len() - written < 3 {
+            return (EncoderResult::OutputFull, written);
+        }
+        encoder.finish();
+        written = put_move(dst, written, Move::Escape(0x28, 0x42));
+    }
+    (EncoderResult::InputEmpty, written)
+}
