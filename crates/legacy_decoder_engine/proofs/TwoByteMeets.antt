@@ -2,6 +2,7 @@
 use Rattle.std.proofs.Common.{◌≡◌, ◌∙◌, ℕ, ◌<◌, ◌≤◌, List, [], ◌∷◌, length, Bool, true, false, cond, refl, ap, arith}
 use Rattle.std.proofs.lemmas.Bool.{false≢true}
 use Rattle.std.proofs.lemmas.Bool.Decides.{nat_tests}
+use Rattle.std.specs.Int.{is_in_range}
 use Rattle.std.specs.Char.{is_ascii}
 use Rattle.legacy_base.specs.Fronts.{Front, reads, malformed, reads_or, trail_rule, cut}
 use Rattle.legacy_base.specs.Profile.{Profile, always_rests}
@@ -169,10 +170,13 @@ pub lead_front_is : (is_lead_byte : ℕ → Bool) (scalars : ℕ → List ℕ) (
 lead_front_is is_lead_byte scalars rest pair b e =
     front_test scalars rest (is_ascii b) _ _ (finish (reads 1 (b ∷ []))) _ refl (front_test scalars rest (is_lead_byte b) _ _ hold (finish (malformed 1)) e refl)
 
+pub range-past : (low high : ℕ) → 0x80 ≤ low → high < 0x100 → (b : ℕ) → is_in_range low high b ≡ true → IsPastAscii b
+range-past low high from to b h = (grind (arith, nat_tests), grind (arith, nat_tests))
+
 -- ---- codecs whose leads are 81 to FE
 
 pub is_lead-past : (b : ℕ) → is_lead b ≡ true → IsPastAscii b
-is_lead-past b h = (grind (arith, nat_tests), grind (arith, nat_tests))
+is_lead-past = range-past 0x81 0xFE (omega arith) (omega arith)
 
 pub is_lead-in : (b : ℕ) → 0x81 ≤ b → b ≤ 0xFE → is_lead b ≡ true
 is_lead-in b low high = grind (arith, nat_tests)
