@@ -7,16 +7,19 @@ use Rattle.legacy_base.specs.Lengths.{Formula, number, value, answer}
 use Rattle.legacy_base.specs.Profile.{is_empty}
 use Rattle.legacy_base.specs.SingleByte.{single_byte_encoder}
 use Rattle.legacy_base.specs.UserDefined.{user_defined_encoder}
+use Rattle.legacy_base.specs.Iso2022Jp.{iso_2022_jp_encoder}
 
 -- A codec with the lists of both its directions.
 pub data Codec : Type 0 where
   single_byte : (table : List ℕ) → Codec
   user_defined : Codec
+  iso_2022_jp : (jis0208 katakana_index : List ℕ) → Codec
 
 -- the encoder of a codec
 abbrev pub encoder_profile : Codec → EncoderProfile
 encoder_profile (single_byte table) = single_byte_encoder table
 encoder_profile user_defined = user_defined_encoder
+encoder_profile (iso_2022_jp jis0208 katakana_index) = iso_2022_jp_encoder jis0208 katakana_index
 
 -- ---- an encoder between two calls
 

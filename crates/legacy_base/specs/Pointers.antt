@@ -66,6 +66,10 @@ is_jis0208_pointer p = nat_lt p 8836
 abbrev pub euc_jp_pointer_of : List ℕ → ℕ → Option ℕ
 euc_jp_pointer_of jis0208 c = first_pointer is_jis0208_pointer jis0208 c
 
+-- the minus sign is looked up in jis0208 as the full-width hyphen-minus
+abbrev pub minus_as_hyphen : ℕ → ℕ
+minus_as_hyphen c = if c == 0x2212 then 0xFF0D else c
+
 -- the pointer of a scalar in GB18030's forms of two bytes ("index pointer")
 abbrev pub gb18030_pointer_of : List ℕ → ℕ → Option ℕ
 gb18030_pointer_of index c = first_pointer every_pointer index c
