@@ -8,6 +8,7 @@ pub mod Rooms
 pub mod Enough
 pub mod Iso2022JpParts
 pub mod Iso2022JpFronts
+pub mod Iso2022JpEncoding
 pub mod TableLoops
 pub mod FirstPlaces
 pub mod Pointers
