@@ -1,5 +1,6 @@
 -- Laws of runs.
 pub mod KeptAsWritten
+pub mod Places
 pub mod RunEvents
 pub mod RunSteps
 pub mod QueriedLengths

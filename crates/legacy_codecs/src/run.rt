@@ -3,8 +3,8 @@ ghost use Rattle.std.specs.Prelude.{◌≡◌, ◌↔◌, ℕ, ◌+◌, ◌-◌,
 ghost use Rattle.legacy_base.specs.declared.results.DecodeEvent.TheVariants.{Scalar};
 ghost use Rattle.legacy_base.specs.EncodingForm.{EncodingForm, Utf8, Utf16};
 ghost use Rattle.legacy_base.specs.Calls.{DecoderCall};
-ghost use Rattle.legacy_codecs.specs.Pieces.{contents_of};
-ghost use Rattle.legacy_codecs.specs.Runs.{is_none, place_before, IsRun, IsBeginning, HasNoneLeft, HasAmpleLengths, IsTooLong};
+ghost use Rattle.legacy_codecs.specs.Pieces.{contents_of, is_none, place_before, IsTooLong};
+ghost use Rattle.legacy_codecs.specs.Runs.{IsRun, IsBeginning, HasNoneLeft, HasAmpleLengths};
 
 use crate::scalars::{OutputForm, ScalarBuffer, Utf8Form, Utf16Form};
 use legacy_base::{DecodeEvent, DecoderResult, RawDecoder};

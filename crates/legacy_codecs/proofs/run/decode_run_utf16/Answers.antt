@@ -10,4 +10,4 @@ pub returns-clause-none_left : goal.returns-clause-none_left
 returns-clause-none_left g c = IfOk-weaker c.decode_run.result _ _ (λ run r. none_left r) c.decode_run.ensures.run
 
 pub returns-clause-finishes : goal.returns-clause-finishes
-returns-clause-finishes g c = IfOk-weaker c.decode_run.result _ _ (λ run r. is_finished r) c.decode_run.ensures.run
+returns-clause-finishes g c = IfOk-weaker c.decode_run.result _ _ (λ run r. is_finished _ _ r) c.decode_run.ensures.run

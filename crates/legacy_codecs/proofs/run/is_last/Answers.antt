@@ -1,7 +1,7 @@
 use Rattle.std.proofs.Common.{◌≡◌, length}
 use Rattle.std.proofs.lemmas.List.{length-map}
 use Rattle.legacy_codecs.specs.Pieces.{contents_of}
-use Rattle.legacy_codecs.proofs.RunSteps.{last_is}
+use Rattle.legacy_codecs.proofs.Places.{last_is}
 use Rattle.legacy_codecs.proofs.run.is_last.Goals as goal
 
 pub returns : goal.returns

@@ -2,9 +2,10 @@ use Rattle.std.proofs.Common.{◌≡◌, ◌+◌, [], drop, length, refl, arith,
 use Rattle.std.proofs.lemmas.Bool.{true≢false}
 use Rattle.std.proofs.lemmas.Option.{slice_get-get_or}
 use Rattle.std.proofs.lemmas.List.{length-map}
+use Rattle.std.specs.Prelude.{slice_index_or}
 use Rattle.legacy_codecs.specs.Pieces.{contents_of}
-use Rattle.legacy_codecs.proofs.RunEvents.{place_before-state}
-use Rattle.legacy_codecs.proofs.RunSteps.{running_start, running_call, is_run, place_at-first, place_at-more, place_at-next, piece_at, pieces-bytes, not_last, room_step}
+use Rattle.legacy_codecs.proofs.Places.{place_before-state, pieces-length, place_at-first, place_at-next, not_last, room_step}
+use Rattle.legacy_codecs.proofs.RunSteps.{running_start, running_call, is_run, place_at-more}
 use Rattle.legacy_codecs.proofs.run.run_calls.Goals as goal
 use Rattle.legacy_codecs.proofs.run.run_calls.Goals.{in-InputEmpty+else-last, in-OutputFull, in-Malformed}
 
@@ -28,7 +29,7 @@ pub overflow_add-total : goal.overflow_add-total
 overflow_add-total g c =
     let pieces = contents_of c.args.pieces.now in
     let bytes = c.loop-calls.invariant.running.bytes in
-    let all = pieces-bytes (g.D.RawDecoder.state c.args.decoder.now) pieces in
+    let all = pieces-length (g.D.RawDecoder.state c.args.decoder.now) pieces in
     let one = c.call_once-answer.ensures.call.1.within in
     let unread = ap length c.unread_of-unread.ensures in
     omega (arith, c.requires.total)
@@ -85,7 +86,7 @@ loop-calls-preserved g c =
             room = omega arith;
             buffer = λ k d h. let b = i.buffer k d h in omega arith;
             inside = i.inside;
-            within = omega (arith, i.within, length-drop offset (piece_at pieces index));
+            within = omega (arith, i.within, length-drop offset (slice_index_or pieces index []));
           }
       | in-Malformed w ↦
           rw (w.events-is, w.index-is, w.offset-is) record {
@@ -94,6 +95,6 @@ loop-calls-preserved g c =
             room = omega arith;
             buffer = λ k d h. let b = i.buffer k d h in omega arith;
             inside = i.inside;
-            within = omega (arith, i.within, length-drop offset (piece_at pieces index));
+            within = omega (arith, i.within, length-drop offset (slice_index_or pieces index []));
           }
     ]

@@ -1,8 +1,8 @@
 use Rattle.std.proofs.Common.{◌≤◌, ◌+◌, ◌<◌, drop, length, sum, vec_len, All, false}
-use Rattle.std.specs.Prelude.{vec_capacity}
-use Rattle.legacy_codecs.specs.Pieces.{contents_of}
-use Rattle.legacy_codecs.specs.Runs.{place_before}
-use Rattle.legacy_codecs.proofs.RunSteps.{Running, place_at, piece_at}
+use Rattle.std.specs.Prelude.{vec_capacity, slice_index_or, []}
+use Rattle.legacy_codecs.specs.Pieces.{contents_of, place_before}
+use Rattle.legacy_codecs.proofs.Places.{place_at}
+use Rattle.legacy_codecs.proofs.RunSteps.{Running}
 use Rattle.legacy_codecs.proofs.run.run_calls.Given as goal
 
 abbrev pub invariant-loop-calls : goal.invariant-loop-calls
@@ -12,5 +12,5 @@ invariant-loop-calls g l = record {
   room : vec_len l.events + (sum (drop l.calls l.lengths) + length (drop l.calls l.lengths)) ≤ vec_capacity l.events;
   buffer : All (λ n. n ≤ length l.buffer) l.lengths;
   inside : l.index < length l.pieces;
-  within : l.offset ≤ length (piece_at (contents_of l.pieces) l.index);
+  within : l.offset ≤ length (slice_index_or (contents_of l.pieces) l.index []);
 }
