@@ -5,3 +5,5 @@ pub mod RunEvents
 pub mod RunSteps
 pub mod QueriedLengths
 pub mod AmpleLengths
+pub mod EncodeRunEvents
+pub mod AmpleOutputs
