@@ -1,7 +1,7 @@
 use Rattle.std.proofs.Common.{arith, ap, ◌∙◌}
 use Rattle.legacy_base.specs.EncodingForm.{all_code_units}
 use Rattle.legacy_codecs.proofs.KeptAsWritten.{kept_is, kept_within}
-use Rattle.legacy_codecs.proofs.run.call_once.Goals as goal
+use Rattle.legacy_codecs.proofs.decode_run.call_once.Goals as goal
 
 pub returns-clause-call : goal.returns-clause-call
 returns-clause-call g c =

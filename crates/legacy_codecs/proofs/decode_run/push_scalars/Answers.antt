@@ -2,7 +2,7 @@ use Rattle.std.proofs.Common.{◌≡◌, ℕ, List, ◌+◌, ◌<◌, ◌++◌, 
 use Rattle.legacy_base.specs.declared.results.DecodeEvent.{DecodeEvent}
 use Rattle.legacy_base.specs.declared.results.DecodeEvent.TheVariants.{Scalar}
 use Rattle.std.proofs.lemmas.List.{map-append}
-use Rattle.legacy_codecs.proofs.run.push_scalars.Goals as goal
+use Rattle.legacy_codecs.proofs.decode_run.push_scalars.Goals as goal
 
 -- one more scalar
 one_more : (xs : List ℕ) (i c : ℕ) → i < length xs → c ≡ get_or xs i c → map Scalar (take (i + 1) xs) ≡ map Scalar (take i xs) ++ Scalar c ∷ []

@@ -1,6 +1,6 @@
 use Rattle.std.proofs.Common.{arith}
 use Rattle.std.proofs.Math.ListN.{drop_of_length-le}
-use Rattle.legacy_codecs.proofs.run.total_room.Goals as goal
+use Rattle.legacy_codecs.proofs.run_parts.total_room.Goals as goal
 
 pub returns : goal.returns
 returns c =

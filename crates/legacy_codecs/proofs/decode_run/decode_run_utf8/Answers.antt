@@ -1,7 +1,7 @@
 use Rattle.std.proofs.lemmas.Result.{IfOk-weaker}
 use Rattle.legacy_codecs.proofs.RunEvents.{is_beginning, none_left}
 use Rattle.legacy_codecs.proofs.AmpleLengths.{is_finished}
-use Rattle.legacy_codecs.proofs.run.decode_run_utf8.Goals as goal
+use Rattle.legacy_codecs.proofs.decode_run.decode_run_utf8.Goals as goal
 
 pub returns-clause-beginning : goal.returns-clause-beginning
 returns-clause-beginning g c = IfOk-weaker c.decode_run.result _ _ (λ run r. is_beginning r) c.decode_run.ensures.run

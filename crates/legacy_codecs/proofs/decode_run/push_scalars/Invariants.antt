@@ -1,7 +1,7 @@
 use Rattle.std.proofs.Common.{◌≡◌, ◌≤◌, ◌+◌, ◌++◌, vec_len, take, map}
 use Rattle.std.specs.Prelude.{vec_capacity}
 use Rattle.legacy_base.specs.declared.results.DecodeEvent.TheVariants.{Scalar}
-use Rattle.legacy_codecs.proofs.run.push_scalars.Given as goal
+use Rattle.legacy_codecs.proofs.decode_run.push_scalars.Given as goal
 
 abbrev pub invariant-loop-scalar : goal.invariant-loop-scalar
 invariant-loop-scalar l = record {

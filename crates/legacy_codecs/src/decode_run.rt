@@ -1,15 +1,15 @@
 //! Runs of a decoder over an input in pieces, with outputs of given lengths.
-ghost use Rattle.std.specs.Prelude.{◌≡◌, ◌↔◌, ℕ, ◌+◌, ◌-◌, ◌^◌, ◌<◌, ◌≤◌, List, [], ◌∷◌, ◌++◌, length, drop, sum, sum_by, map, vec_len, vec_capacity, slice_index_or, All, IfOk, OnErr, SomeIff, IsTrue};
+ghost use Rattle.std.specs.Prelude.{◌≡◌, ◌↔◌, ℕ, ◌+◌, ◌-◌, ◌^◌, ◌<◌, ◌≤◌, List, [], ◌++◌, length, drop, sum, sum_by, map, vec_len, vec_capacity, slice_index_or, All, IfOk, OnErr, IsTrue};
 ghost use Rattle.legacy_base.specs.declared.results.DecodeEvent.TheVariants.{Scalar};
 ghost use Rattle.legacy_base.specs.EncodingForm.{EncodingForm, Utf8, Utf16};
 ghost use Rattle.legacy_base.specs.Calls.{DecoderCall};
-ghost use Rattle.legacy_codecs.specs.Pieces.{contents_of, is_none, place_before, IsTooLong};
+ghost use Rattle.legacy_codecs.specs.Pieces.{contents_of, place_before, IsTooLong};
 ghost use Rattle.legacy_codecs.specs.Runs.{IsRun, IsBeginning, HasNoneLeft, HasAmpleLengths};
 
+use crate::run_parts::{RunError, is_last, longest, push_within, room_for_events};
 use crate::scalars::{OutputForm, ScalarBuffer, Utf8Form, Utf16Form};
 use legacy_base::{DecodeEvent, DecoderResult, RawDecoder};
 use std::alloc::Global;
-use thiserror::Error;
 
 /// What a run of a decoder gave.
 #[derive(Debug, PartialEq, Eq, Drop)]
@@ -21,59 +21,6 @@ pub struct DecodeRun {
     pub calls: usize,
     /// Whether the whole input was decoded. If not, the lengths were used up before.
     pub finished: bool,
-}
-
-/// Why there was no run. No call of the decoder was made.
-#[derive(Debug, PartialEq, Eq, Drop, Error)]
-pub enum RunError {
-    /// Memory was refused. All memory that a run needs is taken before its first call.
-    #[error("memory")]
-    Memory,
-    /// The pieces' lengths together, or the outputs' lengths and their number together, are above
-    /// `usize::MAX`.
-    #[error("run is too long")]
-    TooLong,
-}
-
-/// The sum of the pieces' lengths, where it is a `usize`.
-fn total_length(pieces: &[&[u8]]) -> Option<usize>
-    ensures { SomeIff result (sum_by length (contents_of pieces.now) < 2 ^ 64)
-        (sum_by length (contents_of pieces.now)) }
-{
-    let mut total: usize = 0;
-    for piece in pieces {
-        total = total.checked_add(piece.len())?;
-    }
-    Some(total)
-}
-
-/// The sum of the lengths and their number, where it is a `usize`.
-fn total_room(lengths: &[usize]) -> Option<usize>
-    ensures { SomeIff result (sum lengths.now + length lengths.now < 2 ^ 64)
-        (sum lengths.now + length lengths.now) }
-{
-    let mut total: usize = 0;
-    for length in lengths {
-        total = total.checked_add(*length)?.checked_add(1)?;
-    }
-    Some(total)
-}
-
-/// The greatest of the lengths, and 0 for none.
-fn longest(lengths: &[usize]) -> usize
-    ensures { All (λ n. n ≤ result) lengths.now }
-{
-    lengths.iter().copied().max().unwrap_or(0)
-}
-
-/// Adds an event where there is room for it.
-fn push_within(events: &mut Vec<DecodeEvent>, event: DecodeEvent)
-    requires { vec_len events.old < vec_capacity events.old }
-    ensures items { events.new.items ≡ events.old.items ++ event ∷ [] }
-    ensures len { vec_len events.new ≡ vec_len events.old + 1 }
-    ensures capacity { vec_capacity events.old ≤ vec_capacity events.new }
-{
-    let _ = events.push(event);
 }
 
 /// Adds the scalars as events.
@@ -132,14 +79,6 @@ fn unread_of<'a>(pieces: &[&'a [u8]], index: usize, offset: usize) -> &'a [u8]
 {
     let piece = pieces[index];
     &piece[offset..]
-}
-
-/// Whether the piece at this index is the last.
-fn is_last(pieces: &[&[u8]], index: usize) -> bool
-    requires { index < length pieces.now }
-    ensures { result ≡ is_none (drop (index + 1) (contents_of pieces.now)) }
-{
-    pieces.len() - index == 1
 }
 
 /// Makes the calls of a run over one piece or more.
@@ -208,15 +147,7 @@ fn decode_run<D: RawDecoder, F: OutputForm>(
         ↔ IsTooLong (contents_of pieces.now) lengths.now }
     ensures unchanged { OnErr result (decoder.new ≡ decoder.old) }
 {
-    if total_length(pieces).is_none() {
-        return Err(RunError::TooLong);
-    }
-    let Some(room) = total_room(lengths) else {
-        return Err(RunError::TooLong);
-    };
-    let Ok(events) = Vec::with_capacity(alloc, room) else {
-        return Err(RunError::Memory);
-    };
+    let events = room_for_events(alloc, pieces, lengths)?;
     let Ok(mut buffer) = vec![in alloc; '\0'; longest(lengths)] else {
         return Err(RunError::Memory);
     };

@@ -6,8 +6,8 @@ use Rattle.std.specs.Prelude.{slice_index_or}
 use Rattle.legacy_codecs.specs.Pieces.{contents_of}
 use Rattle.legacy_codecs.proofs.Places.{place_before-state, pieces-length, place_at-first, place_at-next, not_last, room_step}
 use Rattle.legacy_codecs.proofs.RunSteps.{running_start, running_call, is_run, place_at-more}
-use Rattle.legacy_codecs.proofs.run.run_calls.Goals as goal
-use Rattle.legacy_codecs.proofs.run.run_calls.Goals.{in-InputEmpty+else-last, in-OutputFull, in-Malformed}
+use Rattle.legacy_codecs.proofs.decode_run.run_calls.Goals as goal
+use Rattle.legacy_codecs.proofs.decode_run.run_calls.Goals.{in-InputEmpty+else-last, in-OutputFull, in-Malformed}
 
 -- no events are held at the start
 none : {A : Type 0} (v : Vec A Global) → v.items ≡ [] → vec_len v ≡ 0
