@@ -1,7 +1,7 @@
 -- Where a run stands, and the numbers of which its driver speaks.
-use Rattle.std.proofs.Common.{◌≡◌, ◌∙◌, ℕ, ◌+◌, ◌-◌, ◌≤◌, ◌<◌, List, [], ◌∷◌, length, drop, get_or, map, Bool, true, false, IsTrue, eqb, inl, inr}
-use Rattle.std.proofs.Common.{refl, sym, ap, arith, drop-cons, add-one, eq-eqb}
-use Rattle.std.proofs.lemmas.Bool.{true≢false, false≢true, cases_lt, ne_eqb}
+use Rattle.std.proofs.Common.{◌≡◌, ◌∙◌, ℕ, zero, suc, ◌+◌, ◌-◌, ◌≤◌, ◌<◌, List, [], ◌∷◌, length, drop, get_or, map, Bool, true, false, IsTrue, leb, inl, inr}
+use Rattle.std.proofs.Common.{refl, sym, ap, arith, drop-cons, add-one}
+use Rattle.std.proofs.lemmas.Bool.{true≢false, false≢true, cases_lt, le-leb, lt-leb}
 use Rattle.std.proofs.lemmas.Grind.{common_steps}
 use Rattle.std.proofs.lemmas.List.Sums.{sum_by-cons}
 use Rattle.std.proofs.Math.ListN.{drop_of_length-le}
@@ -51,21 +51,30 @@ module _ {State : Type 0} where
   place_at-first s [] h = absurd (omega arith)
   place_at-first s (p ∷ ps) h = refl
 
+  pub place_at-begin : (s : State) (pieces : List (List ℕ)) → record { state = s; piece = slice_index_or pieces 0 []; later = drop 1 pieces } ≡ place_before s pieces
+  place_at-begin s [] = refl
+  place_at-begin s (p ∷ ps) = refl
+
   pub place_at-next : (pieces : List (List ℕ)) (s : State) (index : ℕ) → index + 1 < length pieces → place_at pieces s (index + 1) 0 ≡ place_before s (drop (index + 1) pieces)
   place_at-next pieces s index h = rw (drop-cons pieces (index + 1) [] h, add-one (index + 1)) refl
 
--- whether the piece at an index is the last
-pub last_is : (pieces : List (List ℕ)) (n index : ℕ) → n ≡ length pieces → index < n → eqb (n - index) 1 ≡ is_none (drop (index + 1) pieces)
-last_is pieces n index e h = elim (cases_lt (index + 1) n) [
+-- whether no piece stands behind an index
+pub last_is : (pieces : List (List ℕ)) (n index : ℕ) → n ≡ length pieces → leb (n - index) 1 ≡ is_none (drop (index + 1) pieces)
+last_is pieces n index e = elim (cases_lt (index + 1) n) [
   | inl a ↦
       let a' : index + 1 < length pieces = omega arith in
-      let ne : n - index ≡ 1 → ⊥ = λ x. omega arith in
-      ne_eqb (n - index) 1 ne ∙ rw (drop-cons pieces (index + 1) [] a') refl
+      lt-leb (n - index) 1 (omega arith) ∙ rw (drop-cons pieces (index + 1) [] a') refl
   | inr a ↦
-      let one : n - index ≡ 1 = omega arith in
       let none : drop (index + 1) pieces ≡ [] = drop_of_length-le pieces (omega arith) in
-      eq-eqb (n - index) 1 one ∙ rw none refl
+      le-leb (n - index) 1 (omega arith) ∙ rw none refl
 ]
+
+-- that does not hang on what a piece is to its reader
+pub same_end : {A : Type 0} (f g : A → List ℕ) (pieces : List A) (index : ℕ) → is_none (drop index (map f pieces)) ≡ is_none (drop index (map g pieces))
+same_end f g [] zero = refl
+same_end f g [] (suc index) = refl
+same_end f g (p ∷ ps) zero = refl
+same_end f g (p ∷ ps) (suc index) = same_end f g ps index
 
 -- what it tells where it is not
 pub not_last : (pieces : List (List ℕ)) (index : ℕ) → is_none (drop (index + 1) pieces) ≡ false → index + 1 < length pieces

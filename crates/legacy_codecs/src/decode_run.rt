@@ -6,7 +6,7 @@ ghost use Rattle.legacy_base.specs.Calls.{DecoderCall};
 ghost use Rattle.legacy_codecs.specs.Pieces.{contents_of, place_before, IsTooLong};
 ghost use Rattle.legacy_codecs.specs.Runs.{IsRun, IsBeginning, HasNoneLeft, HasAmpleLengths};
 
-use crate::run_parts::{RunError, is_last, longest, push_within, room_for_events};
+use crate::run_parts::{RunError, is_last, longest, push_items, push_within, room_for_events};
 use crate::scalars::{OutputForm, ScalarBuffer, Utf8Form, Utf16Form};
 use legacy_base::{DecodeEvent, DecoderResult, RawDecoder};
 use std::alloc::Global;
@@ -21,18 +21,6 @@ pub struct DecodeRun {
     pub calls: usize,
     /// Whether the whole input was decoded. If not, the lengths were used up before.
     pub finished: bool,
-}
-
-/// Adds the scalars as events.
-fn push_scalars(events: &mut Vec<DecodeEvent>, scalars: &[char])
-    requires { vec_len events.old + length scalars.now ≤ vec_capacity events.old }
-    ensures items { events.new.items ≡ events.old.items ++ map Scalar scalars.now }
-    ensures len { vec_len events.new ≡ vec_len events.old + length scalars.now }
-    ensures capacity { vec_capacity events.old ≤ vec_capacity events.new }
-{
-    for scalar in scalars {
-        push_within(events, DecodeEvent::Scalar(*scalar));
-    }
 }
 
 /// Makes one call, with an output of so many code units, and adds the scalars that it gave.
@@ -55,7 +43,7 @@ fn call_once<D: RawDecoder, F: OutputForm>(
 {
     let mut kept = ScalarBuffer::<F>::new(buffer, free);
     let (answer, read) = decoder.step(unread, &mut kept, last);
-    push_scalars(events, kept.scalars());
+    push_items(events, kept.scalars());
     (answer, read)
 }
 

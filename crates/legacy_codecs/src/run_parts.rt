@@ -1,7 +1,10 @@
 //! What the runs of decoders and of encoders share: pieces of an input, lengths of outputs, and events.
 ghost use Rattle.std.specs.Prelude.{◌≡◌, ℕ, ◌↔◌, ◌+◌, ◌^◌, ◌<◌, ◌≤◌, List, [], ◌∷◌, ◌++◌, length, drop, map, sum, sum_by, vec_len, vec_capacity, All, IfOk, SomeIff};
+ghost use Rattle.legacy_base.specs.declared.results.DecodeEvent.TheVariants.{Scalar};
+ghost use Rattle.legacy_base.specs.declared.results.EncodeEvent.TheVariants.{Byte};
 ghost use Rattle.legacy_codecs.specs.Pieces.{is_none, IsTooLong};
 
+use legacy_base::{DecodeEvent, EncodeEvent};
 use std::alloc::Global;
 use thiserror::Error;
 
@@ -108,12 +111,12 @@ pub(crate) fn longest(lengths: &[usize]) -> usize
     lengths.iter().copied().max().unwrap_or(0)
 }
 
-/// Whether the piece at this index is the last.
+/// Whether no piece stands behind this index.
 pub(crate) fn is_last<P: Piece>(pieces: &[P], index: usize) -> bool
-    requires { index < length pieces.now }
+    requires { index ≤ length pieces.now }
     ensures { result ≡ is_none (drop (index + 1) (map P.units pieces.now)) }
 {
-    pieces.len() - index == 1
+    pieces.len() - index <= 1
 }
 
 /// Adds an event where there is room for it.
@@ -124,4 +127,42 @@ pub(crate) fn push_within<T: Copy>(events: &mut Vec<T>, event: T)
     ensures capacity { vec_capacity events.old ≤ vec_capacity events.new }
 {
     let _ = events.push(event);
+}
+
+/// An event that tells of one item of an output.
+pub(crate) trait EventOf<T>: Copy {
+    /// The event of an item.
+    ghost event: { T → Self };
+
+    /// The event of an item.
+    fn event_of(item: T) -> Self
+        ensures { result ≡ event item };
+}
+
+impl EventOf<char> for DecodeEvent {
+    ghost event = { λ scalar. Scalar scalar };
+
+    fn event_of(scalar: char) -> DecodeEvent {
+        DecodeEvent::Scalar(scalar)
+    }
+}
+
+impl EventOf<u8> for EncodeEvent {
+    ghost event = { λ byte. Byte byte };
+
+    fn event_of(byte: u8) -> EncodeEvent {
+        EncodeEvent::Byte(byte)
+    }
+}
+
+/// Adds the items as events.
+pub(crate) fn push_items<T: Copy, E: EventOf<T>>(events: &mut Vec<E>, items: &[T])
+    requires { vec_len events.old + length items.now ≤ vec_capacity events.old }
+    ensures items { events.new.items ≡ events.old.items ++ map E.event items.now }
+    ensures len { vec_len events.new ≡ vec_len events.old + length items.now }
+    ensures capacity { vec_capacity events.old ≤ vec_capacity events.new }
+{
+    for item in items {
+        push_within(events, E::event_of(*item));
+    }
 }

@@ -8,10 +8,10 @@ returns-clause-call g c =
     let call = c.step-answer.ensures.call in
     let units = ap (all_code_units g.F.OutputForm.form) c.scalars.ensures.value ∙ call.2 in
     let same = kept_is g.F.OutputForm.form _ call.0 _ c.new-kept.ensures.kept c.scalars.ensures.scalar call.1.scalar units in
-    (call.0, rw c.new-kept.ensures.free at call.1, rw same at c.push_scalars.ensures.items)
+    (call.0, rw c.new-kept.ensures.free at call.1, rw same at c.push_items.ensures.items)
 
-pub push_scalars-requires : goal.push_scalars-requires
-push_scalars-requires g c =
+pub push_items-requires : goal.push_items-requires
+push_items-requires g c =
     let call = c.step-answer.ensures.call in
     let units = ap (all_code_units g.F.OutputForm.form) c.scalars.ensures.value ∙ call.2 in
     let kept = kept_within g.F.OutputForm.form _ call.0 _ _ c.new-kept.ensures.kept units call.1.fits in
@@ -22,4 +22,4 @@ returns-clause-len g c =
     let call = c.step-answer.ensures.call in
     let units = ap (all_code_units g.F.OutputForm.form) c.scalars.ensures.value ∙ call.2 in
     let kept = kept_within g.F.OutputForm.form _ call.0 _ _ c.new-kept.ensures.kept units call.1.fits in
-    omega (arith, c.push_scalars.ensures.len, c.new-kept.ensures.free)
+    omega (arith, c.push_items.ensures.len, c.new-kept.ensures.free)

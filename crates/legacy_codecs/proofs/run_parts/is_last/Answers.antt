@@ -7,4 +7,4 @@ pub returns : goal.returns
 returns g c =
     let units = map g.P.Piece.units c.args.pieces.now in
     let same : length c.args.pieces.now ≡ length units = simp length-map in
-    last_is units (length c.args.pieces.now) c.args.index same c.requires
+    last_is units (length c.args.pieces.now) c.args.index same
