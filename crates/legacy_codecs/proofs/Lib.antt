@@ -7,3 +7,4 @@ pub mod QueriedLengths
 pub mod AmpleLengths
 pub mod EncodeRunEvents
 pub mod AmpleOutputs
+pub mod EncodeLengths

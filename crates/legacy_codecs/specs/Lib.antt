@@ -4,3 +4,4 @@ pub mod Pieces
 pub mod Runs
 pub mod EncodeRuns
 pub mod Filling
+pub mod EncodeFilling
