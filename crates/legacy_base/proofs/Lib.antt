@@ -9,6 +9,8 @@ pub mod Enough
 pub mod Iso2022JpParts
 pub mod Iso2022JpFronts
 pub mod TableLoops
+pub mod FirstPlaces
+pub mod Pointers
 pub mod Accepted
 pub mod AcceptedTable
 pub mod Ascii
