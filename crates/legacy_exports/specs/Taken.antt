@@ -31,6 +31,28 @@ AreTaken codec slices =
     × AreAccepted (indexes_with slices (map range_pair slices.ranges.now))
     × (codec ≡ SingleByte → IsTakenTable slices.single_byte.now)
 
+-- the index and the run of a single-byte encoding are accepted
+abbrev pub IsTakenRun : IndexSlices → Type 0
+IsTakenRun slices =
+    IsTakenTable slices.single_byte.now
+    × (single_byte_run_fault slices.single_byte.now slices.single_byte_run.scalar slices.single_byte_run.start slices.single_byte_run.length ≡ None)
+
+-- the codec has an encoder, and the indexes are accepted for it
+abbrev pub AreTakenToEncode : Codec → IndexSlices → Type 0
+AreTakenToEncode codec slices =
+    (length slices.ranges.now ≤ 256)
+    × AreAccepted (indexes_with slices (map range_pair slices.ranges.now))
+    × (codec ≡ SingleByte → IsTakenRun slices)
+    × (has_encoder codec ≡ true)
+
+-- a codec with an encoder has the number, and the indexes are taken for it
+abbrev pub IsTakenToEncode : ℕ → IndexSlices → Type 0
+IsTakenToEncode number slices = (codec : Codec) × (number_of codec ≡ number) × AreTakenToEncode codec slices
+
+-- no codec with an encoder has the number, or the indexes are not taken for it
+abbrev pub IsRefusedToEncode : ℕ → IndexSlices → Type 0
+IsRefusedToEncode number slices = IsTakenToEncode number slices → ⊥
+
 -- a codec has the number, and the indexes are taken for it
 abbrev pub IsTaken : ℕ → IndexSlices → Type 0
 IsTaken number slices = (codec : Codec) × (number_of codec ≡ number) × AreTaken codec slices

@@ -14,6 +14,18 @@ pub struct IndexRange {
     pub scalar: u16,
 }
 
+/// A run of a single-byte encoding: its places from `start` on, `length` of them, hold the scalars from `scalar`
+/// upwards. Its encoder finds these without a search.
+#[repr(C)]
+pub struct ByteRun {
+    /// The first scalar.
+    pub scalar: u16,
+    /// The first place, from 32 on.
+    pub start: u8,
+    /// How many places; none is a run too.
+    pub length: u8,
+}
+
 /// Flat indexes, not checked yet: entry `p` is the scalar of pointer `p`, and 0 where it has none. Those
 /// that a codec does not read by may be empty.
 #[repr(C)]
@@ -34,6 +46,8 @@ pub struct IndexSlices<'a> {
     pub ranges: &'a [IndexRange],
     /// The index of a single-byte encoding: the scalars of the bytes from 80 on.
     pub single_byte: &'a [u16],
+    /// The run that the encoder of the single-byte encoding takes.
+    pub single_byte_run: ByteRun,
 }
 
 /// The most ranges that are taken.
