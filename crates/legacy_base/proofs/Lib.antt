@@ -10,7 +10,12 @@ pub mod EncoderLaws
 pub mod Iso2022JpParts
 pub mod Iso2022JpFronts
 pub mod TableLoops
+pub mod FirstPlaces
+pub mod Pointers
 pub mod Accepted
+pub mod RangePointers
+pub mod PointerBounds
+pub mod PrivateUse
 pub mod AcceptedTable
 pub mod Ascii
 pub mod Texts

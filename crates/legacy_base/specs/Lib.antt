@@ -6,6 +6,7 @@ pub mod EncodingForm
 pub mod Events
 pub mod Fronts
 pub mod Indexes
+pub mod Pointers
 pub mod Formulas
 pub mod Profile
 pub mod EncodeEvents

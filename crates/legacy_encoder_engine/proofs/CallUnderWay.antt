@@ -1,0 +1,512 @@
+-- How the moves of an encoder make a call.
+use Rattle.std.proofs.Common.{◌≡◌, ◌∙◌, ℕ, suc, ◌+◌, ◌-◌, ◌≤◌, ◌<◌, List, [], ◌∷◌, ◌++◌, length, get_or, take, drop, map, refl, sym, ap, subst, arith, append_assoc, append-nil, length-append, length-take, length-drop, add-zero, inl, inr, Bool, true, false, IsTrue, Some, None, slice_get, not, IsAscii}
+use Rattle.std.proofs.lemmas.Bool.{cases_lt}
+use Rattle.std.proofs.lemmas.List.{take-append-le, get_or_append_left, take-append-drop, length-take-le}
+use Rattle.std.proofs.Math.Nat.{sub-zero}
+use Rattle.std.proofs.Math.Seq.{take-append_seam}
+use Rattle.legacy_base.specs.declared.results.EncodeEvent.{EncodeEvent}
+use Rattle.legacy_base.specs.declared.results.EncodeEvent.TheVariants.{Byte}
+use Rattle.legacy_base.specs.declared.results.EncodeEvent.TheVariants as events
+use Rattle.legacy_base.specs.declared.results.EncoderResult.TheVariants.{InputEmpty, OutputFull, Unmappable}
+use Rattle.legacy_base.specs.EncodingForm.{EncodingForm, code_units, unit_count, all_code_units, total_unit_count}
+use Rattle.legacy_base.specs.EncodeEvents.{byte_count, code_length}
+use Rattle.legacy_base.specs.Profile.{is_empty}
+use Rattle.legacy_base.specs.EncoderProfile.{EncoderMode, in_ascii, in_roman, in_two_byte}
+use Rattle.legacy_base.specs.Encoders.{EncoderState, encoder_profile, code, encoded, end_bytes, is_pending, scalar_room, encoder_need, encoder_formula, encoder_answer, encoder_room}
+use Rattle.legacy_base.specs.EncoderCalls.{EncoderCall, EncoderLacksRoom, bytes_before}
+use Rattle.legacy_base.proofs.CodeUnits.{length-code_units-ascii}
+use Rattle.legacy_base.proofs.Enough.{answer-value}
+use Rattle.legacy_base.proofs.Rooms.{total_unit_count-append}
+use Rattle.legacy_encoder_engine.specs.declared.moves.EncoderMove.{EncoderMove}
+use Rattle.legacy_encoder_engine.specs.declared.moves.EncoderMove.TheVariants as moves
+use Rattle.legacy_encoder_engine.specs.Moves.{Moves, Finishes, move_bytes, move_report, unread_scalar, is_escape, differs, wants_escape, state_for}
+use Rattle.legacy_encoder_engine.specs.UnderWay.{LowersEscaped, Underway, KeepsOn, HasAscii, PutsCode}
+use Rattle.legacy_encoder_engine.specs.Serves.{Serves}
+
+-- ---- small laws
+
+byte_count-append : (xs ys : List EncodeEvent) → byte_count (xs ++ ys) ≡ byte_count xs + byte_count ys
+unfolding byte_count
+byte_count-append [] ys = omega arith
+byte_count-append (Byte b ∷ xs) ys = let h = byte_count-append xs ys in omega arith
+byte_count-append (events.Unmappable c ∷ xs) ys = byte_count-append xs ys
+
+byte_count-bytes : (bytes : List ℕ) → byte_count (map Byte bytes) ≡ length bytes
+unfolding byte_count
+byte_count-bytes [] = refl
+byte_count-bytes (b ∷ bytes) = let h = byte_count-bytes bytes in omega arith
+
+map_bytes-append : (xs ys : List ℕ) → map Byte (xs ++ ys) ≡ map Byte xs ++ map Byte ys
+map_bytes-append [] ys = refl
+map_bytes-append (x ∷ xs) ys = ap (λ l. Byte x ∷ l) (map_bytes-append xs ys)
+
+-- where no escape is wanted, the mode stays
+same_mode : (m n : EncoderMode) → differs m n ≡ false → n ≡ m
+same_mode in_ascii in_ascii e = refl
+same_mode in_ascii in_roman e = cc
+same_mode in_ascii in_two_byte e = cc
+same_mode in_roman in_ascii e = cc
+same_mode in_roman in_roman e = refl
+same_mode in_roman in_two_byte e = cc
+same_mode in_two_byte in_ascii e = cc
+same_mode in_two_byte in_roman e = cc
+same_mode in_two_byte in_two_byte e = refl
+
+state_stays : (state : EncoderState) (c : ℕ) → wants_escape state c ≡ false → state_for state c ≡ state
+state_stays state c e = ap (λ m. record { codec = state.codec; mode = m }) (same_mode state.mode ((encoder_profile state.codec).mode_for state.mode c) e)
+
+-- nothing to write, and something
+no_bytes : (bytes : List ℕ) → not (is_empty bytes) ≡ false → bytes ≡ []
+no_bytes [] e = refl
+no_bytes (b ∷ bytes) e = cc
+
+no_need : (state : EncoderState) (last : Bool) → (IsTrue last → end_bytes state ≡ []) → encoder_need state [] last ≡ 0
+no_need state false p = refl
+no_need state true p = ap length (p refl)
+
+first_rest : (left more : List ℕ) → left ++ more ≡ take 1 left ++ (drop 1 left ++ more)
+first_rest [] more = refl
+first_rest (x ∷ xs) more = refl
+
+get_or-append_at : (xs : List ℕ) (y : ℕ) (ys : List ℕ) → get_or (xs ++ y ∷ ys) (length xs) 0 ≡ y
+get_or-append_at [] y ys = refl
+get_or-append_at (x ∷ xs) y ys = get_or-append_at xs y ys
+
+-- behind a scalar that is read nothing more comes before the end
+no_more : (next : EncoderState) → Serves (encoder_profile next.codec) → (move : EncoderMove) (c : ℕ) → is_escape move ≡ false → byte_count (move_report move ++ encoded next (unread_scalar move c ++ []) false) ≡ 0
+unfolding byte_count
+no_more next serves (moves.One a) c e = ap byte_count (serves.nothing next.mode)
+no_more next serves (moves.Two a b) c e = ap byte_count (serves.nothing next.mode)
+no_more next serves (moves.Four a b x d) c e = ap byte_count (serves.nothing next.mode)
+no_more next serves (moves.Escape a b) c e = cc
+no_more next serves (moves.Unmappable r) c e = ap byte_count (serves.nothing next.mode)
+
+none_unread : (move : EncoderMove) (c : ℕ) → is_escape move ≡ false → unread_scalar move c ≡ []
+none_unread (moves.One a) c e = refl
+none_unread (moves.Two a b) c e = refl
+none_unread (moves.Four a b x d) c e = refl
+none_unread (moves.Escape a b) c e = cc
+none_unread (moves.Unmappable r) c e = refl
+
+escaped : (next : EncoderState) (move : EncoderMove) (c : ℕ) (more : List ℕ) (ended : Bool) → is_escape move ≡ true → move_report move ++ encoded next (unread_scalar move c ++ more) ended ≡ encoded next (c ∷ more) ended
+escaped next (moves.One a) c more ended e = cc
+escaped next (moves.Two a b) c more ended e = cc
+escaped next (moves.Four a b x d) c more ended e = cc
+escaped next (moves.Escape a b) c more ended e = refl
+escaped next (moves.Unmappable r) c more ended e = cc
+
+escape_three : (move : EncoderMove) → is_escape move ≡ true → length (move_bytes move) ≡ 3
+escape_three (moves.One a) e = cc
+escape_three (moves.Two a b) e = cc
+escape_three (moves.Four a b x d) e = cc
+escape_three (moves.Escape a b) e = refl
+escape_three (moves.Unmappable r) e = cc
+
+-- the code of a scalar and its room, by the codec alone
+code_same : (now before : EncoderState) (c : ℕ) → now.codec ≡ before.codec → code_length (code now c) ≡ code_length (code before c)
+code_same now before c e = ap (λ k. code_length ((encoder_profile k).code c)) e
+
+room_same : (now before : EncoderState) (c : ℕ) → now.codec ≡ before.codec → scalar_room now c ≡ scalar_room before c
+room_same now before c e = ap (λ k. (encoder_profile k).scalar_room c) e
+
+-- ---- a call under way
+
+module _ (before : EncoderState) (source : List ℕ) (last : Bool) (free : ℕ) where
+  pub underway_start : Underway before source last free before source []
+  underway_start = record {
+    taken = [];
+    cut = refl;
+    events = λ more ended. refl;
+    same = refl;
+    had_room = λ k h. absurd (omega arith);
+    fits = omega arith;
+    once = λ l. (refl, refl, refl);
+    lowers = inl (record { low = λ form t. omega arith });
+  }
+
+  module _ (now : EncoderState) (left bytes : List ℕ) (under : Underway before source last free now left bytes) (serves : Serves (encoder_profile now.codec)) where
+    served_before : Serves (encoder_profile before.codec)
+    served_before = subst (λ codec. Serves (encoder_profile codec)) under.same serves
+
+    whole : (more : List ℕ) (ended : Bool) → encoded before (source ++ more) ended ≡ map Byte bytes ++ encoded now (left ++ more) ended
+    whole more ended =
+        ap (λ l. encoded before (l ++ more) ended) under.cut
+        ∙ ap (λ l. encoded before l ended) (append_assoc under.taken left more ∙ ap (λ l. under.taken ++ l) (first_rest left more))
+        ∙ under.events (drop 1 left ++ more) ended
+        ∙ ap (λ l. map Byte bytes ++ encoded now l ended) (sym (first_rest left more))
+
+    pub call_full : EncoderLacksRoom now left last (free - length bytes) → ((form : EncodingForm) → encoder_room form before (total_unit_count form source) ≤ free → ⊥) → EncoderCall before source last free now OutputFull left bytes
+    call_full l never = record {
+      taken = under.taken;
+      cut = under.cut;
+      fits = under.fits;
+      events = λ more ended h. whole more ended;
+      input_empty = λ e. cc;
+      output_full = λ e. l;
+      full_at_once = λ e. let o = under.once e in (refl, o.0, o.1, o.2);
+      had_room = under.had_room;
+      lowers = λ form more g. absurd g;
+      ends = λ form e. cc;
+      suffices = λ form h x. never form h;
+      enough = λ form n k h e f x. never form (answered form n k h e f);
+    }
+      where
+        answered : (form : EncodingForm) (n k : ℕ) → total_unit_count form source ≤ n → encoder_answer form before n ≡ Some k → k ≤ free → encoder_room form before (total_unit_count form source) ≤ free
+        answered form n k h e f =
+            let v = answer-value (encoder_formula form before n) k e in
+            let r = served_before.rises form (total_unit_count form source) n h in
+            omega arith
+
+    -- what lacked room at once lacks it still
+    still : EncoderLacksRoom before source last free → EncoderLacksRoom now left last (free - length bytes)
+    still l = let o = under.once l in rw (o.2, o.0, o.1, sub-zero) l
+
+    module _ (c : ℕ) (rest : List ℕ) (at : left ≡ c ∷ rest) where
+      units_at : (form : EncodingForm) → total_unit_count form left ≡ unit_count form c + total_unit_count form rest
+      units_at form = ap (total_unit_count form) at ∙ length-append (code_units form c) (all_code_units form rest)
+
+      -- the room for the scalars serves for the next one
+      head_enough : (form : EncodingForm) → scalar_room now c + length bytes ≤ encoder_room form before (total_unit_count form source)
+      head_enough form = elim under.lowers [
+        | inl s ↦
+            let e = serves.enough now.mode c form (total_unit_count form rest) in
+            let l = rw (add-zero, add-zero, units_at form) at (s.low form 0) in
+            omega arith
+        | inr s ↦
+            let same : s.c ≡ c = let f : s.c ∷ s.rest ≡ c ∷ rest = sym s.at ∙ at in cc in
+            rw same at (s.enough form)
+      ]
+
+      need_is : encoder_need now left last ≡ scalar_room now c
+      need_is = ap (λ l. encoder_need now l last) at
+
+      pub call_full_scalar : free - length bytes < scalar_room now c → EncoderCall before source last free now OutputFull left bytes
+      call_full_scalar h = call_full (let n = need_is in omega arith) (λ form r. let e = head_enough form in let f = under.fits in omega arith)
+
+      not_once : scalar_room now c ≤ free - length bytes → EncoderLacksRoom before source last free → ⊥
+      not_once h l = let n = need_is in let s = still l in omega arith
+
+      next_events : (more : List ℕ) (ended : Bool) → encoded before (under.taken ++ (c ∷ more)) ended ≡ map Byte bytes ++ encoded now (c ∷ more) ended
+      next_events more ended = rw at at (under.events more ended)
+
+      module _ (next : EncoderState) (move : EncoderMove) (f : Moves now c next move) (room : scalar_room now c ≤ free - length bytes) where
+        next_same : next.codec ≡ now.codec
+        next_same = ap (λ (s : EncoderState). s.codec) f.goes
+
+        served_next : Serves (encoder_profile next.codec)
+        served_next = subst (λ codec. Serves (encoder_profile codec)) (sym next_same) serves
+
+        -- the scalar with what its move gave
+        moved : (more : List ℕ) (ended : Bool) → encoded before (under.taken ++ (c ∷ more)) ended ≡ map Byte (bytes ++ move_bytes move) ++ (move_report move ++ encoded next (unread_scalar move c ++ more) ended)
+        moved more ended =
+            next_events more ended
+            ∙ ap (λ l. map Byte bytes ++ l) (f.events more ended)
+            ∙ sym (append_assoc (map Byte bytes) (map Byte (move_bytes move)) (move_report move ++ encoded next (unread_scalar move c ++ more) ended))
+            ∙ ap (λ l. l ++ (move_report move ++ encoded next (unread_scalar move c ++ more) ended)) (sym (map_bytes-append bytes (move_bytes move)))
+
+        -- the scalar is read
+        read_cut : source ≡ (under.taken ++ c ∷ []) ++ rest
+        read_cut = under.cut ∙ ap (λ l. under.taken ++ l) at ∙ sym (append_assoc under.taken (c ∷ []) rest)
+
+        before_it : is_escape move ≡ false → bytes_before before under.taken c ≡ length bytes
+        before_it e =
+            let count : byte_count (encoded before (under.taken ++ c ∷ []) false) ≡ length bytes + length (move_bytes move) =
+            ap byte_count (moved [] false)
+            ∙ byte_count-append (map Byte (bytes ++ move_bytes move)) (move_report move ++ encoded next (unread_scalar move c ++ []) false)
+            ∙ ap (λ n. n + byte_count (move_report move ++ encoded next (unread_scalar move c ++ []) false)) (byte_count-bytes (bytes ++ move_bytes move) ∙ length-append bytes (move_bytes move))
+            ∙ ap (λ n. length bytes + length (move_bytes move) + n) (no_more next served_next move c e)
+            ∙ add-zero (length bytes + length (move_bytes move)) in
+            let own : code_length (code before c) ≡ length (move_bytes move) = sym (code_same now before c under.same) ∙ f.own e in
+            omega arith
+
+        read_room : is_escape move ≡ false → (k : ℕ) → k < length (under.taken ++ c ∷ []) →
+            bytes_before before (take k (under.taken ++ c ∷ [])) (get_or (under.taken ++ c ∷ []) k 0) + scalar_room before (get_or (under.taken ++ c ∷ []) k 0) ≤ free
+        read_room e k h = elim (cases_lt k (length under.taken)) [
+          | inl a ↦
+              let t : take k (under.taken ++ c ∷ []) ≡ take k under.taken = take-append-le k under.taken (c ∷ []) (omega arith) in
+              let g : get_or (under.taken ++ c ∷ []) k 0 ≡ get_or under.taken k 0 = get_or_append_left under.taken (c ∷ []) 0 k a in
+              rw (t, g) (under.had_room k a)
+          | inr a ↦
+              let l : k ≡ length under.taken = omega (arith, length-append under.taken (c ∷ [])) in
+              let t : take k (under.taken ++ c ∷ []) ≡ under.taken = ap (λ n. take n (under.taken ++ c ∷ [])) l ∙ take-append_seam under.taken (c ∷ []) in
+              let g : get_or (under.taken ++ c ∷ []) k 0 ≡ c = ap (λ n. get_or (under.taken ++ c ∷ []) n 0) l ∙ get_or-append_at under.taken c [] in
+              let b : bytes_before before under.taken c ≡ length bytes = before_it e in
+              let r : scalar_room now c ≡ scalar_room before c = room_same now before c under.same in
+              let fit = under.fits in
+              rw (t, g) (omega arith)
+        ]
+
+        -- a scalar that is read leaves the state as it is
+        stays : is_escape move ≡ false → next ≡ now
+        stays e = f.goes ∙ state_stays now c (sym f.asks ∙ e)
+
+        read_low : is_escape move ≡ false → (form : EncodingForm) (t : ℕ) → encoder_room form next (total_unit_count form rest + t) + length (bytes ++ move_bytes move) ≤ encoder_room form before (total_unit_count form source + t)
+        read_low e form t =
+            let own = f.own e in
+            let n = length-append bytes (move_bytes move) in
+            rw (stays e) (elim under.lowers [
+              | inl s ↦
+                  let l = s.low form t in
+                  let r = serves.low now.mode c form (total_unit_count form rest + t) in
+                  let u : total_unit_count form left + t ≡ unit_count form c + (total_unit_count form rest + t) = omega (arith, units_at form) in
+                  let l' = rw u at l in
+                  omega arith
+              | inr s ↦
+                  let f : s.c ∷ s.rest ≡ c ∷ rest = sym s.at ∙ at in
+                  let same : s.c ≡ c = cc in
+                  let others : s.rest ≡ rest = cc in
+                  let l = rw (same, others) at (s.low form t) in
+                  omega arith
+            ])
+
+        -- behind an escape comes the scalar, and no other escape
+        escape_lowers : is_escape move ≡ true → LowersEscaped before source next left (bytes ++ move_bytes move)
+        escape_lowers e = elim under.lowers [
+          | inr s ↦
+              let f' : s.c ∷ s.rest ≡ c ∷ rest = sym s.at ∙ at in
+              let same : s.c ≡ c = cc in
+              let no : true ≡ false = sym e ∙ f.asks ∙ ap (wants_escape now) (sym same) ∙ s.settled in cc
+          | inl s ↦
+              let w : wants_escape now c ≡ true = sym f.asks ∙ e in
+              let n = length-append bytes (move_bytes move) in
+              let three = escape_three move e in
+              record {
+                c = c;
+                rest = rest;
+                at = at;
+                settled = ap (λ x. wants_escape x c) f.goes ∙ serves.settled now.mode c;
+                low = λ form t.
+                    let l = s.low form t in
+                    let u : total_unit_count form left + t ≡ unit_count form c + (total_unit_count form rest + t) = omega (arith, units_at form) in
+                    let l' = rw u at l in
+                    let r = serves.escape_low now.mode c w form (total_unit_count form rest + t) in
+                    rw f.goes (omega arith);
+                enough = λ form.
+                    let l = rw (add-zero, add-zero, units_at form) at (s.low form 0) in
+                    let r = serves.escape_enough now.mode c w form (total_unit_count form rest) in
+                    rw f.goes (omega arith);
+              }
+        ]
+
+        pub underway_read : is_escape move ≡ false → move_report move ≡ [] → Underway before source last free next rest (bytes ++ move_bytes move)
+        underway_read e r = record {
+          taken = under.taken ++ c ∷ [];
+          cut = read_cut;
+          events = λ more ended.
+              ap (λ l. encoded before l ended) (append_assoc under.taken (c ∷ []) (take 1 rest ++ more))
+              ∙ moved (take 1 rest ++ more) ended
+              ∙ ap (λ l. map Byte (bytes ++ move_bytes move) ++ (l ++ encoded next (unread_scalar move c ++ (take 1 rest ++ more)) ended)) r
+              ∙ ap (λ l. map Byte (bytes ++ move_bytes move) ++ encoded next (l ++ (take 1 rest ++ more)) ended) (none_unread move c e);
+          same = next_same ∙ under.same;
+          had_room = read_room e;
+          fits = let n = f.fits in let g = under.fits in omega (arith, length-append bytes (move_bytes move));
+          once = λ l. absurd (not_once room l);
+          lowers = inl (record { low = read_low e });
+        }
+
+        pub underway_escape : is_escape move ≡ true → Underway before source last free next left (bytes ++ move_bytes move)
+        underway_escape e = record {
+          taken = under.taken;
+          cut = under.cut;
+          events = λ more ended.
+              ap (λ l. encoded before (under.taken ++ (take 1 l ++ more)) ended) at
+              ∙ moved more ended
+              ∙ ap (λ l. map Byte (bytes ++ move_bytes move) ++ l) (escaped next move c more ended e)
+              ∙ ap (λ l. map Byte (bytes ++ move_bytes move) ++ encoded next (take 1 l ++ more) ended) (sym at);
+          same = next_same ∙ under.same;
+          had_room = under.had_room;
+          fits = let n = f.fits in let g = under.fits in omega (arith, length-append bytes (move_bytes move));
+          once = λ l. absurd (not_once room l);
+          lowers = inr (escape_lowers e);
+        }
+
+      pub call_unmappable : (next : EncoderState) (r : ℕ) → Moves now c next (moves.Unmappable r) → scalar_room now c ≤ free - length bytes → EncoderCall before source last free next (Unmappable r) rest bytes
+      call_unmappable next r f room = record {
+        taken = under.taken ++ c ∷ [];
+        cut = read_cut next (moves.Unmappable r) f room;
+        fits = under.fits;
+        events = λ more ended h.
+            ap (λ l. encoded before (l ++ more) ended) (under.cut ∙ ap (λ l. under.taken ++ l) at)
+            ∙ ap (λ l. encoded before l ended) (append_assoc under.taken (c ∷ rest) more)
+            ∙ next_events (rest ++ more) ended
+            ∙ ap (λ l. map Byte bytes ++ l) (f.events (rest ++ more) ended);
+        input_empty = λ e. cc;
+        output_full = λ e. cc;
+        full_at_once = λ l. absurd (not_once room l);
+        had_room = read_room next (moves.Unmappable r) f room refl;
+        lowers = λ form more g. subst (λ l. encoder_room form next (total_unit_count form rest + more) + length l ≤ encoder_room form before (total_unit_count form source + more)) (append-nil bytes) (read_low next (moves.Unmappable r) f room refl form more);
+        ends = λ form e. cc;
+        suffices = λ form h x. cc;
+        enough = λ form n k h e g x. cc;
+      }
+
+    -- all is read
+    module _ (none : left ≡ []) where
+      end_low : (form : EncodingForm) (t : ℕ) → encoder_room form now t + length bytes ≤ encoder_room form before (total_unit_count form source + t)
+      end_low form t = elim under.lowers [
+        | inl s ↦
+            let u : total_unit_count form left ≡ 0 = ap (total_unit_count form) none in
+            let z : total_unit_count form left + t ≡ t = omega arith in
+            rw z at (s.low form t)
+        | inr s ↦ let f : s.c ∷ s.rest ≡ [] = sym s.at ∙ none in cc
+      ]
+
+      end_room_low : (form : EncodingForm) → length (end_bytes now) + length bytes ≤ encoder_room form before (total_unit_count form source)
+      end_room_low form = let l = rw add-zero at (end_low form 0) in let e = serves.end now.mode form in omega arith
+
+      pub call_done : (IsTrue last → is_pending now ≡ false) → EncoderCall before source last free now InputEmpty left bytes
+      call_done p = record {
+        taken = under.taken;
+        cut = under.cut;
+        fits = under.fits;
+        events = λ more ended h. whole more ended;
+        input_empty = λ e. (none, λ l. no_bytes (end_bytes now) (p l));
+        output_full = λ e. cc;
+        full_at_once = λ l. let s = still l in let n : encoder_need now left last ≡ 0 = ap (λ l. encoder_need now l last) none ∙ no_need now last (λ k. no_bytes (end_bytes now) (p k)) in absurd (omega arith);
+        had_room = under.had_room;
+        lowers = λ form more g. let z : total_unit_count form left + more ≡ more = omega (arith, ap (total_unit_count form) none) in rw z (end_low form more);
+        ends = λ form e l. let r = end_room_low form in omega arith;
+        suffices = λ form h x. cc;
+        enough = λ form n k h e g x. cc;
+      }
+
+      module _ (is_last : last ≡ true) (pending : is_pending now ≡ true) where
+        three : length (end_bytes now) ≡ 3
+        three = serves.escapes now.mode pending
+
+        end_need : encoder_need now left last ≡ 3
+        end_need = rw (none, is_last) three
+
+        pub call_full_end : free - length bytes < 3 → EncoderCall before source last free now OutputFull left bytes
+        call_full_end h =
+            call_full (let n = end_need in omega arith)
+            (λ form r. let e = end_room_low form in let n = three in let f = under.fits in omega arith)
+
+        pub call_finish : (next : EncoderState) → Finishes now next → 3 ≤ free - length bytes → EncoderCall before source last free next InputEmpty left (bytes ++ 0x1B ∷ 0x28 ∷ 0x42 ∷ [])
+        call_finish next f room = record {
+          taken = under.taken;
+          cut = under.cut;
+          fits = let g = under.fits in omega (arith, length-append bytes (0x1B ∷ 0x28 ∷ 0x42 ∷ []));
+          events = λ more ended h. let k = h is_last in finished next f more ended k.0 k.1;
+          input_empty = λ e. (none, λ l. f.done);
+          output_full = λ e. cc;
+          full_at_once = λ l. let s = still l in let n = end_need in absurd (omega arith);
+          had_room = under.had_room;
+          lowers = λ form more g. let no : true ≡ false = sym is_last ∙ g in cc;
+          ends = λ form e l. let r = end_room_low form in let n = three in omega (arith, length-append bytes (0x1B ∷ 0x28 ∷ 0x42 ∷ []));
+          suffices = λ form h x. cc;
+          enough = λ form n k h e g x. cc;
+        }
+          where
+            finished : (next : EncoderState) → Finishes now next → (more : List ℕ) (ended : Bool) → more ≡ [] → IsTrue ended →
+                encoded before (source ++ more) ended ≡ map Byte (bytes ++ 0x1B ∷ 0x28 ∷ 0x42 ∷ []) ++ encoded next (left ++ more) ended
+            finished next f more ended m e =
+                whole more ended
+                ∙ rw (none, m, e, map_bytes-append bytes (0x1B ∷ 0x28 ∷ 0x42 ∷ []), append_assoc (map Byte bytes) (map Byte (0x1B ∷ 0x28 ∷ 0x42 ∷ [])) (encoded next [] true))
+                (ap (λ l. map Byte bytes ++ l) f.events)
+
+-- ---- for the loop
+
+pub no_report : (m : EncoderMove) → ((r : ℕ) → m ≡ moves.Unmappable r → ⊥) → move_report m ≡ []
+no_report (moves.One a) h = refl
+no_report (moves.Two a b) h = refl
+no_report (moves.Four a b c d) h = refl
+no_report (moves.Escape a b) h = refl
+no_report (moves.Unmappable r) h = absurd (h r refl)
+
+pub no_escape : (m : EncoderMove) → ((a b : ℕ) → m ≡ moves.Escape a b → ⊥) → is_escape m ≡ false
+no_escape (moves.One a) h = refl
+no_escape (moves.Two a b) h = refl
+no_escape (moves.Four a b c d) h = refl
+no_escape (moves.Escape a b) h = absurd (h a b refl)
+no_escape (moves.Unmappable r) h = refl
+
+pub first_nil : (xs : List ℕ) → slice_get xs 0 ≡ None → xs ≡ []
+first_nil [] e = refl
+first_nil (x ∷ xs) e = cc
+
+pub front_length : (n : ℕ) (xs : List ℕ) → n ≤ length xs → length (take n xs) ≡ n
+front_length n xs h = omega (arith, length-take n xs)
+
+-- the code units of the first scalar, and of the others
+pub first_units : (form : EncodingForm) (left : List ℕ) (c : ℕ) → left ≡ c ∷ drop 1 left → total_unit_count form left ≡ unit_count form (get_or left 0 0) + total_unit_count form (drop 1 left)
+first_units form [] c e = cc
+first_units form (x ∷ xs) c e = length-append (code_units form x) (all_code_units form xs)
+
+-- ---- what is read ahead of the moves
+
+module _ (state : EncoderState) (free : ℕ) where
+  pub keeps_none : (left bytes : List ℕ) → KeepsOn state free left bytes left bytes
+  keeps_none left bytes = record { keeps = λ before source last u. u }
+
+  pub keeps_then : (left bytes left' bytes' left'' bytes'' : List ℕ) → KeepsOn state free left bytes left' bytes' → KeepsOn state free left' bytes' left'' bytes'' → KeepsOn state free left bytes left'' bytes''
+  keeps_then left bytes left' bytes' left'' bytes'' first second = record { keeps = λ before source last u. second.keeps before source last (first.keeps before source last u) }
+
+  module _ (serves : Serves (encoder_profile state.codec)) where
+    pub keeps_move : (left bytes : List ℕ) (c : ℕ) (rest : List ℕ) (move : EncoderMove) → left ≡ c ∷ rest → Moves state c state move → is_escape move ≡ false → move_report move ≡ [] → scalar_room state c ≤ free - length bytes →
+        KeepsOn state free left bytes rest (bytes ++ move_bytes move)
+    keeps_move left bytes c rest move at f plain silent room = record {
+      keeps = λ before source last u. underway_read before source last free state left bytes u serves c rest at state move f room plain silent;
+    }
+
+    -- a front of scalars that are ASCII, as it is
+    pub keeps_ascii : HasAscii state → (front left bytes rest : List ℕ) → IsAscii front → left ≡ front ++ rest → length bytes + length front ≤ free → KeepsOn state free left bytes rest (bytes ++ front)
+    keeps_ascii has [] left bytes rest plain at fits = rw (append-nil bytes, at) (keeps_none rest bytes)
+    keeps_ascii has (c ∷ front) left bytes rest plain at fits =
+        let low : c < 128 = plain 0 in
+        let one : scalar_room state c ≤ 1 = has.room c low in
+        let long : length (bytes ++ c ∷ []) ≡ length bytes + 1 = length-append bytes (c ∷ []) in
+        let first = keeps_move left bytes c (front ++ rest) (moves.One c) at (has.moves c low) refl refl (omega arith) in
+        let others = keeps_ascii has front (front ++ rest) (bytes ++ c ∷ []) rest (λ i. plain (suc i)) refl (omega arith) in
+        subst (λ l. KeepsOn state free left bytes rest l) (append_assoc bytes (c ∷ []) front)
+        (keeps_then left bytes (front ++ rest) (bytes ++ c ∷ []) rest ((bytes ++ c ∷ []) ++ front) first others)
+
+-- ASCII scalars have one code unit each
+ascii_units : (form : EncodingForm) (front : List ℕ) → IsAscii front → total_unit_count form front ≡ length front
+ascii_units form [] a = refl
+ascii_units form (c ∷ front) a =
+    let one : length (code_units form c) ≡ 1 = length-code_units-ascii form c (a 0) in
+    let others = ascii_units form front (λ i. a (suc i)) in
+    omega (arith, length-append (code_units form c) (all_code_units form front))
+
+-- the code units of a front that is ASCII, and of the others
+pub front_units : (form : EncodingForm) (left : List ℕ) (n : ℕ) → n ≤ length left → IsAscii (take n left) → total_unit_count form left ≡ n + total_unit_count form (drop n left)
+front_units form left n h a =
+    let parts : left ≡ take n left ++ drop n left = sym (take-append-drop n left) in
+    let both = total_unit_count-append form (take n left) (drop n left) in
+    let units = ascii_units form (take n left) a in
+    let long = length-take-le n left h in
+    omega (arith, ap (total_unit_count form) parts)
+
+-- the next scalar is there, with the number of its code units
+pub first_count : (form : EncodingForm) (left : List ℕ) (c n : ℕ) → left ≡ c ∷ drop 1 left → unit_count form c ≡ n → (0 < length left) × (n ≡ unit_count form (get_or left 0 0))
+first_count form [] c n e u = cc
+first_count form (x ∷ xs) c n e u = let same : x ≡ c = cc in (omega arith, sym u ∙ ap (unit_count form) (sym same))
+
+-- What was read ahead, with one scalar more: the scalars and the bytes, where these end, how many scalars are left, and
+-- how many code units were passed.
+pub record ReadsOn (form : EncodingForm) (state : EncoderState) (free : ℕ) (left bytes : List ℕ) (start passed : ℕ) (left' bytes' : List ℕ) (end passed' : ℕ) : Type 0 where
+  pub keeps : KeepsOn state free left bytes left' bytes'
+  pub start_is : start ≤ end
+  pub end_is : end ≤ free
+  pub fewer : length left' < length left
+  pub passed_is : passed' + total_unit_count form left' ≡ passed + total_unit_count form left
+
+pub reads_on : (form : EncodingForm) (state : EncoderState) (free : ℕ) (serves : Serves (encoder_profile state.codec)) (left bytes : List ℕ) (start passed : ℕ) (left' bytes' : List ℕ) (at passed' : ℕ)
+    → KeepsOn state free left bytes left' bytes' → start ≤ at → length left' ≤ length left → passed' + total_unit_count form left' ≡ passed + total_unit_count form left
+    → length bytes' ≡ at → (c n : ℕ) → left' ≡ c ∷ drop 1 left' → unit_count form c ≡ n → at + scalar_room state c ≤ free
+    → (left'' bytes'' : List ℕ) (end passed'' : ℕ) → PutsCode state c bytes' at bytes'' end → left'' ≡ drop 1 left' → passed'' ≡ passed' + n
+    → ReadsOn form state free left bytes start passed left'' bytes'' end passed''
+reads_on form state free serves left bytes start passed left' bytes' at passed' keeps s f p long c n is units room left'' bytes'' end passed'' put next now =
+    let one = keeps_move state free serves left' bytes' c (drop 1 left') put.move is put.moves put.reads put.silent (omega arith) in
+    let first = first_units form left' c is in
+    let count = (first_count form left' c n is units).1 in
+    let shorter : length (drop 1 left') < length left' = omega (arith, length-drop 1 left', ap length is) in
+    let fits = put.moves.fits in
+    record {
+      keeps = rw (put.bytes, next) (keeps_then state free left bytes left' bytes' (drop 1 left') (bytes' ++ move_bytes put.move) keeps one);
+      start_is = omega (arith, put.ends);
+      end_is = omega (arith, put.ends);
+      fewer = rw next (omega arith);
+      passed_is = rw next (omega arith);
+    }

@@ -1,0 +1,56 @@
+-- A call of an encoder that is under way.
+use Rattle.std.specs.Prelude.{◌≡◌, ℕ, ◌+◌, ◌<◌, ◌≤◌, List, [], ◌∷◌, ◌++◌, length, map, take, slice_index, Bool, false, ◌⊎◌}
+use Rattle.legacy_base.specs.declared.results.EncodeEvent.TheVariants.{Byte}
+use Rattle.legacy_base.specs.EncodingForm.{EncodingForm, total_unit_count}
+use Rattle.legacy_base.specs.EncodeEvents.{code_length}
+use Rattle.legacy_base.specs.Encoders.{EncoderState, code, encoded, scalar_room, encoder_room}
+use Rattle.legacy_base.specs.EncoderCalls.{EncoderLacksRoom, bytes_before}
+use Rattle.legacy_encoder_engine.specs.Moves.{Moves, wants_escape, is_escape, move_report, move_bytes}
+use Rattle.legacy_encoder_engine.specs.declared.moves.EncoderMove.{EncoderMove}
+use Rattle.legacy_encoder_engine.specs.declared.moves.EncoderMove.TheVariants.{One}
+
+-- what was written lowers the room that is still needed
+pub record Lowers (before : EncoderState) (source : List ℕ) (now : EncoderState) (left bytes : List ℕ) : Type 0 where
+  pub low : (form : EncodingForm) (more : ℕ) → encoder_room form now (total_unit_count form left + more) + length bytes ≤ encoder_room form before (total_unit_count form source + more)
+
+-- the same behind an escape, with the scalar that it was written for
+pub record LowersEscaped (before : EncoderState) (source : List ℕ) (now : EncoderState) (left bytes : List ℕ) : Type 0 where
+  pub c : ℕ
+  pub rest : List ℕ
+  pub at : left ≡ c ∷ rest
+  pub settled : wants_escape now c ≡ false
+  pub low : (form : EncodingForm) (more : ℕ) → encoder_room form now (total_unit_count form rest + more) + code_length (code now c) + length bytes ≤ encoder_room form before (total_unit_count form source + more)
+  pub enough : (form : EncodingForm) → scalar_room now c + length bytes ≤ encoder_room form before (total_unit_count form source)
+
+-- A call from the state `before`, with the scalars `source` and so many bytes free, came to the state `now`, with these
+-- scalars left and these bytes written. An escape may have been written for the next scalar: the law of events speaks of
+-- texts that go on with it.
+pub record Underway (before : EncoderState) (source : List ℕ) (last : Bool) (free : ℕ) (now : EncoderState) (left bytes : List ℕ) : Type 0 where
+  pub taken : List ℕ
+  pub cut : source ≡ taken ++ left
+  pub events : (more : List ℕ) (ended : Bool) → encoded before (taken ++ (take 1 left ++ more)) ended ≡ map Byte bytes ++ encoded now (take 1 left ++ more) ended
+  pub same : now.codec ≡ before.codec
+  pub had_room : (k : ℕ) → k < length taken → bytes_before before (take k taken) (slice_index taken k) + scalar_room before (slice_index taken k) ≤ free
+  pub fits : length bytes ≤ free
+  -- where the first act lacked its room nothing was done
+  pub once : EncoderLacksRoom before source last free → (left ≡ source) × (bytes ≡ []) × (now ≡ before)
+  pub lowers : Lowers before source now left bytes ⊎ LowersEscaped before source now left bytes
+
+-- In this state and with so many bytes free, whatever call is under way with the one list left and the one written goes
+-- on with the other left and the other written.
+pub record KeepsOn (state : EncoderState) (free : ℕ) (left_before bytes_before left_after bytes_after : List ℕ) : Type 0 where
+  pub keeps : (before : EncoderState) (source : List ℕ) (last : Bool) → Underway before source last free state left_before bytes_before → Underway before source last free state left_after bytes_after
+
+-- each ASCII scalar is its own byte, in this state and for one byte of room
+pub record HasAscii (state : EncoderState) : Type 0 where
+  pub room : (c : ℕ) → c < 0x80 → scalar_room state c ≤ 1
+  pub moves : (c : ℕ) → c < 0x80 → Moves state c state (One c)
+
+-- The bytes of the scalar c were written behind others, which ended at a place, and end at another one. The state stays.
+pub record PutsCode (state : EncoderState) (c : ℕ) (old : List ℕ) (at : ℕ) (new : List ℕ) (end : ℕ) : Type 0 where
+  pub move : EncoderMove
+  pub moves : Moves state c state move
+  pub reads : is_escape move ≡ false
+  pub silent : move_report move ≡ []
+  pub bytes : new ≡ old ++ move_bytes move
+  pub ends : end ≡ at + length (move_bytes move)

@@ -1,0 +1,123 @@
+//! The loops that read ahead of the moves, for codecs without modes: ASCII by blocks, and scalars one after
+//! another. All that is rare is left to the moves: scalars that have no bytes, and small outputs.
+ghost use Rattle.std.specs.Prelude.{◌≡◌, ℕ, ◌+◌, ◌<◌, ◌≤◌, [], true, false, length, take, MatchOption};
+ghost use Rattle.legacy_base.specs.EncodingForm.{total_unit_count};
+ghost use Rattle.legacy_base.specs.Encoders.{new_encoder, scalar_room};
+ghost use Rattle.legacy_encoder_engine.specs.Moves.{is_escape, move_report};
+ghost use Rattle.legacy_encoder_engine.specs.UnderWay.{KeepsOn, PutsCode};
+
+use crate::drive::put_move;
+use crate::moves::EncoderMove;
+use crate::plain_codes::PlainCodes;
+use legacy_base::{Next, Source};
+
+/// Whether the scalar is read, and has bytes.
+#[inline(always)]
+fn has_bytes(step: EncoderMove) -> bool
+    ensures { result ≡ true → (is_escape step ≡ false) × (move_report step ≡ []) }
+{
+    match step {
+        EncoderMove::One(_) | EncoderMove::Two(_, _) | EncoderMove::Four(_, _, _, _) => true,
+        EncoderMove::Escape(_, _) | EncoderMove::Unmappable(_) => false,
+    }
+}
+
+/// Writes the bytes of a scalar that is next, and answers where they end; `None` where it has none.
+#[inline(always)]
+fn put_code<C: PlainCodes>(encoder: &C, dst: &mut [u8], at: usize, c: char) -> Option<usize>
+    requires { at + scalar_room (new_encoder (C.codec encoder.now)) c ≤ length dst.old }
+    ensures { MatchOption result (take at dst.new ≡ take at dst.old)
+        (λ end. PutsCode (new_encoder (C.codec encoder.now)) c (take at dst.old) at
+            (take end dst.new) end) }
+{
+    let step = encoder.code_of(c);
+    if !has_bytes(step) {
+        return None;
+    }
+    Some(put_move(dst, at, step))
+}
+
+/// Reads scalars up to where ASCII seems to go on or to one that has no bytes, and writes their bytes
+/// from the place `start` on, while `widest` bytes are free. Answers where they end.
+// For each number of code units it goes on by itself: so the place of the next scalar is known before
+// the scalar is.
+#[inline(always)]
+fn read_scalars<C: PlainCodes, S: Source>(
+    encoder: &C,
+    src: &mut S,
+    dst: &mut [u8],
+    start: usize,
+    widest: usize,
+) -> usize
+    requires room { (c : ℕ) → scalar_room (new_encoder (C.codec encoder.now)) c ≤ widest }
+    requires start { start ≤ length dst.old }
+    ensures keeps { KeepsOn (new_encoder (C.codec encoder.now)) (length dst.old) (S.left src.old)
+        (take start dst.old) (S.left src.new) (take result dst.new) }
+    ensures start { start ≤ result }
+    ensures end { result ≤ length dst.old }
+    ensures few { length (S.left src.new) ≤ length (S.left src.old) }
+    ensures some { start < result → length (S.left src.new) < length (S.left src.old) }
+    ensures passed { S.passed src.new + total_unit_count S.form (S.left src.new)
+        ≡ S.passed src.old + total_unit_count S.form (S.left src.old) }
+{
+    let mut at = start;
+    while dst.len() - at >= widest {
+        match src.front() {
+            Next::One(c) => {
+                if at > start && src.is_in_ascii() {
+                    return at;
+                }
+                let Some(end) = put_code(encoder, dst, at, c) else {
+                    return at;
+                };
+                at = end;
+                src.pass(1);
+            }
+            Next::Two(c) => {
+                let Some(end) = put_code(encoder, dst, at, c) else {
+                    return at;
+                };
+                at = end;
+                src.pass(2);
+            }
+            Next::Three(c) => {
+                let Some(end) = put_code(encoder, dst, at, c) else {
+                    return at;
+                };
+                at = end;
+                src.pass(3);
+            }
+            Next::Four(_) | Next::End => return at,
+        }
+    }
+    at
+}
+
+/// Reads ASCII by blocks and runs of other scalars from the front of what the source has left, and writes
+/// their bytes from the place `start` of `dst` on while any scalar fits. Answers where they end.
+#[inline]
+pub fn read_runs<C: PlainCodes, S: Source>(
+    encoder: &C,
+    src: &mut S,
+    dst: &mut [u8],
+    start: usize,
+) -> usize
+    requires { start ≤ length dst.old }
+    ensures keeps { KeepsOn (new_encoder (C.codec encoder.now)) (length dst.old) (S.left src.old)
+        (take start dst.old) (S.left src.new) (take result dst.new) }
+    ensures start { start ≤ result }
+    ensures end { result ≤ length dst.old }
+    ensures passed { S.passed src.new + total_unit_count S.form (S.left src.new)
+        ≡ S.passed src.old + total_unit_count S.form (S.left src.old) }
+{
+    let widest = encoder.past_room();
+    let mut at = start;
+    loop {
+        at += src.copy_ascii(dst, at);
+        let end = read_scalars(encoder, src, dst, at, widest);
+        if end == at {
+            return at;
+        }
+        at = end;
+    }
+}
