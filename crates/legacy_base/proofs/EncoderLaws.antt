@@ -42,10 +42,15 @@ plain_laws code past from_utf8 from_utf16 few rises8 rises16 = record {
 
 -- ---- the codecs
 
--- those of ASCII and pairs
-pairs_laws : (code : ℕ → Option (List ℕ)) → HasLaws (plain_encoder code 2 (λ n. n ⊕ number 1) (λ n. number 2 ⊗ n))
-pairs_laws code = plain_laws code 2 (λ n. n ⊕ number 1) (λ n. number 2 ⊗ n) (omega arith) (λ m n h. omega arith) (λ m n h. omega arith)
+-- one byte a scalar
+byte_laws : (code : ℕ → Option (List ℕ)) → HasLaws (plain_encoder code 1 (λ n. n) (λ n. n))
+byte_laws code = plain_laws code 1 _ _ (omega arith) (λ m n h. h) (λ m n h. h)
 
+-- one byte, or a lead and a trail
+pair_laws : (code : ℕ → Option (List ℕ)) → HasLaws (plain_encoder code 2 (λ n. n ⊕ number 1) (λ n. number 2 ⊗ n))
+pair_laws code = plain_laws code 2 _ _ (omega arith) (λ m n h. omega arith) (λ m n h. omega arith)
+
+-- escapes between runs of bytes
 iso_2022_jp_laws : (jis0208 katakana : List ℕ) → HasLaws (iso_2022_jp_encoder jis0208 katakana)
 unfolding iso_2022_jp_text_events mode_behind
 iso_2022_jp_laws jis0208 katakana = record {
@@ -59,16 +64,14 @@ iso_2022_jp_laws jis0208 katakana = record {
 }
 
 pub encoder_laws : (codec : Codec) → HasLaws (encoder_profile codec)
-encoder_laws (single_byte table) = plain_laws _ 1 (λ n. n) (λ n. n) (omega arith) (λ m n h. h) (λ m n h. h)
-encoder_laws user_defined = plain_laws _ 1 (λ n. n) (λ n. n) (omega arith) (λ m n h. h) (λ m n h. h)
-encoder_laws (big5 index) = pairs_laws _
-encoder_laws (euc_kr index) = pairs_laws _
-encoder_laws (shift_jis jis0208) = pairs_laws _
-encoder_laws (euc_jp jis0208 jis0212) = pairs_laws _
-encoder_laws (gb18030 index ranges pua) =
-    plain_laws _ 4 (λ n. number 2 ⊕ number 2 ⊗ n) (λ n. number 4 ⊗ n) (omega arith) (λ m n h. omega arith) (λ m n h. omega arith)
-encoder_laws (gbk index ranges pua) =
-    plain_laws _ 4 (λ n. n ⊕ number 3) (λ n. number 2 ⊕ number 2 ⊗ n) (omega arith) (λ m n h. omega arith) (λ m n h. omega arith)
+encoder_laws (single_byte table) = byte_laws _
+encoder_laws user_defined = byte_laws _
+encoder_laws (big5 index) = pair_laws _
+encoder_laws (euc_kr index) = pair_laws _
+encoder_laws (shift_jis jis0208) = pair_laws _
+encoder_laws (euc_jp jis0208 jis0212) = pair_laws _
+encoder_laws (gb18030 index ranges pua) = plain_laws _ 4 _ _ (omega arith) (λ m n h. omega arith) (λ m n h. omega arith)
+encoder_laws (gbk index ranges pua) = plain_laws _ 4 _ _ (omega arith) (λ m n h. omega arith) (λ m n h. omega arith)
 encoder_laws (iso_2022_jp jis0208 katakana) = iso_2022_jp_laws jis0208 katakana
 
 -- ---- the same of a state
