@@ -6,6 +6,7 @@ pub mod Cuts
 pub mod Progress
 pub mod Rooms
 pub mod Enough
+pub mod EncoderLaws
 pub mod Iso2022JpParts
 pub mod Iso2022JpFronts
 pub mod TableLoops

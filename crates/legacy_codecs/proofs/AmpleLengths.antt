@@ -1,5 +1,5 @@
 -- A run with outputs that are wide and many is finished.
-use Rattle.std.proofs.Common.{◌≡◌, ◌∙◌, ℕ, ◌+◌, ◌-◌, ◌≤◌, List, [], ◌∷◌, length, map, refl, sym, ap, arith, length-append, All, Bool, true, false, IsTrue}
+use Rattle.std.proofs.Common.{◌≡◌, ◌∙◌, ℕ, ◌+◌, ◌-◌, ◌≤◌, List, [], ◌∷◌, length, drop, map, refl, sym, ap, arith, length-append, All, Bool, true, false, IsTrue}
 use Rattle.std.proofs.lemmas.Bool.{true≢false}
 use Rattle.std.proofs.lemmas.List.{length-map}
 use Rattle.std.proofs.lemmas.List.Elements.{All-get_or}
@@ -13,8 +13,10 @@ use Rattle.legacy_base.specs.Events.{shift}
 use Rattle.legacy_base.specs.States.{DecoderState}
 use Rattle.legacy_base.specs.Calls.{DecoderCall, reported_events, out_events}
 use Rattle.legacy_base.proofs.Rooms.{lacks_small}
-use Rattle.legacy_codecs.specs.Runs.{RunPlace, is_none, place_before, place_behind, ends_run, Reaches, IsRun, piece_count, HasAmpleLengths}
+use Rattle.legacy_codecs.specs.Pieces.{RunPlace, is_none, place_before, place_behind, ends_run}
+use Rattle.legacy_codecs.specs.Runs.{is_input_empty, Reaches, IsRun, HasAmpleLengths}
 use Rattle.legacy_codecs.specs.Runs.Reaches.{begun, called}
+use Rattle.legacy_codecs.proofs.Places.{later_less, calls_are_fewer}
 use Rattle.legacy_codecs.proofs.RunEvents.{events_ahead, place_before-ahead, Reaches-events}
 
 length-shift : (k : ℕ) (es : List DecodeEvent) → length (shift k es) ≡ length es
@@ -32,14 +34,10 @@ some_scalar : (form : EncodingForm) (scalars : List ℕ) → 1 ≤ total_unit_co
 some_scalar form [] h = omega arith
 some_scalar form (c ∷ cs) h = omega arith
 
-later_less : (s : DecoderState) (later : List (List ℕ)) → is_none later ≡ false → length (place_before s later).later + 1 ≡ length later
-later_less s [] h = absurd (true≢false h)
-later_less s (q ∷ qs) h = omega arith
-
 -- a call that does not end the run gives an event, or goes on to the next piece
-progresses : (form : EncodingForm) (p : RunPlace) (free : ℕ) (after : DecoderState) (answer : DecoderResult) (read : ℕ) (scalars : List ℕ) → wide_room form ≤ free →
-    DecoderCall form p.state p.piece (is_none p.later) free after answer read scalars → ends_run p answer ≡ false →
-    1 + length (place_behind p after answer read).later ≤ length (out_events (length p.state.held + read) scalars answer) + length p.later
+progresses : (form : EncodingForm) (p : RunPlace DecoderState) (free : ℕ) (after : DecoderState) (answer : DecoderResult) (read : ℕ) (scalars : List ℕ) → wide_room form ≤ free →
+    DecoderCall form p.state p.piece (is_none p.later) free after answer read scalars → ends_run p (is_input_empty answer) ≡ false →
+    1 + length (place_behind p after (is_input_empty answer) (drop read p.piece)).later ≤ length (out_events (length p.state.held + read) scalars answer) + length p.later
 progresses form p free after InputEmpty read scalars w c e = let l = later_less after p.later e in omega arith
 progresses form p free after OutputFull read scalars w c e =
     let lacks = lacks_small form after _ _ (free - total_unit_count form scalars) (c.output_full refl) in
@@ -51,7 +49,7 @@ progresses form p free after (Malformed a b) read scalars w c e =
     omega arith
 
 -- so there are no more calls than events and pieces
-calls-few : {form : EncodingForm} {from : RunPlace} {lengths : List ℕ} {calls : ℕ} {events : List DecodeEvent} {passed : ℕ} {finished : Bool} {p : RunPlace} →
+calls-few : {form : EncodingForm} {from : RunPlace DecoderState} {lengths : List ℕ} {calls : ℕ} {events : List DecodeEvent} {passed : ℕ} {finished : Bool} {p : RunPlace DecoderState} →
     Reaches form from lengths calls events passed finished p → All (λ n. wide_room form ≤ n) lengths → finished ≡ false → calls + length p.later ≤ length events + length from.later
 calls-few begun w h = omega arith
 calls-few {form = form} {from = from} {lengths = lengths} (called calls events passed p r free e after answer read scalars c) w h =
@@ -65,18 +63,13 @@ calls-few {form = form} {from = from} {lengths = lengths} (called calls events p
     let same = length-shift passed out in
     omega arith
 
-later_count : (s : DecoderState) (pieces : List (List ℕ)) → length (place_before s pieces).later + 1 ≡ piece_count pieces
-later_count s [] = refl
-later_count s (p ∷ ps) = omega arith
-
-pub is_finished : {form : EncodingForm} {before : DecoderState} {pieces : List (List ℕ)} {lengths : List ℕ} {calls : ℕ} {finished : Bool} {items : List DecodeEvent} {after : DecoderState} →
+pub is_finished : {form : EncodingForm} (before : DecoderState) (pieces : List (List ℕ)) {lengths : List ℕ} {calls : ℕ} {finished : Bool} {items : List DecodeEvent} {after : DecoderState} →
     IsRun form (place_before before pieces) lengths calls finished items after → HasAmpleLengths form before pieces lengths → IsTrue finished
-is_finished {finished = true} r h = refl
-is_finished {before = before} {pieces = pieces} {finished = false} r h =
+is_finished before pieces {finished = true} r h = refl
+is_finished before pieces {finished = false} r h =
     let few = calls-few r.reaches h.wide refl in
     let left = shift r.passed (events_ahead r.place) in
     let whole = ap length (sym (place_before-ahead before pieces) ∙ Reaches-events r.reaches) ∙ length-append r.events left in
-    let pieces_are = later_count before pieces in
+    let fewer = calls_are_fewer before pieces _ _ _ _ (length r.events) _ h few (omega arith) in
     let calls_are = r.all refl in
-    let many = h.many in
     absurd (omega arith)

@@ -1,6 +1,10 @@
 -- Laws of runs.
 pub mod KeptAsWritten
+pub mod Places
 pub mod RunEvents
 pub mod RunSteps
 pub mod QueriedLengths
 pub mod AmpleLengths
+pub mod EncodeRunEvents
+pub mod AmpleOutputs
+pub mod EncodeLengths

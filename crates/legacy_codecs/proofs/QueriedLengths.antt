@@ -1,22 +1,13 @@
 -- Calls that fill one output leave the room that the bytes to come need.
-use Rattle.std.proofs.Common.{◌≡◌, ◌≢◌, ℕ, ◌+◌, ◌-◌, ◌≤◌, List, length, drop, length-drop, refl, arith, Bool, true, false, cond, IsTrue}
+use Rattle.std.proofs.Common.{◌≡◌, ◌≢◌, ℕ, ◌+◌, ◌-◌, ◌≤◌, List, length, drop, length-drop, refl, arith, IsTrue}
 use Rattle.legacy_base.specs.declared.results.DecoderResult.{DecoderResult}
 use Rattle.legacy_base.specs.declared.results.DecoderResult.TheVariants.{OutputFull}
 use Rattle.legacy_base.specs.EncodingForm.{total_unit_count}
 use Rattle.legacy_base.specs.States.{DecoderState}
-use Rattle.legacy_base.specs.Acts.{has_reported}
-use Rattle.legacy_base.specs.Lengths.{LengthQuery, query_form, answer_units, value, state_formula, room}
-use Rattle.legacy_base.proofs.Enough.{rises, room-answer}
+use Rattle.legacy_base.specs.Lengths.{LengthQuery, query_form, answer_units, room}
+use Rattle.legacy_base.proofs.Enough.{room-rises, room-answer}
 use Rattle.legacy_codecs.specs.Filling.{NextCall, Fills, QueriedLengthSuffices}
 use Rattle.legacy_codecs.specs.Filling.Fills.{begun, called}
-
--- more bytes need no less room
-room-rises : (query : LengthQuery) (s : DecoderState) (m n : ℕ) → m ≤ n → room query s m ≤ room query s n
-room-rises query s m n h = by_test (has_reported s.grammar) (rises query s.grammar s.held m n h) where
-  by_test : (b : Bool) → value (state_formula query s m) ≤ value (state_formula query s n) →
-      cond b 0 (value (state_formula query s m)) ≤ cond b 0 (value (state_formula query s n))
-  by_test true h = omega arith
-  by_test false h = h
 
 module _ (query : LengthQuery) (before : DecoderState) (bytes free : ℕ) (after : DecoderState) (answer : DecoderResult) (read : ℕ) (scalars : List ℕ)
     (n : NextCall query before bytes free after answer read scalars) where

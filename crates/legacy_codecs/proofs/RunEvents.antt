@@ -12,9 +12,10 @@ use Rattle.legacy_base.specs.Grammar.{events_of}
 use Rattle.legacy_base.specs.States.{DecoderState}
 use Rattle.legacy_base.specs.Calls.{out_events}
 use Rattle.legacy_base.proofs.Shifts.{shift-append, shift-shift, shift-zero}
-use Rattle.legacy_codecs.specs.Pieces.{all_bytes}
-use Rattle.legacy_codecs.specs.Runs.{RunPlace, is_none, place_before, place_behind, Reaches, placed_event, placed, IsRun, IsBeginning, HasNoneLeft, FinishedRun, CutsDoNotMatter}
+use Rattle.legacy_codecs.specs.Pieces.{joined, RunPlace, place_before, place_behind}
+use Rattle.legacy_codecs.specs.Runs.{is_input_empty, Reaches, placed_event, placed, IsRun, IsBeginning, HasNoneLeft, FinishedRun, CutsDoNotMatter}
 use Rattle.legacy_codecs.specs.Runs.Reaches.{begun, called}
+use Rattle.legacy_codecs.proofs.Places.{last_empty, place_before-state, place_behind-state}
 
 pub placed-append : (h : ℕ) (a b : List DecodeEvent) → placed h (a ++ b) ≡ placed h a ++ placed h b
 unfolding placed
@@ -27,64 +28,50 @@ placed-scalars h [] = refl
 placed-scalars h (c ∷ cs) = ap (λ l. Scalar c ∷ l) (placed-scalars h cs)
 
 -- all that is held back or still to come at a place, and its events
-abbrev pub ahead : RunPlace → List ℕ
-ahead p = p.state.held ++ (p.piece ++ all_bytes p.later)
+abbrev pub ahead : RunPlace DecoderState → List ℕ
+ahead p = p.state.held ++ (p.piece ++ joined p.later)
 
-abbrev pub events_ahead : RunPlace → List DecodeEvent
+abbrev pub events_ahead : RunPlace DecoderState → List DecodeEvent
 events_ahead p = events_of p.state.grammar (ahead p)
 
--- a last call has nothing after it
-last_empty : (later : List (List ℕ)) → IsTrue (is_none later) → later ≡ []
-last_empty [] h = refl
-last_empty (q ∷ qs) h = absurd (false≢true h)
-
-next-ahead : (s : DecoderState) (later : List (List ℕ)) → s.held ++ ([] ++ all_bytes later) ≡ ahead (place_before s later)
+next-ahead : (s : DecoderState) (later : List (List ℕ)) → s.held ++ ([] ++ joined later) ≡ ahead (place_before s later)
 next-ahead s [] = refl
 next-ahead s (q ∷ qs) = refl
 
-pub place_before-state : (s : DecoderState) (pieces : List (List ℕ)) → (place_before s pieces).state ≡ s
-place_before-state s [] = refl
-place_before-state s (p ∷ ps) = refl
-
-pub place_before-ahead : (s : DecoderState) (pieces : List (List ℕ)) → events_ahead (place_before s pieces) ≡ events_of s.grammar (s.held ++ all_bytes pieces)
+pub place_before-ahead : (s : DecoderState) (pieces : List (List ℕ)) → events_ahead (place_before s pieces) ≡ events_of s.grammar (s.held ++ joined pieces)
 place_before-ahead s [] = refl
 place_before-ahead s (p ∷ ps) = refl
 
-pub place_behind-state : (p : RunPlace) (after : DecoderState) (answer : DecoderResult) (read : ℕ) → (place_behind p after answer read).state ≡ after
-place_behind-state p after InputEmpty read = place_before-state after p.later
-place_behind-state p after OutputFull read = refl
-place_behind-state p after (Malformed a b) read = refl
-
 -- what is unread and after it stays ahead
-place_behind-ahead : (p : RunPlace) (after : DecoderState) (answer : DecoderResult) (read : ℕ) → (answer ≡ InputEmpty → read ≡ length p.piece) →
-    after.held ++ (drop read p.piece ++ all_bytes p.later) ≡ ahead (place_behind p after answer read)
+place_behind-ahead : (p : RunPlace DecoderState) (after : DecoderState) (answer : DecoderResult) (read : ℕ) → (answer ≡ InputEmpty → read ≡ length p.piece) →
+    after.held ++ (drop read p.piece ++ joined p.later) ≡ ahead (place_behind p after (is_input_empty answer) (drop read p.piece))
 place_behind-ahead p after InputEmpty read h =
     let e = h refl in
     let none : drop read p.piece ≡ [] = drop_of_length-le p.piece (omega arith) in
-    ap (λ l. after.held ++ (l ++ all_bytes p.later)) none ∙ next-ahead after p.later
+    ap (λ l. after.held ++ (l ++ joined p.later)) none ∙ next-ahead after p.later
 place_behind-ahead p after OutputFull read h = refl
 place_behind-ahead p after (Malformed a b) read h = refl
 
-module _ {form : EncodingForm} {from : RunPlace} {lengths : List ℕ} where
+module _ {form : EncodingForm} {from : RunPlace DecoderState} {lengths : List ℕ} where
   -- the events so far, and then those of what is ahead, are all events
-  pub Reaches-events : {calls : ℕ} {events : List DecodeEvent} {passed : ℕ} {finished : Bool} {p : RunPlace} → Reaches form from lengths calls events passed finished p →
+  pub Reaches-events : {calls : ℕ} {events : List DecodeEvent} {passed : ℕ} {finished : Bool} {p : RunPlace DecoderState} → Reaches form from lengths calls events passed finished p →
       events_ahead from ≡ events ++ shift passed (events_ahead p)
   Reaches-events begun = sym (shift-zero (events_ahead from))
   Reaches-events (called calls events passed p r free e after answer read scalars c) =
       let out = out_events (length p.state.held + read) scalars answer in
-      let next = place_behind p after answer read in
-      let one : events_ahead p ≡ out ++ shift c.passed (events_of after.grammar (after.held ++ (drop read p.piece ++ all_bytes p.later))) =
-      c.progress.events (all_bytes p.later) (λ l. ap all_bytes (last_empty p.later l)) in
-      let two : events_of after.grammar (after.held ++ (drop read p.piece ++ all_bytes p.later)) ≡ events_ahead next =
+      let next = place_behind p after (is_input_empty answer) (drop read p.piece) in
+      let one : events_ahead p ≡ out ++ shift c.passed (events_of after.grammar (after.held ++ (drop read p.piece ++ joined p.later))) =
+      c.progress.events (joined p.later) (λ l. ap joined (last_empty p.later l)) in
+      let two : events_of after.grammar (after.held ++ (drop read p.piece ++ joined p.later)) ≡ events_ahead next =
       ap (λ l. events_of after.grammar l) (place_behind-ahead p after answer read (λ q. (c.input_empty q).0))
-      ∙ ap (λ (s : DecoderState). events_of s.grammar (ahead next)) (sym (place_behind-state p after answer read)) in
+      ∙ ap (λ (s : DecoderState). events_of s.grammar (ahead next)) (sym (place_behind-state p after (is_input_empty answer) (drop read p.piece))) in
       Reaches-events r
       ∙ ap (λ l. events ++ shift passed l) (one ∙ ap (λ l. out ++ shift c.passed l) two)
       ∙ ap (λ l. events ++ l) (shift-append passed out (shift c.passed (events_ahead next)) ∙ ap (λ l. shift passed out ++ l) (shift-shift passed c.passed (events_ahead next)))
       ∙ sym (append_assoc events (shift passed out) (shift (passed + c.passed) (events_ahead next)))
 
   -- a run is finished behind all pieces, and nothing is left there
-  pub Reaches-finished : {calls : ℕ} {events : List DecodeEvent} {passed : ℕ} {finished : Bool} {p : RunPlace} → Reaches form from lengths calls events passed finished p →
+  pub Reaches-finished : {calls : ℕ} {events : List DecodeEvent} {passed : ℕ} {finished : Bool} {p : RunPlace DecoderState} → Reaches form from lengths calls events passed finished p →
       finished ≡ true → (p ≡ place_before p.state []) × HasNoneLeft p.state
   Reaches-finished begun h = absurd (false≢true h)
   Reaches-finished (called calls events passed p r free e after InputEmpty read scalars c) h =
@@ -112,7 +99,7 @@ is_beginning {before = before} {pieces = pieces} {items = items} r =
     }
 
 -- a finished run leaves nothing
-pub none_left : {form : EncodingForm} {from : RunPlace} {lengths : List ℕ} {calls : ℕ} {finished : Bool} {items : List DecodeEvent} {after : DecoderState} →
+pub none_left : {form : EncodingForm} {from : RunPlace DecoderState} {lengths : List ℕ} {calls : ℕ} {finished : Bool} {items : List DecodeEvent} {after : DecoderState} →
     IsRun form from lengths calls finished items after → IsTrue finished → HasNoneLeft after
 none_left r h = subst HasNoneLeft r.state (Reaches-finished r.reaches h).1
 

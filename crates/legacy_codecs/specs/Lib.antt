@@ -2,4 +2,6 @@
 pub mod Scalars
 pub mod Pieces
 pub mod Runs
+pub mod EncodeRuns
 pub mod Filling
+pub mod EncodeFilling

@@ -1,5 +1,5 @@
 -- Runs of a decoder: its calls over an input in pieces, with outputs of given lengths.
-use Rattle.std.specs.Prelude.{◌≡◌, ℕ, ◌+◌, ◌-◌, ◌≤◌, ◌^◌, List, [], ◌∷◌, ◌++◌, length, drop, slice_get, sum, sum_by, ◌⊎◌, Bool, true, false, Some, All}
+use Rattle.std.specs.Prelude.{◌≡◌, ℕ, ◌+◌, ◌-◌, ◌≤◌, List, [], ◌∷◌, ◌++◌, length, drop, slice_get, Bool, true, false, Some}
 use Rattle.legacy_base.specs.declared.results.DecodeEvent.{DecodeEvent}
 use Rattle.legacy_base.specs.declared.results.DecodeEvent.TheVariants.{Scalar, Bad}
 use Rattle.legacy_base.specs.declared.results.DecoderResult.{DecoderResult}
@@ -9,51 +9,27 @@ use Rattle.legacy_base.specs.Events.{shift}
 use Rattle.legacy_base.specs.Grammar.{events_of}
 use Rattle.legacy_base.specs.States.{DecoderState}
 use Rattle.legacy_base.specs.Calls.{DecoderCall, out_events}
-use Rattle.legacy_codecs.specs.Pieces.{all_bytes}
+use Rattle.legacy_codecs.specs.Pieces.{joined, AreAmple, RunPlace, is_none, place_before, place_behind, ends_run}
 
--- ---- where a run stands
-
--- the decoder's state, what is unread of the piece at hand, and the pieces after it
-pub record RunPlace : Type 0 where
-  pub state : DecoderState
-  pub piece : List ℕ
-  pub later : List (List ℕ)
-
--- no pieces are left
-abbrev pub is_none : List (List ℕ) → Bool
-is_none [] = true
-is_none (p ∷ ps) = false
-
--- before the first of the pieces; no pieces count as one empty piece
-abbrev pub place_before : DecoderState → List (List ℕ) → RunPlace
-place_before state [] = record { state = state; piece = []; later = [] }
-place_before state (p ∷ ps) = record { state = state; piece = p; later = ps }
-
--- Behind a call: the next piece follows where the call answered InputEmpty, and else the unread rest goes in again.
-abbrev pub place_behind : RunPlace → DecoderState → DecoderResult → ℕ → RunPlace
-place_behind p after InputEmpty read = place_before after p.later
-place_behind p after OutputFull read = record { state = after; piece = drop read p.piece; later = p.later }
-place_behind p after (Malformed length back) read = record { state = after; piece = drop read p.piece; later = p.later }
-
--- a run ends at an InputEmpty on the last piece
-abbrev pub ends_run : RunPlace → DecoderResult → Bool
-ends_run p InputEmpty = is_none p.later
-ends_run p OutputFull = false
-ends_run p (Malformed length back) = false
+-- the call answered InputEmpty
+abbrev pub is_input_empty : DecoderResult → Bool
+is_input_empty InputEmpty = true
+is_input_empty OutputFull = false
+is_input_empty (Malformed length back) = false
 
 -- ---- the calls of a run
 
 -- So many calls lead from a place to another, each with an output of the next of the lengths, and with `last` set where
 -- the piece is the last one. They gave these events, and so many bytes are done with, both counted from the front of
 -- what was held back at the start.
-pub data Reaches (form : EncodingForm) (from : RunPlace) (lengths : List ℕ) : ℕ → List DecodeEvent → ℕ → Bool → RunPlace → Type 0 where
+pub data Reaches (form : EncodingForm) (from : RunPlace DecoderState) (lengths : List ℕ) : ℕ → List DecodeEvent → ℕ → Bool → RunPlace DecoderState → Type 0 where
   begun : Reaches form from lengths 0 [] 0 false from
-  called : (calls : ℕ) (events : List DecodeEvent) (passed : ℕ) (p : RunPlace) → Reaches form from lengths calls events passed false p →
+  called : (calls : ℕ) (events : List DecodeEvent) (passed : ℕ) (p : RunPlace DecoderState) → Reaches form from lengths calls events passed false p →
       (free : ℕ) → slice_get lengths calls ≡ Some free →
       (after : DecoderState) (answer : DecoderResult) (read : ℕ) (scalars : List ℕ) →
       (c : DecoderCall form p.state p.piece (is_none p.later) free after answer read scalars) →
       Reaches form from lengths (calls + 1) (events ++ shift passed (out_events (length p.state.held + read) scalars answer))
-      (passed + c.passed) (ends_run p answer) (place_behind p after answer read)
+      (passed + c.passed) (ends_run p (is_input_empty answer)) (place_behind p after (is_input_empty answer) (drop read p.piece))
 
 -- the place of an event counted from the first byte behind the `held` ones, and 0 where it lies before that
 abbrev pub placed_event : ℕ → DecodeEvent → DecodeEvent
@@ -69,10 +45,10 @@ placed held (event ∷ events) = placed_event held event ∷ placed held events
 
 -- A run of so many calls from a place gave these events, with places counted from its first byte, and ends in this state. There is a
 -- call for each of the lengths, but where the run is finished before.
-pub record IsRun (form : EncodingForm) (from : RunPlace) (lengths : List ℕ) (calls : ℕ) (finished : Bool) (answered : List DecodeEvent) (after : DecoderState) : Type 0 where
+pub record IsRun (form : EncodingForm) (from : RunPlace DecoderState) (lengths : List ℕ) (calls : ℕ) (finished : Bool) (answered : List DecodeEvent) (after : DecoderState) : Type 0 where
   pub events : List DecodeEvent
   pub passed : ℕ
-  pub place : RunPlace
+  pub place : RunPlace DecoderState
   pub reaches : Reaches form from lengths calls events passed finished place
   pub state : place.state ≡ after
   pub placed_is : answered ≡ placed (length from.state.held) events
@@ -83,26 +59,17 @@ pub record IsRun (form : EncodingForm) (from : RunPlace) (lengths : List ℕ) (c
 -- finished.
 pub record IsBeginning (before : DecoderState) (pieces : List (List ℕ)) (finished : Bool) (answered : List DecodeEvent) : Type 0 where
   pub rest : List DecodeEvent
-  pub whole : placed (length before.held) (events_of before.grammar (before.held ++ all_bytes pieces)) ≡ answered ++ rest
+  pub whole : placed (length before.held) (events_of before.grammar (before.held ++ joined pieces)) ≡ answered ++ rest
   pub all : finished ≡ true → rest ≡ []
 
 -- Nothing is left in a state: what is held back has no events.
 abbrev pub HasNoneLeft : DecoderState → Type 0
 HasNoneLeft state = events_of state.grammar state.held ≡ []
 
--- how many pieces there are; no pieces count as one empty piece
-abbrev pub piece_count : List (List ℕ) → ℕ
-piece_count [] = 1
-piece_count (p ∷ ps) = length (p ∷ ps)
-
 -- Each output has room for any scalar, and there are as many as the whole input has events and pieces together, or more.
-pub record HasAmpleLengths (form : EncodingForm) (before : DecoderState) (pieces : List (List ℕ)) (lengths : List ℕ) : Type 0 where
-  pub wide : All (λ n. wide_room form ≤ n) lengths
-  pub many : length (events_of before.grammar (before.held ++ all_bytes pieces)) + piece_count pieces ≤ length lengths
-
--- the sums that have to be lengths of the type `usize`: of the pieces' lengths, and of the outputs' with their number
-abbrev pub IsTooLong : List (List ℕ) → List ℕ → Type 0
-IsTooLong pieces lengths = (2 ^ 64 ≤ sum_by length pieces) ⊎ (2 ^ 64 ≤ sum lengths + length lengths)
+abbrev pub HasAmpleLengths : EncodingForm → DecoderState → List (List ℕ) → List ℕ → Type 0
+HasAmpleLengths form before pieces lengths =
+    AreAmple (wide_room form) (length (events_of before.grammar (before.held ++ joined pieces))) pieces lengths
 
 -- ---- runs of the same bytes
 
@@ -111,7 +78,7 @@ IsTooLong pieces lengths = (2 ^ 64 ≤ sum_by length pieces) ⊎ (2 ^ 64 ≤ sum
 pub record FinishedRun (before : DecoderState) (bytes : List ℕ) (answered : List DecodeEvent) : Type 0 where
   pub form : EncodingForm
   pub pieces : List (List ℕ)
-  pub same : all_bytes pieces ≡ bytes
+  pub same : joined pieces ≡ bytes
   pub lengths : List ℕ
   pub calls : ℕ
   pub after : DecoderState

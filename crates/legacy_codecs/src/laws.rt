@@ -1,6 +1,9 @@
 //! Laws of many calls together, each as the contract of a function that does nothing.
 ghost use Rattle.legacy_base.specs.Lengths.{to_utf16, to_utf8, to_utf8_without_replacement};
+ghost use Rattle.legacy_base.specs.EncodingForm.{Utf8, Utf16};
 ghost use Rattle.legacy_codecs.specs.Filling.{QueriedLengthSuffices};
+ghost use Rattle.legacy_codecs.specs.EncodeFilling.{EncodeQueriedLengthSuffices};
+ghost use Rattle.legacy_codecs.specs.EncodeRuns.{EncodeCutsDoNotMatter};
 ghost use Rattle.legacy_codecs.specs.Runs.{CutsDoNotMatter};
 
 pub use legacy_decoders::laws::{lists_are_read_by_fronts, nothing_has_no_events};
@@ -24,4 +27,24 @@ pub fn queried_length_suffices()
 /// malformed sequences in the same order: no place and no length depends on the cuts.
 pub fn cuts_do_not_matter()
     ensures { CutsDoNotMatter }
+{}
+
+/// A length query that an encoder answers for all code units to come is enough for all calls with them.
+///
+/// Let an output have the length that one of an encoder's two length queries answered for `n` code units,
+/// of UTF-8 or of UTF-16, or more bytes. Then let calls be made into that output, each into what is still
+/// free of it, until the text is at its end, in pieces of any lengths, with nothing written for an
+/// unmappable scalar. Then no call answers `OutputFull`.
+pub fn encode_queried_length_suffices()
+    ensures from_utf16 { EncodeQueriedLengthSuffices Utf16 }
+    ensures from_utf8 { EncodeQueriedLengthSuffices Utf8 }
+{}
+
+/// Two finished runs over the same scalars answer the same events.
+///
+/// Let encoders go from one state through the same scalars, cut into pieces in any two ways, from UTF-8 or
+/// from UTF-16, where each piece is read by itself, with outputs of any lengths. Where both runs are
+/// finished, they answer the same bytes and the same unmappable scalars in the same order.
+pub fn encode_cuts_do_not_matter()
+    ensures { EncodeCutsDoNotMatter }
 {}

@@ -2,17 +2,23 @@
 //! below, and calls that run a coder over a whole input.
 #![tactic(auto)]
 
+mod decode_run;
+mod encode_run;
 pub mod laws;
-mod run;
+mod run_parts;
 mod scalars;
+mod texts;
 
+pub use decode_run::{DecodeRun, decode_run_utf8, decode_run_utf16};
+pub use encode_run::{EncodeRun, encode_run_utf8, encode_run_utf16};
 pub use legacy_base::{
-    ByteSource, DecodeEvent, DecoderResult, Destination, IndexName, Indexes, RawDecoder,
-    SingleByteTable, TableError, Tables, Utf8Destination, Utf16Destination,
+    ByteSource, DecodeEvent, DecoderResult, Destination, EncodeEvent, EncoderResult, IndexName,
+    Indexes, Next, RawDecoder, RawEncoder, SingleByteTable, Source, TableError, Tables,
+    Utf8Destination, Utf8Source, Utf16Destination, Utf16Source,
 };
 pub use legacy_decoders::{
     Big5Decoder, EucJpDecoder, EucKrDecoder, Gb18030Decoder, Iso2022JpDecoder, ReplacementDecoder,
     ShiftJisDecoder, SingleByteDecoder, UserDefinedDecoder, Utf16Decoder,
 };
-pub use run::{DecodeRun, RunError, decode_run_utf8, decode_run_utf16};
+pub use run_parts::RunError;
 pub use scalars::{OutputForm, ScalarBuffer, Utf8Form, Utf16Form};

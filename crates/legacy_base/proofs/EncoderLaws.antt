@@ -1,0 +1,66 @@
+-- What is shown of each encoder's profile for whole runs: its end, its rooms, and that its lengths rise.
+use Rattle.std.proofs.Common.{◌≡◌, ℕ, ◌-◌, ◌≤◌, List, [], ◌∷◌, length, map, refl, arith, Option, Bool, true, false, Some, ltb}
+use Rattle.std.proofs.lemmas.Bool.{cond_both}
+use Rattle.legacy_base.specs.declared.results.EncodeEvent.TheVariants.{Byte}
+use Rattle.legacy_base.specs.EncodingForm.{EncodingForm, Utf8, Utf16}
+use Rattle.legacy_base.specs.EncodeEvents.{plain_events}
+use Rattle.legacy_base.specs.EncoderProfile.{EncoderProfile, EncoderMode, plain_encoder}
+use Rattle.legacy_base.specs.Encoders.{Codec, single_byte, user_defined, encoder_profile, EncoderState, encoded, end_bytes, encoder_need, encoder_formula, encoder_answer, encoder_room}
+use Rattle.legacy_base.specs.Lengths.{Formula, number, value}
+use Rattle.legacy_base.proofs.Enough.{answer-value}
+
+-- ---- what is shown of a profile
+
+pub record HasLaws (p : EncoderProfile) : Type 0 where
+  -- an empty text that ends gives what the end writes
+  pub ended : (mode : EncoderMode) → p.events mode [] true ≡ map Byte (p.end_bytes mode)
+  -- no scalar and no end needs more than four bytes
+  pub scalar_fits : (c : ℕ) → p.scalar_room c ≤ 4
+  pub end_fits : (mode : EncoderMode) → length (p.end_bytes mode) ≤ 4
+  -- more code units need no less room
+  pub rises : (form : EncodingForm) (mode : EncoderMode) (m n : ℕ) → m ≤ n →
+      value (p.formula form (number m)) - p.surplus form mode m ≤ value (p.formula form (number n)) - p.surplus form mode n
+
+-- a formula rises with the number of code units
+abbrev pub Rises : (Formula → Formula) → Type 0
+Rises f = (m n : ℕ) → m ≤ n → value (f (number m)) ≤ value (f (number n))
+
+-- a codec without modes
+pub plain_laws : (code : ℕ → Option (List ℕ)) (past : ℕ) (from_utf8 from_utf16 : Formula → Formula) → past ≤ 4 → Rises from_utf8 → Rises from_utf16 →
+    HasLaws (plain_encoder code past from_utf8 from_utf16)
+unfolding plain_events
+plain_laws code past from_utf8 from_utf16 few rises8 rises16 = record {
+  ended = λ mode. refl;
+  scalar_fits = λ c. cond_both (ltb c 0x80) 1 past (λ n. n ≤ 4) (λ _. omega arith) (λ _. few);
+  end_fits = λ mode. omega arith;
+  rises = λ form mode. by_form form;
+} where
+  by_form : (form : EncodingForm) (m n : ℕ) → m ≤ n → value ((plain_encoder code past from_utf8 from_utf16).formula form (number m)) - 0 ≤ value ((plain_encoder code past from_utf8 from_utf16).formula form (number n)) - 0
+  by_form Utf8 m n h = let r = rises8 m n h in omega arith
+  by_form Utf16 m n h = let r = rises16 m n h in omega arith
+
+-- ---- the codecs
+
+pub encoder_laws : (codec : Codec) → HasLaws (encoder_profile codec)
+encoder_laws (single_byte table) = plain_laws _ 1 (λ n. n) (λ n. n) (omega arith) (λ m n h. h) (λ m n h. h)
+encoder_laws user_defined = plain_laws _ 1 (λ n. n) (λ n. n) (omega arith) (λ m n h. h) (λ m n h. h)
+
+-- ---- the same of a state
+
+-- what is left of a text of which only the end is to come
+pub end-encoded : (s : EncoderState) → encoded s [] true ≡ map Byte (end_bytes s)
+end-encoded s = (encoder_laws s.codec).ended s.mode
+
+-- four free bytes are enough for any act
+pub encoder_need-small : (s : EncoderState) (unread : List ℕ) (last : Bool) → encoder_need s unread last ≤ 4
+encoder_need-small s (c ∷ unread) last = (encoder_laws s.codec).scalar_fits c
+encoder_need-small s [] true = (encoder_laws s.codec).end_fits s.mode
+encoder_need-small s [] false = omega arith
+
+-- more code units need no less room
+pub encoder_room-rises : (form : EncodingForm) (s : EncoderState) (m n : ℕ) → m ≤ n → encoder_room form s m ≤ encoder_room form s n
+encoder_room-rises form s = (encoder_laws s.codec).rises form s.mode
+
+-- the room is no more than the answer
+pub encoder_room-answer : (form : EncodingForm) (s : EncoderState) (n k : ℕ) → encoder_answer form s n ≡ Some k → encoder_room form s n ≤ k
+encoder_room-answer form s n k e = let v = answer-value (encoder_formula form s n) k e in omega arith

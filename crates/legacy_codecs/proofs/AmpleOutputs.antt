@@ -1,0 +1,58 @@
+-- A run of an encoder with outputs that are wide and many is finished.
+use Rattle.std.proofs.Common.{◌≡◌, ◌∙◌, ℕ, ◌+◌, ◌-◌, ◌≤◌, List, ◌++◌, length, map, refl, sym, ap, arith, length-append, All, Bool, true, false, IsTrue}
+use Rattle.std.proofs.lemmas.List.{length-map}
+use Rattle.std.proofs.lemmas.List.Elements.{All-get_or}
+use Rattle.std.proofs.lemmas.Option.{slice_get_within, get_or_from_slice_get}
+use Rattle.legacy_base.specs.declared.results.EncodeEvent.{EncodeEvent}
+use Rattle.legacy_base.specs.declared.results.EncodeEvent.TheVariants.{Byte}
+use Rattle.legacy_base.specs.declared.results.EncoderResult.{EncoderResult}
+use Rattle.legacy_base.specs.declared.results.EncoderResult.TheVariants.{InputEmpty, OutputFull, Unmappable}
+use Rattle.legacy_base.specs.Encoders.{EncoderState}
+use Rattle.legacy_base.specs.EncoderCalls.{EncoderCall, reported}
+use Rattle.legacy_base.proofs.EncoderLaws.{encoder_need-small}
+use Rattle.legacy_codecs.specs.Pieces.{RunPlace, is_none, place_before, place_behind, ends_run}
+use Rattle.legacy_codecs.specs.EncodeRuns.{is_input_empty, EncodeReaches, IsEncodeRun, HasAmpleOutputs}
+use Rattle.legacy_codecs.specs.EncodeRuns.EncodeReaches.{begun, called}
+use Rattle.legacy_codecs.proofs.Places.{later_less, calls_are_fewer}
+use Rattle.legacy_codecs.proofs.EncodeRunEvents.{encoded_ahead, place_before-encoded, reaches-encoded}
+
+-- what is reported at the end of a call comes on top of its bytes
+out-length : (bytes : List ℕ) (answer : EncoderResult) → length (map Byte bytes ++ reported answer) ≡ length bytes + length (reported answer)
+out-length bytes answer =
+    let event : ℕ → EncodeEvent = λ b. Byte b in
+    length-append (map event bytes) (reported answer) ∙ ap (λ n. n + length (reported answer)) (length-map bytes event)
+
+-- a call that does not end the run gives an event, or goes on to the next piece
+progresses : (p : RunPlace EncoderState) (free : ℕ) (after : EncoderState) (answer : EncoderResult) (left bytes : List ℕ) → 4 ≤ free →
+    EncoderCall p.state p.piece (is_none p.later) free after answer left bytes → ends_run p (is_input_empty answer) ≡ false →
+    1 + length (place_behind p after (is_input_empty answer) left).later ≤ length (map Byte bytes ++ reported answer) + length p.later
+progresses p free after InputEmpty left bytes w c e = let l = later_less after p.later e in omega arith
+progresses p free after OutputFull left bytes w c e =
+    let lacks = c.output_full refl in
+    let small = encoder_need-small after left (is_none p.later) in
+    let out = out-length bytes OutputFull in
+    omega arith
+progresses p free after (Unmappable d) left bytes w c e = let out = out-length bytes (Unmappable d) in omega arith
+
+-- so there are no more calls than events and pieces
+calls-few : {from : RunPlace EncoderState} {lengths : List ℕ} {calls : ℕ} {events : List EncodeEvent} {finished : Bool} {p : RunPlace EncoderState} →
+    EncodeReaches from lengths calls events finished p → All (λ n. 4 ≤ n) lengths → finished ≡ false → calls + length p.later ≤ length events + length from.later
+calls-few begun w h = omega arith
+calls-few {lengths = lengths} (called calls events p r free e after answer left bytes c) w h =
+    let before = calls-few r w refl in
+    let at = All-get_or (λ n. 4 ≤ n) lengths calls 0 (slice_get_within lengths calls free e) w in
+    let is = get_or_from_slice_get lengths calls free 0 e in
+    let wide : 4 ≤ free = omega arith in
+    let one = progresses p free after answer left bytes wide c h in
+    let both = length-append events (map Byte bytes ++ reported answer) in
+    omega arith
+
+pub encode_is_finished : (before : EncoderState) (pieces : List (List ℕ)) {lengths : List ℕ} {calls : ℕ} {finished : Bool} {items : List EncodeEvent} {after : EncoderState} →
+    IsEncodeRun (place_before before pieces) lengths calls finished items after → HasAmpleOutputs before pieces lengths → IsTrue finished
+encode_is_finished before pieces {finished = true} r h = refl
+encode_is_finished before pieces {finished = false} {items = items} r h =
+    let few = calls-few r.reaches h.wide refl in
+    let whole = ap length (sym (place_before-encoded before pieces) ∙ reaches-encoded r.reaches) ∙ length-append items (encoded_ahead r.place) in
+    let fewer = calls_are_fewer before pieces _ _ _ _ (length items) _ h few (omega arith) in
+    let calls_are = r.all refl in
+    absurd (omega arith)

@@ -1,0 +1,43 @@
+-- Calls of an encoder that fill one output leave the room that the text to come needs.
+use Rattle.std.proofs.Common.{◌≡◌, ◌≢◌, ℕ, ◌+◌, ◌-◌, ◌≤◌, List, length, refl, arith, Bool, false}
+use Rattle.legacy_base.specs.declared.results.EncoderResult.{EncoderResult}
+use Rattle.legacy_base.specs.declared.results.EncoderResult.TheVariants.{InputEmpty, OutputFull, Unmappable}
+use Rattle.legacy_base.specs.EncodingForm.{EncodingForm, total_unit_count}
+use Rattle.legacy_base.specs.Encoders.{EncoderState, encoder_room}
+use Rattle.legacy_base.specs.EncoderCalls.{GoesOn}
+use Rattle.legacy_base.proofs.EncoderLaws.{encoder_room-rises, encoder_room-answer}
+use Rattle.legacy_codecs.specs.EncodeFilling.{NextEncodeCall, EncodeFills, EncodeQueriedLengthSuffices}
+use Rattle.legacy_codecs.specs.EncodeFilling.EncodeFills.{begun, called}
+
+-- a call that is not the end of a text and has the room that it needs goes on
+goes_on : (last : Bool) (answer : EncoderResult) → answer ≢ OutputFull → (answer ≡ InputEmpty → last ≡ false) → GoesOn last answer
+goes_on last InputEmpty n e = e refl
+goes_on last OutputFull n e = n refl
+goes_on last (Unmappable c) n e = tt
+
+module _ {form : EncodingForm} {before : EncoderState} {units free : ℕ} {after : EncoderState} {answer : EncoderResult} {read : ℕ} {bytes : List ℕ}
+    (n : NextEncodeCall form before units free after answer read bytes) (enough : encoder_room form before units ≤ free) where
+  -- what is to come has room
+  next-suffices : answer ≢ OutputFull
+  next-suffices = let r = encoder_room-rises form before (total_unit_count form n.source) units n.some in n.call.suffices form (omega arith)
+
+  -- and so has what is to come behind the call
+  next-lowers : (answer ≡ InputEmpty → n.last ≡ false) → encoder_room form after (units - read) ≤ free - length bytes
+  next-lowers e =
+      let some = n.some in
+      let reads = n.reads in
+      let rest : total_unit_count form n.left + (units - total_unit_count form n.source) ≡ units - read = omega arith in
+      let all : total_unit_count form n.source + (units - total_unit_count form n.source) ≡ units = omega arith in
+      let low = n.call.lowers form (units - total_unit_count form n.source) (goes_on n.last answer next-suffices e) in
+      let low' = rw (rest, all) at low in
+      omega arith
+
+fills-room : {form : EncodingForm} {from : EncoderState} {units free : ℕ} {s : EncoderState} {to_come room : ℕ} → EncodeFills form from units free s to_come room →
+    encoder_room form from units ≤ free → encoder_room form s to_come ≤ room
+fills-room begun h = h
+fills-room (called before to_come room f after answer read bytes n e) h = next-lowers n (fills-room f h) e
+
+pub encode_queried_length_suffices : (form : EncodingForm) → EncodeQueriedLengthSuffices form
+encode_queried_length_suffices form from units k free e h before to_come room f after answer read bytes n =
+    let start = encoder_room-answer form from units k e in
+    next-suffices n (fills-room f (omega arith))

@@ -1,0 +1,87 @@
+-- What the calls of an encoder's run give together.
+use Rattle.std.proofs.Common.{◌≡◌, ◌∙◌, ℕ, ◌+◌, List, [], ◌∷◌, ◌++◌, map, refl, sym, ap, append_assoc, append-nil, subst, Bool, true, false, IsTrue, Some}
+use Rattle.std.proofs.lemmas.Bool.{false≢true}
+use Rattle.std.specs.Prelude.{slice_get}
+use Rattle.legacy_base.specs.declared.results.EncodeEvent.{EncodeEvent}
+use Rattle.legacy_base.specs.declared.results.EncodeEvent.TheVariants.{Byte}
+use Rattle.legacy_base.specs.declared.results.EncoderResult.{EncoderResult}
+use Rattle.legacy_base.specs.declared.results.EncoderResult.TheVariants.{InputEmpty, OutputFull, Unmappable}
+use Rattle.legacy_base.specs.Encoders.{EncoderState, encoded}
+use Rattle.legacy_base.specs.EncoderCalls.{EncoderCall, reported}
+use Rattle.legacy_base.proofs.EncoderLaws.{end-encoded}
+use Rattle.legacy_codecs.specs.Pieces.{joined, RunPlace, is_none, place_before, place_behind, ends_run}
+use Rattle.legacy_codecs.specs.EncodeRuns.{is_input_empty, EncodeReaches, IsEncodeRun, IsEncodeBeginning, HasNoEnd, FinishedEncodeRun, EncodeCutsDoNotMatter}
+use Rattle.legacy_codecs.specs.EncodeRuns.EncodeReaches.{begun, called}
+use Rattle.legacy_codecs.proofs.Places.{last_empty, place_before-state}
+
+-- one more call, by other words for what went in and what came out
+pub reaches_call : {from : RunPlace EncoderState} {lengths : List ℕ} {calls : ℕ} {items items' : List EncodeEvent} {p p' : RunPlace EncoderState} {free : ℕ} {after : EncoderState}
+    {last finished empty : Bool} {answer : EncoderResult} {left bytes : List ℕ} →
+    EncodeReaches from lengths calls items false p → slice_get lengths calls ≡ Some free → EncoderCall p.state p.piece last free after answer left bytes →
+    last ≡ is_none p.later → empty ≡ is_input_empty answer → items' ≡ items ++ (map Byte bytes ++ reported answer) →
+    finished ≡ ends_run p empty → p' ≡ place_behind p after empty left → EncodeReaches from lengths (calls + 1) items' finished p'
+reaches_call r given c l e i f q = let c' = rw l at c in rw (i, f, q, e) (called _ _ _ r _ given _ _ _ _ c')
+
+-- the events of what is unread and of what comes after it
+abbrev pub encoded_ahead : RunPlace EncoderState → List EncodeEvent
+encoded_ahead p = encoded p.state (p.piece ++ joined p.later) true
+
+pub place_before-encoded : (s : EncoderState) (pieces : List (List ℕ)) → encoded_ahead (place_before s pieces) ≡ encoded s (joined pieces) true
+place_before-encoded s [] = refl
+place_before-encoded s (p ∷ ps) = refl
+
+-- what is left and after it stays ahead
+place_behind-encoded : (p : RunPlace EncoderState) (after : EncoderState) (answer : EncoderResult) (left : List ℕ) → (answer ≡ InputEmpty → left ≡ []) →
+    encoded after (left ++ joined p.later) true ≡ encoded_ahead (place_behind p after (is_input_empty answer) left)
+place_behind-encoded p after InputEmpty left h = ap (λ l. encoded after (l ++ joined p.later) true) (h refl) ∙ sym (place_before-encoded after p.later)
+place_behind-encoded p after OutputFull left h = refl
+place_behind-encoded p after (Unmappable c) left h = refl
+
+module _ {from : RunPlace EncoderState} {lengths : List ℕ} where
+  -- the events so far, and then those of what is ahead, are all events
+  pub reaches-encoded : {calls : ℕ} {events : List EncodeEvent} {finished : Bool} {p : RunPlace EncoderState} → EncodeReaches from lengths calls events finished p →
+      encoded_ahead from ≡ events ++ encoded_ahead p
+  reaches-encoded begun = refl
+  reaches-encoded (called calls events p r free e after answer left bytes c) =
+      let one = c.events (joined p.later) true (λ l. (ap joined (last_empty p.later l), refl)) in
+      let two = place_behind-encoded p after answer left (λ q. (c.input_empty q).0) in
+      let next = encoded_ahead (place_behind p after (is_input_empty answer) left) in
+      reaches-encoded r
+      ∙ ap (λ l. events ++ l) (one ∙ ap (λ l. map Byte bytes ++ (reported answer ++ l)) two ∙ sym (append_assoc (map Byte bytes) (reported answer) next))
+      ∙ sym (append_assoc events (map Byte bytes ++ reported answer) next)
+
+  -- a run is finished behind all pieces, and the end has nothing left to write there
+  pub reaches-finished : {calls : ℕ} {events : List EncodeEvent} {finished : Bool} {p : RunPlace EncoderState} → EncodeReaches from lengths calls events finished p →
+      finished ≡ true → (p ≡ place_before p.state []) × HasNoEnd p.state
+  reaches-finished begun h = absurd (false≢true h)
+  reaches-finished (called calls events p r free e after InputEmpty left bytes c) h =
+      let end : place_before after p.later ≡ place_before after [] = ap (place_before after) (last_empty p.later h) in
+      let state : (place_before after p.later).state ≡ after = place_before-state after p.later in
+      (end ∙ ap (λ s. place_before s []) (sym state), subst HasNoEnd (sym state) ((c.input_empty refl).1 h))
+  reaches-finished (called calls events p r free e after OutputFull left bytes c) h = absurd (false≢true h)
+  reaches-finished (called calls events p r free e after (Unmappable d) left bytes c) h = absurd (false≢true h)
+
+-- what a run gave is a beginning of all events
+pub is_encode_beginning : (before : EncoderState) (pieces : List (List ℕ)) {lengths : List ℕ} {calls : ℕ} {finished : Bool} {items : List EncodeEvent} {after : EncoderState} →
+    IsEncodeRun (place_before before pieces) lengths calls finished items after → IsEncodeBeginning before pieces finished items
+is_encode_beginning before pieces r = record {
+  rest = encoded_ahead r.place;
+  whole = sym (place_before-encoded before pieces) ∙ reaches-encoded r.reaches;
+  all = λ e.
+      let done = reaches-finished r.reaches e in
+      ap encoded_ahead done.0 ∙ end-encoded r.place.state ∙ ap (map Byte) done.1;
+}
+
+-- a finished run leaves nothing to write
+pub no_end_left : {from : RunPlace EncoderState} {lengths : List ℕ} {calls : ℕ} {finished : Bool} {items : List EncodeEvent} {after : EncoderState} →
+    IsEncodeRun from lengths calls finished items after → IsTrue finished → HasNoEnd after
+no_end_left r h = subst HasNoEnd r.state (reaches-finished r.reaches h).1
+
+-- it gives all events
+finished_encodes : {before : EncoderState} {scalars : List ℕ} {answered : List EncodeEvent} → FinishedEncodeRun before scalars answered → encoded before scalars true ≡ answered
+finished_encodes {before = before} {answered = answered} f =
+    let b = is_encode_beginning _ _ f.run in
+    ap (λ l. encoded before l true) (sym f.same) ∙ b.whole ∙ ap (λ l. answered ++ l) (b.all refl) ∙ append-nil answered
+
+pub encode_cuts_do_not_matter : EncodeCutsDoNotMatter
+encode_cuts_do_not_matter before scalars one other f g = sym (finished_encodes f) ∙ finished_encodes g

@@ -1,0 +1,100 @@
+use Rattle.std.proofs.Common.{◌≡◌, ◌+◌, [], drop, length, refl, arith, ap, sym, ◌∙◌, vec_len, append-nil, length-drop, Vec, Global}
+use Rattle.std.proofs.lemmas.Bool.{true≢false}
+use Rattle.std.proofs.lemmas.Option.{slice_get-get_or}
+use Rattle.std.proofs.lemmas.List.{length-map}
+use Rattle.std.specs.Prelude.{slice_index_or}
+use Rattle.legacy_codecs.specs.Pieces.{contents_of}
+use Rattle.legacy_codecs.proofs.Places.{place_before-state, pieces-length, place_at-first, place_at-next, not_last, room_step}
+use Rattle.legacy_codecs.proofs.RunSteps.{running_start, running_call, is_run, place_at-more}
+use Rattle.legacy_codecs.proofs.decode_run.run_calls.Goals as goal
+use Rattle.legacy_codecs.proofs.decode_run.run_calls.Goals.{in-InputEmpty+else-last, in-OutputFull, in-Malformed}
+
+-- no events are held at the start
+none : {A : Type 0} (v : Vec A Global) → v.items ≡ [] → vec_len v ≡ 0
+none v e = v.ok.0 ∙ ap length e
+
+pub loop-calls-init : goal.loop-calls-init
+loop-calls-init g c =
+    let n = none c.args.events c.requires.empty in
+    let first = place_at-first (g.D.RawDecoder.state c.args.decoder.now) (contents_of c.args.pieces.now) (rw length-map c.requires.some) in
+    record {
+      running = rw (c.requires.empty, first) (running_start _ _ _);
+      room = let r = c.requires.room in omega arith;
+      buffer = c.requires.buffer;
+      inside = c.requires.some;
+      within = omega arith;
+    }
+
+pub overflow_add-total : goal.overflow_add-total
+overflow_add-total g c =
+    let pieces = contents_of c.args.pieces.now in
+    let bytes = c.loop-calls.invariant.running.bytes in
+    let all = pieces-length (g.D.RawDecoder.state c.args.decoder.now) pieces in
+    let one = c.call_once-answer.ensures.call.1.within in
+    let unread = ap length c.unread_of-unread.ensures in
+    omega (arith, c.requires.total)
+
+pub returns-then-last : goal.returns-then-last
+returns-then-last g c =
+    let after = g.D.RawDecoder.state c.call_once-answer.new.decoder in
+    let later = drop (c.loop-calls.index + 1) (contents_of c.args.pieces.now) in
+    let call = c.call_once-answer.ensures.call in
+    let given = slice_get-get_or c.args.lengths.now c.loop-calls.calls 0 c.loop-calls-test.true in
+    let last = c.is_last-last.ensures in
+    let items = call.2 ∙ sym (append-nil _) in
+    let ended = sym c.if-last.true ∙ last in
+    let few = c.loop-calls-test.true in
+    is_run (running_call c.loop-calls.invariant.running given call.1 c.unread_of-unread.ensures last c.in-InputEmpty.is items ended refl)
+    (place_before-state after later) (omega arith) (λ e. absurd (true≢false e))
+
+pub returns : goal.returns
+returns g c =
+    let all : c.loop-calls.calls ≡ length c.args.lengths.now = omega arith in
+    rw (← all) (is_run c.loop-calls.invariant.running refl (omega arith) (λ e. all))
+
+pub loop-calls-preserved : goal.loop-calls-preserved
+loop-calls-preserved g c =
+    let pieces = contents_of c.args.pieces.now in
+    let index = c.loop-calls.index in
+    let offset = c.loop-calls.offset in
+    let i = c.loop-calls.invariant in
+    let call = c.call_once-answer.ensures.call in
+    let unread = c.unread_of-unread.ensures in
+    let last = c.is_last-last.ensures in
+    let given = slice_get-get_or c.args.lengths.now c.loop-calls.calls 0 c.loop-calls-test.true in
+    let step = room_step c.args.lengths.now c.loop-calls.calls c.loop-calls-test.true in
+    let len = c.call_once-answer.ensures.len in
+    let capacity = c.call_once-answer.ensures.capacity in
+    let room = i.room in
+    let read = call.1.within in
+    let unread_length = ap length unread in
+    elim c.match-answer.branch [
+      | in-InputEmpty+else-last w ↦
+          let goes = sym w.if-last.false ∙ last in
+          let more = not_last pieces index (sym goes) in
+          let same : length pieces ≡ length c.args.pieces.now = simp length-map in
+          rw (w.events-is, w.index-is, w.offset-is) record {
+            running = running_call i.running given call.1 unread last w.in-InputEmpty.is (call.2 ∙ sym (append-nil _)) goes (place_at-next pieces _ index more);
+            room = omega arith;
+            buffer = λ k d h. let b = i.buffer k d h in omega arith;
+            inside = omega (arith, more, same);
+            within = omega arith;
+          }
+      | in-OutputFull w ↦
+          rw (w.events-is, w.index-is, w.offset-is) record {
+            running = running_call i.running given call.1 unread last w.in-OutputFull.is (call.2 ∙ sym (append-nil _)) refl (place_at-more pieces _ index offset _);
+            room = omega arith;
+            buffer = λ k d h. let b = i.buffer k d h in omega arith;
+            inside = i.inside;
+            within = omega (arith, i.within, length-drop offset (slice_index_or pieces index []));
+          }
+      | in-Malformed w ↦
+          rw (w.events-is, w.index-is, w.offset-is) record {
+            running = running_call i.running given call.1 unread last w.in-Malformed.is (w.push_within.ensures.items ∙ (rw (w.bad_event.ensures, call.2) refl)) refl
+                (place_at-more pieces _ index offset _);
+            room = omega arith;
+            buffer = λ k d h. let b = i.buffer k d h in omega arith;
+            inside = i.inside;
+            within = omega (arith, i.within, length-drop offset (slice_index_or pieces index []));
+          }
+    ]

@@ -1,0 +1,13 @@
+use Rattle.std.proofs.lemmas.Result.{IfOk-weaker}
+use Rattle.legacy_codecs.proofs.EncodeRunEvents.{is_encode_beginning, no_end_left}
+use Rattle.legacy_codecs.proofs.AmpleOutputs.{encode_is_finished}
+use Rattle.legacy_codecs.proofs.encode_run.encode_run_utf16.Goals as goal
+
+pub returns-clause-beginning : goal.returns-clause-beginning
+returns-clause-beginning g c = IfOk-weaker c.encode_run.result _ _ (λ run r. is_encode_beginning _ _ r) c.encode_run.ensures.run
+
+pub returns-clause-none_left : goal.returns-clause-none_left
+returns-clause-none_left g c = IfOk-weaker c.encode_run.result _ _ (λ run r. no_end_left r) c.encode_run.ensures.run
+
+pub returns-clause-finishes : goal.returns-clause-finishes
+returns-clause-finishes g c = IfOk-weaker c.encode_run.result _ _ (λ run r. encode_is_finished _ _ r) c.encode_run.ensures.run

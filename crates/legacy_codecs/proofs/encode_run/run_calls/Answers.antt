@@ -1,0 +1,105 @@
+use Rattle.std.proofs.Common.{◌≡◌, ℕ, ◌+◌, ◌≤◌, ◌<◌, ◌++◌, List, [], drop, take, get_or, length, length-append, length-drop, length-take, map, refl, arith, ap, sym, ◌∙◌, vec_len, Vec, Global, All, Some}
+use Rattle.std.specs.Prelude.{slice_get}
+use Rattle.std.proofs.lemmas.Bool.{true≢false}
+use Rattle.std.proofs.lemmas.Option.{slice_get-get_or}
+use Rattle.std.proofs.lemmas.List.{length-map, get_or-map}
+use Rattle.legacy_codecs.specs.Pieces.{place_before}
+use Rattle.legacy_codecs.proofs.Places.{place_before-state, place_at-begin, place_at-next, same_end, not_last, room_step}
+use Rattle.legacy_codecs.proofs.EncodeRunEvents.{reaches_call}
+use Rattle.legacy_codecs.specs.EncodeRuns.EncodeReaches.{begun}
+use Rattle.legacy_codecs.proofs.encode_run.run_calls.Goals as goal
+use Rattle.legacy_codecs.proofs.encode_run.run_calls.Goals.{then-call_once+else-last, else-call_once}
+
+-- no events are held at the start
+none : {A : Type 0} (v : Vec A Global) → v.items ≡ [] → vec_len v ≡ 0
+none v e = v.ok.0 ∙ ap length e
+
+pub loop-calls-init : goal.loop-calls-init
+loop-calls-init g c =
+    let n = none c.args.events c.requires.empty in
+    let first = place_at-begin (g.E.RawEncoder.state c.args.encoder.now) (map g.T.Text.scalars c.args.pieces.now) in
+    record {
+      reaches = rw (c.requires.empty, c.cursor-unread.ensures, c.first_piece.ensures, first) begun;
+      room = let r = c.requires.room in omega arith;
+      output = c.requires.output;
+      inside = omega arith;
+    }
+
+-- the output of a call has the next of the lengths
+free_is : (lengths output : List ℕ) (calls : ℕ) → calls < length lengths → All (λ n. n ≤ length output) lengths → slice_get lengths calls ≡ Some (length (take (get_or lengths calls 0) output))
+free_is lengths output calls h fits =
+    let small = fits calls 0 h in
+    let same : length (take (get_or lengths calls 0) output) ≡ get_or lengths calls 0 = omega (arith, length-take (get_or lengths calls 0) output) in
+    rw same (slice_get-get_or lengths calls 0 h)
+
+-- the scalars of the piece at an index
+piece_is : {A : Type 0} (f : A → List ℕ) (pieces : List A) (index : ℕ) (piece : A) → index < length pieces → piece ≡ get_or pieces index piece → get_or (map f pieces) index [] ≡ f piece
+piece_is f pieces index piece h e = get_or-map f pieces index piece [] h ∙ ap f (sym e)
+
+pub returns-then-last : goal.returns-then-last
+returns-then-last g c =
+    let pieces = c.args.pieces.now in
+    let index = c.loop-calls.index in
+    let i = c.loop-calls.invariant in
+    let after = g.E.RawEncoder.state c.call_once.new.encoder in
+    let call = c.call_once.ensures.call in
+    let given = free_is c.args.lengths.now c.loop-calls.output c.loop-calls.calls c.loop-calls-test.true i.output in
+    let last = c.is_last-last.ensures ∙ same_end g.T.Piece.units g.T.Text.scalars pieces (index + 1) in
+    let few = c.loop-calls-test.true in
+    let emptied = sym c.if-call_once.true ∙ call.3 in
+    record {
+      place = place_before after (drop (index + 1) (map g.T.Text.scalars pieces));
+      reaches = reaches_call i.reaches given call.2 last emptied call.4 (sym c.if-last.true ∙ last) refl;
+      state = place_before-state after _;
+      few = omega arith;
+      all = λ e. absurd (true≢false e);
+    }
+
+pub returns : goal.returns
+returns g c =
+    let all : c.loop-calls.calls ≡ length c.args.lengths.now = omega arith in
+    rw (← all) record { place = _; reaches = c.loop-calls.invariant.reaches; state = refl; few = omega arith; all = λ e. all }
+
+pub loop-calls-preserved : goal.loop-calls-preserved
+loop-calls-preserved g c =
+    let pieces = c.args.pieces.now in
+    let texts = map g.T.Text.scalars pieces in
+    let index = c.loop-calls.index in
+    let i = c.loop-calls.invariant in
+    let after = g.E.RawEncoder.state c.call_once.new.encoder in
+    let call = c.call_once.ensures.call in
+    let given = free_is c.args.lengths.now c.loop-calls.output c.loop-calls.calls c.loop-calls-test.true i.output in
+    let last = c.is_last-last.ensures ∙ same_end g.T.Piece.units g.T.Text.scalars pieces (index + 1) in
+    let step = room_step c.args.lengths.now c.loop-calls.calls c.loop-calls-test.true in
+    let len = c.call_once.ensures.len in
+    let capacity = c.call_once.ensures.capacity in
+    let room = i.room in
+    let small = i.output c.loop-calls.calls 0 c.loop-calls-test.true in
+    let next = get_or c.args.lengths.now c.loop-calls.calls 0 in
+    let taken = length-take next c.loop-calls.output in
+    let behind = length-drop next c.loop-calls.output in
+    let kept = c.call_once.auto.output in
+    let both = length-append c.call_once.new.output (drop next c.loop-calls.output) in
+    let output : All (λ n. n ≤ length (c.call_once.new.output ++ drop next c.loop-calls.output)) c.args.lengths.now = λ k d h. let b = i.output k d h in omega arith in
+    elim c.if-call_once.branch [
+      | then-call_once+else-last w ↦
+          let goes = sym w.if-last.false ∙ last in
+          let more = not_last texts index (sym goes) in
+          let same : length texts ≡ length pieces = simp length-map in
+          let emptied = sym w.if-call_once.true ∙ call.3 in
+          let left = w.cursor-unread-then-call_once.ensures ∙ sym (piece_is g.T.Text.scalars pieces (index + 1) _ (omega (arith, more, same)) w.index-pieces-index.is) in
+          rw (w.index-is, w.unread-is, left) record {
+            reaches = reaches_call i.reaches given call.2 last emptied call.4 goes (place_at-next texts after index more);
+            room = omega arith;
+            output = output;
+            inside = omega (arith, more, same);
+          }
+      | else-call_once w ↦
+          let going = sym w.if-call_once.false ∙ call.3 in
+          rw (w.index-is, w.unread-is) record {
+            reaches = reaches_call i.reaches given call.2 last going call.4 refl refl;
+            room = omega arith;
+            output = output;
+            inside = i.inside;
+          }
+    ]

@@ -1,5 +1,0 @@
-use Rattle.std.proofs.Common.{◌≡◌, ◌+◌, ◌<◌, ◌^◌, drop, sum, length}
-use Rattle.legacy_codecs.proofs.run.total_room.Given as goal
-
-abbrev pub invariant-loop-length : goal.invariant-loop-length
-invariant-loop-length l = record { sum : l.total + (sum (drop l.length-index l.lengths) + length (drop l.length-index l.lengths)) ≡ sum l.lengths + length l.lengths; small : l.total < 2 ^ 64 }

@@ -1,0 +1,222 @@
+//! Runs of a decoder over an input in pieces, with outputs of given lengths.
+ghost use Rattle.std.specs.Prelude.{◌≡◌, ◌↔◌, ℕ, ◌+◌, ◌-◌, ◌^◌, ◌<◌, ◌≤◌, List, [], ◌++◌, length, drop, sum, sum_by, map, vec_len, vec_capacity, slice_index_or, All, IfOk, OnErr, IsTrue};
+ghost use Rattle.legacy_base.specs.declared.results.DecodeEvent.TheVariants.{Scalar};
+ghost use Rattle.legacy_base.specs.EncodingForm.{EncodingForm, Utf8, Utf16};
+ghost use Rattle.legacy_base.specs.Calls.{DecoderCall};
+ghost use Rattle.legacy_codecs.specs.Pieces.{contents_of, place_before, IsTooLong};
+ghost use Rattle.legacy_codecs.specs.Runs.{IsRun, IsBeginning, HasNoneLeft, HasAmpleLengths};
+
+use crate::run_parts::{RunError, is_last, longest, push_items, push_within, room_for_events};
+use crate::scalars::{OutputForm, ScalarBuffer, Utf8Form, Utf16Form};
+use legacy_base::{DecodeEvent, DecoderResult, RawDecoder};
+use std::alloc::Global;
+
+/// What a run of a decoder gave.
+#[derive(Debug, PartialEq, Eq, Drop)]
+pub struct DecodeRun {
+    /// The scalars and malformed sequences in the order of the input. A place counts the bytes from the
+    /// run's first byte, and is 0 where the sequence began in bytes that were held back before the run.
+    pub events: Vec<DecodeEvent>,
+    /// How many calls of the decoder were made, each with one of the lengths.
+    pub calls: usize,
+    /// Whether the whole input was decoded. If not, the lengths were used up before.
+    pub finished: bool,
+}
+
+/// Makes one call, with an output of so many code units, and adds the scalars that it gave.
+fn call_once<D: RawDecoder, F: OutputForm>(
+    decoder: &mut D,
+    unread: &[u8],
+    last: bool,
+    free: usize,
+    buffer: &mut [char],
+    events: &mut Vec<DecodeEvent>,
+) -> (DecoderResult, usize)
+    requires buffer { free ≤ length buffer.old }
+    requires room { vec_len events.old + free ≤ vec_capacity events.old }
+    ensures call { (scalars : List ℕ)
+        × DecoderCall F.form (D.state decoder.old) unread.now last free (D.state decoder.new)
+        result.0 result.1 scalars
+        × (events.new.items ≡ events.old.items ++ map Scalar scalars) }
+    ensures len { vec_len events.new ≤ vec_len events.old + free }
+    ensures capacity { vec_capacity events.old ≤ vec_capacity events.new }
+{
+    let mut kept = ScalarBuffer::<F>::new(buffer, free);
+    let (answer, read) = decoder.step(unread, &mut kept, last);
+    push_items(events, kept.scalars());
+    (answer, read)
+}
+
+/// The malformed sequence of so many bytes that ends `back` bytes before the end of the `total` bytes
+/// read, at place 0 where it lies before the first of them.
+fn bad_event(total: usize, length: u8, back: u8) -> DecodeEvent
+    ensures { result ≡ DecodeEvent.Bad (total - (length + back)) length }
+{
+    let behind = usize::from(length) + usize::from(back);
+    DecodeEvent::Bad {
+        place: total.saturating_sub(behind),
+        length: usize::from(length),
+    }
+}
+
+/// What is unread of a piece.
+fn unread_of<'a>(pieces: &[&'a [u8]], index: usize, offset: usize) -> &'a [u8]
+    requires inside { index < length pieces.now }
+    requires within { offset ≤ length (slice_index_or (contents_of pieces.now) index []) }
+    ensures { result.now ≡ drop offset (slice_index_or (contents_of pieces.now) index []) }
+{
+    let piece = pieces[index];
+    &piece[offset..]
+}
+
+/// Makes the calls of a run over one piece or more.
+fn run_calls<D: RawDecoder, F: OutputForm>(
+    decoder: &mut D,
+    pieces: &[&[u8]],
+    lengths: &[usize],
+    mut events: Vec<DecodeEvent>,
+    buffer: &mut [char],
+) -> DecodeRun
+    requires some { 0 < length pieces.now }
+    requires buffer { All (λ n. n ≤ length buffer.old) lengths.now }
+    requires empty { events.items ≡ [] }
+    requires room { sum lengths.now + length lengths.now ≤ vec_capacity events }
+    requires total { sum_by length (contents_of pieces.now) < 2 ^ 64 }
+    ensures { let from = place_before (D.state decoder.old) (contents_of pieces.now) in
+        IsRun F.form from lengths.now result.calls result.finished result.events.items
+        (D.state decoder.new) }
+{
+    let mut index: usize = 0;
+    let mut offset: usize = 0;
+    let mut total: usize = 0;
+    for (calls, length) in lengths.iter().enumerate() {
+        let unread = unread_of(pieces, index, offset);
+        let last = is_last(pieces, index);
+        let (answer, read) = call_once::<D, F>(decoder, unread, last, *length, buffer, &mut events);
+        total += read;
+        match answer {
+            DecoderResult::InputEmpty => {
+                if last {
+                    return DecodeRun {
+                        events,
+                        calls: calls + 1,
+                        finished: true,
+                    };
+                }
+                index += 1;
+                offset = 0;
+            }
+            DecoderResult::OutputFull => offset += read,
+            DecoderResult::Malformed(length, back) => {
+                offset += read;
+                push_within(&mut events, bad_event(total, length, back));
+            }
+        }
+    }
+    DecodeRun {
+        events,
+        calls: lengths.len(),
+        finished: false,
+    }
+}
+
+/// Takes the memory of a run and makes it.
+fn decode_run<D: RawDecoder, F: OutputForm>(
+    alloc: Global,
+    decoder: &mut D,
+    pieces: &[&[u8]],
+    lengths: &[usize],
+) -> Result<DecodeRun, RunError>
+    ensures run { IfOk result (λ run.
+        let from = place_before (D.state decoder.old) (contents_of pieces.now) in
+        IsRun F.form from lengths.now run.calls run.finished run.events.items
+        (D.state decoder.new)) }
+    ensures too_long { (result ≡ Err RunError.TooLong)
+        ↔ IsTooLong (contents_of pieces.now) lengths.now }
+    ensures unchanged { OnErr result (decoder.new ≡ decoder.old) }
+{
+    let events = room_for_events(alloc, pieces, lengths)?;
+    let Ok(mut buffer) = vec![in alloc; '\0'; longest(lengths)] else {
+        return Err(RunError::Memory);
+    };
+    let buffer = buffer.as_mut_slice();
+    if pieces.is_empty() {
+        return Ok(run_calls::<D, F>(decoder, &[&[]], lengths, events, buffer));
+    }
+    Ok(run_calls::<D, F>(decoder, pieces, lengths, events, buffer))
+}
+
+/// Decodes an input in pieces by calls with outputs of UTF-8, and answers what was found in it.
+///
+/// Each call of the decoder has an output of as many bytes as the next of `lengths` says. What a call
+/// leaves unread of a piece goes in again, alone, until a call answers `InputEmpty`; then the next piece
+/// follows. `last` is set on the calls with the final piece and on no others, and no pieces count as one
+/// empty piece. The run is finished at an `InputEmpty` on the final piece, and else ends with the lengths.
+///
+/// The events are a beginning of those that the decoder's grammar gives the bytes that it held back and
+/// all pieces. Where the run is finished they are all of them, and the decoder then holds back nothing
+/// that has an event. The decoder goes on from where the run ended.
+/// The run is sure to be finished where each length is at least 4, and there are as many as the whole
+/// input has events and pieces together, or more.
+///
+/// `TooLong` is answered exactly where the pieces' lengths together, or `lengths` and their number
+/// together, are above `usize::MAX`, and `Memory` where memory was refused. After either of them no call
+/// was made and the decoder is unchanged.
+pub fn decode_run_utf8<D: RawDecoder>(
+    alloc: Global,
+    decoder: &mut D,
+    pieces: &[&[u8]],
+    lengths: &[usize],
+) -> Result<DecodeRun, RunError>
+    // The answer is that of a run, which ends in the decoder's new state.
+    ensures run { IfOk result (λ run.
+        let from = place_before (D.state decoder.old) (contents_of pieces.now) in
+        IsRun Utf8 from lengths.now run.calls run.finished run.events.items
+        (D.state decoder.new)) }
+
+    // Its events are a beginning of those of all pieces, and all of them where it is finished.
+    ensures beginning { IfOk result (λ run.
+        IsBeginning (D.state decoder.old) (contents_of pieces.now) run.finished run.events.items) }
+
+    // Where it is finished, the decoder holds back nothing that has an event.
+    ensures none_left { IfOk result (λ run.
+        IsTrue run.finished → HasNoneLeft (D.state decoder.new)) }
+
+    // It is finished where there are outputs enough, each with room for any scalar.
+    ensures finishes { IfOk result (λ run.
+        HasAmpleLengths Utf8 (D.state decoder.old) (contents_of pieces.now) lengths.now
+        → IsTrue run.finished) }
+    ensures too_long { (result ≡ Err RunError.TooLong)
+        ↔ IsTooLong (contents_of pieces.now) lengths.now }
+    ensures unchanged { OnErr result (decoder.new ≡ decoder.old) }
+{
+    decode_run::<D, Utf8Form>(alloc, decoder, pieces, lengths)
+}
+
+/// Decodes an input in pieces by calls with outputs of UTF-16, and answers what was found in it.
+///
+/// It is as `decode_run_utf8`, but `lengths` count UTF-16 code units, of which a scalar has at most 2: the
+/// run is sure to be finished where each length is at least 2, and there are enough of them.
+pub fn decode_run_utf16<D: RawDecoder>(
+    alloc: Global,
+    decoder: &mut D,
+    pieces: &[&[u8]],
+    lengths: &[usize],
+) -> Result<DecodeRun, RunError>
+    ensures run { IfOk result (λ run.
+        let from = place_before (D.state decoder.old) (contents_of pieces.now) in
+        IsRun Utf16 from lengths.now run.calls run.finished run.events.items
+        (D.state decoder.new)) }
+    ensures beginning { IfOk result (λ run.
+        IsBeginning (D.state decoder.old) (contents_of pieces.now) run.finished run.events.items) }
+    ensures none_left { IfOk result (λ run.
+        IsTrue run.finished → HasNoneLeft (D.state decoder.new)) }
+    ensures finishes { IfOk result (λ run.
+        HasAmpleLengths Utf16 (D.state decoder.old) (contents_of pieces.now) lengths.now
+        → IsTrue run.finished) }
+    ensures too_long { (result ≡ Err RunError.TooLong)
+        ↔ IsTooLong (contents_of pieces.now) lengths.now }
+    ensures unchanged { OnErr result (decoder.new ≡ decoder.old) }
+{
+    decode_run::<D, Utf16Form>(alloc, decoder, pieces, lengths)
+}

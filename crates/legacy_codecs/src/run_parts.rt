@@ -1,0 +1,168 @@
+//! What the runs of decoders and of encoders share: pieces of an input, lengths of outputs, and events.
+ghost use Rattle.std.specs.Prelude.{◌≡◌, ℕ, ◌↔◌, ◌+◌, ◌^◌, ◌<◌, ◌≤◌, List, [], ◌∷◌, ◌++◌, length, drop, map, sum, sum_by, vec_len, vec_capacity, All, IfOk, SomeIff};
+ghost use Rattle.legacy_base.specs.declared.results.DecodeEvent.TheVariants.{Scalar};
+ghost use Rattle.legacy_base.specs.declared.results.EncodeEvent.TheVariants.{Byte};
+ghost use Rattle.legacy_codecs.specs.Pieces.{is_none, IsTooLong};
+
+use legacy_base::{DecodeEvent, EncodeEvent};
+use std::alloc::Global;
+use thiserror::Error;
+
+/// Why there was no run. No call of the decoder or the encoder was made.
+#[derive(Debug, PartialEq, Eq, Drop, Error)]
+pub enum RunError {
+    /// Memory was refused. All memory that a run needs is taken before its first call.
+    #[error("memory")]
+    Memory,
+    /// The pieces' lengths together, or the outputs' lengths and their number together, are above
+    /// `usize::MAX`.
+    #[error("run is too long")]
+    TooLong,
+}
+
+/// A piece of an input: bytes, or a text in UTF-8 or UTF-16.
+pub(crate) trait Piece: Copy {
+    /// Its code units.
+    ghost units: { Self → List ℕ };
+
+    /// How many code units it has.
+    fn count(self) -> usize
+        ensures { result ≡ length (units self) };
+}
+
+impl Piece for &[u8] {
+    ghost units = { λ piece. piece.now };
+
+    fn count(self) -> usize {
+        self.len()
+    }
+}
+
+impl Piece for &str {
+    ghost units = { λ piece. piece.now };
+
+    fn count(self) -> usize {
+        self.len()
+    }
+}
+
+impl Piece for &[u16] {
+    ghost units = { λ piece. piece.now };
+
+    fn count(self) -> usize {
+        self.len()
+    }
+}
+
+/// The sum of the pieces' lengths, where it is a `usize`.
+fn total_length<P: Piece>(pieces: &[P]) -> Option<usize>
+    ensures { SomeIff result (sum_by length (map P.units pieces.now) < 2 ^ 64)
+        (sum_by length (map P.units pieces.now)) }
+{
+    let mut total: usize = 0;
+    for piece in pieces {
+        total = total.checked_add(piece.count())?;
+    }
+    Some(total)
+}
+
+/// The sum of the lengths and their number, where it is a `usize`.
+fn total_room(lengths: &[usize]) -> Option<usize>
+    ensures { SomeIff result (sum lengths.now + length lengths.now < 2 ^ 64)
+        (sum lengths.now + length lengths.now) }
+{
+    let mut total: usize = 0;
+    for length in lengths {
+        total = total.checked_add(*length)?.checked_add(1)?;
+    }
+    Some(total)
+}
+
+/// Takes the memory for the events of a run over the pieces, with outputs of the lengths: each code unit
+/// of an output is one event at most, and so is what a call reports.
+pub(crate) fn room_for_events<P: Piece, T: Copy>(
+    alloc: Global,
+    pieces: &[P],
+    lengths: &[usize],
+) -> Result<Vec<T>, RunError>
+    ensures empty { IfOk result (λ events. events.items ≡ []) }
+    ensures room { IfOk result (λ events.
+        sum lengths.now + length lengths.now ≤ vec_capacity events) }
+    ensures total { IfOk result (λ events. sum_by length (map P.units pieces.now) < 2 ^ 64) }
+    ensures too_long { (result ≡ Err RunError.TooLong)
+        ↔ IsTooLong (map P.units pieces.now) lengths.now }
+{
+    if total_length(pieces).is_none() {
+        return Err(RunError::TooLong);
+    }
+    let Some(room) = total_room(lengths) else {
+        return Err(RunError::TooLong);
+    };
+    let Ok(events) = Vec::with_capacity(alloc, room) else {
+        return Err(RunError::Memory);
+    };
+    Ok(events)
+}
+
+/// The greatest of the lengths, and 0 for none.
+pub(crate) fn longest(lengths: &[usize]) -> usize
+    ensures { All (λ n. n ≤ result) lengths.now }
+{
+    lengths.iter().copied().max().unwrap_or(0)
+}
+
+/// Whether no piece stands behind this index.
+pub(crate) fn is_last<P: Piece>(pieces: &[P], index: usize) -> bool
+    requires { index ≤ length pieces.now }
+    ensures { result ≡ is_none (drop (index + 1) (map P.units pieces.now)) }
+{
+    pieces.len() - index <= 1
+}
+
+/// Adds an event where there is room for it.
+pub(crate) fn push_within<T: Copy>(events: &mut Vec<T>, event: T)
+    requires { vec_len events.old < vec_capacity events.old }
+    ensures items { events.new.items ≡ events.old.items ++ event ∷ [] }
+    ensures len { vec_len events.new ≡ vec_len events.old + 1 }
+    ensures capacity { vec_capacity events.old ≤ vec_capacity events.new }
+{
+    let _ = events.push(event);
+}
+
+/// An event that tells of one item of an output.
+pub(crate) trait EventOf<T>: Copy {
+    /// The event of an item.
+    ghost event: { T → Self };
+
+    /// The event of an item.
+    fn event_of(item: T) -> Self
+        ensures { result ≡ event item };
+}
+
+impl EventOf<char> for DecodeEvent {
+    ghost event = { λ scalar. Scalar scalar };
+
+    fn event_of(scalar: char) -> DecodeEvent {
+        DecodeEvent::Scalar(scalar)
+    }
+}
+
+impl EventOf<u8> for EncodeEvent {
+    ghost event = { λ byte. Byte byte };
+
+    fn event_of(byte: u8) -> EncodeEvent {
+        EncodeEvent::Byte(byte)
+    }
+}
+
+/// Adds the items as events.
+pub(crate) fn push_items<T: Copy, E: EventOf<T>>(events: &mut Vec<E>, items: &[T])
+    requires { vec_len events.old + length items.now ≤ vec_capacity events.old }
+    ensures items { events.new.items ≡ events.old.items ++ map E.event items.now }
+    ensures len { vec_len events.new ≡ vec_len events.old + length items.now }
+    ensures capacity { vec_capacity events.old ≤ vec_capacity events.new }
+{
+    for item in items {
+        push_within(events, E::event_of(*item));
+    }
+}
