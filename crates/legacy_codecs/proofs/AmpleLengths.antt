@@ -17,11 +17,8 @@ use Rattle.legacy_codecs.specs.Pieces.{RunPlace, is_none, place_before, place_be
 use Rattle.legacy_codecs.specs.Runs.{is_input_empty, Reaches, IsRun, HasAmpleLengths}
 use Rattle.legacy_codecs.specs.Runs.Reaches.{begun, called}
 use Rattle.legacy_codecs.proofs.Places.{later_less, calls_are_fewer}
+use Rattle.legacy_codecs.proofs.Replaced.{length-shift}
 use Rattle.legacy_codecs.proofs.RunEvents.{events_ahead, place_before-ahead, Reaches-events}
-
-length-shift : (k : ℕ) (es : List DecodeEvent) → length (shift k es) ≡ length es
-length-shift k [] = refl
-length-shift k (e ∷ es) = let rest = length-shift k es in omega arith
 
 -- what is given at the end of a call comes on top of its scalars
 out-some : (seen : ℕ) (scalars : List ℕ) (answer : DecoderResult) → length (out_events seen scalars answer) ≡ length scalars + length (reported_events seen answer)

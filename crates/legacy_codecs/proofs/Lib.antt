@@ -8,3 +8,5 @@ pub mod AmpleLengths
 pub mod EncodeRunEvents
 pub mod AmpleOutputs
 pub mod EncodeLengths
+pub mod Replaced
+pub mod Replacements

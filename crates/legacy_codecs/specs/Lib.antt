@@ -5,3 +5,4 @@ pub mod Runs
 pub mod EncodeRuns
 pub mod Filling
 pub mod EncodeFilling
+pub mod Replacing

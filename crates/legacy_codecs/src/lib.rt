@@ -1,10 +1,12 @@
 //! The legacy codecs of the WHATWG Encoding Standard, under one name: every public item of the crates
-//! below, and calls that run a coder over a whole input.
+//! below, calls that run a coder over a whole input, and calls that replace what is malformed.
 #![tactic(auto)]
 
 mod decode_run;
 mod encode_run;
 pub mod laws;
+mod replacing;
+mod results;
 mod run_parts;
 mod scalars;
 mod texts;
@@ -20,5 +22,7 @@ pub use legacy_decoders::{
     Big5Decoder, EucJpDecoder, EucKrDecoder, Gb18030Decoder, Iso2022JpDecoder, ReplacementDecoder,
     ShiftJisDecoder, SingleByteDecoder, UserDefinedDecoder, Utf16Decoder,
 };
+pub use replacing::{decode_replacing_utf8, decode_replacing_utf16};
+pub use results::CoderResult;
 pub use run_parts::RunError;
 pub use scalars::{OutputForm, ScalarBuffer, Utf8Form, Utf16Form};

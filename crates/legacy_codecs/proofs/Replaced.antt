@@ -1,0 +1,40 @@
+-- Laws of the text of events, and of places.
+use Rattle.std.proofs.Common.{◌≡◌, ℕ, suc, List, [], ◌∷◌, ◌++◌, length, map, refl, ap, false, ◌||◌}
+use Rattle.std.proofs.lemmas.List.{map-append}
+use Rattle.std.proofs.lemmas.List.Folds.{list_any-append}
+use Rattle.legacy_base.specs.declared.results.DecodeEvent.{DecodeEvent}
+use Rattle.legacy_base.specs.declared.results.DecodeEvent.TheVariants.{Scalar, Bad}
+use Rattle.legacy_base.specs.Events.{shift}
+use Rattle.legacy_codecs.specs.Replacing.{replaced_scalar, replaced_scalars, is_bad, has_bad}
+
+pub replaced-append : (xs ys : List DecodeEvent) → replaced_scalars (xs ++ ys) ≡ replaced_scalars xs ++ replaced_scalars ys
+replaced-append xs ys = map-append replaced_scalar xs ys
+
+-- a place is not written
+pub replaced-shift : (k : ℕ) (events : List DecodeEvent) → replaced_scalars (shift k events) ≡ replaced_scalars events
+replaced-shift k [] = refl
+replaced-shift k (Scalar c ∷ events) = ap (λ (l : List ℕ). c ∷ l) (replaced-shift k events)
+replaced-shift k (Bad place n ∷ events) = ap (λ (l : List ℕ). 0xFFFD ∷ l) (replaced-shift k events)
+
+-- scalars are written as they are
+pub replaced-of_scalars : (cs : List ℕ) → replaced_scalars (map Scalar cs) ≡ cs
+replaced-of_scalars [] = refl
+replaced-of_scalars (c ∷ cs) = ap (λ (l : List ℕ). c ∷ l) (replaced-of_scalars cs)
+
+pub has_bad-append : (xs ys : List DecodeEvent) → has_bad (xs ++ ys) ≡ (has_bad xs || has_bad ys)
+has_bad-append xs ys = list_any-append is_bad xs ys
+
+pub has_bad-shift : (k : ℕ) (events : List DecodeEvent) → has_bad (shift k events) ≡ has_bad events
+has_bad-shift k [] = refl
+has_bad-shift k (Scalar c ∷ events) = has_bad-shift k events
+has_bad-shift k (Bad place n ∷ events) = refl
+
+-- no scalar is a malformed sequence
+pub has_bad-of_scalars : (cs : List ℕ) → has_bad (map Scalar cs) ≡ false
+has_bad-of_scalars [] = refl
+has_bad-of_scalars (c ∷ cs) = has_bad-of_scalars cs
+
+-- and no event is lost where places move
+pub length-shift : (k : ℕ) (es : List DecodeEvent) → length (shift k es) ≡ length es
+length-shift k [] = refl
+length-shift k (e ∷ es) = ap suc (length-shift k es)

@@ -1,0 +1,71 @@
+-- Calls of a decoder that write U+FFFD for each malformed sequence.
+use Rattle.std.specs.Prelude.{◌≡◌, ℕ, ◌+◌, ◌-◌, ◌≤◌, List, [], length, drop, map, Bool, true, false, IsTrue, All, Some}
+use Rattle.std.specs.Char.{IsScalar}
+use Rattle.std.specs.List.{list_any}
+use Rattle.legacy_base.specs.declared.results.DecodeEvent.{DecodeEvent}
+use Rattle.legacy_base.specs.declared.results.DecodeEvent.TheVariants.{Scalar, Bad}
+use Rattle.legacy_base.specs.EncodingForm.{EncodingForm, Utf8, Utf16, all_code_units}
+use Rattle.legacy_base.specs.Grammar.{events_of}
+use Rattle.legacy_base.specs.States.{DecoderState, rests}
+use Rattle.legacy_base.specs.Acts.{LacksRoom}
+use Rattle.legacy_base.specs.Lengths.{LengthQuery, to_utf16, to_utf8, query_answer, room}
+use Rattle.legacy_base.specs.Calls.{Progress}
+use Rattle.legacy_codecs.specs.declared.results.CoderResult.{CoderResult}
+use Rattle.legacy_codecs.specs.declared.results.CoderResult.TheVariants.{InputEmpty, OutputFull}
+
+-- the scalar that is written for an event: U+FFFD for a malformed sequence
+abbrev pub replaced_scalar : DecodeEvent → ℕ
+replaced_scalar (Scalar c) = c
+replaced_scalar (Bad place length) = 0xFFFD
+
+-- the scalars that are written for events
+abbrev pub replaced_scalars : List DecodeEvent → List ℕ
+replaced_scalars events = map replaced_scalar events
+
+-- an event is a malformed sequence
+abbrev pub is_bad : DecodeEvent → Bool
+is_bad (Scalar c) = false
+is_bad (Bad place length) = true
+
+-- some of the events is a malformed sequence
+abbrev pub has_bad : List DecodeEvent → Bool
+has_bad events = list_any is_bad events
+
+-- the length query of an encoding form that counts U+FFFD: `max_utf8_buffer_length` or `max_utf16_buffer_length`
+abbrev pub replacing_query : EncodingForm → LengthQuery
+replacing_query Utf8 = to_utf8
+replacing_query Utf16 = to_utf16
+
+-- A call from the state `before` with so many code units free, which read so many bytes of the source, wrote these code
+-- units, answered so, came to the state `after`, and found a malformed sequence or did not.
+pub record ReplacingDecoderCall (form : EncodingForm) (before : DecoderState) (source : List ℕ) (last : Bool) (free : ℕ) (after : DecoderState) (answer : CoderResult) (read : ℕ) (written : List ℕ) (found : Bool) : Type 0 where
+  -- no more is read than the source has
+  pub within : read ≤ length source
+  -- no more is written than is free
+  pub fits : length written ≤ free
+  -- so many bytes, of those held back and the source, are done with
+  pub passed : ℕ
+  -- what the call gave
+  pub out : List DecodeEvent
+  -- that, and then the events of what is left, are the grammar's events, whatever follows
+  pub progress : Progress last before source passed after (drop read source) out
+  -- what is written are Unicode scalar values
+  pub scalar : All IsScalar (replaced_scalars out)
+  -- namely those of what it gave, with U+FFFD for each malformed sequence
+  pub text : written ≡ all_code_units form (replaced_scalars out)
+  -- the last answer is whether there was one
+  pub found_is : found ≡ has_bad out
+  -- at InputEmpty all is read and no scalar is held back; at the last end no event is left
+  pub input_empty : answer ≡ InputEmpty → (read ≡ length source) × IsTrue (rests after.grammar after.held) × (IsTrue last → events_of after.grammar after.held ≡ [])
+  -- at OutputFull the next act lacks its room
+  pub output_full : answer ≡ OutputFull → LacksRoom form after (drop read source) last (free - length written)
+  -- where the next act lacks its room as the call begins, the answer is OutputFull and nothing was done
+  pub full_at_once : LacksRoom form before source last free → (answer ≡ OutputFull) × (read ≡ 0) × (written ≡ []) × (found ≡ false) × (after ≡ before)
+  -- what was written lowers the room that is still needed
+  pub lowers : (more : ℕ) → (IsTrue last → more ≡ 0) →
+      room (replacing_query form) after (length (drop read source) + more) + length written
+      ≤ room (replacing_query form) before (length source + more)
+  -- with the room free that the source still needs, the answer is InputEmpty
+  pub suffices : room (replacing_query form) before (length source) ≤ free → answer ≡ InputEmpty
+  -- with a length free that the query answered for at least so many bytes, the answer is InputEmpty
+  pub enough : (n k : ℕ) → length source ≤ n → query_answer (replacing_query form) before n ≡ Some k → k ≤ free → answer ≡ InputEmpty

@@ -1,0 +1,95 @@
+//! Calls of a decoder that write U+FFFD for each malformed sequence.
+ghost use Rattle.std.specs.Prelude.{◌≡◌, ℕ, ◌+◌, ◌≤◌, List, ◌++◌, length, drop, take};
+ghost use Rattle.legacy_base.specs.EncodingForm.{Utf8, Utf16};
+ghost use Rattle.legacy_codecs.specs.Replacing.{ReplacingDecoderCall};
+
+use crate::results::CoderResult;
+use legacy_base::{DecoderResult, Destination, RawDecoder, Utf8Destination, Utf16Destination};
+
+/// The bytes from the offset on.
+#[inline]
+fn rest_of(bytes: &[u8], offset: usize) -> &[u8]
+    requires { offset ≤ length bytes.now }
+    ensures { result.now ≡ drop offset bytes.now }
+{
+    &bytes[offset..]
+}
+
+/// Makes calls of the decoder into the destination until one does not answer `Malformed`, and writes
+/// U+FFFD behind each that does. Answers how the last call ended, how many bytes were read, and whether
+/// U+FFFD was written so.
+fn decode_replacing<D: RawDecoder, T: Destination>(
+    decoder: &mut D,
+    src: &[u8],
+    dst: &mut T,
+    last: bool,
+) -> (CoderResult, usize, bool)
+    ensures call { (written : List ℕ)
+        × ReplacingDecoderCall T.form (D.state decoder.old) src.now last (T.room dst.old)
+        (D.state decoder.new) result.0 result.1 written result.2
+        × (T.contents dst.new ≡ T.contents dst.old ++ written) }
+    ensures loan { T.loan dst.new ≡ T.loan dst.old }
+{
+    let mut read: usize = 0;
+    let mut replaced = false;
+    'calls: loop {
+        let (answer, count) = decoder.step(rest_of(src, read), dst, last);
+        read += count;
+        match answer {
+            DecoderResult::InputEmpty => return (CoderResult::InputEmpty, read, replaced),
+            DecoderResult::OutputFull => return (CoderResult::OutputFull, read, replaced),
+            DecoderResult::Malformed(_, _) => {
+                dst.put('\u{FFFD}');
+                replaced = true;
+            }
+        }
+    }
+}
+
+/// Decodes bytes from the front of `src` into UTF-8 at the front of `dst`, with U+FFFD for each
+/// malformed sequence. Answers how that ended, how many bytes were read and written, and whether U+FFFD
+/// was written for a malformed sequence (Encoding Standard, error mode "replacement").
+///
+/// - `InputEmpty`: the whole of `src` was read and no scalar is held back; where `last` is set, nothing
+///   at all is left to report.
+/// - `OutputFull`: the decoder's next act needs more bytes than are free. Where that is so as the call
+///   begins, nothing is read or written and the decoder is unchanged.
+///
+/// Where `dst` is as long as `max_utf8_buffer_length` answered for at least so many bytes, the answer is
+/// `InputEmpty`. The decoder goes on from its state after either answer.
+pub fn decode_replacing_utf8<D: RawDecoder>(
+    decoder: &mut D,
+    src: &[u8],
+    dst: &mut [u8],
+    last: bool,
+) -> (CoderResult, usize, usize, bool)
+    ensures call { ReplacingDecoderCall Utf8 (D.state decoder.old) src.now last (length dst.old)
+        (D.state decoder.new) result.0 result.1 (take result.2 dst.new) result.3 }
+    ensures written { result.2 ≤ length dst.new }
+{
+    let mut destination = Utf8Destination::new(dst);
+    let (answer, read, replaced) = decode_replacing(decoder, src, &mut destination, last);
+    let written = destination.written();
+    (answer, read, written, replaced)
+}
+
+/// Decodes bytes from the front of `src` into UTF-16 at the front of `dst`, with U+FFFD for each
+/// malformed sequence.
+///
+/// It is as `decode_replacing_utf8`, but counts code units of UTF-16, and the answer is `InputEmpty`
+/// where `dst` is as long as `max_utf16_buffer_length` answered.
+pub fn decode_replacing_utf16<D: RawDecoder>(
+    decoder: &mut D,
+    src: &[u8],
+    dst: &mut [u16],
+    last: bool,
+) -> (CoderResult, usize, usize, bool)
+    ensures call { ReplacingDecoderCall Utf16 (D.state decoder.old) src.now last (length dst.old)
+        (D.state decoder.new) result.0 result.1 (take result.2 dst.new) result.3 }
+    ensures written { result.2 ≤ length dst.new }
+{
+    let mut destination = Utf16Destination::new(dst);
+    let (answer, read, replaced) = decode_replacing(decoder, src, &mut destination, last);
+    let written = destination.written();
+    (answer, read, written, replaced)
+}
