@@ -1,4 +1,3 @@
--- What the loop stands on.
-pub mod Profiles
-pub mod Going
-pub mod PlainMoves
+-- What the loops stand on.
+pub mod CallUnderWay
+pub mod PlainServes

@@ -1,3 +1,5 @@
--- How the encoders work inside. Nobody has to believe it.
+-- How the encoders work inside: nothing here has to be believed. What they promise is said by legacy_base.
 pub mod Moves
-pub mod Underway
+pub mod Serves
+pub mod UnderWay
+pub mod PlainCodecs

@@ -4,12 +4,13 @@ use Rattle.legacy_base.specs.declared.results.EncodeEvent.{EncodeEvent}
 use Rattle.legacy_base.specs.declared.results.EncodeEvent.TheVariants.{Byte}
 use Rattle.legacy_base.specs.declared.results.EncodeEvent.TheVariants as events
 use Rattle.legacy_base.specs.EncodeEvents.{code_length}
-use Rattle.legacy_base.specs.Encoders.{EncoderMode, ascii, roman, two_byte, EncoderState, profile, code, encoded, end_bytes, scalar_room}
-use Rattle.legacy_encoder_engine.specs.declared.machine.Move.{Move}
-use Rattle.legacy_encoder_engine.specs.declared.machine.Move.TheVariants.{One, Two, Four, Escape, Unmappable}
+use Rattle.legacy_base.specs.EncoderProfile.{EncoderMode, in_ascii, in_roman, in_two_byte}
+use Rattle.legacy_base.specs.Encoders.{EncoderState, encoder_profile, code, encoded, end_bytes, scalar_room}
+use Rattle.legacy_encoder_engine.specs.declared.moves.EncoderMove.{EncoderMove}
+use Rattle.legacy_encoder_engine.specs.declared.moves.EncoderMove.TheVariants.{One, Two, Four, Escape, Unmappable}
 
 -- the bytes of a move
-abbrev pub move_bytes : Move → List ℕ
+abbrev pub move_bytes : EncoderMove → List ℕ
 move_bytes (One a) = a ∷ []
 move_bytes (Two a b) = a ∷ b ∷ []
 move_bytes (Four a b c d) = a ∷ b ∷ c ∷ d ∷ []
@@ -17,37 +18,37 @@ move_bytes (Escape a b) = 0x1B ∷ a ∷ b ∷ []
 move_bytes (Unmappable c) = []
 
 -- what a move reports
-abbrev pub move_report : Move → List EncodeEvent
+abbrev pub move_report : EncoderMove → List EncodeEvent
 move_report (Unmappable c) = events.Unmappable c ∷ []
 move_report _ = []
 
 -- the scalar, where it is not read
-abbrev pub unread_scalar : Move → ℕ → List ℕ
+abbrev pub unread_scalar : EncoderMove → ℕ → List ℕ
 unread_scalar (Escape a b) c = c ∷ []
 unread_scalar _ c = []
 
 -- the move is an escape
-abbrev pub is_escape : Move → Bool
+abbrev pub is_escape : EncoderMove → Bool
 is_escape (Escape a b) = true
 is_escape _ = false
 
 -- the modes differ
 abbrev pub differs : EncoderMode → EncoderMode → Bool
-differs ascii ascii = false
-differs roman roman = false
-differs two_byte two_byte = false
+differs in_ascii in_ascii = false
+differs in_roman in_roman = false
+differs in_two_byte in_two_byte = false
 differs _ _ = true
 
 -- the scalar c wants an escape before it
 abbrev pub wants_escape : EncoderState → ℕ → Bool
-wants_escape state c = differs state.mode ((profile state.codec).mode_for state.mode c)
+wants_escape state c = differs state.mode ((encoder_profile state.codec).mode_for state.mode c)
 
 -- the state behind the scalar c, or behind the escape before it
 abbrev pub state_for : EncoderState → ℕ → EncoderState
-state_for state c = record { codec = state.codec; mode = (profile state.codec).mode_for state.mode c }
+state_for state c = record { codec = state.codec; mode = (encoder_profile state.codec).mode_for state.mode c }
 
 -- what the next move does where the scalar c is next, whatever comes behind it
-pub record Moves (before : EncoderState) (c : ℕ) (after : EncoderState) (move : Move) : Type 0 where
+pub record Moves (before : EncoderState) (c : ℕ) (after : EncoderState) (move : EncoderMove) : Type 0 where
   pub events : (more : List ℕ) (ended : Bool) →
       encoded before (c ∷ more) ended ≡ map Byte (move_bytes move) ++ (move_report move ++ encoded after (unread_scalar move c ++ more) ended)
   -- its bytes are the code of the scalar, or an escape
@@ -63,7 +64,7 @@ pub record Finishes (before after : EncoderState) : Type 0 where
   pub done : end_bytes after ≡ []
 
 -- the move is what the code of the scalar c says, in a codec without modes
-abbrev pub IsCode : Option (List ℕ) → ℕ → Move → Type 0
+abbrev pub IsCode : Option (List ℕ) → ℕ → EncoderMove → Type 0
 IsCode own c (One x) = own ≡ Some (x ∷ [])
 IsCode own c (Two x y) = own ≡ Some (x ∷ y ∷ [])
 IsCode own c (Four x y z w) = own ≡ Some (x ∷ y ∷ z ∷ w ∷ [])

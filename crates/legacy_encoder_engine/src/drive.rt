@@ -4,7 +4,7 @@ ghost use Rattle.legacy_base.specs.EncodingForm.{total_unit_count};
 ghost use Rattle.legacy_base.specs.EncoderCalls.{EncoderCall};
 ghost use Rattle.legacy_encoder_engine.specs.Moves.{move_bytes};
 
-use crate::machine::{Machine, Move};
+use crate::moves::{EncoderMove, EncoderMoves};
 use legacy_base::{EncoderResult, Source};
 
 /// Writes a byte at a place.
@@ -18,35 +18,35 @@ fn put(dst: &mut [u8], at: usize, byte: u8)
 
 /// Writes the bytes of a move from a place on, and answers where they end.
 #[inline]
-pub(crate) fn put_move(dst: &mut [u8], at: usize, step: Move) -> usize
+pub(crate) fn put_move(dst: &mut [u8], at: usize, step: EncoderMove) -> usize
     requires { at + length (move_bytes step) ≤ length dst.old }
     ensures bytes { take result dst.new ≡ take at dst.old ++ move_bytes step }
     ensures end { result ≡ at + length (move_bytes step) }
 {
     match step {
-        Move::One(a) => {
+        EncoderMove::One(a) => {
             put(dst, at, a);
             at + 1
         }
-        Move::Two(a, b) => {
+        EncoderMove::Two(a, b) => {
             put(dst, at, a);
             put(dst, at + 1, b);
             at + 2
         }
-        Move::Four(a, b, c, d) => {
+        EncoderMove::Four(a, b, c, d) => {
             put(dst, at, a);
             put(dst, at + 1, b);
             put(dst, at + 2, c);
             put(dst, at + 3, d);
             at + 4
         }
-        Move::Escape(a, b) => {
+        EncoderMove::Escape(a, b) => {
             put(dst, at, 0x1B);
             put(dst, at + 1, a);
             put(dst, at + 2, b);
             at + 3
         }
-        Move::Unmappable(_) => at,
+        EncoderMove::Unmappable(_) => at,
     }
 }
 
@@ -55,7 +55,7 @@ pub(crate) fn put_move(dst: &mut [u8], at: usize, step: Move) -> usize
 /// of `dst`. With `last` nothing comes behind the source, and the end is written. Runs of common scalars
 /// are read ahead of the moves.
 #[inline]
-pub fn drive<E: Machine, S: Source>(
+pub fn drive_encoder<E: EncoderMoves, S: Source>(
     encoder: &mut E,
     src: &mut S,
     dst: &mut [u8],
@@ -75,22 +75,22 @@ pub fn drive<E: Machine, S: Source>(
             return (EncoderResult::OutputFull, written);
         }
         let step = encoder.next(c);
-        if let Move::Unmappable(reported) = step {
+        if let EncoderMove::Unmappable(reported) = step {
             src.advance();
             return (EncoderResult::Unmappable(reported), written);
         }
         written = put_move(dst, written, step);
-        if let Move::Escape(_, _) = step {
+        if let EncoderMove::Escape(_, _) = step {
             continue;
         }
         src.advance();
     }
-    if last && encoder.is_pending() {
+    if encoder.is_pending() && last {
         if dst.len() - written < 3 {
             return (EncoderResult::OutputFull, written);
         }
         encoder.finish();
-        written = put_move(dst, written, Move::Escape(0x28, 0x42));
+        written = put_move(dst, written, EncoderMove::Escape(0x28, 0x42));
     }
     (EncoderResult::InputEmpty, written)
 }

@@ -10,17 +10,18 @@ use Rattle.legacy_base.specs.declared.results.EncodeEvent.TheVariants as events
 use Rattle.legacy_base.specs.declared.results.EncoderResult.TheVariants.{InputEmpty, OutputFull, Unmappable}
 use Rattle.legacy_base.specs.EncodingForm.{EncodingForm, code_units, unit_count, all_code_units, total_unit_count}
 use Rattle.legacy_base.specs.EncodeEvents.{byte_count, code_length}
-use Rattle.legacy_base.specs.States.{is_empty}
-use Rattle.legacy_base.specs.Encoders.{EncoderMode, ascii, roman, two_byte, EncoderState, profile, code, encoded, end_bytes, is_pending, scalar_room, encoder_need, encoder_formula, encoder_answer, encoder_room}
+use Rattle.legacy_base.specs.Profile.{is_empty}
+use Rattle.legacy_base.specs.EncoderProfile.{EncoderMode, in_ascii, in_roman, in_two_byte}
+use Rattle.legacy_base.specs.Encoders.{EncoderState, encoder_profile, code, encoded, end_bytes, is_pending, scalar_room, encoder_need, encoder_formula, encoder_answer, encoder_room}
 use Rattle.legacy_base.specs.EncoderCalls.{EncoderCall, EncoderLacksRoom, bytes_before}
 use Rattle.legacy_base.proofs.CodeUnits.{length-code_units-ascii}
 use Rattle.legacy_base.proofs.Enough.{answer-value}
 use Rattle.legacy_base.proofs.Rooms.{total_unit_count-append}
-use Rattle.legacy_encoder_engine.specs.declared.machine.Move.{Move}
-use Rattle.legacy_encoder_engine.specs.declared.machine.Move.TheVariants as moves
+use Rattle.legacy_encoder_engine.specs.declared.moves.EncoderMove.{EncoderMove}
+use Rattle.legacy_encoder_engine.specs.declared.moves.EncoderMove.TheVariants as moves
 use Rattle.legacy_encoder_engine.specs.Moves.{Moves, Finishes, move_bytes, move_report, unread_scalar, is_escape, differs, wants_escape, state_for}
-use Rattle.legacy_encoder_engine.specs.Underway.{LowersEscaped, Underway, KeepsOn, HasAscii, PutsCode}
-use Rattle.legacy_encoder_engine.proofs.Profiles.{serves}
+use Rattle.legacy_encoder_engine.specs.UnderWay.{LowersEscaped, Underway, KeepsOn, HasAscii, PutsCode}
+use Rattle.legacy_encoder_engine.specs.Serves.{Serves}
 
 -- ---- small laws
 
@@ -41,18 +42,18 @@ map_bytes-append (x ∷ xs) ys = ap (λ l. Byte x ∷ l) (map_bytes-append xs ys
 
 -- where no escape is wanted, the mode stays
 same_mode : (m n : EncoderMode) → differs m n ≡ false → n ≡ m
-same_mode ascii ascii e = refl
-same_mode ascii roman e = cc
-same_mode ascii two_byte e = cc
-same_mode roman ascii e = cc
-same_mode roman roman e = refl
-same_mode roman two_byte e = cc
-same_mode two_byte ascii e = cc
-same_mode two_byte roman e = cc
-same_mode two_byte two_byte e = refl
+same_mode in_ascii in_ascii e = refl
+same_mode in_ascii in_roman e = cc
+same_mode in_ascii in_two_byte e = cc
+same_mode in_roman in_ascii e = cc
+same_mode in_roman in_roman e = refl
+same_mode in_roman in_two_byte e = cc
+same_mode in_two_byte in_ascii e = cc
+same_mode in_two_byte in_roman e = cc
+same_mode in_two_byte in_two_byte e = refl
 
 state_stays : (state : EncoderState) (c : ℕ) → wants_escape state c ≡ false → state_for state c ≡ state
-state_stays state c e = ap (λ m. record { codec = state.codec; mode = m }) (same_mode state.mode ((profile state.codec).mode_for state.mode c) e)
+state_stays state c e = ap (λ m. record { codec = state.codec; mode = m }) (same_mode state.mode ((encoder_profile state.codec).mode_for state.mode c) e)
 
 -- nothing to write, and something
 no_bytes : (bytes : List ℕ) → not (is_empty bytes) ≡ false → bytes ≡ []
@@ -72,29 +73,29 @@ get_or-append_at [] y ys = refl
 get_or-append_at (x ∷ xs) y ys = get_or-append_at xs y ys
 
 -- behind a scalar that is read nothing more comes before the end
-no_more : (next : EncoderState) (move : Move) (c : ℕ) → is_escape move ≡ false → byte_count (move_report move ++ encoded next (unread_scalar move c ++ []) false) ≡ 0
+no_more : (next : EncoderState) → Serves (encoder_profile next.codec) → (move : EncoderMove) (c : ℕ) → is_escape move ≡ false → byte_count (move_report move ++ encoded next (unread_scalar move c ++ []) false) ≡ 0
 unfolding byte_count
-no_more next (moves.One a) c e = ap byte_count ((serves next.codec).nothing next.mode)
-no_more next (moves.Two a b) c e = ap byte_count ((serves next.codec).nothing next.mode)
-no_more next (moves.Four a b x d) c e = ap byte_count ((serves next.codec).nothing next.mode)
-no_more next (moves.Escape a b) c e = cc
-no_more next (moves.Unmappable r) c e = ap byte_count ((serves next.codec).nothing next.mode)
+no_more next serves (moves.One a) c e = ap byte_count (serves.nothing next.mode)
+no_more next serves (moves.Two a b) c e = ap byte_count (serves.nothing next.mode)
+no_more next serves (moves.Four a b x d) c e = ap byte_count (serves.nothing next.mode)
+no_more next serves (moves.Escape a b) c e = cc
+no_more next serves (moves.Unmappable r) c e = ap byte_count (serves.nothing next.mode)
 
-none_unread : (move : Move) (c : ℕ) → is_escape move ≡ false → unread_scalar move c ≡ []
+none_unread : (move : EncoderMove) (c : ℕ) → is_escape move ≡ false → unread_scalar move c ≡ []
 none_unread (moves.One a) c e = refl
 none_unread (moves.Two a b) c e = refl
 none_unread (moves.Four a b x d) c e = refl
 none_unread (moves.Escape a b) c e = cc
 none_unread (moves.Unmappable r) c e = refl
 
-escaped : (next : EncoderState) (move : Move) (c : ℕ) (more : List ℕ) (ended : Bool) → is_escape move ≡ true → move_report move ++ encoded next (unread_scalar move c ++ more) ended ≡ encoded next (c ∷ more) ended
+escaped : (next : EncoderState) (move : EncoderMove) (c : ℕ) (more : List ℕ) (ended : Bool) → is_escape move ≡ true → move_report move ++ encoded next (unread_scalar move c ++ more) ended ≡ encoded next (c ∷ more) ended
 escaped next (moves.One a) c more ended e = cc
 escaped next (moves.Two a b) c more ended e = cc
 escaped next (moves.Four a b x d) c more ended e = cc
 escaped next (moves.Escape a b) c more ended e = refl
 escaped next (moves.Unmappable r) c more ended e = cc
 
-escape_three : (move : Move) → is_escape move ≡ true → length (move_bytes move) ≡ 3
+escape_three : (move : EncoderMove) → is_escape move ≡ true → length (move_bytes move) ≡ 3
 escape_three (moves.One a) e = cc
 escape_three (moves.Two a b) e = cc
 escape_three (moves.Four a b x d) e = cc
@@ -103,10 +104,10 @@ escape_three (moves.Unmappable r) e = cc
 
 -- the code of a scalar and its room, by the codec alone
 code_same : (now before : EncoderState) (c : ℕ) → now.codec ≡ before.codec → code_length (code now c) ≡ code_length (code before c)
-code_same now before c e = ap (λ k. code_length ((profile k).code c)) e
+code_same now before c e = ap (λ k. code_length ((encoder_profile k).code c)) e
 
 room_same : (now before : EncoderState) (c : ℕ) → now.codec ≡ before.codec → scalar_room now c ≡ scalar_room before c
-room_same now before c e = ap (λ k. (profile k).scalar_room c) e
+room_same now before c e = ap (λ k. (encoder_profile k).scalar_room c) e
 
 -- ---- a call under way
 
@@ -123,7 +124,10 @@ module _ (before : EncoderState) (source : List ℕ) (last : Bool) (free : ℕ) 
     lowers = inl (record { low = λ form t. omega arith });
   }
 
-  module _ (now : EncoderState) (left bytes : List ℕ) (under : Underway before source last free now left bytes) where
+  module _ (now : EncoderState) (left bytes : List ℕ) (under : Underway before source last free now left bytes) (serves : Serves (encoder_profile now.codec)) where
+    served_before : Serves (encoder_profile before.codec)
+    served_before = subst (λ codec. Serves (encoder_profile codec)) under.same serves
+
     whole : (more : List ℕ) (ended : Bool) → encoded before (source ++ more) ended ≡ map Byte bytes ++ encoded now (left ++ more) ended
     whole more ended =
         ap (λ l. encoded before (l ++ more) ended) under.cut
@@ -150,7 +154,7 @@ module _ (before : EncoderState) (source : List ℕ) (last : Bool) (free : ℕ) 
         answered : (form : EncodingForm) (n k : ℕ) → total_unit_count form source ≤ n → encoder_answer form before n ≡ Some k → k ≤ free → encoder_room form before (total_unit_count form source) ≤ free
         answered form n k h e f =
             let v = answer-value (encoder_formula form before n) k e in
-            let r = (serves before.codec).rises form (total_unit_count form source) n h in
+            let r = served_before.rises form (total_unit_count form source) n h in
             omega arith
 
     -- what lacked room at once lacks it still
@@ -165,7 +169,7 @@ module _ (before : EncoderState) (source : List ℕ) (last : Bool) (free : ℕ) 
       head_enough : (form : EncodingForm) → scalar_room now c + length bytes ≤ encoder_room form before (total_unit_count form source)
       head_enough form = elim under.lowers [
         | inl s ↦
-            let e = (serves now.codec).enough now.mode c form (total_unit_count form rest) in
+            let e = serves.enough now.mode c form (total_unit_count form rest) in
             let l = rw (add-zero, add-zero, units_at form) at (s.low form 0) in
             omega arith
         | inr s ↦
@@ -185,9 +189,12 @@ module _ (before : EncoderState) (source : List ℕ) (last : Bool) (free : ℕ) 
       next_events : (more : List ℕ) (ended : Bool) → encoded before (under.taken ++ (c ∷ more)) ended ≡ map Byte bytes ++ encoded now (c ∷ more) ended
       next_events more ended = rw at at (under.events more ended)
 
-      module _ (next : EncoderState) (move : Move) (f : Moves now c next move) (room : scalar_room now c ≤ free - length bytes) where
+      module _ (next : EncoderState) (move : EncoderMove) (f : Moves now c next move) (room : scalar_room now c ≤ free - length bytes) where
         next_same : next.codec ≡ now.codec
         next_same = ap (λ (s : EncoderState). s.codec) f.goes
+
+        served_next : Serves (encoder_profile next.codec)
+        served_next = subst (λ codec. Serves (encoder_profile codec)) (sym next_same) serves
 
         -- the scalar with what its move gave
         moved : (more : List ℕ) (ended : Bool) → encoded before (under.taken ++ (c ∷ more)) ended ≡ map Byte (bytes ++ move_bytes move) ++ (move_report move ++ encoded next (unread_scalar move c ++ more) ended)
@@ -207,7 +214,7 @@ module _ (before : EncoderState) (source : List ℕ) (last : Bool) (free : ℕ) 
             ap byte_count (moved [] false)
             ∙ byte_count-append (map Byte (bytes ++ move_bytes move)) (move_report move ++ encoded next (unread_scalar move c ++ []) false)
             ∙ ap (λ n. n + byte_count (move_report move ++ encoded next (unread_scalar move c ++ []) false)) (byte_count-bytes (bytes ++ move_bytes move) ∙ length-append bytes (move_bytes move))
-            ∙ ap (λ n. length bytes + length (move_bytes move) + n) (no_more next move c e)
+            ∙ ap (λ n. length bytes + length (move_bytes move) + n) (no_more next served_next move c e)
             ∙ add-zero (length bytes + length (move_bytes move)) in
             let own : code_length (code before c) ≡ length (move_bytes move) = sym (code_same now before c under.same) ∙ f.own e in
             omega arith
@@ -240,7 +247,7 @@ module _ (before : EncoderState) (source : List ℕ) (last : Bool) (free : ℕ) 
             rw (stays e) (elim under.lowers [
               | inl s ↦
                   let l = s.low form t in
-                  let r = (serves now.codec).low now.mode c form (total_unit_count form rest + t) in
+                  let r = serves.low now.mode c form (total_unit_count form rest + t) in
                   let u : total_unit_count form left + t ≡ unit_count form c + (total_unit_count form rest + t) = omega (arith, units_at form) in
                   let l' = rw u at l in
                   omega arith
@@ -267,16 +274,16 @@ module _ (before : EncoderState) (source : List ℕ) (last : Bool) (free : ℕ) 
                 c = c;
                 rest = rest;
                 at = at;
-                settled = ap (λ x. wants_escape x c) f.goes ∙ (serves now.codec).settled now.mode c;
+                settled = ap (λ x. wants_escape x c) f.goes ∙ serves.settled now.mode c;
                 low = λ form t.
                     let l = s.low form t in
                     let u : total_unit_count form left + t ≡ unit_count form c + (total_unit_count form rest + t) = omega (arith, units_at form) in
                     let l' = rw u at l in
-                    let r = (serves now.codec).escape_low now.mode c w form (total_unit_count form rest + t) in
+                    let r = serves.escape_low now.mode c w form (total_unit_count form rest + t) in
                     rw f.goes (omega arith);
                 enough = λ form.
                     let l = rw (add-zero, add-zero, units_at form) at (s.low form 0) in
-                    let r = (serves now.codec).escape_enough now.mode c w form (total_unit_count form rest) in
+                    let r = serves.escape_enough now.mode c w form (total_unit_count form rest) in
                     rw f.goes (omega arith);
               }
         ]
@@ -345,7 +352,7 @@ module _ (before : EncoderState) (source : List ℕ) (last : Bool) (free : ℕ) 
       ]
 
       end_room_low : (form : EncodingForm) → length (end_bytes now) + length bytes ≤ encoder_room form before (total_unit_count form source)
-      end_room_low form = let l = rw add-zero at (end_low form 0) in let e = (serves now.codec).end now.mode form in omega arith
+      end_room_low form = let l = rw add-zero at (end_low form 0) in let e = serves.end now.mode form in omega arith
 
       pub call_done : (IsTrue last → is_pending now ≡ false) → EncoderCall before source last free now InputEmpty left bytes
       call_done p = record {
@@ -365,7 +372,7 @@ module _ (before : EncoderState) (source : List ℕ) (last : Bool) (free : ℕ) 
 
       module _ (is_last : last ≡ true) (pending : is_pending now ≡ true) where
         three : length (end_bytes now) ≡ 3
-        three = (serves now.codec).escapes now.mode pending
+        three = serves.escapes now.mode pending
 
         end_need : encoder_need now left last ≡ 3
         end_need = rw (none, is_last) three
@@ -400,14 +407,14 @@ module _ (before : EncoderState) (source : List ℕ) (last : Bool) (free : ℕ) 
 
 -- ---- for the loop
 
-pub no_report : (m : Move) → ((r : ℕ) → m ≡ moves.Unmappable r → ⊥) → move_report m ≡ []
+pub no_report : (m : EncoderMove) → ((r : ℕ) → m ≡ moves.Unmappable r → ⊥) → move_report m ≡ []
 no_report (moves.One a) h = refl
 no_report (moves.Two a b) h = refl
 no_report (moves.Four a b c d) h = refl
 no_report (moves.Escape a b) h = refl
 no_report (moves.Unmappable r) h = absurd (h r refl)
 
-pub no_escape : (m : Move) → ((a b : ℕ) → m ≡ moves.Escape a b → ⊥) → is_escape m ≡ false
+pub no_escape : (m : EncoderMove) → ((a b : ℕ) → m ≡ moves.Escape a b → ⊥) → is_escape m ≡ false
 no_escape (moves.One a) h = refl
 no_escape (moves.Two a b) h = refl
 no_escape (moves.Four a b c d) h = refl
@@ -435,23 +442,24 @@ module _ (state : EncoderState) (free : ℕ) where
   pub keeps_then : (left bytes left' bytes' left'' bytes'' : List ℕ) → KeepsOn state free left bytes left' bytes' → KeepsOn state free left' bytes' left'' bytes'' → KeepsOn state free left bytes left'' bytes''
   keeps_then left bytes left' bytes' left'' bytes'' first second = record { keeps = λ before source last u. second.keeps before source last (first.keeps before source last u) }
 
-  pub keeps_move : (left bytes : List ℕ) (c : ℕ) (rest : List ℕ) (move : Move) → left ≡ c ∷ rest → Moves state c state move → is_escape move ≡ false → move_report move ≡ [] → scalar_room state c ≤ free - length bytes →
-      KeepsOn state free left bytes rest (bytes ++ move_bytes move)
-  keeps_move left bytes c rest move at f plain silent room = record {
-    keeps = λ before source last u. underway_read before source last free state left bytes u c rest at state move f room plain silent;
-  }
+  module _ (serves : Serves (encoder_profile state.codec)) where
+    pub keeps_move : (left bytes : List ℕ) (c : ℕ) (rest : List ℕ) (move : EncoderMove) → left ≡ c ∷ rest → Moves state c state move → is_escape move ≡ false → move_report move ≡ [] → scalar_room state c ≤ free - length bytes →
+        KeepsOn state free left bytes rest (bytes ++ move_bytes move)
+    keeps_move left bytes c rest move at f plain silent room = record {
+      keeps = λ before source last u. underway_read before source last free state left bytes u serves c rest at state move f room plain silent;
+    }
 
-  -- a front of scalars that are ASCII, as it is
-  pub keeps_ascii : HasAscii state → (front left bytes rest : List ℕ) → IsAscii front → left ≡ front ++ rest → length bytes + length front ≤ free → KeepsOn state free left bytes rest (bytes ++ front)
-  keeps_ascii has [] left bytes rest plain at fits = rw (append-nil bytes, at) (keeps_none rest bytes)
-  keeps_ascii has (c ∷ front) left bytes rest plain at fits =
-      let low : c < 128 = plain 0 in
-      let one : scalar_room state c ≤ 1 = has.room c low in
-      let long : length (bytes ++ c ∷ []) ≡ length bytes + 1 = length-append bytes (c ∷ []) in
-      let first = keeps_move left bytes c (front ++ rest) (moves.One c) at (has.moves c low) refl refl (omega arith) in
-      let others = keeps_ascii has front (front ++ rest) (bytes ++ c ∷ []) rest (λ i. plain (suc i)) refl (omega arith) in
-      subst (λ l. KeepsOn state free left bytes rest l) (append_assoc bytes (c ∷ []) front)
-      (keeps_then left bytes (front ++ rest) (bytes ++ c ∷ []) rest ((bytes ++ c ∷ []) ++ front) first others)
+    -- a front of scalars that are ASCII, as it is
+    pub keeps_ascii : HasAscii state → (front left bytes rest : List ℕ) → IsAscii front → left ≡ front ++ rest → length bytes + length front ≤ free → KeepsOn state free left bytes rest (bytes ++ front)
+    keeps_ascii has [] left bytes rest plain at fits = rw (append-nil bytes, at) (keeps_none rest bytes)
+    keeps_ascii has (c ∷ front) left bytes rest plain at fits =
+        let low : c < 128 = plain 0 in
+        let one : scalar_room state c ≤ 1 = has.room c low in
+        let long : length (bytes ++ c ∷ []) ≡ length bytes + 1 = length-append bytes (c ∷ []) in
+        let first = keeps_move left bytes c (front ++ rest) (moves.One c) at (has.moves c low) refl refl (omega arith) in
+        let others = keeps_ascii has front (front ++ rest) (bytes ++ c ∷ []) rest (λ i. plain (suc i)) refl (omega arith) in
+        subst (λ l. KeepsOn state free left bytes rest l) (append_assoc bytes (c ∷ []) front)
+        (keeps_then left bytes (front ++ rest) (bytes ++ c ∷ []) rest ((bytes ++ c ∷ []) ++ front) first others)
 
 -- ASCII scalars have one code unit each
 ascii_units : (form : EncodingForm) (front : List ℕ) → IsAscii front → total_unit_count form front ≡ length front
@@ -484,13 +492,13 @@ pub record ReadsOn (form : EncodingForm) (state : EncoderState) (free : ℕ) (le
   pub fewer : length left' < length left
   pub passed_is : passed' + total_unit_count form left' ≡ passed + total_unit_count form left
 
-pub reads_on : (form : EncodingForm) (state : EncoderState) (free : ℕ) (left bytes : List ℕ) (start passed : ℕ) (left' bytes' : List ℕ) (at passed' : ℕ)
+pub reads_on : (form : EncodingForm) (state : EncoderState) (free : ℕ) (serves : Serves (encoder_profile state.codec)) (left bytes : List ℕ) (start passed : ℕ) (left' bytes' : List ℕ) (at passed' : ℕ)
     → KeepsOn state free left bytes left' bytes' → start ≤ at → length left' ≤ length left → passed' + total_unit_count form left' ≡ passed + total_unit_count form left
     → length bytes' ≡ at → (c n : ℕ) → left' ≡ c ∷ drop 1 left' → unit_count form c ≡ n → at + scalar_room state c ≤ free
     → (left'' bytes'' : List ℕ) (end passed'' : ℕ) → PutsCode state c bytes' at bytes'' end → left'' ≡ drop 1 left' → passed'' ≡ passed' + n
     → ReadsOn form state free left bytes start passed left'' bytes'' end passed''
-reads_on form state free left bytes start passed left' bytes' at passed' keeps s f p long c n is units room left'' bytes'' end passed'' put next now =
-    let one = keeps_move state free left' bytes' c (drop 1 left') put.move is put.moves put.reads put.silent (omega arith) in
+reads_on form state free serves left bytes start passed left' bytes' at passed' keeps s f p long c n is units room left'' bytes'' end passed'' put next now =
+    let one = keeps_move state free serves left' bytes' c (drop 1 left') put.move is put.moves put.reads put.silent (omega arith) in
     let first = first_units form left' c is in
     let count = (first_count form left' c n is units).1 in
     let shorter : length (drop 1 left') < length left' = omega (arith, length-drop 1 left', ap length is) in

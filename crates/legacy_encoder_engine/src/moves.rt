@@ -1,15 +1,16 @@
 //! The small moves that each encoder makes, and the runs that it reads ahead of them.
 ghost use Rattle.std.specs.Prelude.{◌≡◌, ◌+◌, ◌≤◌, length, take, true};
 ghost use Rattle.legacy_base.specs.EncodingForm.{total_unit_count};
-ghost use Rattle.legacy_base.specs.Encoders.{EncoderState, is_pending, scalar_room};
+ghost use Rattle.legacy_base.specs.Encoders.{EncoderState, encoder_profile, is_pending, scalar_room};
 ghost use Rattle.legacy_encoder_engine.specs.Moves.{Moves, Finishes};
-ghost use Rattle.legacy_encoder_engine.specs.Underway.{KeepsOn};
+ghost use Rattle.legacy_encoder_engine.specs.Serves.{Serves};
+ghost use Rattle.legacy_encoder_engine.specs.UnderWay.{KeepsOn};
 
 use legacy_base::Source;
 
 /// What an encoder does where a scalar is next.
 #[derive(Clone, Copy)]
-pub enum Move {
+pub enum EncoderMove {
     /// It reads the scalar and writes this byte.
     One(u8),
     /// It reads the scalar and writes these two bytes.
@@ -22,23 +23,27 @@ pub enum Move {
     Unmappable(char),
 }
 
-/// The moves of an encoder, of which `drive` makes its calls: what the standard calls an encoder's handler
-/// (Encoding Standard, section "Encoders and decoders"), with the room in the output that each move needs.
-pub trait Machine {
+/// The moves of an encoder, of which `drive_encoder` makes its calls: what the standard calls an encoder's
+/// handler (Encoding Standard, section "Encoders and decoders"), with the room in the output that each move
+/// needs.
+pub trait EncoderMoves {
     /// The codec with its lists, and the mode that the encoder is in.
     ghost state: { Self → EncoderState };
 
-    /// The free bytes that the next move needs where this scalar is next, whatever comes of it.
+    /// The free bytes that the next move needs where this scalar is next, whatever comes of it. Nothing
+    /// changes.
     fn room(&self, c: char) -> usize
-        ensures { result ≡ scalar_room (state self.now) c };
+        ensures bytes { result ≡ scalar_room (state self.now) c }
+        ensures serves { Serves (encoder_profile (state self.now).codec) };
 
-    /// The next move where this scalar is next.
-    fn next(&mut self, c: char) -> Move
+    /// Makes the next move where this scalar is next, and answers what it is.
+    fn next(&mut self, c: char) -> EncoderMove
         ensures { Moves (state self.old) c (state self.new) result };
 
-    /// Whether the end of the text writes an escape.
+    /// Whether the end of the text writes an escape. Nothing changes.
     fn is_pending(&self) -> bool
-        ensures { result ≡ is_pending (state self.now) };
+        ensures is { result ≡ is_pending (state self.now) }
+        ensures serves { Serves (encoder_profile (state self.now).codec) };
 
     /// Goes back to ASCII at the end of the text, where an escape is to be written.
     fn finish(&mut self)
@@ -46,6 +51,7 @@ pub trait Machine {
 
     /// Reads scalars from the front of what the source has left and writes their bytes from the place `at`
     /// of `dst` on, as many as it cares to, and answers where they end. The encoder does not change.
+    #[inline]
     fn read_ahead<S: Source>(&self, src: &mut S, dst: &mut [u8], at: usize) -> usize
         requires { at ≤ length dst.old }
         ensures keeps { KeepsOn (state self.now) (length dst.old) (S.left src.old) (take at dst.old)

@@ -1,12 +1,12 @@
 use Rattle.std.proofs.Common.{◌≡◌, ◌≤◌, ◌+◌, ◌-◌, length, take}
 use Rattle.legacy_base.specs.EncodingForm.{total_unit_count}
-use Rattle.legacy_encoder_engine.specs.Underway.{Underway}
-use Rattle.legacy_encoder_engine.proofs.drive.drive.Given as goal
+use Rattle.legacy_encoder_engine.specs.UnderWay.{Underway}
+use Rattle.legacy_encoder_engine.proofs.drive.drive_encoder.Given as goal
 
 -- the call is under way, and the output holds what was written
 abbrev pub invariant-loop-c : goal.invariant-loop-c
 invariant-loop-c g l =
-    let E = g.E.Machine in
+    let E = g.E.EncoderMoves in
     let S = g.S.Source in
     Underway (E.state l.fn.encoder) (S.left l.fn.src) l.last (length l.fn.dst) (E.state l.encoder) (S.left l.src) (take l.written l.dst)
     × (l.written ≤ length l.dst)

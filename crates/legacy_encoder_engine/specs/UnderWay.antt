@@ -6,8 +6,8 @@ use Rattle.legacy_base.specs.EncodeEvents.{code_length}
 use Rattle.legacy_base.specs.Encoders.{EncoderState, code, encoded, scalar_room, encoder_room}
 use Rattle.legacy_base.specs.EncoderCalls.{EncoderLacksRoom, bytes_before}
 use Rattle.legacy_encoder_engine.specs.Moves.{Moves, wants_escape, is_escape, move_report, move_bytes}
-use Rattle.legacy_encoder_engine.specs.declared.machine.Move.{Move}
-use Rattle.legacy_encoder_engine.specs.declared.machine.Move.TheVariants.{One}
+use Rattle.legacy_encoder_engine.specs.declared.moves.EncoderMove.{EncoderMove}
+use Rattle.legacy_encoder_engine.specs.declared.moves.EncoderMove.TheVariants.{One}
 
 -- what was written lowers the room that is still needed
 pub record Lowers (before : EncoderState) (source : List ℕ) (now : EncoderState) (left bytes : List ℕ) : Type 0 where
@@ -48,7 +48,7 @@ pub record HasAscii (state : EncoderState) : Type 0 where
 
 -- The bytes of the scalar c were written behind others, which ended at a place, and end at another one. The state stays.
 pub record PutsCode (state : EncoderState) (c : ℕ) (old : List ℕ) (at : ℕ) (new : List ℕ) (end : ℕ) : Type 0 where
-  pub move : Move
+  pub move : EncoderMove
   pub moves : Moves state c state move
   pub reads : is_escape move ≡ false
   pub silent : move_report move ≡ []

@@ -2,19 +2,19 @@ use Rattle.std.proofs.Common.{◌≡◌, ◌∙◌, length, false, IsTrue, refl,
 use Rattle.std.proofs.lemmas.Bool.{false≢true}
 use Rattle.legacy_base.specs.Encoders.{is_pending}
 use Rattle.legacy_base.proofs.Texts.{first_cons}
-use Rattle.legacy_encoder_engine.proofs.Going.{underway_start, underway_read, call_full_scalar, call_unmappable, call_done, no_report, no_escape, first_nil, front_length, first_units}
-use Rattle.legacy_encoder_engine.proofs.drive.drive.Goals as goal
-use Rattle.legacy_encoder_engine.proofs.drive.drive.Goals.{else-last-via-then-last+else-is_pending, else-last-via-else-last}
+use Rattle.legacy_encoder_engine.proofs.CallUnderWay.{underway_start, underway_read, call_full_scalar, call_unmappable, call_done, no_report, no_escape, first_nil, front_length, first_units}
+use Rattle.legacy_encoder_engine.proofs.drive.drive_encoder.Goals as goal
+use Rattle.legacy_encoder_engine.proofs.drive.drive_encoder.Goals.{else-is_pending-via-then-is_pending+else-last, else-is_pending-via-else-is_pending}
 
 pub loop-c-init : goal.loop-c-init
-loop-c-init g c = (underway_start (g.E.Machine.state c.args.encoder.now) (g.S.Source.left c.args.src.now) c.args.last (length c.args.dst.now), omega arith, refl)
+loop-c-init g c = (underway_start (g.E.EncoderMoves.state c.args.encoder.now) (g.S.Source.left c.args.src.now) c.args.last (length c.args.dst.now), omega arith, refl)
 
 pub returns-then-dst-written-clause-call : goal.returns-then-dst-written-clause-call
 returns-then-dst-written-clause-call g c =
     let a = c.read_ahead-written in
     let under = (rw c.loop-c.auto.dst at a.ensures.keeps).keeps _ _ _ c.loop-c.invariant.0 in
     let n = front_length a.result a.new.dst (omega (arith, a.ensures.end)) in
-    call_full_scalar _ _ _ _ _ _ _ under c.in-Some.c _ (first_cons _ _ c.in-Some.ensures) (omega arith)
+    call_full_scalar _ _ _ _ _ _ _ under c.room.ensures.serves c.in-Some.c _ (first_cons _ _ c.in-Some.ensures) (omega arith)
 
 pub returns-in-Unmappable-clause-call : goal.returns-in-Unmappable-clause-call
 returns-in-Unmappable-clause-call g c =
@@ -22,7 +22,7 @@ returns-in-Unmappable-clause-call g c =
     let under = (rw c.loop-c.auto.dst at a.ensures.keeps).keeps _ _ _ c.loop-c.invariant.0 in
     let n = front_length a.result a.new.dst (omega (arith, a.ensures.end)) in
     rw c.advance.ensures.left
-    (call_unmappable _ _ _ _ _ _ _ under c.in-Some.c _ (first_cons _ _ c.in-Some.ensures) _ c.in-Unmappable.reported
+    (call_unmappable _ _ _ _ _ _ _ under c.room.ensures.serves c.in-Some.c _ (first_cons _ _ c.in-Some.ensures) _ c.in-Unmappable.reported
     (rw c.in-Unmappable.is at c.next-step.ensures) (omega arith))
 
 pub loop-c-preserved : goal.loop-c-preserved
@@ -33,19 +33,19 @@ loop-c-preserved g c =
     let f = c.next-step.ensures.fits in
     let cons = first_cons _ _ c.in-Some.ensures in (
       rw (c.advance-in-loop-c.ensures.left, c.put_move-written.ensures.bytes)
-          (underway_read _ _ _ _ _ _ _ under c.in-Some.c _ cons _ c.next-step.result c.next-step.ensures (omega arith)
+          (underway_read _ _ _ _ _ _ _ under c.room.ensures.serves c.in-Some.c _ cons _ c.next-step.result c.next-step.ensures (omega arith)
           (no_escape c.next-step.result c.in_default-step-2.not-Escape) (no_report c.next-step.result c.in_default-step.not-Unmappable)),
       omega arith,
       rw c.advance-in-loop-c.ensures.left (omega (arith, c.advance-in-loop-c.ensures.passed, first_units g.S.Source.form (g.S.Source.left a.new.src) c.in-Some.c cons, a.ensures.passed, c.loop-c.invariant.2)),
     )
 
-pub returns-else-last-clause-call : goal.returns-else-last-clause-call
-returns-else-last-clause-call g c =
+pub returns-else-is_pending-clause-call : goal.returns-else-is_pending-clause-call
+returns-else-is_pending-clause-call g c =
     let a = c.read_ahead-written in
     let under = (rw c.loop-c.auto.dst at a.ensures.keeps).keeps _ _ _ c.loop-c.invariant.0 in
-    let none : IsTrue c.args.last → is_pending (g.E.Machine.state c.loop-c.encoder) ≡ false =
-    elim c.else-last.branch [
-      | else-last-via-then-last+else-is_pending w ↦ λ l. sym w.is_pending.ensures ∙ w.if-is_pending.false
-      | else-last-via-else-last w ↦ λ l. absurd (false≢true (sym w.if-last.false ∙ l))
+    let none : IsTrue c.args.last → is_pending (g.E.EncoderMoves.state c.loop-c.encoder) ≡ false =
+    elim c.else-is_pending.branch [
+      | else-is_pending-via-then-is_pending+else-last w ↦ λ l. absurd (false≢true (sym w.if-last.false ∙ l))
+      | else-is_pending-via-else-is_pending w ↦ λ l. sym c.is_pending.ensures.is ∙ w.if-is_pending.false
     ] in
-    call_done _ _ _ _ _ _ _ under (first_nil _ (sym c.peek.ensures ∙ c.in_default.is)) none
+    call_done _ _ _ _ _ _ _ under c.is_pending.ensures.serves (first_nil _ (sym c.peek.ensures ∙ c.in_default.is)) none

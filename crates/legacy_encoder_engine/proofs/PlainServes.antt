@@ -1,0 +1,237 @@
+-- The codecs without modes: their rooms serve for their scalars, and their moves are the codes of these.
+use Rattle.std.proofs.Common.{◌≡◌, ◌∙◌, ℕ, ◌+◌, ◌-◌, ◌≤◌, ◌<◌, List, [], ◌∷◌, ◌++◌, length, not, refl, sym, ap, subst, arith, Bool, true, false, Some, None, Option, cond, option_map, ltb, inl, inr}
+use Rattle.std.proofs.lemmas.Bool.{cases_lt, lt-ltb, le-ltb}
+use Rattle.legacy_base.specs.declared.results.EncodeEvent.{EncodeEvent}
+use Rattle.legacy_base.specs.declared.results.EncodeEvent.TheVariants as events
+use Rattle.legacy_base.specs.EncodingForm.{EncodingForm, Utf8, Utf16, unit_count}
+use Rattle.legacy_base.specs.EncodeEvents.{code_events, code_length, plain_events}
+use Rattle.legacy_base.specs.EncoderProfile.{EncoderMode, in_ascii, in_roman, in_two_byte, EncoderProfile, plain_encoder}
+use Rattle.legacy_base.specs.Encoders.{Codec, encoder_profile, EncoderState, new_encoder, code, encoded, is_pending, scalar_room}
+use Rattle.legacy_base.specs.Profile.{is_empty}
+use Rattle.legacy_base.specs.Lengths.{Formula, number, ◌⊕◌, ◌⊗◌, value}
+use Rattle.legacy_base.proofs.CodeUnits.{encode_2, encode_3, encode_4}
+use Rattle.legacy_base.proofs.SameUnits.{some_unit}
+use Rattle.legacy_encoder_engine.specs.declared.moves.EncoderMove.{EncoderMove}
+use Rattle.legacy_encoder_engine.specs.declared.moves.EncoderMove.TheVariants.{One, Two, Four, Escape, Unmappable}
+use Rattle.legacy_encoder_engine.specs.Moves.{differs, Moves, IsCode, wants_escape, state_for}
+use Rattle.legacy_encoder_engine.specs.Serves.{mode_room, Serves}
+use Rattle.legacy_encoder_engine.specs.UnderWay.{HasAscii}
+use Rattle.legacy_encoder_engine.specs.PlainCodecs.{HasPlainLengths, IsPlainCodec}
+
+differs-same : (m : EncoderMode) → differs m m ≡ false
+differs-same in_ascii = refl
+differs-same in_roman = refl
+differs-same in_two_byte = refl
+
+never : {A : Type 0} (m : EncoderMode) → differs m m ≡ true → A
+never m e = let no : true ≡ false = sym e ∙ differs-same m in absurd (cc)
+
+-- a scalar past ASCII has two bytes or more in UTF-8
+two_units : (c : ℕ) → 128 ≤ c → 2 ≤ unit_count Utf8 c
+two_units c a = elim (cases_lt c 2048) [
+  | inl b ↦ rw (encode_2 c a b) (omega arith)
+  | inr b ↦ elim (cases_lt c 65536) [ inl d ↦ rw (encode_3 c b d) (omega arith) | inr d ↦ rw (encode_4 c d) (omega arith) ]
+]
+
+-- ---- the profile
+
+module _ (code : ℕ → Option (List ℕ)) (past most : ℕ) (from_utf8 from_utf16 : Formula → Formula)
+    (same : (c : ℕ) → c < 128 → code c ≡ Some (c ∷ [])) (short : (c : ℕ) → 128 ≤ c → code_length (code c) ≤ most) (f : HasPlainLengths past most from_utf8 from_utf16) where
+  abbrev P : EncoderProfile
+  P = plain_encoder code past from_utf8 from_utf16
+
+  one : (c : ℕ) → c < 128 → code_length (code c) ≤ 1
+  one c a = let e = ap code_length (same c a) in omega arith
+
+  low : (mode : EncoderMode) (c : ℕ) (form : EncodingForm) (t : ℕ) → mode_room P form mode t + code_length (code c) ≤ mode_room P form mode (unit_count form c + t)
+  low mode c Utf16 t = elim (cases_lt c 128) [
+    | inl a ↦ let l = f.low16 (unit_count Utf16 c) t (code_length (code c)) (some_unit Utf16 c) (omega (arith, one c a, f.fits.0)) in omega arith
+    | inr a ↦ let l = f.low16 (unit_count Utf16 c) t (code_length (code c)) (some_unit Utf16 c) (short c a) in omega arith
+  ]
+  low mode c Utf8 t = elim (cases_lt c 128) [
+    | inl a ↦ let l = f.ascii8 (unit_count Utf8 c) t (code_length (code c)) (some_unit Utf8 c) (one c a) in omega arith
+    | inr a ↦ let l = f.low8 (unit_count Utf8 c) t (code_length (code c)) (two_units c a) (short c a) in omega arith
+  ]
+
+  enough : (mode : EncoderMode) (c : ℕ) (form : EncodingForm) (t : ℕ) → cond (ltb c 128) 1 past ≤ mode_room P form mode (unit_count form c + t)
+  enough mode c Utf16 t = elim (cases_lt c 128) [
+    | inl a ↦ let l = f.enough16 (unit_count Utf16 c) t (some_unit Utf16 c) in let s = f.fits.0 in let m = f.fits.1 in rw (lt-ltb c 128 a) (omega arith)
+    | inr a ↦ let l = f.enough16 (unit_count Utf16 c) t (some_unit Utf16 c) in rw (le-ltb c 128 a) (omega arith)
+  ]
+  enough mode c Utf8 t = elim (cases_lt c 128) [
+    | inl a ↦ let l = f.ascii8 (unit_count Utf8 c) t 1 (some_unit Utf8 c) (omega arith) in rw (lt-ltb c 128 a) (omega arith)
+    | inr a ↦ let l = f.enough8 (unit_count Utf8 c) t (two_units c a) in rw (le-ltb c 128 a) (omega arith)
+  ]
+
+  rises : (form : EncodingForm) (m k : ℕ) → m ≤ k → value (P.formula form (number m)) ≤ value (P.formula form (number k))
+  rises Utf16 m k h = elim (cases_lt m k) [
+    | inl l ↦ let r = f.low16 (k - m) m 0 (omega arith) (omega arith) in let e : k - m + m ≡ k = omega arith in let r' = rw e at r in omega arith
+    | inr l ↦ let e : m ≡ k = omega arith in rw e (omega arith)
+  ]
+  rises Utf8 m k h = elim (cases_lt m k) [
+    | inl l ↦ let r = f.ascii8 (k - m) m 0 (omega arith) (omega arith) in let e : k - m + m ≡ k = omega arith in let r' = rw e at r in omega arith
+    | inr l ↦ let e : m ≡ k = omega arith in rw e (omega arith)
+  ]
+
+  profile_serves : Serves (plain_encoder code past from_utf8 from_utf16)
+  unfolding plain_events
+  profile_serves = record {
+    nothing = λ mode. refl;
+    settled = λ mode c. differs-same mode;
+    low = low;
+    enough = enough;
+    escape_low = λ mode c e form t. never mode e;
+    escape_enough = λ mode c e form t. never mode e;
+    end = λ mode form. omega arith;
+    escapes = λ mode e. cc;
+    rises = rises;
+  }
+
+-- ---- the moves
+
+-- what a profile without modes does, with so much room past ASCII
+record ActsPlainly (p : EncoderProfile) (past : ℕ) : Type 0 where
+  law : (c : ℕ) (more : List ℕ) (ended : Bool) → p.events in_ascii (c ∷ more) ended ≡ code_events c (p.code c) ++ p.events in_ascii more ended
+  mode : (c : ℕ) → p.mode_for in_ascii c ≡ in_ascii
+  room : (c : ℕ) → p.scalar_room c ≡ cond (ltb c 128) 1 past
+  never_ends : p.end_bytes in_ascii ≡ []
+
+acts : (code : ℕ → Option (List ℕ)) (past : ℕ) (from_utf8 from_utf16 : Formula → Formula) → ActsPlainly (plain_encoder code past from_utf8 from_utf16) past
+unfolding plain_events
+acts code past from_utf8 from_utf16 = record { law = λ c more ended. refl; mode = λ c. refl; room = λ c. refl; never_ends = refl }
+
+module _ (codec : Codec) (past : ℕ) (p : IsPlainCodec codec past) where
+  abbrev S : EncoderState
+  S = new_encoder codec
+
+  pub plain_serves : Serves (encoder_profile codec)
+  plain_serves = subst Serves (sym p.profile_is) (profile_serves p.code past p.most p.from_utf8 p.from_utf16 p.ascii p.short p.lengths)
+
+  acts_plainly : ActsPlainly (encoder_profile codec) past
+  acts_plainly = subst (λ q. ActsPlainly q past) (sym p.profile_is) (acts p.code past p.from_utf8 p.from_utf16)
+
+  code_is : (c : ℕ) → code S c ≡ p.code c
+  code_is c = ap (λ (q : EncoderProfile). q.code c) p.profile_is
+
+  -- the room of ASCII, and of other scalars
+  pub ascii_room : (c : ℕ) → c < 128 → scalar_room S c ≡ 1
+  ascii_room c h = acts_plainly.room c ∙ rw (lt-ltb c 128 h) refl
+
+  pub room_past_ascii : (c : ℕ) → 128 ≤ c → scalar_room S c ≡ past
+  room_past_ascii c h = acts_plainly.room c ∙ rw (le-ltb c 128 h) refl
+
+  pub widest_room : (c : ℕ) → scalar_room S c ≤ past
+  widest_room c = elim (cases_lt c 128) [
+    | inl a ↦ let e = ascii_room c a in let f = p.lengths.fits.0 in let g = p.lengths.fits.1 in omega arith
+    | inr a ↦ let e = room_past_ascii c a in omega arith
+  ]
+
+  fits : (c : ℕ) → code_length (code S c) ≤ scalar_room S c
+  fits c = elim (cases_lt c 128) [
+    | inl a ↦ let e = ascii_room c a in let o = ap code_length (code_is c ∙ p.ascii c a) in omega arith
+    | inr a ↦ let e = room_past_ascii c a in let o = ap code_length (code_is c) in let s = p.short c a in let f = p.lengths.fits.1 in omega arith
+  ]
+
+  stays : (c : ℕ) → S ≡ state_for S c
+  stays c = ap (λ m. record { codec = codec; mode = m }) (sym (acts_plainly.mode c))
+
+  asks : (c : ℕ) → false ≡ wants_escape S c
+  asks c = rw (acts_plainly.mode c) refl
+
+  -- a move is the code of its scalar
+  pub plain_moves : (c : ℕ) (move : EncoderMove) → IsCode (code S c) c move → Moves S c S move
+  plain_moves c (One x) e = record {
+    events = λ more ended. acts_plainly.law c more ended ∙ ap (λ o. code_events c o ++ encoded S more ended) e;
+    own = λ h. ap code_length e;
+    fits = rw e at (fits c);
+    asks = asks c;
+    goes = stays c;
+  }
+  plain_moves c (Two x y) e = record {
+    events = λ more ended. acts_plainly.law c more ended ∙ ap (λ o. code_events c o ++ encoded S more ended) e;
+    own = λ h. ap code_length e;
+    fits = rw e at (fits c);
+    asks = asks c;
+    goes = stays c;
+  }
+  plain_moves c (Four x y z w) e = record {
+    events = λ more ended. acts_plainly.law c more ended ∙ ap (λ o. code_events c o ++ encoded S more ended) e;
+    own = λ h. ap code_length e;
+    fits = rw e at (fits c);
+    asks = asks c;
+    goes = stays c;
+  }
+  plain_moves c (Escape x y) e = absurd e
+  plain_moves c (Unmappable r) e = record {
+    events = λ more ended. acts_plainly.law c more ended ∙ ap (λ o. code_events c o ++ encoded S more ended) e.0 ∙ ap (λ x. events.Unmappable x ∷ encoded S more ended) (sym e.1);
+    own = λ h. ap code_length e.0;
+    fits = omega arith;
+    asks = asks c;
+    goes = stays c;
+  }
+
+  pub plain_ascii : HasAscii S
+  plain_ascii = record {
+    room = λ c h. let e = ascii_room c h in omega arith;
+    moves = λ c h. plain_moves c (One c) (code_is c ∙ p.ascii c h);
+  }
+
+  -- the end of a text writes nothing
+  pub never_pending : is_pending S ≡ false
+  never_pending = ap (λ l. not (is_empty l)) acts_plainly.never_ends
+
+-- ---- the formulas of the codecs: for codes of one byte, for pairs, and those of GBK and GB18030
+
+pub byte_lengths : HasPlainLengths 1 1 (λ n. n) (λ n. n)
+byte_lengths = record {
+  fits = (omega arith, omega arith);
+  low16 = λ u t own p q. omega arith;
+  enough16 = λ u t p. omega arith;
+  ascii8 = λ u t own p q. omega arith;
+  low8 = λ u t own p q. omega arith;
+  enough8 = λ u t p. omega arith;
+}
+
+pub pair_lengths : HasPlainLengths 2 2 (λ n. n ⊕ number 1) (λ n. number 2 ⊗ n)
+pair_lengths = record {
+  fits = (omega arith, omega arith);
+  low16 = λ u t own p q. omega arith;
+  enough16 = λ u t p. omega arith;
+  ascii8 = λ u t own p q. omega arith;
+  low8 = λ u t own p q. omega arith;
+  enough8 = λ u t p. omega arith;
+}
+
+pub gbk_lengths : HasPlainLengths 4 2 (λ n. n ⊕ number 3) (λ n. number 2 ⊕ number 2 ⊗ n)
+gbk_lengths = record {
+  fits = (omega arith, omega arith);
+  low16 = λ u t own p q. omega arith;
+  enough16 = λ u t p. omega arith;
+  ascii8 = λ u t own p q. omega arith;
+  low8 = λ u t own p q. omega arith;
+  enough8 = λ u t p. omega arith;
+}
+
+pub gb18030_lengths : HasPlainLengths 4 4 (λ n. number 2 ⊕ number 2 ⊗ n) (λ n. number 4 ⊗ n)
+gb18030_lengths = record {
+  fits = (omega arith, omega arith);
+  low16 = λ u t own p q. omega arith;
+  enough16 = λ u t p. omega arith;
+  ascii8 = λ u t own p q. omega arith;
+  low8 = λ u t own p q. omega arith;
+  enough8 = λ u t p. omega arith;
+}
+
+-- ---- how many bytes codes have
+
+pub short_if : (t : Bool) (a b : Option (List ℕ)) (n : ℕ) → code_length a ≤ n → code_length b ≤ n → code_length (cond t a b) ≤ n
+short_if true a b n p q = p
+short_if false a b n p q = q
+
+pub short_map : {A : Type 0} (f : A → List ℕ) (o : Option A) (n : ℕ) → ((p : A) → length (f p) ≤ n) → code_length (option_map f o) ≤ n
+short_map f None n h = omega arith
+short_map f (Some p) n h = h p
+
+-- past ASCII
+pub short_past : (c : ℕ) (a b : Option (List ℕ)) (n : ℕ) → 128 ≤ c → code_length b ≤ n → code_length (cond (ltb c 128) a b) ≤ n
+short_past c a b n h q = rw (le-ltb c 128 h) q

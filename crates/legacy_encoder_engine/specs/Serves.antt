@@ -1,0 +1,35 @@
+-- What the loop asks of an encoder's profile: its rooms and its length formulas serve for its scalars.
+use Rattle.std.specs.Prelude.{◌≡◌, ℕ, ◌+◌, ◌-◌, ◌≤◌, List, [], length, Bool, true, false, not}
+use Rattle.legacy_base.specs.EncodingForm.{EncodingForm, unit_count}
+use Rattle.legacy_base.specs.EncodeEvents.{code_length}
+use Rattle.legacy_base.specs.EncoderProfile.{EncoderMode, EncoderProfile}
+use Rattle.legacy_base.specs.Lengths.{number, value}
+use Rattle.legacy_base.specs.Profile.{is_empty}
+use Rattle.legacy_encoder_engine.specs.Moves.{differs}
+
+-- the room that n more code units of a form can still take in a mode
+abbrev pub mode_room : EncoderProfile → EncodingForm → EncoderMode → ℕ → ℕ
+mode_room p form mode n = value (p.formula form (number n)) - p.surplus form mode n
+
+-- a scalar that comes in the mode wants an escape
+abbrev pub wants : EncoderProfile → EncoderMode → ℕ → Bool
+wants p mode c = differs mode (p.mode_for mode c)
+
+-- the profile serves the loop
+pub record Serves (p : EncoderProfile) : Type 0 where
+  -- a text that is empty and goes on gives nothing
+  pub nothing : (mode : EncoderMode) → p.events mode [] false ≡ []
+  -- behind an escape the scalar wants no other
+  pub settled : (mode : EncoderMode) (c : ℕ) → wants p (p.mode_for mode c) c ≡ false
+  -- the bytes of a scalar, written in the mode at hand, lower the room, and its room was there
+  pub low : (mode : EncoderMode) (c : ℕ) (form : EncodingForm) (t : ℕ) → mode_room p form mode t + code_length (p.code c) ≤ mode_room p form mode (unit_count form c + t)
+  pub enough : (mode : EncoderMode) (c : ℕ) (form : EncodingForm) (t : ℕ) → p.scalar_room c ≤ mode_room p form mode (unit_count form c + t)
+  -- so do an escape and the scalar behind it
+  pub escape_low : (mode : EncoderMode) (c : ℕ) → wants p mode c ≡ true → (form : EncodingForm) (t : ℕ) → mode_room p form (p.mode_for mode c) t + (3 + code_length (p.code c)) ≤ mode_room p form mode (unit_count form c + t)
+  pub escape_enough : (mode : EncoderMode) (c : ℕ) → wants p mode c ≡ true → (form : EncodingForm) (t : ℕ) → 3 + p.scalar_room c ≤ mode_room p form mode (unit_count form c + t)
+  -- and the end
+  pub end : (mode : EncoderMode) (form : EncodingForm) → length (p.end_bytes mode) ≤ mode_room p form mode 0
+  -- which writes an escape, or nothing
+  pub escapes : (mode : EncoderMode) → not (is_empty (p.end_bytes mode)) ≡ true → length (p.end_bytes mode) ≡ 3
+  -- a length asked for more code units is greater
+  pub rises : (form : EncodingForm) (m n : ℕ) → m ≤ n → value (p.formula form (number m)) ≤ value (p.formula form (number n))

@@ -1,0 +1,27 @@
+//! The codecs without modes: the code of each scalar stands by itself.
+ghost use Rattle.std.specs.Prelude.{◌≡◌, ℕ};
+ghost use Rattle.legacy_base.specs.Encoders.{Codec, encoder_profile};
+ghost use Rattle.legacy_encoder_engine.specs.Moves.{IsCode};
+ghost use Rattle.legacy_encoder_engine.specs.PlainCodecs.{IsPlainCodec};
+
+use crate::moves::EncoderMove;
+
+/// The codes of a codec without modes: all that its encoder does not share. ASCII is itself.
+pub trait PlainCodes {
+    /// The codec with its lists.
+    ghost codec: { Self → Codec };
+
+    /// The free bytes that a scalar past ASCII needs, mapped or not.
+    ghost past: { ℕ };
+
+    /// What is shown of the codec.
+    ghost plain: { (encoder : Self) → IsPlainCodec (codec encoder) past };
+
+    /// The free bytes that a scalar past ASCII needs, mapped or not. ASCII needs one.
+    fn past_room(&self) -> usize
+        ensures { result ≡ past };
+
+    /// The bytes of a scalar, or the scalar itself as unmappable.
+    fn code_of(&self, c: char) -> EncoderMove
+        ensures { IsCode ((encoder_profile (codec self.now)).code c) c result };
+}
