@@ -166,6 +166,45 @@ adjacent place before (r ∷ s ∷ ranges) e (suc k) d h =
 pub rising : (place : ℕ) (before : Option (ℕ × ℕ)) (ranges : List (ℕ × ℕ)) → range_order_fault place before ranges ≡ None → IsNonDecreasingBy (λ r. r.0) ranges
 rising place before ranges e = IsNonDecreasingBy-from_all_adjacent (λ r. r.0) ranges (adjacent place before ranges e)
 
+-- a range that follows another begins past all scalars of the one before
+next_above : (before r : ℕ × ℕ) → (nat_le r.0 39419 && follows_range (Some before) r) ≡ true → (before.0 < r.0) × (before.1 + (r.0 - before.0) ≤ r.1)
+next_above before r h = let b = both_true _ _ (both_true _ _ h).1 in (ltb-true before.0 r.0 b.0, leb-true _ r.1 b.1)
+
+-- so pointers and scalars rise together, where pointers rise by no more
+climb : (place : ℕ) (before : Option (ℕ × ℕ)) (ranges : List (ℕ × ℕ)) → range_order_fault place before ranges ≡ None →
+    AllAdjacentBelow (λ r s. (r.0 < s.0) × (r.1 + (s.0 - r.0) ≤ s.1)) ranges (length ranges)
+unfolding range_order_fault
+climb place before [] e k d h = absurd (omega arith)
+climb place before (r ∷ []) e k d h = absurd (omega arith)
+climb place before (r ∷ s ∷ ranges) e zero d h =
+    let t = taken _ (RangeOrder place) (range_order_fault (place + 1) (Some r) (s ∷ ranges)) e in
+    next_above r s (taken _ (RangeOrder (place + 1)) (range_order_fault (place + 1 + 1) (Some s) ranges) t.1).0
+climb place before (r ∷ s ∷ ranges) e (suc k) d h =
+    let t = taken _ (RangeOrder place) (range_order_fault (place + 1) (Some r) (s ∷ ranges)) e in
+    rw (add-one (suc k)) (rw (add-one k) at (climb (place + 1) (Some r) (s ∷ ranges) t.1 k d (omega arith)))
+
+pub rising_scalars : (place : ℕ) (before : Option (ℕ × ℕ)) (ranges : List (ℕ × ℕ)) → range_order_fault place before ranges ≡ None → IsNonDecreasingBy (λ r. r.1) ranges
+rising_scalars place before ranges e =
+    IsNonDecreasingBy-from_all_adjacent (λ r. r.1) ranges (λ k d h. let up = climb place before ranges e k d h in let low = up.0 in let high = up.1 in omega arith)
+
+-- a range begins past all scalars that one before it gives the pointers up to its own
+pub rise : (ranges : List (ℕ × ℕ)) → range_order_fault 0 None ranges ≡ None → (i : ℕ) → i + 1 < length ranges →
+    ((get_or ranges i (0, 0)).0 < (get_or ranges (i + 1) (0, 0)).0) × ((get_or ranges i (0, 0)).1 + ((get_or ranges (i + 1) (0, 0)).0 - (get_or ranges i (0, 0)).0) ≤ (get_or ranges (i + 1) (0, 0)).1)
+rise ranges e i h = climb 0 None ranges e i (0, 0) h
+
+-- each starts at 39419 at the latest
+started_from : (place : ℕ) (before : Option (ℕ × ℕ)) (ranges : List (ℕ × ℕ)) → range_order_fault place before ranges ≡ None → (k : ℕ) → k < length ranges → (get_or ranges k (0, 0)).0 ≤ 39419
+unfolding range_order_fault
+started_from place before [] e k h = absurd (omega arith)
+started_from place before (r ∷ ranges) e zero h =
+    let t = taken _ (RangeOrder place) (range_order_fault (place + 1) (Some r) ranges) e in
+    leb-true r.0 39419 (both_true _ _ t.0).0
+started_from place before (r ∷ ranges) e (suc k) h =
+    started_from (place + 1) (Some r) ranges (taken _ (RangeOrder place) (range_order_fault (place + 1) (Some r) ranges) e).1 k (omega arith)
+
+pub started_by : (ranges : List (ℕ × ℕ)) → range_order_fault 0 None ranges ≡ None → (k : ℕ) → k < length ranges → (get_or ranges k (0, 0)).0 ≤ 39419
+started_by ranges e k h = started_from 0 None ranges e k h
+
 -- the last range that starts at or before p
 pub last-none : (ranges : List (ℕ × ℕ)) (p : ℕ) → ((k : ℕ) → k < length ranges → p < (get_or ranges k (0, 0)).0) → last_range_scalar ranges p ≡ None
 last-none [] p ahead = refl

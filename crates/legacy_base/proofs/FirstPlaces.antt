@@ -1,7 +1,8 @@
 -- The first and the last number of a row of numbers that pass a test.
-use Rattle.std.proofs.Common.{◌≡◌, ℕ, zero, suc, ◌+◌, ◌≤◌, ◌<◌, Some, None, true, false, Bool, cond, arith, refl, inl, inr, find, subst}
+use Rattle.std.proofs.Common.{◌≡◌, ℕ, zero, suc, ◌+◌, ◌≤◌, ◌<◌, Some, None, true, false, Bool, ◌||◌, cond, arith, refl, inl, inr, find, subst}
 use Rattle.std.proofs.lemmas.Bool.{cases_lt}
 use Rattle.std.specs.List.{range_with_len}
+use Rattle.std.specs.Option.{option_or}
 use Rattle.legacy_base.specs.Pointers.{last_below}
 
 module _ (test : ℕ → Bool) where
@@ -114,3 +115,33 @@ module _ (test : ℕ → Bool) where
         | inl m ↦ later z m
         | inr m ↦ let same : k ≡ n = omega arith in rw same q
       ]
+
+-- ---- two tests
+
+module _ (test other : ℕ → Bool) where
+  pub find-same : (a n : ℕ) → ((k : ℕ) → a ≤ k → k < a + n → test k ≡ other k) → find test (range_with_len a n) ≡ find other (range_with_len a n)
+  find-same a zero same = refl
+  find-same a (suc n) same = rw (same a (omega arith) (omega arith), find-same (a + 1) n (λ k l m. same k (omega arith) (omega arith))) refl
+
+  pub last-same : (n : ℕ) → ((k : ℕ) → k < n → test k ≡ other k) → last_below test n ≡ last_below other n
+  unfolding last_below
+  last-same zero same = refl
+  last-same (suc n) same = rw (same n (omega arith), last-same n (λ k h. same k (omega arith))) refl
+
+  -- where all that pass the one stand before all that pass the other
+  pub find-either : (a n : ℕ) → ((j k : ℕ) → test j ≡ true → other k ≡ true → j < k) →
+      find (λ k. test k || other k) (range_with_len a n) ≡ option_or (find test (range_with_len a n)) (find other (range_with_len a n))
+  find-either a zero apart = refl
+  find-either a (suc n) apart = go (test a) (other a) refl (find-either (a + 1) n apart)
+    where
+      go : (s t : Bool) → other a ≡ t
+          → find (λ k. test k || other k) (range_with_len (a + 1) n) ≡ option_or (find test (range_with_len (a + 1) n)) (find other (range_with_len (a + 1) n))
+          → cond (s || t) (Some a) (find (λ k. test k || other k) (range_with_len (a + 1) n))
+          ≡ option_or (cond s (Some a) (find test (range_with_len (a + 1) n))) (cond t (Some a) (find other (range_with_len (a + 1) n)))
+      go true t e later = refl
+      go false false e later = later
+      go false true e later = rw (find-none test (a + 1) n (λ k l m. behind k l e (test k) refl)) refl
+        where
+          behind : (k : ℕ) → a + 1 ≤ k → other a ≡ true → (b : Bool) → test k ≡ b → b ≡ false
+          behind k l e true q = let before = apart k a q e in absurd (omega arith)
+          behind k l e false q = refl

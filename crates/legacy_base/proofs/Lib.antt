@@ -13,6 +13,8 @@ pub mod TableLoops
 pub mod FirstPlaces
 pub mod Pointers
 pub mod Accepted
+pub mod RangePointers
+pub mod PointerBounds
 pub mod AcceptedTable
 pub mod Ascii
 pub mod Texts

@@ -5,6 +5,7 @@ ghost use Rattle.legacy_base.specs.TableChecks.{AreAccepted};
 
 pub(crate) mod checks;
 pub(crate) mod lookups;
+pub(crate) mod pointers;
 
 use std::fmt;
 use std::marker::Model;
@@ -130,6 +131,11 @@ impl<'a> Tables<'a> {
     ghost use Rattle.legacy_base.specs.Indexes.{idx, range};
     ghost use Rattle.legacy_base.specs.TableChecks.{table_fault};
     ghost use Rattle.legacy_base.specs.Tables.{flat_indexes, index_list};
+    ghost use Rattle.legacy_base.specs.Pointers.{big5_pointer_of, euc_kr_pointer_of};
+    ghost use Rattle.legacy_base.specs.Pointers.{shift_jis_pointer_of, euc_jp_pointer_of};
+    ghost use Rattle.legacy_base.specs.Pointers.{gb18030_pointer_of, range_pointer_of};
+    ghost use Rattle.std.specs.Option.{IfSome};
+    ghost use Rattle.std.specs.Prelude.{◌<◌};
 
     /// The tables of the indexes, or the first fault. The indexes are checked in the order of the
     /// fields: the length first, then the entries by rising pointers; of the ranges the order
@@ -185,5 +191,65 @@ impl<'a> Tables<'a> {
         ensures { result ≡ range self.now.flat.ranges pointer }
     {
         lookups::range_scalar(self.ranges, &self.likely_places, pointer)
+    }
+
+    /// The pointer that the Big5 encoder takes for the scalar value, or `None` where index Big5 has
+    /// it at no pointer from 5024 on (Encoding Standard, "index Big5 pointer"): the last of these
+    /// for U+2550, U+255E, U+2561, U+256A, U+5341 and U+5345, and else the first. It searches the
+    /// index from there on.
+    pub fn big5_pointer(&self, scalar: char) -> Option<usize>
+        ensures pointer { result ≡ big5_pointer_of self.now.flat.big5 scalar }
+        ensures within { IfSome result (λ p. p < 19782) }
+    {
+        pointers::big5_pointer(self.big5, scalar)
+    }
+
+    /// The first pointer of the scalar value in index EUC-KR, or `None` where it has none (Encoding
+    /// Standard, "index pointer"). It searches the index.
+    pub fn euc_kr_pointer(&self, scalar: char) -> Option<usize>
+        ensures pointer { result ≡ euc_kr_pointer_of self.now.flat.euc_kr scalar }
+        ensures within { IfSome result (λ p. p < 23940) }
+    {
+        pointers::first(self.euc_kr, scalar)
+    }
+
+    /// The pointer that the Shift_JIS encoder takes for the scalar value: the first one in index
+    /// jis0208 that is not one of 8272 to 8835, or `None` where there is none (Encoding Standard,
+    /// "index Shift_JIS pointer"). It searches the index.
+    pub fn shift_jis_pointer(&self, scalar: char) -> Option<usize>
+        ensures pointer { result ≡ shift_jis_pointer_of self.now.flat.jis0208 scalar }
+        ensures within { IfSome result (λ p. p < 11280) }
+    {
+        pointers::shift_jis_pointer(self.jis0208, scalar)
+    }
+
+    /// The pointer that the EUC-JP and ISO-2022-JP encoders take for the scalar value: the first one
+    /// in index jis0208, or `None` where there is none below 8836, the last one of their forms
+    /// (Encoding Standard, "index pointer"). It searches the index.
+    pub fn euc_jp_pointer(&self, scalar: char) -> Option<usize>
+        ensures pointer { result ≡ euc_jp_pointer_of self.now.flat.jis0208 scalar }
+        ensures within { IfSome result (λ p. p < 8836) }
+    {
+        pointers::euc_jp_pointer(self.jis0208, scalar)
+    }
+
+    /// The first pointer of the scalar value in index gb18030, or `None` where it has none (Encoding
+    /// Standard, "index pointer"). It searches the index.
+    pub fn gb18030_pointer(&self, scalar: char) -> Option<usize>
+        ensures pointer { result ≡ gb18030_pointer_of self.now.flat.gb18030 scalar }
+        ensures within { IfSome result (λ p. p < 23940) }
+    {
+        pointers::first(self.gb18030, scalar)
+    }
+
+    /// The pointer of four bytes that has the scalar value, or `None` where none has (Encoding
+    /// Standard, "index gb18030 ranges pointer"): 7457 for U+E7C7, 189000 to 1237575 for U+10000 to
+    /// U+10FFFF, and for others by the last range whose scalars begin at or before it, which a
+    /// binary search finds.
+    pub fn range_pointer(&self, scalar: char) -> Option<usize>
+        ensures pointer { result ≡ range_pointer_of self.now.flat.ranges scalar }
+        ensures within { IfSome result (λ p. p < 1237576) }
+    {
+        pointers::range_pointer(self.ranges, scalar)
     }
 }

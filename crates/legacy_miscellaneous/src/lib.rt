@@ -8,4 +8,5 @@ mod utf16;
 
 pub use replacement::decoder::ReplacementDecoder;
 pub use user_defined::decoder::UserDefinedDecoder;
+pub use user_defined::encoder::UserDefinedEncoder;
 pub use utf16::decoder::Utf16Decoder;

@@ -1,2 +1,3 @@
 //! x-user-defined.
 pub mod decoder;
+pub mod encoder;

@@ -147,7 +147,7 @@ fn has_scalars(range: (u16, u16), end: u16) -> bool
 }
 
 /// The pointer at which the range of a place ends: the next one's, or the one past the last.
-fn end_of(ranges: &[(u16, u16)], place: usize) -> u16
+pub(super) fn end_of(ranges: &[(u16, u16)], place: usize) -> u16
     requires { place < length ranges.now }
     ensures { result ≡ next_pointer (drop (place + 1) ranges.now) }
 {

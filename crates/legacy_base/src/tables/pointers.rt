@@ -1,0 +1,168 @@
+//! Look-ups of the pointer that an encoder takes for a scalar.
+ghost use Rattle.std.specs.Prelude.{◌≡◌, ◌≢◌, ℕ, ◌<◌, ◌≤◌, ◌&&◌, nat_le, nat_lt, length};
+ghost use Rattle.std.specs.Prelude.{None, slice_index_or};
+ghost use Rattle.legacy_base.specs.Pointers.{every_pointer, first_pointer, last_pointer};
+ghost use Rattle.legacy_base.specs.Pointers.{big5_pointer_of, takes_last_big5_pointer};
+ghost use Rattle.legacy_base.specs.Pointers.{shift_jis_pointer_of, euc_jp_pointer_of};
+ghost use Rattle.legacy_base.specs.Pointers.{range_pointer_of};
+ghost use Rattle.legacy_base.specs.TableChecks.{range_order_fault, range_value_fault};
+
+use super::checks::end_of;
+
+/// The first pointer from `start` on and before `end` that has the entry.
+fn first_wide(index: &[u32], start: usize, end: usize, entry: u32) -> Option<usize>
+    requires within { end ≤ length index.now }
+    requires some { entry ≢ 0 }
+    ensures { result ≡ first_pointer (λ p. nat_le start p && nat_lt p end) index.now entry }
+{
+    let mut pointer = start;
+    while pointer < end {
+        if index[pointer] == entry {
+            return Some(pointer);
+        }
+        pointer += 1;
+    }
+    None
+}
+
+/// The last pointer from `start` on that has the entry.
+fn last_wide(index: &[u32], start: usize, entry: u32) -> Option<usize>
+    requires { entry ≢ 0 }
+    ensures { result ≡ last_pointer (nat_le start) index.now entry }
+{
+    let mut behind = index.len();
+    while behind > start {
+        behind -= 1;
+        if index[behind] == entry {
+            return Some(behind);
+        }
+    }
+    None
+}
+
+/// Whether Big5 takes the last of the scalar's pointers.
+fn takes_last(scalar: u32) -> bool
+    ensures { result ≡ takes_last_big5_pointer scalar }
+{
+    matches!(scalar, 0x2550 | 0x255E | 0x2561 | 0x256A | 0x5341 | 0x5345)
+}
+
+/// The pointer of a scalar in Big5.
+pub(super) fn big5_pointer(index: &[u32], scalar: char) -> Option<usize>
+    ensures { result ≡ big5_pointer_of index.now scalar }
+{
+    let entry = u32::from(scalar);
+    if entry == 0 {
+        return None;
+    }
+    if takes_last(entry) {
+        last_wide(index, 5024, entry)
+    } else {
+        first_wide(index, 5024, index.len(), entry)
+    }
+}
+
+/// The first pointer from `start` on and before `end` that has the entry.
+fn first_narrow(index: &[u16], start: usize, end: usize, entry: u16) -> Option<usize>
+    requires within { end ≤ length index.now }
+    requires some { entry ≢ 0 }
+    ensures { result ≡ first_pointer (λ p. nat_le start p && nat_lt p end) index.now entry }
+{
+    let mut pointer = start;
+    while pointer < end {
+        if index[pointer] == entry {
+            return Some(pointer);
+        }
+        pointer += 1;
+    }
+    None
+}
+
+/// The first pointer from `start` on and before `end` that has the scalar.
+fn first_between(index: &[u16], start: usize, end: usize, scalar: char) -> Option<usize>
+    requires { end ≤ length index.now }
+    ensures { result ≡ first_pointer (λ p. nat_le start p && nat_lt p end) index.now scalar }
+{
+    let entry = u32::from(scalar);
+    if entry == 0 {
+        return None;
+    }
+    if entry > 0xFFFF {
+        return None;
+    }
+    first_narrow(index, start, end, entry as u16)
+}
+
+/// The first pointer of a scalar.
+pub(super) fn first(index: &[u16], scalar: char) -> Option<usize>
+    ensures { result ≡ first_pointer every_pointer index.now scalar }
+{
+    first_between(index, 0, index.len(), scalar)
+}
+
+/// The pointer of a scalar in Shift_JIS.
+pub(super) fn shift_jis_pointer(jis0208: &[u16], scalar: char) -> Option<usize>
+    ensures { result ≡ shift_jis_pointer_of jis0208.now scalar }
+{
+    match first_between(jis0208, 0, jis0208.len().min(8272), scalar) {
+        Some(pointer) => Some(pointer),
+        None => first_between(jis0208, 8836, jis0208.len(), scalar),
+    }
+}
+
+/// The pointer of a scalar in EUC-JP and in ISO-2022-JP.
+pub(super) fn euc_jp_pointer(jis0208: &[u16], scalar: char) -> Option<usize>
+    ensures { result ≡ euc_jp_pointer_of jis0208.now scalar }
+{
+    first_between(jis0208, 0, jis0208.len().min(8836), scalar)
+}
+
+/// How many of the ranges have a first scalar at or before the scalar: the ranges rise, so these
+/// are the first ones.
+fn ranges_up_to(ranges: &[(u16, u16)], scalar: usize) -> usize
+    requires { range_order_fault 0 None ranges.now ≡ None }
+    ensures within { result ≤ length ranges.now }
+    ensures reached { (k : ℕ) → k < result → (slice_index_or ranges.now k (0, 0)).1 ≤ scalar }
+    ensures ahead { (k : ℕ) → result ≤ k → k < length ranges.now →
+        scalar < (slice_index_or ranges.now k (0, 0)).1 }
+{
+    ranges.partition_point(|range| usize::from(range.1) <= scalar)
+}
+
+/// The pointer of four bytes of a scalar of the Basic Multilingual Plane that is not U+E7C7.
+fn pointer_in_ranges(ranges: &[(u16, u16)], scalar: usize) -> Option<usize>
+    requires ordered { range_order_fault 0 None ranges.now ≡ None }
+    requires narrow { scalar < 0x1_0000 }
+    requires free { scalar ≢ 0xE7C7 }
+    ensures { result ≡ range_pointer_of ranges.now scalar }
+{
+    let count = ranges_up_to(ranges, scalar);
+    if count == 0 {
+        return None;
+    }
+    let (first, lowest) = ranges[count - 1];
+    let pointer = usize::from(first) + (scalar - usize::from(lowest));
+    if pointer >= usize::from(end_of(ranges, count - 1)) {
+        return None;
+    }
+    if pointer == 7457 {
+        return None;
+    }
+    Some(pointer)
+}
+
+/// The pointer of four bytes of a scalar.
+pub(super) fn range_pointer(ranges: &[(u16, u16)], scalar: char) -> Option<usize>
+    requires ordered { range_order_fault 0 None ranges.now ≡ None }
+    requires valued { range_value_fault 0 ranges.now ≡ None }
+    ensures { result ≡ range_pointer_of ranges.now scalar }
+{
+    if scalar == '\u{E7C7}' {
+        return Some(7457);
+    }
+    let number = u32::from(scalar) as usize;
+    if number >= 0x1_0000 {
+        return Some(189000 + (number - 0x1_0000));
+    }
+    pointer_in_ranges(ranges, number)
+}

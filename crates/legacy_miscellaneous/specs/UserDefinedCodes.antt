@@ -1,0 +1,26 @@
+-- What is shown of the codes of x-user-defined.
+use Rattle.std.proofs.Common.{ℕ, ◌≤◌, ◌+◌, ◌-◌, [], ◌∷◌, Some, None, refl, arith}
+use Rattle.std.proofs.lemmas.Bool.{lt-ltb}
+use Rattle.std.specs.Int.{is_in_range}
+use Rattle.legacy_base.specs.EncodeEvents.{code_length}
+use Rattle.legacy_base.specs.UserDefined.{user_defined_code}
+use Rattle.legacy_base.specs.Encoders.{user_defined}
+use Rattle.legacy_encoder_engine.specs.PlainCodecs.{IsPlainCodec}
+use Rattle.legacy_encoder_engine.proofs.PlainServes.{byte_lengths, short_past, short_if}
+
+short : (c : ℕ) → 128 ≤ c → code_length (user_defined_code c) ≤ 1
+unfolding user_defined_code
+short c h = short_past c _ _ 1 h (short_if (is_in_range 0xF780 0xF7FF c) _ _ 1 (omega arith) (omega arith))
+
+pub user_defined_plain : IsPlainCodec user_defined 1
+unfolding user_defined_code
+user_defined_plain = record {
+  code = user_defined_code;
+  from_utf8 = λ n. n;
+  from_utf16 = λ n. n;
+  profile_is = refl;
+  ascii = λ c h. rw (lt-ltb c 128 h) refl;
+  most = 1;
+  short = short;
+  lengths = byte_lengths;
+}

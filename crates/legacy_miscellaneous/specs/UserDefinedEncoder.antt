@@ -1,0 +1,7 @@
+-- What the x-user-defined encoder is between two calls: nothing changes.
+use Rattle.legacy_base.specs.Encoders.{EncoderState, new_encoder, user_defined}
+use Rattle.legacy_miscellaneous.specs.declared.user_defined.encoder.UserDefinedEncoder.{UserDefinedEncoder}
+
+-- the state that its calls speak of
+abbrev pub user_defined_encoder_state : UserDefinedEncoder → EncoderState
+user_defined_encoder_state encoder = new_encoder user_defined

@@ -1,0 +1,25 @@
+-- What is shown of the codes of the single-byte codecs.
+use Rattle.std.proofs.Common.{ℕ, ◌≤◌, ◌+◌, ◌==◌, List, [], ◌∷◌, Some, refl, arith, position}
+use Rattle.std.proofs.lemmas.Bool.{lt-ltb}
+use Rattle.legacy_base.specs.EncodeEvents.{code_length}
+use Rattle.legacy_base.specs.SingleByte.{single_byte_code}
+use Rattle.legacy_base.specs.Encoders.{single_byte}
+use Rattle.legacy_encoder_engine.specs.PlainCodecs.{IsPlainCodec}
+use Rattle.legacy_encoder_engine.proofs.PlainServes.{byte_lengths, short_past, short_map}
+
+short : (table : List ℕ) (c : ℕ) → 128 ≤ c → code_length (single_byte_code table c) ≤ 1
+unfolding single_byte_code
+short table c h = short_past c _ _ 1 h (short_map (λ place. (0x80 + place) ∷ []) (position (λ entry. entry == c) table) 1 (λ p. omega arith))
+
+pub single_byte_plain : (table : List ℕ) → IsPlainCodec (single_byte table) 1
+unfolding single_byte_code
+single_byte_plain table = record {
+  code = single_byte_code table;
+  from_utf8 = λ n. n;
+  from_utf16 = λ n. n;
+  profile_is = refl;
+  ascii = λ c h. rw (lt-ltb c 128 h) refl;
+  most = 1;
+  short = short table;
+  lengths = byte_lengths;
+}

@@ -1,0 +1,21 @@
+-- Runs of single-byte tables: from a place on, so many entries are the scalars from a first one upwards.
+use Rattle.std.specs.Prelude.{◌≡◌, ℕ, ◌+◌, ◌<◌, List, Option, Some, ◌==◌, nat_lt, not, find, if◌then◌else◌, option_map, slice_index}
+use Rattle.std.specs.List.{range_with_len}
+use Rattle.legacy_single_byte.specs.declared.single_byte.run.SingleByteRunError.{SingleByteRunError}
+use Rattle.legacy_single_byte.specs.declared.single_byte.run.SingleByteRunError.TheVariants.{RunStart, RunPastEnd, RunMismatch}
+
+-- the table holds the run
+abbrev pub IsRun : List ℕ → ℕ → ℕ → ℕ → Type 0
+IsRun table scalar start count = (k : ℕ) → k < count → slice_index table (start + k) ≡ scalar + k
+
+-- how far behind the start the table first differs from the run
+abbrev pub first_mismatch : List ℕ → ℕ → ℕ → ℕ → Option ℕ
+first_mismatch table scalar start count =
+    find (λ k. not (slice_index table (start + k) == scalar + k)) (range_with_len 0 count)
+
+-- the first fault of a run: it starts before place 32, it ends past 128, or the table differs, at the first such place
+abbrev pub single_byte_run_fault : List ℕ → ℕ → ℕ → ℕ → Option SingleByteRunError
+single_byte_run_fault table scalar start count =
+    if nat_lt start 32 then Some RunStart
+    else if nat_lt 128 (start + count) then Some RunPastEnd
+    else option_map (λ k. RunMismatch (start + k)) (first_mismatch table scalar start count)

@@ -1,0 +1,149 @@
+//! The encoder of the single-byte encodings.
+ghost use Rattle.std.specs.Prelude.{◌≡◌, ◌+◌, ◌-◌, ◌<◌, ◌≤◌, ◌==◌, MatchResult, Some, None, IfSome, true, false, position};
+ghost use Rattle.legacy_base.specs.Encoders.{single_byte, new_encoder};
+ghost use Rattle.legacy_single_byte.specs.SingleByteRun.{IsRun, single_byte_run_fault};
+ghost use Rattle.legacy_single_byte.specs.SingleByteCodes.{single_byte_plain};
+
+use super::run::{SingleByteRunError, check_run};
+use legacy_base::{EncoderResult, RawEncoder, SingleByteTable, Source};
+use legacy_encoder_engine::drive::drive_encoder;
+use legacy_encoder_engine::moves::EncoderMove;
+use legacy_encoder_engine::plain_codes::PlainCodes;
+
+/// The encoder of a single-byte encoding (Encoding Standard, "single-byte encoder").
+///
+/// ASCII is itself, and a scalar that the table holds at place `p` is byte 0x80 + `p`. All other scalars
+/// are unmappable. Of the table a run is known, in which the scalars follow each other: most scalars of
+/// a text are in it, and are not looked for.
+#[derive(Drop)]
+pub struct SingleByteEncoder<'a> {
+    table: &'a SingleByteTable,
+    run_bmp_offset: u16,
+    run_byte_offset: u8,
+    run_length: u8,
+    ghost within: { run_byte_offset + run_length ≤ 128 },
+    ghost is_run: { IsRun table.now.entries run_bmp_offset run_byte_offset run_length },
+}
+
+/// The place of a scalar past ASCII, if the table has it.
+fn place_of(table: &SingleByteTable, c: char) -> Option<usize>
+    requires { 0x80 ≤ c }
+    ensures value { result ≡ position (λ entry. entry == c) table.now.entries }
+    ensures bound { IfSome result (λ place. place < 128) }
+{
+    table.place(c)
+}
+
+/// Whether one of two tests holds, of which both are made.
+#[inline(always)]
+fn either(first: bool, second: bool) -> bool
+    ensures some { result ≡ true → first ≡ false → second ≡ true }
+    ensures none { result ≡ false → (first ≡ false) × (second ≡ false) }
+{
+    first | second
+}
+
+impl<'a> SingleByteEncoder<'a> {
+    ghost use Rattle.legacy_single_byte.specs.SingleByteEncoder.{single_byte_encoder_state};
+
+    /// An encoder before its first scalar, which writes by the table. Of the table the places from
+    /// `run_byte_offset` on, `run_length` of them, hold the scalars from `run_bmp_offset` upwards; or
+    /// the first fault: the run starts before place 32, it ends past 128, or a place holds another value,
+    /// of which the first is told. It takes no memory.
+    pub fn new(
+        table: &'a SingleByteTable,
+        run_bmp_offset: u16,
+        run_byte_offset: u8,
+        run_length: u8,
+    ) -> Result<SingleByteEncoder<'a>, SingleByteRunError>
+        ensures fault { let found = single_byte_run_fault table.now.entries run_bmp_offset
+            run_byte_offset run_length in
+            MatchResult result (λ _. found ≡ None) (λ e. found ≡ Some e) }
+        ensures state { MatchResult result
+            (λ e. single_byte_encoder_state e ≡ new_encoder (single_byte table.now.entries))
+            (λ _. Unit {0}) }
+    {
+        check_run(table, run_bmp_offset, run_byte_offset, run_length)?;
+        Ok(SingleByteEncoder {
+            table,
+            run_bmp_offset,
+            run_byte_offset,
+            run_length,
+        })
+    }
+
+    /// How far a scalar is behind the first of the run: past the run's end where it stands before it.
+    #[inline(always)]
+    fn run_place(&self, code: u32) -> u32
+        ensures { result < self.now.run_length → (self.now.run_bmp_offset ≤ code)
+            × (result ≡ code - self.now.run_bmp_offset) }
+    {
+        let first = u32::from(self.run_bmp_offset);
+        if code >= first { code - first } else { 0xFFFF }
+    }
+
+    /// The byte of a scalar that is ASCII, or at this place of the run.
+    #[inline(always)]
+    fn byte_of(&self, code: u32, place: u32) -> u8
+        requires { 128 ≤ code → place < self.now.run_length }
+        ensures ascii { code < 128 → result ≡ code }
+        ensures past { 128 ≤ code → result ≡ 0x80 + (self.now.run_byte_offset + place) }
+    {
+        if code < 0x80 {
+            code as u8
+        } else {
+            (0x80 + (u32::from(self.run_byte_offset) + place)) as u8
+        }
+    }
+}
+
+impl PlainCodes for SingleByteEncoder<'_> {
+    ghost codec = { λ encoder. single_byte encoder.table.now.entries };
+
+    ghost past = { 1 };
+
+    ghost plain = { λ encoder. single_byte_plain encoder.table.now.entries };
+
+    #[inline]
+    fn past_room(&self) -> usize {
+        1
+    }
+
+    // One test for ASCII and the run: which of them a scalar is follows no pattern in text.
+    #[inline(always)]
+    #[tactic(auto, unfolding(legacy_base::specs::SingleByte::single_byte_code))]
+    fn code_of(&self, c: char) -> EncoderMove {
+        let code = c as u32;
+        let place = self.run_place(code);
+        if either(code < 0x80, place < u32::from(self.run_length)) {
+            return EncoderMove::One(self.byte_of(code, place));
+        }
+        match place_of(self.table, c) {
+            Some(place) => EncoderMove::One((0x80 + place) as u8),
+            None => EncoderMove::Unmappable(c),
+        }
+    }
+}
+
+impl RawEncoder for SingleByteEncoder<'_> {
+    ghost use Rattle.legacy_single_byte.specs.SingleByteEncoder.{single_byte_encoder_state};
+
+    ghost state = { single_byte_encoder_state };
+
+    fn step<S: Source>(
+        &mut self,
+        src: &mut S,
+        dst: &mut [u8],
+        last: bool,
+    ) -> (EncoderResult, usize) {
+        drive_encoder(self, src, dst, last)
+    }
+
+    fn max_buffer_length_from_utf16_without_replacement(&self, u16_length: usize) -> Option<usize> {
+        Some(u16_length)
+    }
+
+    fn max_buffer_length_from_utf8_without_replacement(&self, byte_length: usize) -> Option<usize> {
+        Some(byte_length)
+    }
+}
