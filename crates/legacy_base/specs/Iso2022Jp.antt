@@ -299,7 +299,7 @@ iso_2022_jp_surplus Utf16 in_two_byte n = n % 2
 iso_2022_jp_surplus _ _ n = 0
 
 -- the encoder
-unfoldable pub iso_2022_jp_encoder : List ℕ → List ℕ → EncoderProfile
+abbrev pub iso_2022_jp_encoder : List ℕ → List ℕ → EncoderProfile
 iso_2022_jp_encoder jis0208 katakana_index = record {
   code = iso_2022_jp_code jis0208 katakana_index;
   events = λ mode. iso_2022_jp_text_events jis0208 katakana_index mode [];
