@@ -1,15 +1,15 @@
 -- The moves of the ISO-2022-JP encoder.
-use Rattle.std.proofs.Common.{◌≡◌, ◌∙◌, ℕ, ◌+◌, ◌/◌, ◌%◌, ◌≤◌, List, [], ◌∷◌, ◌++◌, length, map, refl, sym, ap, arith, Bool, true, false, ◌||◌, not, Some, None, Option, eqb}
+use Rattle.std.proofs.Common.{◌≡◌, ◌∙◌, ℕ, ◌+◌, ◌/◌, ◌%◌, List, ◌∷◌, ◌++◌, length, refl, sym, ap, arith, true, false, ◌||◌, not, Some, None, eqb}
 use Rattle.std.specs.Char.{is_ascii}
 use Rattle.legacy_base.specs.declared.results.EncodeEvent.TheVariants as events
 use Rattle.legacy_base.specs.EncodeEvents.{code_events, code_length}
 use Rattle.legacy_base.specs.EncoderProfile.{EncoderMode, in_ascii, in_roman, in_two_byte}
 use Rattle.legacy_base.specs.Encoders.{EncoderState, encoded, encoder_profile, iso_2022_jp, is_pending}
 use Rattle.legacy_base.specs.Profile.{is_empty}
-use Rattle.legacy_base.specs.Iso2022Jp.{is_mode_control, iso_2022_jp_code, iso_2022_jp_reported, iso_2022_jp_pointer_of, escape_between, mode_behind, roman_or_ascii}
-use Rattle.legacy_base.proofs.Iso2022JpEncoding.{text_events, text_events-here, text_events-escape, text_events-end, text_events-open, mode_for, mode_for-twice, code-short, IsWritten, at_control, at_special, at_neutral, at_yen, at_overline, at_pair, at_none}
-use Rattle.legacy_encoder_engine.specs.Moves.{Moves, Finishes, IsCode, differs, move_bytes}
-use Rattle.legacy_encoder_engine.specs.Serves.{Serves, wants}
+use Rattle.legacy_base.specs.Iso2022Jp.{is_mode_control, iso_2022_jp_code, iso_2022_jp_reported, iso_2022_jp_pointer_of, escape_between, roman_or_ascii}
+use Rattle.legacy_base.proofs.Iso2022JpEncoding.{text_events-here, text_events-escape, text_events-end, text_events-open, mode_for, mode_for-twice, code-short, at_control, at_special, at_neutral, at_yen, at_overline, at_pair, at_none}
+use Rattle.legacy_encoder_engine.specs.Moves.{Moves, Finishes, IsCode, differs}
+use Rattle.legacy_encoder_engine.specs.Serves.{Serves}
 use Rattle.legacy_encoder_engine.specs.declared.moves.EncoderMove.{EncoderMove}
 use Rattle.legacy_encoder_engine.specs.declared.moves.EncoderMove.TheVariants.{One, Two, Four, Escape, Unmappable}
 use Rattle.legacy_japanese.specs.declared.iso_2022_jp.encoder.Mode.{Mode}

@@ -1,5 +1,5 @@
 -- The lengths of the ISO-2022-JP encoder serve for its scalars, and for the escapes before them.
-use Rattle.std.proofs.Common.{◌≡◌, ◌∙◌, ℕ, ◌+◌, ◌-◌, ◌≤◌, List, [], ◌∷◌, length, refl, sym, ap, arith, Bool, true, false, Some, None, Option, cond, eqb, ltb, inl, inr}
+use Rattle.std.proofs.Common.{◌≡◌, ◌∙◌, ℕ, ◌+◌, ◌-◌, ◌≤◌, List, [], ◌∷◌, length, refl, sym, arith, Bool, true, false, Some, None, Option, cond, eqb, inl, inr}
 use Rattle.std.proofs.lemmas.Bool.{cases_lt, lt-ltb, ne_eqb}
 use Rattle.legacy_base.specs.EncodingForm.{EncodingForm, Utf8, Utf16, unit_count}
 use Rattle.legacy_base.specs.EncodeEvents.{code_length}

@@ -107,7 +107,10 @@ fn asked(tables: &Tables, mode: Mode, c: char) -> (Mode, EncoderMove)
 {
     let scalar = c as u32;
     if is_control(scalar) {
-        return (mode.settled(), EncoderMove::Unmappable(char::REPLACEMENT_CHARACTER));
+        return (
+            mode.settled(),
+            EncoderMove::Unmappable(char::REPLACEMENT_CHARACTER),
+        );
     }
     if scalar < 0x80 {
         if is_special(scalar) {
@@ -176,6 +179,7 @@ impl EncoderMoves for Iso2022JpEncoder<'_> {
     ghost state = { iso_2022_jp_encoder_state };
 
     #[inline]
+    #[tactic(auto, using(crate::proofs::Iso2022JpEncoderMoves::serves))]
     fn room(&self, _c: char) -> usize {
         3
     }
@@ -191,11 +195,13 @@ impl EncoderMoves for Iso2022JpEncoder<'_> {
     }
 
     #[inline]
+    #[tactic(auto, using(crate::proofs::Iso2022JpEncoderMoves::serves))]
     fn is_pending(&self) -> bool {
         self.has_pending_state()
     }
 
     #[inline]
+    #[tactic(auto, using(crate::proofs::Iso2022JpEncoderMoves::finishes))]
     fn finish(&mut self) {
         self.mode = Mode::Ascii;
     }
