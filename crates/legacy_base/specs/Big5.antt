@@ -1,12 +1,14 @@
--- The forms of Big5 (WHATWG Encoding Standard, "Big5 decoder").
-use Rattle.std.specs.Prelude.{ℕ, ◌+◌, ◌-◌, ◌*◌, List, [], ◌∷◌, length, true, false, Option, Some, None, ◌==◌, if◌then◌else◌, option_to_list}
+-- The forms and the codes of Big5 (WHATWG Encoding Standard, "Big5 decoder" and "Big5 encoder").
+use Rattle.std.specs.Prelude.{ℕ, ◌+◌, ◌-◌, ◌*◌, ◌/◌, ◌%◌, List, [], ◌∷◌, length, true, false, Option, Some, None, ◌==◌, nat_lt, if◌then◌else◌, option_to_list, option_map}
 use Rattle.std.specs.Option.{option_map_or}
 use Rattle.std.specs.Int.{is_in_range}
 use Rattle.std.specs.Char.{is_ascii}
 use Rattle.legacy_base.specs.Fronts.{Front, reads, malformed, trail_front, cut}
 use Rattle.legacy_base.specs.Indexes.{idx}
+use Rattle.legacy_base.specs.Pointers.{big5_pointer_of}
 use Rattle.legacy_base.specs.Profile.{Profile, wide_acts, is_lead, single_lead_may_hold, always_rests}
-use Rattle.legacy_base.specs.Formulas.{weighed, constant, ◌⊞◌, ◌⊠◌}
+use Rattle.legacy_base.specs.EncoderProfile.{EncoderProfile, plain_encoder}
+use Rattle.legacy_base.specs.Formulas.{weighed, constant, ◌⊞◌, ◌⊠◌, number, ◌⊕◌, ◌⊗◌}
 
 -- the pointer of a lead and a trail, or none where the second byte is no trail
 abbrev pub big5_pointer : ℕ → ℕ → Option ℕ
@@ -35,7 +37,7 @@ big5_front index b rest =
     else if is_lead b then big5_pair index b rest
     else malformed 1
 
--- the codec
+-- the decoder
 abbrev pub big5_profile : List ℕ → Profile
 big5_profile index = record {
   events = cut (big5_front index) 0 0;
@@ -51,3 +53,19 @@ big5_profile index = record {
   utf8_length = constant 3 ⊞ constant 3 ⊠ weighed;
   utf8_length_without_replacement = constant 2 ⊞ constant 2 ⊠ weighed;
 }
+
+-- ---- encoding
+
+-- the lead and the trail of a pointer
+abbrev pub big5_bytes : ℕ → List ℕ
+big5_bytes p = (p / 157 + 0x81) ∷ (p % 157 + (if nat_lt (p % 157) 0x3F then 0x40 else 0x62)) ∷ []
+
+-- the code of a scalar
+unfoldable pub big5_code : List ℕ → ℕ → Option (List ℕ)
+big5_code index c =
+    if is_ascii c then Some (c ∷ [])
+    else option_map big5_bytes (big5_pointer_of index c)
+
+-- the encoder
+abbrev pub big5_encoder : List ℕ → EncoderProfile
+big5_encoder index = plain_encoder (big5_code index) 2 (λ n. n ⊕ number 1) (λ n. number 2 ⊗ n)

@@ -7,18 +7,35 @@ use Rattle.legacy_base.specs.Lengths.{Formula, number, value, answer}
 use Rattle.legacy_base.specs.Profile.{is_empty}
 use Rattle.legacy_base.specs.SingleByte.{single_byte_encoder}
 use Rattle.legacy_base.specs.UserDefined.{user_defined_encoder}
+use Rattle.legacy_base.specs.Big5.{big5_encoder}
+use Rattle.legacy_base.specs.EucKr.{euc_kr_encoder}
+use Rattle.legacy_base.specs.ShiftJis.{shift_jis_encoder}
+use Rattle.legacy_base.specs.EucJp.{euc_jp_encoder}
+use Rattle.legacy_base.specs.Gb18030.{gb18030_encoder, gbk_encoder}
 use Rattle.legacy_base.specs.Iso2022Jp.{iso_2022_jp_encoder}
 
 -- A codec with the lists of both its directions.
 pub data Codec : Type 0 where
   single_byte : (table : List ℕ) → Codec
   user_defined : Codec
+  big5 : (index : List ℕ) → Codec
+  euc_kr : (index : List ℕ) → Codec
+  shift_jis : (jis0208 : List ℕ) → Codec
+  euc_jp : (jis0208 jis0212 : List ℕ) → Codec
+  gb18030 : (index : List ℕ) (ranges : List (ℕ × ℕ)) (pua : List (ℕ × ℕ × ℕ)) → Codec
+  gbk : (index : List ℕ) (ranges : List (ℕ × ℕ)) (pua : List (ℕ × ℕ × ℕ)) → Codec
   iso_2022_jp : (jis0208 katakana_index : List ℕ) → Codec
 
 -- the encoder of a codec
 abbrev pub encoder_profile : Codec → EncoderProfile
 encoder_profile (single_byte table) = single_byte_encoder table
 encoder_profile user_defined = user_defined_encoder
+encoder_profile (big5 index) = big5_encoder index
+encoder_profile (euc_kr index) = euc_kr_encoder index
+encoder_profile (shift_jis jis0208) = shift_jis_encoder jis0208
+encoder_profile (euc_jp jis0208 jis0212) = euc_jp_encoder jis0208
+encoder_profile (gb18030 index ranges pua) = gb18030_encoder index ranges pua
+encoder_profile (gbk index ranges pua) = gbk_encoder index pua
 encoder_profile (iso_2022_jp jis0208 katakana_index) = iso_2022_jp_encoder jis0208 katakana_index
 
 -- ---- an encoder between two calls

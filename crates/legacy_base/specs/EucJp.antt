@@ -1,12 +1,14 @@
--- The forms of EUC-JP (WHATWG Encoding Standard, "EUC-JP decoder").
-use Rattle.std.specs.Prelude.{ℕ, ◌+◌, ◌-◌, ◌*◌, List, [], ◌∷◌, length, min, Bool, true, false, ◌&&◌, ◌||◌, ◌==◌, if◌then◌else◌, option_to_list}
+-- The forms and the codes of EUC-JP (WHATWG Encoding Standard, "EUC-JP decoder" and "EUC-JP encoder").
+use Rattle.std.specs.Prelude.{ℕ, ◌+◌, ◌-◌, ◌*◌, ◌/◌, ◌%◌, List, [], ◌∷◌, length, min, Option, Some, Bool, true, false, ◌&&◌, ◌||◌, ◌==◌, if◌then◌else◌, option_to_list, option_map}
 use Rattle.std.specs.Int.{is_in_range}
 use Rattle.std.specs.Char.{is_ascii}
 use Rattle.legacy_base.specs.Fronts.{Front, reads, malformed, trail_rule, trail_front, cut}
-use Rattle.legacy_base.specs.Unicode.{is_katakana_byte, katakana_of}
+use Rattle.legacy_base.specs.Unicode.{is_katakana_byte, katakana_of, is_katakana_scalar, katakana_byte_of}
 use Rattle.legacy_base.specs.Indexes.{idx}
+use Rattle.legacy_base.specs.Pointers.{euc_jp_pointer_of, minus_as_hyphen}
 use Rattle.legacy_base.specs.Profile.{Profile, narrow_acts, always_rests}
-use Rattle.legacy_base.specs.Formulas.{weighed, constant, ◌⊞◌, ◌⊠◌, halved}
+use Rattle.legacy_base.specs.EncoderProfile.{EncoderProfile, plain_encoder}
+use Rattle.legacy_base.specs.Formulas.{weighed, constant, ◌⊞◌, ◌⊠◌, halved, number, ◌⊕◌, ◌⊗◌}
 
 -- the bytes that begin a pair of EUC-JP, and stand behind 0x8F
 abbrev pub is_euc_jp_lead : ℕ → Bool
@@ -58,7 +60,7 @@ euc_jp_may_hold _ = false
 abbrev pub euc_jp_weight : List ℕ → ℕ
 euc_jp_weight held = min 1 (length held)
 
--- the codec
+-- the decoder
 abbrev pub euc_jp_profile : List ℕ → List ℕ → Profile
 euc_jp_profile jis0208 jis0212 = record {
   events = cut (euc_jp_front jis0208 jis0212) 0 0;
@@ -74,3 +76,22 @@ euc_jp_profile jis0208 jis0212 = record {
   utf8_length = constant 3 ⊠ weighed;
   utf8_length_without_replacement = constant 2 ⊞ (weighed ⊞ halved (weighed ⊞ constant 1));
 }
+
+-- ---- encoding: by JIS X 0208 alone
+
+-- the lead and the trail of a pointer
+abbrev pub euc_jp_bytes : ℕ → List ℕ
+euc_jp_bytes p = (p / 94 + 0xA1) ∷ (p % 94 + 0xA1) ∷ []
+
+-- the code of a scalar
+unfoldable pub euc_jp_code : List ℕ → ℕ → Option (List ℕ)
+euc_jp_code jis0208 c =
+    if is_ascii c then Some (c ∷ [])
+    else if c == 0xA5 then Some (0x5C ∷ [])
+    else if c == 0x203E then Some (0x7E ∷ [])
+    else if is_katakana_scalar c then Some (0x8E ∷ katakana_byte_of c ∷ [])
+    else option_map euc_jp_bytes (euc_jp_pointer_of jis0208 (minus_as_hyphen c))
+
+-- the encoder
+abbrev pub euc_jp_encoder : List ℕ → EncoderProfile
+euc_jp_encoder jis0208 = plain_encoder (euc_jp_code jis0208) 2 (λ n. n ⊕ number 1) (λ n. number 2 ⊗ n)

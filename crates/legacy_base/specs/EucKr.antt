@@ -1,11 +1,13 @@
--- The forms of EUC-KR (WHATWG Encoding Standard, "EUC-KR decoder").
-use Rattle.std.specs.Prelude.{ℕ, ◌+◌, ◌-◌, ◌*◌, List, [], ◌∷◌, length, true, false, if◌then◌else◌, option_to_list}
+-- The forms and the codes of EUC-KR (WHATWG Encoding Standard, "EUC-KR decoder" and "EUC-KR encoder").
+use Rattle.std.specs.Prelude.{ℕ, ◌+◌, ◌-◌, ◌*◌, ◌/◌, ◌%◌, List, [], ◌∷◌, length, true, false, Option, Some, if◌then◌else◌, option_to_list, option_map}
 use Rattle.std.specs.Int.{is_in_range}
 use Rattle.std.specs.Char.{is_ascii}
 use Rattle.legacy_base.specs.Fronts.{Front, reads, malformed, trail_front, cut}
 use Rattle.legacy_base.specs.Indexes.{idx}
+use Rattle.legacy_base.specs.Pointers.{euc_kr_pointer_of}
 use Rattle.legacy_base.specs.Profile.{Profile, narrow_acts, is_lead, single_lead_may_hold, always_rests}
-use Rattle.legacy_base.specs.Formulas.{weighed, constant, ◌⊞◌, ◌⊠◌, halved}
+use Rattle.legacy_base.specs.EncoderProfile.{EncoderProfile, plain_encoder}
+use Rattle.legacy_base.specs.Formulas.{weighed, constant, ◌⊞◌, ◌⊠◌, halved, number, ◌⊕◌, ◌⊗◌}
 
 -- the scalar of a lead and a trail, if there is one
 abbrev pub euc_kr_scalars : List ℕ → ℕ → ℕ → List ℕ
@@ -24,7 +26,7 @@ euc_kr_front index b rest =
     else if is_lead b then euc_kr_pair index b rest
     else malformed 1
 
--- the codec
+-- the decoder
 abbrev pub euc_kr_profile : List ℕ → Profile
 euc_kr_profile index = record {
   events = cut (euc_kr_front index) 0 0;
@@ -40,3 +42,19 @@ euc_kr_profile index = record {
   utf8_length = constant 3 ⊠ weighed;
   utf8_length_without_replacement = constant 2 ⊞ (weighed ⊞ halved (weighed ⊞ constant 1));
 }
+
+-- ---- encoding
+
+-- the lead and the trail of a pointer
+abbrev pub euc_kr_bytes : ℕ → List ℕ
+euc_kr_bytes p = (p / 190 + 0x81) ∷ (p % 190 + 0x41) ∷ []
+
+-- the code of a scalar
+unfoldable pub euc_kr_code : List ℕ → ℕ → Option (List ℕ)
+euc_kr_code index c =
+    if is_ascii c then Some (c ∷ [])
+    else option_map euc_kr_bytes (euc_kr_pointer_of index c)
+
+-- the encoder
+abbrev pub euc_kr_encoder : List ℕ → EncoderProfile
+euc_kr_encoder index = plain_encoder (euc_kr_code index) 2 (λ n. n ⊕ number 1) (λ n. number 2 ⊗ n)

@@ -1,11 +1,14 @@
--- The forms of GB18030 and GBK (WHATWG Encoding Standard, "gb18030 decoder").
-use Rattle.std.specs.Prelude.{ℕ, ◌+◌, ◌-◌, ◌*◌, List, [], ◌∷◌, length, Bool, true, false, not, ◌&&◌, ◌||◌, ◌==◌, if◌then◌else◌, option_to_list}
+-- The forms and the codes of GB18030 and GBK (WHATWG Encoding Standard, "gb18030 decoder" and "gb18030 encoder").
+use Rattle.std.specs.Prelude.{ℕ, ◌+◌, ◌-◌, ◌*◌, ◌/◌, ◌%◌, List, [], ◌∷◌, length, Option, Some, None, Bool, true, false, not, ◌&&◌, ◌||◌, ◌==◌, nat_lt, if◌then◌else◌, option_to_list, option_map}
+use Rattle.std.specs.Option.{option_or}
 use Rattle.std.specs.Int.{is_in_range}
 use Rattle.std.specs.Char.{is_ascii, is_ascii_digit}
 use Rattle.legacy_base.specs.Fronts.{Front, reads, malformed, reads_or, trail_rule, cut}
-use Rattle.legacy_base.specs.Indexes.{idx, range}
+use Rattle.legacy_base.specs.Indexes.{idx, range, gb18030_pua_of}
+use Rattle.legacy_base.specs.Pointers.{gb18030_pointer_of, range_pointer_of}
 use Rattle.legacy_base.specs.Profile.{Profile, wide_acts, is_lead}
-use Rattle.legacy_base.specs.Formulas.{weighed, constant, ◌⊞◌, ◌⊠◌}
+use Rattle.legacy_base.specs.EncoderProfile.{EncoderProfile, plain_encoder}
+use Rattle.legacy_base.specs.Formulas.{weighed, constant, ◌⊞◌, ◌⊠◌, number, ◌⊕◌, ◌⊗◌}
 
 -- the scalar of a lead and a trail, if there is one
 abbrev pub gb18030_scalars : List ℕ → ℕ → ℕ → List ℕ
@@ -61,7 +64,7 @@ abbrev pub gb18030_rests : List ℕ → Bool
 gb18030_rests (b ∷ bytes) = not (is_ascii_digit b)
 gb18030_rests _ = true
 
--- the codec
+-- the decoder
 abbrev pub gb18030_profile : List ℕ → List (ℕ × ℕ) → Profile
 gb18030_profile index ranges = record {
   events = cut (gb18030_front index ranges) 0 0;
@@ -77,3 +80,45 @@ gb18030_profile index ranges = record {
   utf8_length = constant 1 ⊞ constant 3 ⊠ weighed;
   utf8_length_without_replacement = constant 1 ⊞ constant 3 ⊠ weighed;
 }
+
+-- ---- encoding
+
+-- the lead and the trail of a pointer
+abbrev pub gb18030_pair_bytes : ℕ → List ℕ
+gb18030_pair_bytes p = (p / 190 + 0x81) ∷ (p % 190 + (if nat_lt (p % 190) 0x3F then 0x40 else 0x41)) ∷ []
+
+-- the four bytes of a range pointer
+abbrev pub gb18030_range_bytes : ℕ → List ℕ
+gb18030_range_bytes p =
+    (p / 12600 + 0x81) ∷ (p % 12600 / 1260 + 0x30) ∷ (p % 1260 / 10 + 0x81) ∷ (p % 10 + 0x30) ∷ []
+
+-- the two bytes of a scalar past ASCII: by the private-use rows, and then by the index
+abbrev pub gb18030_pair_code : List (ℕ × ℕ × ℕ) → List ℕ → ℕ → Option (List ℕ)
+gb18030_pair_code pua index c =
+    option_or (option_map (λ row. row.0 ∷ row.1 ∷ []) (gb18030_pua_of pua c))
+    (option_map gb18030_pair_bytes (gb18030_pointer_of index c))
+
+-- the code of a scalar in GB18030
+unfoldable pub gb18030_code : List ℕ → List (ℕ × ℕ) → List (ℕ × ℕ × ℕ) → ℕ → Option (List ℕ)
+gb18030_code index ranges pua c =
+    if is_ascii c then Some (c ∷ [])
+    else if c == 0xE5E5 then None
+    else option_or (gb18030_pair_code pua index c) (option_map gb18030_range_bytes (range_pointer_of ranges c))
+
+-- the code of a scalar in GBK: no four bytes, and a byte for the euro sign
+unfoldable pub gbk_code : List ℕ → List (ℕ × ℕ × ℕ) → ℕ → Option (List ℕ)
+gbk_code index pua c =
+    if is_ascii c then Some (c ∷ [])
+    else if c == 0xE5E5 then None
+    else if c == 0x20AC then Some (0x80 ∷ [])
+    else gb18030_pair_code pua index c
+
+-- the encoder of GB18030
+abbrev pub gb18030_encoder : List ℕ → List (ℕ × ℕ) → List (ℕ × ℕ × ℕ) → EncoderProfile
+gb18030_encoder index ranges pua =
+    plain_encoder (gb18030_code index ranges pua) 4 (λ n. number 2 ⊕ number 2 ⊗ n) (λ n. number 4 ⊗ n)
+
+-- the encoder of GBK
+abbrev pub gbk_encoder : List ℕ → List (ℕ × ℕ × ℕ) → EncoderProfile
+gbk_encoder index pua =
+    plain_encoder (gbk_code index pua) 4 (λ n. n ⊕ number 3) (λ n. number 2 ⊕ number 2 ⊗ n)

@@ -1,13 +1,15 @@
--- The forms of Shift_JIS (WHATWG Encoding Standard, "Shift_JIS decoder").
-use Rattle.std.specs.Prelude.{ℕ, ◌+◌, ◌-◌, ◌*◌, List, [], ◌∷◌, length, Option, Some, None, Bool, true, false, ◌||◌, ◌==◌, if◌then◌else◌, option_to_list}
+-- The forms and the codes of Shift_JIS (WHATWG Encoding Standard, "Shift_JIS decoder" and "Shift_JIS encoder").
+use Rattle.std.specs.Prelude.{ℕ, ◌+◌, ◌-◌, ◌*◌, ◌/◌, ◌%◌, List, [], ◌∷◌, length, Option, Some, None, Bool, true, false, ◌||◌, ◌==◌, nat_lt, if◌then◌else◌, option_to_list, option_map}
 use Rattle.std.specs.Option.{option_map_or}
 use Rattle.std.specs.Int.{is_in_range}
 use Rattle.std.specs.Char.{is_ascii}
 use Rattle.legacy_base.specs.Fronts.{Front, reads, malformed, trail_front, cut}
-use Rattle.legacy_base.specs.Unicode.{is_katakana_byte, katakana_of}
+use Rattle.legacy_base.specs.Unicode.{is_katakana_byte, katakana_of, is_katakana_scalar, katakana_byte_of}
 use Rattle.legacy_base.specs.Indexes.{idx}
+use Rattle.legacy_base.specs.Pointers.{shift_jis_pointer_of, minus_as_hyphen}
 use Rattle.legacy_base.specs.Profile.{Profile, narrow_acts, single_lead_may_hold, always_rests}
-use Rattle.legacy_base.specs.Formulas.{weighed, constant, ◌⊠◌}
+use Rattle.legacy_base.specs.EncoderProfile.{EncoderProfile, plain_encoder}
+use Rattle.legacy_base.specs.Formulas.{weighed, constant, ◌⊠◌, number, ◌⊕◌, ◌⊗◌}
 
 -- the bytes that begin a pair
 abbrev pub is_shift_jis_lead : ℕ → Bool
@@ -43,7 +45,7 @@ shift_jis_front jis0208 b rest =
     else if is_shift_jis_lead b then shift_jis_pair jis0208 b rest
     else malformed 1
 
--- the codec
+-- the decoder
 abbrev pub shift_jis_profile : List ℕ → Profile
 shift_jis_profile jis0208 = record {
   events = cut (shift_jis_front jis0208) 0 0;
@@ -59,3 +61,24 @@ shift_jis_profile jis0208 = record {
   utf8_length = constant 3 ⊠ weighed;
   utf8_length_without_replacement = constant 3 ⊠ weighed;
 }
+
+-- ---- encoding
+
+-- the lead and the trail of a pointer
+abbrev pub shift_jis_bytes : ℕ → List ℕ
+shift_jis_bytes p =
+    (p / 188 + (if nat_lt (p / 188) 0x1F then 0x81 else 0xC1))
+    ∷ (p % 188 + (if nat_lt (p % 188) 0x3F then 0x40 else 0x41)) ∷ []
+
+-- the code of a scalar
+unfoldable pub shift_jis_code : List ℕ → ℕ → Option (List ℕ)
+shift_jis_code jis0208 c =
+    if is_ascii c || c == 0x80 then Some (c ∷ [])
+    else if c == 0xA5 then Some (0x5C ∷ [])
+    else if c == 0x203E then Some (0x7E ∷ [])
+    else if is_katakana_scalar c then Some (katakana_byte_of c ∷ [])
+    else option_map shift_jis_bytes (shift_jis_pointer_of jis0208 (minus_as_hyphen c))
+
+-- the encoder
+abbrev pub shift_jis_encoder : List ℕ → EncoderProfile
+shift_jis_encoder jis0208 = plain_encoder (shift_jis_code jis0208) 2 (λ n. n ⊕ number 1) (λ n. number 2 ⊗ n)
