@@ -1,11 +1,12 @@
 //! The encoder of ISO-2022-JP.
-ghost use Rattle.std.specs.Prelude.{◌≡◌, ◌==◌, ◌||◌, ◌<◌, IfSome};
+ghost use Rattle.std.specs.Prelude.{◌≡◌, ◌==◌, ◌&&◌, ◌||◌, ◌<◌, not, IfSome};
+ghost use Rattle.std.specs.Char.{is_ascii};
 ghost use Rattle.legacy_base.specs.Encoders.{iso_2022_jp, is_pending, new_encoder};
 ghost use Rattle.legacy_base.specs.Iso2022Jp.{iso_2022_jp_fold, iso_2022_jp_pointer_of};
 ghost use Rattle.legacy_base.specs.Iso2022Jp.{is_mode_control, roman_or_ascii};
 ghost use Rattle.legacy_japanese.specs.Iso2022JpEncoder.{Asks, mode_of, escape_move, is_same_mode};
 
-use legacy_base::{EncoderResult, IndexName, RawEncoder, Source, Tables};
+use legacy_base::{EncoderResult, IndexName, Next, RawEncoder, Source, Tables};
 use legacy_encoder_engine::drive::drive_encoder;
 use legacy_encoder_engine::moves::{EncoderMove, EncoderMoves};
 
@@ -98,6 +99,14 @@ fn is_special(scalar: u32) -> bool
     ensures { result ≡ (scalar == 0x5C || scalar == 0x7E) }
 {
     scalar == 0x5C || scalar == 0x7E
+}
+
+/// Whether the scalar is its own byte in ASCII mode.
+#[inline]
+fn is_plain(scalar: u32) -> bool
+    ensures { result ≡ (is_ascii scalar && not (is_mode_control scalar)) }
+{
+    scalar < 0x80 && !is_control(scalar)
 }
 
 /// The mode that a scalar asks for where it comes in a mode, and the move that reads it there.
@@ -204,6 +213,27 @@ impl EncoderMoves for Iso2022JpEncoder<'_> {
     #[tactic(auto, using(crate::proofs::Iso2022JpEncoderMoves::finishes))]
     fn finish(&mut self) {
         self.mode = Mode::Ascii;
+    }
+
+    // ASCII in ASCII mode, up to a control that would switch modes.
+    #[inline]
+    fn read_ahead<S: Source>(&self, src: &mut S, dst: &mut [u8], at: usize) -> usize {
+        let mut end = at;
+        let Mode::Ascii = self.mode else {
+            return end;
+        };
+        while dst.len() - end >= 3 {
+            let Next::One(c) = src.front() else {
+                return end;
+            };
+            if !is_plain(c as u32) {
+                return end;
+            }
+            dst[end] = c as u8;
+            end += 1;
+            src.pass(1);
+        }
+        end
     }
 }
 
