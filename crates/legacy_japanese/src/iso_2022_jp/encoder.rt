@@ -115,17 +115,15 @@ fn asked(tables: &Tables, mode: Mode, c: char) -> (Mode, EncoderMove)
     ensures { Asks tables.now.flat.jis0208 tables.now.flat.katakana mode c result.0 result.1 }
 {
     let scalar = c as u32;
+    let settled = mode.settled();
     if is_control(scalar) {
-        return (
-            mode.settled(),
-            EncoderMove::Unmappable(char::REPLACEMENT_CHARACTER),
-        );
+        return (settled, EncoderMove::Unmappable('\u{FFFD}'));
     }
     if scalar < 0x80 {
         if is_special(scalar) {
             return (Mode::Ascii, EncoderMove::One(scalar as u8));
         }
-        return (mode.settled(), EncoderMove::One(scalar as u8));
+        return (settled, EncoderMove::One(scalar as u8));
     }
     if scalar == 0xA5 {
         return (Mode::Roman, EncoderMove::One(0x5C));
@@ -138,7 +136,7 @@ fn asked(tables: &Tables, mode: Mode, c: char) -> (Mode, EncoderMove)
             Mode::TwoByte,
             EncoderMove::Two((p / 94 + 0x21) as u8, (p % 94 + 0x21) as u8),
         ),
-        None => (mode.settled(), EncoderMove::Unmappable(c)),
+        None => (settled, EncoderMove::Unmappable(c)),
     }
 }
 

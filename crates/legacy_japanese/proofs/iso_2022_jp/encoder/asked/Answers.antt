@@ -4,14 +4,14 @@ use Rattle.legacy_japanese.proofs.Iso2022JpEncoderMoves.{asks_control, asks_spec
 use Rattle.legacy_japanese.proofs.iso_2022_jp.encoder.asked.Goals as goal
 
 pub returns-then-is_control : goal.returns-then-is_control
-returns-then-is_control c = asks_control _ _ _ _ _ (sym c.is_control.ensures ∙ c.if-is_control.true) c.settled.ensures
+returns-then-is_control c = asks_control _ _ _ _ _ (sym c.is_control.ensures ∙ c.if-is_control.true) c.settled-settled.ensures
 
 pub returns-then-is_special : goal.returns-then-is_special
 returns-then-is_special c = asks_special _ _ _ _ (sym c.is_control.ensures ∙ c.if-is_control.false) (lt-ltb _ 128 c.if-scalar-lt128.true) (sym c.is_special.ensures ∙ c.if-is_special.true)
 
 pub returns-then-scalar-lt128 : goal.returns-then-scalar-lt128
 returns-then-scalar-lt128 c =
-    asks_neutral _ _ _ _ _ (sym c.is_control.ensures ∙ c.if-is_control.false) (lt-ltb _ 128 c.if-scalar-lt128.true) (sym c.is_special.ensures ∙ c.if-is_special.false) c.settled-then-scalar-lt128.ensures
+    asks_neutral _ _ _ _ _ (sym c.is_control.ensures ∙ c.if-is_control.false) (lt-ltb _ 128 c.if-scalar-lt128.true) (sym c.is_special.ensures ∙ c.if-is_special.false) c.settled-settled.ensures
 
 pub returns-then-scalar-eq165 : goal.returns-then-scalar-eq165
 returns-then-scalar-eq165 c = asks_yen _ _ _ _ c.if-scalar-eq165.true
@@ -27,4 +27,4 @@ returns-in-Some c =
 pub returns-in-None : goal.returns-in-None
 returns-in-None c =
     asks_none _ _ _ _ (sym c.is_control.ensures ∙ c.if-is_control.false) (le-ltb _ 128 c.if-scalar-lt128.false) c.if-scalar-eq165.false c.if-scalar-eq8254.false _
-    (sym c.pointer.ensures.value ∙ c.in-None.is) c.settled-in-None.ensures
+    (sym c.pointer.ensures.value ∙ c.in-None.is) c.settled-settled.ensures

@@ -1,7 +1,7 @@
-use Rattle.std.proofs.Common.{◌∙◌, ◌+◌, ◌≤◌, length, take, sym, arith, refl}
+use Rattle.std.proofs.Common.{◌∙◌, length, take, sym, arith, refl}
 use Rattle.std.proofs.lemmas.List.{take_more_set, length-set}
 use Rattle.legacy_encoder_engine.proofs.CallUnderWay.{keeps_none, front_length, reads_on}
-use Rattle.legacy_japanese.specs.Iso2022JpEncoder.{state_in, iso_2022_jp_encoder_state}
+use Rattle.legacy_japanese.specs.Iso2022JpEncoder.{iso_2022_jp_encoder_state}
 use Rattle.legacy_japanese.proofs.Iso2022JpEncoderMoves.{serves, puts_plain}
 use Rattle.legacy_japanese.proofs.iso_2022_jp.encoder.Iso2022JpEncoderEncoderMoves.read_ahead.Goals as goal
 
