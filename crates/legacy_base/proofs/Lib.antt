@@ -15,6 +15,7 @@ pub mod Pointers
 pub mod Accepted
 pub mod RangePointers
 pub mod PointerBounds
+pub mod PrivateUse
 pub mod AcceptedTable
 pub mod Ascii
 pub mod Texts

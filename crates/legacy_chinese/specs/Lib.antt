@@ -1,4 +1,5 @@
--- How the decoders work inside: nothing here has to be believed. What they promise is said by legacy_base.
+-- How the codecs work inside: nothing here has to be believed. What they promise is said by legacy_base.
+pub mod Big5Codes
 pub mod Big5Machine
 pub mod FourPlaces
 pub mod Gb18030Held

@@ -7,8 +7,8 @@ mod run;
 mod scalars;
 
 pub use legacy_base::{
-    ByteSource, DecodeEvent, DecoderResult, Destination, IndexName, Indexes, RawDecoder,
-    SingleByteTable, TableError, Tables, Utf8Destination, Utf16Destination,
+    ByteSource, DecodeEvent, DecoderResult, Destination, GB18030_2022_PUA, IndexName, Indexes,
+    RawDecoder, SingleByteTable, TableError, Tables, Utf8Destination, Utf16Destination,
 };
 pub use legacy_decoders::{
     Big5Decoder, EucJpDecoder, EucKrDecoder, Gb18030Decoder, Iso2022JpDecoder, ReplacementDecoder,

@@ -8,7 +8,7 @@ use Rattle.legacy_base.specs.EncodeEvents.{code_events, code_length, plain_event
 use Rattle.legacy_base.specs.EncoderProfile.{EncoderMode, in_ascii, in_roman, in_two_byte, EncoderProfile, plain_encoder}
 use Rattle.legacy_base.specs.Encoders.{Codec, encoder_profile, EncoderState, new_encoder, code, encoded, is_pending, scalar_room}
 use Rattle.legacy_base.specs.Profile.{is_empty}
-use Rattle.legacy_base.specs.Lengths.{Formula, number, ◌⊕◌, ◌⊗◌, value}
+use Rattle.legacy_base.specs.Lengths.{Formula, number, value}
 use Rattle.legacy_base.proofs.CodeUnits.{encode_2, encode_3, encode_4}
 use Rattle.legacy_base.proofs.SameUnits.{some_unit}
 use Rattle.legacy_encoder_engine.specs.declared.moves.EncoderMove.{EncoderMove}
@@ -179,48 +179,6 @@ module _ (codec : Codec) (past : ℕ) (p : IsPlainCodec codec past) where
   -- the end of a text writes nothing
   pub never_pending : is_pending S ≡ false
   never_pending = ap (λ l. not (is_empty l)) acts_plainly.never_ends
-
--- ---- the formulas of the codecs: for codes of one byte, for pairs, and those of GBK and GB18030
-
-pub byte_lengths : HasPlainLengths 1 1 (λ n. n) (λ n. n)
-byte_lengths = record {
-  fits = (omega arith, omega arith);
-  low16 = λ u t own p q. omega arith;
-  enough16 = λ u t p. omega arith;
-  ascii8 = λ u t own p q. omega arith;
-  low8 = λ u t own p q. omega arith;
-  enough8 = λ u t p. omega arith;
-}
-
-pub pair_lengths : HasPlainLengths 2 2 (λ n. n ⊕ number 1) (λ n. number 2 ⊗ n)
-pair_lengths = record {
-  fits = (omega arith, omega arith);
-  low16 = λ u t own p q. omega arith;
-  enough16 = λ u t p. omega arith;
-  ascii8 = λ u t own p q. omega arith;
-  low8 = λ u t own p q. omega arith;
-  enough8 = λ u t p. omega arith;
-}
-
-pub gbk_lengths : HasPlainLengths 4 2 (λ n. n ⊕ number 3) (λ n. number 2 ⊕ number 2 ⊗ n)
-gbk_lengths = record {
-  fits = (omega arith, omega arith);
-  low16 = λ u t own p q. omega arith;
-  enough16 = λ u t p. omega arith;
-  ascii8 = λ u t own p q. omega arith;
-  low8 = λ u t own p q. omega arith;
-  enough8 = λ u t p. omega arith;
-}
-
-pub gb18030_lengths : HasPlainLengths 4 4 (λ n. number 2 ⊕ number 2 ⊗ n) (λ n. number 4 ⊗ n)
-gb18030_lengths = record {
-  fits = (omega arith, omega arith);
-  low16 = λ u t own p q. omega arith;
-  enough16 = λ u t p. omega arith;
-  ascii8 = λ u t own p q. omega arith;
-  low8 = λ u t own p q. omega arith;
-  enough8 = λ u t p. omega arith;
-}
 
 -- ---- how many bytes codes have
 

@@ -2,6 +2,7 @@
 use Rattle.std.specs.Prelude.{◌≡◌, ◌≤◌, ℕ, List, length, map}
 use Rattle.legacy_base.specs.Indexes.{FlatIndexes}
 use Rattle.legacy_base.specs.AcceptedTables.{flat_lists}
+use Rattle.legacy_base.specs.declared.tables.private_use.TheConstants.{GB18030_2022_PUA}
 use Rattle.legacy_base.specs.TableChecks.{AreAccepted, IsAcceptedTable}
 use Rattle.legacy_exports.specs.declared.codec.Codec.{Codec}
 use Rattle.legacy_exports.specs.declared.codec.Codec.TheVariants.{SingleByte}
@@ -13,10 +14,11 @@ use Rattle.legacy_exports.specs.declared.indexes.IndexSlices.{IndexSlices}
 abbrev pub range_pair : IndexRange → ℕ × ℕ
 range_pair range = (range.pointer, range.scalar)
 
--- the handed-in indexes of pointers, with these pairs as ranges
+-- the handed-in indexes of pointers, with these pairs as ranges and the private-use rows of GB18030-2022
 abbrev pub indexes_with : IndexSlices → List (ℕ × ℕ) → FlatIndexes
 indexes_with slices ranges =
     flat_lists slices.big5.now slices.euc_kr.now slices.jis0208.now slices.jis0212.now slices.gb18030.now slices.katakana.now ranges
+    GB18030_2022_PUA
 
 -- the index of a single-byte encoding is accepted
 abbrev pub IsTakenTable : List ℕ → Type 0

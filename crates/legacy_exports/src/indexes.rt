@@ -3,7 +3,7 @@ ghost use Rattle.std.specs.Prelude.{◌≡◌, ◌≤◌, ◌↔◌, length, map
 ghost use Rattle.legacy_base.specs.Tables.{flat_indexes};
 ghost use Rattle.legacy_exports.specs.Taken.{indexes_with, range_pair, IsTakenTable};
 
-use legacy_base::{Indexes, SingleByteTable};
+use legacy_base::{GB18030_2022_PUA, Indexes, SingleByteTable};
 
 /// A range of index gb18030 ranges: its first pointer and its first scalar.
 #[repr(C)]
@@ -54,7 +54,7 @@ pub fn range_pairs(ranges: &[IndexRange]) -> [(u16, u16); RANGE_LIMIT]
     pairs
 }
 
-/// The indexes of pointers, with these ranges.
+/// The indexes of pointers, with these ranges and the private-use rows of GB18030-2022.
 pub fn with_ranges<'a: 'r, 'r>(slices: &IndexSlices<'a>, ranges: &'r [(u16, u16)]) -> Indexes<'r>
     ensures { flat_indexes result ≡ indexes_with slices.now ranges.now }
 {
@@ -66,6 +66,7 @@ pub fn with_ranges<'a: 'r, 'r>(slices: &IndexSlices<'a>, ranges: &'r [(u16, u16)
         gb18030: slices.gb18030,
         katakana: slices.katakana,
         ranges,
+        gb18030_pua: &GB18030_2022_PUA,
     }
 }
 

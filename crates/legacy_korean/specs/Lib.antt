@@ -1,3 +1,4 @@
--- How the decoders work inside: nothing here has to be believed. What they promise is said by legacy_base.
+-- How the codecs work inside: nothing here has to be believed. What they promise is said by legacy_base.
+pub mod EucKrCodes
 pub mod EucKrPlaces
 pub mod EucKrShown

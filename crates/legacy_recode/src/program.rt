@@ -10,9 +10,9 @@ use crate::given_indexes::{GivenIndexes, read_files};
 use crate::recode::{RecodeError, recode};
 use crate::words::{CodecWord, codec_in};
 use legacy_codecs::{
-    Big5Decoder, EucJpDecoder, EucKrDecoder, Gb18030Decoder, Indexes, Iso2022JpDecoder, RawDecoder,
-    ReplacementDecoder, ShiftJisDecoder, SingleByteDecoder, SingleByteTable, TableError, Tables,
-    UserDefinedDecoder, Utf16Decoder,
+    Big5Decoder, EucJpDecoder, EucKrDecoder, GB18030_2022_PUA, Gb18030Decoder, Indexes,
+    Iso2022JpDecoder, RawDecoder, ReplacementDecoder, ShiftJisDecoder, SingleByteDecoder,
+    SingleByteTable, TableError, Tables, UserDefinedDecoder, Utf16Decoder,
 };
 use std::alloc::Global;
 use std::io::{Read, Write};
@@ -127,6 +127,7 @@ fn check_and_decode<'a, R: Read, W: Write>(
         gb18030: &indexes.gb18030,
         katakana: &[],
         ranges: &indexes.ranges,
+        gb18030_pua: &GB18030_2022_PUA,
     }) {
         Ok(tables) => tables,
         Err(fault) => return Err(Fault::Tables(fault)),

@@ -65,3 +65,7 @@ loop-at-preserved g c =
       omega (arith, c.read_scalars-end.ensures.end),
       omega (arith, c.read_scalars-end.ensures.passed, e.passed, units', i.3),
     )
+
+pub read_scalars-end-requires-clause-room : goal.read_scalars-end-requires-clause-room
+read_scalars-end-requires-clause-room g c =
+    rw c.past_room-widest.ensures (widest_room (g.C.PlainCodes.codec c.args.encoder.now) g.C.PlainCodes.past (g.C.PlainCodes.plain c.args.encoder.now))
