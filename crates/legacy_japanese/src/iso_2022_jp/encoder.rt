@@ -6,6 +6,7 @@ ghost use Rattle.legacy_base.specs.Iso2022Jp.{iso_2022_jp_fold, iso_2022_jp_poin
 ghost use Rattle.legacy_base.specs.Iso2022Jp.{is_mode_control, roman_or_ascii};
 ghost use Rattle.legacy_japanese.specs.Iso2022JpEncoder.{Asks, mode_of, escape_move, is_same_mode};
 
+use crate::folds::minus_as_hyphen;
 use legacy_base::{EncoderResult, IndexName, Next, RawEncoder, Source, Tables};
 use legacy_encoder_engine::drive::drive_encoder;
 use legacy_encoder_engine::moves::{EncoderMove, EncoderMoves};
@@ -66,10 +67,7 @@ fn folded(tables: &Tables, c: char) -> Option<char>
     if scalar >= 0xFF61 && scalar <= 0xFF9F {
         return tables.idx(IndexName::Katakana, (scalar - 0xFF61) as usize);
     }
-    if scalar == 0x2212 {
-        return Some('\u{FF0D}');
-    }
-    Some(c)
+    Some(minus_as_hyphen(c))
 }
 
 /// The pointer of a scalar past ASCII, or `None` where it has no pair.
