@@ -1,6 +1,7 @@
 -- The codecs without modes: their rooms serve for their scalars, and their moves are the codes of these.
 use Rattle.std.proofs.Common.{◌≡◌, ◌∙◌, ℕ, ◌+◌, ◌-◌, ◌≤◌, ◌<◌, List, [], ◌∷◌, ◌++◌, length, not, refl, sym, ap, subst, arith, Bool, true, false, Some, None, Option, cond, option_map, ltb, inl, inr}
 use Rattle.std.proofs.lemmas.Bool.{cases_lt, lt-ltb, le-ltb}
+use Rattle.std.specs.Option.{option_or}
 use Rattle.legacy_base.specs.declared.results.EncodeEvent.{EncodeEvent}
 use Rattle.legacy_base.specs.declared.results.EncodeEvent.TheVariants as events
 use Rattle.legacy_base.specs.EncodingForm.{EncodingForm, Utf8, Utf16, unit_count}
@@ -189,6 +190,10 @@ short_if false a b n p q = q
 pub short_map : {A : Type 0} (f : A → List ℕ) (o : Option A) (n : ℕ) → ((p : A) → length (f p) ≤ n) → code_length (option_map f o) ≤ n
 short_map f None n h = omega arith
 short_map f (Some p) n h = h p
+
+pub short_or : (a b : Option (List ℕ)) (n : ℕ) → code_length a ≤ n → code_length b ≤ n → code_length (option_or a b) ≤ n
+short_or None b n p q = q
+short_or (Some x) b n p q = p
 
 -- past ASCII
 pub short_past : (c : ℕ) (a b : Option (List ℕ)) (n : ℕ) → 128 ≤ c → code_length b ≤ n → code_length (cond (ltb c 128) a b) ≤ n
