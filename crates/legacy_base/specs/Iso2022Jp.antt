@@ -275,7 +275,8 @@ escape_between _ new = escape_to new
 -- what a scalar gives behind the scalars `before`, the last one first: an escape where the mode changes, and its bytes
 abbrev pub iso_2022_jp_scalar_events : List ℕ → List ℕ → EncoderMode → List ℕ → ℕ → List EncodeEvent
 iso_2022_jp_scalar_events jis0208 katakana_index mode before c =
-    map Byte (escape_between (mode_behind jis0208 katakana_index mode before) (mode_behind jis0208 katakana_index mode (c ∷ before)))
+    map Byte (escape_between
+        (mode_behind jis0208 katakana_index mode before) (mode_behind jis0208 katakana_index mode (c ∷ before)))
     ++ code_events (iso_2022_jp_reported c) (iso_2022_jp_code jis0208 katakana_index c)
 
 -- what the end of a text gives: the escape to ASCII mode where it ends in another; a text that goes on gives nothing
@@ -284,7 +285,8 @@ iso_2022_jp_end_events mode false = []
 iso_2022_jp_end_events mode true = map Byte (escape_between mode in_ascii)
 
 -- the events of the rest of a text that began in the mode, behind the scalars `before`, the last one first
-unfoldable pub iso_2022_jp_text_events : List ℕ → List ℕ → EncoderMode → List ℕ → List ℕ → Bool → List EncodeEvent
+unfoldable pub iso_2022_jp_text_events : List ℕ → List ℕ
+    → EncoderMode → List ℕ → List ℕ → Bool → List EncodeEvent
 iso_2022_jp_text_events jis0208 katakana_index mode before [] ended =
     iso_2022_jp_end_events (mode_behind jis0208 katakana_index mode before) ended
 iso_2022_jp_text_events jis0208 katakana_index mode before (c ∷ text) ended =

@@ -130,7 +130,8 @@ module _ (jis0208 katakana_index : List ℕ) where
       }
 
     -- the scalar wants another mode
-    pub escapes : (new : Mode) → mode_for jis0208 katakana_index (mode_of mode) c ≡ mode_of new → (mode_of mode ≡ mode_of new → ⊥) → Moves state c (state_in jis0208 katakana_index new) (escape_move new)
+    pub escapes : (new : Mode) → mode_for jis0208 katakana_index (mode_of mode) c ≡ mode_of new → (mode_of mode ≡ mode_of new → ⊥)
+        → Moves state c (state_in jis0208 katakana_index new) (escape_move new)
     escapes modes.Ascii e n = record {
       events = text_events-escape jis0208 katakana_index (mode_of mode) in_ascii c e n;
       own = λ x. cc;
@@ -167,7 +168,8 @@ module _ (jis0208 katakana_index : List ℕ) where
     pub asks_special : is_mode_control c ≡ false → is_ascii c ≡ true → (eqb c 0x5C || eqb c 0x7E) ≡ true → Asks jis0208 katakana_index mode c modes.Ascii (One c)
     asks_special f t s = let w = at_special jis0208 katakana_index (mode_of mode) c f t s in record { mode_is = w.mode_is; code_is = w.code_is }
 
-    pub asks_neutral : (new : Mode) → is_mode_control c ≡ false → is_ascii c ≡ true → (eqb c 0x5C || eqb c 0x7E) ≡ false → mode_of new ≡ roman_or_ascii (mode_of mode) → Asks jis0208 katakana_index mode c new (One c)
+    pub asks_neutral : (new : Mode) → is_mode_control c ≡ false → is_ascii c ≡ true → (eqb c 0x5C || eqb c 0x7E) ≡ false → mode_of new ≡ roman_or_ascii (mode_of mode)
+        → Asks jis0208 katakana_index mode c new (One c)
     asks_neutral new f t s g = let w = at_neutral jis0208 katakana_index (mode_of mode) c f t s in record { mode_is = w.mode_is ∙ sym g; code_is = w.code_is }
 
     pub asks_yen : c ≡ 0xA5 → Asks jis0208 katakana_index mode c modes.Roman (One 0x5C)

@@ -6,6 +6,7 @@ ghost use Rattle.legacy_base.specs.Iso2022Jp.{iso_2022_jp_fold, iso_2022_jp_poin
 ghost use Rattle.legacy_base.specs.Iso2022Jp.{is_mode_control, roman_or_ascii};
 ghost use Rattle.legacy_japanese.specs.Iso2022JpEncoder.{Asks, mode_of, escape_move, is_same_mode};
 
+use crate::folds::minus_as_hyphen;
 use legacy_base::{EncoderResult, IndexName, Next, RawEncoder, Source, Tables};
 use legacy_encoder_engine::drive::drive_encoder;
 use legacy_encoder_engine::moves::{EncoderMove, EncoderMoves};
@@ -66,10 +67,7 @@ fn folded(tables: &Tables, c: char) -> Option<char>
     if scalar >= 0xFF61 && scalar <= 0xFF9F {
         return tables.idx(IndexName::Katakana, (scalar - 0xFF61) as usize);
     }
-    if scalar == 0x2212 {
-        return Some('\u{FF0D}');
-    }
-    Some(c)
+    Some(minus_as_hyphen(c))
 }
 
 /// The pointer of a scalar past ASCII, or `None` where it has no pair.
@@ -142,11 +140,12 @@ fn asked(tables: &Tables, mode: Mode, c: char) -> (Mode, EncoderMove)
 
 /// The encoder of ISO-2022-JP (Encoding Standard, "ISO-2022-JP encoder").
 ///
-/// An escape of three bytes switches between ASCII, JIS X 0201 Roman and the pairs of JIS X 0208; the
-/// mode lasts over calls, and a last call goes back to ASCII mode. An escape is an act of its own: an
-/// output may end behind it, with the scalar that it is for not read yet. A scalar that has no bytes is
-/// reported in ASCII mode or Roman mode, behind an escape to ASCII mode where the mode was another.
-/// U+000E, U+000F and U+001B have none, and are reported as U+FFFD.
+/// An escape of three bytes switches between ASCII, JIS X 0201 Roman and the pairs of JIS X 0208;
+/// the mode lasts over calls, and the end of the last call goes back to ASCII mode. An escape is an
+/// act of its own: a full output may end behind one, with the scalar that it is for unread. A scalar
+/// that has no bytes is reported in Roman mode where that is the mode, and else in ASCII mode,
+/// behind an escape to it from two-byte mode. U+000E, U+000F and U+001B have no bytes, and are
+/// reported as U+FFFD. The minus sign U+2212 is written as U+FF0D.
 #[derive(Drop)]
 pub struct Iso2022JpEncoder<'a> {
     tables: &'a Tables<'a>,
@@ -156,8 +155,9 @@ pub struct Iso2022JpEncoder<'a> {
 impl<'a> Iso2022JpEncoder<'a> {
     ghost use Rattle.legacy_japanese.specs.Iso2022JpEncoder.{iso_2022_jp_encoder_state};
 
-    /// An encoder before its first scalar, in ASCII mode. Scalars are looked up in index jis0208 of the
-    /// tables, half-width katakana letters by way of index katakana. The tables stay borrowed.
+    /// An encoder before its first scalar, in ASCII mode. Scalars are looked up in index jis0208 of
+    /// the tables, the half-width katakana U+FF61 to U+FF9F by their entries in index katakana. The
+    /// tables stay borrowed.
     pub fn new(tables: &'a Tables<'a>) -> Iso2022JpEncoder<'a>
         ensures { iso_2022_jp_encoder_state result
             ≡ new_encoder (iso_2022_jp tables.now.flat.jis0208 tables.now.flat.katakana) }
@@ -168,8 +168,8 @@ impl<'a> Iso2022JpEncoder<'a> {
         }
     }
 
-    /// Whether the mode is not ASCII, so that the end of the text still writes an escape. Nothing
-    /// changes.
+    /// Whether the mode is not ASCII, so that the end of the text still writes an escape of three
+    /// bytes. Nothing changes.
     pub fn has_pending_state(&self) -> bool
         ensures { result ≡ is_pending (iso_2022_jp_encoder_state self.now) }
     {
