@@ -10,6 +10,8 @@ mod big5;
 #[cfg(test)]
 mod destinations;
 #[cfg(test)]
+mod encode_runs;
+#[cfg(test)]
 mod euc_jp;
 #[cfg(test)]
 mod euc_kr;
