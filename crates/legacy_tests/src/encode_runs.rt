@@ -52,6 +52,40 @@ fn make<E: TestedEncoder>(rt: &impl Abort, alloc: Global, of: E::Of, runs: &[Run
     }
 }
 
+const OF_USER_DEFINED: &[Run] = &[
+    // what is unread goes in again, and a small output is followed by the next
+    Run::FromUtf8(&["\u{F780}a"], &[0, 1, 1], &[Bytes(b"\x80a")], Some(3), true),
+    Run::FromUtf16(
+        &[&[0xF780, 0x61]],
+        &[0, 1, 1],
+        &[Bytes(b"\x80a")],
+        Some(3),
+        true,
+    ),
+    // without room the run is not finished
+    Run::FromUtf8(&["\u{F780}"], &[0], &[], Some(1), false),
+    Run::FromUtf16(&[&[0xF780]], &[0], &[], Some(1), false),
+    // a scalar that has no byte ends its call
+    Run::FromUtf8(
+        &["a\u{80}b"],
+        &[4, 4],
+        &[Bytes(b"a"), Report('\u{80}'), Bytes(b"b")],
+        Some(2),
+        true,
+    ),
+    // without lengths there is no call
+    Run::FromUtf8(&["a"], &[], &[], Some(0), false),
+    Run::FromUtf16(&[&[0x61]], &[], &[], Some(0), false),
+    // no pieces are one empty piece
+    Run::FromUtf8(&[], &[0], &[], Some(1), true),
+    Run::FromUtf16(&[], &[0], &[], Some(1), true),
+];
+
+#[test]
+fn runs_go_on_while_there_are_outputs(rt: HostRuntime) {
+    make::<UserDefinedEncoder>(&rt, rt.alloc(), (), OF_USER_DEFINED);
+}
+
 const OF_ISO_2022_JP: &[Run] = &[
     // the mode goes on from one piece to the next
     Run::FromUtf8(
