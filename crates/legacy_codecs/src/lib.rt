@@ -22,6 +22,10 @@ pub use legacy_decoders::{
     Big5Decoder, EucJpDecoder, EucKrDecoder, Gb18030Decoder, Iso2022JpDecoder, ReplacementDecoder,
     ShiftJisDecoder, SingleByteDecoder, UserDefinedDecoder, Utf16Decoder,
 };
+pub use legacy_encoders::{
+    Big5Encoder, EucJpEncoder, EucKrEncoder, Gb18030Encoder, Iso2022JpEncoder, ShiftJisEncoder,
+    SingleByteEncoder, SingleByteRunError, UserDefinedEncoder,
+};
 pub use replacing::{decode_replacing_utf8, decode_replacing_utf16};
 pub use results::CoderResult;
 pub use run_parts::RunError;

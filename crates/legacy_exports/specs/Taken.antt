@@ -1,12 +1,13 @@
 -- What of a caller's indexes is taken.
-use Rattle.std.specs.Prelude.{◌≡◌, ◌≤◌, ℕ, List, length, map}
+use Rattle.std.specs.Prelude.{◌≡◌, ◌≤◌, ℕ, List, length, map, None, true}
 use Rattle.legacy_base.specs.Indexes.{FlatIndexes}
 use Rattle.legacy_base.specs.AcceptedTables.{flat_lists}
 use Rattle.legacy_base.specs.declared.tables.private_use.TheConstants.{GB18030_2022_PUA}
 use Rattle.legacy_base.specs.TableChecks.{AreAccepted, IsAcceptedTable}
+use Rattle.legacy_single_byte.specs.SingleByteRun.{single_byte_run_fault}
 use Rattle.legacy_exports.specs.declared.codec.Codec.{Codec}
 use Rattle.legacy_exports.specs.declared.codec.Codec.TheVariants.{SingleByte}
-use Rattle.legacy_exports.specs.Codecs.{number_of}
+use Rattle.legacy_exports.specs.Codecs.{number_of, has_encoder}
 use Rattle.legacy_exports.specs.declared.indexes.IndexRange.{IndexRange}
 use Rattle.legacy_exports.specs.declared.indexes.IndexSlices.{IndexSlices}
 

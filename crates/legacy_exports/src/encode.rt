@@ -1,6 +1,6 @@
 //! The encoder of a codec.
 ghost use Rattle.std.specs.Prelude.{◌≡◌, ◌≤◌, ◌⊎◌, ◌↔◌, length, IfSome, IsSome};
-ghost use Rattle.legacy_exports.specs.Taken.{AreTakenToEncode, IsRefusedToEncode, IsTakenToEncode};
+ghost use Rattle.legacy_exports.specs.Taken.{AreTakenToEncode, IsRefusedToEncode, IsTakenRun, IsTakenToEncode};
 
 use crate::codec::{Codec, codec_of_number};
 use crate::indexes::{IndexSlices, RANGE_LIMIT, range_pairs, single_byte_table, with_ranges};
