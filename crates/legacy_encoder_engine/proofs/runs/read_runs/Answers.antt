@@ -8,10 +8,6 @@ use Rattle.legacy_encoder_engine.proofs.runs.read_runs.Goals as goal
 pub loop-at-init : goal.loop-at-init
 loop-at-init g c = (keeps_none (new_encoder (g.C.PlainCodes.codec c.args.encoder.now)) (length c.args.dst.now) (g.S.Source.left c.args.src.now) (take c.args.start c.args.dst.now), omega arith, omega arith, refl)
 
-pub read_scalars-end-requires-clause-room : goal.read_scalars-end-requires-clause-room
-read_scalars-end-requires-clause-room g c =
-    λ x. omega (arith, widest_room (g.C.PlainCodes.codec c.args.encoder.now) g.C.PlainCodes.past (g.C.PlainCodes.plain c.args.encoder.now) x, c.past_room-widest.ensures)
-
 pub returns-then-end-at-clause-keeps : goal.returns-then-end-at-clause-keeps
 returns-then-end-at-clause-keeps g c =
     let S = g.S.Source in
