@@ -1,4 +1,4 @@
--- The codec of an encoder of GB18030 or of GBK, and what is shown of their codes.
+-- What is shown of the codes of GB18030 and of GBK.
 use Rattle.std.proofs.Common.{ℕ, ◌≤◌, ◌==◌, List, [], ◌∷◌, Option, Some, None, Bool, true, false, refl, arith, option_map}
 use Rattle.std.proofs.lemmas.Bool.{lt-ltb}
 use Rattle.std.specs.Option.{option_or}
@@ -7,15 +7,10 @@ use Rattle.legacy_base.specs.EncodeEvents.{code_length}
 use Rattle.legacy_base.specs.Pointers.{gb18030_pointer_of, range_pointer_of}
 use Rattle.legacy_base.specs.Lengths.{number, ◌⊕◌, ◌⊗◌}
 use Rattle.legacy_base.specs.Gb18030.{gb18030_pair_bytes, gb18030_range_bytes, gb18030_pair_code, gb18030_code, gbk_code}
-use Rattle.legacy_base.specs.Encoders.{Codec, gb18030, gbk}
+use Rattle.legacy_chinese.specs.Gb18030Codec.{gb18030_codec}
 use Rattle.legacy_encoder_engine.specs.PlainCodecs.{IsPlainCodec}
 use Rattle.legacy_encoder_engine.specs.PlainLengths.{gb18030_lengths, gbk_lengths}
 use Rattle.legacy_encoder_engine.proofs.PlainServes.{short_past, short_if, short_map, short_or}
-
--- GB18030 with its extended range, and else GBK
-abbrev pub gb18030_codec : FlatIndexes → Bool → Codec
-gb18030_codec flat true = gb18030 flat.gb18030 flat.ranges flat.gb18030_pua
-gb18030_codec flat false = gbk flat.gb18030 flat.ranges flat.gb18030_pua
 
 -- a pair has two bytes
 short_pair : (pua : List (ℕ × ℕ × ℕ)) (index : List ℕ) (c : ℕ) → code_length (gb18030_pair_code pua index c) ≤ 2

@@ -1,6 +1,6 @@
 -- What the encoder of GB18030 and GBK is between two calls: nothing changes.
 use Rattle.legacy_base.specs.Encoders.{EncoderState, new_encoder}
-use Rattle.legacy_chinese.specs.Gb18030Codes.{gb18030_codec}
+use Rattle.legacy_chinese.specs.Gb18030Codec.{gb18030_codec}
 use Rattle.legacy_chinese.specs.declared.gb18030.encoder.Gb18030Encoder.{Gb18030Encoder}
 
 -- the state that its calls speak of

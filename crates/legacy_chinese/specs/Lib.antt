@@ -2,6 +2,7 @@
 pub mod Big5Codes
 pub mod Big5Machine
 pub mod FourPlaces
+pub mod Gb18030Codec
 pub mod Gb18030Codes
 pub mod Gb18030Held
 pub mod Gb18030Decoder

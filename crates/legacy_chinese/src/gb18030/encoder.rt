@@ -5,7 +5,8 @@ ghost use Rattle.legacy_base.specs.Gb18030.{gb18030_pair_code, gb18030_range_byt
 ghost use Rattle.legacy_base.specs.Encoders.{new_encoder};
 ghost use Rattle.legacy_base.specs.Lengths.{answer, number, ◌⊕◌, ◌⊗◌};
 ghost use Rattle.legacy_encoder_engine.specs.Moves.{IsCode};
-ghost use Rattle.legacy_chinese.specs.Gb18030Codes.{gb18030_codec, gb18030_plain};
+ghost use Rattle.legacy_chinese.specs.Gb18030Codec.{gb18030_codec};
+ghost use Rattle.legacy_chinese.specs.Gb18030Codes.{gb18030_plain};
 
 use legacy_base::{EncoderResult, RawEncoder, Source, Tables};
 use legacy_encoder_engine::drive::drive_encoder;
