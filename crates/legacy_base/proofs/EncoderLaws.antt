@@ -5,7 +5,8 @@ use Rattle.legacy_base.specs.declared.results.EncodeEvent.TheVariants.{Byte}
 use Rattle.legacy_base.specs.EncodingForm.{EncodingForm, Utf8, Utf16}
 use Rattle.legacy_base.specs.EncodeEvents.{plain_events}
 use Rattle.legacy_base.specs.EncoderProfile.{EncoderProfile, EncoderMode, in_ascii, in_roman, in_two_byte, plain_encoder}
-use Rattle.legacy_base.specs.Encoders.{Codec, single_byte, user_defined, big5, euc_kr, shift_jis, euc_jp, gb18030, gbk, iso_2022_jp, encoder_profile, EncoderState, encoded, end_bytes, encoder_need, encoder_formula, encoder_answer, encoder_room}
+use Rattle.legacy_base.specs.Encoders.{Codec, single_byte, user_defined, big5, euc_kr, shift_jis, euc_jp, gb18030, gbk, iso_2022_jp, encoder_profile}
+use Rattle.legacy_base.specs.Encoders.{EncoderState, encoded, end_bytes, encoder_need, encoder_formula, encoder_answer, encoder_room}
 use Rattle.legacy_base.specs.Iso2022Jp.{iso_2022_jp_encoder, iso_2022_jp_text_events, mode_behind}
 use Rattle.legacy_base.specs.Lengths.{Formula, number, ◌⊕◌, ◌⊗◌, value}
 use Rattle.legacy_base.proofs.Enough.{answer-value}
@@ -36,7 +37,10 @@ plain_laws code past from_utf8 from_utf16 few rises8 rises16 = record {
   end_fits = λ mode. omega arith;
   rises = λ form mode. by_form form;
 } where
-  by_form : (form : EncodingForm) (m n : ℕ) → m ≤ n → value ((plain_encoder code past from_utf8 from_utf16).formula form (number m)) - 0 ≤ value ((plain_encoder code past from_utf8 from_utf16).formula form (number n)) - 0
+  room : EncodingForm → ℕ → ℕ
+  room form n = value ((plain_encoder code past from_utf8 from_utf16).formula form (number n)) - 0
+
+  by_form : (form : EncodingForm) (m n : ℕ) → m ≤ n → room form m ≤ room form n
   by_form Utf8 m n h = let r = rises8 m n h in omega arith
   by_form Utf16 m n h = let r = rises16 m n h in omega arith
 

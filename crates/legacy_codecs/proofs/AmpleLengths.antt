@@ -12,12 +12,12 @@ use Rattle.legacy_base.specs.Events.{shift}
 use Rattle.legacy_base.specs.States.{DecoderState}
 use Rattle.legacy_base.specs.Calls.{DecoderCall, reported_events, out_events}
 use Rattle.legacy_base.proofs.Rooms.{lacks_small}
-use Rattle.legacy_codecs.specs.Pieces.{RunPlace, is_none, place_before, place_behind, ends_run}
+use Rattle.legacy_codecs.specs.Pieces.{RunPlace, is_none, place_before, ends_run}
 use Rattle.legacy_codecs.specs.Runs.{is_input_empty, Reaches, IsRun, HasAmpleLengths}
 use Rattle.legacy_codecs.specs.Runs.Reaches.{begun, called}
 use Rattle.legacy_codecs.proofs.Places.{later_less, calls_are_fewer}
 use Rattle.legacy_codecs.proofs.Replaced.{length-shift}
-use Rattle.legacy_codecs.proofs.RunEvents.{events_ahead, place_before-ahead, Reaches-events}
+use Rattle.legacy_codecs.proofs.RunEvents.{behind, events_ahead, place_before-ahead, Reaches-events}
 
 -- what is given at the end of a call comes on top of its scalars
 out-some : (seen : ℕ) (scalars : List ℕ) (answer : DecoderResult) → length (out_events seen scalars answer) ≡ length scalars + length (reported_events seen answer)
@@ -33,7 +33,7 @@ some_scalar form (c ∷ cs) h = omega arith
 -- a call that does not end the run gives an event, or goes on to the next piece
 progresses : (form : EncodingForm) (p : RunPlace DecoderState) (free : ℕ) (after : DecoderState) (answer : DecoderResult) (read : ℕ) (scalars : List ℕ) → wide_room form ≤ free →
     DecoderCall form p.state p.piece (is_none p.later) free after answer read scalars → ends_run p (is_input_empty answer) ≡ false →
-    1 + length (place_behind p after (is_input_empty answer) (drop read p.piece)).later ≤ length (out_events (length p.state.held + read) scalars answer) + length p.later
+    1 + length (behind p after answer read).later ≤ length (out_events (length p.state.held + read) scalars answer) + length p.later
 progresses form p free after InputEmpty read scalars w c e = let l = later_less after p.later e in omega arith
 progresses form p free after OutputFull read scalars w c e =
     let lacks = lacks_small form after _ _ (free - total_unit_count form scalars) (c.output_full refl) in

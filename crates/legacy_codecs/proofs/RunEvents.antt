@@ -34,6 +34,10 @@ ahead p = p.state.held ++ (p.piece ++ joined p.later)
 abbrev pub events_ahead : RunPlace DecoderState → List DecodeEvent
 events_ahead p = events_of p.state.grammar (ahead p)
 
+-- where a call leads to
+abbrev pub behind : RunPlace DecoderState → DecoderState → DecoderResult → ℕ → RunPlace DecoderState
+behind p after answer read = place_behind p after (is_input_empty answer) (drop read p.piece)
+
 next-ahead : (s : DecoderState) (later : List (List ℕ)) → s.held ++ ([] ++ joined later) ≡ ahead (place_before s later)
 next-ahead s [] = refl
 next-ahead s (q ∷ qs) = refl
@@ -44,7 +48,7 @@ place_before-ahead s (p ∷ ps) = refl
 
 -- what is unread and after it stays ahead
 place_behind-ahead : (p : RunPlace DecoderState) (after : DecoderState) (answer : DecoderResult) (read : ℕ) → (answer ≡ InputEmpty → read ≡ length p.piece) →
-    after.held ++ (drop read p.piece ++ joined p.later) ≡ ahead (place_behind p after (is_input_empty answer) (drop read p.piece))
+    after.held ++ (drop read p.piece ++ joined p.later) ≡ ahead (behind p after answer read)
 place_behind-ahead p after InputEmpty read h =
     let e = h refl in
     let none : drop read p.piece ≡ [] = drop_of_length-le p.piece (omega arith) in
@@ -59,7 +63,7 @@ module _ {form : EncodingForm} {from : RunPlace DecoderState} {lengths : List �
   Reaches-events begun = sym (shift-zero (events_ahead from))
   Reaches-events (called calls events passed p r free e after answer read scalars c) =
       let out = out_events (length p.state.held + read) scalars answer in
-      let next = place_behind p after (is_input_empty answer) (drop read p.piece) in
+      let next = behind p after answer read in
       let one : events_ahead p ≡ out ++ shift c.passed (events_of after.grammar (after.held ++ (drop read p.piece ++ joined p.later))) =
       c.progress.events (joined p.later) (λ l. ap joined (last_empty p.later l)) in
       let two : events_of after.grammar (after.held ++ (drop read p.piece ++ joined p.later)) ≡ events_ahead next =

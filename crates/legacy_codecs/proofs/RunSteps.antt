@@ -12,14 +12,15 @@ use Rattle.legacy_base.specs.Events.{shift}
 use Rattle.legacy_base.specs.States.{DecoderState}
 use Rattle.legacy_base.specs.Calls.{DecoderCall, HoldsBack, reported_events, out_events}
 use Rattle.legacy_base.proofs.Shifts.{shift-append, shift-scalars}
-use Rattle.legacy_codecs.specs.Pieces.{RunPlace, is_none, place_behind, ends_run}
+use Rattle.legacy_codecs.specs.Pieces.{RunPlace, is_none, ends_run}
 use Rattle.legacy_codecs.specs.Runs.{is_input_empty, Reaches, IsRun, placed}
 use Rattle.legacy_codecs.specs.Runs.Reaches.{begun, called}
 use Rattle.legacy_codecs.proofs.Places.{place_behind-state, pieces-length, place_at}
-use Rattle.legacy_codecs.proofs.RunEvents.{placed-append, placed-scalars}
+use Rattle.legacy_codecs.proofs.RunEvents.{behind, placed-append, placed-scalars}
 
 -- A run under way: the calls that were made lead to the place p, gave these events, and read so many bytes.
-pub record Running (form : EncodingForm) (from : RunPlace DecoderState) (lengths : List ℕ) (calls : ℕ) (items : List DecodeEvent) (total : ℕ) (finished : Bool) (p : RunPlace DecoderState) : Type 0 where
+pub record Running (form : EncodingForm) (from : RunPlace DecoderState) (lengths : List ℕ) (calls : ℕ) (items : List DecodeEvent) (total : ℕ) (finished : Bool)
+    (p : RunPlace DecoderState) : Type 0 where
   pub events : List DecodeEvent
   pub passed : ℕ
   pub reaches : Reaches form from lengths calls events passed finished p
@@ -50,13 +51,14 @@ reported-placed h passed held total read after (Malformed a b) f e =
 
 -- no more bytes are unread behind a call than were before it
 place_behind-bytes : (p : RunPlace DecoderState) (after : DecoderState) (answer : DecoderResult) (read : ℕ) → read ≤ length p.piece → (answer ≡ InputEmpty → read ≡ length p.piece) →
-    read + (length (place_behind p after (is_input_empty answer) (drop read p.piece)).piece + sum_by length (place_behind p after (is_input_empty answer) (drop read p.piece)).later) ≤ length p.piece + sum_by length p.later
+    read + (length (behind p after answer read).piece + sum_by length (behind p after answer read).later) ≤ length p.piece + sum_by length p.later
 place_behind-bytes p after InputEmpty read w all = let e = all refl in let b = pieces-length after p.later in omega arith
 place_behind-bytes p after OutputFull read w all = omega (arith, length-drop read p.piece)
 place_behind-bytes p after (Malformed a b) read w all = omega (arith, length-drop read p.piece)
 
 -- one more call, with the next of the lengths
-module _ {form : EncodingForm} {from : RunPlace DecoderState} {lengths : List ℕ} {calls : ℕ} {items : List DecodeEvent} {total : ℕ} {p : RunPlace DecoderState} (r : Running form from lengths calls items total false p)
+module _ {form : EncodingForm} {from : RunPlace DecoderState} {lengths : List ℕ} {calls : ℕ} {items : List DecodeEvent} {total : ℕ} {p : RunPlace DecoderState}
+    (r : Running form from lengths calls items total false p)
     {free : ℕ} (given : slice_get lengths calls ≡ Some free) {after : DecoderState} {answer : DecoderResult} {read : ℕ} {scalars : List ℕ}
     (c : DecoderCall form p.state p.piece (is_none p.later) free after answer read scalars) where
   items_behind : (items ++ map Scalar scalars) ++ reported_behind (total + read) answer
@@ -76,29 +78,32 @@ module _ {form : EncodingForm} {from : RunPlace DecoderState} {lengths : List �
       ) (append_assoc items (map Scalar scalars) (reported_behind (total + read) answer))
 
   call_behind : Running form from lengths (calls + 1) ((items ++ map Scalar scalars) ++ reported_behind (total + read) answer) (total + read)
-      (ends_run p (is_input_empty answer)) (place_behind p after (is_input_empty answer) (drop read p.piece))
+      (ends_run p (is_input_empty answer)) (behind p after answer read)
   call_behind = record {
     events = r.events ++ shift r.passed (out_events (length p.state.held + read) scalars answer);
     passed = r.passed + c.passed;
     reaches = called calls r.events r.passed p r.reaches free given after answer read scalars c;
     items_are = items_behind;
     passed_is =
-        let state : length (place_behind p after (is_input_empty answer) (drop read p.piece)).state.held ≡ length after.held = ap (λ (s : DecoderState). length s.held) (place_behind-state p after (is_input_empty answer) (drop read p.piece)) in
+        let state : length (behind p after answer read).state.held ≡ length after.held =
+        ap (λ (s : DecoderState). length s.held) (place_behind-state p after (is_input_empty answer) (drop read p.piece)) in
         let w = c.within in
         omega (arith, c.progress.counts, r.passed_is, length-drop read p.piece);
     bytes = let b = place_behind-bytes p after answer read c.within (λ e. (c.input_empty e).0) in omega (arith, r.bytes);
   }
 
 -- the same by other words for what went in and what came out
-pub running_call : {form : EncodingForm} {from : RunPlace DecoderState} {lengths : List ℕ} {calls : ℕ} {items items' : List DecodeEvent} {total : ℕ} {p p' : RunPlace DecoderState} {free : ℕ} {after : DecoderState}
+pub running_call : {form : EncodingForm} {from : RunPlace DecoderState} {lengths : List ℕ} {calls : ℕ} {items items' : List DecodeEvent} {total : ℕ} {p p' : RunPlace DecoderState}
+    {free : ℕ} {after : DecoderState}
     {unread : List ℕ} {last finished : Bool} {given_back answer : DecoderResult} {read : ℕ} {scalars : List ℕ} →
     Running form from lengths calls items total false p → slice_get lengths calls ≡ Some free → DecoderCall form p.state unread last free after given_back read scalars →
     unread ≡ p.piece → last ≡ is_none p.later → given_back ≡ answer →
-    items' ≡ (items ++ map Scalar scalars) ++ reported_behind (total + read) answer → finished ≡ ends_run p (is_input_empty answer) → p' ≡ place_behind p after (is_input_empty answer) (drop read p.piece) →
+    items' ≡ (items ++ map Scalar scalars) ++ reported_behind (total + read) answer → finished ≡ ends_run p (is_input_empty answer) → p' ≡ behind p after answer read →
     Running form from lengths (calls + 1) items' (total + read) finished p'
 running_call r given c u l a i f q = let c' = rw (u, l, a) at c in rw (i, f, q) (call_behind r given c')
 
-pub is_run : {form : EncodingForm} {from : RunPlace DecoderState} {lengths : List ℕ} {calls : ℕ} {items : List DecodeEvent} {total : ℕ} {finished : Bool} {p : RunPlace DecoderState} {after : DecoderState} →
+pub is_run : {form : EncodingForm} {from : RunPlace DecoderState} {lengths : List ℕ} {calls : ℕ} {items : List DecodeEvent} {total : ℕ} {finished : Bool} {p : RunPlace DecoderState}
+    {after : DecoderState} →
     Running form from lengths calls items total finished p → p.state ≡ after → calls ≤ length lengths → (finished ≡ false → calls ≡ length lengths) → IsRun form from lengths calls finished items after
 is_run r state few all = record { events = r.events; passed = r.passed; place = _; reaches = r.reaches; state = state; placed_is = r.items_are; few = few; all = all }
 

@@ -1,4 +1,5 @@
-use Rattle.std.proofs.Common.{◌≡◌, ℕ, ◌+◌, ◌≤◌, ◌<◌, ◌++◌, List, [], drop, take, get_or, length, length-append, length-drop, length-take, map, refl, arith, ap, sym, ◌∙◌, vec_len, Vec, Global, All, Some}
+use Rattle.std.proofs.Common.{◌≡◌, ℕ, ◌+◌, ◌≤◌, ◌<◌, ◌++◌, List, [], drop, take, get_or, length, map, vec_len, Vec, Global, All, Some}
+use Rattle.std.proofs.Common.{refl, arith, ap, sym, ◌∙◌, length-append, length-drop, length-take}
 use Rattle.std.specs.Prelude.{slice_get}
 use Rattle.std.proofs.lemmas.Bool.{true≢false}
 use Rattle.std.proofs.lemmas.Option.{slice_get-get_or}
