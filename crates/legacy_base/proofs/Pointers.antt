@@ -51,7 +51,8 @@ module _ (may : ℕ → Bool) (index : List ℕ) (c : ℕ) where
   unfolding last_pointer
   last-zero e = rw (eq-eqb c 0 e) refl
 
-  pub last-is : c ≢ 0 → (p : ℕ) → p < length index → may p ≡ true → slice_index index p ≡ c → ((k : ℕ) → p < k → k < length index → is_pointer_of may index c k ≡ false) → last_pointer may index c ≡ Some p
+  pub last-is : c ≢ 0 → (p : ℕ) → p < length index → may p ≡ true → slice_index index p ≡ c → ((k : ℕ) → p < k → k < length index → is_pointer_of may index c k ≡ false) →
+      last_pointer may index c ≡ Some p
   unfolding last_pointer
   last-is n p h u e after = rw (ne_eqb c 0 n) (last-some (is_pointer_of may index c) (length index) p h (hits p u e) after)
 

@@ -43,7 +43,8 @@ given (r ∷ ranges) p c e = go (last_range_scalar ranges p) (nat_le r.0 p) refl
         let w = l.1.within in
         (suc l.0, record { within = omega arith; started = l.1.started; ahead = λ k. later_ahead l.0 l.1.ahead k; gives = l.1.gives })
       where
-        later_ahead : (place : ℕ) → ((k : ℕ) → place < k → k < length ranges → p < (get_or ranges k (0, 0)).0) → (k : ℕ) → suc place < k → k < suc (length ranges) → p < (get_or (r ∷ ranges) k (0, 0)).0
+        later_ahead : (place : ℕ) → ((k : ℕ) → place < k → k < length ranges → p < (get_or ranges k (0, 0)).0) → (k : ℕ) → suc place < k → k < suc (length ranges) →
+            p < (get_or (r ∷ ranges) k (0, 0)).0
         later_ahead place ahead zero m h = absurd (omega arith)
         later_ahead place ahead (suc k) m h = ahead k (omega arith) (omega arith)
     go None false q s z later = cc
@@ -90,7 +91,8 @@ module _ (ranges : List (ℕ × ℕ)) where
       low : is_in_range 189000 1237575 p ≡ true → 189000 ≤ p
       low h = grind (arith, nat_tests)
 
-      go : (a b t : Bool) → is_in_range 189000 1237575 p ≡ b → nat_le p 39419 ≡ t → cond a (Some 0xE7C7) (cond b (Some (0x1_0000 + (p - 189000))) (cond t (last_range_scalar ranges p) None)) ≡ Some c → ⊥
+      go : (a b t : Bool) → is_in_range 189000 1237575 p ≡ b → nat_le p 39419 ≡ t →
+          cond a (Some 0xE7C7) (cond b (Some (0x1_0000 + (p - 189000))) (cond t (last_range_scalar ranges p) None)) ≡ Some c → ⊥
       go true b t q s z = let same : 0xE7C7 ≡ c = cc in absurd (omega arith)
       go false true t q s z = let same : 0x1_0000 + (p - 189000) ≡ c = cc in let from = low q in absurd (omega arith)
       go false false true q s z = let narrow = (last_range-narrow 0 ranges valued p c (leb-true p 39419 s) z).1 in absurd (omega arith)

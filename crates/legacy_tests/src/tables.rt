@@ -2,7 +2,8 @@
 use crate::indexes::{byte_table_of, entries_of, no_entries, tables_of};
 use legacy_base::IndexName::{Big5, EucKr, Gb18030, Jis0208, Jis0212, Katakana};
 use legacy_base::TableError::{
-    BadByteEntry, BadEntry, KatakanaLength, NotEmpty, RangeOrder, RangeValue, Repeated, TooLong,
+    BadByteEntry, BadEntry, KatakanaLength, NotEmpty, PuaBytes, PuaOrder, PuaScalar, RangeOrder,
+    RangeValue, Repeated, TooLong,
 };
 use legacy_base::{IndexName, Indexes, SingleByteTable, TableError, Tables};
 use std::alloc::{AllocError, Global};
@@ -142,6 +143,38 @@ fn ranges_rise_before_their_scalars_count(rt: HostRuntime) {
     }
 }
 
+/// Private-use rows alone, and their fault.
+type PrivateUse<'a> = (&'a [(u16, u8, u8)], Option<TableError>);
+
+const PRIVATE_USE: &[PrivateUse] = &[
+    (
+        &[(0xE78E, 0xA6, 0xDA), (0xE78D, 0xA6, 0xD9)],
+        Some(PuaOrder(1)),
+    ),
+    (&[(0xE5E5, 0xA6, 0xD9)], Some(PuaScalar(0))),
+    (&[(0xE000, 0xA6, 0x7F)], Some(PuaBytes(0))),
+    // at one place the order comes first, then the scalar
+    (
+        &[(0xE000, 0xA6, 0xD9), (0xDFFF, 0xA6, 0x7F)],
+        Some(PuaOrder(1)),
+    ),
+    (&[(0xDFFF, 0xA6, 0x7F)], Some(PuaScalar(0))),
+    (&[(0xE000, 0x81, 0x40), (0xF8FF, 0xFE, 0xFE)], None),
+];
+
+#[test]
+fn private_use_rows_rise_and_have_two_bytes(rt: HostRuntime) {
+    for (rows, wanted) in PRIVATE_USE {
+        let mut indexes = no_entries();
+        indexes.gb18030_pua = rows;
+        let came = Tables::new(&indexes).err();
+        assert!(rt;
+            came == *wanted,
+            "{rows:?}: came {came:?}, wanted {wanted:?}"
+        );
+    }
+}
+
 /// An index, a pointer, and the scalar that it has there.
 const POINTERS: &[(IndexName, usize, Option<char>)] = &[
     (Big5, 0, Some('\u{2008A}')),
@@ -234,6 +267,9 @@ const WORDS: &[(TableError, &str)] = &[
     (KatakanaLength, "index katakana must have 0 or 63 entries"),
     (RangeOrder(1), "ranges are out of order at 1"),
     (RangeValue(0), "range 0 has a bad scalar"),
+    (PuaOrder(1), "private-use row 1 is out of order"),
+    (PuaScalar(0), "private-use row 0 has a bad scalar"),
+    (PuaBytes(0), "private-use row 0 has bad bytes"),
     (BadByteEntry(3), "single-byte entry 3 is bad"),
     (Repeated(4), "single-byte entry 4 is repeated"),
 ];
