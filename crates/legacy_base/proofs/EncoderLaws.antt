@@ -5,8 +5,8 @@ use Rattle.legacy_base.specs.declared.results.EncodeEvent.TheVariants.{Byte}
 use Rattle.legacy_base.specs.EncodingForm.{EncodingForm, Utf8, Utf16}
 use Rattle.legacy_base.specs.EncodeEvents.{plain_events}
 use Rattle.legacy_base.specs.EncoderProfile.{EncoderProfile, EncoderMode, plain_encoder}
-use Rattle.legacy_base.specs.Encoders.{Codec, single_byte, user_defined, encoder_profile, EncoderState, encoded, end_bytes, encoder_need, encoder_formula, encoder_answer, encoder_room}
-use Rattle.legacy_base.specs.Lengths.{Formula, number, value}
+use Rattle.legacy_base.specs.Encoders.{Codec, single_byte, user_defined, big5, euc_kr, shift_jis, euc_jp, gb18030, gbk, encoder_profile, EncoderState, encoded, end_bytes, encoder_need, encoder_formula, encoder_answer, encoder_room}
+use Rattle.legacy_base.specs.Lengths.{Formula, number, ◌⊕◌, ◌⊗◌, value}
 use Rattle.legacy_base.proofs.Enough.{answer-value}
 
 -- ---- what is shown of a profile
@@ -41,9 +41,21 @@ plain_laws code past from_utf8 from_utf16 few rises8 rises16 = record {
 
 -- ---- the codecs
 
+-- a codec of one byte or two
+pair_laws : (code : ℕ → Option (List ℕ)) → HasLaws (plain_encoder code 2 (λ n. n ⊕ number 1) (λ n. number 2 ⊗ n))
+pair_laws code = plain_laws code 2 (λ n. n ⊕ number 1) (λ n. number 2 ⊗ n) (omega arith) (λ m n h. omega arith) (λ m n h. omega arith)
+
 pub encoder_laws : (codec : Codec) → HasLaws (encoder_profile codec)
 encoder_laws (single_byte table) = plain_laws _ 1 (λ n. n) (λ n. n) (omega arith) (λ m n h. h) (λ m n h. h)
 encoder_laws user_defined = plain_laws _ 1 (λ n. n) (λ n. n) (omega arith) (λ m n h. h) (λ m n h. h)
+encoder_laws (big5 index) = pair_laws _
+encoder_laws (euc_kr index) = pair_laws _
+encoder_laws (shift_jis jis0208) = pair_laws _
+encoder_laws (euc_jp jis0208 jis0212) = pair_laws _
+encoder_laws (gb18030 index ranges pua) =
+    plain_laws _ 4 (λ n. number 2 ⊕ number 2 ⊗ n) (λ n. number 4 ⊗ n) (omega arith) (λ m n h. omega arith) (λ m n h. omega arith)
+encoder_laws (gbk index ranges pua) =
+    plain_laws _ 4 (λ n. n ⊕ number 3) (λ n. number 2 ⊕ number 2 ⊗ n) (omega arith) (λ m n h. omega arith) (λ m n h. omega arith)
 
 -- ---- the same of a state
 
