@@ -12,7 +12,8 @@ extern "C" {
 #endif
 
 /* The numbers of the codecs, in the order of the standard. No codec has the number 0, and a number
- * is never given to another codec. GBK and gb18030 are one decoder and two codecs. */
+ * is never given to another codec. GBK and gb18030 are one decoder and two codecs. replacement and the
+ * two of UTF-16 have no encoder: what is read by them is written in UTF-8. */
 enum legacy_codec {
     LEGACY_SINGLE_BYTE = 1, /* any single-byte encoding: its index says which */
     LEGACY_GBK = 2,
@@ -38,6 +39,15 @@ struct legacy_range {
     uint16_t scalar;
 };
 
+/* A run of a single-byte encoding: its places from start on, length of them, hold the scalar values
+ * from scalar upwards, where place 0 is byte 80. The encoder finds these without a search. start is
+ * 32 at the least; a length of 0 is a run too. */
+struct legacy_byte_run {
+    uint16_t scalar;
+    uint8_t start;
+    uint8_t length;
+};
+
 /* The standard's indexes, each as a pointer to its entries and then their number. Entry p of an
  * index is the scalar value of pointer p, or 0 where it has none; pointers past the end have none
  * either. An index that the codec does not read by may be empty, with any pointer that is aligned
@@ -59,7 +69,7 @@ struct legacy_indexes {
     /* index gb18030, at most 23940 entries: GBK, gb18030 */
     const uint16_t *gb18030;
     size_t gb18030_length;
-    /* index ISO-2022-JP katakana, 63 entries or none: no decoder reads by it */
+    /* index ISO-2022-JP katakana, 63 entries or none: the encoder of ISO-2022-JP */
     const uint16_t *katakana;
     size_t katakana_length;
     /* index gb18030 ranges, at most 256, by rising pointers, without the one from 189000 on, which
@@ -70,6 +80,9 @@ struct legacy_indexes {
      * refuses any other number of them; no other codec looks at it */
     const uint16_t *single_byte;
     size_t single_byte_length;
+    /* the run that the encoder of the single-byte encoding takes, which refuses one that the index
+     * does not have; no decoder looks at it */
+    struct legacy_byte_run single_byte_run;
 };
 
 /* Decoders.
@@ -101,6 +114,40 @@ size_t legacy_decode_to_utf16(uint32_t codec, const struct legacy_indexes *index
                               const uint8_t *source, size_t source_length,
                               uint16_t *output, size_t output_length,
                               size_t piece, size_t times);
+
+/* Encoders.
+ *
+ * They encode the whole source and write it from the front of the output. For each scalar value that
+ * the encoding does not have they write a question mark. They stop where the output has no room for
+ * what comes next. The private-use rows of gb18030 are those of GB18030-2022.
+ *
+ * codec:         the number of a codec with an encoder
+ * indexes:       the indexes; they are only read
+ * source:        the text to encode
+ * source_length: how many code units it has
+ * output:        where the bytes go, which must not overlap the source
+ * output_length: how many bytes there is room for
+ * piece:         how many code units of the source the encoder is handed in each call, and up to the
+ *                next place between two characters; or 0: all of them
+ * times:         how often the source is encoded, each time to the front of the output and all times
+ *                by one encoder; 0: not at all
+ *
+ * The answer is how many bytes were written the last time, at most output_length, or LEGACY_REFUSED,
+ * also where the source is to be UTF-8 and is not. No pointer may be null, also where the length is
+ * 0. */
+
+/* Encodes from UTF-8: a code unit is a byte. */
+size_t legacy_encode_from_utf8(uint32_t codec, const struct legacy_indexes *indexes,
+                               const uint8_t *source, size_t source_length,
+                               uint8_t *output, size_t output_length,
+                               size_t piece, size_t times);
+
+/* Encodes from UTF-16: a code unit has 16 bits, in the byte order of the machine. An unpaired
+ * surrogate counts as U+FFFD. */
+size_t legacy_encode_from_utf16(uint32_t codec, const struct legacy_indexes *indexes,
+                                const uint16_t *source, size_t source_length,
+                                uint8_t *output, size_t output_length,
+                                size_t piece, size_t times);
 
 #ifdef __cplusplus
 }

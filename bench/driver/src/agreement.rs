@@ -1,8 +1,9 @@
-//! Whether the decoders write what encoding_rs writes, in every codec, on text and on bytes that are none.
+//! Whether the decoders and the encoders write what encoding_rs writes, in every codec, on text and on bytes and
+//! characters that follow no pattern.
 
 use crate::corpora;
 use crate::ours::Ours;
-use crate::{compare, CORPORA};
+use crate::{compare, FromUtf16, FromUtf8, ToUtf16, ToUtf8, CORPORA};
 use encoding_rs::{Encoding, REPLACEMENT};
 
 /// The encodings, by their names.
@@ -66,18 +67,59 @@ fn texts() -> Result<Vec<(&'static str, String)>, String> {
 fn agree(ours: &Ours, encoding: &'static Encoding, bytes: &[u8], what: &str) -> Result<(), String> {
     let room = bytes.len() * 3 + 64;
     let failed = |error| format!("{what} in {}: {error}", encoding.name());
-    compare::<u8>(ours, encoding, bytes, &mut vec![0; room]).map_err(failed)?;
-    compare::<u16>(ours, encoding, bytes, &mut vec![0; room]).map_err(failed)
+    compare::<ToUtf8>(ours, encoding, bytes, &mut vec![0; room]).map_err(failed)?;
+    compare::<ToUtf16>(ours, encoding, bytes, &mut vec![0; room]).map_err(failed)
+}
+
+/// Any code units, with surrogates, ASCII, kana, ideographs, Hangul and characters for private use among them.
+fn any_units() -> Vec<u16> {
+    let mut numbers = Numbers(0xD1B5_4A32_D192_ED03);
+    let blocks: [(u16, u64); 9] = [
+        (0x0000, 0x80),
+        (0x0080, 0x500),
+        (0x2000, 0x700),
+        (0x3000, 0x200),
+        (0x4E00, 0x5200),
+        (0xAC00, 0x2BA4),
+        (0xD800, 0x800),
+        (0xE000, 0x1900),
+        (0xF900, 0x700),
+    ];
+    let mut units = Vec::new();
+    while units.len() < LENGTH / 2 {
+        let (first, count) = blocks[numbers.below(9) as usize];
+        units.extend((0..numbers.below(20)).map(|_| first + numbers.below(count) as u16));
+        if numbers.below(8) == 0 {
+            units.extend([0xD800 + numbers.below(0x400) as u16, 0xDC00 + numbers.below(0x400) as u16]);
+        }
+    }
+    units
+}
+
+/// Compares what both write of this text from UTF-8 and from UTF-16.
+fn agree_back(ours: &Ours, encoding: &'static Encoding, units: &[u16], what: &str) -> Result<(), String> {
+    let text = String::from_utf16_lossy(units);
+    let room = text.len() * 3 + 64;
+    let failed = |error| format!("{what} in {}: {error}", encoding.name());
+    compare::<FromUtf8>(ours, encoding, text.as_bytes(), &mut vec![0; room]).map_err(failed)?;
+    compare::<FromUtf16>(ours, encoding, units, &mut vec![0; room]).map_err(failed)
 }
 
 /// Compares all codecs, and says how many encodings there were.
 pub fn report() -> Result<(), String> {
     let texts = texts()?;
     let any = any_bytes();
+    let units = any_units();
     for name in ENCODINGS {
         let encoding = Encoding::for_label(name.as_bytes()).ok_or("no such encoding")?;
         let ours = Ours::new(encoding);
         agree(&ours, encoding, &any, "bytes")?;
+        if encoding.output_encoding() == encoding {
+            agree_back(&ours, encoding, &units, "any units")?;
+            for (language, text) in &texts {
+                agree_back(&ours, encoding, &text.encode_utf16().collect::<Vec<u16>>(), language)?;
+            }
+        }
         for (language, text) in &texts {
             if encoding != REPLACEMENT {
                 agree(&ours, encoding, &corpora::encode_once(encoding, text), language)?;

@@ -62,7 +62,7 @@ pub fn table(files: impl Iterator<Item = String>) -> Result<(), String> {
         .map(|table| table.lines().filter(|line| line.starts_with('|')).skip(2).map(cells).collect())
         .collect();
     let first = bodies.first().ok_or("no table")?;
-    println!("| corpus | encoding | to | {} |", COLUMNS.map(|(name, _)| name).join(" | "));
+    println!("| corpus | encoding | direction | {} |", COLUMNS.map(|(name, _)| name).join(" | "));
     println!("|{}", "---|".repeat(NAMES + COLUMNS.len()));
     for at in 0..first.len() {
         let same: Option<Vec<Vec<&str>>> = bodies.iter().map(|body| body.get(at).cloned()).collect();

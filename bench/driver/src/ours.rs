@@ -1,4 +1,4 @@
-//! The decoders of the static library, as `bench/legacy_codecs.h` declares them.
+//! The codecs of the static library, as `bench/legacy_codecs.h` declares them.
 
 use crate::indexes;
 use encoding_rs::Encoding;
@@ -28,6 +28,30 @@ pub struct Range {
     pub scalar: u16,
 }
 
+/// `struct legacy_byte_run`.
+#[repr(C)]
+#[derive(Clone, Copy, Default)]
+struct ByteRun {
+    scalar: u16,
+    start: u8,
+    length: u8,
+}
+
+impl ByteRun {
+    /// The longest run of these scalars from place 32 on, the first of those that are equally long.
+    fn longest(entries: &[u16]) -> ByteRun {
+        let mut longest = ByteRun { scalar: 0, start: 32, length: 0 };
+        for start in 32..entries.len() {
+            let run = entries[start..].iter().zip(entries[start]..).take_while(|(entry, scalar)| *entry == scalar && *entry != 0);
+            let length = run.count();
+            if length > usize::from(longest.length) {
+                longest = ByteRun { scalar: entries[start], start: start as u8, length: length as u8 };
+            }
+        }
+        longest
+    }
+}
+
 /// `struct legacy_indexes`.
 #[repr(C)]
 struct IndexSlices {
@@ -39,6 +63,7 @@ struct IndexSlices {
     katakana: Slice<u16>,
     ranges: Slice<Range>,
     single_byte: Slice<u16>,
+    single_byte_run: ByteRun,
 }
 
 extern "C" {
@@ -63,6 +88,28 @@ extern "C" {
         piece: usize,
         times: usize,
     ) -> usize;
+
+    fn legacy_encode_from_utf8(
+        codec: u32,
+        indexes: *const IndexSlices,
+        source: *const u8,
+        source_length: usize,
+        output: *mut u8,
+        output_length: usize,
+        piece: usize,
+        times: usize,
+    ) -> usize;
+
+    fn legacy_encode_from_utf16(
+        codec: u32,
+        indexes: *const IndexSlices,
+        source: *const u16,
+        source_length: usize,
+        output: *mut u8,
+        output_length: usize,
+        piece: usize,
+        times: usize,
+    ) -> usize;
 }
 
 /// The indexes that a codec reads by; the others are empty.
@@ -73,6 +120,7 @@ struct Indexes {
     jis0208: Vec<u16>,
     jis0212: Vec<u16>,
     gb18030: Vec<u16>,
+    katakana: Vec<u16>,
     ranges: Vec<Range>,
     single_byte: Vec<u16>,
 }
@@ -89,9 +137,10 @@ impl Indexes {
             numbers::LEGACY_EUC_JP => {
                 Indexes { jis0208: indexes::jis0208(), jis0212: indexes::jis0212(), ..none }
             }
-            numbers::LEGACY_ISO_2022_JP | numbers::LEGACY_SHIFT_JIS => {
-                Indexes { jis0208: indexes::jis0208(), ..none }
+            numbers::LEGACY_ISO_2022_JP => {
+                Indexes { jis0208: indexes::jis0208(), katakana: indexes::katakana(), ..none }
             }
+            numbers::LEGACY_SHIFT_JIS => Indexes { jis0208: indexes::jis0208(), ..none },
             numbers::LEGACY_EUC_KR => Indexes { euc_kr: indexes::euc_kr(), ..none },
             numbers::LEGACY_SINGLE_BYTE => Indexes { single_byte: indexes::single_byte(encoding), ..none },
             _ => none,
@@ -105,9 +154,10 @@ impl Indexes {
             jis0208: Slice::from(&self.jis0208),
             jis0212: Slice::from(&self.jis0212),
             gb18030: Slice::from(&self.gb18030),
-            katakana: Slice::from(&Vec::new()),
+            katakana: Slice::from(&self.katakana),
             ranges: Slice::from(&self.ranges),
             single_byte: Slice::from(&self.single_byte),
+            single_byte_run: ByteRun::longest(&self.single_byte),
         }
     }
 }
@@ -155,6 +205,36 @@ impl Ours {
     pub fn to_utf16(&self, source: &[u8], output: &mut [u16], piece: usize, times: usize) -> usize {
         unsafe {
             legacy_decode_to_utf16(
+                self.codec,
+                &self.indexes.slices(),
+                source.as_ptr(),
+                source.len(),
+                output.as_mut_ptr(),
+                output.len(),
+                piece,
+                times,
+            )
+        }
+    }
+
+    pub fn from_utf8(&self, source: &[u8], output: &mut [u8], piece: usize, times: usize) -> usize {
+        unsafe {
+            legacy_encode_from_utf8(
+                self.codec,
+                &self.indexes.slices(),
+                source.as_ptr(),
+                source.len(),
+                output.as_mut_ptr(),
+                output.len(),
+                piece,
+                times,
+            )
+        }
+    }
+
+    pub fn from_utf16(&self, source: &[u16], output: &mut [u8], piece: usize, times: usize) -> usize {
+        unsafe {
+            legacy_encode_from_utf16(
                 self.codec,
                 &self.indexes.slices(),
                 source.as_ptr(),

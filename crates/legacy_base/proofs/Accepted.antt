@@ -19,7 +19,7 @@ use Rattle.legacy_base.specs.Indexes.{FlatIndexes, entry_scalar, idx, range, las
 use Rattle.legacy_base.specs.Unicode.{AreScalars}
 use Rattle.legacy_base.specs.Tables.{index_list, is_narrow_index}
 use Rattle.legacy_base.specs.TableChecks.{is_narrow_entry, is_entry, entry_fault, entries_fault, index_fault, katakana_fault, range_order_fault, AreAccepted}
-use Rattle.legacy_base.specs.TableChecks.{follows_range, next_pointer, has_range_scalars, range_value_fault, table_fault}
+use Rattle.legacy_base.specs.TableChecks.{follows_range, next_pointer, has_range_scalars, range_value_fault, rows_fault, table_fault}
 
 -- ---- no fault among two, and none at a test
 
@@ -54,6 +54,7 @@ pub record Parts (flat : FlatIndexes) : Type 0 where
   pub katakana : entries_fault names.Katakana 0 flat.katakana ≡ None
   pub ordered : range_order_fault 0 None flat.ranges ≡ None
   pub valued : range_value_fault 0 flat.ranges ≡ None
+  pub private_use : rows_fault 0 None flat.gb18030_pua ≡ None
 
 pub parts : (flat : FlatIndexes) → AreAccepted flat → Parts flat
 unfolding table_fault
@@ -65,6 +66,7 @@ parts flat e =
     let f = or_none (index_fault names.Gb18030 23940 flat.gb18030) _ d.1 in
     let g = or_none (katakana_fault flat.katakana) _ f.1 in
     let h = or_none (range_order_fault 0 None flat.ranges) _ g.1 in
+    let i = or_none (range_value_fault 0 flat.ranges) _ h.1 in
     record {
       big5 = index_parts names.Big5 19782 _ a.0;
       euc_kr = index_parts names.EucKr 23940 _ b.0;
@@ -73,7 +75,8 @@ parts flat e =
       gb18030 = index_parts names.Gb18030 23940 _ f.0;
       katakana = (taken _ KatakanaLength (entries_fault names.Katakana 0 flat.katakana) g.0).1;
       ordered = h.0;
-      valued = h.1;
+      valued = i.0;
+      private_use = i.1;
     }
 
 -- ---- entries: what 0 is, and what each is that may stand there

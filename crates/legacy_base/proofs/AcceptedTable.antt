@@ -65,7 +65,7 @@ module _ (table : List ℕ) (accepted : IsAcceptedTable table) where
   pub table-below : All (λ c. c < 0x1_0000) table
   table-below = all_bytes _ (omega arith) byte-below 0 [] table accepted
 
-  within : (place c : ℕ) → get_or table place 0 ≡ c → c ≢ 0 → place < length table
+  pub within : (place c : ℕ) → get_or table place 0 ≡ c → c ≢ 0 → place < length table
   within place c e n = elim (cases_lt place (length table)) [ inl h ↦ h | inr h ↦ absurd (n (sym e ∙ get_or_past table place 0 h)) ]
 
   -- the first place of a scalar is the one that holds it

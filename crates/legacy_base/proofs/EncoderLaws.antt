@@ -4,8 +4,9 @@ use Rattle.std.proofs.lemmas.Bool.{cond_both}
 use Rattle.legacy_base.specs.declared.results.EncodeEvent.TheVariants.{Byte}
 use Rattle.legacy_base.specs.EncodingForm.{EncodingForm, Utf8, Utf16}
 use Rattle.legacy_base.specs.EncodeEvents.{plain_events}
-use Rattle.legacy_base.specs.EncoderProfile.{EncoderProfile, EncoderMode, plain_encoder}
-use Rattle.legacy_base.specs.Encoders.{Codec, single_byte, user_defined, big5, euc_kr, shift_jis, euc_jp, gb18030, gbk, encoder_profile, EncoderState, encoded, end_bytes, encoder_need, encoder_formula, encoder_answer, encoder_room}
+use Rattle.legacy_base.specs.EncoderProfile.{EncoderProfile, EncoderMode, in_ascii, in_roman, in_two_byte, plain_encoder}
+use Rattle.legacy_base.specs.Encoders.{Codec, single_byte, user_defined, big5, euc_kr, shift_jis, euc_jp, gb18030, gbk, iso_2022_jp, encoder_profile, EncoderState, encoded, end_bytes, encoder_need, encoder_formula, encoder_answer, encoder_room}
+use Rattle.legacy_base.specs.Iso2022Jp.{iso_2022_jp_encoder, iso_2022_jp_text_events, mode_behind}
 use Rattle.legacy_base.specs.Lengths.{Formula, number, ◌⊕◌, ◌⊗◌, value}
 use Rattle.legacy_base.proofs.Enough.{answer-value}
 
@@ -41,21 +42,37 @@ plain_laws code past from_utf8 from_utf16 few rises8 rises16 = record {
 
 -- ---- the codecs
 
--- a codec of one byte or two
+-- one byte a scalar
+byte_laws : (code : ℕ → Option (List ℕ)) → HasLaws (plain_encoder code 1 (λ n. n) (λ n. n))
+byte_laws code = plain_laws code 1 _ _ (omega arith) (λ m n h. h) (λ m n h. h)
+
+-- one byte, or a lead and a trail
 pair_laws : (code : ℕ → Option (List ℕ)) → HasLaws (plain_encoder code 2 (λ n. n ⊕ number 1) (λ n. number 2 ⊗ n))
-pair_laws code = plain_laws code 2 (λ n. n ⊕ number 1) (λ n. number 2 ⊗ n) (omega arith) (λ m n h. omega arith) (λ m n h. omega arith)
+pair_laws code = plain_laws code 2 _ _ (omega arith) (λ m n h. omega arith) (λ m n h. omega arith)
+
+-- escapes between runs of bytes
+iso_2022_jp_laws : (jis0208 katakana : List ℕ) → HasLaws (iso_2022_jp_encoder jis0208 katakana)
+unfolding iso_2022_jp_text_events mode_behind
+iso_2022_jp_laws jis0208 katakana = record {
+  ended = λ mode. refl;
+  scalar_fits = λ c. omega arith;
+  end_fits = elim [ in_ascii ↦ omega arith | in_roman ↦ omega arith | in_two_byte ↦ omega arith ];
+  rises = elim [
+    | Utf8 ↦ elim [ in_ascii ↦ λ m n h. omega arith | in_roman ↦ λ m n h. omega arith | in_two_byte ↦ λ m n h. omega arith ]
+    | Utf16 ↦ elim [ in_ascii ↦ λ m n h. omega arith | in_roman ↦ λ m n h. omega arith | in_two_byte ↦ λ m n h. omega arith ]
+  ];
+}
 
 pub encoder_laws : (codec : Codec) → HasLaws (encoder_profile codec)
-encoder_laws (single_byte table) = plain_laws _ 1 (λ n. n) (λ n. n) (omega arith) (λ m n h. h) (λ m n h. h)
-encoder_laws user_defined = plain_laws _ 1 (λ n. n) (λ n. n) (omega arith) (λ m n h. h) (λ m n h. h)
+encoder_laws (single_byte table) = byte_laws _
+encoder_laws user_defined = byte_laws _
 encoder_laws (big5 index) = pair_laws _
 encoder_laws (euc_kr index) = pair_laws _
 encoder_laws (shift_jis jis0208) = pair_laws _
 encoder_laws (euc_jp jis0208 jis0212) = pair_laws _
-encoder_laws (gb18030 index ranges pua) =
-    plain_laws _ 4 (λ n. number 2 ⊕ number 2 ⊗ n) (λ n. number 4 ⊗ n) (omega arith) (λ m n h. omega arith) (λ m n h. omega arith)
-encoder_laws (gbk index ranges pua) =
-    plain_laws _ 4 (λ n. n ⊕ number 3) (λ n. number 2 ⊕ number 2 ⊗ n) (omega arith) (λ m n h. omega arith) (λ m n h. omega arith)
+encoder_laws (gb18030 index ranges pua) = plain_laws _ 4 _ _ (omega arith) (λ m n h. omega arith) (λ m n h. omega arith)
+encoder_laws (gbk index ranges pua) = plain_laws _ 4 _ _ (omega arith) (λ m n h. omega arith) (λ m n h. omega arith)
+encoder_laws (iso_2022_jp jis0208 katakana) = iso_2022_jp_laws jis0208 katakana
 
 -- ---- the same of a state
 

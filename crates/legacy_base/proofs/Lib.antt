@@ -9,12 +9,14 @@ pub mod Enough
 pub mod EncoderLaws
 pub mod Iso2022JpParts
 pub mod Iso2022JpFronts
+pub mod Iso2022JpEncoding
 pub mod TableLoops
 pub mod FirstPlaces
 pub mod Pointers
 pub mod Accepted
 pub mod RangePointers
 pub mod PointerBounds
+pub mod PrivateUse
 pub mod AcceptedTable
 pub mod Ascii
 pub mod Texts

@@ -11,7 +11,7 @@ use Rattle.std.specs.List.{list_any}
 use Rattle.std.specs.Option.{option_or}
 use Rattle.legacy_base.specs.declared.tables.IndexName.{IndexName}
 use Rattle.legacy_base.specs.declared.tables.TableError.TheVariants.{RangeOrder, RangeValue}
-use Rattle.legacy_base.specs.TableChecks.{entry_fault, entries_fault, follows_range, range_order_fault, next_pointer, has_range_scalars, range_value_fault, byte_entry_fault, byte_entries_fault}
+use Rattle.legacy_base.specs.TableChecks.{entry_fault, entries_fault, follows_range, range_order_fault, next_pointer, has_range_scalars, range_value_fault, row_fault, rows_fault, byte_entry_fault, byte_entries_fault}
 
 -- ---- the entries of an index
 
@@ -49,6 +49,19 @@ module _ (ranges : List (ℕ × ℕ)) (place : ℕ) where
   pub value_end : length ranges ≤ place → range_value_fault place (drop place ranges) ≡ None
   unfolding range_value_fault
   value_end h = rw (drop_of_length-le ranges h) refl
+
+-- ---- private-use rows
+
+module _ (rows : List (ℕ × ℕ × ℕ)) (place : ℕ) (before : Option ℕ) where
+  pub rows_next : place < length rows →
+      rows_fault place before (drop place rows)
+      ≡ option_or (row_fault place before (get_or rows place (0, 0, 0))) (rows_fault (place + 1) (Some (get_or rows place (0, 0, 0)).0) (drop (place + 1) rows))
+  unfolding rows_fault
+  rows_next h = rw (drop-cons rows place (0, 0, 0) h, add-one) refl
+
+  pub rows_end : length rows ≤ place → rows_fault place before (drop place rows) ≡ None
+  unfolding rows_fault
+  rows_end h = rw (drop_of_length-le rows h) refl
 
 -- ---- the entries of a single-byte table, those before them last first
 

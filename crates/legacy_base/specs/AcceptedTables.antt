@@ -10,9 +10,10 @@ use base.Stored.{coded_sub}
 use Rattle.legacy_base.specs.Indexes.{FlatIndexes}
 use Rattle.legacy_base.specs.TableChecks.{AreAccepted, IsAcceptedTable, table_fault, single_byte_fault}
 
--- seven lists as indexes
-abbrev pub flat_lists : List ℕ → List ℕ → List ℕ → List ℕ → List ℕ → List ℕ → List (ℕ × ℕ) → FlatIndexes
-flat_lists big5 euc_kr jis0208 jis0212 gb18030 katakana ranges = record {
+-- eight lists as indexes
+abbrev pub flat_lists :
+    List ℕ → List ℕ → List ℕ → List ℕ → List ℕ → List ℕ → List (ℕ × ℕ) → List (ℕ × ℕ × ℕ) → FlatIndexes
+flat_lists big5 euc_kr jis0208 jis0212 gb18030 katakana ranges gb18030_pua = record {
   big5 = big5;
   euc_kr = euc_kr;
   jis0208 = jis0208;
@@ -20,6 +21,7 @@ flat_lists big5 euc_kr jis0208 jis0212 gb18030 katakana ranges = record {
   gb18030 = gb18030;
   katakana = katakana;
   ranges = ranges;
+  gb18030_pua = gb18030_pua;
 }
 
 -- indexes that passed the check
@@ -61,13 +63,21 @@ module _ {A : Type 0} where
 abbrev numbers : Coded (List ℕ)
 numbers = coded_list coded_ℕ
 
--- indexes are stored as their seven lists
+-- pairs of numbers, and rows of three
+abbrev pairs : Coded (List (ℕ × ℕ))
+pairs = coded_list (coded× coded_ℕ coded_ℕ)
+
+abbrev rows : Coded (List (ℕ × ℕ × ℕ))
+rows =
+    coded_list (code_by (ℕ × (ℕ × ℕ)) (coded× coded_ℕ (coded× coded_ℕ coded_ℕ)) (λ r. (r.0, (r.1, r.2))) (λ t. (t.0, t.1.0, t.1.1)) (λ _. refl))
+
+-- indexes are stored as their eight lists
 abbrev coded_flat : Coded FlatIndexes
 coded_flat =
-    code_by (List ℕ × (List ℕ × (List ℕ × (List ℕ × (List ℕ × (List ℕ × List (ℕ × ℕ)))))))
-    (coded× numbers (coded× numbers (coded× numbers (coded× numbers (coded× numbers (coded× numbers (coded_list (coded× coded_ℕ coded_ℕ))))))))
-    (λ f. (f.big5, (f.euc_kr, (f.jis0208, (f.jis0212, (f.gb18030, (f.katakana, f.ranges)))))))
-    (λ t. flat_lists t.0 t.1.0 t.1.1.0 t.1.1.1.0 t.1.1.1.1.0 t.1.1.1.1.1.0 t.1.1.1.1.1.1)
+    code_by (List ℕ × (List ℕ × (List ℕ × (List ℕ × (List ℕ × (List ℕ × (List (ℕ × ℕ) × List (ℕ × ℕ × ℕ))))))))
+    (coded× numbers (coded× numbers (coded× numbers (coded× numbers (coded× numbers (coded× numbers (coded× pairs rows)))))))
+    (λ f. (f.big5, (f.euc_kr, (f.jis0208, (f.jis0212, (f.gb18030, (f.katakana, (f.ranges, f.gb18030_pua))))))))
+    (λ t. flat_lists t.0 t.1.0 t.1.1.0 t.1.1.1.0 t.1.1.1.1.0 t.1.1.1.1.1.0 t.1.1.1.1.1.1.0 t.1.1.1.1.1.1.1)
     (λ _. refl)
 
 -- accepted indexes are stored as their lists

@@ -6,7 +6,7 @@ use Rattle.std.specs.Int.{is_in_range}
 use Rattle.legacy_base.specs.declared.tables.IndexName.{IndexName}
 use Rattle.legacy_base.specs.declared.tables.IndexName.TheVariants as names
 use Rattle.legacy_base.specs.declared.tables.TableError.{TableError}
-use Rattle.legacy_base.specs.declared.tables.TableError.TheVariants.{TooLong, BadEntry, NotEmpty, KatakanaLength, RangeOrder, RangeValue, BadByteEntry, Repeated}
+use Rattle.legacy_base.specs.declared.tables.TableError.TheVariants.{TooLong, BadEntry, NotEmpty, KatakanaLength, RangeOrder, RangeValue, PuaOrder, PuaScalar, PuaBytes, BadByteEntry, Repeated}
 use Rattle.legacy_base.specs.Indexes.{FlatIndexes}
 
 -- ---- entries
@@ -82,6 +82,35 @@ range_value_fault place (r ∷ ranges) =
     if has_range_scalars r (next_pointer ranges) then range_value_fault (place + 1) ranges
     else Some (RangeValue place)
 
+-- ---- private-use rows of GB18030: a scalar, a lead and a trail
+
+-- behind the scalar of the row before, if there is one, comes a higher one
+abbrev pub follows_scalar : Option ℕ → ℕ → Bool
+follows_scalar None c = true
+follows_scalar (Some before) c = nat_lt before c
+
+-- a private-use scalar that a row may have; U+E5E5 has no bytes in GB18030
+abbrev pub is_row_scalar : ℕ → Bool
+is_row_scalar c = is_in_range 0xE000 0xF8FF c && not (c == 0xE5E5)
+
+-- a lead and a trail of a form of two bytes
+abbrev pub are_row_bytes : ℕ → ℕ → Bool
+are_row_bytes lead trail =
+    is_in_range 0x81 0xFE lead && (is_in_range 0x40 0x7E trail || is_in_range 0x80 0xFE trail)
+
+-- what is wrong with a row, where the scalar before it is this one
+abbrev pub row_fault : ℕ → Option ℕ → ℕ × ℕ × ℕ → Option TableError
+row_fault place before r =
+    if not (follows_scalar before r.0) then Some (PuaOrder place)
+    else if not (is_row_scalar r.0) then Some (PuaScalar place)
+    else if not (are_row_bytes r.1 r.2) then Some (PuaBytes place)
+    else None
+
+-- the first fault of rows from the place on, where the scalar before them is this one
+unfoldable pub rows_fault : ℕ → Option ℕ → List (ℕ × ℕ × ℕ) → Option TableError
+rows_fault place before [] = None
+rows_fault place before (r ∷ rows) = option_or (row_fault place before r) (rows_fault (place + 1) (Some r.0) rows)
+
 -- ---- all indexes
 
 -- the first fault, in the order of the fields
@@ -94,7 +123,8 @@ table_fault flat =
     (option_or (index_fault names.Gb18030 23940 flat.gb18030)
     (option_or (katakana_fault flat.katakana)
     (option_or (range_order_fault 0 None flat.ranges)
-    (range_value_fault 0 flat.ranges)))))))
+    (option_or (range_value_fault 0 flat.ranges)
+    (rows_fault 0 None flat.gb18030_pua))))))))
 
 -- the indexes are accepted
 abbrev pub AreAccepted : FlatIndexes → Type 0

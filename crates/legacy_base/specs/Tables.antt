@@ -9,7 +9,8 @@ use Rattle.legacy_base.specs.AcceptedTables.{flat_lists}
 -- the flat lists of handed-in indexes
 abbrev pub flat_indexes : Indexes → FlatIndexes
 flat_indexes indexes =
-    flat_lists indexes.big5.now indexes.euc_kr.now indexes.jis0208.now indexes.jis0212.now indexes.gb18030.now indexes.katakana.now indexes.ranges.now
+    flat_lists indexes.big5.now indexes.euc_kr.now indexes.jis0208.now indexes.jis0212.now
+    indexes.gb18030.now indexes.katakana.now indexes.ranges.now indexes.gb18030_pua.now
 
 -- the index of a name; the ranges are none
 abbrev pub index_list : FlatIndexes → IndexName → List ℕ

@@ -6,7 +6,9 @@ ghost use Rattle.legacy_base.specs.TableChecks.{AreAccepted};
 pub(crate) mod checks;
 pub(crate) mod lookups;
 pub(crate) mod pointers;
+pub(crate) mod private_use;
 
+pub use private_use::GB18030_2022_PUA;
 use std::fmt;
 use std::marker::Model;
 use thiserror::Error;
@@ -66,6 +68,16 @@ pub enum TableError {
     /// The range at the place has a scalar below U+0080, past U+FFFF, or a surrogate.
     #[error("range {0} has a bad scalar")]
     RangeValue(usize),
+    /// The scalar of the private-use row at the place is not above the one of the row before.
+    #[error("private-use row {0} is out of order")]
+    PuaOrder(usize),
+    /// The scalar of the private-use row at the place is none of U+E000 to U+F8FF, or is U+E5E5.
+    #[error("private-use row {0} has a bad scalar")]
+    PuaScalar(usize),
+    /// The bytes of the private-use row at the place are no lead and trail of GB18030: the lead is
+    /// none of 81 to FE, or the trail none of 40 to 7E and 80 to FE.
+    #[error("private-use row {0} has bad bytes")]
+    PuaBytes(usize),
     /// The entry at the place is not 0 and no scalar that a single-byte table may hold.
     #[error("single-byte entry {0} is bad")]
     BadByteEntry(usize),
@@ -96,6 +108,10 @@ pub struct Indexes<'a> {
     /// `p + 1` the scalar `s + 1`, and so on, up to the pointer before the next range's, or up to
     /// 39419. The range from 189000 on is none of them: it is always there.
     pub ranges: &'a [(u16, u16)],
+    /// The private-use rows of GB18030's encoder, by rising scalars. `(s, lead, trail)` gives the
+    /// scalar value `s` these two bytes. `GB18030_2022_PUA` are the standard's. No decoder reads
+    /// them.
+    pub gb18030_pua: &'a [(u16, u8, u8)],
 }
 
 /// Indexes that passed the check. They are seen as the flat lists that were handed in.
@@ -108,9 +124,10 @@ pub struct Tables<'a> {
     gb18030: &'a [u16],
     katakana: &'a [u16],
     ranges: &'a [(u16, u16)],
+    gb18030_pua: &'a [(u16, u8, u8)],
     likely_places: [u8; 154],
     ghost accepted: { AreAccepted (flat_lists big5.now euc_kr.now jis0208.now jis0212.now
-        gb18030.now katakana.now ranges.now) },
+        gb18030.now katakana.now ranges.now gb18030_pua.now) },
 }
 
 impl<'a> Model for Tables<'a> {
@@ -122,13 +139,13 @@ impl<'a> Model for Tables<'a> {
 
     ghost view = { λ t. record {
       flat = flat_lists t.big5.now t.euc_kr.now t.jis0208.now t.jis0212.now
-          t.gb18030.now t.katakana.now t.ranges.now;
+          t.gb18030.now t.katakana.now t.ranges.now t.gb18030_pua.now;
       accepted = t.accepted;
     } };
 }
 
 impl<'a> Tables<'a> {
-    ghost use Rattle.legacy_base.specs.Indexes.{idx, range};
+    ghost use Rattle.legacy_base.specs.Indexes.{idx, range, gb18030_pua_of};
     ghost use Rattle.legacy_base.specs.TableChecks.{table_fault};
     ghost use Rattle.legacy_base.specs.Tables.{flat_indexes, index_list};
     ghost use Rattle.legacy_base.specs.Pointers.{big5_pointer_of, euc_kr_pointer_of};
@@ -139,7 +156,9 @@ impl<'a> Tables<'a> {
 
     /// The tables of the indexes, or the first fault. The indexes are checked in the order of the
     /// fields: the length first, then the entries by rising pointers; of the ranges the order
-    /// first. Empty indexes are accepted. It takes no memory, and the slices stay borrowed.
+    /// first; of the private-use rows, which come last, all of a row at once: its order, its
+    /// scalar, its bytes. Empty indexes are accepted. It takes no memory, and the slices stay
+    /// borrowed.
     #[tactic(auto, unfolding(crate::specs::TableChecks::table_fault))]
     pub fn new(indexes: &Indexes<'a>) -> Result<Tables<'a>, TableError>
         ensures { MatchResult result
@@ -154,6 +173,7 @@ impl<'a> Tables<'a> {
         checks::check_katakana(indexes.katakana)?;
         checks::check_range_order(indexes.ranges)?;
         checks::check_range_scalars(indexes.ranges)?;
+        private_use::check_rows(indexes.gb18030_pua)?;
         Ok(Tables {
             big5: indexes.big5,
             euc_kr: indexes.euc_kr,
@@ -162,6 +182,7 @@ impl<'a> Tables<'a> {
             gb18030: indexes.gb18030,
             katakana: indexes.katakana,
             ranges: indexes.ranges,
+            gb18030_pua: indexes.gb18030_pua,
             likely_places: lookups::likely_places(indexes.ranges),
         })
     }
@@ -223,8 +244,8 @@ impl<'a> Tables<'a> {
         pointers::shift_jis_pointer(self.jis0208, scalar)
     }
 
-    /// The pointer that the EUC-JP and ISO-2022-JP encoders take for the scalar value: the first one
-    /// in index jis0208, or `None` where there is none below 8836, the last one of their forms
+    /// The pointer that the EUC-JP and ISO-2022-JP encoders take for the scalar value: the first
+    /// one in index jis0208, or `None` where there is none below 8836, where their forms end
     /// (Encoding Standard, "index pointer"). It searches the index.
     pub fn euc_jp_pointer(&self, scalar: char) -> Option<usize>
         ensures pointer { result ≡ euc_jp_pointer_of self.now.flat.jis0208 scalar }
@@ -233,8 +254,8 @@ impl<'a> Tables<'a> {
         pointers::euc_jp_pointer(self.jis0208, scalar)
     }
 
-    /// The first pointer of the scalar value in index gb18030, or `None` where it has none (Encoding
-    /// Standard, "index pointer"). It searches the index.
+    /// The first pointer of the scalar value in index gb18030, or `None` where it has none
+    /// (Encoding Standard, "index pointer"). It searches the index.
     pub fn gb18030_pointer(&self, scalar: char) -> Option<usize>
         ensures pointer { result ≡ gb18030_pointer_of self.now.flat.gb18030 scalar }
         ensures within { IfSome result (λ p. p < 23940) }
@@ -251,5 +272,13 @@ impl<'a> Tables<'a> {
         ensures within { IfSome result (λ p. p < 1237576) }
     {
         pointers::range_pointer(self.ranges, scalar)
+    }
+
+    /// The lead and the trail that a private-use row gives the scalar value, or `None` where no row
+    /// has it (Encoding Standard, "gb18030 encoder"). It is a binary search.
+    pub fn gb18030_pua_bytes(&self, scalar: char) -> Option<(u8, u8)>
+        ensures { result ≡ gb18030_pua_of self.now.flat.gb18030_pua scalar }
+    {
+        private_use::row_bytes(self.gb18030_pua, scalar)
     }
 }

@@ -1,2 +1,3 @@
 //! Big5.
 pub mod decoder;
+pub mod encoder;

@@ -1,6 +1,7 @@
 //! gb18030, and GBK, whose decoder is the same.
 pub mod decoder;
 pub mod digit;
+pub mod encoder;
 pub mod four_places;
 pub mod fours;
 pub mod pair_places;

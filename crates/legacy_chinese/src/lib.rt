@@ -6,4 +6,6 @@ mod big5;
 mod gb18030;
 
 pub use big5::decoder::{Big5, Big5Decoder};
+pub use big5::encoder::Big5Encoder;
 pub use gb18030::decoder::Gb18030Decoder;
+pub use gb18030::encoder::Gb18030Encoder;

@@ -1,6 +1,6 @@
 -- Where a run stands, and the numbers of which its driver speaks.
 use Rattle.std.proofs.Common.{◌≡◌, ◌∙◌, ℕ, zero, suc, ◌+◌, ◌-◌, ◌≤◌, ◌<◌, List, [], ◌∷◌, length, drop, get_or, map, Bool, true, false, IsTrue, leb, inl, inr}
-use Rattle.std.proofs.Common.{refl, sym, ap, arith, drop-cons, add-one}
+use Rattle.std.proofs.Common.{refl, sym, arith, drop-cons, add-one}
 use Rattle.std.proofs.lemmas.Bool.{true≢false, false≢true, cases_lt, le-leb, lt-leb}
 use Rattle.std.proofs.lemmas.Grind.{common_steps}
 use Rattle.std.proofs.lemmas.List.Sums.{sum_by-cons}

@@ -16,13 +16,17 @@ mod texts;
 pub use decode_run::{DecodeRun, decode_run_utf8, decode_run_utf16};
 pub use encode_run::{EncodeRun, encode_run_utf8, encode_run_utf16};
 pub use legacy_base::{
-    ByteSource, DecodeEvent, DecoderResult, Destination, EncodeEvent, EncoderResult, IndexName,
-    Indexes, Next, RawDecoder, RawEncoder, SingleByteTable, Source, TableError, Tables,
-    Utf8Destination, Utf8Source, Utf16Destination, Utf16Source,
+    ByteSource, DecodeEvent, DecoderResult, Destination, EncodeEvent, EncoderResult,
+    GB18030_2022_PUA, IndexName, Indexes, Next, RawDecoder, RawEncoder, SingleByteTable, Source,
+    TableError, Tables, Utf8Destination, Utf8Source, Utf16Destination, Utf16Source,
 };
 pub use legacy_decoders::{
     Big5Decoder, EucJpDecoder, EucKrDecoder, Gb18030Decoder, Iso2022JpDecoder, ReplacementDecoder,
     ShiftJisDecoder, SingleByteDecoder, UserDefinedDecoder, Utf16Decoder,
+};
+pub use legacy_encoders::{
+    Big5Encoder, EucJpEncoder, EucKrEncoder, Gb18030Encoder, Iso2022JpEncoder, ShiftJisEncoder,
+    SingleByteEncoder, SingleByteRunError, UserDefinedEncoder,
 };
 pub use references::{encode_replacing_utf8, encode_replacing_utf16};
 pub use replacing::{decode_replacing_utf8, decode_replacing_utf16};

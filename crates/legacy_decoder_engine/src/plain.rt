@@ -43,7 +43,7 @@ pub trait PlainCodec {
 
     ghost narrow: { is_narrow_index INDEX ≡ true };
 
-    // what `plain_codec` of `proofs/PlainShown` gives
+    // The lemma `plain_codec` (`proofs/PlainShown`) gives it, where leads are past ASCII.
     ghost codec: { IsLeadCodec (λ flat. plain leads pointers (index_list flat INDEX)) leads
         (lead_first leads) (λ flat. pair_scalars pointers (index_list flat INDEX)) };
 }

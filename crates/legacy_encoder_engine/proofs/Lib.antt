@@ -1,3 +1,4 @@
 -- What the loops stand on.
 pub mod CallUnderWay
 pub mod PlainServes
+pub mod PairAnswers

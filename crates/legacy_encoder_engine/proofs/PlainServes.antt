@@ -1,6 +1,7 @@
 -- The codecs without modes: their rooms serve for their scalars, and their moves are the codes of these.
 use Rattle.std.proofs.Common.{◌≡◌, ◌∙◌, ℕ, ◌+◌, ◌-◌, ◌≤◌, ◌<◌, List, [], ◌∷◌, ◌++◌, length, not, refl, sym, ap, subst, arith, Bool, true, false, Some, None, Option, cond, option_map, ltb, inl, inr}
 use Rattle.std.proofs.lemmas.Bool.{cases_lt, lt-ltb, le-ltb}
+use Rattle.std.specs.Option.{option_or}
 use Rattle.legacy_base.specs.declared.results.EncodeEvent.{EncodeEvent}
 use Rattle.legacy_base.specs.declared.results.EncodeEvent.TheVariants as events
 use Rattle.legacy_base.specs.EncodingForm.{EncodingForm, Utf8, Utf16, unit_count}
@@ -8,7 +9,7 @@ use Rattle.legacy_base.specs.EncodeEvents.{code_events, code_length, plain_event
 use Rattle.legacy_base.specs.EncoderProfile.{EncoderMode, in_ascii, in_roman, in_two_byte, EncoderProfile, plain_encoder}
 use Rattle.legacy_base.specs.Encoders.{Codec, encoder_profile, EncoderState, new_encoder, code, encoded, is_pending, scalar_room}
 use Rattle.legacy_base.specs.Profile.{is_empty}
-use Rattle.legacy_base.specs.Lengths.{Formula, number, ◌⊕◌, ◌⊗◌, value}
+use Rattle.legacy_base.specs.Lengths.{Formula, number, value}
 use Rattle.legacy_base.proofs.CodeUnits.{encode_2, encode_3, encode_4}
 use Rattle.legacy_base.proofs.SameUnits.{some_unit}
 use Rattle.legacy_encoder_engine.specs.declared.moves.EncoderMove.{EncoderMove}
@@ -180,48 +181,6 @@ module _ (codec : Codec) (past : ℕ) (p : IsPlainCodec codec past) where
   pub never_pending : is_pending S ≡ false
   never_pending = ap (λ l. not (is_empty l)) acts_plainly.never_ends
 
--- ---- the formulas of the codecs: for codes of one byte, for pairs, and those of GBK and GB18030
-
-pub byte_lengths : HasPlainLengths 1 1 (λ n. n) (λ n. n)
-byte_lengths = record {
-  fits = (omega arith, omega arith);
-  low16 = λ u t own p q. omega arith;
-  enough16 = λ u t p. omega arith;
-  ascii8 = λ u t own p q. omega arith;
-  low8 = λ u t own p q. omega arith;
-  enough8 = λ u t p. omega arith;
-}
-
-pub pair_lengths : HasPlainLengths 2 2 (λ n. n ⊕ number 1) (λ n. number 2 ⊗ n)
-pair_lengths = record {
-  fits = (omega arith, omega arith);
-  low16 = λ u t own p q. omega arith;
-  enough16 = λ u t p. omega arith;
-  ascii8 = λ u t own p q. omega arith;
-  low8 = λ u t own p q. omega arith;
-  enough8 = λ u t p. omega arith;
-}
-
-pub gbk_lengths : HasPlainLengths 4 2 (λ n. n ⊕ number 3) (λ n. number 2 ⊕ number 2 ⊗ n)
-gbk_lengths = record {
-  fits = (omega arith, omega arith);
-  low16 = λ u t own p q. omega arith;
-  enough16 = λ u t p. omega arith;
-  ascii8 = λ u t own p q. omega arith;
-  low8 = λ u t own p q. omega arith;
-  enough8 = λ u t p. omega arith;
-}
-
-pub gb18030_lengths : HasPlainLengths 4 4 (λ n. number 2 ⊕ number 2 ⊗ n) (λ n. number 4 ⊗ n)
-gb18030_lengths = record {
-  fits = (omega arith, omega arith);
-  low16 = λ u t own p q. omega arith;
-  enough16 = λ u t p. omega arith;
-  ascii8 = λ u t own p q. omega arith;
-  low8 = λ u t own p q. omega arith;
-  enough8 = λ u t p. omega arith;
-}
-
 -- ---- how many bytes codes have
 
 pub short_if : (t : Bool) (a b : Option (List ℕ)) (n : ℕ) → code_length a ≤ n → code_length b ≤ n → code_length (cond t a b) ≤ n
@@ -231,6 +190,10 @@ short_if false a b n p q = q
 pub short_map : {A : Type 0} (f : A → List ℕ) (o : Option A) (n : ℕ) → ((p : A) → length (f p) ≤ n) → code_length (option_map f o) ≤ n
 short_map f None n h = omega arith
 short_map f (Some p) n h = h p
+
+pub short_or : (a b : Option (List ℕ)) (n : ℕ) → code_length a ≤ n → code_length b ≤ n → code_length (option_or a b) ≤ n
+short_or None b n p q = q
+short_or (Some x) b n p q = p
 
 -- past ASCII
 pub short_past : (c : ℕ) (a b : Option (List ℕ)) (n : ℕ) → 128 ≤ c → code_length b ≤ n → code_length (cond (ltb c 128) a b) ≤ n

@@ -3,3 +3,5 @@ pub mod Moves
 pub mod Serves
 pub mod UnderWay
 pub mod PlainCodecs
+pub mod PlainLengths
+pub mod PairCodecs

@@ -28,7 +28,7 @@ fn put_code<C: PlainCodes>(encoder: &C, dst: &mut [u8], at: usize, c: char) -> O
     requires { at + scalar_room (new_encoder (C.codec encoder.now)) c ≤ length dst.old }
     ensures { MatchOption result (take at dst.new ≡ take at dst.old)
         (λ end. PutsCode (new_encoder (C.codec encoder.now)) c (take at dst.old) at
-            (take end dst.new) end) }
+        (take end dst.new) end) }
 {
     let step = encoder.code_of(c);
     if !has_bytes(step) {

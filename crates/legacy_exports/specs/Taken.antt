@@ -1,11 +1,13 @@
 -- What of a caller's indexes is taken.
-use Rattle.std.specs.Prelude.{◌≡◌, ◌≤◌, ℕ, List, length, map}
+use Rattle.std.specs.Prelude.{◌≡◌, ◌≤◌, ℕ, List, length, map, None, true}
 use Rattle.legacy_base.specs.Indexes.{FlatIndexes}
 use Rattle.legacy_base.specs.AcceptedTables.{flat_lists}
+use Rattle.legacy_base.specs.declared.tables.private_use.TheConstants.{GB18030_2022_PUA}
 use Rattle.legacy_base.specs.TableChecks.{AreAccepted, IsAcceptedTable}
+use Rattle.legacy_single_byte.specs.SingleByteRun.{single_byte_run_fault}
 use Rattle.legacy_exports.specs.declared.codec.Codec.{Codec}
 use Rattle.legacy_exports.specs.declared.codec.Codec.TheVariants.{SingleByte}
-use Rattle.legacy_exports.specs.Codecs.{number_of}
+use Rattle.legacy_exports.specs.Codecs.{number_of, has_encoder}
 use Rattle.legacy_exports.specs.declared.indexes.IndexRange.{IndexRange}
 use Rattle.legacy_exports.specs.declared.indexes.IndexSlices.{IndexSlices}
 
@@ -13,10 +15,11 @@ use Rattle.legacy_exports.specs.declared.indexes.IndexSlices.{IndexSlices}
 abbrev pub range_pair : IndexRange → ℕ × ℕ
 range_pair range = (range.pointer, range.scalar)
 
--- the handed-in indexes of pointers, with these pairs as ranges
+-- the handed-in indexes of pointers, with these pairs as ranges and the private-use rows of GB18030-2022
 abbrev pub indexes_with : IndexSlices → List (ℕ × ℕ) → FlatIndexes
 indexes_with slices ranges =
     flat_lists slices.big5.now slices.euc_kr.now slices.jis0208.now slices.jis0212.now slices.gb18030.now slices.katakana.now ranges
+    GB18030_2022_PUA
 
 -- the index of a single-byte encoding is accepted
 abbrev pub IsTakenTable : List ℕ → Type 0
@@ -28,6 +31,28 @@ AreTaken codec slices =
     (length slices.ranges.now ≤ 256)
     × AreAccepted (indexes_with slices (map range_pair slices.ranges.now))
     × (codec ≡ SingleByte → IsTakenTable slices.single_byte.now)
+
+-- the index and the run of a single-byte encoding are accepted
+abbrev pub IsTakenRun : IndexSlices → Type 0
+IsTakenRun slices =
+    IsTakenTable slices.single_byte.now
+    × (single_byte_run_fault slices.single_byte.now slices.single_byte_run.scalar slices.single_byte_run.start slices.single_byte_run.length ≡ None)
+
+-- the codec has an encoder, and the indexes are accepted for it
+abbrev pub AreTakenToEncode : Codec → IndexSlices → Type 0
+AreTakenToEncode codec slices =
+    (length slices.ranges.now ≤ 256)
+    × AreAccepted (indexes_with slices (map range_pair slices.ranges.now))
+    × (codec ≡ SingleByte → IsTakenRun slices)
+    × (has_encoder codec ≡ true)
+
+-- a codec with an encoder has the number, and the indexes are taken for it
+abbrev pub IsTakenToEncode : ℕ → IndexSlices → Type 0
+IsTakenToEncode number slices = (codec : Codec) × (number_of codec ≡ number) × AreTakenToEncode codec slices
+
+-- no codec with an encoder has the number, or the indexes are not taken for it
+abbrev pub IsRefusedToEncode : ℕ → IndexSlices → Type 0
+IsRefusedToEncode number slices = IsTakenToEncode number slices → ⊥
 
 -- a codec has the number, and the indexes are taken for it
 abbrev pub IsTaken : ℕ → IndexSlices → Type 0

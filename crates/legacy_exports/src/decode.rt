@@ -19,7 +19,7 @@ use legacy_decoders::{
 pub fn decode<U: CodeUnit>(
     codec: Codec,
     indexes: &IndexSlices,
-    reading: Reading,
+    reading: Reading<&[u8]>,
     output: &mut [U],
 ) -> Option<usize>
     ensures units { IfSome result (λ written. written ≤ length output.new) }
@@ -64,7 +64,7 @@ pub fn decode<U: CodeUnit>(
 pub fn decode_by_number<U: CodeUnit>(
     number: u32,
     indexes: &IndexSlices,
-    reading: Reading,
+    reading: Reading<&[u8]>,
     output: &mut [U],
 ) -> usize
     ensures units { (result ≤ length output.new) ⊎ (result ≡ 0xFFFF_FFFF_FFFF_FFFF) }

@@ -3,7 +3,7 @@ ghost use Rattle.std.specs.Prelude.{◌≡◌, ◌≤◌, ◌↔◌, length, map
 ghost use Rattle.legacy_base.specs.Tables.{flat_indexes};
 ghost use Rattle.legacy_exports.specs.Taken.{indexes_with, range_pair, IsTakenTable};
 
-use legacy_base::{Indexes, SingleByteTable};
+use legacy_base::{GB18030_2022_PUA, Indexes, SingleByteTable};
 
 /// A range of index gb18030 ranges: its first pointer and its first scalar.
 #[repr(C)]
@@ -12,6 +12,18 @@ pub struct IndexRange {
     pub pointer: u16,
     /// The scalar.
     pub scalar: u16,
+}
+
+/// A run of a single-byte encoding: its places from `start` on, `length` of them, hold the scalars from `scalar`
+/// upwards. Its encoder finds these without a search.
+#[repr(C)]
+pub struct ByteRun {
+    /// The first scalar.
+    pub scalar: u16,
+    /// The first place, from 32 on.
+    pub start: u8,
+    /// How many places; none is a run too.
+    pub length: u8,
 }
 
 /// Flat indexes, not checked yet: entry `p` is the scalar of pointer `p`, and 0 where it has none. Those
@@ -34,6 +46,8 @@ pub struct IndexSlices<'a> {
     pub ranges: &'a [IndexRange],
     /// The index of a single-byte encoding: the scalars of the bytes from 80 on.
     pub single_byte: &'a [u16],
+    /// The run that the encoder of the single-byte encoding takes.
+    pub single_byte_run: ByteRun,
 }
 
 /// The most ranges that are taken.
@@ -54,7 +68,7 @@ pub fn range_pairs(ranges: &[IndexRange]) -> [(u16, u16); RANGE_LIMIT]
     pairs
 }
 
-/// The indexes of pointers, with these ranges.
+/// The indexes of pointers, with these ranges and the private-use rows of GB18030-2022.
 pub fn with_ranges<'a: 'r, 'r>(slices: &IndexSlices<'a>, ranges: &'r [(u16, u16)]) -> Indexes<'r>
     ensures { flat_indexes result ≡ indexes_with slices.now ranges.now }
 {
@@ -66,6 +80,7 @@ pub fn with_ranges<'a: 'r, 'r>(slices: &IndexSlices<'a>, ranges: &'r [(u16, u16)
         gb18030: slices.gb18030,
         katakana: slices.katakana,
         ranges,
+        gb18030_pua: &GB18030_2022_PUA,
     }
 }
 

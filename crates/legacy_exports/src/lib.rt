@@ -1,23 +1,27 @@
-//! The decoders as two functions that a program in another language can call, so that it can time them:
-//! one to UTF-8 and one to UTF-16, of a codec by its number. `bench/legacy_codecs.h` declares them.
+//! The codecs as four functions that a program in another language can call, so that it can time them: to UTF-8
+//! and to UTF-16, and from either, of a codec by its number. `bench/legacy_codecs.h` declares them.
 //!
-//! Each decodes the whole source so many times in pieces of so many bytes (0: in one piece), and answers
-//! how many code units it wrote to the output the last time. One decoder decodes all of them: it goes on
-//! from one time to the next. For a malformed sequence it writes U+FFFD, and it stops where the output
-//! is full. Where no codec has the number, or the indexes are refused, it writes nothing and answers
-//! `usize::MAX`.
+//! Each converts the whole source so many times in pieces of so many code units (0: in one piece), and answers
+//! how many code units it wrote to the output the last time. One decoder or encoder converts all of them: it goes
+//! on from one time to the next. For a malformed sequence U+FFFD is written, and a question mark for a scalar that
+//! the encoding does not have; it stops where the output is full. Where no codec has the number, or the indexes
+//! are refused, nothing is written and the answer is `usize::MAX`.
 #![tactic(auto)]
 
-ghost use Rattle.std.specs.Prelude.{◌≡◌, ◌≤◌, ◌⊎◌, length};
-ghost use Rattle.legacy_exports.specs.Taken.{IsRefused, IsTaken};
+ghost use Rattle.std.specs.Prelude.{◌≡◌, ◌≤◌, ◌⊎◌, length, true};
+ghost use Rattle.std.specs.Str.{is_utf8};
+ghost use Rattle.legacy_exports.specs.Taken.{IsRefused, IsRefusedToEncode, IsTaken, IsTakenToEncode};
 
 mod codec;
 mod decode;
+mod encode;
 mod indexes;
 mod pieces;
+mod texts;
 mod unit;
 
 use crate::decode::decode_by_number;
+use crate::encode::encode_by_number;
 use crate::indexes::IndexSlices;
 use crate::pieces::Reading;
 
@@ -63,4 +67,52 @@ pub extern "C" fn legacy_decode_to_utf16(
         times,
     };
     decode_by_number(codec, indexes, reading, output)
+}
+
+/// Encodes the source, a text in UTF-8, by the codec of this number. A source that is no UTF-8 is refused.
+#[unsafe(no_mangle)]
+pub extern "C" fn legacy_encode_from_utf8(
+    codec: u32,
+    indexes: &IndexSlices,
+    source: &[u8],
+    output: &mut [u8],
+    piece: usize,
+    times: usize,
+) -> usize
+    ensures units { (result ≤ length output.new) ⊎ (result ≡ 0xFFFF_FFFF_FFFF_FFFF) }
+    ensures refused { IsRefusedToEncode codec indexes.now → result ≡ 0xFFFF_FFFF_FFFF_FFFF }
+    ensures taken { IsTakenToEncode codec indexes.now → is_utf8 source.now ≡ true →
+        result ≤ length output.new }
+{
+    let Ok(text) = std::str::from_utf8(source) else {
+        return usize::MAX;
+    };
+    let reading = Reading {
+        source: text,
+        piece,
+        times,
+    };
+    encode_by_number(codec, indexes, reading, output)
+}
+
+/// Encodes the source, a text in UTF-16, by the codec of this number. An unpaired surrogate counts as U+FFFD.
+#[unsafe(no_mangle)]
+pub extern "C" fn legacy_encode_from_utf16(
+    codec: u32,
+    indexes: &IndexSlices,
+    source: &[u16],
+    output: &mut [u8],
+    piece: usize,
+    times: usize,
+) -> usize
+    ensures units { (result ≤ length output.new) ⊎ (result ≡ 0xFFFF_FFFF_FFFF_FFFF) }
+    ensures taken { IsTakenToEncode codec indexes.now → result ≤ length output.new }
+    ensures refused { IsRefusedToEncode codec indexes.now → result ≡ 0xFFFF_FFFF_FFFF_FFFF }
+{
+    let reading = Reading {
+        source,
+        piece,
+        times,
+    };
+    encode_by_number(codec, indexes, reading, output)
 }

@@ -4,11 +4,11 @@ ghost use Rattle.std.specs.Prelude.{◌≡◌, ◌≤◌, length};
 use crate::unit::CodeUnit;
 use legacy_base::{DecoderResult, RawDecoder};
 
-/// How a source is read: in pieces of so many bytes (0: in one piece), and so many times.
+/// How a source is read: in pieces of so many code units (0: in one piece), and so many times.
 #[derive(Clone, Copy)]
-pub struct Reading<'a> {
-    /// The bytes.
-    pub source: &'a [u8],
+pub struct Reading<S: Copy> {
+    /// The bytes of a decoder, or the text of an encoder.
+    pub source: S,
     /// The length of a piece.
     pub piece: usize,
     /// How often.
@@ -16,7 +16,7 @@ pub struct Reading<'a> {
 }
 
 /// The end of a piece of so many bytes, where 0 stands for all that is left.
-fn piece_end(read: usize, len: usize, piece: usize) -> usize
+pub fn piece_end(read: usize, len: usize, piece: usize) -> usize
     requires { read ≤ len }
     ensures most { result ≤ len }
     ensures least { read ≤ result }
@@ -70,7 +70,7 @@ fn decode_once<U: CodeUnit, D: RawDecoder>(
 #[inline(always)]
 pub fn decode_times<U: CodeUnit, D: RawDecoder>(
     decoder: &mut D,
-    reading: Reading,
+    reading: Reading<&[u8]>,
     output: &mut [U],
 ) -> usize
     ensures { result ≤ length output.new }

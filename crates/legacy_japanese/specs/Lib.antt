@@ -1,4 +1,5 @@
--- How the decoders work inside: nothing here has to be believed. What they promise is said by legacy_base.
+-- How the codecs work inside: nothing here has to be believed. What they promise is said by legacy_base.
+pub mod EucJpCodes
 pub mod EucJpHeld
 pub mod EucJpDecoder
 pub mod EucJpMachine
@@ -6,7 +7,9 @@ pub mod Iso2022JpMachine
 pub mod Iso2022JpMoves
 pub mod Iso2022JpDecoder
 pub mod Iso2022JpRuns
+pub mod Iso2022JpEncoder
 pub mod Jis0208Places
+pub mod ShiftJisCodes
 pub mod ShiftJisMachine
 pub mod ShiftJisPlaces
 pub mod ShiftJisShown

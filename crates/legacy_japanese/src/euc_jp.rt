@@ -1,3 +1,4 @@
 //! EUC-JP.
 pub mod decoder;
+pub mod encoder;
 pub mod lead;

@@ -3,9 +3,13 @@
 #![tactic(auto)]
 
 mod euc_jp;
+mod folds;
 mod iso_2022_jp;
 mod shift_jis;
 
 pub use euc_jp::decoder::EucJpDecoder;
+pub use euc_jp::encoder::{EucJp, EucJpEncoder};
 pub use iso_2022_jp::decoder::Iso2022JpDecoder;
+pub use iso_2022_jp::encoder::Iso2022JpEncoder;
 pub use shift_jis::decoder::{ShiftJis, ShiftJisDecoder};
+pub use shift_jis::encoder::ShiftJisEncoder;

@@ -1,4 +1,5 @@
 //! Shift_JIS.
 pub mod decoder;
+pub mod encoder;
 pub mod lead;
 pub mod places;

@@ -1,3 +1,4 @@
 //! EUC-KR.
 pub mod decoder;
+pub mod encoder;
 pub mod places;

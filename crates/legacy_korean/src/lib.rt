@@ -5,3 +5,4 @@
 mod euc_kr;
 
 pub use euc_kr::decoder::{EucKr, EucKrDecoder};
+pub use euc_kr::encoder::EucKrEncoder;

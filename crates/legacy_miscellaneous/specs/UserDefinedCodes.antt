@@ -6,7 +6,8 @@ use Rattle.legacy_base.specs.EncodeEvents.{code_length}
 use Rattle.legacy_base.specs.UserDefined.{user_defined_code}
 use Rattle.legacy_base.specs.Encoders.{user_defined}
 use Rattle.legacy_encoder_engine.specs.PlainCodecs.{IsPlainCodec}
-use Rattle.legacy_encoder_engine.proofs.PlainServes.{byte_lengths, short_past, short_if}
+use Rattle.legacy_encoder_engine.specs.PlainLengths.{byte_lengths}
+use Rattle.legacy_encoder_engine.proofs.PlainServes.{short_past, short_if}
 
 short : (c : ℕ) → 128 ≤ c → code_length (user_defined_code c) ≤ 1
 unfolding user_defined_code

@@ -6,6 +6,7 @@ use Rattle.legacy_base.specs.Iso2022Jp.{ascii}
 use Rattle.legacy_base.specs.States.{DecoderState, new_state}
 use Rattle.legacy_base.specs.Indexes.{FlatIndexes}
 use Rattle.legacy_base.specs.AcceptedTables.{flat_lists}
+use Rattle.legacy_base.specs.declared.tables.private_use.TheConstants.{GB18030_2022_PUA}
 use Rattle.legacy_base.specs.TableChecks.{AreAccepted, IsAcceptedTable}
 use Rattle.legacy_recode.specs.declared.words.CodecWord.{CodecWord}
 use Rattle.legacy_recode.specs.declared.words.CodecWord.TheVariants as codec
@@ -37,10 +38,11 @@ abbrev pub RecodesInput : Grammar → Option (List ℕ) → Option (List ℕ) �
 RecodesInput grammar input_old input_new output_old output_new =
     (after : DecoderState) × RecodesAll (new_state grammar) after input_old input_new output_old output_new
 
--- the flat lists of indexes; there is no file of the katakana index
+-- the flat lists of indexes; there is no file of the katakana index, and none of the private-use rows
 abbrev pub flat_of : GivenIndexes → FlatIndexes
 flat_of tables =
     flat_lists tables.big5.items tables.euc_kr.items tables.jis0208.items tables.jis0212.items tables.gb18030.items [] tables.ranges.items
+    GB18030_2022_PUA
 
 -- All indexes passed the check, those too that the codec does not use, and the input was recoded by the codec over them.
 abbrev pub RecodesByTables : CodecWord → GivenIndexes → Option (List ℕ) → Option (List ℕ) → Option (List ℕ) → Option (List ℕ) → Type 0

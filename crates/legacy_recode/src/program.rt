@@ -1,18 +1,19 @@
 //! What the program does with its words, its files and its streams.
-ghost use Rattle.std.specs.Prelude.{◌≡◌, ◌↔◌, ◌≤◌, OnOk, None, IsTrue};
+ghost use Rattle.std.specs.Prelude.{◌≡◌, ◌↔◌, ◌≤◌, IfOk, OnOk, None, IsTrue};
 ghost use Rattle.legacy_base.specs.Grammar.{Grammar};
 ghost use Rattle.legacy_base.specs.States.{new_state};
 ghost use Rattle.legacy_recode.specs.Words.{texts_of, are_indexes, codec_of_words};
 ghost use Rattle.legacy_recode.specs.IndexTexts.{contents_of, text_given};
-ghost use Rattle.legacy_recode.specs.Program.{grammar_of, RecodesInput, RecodesByTables, RecodesByTexts, RecodesByWords};
+ghost use Rattle.legacy_recode.specs.Program.{grammar_of, flat_of, RecodesInput, RecodesByTables};
+ghost use Rattle.legacy_recode.specs.Program.{RecodesByTexts, RecodesByWords};
 
 use crate::given_indexes::{GivenIndexes, read_files};
 use crate::recode::{RecodeError, recode};
 use crate::words::{CodecWord, codec_in};
 use legacy_codecs::{
-    Big5Decoder, EucJpDecoder, EucKrDecoder, Gb18030Decoder, Indexes, Iso2022JpDecoder, RawDecoder,
-    ReplacementDecoder, ShiftJisDecoder, SingleByteDecoder, SingleByteTable, TableError, Tables,
-    UserDefinedDecoder, Utf16Decoder,
+    Big5Decoder, EucJpDecoder, EucKrDecoder, GB18030_2022_PUA, Gb18030Decoder, Indexes,
+    Iso2022JpDecoder, RawDecoder, ReplacementDecoder, ShiftJisDecoder, SingleByteDecoder,
+    SingleByteTable, TableError, Tables, UserDefinedDecoder, Utf16Decoder,
 };
 use std::alloc::Global;
 use std::io::{Read, Write};
@@ -108,6 +109,22 @@ fn decode_and_flush<R: Read, W: Write>(
     }
 }
 
+/// The tables of the indexes and of the private-use rows of GB18030-2022, or the first fault.
+fn tables_of(indexes: &GivenIndexes) -> Result<Tables<'_>, TableError>
+    ensures { IfOk result (λ tables. tables.flat ≡ flat_of indexes.now) }
+{
+    Tables::new(&Indexes {
+        big5: &indexes.big5,
+        euc_kr: &indexes.euc_kr,
+        jis0208: &indexes.jis0208,
+        jis0212: &indexes.jis0212,
+        gb18030: &indexes.gb18030,
+        katakana: &[],
+        ranges: &indexes.ranges,
+        gb18030_pua: &GB18030_2022_PUA,
+    })
+}
+
 /// Checks the indexes, and recodes the input by the codec.
 fn check_and_decode<'a, R: Read, W: Write>(
     codec: CodecWord,
@@ -119,15 +136,7 @@ fn check_and_decode<'a, R: Read, W: Write>(
         (R.remaining input.old) (R.remaining input.new)
         (W.contents output.old) (W.contents output.new)) }
 {
-    let tables = match Tables::new(&Indexes {
-        big5: &indexes.big5,
-        euc_kr: &indexes.euc_kr,
-        jis0208: &indexes.jis0208,
-        jis0212: &indexes.jis0212,
-        gb18030: &indexes.gb18030,
-        katakana: &[],
-        ranges: &indexes.ranges,
-    }) {
+    let tables = match tables_of(indexes) {
         Ok(tables) => tables,
         Err(fault) => return Err(Fault::Tables(fault)),
     };

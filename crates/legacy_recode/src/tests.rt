@@ -1,7 +1,9 @@
 //! What no clause says: the texts, the statuses 1, and what stands where a read, a write or memory fails.
 use crate::program::{Fault, run};
 use crate::recode::{RecodeError, recode};
-use legacy_codecs::{EucKrDecoder, Indexes, RawDecoder, Tables, UserDefinedDecoder};
+use legacy_codecs::{
+    EucKrDecoder, GB18030_2022_PUA, Indexes, RawDecoder, Tables, UserDefinedDecoder,
+};
 use std::io::{self, Error, ErrorKind, Read, Write};
 use std::process::Abort;
 use std::test::Fail;
@@ -247,6 +249,7 @@ fn places_count_behind_what_was_held_back(rt: HostRuntime) -> Result<(), Fail> {
         gb18030: &[],
         katakana: &[],
         ranges: &[],
+        gb18030_pua: &GB18030_2022_PUA,
     };
     let Ok(tables) = Tables::new(&indexes) else {
         assert!(rt; false);

@@ -1,4 +1,5 @@
--- How each decoder takes the steps of its machine, and each machine keeps to its grammar.
+-- How the decoder takes the steps of its machine, which keeps to its grammar, and what the encoder's run shows.
+pub mod EncoderRuns
 pub mod Latin1Fronts
 pub mod SingleByteMeets
 pub mod SingleByteShown

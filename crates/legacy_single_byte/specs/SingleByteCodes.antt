@@ -5,7 +5,8 @@ use Rattle.legacy_base.specs.EncodeEvents.{code_length}
 use Rattle.legacy_base.specs.SingleByte.{single_byte_code}
 use Rattle.legacy_base.specs.Encoders.{single_byte}
 use Rattle.legacy_encoder_engine.specs.PlainCodecs.{IsPlainCodec}
-use Rattle.legacy_encoder_engine.proofs.PlainServes.{byte_lengths, short_past, short_map}
+use Rattle.legacy_encoder_engine.specs.PlainLengths.{byte_lengths}
+use Rattle.legacy_encoder_engine.proofs.PlainServes.{short_past, short_map}
 
 short : (table : List ℕ) (c : ℕ) → 128 ≤ c → code_length (single_byte_code table c) ≤ 1
 unfolding single_byte_code

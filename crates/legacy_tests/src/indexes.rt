@@ -1,8 +1,8 @@
 //! Tables to test with, their indexes, and the entries of a single-byte table.
-use legacy_base::{Indexes, SingleByteTable, Tables};
+use legacy_base::{GB18030_2022_PUA, Indexes, SingleByteTable, Tables};
 use std::process::Abort;
 
-/// Indexes without an entry.
+/// Indexes without an entry, and the private-use rows of GB18030-2022.
 pub(crate) fn no_entries<'a>() -> Indexes<'a> {
     Indexes {
         big5: &[],
@@ -12,6 +12,7 @@ pub(crate) fn no_entries<'a>() -> Indexes<'a> {
         gb18030: &[],
         katakana: &[],
         ranges: &[],
+        gb18030_pua: &GB18030_2022_PUA,
     }
 }
 

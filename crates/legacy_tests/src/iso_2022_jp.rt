@@ -1,4 +1,6 @@
 //! ISO-2022-JP.
+mod encoder;
+
 use crate::events::bad;
 use crate::indexes::{no_entries, tables_of};
 use crate::rows::Row::{

@@ -1,14 +1,21 @@
 //! Tests of the libraries by their public calls, in a crate of their own: the tests of a crate are proved
 //! beside all of that crate, and these need none of it.
 //!
-//! Each codec has one file, with rows of calls and what must come of them. `rows` follows the rows of a
-//! decoder, and a row that does not hold is printed with what came of it beside what was wanted.
+//! Each codec has one file for its decoder and, in its folder, one for its encoder, with rows of calls and what
+//! must come of them. `rows` and `encoder_rows` follow the rows, and a row that does not hold is printed with what
+//! came of it beside what was wanted.
 #![tactic(auto)]
 
 #[cfg(test)]
 mod big5;
 #[cfg(test)]
 mod destinations;
+#[cfg(test)]
+mod encode_events;
+#[cfg(test)]
+mod encode_runs;
+#[cfg(test)]
+mod encoder_rows;
 #[cfg(test)]
 mod euc_jp;
 #[cfg(test)]

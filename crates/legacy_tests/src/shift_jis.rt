@@ -1,4 +1,6 @@
 //! Shift_JIS.
+mod encoder;
+
 use crate::events::bad;
 use crate::indexes::{no_entries, tables_of};
 use crate::rows::Row::{BareLength, Decoder, Events, Neutral, ToUtf8, Utf8Length, Utf16Length};

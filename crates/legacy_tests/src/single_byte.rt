@@ -1,4 +1,6 @@
 //! The single-byte codecs.
+mod encoder;
+
 use crate::events::{Found, bad};
 use crate::indexes::{byte_table_of, entries_of};
 use crate::rows::Row::{BareLength, Decoder, Events, ToUtf8, Utf8Length, Utf16Length};

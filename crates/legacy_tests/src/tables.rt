@@ -169,6 +169,7 @@ fn a_pointer_has_its_entry_in_the_named_index(rt: HostRuntime) {
             gb18030: &[0x4E02, 0x4E04],
             katakana: &[],
             ranges: &[],
+            gb18030_pua: &[],
         },
     );
     for (name, pointer, wanted) in POINTERS {

@@ -1,4 +1,6 @@
 //! x-user-defined.
+mod encoder;
+
 use crate::rows::Row::{BareLength, Decoder, Events, ToUtf8, ToUtf16, Utf8Length, Utf16Length};
 use crate::rows::{Row, Tested, follow};
 use legacy_base::DecodeEvent::Scalar;

@@ -30,7 +30,12 @@ fn entry(table: &SingleByteTable, place: usize) -> usize
 }
 
 /// How far behind `start` the table first holds another value than the scalars from `scalar` upwards.
-fn first_mismatch(table: &SingleByteTable, scalar: usize, start: usize, count: usize) -> Option<usize>
+fn first_mismatch(
+    table: &SingleByteTable,
+    scalar: usize,
+    start: usize,
+    count: usize,
+) -> Option<usize>
     requires scalar { scalar + count ≤ 0x2_0000 }
     requires start { start + count ≤ 128 }
     ensures { result ≡ first_mismatch table.now.entries scalar start count }

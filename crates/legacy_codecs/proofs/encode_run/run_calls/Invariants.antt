@@ -1,4 +1,4 @@
-use Rattle.std.proofs.Common.{◌≤◌, ◌+◌, ◌<◌, drop, length, sum, map, vec_len, All, false}
+use Rattle.std.proofs.Common.{◌≤◌, ◌+◌, drop, length, sum, map, vec_len, All, false}
 use Rattle.std.specs.Prelude.{vec_capacity}
 use Rattle.legacy_codecs.specs.Pieces.{place_before}
 use Rattle.legacy_codecs.specs.EncodeRuns.{EncodeReaches}

@@ -2,11 +2,15 @@ use Rattle.std.proofs.Common.{◌≡◌, ◌+◌, ◌≤◌, length, take, drop,
 use Rattle.std.proofs.lemmas.List.{take-append-drop}
 use Rattle.legacy_base.specs.Encoders.{new_encoder}
 use Rattle.legacy_encoder_engine.proofs.CallUnderWay.{keeps_none, keeps_then, keeps_ascii, front_length, front_units}
-use Rattle.legacy_encoder_engine.proofs.PlainServes.{plain_serves, plain_ascii}
+use Rattle.legacy_encoder_engine.proofs.PlainServes.{plain_serves, plain_ascii, widest_room}
 use Rattle.legacy_encoder_engine.proofs.runs.read_runs.Goals as goal
 
 pub loop-at-init : goal.loop-at-init
 loop-at-init g c = (keeps_none (new_encoder (g.C.PlainCodes.codec c.args.encoder.now)) (length c.args.dst.now) (g.S.Source.left c.args.src.now) (take c.args.start c.args.dst.now), omega arith, omega arith, refl)
+
+pub read_scalars-end-requires-clause-room : goal.read_scalars-end-requires-clause-room
+read_scalars-end-requires-clause-room g c =
+    λ x. omega (arith, widest_room (g.C.PlainCodes.codec c.args.encoder.now) g.C.PlainCodes.past (g.C.PlainCodes.plain c.args.encoder.now) x, c.past_room-widest.ensures)
 
 pub returns-then-end-at-clause-keeps : goal.returns-then-end-at-clause-keeps
 returns-then-end-at-clause-keeps g c =
@@ -61,3 +65,7 @@ loop-at-preserved g c =
       omega (arith, c.read_scalars-end.ensures.end),
       omega (arith, c.read_scalars-end.ensures.passed, e.passed, units', i.3),
     )
+
+pub read_scalars-end-requires-clause-room : goal.read_scalars-end-requires-clause-room
+read_scalars-end-requires-clause-room g c =
+    rw c.past_room-widest.ensures (widest_room (g.C.PlainCodes.codec c.args.encoder.now) g.C.PlainCodes.past (g.C.PlainCodes.plain c.args.encoder.now))

@@ -1,0 +1,17 @@
+-- What is shown of the codes of Big5.
+use Rattle.std.proofs.Common.{ℕ, ◌≤◌, List, [], ◌∷◌, Some, refl, arith}
+use Rattle.std.proofs.lemmas.Bool.{lt-ltb}
+use Rattle.legacy_base.specs.EncodeEvents.{code_length}
+use Rattle.legacy_base.specs.Pointers.{big5_pointer_of}
+use Rattle.legacy_base.specs.Big5.{big5_code, big5_bytes}
+use Rattle.legacy_base.specs.Encoders.{big5}
+use Rattle.legacy_encoder_engine.specs.PairCodecs.{IsPairCodec}
+use Rattle.legacy_encoder_engine.proofs.PlainServes.{short_past, short_map}
+
+short : (index : List ℕ) (c : ℕ) → 128 ≤ c → code_length (big5_code index c) ≤ 2
+unfolding big5_code
+short index c h = short_past c _ _ 2 h (short_map big5_bytes (big5_pointer_of index c) 2 (λ p. omega arith))
+
+pub big5_pairs : (index : List ℕ) → IsPairCodec (big5 index)
+unfolding big5_code
+big5_pairs index = record { code = big5_code index; profile_is = refl; ascii = λ c h. rw (lt-ltb c 128 h) refl; short = short index }

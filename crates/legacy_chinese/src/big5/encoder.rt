@@ -1,0 +1,37 @@
+//! The encoder of Big5.
+ghost use Rattle.legacy_base.specs.Encoders.{big5};
+ghost use Rattle.legacy_chinese.specs.Big5Codes.{big5_pairs};
+
+use super::decoder::Big5;
+use legacy_base::Tables;
+use legacy_encoder_engine::moves::EncoderMove;
+use legacy_encoder_engine::pairs::{PairCodec, PairEncoder};
+
+/// The encoder of Big5 (Encoding Standard, "Big5 encoder").
+///
+/// ASCII is itself, and a scalar that index Big5 has behind Hong Kong's supplement, from pointer 5024 on,
+/// is the lead and the trail of a pointer there: of the last one for U+2550, U+255E, U+2561, U+256A,
+/// U+5341 and U+5345, and else of the first. All other scalars are unmappable.
+pub type Big5Encoder<'a> = PairEncoder<'a, Big5>;
+
+impl PairCodec for Big5 {
+    ghost codec = { λ flat. big5 flat.big5 };
+
+    ghost pairs = { λ flat. big5_pairs flat.big5 };
+
+    #[inline]
+    #[tactic(auto, unfolding(legacy_base::specs::Big5::big5_code))]
+    fn code_of(tables: &Tables<'_>, c: char) -> EncoderMove {
+        let code = c as u32;
+        if code < 0x80 {
+            return EncoderMove::One(code as u8);
+        }
+        match tables.big5_pointer(c) {
+            Some(p) => {
+                let offset = if p % 157 < 0x3F { 0x40 } else { 0x62 };
+                EncoderMove::Two((p / 157 + 0x81) as u8, (p % 157 + offset) as u8)
+            }
+            None => EncoderMove::Unmappable(c),
+        }
+    }
+}

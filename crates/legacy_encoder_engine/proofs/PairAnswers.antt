@@ -1,0 +1,13 @@
+-- What the length queries of the codecs of ASCII and pairs answer.
+use Rattle.std.proofs.Common.{◌≡◌, ℕ, Option, ap}
+use Rattle.legacy_base.specs.EncodingForm.{Utf8, Utf16}
+use Rattle.legacy_base.specs.EncoderProfile.{EncoderProfile}
+use Rattle.legacy_base.specs.Encoders.{Codec, new_encoder, encoder_answer}
+use Rattle.legacy_base.specs.Lengths.{number, ◌⊕◌, ◌⊗◌, answer}
+use Rattle.legacy_encoder_engine.specs.PairCodecs.{IsPairCodec}
+
+pub from_utf16 : (codec : Codec) → IsPairCodec codec → (n : ℕ) → encoder_answer Utf16 (new_encoder codec) n ≡ answer (number 2 ⊗ number n)
+from_utf16 codec p n = ap (λ (q : EncoderProfile). answer (q.formula Utf16 (number n))) p.profile_is
+
+pub from_utf8 : (codec : Codec) → IsPairCodec codec → (n : ℕ) → encoder_answer Utf8 (new_encoder codec) n ≡ answer (number n ⊕ number 1)
+from_utf8 codec p n = ap (λ (q : EncoderProfile). answer (q.formula Utf8 (number n))) p.profile_is

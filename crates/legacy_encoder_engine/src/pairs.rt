@@ -1,0 +1,99 @@
+//! The one encoder of the codecs of ASCII and pairs: no code has more than two bytes.
+ghost use Rattle.std.specs.Prelude.{◌≡◌};
+ghost use Rattle.legacy_base.specs.Indexes.{FlatIndexes};
+ghost use Rattle.legacy_base.specs.Encoders.{Codec, encoder_profile, new_encoder};
+ghost use Rattle.legacy_base.specs.Lengths.{answer, number, ◌⊕◌, ◌⊗◌};
+ghost use Rattle.legacy_encoder_engine.specs.Moves.{IsCode};
+ghost use Rattle.legacy_encoder_engine.specs.PairCodecs.{IsPairCodec, pair_encoder_state, pair_plain};
+
+use crate::drive::drive_encoder;
+use crate::moves::EncoderMove;
+use crate::plain_codes::PlainCodes;
+use legacy_base::{EncoderResult, RawEncoder, Source, Tables};
+use std::marker::PhantomData;
+
+/// A codec of ASCII and pairs: all that its encoder does not share.
+pub trait PairCodec {
+    /// The codec, by the flat indexes.
+    ghost codec: { FlatIndexes → Codec };
+
+    /// What is shown of it.
+    ghost pairs: { (flat : FlatIndexes) → IsPairCodec (codec flat) };
+
+    /// The bytes of a scalar, or the scalar itself as unmappable.
+    fn code_of(tables: &Tables<'_>, c: char) -> EncoderMove
+        ensures { IsCode ((encoder_profile (codec tables.now.flat)).code c) c result };
+}
+
+/// The encoder of such a codec. It writes by an index of the tables.
+#[derive(Drop)]
+pub struct PairEncoder<'a, C: PairCodec> {
+    tables: &'a Tables<'a>,
+    codec: PhantomData<C>,
+}
+
+impl<'a, C: PairCodec> PairEncoder<'a, C> {
+    /// An encoder before its first scalar, which writes by the codec's index of the tables.
+    pub fn new(tables: &'a Tables<'a>) -> PairEncoder<'a, C>
+        ensures { pair_encoder_state C.codec result.tables.now ≡ new_encoder
+            (C.codec tables.now.flat) }
+    {
+        PairEncoder {
+            tables,
+            codec: PhantomData,
+        }
+    }
+}
+
+impl<'a, C: PairCodec> PlainCodes for PairEncoder<'a, C> {
+    ghost codec = { λ e. C.codec e.tables.now.flat };
+
+    ghost past = { 2 };
+
+    ghost plain = { λ e. pair_plain (C.codec e.tables.now.flat) (C.pairs e.tables.now.flat) };
+
+    #[inline]
+    fn past_room(&self) -> usize {
+        2
+    }
+
+    #[inline(always)]
+    fn code_of(&self, c: char) -> EncoderMove {
+        C::code_of(self.tables, c)
+    }
+}
+
+/// Twice the number of code units: each is worth a pair.
+fn length_from_utf16(u16_length: usize) -> Option<usize>
+    ensures { result ≡ answer (number 2 ⊗ number u16_length) }
+{
+    u16_length.checked_mul(2)
+}
+
+/// One byte more than the text has: a scalar of two bytes or more may be a pair.
+fn length_from_utf8(byte_length: usize) -> Option<usize>
+    ensures { result ≡ answer (number byte_length ⊕ number 1) }
+{
+    byte_length.checked_add(1)
+}
+
+impl<'a, C: PairCodec> RawEncoder for PairEncoder<'a, C> {
+    ghost state = { λ e. pair_encoder_state C.codec e.tables.now };
+
+    fn step<S: Source>(
+        &mut self,
+        src: &mut S,
+        dst: &mut [u8],
+        last: bool,
+    ) -> (EncoderResult, usize) {
+        drive_encoder(self, src, dst, last)
+    }
+
+    fn max_buffer_length_from_utf16_without_replacement(&self, u16_length: usize) -> Option<usize> {
+        length_from_utf16(u16_length)
+    }
+
+    fn max_buffer_length_from_utf8_without_replacement(&self, byte_length: usize) -> Option<usize> {
+        length_from_utf8(byte_length)
+    }
+}

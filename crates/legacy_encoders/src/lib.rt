@@ -1,0 +1,9 @@
+//! The encoders of the legacy encodings, by name. Each stands in the crate of its chapter of the Encoding
+//! Standard.
+#![tactic(auto)]
+
+pub use legacy_chinese::{Big5Encoder, Gb18030Encoder};
+pub use legacy_japanese::{EucJpEncoder, Iso2022JpEncoder, ShiftJisEncoder};
+pub use legacy_korean::EucKrEncoder;
+pub use legacy_miscellaneous::UserDefinedEncoder;
+pub use legacy_single_byte::{SingleByteEncoder, SingleByteRunError};

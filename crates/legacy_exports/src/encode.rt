@@ -1,0 +1,149 @@
+//! The encoder of a codec.
+ghost use Rattle.std.specs.Prelude.{◌≡◌, ◌≤◌, ◌⊎◌, ◌↔◌, length, IfSome, IsSome};
+ghost use Rattle.legacy_exports.specs.Taken.{AreTakenToEncode, IsRefusedToEncode, IsTakenRun, IsTakenToEncode};
+
+use crate::codec::{Codec, codec_of_number};
+use crate::indexes::{IndexSlices, RANGE_LIMIT, range_pairs, single_byte_table, with_ranges};
+use crate::pieces::Reading;
+use crate::texts::Text;
+use legacy_base::{EncoderResult, RawEncoder, Tables};
+use legacy_encoders::{
+    Big5Encoder, EucJpEncoder, EucKrEncoder, Gb18030Encoder, Iso2022JpEncoder, ShiftJisEncoder,
+    SingleByteEncoder, UserDefinedEncoder,
+};
+
+/// Writes a question mark at a place, and answers the place behind it, or `None` where it has no room.
+fn put_question_mark(output: &mut [u8], at: usize) -> Option<usize>
+    ensures { IfSome result (λ end. end ≤ length output.new) }
+{
+    if at >= output.len() {
+        return None;
+    }
+    output[at] = 0x3F;
+    Some(at + 1)
+}
+
+/// Encodes the text in pieces of so many code units, with a question mark for each scalar that the encoding does
+/// not have, and answers how many bytes it wrote. It stops where the output is full.
+#[inline(always)]
+fn encode_once<T: Text, E: RawEncoder>(
+    encoder: &mut E,
+    text: T,
+    output: &mut [u8],
+    piece: usize,
+) -> usize
+    ensures { result ≤ length output.new }
+{
+    let mut read = 0usize;
+    let mut written = 0;
+    let mut end = text.end_of_piece(0, piece);
+    for _ in 0..u64::MAX {
+        let last = end == text.unit_count();
+        let (answer, more, bytes) = text.encode_raw(
+            encoder,
+            (read, end),
+            &mut output[written..],
+            last,
+        );
+        read = read.saturating_add(more);
+        written += bytes;
+        match answer {
+            EncoderResult::InputEmpty if last => return written,
+            EncoderResult::InputEmpty => end = text.end_of_piece(read, piece),
+            EncoderResult::OutputFull => return written,
+            EncoderResult::Unmappable(_) => match put_question_mark(output, written) {
+                Some(behind) => written = behind,
+                None => return written,
+            },
+        }
+    }
+    written
+}
+
+/// Encodes a text by one encoder as often as it is read, and answers how many bytes it wrote the last time.
+#[inline(always)]
+fn encode_times<T: Text, E: RawEncoder>(
+    encoder: &mut E,
+    reading: Reading<T>,
+    output: &mut [u8],
+) -> usize
+    ensures { result ≤ length output.new }
+{
+    let mut written = 0;
+    for _ in 0..reading.times {
+        written = encode_once(encoder, reading.source, output, reading.piece);
+    }
+    written
+}
+
+// The loop of `encode_times` is inlined here, as that of the decoders is.
+/// Encodes by the codec's encoder, as `encode_times` does, or answers `None` where the codec has none or the
+/// indexes are refused.
+pub fn encode<T: Text>(
+    codec: Codec,
+    indexes: &IndexSlices,
+    reading: Reading<T>,
+    output: &mut [u8],
+) -> Option<usize>
+    ensures units { IfSome result (λ written. written ≤ length output.new) }
+    ensures taken { IsSome result ↔ AreTakenToEncode codec indexes.now }
+{
+    let range_count = indexes.ranges.len();
+    if range_count > RANGE_LIMIT {
+        return None;
+    }
+    let pairs = range_pairs(indexes.ranges);
+    let flat = with_ranges(indexes, &pairs[..range_count]);
+    let Ok(tables) = Tables::new(&flat) else {
+        return None;
+    };
+    let written = match codec {
+        Codec::SingleByte => return encode_single_byte(indexes, reading, output),
+        Codec::Gbk => encode_times(&mut Gb18030Encoder::new(&tables, false), reading, output),
+        Codec::Gb18030 => encode_times(&mut Gb18030Encoder::new(&tables, true), reading, output),
+        Codec::Big5 => encode_times(&mut Big5Encoder::new(&tables), reading, output),
+        Codec::EucJp => encode_times(&mut EucJpEncoder::new(&tables), reading, output),
+        Codec::Iso2022Jp => encode_times(&mut Iso2022JpEncoder::new(&tables), reading, output),
+        Codec::ShiftJis => encode_times(&mut ShiftJisEncoder::new(&tables), reading, output),
+        Codec::EucKr => encode_times(&mut EucKrEncoder::new(&tables), reading, output),
+        Codec::UserDefined => encode_times(&mut UserDefinedEncoder::new(), reading, output),
+        Codec::Replacement | Codec::Utf16Be | Codec::Utf16Le => return None,
+    };
+    Some(written)
+}
+
+/// Encodes by the encoder of the single-byte encoding that is handed in, or answers `None` where its index or its
+/// run is refused.
+fn encode_single_byte<T: Text>(
+    indexes: &IndexSlices,
+    reading: Reading<T>,
+    output: &mut [u8],
+) -> Option<usize>
+    ensures units { IfSome result (λ written. written ≤ length output.new) }
+    ensures taken { IsSome result ↔ IsTakenRun indexes.now }
+{
+    let table = single_byte_table(indexes.single_byte)?;
+    let run = &indexes.single_byte_run;
+    match SingleByteEncoder::new(&table, run.scalar, run.start, run.length) {
+        Ok(mut encoder) => Some(encode_times(&mut encoder, reading, output)),
+        Err(_) => None,
+    }
+}
+
+/// Encodes by the codec of the number, as `encode` does, or answers `usize::MAX` where no codec with an encoder has
+/// the number or the indexes are refused.
+pub fn encode_by_number<T: Text>(
+    number: u32,
+    indexes: &IndexSlices,
+    reading: Reading<T>,
+    output: &mut [u8],
+) -> usize
+    ensures units { (result ≤ length output.new) ⊎ (result ≡ 0xFFFF_FFFF_FFFF_FFFF) }
+    ensures taken { IsTakenToEncode number indexes.now → result ≤ length output.new }
+    ensures refused { IsRefusedToEncode number indexes.now → result ≡ 0xFFFF_FFFF_FFFF_FFFF }
+{
+    let Some(codec) = codec_of_number(number) else {
+        return usize::MAX;
+    };
+    encode(codec, indexes, reading, output).unwrap_or(usize::MAX)
+}

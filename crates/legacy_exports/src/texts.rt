@@ -1,0 +1,85 @@
+//! The texts that encoders read.
+ghost use Rattle.std.specs.Prelude.{◌≡◌, ◌+◌, ◌≤◌, length};
+
+use crate::pieces::piece_end;
+use legacy_base::{EncoderResult, RawEncoder};
+
+/// A text in UTF-8 or in UTF-16, of which pieces are encoded that end between two characters.
+pub trait Text: Copy {
+    /// How many code units the text has.
+    fn unit_count(self) -> usize;
+
+    /// The end of the piece of so many code units from a place on, where 0 stands for all that is left: at the
+    /// next place between two characters.
+    fn end_of_piece(self, start: usize, piece: usize) -> usize;
+
+    /// A call of an encoder with the text from one place to another: answers the result, the code units read
+    /// and the bytes written.
+    fn encode_raw<E: RawEncoder>(
+        self,
+        encoder: &mut E,
+        place: (usize, usize),
+        output: &mut [u8],
+        last: bool,
+    ) -> (EncoderResult, usize, usize)
+        ensures { result.2 ≤ length output.new };
+}
+
+impl Text for &str {
+    fn unit_count(self) -> usize {
+        self.len()
+    }
+
+    fn end_of_piece(self, start: usize, piece: usize) -> usize {
+        let mut end = piece_end(start.min(self.len()), self.len(), piece);
+        while end < self.len() && !self.is_char_boundary(end) {
+            end += 1;
+        }
+        end
+    }
+
+    fn encode_raw<E: RawEncoder>(
+        self,
+        encoder: &mut E,
+        place: (usize, usize),
+        output: &mut [u8],
+        last: bool,
+    ) -> (EncoderResult, usize, usize) {
+        let text = self.get(place.0..place.1).unwrap_or("");
+        encoder.encode_from_utf8_raw(text, output, last)
+    }
+}
+
+/// Whether a pair of surrogates stands around a place.
+fn parts_pair(units: &[u16], place: usize) -> bool {
+    if place == 0 || place >= units.len() {
+        return false;
+    }
+    (units[place - 1] & 0xFC00) == 0xD800 && (units[place] & 0xFC00) == 0xDC00
+}
+
+impl Text for &[u16] {
+    fn unit_count(self) -> usize {
+        self.len()
+    }
+
+    fn end_of_piece(self, start: usize, piece: usize) -> usize {
+        let end = piece_end(start.min(self.len()), self.len(), piece);
+        if parts_pair(self, end) {
+            end + 1
+        } else {
+            end
+        }
+    }
+
+    fn encode_raw<E: RawEncoder>(
+        self,
+        encoder: &mut E,
+        place: (usize, usize),
+        output: &mut [u8],
+        last: bool,
+    ) -> (EncoderResult, usize, usize) {
+        let units = self.get(place.0..place.1).unwrap_or(&[]);
+        encoder.encode_from_utf16_raw(units, output, last)
+    }
+}

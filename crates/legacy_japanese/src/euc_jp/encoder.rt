@@ -1,0 +1,58 @@
+//! The encoder of EUC-JP.
+ghost use Rattle.std.specs.Prelude.{option_map};
+ghost use Rattle.legacy_base.specs.Pointers.{euc_jp_pointer_of, minus_as_hyphen};
+ghost use Rattle.legacy_base.specs.EucJp.{euc_jp_bytes};
+ghost use Rattle.legacy_base.specs.Encoders.{euc_jp};
+ghost use Rattle.legacy_encoder_engine.specs.Moves.{IsCode};
+ghost use Rattle.legacy_japanese.specs.EucJpCodes.{euc_jp_pairs};
+
+use crate::folds::minus_as_hyphen;
+use legacy_base::Tables;
+use legacy_encoder_engine::moves::EncoderMove;
+use legacy_encoder_engine::pairs::{PairCodec, PairEncoder};
+
+/// The codec of EUC-JP.
+pub struct EucJp;
+
+/// The encoder of EUC-JP (Encoding Standard, "EUC-JP encoder").
+///
+/// ASCII is itself, U+00A5 is 5C, U+203E is 7E, and the half-width katakana U+FF61 to U+FF9F are 8E and a
+/// byte A1 to DF. Another scalar that index jis0208 has is the lead and the trail of its first pointer
+/// below 8836, the minus sign U+2212 that of U+FF0D. All other scalars are unmappable: nothing is written
+/// by index jis0212.
+pub type EucJpEncoder<'a> = PairEncoder<'a, EucJp>;
+
+/// The scalar by index jis0208.
+#[inline]
+fn pair_of(tables: &Tables<'_>, c: char) -> EncoderMove
+    ensures { IsCode (option_map euc_jp_bytes
+        (euc_jp_pointer_of tables.now.flat.jis0208 (minus_as_hyphen c))) c result }
+{
+    match tables.euc_jp_pointer(minus_as_hyphen(c)) {
+        Some(p) => EncoderMove::Two((p / 94 + 0xA1) as u8, (p % 94 + 0xA1) as u8),
+        None => EncoderMove::Unmappable(c),
+    }
+}
+
+impl PairCodec for EucJp {
+    ghost codec = { λ flat. euc_jp flat.jis0208 flat.jis0212 };
+
+    ghost pairs = { λ flat. euc_jp_pairs flat.jis0208 flat.jis0212 };
+
+    #[inline]
+    #[tactic(auto, unfolding(legacy_base::specs::EucJp::euc_jp_code))]
+    fn code_of(tables: &Tables<'_>, c: char) -> EncoderMove {
+        let code = c as u32;
+        if code < 0x80 {
+            EncoderMove::One(code as u8)
+        } else if code == 0xA5 {
+            EncoderMove::One(0x5C)
+        } else if code == 0x203E {
+            EncoderMove::One(0x7E)
+        } else if code >= 0xFF61 && code <= 0xFF9F {
+            EncoderMove::Two(0x8E, (0xA1 + (code - 0xFF61)) as u8)
+        } else {
+            pair_of(tables, c)
+        }
+    }
+}

@@ -1,0 +1,62 @@
+//! The encoder of Shift_JIS.
+ghost use Rattle.std.specs.Prelude.{option_map};
+ghost use Rattle.legacy_base.specs.Pointers.{shift_jis_pointer_of, minus_as_hyphen};
+ghost use Rattle.legacy_base.specs.ShiftJis.{shift_jis_bytes};
+ghost use Rattle.legacy_base.specs.Encoders.{shift_jis};
+ghost use Rattle.legacy_encoder_engine.specs.Moves.{IsCode};
+ghost use Rattle.legacy_japanese.specs.ShiftJisCodes.{shift_jis_pairs};
+
+use super::decoder::ShiftJis;
+use crate::folds::minus_as_hyphen;
+use legacy_base::Tables;
+use legacy_encoder_engine::moves::EncoderMove;
+use legacy_encoder_engine::pairs::{PairCodec, PairEncoder};
+
+/// The encoder of Shift_JIS (Encoding Standard, "Shift_JIS encoder").
+///
+/// ASCII and U+0080 are themselves, U+00A5 is 5C, U+203E is 7E, and the half-width katakana U+FF61 to
+/// U+FF9F are the bytes A1 to DF. Another scalar that index jis0208 has is the lead and the trail of its
+/// first pointer there but for 8272 to 8835, the minus sign U+2212 that of U+FF0D. All other scalars are
+/// unmappable.
+pub type ShiftJisEncoder<'a> = PairEncoder<'a, ShiftJis>;
+
+/// The scalar by index jis0208.
+#[inline]
+fn pair_of(tables: &Tables<'_>, c: char) -> EncoderMove
+    ensures { IsCode (option_map shift_jis_bytes
+        (shift_jis_pointer_of tables.now.flat.jis0208 (minus_as_hyphen c))) c result }
+{
+    match tables.shift_jis_pointer(minus_as_hyphen(c)) {
+        Some(p) => {
+            let first = if p / 188 < 0x1F { 0x81 } else { 0xC1 };
+            let second = if p % 188 < 0x3F { 0x40 } else { 0x41 };
+            EncoderMove::Two((p / 188 + first) as u8, (p % 188 + second) as u8)
+        }
+        None => EncoderMove::Unmappable(c),
+    }
+}
+
+impl PairCodec for ShiftJis {
+    ghost codec = { λ flat. shift_jis flat.jis0208 };
+
+    ghost pairs = { λ flat. shift_jis_pairs flat.jis0208 };
+
+    #[inline]
+    #[tactic(auto, unfolding(legacy_base::specs::ShiftJis::shift_jis_code))]
+    fn code_of(tables: &Tables<'_>, c: char) -> EncoderMove {
+        let code = c as u32;
+        if code < 0x80 {
+            EncoderMove::One(code as u8)
+        } else if code == 0x80 {
+            EncoderMove::One(0x80)
+        } else if code == 0xA5 {
+            EncoderMove::One(0x5C)
+        } else if code == 0x203E {
+            EncoderMove::One(0x7E)
+        } else if code >= 0xFF61 && code <= 0xFF9F {
+            EncoderMove::One((0xA1 + (code - 0xFF61)) as u8)
+        } else {
+            pair_of(tables, c)
+        }
+    }
+}

@@ -1,0 +1,17 @@
+-- What is shown of the codes of EUC-KR.
+use Rattle.std.proofs.Common.{ℕ, ◌≤◌, List, [], ◌∷◌, Some, refl, arith}
+use Rattle.std.proofs.lemmas.Bool.{lt-ltb}
+use Rattle.legacy_base.specs.EncodeEvents.{code_length}
+use Rattle.legacy_base.specs.Pointers.{euc_kr_pointer_of}
+use Rattle.legacy_base.specs.EucKr.{euc_kr_code, euc_kr_bytes}
+use Rattle.legacy_base.specs.Encoders.{euc_kr}
+use Rattle.legacy_encoder_engine.specs.PairCodecs.{IsPairCodec}
+use Rattle.legacy_encoder_engine.proofs.PlainServes.{short_past, short_map}
+
+short : (index : List ℕ) (c : ℕ) → 128 ≤ c → code_length (euc_kr_code index c) ≤ 2
+unfolding euc_kr_code
+short index c h = short_past c _ _ 2 h (short_map euc_kr_bytes (euc_kr_pointer_of index c) 2 (λ p. omega arith))
+
+pub euc_kr_pairs : (index : List ℕ) → IsPairCodec (euc_kr index)
+unfolding euc_kr_code
+euc_kr_pairs index = record { code = euc_kr_code index; profile_is = refl; ascii = λ c h. rw (lt-ltb c 128 h) refl; short = short index }

@@ -1,0 +1,55 @@
+-- What the check of an encoder's run has shown, and the codes that follow from a table's places.
+use Rattle.std.proofs.Common.{◌≡◌, ◌↔◌, ◌∙◌, IfSome, ℕ, ◌+◌, ◌≤◌, ◌<◌, ◌==◌, List, ◌∷◌, [], length, get_or, refl, sym, ap, arith, Some, None, Option, Bool, true, false, not, option_map, position, eqb}
+use Rattle.std.proofs.lemmas.Bool.{ne_eqb, lt-ltb, le-ltb, eqb-true}
+use Rattle.legacy_base.specs.Indexes.{entry_scalar, idx}
+use Rattle.legacy_base.specs.SingleByte.{single_byte_code}
+use Rattle.legacy_base.specs.TableChecks.{IsAcceptedTable}
+use Rattle.legacy_base.proofs.Accepted.{entry_scalar-is}
+use Rattle.legacy_base.proofs.AcceptedTable.{position-idx, within}
+use Rattle.legacy_base.proofs.FirstPlaces.{find-first, find-none-at}
+use Rattle.legacy_single_byte.specs.SingleByteRun.{IsRun, first_mismatch}
+
+not_false : (b : Bool) → not b ≡ false → b ≡ true
+not_false true e = refl
+not_false false e = cc
+
+pub run_holds : (table : List ℕ) (scalar start count : ℕ) → first_mismatch table scalar start count ≡ None → IsRun table scalar start count
+run_holds table scalar start count e k h =
+    let same = find-none-at (λ k. not (get_or table (start + k) 0 == scalar + k)) 0 count e k (omega arith) (omega arith) in
+    eqb-true (get_or table (start + k) 0) (scalar + k) (not_false _ same)
+
+pub mismatch_within : (table : List ℕ) (scalar start count k : ℕ) → first_mismatch table scalar start count ≡ Some k → k < count
+mismatch_within table scalar start count k e = let first = find-first (λ k. not (get_or table (start + k) 0 == scalar + k)) 0 count k e in let w = first.within in omega arith
+
+-- ---- places
+
+-- two options that have the same values are the same
+same_option : (a b : Option ℕ) → ((p : ℕ) → (a ≡ Some p) ↔ (b ≡ Some p)) → a ≡ b
+same_option None None h = refl
+same_option None (Some p) h = let e : None ≡ Some p = (h p).1 refl in cc
+same_option (Some p) b h = sym ((h p).0 refl)
+
+module _ (table : List ℕ) (accepted : IsAcceptedTable table) (c : ℕ) (past : 128 ≤ c) where
+  pub place_is : (place : Option ℕ) → ((p : ℕ) → (place ≡ Some p) ↔ (idx table p ≡ Some c)) → place ≡ position (λ entry. entry == c) table
+  place_is place says = same_option place (position (λ entry. entry == c) table) (λ p.
+      let is = position-idx table accepted c (λ z. omega arith) p in
+      ((λ e. is.1 ((says p).0 e)), (λ e. (says p).1 (is.0 e))))
+
+  -- a place that holds a scalar is one of 128
+  pub place_bound : length table ≡ 128 → (place : Option ℕ) → ((p : ℕ) → (place ≡ Some p) ↔ (idx table p ≡ Some c)) → IfSome place (λ p. p < 128)
+  place_bound long None says = tt
+  place_bound long (Some p) says =
+      let h = entry_scalar-is (get_or table p 0) c ((says p).0 refl) in
+      omega (arith, within table accepted p c h.1 h.0, long)
+
+  -- the code of a scalar that stands at a place
+  pub code_at : (p : ℕ) → get_or table p 0 ≡ c → single_byte_code table c ≡ Some ((0x80 + p) ∷ [])
+  unfolding single_byte_code
+  code_at p e =
+      let is : idx table p ≡ Some c = ap entry_scalar e ∙ rw (ne_eqb c 0 (λ n. omega arith)) refl in
+      rw (le-ltb c 128 past, (position-idx table accepted c (λ z. omega arith) p).1 is) refl
+
+-- ASCII is itself
+pub code_ascii : (table : List ℕ) (c : ℕ) → c < 128 → single_byte_code table c ≡ Some (c ∷ [])
+unfolding single_byte_code
+code_ascii table c h = rw (lt-ltb c 128 h) refl

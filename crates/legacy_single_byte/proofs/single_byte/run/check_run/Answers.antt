@@ -1,0 +1,13 @@
+use Rattle.std.proofs.Common.{◌∙◌, sym, arith}
+use Rattle.legacy_single_byte.proofs.EncoderRuns.{run_holds, mismatch_within}
+use Rattle.legacy_single_byte.proofs.single_byte.run.check_run.Goals as goal
+
+pub overflow_add-result : goal.overflow_add-result
+overflow_add-result c =
+    let h = mismatch_within c.args.table.now.entries c.from.result c.from-first.result c.from-length.result c.in-Some.k (sym c.first_mismatch.ensures ∙ c.in-Some.is) in
+    omega (arith, h, c.from-first.ensures, c.from-length.ensures, c.ranges)
+
+pub returns-in-None-clause-is_run : goal.returns-in-None-clause-is_run
+returns-in-None-clause-is_run c =
+    let holds = run_holds c.args.table.now.entries c.from.result c.from-first.result c.from-length.result (sym c.first_mismatch.ensures ∙ c.in-None.is) in
+    rw (c.from-first.ensures, c.from-length.ensures, c.from.ensures) at holds

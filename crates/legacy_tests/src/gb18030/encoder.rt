@@ -1,0 +1,173 @@
+//! The encoders of gb18030 and GBK.
+use crate::encode_events::Wanted::{Bytes, Report};
+use crate::encoder_rows::EncoderRow::{
+    Encoder, Encodes, FromUtf8, FromUtf16, Utf8Length, Utf16Length,
+};
+use crate::encoder_rows::{EncoderRow, TestedEncoder, follow_encoder};
+use crate::indexes::{no_entries, tables_of};
+use legacy_base::EncoderResult::{InputEmpty, OutputFull, Unmappable};
+use legacy_base::{Indexes, Tables};
+use legacy_encoders::Gb18030Encoder;
+use std::process::Abort;
+
+impl<'a> TestedEncoder for Gb18030Encoder<'a> {
+    type Of = (&'a Tables<'a>, bool);
+
+    fn made(_rt: &impl Abort, (tables, extended): (&'a Tables<'a>, bool)) -> Gb18030Encoder<'a> {
+        Gb18030Encoder::new(tables, extended)
+    }
+}
+
+/// The rows of gb18030 without entries, but with the private-use rows of the standard.
+const WITHOUT_ENTRIES: &[EncoderRow] = &[
+    Encoder("the scalars from U+10000 on have four bytes without an index"),
+    Encodes("\u{10000}", &[Bytes(b"\x90\x30\x81\x30")]),
+    Encodes("\u{10FFFF}", &[Bytes(b"\xE3\x32\x9A\x35")]),
+    Encodes("\u{E7C7}", &[Bytes(b"\x81\x35\xF4\x37")]),
+    Encoder("a scalar of the private-use rows has the bytes of its row"),
+    Encodes("\u{E843}", &[Bytes(b"\xFE\x7E")]),
+    Encodes("\u{E78D}\u{E864}", &[Bytes(b"\xA6\xD9\xFE\xA0")]),
+    Encodes("\u{E843}\u{1F4A9}", &[Bytes(b"\xFE\x7E\x94\x39\xDA\x33")]),
+    Encoder("U+E5E5 has no bytes, and without entries the euro sign has none"),
+    Encodes("\u{E5E5}", &[Report('\u{E5E5}')]),
+    Encodes("\u{20AC}", &[Report('\u{20AC}')]),
+    Encoder("a scalar past ASCII needs four bytes, an ASCII scalar one"),
+    FromUtf8("a\u{E843}", 4, true, OutputFull, 1, b"a"),
+    FromUtf8("\u{E843}", 3, true, OutputFull, 0, b""),
+    FromUtf8("\u{E843}", 4, true, InputEmpty, 3, b"\xFE\x7E"),
+    Encoder("the lengths are four bytes for a unit, and two for a byte and two more"),
+    Utf16Length(5, Some(20)),
+    Utf8Length(5, Some(12)),
+    Utf8Length(usize::MAX / 2, None),
+];
+
+/// The rows of GBK with the same tables.
+const GBK_WITHOUT_ENTRIES: &[EncoderRow] = &[
+    Encoder("the euro sign is 80, and nothing has four bytes"),
+    Encodes("\u{20AC}", &[Bytes(b"\x80")]),
+    Encodes("\u{10000}\u{E7C7}", &[Report('\u{10000}'), Report('\u{E7C7}')]),
+    Encodes("\u{E843}", &[Bytes(b"\xFE\x7E")]),
+    Encodes("\u{E5E5}", &[Report('\u{E5E5}')]),
+    Encoder("a scalar past ASCII needs four bytes"),
+    FromUtf8("\u{20AC}", 3, true, OutputFull, 0, b""),
+    FromUtf8("\u{20AC}", 4, true, InputEmpty, 3, b"\x80"),
+    Encoder("the lengths are two bytes more than for two bytes a unit, and three more than the bytes"),
+    Utf8Length(usize::MAX - 3, Some(usize::MAX)),
+    Utf8Length(usize::MAX - 2, None),
+    Utf16Length(5, Some(12)),
+    Utf16Length(usize::MAX / 2, None),
+];
+
+#[test]
+fn encodes_without_entries(rt: HostRuntime) {
+    let tables = tables_of(&rt, &no_entries());
+    follow_encoder::<Gb18030Encoder>(&rt, (&tables, true), WITHOUT_ENTRIES);
+    follow_encoder::<Gb18030Encoder>(&rt, (&tables, false), GBK_WITHOUT_ENTRIES);
+}
+
+const WITH_RANGE: &[EncoderRow] = &[
+    Encoder("an unpaired surrogate is U+FFFD, which the range has"),
+    FromUtf16(&[0xDC00], 16, true, InputEmpty, 1, b"\x84\x31\xA4\x37"),
+    FromUtf16(&[0xDC00, 0xD800], 16, true, InputEmpty, 2, b"\x84\x31\xA4\x37\x84\x31\xA4\x37"),
+];
+
+const GBK_WITH_RANGE: &[EncoderRow] = &[
+    Encoder("in GBK a scalar of the ranges has no bytes"),
+    FromUtf16(&[0xDC00], 16, true, Unmappable('\u{FFFD}'), 1, b""),
+];
+
+#[test]
+fn encodes_by_a_range(rt: HostRuntime) {
+    let tables = tables_of(
+        &rt,
+        &Indexes {
+            ranges: &[(39394, 0xFFE6)],
+            ..no_entries()
+        },
+    );
+    follow_encoder::<Gb18030Encoder>(&rt, (&tables, true), WITH_RANGE);
+    follow_encoder::<Gb18030Encoder>(&rt, (&tables, false), GBK_WITH_RANGE);
+}
+
+const BESIDE_7457: &[EncoderRow] = &[
+    Encoder("pointer 7457 is that of U+E7C7 alone"),
+    Encodes("\u{3000}", &[Report('\u{3000}')]),
+    Encodes("\u{3001}\u{E7C7}", &[Bytes(b"\x81\x35\xF4\x38\x81\x35\xF4\x37")]),
+];
+
+#[test]
+fn encodes_beside_pointer_7457(rt: HostRuntime) {
+    let tables = tables_of(
+        &rt,
+        &Indexes {
+            ranges: &[(7457, 0x3000)],
+            ..no_entries()
+        },
+    );
+    follow_encoder::<Gb18030Encoder>(&rt, (&tables, true), BESIDE_7457);
+}
+
+const OTHER_ROW: &[EncoderRow] = &[
+    Encoder("a row that is handed in gives its bytes"),
+    Encodes("\u{E000}", &[Bytes(b"\xA6\xD9")]),
+];
+
+const NO_ROWS: &[EncoderRow] = &[
+    Encoder("without rows such a scalar has no bytes, where no index has it"),
+    Encodes("\u{E78D}", &[Report('\u{E78D}')]),
+];
+
+#[test]
+fn encodes_by_the_rows_that_are_handed_in(rt: HostRuntime) {
+    let tables = tables_of(
+        &rt,
+        &Indexes {
+            gb18030_pua: &[(0xE000, 0xA6, 0xD9)],
+            ..no_entries()
+        },
+    );
+    follow_encoder::<Gb18030Encoder>(&rt, (&tables, true), OTHER_ROW);
+    follow_encoder::<Gb18030Encoder>(&rt, (&tables, false), OTHER_ROW);
+    let tables = tables_of(
+        &rt,
+        &Indexes {
+            gb18030_pua: &[],
+            ..no_entries()
+        },
+    );
+    follow_encoder::<Gb18030Encoder>(&rt, (&tables, true), NO_ROWS);
+}
+
+const IN_THE_INDEX: &[EncoderRow] = &[
+    Encoder("without rows such a scalar has the pointer of the index"),
+    Encodes("\u{E81E}", &[Bytes(b"\xFE\x59")]),
+];
+
+const BOTH: &[EncoderRow] = &[
+    Encoder("a scalar of a row and the scalar that the index has there have the same bytes"),
+    Encodes("\u{E81E}\u{9FB4}", &[Bytes(b"\xFE\x59\xFE\x59")]),
+];
+
+#[test]
+fn encodes_rows_before_the_index(rt: HostRuntime) {
+    let mut gb18030 = [0u16; 23776];
+    gb18030[23775] = 0xE81E;
+    let tables = tables_of(
+        &rt,
+        &Indexes {
+            gb18030: &gb18030,
+            gb18030_pua: &[],
+            ..no_entries()
+        },
+    );
+    follow_encoder::<Gb18030Encoder>(&rt, (&tables, true), IN_THE_INDEX);
+    gb18030[23775] = 0x9FB4;
+    let tables = tables_of(
+        &rt,
+        &Indexes {
+            gb18030: &gb18030,
+            ..no_entries()
+        },
+    );
+    follow_encoder::<Gb18030Encoder>(&rt, (&tables, true), BOTH);
+}

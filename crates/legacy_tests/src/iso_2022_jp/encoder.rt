@@ -1,0 +1,127 @@
+//! The encoder of ISO-2022-JP.
+use crate::encode_events::Wanted::{Bytes, Report};
+use crate::encoder_rows::EncoderRow::{
+    Encoder, Encodes, FromUtf8, FromUtf16, Pending, Utf8Length, Utf16Length,
+};
+use crate::encoder_rows::{EncoderRow, TestedEncoder, follow_encoder};
+use crate::indexes::{no_entries, tables_of};
+use legacy_base::EncoderResult::{InputEmpty, OutputFull, Unmappable};
+use legacy_base::{Indexes, Tables};
+use legacy_encoders::Iso2022JpEncoder;
+use std::process::Abort;
+
+impl<'a> TestedEncoder for Iso2022JpEncoder<'a> {
+    type Of = &'a Tables<'a>;
+
+    fn made(_rt: &impl Abort, of: &'a Tables<'a>) -> Iso2022JpEncoder<'a> {
+        Iso2022JpEncoder::new(of)
+    }
+
+    fn pending(&self) -> Option<bool> {
+        Some(self.has_pending_state())
+    }
+}
+
+const WITHOUT_ENTRIES: &[EncoderRow] = &[
+    Encoder("the yen sign switches to Roman mode, and a reverse solidus and the end back to ASCII"),
+    FromUtf8("a\u{A5}b\x5C", 64, true, InputEmpty, 5, b"a\x1B(J\x5Cb\x1B(B\x5C"),
+    Encodes("a\u{A5}b\x5C", &[Bytes(b"a\x1B(J\x5Cb\x1B(B\x5C")]),
+    Encodes("a\u{A5}\x5C", &[Bytes(b"a\x1B(J\x5C\x1B(B\x5C")]),
+    Encodes("\u{203E}~", &[Bytes(b"\x1B(J~\x1B(B~")]),
+    Encodes("\u{A5}", &[Bytes(b"\x1B(J\x5C\x1B(B")]),
+    Encoder("the mode stays at the end of a piece that is not the last"),
+    Pending(false),
+    FromUtf8("a\u{A5}", 64, false, InputEmpty, 3, b"a\x1B(J\x5C"),
+    Pending(true),
+    FromUtf8("b", 64, false, InputEmpty, 1, b"b"),
+    Pending(true),
+    FromUtf8("", 2, true, OutputFull, 0, b""),
+    Pending(true),
+    FromUtf8("", 3, true, InputEmpty, 0, b"\x1B(B"),
+    Pending(false),
+    Encoder("controls that switch modes are reported as U+FFFD"),
+    Encodes("a\x0Eb\x0F\x1B", &[Bytes(b"a"), Report('\u{FFFD}'), Bytes(b"b"), Report('\u{FFFD}'), Report('\u{FFFD}')]),
+    Encoder("in Roman mode what has no bytes changes nothing"),
+    Encodes("\u{A5}\u{2212}", &[Bytes(b"\x1B(J\x5C"), Report('\u{2212}'), Bytes(b"\x1B(B")]),
+    Encoder("each act needs three bytes"),
+    FromUtf8("a", 2, true, OutputFull, 0, b""),
+    FromUtf8("a\u{A5}", 3, true, OutputFull, 1, b"a"),
+    FromUtf8("\u{A5}", 5, true, OutputFull, 0, b"\x1B(J"),
+    Pending(true),
+    FromUtf8("\u{A5}", 3, true, OutputFull, 2, b"\x5C"),
+    FromUtf8("", 3, true, InputEmpty, 0, b"\x1B(B"),
+    Encoder("the lengths of a new encoder"),
+    Utf8Length(5, Some(18)),
+    Utf16Length(1, Some(8)),
+    Utf16Length(3, Some(17)),
+    Utf8Length(usize::MAX / 3, None),
+];
+
+#[test]
+fn encodes_without_entries(rt: HostRuntime) {
+    let tables = tables_of(&rt, &no_entries());
+    follow_encoder::<Iso2022JpEncoder>(&rt, &tables, WITHOUT_ENTRIES);
+}
+
+/// The rows with U+58FA at pointer 4861.
+const PAIRS: &[EncoderRow] = &[
+    Encoder("two-byte mode ends before what has no bytes"),
+    FromUtf8("\u{58FA}\u{1F4A9}", 64, true, Unmappable('\u{1F4A9}'), 7, b"\x1B$BTd\x1B(B"),
+    Pending(false),
+    Encodes("\u{58FA}\u{1F4A9}", &[Bytes(b"\x1B$BTd\x1B(B"), Report('\u{1F4A9}')]),
+    Encodes(
+        "\u{58FA}\u{1F4A9}\u{58FA}",
+        &[Bytes(b"\x1B$BTd\x1B(B"), Report('\u{1F4A9}'), Bytes(b"\x1B$BTd\x1B(B")],
+    ),
+    Encoder("the escape before what has no bytes is an act of its own"),
+    FromUtf8("\u{58FA}", 64, false, InputEmpty, 3, b"\x1B$BTd"),
+    FromUtf8("\u{1F4A9}", 2, true, OutputFull, 0, b""),
+    FromUtf8("\u{1F4A9}", 5, true, OutputFull, 0, b"\x1B(B"),
+    Pending(false),
+    FromUtf8("\u{1F4A9}", 3, true, Unmappable('\u{1F4A9}'), 4, b""),
+    Encoder("the queried length of UTF-16 is enough for one call"),
+    Utf16Length(1, Some(8)),
+    FromUtf16(&[0x58FA], 8, true, InputEmpty, 1, b"\x1B$BTd\x1B(B"),
+    Encoder("the queried length of UTF-16 is enough for three calls"),
+    Utf16Length(3, Some(17)),
+    FromUtf16(&[0x58FA], 17, false, InputEmpty, 1, b"\x1B$BTd"),
+    FromUtf16(&[0x61], 12, false, InputEmpty, 1, b"\x1B(Ba"),
+    FromUtf16(&[0x58FA], 8, true, InputEmpty, 1, b"\x1B$BTd\x1B(B"),
+];
+
+#[test]
+fn encodes_pairs(rt: HostRuntime) {
+    let mut jis0208 = [0u16; 4862];
+    jis0208[4861] = 0x58FA;
+    let tables = tables_of(
+        &rt,
+        &Indexes {
+            jis0208: &jis0208,
+            ..no_entries()
+        },
+    );
+    follow_encoder::<Iso2022JpEncoder>(&rt, &tables, PAIRS);
+}
+
+const KATAKANA: &[EncoderRow] = &[
+    Encoder("half-width katakana are written as the katakana index says, where index jis0208 has that"),
+    FromUtf8("\u{FF61}\u{FF62}", 64, true, Unmappable('\u{FF62}'), 6, b"\x1B$B!#\x1B(B"),
+    Pending(false),
+    Encodes("\u{FF61}\u{FF62}", &[Bytes(b"\x1B$B!#\x1B(B"), Report('\u{FF62}')]),
+];
+
+#[test]
+fn encodes_katakana(rt: HostRuntime) {
+    let mut katakana = [0u16; 63];
+    katakana[0] = 0x3002;
+    katakana[1] = 0x300C;
+    let tables = tables_of(
+        &rt,
+        &Indexes {
+            jis0208: &[0, 0, 0x3002],
+            katakana: &katakana,
+            ..no_entries()
+        },
+    );
+    follow_encoder::<Iso2022JpEncoder>(&rt, &tables, KATAKANA);
+}
