@@ -10,3 +10,5 @@ pub mod AmpleOutputs
 pub mod EncodeLengths
 pub mod Replaced
 pub mod Replacements
+pub mod ReferenceTexts
+pub mod ReferencingCalls

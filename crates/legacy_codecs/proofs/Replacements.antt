@@ -1,5 +1,6 @@
 -- A call with replacement under way.
-use Rattle.std.proofs.Common.{◌≡◌, ◌∙◌, ℕ, ◌+◌, ◌-◌, ◌≤◌, ◌<◌, List, [], ◌∷◌, ◌++◌, length, drop, map, refl, sym, ap, arith, append_assoc, append-nil, length-append, length-drop, add-zero, Bool, true, false, ◌||◌, IsTrue, All, cond, nat_eq}
+use Rattle.std.proofs.Common.{◌≡◌, ◌∙◌, ℕ, ◌+◌, ◌-◌, ◌≤◌, ◌<◌, List, [], ◌∷◌, ◌++◌, length, drop, map, refl, sym, ap, arith, append_assoc}
+use Rattle.std.proofs.Common.{append-nil, length-append, length-drop, add-zero, Bool, true, false, ◌||◌, IsTrue, All, cond, nat_eq}
 use Rattle.std.specs.Char.{IsScalar}
 use Rattle.std.proofs.lemmas.List.{drop-drop}
 use Rattle.std.proofs.lemmas.List.Elements.{All-append, All-nil, All-cons}
@@ -146,7 +147,8 @@ replacing_start form before source last free = record {
 }
 
 -- where nothing was done, the next act lacks its room as it did
-still_lacks : (form : EncodingForm) (before now : DecoderState) (source : List ℕ) (last : Bool) (read free left : ℕ) → now ≡ before → read ≡ 0 → left ≡ free → LacksRoom form before source last free → LacksRoom form now (drop read source) last left
+still_lacks : (form : EncodingForm) (before now : DecoderState) (source : List ℕ) (last : Bool) (read free left : ℕ) → now ≡ before → read ≡ 0 → left ≡ free → LacksRoom form before source last free →
+    LacksRoom form now (drop read source) last left
 still_lacks form before now source last read free left e f g h = rw (e, f, g) h
 
 module _ (form : EncodingForm) (before : DecoderState) (source : List ℕ) (last : Bool) (free : ℕ) (now : DecoderState) (read : ℕ) (written : List ℕ) (found : Bool)
@@ -156,25 +158,32 @@ module _ (form : EncodingForm) (before : DecoderState) (source : List ℕ) (last
   abbrev units : DecoderResult → List ℕ
   units answer = written ++ all_code_units form (scalars ++ reported_scalars answer)
 
+  -- what was given behind the call
+  abbrev out_after : DecoderResult → List DecodeEvent
+  out_after answer = u.out ++ shift u.passed (out_events (length now.held + count) scalars answer)
+
   progress_after : (answer : DecoderResult) (c : DecoderCall form now (drop read source) last left after answer count scalars) →
-      Progress last before source (u.passed + c.passed) after (drop (read + count) source) (u.out ++ shift u.passed (out_events (length now.held + count) scalars answer))
+      Progress last before source (u.passed + c.passed) after (drop (read + count) source) (out_after answer)
   progress_after answer c =
       let d = drop-drop count read source in
-      rw (← d) (after_that last before source u.passed now (drop read source) u.out c.passed after (drop count (drop read source)) (out_events (length now.held + count) scalars answer) u.progress c.progress)
+      let out = out_events (length now.held + count) scalars answer in
+      rw (← d) (after_that last before source u.passed now (drop read source) u.out c.passed after (drop count (drop read source)) out u.progress c.progress)
 
-  replaced_after : (answer : DecoderResult) → replaced_scalars (u.out ++ shift u.passed (out_events (length now.held + count) scalars answer)) ≡ replaced_scalars u.out ++ (scalars ++ reported_scalars answer)
+  replaced_after : (answer : DecoderResult) → replaced_scalars (out_after answer) ≡ replaced_scalars u.out ++ (scalars ++ reported_scalars answer)
   replaced_after answer =
       let out = out_events (length now.held + count) scalars answer in
       replaced-append u.out (shift u.passed out) ∙ ap (λ l. replaced_scalars u.out ++ l) (replaced-call u.passed (length now.held + count) scalars answer)
 
-  scalar_after : (answer : DecoderResult) → All IsScalar scalars → All IsScalar (replaced_scalars (u.out ++ shift u.passed (out_events (length now.held + count) scalars answer)))
-  scalar_after answer h = rw (replaced_after answer) (All-append IsScalar (replaced_scalars u.out) (scalars ++ reported_scalars answer) u.scalar (All-append IsScalar scalars (reported_scalars answer) h (reported answer))) where
-    reported : (answer : DecoderResult) → All IsScalar (reported_scalars answer)
-    reported InputEmpty = All-nil IsScalar
-    reported OutputFull = All-nil IsScalar
-    reported (Malformed a b) = All-cons IsScalar 0xFFFD [] refl (All-nil IsScalar)
+  scalar_after : (answer : DecoderResult) → All IsScalar scalars → All IsScalar (replaced_scalars (out_after answer))
+  scalar_after answer h =
+      let added = All-append IsScalar scalars (reported_scalars answer) h (reported answer) in
+      rw (replaced_after answer) (All-append IsScalar (replaced_scalars u.out) (scalars ++ reported_scalars answer) u.scalar added) where
+        reported : (answer : DecoderResult) → All IsScalar (reported_scalars answer)
+        reported InputEmpty = All-nil IsScalar
+        reported OutputFull = All-nil IsScalar
+        reported (Malformed a b) = All-cons IsScalar 0xFFFD [] refl (All-nil IsScalar)
 
-  text_after : (answer : DecoderResult) → units answer ≡ all_code_units form (replaced_scalars (u.out ++ shift u.passed (out_events (length now.held + count) scalars answer)))
+  text_after : (answer : DecoderResult) → units answer ≡ all_code_units form (replaced_scalars (out_after answer))
   text_after answer = rw (replaced_after answer, all_code_units-append form (replaced_scalars u.out) (scalars ++ reported_scalars answer), ← u.text) refl
 
   -- nothing is added at an answer that reports nothing
@@ -185,7 +194,8 @@ module _ (form : EncodingForm) (before : DecoderState) (source : List ℕ) (last
   within_after answer c = let w = c.within in let v = u.within in omega (arith, length-drop read source)
 
   lowers_after : (answer : DecoderResult) → DecoderCall form now (drop read source) last left after answer count scalars → (more : ℕ) → (IsTrue last → more ≡ 0) →
-      room (replacing_query form) after (length (drop (read + count) source) + more) + (total_unit_count form scalars + answer_units (replacing_query form) answer) + length written ≤ room (replacing_query form) before (length source + more)
+      room (replacing_query form) after (length (drop (read + count) source) + more) + (total_unit_count form scalars + answer_units (replacing_query form) answer) + length written
+      ≤ room (replacing_query form) before (length source + more)
   lowers_after answer c more h =
       let one = u.lowers more h in
       let two = c.lowers (replacing_query form) (query_form-is form) more h in
@@ -206,14 +216,15 @@ module _ (form : EncodingForm) (before : DecoderState) (source : List ℕ) (last
       let fits = replacement_fits form now (drop read source) last left after a b count scalars c in
       let one : all_code_units form (0xFFFD ∷ []) ≡ fffd = append-nil fffd in
       let same : written ++ (all_code_units form scalars ++ fffd) ≡ units x = rw (all_code_units-append form scalars (0xFFFD ∷ []), one) refl in
-      let long : length (written ++ (all_code_units form scalars ++ fffd)) ≡ length written + (total_unit_count form scalars + length fffd) = length-append written (all_code_units form scalars ++ fffd) ∙ ap (λ n. length written + n) (length-append (all_code_units form scalars) fffd) in
+      let long : length (written ++ (all_code_units form scalars ++ fffd)) ≡ length written + (total_unit_count form scalars + length fffd) =
+      length-append written (all_code_units form scalars ++ fffd) ∙ ap (λ n. length written + n) (length-append (all_code_units form scalars) fffd) in
       let counted = counted_units form in
       let count_is = replacement_count form in
       record {
         within = within_after x c;
         fits = omega (arith, left_is, fits, long);
         passed = u.passed + c.passed;
-        out = u.out ++ shift u.passed (out_events (length now.held + count) scalars x);
+        out = out_after x;
         progress = progress_after x c;
         scalar = scalar_after x c.scalar;
         text = same ∙ text_after x;
@@ -234,7 +245,8 @@ module _ (form : EncodingForm) (before : DecoderState) (source : List ℕ) (last
       let event : ℕ → DecodeEvent = λ x. Scalar x in
       let bad : List DecodeEvent = Bad (length now.held + count - b - a) a ∷ [] in
       let e = c.progress.events [] (λ _. refl) in
-      let x : length (events_of now.grammar (now.held ++ (drop read source ++ []))) ≡ length (map event scalars ++ bad) + length (events_of after.grammar (after.held ++ (drop count (drop read source) ++ []))) =
+      let x : length (events_of now.grammar (now.held ++ (drop read source ++ [])))
+      ≡ length (map event scalars ++ bad) + length (events_of after.grammar (after.held ++ (drop count (drop read source) ++ []))) =
       ap length e ∙ length-append (map event scalars ++ bad) _ ∙ ap (λ n. length (map event scalars ++ bad) + n) (length-shift c.passed _) in
       let y = rw (append-nil, append-nil, drop-drop) at x in
       let s = length-append (map event scalars) bad in
@@ -258,7 +270,7 @@ module _ (form : EncodingForm) (before : DecoderState) (source : List ℕ) (last
         within = within_after x c;
         fits = omega (arith, left_is, fits, long);
         passed = u.passed + c.passed;
-        out = u.out ++ shift u.passed (out_events (length now.held + count) scalars x);
+        out = out_after x;
         progress = progress_after x c;
         scalar = scalar_after x c.scalar;
         text = sym same ∙ text_after x;
@@ -295,7 +307,7 @@ module _ (form : EncodingForm) (before : DecoderState) (source : List ℕ) (last
         within = within_after x c;
         fits = omega (arith, left_is, fits, long);
         passed = u.passed + c.passed;
-        out = u.out ++ shift u.passed (out_events (length now.held + count) scalars x);
+        out = out_after x;
         progress = progress_after x c;
         scalar = scalar_after x c.scalar;
         text = sym same ∙ text_after x;
@@ -364,7 +376,8 @@ module _ (form : EncodingForm) (before : DecoderState) (source : List ℕ) (last
       let units = all_code_units form scalars in
       let room = room_now left_now e in
       let had = r.room in
-      let long : length (r.written ++ (units ++ fffd)) ≡ length r.written + (length units + length fffd) = length-append r.written (units ++ fffd) ∙ ap (λ n. length r.written + n) (length-append units fffd) in
+      let long : length (r.written ++ (units ++ fffd)) ≡ length r.written + (length units + length fffd) =
+      length-append r.written (units ++ fffd) ∙ ap (λ n. length r.written + n) (length-append units fffd) in
       record {
         written = r.written ++ (units ++ fffd);
         state = replacing_step form before source last free now read r.written found r.state left r.room after count scalars a b c;

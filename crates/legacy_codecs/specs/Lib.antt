@@ -6,3 +6,4 @@ pub mod EncodeRuns
 pub mod Filling
 pub mod EncodeFilling
 pub mod Replacing
+pub mod References

@@ -1,10 +1,12 @@
 //! The legacy codecs of the WHATWG Encoding Standard, under one name: every public item of the crates
-//! below, calls that run a coder over a whole input, and calls that replace what is malformed.
+//! below, calls that run a coder over a whole input, and calls that replace what is malformed or has no
+//! bytes.
 #![tactic(auto)]
 
 mod decode_run;
 mod encode_run;
 pub mod laws;
+mod references;
 mod replacing;
 mod results;
 mod run_parts;
@@ -26,6 +28,7 @@ pub use legacy_encoders::{
     Big5Encoder, EucJpEncoder, EucKrEncoder, Gb18030Encoder, Iso2022JpEncoder, ShiftJisEncoder,
     SingleByteEncoder, SingleByteRunError, UserDefinedEncoder,
 };
+pub use references::{encode_replacing_utf8, encode_replacing_utf16};
 pub use replacing::{decode_replacing_utf8, decode_replacing_utf16};
 pub use results::CoderResult;
 pub use run_parts::RunError;

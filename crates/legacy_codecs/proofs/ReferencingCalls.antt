@@ -1,0 +1,295 @@
+-- A call that writes references under way.
+use Rattle.std.proofs.Common.{◌≡◌, ◌∙◌, ℕ, ◌+◌, ◌-◌, ◌≤◌, ◌<◌, List, [], ◌∷◌, ◌++◌, length, map, slice_get, refl, sym, ap, subst, arith, append_assoc}
+use Rattle.std.proofs.Common.{append-nil, length-append, Bool, true, false, ◌||◌, IsTrue, Some}
+use Rattle.std.specs.Prelude.{is_some}
+use Rattle.std.proofs.lemmas.Bool.{true≢false}
+use Rattle.legacy_base.specs.declared.results.EncodeEvent.{EncodeEvent}
+use Rattle.legacy_base.specs.declared.results.EncodeEvent.TheVariants.{Byte}
+use Rattle.legacy_base.specs.declared.results.EncodeEvent.TheVariants as event
+use Rattle.legacy_base.specs.declared.results.EncoderResult.{EncoderResult}
+use Rattle.legacy_base.specs.declared.results.EncoderResult.TheVariants.{InputEmpty, OutputFull, Unmappable}
+use Rattle.legacy_base.specs.EncodingForm.{EncodingForm, total_unit_count}
+use Rattle.legacy_base.specs.Encoders.{EncoderState, encoded, end_bytes, encoder_need, encoder_answer}
+use Rattle.legacy_base.specs.EncoderCalls.{EncoderCall, EncoderLacksRoom, reported}
+use Rattle.legacy_base.proofs.EncoderLaws.{end-encoded, encoder_need-small}
+use Rattle.legacy_codecs.specs.declared.results.CoderResult.TheVariants as coder
+use Rattle.legacy_codecs.specs.References.{reference, reference_room, referenced_bytes, has_unmappable, Gives, LacksReferenceRoom, ReplacingEncoderCall}
+use Rattle.legacy_codecs.proofs.ReferenceTexts.{referenced-append, referenced-of_bytes, has_unmappable-append, has_unmappable-of_bytes}
+
+-- ---- what one call adds
+
+-- the bytes that are written for what a call reports
+abbrev pub reported_bytes : EncoderResult → List ℕ
+reported_bytes InputEmpty = []
+reported_bytes OutputFull = []
+reported_bytes (Unmappable c) = reference c
+
+-- whether a scalar without bytes was found, also in this call
+abbrev pub found_after : Bool → EncoderResult → Bool
+found_after found InputEmpty = found
+found_after found OutputFull = found
+found_after found (Unmappable c) = true
+
+referenced-reported : (answer : EncoderResult) → referenced_bytes (reported answer) ≡ reported_bytes answer
+referenced-reported InputEmpty = refl
+referenced-reported OutputFull = refl
+referenced-reported (Unmappable c) = append-nil (reference c)
+
+or_none : (b : Bool) → (b || false) ≡ b
+or_none true = refl
+or_none false = refl
+
+or_some : (b : Bool) → (b || true) ≡ true
+or_some true = refl
+or_some false = refl
+
+found-reported : (found : Bool) (answer : EncoderResult) → (found || has_unmappable (reported answer)) ≡ found_after found answer
+found-reported found InputEmpty = or_none found
+found-reported found OutputFull = or_none found
+found-reported found (Unmappable c) = or_some found
+
+-- what a call gave
+abbrev pub out_events : List ℕ → EncoderResult → List EncodeEvent
+out_events bytes answer = map Byte bytes ++ reported answer
+
+referenced-call : (out : List EncodeEvent) (bytes : List ℕ) (answer : EncoderResult) → referenced_bytes (out ++ out_events bytes answer) ≡ referenced_bytes out ++ (bytes ++ reported_bytes answer)
+referenced-call out bytes answer =
+    let byte : ℕ → EncodeEvent = λ b. Byte b in
+    let one : referenced_bytes (out_events bytes answer) ≡ bytes ++ reported_bytes answer =
+    referenced-append (map byte bytes) (reported answer) ∙ ap (λ l. l ++ referenced_bytes (reported answer)) (referenced-of_bytes bytes) ∙ ap (λ l. bytes ++ l) (referenced-reported answer) in
+    referenced-append out (out_events bytes answer) ∙ ap (λ l. referenced_bytes out ++ l) one
+
+found-call : (out : List EncodeEvent) (bytes : List ℕ) (answer : EncoderResult) → found_after (has_unmappable out) answer ≡ has_unmappable (out ++ out_events bytes answer)
+found-call out bytes answer =
+    let byte : ℕ → EncodeEvent = λ b. Byte b in
+    let one : has_unmappable (out_events bytes answer) ≡ has_unmappable (reported answer) =
+    has_unmappable-append (map byte bytes) (reported answer) ∙ ap (λ b. b || has_unmappable (reported answer)) (has_unmappable-of_bytes bytes) in
+    sym (has_unmappable-append out (out_events bytes answer) ∙ ap (λ b. has_unmappable out || b) one ∙ found-reported (has_unmappable out) answer)
+
+-- an empty text reports nothing
+pub nothing_reported : (before : EncoderState) (last : Bool) (free : ℕ) (after : EncoderState) (c : ℕ) (left bytes : List ℕ) → EncoderCall before [] last free after (Unmappable c) left bytes → ⊥
+nothing_reported before last free after c left bytes call =
+    let byte : ℕ → EncodeEvent = λ b. Byte b in
+    let rest = encoded after (left ++ []) true in
+    let e : map byte (end_bytes before) ≡ map byte bytes ++ (event.Unmappable c ∷ rest) = sym (end-encoded before) ∙ call.events [] true (λ _. (refl, refl)) in
+    let none : has_unmappable (map byte bytes ++ (event.Unmappable c ∷ rest)) ≡ false = ap has_unmappable (sym e) ∙ has_unmappable-of_bytes (end_bytes before) in
+    let some : has_unmappable (map byte bytes ++ (event.Unmappable c ∷ rest)) ≡ true = has_unmappable-append (map byte bytes) (event.Unmappable c ∷ rest) ∙ or_some (has_unmappable (map byte bytes)) in
+    true≢false (sym some ∙ none)
+
+-- ---- calls under way
+
+-- These scalars are left, these bytes were written, and a scalar without bytes was found or was not.
+pub record IsReferencing (before : EncoderState) (source : List ℕ) (last : Bool) (free : ℕ) (now : EncoderState) (left bytes : List ℕ) (found : Bool) : Type 0 where
+  pub taken : List ℕ
+  pub cut : source ≡ taken ++ left
+  pub fits : length bytes ≤ free
+  pub out : List EncodeEvent
+  pub gives : Gives last before source now left out
+  pub text : bytes ≡ referenced_bytes out
+  pub found_is : found ≡ has_unmappable out
+  -- nothing was done yet where nothing was found
+  pub untouched : found ≡ false → (now ≡ before) × (left ≡ source) × (bytes ≡ [])
+  -- nor was anything found where room was lacking as the call began
+  pub unfound : 0 < encoder_need before source last → LacksReferenceRoom before source last free → found ≡ false
+
+pub referencing_start : (before : EncoderState) (source : List ℕ) (last : Bool) (free : ℕ) → IsReferencing before source last free before source [] false
+referencing_start before source last free = record {
+  taken = [];
+  cut = refl;
+  fits = omega arith;
+  out = [];
+  gives = λ more ended h. refl;
+  text = refl;
+  found_is = refl;
+  untouched = λ _. (refl, refl, refl);
+  unfound = λ _ _. refl;
+}
+
+-- where nothing was done, what lacked its room still does
+still_lacks : (before now : EncoderState) (source left bytes : List ℕ) (last : Bool) (free room : ℕ) → now ≡ before → left ≡ source → bytes ≡ [] →
+    room ≡ free - length bytes - reference_room → 0 < encoder_need before source last → LacksReferenceRoom before source last free → EncoderLacksRoom now left last room
+still_lacks before now source left bytes last free room e f g h some lacks =
+    let need : encoder_need now left last ≡ encoder_need before source last = rw (e, f) refl in
+    let none : length bytes ≡ 0 = ap length g in
+    omega arith
+
+-- nothing fits where there is no room
+none_written : (written : List ℕ) → length written ≤ 0 → written ≡ []
+none_written [] h = refl
+none_written (b ∷ written) h = absurd (omega arith)
+
+module _ {before : EncoderState} {source : List ℕ} {last : Bool} {free : ℕ} {now : EncoderState} {left bytes : List ℕ} {found : Bool}
+    (u : IsReferencing before source last free now left bytes found) where
+  -- what was given behind a call that wrote these bytes
+  abbrev out_after : List ℕ → EncoderResult → List EncodeEvent
+  out_after written answer = u.out ++ out_events written answer
+
+  text_after : (written : List ℕ) (answer : EncoderResult) → bytes ++ (written ++ reported_bytes answer) ≡ referenced_bytes (out_after written answer)
+  text_after written answer = ap (λ l. l ++ (written ++ reported_bytes answer)) u.text ∙ sym (referenced-call u.out written answer)
+
+  -- nothing is added at an answer that reports nothing
+  end_text : (written : List ℕ) (answer : EncoderResult) → reported_bytes answer ≡ [] → bytes ++ written ≡ referenced_bytes (out_after written answer)
+  end_text written answer e = ap (λ l. bytes ++ l) (sym (ap (λ l. written ++ l) e ∙ append-nil written)) ∙ text_after written answer
+
+  -- a call with so much room as there is but for a reference
+  module _ {room : ℕ} (room_is : room ≡ free - length bytes - reference_room) {after : EncoderState} {rest written : List ℕ} where
+    cut_after : (answer : EncoderResult) (c : EncoderCall now left last room after answer rest written) → source ≡ (u.taken ++ c.taken) ++ rest
+    cut_after answer c = u.cut ∙ ap (λ l. u.taken ++ l) c.cut ∙ sym (append_assoc u.taken c.taken rest)
+
+    gives_after : (answer : EncoderResult) → EncoderCall now left last room after answer rest written → Gives last before source after rest (out_after written answer)
+    gives_after answer c more ended h =
+        let behind = encoded after (rest ++ more) ended in
+        u.gives more ended h ∙ ap (λ l. u.out ++ l) (c.events more ended h)
+        ∙ ap (λ l. u.out ++ l) (sym (append_assoc (map Byte written) (reported answer) behind)) ∙ sym (append_assoc u.out (out_events written answer) behind)
+
+    -- where room was lacking as the call began, this call answers so
+    full_so : (answer : EncoderResult) → EncoderCall now left last room after answer rest written →
+        0 < encoder_need before source last → LacksReferenceRoom before source last free →
+        (answer ≡ OutputFull) × (rest ≡ source) × (bytes ++ written ≡ []) × (after ≡ before)
+    full_so answer c need lacks =
+        let n = u.untouched (u.unfound need lacks) in
+        let full = c.full_at_once (still_lacks before now source left bytes last free room n.0 n.1 n.2 room_is need lacks) in
+        (full.0, full.1 ∙ n.1, nothing n.2 full.2, full.3 ∙ n.0) where
+          nothing : bytes ≡ [] → written ≡ [] → bytes ++ written ≡ []
+          nothing e f = rw (e, f) refl
+
+    -- ---- a scalar without bytes
+
+    pub referencing_step : (c : ℕ) → length (bytes ++ (written ++ reference c)) ≤ free → EncoderCall now left last room after (Unmappable c) rest written →
+        IsReferencing before source last free after rest (bytes ++ (written ++ reference c)) true
+    referencing_step c fits call =
+        let x = Unmappable c in
+        record {
+          taken = u.taken ++ call.taken;
+          cut = cut_after x call;
+          fits = fits;
+          out = out_after written x;
+          gives = gives_after x call;
+          text = text_after written x;
+          found_is = ap (λ b. found_after b x) u.found_is ∙ found-call u.out written x;
+          untouched = λ e. absurd (true≢false e);
+          unfound = λ need lacks. absurd (never (full_so x call need lacks).0);
+        } where
+          never : {c : ℕ} → Unmappable c ≡ OutputFull → ⊥
+          never e = cc
+
+    pub referencing_less : (c : ℕ) → EncoderCall now left last room after (Unmappable c) rest written →
+        length (encoded after rest true) < length (encoded now left true)
+    referencing_less c call =
+        let byte : ℕ → EncodeEvent = λ b. Byte b in
+        let f : encoded now left true ≡ map byte written ++ (event.Unmappable c ∷ encoded after rest true) =
+        ap (λ l. encoded now l true) (sym (append-nil left)) ∙ call.events [] true (λ _. (refl, refl))
+        ∙ ap (λ l. map byte written ++ (event.Unmappable c ∷ encoded after l true)) (append-nil rest) in
+        let n = ap length f ∙ length-append (map byte written) (event.Unmappable c ∷ encoded after rest true) in
+        omega (arith, n)
+
+    -- ---- the ends
+
+    pub referencing_end : EncoderCall now left last room after InputEmpty rest written →
+        ReplacingEncoderCall before source last free after coder.InputEmpty rest (bytes ++ written) found
+    referencing_end c =
+        let x = InputEmpty in
+        let fits = c.fits in
+        let had = u.fits in
+        let long = length-append bytes written in
+        record {
+          taken = u.taken ++ c.taken;
+          cut = cut_after x c;
+          fits = omega (arith, long, fits, had);
+          out = out_after written x;
+          gives = gives_after x c;
+          text = end_text written x refl;
+          found_is = u.found_is ∙ found-call u.out written x;
+          input_empty = λ _. c.input_empty refl;
+          output_full = λ e. absurd (no_full e);
+          few = λ e. absurd (no_full e);
+          full_at_once = λ need lacks. absurd (never (full_so x c need lacks).0);
+          enough = λ form n k h e f full. absurd (no_full full);
+        } where
+          no_full : coder.InputEmpty ≡ coder.OutputFull → ⊥
+          no_full e = cc
+
+          never : InputEmpty ≡ OutputFull → ⊥
+          never e = cc
+
+    -- with a length free that a query answered, room was lacking only behind a scalar without bytes
+    found_if_full : (found : Bool) → (found ≡ false → (now ≡ before) × (left ≡ source) × (bytes ≡ [])) → EncoderCall now left last room after OutputFull rest written →
+        (form : EncodingForm) (n k : ℕ) → total_unit_count form source ≤ n → encoder_answer form before n ≡ Some k → k + reference_room ≤ free → IsTrue found
+    found_if_full true same c form n k h e f = refl
+    found_if_full false same c form n k h e f =
+        let s = same refl in
+        let none : length bytes ≡ 0 = ap length s.2 in
+        absurd (c.enough form n k (rw s.1 h) (rw s.0 e) (omega arith) refl)
+
+    pub referencing_full : EncoderCall now left last room after OutputFull rest written →
+        ReplacingEncoderCall before source last free after coder.OutputFull rest (bytes ++ written) found
+    referencing_full c =
+        let x = OutputFull in
+        let fits = c.fits in
+        let had = u.fits in
+        let long = length-append bytes written in
+        let lacks = c.output_full refl in
+        let small = encoder_need-small after rest last in
+        record {
+          taken = u.taken ++ c.taken;
+          cut = cut_after x c;
+          fits = omega (arith, long, fits, had);
+          out = out_after written x;
+          gives = gives_after x c;
+          text = end_text written x refl;
+          found_is = u.found_is ∙ found-call u.out written x;
+          input_empty = λ e. absurd (no_end e);
+          output_full = λ _. omega (arith, long, fits, had, lacks);
+          few = λ _. omega (arith, long, fits, had, lacks, small);
+          full_at_once = λ need l. let full = full_so x c need l in (refl, full.1, full.2, u.unfound need l, full.3);
+          enough = λ form n k h e f _. found_if_full found u.untouched c form n k h e f;
+        } where
+          no_end : coder.OutputFull ≡ coder.InputEmpty → ⊥
+          no_end e = cc
+
+  -- ---- no room for a reference
+
+  -- scalars are left
+  pub referencing_stops : free < length bytes + reference_room → 0 < length left → ReplacingEncoderCall before source last free now coder.OutputFull left bytes found
+  referencing_stops none some = record {
+    taken = u.taken;
+    cut = u.cut;
+    fits = u.fits;
+    out = u.out;
+    gives = u.gives;
+    text = u.text;
+    found_is = u.found_is;
+    input_empty = λ e. absurd (no_end e);
+    output_full = λ _. omega arith;
+    few = λ _. omega arith;
+    full_at_once = λ need l. let f = u.unfound need l in let n = u.untouched f in (refl, n.1, n.2, f, n.0);
+    enough = λ form n k h e f _. found_if_short found u.untouched k f;
+  } where
+    no_end : coder.OutputFull ≡ coder.InputEmpty → ⊥
+    no_end e = cc
+
+    found_if_short : (found : Bool) → (found ≡ false → (now ≡ before) × (left ≡ source) × (bytes ≡ [])) → (k : ℕ) → k + reference_room ≤ free → IsTrue found
+    found_if_short true same k f = refl
+    found_if_short false same k f = let s = same refl in let e : length bytes ≡ 0 = ap length s.2 in absurd (omega arith)
+
+  same_bytes : (written : List ℕ) → length written ≤ 0 → bytes ++ written ≡ bytes
+  same_bytes written h = ap (λ l. bytes ++ l) (none_written written h) ∙ append-nil bytes
+
+  -- no scalar is left, and a call without room tells whether the end has something to write
+  module _ (none : free < length bytes + reference_room) {after : EncoderState} {rest written : List ℕ} where
+    pub referencing_done : EncoderCall now left last 0 after InputEmpty rest written → ReplacingEncoderCall before source last free after coder.InputEmpty rest bytes found
+    referencing_done c =
+        subst (λ l. ReplacingEncoderCall before source last free after coder.InputEmpty rest l found) (same_bytes written c.fits) (referencing_end (omega arith) c)
+
+    pub referencing_pending : EncoderCall now left last 0 after OutputFull rest written → ReplacingEncoderCall before source last free after coder.OutputFull rest bytes found
+    referencing_pending c =
+        subst (λ l. ReplacingEncoderCall before source last free after coder.OutputFull rest l found) (same_bytes written c.fits) (referencing_full (omega arith) c)
+
+-- the end of the scalars
+pub nothing_left : (xs : List ℕ) → is_some (slice_get xs 0) ≡ false → xs ≡ []
+nothing_left [] e = refl
+nothing_left (x ∷ xs) e = absurd (true≢false e)
+
+pub something_left : (xs : List ℕ) → is_some (slice_get xs 0) ≡ true → 0 < length xs
+something_left [] e = absurd (true≢false (sym e))
+something_left (x ∷ xs) e = omega arith

@@ -1,0 +1,76 @@
+-- Calls of an encoder that write a numeric character reference for each scalar that has no bytes.
+use Rattle.std.specs.Prelude.{◌≡◌, ℕ, ◌+◌, ◌-◌, ◌<◌, ◌≤◌, List, [], ◌∷◌, ◌++◌, length, flat_map, Bool, true, false, IsTrue, Some, decimal, codes}
+use Rattle.std.specs.List.{list_any}
+use Rattle.legacy_base.specs.declared.results.EncodeEvent.{EncodeEvent}
+use Rattle.legacy_base.specs.declared.results.EncodeEvent.TheVariants.{Byte, Unmappable}
+use Rattle.legacy_base.specs.EncodingForm.{EncodingForm, total_unit_count}
+use Rattle.legacy_base.specs.Encoders.{EncoderState, encoded, end_bytes, encoder_need, encoder_answer}
+use Rattle.legacy_codecs.specs.declared.results.CoderResult.{CoderResult}
+use Rattle.legacy_codecs.specs.declared.results.CoderResult.TheVariants.{InputEmpty, OutputFull}
+
+-- the reference of a scalar: `&#`, its number in decimal, and `;` ("process an item", error mode "html")
+abbrev pub reference : ℕ → List ℕ
+reference c = codes "&#" ++ decimal c ++ codes ";"
+
+-- the bytes of the longest reference, `&#1114111;`
+abbrev pub reference_room : ℕ
+reference_room = 10
+
+-- the bytes that are written for an event: of a scalar that has none, its reference
+abbrev pub event_bytes : EncodeEvent → List ℕ
+event_bytes (Byte b) = b ∷ []
+event_bytes (Unmappable c) = reference c
+
+-- the bytes that are written for events
+abbrev pub referenced_bytes : List EncodeEvent → List ℕ
+referenced_bytes events = flat_map event_bytes events
+
+-- an event is a scalar that has no bytes
+abbrev pub is_unmappable : EncodeEvent → Bool
+is_unmappable (Byte b) = false
+is_unmappable (Unmappable c) = true
+
+-- some of the events is a scalar that has no bytes
+abbrev pub has_unmappable : List EncodeEvent → Bool
+has_unmappable events = list_any is_unmappable events
+
+-- The events of the source and whatever comes behind it, ended or not, are `out`, and then those of what is left. On a
+-- last call nothing but the end comes behind.
+abbrev pub Gives : Bool → EncoderState → List ℕ → EncoderState → List ℕ → List EncodeEvent → Type 0
+Gives last before source after left out =
+    (more : List ℕ) (ended : Bool) → (IsTrue last → (more ≡ []) × IsTrue ended) →
+    encoded before (source ++ more) ended ≡ out ++ encoded after (left ++ more) ended
+
+-- with a reference behind it, the next act needs more room than is free
+abbrev pub LacksReferenceRoom : EncoderState → List ℕ → Bool → ℕ → Type 0
+LacksReferenceRoom state unread last free = free < encoder_need state unread last + reference_room
+
+-- From the state `before`, with the scalars `source` and so many bytes free, a call gave this answer, came to the state
+-- `after`, left the scalars `left`, wrote these bytes, and found a scalar that has no bytes or did not.
+pub record ReplacingEncoderCall (before : EncoderState) (source : List ℕ) (last : Bool) (free : ℕ) (after : EncoderState) (answer : CoderResult) (left bytes : List ℕ) (found : Bool) : Type 0 where
+  -- the scalars that were read, and those that are left, are the source
+  pub taken : List ℕ
+  pub cut : source ≡ taken ++ left
+  -- no more is written than is free
+  pub fits : length bytes ≤ free
+  -- what the call gave
+  pub out : List EncodeEvent
+  -- that, and then the events of what is left, are the codec's events, whatever follows
+  pub gives : Gives last before source after left out
+  -- what is written is what it gave, with its reference for each scalar that has no bytes
+  pub text : bytes ≡ referenced_bytes out
+  -- the last answer is whether there was one
+  pub found_is : found ≡ has_unmappable out
+  -- at InputEmpty all is read; on a last call the end has nothing left to write
+  pub input_empty : answer ≡ InputEmpty → (left ≡ []) × (IsTrue last → end_bytes after ≡ [])
+  -- at OutputFull the next act and a reference lack their room
+  pub output_full : answer ≡ OutputFull → LacksReferenceRoom after left last (free - length bytes)
+  -- so that fewer than fourteen bytes are free
+  pub few : answer ≡ OutputFull → free - length bytes < 14
+  -- where the next act and a reference lack their room as the call begins, the answer is OutputFull and nothing was done
+  pub full_at_once : 0 < encoder_need before source last → LacksReferenceRoom before source last free →
+      (answer ≡ OutputFull) × (left ≡ source) × (bytes ≡ []) × (found ≡ false) × (after ≡ before)
+  -- with a length free that a query answered for at least so many code units, and ten bytes more, the output is only full
+  -- behind a scalar that has no bytes
+  pub enough : (form : EncodingForm) (n k : ℕ) → total_unit_count form source ≤ n → encoder_answer form before n ≡ Some k →
+      k + reference_room ≤ free → answer ≡ OutputFull → IsTrue found

@@ -1,0 +1,181 @@
+//! Calls of an encoder that write a numeric character reference for each scalar that has no bytes.
+ghost use Rattle.std.specs.Prelude.{◌≡◌, ℕ, ◌+◌, ◌-◌, ◌^◌, ◌<◌, ◌≤◌, List, ◌++◌, length, drop, take, decimal};
+ghost use Rattle.std.specs.Str.{chars, IsCharBoundary};
+ghost use Rattle.legacy_base.specs.EncodingForm.{total_unit_count};
+ghost use Rattle.legacy_base.specs.Texts.{unit_scalars, IsUnitBoundary};
+ghost use Rattle.legacy_base.specs.EncoderCalls.{EncoderCall};
+ghost use Rattle.legacy_codecs.specs.References.{reference, ReplacingEncoderCall};
+
+use crate::results::CoderResult;
+use legacy_base::{EncoderResult, RawEncoder, Source, Utf8Source, Utf16Source};
+
+/// The bytes of the longest reference, `&#1114111;`.
+const REFERENCE_ROOM: usize = 10;
+
+/// The most digits of a scalar's number.
+const DIGITS: usize = 7;
+
+/// Puts the digits of the number into the array, up to the place `end`, and answers the place of the
+/// first.
+#[tactic(auto, using(crate::proofs::ReferenceTexts::decimal_lengths))]
+fn put_digits(text: &mut [u8; REFERENCE_ROOM], end: usize, number: u32) -> usize
+    requires end { end ≤ REFERENCE_ROOM }
+    requires room { DIGITS ≤ end }
+    requires number { number < 10 ^ 7 }
+    ensures place { end ≤ result + DIGITS }
+    ensures within { result ≤ end }
+    ensures digits { drop result text.new ≡ decimal number ++ drop end text.old }
+{
+    let mut rest = number;
+    let mut place = end;
+    'digits: while rest >= 10 {
+        place -= 1;
+        text[place] = b'0' + (rest % 10) as u8;
+        rest /= 10;
+    }
+    place -= 1;
+    text[place] = b'0' + rest as u8;
+    place
+}
+
+/// Puts the reference of the scalar at the end of the array, and answers the place where it begins.
+fn make_reference(text: &mut [u8; REFERENCE_ROOM], c: char) -> usize
+    ensures place { result ≤ REFERENCE_ROOM }
+    ensures reference { drop result text.new ≡ reference c }
+{
+    text[REFERENCE_ROOM - 1] = b';';
+    let digits = put_digits(text, REFERENCE_ROOM - 1, c as u32);
+    text[digits - 1] = b'#';
+    text[digits - 2] = b'&';
+    digits - 2
+}
+
+/// Writes the reference of the scalar from a place on, and answers where it ends.
+fn put_reference(dst: &mut [u8], at: usize, c: char) -> usize
+    requires { at + REFERENCE_ROOM ≤ length dst.old }
+    ensures end { result ≡ at + length (reference c) }
+    ensures within { result ≤ length dst.new }
+    ensures bytes { take result dst.new ≡ take at dst.old ++ reference c }
+{
+    let mut text = [0; REFERENCE_ROOM];
+    let start = make_reference(&mut text, c);
+    let end = at + (REFERENCE_ROOM - start);
+    dst[at..end].copy_from_slice(&text[start..]);
+    end
+}
+
+/// Makes one call of the encoder into the output from a place on, but for the room of a reference at its
+/// end, and answers its answer and where its bytes end.
+fn encode_from<E: RawEncoder, S: Source>(
+    encoder: &mut E,
+    src: &mut S,
+    dst: &mut [u8],
+    at: usize,
+    last: bool,
+) -> (EncoderResult, usize)
+    requires { at + REFERENCE_ROOM ≤ length dst.old }
+    ensures call { (bytes : List ℕ) × EncoderCall (E.state encoder.old) (S.left src.old) last
+        (length dst.old - REFERENCE_ROOM - at) (E.state encoder.new) result.0 (S.left src.new) bytes
+        × (take result.1 dst.new ≡ take at dst.old ++ bytes)
+        × (result.1 ≡ at + length bytes) }
+    ensures room { result.1 + REFERENCE_ROOM ≤ length dst.new }
+    ensures passed { S.passed src.new + total_unit_count S.form (S.left src.new)
+        ≡ S.passed src.old + total_unit_count S.form (S.left src.old) }
+{
+    let end = dst.len() - REFERENCE_ROOM;
+    let (answer, written) = encoder.step(src, &mut dst[at..end], last);
+    (answer, at + written)
+}
+
+/// Makes calls of the encoder while a reference has room behind each, until one does not answer
+/// `Unmappable`, and writes the reference behind each that does. Answers how it ended, how many bytes were
+/// written, and whether a reference was.
+fn encode_replacing<E: RawEncoder, S: Source>(
+    encoder: &mut E,
+    src: &mut S,
+    dst: &mut [u8],
+    last: bool,
+) -> (CoderResult, usize, bool)
+    ensures call { ReplacingEncoderCall (E.state encoder.old) (S.left src.old) last (length dst.old)
+        (E.state encoder.new) result.0 (S.left src.new) (take result.1 dst.new) result.2 }
+    ensures written { result.1 ≤ length dst.new }
+    ensures passed { S.passed src.new + total_unit_count S.form (S.left src.new)
+        ≡ S.passed src.old + total_unit_count S.form (S.left src.old) }
+{
+    let mut written: usize = 0;
+    let mut replaced = false;
+    'calls: while dst.len() - written >= REFERENCE_ROOM {
+        let (answer, end) = encode_from(encoder, src, dst, written, last);
+        written = end;
+        match answer {
+            EncoderResult::InputEmpty => return (CoderResult::InputEmpty, written, replaced),
+            EncoderResult::OutputFull => return (CoderResult::OutputFull, written, replaced),
+            EncoderResult::Unmappable(c) => {
+                written = put_reference(dst, written, c);
+                replaced = true;
+            }
+        }
+    }
+    if src.peek().is_some() {
+        return (CoderResult::OutputFull, written, replaced);
+    }
+    match encoder.step(src, &mut [], last).0 {
+        EncoderResult::InputEmpty => (CoderResult::InputEmpty, written, replaced),
+        EncoderResult::OutputFull | EncoderResult::Unmappable(_) => {
+            (CoderResult::OutputFull, written, replaced)
+        }
+    }
+}
+
+/// Encodes scalars from the front of a text in UTF-8, with a numeric character reference for each scalar
+/// that has no bytes in the encoding, as `&#128169;` (Encoding Standard, error mode "html"). Answers how
+/// that ended, how many bytes of `src` were read, how many were written, which stand at the front of `dst`,
+/// and whether a reference was written. What was read ends between two characters.
+///
+/// - `InputEmpty`: the whole of `src` was read; where `last` is set, the end is written too.
+/// - `OutputFull`: what is free is less than the encoder's next act and a reference need, which is at most
+///   14 bytes. Where that is so as the call begins, nothing is read or written and the encoder is unchanged.
+///
+/// Where `dst` has 10 bytes more than `max_buffer_length_from_utf8_without_replacement` answered for at
+/// least so many bytes, `OutputFull` only comes where a reference was written. The encoder goes on from its
+/// state after either answer.
+pub fn encode_replacing_utf8<E: RawEncoder>(
+    encoder: &mut E,
+    src: &str,
+    dst: &mut [u8],
+    last: bool,
+) -> (CoderResult, usize, usize, bool)
+    ensures call { ReplacingEncoderCall (E.state encoder.old) (chars src.now) last (length dst.old)
+        (E.state encoder.new) result.0 (chars (drop result.1 src.now)) (take result.2 dst.new)
+        result.3 }
+    ensures boundary { IsCharBoundary src.now result.1 }
+    ensures written { result.2 ≤ length dst.new }
+{
+    let mut source = Utf8Source::new(src);
+    let (answer, written, replaced) = encode_replacing(encoder, &mut source, dst, last);
+    let read = source.consumed();
+    (answer, read, written, replaced)
+}
+
+/// Encodes scalars from the front of code units of UTF-16, each unpaired surrogate being U+FFFD, with a
+/// numeric character reference for each scalar that has no bytes in the encoding.
+///
+/// It is as `encode_replacing_utf8`, but reads code units of UTF-16 and parts no pair of surrogates, and
+/// the length is that of `max_buffer_length_from_utf16_without_replacement`.
+pub fn encode_replacing_utf16<E: RawEncoder>(
+    encoder: &mut E,
+    src: &[u16],
+    dst: &mut [u8],
+    last: bool,
+) -> (CoderResult, usize, usize, bool)
+    ensures call { ReplacingEncoderCall (E.state encoder.old) (unit_scalars src.now) last
+        (length dst.old) (E.state encoder.new) result.0 (unit_scalars (drop result.1 src.now))
+        (take result.2 dst.new) result.3 }
+    ensures boundary { IsUnitBoundary src.now result.1 }
+    ensures written { result.2 ≤ length dst.new }
+{
+    let mut source = Utf16Source::new(src);
+    let (answer, written, replaced) = encode_replacing(encoder, &mut source, dst, last);
+    let read = source.consumed();
+    (answer, read, written, replaced)
+}
