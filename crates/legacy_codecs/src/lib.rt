@@ -20,5 +20,9 @@ pub use legacy_decoders::{
     Big5Decoder, EucJpDecoder, EucKrDecoder, Gb18030Decoder, Iso2022JpDecoder, ReplacementDecoder,
     ShiftJisDecoder, SingleByteDecoder, UserDefinedDecoder, Utf16Decoder,
 };
+pub use legacy_encoders::{
+    Big5Encoder, EucJpEncoder, EucKrEncoder, Gb18030Encoder, ShiftJisEncoder, SingleByteEncoder,
+    SingleByteRunError, UserDefinedEncoder,
+};
 pub use run_parts::RunError;
 pub use scalars::{OutputForm, ScalarBuffer, Utf8Form, Utf16Form};
