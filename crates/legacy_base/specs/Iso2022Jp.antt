@@ -272,11 +272,15 @@ escape_between in_roman in_roman = []
 escape_between in_two_byte in_two_byte = []
 escape_between _ new = escape_to new
 
--- what a scalar gives behind the scalars `before`, the last one first: an escape where the mode changes, and its bytes
+-- the escape before c behind the scalars `before`, the last one first, of a text that began in the mode
+abbrev pub escape_before : List ℕ → List ℕ → EncoderMode → List ℕ → ℕ → List ℕ
+escape_before jis0208 katakana_index mode before c =
+    escape_between (mode_behind jis0208 katakana_index mode before) (mode_behind jis0208 katakana_index mode (c ∷ before))
+
+-- what c gives there: the escape, where the mode changes, and its bytes, or the report that it has none
 abbrev pub iso_2022_jp_scalar_events : List ℕ → List ℕ → EncoderMode → List ℕ → ℕ → List EncodeEvent
 iso_2022_jp_scalar_events jis0208 katakana_index mode before c =
-    map Byte (escape_between
-    (mode_behind jis0208 katakana_index mode before) (mode_behind jis0208 katakana_index mode (c ∷ before)))
+    map Byte (escape_before jis0208 katakana_index mode before c)
     ++ code_events (iso_2022_jp_reported c) (iso_2022_jp_code jis0208 katakana_index c)
 
 -- what the end of a text gives: the escape to ASCII mode where it ends in another; a text that goes on gives nothing

@@ -1,11 +1,15 @@
 -- What the check of an encoder's run has shown, and the codes that follow from a table's places.
-use Rattle.std.proofs.Common.{◌≡◌, ◌↔◌, ◌∙◌, IfSome, ℕ, ◌+◌, ◌≤◌, ◌<◌, ◌==◌, List, ◌∷◌, [], length, get_or, refl, sym, ap, arith, Some, None, Option, Bool, true, false, not, option_map, position, eqb}
+use Rattle.std.proofs.Common.{◌≡◌, ◌↔◌, ◌∙◌, IfSome, ℕ, ◌+◌, ◌≤◌, ◌<◌, ◌==◌, List, ◌∷◌, [], length, get_or, refl, sym, ap, subst, arith, Some, None, Option, Bool, true, false, not, option_map, position, eqb}
 use Rattle.std.proofs.lemmas.Bool.{ne_eqb, lt-ltb, le-ltb, eqb-true}
+use Rattle.std.proofs.lemmas.Bool.Decides.{nat_tests}
+use Rattle.std.proofs.lemmas.List.Elements.{All-get_or}
+use Rattle.std.specs.Char.{IsScalar}
+use Rattle.legacy_base.specs.UnitCodes.{IsNoSurrogate}
 use Rattle.legacy_base.specs.Indexes.{entry_scalar, idx}
 use Rattle.legacy_base.specs.SingleByte.{single_byte_code}
 use Rattle.legacy_base.specs.TableChecks.{IsAcceptedTable}
 use Rattle.legacy_base.proofs.Accepted.{entry_scalar-is}
-use Rattle.legacy_base.proofs.AcceptedTable.{position-idx, within}
+use Rattle.legacy_base.proofs.AcceptedTable.{position-idx, within, table-scalars}
 use Rattle.legacy_base.proofs.FirstPlaces.{find-first, find-none-at}
 use Rattle.legacy_single_byte.specs.SingleByteRun.{IsRun, first_mismatch}
 
@@ -48,6 +52,13 @@ module _ (table : List ℕ) (accepted : IsAcceptedTable table) (c : ℕ) (past :
   code_at p e =
       let is : idx table p ≡ Some c = ap entry_scalar e ∙ rw (ne_eqb c 0 (λ n. omega arith)) refl in
       rw (le-ltb c 128 past, (position-idx table accepted c (λ z. omega arith) p).1 is) refl
+
+  -- which is no surrogate
+  pub lone_at : (p : ℕ) → get_or table p 0 ≡ c → IsNoSurrogate c
+  lone_at p e high =
+      let inside = within table accepted p c e (λ z. omega (arith, z, past)) in
+      let scalar : IsScalar c = subst IsScalar e (All-get_or IsScalar table p 0 inside (table-scalars table accepted)) in
+      grind (arith, nat_tests)
 
 -- ASCII is itself
 pub code_ascii : (table : List ℕ) (c : ℕ) → c < 128 → single_byte_code table c ≡ Some (c ∷ [])

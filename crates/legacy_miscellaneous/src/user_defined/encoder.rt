@@ -52,6 +52,23 @@ impl PlainCodes for UserDefinedEncoder {
             EncoderMove::Unmappable(c)
         }
     }
+
+    #[inline(always)]
+    fn goes_by_units(&self) -> bool {
+        true
+    }
+
+    #[inline(always)]
+    #[tactic(auto, unfolding(legacy_base::specs::UserDefined::user_defined_code))]
+    fn byte_of(&self, unit: u16) -> (u8, bool) {
+        if unit < 0x80 {
+            (unit as u8, true)
+        } else if unit >= 0xF780 && unit <= 0xF7FF {
+            ((0x80 + (unit - 0xF780)) as u8, true)
+        } else {
+            (0, false)
+        }
+    }
 }
 
 impl RawEncoder for UserDefinedEncoder {

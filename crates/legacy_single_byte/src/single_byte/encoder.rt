@@ -34,6 +34,15 @@ fn place_of(table: &SingleByteTable, c: char) -> Option<usize>
     table.place(c)
 }
 
+/// The unit where it is ASCII, and else the byte.
+#[inline(always)]
+fn ascii_or(unit: u16, byte: u8) -> u8
+    ensures ascii { unit < 0x80 → result ≡ unit }
+    ensures past { 0x80 ≤ unit → result ≡ byte }
+{
+    if unit < 0x80 { unit as u8 } else { byte }
+}
+
 /// Whether one of two tests holds, of which both are made.
 #[inline(always)]
 fn either(first: bool, second: bool) -> bool
@@ -82,9 +91,28 @@ impl<'a> SingleByteEncoder<'a> {
         if code >= first { code - first } else { 0xFFFF }
     }
 
+    /// How far a code unit is behind the first of the run: past the run's end where it stands before it.
+    #[inline(always)]
+    fn unit_place(&self, unit: u16) -> u16
+        ensures { result < self.now.run_length → (self.now.run_bmp_offset ≤ unit)
+            × (result ≡ unit - self.now.run_bmp_offset) }
+    {
+        let first = self.run_bmp_offset;
+        if unit >= first { unit - first } else { 0xFFFF }
+    }
+
+    /// The byte of a place of the run; past its end, any byte.
+    #[inline(always)]
+    fn run_byte(&self, place: u16) -> u8
+        ensures { place < self.now.run_length → result ≡ 0x80 + (self.now.run_byte_offset + place) }
+    {
+        let first = 0x80 + u16::from(self.run_byte_offset);
+        (place.wrapping_add(first) % 0x100) as u8
+    }
+
     /// The byte of a scalar that is ASCII, or at this place of the run.
     #[inline(always)]
-    fn byte_of(&self, code: u32, place: u32) -> u8
+    fn byte_at(&self, code: u32, place: u32) -> u8
         requires { 128 ≤ code → place < self.now.run_length }
         ensures ascii { code < 128 → result ≡ code }
         ensures past { 128 ≤ code → result ≡ 0x80 + (self.now.run_byte_offset + place) }
@@ -116,12 +144,26 @@ impl PlainCodes for SingleByteEncoder<'_> {
         let code = c as u32;
         let place = self.run_place(code);
         if either(code < 0x80, place < u32::from(self.run_length)) {
-            return EncoderMove::One(self.byte_of(code, place));
+            return EncoderMove::One(self.byte_at(code, place));
         }
         match place_of(self.table, c) {
             Some(place) => EncoderMove::One((0x80 + place) as u8),
             None => EncoderMove::Unmappable(c),
         }
+    }
+
+    #[inline(always)]
+    fn goes_by_units(&self) -> bool {
+        true
+    }
+
+    // Without a branch: the compiler makes vectors of it.
+    #[inline(always)]
+    fn byte_of(&self, unit: u16) -> (u8, bool) {
+        let place = self.unit_place(unit);
+        let byte = ascii_or(unit, self.run_byte(place));
+        let is_in_run = place < u16::from(self.run_length);
+        (byte, either(unit < 0x80, is_in_run))
     }
 }
 
