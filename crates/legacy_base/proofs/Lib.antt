@@ -9,6 +9,7 @@ pub mod Enough
 pub mod EncoderLaws
 pub mod Iso2022JpParts
 pub mod Iso2022JpFronts
+pub mod Iso2022JpEncoding
 pub mod TableLoops
 pub mod FirstPlaces
 pub mod Pointers

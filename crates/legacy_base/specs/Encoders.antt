@@ -12,6 +12,7 @@ use Rattle.legacy_base.specs.EucKr.{euc_kr_encoder}
 use Rattle.legacy_base.specs.ShiftJis.{shift_jis_encoder}
 use Rattle.legacy_base.specs.EucJp.{euc_jp_encoder}
 use Rattle.legacy_base.specs.Gb18030.{gb18030_encoder, gbk_encoder}
+use Rattle.legacy_base.specs.Iso2022Jp.{iso_2022_jp_encoder}
 
 -- A codec with the lists of both its directions.
 pub data Codec : Type 0 where
@@ -23,6 +24,7 @@ pub data Codec : Type 0 where
   euc_jp : (jis0208 jis0212 : List ℕ) → Codec
   gb18030 : (index : List ℕ) (ranges : List (ℕ × ℕ)) (pua : List (ℕ × ℕ × ℕ)) → Codec
   gbk : (index : List ℕ) (ranges : List (ℕ × ℕ)) (pua : List (ℕ × ℕ × ℕ)) → Codec
+  iso_2022_jp : (jis0208 katakana_index : List ℕ) → Codec
 
 -- the encoder of a codec
 abbrev pub encoder_profile : Codec → EncoderProfile
@@ -34,6 +36,7 @@ encoder_profile (shift_jis jis0208) = shift_jis_encoder jis0208
 encoder_profile (euc_jp jis0208 jis0212) = euc_jp_encoder jis0208
 encoder_profile (gb18030 index ranges pua) = gb18030_encoder index ranges pua
 encoder_profile (gbk index ranges pua) = gbk_encoder index pua
+encoder_profile (iso_2022_jp jis0208 katakana_index) = iso_2022_jp_encoder jis0208 katakana_index
 
 -- ---- an encoder between two calls
 

@@ -1,14 +1,21 @@
--- The events of ISO-2022-JP (WHATWG Encoding Standard, "ISO-2022-JP decoder"): the list is cut before each
--- escape byte, and each part is read by itself.
-use Rattle.std.specs.Prelude.{ℕ, ◌+◌, ◌-◌, ◌*◌, List, [], ◌∷◌, ◌++◌, drop, Option, Some, None, Bool, true, false, not, ◌&&◌, ◌||◌, ◌==◌, if◌then◌else◌, length, is_some, option_to_list, unwrap_or}
+-- ISO-2022-JP (WHATWG Encoding Standard, "ISO-2022-JP decoder" and "ISO-2022-JP encoder"). Bytes are cut before each
+-- escape byte, and each part is read by itself. Of a text, the mode behind each scalar is found by looking back: no
+-- mode is carried along.
+use Rattle.std.specs.Prelude.{ℕ, ◌+◌, ◌-◌, ◌*◌, ◌/◌, ◌%◌, List, [], ◌∷◌, ◌++◌, drop, map, Option, Some, None, Bool, true, false, not, ◌&&◌, ◌||◌, ◌==◌, if◌then◌else◌, length, is_some, is_none, option_to_list, option_map, option_and_then, unwrap_or}
 use Rattle.std.specs.Int.{is_in_range}
 use Rattle.std.specs.Char.{is_ascii}
 use Rattle.legacy_base.specs.declared.results.DecodeEvent.{DecodeEvent}
 use Rattle.legacy_base.specs.declared.results.DecodeEvent.TheVariants.{Bad}
+use Rattle.legacy_base.specs.declared.results.EncodeEvent.{EncodeEvent}
+use Rattle.legacy_base.specs.declared.results.EncodeEvent.TheVariants.{Byte}
 use Rattle.legacy_base.specs.Fronts.{Front, reads, malformed, reads_or, cut}
 use Rattle.legacy_base.specs.Indexes.{idx}
 use Rattle.legacy_base.specs.Profile.{Profile, narrow_acts}
-use Rattle.legacy_base.specs.Formulas.{weighed, constant, ◌⊠◌}
+use Rattle.legacy_base.specs.Formulas.{weighed, constant, ◌⊠◌, number, ◌⊕◌, ◌⊗◌, half}
+use Rattle.legacy_base.specs.EncodingForm.{EncodingForm, Utf8, Utf16}
+use Rattle.legacy_base.specs.EncodeEvents.{code_events}
+use Rattle.legacy_base.specs.EncoderProfile.{EncoderProfile, EncoderMode, in_ascii, in_roman, in_two_byte, by_form}
+use Rattle.legacy_base.specs.Pointers.{euc_jp_pointer_of, minus_as_hyphen}
 
 -- how the bytes behind an escape are read
 pub data Mode : Type 0 where
@@ -155,7 +162,7 @@ iso_2022_jp_rests mode _ = true
 abbrev pub iso_2022_jp_weight : List ℕ → ℕ
 iso_2022_jp_weight bytes = if is_whole_escape bytes then length bytes - 2 else length bytes
 
--- the codec in a mode
+-- the decoder in a mode
 abbrev pub iso_2022_jp_profile : List ℕ → Mode → Profile
 iso_2022_jp_profile jis0208 mode = record {
   events = iso_2022_jp_events jis0208 mode;
@@ -170,4 +177,137 @@ iso_2022_jp_profile jis0208 mode = record {
   utf16_length = weighed;
   utf8_length = constant 3 ⊠ weighed;
   utf8_length_without_replacement = constant 3 ⊠ weighed;
+}
+
+-- ---- encoding: the code of a scalar, without the escapes around it
+
+-- the controls that would switch modes have no code
+abbrev pub is_mode_control : ℕ → Bool
+is_mode_control c = (c == 0x0E || c == 0x0F) || c == esc
+
+-- The scalar that is looked up for c: for a half-width katakana letter the entry of the katakana index, if it has
+-- one, and for the minus sign the full-width hyphen-minus.
+abbrev pub iso_2022_jp_fold : List ℕ → ℕ → Option ℕ
+iso_2022_jp_fold katakana_index c =
+    if is_in_range 0xFF61 0xFF9F c then idx katakana_index (c - 0xFF61) else Some (minus_as_hyphen c)
+
+-- the pointer of what is looked up for c
+abbrev pub iso_2022_jp_pointer_of : List ℕ → List ℕ → ℕ → Option ℕ
+iso_2022_jp_pointer_of jis0208 katakana_index c =
+    option_and_then (euc_jp_pointer_of jis0208) (iso_2022_jp_fold katakana_index c)
+
+-- the two bytes of a pointer
+abbrev pub iso_2022_jp_pair : ℕ → List ℕ
+iso_2022_jp_pair p = (p / 94 + 0x21) ∷ (p % 94 + 0x21) ∷ []
+
+-- the code of a scalar, in the mode that it needs
+unfoldable pub iso_2022_jp_code : List ℕ → List ℕ → ℕ → Option (List ℕ)
+iso_2022_jp_code jis0208 katakana_index c =
+    if is_mode_control c then None
+    else if is_ascii c then Some (c ∷ [])
+    else if c == 0xA5 then Some (0x5C ∷ [])
+    else if c == 0x203E then Some (0x7E ∷ [])
+    else option_map iso_2022_jp_pair (iso_2022_jp_pointer_of jis0208 katakana_index c)
+
+-- the scalar that is reported where c has no code
+abbrev pub iso_2022_jp_reported : ℕ → ℕ
+iso_2022_jp_reported c = if is_mode_control c then 0xFFFD else c
+
+-- ---- the mode behind a text
+
+-- a scalar that is the same byte in ASCII mode and in Roman mode
+abbrev pub is_neutral_scalar : ℕ → Bool
+is_neutral_scalar c = is_ascii c && not ((c == 0x5C || c == 0x7E) || is_mode_control c)
+
+-- a scalar of Roman mode alone
+abbrev pub is_roman_scalar : ℕ → Bool
+is_roman_scalar c = c == 0xA5 || c == 0x203E
+
+-- the code is a pair
+abbrev pub is_pair : Option (List ℕ) → Bool
+is_pair (Some (a ∷ b ∷ [])) = true
+is_pair _ = false
+
+-- the scalar is written in two-byte mode
+abbrev pub is_two_byte_scalar : List ℕ → List ℕ → ℕ → Bool
+is_two_byte_scalar jis0208 katakana_index c = is_pair (iso_2022_jp_code jis0208 katakana_index c)
+
+-- the scalar says nothing of the mode: it is neutral, or has no code
+abbrev pub keeps_mode : List ℕ → List ℕ → ℕ → Bool
+keeps_mode jis0208 katakana_index c = is_neutral_scalar c || is_none (iso_2022_jp_code jis0208 katakana_index c)
+
+-- Roman mode stays, and any other becomes ASCII mode
+abbrev pub roman_or_ascii : EncoderMode → EncoderMode
+roman_or_ascii in_roman = in_roman
+roman_or_ascii _ = in_ascii
+
+-- The mode behind a text that does not end with a scalar of two-byte mode, its last scalar first, where it began in
+-- the mode: the last scalar that says something of the mode decides, and without one a Roman mode stays.
+unfoldable pub settled_mode : List ℕ → List ℕ → EncoderMode → List ℕ → EncoderMode
+settled_mode jis0208 katakana_index mode [] = roman_or_ascii mode
+settled_mode jis0208 katakana_index mode (c ∷ before) =
+    if keeps_mode jis0208 katakana_index c then settled_mode jis0208 katakana_index mode before
+    else if is_roman_scalar c then in_roman
+    else in_ascii
+
+-- the mode behind a text that began in the mode, its last scalar first
+unfoldable pub mode_behind : List ℕ → List ℕ → EncoderMode → List ℕ → EncoderMode
+mode_behind jis0208 katakana_index mode [] = mode
+mode_behind jis0208 katakana_index mode (c ∷ before) =
+    if is_two_byte_scalar jis0208 katakana_index c then in_two_byte
+    else settled_mode jis0208 katakana_index mode (c ∷ before)
+
+-- ---- the events of a text
+
+-- the escape to a mode
+abbrev pub escape_to : EncoderMode → List ℕ
+escape_to in_ascii = esc ∷ 0x28 ∷ 0x42 ∷ []
+escape_to in_roman = esc ∷ 0x28 ∷ 0x4A ∷ []
+escape_to in_two_byte = esc ∷ 0x24 ∷ 0x42 ∷ []
+
+-- the escape from one mode to another, and nothing between equal ones
+abbrev pub escape_between : EncoderMode → EncoderMode → List ℕ
+escape_between in_ascii in_ascii = []
+escape_between in_roman in_roman = []
+escape_between in_two_byte in_two_byte = []
+escape_between _ new = escape_to new
+
+-- what a scalar gives behind the scalars `before`, the last one first: an escape where the mode changes, and its bytes
+abbrev pub iso_2022_jp_scalar_events : List ℕ → List ℕ → EncoderMode → List ℕ → ℕ → List EncodeEvent
+iso_2022_jp_scalar_events jis0208 katakana_index mode before c =
+    map Byte (escape_between
+    (mode_behind jis0208 katakana_index mode before) (mode_behind jis0208 katakana_index mode (c ∷ before)))
+    ++ code_events (iso_2022_jp_reported c) (iso_2022_jp_code jis0208 katakana_index c)
+
+-- what the end of a text gives: the escape to ASCII mode where it ends in another; a text that goes on gives nothing
+abbrev pub iso_2022_jp_end_events : EncoderMode → Bool → List EncodeEvent
+iso_2022_jp_end_events mode false = []
+iso_2022_jp_end_events mode true = map Byte (escape_between mode in_ascii)
+
+-- the events of the rest of a text that began in the mode, behind the scalars `before`, the last one first
+unfoldable pub iso_2022_jp_text_events : List ℕ → List ℕ
+    → EncoderMode → List ℕ → List ℕ → Bool → List EncodeEvent
+iso_2022_jp_text_events jis0208 katakana_index mode before [] ended =
+    iso_2022_jp_end_events (mode_behind jis0208 katakana_index mode before) ended
+iso_2022_jp_text_events jis0208 katakana_index mode before (c ∷ text) ended =
+    iso_2022_jp_scalar_events jis0208 katakana_index mode before c
+    ++ iso_2022_jp_text_events jis0208 katakana_index mode (c ∷ before) text ended
+
+-- by how much less than the formula's value is enough: by one from UTF-8 in ASCII mode, and by one from UTF-16 in
+-- two-byte mode for an odd number of code units
+abbrev pub iso_2022_jp_surplus : EncodingForm → EncoderMode → ℕ → ℕ
+iso_2022_jp_surplus Utf8 in_ascii n = 1
+iso_2022_jp_surplus Utf16 in_two_byte n = n % 2
+iso_2022_jp_surplus _ _ n = 0
+
+-- the encoder
+abbrev pub iso_2022_jp_encoder : List ℕ → List ℕ → EncoderProfile
+iso_2022_jp_encoder jis0208 katakana_index = record {
+  code = iso_2022_jp_code jis0208 katakana_index;
+  events = λ mode. iso_2022_jp_text_events jis0208 katakana_index mode [];
+  mode_for = λ mode c. mode_behind jis0208 katakana_index mode (c ∷ []);
+  end_bytes = λ mode. escape_between mode in_ascii;
+  scalar_room = λ c. 3;
+  formula = by_form (λ n. number 3 ⊕ number 3 ⊗ n) (λ n. (number 3 ⊕ number 4 ⊗ n) ⊕ half (n ⊕ number 1));
+  surplus = iso_2022_jp_surplus;
 }

@@ -9,6 +9,8 @@ pub mod Iso2022JpEnding
 pub mod Iso2022JpEscapes
 pub mod Iso2022JpFeeding
 pub mod Iso2022JpRuns
+pub mod Iso2022JpEncoderRooms
+pub mod Iso2022JpEncoderMoves
 pub mod ShiftJisRuns
 pub mod ShiftJisPlaces
 pub mod Jis0208Places

@@ -7,6 +7,7 @@ pub mod Iso2022JpMachine
 pub mod Iso2022JpMoves
 pub mod Iso2022JpDecoder
 pub mod Iso2022JpRuns
+pub mod Iso2022JpEncoder
 pub mod Jis0208Places
 pub mod ShiftJisCodes
 pub mod ShiftJisMachine

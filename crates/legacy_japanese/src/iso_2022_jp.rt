@@ -1,5 +1,6 @@
 //! ISO-2022-JP.
 pub mod decoder;
+pub mod encoder;
 pub mod places;
 pub mod runs;
 pub mod steps;

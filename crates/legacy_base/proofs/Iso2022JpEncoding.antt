@@ -1,0 +1,269 @@
+-- A text in ISO-2022-JP, scalar by scalar: the escape to the mode of the first one, its own bytes, and then the rest as
+-- from that mode.
+use Rattle.std.proofs.Common.{◌≡◌, ◌∙◌, ℕ, ◌/◌, ◌%◌, ◌+◌, ◌≤◌, List, [], ◌∷◌, ◌++◌, map, refl, sym, ap, arith, append_assoc, Bool, true, false, ◌||◌, ◌&&◌, not, Some, None, Option, cond, eqb, option_map, is_none}
+use Rattle.std.specs.Char.{is_ascii}
+use Rattle.std.proofs.lemmas.Bool.{ne_eqb}
+use borrow.Author.Tests.{ltb-true}
+use Rattle.legacy_base.specs.declared.results.EncodeEvent.{EncodeEvent}
+use Rattle.legacy_base.specs.declared.results.EncodeEvent.TheVariants.{Byte}
+use Rattle.legacy_base.specs.EncodeEvents.{code_events, code_length}
+use Rattle.legacy_base.specs.EncoderProfile.{EncoderMode, in_ascii, in_roman, in_two_byte}
+use Rattle.legacy_base.specs.Iso2022Jp.{is_mode_control, iso_2022_jp_pointer_of, iso_2022_jp_pair, iso_2022_jp_code, iso_2022_jp_reported, is_roman_scalar, is_pair, is_two_byte_scalar, keeps_mode, roman_or_ascii, settled_mode, mode_behind, escape_to, escape_between, iso_2022_jp_text_events}
+
+-- ---- the rules of a code, with the tests of a scalar c
+
+abbrev by_rules : ℕ → (control is_ascii_byte yen overline : Bool) → Option (List ℕ) → Option (List ℕ)
+by_rules c control is_ascii_byte yen overline pair =
+    cond control None (cond is_ascii_byte (Some (c ∷ [])) (cond yen (Some (0x5C ∷ [])) (cond overline (Some (0x7E ∷ [])) pair)))
+
+pair_settles_by : (c : ℕ) (control is_ascii_byte yen overline special : Bool) (pair : Option (List ℕ))
+    → is_pair (by_rules c control is_ascii_byte yen overline pair) ≡ true
+    → (((is_ascii_byte && not (special || control)) || is_none (by_rules c control is_ascii_byte yen overline pair)) ≡ false) × ((yen || overline) ≡ false)
+pair_settles_by c true is_ascii_byte yen overline special pair h = cc
+pair_settles_by c false true yen overline special pair h = cc
+pair_settles_by c false false true overline special pair h = cc
+pair_settles_by c false false false true special pair h = cc
+pair_settles_by c false false false false special None h = cc
+pair_settles_by c false false false false special (Some bytes) h = (refl, refl)
+
+-- ---- modes
+
+-- a settled mode is Roman or ASCII
+settled_twice : (keeps romans : Bool) (mode : EncoderMode) → roman_or_ascii mode ≡ mode
+    → roman_or_ascii (cond keeps mode (cond romans in_roman in_ascii)) ≡ cond keeps mode (cond romans in_roman in_ascii)
+settled_twice true romans mode e = e
+settled_twice false true mode e = refl
+settled_twice false false mode e = refl
+
+roman_or_ascii-twice : (mode : EncoderMode) → roman_or_ascii (roman_or_ascii mode) ≡ roman_or_ascii mode
+roman_or_ascii-twice in_ascii = refl
+roman_or_ascii-twice in_roman = refl
+roman_or_ascii-twice in_two_byte = refl
+
+pub escape_between-same : (mode : EncoderMode) → escape_between mode mode ≡ []
+escape_between-same in_ascii = refl
+escape_between-same in_roman = refl
+escape_between-same in_two_byte = refl
+
+pub escape_between-other : (mode new : EncoderMode) → (mode ≡ new → ⊥) → escape_between mode new ≡ escape_to new
+escape_between-other in_ascii in_ascii n = absurd (n refl)
+escape_between-other in_ascii in_roman n = refl
+escape_between-other in_ascii in_two_byte n = refl
+escape_between-other in_roman in_ascii n = refl
+escape_between-other in_roman in_roman n = absurd (n refl)
+escape_between-other in_roman in_two_byte n = refl
+escape_between-other in_two_byte in_ascii n = refl
+escape_between-other in_two_byte in_roman n = refl
+escape_between-other in_two_byte in_two_byte n = absurd (n refl)
+
+-- the mode behind one scalar, by what it says of the mode
+abbrev pub mode_by : (pair keeps romans : Bool) → EncoderMode → EncoderMode
+mode_by pair keeps romans mode = cond pair in_two_byte (cond keeps (roman_or_ascii mode) (cond romans in_roman in_ascii))
+
+mode_by-twice : (pair keeps romans : Bool) (mode : EncoderMode) → mode_by pair keeps romans (mode_by pair keeps romans mode) ≡ mode_by pair keeps romans mode
+mode_by-twice true keeps romans mode = refl
+mode_by-twice false true romans mode = roman_or_ascii-twice mode
+mode_by-twice false false romans mode = refl
+
+module _ (jis0208 katakana_index : List ℕ) where
+  -- a scalar that is written as a pair says something of the mode, and it is no scalar of Roman mode
+  pair_settles : (c : ℕ) → is_two_byte_scalar jis0208 katakana_index c ≡ true
+      → (keeps_mode jis0208 katakana_index c ≡ false) × (is_roman_scalar c ≡ false)
+  unfolding iso_2022_jp_code
+  pair_settles c h =
+      pair_settles_by c (is_mode_control c) (is_ascii c) (eqb c 0xA5) (eqb c 0x203E) (eqb c 0x5C || eqb c 0x7E)
+      (option_map iso_2022_jp_pair (iso_2022_jp_pointer_of jis0208 katakana_index c)) h
+
+  settled_mode-settled : (mode : EncoderMode) (before : List ℕ)
+      → roman_or_ascii (settled_mode jis0208 katakana_index mode before) ≡ settled_mode jis0208 katakana_index mode before
+  unfolding settled_mode
+  settled_mode-settled mode [] = roman_or_ascii-twice mode
+  settled_mode-settled mode (c ∷ before) =
+      settled_twice (keeps_mode jis0208 katakana_index c) (is_roman_scalar c) (settled_mode jis0208 katakana_index mode before) (settled_mode-settled mode before)
+
+  settled_mode-behind : (mode : EncoderMode) (before : List ℕ)
+      → settled_mode jis0208 katakana_index mode before ≡ roman_or_ascii (mode_behind jis0208 katakana_index mode before)
+  unfolding mode_behind settled_mode
+  settled_mode-behind mode [] = refl
+  settled_mode-behind mode (c ∷ before) = go (is_two_byte_scalar jis0208 katakana_index c) refl
+    where
+      go : (t : Bool) → is_two_byte_scalar jis0208 katakana_index c ≡ t
+          → settled_mode jis0208 katakana_index mode (c ∷ before)
+          ≡ roman_or_ascii (cond t in_two_byte (settled_mode jis0208 katakana_index mode (c ∷ before)))
+      go true h = let settles = pair_settles c h in rw (settles.0, settles.1) refl
+      go false h = sym (settled_mode-settled mode (c ∷ before))
+
+  -- the settled mode, and the mode, behind two parts are those behind the second from the mode behind the first
+  settled_mode-append : (mode : EncoderMode) (second first : List ℕ)
+      → settled_mode jis0208 katakana_index mode (second ++ first)
+      ≡ settled_mode jis0208 katakana_index (mode_behind jis0208 katakana_index mode first) second
+  unfolding settled_mode
+  settled_mode-append mode [] first = settled_mode-behind mode first
+  settled_mode-append mode (c ∷ second) first = rw (settled_mode-append mode second first) refl
+
+  pub mode_behind-append : (mode : EncoderMode) (second first : List ℕ)
+      → mode_behind jis0208 katakana_index mode (second ++ first)
+      ≡ mode_behind jis0208 katakana_index (mode_behind jis0208 katakana_index mode first) second
+  unfolding mode_behind
+  mode_behind-append mode [] first = refl
+  mode_behind-append mode (c ∷ second) first = rw (settled_mode-append mode (c ∷ second) first) refl
+
+  -- a text goes on as from the mode behind what was before
+  pub text_events-behind : (mode : EncoderMode) (near far text : List ℕ) (ended : Bool)
+      → iso_2022_jp_text_events jis0208 katakana_index mode (near ++ far) text ended
+      ≡ iso_2022_jp_text_events jis0208 katakana_index (mode_behind jis0208 katakana_index mode far) near text ended
+  unfolding iso_2022_jp_text_events
+  text_events-behind mode near far [] ended = rw (mode_behind-append mode near far) refl
+  text_events-behind mode near far (c ∷ text) ended =
+      let rest = text_events-behind mode (c ∷ near) far text ended in
+      rw (mode_behind-append mode near far, mode_behind-append mode (c ∷ near) far, rest) refl
+
+  -- ---- one scalar
+
+  -- the mode behind the scalar c
+  abbrev pub mode_for : EncoderMode → ℕ → EncoderMode
+  mode_for mode c = mode_behind jis0208 katakana_index mode (c ∷ [])
+
+  -- what the scalar gives by itself
+  abbrev pub own_events : ℕ → List EncodeEvent
+  own_events c = code_events (iso_2022_jp_reported c) (iso_2022_jp_code jis0208 katakana_index c)
+
+  -- the events of a text that begins in the mode
+  abbrev pub text_events : EncoderMode → List ℕ → Bool → List EncodeEvent
+  text_events mode text ended = iso_2022_jp_text_events jis0208 katakana_index mode [] text ended
+
+  pub mode_for-by : (mode : EncoderMode) (c : ℕ)
+      → mode_for mode c ≡ mode_by (is_two_byte_scalar jis0208 katakana_index c) (keeps_mode jis0208 katakana_index c) (is_roman_scalar c) mode
+  unfolding mode_behind settled_mode
+  mode_for-by mode c = refl
+
+  -- the scalar stays in the mode that it asked for
+  pub mode_for-twice : (mode : EncoderMode) (c : ℕ) → mode_for (mode_for mode c) c ≡ mode_for mode c
+  mode_for-twice mode c =
+      let pair = is_two_byte_scalar jis0208 katakana_index c in
+      let keeps = keeps_mode jis0208 katakana_index c in
+      rw (mode_for-by mode c, mode_for-by (mode_by pair keeps (is_roman_scalar c) mode) c) (mode_by-twice pair keeps (is_roman_scalar c) mode)
+
+  mode_behind-nothing : (mode : EncoderMode) → mode_behind jis0208 katakana_index mode [] ≡ mode
+  unfolding mode_behind
+  mode_behind-nothing mode = refl
+
+  -- a scalar, and then the rest as from the mode behind it
+  pub text_events-scalar : (mode : EncoderMode) (c : ℕ) (more : List ℕ) (ended : Bool)
+      → text_events mode (c ∷ more) ended
+      ≡ map Byte (escape_between mode (mode_for mode c)) ++ (own_events c ++ text_events (mode_for mode c) more ended)
+  unfolding iso_2022_jp_text_events
+  text_events-scalar mode c more ended =
+      ap (λ m. (map Byte (escape_between m (mode_for mode c)) ++ own_events c) ++ iso_2022_jp_text_events jis0208 katakana_index mode (c ∷ []) more ended) (mode_behind-nothing mode)
+      ∙ append_assoc (map Byte (escape_between mode (mode_for mode c))) (own_events c) (iso_2022_jp_text_events jis0208 katakana_index mode (c ∷ []) more ended)
+      ∙ ap (λ l. map Byte (escape_between mode (mode_for mode c)) ++ (own_events c ++ l)) (text_events-behind mode [] (c ∷ []) more ended)
+
+  -- a scalar that is written in the mode at hand
+  pub text_events-here : (mode : EncoderMode) (c : ℕ) → mode_for mode c ≡ mode → (more : List ℕ) (ended : Bool)
+      → text_events mode (c ∷ more) ended ≡ own_events c ++ text_events mode more ended
+  text_events-here mode c e more ended =
+      text_events-scalar mode c more ended
+      ∙ ap (λ m. map Byte (escape_between mode m) ++ (own_events c ++ text_events m more ended)) e
+      ∙ ap (λ l. map Byte l ++ (own_events c ++ text_events mode more ended)) (escape_between-same mode)
+
+  -- a scalar that is written in another mode: the escape to it, and then the same text as from that mode
+  pub text_events-escape : (mode new : EncoderMode) (c : ℕ) → mode_for mode c ≡ new → (mode ≡ new → ⊥) → (more : List ℕ) (ended : Bool)
+      → text_events mode (c ∷ more) ended ≡ map Byte (escape_to new) ++ text_events new (c ∷ more) ended
+  text_events-escape mode new c e n more ended =
+      let stays : mode_for new c ≡ new = ap (λ m. mode_for m c) (sym e) ∙ mode_for-twice mode c ∙ e in
+      text_events-scalar mode c more ended
+      ∙ ap (λ m. map Byte (escape_between mode m) ++ (own_events c ++ text_events m more ended)) e
+      ∙ ap (λ l. map Byte l ++ (own_events c ++ text_events new more ended)) (escape_between-other mode new n)
+      ∙ ap (λ l. map Byte (escape_to new) ++ l) (sym (text_events-here new c stays more ended))
+
+  -- ---- the end
+
+  pub text_events-end : (mode : EncoderMode) → text_events mode [] true ≡ map Byte (escape_between mode in_ascii)
+  unfolding iso_2022_jp_text_events
+  text_events-end mode = ap (λ m. map Byte (escape_between m in_ascii)) (mode_behind-nothing mode)
+
+  pub text_events-open : (mode : EncoderMode) → text_events mode [] false ≡ []
+  unfolding iso_2022_jp_text_events
+  text_events-open mode = refl
+
+  -- ---- what a scalar is, by the tests of its rules
+
+  -- the scalar c, in the mode, asks for a mode and has a code
+  pub record IsWritten (mode : EncoderMode) (c : ℕ) (new : EncoderMode) (own : Option (List ℕ)) : Type 0 where
+    pub mode_is : mode_for mode c ≡ new
+    pub code_is : iso_2022_jp_code jis0208 katakana_index c ≡ own
+
+  ascii_apart : (c : ℕ) → is_ascii c ≡ true → (eqb c 0xA5 ≡ false) × (eqb c 0x203E ≡ false)
+  ascii_apart c t = let l = ltb-true c 128 t in (ne_eqb c 0xA5 (λ e. omega arith), ne_eqb c 0x203E (λ e. omega arith))
+
+  pub at_control : (mode : EncoderMode) (c : ℕ) → is_mode_control c ≡ true → IsWritten mode c (roman_or_ascii mode) None
+  unfolding iso_2022_jp_code
+  at_control mode c t = record {
+    mode_is = mode_for-by mode c ∙ rw t (keeping _ _);
+    code_is = rw t refl;
+  }
+    where
+      keeping : (n : Bool) (x : EncoderMode) → cond (n || true) (roman_or_ascii mode) x ≡ roman_or_ascii mode
+      keeping true x = refl
+      keeping false x = refl
+
+  pub at_special : (mode : EncoderMode) (c : ℕ) → is_mode_control c ≡ false → is_ascii c ≡ true → (eqb c 0x5C || eqb c 0x7E) ≡ true
+      → IsWritten mode c in_ascii (Some (c ∷ []))
+  unfolding iso_2022_jp_code
+  at_special mode c f t s = let a = ascii_apart c t in record {
+    mode_is = mode_for-by mode c ∙ rw (f, t, s, a.0, a.1) refl;
+    code_is = rw (f, t) refl;
+  }
+
+  pub at_neutral : (mode : EncoderMode) (c : ℕ) → is_mode_control c ≡ false → is_ascii c ≡ true → (eqb c 0x5C || eqb c 0x7E) ≡ false
+      → IsWritten mode c (roman_or_ascii mode) (Some (c ∷ []))
+  unfolding iso_2022_jp_code
+  at_neutral mode c f t s = record {
+    mode_is = mode_for-by mode c ∙ rw (f, t, s) refl;
+    code_is = rw (f, t) refl;
+  }
+
+  pub at_yen : (mode : EncoderMode) (c : ℕ) → c ≡ 0xA5 → IsWritten mode c in_roman (Some (0x5C ∷ []))
+  unfolding iso_2022_jp_code
+  at_yen mode c e = record { mode_is = mode_for-by mode c ∙ rw e refl; code_is = rw e refl }
+
+  pub at_overline : (mode : EncoderMode) (c : ℕ) → c ≡ 0x203E → IsWritten mode c in_roman (Some (0x7E ∷ []))
+  unfolding iso_2022_jp_code
+  at_overline mode c e = record { mode_is = mode_for-by mode c ∙ rw e refl; code_is = rw e refl }
+
+  code-looked_up : (c : ℕ) → is_mode_control c ≡ false → is_ascii c ≡ false → (c ≡ 0xA5 → ⊥) → (c ≡ 0x203E → ⊥)
+      → iso_2022_jp_code jis0208 katakana_index c ≡ option_map iso_2022_jp_pair (iso_2022_jp_pointer_of jis0208 katakana_index c)
+  unfolding iso_2022_jp_code
+  code-looked_up c f a y o = rw (f, a, ne_eqb c 0xA5 y, ne_eqb c 0x203E o) refl
+
+  pub at_pair : (mode : EncoderMode) (c p : ℕ) → is_mode_control c ≡ false → is_ascii c ≡ false → (c ≡ 0xA5 → ⊥) → (c ≡ 0x203E → ⊥)
+      → iso_2022_jp_pointer_of jis0208 katakana_index c ≡ Some p
+      → IsWritten mode c in_two_byte (Some ((p / 94 + 0x21) ∷ (p % 94 + 0x21) ∷ []))
+  at_pair mode c p f a y o e = let k = code-looked_up c f a y o ∙ ap (option_map iso_2022_jp_pair) e in record {
+    mode_is = mode_for-by mode c ∙ rw k refl;
+    code_is = k;
+  }
+
+  pub at_none : (mode : EncoderMode) (c : ℕ) → is_mode_control c ≡ false → is_ascii c ≡ false → (c ≡ 0xA5 → ⊥) → (c ≡ 0x203E → ⊥)
+      → iso_2022_jp_pointer_of jis0208 katakana_index c ≡ None
+      → IsWritten mode c (roman_or_ascii mode) None
+  at_none mode c f a y o e = let k = code-looked_up c f a y o ∙ ap (option_map iso_2022_jp_pair) e in record {
+    mode_is = mode_for-by mode c ∙ rw (k, a) refl;
+    code_is = k;
+  }
+
+  -- ---- how long codes are
+
+  if_short : (t : Bool) (a b : Option (List ℕ)) (n : ℕ) → code_length a ≤ n → code_length b ≤ n → code_length (cond t a b) ≤ n
+  if_short true a b n p q = p
+  if_short false a b n p q = q
+
+  pair_short : (o : Option ℕ) → code_length (option_map iso_2022_jp_pair o) ≤ 2
+  pair_short None = omega arith
+  pair_short (Some p) = omega arith
+
+  pub code-short : (c : ℕ) → code_length (iso_2022_jp_code jis0208 katakana_index c) ≤ 2
+  unfolding iso_2022_jp_code
+  code-short c =
+      if_short (is_mode_control c) _ _ 2 (omega arith) (if_short (is_ascii c) _ _ 2 (omega arith) (if_short (eqb c 0xA5) _ _ 2 (omega arith)
+      (if_short (eqb c 0x203E) _ _ 2 (omega arith) (pair_short (iso_2022_jp_pointer_of jis0208 katakana_index c)))))

@@ -1,0 +1,210 @@
+-- The moves of the ISO-2022-JP encoder.
+use Rattle.std.proofs.Common.{◌≡◌, ◌∙◌, ℕ, ◌+◌, ◌/◌, ◌%◌, List, [], ◌∷◌, ◌++◌, length, refl, sym, ap, arith, Bool, true, false, ◌&&◌, ◌||◌, not, Some, None, eqb}
+use Rattle.std.specs.Char.{is_ascii}
+use Rattle.legacy_base.specs.declared.results.EncodeEvent.TheVariants as events
+use Rattle.legacy_base.specs.EncodeEvents.{code_events, code_length}
+use Rattle.legacy_base.specs.EncoderProfile.{EncoderMode, in_ascii, in_roman, in_two_byte}
+use Rattle.legacy_base.specs.Encoders.{EncoderState, encoded, encoder_profile, iso_2022_jp, is_pending}
+use Rattle.legacy_base.specs.Profile.{is_empty}
+use Rattle.legacy_base.specs.Iso2022Jp.{is_mode_control, iso_2022_jp_code, iso_2022_jp_reported, iso_2022_jp_pointer_of, escape_between, roman_or_ascii}
+use Rattle.legacy_base.proofs.Iso2022JpEncoding.{text_events-here, text_events-escape, text_events-end, text_events-open, mode_for, mode_for-twice, code-short, at_control, at_special, at_neutral, at_yen, at_overline, at_pair, at_none}
+use Rattle.legacy_encoder_engine.specs.Moves.{Moves, Finishes, IsCode, differs}
+use Rattle.legacy_encoder_engine.specs.Serves.{Serves}
+use Rattle.legacy_encoder_engine.specs.UnderWay.{PutsCode}
+use Rattle.legacy_encoder_engine.specs.declared.moves.EncoderMove.{EncoderMove}
+use Rattle.legacy_encoder_engine.specs.declared.moves.EncoderMove.TheVariants.{One, Two, Four, Escape, Unmappable}
+use Rattle.legacy_japanese.specs.declared.iso_2022_jp.encoder.Mode.{Mode}
+use Rattle.legacy_japanese.specs.declared.iso_2022_jp.encoder.Mode.TheVariants as modes
+use Rattle.legacy_japanese.specs.Iso2022JpEncoder.{mode_of, state_in, is_same_mode, escape_move, Asks}
+use Rattle.legacy_japanese.proofs.Iso2022JpEncoderRooms.{scalar_low, scalar_enough, escape_low, escape_enough, end_enough, formula_rises}
+
+both_true : (a b : Bool) → (a && not b) ≡ true → (a ≡ true) × (b ≡ false)
+both_true true true e = cc
+both_true true false e = (refl, refl)
+both_true false b e = cc
+
+-- ---- modes
+
+differs-same : (mode : EncoderMode) → differs mode mode ≡ false
+differs-same in_ascii = refl
+differs-same in_roman = refl
+differs-same in_two_byte = refl
+
+differs-true : (mode new : EncoderMode) → differs mode new ≡ true → mode ≡ new → ⊥
+differs-true mode new d e = let f : differs mode mode ≡ true = ap (differs mode) e ∙ d in let g = differs-same mode in cc
+
+true-differs : (mode new : EncoderMode) → (mode ≡ new → ⊥) → differs mode new ≡ true
+true-differs in_ascii in_ascii n = absurd (n refl)
+true-differs in_ascii in_roman n = refl
+true-differs in_ascii in_two_byte n = refl
+true-differs in_roman in_ascii n = refl
+true-differs in_roman in_roman n = absurd (n refl)
+true-differs in_roman in_two_byte n = refl
+true-differs in_two_byte in_ascii n = refl
+true-differs in_two_byte in_roman n = refl
+true-differs in_two_byte in_two_byte n = absurd (n refl)
+
+pub same_true : (mode new : Mode) → is_same_mode mode new ≡ true → mode_of mode ≡ mode_of new
+same_true modes.Ascii modes.Ascii e = refl
+same_true modes.Ascii modes.Roman e = cc
+same_true modes.Ascii modes.TwoByte e = cc
+same_true modes.Roman modes.Ascii e = cc
+same_true modes.Roman modes.Roman e = refl
+same_true modes.Roman modes.TwoByte e = cc
+same_true modes.TwoByte modes.Ascii e = cc
+same_true modes.TwoByte modes.Roman e = cc
+same_true modes.TwoByte modes.TwoByte e = refl
+
+pub same_false : (mode new : Mode) → is_same_mode mode new ≡ false → mode_of mode ≡ mode_of new → ⊥
+same_false modes.Ascii modes.Ascii e f = cc
+same_false modes.Ascii modes.Roman e f = cc
+same_false modes.Ascii modes.TwoByte e f = cc
+same_false modes.Roman modes.Ascii e f = cc
+same_false modes.Roman modes.Roman e f = cc
+same_false modes.Roman modes.TwoByte e f = cc
+same_false modes.TwoByte modes.Ascii e f = cc
+same_false modes.TwoByte modes.Roman e f = cc
+same_false modes.TwoByte modes.TwoByte e f = cc
+
+module _ (jis0208 katakana_index : List ℕ) where
+  -- ---- what the loop asks of the codec
+
+  end_three : (mode : EncoderMode) → not (is_empty (escape_between mode in_ascii)) ≡ true → length (escape_between mode in_ascii) ≡ 3
+  end_three in_ascii e = cc
+  end_three in_roman e = refl
+  end_three in_two_byte e = refl
+
+  pub serves : Serves (encoder_profile (iso_2022_jp jis0208 katakana_index))
+  serves = record {
+    nothing = text_events-open jis0208 katakana_index;
+    settled = λ mode c. ap (differs (mode_for jis0208 katakana_index mode c)) (mode_for-twice jis0208 katakana_index mode c) ∙ differs-same (mode_for jis0208 katakana_index mode c);
+    low = scalar_low jis0208 katakana_index;
+    enough = scalar_enough jis0208 katakana_index;
+    escape_low = λ mode c w. escape_low jis0208 katakana_index mode c (differs-true mode (mode_for jis0208 katakana_index mode c) w);
+    escape_enough = λ mode c w. escape_enough jis0208 katakana_index mode c (differs-true mode (mode_for jis0208 katakana_index mode c) w);
+    end = end_enough jis0208 katakana_index;
+    escapes = end_three;
+    rises = formula_rises jis0208 katakana_index;
+  }
+
+  -- ---- its moves
+
+  module _ (mode : Mode) (c : ℕ) where
+    abbrev state : EncoderState
+    state = state_in jis0208 katakana_index mode
+
+    module _ (stays : mode_for jis0208 katakana_index (mode_of mode) c ≡ mode_of mode) where
+      asks : false ≡ differs (mode_of mode) (mode_for jis0208 katakana_index (mode_of mode) c)
+      asks = sym (ap (differs (mode_of mode)) stays ∙ differs-same (mode_of mode))
+
+      goes : state ≡ record { codec = iso_2022_jp jis0208 katakana_index; mode = mode_for jis0208 katakana_index (mode_of mode) c }
+      goes = ap (λ m. record { codec = iso_2022_jp jis0208 katakana_index; mode = m }) (sym stays)
+
+      -- the scalar is read in the mode at hand
+      pub reads : (move : EncoderMove) → IsCode (iso_2022_jp_code jis0208 katakana_index c) (iso_2022_jp_reported c) move → Moves state c state move
+      reads (One a) e = record {
+        events = λ more ended. text_events-here jis0208 katakana_index (mode_of mode) c stays more ended ∙ ap (λ o. code_events (iso_2022_jp_reported c) o ++ encoded state more ended) e;
+        own = λ x. ap code_length e;
+        fits = omega arith;
+        asks = asks;
+        goes = goes;
+      }
+      reads (Two a b) e = record {
+        events = λ more ended. text_events-here jis0208 katakana_index (mode_of mode) c stays more ended ∙ ap (λ o. code_events (iso_2022_jp_reported c) o ++ encoded state more ended) e;
+        own = λ x. ap code_length e;
+        fits = omega arith;
+        asks = asks;
+        goes = goes;
+      }
+      reads (Four x y z w) e = let s = code-short jis0208 katakana_index c in let f : code_length (iso_2022_jp_code jis0208 katakana_index c) ≡ 4 = ap code_length e in absurd (omega arith)
+      reads (Escape a b) e = absurd e
+      reads (Unmappable r) e = record {
+        events = λ more ended.
+            text_events-here jis0208 katakana_index (mode_of mode) c stays more ended
+            ∙ ap (λ o. code_events (iso_2022_jp_reported c) o ++ encoded state more ended) e.0
+            ∙ ap (λ x. events.Unmappable x ∷ encoded state more ended) (sym e.1);
+        own = λ x. ap code_length e.0;
+        fits = omega arith;
+        asks = asks;
+        goes = goes;
+      }
+
+    -- the scalar wants another mode
+    pub escapes : (new : Mode) → mode_for jis0208 katakana_index (mode_of mode) c ≡ mode_of new → (mode_of mode ≡ mode_of new → ⊥)
+        → Moves state c (state_in jis0208 katakana_index new) (escape_move new)
+    escapes modes.Ascii e n = record {
+      events = text_events-escape jis0208 katakana_index (mode_of mode) in_ascii c e n;
+      own = λ x. cc;
+      fits = omega arith;
+      asks = sym (ap (differs (mode_of mode)) e ∙ true-differs (mode_of mode) in_ascii n);
+      goes = ap (λ m. record { codec = iso_2022_jp jis0208 katakana_index; mode = m }) (sym e);
+    }
+    escapes modes.Roman e n = record {
+      events = text_events-escape jis0208 katakana_index (mode_of mode) in_roman c e n;
+      own = λ x. cc;
+      fits = omega arith;
+      asks = sym (ap (differs (mode_of mode)) e ∙ true-differs (mode_of mode) in_roman n);
+      goes = ap (λ m. record { codec = iso_2022_jp jis0208 katakana_index; mode = m }) (sym e);
+    }
+    escapes modes.TwoByte e n = record {
+      events = text_events-escape jis0208 katakana_index (mode_of mode) in_two_byte c e n;
+      own = λ x. cc;
+      fits = omega arith;
+      asks = sym (ap (differs (mode_of mode)) e ∙ true-differs (mode_of mode) in_two_byte n);
+      goes = ap (λ m. record { codec = iso_2022_jp jis0208 katakana_index; mode = m }) (sym e);
+    }
+
+  pub finishes : (mode : Mode) → is_pending (state_in jis0208 katakana_index mode) ≡ true → Finishes (state_in jis0208 katakana_index mode) (state_in jis0208 katakana_index modes.Ascii)
+  finishes modes.Ascii p = cc
+  finishes modes.Roman p = record { events = rw (text_events-end jis0208 katakana_index in_roman, text_events-end jis0208 katakana_index in_ascii) refl; done = refl }
+  finishes modes.TwoByte p = record { events = rw (text_events-end jis0208 katakana_index in_two_byte, text_events-end jis0208 katakana_index in_ascii) refl; done = refl }
+
+  -- ---- what a scalar asks for, by the tests of its rules
+
+  module _ (mode : Mode) (c : ℕ) where
+    pub asks_control : (new : Mode) → is_mode_control c ≡ true → mode_of new ≡ roman_or_ascii (mode_of mode) → Asks jis0208 katakana_index mode c new (Unmappable 0xFFFD)
+    asks_control new t s = let w = at_control jis0208 katakana_index (mode_of mode) c t in record { mode_is = w.mode_is ∙ sym s; code_is = (w.code_is, rw t refl) }
+
+    pub asks_special : is_mode_control c ≡ false → is_ascii c ≡ true → (eqb c 0x5C || eqb c 0x7E) ≡ true → Asks jis0208 katakana_index mode c modes.Ascii (One c)
+    asks_special f t s = let w = at_special jis0208 katakana_index (mode_of mode) c f t s in record { mode_is = w.mode_is; code_is = w.code_is }
+
+    pub asks_neutral : (new : Mode) → is_mode_control c ≡ false → is_ascii c ≡ true → (eqb c 0x5C || eqb c 0x7E) ≡ false → mode_of new ≡ roman_or_ascii (mode_of mode)
+        → Asks jis0208 katakana_index mode c new (One c)
+    asks_neutral new f t s g = let w = at_neutral jis0208 katakana_index (mode_of mode) c f t s in record { mode_is = w.mode_is ∙ sym g; code_is = w.code_is }
+
+    pub asks_yen : c ≡ 0xA5 → Asks jis0208 katakana_index mode c modes.Roman (One 0x5C)
+    asks_yen e = let w = at_yen jis0208 katakana_index (mode_of mode) c e in record { mode_is = w.mode_is; code_is = w.code_is }
+
+    pub asks_overline : c ≡ 0x203E → Asks jis0208 katakana_index mode c modes.Roman (One 0x7E)
+    asks_overline e = let w = at_overline jis0208 katakana_index (mode_of mode) c e in record { mode_is = w.mode_is; code_is = w.code_is }
+
+    module _ (f : is_mode_control c ≡ false) (a : is_ascii c ≡ false) (y : c ≡ 0xA5 → ⊥) (o : c ≡ 0x203E → ⊥) where
+      pub asks_pair : (p : ℕ) → iso_2022_jp_pointer_of jis0208 katakana_index c ≡ Some p → Asks jis0208 katakana_index mode c modes.TwoByte (Two (p / 94 + 0x21) (p % 94 + 0x21))
+      asks_pair p e = let w = at_pair jis0208 katakana_index (mode_of mode) c p f a y o e in record { mode_is = w.mode_is; code_is = w.code_is }
+
+      pub asks_none : (new : Mode) → iso_2022_jp_pointer_of jis0208 katakana_index c ≡ None → mode_of new ≡ roman_or_ascii (mode_of mode) → Asks jis0208 katakana_index mode c new (Unmappable c)
+      asks_none new e s = let w = at_none jis0208 katakana_index (mode_of mode) c f a y o e in record { mode_is = w.mode_is ∙ sym s; code_is = (w.code_is, rw f refl) }
+
+  -- ---- ASCII in ASCII mode
+
+  plain_asks : (c : ℕ) → is_mode_control c ≡ false → is_ascii c ≡ true → Asks jis0208 katakana_index modes.Ascii c modes.Ascii (One c)
+  plain_asks c f a = go (eqb c 0x5C || eqb c 0x7E) refl
+    where
+      go : (t : Bool) → (eqb c 0x5C || eqb c 0x7E) ≡ t → Asks jis0208 katakana_index modes.Ascii c modes.Ascii (One c)
+      go true s = asks_special modes.Ascii c f a s
+      go false s = asks_neutral modes.Ascii c modes.Ascii f a s refl
+
+  -- a scalar that is no control is its own byte
+  pub puts_plain : (mode : Mode) → mode ≡ modes.Ascii → (c : ℕ) → (is_ascii c && not (is_mode_control c)) ≡ true → (bytes : List ℕ) (at : ℕ)
+      → PutsCode (state_in jis0208 katakana_index mode) c bytes at (bytes ++ c ∷ []) (at + 1)
+  puts_plain mode is c plain bytes at =
+      let tests = both_true (is_ascii c) (is_mode_control c) plain in
+      let asked = plain_asks c tests.1 tests.0 in
+      rw is (record {
+        move = One c;
+        moves = reads modes.Ascii c asked.mode_is (One c) asked.code_is;
+        reads = refl;
+        silent = refl;
+        bytes = refl;
+        ends = refl;
+      })

@@ -1,0 +1,45 @@
+-- What the ISO-2022-JP encoder is between two calls, and how it makes its moves.
+use Rattle.std.specs.Prelude.{◌≡◌, ℕ, List, [], ◌∷◌, Bool, true, false}
+use Rattle.legacy_base.specs.EncoderProfile.{EncoderMode, in_ascii, in_roman, in_two_byte}
+use Rattle.legacy_base.specs.Encoders.{EncoderState, iso_2022_jp}
+use Rattle.legacy_base.specs.Iso2022Jp.{iso_2022_jp_code, iso_2022_jp_reported, mode_behind}
+use Rattle.legacy_encoder_engine.specs.Moves.{IsCode}
+use Rattle.legacy_encoder_engine.specs.declared.moves.EncoderMove.{EncoderMove}
+use Rattle.legacy_encoder_engine.specs.declared.moves.EncoderMove.TheVariants as moves
+use Rattle.legacy_japanese.specs.declared.iso_2022_jp.encoder.Mode.{Mode}
+use Rattle.legacy_japanese.specs.declared.iso_2022_jp.encoder.Mode.TheVariants.{Ascii, Roman, TwoByte}
+use Rattle.legacy_japanese.specs.declared.iso_2022_jp.encoder.Iso2022JpEncoder.{Iso2022JpEncoder}
+
+-- the mode
+abbrev pub mode_of : Mode → EncoderMode
+mode_of Ascii = in_ascii
+mode_of Roman = in_roman
+mode_of TwoByte = in_two_byte
+
+-- the codec with these lists, in a mode
+abbrev pub state_in : List ℕ → List ℕ → Mode → EncoderState
+state_in jis0208 katakana_index mode = record { codec = iso_2022_jp jis0208 katakana_index; mode = mode_of mode }
+
+-- the state that its calls speak of
+abbrev pub iso_2022_jp_encoder_state : Iso2022JpEncoder → EncoderState
+iso_2022_jp_encoder_state encoder = state_in encoder.tables.now.flat.jis0208 encoder.tables.now.flat.katakana encoder.mode
+
+-- ---- how it works inside
+
+-- the modes are the same
+abbrev pub is_same_mode : Mode → Mode → Bool
+is_same_mode Ascii Ascii = true
+is_same_mode Roman Roman = true
+is_same_mode TwoByte TwoByte = true
+is_same_mode _ _ = false
+
+-- the escape to a mode
+abbrev pub escape_move : Mode → EncoderMove
+escape_move Ascii = moves.Escape 0x28 0x42
+escape_move Roman = moves.Escape 0x28 0x4A
+escape_move TwoByte = moves.Escape 0x24 0x42
+
+-- In a mode the scalar c asks for another one, and there it is read by this move.
+pub record Asks (jis0208 katakana_index : List ℕ) (mode : Mode) (c : ℕ) (new : Mode) (move : EncoderMove) : Type 0 where
+  pub mode_is : mode_behind jis0208 katakana_index (mode_of mode) (c ∷ []) ≡ mode_of new
+  pub code_is : IsCode (iso_2022_jp_code jis0208 katakana_index c) (iso_2022_jp_reported c) move

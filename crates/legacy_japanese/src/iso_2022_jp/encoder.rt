@@ -1,0 +1,260 @@
+//! The encoder of ISO-2022-JP.
+ghost use Rattle.std.specs.Prelude.{◌≡◌, ◌==◌, ◌&&◌, ◌||◌, ◌<◌, not, IfSome};
+ghost use Rattle.std.specs.Char.{is_ascii};
+ghost use Rattle.legacy_base.specs.Encoders.{iso_2022_jp, is_pending, new_encoder};
+ghost use Rattle.legacy_base.specs.Iso2022Jp.{iso_2022_jp_fold, iso_2022_jp_pointer_of};
+ghost use Rattle.legacy_base.specs.Iso2022Jp.{is_mode_control, roman_or_ascii};
+ghost use Rattle.legacy_japanese.specs.Iso2022JpEncoder.{Asks, mode_of, escape_move, is_same_mode};
+
+use crate::folds::minus_as_hyphen;
+use legacy_base::{EncoderResult, IndexName, Next, RawEncoder, Source, Tables};
+use legacy_encoder_engine::drive::drive_encoder;
+use legacy_encoder_engine::moves::{EncoderMove, EncoderMoves};
+
+/// How the bytes are read that come behind those written so far.
+#[derive(Clone, Copy)]
+enum Mode {
+    Ascii,
+    Roman,
+    TwoByte,
+}
+
+impl Mode {
+    /// Whether the modes are the same.
+    #[inline]
+    fn is(self, other: Mode) -> bool
+        ensures { result ≡ is_same_mode self other }
+    {
+        match (self, other) {
+            (Mode::Ascii, Mode::Ascii)
+            | (Mode::Roman, Mode::Roman)
+            | (Mode::TwoByte, Mode::TwoByte) => true,
+            _ => false,
+        }
+    }
+
+    /// The mode of a scalar that is the same in ASCII mode and in Roman mode, or has no bytes.
+    #[inline]
+    fn settled(self) -> Mode
+        ensures { mode_of result ≡ roman_or_ascii (mode_of self) }
+    {
+        match self {
+            Mode::Roman => Mode::Roman,
+            Mode::Ascii | Mode::TwoByte => Mode::Ascii,
+        }
+    }
+
+    /// The escape to the mode.
+    #[inline]
+    fn escape(self) -> EncoderMove
+        ensures { result ≡ escape_move self }
+    {
+        match self {
+            Mode::Ascii => EncoderMove::Escape(0x28, 0x42),
+            Mode::Roman => EncoderMove::Escape(0x28, 0x4A),
+            Mode::TwoByte => EncoderMove::Escape(0x24, 0x42),
+        }
+    }
+}
+
+/// What is looked up in index jis0208 for a scalar past ASCII: the entry of index katakana for a
+/// half-width letter, the full-width hyphen-minus for the minus sign, and else the scalar itself.
+#[inline]
+fn folded(tables: &Tables, c: char) -> Option<char>
+    ensures { result ≡ iso_2022_jp_fold tables.now.flat.katakana c }
+{
+    let scalar = c as u32;
+    if scalar >= 0xFF61 && scalar <= 0xFF9F {
+        return tables.idx(IndexName::Katakana, (scalar - 0xFF61) as usize);
+    }
+    Some(minus_as_hyphen(c))
+}
+
+/// The pointer of a scalar past ASCII, or `None` where it has no pair.
+#[inline]
+fn pointer(tables: &Tables, c: char) -> Option<usize>
+    ensures value { result ≡ iso_2022_jp_pointer_of tables.now.flat.jis0208
+        tables.now.flat.katakana c }
+    ensures within { IfSome result (λ p. p < 8836) }
+{
+    match folded(tables, c) {
+        Some(found) => tables.euc_jp_pointer(found),
+        None => None,
+    }
+}
+
+/// Whether the scalar is a control that would switch modes, which has no bytes.
+#[inline]
+fn is_control(scalar: u32) -> bool
+    ensures { result ≡ is_mode_control scalar }
+{
+    scalar == 0x0E || scalar == 0x0F || scalar == 0x1B
+}
+
+/// Whether the byte is another scalar in Roman mode.
+#[inline]
+fn is_special(scalar: u32) -> bool
+    ensures { result ≡ (scalar == 0x5C || scalar == 0x7E) }
+{
+    scalar == 0x5C || scalar == 0x7E
+}
+
+/// Whether the scalar is its own byte in ASCII mode.
+#[inline]
+fn is_plain(scalar: u32) -> bool
+    ensures { result ≡ (is_ascii scalar && not (is_mode_control scalar)) }
+{
+    scalar < 0x80 && !is_control(scalar)
+}
+
+/// The mode that a scalar asks for where it comes in a mode, and the move that reads it there.
+#[inline]
+fn asked(tables: &Tables, mode: Mode, c: char) -> (Mode, EncoderMove)
+    ensures { Asks tables.now.flat.jis0208 tables.now.flat.katakana mode c result.0 result.1 }
+{
+    let scalar = c as u32;
+    let settled = mode.settled();
+    if is_control(scalar) {
+        return (settled, EncoderMove::Unmappable('\u{FFFD}'));
+    }
+    if scalar < 0x80 {
+        if is_special(scalar) {
+            return (Mode::Ascii, EncoderMove::One(scalar as u8));
+        }
+        return (settled, EncoderMove::One(scalar as u8));
+    }
+    if scalar == 0xA5 {
+        return (Mode::Roman, EncoderMove::One(0x5C));
+    }
+    if scalar == 0x203E {
+        return (Mode::Roman, EncoderMove::One(0x7E));
+    }
+    match pointer(tables, c) {
+        Some(p) => (
+            Mode::TwoByte,
+            EncoderMove::Two((p / 94 + 0x21) as u8, (p % 94 + 0x21) as u8),
+        ),
+        None => (settled, EncoderMove::Unmappable(c)),
+    }
+}
+
+/// The encoder of ISO-2022-JP (Encoding Standard, "ISO-2022-JP encoder").
+///
+/// An escape of three bytes switches between ASCII, JIS X 0201 Roman and the pairs of JIS X 0208;
+/// the mode lasts over calls, and the end of the last call goes back to ASCII mode. An escape is an
+/// act of its own: a full output may end behind one, with the scalar that it is for unread. A scalar
+/// that has no bytes is reported in Roman mode where that is the mode, and else in ASCII mode,
+/// behind an escape to it from two-byte mode. U+000E, U+000F and U+001B have no bytes, and are
+/// reported as U+FFFD. The minus sign U+2212 is written as U+FF0D.
+#[derive(Drop)]
+pub struct Iso2022JpEncoder<'a> {
+    tables: &'a Tables<'a>,
+    mode: Mode,
+}
+
+impl<'a> Iso2022JpEncoder<'a> {
+    ghost use Rattle.legacy_japanese.specs.Iso2022JpEncoder.{iso_2022_jp_encoder_state};
+
+    /// An encoder before its first scalar, in ASCII mode. Scalars are looked up in index jis0208 of
+    /// the tables, the half-width katakana U+FF61 to U+FF9F by their entries in index katakana. The
+    /// tables stay borrowed.
+    pub fn new(tables: &'a Tables<'a>) -> Iso2022JpEncoder<'a>
+        ensures { iso_2022_jp_encoder_state result
+            ≡ new_encoder (iso_2022_jp tables.now.flat.jis0208 tables.now.flat.katakana) }
+    {
+        Iso2022JpEncoder {
+            tables,
+            mode: Mode::Ascii,
+        }
+    }
+
+    /// Whether the mode is not ASCII, so that the end of the text still writes an escape of three
+    /// bytes. Nothing changes.
+    pub fn has_pending_state(&self) -> bool
+        ensures { result ≡ is_pending (iso_2022_jp_encoder_state self.now) }
+    {
+        match self.mode {
+            Mode::Ascii => false,
+            Mode::Roman | Mode::TwoByte => true,
+        }
+    }
+}
+
+impl EncoderMoves for Iso2022JpEncoder<'_> {
+    ghost use Rattle.legacy_japanese.specs.Iso2022JpEncoder.{iso_2022_jp_encoder_state};
+
+    ghost state = { iso_2022_jp_encoder_state };
+
+    #[inline]
+    #[tactic(auto, using(crate::proofs::Iso2022JpEncoderMoves::serves))]
+    fn room(&self, _c: char) -> usize {
+        3
+    }
+
+    #[inline]
+    fn next(&mut self, c: char) -> EncoderMove {
+        let (mode, own) = asked(self.tables, self.mode, c);
+        if self.mode.is(mode) {
+            return own;
+        }
+        self.mode = mode;
+        mode.escape()
+    }
+
+    #[inline]
+    #[tactic(auto, using(crate::proofs::Iso2022JpEncoderMoves::serves))]
+    fn is_pending(&self) -> bool {
+        self.has_pending_state()
+    }
+
+    #[inline]
+    #[tactic(auto, using(crate::proofs::Iso2022JpEncoderMoves::finishes))]
+    fn finish(&mut self) {
+        self.mode = Mode::Ascii;
+    }
+
+    // ASCII in ASCII mode, up to a control that would switch modes.
+    #[inline]
+    fn read_ahead<S: Source>(&self, src: &mut S, dst: &mut [u8], at: usize) -> usize {
+        let mut end = at;
+        let Mode::Ascii = self.mode else {
+            return end;
+        };
+        while dst.len() - end >= 3 {
+            let Next::One(c) = src.front() else {
+                return end;
+            };
+            if !is_plain(c as u32) {
+                return end;
+            }
+            dst[end] = c as u8;
+            end += 1;
+            src.pass(1);
+        }
+        end
+    }
+}
+
+impl RawEncoder for Iso2022JpEncoder<'_> {
+    ghost use Rattle.legacy_japanese.specs.Iso2022JpEncoder.{iso_2022_jp_encoder_state};
+
+    ghost state = { iso_2022_jp_encoder_state };
+
+    fn step<S: Source>(
+        &mut self,
+        src: &mut S,
+        dst: &mut [u8],
+        last: bool,
+    ) -> (EncoderResult, usize) {
+        drive_encoder(self, src, dst, last)
+    }
+
+    fn max_buffer_length_from_utf16_without_replacement(&self, u16_length: usize) -> Option<usize> {
+        let scalars = 3usize.checked_add(u16_length.checked_mul(4)?)?;
+        scalars.checked_add(u16_length.checked_add(1)? / 2)
+    }
+
+    fn max_buffer_length_from_utf8_without_replacement(&self, byte_length: usize) -> Option<usize> {
+        3usize.checked_add(byte_length.checked_mul(3)?)
+    }
+}
