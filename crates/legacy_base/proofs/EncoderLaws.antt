@@ -4,8 +4,9 @@ use Rattle.std.proofs.lemmas.Bool.{cond_both}
 use Rattle.legacy_base.specs.declared.results.EncodeEvent.TheVariants.{Byte}
 use Rattle.legacy_base.specs.EncodingForm.{EncodingForm, Utf8, Utf16}
 use Rattle.legacy_base.specs.EncodeEvents.{plain_events}
-use Rattle.legacy_base.specs.EncoderProfile.{EncoderProfile, EncoderMode, plain_encoder}
-use Rattle.legacy_base.specs.Encoders.{Codec, single_byte, user_defined, big5, euc_kr, shift_jis, euc_jp, gb18030, gbk, encoder_profile}
+use Rattle.legacy_base.specs.EncoderProfile.{EncoderProfile, EncoderMode, in_ascii, in_roman, in_two_byte, plain_encoder}
+use Rattle.legacy_base.specs.Iso2022Jp.{iso_2022_jp_encoder, iso_2022_jp_surplus, iso_2022_jp_text_events, mode_behind, escape_between}
+use Rattle.legacy_base.specs.Encoders.{Codec, single_byte, user_defined, big5, euc_kr, shift_jis, euc_jp, gb18030, gbk, iso_2022_jp, encoder_profile}
 use Rattle.legacy_base.specs.Encoders.{EncoderState, encoded, end_bytes, encoder_need, encoder_formula, encoder_answer, encoder_room}
 use Rattle.legacy_base.specs.Lengths.{Formula, number, ◌⊕◌, ◌⊗◌, value}
 use Rattle.legacy_base.proofs.Enough.{answer-value}
@@ -53,6 +54,25 @@ byte_laws code = plain_laws code 1 _ _ (omega arith) (λ m n h. h) (λ m n h. h)
 pair_laws : (code : ℕ → Option (List ℕ)) → HasLaws (plain_encoder code 2 (λ n. n ⊕ number 1) (λ n. number 2 ⊗ n))
 pair_laws code = plain_laws code 2 _ _ (omega arith) (λ m n h. omega arith) (λ m n h. omega arith)
 
+iso_2022_jp_laws : (jis0208 katakana_index : List ℕ) → HasLaws (iso_2022_jp_encoder jis0208 katakana_index)
+unfolding iso_2022_jp_text_events mode_behind
+iso_2022_jp_laws jis0208 katakana_index = record { ended = λ mode. refl; scalar_fits = λ c. omega arith; end_fits = end_fits; rises = rises } where
+  end_fits : (mode : EncoderMode) → length (escape_between mode in_ascii) ≤ 4
+  end_fits in_ascii = omega arith
+  end_fits in_roman = omega arith
+  end_fits in_two_byte = omega arith
+
+  room : EncodingForm → EncoderMode → ℕ → ℕ
+  room form mode n = value ((iso_2022_jp_encoder jis0208 katakana_index).formula form (number n)) - iso_2022_jp_surplus form mode n
+
+  rises : (form : EncodingForm) (mode : EncoderMode) (m n : ℕ) → m ≤ n → room form mode m ≤ room form mode n
+  rises Utf8 in_ascii m n h = omega arith
+  rises Utf8 in_roman m n h = omega arith
+  rises Utf8 in_two_byte m n h = omega arith
+  rises Utf16 in_ascii m n h = omega arith
+  rises Utf16 in_roman m n h = omega arith
+  rises Utf16 in_two_byte m n h = omega arith
+
 pub encoder_laws : (codec : Codec) → HasLaws (encoder_profile codec)
 encoder_laws (single_byte table) = byte_laws _
 encoder_laws user_defined = byte_laws _
@@ -61,6 +81,7 @@ encoder_laws (euc_kr index) = pair_laws _
 encoder_laws (shift_jis jis0208) = pair_laws _
 encoder_laws (euc_jp jis0208 jis0212) = pair_laws _
 encoder_laws (gb18030 index ranges pua) = plain_laws _ 4 _ _ (omega arith) (λ m n h. omega arith) (λ m n h. omega arith)
+encoder_laws (iso_2022_jp jis0208 katakana_index) = iso_2022_jp_laws jis0208 katakana_index
 encoder_laws (gbk index ranges pua) = plain_laws _ 4 _ _ (omega arith) (λ m n h. omega arith) (λ m n h. omega arith)
 
 -- ---- the same of a state

@@ -21,8 +21,8 @@ pub use legacy_decoders::{
     ShiftJisDecoder, SingleByteDecoder, UserDefinedDecoder, Utf16Decoder,
 };
 pub use legacy_encoders::{
-    Big5Encoder, EucJpEncoder, EucKrEncoder, Gb18030Encoder, ShiftJisEncoder, SingleByteEncoder,
-    SingleByteRunError, UserDefinedEncoder,
+    Big5Encoder, EucJpEncoder, EucKrEncoder, Gb18030Encoder, Iso2022JpEncoder, ShiftJisEncoder,
+    SingleByteEncoder, SingleByteRunError, UserDefinedEncoder,
 };
 pub use run_parts::RunError;
 pub use scalars::{OutputForm, ScalarBuffer, Utf8Form, Utf16Form};

@@ -3,7 +3,7 @@ use crate::indexes::{no_entries, tables_of};
 use legacy_base::EncodeEvent::{Byte, Unmappable};
 use legacy_base::{EncodeEvent, RawEncoder, Tables};
 use legacy_codecs::{EncodeRun, RunError, encode_run_utf8, encode_run_utf16};
-use legacy_encoders::{Gb18030Encoder, UserDefinedEncoder};
+use legacy_encoders::{Gb18030Encoder, Iso2022JpEncoder, UserDefinedEncoder};
 use std::alloc::Global;
 use std::process::Abort;
 
@@ -28,6 +28,14 @@ impl<'a> Tested for Gb18030Encoder<'a> {
 
     fn made(tables: &'a Tables<'a>) -> Gb18030Encoder<'a> {
         Gb18030Encoder::new(tables, true)
+    }
+}
+
+impl<'a> Tested for Iso2022JpEncoder<'a> {
+    type Of = &'a Tables<'a>;
+
+    fn made(tables: &'a Tables<'a>) -> Iso2022JpEncoder<'a> {
+        Iso2022JpEncoder::new(tables)
     }
 }
 
@@ -147,6 +155,40 @@ const OF_GB18030: &[Run] = &[
 fn a_pair_of_surrogates_in_two_pieces_is_two_unpaired_ones(rt: HostRuntime) {
     let tables = tables_of(&rt, &no_entries());
     make::<Gb18030Encoder>(&rt, rt.alloc(), &tables, OF_GB18030);
+}
+
+const OF_ISO_2022_JP: &[Run] = &[
+    // the escape to Roman mode, the scalar in it, and the escape at the end
+    Run::FromUtf8(
+        &["a", "\u{A5}"],
+        &[3, 8],
+        &[
+            Byte(0x61),
+            Byte(0x1B),
+            Byte(0x28),
+            Byte(0x4A),
+            Byte(0x5C),
+            Byte(0x1B),
+            Byte(0x28),
+            Byte(0x42),
+        ],
+        2,
+        true,
+    ),
+    // the scalar and the end need three bytes each: neither is written into less
+    Run::FromUtf8(
+        &["a", "\u{A5}"],
+        &[3, 5, 3],
+        &[Byte(0x61), Byte(0x1B), Byte(0x28), Byte(0x4A), Byte(0x5C)],
+        3,
+        false,
+    ),
+];
+
+#[test]
+fn the_end_of_a_run_writes_the_escape_to_ascii_where_there_is_room(rt: HostRuntime) {
+    let tables = tables_of(&rt, &no_entries());
+    make::<Iso2022JpEncoder>(&rt, rt.alloc(), &tables, OF_ISO_2022_JP);
 }
 
 /// The errors of a run of one piece with one output of so many bytes, from UTF-8 and from UTF-16.
