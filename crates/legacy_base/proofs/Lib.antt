@@ -20,5 +20,6 @@ pub mod PrivateUse
 pub mod AcceptedTable
 pub mod Ascii
 pub mod Texts
+pub mod UnitCopies
 pub mod FrontLaws
 pub mod GrammarLaws

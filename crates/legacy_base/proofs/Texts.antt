@@ -50,7 +50,7 @@ utf8_step text place c p u e =
 
 -- ---- UTF-16
 
-abbrev replaced : Option ℕ → ℕ
+abbrev pub replaced : Option ℕ → ℕ
 replaced o = unwrap_or o 0xFFFD
 
 pub scalars_lone : (units : List ℕ) (at : ℕ) → at < length units → (IsPair (get_or units at 0) (get_or units (at + 1) 0) → ⊥) →
@@ -294,14 +294,14 @@ unit_scalars-ascii (x ∷ xs) ys a =
     ∙ ap (λ o. replaced o ∷ unit_scalars (xs ++ ys)) (lone_unit_char_low x (omega arith))
     ∙ ap (λ l. x ∷ l) (unit_scalars-ascii xs ys (λ i. a (suc i)))
 
--- So many scalars at the front of those that are left are these, which are ASCII, and behind them are the others.
-pub record AsciiFront (all front others : List ℕ) (n : ℕ) : Type 0 where
+-- So many scalars at the front of those that are left are these, and behind them are the others.
+pub record IsFront (all front others : List ℕ) (n : ℕ) : Type 0 where
   pub within : n ≤ length all
   pub others_is : others ≡ drop n all
   pub front_is : front ≡ take n all
 
-ascii_front_of : (all front others : List ℕ) (n : ℕ) → length front ≡ n → all ≡ front ++ others → AsciiFront all front others n
-ascii_front_of all front others n long e = record {
+pub front_of : (all front others : List ℕ) (n : ℕ) → length front ≡ n → all ≡ front ++ others → IsFront all front others n
+front_of all front others n long e = record {
   within = omega (arith, ap length e, length-append front others);
   others_is = sym (ap (drop n) e ∙ ap (λ k. drop k (front ++ others)) (sym long) ∙ drop_of_append front others);
   front_is = sym (ap (take n) e ∙ ap (λ k. take k (front ++ others)) (sym long) ∙ take-append_seam front others);
@@ -336,14 +336,14 @@ module _ (list : List ℕ) (place n : ℕ) (within : n ≤ length (drop place li
   pub utf8_ascii-text : is_utf8 Rest ≡ true → is_utf8 (drop (place + n) list) ≡ true
   utf8_ascii-text u = is_utf8-from_IsUtf8 (drop (place + n) list) (ascii_past (take n Rest) (drop (place + n) list) ascii (subst IsUtf8 parts (IsUtf8-from_is_utf8 Rest u)))
 
-  pub utf8_ascii : AsciiFront (chars Rest) (take n Rest) (chars (drop (place + n) list)) n
+  pub utf8_ascii : IsFront (chars Rest) (take n Rest) (chars (drop (place + n) list)) n
   utf8_ascii =
-      ascii_front_of (chars Rest) (take n Rest) (chars (drop (place + n) list)) n (length-take-le n Rest within)
+      front_of (chars Rest) (take n Rest) (chars (drop (place + n) list)) n (length-take-le n Rest within)
       (ap chars parts ∙ chars-append (take n Rest) (drop (place + n) list) (IsUtf8-from_ascii (take n Rest) ascii) ∙ ap (λ l. l ++ chars (drop (place + n) list)) (chars-IsAscii (take n Rest) ascii))
 
-  pub utf16_ascii : AsciiFront (unit_scalars Rest) (take n Rest) (unit_scalars (drop (place + n) list)) n
+  pub utf16_ascii : IsFront (unit_scalars Rest) (take n Rest) (unit_scalars (drop (place + n) list)) n
   utf16_ascii =
-      ascii_front_of (unit_scalars Rest) (take n Rest) (unit_scalars (drop (place + n) list)) n (length-take-le n Rest within)
+      front_of (unit_scalars Rest) (take n Rest) (unit_scalars (drop (place + n) list)) n (length-take-le n Rest within)
       (ap unit_scalars parts ∙ unit_scalars-ascii (take n Rest) (drop (place + n) list) ascii)
 
 -- ---- the next scalar

@@ -276,7 +276,7 @@ escape_between _ new = escape_to new
 abbrev pub iso_2022_jp_scalar_events : List ℕ → List ℕ → EncoderMode → List ℕ → ℕ → List EncodeEvent
 iso_2022_jp_scalar_events jis0208 katakana_index mode before c =
     map Byte (escape_between
-        (mode_behind jis0208 katakana_index mode before) (mode_behind jis0208 katakana_index mode (c ∷ before)))
+    (mode_behind jis0208 katakana_index mode before) (mode_behind jis0208 katakana_index mode (c ∷ before)))
     ++ code_events (iso_2022_jp_reported c) (iso_2022_jp_code jis0208 katakana_index c)
 
 -- what the end of a text gives: the escape to ASCII mode where it ends in another; a text that goes on gives nothing

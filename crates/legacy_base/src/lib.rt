@@ -12,6 +12,7 @@ mod single_byte_table;
 mod source;
 mod tables;
 mod text_source;
+mod unit_codes;
 
 pub use decoder::RawDecoder;
 pub use destination::{Destination, Utf8Destination, Utf16Destination};
@@ -21,3 +22,4 @@ pub use single_byte_table::SingleByteTable;
 pub use source::ByteSource;
 pub use tables::{GB18030_2022_PUA, IndexName, Indexes, TableError, Tables};
 pub use text_source::{Next, Source, Utf8Source, Utf16Source};
+pub use unit_codes::UnitCodes;

@@ -1,11 +1,13 @@
 //! Where an encoder reads.
 ghost use Rattle.std.specs.Prelude.{◌≡◌, ℕ, ◌+◌, ◌-◌, ◌^◌, ◌<◌, ◌≤◌, List, [], ◌∷◌, ◌++◌, length, take, drop, true, slice_get, slice_index, IsAscii};
 ghost use Rattle.std.specs.Str.{chars, is_utf8};
-ghost use Rattle.legacy_base.specs.EncodingForm.{EncodingForm, Utf8, Utf16, unit_count};
+ghost use Rattle.legacy_base.specs.EncodingForm.{EncodingForm, Utf8, Utf16, unit_count, total_unit_count};
 ghost use Rattle.legacy_base.specs.Texts.{unit_scalars};
 ghost use Rattle.legacy_base.specs.NextScalars.{IsSized, IsNext};
+ghost use Rattle.legacy_base.specs.UnitCodes.{WritesCodes};
 
 use crate::blocks::{copy_ascii_bytes, copy_ascii_units};
+use crate::unit_codes::{UnitCodes, copy_unit_codes};
 
 /// The next scalar of a text, by the number of its code units.
 #[derive(Clone, Copy)]
@@ -72,6 +74,30 @@ pub trait Source {
         ensures ascii { IsAscii (take result (left self.old)) }
         ensures fits { at + result ≤ length dst.old }
         ensures bytes { take (at + result) dst.new ≡ take at dst.old ++ take result (left self.old) };
+
+    /// Whether `copy_codes` may go on. It is a hint: any answer will do.
+    #[inline(always)]
+    fn has_blocks(&self) -> bool {
+        false
+    }
+
+    /// Goes past scalars of one code unit that have a byte each, as many as it cares to, and writes these
+    /// from the place `at` of `dst` on. Answers how many: none is an answer too. Behind them `dst` may
+    /// hold anything.
+    #[inline(always)]
+    fn copy_codes<C: UnitCodes>(&mut self, codes: &C, dst: &mut [u8], at: usize) -> usize
+        requires { at ≤ length dst.old }
+        ensures read { result ≤ length (left self.old) }
+        ensures left { left self.new ≡ drop result (left self.old) }
+        ensures passed { passed self.new ≡ passed self.old + result }
+        ensures units { total_unit_count form (take result (left self.old)) ≡ result }
+        ensures fits { at + result ≤ length dst.old }
+        ensures writes { WritesCodes (C.gives codes.now) (left self.old) result (take at dst.old)
+            (take (at + result) dst.new) }
+    {
+        let _ = (self.consumed(), codes.byte_of(0), dst.len());
+        0
+    }
 }
 
 /// The scalars of a text in UTF-8.
@@ -290,6 +316,18 @@ impl Source for Utf16Source<'_> {
     #[inline]
     fn copy_ascii(&mut self, dst: &mut [u8], at: usize) -> usize {
         let count = copy_ascii_units(&self.units[self.place..], dst, at);
+        self.place += count;
+        count
+    }
+
+    #[inline(always)]
+    fn has_blocks(&self) -> bool {
+        self.units.len() - self.place >= 16
+    }
+
+    #[inline]
+    fn copy_codes<C: UnitCodes>(&mut self, codes: &C, dst: &mut [u8], at: usize) -> usize {
+        let count = copy_unit_codes(codes, &self.units[self.place..], dst, at);
         self.place += count;
         count
     }

@@ -26,3 +26,7 @@ pub record IsPlainCodec (codec : Codec) (past : ℕ) : Type 0 where
   pub most : ℕ
   pub short : (c : ℕ) → 0x80 ≤ c → code_length (code c) ≤ most
   pub lengths : HasPlainLengths past most from_utf8 from_utf16
+
+-- the code of the scalar c is this byte, and no scalar needs more room than one
+abbrev pub HasByte : Codec → ℕ → ℕ → ℕ → Type 0
+HasByte codec past c byte = (past ≡ 1) × ((encoder_profile codec).code c ≡ Some (byte ∷ []))

@@ -9,3 +9,4 @@ pub mod pairs;
 pub mod plain;
 pub mod plain_codes;
 pub mod runs;
+mod units;

@@ -1,8 +1,9 @@
 //! The codecs without modes: the code of each scalar stands by itself.
-ghost use Rattle.std.specs.Prelude.{◌≡◌, ℕ};
+ghost use Rattle.std.specs.Prelude.{◌≡◌, ℕ, true};
+ghost use Rattle.legacy_base.specs.UnitCodes.{IsNoSurrogate};
 ghost use Rattle.legacy_base.specs.Encoders.{Codec, encoder_profile};
 ghost use Rattle.legacy_encoder_engine.specs.Moves.{IsCode};
-ghost use Rattle.legacy_encoder_engine.specs.PlainCodecs.{IsPlainCodec};
+ghost use Rattle.legacy_encoder_engine.specs.PlainCodecs.{IsPlainCodec, HasByte};
 
 use crate::moves::EncoderMove;
 
@@ -24,4 +25,20 @@ pub trait PlainCodes {
     /// The bytes of a scalar, or the scalar itself as unmappable.
     fn code_of(&self, c: char) -> EncoderMove
         ensures { IsCode ((encoder_profile (codec self.now)).code c) c result };
+
+    /// Whether runs of code units of UTF-16 are worth `byte_of`. It is a hint: any answer will do.
+    #[inline(always)]
+    fn goes_by_units(&self) -> bool {
+        false
+    }
+
+    /// The byte of a code unit of UTF-16, and whether it has one and all scalars need the room of one byte.
+    /// Any unit may have none: it is then read as a scalar.
+    #[inline(always)]
+    fn byte_of(&self, unit: u16) -> (u8, bool)
+        ensures { result.1 ≡ true → IsNoSurrogate unit × HasByte (codec self.now) past unit result.0 }
+    {
+        let _ = unit;
+        (0, false)
+    }
 }

@@ -7,6 +7,7 @@ ghost use Rattle.legacy_encoder_engine.specs.Moves.{is_escape, move_report};
 ghost use Rattle.legacy_encoder_engine.specs.UnderWay.{KeepsOn, PutsCode};
 
 use crate::drive::put_move;
+use crate::units::Units;
 use crate::moves::EncoderMove;
 use crate::plain_codes::PlainCodes;
 use legacy_base::{Next, Source};
@@ -37,7 +38,36 @@ fn put_code<C: PlainCodes>(encoder: &C, dst: &mut [u8], at: usize, c: char) -> O
     Some(put_move(dst, at, step))
 }
 
-/// Reads scalars up to where ASCII seems to go on or to one that has no bytes, and writes their bytes
+/// Whether what comes next is perhaps read by blocks. It is a hint: any answer will do.
+#[inline(always)]
+fn may_go_by_blocks<C: PlainCodes, S: Source>(encoder: &C, src: &S) -> bool {
+    (encoder.goes_by_units() && src.has_blocks()) || src.is_in_ascii()
+}
+
+/// Reads code units that have a byte each, and writes these from the place `at` on. Answers how many: none
+/// is an answer too.
+#[inline(always)]
+fn read_units<C: PlainCodes, S: Source>(
+    encoder: &C,
+    src: &mut S,
+    dst: &mut [u8],
+    at: usize,
+) -> usize
+    requires { at ≤ length dst.old }
+    ensures keeps { KeepsOn (new_encoder (C.codec encoder.now)) (length dst.old) (S.left src.old)
+        (take at dst.old) (S.left src.new) (take (at + result) dst.new) }
+    ensures end { at + result ≤ length dst.old }
+    ensures few { length (S.left src.new) ≤ length (S.left src.old) }
+    ensures passed { S.passed src.new + total_unit_count S.form (S.left src.new)
+        ≡ S.passed src.old + total_unit_count S.form (S.left src.old) }
+{
+    if !encoder.goes_by_units() {
+        return 0;
+    }
+    src.copy_codes(&Units { encoder }, dst, at)
+}
+
+/// Reads scalars up to where blocks seem to go on or to one that has no bytes, and writes their bytes
 /// from the place `start` on, while `widest` bytes are free. Answers where they end.
 // For each number of code units it goes on by itself: so the place of the next scalar is known before
 // the scalar is.
@@ -64,7 +94,7 @@ fn read_scalars<C: PlainCodes, S: Source>(
     while dst.len() - at >= widest {
         match src.front() {
             Next::One(c) => {
-                if at > start && src.is_in_ascii() {
+                if at > start && may_go_by_blocks(encoder, src) {
                     return at;
                 }
                 let Some(end) = put_code(encoder, dst, at, c) else {
@@ -114,6 +144,7 @@ pub fn read_runs<C: PlainCodes, S: Source>(
     let mut at = start;
     loop {
         at += src.copy_ascii(dst, at);
+        at += read_units(encoder, src, dst, at);
         let end = read_scalars(encoder, src, dst, at, widest);
         if end == at {
             return at;

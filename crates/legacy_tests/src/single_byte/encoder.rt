@@ -85,8 +85,7 @@ fn refuses_runs_that_the_table_does_not_have(rt: HostRuntime) {
 
 #[test]
 fn says_why_a_run_is_refused(rt: HostRuntime) -> Result<(), Fail> {
-    assert!(rt; has_text(&rt, &RunStart, "run starts before 32")?);
-    assert!(rt; has_text(&rt, &RunPastEnd, "run passes 128")?);
-    assert!(rt; has_text(&rt, &RunMismatch(70), "run differs at 70")?);
+    let text = format!(in rt.alloc(); "{RunStart}, {RunPastEnd}, {}", RunMismatch(70))?;
+    assert_eq!(rt; text.as_str(), "run starts before 32, run passes 128, run differs at 70");
     Ok(())
 }

@@ -24,7 +24,10 @@ returns-then-end-at-clause-keeps g c =
     let copied = keeps_ascii state free (plain_serves codec g.C.PlainCodes.past plain) (plain_ascii codec g.C.PlainCodes.past plain) (take n left) left bytes (drop n left) e.ascii (sym (take-append-drop n left)) fits in
     let copied' = rw (← e.bytes, ← e.left) at copied in
     let long : length c.copy_ascii-at.new.dst ≡ free = omega arith in
-    let more = rw long at c.read_scalars-end.ensures.keeps in
+    let longer : length c.read_units-at.new.dst ≡ free = omega arith in
+    let units = rw long at c.read_units-at.ensures.keeps in
+    let behind = rw longer at c.read_scalars-end.ensures.keeps in
+    let more = keeps_then state free _ _ _ _ _ _ units behind in
     rw c.if-end-at.true at (keeps_then state free _ _ _ _ _ _ (keeps_then state free _ _ left bytes _ _ i.0 copied') more)
 
 pub returns-then-end-at-clause-passed : goal.returns-then-end-at-clause-passed
@@ -33,9 +36,9 @@ returns-then-end-at-clause-passed g c =
     let left = S.left c.loop-at.src in
     let n = c.copy_ascii-at.result in
     let e = c.copy_ascii-at.ensures in
-    let units = front_units S.form left n e.read e.ascii in
-    let units' = rw (← e.left) at units in
-    omega (arith, c.read_scalars-end.ensures.passed, e.passed, units', c.loop-at.invariant.3)
+    let front = front_units S.form left n e.read e.ascii in
+    let front' = rw (← e.left) at front in
+    omega (arith, c.read_scalars-end.ensures.passed, c.read_units-at.ensures.passed, e.passed, front', c.loop-at.invariant.3)
 
 pub loop-at-preserved : goal.loop-at-preserved
 loop-at-preserved g c =
@@ -53,13 +56,16 @@ loop-at-preserved g c =
     let copied = keeps_ascii state free (plain_serves codec g.C.PlainCodes.past plain) (plain_ascii codec g.C.PlainCodes.past plain) (take n left) left bytes (drop n left) e.ascii (sym (take-append-drop n left)) fits in
     let copied' = rw (← e.bytes, ← e.left) at copied in
     let long : length c.copy_ascii-at.new.dst ≡ free = omega arith in
-    let more = rw long at c.read_scalars-end.ensures.keeps in
-    let units = front_units S.form left n e.read e.ascii in
-    let units' = rw (← e.left) at units in (
+    let longer : length c.read_units-at.new.dst ≡ free = omega arith in
+    let units = rw long at c.read_units-at.ensures.keeps in
+    let behind = rw longer at c.read_scalars-end.ensures.keeps in
+    let more = keeps_then state free _ _ _ _ _ _ units behind in
+    let front = front_units S.form left n e.read e.ascii in
+    let front' = rw (← e.left) at front in (
       keeps_then state free _ _ _ _ _ _ (keeps_then state free _ _ left bytes _ _ i.0 copied') more,
       omega (arith, c.read_scalars-end.ensures.start, i.1),
       omega (arith, c.read_scalars-end.ensures.end),
-      omega (arith, c.read_scalars-end.ensures.passed, e.passed, units', i.3),
+      omega (arith, c.read_scalars-end.ensures.passed, c.read_units-at.ensures.passed, e.passed, front', i.3),
     )
 
 pub read_scalars-end-requires-clause-room : goal.read_scalars-end-requires-clause-room
