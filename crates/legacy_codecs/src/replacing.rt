@@ -1,6 +1,6 @@
 //! Calls of a decoder that write U+FFFD for each malformed sequence.
 ghost use Rattle.std.specs.Prelude.{◌≡◌, ℕ, ◌+◌, ◌≤◌, List, ◌++◌, length, drop, take};
-ghost use Rattle.legacy_base.specs.EncodingForm.{Utf8, Utf16};
+ghost use Rattle.legacy_base.specs.EncodingForm.{Utf8, Utf16, code_units, unit_count};
 ghost use Rattle.legacy_codecs.specs.Replacing.{ReplacingDecoderCall};
 
 use crate::results::CoderResult;
@@ -13,6 +13,16 @@ fn rest_of(bytes: &[u8], offset: usize) -> &[u8]
     ensures { result.now ≡ drop offset bytes.now }
 {
     &bytes[offset..]
+}
+
+/// Writes U+FFFD behind what was written. It must fit.
+fn put_replacement<T: Destination>(dst: &mut T)
+    requires { unit_count T.form 0xFFFD ≤ T.room dst.old }
+    ensures contents { T.contents dst.new ≡ T.contents dst.old ++ code_units T.form 0xFFFD }
+    ensures room { T.room dst.new + unit_count T.form 0xFFFD ≡ T.room dst.old }
+    ensures loan { T.loan dst.new ≡ T.loan dst.old }
+{
+    dst.put(char::REPLACEMENT_CHARACTER);
 }
 
 /// Makes calls of the decoder into the destination until one does not answer `Malformed`, and writes
@@ -39,7 +49,7 @@ fn decode_replacing<D: RawDecoder, T: Destination>(
             DecoderResult::InputEmpty => return (CoderResult::InputEmpty, read, replaced),
             DecoderResult::OutputFull => return (CoderResult::OutputFull, read, replaced),
             DecoderResult::Malformed(_, _) => {
-                dst.put('\u{FFFD}');
+                put_replacement(dst);
                 replaced = true;
             }
         }

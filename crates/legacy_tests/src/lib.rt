@@ -33,6 +33,8 @@ mod pointers;
 #[cfg(test)]
 mod replacement;
 #[cfg(test)]
+mod replacing;
+#[cfg(test)]
 mod rows;
 #[cfg(test)]
 mod runs;

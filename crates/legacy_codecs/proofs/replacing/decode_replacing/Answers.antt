@@ -20,8 +20,8 @@ returns-in-OutputFull-clause-call g c =
     let one = rw (c.rest_of.ensures, c.in-OutputFull.is) at call.1 in
     replaces_full _ _ _ _ _ _ _ _ _ _ _ c.calls.invariant.replaces _ _ call.0 _ call.2 one
 
-pub put-requires : goal.put-requires
-put-requires g c =
+pub put_replacement-requires : goal.put_replacement-requires
+put_replacement-requires g c =
     let call = c.step-answer.ensures.call in
     let one = rw (c.rest_of.ensures, c.in-Malformed.is) at call.1 in
     replaces_fits _ _ _ _ _ _ _ _ _ _ _ c.calls.invariant.replaces _ _ call.0 _ call.2 c.in-Malformed.field-0 c.in-Malformed.field-1 one _ c.step-answer.ensures.room
@@ -38,6 +38,6 @@ calls-preserved g c =
     let one = rw (c.rest_of.ensures, c.in-Malformed.is) at call.1 in
     record {
       replaces = replaces_step _ _ _ _ _ _ _ _ _ _ _ c.calls.invariant.replaces _ _ call.0 _ call.2 c.in-Malformed.field-0 c.in-Malformed.field-1 one
-          _ _ c.step-answer.ensures.room c.put.ensures.room _ c.put.ensures.contents;
-      loan = c.put.ensures.loan ∙ c.step-answer.ensures.loan ∙ c.calls.invariant.loan;
+          _ _ c.step-answer.ensures.room c.put_replacement.ensures.room _ c.put_replacement.ensures.contents;
+      loan = c.put_replacement.ensures.loan ∙ c.step-answer.ensures.loan ∙ c.calls.invariant.loan;
     }

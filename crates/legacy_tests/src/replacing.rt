@@ -1,0 +1,398 @@
+//! Calls with replacement: rows of calls with what must come of each, and the functions that follow them.
+use crate::indexes::{no_entries, tables_of};
+use crate::replacing::Row::{Decoder, Pieces, Text, ToUtf8, ToUtf16, Utf16Length};
+use crate::rows::{Call, Place, Tested};
+use crate::units::Hex;
+use legacy_base::{Indexes, RawDecoder};
+use legacy_codecs::CoderResult::InputEmpty;
+use legacy_codecs::{CoderResult, decode_replacing_utf8, decode_replacing_utf16};
+use legacy_decoders::{Gb18030Decoder, Iso2022JpDecoder, Utf16Decoder};
+use std::process::Abort;
+
+mod encoders;
+
+/// A call or a query of a decoder, and what must come of it.
+#[derive(Clone, Copy)]
+enum Row<'a> {
+    /// A decoder that was just made, and the name of the case that begins with it.
+    Decoder(&'a str),
+    /// A call into UTF-8: the bytes, how many bytes are free, whether these are the last, the answer, how
+    /// many bytes are read, the text that is written, and whether something was replaced.
+    ToUtf8(&'a [u8], usize, bool, CoderResult, usize, &'a str, bool),
+    /// A call into UTF-16: the same, but what is free and what is written are code units.
+    ToUtf16(&'a [u8], usize, bool, CoderResult, usize, &'a [u16], bool),
+    /// The length in UTF-16 for so many bytes.
+    Utf16Length(usize, Option<usize>),
+    /// The text that decoders of their own write of the bytes, the last ones, call after call with outputs
+    /// of any one length from 4 to 15 bytes, and of 2 to 7 code units.
+    Text(&'a [u8], &'a str, &'a [u16]),
+    /// The bytes in pieces of so many, none of them the last. Each piece fits into as many code units of
+    /// UTF-16 as the decoder answers for it, and nothing is replaced.
+    Pieces(&'a [u8], usize),
+}
+
+/// Compares what came of a call with what is wanted: the answer, what is read, what is written, and whether
+/// something was replaced.
+fn is_call<U: Copy + PartialEq + Into<u32>>(
+    rt: &impl Abort,
+    (case, row): Place,
+    form: &str,
+    (source, room, last): Call,
+    (res, seen, came, told): (CoderResult, usize, &[U], bool),
+    (answer, read, wanted, replaced): (CoderResult, usize, &[U], bool),
+) {
+    assert!(rt;
+        res == answer && seen == read && came == wanted && told == replaced,
+        "\"{case}\", row {row}: {} into {form}, {room} free, last: {last}\n  came:   {res:?}, {seen} read, {}, replaced: {told}\n  wanted: {answer:?}, {read} read, {}, replaced: {replaced}",
+        Hex(source),
+        Hex(came),
+        Hex(wanted)
+    );
+}
+
+/// Makes a call into UTF-8, and compares what comes of it with what is wanted.
+fn writes_text<D: RawDecoder>(
+    rt: &impl Abort,
+    place: Place,
+    decoder: &mut D,
+    call: Call,
+    (answer, read, text, replaced): (CoderResult, usize, &str, bool),
+) {
+    let (source, room, last) = call;
+    let mut output = [0u8; 96];
+    let (result, seen, written, told) = decode_replacing_utf8(
+        decoder,
+        source,
+        &mut output[..room.min(96)],
+        last,
+    );
+    let came = (result, seen, &output[..written.min(96)], told);
+    is_call(
+        rt,
+        place,
+        "UTF-8",
+        call,
+        came,
+        (answer, read, text.as_bytes(), replaced),
+    );
+}
+
+/// Makes a call into UTF-16, and compares what comes of it with what is wanted.
+fn writes_units<D: RawDecoder>(
+    rt: &impl Abort,
+    place: Place,
+    decoder: &mut D,
+    call: Call,
+    wanted: (CoderResult, usize, &[u16], bool),
+) {
+    let (source, room, last) = call;
+    let mut output = [0u16; 96];
+    let (result, seen, written, told) = decode_replacing_utf16(
+        decoder,
+        source,
+        &mut output[..room.min(96)],
+        last,
+    );
+    let came = (result, seen, &output[..written.min(96)], told);
+    is_call(rt, place, "UTF-16", call, came, wanted);
+}
+
+/// Writes the text of the input from the front of the slice on, by calls with so many bytes free, and
+/// answers how many bytes it has.
+fn text_by_calls<D: RawDecoder>(
+    decoder: &mut D,
+    input: &[u8],
+    room: usize,
+    text: &mut [u8; 96],
+) -> usize {
+    let mut unread = input;
+    let mut end = 0usize;
+    for _call in 0..64 {
+        let start = end.min(96);
+        let (answer, read, written, _) = decode_replacing_utf8(
+            decoder,
+            unread,
+            &mut text[start..(start + room.min(96)).min(96)],
+            true,
+        );
+        end = start + written.min(96);
+        unread = &unread[read.min(unread.len())..];
+        if answer == InputEmpty {
+            return end;
+        }
+    }
+    end
+}
+
+/// The same in code units of UTF-16.
+fn units_by_calls<D: RawDecoder>(
+    decoder: &mut D,
+    input: &[u8],
+    room: usize,
+    units: &mut [u16; 96],
+) -> usize {
+    let mut unread = input;
+    let mut end = 0usize;
+    for _call in 0..64 {
+        let start = end.min(96);
+        let (answer, read, written, _) = decode_replacing_utf16(
+            decoder,
+            unread,
+            &mut units[start..(start + room.min(96)).min(96)],
+            true,
+        );
+        end = start + written.min(96);
+        unread = &unread[read.min(unread.len())..];
+        if answer == InputEmpty {
+            return end;
+        }
+    }
+    end
+}
+
+/// Compares the text that calls with outputs of one length write with what is wanted.
+fn has_text<U: Copy + PartialEq + Into<u32>>(
+    rt: &impl Abort,
+    (case, row): Place,
+    (form, room, input): (&str, usize, &[u8]),
+    came: &[U],
+    wanted: &[U],
+) {
+    assert!(rt;
+        came == wanted,
+        "\"{case}\", row {row}: {} into {form}, {room} free at each call\n  came:   {}\n  wanted: {}",
+        Hex(input),
+        Hex(came),
+        Hex(wanted)
+    );
+}
+
+/// Compares the text of the input by calls with small outputs with what is wanted.
+fn follow_text<D: Tested>(
+    rt: &impl Abort,
+    place: Place,
+    of: D::Of,
+    input: &[u8],
+    (text, units): (&str, &[u16]),
+) {
+    for room in 4..16 {
+        let mut output = [0u8; 96];
+        let end = text_by_calls(&mut D::made(of), input, room, &mut output);
+        has_text(
+            rt,
+            place,
+            ("UTF-8", room, input),
+            &output[..end.min(96)],
+            text.as_bytes(),
+        );
+    }
+    for room in 2..8 {
+        let mut output = [0u16; 96];
+        let end = units_by_calls(&mut D::made(of), input, room, &mut output);
+        has_text(
+            rt,
+            place,
+            ("UTF-16", room, input),
+            &output[..end.min(96)],
+            units,
+        );
+    }
+}
+
+/// Decodes the pieces, each into the length that the decoder answers for it, and compares the answers with
+/// those that are wanted.
+fn follow_pieces<D: RawDecoder>(
+    rt: &impl Abort,
+    (case, row): Place,
+    decoder: &mut D,
+    input: &[u8],
+    size: usize,
+) {
+    for piece in input.chunks(size.max(1)) {
+        let length = decoder.max_utf16_buffer_length(piece.len());
+        let mut output = [0u16; 96];
+        let (answer, read, _, replaced) = decode_replacing_utf16(
+            decoder,
+            piece,
+            &mut output[..length.unwrap_or(0).min(96)],
+            false,
+        );
+        assert!(rt;
+            answer == InputEmpty && read == piece.len() && !replaced,
+            "\"{case}\", row {row}: the piece {} into {length:?} code units\n  came:   {answer:?}, {read} read, replaced: {replaced}\n  wanted: InputEmpty, {} read, replaced: false",
+            Hex(piece),
+            piece.len()
+        );
+    }
+}
+
+/// Follows one row: makes its calls or its query, and compares what comes of it with what is wanted.
+fn follow_row<D: Tested>(rt: &impl Abort, place: Place, of: D::Of, decoder: &mut D, row: &Row) {
+    match row {
+        Decoder(_) => *decoder = D::made(of),
+        ToUtf8(source, room, last, answer, read, text, replaced) => {
+            let wanted = (*answer, *read, *text, *replaced);
+            writes_text(rt, place, decoder, (source, *room, *last), wanted);
+        }
+        ToUtf16(source, room, last, answer, read, units, replaced) => {
+            let wanted = (*answer, *read, *units, *replaced);
+            writes_units(rt, place, decoder, (source, *room, *last), wanted);
+        }
+        Utf16Length(bytes, length) => {
+            let came = decoder.max_utf16_buffer_length(*bytes);
+            assert!(rt;
+                came == *length,
+                "\"{}\", row {}: the length in UTF-16 for {bytes}\n  came:   {came:?}\n  wanted: {length:?}",
+                place.0,
+                place.1
+            );
+        }
+        Text(input, text, units) => follow_text::<D>(rt, place, of, input, (text, units)),
+        Pieces(input, size) => follow_pieces(rt, place, decoder, input, *size),
+    }
+}
+
+/// Follows the rows in turn.
+fn follow<D: Tested>(rt: &impl Abort, of: D::Of, rows: &[Row]) {
+    let mut case = "";
+    let mut decoder = D::made(of);
+    for (at, row) in rows.iter().enumerate() {
+        if let Decoder(name) = row {
+            case = name;
+        }
+        follow_row(rt, (case, at), of, &mut decoder, row);
+    }
+}
+
+const ESCAPES: &[Row] = &[
+    Decoder("the queried length is enough behind an escape that is held back"),
+    ToUtf16(b"\x1B", 2, false, InputEmpty, 1, &[], false),
+    Utf16Length(1, Some(2)),
+    ToUtf16(b"\x41", 2, true, InputEmpty, 1, &[0xFFFD, 0x41], true),
+    Decoder("any small output gives the same text"),
+    Text(
+        b"\x1B\x24\x42\x39\x1B\x24",
+        "\u{FFFD}\u{FFFD}\u{FFFD}",
+        &[0xFFFD, 0xFFFD, 0xFFFD],
+    ),
+    Text(
+        b"\x1B\x24\x42\x39\x1B",
+        "\u{FFFD}\u{FFFD}",
+        &[0xFFFD, 0xFFFD],
+    ),
+    Text(
+        b"\x1B\x24\x42\x39\x1B\x28",
+        "\u{FFFD}\u{FFFD}\u{FFFD}",
+        &[0xFFFD, 0xFFFD, 0xFFFD],
+    ),
+    Text(
+        b"\x80\x1B\x24",
+        "\u{FFFD}\u{FFFD}$",
+        &[0xFFFD, 0xFFFD, 0x24],
+    ),
+    Text(b"\x61\x1B\x24\x42\x39", "a\u{FFFD}", &[0x61, 0xFFFD]),
+];
+
+#[test]
+fn broken_escapes_are_replaced(rt: HostRuntime) {
+    let tables = tables_of(&rt, &no_entries());
+    follow::<Iso2022JpDecoder>(&rt, &tables, ESCAPES);
+}
+
+/// The rows with U+58FA at pointer 4861.
+const PAIRS: &[Row] = &[
+    Decoder("a byte that is no lead is replaced in two-byte mode, which stays"),
+    ToUtf8(
+        b"\x1B\x24\x40\x80\x54\x64",
+        96,
+        true,
+        InputEmpty,
+        6,
+        "\u{FFFD}\u{58FA}",
+        true,
+    ),
+    Decoder("of an escape that is none only the first byte is replaced"),
+    ToUtf8(
+        b"\x1B\x24\x28\x44",
+        96,
+        true,
+        InputEmpty,
+        4,
+        "\u{FFFD}$(D",
+        true,
+    ),
+];
+
+#[test]
+fn two_byte_mode_goes_on_behind_a_replacement(rt: HostRuntime) {
+    let mut jis0208 = [0u16; 4862];
+    jis0208[4861] = 0x58FA;
+    let tables = tables_of(
+        &rt,
+        &Indexes {
+            jis0208: &jis0208,
+            ..no_entries()
+        },
+    );
+    follow::<Iso2022JpDecoder>(&rt, &tables, PAIRS);
+}
+
+const LITTLE_ENDIAN: &[Row] = &[
+    Decoder("lone surrogates are replaced, also at the end"),
+    ToUtf8(
+        b"\0\0\0\0\0\0\0\0\x3D\xD8\xA9\xDC\0\0\0\0\0\0\0\0\x3D\xD8\0\0\0\0\0\0\0\0\xA9\xDC\0\0\0\0\0\0\0\0\0\0\0\0\0\0\0\0\x3D\xD8",
+        96,
+        true,
+        InputEmpty,
+        50,
+        "\0\0\0\0\u{1F4A9}\0\0\0\0\u{FFFD}\0\0\0\0\u{FFFD}\0\0\0\0\0\0\0\0\u{FFFD}",
+        true,
+    ),
+    Decoder("a unit may be cut"),
+    ToUtf8(b"\xFF", 96, false, InputEmpty, 1, "", false),
+    ToUtf8(b"\xFD", 96, true, InputEmpty, 1, "\u{FDFF}", false),
+    Decoder("half a unit at the end is replaced"),
+    ToUtf8(b"\xFF", 96, true, InputEmpty, 1, "\u{FFFD}", true),
+];
+
+const BIG_ENDIAN: &[Row] = &[
+    Decoder("each byte fits into the queried length"),
+    Pieces(b"\x00\x61\x00\xE4\x26\x03\xD8\x3D\xDC\xA9", 1),
+    Decoder("so do three bytes at a time"),
+    Pieces(b"\x00\xE4\x26\x03\xD8\x3D\xDC\xA9\x00\x61\x00\xE4", 3),
+];
+
+#[test]
+fn broken_pairs_of_surrogates_are_replaced(rt: HostRuntime) {
+    follow::<Utf16Decoder>(&rt, false, LITTLE_ENDIAN);
+    follow::<Utf16Decoder>(&rt, true, BIG_ENDIAN);
+}
+
+const FOUR_BYTES: &[Row] = &[
+    Decoder("four bytes that are no form, and two at the end"),
+    ToUtf8(
+        b"\xE3\x32\x9A\x36\x81\x30",
+        96,
+        true,
+        InputEmpty,
+        6,
+        "\u{FFFD}\u{FFFD}",
+        true,
+    ),
+    Decoder("the digits behind a byte that is no lead stay"),
+    ToUtf8(
+        b"\xFF\x32\x9A\x33\0",
+        96,
+        true,
+        InputEmpty,
+        5,
+        "\u{FFFD}2\u{FFFD}3\0",
+        true,
+    ),
+];
+
+#[test]
+fn broken_forms_of_four_bytes_are_replaced(rt: HostRuntime) {
+    let tables = tables_of(&rt, &no_entries());
+    follow::<Gb18030Decoder>(&rt, &tables, FOUR_BYTES);
+}
