@@ -1,5 +1,5 @@
 //! The indexes as a caller in another language hands them in.
-ghost use Rattle.std.specs.Prelude.{◌≡◌, ◌≤◌, ◌↔◌, length, map, take, IsSome};
+ghost use Rattle.std.specs.Prelude.{◌≡◌, ◌≤◌, ◌↔◌, length, map, take, IfSome, IsSome};
 ghost use Rattle.legacy_base.specs.Tables.{flat_indexes};
 ghost use Rattle.legacy_exports.specs.Taken.{indexes_with, range_pair, IsTakenTable};
 
@@ -86,7 +86,8 @@ pub fn with_ranges<'a: 'r, 'r>(slices: &IndexSlices<'a>, ranges: &'r [(u16, u16)
 
 /// The table of these entries, if there are 128 and they are accepted.
 pub fn single_byte_table(entries: &[u16]) -> Option<SingleByteTable>
-    ensures { IsSome result ↔ IsTakenTable entries.now }
+    ensures taken { IsSome result ↔ IsTakenTable entries.now }
+    ensures same { IfSome result (λ table. table.entries ≡ entries.now) }
 {
     if entries.len() != 128 {
         return None;
