@@ -8,8 +8,7 @@
 //! are refused, nothing is written and the answer is `usize::MAX`.
 #![tactic(auto)]
 
-ghost use Rattle.std.specs.Prelude.{◌≡◌, ◌≤◌, ◌⊎◌, length, true};
-ghost use Rattle.std.specs.Str.{is_utf8};
+ghost use Rattle.std.specs.Prelude.{◌≡◌, ◌≤◌, ◌⊎◌, length, IsUtf8};
 ghost use Rattle.legacy_exports.specs.Taken.{IsRefused, IsRefusedToEncode, IsTaken, IsTakenToEncode};
 
 mod codec;
@@ -81,7 +80,7 @@ pub extern "C" fn legacy_encode_from_utf8(
 ) -> usize
     ensures units { (result ≤ length output.new) ⊎ (result ≡ 0xFFFF_FFFF_FFFF_FFFF) }
     ensures refused { IsRefusedToEncode codec indexes.now → result ≡ 0xFFFF_FFFF_FFFF_FFFF }
-    ensures taken { IsTakenToEncode codec indexes.now → is_utf8 source.now ≡ true →
+    ensures taken { IsTakenToEncode codec indexes.now → IsUtf8 source.now →
         result ≤ length output.new }
 {
     let Ok(text) = std::str::from_utf8(source) else {
