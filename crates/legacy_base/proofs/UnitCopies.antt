@@ -20,7 +20,8 @@ pub record GoesOn (gives : ℕ → ℕ → Type 0) (units : List ℕ) (count : �
 -- those of a block behind others
 pub block_behind : (gives : ℕ → ℕ → Type 0) (units old new front : List ℕ) (at copied r : ℕ) (block marks : List ℕ)
     → copied + 16 ≤ length units → r ≤ 16 → length block ≡ 16
-    → ((k : ℕ) → k < 16 → get_or marks k 0 < 128 → IsNoSurrogate (get_or (take (length units - copied) (drop copied units)) k 0) × gives (get_or (take (length units - copied) (drop copied units)) k 0) (get_or block k 0))
+    → ((k : ℕ) → k < 16 → get_or marks k 0 < 128 → IsNoSurrogate (get_or (take (length units - copied) (drop copied units)) k 0)
+    × gives (get_or (take (length units - copied) (drop copied units)) k 0) (get_or block k 0))
     → IsAscii (take r marks) → take (at + copied + r) new ≡ take (at + copied) old ++ take r block
     → ((k : ℕ) → k < copied → IsNoSurrogate (get_or units k 0)) → WritesCodes gives units copied front (take (at + copied) old)
     → GoesOn gives units (copied + r) front (take (at + (copied + r)) new)

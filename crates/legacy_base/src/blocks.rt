@@ -60,7 +60,8 @@ pub(crate) fn copy_ascii_bytes(bytes: &[u8], dst: &mut [u8], at: usize) -> usize
 fn narrow_block(units: &[u16]) -> [u8; 16]
     requires { 16 ≤ length units.now }
     ensures count { length result ≡ 16 }
-    ensures narrow { (k : ℕ) → k < 16 → slice_index result k < 0x80 → slice_index result k ≡ slice_index units.now k }
+    ensures narrow { (k : ℕ) → k < 16 → slice_index result k < 0x80 →
+        slice_index result k ≡ slice_index units.now k }
 {
     let mut block = [0u8; 16];
     let mut k = 0;

@@ -43,7 +43,8 @@ pub trait Source {
     fn advance(&mut self)
         requires { 0 < length (left self.old) }
         ensures left { left self.new ≡ drop 1 (left self.old) }
-        ensures passed { passed self.new ≡ passed self.old + unit_count form (slice_index (left self.old) 0) };
+        ensures passed { passed self.new
+            ≡ passed self.old + unit_count form (slice_index (left self.old) 0) };
 
     /// How many code units the cursor has passed.
     fn consumed(&self) -> usize
@@ -73,7 +74,8 @@ pub trait Source {
         ensures passed { passed self.new ≡ passed self.old + result }
         ensures ascii { IsAscii (take result (left self.old)) }
         ensures fits { at + result ≤ length dst.old }
-        ensures bytes { take (at + result) dst.new ≡ take at dst.old ++ take result (left self.old) };
+        ensures bytes { take (at + result) dst.new
+            ≡ take at dst.old ++ take result (left self.old) };
 
     /// Whether `copy_codes` may go on. It is a hint: any answer will do.
     #[inline(always)]

@@ -8,8 +8,7 @@ use Rattle.legacy_base.specs.Pointers.{gb18030_pointer_of, range_pointer_of}
 use Rattle.legacy_base.specs.Lengths.{number, ◌⊕◌, ◌⊗◌}
 use Rattle.legacy_base.specs.Gb18030.{gb18030_pair_bytes, gb18030_range_bytes, gb18030_pair_code, gb18030_code, gbk_code}
 use Rattle.legacy_chinese.specs.Gb18030Codec.{gb18030_codec}
-use Rattle.legacy_encoder_engine.specs.PlainCodecs.{IsPlainCodec}
-use Rattle.legacy_encoder_engine.specs.PlainLengths.{gb18030_lengths, gbk_lengths}
+use Rattle.legacy_encoder_engine.specs.PlainCodecs.{HasPlainLengths, IsPlainCodec}
 use Rattle.legacy_encoder_engine.proofs.PlainServes.{short_past, short_if, short_map, short_or}
 
 -- a pair has two bytes
@@ -31,6 +30,27 @@ short_gbk index pua c h =
     short_past c _ _ 2 h
     (short_if (c == 0xE5E5) _ _ 2 (omega arith)
     (short_if (c == 0x20AC) _ _ 2 (omega arith) (short_pair pua index c)))
+
+-- the length formulas serve
+gbk_lengths : HasPlainLengths 4 2 (λ n. n ⊕ number 3) (λ n. number 2 ⊕ number 2 ⊗ n)
+gbk_lengths = record {
+  fits = (omega arith, omega arith);
+  low16 = λ u t own p q. omega arith;
+  enough16 = λ u t p. omega arith;
+  ascii8 = λ u t own p q. omega arith;
+  low8 = λ u t own p q. omega arith;
+  enough8 = λ u t p. omega arith;
+}
+
+gb18030_lengths : HasPlainLengths 4 4 (λ n. number 2 ⊕ number 2 ⊗ n) (λ n. number 4 ⊗ n)
+gb18030_lengths = record {
+  fits = (omega arith, omega arith);
+  low16 = λ u t own p q. omega arith;
+  enough16 = λ u t p. omega arith;
+  ascii8 = λ u t own p q. omega arith;
+  low8 = λ u t own p q. omega arith;
+  enough8 = λ u t p. omega arith;
+}
 
 pub gb18030_plain : (flat : FlatIndexes) (extended : Bool) → IsPlainCodec (gb18030_codec flat extended) 4
 unfolding gb18030_code gbk_code

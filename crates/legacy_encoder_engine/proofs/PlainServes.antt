@@ -186,7 +186,8 @@ module _ (codec : Codec) (past : ℕ) (p : IsPlainCodec codec past) where
 
   -- scalars that have a byte each, as these bytes
   bytes_on : (free : ℕ) → past ≡ 1 → (front bytes left old rest : List ℕ) → length bytes ≡ length front
-      → ((k : ℕ) → k < length front → code S (get_or front k 0) ≡ Some (get_or bytes k 0 ∷ [])) → left ≡ front ++ rest → length old + length front ≤ free → KeepsOn S free left old rest (old ++ bytes)
+      → ((k : ℕ) → k < length front → code S (get_or front k 0) ≡ Some (get_or bytes k 0 ∷ []))
+      → left ≡ front ++ rest → length old + length front ≤ free → KeepsOn S free left old rest (old ++ bytes)
   bytes_on free one [] [] left old rest same codes at fits = rw (append-nil old, at) (keeps_none S free rest old)
   bytes_on free one [] (b ∷ bytes) left old rest same codes at fits = absurd (omega arith)
   bytes_on free one (c ∷ front) [] left old rest same codes at fits = absurd (omega arith)

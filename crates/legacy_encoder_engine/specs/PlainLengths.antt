@@ -1,4 +1,4 @@
--- The length formulas of the codecs without modes serve: for codes of one byte, for pairs, and those of GBK and GB18030.
+-- The length formulas of codecs without modes serve: for codes of one byte, and for pairs.
 use Rattle.std.proofs.Common.{ℕ, arith}
 use Rattle.legacy_base.specs.Lengths.{number, ◌⊕◌, ◌⊗◌}
 use Rattle.legacy_encoder_engine.specs.PlainCodecs.{HasPlainLengths}
@@ -15,26 +15,6 @@ byte_lengths = record {
 
 pub pair_lengths : HasPlainLengths 2 2 (λ n. n ⊕ number 1) (λ n. number 2 ⊗ n)
 pair_lengths = record {
-  fits = (omega arith, omega arith);
-  low16 = λ u t own p q. omega arith;
-  enough16 = λ u t p. omega arith;
-  ascii8 = λ u t own p q. omega arith;
-  low8 = λ u t own p q. omega arith;
-  enough8 = λ u t p. omega arith;
-}
-
-pub gbk_lengths : HasPlainLengths 4 2 (λ n. n ⊕ number 3) (λ n. number 2 ⊕ number 2 ⊗ n)
-gbk_lengths = record {
-  fits = (omega arith, omega arith);
-  low16 = λ u t own p q. omega arith;
-  enough16 = λ u t p. omega arith;
-  ascii8 = λ u t own p q. omega arith;
-  low8 = λ u t own p q. omega arith;
-  enough8 = λ u t p. omega arith;
-}
-
-pub gb18030_lengths : HasPlainLengths 4 4 (λ n. number 2 ⊕ number 2 ⊗ n) (λ n. number 4 ⊗ n)
-gb18030_lengths = record {
   fits = (omega arith, omega arith);
   low16 = λ u t own p q. omega arith;
   enough16 = λ u t p. omega arith;

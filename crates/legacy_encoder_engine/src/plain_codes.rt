@@ -32,11 +32,12 @@ pub trait PlainCodes {
         false
     }
 
-    /// The byte of a code unit of UTF-16, and whether it has one and all scalars need the room of one byte.
-    /// Any unit may have none: it is then read as a scalar.
+    /// The byte of a code unit of UTF-16, and whether it has one: then all scalars of the codec need the
+    /// room of one byte. Any unit may have none, and is then read as a scalar.
     #[inline(always)]
     fn byte_of(&self, unit: u16) -> (u8, bool)
-        ensures { result.1 ≡ true → IsNoSurrogate unit × HasByte (codec self.now) past unit result.0 }
+        ensures { result.1 ≡ true →
+            IsNoSurrogate unit × HasByte (codec self.now) past unit result.0 }
     {
         let _ = unit;
         (0, false)

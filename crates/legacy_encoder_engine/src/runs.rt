@@ -7,9 +7,9 @@ ghost use Rattle.legacy_encoder_engine.specs.Moves.{is_escape, move_report};
 ghost use Rattle.legacy_encoder_engine.specs.UnderWay.{KeepsOn, PutsCode};
 
 use crate::drive::put_move;
-use crate::units::Units;
 use crate::moves::EncoderMove;
 use crate::plain_codes::PlainCodes;
+use crate::units::Units;
 use legacy_base::{Next, Source};
 
 /// Whether the scalar is read, and has bytes.

@@ -7,7 +7,8 @@ returns-then-count-lt16-clause-lone g c =
     let e = c.store_marked-count.ensures in
     let b = c.code_block.ensures in
     let i = c.loop-copied.invariant in
-    let on = block_behind (g.C.UnitCodes.gives c.args.codes.now) c.args.units.now c.loop-copied.dst c.store_marked-count.new.dst (take c.args.at c.args.dst.now) c.args.at c.loop-copied.copied c.store_marked-count.result
+    let on = block_behind (g.C.UnitCodes.gives c.args.codes.now) c.args.units.now c.loop-copied.dst c.store_marked-count.new.dst
+    (take c.args.at c.args.dst.now) c.args.at c.loop-copied.copied c.store_marked-count.result
     c.code_block.result.0 c.code_block.result.1 (omega (arith, c.loop-copied-test.true)) e.count b.bytes b.codes e.ascii e.stored i.2 i.3 in
     on.lone
 
@@ -16,7 +17,8 @@ returns-then-count-lt16-clause-writes g c =
     let e = c.store_marked-count.ensures in
     let b = c.code_block.ensures in
     let i = c.loop-copied.invariant in
-    let on = block_behind (g.C.UnitCodes.gives c.args.codes.now) c.args.units.now c.loop-copied.dst c.store_marked-count.new.dst (take c.args.at c.args.dst.now) c.args.at c.loop-copied.copied c.store_marked-count.result
+    let on = block_behind (g.C.UnitCodes.gives c.args.codes.now) c.args.units.now c.loop-copied.dst c.store_marked-count.new.dst
+    (take c.args.at c.args.dst.now) c.args.at c.loop-copied.copied c.store_marked-count.result
     c.code_block.result.0 c.code_block.result.1 (omega (arith, c.loop-copied-test.true)) e.count b.bytes b.codes e.ascii e.stored i.2 i.3 in
     on.writes
 
@@ -25,7 +27,8 @@ returns-then-is_behind_ascii-clause-lone g c =
     let e = c.store_marked-count.ensures in
     let b = c.code_block.ensures in
     let i = c.loop-copied.invariant in
-    let on = block_behind (g.C.UnitCodes.gives c.args.codes.now) c.args.units.now c.loop-copied.dst c.store_marked-count.new.dst (take c.args.at c.args.dst.now) c.args.at c.loop-copied.copied c.store_marked-count.result
+    let on = block_behind (g.C.UnitCodes.gives c.args.codes.now) c.args.units.now c.loop-copied.dst c.store_marked-count.new.dst
+    (take c.args.at c.args.dst.now) c.args.at c.loop-copied.copied c.store_marked-count.result
     c.code_block.result.0 c.code_block.result.1 (omega (arith, c.loop-copied-test.true)) e.count b.bytes b.codes e.ascii e.stored i.2 i.3 in
     on.lone
 
@@ -34,7 +37,8 @@ returns-then-is_behind_ascii-clause-writes g c =
     let e = c.store_marked-count.ensures in
     let b = c.code_block.ensures in
     let i = c.loop-copied.invariant in
-    let on = block_behind (g.C.UnitCodes.gives c.args.codes.now) c.args.units.now c.loop-copied.dst c.store_marked-count.new.dst (take c.args.at c.args.dst.now) c.args.at c.loop-copied.copied c.store_marked-count.result
+    let on = block_behind (g.C.UnitCodes.gives c.args.codes.now) c.args.units.now c.loop-copied.dst c.store_marked-count.new.dst
+    (take c.args.at c.args.dst.now) c.args.at c.loop-copied.copied c.store_marked-count.result
     c.code_block.result.0 c.code_block.result.1 (omega (arith, c.loop-copied-test.true)) e.count b.bytes b.codes e.ascii e.stored i.2 i.3 in
     on.writes
 
@@ -43,6 +47,7 @@ loop-copied-preserved g c =
     let e = c.store_marked-count.ensures in
     let b = c.code_block.ensures in
     let i = c.loop-copied.invariant in
-    let on = block_behind (g.C.UnitCodes.gives c.args.codes.now) c.args.units.now c.loop-copied.dst c.store_marked-count.new.dst (take c.args.at c.args.dst.now) c.args.at c.loop-copied.copied c.store_marked-count.result
+    let on = block_behind (g.C.UnitCodes.gives c.args.codes.now) c.args.units.now c.loop-copied.dst c.store_marked-count.new.dst
+    (take c.args.at c.args.dst.now) c.args.at c.loop-copied.copied c.store_marked-count.result
     c.code_block.result.0 c.code_block.result.1 (omega (arith, c.loop-copied-test.true)) e.count b.bytes b.codes e.ascii e.stored i.2 i.3 in
     (omega (arith, c.loop-copied-test.true, e.count), omega (arith, c.if-most-copied-ge16.true, e.count), on.lone, on.writes)
