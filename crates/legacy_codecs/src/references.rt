@@ -119,6 +119,7 @@ fn encode_replacing<E: RawEncoder, S: Source>(
     if src.peek().is_some() {
         return (CoderResult::OutputFull, written, replaced);
     }
+    // No scalar is left to report: the call tells whether the end has something to write.
     match encoder.step(src, &mut [], last).0 {
         EncoderResult::InputEmpty => (CoderResult::InputEmpty, written, replaced),
         EncoderResult::OutputFull | EncoderResult::Unmappable(_) => {

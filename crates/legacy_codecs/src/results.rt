@@ -5,6 +5,7 @@
 pub enum CoderResult {
     /// The whole input was read, and all that it gave so far was written.
     InputEmpty,
-    /// The coder's next act needs more room than the output has left.
+    /// The coder's next act lacks its room. For an encoder that room is more by ten bytes, which are kept
+    /// free for a reference.
     OutputFull,
 }
