@@ -42,7 +42,7 @@ impl ByteRun {
     fn longest(entries: &[u16]) -> ByteRun {
         let mut longest = ByteRun { scalar: 0, start: 32, length: 0 };
         for start in 32..entries.len() {
-            let run = entries[start..].iter().zip(entries[start]..).take_while(|(entry, scalar)| *entry == scalar && *entry != 0);
+            let run = entries[start..].iter().zip(entries[start]..).take_while(|(entry, scalar)| **entry == *scalar && **entry != 0);
             let length = run.count();
             if length > usize::from(longest.length) {
                 longest = ByteRun { scalar: entries[start], start: start as u8, length: length as u8 };
