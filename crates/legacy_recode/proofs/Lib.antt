@@ -3,5 +3,6 @@ pub mod Hexadecimal
 pub mod EventLines
 pub mod PieceUnderWay
 pub mod Whole
+pub mod TextUnderWay
 pub mod CommandLine
 pub mod GivenFiles

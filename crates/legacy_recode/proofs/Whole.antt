@@ -46,13 +46,19 @@ placed-shift h passed total held (Bad p n ∷ es) e =
     let k : passed + p - h ≡ total + p - held = omega arith in
     ap (λ q. Bad q n ∷ placed h (shift passed es)) k ∙ ap (λ (l : List DecodeEvent). Bad (total + p - held) n ∷ l) (placed-shift h passed total held es e)
 
+-- the way through what was read, and then to a place in the next piece
+pub way_on : (last : Bool) (piece : List ℕ) {before now after : DecoderState} {bytes : List ℕ} {first passed : ℕ} {seen : List DecodeEvent}
+    {unread : List ℕ} {events : List DecodeEvent} → Progress false before bytes first now [] seen → Progress last now piece passed after unread events
+    → Progress last before (bytes ++ piece) (first + passed) after unread (seen ++ shift first events)
+way_on last piece s p = after_that _ _ _ _ _ _ _ _ _ _ _ (at_last last _ _ _ _ _ _ (behind _ _ _ _ _ _ piece s)) p
+
 module _ {before now : DecoderState} {total : ℕ} {left_old left_mid old mid : Option (List ℕ)}
     (w : Whole before total now left_old left_mid old mid) where
   -- the way to a place in the piece
   joined_progress : (last : Bool) (piece : List ℕ) {after : DecoderState} {passed : ℕ} {unread : List ℕ} {events : List DecodeEvent}
       → Progress last now piece passed after unread events
       → Progress last before (w.bytes ++ piece) (w.passed + passed) after unread (w.events ++ shift w.passed events)
-  joined_progress last piece p = after_that _ _ _ _ _ _ _ _ _ _ _ (at_last last _ _ _ _ _ _ (behind _ _ _ _ _ _ piece w.progress)) p
+  joined_progress last piece p = way_on last piece w.progress p
 
   joined_lines : (events : List DecodeEvent) → event_lines (placed (length before.held) (w.events ++ shift w.passed events))
       ≡ event_lines (placed (length before.held) w.events) ++ event_lines (input_events total (length now.held) events)

@@ -1,14 +1,29 @@
--- The words of the program's command line: CODEC, and then INDEX and FILE any number of times.
-use Rattle.std.specs.Prelude.{ℕ, List, [], ◌∷◌, map, Option, Some, None, is_some, Bool, true, false, not, ◌&&◌, ◌||◌, codes, bytes_eq, if◌then◌else◌}
+-- The words of the program's command line: perhaps `--text`, then CODEC, and then INDEX and FILE any number of times.
+use Rattle.std.specs.Prelude.{ℕ, List, [], ◌∷◌, drop, map, Option, Some, None, is_some, Bool, true, false, not, ◌&&◌, ◌||◌, codes, bytes_eq, if◌then◌else◌}
 use Rattle.std.specs.Borrow.{Bor}
 use Rattle.legacy_index_files.specs.declared.index_file.FileIndex.{FileIndex}
 use Rattle.legacy_index_files.specs.declared.index_file.FileIndex.TheVariants as index
 use Rattle.legacy_recode.specs.declared.words.CodecWord.{CodecWord}
 use Rattle.legacy_recode.specs.declared.words.CodecWord.TheVariants as codec
+use Rattle.legacy_recode.specs.declared.words.OutputKind.{OutputKind}
+use Rattle.legacy_recode.specs.declared.words.OutputKind.TheVariants.{Lines, Text}
 
 -- the text of each word
 abbrev pub texts_of : List (Bor (List ℕ)) → List (List ℕ)
 texts_of words = map (λ w. w.now) words
+
+-- the words begin with `--text`
+abbrev pub wants_text : List (List ℕ) → Bool
+wants_text [] = false
+wants_text (word ∷ words) = bytes_eq word (codes "--text")
+
+-- what the words ask the program to write
+abbrev pub output_kind : List (List ℕ) → OutputKind
+output_kind words = if wants_text words then Text else Lines
+
+-- the words without one `--text` in front
+abbrev pub plain_words : List (List ℕ) → List (List ℕ)
+plain_words words = if wants_text words then drop 1 words else words
 
 -- what a word of a table means
 abbrev pub meaning : {A : Type 0} → List (List ℕ × A) → List ℕ → Option A

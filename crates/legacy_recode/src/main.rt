@@ -1,5 +1,5 @@
-//! `legacy_recode CODEC [INDEX FILE]...` decodes standard input by a legacy codec of the WHATWG Encoding Standard, and
-//! prints a line for each scalar and each malformed sequence.
+//! `legacy_recode [--text] CODEC [INDEX FILE]...` decodes standard input by a legacy codec of the WHATWG Encoding
+//! Standard, and prints a line for each scalar and each malformed sequence, or with `--text` the text in UTF-8.
 #![tactic(auto)]
 
 mod given_indexes;
@@ -9,6 +9,7 @@ pub mod program;
 pub mod recode;
 #[cfg(test)]
 mod tests;
+pub mod text;
 pub mod words;
 
 use std::alloc::Global;
@@ -37,8 +38,9 @@ fn contents(rt: &HostRuntime, path: &str) -> io::Result<Option<Vec<u8>>> {
 /// The contents of each FILE among the words, in their order.
 fn files(rt: &HostRuntime, alloc: Global, words: &[&str]) -> io::Result<Vec<Option<Vec<u8>>>> {
     let mut files = Vec::new(alloc);
-    if words::codec_in(words).is_some() {
-        for (place, word) in words.iter().enumerate() {
+    let plain = words::request(words);
+    if words::codec_in(plain).is_some() {
+        for (place, word) in plain.iter().enumerate() {
             if place > 0 && place % 2 == 0 {
                 files.push(contents(rt, word)?)?;
             }

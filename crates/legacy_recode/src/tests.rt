@@ -8,7 +8,7 @@ use std::io::{self, Error, ErrorKind, Read, Write};
 use std::process::Abort;
 use std::test::Fail;
 
-const USAGE: &[u8] = b"usage: legacy_recode CODEC [INDEX FILE]...\n";
+const USAGE: &[u8] = b"usage: legacy_recode [--text] CODEC [INDEX FILE]...\n";
 
 /// Gives a byte at each read, and an error after so many reads.
 #[derive(Drop)]

@@ -1,6 +1,6 @@
-//! The words of the program's command line: CODEC, and then INDEX and FILE any number of times.
+//! The words of the program's command line: perhaps `--text`, then CODEC, and then INDEX and FILE any number of times.
 ghost use Rattle.std.specs.Prelude.{◌≡◌, length};
-ghost use Rattle.legacy_recode.specs.Words.{texts_of, codec_named, index_named, first_index_named, stands_among, are_indexes, codec_of_words};
+ghost use Rattle.legacy_recode.specs.Words.{texts_of, wants_text, output_kind, plain_words, codec_named, index_named, first_index_named, stands_among, are_indexes, codec_of_words};
 
 use legacy_index_files::FileIndex;
 
@@ -31,6 +31,46 @@ pub enum CodecWord {
     Gbk,
     /// `iso-2022-jp`
     Iso2022Jp,
+}
+
+/// What the program writes.
+#[derive(Clone, Copy, Debug, PartialEq, Eq)]
+pub enum OutputKind {
+    /// A line for each event.
+    Lines,
+    /// The text in UTF-8, with U+FFFD for each malformed sequence.
+    Text,
+}
+
+/// Whether the first word is `--text`.
+fn is_text_wanted(words: &[&str]) -> bool
+    ensures { result ≡ wants_text (texts_of words.now) }
+{
+    match words {
+        [word, ..] => *word == "--text",
+        [] => false,
+    }
+}
+
+/// What the words ask the program to write: the text where the first one is `--text`, and else lines.
+pub fn output_asked(words: &[&str]) -> OutputKind
+    ensures { result ≡ output_kind (texts_of words.now) }
+{
+    if is_text_wanted(words) {
+        OutputKind::Text
+    } else {
+        OutputKind::Lines
+    }
+}
+
+/// The words behind `--text` where the first one is that, and else all words.
+pub fn request<'a, 'b>(words: &'a [&'b str]) -> &'a [&'b str]
+    ensures { texts_of result.now ≡ plain_words (texts_of words.now) }
+{
+    if is_text_wanted(words) {
+        return &words[1..];
+    }
+    words
 }
 
 /// The codec that a word names.
@@ -103,8 +143,8 @@ fn is_indexes(words: &[&str]) -> bool
     }
 }
 
-/// The codec of the program's words, which are without the program's name. `None` where they are not a word of a codec,
-/// and then INDEX and FILE any number of times, each a word of an index that stands once and any word.
+/// The codec of the program's words, which are without the program's name and without `--text`. `None` where they are not
+/// a word of a codec, and then INDEX and FILE any number of times, each a word of an index that stands once and any word.
 pub fn codec_in(words: &[&str]) -> Option<CodecWord>
     ensures { result ≡ codec_of_words (texts_of words.now) }
 {

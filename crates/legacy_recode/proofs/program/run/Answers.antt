@@ -5,6 +5,6 @@ use Rattle.legacy_recode.proofs.program.run.Goals as goal
 pub returns-in-Ok-clause-recoded : goal.returns-in-Ok-clause-recoded
 returns-in-Ok-clause-recoded g c e = record {
   codec = c.in-Some.codec;
-  named = sym c.codec_in.ensures ∙ c.in-Some.is;
-  recodes = rw (words_behind_codec c.args.words.now) at c.in-Ok.ensures;
+  named = rw c.request-plain.ensures at (sym c.codec_in.ensures ∙ c.in-Some.is);
+  recodes = rw (words_behind_codec c.request-plain.result.now, c.request-plain.ensures, c.output_asked-kind.ensures) at c.in-Ok.ensures;
 }
