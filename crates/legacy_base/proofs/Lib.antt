@@ -23,3 +23,10 @@ pub mod Texts
 pub mod UnitCopies
 pub mod FrontLaws
 pub mod GrammarLaws
+pub mod PointersBack
+pub mod Trips
+pub mod TwoByteTrips
+pub mod Gb18030Trip
+pub mod AcceptedTrips
+pub mod Iso2022JpTrip
+pub mod RoundTrips

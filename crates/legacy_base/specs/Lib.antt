@@ -40,3 +40,4 @@ pub mod TableChecks
 pub mod AcceptedTables
 pub mod Tables
 pub mod Laws
+pub mod RoundTrips

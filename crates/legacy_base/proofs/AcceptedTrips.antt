@@ -1,0 +1,76 @@
+-- What round trips need of accepted indexes: jis0208 has nothing where Shift_JIS decodes to private use, and private-use
+-- rows have leads and trails.
+use Rattle.std.proofs.Common.{◌≡◌, ℕ, zero, suc, ◌+◌, List, [], ◌∷◌, Bool, true, false, cond, not, ◌==◌, Option, Some, None, slice_index, refl, ap, arith, find, option_map}
+use Rattle.std.specs.Int.{is_in_range}
+use Rattle.legacy_base.specs.declared.tables.IndexName.{IndexName}
+use Rattle.legacy_base.specs.declared.tables.IndexName.TheVariants as names
+use Rattle.legacy_base.specs.declared.tables.TableError.{TableError}
+use Rattle.legacy_base.specs.declared.tables.TableError.TheVariants.{BadEntry, NotEmpty, PuaOrder, PuaScalar, PuaBytes}
+use Rattle.legacy_base.specs.Indexes.{FlatIndexes, idx, gb18030_pua_of}
+use Rattle.legacy_base.specs.TableChecks.{AreAccepted, is_entry, must_be_empty, entry_fault, entries_fault, follows_scalar, is_row_scalar, are_row_bytes, row_fault, rows_fault}
+use Rattle.legacy_base.proofs.Accepted.{or_none, parts}
+use Rattle.legacy_base.proofs.TwoByteTrips.{PrivateUseIsEmpty}
+use Rattle.legacy_base.proofs.Gb18030Trip.{HaveRowBytes}
+
+-- ---- places that must be empty
+
+-- each entry is without fault
+each_entry : (name : IndexName) (p : ℕ) (entries : List ℕ) → entries_fault name p entries ≡ None
+    → (j : ℕ) → entry_fault name (p + j) (slice_index entries j) ≡ None
+unfolding entries_fault
+each_entry name p [] h j = refl
+each_entry name p (e ∷ entries) h zero =
+    let both = or_none (entry_fault name p e) (entries_fault name (p + 1) entries) h in
+    let here : p + 0 ≡ p = omega arith in
+    rw here both.0
+each_entry name p (e ∷ entries) h (suc j) =
+    let both = or_none (entry_fault name p e) (entries_fault name (p + 1) entries) h in
+    let there : p + suc j ≡ p + 1 + j = omega arith in
+    rw there (each_entry name (p + 1) entries both.1 j)
+
+-- where an entry must be empty, one without a fault is
+empty_entry : (name : IndexName) (p entry : ℕ) → must_be_empty name p ≡ true → entry_fault name p entry ≡ None → (entry == 0) ≡ true
+empty_entry name p entry must h = by_tests (entry == 0) (is_entry name entry) refl (rw must at h)
+  where
+    by_tests : (t u : Bool) → (entry == 0) ≡ t → cond t None (cond (not u) (Some (BadEntry name p)) (Some (NotEmpty name p))) ≡ None → (entry == 0) ≡ true
+    by_tests true u e h = e
+    by_tests false true e h = cc
+    by_tests false false e h = cc
+
+pub private_use-empty : (flat : FlatIndexes) → AreAccepted flat → PrivateUseIsEmpty flat.jis0208
+private_use-empty flat accepted = record {
+  empty = λ p within.
+      let same : 0 + p ≡ p = omega arith in
+      let faultless = rw same at (each_entry names.Jis0208 0 flat.jis0208 (parts flat accepted).jis0208.1 p) in
+      rw (empty_entry names.Jis0208 p (slice_index flat.jis0208 p) within faultless) refl;
+}
+
+-- ---- private-use rows
+
+row_bytes : (place : ℕ) (before : Option ℕ) (r : ℕ × ℕ × ℕ) → row_fault place before r ≡ None → are_row_bytes r.1 r.2 ≡ true
+row_bytes place before r h = by_tests (follows_scalar before r.0) (is_row_scalar r.0) (are_row_bytes r.1 r.2) h
+  where
+    by_tests : (t u v : Bool) → cond (not t) (Some (PuaOrder place)) (cond (not u) (Some (PuaScalar place)) (cond (not v) (Some (PuaBytes place)) None)) ≡ None → v ≡ true
+    by_tests true true true h = refl
+    by_tests true true false h = cc
+    by_tests true false v h = cc
+    by_tests false u v h = cc
+
+same_pair : (a b x y : ℕ) → ◌≡◌ {A = Option (ℕ × ℕ)} (Some (a, x)) (Some (b, y)) → (a ≡ b) × (x ≡ y)
+same_pair a b x y h = let same : ◌≡◌ {A = ℕ × ℕ} (a, x) (b, y) = cc in (ap (λ (p : ℕ × ℕ). p.0) same, ap (λ (p : ℕ × ℕ). p.1) same)
+
+found_bytes : (place : ℕ) (before : Option ℕ) (rows : List (ℕ × ℕ × ℕ)) → rows_fault place before rows ≡ None
+    → (c lead trail : ℕ) → gb18030_pua_of rows c ≡ Some (lead, trail) → are_row_bytes lead trail ≡ true
+unfolding rows_fault
+found_bytes place before [] faultless c lead trail h = cc
+found_bytes place before (r ∷ rows) faultless c lead trail h =
+    let both = or_none (row_fault place before r) (rows_fault (place + 1) (Some r.0) rows) faultless in
+    by_test (r.0 == c) h (row_bytes place before r both.0) (found_bytes (place + 1) (Some r.0) rows both.1 c lead trail)
+  where
+    by_test : (t : Bool) → option_map {U = ℕ × ℕ} (λ (row : ℕ × ℕ × ℕ). (row.1, row.2)) (cond t (Some r) (find (λ (row : ℕ × ℕ × ℕ). row.0 == c) rows)) ≡ Some (lead, trail)
+        → are_row_bytes r.1 r.2 ≡ true → (gb18030_pua_of rows c ≡ Some (lead, trail) → are_row_bytes lead trail ≡ true) → are_row_bytes lead trail ≡ true
+    by_test true h here later = let same = same_pair r.1 lead r.2 trail h in rw (same.0, same.1) at here
+    by_test false h here later = later h
+
+pub have_row_bytes : (flat : FlatIndexes) → AreAccepted flat → HaveRowBytes flat.gb18030_pua
+have_row_bytes flat accepted = record { each = λ c lead trail h. found_bytes 0 None flat.gb18030_pua (parts flat accepted).private_use c lead trail h }

@@ -1,0 +1,192 @@
+-- The codes of GB18030 and GBK decode to their scalars.
+use Rattle.std.proofs.Common.{◌≡◌, ℕ, ◌+◌, ◌-◌, ◌*◌, ◌/◌, ◌%◌, ◌<◌, ◌≤◌, List, [], ◌∷◌, length, Bool, true, false, cond, not, ◌&&◌, ◌||◌, ◌==◌, nat_lt, nat_le, Option, Some, None, option_map, option_to_list, refl, ◌∙◌, arith, if◌then◌else◌, eqb-true}
+use Rattle.std.proofs.lemmas.Bool.{and_parts, or_parts, leb-true}
+use Rattle.std.proofs.lemmas.Bool.Decides.{nat_tests}
+use Rattle.std.proofs.Math.Nat.{div-add-mod}
+use Rattle.std.proofs.lemmas.Nat.{mod_below}
+use Rattle.std.specs.Option.{option_or, option_map_or}
+use Rattle.std.specs.List.{list_any}
+use Rattle.std.specs.Int.{is_in_range}
+use Rattle.std.specs.Char.{is_ascii, is_ascii_digit}
+use Rattle.legacy_base.specs.Fronts.{reads, reads_or, trail_rule}
+use Rattle.legacy_base.specs.Indexes.{idx, range, gb18030_pua_of}
+use Rattle.legacy_base.specs.Profile.{is_lead}
+use Rattle.legacy_base.specs.Pointers.{every_pointer, gb18030_pointer_of, range_pointer_of}
+use Rattle.legacy_base.specs.TableChecks.{are_row_bytes}
+use Rattle.legacy_base.specs.Gb18030.{gb18030_scalars, gb18030_range_pointer, gb18030_fourth, gb18030_third, gb18030_second, gb18030_front}
+use Rattle.legacy_base.specs.Gb18030.{gb18030_pair_bytes, gb18030_range_bytes, gb18030_pair_code, gb18030_code, gbk_code}
+use Rattle.legacy_base.specs.RoundTrips.{is_private_use_fold}
+use Rattle.legacy_base.proofs.Pointers.{first-taken, range-taken}
+use Rattle.legacy_base.proofs.PointersBack.{LeadsBack, leads_back}
+use Rattle.legacy_base.proofs.Trips.{Decodes}
+use Rattle.legacy_base.proofs.TwoByteTrips.{mapped, one_byte, two_bytes}
+
+-- ---- pairs
+
+pair_scalars : (index : List ℕ) (q r p c : ℕ) → 190 * q + r ≡ p → r < 190 → idx index p ≡ Some c → (t : Bool) → nat_lt r 0x3F ≡ t
+    → (is_ascii_digit (r + cond t 0x40 0x41) ≡ false) × (gb18030_scalars index (q + 0x81) (r + cond t 0x40 0x41) ≡ c ∷ [])
+pair_scalars index q r p c is h has true e =
+    let low : is_in_range 0x40 0x7E (r + 0x40) ≡ true = grind (arith, nat_tests) in
+    let pointer : (q + 0x81 - 0x81) * 190 + (r + 0x40 - 0x40) ≡ p = omega arith in
+    (grind (arith, nat_tests), rw (low, pointer, has) refl)
+pair_scalars index q r p c is h has false e =
+    let low : is_in_range 0x40 0x7E (r + 0x41) ≡ false = grind (arith, nat_tests) in
+    let high : is_in_range 0x80 0xFE (r + 0x41) ≡ true = grind (arith, nat_tests) in
+    let pointer : (q + 0x81 - 0x81) * 190 + (r + 0x41 - 0x41) ≡ p = omega arith in
+    (grind (arith, nat_tests), rw (low, high, pointer, has) refl)
+
+pair_back : (index : List ℕ) (ranges : List (ℕ × ℕ)) (p c : ℕ) (more : List ℕ) → length index ≤ 23940 → LeadsBack every_pointer index c p
+    → gb18030_front index ranges (p / 190 + 0x81) ((p % 190 + (if nat_lt (p % 190) 0x3F then 0x40 else 0x41)) ∷ more) ≡ reads 2 (c ∷ [])
+unfolding gb18030_front gb18030_second
+pair_back index ranges p c more short back =
+    let p_is : 190 * (p / 190) + p % 190 ≡ p = div-add-mod p 190 in
+    let column : p % 190 < 190 = mod_below p 190 (omega arith) in
+    let below = back.below in
+    let row : p / 190 < 126 = omega arith in
+    let lead_ascii : is_ascii (p / 190 + 0x81) ≡ false = grind (arith, nat_tests) in
+    let not_80 : ((p / 190 + 0x81) == 0x80) ≡ false = grind (arith, nat_tests) in
+    let lead : is_lead (p / 190 + 0x81) ≡ true = grind (arith, nat_tests) in
+    let trail = pair_scalars index (p / 190) (p % 190) p c p_is column back.has (nat_lt (p % 190) 0x3F) refl in
+    rw (lead_ascii, not_80, lead, trail.0, trail.1) refl
+
+pair_decodes : (index : List ℕ) (ranges : List (ℕ × ℕ)) (c : ℕ) (bytes : List ℕ) → length index ≤ 23940
+    → option_map gb18030_pair_bytes (gb18030_pointer_of index c) ≡ Some bytes → Decodes (gb18030_front index ranges) bytes c
+pair_decodes index ranges c bytes short h =
+    let m = mapped gb18030_pair_bytes (gb18030_pointer_of index c) bytes h in
+    two_bytes (gb18030_front index ranges) _ _ c bytes m.2 (λ more. pair_back index ranges m.0 c more short (leads_back every_pointer index c _ (first-taken every_pointer index c) m.0 m.1))
+
+-- ---- four bytes
+
+-- the four parts of a pointer make it up
+parts_of_pointer : (p : ℕ) → 12600 * (p / 12600) + 1260 * (p % 12600 / 1260) + 10 * (p % 1260 / 10) + p % 10 ≡ p
+parts_of_pointer p = omega arith
+
+four_back : (index : List ℕ) (ranges : List (ℕ × ℕ)) (p c : ℕ) (more : List ℕ) → range ranges p ≡ Some c → p < 1237576
+    → gb18030_front index ranges (p / 12600 + 0x81) ((p % 12600 / 1260 + 0x30) ∷ (p % 1260 / 10 + 0x81) ∷ (p % 10 + 0x30) ∷ more) ≡ reads 4 (c ∷ [])
+unfolding gb18030_front gb18030_second gb18030_third gb18030_fourth
+four_back index ranges p c more has below =
+    let parts = parts_of_pointer p in
+    let first : p / 12600 < 126 = omega arith in
+    let second : p % 12600 / 1260 < 10 = omega arith in
+    let third : p % 1260 / 10 < 126 = omega arith in
+    let fourth : p % 10 < 10 = mod_below p 10 (omega arith) in
+    let lead_ascii : is_ascii (p / 12600 + 0x81) ≡ false = grind (arith, nat_tests) in
+    let not_80 : ((p / 12600 + 0x81) == 0x80) ≡ false = grind (arith, nat_tests) in
+    let lead : is_lead (p / 12600 + 0x81) ≡ true = grind (arith, nat_tests) in
+    let digit : is_ascii_digit (p % 12600 / 1260 + 0x30) ≡ true = grind (arith, nat_tests) in
+    let third_lead : is_lead (p % 1260 / 10 + 0x81) ≡ true = grind (arith, nat_tests) in
+    let last_digit : is_ascii_digit (p % 10 + 0x30) ≡ true = grind (arith, nat_tests) in
+    let pointer : gb18030_range_pointer (p / 12600 + 0x81) (p % 12600 / 1260 + 0x30) (p % 1260 / 10 + 0x81) (p % 10 + 0x30) ≡ p = omega arith in
+    rw (lead_ascii, not_80, lead, digit, third_lead, last_digit, pointer, has) refl
+
+four_decodes : (index : List ℕ) (ranges : List (ℕ × ℕ)) (c : ℕ) (bytes : List ℕ)
+    → option_map gb18030_range_bytes (range_pointer_of ranges c) ≡ Some bytes → Decodes (gb18030_front index ranges) bytes c
+four_decodes index ranges c bytes h =
+    let m = mapped gb18030_range_bytes (range_pointer_of ranges c) bytes h in
+    let taken = range-taken ranges c m.0 m.1 in
+    rw (m.2) (record { some = omega arith; gives = λ more. four_back index ranges m.0 c more taken.0 taken.1 })
+
+-- ---- private-use rows
+
+-- what is known of the rows of accepted indexes: they have leads and trails
+pub record HaveRowBytes (pua : List (ℕ × ℕ × ℕ)) : Type 0 where
+  pub each : (c lead trail : ℕ) → gb18030_pua_of pua c ≡ Some (lead, trail) → are_row_bytes lead trail ≡ true
+
+-- the scalars of two bytes are one or none
+alone : (o : Option ℕ) (c : ℕ) → list_any (λ s. s == c) (option_to_list o) ≡ true → option_to_list o ≡ c ∷ []
+alone None c h = cc
+alone (Some s) c h = let e = eqb-true s c (or_parts_first (s == c) h) in rw e refl
+  where
+    or_parts_first : (t : Bool) → (t || false) ≡ true → t ≡ true
+    or_parts_first true h = refl
+    or_parts_first false h = cc
+
+pair_alone : (index : List ℕ) (lead trail c : ℕ) → list_any (λ s. s == c) (gb18030_scalars index lead trail) ≡ true → gb18030_scalars index lead trail ≡ c ∷ []
+pair_alone index lead trail c h = by_tests (is_in_range 0x40 0x7E trail) (is_in_range 0x80 0xFE trail) h
+  where
+    by_tests : (t u : Bool)
+        → list_any (λ s. s == c) (cond t (option_to_list (idx index ((lead - 0x81) * 190 + (trail - 0x40)))) (cond u (option_to_list (idx index ((lead - 0x81) * 190 + (trail - 0x41)))) [])) ≡ true
+        → cond t (option_to_list (idx index ((lead - 0x81) * 190 + (trail - 0x40)))) (cond u (option_to_list (idx index ((lead - 0x81) * 190 + (trail - 0x41)))) []) ≡ c ∷ []
+    by_tests true u h = alone _ c h
+    by_tests false true h = alone _ c h
+    by_tests false false h = cc
+
+-- a row that is no fold decodes to its scalar
+row_back : (index : List ℕ) (ranges : List (ℕ × ℕ)) (lead trail c : ℕ) (more : List ℕ) → are_row_bytes lead trail ≡ true → gb18030_scalars index lead trail ≡ c ∷ []
+    → gb18030_front index ranges lead (trail ∷ more) ≡ reads 2 (c ∷ [])
+unfolding gb18030_front gb18030_second
+row_back index ranges lead trail c more bytes gives =
+    let lead_ascii : is_ascii lead ≡ false = grind (arith, nat_tests) in
+    let not_80 : (lead == 0x80) ≡ false = grind (arith, nat_tests) in
+    let is_one : is_lead lead ≡ true = grind (arith, nat_tests) in
+    let no_digit : is_ascii_digit trail ≡ false = grind (arith, nat_tests) in
+    rw (lead_ascii, not_80, is_one, no_digit, gives) refl
+
+-- ---- the codes
+
+module _ (index : List ℕ) (ranges : List (ℕ × ℕ)) (pua : List (ℕ × ℕ × ℕ)) (short : length index ≤ 23940) (rows : HaveRowBytes pua) where
+  ascii_decodes : (c : ℕ) (bytes : List ℕ) → is_ascii c ≡ true → Some (c ∷ []) ≡ Some bytes → Decodes (gb18030_front index ranges) bytes c
+  unfolding gb18030_front
+  ascii_decodes c bytes e h = one_byte (gb18030_front index ranges) c c bytes (cc) (λ more. rw e refl)
+
+  row_decodes : (c lead trail : ℕ) (bytes : List ℕ) → gb18030_pua_of pua c ≡ Some (lead, trail)
+      → not (list_any (λ s. s == c) (gb18030_scalars index lead trail)) ≡ false → Some (lead ∷ trail ∷ []) ≡ Some bytes → Decodes (gb18030_front index ranges) bytes c
+  row_decodes c lead trail bytes e unfolded h =
+      let gives = pair_alone index lead trail c (not_false _ unfolded) in
+      two_bytes (gb18030_front index ranges) lead trail c bytes (cc) (λ more. row_back index ranges lead trail c more (rows.each c lead trail e) gives)
+    where
+      not_false : (t : Bool) → not t ≡ false → t ≡ true
+      not_false true h = refl
+      not_false false h = cc
+
+  -- by the rows, then by the index, and then by what comes after both
+  pair_or : (c : ℕ) (bytes : List ℕ) (other : Option (List ℕ)) → is_private_use_fold index pua c ≡ false
+      → (other ≡ Some bytes → Decodes (gb18030_front index ranges) bytes c)
+      → option_or (gb18030_pair_code pua index c) other ≡ Some bytes → Decodes (gb18030_front index ranges) bytes c
+  pair_or c bytes other unfolded else_by h = by_row (gb18030_pua_of pua c) refl unfolded h
+    where
+      by_index : (o : Option (List ℕ)) → option_map gb18030_pair_bytes (gb18030_pointer_of index c) ≡ o
+          → option_or o other ≡ Some bytes → Decodes (gb18030_front index ranges) bytes c
+      by_index None is h = else_by h
+      by_index (Some pair) is h = pair_decodes index ranges c bytes short (is ∙ h)
+
+      by_row : (o : Option (ℕ × ℕ)) → gb18030_pua_of pua c ≡ o
+          → option_map_or (λ row. not (list_any (λ s. s == c) (gb18030_scalars index row.0 row.1))) o false ≡ false
+          → option_or (option_or (option_map (λ row. row.0 ∷ row.1 ∷ []) o) (option_map gb18030_pair_bytes (gb18030_pointer_of index c))) other ≡ Some bytes
+          → Decodes (gb18030_front index ranges) bytes c
+      by_row None is unfolded h = by_index (option_map gb18030_pair_bytes (gb18030_pointer_of index c)) refl h
+      by_row (Some row) is unfolded h = row_decodes c row.0 row.1 bytes is unfolded h
+
+  pub gb18030-decodes : (c : ℕ) (bytes : List ℕ) → is_private_use_fold index pua c ≡ false
+      → gb18030_code index ranges pua c ≡ Some bytes → Decodes (gb18030_front index ranges) bytes c
+  unfolding gb18030_code
+  gb18030-decodes c bytes unfolded h = by_tests (is_ascii c) (c == 0xE5E5) refl h
+    where
+      by_tests : (t u : Bool) → is_ascii c ≡ t
+          → cond t (Some (c ∷ [])) (cond u None (option_or (gb18030_pair_code pua index c) (option_map gb18030_range_bytes (range_pointer_of ranges c)))) ≡ Some bytes
+          → Decodes (gb18030_front index ranges) bytes c
+      by_tests true u e h = ascii_decodes c bytes e h
+      by_tests false true e h = cc
+      by_tests false false e h = pair_or c bytes (option_map gb18030_range_bytes (range_pointer_of ranges c)) unfolded (four_decodes index ranges c bytes) h
+
+  or_nothing : (o : Option (List ℕ)) → option_or o None ≡ o
+  or_nothing None = refl
+  or_nothing (Some pair) = refl
+
+  nothing_else : (c : ℕ) (bytes : List ℕ) → None ≡ Some bytes → Decodes (gb18030_front index ranges) bytes c
+  nothing_else c bytes h = cc
+
+  pub gbk-decodes : (c : ℕ) (bytes : List ℕ) → is_private_use_fold index pua c ≡ false
+      → gbk_code index pua c ≡ Some bytes → Decodes (gb18030_front index ranges) bytes c
+  unfolding gbk_code gb18030_front
+  gbk-decodes c bytes unfolded h = by_tests (is_ascii c) (c == 0xE5E5) (c == 0x20AC) refl refl h
+    where
+      by_tests : (t u v : Bool) → is_ascii c ≡ t → (c == 0x20AC) ≡ v
+          → cond t (Some (c ∷ [])) (cond u None (cond v (Some (0x80 ∷ [])) (gb18030_pair_code pua index c))) ≡ Some bytes
+          → Decodes (gb18030_front index ranges) bytes c
+      by_tests true u v e f h = ascii_decodes c bytes e h
+      by_tests false true v e f h = cc
+      by_tests false false true e f h =
+          let c_is = eqb-true c 0x20AC f in
+          one_byte (gb18030_front index ranges) 0x80 c bytes (cc) (λ more. rw c_is refl)
+      by_tests false false false e f h = pair_or c bytes None unfolded (nothing_else c bytes) (or_nothing (gb18030_pair_code pua index c) ∙ h)

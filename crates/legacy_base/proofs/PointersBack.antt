@@ -1,0 +1,21 @@
+-- The pointer that an encoder takes for a scalar leads a decoder back to the scalar.
+use Rattle.std.proofs.Common.{◌≡◌, ℕ, ◌<◌, List, length, Bool, true, Option, Some, slice_index, refl, subst}
+use Rattle.std.proofs.lemmas.Bool.{ne_eqb}
+use Rattle.std.specs.Option.{IfSome}
+use Rattle.legacy_base.specs.Indexes.{idx}
+use Rattle.legacy_base.proofs.Pointers.{IsTaken, taken-within}
+
+-- a pointer that may be used, lies within the index and has the scalar
+pub record LeadsBack (may : ℕ → Bool) (index : List ℕ) (c p : ℕ) : Type 0 where
+  pub may_use : may p ≡ true
+  pub has : idx index p ≡ Some c
+  pub below : p < length index
+
+pub leads_back : (may : ℕ → Bool) (index : List ℕ) (c : ℕ) (o : Option ℕ) → IsTaken may index c o → (p : ℕ) → o ≡ Some p → LeadsBack may index c p
+leads_back may index c o taken p e =
+    let is = taken.chosen p e in
+    record {
+      may_use = is.0;
+      has = rw (is.1, ne_eqb c 0 is.2) refl;
+      below = rw e at (taken-within may index c o taken);
+    }

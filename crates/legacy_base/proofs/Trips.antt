@@ -1,0 +1,92 @@
+-- Codes that decode to their scalar, whatever comes behind; and what a text of such codes decodes to.
+use Rattle.std.proofs.Common.{◌≡◌, ℕ, suc, ◌<◌, List, [], ◌∷◌, ◌++◌, drop, length, map, Option, Some, None, Bool, false, refl, sym, ◌∙◌, ap, ap₂, arith}
+use Rattle.std.proofs.lemmas.Bool.{or_parts}
+use Rattle.std.specs.List.{list_any}
+use Rattle.legacy_base.specs.declared.results.DecodeEvent.{DecodeEvent}
+use Rattle.legacy_base.specs.declared.results.DecodeEvent.TheVariants.{Scalar}
+use Rattle.legacy_base.specs.declared.results.EncodeEvent.{EncodeEvent}
+use Rattle.legacy_base.specs.declared.results.EncodeEvent.TheVariants.{Byte}
+use Rattle.legacy_base.specs.Events.{shift}
+use Rattle.legacy_base.specs.Fronts.{Front, reads, front_length, cut}
+use Rattle.legacy_base.specs.EncodeEvents.{code_events, plain_events}
+use Rattle.legacy_base.proofs.Shifts.{shift-scalars}
+use Rattle.legacy_base.proofs.Cuts.{cut-nil, cut-front}
+
+-- the list begins with the front
+abbrev pub HasFront : (ℕ → List ℕ → Front) → List ℕ → Front → Type 0
+HasFront front [] f = ⊥
+HasFront front (b ∷ rest) f = front b rest ≡ f
+
+-- the bytes decode to c, whatever comes behind
+pub record Decodes (front : ℕ → List ℕ → Front) (bytes : List ℕ) (c : ℕ) : Type 0 where
+  pub some : 0 < length bytes
+  pub gives : (more : List ℕ) → HasFront front (bytes ++ more) (reads (length bytes) (c ∷ []))
+
+dropped : (bytes more : List ℕ) → drop (length bytes) (bytes ++ more) ≡ more
+dropped [] more = refl
+dropped (b ∷ bytes) more = dropped bytes more
+
+-- the code at the front of a list, and then what is behind it
+cut-code : (front : ℕ → List ℕ → Front) (bytes more : List ℕ) (c : ℕ) → Decodes front bytes c
+    → cut front 0 0 (bytes ++ more) ≡ Scalar c ∷ shift (length bytes) (cut front 0 0 more)
+cut-code front [] more c h = absurd (let some = h.some in omega arith)
+cut-code front (b ∷ bytes) more c h =
+    let is : front b (bytes ++ more) ≡ reads (suc (length bytes)) (c ∷ []) = h.gives more in
+    let positive : 0 < front_length (front b (bytes ++ more)) = rw is (omega arith) in
+    cut-front front b (bytes ++ more) positive ∙ rw (is, dropped bytes more) refl
+
+-- ---- the bytes of events
+
+-- events that begin with bytes, and are bytes: what comes behind those
+pub record BeginsWith (own bytes : List ℕ) (events : List EncodeEvent) : Type 0 where
+  pub rest : List ℕ
+  pub split : bytes ≡ own ++ rest
+  pub behind : events ≡ map Byte rest
+
+same_bytes : (a b : ℕ) (xs ys : List EncodeEvent) → Byte a ∷ xs ≡ Byte b ∷ ys → (a ≡ b) × (xs ≡ ys)
+same_bytes a b xs ys e = (cc, cc)
+
+pub same_byte_lists : (xs ys : List ℕ) → map Byte xs ≡ map Byte ys → xs ≡ ys
+same_byte_lists [] [] e = refl
+same_byte_lists [] (y ∷ ys) e = cc
+same_byte_lists (x ∷ xs) [] e = cc
+same_byte_lists (x ∷ xs) (y ∷ ys) e =
+    let same = same_bytes x y (map Byte xs) (map Byte ys) e in
+    ap₂ ◌∷◌ same.0 (same_byte_lists xs ys same.1)
+
+pub begins_with : (own bytes : List ℕ) (events : List EncodeEvent) → map Byte own ++ events ≡ map Byte bytes → BeginsWith own bytes events
+begins_with [] bytes events e = record { rest = bytes; split = refl; behind = e }
+begins_with (b ∷ own) [] events e = cc
+begins_with (b ∷ own) (a ∷ bytes) events e =
+    let same = same_bytes b a (map Byte own ++ events) (map Byte bytes) e in
+    let t = begins_with own bytes events same.1 in
+    record { rest = t.rest; split = ap₂ ◌∷◌ (sym same.0) t.split; behind = t.behind }
+
+-- a scalar of which only bytes come has a code
+pub record HasCode (c : ℕ) (code : Option (List ℕ)) (bytes : List ℕ) (events : List EncodeEvent) : Type 0 where
+  pub own : List ℕ
+  pub code_is : code ≡ Some own
+  pub begins : BeginsWith own bytes events
+
+pub has_code : (c : ℕ) (code : Option (List ℕ)) (bytes : List ℕ) (events : List EncodeEvent) → code_events c code ++ events ≡ map Byte bytes → HasCode c code bytes events
+has_code c None [] events e = cc
+has_code c None (b ∷ bytes) events e = cc
+has_code c (Some own) bytes events e = record { own = own; code_is = refl; begins = begins_with own bytes events e }
+
+-- ---- texts
+
+-- the events of the bytes of a text whose codes decode to their scalars, but for folds
+pub plain-trip : (front : ℕ → List ℕ → Front) (code : ℕ → Option (List ℕ)) (is_fold : ℕ → Bool)
+    → ((c : ℕ) (bytes : List ℕ) → is_fold c ≡ false → code c ≡ Some bytes → Decodes front bytes c)
+    → (text bytes : List ℕ) → plain_events code text ≡ map Byte bytes → list_any is_fold text ≡ false
+    → cut front 0 0 bytes ≡ map Scalar text
+unfolding plain_events
+plain-trip front code is_fold each [] bytes e none = rw (← (same_byte_lists [] bytes e)) (cut-nil front)
+plain-trip front code is_fold each (c ∷ text) bytes e none =
+    let folds = or_parts (is_fold c) (list_any is_fold text) none in
+    let here = has_code c (code c) bytes (plain_events code text) e in
+    let t = here.begins in
+    let later = plain-trip front code is_fold each text t.rest t.behind folds.1 in
+    rw t.split
+    (cut-code front here.own t.rest c (each c here.own folds.0 here.code_is)
+    ∙ ap (λ (es : List DecodeEvent). Scalar c ∷ es) (ap (shift (length here.own)) later ∙ shift-scalars (length here.own) text))

@@ -1,0 +1,271 @@
+-- The codes of Big5, EUC-KR, Shift_JIS, EUC-JP, the single-byte codecs and x-user-defined decode to their scalars.
+use Rattle.std.proofs.Common.{◌≡◌, ◌≢◌, ℕ, ◌+◌, ◌-◌, ◌*◌, ◌/◌, ◌%◌, ◌<◌, ◌≤◌, List, [], ◌∷◌, length, Bool, true, false, cond, ◌||◌, ◌==◌, nat_lt, nat_le, Option, Some, None, option_map, option_to_list, position, get_or, refl, sym, ap, ◌∙◌, arith, if◌then◌else◌}
+use Rattle.std.proofs.lemmas.Bool.{and_parts, or_parts, leb-true, ne_eqb, eqb-true, true≢false}
+use Rattle.std.proofs.lemmas.Bool.Decides.{nat_tests}
+use Rattle.std.proofs.lemmas.List.Quantifiers.{position-Some}
+use Rattle.std.proofs.Math.Nat.{div-add-mod}
+use Rattle.std.proofs.lemmas.Nat.{mod_below}
+use Rattle.std.specs.Int.{is_in_range}
+use Rattle.std.specs.Char.{is_ascii}
+use Rattle.legacy_base.specs.Fronts.{Front, reads}
+use Rattle.legacy_base.specs.Unicode.{is_katakana_byte, katakana_of, is_katakana_scalar, katakana_byte_of}
+use Rattle.legacy_base.specs.Indexes.{idx}
+use Rattle.legacy_base.specs.Profile.{is_lead}
+use Rattle.legacy_base.specs.Pointers.{every_pointer, is_big5_pointer, big5_pointer_of, euc_kr_pointer_of, minus_as_hyphen, is_shift_jis_pointer, shift_jis_pointer_of, is_jis0208_pointer, euc_jp_pointer_of}
+use Rattle.legacy_base.specs.SingleByte.{single_byte_front, single_byte_code}
+use Rattle.legacy_base.specs.UserDefined.{user_defined_front, user_defined_code}
+use Rattle.legacy_base.specs.Big5.{big5_pointer, big5_scalars, big5_pair, big5_front, big5_bytes, big5_code}
+use Rattle.legacy_base.specs.LeadForms.{lead_front, lead_pair}
+use Rattle.legacy_base.specs.EucKr.{euc_kr_pointer, euc_kr_bytes, euc_kr_code}
+use Rattle.legacy_base.specs.ShiftJis.{is_shift_jis_lead, shift_jis_lead_part, shift_jis_pointer, shift_jis_scalars, shift_jis_pair, shift_jis_front, shift_jis_bytes, shift_jis_code}
+use Rattle.legacy_base.specs.EucJp.{is_euc_jp_lead, euc_jp_katakana, euc_jp_pair, euc_jp_front, euc_jp_bytes, euc_jp_code}
+use Rattle.legacy_base.specs.RoundTrips.{is_japanese_fold}
+use Rattle.legacy_base.proofs.Pointers.{IsTaken, first-taken, big5-taken}
+use Rattle.legacy_base.proofs.PointersBack.{LeadsBack, leads_back}
+use Rattle.legacy_base.proofs.Trips.{Decodes}
+
+-- a code that is mapped from a pointer is that of some pointer
+pub mapped : (f : ℕ → List ℕ) (o : Option ℕ) (bytes : List ℕ) → option_map f o ≡ Some bytes → (p : ℕ) × (o ≡ Some p) × (bytes ≡ f p)
+mapped f None bytes h = cc
+mapped f (Some p) bytes h = (p, refl, (let same : f p ≡ bytes = cc in sym same))
+
+-- a byte that is its own front
+pub one_byte : (front : ℕ → List ℕ → Front) (b c : ℕ) (bytes : List ℕ) → bytes ≡ b ∷ [] → ((more : List ℕ) → front b more ≡ reads 1 (c ∷ [])) → Decodes front bytes c
+one_byte front b c bytes is h = rw is (record { some = omega arith; gives = h })
+
+-- two bytes that are their own front
+pub two_bytes : (front : ℕ → List ℕ → Front) (a b c : ℕ) (bytes : List ℕ) → bytes ≡ a ∷ b ∷ [] → ((more : List ℕ) → front a (b ∷ more) ≡ reads 2 (c ∷ [])) → Decodes front bytes c
+two_bytes front a b c bytes is h = rw is (record { some = omega arith; gives = h })
+
+same_bytes : (b : ℕ) (bytes : List ℕ) → Some (b ∷ []) ≡ Some bytes → bytes ≡ b ∷ []
+same_bytes b bytes h = cc
+
+-- ---- Big5
+
+big5_back : (q r : ℕ) → r < 157 → (t : Bool) → nat_lt r 0x3F ≡ t → big5_pointer (q + 0x81) (r + cond t 0x40 0x62) ≡ Some (157 * q + r)
+big5_back q r h true e =
+    let low : is_in_range 0x40 0x7E (r + 0x40) ≡ true = grind (arith, nat_tests) in
+    rw low (ap Some (omega arith))
+big5_back q r h false e =
+    let low : is_in_range 0x40 0x7E (r + 0x62) ≡ false = grind (arith, nat_tests) in
+    let high : is_in_range 0xA1 0xFE (r + 0x62) ≡ true = grind (arith, nat_tests) in
+    rw (low, high) (ap Some (omega arith))
+
+big5_scalar : (index : List ℕ) (p c : ℕ) → 5024 ≤ p → idx index p ≡ Some c → big5_scalars index p ≡ c ∷ []
+big5_scalar index p c h has =
+    let a : (p == 1133) ≡ false = grind (arith, nat_tests) in
+    let b : (p == 1135) ≡ false = grind (arith, nat_tests) in
+    let d : (p == 1164) ≡ false = grind (arith, nat_tests) in
+    let e : (p == 1166) ≡ false = grind (arith, nat_tests) in
+    rw (a, b, d, e, has) refl
+
+big5_pair_back : (index : List ℕ) (p c : ℕ) (more : List ℕ) → length index ≤ 19782 → LeadsBack is_big5_pointer index c p
+    → big5_front index (p / 157 + 0x81) ((p % 157 + (if nat_lt (p % 157) 0x3F then 0x40 else 0x62)) ∷ more) ≡ reads 2 (c ∷ [])
+unfolding big5_front big5_pair
+big5_pair_back index p c more short back =
+    let from : 5024 ≤ p = leb-true 5024 p back.may_use in
+    let p_is : 157 * (p / 157) + p % 157 ≡ p = div-add-mod p 157 in
+    let column : p % 157 < 157 = mod_below p 157 (omega arith) in
+    let below = back.below in
+    let row : p / 157 < 126 = omega arith in
+    let lead_ascii : is_ascii (p / 157 + 0x81) ≡ false = grind (arith, nat_tests) in
+    let lead : is_in_range 0x81 0xFE (p / 157 + 0x81) ≡ true = grind (arith, nat_tests) in
+    let pointer = big5_back (p / 157) (p % 157) column (nat_lt (p % 157) 0x3F) refl in
+    rw (lead_ascii, lead, pointer, p_is, big5_scalar index p c from back.has) refl
+
+pub big5-decodes : (index : List ℕ) (c : ℕ) (bytes : List ℕ) → length index ≤ 19782
+    → big5_code index c ≡ Some bytes → Decodes (big5_front index) bytes c
+unfolding big5_code big5_front
+big5-decodes index c bytes short h = by_test (is_ascii c) refl h
+  where
+    by_test : (t : Bool) → is_ascii c ≡ t → cond t (Some (c ∷ [])) (option_map big5_bytes (big5_pointer_of index c)) ≡ Some bytes → Decodes (big5_front index) bytes c
+    by_test true e h = one_byte (big5_front index) c c bytes (same_bytes c bytes h) (λ more. rw e refl)
+    by_test false e h =
+        let m = mapped big5_bytes (big5_pointer_of index c) bytes h in
+        two_bytes (big5_front index) _ _ c bytes m.2 (λ more. big5_pair_back index m.0 c more short (leads_back is_big5_pointer index c _ (big5-taken index c) m.0 m.1))
+
+-- ---- EUC-KR
+
+euc_kr_pair_back : (index : List ℕ) (p c : ℕ) (more : List ℕ) → length index ≤ 23940 → LeadsBack every_pointer index c p
+    → lead_front is_lead euc_kr_pointer index (p / 190 + 0x81) ((p % 190 + 0x41) ∷ more) ≡ reads 2 (c ∷ [])
+unfolding lead_front lead_pair
+euc_kr_pair_back index p c more short back =
+    let p_is : 190 * (p / 190) + p % 190 ≡ p = div-add-mod p 190 in
+    let column : p % 190 < 190 = mod_below p 190 (omega arith) in
+    let below = back.below in
+    let row : p / 190 < 126 = omega arith in
+    let lead_ascii : is_ascii (p / 190 + 0x81) ≡ false = grind (arith, nat_tests) in
+    let lead : is_in_range 0x81 0xFE (p / 190 + 0x81) ≡ true = grind (arith, nat_tests) in
+    let trail : is_in_range 0x41 0xFE (p % 190 + 0x41) ≡ true = grind (arith, nat_tests) in
+    let pointer : (p / 190 + 0x81 - 0x81) * 190 + (p % 190 + 0x41 - 0x41) ≡ p = omega arith in
+    rw (lead_ascii, lead, trail, pointer, back.has) refl
+
+pub euc_kr-decodes : (index : List ℕ) (c : ℕ) (bytes : List ℕ) → length index ≤ 23940
+    → euc_kr_code index c ≡ Some bytes → Decodes (lead_front is_lead euc_kr_pointer index) bytes c
+unfolding euc_kr_code lead_front
+euc_kr-decodes index c bytes short h = by_test (is_ascii c) refl h
+  where
+    by_test : (t : Bool) → is_ascii c ≡ t → cond t (Some (c ∷ [])) (option_map euc_kr_bytes (euc_kr_pointer_of index c)) ≡ Some bytes → Decodes (lead_front is_lead euc_kr_pointer index) bytes c
+    by_test true e h = one_byte (lead_front is_lead euc_kr_pointer index) c c bytes (same_bytes c bytes h) (λ more. rw e refl)
+    by_test false e h =
+        let m = mapped euc_kr_bytes (euc_kr_pointer_of index c) bytes h in
+        two_bytes (lead_front is_lead euc_kr_pointer index) _ _ c bytes m.2 (λ more. euc_kr_pair_back index m.0 c more short (leads_back every_pointer index c _ (first-taken every_pointer index c) m.0 m.1))
+
+-- ---- Shift_JIS
+
+-- a lead is read as one, and its number is the row
+shift_jis_lead_back : (q : ℕ) → q < 60 → (t : Bool) → nat_lt q 0x1F ≡ t
+    → ((is_ascii (q + cond t 0x81 0xC1) || (q + cond t 0x81 0xC1) == 0x80) ≡ false)
+    × (is_in_range 0xA1 0xDF (q + cond t 0x81 0xC1) ≡ false)
+    × (is_shift_jis_lead (q + cond t 0x81 0xC1) ≡ true)
+    × (shift_jis_lead_part (q + cond t 0x81 0xC1) ≡ q)
+shift_jis_lead_back q h true e =
+    let low : is_in_range 0x81 0x9F (q + 0x81) ≡ true = grind (arith, nat_tests) in
+    (grind (arith, nat_tests), grind (arith, nat_tests), rw low refl, rw low (omega arith))
+shift_jis_lead_back q h false e =
+    let low : is_in_range 0x81 0x9F (q + 0xC1) ≡ false = grind (arith, nat_tests) in
+    let high : is_in_range 0xE0 0xFC (q + 0xC1) ≡ true = grind (arith, nat_tests) in
+    (grind (arith, nat_tests), grind (arith, nat_tests), rw (low, high) refl, rw low (omega arith))
+
+shift_jis_back : (lead q r : ℕ) → r < 188 → shift_jis_lead_part lead ≡ q → (t : Bool) → nat_lt r 0x3F ≡ t
+    → shift_jis_pointer lead (r + cond t 0x40 0x41) ≡ Some (188 * q + r)
+shift_jis_back lead q r h part true e =
+    let low : is_in_range 0x40 0x7E (r + 0x40) ≡ true = grind (arith, nat_tests) in
+    rw (low, part) (ap Some (omega arith))
+shift_jis_back lead q r h part false e =
+    let low : is_in_range 0x40 0x7E (r + 0x41) ≡ false = grind (arith, nat_tests) in
+    let high : is_in_range 0x80 0xFC (r + 0x41) ≡ true = grind (arith, nat_tests) in
+    rw (low, high, part) (ap Some (omega arith))
+
+-- the pointers for private use are empty
+pub record PrivateUseIsEmpty (jis0208 : List ℕ) : Type 0 where
+  pub empty : (p : ℕ) → is_in_range 8836 10715 p ≡ true → idx jis0208 p ≡ None
+
+shift_jis_scalar : (jis0208 : List ℕ) (p c : ℕ) → PrivateUseIsEmpty jis0208 → idx jis0208 p ≡ Some c → shift_jis_scalars jis0208 p ≡ c ∷ []
+shift_jis_scalar jis0208 p c empty has = by_test (is_in_range 8836 10715 p) refl
+  where
+    by_test : (t : Bool) → is_in_range 8836 10715 p ≡ t → cond t ((0xE000 + (p - 8836)) ∷ []) (option_to_list (idx jis0208 p)) ≡ c ∷ []
+    by_test true e = let none = empty.empty p e in cc
+    by_test false e = rw has refl
+
+shift_jis_pair_back : (jis0208 : List ℕ) (p c : ℕ) (more : List ℕ) → length jis0208 ≤ 11280 → PrivateUseIsEmpty jis0208 → LeadsBack is_shift_jis_pointer jis0208 c p
+    → shift_jis_front jis0208 (p / 188 + (if nat_lt (p / 188) 0x1F then 0x81 else 0xC1)) ((p % 188 + (if nat_lt (p % 188) 0x3F then 0x40 else 0x41)) ∷ more) ≡ reads 2 (c ∷ [])
+unfolding shift_jis_front shift_jis_pair
+shift_jis_pair_back jis0208 p c more short empty back =
+    let p_is : 188 * (p / 188) + p % 188 ≡ p = div-add-mod p 188 in
+    let column : p % 188 < 188 = mod_below p 188 (omega arith) in
+    let below = back.below in
+    let row : p / 188 < 60 = omega arith in
+    let lead = shift_jis_lead_back (p / 188) row (nat_lt (p / 188) 0x1F) refl in
+    let pointer = shift_jis_back (p / 188 + (if nat_lt (p / 188) 0x1F then 0x81 else 0xC1)) (p / 188) (p % 188) column lead.3 (nat_lt (p % 188) 0x3F) refl in
+    rw (lead.0, lead.1, lead.2, pointer, p_is, shift_jis_scalar jis0208 p c empty back.has) refl
+
+-- a scalar that is no fold
+not_minus : (c : ℕ) → is_japanese_fold c ≡ false → ((c == 0xA5) ≡ false) × ((c == 0x203E) ≡ false) × (minus_as_hyphen c ≡ c)
+not_minus c h =
+    let p = or_parts (c == 0xA5 || c == 0x203E) (c == 0x2212) h in
+    let q = or_parts (c == 0xA5) (c == 0x203E) p.0 in
+    (q.0, q.1, rw p.1 refl)
+
+-- half-width katakana
+half_width : (c : ℕ) → is_in_range 0xFF61 0xFF9F c ≡ true → (0xFF61 ≤ c) × (c ≤ 0xFF9F)
+half_width c h = let p = and_parts (nat_le 0xFF61 c) (nat_le c 0xFF9F) h in (leb-true 0xFF61 c p.0, leb-true c 0xFF9F p.1)
+
+pub shift_jis-decodes : (jis0208 : List ℕ) (c : ℕ) (bytes : List ℕ) → length jis0208 ≤ 11280 → PrivateUseIsEmpty jis0208
+    → is_japanese_fold c ≡ false → shift_jis_code jis0208 c ≡ Some bytes → Decodes (shift_jis_front jis0208) bytes c
+unfolding shift_jis_code shift_jis_front
+shift_jis-decodes jis0208 c bytes short empty no_fold h =
+    let plain = not_minus c no_fold in
+    by_tests (is_ascii c || c == 0x80) (is_in_range 0xFF61 0xFF9F c) refl refl (rw (plain.0, plain.1, plain.2) at h)
+  where
+    by_tests : (t u : Bool) → (is_ascii c || c == 0x80) ≡ t → is_in_range 0xFF61 0xFF9F c ≡ u
+        → cond t (Some (c ∷ [])) (cond u (Some ((0xA1 + (c - 0xFF61)) ∷ [])) (option_map shift_jis_bytes (shift_jis_pointer_of jis0208 c))) ≡ Some bytes
+        → Decodes (shift_jis_front jis0208) bytes c
+    by_tests true u e f h = one_byte (shift_jis_front jis0208) c c bytes (same_bytes c bytes h) (λ more. rw e refl)
+    by_tests false true e f h =
+        let within = half_width c f in
+        let a : (is_ascii (0xA1 + (c - 0xFF61)) || (0xA1 + (c - 0xFF61)) == 0x80) ≡ false = grind (arith, nat_tests) in
+        let k : is_in_range 0xA1 0xDF (0xA1 + (c - 0xFF61)) ≡ true = grind (arith, nat_tests) in
+        let c_is : 0xFF61 + (0xA1 + (c - 0xFF61) - 0xA1) ≡ c = omega arith in
+        one_byte (shift_jis_front jis0208) (0xA1 + (c - 0xFF61)) c bytes (same_bytes _ bytes h) (λ more. rw (a, k, c_is) refl)
+    by_tests false false e f h =
+        let m = mapped shift_jis_bytes (shift_jis_pointer_of jis0208 c) bytes h in
+        two_bytes (shift_jis_front jis0208) _ _ c bytes m.2 (λ more. shift_jis_pair_back jis0208 m.0 c more short empty (leads_back is_shift_jis_pointer jis0208 c _ (first-taken is_shift_jis_pointer jis0208 c) m.0 m.1))
+
+-- ---- EUC-JP
+
+euc_jp_pair_back : (jis0208 jis0212 : List ℕ) (p c : ℕ) (more : List ℕ) → LeadsBack is_jis0208_pointer jis0208 c p
+    → euc_jp_front jis0208 jis0212 (p / 94 + 0xA1) ((p % 94 + 0xA1) ∷ more) ≡ reads 2 (c ∷ [])
+unfolding euc_jp_front euc_jp_pair
+euc_jp_pair_back jis0208 jis0212 p c more back =
+    let p_is : 94 * (p / 94) + p % 94 ≡ p = div-add-mod p 94 in
+    let column : p % 94 < 94 = mod_below p 94 (omega arith) in
+    let may = back.may_use in
+    let below : p < 8836 = grind (arith, nat_tests) in
+    let row : p / 94 < 94 = omega arith in
+    let lead_ascii : is_ascii (p / 94 + 0xA1) ≡ false = grind (arith, nat_tests) in
+    let not_8E : ((p / 94 + 0xA1) == 0x8E) ≡ false = grind (arith, nat_tests) in
+    let not_8F : ((p / 94 + 0xA1) == 0x8F) ≡ false = grind (arith, nat_tests) in
+    let lead : is_in_range 0xA1 0xFE (p / 94 + 0xA1) ≡ true = grind (arith, nat_tests) in
+    let trail : is_in_range 0xA1 0xFE (p % 94 + 0xA1) ≡ true = grind (arith, nat_tests) in
+    let pointer : (p / 94 + 0xA1 - 0xA1) * 94 + (p % 94 + 0xA1 - 0xA1) ≡ p = omega arith in
+    rw (lead_ascii, not_8E, not_8F, lead, trail, pointer, back.has) refl
+
+pub euc_jp-decodes : (jis0208 jis0212 : List ℕ) (c : ℕ) (bytes : List ℕ)
+    → is_japanese_fold c ≡ false → euc_jp_code jis0208 c ≡ Some bytes → Decodes (euc_jp_front jis0208 jis0212) bytes c
+unfolding euc_jp_code euc_jp_front euc_jp_katakana
+euc_jp-decodes jis0208 jis0212 c bytes no_fold h =
+    let plain = not_minus c no_fold in
+    by_tests (is_ascii c) (is_in_range 0xFF61 0xFF9F c) refl refl (rw (plain.0, plain.1, plain.2) at h)
+  where
+    by_tests : (t u : Bool) → is_ascii c ≡ t → is_in_range 0xFF61 0xFF9F c ≡ u
+        → cond t (Some (c ∷ [])) (cond u (Some (0x8E ∷ (0xA1 + (c - 0xFF61)) ∷ [])) (option_map euc_jp_bytes (euc_jp_pointer_of jis0208 c))) ≡ Some bytes
+        → Decodes (euc_jp_front jis0208 jis0212) bytes c
+    by_tests true u e f h = one_byte (euc_jp_front jis0208 jis0212) c c bytes (same_bytes c bytes h) (λ more. rw e refl)
+    by_tests false true e f h =
+        let within = half_width c f in
+        let k : is_in_range 0xA1 0xDF (0xA1 + (c - 0xFF61)) ≡ true = grind (arith, nat_tests) in
+        let c_is : 0xFF61 + (0xA1 + (c - 0xFF61) - 0xA1) ≡ c = omega arith in
+        let bytes_are : bytes ≡ 0x8E ∷ (0xA1 + (c - 0xFF61)) ∷ [] = cc in
+        two_bytes (euc_jp_front jis0208 jis0212) 0x8E (0xA1 + (c - 0xFF61)) c bytes bytes_are (λ more. rw (k, c_is) refl)
+    by_tests false false e f h =
+        let m = mapped euc_jp_bytes (euc_jp_pointer_of jis0208 c) bytes h in
+        two_bytes (euc_jp_front jis0208 jis0212) _ _ c bytes m.2 (λ more. euc_jp_pair_back jis0208 jis0212 m.0 c more (leads_back is_jis0208_pointer jis0208 c _ (first-taken is_jis0208_pointer jis0208 c) m.0 m.1))
+
+-- ---- single-byte and x-user-defined
+
+-- the place that holds the scalar is that of the scalar
+place_back : (table : List ℕ) (c place : ℕ) → c ≢ 0 → position (λ entry. entry == c) table ≡ Some place → idx table place ≡ Some c
+place_back table c place n e =
+    let is = eqb-true (get_or table place 0) c (position-Some (λ entry. entry == c) table place 0 e).1 in
+    rw (is, ne_eqb c 0 n) refl
+
+pub single_byte-decodes : (table : List ℕ) (c : ℕ) (bytes : List ℕ) → single_byte_code table c ≡ Some bytes → Decodes (single_byte_front table) bytes c
+unfolding single_byte_code single_byte_front
+single_byte-decodes table c bytes h = by_test (is_ascii c) refl h
+  where
+    by_test : (t : Bool) → is_ascii c ≡ t → cond t (Some (c ∷ [])) (option_map (λ place. (0x80 + place) ∷ []) (position (λ entry. entry == c) table)) ≡ Some bytes
+        → Decodes (single_byte_front table) bytes c
+    by_test true e h = one_byte (single_byte_front table) c c bytes (same_bytes c bytes h) (λ more. rw e refl)
+    by_test false e h =
+        let m = mapped (λ place. (0x80 + place) ∷ []) (position (λ entry. entry == c) table) bytes h in
+        let n : c ≢ 0 = λ z. let t : is_ascii c ≡ true = rw z refl in true≢false (sym t ∙ e) in
+        let has = place_back table c m.0 n m.1 in
+        let a : is_ascii (0x80 + m.0) ≡ false = grind (arith, nat_tests) in
+        let place : 0x80 + m.0 - 0x80 ≡ m.0 = omega arith in
+        one_byte (single_byte_front table) (0x80 + m.0) c bytes m.2 (λ more. rw (a, place, has) refl)
+
+pub user_defined-decodes : (c : ℕ) (bytes : List ℕ) → user_defined_code c ≡ Some bytes → Decodes user_defined_front bytes c
+unfolding user_defined_code user_defined_front
+user_defined-decodes c bytes h = by_tests (is_ascii c) (is_in_range 0xF780 0xF7FF c) refl refl h
+  where
+    by_tests : (t u : Bool) → is_ascii c ≡ t → is_in_range 0xF780 0xF7FF c ≡ u
+        → cond t (Some (c ∷ [])) (cond u (Some ((0x80 + (c - 0xF780)) ∷ [])) None) ≡ Some bytes → Decodes user_defined_front bytes c
+    by_tests true u e f h = one_byte user_defined_front c c bytes (same_bytes c bytes h) (λ more. rw e refl)
+    by_tests false true e f h =
+        let p = and_parts (nat_le 0xF780 c) (nat_le c 0xF7FF) f in
+        let low = leb-true 0xF780 c p.0 in
+        let a : is_ascii (0x80 + (c - 0xF780)) ≡ false = grind (arith, nat_tests) in
+        let c_is : 0xF780 + (0x80 + (c - 0xF780) - 0x80) ≡ c = omega arith in
+        one_byte user_defined_front (0x80 + (c - 0xF780)) c bytes (same_bytes _ bytes h) (λ more. rw (a, c_is) refl)
+    by_tests false false e f h = cc
