@@ -1,5 +1,5 @@
 -- What the length queries of the codecs of ASCII and pairs answer.
-use Rattle.std.proofs.Common.{◌≡◌, ℕ, Option, ap}
+use Rattle.std.proofs.Common.{◌≡◌, ℕ, ap}
 use Rattle.legacy_base.specs.EncodingForm.{Utf8, Utf16}
 use Rattle.legacy_base.specs.EncoderProfile.{EncoderProfile}
 use Rattle.legacy_base.specs.Encoders.{Codec, new_encoder, encoder_answer}

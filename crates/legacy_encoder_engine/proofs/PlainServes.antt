@@ -3,7 +3,6 @@ use Rattle.std.proofs.Common.{zero, suc, take, drop, get_or, append-nil, append_
 use Rattle.std.proofs.lemmas.Bool.{cases_lt, lt-ltb, le-ltb}
 use Rattle.std.proofs.lemmas.List.{take-append-drop, length-take-le, get_or-take}
 use Rattle.std.specs.Option.{option_or}
-use Rattle.legacy_base.specs.declared.results.EncodeEvent.{EncodeEvent}
 use Rattle.legacy_base.specs.declared.results.EncodeEvent.TheVariants as events
 use Rattle.legacy_base.specs.EncodingForm.{EncodingForm, Utf8, Utf16, unit_count}
 use Rattle.legacy_base.specs.EncodeEvents.{code_events, code_length, plain_events}

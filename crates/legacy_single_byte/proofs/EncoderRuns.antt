@@ -1,5 +1,5 @@
 -- What the check of an encoder's run has shown, and the codes that follow from a table's places.
-use Rattle.std.proofs.Common.{◌≡◌, ◌↔◌, ◌∙◌, IfSome, ℕ, ◌+◌, ◌≤◌, ◌<◌, ◌==◌, List, ◌∷◌, [], length, get_or, refl, sym, ap, subst, arith, Some, None, Option, Bool, true, false, not, option_map, position, eqb}
+use Rattle.std.proofs.Common.{◌≡◌, ◌↔◌, ◌∙◌, IfSome, ℕ, ◌+◌, ◌≤◌, ◌<◌, ◌==◌, List, ◌∷◌, [], length, get_or, refl, sym, ap, subst, arith, Some, None, Option, Bool, true, false, not, position}
 use Rattle.std.proofs.lemmas.Bool.{ne_eqb, lt-ltb, le-ltb, eqb-true}
 use Rattle.std.proofs.lemmas.Bool.Decides.{nat_tests}
 use Rattle.std.proofs.lemmas.List.Elements.{All-get_or}

@@ -1,5 +1,5 @@
 -- What is shown of the codes of the single-byte codecs.
-use Rattle.std.proofs.Common.{ℕ, ◌≤◌, ◌+◌, ◌==◌, List, [], ◌∷◌, Some, refl, arith, position}
+use Rattle.std.proofs.Common.{ℕ, ◌≤◌, ◌+◌, ◌==◌, List, [], ◌∷◌, refl, arith, position}
 use Rattle.std.proofs.lemmas.Bool.{lt-ltb}
 use Rattle.legacy_base.specs.EncodeEvents.{code_length}
 use Rattle.legacy_base.specs.SingleByte.{single_byte_code}

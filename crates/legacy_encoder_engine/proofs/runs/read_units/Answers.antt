@@ -1,8 +1,7 @@
-use Rattle.std.proofs.Common.{◌≡◌, ◌+◌, ◌≤◌, length, take, drop, sym, ap, subst, add-zero, arith, length-drop}
+use Rattle.std.proofs.Common.{length, take, drop, add-zero, arith}
 use Rattle.std.proofs.lemmas.List.{take-append-drop}
 use Rattle.legacy_base.specs.Encoders.{new_encoder}
 use Rattle.legacy_base.proofs.Rooms.{total_unit_count-append}
-use Rattle.legacy_encoder_engine.specs.UnderWay.{KeepsOn}
 use Rattle.legacy_encoder_engine.proofs.CallUnderWay.{keeps_none, front_length}
 use Rattle.legacy_encoder_engine.proofs.PlainServes.{keeps_codes}
 use Rattle.legacy_encoder_engine.proofs.runs.read_units.Goals as goal
