@@ -1,8 +1,9 @@
 //! What no clause says: the texts, the statuses 1, and what stands where a read, a write or memory fails.
 use crate::program::{Fault, run};
 use crate::recode::{RecodeError, recode};
+use crate::text::recode_text;
 use legacy_codecs::{
-    EucKrDecoder, GB18030_2022_PUA, Indexes, RawDecoder, Tables, UserDefinedDecoder,
+    EucKrDecoder, GB18030_2022_PUA, Indexes, RawDecoder, Tables, UserDefinedDecoder, Utf16Decoder,
 };
 use std::io::{self, Error, ErrorKind, Read, Write};
 use std::process::Abort;
@@ -67,6 +68,19 @@ fn first_lines(lines: usize) -> &'static [u8] {
         1 => b"U+0061\n",
         2 => b"U+0061\nU+F780\n",
         _ => b"U+0061\nU+F780\nU+F7FF\n",
+    }
+}
+
+/// The text of 61 80 FF in x-user-defined.
+const TEXT: &[u8] = b"\x61\xEF\x9E\x80\xEF\x9F\xBF";
+
+/// How many bytes of it are the text of so many bytes of the input.
+fn text_length(bytes: usize) -> usize {
+    match bytes {
+        0 => 0,
+        1 => 1,
+        2 => 4,
+        _ => 7,
     }
 }
 
@@ -201,6 +215,55 @@ fn recodes_with_a_file(rt: HostRuntime) {
         lines,
         b"",
     );
+}
+
+#[test]
+fn writes_text(rt: HostRuntime) {
+    let hangul: &[u8] = b"0 0xAC02\n";
+    let rows: [(&[&str], &[Option<&[u8]>], &[u8], &[u8]); 5] = [
+        (
+            &["--text", "gb18030"],
+            &[],
+            b"\xE3\x32\x9A\x00",
+            b"\xEF\xBF\xBD\x32\xEF\xBF\xBD\x00",
+        ),
+        (&["--text", "x-user-defined"], &[], b"\x61\x80\xFF", TEXT),
+        (&["--text", "x-user-defined"], &[], b"", b""),
+        (&["--text", "replacement"], &[], b"AB", b"\xEF\xBF\xBD"),
+        (
+            &["--text", "euc-kr", "euc-kr", "FILE"],
+            &[Some(hangul)],
+            b"\x81\x41\x81\x5B",
+            b"\xEA\xB0\x82\xEF\xBF\xBD\x5B",
+        ),
+    ];
+    for (words, files, input, text) in rows {
+        runs(&rt, words, files, input, 0, text, b"");
+    }
+}
+
+#[test]
+fn writes_text_of_more_than_a_piece(rt: HostRuntime) -> Result<(), Fail> {
+    let bytes = vec![in rt.alloc(); b'A'; 5000]?;
+    let mut input: &[u8] = bytes.as_slice();
+    let mut output = Vec::new(rt.alloc());
+    let result = recode_text(&mut UserDefinedDecoder::new(), &mut input, &mut output);
+    assert_eq!(rt; result, Ok(false));
+    assert_eq!(rt; output.as_slice(), bytes.as_slice());
+    Ok(())
+}
+
+// The malformed sequence begins in one piece, and no later piece has one.
+#[test]
+fn tells_of_a_replacement_in_any_piece(rt: HostRuntime) {
+    let mut input = FailingReader {
+        bytes: b"\x41\x00\x00\xD8\x42\x00",
+        reads: 7,
+    };
+    let mut output = Vec::new(rt.alloc());
+    let result = recode_text(&mut Utf16Decoder::new(false), &mut input, &mut output);
+    assert_eq!(rt; result, Ok(true));
+    assert_eq!(rt; output.as_slice(), b"\x41\xEF\xBF\xBD\x42".as_slice());
 }
 
 #[test]
@@ -345,9 +408,82 @@ fn a_failed_write_keeps_the_bytes_before_it(rt: HostRuntime) {
 }
 
 #[test]
+fn a_failed_read_keeps_the_text_before_it(rt: HostRuntime) {
+    for reads in 0..5 {
+        let mut input = FailingReader {
+            bytes: b"\x61\x80\xFF",
+            reads,
+        };
+        let mut output = Vec::new(rt.alloc());
+        let result = recode_text(&mut UserDefinedDecoder::new(), &mut input, &mut output);
+        if reads < 4 {
+            assert_eq!(rt; result, Err(RecodeError::Read));
+        } else {
+            assert_eq!(rt; result, Ok(false));
+        }
+        assert_eq!(rt; output.as_slice(), &TEXT[..text_length(reads)]);
+    }
+}
+
+/// Writes the text of 61 80 FF to a writer of so many writes of so many bytes, and asserts that so many bytes of it stand
+/// then: all of them, or those before a write that failed.
+fn writes_a_front_of_text(
+    rt: &(impl Abort + Alloc<A = std::alloc::Global>),
+    input: &mut impl Read,
+    most: usize,
+    writes: usize,
+    bytes: usize,
+) {
+    let mut output = FailingWriter {
+        written: Vec::new(rt.alloc()),
+        most,
+        writes,
+        flushes: true,
+    };
+    let result = recode_text(&mut UserDefinedDecoder::new(), input, &mut output);
+    if bytes < TEXT.len() {
+        assert_eq!(rt; result, Err(RecodeError::Write));
+    } else {
+        assert_eq!(rt; result, Ok(false));
+    }
+    assert_eq!(rt; output.written.as_slice(), &TEXT[..bytes.min(TEXT.len())]);
+}
+
+// The text of a piece is written at once: of each byte where that is a piece, and of all three where they are one.
+#[test]
+fn a_failed_write_keeps_the_text_before_it(rt: HostRuntime) {
+    let scalar_by_scalar: [(usize, usize, usize); 8] = [
+        (3, 0, 0),
+        (3, 1, 1),
+        (3, 2, 4),
+        (3, 3, 7),
+        (2, 2, 3),
+        (2, 3, 4),
+        (2, 4, 6),
+        (2, 5, 7),
+    ];
+    for (most, writes, bytes) in scalar_by_scalar {
+        let mut input = FailingReader {
+            bytes: b"\x61\x80\xFF",
+            reads: 4,
+        };
+        writes_a_front_of_text(&rt, &mut input, most, writes, bytes);
+    }
+    for (most, writes, bytes) in [(7, 0, 0), (7, 1, 7), (4, 1, 4), (4, 2, 7), (0, 9, 0)] {
+        let mut input: &[u8] = b"\x61\x80\xFF";
+        writes_a_front_of_text(&rt, &mut input, most, writes, bytes);
+    }
+}
+
+#[test]
 fn refuses_words_that_are_no_request(rt: HostRuntime) {
-    let wrong: [&[&str]; 9] = [
+    let wrong: [&[&str]; 14] = [
         &[],
+        &["--text"],
+        &["--text", "latin"],
+        &["--text", "--text", "big5"],
+        &["big5", "--text"],
+        &["big5", "--text", "FILE"],
         &["latin"],
         &["Big5"],
         &["big5", "big5"],

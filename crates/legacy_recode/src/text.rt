@@ -78,7 +78,7 @@ pub fn recode_text<D: RawDecoder, R: Read, W: Write>(
     let mut buffer = [0u8; PIECE];
     let mut text = [0u8; TEXT];
     let mut total: usize = 0;
-    let mut replaced = false;
+    let mut any_replaced = false;
     'pieces: loop {
         let Some(count) = read_piece(input, &mut buffer, total) else {
             return Err(RecodeError::Read);
@@ -87,9 +87,9 @@ pub fn recode_text<D: RawDecoder, R: Read, W: Write>(
         let Ok(found) = write_piece(decoder, &buffer[..count], last, &mut text, output) else {
             return Err(RecodeError::Write);
         };
-        replaced = either(replaced, found);
+        any_replaced = either(any_replaced, found);
         if last {
-            return Ok(replaced);
+            return Ok(any_replaced);
         }
         total += count;
     }

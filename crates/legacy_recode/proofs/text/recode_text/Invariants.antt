@@ -4,7 +4,7 @@ use Rattle.legacy_recode.proofs.text.recode_text.Given as goal
 
 abbrev pub invariant-pieces : goal.invariant-pieces
 invariant-pieces g l = record {
-  so_far : TextSoFar (g.D.RawDecoder.state l.fn.decoder) (g.D.RawDecoder.state l.decoder) l.replaced
+  so_far : TextSoFar (g.D.RawDecoder.state l.fn.decoder) (g.D.RawDecoder.state l.decoder) l.any_replaced
       (g.R.Read.remaining l.fn.input) (g.R.Read.remaining l.input) (g.W.Write.contents l.fn.output) (g.W.Write.contents l.output);
   small : l.total < 2 ^ 64;
 }
