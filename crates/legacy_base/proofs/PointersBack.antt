@@ -1,7 +1,6 @@
 -- The pointer that an encoder takes for a scalar leads a decoder back to the scalar.
-use Rattle.std.proofs.Common.{◌≡◌, ℕ, ◌<◌, List, length, Bool, true, Option, Some, slice_index, refl, subst}
+use Rattle.std.proofs.Common.{◌≡◌, ℕ, ◌<◌, List, length, Bool, true, Option, Some, refl}
 use Rattle.std.proofs.lemmas.Bool.{ne_eqb}
-use Rattle.std.specs.Option.{IfSome}
 use Rattle.legacy_base.specs.Indexes.{idx}
 use Rattle.legacy_base.proofs.Pointers.{IsTaken, taken-within}
 

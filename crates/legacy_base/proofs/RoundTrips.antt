@@ -1,10 +1,7 @@
 -- What was encoded decodes to the same text, in every codec.
-use Rattle.std.proofs.Common.{◌≡◌, ◌≢◌, ℕ, ◌≤◌, List, [], ◌∷◌, length, map, append-nil, Bool, true, false, cond, not, ◌==◌, nat_lt, Option, Some, None, slice_index, refl, ap, arith, find}
-use Rattle.std.specs.Option.{option_map_or}
-use Rattle.std.specs.Int.{is_in_range}
+use Rattle.std.proofs.Common.{◌≡◌, ℕ, List, [], map, append-nil, refl}
 use Rattle.legacy_base.specs.declared.results.DecodeEvent.TheVariants.{Scalar}
-use Rattle.legacy_base.specs.declared.tables.IndexName.TheVariants as names
-use Rattle.legacy_base.specs.Indexes.{FlatIndexes, idx}
+use Rattle.legacy_base.specs.Indexes.{FlatIndexes}
 use Rattle.legacy_base.specs.TableChecks.{AreAccepted}
 use Rattle.legacy_base.specs.Profile.{is_lead}
 use Rattle.legacy_base.specs.SingleByte.{single_byte_front, single_byte_code}
@@ -19,10 +16,10 @@ use Rattle.legacy_base.specs.EncoderProfile.{in_ascii}
 use Rattle.legacy_base.specs.Iso2022Jp.{ascii}
 use Rattle.legacy_base.specs.Grammar.{events_of}
 use Rattle.legacy_base.specs.Encoders.{Codec, single_byte, user_defined, big5, euc_kr, shift_jis, euc_jp, gb18030, gbk, iso_2022_jp}
-use Rattle.legacy_base.specs.RoundTrips.{is_fold, grammar_of, HasAcceptedLists, IsEncodedAs, RoundTrips, holds_adjacent_escapes, EscapesAreInPlace}
+use Rattle.legacy_base.specs.RoundTrips.{is_fold, grammar_of, IsEncodedAs, RoundTrips, holds_adjacent_escapes, EscapesAreInPlace}
 use Rattle.legacy_base.proofs.Accepted.{parts, length-euc_kr, length-jis0208, length-gb18030}
 use Rattle.legacy_base.proofs.Trips.{plain-trip}
-use Rattle.legacy_base.proofs.TwoByteTrips.{PrivateUseIsEmpty, single_byte-decodes, user_defined-decodes, big5-decodes, euc_kr-decodes, shift_jis-decodes, euc_jp-decodes}
+use Rattle.legacy_base.proofs.TwoByteTrips.{single_byte-decodes, user_defined-decodes, big5-decodes, euc_kr-decodes, shift_jis-decodes, euc_jp-decodes}
 use Rattle.legacy_base.proofs.Gb18030Trip.{gb18030-decodes, gbk-decodes}
 use Rattle.legacy_base.proofs.Iso2022JpFronts.{step_end}
 use Rattle.legacy_base.proofs.Iso2022JpTrip.{text_read}

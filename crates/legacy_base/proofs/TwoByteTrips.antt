@@ -8,7 +8,6 @@ use Rattle.std.proofs.lemmas.Nat.{mod_below}
 use Rattle.std.specs.Int.{is_in_range}
 use Rattle.std.specs.Char.{is_ascii}
 use Rattle.legacy_base.specs.Fronts.{Front, reads}
-use Rattle.legacy_base.specs.Unicode.{is_katakana_byte, katakana_of, is_katakana_scalar, katakana_byte_of}
 use Rattle.legacy_base.specs.Indexes.{idx}
 use Rattle.legacy_base.specs.Profile.{is_lead}
 use Rattle.legacy_base.specs.Pointers.{every_pointer, is_big5_pointer, big5_pointer_of, euc_kr_pointer_of, minus_as_hyphen, is_shift_jis_pointer, shift_jis_pointer_of, is_jis0208_pointer, euc_jp_pointer_of}
@@ -18,9 +17,9 @@ use Rattle.legacy_base.specs.Big5.{big5_pointer, big5_scalars, big5_pair, big5_f
 use Rattle.legacy_base.specs.LeadForms.{lead_front, lead_pair}
 use Rattle.legacy_base.specs.EucKr.{euc_kr_pointer, euc_kr_bytes, euc_kr_code}
 use Rattle.legacy_base.specs.ShiftJis.{is_shift_jis_lead, shift_jis_lead_part, shift_jis_pointer, shift_jis_scalars, shift_jis_pair, shift_jis_front, shift_jis_bytes, shift_jis_code}
-use Rattle.legacy_base.specs.EucJp.{is_euc_jp_lead, euc_jp_katakana, euc_jp_pair, euc_jp_front, euc_jp_bytes, euc_jp_code}
+use Rattle.legacy_base.specs.EucJp.{euc_jp_katakana, euc_jp_pair, euc_jp_front, euc_jp_bytes, euc_jp_code}
 use Rattle.legacy_base.specs.RoundTrips.{is_japanese_fold}
-use Rattle.legacy_base.proofs.Pointers.{IsTaken, first-taken, big5-taken}
+use Rattle.legacy_base.proofs.Pointers.{first-taken, big5-taken}
 use Rattle.legacy_base.proofs.PointersBack.{LeadsBack, leads_back}
 use Rattle.legacy_base.proofs.Trips.{Decodes}
 
@@ -109,7 +108,8 @@ euc_kr-decodes index c bytes short h = by_test (is_ascii c) refl h
     by_test true e h = one_byte (lead_front is_lead euc_kr_pointer index) c c bytes (same_bytes c bytes h) (λ more. rw e refl)
     by_test false e h =
         let m = mapped euc_kr_bytes (euc_kr_pointer_of index c) bytes h in
-        two_bytes (lead_front is_lead euc_kr_pointer index) _ _ c bytes m.2 (λ more. euc_kr_pair_back index m.0 c more short (leads_back every_pointer index c _ (first-taken every_pointer index c) m.0 m.1))
+        let back = leads_back every_pointer index c _ (first-taken every_pointer index c) m.0 m.1 in
+        two_bytes (lead_front is_lead euc_kr_pointer index) _ _ c bytes m.2 (λ more. euc_kr_pair_back index m.0 c more short back)
 
 -- ---- Shift_JIS
 
@@ -190,7 +190,8 @@ shift_jis-decodes jis0208 c bytes short empty no_fold h =
         one_byte (shift_jis_front jis0208) (0xA1 + (c - 0xFF61)) c bytes (same_bytes _ bytes h) (λ more. rw (a, k, c_is) refl)
     by_tests false false e f h =
         let m = mapped shift_jis_bytes (shift_jis_pointer_of jis0208 c) bytes h in
-        two_bytes (shift_jis_front jis0208) _ _ c bytes m.2 (λ more. shift_jis_pair_back jis0208 m.0 c more short empty (leads_back is_shift_jis_pointer jis0208 c _ (first-taken is_shift_jis_pointer jis0208 c) m.0 m.1))
+        let back = leads_back is_shift_jis_pointer jis0208 c _ (first-taken is_shift_jis_pointer jis0208 c) m.0 m.1 in
+        two_bytes (shift_jis_front jis0208) _ _ c bytes m.2 (λ more. shift_jis_pair_back jis0208 m.0 c more short empty back)
 
 -- ---- EUC-JP
 
@@ -230,7 +231,8 @@ euc_jp-decodes jis0208 jis0212 c bytes no_fold h =
         two_bytes (euc_jp_front jis0208 jis0212) 0x8E (0xA1 + (c - 0xFF61)) c bytes bytes_are (λ more. rw (k, c_is) refl)
     by_tests false false e f h =
         let m = mapped euc_jp_bytes (euc_jp_pointer_of jis0208 c) bytes h in
-        two_bytes (euc_jp_front jis0208 jis0212) _ _ c bytes m.2 (λ more. euc_jp_pair_back jis0208 jis0212 m.0 c more (leads_back is_jis0208_pointer jis0208 c _ (first-taken is_jis0208_pointer jis0208 c) m.0 m.1))
+        let back = leads_back is_jis0208_pointer jis0208 c _ (first-taken is_jis0208_pointer jis0208 c) m.0 m.1 in
+        two_bytes (euc_jp_front jis0208 jis0212) _ _ c bytes m.2 (λ more. euc_jp_pair_back jis0208 jis0212 m.0 c more back)
 
 -- ---- single-byte and x-user-defined
 

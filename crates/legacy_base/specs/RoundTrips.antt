@@ -68,8 +68,8 @@ is_fold _ c = false
 
 -- ---- the law
 
--- A text that a new encoder writes in full: these bytes are all that it gives up to the end, so no scalar is unmappable;
--- and no scalar of the text is a fold.
+-- A text that a new encoder writes in full: these bytes are all that it gives up to the end, so that no scalar is
+-- unmappable; and no scalar of the text is a fold.
 pub record IsEncodedAs (codec : Codec) (text bytes : List ℕ) : Type 0 where
   pub whole : encoded (new_encoder codec) text true ≡ map Byte bytes
   pub unfolded : list_any (is_fold codec) text ≡ false

@@ -78,7 +78,7 @@ pub no_end_left : {from : RunPlace EncoderState} {lengths : List ℕ} {calls : �
 no_end_left r h = subst HasNoEnd r.state (reaches-finished r.reaches h).1
 
 -- it gives all events
-finished_encodes : {before : EncoderState} {scalars : List ℕ} {answered : List EncodeEvent} → FinishedEncodeRun before scalars answered → encoded before scalars true ≡ answered
+pub finished_encodes : {before : EncoderState} {scalars : List ℕ} {answered : List EncodeEvent} → FinishedEncodeRun before scalars answered → encoded before scalars true ≡ answered
 finished_encodes {before = before} {answered = answered} f =
     let b = is_encode_beginning _ _ f.run in
     ap (λ l. encoded before l true) (sym f.same) ∙ b.whole ∙ ap (λ l. answered ++ l) (b.all refl) ∙ append-nil answered

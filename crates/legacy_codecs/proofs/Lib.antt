@@ -6,6 +6,7 @@ pub mod RunSteps
 pub mod QueriedLengths
 pub mod AmpleLengths
 pub mod EncodeRunEvents
+pub mod RoundTripRuns
 pub mod AmpleOutputs
 pub mod EncodeLengths
 pub mod Replaced

@@ -108,7 +108,7 @@ pub none_left : {form : EncodingForm} {from : RunPlace DecoderState} {lengths : 
 none_left r h = subst HasNoneLeft r.state (Reaches-finished r.reaches h).1
 
 -- it gives all events
-finished_gives : {before : DecoderState} {bytes : List ℕ} {answered : List DecodeEvent} → FinishedRun before bytes answered →
+pub finished_gives : {before : DecoderState} {bytes : List ℕ} {answered : List DecodeEvent} → FinishedRun before bytes answered →
     placed (length before.held) (events_of before.grammar (before.held ++ bytes)) ≡ answered
 finished_gives {before = before} {answered = answered} f =
     let b = is_beginning f.run in

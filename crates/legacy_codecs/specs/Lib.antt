@@ -3,6 +3,7 @@ pub mod Scalars
 pub mod Pieces
 pub mod Runs
 pub mod EncodeRuns
+pub mod RoundTripRuns
 pub mod Filling
 pub mod EncodeFilling
 pub mod Replacing

@@ -1,9 +1,11 @@
 //! Laws of many calls together, each as the contract of a function that does nothing.
 ghost use Rattle.legacy_base.specs.Lengths.{to_utf16, to_utf8, to_utf8_without_replacement};
 ghost use Rattle.legacy_base.specs.EncodingForm.{Utf8, Utf16};
+ghost use Rattle.legacy_base.specs.RoundTrips.{RoundTrips, EscapesAreInPlace};
 ghost use Rattle.legacy_codecs.specs.Filling.{QueriedLengthSuffices};
 ghost use Rattle.legacy_codecs.specs.EncodeFilling.{EncodeQueriedLengthSuffices};
 ghost use Rattle.legacy_codecs.specs.EncodeRuns.{EncodeCutsDoNotMatter};
+ghost use Rattle.legacy_codecs.specs.RoundTripRuns.{RunsEncode, RunsRoundTrip};
 ghost use Rattle.legacy_codecs.specs.Runs.{CutsDoNotMatter};
 
 pub use legacy_decoders::laws::{lists_are_read_by_fronts, nothing_has_no_events};
@@ -47,4 +49,26 @@ pub fn encode_queried_length_suffices()
 /// finished, they answer the same bytes and the same unmappable scalars in the same order.
 pub fn encode_cuts_do_not_matter()
     ensures { EncodeCutsDoNotMatter }
+{}
+
+/// What was encoded decodes to the same text.
+///
+/// Let a new encoder write a text to its end, with no scalar unmappable. Then the decoder of the same
+/// encoding, over the same tables, reads the bytes as the scalars of the text, and nothing is malformed:
+/// GBK is read as GB18030, and an ISO-2022-JP decoder begins in ASCII mode. The text may hold no fold, a
+/// scalar that is written with the bytes of another one: in EUC-JP and Shift_JIS U+00A5, U+203E and
+/// U+2212, in ISO-2022-JP U+2212 and U+FF61 to U+FF9F, and in GB18030 and GBK those scalars of the
+/// private-use rows whose bytes do not decode to them.
+///
+/// What an ISO-2022-JP encoder wrote of such a text ends in ASCII mode: bytes behind it are read as from
+/// there, where they do not begin with an escape of their own. No two escapes in it are adjacent.
+///
+/// The same holds of runs: what a finished run of an encoder wrote is that of its text, from UTF-8 and
+/// UTF-16, and any finished run of a decoder over it answers the scalars of the text, however both are
+/// cut and whatever lengths the outputs have.
+pub fn round_trips()
+    ensures texts { RoundTrips }
+    ensures escapes { EscapesAreInPlace }
+    ensures written { RunsEncode }
+    ensures runs { RunsRoundTrip }
 {}
