@@ -1,7 +1,7 @@
 -- What is known of indexes and single-byte tables that passed their check.
 use Rattle.std.proofs.Common.{◌≡◌, ◌≢◌, ◌∙◌, ℕ, zero, suc, ◌+◌, ◌-◌, ◌≤◌, ◌<◌, List, [], ◌∷◌, length, get_or, add-one, refl}
 use Rattle.std.proofs.Common.{sym, arith, Some, None, Option, true, false, Bool, ◌&&◌, ◌||◌, not, cond, eq-eqb, nat_le, nat_lt, subst, ◌==◌}
-use Rattle.std.proofs.lemmas.Bool.{eqb-true}
+use Rattle.std.proofs.lemmas.Bool.{eqb-true, false≢true}
 use Rattle.std.proofs.lemmas.Bool.Decides.{nat_tests}
 use Rattle.std.proofs.lemmas.List.Elements.{All-nil, All-cons}
 use Rattle.std.proofs.lemmas.List.Sorted.{IsNonDecreasingBy-from_all_adjacent}
@@ -17,6 +17,7 @@ use Rattle.legacy_base.specs.declared.tables.TableError.{TableError}
 use Rattle.legacy_base.specs.declared.tables.TableError.TheVariants.{TooLong, BadEntry, KatakanaLength, RangeOrder, RangeValue}
 use Rattle.legacy_base.specs.Indexes.{FlatIndexes, entry_scalar, idx, range, last_range_scalar}
 use Rattle.legacy_base.specs.Unicode.{AreScalars}
+use Rattle.legacy_base.specs.Tables.{index_list, is_narrow_index}
 use Rattle.legacy_base.specs.TableChecks.{is_narrow_entry, is_entry, entry_fault, entries_fault, index_fault, katakana_fault, range_order_fault, AreAccepted}
 use Rattle.legacy_base.specs.TableChecks.{follows_range, next_pointer, has_range_scalars, range_value_fault, rows_fault, table_fault}
 
@@ -147,6 +148,26 @@ module _ (flat : FlatIndexes) (accepted : AreAccepted flat) where
 
   pub length-gb18030 : length flat.gb18030 ≤ 23940
   length-gb18030 = (parts flat accepted).gb18030.0
+
+  -- ---- indexes by their names
+
+  pub index-scalars : (name : IndexName) → AreScalars (index_list flat name)
+  index-scalars names.Big5 = big5-scalars
+  index-scalars names.EucKr = euc_kr-scalars
+  index-scalars names.Jis0208 = jis0208-scalars
+  index-scalars names.Jis0212 = jis0212-scalars
+  index-scalars names.Gb18030 = gb18030-scalars
+  index-scalars names.Katakana = katakana-scalars
+  index-scalars names.Ranges = All-nil IsScalar
+
+  pub narrow_index : (name : IndexName) → is_narrow_index name ≡ true → All (λ c. c < 0x1_0000) (index_list flat name) × (length (index_list flat name) ≤ 65535)
+  narrow_index names.EucKr e = (euc_kr-below, let most = length-euc_kr in omega arith)
+  narrow_index names.Jis0208 e = (jis0208-below, let most = length-jis0208 in omega arith)
+  narrow_index names.Jis0212 e = (jis0212-below, let most = (parts flat accepted).jis0212.0 in omega arith)
+  narrow_index names.Gb18030 e = (gb18030-below, let most = length-gb18030 in omega arith)
+  narrow_index names.Big5 e = absurd (false≢true e)
+  narrow_index names.Katakana e = absurd (false≢true e)
+  narrow_index names.Ranges e = absurd (false≢true e)
 
 -- ---- accepted ranges
 

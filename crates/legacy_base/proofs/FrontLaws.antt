@@ -15,7 +15,7 @@ use Rattle.legacy_base.specs.Profile.{is_lead}
 use Rattle.legacy_base.specs.SingleByte.{single_byte_front}
 use Rattle.legacy_base.specs.UserDefined.{user_defined_front}
 use Rattle.legacy_base.specs.Big5.{big5_pointer, big5_scalars, big5_pair, big5_front}
-use Rattle.legacy_base.specs.EucKr.{euc_kr_pair, euc_kr_front}
+use Rattle.legacy_base.specs.LeadForms.{lead_pair, lead_front}
 use Rattle.legacy_base.specs.ShiftJis.{is_shift_jis_lead, shift_jis_pointer, shift_jis_scalars, shift_jis_pair, shift_jis_front}
 use Rattle.legacy_base.specs.EucJp.{is_euc_jp_lead, euc_jp_scalars, euc_jp_katakana, euc_jp_third, euc_jp_second, euc_jp_pair, euc_jp_front}
 use Rattle.legacy_base.specs.Gb18030.{gb18030_scalars, gb18030_range_pointer, gb18030_fourth, gb18030_third, gb18030_second, gb18030_front}
@@ -131,11 +131,10 @@ module _ {P : Type 0} (index : List ℕ) (checked : P → AreScalars index) wher
   big5_front-of b rest =
       ascii_or b rest _ (front_of-cond _ (is_lead b) _ _ (λ _. pair _ rest (λ t. give-pointer (big5_scalars index) (big5_pointer b t) big5-gives)) (bad rest))
 
-  pub euc_kr_front-of : (b : ℕ) (rest : List ℕ) → IsFrontOf (suc (length rest)) P (euc_kr_front index b rest)
-  unfolding euc_kr_front euc_kr_pair
-  euc_kr_front-of b rest =
-      ascii_or b rest _
-      (front_of-cond _ (is_lead b) _ _ (λ _. pair _ rest (λ t. give-cond (is_in_range 0x41 0xFE t) _ _ (λ _. give-idx index checked _) give-none)) (bad rest))
+  pub lead_front-of : (is_lead_byte : ℕ → Bool) (pointers : ℕ → ℕ → Option ℕ) (b : ℕ) (rest : List ℕ) → IsFrontOf (suc (length rest)) P (lead_front is_lead_byte pointers index b rest)
+  unfolding lead_front lead_pair
+  lead_front-of is_lead_byte pointers b rest =
+      ascii_or b rest _ (front_of-cond _ (is_lead_byte b) _ _ (λ _. pair _ rest (λ t. give-pointer _ (pointers b t) (give-idx index checked))) (bad rest))
 
   shift_jis-gives : (p : ℕ) → MayGive P (shift_jis_scalars index p)
   shift_jis-gives p = give-cond (is_in_range 8836 10715 p) _ _ (λ e. give-one _ (λ _. shift_jis-private p e)) (give-idx index checked p)

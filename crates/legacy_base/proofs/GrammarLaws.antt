@@ -5,14 +5,15 @@ use Rattle.legacy_base.specs.Fronts.{Front, front_length, front_events, cut}
 use Rattle.legacy_base.specs.Iso2022Jp.{parts_of, part_mode, escape_length, escape_events, part_events, parts_events, iso_2022_jp_events}
 use Rattle.legacy_base.specs.Utf16.{units_of, has_odd_byte, units_events, utf16_events}
 use Rattle.legacy_base.specs.Replacement.{replacement_events}
-use Rattle.legacy_base.specs.Grammar.{Grammar, single_byte, user_defined, replacement, big5, euc_kr, shift_jis, euc_jp, gb18030, events_of}
+use Rattle.legacy_base.specs.Grammar.{Grammar, single_byte, user_defined, replacement, plain, big5, shift_jis, euc_jp, gb18030, events_of}
 use Rattle.legacy_base.specs.States.{may_hold, rests}
 use Rattle.legacy_base.specs.Laws.{IsFrontOf, IsReadByFronts, AreReadByFronts, HasNoneOfNothing}
 use Rattle.legacy_base.specs.Unicode.{IsByte}
-use Rattle.legacy_base.proofs.Accepted.{big5-scalars, euc_kr-scalars, jis0208-scalars, jis0212-scalars, gb18030-scalars, range-scalar}
+use Rattle.legacy_base.specs.Tables.{index_list}
+use Rattle.legacy_base.proofs.Accepted.{index-scalars, big5-scalars, jis0208-scalars, jis0212-scalars, gb18030-scalars, range-scalar}
 use Rattle.legacy_base.proofs.AcceptedTable.{table-scalars}
 use Rattle.legacy_base.proofs.Cuts.{cut-front}
-use Rattle.legacy_base.proofs.FrontLaws.{single_byte_front-of, user_defined_front-of, big5_front-of, euc_kr_front-of, shift_jis_front-of, euc_jp_front-of, gb18030_front-of}
+use Rattle.legacy_base.proofs.FrontLaws.{single_byte_front-of, user_defined_front-of, lead_front-of, big5_front-of, shift_jis_front-of, euc_jp_front-of, gb18030_front-of}
 
 read_by : (grammar : Grammar) (accepted : Type 0) (front : ℕ → List ℕ → Front) → ((bytes : List ℕ) → events_of grammar bytes ≡ cut front 0 0 bytes) →
     ((b : ℕ) (rest : List ℕ) → IsFrontOf (length (b ∷ rest)) (accepted × IsByte b) (front b rest)) → IsReadByFronts grammar accepted front
@@ -25,8 +26,9 @@ unfolding events_of
 read_by_fronts = record {
   single_byte_is = λ table. read_by (single_byte table) _ _ (λ bytes. refl) (λ b. single_byte_front-of table (λ a. table-scalars table a.0) b);
   user_defined_is = read_by user_defined _ _ (λ bytes. refl) (λ b. user_defined_front-of b (λ a. a.1));
+  plain_is = λ is_lead_byte pointers name flat. read_by (plain is_lead_byte pointers (index_list flat name)) _ _ (λ bytes. refl)
+      (λ b. lead_front-of (index_list flat name) (λ a. index-scalars flat a.0 name) is_lead_byte pointers b);
   big5_is = λ flat. read_by (big5 flat.big5) _ _ (λ bytes. refl) (λ b. big5_front-of flat.big5 (λ a. big5-scalars flat a.0) b);
-  euc_kr_is = λ flat. read_by (euc_kr flat.euc_kr) _ _ (λ bytes. refl) (λ b. euc_kr_front-of flat.euc_kr (λ a. euc_kr-scalars flat a.0) b);
   shift_jis_is = λ flat. read_by (shift_jis flat.jis0208) _ _ (λ bytes. refl) (λ b. shift_jis_front-of flat.jis0208 (λ a. jis0208-scalars flat a.0) b);
   euc_jp_is = λ flat. read_by (euc_jp flat.jis0208 flat.jis0212) _ _ (λ bytes. refl)
       (λ b. euc_jp_front-of flat.jis0208 flat.jis0212 (λ a. jis0208-scalars flat a.0) (λ a. jis0212-scalars flat a.0) b);

@@ -1,42 +1,15 @@
--- The forms of EUC-KR (WHATWG Encoding Standard, "EUC-KR decoder").
-use Rattle.std.specs.Prelude.{ℕ, ◌+◌, ◌-◌, ◌*◌, List, [], ◌∷◌, length, true, false, if◌then◌else◌, option_to_list}
+-- EUC-KR (WHATWG Encoding Standard, "EUC-KR decoder"): a plain codec.
+use Rattle.std.specs.Prelude.{ℕ, ◌+◌, ◌-◌, ◌*◌, List, Option, Some, None, if◌then◌else◌}
 use Rattle.std.specs.Int.{is_in_range}
-use Rattle.std.specs.Char.{is_ascii}
-use Rattle.legacy_base.specs.Fronts.{Front, reads, malformed, trail_front, cut}
-use Rattle.legacy_base.specs.Indexes.{idx}
-use Rattle.legacy_base.specs.Profile.{Profile, narrow_acts, is_lead, single_lead_may_hold, always_rests}
-use Rattle.legacy_base.specs.Formulas.{weighed, constant, ◌⊞◌, ◌⊠◌, halved}
+use Rattle.legacy_base.specs.Profile.{is_lead}
+use Rattle.legacy_base.specs.Grammar.{Grammar, plain}
 
--- the scalar of a lead and a trail, if there is one
-abbrev pub euc_kr_scalars : List ℕ → ℕ → ℕ → List ℕ
-euc_kr_scalars index lead trail =
-    if is_in_range 0x41 0xFE trail then option_to_list (idx index ((lead - 0x81) * 190 + (trail - 0x41)))
-    else []
+-- the pointer of a lead and a trail, or none where the second byte is no trail
+abbrev pub euc_kr_pointer : ℕ → ℕ → Option ℕ
+euc_kr_pointer lead trail =
+    if is_in_range 0x41 0xFE trail then Some ((lead - 0x81) * 190 + (trail - 0x41))
+    else None
 
--- the front after a lead
-unfoldable pub euc_kr_pair : List ℕ → ℕ → List ℕ → Front
-euc_kr_pair index lead rest = trail_front 1 (euc_kr_scalars index lead) rest
-
--- the front of a list that begins with b
-unfoldable pub euc_kr_front : List ℕ → ℕ → List ℕ → Front
-euc_kr_front index b rest =
-    if is_ascii b then reads 1 (b ∷ [])
-    else if is_lead b then euc_kr_pair index b rest
-    else malformed 1
-
--- the codec
-abbrev pub euc_kr_profile : List ℕ → Profile
-euc_kr_profile index = record {
-  events = cut (euc_kr_front index) 0 0;
-  may_hold = single_lead_may_hold is_lead;
-  rests = always_rests;
-  begins_in_ascii = true;
-  rooms = narrow_acts;
-  short_ascii = true;
-  reported = false;
-  marks = false;
-  weight = length;
-  utf16_length = weighed;
-  utf8_length = constant 3 ⊠ weighed;
-  utf8_length_without_replacement = constant 2 ⊞ (weighed ⊞ halved (weighed ⊞ constant 1));
-}
+-- the codec: its leads are 81 to FE, and its index is index EUC-KR
+abbrev pub euc_kr : List ℕ → Grammar
+euc_kr index = plain is_lead euc_kr_pointer index

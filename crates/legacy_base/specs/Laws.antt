@@ -1,17 +1,19 @@
 -- What is proved of the definitions themselves.
-use Rattle.std.specs.Prelude.{◌≡◌, ℕ, ◌<◌, ◌≤◌, List, [], ◌∷◌, ◌++◌, length, drop}
+use Rattle.std.specs.Prelude.{◌≡◌, ℕ, ◌<◌, ◌≤◌, List, [], ◌∷◌, ◌++◌, length, drop, Bool, Option}
+use Rattle.legacy_base.specs.declared.tables.IndexName.{IndexName}
 use Rattle.legacy_base.specs.Events.{shift}
 use Rattle.legacy_base.specs.Fronts.{Front, reads, malformed, front_length, front_events}
 use Rattle.legacy_base.specs.SingleByte.{single_byte_front}
 use Rattle.legacy_base.specs.UserDefined.{user_defined_front}
 use Rattle.legacy_base.specs.Big5.{big5_front}
-use Rattle.legacy_base.specs.EucKr.{euc_kr_front}
+use Rattle.legacy_base.specs.LeadForms.{lead_front}
 use Rattle.legacy_base.specs.ShiftJis.{shift_jis_front}
 use Rattle.legacy_base.specs.EucJp.{euc_jp_front}
 use Rattle.legacy_base.specs.Gb18030.{gb18030_front}
-use Rattle.legacy_base.specs.Grammar.{Grammar, single_byte, user_defined, big5, euc_kr, shift_jis, euc_jp, gb18030, events_of}
+use Rattle.legacy_base.specs.Grammar.{Grammar, single_byte, user_defined, plain, big5, shift_jis, euc_jp, gb18030, events_of}
 use Rattle.legacy_base.specs.Indexes.{FlatIndexes}
 use Rattle.legacy_base.specs.TableChecks.{AreAccepted, IsAcceptedTable}
+use Rattle.legacy_base.specs.Tables.{index_list}
 use Rattle.legacy_base.specs.Unicode.{IsByte, AreScalars}
 
 -- the scalars of a front, and none of malformed bytes
@@ -41,12 +43,15 @@ IsReadByFronts grammar accepted front = (b : ℕ) (rest : List ℕ) →
     × (events_of grammar (b ∷ rest)
     ≡ front_events 0 (front b rest) ++ shift (front_length (front b rest)) (events_of grammar (drop (front_length (front b rest)) (b ∷ rest))))
 
--- the seven grammars that are, by any lists, accepted or not
+-- The grammars that are, by any lists, accepted or not: six of one codec each, and those of the plain codecs of leads and
+-- trails, of which EUC-KR is one, with any of the indexes.
 pub record AreReadByFronts : Type 0 where
   pub single_byte_is : (table : List ℕ) → IsReadByFronts (single_byte table) (IsAcceptedTable table) (single_byte_front table)
   pub user_defined_is : IsReadByFronts user_defined Unit user_defined_front
+  pub plain_is : (is_lead_byte : ℕ → Bool) (pointers : ℕ → ℕ → Option ℕ) (name : IndexName) (flat : FlatIndexes) →
+      IsReadByFronts (plain is_lead_byte pointers (index_list flat name)) (AreAccepted flat)
+      (lead_front is_lead_byte pointers (index_list flat name))
   pub big5_is : (flat : FlatIndexes) → IsReadByFronts (big5 flat.big5) (AreAccepted flat) (big5_front flat.big5)
-  pub euc_kr_is : (flat : FlatIndexes) → IsReadByFronts (euc_kr flat.euc_kr) (AreAccepted flat) (euc_kr_front flat.euc_kr)
   pub shift_jis_is : (flat : FlatIndexes) → IsReadByFronts (shift_jis flat.jis0208) (AreAccepted flat) (shift_jis_front flat.jis0208)
   pub euc_jp_is : (flat : FlatIndexes) →
       IsReadByFronts (euc_jp flat.jis0208 flat.jis0212) (AreAccepted flat) (euc_jp_front flat.jis0208 flat.jis0212)

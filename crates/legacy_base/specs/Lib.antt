@@ -12,14 +12,15 @@ pub mod Profile
 pub mod SingleByte
 pub mod UserDefined
 pub mod Replacement
+pub mod LeadForms
 pub mod Big5
-pub mod EucKr
 pub mod ShiftJis
 pub mod EucJp
 pub mod Gb18030
 pub mod Iso2022Jp
 pub mod Utf16
 pub mod Grammar
+pub mod EucKr
 pub mod States
 pub mod Acts
 pub mod Lengths

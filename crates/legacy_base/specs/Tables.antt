@@ -1,5 +1,5 @@
 -- The flat lists of handed-in indexes, and the list of an index by its name.
-use Rattle.std.specs.Prelude.{ℕ, List, []}
+use Rattle.std.specs.Prelude.{ℕ, List, [], Bool, true, false}
 use Rattle.legacy_base.specs.declared.tables.Indexes.{Indexes}
 use Rattle.legacy_base.specs.declared.tables.IndexName.{IndexName}
 use Rattle.legacy_base.specs.declared.tables.IndexName.TheVariants as names
@@ -21,3 +21,11 @@ index_list flat names.Jis0212 = flat.jis0212
 index_list flat names.Gb18030 = flat.gb18030
 index_list flat names.Katakana = flat.katakana
 index_list flat names.Ranges = []
+
+-- the index is one of pairs, and has no scalar past U+FFFF
+abbrev pub is_narrow_index : IndexName → Bool
+is_narrow_index names.EucKr = true
+is_narrow_index names.Jis0208 = true
+is_narrow_index names.Jis0212 = true
+is_narrow_index names.Gb18030 = true
+is_narrow_index _ = false

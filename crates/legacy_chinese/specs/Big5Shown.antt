@@ -12,7 +12,7 @@ use Rattle.legacy_decoder_engine.specs.Costs.{units, IsWidth}
 use Rattle.legacy_decoder_engine.specs.Settling.{IsOneOrMarked}
 use Rattle.legacy_decoder_engine.proofs.Widths.{idx_units}
 use Rattle.legacy_decoder_engine.proofs.SettledSteps.{one_test, one_option}
-use Rattle.legacy_decoder_engine.proofs.TwoByteMeets.{IsTwoByte, lead_byte_below, lead_first_is, lead_front_is}
+use Rattle.legacy_decoder_engine.proofs.TwoByteMeets.{IsTwoByte, is_lead-past, lead_byte_below, lead_first_is, lead_front_is}
 use Rattle.legacy_decoder_engine.proofs.TwoByteCosts.{units_test}
 use Rattle.legacy_decoder_engine.proofs.TwoByteShown.{HasTwoByteRooms, lead_codec}
 use Rattle.legacy_decoder_engine.specs.LeadCodecs.{IsLeadCodec}
@@ -39,11 +39,11 @@ module _ (len : ℕ → ℕ) (narrow wide : ℕ) (w : IsWidth len narrow wide) w
       (λ f. units_test len narrow wide w wide (p == 1166) (0xEA ∷ 0x30C ∷ []) _ (λ g. two_units 0xEA 0x30C (omega arith) (omega arith))
       (λ g. idx_units len narrow wide w index p))))
 
-is : (index : List ℕ) → IsTwoByte (big5 index) (big5_front index) is_lead lead_first (big5_pair_scalars index)
+is : (index : List ℕ) → IsTwoByte (big5 index) (big5_front index) is_lead (lead_first is_lead) (big5_pair_scalars index)
 unfolding big5_front big5_pair
 is index = record {
   profile_is = refl;
-  front_is = λ b. elim [ [] ↦ lead_front_is (big5_pair_scalars index b) [] _ b refl | t ∷ rest ↦ lead_front_is (big5_pair_scalars index b) (t ∷ rest) _ b refl ];
+  front_is = λ b. elim [ [] ↦ lead_front_is is_lead (big5_pair_scalars index b) [] _ b refl | t ∷ rest ↦ lead_front_is is_lead (big5_pair_scalars index b) (t ∷ rest) _ b refl ];
   pair_one = λ lead t. one index (big5_pointer lead t);
 }
 
@@ -56,6 +56,6 @@ rooms index = record {
   holds = elim [ to_utf16 ↦ λ b held. omega arith | _ ↦ λ b held. omega arith ];
 }
 
-pub big5_codec : IsLeadCodec (λ flat. big5 flat.big5) is_lead lead_first (λ flat. big5_pair_scalars flat.big5)
-big5_codec = lead_codec (λ flat. big5 flat.big5) (λ flat. big5_front flat.big5) is_lead lead_first (λ flat. big5_pair_scalars flat.big5) (λ flat. is flat.big5)
-    4 (lead_first_is 4 (omega arith)) (λ flat accepted. rooms flat.big5) lead_byte_below
+pub big5_codec : IsLeadCodec (λ flat. big5 flat.big5) is_lead (lead_first is_lead) (λ flat. big5_pair_scalars flat.big5)
+big5_codec = lead_codec (λ flat. big5 flat.big5) (λ flat. big5_front flat.big5) is_lead (lead_first is_lead) (λ flat. big5_pair_scalars flat.big5) (λ flat. is flat.big5)
+    4 (lead_first_is is_lead is_lead-past 4 (omega arith)) (λ flat accepted. rooms flat.big5) (lead_byte_below is_lead is_lead-past)

@@ -16,4 +16,5 @@ pub mod SettledSteps
 pub mod TwoByteCosts
 pub mod TwoByteMeets
 pub mod TwoByteShown
+pub mod PlainShown
 pub mod Turns

@@ -2,9 +2,9 @@
 use Rattle.std.proofs.Common.{◌≡◌, ℕ, ◌*◌, ◌≤◌, List, [], ◌∷◌, length, Bool, true, false, cond, refl, arith}
 use Rattle.std.proofs.lemmas.Bool.{ltb-true}
 use Rattle.std.proofs.lemmas.Bool.Decides.{nat_tests}
-use Rattle.std.specs.Int.{is_in_range}
 use Rattle.std.specs.Char.{is_ascii}
 use Rattle.legacy_base.specs.Fronts.{malformed}
+use Rattle.legacy_base.specs.Unicode.{is_katakana_byte}
 use Rattle.legacy_decoder_engine.specs.Steps.{Step, finish, leave, trail_step}
 use Rattle.legacy_decoder_engine.specs.Costs.{units, IsWidth, Cost}
 use Rattle.legacy_decoder_engine.proofs.TwoByteMeets.{IsFirst, ascii, other, leads, fails}
@@ -15,7 +15,7 @@ pub cost_test : (len : ℕ → ℕ) (narrow at_most : ℕ) (wt : List ℕ → �
 cost_test len narrow at_most wt slope held b true s₁ s₂ f₁ f₂ = f₁ refl
 cost_test len narrow at_most wt slope held b false s₁ s₂ f₁ f₂ = f₂ refl
 
-pub katakana_below : (b : ℕ) → is_in_range 0xA1 0xDF b ≡ true → b ≤ 0xDF
+pub katakana_below : (b : ℕ) → is_katakana_byte b ≡ true → b ≤ 0xDF
 katakana_below b h = grind (arith, nat_tests)
 
 module _ (len : ℕ → ℕ) (narrow wide : ℕ) (w : IsWidth len narrow wide) where

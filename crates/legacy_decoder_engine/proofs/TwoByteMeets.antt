@@ -2,6 +2,7 @@
 use Rattle.std.proofs.Common.{◌≡◌, ◌∙◌, ℕ, ◌<◌, ◌≤◌, List, [], ◌∷◌, length, Bool, true, false, cond, refl, ap, arith}
 use Rattle.std.proofs.lemmas.Bool.{false≢true}
 use Rattle.std.proofs.lemmas.Bool.Decides.{nat_tests}
+use Rattle.std.specs.Int.{is_in_range}
 use Rattle.std.specs.Char.{is_ascii}
 use Rattle.legacy_base.specs.Fronts.{Front, reads, malformed, reads_or, trail_rule, cut}
 use Rattle.legacy_base.specs.Profile.{Profile, always_rests}
@@ -10,6 +11,7 @@ use Rattle.legacy_base.specs.States.{is_lead, single_lead_may_hold, may_hold, re
 use Rattle.legacy_base.specs.Acts.{has_marks}
 use Rattle.legacy_decoder_engine.specs.Steps.{Step, hold, finish, end_events, Meets}
 use Rattle.legacy_decoder_engine.specs.LeadMachines.{two_byte_step, two_byte_machine, lead_first}
+use Rattle.legacy_decoder_engine.specs.LeadCodecs.{IsPastAscii}
 use Rattle.legacy_decoder_engine.specs.Settling.{IsOneOrMarked, Settles}
 use Rattle.legacy_base.proofs.Cuts.{cut-nil}
 use Rattle.legacy_decoder_engine.proofs.FrontMoves.{Fits, fits_trail, fits_meets, end_meets}
@@ -145,22 +147,37 @@ pub front_test : (scalars : ℕ → List ℕ) (rest : List ℕ) (t : Bool) (f₁
 front_test scalars rest true f₁ f₂ s₁ s₂ e₁ e₂ = e₁
 front_test scalars rest false f₁ f₂ s₁ s₂ e₁ e₂ = e₂
 
+-- ---- codecs whose first bytes are ASCII, leads past ASCII, or malformed
+
+module _ (is_lead_byte : ℕ → Bool) (are_leads : (b : ℕ) → is_lead_byte b ≡ true → IsPastAscii b) where
+  pub lead_byte_below : (b : ℕ) → is_lead_byte b ≡ true → b < 0x100
+  lead_byte_below b h = (are_leads b h).1
+
+  ascii_no_lead : (b : ℕ) → is_ascii b ≡ true → is_lead_byte b ≡ false
+  ascii_no_lead b a = by (is_lead_byte b) refl
+    where
+      by : (t : Bool) → is_lead_byte b ≡ t → t ≡ false
+      by true e = let past = (are_leads b e).0 in absurd (grind (arith, nat_tests))
+      by false e = refl
+
+  pub lead_first_is : (paid : ℕ) → 2 ≤ paid → (b : ℕ) → IsFirst is_lead_byte paid b (lead_first is_lead_byte b)
+  lead_first_is paid enough b =
+      first_test is_lead_byte paid b (is_ascii b) (finish (reads 1 (b ∷ []))) _ (λ a. ascii refl a (ascii_no_lead b a) enough)
+      (λ a. first_test is_lead_byte paid b (is_lead_byte b) hold (finish (malformed 1)) (λ l. leads refl a l) (λ l. fails refl a l))
+
+pub lead_front_is : (is_lead_byte : ℕ → Bool) (scalars : ℕ → List ℕ) (rest : List ℕ) (pair : Front) (b : ℕ) → pair ≡ step_front scalars rest hold →
+    cond (is_ascii b) (reads 1 (b ∷ [])) (cond (is_lead_byte b) pair (malformed 1)) ≡ step_front scalars rest (lead_first is_lead_byte b)
+lead_front_is is_lead_byte scalars rest pair b e =
+    front_test scalars rest (is_ascii b) _ _ (finish (reads 1 (b ∷ []))) _ refl (front_test scalars rest (is_lead_byte b) _ _ hold (finish (malformed 1)) e refl)
+
+pub range-past : (low high : ℕ) → 0x80 ≤ low → high < 0x100 → (b : ℕ) → is_in_range low high b ≡ true → IsPastAscii b
+range-past low high from to b h = (grind (arith, nat_tests), grind (arith, nat_tests))
+
 -- ---- codecs whose leads are 81 to FE
 
-pub lead_byte_below : (b : ℕ) → is_lead b ≡ true → b < 0x100
-lead_byte_below b h = grind (arith, nat_tests)
+pub is_lead-past : (b : ℕ) → is_lead b ≡ true → IsPastAscii b
+is_lead-past = range-past 0x81 0xFE (omega arith) (omega arith)
 
 pub is_lead-in : (b : ℕ) → 0x81 ≤ b → b ≤ 0xFE → is_lead b ≡ true
 is_lead-in b low high = grind (arith, nat_tests)
 
-ascii_no_lead : (b : ℕ) → is_ascii b ≡ true → is_lead b ≡ false
-ascii_no_lead b a = grind (arith, nat_tests)
-
-pub lead_first_is : (paid : ℕ) → 2 ≤ paid → (b : ℕ) → IsFirst is_lead paid b (lead_first b)
-lead_first_is paid enough b =
-    first_test is_lead paid b (is_ascii b) (finish (reads 1 (b ∷ []))) _ (λ a. ascii refl a (ascii_no_lead b a) enough)
-    (λ a. first_test is_lead paid b (is_lead b) hold (finish (malformed 1)) (λ l. leads refl a l) (λ l. fails refl a l))
-
-pub lead_front_is : (scalars : ℕ → List ℕ) (rest : List ℕ) (pair : Front) (b : ℕ) → pair ≡ step_front scalars rest hold →
-    cond (is_ascii b) (reads 1 (b ∷ [])) (cond (is_lead b) pair (malformed 1)) ≡ step_front scalars rest (lead_first b)
-lead_front_is scalars rest pair b e = front_test scalars rest (is_ascii b) _ _ (finish (reads 1 (b ∷ []))) _ refl (front_test scalars rest (is_lead b) _ _ hold (finish (malformed 1)) e refl)

@@ -1,5 +1,5 @@
 -- The codecs whose forms have one byte, or a lead and a trail: what their one decoder asks of each.
-use Rattle.std.specs.Prelude.{◌≡◌, ℕ, ◌<◌, List, [], ◌∷◌, Bool, true, false, length, Option, Some, None}
+use Rattle.std.specs.Prelude.{◌≡◌, ℕ, ◌<◌, ◌≤◌, List, [], ◌∷◌, Bool, true, false, length, Option, Some, None, MatchOption}
 use Rattle.std.specs.Char.{is_ascii}
 use Rattle.legacy_base.specs.Fronts.{reads}
 use Rattle.legacy_base.specs.Indexes.{FlatIndexes}
@@ -12,6 +12,14 @@ use Rattle.legacy_base.specs.Lengths.{weight}
 use Rattle.legacy_decoder_engine.specs.Steps.{Step, hold, finish}
 use Rattle.legacy_decoder_engine.specs.LeadMachines.{two_byte_machine}
 use Rattle.legacy_decoder_engine.specs.Shown.{IsShown}
+
+-- a byte past ASCII
+abbrev pub IsPastAscii : ℕ → Type 0
+IsPastAscii b = (0x80 ≤ b) × (b < 0x100)
+
+-- the byte as a lead, if it is one
+abbrev pub IsLeadOf : {L : Type 0} → (ℕ → Bool) → (L → ℕ) → ℕ → Option L → Type 0
+IsLeadOf is_lead_byte byte_of b lead = MatchOption lead (is_lead_byte b ≡ false) (λ l. (byte_of l ≡ b) × (is_lead_byte b ≡ true))
 
 -- nothing, or the byte of a lead
 abbrev pub held_bytes : {L : Type 0} → (L → ℕ) → Option L → List ℕ

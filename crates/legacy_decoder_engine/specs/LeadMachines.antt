@@ -1,9 +1,8 @@
 -- The machines of the codecs whose forms have one byte, or a lead and a trail.
-use Rattle.std.specs.Prelude.{ℕ, List, [], ◌∷◌, if◌then◌else◌}
+use Rattle.std.specs.Prelude.{ℕ, List, [], ◌∷◌, Bool, if◌then◌else◌}
 use Rattle.std.specs.Char.{is_ascii}
 use Rattle.legacy_base.specs.Fronts.{reads, malformed}
 use Rattle.legacy_base.specs.Grammar.{Grammar}
-use Rattle.legacy_base.specs.States.{is_lead}
 use Rattle.legacy_decoder_engine.specs.Steps.{no_pending}
 use Rattle.legacy_decoder_engine.specs.Steps.{Step, hold, finish, DecoderMachine, trail_step}
 
@@ -20,8 +19,8 @@ two_byte_machine g first scalars = record {
 }
 
 -- ASCII, a lead, or neither
-abbrev pub lead_first : ℕ → Step
-lead_first b =
+abbrev pub lead_first : (ℕ → Bool) → ℕ → Step
+lead_first is_lead_byte b =
     if is_ascii b then finish (reads 1 (b ∷ []))
-    else if is_lead b then hold
+    else if is_lead_byte b then hold
     else finish (malformed 1)

@@ -1,11 +1,16 @@
 -- The places of the bytes of a pair: their sum is its pointer. A byte that is none has a place past the end of every index.
-use Rattle.std.specs.Prelude.{◌≡◌, ℕ, ◌-◌, ◌*◌, List, map, if◌then◌else◌}
+use Rattle.std.specs.Prelude.{◌≡◌, ℕ, ◌≤◌, ◌-◌, ◌*◌, List, map, Option, Some, None, if◌then◌else◌}
 use Rattle.std.specs.List.{range_with_len}
 use Rattle.legacy_base.specs.States.{is_lead}
 
 -- the table has the place of every byte
 abbrev pub IsTableOf : (ℕ → ℕ) → List ℕ → Type 0
 IsTableOf place table = table ≡ map place (range_with_len 0 256)
+
+-- the pointer, or where there is none a number past the end of every index
+abbrev pub IsPointer : Option ℕ → ℕ → Type 0
+IsPointer None place = 65535 ≤ place
+IsPointer (Some pointer) place = place ≡ pointer
 
 -- the place of a lead from 81 to FE, in an index whose rows have 190 entries
 unfoldable pub lead_place : ℕ → ℕ

@@ -10,6 +10,7 @@ pub mod lead;
 pub mod moves;
 pub mod pairs;
 pub mod places;
+pub mod plain;
 pub mod runs;
 pub mod trail;
 pub mod two_byte;

@@ -1,11 +1,10 @@
 //! What the codecs with forms of one lead and one trail have in common.
-ghost use Rattle.std.specs.Prelude.{◌≡◌, ℕ, [], ◌∷◌, false, option_to_list};
+ghost use Rattle.std.specs.Prelude.{◌≡◌, ℕ, [], ◌∷◌, Bool, false, option_to_list};
 ghost use Rattle.legacy_decoder_engine.specs.Steps.{trail_step};
 ghost use Rattle.legacy_decoder_engine.specs.LeadMachines.{lead_first};
 ghost use Rattle.legacy_decoder_engine.specs.Feeding.{Took};
-ghost use Rattle.legacy_decoder_engine.specs.LeadCodecs.{held_bytes};
+ghost use Rattle.legacy_decoder_engine.specs.LeadCodecs.{IsLeadOf, held_bytes};
 
-use crate::held::Lead;
 use crate::moves::Fed;
 
 /// A malformed sequence that the byte ends, with nothing held back behind it.
@@ -20,16 +19,17 @@ pub fn fault_through(length: u8) -> Fed
     }
 }
 
-/// Reads the first byte of a form: ASCII is itself, 81 to FE is a lead and held back, and 80 and FF
-/// are malformed.
+/// Reads the first byte of a form, where this is the byte as a lead, if it is one: ASCII is itself, a
+/// lead is held back, and any other byte is malformed.
 #[inline]
-pub fn read_first(byte: u8) -> (Fed, Option<Lead>)
-    ensures { Took (lead_first byte) [] byte result.0 (held_bytes (λ l. l.byte) result.1) }
+pub fn read_first<L: Copy>(byte: u8, lead: Option<L>) -> (Fed, Option<L>)
+    ensures { (is_lead : ℕ → Bool) (byte_of : L → ℕ) → IsLeadOf is_lead byte_of byte lead
+        → Took (lead_first is_lead byte) [] byte result.0 (held_bytes byte_of result.1) }
 {
     if byte < 0x80 {
         return (Fed::One(char::from(byte)), None);
     }
-    match Lead::new(byte) {
+    match lead {
         Some(lead) => (Fed::Nothing, Some(lead)),
         None => (fault_through(1), None),
     }

@@ -5,6 +5,7 @@ use Rattle.std.proofs.lemmas.Bool.Decides.{nat_tests}
 use Rattle.std.specs.{Int.is_in_range, Char.is_ascii}
 use Rattle.legacy_base.specs.Fronts.{malformed, reads_or, trail_rule, cut}
 use Rattle.legacy_base.specs.EucJp.{euc_jp_front, euc_jp_katakana, euc_jp_second, euc_jp_third, euc_jp_pair, euc_jp_scalars, euc_jp_weight}
+use Rattle.legacy_base.specs.Unicode.{is_katakana_byte, katakana_of}
 use Rattle.legacy_base.specs.Grammar.{euc_jp, events_of}
 use Rattle.legacy_base.specs.{Acts.act_room, Acts.takes, Lengths.to_utf16}
 use Rattle.legacy_base.specs.States.{is_euc_jp_lead, euc_jp_may_hold, state_of}
@@ -112,11 +113,11 @@ module _ (jis0208 jis0212 : List ℕ) where
   second_shows : IsNarrowIndex jis0208 → (lead b : ℕ) → euc_jp_may_hold (lead ∷ []) ≡ true → Shows (lead ∷ []) b (euc_jp_second_step jis0208 lead b)
   unfolding euc_jp_katakana euc_jp_second euc_jp_pair
   second_shows narrow_index lead b h = cond_both (lead == 0x8E) _ _ (Shows (lead ∷ []) b)
-      (λ e. cond_both (is_in_range 0xA1 0xDF b) _ _ (Shows (lead ∷ []) b)
+      (λ e. cond_both (is_katakana_byte b) _ _ (Shows (lead ∷ []) b)
       (λ k. record {
         fits = (λ more. front_katakana lead (b ∷ more) e ∙ rw k, omega arith, omega arith, refl);
         settles = (refl, tt);
-        costs = λ len narrow wide w. let l = katakana_below b k in let q : len (0xFF61 + (b - 0xA1)) ≤ narrow = w.bmp (0xFF61 + (b - 0xA1)) (omega arith) in
+        costs = λ len narrow wide w. let l = katakana_below b k in let q : len (katakana_of b) ≤ narrow = w.bmp (katakana_of b) (omega arith) in
             record { fits = omega arith; pays = omega arith; pays_without = omega arith };
       })
       (λ k. one_shows lead b [] none_small (λ more. front_katakana lead (b ∷ more) e ∙ rw k)))

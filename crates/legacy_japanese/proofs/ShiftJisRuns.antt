@@ -4,6 +4,7 @@ use Rattle.std.proofs.lemmas.Bool.{cond_both}
 use Rattle.std.proofs.lemmas.Bool.Decides.{nat_tests}
 use Rattle.std.specs.{Char.IsScalar, Char.is_ascii, Int.is_in_range, Option.option_map_or, Prelude.option_to_list}
 use Rattle.legacy_base.specs.{AcceptedTables.AcceptedIndexes, Grammar.shift_jis, Indexes.idx}
+use Rattle.legacy_base.specs.Unicode.{is_katakana_byte, katakana_of}
 use Rattle.legacy_base.specs.ShiftJis.{is_shift_jis_lead, shift_jis_pointer, shift_jis_scalars}
 use Rattle.legacy_base.proofs.Accepted.{jis0208-below}
 use Rattle.legacy_decoder_engine.specs.{Ahead.Runs, Costs.IsNarrowIndex}
@@ -22,7 +23,7 @@ scalar_below jis0208 None c narrow e = cc
 scalar_below jis0208 (Some p) c narrow e = cond_both (is_in_range 8836 10715 p) ((0xE000 + (p - 8836)) ∷ []) (option_to_list (idx jis0208 p))
     (λ scalars. scalars ≡ c ∷ [] → c < 0x1_0000) (private_use_below p c) (λ t. idx_below jis0208 p c narrow) e
 
-katakana_tests : (b : ℕ) → 0xA1 ≤ b → b ≤ 0xDF → (is_ascii b ≡ false) × ((b == 0x80) ≡ false) × (is_in_range 0xA1 0xDF b ≡ true)
+katakana_tests : (b : ℕ) → 0xA1 ≤ b → b ≤ 0xDF → (is_ascii b ≡ false) × ((b == 0x80) ≡ false) × (is_katakana_byte b ≡ true)
 katakana_tests b low high = (grind (arith, nat_tests), grind (arith, nat_tests), grind (arith, nat_tests))
 
 module _ (tables : AcceptedIndexes) where
@@ -38,7 +39,7 @@ module _ (tables : AcceptedIndexes) where
       )
 
   -- halfwidth katakana
-  pub katakana_form : (b c : ℕ) → 0xA1 ≤ b → b ≤ 0xDF → c ≡ 0xFF61 + (b - 0xA1) → (c < 0x1_0000) × Runs (shift_jis tables.flat.jis0208) (b ∷ []) (c ∷ [])
+  pub katakana_form : (b c : ℕ) → 0xA1 ≤ b → b ≤ 0xDF → c ≡ katakana_of b → (c < 0x1_0000) × Runs (shift_jis tables.flat.jis0208) (b ∷ []) (c ∷ [])
   katakana_form b c low high e =
       let tests = katakana_tests b low high in
       let scalar : IsScalar c = grind (arith, nat_tests) in

@@ -1,8 +1,8 @@
 -- The machine of the EUC-JP decoder, byte by byte.
-use Rattle.std.specs.Prelude.{ℕ, ◌+◌, ◌-◌, List, [], ◌∷◌, ◌||◌, ◌==◌, if◌then◌else◌}
-use Rattle.std.specs.Int.{is_in_range}
+use Rattle.std.specs.Prelude.{ℕ, List, [], ◌∷◌, ◌||◌, ◌==◌, if◌then◌else◌}
 use Rattle.std.specs.Char.{is_ascii}
 use Rattle.legacy_base.specs.Fronts.{reads, malformed}
+use Rattle.legacy_base.specs.Unicode.{is_katakana_byte, katakana_of}
 use Rattle.legacy_base.specs.EucJp.{euc_jp_scalars}
 use Rattle.legacy_base.specs.Grammar.{euc_jp}
 use Rattle.legacy_base.specs.States.{is_euc_jp_lead}
@@ -17,7 +17,7 @@ euc_jp_first b =
 abbrev pub euc_jp_second_step : List ℕ → ℕ → ℕ → Step
 euc_jp_second_step jis0208 lead b =
     if lead == 0x8E
-    then (if is_in_range 0xA1 0xDF b then finish (reads 2 ((0xFF61 + (b - 0xA1)) ∷ [])) else trail_step 1 [] b)
+    then (if is_katakana_byte b then finish (reads 2 (katakana_of b ∷ [])) else trail_step 1 [] b)
     else if lead == 0x8F
     then (if is_euc_jp_lead b then hold else trail_step 1 [] b)
     else trail_step 1 (euc_jp_scalars jis0208 lead b) b

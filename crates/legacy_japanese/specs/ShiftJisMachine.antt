@@ -1,16 +1,16 @@
 -- The first step of the Shift_JIS decoder, and the scalars of its pairs.
-use Rattle.std.specs.Prelude.{ℕ, ◌+◌, ◌-◌, List, [], ◌∷◌, ◌||◌, ◌==◌, if◌then◌else◌}
+use Rattle.std.specs.Prelude.{ℕ, List, [], ◌∷◌, ◌||◌, ◌==◌, if◌then◌else◌}
 use Rattle.std.specs.Option.{option_map_or}
-use Rattle.std.specs.Int.{is_in_range}
 use Rattle.std.specs.Char.{is_ascii}
 use Rattle.legacy_base.specs.Fronts.{reads, malformed}
+use Rattle.legacy_base.specs.Unicode.{is_katakana_byte, katakana_of}
 use Rattle.legacy_base.specs.ShiftJis.{is_shift_jis_lead, shift_jis_pointer, shift_jis_scalars}
 use Rattle.legacy_decoder_engine.specs.Steps.{Step, hold, finish}
 
 abbrev pub shift_jis_first : ℕ → Step
 shift_jis_first b =
     if is_ascii b || b == 0x80 then finish (reads 1 (b ∷ []))
-    else if is_in_range 0xA1 0xDF b then finish (reads 1 ((0xFF61 + (b - 0xA1)) ∷ []))
+    else if is_katakana_byte b then finish (reads 1 (katakana_of b ∷ []))
     else if is_shift_jis_lead b then hold
     else finish (malformed 1)
 

@@ -6,6 +6,7 @@ use Rattle.std.specs.Int.{is_in_range}
 use Rattle.std.specs.Option.{option_map_or}
 use Rattle.std.specs.Char.{is_ascii}
 use Rattle.legacy_base.specs.Fronts.{Front, reads, malformed}
+use Rattle.legacy_base.specs.Unicode.{is_katakana_byte, katakana_of}
 use Rattle.legacy_base.specs.Indexes.{idx}
 use Rattle.legacy_base.specs.ShiftJis.{shift_jis_front, shift_jis_pair, is_shift_jis_lead, shift_jis_scalars, shift_jis_pointer}
 use Rattle.legacy_base.specs.Grammar.{shift_jis}
@@ -29,14 +30,14 @@ no_lead b h = grind (arith, nat_tests)
 eighty : (b : ℕ) → (b == 0x80) ≡ true → b ≡ 0x80
 eighty b h = grind (arith, nat_tests)
 
-katakana : (b : ℕ) → is_in_range 0xA1 0xDF b ≡ true → (is_shift_jis_lead b ≡ false) × (0xFF61 + (b - 0xA1) < 0x1_0000)
+katakana : (b : ℕ) → is_katakana_byte b ≡ true → (is_shift_jis_lead b ≡ false) × (katakana_of b < 0x1_0000)
 katakana b h = (grind (arith, nat_tests), let below = katakana_below b h in omega arith)
 
 first_is : (b : ℕ) → IsFirst is_shift_jis_lead 6 b (shift_jis_first b)
 first_is b =
     first_test is_shift_jis_lead 6 b (is_ascii b || b == 0x80) (finish (reads 1 (b ∷ []))) _ (one_byte (is_ascii b) refl)
-    (λ a. first_test is_shift_jis_lead 6 b (is_in_range 0xA1 0xDF b) (finish (reads 1 ((0xFF61 + (b - 0xA1)) ∷ []))) _
-    (λ k. other (0xFF61 + (b - 0xA1)) refl (or_parts (is_ascii b) (b == 0x80) a).0 (katakana b k).0 (katakana b k).1 (omega arith))
+    (λ a. first_test is_shift_jis_lead 6 b (is_katakana_byte b) (finish (reads 1 (katakana_of b ∷ []))) _
+    (λ k. other (katakana_of b) refl (or_parts (is_ascii b) (b == 0x80) a).0 (katakana b k).0 (katakana b k).1 (omega arith))
     (λ k. first_test is_shift_jis_lead 6 b (is_shift_jis_lead b) hold (finish (malformed 1))
     (λ l. leads refl (or_parts (is_ascii b) (b == 0x80) a).0 l)
     (λ l. fails refl (or_parts (is_ascii b) (b == 0x80) a).0 l)))
@@ -46,12 +47,12 @@ first_is b =
     one_byte false a e = let at = eighty b e in other b refl a (rw at refl) (omega arith) (omega arith)
 
 front_is : (jis0208 : List ℕ) (b : ℕ) (rest : List ℕ) (pair : Front) → pair ≡ step_front (shift_jis_pair_scalars jis0208 b) rest hold →
-    cond (is_ascii b || b == 0x80) (reads 1 (b ∷ [])) (cond (is_in_range 0xA1 0xDF b) (reads 1 ((0xFF61 + (b - 0xA1)) ∷ [])) (cond (is_shift_jis_lead b) pair (malformed 1)))
+    cond (is_ascii b || b == 0x80) (reads 1 (b ∷ [])) (cond (is_katakana_byte b) (reads 1 (katakana_of b ∷ [])) (cond (is_shift_jis_lead b) pair (malformed 1)))
     ≡ step_front (shift_jis_pair_scalars jis0208 b) rest (shift_jis_first b)
 front_is jis0208 b rest pair e =
     let test = front_test (shift_jis_pair_scalars jis0208 b) rest in
     test (is_ascii b || b == 0x80) _ _ (finish (reads 1 (b ∷ []))) _ refl
-    (test (is_in_range 0xA1 0xDF b) _ _ (finish (reads 1 ((0xFF61 + (b - 0xA1)) ∷ []))) _ refl (test (is_shift_jis_lead b) _ _ hold (finish (malformed 1)) e refl))
+    (test (is_katakana_byte b) _ _ (finish (reads 1 (katakana_of b ∷ []))) _ refl (test (is_shift_jis_lead b) _ _ hold (finish (malformed 1)) e refl))
 
 one : (jis0208 : List ℕ) (o : Option ℕ) → IsOneOrMarked false (option_map_or (shift_jis_scalars jis0208) o [])
 one jis0208 None = tt

@@ -1,3 +1,2 @@
--- How each decoder takes the steps of its machine, and each machine keeps to its grammar.
+-- How each decoder keeps to its codec.
 pub mod EucKrPlaces
-pub mod EucKrRuns

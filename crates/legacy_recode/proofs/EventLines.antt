@@ -64,8 +64,8 @@ pub ruleset decimal_lengths = (length-decimal_digit, length-decimal_more, length
 
 -- the lines of a call that reports a malformed sequence
 pub line_of_fault : (o : List ℕ) {a b : List ℕ} (scalars : List ℕ) {place n : ℕ} (read sequence back : ℕ)
-    → a ≡ o ++ event_lines (map Scalar scalars) → b ≡ a ++ event_line (Bad place n) → place ≡ read - (sequence + back) → n ≡ sequence
-    → b ≡ o ++ event_lines (map Scalar scalars ++ Bad (read - (sequence + back)) sequence ∷ [])
+    → a ≡ o ++ event_lines (map Scalar scalars) → b ≡ a ++ event_line (Bad place n) → place ≡ read - back - sequence → n ≡ sequence
+    → b ≡ o ++ event_lines (map Scalar scalars ++ Bad (read - back - sequence) sequence ∷ [])
 line_of_fault o scalars read sequence back p q e f = rw (event_lines-append, event_lines-one, ← e, ← f, q, p) (append_assoc o _ _)
 
 -- a digit is put in front of those that stand at the end

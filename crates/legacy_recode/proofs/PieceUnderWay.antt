@@ -20,7 +20,7 @@ use Rattle.legacy_base.proofs.Rooms.{lacks_small}
 use Rattle.legacy_codecs.proofs.RunEvents.{placed-append, placed-scalars}
 use Rattle.legacy_codecs.specs.Runs.{placed}
 use Rattle.legacy_recode.specs.Lines.{event_lines}
-use Rattle.legacy_recode.specs.Recoding.{input_events, fault_events, RecodesPiece, RecodesFront}
+use Rattle.legacy_recode.specs.Recoding.{input_events, RecodesPiece, RecodesFront}
 use Rattle.legacy_recode.proofs.EventLines.{event_lines-append, event_lines-none}
 
 -- So much of the piece was decoded. The lines of its events were written, but for those at the end that are pending.
@@ -90,13 +90,13 @@ module _ {before : DecoderState} {piece : List ℕ} {last : Bool} {total : ℕ} 
 
   module _ {after : DecoderState} {answer : DecoderResult} {read : ℕ} {scalars more : List ℕ}
       (c : DecoderCall Utf16 now (drop offset piece) last 256 after answer read scalars)
-      (w : more ≡ pending ++ event_lines (map Scalar scalars ++ fault_events (total + offset + read) answer)) where
+      (w : more ≡ pending ++ event_lines (map Scalar scalars ++ reported_events (total + offset + read) answer)) where
     -- what the call gave
     abbrev given : List DecodeEvent
     given = out_events (length now.held + read) scalars answer
 
     fault_is : (x : DecoderResult) → answer ≡ x
-        → input_events total (length before.held) (shift u.passed (reported_events (length now.held + read) x)) ≡ fault_events (total + offset + read) x
+        → input_events total (length before.held) (shift u.passed (reported_events (length now.held + read) x)) ≡ reported_events (total + offset + read) x
     unfolding input_events placed
     fault_is InputEmpty e = refl
     fault_is OutputFull e = refl
@@ -105,10 +105,10 @@ module _ {before : DecoderState} {piece : List ℕ} {last : Bool} {total : ℕ} 
         let t = f.within in
         let k = u.progress.counts in
         let within = u.within in
-        let p : total + (u.passed + (length now.held + read - b - a)) - length before.held ≡ total + offset + read - (a + b) = omega (arith, length-drop offset piece) in
+        let p : total + (u.passed + (length now.held + read - b - a)) - length before.held ≡ total + offset + read - b - a = omega (arith, length-drop offset piece) in
         ap (λ n. Bad n a ∷ []) p
 
-    given_is : input_events total (length before.held) (shift u.passed given) ≡ map Scalar scalars ++ fault_events (total + offset + read) answer
+    given_is : input_events total (length before.held) (shift u.passed given) ≡ map Scalar scalars ++ reported_events (total + offset + read) answer
     given_is =
         let reported = reported_events (length now.held + read) answer in
         rw (shift-append u.passed (map Scalar scalars) reported, shift-scalars u.passed scalars, input_events-append, input_events-scalars, fault_is answer refl) refl
@@ -116,7 +116,7 @@ module _ {before : DecoderState} {piece : List ℕ} {last : Bool} {total : ℕ} 
     pub piece_step : IsUnderWay before piece last total after (offset + read) more old mid
     piece_step =
         let h = length before.held in
-        let made : List DecodeEvent = map Scalar scalars ++ fault_events (total + offset + read) answer in
+        let made : List DecodeEvent = map Scalar scalars ++ reported_events (total + offset + read) answer in
         record {
           within = let r = c.within in let v = u.within in omega (arith, length-drop offset piece);
           passed = u.passed + c.passed;

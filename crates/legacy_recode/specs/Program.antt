@@ -1,6 +1,7 @@
 -- What the program does.
 use Rattle.std.specs.Prelude.{◌≡◌, ℕ, List, [], drop, true, false, Option, Some}
-use Rattle.legacy_base.specs.Grammar.{Grammar, user_defined, replacement, single_byte, utf16, big5, euc_kr, shift_jis, euc_jp, gb18030, iso_2022_jp}
+use Rattle.legacy_base.specs.Grammar.{Grammar, user_defined, replacement, single_byte, utf16, big5, shift_jis, euc_jp, gb18030, iso_2022_jp}
+use Rattle.legacy_base.specs.EucKr.{euc_kr}
 use Rattle.legacy_base.specs.Iso2022Jp.{ascii}
 use Rattle.legacy_base.specs.States.{DecoderState, new_state}
 use Rattle.legacy_base.specs.Indexes.{FlatIndexes}

@@ -2,9 +2,6 @@
 use Rattle.std.specs.Prelude.{◌≡◌, ℕ, ◌+◌, ◌-◌, List, [], ◌∷◌, ◌++◌, length, Bool, false, IsTrue, Option}
 use Rattle.std.specs.Io.KnownBytes.{Appends, Consumes, IsAtEnd}
 use Rattle.legacy_base.specs.declared.results.DecodeEvent.{DecodeEvent}
-use Rattle.legacy_base.specs.declared.results.DecodeEvent.TheVariants.{Bad}
-use Rattle.legacy_base.specs.declared.results.DecoderResult.{DecoderResult}
-use Rattle.legacy_base.specs.declared.results.DecoderResult.TheVariants.{InputEmpty, OutputFull, Malformed}
 use Rattle.legacy_base.specs.Events.{shift}
 use Rattle.legacy_base.specs.Grammar.{events_of}
 use Rattle.legacy_base.specs.States.{DecoderState}
@@ -18,12 +15,6 @@ use Rattle.legacy_recode.specs.Lines.{event_lines}
 -- stand before the piece, and the last of them are those held back. A place before the input is 0.
 unfoldable pub input_events : ℕ → ℕ → List DecodeEvent → List DecodeEvent
 input_events total held events = placed held (shift total events)
-
--- the malformed sequence that a call reports, where so many bytes of the input were read
-abbrev pub fault_events : ℕ → DecoderResult → List DecodeEvent
-fault_events read InputEmpty = []
-fault_events read OutputFull = []
-fault_events read (Malformed length back) = Bad (read - (length + back)) length ∷ []
 
 -- The whole piece was decoded, and the lines of its events were written.
 pub record RecodesPiece (before : DecoderState) (piece : List ℕ) (last : Bool) (total : ℕ) (after : DecoderState) (old new : Option (List ℕ)) : Type 0 where

@@ -4,7 +4,8 @@ ghost use Rattle.legacy_base.specs.EncodingForm.{Utf16};
 ghost use Rattle.legacy_base.specs.Calls.{DecoderCall};
 ghost use Rattle.legacy_recode.specs.Lines.{event_lines};
 ghost use Rattle.legacy_recode.specs.LineBuffers.{line_bytes, line_room};
-ghost use Rattle.legacy_recode.specs.Recoding.{fault_events, RecodesPiece, RecodesFront, RecodesAll, RecodesBeginning, RecodesPartly};
+ghost use Rattle.legacy_base.specs.Calls.{reported_events};
+ghost use Rattle.legacy_recode.specs.Recoding.{RecodesPiece, RecodesFront, RecodesAll, RecodesBeginning, RecodesPartly};
 
 use crate::lines::{BAD_LINE, BATCH, CALL_LINES, LineBuffer, SCALAR_LINE};
 use crate::pieces::{PIECE, read_piece, rest_of};
@@ -28,7 +29,7 @@ pub enum RecodeError {
 fn push_events(lines: &mut LineBuffer, scalars: &[char], answer: DecoderResult, read: usize)
     requires { length scalars.now * SCALAR_LINE + BAD_LINE ≤ line_room lines.old }
     ensures { line_bytes lines.new ≡ line_bytes lines.old
-        ++ event_lines (map DecodeEvent.Scalar scalars.now ++ fault_events read answer) }
+        ++ event_lines (map DecodeEvent.Scalar scalars.now ++ reported_events read answer) }
 {
     lines.push_scalars(scalars);
     let DecoderResult::Malformed(sequence, back) = answer else {
@@ -56,7 +57,7 @@ fn lines_of_one_call<D: RawDecoder>(
         result.0 result.1 given
         × (line_bytes lines.new ≡ line_bytes lines.old
         ++ event_lines (map DecodeEvent.Scalar given
-        ++ fault_events (total + result.1) result.0)) }
+        ++ reported_events (total + result.1) result.0)) }
 {
     let mut kept = ScalarBuffer::<Utf16Form>::new(batch, BATCH);
     let (answer, read) = decoder.step(unread, &mut kept, last);

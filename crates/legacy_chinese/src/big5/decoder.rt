@@ -80,7 +80,7 @@ impl LeadCodec for Big5 {
 
     ghost byte_of = { λ lead. lead.byte };
 
-    ghost first = { lead_first };
+    ghost first = { lead_first is_lead };
 
     ghost scalars = { λ flat. big5_pair_scalars flat.big5 };
 
@@ -90,7 +90,7 @@ impl LeadCodec for Big5 {
 
     #[inline]
     fn read_first(byte: u8) -> (Fed, Option<Lead>) {
-        read_first(byte)
+        read_first(byte, Lead::new(byte))
     }
 
     #[inline]

@@ -1,6 +1,7 @@
 //! The decoder of Shift_JIS.
 ghost use Rattle.std.specs.Prelude.{◌≡◌, ◌+◌, ◌-◌, ◌≤◌, [], option_to_list, IfSome, if◌then◌else◌};
 ghost use Rattle.std.specs.Char.{IsScalar};
+ghost use Rattle.legacy_base.specs.Unicode.{katakana_of};
 ghost use Rattle.legacy_base.specs.ShiftJis.{is_shift_jis_lead, shift_jis_scalars};
 ghost use Rattle.legacy_base.specs.Grammar.{shift_jis};
 ghost use Rattle.legacy_japanese.specs.ShiftJisMachine.{shift_jis_first, shift_jis_pair_scalars};
@@ -52,7 +53,7 @@ fn first_byte(byte: u8) -> (Fed, Option<ShiftJisLead>)
 fn katakana(byte: u8) -> char
     requires low { 0xA1 ≤ byte }
     requires high { byte ≤ 0xDF }
-    ensures { result ≡ 0xFF61 + (byte - 0xA1) }
+    ensures { result ≡ katakana_of byte }
 {
     match char::from_u32(0xFF61 + u32::from(byte - 0xA1)) {
         Some(scalar) => scalar,

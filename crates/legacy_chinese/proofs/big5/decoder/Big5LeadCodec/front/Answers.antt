@@ -14,7 +14,7 @@ returns-in-One c =
     let byte' : c.args.trail < 2 ^ 8 = omega arith in
     let took = rw c.in-Some.ensures.0 at c.in-One.ensures in (
       omega arith,
-      pair (λ flat. big5 flat.big5) is_lead lead_first (λ flat. big5_pair_scalars flat.big5) big5_codec c.args.tables.now c.args.lead c.args.trail c.in-One.scalar byte byte' took.scalar
+      pair (λ flat. big5 flat.big5) is_lead (lead_first is_lead) (λ flat. big5_pair_scalars flat.big5) big5_codec c.args.tables.now c.args.lead c.args.trail c.in-One.scalar byte byte' took.scalar
           c.in-Some.ensures.1
           (one_scalar (big5_pair_scalars flat.big5 c.args.lead c.args.trail) c.args.trail c.in-One.scalar (c.args.lead ∷ []) took.answer),
     )

@@ -1,0 +1,45 @@
+-- Plain codecs of leads and trails: ASCII bytes are themselves, a lead and a trail give the scalar of their pointer in one
+-- index, and there are no other forms (WHATWG Encoding Standard, as in "EUC-KR decoder").
+use Rattle.std.specs.Prelude.{ℕ, List, [], ◌∷◌, length, Bool, true, false, Option, if◌then◌else◌, option_to_list}
+use Rattle.std.specs.Option.{option_map_or}
+use Rattle.std.specs.Char.{is_ascii}
+use Rattle.legacy_base.specs.Fronts.{Front, reads, malformed, trail_front, cut}
+use Rattle.legacy_base.specs.Indexes.{idx}
+use Rattle.legacy_base.specs.Profile.{Profile, narrow_acts, single_lead_may_hold, always_rests}
+use Rattle.legacy_base.specs.Formulas.{weighed, constant, ◌⊞◌, ◌⊠◌, halved}
+
+-- the scalar of a pointer, if there is one
+abbrev pub pointer_scalars : List ℕ → Option ℕ → List ℕ
+pointer_scalars index pointer = option_map_or (λ p. option_to_list (idx index p)) pointer []
+
+-- the scalar of a lead and a trail, if they have a pointer and that has one
+abbrev pub pair_scalars : (ℕ → ℕ → Option ℕ) → List ℕ → ℕ → ℕ → List ℕ
+pair_scalars pointers index lead trail = pointer_scalars index (pointers lead trail)
+
+-- the front after a lead
+unfoldable pub lead_pair : (ℕ → ℕ → Option ℕ) → List ℕ → ℕ → List ℕ → Front
+lead_pair pointers index lead rest = trail_front 1 (pair_scalars pointers index lead) rest
+
+-- the front of a list that begins with b
+unfoldable pub lead_front : (ℕ → Bool) → (ℕ → ℕ → Option ℕ) → List ℕ → ℕ → List ℕ → Front
+lead_front is_lead_byte pointers index b rest =
+    if is_ascii b then reads 1 (b ∷ [])
+    else if is_lead_byte b then lead_pair pointers index b rest
+    else malformed 1
+
+-- the codec, by which bytes are leads, by the pointer of a lead and another byte, if they have one, and by its index
+abbrev pub plain_profile : (ℕ → Bool) → (ℕ → ℕ → Option ℕ) → List ℕ → Profile
+plain_profile is_lead_byte pointers index = record {
+  events = cut (lead_front is_lead_byte pointers index) 0 0;
+  may_hold = single_lead_may_hold is_lead_byte;
+  rests = always_rests;
+  begins_in_ascii = true;
+  rooms = narrow_acts;
+  short_ascii = true;
+  reported = false;
+  marks = false;
+  weight = length;
+  utf16_length = weighed;
+  utf8_length = constant 3 ⊠ weighed;
+  utf8_length_without_replacement = constant 2 ⊞ (weighed ⊞ halved (weighed ⊞ constant 1));
+}

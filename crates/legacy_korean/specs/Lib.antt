@@ -1,3 +1,0 @@
--- How the decoders work inside: nothing here has to be believed. What they promise is said by legacy_base.
-pub mod EucKrPlaces
-pub mod EucKrShown
