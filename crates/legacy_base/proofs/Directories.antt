@@ -6,7 +6,7 @@ use Rattle.std.proofs.lemmas.Nat.Bits.{bit_at-lt}
 use borrow.Author.Tests.{eqb-true, eqb-false}
 use Rattle.std.proofs.lemmas.Bool.{cases_lt}
 use Rattle.std.proofs.lemmas.List.{length-replicate}
-use Rattle.std.proofs.lemmas.Nat.{ones_cat, pow_pos, pow-add, shl-shr, mod-pow-add, pow_below, mod_below}
+use Rattle.std.proofs.lemmas.Nat.{ones_cat, pow_pos, pow-add, shl-shr, mod-pow-add, mod_below}
 use Rattle.std.proofs.Math.Nat.{mod-eq_of_lt, mul-mod_left, mul-add-mod_self_right, pow-le-pow_right, pow-suc}
 use Rattle.legacy_base.specs.Directories.{IsRising, IsCountBelow, IsDirectory, IsBounded, count_below, is_held}
 

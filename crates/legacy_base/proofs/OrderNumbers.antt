@@ -1,5 +1,5 @@
 -- The scalars of accepted indexes are numbers of so many blocks.
-use Rattle.std.proofs.Common.{◌≡◌, ℕ, ◌+◌, ◌*◌, ◌≤◌, ◌<◌, List, [], length, get_or, refl, arith, true, false, Bool, ◌||◌, inl, inr}
+use Rattle.std.proofs.Common.{◌≡◌, ℕ, ◌*◌, ◌<◌, List, length, get_or, arith, true, ◌||◌, inl, inr}
 use Rattle.std.proofs.lemmas.Bool.{cases_lt}
 use Rattle.std.proofs.lemmas.Bool.Decides.{nat_tests}
 use Rattle.std.proofs.lemmas.List.{get_or_past}
@@ -12,7 +12,7 @@ use Rattle.legacy_base.specs.Indexes.{FlatIndexes}
 use Rattle.legacy_base.specs.TableChecks.{AreAccepted, is_narrow_entry}
 use Rattle.legacy_base.specs.Directories.{number_of}
 use Rattle.legacy_base.specs.Orders.{HasNumbers}
-use Rattle.legacy_base.proofs.Accepted.{Parts, parts, all_entries}
+use Rattle.legacy_base.proofs.Accepted.{parts, all_entries}
 
 narrow_number : (e : ℕ) → e < 0x1_0000 → number_of e < 64 * 1024
 narrow_number e h = rw (lt-ltb e 0x1_0000 h) h

@@ -1,21 +1,21 @@
 -- What an order of pointers is that is in order, and what its directory answers.
-use Rattle.std.proofs.Common.{◌≡◌, ◌≢◌, ◌∙◌, ℕ, zero, suc, ◌+◌, ◌-◌, ◌*◌, ◌/◌, ◌%◌, ◌≤◌, ◌<◌, List, [], ◌∷◌, length, map, get_or, slice_index, refl, sym, ap, subst, arith, Some, None, Option, true, false, Bool, ◌&&◌, ◌||◌, cond, eqb, eq-eqb, ◌==◌, nat_lt, nat_le, not, inl, inr, drop, drop-cons, add-one}
-use Rattle.std.proofs.lemmas.Bool.{cases_lt, cases_eq, ne_eqb, eqb-true, true≢false}
+use Rattle.std.proofs.Common.{◌≡◌, ◌≢◌, ◌∙◌, ℕ, zero, suc, ◌+◌, ◌*◌, ◌/◌, ◌%◌, ◌≤◌, ◌<◌, List, [], ◌∷◌, length, map, get_or, slice_index, refl, sym, ap, subst, arith, Some, None, Option, true, false, Bool, ◌&&◌, cond, eqb, eq-eqb, ◌==◌, nat_lt, not, inl, inr, drop, drop-cons, add-one}
+use Rattle.std.proofs.lemmas.Bool.{cases_lt, cases_eq, ne_eqb, true≢false}
 use Rattle.std.proofs.lemmas.List.{length-map, get_or-map, get_or_past}
 use Rattle.std.proofs.lemmas.List.Folds.{list_any_at}
 use Rattle.std.proofs.lemmas.Map.Steps.{length-le_from_distinct_below}
 use Rattle.std.proofs.Math.ListN.{drop_of_length-le}
 use Rattle.std.specs.List.{list_any, IsDistinct, AllByRecursion}
-use borrow.Author.Tests.{ltb-true, ltb-false, lt-ltb, le-ltb}
+use borrow.Author.Tests.{ltb-true, lt-ltb, le-ltb}
 use Rattle.legacy_base.specs.declared.tables.packed.PackedPart.{PackedPart}
 use Rattle.legacy_base.specs.declared.tables.packed.PackedPart.TheVariants as parts
-use Rattle.legacy_base.specs.Pointers.{first_pointer, takes_last_big5_pointer}
+use Rattle.legacy_base.specs.Pointers.{first_pointer}
 use Rattle.legacy_base.specs.Directories.{held_place, IsRising, IsDirectory, count_below, is_held, number_of, order_pointer}
 use Rattle.legacy_base.specs.Orders.{HasNumbers, IsLookup, takes_last}
-use Rattle.legacy_base.specs.Packed.{may_use, pointer_of, is_pointer_in_order, order_fault_from, order_fault, holds_pointer, is_lacking, order_difference}
+use Rattle.legacy_base.specs.Packed.{may_use, pointer_of, is_pointer_in_order, order_fault_from, order_fault, is_lacking, order_difference}
 use Rattle.legacy_base.proofs.FirstPlaces.{find-none-at}
 use Rattle.legacy_base.proofs.Directories.{held-at, not-held}
-use Rattle.legacy_base.proofs.Pointers.{IsTaken, first-least}
+use Rattle.legacy_base.proofs.Pointers.{first-least}
 use Rattle.legacy_base.proofs.PackedPointers.{pointer-taken}
 
 both_true : (a b : Bool) → (a && b) ≡ true → (a ≡ true) × (b ≡ true)

@@ -1,15 +1,13 @@
 -- Runs that give what accepted indexes do are accepted indexes too.
-use Rattle.std.proofs.Common.{◌≡◌, ◌∙◌, ℕ, zero, suc, ◌+◌, ◌≤◌, ◌<◌, List, [], ◌∷◌, length, get_or, refl, sym, ap, arith, Some, None, Option, true, false, Bool, not, eq-eqb, eqb, ◌==◌, inl, inr, cond, option_map}
+use Rattle.std.proofs.Common.{◌≡◌, ◌∙◌, ℕ, suc, ◌+◌, ◌≤◌, ◌<◌, List, [], ◌∷◌, length, get_or, refl, sym, ap, arith, Some, None, Option, false, not, ◌==◌, inl, inr}
 use Rattle.std.proofs.lemmas.Bool.{cases_lt, cases_eq, ne_eqb, true≢false}
 use Rattle.std.proofs.lemmas.List.{get_or_past}
 use Rattle.std.proofs.lemmas.List.Elements.{All-get_or}
 use Rattle.std.specs.Char.{IsScalar}
-use Rattle.std.specs.Option.{option_or, option_eq, option_map_or}
+use Rattle.std.specs.Option.{option_eq, option_map_or}
 use borrow.Author.Tests.{le-ltb}
 use Rattle.legacy_base.specs.declared.tables.IndexName.{IndexName}
 use Rattle.legacy_base.specs.declared.tables.IndexName.TheVariants as names
-use Rattle.legacy_base.specs.declared.tables.TableError.{TableError}
-use Rattle.legacy_base.specs.declared.tables.TableError.TheVariants.{PackedOrder, PackedDiffers}
 use Rattle.legacy_base.specs.declared.tables.packed.Run.{Run}
 use Rattle.legacy_base.specs.declared.tables.packed.Packed.{Packed}
 use Rattle.legacy_base.specs.declared.tables.packed.PackedPart.{PackedPart}
@@ -17,10 +15,10 @@ use Rattle.legacy_base.specs.declared.tables.packed.PackedPart.TheVariants as pa
 use Rattle.legacy_base.specs.Unicode.{AreScalars}
 use Rattle.legacy_base.specs.Indexes.{FlatIndexes, idx, entry_scalar}
 use Rattle.legacy_base.specs.TableChecks.{entry_fault, entries_fault, index_fault, table_fault, AreAccepted}
-use Rattle.legacy_base.specs.Runs.{runs_scalar, runs_entry, runs_list, runs_end, run_fault, run_end}
+use Rattle.legacy_base.specs.Runs.{runs_scalar, runs_entry, runs_list, run_fault}
 use Rattle.legacy_base.specs.Tables.{index_list}
-use Rattle.legacy_base.specs.Packed.{part_fault, differs_at, run_difference, runs_fault, all_runs_fault, all_orders_fault, packed_fault, packed_lists, AnswerAlike, ArePackedTables}
-use Rattle.legacy_base.proofs.Accepted.{Parts, parts, or_none, entry_at}
+use Rattle.legacy_base.specs.Packed.{part_fault, differs_at, run_difference, runs_fault, all_runs_fault, all_orders_fault, packed_lists, AnswerAlike, ArePackedTables}
+use Rattle.legacy_base.proofs.Accepted.{parts, or_none, entry_at}
 use Rattle.legacy_base.specs.PackedTables.{lists_of_runs, AreRunsOf, AreOrdersOf}
 use Rattle.legacy_base.specs.declared.tables.packed_checks.AllRuns.{AllRuns}
 use Rattle.legacy_base.specs.declared.tables.order_checks.AllOrders.{AllOrders}

@@ -1,6 +1,6 @@
 -- The pointer that the codec of an order takes, and that it is the same in indexes with the same entries.
-use Rattle.std.proofs.Common.{◌≡◌, ◌≢◌, ◌∙◌, ℕ, ◌+◌, ◌≤◌, ◌<◌, List, length, slice_index, get_or, refl, sym, ap, arith, Some, None, Option, true, false, Bool, ◌&&◌, cond, eqb, ◌==◌, inl, inr}
-use Rattle.std.proofs.lemmas.Bool.{cases_eq, cases_lt, ne_eqb, eqb-true}
+use Rattle.std.proofs.Common.{◌≡◌, ◌≢◌, ◌∙◌, ℕ, ◌<◌, List, length, slice_index, refl, sym, arith, Some, None, Option, true, false, Bool, ◌&&◌, cond, eqb, inl, inr}
+use Rattle.std.proofs.lemmas.Bool.{cases_eq, cases_lt, eqb-true}
 use Rattle.std.proofs.lemmas.List.{get_or_past}
 use Rattle.legacy_base.specs.declared.tables.packed.PackedPart.{PackedPart}
 use Rattle.legacy_base.specs.declared.tables.packed.PackedPart.TheVariants as parts

@@ -1,15 +1,14 @@
 -- What runs in order are, and what they give each pointer.
-use Rattle.std.proofs.Common.{◌≡◌, ◌∙◌, ℕ, zero, suc, ◌+◌, ◌-◌, ◌*◌, ◌/◌, ◌%◌, ◌≤◌, ◌<◌, List, [], ◌∷◌, length, map, max, get_or, slice_index, drop, drop-cons, add-one, refl, sym, ap, arith, Some, None, Option, true, false, Bool, ◌&&◌, cond, nat_le, nat_lt, inl, inr, subst}
-use Rattle.std.proofs.lemmas.Bool.{cases_lt, true≢false}
+use Rattle.std.proofs.Common.{◌≡◌, ◌∙◌, ℕ, zero, suc, ◌+◌, ◌-◌, ◌/◌, ◌%◌, ◌≤◌, ◌<◌, List, [], ◌∷◌, length, map, get_or, slice_index, drop, drop-cons, add-one, refl, sym, ap, arith, Some, None, Option, true, false, Bool, ◌&&◌, cond, nat_le, nat_lt, inl, inr, subst}
+use Rattle.std.proofs.lemmas.Bool.{cases_lt}
 use Rattle.std.proofs.lemmas.List.{length-map, get_or-map, get_or_past}
 use Rattle.std.proofs.lemmas.List.FromFn.{get_or-map-range_with_len, length-map-range_with_len}
 use Rattle.std.proofs.Math.ListN.{drop_of_length-le}
 use Rattle.std.specs.List.{range_with_len}
-use Rattle.std.specs.Option.{option_or, option_map_or}
-use borrow.Author.Tests.{ltb-false, ltb-true, leb-true, leb-false, le-leb, lt-leb, lt-ltb, le-ltb}
+use Rattle.std.specs.Option.{option_map_or}
+use borrow.Author.Tests.{ltb-true, leb-true, le-leb, lt-leb, lt-ltb, le-ltb}
 use Rattle.legacy_base.specs.declared.tables.packed.Run.{Run}
-use Rattle.legacy_base.specs.Indexes.{idx, entry_scalar}
-use Rattle.legacy_base.specs.Directories.{IsRising, IsCountBelow, IsDirectory, count_below}
+use Rattle.legacy_base.specs.Directories.{IsRising, IsDirectory, count_below}
 use Rattle.legacy_base.specs.Runs.{run_end, run_scalar, runs_scalar, runs_entry, runs_end, runs_list, is_run_in_order, run_fault_from, run_fault, AreInOrder, run_starts}
 
 -- a run of no pointers

@@ -1,9 +1,10 @@
--- Packed indexes: runs in place of flat indexes, and orders of the pointers that encoders take. Which are accepted
--- beside flat indexes, and the first fault of the others.
-use Rattle.std.specs.Prelude.{◌≡◌, ℕ, ◌+◌, List, [], ◌∷◌, Option, Some, None, Bool, true, false, not, ◌&&◌, ◌==◌, nat_le, nat_lt, if◌then◌else◌, length, option_map, slice_index, find}
+-- Packed indexes: runs in place of flat indexes, and orders of the pointers that encoders take.
+-- Which are accepted beside flat indexes, and the first fault of the others.
+use Rattle.std.specs.Prelude.{◌≡◌, ℕ, ◌+◌, List, [], ◌∷◌, Option, Some, None, Bool, false}
+use Rattle.std.specs.Prelude.{not, ◌&&◌, ◌==◌, nat_lt, if◌then◌else◌, length, option_map}
+use Rattle.std.specs.Prelude.{slice_index, find}
 use Rattle.std.specs.Option.{option_or, option_eq}
 use Rattle.std.specs.List.{list_any, range_with_len}
-use Rattle.legacy_base.specs.declared.tables.Indexes.{Indexes}
 use Rattle.legacy_base.specs.declared.tables.IndexName.{IndexName}
 use Rattle.legacy_base.specs.declared.tables.packed.Run.{Run}
 use Rattle.legacy_base.specs.declared.tables.packed.Packed.{Packed}
@@ -14,13 +15,15 @@ use Rattle.legacy_base.specs.declared.tables.TableError.TheVariants.{PackedOrder
 use Rattle.legacy_base.specs.Indexes.{FlatIndexes, idx}
 use Rattle.legacy_base.specs.AcceptedTables.{flat_lists}
 use Rattle.legacy_base.specs.TableChecks.{table_fault}
-use Rattle.legacy_base.specs.Tables.{flat_indexes, index_list}
-use Rattle.legacy_base.specs.Pointers.{every_pointer, is_big5_pointer, is_shift_jis_pointer, is_jis0208_pointer, big5_pointer_of, first_pointer}
+use Rattle.legacy_base.specs.Tables.{index_list}
+use Rattle.legacy_base.specs.Pointers.{every_pointer, is_big5_pointer, is_shift_jis_pointer}
+use Rattle.legacy_base.specs.Pointers.{is_jis0208_pointer, big5_pointer_of, first_pointer}
 use Rattle.legacy_base.specs.Runs.{runs_scalar, runs_list, run_fault}
 
 -- a part is in order first, and then gives what the flat index does
 abbrev pub part_fault : PackedPart → Option ℕ → Option ℕ → Option TableError
-part_fault part order difference = option_or (option_map (PackedOrder part) order) (option_map (PackedDiffers part) difference)
+part_fault part order difference =
+    option_or (option_map (PackedOrder part) order) (option_map (PackedDiffers part) difference)
 
 -- ---- runs
 
@@ -34,7 +37,8 @@ run_difference limit runs index = find (differs_at runs index) (range_with_len 0
 
 -- the first fault of a part that is runs
 abbrev pub runs_fault : PackedPart → ℕ → List Run → List ℕ → Option TableError
-runs_fault part limit runs index = part_fault part (run_fault limit runs) (run_difference limit runs index)
+runs_fault part limit runs index =
+    part_fault part (run_fault limit runs) (run_difference limit runs index)
 
 -- ---- orders
 
@@ -54,7 +58,8 @@ pointer_of part index c = first_pointer (may_use part) index c
 abbrev pub is_pointer_in_order : PackedPart → List ℕ → ℕ → ℕ → Bool
 is_pointer_in_order part index above p = may_use part p && nat_lt above (slice_index index p)
 
--- the first place, from the place on, of a pointer that is not in order, where the number is the scalar before it
+-- the first place, from the place on, of a pointer that is not in order, where the number is the
+-- scalar before it
 unfoldable pub order_fault_from : PackedPart → List ℕ → ℕ → ℕ → List ℕ → Option ℕ
 order_fault_from part index place above [] = None
 order_fault_from part index place above (p ∷ order) =
@@ -71,7 +76,8 @@ abbrev pub holds_pointer : List ℕ → Option ℕ → Bool
 holds_pointer order None = false
 holds_pointer order (Some p) = list_any (λ q. p == q) order
 
--- the pointer may be used and is mapped, and the order does not hold its scalar with the pointer that the codec takes
+-- the pointer may be used and is mapped, and the order does not hold its scalar with the pointer
+-- that the codec takes
 abbrev pub is_lacking : PackedPart → List ℕ → List ℕ → ℕ → Bool
 is_lacking part index order p =
     if slice_index index p == 0 then false
@@ -79,11 +85,13 @@ is_lacking part index order p =
 
 -- the least such pointer of the index
 unfoldable pub order_difference : PackedPart → List ℕ → List ℕ → Option ℕ
-order_difference part index order = find (is_lacking part index order) (range_with_len 0 (length index))
+order_difference part index order =
+    find (is_lacking part index order) (range_with_len 0 (length index))
 
 -- the first fault of a part that is an order
 abbrev pub pointers_fault : PackedPart → List ℕ → List ℕ → Option TableError
-pointers_fault part index order = part_fault part (order_fault part index order) (order_difference part index order)
+pointers_fault part index order =
+    part_fault part (order_fault part index order) (order_difference part index order)
 
 -- ---- all parts
 
@@ -105,14 +113,19 @@ all_orders_fault flat packed =
     (option_or (pointers_fault parts.EucJpOrder flat.jis0208 packed.euc_jp_order.now)
     (pointers_fault parts.Gb18030Order flat.gb18030 packed.gb18030_order.now))))
 
--- the first fault of indexes and packed indexes: the indexes are checked first, then the ten parts in their order
+-- the first fault of indexes and packed indexes: the indexes are checked first, then the ten parts
+-- in their order
 abbrev pub packed_fault : FlatIndexes → Packed → Option TableError
-packed_fault flat packed = option_or (table_fault flat) (option_or (all_runs_fault flat packed) (all_orders_fault flat packed))
+packed_fault flat packed =
+    option_or (table_fault flat)
+    (option_or (all_runs_fault flat packed) (all_orders_fault flat packed))
 
 -- the lists of what runs give, with katakana, ranges and private-use rows as they are
 abbrev pub packed_lists : FlatIndexes → Packed → FlatIndexes
 packed_lists flat packed =
-    flat_lists (runs_list packed.big5.now) (runs_list packed.euc_kr.now) (runs_list packed.jis0208.now) (runs_list packed.jis0212.now) (runs_list packed.gb18030.now) flat.katakana flat.ranges flat.gb18030_pua
+    flat_lists (runs_list packed.big5.now) (runs_list packed.euc_kr.now)
+    (runs_list packed.jis0208.now) (runs_list packed.jis0212.now)
+    (runs_list packed.gb18030.now) flat.katakana flat.ranges flat.gb18030_pua
 
 -- lists that tell no pointer from those of indexes
 pub record AnswerAlike (a b : FlatIndexes) : Type 0 where
@@ -120,9 +133,10 @@ pub record AnswerAlike (a b : FlatIndexes) : Type 0 where
   pub ranges : a.ranges ≡ b.ranges
   pub gb18030_pua : a.gb18030_pua ≡ b.gb18030_pua
 
--- what tables that were made of packed indexes are: there was no fault, and they are the lists of what the runs give,
--- which answer as the flat indexes do
-pub record ArePackedTables (indexes : FlatIndexes) (packed : Packed) (lists : FlatIndexes) : Type 0 where
+-- what tables that were made of packed indexes are: there was no fault, and they are the lists of
+-- what the runs give, which answer as the flat indexes do
+pub record ArePackedTables (indexes : FlatIndexes) (packed : Packed)
+    (lists : FlatIndexes) : Type 0 where
   pub no_fault : packed_fault indexes packed ≡ None
   pub given : lists ≡ packed_lists indexes packed
   pub alike : AnswerAlike lists indexes

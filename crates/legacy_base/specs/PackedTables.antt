@@ -30,18 +30,28 @@ pub record AreRunsOf (runs : AllRuns) (packed : Packed) : Type 0 where
 
 -- orders answer the pointers that the codecs take in flat indexes
 pub record AreOrdersOf (orders : AllOrders) (flat : FlatIndexes) : Type 0 where
-  pub big5 : (c : ℕ) → order_pointer 2048 orders.big5.scalars.sets orders.big5.scalars.befores orders.big5.pointers.now c ≡ pointer_of parts.Big5Order flat.big5 c
-  pub euc_kr : (c : ℕ) → order_pointer 1024 orders.euc_kr.scalars.sets orders.euc_kr.scalars.befores orders.euc_kr.pointers.now c ≡ pointer_of parts.EucKrOrder flat.euc_kr c
-  pub shift_jis : (c : ℕ) → order_pointer 1024 orders.shift_jis.scalars.sets orders.shift_jis.scalars.befores orders.shift_jis.pointers.now c ≡ pointer_of parts.ShiftJisOrder flat.jis0208 c
-  pub euc_jp : (c : ℕ) → order_pointer 1024 orders.euc_jp.scalars.sets orders.euc_jp.scalars.befores orders.euc_jp.pointers.now c ≡ pointer_of parts.EucJpOrder flat.jis0208 c
-  pub gb18030 : (c : ℕ) → order_pointer 1024 orders.gb18030.scalars.sets orders.gb18030.scalars.befores orders.gb18030.pointers.now c ≡ pointer_of parts.Gb18030Order flat.gb18030 c
+  pub big5 : (c : ℕ) → order_pointer 2048 orders.big5.scalars.sets orders.big5.scalars.befores
+      orders.big5.pointers.now c ≡ pointer_of parts.Big5Order flat.big5 c
+  pub euc_kr : (c : ℕ) → order_pointer 1024 orders.euc_kr.scalars.sets
+      orders.euc_kr.scalars.befores orders.euc_kr.pointers.now c
+      ≡ pointer_of parts.EucKrOrder flat.euc_kr c
+  pub shift_jis : (c : ℕ) → order_pointer 1024 orders.shift_jis.scalars.sets
+      orders.shift_jis.scalars.befores orders.shift_jis.pointers.now c
+      ≡ pointer_of parts.ShiftJisOrder flat.jis0208 c
+  pub euc_jp : (c : ℕ) → order_pointer 1024 orders.euc_jp.scalars.sets
+      orders.euc_jp.scalars.befores orders.euc_jp.pointers.now c
+      ≡ pointer_of parts.EucJpOrder flat.jis0208 c
+  pub gb18030 : (c : ℕ) → order_pointer 1024 orders.gb18030.scalars.sets
+      orders.gb18030.scalars.befores orders.gb18030.pointers.now c
+      ≡ pointer_of parts.Gb18030Order flat.gb18030 c
 
 -- what is taken for a scalar, where the codec takes the last of its pointers
 abbrev pub IsLast : PackedPart → List ℕ → ℕ → Option ℕ → Type 0
 IsLast part index c taken = takes_last part c ≡ true → pointer_of part index c ≡ taken
 
 -- the last pointers of an index are those that are taken
-pub record AreLastPointers (part : PackedPart) (index : List ℕ) (lasts : LastPointers) : Type 0 where
+pub record AreLastPointers (part : PackedPart) (index : List ℕ)
+    (lasts : LastPointers) : Type 0 where
   pub of_2550 : IsLast part index 0x2550 lasts.of_2550
   pub of_255e : IsLast part index 0x255E lasts.of_255e
   pub of_2561 : IsLast part index 0x2561 lasts.of_2561

@@ -14,5 +14,7 @@ pub use destination::{Destination, Utf8Destination, Utf16Destination};
 pub use results::{DecodeEvent, DecoderResult};
 pub use single_byte_table::SingleByteTable;
 pub use source::ByteSource;
-pub use tables::{DecoderTables, FlatTables, KeptTables, PackedTables, Tables};
-pub use tables::{GB18030_2022_PUA, IndexName, Indexes, Packed, PackedPart, Run, TableError};
+pub use tables::{
+    DecoderTables, FlatTables, GB18030_2022_PUA, IndexName, Indexes, KeptTables, Packed,
+    PackedPart, PackedTables, Run, TableError, Tables,
+};

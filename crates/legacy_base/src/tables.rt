@@ -140,8 +140,8 @@ pub enum KeptTables<'a> {
     Packed(PackedTables<'a>),
 }
 
-/// Indexes that passed the check. They are seen as flat lists, whichever way they are kept: those that were handed
-/// in, or what the runs give.
+/// Indexes that passed the check. They are seen as flat lists, whichever way they are kept: those
+/// that were handed in, or what the runs give.
 #[derive(Drop)]
 pub struct Tables<'a> {
     kept: KeptTables<'a>,
@@ -190,8 +190,8 @@ impl<'a> Tables<'a> {
     /// The tables of packed indexes that give what the flat indexes do, or the first fault. The
     /// indexes are checked first, as `new` does it; then the ten parts of the packed ones in the
     /// order of their fields, of each part the order first. It takes no memory. Of the flat indexes
-    /// `katakana`, `ranges` and `gb18030_pua` stay borrowed, and the other five do not; the parts of
-    /// the packed ones stay borrowed.
+    /// `katakana`, `ranges` and `gb18030_pua` stay borrowed, and the other five do not; the parts
+    /// of the packed ones stay borrowed.
     pub fn packed_of(indexes: &Indexes<'a>, packed: &Packed<'a>) -> Result<Tables<'a>, TableError>
         ensures { MatchResult result
             (λ tables. ArePackedTables (flat_indexes indexes.now) packed.now tables.flat)

@@ -6,8 +6,8 @@ ghost use Rattle.legacy_base.specs.Tables.{index_list};
 
 use super::IndexName;
 
-/// What a decoder looks up in tables, however they are kept. What runs for each form is generic over this: which way
-/// they are kept is then asked once a run, and not at each look-up.
+/// What a decoder looks up in tables, however they are kept. What runs for each form is generic
+/// over this: which way they are kept is then asked once a run, and not at each look-up.
 pub trait DecoderTables {
     /// The flat lists that they are seen as.
     ghost indexes: { Self → AcceptedIndexes };

@@ -28,7 +28,8 @@ pub(super) struct Scalars<'a, 'b, N: Numbers> {
 }
 
 impl<'a, 'b, N: Numbers> Numbers for Scalars<'a, 'b, N> {
-    ghost numbers = { λ s. map (λ p. number_of (slice_index (N.numbers s.index.now) p)) s.order.now };
+    ghost numbers = { λ s. map
+        (λ p. number_of (slice_index (N.numbers s.index.now) p)) s.order.now };
 
     fn count(&self) -> usize {
         self.order.len()
@@ -62,7 +63,8 @@ impl<'a, const BLOCKS: usize> Order<'a, BLOCKS> {
         requires numbered { HasNumbers BLOCKS (N.numbers index.now) }
         requires ordered { order_fault part (N.numbers index.now) order.now ≡ None }
         ensures pointers { result.pointers.now ≡ order.now }
-        ensures lookup { IsLookup part (N.numbers index.now) order.now (order_pointer BLOCKS result.scalars.sets result.scalars.befores order.now) }
+        ensures lookup { IsLookup part (N.numbers index.now) order.now
+            (order_pointer BLOCKS result.scalars.sets result.scalars.befores order.now) }
     {
         let _ = part;
         Order {
@@ -74,7 +76,8 @@ impl<'a, const BLOCKS: usize> Order<'a, BLOCKS> {
     /// The pointer that the order has for a scalar value.
     #[inline(always)]
     pub(super) fn pointer(&self, scalar: usize) -> Option<usize>
-        ensures { result ≡ order_pointer BLOCKS self.now.scalars.sets self.now.scalars.befores self.now.pointers.now scalar }
+        ensures { result ≡ order_pointer BLOCKS self.now.scalars.sets self.now.scalars.befores
+            self.now.pointers.now scalar }
     {
         let number = number_of_scalar(scalar);
         if number / 64 >= BLOCKS {

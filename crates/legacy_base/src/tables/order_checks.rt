@@ -62,8 +62,9 @@ fn first_out_of_order<N: Numbers>(part: PackedPart, index: &N, order: &[u16]) ->
     None
 }
 
-/// The pointers that Big5 takes for the six scalars of which it takes the last. They are found once: a search for each
-/// pointer of theirs would take the square of the index's length, where all its entries are one of them.
+/// The pointers that Big5 takes for the six scalars of which it takes the last. They are found
+/// once: a search for each pointer of theirs would take the square of the index's length, where all
+/// its entries are one of them.
 #[derive(Drop)]
 pub(super) struct LastPointers {
     of_2550: Option<usize>,
@@ -142,8 +143,9 @@ fn is_other(taken: Option<usize>, pointer: usize) -> bool
     }
 }
 
-/// Whether the order lacks the scalar of a pointer, where it lacks none of the pointers before. But for Big5's six
-/// scalars the first pointer is taken: so the order has another one than it should where it has a later one.
+/// Whether the order lacks the scalar of a pointer, where it lacks none of the pointers before. But
+/// for Big5's six scalars the first pointer is taken: so the order has another one than it should
+/// where it has a later one.
 fn lacks<const BLOCKS: usize, N: Numbers>(
     part: PackedPart,
     index: &N,
@@ -152,8 +154,11 @@ fn lacks<const BLOCKS: usize, N: Numbers>(
     pointer: usize,
 ) -> bool
     requires lasts { AreLastPointers part (N.numbers index.now) lasts.now }
-    requires lookup { IsLookup part (N.numbers index.now) order.now.pointers.now (order_pointer BLOCKS order.now.scalars.sets order.now.scalars.befores order.now.pointers.now) }
-    requires passed { (k : ℕ) → k < pointer → is_lacking part (N.numbers index.now) order.now.pointers.now k ≡ false }
+    requires lookup { IsLookup part (N.numbers index.now) order.now.pointers.now
+        (order_pointer BLOCKS order.now.scalars.sets order.now.scalars.befores
+        order.now.pointers.now) }
+    requires passed { (k : ℕ) → k < pointer →
+        is_lacking part (N.numbers index.now) order.now.pointers.now k ≡ false }
     ensures { result ≡ is_lacking part (N.numbers index.now) order.now.pointers.now pointer }
 {
     let scalar = entry_at(index, pointer);
@@ -181,7 +186,9 @@ fn first_difference<const BLOCKS: usize, N: Numbers>(
     index: &N,
     order: &Order<'_, BLOCKS>,
 ) -> Option<usize>
-    requires lookup { IsLookup part (N.numbers index.now) order.now.pointers.now (order_pointer BLOCKS order.now.scalars.sets order.now.scalars.befores order.now.pointers.now) }
+    requires lookup { IsLookup part (N.numbers index.now) order.now.pointers.now
+        (order_pointer BLOCKS order.now.scalars.sets order.now.scalars.befores
+        order.now.pointers.now) }
     ensures { result ≡ order_difference part (N.numbers index.now) order.now.pointers.now }
 {
     let lasts = last_pointers(part, index);
@@ -203,7 +210,8 @@ pub(super) fn order_of<'a, const BLOCKS: usize, N: Numbers>(
     requires numbered { HasNumbers BLOCKS (N.numbers index.now) }
     ensures { let found = pointers_fault part (N.numbers index.now) order.now in
         MatchResult result
-        (λ o. ((c : ℕ) → order_pointer BLOCKS o.scalars.sets o.scalars.befores o.pointers.now c ≡ pointer_of part (N.numbers index.now) c) × (found ≡ None))
+        (λ o. ((c : ℕ) → order_pointer BLOCKS o.scalars.sets o.scalars.befores o.pointers.now c
+        ≡ pointer_of part (N.numbers index.now) c) × (found ≡ None))
         (λ fault. found ≡ Some fault) }
 {
     if let Some(at) = first_out_of_order(part, index, order) {
@@ -233,7 +241,9 @@ pub(super) fn all_orders_of<'a>(
 ) -> Result<AllOrders<'a>, TableError>
     requires { table_fault (flat_indexes indexes.now) ≡ None }
     ensures { let found = all_orders_fault (flat_indexes indexes.now) packed.now in
-        MatchResult result (λ o. AreOrdersOf o (flat_indexes indexes.now) × (found ≡ None)) (λ fault. found ≡ Some fault) }
+        MatchResult result
+        (λ o. AreOrdersOf o (flat_indexes indexes.now) × (found ≡ None))
+        (λ fault. found ≡ Some fault) }
 {
     let wide = Wide {
         entries: indexes.big5,

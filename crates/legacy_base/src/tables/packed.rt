@@ -15,8 +15,8 @@ pub struct Run {
     pub length: u16,
 }
 
-/// Indexes as runs, and for each codec the pointers that its encoder takes, in the order of their scalar values. They
-/// are not checked yet.
+/// Indexes as runs, and for each codec the pointers that its encoder takes, in the order of their
+/// scalar values. They are not checked yet.
 #[derive(Drop)]
 pub struct Packed<'a> {
     /// Index Big5.
@@ -29,14 +29,16 @@ pub struct Packed<'a> {
     pub jis0212: &'a [Run],
     /// Index gb18030.
     pub gb18030: &'a [Run],
-    /// The pointers of Big5's encoder: 5024 and above, of each scalar the first, and of U+2550, U+255E, U+2561, U+256A,
-    /// U+5341 and U+5345 the last.
+    /// The pointers of Big5's encoder: 5024 and above, of each scalar the first, and of U+2550,
+    /// U+255E, U+2561, U+256A, U+5341 and U+5345 the last.
     pub big5_order: &'a [u16],
     /// The pointers of EUC-KR's encoder: of each scalar the first.
     pub euc_kr_order: &'a [u16],
-    /// The pointers of Shift_JIS's encoder: of each scalar the first in jis0208 outside 8272 to 8835.
+    /// The pointers of Shift_JIS's encoder: of each scalar the first in jis0208 outside 8272 to
+    /// 8835.
     pub shift_jis_order: &'a [u16],
-    /// The pointers of the encoders of EUC-JP and ISO-2022-JP: of each scalar the first in jis0208 below 8836.
+    /// The pointers of the encoders of EUC-JP and ISO-2022-JP: of each scalar the first in jis0208
+    /// below 8836.
     pub euc_jp_order: &'a [u16],
     /// The pointers of GB18030's encoder: of each scalar the first.
     pub gb18030_order: &'a [u16],

@@ -1,5 +1,6 @@
 //! The checks of packed indexes beside the flat ones. Each answers the first fault that it finds.
-ghost use Rattle.std.specs.Prelude.{◌≡◌, ℕ, ◌+◌, ◌≤◌, ◌<◌, List, length, slice_index, MatchResult, Some, None};
+ghost use Rattle.std.specs.Prelude.{◌≡◌, ℕ, ◌+◌, ◌≤◌, ◌<◌, List, length, slice_index, MatchResult};
+ghost use Rattle.std.specs.Prelude.{Some, None};
 ghost use Rattle.legacy_base.specs.Indexes.{idx};
 ghost use Rattle.legacy_base.specs.Packed.{differs_at, run_difference, runs_fault, all_runs_fault};
 ghost use Rattle.legacy_base.specs.PackedTables.{AreRunsOf};
@@ -100,7 +101,9 @@ pub(super) fn runs_of<'a, N: Numbers>(
 ) -> Result<Runs<'a>, TableError>
     requires { limit ≤ 23940 }
     ensures { let found = runs_fault part limit runs.now (N.numbers index.now) in
-        MatchResult result (λ r. (r.runs.now ≡ runs.now) × (found ≡ None)) (λ fault. found ≡ Some fault) }
+        MatchResult result
+        (λ r. (r.runs.now ≡ runs.now) × (found ≡ None))
+        (λ fault. found ≡ Some fault) }
 {
     if let Some(at) = first_out_of_order(limit, runs) {
         return Err(TableError::PackedOrder(part, at));
@@ -129,7 +132,9 @@ pub(super) fn all_runs_of<'a>(
     packed: &Packed<'a>,
 ) -> Result<AllRuns<'a>, TableError>
     ensures { let found = all_runs_fault (flat_indexes indexes.now) packed.now in
-        MatchResult result (λ r. AreRunsOf r packed.now × (found ≡ None)) (λ fault. found ≡ Some fault) }
+        MatchResult result
+        (λ r. AreRunsOf r packed.now × (found ≡ None))
+        (λ fault. found ≡ Some fault) }
 {
     let wide = Wide {
         entries: indexes.big5,

@@ -11,7 +11,8 @@ use super::private_use::row_bytes;
 use super::{DecoderTables, IndexName, Indexes, TableError, lookups, pointers};
 use std::marker::Model;
 
-/// Indexes that passed the check, kept as runs and orders. They are seen as the flat lists of what the runs give.
+/// Indexes that passed the check, kept as runs and orders. They are seen as the flat lists of what
+/// the runs give.
 // The five flat indexes are not kept: no look-up reads them.
 #[derive(Drop)]
 pub struct PackedTables<'a> {

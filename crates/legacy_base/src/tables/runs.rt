@@ -1,7 +1,9 @@
 //! Runs that are in order, and the look-up of a pointer in them.
-ghost use Rattle.std.specs.Prelude.{◌≡◌, ℕ, ◌+◌, ◌≤◌, ◌<◌, length, [], map, None, Some, MatchResult};
+ghost use Rattle.std.specs.Prelude.{◌≡◌, ℕ, ◌+◌, ◌≤◌, ◌<◌, length, [], map, None, Some};
+ghost use Rattle.std.specs.Prelude.{MatchResult};
 ghost use Rattle.legacy_base.specs.Directories.{IsDirectory};
-ghost use Rattle.legacy_base.specs.Runs.{runs_scalar, runs_entry, run_end, run_fault, is_run_in_order, AreInOrder, run_starts};
+ghost use Rattle.legacy_base.specs.Runs.{runs_scalar, runs_entry, run_end, run_fault};
+ghost use Rattle.legacy_base.specs.Runs.{is_run_in_order, AreInOrder, run_starts};
 
 use super::directory::{Directory, Numbers};
 use super::packed::Run;
@@ -24,7 +26,7 @@ impl<'a> Numbers for Starts<'a> {
     }
 }
 
-/// Runs in order, of at most 23940 pointers, with the directory of where they start. 
+/// Runs in order, of at most 23940 pointers, with the directory of where they start.
 #[derive(Drop)]
 pub(crate) struct Runs<'a> {
     runs: &'a [Run],

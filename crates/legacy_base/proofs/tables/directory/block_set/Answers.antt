@@ -1,6 +1,6 @@
-use Rattle.std.proofs.Common.{◌≡◌, ◌+◌, ◌-◌, ◌*◌, ◌%◌, ◌^◌, ◌≤◌, ◌<◌, length, slice_index, sym, arith, rules}
-use Rattle.std.proofs.lemmas.Nat.{one_shl, mod_below}
-use Rattle.legacy_base.proofs.Directories.{filled-none, filled-end, filled-next, filled-more}
+use Rattle.std.proofs.Common.{◌≡◌, ◌+◌, ◌-◌, ◌*◌, ◌%◌, ◌≤◌, ◌<◌, length, arith, rules}
+use Rattle.std.proofs.lemmas.Nat.{one_shl}
+use Rattle.legacy_base.proofs.Directories.{filled-none, filled-next, filled-more}
 use Rattle.legacy_base.proofs.tables.directory.block_set.Goals as goal
 
 pub loop-at-init : goal.loop-at-init

@@ -1,4 +1,4 @@
-use Rattle.std.proofs.Common.{◌≡◌, ◌∙◌, get_or, sym, ap, subst}
+use Rattle.std.proofs.Common.{◌∙◌, sym, ap, subst}
 use Rattle.std.specs.Char.{IsScalar}
 use Rattle.legacy_base.specs.Indexes.{entry_scalar}
 use Rattle.legacy_base.specs.Runs.{runs_list}

@@ -1,4 +1,4 @@
-use Rattle.std.proofs.Common.{refl, ◌<◌, ◌≤◌, length, arith, rules}
+use Rattle.std.proofs.Common.{refl, arith, rules}
 use Rattle.std.proofs.lemmas.Result.{err_from_is_err_and}
 use Rattle.legacy_base.specs.Packed.{all_orders_fault}
 use Rattle.legacy_base.specs.Tables.{flat_indexes}

@@ -1,5 +1,4 @@
-use Rattle.std.proofs.Common.{◌∙◌, sym, ap}
-use Rattle.legacy_base.specs.Packed.{is_pointer_in_order}
+use Rattle.std.proofs.Common.{◌∙◌, sym}
 use Rattle.legacy_base.proofs.Orders.{order-pass, order-fail, order-done}
 use Rattle.legacy_base.proofs.tables.order_checks.first_out_of_order.Goals as goal
 

@@ -1,4 +1,4 @@
-use Rattle.std.proofs.Common.{◌≡◌, ◌∙◌, sym, Some, None}
+use Rattle.std.proofs.Common.{◌∙◌, sym}
 use Rattle.legacy_base.specs.Directories.{order_pointer}
 use Rattle.legacy_base.proofs.Orders.{lacks-none, lacks-last, lacks-first}
 use Rattle.legacy_base.proofs.tables.order_checks.lacks.Goals as goal

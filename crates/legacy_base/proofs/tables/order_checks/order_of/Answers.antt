@@ -1,7 +1,5 @@
-use Rattle.std.proofs.Common.{◌≡◌, ◌∙◌, sym, Some, None, subst, refl, List, ℕ}
+use Rattle.std.proofs.Common.{sym, refl}
 use Rattle.legacy_base.specs.Directories.{order_pointer}
-use Rattle.legacy_base.specs.Orders.{IsLookup}
-use Rattle.legacy_base.specs.Packed.{order_difference}
 use Rattle.legacy_base.proofs.Orders.{order-answers}
 use Rattle.legacy_base.proofs.tables.order_checks.order_of.Goals as goal
 

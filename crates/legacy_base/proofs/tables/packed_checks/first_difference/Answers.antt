@@ -1,4 +1,4 @@
-use Rattle.std.proofs.Common.{◌≡◌, ◌∙◌, ◌<◌, ◌≤◌, sym, arith}
+use Rattle.std.proofs.Common.{◌∙◌, sym, arith}
 use Rattle.legacy_base.specs.Packed.{differs_at, run_difference}
 use Rattle.legacy_base.proofs.FirstPlaces.{find-some, find-none}
 use Rattle.legacy_base.proofs.tables.packed_checks.first_difference.Goals as goal

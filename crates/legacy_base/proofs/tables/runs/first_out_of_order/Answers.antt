@@ -1,4 +1,4 @@
-use Rattle.std.proofs.Common.{◌∙◌, ◌+◌, ◌≤◌, sym, arith, get_or}
+use Rattle.std.proofs.Common.{◌∙◌, sym, get_or}
 use Rattle.legacy_base.proofs.PackedRuns.{no_run, run-pass, run-fail, run-done, in_order-reach}
 use Rattle.legacy_base.proofs.tables.runs.first_out_of_order.Goals as goal
 

@@ -1,5 +1,4 @@
 use Rattle.std.proofs.Common.{◌/◌, ◌%◌, slice_index, arith, refl}
-use Rattle.std.proofs.lemmas.Nat.{mod_below}
 use Rattle.legacy_base.proofs.Directories.{ones-kept}
 use Rattle.legacy_base.proofs.tables.directory.Directory.count_up_to.Goals as goal
 

@@ -1,4 +1,4 @@
-use Rattle.std.proofs.Common.{◌≡◌, ◌<◌, ◌≤◌, ◌*◌, length, subst, sym, arith, rules, refl}
+use Rattle.std.proofs.Common.{subst, arith, rules, refl}
 use Rattle.legacy_base.specs.Directories.{IsBounded}
 use Rattle.legacy_base.proofs.Directories.{directory-bounded}
 use Rattle.legacy_base.proofs.Orders.{order_numbers, numbers-rising, numbers-length, order-short, order-lookup}

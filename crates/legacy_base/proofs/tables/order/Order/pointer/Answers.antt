@@ -1,5 +1,5 @@
-use Rattle.std.proofs.Common.{◌≡◌, ◌∙◌, ◌*◌, ◌≤◌, ◌<◌, ℕ, Some, None, subst, sym, ap, arith}
-use Rattle.legacy_base.specs.Directories.{held_place, number_of}
+use Rattle.std.proofs.Common.{◌∙◌, ◌*◌, ◌≤◌, ◌<◌, subst, sym, ap, arith}
+use Rattle.legacy_base.specs.Directories.{held_place}
 use Rattle.legacy_base.proofs.Orders.{order-past, order-none, order-some}
 use Rattle.legacy_base.proofs.tables.order.Order.pointer.Goals as goal
 

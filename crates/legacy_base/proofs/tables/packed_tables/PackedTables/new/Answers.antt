@@ -1,9 +1,4 @@
-use Rattle.std.proofs.Common.{sym, subst, refl}
-use Rattle.legacy_base.specs.Indexes.{FlatIndexes}
-use Rattle.legacy_base.specs.TableChecks.{AreAccepted}
 use Rattle.legacy_base.specs.Tables.{flat_indexes}
-use Rattle.legacy_base.specs.Packed.{ArePackedTables}
-use Rattle.legacy_base.specs.PackedTables.{AreOrdersOf}
 use Rattle.legacy_base.proofs.Accepted.{parts}
 use Rattle.legacy_base.proofs.PackedAccepted.{packed-accepted, packed-tables, lists-same, orders-same}
 use Rattle.legacy_base.proofs.tables.packed_tables.PackedTables.new.Goals as goal

@@ -1,4 +1,4 @@
-use Rattle.std.proofs.Common.{arith, rules}
+use Rattle.std.proofs.Common.{rules}
 use Rattle.legacy_base.proofs.PackedRuns.{are_in_order, starts-rising, starts-few}
 use Rattle.legacy_base.proofs.tables.runs.Runs.new.Goals as goal
 
