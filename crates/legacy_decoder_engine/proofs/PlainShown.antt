@@ -1,5 +1,5 @@
 -- What is shown of the plain codecs of leads and trails, once for all of them.
-use Rattle.std.proofs.Common.{◌≡◌, ℕ, ◌+◌, ◌≤◌, ◌<◌, List, [], ◌∷◌, length, Bool, true, false, cond, Option, Some, None, refl, option_to_list, arith}
+use Rattle.std.proofs.Common.{◌≡◌, ℕ, ◌≤◌, ◌<◌, List, [], ◌∷◌, length, Bool, true, false, cond, Option, Some, None, refl, option_to_list, arith}
 use Rattle.legacy_base.specs.declared.tables.IndexName.{IndexName}
 use Rattle.legacy_base.specs.Indexes.{idx}
 use Rattle.legacy_base.specs.Tables.{index_list, is_narrow_index}

@@ -5,7 +5,7 @@ use Rattle.legacy_base.specs.EncodingForm.{EncodingForm, unit_count, code_units,
 use Rattle.legacy_base.specs.Calls.{DecoderCall}
 use Rattle.legacy_base.proofs.Rooms.{all_code_units-append, total_unit_count-append}
 use Rattle.legacy_decoder_engine.specs.declared.moves.Fed.{Fed}
-use Rattle.legacy_decoder_engine.specs.declared.moves.Fed.TheVariants.{Nothing, One, Two, Fault}
+use Rattle.legacy_decoder_engine.specs.declared.moves.Fed.TheVariants.{Fault}
 use Rattle.legacy_decoder_engine.specs.Moves.{fed_scalars, IsFaulty}
 use Rattle.legacy_decoder_engine.proofs.CallUnderWay.{going_start, going_release, going_feed, call_full_read, call_full_release, call_fault_read, call_fault_unread, call_finish}
 use Rattle.legacy_decoder_engine.proofs.AheadRuns.{ahead_going}
