@@ -180,4 +180,3 @@ is_lead-past = range-past 0x81 0xFE (omega arith) (omega arith)
 
 pub is_lead-in : (b : ℕ) → 0x81 ≤ b → b ≤ 0xFE → is_lead b ≡ true
 is_lead-in b low high = grind (arith, nat_tests)
-

@@ -16,8 +16,10 @@ ghost use Rattle.legacy_decoder_engine.specs.LeadCodecs.{IsLeadCodec, held_bytes
 use crate::common_forms::{CommonForm, CommonForms, read_common_forms};
 use crate::drive::drive_decoder;
 use crate::moves::{DecoderMoves, Fed, Move, Room};
-use legacy_base::{DecoderResult, DecoderTables, Destination, FlatTables, KeptTables};
-use legacy_base::{PackedTables, RawDecoder, Tables};
+use legacy_base::{
+    DecoderResult, DecoderTables, Destination, FlatTables, KeptTables, PackedTables, RawDecoder,
+    Tables,
+};
 
 /// A codec whose forms have one byte, or a lead and a trail: all that its decoder does not share.
 pub trait LeadCodec {
@@ -171,10 +173,18 @@ impl<'a, C: LeadCodec> DecoderMoves for LeadDecoder<'a, C> {
     fn read_ahead<T: Destination>(&self, src: &[u8], dst: &mut T) -> usize {
         match self.tables.kept() {
             KeptTables::Flat(tables) => {
-                read_common_forms(&LeadForms::<C, FlatTables<'a>>::new(tables, self.held), src, dst)
+                read_common_forms(
+                    &LeadForms::<C, FlatTables<'a>>::new(tables, self.held),
+                    src,
+                    dst,
+                )
             }
             KeptTables::Packed(tables) => {
-                read_common_forms(&LeadForms::<C, PackedTables<'a>>::new(tables, self.held), src, dst)
+                read_common_forms(
+                    &LeadForms::<C, PackedTables<'a>>::new(tables, self.held),
+                    src,
+                    dst,
+                )
             }
         }
     }

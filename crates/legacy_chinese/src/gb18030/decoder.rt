@@ -12,9 +12,11 @@ ghost use Rattle.legacy_decoder_engine.specs.Feeding.{Took};
 ghost use Rattle.legacy_chinese.specs.Gb18030Held.{held_bytes, is_resting};
 
 use super::digit::Digit;
+use super::fours::Gb18030Blocks;
 use super::pair_places::TRAILS;
-use legacy_base::{DecoderResult, Destination, IndexName, RawDecoder, Tables};
-use legacy_decoder_engine::common_forms::{CommonForm, CommonForms};
+use legacy_base::{
+    DecoderResult, DecoderTables, Destination, IndexName, KeptTables, RawDecoder, Tables,
+};
 use legacy_decoder_engine::drive::drive_decoder;
 use legacy_decoder_engine::held::Lead;
 use legacy_decoder_engine::moves::{DecoderMoves, Fed, Move, Room};
