@@ -22,6 +22,8 @@ mod indexes;
 #[cfg(test)]
 mod iso_2022_jp;
 #[cfg(test)]
+mod packed;
+#[cfg(test)]
 mod replacement;
 #[cfg(test)]
 mod rows;
