@@ -1,5 +1,6 @@
 -- How a directory is filled, and what its sets and counts answer.
-use Rattle.std.proofs.Common.{◌≡◌, ◌∙◌, ℕ, zero, suc, ◌+◌, ◌-◌, ◌*◌, ◌/◌, ◌%◌, ◌^◌, ◌≤◌, ◌<◌, List, length, slice_index, refl, sym, arith, subst, ap, inl, inr, replicate, slice_set, length-set, get_or-set_other, get_or-set_same, ◌≢◌, true, false}
+use Rattle.std.proofs.Common.{◌≡◌, ◌∙◌, ℕ, zero, suc, ◌+◌, ◌-◌, ◌*◌, ◌/◌, ◌%◌, ◌^◌, ◌≤◌, ◌<◌, List, length, slice_index, refl, sym, arith, subst, ap, inl, inr, replicate, slice_set, length-set}
+use Rattle.std.proofs.Common.{get_or-set_other, get_or-set_same, ◌≢◌, true, false}
 use Rattle.std.specs.Int.{bit_at}
 use Rattle.std.specs.Int.RustNames.{count_ones}
 use Rattle.std.proofs.lemmas.Nat.Bits.{bit_at-lt}
@@ -252,7 +253,8 @@ module _ (blocks : ℕ) (sets befores numbers : List ℕ) (directory : IsDirecto
   next : count_below sets befores block (bit + 1) ≡ bit_at (slice_index sets block) bit + count_below sets befores block bit
   next = let e = bit-ones (slice_index sets block) bit in omega arith
 
-  pub held-at : is_held sets number ≡ true → (count_below sets befores (number / 64) (number % 64) < length numbers) × (slice_index numbers (count_below sets befores (number / 64) (number % 64)) ≡ number)
+  pub held-at : is_held sets number ≡ true → (count_below sets befores (number / 64) (number % 64) < length numbers) × (slice_index numbers (count_below sets befores (number / 64)
+      (number % 64)) ≡ number)
   held-at e =
       let one : bit_at (slice_index sets block) bit ≡ 1 = eqb-true (bit_at (slice_index sets block) bit) 1 e in
       let n = next in

@@ -1,5 +1,6 @@
 -- What an order of pointers is that is in order, and what its directory answers.
-use Rattle.std.proofs.Common.{◌≡◌, ◌≢◌, ◌∙◌, ℕ, zero, suc, ◌+◌, ◌*◌, ◌/◌, ◌%◌, ◌≤◌, ◌<◌, List, [], ◌∷◌, length, map, get_or, slice_index, refl, sym, ap, subst, arith, Some, None, Option, true, false, Bool, ◌&&◌, cond, eqb, eq-eqb, ◌==◌, nat_lt, not, inl, inr, drop, drop-cons, add-one}
+use Rattle.std.proofs.Common.{◌≡◌, ◌≢◌, ◌∙◌, ℕ, zero, suc, ◌+◌, ◌*◌, ◌/◌, ◌%◌, ◌≤◌, ◌<◌, List, [], ◌∷◌, length, map, get_or, slice_index, refl, sym, ap, subst, arith, Some, None, Option, true}
+use Rattle.std.proofs.Common.{false, Bool, ◌&&◌, cond, eqb, eq-eqb, ◌==◌, nat_lt, not, inl, inr, drop, drop-cons, add-one}
 use Rattle.std.proofs.lemmas.Bool.{cases_lt, cases_eq, ne_eqb, true≢false}
 use Rattle.std.proofs.lemmas.List.{length-map, get_or-map, get_or_past}
 use Rattle.std.proofs.lemmas.List.Folds.{list_any_at}
@@ -32,7 +33,8 @@ less a b h = omega arith
 -- ---- the order, as a loop finds it
 
 module _ (part : PackedPart) (index order : List ℕ) (place above : ℕ) (all : Option ℕ) (so_far : all ≡ order_fault_from part index place above (drop place order)) where
-  pub order-pass : place < length order → is_pointer_in_order part index above (get_or order place 0) ≡ true → all ≡ order_fault_from part index (place + 1) (slice_index index (get_or order place 0)) (drop (place + 1) order)
+  pub order-pass : place < length order → is_pointer_in_order part index above (get_or order place 0) ≡ true →
+      all ≡ order_fault_from part index (place + 1) (slice_index index (get_or order place 0)) (drop (place + 1) order)
   unfolding order_fault_from
   order-pass h f = so_far ∙ rw (drop-cons order place 0 h, f, add-one) refl
 
@@ -94,7 +96,8 @@ module _ (part : PackedPart) (index : List ℕ) where
       let t = taken (is_pointer_in_order part index above p) place (order_fault_from part index (place + 1) (slice_index index p) order) e in
       (none_equal (place + 1) (slice_index index p) order t.1 p (omega arith), order-distinct (place + 1) (slice_index index p) order t.1)
 
-  rising_from : (place above : ℕ) (order : List ℕ) → order_fault_from part index place above order ≡ None → (i j : ℕ) → i < j → j < length order → slice_index index (get_or order i 0) < slice_index index (get_or order j 0)
+  rising_from : (place above : ℕ) (order : List ℕ) → order_fault_from part index place above order ≡ None → (i j : ℕ) → i < j → j < length order →
+      slice_index index (get_or order i 0) < slice_index index (get_or order j 0)
   unfolding order_fault_from
   rising_from place above [] e i j h l = absurd (omega arith)
   rising_from place above (p ∷ order) e i zero h l = absurd (omega arith)
@@ -213,14 +216,16 @@ module _ (part : PackedPart) (blocks : ℕ) (index order : List ℕ) (none : ord
     above = λ i j h l.
         let within : j < length order = subst (λ n. j < n) (numbers-length index order) l in
         rw (number-at index order i (omega arith), number-at index order j within)
-        (number-rises (slice_index index (get_or order i 0)) (slice_index index (get_or order j 0)) (rising_from part index 0 0 order none i j h within) (small (get_or order i 0)) (small (get_or order j 0)));
+        (number-rises (slice_index index (get_or order i 0)) (slice_index index (get_or order j 0)) (rising_from part index 0 0 order none i j h within) (small (get_or order i 0)) (small
+        (get_or order j 0)));
   }
 
   module _ (sets befores : List ℕ) (directory : IsDirectory blocks sets befores (order_numbers index order)) where
     place : ℕ → ℕ
     place c = count_below sets befores (number_of c / 64) (number_of c % 64)
 
-    at_place : (c : ℕ) → number_of c < 64 * blocks → is_held sets (number_of c) ≡ true → (count_below sets befores (number_of c / 64) (number_of c % 64) < length order) × (slice_index index (get_or order (count_below sets befores (number_of c / 64) (number_of c % 64)) 0) ≡ c)
+    at_place : (c : ℕ) → number_of c < 64 * blocks → is_held sets (number_of c) ≡ true →
+        (count_below sets befores (number_of c / 64) (number_of c % 64) < length order) × (slice_index index (get_or order (count_below sets befores (number_of c / 64) (number_of c % 64)) 0) ≡ c)
     at_place c h e =
         let at = held-at blocks sets befores (order_numbers index order) directory (number_of c) h e in
         let i : ℕ = count_below sets befores (number_of c / 64) (number_of c % 64) in
@@ -228,7 +233,8 @@ module _ (part : PackedPart) (blocks : ℕ) (index order : List ℕ) (none : ord
         let same : number_of (slice_index index (get_or order i 0)) ≡ number_of c = sym (number-at index order i within) ∙ at.1 in
         (within, sym (number-same c (slice_index index (get_or order i 0)) (sym same) (small (get_or order i 0))))
 
-    answer : (c : ℕ) → number_of c < 64 * blocks → is_held sets (number_of c) ≡ true → order_pointer blocks sets befores order c ≡ Some (slice_index order (count_below sets befores (number_of c / 64) (number_of c % 64)))
+    answer : (c : ℕ) → number_of c < 64 * blocks → is_held sets (number_of c) ≡ true →
+        order_pointer blocks sets befores order c ≡ Some (slice_index order (count_below sets befores (number_of c / 64) (number_of c % 64)))
     unfolding order_pointer
     answer c h e = rw (lt-ltb (number_of c) (64 * blocks) h, e) refl
 
@@ -237,7 +243,8 @@ module _ (part : PackedPart) (blocks : ℕ) (index order : List ℕ) (none : ord
     found_there c q e = go (nat_lt (number_of c) (64 * blocks)) (is_held sets (number_of c)) refl refl e
       where
         go : (a b : Bool) → nat_lt (number_of c) (64 * blocks) ≡ a → is_held sets (number_of c) ≡ b
-            → cond (a && b) (Some (slice_index order (count_below sets befores (number_of c / 64) (number_of c % 64)))) None ≡ Some q → (list_any (λ r. q == r) order ≡ true) × (slice_index index q ≡ c)
+            → cond (a && b) (Some (slice_index order (count_below sets befores (number_of c / 64) (number_of c % 64)))) None ≡ Some q →
+            (list_any (λ r. q == r) order ≡ true) × (slice_index index q ≡ c)
         go true true h k z =
             let at = at_place c (ltb-true (number_of c) (64 * blocks) h) k in
             let same : slice_index order (count_below sets befores (number_of c / 64) (number_of c % 64)) ≡ q = cc in (
@@ -259,7 +266,8 @@ module _ (part : PackedPart) (blocks : ℕ) (index order : List ℕ) (none : ord
           decide c q e fits at there (is_held sets (number_of c)) refl;
     }
       where
-        decide : (c q : ℕ) → slice_index index q ≡ c → number_of c < 64 * blocks → (at : (i : ℕ) × (i < length order) × (get_or order i 0 ≡ q)) → slice_index (order_numbers index order) at.0 ≡ number_of c → (t : Bool) → is_held sets (number_of c) ≡ t → order_pointer blocks sets befores order c ≡ Some q
+        decide : (c q : ℕ) → slice_index index q ≡ c → number_of c < 64 * blocks → (at : (i : ℕ) × (i < length order) × (get_or order i 0 ≡ q)) →
+            slice_index (order_numbers index order) at.0 ≡ number_of c → (t : Bool) → is_held sets (number_of c) ≡ t → order_pointer blocks sets befores order c ≡ Some q
         decide c q e fits at there false k =
             absurd (not-held blocks sets befores (order_numbers index order) directory (number_of c) fits k at.0 (subst (λ n. at.0 < n) (sym (numbers-length index order)) at.1) there)
         decide c q e fits at there true k =
@@ -279,7 +287,8 @@ module _ (blocks : ℕ) (sets befores pointers : List ℕ) (c : ℕ) where
   unfolding order_pointer
   order-none h e = rw (lt-ltb (number_of c) (64 * blocks) h) (go (is_held sets (number_of c)) e)
     where
-      go : (t : Bool) → cond t (Some (count_below sets befores (number_of c / 64) (number_of c % 64))) None ≡ None → cond t (Some (slice_index pointers (count_below sets befores (number_of c / 64) (number_of c % 64)))) None ≡ None
+      go : (t : Bool) → cond t (Some (count_below sets befores (number_of c / 64) (number_of c % 64))) None ≡ None →
+          cond t (Some (slice_index pointers (count_below sets befores (number_of c / 64) (number_of c % 64)))) None ≡ None
       go true z = cc
       go false z = refl
 
@@ -287,7 +296,8 @@ module _ (blocks : ℕ) (sets befores pointers : List ℕ) (c : ℕ) where
   unfolding order_pointer
   order-some h place e = rw (lt-ltb (number_of c) (64 * blocks) h) (go (is_held sets (number_of c)) e)
     where
-      go : (t : Bool) → cond t (Some (count_below sets befores (number_of c / 64) (number_of c % 64))) None ≡ Some place → cond t (Some (slice_index pointers (count_below sets befores (number_of c / 64) (number_of c % 64)))) None ≡ Some (slice_index pointers place)
+      go : (t : Bool) → cond t (Some (count_below sets befores (number_of c / 64) (number_of c % 64))) None ≡ Some place →
+          cond t (Some (slice_index pointers (count_below sets befores (number_of c / 64) (number_of c % 64)))) None ≡ Some (slice_index pointers place)
       go true z = let same : count_below sets befores (number_of c / 64) (number_of c % 64) ≡ place = cc in ap (λ i. Some (slice_index pointers i)) same
       go false z = cc
 
@@ -401,7 +411,8 @@ module _ (part : PackedPart) (index order : List ℕ) (lookup : ℕ → Option �
               is.only c s (held_true (list_any (λ r. s == r) order) shown) at.1 ∙ sym z
 
 -- by the value of a look-up
-module _ (part : PackedPart) (index order : List ℕ) (lookup : ℕ → Option ℕ) (is : IsLookup part index order lookup) (p c : ℕ) (at : c ≡ slice_index index p) (mapped : c ≢ 0) (usable : may_use part p ≡ true) where
+module _ (part : PackedPart) (index order : List ℕ) (lookup : ℕ →
+    Option ℕ) (is : IsLookup part index order lookup) (p c : ℕ) (at : c ≡ slice_index index p) (mapped : c ≢ 0) (usable : may_use part p ≡ true) where
   there : slice_index index p ≢ 0
   there z = mapped (at ∙ z)
 
@@ -427,7 +438,8 @@ module _ (part : PackedPart) (index order : List ℕ) (lookup : ℕ → Option �
       ]
 
 -- an order without a fault answers what is taken
-pub order-answers : (part : PackedPart) (index order : List ℕ) (lookup : ℕ → Option ℕ) → IsLookup part index order lookup → order_difference part index order ≡ None → (c : ℕ) → lookup c ≡ pointer_of part index c
+pub order-answers : (part : PackedPart) (index order : List ℕ) (lookup : ℕ → Option ℕ) → IsLookup part index order lookup → order_difference part index order ≡ None → (c : ℕ) →
+    lookup c ≡ pointer_of part index c
 unfolding order_difference
 order-answers part index order lookup is none =
     lookup-taken part index order lookup is (λ k h. find-none-at (is_lacking part index order) 0 (length index) none k (omega arith) (omega arith))

@@ -93,7 +93,8 @@ no_entries_fault name place (x ∷ xs) all =
     rw here (no_entries_fault name (place + 1) xs (λ k h. let f : (place + 1) + k ≡ place + suc k = omega arith in rw f (all (suc k) (omega arith))))
 
 -- the list of runs without a fault is an index without a fault
-pub runs-accepted : (part : PackedPart) (name : IndexName) (limit : ℕ) (runs : List Run) (index : List ℕ) → runs_fault part limit runs index ≡ None → (length index ≤ limit) × (entries_fault name 0 index ≡ None) → index_fault name limit (runs_list runs) ≡ None
+pub runs-accepted : (part : PackedPart) (name : IndexName) (limit : ℕ) (runs : List Run) (index : List ℕ) → runs_fault part limit runs index ≡ None →
+    (length index ≤ limit) × (entries_fault name 0 index ≡ None) → index_fault name limit (runs_list runs) ≡ None
 runs-accepted part name limit runs index none flat =
     let short : length (runs_list runs) ≤ limit = list-short part limit runs index none flat.0 in
     rw (le-ltb limit (length (runs_list runs)) short)
@@ -169,7 +170,8 @@ pub lists-same : (runs : AllRuns) (flat : FlatIndexes) (packed : Packed) → Are
 lists-same runs flat packed are = rw (are.big5, are.euc_kr, are.jis0208, are.jis0212, are.gb18030) refl
 
 -- orders answer in the lists of runs what they do in the flat indexes
-pub orders-same : (orders : AllOrders) (flat : FlatIndexes) (packed : Packed) (accepted : AreAccepted flat) (none : all_runs_fault flat packed ≡ None) → AreOrdersOf orders flat → AreOrdersOf orders (packed_lists flat packed)
+pub orders-same : (orders : AllOrders) (flat : FlatIndexes) (packed : Packed) (accepted : AreAccepted flat) (none : all_runs_fault flat packed ≡ None) → AreOrdersOf orders flat →
+    AreOrdersOf orders (packed_lists flat packed)
 orders-same orders flat packed accepted none are = record {
   big5 = λ c. are.big5 c ∙ sym (pointer-same parts.Big5Order (runs_list packed.big5.now) flat.big5 (same-big5 flat packed accepted none) c);
   euc_kr = λ c. are.euc_kr c ∙ sym (pointer-same parts.EucKrOrder (runs_list packed.euc_kr.now) flat.euc_kr (same-euc_kr flat packed accepted none) c);

@@ -1,5 +1,6 @@
 -- What runs in order are, and what they give each pointer.
-use Rattle.std.proofs.Common.{◌≡◌, ◌∙◌, ℕ, zero, suc, ◌+◌, ◌-◌, ◌/◌, ◌%◌, ◌≤◌, ◌<◌, List, [], ◌∷◌, length, map, get_or, slice_index, drop, drop-cons, add-one, refl, sym, ap, arith, Some, None, Option, true, false, Bool, ◌&&◌, cond, nat_le, nat_lt, inl, inr, subst}
+use Rattle.std.proofs.Common.{◌≡◌, ◌∙◌, ℕ, zero, suc, ◌+◌, ◌-◌, ◌/◌, ◌%◌, ◌≤◌, ◌<◌, List, [], ◌∷◌, length, map, get_or, slice_index, drop, drop-cons, add-one, refl, sym, ap, arith, Some, None}
+use Rattle.std.proofs.Common.{Option, true, false, Bool, ◌&&◌, cond, nat_le, nat_lt, inl, inr, subst}
 use Rattle.std.proofs.lemmas.Bool.{cases_lt}
 use Rattle.std.proofs.lemmas.List.{length-map, get_or-map, get_or_past}
 use Rattle.std.proofs.lemmas.List.FromFn.{get_or-map-range_with_len, length-map-range_with_len}
@@ -73,7 +74,8 @@ behind_all place before limit (run ∷ runs) e (suc i) d h =
     further : {r : Run} → IsBehind before limit run → IsBehind (run_end run) limit r → IsBehind before limit r
     further {r} first next = record { full = next.full; behind = let a = first.behind in let b = next.behind in omega arith; reach = next.reach; scalars = next.scalars }
 
-rising_ends : (place before limit : ℕ) (runs : List Run) → run_fault_from place before limit runs ≡ None → (i j : ℕ) (d : Run) → i < j → j < length runs → run_end (get_or runs i d) ≤ (get_or runs j d).pointer
+rising_ends : (place before limit : ℕ) (runs : List Run) → run_fault_from place before limit runs ≡ None → (i j : ℕ) (d : Run) → i < j → j < length runs →
+    run_end (get_or runs i d) ≤ (get_or runs j d).pointer
 unfolding run_fault_from
 rising_ends place before limit [] e i j d h l = absurd (omega arith)
 rising_ends place before limit (run ∷ runs) e i zero d h l = absurd (omega arith)
@@ -162,7 +164,8 @@ scalar-none (run ∷ runs) p all =
     let here : run_scalar run p ≡ None = all 0 (omega arith) in
     rw here (scalar-none runs p (λ k h. all (suc k) (omega arith)))
 
-scalar-some : (runs : List Run) (p n c : ℕ) → n < length runs → run_scalar (get_or runs n no_run) p ≡ Some c → ((k : ℕ) → k < n → run_scalar (get_or runs k no_run) p ≡ None) → runs_scalar runs p ≡ Some c
+scalar-some : (runs : List Run) (p n c : ℕ) → n < length runs → run_scalar (get_or runs n no_run) p ≡ Some c → ((k : ℕ) → k < n → run_scalar (get_or runs k no_run) p ≡ None) →
+    runs_scalar runs p ≡ Some c
 scalar-some [] p n c h is before = absurd (omega arith)
 scalar-some (run ∷ runs) p zero c h is before = let here : run_scalar run p ≡ Some c = is in rw here refl
 scalar-some (run ∷ runs) p (suc n) c h is before =
@@ -175,7 +178,8 @@ pub record IsStartedCount (runs : List Run) (p count : ℕ) : Type 0 where
   pub started : (k : ℕ) → k < count → (get_or runs k no_run).pointer ≤ p
   pub ahead : (k : ℕ) → count ≤ k → k < length runs → p < (get_or runs k no_run).pointer
 
-pub started_count : (runs : List Run) (sets befores : List ℕ) → IsDirectory 375 sets befores (run_starts runs) → (p : ℕ) → p < 24000 → IsStartedCount runs p (count_below sets befores (p / 64) (p % 64 + 1))
+pub started_count : (runs : List Run) (sets befores : List ℕ) → IsDirectory 375 sets befores (run_starts runs) → (p : ℕ) → p < 24000 →
+    IsStartedCount runs p (count_below sets befores (p / 64) (p % 64 + 1))
 started_count runs sets befores placed p h =
     let point = placed.counts (p / 64) (p % 64 + 1) (omega arith) (omega arith) in
     let within = subst (λ n. count_below sets befores (p / 64) (p % 64 + 1) ≤ n) (starts-length runs) point.within in

@@ -10,16 +10,44 @@ pub order_of-requires : goal.order_of-requires
 order_of-requires c = (search rules, ((let l = length-big5 (flat_indexes c.args.indexes.now) c.requires in omega arith), wide-numbers (flat_indexes c.args.indexes.now) c.requires))
 
 pub order_of-requires-2 : goal.order_of-requires-2
-order_of-requires-2 c = (search rules, ((let l = length-euc_kr (flat_indexes c.args.indexes.now) c.requires in omega arith), narrow-numbers c.args.indexes.now.euc_kr.now (euc_kr-below (flat_indexes c.args.indexes.now) c.requires)))
+order_of-requires-2 c = (
+  search rules,
+  (
+    (let l = length-euc_kr (flat_indexes c.args.indexes.now) c.requires in omega arith),
+    narrow-numbers c.args.indexes.now.euc_kr.now (euc_kr-below
+        (flat_indexes c.args.indexes.now) c.requires),
+  ),
+)
 
 pub order_of-requires-3 : goal.order_of-requires-3
-order_of-requires-3 c = (search rules, ((let l = length-jis0208 (flat_indexes c.args.indexes.now) c.requires in omega arith), narrow-numbers c.args.indexes.now.jis0208.now (jis0208-below (flat_indexes c.args.indexes.now) c.requires)))
+order_of-requires-3 c = (
+  search rules,
+  (
+    (let l = length-jis0208 (flat_indexes c.args.indexes.now) c.requires in omega arith),
+    narrow-numbers c.args.indexes.now.jis0208.now (jis0208-below
+        (flat_indexes c.args.indexes.now) c.requires),
+  ),
+)
 
 pub order_of-requires-4 : goal.order_of-requires-4
-order_of-requires-4 c = (search rules, ((let l = length-jis0208 (flat_indexes c.args.indexes.now) c.requires in omega arith), narrow-numbers c.args.indexes.now.jis0208.now (jis0208-below (flat_indexes c.args.indexes.now) c.requires)))
+order_of-requires-4 c = (
+  search rules,
+  (
+    (let l = length-jis0208 (flat_indexes c.args.indexes.now) c.requires in omega arith),
+    narrow-numbers c.args.indexes.now.jis0208.now (jis0208-below
+        (flat_indexes c.args.indexes.now) c.requires),
+  ),
+)
 
 pub order_of-requires-5 : goal.order_of-requires-5
-order_of-requires-5 c = (search rules, ((let l = length-gb18030 (flat_indexes c.args.indexes.now) c.requires in omega arith), narrow-numbers c.args.indexes.now.gb18030.now (gb18030-below (flat_indexes c.args.indexes.now) c.requires)))
+order_of-requires-5 c = (
+  search rules,
+  (
+    (let l = length-gb18030 (flat_indexes c.args.indexes.now) c.requires in omega arith),
+    narrow-numbers c.args.indexes.now.gb18030.now (gb18030-below
+        (flat_indexes c.args.indexes.now) c.requires),
+  ),
+)
 
 pub returns-in_err-big5 : goal.returns-in_err-big5
 unfolding all_orders_fault

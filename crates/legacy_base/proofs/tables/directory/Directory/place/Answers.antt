@@ -12,4 +12,10 @@ returns g c =
     let is = shr_and_one (slice_index c.args.self.now.sets (c.args.number / 64)) (c.args.number % 64) in
     let lt = bit_at-lt (slice_index c.args.self.now.sets (c.args.number / 64)) (c.args.number % 64) in
     let one : bit_at (slice_index c.args.self.now.sets (c.args.number / 64)) (c.args.number % 64) ≡ 1 = omega arith in
-    rw (shift, and_mask (slice_index c.args.self.now.sets (c.args.number / 64)) (c.args.number % 64), eq-eqb (bit_at (slice_index c.args.self.now.sets (c.args.number / 64)) (c.args.number % 64)) 1 one, c.from.ensures) refl
+    rw (
+      shift,
+      and_mask (slice_index c.args.self.now.sets (c.args.number / 64)) (c.args.number % 64),
+      eq-eqb (bit_at (slice_index c.args.self.now.sets (c.args.number / 64))
+          (c.args.number % 64)) 1 one,
+      c.from.ensures,
+    ) refl

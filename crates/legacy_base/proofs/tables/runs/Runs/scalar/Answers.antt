@@ -31,7 +31,8 @@ returns-then-over-from c =
     let low : (get_or c.args.self.now.runs.now n no_run).pointer ≤ c.args.pointer = is.started n (omega arith) in
     let below = rw (c.from.ensures, c.from-2.ensures) at c.if-over-from.true in
     let high : c.args.pointer < run_end (get_or c.args.self.now.runs.now n no_run) = omega arith in
-    rw c.from.ensures (sym (scalar-inside c.args.self.now.runs.now c.args.self.now.ordered c.args.pointer n (last c.args.self.now.runs.now c.args.pointer c.count_up_to-count.result (omega arith) is) high))
+    rw c.from.ensures (sym (scalar-inside c.args.self.now.runs.now c.args.self.now.ordered c.args.pointer n (last c.args.self.now.runs.now c.args.pointer c.count_up_to-count.result
+    (omega arith) is) high))
 
 pub returns-else-over-from : goal.returns-else-over-from
 returns-else-over-from c =
