@@ -31,14 +31,14 @@ taken : (t : Bool) (fault : TableError) (a : Option TableError) → cond t a (So
 taken true fault a e = (refl, e)
 taken false fault a e = cc
 
-both_true : (a b : Bool) → (a && b) ≡ true → (a ≡ true) × (b ≡ true)
+pub both_true : (a b : Bool) → (a && b) ≡ true → (a ≡ true) × (b ≡ true)
 both_true true b e = (refl, e)
 both_true false b e = cc
 
 -- ---- the parts of the check
 
 -- an index without a fault is not too long, and its entries have none
-index_parts : (name : IndexName) (limit : ℕ) (index : List ℕ) → index_fault name limit index ≡ None → (length index ≤ limit) × (entries_fault name 0 index ≡ None)
+pub index_parts : (name : IndexName) (limit : ℕ) (index : List ℕ) → index_fault name limit index ≡ None → (length index ≤ limit) × (entries_fault name 0 index ≡ None)
 index_parts name limit index e = go (nat_lt limit (length index)) refl e
   where
     go : (t : Bool) → nat_lt limit (length index) ≡ t → cond t (Some (TooLong name)) (entries_fault name 0 index) ≡ None → (length index ≤ limit) × (entries_fault name 0 index ≡ None)
@@ -51,6 +51,7 @@ pub record Parts (flat : FlatIndexes) : Type 0 where
   pub jis0208 : (length flat.jis0208 ≤ 11280) × (entries_fault names.Jis0208 0 flat.jis0208 ≡ None)
   pub jis0212 : (length flat.jis0212 ≤ 8836) × (entries_fault names.Jis0212 0 flat.jis0212 ≡ None)
   pub gb18030 : (length flat.gb18030 ≤ 23940) × (entries_fault names.Gb18030 0 flat.gb18030 ≡ None)
+  pub katakana_whole : katakana_fault flat.katakana ≡ None
   pub katakana : entries_fault names.Katakana 0 flat.katakana ≡ None
   pub ordered : range_order_fault 0 None flat.ranges ≡ None
   pub valued : range_value_fault 0 flat.ranges ≡ None
@@ -73,6 +74,7 @@ parts flat e =
       jis0208 = index_parts names.Jis0208 11280 _ c.0;
       jis0212 = index_parts names.Jis0212 8836 _ d.0;
       gb18030 = index_parts names.Gb18030 23940 _ f.0;
+      katakana_whole = g.0;
       katakana = (taken _ KatakanaLength (entries_fault names.Katakana 0 flat.katakana) g.0).1;
       ordered = h.0;
       valued = i.0;
@@ -91,12 +93,25 @@ entry_has P entry test fault other at_zero good e = go (entry == 0) test refl go
     go false true h good e = good refl
     go false false h good e = cc
 
-all_entries : (P : ℕ → Type 0) (name : IndexName) → P 0 → ((e : ℕ) → is_entry name e ≡ true → P e) → (place : ℕ) (index : List ℕ) → entries_fault name place index ≡ None → All P index
+pub all_entries : (P : ℕ → Type 0) (name : IndexName) → P 0 → ((e : ℕ) → is_entry name e ≡ true → P e) → (place : ℕ) (index : List ℕ) → entries_fault name place index ≡ None → All P index
 unfolding entries_fault
 all_entries P name at_zero good place [] e = All-nil P
 all_entries P name at_zero good place (x ∷ xs) e =
     let h = or_none (entry_fault name place x) _ e in
     All-cons P x xs (entry_has P x (is_entry name x) (BadEntry name place) _ at_zero (good x) h.0) (all_entries P name at_zero good (place + 1) xs h.1)
+
+-- of entries without a fault each has none, and so has 0
+pub entry_at : (name : IndexName) (place : ℕ) (index : List ℕ) → entries_fault name place index ≡ None → (k : ℕ) → entry_fault name (place + k) (get_or index k 0) ≡ None
+unfolding entries_fault
+entry_at name place [] e k = refl
+entry_at name place (x ∷ xs) e zero =
+    let h = or_none (entry_fault name place x) _ e in
+    let same : place + 0 ≡ place = omega arith in
+    rw same h.0
+entry_at name place (x ∷ xs) e (suc k) =
+    let h = or_none (entry_fault name place x) _ e in
+    let same : (place + 1) + k ≡ place + suc k = omega arith in
+    rw same at (entry_at name (place + 1) xs h.1 k)
 
 is_narrow-below : (e : ℕ) → is_narrow_entry e ≡ true → e < 0x1_0000
 is_narrow-below e h = grind (arith, nat_tests)
@@ -139,6 +154,9 @@ module _ (flat : FlatIndexes) (accepted : AreAccepted flat) where
 
   pub gb18030-below : All (λ c. c < 0x1_0000) flat.gb18030
   gb18030-below = all_entries _ names.Gb18030 (omega arith) is_narrow-below 0 flat.gb18030 (parts flat accepted).gb18030.1
+
+  pub length-big5 : length flat.big5 ≤ 19782
+  length-big5 = (parts flat accepted).big5.0
 
   pub length-euc_kr : length flat.euc_kr ≤ 23940
   length-euc_kr = (parts flat accepted).euc_kr.0

@@ -17,6 +17,12 @@ pub mod Accepted
 pub mod RangePointers
 pub mod PointerBounds
 pub mod PrivateUse
+pub mod Directories
+pub mod PackedRuns
+pub mod PackedPointers
+pub mod PackedAccepted
+pub mod OrderNumbers
+pub mod Orders
 pub mod AcceptedTable
 pub mod Ascii
 pub mod Texts

@@ -39,5 +39,11 @@ pub mod Latin1
 pub mod TableChecks
 pub mod AcceptedTables
 pub mod Tables
+pub mod KeptTables
+pub mod Directories
+pub mod Runs
+pub mod Packed
+pub mod Orders
+pub mod PackedTables
 pub mod Laws
 pub mod RoundTrips

@@ -20,6 +20,9 @@ pub use encoder::RawEncoder;
 pub use results::{DecodeEvent, DecoderResult, EncodeEvent, EncoderResult};
 pub use single_byte_table::SingleByteTable;
 pub use source::ByteSource;
-pub use tables::{GB18030_2022_PUA, IndexName, Indexes, TableError, Tables};
+pub use tables::{
+    DecoderTables, FlatTables, GB18030_2022_PUA, IndexName, Indexes, KeptTables, Packed,
+    PackedPart, PackedTables, Run, TableError, Tables,
+};
 pub use text_source::{Next, Source, Utf8Source, Utf16Source};
 pub use unit_codes::UnitCodes;

@@ -1,13 +1,24 @@
 //! Indexes, and tables that are made of them once they are checked.
 ghost use Rattle.std.specs.Prelude.{◌≡◌, MatchResult, Some};
-ghost use Rattle.legacy_base.specs.AcceptedTables.{flat_lists};
-ghost use Rattle.legacy_base.specs.TableChecks.{AreAccepted};
 
 pub(crate) mod checks;
+pub(crate) mod decoder_tables;
+pub(crate) mod directory;
+pub(crate) mod flat;
 pub(crate) mod lookups;
+pub(crate) mod order;
+pub(crate) mod order_checks;
+pub(crate) mod packed;
+pub(crate) mod packed_checks;
+pub(crate) mod packed_tables;
 pub(crate) mod pointers;
 pub(crate) mod private_use;
+pub(crate) mod runs;
 
+pub use decoder_tables::DecoderTables;
+pub use flat::FlatTables;
+pub use packed::{Packed, PackedPart, Run};
+pub use packed_tables::PackedTables;
 pub use private_use::GB18030_2022_PUA;
 use std::fmt;
 use std::marker::Model;
@@ -78,6 +89,12 @@ pub enum TableError {
     /// none of 81 to FE, or the trail none of 40 to 7E and 80 to FE.
     #[error("private-use row {0} has bad bytes")]
     PuaBytes(usize),
+    /// The run or the pointer at the place of the packed part is not in order.
+    #[error("packed {0} is out of order at {1}")]
+    PackedOrder(PackedPart, usize),
+    /// The packed part gives the pointer another answer than the flat index does.
+    #[error("packed {0} differs at {1}")]
+    PackedDiffers(PackedPart, usize),
     /// The entry at the place is not 0 and no scalar that a single-byte table may hold.
     #[error("single-byte entry {0} is bad")]
     BadByteEntry(usize),
@@ -114,34 +131,32 @@ pub struct Indexes<'a> {
     pub gb18030_pua: &'a [(u16, u8, u8)],
 }
 
-/// Indexes that passed the check. They are seen as the flat lists that were handed in.
+/// Indexes that passed the check, by how they are kept.
+#[derive(Drop)]
+pub enum KeptTables<'a> {
+    /// As flat indexes.
+    Flat(FlatTables<'a>),
+    /// As runs and orders.
+    Packed(PackedTables<'a>),
+}
+
+/// Indexes that passed the check. They are seen as flat lists, whichever way they are kept: those
+/// that were handed in, or what the runs give.
 #[derive(Drop)]
 pub struct Tables<'a> {
-    big5: &'a [u32],
-    euc_kr: &'a [u16],
-    jis0208: &'a [u16],
-    jis0212: &'a [u16],
-    gb18030: &'a [u16],
-    katakana: &'a [u16],
-    ranges: &'a [(u16, u16)],
-    gb18030_pua: &'a [(u16, u8, u8)],
-    likely_places: [u8; 154],
-    ghost accepted: { AreAccepted (flat_lists big5.now euc_kr.now jis0208.now jis0212.now
-        gb18030.now katakana.now ranges.now gb18030_pua.now) },
+    kept: KeptTables<'a>,
 }
 
 impl<'a> Model for Tables<'a> {
-    ghost use Rattle.legacy_base.specs.AcceptedTables.{AcceptedIndexes, coded_indexes, flat_lists};
+    ghost use Rattle.legacy_base.specs.AcceptedTables.{AcceptedIndexes, coded_indexes};
 
     ghost Value = { AcceptedIndexes };
 
     ghost coded = { coded_indexes };
 
-    ghost view = { λ t. record {
-      flat = flat_lists t.big5.now t.euc_kr.now t.jis0208.now t.jis0212.now
-          t.gb18030.now t.katakana.now t.ranges.now t.gb18030_pua.now;
-      accepted = t.accepted;
-    } };
+    ghost use Rattle.legacy_base.specs.KeptTables.{kept_indexes};
+
+    ghost view = { λ t. kept_indexes t.kept };
 }
 
 impl<'a> Tables<'a> {
@@ -153,38 +168,47 @@ impl<'a> Tables<'a> {
     ghost use Rattle.legacy_base.specs.Pointers.{gb18030_pointer_of, range_pointer_of};
     ghost use Rattle.std.specs.Option.{IfSome};
     ghost use Rattle.std.specs.Prelude.{◌<◌};
+    ghost use Rattle.legacy_base.specs.KeptTables.{kept_indexes};
+    ghost use Rattle.legacy_base.specs.Packed.{packed_fault, ArePackedTables};
 
     /// The tables of the indexes, or the first fault. The indexes are checked in the order of the
     /// fields: the length first, then the entries by rising pointers; of the ranges the order
     /// first; of the private-use rows, which come last, all of a row at once: its order, its
     /// scalar, its bytes. Empty indexes are accepted. It takes no memory, and the slices stay
     /// borrowed.
-    #[tactic(auto, unfolding(crate::specs::TableChecks::table_fault))]
     pub fn new(indexes: &Indexes<'a>) -> Result<Tables<'a>, TableError>
         ensures { MatchResult result
             (λ tables. tables.flat ≡ flat_indexes indexes.now)
             (λ fault. table_fault (flat_indexes indexes.now) ≡ Some fault) }
     {
-        checks::check_big5(indexes.big5)?;
-        checks::check_index(IndexName::EucKr, 23940, indexes.euc_kr)?;
-        checks::check_index(IndexName::Jis0208, 11280, indexes.jis0208)?;
-        checks::check_index(IndexName::Jis0212, 8836, indexes.jis0212)?;
-        checks::check_index(IndexName::Gb18030, 23940, indexes.gb18030)?;
-        checks::check_katakana(indexes.katakana)?;
-        checks::check_range_order(indexes.ranges)?;
-        checks::check_range_scalars(indexes.ranges)?;
-        private_use::check_rows(indexes.gb18030_pua)?;
+        let tables = FlatTables::new(indexes)?;
         Ok(Tables {
-            big5: indexes.big5,
-            euc_kr: indexes.euc_kr,
-            jis0208: indexes.jis0208,
-            jis0212: indexes.jis0212,
-            gb18030: indexes.gb18030,
-            katakana: indexes.katakana,
-            ranges: indexes.ranges,
-            gb18030_pua: indexes.gb18030_pua,
-            likely_places: lookups::likely_places(indexes.ranges),
+            kept: KeptTables::Flat(tables),
         })
+    }
+
+    /// The tables of packed indexes that give what the flat indexes do, or the first fault. The
+    /// indexes are checked first, as `new` does it; then the ten parts of the packed ones in the
+    /// order of their fields, of each part the order first. It takes no memory. Of the flat indexes
+    /// `katakana`, `ranges` and `gb18030_pua` stay borrowed, and the other five do not; the parts
+    /// of the packed ones stay borrowed.
+    pub fn packed_of(indexes: &Indexes<'a>, packed: &Packed<'a>) -> Result<Tables<'a>, TableError>
+        ensures { MatchResult result
+            (λ tables. ArePackedTables (flat_indexes indexes.now) packed.now tables.flat)
+            (λ fault. packed_fault (flat_indexes indexes.now) packed.now ≡ Some fault) }
+    {
+        let tables = PackedTables::new(indexes, packed)?;
+        Ok(Tables {
+            kept: KeptTables::Packed(tables),
+        })
+    }
+
+    /// The same tables, by how they are kept.
+    #[inline]
+    pub fn kept(&self) -> &KeptTables<'a>
+        ensures { kept_indexes result.now ≡ self.now }
+    {
+        &self.kept
     }
 
     /// The scalar value of the pointer in the index of the name, or `None` where it has none: where
@@ -194,14 +218,9 @@ impl<'a> Tables<'a> {
     pub fn idx(&self, name: IndexName, pointer: usize) -> Option<char>
         ensures { result ≡ idx (index_list self.now.flat name) pointer }
     {
-        match name {
-            IndexName::Big5 => lookups::wide_entry(self.big5, pointer),
-            IndexName::EucKr => lookups::narrow_entry(self.euc_kr, pointer),
-            IndexName::Jis0208 => lookups::narrow_entry(self.jis0208, pointer),
-            IndexName::Jis0212 => lookups::narrow_entry(self.jis0212, pointer),
-            IndexName::Gb18030 => lookups::narrow_entry(self.gb18030, pointer),
-            IndexName::Katakana => lookups::narrow_entry(self.katakana, pointer),
-            IndexName::Ranges => None,
+        match &self.kept {
+            KeptTables::Flat(tables) => tables.idx(name, pointer),
+            KeptTables::Packed(tables) => tables.idx(name, pointer),
         }
     }
 
@@ -211,56 +230,74 @@ impl<'a> Tables<'a> {
     pub fn range(&self, pointer: usize) -> Option<char>
         ensures { result ≡ range self.now.flat.ranges pointer }
     {
-        lookups::range_scalar(self.ranges, &self.likely_places, pointer)
+        match &self.kept {
+            KeptTables::Flat(tables) => tables.range(pointer),
+            KeptTables::Packed(tables) => tables.range(pointer),
+        }
     }
 
     /// The pointer that the Big5 encoder takes for the scalar value, or `None` where index Big5 has
     /// it at no pointer from 5024 on (Encoding Standard, "index Big5 pointer"): the last of these
-    /// for U+2550, U+255E, U+2561, U+256A, U+5341 and U+5345, and else the first. It searches the
-    /// index from there on.
+    /// for U+2550, U+255E, U+2561, U+256A, U+5341 and U+5345, and else the first. Flat tables
+    /// search the index from there on.
     pub fn big5_pointer(&self, scalar: char) -> Option<usize>
         ensures pointer { result ≡ big5_pointer_of self.now.flat.big5 scalar }
         ensures within { IfSome result (λ p. p < 19782) }
     {
-        pointers::big5_pointer(self.big5, scalar)
+        match &self.kept {
+            KeptTables::Flat(tables) => tables.big5_pointer(scalar),
+            KeptTables::Packed(tables) => tables.big5_pointer(scalar),
+        }
     }
 
     /// The first pointer of the scalar value in index EUC-KR, or `None` where it has none (Encoding
-    /// Standard, "index pointer"). It searches the index.
+    /// Standard, "index pointer"). Flat tables search the index.
     pub fn euc_kr_pointer(&self, scalar: char) -> Option<usize>
         ensures pointer { result ≡ euc_kr_pointer_of self.now.flat.euc_kr scalar }
         ensures within { IfSome result (λ p. p < 23940) }
     {
-        pointers::first(self.euc_kr, scalar)
+        match &self.kept {
+            KeptTables::Flat(tables) => tables.euc_kr_pointer(scalar),
+            KeptTables::Packed(tables) => tables.euc_kr_pointer(scalar),
+        }
     }
 
     /// The pointer that the Shift_JIS encoder takes for the scalar value: the first one in index
     /// jis0208 that is not one of 8272 to 8835, or `None` where there is none (Encoding Standard,
-    /// "index Shift_JIS pointer"). It searches the index.
+    /// "index Shift_JIS pointer"). Flat tables search the index.
     pub fn shift_jis_pointer(&self, scalar: char) -> Option<usize>
         ensures pointer { result ≡ shift_jis_pointer_of self.now.flat.jis0208 scalar }
         ensures within { IfSome result (λ p. p < 11280) }
     {
-        pointers::shift_jis_pointer(self.jis0208, scalar)
+        match &self.kept {
+            KeptTables::Flat(tables) => tables.shift_jis_pointer(scalar),
+            KeptTables::Packed(tables) => tables.shift_jis_pointer(scalar),
+        }
     }
 
     /// The pointer that the EUC-JP and ISO-2022-JP encoders take for the scalar value: the first
     /// one in index jis0208, or `None` where there is none below 8836, where their forms end
-    /// (Encoding Standard, "index pointer"). It searches the index.
+    /// (Encoding Standard, "index pointer"). Flat tables search the index.
     pub fn euc_jp_pointer(&self, scalar: char) -> Option<usize>
         ensures pointer { result ≡ euc_jp_pointer_of self.now.flat.jis0208 scalar }
         ensures within { IfSome result (λ p. p < 8836) }
     {
-        pointers::euc_jp_pointer(self.jis0208, scalar)
+        match &self.kept {
+            KeptTables::Flat(tables) => tables.euc_jp_pointer(scalar),
+            KeptTables::Packed(tables) => tables.euc_jp_pointer(scalar),
+        }
     }
 
     /// The first pointer of the scalar value in index gb18030, or `None` where it has none
-    /// (Encoding Standard, "index pointer"). It searches the index.
+    /// (Encoding Standard, "index pointer"). Flat tables search the index.
     pub fn gb18030_pointer(&self, scalar: char) -> Option<usize>
         ensures pointer { result ≡ gb18030_pointer_of self.now.flat.gb18030 scalar }
         ensures within { IfSome result (λ p. p < 23940) }
     {
-        pointers::first(self.gb18030, scalar)
+        match &self.kept {
+            KeptTables::Flat(tables) => tables.gb18030_pointer(scalar),
+            KeptTables::Packed(tables) => tables.gb18030_pointer(scalar),
+        }
     }
 
     /// The pointer of four bytes that has the scalar value, or `None` where none has (Encoding
@@ -271,7 +308,10 @@ impl<'a> Tables<'a> {
         ensures pointer { result ≡ range_pointer_of self.now.flat.ranges scalar }
         ensures within { IfSome result (λ p. p < 1237576) }
     {
-        pointers::range_pointer(self.ranges, scalar)
+        match &self.kept {
+            KeptTables::Flat(tables) => tables.range_pointer(scalar),
+            KeptTables::Packed(tables) => tables.range_pointer(scalar),
+        }
     }
 
     /// The lead and the trail that a private-use row gives the scalar value, or `None` where no row
@@ -279,6 +319,22 @@ impl<'a> Tables<'a> {
     pub fn gb18030_pua_bytes(&self, scalar: char) -> Option<(u8, u8)>
         ensures { result ≡ gb18030_pua_of self.now.flat.gb18030_pua scalar }
     {
-        private_use::row_bytes(self.gb18030_pua, scalar)
+        match &self.kept {
+            KeptTables::Flat(tables) => tables.gb18030_pua_bytes(scalar),
+            KeptTables::Packed(tables) => tables.gb18030_pua_bytes(scalar),
+        }
+    }
+}
+
+impl<'a> DecoderTables for Tables<'a> {
+    ghost indexes = { λ t. t };
+
+    #[inline]
+    fn idx(&self, name: IndexName, pointer: usize) -> Option<char> {
+        Tables::idx(self, name, pointer)
+    }
+
+    fn range(&self, pointer: usize) -> Option<char> {
+        Tables::range(self, pointer)
     }
 }

@@ -25,6 +25,11 @@ pub neutral_empty : (bytes : List ℕ) → (is_empty bytes && true) ≡ true →
 neutral_empty [] e = refl
 neutral_empty (b ∷ bytes) e = cc
 
+-- no bytes are held back without a lead
+pub none_bytes : {L : Type 0} (byte : L → ℕ) (held : Option L) → held ≡ None → held_bytes byte held ≡ []
+none_bytes byte None e = refl
+none_bytes byte (Some lead) e = cc
+
 module _ {L : Type 0} (grammar : FlatIndexes → Grammar) (is_lead_byte : ℕ → Bool) (first : ℕ → Step) (scalars : FlatIndexes → ℕ → ℕ → List ℕ) (is : IsLeadCodec grammar is_lead_byte first scalars)
     (byte : L → ℕ) (leads : (lead : L) → is_lead_byte (byte lead) ≡ true) (tables : AcceptedIndexes) where
   abbrev g : Grammar

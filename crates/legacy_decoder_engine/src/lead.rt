@@ -16,7 +16,10 @@ ghost use Rattle.legacy_decoder_engine.specs.LeadCodecs.{IsLeadCodec, held_bytes
 use crate::common_forms::{CommonForm, CommonForms, read_common_forms};
 use crate::drive::drive_decoder;
 use crate::moves::{DecoderMoves, Fed, Move, Room};
-use legacy_base::{DecoderResult, Destination, RawDecoder, Tables};
+use legacy_base::{
+    DecoderResult, DecoderTables, Destination, FlatTables, KeptTables, PackedTables, RawDecoder,
+    Tables,
+};
 
 /// A codec whose forms have one byte, or a lead and a trail: all that its decoder does not share.
 pub trait LeadCodec {
@@ -48,9 +51,9 @@ pub trait LeadCodec {
             (byte_of lead ∷ []) trail result [] };
 
     /// What stands at the front of the input, by a byte past ASCII and the byte behind it.
-    fn front(tables: &Tables<'_>, lead: u8, trail: u8) -> CommonForm
+    fn front<V: DecoderTables>(tables: &V, lead: u8, trail: u8) -> CommonForm
         requires { 0x80 ≤ lead }
-        ensures { IsCommonForm (grammar tables.now.flat) lead trail result };
+        ensures { IsCommonForm (grammar (V.indexes tables.now).flat) lead trail result };
 
     /// The room of every act but reading ASCII with nothing held back.
     fn room() -> Room
@@ -168,16 +171,49 @@ impl<'a, C: LeadCodec> DecoderMoves for LeadDecoder<'a, C> {
 
     #[inline]
     fn read_ahead<T: Destination>(&self, src: &[u8], dst: &mut T) -> usize {
-        read_common_forms(self, src, dst)
+        match self.tables.kept() {
+            KeptTables::Flat(tables) => {
+                read_common_forms(
+                    &LeadForms::<C, FlatTables<'a>>::new(tables, self.held),
+                    src,
+                    dst,
+                )
+            }
+            KeptTables::Packed(tables) => {
+                read_common_forms(
+                    &LeadForms::<C, PackedTables<'a>>::new(tables, self.held),
+                    src,
+                    dst,
+                )
+            }
+        }
     }
 }
 
-impl<'a, C: LeadCodec> CommonForms for LeadDecoder<'a, C> {
-    ghost state = { λ d. lead_state C.grammar C.byte_of d.tables.now d.held };
+/// The common forms of such a codec, by its tables as they are kept, where so much is held back.
+#[derive(Drop)]
+struct LeadForms<'a, C: LeadCodec, V: DecoderTables> {
+    tables: &'a V,
+    held: Option<C::Lead>,
+}
+
+impl<'a, C: LeadCodec, V: DecoderTables> LeadForms<'a, C, V> {
+    /// The common forms by these tables.
+    #[inline]
+    fn new(tables: &'a V, held: Option<C::Lead>) -> LeadForms<'a, C, V>
+        ensures { lead_state C.grammar C.byte_of (V.indexes result.tables.now) result.held
+            ≡ lead_state C.grammar C.byte_of (V.indexes tables.now) held }
+    {
+        LeadForms { tables, held }
+    }
+}
+
+impl<'a, C: LeadCodec, V: DecoderTables> CommonForms for LeadForms<'a, C, V> {
+    ghost state = { λ f. lead_state C.grammar C.byte_of (V.indexes f.tables.now) f.held };
 
     #[inline]
     fn is_idle(&self) -> bool {
-        self.in_neutral_state()
+        matches!(self.held, None)
     }
 
     #[inline]

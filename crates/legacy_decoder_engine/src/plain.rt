@@ -14,7 +14,7 @@ use crate::common_forms::CommonForm;
 use crate::lead::LeadCodec;
 use crate::moves::{Fed, Room};
 use crate::two_byte::{read_first, read_trail};
-use legacy_base::{IndexName, Tables};
+use legacy_base::{DecoderTables, IndexName, Tables};
 use std::alloc::AllocError;
 use std::marker::PhantomData;
 
@@ -85,9 +85,9 @@ impl<C: PlainCodec> PlainLead<C> {
 
 /// The scalar of two bytes, if they are a lead and a trail and give one.
 #[inline]
-fn form_scalar<C: PlainCodec>(tables: &Tables<'_>, lead: u8, trail: u8) -> Option<char>
+fn form_scalar<C: PlainCodec, V: DecoderTables>(tables: &V, lead: u8, trail: u8) -> Option<char>
     ensures value { option_to_list result ≡ (if C.leads lead
-        then pair_scalars C.pointers (index_list tables.now.flat C.INDEX) lead trail
+        then pair_scalars C.pointers (index_list (V.indexes tables.now).flat C.INDEX) lead trail
         else []) }
     ensures scalar { IfSome result IsScalar }
 {
@@ -101,7 +101,7 @@ fn pair_scalar<C: PlainCodec>(tables: &Tables<'_>, lead: PlainLead<C>, trail: u8
         ≡ pair_scalars C.pointers (index_list tables.now.flat C.INDEX) lead.byte trail }
     ensures scalar { IfSome result IsScalar }
 {
-    form_scalar::<C>(tables, lead.byte, trail)
+    form_scalar::<C, Tables<'_>>(tables, lead.byte, trail)
 }
 
 /// A plain codec as what its decoder asks for.
@@ -137,8 +137,8 @@ impl<C: PlainCodec> LeadCodec for Plain<C> {
     }
 
     #[inline]
-    fn front(tables: &Tables<'_>, lead: u8, trail: u8) -> CommonForm {
-        match form_scalar::<C>(tables, lead, trail) {
+    fn front<V: DecoderTables>(tables: &V, lead: u8, trail: u8) -> CommonForm {
+        match form_scalar::<C, V>(tables, lead, trail) {
             Some(scalar) => CommonForm::Pair(scalar),
             None => CommonForm::Other,
         }

@@ -3,7 +3,6 @@ use Rattle.std.specs.Prelude.{◌≡◌, ◌≢◌, ℕ, ◌<◌, List, [], ◌�
 use Rattle.legacy_base.specs.Grammar.{Grammar, iso_2022_jp}
 use Rattle.legacy_base.specs.Iso2022Jp.{esc, two_byte}
 use Rattle.legacy_base.specs.States.{DecoderState}
-use Rattle.legacy_japanese.specs.declared.iso_2022_jp.runs.Jis0208Pairs.{Jis0208Pairs}
 use Rattle.legacy_japanese.specs.declared.iso_2022_jp.steps.Escape.{Escape}
 use Rattle.legacy_japanese.specs.declared.iso_2022_jp.steps.Mode.{Mode}
 use Rattle.legacy_japanese.specs.declared.iso_2022_jp.steps.Start.TheVariants.{Nothing}
@@ -26,5 +25,5 @@ pub record HasEscape (escape : Escape) (bytes : List ℕ) : Type 0 where
   pub alone : get_or bytes 3 0 ≢ esc
 
 -- the grammar of pairs
-abbrev pub pairs_grammar : Jis0208Pairs → Grammar
-pairs_grammar pairs = iso_2022_jp pairs.tables.now.flat.jis0208 two_byte
+abbrev pub pairs_grammar : List ℕ → Grammar
+pairs_grammar jis0208 = iso_2022_jp jis0208 two_byte

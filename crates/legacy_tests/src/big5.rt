@@ -2,14 +2,14 @@
 mod encoder;
 
 use crate::events::bad;
-use crate::indexes::{no_entries, tables_of};
+use crate::indexes::{no_entries, no_parts, packed_tables_of, tables_of};
 use crate::rows::Row::{
     BareLength, Decoder, Events, Neutral, ToUtf8, ToUtf16, Utf8Length, Utf16Length,
 };
 use crate::rows::{Row, Tested, follow};
 use legacy_base::DecodeEvent::Scalar;
 use legacy_base::DecoderResult::{InputEmpty, Malformed, OutputFull};
-use legacy_base::{Indexes, Tables};
+use legacy_base::{Indexes, Packed, Run, Tables};
 use legacy_decoders::Big5Decoder;
 
 impl<'a> Tested for Big5Decoder<'a> {
@@ -84,6 +84,8 @@ const WITHOUT_ENTRIES: &[Row] = &[
 fn decodes_with_an_empty_index(rt: HostRuntime) {
     let tables = tables_of(&rt, &no_entries());
     follow::<Big5Decoder>(&rt, &tables, WITHOUT_ENTRIES);
+    let packed = packed_tables_of(&rt, &no_entries(), &no_parts());
+    follow::<Big5Decoder>(&rt, &packed, WITHOUT_ENTRIES);
 }
 
 const THE_LAST_POINTER: &[Row] = &[
@@ -105,12 +107,21 @@ const THE_LAST_POINTER: &[Row] = &[
 fn decodes_the_last_pointer(rt: HostRuntime) {
     let mut index = [0u32; 19781];
     index[19780] = 0x2_910D;
-    let tables = tables_of(
-        &rt,
-        &Indexes {
-            big5: &index,
-            ..no_entries()
-        },
-    );
+    let indexes = Indexes {
+        big5: &index,
+        ..no_entries()
+    };
+    let packed = Packed {
+        big5: &[Run {
+            pointer: 19780,
+            scalar: 0x2910D,
+            length: 1,
+        }],
+        big5_order: &[19780],
+        ..no_parts()
+    };
+    let tables = tables_of(&rt, &indexes);
+    follow::<Big5Decoder>(&rt, &tables, THE_LAST_POINTER);
+    let tables = packed_tables_of(&rt, &indexes, &packed);
     follow::<Big5Decoder>(&rt, &tables, THE_LAST_POINTER);
 }

@@ -2,14 +2,14 @@
 mod encoder;
 
 use crate::events::bad;
-use crate::indexes::{no_entries, tables_of};
+use crate::indexes::{no_entries, no_parts, packed_tables_of, tables_of};
 use crate::rows::Row::{
     BareLength, Decoder, Events, Neutral, ToUtf8, ToUtf16, Utf8Length, Utf16Length,
 };
 use crate::rows::{Row, Tested, follow};
 use legacy_base::DecodeEvent::Scalar;
 use legacy_base::DecoderResult::{InputEmpty, Malformed, OutputFull};
-use legacy_base::{Indexes, Tables};
+use legacy_base::{Indexes, Packed, Run, Tables};
 use legacy_decoders::EucJpDecoder;
 
 impl<'a> Tested for EucJpDecoder<'a> {
@@ -83,6 +83,8 @@ const WITHOUT_ENTRIES: &[Row] = &[
 fn decodes_with_empty_indexes(rt: HostRuntime) {
     let tables = tables_of(&rt, &no_entries());
     follow::<EucJpDecoder>(&rt, &tables, WITHOUT_ENTRIES);
+    let packed = packed_tables_of(&rt, &no_entries(), &no_parts());
+    follow::<EucJpDecoder>(&rt, &packed, WITHOUT_ENTRIES);
 }
 
 const PAIRS: &[Row] = &[
@@ -108,13 +110,35 @@ fn decodes_pairs_by_jis0208_and_behind_8f_by_jis0212(rt: HostRuntime) {
     jis0208[60] = 0xFF0D;
     let mut jis0212 = [0u16; 109];
     jis0212[108] = 0x02D8;
-    let tables = tables_of(
-        &rt,
-        &Indexes {
-            jis0208: &jis0208,
-            jis0212: &jis0212,
-            ..no_entries()
-        },
-    );
+    let indexes = Indexes {
+        jis0208: &jis0208,
+        jis0212: &jis0212,
+        ..no_entries()
+    };
+    let packed = Packed {
+        jis0208: &[
+            Run {
+                pointer: 0,
+                scalar: 0x3000,
+                length: 1,
+            },
+            Run {
+                pointer: 60,
+                scalar: 0xFF0D,
+                length: 1,
+            },
+        ],
+        jis0212: &[Run {
+            pointer: 108,
+            scalar: 0x2D8,
+            length: 1,
+        }],
+        shift_jis_order: &[0, 60],
+        euc_jp_order: &[0, 60],
+        ..no_parts()
+    };
+    let tables = tables_of(&rt, &indexes);
+    follow::<EucJpDecoder>(&rt, &tables, PAIRS);
+    let tables = packed_tables_of(&rt, &indexes, &packed);
     follow::<EucJpDecoder>(&rt, &tables, PAIRS);
 }

@@ -2,14 +2,14 @@
 mod encoder;
 
 use crate::events::bad;
-use crate::indexes::{no_entries, tables_of};
+use crate::indexes::{no_entries, no_parts, packed_tables_of, tables_of};
 use crate::rows::Row::{
     BareLength, Decoder, Events, Neutral, ToUtf8, ToUtf16, Utf8Length, Utf16Length,
 };
 use crate::rows::{Row, Tested, follow};
 use legacy_base::DecodeEvent::Scalar;
 use legacy_base::DecoderResult::{InputEmpty, Malformed, OutputFull};
-use legacy_base::{Indexes, Tables};
+use legacy_base::{Indexes, Packed, Run, Tables};
 use legacy_decoders::EucKrDecoder;
 
 impl<'a> Tested for EucKrDecoder<'a> {
@@ -71,12 +71,21 @@ const ROWS: &[Row] = &[
 
 #[test]
 fn decodes_with_one_entry(rt: HostRuntime) {
-    let tables = tables_of(
-        &rt,
-        &Indexes {
-            euc_kr: &[0xAC02],
-            ..no_entries()
-        },
-    );
+    let indexes = Indexes {
+        euc_kr: &[0xAC02],
+        ..no_entries()
+    };
+    let packed = Packed {
+        euc_kr: &[Run {
+            pointer: 0,
+            scalar: 0xAC02,
+            length: 1,
+        }],
+        euc_kr_order: &[0],
+        ..no_parts()
+    };
+    let tables = tables_of(&rt, &indexes);
+    follow::<EucKrDecoder>(&rt, &tables, ROWS);
+    let tables = packed_tables_of(&rt, &indexes, &packed);
     follow::<EucKrDecoder>(&rt, &tables, ROWS);
 }

@@ -2,14 +2,14 @@
 mod encoder;
 
 use crate::events::bad;
-use crate::indexes::{no_entries, tables_of};
+use crate::indexes::{no_entries, no_parts, packed_tables_of, tables_of};
 use crate::rows::Row::{
     BareLength, Decoder, Events, Neutral, ToUtf8, ToUtf16, Utf8Length, Utf16Length,
 };
 use crate::rows::{Row, Tested, follow};
 use legacy_base::DecodeEvent::Scalar;
 use legacy_base::DecoderResult::{InputEmpty, Malformed, OutputFull};
-use legacy_base::{Indexes, Tables};
+use legacy_base::{Indexes, Packed, Run, Tables};
 use legacy_decoders::Gb18030Decoder;
 
 impl<'a> Tested for Gb18030Decoder<'a> {
@@ -63,6 +63,8 @@ const PUT_BACK: &[Row] = &[
 fn decodes_again_what_was_put_back(rt: HostRuntime) {
     let tables = tables_of(&rt, &no_entries());
     follow::<Gb18030Decoder>(&rt, &tables, PUT_BACK);
+    let packed = packed_tables_of(&rt, &no_entries(), &no_parts());
+    follow::<Gb18030Decoder>(&rt, &packed, PUT_BACK);
 }
 
 const WITHOUT_ENTRIES: &[Row] = &[
@@ -144,6 +146,8 @@ const WITHOUT_ENTRIES: &[Row] = &[
 fn decodes_with_empty_indexes(rt: HostRuntime) {
     let tables = tables_of(&rt, &no_entries());
     follow::<Gb18030Decoder>(&rt, &tables, WITHOUT_ENTRIES);
+    let packed = packed_tables_of(&rt, &no_entries(), &no_parts());
+    follow::<Gb18030Decoder>(&rt, &packed, WITHOUT_ENTRIES);
 }
 
 const PAIRS: &[Row] = &[
@@ -166,13 +170,39 @@ fn decodes_pairs_on_both_sides_of_7f(rt: HostRuntime) {
     index[63] = 0x4E85;
     index[189] = 0x4F22;
     index[190] = 0x4F23;
-    let tables = tables_of(
-        &rt,
-        &Indexes {
-            gb18030: &index,
-            ..no_entries()
-        },
-    );
+    let indexes = Indexes {
+        gb18030: &index,
+        ..no_entries()
+    };
+    let packed = Packed {
+        gb18030: &[
+            Run {
+                pointer: 0,
+                scalar: 0x4E02,
+                length: 1,
+            },
+            Run {
+                pointer: 62,
+                scalar: 0x4E79,
+                length: 1,
+            },
+            Run {
+                pointer: 63,
+                scalar: 0x4E85,
+                length: 1,
+            },
+            Run {
+                pointer: 189,
+                scalar: 0x4F22,
+                length: 2,
+            },
+        ],
+        gb18030_order: &[0, 62, 63, 189, 190],
+        ..no_parts()
+    };
+    let tables = tables_of(&rt, &indexes);
+    follow::<Gb18030Decoder>(&rt, &tables, PAIRS);
+    let tables = packed_tables_of(&rt, &indexes, &packed);
     follow::<Gb18030Decoder>(&rt, &tables, PAIRS);
 }
 
@@ -206,12 +236,13 @@ const RANGES: &[Row] = &[
 
 #[test]
 fn decodes_four_bytes_by_the_ranges(rt: HostRuntime) {
-    let tables = tables_of(
-        &rt,
-        &Indexes {
-            ranges: &[(0, 0x0080), (36, 0x00A5)],
-            ..no_entries()
-        },
-    );
+    let indexes = Indexes {
+        ranges: &[(0, 0x0080), (36, 0x00A5)],
+        ..no_entries()
+    };
+    let packed = no_parts();
+    let tables = tables_of(&rt, &indexes);
+    follow::<Gb18030Decoder>(&rt, &tables, RANGES);
+    let tables = packed_tables_of(&rt, &indexes, &packed);
     follow::<Gb18030Decoder>(&rt, &tables, RANGES);
 }

@@ -1,5 +1,5 @@
 //! Tables to test with, their indexes, and the entries of a single-byte table.
-use legacy_base::{GB18030_2022_PUA, Indexes, SingleByteTable, Tables};
+use legacy_base::{GB18030_2022_PUA, Indexes, Packed, SingleByteTable, Tables};
 use std::process::Abort;
 
 /// Indexes without an entry, and the private-use rows of GB18030-2022.
@@ -13,6 +13,22 @@ pub(crate) fn no_entries<'a>() -> Indexes<'a> {
         katakana: &[],
         ranges: &[],
         gb18030_pua: &GB18030_2022_PUA,
+    }
+}
+
+/// Packed indexes without a run and without a pointer.
+pub(crate) fn no_parts<'a>() -> Packed<'a> {
+    Packed {
+        big5: &[],
+        euc_kr: &[],
+        jis0208: &[],
+        jis0212: &[],
+        gb18030: &[],
+        big5_order: &[],
+        euc_kr_order: &[],
+        shift_jis_order: &[],
+        euc_jp_order: &[],
+        gb18030_order: &[],
     }
 }
 
@@ -30,6 +46,18 @@ pub(crate) fn entries_of(some: &[(usize, u16)]) -> [u16; 128] {
 /// Tables of these indexes.
 pub(crate) fn tables_of<'a>(rt: &impl Abort, indexes: &Indexes<'a>) -> Tables<'a> {
     match Tables::new(indexes) {
+        Ok(tables) => tables,
+        Err(fault) => panic!(rt; "{fault}"),
+    }
+}
+
+/// Tables of these indexes, packed.
+pub(crate) fn packed_tables_of<'a>(
+    rt: &impl Abort,
+    indexes: &Indexes<'a>,
+    packed: &Packed<'a>,
+) -> Tables<'a> {
+    match Tables::packed_of(indexes, packed) {
         Ok(tables) => tables,
         Err(fault) => panic!(rt; "{fault}"),
     }

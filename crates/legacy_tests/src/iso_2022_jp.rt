@@ -2,14 +2,14 @@
 mod encoder;
 
 use crate::events::bad;
-use crate::indexes::{no_entries, tables_of};
+use crate::indexes::{no_entries, no_parts, packed_tables_of, tables_of};
 use crate::rows::Row::{
     BareLength, Decoder, Events, Neutral, ToUtf8, ToUtf16, Utf8Length, Utf16Length,
 };
 use crate::rows::{Row, Tested, follow};
 use legacy_base::DecodeEvent::Scalar;
 use legacy_base::DecoderResult::{InputEmpty, Malformed, OutputFull};
-use legacy_base::{Indexes, Tables};
+use legacy_base::{Indexes, Packed, Run, Tables};
 use legacy_decoders::Iso2022JpDecoder;
 
 impl<'a> Tested for Iso2022JpDecoder<'a> {
@@ -125,6 +125,8 @@ const WITHOUT_ENTRIES: &[Row] = &[
 fn decodes_with_an_empty_index(rt: HostRuntime) {
     let tables = tables_of(&rt, &no_entries());
     follow::<Iso2022JpDecoder>(&rt, &tables, WITHOUT_ENTRIES);
+    let packed = packed_tables_of(&rt, &no_entries(), &no_parts());
+    follow::<Iso2022JpDecoder>(&rt, &packed, WITHOUT_ENTRIES);
 }
 
 /// The rows with pointers 0, 95 and 671 of index jis0208.
@@ -233,12 +235,34 @@ fn decodes_pairs_between_escapes(rt: HostRuntime) {
     jis0208[0] = 0x3000;
     jis0208[95] = 0x2225;
     jis0208[671] = 0x250F;
-    let tables = tables_of(
-        &rt,
-        &Indexes {
-            jis0208: &jis0208,
-            ..no_entries()
-        },
-    );
+    let indexes = Indexes {
+        jis0208: &jis0208,
+        ..no_entries()
+    };
+    let packed = Packed {
+        jis0208: &[
+            Run {
+                pointer: 0,
+                scalar: 0x3000,
+                length: 1,
+            },
+            Run {
+                pointer: 95,
+                scalar: 0x2225,
+                length: 1,
+            },
+            Run {
+                pointer: 671,
+                scalar: 0x250F,
+                length: 1,
+            },
+        ],
+        shift_jis_order: &[95, 671, 0],
+        euc_jp_order: &[95, 671, 0],
+        ..no_parts()
+    };
+    let tables = tables_of(&rt, &indexes);
+    follow::<Iso2022JpDecoder>(&rt, &tables, PAIRS);
+    let tables = packed_tables_of(&rt, &indexes, &packed);
     follow::<Iso2022JpDecoder>(&rt, &tables, PAIRS);
 }

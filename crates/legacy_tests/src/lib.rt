@@ -29,6 +29,8 @@ mod indexes;
 #[cfg(test)]
 mod iso_2022_jp;
 #[cfg(test)]
+mod packed;
+#[cfg(test)]
 mod pointers;
 #[cfg(test)]
 mod replacement;

@@ -2,7 +2,7 @@
 mod encoder;
 
 use crate::events::bad;
-use crate::indexes::{no_entries, tables_of};
+use crate::indexes::{no_entries, no_parts, packed_tables_of, tables_of};
 use crate::rows::Row::{BareLength, Decoder, Events, Neutral, ToUtf8, Utf8Length, Utf16Length};
 use crate::rows::{Row, Tested, follow};
 use legacy_base::DecodeEvent::Scalar;
@@ -72,4 +72,6 @@ const WITHOUT_ENTRIES: &[Row] = &[
 fn decodes_with_an_empty_index(rt: HostRuntime) {
     let tables = tables_of(&rt, &no_entries());
     follow::<ShiftJisDecoder>(&rt, &tables, WITHOUT_ENTRIES);
+    let packed = packed_tables_of(&rt, &no_entries(), &no_parts());
+    follow::<ShiftJisDecoder>(&rt, &packed, WITHOUT_ENTRIES);
 }

@@ -6,8 +6,11 @@ ghost use Rattle.legacy_base.specs.TableChecks.{is_narrow_entry, is_entry, must_
 ghost use Rattle.legacy_base.specs.TableChecks.{entry_fault, index_fault, katakana_fault};
 ghost use Rattle.legacy_base.specs.TableChecks.{entries_fault, follows_range, range_order_fault};
 ghost use Rattle.legacy_base.specs.TableChecks.{next_pointer, has_range_scalars, range_value_fault};
+ghost use Rattle.legacy_base.specs.TableChecks.{table_fault};
+ghost use Rattle.legacy_base.specs.Tables.{flat_indexes};
 
-use super::{IndexName, TableError};
+use super::private_use::check_rows;
+use super::{IndexName, Indexes, TableError};
 
 /// The last pointer that ranges reach.
 const LAST_RANGE_POINTER: u16 = 39419;
@@ -169,4 +172,21 @@ pub(super) fn check_range_scalars(ranges: &[(u16, u16)]) -> Result<(), TableErro
         }
     }
     Ok(())
+}
+
+/// Checks indexes in the order of the fields, and answers the first fault.
+#[tactic(auto, unfolding(crate::specs::TableChecks::table_fault))]
+pub(super) fn check_indexes(indexes: &Indexes<'_>) -> Result<(), TableError>
+    ensures { let found = table_fault (flat_indexes indexes.now) in
+        MatchResult result (λ _. found ≡ None) (λ fault. found ≡ Some fault) }
+{
+    check_big5(indexes.big5)?;
+    check_index(IndexName::EucKr, 23940, indexes.euc_kr)?;
+    check_index(IndexName::Jis0208, 11280, indexes.jis0208)?;
+    check_index(IndexName::Jis0212, 8836, indexes.jis0212)?;
+    check_index(IndexName::Gb18030, 23940, indexes.gb18030)?;
+    check_katakana(indexes.katakana)?;
+    check_range_order(indexes.ranges)?;
+    check_range_scalars(indexes.ranges)?;
+    check_rows(indexes.gb18030_pua)
 }

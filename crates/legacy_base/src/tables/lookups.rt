@@ -4,6 +4,9 @@ ghost use Rattle.std.specs.Char.{IsScalar};
 ghost use Rattle.legacy_base.specs.Unicode.{AreScalars};
 ghost use Rattle.legacy_base.specs.Indexes.{entry_scalar, idx, last_range_scalar, range};
 ghost use Rattle.legacy_base.specs.TableChecks.{range_order_fault, range_value_fault};
+ghost use Rattle.legacy_base.specs.Runs.{runs_list};
+
+use super::runs::Runs;
 
 /// The scalar of an entry, or `None` where it is 0.
 // No test of what the check of the tables has shown: it would be one more branch for each look-up.
@@ -43,6 +46,15 @@ pub(crate) fn narrow_entry(index: &[u16], pointer: usize) -> Option<char>
     } else {
         None
     }
+}
+
+/// The scalar of a pointer in an index that is kept as runs.
+#[inline]
+pub(super) fn run_scalar(runs: &Runs<'_>, pointer: usize) -> Option<char>
+    requires { AreScalars (runs_list runs.now.runs.now) }
+    ensures { result ≡ idx (runs_list runs.now.runs.now) pointer }
+{
+    scalar_of(runs.entry(pointer))
 }
 
 /// How many of the ranges start at or before a pointer: the ranges rise, so these are the first

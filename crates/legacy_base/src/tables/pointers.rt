@@ -41,7 +41,7 @@ fn last_wide(index: &[u32], start: usize, entry: u32) -> Option<usize>
 }
 
 /// Whether Big5 takes the last of the scalar's pointers.
-fn takes_last(scalar: u32) -> bool
+pub(super) fn takes_last(scalar: usize) -> bool
     ensures { result ≡ takes_last_big5_pointer scalar }
 {
     matches!(scalar, 0x2550 | 0x255E | 0x2561 | 0x256A | 0x5341 | 0x5345)
@@ -55,7 +55,7 @@ pub(super) fn big5_pointer(index: &[u32], scalar: char) -> Option<usize>
     if entry == 0 {
         return None;
     }
-    if takes_last(entry) {
+    if takes_last(entry as usize) {
         last_wide(index, 5024, entry)
     } else {
         first_wide(index, 5024, index.len(), entry)

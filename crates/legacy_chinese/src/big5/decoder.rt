@@ -10,7 +10,7 @@ ghost use Rattle.legacy_decoder_engine.specs.Feeding.{Took};
 ghost use Rattle.legacy_chinese.specs.Big5Shown.{big5_codec};
 ghost use Rattle.legacy_decoder_engine.proofs.TwoByteMeets.{is_lead-in};
 
-use legacy_base::{IndexName, Tables};
+use legacy_base::{DecoderTables, IndexName, Tables};
 use legacy_decoder_engine::common_forms::CommonForm;
 use legacy_decoder_engine::held::Lead;
 use legacy_decoder_engine::lead::{LeadCodec, LeadDecoder};
@@ -46,8 +46,9 @@ fn pair_pointer(lead: Lead, trail: u8) -> Option<usize>
 /// Reads a trail behind its lead, which have this pointer: four pointers give a letter and a combining
 /// mark, and the others their entry.
 #[inline]
-fn read_pointer(tables: &Tables<'_>, pointer: usize, trail: u8) -> Fed
-    ensures { (lead : ℕ) → Took (trail_step 1 (big5_scalars tables.now.flat.big5 pointer) trail)
+fn read_pointer<V: DecoderTables>(tables: &V, pointer: usize, trail: u8) -> Fed
+    ensures { (lead : ℕ) →
+        Took (trail_step 1 (big5_scalars (V.indexes tables.now).flat.big5 pointer) trail)
         (lead ∷ []) trail result [] }
 {
     match pointer {
@@ -61,8 +62,9 @@ fn read_pointer(tables: &Tables<'_>, pointer: usize, trail: u8) -> Fed
 
 /// Reads the byte behind a lead.
 #[inline]
-fn pair(tables: &Tables<'_>, lead: Lead, trail: u8) -> Fed
-    ensures { Took (trail_step 1 (big5_pair_scalars tables.now.flat.big5 lead.byte trail) trail)
+fn pair<V: DecoderTables>(tables: &V, lead: Lead, trail: u8) -> Fed
+    ensures { Took
+        (trail_step 1 (big5_pair_scalars (V.indexes tables.now).flat.big5 lead.byte trail) trail)
         (lead.byte ∷ []) trail result [] }
 {
     match pair_pointer(lead, trail) {
@@ -99,7 +101,7 @@ impl LeadCodec for Big5 {
     }
 
     #[inline]
-    fn front(tables: &Tables<'_>, lead: u8, trail: u8) -> CommonForm {
+    fn front<V: DecoderTables>(tables: &V, lead: u8, trail: u8) -> CommonForm {
         let Some(lead) = Lead::new(lead) else {
             return CommonForm::Other;
         };

@@ -12,9 +12,11 @@ ghost use Rattle.legacy_decoder_engine.specs.Feeding.{Took};
 ghost use Rattle.legacy_chinese.specs.Gb18030Held.{held_bytes, is_resting};
 
 use super::digit::Digit;
+use super::fours::Gb18030Blocks;
 use super::pair_places::TRAILS;
-use legacy_base::{DecoderResult, Destination, IndexName, RawDecoder, Tables};
-use legacy_decoder_engine::common_forms::{CommonForm, CommonForms};
+use legacy_base::{
+    DecoderResult, DecoderTables, Destination, IndexName, KeptTables, RawDecoder, Tables,
+};
 use legacy_decoder_engine::drive::drive_decoder;
 use legacy_decoder_engine::held::Lead;
 use legacy_decoder_engine::moves::{DecoderMoves, Fed, Move, Room};
@@ -55,9 +57,10 @@ pub struct Gb18030Decoder<'a> {
 
 /// The scalar of two bytes, if they are a lead and a trail and give one.
 #[inline]
-fn form_scalar(tables: &Tables, lead: u8, trail: u8) -> Option<char>
-    ensures value { option_to_list result
-        ≡ (if is_lead lead then gb18030_scalars tables.now.flat.gb18030 lead trail else []) }
+pub(super) fn form_scalar<V: DecoderTables>(tables: &V, lead: u8, trail: u8) -> Option<char>
+    ensures value { option_to_list result ≡ (if is_lead lead
+        then gb18030_scalars (V.indexes tables.now).flat.gb18030 lead trail
+        else []) }
     ensures scalar { IfSome result IsScalar }
 {
     let pointer = pair_pointer(&ROWS_OF_190, &TRAILS, lead, trail);
@@ -283,29 +286,12 @@ impl DecoderMoves for Gb18030Decoder<'_> {
 
     #[inline]
     fn read_ahead<T: Destination>(&self, src: &[u8], dst: &mut T) -> usize {
-        if self.is_idle() {
-            read_blocks(self, src, dst)
-        } else {
-            0
+        if !self.in_neutral_state() {
+            return 0;
         }
-    }
-}
-
-impl CommonForms for Gb18030Decoder<'_> {
-    ghost use Rattle.legacy_chinese.specs.Gb18030Decoder.{gb18030_state};
-
-    ghost state = { gb18030_state };
-
-    #[inline]
-    fn is_idle(&self) -> bool {
-        self.in_neutral_state()
-    }
-
-    #[inline]
-    fn front(&self, lead: u8, trail: u8) -> CommonForm {
-        match form_scalar(self.tables, lead, trail) {
-            Some(scalar) => CommonForm::Pair(scalar),
-            None => CommonForm::Other,
+        match self.tables.kept() {
+            KeptTables::Flat(tables) => read_blocks(&Gb18030Blocks { tables }, src, dst),
+            KeptTables::Packed(tables) => read_blocks(&Gb18030Blocks { tables }, src, dst),
         }
     }
 }

@@ -3,18 +3,26 @@
 // destination's place there from form to form.
 ghost use Rattle.std.specs.Prelude.{◌≡◌, [], ◌∷◌, IfSome};
 ghost use Rattle.legacy_base.specs.Grammar.{gb18030};
+ghost use Rattle.legacy_base.specs.States.{new_state};
 ghost use Rattle.legacy_decoder_engine.specs.Ahead.{Runs};
 
-use super::decoder::Gb18030Decoder;
+use super::decoder::form_scalar;
 use super::four_places::four_pointer;
-use legacy_base::{Destination, Tables};
-use legacy_decoder_engine::common_forms::CommonBlocks;
+use legacy_base::{DecoderTables, Destination};
+use legacy_decoder_engine::common_forms::{CommonBlocks, CommonForm, CommonForms};
 use legacy_decoder_engine::runs::{Blocks, Forms, read_blocks, read_run};
 
 /// The scalar of four bytes, if they are a form that has one.
 #[inline]
-fn four_scalar(tables: &Tables, first: u8, second: u8, third: u8, fourth: u8) -> Option<char>
-    ensures { IfSome result (λ c. Runs (gb18030 tables.now.flat.gb18030 tables.now.flat.ranges)
+fn four_scalar<V: DecoderTables>(
+    tables: &V,
+    first: u8,
+    second: u8,
+    third: u8,
+    fourth: u8,
+) -> Option<char>
+    ensures { let flat = (V.indexes tables.now).flat in
+        IfSome result (λ c. Runs (gb18030 flat.gb18030 flat.ranges)
         (first ∷ second ∷ third ∷ fourth ∷ []) (c ∷ [])) }
 {
     tables.range(four_pointer(first, second, third, fourth))
@@ -22,12 +30,13 @@ fn four_scalar(tables: &Tables, first: u8, second: u8, third: u8, fourth: u8) ->
 
 /// Forms of four bytes, and ASCII bytes.
 #[derive(Drop)]
-struct FourByteForms<'a> {
-    tables: &'a Tables<'a>,
+struct FourByteForms<'a, V: DecoderTables> {
+    tables: &'a V,
 }
 
-impl Forms for FourByteForms<'_> {
-    ghost grammar = { λ forms. gb18030 forms.tables.now.flat.gb18030 forms.tables.now.flat.ranges };
+impl<V: DecoderTables> Forms for FourByteForms<'_, V> {
+    ghost grammar = { λ forms. gb18030 (V.indexes forms.tables.now).flat.gb18030
+        (V.indexes forms.tables.now).flat.ranges };
 
     ghost most_bytes = { 4 };
 
@@ -67,10 +76,33 @@ impl Forms for FourByteForms<'_> {
     }
 }
 
-impl Blocks for Gb18030Decoder<'_> {
-    ghost use Rattle.legacy_chinese.specs.Gb18030Decoder.{gb18030_state};
+/// The blocks of GB18030 by its tables as they are kept, where nothing is held back.
+#[derive(Drop)]
+pub(super) struct Gb18030Blocks<'a, V: DecoderTables> {
+    pub(super) tables: &'a V,
+}
 
-    ghost grammar = { λ decoder. (gb18030_state decoder).grammar };
+impl<V: DecoderTables> CommonForms for Gb18030Blocks<'_, V> {
+    ghost state = { λ blocks. new_state (gb18030 (V.indexes blocks.tables.now).flat.gb18030
+        (V.indexes blocks.tables.now).flat.ranges) };
+
+    #[inline]
+    fn is_idle(&self) -> bool {
+        true
+    }
+
+    #[inline]
+    fn front(&self, lead: u8, trail: u8) -> CommonForm {
+        match form_scalar(self.tables, lead, trail) {
+            Some(scalar) => CommonForm::Pair(scalar),
+            None => CommonForm::Other,
+        }
+    }
+}
+
+impl<V: DecoderTables> Blocks for Gb18030Blocks<'_, V> {
+    ghost grammar = { λ blocks. gb18030 (V.indexes blocks.tables.now).flat.gb18030
+        (V.indexes blocks.tables.now).flat.ranges };
 
     /// Reads common forms, and behind them a run of forms of four bytes.
     #[inline(always)]

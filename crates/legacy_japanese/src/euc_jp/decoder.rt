@@ -13,7 +13,9 @@ ghost use Rattle.legacy_decoder_engine.specs.Feeding.{Took};
 ghost use Rattle.legacy_japanese.specs.EucJpHeld.{held_bytes};
 
 use super::lead::EucJpLead;
-use legacy_base::{DecoderResult, Destination, IndexName, RawDecoder, Tables};
+use legacy_base::{
+    DecoderResult, DecoderTables, Destination, IndexName, KeptTables, RawDecoder, Tables,
+};
 use legacy_decoder_engine::common_forms::{CommonForm, CommonForms, read_common_forms};
 use legacy_decoder_engine::drive::drive_decoder;
 use legacy_decoder_engine::moves::{DecoderMoves, Fed, Move, Room};
@@ -52,9 +54,14 @@ pub struct EucJpDecoder<'a> {
 
 /// The scalar of a lead and a trail in the index.
 #[inline]
-fn pair_scalar(tables: &Tables, name: IndexName, lead: EucJpLead, trail: u8) -> Option<char>
+fn pair_scalar<V: DecoderTables>(
+    tables: &V,
+    name: IndexName,
+    lead: EucJpLead,
+    trail: u8,
+) -> Option<char>
     ensures value { option_to_list result
-        ≡ euc_jp_scalars (index_list tables.now.flat name) lead.byte trail }
+        ≡ euc_jp_scalars (index_list (V.indexes tables.now).flat name) lead.byte trail }
     ensures scalar { IfSome result IsScalar }
 {
     if trail < 0xA1 || trail > 0xFE {
@@ -255,18 +262,31 @@ impl DecoderMoves for EucJpDecoder<'_> {
 
     #[inline]
     fn read_ahead<T: Destination>(&self, src: &[u8], dst: &mut T) -> usize {
-        read_common_forms(self, src, dst)
+        let held = self.held;
+        match self.tables.kept() {
+            KeptTables::Flat(tables) => read_common_forms(&EucJpForms { tables, held }, src, dst),
+            KeptTables::Packed(tables) => read_common_forms(&EucJpForms { tables, held }, src, dst),
+        }
     }
 }
 
-impl CommonForms for EucJpDecoder<'_> {
-    ghost use Rattle.legacy_japanese.specs.EucJpDecoder.{euc_jp_state};
+/// The common forms of EUC-JP, by its tables as they are kept, where so much is held back.
+#[derive(Drop)]
+struct EucJpForms<'a, V: DecoderTables> {
+    tables: &'a V,
+    held: Held,
+}
 
-    ghost state = { euc_jp_state };
+impl<V: DecoderTables> CommonForms for EucJpForms<'_, V> {
+    ghost state = { λ forms. state_of (euc_jp (V.indexes forms.tables.now).flat.jis0208
+        (V.indexes forms.tables.now).flat.jis0212) (held_bytes forms.held) };
 
     #[inline]
     fn is_idle(&self) -> bool {
-        self.in_neutral_state()
+        match self.held {
+            Held::Nothing => true,
+            _ => false,
+        }
     }
 
     #[inline]

@@ -3,25 +3,24 @@
 // Inlined always is what runs for each form or block: a call would pass vectors through memory, and put the
 // destination's place there from form to form.
 ghost use Rattle.std.specs.Prelude.{◌≡◌, ℕ, ◌+◌, ◌<◌, ◌≤◌, List, All, IfSome, length, take, true};
-ghost use Rattle.legacy_japanese.specs.Iso2022JpRuns.{IsPlain, run_state, HasEscape};
+ghost use Rattle.legacy_japanese.specs.Iso2022JpRuns.{IsPlain, run_state, pairs_grammar};
+ghost use Rattle.legacy_japanese.specs.Iso2022JpRuns.{HasEscape};
 ghost use Rattle.legacy_decoder_engine.specs.Ahead.{ReadsTo, ReadsAhead};
 
 use super::places::{LEADS, TRAILS};
 use super::steps::{DOLLAR, ESCAPE, Escape, Mode, PAREN, Start, completed, entry};
-use legacy_base::{Destination, Tables};
+use legacy_base::{DecoderTables, Destination, KeptTables, Tables};
 use legacy_decoder_engine::pairs::{Pairs, read_pairs};
 use legacy_decoder_engine::places::pair_pointer;
 
 /// The pairs of two-byte mode.
 #[derive(Drop)]
-struct Jis0208Pairs<'a> {
-    tables: &'a Tables<'a>,
+struct Jis0208Pairs<'a, V: DecoderTables> {
+    tables: &'a V,
 }
 
-impl Pairs for Jis0208Pairs<'_> {
-    ghost use Rattle.legacy_japanese.specs.Iso2022JpRuns.{pairs_grammar};
-
-    ghost grammar = { pairs_grammar };
+impl<V: DecoderTables> Pairs for Jis0208Pairs<'_, V> {
+    ghost grammar = { λ pairs. pairs_grammar (V.indexes pairs.tables.now).flat.jis0208 };
 
     #[inline(always)]
     fn scalar(&self, first: u8, second: u8) -> Option<char> {
@@ -96,6 +95,17 @@ fn read_plain<T: Destination>(src: &[u8], dst: &mut T) -> usize
     count
 }
 
+/// Reads a run of pairs from the front. Answers how many bytes were read: none is an answer too.
+fn read_jis0208<T: Destination>(tables: &Tables, src: &[u8], dst: &mut T) -> usize
+    ensures { ReadsAhead T.Destination (run_state tables.now.flat.jis0208 Mode.TwoByte) src.now
+        result dst.old dst.new }
+{
+    match tables.kept() {
+        KeptTables::Flat(tables) => read_pairs(&Jis0208Pairs { tables }, src, dst),
+        KeptTables::Packed(tables) => read_pairs(&Jis0208Pairs { tables }, src, dst),
+    }
+}
+
 /// Reads a run of the mode from the front. Answers how many bytes were read: none is an answer too.
 fn read_mode<T: Destination>(tables: &Tables, mode: Mode, src: &[u8], dst: &mut T) -> usize
     ensures { ReadsAhead T.Destination (run_state tables.now.flat.jis0208 mode) src.now result
@@ -103,7 +113,7 @@ fn read_mode<T: Destination>(tables: &Tables, mode: Mode, src: &[u8], dst: &mut 
 {
     match mode {
         Mode::Ascii => read_plain(src, dst),
-        Mode::TwoByte => read_pairs(&Jis0208Pairs { tables }, src, dst),
+        Mode::TwoByte => read_jis0208(tables, src, dst),
         Mode::Roman | Mode::Katakana => 0,
     }
 }

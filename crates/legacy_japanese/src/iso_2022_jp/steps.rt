@@ -7,7 +7,7 @@ ghost use Rattle.legacy_japanese.specs.Iso2022JpMachine.{start_bytes, bytes_of, 
 ghost use Rattle.legacy_japanese.specs.declared.iso_2022_jp.steps.Mode.TheVariants.{Ascii, TwoByte};
 ghost use Rattle.legacy_japanese.specs.Iso2022JpMoves.{fed_of, weight_of, IsNarrow, IsNarrowScalar};
 
-use legacy_base::{IndexName, Tables};
+use legacy_base::{DecoderTables, IndexName, Tables};
 use legacy_decoder_engine::moves::Fed;
 
 /// How the bytes behind an escape are read.
@@ -230,8 +230,8 @@ pub fn completed(start: Start, byte: u8) -> Option<Escape>
 
 /// The scalar of a pointer in index jis0208.
 #[inline]
-pub fn entry(tables: &Tables, pointer: usize) -> Option<char>
-    ensures value { result ≡ idx tables.now.flat.jis0208 pointer }
+pub fn entry<V: DecoderTables>(tables: &V, pointer: usize) -> Option<char>
+    ensures value { result ≡ idx (V.indexes tables.now).flat.jis0208 pointer }
     ensures narrow { IfSome result IsNarrowScalar }
 {
     tables.idx(IndexName::Jis0208, pointer)

@@ -11,7 +11,7 @@ ghost use Rattle.legacy_decoder_engine.specs.LeadCodecs.{held_bytes};
 
 use super::lead::ShiftJisLead;
 use super::places::{LEADS, TRAILS};
-use legacy_base::{IndexName, Tables};
+use legacy_base::{DecoderTables, IndexName, Tables};
 use legacy_decoder_engine::common_forms::CommonForm;
 use legacy_decoder_engine::lead::{LeadCodec, LeadDecoder};
 use legacy_decoder_engine::moves::{Fed, Room};
@@ -63,8 +63,9 @@ fn katakana(byte: u8) -> char
 
 /// The scalar of a pointer, if it has one: the pointers 8836 to 10715 are for private use.
 #[inline]
-fn pointer_scalar(tables: &Tables<'_>, pointer: usize) -> Option<char>
-    ensures { option_to_list result ≡ shift_jis_scalars tables.now.flat.jis0208 pointer }
+fn pointer_scalar<V: DecoderTables>(tables: &V, pointer: usize) -> Option<char>
+    ensures { option_to_list result
+        ≡ shift_jis_scalars (V.indexes tables.now).flat.jis0208 pointer }
 {
     if pointer >= 8836 && pointer <= 10715 {
         return char::from_u32(0xE000 + (pointer - 8836) as u32);
@@ -74,10 +75,10 @@ fn pointer_scalar(tables: &Tables<'_>, pointer: usize) -> Option<char>
 
 /// The scalar of two bytes, if they are a lead and a trail and give one.
 #[inline]
-fn form_scalar(tables: &Tables<'_>, lead: u8, trail: u8) -> Option<char>
+fn form_scalar<V: DecoderTables>(tables: &V, lead: u8, trail: u8) -> Option<char>
     ensures value { option_to_list result
         ≡ (if is_shift_jis_lead lead
-        then shift_jis_pair_scalars tables.now.flat.jis0208 lead trail
+        then shift_jis_pair_scalars (V.indexes tables.now).flat.jis0208 lead trail
         else []) }
     ensures scalar { IfSome result IsScalar }
 {
@@ -123,7 +124,7 @@ impl LeadCodec for ShiftJis {
 
     #[inline]
     #[tactic(auto, using(crate::proofs::ShiftJisRuns::pair_form))]
-    fn front(tables: &Tables<'_>, lead: u8, trail: u8) -> CommonForm {
+    fn front<V: DecoderTables>(tables: &V, lead: u8, trail: u8) -> CommonForm {
         match form_scalar(tables, lead, trail) {
             Some(scalar) => CommonForm::Pair(scalar),
             None => {

@@ -7,7 +7,7 @@ use Rattle.legacy_chinese.proofs.Gb18030Places.{gb18030_trails_are, gb18030_entr
 use Rattle.legacy_chinese.proofs.gb18030.decoder.form_scalar.Goals as goal
 
 pub returns-clause-value : goal.returns-clause-value
-returns-clause-value c =
-    let tables = c.args.tables.now in
+returns-clause-value g c =
+    let tables = g.V.DecoderTables.indexes c.args.tables.now in
     let short : length tables.flat.gb18030 ≤ 65535 = let most = length-gb18030 tables.flat tables.accepted in omega arith in
     rw (c.idx.ensures, c.pair_pointer-pointer.ensures lead_place gb18030_trail_place rows_are gb18030_trails_are) (gb18030_entry tables.flat.gb18030 short c.args.lead c.args.trail)

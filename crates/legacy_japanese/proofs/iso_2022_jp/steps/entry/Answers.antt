@@ -14,4 +14,4 @@ entry_narrow tables p (Some c) is = (
 )
 
 pub returns-clause-narrow : goal.returns-clause-narrow
-returns-clause-narrow c = entry_narrow c.args.tables.now c.args.pointer c.idx.result c.idx.ensures
+returns-clause-narrow g c = entry_narrow (g.V.DecoderTables.indexes c.args.tables.now) c.args.pointer c.idx.result c.idx.ensures

@@ -6,11 +6,11 @@ use Rattle.legacy_chinese.proofs.gb18030.fours.FourByteFormsForms.read_forms.Goa
 use Rattle.legacy_chinese.proofs.gb18030.fours.FourByteFormsForms.read_forms.Goals.{then-byte-lt128+else-next-lt128, else-byte-lt128+in-Some}
 
 pub loop-left-init : goal.loop-left-init
-loop-left-init g c = let flat = c.args.self.now.tables.now.flat in (omega arith, omega arith, writes_none g.T.Destination (gb18030 flat.gb18030 flat.ranges) c.args.dst.now)
+loop-left-init g c = let flat = (g.V.DecoderTables.indexes c.args.self.now.tables.now).flat in (omega arith, omega arith, writes_none g.T.Destination (gb18030 flat.gb18030 flat.ranges) c.args.dst.now)
 
 pub returns-then-next-lt128-clause-writes : goal.returns-then-next-lt128-clause-writes
 returns-then-next-lt128-clause-writes g c =
-    let tables = c.args.self.now.tables.now in
+    let tables = g.V.DecoderTables.indexes c.args.self.now.tables.now in
     let src = c.args.src.now in
     let i = c.loop-left.invariant in
     let e = c.put.ensures in
@@ -23,7 +23,7 @@ put-requires-in-Some g c = four_fit g.T.Destination.form c.in-Some.scalar _ (ome
 pub loop-left-preserved : goal.loop-left-preserved
 loop-left-preserved g c =
     let T = g.T.Destination in
-    let tables = c.args.self.now.tables.now in
+    let tables = g.V.DecoderTables.indexes c.args.self.now.tables.now in
     let src = c.args.src.now in
     let i = c.loop-left.invariant in
     elim c.if-byte-lt128.branch [

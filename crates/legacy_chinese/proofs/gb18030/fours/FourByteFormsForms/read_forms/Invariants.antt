@@ -7,7 +7,7 @@ use Rattle.legacy_chinese.proofs.gb18030.fours.FourByteFormsForms.read_forms.Giv
 abbrev pub invariant-loop-left : goal.invariant-loop-left
 invariant-loop-left g l =
     let T = g.T.Destination in
-    let flat = l.self.tables.now.flat in
+    let flat = (g.V.DecoderTables.indexes l.self.tables.now).flat in
     (l.at + 4 * l.left ≤ 4 * l.most)
     × (T.room l.fn.dst + 4 * l.left ≤ T.room l.dst + 4 * l.most)
     × Writes T (gb18030 flat.gb18030 flat.ranges) (take l.at l.src) l.fn.dst l.dst

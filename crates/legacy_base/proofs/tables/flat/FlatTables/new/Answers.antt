@@ -1,0 +1,5 @@
+use Rattle.legacy_base.proofs.Accepted.{parts}
+use Rattle.legacy_base.proofs.tables.flat.FlatTables.new.Goals as goal
+
+pub likely_places-requires : goal.likely_places-requires
+likely_places-requires c = (parts _ c.in_ok-check_indexes.ensures).ordered

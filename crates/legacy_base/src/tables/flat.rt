@@ -1,0 +1,163 @@
+//! Tables that are kept as flat indexes.
+ghost use Rattle.std.specs.Prelude.{◌≡◌, MatchResult, Some};
+ghost use Rattle.legacy_base.specs.AcceptedTables.{flat_lists};
+ghost use Rattle.legacy_base.specs.TableChecks.{AreAccepted};
+
+use super::checks::check_indexes;
+use super::private_use::row_bytes;
+use super::{DecoderTables, IndexName, Indexes, TableError, lookups, pointers};
+use std::marker::Model;
+
+/// Indexes that passed the check, kept as they were handed in. They are seen as these flat lists.
+#[derive(Drop)]
+pub struct FlatTables<'a> {
+    big5: &'a [u32],
+    euc_kr: &'a [u16],
+    jis0208: &'a [u16],
+    jis0212: &'a [u16],
+    gb18030: &'a [u16],
+    katakana: &'a [u16],
+    ranges: &'a [(u16, u16)],
+    gb18030_pua: &'a [(u16, u8, u8)],
+    likely_places: [u8; 154],
+    ghost accepted: { AreAccepted (flat_lists big5.now euc_kr.now jis0208.now jis0212.now
+        gb18030.now katakana.now ranges.now gb18030_pua.now) },
+}
+
+impl<'a> Model for FlatTables<'a> {
+    ghost use Rattle.legacy_base.specs.AcceptedTables.{AcceptedIndexes, coded_indexes, flat_lists};
+
+    ghost Value = { AcceptedIndexes };
+
+    ghost coded = { coded_indexes };
+
+    ghost view = { λ t. record {
+      flat = flat_lists t.big5.now t.euc_kr.now t.jis0208.now t.jis0212.now
+          t.gb18030.now t.katakana.now t.ranges.now t.gb18030_pua.now;
+      accepted = t.accepted;
+    } };
+}
+
+impl<'a> FlatTables<'a> {
+    ghost use Rattle.legacy_base.specs.Indexes.{gb18030_pua_of};
+    ghost use Rattle.legacy_base.specs.TableChecks.{table_fault};
+    ghost use Rattle.legacy_base.specs.Tables.{flat_indexes};
+    ghost use Rattle.legacy_base.specs.Pointers.{big5_pointer_of, euc_kr_pointer_of};
+    ghost use Rattle.legacy_base.specs.Pointers.{shift_jis_pointer_of, euc_jp_pointer_of};
+    ghost use Rattle.legacy_base.specs.Pointers.{gb18030_pointer_of, range_pointer_of};
+    ghost use Rattle.std.specs.Option.{IfSome};
+    ghost use Rattle.std.specs.Prelude.{◌<◌};
+
+    /// The tables of the indexes, or the first fault. The indexes are checked in the order of the
+    /// fields: the length first, then the entries by rising pointers; of the ranges the order
+    /// first; of the private-use rows, which come last, all of a row at once: its order, its
+    /// scalar, its bytes. Empty indexes are accepted. It takes no memory, and the slices stay
+    /// borrowed.
+    pub(super) fn new(indexes: &Indexes<'a>) -> Result<FlatTables<'a>, TableError>
+        ensures { MatchResult result
+            (λ tables. tables.flat ≡ flat_indexes indexes.now)
+            (λ fault. table_fault (flat_indexes indexes.now) ≡ Some fault) }
+    {
+        check_indexes(indexes)?;
+        Ok(FlatTables {
+            big5: indexes.big5,
+            euc_kr: indexes.euc_kr,
+            jis0208: indexes.jis0208,
+            jis0212: indexes.jis0212,
+            gb18030: indexes.gb18030,
+            katakana: indexes.katakana,
+            ranges: indexes.ranges,
+            gb18030_pua: indexes.gb18030_pua,
+            likely_places: lookups::likely_places(indexes.ranges),
+        })
+    }
+
+    /// The pointer that the Big5 encoder takes for the scalar value, or `None` where index Big5 has
+    /// it at no pointer from 5024 on (Encoding Standard, "index Big5 pointer"): the last of these
+    /// for U+2550, U+255E, U+2561, U+256A, U+5341 and U+5345, and else the first. It searches the
+    /// index from there on.
+    pub(super) fn big5_pointer(&self, scalar: char) -> Option<usize>
+        ensures pointer { result ≡ big5_pointer_of self.now.flat.big5 scalar }
+        ensures within { IfSome result (λ p. p < 19782) }
+    {
+        pointers::big5_pointer(self.big5, scalar)
+    }
+
+    /// The first pointer of the scalar value in index EUC-KR, or `None` where it has none (Encoding
+    /// Standard, "index pointer"). It searches the index.
+    pub(super) fn euc_kr_pointer(&self, scalar: char) -> Option<usize>
+        ensures pointer { result ≡ euc_kr_pointer_of self.now.flat.euc_kr scalar }
+        ensures within { IfSome result (λ p. p < 23940) }
+    {
+        pointers::first(self.euc_kr, scalar)
+    }
+
+    /// The pointer that the Shift_JIS encoder takes for the scalar value: the first one in index
+    /// jis0208 that is not one of 8272 to 8835, or `None` where there is none (Encoding Standard,
+    /// "index Shift_JIS pointer"). It searches the index.
+    pub(super) fn shift_jis_pointer(&self, scalar: char) -> Option<usize>
+        ensures pointer { result ≡ shift_jis_pointer_of self.now.flat.jis0208 scalar }
+        ensures within { IfSome result (λ p. p < 11280) }
+    {
+        pointers::shift_jis_pointer(self.jis0208, scalar)
+    }
+
+    /// The pointer that the EUC-JP and ISO-2022-JP encoders take for the scalar value: the first
+    /// one in index jis0208, or `None` where there is none below 8836, where their forms end
+    /// (Encoding Standard, "index pointer"). It searches the index.
+    pub(super) fn euc_jp_pointer(&self, scalar: char) -> Option<usize>
+        ensures pointer { result ≡ euc_jp_pointer_of self.now.flat.jis0208 scalar }
+        ensures within { IfSome result (λ p. p < 8836) }
+    {
+        pointers::euc_jp_pointer(self.jis0208, scalar)
+    }
+
+    /// The first pointer of the scalar value in index gb18030, or `None` where it has none
+    /// (Encoding Standard, "index pointer"). It searches the index.
+    pub(super) fn gb18030_pointer(&self, scalar: char) -> Option<usize>
+        ensures pointer { result ≡ gb18030_pointer_of self.now.flat.gb18030 scalar }
+        ensures within { IfSome result (λ p. p < 23940) }
+    {
+        pointers::first(self.gb18030, scalar)
+    }
+
+    /// The pointer of four bytes that has the scalar value, or `None` where none has (Encoding
+    /// Standard, "index gb18030 ranges pointer"): 7457 for U+E7C7, 189000 to 1237575 for U+10000 to
+    /// U+10FFFF, and for others by the last range whose scalars begin at or before it, which a
+    /// binary search finds.
+    pub(super) fn range_pointer(&self, scalar: char) -> Option<usize>
+        ensures pointer { result ≡ range_pointer_of self.now.flat.ranges scalar }
+        ensures within { IfSome result (λ p. p < 1237576) }
+    {
+        pointers::range_pointer(self.ranges, scalar)
+    }
+
+    /// The lead and the trail that a private-use row gives the scalar value, or `None` where no row
+    /// has it (Encoding Standard, "gb18030 encoder"). It is a binary search.
+    pub(super) fn gb18030_pua_bytes(&self, scalar: char) -> Option<(u8, u8)>
+        ensures { result ≡ gb18030_pua_of self.now.flat.gb18030_pua scalar }
+    {
+        row_bytes(self.gb18030_pua, scalar)
+    }
+}
+
+impl<'a> DecoderTables for FlatTables<'a> {
+    ghost indexes = { λ t. t };
+
+    #[inline]
+    fn idx(&self, name: IndexName, pointer: usize) -> Option<char> {
+        match name {
+            IndexName::Big5 => lookups::wide_entry(self.big5, pointer),
+            IndexName::EucKr => lookups::narrow_entry(self.euc_kr, pointer),
+            IndexName::Jis0208 => lookups::narrow_entry(self.jis0208, pointer),
+            IndexName::Jis0212 => lookups::narrow_entry(self.jis0212, pointer),
+            IndexName::Gb18030 => lookups::narrow_entry(self.gb18030, pointer),
+            IndexName::Katakana => lookups::narrow_entry(self.katakana, pointer),
+            IndexName::Ranges => None,
+        }
+    }
+
+    fn range(&self, pointer: usize) -> Option<char> {
+        lookups::range_scalar(self.ranges, &self.likely_places, pointer)
+    }
+}

@@ -1,0 +1,157 @@
+//! Tables that are kept as runs and orders.
+ghost use Rattle.std.specs.Prelude.{◌≡◌, MatchResult, Some};
+ghost use Rattle.legacy_base.specs.TableChecks.{AreAccepted};
+ghost use Rattle.legacy_base.specs.PackedTables.{lists_of_runs, AreOrdersOf};
+
+use super::checks::check_indexes;
+use super::order_checks::{AllOrders, all_orders_of};
+use super::packed::Packed;
+use super::packed_checks::{AllRuns, all_runs_of};
+use super::private_use::row_bytes;
+use super::{DecoderTables, IndexName, Indexes, TableError, lookups, pointers};
+use std::marker::Model;
+
+/// Indexes that passed the check, kept as runs and orders. They are seen as the flat lists of what
+/// the runs give.
+// The five flat indexes are not kept: no look-up reads them.
+#[derive(Drop)]
+pub struct PackedTables<'a> {
+    runs: AllRuns<'a>,
+    orders: AllOrders<'a>,
+    katakana: &'a [u16],
+    ranges: &'a [(u16, u16)],
+    gb18030_pua: &'a [(u16, u8, u8)],
+    likely_places: [u8; 154],
+    ghost accepted: { AreAccepted (lists_of_runs runs katakana.now ranges.now gb18030_pua.now) },
+    ghost ordered: { AreOrdersOf orders
+        (lists_of_runs runs katakana.now ranges.now gb18030_pua.now) },
+}
+
+impl<'a> Model for PackedTables<'a> {
+    ghost use Rattle.legacy_base.specs.AcceptedTables.{AcceptedIndexes, coded_indexes};
+
+    ghost Value = { AcceptedIndexes };
+
+    ghost coded = { coded_indexes };
+
+    ghost use Rattle.legacy_base.specs.PackedTables.{lists_of_runs};
+
+    ghost view = { λ t. record {
+      flat = lists_of_runs t.runs t.katakana.now t.ranges.now t.gb18030_pua.now;
+      accepted = t.accepted;
+    } };
+}
+
+impl<'a> PackedTables<'a> {
+    ghost use Rattle.legacy_base.specs.Indexes.{gb18030_pua_of};
+    ghost use Rattle.legacy_base.specs.Tables.{flat_indexes};
+    ghost use Rattle.legacy_base.specs.Packed.{packed_fault, ArePackedTables};
+    ghost use Rattle.legacy_base.specs.Pointers.{big5_pointer_of, euc_kr_pointer_of};
+    ghost use Rattle.legacy_base.specs.Pointers.{shift_jis_pointer_of, euc_jp_pointer_of};
+    ghost use Rattle.legacy_base.specs.Pointers.{gb18030_pointer_of, range_pointer_of};
+    ghost use Rattle.std.specs.Option.{IfSome};
+    ghost use Rattle.std.specs.Prelude.{◌<◌};
+
+    /// The tables of packed indexes that give what the flat indexes do, or the first fault.
+    pub(super) fn new(
+        indexes: &Indexes<'a>,
+        packed: &Packed<'a>,
+    ) -> Result<PackedTables<'a>, TableError>
+        ensures { MatchResult result
+            (λ tables. ArePackedTables (flat_indexes indexes.now) packed.now tables.flat)
+            (λ fault. packed_fault (flat_indexes indexes.now) packed.now ≡ Some fault) }
+    {
+        check_indexes(indexes)?;
+        let runs = all_runs_of(indexes, packed)?;
+        let orders = all_orders_of(indexes, packed)?;
+        Ok(PackedTables {
+            runs,
+            orders,
+            katakana: indexes.katakana,
+            ranges: indexes.ranges,
+            gb18030_pua: indexes.gb18030_pua,
+            likely_places: lookups::likely_places(indexes.ranges),
+        })
+    }
+
+    /// The pointer that the Big5 encoder takes.
+    #[inline]
+    pub(super) fn big5_pointer(&self, scalar: char) -> Option<usize>
+        ensures pointer { result ≡ big5_pointer_of self.now.flat.big5 scalar }
+        ensures within { IfSome result (λ p. p < 19782) }
+    {
+        self.orders.big5.pointer(scalar as usize)
+    }
+
+    /// The pointer that the EUC-KR encoder takes.
+    #[inline]
+    pub(super) fn euc_kr_pointer(&self, scalar: char) -> Option<usize>
+        ensures pointer { result ≡ euc_kr_pointer_of self.now.flat.euc_kr scalar }
+        ensures within { IfSome result (λ p. p < 23940) }
+    {
+        self.orders.euc_kr.pointer(scalar as usize)
+    }
+
+    /// The pointer that the Shift_JIS encoder takes.
+    #[inline]
+    pub(super) fn shift_jis_pointer(&self, scalar: char) -> Option<usize>
+        ensures pointer { result ≡ shift_jis_pointer_of self.now.flat.jis0208 scalar }
+        ensures within { IfSome result (λ p. p < 11280) }
+    {
+        self.orders.shift_jis.pointer(scalar as usize)
+    }
+
+    /// The pointer that the EUC-JP and ISO-2022-JP encoders take.
+    #[inline]
+    pub(super) fn euc_jp_pointer(&self, scalar: char) -> Option<usize>
+        ensures pointer { result ≡ euc_jp_pointer_of self.now.flat.jis0208 scalar }
+        ensures within { IfSome result (λ p. p < 8836) }
+    {
+        self.orders.euc_jp.pointer(scalar as usize)
+    }
+
+    /// The pointer that the GB18030 encoder takes.
+    #[inline]
+    pub(super) fn gb18030_pointer(&self, scalar: char) -> Option<usize>
+        ensures pointer { result ≡ gb18030_pointer_of self.now.flat.gb18030 scalar }
+        ensures within { IfSome result (λ p. p < 23940) }
+    {
+        self.orders.gb18030.pointer(scalar as usize)
+    }
+
+    /// The pointer of four bytes.
+    pub(super) fn range_pointer(&self, scalar: char) -> Option<usize>
+        ensures pointer { result ≡ range_pointer_of self.now.flat.ranges scalar }
+        ensures within { IfSome result (λ p. p < 1237576) }
+    {
+        pointers::range_pointer(self.ranges, scalar)
+    }
+
+    /// The lead and the trail of a private-use row.
+    pub(super) fn gb18030_pua_bytes(&self, scalar: char) -> Option<(u8, u8)>
+        ensures { result ≡ gb18030_pua_of self.now.flat.gb18030_pua scalar }
+    {
+        row_bytes(self.gb18030_pua, scalar)
+    }
+}
+
+impl<'a> DecoderTables for PackedTables<'a> {
+    ghost indexes = { λ t. t };
+
+    #[inline]
+    fn idx(&self, name: IndexName, pointer: usize) -> Option<char> {
+        match name {
+            IndexName::Big5 => lookups::run_scalar(&self.runs.big5, pointer),
+            IndexName::EucKr => lookups::run_scalar(&self.runs.euc_kr, pointer),
+            IndexName::Jis0208 => lookups::run_scalar(&self.runs.jis0208, pointer),
+            IndexName::Jis0212 => lookups::run_scalar(&self.runs.jis0212, pointer),
+            IndexName::Gb18030 => lookups::run_scalar(&self.runs.gb18030, pointer),
+            IndexName::Katakana => lookups::narrow_entry(self.katakana, pointer),
+            IndexName::Ranges => None,
+        }
+    }
+
+    fn range(&self, pointer: usize) -> Option<char> {
+        lookups::range_scalar(self.ranges, &self.likely_places, pointer)
+    }
+}
