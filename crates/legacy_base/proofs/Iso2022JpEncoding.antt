@@ -1,6 +1,7 @@
 -- A text in ISO-2022-JP, scalar by scalar: the escape to the mode of the first one, its own bytes, and then the rest as
 -- from that mode.
-use Rattle.std.proofs.Common.{◌≡◌, ◌∙◌, ℕ, ◌/◌, ◌%◌, ◌+◌, ◌≤◌, List, [], ◌∷◌, ◌++◌, map, refl, sym, ap, arith, append_assoc, Bool, true, false, ◌||◌, ◌&&◌, not, Some, None, Option, cond, eqb, option_map, is_none}
+use Rattle.std.proofs.Common.{◌≡◌, ◌∙◌, ℕ, ◌/◌, ◌%◌, ◌+◌, ◌≤◌, List, [], ◌∷◌, ◌++◌, map, refl, sym, ap}
+use Rattle.std.proofs.Common.{arith, append_assoc, Bool, true, false, ◌||◌, ◌&&◌, not, Some, None, Option, cond, eqb, option_map, is_none}
 use Rattle.std.specs.Char.{is_ascii}
 use Rattle.std.proofs.lemmas.Bool.{ne_eqb}
 use borrow.Author.Tests.{ltb-true}
@@ -8,7 +9,8 @@ use Rattle.legacy_base.specs.declared.results.EncodeEvent.{EncodeEvent}
 use Rattle.legacy_base.specs.declared.results.EncodeEvent.TheVariants.{Byte}
 use Rattle.legacy_base.specs.EncodeEvents.{code_events, code_length}
 use Rattle.legacy_base.specs.EncoderProfile.{EncoderMode, in_ascii, in_roman, in_two_byte}
-use Rattle.legacy_base.specs.Iso2022Jp.{is_mode_control, iso_2022_jp_pointer_of, iso_2022_jp_pair, iso_2022_jp_code, iso_2022_jp_reported, is_roman_scalar, is_pair, is_two_byte_scalar, keeps_mode, roman_or_ascii, settled_mode, mode_behind, escape_to, escape_between, iso_2022_jp_text_events}
+use Rattle.legacy_base.specs.Iso2022Jp.{is_mode_control, iso_2022_jp_pointer_of, iso_2022_jp_pair, iso_2022_jp_code, iso_2022_jp_reported, is_roman_scalar, is_pair}
+use Rattle.legacy_base.specs.Iso2022Jp.{is_two_byte_scalar, keeps_mode, roman_or_ascii, settled_mode, mode_behind, escape_to, escape_between, iso_2022_jp_text_events}
 
 -- ---- the rules of a code, with the tests of a scalar c
 

@@ -1,6 +1,7 @@
 -- What an ISO-2022-JP encoder writes decodes to its text: the escapes give nothing, and each code is read in the mode
 -- in which it was written.
-use Rattle.std.proofs.Common.{◌≡◌, ℕ, ◌+◌, ◌-◌, ◌*◌, ◌/◌, ◌%◌, ◌<◌, List, [], ◌∷◌, ◌++◌, map, length, Bool, true, false, cond, ◌||◌, ◌&&◌, ◌==◌, Option, Some, None, is_some, inl, inr, refl, sym, ap, ◌∙◌, append_assoc, length-append, arith}
+use Rattle.std.proofs.Common.{◌≡◌, ℕ, ◌+◌, ◌-◌, ◌*◌, ◌/◌, ◌%◌, ◌<◌, List, [], ◌∷◌, ◌++◌, map, length, Bool, true, false}
+use Rattle.std.proofs.Common.{cond, ◌||◌, ◌&&◌, ◌==◌, Option, Some, None, is_some, inl, inr, refl, sym, ap, ◌∙◌, append_assoc, length-append, arith}
 use Rattle.std.proofs.lemmas.Bool.{or_parts, cases_eq}
 use Rattle.std.proofs.lemmas.Bool.Decides.{nat_tests}
 use Rattle.std.proofs.Math.Nat.{div-add-mod}
@@ -25,7 +26,8 @@ use Rattle.legacy_base.proofs.PointersBack.{LeadsBack, leads_back}
 use Rattle.legacy_base.proofs.Trips.{same_byte_lists, begins_with, has_code}
 use Rattle.legacy_base.proofs.Iso2022JpParts.{first_part}
 use Rattle.legacy_base.proofs.Iso2022JpFronts.{step_one, step_two, step_escape}
-use Rattle.legacy_base.proofs.Iso2022JpEncoding.{mode_for, own_events, text_events, text_events-scalar, text_events-end, IsWritten, at_control, at_special, at_neutral, at_yen, at_overline, at_pair, at_none}
+use Rattle.legacy_base.proofs.Iso2022JpEncoding.{mode_for, own_events, text_events, text_events-scalar, text_events-end, IsWritten}
+use Rattle.legacy_base.proofs.Iso2022JpEncoding.{at_control, at_special, at_neutral, at_yen, at_overline, at_pair, at_none}
 
 -- the mode of a decoder in which an encoder's mode is read
 abbrev pub read_in : EncoderMode → Mode

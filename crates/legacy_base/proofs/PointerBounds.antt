@@ -4,7 +4,8 @@ use Rattle.std.specs.Option.{IfSome}
 use borrow.Author.Tests.{ltb-true}
 use Rattle.legacy_base.specs.Indexes.{FlatIndexes}
 use Rattle.legacy_base.specs.TableChecks.{AreAccepted}
-use Rattle.legacy_base.specs.Pointers.{every_pointer, is_shift_jis_pointer, is_jis0208_pointer, big5_pointer_of, euc_kr_pointer_of, shift_jis_pointer_of, euc_jp_pointer_of, gb18030_pointer_of, range_pointer_of}
+use Rattle.legacy_base.specs.Pointers.{every_pointer, is_shift_jis_pointer, is_jis0208_pointer, big5_pointer_of}
+use Rattle.legacy_base.specs.Pointers.{euc_kr_pointer_of, shift_jis_pointer_of, euc_jp_pointer_of, gb18030_pointer_of, range_pointer_of}
 use Rattle.legacy_base.proofs.Accepted.{parts, length-euc_kr, length-jis0208, length-gb18030}
 use Rattle.legacy_base.proofs.Pointers.{IsTaken, taken-within, first-taken, big5-taken, range-taken}
 

@@ -1,12 +1,14 @@
 -- What the pointer that an encoder takes is: one of the scalar's that may be used, the first or the last of them.
-use Rattle.std.proofs.Common.{◌≡◌, ◌≢◌, ◌∙◌, ℕ, ◌≤◌, ◌<◌, List, length, slice_index, refl, sym, ap, arith, Some, None, Option, true, false, Bool, ◌&&◌, ◌||◌, cond, find, min, nat_le, nat_lt, eqb, eq-eqb, ◌==◌, inl, inr}
+use Rattle.std.proofs.Common.{◌≡◌, ◌≢◌, ◌∙◌, ℕ, ◌≤◌, ◌<◌, List, length, slice_index, refl, sym, ap, arith, Some, None}
+use Rattle.std.proofs.Common.{Option, true, false, Bool, ◌&&◌, ◌||◌, cond, find, min, nat_le, nat_lt, eqb, eq-eqb, ◌==◌, inl, inr}
 use Rattle.std.proofs.lemmas.Bool.{cases_lt, cases_eq, ne_eqb, eqb-true, true≢false}
 use Rattle.std.proofs.lemmas.List.{get_or_past}
 use Rattle.std.specs.Option.{IfSome, option_map_or, option_or}
 use Rattle.std.specs.List.{range_with_len}
 use borrow.Author.Tests.{ltb-true, leb-true, lt-ltb, le-ltb, le-leb, lt-leb}
 use Rattle.legacy_base.specs.Indexes.{range}
-use Rattle.legacy_base.specs.Pointers.{every_pointer, is_shift_jis_pointer, is_pointer_of, first_pointer, last_pointer, big5_pointer_of, takes_last_big5_pointer, is_big5_pointer, is_range_pointer_of, first_range_pointer, range_pointer_of}
+use Rattle.legacy_base.specs.Pointers.{every_pointer, is_shift_jis_pointer, is_pointer_of, first_pointer, last_pointer}
+use Rattle.legacy_base.specs.Pointers.{big5_pointer_of, takes_last_big5_pointer, is_big5_pointer, is_range_pointer_of, first_range_pointer, range_pointer_of}
 use Rattle.legacy_base.proofs.FirstPlaces.{find-some, find-none, find-none-at, find-first, last-some, last-none, last-none-at, last-passes, last-after, find-same, find-either, last-same}
 
 both_true : (a b : Bool) → (a && b) ≡ true → (a ≡ true) × (b ≡ true)

@@ -1,5 +1,6 @@
 -- What is known of private-use rows that passed their check, and what a search of them finds.
-use Rattle.std.proofs.Common.{◌≡◌, ◌≢◌, ◌⊎◌, inl, inr, ℕ, zero, suc, ◌+◌, ◌≤◌, ◌<◌, List, [], ◌∷◌, length, get_or, add-one, refl, arith, Some, None, Option, true, false, Bool, not, cond, find, eq-eqb, ◌==◌}
+use Rattle.std.proofs.Common.{◌≡◌, ◌≢◌, ◌⊎◌, inl, inr, ℕ, zero, suc, ◌+◌, ◌≤◌, ◌<◌, List, [], ◌∷◌, length}
+use Rattle.std.proofs.Common.{get_or, add-one, refl, arith, Some, None, Option, true, false, Bool, not, cond, find, eq-eqb, ◌==◌}
 use Rattle.std.proofs.lemmas.Bool.{ne_eqb, cases_lt}
 use Rattle.std.proofs.lemmas.List.Sorted.{IsNonDecreasingBy-from_all_adjacent}
 use Rattle.std.specs.List.{AllAdjacentBelow}
@@ -50,7 +51,8 @@ module _ (c : ℕ) where
     pub row-end : length rows ≤ count → None ≡ gb18030_pua_of rows c
     row-end h = rw (find_none rows (λ k l e. let low = below k (omega arith) in absurd (omega arith))) refl
 
-    pub row-other : rows_fault 0 None rows ≡ None → (ahead : (k : ℕ) → count ≤ k → k < length rows → c ≤ (get_or rows k (0, 0, 0)).0) → count < length rows → (get_or rows count (0, 0, 0)).0 ≢ c → None ≡ gb18030_pua_of rows c
+    pub row-other : rows_fault 0 None rows ≡ None → (ahead : (k : ℕ) → count ≤ k → k < length rows → c ≤ (get_or rows k (0, 0, 0)).0) → count < length rows
+        → (get_or rows count (0, 0, 0)).0 ≢ c → None ≡ gb18030_pua_of rows c
     row-other rises ahead h n = rw (find_none rows (λ k l e. elsewhere k l e (cases_lt k count))) refl
       where
         elsewhere : (k : ℕ) → k < length rows → (get_or rows k (0, 0, 0)).0 ≡ c → (k < count) ⊎ (count ≤ k) → ⊥

@@ -11,7 +11,8 @@ use Rattle.std.specs.List.{list_any}
 use Rattle.std.specs.Option.{option_or}
 use Rattle.legacy_base.specs.declared.tables.IndexName.{IndexName}
 use Rattle.legacy_base.specs.declared.tables.TableError.TheVariants.{RangeOrder, RangeValue}
-use Rattle.legacy_base.specs.TableChecks.{entry_fault, entries_fault, follows_range, range_order_fault, next_pointer, has_range_scalars, range_value_fault, row_fault, rows_fault, byte_entry_fault, byte_entries_fault}
+use Rattle.legacy_base.specs.TableChecks.{entry_fault, entries_fault, follows_range, range_order_fault, next_pointer}
+use Rattle.legacy_base.specs.TableChecks.{has_range_scalars, range_value_fault, row_fault, rows_fault, byte_entry_fault, byte_entries_fault}
 
 -- ---- the entries of an index
 

@@ -1,5 +1,6 @@
 -- The scalars of texts, one by one from the front, and the places between them.
-use Rattle.std.proofs.Common.{◌≡◌, ◌∙◌, ℕ, zero, suc, ◌+◌, ◌-◌, ◌≤◌, ◌<◌, List, [], ◌∷◌, ◌++◌, length, take, drop, get_or, refl, sym, ap, subst, arith, length-append, length-drop, Some, None, Option, true, false, Bool, ◌⊎◌, inl, inr, ◌&&◌, map, slice_get, lit<, IsAscii}
+use Rattle.std.proofs.Common.{◌≡◌, ◌∙◌, ℕ, zero, suc, ◌+◌, ◌-◌, ◌≤◌, ◌<◌, List, [], ◌∷◌, ◌++◌, length, take, drop, get_or, refl, sym}
+use Rattle.std.proofs.Common.{ap, subst, arith, length-append, length-drop, Some, None, Option, true, false, Bool, ◌⊎◌, inl, inr, ◌&&◌, map, slice_get, lit<, IsAscii}
 use Rattle.std.proofs.lemmas.Bool.{cases_lt, lt-ltb, le-ltb, le-leb, lt-leb}
 use Rattle.std.proofs.lemmas.List.{drop-drop, take-append-drop, length-take-le, take_all}
 use Rattle.std.proofs.Math.Seq.{take-append_seam}
@@ -8,7 +9,8 @@ use Rattle.std.specs.Char.{len_utf8}
 use Rattle.std.specs.Char.Utf16.{lone_unit_char, surrogate_pair_char, is_high_surrogate, is_low_surrogate}
 use Rattle.std.specs.Option.{unwrap_or, IsSome, SomeIff}
 use lib.ListN.{get_or-eq_default}
-use Rattle.std.proofs.lemmas.Str.{IsUtf8-from_is_utf8, is_utf8-from_IsUtf8, encodes-chars, chars_past_char, IsUtf8-past_char, drop_past_char, length-encode, utf16_chars-nil, utf16_chars_lone, utf16_chars_pair, encodes-append, scalars-chars, chars-encodes, IsCharBoundary-at_seam, chars-append, chars-IsAscii, IsUtf8-from_ascii}
+use Rattle.std.proofs.lemmas.Str.{IsUtf8-from_is_utf8, is_utf8-from_IsUtf8, encodes-chars, chars_past_char, IsUtf8-past_char, drop_past_char, length-encode, utf16_chars-nil}
+use Rattle.std.proofs.lemmas.Str.{utf16_chars_lone, utf16_chars_pair, encodes-append, scalars-chars, chars-encodes, IsCharBoundary-at_seam, chars-append, chars-IsAscii, IsUtf8-from_ascii}
 use Rattle.std.proofs.str.Utf16.{IsPair, lone_unit_char_low, lone_unit_char_high, lone_unit_char_surrogate, utf16_chars-drop_lone, utf16_chars-drop_pair, utf16_chars-drop_all}
 use lib.Utf8.{encode, encodes, scalar, scalars}
 use Rattle.std.proofs.lemmas.List.Concat.{flat_map-append}
@@ -121,7 +123,8 @@ utf16_step list place c n bound h e short long =
     let v = get_or list (place + 1) 0 in
     elim (pair_or_not u v) [
       | inl p ↦
-          let within : place + 1 < length list = elim (cases_lt (place + 1) (length list)) as (λ _. place + 1 < length list) [ inl a ↦ a | inr a ↦ let z = get_or-eq_default list 0 {n = place + 1} a in omega (arith, p.2) ] in
+          let within : place + 1 < length list =
+              elim (cases_lt (place + 1) (length list)) as (λ _. place + 1 < length list) [ inl a ↦ a | inr a ↦ let z = get_or-eq_default list 0 {n = place + 1} a in omega (arith, p.2) ] in
           let all = scalars_pair list place within p in
           let is : c ≡ surrogate_pair_char u v = let f : Some c ≡ Some (surrogate_pair_char u v) = e ∙ ap (λ l. slice_get l 0) all in cc in
           let two : n ≡ 2 = long (omega (arith, p.2)) in
@@ -180,7 +183,8 @@ utf8_cut text taken left place u e p =
     }
 
 -- how many units were passed
-pub passed_is : (form : EncodingForm) (all taken left : List ℕ) (place : ℕ) → all ≡ taken ++ left → place + length (all_code_units form left) ≡ 0 + length (all_code_units form all) → place ≡ length (all_code_units form taken)
+pub passed_is : (form : EncodingForm) (all taken left : List ℕ) (place : ℕ) → all ≡ taken ++ left → place + length (all_code_units form left) ≡ 0 + length (all_code_units form all)
+    → place ≡ length (all_code_units form taken)
 passed_is form all taken left place e p = omega (arith, total_unit_count-split form taken left, ap (λ l. length (all_code_units form l)) e)
 
 high_test : (u v : ℕ) → 0xDC00 ≤ u → (is_high_surrogate u && is_low_surrogate v) ≡ false
@@ -263,10 +267,12 @@ utf16_cut (u ∷ v ∷ list) (c ∷ taken) left b e = elim (pair_or_not u v) [
 ]
 
 -- what a call left of a text that was handed to it whole
-pub utf8_read : (text taken left : List ℕ) (read : ℕ) → IsUtf8 text → chars text ≡ taken ++ left → read + length (all_code_units Utf8 left) ≡ 0 + length (all_code_units Utf8 (chars text)) → CutAt text taken left read
+pub utf8_read : (text taken left : List ℕ) (read : ℕ) → IsUtf8 text → chars text ≡ taken ++ left → read + length (all_code_units Utf8 left) ≡ 0 + length (all_code_units Utf8 (chars text))
+    → CutAt text taken left read
 utf8_read text taken left read u e p = utf8_cut text taken left read u e (passed_is Utf8 (chars text) taken left read e p)
 
-pub utf16_read : (list taken left : List ℕ) (read : ℕ) → Bounded list → unit_scalars list ≡ taken ++ left → read + length (all_code_units Utf16 left) ≡ 0 + length (all_code_units Utf16 (unit_scalars list)) → CutUnits list left read
+pub utf16_read : (list taken left : List ℕ) (read : ℕ) → Bounded list → unit_scalars list ≡ taken ++ left
+    → read + length (all_code_units Utf16 left) ≡ 0 + length (all_code_units Utf16 (unit_scalars list)) → CutUnits list left read
 utf16_read list taken left read b e p = subst (CutUnits list left) (sym (passed_is Utf16 (unit_scalars list) taken left read e p)) (utf16_cut list taken left b e)
 
 pub unit_boundary : (list left : List ℕ) (place : ℕ) → CutUnits list left place → IsUnitBoundary list place
@@ -315,7 +321,8 @@ pub record AsciiAt (list : List ℕ) (place n : ℕ) : Type 0 where
   pub same : take n (take (length list - place) (drop place list)) ≡ take n (drop place list)
 
 -- so it is where they were found in the slice from the place on
-pub ascii_at : (list : List ℕ) (place n : ℕ) → place ≤ length list → n ≤ length (take (length list - place) (drop place list)) → IsAscii (take n (take (length list - place) (drop place list))) → AsciiAt list place n
+pub ascii_at : (list : List ℕ) (place n : ℕ) → place ≤ length list → n ≤ length (take (length list - place) (drop place list))
+    → IsAscii (take n (take (length list - place) (drop place list))) → AsciiAt list place n
 ascii_at list place n h within ascii =
     let whole : take (length list - place) (drop place list) ≡ drop place list = take_all (length list - place) (drop place list) (omega (arith, length-drop place list)) in
     let few : n ≤ length (drop place list) = rw whole at within in
@@ -364,7 +371,8 @@ none_left [] e = refl
 none_left (x ∷ xs) e = cc
 
 -- going past the scalar at a place by the number of its code units
-pub utf8_pass : (text : List ℕ) (place n : ℕ) → place ≤ length text → is_utf8 (drop place text) ≡ true → 0 < length (chars (drop place text)) → n ≡ unit_count Utf8 (get_or (chars (drop place text)) 0 0) →
+pub utf8_pass : (text : List ℕ) (place n : ℕ) → place ≤ length text → is_utf8 (drop place text) ≡ true → 0 < length (chars (drop place text))
+    → n ≡ unit_count Utf8 (get_or (chars (drop place text)) 0 0) →
     (place + n ≤ length text) × (is_utf8 (drop (place + n) text) ≡ true) × (chars (drop (place + n) text) ≡ drop 1 (chars (drop place text)))
 utf8_pass text place n p u some e =
     let c : ℕ = get_or (chars (drop place text)) 0 0 in
@@ -372,7 +380,8 @@ utf8_pass text place n p u some e =
     let width : n ≡ len_utf8 c = e ∙ length-encode c in
     rw width (s.within, s.is_text, s.behind)
 
-pub utf16_pass : (list : List ℕ) (place n : ℕ) → ((i : ℕ) → get_or list i 0 < 65536) → 0 < length (unit_scalars (drop place list)) → n ≡ unit_count Utf16 (get_or (unit_scalars (drop place list)) 0 0) →
+pub utf16_pass : (list : List ℕ) (place n : ℕ) → ((i : ℕ) → get_or list i 0 < 65536) → 0 < length (unit_scalars (drop place list))
+    → n ≡ unit_count Utf16 (get_or (unit_scalars (drop place list)) 0 0) →
     (place + n ≤ length list) × (unit_scalars (drop (place + n) list) ≡ drop 1 (unit_scalars (drop place list)))
 utf16_pass list place n bound some e =
     let c : ℕ = get_or (unit_scalars (drop place list)) 0 0 in

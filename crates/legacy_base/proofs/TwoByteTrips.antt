@@ -1,5 +1,6 @@
 -- The codes of Big5, EUC-KR, Shift_JIS, EUC-JP, the single-byte codecs and x-user-defined decode to their scalars.
-use Rattle.std.proofs.Common.{◌≡◌, ◌≢◌, ℕ, ◌+◌, ◌-◌, ◌*◌, ◌/◌, ◌%◌, ◌<◌, ◌≤◌, List, [], ◌∷◌, length, Bool, true, false, cond, ◌||◌, ◌==◌, nat_lt, nat_le, Option, Some, None, option_map, option_to_list, position, get_or, refl, sym, ap, ◌∙◌, arith, if◌then◌else◌}
+use Rattle.std.proofs.Common.{◌≡◌, ◌≢◌, ℕ, ◌+◌, ◌-◌, ◌*◌, ◌/◌, ◌%◌, ◌<◌, ◌≤◌, List, [], ◌∷◌, length, Bool, true, false}
+use Rattle.std.proofs.Common.{cond, ◌||◌, ◌==◌, nat_lt, nat_le, Option, Some, None, option_map, option_to_list, position, get_or, refl, sym, ap, ◌∙◌, arith, if◌then◌else◌}
 use Rattle.std.proofs.lemmas.Bool.{and_parts, or_parts, leb-true, ne_eqb, eqb-true, true≢false}
 use Rattle.std.proofs.lemmas.Bool.Decides.{nat_tests}
 use Rattle.std.proofs.lemmas.List.Quantifiers.{position-Some}
@@ -10,7 +11,8 @@ use Rattle.std.specs.Char.{is_ascii}
 use Rattle.legacy_base.specs.Fronts.{Front, reads}
 use Rattle.legacy_base.specs.Indexes.{idx}
 use Rattle.legacy_base.specs.Profile.{is_lead}
-use Rattle.legacy_base.specs.Pointers.{every_pointer, is_big5_pointer, big5_pointer_of, euc_kr_pointer_of, minus_as_hyphen, is_shift_jis_pointer, shift_jis_pointer_of, is_jis0208_pointer, euc_jp_pointer_of}
+use Rattle.legacy_base.specs.Pointers.{every_pointer, is_big5_pointer, big5_pointer_of, euc_kr_pointer_of}
+use Rattle.legacy_base.specs.Pointers.{minus_as_hyphen, is_shift_jis_pointer, shift_jis_pointer_of, is_jis0208_pointer, euc_jp_pointer_of}
 use Rattle.legacy_base.specs.SingleByte.{single_byte_front, single_byte_code}
 use Rattle.legacy_base.specs.UserDefined.{user_defined_front, user_defined_code}
 use Rattle.legacy_base.specs.Big5.{big5_pointer, big5_scalars, big5_pair, big5_front, big5_bytes, big5_code}

@@ -1,5 +1,6 @@
 -- How the moves of an encoder make a call.
-use Rattle.std.proofs.Common.{◌≡◌, ◌∙◌, ℕ, suc, ◌+◌, ◌-◌, ◌≤◌, ◌<◌, List, [], ◌∷◌, ◌++◌, length, get_or, take, drop, map, refl, sym, ap, subst, arith, append_assoc, append-nil, length-append, length-take, length-drop, add-zero, inl, inr, Bool, true, false, IsTrue, Some, None, slice_get, not, IsAscii}
+use Rattle.std.proofs.Common.{◌≡◌, ◌∙◌, ℕ, suc, ◌+◌, ◌-◌, ◌≤◌, ◌<◌, List, [], ◌∷◌, ◌++◌, length, get_or, take, drop, map, refl, sym}
+use Rattle.std.proofs.Common.{ap, subst, arith, append_assoc, append-nil, length-append, length-take, length-drop, add-zero, inl, inr, Bool, true, false, IsTrue, Some, None, slice_get, not, IsAscii}
 use Rattle.std.proofs.lemmas.Bool.{cases_lt}
 use Rattle.std.proofs.lemmas.List.{take-append-le, get_or_append_left, take-append-drop, length-take-le}
 use Rattle.std.proofs.Math.Nat.{sub-zero}
@@ -73,7 +74,8 @@ get_or-append_at [] y ys = refl
 get_or-append_at (x ∷ xs) y ys = get_or-append_at xs y ys
 
 -- behind a scalar that is read nothing more comes before the end
-no_more : (next : EncoderState) → Serves (encoder_profile next.codec) → (move : EncoderMove) (c : ℕ) → is_escape move ≡ false → byte_count (move_report move ++ encoded next (unread_scalar move c ++ []) false) ≡ 0
+no_more : (next : EncoderState) → Serves (encoder_profile next.codec) → (move : EncoderMove) (c : ℕ) → is_escape move ≡ false
+    → byte_count (move_report move ++ encoded next (unread_scalar move c ++ []) false) ≡ 0
 unfolding byte_count
 no_more next serves (moves.One a) c e = ap byte_count (serves.nothing next.mode)
 no_more next serves (moves.Two a b) c e = ap byte_count (serves.nothing next.mode)
@@ -88,7 +90,8 @@ none_unread (moves.Four a b x d) c e = refl
 none_unread (moves.Escape a b) c e = cc
 none_unread (moves.Unmappable r) c e = refl
 
-escaped : (next : EncoderState) (move : EncoderMove) (c : ℕ) (more : List ℕ) (ended : Bool) → is_escape move ≡ true → move_report move ++ encoded next (unread_scalar move c ++ more) ended ≡ encoded next (c ∷ more) ended
+escaped : (next : EncoderState) (move : EncoderMove) (c : ℕ) (more : List ℕ) (ended : Bool) → is_escape move ≡ true
+    → move_report move ++ encoded next (unread_scalar move c ++ more) ended ≡ encoded next (c ∷ more) ended
 escaped next (moves.One a) c more ended e = cc
 escaped next (moves.Two a b) c more ended e = cc
 escaped next (moves.Four a b x d) c more ended e = cc
@@ -135,7 +138,8 @@ module _ (before : EncoderState) (source : List ℕ) (last : Bool) (free : ℕ) 
         ∙ under.events (drop 1 left ++ more) ended
         ∙ ap (λ l. map Byte bytes ++ encoded now l ended) (sym (first_rest left more))
 
-    pub call_full : EncoderLacksRoom now left last (free - length bytes) → ((form : EncodingForm) → encoder_room form before (total_unit_count form source) ≤ free → ⊥) → EncoderCall before source last free now OutputFull left bytes
+    pub call_full : EncoderLacksRoom now left last (free - length bytes) → ((form : EncodingForm) → encoder_room form before (total_unit_count form source) ≤ free → ⊥)
+        → EncoderCall before source last free now OutputFull left bytes
     call_full l never = record {
       taken = under.taken;
       cut = under.cut;
@@ -151,7 +155,8 @@ module _ (before : EncoderState) (source : List ℕ) (last : Bool) (free : ℕ) 
       enough = λ form n k h e f x. never form (answered form n k h e f);
     }
       where
-        answered : (form : EncodingForm) (n k : ℕ) → total_unit_count form source ≤ n → encoder_answer form before n ≡ Some k → k ≤ free → encoder_room form before (total_unit_count form source) ≤ free
+        answered : (form : EncodingForm) (n k : ℕ) → total_unit_count form source ≤ n → encoder_answer form before n ≡ Some k → k ≤ free
+            → encoder_room form before (total_unit_count form source) ≤ free
         answered form n k h e f =
             let v = answer-value (encoder_formula form before n) k e in
             let r = served_before.rises form (total_unit_count form source) n h in
@@ -197,7 +202,8 @@ module _ (before : EncoderState) (source : List ℕ) (last : Bool) (free : ℕ) 
         served_next = subst (λ codec. Serves (encoder_profile codec)) (sym next_same) serves
 
         -- the scalar with what its move gave
-        moved : (more : List ℕ) (ended : Bool) → encoded before (under.taken ++ (c ∷ more)) ended ≡ map Byte (bytes ++ move_bytes move) ++ (move_report move ++ encoded next (unread_scalar move c ++ more) ended)
+        moved : (more : List ℕ) (ended : Bool)
+            → encoded before (under.taken ++ (c ∷ more)) ended ≡ map Byte (bytes ++ move_bytes move) ++ (move_report move ++ encoded next (unread_scalar move c ++ more) ended)
         moved more ended =
             next_events more ended
             ∙ ap (λ l. map Byte bytes ++ l) (f.events more ended)
@@ -240,7 +246,8 @@ module _ (before : EncoderState) (source : List ℕ) (last : Bool) (free : ℕ) 
         stays : is_escape move ≡ false → next ≡ now
         stays e = f.goes ∙ state_stays now c (sym f.asks ∙ e)
 
-        read_low : is_escape move ≡ false → (form : EncodingForm) (t : ℕ) → encoder_room form next (total_unit_count form rest + t) + length (bytes ++ move_bytes move) ≤ encoder_room form before (total_unit_count form source + t)
+        read_low : is_escape move ≡ false → (form : EncodingForm) (t : ℕ)
+            → encoder_room form next (total_unit_count form rest + t) + length (bytes ++ move_bytes move) ≤ encoder_room form before (total_unit_count form source + t)
         read_low e form t =
             let own = f.own e in
             let n = length-append bytes (move_bytes move) in
@@ -320,7 +327,8 @@ module _ (before : EncoderState) (source : List ℕ) (last : Bool) (free : ℕ) 
           lowers = inr (escape_lowers e);
         }
 
-      pub call_unmappable : (next : EncoderState) (r : ℕ) → Moves now c next (moves.Unmappable r) → scalar_room now c ≤ free - length bytes → EncoderCall before source last free next (Unmappable r) rest bytes
+      pub call_unmappable : (next : EncoderState) (r : ℕ) → Moves now c next (moves.Unmappable r) → scalar_room now c ≤ free - length bytes
+          → EncoderCall before source last free next (Unmappable r) rest bytes
       call_unmappable next r f room = record {
         taken = under.taken ++ c ∷ [];
         cut = read_cut next (moves.Unmappable r) f room;
@@ -334,7 +342,8 @@ module _ (before : EncoderState) (source : List ℕ) (last : Bool) (free : ℕ) 
         output_full = λ e. cc;
         full_at_once = λ l. absurd (not_once room l);
         had_room = read_room next (moves.Unmappable r) f room refl;
-        lowers = λ form more g. subst (λ l. encoder_room form next (total_unit_count form rest + more) + length l ≤ encoder_room form before (total_unit_count form source + more)) (append-nil bytes) (read_low next (moves.Unmappable r) f room refl form more);
+        lowers = λ form more g. subst (λ l. encoder_room form next (total_unit_count form rest + more) + length l ≤ encoder_room form before (total_unit_count form source + more))
+            (append-nil bytes) (read_low next (moves.Unmappable r) f room refl form more);
         ends = λ form e. cc;
         suffices = λ form h x. cc;
         enough = λ form n k h e g x. cc;
@@ -362,7 +371,8 @@ module _ (before : EncoderState) (source : List ℕ) (last : Bool) (free : ℕ) 
         events = λ more ended h. whole more ended;
         input_empty = λ e. (none, λ l. no_bytes (end_bytes now) (p l));
         output_full = λ e. cc;
-        full_at_once = λ l. let s = still l in let n : encoder_need now left last ≡ 0 = ap (λ l. encoder_need now l last) none ∙ no_need now last (λ k. no_bytes (end_bytes now) (p k)) in absurd (omega arith);
+        full_at_once = λ l. let s = still l in let n : encoder_need now left last ≡ 0 = ap (λ l. encoder_need now l last) none
+            ∙ no_need now last (λ k. no_bytes (end_bytes now) (p k)) in absurd (omega arith);
         had_room = under.had_room;
         lowers = λ form more g. let z : total_unit_count form left + more ≡ more = omega (arith, ap (total_unit_count form) none) in rw z (end_low form more);
         ends = λ form e l. let r = end_room_low form in omega arith;
@@ -439,18 +449,21 @@ module _ (state : EncoderState) (free : ℕ) where
   pub keeps_none : (left bytes : List ℕ) → KeepsOn state free left bytes left bytes
   keeps_none left bytes = record { keeps = λ before source last u. u }
 
-  pub keeps_then : (left bytes left' bytes' left'' bytes'' : List ℕ) → KeepsOn state free left bytes left' bytes' → KeepsOn state free left' bytes' left'' bytes'' → KeepsOn state free left bytes left'' bytes''
+  pub keeps_then : (left bytes left' bytes' left'' bytes'' : List ℕ) → KeepsOn state free left bytes left' bytes' → KeepsOn state free left' bytes' left'' bytes''
+      → KeepsOn state free left bytes left'' bytes''
   keeps_then left bytes left' bytes' left'' bytes'' first second = record { keeps = λ before source last u. second.keeps before source last (first.keeps before source last u) }
 
   module _ (serves : Serves (encoder_profile state.codec)) where
-    pub keeps_move : (left bytes : List ℕ) (c : ℕ) (rest : List ℕ) (move : EncoderMove) → left ≡ c ∷ rest → Moves state c state move → is_escape move ≡ false → move_report move ≡ [] → scalar_room state c ≤ free - length bytes →
+    pub keeps_move : (left bytes : List ℕ) (c : ℕ) (rest : List ℕ) (move : EncoderMove) → left ≡ c ∷ rest → Moves state c state move → is_escape move ≡ false → move_report move ≡ []
+        → scalar_room state c ≤ free - length bytes →
         KeepsOn state free left bytes rest (bytes ++ move_bytes move)
     keeps_move left bytes c rest move at f plain silent room = record {
       keeps = λ before source last u. underway_read before source last free state left bytes u serves c rest at state move f room plain silent;
     }
 
     -- a front of scalars that are ASCII, as it is
-    pub keeps_ascii : HasAscii state → (front left bytes rest : List ℕ) → IsAscii front → left ≡ front ++ rest → length bytes + length front ≤ free → KeepsOn state free left bytes rest (bytes ++ front)
+    pub keeps_ascii : HasAscii state → (front left bytes rest : List ℕ) → IsAscii front → left ≡ front ++ rest → length bytes + length front ≤ free
+        → KeepsOn state free left bytes rest (bytes ++ front)
     keeps_ascii has [] left bytes rest plain at fits = rw (append-nil bytes, at) (keeps_none rest bytes)
     keeps_ascii has (c ∷ front) left bytes rest plain at fits =
         let low : c < 128 = plain 0 in

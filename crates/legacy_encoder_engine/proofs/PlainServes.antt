@@ -1,5 +1,6 @@
 -- The codecs without modes: their rooms serve for their scalars, and their moves are the codes of these.
-use Rattle.std.proofs.Common.{zero, suc, take, drop, get_or, append-nil, append_assoc, length-append, ◌≡◌, ◌∙◌, ℕ, ◌+◌, ◌-◌, ◌≤◌, ◌<◌, List, [], ◌∷◌, ◌++◌, length, not, refl, sym, ap, subst, arith, Bool, true, false, Some, None, Option, cond, option_map, ltb, inl, inr}
+use Rattle.std.proofs.Common.{zero, suc, take, drop, get_or, append-nil, append_assoc, length-append, ◌≡◌, ◌∙◌, ℕ, ◌+◌, ◌-◌, ◌≤◌, ◌<◌, List, [], ◌∷◌}
+use Rattle.std.proofs.Common.{◌++◌, length, not, refl, sym, ap, subst, arith, Bool, true, false, Some, None, Option, cond, option_map, ltb, inl, inr}
 use Rattle.std.proofs.lemmas.Bool.{cases_lt, lt-ltb, le-ltb}
 use Rattle.std.proofs.lemmas.List.{take-append-drop, length-take-le, get_or-take}
 use Rattle.std.specs.Option.{option_or}
@@ -198,7 +199,8 @@ module _ (codec : Codec) (past : ℕ) (p : IsPlainCodec codec past) where
       subst (λ l. KeepsOn S free left old rest l) (append_assoc old (b ∷ []) bytes)
       (keeps_then S free left old (front ++ rest) (old ++ b ∷ []) rest ((old ++ b ∷ []) ++ bytes) first others)
 
-  pub keeps_codes : (free : ℕ) (left : List ℕ) (n : ℕ) (old new : List ℕ) → n ≤ length left → length old + n ≤ free → WritesCodes (HasByte codec past) left n old new → KeepsOn S free left old (drop n left) new
+  pub keeps_codes : (free : ℕ) (left : List ℕ) (n : ℕ) (old new : List ℕ) → n ≤ length left → length old + n ≤ free → WritesCodes (HasByte codec past) left n old new
+      → KeepsOn S free left old (drop n left) new
   keeps_codes free left zero old new within fits w =
       let none : w.bytes ≡ [] = no_items w.bytes w.count in
       rw (w.new_is, none, append-nil old) (keeps_none S free left old)

@@ -25,7 +25,8 @@ pub record Serves (p : EncoderProfile) : Type 0 where
   pub low : (mode : EncoderMode) (c : ℕ) (form : EncodingForm) (t : ℕ) → mode_room p form mode t + code_length (p.code c) ≤ mode_room p form mode (unit_count form c + t)
   pub enough : (mode : EncoderMode) (c : ℕ) (form : EncodingForm) (t : ℕ) → p.scalar_room c ≤ mode_room p form mode (unit_count form c + t)
   -- so do an escape and the scalar behind it
-  pub escape_low : (mode : EncoderMode) (c : ℕ) → wants p mode c ≡ true → (form : EncodingForm) (t : ℕ) → mode_room p form (p.mode_for mode c) t + (3 + code_length (p.code c)) ≤ mode_room p form mode (unit_count form c + t)
+  pub escape_low : (mode : EncoderMode) (c : ℕ) → wants p mode c ≡ true → (form : EncodingForm) (t : ℕ)
+      → mode_room p form (p.mode_for mode c) t + (3 + code_length (p.code c)) ≤ mode_room p form mode (unit_count form c + t)
   pub escape_enough : (mode : EncoderMode) (c : ℕ) → wants p mode c ≡ true → (form : EncodingForm) (t : ℕ) → 3 + p.scalar_room c ≤ mode_room p form mode (unit_count form c + t)
   -- and the end
   pub end : (mode : EncoderMode) (form : EncodingForm) → length (p.end_bytes mode) ≤ mode_room p form mode 0

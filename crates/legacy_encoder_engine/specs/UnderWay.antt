@@ -19,7 +19,8 @@ pub record LowersEscaped (before : EncoderState) (source : List ℕ) (now : Enco
   pub rest : List ℕ
   pub at : left ≡ c ∷ rest
   pub settled : wants_escape now c ≡ false
-  pub low : (form : EncodingForm) (more : ℕ) → encoder_room form now (total_unit_count form rest + more) + code_length (code now c) + length bytes ≤ encoder_room form before (total_unit_count form source + more)
+  pub low : (form : EncodingForm) (more : ℕ)
+      → encoder_room form now (total_unit_count form rest + more) + code_length (code now c) + length bytes ≤ encoder_room form before (total_unit_count form source + more)
   pub enough : (form : EncodingForm) → scalar_room now c + length bytes ≤ encoder_room form before (total_unit_count form source)
 
 -- A call from the state `before`, with the scalars `source` and so many bytes free, came to the state `now`, with these

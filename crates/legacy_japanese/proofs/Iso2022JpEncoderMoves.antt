@@ -7,7 +7,8 @@ use Rattle.legacy_base.specs.EncoderProfile.{EncoderMode, in_ascii, in_roman, in
 use Rattle.legacy_base.specs.Encoders.{EncoderState, encoded, encoder_profile, iso_2022_jp, is_pending}
 use Rattle.legacy_base.specs.Profile.{is_empty}
 use Rattle.legacy_base.specs.Iso2022Jp.{is_mode_control, iso_2022_jp_code, iso_2022_jp_reported, iso_2022_jp_pointer_of, escape_between, roman_or_ascii}
-use Rattle.legacy_base.proofs.Iso2022JpEncoding.{text_events-here, text_events-escape, text_events-end, text_events-open, mode_for, mode_for-twice, code-short, at_control, at_special, at_neutral, at_yen, at_overline, at_pair, at_none}
+use Rattle.legacy_base.proofs.Iso2022JpEncoding.{text_events-here, text_events-escape, text_events-end, text_events-open, mode_for, mode_for-twice, code-short}
+use Rattle.legacy_base.proofs.Iso2022JpEncoding.{at_control, at_special, at_neutral, at_yen, at_overline, at_pair, at_none}
 use Rattle.legacy_encoder_engine.specs.Moves.{Moves, Finishes, IsCode, differs}
 use Rattle.legacy_encoder_engine.specs.Serves.{Serves}
 use Rattle.legacy_encoder_engine.specs.UnderWay.{PutsCode}

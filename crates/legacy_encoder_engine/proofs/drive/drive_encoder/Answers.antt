@@ -3,7 +3,8 @@ use Rattle.std.proofs.lemmas.Bool.{false≢true}
 use Rattle.legacy_base.specs.Encoders.{is_pending}
 use Rattle.legacy_base.proofs.Texts.{first_cons}
 use Rattle.legacy_encoder_engine.specs.Moves.{is_escape}
-use Rattle.legacy_encoder_engine.proofs.CallUnderWay.{underway_start, underway_read, underway_escape, call_full_scalar, call_full_end, call_unmappable, call_done, call_finish, no_report, no_escape, first_nil, front_length, first_units}
+use Rattle.legacy_encoder_engine.proofs.CallUnderWay.{underway_start, underway_read, underway_escape, call_full_scalar, call_full_end, call_unmappable}
+use Rattle.legacy_encoder_engine.proofs.CallUnderWay.{call_done, call_finish, no_report, no_escape, first_nil, front_length, first_units}
 use Rattle.legacy_encoder_engine.proofs.drive.drive_encoder.Goals as goal
 use Rattle.legacy_encoder_engine.proofs.drive.drive_encoder.Goals.{else-is_pending-via-then-is_pending+else-last, else-is_pending-via-else-is_pending}
 
@@ -37,7 +38,8 @@ loop-c-preserved g c =
           (underway_read _ _ _ _ _ _ _ under c.room.ensures.serves c.in-Some.c _ cons _ c.next-step.result c.next-step.ensures (omega arith)
           (no_escape c.next-step.result c.in_default-step-2.not-Escape) (no_report c.next-step.result c.in_default-step.not-Unmappable)),
       omega arith,
-      rw c.advance-in-loop-c.ensures.left (omega (arith, c.advance-in-loop-c.ensures.passed, first_units g.S.Source.form (g.S.Source.left a.new.src) c.in-Some.c cons, a.ensures.passed, c.loop-c.invariant.2)),
+      rw c.advance-in-loop-c.ensures.left (omega (arith, c.advance-in-loop-c.ensures.passed, first_units g.S.Source.form (g.S.Source.left a.new.src) c.in-Some.c cons, a.ensures.passed,
+          c.loop-c.invariant.2)),
     )
 
 pub returns-else-is_pending-clause-call : goal.returns-else-is_pending-clause-call

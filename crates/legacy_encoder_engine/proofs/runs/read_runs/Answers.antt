@@ -6,7 +6,8 @@ use Rattle.legacy_encoder_engine.proofs.PlainServes.{plain_serves, plain_ascii, 
 use Rattle.legacy_encoder_engine.proofs.runs.read_runs.Goals as goal
 
 pub loop-at-init : goal.loop-at-init
-loop-at-init g c = (keeps_none (new_encoder (g.C.PlainCodes.codec c.args.encoder.now)) (length c.args.dst.now) (g.S.Source.left c.args.src.now) (take c.args.start c.args.dst.now), omega arith, omega arith, refl)
+loop-at-init g c =
+    (keeps_none (new_encoder (g.C.PlainCodes.codec c.args.encoder.now)) (length c.args.dst.now) (g.S.Source.left c.args.src.now) (take c.args.start c.args.dst.now), omega arith, omega arith, refl)
 
 pub returns-then-end-at-clause-keeps : goal.returns-then-end-at-clause-keeps
 returns-then-end-at-clause-keeps g c =
@@ -21,7 +22,9 @@ returns-then-end-at-clause-keeps g c =
     let free = length c.args.dst.now in
     let bytes = take c.loop-at.at c.loop-at.dst in
     let fits : length bytes + length (take n left) ≤ free = omega (arith, front_length c.loop-at.at c.loop-at.dst i.2, length-take n left, e.fits) in
-    let copied = keeps_ascii state free (plain_serves codec g.C.PlainCodes.past plain) (plain_ascii codec g.C.PlainCodes.past plain) (take n left) left bytes (drop n left) e.ascii (sym (take-append-drop n left)) fits in
+    let copied =
+        keeps_ascii state free (plain_serves codec g.C.PlainCodes.past plain) (plain_ascii codec g.C.PlainCodes.past plain) (take n left) left bytes (drop n left) e.ascii
+            (sym (take-append-drop n left)) fits in
     let copied' = rw (← e.bytes, ← e.left) at copied in
     let long : length c.copy_ascii-at.new.dst ≡ free = omega arith in
     let longer : length c.read_units-at.new.dst ≡ free = omega arith in
@@ -53,7 +56,9 @@ loop-at-preserved g c =
     let free = length c.args.dst.now in
     let bytes = take c.loop-at.at c.loop-at.dst in
     let fits : length bytes + length (take n left) ≤ free = omega (arith, front_length c.loop-at.at c.loop-at.dst i.2, length-take n left, e.fits) in
-    let copied = keeps_ascii state free (plain_serves codec g.C.PlainCodes.past plain) (plain_ascii codec g.C.PlainCodes.past plain) (take n left) left bytes (drop n left) e.ascii (sym (take-append-drop n left)) fits in
+    let copied =
+        keeps_ascii state free (plain_serves codec g.C.PlainCodes.past plain) (plain_ascii codec g.C.PlainCodes.past plain) (take n left) left bytes (drop n left) e.ascii
+            (sym (take-append-drop n left)) fits in
     let copied' = rw (← e.bytes, ← e.left) at copied in
     let long : length c.copy_ascii-at.new.dst ≡ free = omega arith in
     let longer : length c.read_units-at.new.dst ≡ free = omega arith in
