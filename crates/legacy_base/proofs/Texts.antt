@@ -124,7 +124,7 @@ utf16_step list place c n bound h e short long =
     elim (pair_or_not u v) [
       | inl p ↦
           let within : place + 1 < length list =
-              elim (cases_lt (place + 1) (length list)) as (λ _. place + 1 < length list) [ inl a ↦ a | inr a ↦ let z = get_or-eq_default list 0 {n = place + 1} a in omega (arith, p.2) ] in
+          elim (cases_lt (place + 1) (length list)) as (λ _. place + 1 < length list) [ inl a ↦ a | inr a ↦ let z = get_or-eq_default list 0 {n = place + 1} a in omega (arith, p.2) ] in
           let all = scalars_pair list place within p in
           let is : c ≡ surrogate_pair_char u v = let f : Some c ≡ Some (surrogate_pair_char u v) = e ∙ ap (λ l. slice_get l 0) all in cc in
           let two : n ≡ 2 = long (omega (arith, p.2)) in

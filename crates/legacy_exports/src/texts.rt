@@ -65,11 +65,7 @@ impl Text for &[u16] {
 
     fn end_of_piece(self, start: usize, piece: usize) -> usize {
         let end = piece_end(start.min(self.len()), self.len(), piece);
-        if parts_pair(self, end) {
-            end + 1
-        } else {
-            end
-        }
+        if parts_pair(self, end) { end + 1 } else { end }
     }
 
     fn encode_raw<E: RawEncoder>(

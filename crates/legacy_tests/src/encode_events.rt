@@ -118,7 +118,11 @@ impl Texts for Utf16Texts {
                 count += 1;
             }
         }
-        let (answer, read, written) = encoder.encode_from_utf16_raw(&units[..count.min(96)], output, last);
+        let (answer, read, written) = encoder.encode_from_utf16_raw(
+            &units[..count.min(96)],
+            output,
+            last,
+        );
         (answer, bytes_of_units(piece, read), written)
     }
 }

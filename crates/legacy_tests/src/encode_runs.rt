@@ -54,7 +54,13 @@ fn make<E: TestedEncoder>(rt: &impl Abort, alloc: Global, of: E::Of, runs: &[Run
 
 const OF_USER_DEFINED: &[Run] = &[
     // what is unread goes in again, and a small output is followed by the next
-    Run::FromUtf8(&["\u{F780}a"], &[0, 1, 1], &[Bytes(b"\x80a")], Some(3), true),
+    Run::FromUtf8(
+        &["\u{F780}a"],
+        &[0, 1, 1],
+        &[Bytes(b"\x80a")],
+        Some(3),
+        true,
+    ),
     Run::FromUtf16(
         &[&[0xF780, 0x61]],
         &[0, 1, 1],
@@ -116,7 +122,10 @@ const OF_ISO_2022_JP: &[Run] = &[
     ),
     Run::FromUtf8(
         &["a", "", "\u{A5}", "", "\x5C", ""],
-        &[0, 1, 2, 3, 4, 0, 1, 2, 3, 4, 0, 1, 2, 3, 4, 0, 1, 2, 3, 4, 0, 1, 2, 3, 4, 0, 1, 2, 3, 4],
+        &[
+            0, 1, 2, 3, 4, 0, 1, 2, 3, 4, 0, 1, 2, 3, 4, 0, 1, 2, 3, 4, 0, 1, 2, 3, 4, 0, 1, 2, 3,
+            4,
+        ],
         &[Bytes(b"a\x1B(J\x5C\x1B(B\x5C")],
         None,
         true,
@@ -184,7 +193,13 @@ fn a_run_that_is_refused_as_memory_leaves_the_mode(rt: HostRuntime) {
     let tables = tables_of(&rt, &no_entries());
     let mut encoder = Iso2022JpEncoder::new(&tables);
     let wanted: (_, _, &[u8]) = (InputEmpty, 2, b"\x1B(J\x5C");
-    encodes_text(&rt, ("Roman mode", 0), &mut encoder, ("\u{A5}", 8, false), wanted);
+    encodes_text(
+        &rt,
+        ("Roman mode", 0),
+        &mut encoder,
+        ("\u{A5}", 8, false),
+        wanted,
+    );
     let came = errors(rt.alloc(), &mut encoder, usize::MAX - 1);
     assert_eq!(rt; came, (Some(RunError::Memory), Some(RunError::Memory)));
     assert!(rt; encoder.has_pending_state());
@@ -200,7 +215,12 @@ fn run_again(rt: &HostRuntime, in_utf16: bool) -> Result<EncodeRun, RunError> {
             let pieces: [&[u16]; 3] = [&[0x61, 0xF780], &[], &[0xF7FF]];
             encode_run_utf16(rt.alloc(), &mut encoder, &pieces, &[1, 1, 1, 1, 1])
         } else {
-            encode_run_utf8(rt.alloc(), &mut encoder, &["a\u{F780}", "", "\u{F7FF}"], &[1, 1, 1, 1, 1])
+            encode_run_utf8(
+                rt.alloc(),
+                &mut encoder,
+                &["a\u{F780}", "", "\u{F7FF}"],
+                &[1, 1, 1, 1, 1],
+            )
         };
         match run {
             Err(RunError::Memory) => {}

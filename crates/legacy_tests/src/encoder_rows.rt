@@ -87,7 +87,13 @@ pub(crate) fn encodes_text<E: RawEncoder>(
         last,
     );
     let came = (result, read, &output[..written.min(96)]);
-    is_call(rt, place, ("UTF-8", text.as_bytes(), room, last), came, wanted);
+    is_call(
+        rt,
+        place,
+        ("UTF-8", text.as_bytes(), room, last),
+        came,
+        wanted,
+    );
 }
 
 /// Makes a call from UTF-16, and compares what comes of it with what is wanted.
@@ -139,7 +145,13 @@ fn follow_query<E: TestedEncoder>(rt: &impl Abort, place: Place, encoder: &E, ro
             says(rt, place, "the length from UTF-16", came, *length);
         }
         EncoderRow::Pending(is_pending) => {
-            says(rt, place, "has_pending_state", encoder.pending(), Some(*is_pending));
+            says(
+                rt,
+                place,
+                "has_pending_state",
+                encoder.pending(),
+                Some(*is_pending),
+            );
         }
         _ => {}
     }

@@ -60,7 +60,10 @@ fn encodes_by_the_pointers_that_are_written(rt: HostRuntime) {
 
 const FIRST_POINTERS: &[EncoderRow] = &[
     Encoder("the first pointer that is written is A1 40"),
-    Encodes("\u{3000}\u{3001}", &[Bytes(b"\xA1\x40"), Report('\u{3001}')]),
+    Encodes(
+        "\u{3000}\u{3001}",
+        &[Bytes(b"\xA1\x40"), Report('\u{3001}')],
+    ),
 ];
 
 #[test]

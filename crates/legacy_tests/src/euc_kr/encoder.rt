@@ -1,6 +1,8 @@
 //! The encoder of EUC-KR.
 use crate::encode_events::Wanted::{Bytes, Report};
-use crate::encoder_rows::EncoderRow::{Encoder, Encodes, FromUtf8, FromUtf16, Utf8Length, Utf16Length};
+use crate::encoder_rows::EncoderRow::{
+    Encoder, Encodes, FromUtf8, FromUtf16, Utf8Length, Utf16Length,
+};
 use crate::encoder_rows::{EncoderRow, TestedEncoder, follow_encoder};
 use crate::indexes::{no_entries, tables_of};
 use legacy_base::EncoderResult::{InputEmpty, OutputFull, Unmappable};
@@ -20,7 +22,10 @@ impl<'a> TestedEncoder for EucKrEncoder<'a> {
 const ROWS: &[EncoderRow] = &[
     Encoder("a scalar of the index is a lead and a trail"),
     Encodes("\u{AC02}", &[Bytes(b"\x81\x41")]),
-    Encodes("a\u{AC03}\u{AC02}", &[Bytes(b"a"), Report('\u{AC03}'), Bytes(b"\x81\x41")]),
+    Encodes(
+        "a\u{AC03}\u{AC02}",
+        &[Bytes(b"a"), Report('\u{AC03}'), Bytes(b"\x81\x41")],
+    ),
     Encoder("a scalar past ASCII needs two bytes, an ASCII scalar one"),
     FromUtf8("a\u{AC02}", 2, true, OutputFull, 1, b"a"),
     FromUtf8("\u{AC02}", 2, true, InputEmpty, 3, b"\x81\x41"),

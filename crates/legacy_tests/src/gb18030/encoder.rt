@@ -45,13 +45,18 @@ const WITHOUT_ENTRIES: &[EncoderRow] = &[
 const GBK_WITHOUT_ENTRIES: &[EncoderRow] = &[
     Encoder("the euro sign is 80, and nothing has four bytes"),
     Encodes("\u{20AC}", &[Bytes(b"\x80")]),
-    Encodes("\u{10000}\u{E7C7}", &[Report('\u{10000}'), Report('\u{E7C7}')]),
+    Encodes(
+        "\u{10000}\u{E7C7}",
+        &[Report('\u{10000}'), Report('\u{E7C7}')],
+    ),
     Encodes("\u{E843}", &[Bytes(b"\xFE\x7E")]),
     Encodes("\u{E5E5}", &[Report('\u{E5E5}')]),
     Encoder("a scalar past ASCII needs four bytes"),
     FromUtf8("\u{20AC}", 3, true, OutputFull, 0, b""),
     FromUtf8("\u{20AC}", 4, true, InputEmpty, 3, b"\x80"),
-    Encoder("the lengths are two bytes more than for two bytes a unit, and three more than the bytes"),
+    Encoder(
+        "the lengths are two bytes more than for two bytes a unit, and three more than the bytes",
+    ),
     Utf8Length(usize::MAX - 3, Some(usize::MAX)),
     Utf8Length(usize::MAX - 2, None),
     Utf16Length(5, Some(12)),
@@ -68,7 +73,14 @@ fn encodes_without_entries(rt: HostRuntime) {
 const WITH_RANGE: &[EncoderRow] = &[
     Encoder("an unpaired surrogate is U+FFFD, which the range has"),
     FromUtf16(&[0xDC00], 16, true, InputEmpty, 1, b"\x84\x31\xA4\x37"),
-    FromUtf16(&[0xDC00, 0xD800], 16, true, InputEmpty, 2, b"\x84\x31\xA4\x37\x84\x31\xA4\x37"),
+    FromUtf16(
+        &[0xDC00, 0xD800],
+        16,
+        true,
+        InputEmpty,
+        2,
+        b"\x84\x31\xA4\x37\x84\x31\xA4\x37",
+    ),
 ];
 
 const GBK_WITH_RANGE: &[EncoderRow] = &[
@@ -92,7 +104,10 @@ fn encodes_by_a_range(rt: HostRuntime) {
 const BESIDE_7457: &[EncoderRow] = &[
     Encoder("pointer 7457 is that of U+E7C7 alone"),
     Encodes("\u{3000}", &[Report('\u{3000}')]),
-    Encodes("\u{3001}\u{E7C7}", &[Bytes(b"\x81\x35\xF4\x38\x81\x35\xF4\x37")]),
+    Encodes(
+        "\u{3001}\u{E7C7}",
+        &[Bytes(b"\x81\x35\xF4\x38\x81\x35\xF4\x37")],
+    ),
 ];
 
 #[test]

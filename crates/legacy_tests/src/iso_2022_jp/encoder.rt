@@ -24,7 +24,14 @@ impl<'a> TestedEncoder for Iso2022JpEncoder<'a> {
 
 const WITHOUT_ENTRIES: &[EncoderRow] = &[
     Encoder("the yen sign switches to Roman mode, and a reverse solidus and the end back to ASCII"),
-    FromUtf8("a\u{A5}b\x5C", 64, true, InputEmpty, 5, b"a\x1B(J\x5Cb\x1B(B\x5C"),
+    FromUtf8(
+        "a\u{A5}b\x5C",
+        64,
+        true,
+        InputEmpty,
+        5,
+        b"a\x1B(J\x5Cb\x1B(B\x5C",
+    ),
     Encodes("a\u{A5}b\x5C", &[Bytes(b"a\x1B(J\x5Cb\x1B(B\x5C")]),
     Encodes("a\u{A5}\x5C", &[Bytes(b"a\x1B(J\x5C\x1B(B\x5C")]),
     Encodes("\u{203E}~", &[Bytes(b"\x1B(J~\x1B(B~")]),
@@ -40,9 +47,21 @@ const WITHOUT_ENTRIES: &[EncoderRow] = &[
     FromUtf8("", 3, true, InputEmpty, 0, b"\x1B(B"),
     Pending(false),
     Encoder("controls that switch modes are reported as U+FFFD"),
-    Encodes("a\x0Eb\x0F\x1B", &[Bytes(b"a"), Report('\u{FFFD}'), Bytes(b"b"), Report('\u{FFFD}'), Report('\u{FFFD}')]),
+    Encodes(
+        "a\x0Eb\x0F\x1B",
+        &[
+            Bytes(b"a"),
+            Report('\u{FFFD}'),
+            Bytes(b"b"),
+            Report('\u{FFFD}'),
+            Report('\u{FFFD}'),
+        ],
+    ),
     Encoder("in Roman mode what has no bytes changes nothing"),
-    Encodes("\u{A5}\u{2212}", &[Bytes(b"\x1B(J\x5C"), Report('\u{2212}'), Bytes(b"\x1B(B")]),
+    Encodes(
+        "\u{A5}\u{2212}",
+        &[Bytes(b"\x1B(J\x5C"), Report('\u{2212}'), Bytes(b"\x1B(B")],
+    ),
     Encoder("each act needs three bytes"),
     FromUtf8("a", 2, true, OutputFull, 0, b""),
     FromUtf8("a\u{A5}", 3, true, OutputFull, 1, b"a"),
@@ -66,12 +85,26 @@ fn encodes_without_entries(rt: HostRuntime) {
 /// The rows with U+58FA at pointer 4861.
 const PAIRS: &[EncoderRow] = &[
     Encoder("two-byte mode ends before what has no bytes"),
-    FromUtf8("\u{58FA}\u{1F4A9}", 64, true, Unmappable('\u{1F4A9}'), 7, b"\x1B$BTd\x1B(B"),
+    FromUtf8(
+        "\u{58FA}\u{1F4A9}",
+        64,
+        true,
+        Unmappable('\u{1F4A9}'),
+        7,
+        b"\x1B$BTd\x1B(B",
+    ),
     Pending(false),
-    Encodes("\u{58FA}\u{1F4A9}", &[Bytes(b"\x1B$BTd\x1B(B"), Report('\u{1F4A9}')]),
+    Encodes(
+        "\u{58FA}\u{1F4A9}",
+        &[Bytes(b"\x1B$BTd\x1B(B"), Report('\u{1F4A9}')],
+    ),
     Encodes(
         "\u{58FA}\u{1F4A9}\u{58FA}",
-        &[Bytes(b"\x1B$BTd\x1B(B"), Report('\u{1F4A9}'), Bytes(b"\x1B$BTd\x1B(B")],
+        &[
+            Bytes(b"\x1B$BTd\x1B(B"),
+            Report('\u{1F4A9}'),
+            Bytes(b"\x1B$BTd\x1B(B"),
+        ],
     ),
     Encoder("the escape before what has no bytes is an act of its own"),
     FromUtf8("\u{58FA}", 64, false, InputEmpty, 3, b"\x1B$BTd"),
@@ -104,10 +137,22 @@ fn encodes_pairs(rt: HostRuntime) {
 }
 
 const KATAKANA: &[EncoderRow] = &[
-    Encoder("half-width katakana are written as the katakana index says, where index jis0208 has that"),
-    FromUtf8("\u{FF61}\u{FF62}", 64, true, Unmappable('\u{FF62}'), 6, b"\x1B$B!#\x1B(B"),
+    Encoder(
+        "half-width katakana are written as the katakana index says, where index jis0208 has that",
+    ),
+    FromUtf8(
+        "\u{FF61}\u{FF62}",
+        64,
+        true,
+        Unmappable('\u{FF62}'),
+        6,
+        b"\x1B$B!#\x1B(B",
+    ),
     Pending(false),
-    Encodes("\u{FF61}\u{FF62}", &[Bytes(b"\x1B$B!#\x1B(B"), Report('\u{FF62}')]),
+    Encodes(
+        "\u{FF61}\u{FF62}",
+        &[Bytes(b"\x1B$B!#\x1B(B"), Report('\u{FF62}')],
+    ),
 ];
 
 #[test]

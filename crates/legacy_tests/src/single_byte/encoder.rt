@@ -1,14 +1,16 @@
 //! The encoders of the single-byte codecs.
 use crate::encode_events::Wanted::{Bytes, Report};
-use crate::encoder_rows::EncoderRow::{Encoder, Encodes, FromUtf8, FromUtf16, Utf8Length, Utf16Length};
+use crate::encoder_rows::EncoderRow::{
+    Encoder, Encodes, FromUtf8, FromUtf16, Utf8Length, Utf16Length,
+};
 use crate::encoder_rows::{EncoderRow, TestedEncoder, follow_encoder};
 use crate::indexes::{byte_table_of, entries_of};
-use std::process::Abort;
-use std::test::Fail;
 use legacy_base::EncoderResult::{InputEmpty, OutputFull, Unmappable};
-use legacy_base::{SingleByteTable};
+use legacy_base::SingleByteTable;
 use legacy_encoders::SingleByteRunError::{RunMismatch, RunPastEnd, RunStart};
 use legacy_encoders::{SingleByteEncoder, SingleByteRunError};
+use std::process::Abort;
+use std::test::Fail;
 
 impl<'a> TestedEncoder for SingleByteEncoder<'a> {
     type Of = (&'a SingleByteTable, u16, u8, u8);
@@ -24,21 +26,38 @@ impl<'a> TestedEncoder for SingleByteEncoder<'a> {
 
 const GREEK: &[EncoderRow] = &[
     Encoder("a scalar is the byte of its place, and a pair of surrogates is one scalar"),
-    FromUtf16(&[0x391, 0xD83D, 0xDCA9, 0x3C4], 2, true, Unmappable('\u{1F4A9}'), 3, b"\xC1"),
+    FromUtf16(
+        &[0x391, 0xD83D, 0xDCA9, 0x3C4],
+        2,
+        true,
+        Unmappable('\u{1F4A9}'),
+        3,
+        b"\xC1",
+    ),
     FromUtf16(&[0x3C4], 2, true, InputEmpty, 1, b"\xF4"),
     Encoder("an unpaired surrogate is U+FFFD, which no table has"),
     FromUtf16(&[0xDC00, 0xDEDE], 2, true, Unmappable('\u{FFFD}'), 1, b""),
     FromUtf16(&[0xDEDE], 2, true, Unmappable('\u{FFFD}'), 1, b""),
     FromUtf16(&[], 2, true, InputEmpty, 0, b""),
     Encoder("a high surrogate at the end of a piece is unpaired, whatever comes next"),
-    FromUtf16(&[0x391, 0xD83D], 4, false, Unmappable('\u{FFFD}'), 2, b"\xC1"),
+    FromUtf16(
+        &[0x391, 0xD83D],
+        4,
+        false,
+        Unmappable('\u{FFFD}'),
+        2,
+        b"\xC1",
+    ),
     FromUtf16(&[0xDCA9], 4, true, Unmappable('\u{FFFD}'), 1, b""),
     Encoder("a pair is not parted where the output ends"),
     FromUtf16(&[0x391, 0xD83D, 0xDCA9], 1, true, OutputFull, 1, b"\xC1"),
     FromUtf16(&[0xD83D, 0xDCA9], 1, true, Unmappable('\u{1F4A9}'), 2, b""),
     Encoder("U+0000 is the byte 00, though entries without a scalar are 0"),
     Encodes("\0a\u{391}", &[Bytes(b"\0a\xC1")]),
-    Encodes("\u{391}\u{392}\u{3C4}", &[Bytes(b"\xC1"), Report('\u{392}'), Bytes(b"\xF4")]),
+    Encodes(
+        "\u{391}\u{392}\u{3C4}",
+        &[Bytes(b"\xC1"), Report('\u{392}'), Bytes(b"\xF4")],
+    ),
     Encoder("each scalar needs one byte"),
     FromUtf8("a\u{391}", 1, true, OutputFull, 1, b"a"),
     FromUtf8("\u{391}", 1, true, InputEmpty, 2, b"\xC1"),
@@ -86,6 +105,9 @@ fn refuses_runs_that_the_table_does_not_have(rt: HostRuntime) {
 #[test]
 fn says_why_a_run_is_refused(rt: HostRuntime) -> Result<(), Fail> {
     let text = format!(in rt.alloc(); "{RunStart}, {RunPastEnd}, {}", RunMismatch(70))?;
-    assert_eq!(rt; text.as_str(), "run starts before 32, run passes 128, run differs at 70");
+    assert_eq!(rt;
+        text.as_str(),
+        "run starts before 32, run passes 128, run differs at 70"
+    );
     Ok(())
 }

@@ -1,6 +1,8 @@
 //! The encoder of x-user-defined.
 use crate::encode_events::Wanted::{Bytes, Report};
-use crate::encoder_rows::EncoderRow::{Encoder, Encodes, FromUtf8, FromUtf16, Utf8Length, Utf16Length};
+use crate::encoder_rows::EncoderRow::{
+    Encoder, Encodes, FromUtf8, FromUtf16, Utf8Length, Utf16Length,
+};
 use crate::encoder_rows::{EncoderRow, TestedEncoder, follow_encoder};
 use legacy_base::EncoderResult::{InputEmpty, OutputFull, Unmappable};
 use legacy_encoders::UserDefinedEncoder;
@@ -16,12 +18,32 @@ impl TestedEncoder for UserDefinedEncoder {
 
 const ROWS: &[EncoderRow] = &[
     Encoder("U+F780 to U+F7FF are 80 to FF, and no other scalar past ASCII has a byte"),
-    FromUtf8("\u{F780}\u{F7FF}\u{F77F}", 16, true, Unmappable('\u{F77F}'), 9, b"\x80\xFF"),
+    FromUtf8(
+        "\u{F780}\u{F7FF}\u{F77F}",
+        16,
+        true,
+        Unmappable('\u{F77F}'),
+        9,
+        b"\x80\xFF",
+    ),
     FromUtf8("", 16, true, InputEmpty, 0, b""),
-    FromUtf16(&[0xF780, 0xF7FF, 0xF77F], 16, true, Unmappable('\u{F77F}'), 3, b"\x80\xFF"),
-    Encodes("\u{F780}\u{F7FF}\u{F77F}", &[Bytes(b"\x80\xFF"), Report('\u{F77F}')]),
+    FromUtf16(
+        &[0xF780, 0xF7FF, 0xF77F],
+        16,
+        true,
+        Unmappable('\u{F77F}'),
+        3,
+        b"\x80\xFF",
+    ),
+    Encodes(
+        "\u{F780}\u{F7FF}\u{F77F}",
+        &[Bytes(b"\x80\xFF"), Report('\u{F77F}')],
+    ),
     Encodes("\u{F7FF}\u{80}", &[Bytes(b"\xFF"), Report('\u{80}')]),
-    Encodes("a\u{F77F}\u{F800}", &[Bytes(b"a"), Report('\u{F77F}'), Report('\u{F800}')]),
+    Encodes(
+        "a\u{F77F}\u{F800}",
+        &[Bytes(b"a"), Report('\u{F77F}'), Report('\u{F800}')],
+    ),
     Encoder("each scalar needs one byte, also one that is reported"),
     FromUtf8("a\u{F780}", 1, true, OutputFull, 1, b"a"),
     FromUtf8("\u{80}", 0, true, OutputFull, 0, b""),

@@ -20,10 +20,10 @@ returns-then-high-lt55296 c =
     elim c.then-high-lt55296.branch [
       | then-high-lt55296-via-then-high-lt55296 w ↦
           let low : get_or xs at 0 < 55296 = omega arith in sym (is_value _ _ _ c.from_u32.ensures.value (c.from_u32.ensures.succeeds (inl w.if-high-lt55296.true))) ∙ ap Some (sym value)
-              ∙ first_low xs at within low
+          ∙ first_low xs at within low
       | then-high-lt55296-via-else-high-lt55296+then-high-ge57344 w ↦
           let high : 57344 ≤ get_or xs at 0 = omega arith in sym (is_value _ _ _ c.from_u32.ensures.value (c.from_u32.ensures.succeeds (inr (w.if-high-ge57344.true, omega arith))))
-              ∙ ap Some (sym value) ∙ first_high xs at within high
+          ∙ ap Some (sym value) ∙ first_high xs at within high
     ]
 
 pub returns-then-high-ge56320 : goal.returns-then-high-ge56320
@@ -44,6 +44,6 @@ returns c =
     let xs = c.args.units.now in
     let at = c.args.place in
     let value : 65536 + (c.from-high.result - 55296) * 1024 + (c.from-low.result - 56320) ≡ surrogate_pair_char (get_or xs at 0) (get_or xs (at + 1) 0) =
-        rw (c.from-high.ensures, c.from-low.ensures) refl in
+    rw (c.from-high.ensures, c.from-low.ensures) refl in
     let made = is_value _ _ _ c.from_u32-2.ensures.value (c.from_u32-2.ensures.succeeds (inr (omega arith, omega arith))) in
     sym made ∙ ap Some value ∙ first_pair xs at (omega arith) (omega arith, omega arith, omega arith, omega arith)

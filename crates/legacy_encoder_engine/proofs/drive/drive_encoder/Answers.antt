@@ -38,8 +38,13 @@ loop-c-preserved g c =
           (underway_read _ _ _ _ _ _ _ under c.room.ensures.serves c.in-Some.c _ cons _ c.next-step.result c.next-step.ensures (omega arith)
           (no_escape c.next-step.result c.in_default-step-2.not-Escape) (no_report c.next-step.result c.in_default-step.not-Unmappable)),
       omega arith,
-      rw c.advance-in-loop-c.ensures.left (omega (arith, c.advance-in-loop-c.ensures.passed, first_units g.S.Source.form (g.S.Source.left a.new.src) c.in-Some.c cons, a.ensures.passed,
-          c.loop-c.invariant.2)),
+      rw c.advance-in-loop-c.ensures.left (omega (
+        arith,
+        c.advance-in-loop-c.ensures.passed,
+        first_units g.S.Source.form (g.S.Source.left a.new.src) c.in-Some.c cons,
+        a.ensures.passed,
+        c.loop-c.invariant.2,
+      )),
     )
 
 pub returns-else-is_pending-clause-call : goal.returns-else-is_pending-clause-call

@@ -23,8 +23,8 @@ returns-then-end-at-clause-keeps g c =
     let bytes = take c.loop-at.at c.loop-at.dst in
     let fits : length bytes + length (take n left) ≤ free = omega (arith, front_length c.loop-at.at c.loop-at.dst i.2, length-take n left, e.fits) in
     let copied =
-        keeps_ascii state free (plain_serves codec g.C.PlainCodes.past plain) (plain_ascii codec g.C.PlainCodes.past plain) (take n left) left bytes (drop n left) e.ascii
-            (sym (take-append-drop n left)) fits in
+    keeps_ascii state free (plain_serves codec g.C.PlainCodes.past plain) (plain_ascii codec g.C.PlainCodes.past plain) (take n left) left bytes (drop n left) e.ascii
+    (sym (take-append-drop n left)) fits in
     let copied' = rw (← e.bytes, ← e.left) at copied in
     let long : length c.copy_ascii-at.new.dst ≡ free = omega arith in
     let longer : length c.read_units-at.new.dst ≡ free = omega arith in
@@ -57,8 +57,8 @@ loop-at-preserved g c =
     let bytes = take c.loop-at.at c.loop-at.dst in
     let fits : length bytes + length (take n left) ≤ free = omega (arith, front_length c.loop-at.at c.loop-at.dst i.2, length-take n left, e.fits) in
     let copied =
-        keeps_ascii state free (plain_serves codec g.C.PlainCodes.past plain) (plain_ascii codec g.C.PlainCodes.past plain) (take n left) left bytes (drop n left) e.ascii
-            (sym (take-append-drop n left)) fits in
+    keeps_ascii state free (plain_serves codec g.C.PlainCodes.past plain) (plain_ascii codec g.C.PlainCodes.past plain) (take n left) left bytes (drop n left) e.ascii
+    (sym (take-append-drop n left)) fits in
     let copied' = rw (← e.bytes, ← e.left) at copied in
     let long : length c.copy_ascii-at.new.dst ≡ free = omega arith in
     let longer : length c.read_units-at.new.dst ≡ free = omega arith in

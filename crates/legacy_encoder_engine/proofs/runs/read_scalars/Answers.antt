@@ -5,8 +5,15 @@ use Rattle.legacy_encoder_engine.proofs.PlainServes.{plain_serves}
 use Rattle.legacy_encoder_engine.proofs.runs.read_scalars.Goals as goal
 
 pub loop-dst-init : goal.loop-dst-init
-loop-dst-init g c = (keeps_none (new_encoder (g.C.PlainCodes.codec c.args.encoder.now)) (length c.args.dst.now) (g.S.Source.left c.args.src.now) (take c.args.start c.args.dst.now), omega
-    arith, omega arith, omega arith, (λ h. absurd (omega arith)), refl)
+loop-dst-init g c = (
+  keeps_none (new_encoder (g.C.PlainCodes.codec c.args.encoder.now)) (length c.args.dst.now) (g.S.Source.left c.args.src.now) (take c.args.start c.args.dst.now),
+  omega
+      arith,
+  omega arith,
+  omega arith,
+  (λ h. absurd (omega arith)),
+  refl,
+)
 
 pub loop-dst-preserved-in-One : goal.loop-dst-preserved-in-One
 loop-dst-preserved-in-One g c =
@@ -17,8 +24,8 @@ loop-dst-preserved-in-One g c =
     let scalar = c.in-One.c in
     let room : c.loop-dst.at + scalar_room state scalar ≤ length c.args.dst.now = omega (arith, c.requires.room scalar, c.loop-dst-test.true) in
     let r =
-        reads_on S.form state (length c.args.dst.now) (plain_serves (g.C.PlainCodes.codec c.args.encoder.now) g.C.PlainCodes.past (g.C.PlainCodes.plain c.args.encoder.now))
-            (S.left c.args.src.now) (take c.args.start c.args.dst.now) c.args.start (S.passed c.args.src.now)
+    reads_on S.form state (length c.args.dst.now) (plain_serves (g.C.PlainCodes.codec c.args.encoder.now) g.C.PlainCodes.past (g.C.PlainCodes.plain c.args.encoder.now))
+    (S.left c.args.src.now) (take c.args.start c.args.dst.now) c.args.start (S.passed c.args.src.now)
     left (take c.loop-dst.at c.loop-dst.dst) c.loop-dst.at (S.passed c.loop-dst.src) i.0 i.1 i.3 i.5 (front_length c.loop-dst.at c.loop-dst.dst i.2)
     scalar 1 c.in-One.ensures.0 c.in-One.ensures.1 room _ _ c.in-Some.end _ c.in-Some.ensures c.pass.ensures.left c.pass.ensures.passed in
     (r.keeps, r.start_is, omega (arith, r.end_is), omega (arith, r.fewer), (λ h. r.fewer), r.passed_is)
@@ -32,8 +39,8 @@ loop-dst-preserved-in-Two g c =
     let scalar = c.in-Two.c in
     let room : c.loop-dst.at + scalar_room state scalar ≤ length c.args.dst.now = omega (arith, c.requires.room scalar, c.loop-dst-test.true) in
     let r =
-        reads_on S.form state (length c.args.dst.now) (plain_serves (g.C.PlainCodes.codec c.args.encoder.now) g.C.PlainCodes.past (g.C.PlainCodes.plain c.args.encoder.now))
-            (S.left c.args.src.now) (take c.args.start c.args.dst.now) c.args.start (S.passed c.args.src.now)
+    reads_on S.form state (length c.args.dst.now) (plain_serves (g.C.PlainCodes.codec c.args.encoder.now) g.C.PlainCodes.past (g.C.PlainCodes.plain c.args.encoder.now))
+    (S.left c.args.src.now) (take c.args.start c.args.dst.now) c.args.start (S.passed c.args.src.now)
     left (take c.loop-dst.at c.loop-dst.dst) c.loop-dst.at (S.passed c.loop-dst.src) i.0 i.1 i.3 i.5 (front_length c.loop-dst.at c.loop-dst.dst i.2)
     scalar 2 c.in-Two.ensures.0 c.in-Two.ensures.1 room _ _ c.in-Some-put_code.end _ c.in-Some-put_code.ensures c.pass-in-Two.ensures.left c.pass-in-Two.ensures.passed in
     (r.keeps, r.start_is, omega (arith, r.end_is), omega (arith, r.fewer), (λ h. r.fewer), r.passed_is)
@@ -47,8 +54,8 @@ loop-dst-preserved g c =
     let scalar = c.in-Three.c in
     let room : c.loop-dst.at + scalar_room state scalar ≤ length c.args.dst.now = omega (arith, c.requires.room scalar, c.loop-dst-test.true) in
     let r =
-        reads_on S.form state (length c.args.dst.now) (plain_serves (g.C.PlainCodes.codec c.args.encoder.now) g.C.PlainCodes.past (g.C.PlainCodes.plain c.args.encoder.now))
-            (S.left c.args.src.now) (take c.args.start c.args.dst.now) c.args.start (S.passed c.args.src.now)
+    reads_on S.form state (length c.args.dst.now) (plain_serves (g.C.PlainCodes.codec c.args.encoder.now) g.C.PlainCodes.past (g.C.PlainCodes.plain c.args.encoder.now))
+    (S.left c.args.src.now) (take c.args.start c.args.dst.now) c.args.start (S.passed c.args.src.now)
     left (take c.loop-dst.at c.loop-dst.dst) c.loop-dst.at (S.passed c.loop-dst.src) i.0 i.1 i.3 i.5 (front_length c.loop-dst.at c.loop-dst.dst i.2)
     scalar 3 c.in-Three.ensures.0 c.in-Three.ensures.1 room _ _ c.in-Some-put_code-2.end _ c.in-Some-put_code-2.ensures c.pass-in-Three.ensures.left c.pass-in-Three.ensures.passed in
     (r.keeps, r.start_is, omega (arith, r.end_is), omega (arith, r.fewer), (λ h. r.fewer), r.passed_is)

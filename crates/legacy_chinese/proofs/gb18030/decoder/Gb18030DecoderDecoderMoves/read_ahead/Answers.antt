@@ -24,7 +24,7 @@ returns-in-Flat g c =
     let same : c.in-Flat.tables ≡ c.args.self.now.tables.now = sym (ap kept_indexes c.in-Flat.is) ∙ c.kept.ensures in
     reads_idle (idle c.args.self.now (sym c.in_neutral_state.ensures ∙ c.if-not-in_neutral_state.false))
     (subst (λ (t : AcceptedIndexes). ReadsAhead g.T.Destination (new_state
-        (gb18030 t.flat.gb18030 t.flat.ranges)) c.args.src.now c.read_blocks.result c.args.dst.now c.read_blocks.new.dst) same c.read_blocks.ensures)
+    (gb18030 t.flat.gb18030 t.flat.ranges)) c.args.src.now c.read_blocks.result c.args.dst.now c.read_blocks.new.dst) same c.read_blocks.ensures)
 
 pub returns-in-Packed : goal.returns-in-Packed
 returns-in-Packed g c =
