@@ -12,7 +12,7 @@ returns-in_default-clause-read g c e = so_far_beginning c.pieces.invariant.so_fa
 pub returns-then-last-clause-ok : goal.returns-then-last-clause-ok
 returns-then-last-clause-ok g c =
     let read = c.in-Some.ensures.bytes in
-    rw c.either-any_replaced.ensures
+    rw (← c.either-any_replaced.ensures) at
     (so_far_end c.pieces.invariant.so_far _ read.0 (read.1 c.if-last.true) (eq-eqb c.in-Some.count 0 c.if-last.true) c.in-Ok.ensures.piece)
 
 pub pieces-preserved : goal.pieces-preserved
