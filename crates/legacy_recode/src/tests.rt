@@ -74,13 +74,13 @@ fn first_lines(lines: usize) -> &'static [u8] {
 /// The text of 61 80 FF in x-user-defined.
 const TEXT: &[u8] = b"\x61\xEF\x9E\x80\xEF\x9F\xBF";
 
-/// How many bytes of it are the text of so many bytes of the input.
-fn text_length(bytes: usize) -> usize {
+/// The text of so many of these bytes.
+fn first_text(bytes: usize) -> &'static [u8] {
     match bytes {
-        0 => 0,
-        1 => 1,
-        2 => 4,
-        _ => 7,
+        0 => b"",
+        1 => b"\x61",
+        2 => b"\x61\xEF\x9E\x80",
+        _ => TEXT,
     }
 }
 
@@ -421,7 +421,7 @@ fn a_failed_read_keeps_the_text_before_it(rt: HostRuntime) {
         } else {
             assert_eq!(rt; result, Ok(false));
         }
-        assert_eq!(rt; output.as_slice(), &TEXT[..text_length(reads)]);
+        assert_eq!(rt; output.as_slice(), first_text(reads));
     }
 }
 

@@ -18,8 +18,8 @@ fn either(one: bool, other: bool) -> bool
     one || other
 }
 
-/// Decodes a whole piece, and writes its text. Answers whether U+FFFD stands in it for a malformed sequence. An error is
-/// the writer's. What `text` holds is lost.
+/// Decodes a whole piece, and writes its text. Answers whether U+FFFD stands in it for a malformed sequence. An error
+/// is the writer's. What `text` holds is lost.
 fn write_piece<D: RawDecoder, W: Write>(
     decoder: &mut D,
     piece: &[u8],

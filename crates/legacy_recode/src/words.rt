@@ -1,6 +1,7 @@
 //! The words of the program's command line: perhaps `--text`, then CODEC, and then INDEX and FILE any number of times.
 ghost use Rattle.std.specs.Prelude.{◌≡◌, length};
-ghost use Rattle.legacy_recode.specs.Words.{texts_of, wants_text, output_kind, plain_words, codec_named, index_named, first_index_named, stands_among, are_indexes, codec_of_words};
+ghost use Rattle.legacy_recode.specs.Words.{texts_of, wants_text, output_kind, plain_words, codec_named};
+ghost use Rattle.legacy_recode.specs.Words.{index_named, first_index_named, stands_among, are_indexes, codec_of_words};
 
 use legacy_index_files::FileIndex;
 
@@ -143,8 +144,9 @@ fn is_indexes(words: &[&str]) -> bool
     }
 }
 
-/// The codec of the program's words, which are without the program's name and without `--text`. `None` where they are not
-/// a word of a codec, and then INDEX and FILE any number of times, each a word of an index that stands once and any word.
+/// The codec of the program's words, which are without the program's name and without `--text`. `None` where they are
+/// not a word of a codec, and then INDEX and FILE any number of times, each a word of an index that stands once and any
+/// word.
 pub fn codec_in(words: &[&str]) -> Option<CodecWord>
     ensures { result ≡ codec_of_words (texts_of words.now) }
 {
