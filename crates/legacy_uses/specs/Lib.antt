@@ -1,0 +1,3 @@
+-- What a caller of the codecs wants to know.
+pub mod MalformedSequences
+pub mod WholeTexts
