@@ -4,5 +4,6 @@
 
 pub mod faults;
 pub mod piece_by_piece;
+pub mod registry;
 pub mod sized;
 pub mod transcode;
