@@ -1,0 +1,4 @@
+-- What the laws of the codecs give their callers.
+pub mod MalformedSequences
+pub mod WholePieces
+pub mod WholeTexts

@@ -1,0 +1,37 @@
+-- Calls of an encoder with references, over a whole text.
+use Rattle.std.proofs.Common.{◌≡◌, ◌∙◌, ℕ, ◌<◌, List, [], ◌++◌, length, refl, sym, ap, arith, append-nil, append_assoc, length-append, Bool, true, map}
+use Rattle.std.proofs.lemmas.Grind.{flat_map-append}
+use Rattle.legacy_base.specs.declared.results.EncodeEvent.TheVariants.{Byte}
+use Rattle.legacy_base.specs.Encoders.{EncoderState, encoded}
+use Rattle.legacy_base.proofs.EncoderLaws.{end-encoded}
+use Rattle.legacy_codecs.specs.declared.results.CoderResult.{CoderResult}
+use Rattle.legacy_codecs.specs.declared.results.CoderResult.TheVariants.{InputEmpty, OutputFull}
+use Rattle.legacy_codecs.specs.References.{event_bytes, referenced_bytes, ReplacingEncoderCall}
+
+module _ (before : EncoderState) (source : List ℕ) (free : ℕ) (after : EncoderState) (answer : CoderResult) (left bytes : List ℕ) (found : Bool)
+    (c : ReplacingEncoderCall before source true free after answer left bytes found) where
+  -- what was written, and then the bytes of what is left, are those of the text
+  pub bytes_go_on : referenced_bytes (encoded before source true) ≡ bytes ++ referenced_bytes (encoded after left true)
+  bytes_go_on =
+      let gives : encoded before (source ++ []) true ≡ c.out ++ encoded after (left ++ []) true = c.gives [] true (λ _. (refl, refl)) in
+      let all = rw (append-nil source, append-nil left) at gives in
+      ap referenced_bytes all ∙ flat_map-append event_bytes c.out (encoded after left true) ∙ ap (λ l. l ++ referenced_bytes (encoded after left true)) (sym c.text)
+
+  -- behind the end nothing is left to write
+  pub bytes_end : answer ≡ InputEmpty → referenced_bytes (encoded after left true) ≡ []
+  bytes_end e =
+      let done = c.input_empty e in
+      ap (λ l. referenced_bytes (encoded after l true)) done.0 ∙ ap referenced_bytes (end-encoded after) ∙ ap (λ l. referenced_bytes (map Byte l)) (done.1 refl)
+
+  -- a full output of 64 bytes has some
+  pub bytes_less : free ≡ 64 → answer ≡ OutputFull → length (referenced_bytes (encoded after left true)) < length (referenced_bytes (encoded before source true))
+  bytes_less is e =
+      let few = c.few e in
+      let all = ap length bytes_go_on ∙ length-append bytes (referenced_bytes (encoded after left true)) in
+      omega (arith, is, few, all)
+
+  -- what is done, with what was written now
+  pub bytes_after : (done now whole : List ℕ) → done ++ referenced_bytes (encoded before source true) ≡ whole → now ≡ done ++ bytes → now ++ referenced_bytes (encoded after left true) ≡ whole
+  bytes_after done now whole h e =
+      let rest = referenced_bytes (encoded after left true) in
+      ap (λ l. l ++ rest) e ∙ append_assoc done bytes rest ∙ ap (λ l. done ++ l) (sym bytes_go_on) ∙ h

@@ -1,0 +1,9 @@
+//! Callers of the codecs, each proved by the contracts of the calls that it makes: the pieces of code of
+//! `docs/CALLING.md`.
+#![tactic(auto)]
+
+pub mod faults;
+pub mod piece_by_piece;
+pub mod registry;
+pub mod sized;
+pub mod transcode;
