@@ -38,8 +38,14 @@ fn malformed_sequences_have_their_places(rt: HostRuntime) {
     let mut decoder = EucKrDecoder::new(&tables);
     let found = malformed_sequences(rt.alloc(), &mut decoder, b"a\xFF\x81\x41\x81");
     let wanted: &[MalformedSequence] = &[
-        MalformedSequence { place: 1, length: 1 },
-        MalformedSequence { place: 4, length: 1 },
+        MalformedSequence {
+            place: 1,
+            length: 1,
+        },
+        MalformedSequence {
+            place: 4,
+            length: 1,
+        },
     ];
     assert_eq!(rt; found.as_deref(), Ok(wanted));
 }
@@ -58,6 +64,11 @@ fn an_encoding_is_known_by_its_name(rt: HostRuntime) {
     let tables = tables_of(&rt);
     assert_eq!(rt; encoding_by_name("GBK"), Some(Encoding::Gb18030));
     assert_eq!(rt; encoding_by_name("latin"), None);
-    let text = decode_by_encoding(rt.alloc(), Encoding::Utf16Le, &tables, b"a\0\x3D\xD8\xA9\xDC");
+    let text = decode_by_encoding(
+        rt.alloc(),
+        Encoding::Utf16Le,
+        &tables,
+        b"a\0\x3D\xD8\xA9\xDC",
+    );
     assert_eq!(rt; text.as_deref(), Ok("a\u{1F4A9}"));
 }
