@@ -59,7 +59,7 @@ module _ (form : EncodingForm) (before : DecoderState) (source : List ℕ) (last
       ap (all_code_units form) (scalars_go_on later h) ∙ all_code_units-append form (replaced_scalars c.out) rest ∙ ap (λ l. l ++ all_code_units form rest) (sym c.text)
 
   -- behind the last piece no text is left
-  none_left : IsTrue last → text_of after [] ≡ []
+  pub none_left : IsTrue last → text_of after [] ≡ []
   unfolding text_of
   none_left is_last = ap replaced_scalars (ap (events_of after.grammar) (append-nil after.held) ∙ (c.input_empty empty).2 is_last)
 

@@ -1,5 +1,5 @@
 -- Calls of an encoder with references, over a whole text.
-use Rattle.std.proofs.Common.{◌≡◌, ◌∙◌, ℕ, ◌<◌, List, [], ◌++◌, length, refl, sym, ap, arith, append-nil, append_assoc, length-append, Bool, true, map}
+use Rattle.std.proofs.Common.{◌≡◌, ◌∙◌, ℕ, ◌≤◌, ◌<◌, List, [], ◌++◌, length, refl, sym, ap, arith, append-nil, append_assoc, length-append, Bool, true, map}
 use Rattle.std.proofs.lemmas.Grind.{flat_map-append}
 use Rattle.legacy_base.specs.declared.results.EncodeEvent.TheVariants.{Byte}
 use Rattle.legacy_base.specs.Encoders.{EncoderState, encoded}
@@ -23,8 +23,8 @@ module _ (before : EncoderState) (source : List ℕ) (free : ℕ) (after : Encod
       let done = c.input_empty e in
       ap (λ l. referenced_bytes (encoded after l true)) done.0 ∙ ap referenced_bytes (end-encoded after) ∙ ap (λ l. referenced_bytes (map Byte l)) (done.1 refl)
 
-  -- a full output of 64 bytes has some
-  pub bytes_less : free ≡ 64 → answer ≡ OutputFull → length (referenced_bytes (encoded after left true)) < length (referenced_bytes (encoded before source true))
+  -- a full output that was long enough has some
+  pub bytes_less : 14 ≤ free → answer ≡ OutputFull → length (referenced_bytes (encoded after left true)) < length (referenced_bytes (encoded before source true))
   bytes_less is e =
       let few = c.few e in
       let all = ap length bytes_go_on ∙ length-append bytes (referenced_bytes (encoded after left true)) in

@@ -6,4 +6,6 @@ pub mod faults;
 pub mod piece_by_piece;
 pub mod registry;
 pub mod sized;
+#[cfg(test)]
+mod tests;
 pub mod transcode;

@@ -1,9 +1,13 @@
 //! Each caller once, by EUC-KR with U+AC02 at pointer 0 and no other scalar.
 use crate::faults::{MalformedSequence, malformed_sequences};
+use crate::piece_by_piece::decode_piece;
 use crate::registry::{Encoding, decode_by_encoding, encoding_by_name};
 use crate::sized::decode_whole;
 use crate::transcode::transcode;
-use legacy_codecs::{EucKrDecoder, GB18030_2022_PUA, Indexes, Tables, UserDefinedEncoder};
+use legacy_codecs::{
+    EucKrDecoder, GB18030_2022_PUA, Indexes, RawDecoder, Tables, UserDefinedEncoder,
+};
+use std::alloc::Global;
 use std::process::Abort;
 
 /// The tables of that index.
@@ -30,6 +34,34 @@ fn a_whole_input_is_decoded(rt: HostRuntime) {
     let mut decoder = EucKrDecoder::new(&tables);
     let text = decode_whole(rt.alloc(), &mut decoder, b"a\x81\x41\xFF");
     assert_eq!(rt; text.as_deref(), Ok("a\u{AC02}\u{FFFD}"));
+}
+
+/// The text of the next piece, in a buffer of the queried length.
+fn text_of_piece<D: RawDecoder>(
+    alloc: Global,
+    decoder: &mut D,
+    piece: &[u8],
+    last: bool,
+) -> Option<Vec<u8>> {
+    let Some(room) = decoder.max_utf8_buffer_length(piece.len()) else {
+        return None;
+    };
+    let Ok(mut output) = vec![in alloc; 0; room] else {
+        return None;
+    };
+    let written = decode_piece(decoder, piece, output.as_mut_slice(), last);
+    output.truncate(written);
+    Some(output)
+}
+
+#[test]
+fn a_sequence_that_a_piece_cuts_is_whole(rt: HostRuntime) {
+    let tables = tables_of(&rt);
+    let mut decoder = EucKrDecoder::new(&tables);
+    let first = text_of_piece(rt.alloc(), &mut decoder, b"a\x81", false);
+    assert_eq!(rt; first.as_deref(), Some(b"a".as_slice()));
+    let second = text_of_piece(rt.alloc(), &mut decoder, b"\x41\x81", true);
+    assert_eq!(rt; second.as_deref(), Some("\u{AC02}\u{FFFD}".as_bytes()));
 }
 
 #[test]
