@@ -5,8 +5,11 @@ use crate::encoder_rows::EncoderRow::{
 };
 use crate::encoder_rows::{EncoderRow, TestedEncoder, follow_encoder};
 use crate::indexes::{no_entries, tables_of};
+use crate::rows::Row::{Decoder, ToUtf8};
+use crate::rows::{Row, follow};
 use legacy_base::EncoderResult::{InputEmpty, OutputFull, Unmappable};
-use legacy_base::{Indexes, Tables};
+use legacy_base::{DecoderResult, Indexes, Tables};
+use legacy_decoders::Gb18030Decoder;
 use legacy_encoders::Gb18030Encoder;
 use std::process::Abort;
 
@@ -163,6 +166,18 @@ const BOTH: &[EncoderRow] = &[
     Encodes("\u{E81E}\u{9FB4}", &[Bytes(b"\xFE\x59\xFE\x59")]),
 ];
 
+const DECODED: &[Row] = &[
+    Decoder("the bytes of a row decode to the scalar that the index has there"),
+    ToUtf8(
+        b"\xFE\x59",
+        16,
+        true,
+        DecoderResult::InputEmpty,
+        2,
+        "\u{9FB4}",
+    ),
+];
+
 #[test]
 fn encodes_rows_before_the_index(rt: HostRuntime) {
     let mut gb18030 = [0u16; 23776];
@@ -185,4 +200,5 @@ fn encodes_rows_before_the_index(rt: HostRuntime) {
         },
     );
     follow_encoder::<Gb18030Encoder>(&rt, (&tables, true), BOTH);
+    follow::<Gb18030Decoder>(&rt, &tables, DECODED);
 }

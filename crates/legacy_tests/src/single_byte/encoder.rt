@@ -72,6 +72,18 @@ fn encodes_by_a_run_and_by_places(rt: HostRuntime) {
     follow_encoder::<SingleByteEncoder>(&rt, (&table, 0, 32, 0), GREEK);
 }
 
+const WITHOUT_ENTRIES: &[EncoderRow] = &[
+    Encoder("a run over places without a scalar leaves U+0000 the byte 00"),
+    Encodes("\0a", &[Bytes(b"\0a")]),
+    Encodes("\u{A0}", &[Report('\u{A0}')]),
+];
+
+#[test]
+fn encodes_ascii_alone_with_an_empty_table(rt: HostRuntime) {
+    let table = byte_table_of(&rt, &[0; 128]);
+    follow_encoder::<SingleByteEncoder>(&rt, (&table, 0, 32, 1), WITHOUT_ENTRIES);
+}
+
 /// Compares why a run is refused with what is wanted.
 fn is_fault(
     rt: &impl Abort,
