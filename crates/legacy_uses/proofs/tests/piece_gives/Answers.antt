@@ -1,0 +1,7 @@
+use Rattle.std.proofs.Common.{◌∙◌, ◌≤◌, length, arith, sym}
+use Rattle.legacy_uses.proofs.tests.piece_gives.Goals as goal
+
+pub decode_piece-written-requires : goal.decode_piece-written-requires
+decode_piece-written-requires g c =
+    let room : c.in-Some.room ≤ length c.as_mut_slice.result.now = omega (arith, c.as_mut_slice.ensures.len, c.in-Ok.ensures.len) in
+    (c.in-Some.room, sym c.max_utf8_buffer_length.ensures ∙ c.in-Some.is, room)
