@@ -202,7 +202,7 @@ module _ (jis0208 katakana_index : List ℕ) where
       by_fold (Some scalar) e h = record { scalar = scalar; fold = e; pointer = h }
 
   -- what c is read as
-  abbrev own_scalar : ℕ → ℕ
+  abbrev pub own_scalar : ℕ → ℕ
   own_scalar c = read_as (iso_2022_jp jis0208 katakana_index) c
 
   -- what is no fold stands for itself
@@ -211,7 +211,7 @@ module _ (jis0208 katakana_index : List ℕ) where
       let p = or_parts (c == 0x2212) (is_in_range 0xFF61 0xFF9F c) h in
       rw (p.1, p.0) refl
 
-  ascii_stands : (c : ℕ) → is_ascii c ≡ true → own_scalar c ≡ c
+  pub ascii_stands : (c : ℕ) → is_ascii c ≡ true → own_scalar c ≡ c
   ascii_stands c h = let plain : is_fold (iso_2022_jp jis0208 katakana_index) c ≡ false = grind (arith, nat_tests) in no_fold c plain
 
   -- a scalar whose code these bytes are
@@ -248,7 +248,7 @@ module _ (jis0208 katakana_index : List ℕ) where
       by_tests false false special m a s = past_ascii m a
 
   -- the mode that a scalar without a code asks for
-  none_keeps : (mode : EncoderMode) (c : ℕ) → iso_2022_jp_code jis0208 katakana_index c ≡ None → mode_for jis0208 katakana_index mode c ≡ roman_or_ascii mode
+  pub none_keeps : (mode : EncoderMode) (c : ℕ) → iso_2022_jp_code jis0208 katakana_index c ≡ None → mode_for jis0208 katakana_index mode c ≡ roman_or_ascii mode
   none_keeps mode c none = mode_for-by jis0208 katakana_index mode c ∙ rw none (kept (is_neutral_scalar c))
     where
       kept : (t : Bool) → cond (t || true) (roman_or_ascii mode) (cond (is_roman_scalar c) in_roman in_ascii) ≡ roman_or_ascii mode
@@ -258,11 +258,11 @@ module _ (jis0208 katakana_index : List ℕ) where
   -- ---- texts
 
   -- the scalars of a text that have a code
-  abbrev coded_here : List ℕ → List ℕ
+  abbrev pub coded_here : List ℕ → List ℕ
   coded_here text = coded (iso_2022_jp_code jis0208 katakana_index) text
 
   -- what is read of a text
-  abbrev text_back : List ℕ → List ℕ
+  abbrev pub text_back : List ℕ → List ℕ
   text_back text = map own_scalar (coded_here text)
 
   -- the bytes of a text that begins in the mode
@@ -270,11 +270,11 @@ module _ (jis0208 katakana_index : List ℕ) where
   text_bytes mode text = bytes_of (text_events jis0208 katakana_index mode text true)
 
   -- what a scalar's escape, its own bytes and those behind make up, by its code
-  abbrev scalar_bytes : EncoderMode → EncoderMode → Option (List ℕ) → List ℕ → List ℕ
+  abbrev pub scalar_bytes : EncoderMode → EncoderMode → Option (List ℕ) → List ℕ → List ℕ
   scalar_bytes mode new None behind = escape_between mode new ++ behind
   scalar_bytes mode new (Some own) behind = escape_between mode new ++ (own ++ behind)
 
-  text_bytes-scalar : (mode : EncoderMode) (c : ℕ) (text : List ℕ)
+  pub text_bytes-scalar : (mode : EncoderMode) (c : ℕ) (text : List ℕ)
       → text_bytes mode (c ∷ text)
       ≡ scalar_bytes mode (mode_for jis0208 katakana_index mode c) (iso_2022_jp_code jis0208 katakana_index c) (text_bytes (mode_for jis0208 katakana_index mode c) text)
   text_bytes-scalar mode c text =
@@ -289,7 +289,7 @@ module _ (jis0208 katakana_index : List ℕ) where
       by_code new None = ap (λ l. escape_between mode new ++ l) (bytes_of-unmappable (iso_2022_jp_reported c) (text_events jis0208 katakana_index new text true))
       by_code new (Some own) = ap (λ l. escape_between mode new ++ l) (bytes_of-behind own (text_events jis0208 katakana_index new text true))
 
-  text_bytes-end : (mode : EncoderMode) → text_bytes mode [] ≡ escape_between mode in_ascii
+  pub text_bytes-end : (mode : EncoderMode) → text_bytes mode [] ≡ escape_between mode in_ascii
   text_bytes-end mode = ap bytes_of (text_events-end jis0208 katakana_index mode) ∙ bytes_of-bytes (escape_between mode in_ascii)
 
   -- ---- what begins with a valid escape, and what does not
@@ -334,13 +334,13 @@ module _ (jis0208 katakana_index : List ℕ) where
   -- ---- no two escapes that meet
 
   -- a list without such has none at its end
-  apart_behind : (front bytes : List ℕ) → holds_adjacent_escapes (front ++ bytes) ≡ false → holds_adjacent_escapes bytes ≡ false
+  pub apart_behind : (front bytes : List ℕ) → holds_adjacent_escapes (front ++ bytes) ≡ false → holds_adjacent_escapes bytes ≡ false
   unfolding holds_adjacent_escapes
   apart_behind [] bytes h = h
   apart_behind (b ∷ front) bytes h = apart_behind front bytes (or_parts _ (holds_adjacent_escapes (front ++ bytes)) h).1
 
   -- behind an escape there is no other
-  escape_apart : (old new : EncoderMode) (bytes : List ℕ) → (old ≡ new → ⊥) → holds_adjacent_escapes (escape_between old new ++ bytes) ≡ false → is_whole_escape bytes ≡ false
+  pub escape_apart : (old new : EncoderMode) (bytes : List ℕ) → (old ≡ new → ⊥) → holds_adjacent_escapes (escape_between old new ++ bytes) ≡ false → is_whole_escape bytes ≡ false
   unfolding holds_adjacent_escapes
   escape_apart in_ascii in_ascii bytes n h = absurd (n refl)
   escape_apart in_roman in_roman bytes n h = absurd (n refl)

@@ -36,3 +36,4 @@ pub mod Gb18030Trip
 pub mod AcceptedTrips
 pub mod Iso2022JpTrip
 pub mod RoundTrips
+pub mod Reencoding

@@ -1,5 +1,5 @@
 -- What comes back: a text that was encoded, and is decoded again.
-use Rattle.std.specs.Prelude.{◌≡◌, ℕ, List, [], ◌∷◌, ◌++◌, drop, get_or, length, map, filter, Bool, true, false, not, ◌&&◌, ◌||◌, ◌==◌, ⊤, is_some, unwrap_or, if◌then◌else◌}
+use Rattle.std.specs.Prelude.{◌≡◌, ℕ, List, [], ◌∷◌, ◌++◌, drop, get_or, length, map, filter, Bool, true, false, not, ◌&&◌, ◌||◌, ◌==◌, ⊤, All, Some, is_some, unwrap_or, if◌then◌else◌}
 use Rattle.std.specs.Option.{option_map_or}
 use Rattle.std.specs.List.{list_any}
 use Rattle.legacy_base.specs.declared.results.DecodeEvent.TheVariants.{Scalar}
@@ -167,6 +167,27 @@ EncodesWellFormed =
     (codec : Codec) → HasAcceptedLists codec →
     (text : List ℕ) → IsSound codec text →
     events_of (grammar_of codec) (written codec text) ≡ map Scalar (read_back codec text)
+
+-- what c is read as has the code of c, if c has one
+abbrev pub HasSameCode : Codec → ℕ → Type 0
+HasSameCode codec c =
+    (bytes : List ℕ) → code (new_encoder codec) c ≡ Some bytes → code (new_encoder codec) (read_as codec c) ≡ Some bytes
+
+-- What the scalars of a text are read as have the same codes. Where folds go by a table, it may say otherwise; else it is
+-- so of any text.
+abbrev pub KeepsCodes : Codec → List ℕ → Type 0
+KeepsCodes (gb18030 index ranges pua) text = All (HasSameCode (gb18030 index ranges pua)) text
+KeepsCodes (gbk index ranges pua) text = All (HasSameCode (gbk index ranges pua)) text
+KeepsCodes (iso_2022_jp jis0208 katakana_index) text = All (HasSameCode (iso_2022_jp jis0208 katakana_index)) text
+KeepsCodes _ text = ⊤
+
+-- What was encoded of a text decodes to one that is encoded as the same bytes, unmappable scalars and folds or not.
+abbrev pub ReencodesAnyText : Type 0
+ReencodesAnyText =
+    (codec : Codec) → HasAcceptedLists codec →
+    (text : List ℕ) → IsSound codec text → KeepsCodes codec text →
+    (decoded : List ℕ) → events_of (grammar_of codec) (written codec text) ≡ map Scalar decoded →
+    encoded (new_encoder codec) decoded true ≡ map Byte (written codec text)
 
 -- In ISO-2022-JP no two escapes meet where nothing is unmappable, folds or not.
 abbrev pub EscapesStayApart : Type 0
