@@ -1,12 +1,15 @@
 //! Each caller once, by EUC-KR with U+AC02 at pointer 0 and no other scalar.
 use crate::faults::{MalformedSequence, malformed_sequences};
+use crate::index_data::decode_by_file;
 use crate::piece_by_piece::decode_piece;
-use crate::registry::{Encoding, decode_by_encoding, encoding_by_name};
+use crate::registry::{Registry, RegistryError};
 use crate::sized::decode_whole;
 use crate::transcode::transcode;
 use legacy_codecs::{
-    EucKrDecoder, GB18030_2022_PUA, Indexes, RawDecoder, Tables, UserDefinedEncoder,
+    EucKrDecoder, GB18030_2022_PUA, Indexes, RawDecoder, SingleByteRun, SingleByteTable, Tables,
+    UserDefinedEncoder,
 };
+use legacy_index_files::{Encoding, FileIndex};
 use std::alloc::Global;
 use std::process::Abort;
 
@@ -99,15 +102,68 @@ fn references_stand_for_what_is_lacking(rt: HostRuntime) {
 }
 
 #[test]
-fn an_encoding_is_known_by_its_name(rt: HostRuntime) {
-    let tables = tables_of(&rt);
-    assert_eq!(rt; encoding_by_name("GBK"), Some(Encoding::Gb18030));
-    assert_eq!(rt; encoding_by_name("latin"), None);
-    let text = decode_by_encoding(
-        rt.alloc(),
-        Encoding::Utf16Le,
-        &tables,
-        b"a\0\x3D\xD8\xA9\xDC",
-    );
-    assert_eq!(rt; text.as_deref(), Ok("a\u{1F4A9}"));
+fn an_index_file_is_decoded_by(rt: HostRuntime) {
+    let text = decode_by_file(rt.alloc(), b"0\t0xAC02\n", b"a\x81\x41\xFF");
+    assert_eq!(rt; text.as_deref(), Ok("a\u{AC02}\u{FFFD}"));
+}
+
+#[test]
+fn a_registry_goes_by_names(rt: HostRuntime) {
+    let mut registry = Registry::new(rt.alloc());
+    let pairs = registry
+        .indexes
+        .read(rt.alloc(), FileIndex::EucKr, b"0\t0xAC02\n");
+    assert_eq!(rt; pairs, Ok(()));
+    // The euro sign is at pointer 0 of windows-1252.
+    let euro = registry.read_single_byte(rt.alloc(), Encoding::Windows1252, b"0\t0x20AC\n");
+    assert_eq!(rt; euro, Ok(()));
+    let coders = match registry.coders() {
+        Ok(coders) => coders,
+        Err(fault) => panic!(rt; "{fault}"),
+    };
+    let rows: [(&str, &[u8], &str); 3] = [
+        ("EUC-KR", b"a\x81\x41", "a\u{AC02}"),
+        ("windows-1252", b"a\x80", "a\u{20AC}"),
+        ("x-user-defined", b"a\x80", "a\u{F780}"),
+    ];
+    for (name, bytes, text) in rows {
+        let decoded = coders.decode(rt.alloc(), name, bytes);
+        assert_eq!(rt; decoded.as_deref(), Ok(text), "{name}");
+        let encoded = coders.encode(rt.alloc(), name, text);
+        assert_eq!(rt; encoded.as_deref(), Ok(bytes), "{name}");
+    }
+    let unknown = coders.decode(rt.alloc(), "latin", b"a");
+    assert_eq!(rt; unknown, Err(RegistryError::Unknown));
+    let unread = coders.decode(rt.alloc(), "windows-1251", b"a");
+    assert_eq!(rt; unread, Err(RegistryError::NoIndex));
+}
+
+#[test]
+fn the_letters_of_windows_1251_are_its_run(rt: HostRuntime) {
+    let mut entries = [0; 128];
+    // In KOI8-R so many lines and boxes follow each other, but not the letters.
+    for place in 36..51 {
+        entries[place] = 0x2553 + place as u16 - 36;
+    }
+    assert!(rt; runs(&entries, 0, 32, 1));
+    // In windows-1251 the letters from U+0410 to U+044F are the bytes C0 to FF.
+    for place in 64..128 {
+        entries[place] = 0x0410 + place as u16 - 64;
+    }
+    assert!(rt; runs(&entries, 0x0410, 64, 64));
+}
+
+/// Whether this is the run of a table of the entries.
+fn runs(entries: &[u16; 128], scalar: u16, start: u8, count: u8) -> bool {
+    match SingleByteTable::new(entries) {
+        Ok(table) => {
+            SingleByteRun::longest(&table)
+                == SingleByteRun {
+                    scalar,
+                    start,
+                    count,
+                }
+        }
+        Err(_) => false,
+    }
 }

@@ -52,7 +52,7 @@ fn index_files_have_their_published_names(rt: HostRuntime) {
     }
     let mut single_bytes = 0;
     for encoding in ENCODINGS {
-        if encoding.indexes() == [FileIndex::SingleByte] {
+        if encoding.indexes() == [FileIndex::SingleByte].as_slice() {
             single_bytes += 1;
         }
     }
