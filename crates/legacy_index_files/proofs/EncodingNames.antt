@@ -1,5 +1,5 @@
 -- Each encoding is found by its name.
-use Rattle.std.proofs.Common.{◌≡◌, ◌↔◌, ◌∙◌, ℕ, List, [], ◌∷◌, Bool, true, false, Option, Some, None, cond, refl, sym, subst, find, bytes_eq}
+use Rattle.std.proofs.Common.{◌≡◌, ◌↔◌, ◌∙◌, ℕ, List, [], ◌∷◌, Bool, true, false, Option, Some, cond, refl, sym, subst, find, bytes_eq}
 use Rattle.std.proofs.lemmas.Slice.Eq.{bytes_eq-Decides}
 use Rattle.legacy_index_files.specs.declared.encodings.Encoding.{Encoding}
 use Rattle.legacy_index_files.specs.declared.encodings.Encoding.TheVariants as encoding

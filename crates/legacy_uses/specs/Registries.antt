@@ -8,7 +8,6 @@ use Rattle.legacy_base.specs.Indexes.{FlatIndexes}
 use Rattle.legacy_base.specs.States.{new_state}
 use Rattle.legacy_base.specs.Encoders.{Codec, new_encoder, encoded}
 use Rattle.legacy_base.specs.Encoders as encoders
-use Rattle.legacy_base.specs.TableChecks.{IsAcceptedTable}
 use Rattle.legacy_codecs.specs.References.{referenced_bytes}
 use Rattle.legacy_index_files.specs.declared.index_file.FileIndex.TheVariants.{SingleByte}
 use Rattle.legacy_index_files.specs.declared.encodings.Encoding.{Encoding}

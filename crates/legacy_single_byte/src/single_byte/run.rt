@@ -115,8 +115,8 @@ fn run_to(table: &SingleByteTable, before: SingleByteRun, place: u8) -> SingleBy
 }
 
 impl SingleByteRun {
-    /// The longest run of the table that its encoder takes and whose scalar values lie below U+2000, the
-    /// first of them where there are several. `SingleByteEncoder::new` never refuses it.
+    /// The longest run of the table that its encoder takes and whose scalar values lie below U+2000, or
+    /// one of the longest. `SingleByteEncoder::new` never refuses it.
     ///
     /// Letters lie below U+2000 in all single-byte encodings of the Standard. It is found in 96 steps.
     pub fn longest(table: &SingleByteTable) -> SingleByteRun
