@@ -2,11 +2,11 @@
 ghost use Rattle.std.specs.Prelude.{◌≡◌, ◌≤◌, ◌⊎◌, ◌↔◌, length, IfSome, IsSome};
 ghost use Rattle.legacy_exports.specs.Taken.{AreTaken, IsRefused, IsTaken};
 
+use crate::calls::Calls;
 use crate::codec::{Codec, codec_of_number};
-use crate::indexes::{IndexSlices, RANGE_LIMIT, range_pairs, single_byte_table, with_ranges};
+use crate::indexes::{IndexSlices, RANGE_LIMIT, range_pairs, single_byte_table, tables_with};
 use crate::pieces::{Reading, decode_times};
 use crate::unit::CodeUnit;
-use legacy_base::Tables;
 use legacy_decoders::{
     Big5Decoder, EucJpDecoder, EucKrDecoder, Gb18030Decoder, Iso2022JpDecoder, ReplacementDecoder,
     ShiftJisDecoder, SingleByteDecoder, UserDefinedDecoder, Utf16Decoder,
@@ -16,7 +16,7 @@ use legacy_decoders::{
 // need not read from memory again where they lie.
 /// Decodes by the codec's decoder, as `decode_times` does, or answers `None` where the indexes are
 /// refused.
-pub fn decode<U: CodeUnit>(
+pub fn decode<C: Calls, U: CodeUnit>(
     codec: Codec,
     indexes: &IndexSlices,
     reading: Reading<&[u8]>,
@@ -30,8 +30,7 @@ pub fn decode<U: CodeUnit>(
         return None;
     }
     let pairs = range_pairs(indexes.ranges);
-    let flat = with_ranges(indexes, &pairs[..range_count]);
-    let Ok(tables) = Tables::new(&flat) else {
+    let Some(tables) = tables_with(indexes, &pairs[..range_count]) else {
         return None;
     };
     let written = match codec {
@@ -39,29 +38,29 @@ pub fn decode<U: CodeUnit>(
             let Some(table) = single_byte_table(indexes.single_byte) else {
                 return None;
             };
-            decode_times(&mut SingleByteDecoder::new(&table), reading, output)
+            decode_times::<C, U, _>(&mut SingleByteDecoder::new(&table), reading, output)
         }
         Codec::Gbk | Codec::Gb18030 => {
-            decode_times(&mut Gb18030Decoder::new(&tables), reading, output)
+            decode_times::<C, U, _>(&mut Gb18030Decoder::new(&tables), reading, output)
         }
-        Codec::Big5 => decode_times(&mut Big5Decoder::new(&tables), reading, output),
-        Codec::EucJp => decode_times(&mut EucJpDecoder::new(&tables), reading, output),
-        Codec::Iso2022Jp => decode_times(&mut Iso2022JpDecoder::new(&tables), reading, output),
-        Codec::ShiftJis => decode_times(&mut ShiftJisDecoder::new(&tables), reading, output),
-        Codec::EucKr => decode_times(&mut EucKrDecoder::new(&tables), reading, output),
-        Codec::Replacement => decode_times(&mut ReplacementDecoder::new(), reading, output),
+        Codec::Big5 => decode_times::<C, U, _>(&mut Big5Decoder::new(&tables), reading, output),
+        Codec::EucJp => decode_times::<C, U, _>(&mut EucJpDecoder::new(&tables), reading, output),
+        Codec::Iso2022Jp => decode_times::<C, U, _>(&mut Iso2022JpDecoder::new(&tables), reading, output),
+        Codec::ShiftJis => decode_times::<C, U, _>(&mut ShiftJisDecoder::new(&tables), reading, output),
+        Codec::EucKr => decode_times::<C, U, _>(&mut EucKrDecoder::new(&tables), reading, output),
+        Codec::Replacement => decode_times::<C, U, _>(&mut ReplacementDecoder::new(), reading, output),
         Codec::Utf16Be | Codec::Utf16Le => {
             let big_endian = matches!(codec, Codec::Utf16Be);
-            decode_times(&mut Utf16Decoder::new(big_endian), reading, output)
+            decode_times::<C, U, _>(&mut Utf16Decoder::new(big_endian), reading, output)
         }
-        Codec::UserDefined => decode_times(&mut UserDefinedDecoder::new(), reading, output),
+        Codec::UserDefined => decode_times::<C, U, _>(&mut UserDefinedDecoder::new(), reading, output),
     };
     Some(written)
 }
 
 /// Decodes by the codec of the number, as `decode` does, or answers `usize::MAX` where no codec has the
 /// number or the indexes are refused.
-pub fn decode_by_number<U: CodeUnit>(
+pub fn decode_by_number<C: Calls, U: CodeUnit>(
     number: u32,
     indexes: &IndexSlices,
     reading: Reading<&[u8]>,
@@ -74,5 +73,5 @@ pub fn decode_by_number<U: CodeUnit>(
     let Some(codec) = codec_of_number(number) else {
         return usize::MAX;
     };
-    decode(codec, indexes, reading, output).unwrap_or(usize::MAX)
+    decode::<C, U>(codec, indexes, reading, output).unwrap_or(usize::MAX)
 }

@@ -2,31 +2,21 @@
 ghost use Rattle.std.specs.Prelude.{◌≡◌, ◌≤◌, ◌⊎◌, ◌↔◌, length, IfSome, IsSome};
 ghost use Rattle.legacy_exports.specs.Taken.{AreTakenToEncode, IsRefusedToEncode, IsTakenRun, IsTakenToEncode};
 
+use crate::calls::{CallEnd, Calls};
 use crate::codec::{Codec, codec_of_number};
-use crate::indexes::{IndexSlices, RANGE_LIMIT, range_pairs, single_byte_table, with_ranges};
+use crate::indexes::{IndexSlices, RANGE_LIMIT, range_pairs, single_byte_table, tables_with};
 use crate::pieces::Reading;
 use crate::texts::Text;
-use legacy_base::{EncoderResult, RawEncoder, Tables};
+use legacy_base::RawEncoder;
 use legacy_encoders::{
     Big5Encoder, EucJpEncoder, EucKrEncoder, Gb18030Encoder, Iso2022JpEncoder, ShiftJisEncoder,
     SingleByteEncoder, UserDefinedEncoder,
 };
 
-/// Writes a question mark at a place, and answers the place behind it, or `None` where it has no room.
-fn put_question_mark(output: &mut [u8], at: usize) -> Option<usize>
-    ensures { IfSome result (λ end. end ≤ length output.new) }
-{
-    if at >= output.len() {
-        return None;
-    }
-    output[at] = 0x3F;
-    Some(at + 1)
-}
-
-/// Encodes the text in pieces of so many code units, with a question mark for each scalar that the encoding does
-/// not have, and answers how many bytes it wrote. It stops where the output is full.
+/// Encodes the text in pieces of so many code units by calls of a kind, and answers how many bytes it wrote. It stops
+/// where the output is full.
 #[inline(always)]
-fn encode_once<T: Text, E: RawEncoder>(
+fn encode_once<C: Calls, T: Text, E: RawEncoder>(
     encoder: &mut E,
     text: T,
     output: &mut [u8],
@@ -39,8 +29,9 @@ fn encode_once<T: Text, E: RawEncoder>(
     let mut end = text.end_of_piece(0, piece);
     for _ in 0..u64::MAX {
         let last = end == text.unit_count();
-        let (answer, more, bytes) = text.encode_raw(
+        let (answer, more, bytes) = C::encode(
             encoder,
+            text,
             (read, end),
             &mut output[written..],
             last,
@@ -48,13 +39,10 @@ fn encode_once<T: Text, E: RawEncoder>(
         read = read.saturating_add(more);
         written += bytes;
         match answer {
-            EncoderResult::InputEmpty if last => return written,
-            EncoderResult::InputEmpty => end = text.end_of_piece(read, piece),
-            EncoderResult::OutputFull => return written,
-            EncoderResult::Unmappable(_) => match put_question_mark(output, written) {
-                Some(behind) => written = behind,
-                None => return written,
-            },
+            CallEnd::Read if last => return written,
+            CallEnd::Read => end = text.end_of_piece(read, piece),
+            CallEnd::Full => return written,
+            CallEnd::Replaced => {}
         }
     }
     written
@@ -62,7 +50,7 @@ fn encode_once<T: Text, E: RawEncoder>(
 
 /// Encodes a text by one encoder as often as it is read, and answers how many bytes it wrote the last time.
 #[inline(always)]
-fn encode_times<T: Text, E: RawEncoder>(
+fn encode_times<C: Calls, T: Text, E: RawEncoder>(
     encoder: &mut E,
     reading: Reading<T>,
     output: &mut [u8],
@@ -71,7 +59,7 @@ fn encode_times<T: Text, E: RawEncoder>(
 {
     let mut written = 0;
     for _ in 0..reading.times {
-        written = encode_once(encoder, reading.source, output, reading.piece);
+        written = encode_once::<C, T, E>(encoder, reading.source, output, reading.piece);
     }
     written
 }
@@ -79,7 +67,7 @@ fn encode_times<T: Text, E: RawEncoder>(
 // The loop of `encode_times` is inlined here, as that of the decoders is.
 /// Encodes by the codec's encoder, as `encode_times` does, or answers `None` where the codec has none or the
 /// indexes are refused.
-pub fn encode<T: Text>(
+pub fn encode<C: Calls, T: Text>(
     codec: Codec,
     indexes: &IndexSlices,
     reading: Reading<T>,
@@ -93,20 +81,19 @@ pub fn encode<T: Text>(
         return None;
     }
     let pairs = range_pairs(indexes.ranges);
-    let flat = with_ranges(indexes, &pairs[..range_count]);
-    let Ok(tables) = Tables::new(&flat) else {
+    let Some(tables) = tables_with(indexes, &pairs[..range_count]) else {
         return None;
     };
     let written = match codec {
-        Codec::SingleByte => return encode_single_byte(indexes, reading, output),
-        Codec::Gbk => encode_times(&mut Gb18030Encoder::new(&tables, false), reading, output),
-        Codec::Gb18030 => encode_times(&mut Gb18030Encoder::new(&tables, true), reading, output),
-        Codec::Big5 => encode_times(&mut Big5Encoder::new(&tables), reading, output),
-        Codec::EucJp => encode_times(&mut EucJpEncoder::new(&tables), reading, output),
-        Codec::Iso2022Jp => encode_times(&mut Iso2022JpEncoder::new(&tables), reading, output),
-        Codec::ShiftJis => encode_times(&mut ShiftJisEncoder::new(&tables), reading, output),
-        Codec::EucKr => encode_times(&mut EucKrEncoder::new(&tables), reading, output),
-        Codec::UserDefined => encode_times(&mut UserDefinedEncoder::new(), reading, output),
+        Codec::SingleByte => return encode_single_byte::<C, T>(indexes, reading, output),
+        Codec::Gbk => encode_times::<C, T, _>(&mut Gb18030Encoder::new(&tables, false), reading, output),
+        Codec::Gb18030 => encode_times::<C, T, _>(&mut Gb18030Encoder::new(&tables, true), reading, output),
+        Codec::Big5 => encode_times::<C, T, _>(&mut Big5Encoder::new(&tables), reading, output),
+        Codec::EucJp => encode_times::<C, T, _>(&mut EucJpEncoder::new(&tables), reading, output),
+        Codec::Iso2022Jp => encode_times::<C, T, _>(&mut Iso2022JpEncoder::new(&tables), reading, output),
+        Codec::ShiftJis => encode_times::<C, T, _>(&mut ShiftJisEncoder::new(&tables), reading, output),
+        Codec::EucKr => encode_times::<C, T, _>(&mut EucKrEncoder::new(&tables), reading, output),
+        Codec::UserDefined => encode_times::<C, T, _>(&mut UserDefinedEncoder::new(), reading, output),
         Codec::Replacement | Codec::Utf16Be | Codec::Utf16Le => return None,
     };
     Some(written)
@@ -114,7 +101,7 @@ pub fn encode<T: Text>(
 
 /// Encodes by the encoder of the single-byte encoding that is handed in, or answers `None` where its index or its
 /// run is refused.
-fn encode_single_byte<T: Text>(
+fn encode_single_byte<C: Calls, T: Text>(
     indexes: &IndexSlices,
     reading: Reading<T>,
     output: &mut [u8],
@@ -125,14 +112,14 @@ fn encode_single_byte<T: Text>(
     let table = single_byte_table(indexes.single_byte)?;
     let run = &indexes.single_byte_run;
     match SingleByteEncoder::new(&table, run.scalar, run.start, run.length) {
-        Ok(mut encoder) => Some(encode_times(&mut encoder, reading, output)),
+        Ok(mut encoder) => Some(encode_times::<C, T, _>(&mut encoder, reading, output)),
         Err(_) => None,
     }
 }
 
 /// Encodes by the codec of the number, as `encode` does, or answers `usize::MAX` where no codec with an encoder has
 /// the number or the indexes are refused.
-pub fn encode_by_number<T: Text>(
+pub fn encode_by_number<C: Calls, T: Text>(
     number: u32,
     indexes: &IndexSlices,
     reading: Reading<T>,
@@ -145,5 +132,5 @@ pub fn encode_by_number<T: Text>(
     let Some(codec) = codec_of_number(number) else {
         return usize::MAX;
     };
-    encode(codec, indexes, reading, output).unwrap_or(usize::MAX)
+    encode::<C, T>(codec, indexes, reading, output).unwrap_or(usize::MAX)
 }
