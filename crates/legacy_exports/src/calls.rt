@@ -18,10 +18,11 @@ pub enum CallEnd {
 }
 
 /// A kind of calls.
-pub trait Calls {
+pub trait Calls: Copy {
     /// A call of a decoder, with U+FFFD for each malformed sequence: answers how it ended, the bytes read and the
     /// code units written.
     fn decode<U: CodeUnit, D: RawDecoder>(
+        self,
         decoder: &mut D,
         source: &[u8],
         output: &mut [U],
@@ -33,6 +34,7 @@ pub trait Calls {
     /// A call of an encoder with the text from one place to another: answers how it ended, the code units read and
     /// the bytes written.
     fn encode<T: Text, E: RawEncoder>(
+        self,
         encoder: &mut E,
         text: T,
         place: (usize, usize),
@@ -44,9 +46,11 @@ pub trait Calls {
 
 /// Raw calls. Behind one that tells a malformed sequence U+FFFD is written, and a question mark behind one that
 /// tells a scalar that the encoding does not have.
+#[derive(Clone, Copy)]
 pub struct Raw;
 
 /// Calls with replacement, which write U+FFFD and references.
+#[derive(Clone, Copy)]
 pub struct Replacing;
 
 /// Writes a question mark at a place, and answers the place behind it, or `None` where it has no room.
@@ -63,6 +67,7 @@ fn put_question_mark(output: &mut [u8], at: usize) -> Option<usize>
 impl Calls for Raw {
     #[inline(always)]
     fn decode<U: CodeUnit, D: RawDecoder>(
+        self,
         decoder: &mut D,
         source: &[u8],
         output: &mut [U],
@@ -81,6 +86,7 @@ impl Calls for Raw {
 
     #[inline(always)]
     fn encode<T: Text, E: RawEncoder>(
+        self,
         encoder: &mut E,
         text: T,
         place: (usize, usize),
@@ -110,6 +116,7 @@ fn end_of(answer: CoderResult) -> CallEnd {
 impl Calls for Replacing {
     #[inline(always)]
     fn decode<U: CodeUnit, D: RawDecoder>(
+        self,
         decoder: &mut D,
         source: &[u8],
         output: &mut [U],
@@ -121,6 +128,7 @@ impl Calls for Replacing {
 
     #[inline(always)]
     fn encode<T: Text, E: RawEncoder>(
+        self,
         encoder: &mut E,
         text: T,
         place: (usize, usize),

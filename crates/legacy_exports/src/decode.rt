@@ -19,7 +19,7 @@ use legacy_decoders::{
 pub fn decode<C: Calls, U: CodeUnit>(
     codec: Codec,
     indexes: &IndexSlices,
-    reading: Reading<&[u8]>,
+    reading: Reading<C, &[u8]>,
     output: &mut [U],
 ) -> Option<usize>
     ensures units { IfSome result (λ written. written ≤ length output.new) }
@@ -38,38 +38,22 @@ pub fn decode<C: Calls, U: CodeUnit>(
             let Some(table) = single_byte_table(indexes.single_byte) else {
                 return None;
             };
-            decode_times::<C, U, _>(&mut SingleByteDecoder::new(&table), reading, output)
+            decode_times(&mut SingleByteDecoder::new(&table), reading, output)
         }
         Codec::Gbk | Codec::Gb18030 => {
-            decode_times::<C, U, _>(&mut Gb18030Decoder::new(&tables), reading, output)
+            decode_times(&mut Gb18030Decoder::new(&tables), reading, output)
         }
-        Codec::Big5 => decode_times::<C, U, _>(&mut Big5Decoder::new(&tables), reading, output),
-        Codec::EucJp => decode_times::<C, U, _>(&mut EucJpDecoder::new(&tables), reading, output),
-        Codec::Iso2022Jp => decode_times::<C, U, _>(
-            &mut Iso2022JpDecoder::new(&tables),
-            reading,
-            output,
-        ),
-        Codec::ShiftJis => decode_times::<C, U, _>(
-            &mut ShiftJisDecoder::new(&tables),
-            reading,
-            output,
-        ),
-        Codec::EucKr => decode_times::<C, U, _>(&mut EucKrDecoder::new(&tables), reading, output),
-        Codec::Replacement => decode_times::<C, U, _>(
-            &mut ReplacementDecoder::new(),
-            reading,
-            output,
-        ),
+        Codec::Big5 => decode_times(&mut Big5Decoder::new(&tables), reading, output),
+        Codec::EucJp => decode_times(&mut EucJpDecoder::new(&tables), reading, output),
+        Codec::Iso2022Jp => decode_times(&mut Iso2022JpDecoder::new(&tables), reading, output),
+        Codec::ShiftJis => decode_times(&mut ShiftJisDecoder::new(&tables), reading, output),
+        Codec::EucKr => decode_times(&mut EucKrDecoder::new(&tables), reading, output),
+        Codec::Replacement => decode_times(&mut ReplacementDecoder::new(), reading, output),
         Codec::Utf16Be | Codec::Utf16Le => {
             let big_endian = matches!(codec, Codec::Utf16Be);
-            decode_times::<C, U, _>(&mut Utf16Decoder::new(big_endian), reading, output)
+            decode_times(&mut Utf16Decoder::new(big_endian), reading, output)
         }
-        Codec::UserDefined => decode_times::<C, U, _>(
-            &mut UserDefinedDecoder::new(),
-            reading,
-            output,
-        ),
+        Codec::UserDefined => decode_times(&mut UserDefinedDecoder::new(), reading, output),
     };
     Some(written)
 }
@@ -79,7 +63,7 @@ pub fn decode<C: Calls, U: CodeUnit>(
 pub fn decode_by_number<C: Calls, U: CodeUnit>(
     number: u32,
     indexes: &IndexSlices,
-    reading: Reading<&[u8]>,
+    reading: Reading<C, &[u8]>,
     output: &mut [U],
 ) -> usize
     ensures units { (result ≤ length output.new) ⊎ (result ≡ 0xFFFF_FFFF_FFFF_FFFF) }
@@ -89,5 +73,5 @@ pub fn decode_by_number<C: Calls, U: CodeUnit>(
     let Some(codec) = codec_of_number(number) else {
         return usize::MAX;
     };
-    decode::<C, U>(codec, indexes, reading, output).unwrap_or(usize::MAX)
+    decode(codec, indexes, reading, output).unwrap_or(usize::MAX)
 }

@@ -17,6 +17,7 @@ use legacy_encoders::{
 /// where the output is full.
 #[inline(always)]
 fn encode_once<C: Calls, T: Text, E: RawEncoder>(
+    calls: C,
     encoder: &mut E,
     text: T,
     output: &mut [u8],
@@ -29,7 +30,7 @@ fn encode_once<C: Calls, T: Text, E: RawEncoder>(
     let mut end = text.end_of_piece(0, piece);
     for _ in 0..u64::MAX {
         let last = end == text.unit_count();
-        let (answer, more, bytes) = C::encode(
+        let (answer, more, bytes) = calls.encode(
             encoder,
             text,
             (read, end),
@@ -52,14 +53,20 @@ fn encode_once<C: Calls, T: Text, E: RawEncoder>(
 #[inline(always)]
 fn encode_times<C: Calls, T: Text, E: RawEncoder>(
     encoder: &mut E,
-    reading: Reading<T>,
+    reading: Reading<C, T>,
     output: &mut [u8],
 ) -> usize
     ensures { result ≤ length output.new }
 {
     let mut written = 0;
     for _ in 0..reading.times {
-        written = encode_once::<C, T, E>(encoder, reading.source, output, reading.piece);
+        written = encode_once(
+            reading.calls,
+            encoder,
+            reading.source,
+            output,
+            reading.piece,
+        );
     }
     written
 }
@@ -70,7 +77,7 @@ fn encode_times<C: Calls, T: Text, E: RawEncoder>(
 pub fn encode<C: Calls, T: Text>(
     codec: Codec,
     indexes: &IndexSlices,
-    reading: Reading<T>,
+    reading: Reading<C, T>,
     output: &mut [u8],
 ) -> Option<usize>
     ensures units { IfSome result (λ written. written ≤ length output.new) }
@@ -85,35 +92,15 @@ pub fn encode<C: Calls, T: Text>(
         return None;
     };
     let written = match codec {
-        Codec::SingleByte => return encode_single_byte::<C, T>(indexes, reading, output),
-        Codec::Gbk => encode_times::<C, T, _>(
-            &mut Gb18030Encoder::new(&tables, false),
-            reading,
-            output,
-        ),
-        Codec::Gb18030 => encode_times::<C, T, _>(
-            &mut Gb18030Encoder::new(&tables, true),
-            reading,
-            output,
-        ),
-        Codec::Big5 => encode_times::<C, T, _>(&mut Big5Encoder::new(&tables), reading, output),
-        Codec::EucJp => encode_times::<C, T, _>(&mut EucJpEncoder::new(&tables), reading, output),
-        Codec::Iso2022Jp => encode_times::<C, T, _>(
-            &mut Iso2022JpEncoder::new(&tables),
-            reading,
-            output,
-        ),
-        Codec::ShiftJis => encode_times::<C, T, _>(
-            &mut ShiftJisEncoder::new(&tables),
-            reading,
-            output,
-        ),
-        Codec::EucKr => encode_times::<C, T, _>(&mut EucKrEncoder::new(&tables), reading, output),
-        Codec::UserDefined => encode_times::<C, T, _>(
-            &mut UserDefinedEncoder::new(),
-            reading,
-            output,
-        ),
+        Codec::SingleByte => return encode_single_byte(indexes, reading, output),
+        Codec::Gbk => encode_times(&mut Gb18030Encoder::new(&tables, false), reading, output),
+        Codec::Gb18030 => encode_times(&mut Gb18030Encoder::new(&tables, true), reading, output),
+        Codec::Big5 => encode_times(&mut Big5Encoder::new(&tables), reading, output),
+        Codec::EucJp => encode_times(&mut EucJpEncoder::new(&tables), reading, output),
+        Codec::Iso2022Jp => encode_times(&mut Iso2022JpEncoder::new(&tables), reading, output),
+        Codec::ShiftJis => encode_times(&mut ShiftJisEncoder::new(&tables), reading, output),
+        Codec::EucKr => encode_times(&mut EucKrEncoder::new(&tables), reading, output),
+        Codec::UserDefined => encode_times(&mut UserDefinedEncoder::new(), reading, output),
         Codec::Replacement | Codec::Utf16Be | Codec::Utf16Le => return None,
     };
     Some(written)
@@ -123,7 +110,7 @@ pub fn encode<C: Calls, T: Text>(
 /// run is refused.
 fn encode_single_byte<C: Calls, T: Text>(
     indexes: &IndexSlices,
-    reading: Reading<T>,
+    reading: Reading<C, T>,
     output: &mut [u8],
 ) -> Option<usize>
     ensures units { IfSome result (λ written. written ≤ length output.new) }
@@ -132,7 +119,7 @@ fn encode_single_byte<C: Calls, T: Text>(
     let table = single_byte_table(indexes.single_byte)?;
     let run = &indexes.single_byte_run;
     match SingleByteEncoder::new(&table, run.scalar, run.start, run.length) {
-        Ok(mut encoder) => Some(encode_times::<C, T, _>(&mut encoder, reading, output)),
+        Ok(mut encoder) => Some(encode_times(&mut encoder, reading, output)),
         Err(_) => None,
     }
 }
@@ -142,7 +129,7 @@ fn encode_single_byte<C: Calls, T: Text>(
 pub fn encode_by_number<C: Calls, T: Text>(
     number: u32,
     indexes: &IndexSlices,
-    reading: Reading<T>,
+    reading: Reading<C, T>,
     output: &mut [u8],
 ) -> usize
     ensures units { (result ≤ length output.new) ⊎ (result ≡ 0xFFFF_FFFF_FFFF_FFFF) }
@@ -152,5 +139,5 @@ pub fn encode_by_number<C: Calls, T: Text>(
     let Some(codec) = codec_of_number(number) else {
         return usize::MAX;
     };
-    encode::<C, T>(codec, indexes, reading, output).unwrap_or(usize::MAX)
+    encode(codec, indexes, reading, output).unwrap_or(usize::MAX)
 }

@@ -42,11 +42,12 @@ pub extern "C" fn legacy_decode_to_utf8(
     ensures refused { IsRefused codec indexes.now → result ≡ 0xFFFF_FFFF_FFFF_FFFF }
 {
     let reading = Reading {
+        calls: Raw,
         source,
         piece,
         times,
     };
-    decode_by_number::<Raw, u8>(codec, indexes, reading, output)
+    decode_by_number(codec, indexes, reading, output)
 }
 
 /// Decodes the source to UTF-16 by the codec of this number.
@@ -64,11 +65,12 @@ pub extern "C" fn legacy_decode_to_utf16(
     ensures refused { IsRefused codec indexes.now → result ≡ 0xFFFF_FFFF_FFFF_FFFF }
 {
     let reading = Reading {
+        calls: Raw,
         source,
         piece,
         times,
     };
-    decode_by_number::<Raw, u16>(codec, indexes, reading, output)
+    decode_by_number(codec, indexes, reading, output)
 }
 
 /// Encodes the source, a text in UTF-8, by the codec of this number. A source that is no UTF-8 is refused.
@@ -90,11 +92,12 @@ pub extern "C" fn legacy_encode_from_utf8(
         return usize::MAX;
     };
     let reading = Reading {
+        calls: Raw,
         source: text,
         piece,
         times,
     };
-    encode_by_number::<Raw, &str>(codec, indexes, reading, output)
+    encode_by_number(codec, indexes, reading, output)
 }
 
 /// Encodes the source, a text in UTF-16, by the codec of this number. An unpaired surrogate counts as U+FFFD.
@@ -112,11 +115,12 @@ pub extern "C" fn legacy_encode_from_utf16(
     ensures refused { IsRefusedToEncode codec indexes.now → result ≡ 0xFFFF_FFFF_FFFF_FFFF }
 {
     let reading = Reading {
+        calls: Raw,
         source,
         piece,
         times,
     };
-    encode_by_number::<Raw, &[u16]>(codec, indexes, reading, output)
+    encode_by_number(codec, indexes, reading, output)
 }
 
 /// Decodes the source to UTF-8 by the codec of this number, by calls with replacement.
@@ -134,11 +138,12 @@ pub extern "C" fn legacy_decode_replacing_to_utf8(
     ensures refused { IsRefused codec indexes.now → result ≡ 0xFFFF_FFFF_FFFF_FFFF }
 {
     let reading = Reading {
+        calls: Replacing,
         source,
         piece,
         times,
     };
-    decode_by_number::<Replacing, u8>(codec, indexes, reading, output)
+    decode_by_number(codec, indexes, reading, output)
 }
 
 /// Decodes the source to UTF-16 by the codec of this number, by calls with replacement.
@@ -156,11 +161,12 @@ pub extern "C" fn legacy_decode_replacing_to_utf16(
     ensures refused { IsRefused codec indexes.now → result ≡ 0xFFFF_FFFF_FFFF_FFFF }
 {
     let reading = Reading {
+        calls: Replacing,
         source,
         piece,
         times,
     };
-    decode_by_number::<Replacing, u16>(codec, indexes, reading, output)
+    decode_by_number(codec, indexes, reading, output)
 }
 
 /// Encodes the source, a text in UTF-8, by the codec of this number, by calls with replacement. A source that is no UTF-8 is refused.
@@ -182,11 +188,12 @@ pub extern "C" fn legacy_encode_replacing_from_utf8(
         return usize::MAX;
     };
     let reading = Reading {
+        calls: Replacing,
         source: text,
         piece,
         times,
     };
-    encode_by_number::<Replacing, &str>(codec, indexes, reading, output)
+    encode_by_number(codec, indexes, reading, output)
 }
 
 /// Encodes the source, a text in UTF-16, by the codec of this number, by calls with replacement. An unpaired surrogate counts as U+FFFD.
@@ -204,9 +211,10 @@ pub extern "C" fn legacy_encode_replacing_from_utf16(
     ensures refused { IsRefusedToEncode codec indexes.now → result ≡ 0xFFFF_FFFF_FFFF_FFFF }
 {
     let reading = Reading {
+        calls: Replacing,
         source,
         piece,
         times,
     };
-    encode_by_number::<Replacing, &[u16]>(codec, indexes, reading, output)
+    encode_by_number(codec, indexes, reading, output)
 }

@@ -5,9 +5,11 @@ use crate::calls::{CallEnd, Calls};
 use crate::unit::CodeUnit;
 use legacy_base::RawDecoder;
 
-/// How a source is read: in pieces of so many code units (0: in one piece), and so many times.
+/// How a source is read: by which kind of calls, in pieces of so many code units (0: in one piece), and so many times.
 #[derive(Clone, Copy)]
-pub struct Reading<S: Copy> {
+pub struct Reading<C: Calls, S: Copy> {
+    /// The kind of calls.
+    pub calls: C,
     /// The bytes of a decoder, or the text of an encoder.
     pub source: S,
     /// The length of a piece.
@@ -33,6 +35,7 @@ pub fn piece_end(read: usize, len: usize, piece: usize) -> usize
 /// stops where the output is full.
 #[inline(always)]
 fn decode_once<C: Calls, U: CodeUnit, D: RawDecoder>(
+    calls: C,
     decoder: &mut D,
     source: &[u8],
     output: &mut [U],
@@ -45,7 +48,7 @@ fn decode_once<C: Calls, U: CodeUnit, D: RawDecoder>(
     let mut end = piece_end(0, source.len(), piece);
     for _ in 0..u64::MAX {
         let last = end == source.len();
-        let (answer, more, units) = C::decode(
+        let (answer, more, units) = calls.decode(
             decoder,
             &source[read..end],
             &mut output[written..],
@@ -68,14 +71,20 @@ fn decode_once<C: Calls, U: CodeUnit, D: RawDecoder>(
 #[inline(always)]
 pub fn decode_times<C: Calls, U: CodeUnit, D: RawDecoder>(
     decoder: &mut D,
-    reading: Reading<&[u8]>,
+    reading: Reading<C, &[u8]>,
     output: &mut [U],
 ) -> usize
     ensures { result ≤ length output.new }
 {
     let mut written = 0;
     for _ in 0..reading.times {
-        written = decode_once::<C, U, D>(decoder, reading.source, output, reading.piece);
+        written = decode_once(
+            reading.calls,
+            decoder,
+            reading.source,
+            output,
+            reading.piece,
+        );
     }
     written
 }
