@@ -176,6 +176,7 @@ impl<'a> Tables<'a> {
     /// first; of the private-use rows, which come last, all of a row at once: its order, its
     /// scalar, its bytes. Empty indexes are accepted. It takes no memory, and the slices stay
     /// borrowed.
+    #[inline(always)]
     pub fn new(indexes: &Indexes<'a>) -> Result<Tables<'a>, TableError>
         ensures { MatchResult result
             (λ tables. tables.flat ≡ flat_indexes indexes.now)
