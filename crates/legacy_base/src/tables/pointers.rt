@@ -197,14 +197,66 @@ fn ranges_up_to(ranges: &[(u16, u16)], scalar: usize) -> usize
     ranges.partition_point(|range| usize::from(range.1) <= scalar)
 }
 
+/// Whether the range at the place is the last whose first scalar is at or before a scalar.
+#[inline]
+fn is_last_begun(ranges: &[(u16, u16)], place: usize, scalar: usize) -> bool
+    requires { range_order_fault 0 None ranges.now ≡ None }
+    ensures within { result ≡ true → place < length ranges.now }
+    ensures reached { result ≡ true → (k : ℕ) → k ≤ place →
+        (slice_index_or ranges.now k (0, 0)).1 ≤ scalar }
+    ensures ahead { result ≡ true → (k : ℕ) → place < k → k < length ranges.now →
+        scalar < (slice_index_or ranges.now k (0, 0)).1 }
+{
+    if place >= ranges.len() || usize::from(ranges[place].1) > scalar {
+        return false;
+    }
+    place + 1 == ranges.len() || usize::from(ranges[place + 1].1) > scalar
+}
+
+/// How many of the ranges have a first scalar at or before the scalar, of which the last is perhaps
+/// the one at the place.
+#[inline]
+fn ranges_up_to_near(ranges: &[(u16, u16)], place: usize, scalar: usize) -> usize
+    requires { range_order_fault 0 None ranges.now ≡ None }
+    ensures within { result ≤ length ranges.now }
+    ensures reached { (k : ℕ) → k < result → (slice_index_or ranges.now k (0, 0)).1 ≤ scalar }
+    ensures ahead { (k : ℕ) → result ≤ k → k < length ranges.now →
+        scalar < (slice_index_or ranges.now k (0, 0)).1 }
+{
+    if is_last_begun(ranges, place, scalar) {
+        place + 1
+    } else {
+        ranges_up_to(ranges, scalar)
+    }
+}
+
+/// For each 256 scalars of the Basic Multilingual Plane, the place of the last range whose first
+/// scalar is at or before the last of them. Nothing but time rests on it: each place is tried
+/// before it is taken.
+pub(super) fn likely_ranges(ranges: &[(u16, u16)]) -> [u8; 256]
+    requires { range_order_fault 0 None ranges.now ≡ None }
+    ensures { length result ≡ 256 }
+{
+    let mut places = [0u8; 256];
+    let mut block = 0;
+    while block < 256 {
+        let count = ranges_up_to(ranges, 256 * block + 255);
+        places[block] = count.saturating_sub(1).min(255) as u8;
+        block += 1;
+    }
+    places
+}
+
 /// The pointer of four bytes of a scalar of the Basic Multilingual Plane that is not U+E7C7.
-fn pointer_in_ranges(ranges: &[(u16, u16)], scalar: usize) -> Option<usize>
+#[inline]
+fn pointer_in_ranges(ranges: &[(u16, u16)], places: &[u8; 256], scalar: usize) -> Option<usize>
     requires ordered { range_order_fault 0 None ranges.now ≡ None }
     requires narrow { scalar < 0x1_0000 }
     requires free { scalar ≢ 0xE7C7 }
     ensures { result ≡ range_pointer_of ranges.now scalar }
 {
-    let count = ranges_up_to(ranges, scalar);
+    let likely = usize::from(places[scalar / 256]);
+    let count = ranges_up_to_near(ranges, likely, scalar);
     if count == 0 {
         return None;
     }
@@ -220,7 +272,12 @@ fn pointer_in_ranges(ranges: &[(u16, u16)], scalar: usize) -> Option<usize>
 }
 
 /// The pointer of four bytes of a scalar.
-pub(super) fn range_pointer(ranges: &[(u16, u16)], scalar: char) -> Option<usize>
+#[inline]
+pub(super) fn range_pointer(
+    ranges: &[(u16, u16)],
+    places: &[u8; 256],
+    scalar: char,
+) -> Option<usize>
     requires ordered { range_order_fault 0 None ranges.now ≡ None }
     requires valued { range_value_fault 0 ranges.now ≡ None }
     ensures { result ≡ range_pointer_of ranges.now scalar }
@@ -232,5 +289,5 @@ pub(super) fn range_pointer(ranges: &[(u16, u16)], scalar: char) -> Option<usize
     if number >= 0x1_0000 {
         return Some(189000 + (number - 0x1_0000));
     }
-    pointer_in_ranges(ranges, number)
+    pointer_in_ranges(ranges, places, number)
 }
