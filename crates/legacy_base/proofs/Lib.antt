@@ -12,6 +12,7 @@ pub mod Iso2022JpFronts
 pub mod Iso2022JpEncoding
 pub mod TableLoops
 pub mod FirstPlaces
+pub mod SearchedBlocks
 pub mod Pointers
 pub mod Accepted
 pub mod RangePointers
