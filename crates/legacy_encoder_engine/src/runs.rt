@@ -14,7 +14,7 @@ use legacy_base::{Next, Source};
 
 /// Whether the scalar is read, and has bytes.
 #[inline(always)]
-fn has_bytes(step: EncoderMove) -> bool
+pub fn has_bytes(step: EncoderMove) -> bool
     ensures { result ≡ true → (is_escape step ≡ false) × (move_report step ≡ []) }
 {
     match step {
