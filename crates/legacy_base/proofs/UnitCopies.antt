@@ -5,11 +5,10 @@ use Rattle.std.proofs.lemmas.Bool.{cases_lt}
 use Rattle.std.proofs.lemmas.List.{get_or_append_left, get_or-append-add, get_or-drop, length-take-le, get_or-take, take_all, take-append-drop, drop-drop}
 use Rattle.std.proofs.str.Utf16.{IsPair, lone_unit_char_low, lone_unit_char_high}
 use Rattle.std.proofs.lemmas.Str.{utf16_chars_lone}
-use Rattle.legacy_base.specs.EncodingForm.{Utf8, Utf16, code_units, all_code_units, total_unit_count}
+use Rattle.legacy_base.specs.EncodingForm.{Utf16, code_units, all_code_units, total_unit_count}
 use Rattle.legacy_base.specs.Texts.{unit_scalars}
-use Rattle.legacy_base.specs.UnitCodes.{IsNoSurrogate, IsAsciiCode, WritesCodes}
-use Rattle.legacy_base.proofs.Ascii.{ascii_front}
-use Rattle.legacy_base.proofs.CodeUnits.{utf16_1, length-code_units-ascii}
+use Rattle.legacy_base.specs.UnitCodes.{IsNoSurrogate, WritesCodes}
+use Rattle.legacy_base.proofs.CodeUnits.{utf16_1}
 use Rattle.legacy_base.proofs.Texts.{IsFront, front_of, replaced}
 
 -- ---- blocks
@@ -58,45 +57,6 @@ block_behind gives units old new front at copied r block marks within few long c
     byte k h l =
         let index : k ≡ length writes.bytes + (k - copied) = omega (arith, writes.count) in
         ap (λ n. get_or (writes.bytes ++ take r block) n 0) index ∙ get_or-append-add writes.bytes (take r block) (k - copied) 0 ∙ get_or-take r block (k - copied) 0 (omega arith)
-
--- ASCII is no surrogate
-ascii_is_lone : (u : ℕ) → u < 128 → IsNoSurrogate u
-ascii_is_lone u h = λ g. absurd (omega arith)
-
--- the same of ASCII
-pub ascii_behind_ascii : (gives : ℕ → ℕ → Type 0) (text old new front : List ℕ) (at copied r : ℕ) (block marks : List ℕ)
-    → copied + 16 ≤ length text → r ≤ 16 → length block ≡ 16
-    → ((k : ℕ) → k < 16 → get_or marks k 0 < 128 → IsAsciiCode gives (get_or (take (length text - copied) (drop copied text)) k 0) (get_or block k 0))
-    → IsAscii (take r marks) → take (at + copied + r) new ≡ take (at + copied) old ++ take r block
-    → WritesCodes (IsAsciiCode gives) text copied front (take (at + copied) old)
-    → WritesCodes (IsAsciiCode gives) text (copied + r) front (take (at + (copied + r)) new)
-ascii_behind_ascii gives text old new front at copied r block marks within few long codes ascii stored writes =
-    (block_behind (IsAsciiCode gives) text old new front at copied r block marks within few long (λ k h m. let c = codes k h m in (ascii_is_lone _ c.0, c)) ascii stored
-    (λ k h. ascii_is_lone _ (writes.each k h).0) writes).writes
-
--- a front of which each byte has an ASCII code is ASCII
-pub codes_ascii : (gives : ℕ → ℕ → Type 0) (text : List ℕ) (n : ℕ) (old new : List ℕ) → WritesCodes (IsAsciiCode gives) text n old new → IsAscii (take n text)
-codes_ascii gives text n old new w = ascii_front text n (λ k h. (w.each k h).0)
-
--- scalars that are the bytes of this front have its codes
-pub codes_of_front : (gives : ℕ → ℕ → Type 0) (text scalars : List ℕ) (n : ℕ) (old new : List ℕ) → take n text ≡ take n scalars
-    → WritesCodes (IsAsciiCode gives) text n old new → WritesCodes gives scalars n old new
-codes_of_front gives text scalars n old new same w = record {
-  bytes = w.bytes;
-  new_is = w.new_is;
-  count = w.count;
-  each = λ k h.
-      let scalar : get_or text k 0 ≡ get_or scalars k 0 = sym (get_or-take n text k 0 h) ∙ ap (λ l. get_or l k 0) same ∙ get_or-take n scalars k 0 h in
-      subst (λ c. gives c (get_or w.bytes k 0)) scalar (w.each k h).1;
-}
-
--- ASCII scalars have one byte each in UTF-8
-pub ascii_bytes_count : (front : List ℕ) → IsAscii front → total_unit_count Utf8 front ≡ length front
-ascii_bytes_count [] a = refl
-ascii_bytes_count (c ∷ front) a =
-    let one : length (code_units Utf8 c) ≡ 1 = length-code_units-ascii Utf8 c (a 0) in
-    let others = ascii_bytes_count front (λ i. a (suc i)) in
-    omega (arith, length-append (code_units Utf8 c) (all_code_units Utf8 front))
 
 -- nothing was written yet
 pub writes_none : (gives : ℕ → ℕ → Type 0) (units old new : List ℕ) → new ≡ old → WritesCodes gives units 0 old new

@@ -5,10 +5,6 @@ use Rattle.std.specs.Prelude.{◌≡◌, ℕ, ◌<◌, ◌≤◌, List, ◌++◌
 abbrev pub IsNoSurrogate : ℕ → Type 0
 IsNoSurrogate unit = 0xD800 ≤ unit → 0xE000 ≤ unit
 
--- the scalar is ASCII, and may be written as the byte
-abbrev pub IsAsciiCode : (ℕ → ℕ → Type 0) → ℕ → ℕ → Type 0
-IsAsciiCode gives c byte = (c < 0x80) × gives c byte
-
 -- Behind the old bytes stand new ones: for each of the first n scalars a byte that it may have.
 pub record WritesCodes (gives : ℕ → ℕ → Type 0) (scalars : List ℕ) (n : ℕ) (old new : List ℕ) : Type 0 where
   pub bytes : List ℕ

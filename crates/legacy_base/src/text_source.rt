@@ -7,7 +7,7 @@ ghost use Rattle.legacy_base.specs.NextScalars.{IsSized, IsNext};
 ghost use Rattle.legacy_base.specs.UnitCodes.{WritesCodes};
 
 use crate::blocks::{copy_ascii_bytes, copy_ascii_units};
-use crate::unit_codes::{UnitCodes, copy_ascii_codes, copy_unit_codes};
+use crate::unit_codes::{UnitCodes, copy_unit_codes};
 
 /// The next scalar of a text, by the number of its code units.
 #[derive(Clone, Copy)]
@@ -77,7 +77,7 @@ pub trait Source {
         ensures bytes { take (at + result) dst.new
             ≡ take at dst.old ++ take result (left self.old) };
 
-    /// Whether `copy_codes` may go on, and past ASCII. It is a hint: any answer will do.
+    /// Whether `copy_codes` may go on. It is a hint: any answer will do.
     #[inline(always)]
     fn has_blocks(&self) -> bool {
         false
@@ -225,15 +225,6 @@ impl Source for Utf8Source<'_> {
     #[inline]
     fn copy_ascii(&mut self, dst: &mut [u8], at: usize) -> usize {
         let count = copy_ascii_bytes(&self.text.as_bytes()[self.place..], dst, at);
-        self.place += count;
-        count
-    }
-
-    // Of scalars of one code unit UTF-8 has only ASCII, which `copy_ascii` copies faster where every byte is
-    // itself: so `has_blocks` stays as it is.
-    #[inline]
-    fn copy_codes<C: UnitCodes>(&mut self, codes: &C, dst: &mut [u8], at: usize) -> usize {
-        let count = copy_ascii_codes(codes, &self.text.as_bytes()[self.place..], dst, at);
         self.place += count;
         count
     }

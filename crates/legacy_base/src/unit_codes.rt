@@ -1,7 +1,7 @@
-//! Code units of UTF-16 that have a byte each, and ASCII of UTF-8 that has, sixteen at a time.
+//! Code units of UTF-16 that have a byte each, sixteen at a time.
 // Inlined always is what runs for each block: a call would pass the vector through memory.
 ghost use Rattle.std.specs.Prelude.{◌≡◌, ℕ, ◌+◌, ◌-◌, ◌<◌, ◌≤◌, ◌++◌, length, take, slice_index, IsAscii, true};
-ghost use Rattle.legacy_base.specs.UnitCodes.{IsNoSurrogate, IsAsciiCode, WritesCodes};
+ghost use Rattle.legacy_base.specs.UnitCodes.{IsNoSurrogate, WritesCodes};
 
 use crate::blocks::ascii_count;
 use std::simd::prelude::*;
@@ -79,69 +79,6 @@ pub(crate) fn copy_unit_codes<C: UnitCodes>(
     let mut copied = 0;
     while units.len() - copied >= 16 && most - copied >= 16 {
         let (bytes, marks) = code_block(codes, &units[copied..]);
-        let count = store_marked(
-            dst,
-            at + copied,
-            u8x16::from_array(bytes),
-            u8x16::from_array(marks),
-        );
-        copied += count;
-        if count < 16 {
-            return copied;
-        }
-    }
-    copied
-}
-
-/// The byte where it is ASCII and is known, and else one past ASCII.
-#[inline(always)]
-fn mark_of(is_known: bool, byte: u8) -> u8
-    ensures { result < 0x80 → (is_known ≡ true) × (byte < 0x80) }
-{
-    if is_known { byte } else { 0xFF }
-}
-
-/// The bytes of sixteen bytes of a text that are ASCII, and marks, which are ASCII where the byte is and has
-/// one.
-#[inline(always)]
-fn ascii_code_block<C: UnitCodes>(codes: &C, text: &[u8]) -> ([u8; 16], [u8; 16])
-    requires { 16 ≤ length text.now }
-    ensures bytes { length result.0 ≡ 16 }
-    ensures marks { length result.1 ≡ 16 }
-    ensures codes { (k : ℕ) → k < 16 → slice_index result.1 k < 0x80 →
-        IsAsciiCode (C.gives codes.now) (slice_index text.now k) (slice_index result.0 k) }
-{
-    let mut bytes = [0u8; 16];
-    let mut marks = [0u8; 16];
-    let mut k = 0;
-    while k < 16 {
-        let (byte, is_known) = codes.byte_of(u16::from(text[k]));
-        bytes[k] = byte;
-        marks[k] = mark_of(is_known, text[k]);
-        k += 1;
-    }
-    (bytes, marks)
-}
-
-/// Writes the bytes of ASCII from the front of a text, by blocks and as far as it has one, to the place `at`
-/// and on. Answers how many.
-#[inline]
-pub(crate) fn copy_ascii_codes<C: UnitCodes>(
-    codes: &C,
-    text: &[u8],
-    dst: &mut [u8],
-    at: usize,
-) -> usize
-    requires { at ≤ length dst.old }
-    ensures read { result ≤ length text.now }
-    ensures fits { at + result ≤ length dst.old }
-    ensures writes { WritesCodes (IsAsciiCode (C.gives codes.now)) text.now result
-        (take at dst.old) (take (at + result) dst.new) }
-{
-    let most = dst.len() - at;
-    let mut copied = 0;
-    while text.len() - copied >= 16 && most - copied >= 16 {
-        let (bytes, marks) = ascii_code_block(codes, &text[copied..]);
         let count = store_marked(
             dst,
             at + copied,
