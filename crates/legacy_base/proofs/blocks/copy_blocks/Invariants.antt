@@ -1,5 +1,5 @@
 use Rattle.std.proofs.Common.{◌≡◌, ◌+◌, ◌-◌, ◌≤◌, ◌++◌, length, take, IsAscii}
-use Rattle.legacy_base.proofs.blocks.copy_ascii_bytes.Given as goal
+use Rattle.legacy_base.proofs.blocks.copy_blocks.Given as goal
 
 -- so many were copied, and they are ASCII
 abbrev pub invariant-loop-copied : goal.invariant-loop-copied
