@@ -3,3 +3,6 @@ pub mod IndexGrammars
 pub mod IndexLines
 pub mod IndexNumbers
 pub mod IndexValues
+pub mod PackingRuns
+pub mod PackingOrders
+pub mod PackingFaults

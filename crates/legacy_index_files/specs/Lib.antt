@@ -2,3 +2,4 @@
 pub mod IndexGrammar
 pub mod IndexLine
 pub mod IndexTable
+pub mod Packing

@@ -5,5 +5,7 @@
 mod index_file;
 mod index_line;
 mod index_table;
+mod packing;
 
 pub use index_file::{FileIndex, FileTable, IndexFileError, read_index};
+pub use packing::{OwnedPacked, pack};
