@@ -1,4 +1,5 @@
 -- Laws of the lines of an index file, of their grammar and of their table.
+pub mod EmptyIndexes
 pub mod IndexGrammars
 pub mod IndexLines
 pub mod IndexNumbers
