@@ -16,7 +16,7 @@ use Rattle.legacy_base.specs.TableChecks.{AreAccepted, is_narrow_entry, table_fa
 use Rattle.legacy_base.specs.Packed.{all_runs_fault, all_orders_fault, runs_fault, pointers_fault}
 use Rattle.legacy_base.proofs.Accepted.{parts, all_entries, euc_kr-below, jis0208-below, jis0212-below, gb18030-below}
 use Rattle.legacy_index_files.specs.declared.packing.OwnedPacked.{OwnedPacked}
-use Rattle.legacy_index_files.specs.Packing.{AreBelow, GivesIndex, IsOrderOf, HasParts, IsPackOf}
+use Rattle.legacy_index_files.specs.Packing.{AreBelow, GivesIndex, IsOrderOf, HasParts, HasLongestRuns, IsPackOf}
 
 -- ---- the entries of accepted indexes
 
@@ -108,5 +108,5 @@ module _ (flat : FlatIndexes) (owned : OwnedPacked) (made : AreMade flat owned) 
   no_more_faults (Some fault) e = refl
   no_more_faults None e = rw (runs_whole e) (orders_whole e)
 
-pub pack-made : (flat : FlatIndexes) (owned : OwnedPacked) → AreMade flat owned → IsPackOf flat owned
-pack-made flat owned made = record { faults = λ packed has. no_more_faults flat owned made packed has (table_fault flat) refl }
+pub pack-made : (flat : FlatIndexes) (owned : OwnedPacked) → AreMade flat owned → HasLongestRuns owned → IsPackOf flat owned
+pack-made flat owned made longest = record { faults = λ packed has. no_more_faults flat owned made packed has (table_fault flat) refl; longest = longest }

@@ -1,17 +1,17 @@
 -- The runs that a loop has made of the pointers so far, and that they are accepted at its end.
 use Rattle.std.proofs.Common.{◌≡◌, ◌≢◌, ◌∙◌, ℕ, ◌+◌, ◌-◌, ◌≤◌, ◌<◌, List, [], ◌∷◌, ◌++◌, length, get_or, refl, sym, ap, arith, Some, None, Option, true, false, Bool, cond, not, ◌==◌, inl, inr}
-use Rattle.std.proofs.lemmas.Bool.{cases_lt, cases_eq, ne_eqb}
-use Rattle.std.proofs.lemmas.List.{get_or_past}
+use Rattle.std.proofs.lemmas.Bool.{cases_lt, ne_eqb}
+use Rattle.std.proofs.lemmas.List.{get_or_past, get_or_append_left, get_or_push, length_push}
 use Rattle.std.proofs.Common.{eq-eqb}
 use Rattle.std.specs.Option.{option_or, option_eq}
 use borrow.Author.Tests.{le-leb, lt-ltb}
 use Rattle.legacy_base.specs.declared.tables.packed.Run.{Run}
-use Rattle.legacy_base.specs.Indexes.{idx, entry_scalar}
+use Rattle.legacy_base.specs.Indexes.{idx}
 use Rattle.legacy_base.specs.Runs.{run_end, run_scalar, runs_scalar, is_run_in_order, run_fault_from, run_fault}
 use Rattle.legacy_base.specs.Packed.{differs_at, run_difference}
 use Rattle.legacy_base.proofs.FirstPlaces.{find-none}
-use Rattle.legacy_base.proofs.PackedRuns.{outside-before, outside-behind, scalar-inside}
-use Rattle.legacy_index_files.specs.Packing.{AreBelow, GivesIndex}
+use Rattle.legacy_base.proofs.PackedRuns.{outside-before, outside-behind}
+use Rattle.legacy_index_files.specs.Packing.{AreBelow, GivesIndex, AreLongest}
 
 -- ---- one run more
 
@@ -52,7 +52,57 @@ scalar-push (r ∷ runs) run p = ap (option_or (run_scalar r p)) (scalar-push ru
 inside : (run : Run) (p : ℕ) → run.pointer ≤ p → p < run_end run → run_scalar run p ≡ Some (run.scalar + (p - run.pointer))
 inside run p h l = rw (le-leb run.pointer p h, lt-ltb p (run_end run) l) refl
 
--- ---- the runs of the pointers below p
+-- ---- the runs of the pointers below p, each as long as it can be
+
+-- The runs end at p or before. Where the last one ends at p, the pointer p does not go on with it.
+pub record AreLongestBelow (p : ℕ) (index : List ℕ) (runs : List Run) : Type 0 where
+  pub longest : AreLongest runs
+  pub reach : (i : ℕ) (d : Run) → i < length runs → run_end (get_or runs i d) ≤ p
+  pub stops : (i : ℕ) (d : Run) → i + 1 ≡ length runs → run_end (get_or runs i d) ≡ p → p < length index →
+      (get_or runs i d).scalar + (get_or runs i d).length ≢ get_or index p 0
+
+pub none-longest : (index : List ℕ) → AreLongestBelow 0 index []
+none-longest index = record {
+  longest = record { ends = λ i d h. absurd (omega arith) };
+  reach = λ i d h. absurd (omega arith);
+  stops = λ i d h. absurd (omega arith);
+}
+
+module _ (p : ℕ) (index : List ℕ) (runs : List Run) (so_far : AreLongestBelow p index runs) where
+  pub longest-skipped : AreLongestBelow (p + 1) index runs
+  longest-skipped = record {
+    longest = so_far.longest;
+    reach = λ i d h. let l = so_far.reach i d h in omega arith;
+    stops = λ i d h e. let l = so_far.reach i d (omega arith) in absurd (omega arith);
+  }
+
+  module _ (run : Run) (starts : run.pointer ≡ p) (scalar : run.scalar ≡ get_or index p 0) (within : p + run.length ≤ length index) (some : 0 < run.length)
+      (longest : p + run.length < length index → get_or index (p + run.length) 0 ≢ get_or index p 0 + run.length) where
+    before : (i : ℕ) (d : Run) → i < length runs → get_or (runs ++ run ∷ []) i d ≡ get_or runs i d
+    before i d h = get_or_append_left runs (run ∷ []) d i h
+
+    last : (i : ℕ) (d : Run) → length runs ≡ i → get_or (runs ++ run ∷ []) i d ≡ run
+    last i d e = get_or_push runs run d i e
+
+    pub longest-added : AreLongestBelow (p + run.length) index (runs ++ run ∷ [])
+    longest-added = record {
+      longest = record {
+        ends = λ i d h. let more = length_push runs run in elim (cases_lt (i + 1) (length runs)) [
+          | inl l ↦ rw (before i d (omega arith), before (i + 1) d l) (so_far.longest.ends i d l)
+          | inr l ↦
+              rw (before i d (omega arith), last (i + 1) d (omega arith))
+              (λ e same. so_far.stops i d (omega arith) (e ∙ starts) (omega arith) (same ∙ scalar))
+        ];
+      };
+      reach = λ i d h. let more = length_push runs run in elim (cases_lt i (length runs)) [
+        | inl l ↦ rw (before i d l) (let r = so_far.reach i d l in omega arith)
+        | inr l ↦ rw (last i d (omega arith)) (omega arith)
+      ];
+      stops = λ i d h. let more = length_push runs run in
+          rw (last i d (omega arith)) (λ e l same. longest l (sym same ∙ ap (λ s. s + run.length) scalar));
+    }
+
+-- ---- what they give
 
 pub record AreRunsBelow (limit p : ℕ) (index : List ℕ) (runs : List Run) : Type 0 where
   pub ordered : AreBelow 0x11_0000 index → run_fault limit runs ≡ None

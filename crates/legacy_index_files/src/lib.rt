@@ -6,9 +6,11 @@ mod index_file;
 mod index_line;
 mod index_table;
 mod owned_indexes;
+mod packed_indexes;
 mod packing;
 
 pub use index_file::{FileIndex, FileTable, IndexFileError, read_index};
 pub use legacy_base::GB18030_2022_PUA;
 pub use owned_indexes::OwnedIndexes;
+pub use packed_indexes::PackedIndexes;
 pub use packing::{OwnedPacked, pack};

@@ -1,4 +1,4 @@
-//! Packs flat indexes: their runs, and the orders of the pointers that encoders take.
+//! Packs flat indexes: makes their runs, and the orders of the pointers that encoders take.
 ghost use Rattle.std.specs.Prelude.{IfOk};
 ghost use Rattle.legacy_base.specs.Tables.{flat_indexes};
 ghost use Rattle.legacy_index_files.specs.Packing.{HasParts, IsPackOf};
@@ -12,18 +12,19 @@ use orders::{narrow_order, wide_order};
 use runs::{narrow_runs, wide_runs};
 use std::alloc::{AllocError, Global};
 
-/// Packed indexes with their memory. `packed` lends them as `legacy_base` takes them.
+/// Packed indexes with their memory, by the parts of `legacy_base::Packed`. They are not checked:
+/// `Tables::packed_of` does that, which takes what `packed` lends.
 #[derive(Debug, Drop)]
 pub struct OwnedPacked {
-    /// Index Big5.
+    /// The runs of index Big5.
     pub big5: Vec<Run>,
-    /// Index EUC-KR.
+    /// The runs of index EUC-KR.
     pub euc_kr: Vec<Run>,
-    /// Index jis0208.
+    /// The runs of index jis0208.
     pub jis0208: Vec<Run>,
-    /// Index jis0212.
+    /// The runs of index jis0212.
     pub jis0212: Vec<Run>,
-    /// Index gb18030.
+    /// The runs of index gb18030.
     pub gb18030: Vec<Run>,
     /// The pointers of Big5's encoder.
     pub big5_order: Vec<u16>,
@@ -38,7 +39,7 @@ pub struct OwnedPacked {
 }
 
 impl OwnedPacked {
-    /// The ten parts, borrowed.
+    /// The ten parts, borrowed. It takes no memory.
     pub fn packed(&self) -> Packed<'_>
         ensures { HasParts self.now result }
     {
@@ -57,7 +58,18 @@ impl OwnedPacked {
     }
 }
 
-/// Packs flat indexes.
+/// Packs flat indexes: for each of five its runs, and for five codecs the pointers that their
+/// encoders take, in the order of their scalar values (Encoding Standard, "Indexes"). A run is as long
+/// as it can be: it ends before the first pointer that is not mapped, or whose scalar value is not one
+/// more than that before.
+///
+/// `Tables::packed_of` accepts what is made of indexes that `Tables::new` accepts. Of others it answers
+/// the fault that `Tables::new` answers, since it checks the flat indexes first. The only other answer
+/// is that memory was refused.
+///
+/// The work is near linear: a pass over each index for its runs, and for each order one over the index
+/// and one over all scalar values up to U+FFFF, in Big5 up to U+2FFFF. While an order is made, a table
+/// of these takes 4 bytes each.
 pub fn pack(alloc: Global, indexes: &Indexes<'_>) -> Result<OwnedPacked, AllocError>
     ensures { IfOk result (IsPackOf (flat_indexes indexes.now)) }
 {
@@ -84,3 +96,6 @@ pub fn pack(alloc: Global, indexes: &Indexes<'_>) -> Result<OwnedPacked, AllocEr
         gb18030_order,
     })
 }
+
+#[cfg(test)]
+mod tests;

@@ -1,6 +1,6 @@
 //! The runs of a flat index.
 ghost use Rattle.std.specs.Prelude.{◌≡◌, ◌≢◌, ℕ, ◌+◌, ◌<◌, ◌≤◌, IfOk, length, slice_index};
-ghost use Rattle.legacy_index_files.specs.Packing.{GivesIndex};
+ghost use Rattle.legacy_index_files.specs.Packing.{GivesIndex, AreLongest};
 
 use super::entries::{Entries, Narrow, Wide, below};
 use legacy_base::Run;
@@ -32,7 +32,8 @@ fn run_length<E: Entries>(index: &E, pointer: usize, end: usize) -> usize
 fn runs_of<E: Entries>(alloc: Global, limit: usize, index: &E) -> Result<Vec<Run>, AllocError>
     requires small { limit ≤ 23940 }
     requires few { length (E.entries index.now) ≤ limit }
-    ensures { IfOk result (λ runs. GivesIndex limit (E.entries index.now) runs.items) }
+    ensures index { IfOk result (λ runs. GivesIndex limit (E.entries index.now) runs.items) }
+    ensures longest { IfOk result (λ runs. AreLongest runs.items) }
 {
     let mut runs = Vec::new(alloc);
     let mut pointer = 0;
@@ -60,8 +61,9 @@ pub(crate) fn wide_runs(
     entries: &[u32],
 ) -> Result<Vec<Run>, AllocError>
     requires { limit ≤ 23940 }
-    ensures { IfOk result (λ runs. length entries.now ≤ limit →
+    ensures index { IfOk result (λ runs. length entries.now ≤ limit →
         GivesIndex limit entries.now runs.items) }
+    ensures longest { IfOk result (λ runs. AreLongest runs.items) }
 {
     let index = Wide {
         entries: below(limit, entries),
@@ -76,8 +78,9 @@ pub(crate) fn narrow_runs(
     entries: &[u16],
 ) -> Result<Vec<Run>, AllocError>
     requires { limit ≤ 23940 }
-    ensures { IfOk result (λ runs. length entries.now ≤ limit →
+    ensures index { IfOk result (λ runs. length entries.now ≤ limit →
         GivesIndex limit entries.now runs.items) }
+    ensures longest { IfOk result (λ runs. AreLongest runs.items) }
 {
     let index = Narrow {
         entries: below(limit, entries),
