@@ -1,5 +1,6 @@
--- Laws of the lines of an index file, of their grammar and of their table.
+-- Laws of the lines of an index file, of their grammar and of their table, and of the names of encodings.
 pub mod EmptyIndexes
+pub mod EncodingNames
 pub mod IndexGrammars
 pub mod IndexLines
 pub mod IndexNumbers

@@ -1,4 +1,5 @@
--- What an index file says, and what a set of indexes holds.
+-- What an index file says, what a set of indexes holds, and the encodings.
+pub mod Encodings
 pub mod IndexGrammar
 pub mod IndexLine
 pub mod IndexTable

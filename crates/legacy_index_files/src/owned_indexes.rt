@@ -68,6 +68,7 @@ impl OwnedIndexes {
         ensures texts { (texts : FileIndex → List ℕ) (text : List ℕ) → HoldsTexts texts self.old
             → IsTableOf name (entries_of name (lines text)) table
             → HoldsTexts (with_text texts name text) self.new }
+        ensures katakana { self.new.katakana ≡ self.old.katakana }
     {
         match (name, table) {
             (FileIndex::Big5, FileTable::Wide(values)) => self.big5 = values,
@@ -141,3 +142,6 @@ impl OwnedIndexes {
         SingleByteTable::new(&self.single_byte)
     }
 }
+
+#[cfg(test)]
+mod tests;
