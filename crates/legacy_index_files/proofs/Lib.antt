@@ -5,3 +5,6 @@ pub mod IndexGrammars
 pub mod IndexLines
 pub mod IndexNumbers
 pub mod IndexValues
+pub mod PackingRuns
+pub mod PackingOrders
+pub mod PackingFaults

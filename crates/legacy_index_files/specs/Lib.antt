@@ -5,3 +5,4 @@ pub mod IndexLine
 pub mod IndexTable
 pub mod IndexTexts
 pub mod OwnedIndexes
+pub mod Packing
