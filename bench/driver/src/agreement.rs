@@ -101,11 +101,16 @@ fn any_units() -> Vec<u16> {
     units
 }
 
+/// How much shorter a text is that is encoded over flat tables where there are packed ones: these are searched.
+const FLAT_SHARE: usize = 10;
+
 /// Compares what both write of this text from UTF-8 and from UTF-16, by raw calls and by those with replacement.
 fn agree_back(codecs: &[Ours], encoding: &'static Encoding, units: &[u16], what: &str) -> Result<(), String> {
-    let text = FromUtf8::units(&String::from_utf16_lossy(units));
     let failed = |error| format!("{what} in {}: {error}", encoding.name());
-    for ours in codecs {
+    for (at, ours) in codecs.iter().enumerate() {
+        let is_searched = at + 1 < codecs.len();
+        let units = if is_searched { &units[..units.len() / FLAT_SHARE] } else { units };
+        let text = FromUtf8::units(&String::from_utf16_lossy(units));
         for calls in [Calls::Raw, Calls::Replacing] {
             encoding::compare::<FromUtf8>(ours, encoding, calls, &text).map_err(failed)?;
             encoding::compare::<FromUtf16>(ours, encoding, calls, units).map_err(failed)?;

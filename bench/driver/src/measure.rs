@@ -6,8 +6,9 @@ use std::time::Duration;
 /// A call that writes to an output, and answers how many code units it wrote.
 pub type Call<'a, W> = Box<dyn Fn(&mut [W]) -> usize + 'a>;
 
-/// How long each call of a cell is timed at the least: the best of a few short calls moves from run to run.
-const LEAST_TIME: Duration = Duration::from_millis(70);
+/// How long each call of a cell is timed at the least, for each time that it is made at the least: the best of a few
+/// short calls moves from run to run.
+const LEAST_TIME: Duration = Duration::from_micros(3500);
 
 /// How long it is timed at the most, once it was made twice: some are a hundred times as slow as others.
 const MOST_TIME: Duration = Duration::from_millis(300);
@@ -45,7 +46,7 @@ impl Times {
     }
 
     fn is_done(&self, times: usize) -> bool {
-        (self.count >= times && self.all >= LEAST_TIME) || (self.count >= 2 && self.all >= MOST_TIME)
+        (self.count >= times && self.all >= LEAST_TIME * times as u32) || (self.count >= 2 && self.all >= MOST_TIME)
     }
 }
 

@@ -45,15 +45,31 @@ pub fn decode<C: Calls, U: CodeUnit>(
         }
         Codec::Big5 => decode_times::<C, U, _>(&mut Big5Decoder::new(&tables), reading, output),
         Codec::EucJp => decode_times::<C, U, _>(&mut EucJpDecoder::new(&tables), reading, output),
-        Codec::Iso2022Jp => decode_times::<C, U, _>(&mut Iso2022JpDecoder::new(&tables), reading, output),
-        Codec::ShiftJis => decode_times::<C, U, _>(&mut ShiftJisDecoder::new(&tables), reading, output),
+        Codec::Iso2022Jp => decode_times::<C, U, _>(
+            &mut Iso2022JpDecoder::new(&tables),
+            reading,
+            output,
+        ),
+        Codec::ShiftJis => decode_times::<C, U, _>(
+            &mut ShiftJisDecoder::new(&tables),
+            reading,
+            output,
+        ),
         Codec::EucKr => decode_times::<C, U, _>(&mut EucKrDecoder::new(&tables), reading, output),
-        Codec::Replacement => decode_times::<C, U, _>(&mut ReplacementDecoder::new(), reading, output),
+        Codec::Replacement => decode_times::<C, U, _>(
+            &mut ReplacementDecoder::new(),
+            reading,
+            output,
+        ),
         Codec::Utf16Be | Codec::Utf16Le => {
             let big_endian = matches!(codec, Codec::Utf16Be);
             decode_times::<C, U, _>(&mut Utf16Decoder::new(big_endian), reading, output)
         }
-        Codec::UserDefined => decode_times::<C, U, _>(&mut UserDefinedDecoder::new(), reading, output),
+        Codec::UserDefined => decode_times::<C, U, _>(
+            &mut UserDefinedDecoder::new(),
+            reading,
+            output,
+        ),
     };
     Some(written)
 }

@@ -86,14 +86,34 @@ pub fn encode<C: Calls, T: Text>(
     };
     let written = match codec {
         Codec::SingleByte => return encode_single_byte::<C, T>(indexes, reading, output),
-        Codec::Gbk => encode_times::<C, T, _>(&mut Gb18030Encoder::new(&tables, false), reading, output),
-        Codec::Gb18030 => encode_times::<C, T, _>(&mut Gb18030Encoder::new(&tables, true), reading, output),
+        Codec::Gbk => encode_times::<C, T, _>(
+            &mut Gb18030Encoder::new(&tables, false),
+            reading,
+            output,
+        ),
+        Codec::Gb18030 => encode_times::<C, T, _>(
+            &mut Gb18030Encoder::new(&tables, true),
+            reading,
+            output,
+        ),
         Codec::Big5 => encode_times::<C, T, _>(&mut Big5Encoder::new(&tables), reading, output),
         Codec::EucJp => encode_times::<C, T, _>(&mut EucJpEncoder::new(&tables), reading, output),
-        Codec::Iso2022Jp => encode_times::<C, T, _>(&mut Iso2022JpEncoder::new(&tables), reading, output),
-        Codec::ShiftJis => encode_times::<C, T, _>(&mut ShiftJisEncoder::new(&tables), reading, output),
+        Codec::Iso2022Jp => encode_times::<C, T, _>(
+            &mut Iso2022JpEncoder::new(&tables),
+            reading,
+            output,
+        ),
+        Codec::ShiftJis => encode_times::<C, T, _>(
+            &mut ShiftJisEncoder::new(&tables),
+            reading,
+            output,
+        ),
         Codec::EucKr => encode_times::<C, T, _>(&mut EucKrEncoder::new(&tables), reading, output),
-        Codec::UserDefined => encode_times::<C, T, _>(&mut UserDefinedEncoder::new(), reading, output),
+        Codec::UserDefined => encode_times::<C, T, _>(
+            &mut UserDefinedEncoder::new(),
+            reading,
+            output,
+        ),
         Codec::Replacement | Codec::Utf16Be | Codec::Utf16Le => return None,
     };
     Some(written)
