@@ -4,7 +4,8 @@
 //! Arguments: words that a line must have, as `ja-text`, `Big5`, or the name of a table (`decode`, `encode`,
 //! `replace`, `flat`, `checks`), or `recode` for the program's table (none: all lines of all are made), and a number:
 //! how many times at the least each call of a codec is timed. Or `agreement`: all codecs are compared and nothing is
-//! timed. Or `medians` and the files of the tables of several builds, of which one table is made.
+//! timed. Or `sources`: the packed indexes are printed as source text. Or `medians` and the files of the tables of
+//! several builds, of which one table is made.
 
 mod agreement;
 mod checks;
@@ -20,6 +21,7 @@ mod peers;
 mod pieces;
 mod recode;
 mod replacing;
+mod sources;
 mod theirs;
 
 use decoding::Codec;
@@ -177,6 +179,10 @@ fn main() -> Result<(), String> {
     }
     if std::env::args().nth(1).is_some_and(|word| word == "agreement") {
         return agreement::report();
+    }
+    if std::env::args().nth(1).is_some_and(|word| word == "sources") {
+        sources::print();
+        return Ok(());
     }
     let (numbers, mut words): (Vec<String>, Vec<String>) = std::env::args().skip(1).partition(|word| word.parse::<usize>().is_ok());
     let times = numbers.first().map_or(Ok(20), |number| number.parse()).map_err(|_| "not a number".to_string())?;
