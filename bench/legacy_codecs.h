@@ -1,9 +1,11 @@
 /* The codecs of the WHATWG Encoding Standard's legacy encodings, as the static library
  * legacy_exports offers them to other languages: a function for each direction and each encoding
- * form, and a number for each codec, which all of the functions share. */
+ * form, by raw calls and by calls with replacement, and a number for each codec, which all of the
+ * functions share. */
 #ifndef LEGACY_CODECS_H
 #define LEGACY_CODECS_H
 
+#include <stdbool.h>
 #include <stddef.h>
 #include <stdint.h>
 
@@ -48,6 +50,45 @@ struct legacy_byte_run {
     uint8_t length;
 };
 
+/* A run of an index: length pointers from the pointer on have the scalar values from scalar on. */
+struct legacy_run {
+    uint32_t scalar;
+    uint16_t pointer;
+    uint16_t length;
+};
+
+/* The indexes as runs, in the order of their pointers, and for each encoder the pointers that it
+ * takes, in the order of their scalar values: each as a pointer to its entries and then their number.
+ * They are checked beside the flat indexes, and must give the same. */
+struct legacy_packed {
+    const struct legacy_run *big5;
+    size_t big5_length;
+    const struct legacy_run *euc_kr;
+    size_t euc_kr_length;
+    const struct legacy_run *jis0208;
+    size_t jis0208_length;
+    const struct legacy_run *jis0212;
+    size_t jis0212_length;
+    const struct legacy_run *gb18030;
+    size_t gb18030_length;
+    /* of each scalar value the first pointer from 5024 on, and of U+2550, U+255E, U+2561, U+256A,
+     * U+5341 and U+5345 the last */
+    const uint16_t *big5_order;
+    size_t big5_order_length;
+    /* of each scalar value the first pointer */
+    const uint16_t *euc_kr_order;
+    size_t euc_kr_order_length;
+    /* of each scalar value the first pointer of jis0208 outside 8272 to 8835 */
+    const uint16_t *shift_jis_order;
+    size_t shift_jis_order_length;
+    /* of each scalar value the first pointer of jis0208 below 8836: EUC-JP and ISO-2022-JP */
+    const uint16_t *euc_jp_order;
+    size_t euc_jp_order_length;
+    /* of each scalar value the first pointer: GBK and gb18030 */
+    const uint16_t *gb18030_order;
+    size_t gb18030_order_length;
+};
+
 /* The standard's indexes, each as a pointer to its entries and then their number. Entry p of an
  * index is the scalar value of pointer p, or 0 where it has none; pointers past the end have none
  * either. An index that the codec does not read by may be empty, with any pointer that is aligned
@@ -83,12 +124,17 @@ struct legacy_indexes {
     /* the run that the encoder of the single-byte encoding takes, which refuses one that the index
      * does not have; no decoder looks at it */
     struct legacy_byte_run single_byte_run;
+    /* whether packed tables are made, of the flat indexes above and what follows: by these encoders
+     * find a pointer without a search; otherwise flat tables, and nothing looks at what follows */
+    bool is_packed;
+    struct legacy_packed packed;
 };
 
 /* Decoders.
  *
  * They decode the whole source and write it from the front of the output. For each malformed sequence
- * they write U+FFFD. They stop where the output has no room for what comes next.
+ * they write U+FFFD: behind a raw call, or by calls that do so themselves. They stop where the output
+ * has no room for what comes next.
  *
  * codec:         the number of a codec, one of enum legacy_codec
  * indexes:       the indexes; they are only read
@@ -115,11 +161,23 @@ size_t legacy_decode_to_utf16(uint32_t codec, const struct legacy_indexes *index
                               uint16_t *output, size_t output_length,
                               size_t piece, size_t times);
 
+/* The same two by calls with replacement. */
+size_t legacy_decode_replacing_to_utf8(uint32_t codec, const struct legacy_indexes *indexes,
+                                       const uint8_t *source, size_t source_length,
+                                       uint8_t *output, size_t output_length,
+                                       size_t piece, size_t times);
+
+size_t legacy_decode_replacing_to_utf16(uint32_t codec, const struct legacy_indexes *indexes,
+                                        const uint8_t *source, size_t source_length,
+                                        uint16_t *output, size_t output_length,
+                                        size_t piece, size_t times);
+
 /* Encoders.
  *
  * They encode the whole source and write it from the front of the output. For each scalar value that
- * the encoding does not have they write a question mark. They stop where the output has no room for
- * what comes next. The private-use rows of gb18030 are those of GB18030-2022.
+ * the encoding does not have they write a question mark behind a raw call, and by calls with
+ * replacement a reference, as &#128169;. They stop where the output has no room for what comes next,
+ * by calls with replacement also where a reference has none behind it. The private-use rows of gb18030 are those of GB18030-2022.
  *
  * codec:         the number of a codec with an encoder
  * indexes:       the indexes; they are only read
@@ -148,6 +206,17 @@ size_t legacy_encode_from_utf16(uint32_t codec, const struct legacy_indexes *ind
                                 const uint16_t *source, size_t source_length,
                                 uint8_t *output, size_t output_length,
                                 size_t piece, size_t times);
+
+/* The same two by calls with replacement. */
+size_t legacy_encode_replacing_from_utf8(uint32_t codec, const struct legacy_indexes *indexes,
+                                         const uint8_t *source, size_t source_length,
+                                         uint8_t *output, size_t output_length,
+                                         size_t piece, size_t times);
+
+size_t legacy_encode_replacing_from_utf16(uint32_t codec, const struct legacy_indexes *indexes,
+                                          const uint16_t *source, size_t source_length,
+                                          uint8_t *output, size_t output_length,
+                                          size_t piece, size_t times);
 
 #ifdef __cplusplus
 }

@@ -1,9 +1,10 @@
 //! Whether the decoders and the encoders write what encoding_rs writes, in every codec, on text and on bytes and
 //! characters that follow no pattern.
 
-use crate::corpora;
-use crate::ours::Ours;
-use crate::{compare, FromUtf16, FromUtf8, ToUtf16, ToUtf8, CORPORA};
+use crate::decoding::{self, ToUtf16, ToUtf8};
+use crate::encoding::{self, From, FromUtf16, FromUtf8};
+use crate::ours::{Calls, Kept, Ours};
+use crate::{corpora, CORPORA, PACKED};
 use encoding_rs::{Encoding, REPLACEMENT};
 
 /// The encodings, by their names.
@@ -63,12 +64,16 @@ fn texts() -> Result<Vec<(&'static str, String)>, String> {
         .collect()
 }
 
-/// Compares what both write of these bytes to UTF-8 and to UTF-16.
-fn agree(ours: &Ours, encoding: &'static Encoding, bytes: &[u8], what: &str) -> Result<(), String> {
-    let room = bytes.len() * 3 + 64;
+/// Compares what both write of these bytes to UTF-8 and to UTF-16, by raw calls and by those with replacement.
+fn agree(codecs: &[Ours], encoding: &'static Encoding, bytes: &[u8], what: &str) -> Result<(), String> {
     let failed = |error| format!("{what} in {}: {error}", encoding.name());
-    compare::<ToUtf8>(ours, encoding, bytes, &mut vec![0; room]).map_err(failed)?;
-    compare::<ToUtf16>(ours, encoding, bytes, &mut vec![0; room]).map_err(failed)
+    for ours in codecs {
+        for calls in [Calls::Raw, Calls::Replacing] {
+            decoding::compare::<ToUtf8>(ours, encoding, calls, bytes).map_err(failed)?;
+            decoding::compare::<ToUtf16>(ours, encoding, calls, bytes).map_err(failed)?;
+        }
+    }
+    Ok(())
 }
 
 /// Any code units, with surrogates, ASCII, kana, ideographs, Hangul and characters for private use among them.
@@ -96,13 +101,31 @@ fn any_units() -> Vec<u16> {
     units
 }
 
-/// Compares what both write of this text from UTF-8 and from UTF-16.
-fn agree_back(ours: &Ours, encoding: &'static Encoding, units: &[u16], what: &str) -> Result<(), String> {
-    let text = String::from_utf16_lossy(units);
-    let room = text.len() * 3 + 64;
+/// How much shorter a text is that is encoded over flat tables where there are packed ones: these are searched.
+const FLAT_SHARE: usize = 10;
+
+/// Compares what both write of this text from UTF-8 and from UTF-16, by raw calls and by those with replacement.
+fn agree_back(codecs: &[Ours], encoding: &'static Encoding, units: &[u16], what: &str) -> Result<(), String> {
     let failed = |error| format!("{what} in {}: {error}", encoding.name());
-    compare::<FromUtf8>(ours, encoding, text.as_bytes(), &mut vec![0; room]).map_err(failed)?;
-    compare::<FromUtf16>(ours, encoding, units, &mut vec![0; room]).map_err(failed)
+    for (at, ours) in codecs.iter().enumerate() {
+        let is_searched = at + 1 < codecs.len();
+        let units = if is_searched { &units[..units.len() / FLAT_SHARE] } else { units };
+        let text = FromUtf8::units(&String::from_utf16_lossy(units));
+        for calls in [Calls::Raw, Calls::Replacing] {
+            encoding::compare::<FromUtf8>(ours, encoding, calls, &text).map_err(failed)?;
+            encoding::compare::<FromUtf16>(ours, encoding, calls, units).map_err(failed)?;
+        }
+    }
+    Ok(())
+}
+
+/// The codec over flat tables, and over packed ones where it can have them.
+fn codecs(encoding: &'static Encoding) -> Vec<Ours> {
+    let mut codecs = vec![Ours::new(encoding, Kept::Flat)];
+    if PACKED.contains(&encoding.name()) {
+        codecs.push(Ours::new(encoding, Kept::Packed));
+    }
+    codecs
 }
 
 /// Compares all codecs, and says how many encodings there were.
@@ -112,7 +135,7 @@ pub fn report() -> Result<(), String> {
     let units = any_units();
     for name in ENCODINGS {
         let encoding = Encoding::for_label(name.as_bytes()).ok_or("no such encoding")?;
-        let ours = Ours::new(encoding);
+        let ours = codecs(encoding);
         agree(&ours, encoding, &any, "bytes")?;
         if encoding.output_encoding() == encoding {
             agree_back(&ours, encoding, &units, "any units")?;

@@ -1,72 +1,79 @@
-//! One table of the tables of several builds: of each number the median, and of each ratio also the least and
-//! the greatest.
+//! The tables of several builds as one: of each number the median, and of each ratio also the least and the greatest.
 
 use std::fs;
 
-/// The columns of a line behind the corpus, the encoding and the form, and which of them are ratios.
-const COLUMNS: [(&str, bool); 9] = [
-    ("encoding_rs MB/s, 3 MB", false),
-    ("ours", false),
-    ("ratio", true),
-    ("encoding_rs MB/s, short", false),
-    ("ours", false),
-    ("ratio", true),
-    ("encoding_rs MB/s, pieces of 64", false),
-    ("ours", false),
-    ("ratio", true),
-];
-
-/// How many columns name a line.
-const NAMES: usize = 3;
+/// A table: its two lines of heading, and its lines by cells.
+struct Table {
+    heading: Vec<String>,
+    names: Vec<String>,
+    lines: Vec<Vec<String>>,
+}
 
 /// The cells of a line of a table.
-fn cells(line: &str) -> Vec<&str> {
-    line.trim_matches('|').split('|').map(str::trim).collect()
+fn cells(line: &str) -> Vec<String> {
+    let inner = line.strip_prefix('|').and_then(|line| line.strip_suffix('|')).unwrap_or(line);
+    inner.split('|').map(|cell| cell.trim().to_string()).collect()
 }
 
-/// A cell of the numbers of one column in all builds.
-fn cell(mut numbers: Vec<f64>, is_ratio: bool) -> String {
+/// The tables of a file, between which stand other lines.
+fn parse(text: &str) -> Vec<Table> {
+    let mut tables = Vec::new();
+    for part in text.split("\n\n") {
+        let lines: Vec<&str> = part.lines().filter(|line| line.starts_with('|')).collect();
+        if let [names, rule, body @ ..] = lines.as_slice() {
+            let heading = vec![names.to_string(), rule.to_string()];
+            tables.push(Table { heading, names: cells(names), lines: body.iter().map(|line| cells(line)).collect() });
+        }
+    }
+    tables
+}
+
+/// The median of numbers.
+fn median(numbers: &mut [f64]) -> f64 {
     numbers.sort_by(f64::total_cmp);
-    let median = (numbers[(numbers.len() - 1) / 2] + numbers[numbers.len() / 2]) / 2.0;
-    if is_ratio {
-        return format!("{median:.2} ({:.2} to {:.2})", numbers[0], numbers[numbers.len() - 1]);
-    }
-    format!("{median:.0}")
+    (numbers[(numbers.len() - 1) / 2] + numbers[numbers.len() / 2]) / 2.0
 }
 
-/// One line of the table, of the same line of each build.
-fn line(lines: &[Vec<&str>]) -> Result<String, String> {
-    let names = &lines[0][..NAMES];
-    let mut text = format!("| {} |", names.join(" | "));
-    for (column, (_, is_ratio)) in COLUMNS.iter().enumerate() {
-        let numbers: Result<Vec<f64>, String> = lines
-            .iter()
-            .map(|cells| {
-                let number = cells.get(NAMES + column).and_then(|cell| cell.parse().ok());
-                number.filter(|_| cells[..NAMES] == *names).ok_or_else(|| format!("the tables differ at {names:?}"))
-            })
-            .collect();
-        text += &format!(" {} |", cell(numbers?, *is_ratio));
+/// A cell of the cells of one column in all builds: what is no number in each of them is the same in all.
+fn cell(name: &str, same: &[&String]) -> Result<String, String> {
+    let numbers: Vec<f64> = same.iter().filter_map(|cell| cell.parse().ok()).collect();
+    if numbers.len() < same.len() {
+        let is_one = same.iter().all(|cell| *cell == same[0]);
+        return if is_one { Ok(same[0].clone()) } else { Err(format!("the tables differ at {:?}", same[0])) };
     }
-    Ok(text)
+    let mut sorted = numbers.clone();
+    let median = median(&mut sorted);
+    if name.starts_with("ratio") {
+        return Ok(format!("{median:.2} ({:.2} to {:.2})", sorted[0], sorted[sorted.len() - 1]));
+    }
+    Ok(if median < 10.0 { format!("{median:.1}") } else { format!("{median:.0}") })
 }
 
-/// Prints the table of these files' tables.
-pub fn table(files: impl Iterator<Item = String>) -> Result<(), String> {
-    let tables: Result<Vec<String>, String> =
-        files.map(|file| fs::read_to_string(&file).map_err(|error| format!("{file}: {error}"))).collect();
-    let tables = tables?;
-    // (two lines of heading)
-    let bodies: Vec<Vec<Vec<&str>>> = tables
-        .iter()
-        .map(|table| table.lines().filter(|line| line.starts_with('|')).skip(2).map(cells).collect())
-        .collect();
-    let first = bodies.first().ok_or("no table")?;
-    println!("| corpus | encoding | direction | {} |", COLUMNS.map(|(name, _)| name).join(" | "));
-    println!("|{}", "---|".repeat(NAMES + COLUMNS.len()));
-    for at in 0..first.len() {
-        let same: Option<Vec<Vec<&str>>> = bodies.iter().map(|body| body.get(at).cloned()).collect();
-        println!("{}", line(&same.ok_or("a table is shorter")?)?);
+/// Prints the medians of one table in all builds.
+fn print(builds: &[&Table]) -> Result<(), String> {
+    println!("{}", builds[0].heading.join("\n"));
+    for (at, line) in builds[0].lines.iter().enumerate() {
+        let mut text = String::from("|");
+        for column in 0..line.len() {
+            let same: Option<Vec<&String>> = builds.iter().map(|build| build.lines.get(at)?.get(column)).collect();
+            let name = builds[0].names.get(column).map_or("", String::as_str);
+            text += &format!(" {} |", cell(name, &same.ok_or("a table is shorter")?)?);
+        }
+        println!("{text}");
+    }
+    println!();
+    Ok(())
+}
+
+/// Prints the medians of these files' tables.
+pub fn tables(files: impl Iterator<Item = String>) -> Result<(), String> {
+    let builds: Result<Vec<Vec<Table>>, String> =
+        files.map(|file| fs::read_to_string(&file).map(|text| parse(&text)).map_err(|error| format!("{file}: {error}"))).collect();
+    let builds = builds?;
+    let count = builds.first().ok_or("no table")?.len();
+    for at in 0..count {
+        let same: Option<Vec<&Table>> = builds.iter().map(|build| build.get(at)).collect();
+        print(&same.ok_or("a file has fewer tables")?)?;
     }
     Ok(())
 }

@@ -1,6 +1,6 @@
 //! The codecs of the static library, as `bench/legacy_codecs.h` declares them.
 
-use crate::indexes;
+use crate::{indexes, packing};
 use encoding_rs::Encoding;
 
 /// The numbers of the codecs, by the header's names: `build.rs` reads them there.
@@ -28,6 +28,14 @@ pub struct Range {
     pub scalar: u16,
 }
 
+/// `struct legacy_run`.
+#[repr(C)]
+pub struct Run {
+    pub scalar: u32,
+    pub pointer: u16,
+    pub length: u16,
+}
+
 /// `struct legacy_byte_run`.
 #[repr(C)]
 #[derive(Clone, Copy, Default)]
@@ -52,6 +60,21 @@ impl ByteRun {
     }
 }
 
+/// `struct legacy_packed`.
+#[repr(C)]
+struct PackedSlices {
+    big5: Slice<Run>,
+    euc_kr: Slice<Run>,
+    jis0208: Slice<Run>,
+    jis0212: Slice<Run>,
+    gb18030: Slice<Run>,
+    big5_order: Slice<u16>,
+    euc_kr_order: Slice<u16>,
+    shift_jis_order: Slice<u16>,
+    euc_jp_order: Slice<u16>,
+    gb18030_order: Slice<u16>,
+}
+
 /// `struct legacy_indexes`.
 #[repr(C)]
 struct IndexSlices {
@@ -64,57 +87,13 @@ struct IndexSlices {
     ranges: Slice<Range>,
     single_byte: Slice<u16>,
     single_byte_run: ByteRun,
+    is_packed: bool,
+    packed: PackedSlices,
 }
 
-extern "C" {
-    fn legacy_decode_to_utf8(
-        codec: u32,
-        indexes: *const IndexSlices,
-        source: *const u8,
-        source_length: usize,
-        output: *mut u8,
-        output_length: usize,
-        piece: usize,
-        times: usize,
-    ) -> usize;
-
-    fn legacy_decode_to_utf16(
-        codec: u32,
-        indexes: *const IndexSlices,
-        source: *const u8,
-        source_length: usize,
-        output: *mut u16,
-        output_length: usize,
-        piece: usize,
-        times: usize,
-    ) -> usize;
-
-    fn legacy_encode_from_utf8(
-        codec: u32,
-        indexes: *const IndexSlices,
-        source: *const u8,
-        source_length: usize,
-        output: *mut u8,
-        output_length: usize,
-        piece: usize,
-        times: usize,
-    ) -> usize;
-
-    fn legacy_encode_from_utf16(
-        codec: u32,
-        indexes: *const IndexSlices,
-        source: *const u16,
-        source_length: usize,
-        output: *mut u8,
-        output_length: usize,
-        piece: usize,
-        times: usize,
-    ) -> usize;
-}
-
-/// The indexes that a codec reads by; the others are empty.
+/// The flat indexes that a codec reads by; the others are empty.
 #[derive(Default)]
-struct Indexes {
+pub struct Indexes {
     big5: Vec<u32>,
     euc_kr: Vec<u16>,
     jis0208: Vec<u16>,
@@ -126,6 +105,20 @@ struct Indexes {
 }
 
 impl Indexes {
+    /// All indexes of the standard.
+    fn all() -> Indexes {
+        Indexes {
+            big5: indexes::big5(),
+            euc_kr: indexes::euc_kr(),
+            jis0208: indexes::jis0208(),
+            jis0212: indexes::jis0212(),
+            gb18030: indexes::gb18030(),
+            katakana: indexes::katakana(),
+            ranges: indexes::ranges(),
+            single_byte: Vec::new(),
+        }
+    }
+
     /// The indexes of this codec, and those of this encoding where it is a single-byte one.
     fn of(codec: u32, encoding: &'static Encoding) -> Indexes {
         let none = Indexes::default();
@@ -146,30 +139,88 @@ impl Indexes {
             _ => none,
         }
     }
+}
 
-    fn slices(&self) -> IndexSlices {
-        IndexSlices {
+/// Runs and orders of flat indexes.
+#[derive(Default)]
+struct Packed {
+    big5: Vec<Run>,
+    euc_kr: Vec<Run>,
+    jis0208: Vec<Run>,
+    jis0212: Vec<Run>,
+    gb18030: Vec<Run>,
+    big5_order: Vec<u16>,
+    euc_kr_order: Vec<u16>,
+    shift_jis_order: Vec<u16>,
+    euc_jp_order: Vec<u16>,
+    gb18030_order: Vec<u16>,
+}
+
+impl Packed {
+    fn of(flat: &Indexes) -> Packed {
+        Packed {
+            big5: packing::runs(&flat.big5),
+            euc_kr: packing::runs(&flat.euc_kr),
+            jis0208: packing::runs(&flat.jis0208),
+            jis0212: packing::runs(&flat.jis0212),
+            gb18030: packing::runs(&flat.gb18030),
+            big5_order: packing::big5_order(&flat.big5),
+            euc_kr_order: packing::first_order(&flat.euc_kr),
+            shift_jis_order: packing::shift_jis_order(&flat.jis0208),
+            euc_jp_order: packing::euc_jp_order(&flat.jis0208),
+            gb18030_order: packing::first_order(&flat.gb18030),
+        }
+    }
+
+    fn slices(&self) -> PackedSlices {
+        PackedSlices {
             big5: Slice::from(&self.big5),
             euc_kr: Slice::from(&self.euc_kr),
             jis0208: Slice::from(&self.jis0208),
             jis0212: Slice::from(&self.jis0212),
             gb18030: Slice::from(&self.gb18030),
-            katakana: Slice::from(&self.katakana),
-            ranges: Slice::from(&self.ranges),
-            single_byte: Slice::from(&self.single_byte),
-            single_byte_run: ByteRun::longest(&self.single_byte),
+            big5_order: Slice::from(&self.big5_order),
+            euc_kr_order: Slice::from(&self.euc_kr_order),
+            shift_jis_order: Slice::from(&self.shift_jis_order),
+            euc_jp_order: Slice::from(&self.euc_jp_order),
+            gb18030_order: Slice::from(&self.gb18030_order),
         }
     }
+}
+
+/// How tables are kept.
+#[derive(Clone, Copy, PartialEq, Eq, Hash)]
+pub enum Kept {
+    Flat,
+    Packed,
+}
+
+/// Who replaces what is malformed or has no bytes.
+#[derive(Clone, Copy, PartialEq, Eq)]
+pub enum Calls {
+    /// The library's loop behind a raw call: by U+FFFD, or by a question mark.
+    Raw,
+    /// The call itself: by U+FFFD, or by a reference.
+    Replacing,
 }
 
 /// A codec, by its number, and its indexes.
 pub struct Ours {
     codec: u32,
     indexes: Indexes,
+    packed: Option<Packed>,
 }
 
+type Export<R, W> = unsafe extern "C" fn(u32, *const IndexSlices, *const R, usize, *mut W, usize, usize, usize) -> usize;
+
 impl Ours {
-    pub fn new(encoding: &'static Encoding) -> Ours {
+    fn with(codec: u32, indexes: Indexes, kept: Kept) -> Ours {
+        let packed = (kept == Kept::Packed).then(|| Packed::of(&indexes));
+        Ours { codec, indexes, packed }
+    }
+
+    /// The codec of an encoding.
+    pub fn new(encoding: &'static Encoding, kept: Kept) -> Ours {
         let codec = match encoding.name() {
             "GBK" => numbers::LEGACY_GBK,
             "gb18030" => numbers::LEGACY_GB18030,
@@ -184,66 +235,81 @@ impl Ours {
             "x-user-defined" => numbers::LEGACY_X_USER_DEFINED,
             _ => numbers::LEGACY_SINGLE_BYTE,
         };
-        Ours { codec, indexes: Indexes::of(codec, encoding) }
+        Ours::with(codec, Indexes::of(codec, encoding), kept)
     }
 
-    pub fn to_utf8(&self, source: &[u8], output: &mut [u8], piece: usize, times: usize) -> usize {
-        unsafe {
-            legacy_decode_to_utf8(
-                self.codec,
-                &self.indexes.slices(),
-                source.as_ptr(),
-                source.len(),
-                output.as_mut_ptr(),
-                output.len(),
-                piece,
-                times,
-            )
+    /// A codec that reads by no index, with all of them: for the time that their check takes.
+    pub fn of_all_indexes(kept: Kept) -> Ours {
+        Ours::with(numbers::LEGACY_X_USER_DEFINED, Indexes::all(), kept)
+    }
+
+    fn slices(&self) -> IndexSlices {
+        let indexes = &self.indexes;
+        let packed = self.packed.as_ref().map_or_else(|| Packed::default().slices(), Packed::slices);
+        IndexSlices {
+            big5: Slice::from(&indexes.big5),
+            euc_kr: Slice::from(&indexes.euc_kr),
+            jis0208: Slice::from(&indexes.jis0208),
+            jis0212: Slice::from(&indexes.jis0212),
+            gb18030: Slice::from(&indexes.gb18030),
+            katakana: Slice::from(&indexes.katakana),
+            ranges: Slice::from(&indexes.ranges),
+            single_byte: Slice::from(&indexes.single_byte),
+            single_byte_run: ByteRun::longest(&indexes.single_byte),
+            is_packed: self.packed.is_some(),
+            packed,
         }
     }
 
-    pub fn to_utf16(&self, source: &[u8], output: &mut [u16], piece: usize, times: usize) -> usize {
-        unsafe {
-            legacy_decode_to_utf16(
-                self.codec,
-                &self.indexes.slices(),
-                source.as_ptr(),
-                source.len(),
-                output.as_mut_ptr(),
-                output.len(),
-                piece,
-                times,
-            )
-        }
-    }
-
-    pub fn from_utf8(&self, source: &[u8], output: &mut [u8], piece: usize, times: usize) -> usize {
-        unsafe {
-            legacy_encode_from_utf8(
-                self.codec,
-                &self.indexes.slices(),
-                source.as_ptr(),
-                source.len(),
-                output.as_mut_ptr(),
-                output.len(),
-                piece,
-                times,
-            )
-        }
-    }
-
-    pub fn from_utf16(&self, source: &[u16], output: &mut [u8], piece: usize, times: usize) -> usize {
-        unsafe {
-            legacy_encode_from_utf16(
-                self.codec,
-                &self.indexes.slices(),
-                source.as_ptr(),
-                source.len(),
-                output.as_mut_ptr(),
-                output.len(),
-                piece,
-                times,
-            )
-        }
+    fn call<R, W>(&self, export: Export<R, W>, source: &[R], output: &mut [W], piece: usize, times: usize) -> usize {
+        let slices = self.slices();
+        unsafe { export(self.codec, &slices, source.as_ptr(), source.len(), output.as_mut_ptr(), output.len(), piece, times) }
     }
 }
+
+/// Declares the exports for a direction, the one of raw calls and the one of calls with replacement, and makes a
+/// method of both.
+macro_rules! direction {
+    ($name:ident, $raw:ident, $replacing:ident, $read:ty, $written:ty) => {
+        extern "C" {
+            fn $raw(
+                codec: u32,
+                indexes: *const IndexSlices,
+                source: *const $read,
+                source_length: usize,
+                output: *mut $written,
+                output_length: usize,
+                piece: usize,
+                times: usize,
+            ) -> usize;
+
+            fn $replacing(
+                codec: u32,
+                indexes: *const IndexSlices,
+                source: *const $read,
+                source_length: usize,
+                output: *mut $written,
+                output_length: usize,
+                piece: usize,
+                times: usize,
+            ) -> usize;
+        }
+
+        impl Ours {
+            /// Converts the source so many times in pieces of so many code units (0: in one), and answers how many
+            /// code units were written the last time.
+            pub fn $name(&self, calls: Calls, source: &[$read], output: &mut [$written], piece: usize, times: usize) -> usize {
+                let export: Export<$read, $written> = match calls {
+                    Calls::Raw => $raw,
+                    Calls::Replacing => $replacing,
+                };
+                self.call(export, source, output, piece, times)
+            }
+        }
+    };
+}
+
+direction!(to_utf8, legacy_decode_to_utf8, legacy_decode_replacing_to_utf8, u8, u8);
+direction!(to_utf16, legacy_decode_to_utf16, legacy_decode_replacing_to_utf16, u8, u16);
+direction!(from_utf8, legacy_encode_from_utf8, legacy_encode_replacing_from_utf8, u8, u8);
+direction!(from_utf16, legacy_encode_from_utf16, legacy_encode_replacing_from_utf16, u16, u8);

@@ -1,18 +1,14 @@
-//! encoding_rs, called as the codecs of the static library are: raw calls, piece by piece.
+//! encoding_rs, called as the codecs of the static library are: piece by piece, by raw calls or by calls with
+//! replacement.
 
-use encoding_rs::{DecoderResult, EncoderResult, Encoding};
+use crate::pieces::{end_of_piece, piece_end};
+use encoding_rs::{CoderResult, DecoderResult, Encoding};
 
 macro_rules! decode {
     ($name:ident, $unit:ty, $call:ident, $replacement:expr) => {
         /// Decodes the source so many times, with U+FFFD for each malformed sequence, in pieces of so many
         /// bytes (0: in one). Answers how many code units were written the last time.
-        pub fn $name(
-            encoding: &'static Encoding,
-            src: &[u8],
-            dst: &mut [$unit],
-            piece: usize,
-            rounds: usize,
-        ) -> usize {
+        pub fn $name(encoding: &'static Encoding, src: &[u8], dst: &mut [$unit], piece: usize, rounds: usize) -> usize {
             let mut written = 0;
             for _ in 0..rounds {
                 let mut decoder = encoding.new_decoder_without_bom_handling();
@@ -39,51 +35,69 @@ macro_rules! decode {
     };
 }
 
-fn piece_end(read: usize, len: usize, piece: usize) -> usize {
-    if piece == 0 {
-        len
-    } else {
-        read + piece.min(len - read)
-    }
-}
-
 decode!(to_utf8, u8, decode_to_utf8_without_replacement, [0xEFu8, 0xBF, 0xBD]);
 decode!(to_utf16, u16, decode_to_utf16_without_replacement, [0xFFFDu16]);
 
-macro_rules! encode {
-    ($name:ident, $text:ty, $call:ident, $is_between:expr) => {
-        /// Encodes the text so many times, with a question mark for each character that the encoding lacks, in
-        /// pieces of so many code units and up to the next place between two characters (0: in one). Answers how
-        /// many bytes were written the last time.
-        pub fn $name(
-            encoding: &'static Encoding,
-            src: &$text,
-            dst: &mut [u8],
-            piece: usize,
-            rounds: usize,
-        ) -> usize {
-            let end_of_piece = |read: usize| {
-                let mut end = piece_end(read, src.len(), piece);
-                while !$is_between(src, end) {
-                    end += 1;
-                }
-                end
-            };
+macro_rules! decode_replacing {
+    ($name:ident, $unit:ty, $call:ident) => {
+        /// The same by calls with replacement.
+        pub fn $name(encoding: &'static Encoding, src: &[u8], dst: &mut [$unit], piece: usize, rounds: usize) -> usize {
             let mut written = 0;
             for _ in 0..rounds {
-                let mut encoder = encoding.new_encoder();
-                let (mut read, mut end) = (0, end_of_piece(0));
+                let mut decoder = encoding.new_decoder_without_bom_handling();
+                let (mut read, mut end) = (0, piece_end(0, src.len(), piece));
                 written = 0;
                 loop {
                     let last = end == src.len();
-                    let (answer, more, bytes) = encoder.$call(&src[read..end], &mut dst[written..], last);
+                    let (answer, more, units, _) = decoder.$call(&src[read..end], &mut dst[written..], last);
+                    read += more;
+                    written += units;
+                    match answer {
+                        CoderResult::InputEmpty if last => break,
+                        CoderResult::InputEmpty => end = piece_end(read, src.len(), piece),
+                        CoderResult::OutputFull => break,
+                    }
+                }
+            }
+            written
+        }
+    };
+}
+
+decode_replacing!(replacing_to_utf8, u8, decode_to_utf8);
+decode_replacing!(replacing_to_utf16, u16, decode_to_utf16);
+
+/// The text of these bytes, which were made as a string.
+fn as_text(src: &[u8]) -> &str {
+    unsafe { std::str::from_utf8_unchecked(src) }
+}
+
+/// Code units as they are.
+fn as_units(src: &[u16]) -> &[u16] {
+    src
+}
+
+macro_rules! encode {
+    ($name:ident, $library:ident, $unit:ty, $call:ident, $as_source:ident) => {
+        /// Encodes the text so many times, with a question mark for each character that the encoding lacks, in
+        /// pieces of so many code units and up to the next place between two characters (0: in one). Answers how
+        /// many bytes were written the last time.
+        pub fn $name(encoding: &'static $library::Encoding, src: &[$unit], dst: &mut [u8], piece: usize, rounds: usize) -> usize {
+            let mut written = 0;
+            for _ in 0..rounds {
+                let mut encoder = encoding.new_encoder();
+                let (mut read, mut end) = (0, end_of_piece(src, 0, piece));
+                written = 0;
+                loop {
+                    let last = end == src.len();
+                    let (answer, more, bytes) = encoder.$call($as_source(&src[read..end]), &mut dst[written..], last);
                     read += more;
                     written += bytes;
                     match answer {
-                        EncoderResult::InputEmpty if last => break,
-                        EncoderResult::InputEmpty => end = end_of_piece(read),
-                        EncoderResult::OutputFull => break,
-                        EncoderResult::Unmappable(_) => {
+                        $library::EncoderResult::InputEmpty if last => break,
+                        $library::EncoderResult::InputEmpty => end = end_of_piece(src, read, piece),
+                        $library::EncoderResult::OutputFull => break,
+                        $library::EncoderResult::Unmappable(_) => {
                             dst[written] = b'?';
                             written += 1;
                         }
@@ -95,11 +109,36 @@ macro_rules! encode {
     };
 }
 
-/// No pair of surrogates stands around the place.
-fn is_between_units(units: &[u16], place: usize) -> bool {
-    let is = |at: usize, first: u16| units.get(at).is_some_and(|unit| unit & 0xFC00 == first);
-    place == 0 || !is(place - 1, 0xD800) || !is(place, 0xDC00)
+encode!(from_utf8, encoding_rs, u8, encode_from_utf8_without_replacement, as_text);
+encode!(from_utf16, encoding_rs, u16, encode_from_utf16_without_replacement, as_units);
+encode!(fast_from_utf8, encoding_rs_fast, u8, encode_from_utf8_without_replacement, as_text);
+encode!(fast_from_utf16, encoding_rs_fast, u16, encode_from_utf16_without_replacement, as_units);
+
+macro_rules! encode_replacing {
+    ($name:ident, $unit:ty, $call:ident, $as_source:ident) => {
+        /// The same with the fast tables and by calls with replacement, which write references.
+        pub fn $name(encoding: &'static encoding_rs_fast::Encoding, src: &[$unit], dst: &mut [u8], piece: usize, rounds: usize) -> usize {
+            let mut written = 0;
+            for _ in 0..rounds {
+                let mut encoder = encoding.new_encoder();
+                let (mut read, mut end) = (0, end_of_piece(src, 0, piece));
+                written = 0;
+                loop {
+                    let last = end == src.len();
+                    let (answer, more, bytes, _) = encoder.$call($as_source(&src[read..end]), &mut dst[written..], last);
+                    read += more;
+                    written += bytes;
+                    match answer {
+                        encoding_rs_fast::CoderResult::InputEmpty if last => break,
+                        encoding_rs_fast::CoderResult::InputEmpty => end = end_of_piece(src, read, piece),
+                        encoding_rs_fast::CoderResult::OutputFull => break,
+                    }
+                }
+            }
+            written
+        }
+    };
 }
 
-encode!(from_utf8, str, encode_from_utf8_without_replacement, str::is_char_boundary);
-encode!(from_utf16, [u16], encode_from_utf16_without_replacement, is_between_units);
+encode_replacing!(fast_replacing_from_utf8, u8, encode_from_utf8, as_text);
+encode_replacing!(fast_replacing_from_utf16, u16, encode_from_utf16, as_units);

@@ -1,6 +1,6 @@
 -- What round trips need of accepted indexes: jis0208 has nothing where Shift_JIS decodes to private use, and private-use
--- rows have leads and trails.
-use Rattle.std.proofs.Common.{◌≡◌, ℕ, zero, suc, ◌+◌, List, [], ◌∷◌, Bool, true, false, cond, not, ◌==◌, Option, Some, None, slice_index, refl, ap, arith, find, option_map}
+-- rows are for private use, and have leads and trails.
+use Rattle.std.proofs.Common.{◌≡◌, ℕ, zero, suc, ◌+◌, List, [], ◌∷◌, Bool, true, false, cond, not, ◌==◌, Option, Some, None, slice_index, refl, ap, arith, find, option_map, eqb-true}
 use Rattle.legacy_base.specs.declared.tables.IndexName.{IndexName}
 use Rattle.legacy_base.specs.declared.tables.IndexName.TheVariants as names
 use Rattle.legacy_base.specs.declared.tables.TableError.TheVariants.{BadEntry, NotEmpty, PuaOrder, PuaScalar, PuaBytes}
@@ -8,7 +8,7 @@ use Rattle.legacy_base.specs.Indexes.{FlatIndexes, gb18030_pua_of}
 use Rattle.legacy_base.specs.TableChecks.{AreAccepted, is_entry, must_be_empty, entry_fault, entries_fault, follows_scalar, is_row_scalar, are_row_bytes, row_fault, rows_fault}
 use Rattle.legacy_base.proofs.Accepted.{or_none, parts}
 use Rattle.legacy_base.proofs.TwoByteTrips.{PrivateUseIsEmpty}
-use Rattle.legacy_base.proofs.Gb18030Trip.{HaveRowBytes}
+use Rattle.legacy_base.proofs.Gb18030Trip.{AreGoodRows}
 
 -- ---- places that must be empty
 
@@ -45,11 +45,11 @@ private_use-empty flat accepted = record {
 
 -- ---- private-use rows
 
-row_bytes : (place : ℕ) (before : Option ℕ) (r : ℕ × ℕ × ℕ) → row_fault place before r ≡ None → are_row_bytes r.1 r.2 ≡ true
-row_bytes place before r h = by_tests (follows_scalar before r.0) (is_row_scalar r.0) (are_row_bytes r.1 r.2) h
+good_row : (place : ℕ) (before : Option ℕ) (r : ℕ × ℕ × ℕ) → row_fault place before r ≡ None → (is_row_scalar r.0 ≡ true) × (are_row_bytes r.1 r.2 ≡ true)
+good_row place before r h = by_tests (follows_scalar before r.0) (is_row_scalar r.0) (are_row_bytes r.1 r.2) h
   where
-    by_tests : (t u v : Bool) → cond (not t) (Some (PuaOrder place)) (cond (not u) (Some (PuaScalar place)) (cond (not v) (Some (PuaBytes place)) None)) ≡ None → v ≡ true
-    by_tests true true true h = refl
+    by_tests : (t u v : Bool) → cond (not t) (Some (PuaOrder place)) (cond (not u) (Some (PuaScalar place)) (cond (not v) (Some (PuaBytes place)) None)) ≡ None → (u ≡ true) × (v ≡ true)
+    by_tests true true true h = (refl, refl)
     by_tests true true false h = cc
     by_tests true false v h = cc
     by_tests false u v h = cc
@@ -57,18 +57,23 @@ row_bytes place before r h = by_tests (follows_scalar before r.0) (is_row_scalar
 same_pair : (a b x y : ℕ) → ◌≡◌ {A = Option (ℕ × ℕ)} (Some (a, x)) (Some (b, y)) → (a ≡ b) × (x ≡ y)
 same_pair a b x y h = let same : ◌≡◌ {A = ℕ × ℕ} (a, x) (b, y) = cc in (ap (λ (p : ℕ × ℕ). p.0) same, ap (λ (p : ℕ × ℕ). p.1) same)
 
-found_bytes : (place : ℕ) (before : Option ℕ) (rows : List (ℕ × ℕ × ℕ)) → rows_fault place before rows ≡ None
-    → (c lead trail : ℕ) → gb18030_pua_of rows c ≡ Some (lead, trail) → are_row_bytes lead trail ≡ true
-unfolding rows_fault
-found_bytes place before [] faultless c lead trail h = cc
-found_bytes place before (r ∷ rows) faultless c lead trail h =
-    let both = or_none (row_fault place before r) (rows_fault (place + 1) (Some r.0) rows) faultless in
-    by_test (r.0 == c) h (row_bytes place before r both.0) (found_bytes (place + 1) (Some r.0) rows both.1 c lead trail)
-  where
-    by_test : (t : Bool) → option_map {U = ℕ × ℕ} (λ (row : ℕ × ℕ × ℕ). (row.1, row.2)) (cond t (Some r) (find (λ (row : ℕ × ℕ × ℕ). row.0 == c) rows)) ≡ Some (lead, trail)
-        → are_row_bytes r.1 r.2 ≡ true → (gb18030_pua_of rows c ≡ Some (lead, trail) → are_row_bytes lead trail ≡ true) → are_row_bytes lead trail ≡ true
-    by_test true h here later = let same = same_pair r.1 lead r.2 trail h in rw (same.0, same.1) at here
-    by_test false h here later = later h
+-- what is known of the row that is found for c
+abbrev IsGoodRow : ℕ → ℕ → ℕ → Type 0
+IsGoodRow c lead trail = (is_row_scalar c ≡ true) × (are_row_bytes lead trail ≡ true)
 
-pub have_row_bytes : (flat : FlatIndexes) → AreAccepted flat → HaveRowBytes flat.gb18030_pua
-have_row_bytes flat accepted = record { each = λ c lead trail h. found_bytes 0 None flat.gb18030_pua (parts flat accepted).private_use c lead trail h }
+found_row : (place : ℕ) (before : Option ℕ) (rows : List (ℕ × ℕ × ℕ)) → rows_fault place before rows ≡ None
+    → (c lead trail : ℕ) → gb18030_pua_of rows c ≡ Some (lead, trail) → IsGoodRow c lead trail
+unfolding rows_fault
+found_row place before [] faultless c lead trail h = cc
+found_row place before (r ∷ rows) faultless c lead trail h =
+    let both = or_none (row_fault place before r) (rows_fault (place + 1) (Some r.0) rows) faultless in
+    by_test (r.0 == c) refl h (good_row place before r both.0) (found_row (place + 1) (Some r.0) rows both.1 c lead trail)
+  where
+    by_test : (t : Bool) → (r.0 == c) ≡ t
+        → option_map {U = ℕ × ℕ} (λ (row : ℕ × ℕ × ℕ). (row.1, row.2)) (cond t (Some r) (find (λ (row : ℕ × ℕ × ℕ). row.0 == c) rows)) ≡ Some (lead, trail)
+        → IsGoodRow r.0 r.1 r.2 → (gb18030_pua_of rows c ≡ Some (lead, trail) → IsGoodRow c lead trail) → IsGoodRow c lead trail
+    by_test true e h here later = let same = same_pair r.1 lead r.2 trail h in rw (eqb-true r.0 c e, same.0, same.1) at here
+    by_test false e h here later = later h
+
+pub are_good_rows : (flat : FlatIndexes) → AreAccepted flat → AreGoodRows flat.gb18030_pua
+are_good_rows flat accepted = record { each = λ c lead trail h. found_row 0 None flat.gb18030_pua (parts flat accepted).private_use c lead trail h }

@@ -1,6 +1,7 @@
--- The codes of GB18030 and GBK decode to their scalars.
-use Rattle.std.proofs.Common.{◌≡◌, ℕ, ◌+◌, ◌-◌, ◌*◌, ◌/◌, ◌%◌, ◌<◌, ◌≤◌, List, [], ◌∷◌, length, Bool, true}
-use Rattle.std.proofs.Common.{false, cond, not, ◌||◌, ◌==◌, nat_lt, Option, Some, None, option_map, option_to_list, refl, ◌∙◌, arith, if◌then◌else◌, eqb-true}
+-- The codes of GB18030 and GBK decode to their scalars, and those of private-use rows to the scalars of the rows' bytes.
+use Rattle.std.proofs.Common.{◌≡◌, ℕ, ◌+◌, ◌-◌, ◌*◌, ◌/◌, ◌%◌, ◌<◌, ◌≤◌, List, [], ◌∷◌, length, get_or, Bool, true}
+use Rattle.std.proofs.Common.{false, cond, not, ◌||◌, ◌==◌, nat_lt, Option, Some, None, option_map, option_to_list, refl, sym, ◌∙◌, arith, if◌then◌else◌, eqb-true}
+use Rattle.std.proofs.lemmas.Bool.{false≢true}
 use Rattle.std.proofs.lemmas.Bool.Decides.{nat_tests}
 use Rattle.std.proofs.Math.Nat.{div-add-mod}
 use Rattle.std.proofs.lemmas.Nat.{mod_below}
@@ -10,12 +11,12 @@ use Rattle.std.specs.Int.{is_in_range}
 use Rattle.std.specs.Char.{is_ascii, is_ascii_digit}
 use Rattle.legacy_base.specs.Fronts.{reads}
 use Rattle.legacy_base.specs.Indexes.{idx, range, gb18030_pua_of}
-use Rattle.legacy_base.specs.Profile.{is_lead}
+use Rattle.legacy_base.specs.Profile.{is_lead, is_empty}
 use Rattle.legacy_base.specs.Pointers.{every_pointer, gb18030_pointer_of, range_pointer_of}
-use Rattle.legacy_base.specs.TableChecks.{are_row_bytes}
+use Rattle.legacy_base.specs.TableChecks.{is_row_scalar, are_row_bytes}
 use Rattle.legacy_base.specs.Gb18030.{gb18030_scalars, gb18030_range_pointer, gb18030_fourth, gb18030_third, gb18030_second, gb18030_front}
 use Rattle.legacy_base.specs.Gb18030.{gb18030_pair_bytes, gb18030_range_bytes, gb18030_pair_code, gb18030_code, gbk_code}
-use Rattle.legacy_base.specs.RoundTrips.{is_private_use_fold}
+use Rattle.legacy_base.specs.RoundTrips.{is_private_use_fold, private_use_scalar, has_lost_row}
 use Rattle.legacy_base.proofs.Pointers.{first-taken, range-taken}
 use Rattle.legacy_base.proofs.PointersBack.{LeadsBack, leads_back}
 use Rattle.legacy_base.proofs.Trips.{Decodes}
@@ -88,30 +89,28 @@ four_decodes index ranges c bytes h =
 
 -- ---- private-use rows
 
--- what is known of the rows of accepted indexes: they have leads and trails
-pub record HaveRowBytes (pua : List (ℕ × ℕ × ℕ)) : Type 0 where
-  pub each : (c lead trail : ℕ) → gb18030_pua_of pua c ≡ Some (lead, trail) → are_row_bytes lead trail ≡ true
+-- what is known of the rows of accepted indexes: they are for private use, and have leads and trails
+pub record AreGoodRows (pua : List (ℕ × ℕ × ℕ)) : Type 0 where
+  pub each : (c lead trail : ℕ) → gb18030_pua_of pua c ≡ Some (lead, trail) → (is_row_scalar c ≡ true) × (are_row_bytes lead trail ≡ true)
 
--- the scalars of two bytes are one or none
-alone : (o : Option ℕ) (c : ℕ) → list_any (λ s. s == c) (option_to_list o) ≡ true → option_to_list o ≡ c ∷ []
-alone None c h = cc
-alone (Some s) c h = let e = eqb-true s c (or_parts_first (s == c) h) in rw e refl
+-- the scalar of a lead and a trail that have one
+pub pair_has : (index : List ℕ) (lead trail c : ℕ) → is_empty (gb18030_scalars index lead trail) ≡ false
+    → gb18030_scalars index lead trail ≡ get_or (gb18030_scalars index lead trail) 0 c ∷ []
+pair_has index lead trail c h = by_tests (is_in_range 0x40 0x7E trail) (is_in_range 0x80 0xFE trail) h
   where
-    or_parts_first : (t : Bool) → (t || false) ≡ true → t ≡ true
-    or_parts_first true h = refl
-    or_parts_first false h = cc
+    alone : (o : Option ℕ) → is_empty (option_to_list o) ≡ false → option_to_list o ≡ get_or (option_to_list o) 0 c ∷ []
+    alone None h = cc
+    alone (Some s) h = refl
 
-pair_alone : (index : List ℕ) (lead trail c : ℕ) → list_any (λ s. s == c) (gb18030_scalars index lead trail) ≡ true → gb18030_scalars index lead trail ≡ c ∷ []
-pair_alone index lead trail c h = by_tests (is_in_range 0x40 0x7E trail) (is_in_range 0x80 0xFE trail) h
-  where
     by_tests : (t u : Bool)
-        → list_any (λ s. s == c) (cond t (option_to_list (idx index ((lead - 0x81) * 190 + (trail - 0x40)))) (cond u (option_to_list (idx index ((lead - 0x81) * 190 + (trail - 0x41)))) [])) ≡ true
-        → cond t (option_to_list (idx index ((lead - 0x81) * 190 + (trail - 0x40)))) (cond u (option_to_list (idx index ((lead - 0x81) * 190 + (trail - 0x41)))) []) ≡ c ∷ []
-    by_tests true u h = alone _ c h
-    by_tests false true h = alone _ c h
+        → is_empty (cond t (option_to_list (idx index ((lead - 0x81) * 190 + (trail - 0x40)))) (cond u (option_to_list (idx index ((lead - 0x81) * 190 + (trail - 0x41)))) [])) ≡ false
+        → cond t (option_to_list (idx index ((lead - 0x81) * 190 + (trail - 0x40)))) (cond u (option_to_list (idx index ((lead - 0x81) * 190 + (trail - 0x41)))) [])
+        ≡ get_or (cond t (option_to_list (idx index ((lead - 0x81) * 190 + (trail - 0x40)))) (cond u (option_to_list (idx index ((lead - 0x81) * 190 + (trail - 0x41)))) [])) 0 c ∷ []
+    by_tests true u h = alone _ h
+    by_tests false true h = alone _ h
     by_tests false false h = cc
 
--- a row that is no fold decodes to its scalar
+-- a row whose bytes have a scalar decodes to it
 row_back : (index : List ℕ) (ranges : List (ℕ × ℕ)) (lead trail c : ℕ) (more : List ℕ) → are_row_bytes lead trail ≡ true → gb18030_scalars index lead trail ≡ c ∷ []
     → gb18030_front index ranges lead (trail ∷ more) ≡ reads 2 (c ∷ [])
 unfolding gb18030_front gb18030_second
@@ -122,28 +121,63 @@ row_back index ranges lead trail c more bytes gives =
     let no_digit : is_ascii_digit trail ≡ false = grind (arith, nat_tests) in
     rw (lead_ascii, not_80, is_one, no_digit, gives) refl
 
+-- a scalar that is no fold has a row that gives it, or none
+pub no_private_use_fold : (index : List ℕ) (pua : List (ℕ × ℕ × ℕ)) (c : ℕ) → is_private_use_fold index pua c ≡ false
+    → (private_use_scalar index pua c ≡ c) × (has_lost_row index pua c ≡ false)
+no_private_use_fold index pua c h = by_row (gb18030_pua_of pua c) h
+  where
+    first_is : (l : List ℕ) → not (list_any (λ s. s == c) l) ≡ false → is_empty l ≡ false
+    first_is [] h = cc
+    first_is (s ∷ l) h = refl
+
+    same : (lead trail : ℕ) → not (list_any (λ s. s == c) (gb18030_scalars index lead trail)) ≡ false → get_or (gb18030_scalars index lead trail) 0 c ≡ c
+    same lead trail h =
+        let one = pair_has index lead trail c (first_is (gb18030_scalars index lead trail) h) in
+        only (get_or (gb18030_scalars index lead trail) 0 c) (rw one at h)
+      where
+        only : (s : ℕ) → not (list_any (λ s. s == c) (s ∷ [])) ≡ false → s ≡ c
+        only s h = by_test (s == c) refl h
+          where
+            by_test : (t : Bool) → (s == c) ≡ t → not (t || false) ≡ false → s ≡ c
+            by_test true e h = eqb-true s c e
+            by_test false e h = cc
+
+    by_row : (o : Option (ℕ × ℕ))
+        → option_map_or (λ row. not (list_any (λ s. s == c) (gb18030_scalars index row.0 row.1))) o false ≡ false
+        → (option_map_or (λ row. get_or (gb18030_scalars index row.0 row.1) 0 c) o c ≡ c)
+        × (option_map_or (λ row. is_empty (gb18030_scalars index row.0 row.1)) o false ≡ false)
+    by_row None h = (refl, refl)
+    by_row (Some row) h = (same row.0 row.1 h, first_is (gb18030_scalars index row.0 row.1) h)
+
 -- ---- the codes
 
-module _ (index : List ℕ) (ranges : List (ℕ × ℕ)) (pua : List (ℕ × ℕ × ℕ)) (short : length index ≤ 23940) (rows : HaveRowBytes pua) where
-  ascii_decodes : (c : ℕ) (bytes : List ℕ) → is_ascii c ≡ true → Some (c ∷ []) ≡ Some bytes → Decodes (gb18030_front index ranges) bytes c
+module _ (index : List ℕ) (ranges : List (ℕ × ℕ)) (pua : List (ℕ × ℕ × ℕ)) (short : length index ≤ 23940) (rows : AreGoodRows pua) where
+  -- a scalar that is not for private use has no row
+  no_row : (c : ℕ) → is_row_scalar c ≡ false → private_use_scalar index pua c ≡ c
+  no_row c h = by_row (gb18030_pua_of pua c) refl
+    where
+      by_row : (o : Option (ℕ × ℕ)) → gb18030_pua_of pua c ≡ o → option_map_or (λ row. get_or (gb18030_scalars index row.0 row.1) 0 c) o c ≡ c
+      by_row None e = refl
+      by_row (Some row) e = absurd (false≢true (sym h ∙ (rows.each c row.0 row.1 e).0))
+
+  ascii_decodes : (c : ℕ) (bytes : List ℕ) → is_ascii c ≡ true → Some (c ∷ []) ≡ Some bytes → Decodes (gb18030_front index ranges) bytes (private_use_scalar index pua c)
   unfolding gb18030_front
-  ascii_decodes c bytes e h = one_byte (gb18030_front index ranges) c c bytes (cc) (λ more. rw e refl)
+  ascii_decodes c bytes e h =
+      let plain : is_row_scalar c ≡ false = grind (arith, nat_tests) in
+      rw (no_row c plain) (one_byte (gb18030_front index ranges) c c bytes (cc) (λ more. rw e refl))
 
   row_decodes : (c lead trail : ℕ) (bytes : List ℕ) → gb18030_pua_of pua c ≡ Some (lead, trail)
-      → not (list_any (λ s. s == c) (gb18030_scalars index lead trail)) ≡ false → Some (lead ∷ trail ∷ []) ≡ Some bytes → Decodes (gb18030_front index ranges) bytes c
-  row_decodes c lead trail bytes e unfolded h =
-      let gives = pair_alone index lead trail c (not_false _ unfolded) in
-      two_bytes (gb18030_front index ranges) lead trail c bytes (cc) (λ more. row_back index ranges lead trail c more (rows.each c lead trail e) gives)
-    where
-      not_false : (t : Bool) → not t ≡ false → t ≡ true
-      not_false true h = refl
-      not_false false h = cc
+      → is_empty (gb18030_scalars index lead trail) ≡ false → Some (lead ∷ trail ∷ []) ≡ Some bytes
+      → Decodes (gb18030_front index ranges) bytes (get_or (gb18030_scalars index lead trail) 0 c)
+  row_decodes c lead trail bytes e kept h =
+      let s = get_or (gb18030_scalars index lead trail) 0 c in
+      two_bytes (gb18030_front index ranges) lead trail s bytes (cc) (λ more. row_back index ranges lead trail s more (rows.each c lead trail e).1 (pair_has index lead trail c kept))
 
   -- by the rows, then by the index, and then by what comes after both
-  pair_or : (c : ℕ) (bytes : List ℕ) (other : Option (List ℕ)) → is_private_use_fold index pua c ≡ false
+  pair_or : (c : ℕ) (bytes : List ℕ) (other : Option (List ℕ)) → has_lost_row index pua c ≡ false
       → (other ≡ Some bytes → Decodes (gb18030_front index ranges) bytes c)
-      → option_or (gb18030_pair_code pua index c) other ≡ Some bytes → Decodes (gb18030_front index ranges) bytes c
-  pair_or c bytes other unfolded else_by h = by_row (gb18030_pua_of pua c) refl unfolded h
+      → option_or (gb18030_pair_code pua index c) other ≡ Some bytes → Decodes (gb18030_front index ranges) bytes (private_use_scalar index pua c)
+  pair_or c bytes other kept else_by h = by_row (gb18030_pua_of pua c) refl kept h
     where
       by_index : (o : Option (List ℕ)) → option_map gb18030_pair_bytes (gb18030_pointer_of index c) ≡ o
           → option_or o other ≡ Some bytes → Decodes (gb18030_front index ranges) bytes c
@@ -151,23 +185,23 @@ module _ (index : List ℕ) (ranges : List (ℕ × ℕ)) (pua : List (ℕ × ℕ
       by_index (Some pair) is h = pair_decodes index ranges c bytes short (is ∙ h)
 
       by_row : (o : Option (ℕ × ℕ)) → gb18030_pua_of pua c ≡ o
-          → option_map_or (λ row. not (list_any (λ s. s == c) (gb18030_scalars index row.0 row.1))) o false ≡ false
+          → option_map_or (λ row. is_empty (gb18030_scalars index row.0 row.1)) o false ≡ false
           → option_or (option_or (option_map (λ row. row.0 ∷ row.1 ∷ []) o) (option_map gb18030_pair_bytes (gb18030_pointer_of index c))) other ≡ Some bytes
-          → Decodes (gb18030_front index ranges) bytes c
-      by_row None is unfolded h = by_index (option_map gb18030_pair_bytes (gb18030_pointer_of index c)) refl h
-      by_row (Some row) is unfolded h = row_decodes c row.0 row.1 bytes is unfolded h
+          → Decodes (gb18030_front index ranges) bytes (option_map_or (λ row. get_or (gb18030_scalars index row.0 row.1) 0 c) o c)
+      by_row None is kept h = by_index (option_map gb18030_pair_bytes (gb18030_pointer_of index c)) refl h
+      by_row (Some row) is kept h = row_decodes c row.0 row.1 bytes is kept h
 
-  pub gb18030-decodes : (c : ℕ) (bytes : List ℕ) → is_private_use_fold index pua c ≡ false
-      → gb18030_code index ranges pua c ≡ Some bytes → Decodes (gb18030_front index ranges) bytes c
+  pub gb18030-decodes : (c : ℕ) (bytes : List ℕ) → has_lost_row index pua c ≡ false
+      → gb18030_code index ranges pua c ≡ Some bytes → Decodes (gb18030_front index ranges) bytes (private_use_scalar index pua c)
   unfolding gb18030_code
-  gb18030-decodes c bytes unfolded h = by_tests (is_ascii c) (c == 0xE5E5) refl h
+  gb18030-decodes c bytes kept h = by_tests (is_ascii c) (c == 0xE5E5) refl h
     where
       by_tests : (t u : Bool) → is_ascii c ≡ t
           → cond t (Some (c ∷ [])) (cond u None (option_or (gb18030_pair_code pua index c) (option_map gb18030_range_bytes (range_pointer_of ranges c)))) ≡ Some bytes
-          → Decodes (gb18030_front index ranges) bytes c
+          → Decodes (gb18030_front index ranges) bytes (private_use_scalar index pua c)
       by_tests true u e h = ascii_decodes c bytes e h
       by_tests false true e h = cc
-      by_tests false false e h = pair_or c bytes (option_map gb18030_range_bytes (range_pointer_of ranges c)) unfolded (four_decodes index ranges c bytes) h
+      by_tests false false e h = pair_or c bytes (option_map gb18030_range_bytes (range_pointer_of ranges c)) kept (four_decodes index ranges c bytes) h
 
   or_nothing : (o : Option (List ℕ)) → option_or o None ≡ o
   or_nothing None = refl
@@ -176,17 +210,18 @@ module _ (index : List ℕ) (ranges : List (ℕ × ℕ)) (pua : List (ℕ × ℕ
   nothing_else : (c : ℕ) (bytes : List ℕ) → None ≡ Some bytes → Decodes (gb18030_front index ranges) bytes c
   nothing_else c bytes h = cc
 
-  pub gbk-decodes : (c : ℕ) (bytes : List ℕ) → is_private_use_fold index pua c ≡ false
-      → gbk_code index pua c ≡ Some bytes → Decodes (gb18030_front index ranges) bytes c
+  pub gbk-decodes : (c : ℕ) (bytes : List ℕ) → has_lost_row index pua c ≡ false
+      → gbk_code index pua c ≡ Some bytes → Decodes (gb18030_front index ranges) bytes (private_use_scalar index pua c)
   unfolding gbk_code gb18030_front
-  gbk-decodes c bytes unfolded h = by_tests (is_ascii c) (c == 0xE5E5) (c == 0x20AC) refl refl h
+  gbk-decodes c bytes kept h = by_tests (is_ascii c) (c == 0xE5E5) (c == 0x20AC) refl refl h
     where
       by_tests : (t u v : Bool) → is_ascii c ≡ t → (c == 0x20AC) ≡ v
           → cond t (Some (c ∷ [])) (cond u None (cond v (Some (0x80 ∷ [])) (gb18030_pair_code pua index c))) ≡ Some bytes
-          → Decodes (gb18030_front index ranges) bytes c
+          → Decodes (gb18030_front index ranges) bytes (private_use_scalar index pua c)
       by_tests true u v e f h = ascii_decodes c bytes e h
       by_tests false true v e f h = cc
       by_tests false false true e f h =
           let c_is = eqb-true c 0x20AC f in
-          one_byte (gb18030_front index ranges) 0x80 c bytes (cc) (λ more. rw c_is refl)
-      by_tests false false false e f h = pair_or c bytes None unfolded (nothing_else c bytes) (or_nothing (gb18030_pair_code pua index c) ∙ h)
+          let plain : is_row_scalar c ≡ false = rw c_is refl in
+          rw (no_row c plain) (one_byte (gb18030_front index ranges) 0x80 c bytes (cc) (λ more. rw c_is refl))
+      by_tests false false false e f h = pair_or c bytes None kept (nothing_else c bytes) (or_nothing (gb18030_pair_code pua index c) ∙ h)

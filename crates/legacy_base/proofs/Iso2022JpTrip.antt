@@ -1,32 +1,32 @@
 -- What an ISO-2022-JP encoder writes decodes to its text: the escapes give nothing, and each code is read in the mode
 -- in which it was written.
 use Rattle.std.proofs.Common.{◌≡◌, ℕ, ◌+◌, ◌-◌, ◌*◌, ◌/◌, ◌%◌, ◌<◌, List, [], ◌∷◌, ◌++◌, map, length, Bool, true, false}
-use Rattle.std.proofs.Common.{cond, ◌||◌, ◌&&◌, ◌==◌, Option, Some, None, is_some, inl, inr, refl, sym, ap, ◌∙◌, append_assoc, length-append, arith}
-use Rattle.std.proofs.lemmas.Bool.{or_parts, cases_eq}
+use Rattle.std.proofs.Common.{cond, ◌||◌, ◌&&◌, ◌==◌, Option, Some, None, is_some, option_and_then, inl, inr, refl, sym, ap, ◌∙◌, append_assoc, length-append, arith}
+use Rattle.std.proofs.lemmas.Bool.{or_parts, cases_eq, true≢false}
 use Rattle.std.proofs.lemmas.Bool.Decides.{nat_tests}
 use Rattle.std.proofs.Math.Nat.{div-add-mod}
 use Rattle.std.proofs.lemmas.Nat.{mod_below}
-use Rattle.std.specs.List.{list_any}
 use Rattle.std.specs.Int.{is_in_range}
 use Rattle.std.specs.Char.{is_ascii}
 use Rattle.legacy_base.specs.declared.results.DecodeEvent.{DecodeEvent}
 use Rattle.legacy_base.specs.declared.results.DecodeEvent.TheVariants.{Scalar, Bad}
 use Rattle.legacy_base.specs.declared.results.EncodeEvent.TheVariants.{Byte}
 use Rattle.legacy_base.specs.Events.{shift}
+use Rattle.legacy_base.specs.EncodeEvents.{code_events}
 use Rattle.legacy_base.specs.Fronts.{reads}
 use Rattle.legacy_base.specs.Pointers.{is_jis0208_pointer, euc_jp_pointer_of}
 use Rattle.legacy_base.specs.EncoderProfile.{EncoderMode, in_ascii, in_roman, in_two_byte}
 use Rattle.legacy_base.specs.Iso2022Jp.{Mode, ascii, roman, two_byte, esc, escape_mode, part_mode, iso_2022_jp_front, iso_2022_jp_events, is_whole_escape}
-use Rattle.legacy_base.specs.Iso2022Jp.{is_mode_control, iso_2022_jp_pointer_of, iso_2022_jp_pair, iso_2022_jp_code, roman_or_ascii, escape_between}
+use Rattle.legacy_base.specs.Iso2022Jp.{is_mode_control, iso_2022_jp_fold, iso_2022_jp_pointer_of, iso_2022_jp_pair, iso_2022_jp_code, iso_2022_jp_reported, is_neutral_scalar, is_roman_scalar, roman_or_ascii, escape_between}
 use Rattle.legacy_base.specs.Encoders.{iso_2022_jp}
-use Rattle.legacy_base.specs.RoundTrips.{is_fold, holds_adjacent_escapes}
+use Rattle.legacy_base.specs.RoundTrips.{is_fold, read_as, bytes_of, holds_adjacent_escapes}
 use Rattle.legacy_base.proofs.Shifts.{shift-zero, shift-append, shift-shift, shift-scalars}
 use Rattle.legacy_base.proofs.Pointers.{first-taken}
 use Rattle.legacy_base.proofs.PointersBack.{LeadsBack, leads_back}
-use Rattle.legacy_base.proofs.Trips.{same_byte_lists, begins_with, has_code}
+use Rattle.legacy_base.proofs.Trips.{same_byte_lists, begins_with, has_code, coded, bytes_of-behind, bytes_of-bytes, bytes_of-unmappable}
 use Rattle.legacy_base.proofs.Iso2022JpParts.{first_part}
 use Rattle.legacy_base.proofs.Iso2022JpFronts.{step_one, step_two, step_escape}
-use Rattle.legacy_base.proofs.Iso2022JpEncoding.{mode_for, own_events, text_events, text_events-scalar, text_events-end, IsWritten}
+use Rattle.legacy_base.proofs.Iso2022JpEncoding.{mode_for, mode_for-by, own_events, text_events, text_events-scalar, text_events-end, IsWritten}
 use Rattle.legacy_base.proofs.Iso2022JpEncoding.{at_control, at_special, at_neutral, at_yen, at_overline, at_pair, at_none}
 
 -- the mode of a decoder in which an encoder's mode is read
@@ -145,7 +145,7 @@ escape_adjacent in_two_byte in_ascii rest h = adjacent-escape 0x28 0x42 rest ref
 escape_adjacent in_two_byte in_roman rest h = adjacent-escape 0x28 0x4A rest refl refl h
 
 module _ (jis0208 katakana_index : List ℕ) where
-  -- the own bytes of c in the mode: they begin no escape, they give c, and they hold no escape
+  -- own bytes in the mode that give c: they begin no escape, and they hold none
   record OwnRead (mode : EncoderMode) (c : ℕ) (bytes : List ℕ) : Type 0 where
     plain : (more : List ℕ) → is_whole_escape (bytes ++ more) ≡ false
     gives : (more : List ℕ) → iso_2022_jp_events jis0208 (read_in mode) (bytes ++ more) ≡ Scalar c ∷ shift (length bytes) (iso_2022_jp_events jis0208 (read_in mode) more)
@@ -177,9 +177,9 @@ module _ (jis0208 katakana_index : List ℕ) where
       by_mode in_roman p q = own_byte in_roman c c p.1 (λ rest. front-roman jis0208 c rest a p.0 q.0 q.1)
 
   -- a scalar whose mode and code are known
-  own_written : (mode new : EncoderMode) (c : ℕ) (own bytes : List ℕ) → IsWritten jis0208 katakana_index mode c new (Some own)
-      → iso_2022_jp_code jis0208 katakana_index c ≡ Some bytes → OwnRead new c own → OwnRead (mode_for jis0208 katakana_index mode c) c bytes
-  own_written mode new c own bytes w is o = let same = same_code (sym w.code_is ∙ is) in rw (w.mode_is, ← same) o
+  own_written : (mode new : EncoderMode) (c scalar : ℕ) (own bytes : List ℕ) → IsWritten jis0208 katakana_index mode c new (Some own)
+      → iso_2022_jp_code jis0208 katakana_index c ≡ Some bytes → OwnRead new scalar own → OwnRead (mode_for jis0208 katakana_index mode c) scalar bytes
+  own_written mode new c scalar own bytes w is o = let same = same_code (sym w.code_is ∙ is) in rw (w.mode_is, ← same) o
     where
       same_code : Some own ≡ Some bytes → own ≡ bytes
       same_code h = cc
@@ -188,88 +188,267 @@ module _ (jis0208 katakana_index : List ℕ) where
   no_code : (mode new : EncoderMode) (c : ℕ) (bytes : List ℕ) → IsWritten jis0208 katakana_index mode c new None → iso_2022_jp_code jis0208 katakana_index c ≡ Some bytes → ⊥
   no_code mode new c bytes w is = let none = sym w.code_is ∙ is in cc
 
+  -- the scalar that c is looked up as, and its pointer
+  record IsLookedUp (c p : ℕ) : Type 0 where
+    scalar : ℕ
+    fold : iso_2022_jp_fold katakana_index c ≡ Some scalar
+    pointer : euc_jp_pointer_of jis0208 scalar ≡ Some p
+
+  looked_up : (c p : ℕ) → iso_2022_jp_pointer_of jis0208 katakana_index c ≡ Some p → IsLookedUp c p
+  looked_up c p h = by_fold (iso_2022_jp_fold katakana_index c) refl h
+    where
+      by_fold : (o : Option ℕ) → iso_2022_jp_fold katakana_index c ≡ o → option_and_then (euc_jp_pointer_of jis0208) o ≡ Some p → IsLookedUp c p
+      by_fold None e h = cc
+      by_fold (Some scalar) e h = record { scalar = scalar; fold = e; pointer = h }
+
+  -- what c is read as
+  abbrev pub own_scalar : ℕ → ℕ
+  own_scalar c = read_as (iso_2022_jp jis0208 katakana_index) c
+
   -- what is no fold stands for itself
-  no_fold : (c : ℕ) → is_fold (iso_2022_jp jis0208 katakana_index) c ≡ false → iso_2022_jp_pointer_of jis0208 katakana_index c ≡ euc_jp_pointer_of jis0208 c
+  pub no_fold : (c : ℕ) → is_fold (iso_2022_jp jis0208 katakana_index) c ≡ false → own_scalar c ≡ c
   no_fold c h =
       let p = or_parts (c == 0x2212) (is_in_range 0xFF61 0xFF9F c) h in
       rw (p.1, p.0) refl
 
-  -- a scalar that is no fold, and whose code these bytes are
-  own_read : (mode : EncoderMode) (c : ℕ) (bytes : List ℕ) → is_fold (iso_2022_jp jis0208 katakana_index) c ≡ false
-      → iso_2022_jp_code jis0208 katakana_index c ≡ Some bytes → OwnRead (mode_for jis0208 katakana_index mode c) c bytes
-  own_read mode c bytes unfolded is = by_tests (is_mode_control c) (is_ascii c) (c == 0x5C || c == 0x7E) refl refl refl
+  pub ascii_stands : (c : ℕ) → is_ascii c ≡ true → own_scalar c ≡ c
+  ascii_stands c h = let plain : is_fold (iso_2022_jp jis0208 katakana_index) c ≡ false = grind (arith, nat_tests) in no_fold c plain
+
+  -- a scalar whose code these bytes are
+  own_read : (mode : EncoderMode) (c : ℕ) (bytes : List ℕ)
+      → iso_2022_jp_code jis0208 katakana_index c ≡ Some bytes → OwnRead (mode_for jis0208 katakana_index mode c) (own_scalar c) bytes
+  own_read mode c bytes is = by_tests (is_mode_control c) (is_ascii c) (c == 0x5C || c == 0x7E) refl refl refl
     where
       by_pointer : (o : Option ℕ) → is_mode_control c ≡ false → is_ascii c ≡ false → (c ≡ 0xA5 → ⊥) → (c ≡ 0x203E → ⊥)
-          → iso_2022_jp_pointer_of jis0208 katakana_index c ≡ o → OwnRead (mode_for jis0208 katakana_index mode c) c bytes
+          → iso_2022_jp_pointer_of jis0208 katakana_index c ≡ o → OwnRead (mode_for jis0208 katakana_index mode c) (own_scalar c) bytes
       by_pointer None m a y v e = absurd (no_code mode _ c bytes (at_none jis0208 katakana_index mode c m a y v e) is)
       by_pointer (Some p) m a y v e =
-          let back = leads_back is_jis0208_pointer jis0208 c _ (first-taken is_jis0208_pointer jis0208 c) p (sym (no_fold c unfolded) ∙ e) in
-          own_written mode in_two_byte c _ bytes (at_pair jis0208 katakana_index mode c p m a y v e) is (own_pair p c back)
+          let found = looked_up c p e in
+          let back = leads_back is_jis0208_pointer jis0208 found.scalar _ (first-taken is_jis0208_pointer jis0208 found.scalar) p found.pointer in
+          own_written mode in_two_byte c (own_scalar c) _ bytes (at_pair jis0208 katakana_index mode c p m a y v e) is (rw found.fold (own_pair p found.scalar back))
 
-      past_ascii : is_mode_control c ≡ false → is_ascii c ≡ false → OwnRead (mode_for jis0208 katakana_index mode c) c bytes
+      past_ascii : is_mode_control c ≡ false → is_ascii c ≡ false → OwnRead (mode_for jis0208 katakana_index mode c) (own_scalar c) bytes
       past_ascii m a = elim (cases_eq c 0xA5) [
-        | inl e ↦ own_written mode in_roman c _ bytes (at_yen jis0208 katakana_index mode c e) is (rw e (own_byte in_roman 0xA5 0x5C refl (λ rest. front-yen jis0208 rest)))
+        | inl e ↦ own_written mode in_roman c (own_scalar c) _ bytes (at_yen jis0208 katakana_index mode c e) is (rw e (own_byte in_roman 0xA5 0x5C refl (λ rest. front-yen jis0208 rest)))
         | inr y ↦ elim (cases_eq c 0x203E) [
-          | inl e ↦ own_written mode in_roman c _ bytes (at_overline jis0208 katakana_index mode c e) is (rw e (own_byte in_roman 0x203E 0x7E refl (λ rest. front-overline jis0208 rest)))
+          | inl e ↦ own_written mode in_roman c (own_scalar c) _ bytes (at_overline jis0208 katakana_index mode c e) is (rw e (own_byte in_roman 0x203E 0x7E refl (λ rest. front-overline jis0208 rest)))
           | inr v ↦ by_pointer (iso_2022_jp_pointer_of jis0208 katakana_index c) m a y v refl
         ]
       ]
 
       by_tests : (control ascii_byte special : Bool) → is_mode_control c ≡ control → is_ascii c ≡ ascii_byte → (c == 0x5C || c == 0x7E) ≡ special
-          → OwnRead (mode_for jis0208 katakana_index mode c) c bytes
+          → OwnRead (mode_for jis0208 katakana_index mode c) (own_scalar c) bytes
       by_tests true ascii_byte special m a s = absurd (no_code mode _ c bytes (at_control jis0208 katakana_index mode c m) is)
       by_tests false true true m a s =
           let p = or_parts (c == 0x0E || c == 0x0F) (c == esc) m in
-          own_written mode in_ascii c _ bytes (at_special jis0208 katakana_index mode c m a s) is (own_byte in_ascii c c p.1 (λ rest. front-ascii jis0208 c rest a p.0))
+          own_written mode in_ascii c (own_scalar c) _ bytes (at_special jis0208 katakana_index mode c m a s) is
+          (rw (ascii_stands c a) (own_byte in_ascii c c p.1 (λ rest. front-ascii jis0208 c rest a p.0)))
       by_tests false true false m a s =
-          own_written mode (roman_or_ascii mode) c _ bytes (at_neutral jis0208 katakana_index mode c m a s) is (own_neutral mode c a m s)
+          own_written mode (roman_or_ascii mode) c (own_scalar c) _ bytes (at_neutral jis0208 katakana_index mode c m a s) is (rw (ascii_stands c a) (own_neutral mode c a m s))
       by_tests false false special m a s = past_ascii m a
+
+  -- the mode that a scalar without a code asks for
+  pub none_keeps : (mode : EncoderMode) (c : ℕ) → iso_2022_jp_code jis0208 katakana_index c ≡ None → mode_for jis0208 katakana_index mode c ≡ roman_or_ascii mode
+  none_keeps mode c none = mode_for-by jis0208 katakana_index mode c ∙ rw none (kept (is_neutral_scalar c))
+    where
+      kept : (t : Bool) → cond (t || true) (roman_or_ascii mode) (cond (is_roman_scalar c) in_roman in_ascii) ≡ roman_or_ascii mode
+      kept true = refl
+      kept false = refl
 
   -- ---- texts
 
-  -- What a text's bytes give that were written from the mode: its scalars, and then what is behind, which is read in ASCII
-  -- mode. They hold no two adjacent escapes.
-  pub record TextRead (mode : EncoderMode) (text bytes more : List ℕ) : Type 0 where
-    pub gives : iso_2022_jp_events jis0208 (read_in mode) (bytes ++ more) ≡ map Scalar text ++ shift (length bytes) (iso_2022_jp_events jis0208 ascii more)
-    pub quiet : holds_adjacent_escapes (bytes ++ more) ≡ holds_adjacent_escapes more
+  -- the scalars of a text that have a code
+  abbrev pub coded_here : List ℕ → List ℕ
+  coded_here text = coded (iso_2022_jp_code jis0208 katakana_index) text
 
-  -- c, and then a text, behind n bytes
-  scalar_then : (n m c : ℕ) (text : List ℕ) (events : List DecodeEvent)
-      → Scalar c ∷ shift n (map Scalar text ++ shift m events) ≡ map Scalar (c ∷ text) ++ shift (n + m) events
-  scalar_then n m c text events =
-      rw (shift-append n (map Scalar text) (shift m events), shift-scalars n text, shift-shift n m events) refl
+  -- what is read of a text
+  abbrev pub text_back : List ℕ → List ℕ
+  text_back text = map own_scalar (coded_here text)
 
-  text_read-scalar : (mode new : EncoderMode) (c : ℕ) (own text behind more : List ℕ)
-      → OwnRead new c own → TextRead new text behind more → TextRead mode (c ∷ text) (escape_between mode new ++ (own ++ behind)) more
-  text_read-scalar mode new c own text behind more o t =
-      let all = behind ++ more in
-      let x = iso_2022_jp_events jis0208 ascii more in
-      let joined : iso_2022_jp_events jis0208 (read_in new) (own ++ all) ≡ map Scalar (c ∷ text) ++ shift (length own + length behind) x =
-      o.gives all ∙ rw t.gives (scalar_then (length own) (length behind) c text x) in
-      record {
-        gives = rw (append_assoc, append_assoc, length-append, length-append)
-            (escape_read jis0208 mode new (own ++ all) (o.plain all)
-            ∙ ap (shift (length (escape_between mode new))) joined
-            ∙ scalar_then (length (escape_between mode new)) (length own + length behind) c text x);
-        quiet = rw (append_assoc, append_assoc) (escape_adjacent mode new (own ++ all) (o.plain all) ∙ o.quiet all ∙ t.quiet);
-      }
+  -- the bytes of a text that begins in the mode
+  abbrev pub text_bytes : EncoderMode → List ℕ → List ℕ
+  text_bytes mode text = bytes_of (text_events jis0208 katakana_index mode text true)
 
-  text_read-end : (mode : EncoderMode) (more : List ℕ) → is_whole_escape more ≡ false → TextRead mode [] (escape_between mode in_ascii) more
-  text_read-end mode more h = record { gives = escape_read jis0208 mode in_ascii more h; quiet = escape_adjacent mode in_ascii more h }
+  -- what a scalar's escape, its own bytes and those behind make up, by its code
+  abbrev pub scalar_bytes : EncoderMode → EncoderMode → Option (List ℕ) → List ℕ → List ℕ
+  scalar_bytes mode new None behind = escape_between mode new ++ behind
+  scalar_bytes mode new (Some own) behind = escape_between mode new ++ (own ++ behind)
 
-  pub text_read : (mode : EncoderMode) (text bytes more : List ℕ) → is_whole_escape more ≡ false
-      → text_events jis0208 katakana_index mode text true ≡ map Byte bytes
-      → list_any (is_fold (iso_2022_jp jis0208 katakana_index)) text ≡ false
-      → TextRead mode text bytes more
-  text_read mode [] bytes more h e none =
-      let same = same_byte_lists (escape_between mode in_ascii) bytes (sym (text_events-end jis0208 katakana_index mode) ∙ e) in
-      rw (← same) (text_read-end mode more h)
-  text_read mode (c ∷ text) bytes more h e none =
+  pub text_bytes-scalar : (mode : EncoderMode) (c : ℕ) (text : List ℕ)
+      → text_bytes mode (c ∷ text)
+      ≡ scalar_bytes mode (mode_for jis0208 katakana_index mode c) (iso_2022_jp_code jis0208 katakana_index c) (text_bytes (mode_for jis0208 katakana_index mode c) text)
+  text_bytes-scalar mode c text =
       let new = mode_for jis0208 katakana_index mode c in
-      let folds = or_parts (is_fold (iso_2022_jp jis0208 katakana_index) c) (list_any (is_fold (iso_2022_jp jis0208 katakana_index)) text) none in
+      ap bytes_of (text_events-scalar jis0208 katakana_index mode c text true)
+      ∙ bytes_of-behind (escape_between mode new) (own_events jis0208 katakana_index c ++ text_events jis0208 katakana_index new text true)
+      ∙ by_code new (iso_2022_jp_code jis0208 katakana_index c)
+    where
+      by_code : (new : EncoderMode) (o : Option (List ℕ))
+          → escape_between mode new ++ bytes_of (code_events (iso_2022_jp_reported c) o ++ text_events jis0208 katakana_index new text true)
+          ≡ scalar_bytes mode new o (text_bytes new text)
+      by_code new None = ap (λ l. escape_between mode new ++ l) (bytes_of-unmappable (iso_2022_jp_reported c) (text_events jis0208 katakana_index new text true))
+      by_code new (Some own) = ap (λ l. escape_between mode new ++ l) (bytes_of-behind own (text_events jis0208 katakana_index new text true))
+
+  pub text_bytes-end : (mode : EncoderMode) → text_bytes mode [] ≡ escape_between mode in_ascii
+  text_bytes-end mode = ap bytes_of (text_events-end jis0208 katakana_index mode) ∙ bytes_of-bytes (escape_between mode in_ascii)
+
+  -- ---- what begins with a valid escape, and what does not
+
+  -- a list that begins with no valid escape, nor does it so with what stands behind it, if that does not
+  begins_with_none : (old new : EncoderMode) (bytes more : List ℕ)
+      → (is_whole_escape bytes ≡ false → is_whole_escape (bytes ++ more) ≡ false)
+      → is_whole_escape (escape_between old new ++ bytes) ≡ false → is_whole_escape ((escape_between old new ++ bytes) ++ more) ≡ false
+  begins_with_none in_ascii in_ascii bytes more here h = here h
+  begins_with_none in_roman in_roman bytes more here h = here h
+  begins_with_none in_two_byte in_two_byte bytes more here h = here h
+  begins_with_none in_ascii in_roman bytes more here h = absurd (true≢false h)
+  begins_with_none in_ascii in_two_byte bytes more here h = absurd (true≢false h)
+  begins_with_none in_roman in_ascii bytes more here h = absurd (true≢false h)
+  begins_with_none in_roman in_two_byte bytes more here h = absurd (true≢false h)
+  begins_with_none in_two_byte in_ascii bytes more here h = absurd (true≢false h)
+  begins_with_none in_two_byte in_roman bytes more here h = absurd (true≢false h)
+
+  end_begins : (mode : EncoderMode) (more : List ℕ) → is_whole_escape more ≡ false
+      → is_whole_escape (escape_between mode in_ascii) ≡ false → is_whole_escape (escape_between mode in_ascii ++ more) ≡ false
+  end_begins in_ascii more plain h = plain
+  end_begins in_roman more plain h = absurd (true≢false h)
+  end_begins in_two_byte more plain h = absurd (true≢false h)
+
+  text_begins : (mode : EncoderMode) (text more : List ℕ) → is_whole_escape more ≡ false
+      → is_whole_escape (text_bytes mode text) ≡ false → is_whole_escape (text_bytes mode text ++ more) ≡ false
+  text_begins mode [] more plain h =
+      rw (text_bytes-end mode) (end_begins mode more plain (rw (text_bytes-end mode) at h))
+  text_begins mode (c ∷ text) more plain h =
+      let new = mode_for jis0208 katakana_index mode c in
+      rw (text_bytes-scalar mode c text) (by_code (iso_2022_jp_code jis0208 katakana_index c) refl (text_begins new text more plain) (rw (text_bytes-scalar mode c text) at h))
+    where
+      by_code : (o : Option (List ℕ)) → iso_2022_jp_code jis0208 katakana_index c ≡ o
+          → (is_whole_escape (text_bytes (mode_for jis0208 katakana_index mode c) text) ≡ false → is_whole_escape (text_bytes (mode_for jis0208 katakana_index mode c) text ++ more) ≡ false)
+          → is_whole_escape (scalar_bytes mode (mode_for jis0208 katakana_index mode c) o (text_bytes (mode_for jis0208 katakana_index mode c) text)) ≡ false
+          → is_whole_escape (scalar_bytes mode (mode_for jis0208 katakana_index mode c) o (text_bytes (mode_for jis0208 katakana_index mode c) text) ++ more) ≡ false
+      by_code None e later h = begins_with_none mode _ _ more later h
+      by_code (Some own) e later h =
+          let behind = text_bytes (mode_for jis0208 katakana_index mode c) text in
+          begins_with_none mode _ (own ++ behind) more (λ _. rw (append_assoc own behind more) ((own_read mode c own e).plain (behind ++ more))) h
+
+  -- ---- no two escapes that meet
+
+  -- a list without such has none at its end
+  pub apart_behind : (front bytes : List ℕ) → holds_adjacent_escapes (front ++ bytes) ≡ false → holds_adjacent_escapes bytes ≡ false
+  unfolding holds_adjacent_escapes
+  apart_behind [] bytes h = h
+  apart_behind (b ∷ front) bytes h = apart_behind front bytes (or_parts _ (holds_adjacent_escapes (front ++ bytes)) h).1
+
+  -- behind an escape there is no other
+  pub escape_apart : (old new : EncoderMode) (bytes : List ℕ) → (old ≡ new → ⊥) → holds_adjacent_escapes (escape_between old new ++ bytes) ≡ false → is_whole_escape bytes ≡ false
+  unfolding holds_adjacent_escapes
+  escape_apart in_ascii in_ascii bytes n h = absurd (n refl)
+  escape_apart in_roman in_roman bytes n h = absurd (n refl)
+  escape_apart in_two_byte in_two_byte bytes n h = absurd (n refl)
+  escape_apart in_ascii in_roman bytes n h = (or_parts (is_whole_escape bytes) _ h).0
+  escape_apart in_ascii in_two_byte bytes n h = (or_parts (is_whole_escape bytes) _ h).0
+  escape_apart in_roman in_ascii bytes n h = (or_parts (is_whole_escape bytes) _ h).0
+  escape_apart in_roman in_two_byte bytes n h = (or_parts (is_whole_escape bytes) _ h).0
+  escape_apart in_two_byte in_ascii bytes n h = (or_parts (is_whole_escape bytes) _ h).0
+  escape_apart in_two_byte in_roman bytes n h = (or_parts (is_whole_escape bytes) _ h).0
+
+  -- ---- what is read
+
+  -- What a text's bytes give that were written from the mode: what is read of it, and then what is behind, which is read
+  -- in ASCII mode.
+  abbrev pub IsTextRead : EncoderMode → List ℕ → List ℕ → List ℕ → Type 0
+  IsTextRead mode back bytes more =
+      iso_2022_jp_events jis0208 (read_in mode) (bytes ++ more) ≡ map Scalar back ++ shift (length bytes) (iso_2022_jp_events jis0208 ascii more)
+
+  -- c, and then what is read, behind n bytes
+  scalar_then : (n m c : ℕ) (back : List ℕ) (events : List DecodeEvent)
+      → Scalar c ∷ shift n (map Scalar back ++ shift m events) ≡ map Scalar (c ∷ back) ++ shift (n + m) events
+  scalar_then n m c back events =
+      rw (shift-append n (map Scalar back) (shift m events), shift-scalars n back, shift-shift n m events) refl
+
+  -- an escape, and then what is read
+  escape_then : (old new : EncoderMode) (back bytes more : List ℕ) → is_whole_escape (bytes ++ more) ≡ false
+      → IsTextRead new back bytes more → IsTextRead old back (escape_between old new ++ bytes) more
+  escape_then old new back bytes more alone read =
+      let n = length (escape_between old new) in
+      let events = iso_2022_jp_events jis0208 ascii more in
+      rw (append_assoc, length-append)
+      (escape_read jis0208 old new (bytes ++ more) alone
+      ∙ ap (shift n) read
+      ∙ shift-append n (map Scalar back) (shift (length bytes) events)
+      ∙ ap (λ l. l ++ shift n (shift (length bytes) events)) (shift-scalars n back)
+      ∙ ap (λ l. map Scalar back ++ l) (shift-shift n (length bytes) events))
+
+  text_read-scalar : (mode new : EncoderMode) (c : ℕ) (own back behind more : List ℕ)
+      → OwnRead new c own → IsTextRead new back behind more → IsTextRead mode (c ∷ back) (escape_between mode new ++ (own ++ behind)) more
+  text_read-scalar mode new c own back behind more o read =
+      let all = behind ++ more in
+      let joined : IsTextRead new (c ∷ back) (own ++ behind) more =
+      rw (append_assoc, length-append) (o.gives all ∙ rw read (scalar_then (length own) (length behind) c back (iso_2022_jp_events jis0208 ascii more))) in
+      escape_then mode new (c ∷ back) (own ++ behind) more (rw (append_assoc own behind more) (o.plain all)) joined
+
+  -- a scalar without a code
+  text_read-none : (mode : EncoderMode) (back behind more : List ℕ)
+      → (is_whole_escape behind ≡ false → is_whole_escape (behind ++ more) ≡ false)
+      → holds_adjacent_escapes (escape_between mode (roman_or_ascii mode) ++ behind) ≡ false
+      → IsTextRead (roman_or_ascii mode) back behind more → IsTextRead mode back (escape_between mode (roman_or_ascii mode) ++ behind) more
+  text_read-none in_ascii back behind more begins h read = read
+  text_read-none in_roman back behind more begins h read = read
+  text_read-none in_two_byte back behind more begins h read =
+      escape_then in_two_byte in_ascii back behind more (begins (escape_apart in_two_byte in_ascii behind (λ e. cc) h)) read
+
+  pub text_read : (mode : EncoderMode) (text more : List ℕ) → is_whole_escape more ≡ false
+      → holds_adjacent_escapes (text_bytes mode text) ≡ false → IsTextRead mode (text_back text) (text_bytes mode text) more
+  text_read mode [] more plain h = rw (text_bytes-end mode) (escape_read jis0208 mode in_ascii more plain)
+  text_read mode (c ∷ text) more plain h =
+      let new = mode_for jis0208 katakana_index mode c in
+      rw (text_bytes-scalar mode c text)
+      (by_code (iso_2022_jp_code jis0208 katakana_index c) refl (text_read new text more plain) (rw (text_bytes-scalar mode c text) at h))
+    where
+      by_code : (o : Option (List ℕ)) → iso_2022_jp_code jis0208 katakana_index c ≡ o
+          → (holds_adjacent_escapes (text_bytes (mode_for jis0208 katakana_index mode c) text) ≡ false
+          → IsTextRead (mode_for jis0208 katakana_index mode c) (text_back text) (text_bytes (mode_for jis0208 katakana_index mode c) text) more)
+          → holds_adjacent_escapes (scalar_bytes mode (mode_for jis0208 katakana_index mode c) o (text_bytes (mode_for jis0208 katakana_index mode c) text)) ≡ false
+          → IsTextRead mode (map own_scalar (cond (is_some o) (c ∷ coded_here text) (coded_here text)))
+          (scalar_bytes mode (mode_for jis0208 katakana_index mode c) o (text_bytes (mode_for jis0208 katakana_index mode c) text)) more
+      by_code None e later h =
+          let new_is = none_keeps mode c e in
+          let behind = text_bytes (mode_for jis0208 katakana_index mode c) text in
+          let read = later (apart_behind (escape_between mode (mode_for jis0208 katakana_index mode c)) behind h) in
+          let begins = text_begins (mode_for jis0208 katakana_index mode c) text more plain in
+          rw new_is (text_read-none mode (text_back text) _ more (rw new_is at begins) (rw new_is at h) (rw new_is at read))
+      by_code (Some own) e later h =
+          let new = mode_for jis0208 katakana_index mode c in
+          let behind = text_bytes new text in
+          let read = later (apart_behind own behind (apart_behind (escape_between mode new) (own ++ behind) h)) in
+          text_read-scalar mode new (own_scalar c) own (text_back text) behind more (own_read mode c own e) read
+
+  -- ---- texts of which nothing is unmappable
+
+  -- all their scalars have codes, and no two escapes meet
+  pub record IsApart (text bytes : List ℕ) : Type 0 where
+    pub coded_all : coded_here text ≡ text
+    pub apart : holds_adjacent_escapes bytes ≡ false
+
+  apart-end : (mode : EncoderMode) → holds_adjacent_escapes (escape_between mode in_ascii) ≡ false
+  unfolding holds_adjacent_escapes
+  apart-end in_ascii = refl
+  apart-end in_roman = refl
+  apart-end in_two_byte = refl
+
+  pub text_apart : (mode : EncoderMode) (text bytes : List ℕ) → text_events jis0208 katakana_index mode text true ≡ map Byte bytes → IsApart text bytes
+  text_apart mode [] bytes e =
+      let same = same_byte_lists (escape_between mode in_ascii) bytes (sym (text_events-end jis0208 katakana_index mode) ∙ e) in
+      record { coded_all = refl; apart = rw (← same) (apart-end mode) }
+  text_apart mode (c ∷ text) bytes e =
+      let new = mode_for jis0208 katakana_index mode c in
       let later = text_events jis0208 katakana_index new text true in
       let escape = begins_with (escape_between mode new) bytes (own_events jis0208 katakana_index c ++ later) (sym (text_events-scalar jis0208 katakana_index mode c text true) ∙ e) in
       let here = has_code _ (iso_2022_jp_code jis0208 katakana_index c) escape.rest later escape.behind in
       let t = here.begins in
-      let own = own_read mode c here.own folds.0 here.code_is in
-      rw (escape.split, t.split) (text_read-scalar mode new c here.own text t.rest more own (text_read new text t.rest more h t.behind folds.1))
+      let own = own_read mode c here.own here.code_is in
+      let rest = text_apart new text t.rest t.behind in
+      record {
+        coded_all = rw here.code_is (ap (λ (l : List ℕ). c ∷ l) rest.coded_all);
+        apart = rw (escape.split, t.split) (escape_adjacent mode new (here.own ++ t.rest) (own.plain t.rest) ∙ own.quiet t.rest ∙ rest.apart);
+      }

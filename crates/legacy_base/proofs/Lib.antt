@@ -12,6 +12,7 @@ pub mod Iso2022JpFronts
 pub mod Iso2022JpEncoding
 pub mod TableLoops
 pub mod FirstPlaces
+pub mod SearchedBlocks
 pub mod Pointers
 pub mod Accepted
 pub mod RangePointers
@@ -36,3 +37,4 @@ pub mod Gb18030Trip
 pub mod AcceptedTrips
 pub mod Iso2022JpTrip
 pub mod RoundTrips
+pub mod Reencoding

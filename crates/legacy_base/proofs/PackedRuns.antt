@@ -10,6 +10,7 @@ use Rattle.std.specs.Option.{option_map_or}
 use borrow.Author.Tests.{ltb-true, leb-true, le-leb, lt-leb, lt-ltb, le-ltb}
 use Rattle.legacy_base.specs.declared.tables.packed.Run.{Run}
 use Rattle.legacy_base.specs.Directories.{IsRising, IsDirectory, count_below}
+use Rattle.legacy_base.specs.Packed.{differs_at}
 use Rattle.legacy_base.specs.Runs.{run_end, run_scalar, runs_scalar, runs_entry, runs_end, runs_list, is_run_in_order, run_fault_from, run_fault, AreInOrder, run_starts}
 
 -- a run of no pointers
@@ -223,9 +224,20 @@ module _ (runs : List Run) (ordered : AreInOrder runs) (p : ℕ) where
       ]
     ])
 
+  -- a pointer behind the last run
+  pub scalar-behind : (n : ℕ) → n + 1 ≡ length runs → run_end (get_or runs n no_run) ≤ p → runs_scalar runs p ≡ None
+  scalar-behind n last h = scalar-none runs p (λ k l. elim (cases_lt k n) [
+    | inl m ↦ let end = ordered.rising k n no_run m (omega arith) in outside-behind (get_or runs k no_run) p (omega arith)
+    | inr m ↦ let same : k ≡ n = omega arith in rw same (outside-behind (get_or runs n no_run) p h)
+  ])
+
   -- a pointer past all that any index has
   pub scalar-past : 23940 ≤ p → runs_scalar runs p ≡ None
   scalar-past h = scalar-none runs p (λ k l. let r = ordered.reach k no_run l in outside-behind (get_or runs k no_run) p (omega arith))
+
+-- where neither runs nor an index have a pointer, they do not differ
+pub same-behind : (runs : List Run) (index : List ℕ) (p : ℕ) → length index ≤ p → runs_scalar runs p ≡ None → differs_at runs index p ≡ false
+same-behind runs index p h e = rw (get_or_past index p 0 h, e) refl
 
 -- ---- the flat list of runs
 

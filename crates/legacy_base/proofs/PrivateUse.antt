@@ -1,13 +1,14 @@
 -- What is known of private-use rows that passed their check, and what a search of them finds.
 use Rattle.std.proofs.Common.{◌≡◌, ◌≢◌, ◌⊎◌, inl, inr, ℕ, zero, suc, ◌+◌, ◌≤◌, ◌<◌, List, [], ◌∷◌, length}
-use Rattle.std.proofs.Common.{get_or, add-one, refl, arith, Some, None, Option, true, false, Bool, not, cond, find, eq-eqb, ◌==◌}
-use Rattle.std.proofs.lemmas.Bool.{ne_eqb, cases_lt}
+use Rattle.std.proofs.Common.{◌∙◌, ◌&&◌, sym, ap, get_or, add-one, refl, arith, Some, None, Option, true, false, Bool, not, cond, find, eq-eqb, ◌==◌}
+use Rattle.std.proofs.lemmas.Bool.{ne_eqb, cases_lt, true≢false}
+use Rattle.std.specs.Int.{is_in_range}
 use Rattle.std.proofs.lemmas.List.Sorted.{IsNonDecreasingBy-from_all_adjacent}
 use Rattle.std.specs.List.{AllAdjacentBelow}
 use Rattle.std.specs.List.Sorted.{IsNonDecreasingBy}
 use borrow.Author.Tests.{ltb-true}
 use Rattle.legacy_base.specs.declared.tables.TableError.{TableError}
-use Rattle.legacy_base.specs.declared.tables.TableError.TheVariants.{PuaOrder}
+use Rattle.legacy_base.specs.declared.tables.TableError.TheVariants.{PuaOrder, PuaScalar}
 use Rattle.legacy_base.specs.Indexes.{gb18030_pua_of}
 use Rattle.legacy_base.specs.TableChecks.{follows_scalar, row_fault, rows_fault}
 use Rattle.legacy_base.proofs.Accepted.{or_none}
@@ -35,6 +36,22 @@ adjacent place before (r ∷ s ∷ rows) e (suc k) d h =
 pub rows-rising : (rows : List (ℕ × ℕ × ℕ)) → rows_fault 0 None rows ≡ None → IsNonDecreasingBy (λ r. r.0) rows
 rows-rising rows e = IsNonDecreasingBy-from_all_adjacent (λ r. r.0) rows (adjacent 0 None rows e)
 
+-- and has a scalar for private use
+private_use : (place : ℕ) (before : Option ℕ) (r : ℕ × ℕ × ℕ) → row_fault place before r ≡ None → is_in_range 0xE000 0xF8FF r.0 ≡ true
+private_use place before r e = go (follows_scalar before r.0) (is_in_range 0xE000 0xF8FF r.0) (not (r.0 == 0xE5E5)) _ e
+  where
+    go : (t a b : Bool) (other : Option TableError) → cond (not t) (Some (PuaOrder place)) (cond (not (a && b)) (Some (PuaScalar place)) other) ≡ None → a ≡ true
+    go true true b other z = refl
+    go true false b other z = cc
+    go false a b other z = cc
+
+all_private : (place : ℕ) (before : Option ℕ) (rows : List (ℕ × ℕ × ℕ)) → rows_fault place before rows ≡ None → (k : ℕ) → k < length rows →
+    is_in_range 0xE000 0xF8FF (get_or rows k (0, 0, 0)).0 ≡ true
+unfolding rows_fault
+all_private place before [] e k h = absurd (omega arith)
+all_private place before (r ∷ rows) e zero h = private_use place before r (or_none (row_fault place before r) _ e).0
+all_private place before (r ∷ rows) e (suc k) h = all_private (place + 1) (Some r.0) rows (or_none (row_fault place before r) _ e).1 k (omega arith)
+
 module _ (c : ℕ) where
   find_none : (rows : List (ℕ × ℕ × ℕ)) → ((k : ℕ) → k < length rows → (get_or rows k (0, 0, 0)).0 ≢ c) → find (λ r. r.0 == c) rows ≡ None
   find_none [] other = refl
@@ -45,6 +62,11 @@ module _ (c : ℕ) where
   find_at [] place h e other = absurd (omega arith)
   find_at (r ∷ rows) zero h e other = rw (eq-eqb r.0 c e) refl
   find_at (r ∷ rows) (suc place) h e other = rw (ne_eqb r.0 c (other 0 (omega arith))) (find_at rows place (omega arith) e (λ k m. other (suc k) (omega arith)))
+
+  -- no row has a scalar that is for no private use
+  pub row-outside : (rows : List (ℕ × ℕ × ℕ)) → rows_fault 0 None rows ≡ None → is_in_range 0xE000 0xF8FF c ≡ false → None ≡ gb18030_pua_of rows c
+  row-outside rows none outside =
+      rw (find_none rows (λ k h e. true≢false (sym (all_private 0 None rows none k h) ∙ ap (is_in_range 0xE000 0xF8FF) e ∙ outside))) refl
 
   -- so many rows have a lower scalar, and the others none
   module _ (rows : List (ℕ × ℕ × ℕ)) (count : ℕ) (below : (k : ℕ) → k < count → (get_or rows k (0, 0, 0)).0 < c) where

@@ -1,6 +1,9 @@
--- What was encoded decodes to the same text, in every codec.
-use Rattle.std.proofs.Common.{◌≡◌, ℕ, List, [], map, append-nil, refl}
+-- What was encoded is well formed, and decodes to the same text where nothing was unmappable and no fold, in every codec.
+use Rattle.std.proofs.Common.{◌≡◌, ℕ, List, [], ◌∷◌, map, filter, append-nil, true, false, is_some, refl, sym, ap, ap₂, ◌∙◌}
+use Rattle.std.proofs.lemmas.Bool.{or_parts}
+use Rattle.std.specs.List.{list_any}
 use Rattle.legacy_base.specs.declared.results.DecodeEvent.TheVariants.{Scalar}
+use Rattle.legacy_base.specs.declared.results.EncodeEvent.TheVariants.{Byte}
 use Rattle.legacy_base.specs.Indexes.{FlatIndexes}
 use Rattle.legacy_base.specs.TableChecks.{AreAccepted}
 use Rattle.legacy_base.specs.Profile.{is_lead}
@@ -15,87 +18,175 @@ use Rattle.legacy_base.specs.Gb18030.{gb18030_front, gb18030_code, gbk_code}
 use Rattle.legacy_base.specs.EncoderProfile.{in_ascii}
 use Rattle.legacy_base.specs.Iso2022Jp.{ascii}
 use Rattle.legacy_base.specs.Grammar.{events_of}
-use Rattle.legacy_base.specs.Encoders.{Codec, single_byte, user_defined, big5, euc_kr, shift_jis, euc_jp, gb18030, gbk, iso_2022_jp}
-use Rattle.legacy_base.specs.RoundTrips.{is_fold, grammar_of, IsEncodedAs, RoundTrips, holds_adjacent_escapes, EscapesAreInPlace}
+use Rattle.legacy_base.specs.Encoders.{Codec, single_byte, user_defined, big5, euc_kr, shift_jis, euc_jp, gb18030, gbk, iso_2022_jp, new_encoder, code, encoded}
+use Rattle.legacy_base.specs.RoundTrips.{grammar_of, is_fold, is_private_use_fold, IsEncodedAs, RoundTrips, ReencodesToTheSame, EscapesAreInPlace}
+use Rattle.legacy_base.specs.RoundTrips.{japanese_scalar, private_use_scalar, read_as, read_back, bytes_of, written, has_lost_row, IsSound, EncodesWellFormed, EscapesStayApart}
 use Rattle.legacy_base.proofs.Accepted.{parts, length-euc_kr, length-jis0208, length-gb18030}
-use Rattle.legacy_base.proofs.Trips.{plain-trip}
-use Rattle.legacy_base.proofs.TwoByteTrips.{single_byte-decodes, user_defined-decodes, big5-decodes, euc_kr-decodes, shift_jis-decodes, euc_jp-decodes}
-use Rattle.legacy_base.proofs.Gb18030Trip.{gb18030-decodes, gbk-decodes}
+use Rattle.legacy_base.proofs.Trips.{bytes_of-bytes, plain-read, plain-coded, none_lost}
+use Rattle.legacy_base.proofs.TwoByteTrips.{single_byte-decodes, user_defined-decodes, big5-decodes, euc_kr-decodes, shift_jis-decodes, euc_jp-decodes, no_japanese_fold}
+use Rattle.legacy_base.proofs.Gb18030Trip.{gb18030-decodes, gbk-decodes, no_private_use_fold}
 use Rattle.legacy_base.proofs.Iso2022JpFronts.{step_end}
-use Rattle.legacy_base.proofs.Iso2022JpTrip.{text_read}
-use Rattle.legacy_base.proofs.AcceptedTrips.{private_use-empty, have_row_bytes}
+use Rattle.legacy_base.proofs.Iso2022JpTrip.{no_fold, text_bytes, text_read, text_apart}
+use Rattle.legacy_base.proofs.AcceptedTrips.{private_use-empty, are_good_rows}
 
--- what was encoded decodes to the same text
-abbrev ComesBack : Codec → Type 0
-ComesBack codec = (text bytes : List ℕ) → IsEncodedAs codec text bytes → events_of (grammar_of codec) bytes ≡ map Scalar text
+-- what was encoded of any text is well formed
+abbrev IsWellFormed : Codec → Type 0
+IsWellFormed codec = (text : List ℕ) → IsSound codec text → events_of (grammar_of codec) (written codec text) ≡ map Scalar (read_back codec text)
 
-single_byte-trip : (table : List ℕ) → ComesBack (single_byte table)
+single_byte-read : (table : List ℕ) → IsWellFormed (single_byte table)
 unfolding events_of
-single_byte-trip table text bytes t =
-    plain-trip (single_byte_front table) (single_byte_code table) (is_fold (single_byte table)) (λ c b _ h. single_byte-decodes table c b h) text bytes t.whole t.unfolded
+single_byte-read table text _ =
+    plain-read (single_byte_front table) (single_byte_code table) (read_as (single_byte table)) (λ c. false) (λ c b _ h. single_byte-decodes table c b h) text (none_lost text)
 
-user_defined-trip : ComesBack user_defined
+user_defined-read : IsWellFormed user_defined
 unfolding events_of
-user_defined-trip text bytes t =
-    plain-trip user_defined_front user_defined_code (is_fold user_defined) (λ c b _ h. user_defined-decodes c b h) text bytes t.whole t.unfolded
+user_defined-read text _ =
+    plain-read user_defined_front user_defined_code (read_as user_defined) (λ c. false) (λ c b _ h. user_defined-decodes c b h) text (none_lost text)
 
 module _ (flat : FlatIndexes) (accepted : AreAccepted flat) where
-  big5-trip : ComesBack (big5 flat.big5)
+  big5-read : IsWellFormed (big5 flat.big5)
   unfolding events_of
-  big5-trip text bytes t =
-      plain-trip (big5_front flat.big5) (big5_code flat.big5) (is_fold (big5 flat.big5)) (λ c b _ h. big5-decodes flat.big5 c b (parts flat accepted).big5.0 h) text bytes t.whole t.unfolded
+  big5-read text _ =
+      plain-read (big5_front flat.big5) (big5_code flat.big5) (read_as (big5 flat.big5)) (λ c. false) (λ c b _ h. big5-decodes flat.big5 c b (parts flat accepted).big5.0 h) text (none_lost text)
 
-  euc_kr-trip : ComesBack (euc_kr flat.euc_kr)
+  euc_kr-read : IsWellFormed (euc_kr flat.euc_kr)
   unfolding events_of
-  euc_kr-trip text bytes t =
-      plain-trip (lead_front is_lead euc_kr_pointer flat.euc_kr) (euc_kr_code flat.euc_kr) (is_fold (euc_kr flat.euc_kr))
-      (λ c b _ h. euc_kr-decodes flat.euc_kr c b (length-euc_kr flat accepted) h) text bytes t.whole t.unfolded
+  euc_kr-read text _ =
+      plain-read (lead_front is_lead euc_kr_pointer flat.euc_kr) (euc_kr_code flat.euc_kr) (read_as (euc_kr flat.euc_kr)) (λ c. false)
+      (λ c b _ h. euc_kr-decodes flat.euc_kr c b (length-euc_kr flat accepted) h) text (none_lost text)
 
-  shift_jis-trip : ComesBack (shift_jis flat.jis0208)
+  shift_jis-read : IsWellFormed (shift_jis flat.jis0208)
   unfolding events_of
-  shift_jis-trip text bytes t =
-      plain-trip (shift_jis_front flat.jis0208) (shift_jis_code flat.jis0208) (is_fold (shift_jis flat.jis0208))
-      (λ c b f h. shift_jis-decodes flat.jis0208 c b (length-jis0208 flat accepted) (private_use-empty flat accepted) f h) text bytes t.whole t.unfolded
+  shift_jis-read text _ =
+      plain-read (shift_jis_front flat.jis0208) (shift_jis_code flat.jis0208) japanese_scalar (λ c. false)
+      (λ c b _ h. shift_jis-decodes flat.jis0208 c b (length-jis0208 flat accepted) (private_use-empty flat accepted) h) text (none_lost text)
 
-  euc_jp-trip : (jis0212 : List ℕ) → ComesBack (euc_jp flat.jis0208 jis0212)
+  euc_jp-read : (jis0212 : List ℕ) → IsWellFormed (euc_jp flat.jis0208 jis0212)
   unfolding events_of
-  euc_jp-trip jis0212 text bytes t =
-      plain-trip (euc_jp_front flat.jis0208 jis0212) (euc_jp_code flat.jis0208) (is_fold (euc_jp flat.jis0208 jis0212))
-      (λ c b f h. euc_jp-decodes flat.jis0208 jis0212 c b f h) text bytes t.whole t.unfolded
+  euc_jp-read jis0212 text _ =
+      plain-read (euc_jp_front flat.jis0208 jis0212) (euc_jp_code flat.jis0208) japanese_scalar (λ c. false)
+      (λ c b _ h. euc_jp-decodes flat.jis0208 jis0212 c b h) text (none_lost text)
 
-  gb18030-trip : ComesBack (gb18030 flat.gb18030 flat.ranges flat.gb18030_pua)
+  gb18030-read : IsWellFormed (gb18030 flat.gb18030 flat.ranges flat.gb18030_pua)
   unfolding events_of
-  gb18030-trip text bytes t =
-      plain-trip (gb18030_front flat.gb18030 flat.ranges) (gb18030_code flat.gb18030 flat.ranges flat.gb18030_pua) (is_fold (gb18030 flat.gb18030 flat.ranges flat.gb18030_pua))
-      (λ c b f h. gb18030-decodes flat.gb18030 flat.ranges flat.gb18030_pua (length-gb18030 flat accepted) (have_row_bytes flat accepted) c b f h) text bytes t.whole t.unfolded
+  gb18030-read text sound =
+      plain-read (gb18030_front flat.gb18030 flat.ranges) (gb18030_code flat.gb18030 flat.ranges flat.gb18030_pua)
+      (private_use_scalar flat.gb18030 flat.gb18030_pua) (has_lost_row flat.gb18030 flat.gb18030_pua)
+      (λ c b kept h. gb18030-decodes flat.gb18030 flat.ranges flat.gb18030_pua (length-gb18030 flat accepted) (are_good_rows flat accepted) c b kept h) text sound
 
-  gbk-trip : ComesBack (gbk flat.gb18030 flat.ranges flat.gb18030_pua)
+  gbk-read : IsWellFormed (gbk flat.gb18030 flat.ranges flat.gb18030_pua)
   unfolding events_of
-  gbk-trip text bytes t =
-      plain-trip (gb18030_front flat.gb18030 flat.ranges) (gbk_code flat.gb18030 flat.gb18030_pua) (is_fold (gbk flat.gb18030 flat.ranges flat.gb18030_pua))
-      (λ c b f h. gbk-decodes flat.gb18030 flat.ranges flat.gb18030_pua (length-gb18030 flat accepted) (have_row_bytes flat accepted) c b f h) text bytes t.whole t.unfolded
+  gbk-read text sound =
+      plain-read (gb18030_front flat.gb18030 flat.ranges) (gbk_code flat.gb18030 flat.gb18030_pua)
+      (private_use_scalar flat.gb18030 flat.gb18030_pua) (has_lost_row flat.gb18030 flat.gb18030_pua)
+      (λ c b kept h. gbk-decodes flat.gb18030 flat.ranges flat.gb18030_pua (length-gb18030 flat accepted) (are_good_rows flat accepted) c b kept h) text sound
 
-iso_2022_jp-trip : (jis0208 katakana_index : List ℕ) → ComesBack (iso_2022_jp jis0208 katakana_index)
+iso_2022_jp-read : (jis0208 katakana_index : List ℕ) → IsWellFormed (iso_2022_jp jis0208 katakana_index)
 unfolding events_of
-iso_2022_jp-trip jis0208 katakana_index text bytes t =
-    let read = (text_read jis0208 katakana_index in_ascii text bytes [] refl t.whole t.unfolded).gives in
-    rw (append-nil bytes, step_end jis0208 ascii, append-nil (map Scalar text)) at read
+iso_2022_jp-read jis0208 katakana_index text sound =
+    let bytes = text_bytes jis0208 katakana_index in_ascii text in
+    rw (append-nil bytes, step_end jis0208 ascii, append-nil (map Scalar (read_back (iso_2022_jp jis0208 katakana_index) text)))
+    at (text_read jis0208 katakana_index in_ascii text [] refl sound)
 
 -- ---- all
 
+pub encodes_well_formed : EncodesWellFormed
+encodes_well_formed (single_byte table) a = single_byte-read table
+encodes_well_formed user_defined a = user_defined-read
+encodes_well_formed (big5 index) a = rw a.1 (big5-read a.0.flat a.0.accepted)
+encodes_well_formed (euc_kr index) a = rw a.1 (euc_kr-read a.0.flat a.0.accepted)
+encodes_well_formed (shift_jis jis0208) a = rw a.1 (shift_jis-read a.0.flat a.0.accepted)
+encodes_well_formed (euc_jp jis0208 jis0212) a = rw a.1 (euc_jp-read a.0.flat a.0.accepted jis0212)
+encodes_well_formed (gb18030 index ranges pua) a = rw (a.1, a.2, a.3) (gb18030-read a.0.flat a.0.accepted)
+encodes_well_formed (gbk index ranges pua) a = rw (a.1, a.2, a.3) (gbk-read a.0.flat a.0.accepted)
+encodes_well_formed (iso_2022_jp jis0208 katakana_index) a = iso_2022_jp-read jis0208 katakana_index
+
+-- ---- texts that are encoded in full, without folds
+
+-- what only bytes came of has a code for each scalar
+coded_all : (codec : Codec) (text bytes : List ℕ) → encoded (new_encoder codec) text true ≡ map Byte bytes
+    → filter (λ c. is_some (code (new_encoder codec) c)) text ≡ text
+coded_all (single_byte table) text bytes h = plain-coded (single_byte_code table) text bytes h
+coded_all user_defined text bytes h = plain-coded user_defined_code text bytes h
+coded_all (big5 index) text bytes h = plain-coded (big5_code index) text bytes h
+coded_all (euc_kr index) text bytes h = plain-coded (euc_kr_code index) text bytes h
+coded_all (shift_jis jis0208) text bytes h = plain-coded (shift_jis_code jis0208) text bytes h
+coded_all (euc_jp jis0208 jis0212) text bytes h = plain-coded (euc_jp_code jis0208) text bytes h
+coded_all (gb18030 index ranges pua) text bytes h = plain-coded (gb18030_code index ranges pua) text bytes h
+coded_all (gbk index ranges pua) text bytes h = plain-coded (gbk_code index pua) text bytes h
+coded_all (iso_2022_jp jis0208 katakana_index) text bytes h = (text_apart jis0208 katakana_index in_ascii text bytes h).coded_all
+
+-- a scalar that is no fold is read as itself
+stands : (codec : Codec) (c : ℕ) → is_fold codec c ≡ false → read_as codec c ≡ c
+stands (single_byte table) c h = refl
+stands user_defined c h = refl
+stands (big5 index) c h = refl
+stands (euc_kr index) c h = refl
+stands (shift_jis jis0208) c h = no_japanese_fold c h
+stands (euc_jp jis0208 jis0212) c h = no_japanese_fold c h
+stands (gb18030 index ranges pua) c h = (no_private_use_fold index pua c h).0
+stands (gbk index ranges pua) c h = (no_private_use_fold index pua c h).0
+stands (iso_2022_jp jis0208 katakana_index) c h = no_fold jis0208 katakana_index c h
+
+all_stand : (codec : Codec) (text : List ℕ) → list_any (is_fold codec) text ≡ false → map (read_as codec) text ≡ text
+all_stand codec [] none = refl
+all_stand codec (c ∷ text) none =
+    let folds = or_parts (is_fold codec c) (list_any (is_fold codec) text) none in
+    ap₂ ◌∷◌ (stands codec c folds.0) (all_stand codec text folds.1)
+
+-- it is read as itself
+reads_itself : (codec : Codec) (text bytes : List ℕ) → IsEncodedAs codec text bytes → read_back codec text ≡ text
+reads_itself codec text bytes t = ap (map (read_as codec)) (coded_all codec text bytes t.whole) ∙ all_stand codec text t.unfolded
+
+-- no scalar has a row whose bytes have none
+none_has_lost_row : (index : List ℕ) (pua : List (ℕ × ℕ × ℕ)) (text : List ℕ) → list_any (is_private_use_fold index pua) text ≡ false → list_any (has_lost_row index pua) text ≡ false
+none_has_lost_row index pua [] none = refl
+none_has_lost_row index pua (c ∷ text) none =
+    let folds = or_parts (is_private_use_fold index pua c) (list_any (is_private_use_fold index pua) text) none in
+    rw ((no_private_use_fold index pua c folds.0).1) (none_has_lost_row index pua text folds.1)
+
+written_is : (codec : Codec) (text bytes : List ℕ) → encoded (new_encoder codec) text true ≡ map Byte bytes → written codec text ≡ bytes
+written_is codec text bytes h = ap bytes_of h ∙ bytes_of-bytes bytes
+
+pub escapes_stay_apart : EscapesStayApart
+escapes_stay_apart jis0208 katakana_index text bytes h = (text_apart jis0208 katakana_index in_ascii text bytes h).apart
+
+sound : (codec : Codec) (text bytes : List ℕ) → IsEncodedAs codec text bytes → IsSound codec text
+sound (single_byte table) text bytes t = tt
+sound user_defined text bytes t = tt
+sound (big5 index) text bytes t = tt
+sound (euc_kr index) text bytes t = tt
+sound (shift_jis jis0208) text bytes t = tt
+sound (euc_jp jis0208 jis0212) text bytes t = tt
+sound (gb18030 index ranges pua) text bytes t = none_has_lost_row index pua text t.unfolded
+sound (gbk index ranges pua) text bytes t = none_has_lost_row index pua text t.unfolded
+sound (iso_2022_jp jis0208 katakana_index) text bytes t =
+    rw (written_is (iso_2022_jp jis0208 katakana_index) text bytes t.whole) (escapes_stay_apart jis0208 katakana_index text bytes t.whole)
+
 pub round_trips : RoundTrips
-round_trips (single_byte table) a = single_byte-trip table
-round_trips user_defined a = user_defined-trip
-round_trips (big5 index) a = rw a.1 (big5-trip a.0.flat a.0.accepted)
-round_trips (euc_kr index) a = rw a.1 (euc_kr-trip a.0.flat a.0.accepted)
-round_trips (shift_jis jis0208) a = rw a.1 (shift_jis-trip a.0.flat a.0.accepted)
-round_trips (euc_jp jis0208 jis0212) a = rw a.1 (euc_jp-trip a.0.flat a.0.accepted jis0212)
-round_trips (gb18030 index ranges pua) a = rw (a.1, a.2, a.3) (gb18030-trip a.0.flat a.0.accepted)
-round_trips (gbk index ranges pua) a = rw (a.1, a.2, a.3) (gbk-trip a.0.flat a.0.accepted)
-round_trips (iso_2022_jp jis0208 katakana_index) a = iso_2022_jp-trip jis0208 katakana_index
+round_trips codec accepted text bytes t =
+    ap (events_of (grammar_of codec)) (sym (written_is codec text bytes t.whole))
+    ∙ encodes_well_formed codec accepted text (sound codec text bytes t)
+    ∙ ap (map Scalar) (reads_itself codec text bytes t)
+
+pub same_scalars : (xs ys : List ℕ) → map Scalar xs ≡ map Scalar ys → xs ≡ ys
+same_scalars [] [] e = refl
+same_scalars [] (y ∷ ys) e = cc
+same_scalars (x ∷ xs) [] e = cc
+same_scalars (x ∷ xs) (y ∷ ys) e =
+    let first : x ≡ y = cc in
+    let rest : map Scalar xs ≡ map Scalar ys = cc in
+    ap₂ ◌∷◌ first (same_scalars xs ys rest)
+
+pub reencodes_to_the_same : ReencodesToTheSame
+reencodes_to_the_same codec accepted text bytes t decoded e =
+    let same = same_scalars decoded text (sym e ∙ round_trips codec accepted text bytes t) in
+    rw same t.whole
 
 pub escapes_are_in_place : EscapesAreInPlace
-unfolding events_of holds_adjacent_escapes
+unfolding events_of
 escapes_are_in_place jis0208 katakana_index text bytes t =
-    let alone = (text_read jis0208 katakana_index in_ascii text bytes [] refl t.whole t.unfolded).quiet in
-    (λ more h. (text_read jis0208 katakana_index in_ascii text bytes more h t.whole t.unfolded).gives, rw (append-nil bytes) at alone)
+    let codec = iso_2022_jp jis0208 katakana_index in
+    let apart = escapes_stay_apart jis0208 katakana_index text bytes t.whole in
+    let is = written_is codec text bytes t.whole in
+    (λ more plain. rw (is, reads_itself codec text bytes t) at (text_read jis0208 katakana_index in_ascii text more plain (rw is apart)), apart)

@@ -1,5 +1,5 @@
--- Codes that decode to their scalar, whatever comes behind; and what a text of such codes decodes to.
-use Rattle.std.proofs.Common.{◌≡◌, ℕ, suc, ◌<◌, List, [], ◌∷◌, ◌++◌, drop, length, map, Option, Some, None, Bool, false, refl, sym, ◌∙◌, ap, ap₂, arith}
+-- Codes that decode to a scalar, whatever comes behind; and what a text of such codes decodes to.
+use Rattle.std.proofs.Common.{◌≡◌, ℕ, suc, ◌<◌, List, [], ◌∷◌, ◌++◌, drop, length, map, filter, Option, Some, None, is_some, Bool, false, cond, refl, sym, ◌∙◌, ap, ap₂, arith}
 use Rattle.std.proofs.lemmas.Bool.{or_parts}
 use Rattle.std.specs.List.{list_any}
 use Rattle.legacy_base.specs.declared.results.DecodeEvent.{DecodeEvent}
@@ -9,6 +9,7 @@ use Rattle.legacy_base.specs.declared.results.EncodeEvent.TheVariants.{Byte}
 use Rattle.legacy_base.specs.Events.{shift}
 use Rattle.legacy_base.specs.Fronts.{Front, reads, front_length, cut}
 use Rattle.legacy_base.specs.EncodeEvents.{code_events, plain_events}
+use Rattle.legacy_base.specs.RoundTrips.{bytes_of}
 use Rattle.legacy_base.proofs.Shifts.{shift-scalars}
 use Rattle.legacy_base.proofs.Cuts.{cut-nil, cut-front}
 
@@ -73,20 +74,62 @@ has_code c None [] events e = cc
 has_code c None (b ∷ bytes) events e = cc
 has_code c (Some own) bytes events e = record { own = own; code_is = refl; begins = begins_with own bytes events e }
 
+-- ---- the bytes among events
+
+pub bytes_of-behind : (bytes : List ℕ) (events : List EncodeEvent) → bytes_of (map Byte bytes ++ events) ≡ bytes ++ bytes_of events
+unfolding bytes_of
+bytes_of-behind [] events = refl
+bytes_of-behind (b ∷ bytes) events = ap (λ (l : List ℕ). b ∷ l) (bytes_of-behind bytes events)
+
+pub bytes_of-bytes : (bytes : List ℕ) → bytes_of (map Byte bytes) ≡ bytes
+unfolding bytes_of
+bytes_of-bytes [] = refl
+bytes_of-bytes (b ∷ bytes) = ap (λ (l : List ℕ). b ∷ l) (bytes_of-bytes bytes)
+
+-- a scalar that is reported writes nothing
+pub bytes_of-unmappable : (c : ℕ) (events : List EncodeEvent) → bytes_of (code_events c None ++ events) ≡ bytes_of events
+unfolding bytes_of
+bytes_of-unmappable c events = refl
+
+pub bytes_of-nothing : bytes_of [] ≡ []
+unfolding bytes_of
+bytes_of-nothing = refl
+
 -- ---- texts
 
--- the events of the bytes of a text whose codes decode to their scalars, but for folds
-pub plain-trip : (front : ℕ → List ℕ → Front) (code : ℕ → Option (List ℕ)) (is_fold : ℕ → Bool)
-    → ((c : ℕ) (bytes : List ℕ) → is_fold c ≡ false → code c ≡ Some bytes → Decodes front bytes c)
-    → (text bytes : List ℕ) → plain_events code text ≡ map Byte bytes → list_any is_fold text ≡ false
-    → cut front 0 0 bytes ≡ map Scalar text
+-- what the scalars that have a code are read as
+abbrev pub coded : (ℕ → Option (List ℕ)) → List ℕ → List ℕ
+coded code text = filter (λ c. is_some (code c)) text
+
+-- the events of the bytes of a text, each code of which decodes to one scalar
+pub plain-read : (front : ℕ → List ℕ → Front) (code : ℕ → Option (List ℕ)) (read : ℕ → ℕ) (lost : ℕ → Bool)
+    → ((c : ℕ) (bytes : List ℕ) → lost c ≡ false → code c ≡ Some bytes → Decodes front bytes (read c))
+    → (text : List ℕ) → list_any lost text ≡ false
+    → cut front 0 0 (bytes_of (plain_events code text)) ≡ map Scalar (map read (coded code text))
 unfolding plain_events
-plain-trip front code is_fold each [] bytes e none = rw (← (same_byte_lists [] bytes e)) (cut-nil front)
-plain-trip front code is_fold each (c ∷ text) bytes e none =
-    let folds = or_parts (is_fold c) (list_any is_fold text) none in
+plain-read front code read lost each [] none = rw bytes_of-nothing (cut-nil front)
+plain-read front code read lost each (c ∷ text) none =
+    let kept = or_parts (lost c) (list_any lost text) none in
+    by_code (code c) refl kept.0 (plain-read front code read lost each text kept.1)
+  where
+    by_code : (o : Option (List ℕ)) → code c ≡ o → lost c ≡ false
+        → cut front 0 0 (bytes_of (plain_events code text)) ≡ map Scalar (map read (coded code text))
+        → cut front 0 0 (bytes_of (code_events c o ++ plain_events code text)) ≡ map Scalar (map read (cond (is_some o) (c ∷ coded code text) (coded code text)))
+    by_code None e kept later = rw (bytes_of-unmappable c (plain_events code text)) later
+    by_code (Some own) e kept later =
+        rw (bytes_of-behind own (plain_events code text))
+        (cut-code front own (bytes_of (plain_events code text)) (read c) (each c own kept e)
+        ∙ ap (λ (es : List DecodeEvent). Scalar (read c) ∷ es) (ap (shift (length own)) later ∙ shift-scalars (length own) (map read (coded code text))))
+
+-- where nothing is lost
+pub none_lost : (text : List ℕ) → list_any (λ (c : ℕ). false) text ≡ false
+none_lost [] = refl
+none_lost (c ∷ text) = none_lost text
+
+-- where only bytes come, every scalar has a code
+pub plain-coded : (code : ℕ → Option (List ℕ)) (text bytes : List ℕ) → plain_events code text ≡ map Byte bytes → coded code text ≡ text
+unfolding plain_events
+plain-coded code [] bytes e = refl
+plain-coded code (c ∷ text) bytes e =
     let here = has_code c (code c) bytes (plain_events code text) e in
-    let t = here.begins in
-    let later = plain-trip front code is_fold each text t.rest t.behind folds.1 in
-    rw t.split
-    (cut-code front here.own t.rest c (each c here.own folds.0 here.code_is)
-    ∙ ap (λ (es : List DecodeEvent). Scalar c ∷ es) (ap (shift (length here.own)) later ∙ shift-scalars (length here.own) text))
+    rw here.code_is (ap (λ (l : List ℕ). c ∷ l) (plain-coded code text here.begins.rest here.begins.behind))

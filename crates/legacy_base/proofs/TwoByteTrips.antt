@@ -1,4 +1,5 @@
--- The codes of Big5, EUC-KR, Shift_JIS, EUC-JP, the single-byte codecs and x-user-defined decode to their scalars.
+-- The codes of Big5, EUC-KR, Shift_JIS, EUC-JP, the single-byte codecs and x-user-defined decode to their scalars, and
+-- those of folds to the scalars that folds are read as.
 use Rattle.std.proofs.Common.{◌≡◌, ◌≢◌, ℕ, ◌+◌, ◌-◌, ◌*◌, ◌/◌, ◌%◌, ◌<◌, ◌≤◌, List, [], ◌∷◌, length, Bool, true, false}
 use Rattle.std.proofs.Common.{cond, ◌||◌, ◌==◌, nat_lt, nat_le, Option, Some, None, option_map, option_to_list, position, get_or, refl, sym, ap, ◌∙◌, arith, if◌then◌else◌}
 use Rattle.std.proofs.lemmas.Bool.{and_parts, or_parts, leb-true, ne_eqb, eqb-true, true≢false}
@@ -20,7 +21,7 @@ use Rattle.legacy_base.specs.LeadForms.{lead_front, lead_pair}
 use Rattle.legacy_base.specs.EucKr.{euc_kr_pointer, euc_kr_bytes, euc_kr_code}
 use Rattle.legacy_base.specs.ShiftJis.{is_shift_jis_lead, shift_jis_lead_part, shift_jis_pointer, shift_jis_scalars, shift_jis_pair, shift_jis_front, shift_jis_bytes, shift_jis_code}
 use Rattle.legacy_base.specs.EucJp.{euc_jp_katakana, euc_jp_pair, euc_jp_front, euc_jp_bytes, euc_jp_code}
-use Rattle.legacy_base.specs.RoundTrips.{is_japanese_fold}
+use Rattle.legacy_base.specs.RoundTrips.{is_japanese_fold, japanese_scalar}
 use Rattle.legacy_base.proofs.Pointers.{first-taken, big5-taken}
 use Rattle.legacy_base.proofs.PointersBack.{LeadsBack, leads_back}
 use Rattle.legacy_base.proofs.Trips.{Decodes}
@@ -162,38 +163,44 @@ shift_jis_pair_back jis0208 p c more short empty back =
     let pointer = shift_jis_back (p / 188 + (if nat_lt (p / 188) 0x1F then 0x81 else 0xC1)) (p / 188) (p % 188) column lead.3 (nat_lt (p % 188) 0x3F) refl in
     rw (lead.0, lead.1, lead.2, pointer, p_is, shift_jis_scalar jis0208 p c empty back.has) refl
 
--- a scalar that is no fold
-not_minus : (c : ℕ) → is_japanese_fold c ≡ false → ((c == 0xA5) ≡ false) × ((c == 0x203E) ≡ false) × (minus_as_hyphen c ≡ c)
-not_minus c h =
+-- a scalar that is no fold stands for itself
+pub no_japanese_fold : (c : ℕ) → is_japanese_fold c ≡ false → japanese_scalar c ≡ c
+no_japanese_fold c h =
     let p = or_parts (c == 0xA5 || c == 0x203E) (c == 0x2212) h in
     let q = or_parts (c == 0xA5) (c == 0x203E) p.0 in
-    (q.0, q.1, rw p.1 refl)
+    rw (q.0, q.1, p.1) refl
 
 -- half-width katakana
 half_width : (c : ℕ) → is_in_range 0xFF61 0xFF9F c ≡ true → (0xFF61 ≤ c) × (c ≤ 0xFF9F)
 half_width c h = let p = and_parts (nat_le 0xFF61 c) (nat_le c 0xFF9F) h in (leb-true 0xFF61 c p.0, leb-true c 0xFF9F p.1)
 
 pub shift_jis-decodes : (jis0208 : List ℕ) (c : ℕ) (bytes : List ℕ) → length jis0208 ≤ 11280 → PrivateUseIsEmpty jis0208
-    → is_japanese_fold c ≡ false → shift_jis_code jis0208 c ≡ Some bytes → Decodes (shift_jis_front jis0208) bytes c
+    → shift_jis_code jis0208 c ≡ Some bytes → Decodes (shift_jis_front jis0208) bytes (japanese_scalar c)
 unfolding shift_jis_code shift_jis_front
-shift_jis-decodes jis0208 c bytes short empty no_fold h =
-    let plain = not_minus c no_fold in
-    by_tests (is_ascii c || c == 0x80) (is_in_range 0xFF61 0xFF9F c) refl refl (rw (plain.0, plain.1, plain.2) at h)
+shift_jis-decodes jis0208 c bytes short empty h =
+    by_tests (is_ascii c || c == 0x80) (c == 0xA5) (c == 0x203E) (is_in_range 0xFF61 0xFF9F c) refl refl refl refl h
   where
-    by_tests : (t u : Bool) → (is_ascii c || c == 0x80) ≡ t → is_in_range 0xFF61 0xFF9F c ≡ u
-        → cond t (Some (c ∷ [])) (cond u (Some ((0xA1 + (c - 0xFF61)) ∷ [])) (option_map shift_jis_bytes (shift_jis_pointer_of jis0208 c))) ≡ Some bytes
-        → Decodes (shift_jis_front jis0208) bytes c
-    by_tests true u e f h = one_byte (shift_jis_front jis0208) c c bytes (same_bytes c bytes h) (λ more. rw e refl)
-    by_tests false true e f h =
-        let within = half_width c f in
+    by_tests : (t y o u : Bool) → (is_ascii c || c == 0x80) ≡ t → (c == 0xA5) ≡ y → (c == 0x203E) ≡ o → is_in_range 0xFF61 0xFF9F c ≡ u
+        → cond t (Some (c ∷ [])) (cond y (Some (0x5C ∷ [])) (cond o (Some (0x7E ∷ [])) (cond u (Some ((0xA1 + (c - 0xFF61)) ∷ []))
+        (option_map shift_jis_bytes (shift_jis_pointer_of jis0208 (minus_as_hyphen c)))))) ≡ Some bytes
+        → Decodes (shift_jis_front jis0208) bytes (japanese_scalar c)
+    by_tests true y o u e f g k h =
+        let plain : is_japanese_fold c ≡ false = grind (arith, nat_tests) in
+        rw (no_japanese_fold c plain) (one_byte (shift_jis_front jis0208) c c bytes (same_bytes c bytes h) (λ more. rw e refl))
+    by_tests false true o u e f g k h = rw f (one_byte (shift_jis_front jis0208) 0x5C 0x5C bytes (same_bytes 0x5C bytes h) (λ more. refl))
+    by_tests false false true u e f g k h = rw (f, g) (one_byte (shift_jis_front jis0208) 0x7E 0x7E bytes (same_bytes 0x7E bytes h) (λ more. refl))
+    by_tests false false false true e f g k h =
+        let within = half_width c k in
+        let plain : is_japanese_fold c ≡ false = grind (arith, nat_tests) in
         let a : (is_ascii (0xA1 + (c - 0xFF61)) || (0xA1 + (c - 0xFF61)) == 0x80) ≡ false = grind (arith, nat_tests) in
-        let k : is_in_range 0xA1 0xDF (0xA1 + (c - 0xFF61)) ≡ true = grind (arith, nat_tests) in
+        let b : is_in_range 0xA1 0xDF (0xA1 + (c - 0xFF61)) ≡ true = grind (arith, nat_tests) in
         let c_is : 0xFF61 + (0xA1 + (c - 0xFF61) - 0xA1) ≡ c = omega arith in
-        one_byte (shift_jis_front jis0208) (0xA1 + (c - 0xFF61)) c bytes (same_bytes _ bytes h) (λ more. rw (a, k, c_is) refl)
-    by_tests false false e f h =
-        let m = mapped shift_jis_bytes (shift_jis_pointer_of jis0208 c) bytes h in
-        let back = leads_back is_shift_jis_pointer jis0208 c _ (first-taken is_shift_jis_pointer jis0208 c) m.0 m.1 in
-        two_bytes (shift_jis_front jis0208) _ _ c bytes m.2 (λ more. shift_jis_pair_back jis0208 m.0 c more short empty back)
+        rw (no_japanese_fold c plain) (one_byte (shift_jis_front jis0208) (0xA1 + (c - 0xFF61)) c bytes (same_bytes _ bytes h) (λ more. rw (a, b, c_is) refl))
+    by_tests false false false false e f g k h =
+        let looked_up = minus_as_hyphen c in
+        let m = mapped shift_jis_bytes (shift_jis_pointer_of jis0208 looked_up) bytes h in
+        let back = leads_back is_shift_jis_pointer jis0208 looked_up _ (first-taken is_shift_jis_pointer jis0208 looked_up) m.0 m.1 in
+        rw (f, g) (two_bytes (shift_jis_front jis0208) _ _ looked_up bytes m.2 (λ more. shift_jis_pair_back jis0208 m.0 looked_up more short empty back))
 
 -- ---- EUC-JP
 
@@ -215,26 +222,32 @@ euc_jp_pair_back jis0208 jis0212 p c more back =
     rw (lead_ascii, not_8E, not_8F, lead, trail, pointer, back.has) refl
 
 pub euc_jp-decodes : (jis0208 jis0212 : List ℕ) (c : ℕ) (bytes : List ℕ)
-    → is_japanese_fold c ≡ false → euc_jp_code jis0208 c ≡ Some bytes → Decodes (euc_jp_front jis0208 jis0212) bytes c
+    → euc_jp_code jis0208 c ≡ Some bytes → Decodes (euc_jp_front jis0208 jis0212) bytes (japanese_scalar c)
 unfolding euc_jp_code euc_jp_front euc_jp_katakana
-euc_jp-decodes jis0208 jis0212 c bytes no_fold h =
-    let plain = not_minus c no_fold in
-    by_tests (is_ascii c) (is_in_range 0xFF61 0xFF9F c) refl refl (rw (plain.0, plain.1, plain.2) at h)
+euc_jp-decodes jis0208 jis0212 c bytes h =
+    by_tests (is_ascii c) (c == 0xA5) (c == 0x203E) (is_in_range 0xFF61 0xFF9F c) refl refl refl refl h
   where
-    by_tests : (t u : Bool) → is_ascii c ≡ t → is_in_range 0xFF61 0xFF9F c ≡ u
-        → cond t (Some (c ∷ [])) (cond u (Some (0x8E ∷ (0xA1 + (c - 0xFF61)) ∷ [])) (option_map euc_jp_bytes (euc_jp_pointer_of jis0208 c))) ≡ Some bytes
-        → Decodes (euc_jp_front jis0208 jis0212) bytes c
-    by_tests true u e f h = one_byte (euc_jp_front jis0208 jis0212) c c bytes (same_bytes c bytes h) (λ more. rw e refl)
-    by_tests false true e f h =
-        let within = half_width c f in
-        let k : is_in_range 0xA1 0xDF (0xA1 + (c - 0xFF61)) ≡ true = grind (arith, nat_tests) in
+    by_tests : (t y o u : Bool) → is_ascii c ≡ t → (c == 0xA5) ≡ y → (c == 0x203E) ≡ o → is_in_range 0xFF61 0xFF9F c ≡ u
+        → cond t (Some (c ∷ [])) (cond y (Some (0x5C ∷ [])) (cond o (Some (0x7E ∷ [])) (cond u (Some (0x8E ∷ (0xA1 + (c - 0xFF61)) ∷ []))
+        (option_map euc_jp_bytes (euc_jp_pointer_of jis0208 (minus_as_hyphen c)))))) ≡ Some bytes
+        → Decodes (euc_jp_front jis0208 jis0212) bytes (japanese_scalar c)
+    by_tests true y o u e f g k h =
+        let plain : is_japanese_fold c ≡ false = grind (arith, nat_tests) in
+        rw (no_japanese_fold c plain) (one_byte (euc_jp_front jis0208 jis0212) c c bytes (same_bytes c bytes h) (λ more. rw e refl))
+    by_tests false true o u e f g k h = rw f (one_byte (euc_jp_front jis0208 jis0212) 0x5C 0x5C bytes (same_bytes 0x5C bytes h) (λ more. refl))
+    by_tests false false true u e f g k h = rw (f, g) (one_byte (euc_jp_front jis0208 jis0212) 0x7E 0x7E bytes (same_bytes 0x7E bytes h) (λ more. refl))
+    by_tests false false false true e f g k h =
+        let within = half_width c k in
+        let plain : is_japanese_fold c ≡ false = grind (arith, nat_tests) in
+        let b : is_in_range 0xA1 0xDF (0xA1 + (c - 0xFF61)) ≡ true = grind (arith, nat_tests) in
         let c_is : 0xFF61 + (0xA1 + (c - 0xFF61) - 0xA1) ≡ c = omega arith in
         let bytes_are : bytes ≡ 0x8E ∷ (0xA1 + (c - 0xFF61)) ∷ [] = cc in
-        two_bytes (euc_jp_front jis0208 jis0212) 0x8E (0xA1 + (c - 0xFF61)) c bytes bytes_are (λ more. rw (k, c_is) refl)
-    by_tests false false e f h =
-        let m = mapped euc_jp_bytes (euc_jp_pointer_of jis0208 c) bytes h in
-        let back = leads_back is_jis0208_pointer jis0208 c _ (first-taken is_jis0208_pointer jis0208 c) m.0 m.1 in
-        two_bytes (euc_jp_front jis0208 jis0212) _ _ c bytes m.2 (λ more. euc_jp_pair_back jis0208 jis0212 m.0 c more back)
+        rw (no_japanese_fold c plain) (two_bytes (euc_jp_front jis0208 jis0212) 0x8E (0xA1 + (c - 0xFF61)) c bytes bytes_are (λ more. rw (b, c_is) refl))
+    by_tests false false false false e f g k h =
+        let looked_up = minus_as_hyphen c in
+        let m = mapped euc_jp_bytes (euc_jp_pointer_of jis0208 looked_up) bytes h in
+        let back = leads_back is_jis0208_pointer jis0208 looked_up _ (first-taken is_jis0208_pointer jis0208 looked_up) m.0 m.1 in
+        rw (f, g) (two_bytes (euc_jp_front jis0208 jis0212) _ _ looked_up bytes m.2 (λ more. euc_jp_pair_back jis0208 jis0212 m.0 looked_up more back))
 
 -- ---- single-byte and x-user-defined
 

@@ -33,6 +33,7 @@ pub mod EncoderCalls
 pub mod Cursor
 pub mod Destinations
 pub mod NextScalars
+pub mod Blocks
 pub mod UnitCodes
 pub mod TextSources
 pub mod Latin1

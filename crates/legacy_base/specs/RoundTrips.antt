@@ -1,20 +1,23 @@
 -- What comes back: a text that was encoded, and is decoded again.
-use Rattle.std.specs.Prelude.{◌≡◌, ℕ, List, [], ◌∷◌, ◌++◌, drop, length, map, Bool, true, false, not, ◌&&◌, ◌||◌, ◌==◌, ⊤}
+use Rattle.std.specs.Prelude.{◌≡◌, ℕ, List, [], ◌∷◌, ◌++◌, drop, get_or, length, map, filter, Bool, true, false, not, ◌&&◌, ◌||◌, ◌==◌, ⊤, All, Some, is_some, unwrap_or, if◌then◌else◌}
 use Rattle.std.specs.Option.{option_map_or}
 use Rattle.std.specs.List.{list_any}
 use Rattle.legacy_base.specs.declared.results.DecodeEvent.TheVariants.{Scalar}
-use Rattle.legacy_base.specs.declared.results.EncodeEvent.TheVariants.{Byte}
+use Rattle.legacy_base.specs.declared.results.EncodeEvent.{EncodeEvent}
+use Rattle.legacy_base.specs.declared.results.EncodeEvent.TheVariants.{Byte, Unmappable}
 use Rattle.legacy_base.specs.Unicode.{is_katakana_scalar}
 use Rattle.legacy_base.specs.Events.{shift}
 use Rattle.legacy_base.specs.Indexes.{gb18030_pua_of}
+use Rattle.legacy_base.specs.Pointers.{minus_as_hyphen}
+use Rattle.legacy_base.specs.Profile.{is_empty}
 use Rattle.legacy_base.specs.Gb18030.{gb18030_scalars}
-use Rattle.legacy_base.specs.Iso2022Jp.{ascii, is_whole_escape}
+use Rattle.legacy_base.specs.Iso2022Jp.{ascii, is_whole_escape, iso_2022_jp_fold}
 use Rattle.legacy_base.specs.Grammar as grammars
 use Rattle.legacy_base.specs.Grammar.{Grammar, events_of}
 use Rattle.legacy_base.specs.EucKr as korean
 use Rattle.legacy_base.specs.AcceptedTables.{AcceptedIndexes, AcceptedTable}
 use Rattle.legacy_base.specs.Encoders.{Codec, single_byte, user_defined, big5, euc_kr, shift_jis, euc_jp, gb18030, gbk, iso_2022_jp}
-use Rattle.legacy_base.specs.Encoders.{new_encoder, encoded}
+use Rattle.legacy_base.specs.Encoders.{new_encoder, code, encoded}
 
 -- the grammar of a codec's decoder with the same lists: GBK is decoded as GB18030, and ISO-2022-JP from ASCII mode on
 abbrev pub grammar_of : Codec → Grammar
@@ -80,6 +83,14 @@ RoundTrips =
     (codec : Codec) → HasAcceptedLists codec →
     (text bytes : List ℕ) → IsEncodedAs codec text bytes → events_of (grammar_of codec) bytes ≡ map Scalar text
 
+-- Where bytes were written so, the text that they decode to is encoded as the same bytes.
+abbrev pub ReencodesToTheSame : Type 0
+ReencodesToTheSame =
+    (codec : Codec) → HasAcceptedLists codec →
+    (text bytes : List ℕ) → IsEncodedAs codec text bytes →
+    (decoded : List ℕ) → events_of (grammar_of codec) bytes ≡ map Scalar decoded →
+    encoded (new_encoder codec) decoded true ≡ map Byte bytes
+
 -- ---- escapes in ISO-2022-JP
 
 -- The bytes end in ASCII mode: behind them everything is read as from that mode, where it does not begin with a valid
@@ -101,3 +112,86 @@ abbrev pub EscapesAreInPlace : Type 0
 EscapesAreInPlace =
     (jis0208 katakana_index text bytes : List ℕ) → IsEncodedAs (iso_2022_jp jis0208 katakana_index) text bytes →
     EndsInAscii jis0208 text bytes × (holds_adjacent_escapes bytes ≡ false)
+
+-- ---- any text: with folds, and with scalars that are unmappable
+
+-- the scalar that a Japanese fold's bytes are those of, and any other scalar itself
+abbrev pub japanese_scalar : ℕ → ℕ
+japanese_scalar c = if c == 0xA5 then 0x5C else if c == 0x203E then 0x7E else minus_as_hyphen c
+
+-- the scalar of the bytes of c's private-use row, and c itself where it has no row
+abbrev pub private_use_scalar : List ℕ → List (ℕ × ℕ × ℕ) → ℕ → ℕ
+private_use_scalar index pua c =
+    option_map_or (λ row. get_or (gb18030_scalars index row.0 row.1) 0 c) (gb18030_pua_of pua c) c
+
+-- the scalar that c is read as, where it was encoded: c itself, but for folds
+abbrev pub read_as : Codec → ℕ → ℕ
+read_as (shift_jis jis0208) c = japanese_scalar c
+read_as (euc_jp jis0208 jis0212) c = japanese_scalar c
+read_as (gb18030 index ranges pua) c = private_use_scalar index pua c
+read_as (gbk index ranges pua) c = private_use_scalar index pua c
+read_as (iso_2022_jp jis0208 katakana_index) c = unwrap_or (iso_2022_jp_fold katakana_index c) c
+read_as _ c = c
+
+-- what is read of a text that was encoded: each scalar that has a code, as what it is read as
+abbrev pub read_back : Codec → List ℕ → List ℕ
+read_back codec text = map (read_as codec) (filter (λ c. is_some (code (new_encoder codec) c)) text)
+
+-- the bytes among events
+unfoldable pub bytes_of : List EncodeEvent → List ℕ
+bytes_of [] = []
+bytes_of (Byte b ∷ events) = b ∷ bytes_of events
+bytes_of (Unmappable c ∷ events) = bytes_of events
+
+-- the bytes that a new encoder writes of a text up to its end, with nothing for a scalar that is unmappable
+abbrev pub written : Codec → List ℕ → List ℕ
+written codec text = bytes_of (encoded (new_encoder codec) text true)
+
+-- c has a private-use row, the bytes of which the index gives no scalar
+abbrev pub has_lost_row : List ℕ → List (ℕ × ℕ × ℕ) → ℕ → Bool
+has_lost_row index pua c =
+    option_map_or (λ row. is_empty (gb18030_scalars index row.0 row.1)) (gb18030_pua_of pua c) false
+
+-- What a text has to be for its bytes to be well formed: in GB18030 and GBK no scalar of it has a row with bytes of no
+-- scalar, and in ISO-2022-JP no two escapes meet, as they can around unmappable scalars alone. Else any text will do.
+abbrev pub IsSound : Codec → List ℕ → Type 0
+IsSound (gb18030 index ranges pua) text = list_any (has_lost_row index pua) text ≡ false
+IsSound (gbk index ranges pua) text = list_any (has_lost_row index pua) text ≡ false
+IsSound (iso_2022_jp jis0208 katakana_index) text = holds_adjacent_escapes (written (iso_2022_jp jis0208 katakana_index) text) ≡ false
+IsSound _ text = ⊤
+
+-- What was encoded is well formed, unmappable scalars and folds or not: the bytes decode to what is read of the text,
+-- and nothing is malformed.
+abbrev pub EncodesWellFormed : Type 0
+EncodesWellFormed =
+    (codec : Codec) → HasAcceptedLists codec →
+    (text : List ℕ) → IsSound codec text →
+    events_of (grammar_of codec) (written codec text) ≡ map Scalar (read_back codec text)
+
+-- what c is read as has the code of c, if c has one
+abbrev pub HasSameCode : Codec → ℕ → Type 0
+HasSameCode codec c =
+    (bytes : List ℕ) → code (new_encoder codec) c ≡ Some bytes → code (new_encoder codec) (read_as codec c) ≡ Some bytes
+
+-- What the scalars of a text are read as have the same codes. Where folds go by a table, it may say otherwise; else it is
+-- so of any text.
+abbrev pub KeepsCodes : Codec → List ℕ → Type 0
+KeepsCodes (gb18030 index ranges pua) text = All (HasSameCode (gb18030 index ranges pua)) text
+KeepsCodes (gbk index ranges pua) text = All (HasSameCode (gbk index ranges pua)) text
+KeepsCodes (iso_2022_jp jis0208 katakana_index) text = All (HasSameCode (iso_2022_jp jis0208 katakana_index)) text
+KeepsCodes _ text = ⊤
+
+-- What was encoded of a text decodes to one that is encoded as the same bytes, unmappable scalars and folds or not.
+abbrev pub ReencodesAnyText : Type 0
+ReencodesAnyText =
+    (codec : Codec) → HasAcceptedLists codec →
+    (text : List ℕ) → IsSound codec text → KeepsCodes codec text →
+    (decoded : List ℕ) → events_of (grammar_of codec) (written codec text) ≡ map Scalar decoded →
+    encoded (new_encoder codec) decoded true ≡ map Byte (written codec text)
+
+-- In ISO-2022-JP no two escapes meet where nothing is unmappable, folds or not.
+abbrev pub EscapesStayApart : Type 0
+EscapesStayApart =
+    (jis0208 katakana_index text bytes : List ℕ) →
+    encoded (new_encoder (iso_2022_jp jis0208 katakana_index)) text true ≡ map Byte bytes →
+    holds_adjacent_escapes bytes ≡ false

@@ -176,6 +176,7 @@ impl<'a> Tables<'a> {
     /// first; of the private-use rows, which come last, all of a row at once: its order, its
     /// scalar, its bytes. Empty indexes are accepted. It takes no memory, and the slices stay
     /// borrowed.
+    #[inline(always)]
     pub fn new(indexes: &Indexes<'a>) -> Result<Tables<'a>, TableError>
         ensures { MatchResult result
             (λ tables. tables.flat ≡ flat_indexes indexes.now)
@@ -240,6 +241,7 @@ impl<'a> Tables<'a> {
     /// it at no pointer from 5024 on (Encoding Standard, "index Big5 pointer"): the last of these
     /// for U+2550, U+255E, U+2561, U+256A, U+5341 and U+5345, and else the first. Flat tables
     /// search the index from there on.
+    #[inline]
     pub fn big5_pointer(&self, scalar: char) -> Option<usize>
         ensures pointer { result ≡ big5_pointer_of self.now.flat.big5 scalar }
         ensures within { IfSome result (λ p. p < 19782) }
@@ -252,6 +254,7 @@ impl<'a> Tables<'a> {
 
     /// The first pointer of the scalar value in index EUC-KR, or `None` where it has none (Encoding
     /// Standard, "index pointer"). Flat tables search the index.
+    #[inline]
     pub fn euc_kr_pointer(&self, scalar: char) -> Option<usize>
         ensures pointer { result ≡ euc_kr_pointer_of self.now.flat.euc_kr scalar }
         ensures within { IfSome result (λ p. p < 23940) }
@@ -265,6 +268,7 @@ impl<'a> Tables<'a> {
     /// The pointer that the Shift_JIS encoder takes for the scalar value: the first one in index
     /// jis0208 that is not one of 8272 to 8835, or `None` where there is none (Encoding Standard,
     /// "index Shift_JIS pointer"). Flat tables search the index.
+    #[inline]
     pub fn shift_jis_pointer(&self, scalar: char) -> Option<usize>
         ensures pointer { result ≡ shift_jis_pointer_of self.now.flat.jis0208 scalar }
         ensures within { IfSome result (λ p. p < 11280) }
@@ -278,6 +282,7 @@ impl<'a> Tables<'a> {
     /// The pointer that the EUC-JP and ISO-2022-JP encoders take for the scalar value: the first
     /// one in index jis0208, or `None` where there is none below 8836, where their forms end
     /// (Encoding Standard, "index pointer"). Flat tables search the index.
+    #[inline]
     pub fn euc_jp_pointer(&self, scalar: char) -> Option<usize>
         ensures pointer { result ≡ euc_jp_pointer_of self.now.flat.jis0208 scalar }
         ensures within { IfSome result (λ p. p < 8836) }
@@ -290,6 +295,7 @@ impl<'a> Tables<'a> {
 
     /// The first pointer of the scalar value in index gb18030, or `None` where it has none
     /// (Encoding Standard, "index pointer"). Flat tables search the index.
+    #[inline]
     pub fn gb18030_pointer(&self, scalar: char) -> Option<usize>
         ensures pointer { result ≡ gb18030_pointer_of self.now.flat.gb18030 scalar }
         ensures within { IfSome result (λ p. p < 23940) }
@@ -304,6 +310,7 @@ impl<'a> Tables<'a> {
     /// Standard, "index gb18030 ranges pointer"): 7457 for U+E7C7, 189000 to 1237575 for U+10000 to
     /// U+10FFFF, and for others by the last range whose scalars begin at or before it, which a
     /// binary search finds.
+    #[inline]
     pub fn range_pointer(&self, scalar: char) -> Option<usize>
         ensures pointer { result ≡ range_pointer_of self.now.flat.ranges scalar }
         ensures within { IfSome result (λ p. p < 1237576) }
@@ -316,6 +323,7 @@ impl<'a> Tables<'a> {
 
     /// The lead and the trail that a private-use row gives the scalar value, or `None` where no row
     /// has it (Encoding Standard, "gb18030 encoder"). It is a binary search.
+    #[inline]
     pub fn gb18030_pua_bytes(&self, scalar: char) -> Option<(u8, u8)>
         ensures { result ≡ gb18030_pua_of self.now.flat.gb18030_pua scalar }
     {

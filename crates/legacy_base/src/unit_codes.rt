@@ -59,16 +59,8 @@ fn store_marked(dst: &mut [u8], at: usize, block: u8x16, marks: u8x16) -> usize
     ascii_count(marks)
 }
 
-/// Whether the two code units before a place are ASCII.
-#[inline(always)]
-fn is_behind_ascii(units: &[u16], place: usize) -> bool
-    requires { place ≤ length units.now }
-{
-    place >= 2 && (units[place - 1] | units[place - 2]) < 0x80
-}
-
 /// Writes the bytes of code units from the front, by blocks and as far as they have one, to the place `at`
-/// and on. Answers how many. It stops early where ASCII seems to go on.
+/// and on. Answers how many.
 #[inline]
 pub(crate) fn copy_unit_codes<C: UnitCodes>(
     codes: &C,
@@ -95,9 +87,6 @@ pub(crate) fn copy_unit_codes<C: UnitCodes>(
         );
         copied += count;
         if count < 16 {
-            return copied;
-        }
-        if is_behind_ascii(units, copied) {
             return copied;
         }
     }

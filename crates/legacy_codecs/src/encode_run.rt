@@ -3,6 +3,7 @@ ghost use Rattle.std.specs.Prelude.{◌≡◌, ℕ, ◌↔◌, ◌+◌, ◌^◌,
 ghost use Rattle.legacy_base.specs.declared.results.EncodeEvent.TheVariants.{Byte};
 ghost use Rattle.legacy_base.specs.EncoderCalls.{EncoderCall, reported};
 ghost use Rattle.legacy_codecs.specs.Pieces.{contents_of, place_before, IsTooLong};
+ghost use Rattle.legacy_codecs.specs.RoundTripRuns.{RunComesBack};
 ghost use Rattle.legacy_codecs.specs.EncodeRuns.{chars_of, unit_scalars_of, is_input_empty, IsEncodeRun, IsEncodeBeginning, HasNoEnd, HasAmpleOutputs};
 
 use crate::run_parts::{RunError, is_last, longest, push_items, push_within, room_for_events};
@@ -136,6 +137,13 @@ fn encode_run<E: RawEncoder, T: Text>(
 /// The run is sure to be finished where each length is at least 4, and there are as many as the whole
 /// text has events and pieces together, or more.
 ///
+/// What a new encoder gave comes back. Where the run is finished, no event is an unmappable scalar and the
+/// text holds no fold, a scalar that the encoding writes with the bytes of another one, the decoder of the
+/// same encoding and tables reads the bytes as the scalars of the text, and nothing else. Of a text with
+/// folds or unmappable scalars it reads the folds as those other scalars, and nothing is malformed, but
+/// in ISO-2022-JP where two escapes meet around unmappable scalars, and in GB18030 and GBK where the
+/// tables have a private-use row of bytes that index gb18030 lacks.
+///
 /// `TooLong` is answered exactly where the pieces' lengths together, or `lengths` and their number
 /// together, are above `usize::MAX`, and `Memory` where memory was refused. After either of them no call
 /// was made and the encoder is unchanged.
@@ -163,6 +171,11 @@ pub fn encode_run_utf8<E: RawEncoder>(
     ensures finishes { IfOk result (λ run.
         HasAmpleOutputs (E.state encoder.old) (chars_of pieces.now) lengths.now
         → IsTrue run.finished) }
+
+    // Where it is finished, and the encoder was new, the bytes decode to the text.
+    ensures comes_back { IfOk result (λ run.
+        RunComesBack (E.state encoder.old) (chars_of pieces.now) run.finished
+        run.events.items) }
     ensures too_long { (result ≡ Err RunError.TooLong)
         ↔ IsTooLong (contents_of pieces.now) lengths.now }
     ensures unchanged { OnErr result (encoder.new ≡ encoder.old) }
@@ -191,6 +204,9 @@ pub fn encode_run_utf16<E: RawEncoder>(
     ensures finishes { IfOk result (λ run.
         HasAmpleOutputs (E.state encoder.old) (unit_scalars_of pieces.now) lengths.now
         → IsTrue run.finished) }
+    ensures comes_back { IfOk result (λ run.
+        RunComesBack (E.state encoder.old) (unit_scalars_of pieces.now) run.finished
+        run.events.items) }
     ensures too_long { (result ≡ Err RunError.TooLong)
         ↔ IsTooLong (contents_of pieces.now) lengths.now }
     ensures unchanged { OnErr result (encoder.new ≡ encoder.old) }

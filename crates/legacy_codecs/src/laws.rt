@@ -1,11 +1,11 @@
 //! Laws of many calls together, each as the contract of a function that does nothing.
 ghost use Rattle.legacy_base.specs.Lengths.{to_utf16, to_utf8, to_utf8_without_replacement};
 ghost use Rattle.legacy_base.specs.EncodingForm.{Utf8, Utf16};
-ghost use Rattle.legacy_base.specs.RoundTrips.{RoundTrips, EscapesAreInPlace};
+ghost use Rattle.legacy_base.specs.RoundTrips.{RoundTrips, EscapesAreInPlace, ReencodesToTheSame, EncodesWellFormed, EscapesStayApart, ReencodesAnyText};
 ghost use Rattle.legacy_codecs.specs.Filling.{QueriedLengthSuffices};
 ghost use Rattle.legacy_codecs.specs.EncodeFilling.{EncodeQueriedLengthSuffices};
 ghost use Rattle.legacy_codecs.specs.EncodeRuns.{EncodeCutsDoNotMatter};
-ghost use Rattle.legacy_codecs.specs.RoundTripRuns.{RunsEncode, RunsRoundTrip};
+ghost use Rattle.legacy_codecs.specs.RoundTripRuns.{RunsEncode, RunsRoundTrip, RunsReencodeToTheSame, RunsEncodeWellFormed};
 ghost use Rattle.legacy_codecs.specs.Runs.{CutsDoNotMatter};
 
 pub use legacy_decoders::laws::{lists_are_read_by_fronts, nothing_has_no_events};
@@ -71,4 +71,42 @@ pub fn round_trips()
     ensures escapes { EscapesAreInPlace }
     ensures written { RunsEncode }
     ensures runs { RunsRoundTrip }
+{}
+
+/// What was encoded decodes to a text that is encoded as the same bytes.
+///
+/// Let a new encoder write a text to its end, as in `round_trips`: nothing is unmappable, and no scalar is
+/// a fold. Then the text that the decoder of the same encoding and tables reads from the bytes is written
+/// as these bytes again. The same holds of finished runs, however all three are cut.
+///
+/// It holds of any text as well, with unmappable scalars and with folds, where the bytes are well formed
+/// as `encodes_well_formed` says, and where each fold has the code of the scalar that it is read as. So it
+/// is in EUC-JP and Shift_JIS whatever the tables say. The tables decide in GB18030 and GBK, whose folds go
+/// by the private-use rows, and in ISO-2022-JP, whose half-width katakana go by the katakana index.
+///
+/// Of other bytes it does not hold, even where nothing in them is malformed: a scalar may have more than
+/// one form, of which an encoder takes one.
+pub fn reencodes_to_the_same()
+    ensures texts { ReencodesToTheSame }
+    ensures any_text { ReencodesAnyText }
+    ensures runs { RunsReencodeToTheSame }
+{}
+
+/// What was encoded is well formed.
+///
+/// Let a new encoder write any text to its end, with nothing for an unmappable scalar. Then the decoder of
+/// the same encoding and tables reads each scalar that has a code, the folds as the scalars whose bytes
+/// they are written with, and nothing is malformed. So it is of every text in all encodings but three:
+///
+/// - In GB18030 and GBK the text holds no scalar of a private-use row whose bytes have no scalar in index
+///   gb18030. The standard's rows have none such.
+/// - In ISO-2022-JP no two escapes meet in the bytes: the first of two is malformed. They meet only where
+///   unmappable scalars stand behind one of two bytes, since they are reported in ASCII mode there, and
+///   before one of two bytes or of Roman mode; so never where nothing is unmappable.
+///
+/// The same holds of runs: any finished run of a decoder over the bytes of a finished run of an encoder.
+pub fn encodes_well_formed()
+    ensures texts { EncodesWellFormed }
+    ensures escapes { EscapesStayApart }
+    ensures runs { RunsEncodeWellFormed }
 {}

@@ -27,7 +27,7 @@ pub use legacy_decoders::{
 };
 pub use legacy_encoders::{
     Big5Encoder, EucJpEncoder, EucKrEncoder, Gb18030Encoder, Iso2022JpEncoder, ShiftJisEncoder,
-    SingleByteEncoder, SingleByteRunError, UserDefinedEncoder,
+    SingleByteEncoder, SingleByteRun, SingleByteRunError, UserDefinedEncoder,
 };
 pub use references::{encode_replacing_utf8, encode_replacing_utf16};
 pub use replacing::{decode_replacing_utf8, decode_replacing_utf16};

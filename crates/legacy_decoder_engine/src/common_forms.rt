@@ -53,6 +53,14 @@ pub trait CommonForms {
     }
 }
 
+/// Whether what stands at the front is surely rare.
+#[inline(always)]
+fn is_rare<D: CommonForms>(decoder: &D, src: &[u8]) -> bool
+    requires { HasAscii (D.state decoder.now).grammar }
+{
+    src.len() >= 2 && matches!(decoder.form(src[0], src[1]), CommonForm::Other)
+}
+
 /// The common forms of a decoder, and the ASCII between them.
 #[derive(Drop)]
 pub struct CommonBlocks<'a, D: CommonForms> {
@@ -108,8 +116,12 @@ impl<D: CommonForms> Blocks for CommonBlocks<'_, D> {
 
     ghost ready = { λ blocks. HasAscii (D.state blocks.decoder.now).grammar };
 
+    // Behind a fault often comes the next one: for a single form that is rare no block is begun.
     #[inline(always)]
     fn read_block<T: Destination>(&self, src: &[u8], dst: &mut T) -> (usize, bool) {
+        if is_rare(self.decoder, src) {
+            return (0, false);
+        }
         let at = read_ascii(src, dst);
         let read = read_run(self, &src[at..], dst);
         (at + read, read > 0)

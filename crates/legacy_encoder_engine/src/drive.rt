@@ -18,7 +18,7 @@ fn put(dst: &mut [u8], at: usize, byte: u8)
 
 /// Writes the bytes of a move from a place on, and answers where they end.
 #[inline]
-pub(crate) fn put_move(dst: &mut [u8], at: usize, step: EncoderMove) -> usize
+pub fn put_move(dst: &mut [u8], at: usize, step: EncoderMove) -> usize
     requires { at + length (move_bytes step) ≤ length dst.old }
     ensures bytes { take result dst.new ≡ take at dst.old ++ move_bytes step }
     ensures end { result ≡ at + length (move_bytes step) }

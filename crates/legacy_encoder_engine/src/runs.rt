@@ -14,7 +14,7 @@ use legacy_base::{Next, Source};
 
 /// Whether the scalar is read, and has bytes.
 #[inline(always)]
-fn has_bytes(step: EncoderMove) -> bool
+pub fn has_bytes(step: EncoderMove) -> bool
     ensures { result ≡ true → (is_escape step ≡ false) × (move_report step ≡ []) }
 {
     match step {
@@ -44,10 +44,11 @@ fn may_go_by_blocks<C: PlainCodes, S: Source>(encoder: &C, src: &S) -> bool {
     (encoder.goes_by_units() && src.has_blocks()) || src.is_in_ascii()
 }
 
-/// Reads code units that have a byte each, and writes these from the place `at` on. Answers how many: none
-/// is an answer too.
+/// Reads by blocks code units that have a byte each, or where the encoder does not go by these ASCII, and
+/// writes their bytes from the place `at` on. Answers how many: none is an answer too.
+// Code units that have a byte go on over ASCII: a choice between the two would follow no pattern.
 #[inline(always)]
-fn read_units<C: PlainCodes, S: Source>(
+fn read_blocks<C: PlainCodes, S: Source>(
     encoder: &C,
     src: &mut S,
     dst: &mut [u8],
@@ -61,10 +62,10 @@ fn read_units<C: PlainCodes, S: Source>(
     ensures passed { S.passed src.new + total_unit_count S.form (S.left src.new)
         ≡ S.passed src.old + total_unit_count S.form (S.left src.old) }
 {
-    if !encoder.goes_by_units() {
-        return 0;
+    if encoder.goes_by_units() && src.has_blocks() {
+        return src.copy_codes(&Units { encoder }, dst, at);
     }
-    src.copy_codes(&Units { encoder }, dst, at)
+    src.copy_ascii(dst, at)
 }
 
 /// Reads scalars up to where blocks seem to go on or to one that has no bytes, and writes their bytes
@@ -123,7 +124,7 @@ fn read_scalars<C: PlainCodes, S: Source>(
     at
 }
 
-/// Reads ASCII by blocks and runs of other scalars from the front of what the source has left, and writes
+/// Reads blocks and runs of other scalars from the front of what the source has left, and writes
 /// their bytes from the place `start` of `dst` on while any scalar fits. Answers where they end.
 #[inline]
 pub fn read_runs<C: PlainCodes, S: Source>(
@@ -143,8 +144,7 @@ pub fn read_runs<C: PlainCodes, S: Source>(
     let widest = encoder.past_room();
     let mut at = start;
     loop {
-        at += src.copy_ascii(dst, at);
-        at += read_units(encoder, src, dst, at);
+        at += read_blocks(encoder, src, dst, at);
         let end = read_scalars(encoder, src, dst, at, widest);
         if end == at {
             return at;

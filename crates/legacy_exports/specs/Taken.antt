@@ -1,8 +1,10 @@
 -- What of a caller's indexes is taken.
-use Rattle.std.specs.Prelude.{◌≡◌, ◌≤◌, ℕ, List, length, map, None, true}
+use Rattle.std.specs.Prelude.{◌≡◌, ◌≤◌, ℕ, List, Bool, length, map, None, true, false}
 use Rattle.legacy_base.specs.Indexes.{FlatIndexes}
 use Rattle.legacy_base.specs.AcceptedTables.{flat_lists}
+use Rattle.legacy_base.specs.declared.tables.packed.Packed.{Packed}
 use Rattle.legacy_base.specs.declared.tables.private_use.TheConstants.{GB18030_2022_PUA}
+use Rattle.legacy_base.specs.Packed.{packed_fault, ArePackedTables}
 use Rattle.legacy_base.specs.TableChecks.{AreAccepted, IsAcceptedTable}
 use Rattle.legacy_single_byte.specs.SingleByteRun.{single_byte_run_fault}
 use Rattle.legacy_exports.specs.declared.codec.Codec.{Codec}
@@ -10,6 +12,7 @@ use Rattle.legacy_exports.specs.declared.codec.Codec.TheVariants.{SingleByte}
 use Rattle.legacy_exports.specs.Codecs.{number_of, has_encoder}
 use Rattle.legacy_exports.specs.declared.indexes.IndexRange.{IndexRange}
 use Rattle.legacy_exports.specs.declared.indexes.IndexSlices.{IndexSlices}
+use Rattle.legacy_exports.specs.declared.indexes.PackedSlices.{PackedSlices}
 
 -- a range as a pair
 abbrev pub range_pair : IndexRange → ℕ × ℕ
@@ -21,6 +24,39 @@ indexes_with slices ranges =
     flat_lists slices.big5.now slices.euc_kr.now slices.jis0208.now slices.jis0212.now slices.gb18030.now slices.katakana.now ranges
     GB18030_2022_PUA
 
+-- the handed-in runs and orders
+abbrev pub packed_with : PackedSlices → Packed
+packed_with slices = record {
+  big5 = slices.big5;
+  euc_kr = slices.euc_kr;
+  jis0208 = slices.jis0208;
+  jis0212 = slices.jis0212;
+  gb18030 = slices.gb18030;
+  big5_order = slices.big5_order;
+  euc_kr_order = slices.euc_kr_order;
+  shift_jis_order = slices.shift_jis_order;
+  euc_jp_order = slices.euc_jp_order;
+  gb18030_order = slices.gb18030_order;
+}
+
+-- flat indexes are accepted, with the runs and orders where the tables are to be packed
+abbrev pub AreTakenParts : Bool → FlatIndexes → Packed → Type 0
+AreTakenParts false flat packed = AreAccepted flat
+AreTakenParts true flat packed = packed_fault flat packed ≡ None
+
+-- the handed-in indexes are accepted with these pairs as ranges
+abbrev pub AreTakenIndexes : IndexSlices → List (ℕ × ℕ) → Type 0
+AreTakenIndexes slices ranges = AreTakenParts slices.is_packed (indexes_with slices ranges) (packed_with slices.packed)
+
+-- tables are seen as the flat indexes, or as what the runs and orders give
+abbrev pub AreTablesOfParts : Bool → FlatIndexes → Packed → FlatIndexes → Type 0
+AreTablesOfParts false flat packed lists = lists ≡ flat
+AreTablesOfParts true flat packed lists = ArePackedTables flat packed lists
+
+-- tables are seen as the handed-in indexes with these pairs as ranges
+abbrev pub AreTablesOf : IndexSlices → List (ℕ × ℕ) → FlatIndexes → Type 0
+AreTablesOf slices ranges lists = AreTablesOfParts slices.is_packed (indexes_with slices ranges) (packed_with slices.packed) lists
+
 -- the index of a single-byte encoding is accepted
 abbrev pub IsTakenTable : List ℕ → Type 0
 IsTakenTable entries = (length entries ≡ 128) × IsAcceptedTable entries
@@ -29,7 +65,7 @@ IsTakenTable entries = (length entries ≡ 128) × IsAcceptedTable entries
 abbrev pub AreTaken : Codec → IndexSlices → Type 0
 AreTaken codec slices =
     (length slices.ranges.now ≤ 256)
-    × AreAccepted (indexes_with slices (map range_pair slices.ranges.now))
+    × AreTakenIndexes slices (map range_pair slices.ranges.now)
     × (codec ≡ SingleByte → IsTakenTable slices.single_byte.now)
 
 -- the index and the run of a single-byte encoding are accepted
@@ -42,7 +78,7 @@ IsTakenRun slices =
 abbrev pub AreTakenToEncode : Codec → IndexSlices → Type 0
 AreTakenToEncode codec slices =
     (length slices.ranges.now ≤ 256)
-    × AreAccepted (indexes_with slices (map range_pair slices.ranges.now))
+    × AreTakenIndexes slices (map range_pair slices.ranges.now)
     × (codec ≡ SingleByte → IsTakenRun slices)
     × (has_encoder codec ≡ true)
 

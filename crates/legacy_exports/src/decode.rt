@@ -2,11 +2,11 @@
 ghost use Rattle.std.specs.Prelude.{◌≡◌, ◌≤◌, ◌⊎◌, ◌↔◌, length, IfSome, IsSome};
 ghost use Rattle.legacy_exports.specs.Taken.{AreTaken, IsRefused, IsTaken};
 
+use crate::calls::Calls;
 use crate::codec::{Codec, codec_of_number};
-use crate::indexes::{IndexSlices, RANGE_LIMIT, range_pairs, single_byte_table, with_ranges};
+use crate::indexes::{IndexSlices, RANGE_LIMIT, range_pairs, single_byte_table, tables_with};
 use crate::pieces::{Reading, decode_times};
 use crate::unit::CodeUnit;
-use legacy_base::Tables;
 use legacy_decoders::{
     Big5Decoder, EucJpDecoder, EucKrDecoder, Gb18030Decoder, Iso2022JpDecoder, ReplacementDecoder,
     ShiftJisDecoder, SingleByteDecoder, UserDefinedDecoder, Utf16Decoder,
@@ -16,10 +16,10 @@ use legacy_decoders::{
 // need not read from memory again where they lie.
 /// Decodes by the codec's decoder, as `decode_times` does, or answers `None` where the indexes are
 /// refused.
-pub fn decode<U: CodeUnit>(
+pub fn decode<C: Calls, U: CodeUnit>(
     codec: Codec,
     indexes: &IndexSlices,
-    reading: Reading<&[u8]>,
+    reading: Reading<C, &[u8]>,
     output: &mut [U],
 ) -> Option<usize>
     ensures units { IfSome result (λ written. written ≤ length output.new) }
@@ -30,8 +30,7 @@ pub fn decode<U: CodeUnit>(
         return None;
     }
     let pairs = range_pairs(indexes.ranges);
-    let flat = with_ranges(indexes, &pairs[..range_count]);
-    let Ok(tables) = Tables::new(&flat) else {
+    let Some(tables) = tables_with(indexes, &pairs[..range_count]) else {
         return None;
     };
     let written = match codec {
@@ -61,10 +60,10 @@ pub fn decode<U: CodeUnit>(
 
 /// Decodes by the codec of the number, as `decode` does, or answers `usize::MAX` where no codec has the
 /// number or the indexes are refused.
-pub fn decode_by_number<U: CodeUnit>(
+pub fn decode_by_number<C: Calls, U: CodeUnit>(
     number: u32,
     indexes: &IndexSlices,
-    reading: Reading<&[u8]>,
+    reading: Reading<C, &[u8]>,
     output: &mut [U],
 ) -> usize
     ensures units { (result ≤ length output.new) ⊎ (result ≡ 0xFFFF_FFFF_FFFF_FFFF) }

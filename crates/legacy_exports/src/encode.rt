@@ -2,31 +2,22 @@
 ghost use Rattle.std.specs.Prelude.{◌≡◌, ◌≤◌, ◌⊎◌, ◌↔◌, length, IfSome, IsSome};
 ghost use Rattle.legacy_exports.specs.Taken.{AreTakenToEncode, IsRefusedToEncode, IsTakenRun, IsTakenToEncode};
 
+use crate::calls::{CallEnd, Calls};
 use crate::codec::{Codec, codec_of_number};
-use crate::indexes::{IndexSlices, RANGE_LIMIT, range_pairs, single_byte_table, with_ranges};
+use crate::indexes::{IndexSlices, RANGE_LIMIT, range_pairs, single_byte_table, tables_with};
 use crate::pieces::Reading;
 use crate::texts::Text;
-use legacy_base::{EncoderResult, RawEncoder, Tables};
+use legacy_base::RawEncoder;
 use legacy_encoders::{
     Big5Encoder, EucJpEncoder, EucKrEncoder, Gb18030Encoder, Iso2022JpEncoder, ShiftJisEncoder,
     SingleByteEncoder, UserDefinedEncoder,
 };
 
-/// Writes a question mark at a place, and answers the place behind it, or `None` where it has no room.
-fn put_question_mark(output: &mut [u8], at: usize) -> Option<usize>
-    ensures { IfSome result (λ end. end ≤ length output.new) }
-{
-    if at >= output.len() {
-        return None;
-    }
-    output[at] = 0x3F;
-    Some(at + 1)
-}
-
-/// Encodes the text in pieces of so many code units, with a question mark for each scalar that the encoding does
-/// not have, and answers how many bytes it wrote. It stops where the output is full.
+/// Encodes the text in pieces of so many code units by calls of a kind, and answers how many bytes it wrote. It stops
+/// where the output is full.
 #[inline(always)]
-fn encode_once<T: Text, E: RawEncoder>(
+fn encode_once<C: Calls, T: Text, E: RawEncoder>(
+    calls: C,
     encoder: &mut E,
     text: T,
     output: &mut [u8],
@@ -39,8 +30,9 @@ fn encode_once<T: Text, E: RawEncoder>(
     let mut end = text.end_of_piece(0, piece);
     for _ in 0..u64::MAX {
         let last = end == text.unit_count();
-        let (answer, more, bytes) = text.encode_raw(
+        let (answer, more, bytes) = calls.encode(
             encoder,
+            text,
             (read, end),
             &mut output[written..],
             last,
@@ -48,13 +40,10 @@ fn encode_once<T: Text, E: RawEncoder>(
         read = read.saturating_add(more);
         written += bytes;
         match answer {
-            EncoderResult::InputEmpty if last => return written,
-            EncoderResult::InputEmpty => end = text.end_of_piece(read, piece),
-            EncoderResult::OutputFull => return written,
-            EncoderResult::Unmappable(_) => match put_question_mark(output, written) {
-                Some(behind) => written = behind,
-                None => return written,
-            },
+            CallEnd::Read if last => return written,
+            CallEnd::Read => end = text.end_of_piece(read, piece),
+            CallEnd::Full => return written,
+            CallEnd::Replaced => {}
         }
     }
     written
@@ -62,16 +51,22 @@ fn encode_once<T: Text, E: RawEncoder>(
 
 /// Encodes a text by one encoder as often as it is read, and answers how many bytes it wrote the last time.
 #[inline(always)]
-fn encode_times<T: Text, E: RawEncoder>(
+fn encode_times<C: Calls, T: Text, E: RawEncoder>(
     encoder: &mut E,
-    reading: Reading<T>,
+    reading: Reading<C, T>,
     output: &mut [u8],
 ) -> usize
     ensures { result ≤ length output.new }
 {
     let mut written = 0;
     for _ in 0..reading.times {
-        written = encode_once(encoder, reading.source, output, reading.piece);
+        written = encode_once(
+            reading.calls,
+            encoder,
+            reading.source,
+            output,
+            reading.piece,
+        );
     }
     written
 }
@@ -79,10 +74,10 @@ fn encode_times<T: Text, E: RawEncoder>(
 // The loop of `encode_times` is inlined here, as that of the decoders is.
 /// Encodes by the codec's encoder, as `encode_times` does, or answers `None` where the codec has none or the
 /// indexes are refused.
-pub fn encode<T: Text>(
+pub fn encode<C: Calls, T: Text>(
     codec: Codec,
     indexes: &IndexSlices,
-    reading: Reading<T>,
+    reading: Reading<C, T>,
     output: &mut [u8],
 ) -> Option<usize>
     ensures units { IfSome result (λ written. written ≤ length output.new) }
@@ -93,8 +88,7 @@ pub fn encode<T: Text>(
         return None;
     }
     let pairs = range_pairs(indexes.ranges);
-    let flat = with_ranges(indexes, &pairs[..range_count]);
-    let Ok(tables) = Tables::new(&flat) else {
+    let Some(tables) = tables_with(indexes, &pairs[..range_count]) else {
         return None;
     };
     let written = match codec {
@@ -114,9 +108,9 @@ pub fn encode<T: Text>(
 
 /// Encodes by the encoder of the single-byte encoding that is handed in, or answers `None` where its index or its
 /// run is refused.
-fn encode_single_byte<T: Text>(
+fn encode_single_byte<C: Calls, T: Text>(
     indexes: &IndexSlices,
-    reading: Reading<T>,
+    reading: Reading<C, T>,
     output: &mut [u8],
 ) -> Option<usize>
     ensures units { IfSome result (λ written. written ≤ length output.new) }
@@ -132,10 +126,10 @@ fn encode_single_byte<T: Text>(
 
 /// Encodes by the codec of the number, as `encode` does, or answers `usize::MAX` where no codec with an encoder has
 /// the number or the indexes are refused.
-pub fn encode_by_number<T: Text>(
+pub fn encode_by_number<C: Calls, T: Text>(
     number: u32,
     indexes: &IndexSlices,
-    reading: Reading<T>,
+    reading: Reading<C, T>,
     output: &mut [u8],
 ) -> usize
     ensures units { (result ≤ length output.new) ⊎ (result ≡ 0xFFFF_FFFF_FFFF_FFFF) }

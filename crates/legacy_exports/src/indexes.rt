@@ -1,9 +1,10 @@
 //! The indexes as a caller in another language hands them in.
 ghost use Rattle.std.specs.Prelude.{◌≡◌, ◌≤◌, ◌↔◌, length, map, take, IfSome, IsSome};
 ghost use Rattle.legacy_base.specs.Tables.{flat_indexes};
-ghost use Rattle.legacy_exports.specs.Taken.{indexes_with, range_pair, IsTakenTable};
+ghost use Rattle.legacy_exports.specs.Taken.{indexes_with, packed_with, range_pair};
+ghost use Rattle.legacy_exports.specs.Taken.{AreTablesOf, AreTakenIndexes, IsTakenTable};
 
-use legacy_base::{GB18030_2022_PUA, Indexes, SingleByteTable};
+use legacy_base::{GB18030_2022_PUA, Indexes, Packed, Run, SingleByteTable, Tables};
 
 /// A range of index gb18030 ranges: its first pointer and its first scalar.
 #[repr(C)]
@@ -24,6 +25,32 @@ pub struct ByteRun {
     pub start: u8,
     /// How many places; none is a run too.
     pub length: u8,
+}
+
+/// Indexes as runs, and the pointers that encoders take in the order of their scalars, not checked yet: the parts of
+/// `Packed`.
+#[repr(C)]
+pub struct PackedSlices<'a> {
+    /// Index Big5.
+    pub big5: &'a [Run],
+    /// Index EUC-KR.
+    pub euc_kr: &'a [Run],
+    /// Index jis0208.
+    pub jis0208: &'a [Run],
+    /// Index jis0212.
+    pub jis0212: &'a [Run],
+    /// Index gb18030.
+    pub gb18030: &'a [Run],
+    /// The pointers of Big5's encoder.
+    pub big5_order: &'a [u16],
+    /// The pointers of EUC-KR's encoder.
+    pub euc_kr_order: &'a [u16],
+    /// The pointers of Shift_JIS's encoder.
+    pub shift_jis_order: &'a [u16],
+    /// The pointers of the encoders of EUC-JP and ISO-2022-JP.
+    pub euc_jp_order: &'a [u16],
+    /// The pointers of GB18030's encoder.
+    pub gb18030_order: &'a [u16],
 }
 
 /// Flat indexes, not checked yet: entry `p` is the scalar of pointer `p`, and 0 where it has none. Those
@@ -48,6 +75,10 @@ pub struct IndexSlices<'a> {
     pub single_byte: &'a [u16],
     /// The run that the encoder of the single-byte encoding takes.
     pub single_byte_run: ByteRun,
+    /// Whether the tables are packed ones.
+    pub is_packed: bool,
+    /// What packed tables are made of; flat ones do not look at it.
+    pub packed: PackedSlices<'a>,
 }
 
 /// The most ranges that are taken.
@@ -69,7 +100,7 @@ pub fn range_pairs(ranges: &[IndexRange]) -> [(u16, u16); RANGE_LIMIT]
 }
 
 /// The indexes of pointers, with these ranges and the private-use rows of GB18030-2022.
-pub fn with_ranges<'a: 'r, 'r>(slices: &IndexSlices<'a>, ranges: &'r [(u16, u16)]) -> Indexes<'r>
+fn with_ranges<'a: 'r, 'r>(slices: &IndexSlices<'a>, ranges: &'r [(u16, u16)]) -> Indexes<'r>
     ensures { flat_indexes result ≡ indexes_with slices.now ranges.now }
 {
     Indexes {
@@ -81,6 +112,42 @@ pub fn with_ranges<'a: 'r, 'r>(slices: &IndexSlices<'a>, ranges: &'r [(u16, u16)
         katakana: slices.katakana,
         ranges,
         gb18030_pua: &GB18030_2022_PUA,
+    }
+}
+
+/// The parts of packed indexes.
+fn packed_parts<'a>(parts: &PackedSlices<'a>) -> Packed<'a>
+    ensures { result ≡ packed_with parts.now }
+{
+    Packed {
+        big5: parts.big5,
+        euc_kr: parts.euc_kr,
+        jis0208: parts.jis0208,
+        jis0212: parts.jis0212,
+        gb18030: parts.gb18030,
+        big5_order: parts.big5_order,
+        euc_kr_order: parts.euc_kr_order,
+        shift_jis_order: parts.shift_jis_order,
+        euc_jp_order: parts.euc_jp_order,
+        gb18030_order: parts.gb18030_order,
+    }
+}
+
+/// The tables of the indexes with these ranges, packed ones where they are to be packed, or `None` where they are
+/// refused.
+#[inline(always)]
+pub fn tables_with<'a: 'r, 'r>(
+    slices: &IndexSlices<'a>,
+    ranges: &'r [(u16, u16)],
+) -> Option<Tables<'r>>
+    ensures taken { IsSome result ↔ AreTakenIndexes slices.now ranges.now }
+    ensures same { IfSome result (λ tables. AreTablesOf slices.now ranges.now tables.flat) }
+{
+    let flat = with_ranges(slices, ranges);
+    if slices.is_packed {
+        Tables::packed_of(&flat, &packed_parts(&slices.packed)).ok()
+    } else {
+        Tables::new(&flat).ok()
     }
 }
 

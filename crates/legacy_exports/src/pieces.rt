@@ -1,12 +1,15 @@
 //! Whole sources, piece by piece.
 ghost use Rattle.std.specs.Prelude.{◌≡◌, ◌≤◌, length};
 
+use crate::calls::{CallEnd, Calls};
 use crate::unit::CodeUnit;
-use legacy_base::{DecoderResult, RawDecoder};
+use legacy_base::RawDecoder;
 
-/// How a source is read: in pieces of so many code units (0: in one piece), and so many times.
+/// How a source is read: by which kind of calls, in pieces of so many code units (0: in one piece), and so many times.
 #[derive(Clone, Copy)]
-pub struct Reading<S: Copy> {
+pub struct Reading<C: Calls, S: Copy> {
+    /// The kind of calls.
+    pub calls: C,
     /// The bytes of a decoder, or the text of an encoder.
     pub source: S,
     /// The length of a piece.
@@ -28,10 +31,11 @@ pub fn piece_end(read: usize, len: usize, piece: usize) -> usize
     }
 }
 
-/// Decodes the source in pieces of so many bytes, with U+FFFD for each malformed sequence, and answers how
-/// many code units it wrote. It stops where the output is full.
+/// Decodes the source in pieces of so many bytes by calls of a kind, and answers how many code units it wrote. It
+/// stops where the output is full.
 #[inline(always)]
-fn decode_once<U: CodeUnit, D: RawDecoder>(
+fn decode_once<C: Calls, U: CodeUnit, D: RawDecoder>(
+    calls: C,
     decoder: &mut D,
     source: &[u8],
     output: &mut [U],
@@ -44,7 +48,7 @@ fn decode_once<U: CodeUnit, D: RawDecoder>(
     let mut end = piece_end(0, source.len(), piece);
     for _ in 0..u64::MAX {
         let last = end == source.len();
-        let (answer, more, units) = U::decode_raw(
+        let (answer, more, units) = calls.decode(
             decoder,
             &source[read..end],
             &mut output[written..],
@@ -53,13 +57,10 @@ fn decode_once<U: CodeUnit, D: RawDecoder>(
         read += more;
         written += units;
         match answer {
-            DecoderResult::InputEmpty if last => return written,
-            DecoderResult::InputEmpty => end = piece_end(read, source.len(), piece),
-            DecoderResult::OutputFull => return written,
-            DecoderResult::Malformed(_, _) => match U::replace(output, written) {
-                Some(behind) => written = behind,
-                None => return written,
-            },
+            CallEnd::Read if last => return written,
+            CallEnd::Read => end = piece_end(read, source.len(), piece),
+            CallEnd::Full => return written,
+            CallEnd::Replaced => {}
         }
     }
     written
@@ -68,16 +69,22 @@ fn decode_once<U: CodeUnit, D: RawDecoder>(
 /// Decodes a source by one decoder as often as it is read, and answers how many code units it wrote the
 /// last time.
 #[inline(always)]
-pub fn decode_times<U: CodeUnit, D: RawDecoder>(
+pub fn decode_times<C: Calls, U: CodeUnit, D: RawDecoder>(
     decoder: &mut D,
-    reading: Reading<&[u8]>,
+    reading: Reading<C, &[u8]>,
     output: &mut [U],
 ) -> usize
     ensures { result ≤ length output.new }
 {
     let mut written = 0;
     for _ in 0..reading.times {
-        written = decode_once(decoder, reading.source, output, reading.piece);
+        written = decode_once(
+            reading.calls,
+            decoder,
+            reading.source,
+            output,
+            reading.piece,
+        );
     }
     written
 }

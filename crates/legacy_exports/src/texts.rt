@@ -3,6 +3,7 @@ ghost use Rattle.std.specs.Prelude.{◌≡◌, ◌+◌, ◌≤◌, length};
 
 use crate::pieces::piece_end;
 use legacy_base::{EncoderResult, RawEncoder};
+use legacy_codecs::{CoderResult, encode_replacing_utf8, encode_replacing_utf16};
 
 /// A text in UTF-8 or in UTF-16, of which pieces are encoded that end between two characters.
 pub trait Text: Copy {
@@ -22,6 +23,16 @@ pub trait Text: Copy {
         output: &mut [u8],
         last: bool,
     ) -> (EncoderResult, usize, usize)
+        ensures { result.2 ≤ length output.new };
+
+    /// The same call with replacement.
+    fn encode_replacing<E: RawEncoder>(
+        self,
+        encoder: &mut E,
+        place: (usize, usize),
+        output: &mut [u8],
+        last: bool,
+    ) -> (CoderResult, usize, usize)
         ensures { result.2 ≤ length output.new };
 }
 
@@ -47,6 +58,18 @@ impl Text for &str {
     ) -> (EncoderResult, usize, usize) {
         let text = self.get(place.0..place.1).unwrap_or("");
         encoder.encode_from_utf8_raw(text, output, last)
+    }
+
+    fn encode_replacing<E: RawEncoder>(
+        self,
+        encoder: &mut E,
+        place: (usize, usize),
+        output: &mut [u8],
+        last: bool,
+    ) -> (CoderResult, usize, usize) {
+        let text = self.get(place.0..place.1).unwrap_or("");
+        let call = encode_replacing_utf8(encoder, text, output, last);
+        (call.0, call.1, call.2)
     }
 }
 
@@ -77,5 +100,17 @@ impl Text for &[u16] {
     ) -> (EncoderResult, usize, usize) {
         let units = self.get(place.0..place.1).unwrap_or(&[]);
         encoder.encode_from_utf16_raw(units, output, last)
+    }
+
+    fn encode_replacing<E: RawEncoder>(
+        self,
+        encoder: &mut E,
+        place: (usize, usize),
+        output: &mut [u8],
+        last: bool,
+    ) -> (CoderResult, usize, usize) {
+        let units = self.get(place.0..place.1).unwrap_or(&[]);
+        let call = encode_replacing_utf16(encoder, units, output, last);
+        (call.0, call.1, call.2)
     }
 }

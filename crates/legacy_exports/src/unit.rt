@@ -2,6 +2,7 @@
 ghost use Rattle.std.specs.Prelude.{◌≡◌, ◌≤◌, length, IfSome};
 
 use legacy_base::{DecoderResult, RawDecoder};
+use legacy_codecs::{CoderResult, decode_replacing_utf8, decode_replacing_utf16};
 
 /// A code unit of an output: a byte of UTF-8, or a code unit of UTF-16.
 pub trait CodeUnit: Copy {
@@ -13,6 +14,16 @@ pub trait CodeUnit: Copy {
         output: &mut [Self],
         last: bool,
     ) -> (DecoderResult, usize, usize)
+        ensures read { result.1 ≤ length source.now }
+        ensures written { result.2 ≤ length output.new };
+
+    /// The same call with replacement.
+    fn decode_replacing<D: RawDecoder>(
+        decoder: &mut D,
+        source: &[u8],
+        output: &mut [Self],
+        last: bool,
+    ) -> (CoderResult, usize, usize)
         ensures read { result.1 ≤ length source.now }
         ensures written { result.2 ≤ length output.new };
 
@@ -29,6 +40,16 @@ impl CodeUnit for u8 {
         last: bool,
     ) -> (DecoderResult, usize, usize) {
         decoder.decode_to_utf8_raw(source, output, last)
+    }
+
+    fn decode_replacing<D: RawDecoder>(
+        decoder: &mut D,
+        source: &[u8],
+        output: &mut [u8],
+        last: bool,
+    ) -> (CoderResult, usize, usize) {
+        let call = decode_replacing_utf8(decoder, source, output, last);
+        (call.0, call.1, call.2)
     }
 
     fn replace(output: &mut [u8], at: usize) -> Option<usize> {
@@ -50,6 +71,16 @@ impl CodeUnit for u16 {
         last: bool,
     ) -> (DecoderResult, usize, usize) {
         decoder.decode_to_utf16_raw(source, output, last)
+    }
+
+    fn decode_replacing<D: RawDecoder>(
+        decoder: &mut D,
+        source: &[u8],
+        output: &mut [u16],
+        last: bool,
+    ) -> (CoderResult, usize, usize) {
+        let call = decode_replacing_utf16(decoder, source, output, last);
+        (call.0, call.1, call.2)
     }
 
     fn replace(output: &mut [u16], at: usize) -> Option<usize> {

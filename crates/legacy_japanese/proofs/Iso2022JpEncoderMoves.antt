@@ -11,18 +11,12 @@ use Rattle.legacy_base.proofs.Iso2022JpEncoding.{text_events-here, text_events-e
 use Rattle.legacy_base.proofs.Iso2022JpEncoding.{at_control, at_special, at_neutral, at_yen, at_overline, at_pair, at_none}
 use Rattle.legacy_encoder_engine.specs.Moves.{Moves, Finishes, IsCode, differs}
 use Rattle.legacy_encoder_engine.specs.Serves.{Serves}
-use Rattle.legacy_encoder_engine.specs.UnderWay.{PutsCode}
 use Rattle.legacy_encoder_engine.specs.declared.moves.EncoderMove.{EncoderMove}
 use Rattle.legacy_encoder_engine.specs.declared.moves.EncoderMove.TheVariants.{One, Two, Four, Escape, Unmappable}
 use Rattle.legacy_japanese.specs.declared.iso_2022_jp.encoder.Mode.{Mode}
 use Rattle.legacy_japanese.specs.declared.iso_2022_jp.encoder.Mode.TheVariants as modes
 use Rattle.legacy_japanese.specs.Iso2022JpEncoder.{mode_of, state_in, is_same_mode, escape_move, Asks}
 use Rattle.legacy_japanese.proofs.Iso2022JpEncoderRooms.{scalar_low, scalar_enough, escape_low, escape_enough, end_enough, formula_rises}
-
-both_true : (a b : Bool) → (a && not b) ≡ true → (a ≡ true) × (b ≡ false)
-both_true true true e = cc
-both_true true false e = (refl, refl)
-both_true false b e = cc
 
 -- ---- modes
 
@@ -185,27 +179,3 @@ module _ (jis0208 katakana_index : List ℕ) where
 
       pub asks_none : (new : Mode) → iso_2022_jp_pointer_of jis0208 katakana_index c ≡ None → mode_of new ≡ roman_or_ascii (mode_of mode) → Asks jis0208 katakana_index mode c new (Unmappable c)
       asks_none new e s = let w = at_none jis0208 katakana_index (mode_of mode) c f a y o e in record { mode_is = w.mode_is ∙ sym s; code_is = (w.code_is, rw f refl) }
-
-  -- ---- ASCII in ASCII mode
-
-  plain_asks : (c : ℕ) → is_mode_control c ≡ false → is_ascii c ≡ true → Asks jis0208 katakana_index modes.Ascii c modes.Ascii (One c)
-  plain_asks c f a = go (eqb c 0x5C || eqb c 0x7E) refl
-    where
-      go : (t : Bool) → (eqb c 0x5C || eqb c 0x7E) ≡ t → Asks jis0208 katakana_index modes.Ascii c modes.Ascii (One c)
-      go true s = asks_special modes.Ascii c f a s
-      go false s = asks_neutral modes.Ascii c modes.Ascii f a s refl
-
-  -- a scalar that is no control is its own byte
-  pub puts_plain : (mode : Mode) → mode ≡ modes.Ascii → (c : ℕ) → (is_ascii c && not (is_mode_control c)) ≡ true → (bytes : List ℕ) (at : ℕ)
-      → PutsCode (state_in jis0208 katakana_index mode) c bytes at (bytes ++ c ∷ []) (at + 1)
-  puts_plain mode is c plain bytes at =
-      let tests = both_true (is_ascii c) (is_mode_control c) plain in
-      let asked = plain_asks c tests.1 tests.0 in
-      rw is (record {
-        move = One c;
-        moves = reads modes.Ascii c asked.mode_is (One c) asked.code_is;
-        reads = refl;
-        silent = refl;
-        bytes = refl;
-        ends = refl;
-      })

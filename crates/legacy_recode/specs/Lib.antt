@@ -5,5 +5,4 @@ pub mod Recoding
 pub mod Text
 pub mod Words
 pub mod IndexTexts
-pub mod GivenIndexes
 pub mod Program

@@ -11,12 +11,12 @@ use Rattle.legacy_base.specs.TableChecks.{AreAccepted, IsAcceptedTable}
 use Rattle.legacy_recode.specs.declared.words.CodecWord.{CodecWord}
 use Rattle.legacy_recode.specs.declared.words.CodecWord.TheVariants as codec
 use Rattle.legacy_index_files.specs.declared.index_file.FileIndex.{FileIndex}
-use Rattle.legacy_recode.specs.declared.given_indexes.GivenIndexes.{GivenIndexes}
+use Rattle.legacy_index_files.specs.declared.owned_indexes.OwnedIndexes.{OwnedIndexes}
+use Rattle.legacy_index_files.specs.OwnedIndexes.{HoldsTexts}
 use Rattle.legacy_recode.specs.declared.words.OutputKind.{OutputKind}
 use Rattle.legacy_recode.specs.declared.words.OutputKind.TheVariants.{Lines, Text}
 use Rattle.legacy_recode.specs.Words.{output_kind, plain_words, codec_of_words}
 use Rattle.legacy_recode.specs.IndexTexts.{text_given}
-use Rattle.legacy_recode.specs.GivenIndexes.{HoldsTexts}
 use Rattle.legacy_recode.specs.Recoding.{RecodesAll}
 use Rattle.legacy_recode.specs.Text.{WritesAll}
 
@@ -44,20 +44,20 @@ RecodesInput Text grammar input_old input_new output_old output_new =
     (after : DecoderState) × ((found : Bool) × WritesAll (new_state grammar) after found input_old input_new output_old output_new)
 
 -- the flat lists of indexes; there is no file of the katakana index, and none of the private-use rows
-abbrev pub flat_of : GivenIndexes → FlatIndexes
+abbrev pub flat_of : OwnedIndexes → FlatIndexes
 flat_of tables =
     flat_lists tables.big5.items tables.euc_kr.items tables.jis0208.items tables.jis0212.items tables.gb18030.items [] tables.ranges.items
     GB18030_2022_PUA
 
 -- All indexes passed the check, those too that the codec does not use, and the input was recoded by the codec over them.
-abbrev pub RecodesByTables : OutputKind → CodecWord → GivenIndexes → Option (List ℕ) → Option (List ℕ) → Option (List ℕ) → Option (List ℕ) → Type 0
+abbrev pub RecodesByTables : OutputKind → CodecWord → OwnedIndexes → Option (List ℕ) → Option (List ℕ) → Option (List ℕ) → Option (List ℕ) → Type 0
 RecodesByTables kind codec tables input_old input_new output_old output_new =
     AreAccepted (flat_of tables) × IsAcceptedTable tables.single_byte
     × RecodesInput kind (grammar_of codec (flat_of tables) tables.single_byte) input_old input_new output_old output_new
 
 -- The same over the indexes of these texts.
 pub record RecodesByTexts (kind : OutputKind) (codec : CodecWord) (texts : FileIndex → List ℕ) (input_old input_new output_old output_new : Option (List ℕ)) : Type 0 where
-  pub tables : GivenIndexes
+  pub tables : OwnedIndexes
   pub holds : HoldsTexts texts tables
   pub recodes : RecodesByTables kind codec tables input_old input_new output_old output_new
 

@@ -1,5 +1,5 @@
 //! What the program does with its words, its files and its streams.
-ghost use Rattle.std.specs.Prelude.{◌≡◌, ◌↔◌, ◌≤◌, IfOk, OnOk, None, IsTrue};
+ghost use Rattle.std.specs.Prelude.{◌≡◌, ◌↔◌, ◌≤◌, [], IfOk, OnOk, None, IsTrue};
 ghost use Rattle.legacy_base.specs.Grammar.{Grammar};
 ghost use Rattle.legacy_base.specs.States.{new_state};
 ghost use Rattle.legacy_recode.specs.Words.{texts_of, are_indexes, plain_words, codec_of_words};
@@ -7,15 +7,16 @@ ghost use Rattle.legacy_recode.specs.IndexTexts.{contents_of, text_given};
 ghost use Rattle.legacy_recode.specs.Program.{grammar_of, flat_of, RecodesInput, RecodesByTables};
 ghost use Rattle.legacy_recode.specs.Program.{RecodesByTexts, RecodesByWords};
 
-use crate::given_indexes::{GivenIndexes, read_files};
+use crate::given_indexes::read_files;
 use crate::recode::{RecodeError, recode};
 use crate::text::recode_text;
 use crate::words::{CodecWord, OutputKind, codec_in, output_asked, request};
 use legacy_codecs::{
-    Big5Decoder, EucJpDecoder, EucKrDecoder, GB18030_2022_PUA, Gb18030Decoder, Indexes,
-    Iso2022JpDecoder, RawDecoder, ReplacementDecoder, ShiftJisDecoder, SingleByteDecoder,
-    SingleByteTable, TableError, Tables, UserDefinedDecoder, Utf16Decoder,
+    Big5Decoder, EucJpDecoder, EucKrDecoder, Gb18030Decoder, Iso2022JpDecoder, RawDecoder,
+    ReplacementDecoder, ShiftJisDecoder, SingleByteDecoder, SingleByteTable, TableError, Tables,
+    UserDefinedDecoder, Utf16Decoder,
 };
+use legacy_index_files::OwnedIndexes;
 use std::alloc::Global;
 use std::io::{Read, Write};
 use thiserror::Error;
@@ -128,30 +129,26 @@ fn decode_and_flush<R: Read, W: Write>(
     }
 }
 
-/// The tables of the indexes and of the private-use rows of GB18030-2022, or the first fault.
-fn tables_of(indexes: &GivenIndexes) -> Result<Tables<'_>, TableError>
+/// The tables of the indexes, of which none is the katakana index, or the first fault.
+fn tables_of(indexes: &OwnedIndexes) -> Result<Tables<'_>, TableError>
+    requires { indexes.now.katakana.items ≡ [] }
     ensures { IfOk result (λ tables. tables.flat ≡ flat_of indexes.now) }
 {
-    Tables::new(&Indexes {
-        big5: &indexes.big5,
-        euc_kr: &indexes.euc_kr,
-        jis0208: &indexes.jis0208,
-        jis0212: &indexes.jis0212,
-        gb18030: &indexes.gb18030,
-        katakana: &[],
-        ranges: &indexes.ranges,
-        gb18030_pua: &GB18030_2022_PUA,
-    })
+    match indexes.tables() {
+        Ok(tables) => Ok(tables),
+        Err(fault) => Err(fault),
+    }
 }
 
 /// Checks the indexes, and recodes the input by the codec.
 fn check_and_decode<'a, R: Read, W: Write>(
     kind: OutputKind,
     codec: CodecWord,
-    indexes: &GivenIndexes,
+    indexes: &OwnedIndexes,
     input: &mut R,
     output: &mut W,
 ) -> Result<(), Fault<'a>>
+    requires { indexes.now.katakana.items ≡ [] }
     ensures { OnOk result (RecodesByTables kind codec indexes.now
         (R.remaining input.old) (R.remaining input.new)
         (W.contents output.old) (W.contents output.new)) }
@@ -160,7 +157,7 @@ fn check_and_decode<'a, R: Read, W: Write>(
         Ok(tables) => tables,
         Err(fault) => return Err(Fault::Tables(fault)),
     };
-    let single_byte = match SingleByteTable::new(&indexes.single_byte) {
+    let single_byte = match indexes.single_byte_table() {
         Ok(table) => table,
         Err(fault) => return Err(Fault::Tables(fault)),
     };

@@ -1,5 +1,6 @@
 -- How the codecs work inside: nothing here has to be believed. What they promise is said by legacy_base.
 pub mod ByteEntries
+pub mod LongestRun
 pub mod SingleByteCodes
 pub mod SingleByteDecoder
 pub mod SingleByteEncoder

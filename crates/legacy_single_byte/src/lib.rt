@@ -5,4 +5,4 @@ mod single_byte;
 
 pub use single_byte::decoder::SingleByteDecoder;
 pub use single_byte::encoder::SingleByteEncoder;
-pub use single_byte::run::SingleByteRunError;
+pub use single_byte::run::{SingleByteRun, SingleByteRunError};

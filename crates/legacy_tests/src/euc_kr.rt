@@ -2,14 +2,14 @@
 mod encoder;
 
 use crate::events::bad;
-use crate::indexes::{no_entries, no_parts, packed_tables_of, tables_of};
+use crate::indexes::{no_entries, no_parts, packed_tables_of, run, tables_of};
 use crate::rows::Row::{
     BareLength, Decoder, Events, Neutral, ToUtf8, ToUtf16, Utf8Length, Utf16Length,
 };
 use crate::rows::{Row, Tested, follow};
 use legacy_base::DecodeEvent::Scalar;
 use legacy_base::DecoderResult::{InputEmpty, Malformed, OutputFull};
-use legacy_base::{Indexes, Packed, Run, Tables};
+use legacy_base::{Indexes, Packed, Tables};
 use legacy_decoders::EucKrDecoder;
 
 impl<'a> Tested for EucKrDecoder<'a> {
@@ -76,11 +76,7 @@ fn decodes_with_one_entry(rt: HostRuntime) {
         ..no_entries()
     };
     let packed = Packed {
-        euc_kr: &[Run {
-            pointer: 0,
-            scalar: 0xAC02,
-            length: 1,
-        }],
+        euc_kr: &[run!(0, 0xAC02, 1)],
         euc_kr_order: &[0],
         ..no_parts()
     };

@@ -2,14 +2,14 @@
 mod encoder;
 
 use crate::events::bad;
-use crate::indexes::{no_entries, no_parts, packed_tables_of, tables_of};
+use crate::indexes::{no_entries, no_parts, packed_tables_of, run, tables_of};
 use crate::rows::Row::{
     BareLength, Decoder, Events, Neutral, ToUtf8, ToUtf16, Utf8Length, Utf16Length,
 };
 use crate::rows::{Row, Tested, follow};
 use legacy_base::DecodeEvent::Scalar;
 use legacy_base::DecoderResult::{InputEmpty, Malformed, OutputFull};
-use legacy_base::{Indexes, Packed, Run, Tables};
+use legacy_base::{Indexes, Packed, Tables};
 use legacy_decoders::Gb18030Decoder;
 
 impl<'a> Tested for Gb18030Decoder<'a> {
@@ -176,26 +176,10 @@ fn decodes_pairs_on_both_sides_of_7f(rt: HostRuntime) {
     };
     let packed = Packed {
         gb18030: &[
-            Run {
-                pointer: 0,
-                scalar: 0x4E02,
-                length: 1,
-            },
-            Run {
-                pointer: 62,
-                scalar: 0x4E79,
-                length: 1,
-            },
-            Run {
-                pointer: 63,
-                scalar: 0x4E85,
-                length: 1,
-            },
-            Run {
-                pointer: 189,
-                scalar: 0x4F22,
-                length: 2,
-            },
+            run!(0, 0x4E02, 1),
+            run!(62, 0x4E79, 1),
+            run!(63, 0x4E85, 1),
+            run!(189, 0x4F22, 2),
         ],
         gb18030_order: &[0, 62, 63, 189, 190],
         ..no_parts()

@@ -2,6 +2,19 @@
 use legacy_base::{GB18030_2022_PUA, Indexes, Packed, SingleByteTable, Tables};
 use std::process::Abort;
 
+/// A run of packed indexes: its first pointer, the scalar of that pointer, and its length.
+macro_rules! run {
+    ($pointer:expr, $scalar:expr, $length:expr) => {
+        legacy_base::Run {
+            pointer: $pointer,
+            scalar: $scalar,
+            length: $length,
+        }
+    };
+}
+
+pub(crate) use run;
+
 /// Indexes without an entry, and the private-use rows of GB18030-2022.
 pub(crate) fn no_entries<'a>() -> Indexes<'a> {
     Indexes {

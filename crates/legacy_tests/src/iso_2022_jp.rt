@@ -2,14 +2,14 @@
 mod encoder;
 
 use crate::events::bad;
-use crate::indexes::{no_entries, no_parts, packed_tables_of, tables_of};
+use crate::indexes::{no_entries, no_parts, packed_tables_of, run, tables_of};
 use crate::rows::Row::{
     BareLength, Decoder, Events, Neutral, ToUtf8, ToUtf16, Utf8Length, Utf16Length,
 };
 use crate::rows::{Row, Tested, follow};
 use legacy_base::DecodeEvent::Scalar;
 use legacy_base::DecoderResult::{InputEmpty, Malformed, OutputFull};
-use legacy_base::{Indexes, Packed, Run, Tables};
+use legacy_base::{Indexes, Packed, Tables};
 use legacy_decoders::Iso2022JpDecoder;
 
 impl<'a> Tested for Iso2022JpDecoder<'a> {
@@ -115,6 +115,11 @@ const WITHOUT_ENTRIES: &[Row] = &[
         b"\x1B\x28\x49\x1B\x24\x21",
         &[bad!(3, 1), Scalar('\u{FF64}'), Scalar('\u{FF61}')],
     ),
+    Decoder("what is encoded of U+0061 U+00A5 U+0062 U+005C decodes to it"),
+    Events(
+        b"a\x1B(J\x5Cb\x1B(B\x5C",
+        &[Scalar('a'), Scalar('\u{A5}'), Scalar('b'), Scalar('\u{5C}')],
+    ),
     Decoder("any byte needs three bytes or one unit, and a short output leaves all as it was"),
     ToUtf8(b"\x1B", 2, true, OutputFull, 0, ""),
     Neutral(true),
@@ -129,7 +134,7 @@ fn decodes_with_an_empty_index(rt: HostRuntime) {
     follow::<Iso2022JpDecoder>(&rt, &packed, WITHOUT_ENTRIES);
 }
 
-/// The rows with pointers 0, 95 and 671 of index jis0208.
+/// The rows with pointers 0, 95, 671 and 4861 of index jis0208.
 const PAIRS: &[Row] = &[
     Decoder("in two-byte mode the byte behind a lone 1B is a lead"),
     ToUtf8(
@@ -197,6 +202,13 @@ const PAIRS: &[Row] = &[
             bad!(67, 1),
         ],
     ),
+    Decoder(
+        "of what is encoded beside a scalar without bytes, an escape behind an escape is malformed",
+    ),
+    Events(
+        b"\x1B$BTd\x1B(B\x1B$BTd\x1B(B",
+        &[Scalar('\u{58FA}'), bad!(5, 3), Scalar('\u{58FA}')],
+    ),
     Decoder("the mode of an escape behind a run lasts into the next call"),
     ToUtf8(b"ab\x1B$B!!", 64, false, InputEmpty, 7, "ab\u{3000}"),
     Neutral(false),
@@ -231,34 +243,24 @@ const PAIRS: &[Row] = &[
 
 #[test]
 fn decodes_pairs_between_escapes(rt: HostRuntime) {
-    let mut jis0208 = [0u16; 672];
+    let mut jis0208 = [0u16; 4862];
     jis0208[0] = 0x3000;
     jis0208[95] = 0x2225;
     jis0208[671] = 0x250F;
+    jis0208[4861] = 0x58FA;
     let indexes = Indexes {
         jis0208: &jis0208,
         ..no_entries()
     };
     let packed = Packed {
         jis0208: &[
-            Run {
-                pointer: 0,
-                scalar: 0x3000,
-                length: 1,
-            },
-            Run {
-                pointer: 95,
-                scalar: 0x2225,
-                length: 1,
-            },
-            Run {
-                pointer: 671,
-                scalar: 0x250F,
-                length: 1,
-            },
+            run!(0, 0x3000, 1),
+            run!(95, 0x2225, 1),
+            run!(671, 0x250F, 1),
+            run!(4861, 0x58FA, 1),
         ],
-        shift_jis_order: &[95, 671, 0],
-        euc_jp_order: &[95, 671, 0],
+        shift_jis_order: &[95, 671, 0, 4861],
+        euc_jp_order: &[95, 671, 0, 4861],
         ..no_parts()
     };
     let tables = tables_of(&rt, &indexes);

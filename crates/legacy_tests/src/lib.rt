@@ -9,11 +9,13 @@
 #[cfg(test)]
 mod big5;
 #[cfg(test)]
+mod compared;
+#[cfg(test)]
+mod cuts;
+#[cfg(test)]
 mod destinations;
 #[cfg(test)]
 mod encode_events;
-#[cfg(test)]
-mod encode_runs;
 #[cfg(test)]
 mod encoder_rows;
 #[cfg(test)]

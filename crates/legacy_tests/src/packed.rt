@@ -1,5 +1,5 @@
 //! The check of packed indexes, and look-ups in tables that are made of them.
-use crate::indexes::{no_entries, no_parts, packed_tables_of};
+use crate::indexes::{no_entries, no_parts, packed_tables_of, run};
 use legacy_base::IndexName::{Big5, EucKr, Gb18030, Jis0208, Jis0212, Katakana};
 use legacy_base::TableError::{BadEntry, PackedDiffers, PackedOrder};
 use legacy_base::{IndexName, Indexes, Packed, PackedPart, Run, TableError, Tables};
@@ -15,119 +15,42 @@ fn has_fault(rt: &impl Abort, indexes: &Indexes, packed: &Packed, wanted: &Optio
 type Runs<'a> = (&'a [Run], Option<TableError>);
 
 const RUNS: &[Runs] = &[
-    (
-        &[
-            Run {
-                pointer: 0,
-                scalar: 0xAC02,
-                length: 2,
-            },
-            Run {
-                pointer: 3,
-                scalar: 0xAC05,
-                length: 1,
-            },
-        ],
-        None,
-    ),
+    (&[run!(0, 0xAC02, 2), run!(3, 0xAC05, 1)], None),
     // a pointer that the index lacks
     (
-        &[Run {
-            pointer: 0,
-            scalar: 0xAC02,
-            length: 4,
-        }],
+        &[run!(0, 0xAC02, 4)],
         Some(PackedDiffers(PackedPart::EucKr, 2)),
     ),
     // one that the runs lack
     (
-        &[Run {
-            pointer: 0,
-            scalar: 0xAC02,
-            length: 2,
-        }],
+        &[run!(0, 0xAC02, 2)],
         Some(PackedDiffers(PackedPart::EucKr, 3)),
     ),
     // runs rise
     (
-        &[
-            Run {
-                pointer: 1,
-                scalar: 0xAC03,
-                length: 1,
-            },
-            Run {
-                pointer: 0,
-                scalar: 0xAC02,
-                length: 1,
-            },
-        ],
+        &[run!(1, 0xAC03, 1), run!(0, 0xAC02, 1)],
         Some(PackedOrder(PackedPart::EucKr, 1)),
     ),
     // none is empty, passes the last pointer or the last scalar
     (
-        &[Run {
-            pointer: 0,
-            scalar: 0xAC02,
-            length: 0,
-        }],
+        &[run!(0, 0xAC02, 0)],
         Some(PackedOrder(PackedPart::EucKr, 0)),
     ),
     (
-        &[Run {
-            pointer: 23939,
-            scalar: 0xAC02,
-            length: 2,
-        }],
+        &[run!(23939, 0xAC02, 2)],
         Some(PackedOrder(PackedPart::EucKr, 0)),
     ),
     (
-        &[Run {
-            pointer: 0,
-            scalar: 0x10_FFFF,
-            length: 2,
-        }],
+        &[run!(0, 0x10_FFFF, 2)],
         Some(PackedOrder(PackedPart::EucKr, 0)),
     ),
     // U+0000 is not none, and no more is the number of a surrogate
     (
-        &[
-            Run {
-                pointer: 0,
-                scalar: 0xAC02,
-                length: 2,
-            },
-            Run {
-                pointer: 2,
-                scalar: 0,
-                length: 1,
-            },
-            Run {
-                pointer: 3,
-                scalar: 0xAC05,
-                length: 1,
-            },
-        ],
+        &[run!(0, 0xAC02, 2), run!(2, 0, 1), run!(3, 0xAC05, 1)],
         Some(PackedDiffers(PackedPart::EucKr, 2)),
     ),
     (
-        &[
-            Run {
-                pointer: 0,
-                scalar: 0xAC02,
-                length: 2,
-            },
-            Run {
-                pointer: 2,
-                scalar: 0xD800,
-                length: 1,
-            },
-            Run {
-                pointer: 3,
-                scalar: 0xAC05,
-                length: 1,
-            },
-        ],
+        &[run!(0, 0xAC02, 2), run!(2, 0xD800, 1), run!(3, 0xAC05, 1)],
         Some(PackedDiffers(PackedPart::EucKr, 2)),
     ),
 ];
@@ -149,16 +72,8 @@ fn the_indexes_come_first_and_then_the_parts_in_their_order(rt: HostRuntime) {
     let mut indexes = no_entries();
     indexes.euc_kr = &[0xAC02, 0xAC03, 0, 0xAC05];
     let mut packed = no_parts();
-    packed.euc_kr = &[Run {
-        pointer: 0,
-        scalar: 0xAC02,
-        length: 2,
-    }];
-    packed.jis0208 = &[Run {
-        pointer: 0,
-        scalar: 0x3000,
-        length: 0,
-    }];
+    packed.euc_kr = &[run!(0, 0xAC02, 2)];
+    packed.jis0208 = &[run!(0, 0x3000, 0)];
     let differs = Some(PackedDiffers(PackedPart::EucKr, 3));
     has_fault(&rt, &indexes, &packed, &differs);
     indexes.katakana = &[];
@@ -191,18 +106,7 @@ const ORDERS: &[Orders] = &[
     ),
 ];
 
-const RUNS_OF_FF02: &[Run] = &[
-    Run {
-        pointer: 8647,
-        scalar: 0xFF02,
-        length: 1,
-    },
-    Run {
-        pointer: 10739,
-        scalar: 0xFF02,
-        length: 1,
-    },
-];
+const RUNS_OF_FF02: &[Run] = &[run!(8647, 0xFF02, 1), run!(10739, 0xFF02, 1)];
 
 #[test]
 fn an_order_holds_the_pointers_of_its_codec(rt: HostRuntime) {
@@ -245,18 +149,7 @@ fn big5_takes_the_last_pointer_of_six_scalars(rt: HostRuntime) {
     let mut indexes = no_entries();
     indexes.big5 = &big5;
     let mut packed = no_parts();
-    packed.big5 = &[
-        Run {
-            pointer: 5247,
-            scalar: 0x2550,
-            length: 1,
-        },
-        Run {
-            pointer: 18991,
-            scalar: 0x2550,
-            length: 1,
-        },
-    ];
+    packed.big5 = &[run!(5247, 0x2550, 1), run!(18991, 0x2550, 1)];
     packed.big5_order = &[5247];
     let differs = Some(PackedDiffers(PackedPart::Big5Order, 5247));
     has_fault(&rt, &indexes, &packed, &differs);
@@ -297,38 +190,11 @@ fn a_pointer_has_the_scalar_of_its_run(rt: HostRuntime) {
     indexes.jis0212 = &[0x4E02];
     indexes.gb18030 = &[0x4E02, 0x4E04];
     let mut packed = no_parts();
-    packed.big5 = &[Run {
-        pointer: 0,
-        scalar: 0x2_008A,
-        length: 1,
-    }];
-    packed.euc_kr = &[Run {
-        pointer: 63,
-        scalar: 0xAC02,
-        length: 2,
-    }];
-    packed.jis0208 = &[Run {
-        pointer: 0,
-        scalar: 0x3000,
-        length: 1,
-    }];
-    packed.jis0212 = &[Run {
-        pointer: 0,
-        scalar: 0x4E02,
-        length: 1,
-    }];
-    packed.gb18030 = &[
-        Run {
-            pointer: 0,
-            scalar: 0x4E02,
-            length: 1,
-        },
-        Run {
-            pointer: 1,
-            scalar: 0x4E04,
-            length: 1,
-        },
-    ];
+    packed.big5 = &[run!(0, 0x2_008A, 1)];
+    packed.euc_kr = &[run!(63, 0xAC02, 2)];
+    packed.jis0208 = &[run!(0, 0x3000, 1)];
+    packed.jis0212 = &[run!(0, 0x4E02, 1)];
+    packed.gb18030 = &[run!(0, 0x4E02, 1), run!(1, 0x4E04, 1)];
     packed.euc_kr_order = &[63, 64];
     packed.shift_jis_order = &[0];
     packed.euc_jp_order = &[0];

@@ -1,8 +1,8 @@
 //! Calls with replacement: rows of calls with what must come of each, and the functions that follow them.
+use crate::compared::{Place, is_answer, is_call};
 use crate::indexes::{no_entries, tables_of};
 use crate::replacing::Row::{Decoder, Pieces, Text, ToUtf8, ToUtf16, Utf16Length};
-use crate::rows::{Call, Place, Tested};
-use crate::units::Hex;
+use crate::rows::{Call, Tested};
 use legacy_base::{Indexes, RawDecoder};
 use legacy_codecs::CoderResult::InputEmpty;
 use legacy_codecs::{CoderResult, decode_replacing_utf8, decode_replacing_utf16};
@@ -31,34 +31,14 @@ enum Row<'a> {
     Pieces(&'a [u8], usize),
 }
 
-/// Compares what came of a call with what is wanted: the answer, what is read, what is written, and whether
-/// something was replaced.
-fn is_call<U: Copy + PartialEq + Into<u32>>(
-    rt: &impl Abort,
-    (case, row): Place,
-    form: &str,
-    (source, room, last): Call,
-    (res, seen, came, told): (CoderResult, usize, &[U], bool),
-    (answer, read, wanted, replaced): (CoderResult, usize, &[U], bool),
-) {
-    assert!(rt;
-        res == answer && seen == read && came == wanted && told == replaced,
-        "\"{case}\", row {row}: {} into {form}, {room} free, last: {last}\n  came:   {res:?}, {seen} read, {}, replaced: {told}\n  wanted: {answer:?}, {read} read, {}, replaced: {replaced}",
-        Hex(source),
-        Hex(came),
-        Hex(wanted)
-    );
-}
-
 /// Makes a call into UTF-8, and compares what comes of it with what is wanted.
 fn writes_text<D: RawDecoder>(
     rt: &impl Abort,
     place: Place,
     decoder: &mut D,
-    call: Call,
+    (source, room, last): Call,
     (answer, read, text, replaced): (CoderResult, usize, &str, bool),
 ) {
-    let (source, room, last) = call;
     let mut output = [0u8; 96];
     let (result, seen, written, told) = decode_replacing_utf8(
         decoder,
@@ -67,14 +47,8 @@ fn writes_text<D: RawDecoder>(
         last,
     );
     let came = (result, seen, &output[..written.min(96)], told);
-    is_call(
-        rt,
-        place,
-        "UTF-8",
-        call,
-        came,
-        (answer, read, text.as_bytes(), replaced),
-    );
+    let wanted = (answer, read, text.as_bytes(), replaced);
+    is_call(rt, place, "UTF-8", came, wanted);
 }
 
 /// Makes a call into UTF-16, and compares what comes of it with what is wanted.
@@ -82,10 +56,9 @@ fn writes_units<D: RawDecoder>(
     rt: &impl Abort,
     place: Place,
     decoder: &mut D,
-    call: Call,
+    (source, room, last): Call,
     wanted: (CoderResult, usize, &[u16], bool),
 ) {
-    let (source, room, last) = call;
     let mut output = [0u16; 96];
     let (result, seen, written, told) = decode_replacing_utf16(
         decoder,
@@ -94,7 +67,7 @@ fn writes_units<D: RawDecoder>(
         last,
     );
     let came = (result, seen, &output[..written.min(96)], told);
-    is_call(rt, place, "UTF-16", call, came, wanted);
+    is_call(rt, place, "UTF-16", came, wanted);
 }
 
 /// Writes the text of the input from the front of the slice on, by calls with so many bytes free, and
@@ -150,23 +123,6 @@ fn units_by_calls<D: RawDecoder>(
     end
 }
 
-/// Compares the text that calls with outputs of one length write with what is wanted.
-fn has_text<U: Copy + PartialEq + Into<u32>>(
-    rt: &impl Abort,
-    (case, row): Place,
-    (form, room, input): (&str, usize, &[u8]),
-    came: &[U],
-    wanted: &[U],
-) {
-    assert!(rt;
-        came == wanted,
-        "\"{case}\", row {row}: {} into {form}, {room} free at each call\n  came:   {}\n  wanted: {}",
-        Hex(input),
-        Hex(came),
-        Hex(wanted)
-    );
-}
-
 /// Compares the text of the input by calls with small outputs with what is wanted.
 fn follow_text<D: Tested>(
     rt: &impl Abort,
@@ -178,10 +134,10 @@ fn follow_text<D: Tested>(
     for room in 4..16 {
         let mut output = [0u8; 96];
         let end = text_by_calls(&mut D::made(of), input, room, &mut output);
-        has_text(
+        is_answer(
             rt,
             place,
-            ("UTF-8", room, input),
+            "its UTF-8",
             &output[..end.min(96)],
             text.as_bytes(),
         );
@@ -189,13 +145,7 @@ fn follow_text<D: Tested>(
     for room in 2..8 {
         let mut output = [0u16; 96];
         let end = units_by_calls(&mut D::made(of), input, room, &mut output);
-        has_text(
-            rt,
-            place,
-            ("UTF-16", room, input),
-            &output[..end.min(96)],
-            units,
-        );
+        is_answer(rt, place, "its UTF-16", &output[..end.min(96)], units);
     }
 }
 
@@ -203,7 +153,7 @@ fn follow_text<D: Tested>(
 /// those that are wanted.
 fn follow_pieces<D: RawDecoder>(
     rt: &impl Abort,
-    (case, row): Place,
+    place: Place,
     decoder: &mut D,
     input: &[u8],
     size: usize,
@@ -217,12 +167,8 @@ fn follow_pieces<D: RawDecoder>(
             &mut output[..length.unwrap_or(0).min(96)],
             false,
         );
-        assert!(rt;
-            answer == InputEmpty && read == piece.len() && !replaced,
-            "\"{case}\", row {row}: the piece {} into {length:?} code units\n  came:   {answer:?}, {read} read, replaced: {replaced}\n  wanted: InputEmpty, {} read, replaced: false",
-            Hex(piece),
-            piece.len()
-        );
+        let came = (answer, read, replaced);
+        is_answer(rt, place, "a piece", came, (InputEmpty, piece.len(), false));
     }
 }
 
@@ -240,12 +186,7 @@ fn follow_row<D: Tested>(rt: &impl Abort, place: Place, of: D::Of, decoder: &mut
         }
         Utf16Length(bytes, length) => {
             let came = decoder.max_utf16_buffer_length(*bytes);
-            assert!(rt;
-                came == *length,
-                "\"{}\", row {}: the length in UTF-16 for {bytes}\n  came:   {came:?}\n  wanted: {length:?}",
-                place.0,
-                place.1
-            );
+            is_answer(rt, place, "the length in UTF-16", came, *length);
         }
         Text(input, text, units) => follow_text::<D>(rt, place, of, input, (text, units)),
         Pieces(input, size) => follow_pieces(rt, place, decoder, input, *size),

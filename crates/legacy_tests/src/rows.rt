@@ -1,11 +1,13 @@
-//! Rows: calls and queries of a decoder with what must come of each, and the function that follows them.
+//! Rows: calls, queries and runs of a decoder with what must come of each, and the function that follows them.
+use crate::compared::{Place, is_answer, is_call, is_run};
+use crate::cuts::{byte_pieces, small_lengths, spaced};
 use crate::events::events;
-use crate::units::{Bytes, Form, Hex, Units};
+use crate::units::{Bytes, Form, Units};
 use legacy_base::{DecodeEvent, DecoderResult, RawDecoder};
-use std::fmt::Debug;
+use legacy_codecs::{DecodeRun, RunError, decode_run_utf8, decode_run_utf16};
 use std::process::Abort;
 
-/// A call or a query of a decoder, and what must come of it.
+/// A call, a query or a run of a decoder, and what must come of it.
 #[derive(Clone, Copy)]
 pub(crate) enum Row<'a> {
     /// A decoder that was just made, and the name of the case that begins with it.
@@ -25,9 +27,20 @@ pub(crate) enum Row<'a> {
     Neutral(bool),
     /// What the decoder says that it adds to the lengths.
     Additional(usize),
-    /// The events that decoders of their own find in these bytes, at once with large outputs and byte by
+    /// The events that decoders of their own find in these bytes by calls, at once with large outputs and byte by
     /// byte with the smallest ones, in UTF-8 and in UTF-16.
     Events(&'a [u8], &'a [DecodeEvent]),
+    /// The events that runs of decoders of their own find in these bytes, in UTF-8 and in UTF-16, with outputs of
+    /// 0 to 4 code units: whole and in bytes, and so with an empty piece behind each; and that such a run with five
+    /// outputs of 0 finds none and ends before the input does.
+    Cut(&'a [u8], &'a [DecodeEvent]),
+    /// A run into UTF-8: the pieces, the lengths of the outputs, the events, how many calls it has, and whether it
+    /// is finished.
+    RunToUtf8(&'a [&'a [u8]], &'a [usize], &'a [DecodeEvent], usize, bool),
+    /// The same into UTF-16.
+    RunToUtf16(&'a [&'a [u8]], &'a [usize], &'a [DecodeEvent], usize, bool),
+    /// Runs over a piece with one output of so many code units, in UTF-8 and in UTF-16, that are refused, and why.
+    RefusedRuns(&'a [u8], usize, &'a RunError),
 }
 
 /// A decoder, what it is made of, and the queries that only some have.
@@ -46,54 +59,26 @@ pub(crate) trait Tested: RawDecoder + Drop {
     }
 }
 
-/// Where a row stands: the name of its case, and its place among all rows.
-pub(crate) type Place<'a> = (&'a str, usize);
-
 /// The bytes of a call, how many code units are free, and whether these bytes are the last.
 pub(crate) type Call<'a> = (&'a [u8], usize, bool);
 
-/// Compares the answer of a call, what it read and what it wrote with what is wanted.
-fn is_call<U: Copy + PartialEq + Into<u32>>(
-    rt: &impl Abort,
-    (case, row): Place,
-    form: &str,
-    (source, room, last): Call,
-    (res, seen, came): (DecoderResult, usize, &[U]),
-    (answer, read, wanted): (DecoderResult, usize, &[U]),
-) {
-    assert!(rt;
-        res == answer && seen == read && came == wanted,
-        "\"{case}\", row {row}: {} into {form}, {room} free, last: {last}\n  came:   {res:?}, {seen} read, {}\n  wanted: {answer:?}, {read} read, {}",
-        Hex(source),
-        Hex(came),
-        Hex(wanted)
-    );
-}
-
 /// Makes a call into UTF-8, and compares what comes of it with what is wanted.
-pub(crate) fn writes_text<D: RawDecoder>(
+fn writes_text<D: RawDecoder>(
     rt: &impl Abort,
     place: Place,
     decoder: &mut D,
-    call: Call,
-    wanted: (DecoderResult, usize, &str),
+    (source, room, last): Call,
+    (answer, read, text): (DecoderResult, usize, &str),
 ) {
-    let (source, room, last) = call;
     let mut output = [0u8; 96];
-    let (result, read, written) = decoder.decode_to_utf8_raw(
+    let (result, seen, written) = decoder.decode_to_utf8_raw(
         source,
         &mut output[..room.min(96)],
         last,
     );
-    let came = (result, read, &output[..written.min(96)]);
-    is_call(
-        rt,
-        place,
-        "UTF-8",
-        call,
-        came,
-        (wanted.0, wanted.1, wanted.2.as_bytes()),
-    );
+    let came = (result, seen, &output[..written.min(96)], false);
+    let wanted = (answer, read, text.as_bytes(), false);
+    is_call(rt, place, "UTF-8", came, wanted);
 }
 
 /// Makes a call into UTF-16, and compares what comes of it with what is wanted.
@@ -101,65 +86,134 @@ fn writes_units<D: RawDecoder>(
     rt: &impl Abort,
     place: Place,
     decoder: &mut D,
-    call: Call,
-    wanted: (DecoderResult, usize, &[u16]),
+    (source, room, last): Call,
+    (answer, read, units): (DecoderResult, usize, &[u16]),
 ) {
-    let (source, room, last) = call;
     let mut output = [0u16; 96];
-    let (result, read, written) = decoder.decode_to_utf16_raw(
+    let (result, seen, written) = decoder.decode_to_utf16_raw(
         source,
         &mut output[..room.min(96)],
         last,
     );
-    let came = (result, read, &output[..written.min(96)]);
-    is_call(rt, place, "UTF-16", call, came, wanted);
-}
-
-/// Compares the length for so many bytes with what is wanted.
-fn has_length(
-    rt: &impl Abort,
-    (case, row): Place,
-    (form, bytes): (&str, usize),
-    came: Option<usize>,
-    wanted: Option<usize>,
-) {
-    assert!(rt;
-        came == wanted,
-        "\"{case}\", row {row}: the length in {form} for {bytes}\n  came:   {came:?}\n  wanted: {wanted:?}"
-    );
-}
-
-/// Compares what the decoder says of its state, where it has that query, with what is wanted.
-fn says<T: PartialEq + Debug + Copy>(
-    rt: &impl Abort,
-    (case, row): Place,
-    query: &str,
-    came: Option<T>,
-    wanted: T,
-) {
-    assert!(rt;
-        came == Some(wanted),
-        "\"{case}\", row {row}: {query}\n  came:   {came:?}\n  wanted: {wanted:?}"
-    );
+    let came = (result, seen, &output[..written.min(96)], false);
+    is_call(rt, place, "UTF-16", came, (answer, read, units, false));
 }
 
 /// Finds the events of the input in calls of at most so many bytes, with so many code units free, and
 /// compares them with those that are wanted.
 fn finds<F: Form, D: RawDecoder + Drop>(
     rt: &impl Abort,
-    (case, row): Place,
+    place: Place,
     mut decoder: D,
     input: &[u8],
     (piece, room): (usize, usize),
     wanted: &[DecodeEvent],
 ) {
     let found = events::<F, D>(&mut decoder, input, piece, room);
-    let came = found.as_slice();
+    is_answer(rt, place, F::NAME, found.as_slice(), wanted);
+}
+
+/// Finds the events of the input in calls at once and byte by byte, and compares them with those that are wanted.
+fn finds_by_calls<D: Tested>(
+    rt: &impl Abort,
+    place: Place,
+    of: D::Of,
+    input: &[u8],
+    wanted: &[DecodeEvent],
+) {
+    finds::<Bytes, D>(rt, place, D::made(of), input, (input.len(), 48), wanted);
+    finds::<Units, D>(rt, place, D::made(of), input, (input.len(), 96), wanted);
+    finds::<Bytes, D>(rt, place, D::made(of), input, (1, 4), wanted);
+    finds::<Units, D>(rt, place, D::made(of), input, (1, 2), wanted);
+}
+
+/// What a run must give: the events, how many calls where that is stated, and whether it is finished.
+type Wanted<'a> = (&'a [DecodeEvent], Option<usize>, bool);
+
+/// Compares what came of a run with what is wanted.
+fn is_decoded(
+    rt: &impl Abort,
+    place: Place,
+    form: &str,
+    run: Result<DecodeRun, RunError>,
+    wanted: Wanted,
+) {
+    match run {
+        Ok(run) => {
+            let came = (run.events.as_slice(), run.calls, run.finished);
+            is_run(rt, place, form, came, wanted);
+        }
+        Err(error) => panic!(rt; "\"{}\", row {}: {error}", place.0, place.1),
+    }
+}
+
+/// Makes a run of a decoder of its own into UTF-8 and another into UTF-16, and compares what comes of them.
+fn runs<D: Tested>(
+    rt: &(impl AllocGlobal + Abort),
+    place: Place,
+    of: D::Of,
+    (pieces, lengths): (&[&[u8]], &[usize]),
+    wanted: Wanted,
+) {
+    let run = decode_run_utf8(rt.alloc(), &mut D::made(of), pieces, lengths);
+    is_decoded(rt, place, "into UTF-8", run, wanted);
+    let run = decode_run_utf16(rt.alloc(), &mut D::made(of), pieces, lengths);
+    is_decoded(rt, place, "into UTF-16", run, wanted);
+}
+
+/// Makes runs over these pieces with small outputs, and compares what comes of them.
+fn finds_in_pieces<D: Tested>(
+    rt: &(impl AllocGlobal + Abort),
+    place: Place,
+    of: D::Of,
+    pieces: &[&[u8]],
+    wanted: &[DecodeEvent],
+) {
+    let lengths = small_lengths();
+    runs::<D>(rt, place, of, (pieces, &lengths), (wanted, None, true));
+}
+
+/// Makes runs over these pieces, and over these with an empty one behind each.
+fn finds_in_both<D: Tested>(
+    rt: &(impl AllocGlobal + Abort),
+    place: Place,
+    of: D::Of,
+    pieces: &[&[u8]],
+    wanted: &[DecodeEvent],
+) {
+    finds_in_pieces::<D>(rt, place, of, pieces, wanted);
+    let all = spaced(pieces, b"");
+    finds_in_pieces::<D>(rt, place, of, all.as_slice(), wanted);
+}
+
+/// Makes runs over the input in all cuts, and compares what comes of them.
+fn finds_in_cuts<D: Tested>(
+    rt: &(impl AllocGlobal + Abort),
+    place: Place,
+    of: D::Of,
+    input: &[u8],
+    wanted: &[DecodeEvent],
+) {
+    let whole = [input];
+    finds_in_both::<D>(rt, place, of, &whole, wanted);
+    runs::<D>(rt, place, of, (&whole, &[0; 5]), (&[], Some(5), false));
+    let bytes = byte_pieces(input);
+    finds_in_both::<D>(rt, place, of, bytes.as_slice(), wanted);
+}
+
+/// Makes runs that must be refused, and compares the errors with the one that is wanted.
+fn are_refused<D: RawDecoder>(
+    rt: &(impl AllocGlobal + Abort),
+    (case, row): Place,
+    decoder: &mut D,
+    (piece, length): (&[u8], usize),
+    wanted: &RunError,
+) {
+    let narrow = decode_run_utf8(rt.alloc(), decoder, &[piece], &[length]);
+    let wide = decode_run_utf16(rt.alloc(), decoder, &[piece], &[length]);
     assert!(rt;
-        came == wanted,
-        "\"{case}\", row {row}: {} in pieces of {piece} into {}, {room} free\n  came:   {came:?}\n  wanted: {wanted:?}",
-        Hex(input),
-        F::NAME
+        narrow.err().as_ref() == Some(wanted) && wide.err().as_ref() == Some(wanted),
+        "\"{case}\", row {row}: not refused as {wanted}"
     );
 }
 
@@ -168,32 +222,65 @@ fn follow_query<D: Tested>(rt: &impl Abort, place: Place, decoder: &D, row: &Row
     match row {
         Row::Utf16Length(bytes, length) => {
             let came = decoder.max_utf16_buffer_length(*bytes);
-            has_length(rt, place, ("UTF-16", *bytes), came, *length);
+            is_answer(rt, place, "the length in UTF-16", came, *length);
         }
         Row::Utf8Length(bytes, length) => {
             let came = decoder.max_utf8_buffer_length(*bytes);
-            has_length(rt, place, ("UTF-8", *bytes), came, *length);
+            is_answer(rt, place, "the length in UTF-8", came, *length);
         }
         Row::BareLength(bytes, length) => {
             let came = decoder.max_utf8_buffer_length_without_replacement(*bytes);
-            has_length(rt, place, ("UTF-8 without U+FFFD", *bytes), came, *length);
+            is_answer(rt, place, "the length without U+FFFD", came, *length);
         }
         Row::Neutral(is_neutral) => {
             let came = decoder.neutral();
-            says(rt, place, "in_neutral_state", came, *is_neutral);
+            is_answer(rt, place, "in_neutral_state", came, Some(*is_neutral));
         }
         Row::Additional(more) => {
             let came = decoder.additional();
-            says(rt, place, "additional_from_state", came, *more);
+            is_answer(rt, place, "additional_from_state", came, Some(*more));
         }
-        Row::Decoder(_) | Row::ToUtf8(..) | Row::ToUtf16(..) | Row::Events(..) => {}
+        _ => {}
     }
 }
 
-/// Follows one row: makes its call or its query, and compares what comes of it with what is wanted.
-fn follow_row<D: Tested>(rt: &impl Abort, place: Place, of: D::Of, decoder: &mut D, row: &Row) {
+/// Follows the row of events: finds them, and compares them with those that are wanted.
+fn follow_events<D: Tested>(rt: &(impl AllocGlobal + Abort), place: Place, of: D::Of, row: &Row) {
     match row {
-        Row::Decoder(_) => *decoder = D::made(of),
+        Row::Events(input, events) => finds_by_calls::<D>(rt, place, of, input, events),
+        Row::Cut(input, events) => finds_in_cuts::<D>(rt, place, of, input, events),
+        _ => {}
+    }
+}
+
+/// Follows the row of a run: makes it, and compares what comes of it with what is wanted.
+fn follow_run<D: RawDecoder>(
+    rt: &(impl AllocGlobal + Abort),
+    place: Place,
+    decoder: &mut D,
+    row: &Row,
+) {
+    match row {
+        Row::RunToUtf8(pieces, lengths, events, calls, finished) => {
+            let run = decode_run_utf8(rt.alloc(), decoder, pieces, lengths);
+            let wanted = (*events, Some(*calls), *finished);
+            is_decoded(rt, place, "into UTF-8", run, wanted);
+        }
+        Row::RunToUtf16(pieces, lengths, events, calls, finished) => {
+            let run = decode_run_utf16(rt.alloc(), decoder, pieces, lengths);
+            let wanted = (*events, Some(*calls), *finished);
+            is_decoded(rt, place, "into UTF-16", run, wanted);
+        }
+        Row::RefusedRuns(piece, length, error) => {
+            are_refused(rt, place, decoder, (piece, *length), error);
+        }
+        _ => {}
+    }
+}
+
+/// Follows the row of a call: makes it, and compares what comes of it with what is wanted.
+fn follow_call<D: RawDecoder>(rt: &impl Abort, place: Place, decoder: &mut D, row: &Row) {
+    match row {
         Row::ToUtf8(source, room, last, answer, read, text) => {
             let wanted = (*answer, *read, *text);
             writes_text(rt, place, decoder, (source, *room, *last), wanted);
@@ -202,23 +289,32 @@ fn follow_row<D: Tested>(rt: &impl Abort, place: Place, of: D::Of, decoder: &mut
             let wanted = (*answer, *read, *units);
             writes_units(rt, place, decoder, (source, *room, *last), wanted);
         }
-        Row::Events(input, events) => {
-            finds::<Bytes, D>(rt, place, D::made(of), input, (input.len(), 48), events);
-            finds::<Units, D>(rt, place, D::made(of), input, (input.len(), 96), events);
-            finds::<Bytes, D>(rt, place, D::made(of), input, (1, 4), events);
-            finds::<Units, D>(rt, place, D::made(of), input, (1, 2), events);
-        }
-        _ => follow_query(rt, place, decoder, row),
+        _ => {}
     }
 }
 
+/// Follows one row, in one of these four ways.
+fn follow_row<D: Tested>(
+    rt: &(impl AllocGlobal + Abort),
+    place: Place,
+    of: D::Of,
+    decoder: &mut D,
+    row: &Row,
+) {
+    follow_call(rt, place, decoder, row);
+    follow_run(rt, place, decoder, row);
+    follow_query(rt, place, decoder, row);
+    follow_events::<D>(rt, place, of, row);
+}
+
 /// Follows the rows in turn.
-pub(crate) fn follow<D: Tested>(rt: &impl Abort, of: D::Of, rows: &[Row]) {
+pub(crate) fn follow<D: Tested>(rt: &(impl AllocGlobal + Abort), of: D::Of, rows: &[Row]) {
     let mut case = "";
     let mut decoder = D::made(of);
     for (at, row) in rows.iter().enumerate() {
         if let Row::Decoder(name) = row {
             case = name;
+            decoder = D::made(of);
         }
         follow_row(rt, (case, at), of, &mut decoder, row);
     }

@@ -6,7 +6,6 @@ use legacy_base::DecodeEvent;
 use legacy_base::DecodeEvent::Scalar;
 use legacy_base::DecoderResult::{InputEmpty, Malformed, OutputFull};
 use legacy_decoders::Utf16Decoder;
-use std::alloc::Global;
 use std::process::Abort;
 
 impl Tested for Utf16Decoder {
@@ -130,14 +129,13 @@ fn decodes_the_greater_byte_first(rt: HostRuntime) {
 
 /// Looks for the events of these units, and of an odd byte where there is one, in either byte order.
 fn in_either_order(
-    rt: &impl Abort,
-    alloc: Global,
+    rt: &(impl AllocGlobal + Abort),
     units: &[u16],
     odd: &[u8],
     events: &[DecodeEvent],
 ) {
     for big_endian in [false, true] {
-        let mut bytes = Vec::new(alloc);
+        let mut bytes = Vec::new(rt.alloc());
         for unit in units {
             let pair = if big_endian {
                 unit.to_be_bytes()
@@ -164,7 +162,7 @@ fn decodes_surrogates_among_zeros(rt: HostRuntime) {
     events[9] = bad!(20, 2);
     events[14] = bad!(30, 2);
     events[23] = bad!(48, 2);
-    in_either_order(&rt, rt.alloc(), &units, b"", &events);
+    in_either_order(&rt, &units, b"", &events);
 }
 
 /// A run, a pair, a run, a low surrogate, a run, a high surrogate, and a run before an odd byte.
@@ -202,7 +200,7 @@ const EVENTS_OF_RUNS: &[DecodeEvent] = &[
 
 #[test]
 fn decodes_runs_between_surrogates(rt: HostRuntime) {
-    in_either_order(&rt, rt.alloc(), RUNS, b"\x41", EVENTS_OF_RUNS);
+    in_either_order(&rt, RUNS, b"\x41", EVENTS_OF_RUNS);
 }
 
 #[test]
@@ -215,7 +213,7 @@ fn decodes_ascii_among_which_units_are_wider(rt: HostRuntime) {
     events[20] = Scalar('\u{141}');
     events[47] = Scalar('\u{80}');
     events[63] = Scalar('\u{4100}');
-    in_either_order(&rt, rt.alloc(), &units, b"", &events);
+    in_either_order(&rt, &units, b"", &events);
 }
 
 /// Units of one, two and three bytes in UTF-8 in turn, a pair at 19 and 20, and a lone surrogate at 39.
@@ -269,5 +267,5 @@ const EVENTS_OF_UNITS: &[DecodeEvent] = &[
 
 #[test]
 fn decodes_units_of_any_length(rt: HostRuntime) {
-    in_either_order(&rt, rt.alloc(), UNITS, b"", EVENTS_OF_UNITS);
+    in_either_order(&rt, UNITS, b"", EVENTS_OF_UNITS);
 }

@@ -1,4 +1,5 @@
 -- What a caller of the codecs wants to know.
+pub mod IndexData
 pub mod MalformedSequences
-pub mod Names
+pub mod Registries
 pub mod WholeTexts

@@ -3,6 +3,7 @@
 #![tactic(auto)]
 
 pub mod faults;
+pub mod index_data;
 pub mod piece_by_piece;
 pub mod registry;
 pub mod sized;

@@ -1,12 +1,15 @@
 //! Each caller once, by EUC-KR with U+AC02 at pointer 0 and no other scalar.
 use crate::faults::{MalformedSequence, malformed_sequences};
+use crate::index_data::decode_by_file;
 use crate::piece_by_piece::decode_piece;
-use crate::registry::{Encoding, decode_by_encoding, encoding_by_name};
+use crate::registry::{Coders, Registry, RegistryError};
 use crate::sized::decode_whole;
 use crate::transcode::transcode;
 use legacy_codecs::{
-    EucKrDecoder, GB18030_2022_PUA, Indexes, RawDecoder, Tables, UserDefinedEncoder,
+    EucKrDecoder, GB18030_2022_PUA, Indexes, RawDecoder, SingleByteRun, SingleByteTable, Tables,
+    UserDefinedEncoder,
 };
+use legacy_index_files::{Encoding, FileIndex};
 use std::alloc::Global;
 use std::process::Abort;
 
@@ -99,15 +102,90 @@ fn references_stand_for_what_is_lacking(rt: HostRuntime) {
 }
 
 #[test]
-fn an_encoding_is_known_by_its_name(rt: HostRuntime) {
-    let tables = tables_of(&rt);
-    assert_eq!(rt; encoding_by_name("GBK"), Some(Encoding::Gb18030));
-    assert_eq!(rt; encoding_by_name("latin"), None);
-    let text = decode_by_encoding(
-        rt.alloc(),
-        Encoding::Utf16Le,
-        &tables,
-        b"a\0\x3D\xD8\xA9\xDC",
+fn an_index_file_is_decoded_by(rt: HostRuntime) {
+    let text = decode_by_file(rt.alloc(), b"0\t0xAC02\n", b"a\x81\x41\xFF");
+    assert_eq!(rt; text.as_deref(), Ok("a\u{AC02}\u{FFFD}"));
+}
+
+/// A registry that read the first line of index EUC-KR, and that of windows-1252: the euro sign at pointer 0.
+fn registry_of(alloc: Global) -> Result<Registry, RegistryError> {
+    let mut registry = Registry::new(alloc);
+    registry
+        .indexes
+        .read(alloc, FileIndex::EucKr, b"0\t0xAC02\n")?;
+    registry.read_single_byte(alloc, Encoding::Windows1252, b"0\t0x20AC\n")?;
+    Ok(registry)
+}
+
+/// Whether the bytes are decoded to the text, and the text encoded to the bytes.
+fn goes_both_ways(alloc: Global, coders: &Coders, name: &str, bytes: &[u8], text: &str) -> bool {
+    let decoded = coders.decode(alloc, name, bytes);
+    let encoded = coders.encode(alloc, name, text);
+    decoded.as_deref() == Ok(text) && encoded.as_deref() == Ok(bytes)
+}
+
+/// What decoding by the name answers to no bytes where that is an error.
+fn refusal(alloc: Global, coders: &Coders, name: &str) -> Option<RegistryError> {
+    coders.decode(alloc, name, b"").err()
+}
+
+#[test]
+fn a_registry_goes_by_names(rt: HostRuntime) {
+    let Ok(registry) = registry_of(rt.alloc()) else {
+        assert!(rt; false);
+        return;
+    };
+    let Ok(coders) = registry.coders() else {
+        assert!(rt; false);
+        return;
+    };
+    let rows: [(&str, &[u8], &str); 3] = [
+        ("EUC-KR", b"a\x81\x41", "a\u{AC02}"),
+        ("windows-1252", b"a\x80", "a\u{20AC}"),
+        ("x-user-defined", b"a\x80", "a\u{F780}"),
+    ];
+    for (name, bytes, text) in rows {
+        assert!(rt;
+            goes_both_ways(rt.alloc(), &coders, name, bytes, text),
+            "{name}"
+        );
+    }
+    assert_eq!(rt;
+        refusal(rt.alloc(), &coders, "latin"),
+        Some(RegistryError::Unknown)
     );
-    assert_eq!(rt; text.as_deref(), Ok("a\u{1F4A9}"));
+    assert_eq!(rt;
+        refusal(rt.alloc(), &coders, "windows-1251"),
+        Some(RegistryError::NoIndex)
+    );
+}
+
+#[test]
+fn the_letters_of_windows_1251_are_its_run(rt: HostRuntime) {
+    let mut entries = [0; 128];
+    // In KOI8-R so many lines and boxes follow each other, but not the letters.
+    for place in 36..51 {
+        entries[place] = 0x2553 + place as u16 - 36;
+    }
+    assert!(rt; runs(&entries, 0, 32, 1));
+    // In windows-1251 the letters from U+0410 to U+044F are the bytes C0 to FF.
+    for place in 64..128 {
+        entries[place] = 0x0410 + place as u16 - 64;
+    }
+    assert!(rt; runs(&entries, 0x0410, 64, 64));
+}
+
+/// Whether this is the run of a table of the entries.
+fn runs(entries: &[u16; 128], scalar: u16, start: u8, count: u8) -> bool {
+    match SingleByteTable::new(entries) {
+        Ok(table) => {
+            SingleByteRun::longest(&table)
+                == SingleByteRun {
+                    scalar,
+                    start,
+                    count,
+                }
+        }
+        Err(_) => false,
+    }
 }

@@ -20,6 +20,7 @@ pub struct FlatTables<'a> {
     ranges: &'a [(u16, u16)],
     gb18030_pua: &'a [(u16, u8, u8)],
     likely_places: [u8; 154],
+    likely_ranges: [u8; 256],
     ghost accepted: { AreAccepted (flat_lists big5.now euc_kr.now jis0208.now jis0212.now
         gb18030.now katakana.now ranges.now gb18030_pua.now) },
 }
@@ -69,6 +70,7 @@ impl<'a> FlatTables<'a> {
             ranges: indexes.ranges,
             gb18030_pua: indexes.gb18030_pua,
             likely_places: lookups::likely_places(indexes.ranges),
+            likely_ranges: pointers::likely_ranges(indexes.ranges),
         })
     }
 
@@ -76,6 +78,7 @@ impl<'a> FlatTables<'a> {
     /// it at no pointer from 5024 on (Encoding Standard, "index Big5 pointer"): the last of these
     /// for U+2550, U+255E, U+2561, U+256A, U+5341 and U+5345, and else the first. It searches the
     /// index from there on.
+    #[inline(never)]
     pub(super) fn big5_pointer(&self, scalar: char) -> Option<usize>
         ensures pointer { result ≡ big5_pointer_of self.now.flat.big5 scalar }
         ensures within { IfSome result (λ p. p < 19782) }
@@ -85,6 +88,7 @@ impl<'a> FlatTables<'a> {
 
     /// The first pointer of the scalar value in index EUC-KR, or `None` where it has none (Encoding
     /// Standard, "index pointer"). It searches the index.
+    #[inline(never)]
     pub(super) fn euc_kr_pointer(&self, scalar: char) -> Option<usize>
         ensures pointer { result ≡ euc_kr_pointer_of self.now.flat.euc_kr scalar }
         ensures within { IfSome result (λ p. p < 23940) }
@@ -95,6 +99,7 @@ impl<'a> FlatTables<'a> {
     /// The pointer that the Shift_JIS encoder takes for the scalar value: the first one in index
     /// jis0208 that is not one of 8272 to 8835, or `None` where there is none (Encoding Standard,
     /// "index Shift_JIS pointer"). It searches the index.
+    #[inline(never)]
     pub(super) fn shift_jis_pointer(&self, scalar: char) -> Option<usize>
         ensures pointer { result ≡ shift_jis_pointer_of self.now.flat.jis0208 scalar }
         ensures within { IfSome result (λ p. p < 11280) }
@@ -105,6 +110,7 @@ impl<'a> FlatTables<'a> {
     /// The pointer that the EUC-JP and ISO-2022-JP encoders take for the scalar value: the first
     /// one in index jis0208, or `None` where there is none below 8836, where their forms end
     /// (Encoding Standard, "index pointer"). It searches the index.
+    #[inline(never)]
     pub(super) fn euc_jp_pointer(&self, scalar: char) -> Option<usize>
         ensures pointer { result ≡ euc_jp_pointer_of self.now.flat.jis0208 scalar }
         ensures within { IfSome result (λ p. p < 8836) }
@@ -114,6 +120,7 @@ impl<'a> FlatTables<'a> {
 
     /// The first pointer of the scalar value in index gb18030, or `None` where it has none
     /// (Encoding Standard, "index pointer"). It searches the index.
+    #[inline(never)]
     pub(super) fn gb18030_pointer(&self, scalar: char) -> Option<usize>
         ensures pointer { result ≡ gb18030_pointer_of self.now.flat.gb18030 scalar }
         ensures within { IfSome result (λ p. p < 23940) }
@@ -125,15 +132,17 @@ impl<'a> FlatTables<'a> {
     /// Standard, "index gb18030 ranges pointer"): 7457 for U+E7C7, 189000 to 1237575 for U+10000 to
     /// U+10FFFF, and for others by the last range whose scalars begin at or before it, which a
     /// binary search finds.
+    #[inline]
     pub(super) fn range_pointer(&self, scalar: char) -> Option<usize>
         ensures pointer { result ≡ range_pointer_of self.now.flat.ranges scalar }
         ensures within { IfSome result (λ p. p < 1237576) }
     {
-        pointers::range_pointer(self.ranges, scalar)
+        pointers::range_pointer(self.ranges, &self.likely_ranges, scalar)
     }
 
     /// The lead and the trail that a private-use row gives the scalar value, or `None` where no row
     /// has it (Encoding Standard, "gb18030 encoder"). It is a binary search.
+    #[inline]
     pub(super) fn gb18030_pua_bytes(&self, scalar: char) -> Option<(u8, u8)>
         ensures { result ≡ gb18030_pua_of self.now.flat.gb18030_pua scalar }
     {

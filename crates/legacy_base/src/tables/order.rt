@@ -73,13 +73,12 @@ impl<'a, const BLOCKS: usize> Order<'a, BLOCKS> {
         }
     }
 
-    /// The pointer that the order has for a scalar value.
+    /// The pointer that the order has for the scalar value of a number.
     #[inline(always)]
-    pub(super) fn pointer(&self, scalar: usize) -> Option<usize>
-        ensures { result ≡ order_pointer BLOCKS self.now.scalars.sets self.now.scalars.befores
-            self.now.pointers.now scalar }
+    fn numbered_pointer(&self, number: usize) -> Option<usize>
+        ensures { (c : ℕ) → number_of c ≡ number → result ≡ order_pointer BLOCKS
+            self.now.scalars.sets self.now.scalars.befores self.now.pointers.now c }
     {
-        let number = number_of_scalar(scalar);
         if number / 64 >= BLOCKS {
             return None;
         }
@@ -87,5 +86,18 @@ impl<'a, const BLOCKS: usize> Order<'a, BLOCKS> {
             Some(place) => Some(usize::from(self.pointers[place])),
             None => None,
         }
+    }
+
+    /// The pointer that the order has for a scalar value.
+    // Those of the Basic Multilingual Plane, which most are, are their own numbers.
+    #[inline(always)]
+    pub(super) fn pointer(&self, scalar: usize) -> Option<usize>
+        ensures { result ≡ order_pointer BLOCKS self.now.scalars.sets self.now.scalars.befores
+            self.now.pointers.now scalar }
+    {
+        if scalar < 0x1_0000 {
+            return self.numbered_pointer(scalar);
+        }
+        self.numbered_pointer(number_of_scalar(scalar))
     }
 }

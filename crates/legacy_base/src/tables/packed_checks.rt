@@ -84,7 +84,8 @@ fn differs<N: Numbers>(runs: &Runs, index: &N, pointer: usize) -> bool
 fn first_difference<N: Numbers>(limit: usize, runs: &Runs, index: &N) -> Option<usize>
     ensures { result ≡ run_difference limit runs.now.runs.now (N.numbers index.now) }
 {
-    for pointer in 0..limit {
+    let end = index.count().max(runs.end()).min(limit);
+    for pointer in 0..end {
         if differs(runs, index, pointer) {
             return Some(pointer);
         }

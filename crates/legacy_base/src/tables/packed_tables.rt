@@ -22,6 +22,7 @@ pub struct PackedTables<'a> {
     ranges: &'a [(u16, u16)],
     gb18030_pua: &'a [(u16, u8, u8)],
     likely_places: [u8; 154],
+    likely_ranges: [u8; 256],
     ghost accepted: { AreAccepted (lists_of_runs runs katakana.now ranges.now gb18030_pua.now) },
     ghost ordered: { AreOrdersOf orders
         (lists_of_runs runs katakana.now ranges.now gb18030_pua.now) },
@@ -71,6 +72,7 @@ impl<'a> PackedTables<'a> {
             ranges: indexes.ranges,
             gb18030_pua: indexes.gb18030_pua,
             likely_places: lookups::likely_places(indexes.ranges),
+            likely_ranges: pointers::likely_ranges(indexes.ranges),
         })
     }
 
@@ -120,14 +122,16 @@ impl<'a> PackedTables<'a> {
     }
 
     /// The pointer of four bytes.
+    #[inline]
     pub(super) fn range_pointer(&self, scalar: char) -> Option<usize>
         ensures pointer { result ≡ range_pointer_of self.now.flat.ranges scalar }
         ensures within { IfSome result (λ p. p < 1237576) }
     {
-        pointers::range_pointer(self.ranges, scalar)
+        pointers::range_pointer(self.ranges, &self.likely_ranges, scalar)
     }
 
     /// The lead and the trail of a private-use row.
+    #[inline]
     pub(super) fn gb18030_pua_bytes(&self, scalar: char) -> Option<(u8, u8)>
         ensures { result ≡ gb18030_pua_of self.now.flat.gb18030_pua scalar }
     {

@@ -1,6 +1,7 @@
 //! Private-use rows of GB18030: their check, and the look-up in them.
 ghost use Rattle.std.specs.Prelude.{◌≡◌, ℕ, ◌<◌, ◌≤◌, length, slice_index_or};
 ghost use Rattle.std.specs.Prelude.{MatchResult, Some, None};
+ghost use Rattle.std.specs.Int.{is_in_range};
 ghost use Rattle.legacy_base.specs.Indexes.{gb18030_pua_of};
 ghost use Rattle.legacy_base.specs.TableChecks.{follows_scalar, is_row_scalar, are_row_bytes};
 ghost use Rattle.legacy_base.specs.TableChecks.{row_fault, rows_fault};
@@ -97,8 +98,29 @@ fn rows_below(rows: &[(u16, u8, u8)], scalar: u32) -> usize
     rows.partition_point(|row| u32::from(row.0) < scalar)
 }
 
+/// Whether a row may have the scalar, by its block.
+#[inline(always)]
+fn is_private_use(scalar: char) -> bool
+    ensures { result ≡ is_in_range 0xE000 0xF8FF scalar }
+{
+    matches!(u32::from(scalar), 0xE000..=0xF8FF)
+}
+
 /// The lead and the trail of the row that has the scalar.
+// Most scalars are for no private use: for these nothing is searched.
+#[inline]
 pub(super) fn row_bytes(rows: &[(u16, u8, u8)], scalar: char) -> Option<(u8, u8)>
+    requires { rows_fault 0 None rows.now ≡ None }
+    ensures { result ≡ gb18030_pua_of rows.now scalar }
+{
+    if !is_private_use(scalar) {
+        return None;
+    }
+    searched_bytes(rows, scalar)
+}
+
+/// The same, by a search of the rows.
+fn searched_bytes(rows: &[(u16, u8, u8)], scalar: char) -> Option<(u8, u8)>
     requires { rows_fault 0 None rows.now ≡ None }
     ensures { result ≡ gb18030_pua_of rows.now scalar }
 {

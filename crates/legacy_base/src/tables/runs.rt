@@ -74,6 +74,18 @@ impl<'a> Runs<'a> {
         }
     }
 
+    /// A pointer behind all that the runs have.
+    pub(super) fn end(&self) -> usize
+        ensures { (p : ℕ) → result ≤ p → runs_scalar self.now.runs.now p ≡ None }
+    {
+        let count = self.runs.len();
+        if count == 0 {
+            return 0;
+        }
+        let run = self.runs[count - 1];
+        usize::from(run.pointer) + usize::from(run.length)
+    }
+
     /// The number that the runs give a pointer.
     #[inline(always)]
     pub(super) fn scalar(&self, pointer: usize) -> Option<u32>

@@ -1,15 +1,16 @@
 //! The encoder of ISO-2022-JP.
-ghost use Rattle.std.specs.Prelude.{◌≡◌, ◌==◌, ◌&&◌, ◌||◌, ◌<◌, not, IfSome};
-ghost use Rattle.std.specs.Char.{is_ascii};
+ghost use Rattle.std.specs.Prelude.{◌≡◌, ◌==◌, ◌||◌, ◌+◌, ◌<◌, ◌≤◌, length, take, IfSome, MatchOption};
 ghost use Rattle.legacy_base.specs.Encoders.{iso_2022_jp, is_pending, new_encoder};
 ghost use Rattle.legacy_base.specs.Iso2022Jp.{iso_2022_jp_fold, iso_2022_jp_pointer_of};
 ghost use Rattle.legacy_base.specs.Iso2022Jp.{is_mode_control, roman_or_ascii};
+ghost use Rattle.legacy_encoder_engine.specs.UnderWay.{PutsCode};
 ghost use Rattle.legacy_japanese.specs.Iso2022JpEncoder.{Asks, mode_of, escape_move, is_same_mode};
 
 use crate::folds::minus_as_hyphen;
 use legacy_base::{EncoderResult, IndexName, Next, RawEncoder, Source, Tables};
-use legacy_encoder_engine::drive::drive_encoder;
+use legacy_encoder_engine::drive::{drive_encoder, put_move};
 use legacy_encoder_engine::moves::{EncoderMove, EncoderMoves};
+use legacy_encoder_engine::runs::has_bytes;
 
 /// How the bytes are read that come behind those written so far.
 #[derive(Clone, Copy)]
@@ -99,14 +100,6 @@ fn is_special(scalar: u32) -> bool
     scalar == 0x5C || scalar == 0x7E
 }
 
-/// Whether the scalar is its own byte in ASCII mode.
-#[inline]
-fn is_plain(scalar: u32) -> bool
-    ensures { result ≡ (is_ascii scalar && not (is_mode_control scalar)) }
-{
-    scalar < 0x80 && !is_control(scalar)
-}
-
 /// The mode that a scalar asks for where it comes in a mode, and the move that reads it there.
 #[inline]
 fn asked(tables: &Tables, mode: Mode, c: char) -> (Mode, EncoderMove)
@@ -178,6 +171,25 @@ impl<'a> Iso2022JpEncoder<'a> {
             Mode::Roman | Mode::TwoByte => true,
         }
     }
+
+    /// Writes the bytes of a scalar that is next, and answers where they end; `None` where it has none or
+    /// wants an escape.
+    #[inline(always)]
+    fn put_here(&self, dst: &mut [u8], at: usize, c: char) -> Option<usize>
+        requires { at + 3 ≤ length dst.old }
+        ensures { MatchOption result (take at dst.new ≡ take at dst.old)
+            (λ end. PutsCode (iso_2022_jp_encoder_state self.now) c (take at dst.old) at
+            (take end dst.new) end) }
+    {
+        let (mode, own) = asked(self.tables, self.mode, c);
+        if !self.mode.is(mode) {
+            return None;
+        }
+        if !has_bytes(own) {
+            return None;
+        }
+        Some(put_move(dst, at, own))
+    }
 }
 
 impl EncoderMoves for Iso2022JpEncoder<'_> {
@@ -213,23 +225,35 @@ impl EncoderMoves for Iso2022JpEncoder<'_> {
         self.mode = Mode::Ascii;
     }
 
-    // ASCII in ASCII mode, up to a control that would switch modes.
+    // Scalars of the mode at hand, up to one that wants an escape or has no bytes.
     #[inline]
     fn read_ahead<S: Source>(&self, src: &mut S, dst: &mut [u8], at: usize) -> usize {
         let mut end = at;
-        let Mode::Ascii = self.mode else {
-            return end;
-        };
         while dst.len() - end >= 3 {
-            let Next::One(c) = src.front() else {
-                return end;
-            };
-            if !is_plain(c as u32) {
-                return end;
+            match src.front() {
+                Next::One(c) => {
+                    let Some(behind) = self.put_here(dst, end, c) else {
+                        return end;
+                    };
+                    end = behind;
+                    src.pass(1);
+                }
+                Next::Two(c) => {
+                    let Some(behind) = self.put_here(dst, end, c) else {
+                        return end;
+                    };
+                    end = behind;
+                    src.pass(2);
+                }
+                Next::Three(c) => {
+                    let Some(behind) = self.put_here(dst, end, c) else {
+                        return end;
+                    };
+                    end = behind;
+                    src.pass(3);
+                }
+                Next::Four(_) | Next::End => return end,
             }
-            dst[end] = c as u8;
-            end += 1;
-            src.pass(1);
         }
         end
     }

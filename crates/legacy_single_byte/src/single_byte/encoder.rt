@@ -4,7 +4,7 @@ ghost use Rattle.legacy_base.specs.Encoders.{single_byte, new_encoder};
 ghost use Rattle.legacy_single_byte.specs.SingleByteRun.{IsRun, single_byte_run_fault};
 ghost use Rattle.legacy_single_byte.specs.SingleByteCodes.{single_byte_plain};
 
-use super::run::{SingleByteRunError, check_run};
+use super::run::{SingleByteRun, SingleByteRunError, check_run};
 use legacy_base::{EncoderResult, RawEncoder, SingleByteTable, Source};
 use legacy_encoder_engine::drive::drive_encoder;
 use legacy_encoder_engine::moves::EncoderMove;
@@ -79,6 +79,20 @@ impl<'a> SingleByteEncoder<'a> {
             run_byte_offset,
             run_length,
         })
+    }
+
+    /// An encoder before its first scalar, which writes by the table. Its run is the table's longest one
+    /// of letters, `SingleByteRun::longest`. It takes no memory.
+    pub fn with_longest_run(table: &'a SingleByteTable) -> SingleByteEncoder<'a>
+        ensures { single_byte_encoder_state result ≡ new_encoder (single_byte table.now.entries) }
+    {
+        let run = SingleByteRun::longest(table);
+        SingleByteEncoder {
+            table,
+            run_bmp_offset: run.scalar,
+            run_byte_offset: run.start,
+            run_length: run.count,
+        }
     }
 
     /// How far a scalar is behind the first of the run: past the run's end where it stands before it.

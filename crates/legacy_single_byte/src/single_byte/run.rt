@@ -1,9 +1,21 @@
-//! The runs of single-byte tables, in which the scalars follow each other, and their check.
-ghost use Rattle.std.specs.Prelude.{◌≡◌, ◌+◌, ◌≤◌, MatchResult, Some, None, slice_index};
+//! The runs of single-byte tables, in which the scalars follow each other: their check, and the longest one.
+ghost use Rattle.std.specs.Prelude.{◌≡◌, ℕ, ◌+◌, ◌<◌, ◌≤◌, MatchResult, Some, None, slice_index};
 ghost use Rattle.legacy_single_byte.specs.SingleByteRun.{IsRun, first_mismatch, single_byte_run_fault};
+ghost use Rattle.legacy_single_byte.specs.LongestRun.{LongestUpTo, LongestToThe};
 
 use legacy_base::SingleByteTable;
 use thiserror::Error;
+
+/// A run of a single-byte table, as its encoder takes one.
+#[derive(Clone, Copy, Debug, PartialEq, Eq)]
+pub struct SingleByteRun {
+    /// The scalar value at the first place; the next place holds the next scalar value, and so on.
+    pub scalar: u16,
+    /// The first place.
+    pub start: u8,
+    /// How many places it has.
+    pub count: u8,
+}
 
 /// Why the run of a single-byte encoder is refused.
 #[derive(Debug, Drop, PartialEq, Eq, Error)]
@@ -67,5 +79,68 @@ pub(super) fn check_run(
     match first_mismatch(table, usize::from(scalar), first, length) {
         Some(k) => Err(SingleByteRunError::RunMismatch(first + k)),
         None => Ok(()),
+    }
+}
+
+/// The bound of the runs that are looked for: the letters of the single-byte encodings lie below it, and
+/// above it lines and boxes, which are rare in text, and of which KOI8-R has a longer run.
+const LETTERS_END: usize = 0x2000;
+
+/// The longest run of letters that ends with the place, where this is the longest that ends before it.
+fn run_to(table: &SingleByteTable, before: SingleByteRun, place: u8) -> SingleByteRun
+    requires place { place < 128 }
+    requires before { LongestToThe table.now.entries before.scalar before.start before.count place }
+    ensures { LongestToThe table.now.entries result.scalar result.start result.count (place + 1) }
+{
+    let scalar = entry(table, usize::from(place));
+    if scalar >= LETTERS_END {
+        return SingleByteRun {
+            scalar: 0,
+            start: place + 1,
+            count: 0,
+        };
+    }
+    if scalar != usize::from(before.scalar) + usize::from(before.count) {
+        return SingleByteRun {
+            scalar: scalar as u16,
+            start: place,
+            count: 1,
+        };
+    }
+    SingleByteRun {
+        scalar: before.scalar,
+        start: before.start,
+        count: before.count + 1,
+    }
+}
+
+impl SingleByteRun {
+    /// The longest run of the table that its encoder takes and whose scalar values lie below U+2000, or
+    /// one of the longest. `SingleByteEncoder::new` never refuses it.
+    ///
+    /// Letters lie below U+2000 in all single-byte encodings of the Standard. It is found in 96 steps.
+    pub fn longest(table: &SingleByteTable) -> SingleByteRun
+        ensures accepted { single_byte_run_fault table.now.entries
+            result.scalar result.start result.count ≡ None }
+        ensures letters { result.scalar + result.count ≤ 0x2000 }
+        ensures longest { (scalar start count : ℕ) →
+            single_byte_run_fault table.now.entries scalar start count ≡ None →
+            scalar + count ≤ 0x2000 → count ≤ result.count }
+        ensures is_run { IsRun table.now.entries result.scalar result.start result.count }
+        ensures within { result.start + result.count ≤ 128 }
+    {
+        let mut run = SingleByteRun {
+            scalar: 0,
+            start: 32,
+            count: 0,
+        };
+        let mut best = run;
+        for place in 32..128 {
+            run = run_to(table, run, place);
+            if run.count > best.count {
+                best = run;
+            }
+        }
+        best
     }
 }

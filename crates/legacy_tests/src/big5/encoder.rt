@@ -2,9 +2,9 @@
 use crate::encode_events::Wanted::{Bytes, Report};
 use crate::encoder_rows::EncoderRow::{Encoder, Encodes, FromUtf8, Utf8Length, Utf16Length};
 use crate::encoder_rows::{EncoderRow, TestedEncoder, follow_encoder};
-use crate::indexes::{no_entries, tables_of};
+use crate::indexes::{no_entries, no_parts, packed_tables_of, run, tables_of};
 use legacy_base::EncoderResult::{OutputFull, Unmappable};
-use legacy_base::{Indexes, Tables};
+use legacy_base::{Indexes, Packed, Tables};
 use legacy_encoders::Big5Encoder;
 use std::process::Abort;
 
@@ -30,6 +30,8 @@ const WITHOUT_ENTRIES: &[EncoderRow] = &[
 fn encodes_without_entries(rt: HostRuntime) {
     let tables = tables_of(&rt, &no_entries());
     follow_encoder::<Big5Encoder>(&rt, &tables, WITHOUT_ENTRIES);
+    let tables = packed_tables_of(&rt, &no_entries(), &no_parts());
+    follow_encoder::<Big5Encoder>(&rt, &tables, WITHOUT_ENTRIES);
 }
 
 const WITH_ENTRIES: &[EncoderRow] = &[
@@ -48,13 +50,24 @@ fn encodes_by_the_pointers_that_are_written(rt: HostRuntime) {
     big5[5247] = 0x2550;
     big5[18990] = 0x2551;
     big5[18991] = 0x2550;
-    let tables = tables_of(
-        &rt,
-        &Indexes {
-            big5: &big5,
-            ..no_entries()
-        },
-    );
+    let indexes = Indexes {
+        big5: &big5,
+        ..no_entries()
+    };
+    let packed = Packed {
+        big5: &[
+            run!(5023, 0x3001, 1),
+            run!(5024, 0x2551, 1),
+            run!(5247, 0x2550, 1),
+            run!(18990, 0x2551, 1),
+            run!(18991, 0x2550, 1),
+        ],
+        big5_order: &[18991, 5024],
+        ..no_parts()
+    };
+    let tables = tables_of(&rt, &indexes);
+    follow_encoder::<Big5Encoder>(&rt, &tables, WITH_ENTRIES);
+    let tables = packed_tables_of(&rt, &indexes, &packed);
     follow_encoder::<Big5Encoder>(&rt, &tables, WITH_ENTRIES);
 }
 
@@ -71,12 +84,17 @@ fn encodes_the_first_pointer(rt: HostRuntime) {
     let mut big5 = [0u32; 5025];
     big5[5023] = 0x3001;
     big5[5024] = 0x3000;
-    let tables = tables_of(
-        &rt,
-        &Indexes {
-            big5: &big5,
-            ..no_entries()
-        },
-    );
+    let indexes = Indexes {
+        big5: &big5,
+        ..no_entries()
+    };
+    let packed = Packed {
+        big5: &[run!(5023, 0x3001, 1), run!(5024, 0x3000, 1)],
+        big5_order: &[5024],
+        ..no_parts()
+    };
+    let tables = tables_of(&rt, &indexes);
+    follow_encoder::<Big5Encoder>(&rt, &tables, FIRST_POINTERS);
+    let tables = packed_tables_of(&rt, &indexes, &packed);
     follow_encoder::<Big5Encoder>(&rt, &tables, FIRST_POINTERS);
 }

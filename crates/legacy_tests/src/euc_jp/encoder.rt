@@ -2,9 +2,9 @@
 use crate::encode_events::Wanted::{Bytes, Report};
 use crate::encoder_rows::EncoderRow::{Encoder, Encodes, FromUtf8, Utf8Length, Utf16Length};
 use crate::encoder_rows::{EncoderRow, TestedEncoder, follow_encoder};
-use crate::indexes::{no_entries, tables_of};
+use crate::indexes::{no_entries, no_parts, packed_tables_of, run, tables_of};
 use legacy_base::EncoderResult::{InputEmpty, OutputFull};
-use legacy_base::{Indexes, Tables};
+use legacy_base::{Indexes, Packed, Tables};
 use legacy_encoders::EucJpEncoder;
 use std::process::Abort;
 
@@ -33,6 +33,8 @@ const WITHOUT_ENTRIES: &[EncoderRow] = &[
 fn encodes_without_entries(rt: HostRuntime) {
     let tables = tables_of(&rt, &no_entries());
     follow_encoder::<EucJpEncoder>(&rt, &tables, WITHOUT_ENTRIES);
+    let tables = packed_tables_of(&rt, &no_entries(), &no_parts());
+    follow_encoder::<EucJpEncoder>(&rt, &tables, WITHOUT_ENTRIES);
 }
 
 const WITH_ENTRIES: &[EncoderRow] = &[
@@ -51,12 +53,23 @@ fn encodes_by_the_pointers_that_are_written(rt: HostRuntime) {
     jis0208[8647] = 0xFF02;
     jis0208[10738] = 0x3001;
     jis0208[10739] = 0xFF02;
-    let tables = tables_of(
-        &rt,
-        &Indexes {
-            jis0208: &jis0208,
-            ..no_entries()
-        },
-    );
+    let indexes = Indexes {
+        jis0208: &jis0208,
+        ..no_entries()
+    };
+    let packed = Packed {
+        jis0208: &[
+            run!(60, 0xFF0D, 1),
+            run!(8647, 0xFF02, 1),
+            run!(10738, 0x3001, 1),
+            run!(10739, 0xFF02, 1),
+        ],
+        shift_jis_order: &[10738, 10739, 60],
+        euc_jp_order: &[8647, 60],
+        ..no_parts()
+    };
+    let tables = tables_of(&rt, &indexes);
+    follow_encoder::<EucJpEncoder>(&rt, &tables, WITH_ENTRIES);
+    let tables = packed_tables_of(&rt, &indexes, &packed);
     follow_encoder::<EucJpEncoder>(&rt, &tables, WITH_ENTRIES);
 }

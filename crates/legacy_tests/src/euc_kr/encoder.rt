@@ -4,9 +4,9 @@ use crate::encoder_rows::EncoderRow::{
     Encoder, Encodes, FromUtf8, FromUtf16, Utf8Length, Utf16Length,
 };
 use crate::encoder_rows::{EncoderRow, TestedEncoder, follow_encoder};
-use crate::indexes::{no_entries, tables_of};
+use crate::indexes::{no_entries, no_parts, packed_tables_of, run, tables_of};
 use legacy_base::EncoderResult::{InputEmpty, OutputFull, Unmappable};
-use legacy_base::{Indexes, Tables};
+use legacy_base::{Indexes, Packed, Tables};
 use legacy_encoders::EucKrEncoder;
 use std::process::Abort;
 
@@ -43,13 +43,18 @@ const ROWS: &[EncoderRow] = &[
 
 #[test]
 fn encodes_with_one_entry(rt: HostRuntime) {
-    let tables = tables_of(
-        &rt,
-        &Indexes {
-            euc_kr: &[0xAC02],
-            ..no_entries()
-        },
-    );
+    let indexes = Indexes {
+        euc_kr: &[0xAC02],
+        ..no_entries()
+    };
+    let packed = Packed {
+        euc_kr: &[run!(0, 0xAC02, 1)],
+        euc_kr_order: &[0],
+        ..no_parts()
+    };
+    let tables = tables_of(&rt, &indexes);
+    follow_encoder::<EucKrEncoder>(&rt, &tables, ROWS);
+    let tables = packed_tables_of(&rt, &indexes, &packed);
     follow_encoder::<EucKrEncoder>(&rt, &tables, ROWS);
 }
 
@@ -63,12 +68,17 @@ const LAST: &[EncoderRow] = &[
 fn encodes_the_last_pointer(rt: HostRuntime) {
     let mut euc_kr = [0u16; 23940];
     euc_kr[23939] = 0x8A70;
-    let tables = tables_of(
-        &rt,
-        &Indexes {
-            euc_kr: &euc_kr,
-            ..no_entries()
-        },
-    );
+    let indexes = Indexes {
+        euc_kr: &euc_kr,
+        ..no_entries()
+    };
+    let packed = Packed {
+        euc_kr: &[run!(23939, 0x8A70, 1)],
+        euc_kr_order: &[23939],
+        ..no_parts()
+    };
+    let tables = tables_of(&rt, &indexes);
+    follow_encoder::<EucKrEncoder>(&rt, &tables, LAST);
+    let tables = packed_tables_of(&rt, &indexes, &packed);
     follow_encoder::<EucKrEncoder>(&rt, &tables, LAST);
 }

@@ -4,7 +4,7 @@ use crate::encoder_rows::EncoderRow::{
     Encoder, Encodes, FromUtf8, FromUtf16, Utf8Length, Utf16Length,
 };
 use crate::encoder_rows::{EncoderRow, TestedEncoder, follow_encoder};
-use crate::indexes::{no_entries, tables_of};
+use crate::indexes::{no_entries, no_parts, packed_tables_of, tables_of};
 use crate::rows::Row::{Decoder, ToUtf8};
 use crate::rows::{Row, follow};
 use legacy_base::EncoderResult::{InputEmpty, OutputFull, Unmappable};
@@ -71,6 +71,9 @@ fn encodes_without_entries(rt: HostRuntime) {
     let tables = tables_of(&rt, &no_entries());
     follow_encoder::<Gb18030Encoder>(&rt, (&tables, true), WITHOUT_ENTRIES);
     follow_encoder::<Gb18030Encoder>(&rt, (&tables, false), GBK_WITHOUT_ENTRIES);
+    let tables = packed_tables_of(&rt, &no_entries(), &no_parts());
+    follow_encoder::<Gb18030Encoder>(&rt, (&tables, true), WITHOUT_ENTRIES);
+    follow_encoder::<Gb18030Encoder>(&rt, (&tables, false), GBK_WITHOUT_ENTRIES);
 }
 
 const WITH_RANGE: &[EncoderRow] = &[
@@ -115,13 +118,13 @@ const BESIDE_7457: &[EncoderRow] = &[
 
 #[test]
 fn encodes_beside_pointer_7457(rt: HostRuntime) {
-    let tables = tables_of(
-        &rt,
-        &Indexes {
-            ranges: &[(7457, 0x3000)],
-            ..no_entries()
-        },
-    );
+    let indexes = Indexes {
+        ranges: &[(7457, 0x3000)],
+        ..no_entries()
+    };
+    let tables = tables_of(&rt, &indexes);
+    follow_encoder::<Gb18030Encoder>(&rt, (&tables, true), BESIDE_7457);
+    let tables = packed_tables_of(&rt, &indexes, &no_parts());
     follow_encoder::<Gb18030Encoder>(&rt, (&tables, true), BESIDE_7457);
 }
 

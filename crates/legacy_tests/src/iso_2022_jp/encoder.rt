@@ -4,9 +4,9 @@ use crate::encoder_rows::EncoderRow::{
     Encoder, Encodes, FromUtf8, FromUtf16, Pending, Utf8Length, Utf16Length,
 };
 use crate::encoder_rows::{EncoderRow, TestedEncoder, follow_encoder};
-use crate::indexes::{no_entries, tables_of};
+use crate::indexes::{no_entries, no_parts, packed_tables_of, run, tables_of};
 use legacy_base::EncoderResult::{InputEmpty, OutputFull, Unmappable};
-use legacy_base::{Indexes, Tables};
+use legacy_base::{Indexes, Packed, Tables};
 use legacy_encoders::Iso2022JpEncoder;
 use std::process::Abort;
 
@@ -80,6 +80,8 @@ const WITHOUT_ENTRIES: &[EncoderRow] = &[
 fn encodes_without_entries(rt: HostRuntime) {
     let tables = tables_of(&rt, &no_entries());
     follow_encoder::<Iso2022JpEncoder>(&rt, &tables, WITHOUT_ENTRIES);
+    let tables = packed_tables_of(&rt, &no_entries(), &no_parts());
+    follow_encoder::<Iso2022JpEncoder>(&rt, &tables, WITHOUT_ENTRIES);
 }
 
 /// The rows with U+58FA at pointer 4861.
@@ -126,13 +128,19 @@ const PAIRS: &[EncoderRow] = &[
 fn encodes_pairs(rt: HostRuntime) {
     let mut jis0208 = [0u16; 4862];
     jis0208[4861] = 0x58FA;
-    let tables = tables_of(
-        &rt,
-        &Indexes {
-            jis0208: &jis0208,
-            ..no_entries()
-        },
-    );
+    let indexes = Indexes {
+        jis0208: &jis0208,
+        ..no_entries()
+    };
+    let packed = Packed {
+        jis0208: &[run!(4861, 0x58FA, 1)],
+        shift_jis_order: &[4861],
+        euc_jp_order: &[4861],
+        ..no_parts()
+    };
+    let tables = tables_of(&rt, &indexes);
+    follow_encoder::<Iso2022JpEncoder>(&rt, &tables, PAIRS);
+    let tables = packed_tables_of(&rt, &indexes, &packed);
     follow_encoder::<Iso2022JpEncoder>(&rt, &tables, PAIRS);
 }
 
@@ -160,13 +168,19 @@ fn encodes_katakana(rt: HostRuntime) {
     let mut katakana = [0u16; 63];
     katakana[0] = 0x3002;
     katakana[1] = 0x300C;
-    let tables = tables_of(
-        &rt,
-        &Indexes {
-            jis0208: &[0, 0, 0x3002],
-            katakana: &katakana,
-            ..no_entries()
-        },
-    );
+    let indexes = Indexes {
+        jis0208: &[0, 0, 0x3002],
+        katakana: &katakana,
+        ..no_entries()
+    };
+    let packed = Packed {
+        jis0208: &[run!(2, 0x3002, 1)],
+        shift_jis_order: &[2],
+        euc_jp_order: &[2],
+        ..no_parts()
+    };
+    let tables = tables_of(&rt, &indexes);
+    follow_encoder::<Iso2022JpEncoder>(&rt, &tables, KATAKANA);
+    let tables = packed_tables_of(&rt, &indexes, &packed);
     follow_encoder::<Iso2022JpEncoder>(&rt, &tables, KATAKANA);
 }

@@ -1,8 +1,8 @@
 //! Calls with replacement of encoders.
-use crate::encoder_rows::{Place, TestedEncoder};
+use crate::compared::{Outcome, Place, is_call};
+use crate::encoder_rows::TestedEncoder;
 use crate::indexes::{byte_table_of, entries_of, no_entries, tables_of};
 use crate::replacing::encoders::Row::{Encoder, FromUtf8, FromUtf16};
-use crate::units::Hex;
 use legacy_base::{Indexes, RawEncoder};
 use legacy_codecs::CoderResult::{InputEmpty, OutputFull};
 use legacy_codecs::{CoderResult, encode_replacing_utf8, encode_replacing_utf16};
@@ -21,34 +21,13 @@ enum Row<'a> {
     FromUtf16(&'a [u16], usize, bool, CoderResult, usize, &'a [u8], bool),
 }
 
-/// What came of a call or is wanted of it: the answer, what is read, what is written, and whether a
-/// reference was.
-type Outcome<'a> = (CoderResult, usize, &'a [u8], bool);
-
-/// Compares what came of a call with what is wanted.
-fn is_call<U: Copy + Into<u32>>(
-    rt: &impl Abort,
-    (case, row): Place,
-    (form, text, room, last): (&str, &[U], usize, bool),
-    (res, seen, came, told): Outcome,
-    (answer, read, wanted, replaced): Outcome,
-) {
-    assert!(rt;
-        res == answer && seen == read && came == wanted && told == replaced,
-        "\"{case}\", row {row}: {} in {form}, {room} free, last: {last}\n  came:   {res:?}, {seen} read, {}, replaced: {told}\n  wanted: {answer:?}, {read} read, {}, replaced: {replaced}",
-        Hex(text),
-        Hex(came),
-        Hex(wanted)
-    );
-}
-
 /// Makes a call from UTF-8, and compares what comes of it with what is wanted.
 fn encodes_text<E: RawEncoder>(
     rt: &impl Abort,
     place: Place,
     encoder: &mut E,
     (text, room, last): (&str, usize, bool),
-    wanted: Outcome,
+    wanted: Outcome<CoderResult, u8>,
 ) {
     let mut output = [0u8; 96];
     let (result, read, written, replaced) = encode_replacing_utf8(
@@ -58,13 +37,7 @@ fn encodes_text<E: RawEncoder>(
         last,
     );
     let came = (result, read, &output[..written.min(96)], replaced);
-    is_call(
-        rt,
-        place,
-        ("UTF-8", text.as_bytes(), room, last),
-        came,
-        wanted,
-    );
+    is_call(rt, place, "UTF-8", came, wanted);
 }
 
 /// Makes a call from UTF-16, and compares what comes of it with what is wanted.
@@ -73,7 +46,7 @@ fn encodes_units<E: RawEncoder>(
     place: Place,
     encoder: &mut E,
     (units, room, last): (&[u16], usize, bool),
-    wanted: Outcome,
+    wanted: Outcome<CoderResult, u8>,
 ) {
     let mut output = [0u8; 96];
     let (result, read, written, replaced) = encode_replacing_utf16(
@@ -83,7 +56,7 @@ fn encodes_units<E: RawEncoder>(
         last,
     );
     let came = (result, read, &output[..written.min(96)], replaced);
-    is_call(rt, place, ("UTF-16", units, room, last), came, wanted);
+    is_call(rt, place, "UTF-16", came, wanted);
 }
 
 /// Follows one row: makes its call, and compares what comes of it with what is wanted.

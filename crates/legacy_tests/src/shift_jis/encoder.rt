@@ -2,9 +2,9 @@
 use crate::encode_events::Wanted::{Bytes, Report};
 use crate::encoder_rows::EncoderRow::{Encoder, Encodes, FromUtf8, Utf8Length, Utf16Length};
 use crate::encoder_rows::{EncoderRow, TestedEncoder, follow_encoder};
-use crate::indexes::{no_entries, tables_of};
+use crate::indexes::{no_entries, no_parts, packed_tables_of, run, tables_of};
 use legacy_base::EncoderResult::{InputEmpty, OutputFull};
-use legacy_base::{Indexes, Tables};
+use legacy_base::{Indexes, Packed, Run, Tables};
 use legacy_encoders::ShiftJisEncoder;
 use std::process::Abort;
 
@@ -33,25 +33,19 @@ const WITHOUT_ENTRIES: &[EncoderRow] = &[
 fn encodes_without_entries(rt: HostRuntime) {
     let tables = tables_of(&rt, &no_entries());
     follow_encoder::<ShiftJisEncoder>(&rt, &tables, WITHOUT_ENTRIES);
+    let tables = packed_tables_of(&rt, &no_entries(), &no_parts());
+    follow_encoder::<ShiftJisEncoder>(&rt, &tables, WITHOUT_ENTRIES);
 }
 
-/// Follows the rows with these entries of index jis0208.
-fn follow_with(rt: &impl Abort, entries: &[(usize, u16)], rows: &[EncoderRow]) {
-    let mut jis0208 = [0u16; 11280];
-    for (pointer, scalar) in entries {
-        if *pointer < 11280 {
-            jis0208[*pointer] = *scalar;
-        }
-    }
-    let tables = tables_of(
-        rt,
-        &Indexes {
-            jis0208: &jis0208,
-            ..no_entries()
-        },
-    );
-    follow_encoder::<ShiftJisEncoder>(rt, &tables, rows);
-}
+/// Entries of index jis0208, the same as runs, the pointers that are written by rising scalars, those of EUC-JP, and the
+/// rows with these.
+type Case<'a> = (
+    &'a [(usize, u16)],
+    &'a [Run],
+    &'a [u16],
+    &'a [u16],
+    &'a [EncoderRow<'a>],
+);
 
 const MINUS: &[EncoderRow] = &[
     Encoder("the minus sign is written as U+FF0D"),
@@ -68,9 +62,52 @@ const ONLY_THERE: &[EncoderRow] = &[
     Encodes("\u{FF02}", &[Report('\u{FF02}')]),
 ];
 
+const CASES: &[Case] = &[
+    (&[(60, 0xFF0D)], &[run!(60, 0xFF0D, 1)], &[60], &[60], MINUS),
+    (
+        &[(8647, 0xFF02), (10739, 0xFF02)],
+        &[run!(8647, 0xFF02, 1), run!(10739, 0xFF02, 1)],
+        &[10739],
+        &[8647],
+        DUPLICATE,
+    ),
+    (
+        &[(8647, 0xFF02)],
+        &[run!(8647, 0xFF02, 1)],
+        &[],
+        &[8647],
+        ONLY_THERE,
+    ),
+];
+
+/// Follows the rows of a case over flat tables and over packed ones.
+fn follow_case(rt: &(impl AllocGlobal + Abort), case: &Case) {
+    let (entries, runs, order, euc_jp_order, rows) = case;
+    let mut jis0208 = [0u16; 11280];
+    for (pointer, scalar) in *entries {
+        if *pointer < 11280 {
+            jis0208[*pointer] = *scalar;
+        }
+    }
+    let indexes = Indexes {
+        jis0208: &jis0208,
+        ..no_entries()
+    };
+    let packed = Packed {
+        jis0208: runs,
+        shift_jis_order: order,
+        euc_jp_order,
+        ..no_parts()
+    };
+    let tables = tables_of(rt, &indexes);
+    follow_encoder::<ShiftJisEncoder>(rt, &tables, rows);
+    let tables = packed_tables_of(rt, &indexes, &packed);
+    follow_encoder::<ShiftJisEncoder>(rt, &tables, rows);
+}
+
 #[test]
 fn encodes_by_the_pointers_that_are_written(rt: HostRuntime) {
-    follow_with(&rt, &[(60, 0xFF0D)], MINUS);
-    follow_with(&rt, &[(8647, 0xFF02), (10739, 0xFF02)], DUPLICATE);
-    follow_with(&rt, &[(8647, 0xFF02)], ONLY_THERE);
+    for case in CASES {
+        follow_case(&rt, case);
+    }
 }

@@ -22,26 +22,6 @@ returns-then-count-lt16-clause-writes g c =
     c.code_block.result.0 c.code_block.result.1 (omega (arith, c.loop-copied-test.true)) e.count b.bytes b.codes e.ascii e.stored i.2 i.3 in
     on.writes
 
-pub returns-then-is_behind_ascii-clause-lone : goal.returns-then-is_behind_ascii-clause-lone
-returns-then-is_behind_ascii-clause-lone g c =
-    let e = c.store_marked-count.ensures in
-    let b = c.code_block.ensures in
-    let i = c.loop-copied.invariant in
-    let on = block_behind (g.C.UnitCodes.gives c.args.codes.now) c.args.units.now c.loop-copied.dst c.store_marked-count.new.dst
-    (take c.args.at c.args.dst.now) c.args.at c.loop-copied.copied c.store_marked-count.result
-    c.code_block.result.0 c.code_block.result.1 (omega (arith, c.loop-copied-test.true)) e.count b.bytes b.codes e.ascii e.stored i.2 i.3 in
-    on.lone
-
-pub returns-then-is_behind_ascii-clause-writes : goal.returns-then-is_behind_ascii-clause-writes
-returns-then-is_behind_ascii-clause-writes g c =
-    let e = c.store_marked-count.ensures in
-    let b = c.code_block.ensures in
-    let i = c.loop-copied.invariant in
-    let on = block_behind (g.C.UnitCodes.gives c.args.codes.now) c.args.units.now c.loop-copied.dst c.store_marked-count.new.dst
-    (take c.args.at c.args.dst.now) c.args.at c.loop-copied.copied c.store_marked-count.result
-    c.code_block.result.0 c.code_block.result.1 (omega (arith, c.loop-copied-test.true)) e.count b.bytes b.codes e.ascii e.stored i.2 i.3 in
-    on.writes
-
 pub loop-copied-preserved : goal.loop-copied-preserved
 loop-copied-preserved g c =
     let e = c.store_marked-count.ensures in

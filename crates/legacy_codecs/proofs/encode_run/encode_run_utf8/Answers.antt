@@ -1,5 +1,6 @@
 use Rattle.std.proofs.lemmas.Result.{IfOk-weaker}
 use Rattle.legacy_codecs.proofs.EncodeRunEvents.{is_encode_beginning, no_end_left}
+use Rattle.legacy_codecs.proofs.RoundTripRuns.{run_comes_back}
 use Rattle.legacy_codecs.proofs.AmpleOutputs.{encode_is_finished}
 use Rattle.legacy_codecs.proofs.encode_run.encode_run_utf8.Goals as goal
 
@@ -11,3 +12,6 @@ returns-clause-none_left g c = IfOk-weaker c.encode_run.result _ _ (λ run r. no
 
 pub returns-clause-finishes : goal.returns-clause-finishes
 returns-clause-finishes g c = IfOk-weaker c.encode_run.result _ _ (λ run r. encode_is_finished _ _ r) c.encode_run.ensures.run
+
+pub returns-clause-comes_back : goal.returns-clause-comes_back
+returns-clause-comes_back g c = IfOk-weaker c.encode_run.result _ _ (λ run r. run_comes_back _ _ r) c.encode_run.ensures.run

@@ -1,18 +1,6 @@
-use Rattle.std.proofs.Common.{◌∙◌, ◌≤◌, length, sym, arith}
-use Rattle.legacy_base.proofs.PrivateUse.{row-end, row-other, row-found}
+use Rattle.std.proofs.Common.{◌∙◌, sym}
+use Rattle.legacy_base.proofs.PrivateUse.{row-outside}
 use Rattle.legacy_base.proofs.tables.private_use.row_bytes.Goals as goal
 
-pub returns-then-place-rows : goal.returns-then-place-rows
-returns-then-place-rows c = row-end c.args.scalar c.args.rows.now c.rows_below-place.result (rw c.from.ensures at c.rows_below-place.ensures.below) (omega arith)
-
-pub returns-then-from : goal.returns-then-from
-returns-then-from c =
-    let within : c.rows_below-place.result ≤ length c.args.rows.now = c.rows_below-place.ensures.within in
-    row-other c.args.scalar c.args.rows.now c.rows_below-place.result (rw c.from.ensures at c.rows_below-place.ensures.below) c.requires
-    (rw c.from.ensures at c.rows_below-place.ensures.ahead) (omega arith) (λ e. c.if-from.true (c.from-2.ensures ∙ e ∙ sym c.from-3.ensures))
-
-pub returns : goal.returns
-returns c =
-    let within : c.rows_below-place.result ≤ length c.args.rows.now = c.rows_below-place.ensures.within in
-    row-found c.args.scalar c.args.rows.now c.rows_below-place.result (rw c.from.ensures at c.rows_below-place.ensures.below)
-    (omega arith) (sym c.from-2.ensures ∙ c.if-from.false ∙ c.from-3.ensures)
+pub returns-then-not-is_private_use : goal.returns-then-not-is_private_use
+returns-then-not-is_private_use c = row-outside c.args.scalar c.args.rows.now c.requires (sym c.is_private_use.ensures ∙ c.if-not-is_private_use.true)

@@ -1,4 +1,4 @@
-use Rattle.std.proofs.Common.{ℕ, ◌-◌, length}
+use Rattle.std.proofs.Common.{◌-◌, length}
 use Rattle.legacy_exports.proofs.texts.RefStrText.end_of_piece.Given as goal
 
 -- nothing is to be known of the end but that it is a place

@@ -1,25 +1,9 @@
-use Rattle.std.proofs.Common.{◌∙◌, ◌*◌, ◌≤◌, ◌<◌, subst, sym, ap, arith}
-use Rattle.legacy_base.specs.Directories.{held_place}
-use Rattle.legacy_base.proofs.Orders.{order-past, order-none, order-some}
+use Rattle.std.proofs.Common.{refl, sym}
+use borrow.Author.Tests.{lt-ltb}
 use Rattle.legacy_base.proofs.tables.order.Order.pointer.Goals as goal
 
-pub returns-then-number : goal.returns-then-number
-returns-then-number g c =
-    let past : 64 * g.row.BLOCKS ≤ c.number_of_scalar-number.result = omega arith in
-    sym (order-past g.row.BLOCKS c.args.self.now.scalars.sets c.args.self.now.scalars.befores c.args.self.now.pointers.now c.args.scalar
-    (subst (λ n. 64 * g.row.BLOCKS ≤ n) c.number_of_scalar-number.ensures past))
+pub returns-then-scalar-lt65536 : goal.returns-then-scalar-lt65536
+returns-then-scalar-lt65536 g c = c.numbered_pointer.ensures c.args.scalar (rw (lt-ltb c.args.scalar 0x1_0000 c.if-scalar-lt65536.true) refl)
 
-pub returns-in-Some : goal.returns-in-Some
-returns-in-Some g c =
-    let below : c.number_of_scalar-number.result < 64 * g.row.BLOCKS = omega arith in
-    rw c.from.ensures
-    (sym (order-some g.row.BLOCKS c.args.self.now.scalars.sets c.args.self.now.scalars.befores c.args.self.now.pointers.now c.args.scalar
-    (subst (λ n. n < 64 * g.row.BLOCKS) c.number_of_scalar-number.ensures below) c.in-Some.place
-    (ap (held_place c.args.self.now.scalars.sets c.args.self.now.scalars.befores) (sym c.number_of_scalar-number.ensures) ∙ sym c.in-Some.ensures)))
-
-pub returns-in-None : goal.returns-in-None
-returns-in-None g c =
-    let below : c.number_of_scalar-number.result < 64 * g.row.BLOCKS = omega arith in
-    sym (order-none g.row.BLOCKS c.args.self.now.scalars.sets c.args.self.now.scalars.befores c.args.self.now.pointers.now c.args.scalar
-    (subst (λ n. n < 64 * g.row.BLOCKS) c.number_of_scalar-number.ensures below)
-    (ap (held_place c.args.self.now.scalars.sets c.args.self.now.scalars.befores) (sym c.number_of_scalar-number.ensures) ∙ sym c.in-None.ensures))
+pub returns : goal.returns
+returns g c = c.numbered_pointer-2.ensures c.args.scalar (sym c.number_of_scalar.ensures)

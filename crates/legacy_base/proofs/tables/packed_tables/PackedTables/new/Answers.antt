@@ -6,6 +6,9 @@ use Rattle.legacy_base.proofs.tables.packed_tables.PackedTables.new.Goals as goa
 pub likely_places-requires : goal.likely_places-requires
 likely_places-requires c = (parts _ c.in_ok-check_indexes.ensures).ordered
 
+pub likely_ranges-requires : goal.likely_ranges-requires
+likely_ranges-requires c = (parts _ c.in_ok-check_indexes.ensures).ordered
+
 pub invariant_of-result : goal.invariant_of-result
 invariant_of-result c =
     let same = lists-same c.in_ok-runs.runs (flat_indexes c.args.indexes.now) c.args.packed.now c.in_ok-runs.ensures.0 in (

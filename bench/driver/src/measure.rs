@@ -1,0 +1,116 @@
+//! How long calls take.
+
+use std::hint::black_box;
+use std::time::Duration;
+
+/// A call that writes to an output, and answers how many code units it wrote.
+pub type Call<'a, W> = Box<dyn Fn(&mut [W]) -> usize + 'a>;
+
+/// How long each call of a cell is timed at the least, for each time that it is made at the least: the best of a few
+/// short calls moves from run to run.
+const LEAST_TIME: Duration = Duration::from_micros(3500);
+
+/// How long it is timed at the most, once it was made twice: some are a hundred times as slow as others.
+const MOST_TIME: Duration = Duration::from_millis(300);
+
+/// The time that this thread has run: what other programs take of the processor does not count.
+fn thread_time() -> Duration {
+    #[repr(C)]
+    struct Timespec {
+        seconds: i64,
+        nanoseconds: i64,
+    }
+    extern "C" {
+        fn clock_gettime(clock: i32, time: *mut Timespec) -> i32;
+    }
+    const CLOCK_THREAD_CPUTIME_ID: i32 = 3;
+    let mut time = Timespec { seconds: 0, nanoseconds: 0 };
+    let answer = unsafe { clock_gettime(CLOCK_THREAD_CPUTIME_ID, &mut time) };
+    assert_eq!(answer, 0, "the thread's clock");
+    Duration::new(time.seconds as u64, time.nanoseconds as u32)
+}
+
+/// The times of one call so far.
+#[derive(Clone, Default)]
+struct Times {
+    least: Option<Duration>,
+    all: Duration,
+    count: usize,
+}
+
+impl Times {
+    fn add(&mut self, time: Duration) {
+        self.least = Some(self.least.map_or(time, |least| least.min(time)));
+        self.all += time;
+        self.count += 1;
+    }
+
+    fn is_done(&self, times: usize) -> bool {
+        (self.count >= times && self.all >= LEAST_TIME * times as u32) || (self.count >= 2 && self.all >= MOST_TIME)
+    }
+}
+
+/// The best time of each call. They are made in turn, each so many times at the least if it does not take too long.
+pub fn best_times<W>(calls: &[Option<Call<'_, W>>], dst: &mut [W], times: usize) -> Vec<Option<Duration>> {
+    let mut all = vec![Times::default(); calls.len()];
+    loop {
+        let mut made = 0;
+        for (call, so_far) in calls.iter().zip(&mut all) {
+            let Some(call) = call else { continue };
+            if so_far.is_done(times) {
+                continue;
+            }
+            let start = thread_time();
+            black_box(call(dst));
+            so_far.add(thread_time() - start);
+            made += 1;
+        }
+        if made == 0 {
+            return all.into_iter().map(|times| times.least).collect();
+        }
+    }
+}
+
+/// The time of a call without that of a check which is part of it.
+pub fn without(time: Option<Duration>, check: Option<Duration>) -> Option<Duration> {
+    Some(time?.saturating_sub(check?))
+}
+
+/// Megabytes a second.
+pub fn speed(bytes: usize, time: Option<Duration>) -> Option<f64> {
+    Some(bytes as f64 / time?.as_secs_f64() / 1e6)
+}
+
+/// A cell with a speed, which is empty where there is none.
+pub fn speed_cell(speed: Option<f64>) -> String {
+    match speed {
+        Some(speed) if speed < 10.0 => format!(" {speed:.1} |"),
+        Some(speed) => format!(" {speed:.0} |"),
+        None => " |".to_string(),
+    }
+}
+
+/// A cell with how many times a speed is another.
+pub fn ratio_cell(speed: Option<f64>, other: Option<f64>) -> String {
+    match (speed, other) {
+        (Some(speed), Some(other)) => format!(" {:.2} |", speed / other),
+        _ => " |".to_string(),
+    }
+}
+
+/// Compares what some calls write with what a call by which they are judged wrote.
+pub fn is_same<W: Copy + PartialEq + Default>(wanted: &[W], call: &Call<'_, W>, dst: &mut [W]) -> Result<(), String> {
+    dst.fill(W::default());
+    let written = call(dst);
+    if written != wanted.len() || dst[..written] != *wanted {
+        let place = (0..wanted.len()).find(|at| dst[*at] != wanted[*at]);
+        return Err(format!("{written} units, not {}; first difference at {place:?}", wanted.len()));
+    }
+    Ok(())
+}
+
+/// What a call writes.
+pub fn written<W: Copy + Default>(call: &Call<'_, W>, dst: &mut [W]) -> Vec<W> {
+    let length = call(dst);
+    dst[..length].to_vec()
+}

@@ -1,0 +1,38 @@
+//! Where the pieces of a source end.
+
+/// A code unit of a text.
+pub trait Unit: Copy + PartialEq + Default {
+    /// Whether the place lies between two characters.
+    fn is_between(text: &[Self], place: usize) -> bool;
+}
+
+impl Unit for u8 {
+    fn is_between(text: &[u8], place: usize) -> bool {
+        text.get(place).is_none_or(|byte| byte & 0xC0 != 0x80)
+    }
+}
+
+impl Unit for u16 {
+    fn is_between(text: &[u16], place: usize) -> bool {
+        let is = |at: usize, first: u16| text.get(at).is_some_and(|unit| unit & 0xFC00 == first);
+        place == 0 || !is(place - 1, 0xD800) || !is(place, 0xDC00)
+    }
+}
+
+/// The end of a piece of so many code units, where 0 stands for all that is left.
+pub fn piece_end(read: usize, len: usize, piece: usize) -> usize {
+    if piece == 0 {
+        len
+    } else {
+        read + piece.min(len - read)
+    }
+}
+
+/// The same up to the next place between two characters.
+pub fn end_of_piece<U: Unit>(text: &[U], read: usize, piece: usize) -> usize {
+    let mut end = piece_end(read, text.len(), piece);
+    while !U::is_between(text, end) {
+        end += 1;
+    }
+    end
+}

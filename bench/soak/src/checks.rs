@@ -1,0 +1,249 @@
+//! The comparisons of a round.
+
+use crate::codec::Codec;
+use crate::model::{self, Pointers};
+use crate::numbers::Numbers;
+use crate::ours::{self, Cut};
+use crate::sources;
+use crate::tables::Tables;
+use encoding_rs::{DecoderResult, EncoderResult, Encoding};
+use std::fmt;
+
+/// How much was tried.
+#[derive(Clone, Copy, Default)]
+pub struct Count {
+    pub standard_rounds: u64,
+    pub odd_rounds: u64,
+    pub spoiled: u64,
+    decoded: u64,
+    bytes: u64,
+    encoded: u64,
+    units: u64,
+    calls: u64,
+}
+
+impl Count {
+    pub fn add(&mut self, other: &Count) {
+        self.standard_rounds += other.standard_rounds;
+        self.odd_rounds += other.odd_rounds;
+        self.spoiled += other.spoiled;
+        self.decoded += other.decoded;
+        self.bytes += other.bytes;
+        self.encoded += other.encoded;
+        self.units += other.units;
+        self.calls += other.calls;
+    }
+}
+
+impl fmt::Display for Count {
+    fn fmt(&self, f: &mut fmt::Formatter) -> fmt::Result {
+        let Count { standard_rounds, odd_rounds, spoiled, decoded, bytes, encoded, units, calls } = self;
+        write!(f, " {standard_rounds} | {odd_rounds} | {spoiled} | {decoded} | {bytes} | {encoded} | {units} | {calls} |")
+    }
+}
+
+/// The codec's functions refuse the tables.
+pub fn refuses(codec: Codec, tables: &Tables) -> Result<(), String> {
+    let cut = Cut { piece: 0, room: 16 };
+    if ours::to_utf8(codec, tables, b"a", cut)?.is_some() || ours::to_utf16(codec, tables, b"a", cut)?.is_some() {
+        return Err("the decoder took it".to_string());
+    }
+    // The encoder of a single-byte encoding looks at no other index.
+    let looks = codec.has_encoder();
+    if looks && ours::from_utf8(codec, tables, b"a", cut)?.is_some() || looks && ours::from_utf16(codec, tables, &[0x61], cut)?.is_some() {
+        return Err("the encoder took it".to_string());
+    }
+    Ok(())
+}
+
+/// How much more room than is left an act may ask for: four bytes of an output in UTF-8 or of an encoder's, two
+/// code units of UTF-16.
+const ROOM_IN_BYTES: usize = 4;
+const ROOM_IN_UNITS: usize = 2;
+
+/// Cuts to try: whole, in pieces, and into outputs that are too small.
+fn cuts(numbers: &mut Numbers, source: usize, output: usize) -> Vec<Cut> {
+    let ample = output + 16;
+    let piece = numbers.within(1, source.clamp(1, 40));
+    let mut cuts = vec![
+        Cut { piece: 0, room: ample },
+        Cut { piece, room: ample },
+        Cut { piece: 0, room: numbers.below(output + 4) },
+        Cut { piece: numbers.within(1, 9), room: numbers.below(output + 4) },
+    ];
+    if numbers.once_in(4) {
+        cuts.push(Cut { piece: 1, room: ample });
+    }
+    cuts
+}
+
+/// What was written is all of what is wanted, or a front of it that ends between two characters and behind which
+/// there was no room.
+fn is_front<U: Copy + PartialEq + fmt::Debug>(
+    came: &[U],
+    wanted: &[U],
+    cut: Cut,
+    room: usize,
+    is_between: impl Fn(&[U], usize) -> bool,
+) -> Result<(), String> {
+    let place = came.iter().zip(wanted).position(|(came, wanted)| came != wanted);
+    if let Some(place) = place {
+        let around = |units: &[U]| format!("{:X?}", &units[place.saturating_sub(4)..units.len().min(place + 8)]);
+        return Err(format!("{cut:?}: at {place} came {}, wanted {}", around(came), around(wanted)));
+    }
+    if came.len() > wanted.len() {
+        return Err(format!("{cut:?}: {} code units came, {} are wanted", came.len(), wanted.len()));
+    }
+    if came.len() < wanted.len() && cut.room - came.len() >= room {
+        return Err(format!("{cut:?}: it stopped at {} of {} with room for more", came.len(), wanted.len()));
+    }
+    if !is_between(wanted, came.len()) {
+        return Err(format!("{cut:?}: it stopped at {} within a character", came.len()));
+    }
+    Ok(())
+}
+
+fn is_between_bytes(text: &[u8], place: usize) -> bool {
+    text.get(place).is_none_or(|byte| byte & 0xC0 != 0x80)
+}
+
+fn is_between_units(units: &[u16], place: usize) -> bool {
+    units.get(place).is_none_or(|unit| unit & 0xFC00 != 0xDC00)
+}
+
+/// A codec, its tables, and the encoding of encoding_rs where the tables are its own.
+pub struct Round<'a> {
+    codec: Codec,
+    tables: &'a Tables,
+    theirs: Option<&'static Encoding>,
+    pointers: Pointers,
+    scalars: Vec<char>,
+}
+
+impl<'a> Round<'a> {
+    pub fn new(codec: Codec, tables: &'a Tables, theirs: Option<&'static Encoding>) -> Round<'a> {
+        let pointers = model::pointers(codec, tables);
+        let mut scalars: Vec<char> = pointers.keys().copied().collect();
+        scalars.sort_unstable();
+        Round { codec, tables, theirs, pointers, scalars }
+    }
+
+    /// Decodes a source to UTF-8 and to UTF-16 in several cuts.
+    pub fn decodes(&self, numbers: &mut Numbers, count: &mut Count) -> Result<(), String> {
+        let source = sources::bytes(self.codec, self.tables, &self.pointers, &self.scalars, numbers);
+        let text: String = model::decoders::decode(self.codec, self.tables, &source).into_iter().collect();
+        let units: Vec<u16> = text.encode_utf16().collect();
+        let failed = |error| format!("{error}\nsource: {source:02X?}");
+        if let Some(encoding) = self.theirs {
+            let theirs = decoded_by_theirs(encoding, &source);
+            if theirs != text {
+                return Err(failed(format!("encoding_rs and the model differ: {theirs:?}, {text:?}")));
+            }
+        }
+        for cut in cuts(numbers, source.len(), text.len()) {
+            let came = ours::to_utf8(self.codec, self.tables, &source, cut).map_err(failed)?.ok_or("refused")?;
+            is_front(&came, text.as_bytes(), cut, ROOM_IN_BYTES, is_between_bytes).map_err(|error| failed(format!("to UTF-8, {error}")))?;
+            count.calls += 1;
+        }
+        for cut in cuts(numbers, source.len(), units.len()) {
+            let came = ours::to_utf16(self.codec, self.tables, &source, cut).map_err(failed)?.ok_or("refused")?;
+            is_front(&came, &units, cut, ROOM_IN_UNITS, is_between_units).map_err(|error| failed(format!("to UTF-16, {error}")))?;
+            count.calls += 1;
+        }
+        count.decoded += 1;
+        count.bytes += source.len() as u64;
+        Ok(())
+    }
+
+    /// Encodes a text from UTF-8 and from UTF-16 in several cuts, and decodes what came.
+    pub fn encodes(&self, numbers: &mut Numbers, count: &mut Count) -> Result<(), String> {
+        let units = sources::any_text(numbers, &self.scalars);
+        let scalars = sources::text_of(&units);
+        let text: String = scalars.iter().collect();
+        let wanted = model::encoders::encode(self.codec, self.tables, &self.pointers, &scalars);
+        let failed = |error| format!("{error}\nunits: {units:04X?}");
+        if let Some(encoding) = self.theirs {
+            let theirs = encoded_by_theirs(encoding, &text);
+            if theirs != wanted {
+                return Err(failed(format!("encoding_rs and the model differ: {theirs:02X?}, {wanted:02X?}")));
+            }
+        }
+        let any = |_: &[u8], _: usize| true;
+        for cut in cuts(numbers, text.len(), wanted.len()) {
+            let came = ours::from_utf8(self.codec, self.tables, text.as_bytes(), cut).map_err(failed)?.ok_or("refused")?;
+            is_front(&came, &wanted, cut, ROOM_IN_BYTES, any).map_err(|error| failed(format!("from UTF-8, {error}")))?;
+            count.calls += 1;
+        }
+        for cut in cuts(numbers, units.len(), wanted.len()) {
+            let came = ours::from_utf16(self.codec, self.tables, &units, cut).map_err(failed)?.ok_or("refused")?;
+            is_front(&came, &wanted, cut, ROOM_IN_BYTES, any).map_err(|error| failed(format!("from UTF-16, {error}")))?;
+            count.calls += 1;
+        }
+        self.decodes_back(&scalars, &wanted, count).map_err(failed)?;
+        count.encoded += 1;
+        count.units += units.len() as u64;
+        Ok(())
+    }
+
+    /// What was encoded decodes to one scalar for each of the text's: itself, a question mark where it has no bytes,
+    /// or the scalar that it is written as.
+    fn decodes_back(&self, scalars: &[char], encoded: &[u8], count: &mut Count) -> Result<(), String> {
+        let is_gb18030 = matches!(self.codec, Codec::Gbk | Codec::Gb18030);
+        if is_gb18030 && scalars.iter().any(|scalar| model::side_table(*scalar).is_some()) {
+            // A row's bytes are the index's to decode, and it may have nothing there.
+            return Ok(());
+        }
+        let cut = Cut { piece: 0, room: scalars.len() * 4 + 16 };
+        let back = ours::to_utf8(self.codec, self.tables, encoded, cut)?.ok_or("refused")?;
+        count.calls += 1;
+        let back = std::str::from_utf8(&back).map_err(|error| format!("no UTF-8: {error}"))?;
+        let back: Vec<char> = back.chars().collect();
+        if back.len() != scalars.len() {
+            return Err(format!("{} scalars were encoded, and {} come back", scalars.len(), back.len()));
+        }
+        let differs = |(came, scalar): &(&char, &char)| came != scalar && **came != '?' && !is_fold(**scalar);
+        match back.iter().zip(scalars).find(differs) {
+            Some((came, scalar)) => Err(format!("{scalar:?} was encoded, and {came:?} comes back")),
+            None => Ok(()),
+        }
+    }
+}
+
+/// Whether some codec writes the scalar with the bytes of another.
+fn is_fold(scalar: char) -> bool {
+    matches!(scalar, '\u{2212}' | '\u{A5}' | '\u{203E}' | '\u{FF61}'..='\u{FF9F}')
+}
+
+/// The text of the bytes by encoding_rs.
+fn decoded_by_theirs(encoding: &'static Encoding, source: &[u8]) -> String {
+    let mut decoder = encoding.new_decoder_without_bom_handling();
+    let mut text = String::new();
+    let mut read = 0;
+    loop {
+        text.reserve(source.len() * 3 + 64);
+        let (answer, more) = decoder.decode_to_string_without_replacement(&source[read..], &mut text, true);
+        read += more;
+        match answer {
+            DecoderResult::InputEmpty => return text,
+            DecoderResult::OutputFull => {}
+            DecoderResult::Malformed(_, _) => text.push('\u{FFFD}'),
+        }
+    }
+}
+
+/// The bytes of the text by encoding_rs.
+fn encoded_by_theirs(encoding: &'static Encoding, text: &str) -> Vec<u8> {
+    let mut encoder = encoding.new_encoder();
+    let mut bytes = Vec::new();
+    let mut read = 0;
+    loop {
+        bytes.reserve(text.len() * 3 + 64);
+        let (answer, more) = encoder.encode_from_utf8_to_vec_without_replacement(&text[read..], &mut bytes, true);
+        read += more;
+        match answer {
+            EncoderResult::InputEmpty => return bytes,
+            EncoderResult::OutputFull => {}
+            EncoderResult::Unmappable(_) => bytes.push(b'?'),
+        }
+    }
+}

@@ -1,0 +1,93 @@
+//! A soak: for so many seconds, tables, bytes and texts of no pattern go through every codec of the static library,
+//! whole, in pieces and into small outputs, and what comes of them is compared with a slow model of the Standard, and
+//! with encoding_rs where the tables are the Standard's.
+//!
+//! Arguments: the seconds, and a seed (none: the clock's). Each round has a seed of its own, which is printed where
+//! something differs; with it as the seed that round is the first.
+
+mod checks;
+mod codec;
+#[path = "../../driver/src/indexes.rs"]
+mod indexes;
+mod model;
+mod numbers;
+mod ours;
+mod sources;
+mod tables;
+
+use checks::{Count, Round};
+use codec::{Codec, CODECS};
+use numbers::Numbers;
+use std::time::{Duration, Instant, SystemTime};
+use tables::Standard;
+
+/// How many sources of each direction a round has over its tables.
+const SOURCES: usize = 6;
+
+/// One round: tables, and sources for the decoder and the encoder over them.
+fn round(standard: &Standard, codec: Codec, seed: u64, count: &mut Count) -> Result<(), String> {
+    let mut numbers = Numbers::new(seed);
+    let is_odd = codec.has_tables() && numbers.once_in(2);
+    let (mut tables, name) = if is_odd { (tables::odd(codec, &mut numbers), "odd") } else { standard.tables(codec, &mut numbers) };
+    if codec.has_tables() && numbers.once_in(50) {
+        let fault = tables::spoil(&mut tables, &mut numbers);
+        count.spoiled += 1;
+        return checks::refuses(codec, &tables).map_err(|error| format!("{codec:?} over {fault}: {error}"));
+    }
+    let round = Round::new(codec, &tables, (!is_odd).then(|| codec::encoding(name)));
+    for _ in 0..SOURCES {
+        round.decodes(&mut numbers, count).map_err(|error| format!("{codec:?}, decoding, {name} tables: {error}"))?;
+        if codec.has_encoder() {
+            round.encodes(&mut numbers, count).map_err(|error| format!("{codec:?}, encoding, {name} tables: {error}"))?;
+        }
+    }
+    if is_odd {
+        count.odd_rounds += 1;
+    } else {
+        count.standard_rounds += 1;
+    }
+    Ok(())
+}
+
+/// The seed of the round behind the one of this seed.
+fn seed_behind(seed: u64) -> u64 {
+    Numbers::new(seed ^ 0x5DEE_CE66).next()
+}
+
+fn report(counts: &[Count], seconds: u64) {
+    println!("| codec | rounds, standard tables | rounds, odd tables | refused tables | sources decoded | bytes | sources encoded | code units | calls |");
+    println!("|---|---|---|---|---|---|---|---|---|");
+    let mut total = Count::default();
+    for (codec, count) in CODECS.iter().zip(counts) {
+        println!("| {} |{count}", codec.name());
+        total.add(count);
+    }
+    println!("| all |{total}");
+    println!("{seconds} seconds, and no difference");
+}
+
+fn main() -> Result<(), String> {
+    let numbers: Result<Vec<u64>, _> = std::env::args().skip(1).map(|word| word.parse::<u64>()).collect();
+    let numbers = numbers.map_err(|_| "usage: soak SECONDS [SEED]".to_string())?;
+    let seconds = numbers.first().copied().ok_or("usage: soak SECONDS [SEED]")?;
+    let clock = SystemTime::now().duration_since(SystemTime::UNIX_EPOCH).map_or(0, |time| time.as_nanos() as u64);
+    let first = numbers.get(1).copied().unwrap_or(clock);
+    println!("seed {first}");
+
+    let standard = Standard::new();
+    let start = Instant::now();
+    let mut counts = [Count::default(); CODECS.len()];
+    let mut seed = first;
+    loop {
+        let which = (seed % CODECS.len() as u64) as usize;
+        if let Err(error) = round(&standard, CODECS[which], seed, &mut counts[which]) {
+            return Err(format!("{error}\nbench/soak/run 0 {seed} repeats it"));
+        }
+        if start.elapsed() >= Duration::from_secs(seconds) {
+            break;
+        }
+        seed = seed_behind(seed);
+    }
+    report(&counts, seconds);
+    Ok(())
+}

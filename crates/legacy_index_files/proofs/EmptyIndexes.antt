@@ -1,0 +1,13 @@
+-- The tables of an index file without a line.
+use Rattle.std.proofs.Common.{◌≡◌, ℕ, List, [], length, refl, arith, replicate}
+use Rattle.std.proofs.lemmas.List.{get_or-replicate, length-replicate}
+use Rattle.legacy_index_files.specs.IndexTable.{IsIndexOf, IsSingleByteIndexOf}
+
+pub empty_index : (values : List ℕ) → values ≡ [] → IsIndexOf [] values
+empty_index values e = record { len = rw e refl; at_each = record { at = λ p h. absurd (let n : length values ≡ 0 = rw e refl in omega arith) } }
+
+pub empty_single_byte : IsSingleByteIndexOf [] (replicate 128 0)
+empty_single_byte = record {
+  len = length-replicate {A = ℕ} 128 0;
+  at_each = record { at = λ p h. get_or-replicate 128 p 0 0 (omega (arith, length-replicate {A = ℕ} 128 0)) };
+}

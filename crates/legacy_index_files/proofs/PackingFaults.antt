@@ -1,0 +1,112 @@
+-- What is packed of accepted indexes is accepted beside them.
+use Rattle.std.proofs.Common.{◌≡◌, ℕ, ◌≤◌, ◌<◌, List, length, refl, arith, Some, None, Option, true, ◌||◌, inl, inr}
+use Rattle.std.proofs.lemmas.Bool.{cases_lt}
+use Rattle.std.proofs.lemmas.Bool.Decides.{nat_tests}
+use Rattle.std.proofs.lemmas.List.{get_or_past}
+use Rattle.std.proofs.lemmas.List.Elements.{All-get_or}
+use Rattle.std.specs.Int.{is_in_range}
+use Rattle.std.specs.List.{All}
+use Rattle.std.specs.Option.{option_or}
+use Rattle.legacy_base.specs.declared.tables.IndexName.TheVariants as names
+use Rattle.legacy_base.specs.declared.tables.packed.Packed.{Packed}
+use Rattle.legacy_base.specs.declared.tables.packed.PackedPart.TheVariants as parts
+use Rattle.legacy_base.specs.declared.tables.TableError.{TableError}
+use Rattle.legacy_base.specs.Indexes.{FlatIndexes}
+use Rattle.legacy_base.specs.TableChecks.{AreAccepted, is_narrow_entry, table_fault}
+use Rattle.legacy_base.specs.Packed.{all_runs_fault, all_orders_fault, runs_fault, pointers_fault}
+use Rattle.legacy_base.proofs.Accepted.{parts, all_entries, euc_kr-below, jis0208-below, jis0212-below, gb18030-below}
+use Rattle.legacy_index_files.specs.declared.packing.OwnedPacked.{OwnedPacked}
+use Rattle.legacy_index_files.specs.Packing.{AreBelow, GivesIndex, IsOrderOf, HasParts, HasLongestRuns, IsPackOf}
+
+-- ---- the entries of accepted indexes
+
+below_of : (limit : ℕ) (index : List ℕ) → 0 < limit → All (λ e. e < limit) index → AreBelow limit index
+below_of limit index some all = record {
+  at = λ p. elim (cases_lt p (length index)) [
+    | inl h ↦ All-get_or (λ e. e < limit) index p 0 h all
+    | inr h ↦ rw (get_or_past index p 0 h) some
+  ];
+}
+
+wider : (limit : ℕ) (index : List ℕ) → limit ≤ 0x11_0000 → AreBelow limit index → AreBelow 0x11_0000 index
+wider limit index h below = record { at = λ p. let l = below.at p in omega arith }
+
+is_wide-below : (e : ℕ) → (is_narrow_entry e || is_in_range 0x2_0000 0x2_FFFF e) ≡ true → e < 0x3_0000
+is_wide-below e h = grind (arith, nat_tests)
+
+-- ---- the parts
+
+-- what each part was made to be
+pub record AreMade (flat : FlatIndexes) (owned : OwnedPacked) : Type 0 where
+  pub big5 : length flat.big5 ≤ 19782 → GivesIndex 19782 flat.big5 owned.big5.items
+  pub euc_kr : length flat.euc_kr ≤ 23940 → GivesIndex 23940 flat.euc_kr owned.euc_kr.items
+  pub jis0208 : length flat.jis0208 ≤ 11280 → GivesIndex 11280 flat.jis0208 owned.jis0208.items
+  pub jis0212 : length flat.jis0212 ≤ 8836 → GivesIndex 8836 flat.jis0212 owned.jis0212.items
+  pub gb18030 : length flat.gb18030 ≤ 23940 → GivesIndex 23940 flat.gb18030 owned.gb18030.items
+  pub big5_order : length flat.big5 ≤ 23940 → IsOrderOf parts.Big5Order 0x3_0000 flat.big5 owned.big5_order.items
+  pub euc_kr_order : length flat.euc_kr ≤ 23940 → IsOrderOf parts.EucKrOrder 0x1_0000 flat.euc_kr owned.euc_kr_order.items
+  pub shift_jis_order : length flat.jis0208 ≤ 23940 → IsOrderOf parts.ShiftJisOrder 0x1_0000 flat.jis0208 owned.shift_jis_order.items
+  pub euc_jp_order : length flat.jis0208 ≤ 23940 → IsOrderOf parts.EucJpOrder 0x1_0000 flat.jis0208 owned.euc_jp_order.items
+  pub gb18030_order : length flat.gb18030 ≤ 23940 → IsOrderOf parts.Gb18030Order 0x1_0000 flat.gb18030 owned.gb18030_order.items
+
+module _ (flat : FlatIndexes) (owned : OwnedPacked) (made : AreMade flat owned) (packed : Packed) (has : HasParts owned packed) where
+  module _ (accepted : AreAccepted flat) where
+    big5_below : AreBelow 0x3_0000 flat.big5
+    big5_below = below_of 0x3_0000 flat.big5 (omega arith) (all_entries (λ e. e < 0x3_0000) names.Big5 (omega arith) is_wide-below 0 flat.big5 (parts flat accepted).big5.1)
+
+    euc_kr_below : AreBelow 0x1_0000 flat.euc_kr
+    euc_kr_below = below_of 0x1_0000 flat.euc_kr (omega arith) (euc_kr-below flat accepted)
+
+    jis0208_below : AreBelow 0x1_0000 flat.jis0208
+    jis0208_below = below_of 0x1_0000 flat.jis0208 (omega arith) (jis0208-below flat accepted)
+
+    jis0212_below : AreBelow 0x1_0000 flat.jis0212
+    jis0212_below = below_of 0x1_0000 flat.jis0212 (omega arith) (jis0212-below flat accepted)
+
+    gb18030_below : AreBelow 0x1_0000 flat.gb18030
+    gb18030_below = below_of 0x1_0000 flat.gb18030 (omega arith) (gb18030-below flat accepted)
+
+    big5_runs : runs_fault parts.Big5 19782 packed.big5.now flat.big5 ≡ None
+    big5_runs = rw has.big5 ((made.big5 (parts flat accepted).big5.0).accepted (wider 0x3_0000 flat.big5 (omega arith) big5_below) parts.Big5)
+
+    euc_kr_runs : runs_fault parts.EucKr 23940 packed.euc_kr.now flat.euc_kr ≡ None
+    euc_kr_runs = rw has.euc_kr ((made.euc_kr (parts flat accepted).euc_kr.0).accepted (wider 0x1_0000 flat.euc_kr (omega arith) euc_kr_below) parts.EucKr)
+
+    jis0208_runs : runs_fault parts.Jis0208 11280 packed.jis0208.now flat.jis0208 ≡ None
+    jis0208_runs = rw has.jis0208 ((made.jis0208 (parts flat accepted).jis0208.0).accepted (wider 0x1_0000 flat.jis0208 (omega arith) jis0208_below) parts.Jis0208)
+
+    jis0212_runs : runs_fault parts.Jis0212 8836 packed.jis0212.now flat.jis0212 ≡ None
+    jis0212_runs = rw has.jis0212 ((made.jis0212 (parts flat accepted).jis0212.0).accepted (wider 0x1_0000 flat.jis0212 (omega arith) jis0212_below) parts.Jis0212)
+
+    gb18030_runs : runs_fault parts.Gb18030 23940 packed.gb18030.now flat.gb18030 ≡ None
+    gb18030_runs = rw has.gb18030 ((made.gb18030 (parts flat accepted).gb18030.0).accepted (wider 0x1_0000 flat.gb18030 (omega arith) gb18030_below) parts.Gb18030)
+
+    big5_pointers : pointers_fault parts.Big5Order flat.big5 packed.big5_order.now ≡ None
+    big5_pointers = rw has.big5_order ((made.big5_order (let l = (parts flat accepted).big5.0 in omega arith)).accepted big5_below)
+
+    euc_kr_pointers : pointers_fault parts.EucKrOrder flat.euc_kr packed.euc_kr_order.now ≡ None
+    euc_kr_pointers = rw has.euc_kr_order ((made.euc_kr_order (parts flat accepted).euc_kr.0).accepted euc_kr_below)
+
+    shift_jis_pointers : pointers_fault parts.ShiftJisOrder flat.jis0208 packed.shift_jis_order.now ≡ None
+    shift_jis_pointers = rw has.shift_jis_order ((made.shift_jis_order (let l = (parts flat accepted).jis0208.0 in omega arith)).accepted jis0208_below)
+
+    euc_jp_pointers : pointers_fault parts.EucJpOrder flat.jis0208 packed.euc_jp_order.now ≡ None
+    euc_jp_pointers = rw has.euc_jp_order ((made.euc_jp_order (let l = (parts flat accepted).jis0208.0 in omega arith)).accepted jis0208_below)
+
+    gb18030_pointers : pointers_fault parts.Gb18030Order flat.gb18030 packed.gb18030_order.now ≡ None
+    gb18030_pointers = rw has.gb18030_order ((made.gb18030_order (parts flat accepted).gb18030.0).accepted gb18030_below)
+
+    runs_whole : all_runs_fault flat packed ≡ None
+    unfolding all_runs_fault
+    runs_whole = rw (big5_runs, euc_kr_runs, jis0208_runs, jis0212_runs) gb18030_runs
+
+    orders_whole : all_orders_fault flat packed ≡ None
+    unfolding all_orders_fault
+    orders_whole = rw (big5_pointers, euc_kr_pointers, shift_jis_pointers, euc_jp_pointers) gb18030_pointers
+
+  no_more_faults : (o : Option TableError) → table_fault flat ≡ o → option_or o (option_or (all_runs_fault flat packed) (all_orders_fault flat packed)) ≡ o
+  no_more_faults (Some fault) e = refl
+  no_more_faults None e = rw (runs_whole e) (orders_whole e)
+
+pub pack-made : (flat : FlatIndexes) (owned : OwnedPacked) → AreMade flat owned → HasLongestRuns owned → IsPackOf flat owned
+pack-made flat owned made longest = record { faults = λ packed has. no_more_faults flat owned made packed has (table_fault flat) refl; longest = longest }

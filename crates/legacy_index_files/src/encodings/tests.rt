@@ -1,0 +1,62 @@
+//! The encodings against rows of the Standard.
+use crate::{CodecName, ENCODINGS, Encoding, FileIndex};
+
+#[test]
+fn encodings_are_known_by_their_names(rt: HostRuntime) {
+    let rows: [(&str, Option<CodecName>); 16] = [
+        ("IBM866", Some(CodecName::SingleByte)),
+        ("ISO-8859-8-I", Some(CodecName::SingleByte)),
+        ("x-mac-cyrillic", Some(CodecName::SingleByte)),
+        ("GBK", Some(CodecName::Gbk)),
+        ("gb18030", Some(CodecName::Gb18030)),
+        ("Big5", Some(CodecName::Big5)),
+        ("EUC-JP", Some(CodecName::EucJp)),
+        ("ISO-2022-JP", Some(CodecName::Iso2022Jp)),
+        ("Shift_JIS", Some(CodecName::ShiftJis)),
+        ("EUC-KR", Some(CodecName::EucKr)),
+        ("replacement", Some(CodecName::Replacement)),
+        ("UTF-16BE", Some(CodecName::Utf16Be)),
+        ("UTF-16LE", Some(CodecName::Utf16Le)),
+        ("x-user-defined", Some(CodecName::UserDefined)),
+        ("windows-1259", None),
+        ("gbk", None),
+    ];
+    for (name, codec) in rows {
+        let found = Encoding::by_name(name).map(|encoding| encoding.codec());
+        assert_eq!(rt; found, codec, "{name}");
+    }
+}
+
+#[test]
+fn index_files_have_their_published_names(rt: HostRuntime) {
+    let rows: [(&str, FileIndex, Option<&str>); 7] = [
+        (
+            "ISO-8859-8-I",
+            FileIndex::SingleByte,
+            Some("index-iso-8859-8.txt"),
+        ),
+        (
+            "windows-1252",
+            FileIndex::SingleByte,
+            Some("index-windows-1252.txt"),
+        ),
+        ("KOI8-U", FileIndex::SingleByte, Some("index-koi8-u.txt")),
+        ("EUC-JP", FileIndex::Jis0212, Some("index-jis0212.txt")),
+        ("GBK", FileIndex::Ranges, Some("index-gb18030-ranges.txt")),
+        ("Shift_JIS", FileIndex::SingleByte, None),
+        ("Big5", FileIndex::Big5, Some("index-big5.txt")),
+    ];
+    for (name, index, file) in rows {
+        let found = Encoding::by_name(name).map(|encoding| encoding.file_name(index));
+        assert_eq!(rt; found, Some(file), "{name}");
+    }
+    assert_eq!(rt; single_byte_count(), 28);
+}
+
+/// How many encodings are single-byte encodings.
+fn single_byte_count() -> usize {
+    ENCODINGS
+        .iter()
+        .filter(|encoding| encoding.codec() == CodecName::SingleByte)
+        .count()
+}

@@ -1,0 +1,101 @@
+//! Packs flat indexes: makes their runs, and the orders of the pointers that encoders take.
+ghost use Rattle.std.specs.Prelude.{IfOk};
+ghost use Rattle.legacy_base.specs.Tables.{flat_indexes};
+ghost use Rattle.legacy_index_files.specs.Packing.{HasParts, IsPackOf};
+
+pub(crate) mod entries;
+pub(crate) mod orders;
+pub(crate) mod runs;
+
+use legacy_base::{Indexes, Packed, PackedPart, Run};
+use orders::{narrow_order, wide_order};
+use runs::{narrow_runs, wide_runs};
+use std::alloc::{AllocError, Global};
+
+/// Packed indexes with their memory, by the parts of `legacy_base::Packed`. They are not checked:
+/// `Tables::packed_of` does that, which takes what `packed` lends.
+#[derive(Debug, Drop)]
+pub struct OwnedPacked {
+    /// The runs of index Big5.
+    pub big5: Vec<Run>,
+    /// The runs of index EUC-KR.
+    pub euc_kr: Vec<Run>,
+    /// The runs of index jis0208.
+    pub jis0208: Vec<Run>,
+    /// The runs of index jis0212.
+    pub jis0212: Vec<Run>,
+    /// The runs of index gb18030.
+    pub gb18030: Vec<Run>,
+    /// The pointers of Big5's encoder.
+    pub big5_order: Vec<u16>,
+    /// The pointers of EUC-KR's encoder.
+    pub euc_kr_order: Vec<u16>,
+    /// The pointers of Shift_JIS's encoder.
+    pub shift_jis_order: Vec<u16>,
+    /// The pointers of the encoders of EUC-JP and ISO-2022-JP.
+    pub euc_jp_order: Vec<u16>,
+    /// The pointers of GB18030's encoder.
+    pub gb18030_order: Vec<u16>,
+}
+
+impl OwnedPacked {
+    /// The ten parts, borrowed. It takes no memory.
+    pub fn packed(&self) -> Packed<'_>
+        ensures { HasParts self.now result }
+    {
+        Packed {
+            big5: &self.big5,
+            euc_kr: &self.euc_kr,
+            jis0208: &self.jis0208,
+            jis0212: &self.jis0212,
+            gb18030: &self.gb18030,
+            big5_order: &self.big5_order,
+            euc_kr_order: &self.euc_kr_order,
+            shift_jis_order: &self.shift_jis_order,
+            euc_jp_order: &self.euc_jp_order,
+            gb18030_order: &self.gb18030_order,
+        }
+    }
+}
+
+/// Packs flat indexes: for each of five its runs, and for five codecs the pointers that their
+/// encoders take, in the order of their scalar values (Encoding Standard, "Indexes"). A run is as long
+/// as it can be: it ends before the first pointer that is not mapped, or whose scalar value is not one
+/// more than that before.
+///
+/// `Tables::packed_of` accepts what is made of indexes that `Tables::new` accepts. Of others it answers
+/// the fault that `Tables::new` answers, since it checks the flat indexes first. The only other answer
+/// is that memory was refused.
+///
+/// The work is near linear: a pass over each index for its runs, and for each order one over the index
+/// and one over all scalar values up to U+FFFF, in Big5 up to U+2FFFF. While an order is made, a table
+/// of these takes 4 bytes each.
+pub fn pack(alloc: Global, indexes: &Indexes<'_>) -> Result<OwnedPacked, AllocError>
+    ensures { IfOk result (IsPackOf (flat_indexes indexes.now)) }
+{
+    let big5 = wide_runs(alloc, 19782, indexes.big5)?;
+    let euc_kr = narrow_runs(alloc, 23940, indexes.euc_kr)?;
+    let jis0208 = narrow_runs(alloc, 11280, indexes.jis0208)?;
+    let jis0212 = narrow_runs(alloc, 8836, indexes.jis0212)?;
+    let gb18030 = narrow_runs(alloc, 23940, indexes.gb18030)?;
+    let big5_order = wide_order(alloc, PackedPart::Big5Order, indexes.big5)?;
+    let euc_kr_order = narrow_order(alloc, PackedPart::EucKrOrder, indexes.euc_kr)?;
+    let shift_jis_order = narrow_order(alloc, PackedPart::ShiftJisOrder, indexes.jis0208)?;
+    let euc_jp_order = narrow_order(alloc, PackedPart::EucJpOrder, indexes.jis0208)?;
+    let gb18030_order = narrow_order(alloc, PackedPart::Gb18030Order, indexes.gb18030)?;
+    Ok(OwnedPacked {
+        big5,
+        euc_kr,
+        jis0208,
+        jis0212,
+        gb18030,
+        big5_order,
+        euc_kr_order,
+        shift_jis_order,
+        euc_jp_order,
+        gb18030_order,
+    })
+}
+
+#[cfg(test)]
+mod tests;

@@ -1,0 +1,64 @@
+//! The entries of a flat index, wide or narrow, read one at a time.
+ghost use Rattle.std.specs.Prelude.{◌≡◌, ℕ, ◌<◌, ◌≤◌, List, length, slice_index};
+
+/// The entries of a flat index by pointer.
+pub(crate) trait Entries {
+    ghost entries: { Self → List ℕ };
+
+    /// How many there are.
+    fn count(&self) -> usize
+        ensures { result ≡ length (entries self.now) };
+
+    /// The entry of a pointer.
+    fn entry(&self, pointer: usize) -> u32
+        requires { pointer < length (entries self.now) }
+        ensures { result ≡ slice_index (entries self.now) pointer };
+}
+
+/// The entries of an index with scalars past U+FFFF.
+#[derive(Drop)]
+pub(crate) struct Wide<'a> {
+    pub(crate) entries: &'a [u32],
+}
+
+impl<'a> Entries for Wide<'a> {
+    ghost entries = { λ s. s.entries.now };
+
+    fn count(&self) -> usize {
+        self.entries.len()
+    }
+
+    fn entry(&self, pointer: usize) -> u32 {
+        self.entries[pointer]
+    }
+}
+
+/// The entries of the other indexes.
+#[derive(Drop)]
+pub(crate) struct Narrow<'a> {
+    pub(crate) entries: &'a [u16],
+}
+
+impl<'a> Entries for Narrow<'a> {
+    ghost entries = { λ s. s.entries.now };
+
+    fn count(&self) -> usize {
+        self.entries.len()
+    }
+
+    fn entry(&self, pointer: usize) -> u32 {
+        u32::from(self.entries[pointer])
+    }
+}
+
+/// The entries below a limit of pointers.
+pub(crate) fn below<T>(limit: usize, entries: &[T]) -> &[T]
+    ensures few { length result.now ≤ limit }
+    ensures all { length entries.now ≤ limit → result.now ≡ entries.now }
+{
+    if entries.len() > limit {
+        &entries[..limit]
+    } else {
+        entries
+    }
+}

@@ -1,0 +1,89 @@
+//! The runs of a flat index.
+ghost use Rattle.std.specs.Prelude.{◌≡◌, ◌≢◌, ℕ, ◌+◌, ◌<◌, ◌≤◌, IfOk, length, slice_index};
+ghost use Rattle.legacy_index_files.specs.Packing.{GivesIndex, AreLongest};
+
+use super::entries::{Entries, Narrow, Wide, below};
+use legacy_base::Run;
+use std::alloc::{AllocError, Global};
+
+/// How many pointers from one on have scalar values in a row, among those before the end.
+fn run_length<E: Entries>(index: &E, pointer: usize, end: usize) -> usize
+    requires starts { pointer < end }
+    requires within { end ≤ length (E.entries index.now) }
+    requires few { end < 65536 }
+    ensures some { 0 < result }
+    ensures within { pointer + result ≤ end }
+    ensures row { (k : ℕ) → k < result → slice_index (E.entries index.now) (pointer + k)
+        ≡ slice_index (E.entries index.now) pointer + k }
+    ensures longest { pointer + result < end →
+        slice_index (E.entries index.now) (pointer + result)
+        ≢ slice_index (E.entries index.now) pointer + result }
+{
+    let scalar = index.entry(pointer) as usize;
+    for next in pointer + 1..end {
+        if index.entry(next) as usize != scalar + (next - pointer) {
+            return next - pointer;
+        }
+    }
+    end - pointer
+}
+
+/// The runs of an index, each as long as it can be.
+fn runs_of<E: Entries>(alloc: Global, limit: usize, index: &E) -> Result<Vec<Run>, AllocError>
+    requires small { limit ≤ 23940 }
+    requires few { length (E.entries index.now) ≤ limit }
+    ensures index { IfOk result (λ runs. GivesIndex limit (E.entries index.now) runs.items) }
+    ensures longest { IfOk result (λ runs. AreLongest runs.items) }
+{
+    let mut runs = Vec::new(alloc);
+    let mut pointer = 0;
+    while pointer < index.count() {
+        let scalar = index.entry(pointer);
+        if scalar == 0 {
+            pointer += 1;
+        } else {
+            let length = run_length(index, pointer, index.count());
+            runs.push(Run {
+                scalar,
+                pointer: pointer as u16,
+                length: length as u16,
+            })?;
+            pointer += length;
+        }
+    }
+    Ok(runs)
+}
+
+/// The runs of index Big5.
+pub(crate) fn wide_runs(
+    alloc: Global,
+    limit: usize,
+    entries: &[u32],
+) -> Result<Vec<Run>, AllocError>
+    requires { limit ≤ 23940 }
+    ensures index { IfOk result (λ runs. length entries.now ≤ limit →
+        GivesIndex limit entries.now runs.items) }
+    ensures longest { IfOk result (λ runs. AreLongest runs.items) }
+{
+    let index = Wide {
+        entries: below(limit, entries),
+    };
+    runs_of(alloc, limit, &index)
+}
+
+/// The runs of another index.
+pub(crate) fn narrow_runs(
+    alloc: Global,
+    limit: usize,
+    entries: &[u16],
+) -> Result<Vec<Run>, AllocError>
+    requires { limit ≤ 23940 }
+    ensures index { IfOk result (λ runs. length entries.now ≤ limit →
+        GivesIndex limit entries.now runs.items) }
+    ensures longest { IfOk result (λ runs. AreLongest runs.items) }
+{
+    let index = Narrow {
+        entries: below(limit, entries),
+    };
+    runs_of(alloc, limit, &index)
+}

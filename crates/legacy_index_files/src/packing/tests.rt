@@ -1,0 +1,207 @@
+use crate::{FileIndex, OwnedIndexes, PackedIndexes, pack};
+use legacy_base::{IndexName, Indexes, KeptTables, Packed, Tables};
+use std::process::Abort;
+use std::test::Fail;
+
+fn no_entries<'a>() -> Indexes<'a> {
+    Indexes {
+        big5: &[],
+        euc_kr: &[],
+        jis0208: &[],
+        jis0212: &[],
+        gb18030: &[],
+        katakana: &[],
+        ranges: &[],
+        gb18030_pua: &[],
+    }
+}
+
+/// Asserts that packed indexes have no fault of their own beside indexes.
+fn has_no_own_fault<'a>(rt: &impl Abort, indexes: &Indexes<'a>, packed: &Packed<'a>) {
+    let came = Tables::packed_of(indexes, packed).err();
+    let wanted = Tables::new(indexes).err();
+    assert!(rt; came == wanted, "came {came:?}, wanted {wanted:?}");
+}
+
+/// Entries of index EUC-KR, their runs, and the pointers by scalar values.
+type Row<'a> = (&'a [u16], &'a [(u16, u32, u16)], &'a [u16]);
+
+const ROWS: &[Row] = &[
+    (&[], &[], &[]),
+    (&[0, 0], &[], &[]),
+    (
+        &[0xAC02, 0xAC03, 0, 0xAC05],
+        &[(0, 0xAC02, 2), (3, 0xAC05, 1)],
+        &[0, 1, 3],
+    ),
+    // no pointer after the last one that is mapped
+    (&[0, 0xAC02, 0], &[(1, 0xAC02, 1)], &[1]),
+    // scalars that fall, and one that stands twice
+    (
+        &[0xAC05, 0xAC04, 0xAC05],
+        &[(0, 0xAC05, 1), (1, 0xAC04, 2)],
+        &[1, 0],
+    ),
+    // a scalar again and again
+    (
+        &[0xAC02, 0xAC02, 0xAC02],
+        &[(0, 0xAC02, 1), (1, 0xAC02, 1), (2, 0xAC02, 1)],
+        &[0],
+    ),
+    // no run goes on over the surrogates, or past U+FFFF
+    (
+        &[0xFFFF, 0xD7FF, 0xE000, 0xE001],
+        &[(0, 0xFFFF, 1), (1, 0xD7FF, 1), (2, 0xE000, 2)],
+        &[1, 2, 3, 0],
+    ),
+];
+
+#[test]
+fn runs_and_orders_of_an_index(rt: HostRuntime) {
+    for (entries, runs, order) in ROWS {
+        let mut indexes = no_entries();
+        indexes.euc_kr = entries;
+        let made = pack(rt.alloc(), &indexes).expect(&rt, "no memory");
+        has_no_own_fault(&rt, &indexes, &made.packed());
+        assert!(rt; made.euc_kr.len() == runs.len(), "came {:?}", made.euc_kr);
+        for (run, wanted) in made.euc_kr.iter().zip(*runs) {
+            let came = (run.pointer, run.scalar, run.length);
+            assert!(rt; came == *wanted, "came {came:?}, wanted {wanted:?}");
+        }
+        assert!(rt;
+            made.euc_kr_order.as_slice() == *order,
+            "came {:?}",
+            made.euc_kr_order
+        );
+    }
+}
+
+/// Places of index jis0208 with their scalar values, and the pointers that Shift_JIS and EUC-JP take.
+type Jis<'a> = (&'a [(usize, u16)], &'a [u16], &'a [u16]);
+
+const JIS: &[Jis] = &[
+    (&[(8647, 0xFF02), (10739, 0xFF02)], &[10739], &[8647]),
+    // NEC's selection is from 8272 to 8835
+    (&[(8271, 0xFF02)], &[8271], &[8271]),
+    (&[(8272, 0xFF02)], &[], &[8272]),
+    (&[(8835, 0xFF02)], &[], &[8835]),
+    // EUC-JP's forms end before 8836
+    (&[(10716, 0xFF02)], &[10716], &[]),
+];
+
+#[test]
+fn two_orders_of_jis0208(rt: HostRuntime) {
+    for (places, shift_jis, euc_jp) in JIS {
+        let mut entries = [0u16; 11280];
+        for (pointer, scalar) in *places {
+            if let Some(entry) = entries.get_mut(*pointer) {
+                *entry = *scalar;
+            }
+        }
+        let mut indexes = no_entries();
+        indexes.jis0208 = &entries;
+        let made = pack(rt.alloc(), &indexes).expect(&rt, "no memory");
+        has_no_own_fault(&rt, &indexes, &made.packed());
+        assert!(rt; made.jis0208.len() == places.len());
+        assert!(rt;
+            made.shift_jis_order.as_slice() == *shift_jis,
+            "came {:?}",
+            made.shift_jis_order
+        );
+        assert!(rt;
+            made.euc_jp_order.as_slice() == *euc_jp,
+            "came {:?}",
+            made.euc_jp_order
+        );
+    }
+}
+
+/// Places of index Big5 with their scalar values, and the pointers that Big5 takes.
+type Big5<'a> = (&'a [(usize, u32)], &'a [u16]);
+
+const BIG5: &[Big5] = &[
+    // of six scalars the last one, of others the first
+    (&[(5247, 0x2550), (18991, 0x2550)], &[18991]),
+    (&[(5247, 0x2551), (18991, 0x2551)], &[5247]),
+    (&[(5247, 0x5345), (18991, 0x5345)], &[18991]),
+    // none below 5024
+    (&[(5023, 0x4E00)], &[]),
+    (&[(5023, 0x2550), (5024, 0x2550)], &[5024]),
+    // scalars past U+FFFF
+    (
+        &[(5024, 0x2_FFFF), (5026, 0x2_008A), (5028, 0x4E00)],
+        &[5028, 5026, 5024],
+    ),
+];
+
+#[test]
+fn an_order_of_big5(rt: HostRuntime) {
+    for (places, order) in BIG5 {
+        let mut entries = [0u32; 19782];
+        for (pointer, scalar) in *places {
+            if let Some(entry) = entries.get_mut(*pointer) {
+                *entry = *scalar;
+            }
+        }
+        let mut indexes = no_entries();
+        indexes.big5 = &entries;
+        let made = pack(rt.alloc(), &indexes).expect(&rt, "no memory");
+        has_no_own_fault(&rt, &indexes, &made.packed());
+        assert!(rt;
+            made.big5_order.as_slice() == *order,
+            "came {:?}",
+            made.big5_order
+        );
+    }
+}
+
+/// Entries of index Big5 that are refused, and are packed all the same.
+const REFUSED: &[&[u32]] = &[
+    &[0x41],
+    &[0xD800, 0xD801],
+    &[0x11_0000],
+    &[u32::MAX - 1, u32::MAX, 0, u32::MAX],
+    &[0x4E00; 65537],
+];
+
+#[test]
+fn indexes_that_are_refused_are_packed_too(rt: HostRuntime) {
+    for entries in REFUSED {
+        let mut indexes = no_entries();
+        indexes.big5 = entries;
+        let made = pack(rt.alloc(), &indexes).expect(&rt, "no memory");
+        has_no_own_fault(&rt, &indexes, &made.packed());
+    }
+}
+
+#[test]
+fn an_owning_set_makes_packed_tables(rt: HostRuntime) -> Result<(), Fail> {
+    let text = b"0 0xAC02\n1 0xAC03\n3 0xAC05\n";
+    let mut owned = OwnedIndexes::new(rt.alloc());
+    owned.read(rt.alloc(), FileIndex::EucKr, text)?;
+    let packed = PackedIndexes::new(rt.alloc(), owned)?;
+    let tables = packed.tables()?;
+    assert!(rt; matches!(tables.kept(), KeptTables::Packed(_)));
+    assert!(rt; tables.idx(IndexName::EucKr, 1) == Some('\u{AC03}'));
+    assert!(rt; tables.idx(IndexName::EucKr, 2) == None);
+    assert!(rt; tables.euc_kr_pointer('\u{AC05}') == Some(3));
+    Ok(())
+}
+
+// In a run where one allocation is refused, whichever it is, the call that asked for it answers so, and
+// every other one what it makes.
+#[test]
+fn answers_memory_only_where_a_growth_is_refused(rt: HostRuntime) {
+    let mut refused = false;
+    for _ in 0..3 {
+        let mut indexes = no_entries();
+        indexes.euc_kr = &[0xAC02, 0, 0xAC05];
+        match pack(rt.alloc(), &indexes) {
+            Ok(made) => assert!(rt; made.euc_kr.len() == 2 && made.euc_kr_order.len() == 2),
+            Err(_) => {
+                assert!(rt; !refused);
+                refused = true;
+            }
+        }
+    }
+}

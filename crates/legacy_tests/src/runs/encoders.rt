@@ -1,0 +1,191 @@
+//! Runs of encoders: one table of cases, whole and in every cut, into outputs of every small length.
+use crate::encode_events::Wanted::{Bytes, Report};
+use crate::encoder_rows::EncoderRow::{
+    Encoder, Encodes, FromUtf8, Pending, RefusedRuns, RunFromUtf8, RunFromUtf16,
+};
+use crate::encoder_rows::{EncoderRow, follow_encoder};
+use crate::indexes::{
+    byte_table_of, entries_of, no_entries, no_parts, packed_tables_of, run, tables_of,
+};
+use legacy_base::EncoderResult::InputEmpty;
+use legacy_base::{Indexes, Packed, Tables};
+use legacy_codecs::RunError;
+use legacy_encoders::{
+    Big5Encoder, EucJpEncoder, EucKrEncoder, Gb18030Encoder, Iso2022JpEncoder, ShiftJisEncoder,
+    SingleByteEncoder, UserDefinedEncoder,
+};
+use std::process::Abort;
+
+/// An encoder.
+#[derive(Clone, Copy)]
+enum Codec {
+    Big5,
+    EucKr,
+    ShiftJis,
+    EucJp,
+    Gb18030,
+    Iso2022Jp,
+    SingleByte,
+    UserDefined,
+}
+
+/// The cases, with U+AC02 at pointer 0 of index EUC-KR, the private-use rows of the standard, U+0391 at place 65 of
+/// the single-byte table, and no other scalar in any index.
+const CASES: &[(Codec, &[EncoderRow])] = &[
+    (
+        Codec::Iso2022Jp,
+        &[
+            Encoder("ASCII, the yen sign, and a reverse solidus"),
+            Encodes("a\u{A5}\x5C", &[Bytes(b"a\x1B(J\x5C\x1B(B\x5C")]),
+            Encoder("two bytes are no room for any act"),
+            RunFromUtf8(&["a\u{A5}\x5C"], &[2, 2, 2, 2, 2], &[], 5, false),
+            Encoder("nor are they from UTF-16"),
+            RunFromUtf16(&[&[0x61, 0xA5, 0x5C]], &[2, 2, 2, 2, 2], &[], 5, false),
+            Encoder("the mode goes on from one piece to the next"),
+            RunFromUtf8(
+                &["a", "\u{A5}"],
+                &[3, 8],
+                &[Bytes(b"a\x1B(J\x5C\x1B(B")],
+                2,
+                true,
+            ),
+            Encoder("a run that ends before the last escape is not finished"),
+            RunFromUtf8(
+                &["a", "\u{A5}"],
+                &[3, 5, 3],
+                &[Bytes(b"a\x1B(J\x5C")],
+                3,
+                false,
+            ),
+            Encoder("a run that is refused leaves the mode"),
+            FromUtf8("\u{A5}", 8, false, InputEmpty, 2, b"\x1B(J\x5C"),
+            RefusedRuns(usize::MAX - 1, &RunError::Memory),
+            RefusedRuns(usize::MAX, &RunError::TooLong),
+            Pending(true),
+            FromUtf8("", 8, true, InputEmpty, 0, b"\x1B(B"),
+        ],
+    ),
+    (
+        Codec::Gb18030,
+        &[
+            Encoder("a private-use row, and a scalar past U+FFFF"),
+            Encodes("\u{E843}\u{1F4A9}", &[Bytes(b"\xFE\x7E\x94\x39\xDA\x33")]),
+            Encoder("each piece of UTF-16 is read by itself"),
+            RunFromUtf16(
+                &[&[0xD83D], &[0xDCA9]],
+                &[4, 4, 4, 4],
+                &[Report('\u{FFFD}'), Report('\u{FFFD}')],
+                4,
+                true,
+            ),
+            Encoder("a pair in one piece is one scalar"),
+            RunFromUtf16(
+                &[&[0xD83D, 0xDCA9]],
+                &[4, 4, 4, 4],
+                &[Bytes(b"\x94\x39\xDA\x33")],
+                1,
+                true,
+            ),
+        ],
+    ),
+    (
+        Codec::EucJp,
+        &[
+            Encoder("a half-width katakana, and the overline"),
+            Encodes("\u{FF61}\u{203E}", &[Bytes(b"\x8E\xA1\x7E")]),
+        ],
+    ),
+    (
+        Codec::ShiftJis,
+        &[
+            Encoder("a control, and a half-width katakana"),
+            Encodes("\u{80}\u{FF9F}", &[Bytes(b"\x80\xDF")]),
+        ],
+    ),
+    (
+        Codec::Big5,
+        &[
+            Encoder("a scalar that the index lacks"),
+            Encodes("\u{4E00}", &[Report('\u{4E00}')]),
+        ],
+    ),
+    (
+        Codec::EucKr,
+        &[
+            Encoder("a scalar of the index"),
+            Encodes("\u{AC02}", &[Bytes(b"\x81\x41")]),
+        ],
+    ),
+    (
+        Codec::UserDefined,
+        &[
+            Encoder("a byte past ASCII, and a scalar that has none"),
+            Encodes("\u{F7FF}\u{80}", &[Bytes(b"\xFF"), Report('\u{80}')]),
+            Encoder("what is unread goes in again, and a small output is followed by the next"),
+            RunFromUtf8(&["\u{F780}a"], &[0, 1, 1], &[Bytes(b"\x80a")], 3, true),
+            Encoder("the same from UTF-16"),
+            RunFromUtf16(&[&[0xF780, 0x61]], &[0, 1, 1], &[Bytes(b"\x80a")], 3, true),
+            Encoder("without room the run is not finished"),
+            RunFromUtf8(&["\u{F780}"], &[0], &[], 1, false),
+            Encoder("a scalar that has no byte ends its call"),
+            RunFromUtf8(
+                &["a\u{80}b"],
+                &[4, 4],
+                &[Bytes(b"a"), Report('\u{80}'), Bytes(b"b")],
+                2,
+                true,
+            ),
+            Encoder("without lengths there is no call"),
+            RunFromUtf8(&["a"], &[], &[], 0, false),
+            Encoder("no pieces are one empty piece"),
+            RunFromUtf8(&[], &[0], &[], 1, true),
+            Encoder("no pieces are one empty piece of UTF-16 too"),
+            RunFromUtf16(&[], &[0], &[], 1, true),
+            Encoder("lengths that have no sum are refused"),
+            RefusedRuns(usize::MAX, &RunError::TooLong),
+        ],
+    ),
+    (
+        Codec::SingleByte,
+        &[
+            Encoder("a scalar of the table"),
+            Encodes("\u{391}", &[Bytes(b"\xC1")]),
+        ],
+    ),
+];
+
+/// Follows the rows with an encoder over these tables.
+fn encodes(rt: &(impl AllocGlobal + Abort), tables: &Tables, codec: Codec, rows: &[EncoderRow]) {
+    match codec {
+        Codec::Big5 => follow_encoder::<Big5Encoder>(rt, tables, rows),
+        Codec::EucKr => follow_encoder::<EucKrEncoder>(rt, tables, rows),
+        Codec::ShiftJis => follow_encoder::<ShiftJisEncoder>(rt, tables, rows),
+        Codec::EucJp => follow_encoder::<EucJpEncoder>(rt, tables, rows),
+        Codec::Gb18030 => follow_encoder::<Gb18030Encoder>(rt, (tables, true), rows),
+        Codec::Iso2022Jp => follow_encoder::<Iso2022JpEncoder>(rt, tables, rows),
+        Codec::SingleByte => {
+            let table = byte_table_of(rt, &entries_of(&[(65, 0x391), (116, 0x3C4)]));
+            follow_encoder::<SingleByteEncoder>(rt, (&table, 0x391, 65, 1), rows);
+        }
+        Codec::UserDefined => follow_encoder::<UserDefinedEncoder>(rt, (), rows),
+    }
+}
+
+#[test]
+fn runs_of_encoders_give_the_same_events_in_every_cut(rt: HostRuntime) {
+    let indexes = Indexes {
+        euc_kr: &[0xAC02],
+        ..no_entries()
+    };
+    let packed = Packed {
+        euc_kr: &[run!(0, 0xAC02, 1)],
+        euc_kr_order: &[0],
+        ..no_parts()
+    };
+    let flat = tables_of(&rt, &indexes);
+    let packed = packed_tables_of(&rt, &indexes, &packed);
+    for (codec, rows) in CASES {
+        encodes(&rt, &flat, *codec, rows);
+        encodes(&rt, &packed, *codec, rows);
+    }
+}
