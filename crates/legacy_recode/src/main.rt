@@ -3,6 +3,7 @@
 #![tactic(auto)]
 
 mod given_indexes;
+mod line_parts;
 mod lines;
 mod pieces;
 pub mod program;
