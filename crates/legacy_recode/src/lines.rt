@@ -7,7 +7,7 @@ ghost use Rattle.legacy_base.specs.Texts.{unit_scalars};
 ghost use Rattle.legacy_recode.specs.Lines.{event_line, event_lines};
 
 use crate::line_parts::{HEADS, TAILS};
-use crate::pieces::write_whole;
+use crate::pieces::{rest_of, write_whole};
 use legacy_codecs::{DecodeEvent, Source, Utf16Source};
 use std::io::{self, Write};
 
@@ -32,11 +32,25 @@ pub const CALL_LINES: usize = BATCH * SCALAR_LINE + BAD_LINE;
 /// The bytes of the array: the lines of a piece without a malformed sequence have room in it, with those of one call more.
 pub const CAPACITY: usize = 40960;
 
+/// The digits of a number in decimal, at the front of an array.
+#[derive(Drop)]
+struct Decimal {
+    number: usize,
+    digits: [u8; DIGITS],
+    count: usize,
+    ghost within: { count ≤ length digits },
+    ghost front: { take count digits ≡ decimal number },
+}
+
 /// Lines that are made in an array, to be written at once.
+///
+/// Malformed sequences are mostly near one another. So the digits of a place but the last two are kept, and the next
+/// line takes them as they are where its place has the same ones.
 #[derive(Drop)]
 pub struct LineBuffer {
     bytes: [u8; CAPACITY],
     filled: usize,
+    hundreds: Decimal,
     ghost in_range: { filled ≤ length bytes },
 }
 
@@ -132,6 +146,41 @@ fn put_digits(digits: &mut [u8; DIGITS], number: usize) -> usize
     place
 }
 
+/// Stores a whole array of digits from the place `at` on.
+#[inline(always)]
+fn store_digits(bytes: &mut [u8], at: usize, digits: [u8; DIGITS])
+    requires { at + DIGITS ≤ length bytes.old }
+    ensures { (n : ℕ) → n ≤ DIGITS → take (at + n) bytes.new ≡ take at bytes.old ++ take n digits }
+{
+    bytes[at..at + DIGITS].copy_from_slice(&digits);
+}
+
+/// The digits, at the front of an array.
+fn at_front(digits: &[u8]) -> [u8; DIGITS]
+    requires { length digits.now ≤ DIGITS }
+    ensures { take (length digits.now) result ≡ digits.now }
+{
+    let mut front = [b'0'; DIGITS];
+    front[..digits.len()].copy_from_slice(digits);
+    front
+}
+
+impl Decimal {
+    /// The digits of the number.
+    fn new(number: usize) -> Decimal
+        ensures { result.number ≡ number }
+    {
+        let mut digits = [b'0'; DIGITS];
+        let place = put_digits(&mut digits, number);
+        let all = rest_of(&digits, place);
+        Decimal {
+            number,
+            digits: at_front(all),
+            count: all.len(),
+        }
+    }
+}
+
 impl LineBuffer {
     ghost use Rattle.legacy_recode.specs.LineBuffers.{line_bytes, line_room};
 
@@ -142,6 +191,7 @@ impl LineBuffer {
         LineBuffer {
             bytes: [0; CAPACITY],
             filled: 0,
+            hundreds: Decimal::new(0),
         }
     }
 
@@ -208,6 +258,48 @@ impl LineBuffer {
         let mut digits = [b'0'; DIGITS];
         let first = put_digits(&mut digits, number);
         self.push_all(&digits[first..]);
+    }
+
+    /// Keeps the digits of the number, if they are not kept already.
+    #[inline]
+    fn keep_hundreds(&mut self, number: usize)
+        ensures number { self.new.hundreds.number ≡ number }
+        ensures text { line_bytes self.new ≡ line_bytes self.old }
+        ensures room { line_room self.new ≡ line_room self.old }
+    {
+        if self.hundreds.number == number {
+            return;
+        }
+        self.hundreds = Decimal::new(number);
+    }
+
+    /// Puts the kept digits behind the other bytes.
+    // All of the array is stored: its length is known.
+    #[inline]
+    fn push_hundreds(&mut self)
+        requires { DIGITS ≤ line_room self.old }
+        ensures text { line_bytes self.new ≡ line_bytes self.old ++ decimal self.old.hundreds.number }
+        ensures room { line_room self.new + length (decimal self.old.hundreds.number) ≡ line_room self.old }
+    {
+        store_digits(&mut self.bytes, self.filled, self.hundreds.digits);
+        self.filled += self.hundreds.count;
+    }
+
+    /// Puts the digits of a place behind the other bytes.
+    #[inline]
+    #[tactic(auto, using(crate::proofs::EventLines::decimal_lengths))]
+    fn push_place(&mut self, place: usize)
+        requires { DIGITS + 2 ≤ line_room self.old }
+        ensures text { line_bytes self.new ≡ line_bytes self.old ++ decimal place }
+        ensures room { line_room self.new + length (decimal place) ≡ line_room self.old }
+    {
+        if place < 100 {
+            return self.push_decimal(place);
+        }
+        self.keep_hundreds(place / 100);
+        self.push_hundreds();
+        let rest = place % 100;
+        self.push_all(&[b'0' + (rest / 10) as u8, b'0' + (rest % 10) as u8]);
     }
 
     /// Puts the line of a scalar behind the others.
@@ -282,6 +374,7 @@ impl LineBuffer {
     }
 
     /// Puts the line of a malformed sequence behind the others.
+    #[inline]
     #[tactic(auto, using(crate::proofs::EventLines::decimal_lengths))]
     pub fn push_bad(&mut self, place: usize, length_in_bytes: usize)
         requires { BAD_LINE ≤ line_room self.old }
@@ -289,7 +382,7 @@ impl LineBuffer {
             ++ event_line (DecodeEvent.Bad place length_in_bytes) }
     {
         self.push_all(b"bad ");
-        self.push_decimal(place);
+        self.push_place(place);
         self.push_all(b" ");
         self.push_decimal(length_in_bytes);
         self.push_all(b"\n");
