@@ -1,10 +1,11 @@
-//! Times the program `legacy_recode`: the processor time of whole runs over a long input.
+//! Times the program `legacy_recode`: the processor time of whole runs over a long input, and that of `iconv` and of
+//! `uconv` where they do the same.
 
 use crate::{corpora, indexes};
 use encoding_rs::{Encoding, SHIFT_JIS};
 use std::fmt::Write as _;
 use std::fs::File;
-use std::io::{self, Write as _};
+use std::io::{self, Read as _, Write as _};
 use std::path::Path;
 use std::process::{Command, Output, Stdio};
 use std::time::Duration;
@@ -21,14 +22,35 @@ const SHORT: &str = concat!(env!("CARGO_MANIFEST_DIR"), "/../target/recode-short
 /// The corpus repeated, on which the program is timed.
 const LONG: &str = concat!(env!("CARGO_MANIFEST_DIR"), "/../target/recode-long.txt");
 
-/// How many bytes the long input has at least.
-const LEAST: usize = 100_000_000;
+/// Bytes FF, each of which is malformed in Big5.
+const MALFORMED: &str = concat!(env!("CARGO_MANIFEST_DIR"), "/../target/recode-malformed.txt");
+
+/// How many bytes the long input has at least, and how many malformed ones there are.
+const LEAST: usize = 200_000_000;
+
+/// On how many malformed bytes the output is compared.
+const FEW_MALFORMED: usize = 200_000;
 
 /// How many times each run is timed.
-const TIMES: usize = 12;
+const TIMES: usize = 8;
 
 /// The words of each run, where FILE stands for the index file. The first is a label of the encoding too.
 const REQUESTS: &[&[&str]] = &[&["shift_jis", "jis0208", "FILE"], &["x-user-defined"]];
+
+/// A run that writes the text of the long input, in Shift_JIS, as UTF-8.
+struct TextRun {
+    program: &'static str,
+    /// The Debian package that has it.
+    package: &'static str,
+    words: &'static [&'static str],
+}
+
+/// The runs that write text, which are timed in turn. The first is the program's.
+const TEXT_RUNS: &[TextRun] = &[
+    TextRun { program: PROGRAM, package: "", words: &["--text", "shift_jis", "jis0208", "FILE"] },
+    TextRun { program: "iconv", package: "libc-bin", words: &["-f", "SHIFT_JIS", "-t", "UTF-8"] },
+    TextRun { program: "uconv", package: "icu-devtools", words: &["-f", "Shift_JIS", "-t", "UTF-8"] },
+];
 
 /// How many lines and bytes are written.
 struct Size {
@@ -79,27 +101,39 @@ fn write_repeated(path: &str, bytes: &[u8], repeats: usize) -> io::Result<()> {
     Ok(())
 }
 
-/// Makes the index file and both inputs. Answers the corpus and how often the long input has it.
+/// Makes the index file and the inputs. Answers the corpus and how often the long input has it.
 fn make_files() -> Result<(Vec<u8>, usize), String> {
     let pages = corpora::html("ja-JP").map_err(|error| format!("ja-JP: {error}"))?;
     let corpus = corpora::encode_once(SHIFT_JIS, &pages);
     let repeats = LEAST.div_ceil(corpus.len());
-    for (path, bytes, repeats) in [(INDEX, index_text().as_bytes(), 1), (SHORT, &corpus, 1), (LONG, &corpus, repeats)] {
+    let malformed = vec![0xFF; FEW_MALFORMED];
+    let index = index_text();
+    let files: [(&str, &[u8], usize); 4] = [
+        (INDEX, index.as_bytes(), 1),
+        (SHORT, &corpus, 1),
+        (LONG, &corpus, repeats),
+        (MALFORMED, &malformed, LEAST / FEW_MALFORMED),
+    ];
+    for (path, bytes, repeats) in files {
         write_repeated(path, bytes, repeats).map_err(|error| format!("{path}: {error}"))?;
     }
     Ok((corpus, repeats))
 }
 
-/// Runs the program to its end with the file as its input. It has to end with status 0 and to tell no error.
-fn run(words: &[&str], input: &str, output: Stdio) -> Result<Output, String> {
-    let file = File::open(input).map_err(|error| format!("{input}: {error}"))?;
+/// Runs a program to its end with the input. It has to end with status 0 and to tell no error.
+fn run(program: &str, words: &[&str], input: Stdio, output: Stdio) -> Result<Output, String> {
     let words = words.iter().map(|word| if *word == "FILE" { INDEX } else { word });
-    let child = Command::new(PROGRAM).args(words).stdin(file).stdout(output).stderr(Stdio::piped()).spawn();
-    let ended = child.and_then(|child| child.wait_with_output()).map_err(|error| format!("{PROGRAM}: {error}"))?;
+    let child = Command::new(program).args(words).stdin(input).stdout(output).stderr(Stdio::piped()).spawn();
+    let ended = child.and_then(|child| child.wait_with_output()).map_err(|error| format!("{program}: {error}"))?;
     if !ended.status.success() || !ended.stderr.is_empty() {
-        return Err(format!("{PROGRAM}: {}: {}", ended.status, String::from_utf8_lossy(&ended.stderr)));
+        return Err(format!("{program}: {}: {}", ended.status, String::from_utf8_lossy(&ended.stderr)));
     }
     Ok(ended)
+}
+
+/// The file, as the input of a program.
+fn input(path: &str) -> Result<Stdio, String> {
+    File::open(path).map(Stdio::from).map_err(|error| format!("{path}: {error}"))
 }
 
 /// The lines of encoding_rs's scalars.
@@ -112,35 +146,45 @@ fn wanted_lines(encoding: &'static Encoding, src: &[u8]) -> Result<String, Strin
     Ok(lines)
 }
 
-/// Compares what the program writes of the corpus with the lines of encoding_rs's scalars.
-fn compare(words: &[&str], corpus: &[u8]) -> Result<Size, String> {
-    let encoding = Encoding::for_label(words[0].as_bytes()).ok_or("no such encoding")?;
-    let wanted = wanted_lines(encoding, corpus)?;
-    let written = run(words, SHORT, Stdio::piped())?.stdout;
-    let size = Size { lines: wanted.lines().count(), bytes: wanted.len() };
-    if written == wanted.as_bytes() {
-        return Ok(size);
+/// The first difference between what was written and what is wanted.
+fn compare(written: &[u8], wanted: &[u8]) -> Result<(), String> {
+    if written == wanted {
+        return Ok(());
     }
-    let same = written.iter().zip(wanted.as_bytes()).take_while(|(ours, theirs)| ours == theirs).count();
-    let line = wanted[..same].matches('\n').count() + 1;
-    Err(format!("{} bytes, not {}; first difference in line {line}", written.len(), size.bytes))
+    let same = written.iter().zip(wanted).take_while(|(ours, theirs)| ours == theirs).count();
+    let line = wanted[..same].iter().filter(|byte| **byte == b'\n').count() + 1;
+    Err(format!("{} bytes, not {}; first difference in line {line}", written.len(), wanted.len()))
 }
 
-/// The least processor time of some runs over the long input.
-fn best_time(words: &[&str]) -> Result<Duration, String> {
+/// Compares what the program writes of the corpus with the lines of encoding_rs's scalars.
+fn compare_lines(words: &[&str], corpus: &[u8]) -> Result<Size, String> {
+    let encoding = Encoding::for_label(words[0].as_bytes()).ok_or("no such encoding")?;
+    let wanted = wanted_lines(encoding, corpus)?;
+    let written = run(PROGRAM, words, input(SHORT)?, Stdio::piped())?.stdout;
+    compare(&written, wanted.as_bytes())?;
+    Ok(Size { lines: wanted.lines().count(), bytes: wanted.len() })
+}
+
+/// The processor time of one run, whose output is thrown away.
+fn time(program: &str, words: &[&str], path: &str) -> Result<Duration, String> {
+    let start = children_time();
+    run(program, words, input(path)?, Stdio::null())?;
+    Ok(children_time() - start)
+}
+
+/// The least processor time of some runs of the program.
+fn best_time(words: &[&str], path: &str) -> Result<Duration, String> {
     let mut least = Duration::MAX;
     for _ in 0..TIMES {
-        let start = children_time();
-        run(words, LONG, Stdio::null())?;
-        least = least.min(children_time() - start);
+        least = least.min(time(PROGRAM, words, path)?);
     }
     Ok(least)
 }
 
 /// One line of the table.
 fn line(words: &[&str], corpus: &[u8], repeats: usize) -> Result<(), String> {
-    let once = compare(words, corpus)?;
-    let seconds = best_time(words)?.as_secs_f64();
+    let once = compare_lines(words, corpus)?;
+    let seconds = best_time(words, LONG)?.as_secs_f64();
     let millions = |count: usize| (count * repeats) as f64 / 1e6;
     println!(
         "| {} | {:.1} | {:.1} | {seconds:.2} | {:.0} | {:.0} |",
@@ -153,10 +197,67 @@ fn line(words: &[&str], corpus: &[u8], repeats: usize) -> Result<(), String> {
     Ok(())
 }
 
-/// The table of the program's runs.
+/// The line of the run over malformed bytes, without an index. What is written of the first ones is compared with what
+/// the form of such lines says.
+fn malformed_line() -> Result<(), String> {
+    let words = ["big5"];
+    let mut first = File::open(MALFORMED).map_err(|error| format!("{MALFORMED}: {error}"))?;
+    let mut few = vec![0; FEW_MALFORMED];
+    first.read_exact(&mut few).map_err(|error| format!("{MALFORMED}: {error}"))?;
+    let few_path = format!("{MALFORMED}.few");
+    write_repeated(&few_path, &few, 1).map_err(|error| format!("{few_path}: {error}"))?;
+    let wanted: String = (0..FEW_MALFORMED).map(|at| format!("bad {at} 1\n")).collect();
+    let written = run(PROGRAM, &words, input(&few_path)?, Stdio::piped())?.stdout;
+    compare(&written, wanted.as_bytes())?;
+    let seconds = best_time(&words, MALFORMED)?.as_secs_f64();
+    let bytes: usize = (0..LEAST).map(|at| 7 + at.checked_ilog10().unwrap_or(0) as usize + 1).sum();
+    let millions = |count: usize| count as f64 / 1e6;
+    println!(
+        "| big5, bytes FF | {:.1} | {:.1} | {seconds:.2} | {:.0} | {:.0} |",
+        millions(LEAST),
+        millions(bytes),
+        millions(LEAST) / seconds,
+        millions(bytes) / seconds,
+    );
+    Ok(())
+}
+
+/// The table of the runs that write text. What the program writes of the corpus is compared with what encoding_rs
+/// decodes; the others give some characters otherwise, and are only timed.
+fn text_table(corpus: &[u8], repeats: usize) -> Result<(), String> {
+    let wanted = SHIFT_JIS.decode_without_bom_handling(corpus).0;
+    let written = run(PROGRAM, TEXT_RUNS[0].words, input(SHORT)?, Stdio::piped())?.stdout;
+    compare(&written, wanted.as_bytes())?;
+    let mut least = vec![Duration::MAX; TEXT_RUNS.len()];
+    for _ in 0..TIMES {
+        for (best, text) in least.iter_mut().zip(TEXT_RUNS) {
+            *best = (*best).min(time(text.program, text.words, LONG)?);
+        }
+    }
+    println!("\n| to UTF-8 | processor time (s) | input MB/s |\n|---|---|---|");
+    for (best, text) in least.iter().zip(TEXT_RUNS) {
+        let name = text.program.rsplit('/').next().unwrap_or(text.program);
+        let seconds = best.as_secs_f64();
+        let speed = (corpus.len() * repeats) as f64 / 1e6 / seconds;
+        println!("| {name} {} | {seconds:.2} | {speed:.0} |", text.words.join(" "));
+    }
+    Ok(())
+}
+
+/// Whether a program can be run.
+fn is_there(program: &str) -> bool {
+    Command::new(program).arg("--version").stdout(Stdio::null()).stderr(Stdio::null()).status().is_ok()
+}
+
+/// The tables of the program's runs.
 pub fn table() -> Result<(), String> {
     if !Path::new(PROGRAM).is_file() {
         return Err(format!("missing: the program {PROGRAM} (rt run in its crate's folder builds it)"));
+    }
+    for TextRun { program, package, .. } in &TEXT_RUNS[1..] {
+        if !is_there(program) {
+            return Err(format!("missing: the program {program} (apt-get install {package})"));
+        }
     }
     let (corpus, repeats) = make_files()?;
     println!("| words | lines (millions) | bytes written (MB) | processor time (s) | input MB/s | output MB/s |");
@@ -164,5 +265,6 @@ pub fn table() -> Result<(), String> {
     for words in REQUESTS {
         line(words, &corpus, repeats).map_err(|error| format!("{}: {error}", words.join(" ")))?;
     }
-    Ok(())
+    malformed_line().map_err(|error| format!("big5: {error}"))?;
+    text_table(&corpus, repeats)
 }

@@ -59,6 +59,15 @@ length-decimal_more n h k = ap length (decimal_step n h k) ∙ length-append (de
 pub length-decimal_20 : (n : ℕ) → n < 2 ^ 64 → length (decimal n) ≤ 20
 length-decimal_20 n h = length-decimal-le 20 n (omega arith) (omega arith) h
 
+-- the last two digits of a number
+pub decimal_of_hundreds : (n : ℕ) → 100 ≤ n → n < 2 ^ 64 → decimal n ≡ decimal (n / 100) ++ (48 + n % 100 / 10) ∷ (48 + n % 100 % 10) ∷ []
+decimal_of_hundreds n h k =
+    let tens : n / 10 / 10 ≡ n / 100 = omega arith in
+    let ten : n / 10 % 10 ≡ n % 100 / 10 = omega arith in
+    let one : n % 10 ≡ n % 100 % 10 = omega arith in
+    decimal_step n (omega arith) k ∙ ap (λ l. l ++ (48 + n % 10) ∷ []) (decimal_step (n / 10) (omega arith) (omega arith))
+    ∙ rw (tens, ten, one) (append_assoc (decimal (n / 100)) ((48 + n % 100 / 10) ∷ []) ((48 + n % 100 % 10) ∷ []))
+
 -- how many digits a number has
 pub ruleset decimal_lengths = (length-decimal_digit, length-decimal_more, length-decimal_20)
 

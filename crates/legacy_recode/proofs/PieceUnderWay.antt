@@ -89,7 +89,7 @@ module _ {before : DecoderState} {piece : List ℕ} {last : Bool} {total : ℕ} 
   }
 
   module _ {after : DecoderState} {answer : DecoderResult} {read : ℕ} {scalars more : List ℕ}
-      (c : DecoderCall Utf16 now (drop offset piece) last 256 after answer read scalars)
+      (c : DecoderCall Utf16 now (drop offset piece) last 1024 after answer read scalars)
       (w : more ≡ pending ++ event_lines (map Scalar scalars ++ reported_events (total + offset + read) answer)) where
     -- what the call gave
     abbrev given : List DecodeEvent
@@ -148,7 +148,7 @@ module _ {before : DecoderState} {piece : List ℕ} {last : Bool} {total : ℕ} 
     some_cases InputEmpty e cs f h = absurd (h e)
     some_cases (Malformed a b) e cs f h = rw e (omega (arith, length-append (map Scalar scalars) (Bad (length now.held + read - b - a) a ∷ [])))
     some_cases OutputFull e [] f h =
-        let l = lacks_small Utf16 after (drop read (drop offset piece)) last (256 - total_unit_count Utf16 scalars) (c.output_full e) in
+        let l = lacks_small Utf16 after (drop read (drop offset piece)) last (1024 - total_unit_count Utf16 scalars) (c.output_full e) in
         let z : total_unit_count Utf16 scalars ≡ 0 = rw f refl in
         absurd (omega arith)
     some_cases OutputFull e (d ∷ ds) f h = rw (f, e) (omega arith)

@@ -2,7 +2,9 @@
 //! Standard, and prints a line for each scalar and each malformed sequence, or with `--text` the text in UTF-8.
 #![tactic(auto)]
 
+mod arguments;
 mod given_indexes;
+mod line_parts;
 mod lines;
 mod pieces;
 pub mod program;
@@ -12,19 +14,11 @@ mod tests;
 pub mod text;
 pub mod words;
 
+use arguments::{ArgumentsError, arguments, status_of};
 use std::alloc::Global;
+use std::fs;
 use std::io::{self, ErrorKind, Write};
 use std::process::ExitCode;
-use std::{env, fs};
-
-/// The words behind the program's name, where they can be had.
-fn arguments(rt: &HostRuntime, alloc: Global) -> io::Result<Vec<String>> {
-    let mut words = Vec::new(alloc);
-    for word in env::args(rt)?.skip(1) {
-        words.push(word)?;
-    }
-    Ok(words)
-}
 
 /// The bytes of the file, or `None` where it cannot be read. An error is that memory was refused.
 fn contents(rt: &HostRuntime, path: &str) -> io::Result<Option<Vec<u8>>> {
@@ -50,10 +44,9 @@ fn files(rt: &HostRuntime, alloc: Global, words: &[&str]) -> io::Result<Vec<Opti
 }
 
 /// Hands the words, the files and the streams to the program.
-fn run_on(rt: &HostRuntime, alloc: Global) -> io::Result<u8> {
-    let arguments = arguments(rt, alloc)?;
+fn run_on(rt: &HostRuntime, alloc: Global, arguments: &[String]) -> io::Result<u8> {
     let mut words: Vec<&str> = Vec::with_capacity(alloc, arguments.len())?;
-    for argument in &arguments {
+    for argument in arguments {
         words.push(argument.as_str())?;
     }
     let files = files(rt, alloc, words.as_slice())?;
@@ -71,12 +64,21 @@ fn run_on(rt: &HostRuntime, alloc: Global) -> io::Result<u8> {
     ))
 }
 
+/// Runs the program where its words can be had. All that can fail before it runs is then memory.
+fn status(rt: &HostRuntime) -> Result<u8, ArgumentsError> {
+    let arguments = arguments(rt)?;
+    match run_on(rt, rt.alloc(), arguments.as_slice()) {
+        Ok(status) => Ok(status),
+        Err(_) => Err(ArgumentsError::Memory),
+    }
+}
+
 fn main(rt: HostRuntime) -> ExitCode {
-    match run_on(&rt, rt.alloc()) {
+    match status(&rt) {
         Ok(status) => ExitCode::from(status),
-        Err(_) => {
-            let _ = rt.stderr().write_all(b"memory\n");
-            ExitCode::from(1)
+        Err(error) => {
+            let _ = writeln!(rt.stderr(), "{error}");
+            ExitCode::from(status_of(&error))
         }
     }
 }

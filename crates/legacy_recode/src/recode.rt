@@ -1,6 +1,7 @@
 //! The engine of the program: bytes in, lines of events out.
 ghost use Rattle.std.specs.Prelude.{◌≡◌, ℕ, ◌+◌, ◌*◌, ◌-◌, ◌^◌, ◌<◌, ◌≤◌, List, [], ◌++◌, length, map, OnOk, OnErr};
 ghost use Rattle.legacy_base.specs.EncodingForm.{Utf16};
+ghost use Rattle.legacy_base.specs.Texts.{unit_scalars};
 ghost use Rattle.legacy_base.specs.Calls.{DecoderCall};
 ghost use Rattle.legacy_recode.specs.Lines.{event_lines};
 ghost use Rattle.legacy_recode.specs.LineBuffers.{line_bytes, line_room};
@@ -9,7 +10,7 @@ ghost use Rattle.legacy_recode.specs.Recoding.{RecodesPiece, RecodesFront, Recod
 
 use crate::lines::{BAD_LINE, BATCH, CALL_LINES, LineBuffer, SCALAR_LINE};
 use crate::pieces::{PIECE, read_piece, rest_of};
-use legacy_codecs::{DecodeEvent, DecoderResult, RawDecoder, ScalarBuffer, Utf16Form};
+use legacy_codecs::{DecodeEvent, DecoderResult, RawDecoder};
 use std::io::{self, Read, Write};
 use thiserror::Error;
 
@@ -24,14 +25,15 @@ pub enum RecodeError {
     Write,
 }
 
-/// Puts the lines of the scalars that a call wrote behind the others, and then that of what it reports. `read` bytes of
-/// the input were read.
-fn push_events(lines: &mut LineBuffer, scalars: &[char], answer: DecoderResult, read: usize)
-    requires { length scalars.now * SCALAR_LINE + BAD_LINE ≤ line_room lines.old }
+/// Puts the lines of the scalars of the units that a call wrote behind the others, and then that of what it reports.
+/// `read` bytes of the input were read.
+#[inline]
+fn push_events(lines: &mut LineBuffer, units: &[u16], answer: DecoderResult, read: usize)
+    requires { length units.now * SCALAR_LINE + BAD_LINE ≤ line_room lines.old }
     ensures { line_bytes lines.new ≡ line_bytes lines.old
-        ++ event_lines (map DecodeEvent.Scalar scalars.now ++ reported_events read answer) }
+        ++ event_lines (map DecodeEvent.Scalar (unit_scalars units.now) ++ reported_events read answer) }
 {
-    lines.push_scalars(scalars);
+    lines.push_units(units);
     let DecoderResult::Malformed(sequence, back) = answer else {
         return;
     };
@@ -46,10 +48,10 @@ fn lines_of_one_call<D: RawDecoder>(
     unread: &[u8],
     last: bool,
     total: usize,
-    batch: &mut [char],
+    batch: &mut [u16],
     lines: &mut LineBuffer,
 ) -> (DecoderResult, usize)
-    requires batch { BATCH ≤ length batch.old }
+    requires batch { length batch.old ≡ BATCH }
     requires room { CALL_LINES ≤ line_room lines.old }
     requires total { total + length unread.now < 2 ^ 64 }
     ensures { (given : List ℕ)
@@ -59,9 +61,8 @@ fn lines_of_one_call<D: RawDecoder>(
         ++ event_lines (map DecodeEvent.Scalar given
         ++ reported_events (total + result.1) result.0)) }
 {
-    let mut kept = ScalarBuffer::<Utf16Form>::new(batch, BATCH);
-    let (answer, read) = decoder.step(unread, &mut kept, last);
-    push_events(lines, kept.scalars(), answer, total + read);
+    let (answer, read, written) = decoder.decode_to_utf16_raw(unread, batch, last);
+    push_events(lines, &batch[..written], answer, total + read);
     (answer, read)
 }
 
@@ -72,11 +73,11 @@ fn recode_piece<D: RawDecoder, W: Write>(
     piece: &[u8],
     last: bool,
     total: usize,
-    batch: &mut [char],
+    batch: &mut [u16],
     lines: &mut LineBuffer,
     output: &mut W,
 ) -> io::Result<()>
-    requires batch { BATCH ≤ length batch.old }
+    requires batch { length batch.old ≡ BATCH }
     requires empty { line_bytes lines.old ≡ [] }
     requires total { total + length piece.now < 2 ^ 64 }
     ensures piece { OnOk result (RecodesPiece
@@ -127,7 +128,7 @@ pub fn recode<D: RawDecoder, R: Read, W: Write>(
         (W.contents output.old) (W.contents output.new) }
 {
     let mut buffer = [0u8; PIECE];
-    let mut batch = ['\0'; BATCH];
+    let mut batch = [0u16; BATCH];
     let mut lines = LineBuffer::new();
     let mut total: usize = 0;
     'pieces: loop {

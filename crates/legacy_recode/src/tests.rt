@@ -1,10 +1,12 @@
 //! What no clause says: the texts, the statuses 1, and what stands where a read, a write or memory fails.
+use crate::arguments::{ArgumentsError, arguments, status_of};
 use crate::program::{Fault, run};
 use crate::recode::{RecodeError, recode};
 use crate::text::recode_text;
 use legacy_codecs::{
     EucKrDecoder, GB18030_2022_PUA, Indexes, RawDecoder, Tables, UserDefinedDecoder, Utf16Decoder,
 };
+use std::env::{Env, FillError};
 use std::io::{self, Error, ErrorKind, Read, Write};
 use std::process::Abort;
 use std::test::Fail;
@@ -58,6 +60,34 @@ impl Write for FailingWriter {
             return Ok(());
         }
         Err(Error::from(ErrorKind::Other))
+    }
+}
+
+/// Has these words, the first of which is the program's name, and no environment.
+#[derive(Drop)]
+struct Words<'a> {
+    words: &'a [&'a [u8]],
+}
+
+impl Env for Words<'_> {
+    fn arg(&self, i: usize, buf: &mut [u8]) -> Result<usize, FillError> {
+        if i >= self.words.len() {
+            return Err(FillError::NotPresent);
+        }
+        let word = self.words[i];
+        if word.len() > buf.len() {
+            return Err(FillError::TooLong);
+        }
+        buf[..word.len()].copy_from_slice(word);
+        Ok(word.len())
+    }
+
+    fn var(&self, _name: &str, _buf: &mut [u8]) -> Result<usize, FillError> {
+        Err(FillError::NotPresent)
+    }
+
+    fn var_at(&self, _i: usize, _buf: &mut [u8]) -> Result<usize, FillError> {
+        Err(FillError::NotPresent)
     }
 }
 
@@ -498,10 +528,40 @@ fn refuses_words_that_are_no_request(rt: HostRuntime) {
     }
 }
 
+// In a run where one allocation is refused, the call that it hits tells so.
+#[test]
+fn takes_words_that_are_text(rt: HostRuntime) {
+    let named: [&[u8]; 3] = [b"legacy_recode", b"big5", b"\xEA\xB0\x82"];
+    match arguments(&(Words { words: &named }, rt.alloc())) {
+        Ok(words) => {
+            assert_eq!(rt; words.len(), 2);
+            assert_eq!(rt; words[0].as_str(), "big5");
+            assert_eq!(rt; words[1].as_str(), "\u{AC02}");
+        }
+        Err(error) => assert_eq!(rt; error, ArgumentsError::Memory),
+    }
+    let no_text: [&[u8]; 2] = [b"legacy_recode", b"\xFF"];
+    match arguments(&(Words { words: &no_text }, rt.alloc())) {
+        Ok(_) => assert!(rt; false),
+        Err(error) => {
+            assert!(rt; error == ArgumentsError::NotText || error == ArgumentsError::Memory)
+        }
+    }
+    assert_eq!(rt; status_of(&ArgumentsError::NotText), 2);
+    assert_eq!(rt; status_of(&ArgumentsError::Unread), 1);
+    assert_eq!(rt; status_of(&ArgumentsError::Memory), 1);
+}
+
 #[test]
 fn the_faults_print_their_texts(rt: HostRuntime) -> Result<(), Fail> {
     let text = format!(in rt.alloc(); "{}, {}", Fault::Memory, Fault::Line("KR", 3))?;
     assert_eq!(rt; text.as_str(), "memory, KR: line 3");
+    let (no_text, unread) = (ArgumentsError::NotText, ArgumentsError::Unread);
+    let text = format!(in rt.alloc(); "{no_text}, {unread}, {}", ArgumentsError::Memory)?;
+    assert_eq!(rt;
+        text.as_str(),
+        "arguments: not UTF-8, arguments: cannot be read, memory"
+    );
     Ok(())
 }
 

@@ -3,6 +3,6 @@ use Rattle.legacy_recode.proofs.lines.LineBuffer.push_bad.Goals as goal
 
 pub returns : goal.returns
 returns c = record {
-  text = bad_line _ c.args.place c.args.length_in_bytes c.push_all.ensures.text c.push_decimal.ensures.text c.push_all-2.ensures.text
-      c.push_decimal-2.ensures.text c.push_all-3.ensures.text;
+  text = bad_line _ c.args.place c.args.length_in_bytes c.push_all.ensures.text c.push_place.ensures.text c.push_all-2.ensures.text
+      c.push_decimal.ensures.text c.push_all-3.ensures.text;
 }
