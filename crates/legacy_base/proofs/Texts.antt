@@ -1,15 +1,15 @@
 -- The scalars of texts, one by one from the front, and the places between them.
-use Rattle.std.proofs.Common.{◌≡◌, ◌∙◌, ℕ, zero, suc, ◌+◌, ◌-◌, ◌≤◌, ◌<◌, List, [], ◌∷◌, ◌++◌, length, take, drop, get_or, refl, sym}
+use Rattle.std.proofs.Common.{◌≡◌, ◌∙◌, ℕ, zero, suc, ◌+◌, ◌-◌, ◌≤◌, ◌<◌, List, [], ◌∷◌, ◌++◌, length, take, drop, get_or, refl, sym, ◌/◌, add-zero}
 use Rattle.std.proofs.Common.{ap, subst, arith, length-append, length-drop, Some, None, Option, true, false, Bool, ◌⊎◌, inl, inr, ◌&&◌, map, slice_get, lit<, IsAscii}
 use Rattle.std.proofs.lemmas.Bool.{cases_lt, lt-ltb, le-ltb, le-leb, lt-leb}
-use Rattle.std.proofs.lemmas.List.{drop-drop, take-append-drop, length-take-le, take_all}
+use Rattle.std.proofs.lemmas.List.{drop-drop, take-append-drop, length-take-le, take_all, get_or-drop}
 use Rattle.std.proofs.Math.Seq.{take-append_seam}
 use Rattle.std.specs.Str.{chars, is_utf8, IsUtf8, IsCharBoundary}
 use Rattle.std.specs.Char.{len_utf8}
 use Rattle.std.specs.Char.Utf16.{lone_unit_char, surrogate_pair_char, is_high_surrogate, is_low_surrogate}
 use Rattle.std.specs.Option.{unwrap_or, IsSome, SomeIff}
 use lib.ListN.{get_or-eq_default}
-use Rattle.std.proofs.lemmas.Str.{IsUtf8-from_is_utf8, is_utf8-from_IsUtf8, encodes-chars, chars_past_char, IsUtf8-past_char, drop_past_char, length-encode, utf16_chars-nil}
+use Rattle.std.proofs.lemmas.Str.{IsUtf8-from_is_utf8, is_utf8-from_IsUtf8, encodes-chars, chars_past_char, IsUtf8-past_char, drop_past_char, length-encode, utf16_chars-nil, len_utf8_bounds}
 use Rattle.std.proofs.lemmas.Str.{utf16_chars_lone, utf16_chars_pair, encodes-append, scalars-chars, chars-encodes, IsCharBoundary-at_seam, chars-append, chars-IsAscii, IsUtf8-from_ascii}
 use Rattle.std.proofs.str.Utf16.{IsPair, lone_unit_char_low, lone_unit_char_high, lone_unit_char_surrogate, utf16_chars-drop_lone, utf16_chars-drop_pair, utf16_chars-drop_all}
 use lib.Utf8.{encode, encodes, scalar, scalars}
@@ -17,9 +17,9 @@ use Rattle.std.proofs.lemmas.List.Concat.{flat_map-append}
 use Rattle.legacy_base.specs.EncodingForm.{EncodingForm, Utf8, Utf16, code_units, unit_count, all_code_units}
 use Rattle.legacy_base.specs.declared.text_source.Next.{Next}
 use Rattle.legacy_base.specs.declared.text_source.Next.TheVariants.{End, One, Two, Three, Four}
-use Rattle.legacy_base.specs.NextScalars.{IsSized, IsNext}
+use Rattle.legacy_base.specs.NextScalars.{IsSized, IsNext, TellsCount}
 use Rattle.legacy_base.specs.Texts.{unit_scalars, IsUnitBoundary}
-use Rattle.legacy_base.proofs.CodeUnits.{encode_1, utf16_1, utf16_2}
+use Rattle.legacy_base.proofs.CodeUnits.{encode_1, encode_2, encode_3, encode_4, utf16_1, utf16_2}
 
 pub first_cons : {A : Type 0} (xs : List A) (x : A) → Some x ≡ slice_get xs 0 → xs ≡ x ∷ drop 1 xs
 first_cons [] x e = cc
@@ -49,6 +49,41 @@ utf8_step text place c p u e =
       behind = ap chars past ∙ sym (ap (drop 1) all);
       first = ap (λ l. get_or l 0 0) all;
     }
+
+-- the place is not the end
+pub utf8_inside : (text : List ℕ) (place c : ℕ) → place ≤ length text → is_utf8 (drop place text) ≡ true → Some c ≡ slice_get (chars (drop place text)) 0 → place < length text
+utf8_inside text place c p u e = let some = (len_utf8_bounds c).0 in omega (arith, some, (utf8_step text place c p u e).within)
+
+-- its bytes stand there
+pub utf8_bytes : (text : List ℕ) (place c : ℕ) → is_utf8 (drop place text) ≡ true → Some c ≡ slice_get (chars (drop place text)) 0
+    → drop place text ≡ encode c ++ encodes (drop 1 (chars (drop place text)))
+utf8_bytes text place c u e = sym (encodes-chars (drop place text) (IsUtf8-from_is_utf8 (drop place text) u)) ∙ ap encodes (first_cons (chars (drop place text)) c e)
+
+-- the first byte of a scalar tells how many it has
+first_tells : (c first : ℕ) (rest : List ℕ) → get_or (encode c ++ rest) 0 0 ≡ first → TellsCount c first
+first_tells c first rest h = elim (cases_lt c 128) [
+  | inl a ↦
+      let e : c ≡ first = sym (ap (λ l. get_or (l ++ rest) 0 0) (encode_1 c a)) ∙ h in
+      record { one = λ x. ap length (encode_1 c a); two = λ x y. absurd (omega arith); three = λ x y. absurd (omega arith); four = λ x. absurd (omega arith) }
+  | inr a ↦ elim (cases_lt c 2048) [
+    | inl b ↦
+        let e : 192 + c / 64 ≡ first = sym (ap (λ l. get_or (l ++ rest) 0 0) (encode_2 c a b)) ∙ h in
+        record { one = λ x. absurd (omega arith); two = λ x y. ap length (encode_2 c a b); three = λ x y. absurd (omega arith); four = λ x. absurd (omega arith) }
+    | inr b ↦ elim (cases_lt c 65536) [
+      | inl d ↦
+          let e : 224 + c / 4096 ≡ first = sym (ap (λ l. get_or (l ++ rest) 0 0) (encode_3 c b d)) ∙ h in
+          record { one = λ x. absurd (omega arith); two = λ x y. absurd (omega arith); three = λ x y. ap length (encode_3 c b d); four = λ x. absurd (omega arith) }
+      | inr d ↦
+          let e : 240 + c / 262144 ≡ first = sym (ap (λ l. get_or (l ++ rest) 0 0) (encode_4 c d)) ∙ h in
+          record { one = λ x. absurd (omega arith); two = λ x y. absurd (omega arith); three = λ x y. absurd (omega arith); four = λ x. ap length (encode_4 c d) }
+    ]
+  ]
+]
+
+pub utf8_tells : (text : List ℕ) (place c : ℕ) → is_utf8 (drop place text) ≡ true → Some c ≡ slice_get (chars (drop place text)) 0 → TellsCount c (get_or text place 0)
+utf8_tells text place c u e =
+    first_tells c (get_or text place 0) (encodes (drop 1 (chars (drop place text))))
+    (ap (λ l. get_or l 0 0) (sym (utf8_bytes text place c u e)) ∙ get_or-drop place text 0 0 ∙ ap (λ n. get_or text n 0) (add-zero place))
 
 -- ---- UTF-16
 

@@ -1,9 +1,9 @@
 -- What stands behind blocks of code units that were written as bytes.
-use Rattle.std.proofs.Common.{◌≡◌, ◌∙◌, ℕ, zero, suc, ◌+◌, ◌-◌, ◌≤◌, ◌<◌, List, [], ◌∷◌, ◌++◌, length, get_or}
+use Rattle.std.proofs.Common.{◌≡◌, ◌∙◌, ℕ, suc, ◌+◌, ◌-◌, ◌≤◌, ◌<◌, List, [], ◌∷◌, ◌++◌, length, get_or}
 use Rattle.std.proofs.Common.{take, drop, map, refl, sym, ap, subst, arith, append_assoc, append-nil, length-append, length-drop, IsAscii, inl, inr}
 use Rattle.std.proofs.lemmas.Bool.{cases_lt}
 use Rattle.std.proofs.lemmas.List.{get_or_append_left, get_or-append-add, get_or-drop, length-take-le, get_or-take, take_all, take-append-drop, drop-drop}
-use Rattle.std.proofs.str.Utf16.{IsPair, lone_unit_char_low, lone_unit_char_high}
+use Rattle.std.proofs.str.Utf16.{lone_unit_char_low, lone_unit_char_high}
 use Rattle.std.proofs.lemmas.Str.{utf16_chars_lone}
 use Rattle.legacy_base.specs.EncodingForm.{Utf16, code_units, all_code_units, total_unit_count}
 use Rattle.legacy_base.specs.Texts.{unit_scalars}

@@ -3,7 +3,7 @@ ghost use Rattle.std.specs.Prelude.{◌≡◌, ℕ, ◌+◌, ◌-◌, ◌^◌, �
 ghost use Rattle.std.specs.Str.{chars, is_utf8};
 ghost use Rattle.legacy_base.specs.EncodingForm.{EncodingForm, Utf8, Utf16, unit_count, total_unit_count};
 ghost use Rattle.legacy_base.specs.Texts.{unit_scalars};
-ghost use Rattle.legacy_base.specs.NextScalars.{IsSized, IsNext};
+ghost use Rattle.legacy_base.specs.NextScalars.{IsSized, IsNext, TellsCount};
 ghost use Rattle.legacy_base.specs.UnitCodes.{WritesCodes};
 
 use crate::blocks::{copy_ascii_bytes, copy_ascii_units};
@@ -148,21 +148,34 @@ fn is_before_ascii(bytes: &[u8], place: usize) -> bool
     u32::from_le_bytes(next) & 0x8080_8080 == 0
 }
 
-/// A scalar by the number of its bytes in UTF-8.
+/// A scalar by the number of its bytes in UTF-8, which the first of them tells.
+// The scalar would tell it too. But that byte was tested as the scalar was read, so no test is left here.
 #[inline(always)]
-#[tactic(auto, using(crate::proofs::CodeUnits::encoding))]
-fn in_utf8(c: char) -> Next
+fn by_first_byte(first: u8, c: char) -> Next
+    requires { TellsCount c first }
     ensures { IsSized Utf8 c result }
 {
-    let code = c as u32;
-    if code < 0x80 {
+    if first < 0x80 {
         Next::One(c)
-    } else if code < 0x800 {
+    } else if first < 0xE0 {
         Next::Two(c)
-    } else if code < 0x1_0000 {
+    } else if first < 0xF0 {
         Next::Three(c)
     } else {
         Next::Four(c)
+    }
+}
+
+/// The scalar at a place of a text, by the number of its bytes.
+#[inline(always)]
+fn next_at(text: &str, place: usize) -> Next
+    requires in_range { place ≤ length text.now }
+    requires is_text { is_utf8 (drop place text.now) ≡ true }
+    ensures { IsNext Utf8 (chars (drop place text.now)) result }
+{
+    match scalar_at(text, place) {
+        None => Next::End,
+        Some(c) => by_first_byte(text.as_bytes()[place], c),
     }
 }
 
@@ -206,10 +219,7 @@ impl Source for Utf8Source<'_> {
 
     #[inline(always)]
     fn front(&self) -> Next {
-        match scalar_at(self.text, self.place) {
-            None => Next::End,
-            Some(c) => in_utf8(c),
-        }
+        next_at(self.text, self.place)
     }
 
     #[inline(always)]

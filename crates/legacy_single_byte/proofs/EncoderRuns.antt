@@ -1,7 +1,8 @@
 -- What the check of an encoder's run has shown, and the codes that follow from a table's places.
-use Rattle.std.proofs.Common.{◌≡◌, ◌↔◌, ◌∙◌, IfSome, ℕ, ◌+◌, ◌≤◌, ◌<◌, ◌==◌, List, ◌∷◌, [], length, get_or, refl, sym, ap, subst, arith, Some, None, Option, Bool, true, false, not, position}
-use Rattle.std.proofs.lemmas.Bool.{ne_eqb, lt-ltb, le-ltb, eqb-true}
+use Rattle.std.proofs.Common.{◌≡◌, ◌↔◌, ◌∙◌, IfSome, ℕ, ◌+◌, ◌-◌, ◌≤◌, ◌<◌, ◌==◌, List, ◌∷◌, [], length, get_or, refl, sym, ap, subst, arith, Some, None, Option, Bool, true, false, not, position, inl, inr}
+use Rattle.std.proofs.lemmas.Bool.{ne_eqb, lt-ltb, le-ltb, eqb-true, cases_lt}
 use Rattle.std.proofs.lemmas.Bool.Decides.{nat_tests}
+use Rattle.std.proofs.lemmas.List.{get_or_past}
 use Rattle.std.proofs.lemmas.List.Elements.{All-get_or}
 use Rattle.std.specs.Char.{IsScalar}
 use Rattle.legacy_base.specs.UnitCodes.{IsNoSurrogate}
@@ -9,7 +10,7 @@ use Rattle.legacy_base.specs.Indexes.{entry_scalar, idx}
 use Rattle.legacy_base.specs.SingleByte.{single_byte_code}
 use Rattle.legacy_base.specs.TableChecks.{IsAcceptedTable}
 use Rattle.legacy_base.proofs.Accepted.{entry_scalar-is}
-use Rattle.legacy_base.proofs.AcceptedTable.{position-idx, within, table-scalars}
+use Rattle.legacy_base.proofs.AcceptedTable.{position-idx, within, table-scalars, table-below}
 use Rattle.legacy_base.proofs.FirstPlaces.{find-first, find-none-at}
 use Rattle.legacy_single_byte.specs.SingleByteRun.{IsRun, first_mismatch}
 
@@ -24,6 +25,22 @@ run_holds table scalar start count e k h =
 
 pub mismatch_within : (table : List ℕ) (scalar start count k : ℕ) → first_mismatch table scalar start count ≡ Some k → k < count
 mismatch_within table scalar start count k e = let first = find-first (λ k. not (get_or table (start + k) 0 == scalar + k)) 0 count k e in let w = first.within in omega arith
+
+-- the last scalar of a run is one of the Basic Multilingual Plane
+entry_below : (table : List ℕ) → IsAcceptedTable table → (p : ℕ) → get_or table p 0 < 0x1_0000
+entry_below table accepted p = elim (cases_lt p (length table)) [
+  | inl inside ↦ All-get_or (λ c. c < 0x1_0000) table p 0 inside (table-below table accepted)
+  | inr past ↦ let none = get_or_past table p 0 past in omega (arith, none)
+]
+
+pub run_below : (table : List ℕ) → IsAcceptedTable table → (scalar start count : ℕ) → scalar < 0x1_0000 → IsRun table scalar start count → scalar + count ≤ 0x1_0000
+run_below table accepted scalar start count low is = elim (cases_lt 0 count) [
+  | inl some ↦
+      let last : get_or table (start + (count - 1)) 0 ≡ scalar + (count - 1) = is (count - 1) (omega arith) in
+      let below = entry_below table accepted (start + (count - 1)) in
+      omega arith
+  | inr none ↦ omega arith
+]
 
 -- ---- places
 

@@ -22,6 +22,7 @@ pub struct SingleByteEncoder<'a> {
     run_byte_offset: u8,
     run_length: u8,
     ghost within: { run_byte_offset + run_length ≤ 128 },
+    ghost in_plane: { run_bmp_offset + run_length ≤ 0x1_0000 },
     ghost is_run: { IsRun table.now.entries run_bmp_offset run_byte_offset run_length },
 }
 
@@ -106,13 +107,13 @@ impl<'a> SingleByteEncoder<'a> {
     }
 
     /// How far a code unit is behind the first of the run: past the run's end where it stands before it.
+    // Without a test: no run goes past U+FFFF, so what wraps around is past the run's end.
     #[inline(always)]
     fn unit_place(&self, unit: u16) -> u16
         ensures { result < self.now.run_length → (self.now.run_bmp_offset ≤ unit)
             × (result ≡ unit - self.now.run_bmp_offset) }
     {
-        let first = self.run_bmp_offset;
-        if unit >= first { unit - first } else { 0xFFFF }
+        unit.wrapping_sub(self.run_bmp_offset)
     }
 
     /// The byte of a place of the run; past its end, any byte.

@@ -67,6 +67,7 @@ pub(super) fn check_run(
     ensures is_run { MatchResult result (λ _. IsRun table.now.entries scalar start count)
         (λ _. Unit {0}) }
     ensures within { MatchResult result (λ _. start + count ≤ 128) (λ _. Unit {0}) }
+    ensures in_plane { MatchResult result (λ _. scalar + count ≤ 0x1_0000) (λ _. Unit {0}) }
 {
     if start < 32 {
         return Err(SingleByteRunError::RunStart);

@@ -1,5 +1,5 @@
-use Rattle.std.proofs.Common.{◌≡◌, ◌+◌, ◌-◌, take, arith, refl, ap, add-zero}
-use Rattle.legacy_base.proofs.UnitCopies.{block_behind, writes_none}
+use Rattle.std.proofs.Common.{take, arith}
+use Rattle.legacy_base.proofs.UnitCopies.{block_behind}
 use Rattle.legacy_base.proofs.unit_codes.copy_unit_codes.Goals as goal
 
 pub returns-then-count-lt16-clause-lone : goal.returns-then-count-lt16-clause-lone

@@ -1,4 +1,4 @@
-use Rattle.std.proofs.Common.{◌≡◌, ℕ, ◌+◌, ◌-◌, ◌<◌, ◌≤◌, length, take, get_or}
+use Rattle.std.proofs.Common.{ℕ, ◌+◌, ◌-◌, ◌<◌, ◌≤◌, length, take, get_or}
 use Rattle.legacy_base.specs.UnitCodes.{IsNoSurrogate, WritesCodes}
 use Rattle.legacy_base.proofs.unit_codes.copy_unit_codes.Given as goal
 

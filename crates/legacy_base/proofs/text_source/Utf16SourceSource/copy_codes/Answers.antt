@@ -1,5 +1,4 @@
-use Rattle.std.proofs.Common.{◌+◌, take}
-use Rattle.legacy_base.proofs.UnitCopies.{lone_fits, lone_front, lone_count, lone_writes}
+use Rattle.legacy_base.proofs.UnitCopies.{lone_front, lone_count, lone_writes}
 use Rattle.legacy_base.proofs.text_source.Utf16SourceSource.copy_codes.Goals as goal
 
 pub returns-clause-read : goal.returns-clause-read
