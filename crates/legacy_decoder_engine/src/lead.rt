@@ -135,11 +135,12 @@ impl<'a, C: LeadCodec> DecoderMoves for LeadDecoder<'a, C> {
         }
     }
 
+    #[inline]
     fn release(&mut self) -> Option<char> {
         None
     }
 
-    #[inline]
+    #[inline(always)]
     fn feed(&mut self, byte: u8) -> Fed {
         match self.held {
             Some(lead) => {
@@ -159,6 +160,7 @@ impl<'a, C: LeadCodec> DecoderMoves for LeadDecoder<'a, C> {
         self.held.is_some()
     }
 
+    #[inline]
     fn report(&mut self) -> Option<(u8, u8)> {
         match self.held {
             Some(_) => {
@@ -216,6 +218,11 @@ impl<'a, C: LeadCodec, V: DecoderTables> CommonForms for LeadForms<'a, C, V> {
         matches!(self.held, None)
     }
 
+    #[inline(always)]
+    fn is_rare(&self, byte: u8) -> bool {
+        matches!(C::read_first(byte).0, Fed::Fault { .. })
+    }
+
     #[inline]
     fn front(&self, lead: u8, trail: u8) -> CommonForm {
         C::front(self.tables, lead, trail)
@@ -225,6 +232,7 @@ impl<'a, C: LeadCodec, V: DecoderTables> CommonForms for LeadForms<'a, C, V> {
 impl<'a, C: LeadCodec> RawDecoder for LeadDecoder<'a, C> {
     ghost state = { λ d. lead_state C.grammar C.byte_of d.tables.now d.held };
 
+    #[inline(always)]
     fn step<T: Destination>(
         &mut self,
         src: &[u8],

@@ -261,7 +261,7 @@ impl DecoderMoves for Gb18030Decoder<'_> {
         }
     }
 
-    #[inline]
+    #[inline(always)]
     fn feed(&mut self, byte: u8) -> Fed {
         let (fed, held) = read(self.tables, self.held, byte);
         self.held = held;
@@ -301,6 +301,7 @@ impl RawDecoder for Gb18030Decoder<'_> {
 
     ghost state = { gb18030_state };
 
+    #[inline(always)]
     fn step<T: Destination>(
         &mut self,
         src: &[u8],

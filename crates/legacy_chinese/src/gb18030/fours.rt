@@ -10,6 +10,7 @@ use super::decoder::form_scalar;
 use super::four_places::four_pointer;
 use legacy_base::{DecoderTables, Destination};
 use legacy_decoder_engine::common_forms::{CommonBlocks, CommonForm, CommonForms};
+use legacy_decoder_engine::held::Lead;
 use legacy_decoder_engine::runs::{Blocks, Forms, read_blocks, read_run};
 
 /// The scalar of four bytes, if they are a form that has one.
@@ -89,6 +90,11 @@ impl<V: DecoderTables> CommonForms for Gb18030Blocks<'_, V> {
     #[inline]
     fn is_idle(&self) -> bool {
         true
+    }
+
+    #[inline(always)]
+    fn is_rare(&self, byte: u8) -> bool {
+        byte >= 0x80 && Lead::new(byte).is_none()
     }
 
     #[inline]

@@ -236,7 +236,7 @@ impl DecoderMoves for EucJpDecoder<'_> {
         None
     }
 
-    #[inline]
+    #[inline(always)]
     #[tactic(auto, using(crate::proofs::EucJpHeld::feeds))]
     fn feed(&mut self, byte: u8) -> Fed {
         let (fed, held) = read(self.tables, self.held, byte);
@@ -289,6 +289,11 @@ impl<V: DecoderTables> CommonForms for EucJpForms<'_, V> {
         }
     }
 
+    #[inline(always)]
+    fn is_rare(&self, byte: u8) -> bool {
+        byte >= 0x80 && EucJpLead::new(byte).is_none()
+    }
+
     #[inline]
     #[tactic(auto, using(crate::proofs::EucJpHeld::pair))]
     fn front(&self, lead: u8, trail: u8) -> CommonForm {
@@ -307,6 +312,7 @@ impl RawDecoder for EucJpDecoder<'_> {
 
     ghost state = { euc_jp_state };
 
+    #[inline(always)]
     fn step<T: Destination>(
         &mut self,
         src: &[u8],
