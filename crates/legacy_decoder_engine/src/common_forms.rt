@@ -63,7 +63,7 @@ pub trait CommonForms {
 
 /// Whether the byte at the front begins no common form, as far as that is seen at once.
 #[inline(always)]
-fn is_rare<D: CommonForms>(decoder: &D, src: &[u8]) -> bool {
+pub fn begins_rare<D: CommonForms>(decoder: &D, src: &[u8]) -> bool {
     !src.is_empty() && decoder.is_rare(src[0])
 }
 
@@ -125,7 +125,7 @@ impl<D: CommonForms> Blocks for CommonBlocks<'_, D> {
     // Behind a fault often comes the next one: for a single byte that is rare no block is begun.
     #[inline(always)]
     fn read_block<T: Destination>(&self, src: &[u8], dst: &mut T) -> (usize, bool) {
-        if is_rare(self.decoder, src) {
+        if begins_rare(self.decoder, src) {
             return (0, false);
         }
         let at = read_ascii(src, dst);

@@ -85,6 +85,18 @@ pub trait LeadCodec {
     ghost leads: { (lead : Self.Lead) → is_lead (byte_of lead) ≡ true };
 }
 
+/// Whether the byte is malformed where a form begins.
+#[inline(always)]
+fn is_fault<C: LeadCodec>(byte: u8) -> bool {
+    matches!(C::read_first(byte).0, Fed::Fault { .. })
+}
+
+/// Whether the byte at the front is malformed where a form begins.
+#[inline(always)]
+fn begins_fault<C: LeadCodec>(src: &[u8]) -> bool {
+    !src.is_empty() && is_fault::<C>(src[0])
+}
+
 /// The decoder of such a codec. It holds back a lead, or nothing.
 #[derive(Drop)]
 pub struct LeadDecoder<'a, C: LeadCodec> {
@@ -190,6 +202,15 @@ impl<'a, C: LeadCodec> DecoderMoves for LeadDecoder<'a, C> {
             }
         }
     }
+
+    // Behind a fault often comes the next one, which is then no call.
+    #[inline(always)]
+    fn read_runs<T: Destination>(&mut self, src: &[u8], dst: &mut T) -> usize {
+        if begins_fault::<C>(src) {
+            return 0;
+        }
+        self.read_ahead(src, dst)
+    }
 }
 
 /// The common forms of such a codec, by its tables as they are kept, where so much is held back.
@@ -220,7 +241,7 @@ impl<'a, C: LeadCodec, V: DecoderTables> CommonForms for LeadForms<'a, C, V> {
 
     #[inline(always)]
     fn is_rare(&self, byte: u8) -> bool {
-        matches!(C::read_first(byte).0, Fed::Fault { .. })
+        is_fault::<C>(byte)
     }
 
     #[inline]

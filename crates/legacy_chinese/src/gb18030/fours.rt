@@ -6,11 +6,10 @@ ghost use Rattle.legacy_base.specs.Grammar.{gb18030};
 ghost use Rattle.legacy_base.specs.States.{new_state};
 ghost use Rattle.legacy_decoder_engine.specs.Ahead.{Runs};
 
-use super::decoder::form_scalar;
+use super::decoder::{form_scalar, is_uncommon};
 use super::four_places::four_pointer;
 use legacy_base::{DecoderTables, Destination};
-use legacy_decoder_engine::common_forms::{CommonBlocks, CommonForm, CommonForms};
-use legacy_decoder_engine::held::Lead;
+use legacy_decoder_engine::common_forms::{CommonBlocks, CommonForm, CommonForms, begins_rare};
 use legacy_decoder_engine::runs::{Blocks, Forms, read_blocks, read_run};
 
 /// The scalar of four bytes, if they are a form that has one.
@@ -94,7 +93,7 @@ impl<V: DecoderTables> CommonForms for Gb18030Blocks<'_, V> {
 
     #[inline(always)]
     fn is_rare(&self, byte: u8) -> bool {
-        byte >= 0x80 && Lead::new(byte).is_none()
+        is_uncommon(byte)
     }
 
     #[inline]
@@ -114,6 +113,9 @@ impl<V: DecoderTables> Blocks for Gb18030Blocks<'_, V> {
     #[inline(always)]
     fn read_block<T: Destination>(&self, src: &[u8], dst: &mut T) -> (usize, bool) {
         let at = read_blocks(&CommonBlocks { decoder: self }, src, dst);
+        if begins_rare(self, &src[at..]) {
+            return (at, false);
+        }
         let read = read_run(
             &FourByteForms {
                 tables: self.tables,

@@ -216,6 +216,18 @@ impl<'a> EucJpDecoder<'a> {
     }
 }
 
+/// Whether the byte begins no common form.
+#[inline(always)]
+fn is_uncommon(byte: u8) -> bool {
+    byte >= 0x80 && EucJpLead::new(byte).is_none()
+}
+
+/// Whether the byte at the front begins no common form.
+#[inline(always)]
+fn begins_no_run(src: &[u8]) -> bool {
+    !src.is_empty() && is_uncommon(src[0])
+}
+
 impl DecoderMoves for EucJpDecoder<'_> {
     ghost use Rattle.legacy_japanese.specs.EucJpDecoder.{euc_jp_state};
 
@@ -268,6 +280,15 @@ impl DecoderMoves for EucJpDecoder<'_> {
             KeptTables::Packed(tables) => read_common_forms(&EucJpForms { tables, held }, src, dst),
         }
     }
+
+    // Behind a fault often comes the next one, which is then no call.
+    #[inline(always)]
+    fn read_runs<T: Destination>(&mut self, src: &[u8], dst: &mut T) -> usize {
+        if begins_no_run(src) {
+            return 0;
+        }
+        self.read_ahead(src, dst)
+    }
 }
 
 /// The common forms of EUC-JP, by its tables as they are kept, where so much is held back.
@@ -291,7 +312,7 @@ impl<V: DecoderTables> CommonForms for EucJpForms<'_, V> {
 
     #[inline(always)]
     fn is_rare(&self, byte: u8) -> bool {
-        byte >= 0x80 && EucJpLead::new(byte).is_none()
+        is_uncommon(byte)
     }
 
     #[inline]

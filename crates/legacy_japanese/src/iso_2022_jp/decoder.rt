@@ -104,9 +104,12 @@ impl<'a> DecoderMoves for Iso2022JpDecoder<'a> {
         Some((1, held.count()))
     }
 
-    #[inline]
+    #[inline(always)]
     fn read_runs<T: Destination>(&mut self, src: &[u8], dst: &mut T) -> usize {
         if !matches!(self.held, Held::Begun(Start::Nothing)) {
+            return 0;
+        }
+        if !src.is_empty() && src[0] >= 0x80 {
             return 0;
         }
         let (mode, read) = read_modes(self.tables, self.mode, src, dst);
