@@ -4,6 +4,3 @@ use Rattle.legacy_japanese.proofs.iso_2022_jp.decoder.Iso2022JpDecoderDecoderMov
 
 pub returns-then-not-matches : goal.returns-then-not-matches
 returns-then-not-matches g c = record { runs = reads_none g.T.Destination (iso_2022_jp_state c.args.self.now) c.args.src.now c.args.dst.now }
-
-pub returns-then-src-ge128 : goal.returns-then-src-ge128
-returns-then-src-ge128 g c = record { runs = reads_none g.T.Destination (iso_2022_jp_state c.args.self.now) c.args.src.now c.args.dst.now }
