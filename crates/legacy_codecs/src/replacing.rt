@@ -16,6 +16,7 @@ fn rest_of(bytes: &[u8], offset: usize) -> &[u8]
 }
 
 /// Writes U+FFFD behind what was written. It must fit.
+#[inline(always)]
 fn put_replacement<T: Destination>(dst: &mut T)
     requires { unit_count T.form 0xFFFD ≤ T.room dst.old }
     ensures contents { T.contents dst.new ≡ T.contents dst.old ++ code_units T.form 0xFFFD }
@@ -28,6 +29,7 @@ fn put_replacement<T: Destination>(dst: &mut T)
 /// Makes calls of the decoder into the destination until one does not answer `Malformed`, and writes
 /// U+FFFD behind each that does. Answers how the last call ended, how many bytes were read, and whether
 /// U+FFFD was written so.
+#[inline(always)]
 fn decode_replacing<D: RawDecoder, T: Destination>(
     decoder: &mut D,
     src: &[u8],
@@ -67,6 +69,7 @@ fn decode_replacing<D: RawDecoder, T: Destination>(
 ///
 /// Where `dst` is as long as `max_utf8_buffer_length` answered for at least so many bytes, the answer is
 /// `InputEmpty`. The decoder goes on from its state after either answer.
+#[inline(never)]
 pub fn decode_replacing_utf8<D: RawDecoder>(
     decoder: &mut D,
     src: &[u8],
@@ -88,6 +91,7 @@ pub fn decode_replacing_utf8<D: RawDecoder>(
 ///
 /// It is as `decode_replacing_utf8`, but counts code units of UTF-16, and the answer is `InputEmpty`
 /// where `dst` is as long as `max_utf16_buffer_length` answered.
+#[inline(never)]
 pub fn decode_replacing_utf16<D: RawDecoder>(
     decoder: &mut D,
     src: &[u8],

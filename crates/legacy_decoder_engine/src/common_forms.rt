@@ -28,6 +28,14 @@ pub trait CommonForms {
     fn is_idle(&self) -> bool
         ensures { result ≡ true → IsIdle (state self.now) };
 
+    /// Whether a byte begins no common form, as far as that is seen at once: no is an answer too. Where it
+    /// is so no run is begun.
+    #[inline(always)]
+    fn is_rare(&self, byte: u8) -> bool {
+        let _ = byte;
+        false
+    }
+
     /// What stands at the front of the input, by a byte past ASCII and the byte behind it: a scalar up
     /// to U+FFFF, or `Other` for whatever is rare. The machine reads that.
     #[inline(always)]
@@ -53,12 +61,10 @@ pub trait CommonForms {
     }
 }
 
-/// Whether what stands at the front is surely rare.
+/// Whether the byte at the front begins no common form, as far as that is seen at once.
 #[inline(always)]
-fn is_rare<D: CommonForms>(decoder: &D, src: &[u8]) -> bool
-    requires { HasAscii (D.state decoder.now).grammar }
-{
-    src.len() >= 2 && matches!(decoder.form(src[0], src[1]), CommonForm::Other)
+pub fn begins_rare<D: CommonForms>(decoder: &D, src: &[u8]) -> bool {
+    !src.is_empty() && decoder.is_rare(src[0])
 }
 
 /// The common forms of a decoder, and the ASCII between them.
@@ -116,10 +122,10 @@ impl<D: CommonForms> Blocks for CommonBlocks<'_, D> {
 
     ghost ready = { λ blocks. HasAscii (D.state blocks.decoder.now).grammar };
 
-    // Behind a fault often comes the next one: for a single form that is rare no block is begun.
+    // Behind a fault often comes the next one: for a single byte that is rare no block is begun.
     #[inline(always)]
     fn read_block<T: Destination>(&self, src: &[u8], dst: &mut T) -> (usize, bool) {
-        if is_rare(self.decoder, src) {
+        if begins_rare(self.decoder, src) {
             return (0, false);
         }
         let at = read_ascii(src, dst);

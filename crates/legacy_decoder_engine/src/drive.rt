@@ -8,7 +8,7 @@ ghost use Rattle.legacy_decoder_engine.specs.Moves.{room_units, fed_scalars, Fin
 use crate::moves::{DecoderMoves, Fed, Move, Room};
 use legacy_base::{DecoderResult, Destination};
 
-#[inline]
+#[inline(always)]
 fn has_room<T: Destination>(dst: &T, room: Room) -> bool
     ensures { IsTrue result ↔ (room_units T.form room ≤ T.room dst.now) }
 {
@@ -39,7 +39,7 @@ fn put_fed<T: Destination>(dst: &mut T, fed: Fed)
 }
 
 /// Ends a call whose input is read: where it is the last one, what is left is reported.
-#[inline]
+#[inline(always)]
 fn finish<D: DecoderMoves, T: Destination>(decoder: &mut D, dst: &T, last: bool) -> DecoderResult
     requires { rests (D.state decoder.old).grammar (D.state decoder.old).held ≡ true }
     ensures { Finishes T.form (D.state decoder.old) last (T.room dst.now)
@@ -61,7 +61,7 @@ fn finish<D: DecoderMoves, T: Destination>(decoder: &mut D, dst: &T, last: bool)
 /// sequence is to be reported. Answers which of the three, and how many bytes of `src` were read; the
 /// scalars stand in `dst` behind what it held. With `last` nothing comes behind `src`. A scalar to be
 /// written first is held back only as a call begins. Runs of common forms are read ahead of the moves.
-#[inline]
+#[inline(always)]
 pub fn drive_decoder<D: DecoderMoves, T: Destination>(
     decoder: &mut D,
     src: &[u8],

@@ -85,6 +85,18 @@ pub trait LeadCodec {
     ghost leads: { (lead : Self.Lead) → is_lead (byte_of lead) ≡ true };
 }
 
+/// Whether the byte is malformed where a form begins.
+#[inline(always)]
+fn is_fault<C: LeadCodec>(byte: u8) -> bool {
+    matches!(C::read_first(byte).0, Fed::Fault { .. })
+}
+
+/// Whether the byte at the front is malformed where a form begins.
+#[inline(always)]
+fn begins_fault<C: LeadCodec>(src: &[u8]) -> bool {
+    !src.is_empty() && is_fault::<C>(src[0])
+}
+
 /// The decoder of such a codec. It holds back a lead, or nothing.
 #[derive(Drop)]
 pub struct LeadDecoder<'a, C: LeadCodec> {
@@ -135,11 +147,12 @@ impl<'a, C: LeadCodec> DecoderMoves for LeadDecoder<'a, C> {
         }
     }
 
+    #[inline]
     fn release(&mut self) -> Option<char> {
         None
     }
 
-    #[inline]
+    #[inline(always)]
     fn feed(&mut self, byte: u8) -> Fed {
         match self.held {
             Some(lead) => {
@@ -159,6 +172,7 @@ impl<'a, C: LeadCodec> DecoderMoves for LeadDecoder<'a, C> {
         self.held.is_some()
     }
 
+    #[inline]
     fn report(&mut self) -> Option<(u8, u8)> {
         match self.held {
             Some(_) => {
@@ -188,6 +202,15 @@ impl<'a, C: LeadCodec> DecoderMoves for LeadDecoder<'a, C> {
             }
         }
     }
+
+    // Behind a fault often comes the next one, which is then no call.
+    #[inline(always)]
+    fn read_runs<T: Destination>(&mut self, src: &[u8], dst: &mut T) -> usize {
+        if begins_fault::<C>(src) {
+            return 0;
+        }
+        self.read_ahead(src, dst)
+    }
 }
 
 /// The common forms of such a codec, by its tables as they are kept, where so much is held back.
@@ -216,6 +239,11 @@ impl<'a, C: LeadCodec, V: DecoderTables> CommonForms for LeadForms<'a, C, V> {
         matches!(self.held, None)
     }
 
+    #[inline(always)]
+    fn is_rare(&self, byte: u8) -> bool {
+        is_fault::<C>(byte)
+    }
+
     #[inline]
     fn front(&self, lead: u8, trail: u8) -> CommonForm {
         C::front(self.tables, lead, trail)
@@ -225,6 +253,7 @@ impl<'a, C: LeadCodec, V: DecoderTables> CommonForms for LeadForms<'a, C, V> {
 impl<'a, C: LeadCodec> RawDecoder for LeadDecoder<'a, C> {
     ghost state = { λ d. lead_state C.grammar C.byte_of d.tables.now d.held };
 
+    #[inline(always)]
     fn step<T: Destination>(
         &mut self,
         src: &[u8],

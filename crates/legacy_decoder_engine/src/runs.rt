@@ -108,12 +108,16 @@ pub fn read_blocks<B: Blocks, T: Destination>(blocks: &B, src: &[u8], dst: &mut 
 
 /// Reads ASCII from the front by blocks, as much as leaves three code units free. Answers how many bytes
 /// were read: none is an answer too.
+// Behind a fault often stands no ASCII: no block is begun there.
 #[inline(always)]
 pub fn read_ascii<T: Destination>(src: &[u8], dst: &mut T) -> usize
     ensures read { result ≤ length src.now }
     ensures ahead { (grammar : Grammar) → HasAscii grammar
         → ReadsAhead T.Destination (new_state grammar) src.now result dst.old dst.new }
 {
+    if !src.is_empty() && src[0] >= 0x80 {
+        return 0;
+    }
     let most = dst.free().saturating_sub(3).min(src.len());
     dst.copy_ascii(&src[..most])
 }

@@ -231,6 +231,18 @@ impl<'a> Gb18030Decoder<'a> {
     }
 }
 
+/// Whether the byte begins no common form.
+#[inline(always)]
+pub(super) fn is_uncommon(byte: u8) -> bool {
+    byte >= 0x80 && Lead::new(byte).is_none()
+}
+
+/// Whether the byte at the front begins no common form.
+#[inline(always)]
+fn begins_no_run(src: &[u8]) -> bool {
+    !src.is_empty() && is_uncommon(src[0])
+}
+
 impl DecoderMoves for Gb18030Decoder<'_> {
     ghost use Rattle.legacy_chinese.specs.Gb18030Decoder.{gb18030_state};
 
@@ -261,7 +273,7 @@ impl DecoderMoves for Gb18030Decoder<'_> {
         }
     }
 
-    #[inline]
+    #[inline(always)]
     fn feed(&mut self, byte: u8) -> Fed {
         let (fed, held) = read(self.tables, self.held, byte);
         self.held = held;
@@ -294,6 +306,15 @@ impl DecoderMoves for Gb18030Decoder<'_> {
             KeptTables::Packed(tables) => read_blocks(&Gb18030Blocks { tables }, src, dst),
         }
     }
+
+    // Behind a fault often comes the next one, which is then no call.
+    #[inline(always)]
+    fn read_runs<T: Destination>(&mut self, src: &[u8], dst: &mut T) -> usize {
+        if begins_no_run(src) {
+            return 0;
+        }
+        self.read_ahead(src, dst)
+    }
 }
 
 impl RawDecoder for Gb18030Decoder<'_> {
@@ -301,6 +322,7 @@ impl RawDecoder for Gb18030Decoder<'_> {
 
     ghost state = { gb18030_state };
 
+    #[inline(always)]
     fn step<T: Destination>(
         &mut self,
         src: &[u8],

@@ -6,10 +6,10 @@ ghost use Rattle.legacy_base.specs.Grammar.{gb18030};
 ghost use Rattle.legacy_base.specs.States.{new_state};
 ghost use Rattle.legacy_decoder_engine.specs.Ahead.{Runs};
 
-use super::decoder::form_scalar;
+use super::decoder::{form_scalar, is_uncommon};
 use super::four_places::four_pointer;
 use legacy_base::{DecoderTables, Destination};
-use legacy_decoder_engine::common_forms::{CommonBlocks, CommonForm, CommonForms};
+use legacy_decoder_engine::common_forms::{CommonBlocks, CommonForm, CommonForms, begins_rare};
 use legacy_decoder_engine::runs::{Blocks, Forms, read_blocks, read_run};
 
 /// The scalar of four bytes, if they are a form that has one.
@@ -91,6 +91,11 @@ impl<V: DecoderTables> CommonForms for Gb18030Blocks<'_, V> {
         true
     }
 
+    #[inline(always)]
+    fn is_rare(&self, byte: u8) -> bool {
+        is_uncommon(byte)
+    }
+
     #[inline]
     fn front(&self, lead: u8, trail: u8) -> CommonForm {
         match form_scalar(self.tables, lead, trail) {
@@ -108,6 +113,9 @@ impl<V: DecoderTables> Blocks for Gb18030Blocks<'_, V> {
     #[inline(always)]
     fn read_block<T: Destination>(&self, src: &[u8], dst: &mut T) -> (usize, bool) {
         let at = read_blocks(&CommonBlocks { decoder: self }, src, dst);
+        if begins_rare(self, &src[at..]) {
+            return (at, false);
+        }
         let read = read_run(
             &FourByteForms {
                 tables: self.tables,

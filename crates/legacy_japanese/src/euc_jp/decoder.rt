@@ -216,6 +216,18 @@ impl<'a> EucJpDecoder<'a> {
     }
 }
 
+/// Whether the byte begins no common form.
+#[inline(always)]
+fn is_uncommon(byte: u8) -> bool {
+    byte >= 0x80 && EucJpLead::new(byte).is_none()
+}
+
+/// Whether the byte at the front begins no common form.
+#[inline(always)]
+fn begins_no_run(src: &[u8]) -> bool {
+    !src.is_empty() && is_uncommon(src[0])
+}
+
 impl DecoderMoves for EucJpDecoder<'_> {
     ghost use Rattle.legacy_japanese.specs.EucJpDecoder.{euc_jp_state};
 
@@ -236,7 +248,7 @@ impl DecoderMoves for EucJpDecoder<'_> {
         None
     }
 
-    #[inline]
+    #[inline(always)]
     #[tactic(auto, using(crate::proofs::EucJpHeld::feeds))]
     fn feed(&mut self, byte: u8) -> Fed {
         let (fed, held) = read(self.tables, self.held, byte);
@@ -268,6 +280,15 @@ impl DecoderMoves for EucJpDecoder<'_> {
             KeptTables::Packed(tables) => read_common_forms(&EucJpForms { tables, held }, src, dst),
         }
     }
+
+    // Behind a fault often comes the next one, which is then no call.
+    #[inline(always)]
+    fn read_runs<T: Destination>(&mut self, src: &[u8], dst: &mut T) -> usize {
+        if begins_no_run(src) {
+            return 0;
+        }
+        self.read_ahead(src, dst)
+    }
 }
 
 /// The common forms of EUC-JP, by its tables as they are kept, where so much is held back.
@@ -289,6 +310,11 @@ impl<V: DecoderTables> CommonForms for EucJpForms<'_, V> {
         }
     }
 
+    #[inline(always)]
+    fn is_rare(&self, byte: u8) -> bool {
+        is_uncommon(byte)
+    }
+
     #[inline]
     #[tactic(auto, using(crate::proofs::EucJpHeld::pair))]
     fn front(&self, lead: u8, trail: u8) -> CommonForm {
@@ -307,6 +333,7 @@ impl RawDecoder for EucJpDecoder<'_> {
 
     ghost state = { euc_jp_state };
 
+    #[inline(always)]
     fn step<T: Destination>(
         &mut self,
         src: &[u8],

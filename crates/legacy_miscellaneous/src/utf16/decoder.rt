@@ -88,7 +88,7 @@ impl DecoderMoves for Utf16Decoder {
         Some(pending.scalar)
     }
 
-    #[inline]
+    #[inline(always)]
     fn feed(&mut self, byte: u8) -> Fed {
         let (fed, held) = read_byte(self.big_endian, self.held, byte);
         self.held = held;
@@ -131,6 +131,7 @@ impl RawDecoder for Utf16Decoder {
 
     ghost state = { utf16_state };
 
+    #[inline(always)]
     fn step<T: Destination>(
         &mut self,
         src: &[u8],

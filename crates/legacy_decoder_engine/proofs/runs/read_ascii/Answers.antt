@@ -2,8 +2,12 @@ use Rattle.std.proofs.Common.{take, refl, arith, subst}
 use Rattle.std.proofs.lemmas.List.{length-take, length-take-le, take-take}
 use Rattle.legacy_decoder_engine.specs.Ahead.{Writes}
 use Rattle.legacy_decoder_engine.proofs.CallUnderWay.{same_rooms}
-use Rattle.legacy_decoder_engine.proofs.WrittenRuns.{writes_ascii}
+use Rattle.legacy_base.specs.States.{new_state}
+use Rattle.legacy_decoder_engine.proofs.WrittenRuns.{writes_ascii, reads_none}
 use Rattle.legacy_decoder_engine.proofs.runs.read_ascii.Goals as goal
+
+pub returns-then-src-ge128-clause-ahead : goal.returns-then-src-ge128-clause-ahead
+returns-then-src-ge128-clause-ahead g c grammar law = reads_none g.T.Destination (new_state grammar) c.args.src.now c.args.dst.now
 
 pub returns-clause-ahead : goal.returns-clause-ahead
 returns-clause-ahead g c grammar law =

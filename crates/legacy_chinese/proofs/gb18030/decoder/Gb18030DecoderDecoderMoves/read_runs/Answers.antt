@@ -1,0 +1,5 @@
+use Rattle.legacy_decoder_engine.proofs.WrittenRuns.{reads_none}
+use Rattle.legacy_chinese.proofs.gb18030.decoder.Gb18030DecoderDecoderMoves.read_runs.Goals as goal
+
+pub returns-then-begins_no_run : goal.returns-then-begins_no_run
+returns-then-begins_no_run g c = record { runs = reads_none g.T.Destination _ c.args.src.now c.args.dst.now }
