@@ -4,7 +4,7 @@ use crate::{indexes, packing};
 use encoding_rs::Encoding;
 
 /// The numbers of the codecs, by the header's names: `build.rs` reads them there.
-mod numbers {
+pub mod numbers {
     include!(concat!(env!("OUT_DIR"), "/numbers.rs"));
 }
 
@@ -23,6 +23,7 @@ impl<T> From<&Vec<T>> for Slice<T> {
 
 /// `struct legacy_range`.
 #[repr(C)]
+#[derive(Clone, Copy)]
 pub struct Range {
     pub pointer: u16,
     pub scalar: u16,
@@ -38,17 +39,24 @@ pub struct Run {
 
 /// `struct legacy_byte_run`.
 #[repr(C)]
-#[derive(Clone, Copy, Default)]
-struct ByteRun {
-    scalar: u16,
-    start: u8,
-    length: u8,
+#[derive(Clone, Copy)]
+pub struct ByteRun {
+    pub scalar: u16,
+    pub start: u8,
+    pub length: u8,
+}
+
+impl Default for ByteRun {
+    /// A run that says nothing.
+    fn default() -> ByteRun {
+        ByteRun { scalar: 0, start: 32, length: 0 }
+    }
 }
 
 impl ByteRun {
     /// The longest run of these scalars from place 32 on, the first of those that are equally long.
     fn longest(entries: &[u16]) -> ByteRun {
-        let mut longest = ByteRun { scalar: 0, start: 32, length: 0 };
+        let mut longest = ByteRun::default();
         for start in 32..entries.len() {
             let run = entries[start..].iter().zip(entries[start]..).take_while(|(entry, scalar)| **entry == *scalar && **entry != 0);
             let length = run.count();
@@ -92,16 +100,17 @@ struct IndexSlices {
 }
 
 /// The flat indexes that a codec reads by; the others are empty.
-#[derive(Default)]
+#[derive(Clone, Default)]
 pub struct Indexes {
-    big5: Vec<u32>,
-    euc_kr: Vec<u16>,
-    jis0208: Vec<u16>,
-    jis0212: Vec<u16>,
-    gb18030: Vec<u16>,
-    katakana: Vec<u16>,
-    ranges: Vec<Range>,
-    single_byte: Vec<u16>,
+    pub big5: Vec<u32>,
+    pub euc_kr: Vec<u16>,
+    pub jis0208: Vec<u16>,
+    pub jis0212: Vec<u16>,
+    pub gb18030: Vec<u16>,
+    pub katakana: Vec<u16>,
+    pub ranges: Vec<Range>,
+    pub single_byte: Vec<u16>,
+    pub single_byte_run: ByteRun,
 }
 
 impl Indexes {
@@ -115,7 +124,7 @@ impl Indexes {
             gb18030: indexes::gb18030(),
             katakana: indexes::katakana(),
             ranges: indexes::ranges(),
-            single_byte: Vec::new(),
+            ..Indexes::default()
         }
     }
 
@@ -135,7 +144,10 @@ impl Indexes {
             }
             numbers::LEGACY_SHIFT_JIS => Indexes { jis0208: indexes::jis0208(), ..none },
             numbers::LEGACY_EUC_KR => Indexes { euc_kr: indexes::euc_kr(), ..none },
-            numbers::LEGACY_SINGLE_BYTE => Indexes { single_byte: indexes::single_byte(encoding), ..none },
+            numbers::LEGACY_SINGLE_BYTE => {
+                let single_byte = indexes::single_byte(encoding);
+                Indexes { single_byte_run: ByteRun::longest(&single_byte), single_byte, ..none }
+            }
             _ => none,
         }
     }
@@ -143,21 +155,21 @@ impl Indexes {
 
 /// Runs and orders of flat indexes.
 #[derive(Default)]
-struct Packed {
-    big5: Vec<Run>,
-    euc_kr: Vec<Run>,
-    jis0208: Vec<Run>,
-    jis0212: Vec<Run>,
-    gb18030: Vec<Run>,
-    big5_order: Vec<u16>,
-    euc_kr_order: Vec<u16>,
-    shift_jis_order: Vec<u16>,
-    euc_jp_order: Vec<u16>,
-    gb18030_order: Vec<u16>,
+pub struct Packed {
+    pub big5: Vec<Run>,
+    pub euc_kr: Vec<Run>,
+    pub jis0208: Vec<Run>,
+    pub jis0212: Vec<Run>,
+    pub gb18030: Vec<Run>,
+    pub big5_order: Vec<u16>,
+    pub euc_kr_order: Vec<u16>,
+    pub shift_jis_order: Vec<u16>,
+    pub euc_jp_order: Vec<u16>,
+    pub gb18030_order: Vec<u16>,
 }
 
 impl Packed {
-    fn of(flat: &Indexes) -> Packed {
+    pub fn of(flat: &Indexes) -> Packed {
         Packed {
             big5: packing::runs(&flat.big5),
             euc_kr: packing::runs(&flat.euc_kr),
@@ -189,14 +201,14 @@ impl Packed {
 }
 
 /// How tables are kept.
-#[derive(Clone, Copy, PartialEq, Eq, Hash)]
+#[derive(Clone, Copy, Debug, PartialEq, Eq, Hash)]
 pub enum Kept {
     Flat,
     Packed,
 }
 
 /// Who replaces what is malformed or has no bytes.
-#[derive(Clone, Copy, PartialEq, Eq)]
+#[derive(Clone, Copy, Debug, PartialEq, Eq)]
 pub enum Calls {
     /// The library's loop behind a raw call: by U+FFFD, or by a question mark.
     Raw,
@@ -206,15 +218,15 @@ pub enum Calls {
 
 /// A codec, by its number, and its indexes.
 pub struct Ours {
-    codec: u32,
-    indexes: Indexes,
-    packed: Option<Packed>,
+    pub codec: u32,
+    pub indexes: Indexes,
+    pub packed: Option<Packed>,
 }
 
 type Export<R, W> = unsafe extern "C" fn(u32, *const IndexSlices, *const R, usize, *mut W, usize, usize, usize) -> usize;
 
 impl Ours {
-    fn with(codec: u32, indexes: Indexes, kept: Kept) -> Ours {
+    pub fn with(codec: u32, indexes: Indexes, kept: Kept) -> Ours {
         let packed = (kept == Kept::Packed).then(|| Packed::of(&indexes));
         Ours { codec, indexes, packed }
     }
@@ -255,7 +267,7 @@ impl Ours {
             katakana: Slice::from(&indexes.katakana),
             ranges: Slice::from(&indexes.ranges),
             single_byte: Slice::from(&indexes.single_byte),
-            single_byte_run: ByteRun::longest(&indexes.single_byte),
+            single_byte_run: indexes.single_byte_run,
             is_packed: self.packed.is_some(),
             packed,
         }

@@ -1,12 +1,13 @@
 //! The comparisons of a round.
 
+use crate::calls::{Cut, Library};
 use crate::codec::Codec;
 use crate::model::{self, Pointers};
 use crate::numbers::Numbers;
-use crate::ours::{self, Cut};
+use crate::ours::{Calls, Kept};
 use crate::sources;
 use crate::tables::Tables;
-use encoding_rs::{DecoderResult, EncoderResult, Encoding};
+use encoding_rs::{CoderResult, DecoderResult, EncoderResult, Encoding};
 use std::fmt;
 
 /// How much was tried.
@@ -20,6 +21,8 @@ pub struct Count {
     encoded: u64,
     units: u64,
     calls: u64,
+    over_packed: u64,
+    with_replacement: u64,
 }
 
 impl Count {
@@ -32,49 +35,64 @@ impl Count {
         self.encoded += other.encoded;
         self.units += other.units;
         self.calls += other.calls;
+        self.over_packed += other.over_packed;
+        self.with_replacement += other.with_replacement;
+    }
+
+    fn add_call(&mut self, cut: Cut) {
+        self.calls += 1;
+        self.over_packed += u64::from(cut.kept == Kept::Packed);
+        self.with_replacement += u64::from(cut.calls == Calls::Replacing);
     }
 }
 
 impl fmt::Display for Count {
     fn fmt(&self, f: &mut fmt::Formatter) -> fmt::Result {
-        let Count { standard_rounds, odd_rounds, spoiled, decoded, bytes, encoded, units, calls } = self;
-        write!(f, " {standard_rounds} | {odd_rounds} | {spoiled} | {decoded} | {bytes} | {encoded} | {units} | {calls} |")
+        let Count { standard_rounds, odd_rounds, spoiled, decoded, bytes, encoded, units, calls, .. } = self;
+        write!(f, " {standard_rounds} | {odd_rounds} | {spoiled} | {decoded} | {bytes} | {encoded} | {units} | {calls} |")?;
+        write!(f, " {} | {} |", self.over_packed, self.with_replacement)
     }
 }
 
-/// The codec's functions refuse the tables.
-pub fn refuses(codec: Codec, tables: &Tables) -> Result<(), String> {
-    let cut = Cut { piece: 0, room: 16 };
-    if ours::to_utf8(codec, tables, b"a", cut)?.is_some() || ours::to_utf16(codec, tables, b"a", cut)?.is_some() {
-        return Err("the decoder took it".to_string());
-    }
-    // The encoder of a single-byte encoding looks at no other index.
-    let looks = codec.has_encoder();
-    if looks && ours::from_utf8(codec, tables, b"a", cut)?.is_some() || looks && ours::from_utf16(codec, tables, &[0x61], cut)?.is_some() {
-        return Err("the encoder took it".to_string());
+/// The kinds of calls.
+const CALLS: [Calls; 2] = [Calls::Raw, Calls::Replacing];
+
+/// The codec's functions refuse the tables, kept so.
+pub fn refuses(codec: Codec, library: &Library, kept: &[Kept]) -> Result<(), String> {
+    for (kept, calls) in kept.iter().flat_map(|kept| CALLS.map(|calls| (*kept, calls))) {
+        let cut = Cut { kept, calls, piece: 0, room: 16 };
+        if library.to_utf8(b"a", cut)?.is_some() || library.to_utf16(b"a", cut)?.is_some() {
+            return Err(format!("the decoder took it: {cut:?}"));
+        }
+        let looks = codec.has_encoder();
+        if looks && library.from_utf8(b"a", cut)?.is_some() || looks && library.from_utf16(&[0x61], cut)?.is_some() {
+            return Err(format!("the encoder took it: {cut:?}"));
+        }
     }
     Ok(())
 }
 
 /// How much more room than is left an act may ask for: four bytes of an output in UTF-8 or of an encoder's, two
-/// code units of UTF-16.
+/// code units of UTF-16; and a call with replacement ten more bytes, which a reference may have.
 const ROOM_IN_BYTES: usize = 4;
 const ROOM_IN_UNITS: usize = 2;
+const ROOM_WITH_REFERENCE: usize = 14;
 
-/// Cuts to try: whole, in pieces, and into outputs that are too small.
-fn cuts(numbers: &mut Numbers, source: usize, output: usize) -> Vec<Cut> {
+/// Cuts to try by these calls: whole, in pieces, and into outputs that are too small; each over flat or packed tables.
+fn cuts(numbers: &mut Numbers, calls: Calls, source: usize, output: usize) -> Vec<Cut> {
     let ample = output + 16;
-    let piece = numbers.within(1, source.clamp(1, 40));
+    let small = |numbers: &mut Numbers| numbers.below(output + 4);
     let mut cuts = vec![
-        Cut { piece: 0, room: ample },
-        Cut { piece, room: ample },
-        Cut { piece: 0, room: numbers.below(output + 4) },
-        Cut { piece: numbers.within(1, 9), room: numbers.below(output + 4) },
+        (0, ample),
+        (numbers.within(1, source.clamp(1, 40)), ample),
+        (0, small(numbers)),
+        (numbers.within(1, 9), small(numbers)),
     ];
     if numbers.once_in(4) {
-        cuts.push(Cut { piece: 1, room: ample });
+        cuts.push((1, ample));
     }
-    cuts
+    let mut cut = |(piece, room)| Cut { kept: numbers.of(&[Kept::Flat, Kept::Packed]), calls, piece, room };
+    cuts.into_iter().map(&mut cut).collect()
 }
 
 /// What was written is all of what is wanted, or a front of it that ends between two characters and behind which
@@ -113,6 +131,7 @@ fn is_between_units(units: &[u16], place: usize) -> bool {
 
 /// A codec, its tables, and the encoding of encoding_rs where the tables are its own.
 pub struct Round<'a> {
+    library: Library,
     codec: Codec,
     tables: &'a Tables,
     theirs: Option<&'static Encoding>,
@@ -125,7 +144,7 @@ impl<'a> Round<'a> {
         let pointers = model::pointers(codec, tables);
         let mut scalars: Vec<char> = pointers.keys().copied().collect();
         scalars.sort_unstable();
-        Round { codec, tables, theirs, pointers, scalars }
+        Round { library: Library::new(codec, tables), codec, tables, theirs, pointers, scalars }
     }
 
     /// Decodes a source to UTF-8 and to UTF-16 in several cuts.
@@ -140,15 +159,17 @@ impl<'a> Round<'a> {
                 return Err(failed(format!("encoding_rs and the model differ: {theirs:?}, {text:?}")));
             }
         }
-        for cut in cuts(numbers, source.len(), text.len()) {
-            let came = ours::to_utf8(self.codec, self.tables, &source, cut).map_err(failed)?.ok_or("refused")?;
+        let calls = numbers.of(&CALLS);
+        for cut in cuts(numbers, calls, source.len(), text.len()) {
+            let came = self.library.to_utf8(&source, cut).map_err(failed)?.ok_or("refused")?;
             is_front(&came, text.as_bytes(), cut, ROOM_IN_BYTES, is_between_bytes).map_err(|error| failed(format!("to UTF-8, {error}")))?;
-            count.calls += 1;
+            count.add_call(cut);
         }
-        for cut in cuts(numbers, source.len(), units.len()) {
-            let came = ours::to_utf16(self.codec, self.tables, &source, cut).map_err(failed)?.ok_or("refused")?;
+        let calls = numbers.of(&CALLS);
+        for cut in cuts(numbers, calls, source.len(), units.len()) {
+            let came = self.library.to_utf16(&source, cut).map_err(failed)?.ok_or("refused")?;
             is_front(&came, &units, cut, ROOM_IN_UNITS, is_between_units).map_err(|error| failed(format!("to UTF-16, {error}")))?;
-            count.calls += 1;
+            count.add_call(cut);
         }
         count.decoded += 1;
         count.bytes += source.len() as u64;
@@ -160,29 +181,44 @@ impl<'a> Round<'a> {
         let units = sources::any_text(numbers, &self.scalars);
         let scalars = sources::text_of(&units);
         let text: String = scalars.iter().collect();
-        let wanted = model::encoders::encode(self.codec, self.tables, &self.pointers, &scalars);
         let failed = |error| format!("{error}\nunits: {units:04X?}");
-        if let Some(encoding) = self.theirs {
-            let theirs = encoded_by_theirs(encoding, &text);
-            if theirs != wanted {
-                return Err(failed(format!("encoding_rs and the model differ: {theirs:02X?}, {wanted:02X?}")));
-            }
-        }
+        let with_marks = self.wanted(&scalars, Calls::Raw).map_err(failed)?;
+        let with_references = self.wanted(&scalars, Calls::Replacing).map_err(failed)?;
+        let wanted = |calls| match calls {
+            Calls::Raw => (&with_marks, ROOM_IN_BYTES),
+            Calls::Replacing => (&with_references, ROOM_WITH_REFERENCE),
+        };
         let any = |_: &[u8], _: usize| true;
-        for cut in cuts(numbers, text.len(), wanted.len()) {
-            let came = ours::from_utf8(self.codec, self.tables, text.as_bytes(), cut).map_err(failed)?.ok_or("refused")?;
-            is_front(&came, &wanted, cut, ROOM_IN_BYTES, any).map_err(|error| failed(format!("from UTF-8, {error}")))?;
-            count.calls += 1;
+        let calls = numbers.of(&CALLS);
+        let (bytes, room) = wanted(calls);
+        for cut in cuts(numbers, calls, text.len(), bytes.len()) {
+            let came = self.library.from_utf8(text.as_bytes(), cut).map_err(failed)?.ok_or("refused")?;
+            is_front(&came, bytes, cut, room, any).map_err(|error| failed(format!("from UTF-8, {error}")))?;
+            count.add_call(cut);
         }
-        for cut in cuts(numbers, units.len(), wanted.len()) {
-            let came = ours::from_utf16(self.codec, self.tables, &units, cut).map_err(failed)?.ok_or("refused")?;
-            is_front(&came, &wanted, cut, ROOM_IN_BYTES, any).map_err(|error| failed(format!("from UTF-16, {error}")))?;
-            count.calls += 1;
+        let calls = numbers.of(&CALLS);
+        let (bytes, room) = wanted(calls);
+        for cut in cuts(numbers, calls, units.len(), bytes.len()) {
+            let came = self.library.from_utf16(&units, cut).map_err(failed)?.ok_or("refused")?;
+            is_front(&came, bytes, cut, room, any).map_err(|error| failed(format!("from UTF-16, {error}")))?;
+            count.add_call(cut);
         }
-        self.decodes_back(&scalars, &wanted, count).map_err(failed)?;
+        self.decodes_back(&scalars, &with_marks, count).map_err(failed)?;
         count.encoded += 1;
         count.units += units.len() as u64;
         Ok(())
+    }
+
+    /// What such calls are to write for the scalars, by the model, with which encoding_rs has to agree.
+    fn wanted(&self, scalars: &[char], calls: Calls) -> Result<Vec<u8>, String> {
+        let wanted = model::encoders::encode(self.codec, self.tables, &self.pointers, scalars, calls);
+        if let Some(encoding) = self.theirs {
+            let theirs = encoded_by_theirs(encoding, &scalars.iter().collect::<String>(), calls);
+            if theirs != wanted {
+                return Err(format!("encoding_rs and the model differ: {calls:?}: {theirs:02X?}, {wanted:02X?}"));
+            }
+        }
+        Ok(wanted)
     }
 
     /// What was encoded decodes to one scalar for each of the text's: itself, a question mark where it has no bytes,
@@ -193,9 +229,9 @@ impl<'a> Round<'a> {
             // A row's bytes are the index's to decode, and it may have nothing there.
             return Ok(());
         }
-        let cut = Cut { piece: 0, room: scalars.len() * 4 + 16 };
-        let back = ours::to_utf8(self.codec, self.tables, encoded, cut)?.ok_or("refused")?;
-        count.calls += 1;
+        let cut = Cut { kept: Kept::Packed, calls: Calls::Raw, piece: 0, room: scalars.len() * 4 + 16 };
+        let back = self.library.to_utf8(encoded, cut)?.ok_or("refused")?;
+        count.add_call(cut);
         let back = std::str::from_utf8(&back).map_err(|error| format!("no UTF-8: {error}"))?;
         let back: Vec<char> = back.chars().collect();
         if back.len() != scalars.len() {
@@ -232,18 +268,27 @@ fn decoded_by_theirs(encoding: &'static Encoding, source: &[u8]) -> String {
 }
 
 /// The bytes of the text by encoding_rs.
-fn encoded_by_theirs(encoding: &'static Encoding, text: &str) -> Vec<u8> {
+fn encoded_by_theirs(encoding: &'static Encoding, text: &str, calls: Calls) -> Vec<u8> {
     let mut encoder = encoding.new_encoder();
     let mut bytes = Vec::new();
     let mut read = 0;
     loop {
-        bytes.reserve(text.len() * 3 + 64);
-        let (answer, more) = encoder.encode_from_utf8_to_vec_without_replacement(&text[read..], &mut bytes, true);
+        bytes.reserve((text.len() - read) * 3 + 64);
+        let rest = &text[read..];
+        let (is_read, more) = match calls {
+            Calls::Replacing => {
+                let (answer, more, _) = encoder.encode_from_utf8_to_vec(rest, &mut bytes, true);
+                (answer == CoderResult::InputEmpty, more)
+            }
+            Calls::Raw => {
+                let (answer, more) = encoder.encode_from_utf8_to_vec_without_replacement(rest, &mut bytes, true);
+                bytes.extend(matches!(answer, EncoderResult::Unmappable(_)).then_some(b'?'));
+                (answer == EncoderResult::InputEmpty, more)
+            }
+        };
         read += more;
-        match answer {
-            EncoderResult::InputEmpty => return bytes,
-            EncoderResult::OutputFull => {}
-            EncoderResult::Unmappable(_) => bytes.push(b'?'),
+        if is_read {
+            return bytes;
         }
     }
 }

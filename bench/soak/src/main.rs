@@ -1,28 +1,49 @@
 //! A soak: for so many seconds, tables, bytes and texts of no pattern go through every codec of the static library,
-//! whole, in pieces and into small outputs, and what comes of them is compared with a slow model of the Standard, and
-//! with encoding_rs where the tables are the Standard's.
+//! whole, in pieces and into small outputs, over flat and packed tables, by raw calls and calls with replacement, and
+//! what comes of them is compared with a slow model of the Standard, and with encoding_rs where the tables are the
+//! Standard's.
 //!
 //! Arguments: the seconds, and a seed (none: the clock's). Each round has a seed of its own, which is printed where
 //! something differs; with it as the seed that round is the first.
 
+mod calls;
 mod checks;
 mod codec;
 #[path = "../../driver/src/indexes.rs"]
 mod indexes;
 mod model;
 mod numbers;
+// The bench takes codecs by their encodings.
+#[allow(dead_code)]
+#[path = "../../driver/src/ours.rs"]
 mod ours;
+#[path = "../../driver/src/packing.rs"]
+mod packing;
 mod sources;
 mod tables;
 
+use calls::Library;
 use checks::{Count, Round};
 use codec::{Codec, CODECS};
 use numbers::Numbers;
+use ours::Kept;
 use std::time::{Duration, Instant, SystemTime};
-use tables::Standard;
+use tables::{Standard, Tables};
+
+/// How tables are kept.
+const KEPT: [Kept; 2] = [Kept::Flat, Kept::Packed];
 
 /// How many sources of each direction a round has over its tables.
 const SOURCES: usize = 6;
+
+/// The round of a pack that is not that of its indexes.
+fn spoiled_pack(codec: Codec, tables: &Tables, numbers: &mut Numbers, count: &mut Count) -> Result<(), String> {
+    let mut library = Library::new(codec, tables);
+    let fault = library.packed().packed.as_mut().and_then(|packed| tables::spoil_packed(packed, numbers));
+    let Some(fault) = fault else { return Ok(()) };
+    count.spoiled += 1;
+    checks::refuses(codec, &library, &[Kept::Packed]).map_err(|error| format!("{codec:?} over {fault}: {error}"))
+}
 
 /// One round: tables, and sources for the decoder and the encoder over them.
 fn round(standard: &Standard, codec: Codec, seed: u64, count: &mut Count) -> Result<(), String> {
@@ -32,7 +53,10 @@ fn round(standard: &Standard, codec: Codec, seed: u64, count: &mut Count) -> Res
     if codec.has_tables() && numbers.once_in(50) {
         let fault = tables::spoil(&mut tables, &mut numbers);
         count.spoiled += 1;
-        return checks::refuses(codec, &tables).map_err(|error| format!("{codec:?} over {fault}: {error}"));
+        return checks::refuses(codec, &Library::new(codec, &tables), &KEPT).map_err(|error| format!("{codec:?} over {fault}: {error}"));
+    }
+    if codec.has_tables() && numbers.once_in(50) {
+        return spoiled_pack(codec, &tables, &mut numbers, count);
     }
     let round = Round::new(codec, &tables, (!is_odd).then(|| codec::encoding(name)));
     for _ in 0..SOURCES {
@@ -55,8 +79,8 @@ fn seed_behind(seed: u64) -> u64 {
 }
 
 fn report(counts: &[Count], seconds: u64) {
-    println!("| codec | rounds, standard tables | rounds, odd tables | refused tables | sources decoded | bytes | sources encoded | code units | calls |");
-    println!("|---|---|---|---|---|---|---|---|---|");
+    println!("| codec | rounds, standard tables | rounds, odd tables | refused tables | sources decoded | bytes | sources encoded | code units | calls | of them over packed tables | with replacement |");
+    println!("|---|---|---|---|---|---|---|---|---|---|---|");
     let mut total = Count::default();
     for (codec, count) in CODECS.iter().zip(counts) {
         println!("| {} |{count}", codec.name());

@@ -3,6 +3,7 @@
 use crate::codec::Codec;
 use crate::model::{self, Pointers};
 use crate::numbers::Numbers;
+use crate::ours::Calls;
 use crate::tables::Tables;
 
 /// The greatest length of a text in code units: over flat tables an encoder searches for each character.
@@ -92,7 +93,7 @@ pub fn bytes(codec: Codec, tables: &Tables, pointers: &Pointers, scalars: &[char
     let mut bytes: Vec<u8> = match codec {
         Codec::Utf16Be => units.iter().flat_map(|unit| unit.to_be_bytes()).collect(),
         Codec::Utf16Le => units.iter().flat_map(|unit| unit.to_le_bytes()).collect(),
-        _ => model::encoders::encode(codec, tables, pointers, &text_of(&units)),
+        _ => model::encoders::encode(codec, tables, pointers, &text_of(&units), Calls::Raw),
     };
     if numbers.once_in(2) && !bytes.is_empty() {
         for _ in 0..numbers.within(1, 4) {

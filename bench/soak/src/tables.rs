@@ -3,40 +3,15 @@
 use crate::codec::{encoding, Codec, SINGLE_BYTE};
 use crate::indexes;
 use crate::numbers::Numbers;
-use crate::ours::{ByteRun, Range};
+use crate::ours::{ByteRun, Packed, Range, Run};
 use std::collections::HashSet;
 
 /// Indexes that a codec reads by.
-#[derive(Clone)]
-pub struct Tables {
-    pub big5: Vec<u32>,
-    pub euc_kr: Vec<u16>,
-    pub jis0208: Vec<u16>,
-    pub jis0212: Vec<u16>,
-    pub gb18030: Vec<u16>,
-    pub katakana: Vec<u16>,
-    pub ranges: Vec<Range>,
-    pub single_byte: Vec<u16>,
-    pub run: ByteRun,
-}
+pub use crate::ours::Indexes as Tables;
 
-/// A run that says nothing.
-const NO_RUN: ByteRun = ByteRun { scalar: 0, start: 32, length: 0 };
-
-impl Tables {
-    pub fn none() -> Tables {
-        Tables {
-            big5: Vec::new(),
-            euc_kr: Vec::new(),
-            jis0208: Vec::new(),
-            jis0212: Vec::new(),
-            gb18030: Vec::new(),
-            katakana: Vec::new(),
-            ranges: Vec::new(),
-            single_byte: vec![0; 128],
-            run: NO_RUN,
-        }
-    }
+/// Tables without an entry.
+fn none() -> Tables {
+    Tables { single_byte: vec![0; 128], ..Tables::default() }
 }
 
 /// The Standard's indexes of all codecs, found once.
@@ -56,7 +31,7 @@ impl Standard {
                 gb18030: indexes::gb18030(),
                 katakana: indexes::katakana(),
                 ranges: indexes::ranges(),
-                ..Tables::none()
+                ..none()
             },
             single_byte: SINGLE_BYTE.iter().map(|name| indexes::single_byte(encoding(name))).collect(),
         }
@@ -64,13 +39,13 @@ impl Standard {
 
     /// The Standard's tables that the codec reads by, and the name of the encoding.
     pub fn tables(&self, codec: Codec, numbers: &mut Numbers) -> (Tables, &'static str) {
-        let none = Tables::none();
+        let none = none();
         let all = &self.all;
         let tables = match codec {
             Codec::SingleByte => {
                 let which = numbers.below(SINGLE_BYTE.len());
                 let mut tables = Tables { single_byte: self.single_byte[which].clone(), ..none };
-                tables.run = any_run(&tables.single_byte, numbers);
+                tables.single_byte_run = any_run(&tables.single_byte, numbers);
                 return (tables, SINGLE_BYTE[which]);
             }
             Codec::Gbk | Codec::Gb18030 => Tables { gb18030: all.gb18030.clone(), ranges: all.ranges.clone(), ..none },
@@ -171,7 +146,7 @@ fn wide(numbers: &mut Numbers) -> u32 {
 
 /// Tables that are accepted, and that no encoding has.
 pub fn odd(codec: Codec, numbers: &mut Numbers) -> Tables {
-    let none = Tables::none();
+    let none = none();
     let mut tables = match codec {
         Codec::SingleByte => Tables { single_byte: single_byte(numbers), ..none },
         Codec::Gbk | Codec::Gb18030 => Tables { gb18030: entries(numbers, 23_940, narrow), ranges: ranges(numbers), ..none },
@@ -193,7 +168,7 @@ pub fn odd(codec: Codec, numbers: &mut Numbers) -> Tables {
         let of_index = |numbers: &mut Numbers| if some.is_empty() { 0 } else { numbers.of(&some) };
         tables.katakana = (0..63).map(|_| if numbers.once_in(4) { narrow(numbers) } else { of_index(numbers) }).collect();
     }
-    tables.run = any_run(&tables.single_byte, numbers);
+    tables.single_byte_run = any_run(&tables.single_byte, numbers);
     tables
 }
 
@@ -226,4 +201,32 @@ pub fn spoil(tables: &mut Tables, numbers: &mut Numbers) -> &'static str {
         _ => return "an index that is too long or has a bad entry",
     }
     "an index that breaks a rule of its own"
+}
+
+/// Spoils runs or an order of accepted indexes: they must be refused then. `None` where they are empty.
+pub fn spoil_packed(packed: &mut Packed, numbers: &mut Numbers) -> Option<&'static str> {
+    let Packed { big5, euc_kr, jis0208, jis0212, gb18030, .. } = packed;
+    let mut runs: Vec<&mut Vec<Run>> = vec![big5, euc_kr, jis0208, jis0212, gb18030];
+    runs.retain(|runs| !runs.is_empty());
+    let Packed { big5_order, euc_kr_order, shift_jis_order, euc_jp_order, gb18030_order, .. } = packed;
+    let mut orders: Vec<&mut Vec<u16>> = vec![big5_order, euc_kr_order, shift_jis_order, euc_jp_order, gb18030_order];
+    orders.retain(|order| order.len() > 1);
+    if runs.is_empty() || orders.is_empty() {
+        return None;
+    }
+    let which = numbers.below(runs.len());
+    let runs = &mut runs[which];
+    let run = numbers.below(runs.len());
+    let which = numbers.below(orders.len());
+    let order = &mut orders[which];
+    let place = numbers.within(1, order.len() - 1);
+    match numbers.below(6) {
+        0 => drop(runs.remove(run)),
+        1 => runs[run].scalar += 1,
+        2 => runs[run].length += 1,
+        3 => drop(order.remove(place)),
+        4 => order.swap(place - 1, place),
+        _ => order[place] = order[place - 1],
+    }
+    Some("runs or an order that are not those of the indexes")
 }

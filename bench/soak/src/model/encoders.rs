@@ -1,11 +1,17 @@
-//! The encoders of the Standard, with a question mark for each scalar that the codec does not have.
+//! The encoders of the Standard, with a question mark or a reference for each scalar that the codec does not have.
 
 use super::{range_pointer, side_table, Pointers};
 use crate::codec::Codec;
+use crate::ours::Calls;
 use crate::tables::Tables;
 
 /// What is written for a scalar that the codec does not have.
-const QUESTION_MARK: u8 = 0x3F;
+fn stand_in(calls: Calls, scalar: char) -> Vec<u8> {
+    match calls {
+        Calls::Raw => vec![0x3F],
+        Calls::Replacing => format!("&#{};", u32::from(scalar)).into_bytes(),
+    }
+}
 
 /// A pair: the lead and the trail of a pointer in rows of so many, with the gaps that the codec has in its trails.
 fn pair(pointer: usize, row: usize, lead: usize, trail: impl Fn(usize) -> usize) -> Vec<u8> {
@@ -92,6 +98,7 @@ enum Mode {
 struct Iso2022Jp<'a> {
     tables: &'a Tables,
     pointers: &'a Pointers,
+    calls: Calls,
     bytes: Vec<u8>,
     mode: Mode,
 }
@@ -117,15 +124,18 @@ impl Iso2022Jp<'_> {
         self.pointers.get(&looked_up).copied()
     }
 
+    /// A scalar without bytes: a reference is written in the mode that stands, but not in that of two bytes.
+    fn replace(&mut self, scalar: char) {
+        if self.mode == Mode::Jis0208 {
+            self.switch(Mode::Ascii);
+        }
+        self.bytes.extend(stand_in(self.calls, scalar));
+    }
+
     fn encode(&mut self, scalar: char) {
         let is_same_in_roman = scalar.is_ascii() && !matches!(scalar, '\\' | '~');
         match scalar {
-            '\u{E}' | '\u{F}' | '\u{1B}' => {
-                if self.mode == Mode::Jis0208 {
-                    self.switch(Mode::Ascii);
-                }
-                self.bytes.push(QUESTION_MARK);
-            }
+            '\u{E}' | '\u{F}' | '\u{1B}' => self.replace('\u{FFFD}'),
             _ if scalar.is_ascii() => {
                 if self.mode != Mode::Roman || !is_same_in_roman {
                     self.switch(Mode::Ascii);
@@ -141,21 +151,17 @@ impl Iso2022Jp<'_> {
                     self.switch(Mode::Jis0208);
                     self.bytes.extend(pair(pointer, 94, 0x21, |trail| trail + 0x21));
                 }
-                None => {
-                    if self.mode == Mode::Jis0208 {
-                        self.switch(Mode::Ascii);
-                    }
-                    self.bytes.push(QUESTION_MARK);
-                }
+                None => self.replace(scalar),
             },
         }
     }
 }
 
-/// The bytes of the text, with a question mark for each scalar that the codec does not have.
-pub fn encode(codec: Codec, tables: &Tables, pointers: &Pointers, text: &[char]) -> Vec<u8> {
+/// The bytes of the text, with a question mark for each scalar that the codec does not have, or a reference by calls
+/// with replacement.
+pub fn encode(codec: Codec, tables: &Tables, pointers: &Pointers, text: &[char], calls: Calls) -> Vec<u8> {
     if codec == Codec::Iso2022Jp {
-        let mut encoder = Iso2022Jp { tables, pointers, bytes: Vec::new(), mode: Mode::Ascii };
+        let mut encoder = Iso2022Jp { tables, pointers, calls, bytes: Vec::new(), mode: Mode::Ascii };
         text.iter().for_each(|scalar| encoder.encode(*scalar));
         encoder.switch(Mode::Ascii);
         return encoder.bytes;
@@ -165,7 +171,7 @@ pub fn encode(codec: Codec, tables: &Tables, pointers: &Pointers, text: &[char])
         match code(codec, tables, pointers, *scalar) {
             _ if scalar.is_ascii() => bytes.push(*scalar as u8),
             Some(code) => bytes.extend(code),
-            None => bytes.push(QUESTION_MARK),
+            None => bytes.extend(stand_in(calls, *scalar)),
         }
     }
     bytes

@@ -1,0 +1,96 @@
+//! Calls of the static library over flat and packed tables, into outputs behind which nothing may be written.
+
+use crate::codec::Codec;
+use crate::ours::{numbers, Calls, Kept, Ours};
+use crate::tables::Tables;
+
+fn number(codec: Codec) -> u32 {
+    match codec {
+        Codec::SingleByte => numbers::LEGACY_SINGLE_BYTE,
+        Codec::Gbk => numbers::LEGACY_GBK,
+        Codec::Gb18030 => numbers::LEGACY_GB18030,
+        Codec::Big5 => numbers::LEGACY_BIG5,
+        Codec::EucJp => numbers::LEGACY_EUC_JP,
+        Codec::Iso2022Jp => numbers::LEGACY_ISO_2022_JP,
+        Codec::ShiftJis => numbers::LEGACY_SHIFT_JIS,
+        Codec::EucKr => numbers::LEGACY_EUC_KR,
+        Codec::Replacement => numbers::LEGACY_REPLACEMENT,
+        Codec::Utf16Be => numbers::LEGACY_UTF_16BE,
+        Codec::Utf16Le => numbers::LEGACY_UTF_16LE,
+        Codec::UserDefined => numbers::LEGACY_X_USER_DEFINED,
+    }
+}
+
+/// Which calls a source goes through, how it is handed in, and how much of the output is.
+#[derive(Clone, Copy, Debug)]
+pub struct Cut {
+    pub kept: Kept,
+    pub calls: Calls,
+    /// How many code units a piece has; 0: all in one.
+    pub piece: usize,
+    /// How many code units of the output are handed in.
+    pub room: usize,
+}
+
+/// How many code units lie behind what is handed in of an output, where nothing may be written.
+const GUARD: usize = 8;
+
+/// What a function wrote, or `None` where it refused the tables.
+///
+/// It is an error where it says that it wrote more than there was room for, or wrote behind the output's end.
+fn called<W: Copy + PartialEq>(room: usize, blank: W, function: impl FnOnce(&mut [W]) -> usize) -> Result<Option<Vec<W>>, String> {
+    let mut output = vec![blank; room + GUARD];
+    let written = function(&mut output[..room]);
+    if output[room..].iter().any(|unit| *unit != blank) {
+        return Err(format!("wrote behind the output of {room} code units"));
+    }
+    if written == usize::MAX {
+        return Ok(None);
+    }
+    if written > room {
+        return Err(format!("says that it wrote {written} code units into {room}"));
+    }
+    output.truncate(written);
+    Ok(Some(output))
+}
+
+/// A codec of the library, over flat tables and over packed ones.
+pub struct Library {
+    flat: Ours,
+    packed: Ours,
+}
+
+impl Library {
+    pub fn new(codec: Codec, tables: &Tables) -> Library {
+        let with = |kept| Ours::with(number(codec), tables.clone(), kept);
+        Library { flat: with(Kept::Flat), packed: with(Kept::Packed) }
+    }
+
+    /// The library over packed tables.
+    pub fn packed(&mut self) -> &mut Ours {
+        &mut self.packed
+    }
+
+    fn ours(&self, cut: Cut) -> &Ours {
+        match cut.kept {
+            Kept::Flat => &self.flat,
+            Kept::Packed => &self.packed,
+        }
+    }
+
+    pub fn to_utf8(&self, source: &[u8], cut: Cut) -> Result<Option<Vec<u8>>, String> {
+        called(cut.room, 0xAA, |output| self.ours(cut).to_utf8(cut.calls, source, output, cut.piece, 1))
+    }
+
+    pub fn to_utf16(&self, source: &[u8], cut: Cut) -> Result<Option<Vec<u16>>, String> {
+        called(cut.room, 0xAAAA, |output| self.ours(cut).to_utf16(cut.calls, source, output, cut.piece, 1))
+    }
+
+    pub fn from_utf8(&self, source: &[u8], cut: Cut) -> Result<Option<Vec<u8>>, String> {
+        called(cut.room, 0xAA, |output| self.ours(cut).from_utf8(cut.calls, source, output, cut.piece, 1))
+    }
+
+    pub fn from_utf16(&self, source: &[u16], cut: Cut) -> Result<Option<Vec<u8>>, String> {
+        called(cut.room, 0xAA, |output| self.ours(cut).from_utf16(cut.calls, source, output, cut.piece, 1))
+    }
+}
