@@ -322,6 +322,3 @@ impl Encoding {
         }
     }
 }
-
-#[cfg(test)]
-mod tests;

@@ -82,6 +82,3 @@ pub fn read_index(alloc: Global, name: FileIndex, text: &[u8]) -> Result<FileTab
     };
     table.map_err(|_| IndexFileError::Memory)
 }
-
-#[cfg(test)]
-mod tests;

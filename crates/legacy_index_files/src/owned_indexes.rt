@@ -142,6 +142,3 @@ impl OwnedIndexes {
         SingleByteTable::new(&self.single_byte)
     }
 }
-
-#[cfg(test)]
-mod tests;

@@ -96,6 +96,3 @@ pub fn pack(alloc: Global, indexes: &Indexes<'_>) -> Result<OwnedPacked, AllocEr
         gb18030_order,
     })
 }
-
-#[cfg(test)]
-mod tests;

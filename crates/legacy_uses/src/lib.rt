@@ -7,6 +7,4 @@ pub mod index_data;
 pub mod piece_by_piece;
 pub mod registry;
 pub mod sized;
-#[cfg(test)]
-mod tests;
 pub mod transcode;

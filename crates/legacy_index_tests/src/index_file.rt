@@ -1,4 +1,4 @@
-use crate::index_file::{FileIndex, FileTable, IndexFileError, read_index};
+use legacy_index_files::{FileIndex, FileTable, IndexFileError, read_index};
 use std::alloc::{AllocError, Global};
 use std::process::Abort;
 use std::test::Fail;

@@ -1,15 +1,15 @@
 //! Each caller once, by EUC-KR with U+AC02 at pointer 0 and no other scalar.
-use crate::faults::{MalformedSequence, malformed_sequences};
-use crate::index_data::decode_by_file;
-use crate::piece_by_piece::decode_piece;
-use crate::registry::{Coders, Registry, RegistryError};
-use crate::sized::decode_whole;
-use crate::transcode::transcode;
 use legacy_codecs::{
     EucKrDecoder, GB18030_2022_PUA, Indexes, RawDecoder, SingleByteRun, SingleByteTable, Tables,
     UserDefinedEncoder,
 };
 use legacy_index_files::{Encoding, FileIndex};
+use legacy_uses::faults::{MalformedSequence, malformed_sequences};
+use legacy_uses::index_data::decode_by_file;
+use legacy_uses::piece_by_piece::decode_piece;
+use legacy_uses::registry::{Coders, Registry, RegistryError};
+use legacy_uses::sized::decode_whole;
+use legacy_uses::transcode::transcode;
 use std::alloc::Global;
 use std::process::Abort;
 

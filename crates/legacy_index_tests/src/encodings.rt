@@ -1,5 +1,5 @@
 //! The encodings against rows of the Standard.
-use crate::{CodecName, ENCODINGS, Encoding, FileIndex};
+use legacy_index_files::{CodecName, ENCODINGS, Encoding, FileIndex};
 
 #[test]
 fn encodings_are_known_by_their_names(rt: HostRuntime) {

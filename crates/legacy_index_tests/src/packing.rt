@@ -1,5 +1,5 @@
-use crate::{FileIndex, OwnedIndexes, PackedIndexes, pack};
 use legacy_base::{IndexName, Indexes, KeptTables, Packed, Tables};
+use legacy_index_files::{FileIndex, OwnedIndexes, PackedIndexes, pack};
 use std::process::Abort;
 use std::test::Fail;
 
