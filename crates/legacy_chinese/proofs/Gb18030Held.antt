@@ -11,8 +11,9 @@ use Rattle.legacy_base.specs.AcceptedTables.{AcceptedIndexes}
 use Rattle.legacy_base.specs.Gb18030.{gb18030_scalars, gb18030_range_pointer}
 use Rattle.legacy_base.specs.States.{is_lead}
 use Rattle.legacy_base.specs.Grammar.{Grammar, gb18030, events_of}
-use Rattle.legacy_base.specs.States.{gb18030_may_hold, rests}
+use Rattle.legacy_base.specs.States.{gb18030_may_hold, is_neutral, rests}
 use Rattle.legacy_base.proofs.Accepted.{gb18030-below, range-scalar}
+use Rattle.legacy_chinese.specs.declared.gb18030.decoder.Gb18030Decoder.{Gb18030Decoder}
 use Rattle.legacy_chinese.specs.declared.gb18030.decoder.Held.{Held}
 use Rattle.legacy_chinese.specs.declared.gb18030.decoder.Held.TheVariants.{Nothing, First, Second, Third, Digit, DigitLead}
 use Rattle.legacy_decoder_engine.specs.declared.held.Lead.{Lead}
@@ -21,11 +22,13 @@ use Rattle.legacy_decoder_engine.specs.declared.moves.Fed.{Fed}
 use Rattle.legacy_decoder_engine.specs.Moves.{IsCovered, Feeds, Releases, Reports}
 use Rattle.legacy_decoder_engine.specs.Costs.{IsNarrowIndex}
 use Rattle.legacy_base.specs.States.{state_of}
-use Rattle.legacy_decoder_engine.specs.Ahead.{Runs, HasAscii}
+use Rattle.legacy_decoder_engine.specs.Ahead.{Runs, HasAscii, IsIdle}
 use Rattle.legacy_decoder_engine.specs.Feeding.{Took}
+use Rattle.legacy_chinese.specs.Gb18030Decoder.{gb18030_state}
 use Rattle.legacy_chinese.specs.Gb18030Machine.{gb18030_step, gb18030_machine}
 use Rattle.legacy_chinese.specs.Gb18030Held.{held_bytes, is_resting}
 use Rattle.legacy_decoder_engine.proofs.Feeding as moves
+use Rattle.legacy_decoder_engine.proofs.LeadHeld.{neutral_empty}
 use Rattle.legacy_decoder_engine.proofs.RunForms.{pair_runs, four_runs, has_ascii, ascii_is}
 use Rattle.legacy_decoder_engine.proofs.Widths.{idx_below}
 use Rattle.legacy_decoder_engine.specs.Shown.{IsShown}
@@ -175,3 +178,7 @@ module _ (tables : AcceptedIndexes) where
       IfSome found (λ x. Runs g (a ∷ b ∷ c ∷ d ∷ []) (x ∷ []))
   four_if a b c d p a_low a_high b_low b_high c_low c_high d_low d_high is None e = tt
   four_if a b c d p a_low a_high b_low b_high c_low c_high d_low d_high is (Some x) e = four a b c d x a_low a_high b_low b_high c_low c_high d_low d_high (e ∙ ap (range tables.flat.ranges) is)
+
+-- a decoder that holds nothing back
+pub idle : (decoder : Gb18030Decoder) → is_neutral (gb18030_state decoder) ≡ true → IsIdle (gb18030_state decoder)
+idle decoder neutral = record { empty = neutral_empty (held_bytes decoder.held) neutral; ascii = ascii decoder.tables.now }

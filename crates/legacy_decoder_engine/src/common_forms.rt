@@ -67,6 +67,22 @@ pub fn begins_rare<D: CommonForms>(decoder: &D, src: &[u8]) -> bool {
     !src.is_empty() && decoder.is_rare(src[0])
 }
 
+/// Whether nothing is held back, and a rare byte stands behind the form at the front, if this is a byte of
+/// ASCII or a form of two bytes.
+#[inline(always)]
+pub fn stands_alone<D: CommonForms>(decoder: &D, src: &[u8]) -> bool
+    ensures { result ≡ true → IsIdle (D.state decoder.now) }
+{
+    if src.len() < 3 {
+        return false;
+    }
+    let behind = if src[0] < 0x80 { src[1] } else { src[2] };
+    if !decoder.is_rare(behind) {
+        return false;
+    }
+    decoder.is_idle()
+}
+
 /// The common forms of a decoder, and the ASCII between them.
 #[derive(Drop)]
 pub struct CommonBlocks<'a, D: CommonForms> {

@@ -13,9 +13,12 @@ ghost use Rattle.legacy_decoder_engine.specs.Ahead.{IsCommonForm};
 ghost use Rattle.legacy_decoder_engine.specs.Feeding.{Took};
 ghost use Rattle.legacy_decoder_engine.specs.LeadCodecs.{IsLeadCodec, held_bytes, lead_state};
 
-use crate::common_forms::{CommonForm, CommonForms, read_common_forms};
+use crate::common_forms::{
+    CommonBlocks, CommonForm, CommonForms, begins_rare, read_common_forms, stands_alone,
+};
 use crate::drive::drive_decoder;
 use crate::moves::{DecoderMoves, Fed, Move, Room};
+use crate::runs::read_one;
 use legacy_base::{
     DecoderResult, DecoderTables, Destination, FlatTables, KeptTables, PackedTables, RawDecoder,
     Tables,
@@ -89,12 +92,6 @@ pub trait LeadCodec {
 #[inline(always)]
 fn is_fault<C: LeadCodec>(byte: u8) -> bool {
     matches!(C::read_first(byte).0, Fed::Fault { .. })
-}
-
-/// Whether the byte at the front is malformed where a form begins.
-#[inline(always)]
-fn begins_fault<C: LeadCodec>(src: &[u8]) -> bool {
-    !src.is_empty() && is_fault::<C>(src[0])
 }
 
 /// The decoder of such a codec. It holds back a lead, or nothing.
@@ -203,11 +200,15 @@ impl<'a, C: LeadCodec> DecoderMoves for LeadDecoder<'a, C> {
         }
     }
 
-    // Behind a fault often comes the next one, which is then no call.
+    // Behind a fault often comes the next one, or a single form and then the next one: neither is a call.
     #[inline(always)]
     fn read_runs<T: Destination>(&mut self, src: &[u8], dst: &mut T) -> usize {
-        if begins_fault::<C>(src) {
+        let forms = LeadForms::<C, Tables<'a>>::new(self.tables, self.held);
+        if begins_rare(&forms, src) {
             return 0;
+        }
+        if stands_alone(&forms, src) {
+            return read_one(&CommonBlocks { decoder: &forms }, src, dst);
         }
         self.read_ahead(src, dst)
     }

@@ -5,7 +5,7 @@ ghost use Rattle.legacy_base.specs.Grammar.{Grammar};
 ghost use Rattle.legacy_base.specs.States.{new_state};
 ghost use Rattle.legacy_decoder_engine.specs.Ahead.{IsPair, ReadsAhead};
 
-use crate::runs::{Forms, read_run};
+use crate::runs::{Forms, read_one, read_run};
 use legacy_base::Destination;
 
 /// The forms of two bytes of a codec in which nothing is held back between two forms.
@@ -61,4 +61,14 @@ pub fn read_pairs<P: Pairs, T: Destination>(pairs: &P, src: &[u8], dst: &mut T) 
         dst.old dst.new }
 {
     read_run(&PairForms { pairs }, src, dst)
+}
+
+/// Reads the form of two bytes at the front, if it is none that is rare, where it surely fits with three code
+/// units more. Answers how many bytes were read: none is an answer too.
+#[inline(always)]
+pub fn read_pair<P: Pairs, T: Destination>(pairs: &P, src: &[u8], dst: &mut T) -> usize
+    ensures { ReadsAhead T.Destination (new_state (P.grammar pairs.now)) src.now result
+        dst.old dst.new }
+{
+    read_one(&PairForms { pairs }, src, dst)
 }

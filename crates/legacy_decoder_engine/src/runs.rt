@@ -70,6 +70,21 @@ pub fn read_run<F: Forms, T: Destination>(forms: &F, src: &[u8], dst: &mut T) ->
     at + forms.read_forms(&src[at..], dst, turns % 4)
 }
 
+/// Reads the form at the front, if it is none that is rare, where it surely fits with three code units more.
+/// Answers how many bytes were read: none is an answer too.
+#[inline(always)]
+pub fn read_one<F: Forms, T: Destination>(forms: &F, src: &[u8], dst: &mut T) -> usize
+    requires { F.ready forms.now }
+    ensures { ReadsAhead T.Destination (new_state (F.grammar forms.now)) src.now result
+        dst.old dst.new }
+{
+    let turns = forms.fitting(src.len(), dst.free().saturating_sub(3));
+    if turns == 0 {
+        return 0;
+    }
+    forms.read_forms(src, dst, 1)
+}
+
 /// Blocks that stand one behind the other, where nothing is held back between two of them: so many bytes or
 /// forms that room is tested for once.
 pub trait Blocks {

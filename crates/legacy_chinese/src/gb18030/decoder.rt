@@ -17,11 +17,12 @@ use super::pair_places::TRAILS;
 use legacy_base::{
     DecoderResult, DecoderTables, Destination, IndexName, KeptTables, RawDecoder, Tables,
 };
+use legacy_decoder_engine::common_forms::{CommonBlocks, begins_rare, stands_alone};
 use legacy_decoder_engine::drive::drive_decoder;
 use legacy_decoder_engine::held::Lead;
 use legacy_decoder_engine::moves::{DecoderMoves, Fed, Move, Room};
 use legacy_decoder_engine::places::{ROWS_OF_190, pair_pointer};
-use legacy_decoder_engine::runs::read_blocks;
+use legacy_decoder_engine::runs::{read_blocks, read_one};
 use legacy_decoder_engine::trail::unmapped;
 use legacy_decoder_engine::two_byte::fault_through;
 
@@ -237,12 +238,6 @@ pub(super) fn is_uncommon(byte: u8) -> bool {
     byte >= 0x80 && Lead::new(byte).is_none()
 }
 
-/// Whether the byte at the front begins no common form.
-#[inline(always)]
-fn begins_no_run(src: &[u8]) -> bool {
-    !src.is_empty() && is_uncommon(src[0])
-}
-
 impl DecoderMoves for Gb18030Decoder<'_> {
     ghost use Rattle.legacy_chinese.specs.Gb18030Decoder.{gb18030_state};
 
@@ -307,11 +302,20 @@ impl DecoderMoves for Gb18030Decoder<'_> {
         }
     }
 
-    // Behind a fault often comes the next one, which is then no call.
+    // Behind a fault often comes the next one, or a single form and then the next one: neither is a call.
     #[inline(always)]
     fn read_runs<T: Destination>(&mut self, src: &[u8], dst: &mut T) -> usize {
-        if begins_no_run(src) {
+        let forms = Gb18030Blocks {
+            tables: self.tables,
+        };
+        if begins_rare(&forms, src) {
             return 0;
+        }
+        if !self.in_neutral_state() {
+            return 0;
+        }
+        if stands_alone(&forms, src) {
+            return read_one(&CommonBlocks { decoder: &forms }, src, dst);
         }
         self.read_ahead(src, dst)
     }

@@ -16,9 +16,12 @@ use super::lead::EucJpLead;
 use legacy_base::{
     DecoderResult, DecoderTables, Destination, IndexName, KeptTables, RawDecoder, Tables,
 };
-use legacy_decoder_engine::common_forms::{CommonForm, CommonForms, read_common_forms};
+use legacy_decoder_engine::common_forms::{
+    CommonBlocks, CommonForm, CommonForms, begins_rare, read_common_forms, stands_alone,
+};
 use legacy_decoder_engine::drive::drive_decoder;
 use legacy_decoder_engine::moves::{DecoderMoves, Fed, Move, Room};
+use legacy_decoder_engine::runs::read_one;
 use legacy_decoder_engine::trail::unmapped;
 use legacy_decoder_engine::two_byte::fault_through;
 
@@ -222,12 +225,6 @@ fn is_uncommon(byte: u8) -> bool {
     byte >= 0x80 && EucJpLead::new(byte).is_none()
 }
 
-/// Whether the byte at the front begins no common form.
-#[inline(always)]
-fn begins_no_run(src: &[u8]) -> bool {
-    !src.is_empty() && is_uncommon(src[0])
-}
-
 impl DecoderMoves for EucJpDecoder<'_> {
     ghost use Rattle.legacy_japanese.specs.EucJpDecoder.{euc_jp_state};
 
@@ -281,11 +278,18 @@ impl DecoderMoves for EucJpDecoder<'_> {
         }
     }
 
-    // Behind a fault often comes the next one, which is then no call.
+    // Behind a fault often comes the next one, or a single form and then the next one: neither is a call.
     #[inline(always)]
     fn read_runs<T: Destination>(&mut self, src: &[u8], dst: &mut T) -> usize {
-        if begins_no_run(src) {
+        let forms = EucJpForms {
+            tables: self.tables,
+            held: self.held,
+        };
+        if begins_rare(&forms, src) {
             return 0;
+        }
+        if stands_alone(&forms, src) {
+            return read_one(&CommonBlocks { decoder: &forms }, src, dst);
         }
         self.read_ahead(src, dst)
     }

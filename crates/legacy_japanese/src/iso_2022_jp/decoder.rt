@@ -82,7 +82,7 @@ impl<'a> DecoderMoves for Iso2022JpDecoder<'a> {
         Some(scalar)
     }
 
-    #[inline]
+    #[inline(always)]
     #[tactic(auto, using(crate::proofs::Iso2022JpFeeding::kept, crate::proofs::Iso2022JpFeeding::feeds))]
     fn feed(&mut self, byte: u8) -> Fed {
         let outcome = read(self.tables, self.mode, self.held, byte);
@@ -104,7 +104,7 @@ impl<'a> DecoderMoves for Iso2022JpDecoder<'a> {
         Some((1, held.count()))
     }
 
-    #[inline]
+    #[inline(always)]
     fn read_runs<T: Destination>(&mut self, src: &[u8], dst: &mut T) -> usize {
         if !matches!(self.held, Held::Begun(Start::Nothing)) {
             return 0;
@@ -120,6 +120,7 @@ impl<'a> RawDecoder for Iso2022JpDecoder<'a> {
 
     ghost state = { iso_2022_jp_state };
 
+    #[inline(always)]
     fn step<T: Destination>(
         &mut self,
         src: &[u8],

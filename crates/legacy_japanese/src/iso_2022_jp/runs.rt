@@ -5,12 +5,13 @@
 ghost use Rattle.std.specs.Prelude.{◌≡◌, ℕ, ◌+◌, ◌<◌, ◌≤◌, List, All, IfSome, length, take, true};
 ghost use Rattle.legacy_japanese.specs.Iso2022JpRuns.{IsPlain, run_state, pairs_grammar};
 ghost use Rattle.legacy_japanese.specs.Iso2022JpRuns.{HasEscape};
+ghost use Rattle.legacy_japanese.specs.declared.iso_2022_jp.steps.Mode.TheVariants.{TwoByte};
 ghost use Rattle.legacy_decoder_engine.specs.Ahead.{ReadsTo, ReadsAhead};
 
 use super::places::{LEADS, TRAILS};
 use super::steps::{DOLLAR, ESCAPE, Escape, Mode, PAREN, Start, completed, entry};
 use legacy_base::{DecoderTables, Destination, KeptTables, Tables};
-use legacy_decoder_engine::pairs::{Pairs, read_pairs};
+use legacy_decoder_engine::pairs::{Pairs, read_pair, read_pairs};
 use legacy_decoder_engine::places::pair_pointer;
 
 /// The pairs of two-byte mode.
@@ -118,6 +119,52 @@ fn read_mode<T: Destination>(tables: &Tables, mode: Mode, src: &[u8], dst: &mut 
     }
 }
 
+/// Whether a byte that is malformed in every mode stands behind the one at the front.
+#[inline(always)]
+fn is_byte_alone(src: &[u8]) -> bool {
+    src.len() > 1 && src[1] >= 0x80
+}
+
+/// Whether a run of the mode may begin at the front: no is an answer too.
+#[inline(always)]
+fn may_begin(mode: Mode, src: &[u8]) -> bool {
+    if src.is_empty() {
+        return false;
+    }
+    match mode {
+        Mode::Ascii => is_plain(src[0]) && !is_byte_alone(src),
+        Mode::TwoByte => src[0] >= 0x21,
+        Mode::Roman | Mode::Katakana => false,
+    }
+}
+
+/// Whether an escape byte stands behind two bytes at the front, in two-byte mode.
+#[inline(always)]
+fn is_pair_alone(mode: Mode, src: &[u8]) -> bool
+    ensures { result ≡ true → mode ≡ TwoByte }
+{
+    match mode {
+        Mode::TwoByte => src.len() > 2 && src[2] == ESCAPE,
+        _ => false,
+    }
+}
+
+/// Reads a run of the mode from the front, and makes no call where none begins, or where it is a single pair.
+/// Answers how many bytes were read: none is an answer too.
+#[inline(always)]
+fn read_begun<T: Destination>(tables: &Tables, mode: Mode, src: &[u8], dst: &mut T) -> usize
+    ensures { ReadsAhead T.Destination (run_state tables.now.flat.jis0208 mode) src.now result
+        dst.old dst.new }
+{
+    if !may_begin(mode, src) {
+        return 0;
+    }
+    if is_pair_alone(mode, src) {
+        return read_pair(&Jis0208Pairs { tables }, src, dst);
+    }
+    read_mode(tables, mode, src, dst)
+}
+
 /// The valid escape at the front, where a byte that is no escape byte stands behind it.
 #[inline]
 fn escape_at(src: &[u8]) -> Option<Escape>
@@ -137,7 +184,7 @@ fn escape_at(src: &[u8]) -> Option<Escape>
 
 /// Reads a run of the mode from the front, and on behind each escape that a run of its mode follows.
 /// Answers the mode at the end, and how many bytes were read.
-#[inline]
+#[inline(always)]
 pub fn read_modes<T: Destination>(
     tables: &Tables,
     first: Mode,
@@ -148,10 +195,10 @@ pub fn read_modes<T: Destination>(
         (run_state tables.now.flat.jis0208 result.0) src.now result.1 dst.old dst.new }
 {
     let mut mode = first;
-    let mut at = read_mode(tables, mode, src, dst);
+    let mut at = read_begun(tables, mode, src, dst);
     while let Some(escape) = escape_at(&src[at..]) {
         let next = escape.mode();
-        let read = read_mode(tables, next, &src[at + 3..], dst);
+        let read = read_begun(tables, next, &src[at + 3..], dst);
         if read == 0 {
             break;
         }

@@ -78,6 +78,7 @@ pub const PAREN: u8 = 0x28;
 
 impl Escape {
     /// The mode that the escape switches to.
+    #[inline]
     pub fn mode(self) -> Mode
         ensures { result ≡ machine.mode_of self }
     {
@@ -93,6 +94,7 @@ impl Escape {
 
 impl Start {
     /// How many bytes it has.
+    #[inline]
     fn count(self) -> u8
         ensures value { result ≡ length (start_bytes self) }
         ensures few { result ≤ 2 }
@@ -108,6 +110,7 @@ impl Start {
 
 impl Held {
     /// How many bytes it has.
+    #[inline]
     pub fn count(self) -> u8
         ensures { result ≡ length (bytes_of self) }
     {
@@ -132,6 +135,7 @@ impl Held {
 
 impl Outcome {
     /// A move, with what it leaves.
+    #[inline]
     fn new(action: Action, mode: Mode, held: Held) -> Outcome
         ensures { result ≡ machine.moves action mode held }
     {
@@ -139,6 +143,7 @@ impl Outcome {
     }
 
     /// What the loop is told of the step.
+    #[inline]
     pub fn fed(self) -> Fed
         ensures { result ≡ fed_of self }
     {
@@ -160,6 +165,7 @@ impl Outcome {
 }
 
 /// The scalar of an ASCII byte that the codec gives one.
+#[inline]
 fn ascii_scalar(byte: u8) -> Option<char>
     ensures value { result ≡ machine.single Ascii byte }
     ensures narrow { IfSome result IsNarrowScalar }
@@ -172,6 +178,7 @@ fn ascii_scalar(byte: u8) -> Option<char>
 }
 
 /// The scalar of a byte outside two-byte mode.
+#[inline]
 fn single_scalar(mode: Mode, byte: u8) -> Option<char>
     ensures value { result ≡ machine.single mode byte }
     ensures narrow { IfSome result IsNarrowScalar }
@@ -199,6 +206,7 @@ fn single_scalar(mode: Mode, byte: u8) -> Option<char>
 }
 
 /// The escape that a byte completes.
+#[inline]
 pub fn completed(start: Start, byte: u8) -> Option<Escape>
     ensures { result ≡ machine.completes start byte }
 {
@@ -238,6 +246,7 @@ pub fn entry<V: DecoderTables>(tables: &V, pointer: usize) -> Option<char>
 }
 
 /// A byte that is no escape byte, in two-byte mode with nothing held back.
+#[inline]
 fn read_lead(byte: u8) -> Outcome
     ensures value { result ≡ machine.read_plain TwoByte byte }
     ensures narrow { IsNarrow result.action }
@@ -254,6 +263,7 @@ fn read_lead(byte: u8) -> Outcome
 }
 
 /// What a scalar in the mode leads to, or its lack.
+#[inline]
 fn read_single(mode: Mode, scalar: Option<char>) -> Outcome
     requires { IfSome scalar IsNarrowScalar }
     ensures value { result ≡ machine.read_single mode scalar }
@@ -266,6 +276,7 @@ fn read_single(mode: Mode, scalar: Option<char>) -> Outcome
 }
 
 /// A byte that is no escape byte, with nothing held back.
+#[inline]
 fn read_plain(mode: Mode, byte: u8) -> Outcome
     ensures value { result ≡ machine.read_plain mode byte }
     ensures narrow { IsNarrow result.action }
@@ -277,6 +288,7 @@ fn read_plain(mode: Mode, byte: u8) -> Outcome
 }
 
 /// A byte behind a lead. An escape byte ends the lead, and is held back itself.
+#[inline]
 fn read_trail(tables: &Tables, lead: u8, byte: u8) -> Outcome
     requires low { 0x21 ≤ lead }
     requires high { lead ≤ 0x7E }
@@ -302,6 +314,7 @@ fn read_trail(tables: &Tables, lead: u8, byte: u8) -> Outcome
 
 /// A byte behind an escape byte and a second byte: the escape is whole, or the escape byte is
 /// malformed and the second byte is held back by itself.
+#[inline]
 fn read_third(mode: Mode, second: u8, escape: Option<Escape>) -> Outcome
     ensures value { result ≡ machine.read_third mode second escape }
     ensures narrow { IsNarrow result.action }
@@ -313,6 +326,7 @@ fn read_third(mode: Mode, second: u8, escape: Option<Escape>) -> Outcome
 }
 
 /// A byte behind less than a whole escape.
+#[inline(always)]
 fn read_start(mode: Mode, start: Start, byte: u8) -> Outcome
     ensures value { result ≡ machine.read_start mode start byte }
     ensures narrow { IsNarrow result.action }
@@ -342,6 +356,7 @@ fn read_start(mode: Mode, start: Start, byte: u8) -> Outcome
 /// A byte behind a whole escape, an escape byte and a second byte: the next escape is whole, and
 /// the one before it is malformed, since nothing stands between them; or the escape byte is
 /// malformed.
+#[inline]
 fn read_next_third(mode: Mode, second: u8, escape: Option<Escape>) -> Outcome
     ensures value { result ≡ machine.read_next_third mode second escape }
     ensures narrow { IsNarrow result.action }
@@ -353,6 +368,7 @@ fn read_next_third(mode: Mode, second: u8, escape: Option<Escape>) -> Outcome
 }
 
 /// A byte behind a whole escape, whose mode holds from then on.
+#[inline]
 fn read_whole(mode: Mode, escape: Escape, start: Start, byte: u8) -> Outcome
     ensures value { result ≡ machine.read_whole mode escape start byte }
     ensures narrow { IsNarrow result.action }
@@ -381,6 +397,7 @@ fn read_whole(mode: Mode, escape: Escape, start: Start, byte: u8) -> Outcome
 }
 
 /// The next byte, where what is held back rests.
+#[inline(always)]
 pub fn read(tables: &Tables, mode: Mode, held: Held, byte: u8) -> Outcome
     requires sound { is_held mode held ≡ true }
     requires rests { is_resting mode held ≡ true }

@@ -1,23 +1,17 @@
-use Rattle.std.proofs.Common.{◌≡◌, ◌∙◌, sym, ap, subst, true}
+use Rattle.std.proofs.Common.{◌≡◌, ◌∙◌, sym, ap, subst}
 use Rattle.legacy_base.specs.AcceptedTables.{AcceptedIndexes}
 use Rattle.legacy_base.specs.KeptTables.{kept_indexes}
 use Rattle.legacy_base.specs.Grammar.{gb18030}
-use Rattle.legacy_base.specs.States.{new_state, is_neutral}
-use Rattle.legacy_chinese.specs.declared.gb18030.decoder.Gb18030Decoder.{Gb18030Decoder}
-use Rattle.legacy_decoder_engine.specs.Ahead.{IsIdle, ReadsAhead}
+use Rattle.legacy_base.specs.States.{new_state}
+use Rattle.legacy_decoder_engine.specs.Ahead.{ReadsAhead}
 use Rattle.legacy_decoder_engine.proofs.JoinedRuns.{reads_idle}
-use Rattle.legacy_decoder_engine.proofs.LeadHeld.{neutral_empty}
 use Rattle.legacy_decoder_engine.proofs.WrittenRuns.{reads_none}
 use Rattle.legacy_chinese.specs.Gb18030Decoder.{gb18030_state}
-use Rattle.legacy_chinese.specs.Gb18030Held.{held_bytes}
-use Rattle.legacy_chinese.proofs.Gb18030Held.{ascii}
+use Rattle.legacy_chinese.proofs.Gb18030Held.{idle}
 use Rattle.legacy_chinese.proofs.gb18030.decoder.Gb18030DecoderDecoderMoves.read_ahead.Goals as goal
 
 pub returns-then-not-in_neutral_state : goal.returns-then-not-in_neutral_state
 returns-then-not-in_neutral_state g c = reads_none g.T.Destination (gb18030_state c.args.self.now) c.args.src.now c.args.dst.now
-
-idle : (decoder : Gb18030Decoder) → is_neutral (gb18030_state decoder) ≡ true → IsIdle (gb18030_state decoder)
-idle decoder neutral = record { empty = neutral_empty (held_bytes decoder.held) neutral; ascii = ascii decoder.tables.now }
 
 pub returns-in-Flat : goal.returns-in-Flat
 returns-in-Flat g c =

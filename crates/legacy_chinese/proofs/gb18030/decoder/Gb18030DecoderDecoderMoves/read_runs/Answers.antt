@@ -1,5 +1,17 @@
+use Rattle.std.proofs.Common.{◌∙◌, sym}
+use Rattle.legacy_decoder_engine.proofs.JoinedRuns.{reads_idle}
 use Rattle.legacy_decoder_engine.proofs.WrittenRuns.{reads_none}
+use Rattle.legacy_chinese.proofs.Gb18030Held.{idle}
 use Rattle.legacy_chinese.proofs.gb18030.decoder.Gb18030DecoderDecoderMoves.read_runs.Goals as goal
 
-pub returns-then-begins_no_run : goal.returns-then-begins_no_run
-returns-then-begins_no_run g c = record { runs = reads_none g.T.Destination _ c.args.src.now c.args.dst.now }
+pub returns-then-begins_rare : goal.returns-then-begins_rare
+returns-then-begins_rare g c = record { runs = reads_none g.T.Destination _ c.args.src.now c.args.dst.now }
+
+pub returns-then-not-in_neutral_state : goal.returns-then-not-in_neutral_state
+returns-then-not-in_neutral_state g c = record { runs = reads_none g.T.Destination _ c.args.src.now c.args.dst.now }
+
+pub read_one-requires : goal.read_one-requires
+read_one-requires g c = (c.stands_alone.ensures c.if-stands_alone.true).ascii
+
+pub returns-then-stands_alone : goal.returns-then-stands_alone
+returns-then-stands_alone g c = record { runs = reads_idle (idle c.args.self.now (sym c.in_neutral_state.ensures ∙ c.if-not-in_neutral_state.false)) c.read_one.ensures }
