@@ -2,6 +2,7 @@
 pub mod CodeUnits
 pub mod SameUnits
 pub mod Shifts
+pub mod ShortScalars
 pub mod Cuts
 pub mod Progress
 pub mod Rooms

@@ -35,6 +35,7 @@ pub mod Destinations
 pub mod NextScalars
 pub mod Blocks
 pub mod UnitCodes
+pub mod ShortScalars
 pub mod TextSources
 pub mod Latin1
 pub mod TableChecks

@@ -8,6 +8,7 @@ mod decoder;
 mod destination;
 mod encoder;
 mod results;
+mod short_scalars;
 mod single_byte_table;
 mod source;
 mod tables;
@@ -21,8 +22,8 @@ pub use results::{DecodeEvent, DecoderResult, EncodeEvent, EncoderResult};
 pub use single_byte_table::SingleByteTable;
 pub use source::ByteSource;
 pub use tables::{
-    DecoderTables, FlatTables, GB18030_2022_PUA, IndexName, Indexes, KeptTables, Packed,
-    PackedPart, PackedTables, Run, TableError, Tables,
+    DecoderTables, EncoderTables, FlatTables, GB18030_2022_PUA, IndexName, Indexes, KeptTables,
+    Packed, PackedPart, PackedTables, Run, TableError, Tables,
 };
 pub use text_source::{Next, Source, Utf8Source, Utf16Source};
 pub use unit_codes::UnitCodes;

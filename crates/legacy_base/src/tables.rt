@@ -4,6 +4,7 @@ ghost use Rattle.std.specs.Prelude.{◌≡◌, MatchResult, Some};
 pub(crate) mod checks;
 pub(crate) mod decoder_tables;
 pub(crate) mod directory;
+pub(crate) mod encoder_tables;
 pub(crate) mod flat;
 pub(crate) mod lookups;
 pub(crate) mod order;
@@ -16,6 +17,7 @@ pub(crate) mod private_use;
 pub(crate) mod runs;
 
 pub use decoder_tables::DecoderTables;
+pub use encoder_tables::EncoderTables;
 pub use flat::FlatTables;
 pub use packed::{Packed, PackedPart, Run};
 pub use packed_tables::PackedTables;
@@ -344,5 +346,42 @@ impl<'a> DecoderTables for Tables<'a> {
 
     fn range(&self, pointer: usize) -> Option<char> {
         Tables::range(self, pointer)
+    }
+}
+
+impl<'a> EncoderTables for Tables<'a> {
+    #[inline]
+    fn big5_pointer(&self, scalar: char) -> Option<usize> {
+        Tables::big5_pointer(self, scalar)
+    }
+
+    #[inline]
+    fn euc_kr_pointer(&self, scalar: char) -> Option<usize> {
+        Tables::euc_kr_pointer(self, scalar)
+    }
+
+    #[inline]
+    fn shift_jis_pointer(&self, scalar: char) -> Option<usize> {
+        Tables::shift_jis_pointer(self, scalar)
+    }
+
+    #[inline]
+    fn euc_jp_pointer(&self, scalar: char) -> Option<usize> {
+        Tables::euc_jp_pointer(self, scalar)
+    }
+
+    #[inline]
+    fn gb18030_pointer(&self, scalar: char) -> Option<usize> {
+        Tables::gb18030_pointer(self, scalar)
+    }
+
+    #[inline]
+    fn range_pointer(&self, scalar: char) -> Option<usize> {
+        Tables::range_pointer(self, scalar)
+    }
+
+    #[inline]
+    fn gb18030_pua_bytes(&self, scalar: char) -> Option<(u8, u8)> {
+        Tables::gb18030_pua_bytes(self, scalar)
     }
 }

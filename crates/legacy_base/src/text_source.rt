@@ -7,6 +7,7 @@ ghost use Rattle.legacy_base.specs.NextScalars.{IsSized, IsNext, TellsCount};
 ghost use Rattle.legacy_base.specs.UnitCodes.{WritesCodes};
 
 use crate::blocks::{copy_ascii_bytes, copy_ascii_units};
+use crate::short_scalars::copy_short_scalars;
 use crate::unit_codes::{UnitCodes, copy_unit_codes};
 
 /// The next scalar of a text, by the number of its code units.
@@ -77,22 +78,28 @@ pub trait Source {
         ensures bytes { take (at + result) dst.new
             ≡ take at dst.old ++ take result (left self.old) };
 
-    /// Whether `copy_codes` may go on. It is a hint: any answer will do.
+    /// Whether `copy_codes` may go on by blocks of code units. It is a hint: any answer will do.
     #[inline(always)]
     fn has_blocks(&self) -> bool {
         false
     }
 
-    /// Goes past scalars of one code unit that have a byte each, as many as it cares to, and writes these
-    /// from the place `at` of `dst` on. Answers how many: none is an answer too. Behind them `dst` may
-    /// hold anything.
+    /// Whether a scalar past ASCII comes next, and `copy_codes` may go on by turns of scalars. It is a
+    /// hint: any answer will do.
+    #[inline(always)]
+    fn has_turns(&self) -> bool {
+        false
+    }
+
+    /// Goes past scalars that have a byte each, as many as it cares to, and writes these from the place
+    /// `at` of `dst` on. Answers how many: none is an answer too. Behind them `dst` may hold anything.
     #[inline(always)]
     fn copy_codes<C: UnitCodes>(&mut self, codes: &C, dst: &mut [u8], at: usize) -> usize
         requires { at ≤ length dst.old }
         ensures read { result ≤ length (left self.old) }
         ensures left { left self.new ≡ drop result (left self.old) }
-        ensures passed { passed self.new ≡ passed self.old + result }
-        ensures units { total_unit_count form (take result (left self.old)) ≡ result }
+        ensures passed { passed self.new
+            ≡ passed self.old + total_unit_count form (take result (left self.old)) }
         ensures fits { at + result ≤ length dst.old }
         ensures writes { WritesCodes (C.gives codes.now) (left self.old) result (take at dst.old)
             (take (at + result) dst.new) }
@@ -236,6 +243,19 @@ impl Source for Utf8Source<'_> {
     fn copy_ascii(&mut self, dst: &mut [u8], at: usize) -> usize {
         let count = copy_ascii_bytes(&self.text.as_bytes()[self.place..], dst, at);
         self.place += count;
+        count
+    }
+
+    #[inline(always)]
+    fn has_turns(&self) -> bool {
+        let bytes = self.text.as_bytes();
+        bytes.len() - self.place >= 16 && bytes[self.place] >= 0x80
+    }
+
+    #[inline]
+    fn copy_codes<C: UnitCodes>(&mut self, codes: &C, dst: &mut [u8], at: usize) -> usize {
+        let (count, behind) = copy_short_scalars(codes, self.text.as_bytes(), self.place, dst, at);
+        self.place = behind;
         count
     }
 }

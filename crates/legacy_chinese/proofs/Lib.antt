@@ -6,3 +6,4 @@ pub mod Gb18030Shown
 pub mod Gb18030Held
 pub mod FourPlaces
 pub mod Gb18030Places
+pub mod Gb18030Pairs

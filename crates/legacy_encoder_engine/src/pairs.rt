@@ -1,5 +1,5 @@
 //! The one encoder of the codecs of ASCII and pairs: no code has more than two bytes.
-ghost use Rattle.std.specs.Prelude.{◌≡◌};
+ghost use Rattle.std.specs.Prelude.{◌≡◌, [], ◌∷◌, Some, IfSome};
 ghost use Rattle.legacy_base.specs.Indexes.{FlatIndexes};
 ghost use Rattle.legacy_base.specs.Encoders.{Codec, encoder_profile, new_encoder};
 ghost use Rattle.legacy_base.specs.Lengths.{answer, number, ◌⊕◌, ◌⊗◌};
@@ -8,8 +8,12 @@ ghost use Rattle.legacy_encoder_engine.specs.PairCodecs.{IsPairCodec, pair_encod
 
 use crate::drive::drive_encoder;
 use crate::moves::EncoderMove;
+use crate::plain::PlainEncoder;
 use crate::plain_codes::PlainCodes;
-use legacy_base::{EncoderResult, RawEncoder, Source, Tables};
+use crate::runs::read_runs;
+use legacy_base::{
+    EncoderResult, EncoderTables, FlatTables, KeptTables, PackedTables, RawEncoder, Source, Tables,
+};
 use std::marker::PhantomData;
 
 /// A codec of ASCII and pairs: all that its encoder does not share.
@@ -20,9 +24,15 @@ pub trait PairCodec {
     /// What is shown of it.
     ghost pairs: { (flat : FlatIndexes) → IsPairCodec (codec flat) };
 
+    /// The lead and the trail of a scalar whose code these are. Any scalar may have none here: `code_of` has
+    /// all codes.
+    fn pair_of<V: EncoderTables>(tables: &V, c: char) -> Option<(u8, u8)>
+        ensures { IfSome result (λ pair. (encoder_profile (codec (V.indexes tables.now).flat)).code c
+            ≡ Some (pair.0 ∷ pair.1 ∷ [])) };
+
     /// The bytes of a scalar, or the scalar itself as unmappable.
-    fn code_of(tables: &Tables<'_>, c: char) -> EncoderMove
-        ensures { IsCode ((encoder_profile (codec tables.now.flat)).code c) c result };
+    fn code_of<V: EncoderTables>(tables: &V, c: char) -> EncoderMove
+        ensures { IsCode ((encoder_profile (codec (V.indexes tables.now).flat)).code c) c result };
 }
 
 /// The encoder of such a codec. It writes by an index of the tables.
@@ -57,9 +67,77 @@ impl<'a, C: PairCodec> PlainCodes for PairEncoder<'a, C> {
         2
     }
 
+    #[inline]
+    fn code_of(&self, c: char) -> EncoderMove {
+        C::code_of(self.tables, c)
+    }
+}
+
+impl<'a, C: PairCodec> PlainEncoder for PairEncoder<'a, C> {
+    #[inline]
+    fn read_codes<S: Source>(&self, src: &mut S, dst: &mut [u8], start: usize) -> usize {
+        match self.tables.kept() {
+            KeptTables::Flat(tables) => {
+                read_runs(
+                    &PairCodes::<C, FlatTables<'a>>::new(tables),
+                    src,
+                    dst,
+                    start,
+                )
+            }
+            KeptTables::Packed(tables) => {
+                read_runs(
+                    &PairCodes::<C, PackedTables<'a>>::new(tables),
+                    src,
+                    dst,
+                    start,
+                )
+            }
+        }
+    }
+}
+
+/// The codes of such a codec, by its tables as they are kept.
+#[derive(Drop)]
+struct PairCodes<'a, C: PairCodec, V: EncoderTables> {
+    tables: &'a V,
+    codec: PhantomData<C>,
+}
+
+impl<'a, C: PairCodec, V: EncoderTables> PairCodes<'a, C, V> {
+    /// The codes by these tables.
+    #[inline]
+    fn new(tables: &'a V) -> PairCodes<'a, C, V>
+        ensures { result.tables.now ≡ tables.now }
+    {
+        PairCodes {
+            tables,
+            codec: PhantomData,
+        }
+    }
+}
+
+impl<'a, C: PairCodec, V: EncoderTables> PlainCodes for PairCodes<'a, C, V> {
+    ghost codec = { λ e. C.codec (V.indexes e.tables.now).flat };
+
+    ghost past = { 2 };
+
+    ghost plain = { λ e. pair_plain (C.codec (V.indexes e.tables.now).flat)
+        (C.pairs (V.indexes e.tables.now).flat) };
+
+    #[inline]
+    fn past_room(&self) -> usize {
+        2
+    }
+
     #[inline(always)]
     fn code_of(&self, c: char) -> EncoderMove {
         C::code_of(self.tables, c)
+    }
+
+    #[inline(always)]
+    fn pair_of(&self, c: char) -> Option<(u8, u8)> {
+        C::pair_of(self.tables, c)
     }
 }
 

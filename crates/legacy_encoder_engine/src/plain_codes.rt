@@ -1,5 +1,5 @@
 //! The codecs without modes: the code of each scalar stands by itself.
-ghost use Rattle.std.specs.Prelude.{◌≡◌, ℕ, true};
+ghost use Rattle.std.specs.Prelude.{◌≡◌, ℕ, [], ◌∷◌, true, Some, IfSome};
 ghost use Rattle.legacy_base.specs.UnitCodes.{IsNoSurrogate};
 ghost use Rattle.legacy_base.specs.Encoders.{Codec, encoder_profile};
 ghost use Rattle.legacy_encoder_engine.specs.Moves.{IsCode};
@@ -25,6 +25,17 @@ pub trait PlainCodes {
     /// The bytes of a scalar, or the scalar itself as unmappable.
     fn code_of(&self, c: char) -> EncoderMove
         ensures { IsCode ((encoder_profile (codec self.now)).code c) c result };
+
+    /// The lead and the trail of a scalar whose code these are. Any scalar may have none here: `code_of` has
+    /// all codes.
+    #[inline(always)]
+    fn pair_of(&self, c: char) -> Option<(u8, u8)>
+        ensures { IfSome result (λ pair.
+            (encoder_profile (codec self.now)).code c ≡ Some (pair.0 ∷ pair.1 ∷ [])) }
+    {
+        let _ = c;
+        None
+    }
 
     /// Whether runs of code units of UTF-16 are worth `byte_of`. It is a hint: any answer will do.
     #[inline(always)]

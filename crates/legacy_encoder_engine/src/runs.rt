@@ -24,6 +24,7 @@ pub fn has_bytes(step: EncoderMove) -> bool
 }
 
 /// Writes the bytes of a scalar that is next, and answers where they end; `None` where it has none.
+// Pairs come first: where all moves meet, the compiler packs their bytes into one number and unpacks it.
 #[inline(always)]
 fn put_code<C: PlainCodes>(encoder: &C, dst: &mut [u8], at: usize, c: char) -> Option<usize>
     requires { at + scalar_room (new_encoder (C.codec encoder.now)) c ≤ length dst.old }
@@ -31,6 +32,9 @@ fn put_code<C: PlainCodes>(encoder: &C, dst: &mut [u8], at: usize, c: char) -> O
         (λ end. PutsCode (new_encoder (C.codec encoder.now)) c (take at dst.old) at
         (take end dst.new) end) }
 {
+    if let Some((lead, trail)) = encoder.pair_of(c) {
+        return Some(put_move(dst, at, EncoderMove::Two(lead, trail)));
+    }
     let step = encoder.code_of(c);
     if !has_bytes(step) {
         return None;
@@ -42,6 +46,26 @@ fn put_code<C: PlainCodes>(encoder: &C, dst: &mut [u8], at: usize, c: char) -> O
 #[inline(always)]
 fn may_go_by_blocks<C: PlainCodes, S: Source>(encoder: &C, src: &S) -> bool {
     (encoder.goes_by_units() && src.has_blocks()) || src.is_in_ascii()
+}
+
+/// Reads scalars that have a byte each, and writes their bytes from the place `at` on. Answers how many: none is
+/// an answer too.
+#[inline(always)]
+fn read_byte_codes<C: PlainCodes, S: Source>(
+    encoder: &C,
+    src: &mut S,
+    dst: &mut [u8],
+    at: usize,
+) -> usize
+    requires { at ≤ length dst.old }
+    ensures keeps { KeepsOn (new_encoder (C.codec encoder.now)) (length dst.old) (S.left src.old)
+        (take at dst.old) (S.left src.new) (take (at + result) dst.new) }
+    ensures end { at + result ≤ length dst.old }
+    ensures few { length (S.left src.new) ≤ length (S.left src.old) }
+    ensures passed { S.passed src.new + total_unit_count S.form (S.left src.new)
+        ≡ S.passed src.old + total_unit_count S.form (S.left src.old) }
+{
+    src.copy_codes(&Units { encoder }, dst, at)
 }
 
 /// Reads by blocks code units that have a byte each, or where the encoder does not go by these ASCII, and
@@ -63,9 +87,32 @@ fn read_blocks<C: PlainCodes, S: Source>(
         ≡ S.passed src.old + total_unit_count S.form (S.left src.old) }
 {
     if encoder.goes_by_units() && src.has_blocks() {
-        return src.copy_codes(&Units { encoder }, dst, at);
+        return read_byte_codes(encoder, src, dst, at);
     }
     src.copy_ascii(dst, at)
+}
+
+/// Reads by turns scalars that have a byte each, where they seem to go on, and writes their bytes from the
+/// place `at` on. Answers how many: none is an answer too.
+#[inline(always)]
+fn read_turns<C: PlainCodes, S: Source>(
+    encoder: &C,
+    src: &mut S,
+    dst: &mut [u8],
+    at: usize,
+) -> usize
+    requires { at ≤ length dst.old }
+    ensures keeps { KeepsOn (new_encoder (C.codec encoder.now)) (length dst.old) (S.left src.old)
+        (take at dst.old) (S.left src.new) (take (at + result) dst.new) }
+    ensures end { at + result ≤ length dst.old }
+    ensures few { length (S.left src.new) ≤ length (S.left src.old) }
+    ensures passed { S.passed src.new + total_unit_count S.form (S.left src.new)
+        ≡ S.passed src.old + total_unit_count S.form (S.left src.old) }
+{
+    if encoder.goes_by_units() && src.has_turns() {
+        return read_byte_codes(encoder, src, dst, at);
+    }
+    0
 }
 
 /// Reads scalars up to where blocks seem to go on or to one that has no bytes, and writes their bytes
@@ -110,6 +157,7 @@ fn read_scalars<C: PlainCodes, S: Source>(
                 };
                 at = end;
                 src.pass(2);
+                at += read_turns(encoder, src, dst, at);
             }
             Next::Three(c) => {
                 let Some(end) = put_code(encoder, dst, at, c) else {

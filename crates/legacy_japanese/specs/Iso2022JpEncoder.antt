@@ -1,9 +1,10 @@
 -- What the ISO-2022-JP encoder is between two calls, and how it makes its moves.
-use Rattle.std.specs.Prelude.{◌≡◌, ℕ, List, [], ◌∷◌, Bool, true, false}
+use Rattle.std.specs.Prelude.{◌≡◌, ◌<◌, ℕ, List, [], ◌∷◌, Bool, true, false}
+use Rattle.legacy_base.specs.AcceptedTables.{AcceptedIndexes}
 use Rattle.legacy_base.specs.EncoderProfile.{EncoderMode, in_ascii, in_roman, in_two_byte}
 use Rattle.legacy_base.specs.Encoders.{EncoderState, iso_2022_jp}
-use Rattle.legacy_base.specs.Iso2022Jp.{iso_2022_jp_code, iso_2022_jp_reported, mode_behind}
-use Rattle.legacy_encoder_engine.specs.Moves.{IsCode}
+use Rattle.legacy_base.specs.Iso2022Jp.{iso_2022_jp_code, iso_2022_jp_reported, is_mode_control, mode_behind}
+use Rattle.legacy_encoder_engine.specs.Moves.{IsCode, is_escape, move_report}
 use Rattle.legacy_encoder_engine.specs.declared.moves.EncoderMove.{EncoderMove}
 use Rattle.legacy_encoder_engine.specs.declared.moves.EncoderMove.TheVariants as moves
 use Rattle.legacy_japanese.specs.declared.iso_2022_jp.encoder.Mode.{Mode}
@@ -19,6 +20,10 @@ mode_of TwoByte = in_two_byte
 -- the codec with these lists, in a mode
 abbrev pub state_in : List ℕ → List ℕ → Mode → EncoderState
 state_in jis0208 katakana_index mode = record { codec = iso_2022_jp jis0208 katakana_index; mode = mode_of mode }
+
+-- the codec by these tables, in a mode
+abbrev pub state_by : AcceptedIndexes → Mode → EncoderState
+state_by tables mode = state_in tables.flat.jis0208 tables.flat.katakana mode
 
 -- the state that its calls speak of
 abbrev pub iso_2022_jp_encoder_state : Iso2022JpEncoder → EncoderState
@@ -43,3 +48,14 @@ escape_move TwoByte = moves.Escape 0x24 0x42
 pub record Asks (jis0208 katakana_index : List ℕ) (mode : Mode) (c : ℕ) (new : Mode) (move : EncoderMove) : Type 0 where
   pub mode_is : mode_behind jis0208 katakana_index (mode_of mode) (c ∷ []) ≡ mode_of new
   pub code_is : IsCode (iso_2022_jp_code jis0208 katakana_index c) (iso_2022_jp_reported c) move
+
+-- In a mode, and with no escape, the scalar c is read by this move, which writes its bytes.
+pub record ReadsThere (jis0208 katakana_index : List ℕ) (mode : EncoderMode) (c : ℕ) (move : EncoderMove) : Type 0 where
+  pub mode_is : mode_behind jis0208 katakana_index mode (c ∷ []) ≡ mode
+  pub code_is : IsCode (iso_2022_jp_code jis0208 katakana_index c) (iso_2022_jp_reported c) move
+  pub reads : is_escape move ≡ false
+  pub silent : move_report move ≡ []
+
+-- In ASCII mode the scalar c is written as this byte, which is c.
+abbrev pub IsOwnByte : ℕ → ℕ → Type 0
+IsOwnByte c byte = (byte ≡ c) × (c < 0x80) × (is_mode_control c ≡ false)

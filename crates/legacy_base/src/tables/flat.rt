@@ -5,7 +5,7 @@ ghost use Rattle.legacy_base.specs.TableChecks.{AreAccepted};
 
 use super::checks::check_indexes;
 use super::private_use::row_bytes;
-use super::{DecoderTables, IndexName, Indexes, TableError, lookups, pointers};
+use super::{DecoderTables, EncoderTables, IndexName, Indexes, TableError, lookups, pointers};
 use std::marker::Model;
 
 /// Indexes that passed the check, kept as they were handed in. They are seen as these flat lists.
@@ -40,14 +40,8 @@ impl<'a> Model for FlatTables<'a> {
 }
 
 impl<'a> FlatTables<'a> {
-    ghost use Rattle.legacy_base.specs.Indexes.{gb18030_pua_of};
     ghost use Rattle.legacy_base.specs.TableChecks.{table_fault};
     ghost use Rattle.legacy_base.specs.Tables.{flat_indexes};
-    ghost use Rattle.legacy_base.specs.Pointers.{big5_pointer_of, euc_kr_pointer_of};
-    ghost use Rattle.legacy_base.specs.Pointers.{shift_jis_pointer_of, euc_jp_pointer_of};
-    ghost use Rattle.legacy_base.specs.Pointers.{gb18030_pointer_of, range_pointer_of};
-    ghost use Rattle.std.specs.Option.{IfSome};
-    ghost use Rattle.std.specs.Prelude.{◌<◌};
 
     /// The tables of the indexes, or the first fault. The indexes are checked in the order of the
     /// fields: the length first, then the entries by rising pointers; of the ranges the order
@@ -73,81 +67,6 @@ impl<'a> FlatTables<'a> {
             likely_ranges: pointers::likely_ranges(indexes.ranges),
         })
     }
-
-    /// The pointer that the Big5 encoder takes for the scalar value, or `None` where index Big5 has
-    /// it at no pointer from 5024 on (Encoding Standard, "index Big5 pointer"): the last of these
-    /// for U+2550, U+255E, U+2561, U+256A, U+5341 and U+5345, and else the first. It searches the
-    /// index from there on.
-    #[inline(never)]
-    pub(super) fn big5_pointer(&self, scalar: char) -> Option<usize>
-        ensures pointer { result ≡ big5_pointer_of self.now.flat.big5 scalar }
-        ensures within { IfSome result (λ p. p < 19782) }
-    {
-        pointers::big5_pointer(self.big5, scalar)
-    }
-
-    /// The first pointer of the scalar value in index EUC-KR, or `None` where it has none (Encoding
-    /// Standard, "index pointer"). It searches the index.
-    #[inline(never)]
-    pub(super) fn euc_kr_pointer(&self, scalar: char) -> Option<usize>
-        ensures pointer { result ≡ euc_kr_pointer_of self.now.flat.euc_kr scalar }
-        ensures within { IfSome result (λ p. p < 23940) }
-    {
-        pointers::first(self.euc_kr, scalar)
-    }
-
-    /// The pointer that the Shift_JIS encoder takes for the scalar value: the first one in index
-    /// jis0208 that is not one of 8272 to 8835, or `None` where there is none (Encoding Standard,
-    /// "index Shift_JIS pointer"). It searches the index.
-    #[inline(never)]
-    pub(super) fn shift_jis_pointer(&self, scalar: char) -> Option<usize>
-        ensures pointer { result ≡ shift_jis_pointer_of self.now.flat.jis0208 scalar }
-        ensures within { IfSome result (λ p. p < 11280) }
-    {
-        pointers::shift_jis_pointer(self.jis0208, scalar)
-    }
-
-    /// The pointer that the EUC-JP and ISO-2022-JP encoders take for the scalar value: the first
-    /// one in index jis0208, or `None` where there is none below 8836, where their forms end
-    /// (Encoding Standard, "index pointer"). It searches the index.
-    #[inline(never)]
-    pub(super) fn euc_jp_pointer(&self, scalar: char) -> Option<usize>
-        ensures pointer { result ≡ euc_jp_pointer_of self.now.flat.jis0208 scalar }
-        ensures within { IfSome result (λ p. p < 8836) }
-    {
-        pointers::euc_jp_pointer(self.jis0208, scalar)
-    }
-
-    /// The first pointer of the scalar value in index gb18030, or `None` where it has none
-    /// (Encoding Standard, "index pointer"). It searches the index.
-    #[inline(never)]
-    pub(super) fn gb18030_pointer(&self, scalar: char) -> Option<usize>
-        ensures pointer { result ≡ gb18030_pointer_of self.now.flat.gb18030 scalar }
-        ensures within { IfSome result (λ p. p < 23940) }
-    {
-        pointers::first(self.gb18030, scalar)
-    }
-
-    /// The pointer of four bytes that has the scalar value, or `None` where none has (Encoding
-    /// Standard, "index gb18030 ranges pointer"): 7457 for U+E7C7, 189000 to 1237575 for U+10000 to
-    /// U+10FFFF, and for others by the last range whose scalars begin at or before it, which a
-    /// binary search finds.
-    #[inline]
-    pub(super) fn range_pointer(&self, scalar: char) -> Option<usize>
-        ensures pointer { result ≡ range_pointer_of self.now.flat.ranges scalar }
-        ensures within { IfSome result (λ p. p < 1237576) }
-    {
-        pointers::range_pointer(self.ranges, &self.likely_ranges, scalar)
-    }
-
-    /// The lead and the trail that a private-use row gives the scalar value, or `None` where no row
-    /// has it (Encoding Standard, "gb18030 encoder"). It is a binary search.
-    #[inline]
-    pub(super) fn gb18030_pua_bytes(&self, scalar: char) -> Option<(u8, u8)>
-        ensures { result ≡ gb18030_pua_of self.now.flat.gb18030_pua scalar }
-    {
-        row_bytes(self.gb18030_pua, scalar)
-    }
 }
 
 impl<'a> DecoderTables for FlatTables<'a> {
@@ -168,5 +87,43 @@ impl<'a> DecoderTables for FlatTables<'a> {
 
     fn range(&self, pointer: usize) -> Option<char> {
         lookups::range_scalar(self.ranges, &self.likely_places, pointer)
+    }
+}
+
+// Each search is a call of its own: what runs over packed tables has none of it.
+impl<'a> EncoderTables for FlatTables<'a> {
+    #[inline(never)]
+    fn big5_pointer(&self, scalar: char) -> Option<usize> {
+        pointers::big5_pointer(self.big5, scalar)
+    }
+
+    #[inline(never)]
+    fn euc_kr_pointer(&self, scalar: char) -> Option<usize> {
+        pointers::first(self.euc_kr, scalar)
+    }
+
+    #[inline(never)]
+    fn shift_jis_pointer(&self, scalar: char) -> Option<usize> {
+        pointers::shift_jis_pointer(self.jis0208, scalar)
+    }
+
+    #[inline(never)]
+    fn euc_jp_pointer(&self, scalar: char) -> Option<usize> {
+        pointers::euc_jp_pointer(self.jis0208, scalar)
+    }
+
+    #[inline(never)]
+    fn gb18030_pointer(&self, scalar: char) -> Option<usize> {
+        pointers::first(self.gb18030, scalar)
+    }
+
+    #[inline]
+    fn range_pointer(&self, scalar: char) -> Option<usize> {
+        pointers::range_pointer(self.ranges, &self.likely_ranges, scalar)
+    }
+
+    #[inline]
+    fn gb18030_pua_bytes(&self, scalar: char) -> Option<(u8, u8)> {
+        row_bytes(self.gb18030_pua, scalar)
     }
 }

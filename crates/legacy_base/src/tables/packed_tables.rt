@@ -8,7 +8,7 @@ use super::order_checks::{AllOrders, all_orders_of};
 use super::packed::Packed;
 use super::packed_checks::{AllRuns, all_runs_of};
 use super::private_use::row_bytes;
-use super::{DecoderTables, IndexName, Indexes, TableError, lookups, pointers};
+use super::{DecoderTables, EncoderTables, IndexName, Indexes, TableError, lookups, pointers};
 use std::marker::Model;
 
 /// Indexes that passed the check, kept as runs and orders. They are seen as the flat lists of what
@@ -44,14 +44,8 @@ impl<'a> Model for PackedTables<'a> {
 }
 
 impl<'a> PackedTables<'a> {
-    ghost use Rattle.legacy_base.specs.Indexes.{gb18030_pua_of};
     ghost use Rattle.legacy_base.specs.Tables.{flat_indexes};
     ghost use Rattle.legacy_base.specs.Packed.{packed_fault, ArePackedTables};
-    ghost use Rattle.legacy_base.specs.Pointers.{big5_pointer_of, euc_kr_pointer_of};
-    ghost use Rattle.legacy_base.specs.Pointers.{shift_jis_pointer_of, euc_jp_pointer_of};
-    ghost use Rattle.legacy_base.specs.Pointers.{gb18030_pointer_of, range_pointer_of};
-    ghost use Rattle.std.specs.Option.{IfSome};
-    ghost use Rattle.std.specs.Prelude.{◌<◌};
 
     /// The tables of packed indexes that give what the flat indexes do, or the first fault.
     pub(super) fn new(
@@ -75,68 +69,6 @@ impl<'a> PackedTables<'a> {
             likely_ranges: pointers::likely_ranges(indexes.ranges),
         })
     }
-
-    /// The pointer that the Big5 encoder takes.
-    #[inline]
-    pub(super) fn big5_pointer(&self, scalar: char) -> Option<usize>
-        ensures pointer { result ≡ big5_pointer_of self.now.flat.big5 scalar }
-        ensures within { IfSome result (λ p. p < 19782) }
-    {
-        self.orders.big5.pointer(scalar as usize)
-    }
-
-    /// The pointer that the EUC-KR encoder takes.
-    #[inline]
-    pub(super) fn euc_kr_pointer(&self, scalar: char) -> Option<usize>
-        ensures pointer { result ≡ euc_kr_pointer_of self.now.flat.euc_kr scalar }
-        ensures within { IfSome result (λ p. p < 23940) }
-    {
-        self.orders.euc_kr.pointer(scalar as usize)
-    }
-
-    /// The pointer that the Shift_JIS encoder takes.
-    #[inline]
-    pub(super) fn shift_jis_pointer(&self, scalar: char) -> Option<usize>
-        ensures pointer { result ≡ shift_jis_pointer_of self.now.flat.jis0208 scalar }
-        ensures within { IfSome result (λ p. p < 11280) }
-    {
-        self.orders.shift_jis.pointer(scalar as usize)
-    }
-
-    /// The pointer that the EUC-JP and ISO-2022-JP encoders take.
-    #[inline]
-    pub(super) fn euc_jp_pointer(&self, scalar: char) -> Option<usize>
-        ensures pointer { result ≡ euc_jp_pointer_of self.now.flat.jis0208 scalar }
-        ensures within { IfSome result (λ p. p < 8836) }
-    {
-        self.orders.euc_jp.pointer(scalar as usize)
-    }
-
-    /// The pointer that the GB18030 encoder takes.
-    #[inline]
-    pub(super) fn gb18030_pointer(&self, scalar: char) -> Option<usize>
-        ensures pointer { result ≡ gb18030_pointer_of self.now.flat.gb18030 scalar }
-        ensures within { IfSome result (λ p. p < 23940) }
-    {
-        self.orders.gb18030.pointer(scalar as usize)
-    }
-
-    /// The pointer of four bytes.
-    #[inline]
-    pub(super) fn range_pointer(&self, scalar: char) -> Option<usize>
-        ensures pointer { result ≡ range_pointer_of self.now.flat.ranges scalar }
-        ensures within { IfSome result (λ p. p < 1237576) }
-    {
-        pointers::range_pointer(self.ranges, &self.likely_ranges, scalar)
-    }
-
-    /// The lead and the trail of a private-use row.
-    #[inline]
-    pub(super) fn gb18030_pua_bytes(&self, scalar: char) -> Option<(u8, u8)>
-        ensures { result ≡ gb18030_pua_of self.now.flat.gb18030_pua scalar }
-    {
-        row_bytes(self.gb18030_pua, scalar)
-    }
 }
 
 impl<'a> DecoderTables for PackedTables<'a> {
@@ -157,5 +89,42 @@ impl<'a> DecoderTables for PackedTables<'a> {
 
     fn range(&self, pointer: usize) -> Option<char> {
         lookups::range_scalar(self.ranges, &self.likely_places, pointer)
+    }
+}
+
+impl<'a> EncoderTables for PackedTables<'a> {
+    #[inline]
+    fn big5_pointer(&self, scalar: char) -> Option<usize> {
+        self.orders.big5.pointer(scalar as usize)
+    }
+
+    #[inline]
+    fn euc_kr_pointer(&self, scalar: char) -> Option<usize> {
+        self.orders.euc_kr.pointer(scalar as usize)
+    }
+
+    #[inline]
+    fn shift_jis_pointer(&self, scalar: char) -> Option<usize> {
+        self.orders.shift_jis.pointer(scalar as usize)
+    }
+
+    #[inline]
+    fn euc_jp_pointer(&self, scalar: char) -> Option<usize> {
+        self.orders.euc_jp.pointer(scalar as usize)
+    }
+
+    #[inline]
+    fn gb18030_pointer(&self, scalar: char) -> Option<usize> {
+        self.orders.gb18030.pointer(scalar as usize)
+    }
+
+    #[inline]
+    fn range_pointer(&self, scalar: char) -> Option<usize> {
+        pointers::range_pointer(self.ranges, &self.likely_ranges, scalar)
+    }
+
+    #[inline]
+    fn gb18030_pua_bytes(&self, scalar: char) -> Option<(u8, u8)> {
+        row_bytes(self.gb18030_pua, scalar)
     }
 }

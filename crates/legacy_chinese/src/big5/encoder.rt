@@ -1,9 +1,12 @@
 //! The encoder of Big5.
+ghost use Rattle.std.specs.Prelude.{◌≡◌, [], ◌∷◌, option_map};
+ghost use Rattle.legacy_base.specs.Big5.{big5_bytes};
 ghost use Rattle.legacy_base.specs.Encoders.{big5};
+ghost use Rattle.legacy_base.specs.Pointers.{big5_pointer_of};
 ghost use Rattle.legacy_chinese.specs.Big5Codes.{big5_pairs};
 
 use super::decoder::Big5;
-use legacy_base::Tables;
+use legacy_base::EncoderTables;
 use legacy_encoder_engine::moves::EncoderMove;
 use legacy_encoder_engine::pairs::{PairCodec, PairEncoder};
 
@@ -14,6 +17,21 @@ use legacy_encoder_engine::pairs::{PairCodec, PairEncoder};
 /// U+5341 and U+5345, and else of the first. All other scalars are unmappable.
 pub type Big5Encoder<'a> = PairEncoder<'a, Big5>;
 
+/// The lead and the trail of a scalar by index Big5.
+#[inline(always)]
+fn pair<V: EncoderTables>(tables: &V, c: char) -> Option<(u8, u8)>
+    ensures { option_map (λ pair. pair.0 ∷ pair.1 ∷ []) result ≡ option_map big5_bytes
+        (big5_pointer_of (V.indexes tables.now).flat.big5 c) }
+{
+    match tables.big5_pointer(c) {
+        Some(p) => {
+            let offset = if p % 157 < 0x3F { 0x40 } else { 0x62 };
+            Some(((p / 157 + 0x81) as u8, (p % 157 + offset) as u8))
+        }
+        None => None,
+    }
+}
+
 impl PairCodec for Big5 {
     ghost codec = { λ flat. big5 flat.big5 };
 
@@ -21,17 +39,23 @@ impl PairCodec for Big5 {
 
     #[inline]
     #[tactic(auto, unfolding(legacy_base::specs::Big5::big5_code))]
-    fn code_of(tables: &Tables<'_>, c: char) -> EncoderMove {
+    fn code_of<V: EncoderTables>(tables: &V, c: char) -> EncoderMove {
         let code = c as u32;
         if code < 0x80 {
             return EncoderMove::One(code as u8);
         }
-        match tables.big5_pointer(c) {
-            Some(p) => {
-                let offset = if p % 157 < 0x3F { 0x40 } else { 0x62 };
-                EncoderMove::Two((p / 157 + 0x81) as u8, (p % 157 + offset) as u8)
-            }
+        match pair(tables, c) {
+            Some((lead, trail)) => EncoderMove::Two(lead, trail),
             None => EncoderMove::Unmappable(c),
         }
+    }
+
+    #[inline(always)]
+    #[tactic(auto, unfolding(legacy_base::specs::Big5::big5_code))]
+    fn pair_of<V: EncoderTables>(tables: &V, c: char) -> Option<(u8, u8)> {
+        if (c as u32) < 0x80 {
+            return None;
+        }
+        pair(tables, c)
     }
 }

@@ -1,17 +1,24 @@
 //! The encoder of GB18030 and GBK.
-ghost use Rattle.std.specs.Prelude.{◌≡◌, [], ◌∷◌, option_map};
+ghost use Rattle.std.specs.Prelude.{◌≡◌, ◌≢◌, ◌+◌, ◌≤◌, [], ◌∷◌, length, take, true};
+ghost use Rattle.std.specs.Prelude.{Some, IfSome, option_map};
+ghost use Rattle.legacy_base.specs.EncodingForm.{total_unit_count};
 ghost use Rattle.legacy_base.specs.Pointers.{range_pointer_of};
 ghost use Rattle.legacy_base.specs.Gb18030.{gb18030_pair_code, gb18030_range_bytes, gb18030_code, gbk_code};
-ghost use Rattle.legacy_base.specs.Encoders.{new_encoder};
+ghost use Rattle.legacy_base.specs.Encoders.{encoder_profile, new_encoder};
 ghost use Rattle.legacy_base.specs.Lengths.{answer, number, ◌⊕◌, ◌⊗◌};
 ghost use Rattle.legacy_encoder_engine.specs.Moves.{IsCode};
+ghost use Rattle.legacy_encoder_engine.specs.UnderWay.{KeepsOn};
 ghost use Rattle.legacy_chinese.specs.Gb18030Codec.{gb18030_codec};
 ghost use Rattle.legacy_chinese.specs.Gb18030Codes.{gb18030_plain};
 
-use legacy_base::{EncoderResult, RawEncoder, Source, Tables};
+use legacy_base::{
+    EncoderResult, EncoderTables, FlatTables, KeptTables, PackedTables, RawEncoder, Source, Tables,
+};
 use legacy_encoder_engine::drive::drive_encoder;
 use legacy_encoder_engine::moves::EncoderMove;
+use legacy_encoder_engine::plain::PlainEncoder;
 use legacy_encoder_engine::plain_codes::PlainCodes;
+use legacy_encoder_engine::runs::read_runs;
 
 /// The encoder of GB18030 or of GBK (Encoding Standard, "gb18030 encoder").
 ///
@@ -41,10 +48,11 @@ impl<'a> Gb18030Encoder<'a> {
 }
 
 /// The lead and the trail of a scalar past ASCII, if it has them.
-#[inline]
-fn pair_of(tables: &Tables<'_>, c: char) -> Option<(u8, u8)>
+#[inline(always)]
+fn pair_of<V: EncoderTables>(tables: &V, c: char) -> Option<(u8, u8)>
     ensures { option_map (λ pair. pair.0 ∷ pair.1 ∷ []) result
-        ≡ gb18030_pair_code tables.now.flat.gb18030_pua tables.now.flat.gb18030 c }
+        ≡ gb18030_pair_code (V.indexes tables.now).flat.gb18030_pua
+        (V.indexes tables.now).flat.gb18030 c }
 {
     if let Some(row) = tables.gb18030_pua_bytes(c) {
         return Some(row);
@@ -58,11 +66,40 @@ fn pair_of(tables: &Tables<'_>, c: char) -> Option<(u8, u8)>
     }
 }
 
+/// Whether a scalar is past ASCII, and by no rule but those of rows and of the index: U+20AC and the scalars
+/// for private use, of which rows are, are none such.
+#[inline(always)]
+fn is_common(c: char) -> bool
+    ensures { result ≡ true → (0x80 ≤ c) × (c ≢ 0x20AC) × (c ≢ 0xE5E5) }
+{
+    let code = c as u32;
+    if code < 0x80 || code == 0x20AC {
+        return false;
+    }
+    !(code >= 0xE000 && code <= 0xF8FF)
+}
+
+/// The lead and the trail of a common scalar, if it has them.
+#[inline(always)]
+#[tactic(auto, unfolding(legacy_base::specs::Gb18030::gb18030_code, legacy_base::specs::Gb18030::gbk_code))]
+fn common_pair_of<V: EncoderTables>(tables: &V, c: char) -> Option<(u8, u8)>
+    ensures gb18030 { IfSome result (λ pair. gb18030_code (V.indexes tables.now).flat.gb18030
+        (V.indexes tables.now).flat.ranges (V.indexes tables.now).flat.gb18030_pua c
+        ≡ Some (pair.0 ∷ pair.1 ∷ [])) }
+    ensures gbk { IfSome result (λ pair. gbk_code (V.indexes tables.now).flat.gb18030
+        (V.indexes tables.now).flat.gb18030_pua c ≡ Some (pair.0 ∷ pair.1 ∷ [])) }
+{
+    if !is_common(c) {
+        return None;
+    }
+    pair_of(tables, c)
+}
+
 /// The four bytes of a scalar past ASCII, or the scalar as unmappable.
-#[inline]
-fn four_of(tables: &Tables<'_>, c: char) -> EncoderMove
-    ensures { IsCode (option_map gb18030_range_bytes (range_pointer_of tables.now.flat.ranges c))
-        c result }
+#[inline(always)]
+fn four_of<V: EncoderTables>(tables: &V, c: char) -> EncoderMove
+    ensures { IsCode (option_map gb18030_range_bytes
+        (range_pointer_of (V.indexes tables.now).flat.ranges c)) c result }
 {
     match tables.range_pointer(c) {
         Some(p) => EncoderMove::Four(
@@ -76,11 +113,11 @@ fn four_of(tables: &Tables<'_>, c: char) -> EncoderMove
 }
 
 /// What a scalar leads to in GB18030.
-#[inline]
+#[inline(always)]
 #[tactic(auto, unfolding(legacy_base::specs::Gb18030::gb18030_code))]
-fn gb18030_code_of(tables: &Tables<'_>, c: char) -> EncoderMove
-    ensures { IsCode (gb18030_code tables.now.flat.gb18030 tables.now.flat.ranges
-        tables.now.flat.gb18030_pua c) c result }
+fn gb18030_code_of<V: EncoderTables>(tables: &V, c: char) -> EncoderMove
+    ensures { IsCode (gb18030_code (V.indexes tables.now).flat.gb18030
+        (V.indexes tables.now).flat.ranges (V.indexes tables.now).flat.gb18030_pua c) c result }
 {
     let code = c as u32;
     if code < 0x80 {
@@ -96,10 +133,11 @@ fn gb18030_code_of(tables: &Tables<'_>, c: char) -> EncoderMove
 }
 
 /// What a scalar leads to in GBK.
-#[inline]
+#[inline(always)]
 #[tactic(auto, unfolding(legacy_base::specs::Gb18030::gbk_code))]
-fn gbk_code_of(tables: &Tables<'_>, c: char) -> EncoderMove
-    ensures { IsCode (gbk_code tables.now.flat.gb18030 tables.now.flat.gb18030_pua c) c result }
+fn gbk_code_of<V: EncoderTables>(tables: &V, c: char) -> EncoderMove
+    ensures { IsCode (gbk_code (V.indexes tables.now).flat.gb18030
+        (V.indexes tables.now).flat.gb18030_pua c) c result }
 {
     let code = c as u32;
     if code < 0x80 {
@@ -114,6 +152,19 @@ fn gbk_code_of(tables: &Tables<'_>, c: char) -> EncoderMove
     match pair_of(tables, c) {
         Some((lead, trail)) => EncoderMove::Two(lead, trail),
         None => EncoderMove::Unmappable(c),
+    }
+}
+
+/// What a scalar leads to in GB18030 or in GBK.
+#[inline(always)]
+fn any_code_of<V: EncoderTables>(tables: &V, extended_range: bool, c: char) -> EncoderMove
+    ensures { IsCode ((encoder_profile (gb18030_codec (V.indexes tables.now).flat
+        extended_range)).code c) c result }
+{
+    if extended_range {
+        gb18030_code_of(tables, c)
+    } else {
+        gbk_code_of(tables, c)
     }
 }
 
@@ -138,11 +189,91 @@ impl PlainCodes for Gb18030Encoder<'_> {
 
     #[inline]
     fn code_of(&self, c: char) -> EncoderMove {
-        if self.extended_range {
-            gb18030_code_of(self.tables, c)
-        } else {
-            gbk_code_of(self.tables, c)
+        any_code_of(self.tables, self.extended_range, c)
+    }
+}
+
+impl PlainEncoder for Gb18030Encoder<'_> {
+    #[inline]
+    fn read_codes<S: Source>(&self, src: &mut S, dst: &mut [u8], start: usize) -> usize {
+        match self.tables.kept() {
+            KeptTables::Flat(tables) => {
+                read_by::<FlatTables<'_>, S, false>(tables, self.extended_range, src, dst, start)
+            }
+            KeptTables::Packed(tables) => {
+                read_by::<PackedTables<'_>, S, true>(tables, self.extended_range, src, dst, start)
+            }
         }
+    }
+}
+
+/// The codes of GB18030 or of GBK, by the tables as they are kept. Pairs come first where a pointer is no
+/// search: a scalar of four bytes is looked for a second time behind it.
+#[derive(Drop)]
+struct Gb18030Codes<'a, V: EncoderTables, const EXTENDED: bool, const PAIRS_FIRST: bool> {
+    tables: &'a V,
+}
+
+impl<V: EncoderTables, const EXTENDED: bool, const PAIRS_FIRST: bool> PlainCodes
+    for Gb18030Codes<'_, V, EXTENDED, PAIRS_FIRST> {
+    ghost codec = { λ e. gb18030_codec (V.indexes e.tables.now).flat EXTENDED };
+
+    ghost past = { 4 };
+
+    ghost plain = { λ e. gb18030_plain (V.indexes e.tables.now).flat EXTENDED };
+
+    #[inline]
+    fn past_room(&self) -> usize {
+        4
+    }
+
+    #[inline(always)]
+    fn code_of(&self, c: char) -> EncoderMove {
+        any_code_of(self.tables, EXTENDED, c)
+    }
+
+    #[inline(always)]
+    fn pair_of(&self, c: char) -> Option<(u8, u8)> {
+        if !PAIRS_FIRST {
+            return None;
+        }
+        common_pair_of(self.tables, c)
+    }
+}
+
+/// Reads ahead in GB18030 or in GBK, by the tables as they are kept. Answers where the bytes end.
+// Neither loop has anything of the other: four bytes beside two would be told apart at each character.
+#[inline(always)]
+fn read_by<V: EncoderTables, S: Source, const PAIRS_FIRST: bool>(
+    tables: &V,
+    extended_range: bool,
+    src: &mut S,
+    dst: &mut [u8],
+    start: usize,
+) -> usize
+    requires { start ≤ length dst.old }
+    ensures keeps { KeepsOn (new_encoder (gb18030_codec (V.indexes tables.now).flat extended_range))
+        (length dst.old) (S.left src.old) (take start dst.old) (S.left src.new)
+        (take result dst.new) }
+    ensures start { start ≤ result }
+    ensures end { result ≤ length dst.old }
+    ensures passed { S.passed src.new + total_unit_count S.form (S.left src.new)
+        ≡ S.passed src.old + total_unit_count S.form (S.left src.old) }
+{
+    if extended_range {
+        read_runs(
+            &Gb18030Codes::<V, true, PAIRS_FIRST> { tables },
+            src,
+            dst,
+            start,
+        )
+    } else {
+        read_runs(
+            &Gb18030Codes::<V, false, PAIRS_FIRST> { tables },
+            src,
+            dst,
+            start,
+        )
     }
 }
 

@@ -1,13 +1,12 @@
 //! The encoder of EUC-JP.
-ghost use Rattle.std.specs.Prelude.{option_map};
+ghost use Rattle.std.specs.Prelude.{◌≡◌, [], ◌∷◌, option_map};
 ghost use Rattle.legacy_base.specs.Pointers.{euc_jp_pointer_of, minus_as_hyphen};
 ghost use Rattle.legacy_base.specs.EucJp.{euc_jp_bytes};
 ghost use Rattle.legacy_base.specs.Encoders.{euc_jp};
-ghost use Rattle.legacy_encoder_engine.specs.Moves.{IsCode};
 ghost use Rattle.legacy_japanese.specs.EucJpCodes.{euc_jp_pairs};
 
-use crate::folds::minus_as_hyphen;
-use legacy_base::Tables;
+use crate::folds::{is_by_index, minus_as_hyphen};
+use legacy_base::EncoderTables;
 use legacy_encoder_engine::moves::EncoderMove;
 use legacy_encoder_engine::pairs::{PairCodec, PairEncoder};
 
@@ -22,15 +21,15 @@ pub struct EucJp;
 /// by index jis0212.
 pub type EucJpEncoder<'a> = PairEncoder<'a, EucJp>;
 
-/// The scalar by index jis0208.
-#[inline]
-fn pair_of(tables: &Tables<'_>, c: char) -> EncoderMove
-    ensures { IsCode (option_map euc_jp_bytes
-        (euc_jp_pointer_of tables.now.flat.jis0208 (minus_as_hyphen c))) c result }
+/// The lead and the trail of a scalar by index jis0208.
+#[inline(always)]
+fn pair<V: EncoderTables>(tables: &V, c: char) -> Option<(u8, u8)>
+    ensures { option_map (λ pair. pair.0 ∷ pair.1 ∷ []) result ≡ option_map euc_jp_bytes
+        (euc_jp_pointer_of (V.indexes tables.now).flat.jis0208 (minus_as_hyphen c)) }
 {
     match tables.euc_jp_pointer(minus_as_hyphen(c)) {
-        Some(p) => EncoderMove::Two((p / 94 + 0xA1) as u8, (p % 94 + 0xA1) as u8),
-        None => EncoderMove::Unmappable(c),
+        Some(p) => Some(((p / 94 + 0xA1) as u8, (p % 94 + 0xA1) as u8)),
+        None => None,
     }
 }
 
@@ -41,7 +40,7 @@ impl PairCodec for EucJp {
 
     #[inline]
     #[tactic(auto, unfolding(legacy_base::specs::EucJp::euc_jp_code))]
-    fn code_of(tables: &Tables<'_>, c: char) -> EncoderMove {
+    fn code_of<V: EncoderTables>(tables: &V, c: char) -> EncoderMove {
         let code = c as u32;
         if code < 0x80 {
             EncoderMove::One(code as u8)
@@ -52,7 +51,19 @@ impl PairCodec for EucJp {
         } else if code >= 0xFF61 && code <= 0xFF9F {
             EncoderMove::Two(0x8E, (0xA1 + (code - 0xFF61)) as u8)
         } else {
-            pair_of(tables, c)
+            match pair(tables, c) {
+                Some((lead, trail)) => EncoderMove::Two(lead, trail),
+                None => EncoderMove::Unmappable(c),
+            }
         }
+    }
+
+    #[inline(always)]
+    #[tactic(auto, unfolding(legacy_base::specs::EucJp::euc_jp_code))]
+    fn pair_of<V: EncoderTables>(tables: &V, c: char) -> Option<(u8, u8)> {
+        if !is_by_index(c) {
+            return None;
+        }
+        pair(tables, c)
     }
 }

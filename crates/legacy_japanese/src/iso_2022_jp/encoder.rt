@@ -1,13 +1,17 @@
 //! The encoder of ISO-2022-JP.
-ghost use Rattle.std.specs.Prelude.{◌≡◌, ◌==◌, ◌||◌, ◌+◌, ◌<◌, ◌≤◌, length, take, IfSome, MatchOption};
+ghost use Rattle.std.specs.Prelude.{◌≡◌, ◌≢◌, ◌==◌, ◌||◌, ◌<◌, ◌≤◌, ℕ, List, true, IfSome};
+ghost use Rattle.legacy_base.specs.EncoderProfile.{in_ascii, in_roman, in_two_byte};
 ghost use Rattle.legacy_base.specs.Encoders.{iso_2022_jp, is_pending, new_encoder};
 ghost use Rattle.legacy_base.specs.Iso2022Jp.{iso_2022_jp_fold, iso_2022_jp_pointer_of};
 ghost use Rattle.legacy_base.specs.Iso2022Jp.{is_mode_control, roman_or_ascii};
-ghost use Rattle.legacy_encoder_engine.specs.UnderWay.{PutsCode};
-ghost use Rattle.legacy_japanese.specs.Iso2022JpEncoder.{Asks, mode_of, escape_move, is_same_mode};
+ghost use Rattle.legacy_japanese.specs.Iso2022JpEncoder.{Asks, ReadsThere, mode_of, escape_move};
+ghost use Rattle.legacy_japanese.specs.Iso2022JpEncoder.{is_same_mode};
 
-use crate::folds::minus_as_hyphen;
-use legacy_base::{EncoderResult, IndexName, Next, RawEncoder, Source, Tables};
+use crate::folds::{is_by_index, minus_as_hyphen};
+use legacy_base::{
+    EncoderResult, EncoderTables, IndexName, KeptTables, Next, RawEncoder, Source, Tables,
+    UnitCodes,
+};
 use legacy_encoder_engine::drive::{drive_encoder, put_move};
 use legacy_encoder_engine::moves::{EncoderMove, EncoderMoves};
 use legacy_encoder_engine::runs::has_bytes;
@@ -61,8 +65,8 @@ impl Mode {
 /// What is looked up in index jis0208 for a scalar past ASCII: the entry of index katakana for a
 /// half-width letter, the full-width hyphen-minus for the minus sign, and else the scalar itself.
 #[inline]
-fn folded(tables: &Tables, c: char) -> Option<char>
-    ensures { result ≡ iso_2022_jp_fold tables.now.flat.katakana c }
+fn folded<V: EncoderTables>(tables: &V, c: char) -> Option<char>
+    ensures { result ≡ iso_2022_jp_fold (V.indexes tables.now).flat.katakana c }
 {
     let scalar = c as u32;
     if scalar >= 0xFF61 && scalar <= 0xFF9F {
@@ -73,11 +77,14 @@ fn folded(tables: &Tables, c: char) -> Option<char>
 
 /// The pointer of a scalar past ASCII, or `None` where it has no pair.
 #[inline]
-fn pointer(tables: &Tables, c: char) -> Option<usize>
-    ensures value { result ≡ iso_2022_jp_pointer_of tables.now.flat.jis0208
-        tables.now.flat.katakana c }
+fn pointer<V: EncoderTables>(tables: &V, c: char) -> Option<usize>
+    ensures value { result ≡ iso_2022_jp_pointer_of (V.indexes tables.now).flat.jis0208
+        (V.indexes tables.now).flat.katakana c }
     ensures within { IfSome result (λ p. p < 8836) }
 {
+    if is_by_index(c) {
+        return tables.euc_jp_pointer(c);
+    }
     match folded(tables, c) {
         Some(found) => tables.euc_jp_pointer(found),
         None => None,
@@ -100,10 +107,23 @@ fn is_special(scalar: u32) -> bool
     scalar == 0x5C || scalar == 0x7E
 }
 
+/// Whether a scalar is past ASCII and has no byte in Roman mode.
+#[inline(always)]
+fn is_looked_up(c: char) -> bool
+    ensures { result ≡ true → (0x80 ≤ c) × (c ≢ 0xA5) × (c ≢ 0x203E) }
+{
+    if is_by_index(c) {
+        return true;
+    }
+    let scalar = c as u32;
+    !(scalar < 0x80 || scalar == 0xA5 || scalar == 0x203E)
+}
+
 /// The mode that a scalar asks for where it comes in a mode, and the move that reads it there.
 #[inline]
-fn asked(tables: &Tables, mode: Mode, c: char) -> (Mode, EncoderMove)
-    ensures { Asks tables.now.flat.jis0208 tables.now.flat.katakana mode c result.0 result.1 }
+fn asked<V: EncoderTables>(tables: &V, mode: Mode, c: char) -> (Mode, EncoderMove)
+    ensures { Asks (V.indexes tables.now).flat.jis0208 (V.indexes tables.now).flat.katakana
+        mode c result.0 result.1 }
 {
     let scalar = c as u32;
     let settled = mode.settled();
@@ -171,25 +191,6 @@ impl<'a> Iso2022JpEncoder<'a> {
             Mode::Roman | Mode::TwoByte => true,
         }
     }
-
-    /// Writes the bytes of a scalar that is next, and answers where they end; `None` where it has none or
-    /// wants an escape.
-    #[inline(always)]
-    fn put_here(&self, dst: &mut [u8], at: usize, c: char) -> Option<usize>
-        requires { at + 3 ≤ length dst.old }
-        ensures { MatchOption result (take at dst.new ≡ take at dst.old)
-            (λ end. PutsCode (iso_2022_jp_encoder_state self.now) c (take at dst.old) at
-            (take end dst.new) end) }
-    {
-        let (mode, own) = asked(self.tables, self.mode, c);
-        if !self.mode.is(mode) {
-            return None;
-        }
-        if !has_bytes(own) {
-            return None;
-        }
-        Some(put_move(dst, at, own))
-    }
 }
 
 impl EncoderMoves for Iso2022JpEncoder<'_> {
@@ -225,10 +226,217 @@ impl EncoderMoves for Iso2022JpEncoder<'_> {
         self.mode = Mode::Ascii;
     }
 
-    // Scalars of the mode at hand, up to one that wants an escape or has no bytes.
     #[inline]
     fn read_ahead<S: Source>(&self, src: &mut S, dst: &mut [u8], at: usize) -> usize {
-        let mut end = at;
+        let mode = self.mode;
+        match self.tables.kept() {
+            KeptTables::Flat(tables) => CodesInMode { tables, mode }.read_codes(src, dst, at),
+            KeptTables::Packed(tables) => CodesInMode { tables, mode }.read_codes(src, dst, at),
+        }
+    }
+}
+
+/// What reads a scalar in ASCII mode, if it has its bytes there.
+#[inline(always)]
+fn ascii_code(c: char) -> Option<EncoderMove>
+    ensures { (jis0208 katakana : List ℕ) →
+        IfSome result (λ own. ReadsThere jis0208 katakana in_ascii c own) }
+{
+    let scalar = c as u32;
+    if scalar >= 0x80 || is_control(scalar) {
+        return None;
+    }
+    Some(EncoderMove::One(scalar as u8))
+}
+
+/// What reads a scalar in Roman mode, if it has its bytes there.
+#[inline]
+fn roman_code<V: EncoderTables>(tables: &V, c: char) -> Option<EncoderMove>
+    ensures { IfSome result (λ own. ReadsThere (V.indexes tables.now).flat.jis0208
+        (V.indexes tables.now).flat.katakana in_roman c own) }
+{
+    let (mode, own) = asked(tables, Mode::Roman, c);
+    if !mode.is(Mode::Roman) {
+        return None;
+    }
+    if !has_bytes(own) {
+        return None;
+    }
+    Some(own)
+}
+
+/// What reads a scalar in two-byte mode, if it has its bytes there.
+#[inline(always)]
+fn two_byte_code<V: EncoderTables>(tables: &V, c: char) -> Option<EncoderMove>
+    ensures { IfSome result (λ own. ReadsThere (V.indexes tables.now).flat.jis0208
+        (V.indexes tables.now).flat.katakana in_two_byte c own) }
+{
+    if !is_looked_up(c) {
+        return None;
+    }
+    match pointer(tables, c) {
+        Some(p) => Some(EncoderMove::Two((p / 94 + 0x21) as u8, (p % 94 + 0x21) as u8)),
+        None => None,
+    }
+}
+
+/// Whether both tests hold, of which both are made.
+#[inline(always)]
+fn both(first: bool, second: bool) -> bool
+    ensures { result ≡ true → (first ≡ true) × (second ≡ true) }
+{
+    first & second
+}
+
+/// The code units that are written as themselves in ASCII mode.
+#[derive(Drop)]
+struct AsciiUnits;
+
+impl UnitCodes for AsciiUnits {
+    ghost use Rattle.legacy_japanese.specs.Iso2022JpEncoder.{IsOwnByte};
+
+    ghost gives = { λ _. IsOwnByte };
+
+    // Without a branch: sixteen units are tested at once.
+    #[inline(always)]
+    fn byte_of(&self, unit: u16) -> (u8, bool) {
+        let is_known = both(unit < 0x80, !is_control(u32::from(unit)));
+        ((unit % 0x100) as u8, is_known)
+    }
+}
+
+/// The codes of a mode, by the tables as they are kept.
+#[derive(Drop)]
+struct CodesInMode<'a, V: EncoderTables> {
+    tables: &'a V,
+    mode: Mode,
+}
+
+impl<V: EncoderTables> CodesInMode<'_, V> {
+    ghost use Rattle.std.specs.Prelude.{◌≡◌, ◌+◌, ◌≤◌, length, take, IfSome, MatchOption};
+    ghost use Rattle.legacy_base.specs.EncodingForm.{total_unit_count};
+    ghost use Rattle.legacy_encoder_engine.specs.UnderWay.{KeepsOn, PutsCode};
+    ghost use Rattle.legacy_japanese.specs.Iso2022JpEncoder.{ReadsThere, mode_of, state_by};
+
+    /// What reads a scalar in the mode, if it has its bytes there.
+    #[inline(always)]
+    fn code_of(&self, c: char) -> Option<EncoderMove>
+        ensures { IfSome result (λ own. ReadsThere (V.indexes self.now.tables.now).flat.jis0208
+            (V.indexes self.now.tables.now).flat.katakana (mode_of self.now.mode) c own) }
+    {
+        match self.mode {
+            Mode::Ascii => ascii_code(c),
+            Mode::Roman => roman_code(self.tables, c),
+            Mode::TwoByte => two_byte_code(self.tables, c),
+        }
+    }
+
+    /// Writes the bytes of a scalar that is next, and answers where they end; `None` where it has none or
+    /// wants an escape.
+    #[inline(always)]
+    fn put_here(&self, dst: &mut [u8], at: usize, c: char) -> Option<usize>
+        requires { at + 3 ≤ length dst.old }
+        ensures { MatchOption result (take at dst.new ≡ take at dst.old)
+            (λ end. PutsCode (state_by (V.indexes self.now.tables.now) self.now.mode) c
+            (take at dst.old) at (take end dst.new) end) }
+    {
+        match self.code_of(c) {
+            Some(own) => Some(put_move(dst, at, own)),
+            None => None,
+        }
+    }
+
+    /// Reads blocks of code units in ASCII mode, where the source has these, and writes their bytes from the
+    /// place `start` on. Answers where they end.
+    // A scalar is read where any fits, so the last two bytes of the output stay free.
+    #[inline(always)]
+    fn copy_ascii<S: Source>(&self, src: &mut S, dst: &mut [u8], start: usize) -> usize
+        requires start { start ≤ length dst.old }
+        requires mode { mode_of self.now.mode ≡ in_ascii }
+        ensures keeps { KeepsOn (state_by (V.indexes self.now.tables.now) self.now.mode)
+            (length dst.old) (S.left src.old) (take start dst.old) (S.left src.new)
+            (take result dst.new) }
+        ensures start { start ≤ result }
+        ensures end { result ≤ length dst.old }
+        ensures passed { S.passed src.new + total_unit_count S.form (S.left src.new)
+            ≡ S.passed src.old + total_unit_count S.form (S.left src.old) }
+    {
+        if dst.len() - start < 2 {
+            return start;
+        }
+        if !src.has_blocks() {
+            return start;
+        }
+        let limit = dst.len() - 2;
+        start + src.copy_codes(&AsciiUnits, &mut dst[..limit], start)
+    }
+
+    /// Reads scalars of one code unit that the mode has, and writes their bytes from the place `start` on.
+    /// Answers where they end.
+    // In ASCII mode no others have bytes: then it is a loop of few tests.
+    #[inline(always)]
+    fn read_short<S: Source>(&self, src: &mut S, dst: &mut [u8], start: usize) -> usize
+        requires { start ≤ length dst.old }
+        ensures keeps { KeepsOn (state_by (V.indexes self.now.tables.now) self.now.mode)
+            (length dst.old) (S.left src.old) (take start dst.old) (S.left src.new)
+            (take result dst.new) }
+        ensures start { start ≤ result }
+        ensures end { result ≤ length dst.old }
+        ensures passed { S.passed src.new + total_unit_count S.form (S.left src.new)
+            ≡ S.passed src.old + total_unit_count S.form (S.left src.old) }
+    {
+        let mut end = start;
+        while dst.len() - end >= 3 {
+            match src.front() {
+                Next::One(c) => {
+                    let Some(behind) = self.put_here(dst, end, c) else {
+                        return end;
+                    };
+                    end = behind;
+                    src.pass(1);
+                }
+                _ => return end,
+            }
+        }
+        end
+    }
+
+    /// Reads scalars of the mode, up to one that wants an escape or has no bytes, and writes their bytes from
+    /// the place `start` on. Answers where they end.
+    #[inline]
+    fn read_codes<S: Source>(&self, src: &mut S, dst: &mut [u8], start: usize) -> usize
+        requires { start ≤ length dst.old }
+        ensures keeps { KeepsOn (state_by (V.indexes self.now.tables.now) self.now.mode)
+            (length dst.old) (S.left src.old) (take start dst.old) (S.left src.new)
+            (take result dst.new) }
+        ensures start { start ≤ result }
+        ensures end { result ≤ length dst.old }
+        ensures passed { S.passed src.new + total_unit_count S.form (S.left src.new)
+            ≡ S.passed src.old + total_unit_count S.form (S.left src.old) }
+    {
+        match self.mode {
+            Mode::Ascii => {
+                let end = self.copy_ascii(src, dst, start);
+                self.read_short(src, dst, end)
+            }
+            Mode::Roman | Mode::TwoByte => self.read_scalars(src, dst, start),
+        }
+    }
+
+    /// Reads scalars of the mode, up to one that wants an escape or has no bytes, and writes their bytes from
+    /// the place `start` on. Answers where they end.
+    #[inline]
+    fn read_scalars<S: Source>(&self, src: &mut S, dst: &mut [u8], start: usize) -> usize
+        requires { start ≤ length dst.old }
+        ensures keeps { KeepsOn (state_by (V.indexes self.now.tables.now) self.now.mode)
+            (length dst.old) (S.left src.old) (take start dst.old) (S.left src.new)
+            (take result dst.new) }
+        ensures start { start ≤ result }
+        ensures end { result ≤ length dst.old }
+        ensures passed { S.passed src.new + total_unit_count S.form (S.left src.new)
+            ≡ S.passed src.old + total_unit_count S.form (S.left src.old) }
+    {
+        let mut end = start;
         while dst.len() - end >= 3 {
             match src.front() {
                 Next::One(c) => {

@@ -1,14 +1,13 @@
 //! The encoder of Shift_JIS.
-ghost use Rattle.std.specs.Prelude.{option_map};
+ghost use Rattle.std.specs.Prelude.{◌≡◌, [], ◌∷◌, option_map};
 ghost use Rattle.legacy_base.specs.Pointers.{shift_jis_pointer_of, minus_as_hyphen};
 ghost use Rattle.legacy_base.specs.ShiftJis.{shift_jis_bytes};
 ghost use Rattle.legacy_base.specs.Encoders.{shift_jis};
-ghost use Rattle.legacy_encoder_engine.specs.Moves.{IsCode};
 ghost use Rattle.legacy_japanese.specs.ShiftJisCodes.{shift_jis_pairs};
 
 use super::decoder::ShiftJis;
-use crate::folds::minus_as_hyphen;
-use legacy_base::Tables;
+use crate::folds::{is_by_index, minus_as_hyphen};
+use legacy_base::EncoderTables;
 use legacy_encoder_engine::moves::EncoderMove;
 use legacy_encoder_engine::pairs::{PairCodec, PairEncoder};
 
@@ -20,19 +19,19 @@ use legacy_encoder_engine::pairs::{PairCodec, PairEncoder};
 /// unmappable.
 pub type ShiftJisEncoder<'a> = PairEncoder<'a, ShiftJis>;
 
-/// The scalar by index jis0208.
-#[inline]
-fn pair_of(tables: &Tables<'_>, c: char) -> EncoderMove
-    ensures { IsCode (option_map shift_jis_bytes
-        (shift_jis_pointer_of tables.now.flat.jis0208 (minus_as_hyphen c))) c result }
+/// The lead and the trail of a scalar by index jis0208.
+#[inline(always)]
+fn pair<V: EncoderTables>(tables: &V, c: char) -> Option<(u8, u8)>
+    ensures { option_map (λ pair. pair.0 ∷ pair.1 ∷ []) result ≡ option_map shift_jis_bytes
+        (shift_jis_pointer_of (V.indexes tables.now).flat.jis0208 (minus_as_hyphen c)) }
 {
     match tables.shift_jis_pointer(minus_as_hyphen(c)) {
         Some(p) => {
             let first = if p / 188 < 0x1F { 0x81 } else { 0xC1 };
             let second = if p % 188 < 0x3F { 0x40 } else { 0x41 };
-            EncoderMove::Two((p / 188 + first) as u8, (p % 188 + second) as u8)
+            Some(((p / 188 + first) as u8, (p % 188 + second) as u8))
         }
-        None => EncoderMove::Unmappable(c),
+        None => None,
     }
 }
 
@@ -43,7 +42,7 @@ impl PairCodec for ShiftJis {
 
     #[inline]
     #[tactic(auto, unfolding(legacy_base::specs::ShiftJis::shift_jis_code))]
-    fn code_of(tables: &Tables<'_>, c: char) -> EncoderMove {
+    fn code_of<V: EncoderTables>(tables: &V, c: char) -> EncoderMove {
         let code = c as u32;
         if code < 0x80 {
             EncoderMove::One(code as u8)
@@ -56,7 +55,19 @@ impl PairCodec for ShiftJis {
         } else if code >= 0xFF61 && code <= 0xFF9F {
             EncoderMove::One((0xA1 + (code - 0xFF61)) as u8)
         } else {
-            pair_of(tables, c)
+            match pair(tables, c) {
+                Some((lead, trail)) => EncoderMove::Two(lead, trail),
+                None => EncoderMove::Unmappable(c),
+            }
         }
+    }
+
+    #[inline(always)]
+    #[tactic(auto, unfolding(legacy_base::specs::ShiftJis::shift_jis_code))]
+    fn pair_of<V: EncoderTables>(tables: &V, c: char) -> Option<(u8, u8)> {
+        if !is_by_index(c) {
+            return None;
+        }
+        pair(tables, c)
     }
 }

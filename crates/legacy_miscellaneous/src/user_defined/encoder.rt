@@ -6,7 +6,9 @@ ghost use Rattle.legacy_miscellaneous.specs.UserDefinedCodes.{user_defined_plain
 use legacy_base::{EncoderResult, RawEncoder, Source};
 use legacy_encoder_engine::drive::drive_encoder;
 use legacy_encoder_engine::moves::EncoderMove;
+use legacy_encoder_engine::plain::PlainEncoder;
 use legacy_encoder_engine::plain_codes::PlainCodes;
+use legacy_encoder_engine::runs::read_runs;
 
 /// The encoder of x-user-defined (Encoding Standard, "x-user-defined encoder").
 ///
@@ -54,6 +56,12 @@ impl PlainCodes for UserDefinedEncoder {
     }
 
     #[inline(always)]
+    fn pair_of(&self, c: char) -> Option<(u8, u8)> {
+        let _ = c;
+        None
+    }
+
+    #[inline(always)]
     fn goes_by_units(&self) -> bool {
         true
     }
@@ -68,6 +76,13 @@ impl PlainCodes for UserDefinedEncoder {
         } else {
             (0, false)
         }
+    }
+}
+
+impl PlainEncoder for UserDefinedEncoder {
+    #[inline]
+    fn read_codes<S: Source>(&self, src: &mut S, dst: &mut [u8], start: usize) -> usize {
+        read_runs(self, src, dst, start)
     }
 }
 

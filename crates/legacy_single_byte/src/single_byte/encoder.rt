@@ -8,7 +8,9 @@ use super::run::{SingleByteRun, SingleByteRunError, check_run};
 use legacy_base::{EncoderResult, RawEncoder, SingleByteTable, Source};
 use legacy_encoder_engine::drive::drive_encoder;
 use legacy_encoder_engine::moves::EncoderMove;
+use legacy_encoder_engine::plain::PlainEncoder;
 use legacy_encoder_engine::plain_codes::PlainCodes;
+use legacy_encoder_engine::runs::read_runs;
 
 /// The encoder of a single-byte encoding (Encoding Standard, "single-byte encoder").
 ///
@@ -168,6 +170,12 @@ impl PlainCodes for SingleByteEncoder<'_> {
     }
 
     #[inline(always)]
+    fn pair_of(&self, c: char) -> Option<(u8, u8)> {
+        let _ = c;
+        None
+    }
+
+    #[inline(always)]
     fn goes_by_units(&self) -> bool {
         true
     }
@@ -179,6 +187,13 @@ impl PlainCodes for SingleByteEncoder<'_> {
         let byte = ascii_or(unit, self.run_byte(place));
         let is_in_run = place < u16::from(self.run_length);
         (byte, either(unit < 0x80, is_in_run))
+    }
+}
+
+impl PlainEncoder for SingleByteEncoder<'_> {
+    #[inline]
+    fn read_codes<S: Source>(&self, src: &mut S, dst: &mut [u8], start: usize) -> usize {
+        read_runs(self, src, dst, start)
     }
 }
 

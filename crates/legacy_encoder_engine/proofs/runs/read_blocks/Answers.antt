@@ -1,26 +1,9 @@
 use Rattle.std.proofs.Common.{◌≤◌, ◌+◌, length, take, drop, sym, arith}
 use Rattle.std.proofs.lemmas.List.{take-append-drop, length-take-le}
 use Rattle.legacy_base.specs.Encoders.{new_encoder}
-use Rattle.legacy_base.proofs.Rooms.{total_unit_count-append}
 use Rattle.legacy_encoder_engine.proofs.CallUnderWay.{keeps_ascii, front_length, front_units}
 use Rattle.legacy_encoder_engine.proofs.PlainServes.{keeps_codes, plain_serves, plain_ascii}
 use Rattle.legacy_encoder_engine.proofs.runs.read_blocks.Goals as goal
-
-pub returns-then-has_blocks-clause-keeps : goal.returns-then-has_blocks-clause-keeps
-returns-then-has_blocks-clause-keeps g c =
-    let e = c.copy_codes.ensures in
-    let left = g.S.Source.left c.args.src.now in
-    rw e.left (keeps_codes (g.C.PlainCodes.codec c.args.encoder.now) g.C.PlainCodes.past (g.C.PlainCodes.plain c.args.encoder.now) (length c.args.dst.now) left c.copy_codes.result _ _
-    e.read (omega (arith, front_length c.args.at c.args.dst.now c.requires, e.fits)) e.writes)
-
-pub returns-then-has_blocks-clause-passed : goal.returns-then-has_blocks-clause-passed
-returns-then-has_blocks-clause-passed g c =
-    let e = c.copy_codes.ensures in
-    let left = g.S.Source.left c.args.src.now in
-    let n = c.copy_codes.result in
-    let both = total_unit_count-append g.S.Source.form (take n left) (drop n left) in
-    let whole = take-append-drop n left in
-    rw e.left (omega (arith, e.passed, e.units, rw whole at both))
 
 pub returns-clause-keeps : goal.returns-clause-keeps
 returns-clause-keeps g c =

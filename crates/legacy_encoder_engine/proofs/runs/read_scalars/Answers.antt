@@ -1,6 +1,6 @@
-use Rattle.std.proofs.Common.{◌+◌, ◌≤◌, length, take, arith, refl}
+use Rattle.std.proofs.Common.{◌≡◌, ◌+◌, ◌≤◌, length, take, arith, refl}
 use Rattle.legacy_base.specs.Encoders.{new_encoder, scalar_room}
-use Rattle.legacy_encoder_engine.proofs.CallUnderWay.{keeps_none, front_length, reads_on}
+use Rattle.legacy_encoder_engine.proofs.CallUnderWay.{keeps_none, keeps_then, front_length, reads_on}
 use Rattle.legacy_encoder_engine.proofs.PlainServes.{plain_serves}
 use Rattle.legacy_encoder_engine.proofs.runs.read_scalars.Goals as goal
 
@@ -43,7 +43,16 @@ loop-dst-preserved-in-Two g c =
     (S.left c.args.src.now) (take c.args.start c.args.dst.now) c.args.start (S.passed c.args.src.now)
     left (take c.loop-dst.at c.loop-dst.dst) c.loop-dst.at (S.passed c.loop-dst.src) i.0 i.1 i.3 i.5 (front_length c.loop-dst.at c.loop-dst.dst i.2)
     scalar 2 c.in-Two.ensures.0 c.in-Two.ensures.1 room _ _ c.in-Some-put_code.end _ c.in-Some-put_code.ensures c.pass-in-Two.ensures.left c.pass-in-Two.ensures.passed in
-    (r.keeps, r.start_is, omega (arith, r.end_is), omega (arith, r.fewer), (λ h. r.fewer), r.passed_is)
+    let t = c.read_turns-at.ensures in
+    let same : length c.put_code-in-Two.new.dst ≡ length c.args.dst.now = omega arith in
+    let turns = rw same at t.keeps in (
+      keeps_then state (length c.args.dst.now) _ _ _ _ _ _ r.keeps turns,
+      omega (arith, r.start_is),
+      omega (arith, t.end),
+      omega (arith, r.fewer, t.few),
+      (λ h. omega (arith, r.fewer, t.few)),
+      omega (arith, t.passed, r.passed_is),
+    )
 
 pub loop-dst-preserved : goal.loop-dst-preserved
 loop-dst-preserved g c =

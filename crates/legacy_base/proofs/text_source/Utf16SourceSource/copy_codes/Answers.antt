@@ -1,3 +1,4 @@
+use Rattle.std.proofs.Common.{◌+◌, ap, sym}
 use Rattle.legacy_base.proofs.UnitCopies.{lone_front, lone_count, lone_writes}
 use Rattle.legacy_base.proofs.text_source.Utf16SourceSource.copy_codes.Goals as goal
 
@@ -15,11 +16,11 @@ returns-clause-left g c =
     let front = lone_front (g.C.UnitCodes.gives c.args.codes.now) s.units.now s.place c.copy_unit_codes-count.result s.in_range s.are_units e.read e.lone in
     front.others_is
 
-pub returns-clause-units : goal.returns-clause-units
-returns-clause-units g c =
+pub returns-clause-passed : goal.returns-clause-passed
+returns-clause-passed g c =
     let s = c.args.self.now in
     let e = c.copy_unit_codes-count.ensures in
-    lone_count (g.C.UnitCodes.gives c.args.codes.now) s.units.now s.place c.copy_unit_codes-count.result s.in_range s.are_units e.read e.lone
+    ap (λ n. s.place + n) (sym (lone_count (g.C.UnitCodes.gives c.args.codes.now) s.units.now s.place c.copy_unit_codes-count.result s.in_range s.are_units e.read e.lone))
 
 pub returns-clause-writes : goal.returns-clause-writes
 returns-clause-writes g c =
