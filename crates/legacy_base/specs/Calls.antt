@@ -1,5 +1,5 @@
 -- The law of one call of a decoder.
-use Rattle.std.specs.Prelude.{◌≡◌, ◌≢◌, ℕ, ◌+◌, ◌-◌, ◌<◌, ◌≤◌, List, [], ◌∷◌, ◌++◌, drop, length, map, Bool, IsTrue, All, Some}
+use Rattle.std.specs.Prelude.{◌≡◌, ◌≢◌, ℕ, ◌+◌, ◌-◌, ◌<◌, ◌≤◌, List, [], ◌∷◌, ◌++◌, drop, length, map, Bool, false, IsTrue, All, Some}
 use Rattle.std.specs.Char.{IsScalar}
 use Rattle.legacy_base.specs.declared.results.DecodeEvent.{DecodeEvent}
 use Rattle.legacy_base.specs.declared.results.DecodeEvent.TheVariants.{Scalar, Bad}
@@ -35,6 +35,12 @@ pub record Progress (last : Bool) (before : DecoderState) (source : List ℕ) (p
   pub events : (more : List ℕ) → (IsTrue last → more ≡ []) →
       events_of before.grammar (before.held ++ (source ++ more))
       ≡ out ++ shift passed (events_of after.grammar (after.held ++ (left ++ more)))
+
+-- A byte that is malformed by itself, where nothing is held back: it gives that event whatever bytes come behind it, and
+-- leaves the state as it is.
+pub record IsLoneFault (state : DecoderState) (byte : ℕ) : Type 0 where
+  pub empty : state.held ≡ []
+  pub progress : Progress false state (byte ∷ []) 1 state [] (Bad 0 1 ∷ [])
 
 -- A malformed sequence has one to four bytes. The bytes behind it, at most three, are those that are held back, and it
 -- lies among the `seen` bytes.

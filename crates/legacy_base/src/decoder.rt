@@ -1,10 +1,10 @@
 //! The calls of a decoder.
-ghost use Rattle.std.specs.Prelude.{◌≡◌, ℕ, ◌+◌, ◌≤◌, List, [], length, take};
+ghost use Rattle.std.specs.Prelude.{◌≡◌, ℕ, ◌+◌, ◌<◌, ◌≤◌, List, [], length, take, slice_index};
 ghost use Rattle.legacy_base.specs.EncodingForm.{Utf8, Utf16};
 ghost use Rattle.legacy_base.specs.States.{DecoderState};
 ghost use Rattle.legacy_base.specs.Lengths.{query_answer, to_utf16, to_utf8};
 ghost use Rattle.legacy_base.specs.Lengths.{to_utf8_without_replacement};
-ghost use Rattle.legacy_base.specs.Calls.{IsDecoderCall};
+ghost use Rattle.legacy_base.specs.Calls.{IsDecoderCall, IsLoneFault};
 
 use crate::destination::{Destination, Utf8Destination, Utf16Destination};
 use crate::results::DecoderResult;
@@ -76,6 +76,19 @@ pub trait RawDecoder {
         let (answer, read) = self.step(src, &mut destination, last);
         let written = destination.written();
         (answer, read, written)
+    }
+
+    /// How many bytes at the front of `src` are malformed sequences each by itself, where nothing is held
+    /// back: the next calls would read them one by one, answer `Malformed(1, 0)` for each, write nothing and
+    /// leave the decoder as it is. Whoever takes them so passes them without a call. Not all that are there
+    /// need be counted, and none is an answer too. Nothing changes.
+    fn lone_malformed(&self, src: &[u8]) -> usize
+        ensures count { result ≤ length src.now }
+        ensures lone { (k : ℕ) → k < result
+            → IsLoneFault (state self.now) (slice_index src.now k) }
+    {
+        let _ = src.len();
+        0
     }
 
     /// A number of UTF-16 code units that is enough for the next call with at most `byte_length`

@@ -6,6 +6,7 @@ use Rattle.std.specs.Prelude.{option_to_list, IfSome}
 use Rattle.std.specs.Int.{is_in_range}
 use Rattle.std.specs.Char.{IsScalar, is_ascii, is_ascii_digit}
 use Rattle.legacy_base.specs.Unicode.{IsByte, AreBytes}
+use Rattle.legacy_base.specs.Calls.{IsLoneFault}
 use Rattle.legacy_base.specs.Indexes.{idx, range}
 use Rattle.legacy_base.specs.AcceptedTables.{AcceptedIndexes}
 use Rattle.legacy_base.specs.Gb18030.{gb18030_scalars, gb18030_range_pointer}
@@ -113,6 +114,9 @@ module _ (tables : AcceptedIndexes) where
 
   shown : IsShown (gb18030 tables.flat.gb18030 tables.flat.ranges) (gb18030_machine tables.flat.gb18030 tables.flat.ranges)
   shown = gb18030_shown tables.flat.gb18030 tables.flat.ranges
+
+  pub lone : (b : ℕ) → b ≡ 0xFF → IsLoneFault (state_of g []) b
+  lone b e = moves.lone shown b (rw e refl) refl
 
   pub covered : (held : Held) → IsCovered (state_of g (held_bytes held))
   covered held = moves.covered shown (held_bytes held) (may held) (are_bytes held)

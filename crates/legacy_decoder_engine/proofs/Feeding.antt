@@ -10,6 +10,7 @@ use Rattle.legacy_base.specs.Unicode.{IsByte, AreBytes}
 use Rattle.legacy_base.specs.Fronts.{reads, malformed}
 use Rattle.legacy_base.specs.Grammar.{Grammar, events_of}
 use Rattle.legacy_base.specs.States.{DecoderState, rests, may_hold}
+use Rattle.legacy_base.specs.Calls.{IsLoneFault}
 use Rattle.legacy_base.specs.Acts.{has_short_ascii, has_reported, has_marks, is_mark_behind, full_room_in, release_room_in, HadRoom}
 use Rattle.legacy_base.specs.Lengths.{LengthQuery, to_utf16, to_utf8, query_form, replacement_units, room}
 use Rattle.legacy_decoder_engine.specs.declared.moves.Fed.{Fed}
@@ -359,3 +360,12 @@ module _ {g : Grammar} {m : DecoderMachine} (shown : IsShown g m) (held : List �
     by_pending : (p : Option (ℕ × ℕ)) → PendingMeets g held p → events_of g held ≢ []
     by_pending None r = ends_some r n
     by_pending (Some (k, c)) w = λ e. let first = w.1.goes_on [] in let all = ap (events_of g) (append-nil held) in cc
+
+-- a byte that the machine calls malformed by itself, where nothing is held back
+pub lone : {g : Grammar} {m : DecoderMachine} → IsShown g m → (b : ℕ) → m.step [] b ≡ finish (malformed 1) → m.to [] b ≡ g → IsLoneFault (state_of g []) b
+lone shown b e t =
+    let s = shown.meets.steps [] b (may_none _) (rests-none _) in
+    record {
+      empty = refl;
+      progress = record { counts = refl; rest = refl; events = λ more h. let all = s.goes_on more in rw (e, t) at all };
+    }

@@ -7,6 +7,7 @@ use Rattle.legacy_base.specs.AcceptedTables.{AcceptedIndexes}
 use Rattle.legacy_base.specs.Indexes.{FlatIndexes}
 use Rattle.legacy_base.specs.Grammar.{Grammar, events_of}
 use Rattle.legacy_base.specs.States.{may_hold, single_lead_may_hold, is_empty}
+use Rattle.legacy_base.specs.Calls.{IsLoneFault}
 use Rattle.legacy_decoder_engine.specs.declared.moves.Fed.{Fed}
 use Rattle.legacy_decoder_engine.specs.Steps.{Step, finish, leave, trail_step}
 use Rattle.legacy_decoder_engine.specs.Moves.{IsCovered, Feeds, Reports}
@@ -74,6 +75,9 @@ module _ {L : Type 0} (grammar : FlatIndexes → Grammar) (is_lead_byte : ℕ �
 
   pub reports : (lead : L) → Reports (lead_state grammar byte tables (Some lead)) (lead_state grammar byte tables None) 1 0
   reports lead = feeding.reports_all shown (held_bytes byte (Some lead)) (may (Some lead)) (are_bytes (Some lead)) (is.rests_is tables.flat (held_bytes byte (Some lead))) (some_held (Some lead) refl)
+
+  pub lone : (b : ℕ) → first b ≡ finish (malformed 1) → IsLoneFault (lead_state grammar byte tables None) b
+  lone b e = feeding.lone shown b e refl
 
   -- ---- runs
 

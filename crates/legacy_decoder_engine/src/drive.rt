@@ -1,8 +1,8 @@
 //! The one loop of all decoders, over the small moves that each decoder makes.
-ghost use Rattle.std.specs.Prelude.{◌≡◌, ℕ, ◌+◌, ◌≤◌, ◌↔◌, ◌++◌, length, IsTrue, true};
+ghost use Rattle.std.specs.Prelude.{◌≡◌, ℕ, ◌+◌, ◌<◌, ◌≤◌, ◌↔◌, ◌++◌, length, slice_index, IsTrue, true};
 ghost use Rattle.legacy_base.specs.EncodingForm.{all_code_units, total_unit_count};
 ghost use Rattle.legacy_base.specs.States.{rests};
-ghost use Rattle.legacy_base.specs.Calls.{IsDecoderCall};
+ghost use Rattle.legacy_base.specs.Calls.{IsDecoderCall, IsLoneFault};
 ghost use Rattle.legacy_decoder_engine.specs.Moves.{room_units, fed_scalars, Finishes};
 
 use crate::moves::{DecoderMoves, Fed, Move, Room};
@@ -110,4 +110,21 @@ pub fn drive_decoder<D: DecoderMoves, T: Destination>(
         read += 1;
     }
     (finish(decoder, dst, last), src.len())
+}
+
+/// How many bytes at the front are malformed each by itself, up to the first that is not.
+#[inline]
+pub fn count_lone<D: DecoderMoves>(decoder: &D, src: &[u8]) -> usize
+    ensures count { result ≤ length src.now }
+    ensures lone { (k : ℕ) → k < result
+        → IsLoneFault (D.state decoder.now) (slice_index src.now k) }
+{
+    let mut count = 0;
+    while count < src.len() {
+        if !decoder.is_lone(src[count]) {
+            return count;
+        }
+        count += 1;
+    }
+    count
 }

@@ -7,7 +7,8 @@ ghost use Rattle.legacy_base.specs.States.{is_neutral, new_state};
 ghost use Rattle.legacy_base.specs.Acts.{full_room_in, release_room_in};
 ghost use Rattle.legacy_base.specs.Formulas.{Formula, number, ◌⊕◌};
 ghost use Rattle.legacy_base.specs.Lengths.{answer, utf16_formula, utf8_formula, utf8_without_replacement_formula};
-ghost use Rattle.legacy_decoder_engine.specs.Steps.{Step, trail_step};
+ghost use Rattle.legacy_base.specs.Fronts.{malformed};
+ghost use Rattle.legacy_decoder_engine.specs.Steps.{Step, finish, trail_step};
 ghost use Rattle.legacy_decoder_engine.specs.Moves.{room_units};
 ghost use Rattle.legacy_decoder_engine.specs.Ahead.{IsCommonForm};
 ghost use Rattle.legacy_decoder_engine.specs.Feeding.{Took};
@@ -16,7 +17,7 @@ ghost use Rattle.legacy_decoder_engine.specs.LeadCodecs.{IsLeadCodec, held_bytes
 use crate::common_forms::{
     CommonBlocks, CommonForm, CommonForms, begins_rare, read_common_forms, stands_alone,
 };
-use crate::drive::drive_decoder;
+use crate::drive::{count_lone, drive_decoder};
 use crate::moves::{DecoderMoves, Fed, Move, Room};
 use crate::runs::read_one;
 use legacy_base::{
@@ -88,10 +89,19 @@ pub trait LeadCodec {
     ghost leads: { (lead : Self.Lead) → is_lead (byte_of lead) ≡ true };
 }
 
-/// Whether the byte is malformed where a form begins.
+/// Whether the byte is malformed by itself where a form begins.
 #[inline(always)]
-fn is_fault<C: LeadCodec>(byte: u8) -> bool {
-    matches!(C::read_first(byte).0, Fed::Fault { .. })
+fn is_fault<C: LeadCodec>(byte: u8) -> bool
+    ensures { result ≡ true → C.first byte ≡ finish (malformed 1) }
+{
+    matches!(
+        C::read_first(byte).0,
+        Fed::Fault {
+            length: 1,
+            back: 0,
+            unread: false
+        }
+    )
 }
 
 /// The decoder of such a codec. It holds back a lead, or nothing.
@@ -180,6 +190,14 @@ impl<'a, C: LeadCodec> DecoderMoves for LeadDecoder<'a, C> {
         }
     }
 
+    #[inline(always)]
+    fn is_lone(&self, byte: u8) -> bool {
+        match self.held {
+            Some(_) => false,
+            None => is_fault::<C>(byte),
+        }
+    }
+
     #[inline]
     fn read_ahead<T: Destination>(&self, src: &[u8], dst: &mut T) -> usize {
         match self.tables.kept() {
@@ -262,6 +280,10 @@ impl<'a, C: LeadCodec> RawDecoder for LeadDecoder<'a, C> {
         last: bool,
     ) -> (DecoderResult, usize) {
         drive_decoder(self, src, dst, last)
+    }
+
+    fn lone_malformed(&self, src: &[u8]) -> usize {
+        count_lone(self, src)
     }
 
     fn max_utf16_buffer_length(&self, byte_length: usize) -> Option<usize> {

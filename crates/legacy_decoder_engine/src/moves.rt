@@ -3,6 +3,7 @@ ghost use Rattle.std.specs.Prelude.{◌≡◌, ◌≢◌, ◌≤◌, [], true, f
 ghost use Rattle.legacy_base.specs.EncodingForm.{EncodingForm};
 ghost use Rattle.legacy_base.specs.Grammar.{events_of};
 ghost use Rattle.legacy_base.specs.States.{DecoderState, may_hold, rests};
+ghost use Rattle.legacy_base.specs.Calls.{IsLoneFault};
 ghost use Rattle.legacy_decoder_engine.specs.Moves.{room_units, move_units, IsCovered, Releases, Feeds, Reports};
 ghost use Rattle.legacy_decoder_engine.specs.Ahead.{ReadsTo, ReadsAhead};
 
@@ -88,6 +89,15 @@ pub trait DecoderMoves {
         requires { rests (state self.old).grammar (state self.old).held ≡ true }
         ensures { MatchOption result (events_of (state self.old).grammar (state self.old).held ≡ [])
             (λ report. Reports (state self.old) (state self.new) report.0 report.1) };
+
+    /// Whether the byte is malformed by itself, where nothing is held back. Nothing changes. No is an answer too.
+    #[inline(always)]
+    fn is_lone(&self, byte: u8) -> bool
+        ensures { result ≡ true → IsLoneFault (state self.now) byte }
+    {
+        let _ = byte;
+        false
+    }
 
     /// Reads a run of common forms from the front of the input and writes their scalars, as far as it
     /// cares to, and answers how many bytes were read; the decoder does not change. It needs four free code units at least and leaves

@@ -7,6 +7,9 @@ use Rattle.std.proofs.lemmas.List.Elements.{All-nil, All-cons}
 use Rattle.std.specs.{Int.is_in_range, Char.IsScalar, Char.is_ascii}
 use Rattle.legacy_base.specs.{EucJp.euc_jp_scalars, AcceptedTables.AcceptedIndexes}
 use Rattle.legacy_base.specs.Unicode.{IsByte, AreBytes}
+use Rattle.legacy_base.specs.Fronts.{malformed}
+use Rattle.legacy_base.specs.Calls.{IsLoneFault}
+use Rattle.legacy_decoder_engine.specs.Steps.{finish}
 use Rattle.legacy_base.specs.Grammar.{Grammar, euc_jp, events_of}
 use Rattle.legacy_base.specs.States.{is_euc_jp_lead, euc_jp_may_hold, state_of}
 use Rattle.legacy_base.proofs.Accepted.{jis0208-below, jis0212-below}
@@ -16,7 +19,7 @@ use Rattle.legacy_decoder_engine.proofs.Feeding as moves
 use Rattle.legacy_decoder_engine.proofs.{RunForms.pair_runs, RunForms.has_ascii, RunForms.ascii_is, Widths.idx_below}
 use Rattle.legacy_japanese.specs.declared.euc_jp.{decoder.Held.Held, lead.EucJpLead.EucJpLead}
 use Rattle.legacy_japanese.specs.declared.euc_jp.decoder.Held.TheVariants.{Nothing, Katakana, Jis0212, Lead, Jis0212Lead}
-use Rattle.legacy_japanese.specs.{EucJpHeld.held_bytes, EucJpMachine.euc_jp_step, EucJpMachine.euc_jp_machine}
+use Rattle.legacy_japanese.specs.{EucJpHeld.held_bytes, EucJpMachine.euc_jp_first, EucJpMachine.euc_jp_step, EucJpMachine.euc_jp_machine}
 use Rattle.legacy_japanese.proofs.EucJpShown.{euc_jp_shown}
 
 lead_is : (b : ℕ) → 0xA1 ≤ b → b ≤ 0xFE → (is_euc_jp_lead b ≡ true) × ((b == 0x8E) ≡ false) × ((b == 0x8F) ≡ false) × (b < 2 ^ 8)
@@ -59,6 +62,9 @@ module _ (tables : AcceptedIndexes) where
 
   shown : IsShown (euc_jp tables.flat.jis0208 tables.flat.jis0212) (euc_jp_machine tables.flat.jis0208 tables.flat.jis0212)
   shown = euc_jp_shown tables.flat.jis0208 tables.flat.jis0212 (jis0208-below tables.flat tables.accepted) (jis0212-below tables.flat tables.accepted)
+
+  pub lone : (b : ℕ) → euc_jp_first b ≡ finish (malformed 1) → IsLoneFault (state_of g []) b
+  lone b e = moves.lone shown b e refl
 
   pub covered : (held : Held) → IsCovered (state_of g (held_bytes held))
   covered held = moves.covered shown (held_bytes held) (may held) (are_bytes held)

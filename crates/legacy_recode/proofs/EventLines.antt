@@ -1,11 +1,11 @@
 -- Laws of lines.
-use Rattle.std.proofs.Common.{◌≡◌, ◌∙◌, ℕ, ◌+◌, ◌-◌, ◌/◌, ◌%◌, ◌≤◌, ◌<◌, ◌^◌, List, [], ◌∷◌, ◌++◌, length, take, drop, set, map, get_or, refl, sym, ap, arith, append_assoc, append-nil}
+use Rattle.std.proofs.Common.{◌≡◌, ◌∙◌, ℕ, zero, suc, zero-add, ◌+◌, ◌*◌, ◌-◌, ◌/◌, ◌%◌, ◌≤◌, ◌<◌, ◌^◌, List, [], ◌∷◌, ◌++◌, length, take, drop, set, map, get_or, refl, sym, ap, arith, append_assoc, append-nil}
 use Rattle.std.proofs.Common.{length-append, take-suc, add-one, decimal}
 use Rattle.std.proofs.lemmas.List.{drop-set, map-append}
 use Rattle.std.proofs.lemmas.Fmt.{decimal_step, decimal_digit, length-decimal-le}
 use Rattle.legacy_base.specs.declared.results.DecodeEvent.{DecodeEvent}
 use Rattle.legacy_base.specs.declared.results.DecodeEvent.TheVariants.{Scalar, Bad}
-use Rattle.legacy_recode.specs.Lines.{event_line, event_lines}
+use Rattle.legacy_recode.specs.Lines.{event_line, event_lines, lone_faults}
 use Rattle.legacy_recode.proofs.Hexadecimal.{glyph, last_four, hexadecimal_4, hexadecimal_5, hexadecimal_6}
 
 pub line_of_four : (c : ℕ) → c < 0x1_0000 → event_line (Scalar c) ≡ 85 ∷ 43 ∷ (last_four c ++ 10 ∷ [])
@@ -94,3 +94,52 @@ last_digit digits place rest all h one within e =
     let at : place - 1 < length digits = omega arith in
     let next : place - 1 + 1 ≡ place = omega arith in
     rw (drop-set digits (place - 1) (48 + rest) at, next) (ap (λ l. l ++ drop place digits) (sym (decimal_digit rest h)) ∙ e)
+
+-- ---- malformed sequences of one byte each
+
+pub lone_faults-append : (place m n : ℕ) → lone_faults place (m + n) ≡ lone_faults place m ++ lone_faults (place + m) n
+unfolding lone_faults
+lone_faults-append place zero n = let e : place + 0 ≡ place = omega arith in rw (zero-add n, e) refl
+lone_faults-append place (suc m) n =
+    let e : place + 1 + m ≡ place + suc m = omega arith in
+    let s : suc m + n ≡ suc (m + n) = omega arith in
+    rw s (ap (λ l. Bad place 1 ∷ l) (lone_faults-append (place + 1) m n ∙ ap (λ k. lone_faults (place + 1) m ++ lone_faults k n) e))
+
+pub lone_faults-one : (place : ℕ) → lone_faults place 1 ≡ Bad place 1 ∷ []
+unfolding lone_faults
+lone_faults-one place = refl
+
+pub no_lone_lines : (o : List ℕ) (place : ℕ) → o ≡ o ++ event_lines (lone_faults place 0)
+unfolding lone_faults
+no_lone_lines o place = no_lines o
+
+-- some lines, and then some more
+pub more_lone_lines : (o : List ℕ) {a b : List ℕ} (place m n : ℕ) → a ≡ o ++ event_lines (lone_faults place m)
+    → b ≡ a ++ event_lines (lone_faults (place + m) n) → b ≡ o ++ event_lines (lone_faults place (m + n))
+more_lone_lines o place m n p q =
+    rw (q, p, lone_faults-append place m n, event_lines-append) (append_assoc o (event_lines (lone_faults place m)) (event_lines (lone_faults (place + m) n)))
+
+-- one line more in front
+pub two_lone_lines : (o : List ℕ) (place count : ℕ)
+    → o ++ event_lines (lone_faults place (suc count)) ≡ (o ++ event_line (Bad place 1)) ++ event_lines (lone_faults (place + 1) count)
+unfolding lone_faults event_lines
+two_lone_lines o place count = sym (append_assoc o (event_line (Bad place 1)) (event_lines (lone_faults (place + 1) count)))
+
+-- one line is that of one of them
+pub one_lone_line : (place : ℕ) → event_line (Bad place 1) ≡ event_lines (lone_faults place 1)
+one_lone_line place = rw (lone_faults-one place) (sym (event_lines-one (Bad place 1)))
+
+-- the line of one, by the digits of its place but the last two, and these
+pub lone_line : (o : List ℕ) {a b e : List ℕ} (number rest : ℕ) → 1 ≤ number → rest < 100 → number * 100 + rest < 2 ^ 64
+    → a ≡ o ++ 98 ∷ 97 ∷ 100 ∷ 32 ∷ [] → b ≡ a ++ decimal number
+    → e ≡ b ++ (48 + rest / 10) ∷ (48 + rest % 10) ∷ 32 ∷ 49 ∷ 10 ∷ []
+    → e ≡ o ++ event_line (Bad (number * 100 + rest) 1)
+lone_line o {a} {b} number rest some few within p q r =
+    let hundreds : (number * 100 + rest) / 100 ≡ number = omega arith in
+    let others : (number * 100 + rest) % 100 ≡ rest = omega arith in
+    let last : List ℕ = (48 + rest / 10) ∷ (48 + rest % 10) ∷ [] in
+    let digits : decimal (number * 100 + rest) ≡ decimal number ++ last = decimal_of_hundreds (number * 100 + rest) (omega arith) within ∙ rw (hundreds, others) refl in
+    let place : b ++ last ≡ a ++ decimal (number * 100 + rest) = rw (q, digits) (append_assoc a (decimal number) last) in
+    let one : ((b ++ last) ++ 32 ∷ []) ++ 49 ∷ [] ≡ ((b ++ last) ++ 32 ∷ []) ++ decimal 1 = rw (decimal_digit 1 (omega arith)) refl in
+    let parts : (((b ++ last) ++ 32 ∷ []) ++ 49 ∷ []) ++ 10 ∷ [] ≡ b ++ (48 + rest / 10) ∷ (48 + rest % 10) ∷ 32 ∷ 49 ∷ 10 ∷ [] = simp append_assoc in
+    r ∙ sym parts ∙ bad_line o (number * 100 + rest) 1 p place refl one refl

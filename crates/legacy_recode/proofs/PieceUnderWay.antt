@@ -1,7 +1,7 @@
 -- A piece under way.
-use Rattle.std.proofs.Common.{◌≡◌, ◌∙◌, ℕ, suc, ◌+◌, ◌-◌, ◌≤◌, ◌<◌, List, [], ◌∷◌, ◌++◌, length, take, drop, take-append-drop, refl, sym, ap, arith, append_assoc, append-nil, length-append}
-use Rattle.std.proofs.Common.{length-drop, map, Bool, Option}
-use Rattle.std.proofs.lemmas.List.{drop-drop}
+use Rattle.std.proofs.Common.{◌≡◌, ◌∙◌, ℕ, zero, suc, ◌+◌, ◌-◌, ◌≤◌, ◌<◌, List, [], ◌∷◌, ◌++◌, length, take, drop, take-append-drop, refl, sym, ap, arith, append_assoc, append-nil, length-append}
+use Rattle.std.proofs.Common.{length-drop, map, get_or, Bool, Option}
+use Rattle.std.proofs.lemmas.List.{drop-drop, drop_more}
 use Rattle.std.proofs.Math.ListN.{drop_of_length-le}
 use Rattle.std.proofs.KnownBytes.{Appends-nil, Appends-trans}
 use Rattle.std.specs.Io.KnownBytes.{Appends}
@@ -13,15 +13,15 @@ use Rattle.legacy_base.specs.EncodingForm.{Utf16, total_unit_count}
 use Rattle.legacy_base.specs.Events.{shift}
 use Rattle.legacy_base.specs.Grammar.{events_of}
 use Rattle.legacy_base.specs.States.{DecoderState}
-use Rattle.legacy_base.specs.Calls.{Progress, DecoderCall, reported_events, out_events}
+use Rattle.legacy_base.specs.Calls.{Progress, DecoderCall, IsLoneFault, reported_events, out_events}
 use Rattle.legacy_base.proofs.Shifts.{shift-append, shift-scalars}
-use Rattle.legacy_base.proofs.Progress.{stay, after_that}
+use Rattle.legacy_base.proofs.Progress.{stay, after_that, at_last, behind}
 use Rattle.legacy_base.proofs.Rooms.{lacks_small}
 use Rattle.legacy_codecs.proofs.RunEvents.{placed-append, placed-scalars}
 use Rattle.legacy_codecs.specs.Runs.{placed}
-use Rattle.legacy_recode.specs.Lines.{event_lines}
+use Rattle.legacy_recode.specs.Lines.{event_line, event_lines, lone_faults}
 use Rattle.legacy_recode.specs.Recoding.{input_events, RecodesPiece, RecodesFront}
-use Rattle.legacy_recode.proofs.EventLines.{event_lines-append, event_lines-none}
+use Rattle.legacy_recode.proofs.EventLines.{event_lines-append, event_lines-none, event_lines-one, no_lone_lines, two_lone_lines}
 
 -- So much of the piece was decoded. The lines of its events were written, but for those at the end that are pending.
 pub record IsUnderWay (before : DecoderState) (piece : List ℕ) (last : Bool) (total : ℕ) (now : DecoderState) (offset : ℕ)
@@ -54,6 +54,11 @@ piece_start before piece last total pending old e = record {
   written = Appends-nil old;
   lines = event_lines-none ∙ sym e;
 }
+
+-- the event of a malformed byte at a place of the whole input
+lone_given : (total held passed place : ℕ) → total + passed - held ≡ place → input_events total held (shift passed (Bad 0 1 ∷ [])) ≡ Bad place 1 ∷ []
+unfolding input_events placed
+lone_given total held passed place e = let at : total + (passed + 0) - held ≡ place = omega arith in ap (λ n. Bad n 1 ∷ []) at
 
 length-shift : (k : ℕ) (es : List DecodeEvent) → length (shift k es) ≡ length es
 length-shift k [] = refl
@@ -161,3 +166,62 @@ module _ {before : DecoderState} {piece : List ℕ} {last : Bool} {total : ℕ} 
         let all = ap length (c.progress.events [] (λ _. refl)) in
         let counted = rw (append-nil, append-nil, drop-drop, length-append, length-shift) at all in
         omega arith
+
+-- one byte at the front is malformed by itself
+piece_lone_byte : {before : DecoderState} {piece : List ℕ} {last : Bool} {total : ℕ} {now : DecoderState} {offset : ℕ} {pending more : List ℕ}
+    {old mid : Option (List ℕ)} → IsUnderWay before piece last total now offset pending old mid → offset < length piece
+    → IsLoneFault now (get_or piece offset 0) → more ≡ pending ++ event_line (Bad (total + offset) 1)
+    → IsUnderWay before piece last total now (offset + 1) more old mid
+piece_lone_byte {before} {piece} {last} {total} {now} {offset} {pending} {more} u h lone w =
+    let at : drop offset piece ≡ get_or piece offset 0 ∷ drop (offset + 1) piece = drop_more piece offset 0 h in
+    let one = at_last last _ _ _ _ _ _ (behind _ _ _ _ _ _ (drop (offset + 1) piece) lone.progress) in
+    let all = after_that _ _ _ _ _ _ _ _ _ _ _ (rw at at u.progress) one in
+    let held : length now.held ≡ 0 = ap length lone.empty in
+    let given : input_events total (length before.held) (shift u.passed (Bad 0 1 ∷ [])) ≡ Bad (total + offset) 1 ∷ [] =
+        lone_given total (length before.held) u.passed (total + offset) (let k = u.progress.counts in omega (arith, held, length-drop offset piece)) in
+    record {
+      within = omega arith;
+      passed = u.passed + 1;
+      events = u.events ++ shift u.passed (Bad 0 1 ∷ []);
+      progress = all;
+      sent = u.sent;
+      written = u.written;
+      lines =
+          ap event_lines (input_events-append total (length before.held) u.events (shift u.passed (Bad 0 1 ∷ [])) ∙ ap (λ l. input_events total (length before.held) u.events ++ l) given)
+          ∙ event_lines-append (input_events total (length before.held) u.events) (Bad (total + offset) 1 ∷ []) ∙ ap (λ l. l ++ event_lines (Bad (total + offset) 1 ∷ [])) u.lines
+          ∙ append_assoc u.sent pending (event_lines (Bad (total + offset) 1 ∷ [])) ∙ ap (λ l. u.sent ++ (pending ++ l)) (event_lines-one (Bad (total + offset) 1)) ∙ ap (λ l. u.sent ++ l) (sym w);
+    }
+
+-- So many bytes at the front are malformed each by itself.
+pub piece_lone : (count : ℕ) {before : DecoderState} {piece : List ℕ} {last : Bool} {total : ℕ} {now : DecoderState} {offset : ℕ} {pending more : List ℕ}
+    {old mid : Option (List ℕ)} → IsUnderWay before piece last total now offset pending old mid → offset + count ≤ length piece
+    → ((k : ℕ) → k < count → IsLoneFault now (get_or piece (offset + k) 0)) → more ≡ pending ++ event_lines (lone_faults (total + offset) count)
+    → IsUnderWay before piece last total now (offset + count) more old mid
+piece_lone zero {before} {piece} {last} {total} {now} {offset} {pending} {more} {old} {mid} u h lone w =
+    let here : offset + 0 ≡ offset = omega arith in
+    rw (here, w ∙ sym (no_lone_lines pending (total + offset))) u
+piece_lone (suc count) {before} {piece} {last} {total} {now} {offset} {pending} {more} {old} {mid} u h lone w =
+    let here : offset + 0 ≡ offset = omega arith in
+    let first = lone 0 (omega arith) in
+    let one = piece_lone_byte u (omega arith) (rw here at first) refl in
+    let there : offset + 1 + count ≡ offset + suc count = omega arith in
+    let place : total + (offset + 1) ≡ total + offset + 1 = omega arith in
+    let rest = piece_lone count {more = more} one (omega arith) (λ k f. let e : offset + 1 + k ≡ offset + suc k = omega arith in rw e (lone (suc k) (omega arith)))
+        (rw place (w ∙ two_lone_lines pending (total + offset) count)) in
+    rw there at rest
+
+-- The events that are left do not get more by them.
+pub piece_lone_less : (count : ℕ) (now : DecoderState) (piece : List ℕ) (offset : ℕ) → offset + count ≤ length piece
+    → ((k : ℕ) → k < count → IsLoneFault now (get_or piece (offset + k) 0))
+    → length (events_of now.grammar (now.held ++ drop (offset + count) piece)) ≤ length (events_of now.grammar (now.held ++ drop offset piece))
+piece_lone_less zero now piece offset h lone = let here : offset + 0 ≡ offset = omega arith in rw here (omega arith)
+piece_lone_less (suc count) now piece offset h lone =
+    let here : offset + 0 ≡ offset = omega arith in
+    let there : offset + 1 + count ≡ offset + suc count = omega arith in
+    let first = lone 0 (omega arith) in
+    let one = rw here at first in
+    let all = ap length (one.progress.events (drop (offset + 1) piece) (λ f. cc)) in
+    let more = rw (length-shift, ← drop_more piece offset 0 (omega arith)) at all in
+    let rest = piece_lone_less count now piece (offset + 1) (omega arith) (λ k f. let e : offset + 1 + k ≡ offset + suc k = omega arith in rw e (lone (suc k) (omega arith))) in
+    let rest' = rw there at rest in
+    omega (arith, more, rest')

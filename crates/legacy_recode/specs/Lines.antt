@@ -1,5 +1,5 @@
 -- The lines that tell events.
-use Rattle.std.specs.Prelude.{ℕ, ◌-◌, List, [], ◌∷◌, ◌++◌, true, length, replicate, decimal, codes}
+use Rattle.std.specs.Prelude.{ℕ, zero, suc, ◌+◌, ◌-◌, List, [], ◌∷◌, ◌++◌, true, length, replicate, decimal, codes}
 use Rattle.std.specs.Fmt.{digits}
 use Rattle.legacy_base.specs.declared.results.DecodeEvent.{DecodeEvent}
 use Rattle.legacy_base.specs.declared.results.DecodeEvent.TheVariants.{Scalar, Bad}
@@ -17,3 +17,8 @@ event_line (Bad place length) = codes "bad " ++ decimal place ++ codes " " ++ de
 unfoldable pub event_lines : List DecodeEvent → List ℕ
 event_lines [] = []
 event_lines (event ∷ events) = event_line event ++ event_lines events
+
+-- the events of so many malformed sequences of one byte each, which follow each other from a place on
+unfoldable pub lone_faults : ℕ → ℕ → List DecodeEvent
+lone_faults place zero = []
+lone_faults place (suc count) = Bad place 1 ∷ lone_faults (place + 1) count

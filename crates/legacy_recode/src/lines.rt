@@ -1,10 +1,10 @@
 //! The lines that tell events.
-ghost use Rattle.std.specs.Prelude.{◌≡◌, ℕ, ◌+◌, ◌*◌, ◌-◌, ◌<◌, ◌≤◌, List, [], ◌∷◌, ◌++◌, length, take, drop, map, decimal, true, OnOk, OnErr};
+ghost use Rattle.std.specs.Prelude.{◌≡◌, ℕ, ◌+◌, ◌*◌, ◌-◌, ◌^◌, ◌<◌, ◌≤◌, List, [], ◌∷◌, ◌++◌, length, take, drop, map, decimal, true, OnOk, OnErr};
 ghost use Rattle.std.specs.Fmt.{digit_glyph};
 ghost use Rattle.std.specs.List.{range_with_len};
 ghost use Rattle.std.specs.Io.KnownBytes.{Appends};
 ghost use Rattle.legacy_base.specs.Texts.{unit_scalars};
-ghost use Rattle.legacy_recode.specs.Lines.{event_line, event_lines};
+ghost use Rattle.legacy_recode.specs.Lines.{event_line, event_lines, lone_faults};
 
 use crate::line_parts::{HEADS, TAILS};
 use crate::pieces::{rest_of, write_whole};
@@ -29,8 +29,14 @@ const DIGITS: usize = 20;
 /// The most bytes of the lines of one call of a decoder.
 pub const CALL_LINES: usize = BATCH * SCALAR_LINE + BAD_LINE;
 
-/// The bytes of the array: the lines of a piece without a malformed sequence have room in it, with those of one call more.
-pub const CAPACITY: usize = 40960;
+/// The most malformed sequences of one byte each whose lines are made at once.
+pub const LONE_BATCH: usize = 256;
+
+/// The most bytes of the lines that are made between two writes: those of `LONE_BATCH` malformed sequences, and of one call.
+pub const TURN_LINES: usize = LONE_BATCH * BAD_LINE + CALL_LINES;
+
+/// The bytes of the array: the lines of a piece without a malformed sequence have room in it, with those of a turn more.
+pub const CAPACITY: usize = 53248;
 
 /// The digits of a number in decimal, at the front of an array.
 #[derive(Drop)]
@@ -165,6 +171,62 @@ fn at_front(digits: &[u8]) -> [u8; DIGITS]
     front
 }
 
+/// Stores bytes from the place `at` on.
+#[inline(always)]
+fn store_part(bytes: &mut [u8], at: usize, part: &[u8])
+    requires { at + length part.now ≤ length bytes.old }
+    ensures { take (at + length part.now) bytes.new ≡ take at bytes.old ++ part.now }
+{
+    bytes[at..at + part.len()].copy_from_slice(part);
+}
+
+/// Stores the line of a malformed sequence of one byte from the place `at` on, by the digits of its place but the last two,
+/// which are `rest`. Answers where it ends.
+// No place of the array is read to tell where a part of the line goes: so no line waits for what was stored.
+#[inline(always)]
+fn put_lone_line(bytes: &mut [u8], at: usize, hundreds: &Decimal, rest: usize) -> usize
+    requires room { at + BAD_LINE ≤ length bytes.old }
+    requires some { 1 ≤ hundreds.now.number }
+    requires rest { rest < 100 }
+    requires place { hundreds.now.number * 100 + rest < 2 ^ 64 }
+    ensures line { take result bytes.new ≡ take at bytes.old
+        ++ event_line (DecodeEvent.Bad (hundreds.now.number * 100 + rest) 1) }
+    ensures end { result ≤ at + BAD_LINE }
+{
+    store_part(bytes, at, b"bad ");
+    store_digits(bytes, at + 4, hundreds.digits);
+    let end = at + 4 + hundreds.count;
+    let (tens, ones) = (b'0' + (rest / 10) as u8, b'0' + (rest % 10) as u8);
+    store_part(bytes, end, &[tens, ones, b' ', b'1', b'\n']);
+    end + 5
+}
+
+/// Stores the lines of malformed sequences of one byte each, which follow each other, from the place `start` on, where the
+/// digits of their places but the last two are the same. Those of the first are `rest`. Answers where the lines end.
+fn put_lone_lines(
+    bytes: &mut [u8],
+    start: usize,
+    hundreds: &Decimal,
+    rest: usize,
+    count: usize,
+) -> usize
+    requires room { start + count * BAD_LINE ≤ length bytes.old }
+    requires some { 1 ≤ hundreds.now.number }
+    requires rest { rest + count ≤ 100 }
+    requires place { hundreds.now.number * 100 + rest + count ≤ 2 ^ 64 }
+    ensures lines { take result bytes.new ≡ take start bytes.old
+        ++ event_lines (lone_faults (hundreds.now.number * 100 + rest) count) }
+    ensures end { result ≤ start + count * BAD_LINE }
+{
+    let mut end = start;
+    let mut done = 0;
+    'lines: while done < count {
+        end = put_lone_line(bytes, end, hundreds, rest + done);
+        done += 1;
+    }
+    end
+}
+
 impl Decimal {
     /// The digits of the number.
     fn new(number: usize) -> Decimal
@@ -216,18 +278,18 @@ impl LineBuffer {
         Ok(())
     }
 
-    /// Writes the lines where there may not be room behind them for those of one more call. After an error a front of their
+    /// Writes the lines where there may not be room behind them for those of one more turn. After an error a front of their
     /// bytes was written.
     #[inline]
     pub fn make_room<W: Write>(&mut self, output: &mut W) -> io::Result<()>
         ensures written { OnOk result ((sent : List ℕ)
             × Appends (W.contents output.old) (W.contents output.new) sent
             × (line_bytes self.old ≡ sent ++ line_bytes self.new)) }
-        ensures room { OnOk result (CALL_LINES ≤ line_room self.new) }
+        ensures room { OnOk result (TURN_LINES ≤ line_room self.new) }
         ensures err { OnErr result ((count : ℕ) × Appends
             (W.contents output.old) (W.contents output.new) (take count (line_bytes self.old))) }
     {
-        if CAPACITY - self.filled >= CALL_LINES {
+        if CAPACITY - self.filled >= TURN_LINES {
             return Ok(());
         }
         self.write_to(output)
@@ -380,11 +442,50 @@ impl LineBuffer {
         requires { BAD_LINE ≤ line_room self.old }
         ensures text { line_bytes self.new ≡ line_bytes self.old
             ++ event_line (DecodeEvent.Bad place length_in_bytes) }
+        ensures room { line_room self.old ≤ line_room self.new + BAD_LINE }
     {
         self.push_all(b"bad ");
         self.push_place(place);
         self.push_all(b" ");
         self.push_decimal(length_in_bytes);
         self.push_all(b"\n");
+    }
+
+    /// Puts lines of malformed sequences of one byte each behind the others, of at most `most` that follow each other from a
+    /// place on: all those whose places have the same digits but the last two. Answers how many.
+    #[inline]
+    fn push_lone_hundred(&mut self, place: usize, most: usize) -> usize
+        requires some { 0 < most }
+        requires place { place + most ≤ 2 ^ 64 }
+        requires room { most * BAD_LINE ≤ line_room self.old }
+        ensures count { (0 < result) × (result ≤ most) }
+        ensures text { line_bytes self.new ≡ line_bytes self.old
+            ++ event_lines (lone_faults place result) }
+        ensures room { line_room self.old ≤ line_room self.new + result * BAD_LINE }
+    {
+        if place < 100 {
+            self.push_bad(place, 1);
+            return 1;
+        }
+        self.keep_hundreds(place / 100);
+        let rest = place % 100;
+        let count = most.min(100 - rest);
+        self.filled = put_lone_lines(&mut self.bytes, self.filled, &self.hundreds, rest, count);
+        count
+    }
+
+    /// Puts the lines of so many malformed sequences of one byte each behind the others, which follow each other from a
+    /// place on.
+    pub fn push_lone(&mut self, place: usize, count: usize)
+        requires place { place + count ≤ 2 ^ 64 }
+        requires room { count * BAD_LINE ≤ line_room self.old }
+        ensures text { line_bytes self.new ≡ line_bytes self.old
+            ++ event_lines (lone_faults place count) }
+        ensures room { line_room self.old ≤ line_room self.new + count * BAD_LINE }
+    {
+        let mut done = 0;
+        'hundreds: while done < count {
+            done += self.push_lone_hundred(place + done, count - done);
+        }
     }
 }

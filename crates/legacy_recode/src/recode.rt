@@ -1,14 +1,14 @@
 //! The engine of the program: bytes in, lines of events out.
-ghost use Rattle.std.specs.Prelude.{◌≡◌, ℕ, ◌+◌, ◌*◌, ◌-◌, ◌^◌, ◌<◌, ◌≤◌, List, [], ◌++◌, length, map, OnOk, OnErr};
+ghost use Rattle.std.specs.Prelude.{◌≡◌, ℕ, ◌+◌, ◌*◌, ◌-◌, ◌^◌, ◌<◌, ◌≤◌, List, [], ◌++◌, length, map, slice_index, OnOk, OnErr};
 ghost use Rattle.legacy_base.specs.EncodingForm.{Utf16};
 ghost use Rattle.legacy_base.specs.Texts.{unit_scalars};
-ghost use Rattle.legacy_base.specs.Calls.{DecoderCall};
-ghost use Rattle.legacy_recode.specs.Lines.{event_lines};
+ghost use Rattle.legacy_base.specs.Calls.{DecoderCall, IsLoneFault};
+ghost use Rattle.legacy_recode.specs.Lines.{event_lines, lone_faults};
 ghost use Rattle.legacy_recode.specs.LineBuffers.{line_bytes, line_room};
 ghost use Rattle.legacy_base.specs.Calls.{reported_events};
 ghost use Rattle.legacy_recode.specs.Recoding.{RecodesPiece, RecodesFront, RecodesAll, RecodesBeginning, RecodesPartly};
 
-use crate::lines::{BAD_LINE, BATCH, CALL_LINES, LineBuffer, SCALAR_LINE};
+use crate::lines::{BAD_LINE, BATCH, CALL_LINES, LONE_BATCH, LineBuffer, SCALAR_LINE, TURN_LINES};
 use crate::pieces::{PIECE, read_piece, rest_of};
 use legacy_codecs::{DecodeEvent, DecoderResult, RawDecoder};
 use std::io::{self, Read, Write};
@@ -66,6 +66,30 @@ fn lines_of_one_call<D: RawDecoder>(
     (answer, read)
 }
 
+/// Puts the lines of bytes at the front behind the others, of which the decoder knows that they are malformed each by itself.
+/// `total` bytes of the input stand before them. Answers how many.
+#[inline]
+fn lines_of_lone<D: RawDecoder>(
+    decoder: &D,
+    unread: &[u8],
+    total: usize,
+    lines: &mut LineBuffer,
+) -> usize
+    requires room { TURN_LINES ≤ line_room lines.old }
+    requires total { total + length unread.now < 2 ^ 64 }
+    ensures count { result ≤ length unread.now }
+    ensures lone { (k : ℕ) → k < result
+        → IsLoneFault (D.state decoder.now) (slice_index unread.now k) }
+    ensures text { line_bytes lines.new ≡ line_bytes lines.old
+        ++ event_lines (lone_faults total result) }
+    ensures room { CALL_LINES ≤ line_room lines.new }
+{
+    let most = unread.len().min(LONE_BATCH);
+    let count = decoder.lone_malformed(&unread[..most]);
+    lines.push_lone(total, count);
+    count
+}
+
 /// Decodes a whole piece, and writes the lines of its events. `total` bytes of the input stand before it. An error is
 /// the writer's. What `batch` holds is lost, and `lines` holds no line at either end.
 fn recode_piece<D: RawDecoder, W: Write>(
@@ -91,6 +115,7 @@ fn recode_piece<D: RawDecoder, W: Write>(
     let mut offset: usize = 0;
     'calls: loop {
         lines.make_room(output)?;
+        offset += lines_of_lone(decoder, rest_of(piece, offset), total + offset, lines);
         let unread = rest_of(piece, offset);
         let (answer, read) = lines_of_one_call(decoder, unread, last, total + offset, batch, lines);
         offset += read;

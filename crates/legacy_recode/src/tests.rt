@@ -164,6 +164,19 @@ fn recodes_more_than_a_piece(rt: HostRuntime) -> Result<(), Fail> {
     Ok(())
 }
 
+// More than are told at once, from a place of one digit to places of four.
+#[test]
+fn tells_each_malformed_byte(rt: HostRuntime) -> Result<(), Fail> {
+    let bytes = vec![in rt.alloc(); 0xFF; 1200]?;
+    let mut lines = Vec::new(rt.alloc());
+    for place in 0..1200 {
+        writeln!(lines, "bad {place} 1")?;
+    }
+    let words = ["big5"];
+    runs(&rt, &words, &[], bytes.as_slice(), 0, lines.as_slice(), b"");
+    Ok(())
+}
+
 #[test]
 fn recodes_without_files(rt: HostRuntime) {
     let rows: [(&str, &[u8], &[u8]); 8] = [

@@ -4,7 +4,7 @@ mod encoder;
 use crate::events::bad;
 use crate::indexes::{no_entries, no_parts, packed_tables_of, run, tables_of};
 use crate::rows::Row::{
-    BareLength, Decoder, Events, Neutral, ToUtf8, ToUtf16, Utf8Length, Utf16Length,
+    BareLength, Decoder, Events, Lone, Neutral, ToUtf8, ToUtf16, Utf8Length, Utf16Length,
 };
 use crate::rows::{Row, Tested, follow};
 use legacy_base::DecodeEvent::Scalar;
@@ -57,6 +57,15 @@ const WITHOUT_ENTRIES: &[Row] = &[
     ToUtf8(b"\x87\x66", 16, true, Malformed(1, 0), 1, ""),
     ToUtf8(b"\x66", 16, true, InputEmpty, 1, "f"),
     Events(b"\x87\x66", &[bad!(0, 1), Scalar('f')]),
+    Decoder("80 and FF are malformed by themselves, but not behind a lead"),
+    Lone(b"\xFF\x80\xFF\x61\xFF", 3),
+    Lone(b"\x61\xFF", 0),
+    Lone(b"\x81\xFF", 0),
+    Lone(b"", 0),
+    ToUtf8(b"\x88", 16, false, InputEmpty, 1, ""),
+    Lone(b"\xFF\xFF", 0),
+    ToUtf8(b"\xFF\xFF", 16, false, Malformed(2, 0), 1, ""),
+    Lone(b"\xFF", 1),
     Decoder("a lead at the end is malformed"),
     Events(
         b"\x88\x62\x88",

@@ -25,6 +25,8 @@ pub(crate) enum Row<'a> {
     BareLength(usize, Option<usize>),
     /// Whether the decoder says that it is in its neutral state.
     Neutral(bool),
+    /// How many bytes at the front of these the decoder counts as malformed each by itself.
+    Lone(&'a [u8], usize),
     /// What the decoder says that it adds to the lengths.
     Additional(usize),
     /// The events that decoders of their own find in these bytes by calls, at once with large outputs and byte by
@@ -235,6 +237,10 @@ fn follow_query<D: Tested>(rt: &impl Abort, place: Place, decoder: &D, row: &Row
         Row::Neutral(is_neutral) => {
             let came = decoder.neutral();
             is_answer(rt, place, "in_neutral_state", came, Some(*is_neutral));
+        }
+        Row::Lone(bytes, count) => {
+            let came = decoder.lone_malformed(bytes);
+            is_answer(rt, place, "lone_malformed", came, *count);
         }
         Row::Additional(more) => {
             let came = decoder.additional();

@@ -18,7 +18,7 @@ use legacy_base::{
     DecoderResult, DecoderTables, Destination, IndexName, KeptTables, RawDecoder, Tables,
 };
 use legacy_decoder_engine::common_forms::{CommonBlocks, begins_rare, stands_alone};
-use legacy_decoder_engine::drive::drive_decoder;
+use legacy_decoder_engine::drive::{count_lone, drive_decoder};
 use legacy_decoder_engine::held::Lead;
 use legacy_decoder_engine::moves::{DecoderMoves, Fed, Move, Room};
 use legacy_decoder_engine::places::{ROWS_OF_190, pair_pointer};
@@ -291,6 +291,14 @@ impl DecoderMoves for Gb18030Decoder<'_> {
         Some((length, 0))
     }
 
+    #[inline(always)]
+    fn is_lone(&self, byte: u8) -> bool {
+        match self.held {
+            Held::Nothing => byte == 0xFF,
+            _ => false,
+        }
+    }
+
     #[inline]
     fn read_ahead<T: Destination>(&self, src: &[u8], dst: &mut T) -> usize {
         if !self.in_neutral_state() {
@@ -334,6 +342,10 @@ impl RawDecoder for Gb18030Decoder<'_> {
         last: bool,
     ) -> (DecoderResult, usize) {
         drive_decoder(self, src, dst, last)
+    }
+
+    fn lone_malformed(&self, src: &[u8]) -> usize {
+        count_lone(self, src)
     }
 
     fn max_utf16_buffer_length(&self, byte_length: usize) -> Option<usize> {

@@ -1,5 +1,5 @@
 //! The decoder of EUC-JP.
-ghost use Rattle.std.specs.Prelude.{◌≡◌, ℕ, List, ◌∷◌, [], length, option_to_list, IfSome};
+ghost use Rattle.std.specs.Prelude.{◌≡◌, ℕ, List, ◌∷◌, [], true, length, option_to_list, IfSome};
 ghost use Rattle.std.specs.Char.{IsScalar};
 ghost use Rattle.legacy_base.specs.EncodingForm.{EncodingForm};
 ghost use Rattle.legacy_base.specs.EucJp.{euc_jp_scalars};
@@ -7,6 +7,8 @@ ghost use Rattle.legacy_base.specs.Grammar.{euc_jp};
 ghost use Rattle.legacy_base.specs.States.{is_neutral, new_state};
 ghost use Rattle.legacy_base.specs.Tables.{index_list};
 ghost use Rattle.legacy_base.specs.States.{state_of};
+ghost use Rattle.legacy_base.specs.Fronts.{malformed};
+ghost use Rattle.legacy_decoder_engine.specs.Steps.{finish};
 ghost use Rattle.legacy_japanese.specs.EucJpMachine.{euc_jp_step};
 ghost use Rattle.legacy_decoder_engine.specs.Moves.{move_units, room_units};
 ghost use Rattle.legacy_decoder_engine.specs.Feeding.{Took};
@@ -19,7 +21,7 @@ use legacy_base::{
 use legacy_decoder_engine::common_forms::{
     CommonBlocks, CommonForm, CommonForms, begins_rare, read_common_forms, stands_alone,
 };
-use legacy_decoder_engine::drive::drive_decoder;
+use legacy_decoder_engine::drive::{count_lone, drive_decoder};
 use legacy_decoder_engine::moves::{DecoderMoves, Fed, Move, Room};
 use legacy_decoder_engine::runs::read_one;
 use legacy_decoder_engine::trail::unmapped;
@@ -92,6 +94,14 @@ fn read_first(byte: u8) -> (Fed, Held)
         return (Fed::Nothing, Held::Lead(EucJpLead { byte }));
     }
     (fault_through(1), Held::Nothing)
+}
+
+/// Whether the byte is malformed by itself where a form begins.
+#[inline(always)]
+fn is_fault(byte: u8) -> bool
+    ensures { result ≡ true → euc_jp_step [] [] [] byte ≡ finish (malformed 1) }
+{
+    byte >= 0x80 && byte != 0x8E && byte != 0x8F && (byte < 0xA1 || byte > 0xFE)
 }
 
 /// What a byte leads to behind 8E.
@@ -269,6 +279,14 @@ impl DecoderMoves for EucJpDecoder<'_> {
         Some((length, 0))
     }
 
+    #[inline(always)]
+    fn is_lone(&self, byte: u8) -> bool {
+        match self.held {
+            Held::Nothing => is_fault(byte),
+            _ => false,
+        }
+    }
+
     #[inline]
     fn read_ahead<T: Destination>(&self, src: &[u8], dst: &mut T) -> usize {
         let held = self.held;
@@ -345,6 +363,10 @@ impl RawDecoder for EucJpDecoder<'_> {
         last: bool,
     ) -> (DecoderResult, usize) {
         drive_decoder(self, src, dst, last)
+    }
+
+    fn lone_malformed(&self, src: &[u8]) -> usize {
+        count_lone(self, src)
     }
 
     fn max_utf16_buffer_length(&self, byte_length: usize) -> Option<usize> {

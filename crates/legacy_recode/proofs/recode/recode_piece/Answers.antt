@@ -1,5 +1,9 @@
+use Rattle.std.proofs.Common.{◌≡◌, ◌+◌, ◌≤◌, ◌<◌, ℕ, List, length, drop, get_or, arith, length-drop}
+use Rattle.std.proofs.lemmas.List.{get_or-drop}
 use Rattle.std.proofs.lemmas.Result.{on_ok_weaker, on_err_weaker, err_from_is_err_and}
-use Rattle.legacy_recode.proofs.PieceUnderWay.{piece_start, piece_step, piece_sent, piece_front, piece_end, piece_less}
+use Rattle.legacy_base.specs.States.{DecoderState}
+use Rattle.legacy_base.specs.Calls.{IsLoneFault}
+use Rattle.legacy_recode.proofs.PieceUnderWay.{piece_start, piece_step, piece_sent, piece_front, piece_end, piece_less, piece_lone, piece_lone_less}
 use Rattle.legacy_recode.proofs.recode.recode_piece.Goals as goal
 
 pub calls-init : goal.calls-init
@@ -10,34 +14,53 @@ returns-in_err-make_room-clause-err g c =
     let w = c.in_err-make_room.ensures.err in
     rw (err_from_is_err_and c.from_residual.result c.from_residual.ensures.1).1 (piece_front c.calls.invariant w.0 w.1)
 
+-- what was told of bytes at the front is true of the piece
+lone_bytes : (piece unread : List ℕ) (offset count : ℕ) (state : DecoderState) → unread ≡ drop offset piece → offset ≤ length piece → count ≤ length unread
+    → ((k : ℕ) → k < count → IsLoneFault state (get_or unread k 0))
+    → (offset + count ≤ length piece) × ((k : ℕ) → k < count → IsLoneFault state (get_or piece (offset + k) 0))
+lone_bytes piece unread offset count state e within few lone =
+    let n = length-drop offset piece in
+    let m = rw e at few in
+    (omega (arith, within, m, n), λ k f. rw (← get_or-drop offset piece k 0, ← e) (lone k f))
+
 pub returns-in-InputEmpty-clause-piece : goal.returns-in-InputEmpty-clause-piece
 returns-in-InputEmpty-clause-piece g c =
     let sent = c.in_ok-make_room.ensures.written in
+    let told = c.lines_of_lone-offset.ensures in
+    let alone = lone_bytes c.args.piece.now _ c.calls.offset _ _ c.rest_of.ensures c.calls.invariant.within told.count told.lone in
     let call = c.lines_of_one_call-answer.ensures in
     let one = rw c.rest_of-unread.ensures at call.1 in
     on_ok_weaker c.write_to.result
-    (λ w. piece_end (piece_sent c.calls.invariant sent.0 sent.1 sent.2) one call.2 c.in-InputEmpty.is w)
+    (λ w. piece_end (piece_lone c.lines_of_lone-offset.result (piece_sent c.calls.invariant sent.0 sent.1 sent.2) alone.0 alone.1 told.text) one call.2 c.in-InputEmpty.is w)
     c.write_to.ensures.written
 
 pub returns-in-InputEmpty-clause-err : goal.returns-in-InputEmpty-clause-err
 returns-in-InputEmpty-clause-err g c =
     let sent = c.in_ok-make_room.ensures.written in
+    let told = c.lines_of_lone-offset.ensures in
+    let alone = lone_bytes c.args.piece.now _ c.calls.offset _ _ c.rest_of.ensures c.calls.invariant.within told.count told.lone in
     let call = c.lines_of_one_call-answer.ensures in
     let one = rw c.rest_of-unread.ensures at call.1 in
     on_err_weaker c.write_to.result
-    (λ w. piece_front (piece_step (piece_sent c.calls.invariant sent.0 sent.1 sent.2) one call.2) w.0 w.1)
+    (λ w. piece_front (piece_step (piece_lone c.lines_of_lone-offset.result (piece_sent c.calls.invariant sent.0 sent.1 sent.2) alone.0 alone.1 told.text) one call.2) w.0 w.1)
     c.write_to.ensures.err
 
 pub calls-preserved : goal.calls-preserved
 calls-preserved g c =
     let sent = c.in_ok-make_room.ensures.written in
+    let told = c.lines_of_lone-offset.ensures in
+    let alone = lone_bytes c.args.piece.now _ c.calls.offset _ _ c.rest_of.ensures c.calls.invariant.within told.count told.lone in
     let call = c.lines_of_one_call-answer.ensures in
     let one = rw c.rest_of-unread.ensures at call.1 in
-    piece_step (piece_sent c.calls.invariant sent.0 sent.1 sent.2) one call.2
+    piece_step (piece_lone c.lines_of_lone-offset.result (piece_sent c.calls.invariant sent.0 sent.1 sent.2) alone.0 alone.1 told.text) one call.2
 
 pub calls-smaller : goal.calls-smaller
 calls-smaller g c =
     let sent = c.in_ok-make_room.ensures.written in
+    let told = c.lines_of_lone-offset.ensures in
+    let alone = lone_bytes c.args.piece.now _ c.calls.offset _ _ c.rest_of.ensures c.calls.invariant.within told.count told.lone in
     let call = c.lines_of_one_call-answer.ensures in
     let one = rw c.rest_of-unread.ensures at call.1 in
-    piece_less (piece_sent c.calls.invariant sent.0 sent.1 sent.2) one call.2 c.in_default.not-InputEmpty
+    let less = piece_less (piece_lone c.lines_of_lone-offset.result (piece_sent c.calls.invariant sent.0 sent.1 sent.2) alone.0 alone.1 told.text) one call.2 c.in_default.not-InputEmpty in
+    let most = piece_lone_less c.lines_of_lone-offset.result (g.D.RawDecoder.state c.calls.decoder) c.args.piece.now c.calls.offset alone.0 alone.1 in
+    omega (arith, less, most)
