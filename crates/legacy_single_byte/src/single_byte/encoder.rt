@@ -98,6 +98,20 @@ impl<'a> SingleByteEncoder<'a> {
         }
     }
 
+    /// The same encoder as a value of its own.
+    // Behind a byte that is stored through a reference, the compiler loads again what it knows of the run through another.
+    #[inline(always)]
+    fn copied(&self) -> SingleByteEncoder<'a>
+        ensures { result.table.now ≡ self.now.table.now }
+    {
+        SingleByteEncoder {
+            table: self.table,
+            run_bmp_offset: self.run_bmp_offset,
+            run_byte_offset: self.run_byte_offset,
+            run_length: self.run_length,
+        }
+    }
+
     /// How far a scalar is behind the first of the run: past the run's end where it stands before it.
     #[inline(always)]
     fn run_place(&self, code: u32) -> u32
@@ -193,7 +207,7 @@ impl PlainCodes for SingleByteEncoder<'_> {
 impl PlainEncoder for SingleByteEncoder<'_> {
     #[inline]
     fn read_codes<S: Source>(&self, src: &mut S, dst: &mut [u8], start: usize) -> usize {
-        read_runs(self, src, dst, start)
+        read_runs(&self.copied(), src, dst, start)
     }
 }
 
