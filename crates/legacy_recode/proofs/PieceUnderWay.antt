@@ -178,7 +178,7 @@ piece_lone_byte {before} {piece} {last} {total} {now} {offset} {pending} {more} 
     let all = after_that _ _ _ _ _ _ _ _ _ _ _ (rw at at u.progress) one in
     let held : length now.held ≡ 0 = ap length lone.empty in
     let given : input_events total (length before.held) (shift u.passed (Bad 0 1 ∷ [])) ≡ Bad (total + offset) 1 ∷ [] =
-        lone_given total (length before.held) u.passed (total + offset) (let k = u.progress.counts in omega (arith, held, length-drop offset piece)) in
+    lone_given total (length before.held) u.passed (total + offset) (let k = u.progress.counts in omega (arith, held, length-drop offset piece)) in
     record {
       within = omega arith;
       passed = u.passed + 1;
@@ -207,7 +207,7 @@ piece_lone (suc count) {before} {piece} {last} {total} {now} {offset} {pending} 
     let there : offset + 1 + count ≡ offset + suc count = omega arith in
     let place : total + (offset + 1) ≡ total + offset + 1 = omega arith in
     let rest = piece_lone count {more = more} one (omega arith) (λ k f. let e : offset + 1 + k ≡ offset + suc k = omega arith in rw e (lone (suc k) (omega arith)))
-        (rw place (w ∙ two_lone_lines pending (total + offset) count)) in
+    (rw place (w ∙ two_lone_lines pending (total + offset) count)) in
     rw there at rest
 
 -- The events that are left do not get more by them.
