@@ -78,10 +78,10 @@ pub trait RawDecoder {
         (answer, read, written)
     }
 
-    /// How many bytes at the front of `src` are malformed sequences each by itself, where nothing is held
-    /// back: the next calls would read them one by one, answer `Malformed(1, 0)` for each, write nothing and
-    /// leave the decoder as it is. Whoever takes them so passes them without a call. Not all that are there
-    /// need be counted, and none is an answer too. Nothing changes.
+    /// How many bytes at the front of `src` are malformed sequences each by itself, whatever bytes follow,
+    /// where nothing is held back. Reading one gives that sequence of one byte and leaves the decoder as it
+    /// is, so whoever tells of them himself goes on behind them without a call. Not all that are there need
+    /// be counted, and none is an answer too. Nothing changes.
     fn lone_malformed(&self, src: &[u8]) -> usize
         ensures count { result ≤ length src.now }
         ensures lone { (k : ℕ) → k < result

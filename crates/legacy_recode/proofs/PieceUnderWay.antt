@@ -1,7 +1,7 @@
 -- A piece under way.
 use Rattle.std.proofs.Common.{◌≡◌, ◌∙◌, ℕ, zero, suc, ◌+◌, ◌-◌, ◌≤◌, ◌<◌, List, [], ◌∷◌, ◌++◌, length, take, drop, take-append-drop, refl, sym, ap, arith, append_assoc, append-nil, length-append}
 use Rattle.std.proofs.Common.{length-drop, map, get_or, Bool, Option}
-use Rattle.std.proofs.lemmas.List.{drop-drop, drop_more}
+use Rattle.std.proofs.lemmas.List.{drop-drop, drop_more, get_or-drop}
 use Rattle.std.proofs.Math.ListN.{drop_of_length-le}
 use Rattle.std.proofs.KnownBytes.{Appends-nil, Appends-trans}
 use Rattle.std.specs.Io.KnownBytes.{Appends}
@@ -166,6 +166,15 @@ module _ {before : DecoderState} {piece : List ℕ} {last : Bool} {total : ℕ} 
         let all = ap length (c.progress.events [] (λ _. refl)) in
         let counted = rw (append-nil, append-nil, drop-drop, length-append, length-shift) at all in
         omega arith
+
+-- what was told of bytes at the front is true of the piece
+pub lone_bytes : (piece unread : List ℕ) (offset count : ℕ) (state : DecoderState) → unread ≡ drop offset piece → offset ≤ length piece → count ≤ length unread
+    → ((k : ℕ) → k < count → IsLoneFault state (get_or unread k 0))
+    → (offset + count ≤ length piece) × ((k : ℕ) → k < count → IsLoneFault state (get_or piece (offset + k) 0))
+lone_bytes piece unread offset count state e within few lone =
+    let n = length-drop offset piece in
+    let m = rw e at few in
+    (omega (arith, within, m, n), λ k f. rw (← get_or-drop offset piece k 0, ← e) (lone k f))
 
 -- one byte at the front is malformed by itself
 piece_lone_byte : {before : DecoderState} {piece : List ℕ} {last : Bool} {total : ℕ} {now : DecoderState} {offset : ℕ} {pending more : List ℕ}

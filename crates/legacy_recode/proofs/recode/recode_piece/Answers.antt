@@ -1,9 +1,6 @@
-use Rattle.std.proofs.Common.{◌≡◌, ◌+◌, ◌≤◌, ◌<◌, ℕ, List, length, drop, get_or, arith, length-drop}
-use Rattle.std.proofs.lemmas.List.{get_or-drop}
+use Rattle.std.proofs.Common.{arith}
 use Rattle.std.proofs.lemmas.Result.{on_ok_weaker, on_err_weaker, err_from_is_err_and}
-use Rattle.legacy_base.specs.States.{DecoderState}
-use Rattle.legacy_base.specs.Calls.{IsLoneFault}
-use Rattle.legacy_recode.proofs.PieceUnderWay.{piece_start, piece_step, piece_sent, piece_front, piece_end, piece_less, piece_lone, piece_lone_less}
+use Rattle.legacy_recode.proofs.PieceUnderWay.{piece_start, piece_step, piece_sent, piece_front, piece_end, piece_less, lone_bytes, piece_lone, piece_lone_less}
 use Rattle.legacy_recode.proofs.recode.recode_piece.Goals as goal
 
 pub calls-init : goal.calls-init
@@ -13,15 +10,6 @@ pub returns-in_err-make_room-clause-err : goal.returns-in_err-make_room-clause-e
 returns-in_err-make_room-clause-err g c =
     let w = c.in_err-make_room.ensures.err in
     rw (err_from_is_err_and c.from_residual.result c.from_residual.ensures.1).1 (piece_front c.calls.invariant w.0 w.1)
-
--- what was told of bytes at the front is true of the piece
-lone_bytes : (piece unread : List ℕ) (offset count : ℕ) (state : DecoderState) → unread ≡ drop offset piece → offset ≤ length piece → count ≤ length unread
-    → ((k : ℕ) → k < count → IsLoneFault state (get_or unread k 0))
-    → (offset + count ≤ length piece) × ((k : ℕ) → k < count → IsLoneFault state (get_or piece (offset + k) 0))
-lone_bytes piece unread offset count state e within few lone =
-    let n = length-drop offset piece in
-    let m = rw e at few in
-    (omega (arith, within, m, n), λ k f. rw (← get_or-drop offset piece k 0, ← e) (lone k f))
 
 pub returns-in-InputEmpty-clause-piece : goal.returns-in-InputEmpty-clause-piece
 returns-in-InputEmpty-clause-piece g c =
