@@ -1,12 +1,12 @@
 -- What round trips need of accepted indexes: jis0208 has nothing where Shift_JIS decodes to private use, and private-use
 -- rows are for private use, and have leads and trails.
 use Rattle.std.proofs.Common.{◌≡◌, ℕ, zero, suc, ◌+◌, List, [], ◌∷◌, Bool, true, false, cond, not, ◌==◌, Option, Some, None, slice_index, refl, ap, arith, find, option_map, eqb-true}
-use Rattle.legacy_base.specs.declared.tables.IndexName.{IndexName}
-use Rattle.legacy_base.specs.declared.tables.IndexName.TheVariants as names
-use Rattle.legacy_base.specs.declared.tables.TableError.TheVariants.{BadEntry, NotEmpty, PuaOrder, PuaScalar, PuaBytes}
-use Rattle.legacy_base.specs.Indexes.{FlatIndexes, gb18030_pua_of}
-use Rattle.legacy_base.specs.TableChecks.{AreAccepted, is_entry, must_be_empty, entry_fault, entries_fault, follows_scalar, is_row_scalar, are_row_bytes, row_fault, rows_fault}
-use Rattle.legacy_base.proofs.Accepted.{or_none, parts}
+use Rattle.legacy_tables.specs.declared.tables.IndexName.{IndexName}
+use Rattle.legacy_tables.specs.declared.tables.IndexName.TheVariants as names
+use Rattle.legacy_tables.specs.declared.tables.TableError.TheVariants.{BadEntry, NotEmpty, PuaOrder, PuaScalar, PuaBytes}
+use Rattle.legacy_tables.specs.Indexes.{FlatIndexes, gb18030_pua_of}
+use Rattle.legacy_tables.specs.TableChecks.{AreAccepted, is_entry, must_be_empty, entry_fault, entries_fault, follows_scalar, is_row_scalar, are_row_bytes, row_fault, rows_fault}
+use Rattle.legacy_tables.proofs.Accepted.{or_none, parts}
 use Rattle.legacy_base.proofs.TwoByteTrips.{PrivateUseIsEmpty}
 use Rattle.legacy_base.proofs.Gb18030Trip.{AreGoodRows}
 

@@ -2,7 +2,7 @@
 use Rattle.std.proofs.Common.{◌≡◌, ℕ, ◌-◌, ◌≤◌, List, [], ◌∷◌, length, map, refl, arith, Option, Bool, true, false, Some, ltb}
 use Rattle.std.proofs.lemmas.Bool.{cond_both}
 use Rattle.legacy_base.specs.declared.results.EncodeEvent.TheVariants.{Byte}
-use Rattle.legacy_base.specs.EncodingForm.{EncodingForm, Utf8, Utf16}
+use Rattle.legacy_text.specs.EncodingForm.{EncodingForm, Utf8, Utf16}
 use Rattle.legacy_base.specs.EncodeEvents.{plain_events}
 use Rattle.legacy_base.specs.EncoderProfile.{EncoderProfile, EncoderMode, in_ascii, in_roman, in_two_byte, plain_encoder}
 use Rattle.legacy_base.specs.Encoders.{Codec, single_byte, user_defined, big5, euc_kr, shift_jis, euc_jp, gb18030, gbk, iso_2022_jp, encoder_profile}

@@ -7,8 +7,8 @@ use Rattle.std.specs.Char.{IsScalar, is_ascii, is_ascii_digit}
 use Rattle.std.proofs.lemmas.Bool.{cond_both}
 use Rattle.std.proofs.lemmas.Bool.Decides.{nat_tests}
 use Rattle.std.proofs.lemmas.List.Elements.{All-nil, All-cons}
-use Rattle.legacy_base.specs.Indexes.{idx, range}
-use Rattle.legacy_base.specs.Unicode.{IsByte, AreScalars, is_katakana_byte, katakana_of}
+use Rattle.legacy_tables.specs.Indexes.{idx, range}
+use Rattle.legacy_tables.specs.Unicode.{IsByte, AreScalars, is_katakana_byte, katakana_of}
 use Rattle.legacy_base.specs.Fronts.{Front, reads, malformed, reads_or, trail_rule, trail_front}
 use Rattle.legacy_base.specs.Laws.{IsFrontOf}
 use Rattle.legacy_base.specs.Profile.{is_lead}
@@ -19,7 +19,7 @@ use Rattle.legacy_base.specs.LeadForms.{lead_pair, lead_front}
 use Rattle.legacy_base.specs.ShiftJis.{is_shift_jis_lead, shift_jis_pointer, shift_jis_scalars, shift_jis_pair, shift_jis_front}
 use Rattle.legacy_base.specs.EucJp.{is_euc_jp_lead, euc_jp_scalars, euc_jp_katakana, euc_jp_third, euc_jp_second, euc_jp_pair, euc_jp_front}
 use Rattle.legacy_base.specs.Gb18030.{gb18030_scalars, gb18030_range_pointer, gb18030_fourth, gb18030_third, gb18030_second, gb18030_front}
-use Rattle.legacy_base.proofs.Accepted.{idx-all}
+use Rattle.legacy_tables.proofs.Accepted.{idx-all}
 
 -- ---- scalars by a test
 

@@ -10,14 +10,14 @@ use Rattle.std.specs.List.{list_any}
 use Rattle.std.specs.Int.{is_in_range}
 use Rattle.std.specs.Char.{is_ascii, is_ascii_digit}
 use Rattle.legacy_base.specs.Fronts.{reads}
-use Rattle.legacy_base.specs.Indexes.{idx, range, gb18030_pua_of}
+use Rattle.legacy_tables.specs.Indexes.{idx, range, gb18030_pua_of}
 use Rattle.legacy_base.specs.Profile.{is_lead, is_empty}
-use Rattle.legacy_base.specs.Pointers.{every_pointer, gb18030_pointer_of, range_pointer_of}
-use Rattle.legacy_base.specs.TableChecks.{is_row_scalar, are_row_bytes}
+use Rattle.legacy_tables.specs.Pointers.{every_pointer, gb18030_pointer_of, range_pointer_of}
+use Rattle.legacy_tables.specs.TableChecks.{is_row_scalar, are_row_bytes}
 use Rattle.legacy_base.specs.Gb18030.{gb18030_scalars, gb18030_range_pointer, gb18030_fourth, gb18030_third, gb18030_second, gb18030_front}
 use Rattle.legacy_base.specs.Gb18030.{gb18030_pair_bytes, gb18030_range_bytes, gb18030_pair_code, gb18030_code, gbk_code}
 use Rattle.legacy_base.specs.RoundTrips.{is_private_use_fold, private_use_scalar, has_lost_row}
-use Rattle.legacy_base.proofs.Pointers.{first-taken, range-taken}
+use Rattle.legacy_tables.proofs.Pointers.{first-taken, range-taken}
 use Rattle.legacy_base.proofs.PointersBack.{LeadsBack, leads_back}
 use Rattle.legacy_base.proofs.Trips.{Decodes}
 use Rattle.legacy_base.proofs.TwoByteTrips.{mapped, one_byte, two_bytes}

@@ -8,10 +8,10 @@ use Rattle.legacy_base.specs.Replacement.{replacement_events}
 use Rattle.legacy_base.specs.Grammar.{Grammar, single_byte, user_defined, replacement, plain, big5, shift_jis, euc_jp, gb18030, events_of}
 use Rattle.legacy_base.specs.States.{may_hold, rests}
 use Rattle.legacy_base.specs.Laws.{IsFrontOf, IsReadByFronts, AreReadByFronts, HasNoneOfNothing}
-use Rattle.legacy_base.specs.Unicode.{IsByte}
-use Rattle.legacy_base.specs.Tables.{index_list}
-use Rattle.legacy_base.proofs.Accepted.{index-scalars, big5-scalars, jis0208-scalars, jis0212-scalars, gb18030-scalars, range-scalar}
-use Rattle.legacy_base.proofs.AcceptedTable.{table-scalars}
+use Rattle.legacy_tables.specs.Unicode.{IsByte}
+use Rattle.legacy_tables.specs.Tables.{index_list}
+use Rattle.legacy_tables.proofs.Accepted.{index-scalars, big5-scalars, jis0208-scalars, jis0212-scalars, gb18030-scalars, range-scalar}
+use Rattle.legacy_tables.proofs.AcceptedTable.{table-scalars}
 use Rattle.legacy_base.proofs.Cuts.{cut-front}
 use Rattle.legacy_base.proofs.FrontLaws.{single_byte_front-of, user_defined_front-of, lead_front-of, big5_front-of, shift_jis_front-of, euc_jp_front-of, gb18030_front-of}
 

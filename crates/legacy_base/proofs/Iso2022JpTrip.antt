@@ -14,14 +14,14 @@ use Rattle.legacy_base.specs.declared.results.EncodeEvent.TheVariants.{Byte}
 use Rattle.legacy_base.specs.Events.{shift}
 use Rattle.legacy_base.specs.EncodeEvents.{code_events}
 use Rattle.legacy_base.specs.Fronts.{reads}
-use Rattle.legacy_base.specs.Pointers.{is_jis0208_pointer, euc_jp_pointer_of}
+use Rattle.legacy_tables.specs.Pointers.{is_jis0208_pointer, euc_jp_pointer_of}
 use Rattle.legacy_base.specs.EncoderProfile.{EncoderMode, in_ascii, in_roman, in_two_byte}
 use Rattle.legacy_base.specs.Iso2022Jp.{Mode, ascii, roman, two_byte, esc, escape_mode, part_mode, iso_2022_jp_front, iso_2022_jp_events, is_whole_escape}
 use Rattle.legacy_base.specs.Iso2022Jp.{is_mode_control, iso_2022_jp_fold, iso_2022_jp_pointer_of, iso_2022_jp_pair, iso_2022_jp_code, iso_2022_jp_reported, is_neutral_scalar, is_roman_scalar, roman_or_ascii, escape_between}
 use Rattle.legacy_base.specs.Encoders.{iso_2022_jp}
 use Rattle.legacy_base.specs.RoundTrips.{is_fold, read_as, bytes_of, holds_adjacent_escapes}
 use Rattle.legacy_base.proofs.Shifts.{shift-zero, shift-append, shift-shift, shift-scalars}
-use Rattle.legacy_base.proofs.Pointers.{first-taken}
+use Rattle.legacy_tables.proofs.Pointers.{first-taken}
 use Rattle.legacy_base.proofs.PointersBack.{LeadsBack, leads_back}
 use Rattle.legacy_base.proofs.Trips.{same_byte_lists, begins_with, has_code, coded, bytes_of-behind, bytes_of-bytes, bytes_of-unmappable}
 use Rattle.legacy_base.proofs.Iso2022JpParts.{first_part}

@@ -1,8 +1,6 @@
 -- Laws of the definitions.
-pub mod CodeUnits
 pub mod SameUnits
 pub mod Shifts
-pub mod ShortScalars
 pub mod Cuts
 pub mod Progress
 pub mod Rooms
@@ -11,24 +9,6 @@ pub mod EncoderLaws
 pub mod Iso2022JpParts
 pub mod Iso2022JpFronts
 pub mod Iso2022JpEncoding
-pub mod TableLoops
-pub mod FirstPlaces
-pub mod SearchedBlocks
-pub mod Pointers
-pub mod Accepted
-pub mod RangePointers
-pub mod PointerBounds
-pub mod PrivateUse
-pub mod Directories
-pub mod PackedRuns
-pub mod PackedPointers
-pub mod PackedAccepted
-pub mod OrderNumbers
-pub mod Orders
-pub mod AcceptedTable
-pub mod Ascii
-pub mod Texts
-pub mod UnitCopies
 pub mod FrontLaws
 pub mod GrammarLaws
 pub mod PointersBack

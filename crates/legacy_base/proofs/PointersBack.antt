@@ -1,8 +1,8 @@
 -- The pointer that an encoder takes for a scalar leads a decoder back to the scalar.
 use Rattle.std.proofs.Common.{◌≡◌, ℕ, ◌<◌, List, length, Bool, true, Option, Some, refl}
 use Rattle.std.proofs.lemmas.Bool.{ne_eqb}
-use Rattle.legacy_base.specs.Indexes.{idx}
-use Rattle.legacy_base.proofs.Pointers.{IsTaken, taken-within}
+use Rattle.legacy_tables.specs.Indexes.{idx}
+use Rattle.legacy_tables.proofs.Pointers.{IsTaken, taken-within}
 
 -- a pointer that may be used, lies within the index and has the scalar
 pub record LeadsBack (may : ℕ → Bool) (index : List ℕ) (c p : ℕ) : Type 0 where

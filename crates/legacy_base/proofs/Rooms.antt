@@ -4,21 +4,14 @@ use Rattle.std.proofs.Common.{subst, arith, length-append, Bool, true, false, no
 use Rattle.std.specs.Prelude.{MatchBool}
 use Rattle.std.proofs.lemmas.Bool.{cond_both}
 use Rattle.std.specs.Char.{is_ascii}
-use Rattle.std.proofs.lemmas.List.Concat.{flat_map-append}
 use Rattle.std.proofs.Math.Nat.{sub-zero}
 use Rattle.legacy_base.specs.declared.results.DecodeEvent.{DecodeEvent}
-use Rattle.legacy_base.specs.EncodingForm.{EncodingForm, Utf8, Utf16, code_units, unit_count, all_code_units, total_unit_count, bmp_room, wide_room}
+use Rattle.legacy_text.specs.EncodingForm.{EncodingForm, Utf8, Utf16, code_units, unit_count, all_code_units, total_unit_count, bmp_room, wide_room}
 use Rattle.legacy_base.specs.Profile.{Rooms, narrow_acts, wide_reads}
 use Rattle.legacy_base.specs.Grammar.{Grammar, profile, events_of}
 use Rattle.legacy_base.specs.States.{DecoderState, rests, is_empty}
 use Rattle.legacy_base.specs.Acts.{Act, writes, takes, act_at_end, act_room, act_at_rest, room_of_act, reading_room, writing_room, has_reported, has_short_ascii}
 use Rattle.legacy_base.specs.Acts.{has_marks, is_mark_behind, room_needed, LacksRoom, full_room_in, release_room_in, HadRoom, HadRoomReleased, HadRooms}
-
-pub all_code_units-append : (form : EncodingForm) (xs ys : List ℕ) → all_code_units form (xs ++ ys) ≡ all_code_units form xs ++ all_code_units form ys
-all_code_units-append form xs ys = flat_map-append (code_units form) xs ys
-
-pub total_unit_count-append : (form : EncodingForm) (xs ys : List ℕ) → total_unit_count form (xs ++ ys) ≡ total_unit_count form xs + total_unit_count form ys
-total_unit_count-append form xs ys = ap length (all_code_units-append form xs ys) ∙ length-append (all_code_units form xs) (all_code_units form ys)
 
 -- ---- the room that scalars had
 

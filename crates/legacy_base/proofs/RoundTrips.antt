@@ -4,8 +4,8 @@ use Rattle.std.proofs.lemmas.Bool.{or_parts}
 use Rattle.std.specs.List.{list_any}
 use Rattle.legacy_base.specs.declared.results.DecodeEvent.TheVariants.{Scalar}
 use Rattle.legacy_base.specs.declared.results.EncodeEvent.TheVariants.{Byte}
-use Rattle.legacy_base.specs.Indexes.{FlatIndexes}
-use Rattle.legacy_base.specs.TableChecks.{AreAccepted}
+use Rattle.legacy_tables.specs.Indexes.{FlatIndexes}
+use Rattle.legacy_tables.specs.TableChecks.{AreAccepted}
 use Rattle.legacy_base.specs.Profile.{is_lead}
 use Rattle.legacy_base.specs.SingleByte.{single_byte_front, single_byte_code}
 use Rattle.legacy_base.specs.UserDefined.{user_defined_front, user_defined_code}
@@ -21,7 +21,7 @@ use Rattle.legacy_base.specs.Grammar.{events_of}
 use Rattle.legacy_base.specs.Encoders.{Codec, single_byte, user_defined, big5, euc_kr, shift_jis, euc_jp, gb18030, gbk, iso_2022_jp, new_encoder, code, encoded}
 use Rattle.legacy_base.specs.RoundTrips.{grammar_of, is_fold, is_private_use_fold, IsEncodedAs, RoundTrips, ReencodesToTheSame, EscapesAreInPlace}
 use Rattle.legacy_base.specs.RoundTrips.{japanese_scalar, private_use_scalar, read_as, read_back, bytes_of, written, has_lost_row, IsSound, EncodesWellFormed, EscapesStayApart}
-use Rattle.legacy_base.proofs.Accepted.{parts, length-euc_kr, length-jis0208, length-gb18030}
+use Rattle.legacy_tables.proofs.Accepted.{parts, length-euc_kr, length-jis0208, length-gb18030}
 use Rattle.legacy_base.proofs.Trips.{bytes_of-bytes, plain-read, plain-coded, none_lost}
 use Rattle.legacy_base.proofs.TwoByteTrips.{single_byte-decodes, user_defined-decodes, big5-decodes, euc_kr-decodes, shift_jis-decodes, euc_jp-decodes, no_japanese_fold}
 use Rattle.legacy_base.proofs.Gb18030Trip.{gb18030-decodes, gbk-decodes, no_private_use_fold}

@@ -5,7 +5,7 @@ use lib.Utf8.{encode}
 use Rattle.std.proofs.lemmas.Str.{encode_same}
 use Rattle.std.specs.Char.{IsScalar}
 use Rattle.std.specs.Char.Escape.{encode_utf16}
-use Rattle.legacy_base.specs.EncodingForm.{EncodingForm, Utf8, Utf16, code_units, all_code_units}
+use Rattle.legacy_text.specs.EncodingForm.{EncodingForm, Utf8, Utf16, code_units, all_code_units}
 
 utf16_scalar : (c d : ℕ) (r t : List ℕ) → IsScalar c → IsScalar d → encode_utf16 c ++ r ≡ encode_utf16 d ++ t → c ≡ d
 utf16_scalar c d r t p q e = grind (arith, nat_tests)

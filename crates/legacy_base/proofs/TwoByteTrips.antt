@@ -10,10 +10,10 @@ use Rattle.std.proofs.lemmas.Nat.{mod_below}
 use Rattle.std.specs.Int.{is_in_range}
 use Rattle.std.specs.Char.{is_ascii}
 use Rattle.legacy_base.specs.Fronts.{Front, reads}
-use Rattle.legacy_base.specs.Indexes.{idx}
+use Rattle.legacy_tables.specs.Indexes.{idx}
 use Rattle.legacy_base.specs.Profile.{is_lead}
-use Rattle.legacy_base.specs.Pointers.{every_pointer, is_big5_pointer, big5_pointer_of, euc_kr_pointer_of}
-use Rattle.legacy_base.specs.Pointers.{minus_as_hyphen, is_shift_jis_pointer, shift_jis_pointer_of, is_jis0208_pointer, euc_jp_pointer_of}
+use Rattle.legacy_tables.specs.Pointers.{every_pointer, is_big5_pointer, big5_pointer_of, euc_kr_pointer_of}
+use Rattle.legacy_tables.specs.Pointers.{minus_as_hyphen, is_shift_jis_pointer, shift_jis_pointer_of, is_jis0208_pointer, euc_jp_pointer_of}
 use Rattle.legacy_base.specs.SingleByte.{single_byte_front, single_byte_code}
 use Rattle.legacy_base.specs.UserDefined.{user_defined_front, user_defined_code}
 use Rattle.legacy_base.specs.Big5.{big5_pointer, big5_scalars, big5_pair, big5_front, big5_bytes, big5_code}
@@ -22,7 +22,7 @@ use Rattle.legacy_base.specs.EucKr.{euc_kr_pointer, euc_kr_bytes, euc_kr_code}
 use Rattle.legacy_base.specs.ShiftJis.{is_shift_jis_lead, shift_jis_lead_part, shift_jis_pointer, shift_jis_scalars, shift_jis_pair, shift_jis_front, shift_jis_bytes, shift_jis_code}
 use Rattle.legacy_base.specs.EucJp.{euc_jp_katakana, euc_jp_pair, euc_jp_front, euc_jp_bytes, euc_jp_code}
 use Rattle.legacy_base.specs.RoundTrips.{is_japanese_fold, japanese_scalar}
-use Rattle.legacy_base.proofs.Pointers.{first-taken, big5-taken}
+use Rattle.legacy_tables.proofs.Pointers.{first-taken, big5-taken}
 use Rattle.legacy_base.proofs.PointersBack.{LeadsBack, leads_back}
 use Rattle.legacy_base.proofs.Trips.{Decodes}
 

@@ -4,8 +4,8 @@ use Rattle.std.specs.Option.{option_map_or}
 use Rattle.std.specs.Int.{is_in_range}
 use Rattle.std.specs.Char.{is_ascii}
 use Rattle.legacy_base.specs.Fronts.{Front, reads, malformed, trail_front, cut}
-use Rattle.legacy_base.specs.Indexes.{idx}
-use Rattle.legacy_base.specs.Pointers.{big5_pointer_of}
+use Rattle.legacy_tables.specs.Indexes.{idx}
+use Rattle.legacy_tables.specs.Pointers.{big5_pointer_of}
 use Rattle.legacy_base.specs.Profile.{Profile, wide_acts, is_lead, single_lead_may_hold, always_rests}
 use Rattle.legacy_base.specs.EncoderProfile.{EncoderProfile, plain_encoder}
 use Rattle.legacy_base.specs.Formulas.{weighed, constant, ◌⊞◌, ◌⊠◌, number, ◌⊕◌, ◌⊗◌}

@@ -2,7 +2,7 @@
 use Rattle.std.specs.Prelude.{ℕ, List, [], Option, Bool, nat_lt, if◌then◌else◌}
 use Rattle.legacy_base.specs.declared.results.EncodeEvent.{EncodeEvent}
 use Rattle.legacy_base.specs.EncodeEvents.{plain_events}
-use Rattle.legacy_base.specs.EncodingForm.{EncodingForm, Utf8, Utf16}
+use Rattle.legacy_text.specs.EncodingForm.{EncodingForm, Utf8, Utf16}
 use Rattle.legacy_base.specs.Formulas.{Formula}
 
 -- the modes that an encoder can be in; the codecs without modes are in ASCII mode throughout

@@ -1,7 +1,7 @@
 -- The encoders: what each gives of a text, and the numbers by which its outputs are sized.
 use Rattle.std.specs.Prelude.{ℕ, ◌-◌, List, [], ◌∷◌, length, Option, Bool, true, false, not}
 use Rattle.legacy_base.specs.declared.results.EncodeEvent.{EncodeEvent}
-use Rattle.legacy_base.specs.EncodingForm.{EncodingForm}
+use Rattle.legacy_text.specs.EncodingForm.{EncodingForm}
 use Rattle.legacy_base.specs.EncoderProfile.{EncoderProfile, EncoderMode, in_ascii}
 use Rattle.legacy_base.specs.Lengths.{Formula, number, value, answer}
 use Rattle.legacy_base.specs.Profile.{is_empty}

@@ -3,9 +3,9 @@ use Rattle.std.specs.Prelude.{ℕ, ◌+◌, ◌-◌, ◌*◌, ◌/◌, ◌%◌, 
 use Rattle.std.specs.Int.{is_in_range}
 use Rattle.std.specs.Char.{is_ascii}
 use Rattle.legacy_base.specs.Fronts.{Front, reads, malformed, trail_rule, trail_front, cut}
-use Rattle.legacy_base.specs.Unicode.{is_katakana_byte, katakana_of, is_katakana_scalar, katakana_byte_of}
-use Rattle.legacy_base.specs.Indexes.{idx}
-use Rattle.legacy_base.specs.Pointers.{euc_jp_pointer_of, minus_as_hyphen}
+use Rattle.legacy_tables.specs.Unicode.{is_katakana_byte, katakana_of, is_katakana_scalar, katakana_byte_of}
+use Rattle.legacy_tables.specs.Indexes.{idx}
+use Rattle.legacy_tables.specs.Pointers.{euc_jp_pointer_of, minus_as_hyphen}
 use Rattle.legacy_base.specs.Profile.{Profile, narrow_acts, always_rests}
 use Rattle.legacy_base.specs.EncoderProfile.{EncoderProfile, plain_encoder}
 use Rattle.legacy_base.specs.Formulas.{weighed, constant, ◌⊞◌, ◌⊠◌, halved, number, ◌⊕◌, ◌⊗◌}

@@ -2,7 +2,7 @@
 use Rattle.std.specs.Prelude.{ℕ, ◌+◌, ◌-◌, ◌*◌, ◌/◌, ◌%◌, List, [], ◌∷◌, Option, Some, None, if◌then◌else◌, option_map}
 use Rattle.std.specs.Int.{is_in_range}
 use Rattle.std.specs.Char.{is_ascii}
-use Rattle.legacy_base.specs.Pointers.{euc_kr_pointer_of}
+use Rattle.legacy_tables.specs.Pointers.{euc_kr_pointer_of}
 use Rattle.legacy_base.specs.Profile.{is_lead}
 use Rattle.legacy_base.specs.EncoderProfile.{EncoderProfile, plain_encoder}
 use Rattle.legacy_base.specs.Formulas.{number, ◌⊕◌, ◌⊗◌}

@@ -4,8 +4,8 @@ use Rattle.std.specs.Option.{option_or}
 use Rattle.std.specs.Int.{is_in_range}
 use Rattle.std.specs.Char.{is_ascii, is_ascii_digit}
 use Rattle.legacy_base.specs.Fronts.{Front, reads, malformed, reads_or, trail_rule, cut}
-use Rattle.legacy_base.specs.Indexes.{idx, range, gb18030_pua_of}
-use Rattle.legacy_base.specs.Pointers.{gb18030_pointer_of, range_pointer_of}
+use Rattle.legacy_tables.specs.Indexes.{idx, range, gb18030_pua_of}
+use Rattle.legacy_tables.specs.Pointers.{gb18030_pointer_of, range_pointer_of}
 use Rattle.legacy_base.specs.Profile.{Profile, wide_acts, is_lead}
 use Rattle.legacy_base.specs.EncoderProfile.{EncoderProfile, plain_encoder}
 use Rattle.legacy_base.specs.Formulas.{weighed, constant, ◌⊞◌, ◌⊠◌, number, ◌⊕◌, ◌⊗◌}

@@ -1,6 +1,6 @@
 -- What is proved of the definitions themselves.
 use Rattle.std.specs.Prelude.{◌≡◌, ℕ, ◌<◌, ◌≤◌, List, [], ◌∷◌, ◌++◌, length, drop, Bool, Option}
-use Rattle.legacy_base.specs.declared.tables.IndexName.{IndexName}
+use Rattle.legacy_tables.specs.declared.tables.IndexName.{IndexName}
 use Rattle.legacy_base.specs.Events.{shift}
 use Rattle.legacy_base.specs.Fronts.{Front, reads, malformed, front_length, front_events}
 use Rattle.legacy_base.specs.SingleByte.{single_byte_front}
@@ -11,10 +11,10 @@ use Rattle.legacy_base.specs.ShiftJis.{shift_jis_front}
 use Rattle.legacy_base.specs.EucJp.{euc_jp_front}
 use Rattle.legacy_base.specs.Gb18030.{gb18030_front}
 use Rattle.legacy_base.specs.Grammar.{Grammar, single_byte, user_defined, plain, big5, shift_jis, euc_jp, gb18030, events_of}
-use Rattle.legacy_base.specs.Indexes.{FlatIndexes}
-use Rattle.legacy_base.specs.TableChecks.{AreAccepted, IsAcceptedTable}
-use Rattle.legacy_base.specs.Tables.{index_list}
-use Rattle.legacy_base.specs.Unicode.{IsByte, AreScalars}
+use Rattle.legacy_tables.specs.Indexes.{FlatIndexes}
+use Rattle.legacy_tables.specs.TableChecks.{AreAccepted, IsAcceptedTable}
+use Rattle.legacy_tables.specs.Tables.{index_list}
+use Rattle.legacy_tables.specs.Unicode.{IsByte, AreScalars}
 
 -- the scalars of a front, and none of malformed bytes
 abbrev pub front_scalars : Front → List ℕ

@@ -3,7 +3,7 @@
 use Rattle.std.specs.Prelude.{ℕ, ◌+◌, ◌-◌, ◌*◌, ◌/◌, ◌^◌, List, Option, Some, None, Bool, true, ◌&&◌, nat_le, if◌then◌else◌}
 use Rattle.legacy_base.specs.declared.results.DecoderResult.{DecoderResult}
 use Rattle.legacy_base.specs.declared.results.DecoderResult.TheVariants.{InputEmpty, OutputFull, Malformed}
-use Rattle.legacy_base.specs.EncodingForm.{EncodingForm, Utf8, Utf16}
+use Rattle.legacy_text.specs.EncodingForm.{EncodingForm, Utf8, Utf16}
 pub use Rattle.legacy_base.specs.Formulas.{Formula, number, ◌⊕◌, ◌⊗◌, half}
 use Rattle.legacy_base.specs.Formulas.{formula}
 use Rattle.legacy_base.specs.Grammar.{Grammar, profile}

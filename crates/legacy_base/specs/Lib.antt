@@ -1,12 +1,8 @@
 -- What the codecs mean, in the order in which a reader comes to believe it. An `abbrev` is a small case analysis, which
 -- proofs see through. What recurses on lists, or holds a codec's whole case analysis, is `unfoldable`: a proof opens it
 -- where it wants to, and else goes by its laws.
-pub mod Unicode
-pub mod EncodingForm
 pub mod Events
 pub mod Fronts
-pub mod Indexes
-pub mod Pointers
 pub mod Formulas
 pub mod Profile
 pub mod EncodeEvents
@@ -27,25 +23,8 @@ pub mod States
 pub mod Acts
 pub mod Lengths
 pub mod Calls
-pub mod Texts
 pub mod Encoders
 pub mod EncoderCalls
-pub mod Cursor
-pub mod Destinations
-pub mod NextScalars
-pub mod Blocks
-pub mod UnitCodes
-pub mod ShortScalars
-pub mod TextSources
 pub mod Latin1
-pub mod TableChecks
-pub mod AcceptedTables
-pub mod Tables
-pub mod KeptTables
-pub mod Directories
-pub mod Runs
-pub mod Packed
-pub mod Orders
-pub mod PackedTables
 pub mod Laws
 pub mod RoundTrips

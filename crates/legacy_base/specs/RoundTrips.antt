@@ -5,17 +5,17 @@ use Rattle.std.specs.List.{list_any}
 use Rattle.legacy_base.specs.declared.results.DecodeEvent.TheVariants.{Scalar}
 use Rattle.legacy_base.specs.declared.results.EncodeEvent.{EncodeEvent}
 use Rattle.legacy_base.specs.declared.results.EncodeEvent.TheVariants.{Byte, Unmappable}
-use Rattle.legacy_base.specs.Unicode.{is_katakana_scalar}
+use Rattle.legacy_tables.specs.Unicode.{is_katakana_scalar}
 use Rattle.legacy_base.specs.Events.{shift}
-use Rattle.legacy_base.specs.Indexes.{gb18030_pua_of}
-use Rattle.legacy_base.specs.Pointers.{minus_as_hyphen}
+use Rattle.legacy_tables.specs.Indexes.{gb18030_pua_of}
+use Rattle.legacy_tables.specs.Pointers.{minus_as_hyphen}
 use Rattle.legacy_base.specs.Profile.{is_empty}
 use Rattle.legacy_base.specs.Gb18030.{gb18030_scalars}
 use Rattle.legacy_base.specs.Iso2022Jp.{ascii, is_whole_escape, iso_2022_jp_fold}
 use Rattle.legacy_base.specs.Grammar as grammars
 use Rattle.legacy_base.specs.Grammar.{Grammar, events_of}
 use Rattle.legacy_base.specs.EucKr as korean
-use Rattle.legacy_base.specs.AcceptedTables.{AcceptedIndexes, AcceptedTable}
+use Rattle.legacy_tables.specs.AcceptedTables.{AcceptedIndexes, AcceptedTable}
 use Rattle.legacy_base.specs.Encoders.{Codec, single_byte, user_defined, big5, euc_kr, shift_jis, euc_jp, gb18030, gbk, iso_2022_jp}
 use Rattle.legacy_base.specs.Encoders.{new_encoder, code, encoded}
 

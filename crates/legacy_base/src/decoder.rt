@@ -1,13 +1,13 @@
 //! The calls of a decoder.
 ghost use Rattle.std.specs.Prelude.{◌≡◌, ℕ, ◌+◌, ◌<◌, ◌≤◌, List, [], length, take, slice_index};
-ghost use Rattle.legacy_base.specs.EncodingForm.{Utf8, Utf16};
+ghost use Rattle.legacy_text.specs.EncodingForm.{Utf8, Utf16};
 ghost use Rattle.legacy_base.specs.States.{DecoderState};
 ghost use Rattle.legacy_base.specs.Lengths.{query_answer, to_utf16, to_utf8};
 ghost use Rattle.legacy_base.specs.Lengths.{to_utf8_without_replacement};
 ghost use Rattle.legacy_base.specs.Calls.{IsDecoderCall, IsLoneFault};
 
-use crate::destination::{Destination, Utf8Destination, Utf16Destination};
 use crate::results::DecoderResult;
+use legacy_text::{Destination, Utf8Destination, Utf16Destination};
 
 /// A streaming decoder of the Encoding Standard.
 ///

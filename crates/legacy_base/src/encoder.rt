@@ -1,13 +1,13 @@
 //! The calls of an encoder.
 ghost use Rattle.std.specs.Prelude.{◌≡◌, ℕ, ◌+◌, ◌≤◌, List, length, take, drop};
 ghost use Rattle.std.specs.Str.{chars, IsCharBoundary};
-ghost use Rattle.legacy_base.specs.EncodingForm.{Utf8, Utf16, total_unit_count};
-ghost use Rattle.legacy_base.specs.Texts.{unit_scalars, IsUnitBoundary};
+ghost use Rattle.legacy_text.specs.EncodingForm.{Utf8, Utf16, total_unit_count};
+ghost use Rattle.legacy_text.specs.Texts.{unit_scalars, IsUnitBoundary};
 ghost use Rattle.legacy_base.specs.Encoders.{EncoderState, encoder_answer};
 ghost use Rattle.legacy_base.specs.EncoderCalls.{EncoderCall};
 
 use crate::results::EncoderResult;
-use crate::text_source::{Source, Utf8Source, Utf16Source};
+use legacy_text::{Source, Utf8Source, Utf16Source};
 
 /// A streaming encoder of the Encoding Standard.
 ///

@@ -1,29 +1,20 @@
-//! What all legacy codecs of the WHATWG Encoding Standard stand on: results and events, cursors,
-//! sources, destinations, and the traits of the decoders and of the encoders with the law that each of
-//! their calls keeps.
+//! What all legacy codecs of the WHATWG Encoding Standard stand on: what each encoding means, results and
+//! events, and the traits of the decoders and of the encoders with the law that each of their calls keeps.
+//! Sources, destinations and tables stand in crates of their own, and are named here too.
 #![tactic(auto)]
 
-mod blocks;
 mod decoder;
-mod destination;
 mod encoder;
 mod results;
-mod short_scalars;
-mod single_byte_table;
-mod source;
-mod tables;
-mod text_source;
-mod unit_codes;
 
 pub use decoder::RawDecoder;
-pub use destination::{Destination, Utf8Destination, Utf16Destination};
 pub use encoder::RawEncoder;
-pub use results::{DecodeEvent, DecoderResult, EncodeEvent, EncoderResult};
-pub use single_byte_table::SingleByteTable;
-pub use source::ByteSource;
-pub use tables::{
+pub use legacy_tables::{
     DecoderTables, EncoderTables, FlatTables, GB18030_2022_PUA, IndexName, Indexes, KeptTables,
-    Packed, PackedPart, PackedTables, Run, TableError, Tables,
+    Packed, PackedPart, PackedTables, Run, SingleByteTable, TableError, Tables,
 };
-pub use text_source::{Next, Source, Utf8Source, Utf16Source};
-pub use unit_codes::UnitCodes;
+pub use legacy_text::{
+    ByteSource, Destination, Next, Source, UnitCodes, Utf8Destination, Utf8Source, Utf16Destination,
+    Utf16Source,
+};
+pub use results::{DecodeEvent, DecoderResult, EncodeEvent, EncoderResult};

@@ -4,10 +4,10 @@ use Rattle.std.proofs.lemmas.Bool.Decides.{nat_tests}
 use Rattle.std.specs.Prelude.{IfSome}
 use Rattle.std.specs.Int.{is_in_range}
 use Rattle.std.specs.Char.{is_ascii_digit}
-use Rattle.legacy_base.specs.AcceptedTables.{AcceptedIndexes}
+use Rattle.legacy_tables.specs.AcceptedTables.{AcceptedIndexes}
 use Rattle.legacy_base.specs.States.{is_lead}
 use Rattle.legacy_base.specs.Grammar.{gb18030}
-use Rattle.legacy_base.specs.Indexes.{range}
+use Rattle.legacy_tables.specs.Indexes.{range}
 use Rattle.legacy_decoder_engine.specs.Ahead.{Runs}
 use Rattle.legacy_chinese.specs.FourPlaces.{first_place, second_place, third_place, fourth_place}
 use Rattle.legacy_chinese.specs.declared.gb18030.four_places.TheConstants.{FIRSTS, SECONDS, THIRDS, FOURTHS}

@@ -5,15 +5,15 @@ use Rattle.std.proofs.lemmas.List.Elements.{All-nil, All-cons}
 use Rattle.std.specs.Prelude.{option_to_list, IfSome}
 use Rattle.std.specs.Int.{is_in_range}
 use Rattle.std.specs.Char.{IsScalar, is_ascii, is_ascii_digit}
-use Rattle.legacy_base.specs.Unicode.{IsByte, AreBytes}
+use Rattle.legacy_tables.specs.Unicode.{IsByte, AreBytes}
 use Rattle.legacy_base.specs.Calls.{IsLoneFault}
-use Rattle.legacy_base.specs.Indexes.{idx, range}
-use Rattle.legacy_base.specs.AcceptedTables.{AcceptedIndexes}
+use Rattle.legacy_tables.specs.Indexes.{idx, range}
+use Rattle.legacy_tables.specs.AcceptedTables.{AcceptedIndexes}
 use Rattle.legacy_base.specs.Gb18030.{gb18030_scalars, gb18030_range_pointer}
 use Rattle.legacy_base.specs.States.{is_lead}
 use Rattle.legacy_base.specs.Grammar.{Grammar, gb18030, events_of}
 use Rattle.legacy_base.specs.States.{gb18030_may_hold, is_neutral, rests}
-use Rattle.legacy_base.proofs.Accepted.{gb18030-below, range-scalar}
+use Rattle.legacy_tables.proofs.Accepted.{gb18030-below, range-scalar}
 use Rattle.legacy_chinese.specs.declared.gb18030.decoder.Gb18030Decoder.{Gb18030Decoder}
 use Rattle.legacy_chinese.specs.declared.gb18030.decoder.Held.{Held}
 use Rattle.legacy_chinese.specs.declared.gb18030.decoder.Held.TheVariants.{Nothing, First, Second, Third, Digit, DigitLead}

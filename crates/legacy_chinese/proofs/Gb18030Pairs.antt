@@ -1,6 +1,6 @@
 -- A pair that is the code of a scalar in GB18030 and in GBK, by which of the two the codec is.
 use Rattle.std.proofs.Common.{◌≡◌, ℕ, [], ◌∷◌, Option, Some, Bool, true, false, IfSome}
-use Rattle.legacy_base.specs.Indexes.{FlatIndexes}
+use Rattle.legacy_tables.specs.Indexes.{FlatIndexes}
 use Rattle.legacy_base.specs.Encoders.{encoder_profile}
 use Rattle.legacy_base.specs.Gb18030.{gb18030_code, gbk_code}
 use Rattle.legacy_chinese.specs.Gb18030Codec.{gb18030_codec}

@@ -2,7 +2,7 @@
 use Rattle.std.proofs.Common.{◌≡◌, ℕ, ◌+◌, ◌-◌, ◌*◌, ◌≤◌, List, [], length, cond, refl}
 use Rattle.std.specs.Int.{is_in_range}
 use Rattle.std.specs.Prelude.{option_to_list}
-use Rattle.legacy_base.specs.Indexes.{idx}
+use Rattle.legacy_tables.specs.Indexes.{idx}
 use Rattle.legacy_base.specs.Gb18030.{gb18030_scalars}
 use Rattle.legacy_base.specs.States.{is_lead}
 use Rattle.legacy_decoder_engine.specs.Places.{IsTableOf, lead_place}

@@ -2,7 +2,7 @@
 use Rattle.std.proofs.Common.{ℕ, ◌≤◌, List, [], ◌∷◌, Some, refl, arith}
 use Rattle.std.proofs.lemmas.Bool.{lt-ltb}
 use Rattle.legacy_base.specs.EncodeEvents.{code_length}
-use Rattle.legacy_base.specs.Pointers.{big5_pointer_of}
+use Rattle.legacy_tables.specs.Pointers.{big5_pointer_of}
 use Rattle.legacy_base.specs.Big5.{big5_code, big5_bytes}
 use Rattle.legacy_base.specs.Encoders.{big5}
 use Rattle.legacy_encoder_engine.specs.PairCodecs.{IsPairCodec}

@@ -2,7 +2,7 @@
 use Rattle.std.proofs.Common.{ℕ, ◌<◌, ◌≤◌, List, [], ◌∷◌, Option, Some, None, true, refl, ◌==◌, arith}
 use Rattle.std.specs.Option.{option_map_or}
 use Rattle.legacy_base.specs.Big5.{big5_front, big5_pair, big5_scalars, big5_pointer}
-use Rattle.legacy_base.specs.Indexes.{idx}
+use Rattle.legacy_tables.specs.Indexes.{idx}
 use Rattle.legacy_base.specs.Grammar.{big5}
 use Rattle.legacy_base.specs.States.{is_lead}
 use Rattle.legacy_base.specs.Lengths.{to_utf16}

@@ -1,6 +1,6 @@
 -- The codec of an encoder of GB18030 or of GBK.
 use Rattle.std.specs.Prelude.{Bool, true, false}
-use Rattle.legacy_base.specs.Indexes.{FlatIndexes}
+use Rattle.legacy_tables.specs.Indexes.{FlatIndexes}
 use Rattle.legacy_base.specs.Encoders.{Codec, gb18030, gbk}
 
 -- GB18030 with its extended range, and GBK without

@@ -2,9 +2,9 @@
 use Rattle.std.proofs.Common.{ℕ, ◌≤◌, ◌==◌, List, [], ◌∷◌, Option, Some, None, Bool, true, false, refl, arith, option_map}
 use Rattle.std.proofs.lemmas.Bool.{lt-ltb}
 use Rattle.std.specs.Option.{option_or}
-use Rattle.legacy_base.specs.Indexes.{FlatIndexes, gb18030_pua_of}
+use Rattle.legacy_tables.specs.Indexes.{FlatIndexes, gb18030_pua_of}
 use Rattle.legacy_base.specs.EncodeEvents.{code_length}
-use Rattle.legacy_base.specs.Pointers.{gb18030_pointer_of, range_pointer_of}
+use Rattle.legacy_tables.specs.Pointers.{gb18030_pointer_of, range_pointer_of}
 use Rattle.legacy_base.specs.Lengths.{number, ◌⊕◌, ◌⊗◌}
 use Rattle.legacy_base.specs.Gb18030.{gb18030_pair_bytes, gb18030_range_bytes, gb18030_pair_code, gb18030_code, gbk_code}
 use Rattle.legacy_chinese.specs.Gb18030Codec.{gb18030_codec}

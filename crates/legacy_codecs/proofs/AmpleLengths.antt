@@ -7,7 +7,7 @@ use Rattle.legacy_base.specs.declared.results.DecodeEvent.{DecodeEvent}
 use Rattle.legacy_base.specs.declared.results.DecodeEvent.TheVariants.{Scalar}
 use Rattle.legacy_base.specs.declared.results.DecoderResult.{DecoderResult}
 use Rattle.legacy_base.specs.declared.results.DecoderResult.TheVariants.{InputEmpty, OutputFull, Malformed}
-use Rattle.legacy_base.specs.EncodingForm.{EncodingForm, wide_room, total_unit_count}
+use Rattle.legacy_text.specs.EncodingForm.{EncodingForm, wide_room, total_unit_count}
 use Rattle.legacy_base.specs.Events.{shift}
 use Rattle.legacy_base.specs.States.{DecoderState}
 use Rattle.legacy_base.specs.Calls.{DecoderCall, reported_events, out_events}

@@ -2,7 +2,7 @@
 use Rattle.std.proofs.Common.{◌≡◌, ◌≢◌, ℕ, ◌+◌, ◌-◌, ◌≤◌, List, length, refl, arith, Bool, false}
 use Rattle.legacy_base.specs.declared.results.EncoderResult.{EncoderResult}
 use Rattle.legacy_base.specs.declared.results.EncoderResult.TheVariants.{InputEmpty, OutputFull, Unmappable}
-use Rattle.legacy_base.specs.EncodingForm.{EncodingForm, total_unit_count}
+use Rattle.legacy_text.specs.EncodingForm.{EncodingForm, total_unit_count}
 use Rattle.legacy_base.specs.Encoders.{EncoderState, encoder_room}
 use Rattle.legacy_base.specs.EncoderCalls.{GoesOn}
 use Rattle.legacy_base.proofs.EncoderLaws.{encoder_room-rises, encoder_room-answer}

@@ -1,7 +1,7 @@
 -- What an output that keeps the scalars kept.
 use Rattle.std.proofs.Common.{◌≡◌, ◌∙◌, ℕ, ◌≤◌, List, [], ◌++◌, length, ap, arith, All}
 use Rattle.std.specs.Char.{IsScalar}
-use Rattle.legacy_base.specs.EncodingForm.{EncodingForm, all_code_units, total_unit_count}
+use Rattle.legacy_text.specs.EncodingForm.{EncodingForm, all_code_units, total_unit_count}
 use Rattle.legacy_base.proofs.SameUnits.{all_units_same, length-le-all_code_units}
 
 -- what was kept is what was written

@@ -8,7 +8,7 @@ use Rattle.legacy_base.specs.declared.results.EncodeEvent.TheVariants.{Byte}
 use Rattle.legacy_base.specs.declared.results.EncodeEvent.TheVariants as event
 use Rattle.legacy_base.specs.declared.results.EncoderResult.{EncoderResult}
 use Rattle.legacy_base.specs.declared.results.EncoderResult.TheVariants.{InputEmpty, OutputFull, Unmappable}
-use Rattle.legacy_base.specs.EncodingForm.{EncodingForm, total_unit_count}
+use Rattle.legacy_text.specs.EncodingForm.{EncodingForm, total_unit_count}
 use Rattle.legacy_base.specs.Encoders.{EncoderState, encoded, end_bytes, encoder_need, encoder_answer}
 use Rattle.legacy_base.specs.EncoderCalls.{EncoderCall, EncoderLacksRoom, reported}
 use Rattle.legacy_base.proofs.EncoderLaws.{end-encoded, encoder_need-small}

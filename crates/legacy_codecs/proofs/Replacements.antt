@@ -8,7 +8,7 @@ use Rattle.legacy_base.specs.declared.results.DecodeEvent.{DecodeEvent}
 use Rattle.legacy_base.specs.declared.results.DecodeEvent.TheVariants.{Scalar, Bad}
 use Rattle.legacy_base.specs.declared.results.DecoderResult.{DecoderResult}
 use Rattle.legacy_base.specs.declared.results.DecoderResult.TheVariants.{InputEmpty, OutputFull, Malformed}
-use Rattle.legacy_base.specs.EncodingForm.{EncodingForm, Utf8, Utf16, code_units, all_code_units, total_unit_count, bmp_room, wide_room}
+use Rattle.legacy_text.specs.EncodingForm.{EncodingForm, Utf8, Utf16, code_units, all_code_units, total_unit_count, bmp_room, wide_room}
 use Rattle.legacy_base.specs.Events.{shift}
 use Rattle.legacy_base.specs.Grammar.{Grammar, profile, events_of}
 use Rattle.legacy_base.specs.States.{DecoderState}
@@ -16,10 +16,10 @@ use Rattle.legacy_base.specs.Acts.{LacksRoom, reading_room, writing_room, full_r
 use Rattle.legacy_base.specs.Profile.{Rooms, narrow_acts, wide_reads, wide_acts}
 use Rattle.legacy_base.specs.Lengths.{query_form, replacement_units, answer_units, room}
 use Rattle.legacy_base.specs.Calls.{Progress, DecoderCall, reported_events, out_events}
-use Rattle.legacy_base.proofs.CodeUnits.{encode_3}
+use Rattle.legacy_text.proofs.CodeUnits.{encode_3}
 use Rattle.legacy_base.proofs.Enough.{room-answer}
 use Rattle.legacy_base.proofs.Progress.{stay, after_that}
-use Rattle.legacy_base.proofs.Rooms.{all_code_units-append}
+use Rattle.legacy_text.proofs.CodeUnits.{all_code_units-append}
 use Rattle.legacy_codecs.specs.declared.results.CoderResult.TheVariants as coder
 use Rattle.legacy_codecs.specs.Replacing.{replaced_scalars, has_bad, replacing_query, ReplacingDecoderCall}
 use Rattle.legacy_codecs.proofs.Replaced.{replaced-append, replaced-shift, replaced-of_scalars, has_bad-append, has_bad-shift, has_bad-of_scalars, length-shift}

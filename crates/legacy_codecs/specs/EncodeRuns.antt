@@ -6,7 +6,7 @@ use Rattle.legacy_base.specs.declared.results.EncodeEvent.{EncodeEvent}
 use Rattle.legacy_base.specs.declared.results.EncodeEvent.TheVariants.{Byte}
 use Rattle.legacy_base.specs.declared.results.EncoderResult.{EncoderResult}
 use Rattle.legacy_base.specs.declared.results.EncoderResult.TheVariants.{InputEmpty, OutputFull, Unmappable}
-use Rattle.legacy_base.specs.Texts.{unit_scalars}
+use Rattle.legacy_text.specs.Texts.{unit_scalars}
 use Rattle.legacy_base.specs.Encoders.{EncoderState, encoded, end_bytes}
 use Rattle.legacy_base.specs.EncoderCalls.{EncoderCall, reported}
 use Rattle.legacy_codecs.specs.Pieces.{joined, AreAmple, RunPlace, is_none, place_before, place_behind, ends_run}

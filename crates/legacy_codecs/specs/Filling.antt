@@ -2,7 +2,7 @@
 use Rattle.std.specs.Prelude.{◌≡◌, ◌≢◌, ℕ, ◌+◌, ◌-◌, ◌≤◌, List, length, Bool, IsTrue, Some}
 use Rattle.legacy_base.specs.declared.results.DecoderResult.{DecoderResult}
 use Rattle.legacy_base.specs.declared.results.DecoderResult.TheVariants.{OutputFull}
-use Rattle.legacy_base.specs.EncodingForm.{total_unit_count}
+use Rattle.legacy_text.specs.EncodingForm.{total_unit_count}
 use Rattle.legacy_base.specs.States.{DecoderState}
 use Rattle.legacy_base.specs.Lengths.{LengthQuery, query_form, query_answer, answer_units}
 use Rattle.legacy_base.specs.Calls.{DecoderCall}

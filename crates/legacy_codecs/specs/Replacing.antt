@@ -4,7 +4,7 @@ use Rattle.std.specs.Char.{IsScalar}
 use Rattle.std.specs.List.{list_any}
 use Rattle.legacy_base.specs.declared.results.DecodeEvent.{DecodeEvent}
 use Rattle.legacy_base.specs.declared.results.DecodeEvent.TheVariants.{Scalar, Bad}
-use Rattle.legacy_base.specs.EncodingForm.{EncodingForm, Utf8, Utf16, all_code_units}
+use Rattle.legacy_text.specs.EncodingForm.{EncodingForm, Utf8, Utf16, all_code_units}
 use Rattle.legacy_base.specs.Grammar.{events_of}
 use Rattle.legacy_base.specs.States.{DecoderState, rests}
 use Rattle.legacy_base.specs.Acts.{LacksRoom}

@@ -1,7 +1,7 @@
 -- What an output that keeps the scalars themselves holds.
 use Rattle.std.specs.Prelude.{ℕ, List, take}
 use Rattle.std.specs.Borrow.{GName}
-use Rattle.legacy_base.specs.EncodingForm.{EncodingForm, all_code_units}
+use Rattle.legacy_text.specs.EncodingForm.{EncodingForm, all_code_units}
 use Rattle.legacy_codecs.specs.declared.scalars.ScalarBuffer.{ScalarBuffer}
 use Rattle.legacy_codecs.specs.declared.scalars.OutputForm.{Ghosts}
 

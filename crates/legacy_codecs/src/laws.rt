@@ -1,6 +1,6 @@
 //! Laws of many calls together, each as the contract of a function that does nothing.
 ghost use Rattle.legacy_base.specs.Lengths.{to_utf16, to_utf8, to_utf8_without_replacement};
-ghost use Rattle.legacy_base.specs.EncodingForm.{Utf8, Utf16};
+ghost use Rattle.legacy_text.specs.EncodingForm.{Utf8, Utf16};
 ghost use Rattle.legacy_base.specs.RoundTrips.{RoundTrips, EscapesAreInPlace, ReencodesToTheSame, EncodesWellFormed, EscapesStayApart, ReencodesAnyText};
 ghost use Rattle.legacy_codecs.specs.Filling.{QueriedLengthSuffices};
 ghost use Rattle.legacy_codecs.specs.EncodeFilling.{EncodeQueriedLengthSuffices};

@@ -1,8 +1,8 @@
 //! Calls of an encoder that write a numeric character reference for each scalar that has no bytes.
 ghost use Rattle.std.specs.Prelude.{◌≡◌, ℕ, ◌+◌, ◌-◌, ◌^◌, ◌<◌, ◌≤◌, List, ◌++◌, length, drop, take, decimal};
 ghost use Rattle.std.specs.Str.{chars, IsCharBoundary};
-ghost use Rattle.legacy_base.specs.EncodingForm.{total_unit_count};
-ghost use Rattle.legacy_base.specs.Texts.{unit_scalars, IsUnitBoundary};
+ghost use Rattle.legacy_text.specs.EncodingForm.{total_unit_count};
+ghost use Rattle.legacy_text.specs.Texts.{unit_scalars, IsUnitBoundary};
 ghost use Rattle.legacy_base.specs.EncoderCalls.{EncoderCall};
 ghost use Rattle.legacy_codecs.specs.References.{reference, ReplacingEncoderCall};
 

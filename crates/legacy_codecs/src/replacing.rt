@@ -1,6 +1,6 @@
 //! Calls of a decoder that write U+FFFD for each malformed sequence.
 ghost use Rattle.std.specs.Prelude.{◌≡◌, ℕ, ◌+◌, ◌≤◌, List, ◌++◌, length, drop, take};
-ghost use Rattle.legacy_base.specs.EncodingForm.{Utf8, Utf16, code_units, unit_count};
+ghost use Rattle.legacy_text.specs.EncodingForm.{Utf8, Utf16, code_units, unit_count};
 ghost use Rattle.legacy_codecs.specs.Replacing.{ReplacingDecoderCall};
 
 use crate::results::CoderResult;

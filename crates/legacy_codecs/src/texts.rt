@@ -1,7 +1,7 @@
 //! Texts in UTF-8 and UTF-16, of which an encoder reads.
 ghost use Rattle.std.specs.Prelude.{◌≡◌, ℕ, List, []};
 ghost use Rattle.std.specs.Str.{chars};
-ghost use Rattle.legacy_base.specs.Texts.{unit_scalars};
+ghost use Rattle.legacy_text.specs.Texts.{unit_scalars};
 
 use crate::run_parts::Piece;
 use legacy_base::{Source, Utf8Source, Utf16Source};

@@ -5,10 +5,10 @@ use Rattle.std.proofs.lemmas.List.{length-map, map-append, take-append-drop, len
 use Rattle.std.proofs.lemmas.List.Elements.{All-append}
 use Rattle.std.proofs.lemmas.Bool.{cases_lt}
 use Rattle.std.specs.Char.{IsScalar}
-use Rattle.legacy_base.specs.declared.destination.Destination.{Ghosts}
+use Rattle.legacy_text.specs.declared.destination.Destination.{Ghosts}
 use Rattle.legacy_base.specs.declared.results.DecodeEvent.{DecodeEvent}
 use Rattle.legacy_base.specs.declared.results.DecodeEvent.TheVariants.{Scalar}
-use Rattle.legacy_base.specs.EncodingForm.{EncodingForm, Utf8, Utf16, code_units, unit_count, all_code_units, total_unit_count, wide_room}
+use Rattle.legacy_text.specs.EncodingForm.{EncodingForm, Utf8, Utf16, code_units, unit_count, all_code_units, total_unit_count, wide_room}
 use Rattle.legacy_base.specs.Events.{shift}
 use Rattle.legacy_base.specs.Grammar.{Grammar, events_of}
 use Rattle.legacy_base.specs.States.{DecoderState, new_state, rests, may_hold}
@@ -18,7 +18,8 @@ use Rattle.legacy_base.specs.Calls.{Progress}
 use Rattle.legacy_base.proofs.GrammarLaws.{rests-none, may_none}
 use Rattle.legacy_base.proofs.Shifts.{shift-scalars}
 use Rattle.legacy_base.proofs.Progress.{after_that}
-use Rattle.legacy_base.proofs.Rooms.{all_code_units-append, total_unit_count-append, lacks_small, full_most, HadRooms-append}
+use Rattle.legacy_text.proofs.CodeUnits.{all_code_units-append, total_unit_count-append}
+use Rattle.legacy_base.proofs.Rooms.{lacks_small, full_most, HadRooms-append}
 use Rattle.legacy_base.proofs.SameUnits.{some_unit}
 use Rattle.legacy_decoder_engine.specs.Ahead.{RunsTo, Runs, ReadsTo}
 use Rattle.legacy_decoder_engine.specs.Moves.{SameRooms}

@@ -10,7 +10,7 @@ use Rattle.std.specs.Char.{IsScalar}
 use Rattle.legacy_base.specs.declared.results.DecodeEvent.TheVariants.{Scalar, Bad}
 use Rattle.legacy_base.specs.declared.results.DecoderResult.{DecoderResult}
 use Rattle.legacy_base.specs.declared.results.DecoderResult.TheVariants.{InputEmpty, OutputFull, Malformed}
-use Rattle.legacy_base.specs.EncodingForm.{EncodingForm, unit_count, total_unit_count}
+use Rattle.legacy_text.specs.EncodingForm.{EncodingForm, unit_count, total_unit_count}
 use Rattle.legacy_base.specs.Events.{shift}
 use Rattle.legacy_base.specs.Grammar.{Grammar, events_of}
 use Rattle.legacy_base.specs.States.{DecoderState, may_hold, rests}
@@ -19,7 +19,8 @@ use Rattle.legacy_base.specs.Lengths.{LengthQuery, query_form, room}
 use Rattle.legacy_base.specs.Calls.{Progress, DecoderCall, IsFault, out_events, reported_events}
 use Rattle.legacy_base.proofs.Shifts.{shift-scalars}
 use Rattle.legacy_base.proofs.Progress.{stay, at_last, behind, after_that}
-use Rattle.legacy_base.proofs.Rooms.{total_unit_count-append, HadRooms-append, HadRooms-none, HadRooms-released, room_needed-release, room_needed-read, room_needed-report, room_needed-none}
+use Rattle.legacy_text.proofs.CodeUnits.{total_unit_count-append}
+use Rattle.legacy_base.proofs.Rooms.{HadRooms-append, HadRooms-none, HadRooms-released, room_needed-release, room_needed-read, room_needed-report, room_needed-none}
 use Rattle.legacy_base.proofs.Enough.{room-answer}
 use Rattle.legacy_decoder_engine.specs.declared.moves.Fed.{Fed}
 use Rattle.legacy_decoder_engine.specs.declared.moves.Fed.TheVariants.{Nothing, One, Two, Fault}

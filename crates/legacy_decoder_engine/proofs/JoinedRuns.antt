@@ -3,8 +3,8 @@ use Rattle.std.proofs.Common.{◌≡◌, ◌∙◌, ℕ, ◌+◌, ◌-◌, ◌�
 use Rattle.std.proofs.lemmas.Bool.{cases_lt}
 use Rattle.std.proofs.lemmas.List.{take-take, length-take, length-drop}
 use Rattle.std.proofs.Math.Seq.{take-add}
-use Rattle.legacy_base.specs.declared.destination.Destination.{Ghosts}
-use Rattle.legacy_base.specs.EncodingForm.{total_unit_count}
+use Rattle.legacy_text.specs.declared.destination.Destination.{Ghosts}
+use Rattle.legacy_text.specs.EncodingForm.{total_unit_count}
 use Rattle.legacy_base.specs.Grammar.{Grammar}
 use Rattle.legacy_base.specs.States.{DecoderState, new_state}
 use Rattle.legacy_decoder_engine.specs.Ahead.{IsIdle, Writes, WritesTo, ReadsTo, ReadsAhead}

@@ -2,9 +2,9 @@
 use Rattle.std.proofs.Common.{◌≡◌, ◌≢◌, ◌∙◌, ℕ, List, [], ◌∷◌, Bool, Option, Some, None, is_some, ◌&&◌, true, false, cond, refl}
 use Rattle.std.proofs.lemmas.List.Elements.{All-nil, All-cons}
 use Rattle.std.specs.Char.{IsScalar, is_ascii}
-use Rattle.legacy_base.specs.Unicode.{IsByte, AreBytes}
-use Rattle.legacy_base.specs.AcceptedTables.{AcceptedIndexes}
-use Rattle.legacy_base.specs.Indexes.{FlatIndexes}
+use Rattle.legacy_tables.specs.Unicode.{IsByte, AreBytes}
+use Rattle.legacy_tables.specs.AcceptedTables.{AcceptedIndexes}
+use Rattle.legacy_tables.specs.Indexes.{FlatIndexes}
 use Rattle.legacy_base.specs.Grammar.{Grammar, events_of}
 use Rattle.legacy_base.specs.States.{may_hold, single_lead_may_hold, is_empty}
 use Rattle.legacy_base.specs.Calls.{IsLoneFault}

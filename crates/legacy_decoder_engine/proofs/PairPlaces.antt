@@ -3,7 +3,7 @@ use Rattle.std.proofs.Common.{◌≡◌, ◌∙◌, ℕ, ◌+◌, ◌≤◌, ◌
 use Rattle.std.proofs.lemmas.List.{get_or_past}
 use Rattle.std.proofs.lemmas.List.FromFn.{get_or-map-range_with_len}
 use Rattle.std.specs.Prelude.{option_to_list}
-use Rattle.legacy_base.specs.Indexes.{idx, entry_scalar}
+use Rattle.legacy_tables.specs.Indexes.{idx, entry_scalar}
 use Rattle.legacy_decoder_engine.specs.Places.{IsTableOf, IsPointer, lead_place}
 use Rattle.legacy_decoder_engine.specs.declared.places.TheConstants.{ROWS_OF_190}
 

@@ -1,8 +1,8 @@
 -- What is shown of the plain codecs of leads and trails, once for all of them.
 use Rattle.std.proofs.Common.{◌≡◌, ℕ, ◌≤◌, ◌<◌, List, [], ◌∷◌, length, Bool, true, false, cond, Option, Some, None, refl, option_to_list, arith}
-use Rattle.legacy_base.specs.declared.tables.IndexName.{IndexName}
-use Rattle.legacy_base.specs.Indexes.{idx}
-use Rattle.legacy_base.specs.Tables.{index_list, is_narrow_index}
+use Rattle.legacy_tables.specs.declared.tables.IndexName.{IndexName}
+use Rattle.legacy_tables.specs.Indexes.{idx}
+use Rattle.legacy_tables.specs.Tables.{index_list, is_narrow_index}
 use Rattle.legacy_base.specs.LeadForms.{pointer_scalars, pair_scalars, lead_pair, lead_front}
 use Rattle.legacy_base.specs.Grammar.{plain}
 use Rattle.legacy_base.specs.Lengths.{to_utf16}
@@ -10,7 +10,7 @@ use Rattle.legacy_decoder_engine.specs.LeadMachines.{lead_first}
 use Rattle.legacy_decoder_engine.specs.Costs.{units, IsWidth, IsNarrowIndex}
 use Rattle.legacy_decoder_engine.specs.Settling.{IsOneOrMarked}
 use Rattle.legacy_decoder_engine.specs.LeadCodecs.{IsPastAscii, IsLeadCodec}
-use Rattle.legacy_base.proofs.Accepted.{narrow_index}
+use Rattle.legacy_tables.proofs.Accepted.{narrow_index}
 use Rattle.legacy_decoder_engine.proofs.Widths.{narrow_idx_units, idx_below}
 use Rattle.legacy_decoder_engine.specs.Places.{IsPointer}
 use Rattle.legacy_decoder_engine.proofs.PairPlaces.{none_past}

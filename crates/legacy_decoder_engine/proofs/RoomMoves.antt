@@ -1,12 +1,12 @@
 -- From what a decoder's steps write to what its rooms promise.
 use Rattle.std.proofs.Common.{◌≡◌, ℕ, ◌+◌, ◌*◌, ◌<◌, ◌≤◌, List, [], ◌∷◌, length, Bool, true, false, cond, Some, refl, sym, ◌∙◌, ◌&&◌, mul-add, arith}
 use Rattle.std.proofs.lemmas.Bool.{false≢true}
-use Rattle.legacy_base.specs.Unicode.{IsByte, AreBytes}
+use Rattle.legacy_tables.specs.Unicode.{IsByte, AreBytes}
 use Rattle.legacy_base.specs.Grammar.{Grammar, profile}
 use Rattle.legacy_base.specs.States.{DecoderState, may_hold, rests, is_empty}
 use Rattle.legacy_base.specs.Acts.{takes, writes, reports, act_at_end, act_at_rest, act_room, room_of_act, need, has_reported, has_short_ascii, full_room, reading_room}
 use Rattle.legacy_base.specs.Acts.{full_room_in, release_room_in}
-use Rattle.legacy_base.specs.EncodingForm.{unit_count, bmp_room, wide_room}
+use Rattle.legacy_text.specs.EncodingForm.{unit_count, bmp_room, wide_room}
 use Rattle.legacy_base.specs.Lengths.{LengthQuery, to_utf16, to_utf8, to_utf8_without_replacement, query_form, replacement_units, room}
 use Rattle.legacy_base.specs.Profile.{Rooms, narrow_acts, wide_reads, wide_acts}
 use Rattle.legacy_base.proofs.Enough.{room-rises}

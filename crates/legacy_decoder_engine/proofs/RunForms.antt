@@ -3,8 +3,8 @@ use Rattle.std.proofs.Common.{rules, ◌≡◌, ℕ, ◌+◌, ◌≤◌, ◌<◌
 use Rattle.std.proofs.lemmas.List.Elements.{All-nil, All-cons}
 use Rattle.std.proofs.lemmas.Bool.Decides.{nat_tests}
 use Rattle.std.specs.Char.{IsScalar, is_ascii}
-use Rattle.legacy_base.specs.Unicode.{IsByte, AreBytes}
-use Rattle.legacy_base.specs.EncodingForm.{unit_count, total_unit_count}
+use Rattle.legacy_tables.specs.Unicode.{IsByte, AreBytes}
+use Rattle.legacy_text.specs.EncodingForm.{unit_count, total_unit_count}
 use Rattle.legacy_base.specs.Fronts.{reads}
 use Rattle.legacy_base.specs.Grammar.{Grammar}
 use Rattle.legacy_base.specs.States.{rests, may_hold}

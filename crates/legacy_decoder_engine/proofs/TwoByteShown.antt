@@ -4,8 +4,8 @@ use Rattle.std.proofs.lemmas.Bool.{false≢true}
 use Rattle.std.specs.Char.{is_ascii}
 use Rattle.legacy_base.specs.Fronts.{Front}
 use Rattle.legacy_base.specs.Grammar.{Grammar}
-use Rattle.legacy_base.specs.Indexes.{FlatIndexes}
-use Rattle.legacy_base.specs.TableChecks.{AreAccepted}
+use Rattle.legacy_tables.specs.Indexes.{FlatIndexes}
+use Rattle.legacy_tables.specs.TableChecks.{AreAccepted}
 use Rattle.legacy_base.specs.States.{single_lead_may_hold, may_hold}
 use Rattle.legacy_base.specs.Acts.{act_room, takes, full_room, full_room_in, release_room_in, has_short_ascii, has_reported}
 use Rattle.legacy_base.specs.Lengths.{LengthQuery, query_form, room}

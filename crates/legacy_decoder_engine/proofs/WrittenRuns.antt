@@ -6,17 +6,17 @@ use Rattle.std.proofs.lemmas.List.{take_more, take_all, length-drop}
 use Rattle.std.proofs.lemmas.List.Elements.{All-append, All-nil}
 use Rattle.std.proofs.Math.Seq.{take-add}
 use Rattle.std.specs.Char.{IsScalar}
-use Rattle.legacy_base.specs.declared.destination.Destination.{Ghosts}
+use Rattle.legacy_text.specs.declared.destination.Destination.{Ghosts}
 use Rattle.legacy_base.specs.declared.results.DecodeEvent.TheVariants.{Scalar}
-use Rattle.legacy_base.specs.EncodingForm.{EncodingForm, Utf8, Utf16, code_units, all_code_units, bmp_room}
+use Rattle.legacy_text.specs.EncodingForm.{EncodingForm, Utf8, Utf16, code_units, all_code_units, bmp_room}
 use Rattle.legacy_base.specs.Events.{shift}
 use Rattle.legacy_base.specs.Lengths.{query_form}
 use Rattle.legacy_base.specs.States.{DecoderState}
 use Rattle.legacy_base.specs.Grammar.{Grammar, events_of}
 use Rattle.legacy_base.proofs.Shifts.{shift-append, shift-zero, shift-shift, shift-scalars}
-use Rattle.legacy_base.proofs.Rooms.{all_code_units-append, total_unit_count-append}
+use Rattle.legacy_text.proofs.CodeUnits.{all_code_units-append, total_unit_count-append}
 use Rattle.legacy_base.proofs.SameUnits.{some_unit}
-use Rattle.legacy_base.proofs.CodeUnits.{encode_1, utf16_1, length-code_units-bmp, length-code_units-wide}
+use Rattle.legacy_text.proofs.CodeUnits.{encode_1, utf16_1, length-code_units-bmp, length-code_units-wide}
 use Rattle.legacy_decoder_engine.specs.Ahead.{HasAscii, RunsTo, Runs, WritesTo, Writes, ReadsAhead}
 use Rattle.legacy_decoder_engine.proofs.CallUnderWay.{same_rooms}
 

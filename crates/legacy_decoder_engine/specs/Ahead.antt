@@ -1,9 +1,9 @@
 -- What the loop for runs of common forms reads and writes.
 use Rattle.std.specs.Prelude.{◌≡◌, ℕ, ◌+◌, ◌<◌, ◌≤◌, List, [], ◌∷◌, ◌++◌, length, map, take, All}
 use Rattle.std.specs.Char.{IsScalar}
-use Rattle.legacy_base.specs.declared.destination.Destination.{Ghosts}
+use Rattle.legacy_text.specs.declared.destination.Destination.{Ghosts}
 use Rattle.legacy_base.specs.declared.results.DecodeEvent.TheVariants.{Scalar}
-use Rattle.legacy_base.specs.EncodingForm.{all_code_units, total_unit_count}
+use Rattle.legacy_text.specs.EncodingForm.{all_code_units, total_unit_count}
 use Rattle.legacy_base.specs.Events.{shift}
 use Rattle.legacy_base.specs.Grammar.{Grammar, events_of}
 use Rattle.legacy_base.specs.States.{DecoderState, new_state}

@@ -1,6 +1,6 @@
 -- How many units of output a move of a decoder writes, and what that must be of its room.
 use Rattle.std.specs.Prelude.{ℕ, ◌+◌, ◌*◌, ◌<◌, ◌≤◌, ◌≡◌, List, [], ◌∷◌, true, false, drop, length, All, Option, Some, None}
-use Rattle.legacy_base.specs.Unicode.{IsByte, AreBytes}
+use Rattle.legacy_tables.specs.Unicode.{IsByte, AreBytes}
 use Rattle.legacy_base.specs.Fronts.{reads, malformed}
 use Rattle.legacy_base.specs.Grammar.{Grammar}
 use Rattle.legacy_base.specs.States.{DecoderState, state_of, may_hold, rests}

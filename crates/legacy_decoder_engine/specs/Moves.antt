@@ -5,7 +5,7 @@ use Rattle.legacy_base.specs.declared.results.DecodeEvent.{DecodeEvent}
 use Rattle.legacy_base.specs.declared.results.DecodeEvent.TheVariants.{Scalar, Bad}
 use Rattle.legacy_base.specs.declared.results.DecoderResult.{DecoderResult}
 use Rattle.legacy_base.specs.declared.results.DecoderResult.TheVariants.{InputEmpty, OutputFull, Malformed}
-use Rattle.legacy_base.specs.EncodingForm.{EncodingForm, unit_count, total_unit_count, bmp_room, wide_room}
+use Rattle.legacy_text.specs.EncodingForm.{EncodingForm, unit_count, total_unit_count, bmp_room, wide_room}
 use Rattle.legacy_base.specs.Grammar.{Grammar, events_of}
 use Rattle.legacy_base.specs.States.{DecoderState, may_hold, rests}
 use Rattle.legacy_base.specs.Acts as acts

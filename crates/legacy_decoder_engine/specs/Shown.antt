@@ -1,7 +1,7 @@
 -- What is shown of a codec's machine, all in one. The proofs for all codecs take this, and know of no codec.
 use Rattle.std.specs.Prelude.{◌≡◌, ℕ, List, [], ◌∷◌, true, false, Option, Some, None, drop, ◌⊎◌}
 use Rattle.std.specs.Char.{is_ascii}
-use Rattle.legacy_base.specs.EncodingForm.{unit_count, bmp_room, wide_room}
+use Rattle.legacy_text.specs.EncodingForm.{unit_count, bmp_room, wide_room}
 use Rattle.legacy_base.specs.Fronts.{reads}
 use Rattle.legacy_base.specs.Grammar.{Grammar}
 use Rattle.legacy_base.specs.States.{may_hold, rests}

@@ -1,7 +1,7 @@
 //! The one decoder of the codecs whose forms have one byte, or a lead and a trail.
 ghost use Rattle.std.specs.Prelude.{◌≡◌, ◌≤◌, ℕ, List, [], ◌∷◌, Bool, true, length};
-ghost use Rattle.legacy_base.specs.Indexes.{FlatIndexes};
-ghost use Rattle.legacy_base.specs.EncodingForm.{EncodingForm};
+ghost use Rattle.legacy_tables.specs.Indexes.{FlatIndexes};
+ghost use Rattle.legacy_text.specs.EncodingForm.{EncodingForm};
 ghost use Rattle.legacy_base.specs.Grammar.{Grammar};
 ghost use Rattle.legacy_base.specs.States.{is_neutral, new_state};
 ghost use Rattle.legacy_base.specs.Acts.{full_room_in, release_room_in};

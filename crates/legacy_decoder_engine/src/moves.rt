@@ -1,6 +1,6 @@
 //! The small moves that each decoder makes, and the runs that it reads ahead of them.
 ghost use Rattle.std.specs.Prelude.{◌≡◌, ◌≢◌, ◌≤◌, [], true, false, MatchOption};
-ghost use Rattle.legacy_base.specs.EncodingForm.{EncodingForm};
+ghost use Rattle.legacy_text.specs.EncodingForm.{EncodingForm};
 ghost use Rattle.legacy_base.specs.Grammar.{events_of};
 ghost use Rattle.legacy_base.specs.States.{DecoderState, may_hold, rests};
 ghost use Rattle.legacy_base.specs.Calls.{IsLoneFault};

@@ -2,8 +2,8 @@
 //! their pointer in one index, and there are no other forms.
 ghost use Rattle.std.specs.Prelude.{◌≡◌, ℕ, [], Bool, true, Option, None, option_to_list, IfSome, if◌then◌else◌, ⊤};
 ghost use Rattle.std.specs.Char.{IsScalar};
-ghost use Rattle.legacy_base.specs.declared.tables.IndexName.{IndexName};
-ghost use Rattle.legacy_base.specs.Tables.{index_list, is_narrow_index};
+ghost use Rattle.legacy_tables.specs.declared.tables.IndexName.{IndexName};
+ghost use Rattle.legacy_tables.specs.Tables.{index_list, is_narrow_index};
 ghost use Rattle.legacy_base.specs.LeadForms.{pair_scalars};
 ghost use Rattle.legacy_base.specs.Grammar.{plain};
 ghost use Rattle.legacy_decoder_engine.specs.LeadCodecs.{IsLeadCodec, IsLeadOf};

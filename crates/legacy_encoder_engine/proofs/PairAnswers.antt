@@ -1,6 +1,6 @@
 -- What the length queries of the codecs of ASCII and pairs answer.
 use Rattle.std.proofs.Common.{◌≡◌, ℕ, ap}
-use Rattle.legacy_base.specs.EncodingForm.{Utf8, Utf16}
+use Rattle.legacy_text.specs.EncodingForm.{Utf8, Utf16}
 use Rattle.legacy_base.specs.EncoderProfile.{EncoderProfile}
 use Rattle.legacy_base.specs.Encoders.{Codec, new_encoder, encoder_answer}
 use Rattle.legacy_base.specs.Lengths.{number, ◌⊕◌, ◌⊗◌, answer}

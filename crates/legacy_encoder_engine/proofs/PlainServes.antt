@@ -5,13 +5,13 @@ use Rattle.std.proofs.lemmas.Bool.{cases_lt, lt-ltb, le-ltb}
 use Rattle.std.proofs.lemmas.List.{take-append-drop, length-take-le, get_or-take}
 use Rattle.std.specs.Option.{option_or}
 use Rattle.legacy_base.specs.declared.results.EncodeEvent.TheVariants as events
-use Rattle.legacy_base.specs.EncodingForm.{EncodingForm, Utf8, Utf16, unit_count}
+use Rattle.legacy_text.specs.EncodingForm.{EncodingForm, Utf8, Utf16, unit_count}
 use Rattle.legacy_base.specs.EncodeEvents.{code_events, code_length, plain_events}
 use Rattle.legacy_base.specs.EncoderProfile.{EncoderMode, in_ascii, in_roman, in_two_byte, EncoderProfile, plain_encoder}
 use Rattle.legacy_base.specs.Encoders.{Codec, encoder_profile, EncoderState, new_encoder, code, encoded, is_pending, scalar_room}
 use Rattle.legacy_base.specs.Profile.{is_empty}
 use Rattle.legacy_base.specs.Lengths.{Formula, number, value}
-use Rattle.legacy_base.proofs.CodeUnits.{encode_2, encode_3, encode_4}
+use Rattle.legacy_text.proofs.CodeUnits.{encode_2, encode_3, encode_4}
 use Rattle.legacy_base.proofs.SameUnits.{some_unit}
 use Rattle.legacy_encoder_engine.specs.declared.moves.EncoderMove.{EncoderMove}
 use Rattle.legacy_encoder_engine.specs.declared.moves.EncoderMove.TheVariants.{One, Two, Four, Escape, Unmappable}
@@ -19,7 +19,7 @@ use Rattle.legacy_encoder_engine.specs.Moves.{differs, Moves, IsCode, wants_esca
 use Rattle.legacy_encoder_engine.specs.Serves.{mode_room, Serves}
 use Rattle.legacy_encoder_engine.specs.UnderWay.{HasAscii, KeepsOn}
 use Rattle.legacy_encoder_engine.proofs.CallUnderWay.{keeps_none, keeps_then, keeps_move}
-use Rattle.legacy_base.specs.UnitCodes.{WritesCodes}
+use Rattle.legacy_text.specs.UnitCodes.{WritesCodes}
 use Rattle.legacy_encoder_engine.specs.PlainCodecs.{HasPlainLengths, IsPlainCodec, HasByte}
 
 differs-same : (m : EncoderMode) → differs m m ≡ false

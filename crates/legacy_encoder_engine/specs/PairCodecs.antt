@@ -1,7 +1,7 @@
 -- What the one encoder of the codecs of ASCII and pairs asks of each.
 use Rattle.std.proofs.Common.{◌≡◌, ℕ, ◌<◌, ◌≤◌, List, [], ◌∷◌, Option, Some}
-use Rattle.legacy_base.specs.Indexes.{FlatIndexes}
-use Rattle.legacy_base.specs.AcceptedTables.{AcceptedIndexes}
+use Rattle.legacy_tables.specs.Indexes.{FlatIndexes}
+use Rattle.legacy_tables.specs.AcceptedTables.{AcceptedIndexes}
 use Rattle.legacy_base.specs.EncodeEvents.{code_length}
 use Rattle.legacy_base.specs.EncoderProfile.{plain_encoder}
 use Rattle.legacy_base.specs.Encoders.{Codec, EncoderState, encoder_profile, new_encoder}

@@ -1,6 +1,6 @@
 -- What the loop asks of an encoder's profile: its rooms and its length formulas serve for its scalars.
 use Rattle.std.specs.Prelude.{◌≡◌, ℕ, ◌+◌, ◌-◌, ◌≤◌, [], length, Bool, true, false, not}
-use Rattle.legacy_base.specs.EncodingForm.{EncodingForm, unit_count}
+use Rattle.legacy_text.specs.EncodingForm.{EncodingForm, unit_count}
 use Rattle.legacy_base.specs.EncodeEvents.{code_length}
 use Rattle.legacy_base.specs.EncoderProfile.{EncoderMode, EncoderProfile}
 use Rattle.legacy_base.specs.Lengths.{number, value}

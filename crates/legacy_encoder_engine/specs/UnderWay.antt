@@ -1,7 +1,7 @@
 -- A call of an encoder that is under way.
 use Rattle.std.specs.Prelude.{◌≡◌, ℕ, ◌+◌, ◌<◌, ◌≤◌, List, [], ◌∷◌, ◌++◌, length, map, take, slice_index, Bool, false, ◌⊎◌}
 use Rattle.legacy_base.specs.declared.results.EncodeEvent.TheVariants.{Byte}
-use Rattle.legacy_base.specs.EncodingForm.{EncodingForm, total_unit_count}
+use Rattle.legacy_text.specs.EncodingForm.{EncodingForm, total_unit_count}
 use Rattle.legacy_base.specs.EncodeEvents.{code_length}
 use Rattle.legacy_base.specs.Encoders.{EncoderState, code, encoded, scalar_room, encoder_room}
 use Rattle.legacy_base.specs.EncoderCalls.{EncoderLacksRoom, bytes_before}

@@ -1,6 +1,6 @@
 //! The one loop of all encoders, over the small moves that each encoder makes.
 ghost use Rattle.std.specs.Prelude.{◌≡◌, ◌+◌, ◌<◌, ◌≤◌, [], ◌∷◌, ◌++◌, length, take};
-ghost use Rattle.legacy_base.specs.EncodingForm.{total_unit_count};
+ghost use Rattle.legacy_text.specs.EncodingForm.{total_unit_count};
 ghost use Rattle.legacy_base.specs.EncoderCalls.{EncoderCall};
 ghost use Rattle.legacy_encoder_engine.specs.Moves.{move_bytes};
 

@@ -1,6 +1,6 @@
 //! The small moves that each encoder makes, and the runs that it reads ahead of them.
 ghost use Rattle.std.specs.Prelude.{◌≡◌, ◌+◌, ◌≤◌, length, take, true};
-ghost use Rattle.legacy_base.specs.EncodingForm.{total_unit_count};
+ghost use Rattle.legacy_text.specs.EncodingForm.{total_unit_count};
 ghost use Rattle.legacy_base.specs.Encoders.{EncoderState, encoder_profile, is_pending, scalar_room};
 ghost use Rattle.legacy_encoder_engine.specs.Moves.{Moves, Finishes};
 ghost use Rattle.legacy_encoder_engine.specs.Serves.{Serves};

@@ -1,6 +1,6 @@
 //! The one encoder of the codecs of ASCII and pairs: no code has more than two bytes.
 ghost use Rattle.std.specs.Prelude.{◌≡◌, [], ◌∷◌, Some, IfSome};
-ghost use Rattle.legacy_base.specs.Indexes.{FlatIndexes};
+ghost use Rattle.legacy_tables.specs.Indexes.{FlatIndexes};
 ghost use Rattle.legacy_base.specs.Encoders.{Codec, encoder_profile, new_encoder};
 ghost use Rattle.legacy_base.specs.Lengths.{answer, number, ◌⊕◌, ◌⊗◌};
 ghost use Rattle.legacy_encoder_engine.specs.Moves.{IsCode};

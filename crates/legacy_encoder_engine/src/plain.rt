@@ -1,6 +1,6 @@
 //! The one encoder of the codecs without modes: each `PlainCodes` makes the moves of its codes.
 ghost use Rattle.std.specs.Prelude.{◌≡◌, ◌+◌, ◌≤◌, length, take};
-ghost use Rattle.legacy_base.specs.EncodingForm.{total_unit_count};
+ghost use Rattle.legacy_text.specs.EncodingForm.{total_unit_count};
 ghost use Rattle.legacy_base.specs.Encoders.{new_encoder};
 ghost use Rattle.legacy_encoder_engine.specs.UnderWay.{KeepsOn};
 

@@ -1,6 +1,6 @@
 //! The codecs without modes: the code of each scalar stands by itself.
 ghost use Rattle.std.specs.Prelude.{◌≡◌, ℕ, [], ◌∷◌, true, Some, IfSome};
-ghost use Rattle.legacy_base.specs.UnitCodes.{IsNoSurrogate};
+ghost use Rattle.legacy_text.specs.UnitCodes.{IsNoSurrogate};
 ghost use Rattle.legacy_base.specs.Encoders.{Codec, encoder_profile};
 ghost use Rattle.legacy_encoder_engine.specs.Moves.{IsCode};
 ghost use Rattle.legacy_encoder_engine.specs.PlainCodecs.{IsPlainCodec, HasByte};

@@ -1,7 +1,7 @@
 //! The loops that read ahead of the moves, for codecs without modes: ASCII by blocks, and scalars one after
 //! another. All that is rare is left to the moves: scalars that have no bytes, and small outputs.
 ghost use Rattle.std.specs.Prelude.{◌≡◌, ℕ, ◌+◌, ◌<◌, ◌≤◌, [], true, false, length, take, MatchOption};
-ghost use Rattle.legacy_base.specs.EncodingForm.{total_unit_count};
+ghost use Rattle.legacy_text.specs.EncodingForm.{total_unit_count};
 ghost use Rattle.legacy_base.specs.Encoders.{new_encoder, scalar_room};
 ghost use Rattle.legacy_encoder_engine.specs.Moves.{is_escape, move_report};
 ghost use Rattle.legacy_encoder_engine.specs.UnderWay.{KeepsOn, PutsCode};

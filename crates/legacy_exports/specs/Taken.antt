@@ -1,11 +1,11 @@
 -- What of a caller's indexes is taken.
 use Rattle.std.specs.Prelude.{◌≡◌, ◌≤◌, ℕ, List, Bool, length, map, None, true, false}
-use Rattle.legacy_base.specs.Indexes.{FlatIndexes}
-use Rattle.legacy_base.specs.AcceptedTables.{flat_lists}
-use Rattle.legacy_base.specs.declared.tables.packed.Packed.{Packed}
-use Rattle.legacy_base.specs.declared.tables.private_use.TheConstants.{GB18030_2022_PUA}
-use Rattle.legacy_base.specs.Packed.{packed_fault, ArePackedTables}
-use Rattle.legacy_base.specs.TableChecks.{AreAccepted, IsAcceptedTable}
+use Rattle.legacy_tables.specs.Indexes.{FlatIndexes}
+use Rattle.legacy_tables.specs.AcceptedTables.{flat_lists}
+use Rattle.legacy_tables.specs.declared.tables.packed.Packed.{Packed}
+use Rattle.legacy_tables.specs.declared.tables.private_use.TheConstants.{GB18030_2022_PUA}
+use Rattle.legacy_tables.specs.Packed.{packed_fault, ArePackedTables}
+use Rattle.legacy_tables.specs.TableChecks.{AreAccepted, IsAcceptedTable}
 use Rattle.legacy_single_byte.specs.SingleByteRun.{single_byte_run_fault}
 use Rattle.legacy_exports.specs.declared.codec.Codec.{Codec}
 use Rattle.legacy_exports.specs.declared.codec.Codec.TheVariants.{SingleByte}

@@ -1,6 +1,6 @@
 //! The indexes as a caller in another language hands them in.
 ghost use Rattle.std.specs.Prelude.{◌≡◌, ◌≤◌, ◌↔◌, length, map, take, IfSome, IsSome};
-ghost use Rattle.legacy_base.specs.Tables.{flat_indexes};
+ghost use Rattle.legacy_tables.specs.Tables.{flat_indexes};
 ghost use Rattle.legacy_exports.specs.Taken.{indexes_with, packed_with, range_pair};
 ghost use Rattle.legacy_exports.specs.Taken.{AreTablesOf, AreTakenIndexes, IsTakenTable};
 

@@ -7,14 +7,14 @@ use Rattle.std.proofs.lemmas.List.Elements.{All-get_or}
 use Rattle.std.specs.Int.{is_in_range}
 use Rattle.std.specs.List.{All}
 use Rattle.std.specs.Option.{option_or}
-use Rattle.legacy_base.specs.declared.tables.IndexName.TheVariants as names
-use Rattle.legacy_base.specs.declared.tables.packed.Packed.{Packed}
-use Rattle.legacy_base.specs.declared.tables.packed.PackedPart.TheVariants as parts
-use Rattle.legacy_base.specs.declared.tables.TableError.{TableError}
-use Rattle.legacy_base.specs.Indexes.{FlatIndexes}
-use Rattle.legacy_base.specs.TableChecks.{AreAccepted, is_narrow_entry, table_fault}
-use Rattle.legacy_base.specs.Packed.{all_runs_fault, all_orders_fault, runs_fault, pointers_fault}
-use Rattle.legacy_base.proofs.Accepted.{parts, all_entries, euc_kr-below, jis0208-below, jis0212-below, gb18030-below}
+use Rattle.legacy_tables.specs.declared.tables.IndexName.TheVariants as names
+use Rattle.legacy_tables.specs.declared.tables.packed.Packed.{Packed}
+use Rattle.legacy_tables.specs.declared.tables.packed.PackedPart.TheVariants as parts
+use Rattle.legacy_tables.specs.declared.tables.TableError.{TableError}
+use Rattle.legacy_tables.specs.Indexes.{FlatIndexes}
+use Rattle.legacy_tables.specs.TableChecks.{AreAccepted, is_narrow_entry, table_fault}
+use Rattle.legacy_tables.specs.Packed.{all_runs_fault, all_orders_fault, runs_fault, pointers_fault}
+use Rattle.legacy_tables.proofs.Accepted.{parts, all_entries, euc_kr-below, jis0208-below, jis0212-below, gb18030-below}
 use Rattle.legacy_index_files.specs.declared.packing.OwnedPacked.{OwnedPacked}
 use Rattle.legacy_index_files.specs.Packing.{AreBelow, GivesIndex, IsOrderOf, HasParts, HasLongestRuns, IsPackOf}
 

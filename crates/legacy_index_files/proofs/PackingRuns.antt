@@ -5,12 +5,12 @@ use Rattle.std.proofs.lemmas.List.{get_or_past, get_or_append_left, get_or_push,
 use Rattle.std.proofs.Common.{eq-eqb}
 use Rattle.std.specs.Option.{option_or, option_eq}
 use borrow.Author.Tests.{le-leb, lt-ltb}
-use Rattle.legacy_base.specs.declared.tables.packed.Run.{Run}
-use Rattle.legacy_base.specs.Indexes.{idx}
-use Rattle.legacy_base.specs.Runs.{run_end, run_scalar, runs_scalar, is_run_in_order, run_fault_from, run_fault}
-use Rattle.legacy_base.specs.Packed.{differs_at, run_difference}
-use Rattle.legacy_base.proofs.FirstPlaces.{find-none}
-use Rattle.legacy_base.proofs.PackedRuns.{outside-before, outside-behind}
+use Rattle.legacy_tables.specs.declared.tables.packed.Run.{Run}
+use Rattle.legacy_tables.specs.Indexes.{idx}
+use Rattle.legacy_tables.specs.Runs.{run_end, run_scalar, runs_scalar, is_run_in_order, run_fault_from, run_fault}
+use Rattle.legacy_tables.specs.Packed.{differs_at, run_difference}
+use Rattle.legacy_tables.proofs.FirstPlaces.{find-none}
+use Rattle.legacy_tables.proofs.PackedRuns.{outside-before, outside-behind}
 use Rattle.legacy_index_files.specs.Packing.{AreBelow, GivesIndex, AreLongest}
 
 -- ---- one run more

@@ -1,8 +1,8 @@
 -- The owning set of indexes: what it holds of each index, and the flat lists that tables of it have.
 use Rattle.std.specs.Prelude.{◌≡◌, ℕ, List}
-use Rattle.legacy_base.specs.Indexes.{FlatIndexes}
-use Rattle.legacy_base.specs.AcceptedTables.{flat_lists}
-use Rattle.legacy_base.specs.declared.tables.private_use.TheConstants.{GB18030_2022_PUA}
+use Rattle.legacy_tables.specs.Indexes.{FlatIndexes}
+use Rattle.legacy_tables.specs.AcceptedTables.{flat_lists}
+use Rattle.legacy_tables.specs.declared.tables.private_use.TheConstants.{GB18030_2022_PUA}
 use Rattle.legacy_index_files.specs.declared.index_file.FileIndex.{FileIndex}
 use Rattle.legacy_index_files.specs.declared.index_file.FileIndex.TheVariants.{Big5, EucKr, Jis0208, Jis0212, Gb18030, Ranges, SingleByte}
 use Rattle.legacy_index_files.specs.declared.index_file.FileTable.{FileTable}

@@ -13,7 +13,7 @@ mod packing;
 
 pub use encodings::{CodecName, ENCODINGS, Encoding};
 pub use index_file::{FileIndex, FileTable, IndexFileError, read_index};
-pub use legacy_base::GB18030_2022_PUA;
+pub use legacy_tables::GB18030_2022_PUA;
 pub use owned_indexes::OwnedIndexes;
 pub use packed_indexes::PackedIndexes;
 pub use packing::{OwnedPacked, pack};

@@ -1,14 +1,14 @@
 //! An owning set of indexes, made of what index files say, of which tables are borrowed.
 ghost use Rattle.std.specs.Prelude.{◌≡◌, ℕ, ◌↔◌, List, [], Some, Err, IfOk, OnErr, MatchResult};
-ghost use Rattle.legacy_base.specs.Tables.{flat_indexes};
-ghost use Rattle.legacy_base.specs.TableChecks.{table_fault, single_byte_fault};
+ghost use Rattle.legacy_tables.specs.Tables.{flat_indexes};
+ghost use Rattle.legacy_tables.specs.TableChecks.{table_fault, single_byte_fault};
 ghost use Rattle.legacy_index_files.specs.IndexLine.{lines};
 ghost use Rattle.legacy_index_files.specs.IndexTable.{first_malformed, entries_of, IsTableOf};
 ghost use Rattle.legacy_index_files.specs.IndexTexts.{no_text, with_text};
 ghost use Rattle.legacy_index_files.specs.OwnedIndexes.{HoldsTexts, HoldsFile, with_table, owned_lists};
 
 use crate::index_file::{FileIndex, FileTable, IndexFileError, read_index};
-use legacy_base::{GB18030_2022_PUA, Indexes, SingleByteTable, TableError, Tables};
+use legacy_tables::{GB18030_2022_PUA, Indexes, SingleByteTable, TableError, Tables};
 use std::alloc::Global;
 
 /// The values of all indexes, owned. An index that no file was read of is empty, and the single-byte

@@ -1,12 +1,12 @@
 //! An owning set of indexes with what is packed of it, of which packed tables are borrowed.
 ghost use Rattle.std.specs.Prelude.{◌≡◌, Some, MatchResult};
-ghost use Rattle.legacy_base.specs.TableChecks.{table_fault};
+ghost use Rattle.legacy_tables.specs.TableChecks.{table_fault};
 ghost use Rattle.legacy_index_files.specs.OwnedIndexes.{owned_lists};
 ghost use Rattle.legacy_index_files.specs.Packing.{IsPackOf, AreTablesOf};
 
 use crate::owned_indexes::OwnedIndexes;
 use crate::packing::{OwnedPacked, pack};
-use legacy_base::{TableError, Tables};
+use legacy_tables::{TableError, Tables};
 use std::alloc::{AllocFailed, Global};
 
 /// The values of all indexes, owned, and what is packed of them.

@@ -1,18 +1,18 @@
 //! Packs flat indexes: makes their runs, and the orders of the pointers that encoders take.
 ghost use Rattle.std.specs.Prelude.{IfOk};
-ghost use Rattle.legacy_base.specs.Tables.{flat_indexes};
+ghost use Rattle.legacy_tables.specs.Tables.{flat_indexes};
 ghost use Rattle.legacy_index_files.specs.Packing.{HasParts, IsPackOf};
 
 pub(crate) mod entries;
 pub(crate) mod orders;
 pub(crate) mod runs;
 
-use legacy_base::{Indexes, Packed, PackedPart, Run};
+use legacy_tables::{Indexes, Packed, PackedPart, Run};
 use orders::{narrow_order, wide_order};
 use runs::{narrow_runs, wide_runs};
 use std::alloc::{AllocError, Global};
 
-/// Packed indexes with their memory, by the parts of `legacy_base::Packed`. They are not checked:
+/// Packed indexes with their memory, by the parts of `legacy_tables::Packed`. They are not checked:
 /// `Tables::packed_of` does that, which takes what `packed` lends.
 #[derive(Debug, Drop)]
 pub struct OwnedPacked {

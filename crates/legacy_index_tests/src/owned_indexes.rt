@@ -1,5 +1,5 @@
 //! An owning set of indexes, from the text of a file to what tables give.
-use legacy_base::{IndexName, TableError};
+use legacy_tables::{IndexName, TableError};
 use legacy_index_files::{FileIndex, FileTable, IndexFileError, OwnedIndexes, read_index};
 use std::test::Fail;
 

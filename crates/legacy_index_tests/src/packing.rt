@@ -1,4 +1,4 @@
-use legacy_base::{IndexName, Indexes, KeptTables, Packed, Tables};
+use legacy_tables::{IndexName, Indexes, KeptTables, Packed, Tables};
 use legacy_index_files::{FileIndex, OwnedIndexes, PackedIndexes, pack};
 use std::process::Abort;
 use std::test::Fail;

@@ -5,14 +5,15 @@ use Rattle.std.proofs.lemmas.Bool.Decides.{nat_tests}
 use Rattle.std.proofs.lemmas.List.{nil_from_length}
 use Rattle.std.proofs.lemmas.List.Elements.{All-nil, All-cons}
 use Rattle.std.specs.{Int.is_in_range, Char.IsScalar, Char.is_ascii}
-use Rattle.legacy_base.specs.{EucJp.euc_jp_scalars, AcceptedTables.AcceptedIndexes}
-use Rattle.legacy_base.specs.Unicode.{IsByte, AreBytes}
+use Rattle.legacy_base.specs.EucJp.{euc_jp_scalars}
+use Rattle.legacy_tables.specs.AcceptedTables.{AcceptedIndexes}
+use Rattle.legacy_tables.specs.Unicode.{IsByte, AreBytes}
 use Rattle.legacy_base.specs.Fronts.{malformed}
 use Rattle.legacy_base.specs.Calls.{IsLoneFault}
 use Rattle.legacy_decoder_engine.specs.Steps.{finish}
 use Rattle.legacy_base.specs.Grammar.{Grammar, euc_jp, events_of}
 use Rattle.legacy_base.specs.States.{is_euc_jp_lead, euc_jp_may_hold, state_of}
-use Rattle.legacy_base.proofs.Accepted.{jis0208-below, jis0212-below}
+use Rattle.legacy_tables.proofs.Accepted.{jis0208-below, jis0212-below}
 use Rattle.legacy_decoder_engine.specs.Moves.{IsCovered, Feeds, Reports}
 use Rattle.legacy_decoder_engine.specs.{declared.moves.Fed.Fed, Costs.IsNarrowIndex, Feeding.Took, Shown.IsShown, Ahead.Runs, Ahead.HasAscii}
 use Rattle.legacy_decoder_engine.proofs.Feeding as moves

@@ -12,7 +12,7 @@ use Rattle.legacy_base.specs.Iso2022Jp.{is_mode_control, iso_2022_jp_code, iso_2
 use Rattle.legacy_base.proofs.Iso2022JpEncoding.{text_events-here, text_events-escape, text_events-end, text_events-open, mode_for, mode_for-twice, code-short}
 use Rattle.legacy_base.proofs.Iso2022JpEncoding.{at_control, at_special, at_neutral, at_yen, at_overline, at_pair, at_none}
 use Rattle.legacy_encoder_engine.specs.Moves.{Moves, Finishes, IsCode, differs}
-use Rattle.legacy_base.specs.UnitCodes.{WritesCodes}
+use Rattle.legacy_text.specs.UnitCodes.{WritesCodes}
 use Rattle.legacy_encoder_engine.specs.Serves.{Serves}
 use Rattle.legacy_encoder_engine.specs.UnderWay.{KeepsOn}
 use Rattle.legacy_encoder_engine.proofs.CallUnderWay.{keeps_none, keeps_then, keeps_move}

@@ -1,12 +1,12 @@
 -- The lengths of the ISO-2022-JP encoder serve for its scalars, and for the escapes before them.
 use Rattle.std.proofs.Common.{◌≡◌, ◌∙◌, ℕ, ◌+◌, ◌-◌, ◌≤◌, List, [], ◌∷◌, length, refl, sym, arith, Bool, true, false, Some, None, Option, cond, eqb, inl, inr}
 use Rattle.std.proofs.lemmas.Bool.{cases_lt, lt-ltb, ne_eqb}
-use Rattle.legacy_base.specs.EncodingForm.{EncodingForm, Utf8, Utf16, unit_count}
+use Rattle.legacy_text.specs.EncodingForm.{EncodingForm, Utf8, Utf16, unit_count}
 use Rattle.legacy_base.specs.EncodeEvents.{code_length}
 use Rattle.legacy_base.specs.EncoderProfile.{EncoderProfile, EncoderMode, in_ascii, in_roman, in_two_byte}
 use Rattle.legacy_base.specs.Lengths.{number, value}
 use Rattle.legacy_base.specs.Iso2022Jp.{iso_2022_jp_encoder, iso_2022_jp_code, is_mode_control, is_pair, is_two_byte_scalar, keeps_mode, is_roman_scalar, escape_between}
-use Rattle.legacy_base.proofs.CodeUnits.{encode_2, encode_3, encode_4}
+use Rattle.legacy_text.proofs.CodeUnits.{encode_2, encode_3, encode_4}
 use Rattle.legacy_base.proofs.SameUnits.{some_unit}
 use Rattle.legacy_base.proofs.Iso2022JpEncoding.{mode_by, mode_for-by, code-short}
 

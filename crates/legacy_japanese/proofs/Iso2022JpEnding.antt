@@ -3,12 +3,14 @@ use Rattle.std.proofs.Common.{◌≡◌, ◌≢◌, ◌∙◌, ℕ, Bool, true, 
 use Rattle.std.specs.Prelude.{◌==◌, is_some}
 use Rattle.std.proofs.lemmas.Bool.{eqb-true, or_cases}
 use Rattle.legacy_base.specs.declared.results.DecodeEvent.TheVariants.{Scalar}
-use Rattle.legacy_base.specs.{EncodingForm.unit_count, Events.shift, Grammar.iso_2022_jp, Grammar.events_of}
+use Rattle.legacy_text.specs.EncodingForm.{unit_count}
+use Rattle.legacy_base.specs.{Events.shift, Grammar.iso_2022_jp, Grammar.events_of}
 use Rattle.legacy_base.specs.Fronts.{reads, malformed}
 use Rattle.legacy_base.specs.Iso2022Jp.{esc, part_mode}
 use Rattle.legacy_base.specs.Lengths.{query_form, replacement_units}
 use Rattle.legacy_base.specs.States.{is_escape_second, is_two_byte_mode, rests}
-use Rattle.legacy_base.proofs.{CodeUnits.length-code_units-bmp, Shifts.shift-shift, Iso2022JpParts.first_part}
+use Rattle.legacy_text.proofs.CodeUnits.{length-code_units-bmp}
+use Rattle.legacy_base.proofs.{Shifts.shift-shift, Iso2022JpParts.first_part}
 use Rattle.legacy_base.proofs.Iso2022JpFronts.{step_end, step_one, step_no_escape}
 use Rattle.legacy_decoder_engine.specs.Moves.{Releases, Reports}
 use Rattle.legacy_japanese.specs.declared.iso_2022_jp.steps.{Mode.Mode, Mode.TheVariants.TwoByte, Start.Start, Held.Held}

@@ -4,7 +4,7 @@ use Rattle.std.specs.{Char.IsScalar, Prelude.if◌then◌else◌}
 use Rattle.std.proofs.lemmas.List.Elements.{All-cons, All-nil}
 use Rattle.legacy_base.specs.declared.results.DecodeEvent.TheVariants.{Scalar}
 use Rattle.legacy_base.specs.{Acts.HadRoom, States.rests}
-use Rattle.legacy_base.specs.EncodingForm.{EncodingForm, bmp_room, total_unit_count}
+use Rattle.legacy_text.specs.EncodingForm.{EncodingForm, bmp_room, total_unit_count}
 use Rattle.legacy_base.specs.Grammar.{iso_2022_jp, events_of}
 use Rattle.legacy_base.specs.Lengths.{LengthQuery, query_form}
 use Rattle.legacy_decoder_engine.specs.Moves.{fed_scalars, fed_fault, fed_units, unread_byte, FedHolds, Feeds}

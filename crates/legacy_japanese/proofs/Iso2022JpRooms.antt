@@ -2,12 +2,13 @@
 use Rattle.std.proofs.Common.{◌≡◌, ℕ, ◌+◌, ◌*◌, ◌<◌, ◌≤◌, Bool, true, false, cond, Some, List, [], ◌∷◌, length, refl, arith, length-append, ◌&&◌}
 use Rattle.std.specs.Char.{is_ascii}
 use Rattle.legacy_base.specs.declared.results.DecodeEvent.{DecodeEvent}
-use Rattle.legacy_base.specs.EncodingForm.{EncodingForm, bmp_room, wide_room, code_units, total_unit_count}
+use Rattle.legacy_text.specs.EncodingForm.{EncodingForm, bmp_room, wide_room, code_units, total_unit_count}
 use Rattle.legacy_base.specs.Grammar.{iso_2022_jp, events_of}
 use Rattle.legacy_base.specs.States.{rests, is_empty}
 use Rattle.legacy_base.specs.Acts.{writes, act_at_end, act_at_rest, room_of_act}
 use Rattle.legacy_base.specs.Lengths.{LengthQuery, to_utf16, query_form, replacement_units, room}
-use Rattle.legacy_base.proofs.{CodeUnits.length-code_units-bmp, Iso2022JpFronts.step_end}
+use Rattle.legacy_text.proofs.CodeUnits.{length-code_units-bmp}
+use Rattle.legacy_base.proofs.Iso2022JpFronts.{step_end}
 use Rattle.legacy_decoder_engine.specs.Moves.{IsCovered, SameRooms, read_room}
 use Rattle.legacy_japanese.specs.declared.iso_2022_jp.steps.{Mode.Mode, Start.TheVariants.Nothing, Held.Held, Held.TheVariants.Begun}
 use Rattle.legacy_japanese.specs.Iso2022JpMachine.{mode_meaning, bytes_of}

@@ -8,11 +8,11 @@ use Rattle.std.proofs.lemmas.List.Elements.{All-nil, All-cons, All-get_or}
 use Rattle.std.proofs.lemmas.Str.Ascii.{IsAscii-from_all}
 use Rattle.std.specs.Char.{IsScalar, is_ascii}
 use Rattle.std.specs.Int.{is_in_range}
-use Rattle.legacy_base.specs.declared.destination.Destination.{Ghosts}
-use Rattle.legacy_base.specs.EncodingForm.{EncodingForm, code_units, total_unit_count}
+use Rattle.legacy_text.specs.declared.destination.Destination.{Ghosts}
+use Rattle.legacy_text.specs.EncodingForm.{EncodingForm, code_units, total_unit_count}
 use Rattle.legacy_base.specs.Fronts.{reads}
 use Rattle.legacy_base.specs.Grammar.{iso_2022_jp, events_of}
-use Rattle.legacy_base.specs.Indexes.{idx}
+use Rattle.legacy_tables.specs.Indexes.{idx}
 use Rattle.legacy_base.specs.Iso2022Jp.{esc, ascii, two_byte, iso_2022_jp_front}
 use Rattle.legacy_base.specs.Lengths.{query_form}
 use Rattle.legacy_base.proofs.Iso2022JpFronts.{step_one, step_two}

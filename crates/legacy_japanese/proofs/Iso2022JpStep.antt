@@ -5,7 +5,8 @@ use Rattle.std.specs.Prelude.{◌==◌, if◌then◌else◌, option_to_list}
 use Rattle.std.specs.Int.{is_in_range}
 use Rattle.std.proofs.lemmas.Bool.{eqb-true, ne_eqb, leb-true, and_parts, cond_both}
 use Rattle.legacy_base.specs.declared.results.DecodeEvent.TheVariants.{Bad}
-use Rattle.legacy_base.specs.{Events.shift, Indexes.idx, States.is_two_byte_mode}
+use Rattle.legacy_base.specs.{Events.shift, States.is_two_byte_mode}
+use Rattle.legacy_tables.specs.Indexes.{idx}
 use Rattle.legacy_base.specs.Fronts.{Front, reads, malformed, reads_or}
 use Rattle.legacy_base.specs.Iso2022Jp as iso
 use Rattle.legacy_base.specs.Iso2022Jp.{esc, escape_mode, part_mode, iso_2022_jp_front}

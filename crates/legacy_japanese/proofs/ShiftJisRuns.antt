@@ -3,10 +3,11 @@ use Rattle.std.proofs.Common.{◌≡◌, ◌≤◌, ◌<◌, ◌^◌, ◌+◌, �
 use Rattle.std.proofs.lemmas.Bool.{cond_both}
 use Rattle.std.proofs.lemmas.Bool.Decides.{nat_tests}
 use Rattle.std.specs.{Char.IsScalar, Char.is_ascii, Int.is_in_range, Option.option_map_or, Prelude.option_to_list}
-use Rattle.legacy_base.specs.{AcceptedTables.AcceptedIndexes, Grammar.shift_jis, Indexes.idx}
-use Rattle.legacy_base.specs.Unicode.{is_katakana_byte, katakana_of}
+use Rattle.legacy_tables.specs.{AcceptedTables.AcceptedIndexes, Indexes.idx}
+use Rattle.legacy_base.specs.Grammar.{shift_jis}
+use Rattle.legacy_tables.specs.Unicode.{is_katakana_byte, katakana_of}
 use Rattle.legacy_base.specs.ShiftJis.{is_shift_jis_lead, shift_jis_pointer, shift_jis_scalars}
-use Rattle.legacy_base.proofs.Accepted.{jis0208-below}
+use Rattle.legacy_tables.proofs.Accepted.{jis0208-below}
 use Rattle.legacy_decoder_engine.specs.{Ahead.Runs, Costs.IsNarrowIndex}
 use Rattle.legacy_decoder_engine.proofs.{LeadHeld.pair, PairPlaces.found, RunForms.single_runs, Widths.idx_below}
 use Rattle.legacy_japanese.specs.ShiftJisMachine.{shift_jis_first, shift_jis_pair_scalars}

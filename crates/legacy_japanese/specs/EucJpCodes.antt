@@ -3,8 +3,8 @@ use Rattle.std.proofs.Common.{ℕ, ◌≤◌, ◌==◌, List, [], ◌∷◌, Som
 use Rattle.std.proofs.lemmas.Bool.{lt-ltb}
 use Rattle.std.specs.Char.{is_ascii}
 use Rattle.legacy_base.specs.EncodeEvents.{code_length}
-use Rattle.legacy_base.specs.Unicode.{is_katakana_scalar}
-use Rattle.legacy_base.specs.Pointers.{euc_jp_pointer_of, minus_as_hyphen}
+use Rattle.legacy_tables.specs.Unicode.{is_katakana_scalar}
+use Rattle.legacy_tables.specs.Pointers.{euc_jp_pointer_of, minus_as_hyphen}
 use Rattle.legacy_base.specs.EucJp.{euc_jp_code, euc_jp_bytes}
 use Rattle.legacy_base.specs.Encoders.{euc_jp}
 use Rattle.legacy_encoder_engine.specs.PairCodecs.{IsPairCodec}

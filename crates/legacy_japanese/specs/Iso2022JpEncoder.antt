@@ -1,6 +1,6 @@
 -- What the ISO-2022-JP encoder is between two calls, and how it makes its moves.
 use Rattle.std.specs.Prelude.{◌≡◌, ◌<◌, ℕ, List, [], ◌∷◌, Bool, true, false}
-use Rattle.legacy_base.specs.AcceptedTables.{AcceptedIndexes}
+use Rattle.legacy_tables.specs.AcceptedTables.{AcceptedIndexes}
 use Rattle.legacy_base.specs.EncoderProfile.{EncoderMode, in_ascii, in_roman, in_two_byte}
 use Rattle.legacy_base.specs.Encoders.{EncoderState, iso_2022_jp}
 use Rattle.legacy_base.specs.Iso2022Jp.{iso_2022_jp_code, iso_2022_jp_reported, is_mode_control, mode_behind}

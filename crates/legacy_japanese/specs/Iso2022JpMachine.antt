@@ -3,7 +3,7 @@
 use Rattle.std.specs.Prelude.{ℕ, ◌+◌, ◌-◌, ◌*◌, Bool, true, not, ◌==◌, ◌||◌, if◌then◌else◌, Option, Some, None, List, [], ◌∷◌}
 use Rattle.std.specs.Int.{is_in_range}
 use Rattle.std.specs.Char.{is_ascii}
-use Rattle.legacy_base.specs.Indexes.{idx}
+use Rattle.legacy_tables.specs.Indexes.{idx}
 use Rattle.legacy_base.specs.Iso2022Jp as iso
 use Rattle.legacy_base.specs.Iso2022Jp.{esc}
 use Rattle.legacy_base.specs.States.{is_iso_2022_jp_byte, is_two_byte_mode}

@@ -3,8 +3,8 @@ use Rattle.std.proofs.Common.{ℕ, ◌≤◌, ◌==◌, List, [], ◌∷◌, Som
 use Rattle.std.proofs.lemmas.Bool.{lt-ltb}
 use Rattle.std.specs.Char.{is_ascii}
 use Rattle.legacy_base.specs.EncodeEvents.{code_length}
-use Rattle.legacy_base.specs.Unicode.{is_katakana_scalar}
-use Rattle.legacy_base.specs.Pointers.{shift_jis_pointer_of, minus_as_hyphen}
+use Rattle.legacy_tables.specs.Unicode.{is_katakana_scalar}
+use Rattle.legacy_tables.specs.Pointers.{shift_jis_pointer_of, minus_as_hyphen}
 use Rattle.legacy_base.specs.ShiftJis.{shift_jis_code, shift_jis_bytes}
 use Rattle.legacy_base.specs.Encoders.{shift_jis}
 use Rattle.legacy_encoder_engine.specs.PairCodecs.{IsPairCodec}

@@ -3,7 +3,7 @@ use Rattle.std.specs.Prelude.{ℕ, List, [], ◌∷◌, ◌||◌, ◌==◌, if�
 use Rattle.std.specs.Option.{option_map_or}
 use Rattle.std.specs.Char.{is_ascii}
 use Rattle.legacy_base.specs.Fronts.{reads, malformed}
-use Rattle.legacy_base.specs.Unicode.{is_katakana_byte, katakana_of}
+use Rattle.legacy_tables.specs.Unicode.{is_katakana_byte, katakana_of}
 use Rattle.legacy_base.specs.ShiftJis.{is_shift_jis_lead, shift_jis_pointer, shift_jis_scalars}
 use Rattle.legacy_decoder_engine.specs.Steps.{Step, hold, finish}
 

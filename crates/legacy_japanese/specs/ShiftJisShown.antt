@@ -6,8 +6,8 @@ use Rattle.std.specs.Int.{is_in_range}
 use Rattle.std.specs.Option.{option_map_or}
 use Rattle.std.specs.Char.{is_ascii}
 use Rattle.legacy_base.specs.Fronts.{Front, reads, malformed}
-use Rattle.legacy_base.specs.Unicode.{is_katakana_byte, katakana_of}
-use Rattle.legacy_base.specs.Indexes.{idx}
+use Rattle.legacy_tables.specs.Unicode.{is_katakana_byte, katakana_of}
+use Rattle.legacy_tables.specs.Indexes.{idx}
 use Rattle.legacy_base.specs.ShiftJis.{shift_jis_front, shift_jis_pair, is_shift_jis_lead, shift_jis_scalars, shift_jis_pointer}
 use Rattle.legacy_base.specs.Grammar.{shift_jis}
 use Rattle.legacy_base.specs.Lengths.{to_utf16}
@@ -21,7 +21,7 @@ use Rattle.legacy_decoder_engine.proofs.TwoByteMeets.{IsFirst, ascii, other, lea
 use Rattle.legacy_decoder_engine.proofs.TwoByteCosts.{units_test, katakana_below}
 use Rattle.legacy_decoder_engine.proofs.TwoByteShown.{HasTwoByteRooms, lead_codec}
 use Rattle.legacy_decoder_engine.specs.LeadCodecs.{IsLeadCodec}
-use Rattle.legacy_base.proofs.Accepted.{jis0208-below}
+use Rattle.legacy_tables.proofs.Accepted.{jis0208-below}
 
 -- the bytes before those of leads
 no_lead : (b : ℕ) → is_ascii b ≡ true → is_shift_jis_lead b ≡ false

@@ -1,6 +1,6 @@
 //! What stands for a scalar when index jis0208 is searched.
 ghost use Rattle.std.specs.Prelude.{◌≡◌, ◌<◌, ◌≤◌, true};
-ghost use Rattle.legacy_base.specs.Pointers.{minus_as_hyphen};
+ghost use Rattle.legacy_tables.specs.Pointers.{minus_as_hyphen};
 
 /// The full-width hyphen-minus for the minus sign, and any other scalar itself.
 #[inline]

@@ -2,7 +2,7 @@
 use Rattle.std.proofs.Common.{ℕ, ◌≤◌, List, [], ◌∷◌, Some, refl, arith}
 use Rattle.std.proofs.lemmas.Bool.{lt-ltb}
 use Rattle.legacy_base.specs.EncodeEvents.{code_length}
-use Rattle.legacy_base.specs.Pointers.{euc_kr_pointer_of}
+use Rattle.legacy_tables.specs.Pointers.{euc_kr_pointer_of}
 use Rattle.legacy_base.specs.EucKr.{euc_kr_code, euc_kr_bytes}
 use Rattle.legacy_base.specs.Encoders.{euc_kr}
 use Rattle.legacy_encoder_engine.specs.PairCodecs.{IsPairCodec}

@@ -4,7 +4,7 @@ use Rattle.std.proofs.lemmas.Bool.{false≢true}
 use Rattle.legacy_base.specs.Grammar.{replacement}
 use Rattle.legacy_base.specs.States.{is_empty}
 use Rattle.legacy_miscellaneous.specs.ReplacementMachine.{replacement_machine}
-use Rattle.legacy_base.specs.EncodingForm.{bmp_room}
+use Rattle.legacy_text.specs.EncodingForm.{bmp_room}
 use Rattle.legacy_base.specs.States.{state_of}
 use Rattle.legacy_base.specs.Lengths.{LengthQuery, to_utf16, query_form, replacement_units, room}
 use Rattle.legacy_base.specs.Fronts.{reads}

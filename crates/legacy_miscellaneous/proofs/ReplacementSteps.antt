@@ -1,7 +1,7 @@
 -- The moves of the replacement decoder, which holds nothing back.
 use Rattle.std.proofs.Common.{◌≡◌, ℕ, [], Bool, true, false, refl}
 use Rattle.std.proofs.lemmas.List.Elements.{All-nil}
-use Rattle.legacy_base.specs.Unicode.{IsByte}
+use Rattle.legacy_tables.specs.Unicode.{IsByte}
 use Rattle.legacy_base.specs.Grammar.{replacement, events_of}
 use Rattle.legacy_decoder_engine.specs.declared.moves.Fed.TheVariants.{Nothing, Fault}
 use Rattle.legacy_decoder_engine.specs.Moves.{IsCovered, Feeds}

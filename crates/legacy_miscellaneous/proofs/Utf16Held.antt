@@ -4,7 +4,7 @@ use Rattle.std.proofs.lemmas.Bool.Decides.{nat_tests}
 use Rattle.std.proofs.lemmas.List.Elements.{All-nil, All-cons}
 use Rattle.std.specs.Char.{IsScalar}
 use Rattle.std.specs.Char.Utf16.{is_high_surrogate, is_low_surrogate}
-use Rattle.legacy_base.specs.Unicode.{IsByte, AreBytes}
+use Rattle.legacy_tables.specs.Unicode.{IsByte, AreBytes}
 use Rattle.legacy_base.specs.Grammar.{utf16, events_of}
 use Rattle.legacy_base.specs.States.{utf16_may_hold, rests}
 use Rattle.legacy_base.specs.Utf16.{unit_of}

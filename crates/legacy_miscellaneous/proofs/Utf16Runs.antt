@@ -8,9 +8,9 @@ use Rattle.std.proofs.lemmas.List.{take_more, length-take-le, get_or-take}
 use Rattle.std.proofs.lemmas.List.Elements.{All-get_or}
 use Rattle.std.proofs.lemmas.Str.Ascii.{All-from_ascii}
 use Rattle.std.specs.Char.Utf16.{is_high_surrogate, is_low_surrogate}
-use Rattle.legacy_base.specs.declared.destination.Destination.{Ghosts}
-use Rattle.legacy_base.specs.EncodingForm.{code_units}
-use Rattle.legacy_base.specs.Unicode.{IsByte}
+use Rattle.legacy_text.specs.declared.destination.Destination.{Ghosts}
+use Rattle.legacy_text.specs.EncodingForm.{code_units}
+use Rattle.legacy_tables.specs.Unicode.{IsByte}
 use Rattle.legacy_base.specs.Grammar.{utf16}
 use Rattle.legacy_base.specs.Utf16.{unit_of}
 use Rattle.legacy_decoder_engine.specs.Ahead.{Runs, IsPair, Writes, ReadsAhead}

@@ -2,13 +2,13 @@
 use Rattle.std.proofs.Common.{◌≡◌, ℕ, ◌+◌, ◌*◌, ◌<◌, ◌≤◌, List, [], ◌∷◌, length, get_or, Bool, true, false, cond, Some, None, refl, inl, arith}
 use Rattle.std.proofs.lemmas.Bool.{false≢true}
 use Rattle.std.specs.Char.Utf16.{is_high_surrogate, is_low_surrogate, surrogate_pair_char}
-use Rattle.legacy_base.specs.Unicode.{IsByte, AreBytes}
+use Rattle.legacy_tables.specs.Unicode.{IsByte, AreBytes}
 use Rattle.legacy_base.specs.Fronts.{reads, malformed}
 use Rattle.legacy_base.specs.Grammar.{utf16}
 use Rattle.legacy_base.specs.Utf16.{unit_of}
 use Rattle.legacy_base.specs.States.{DecoderState, utf16_may_hold, rests}
 use Rattle.legacy_base.specs.Acts.{act_room, takes}
-use Rattle.legacy_base.specs.EncodingForm.{unit_count, bmp_room, wide_room}
+use Rattle.legacy_text.specs.EncodingForm.{unit_count, bmp_room, wide_room}
 use Rattle.legacy_decoder_engine.specs.Steps.{Step, hold, finish, step_held}
 use Rattle.legacy_miscellaneous.specs.Utf16Machine.{utf16_machine, utf16_pending, utf16_step}
 use Rattle.legacy_decoder_engine.specs.Costs.{step_units, step_left, IsWidth, WritePays}

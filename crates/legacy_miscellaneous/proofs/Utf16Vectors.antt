@@ -4,7 +4,7 @@ use Rattle.std.proofs.lemmas.Bool.{cases_lt}
 use Rattle.std.proofs.lemmas.List.{get_or-take, get_or_append_left, get_or-drop, length-take-le, length-drop}
 use Rattle.std.proofs.lemmas.Simd.{get_or_wider, Each1-from_get_or}
 use Rattle.std.specs.Simd.Lanes.{number_l, digits_l}
-use Rattle.legacy_base.specs.Unicode.{IsByte}
+use Rattle.legacy_tables.specs.Unicode.{IsByte}
 use Rattle.legacy_miscellaneous.specs.Utf16Decoder.{unit_at}
 
 -- two bytes as a number, the lower first

@@ -13,10 +13,10 @@ use Rattle.std.specs.Int.{w64, to_le_bytes, from_le_bytes}
 use Rattle.std.specs.List.{range_with_len}
 use Rattle.legacy_base.specs.declared.results.DecodeEvent.{DecodeEvent}
 use Rattle.legacy_base.specs.declared.results.DecodeEvent.TheVariants.{Scalar}
-use Rattle.legacy_base.specs.EncodingForm.{Utf16, all_code_units}
-use Rattle.legacy_base.specs.Texts.{unit_scalars}
-use Rattle.legacy_base.proofs.CodeUnits.{utf16_1, utf16_2}
-use Rattle.legacy_base.proofs.Texts.{replaced, scalars_lone, scalars_end, first_cons, none_left, utf16_step}
+use Rattle.legacy_text.specs.EncodingForm.{Utf16, all_code_units}
+use Rattle.legacy_text.specs.Texts.{unit_scalars}
+use Rattle.legacy_text.proofs.CodeUnits.{utf16_1, utf16_2}
+use Rattle.legacy_text.proofs.Texts.{replaced, scalars_lone, scalars_end, first_cons, none_left, utf16_step}
 use Rattle.legacy_recode.specs.Lines.{event_line, event_lines}
 use Rattle.legacy_recode.specs.declared.line_parts.TheConstants.{HEADS, TAILS}
 use Rattle.legacy_recode.proofs.EventLines.{line_of_four, event_lines-append, event_lines-one}

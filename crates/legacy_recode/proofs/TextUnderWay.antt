@@ -6,13 +6,14 @@ use Rattle.std.proofs.KnownBytes.{Appends-nil, Appends-trans, Consumes-nil, Cons
 use Rattle.std.proofs.lemmas.List.{drop-drop}
 use Rattle.std.proofs.Math.ListN.{drop_of_length-le}
 use Rattle.legacy_base.specs.declared.results.DecodeEvent.{DecodeEvent}
-use Rattle.legacy_base.specs.EncodingForm.{Utf8, all_code_units}
+use Rattle.legacy_text.specs.EncodingForm.{Utf8, all_code_units}
 use Rattle.legacy_base.specs.Events.{shift}
 use Rattle.legacy_base.specs.Grammar.{events_of}
 use Rattle.legacy_base.specs.States.{DecoderState}
 use Rattle.legacy_base.specs.Calls.{Progress}
 use Rattle.legacy_base.proofs.Progress.{stay, after_that}
-use Rattle.legacy_base.proofs.Rooms.{all_code_units-append, lacks_small}
+use Rattle.legacy_text.proofs.CodeUnits.{all_code_units-append}
+use Rattle.legacy_base.proofs.Rooms.{lacks_small}
 use Rattle.legacy_codecs.specs.declared.results.CoderResult.{CoderResult}
 use Rattle.legacy_codecs.specs.declared.results.CoderResult.TheVariants.{InputEmpty, OutputFull}
 use Rattle.legacy_codecs.specs.Replacing.{replaced_scalars, has_bad, ReplacingDecoderCall}

@@ -4,10 +4,10 @@ use Rattle.legacy_base.specs.Grammar.{Grammar, user_defined, replacement, single
 use Rattle.legacy_base.specs.EucKr.{euc_kr}
 use Rattle.legacy_base.specs.Iso2022Jp.{ascii}
 use Rattle.legacy_base.specs.States.{DecoderState, new_state}
-use Rattle.legacy_base.specs.Indexes.{FlatIndexes}
-use Rattle.legacy_base.specs.AcceptedTables.{flat_lists}
-use Rattle.legacy_base.specs.declared.tables.private_use.TheConstants.{GB18030_2022_PUA}
-use Rattle.legacy_base.specs.TableChecks.{AreAccepted, IsAcceptedTable}
+use Rattle.legacy_tables.specs.Indexes.{FlatIndexes}
+use Rattle.legacy_tables.specs.AcceptedTables.{flat_lists}
+use Rattle.legacy_tables.specs.declared.tables.private_use.TheConstants.{GB18030_2022_PUA}
+use Rattle.legacy_tables.specs.TableChecks.{AreAccepted, IsAcceptedTable}
 use Rattle.legacy_recode.specs.declared.words.CodecWord.{CodecWord}
 use Rattle.legacy_recode.specs.declared.words.CodecWord.TheVariants as codec
 use Rattle.legacy_index_files.specs.declared.index_file.FileIndex.{FileIndex}

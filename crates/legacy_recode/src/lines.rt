@@ -3,7 +3,7 @@ ghost use Rattle.std.specs.Prelude.{◌≡◌, ℕ, ◌+◌, ◌*◌, ◌-◌, �
 ghost use Rattle.std.specs.Fmt.{digit_glyph};
 ghost use Rattle.std.specs.List.{range_with_len};
 ghost use Rattle.std.specs.Io.KnownBytes.{Appends};
-ghost use Rattle.legacy_base.specs.Texts.{unit_scalars};
+ghost use Rattle.legacy_text.specs.Texts.{unit_scalars};
 ghost use Rattle.legacy_recode.specs.Lines.{event_line, event_lines, lone_faults};
 
 use crate::line_parts::{HEADS, TAILS};

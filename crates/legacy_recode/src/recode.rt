@@ -1,7 +1,7 @@
 //! The engine of the program: bytes in, lines of events out.
 ghost use Rattle.std.specs.Prelude.{◌≡◌, ℕ, ◌+◌, ◌*◌, ◌-◌, ◌^◌, ◌<◌, ◌≤◌, List, [], ◌++◌, length, map, slice_index, OnOk, OnErr};
-ghost use Rattle.legacy_base.specs.EncodingForm.{Utf16};
-ghost use Rattle.legacy_base.specs.Texts.{unit_scalars};
+ghost use Rattle.legacy_text.specs.EncodingForm.{Utf16};
+ghost use Rattle.legacy_text.specs.Texts.{unit_scalars};
 ghost use Rattle.legacy_base.specs.Calls.{DecoderCall, IsLoneFault};
 ghost use Rattle.legacy_recode.specs.Lines.{event_lines, lone_faults};
 ghost use Rattle.legacy_recode.specs.LineBuffers.{line_bytes, line_room};

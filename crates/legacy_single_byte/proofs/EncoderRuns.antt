@@ -5,13 +5,13 @@ use Rattle.std.proofs.lemmas.Bool.Decides.{nat_tests}
 use Rattle.std.proofs.lemmas.List.{get_or_past}
 use Rattle.std.proofs.lemmas.List.Elements.{All-get_or}
 use Rattle.std.specs.Char.{IsScalar}
-use Rattle.legacy_base.specs.UnitCodes.{IsNoSurrogate}
-use Rattle.legacy_base.specs.Indexes.{entry_scalar, idx}
+use Rattle.legacy_text.specs.UnitCodes.{IsNoSurrogate}
+use Rattle.legacy_tables.specs.Indexes.{entry_scalar, idx}
 use Rattle.legacy_base.specs.SingleByte.{single_byte_code}
-use Rattle.legacy_base.specs.TableChecks.{IsAcceptedTable}
-use Rattle.legacy_base.proofs.Accepted.{entry_scalar-is}
-use Rattle.legacy_base.proofs.AcceptedTable.{position-idx, within, table-scalars, table-below}
-use Rattle.legacy_base.proofs.FirstPlaces.{find-first, find-none-at}
+use Rattle.legacy_tables.specs.TableChecks.{IsAcceptedTable}
+use Rattle.legacy_tables.proofs.Accepted.{entry_scalar-is}
+use Rattle.legacy_tables.proofs.AcceptedTable.{position-idx, within, table-scalars, table-below}
+use Rattle.legacy_tables.proofs.FirstPlaces.{find-first, find-none-at}
 use Rattle.legacy_single_byte.specs.SingleByteRun.{IsRun, first_mismatch}
 
 not_false : (b : Bool) → not b ≡ false → b ≡ true

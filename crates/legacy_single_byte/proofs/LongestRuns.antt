@@ -2,7 +2,7 @@
 use Rattle.std.proofs.Common.{◌≡◌, ◌≢◌, ℕ, zero, suc, ◌+◌, ◌-◌, ◌<◌, ◌≤◌, ◌==◌, List, get_or, refl, sym, ap, subst, arith, inl, inr, Some, None, Option, Bool, true, false, not, if◌then◌else◌, nat_lt, option_map}
 use Rattle.std.proofs.lemmas.Bool.{cases_lt, le-ltb, ltb-false}
 use Rattle.std.proofs.lemmas.Bool.Decides.{nat_tests}
-use Rattle.legacy_base.proofs.FirstPlaces.{find-none}
+use Rattle.legacy_tables.proofs.FirstPlaces.{find-none}
 use Rattle.legacy_single_byte.specs.declared.single_byte.run.SingleByteRunError.TheVariants.{RunStart, RunPastEnd, RunMismatch}
 use Rattle.legacy_single_byte.specs.SingleByteRun.{IsRun, first_mismatch, single_byte_run_fault}
 use Rattle.legacy_single_byte.specs.LongestRun.{IsLetterRun, LongestToThe, LongestUpTo}

@@ -3,7 +3,7 @@ use Rattle.std.proofs.Common.{◌≡◌, ℕ, ◌-◌, List, [], ◌∷◌, true
 use Rattle.std.proofs.lemmas.Bool.{false≢true}
 use Rattle.std.specs.Char.{is_ascii}
 use Rattle.legacy_base.specs.Fronts.{reads, cut}
-use Rattle.legacy_base.specs.Indexes.{idx}
+use Rattle.legacy_tables.specs.Indexes.{idx}
 use Rattle.legacy_base.specs.Grammar.{single_byte, events_of}
 use Rattle.legacy_base.specs.SingleByte.{single_byte_front}
 use Rattle.legacy_base.specs.States.{is_empty}

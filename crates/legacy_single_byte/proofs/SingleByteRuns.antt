@@ -4,10 +4,10 @@ use Rattle.std.proofs.lemmas.Bool.{ne_eqb, cases_lt}
 use Rattle.std.proofs.Math.ListN.{set}
 use Rattle.std.proofs.lemmas.List.{get_or_past, get_or-set_same, get_or-set_other}
 use Rattle.std.specs.Char.{IsScalar}
-use Rattle.legacy_base.specs.Indexes.{entry_scalar, idx}
-use Rattle.legacy_base.specs.AcceptedTables.{AcceptedTable}
+use Rattle.legacy_tables.specs.Indexes.{entry_scalar, idx}
+use Rattle.legacy_tables.specs.AcceptedTables.{AcceptedTable}
 use Rattle.legacy_base.specs.Grammar.{single_byte}
-use Rattle.legacy_base.proofs.AcceptedTable.{table-below, table-scalars}
+use Rattle.legacy_tables.proofs.AcceptedTable.{table-below, table-scalars}
 use Rattle.legacy_decoder_engine.specs.Ahead.{Runs, IsSingle, HasAscii}
 use Rattle.legacy_single_byte.specs.ByteEntries.{IsByteEntry, AreByteEntries}
 use Rattle.legacy_decoder_engine.proofs.RunForms.{single_runs, has_ascii, ascii_is, past_ascii}

@@ -1,10 +1,10 @@
 -- The moves of a single-byte decoder, which holds nothing back.
 use Rattle.std.proofs.Common.{◌≡◌, ℕ, [], refl}
 use Rattle.std.proofs.lemmas.List.Elements.{All-nil}
-use Rattle.legacy_base.specs.Unicode.{IsByte}
-use Rattle.legacy_base.specs.AcceptedTables.{AcceptedTable}
+use Rattle.legacy_tables.specs.Unicode.{IsByte}
+use Rattle.legacy_tables.specs.AcceptedTables.{AcceptedTable}
 use Rattle.legacy_base.specs.Grammar.{single_byte, events_of}
-use Rattle.legacy_base.proofs.AcceptedTable.{table-below}
+use Rattle.legacy_tables.proofs.AcceptedTable.{table-below}
 use Rattle.legacy_decoder_engine.specs.declared.moves.Fed.{Fed}
 use Rattle.legacy_decoder_engine.specs.Moves.{IsCovered, Feeds}
 use Rattle.legacy_base.specs.States.{state_of}

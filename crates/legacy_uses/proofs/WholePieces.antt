@@ -6,11 +6,11 @@ use Rattle.std.proofs.lemmas.Str.{chars_from_encodes}
 use Rattle.std.specs.Char.{IsScalar}
 use Rattle.std.specs.Str.{chars, IsUtf8}
 use lib.Utf8.{encode, encodes, scalars}
-use Rattle.legacy_base.specs.EncodingForm.{EncodingForm, Utf8, all_code_units}
+use Rattle.legacy_text.specs.EncodingForm.{EncodingForm, Utf8, all_code_units}
 use Rattle.legacy_base.specs.Events.{shift}
 use Rattle.legacy_base.specs.Grammar.{events_of}
 use Rattle.legacy_base.specs.States.{DecoderState}
-use Rattle.legacy_base.proofs.Rooms.{all_code_units-append}
+use Rattle.legacy_text.proofs.CodeUnits.{all_code_units-append}
 use Rattle.legacy_codecs.specs.declared.results.CoderResult.{CoderResult}
 use Rattle.legacy_codecs.specs.declared.results.CoderResult.TheVariants.{InputEmpty}
 use Rattle.legacy_codecs.specs.Replacing.{replaced_scalars, ReplacingDecoderCall}

@@ -4,7 +4,7 @@ use Rattle.std.specs.Str.{chars}
 use Rattle.legacy_base.specs.Grammar.{Grammar, single_byte, user_defined, replacement, utf16, big5, shift_jis, euc_jp, gb18030, iso_2022_jp}
 use Rattle.legacy_base.specs.EucKr.{euc_kr}
 use Rattle.legacy_base.specs.Iso2022Jp.{ascii}
-use Rattle.legacy_base.specs.Indexes.{FlatIndexes}
+use Rattle.legacy_tables.specs.Indexes.{FlatIndexes}
 use Rattle.legacy_base.specs.States.{new_state}
 use Rattle.legacy_base.specs.Encoders.{Codec, new_encoder, encoded}
 use Rattle.legacy_base.specs.Encoders as encoders

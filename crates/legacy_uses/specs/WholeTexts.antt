@@ -1,6 +1,6 @@
 -- The whole text that a decoder gives, in the words of its caller.
 use Rattle.std.specs.Prelude.{◌≡◌, ℕ, List, [], ◌++◌, Bool, IsTrue}
-use Rattle.legacy_base.specs.EncodingForm.{EncodingForm, all_code_units}
+use Rattle.legacy_text.specs.EncodingForm.{EncodingForm, all_code_units}
 use Rattle.legacy_base.specs.Grammar.{events_of}
 use Rattle.legacy_base.specs.States.{DecoderState}
 use Rattle.legacy_codecs.specs.Replacing.{replaced_scalars}

@@ -1,6 +1,6 @@
 //! An input that arrives in pieces, each decoded as it comes.
 ghost use Rattle.std.specs.Prelude.{◌≡◌, ℕ, ◌≤◌, [], length, take, Some, IsTrue};
-ghost use Rattle.legacy_base.specs.EncodingForm.{Utf8};
+ghost use Rattle.legacy_text.specs.EncodingForm.{Utf8};
 ghost use Rattle.legacy_base.specs.Lengths.{query_answer, to_utf8};
 ghost use Rattle.legacy_uses.specs.WholeTexts.{text_of, TextGoesOn};
 

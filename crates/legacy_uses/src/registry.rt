@@ -6,7 +6,7 @@ ghost use Rattle.legacy_index_files.specs.Encodings.{encoding_name};
 ghost use Rattle.legacy_base.specs.Grammar.{Grammar};
 ghost use Rattle.legacy_base.specs.States.{new_state};
 ghost use Rattle.legacy_base.specs.Encoders.{Codec, new_encoder};
-ghost use Rattle.legacy_base.specs.TableChecks.{table_fault};
+ghost use Rattle.legacy_tables.specs.TableChecks.{table_fault};
 ghost use Rattle.legacy_index_files.specs.OwnedIndexes.{owned_lists};
 ghost use Rattle.legacy_uses.specs.WholeTexts.{text_of};
 ghost use Rattle.legacy_uses.specs.Registries.{entries_of, IsReadTable, HasNoName};

@@ -1,8 +1,8 @@
 //! The encoder of GB18030 and GBK.
 ghost use Rattle.std.specs.Prelude.{◌≡◌, ◌≢◌, ◌+◌, ◌≤◌, [], ◌∷◌, length, take, true};
 ghost use Rattle.std.specs.Prelude.{Some, IfSome, option_map};
-ghost use Rattle.legacy_base.specs.EncodingForm.{total_unit_count};
-ghost use Rattle.legacy_base.specs.Pointers.{range_pointer_of};
+ghost use Rattle.legacy_text.specs.EncodingForm.{total_unit_count};
+ghost use Rattle.legacy_tables.specs.Pointers.{range_pointer_of};
 ghost use Rattle.legacy_base.specs.Gb18030.{gb18030_pair_code, gb18030_range_bytes, gb18030_code, gbk_code};
 ghost use Rattle.legacy_base.specs.Encoders.{encoder_profile, new_encoder};
 ghost use Rattle.legacy_base.specs.Lengths.{answer, number, ◌⊕◌, ◌⊗◌};

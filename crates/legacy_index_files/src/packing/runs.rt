@@ -3,7 +3,7 @@ ghost use Rattle.std.specs.Prelude.{◌≡◌, ◌≢◌, ℕ, ◌+◌, ◌<◌,
 ghost use Rattle.legacy_index_files.specs.Packing.{GivesIndex, AreLongest};
 
 use super::entries::{Entries, Narrow, Wide, below};
-use legacy_base::Run;
+use legacy_tables::Run;
 use std::alloc::{AllocError, Global};
 
 /// How many pointers from one on have scalar values in a row, among those before the end.

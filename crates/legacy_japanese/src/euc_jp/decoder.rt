@@ -1,11 +1,11 @@
 //! The decoder of EUC-JP.
 ghost use Rattle.std.specs.Prelude.{◌≡◌, ℕ, List, ◌∷◌, [], true, length, option_to_list, IfSome};
 ghost use Rattle.std.specs.Char.{IsScalar};
-ghost use Rattle.legacy_base.specs.EncodingForm.{EncodingForm};
+ghost use Rattle.legacy_text.specs.EncodingForm.{EncodingForm};
 ghost use Rattle.legacy_base.specs.EucJp.{euc_jp_scalars};
 ghost use Rattle.legacy_base.specs.Grammar.{euc_jp};
 ghost use Rattle.legacy_base.specs.States.{is_neutral, new_state};
-ghost use Rattle.legacy_base.specs.Tables.{index_list};
+ghost use Rattle.legacy_tables.specs.Tables.{index_list};
 ghost use Rattle.legacy_base.specs.States.{state_of};
 ghost use Rattle.legacy_base.specs.Fronts.{malformed};
 ghost use Rattle.legacy_decoder_engine.specs.Steps.{finish};

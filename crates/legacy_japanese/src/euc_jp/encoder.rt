@@ -1,6 +1,6 @@
 //! The encoder of EUC-JP.
 ghost use Rattle.std.specs.Prelude.{◌≡◌, [], ◌∷◌, option_map};
-ghost use Rattle.legacy_base.specs.Pointers.{euc_jp_pointer_of, minus_as_hyphen};
+ghost use Rattle.legacy_tables.specs.Pointers.{euc_jp_pointer_of, minus_as_hyphen};
 ghost use Rattle.legacy_base.specs.EucJp.{euc_jp_bytes};
 ghost use Rattle.legacy_base.specs.Encoders.{euc_jp};
 ghost use Rattle.legacy_japanese.specs.EucJpCodes.{euc_jp_pairs};

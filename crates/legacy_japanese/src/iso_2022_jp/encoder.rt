@@ -314,7 +314,7 @@ struct CodesInMode<'a, V: EncoderTables> {
 
 impl<V: EncoderTables> CodesInMode<'_, V> {
     ghost use Rattle.std.specs.Prelude.{◌≡◌, ◌+◌, ◌≤◌, length, take, IfSome, MatchOption};
-    ghost use Rattle.legacy_base.specs.EncodingForm.{total_unit_count};
+    ghost use Rattle.legacy_text.specs.EncodingForm.{total_unit_count};
     ghost use Rattle.legacy_encoder_engine.specs.UnderWay.{KeepsOn, PutsCode};
     ghost use Rattle.legacy_japanese.specs.Iso2022JpEncoder.{ReadsThere, mode_of, state_by};
 

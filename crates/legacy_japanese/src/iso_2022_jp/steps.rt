@@ -1,7 +1,7 @@
 //! The steps of an ISO-2022-JP decoder: what each byte, and the end of the input, makes of its mode
 //! and of what it holds back (Encoding Standard, "ISO-2022-JP decoder").
 ghost use Rattle.std.specs.Prelude.{◌≡◌, ◌≤◌, IfSome, length, true};
-ghost use Rattle.legacy_base.specs.Indexes.{idx};
+ghost use Rattle.legacy_tables.specs.Indexes.{idx};
 ghost use Rattle.legacy_japanese.specs.Iso2022JpMachine as machine;
 ghost use Rattle.legacy_japanese.specs.Iso2022JpMachine.{start_bytes, bytes_of, is_held, is_resting};
 ghost use Rattle.legacy_japanese.specs.declared.iso_2022_jp.steps.Mode.TheVariants.{Ascii, TwoByte};

@@ -1,7 +1,7 @@
 //! The decoder of Shift_JIS.
 ghost use Rattle.std.specs.Prelude.{◌≡◌, ◌+◌, ◌-◌, ◌≤◌, [], option_to_list, IfSome, if◌then◌else◌};
 ghost use Rattle.std.specs.Char.{IsScalar};
-ghost use Rattle.legacy_base.specs.Unicode.{katakana_of};
+ghost use Rattle.legacy_tables.specs.Unicode.{katakana_of};
 ghost use Rattle.legacy_base.specs.ShiftJis.{is_shift_jis_lead, shift_jis_scalars};
 ghost use Rattle.legacy_base.specs.Grammar.{shift_jis};
 ghost use Rattle.legacy_japanese.specs.ShiftJisMachine.{shift_jis_first, shift_jis_pair_scalars};

@@ -1,6 +1,6 @@
 //! The encoder of Shift_JIS.
 ghost use Rattle.std.specs.Prelude.{◌≡◌, [], ◌∷◌, option_map};
-ghost use Rattle.legacy_base.specs.Pointers.{shift_jis_pointer_of, minus_as_hyphen};
+ghost use Rattle.legacy_tables.specs.Pointers.{shift_jis_pointer_of, minus_as_hyphen};
 ghost use Rattle.legacy_base.specs.ShiftJis.{shift_jis_bytes};
 ghost use Rattle.legacy_base.specs.Encoders.{shift_jis};
 ghost use Rattle.legacy_japanese.specs.ShiftJisCodes.{shift_jis_pairs};

@@ -1,6 +1,6 @@
 //! The decoder of EUC-KR.
 ghost use Rattle.std.proofs.Common.{refl};
-ghost use Rattle.legacy_base.specs.declared.tables.IndexName.TheVariants.{EucKr};
+ghost use Rattle.legacy_tables.specs.declared.tables.IndexName.TheVariants.{EucKr};
 ghost use Rattle.legacy_base.specs.Profile.{is_lead};
 ghost use Rattle.legacy_base.specs.EucKr.{euc_kr_pointer};
 ghost use Rattle.legacy_decoder_engine.proofs.TwoByteMeets.{is_lead-past};

@@ -2,7 +2,7 @@
 ghost use Rattle.std.specs.Prelude.{◌≡◌, [], ◌∷◌, option_map};
 ghost use Rattle.legacy_base.specs.EucKr.{euc_kr_bytes};
 ghost use Rattle.legacy_base.specs.Encoders.{euc_kr};
-ghost use Rattle.legacy_base.specs.Pointers.{euc_kr_pointer_of};
+ghost use Rattle.legacy_tables.specs.Pointers.{euc_kr_pointer_of};
 ghost use Rattle.legacy_korean.specs.EucKrCodes.{euc_kr_pairs};
 
 use super::decoder::EucKr;

@@ -3,7 +3,7 @@
 // destination's place there from form to form.
 ghost use Rattle.std.specs.Prelude.{◌≡◌, ◌+◌, ◌-◌, if◌then◌else◌};
 ghost use Rattle.std.specs.Char.{is_ascii};
-ghost use Rattle.legacy_base.specs.EncodingForm.{bmp_room};
+ghost use Rattle.legacy_text.specs.EncodingForm.{bmp_room};
 ghost use Rattle.legacy_base.specs.Grammar.{user_defined};
 ghost use Rattle.legacy_base.specs.States.{new_state};
 ghost use Rattle.legacy_decoder_engine.specs.Ahead.{ReadsAhead};

@@ -3,7 +3,7 @@
 // destination's place there from form to form.
 ghost use Rattle.std.specs.Prelude.{◌≡◌, ◌+◌, ◌<◌, ◌≤◌, ℕ, length, false, slice_index, ◌++◌};
 ghost use Rattle.std.specs.Char.{IsScalar};
-ghost use Rattle.legacy_base.specs.EncodingForm.{code_units, unit_count};
+ghost use Rattle.legacy_text.specs.EncodingForm.{code_units, unit_count};
 ghost use Rattle.legacy_base.specs.Grammar.{utf16};
 ghost use Rattle.legacy_base.specs.States.{new_state};
 ghost use Rattle.legacy_decoder_engine.specs.Ahead.{ReadsAhead};

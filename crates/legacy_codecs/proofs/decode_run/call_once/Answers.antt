@@ -1,5 +1,5 @@
 use Rattle.std.proofs.Common.{arith, ap, ◌∙◌}
-use Rattle.legacy_base.specs.EncodingForm.{all_code_units}
+use Rattle.legacy_text.specs.EncodingForm.{all_code_units}
 use Rattle.legacy_codecs.proofs.KeptAsWritten.{kept_is, kept_within}
 use Rattle.legacy_codecs.proofs.decode_run.call_once.Goals as goal
 

@@ -1,4 +1,4 @@
-use Rattle.legacy_base.specs.EncodingForm.{Utf8, Utf16}
+use Rattle.legacy_text.specs.EncodingForm.{Utf8, Utf16}
 use Rattle.legacy_codecs.proofs.EncodeLengths.{encode_queried_length_suffices}
 use Rattle.legacy_codecs.proofs.laws.encode_queried_length_suffices.Goals as goal
 

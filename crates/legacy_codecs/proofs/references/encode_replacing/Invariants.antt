@@ -1,5 +1,5 @@
 use Rattle.std.proofs.Common.{◌≡◌, ◌≤◌, ◌+◌, length, take, true}
-use Rattle.legacy_base.specs.EncodingForm.{total_unit_count}
+use Rattle.legacy_text.specs.EncodingForm.{total_unit_count}
 use Rattle.legacy_base.specs.Encoders.{encoded}
 use Rattle.legacy_codecs.proofs.ReferencingCalls.{IsReferencing}
 use Rattle.legacy_codecs.proofs.references.encode_replacing.Given as goal

@@ -1,5 +1,5 @@
 use Rattle.std.proofs.Common.{arith}
-use Rattle.legacy_base.proofs.Texts.{utf16_read, unit_boundary}
+use Rattle.legacy_text.proofs.Texts.{utf16_read, unit_boundary}
 use Rattle.legacy_codecs.proofs.references.encode_replacing_utf16.Goals as goal
 
 pub returns-clause-call : goal.returns-clause-call

@@ -1,9 +1,9 @@
 use Rattle.std.proofs.Common.{◌≡◌, ◌∙◌, ℕ, ◌+◌, ◌-◌, ◌≤◌, ◌<◌, [], ◌∷◌, ◌++◌, length, get_or, arith, refl, sym, ap, subst, Bool, true, false, append_assoc, append-nil, add-zero, length-append, ◌↔◌}
 use Rattle.std.proofs.lemmas.Bool.{iff_false}
 use Rattle.std.proofs.Math.Nat.{sub-zero}
-use Rattle.legacy_base.specs.EncodingForm.{EncodingForm, unit_count, code_units, all_code_units, total_unit_count}
+use Rattle.legacy_text.specs.EncodingForm.{EncodingForm, unit_count, code_units, all_code_units, total_unit_count}
 use Rattle.legacy_base.specs.Calls.{DecoderCall}
-use Rattle.legacy_base.proofs.Rooms.{all_code_units-append, total_unit_count-append}
+use Rattle.legacy_text.proofs.CodeUnits.{all_code_units-append, total_unit_count-append}
 use Rattle.legacy_decoder_engine.specs.declared.moves.Fed.{Fed}
 use Rattle.legacy_decoder_engine.specs.declared.moves.Fed.TheVariants.{Fault}
 use Rattle.legacy_decoder_engine.specs.Moves.{fed_scalars, IsFaulty}

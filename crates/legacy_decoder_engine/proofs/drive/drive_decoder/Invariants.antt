@@ -1,5 +1,5 @@
 use Rattle.std.proofs.Common.{◌≡◌, ◌+◌, ◌-◌, ◌++◌, ℕ, List, length}
-use Rattle.legacy_base.specs.EncodingForm.{all_code_units, total_unit_count}
+use Rattle.legacy_text.specs.EncodingForm.{all_code_units, total_unit_count}
 use Rattle.legacy_decoder_engine.proofs.CallUnderWay.{Going}
 use Rattle.legacy_decoder_engine.proofs.drive.drive_decoder.Given as goal
 

@@ -1,5 +1,5 @@
-use Rattle.legacy_base.specs.Tables.{index_list}
-use Rattle.legacy_base.proofs.Accepted.{narrow_index}
+use Rattle.legacy_tables.specs.Tables.{index_list}
+use Rattle.legacy_tables.proofs.Accepted.{narrow_index}
 use Rattle.legacy_decoder_engine.proofs.PlainShown.{found_at}
 use Rattle.legacy_decoder_engine.proofs.plain.form_scalar.Goals as goal
 

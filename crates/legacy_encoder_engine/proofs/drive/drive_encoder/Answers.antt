@@ -1,7 +1,7 @@
 use Rattle.std.proofs.Common.{◌≡◌, ◌∙◌, length, false, IsTrue, refl, sym, ap, arith}
 use Rattle.std.proofs.lemmas.Bool.{false≢true}
 use Rattle.legacy_base.specs.Encoders.{is_pending}
-use Rattle.legacy_base.proofs.Texts.{first_cons}
+use Rattle.legacy_text.proofs.Texts.{first_cons}
 use Rattle.legacy_encoder_engine.specs.Moves.{is_escape}
 use Rattle.legacy_encoder_engine.proofs.CallUnderWay.{underway_start, underway_read, underway_escape, call_full_scalar, call_full_end, call_unmappable}
 use Rattle.legacy_encoder_engine.proofs.CallUnderWay.{call_done, call_finish, no_report, no_escape, first_nil, front_length, first_units}

@@ -1,6 +1,6 @@
 use Rattle.std.proofs.Common.{◌≤◌, ◌+◌, length, take, drop, arith}
 use Rattle.std.proofs.lemmas.List.{take-append-drop}
-use Rattle.legacy_base.proofs.Rooms.{total_unit_count-append}
+use Rattle.legacy_text.proofs.CodeUnits.{total_unit_count-append}
 use Rattle.legacy_encoder_engine.proofs.CallUnderWay.{front_length}
 use Rattle.legacy_encoder_engine.proofs.PlainServes.{keeps_codes}
 use Rattle.legacy_encoder_engine.proofs.runs.read_byte_codes.Goals as goal

@@ -1,5 +1,5 @@
 use Rattle.std.proofs.Common.{◌≡◌, ◌+◌, ◌*◌, ◌-◌, ◌≤◌, ◌++◌, length, take, drop}
-use Rattle.legacy_base.specs.Texts.{unit_scalars}
+use Rattle.legacy_text.specs.Texts.{unit_scalars}
 use Rattle.legacy_recode.proofs.PlainLines.{scalar_lines}
 use Rattle.legacy_recode.proofs.lines.put_plain.Given as goal
 

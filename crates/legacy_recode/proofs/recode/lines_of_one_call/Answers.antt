@@ -1,5 +1,5 @@
 use Rattle.std.proofs.Common.{◌≡◌, ◌∙◌, length, take, ap, arith, sym}
-use Rattle.legacy_base.specs.Texts.{unit_scalars}
+use Rattle.legacy_text.specs.Texts.{unit_scalars}
 use Rattle.legacy_recode.proofs.PlainLines.{scalars_of_units}
 use Rattle.legacy_recode.proofs.recode.lines_of_one_call.Goals as goal
 

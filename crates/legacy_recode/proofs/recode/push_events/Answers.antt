@@ -1,5 +1,5 @@
 use Rattle.std.proofs.Common.{arith}
-use Rattle.legacy_base.specs.Texts.{unit_scalars}
+use Rattle.legacy_text.specs.Texts.{unit_scalars}
 use Rattle.legacy_recode.proofs.EventLines.{line_of_fault}
 use Rattle.legacy_recode.proofs.recode.push_events.Goals as goal
 

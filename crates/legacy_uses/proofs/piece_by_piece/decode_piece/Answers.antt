@@ -1,5 +1,5 @@
 use Rattle.std.proofs.Common.{length, arith}
-use Rattle.legacy_base.specs.EncodingForm.{Utf8}
+use Rattle.legacy_text.specs.EncodingForm.{Utf8}
 use Rattle.legacy_uses.proofs.WholePieces.{text_goes_on, none_left}
 use Rattle.legacy_uses.proofs.piece_by_piece.decode_piece.Goals as goal
 

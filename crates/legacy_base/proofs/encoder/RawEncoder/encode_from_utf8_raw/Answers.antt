@@ -1,4 +1,4 @@
-use Rattle.legacy_base.proofs.Texts.{utf8_read}
+use Rattle.legacy_text.proofs.Texts.{utf8_read}
 use Rattle.legacy_base.proofs.encoder.RawEncoder.encode_from_utf8_raw.Goals as goal
 
 pub returns-clause-call : goal.returns-clause-call

@@ -1,5 +1,5 @@
 use Rattle.std.proofs.Common.{◌≤◌, length, arith}
-use Rattle.legacy_base.proofs.Accepted.{length-gb18030}
+use Rattle.legacy_tables.proofs.Accepted.{length-gb18030}
 use Rattle.legacy_decoder_engine.specs.Places.{lead_place}
 use Rattle.legacy_decoder_engine.proofs.PairPlaces.{rows_are}
 use Rattle.legacy_chinese.specs.Gb18030Places.{gb18030_trail_place}

@@ -1,5 +1,5 @@
 use Rattle.std.proofs.Common.{◌∙◌, ap}
-use Rattle.legacy_base.specs.Indexes.{range}
+use Rattle.legacy_tables.specs.Indexes.{range}
 use Rattle.legacy_chinese.proofs.FourPlaces.{four_placed}
 use Rattle.legacy_chinese.proofs.gb18030.fours.four_scalar.Goals as goal
 

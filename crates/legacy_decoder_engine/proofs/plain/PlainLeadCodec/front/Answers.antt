@@ -1,8 +1,8 @@
 use Rattle.std.proofs.Common.{◌<◌, ◌^◌, arith}
-use Rattle.legacy_base.specs.Tables.{index_list}
+use Rattle.legacy_tables.specs.Tables.{index_list}
 use Rattle.legacy_base.specs.LeadForms.{pair_scalars}
 use Rattle.legacy_base.specs.Grammar.{plain}
-use Rattle.legacy_base.proofs.Accepted.{narrow_index}
+use Rattle.legacy_tables.proofs.Accepted.{narrow_index}
 use Rattle.legacy_decoder_engine.specs.LeadMachines.{lead_first}
 use Rattle.legacy_decoder_engine.proofs.PairPlaces.{found}
 use Rattle.legacy_decoder_engine.proofs.PlainShown.{scalars_below}

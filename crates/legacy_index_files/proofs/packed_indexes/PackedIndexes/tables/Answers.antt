@@ -1,11 +1,11 @@
 use Rattle.std.proofs.Common.{◌≡◌, ◌∙◌, Result, Ok, Err, Some, sym}
 use Rattle.std.specs.Result.{MatchResult}
-use Rattle.legacy_base.specs.declared.tables.packed.Packed.{Packed}
-use Rattle.legacy_base.specs.declared.tables.TableError.{TableError}
-use Rattle.legacy_base.specs.declared.tables.Tables.{Tables}
-use Rattle.legacy_base.specs.Indexes.{FlatIndexes}
-use Rattle.legacy_base.specs.TableChecks.{table_fault}
-use Rattle.legacy_base.specs.Packed.{packed_fault, ArePackedTables}
+use Rattle.legacy_tables.specs.declared.tables.packed.Packed.{Packed}
+use Rattle.legacy_tables.specs.declared.tables.TableError.{TableError}
+use Rattle.legacy_tables.specs.declared.tables.Tables.{Tables}
+use Rattle.legacy_tables.specs.Indexes.{FlatIndexes}
+use Rattle.legacy_tables.specs.TableChecks.{table_fault}
+use Rattle.legacy_tables.specs.Packed.{packed_fault, ArePackedTables}
 use Rattle.legacy_index_files.specs.declared.packing.OwnedPacked.{OwnedPacked}
 use Rattle.legacy_index_files.specs.OwnedIndexes.{owned_lists}
 use Rattle.legacy_index_files.specs.Packing.{HasParts, IsPackOf, AreTablesOf}

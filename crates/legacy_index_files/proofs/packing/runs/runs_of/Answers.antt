@@ -1,5 +1,5 @@
 use Rattle.std.proofs.Common.{◌∙◌, refl, arith}
-use Rattle.legacy_base.specs.declared.tables.packed.Run.{Run}
+use Rattle.legacy_tables.specs.declared.tables.packed.Run.{Run}
 use Rattle.legacy_index_files.proofs.PackingRuns.{no-runs, run-added, runs-made, none-longest, longest-added}
 use Rattle.legacy_index_files.proofs.packing.runs.runs_of.Goals as goal
 

@@ -1,7 +1,7 @@
 use Rattle.std.proofs.Common.{◌≡◌, ℕ, ◌<◌, Option, Some, None, sym}
 use Rattle.std.specs.{Char.IsScalar, Prelude.IfSome}
-use Rattle.legacy_base.specs.{Indexes.idx, AcceptedTables.AcceptedIndexes}
-use Rattle.legacy_base.proofs.Accepted.{idx-all, jis0208-below, jis0208-scalars}
+use Rattle.legacy_tables.specs.{Indexes.idx, AcceptedTables.AcceptedIndexes}
+use Rattle.legacy_tables.proofs.Accepted.{idx-all, jis0208-below, jis0208-scalars}
 use Rattle.legacy_japanese.specs.Iso2022JpMoves.{IsNarrowScalar}
 use Rattle.legacy_japanese.proofs.iso_2022_jp.steps.entry.Goals as goal
 

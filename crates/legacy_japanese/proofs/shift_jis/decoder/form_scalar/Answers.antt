@@ -1,5 +1,5 @@
 use Rattle.std.proofs.Common.{◌≤◌, length, arith}
-use Rattle.legacy_base.proofs.Accepted.{length-jis0208}
+use Rattle.legacy_tables.proofs.Accepted.{length-jis0208}
 use Rattle.legacy_japanese.specs.ShiftJisPlaces.{shift_jis_lead_place, shift_jis_trail_place}
 use Rattle.legacy_japanese.proofs.ShiftJisPlaces.{shift_jis_leads_are, shift_jis_trails_are, shift_jis_entry}
 use Rattle.legacy_japanese.proofs.shift_jis.decoder.form_scalar.Goals as goal

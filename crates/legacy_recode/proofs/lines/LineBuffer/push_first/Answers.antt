@@ -1,5 +1,5 @@
 use Rattle.std.proofs.Common.{◌≡◌, ◌∙◌, ◌≤◌, ◌<◌, ◌++◌, ap, arith, length, sym, Some, None, slice_get, unwrap_or, get_or}
-use Rattle.legacy_base.specs.Texts.{unit_scalars}
+use Rattle.legacy_text.specs.Texts.{unit_scalars}
 use Rattle.legacy_recode.specs.LineBuffers.{line_bytes}
 use Rattle.legacy_recode.proofs.PlainLines.{first_line, first_units, none_behind}
 use Rattle.legacy_recode.proofs.lines.LineBuffer.push_first.Goals as goal

@@ -1,5 +1,5 @@
 use Rattle.std.proofs.Common.{◌≡◌, ◌+◌, ◌*◌, ◌-◌, ◌≤◌, ◌++◌, length, drop}
-use Rattle.legacy_base.specs.Texts.{unit_scalars}
+use Rattle.legacy_text.specs.Texts.{unit_scalars}
 use Rattle.legacy_recode.specs.LineBuffers.{line_bytes, line_room}
 use Rattle.legacy_recode.proofs.PlainLines.{scalar_lines}
 use Rattle.legacy_recode.proofs.lines.LineBuffer.push_units.Given as goal

@@ -1,6 +1,6 @@
 use Rattle.std.proofs.Common.{◌≡◌, ◌∙◌, sym, ap, subst}
-use Rattle.legacy_base.specs.AcceptedTables.{AcceptedIndexes}
-use Rattle.legacy_base.specs.KeptTables.{kept_indexes}
+use Rattle.legacy_tables.specs.AcceptedTables.{AcceptedIndexes}
+use Rattle.legacy_tables.specs.KeptTables.{kept_indexes}
 use Rattle.legacy_base.specs.Grammar.{gb18030}
 use Rattle.legacy_base.specs.States.{new_state}
 use Rattle.legacy_decoder_engine.specs.Ahead.{ReadsAhead}

@@ -1,6 +1,6 @@
 use Rattle.std.proofs.Common.{◌≡◌, ◌+◌, ◌-◌, take, drop, length, arith}
 use Rattle.std.proofs.lemmas.List.{take-append-drop, take-append-le, take-take, length-take-le}
-use Rattle.legacy_base.proofs.Rooms.{total_unit_count-append}
+use Rattle.legacy_text.proofs.CodeUnits.{total_unit_count-append}
 use Rattle.legacy_japanese.proofs.Iso2022JpEncoderMoves.{keeps_own_bytes}
 use Rattle.legacy_japanese.proofs.iso_2022_jp.encoder.CodesInMode.copy_ascii.Goals as goal
 

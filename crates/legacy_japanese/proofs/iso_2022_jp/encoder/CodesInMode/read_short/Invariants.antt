@@ -1,5 +1,5 @@
 use Rattle.std.proofs.Common.{◌≡◌, ◌+◌, ◌≤◌, length, take}
-use Rattle.legacy_base.specs.EncodingForm.{total_unit_count}
+use Rattle.legacy_text.specs.EncodingForm.{total_unit_count}
 use Rattle.legacy_encoder_engine.specs.UnderWay.{KeepsOn}
 use Rattle.legacy_japanese.specs.Iso2022JpEncoder.{state_by}
 use Rattle.legacy_japanese.proofs.iso_2022_jp.encoder.CodesInMode.read_short.Given as goal

@@ -1,5 +1,5 @@
 use Rattle.std.proofs.Common.{◌≤◌, length, arith}
-use Rattle.legacy_base.proofs.Accepted.{length-jis0208}
+use Rattle.legacy_tables.proofs.Accepted.{length-jis0208}
 use Rattle.legacy_japanese.specs.Jis0208Places.{jis_lead_place, jis_trail_place}
 use Rattle.legacy_japanese.proofs.Jis0208Places.{jis_leads_are, jis_trails_are}
 use Rattle.legacy_japanese.proofs.Iso2022JpRuns.{placed_scalar}

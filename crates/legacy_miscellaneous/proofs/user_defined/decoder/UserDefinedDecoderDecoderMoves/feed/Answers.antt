@@ -1,6 +1,6 @@
 use Rattle.std.proofs.Common.{[], refl, arith, ◌<◌, ◌^◌}
 use Rattle.std.proofs.lemmas.List.Elements.{All-nil}
-use Rattle.legacy_base.specs.Unicode.{IsByte}
+use Rattle.legacy_tables.specs.Unicode.{IsByte}
 use Rattle.legacy_decoder_engine.proofs.Feeding.{feeds}
 use Rattle.legacy_miscellaneous.proofs.UserDefinedRuns.{takes_step}
 use Rattle.legacy_miscellaneous.proofs.user_defined.decoder.UserDefinedDecoderDecoderMoves.feed.Goals as goal

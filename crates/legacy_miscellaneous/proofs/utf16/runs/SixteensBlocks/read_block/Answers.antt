@@ -2,7 +2,7 @@ use Rattle.std.proofs.Common.{◌≡◌, ℕ, ◌+◌, ◌*◌, ◌<◌, length,
 use Rattle.std.specs.Char.{IsScalar}
 use Rattle.legacy_base.specs.Grammar.{utf16}
 use Rattle.legacy_base.specs.States.{new_state}
-use Rattle.legacy_base.specs.Unicode.{IsByte}
+use Rattle.legacy_tables.specs.Unicode.{IsByte}
 use Rattle.legacy_miscellaneous.specs.Utf16Decoder.{unit_at}
 use Rattle.legacy_miscellaneous.proofs.Utf16Runs.{writes_unit}
 use Rattle.legacy_decoder_engine.proofs.WrittenRuns.{writes_none, reads_none, short}

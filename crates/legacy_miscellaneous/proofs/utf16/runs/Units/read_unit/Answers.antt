@@ -1,7 +1,7 @@
 use Rattle.std.proofs.Common.{ℕ, get_or, subst, arith}
 use Rattle.std.specs.Char.{IsScalar}
 use Rattle.legacy_base.specs.Grammar.{utf16}
-use Rattle.legacy_base.specs.Unicode.{IsByte}
+use Rattle.legacy_tables.specs.Unicode.{IsByte}
 use Rattle.legacy_base.specs.States.{new_state}
 use Rattle.legacy_decoder_engine.proofs.JoinedRuns.{reads_written}
 use Rattle.legacy_miscellaneous.proofs.Utf16Runs.{below_scalar, writes_unit}

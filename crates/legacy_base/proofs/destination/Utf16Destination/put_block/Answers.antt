@@ -1,8 +1,0 @@
-use Rattle.std.proofs.Common.{arith}
-use Rattle.std.proofs.lemmas.List.{map-id}
-use Rattle.legacy_base.proofs.Ascii.{stored}
-use Rattle.legacy_base.proofs.destination.Utf16Destination.put_block.Goals as goal
-
-pub returns-clause-written : goal.returns-clause-written
-returns-clause-written c =
-    simp map-id (stored _ _ c.args.self.now.buffer.now c.args.block (omega (arith, c.fits-block.0, c.requires)) (omega (arith, c.fits-block.0, c.ascii_count-count.ensures.most)))

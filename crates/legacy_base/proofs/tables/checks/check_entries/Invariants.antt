@@ -1,7 +1,0 @@
-use Rattle.std.proofs.Common.{◌≡◌, drop}
-use Rattle.legacy_base.specs.TableChecks.{entries_fault}
-use Rattle.legacy_base.proofs.tables.checks.check_entries.Given as goal
-
--- no fault so far
-abbrev pub invariant-loop-pointer : goal.invariant-loop-pointer
-invariant-loop-pointer l = entries_fault l.name 0 l.index ≡ entries_fault l.name l.pointer (drop l.pointer l.index)

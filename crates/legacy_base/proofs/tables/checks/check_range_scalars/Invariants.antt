@@ -1,7 +1,0 @@
-use Rattle.std.proofs.Common.{◌≡◌, drop}
-use Rattle.legacy_base.specs.TableChecks.{range_value_fault}
-use Rattle.legacy_base.proofs.tables.checks.check_range_scalars.Given as goal
-
--- no fault so far
-abbrev pub invariant-loop-place : goal.invariant-loop-place
-invariant-loop-place l = range_value_fault 0 l.ranges ≡ range_value_fault l.place (drop l.place l.ranges)

@@ -1,5 +1,0 @@
-use Rattle.legacy_base.proofs.PointerBounds.{euc-kr-bound}
-use Rattle.legacy_base.proofs.tables.flat.FlatTablesEncoderTables.euc_kr_pointer.Goals as goal
-
-pub returns-clause-within : goal.returns-clause-within
-returns-clause-within c = rw c.first.ensures (euc-kr-bound _ c.self.inside.accepted c.args.scalar)

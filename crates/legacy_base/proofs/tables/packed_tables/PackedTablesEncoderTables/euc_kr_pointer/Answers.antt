@@ -1,8 +1,0 @@
-use Rattle.std.proofs.Common.{◌∙◌}
-use Rattle.legacy_base.proofs.PointerBounds.{euc-kr-bound}
-use Rattle.legacy_base.proofs.tables.packed_tables.PackedTablesEncoderTables.euc_kr_pointer.Goals as goal
-
-pub returns : goal.returns
-returns c =
-    let is = c.pointer.ensures ∙ c.self.inside.ordered.euc_kr c.args.scalar in
-    rw (← c.self.view_is) (record { pointer = is; within = rw is (euc-kr-bound _ c.self.inside.accepted c.args.scalar) })

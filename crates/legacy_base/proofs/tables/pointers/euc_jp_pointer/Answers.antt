@@ -1,6 +1,0 @@
-use Rattle.std.proofs.Common.{◌∙◌}
-use Rattle.legacy_base.proofs.Pointers.{first-below}
-use Rattle.legacy_base.proofs.tables.pointers.euc_jp_pointer.Goals as goal
-
-pub returns : goal.returns
-returns c = rw c.min.ensures at c.first_between.ensures ∙ first-below _ _ 8836

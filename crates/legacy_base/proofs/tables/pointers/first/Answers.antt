@@ -1,6 +1,0 @@
-use Rattle.std.proofs.Common.{◌∙◌}
-use Rattle.legacy_base.proofs.Pointers.{first-of-all}
-use Rattle.legacy_base.proofs.tables.pointers.first.Goals as goal
-
-pub returns : goal.returns
-returns c = c.first_between.ensures ∙ first-of-all _ _

@@ -1,9 +1,0 @@
--- Tables by how they are kept, and the flat lists that they are seen as.
-use Rattle.legacy_base.specs.declared.tables.KeptTables.{KeptTables}
-use Rattle.legacy_base.specs.declared.tables.KeptTables.TheVariants.{Flat, Packed}
-use Rattle.legacy_base.specs.AcceptedTables.{AcceptedIndexes}
-
--- the flat lists of tables
-abbrev pub kept_indexes : KeptTables → AcceptedIndexes
-kept_indexes (Flat tables) = tables
-kept_indexes (Packed tables) = tables

@@ -1,0 +1,83 @@
+-- What is known of single-byte tables that passed their check.
+use Rattle.std.proofs.Common.{◌≡◌, ◌≢◌, ◌∙◌, ℕ, zero, suc, ◌+◌, ◌<◌, List, [], ◌∷◌, length, get_or, refl, sym, one-add, arith}
+use Rattle.std.proofs.Common.{Some, None, true, false, Bool, ◌||◌, ◌↔◌, not, cond, eqb, eq-eqb, ◌==◌, position, inl, inr, subst}
+use Rattle.std.proofs.lemmas.Bool.{eqb-true, ne_eqb, cases_lt, lt-ltb}
+use Rattle.std.proofs.lemmas.Bool.Decides.{nat_tests}
+use Rattle.std.proofs.lemmas.List.{get_or_past}
+use Rattle.std.proofs.lemmas.List.Elements.{All-nil, All-cons}
+use Rattle.std.proofs.lemmas.List.Quantifiers.{position-Some}
+use Rattle.std.specs.List.{All, list_any, position_or_len}
+use Rattle.std.specs.Char.{IsScalar}
+use Rattle.legacy_tables.specs.declared.tables.TableError.TheVariants.{BadByteEntry, Repeated}
+use Rattle.legacy_tables.specs.Indexes.{idx}
+use Rattle.legacy_tables.specs.Unicode.{AreScalars}
+use Rattle.legacy_tables.specs.TableChecks.{is_byte_entry, byte_entry_fault, byte_entries_fault, IsAcceptedTable}
+use Rattle.legacy_tables.proofs.Accepted.{or_none, entry_has, entry_scalar-is}
+
+or_false : (a b : Bool) → (a || b) ≡ false → (a ≡ false) × (b ≡ false)
+or_false true b e = cc
+or_false false b e = (refl, e)
+
+-- an accepted entry that is not 0 stands nowhere before
+once : (place : ℕ) (before : List ℕ) (c : ℕ) → byte_entry_fault place before c ≡ None → c ≢ 0 → list_any (λ x. eqb x c) before ≡ false
+once place before c f n = go (is_byte_entry c) (list_any (λ x. eqb x c) before) (rw (ne_eqb c 0 n) at f)
+  where
+    go : (good any : Bool) → cond (not good) (Some (BadByteEntry place)) (cond any (Some (Repeated place)) None) ≡ None → any ≡ false
+    go good false e = refl
+    go true true e = cc
+    go false true e = cc
+
+apart : (place : ℕ) (before entries : List ℕ) (k c : ℕ) → byte_entries_fault place before entries ≡ None → get_or entries k 0 ≡ c → c ≢ 0 → list_any (λ x. eqb x c) before ≡ false
+unfolding byte_entries_fault
+apart place before [] k c f e n = absurd (n (sym e))
+apart place before (x ∷ xs) zero c f e n = once place before c (subst (λ y. byte_entry_fault place before y ≡ None) e (or_none (byte_entry_fault place before x) _ f).0) n
+apart place before (x ∷ xs) (suc k) c f e n =
+    (or_false (eqb x c) (list_any (λ z. eqb z c) before) (apart (place + 1) (x ∷ before) xs k c (or_none (byte_entry_fault place before x) _ f).1 e n)).1
+
+-- so the place of a scalar is its first one
+first_place : (place : ℕ) (before entries : List ℕ) (k c : ℕ) → byte_entries_fault place before entries ≡ None → get_or entries k 0 ≡ c → c ≢ 0 → position_or_len (λ x. x == c) entries ≡ k
+unfolding byte_entries_fault
+first_place place before [] k c f e n = absurd (n (sym e))
+first_place place before (x ∷ xs) zero c f e n = rw (e, eq-eqb c c refl) refl
+first_place place before (x ∷ xs) (suc k) c f e n =
+    let rest = (or_none (byte_entry_fault place before x) _ f).1 in
+    let other = (or_false (eqb x c) (list_any (λ z. eqb z c) before) (apart (place + 1) (x ∷ before) xs k c rest e n)).0 in
+    rw (other, first_place (place + 1) (x ∷ before) xs k c rest e n) (one-add k)
+
+byte-scalar : (e : ℕ) → is_byte_entry e ≡ true → IsScalar e
+byte-scalar e h = grind (arith, nat_tests)
+
+byte-below : (e : ℕ) → is_byte_entry e ≡ true → e < 0x1_0000
+byte-below e h = grind (arith, nat_tests)
+
+all_bytes : (P : ℕ → Type 0) → P 0 → ((e : ℕ) → is_byte_entry e ≡ true → P e) → (place : ℕ) (before entries : List ℕ) → byte_entries_fault place before entries ≡ None → All P entries
+unfolding byte_entries_fault
+all_bytes P at_zero good place before [] e = All-nil P
+all_bytes P at_zero good place before (x ∷ xs) e =
+    let h = or_none (byte_entry_fault place before x) _ e in
+    All-cons P x xs (entry_has P x (is_byte_entry x) (BadByteEntry place) _ at_zero (good x) h.0) (all_bytes P at_zero good (place + 1) (x ∷ before) xs h.1)
+
+module _ (table : List ℕ) (accepted : IsAcceptedTable table) where
+  -- its entries are scalars of the Basic Multilingual Plane
+  pub table-scalars : AreScalars table
+  table-scalars = all_bytes IsScalar refl byte-scalar 0 [] table accepted
+
+  pub table-below : All (λ c. c < 0x1_0000) table
+  table-below = all_bytes _ (omega arith) byte-below 0 [] table accepted
+
+  pub within : (place c : ℕ) → get_or table place 0 ≡ c → c ≢ 0 → place < length table
+  within place c e n = elim (cases_lt place (length table)) [ inl h ↦ h | inr h ↦ absurd (n (sym e ∙ get_or_past table place 0 h)) ]
+
+  -- the first place of a scalar is the one that holds it
+  pub position-idx : (c : ℕ) → (c ≡ 0 → ⊥) → (place : ℕ) → (position (λ e. e == c) table ≡ Some place) ↔ (idx table place ≡ Some c)
+  position-idx c n place = (there, here)
+    where
+      there : position (λ e. e == c) table ≡ Some place → idx table place ≡ Some c
+      there e = let is = eqb-true (get_or table place 0) c (position-Some (λ x. x == c) table place 0 e).1 in rw (is, ne_eqb c 0 n) refl
+
+      here : idx table place ≡ Some c → position (λ e. e == c) table ≡ Some place
+      here e =
+          let h = entry_scalar-is (get_or table place 0) c e in
+          rw (first_place 0 [] table place c accepted h.1 h.0, lt-ltb place (length table) (within place c h.1 h.0)) refl
+
+pub ruleset accepted_table = (table-scalars)

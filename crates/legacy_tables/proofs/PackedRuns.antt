@@ -1,0 +1,269 @@
+-- What runs in order are, and what they give each pointer.
+use Rattle.std.proofs.Common.{◌≡◌, ◌∙◌, ℕ, zero, suc, ◌+◌, ◌-◌, ◌/◌, ◌%◌, ◌≤◌, ◌<◌, List, [], ◌∷◌, length, map, get_or, slice_index, drop, drop-cons, add-one, refl, sym, ap, arith, Some, None}
+use Rattle.std.proofs.Common.{Option, true, false, Bool, ◌&&◌, cond, nat_le, nat_lt, inl, inr, subst}
+use Rattle.std.proofs.lemmas.Bool.{cases_lt}
+use Rattle.std.proofs.lemmas.List.{length-map, get_or-map, get_or_past}
+use Rattle.std.proofs.lemmas.List.FromFn.{get_or-map-range_with_len, length-map-range_with_len}
+use Rattle.std.proofs.Math.ListN.{drop_of_length-le}
+use Rattle.std.specs.List.{range_with_len}
+use Rattle.std.specs.Option.{option_map_or}
+use borrow.Author.Tests.{ltb-true, leb-true, le-leb, lt-leb, lt-ltb, le-ltb}
+use Rattle.legacy_tables.specs.declared.tables.packed.Run.{Run}
+use Rattle.legacy_tables.specs.Directories.{IsRising, IsDirectory, count_below}
+use Rattle.legacy_tables.specs.Packed.{differs_at}
+use Rattle.legacy_tables.specs.Runs.{run_end, run_scalar, runs_scalar, runs_entry, runs_end, runs_list, is_run_in_order, run_fault_from, run_fault, AreInOrder, run_starts}
+
+-- a run of no pointers
+abbrev pub no_run : Run
+no_run = record { pointer = 0; scalar = 0; length = 0 }
+
+-- ---- the order of runs, as a loop finds it
+
+module _ (limit : ℕ) (runs : List Run) (place before : ℕ) (d : Run) (all : Option ℕ) (so_far : all ≡ run_fault_from place before limit (drop place runs)) where
+  pub run-pass : place < length runs → is_run_in_order before limit (get_or runs place d) ≡ true → all ≡ run_fault_from (place + 1) (run_end (get_or runs place d)) limit (drop (place + 1) runs)
+  unfolding run_fault_from
+  run-pass h f = so_far ∙ rw (drop-cons runs place d h, f, add-one) refl
+
+  pub run-fail : place < length runs → is_run_in_order before limit (get_or runs place d) ≡ false → all ≡ Some place
+  unfolding run_fault_from
+  run-fail h f = so_far ∙ rw (drop-cons runs place d h, f) refl
+
+  pub run-done : length runs ≤ place → all ≡ None
+  unfolding run_fault_from
+  run-done h = so_far ∙ rw (drop_of_length-le runs h) refl
+
+-- ---- runs in order, one by one
+
+-- a run that begins at or behind a pointer
+record IsBehind (before limit : ℕ) (run : Run) : Type 0 where
+  full : 0 < run.length
+  behind : before ≤ run.pointer
+  reach : run_end run ≤ limit
+  scalars : run.scalar + run.length ≤ 0x11_0000
+
+both_true : (a b : Bool) → (a && b) ≡ true → (a ≡ true) × (b ≡ true)
+both_true true b e = (refl, e)
+both_true false b e = cc
+
+taken : (t : Bool) (place : ℕ) (a : Option ℕ) → cond t a (Some place) ≡ None → (t ≡ true) × (a ≡ None)
+taken true place a e = (refl, e)
+taken false place a e = cc
+
+in_order-behind : (before limit : ℕ) (run : Run) → is_run_in_order before limit run ≡ true → IsBehind before limit run
+in_order-behind before limit run e =
+    let a = both_true _ _ e in
+    let b = both_true _ _ a.0 in
+    let c = both_true _ _ a.1 in
+    record { full = ltb-true 0 run.length b.0; behind = leb-true before run.pointer b.1; reach = leb-true (run_end run) limit c.0; scalars = leb-true (run.scalar + run.length) 0x11_0000 c.1 }
+
+pub in_order-reach : (before limit : ℕ) (run : Run) → is_run_in_order before limit run ≡ true → run_end run ≤ limit
+in_order-reach before limit run e = (in_order-behind before limit run e).reach
+
+less : (a b : ℕ) → suc a < suc b → a < b
+less a b h = omega arith
+
+behind_all : (place before limit : ℕ) (runs : List Run) → run_fault_from place before limit runs ≡ None → (i : ℕ) (d : Run) → i < length runs → IsBehind before limit (get_or runs i d)
+unfolding run_fault_from
+behind_all place before limit [] e i d h = absurd (omega arith)
+behind_all place before limit (run ∷ runs) e zero d h =
+    in_order-behind before limit run (taken _ place (run_fault_from (place + 1) (run_end run) limit runs) e).0
+behind_all place before limit (run ∷ runs) e (suc i) d h =
+    let t = taken _ place (run_fault_from (place + 1) (run_end run) limit runs) e in
+    let first = in_order-behind before limit run t.0 in
+    further first (behind_all (place + 1) (run_end run) limit runs t.1 i d (less i (length runs) h))
+  where
+    further : {r : Run} → IsBehind before limit run → IsBehind (run_end run) limit r → IsBehind before limit r
+    further {r} first next = record { full = next.full; behind = let a = first.behind in let b = next.behind in omega arith; reach = next.reach; scalars = next.scalars }
+
+rising_ends : (place before limit : ℕ) (runs : List Run) → run_fault_from place before limit runs ≡ None → (i j : ℕ) (d : Run) → i < j → j < length runs →
+    run_end (get_or runs i d) ≤ (get_or runs j d).pointer
+unfolding run_fault_from
+rising_ends place before limit [] e i j d h l = absurd (omega arith)
+rising_ends place before limit (run ∷ runs) e i zero d h l = absurd (omega arith)
+rising_ends place before limit (run ∷ runs) e zero (suc j) d h l =
+    (behind_all (place + 1) (run_end run) limit runs (taken _ place (run_fault_from (place + 1) (run_end run) limit runs) e).1 j d (less j (length runs) l)).behind
+rising_ends place before limit (run ∷ runs) e (suc i) (suc j) d h l =
+    rising_ends (place + 1) (run_end run) limit runs (taken _ place (run_fault_from (place + 1) (run_end run) limit runs) e).1 i j d (less i j h) (less j (length runs) l)
+
+at_most : (a b c : ℕ) → a ≤ b → b ≤ c → a ≤ c
+at_most a b c h l = omega arith
+
+-- runs without a fault are in order
+pub are_in_order : (limit : ℕ) (runs : List Run) → limit ≤ 23940 → run_fault limit runs ≡ None → AreInOrder runs
+are_in_order limit runs small e = record {
+  full = λ i d h. (behind_all 0 0 limit runs e i d h).full;
+  reach = λ i d h. at_most (run_end (get_or runs i d)) limit 23940 (behind_all 0 0 limit runs e i d h).reach small;
+  scalars = λ i d h. (behind_all 0 0 limit runs e i d h).scalars;
+  rising = rising_ends 0 0 limit runs e;
+}
+
+-- and each ends within the limit
+pub run-reach : (limit : ℕ) (runs : List Run) → run_fault limit runs ≡ None → (i : ℕ) (d : Run) → i < length runs → run_end (get_or runs i d) ≤ limit
+run-reach limit runs e i d h = (behind_all 0 0 limit runs e i d h).reach
+
+-- ---- where runs start
+
+start-at : (runs : List Run) (i : ℕ) → i < length runs → slice_index (run_starts runs) i ≡ (get_or runs i no_run).pointer
+start-at runs i h = get_or-map (λ (run : Run). run.pointer) runs i no_run 0 h
+
+starts-length : (runs : List Run) → length (run_starts runs) ≡ length runs
+starts-length runs = length-map runs (λ (run : Run). run.pointer)
+
+module _ (runs : List Run) (ordered : AreInOrder runs) where
+  starts_below : (i j : ℕ) → i < j → j < length runs → (get_or runs i no_run).pointer < (get_or runs j no_run).pointer
+  starts_below i j h l =
+      let within : i < length runs = omega arith in
+      let f = ordered.full i no_run within in
+      let r = ordered.rising i j no_run h l in
+      omega arith
+
+  pub starts-rising : IsRising (run_starts runs)
+  starts-rising = record {
+    above = λ i j h l.
+        let within : j < length runs = subst (λ n. j < n) (starts-length runs) l in
+        rw (start-at runs i (omega arith), start-at runs j within) (starts_below i j h within);
+  }
+
+  at_least : (i : ℕ) → i < length runs → i ≤ (get_or runs i no_run).pointer
+  at_least zero h = omega arith
+  at_least (suc i) h =
+      let within : i < length runs = omega arith in
+      let low = at_least i within in
+      let next = starts_below i (suc i) (omega arith) h in
+      omega arith
+
+  few_runs : (n : ℕ) → n ≡ length runs → length runs < 65536
+  few_runs zero e = omega arith
+  few_runs (suc n) e =
+      let within : n < length runs = omega arith in
+      let low = at_least n within in
+      let full = ordered.full n no_run within in
+      let reach = ordered.reach n no_run within in
+      omega arith
+
+  pub starts-few : length (run_starts runs) < 65536
+  starts-few = rw (starts-length runs) (few_runs (length runs) refl)
+
+-- ---- what runs give a pointer
+
+pub outside-before : (run : Run) (p : ℕ) → p < run.pointer → run_scalar run p ≡ None
+outside-before run p h = rw (lt-leb run.pointer p h) refl
+
+pub outside-behind : (run : Run) (p : ℕ) → run_end run ≤ p → run_scalar run p ≡ None
+outside-behind run p h = go (nat_le run.pointer p)
+  where
+    go : (t : Bool) → cond (t && nat_lt p (run_end run)) (Some (run.scalar + (p - run.pointer))) None ≡ None
+    go true = rw (le-ltb p (run_end run) h) refl
+    go false = refl
+
+inside : (run : Run) (p : ℕ) → run.pointer ≤ p → p < run_end run → run_scalar run p ≡ Some (run.scalar + (p - run.pointer))
+inside run p h l = rw (le-leb run.pointer p h, lt-ltb p (run_end run) l) refl
+
+pub scalar-none : (runs : List Run) (p : ℕ) → ((k : ℕ) → k < length runs → run_scalar (get_or runs k no_run) p ≡ None) → runs_scalar runs p ≡ None
+scalar-none [] p all = refl
+scalar-none (run ∷ runs) p all =
+    let here : run_scalar run p ≡ None = all 0 (omega arith) in
+    rw here (scalar-none runs p (λ k h. all (suc k) (omega arith)))
+
+scalar-some : (runs : List Run) (p n c : ℕ) → n < length runs → run_scalar (get_or runs n no_run) p ≡ Some c → ((k : ℕ) → k < n → run_scalar (get_or runs k no_run) p ≡ None) →
+    runs_scalar runs p ≡ Some c
+scalar-some [] p n c h is before = absurd (omega arith)
+scalar-some (run ∷ runs) p zero c h is before = let here : run_scalar run p ≡ Some c = is in rw here refl
+scalar-some (run ∷ runs) p (suc n) c h is before =
+    let here : run_scalar run p ≡ None = before 0 (omega arith) in
+    rw here (scalar-some runs p n c (less n (length runs) h) is (λ k l. before (suc k) (omega arith)))
+
+-- so many of the runs start at or before a pointer
+pub record IsStartedCount (runs : List Run) (p count : ℕ) : Type 0 where
+  pub within : count ≤ length runs
+  pub started : (k : ℕ) → k < count → (get_or runs k no_run).pointer ≤ p
+  pub ahead : (k : ℕ) → count ≤ k → k < length runs → p < (get_or runs k no_run).pointer
+
+pub started_count : (runs : List Run) (sets befores : List ℕ) → IsDirectory 375 sets befores (run_starts runs) → (p : ℕ) → p < 24000 →
+    IsStartedCount runs p (count_below sets befores (p / 64) (p % 64 + 1))
+started_count runs sets befores placed p h =
+    let point = placed.counts (p / 64) (p % 64 + 1) (omega arith) (omega arith) in
+    let within = subst (λ n. count_below sets befores (p / 64) (p % 64 + 1) ≤ n) (starts-length runs) point.within in
+    record {
+      within = within;
+      started = λ k l.
+          let inner : k < length runs = omega arith in
+          let low = rw (start-at runs k inner) at (point.below k l) in
+          omega arith;
+      ahead = λ k l m.
+          let high = rw (start-at runs k m) at (point.above k l (rw (starts-length runs) m)) in
+          omega arith;
+    }
+
+module _ (runs : List Run) (ordered : AreInOrder runs) (p : ℕ) where
+  -- no run starts at or before the pointer
+  pub scalar-ahead : IsStartedCount runs p 0 → runs_scalar runs p ≡ None
+  scalar-ahead count = scalar-none runs p (λ k h. outside-before (get_or runs k no_run) p (count.ahead k (omega arith) h))
+
+  module _ (n : ℕ) (count : IsStartedCount runs p (n + 1)) where
+    last_within : n < length runs
+    last_within = let w = count.within in omega arith
+
+    earlier : (k : ℕ) → k < n → run_scalar (get_or runs k no_run) p ≡ None
+    earlier k h =
+        let start = count.started n (omega arith) in
+        let end = ordered.rising k n no_run h last_within in
+        outside-behind (get_or runs k no_run) p (omega arith)
+
+    -- the last run that starts at or before the pointer has it
+    pub scalar-inside : p < run_end (get_or runs n no_run) → runs_scalar runs p ≡ Some ((get_or runs n no_run).scalar + (p - (get_or runs n no_run).pointer))
+    scalar-inside h = scalar-some runs p n _ last_within (inside (get_or runs n no_run) p (count.started n (omega arith)) h) earlier
+
+    -- or ends before it
+    pub scalar-outside : run_end (get_or runs n no_run) ≤ p → runs_scalar runs p ≡ None
+    scalar-outside h = scalar-none runs p (λ k l. elim (cases_lt k n) [
+      | inl m ↦ earlier k m
+      | inr m ↦ elim (cases_lt n k) [
+        | inl g ↦ outside-before (get_or runs k no_run) p (count.ahead k (omega arith) l)
+        | inr g ↦ let same : k ≡ n = omega arith in rw same (outside-behind (get_or runs n no_run) p h)
+      ]
+    ])
+
+  -- a pointer behind the last run
+  pub scalar-behind : (n : ℕ) → n + 1 ≡ length runs → run_end (get_or runs n no_run) ≤ p → runs_scalar runs p ≡ None
+  scalar-behind n last h = scalar-none runs p (λ k l. elim (cases_lt k n) [
+    | inl m ↦ let end = ordered.rising k n no_run m (omega arith) in outside-behind (get_or runs k no_run) p (omega arith)
+    | inr m ↦ let same : k ≡ n = omega arith in rw same (outside-behind (get_or runs n no_run) p h)
+  ])
+
+  -- a pointer past all that any index has
+  pub scalar-past : 23940 ≤ p → runs_scalar runs p ≡ None
+  scalar-past h = scalar-none runs p (λ k l. let r = ordered.reach k no_run l in outside-behind (get_or runs k no_run) p (omega arith))
+
+-- where neither runs nor an index have a pointer, they do not differ
+pub same-behind : (runs : List Run) (index : List ℕ) (p : ℕ) → length index ≤ p → runs_scalar runs p ≡ None → differs_at runs index p ≡ false
+same-behind runs index p h e = rw (get_or_past index p 0 h, e) refl
+
+-- ---- the flat list of runs
+
+end_most : (runs : List Run) (k : ℕ) → k < length runs → run_end (get_or runs k no_run) ≤ runs_end runs
+end_most [] k h = absurd (omega arith)
+end_most (run ∷ runs) zero h = omega arith
+end_most (run ∷ runs) (suc k) h = let m = end_most runs k (less k (length runs) h) in omega arith
+
+pub runs_end-within : (limit : ℕ) (runs : List Run) → ((k : ℕ) → k < length runs → run_end (get_or runs k no_run) ≤ limit) → runs_end runs ≤ limit
+runs_end-within limit [] all = omega arith
+runs_end-within limit (run ∷ runs) all =
+    let first : run_end run ≤ limit = all 0 (omega arith) in
+    let rest = runs_end-within limit runs (λ k h. all (suc k) (omega arith)) in
+    omega arith
+
+pub runs_list-length : (runs : List Run) → length (runs_list runs) ≡ runs_end runs
+unfolding runs_list
+runs_list-length runs = length-map-range_with_len (runs_entry runs) 0 (runs_end runs)
+
+-- has at each pointer what the runs give it
+pub runs_list-entry : (runs : List Run) (p : ℕ) → get_or (runs_list runs) p 0 ≡ runs_entry runs p
+unfolding runs_list
+runs_list-entry runs p = elim (cases_lt p (runs_end runs)) [
+  | inl h ↦ get_or-map-range_with_len (runs_entry runs) 0 (runs_end runs) p p 0 h (omega arith)
+  | inr h ↦
+      let past : length (map (runs_entry runs) (range_with_len 0 (runs_end runs))) ≤ p = rw (length-map-range_with_len (runs_entry runs) 0 (runs_end runs)) h in
+      let none = scalar-none runs p (λ k l. let m = end_most runs k l in outside-behind (get_or runs k no_run) p (omega arith)) in
+      get_or_past (map (runs_entry runs) (range_with_len 0 (runs_end runs))) p 0 past ∙ sym (ap (λ o. option_map_or (λ c. c) o 0) none)
+]

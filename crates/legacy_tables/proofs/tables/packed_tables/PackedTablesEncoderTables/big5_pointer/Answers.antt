@@ -1,0 +1,8 @@
+use Rattle.std.proofs.Common.{◌∙◌}
+use Rattle.legacy_tables.proofs.PointerBounds.{big5-bound}
+use Rattle.legacy_tables.proofs.tables.packed_tables.PackedTablesEncoderTables.big5_pointer.Goals as goal
+
+pub returns : goal.returns
+returns c =
+    let is = c.pointer.ensures ∙ c.self.inside.ordered.big5 c.args.scalar in
+    rw (← c.self.view_is) (record { pointer = is; within = rw is (big5-bound _ c.self.inside.accepted c.args.scalar) })

@@ -1,0 +1,12 @@
+use Rattle.std.proofs.Common.{◌≢◌, ◌-◌, ℕ, ◌<◌, ◌≤◌, slice_index}
+use Rattle.legacy_tables.proofs.tables.pointers.first_wide.Given as goal
+
+-- none so far
+abbrev pub invariant-loop-pointer : goal.invariant-loop-pointer
+invariant-loop-pointer l = record {
+  from : l.start ≤ l.pointer;
+  none : (k : ℕ) → l.start ≤ k → k < l.pointer → slice_index l.index k ≢ l.entry;
+}
+
+abbrev pub decreases-loop-pointer : goal.decreases-loop-pointer
+decreases-loop-pointer l = l.end - l.pointer

@@ -1,0 +1,13 @@
+-- What an index is, and when tables are those of given indexes.
+pub mod Unicode
+pub mod Indexes
+pub mod Pointers
+pub mod TableChecks
+pub mod AcceptedTables
+pub mod Tables
+pub mod KeptTables
+pub mod Directories
+pub mod Runs
+pub mod Packed
+pub mod Orders
+pub mod PackedTables

@@ -1,0 +1,67 @@
+-- Indexes as runs of pointers, and what they give.
+use Rattle.std.specs.Prelude.{ℕ, ◌+◌, ◌-◌, ◌≤◌, ◌<◌, List, [], ◌∷◌, Option, Some, None, Bool, ◌&&◌}
+use Rattle.std.specs.Prelude.{nat_le, nat_lt, if◌then◌else◌, length, map, max, slice_index_or}
+use Rattle.std.specs.Option.{option_or, option_map_or}
+use Rattle.std.specs.List.{range_with_len}
+use Rattle.legacy_tables.specs.declared.tables.packed.Run.{Run}
+
+-- the pointer behind a run
+abbrev pub run_end : Run → ℕ
+run_end run = run.pointer + run.length
+
+-- the scalar that a run gives pointer p
+abbrev pub run_scalar : Run → ℕ → Option ℕ
+run_scalar run p =
+    if nat_le run.pointer p && nat_lt p (run_end run)
+    then Some (run.scalar + (p - run.pointer))
+    else None
+
+-- the scalar that runs give pointer p
+abbrev pub runs_scalar : List Run → ℕ → Option ℕ
+runs_scalar [] p = None
+runs_scalar (run ∷ runs) p = option_or (run_scalar run p) (runs_scalar runs p)
+
+-- the entry that it is in a flat list, where 0 stands for none
+abbrev pub runs_entry : List Run → ℕ → ℕ
+runs_entry runs p = option_map_or (λ c. c) (runs_scalar runs p) 0
+
+-- the pointer behind all runs
+abbrev pub runs_end : List Run → ℕ
+runs_end [] = 0
+runs_end (run ∷ runs) = max (run_end run) (runs_end runs)
+
+-- the flat list of what runs give
+unfoldable pub runs_list : List Run → List ℕ
+runs_list runs = map (runs_entry runs) (range_with_len 0 (runs_end runs))
+
+-- A run has pointers, begins at or behind the end of the run before it, ends within the limit and
+-- with a number up to U+10FFFF.
+abbrev pub is_run_in_order : ℕ → ℕ → Run → Bool
+is_run_in_order before limit run =
+    (nat_lt 0 run.length && nat_le before run.pointer)
+    && (nat_le (run_end run) limit && nat_le (run.scalar + run.length) 0x11_0000)
+
+-- the first place, from the place on, of a run that is not in order
+unfoldable pub run_fault_from : ℕ → ℕ → ℕ → List Run → Option ℕ
+run_fault_from place before limit [] = None
+run_fault_from place before limit (run ∷ runs) =
+    if is_run_in_order before limit run
+    then run_fault_from (place + 1) (run_end run) limit runs
+    else Some place
+
+-- the first place of a run that is not in order
+abbrev pub run_fault : ℕ → List Run → Option ℕ
+run_fault limit runs = run_fault_from 0 0 limit runs
+
+-- runs in order, one by one
+pub record AreInOrder (runs : List Run) : Type 0 where
+  pub full : (i : ℕ) (d : Run) → i < length runs → 0 < (slice_index_or runs i d).length
+  pub reach : (i : ℕ) (d : Run) → i < length runs → run_end (slice_index_or runs i d) ≤ 23940
+  pub scalars : (i : ℕ) (d : Run) → i < length runs →
+      (slice_index_or runs i d).scalar + (slice_index_or runs i d).length ≤ 0x11_0000
+  pub rising : (i j : ℕ) (d : Run) → i < j → j < length runs →
+      run_end (slice_index_or runs i d) ≤ (slice_index_or runs j d).pointer
+
+-- the pointers where runs start
+abbrev pub run_starts : List Run → List ℕ
+run_starts runs = map (λ (run : Run). run.pointer) runs

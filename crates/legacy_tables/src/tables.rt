@@ -1,0 +1,387 @@
+//! Indexes, and tables that are made of them once they are checked.
+ghost use Rattle.std.specs.Prelude.{◌≡◌, MatchResult, Some};
+
+pub(crate) mod checks;
+pub(crate) mod decoder_tables;
+pub(crate) mod directory;
+pub(crate) mod encoder_tables;
+pub(crate) mod flat;
+pub(crate) mod lookups;
+pub(crate) mod order;
+pub(crate) mod order_checks;
+pub(crate) mod packed;
+pub(crate) mod packed_checks;
+pub(crate) mod packed_tables;
+pub(crate) mod pointers;
+pub(crate) mod private_use;
+pub(crate) mod runs;
+
+pub use decoder_tables::DecoderTables;
+pub use encoder_tables::EncoderTables;
+pub use flat::FlatTables;
+pub use packed::{Packed, PackedPart, Run};
+pub use packed_tables::PackedTables;
+pub use private_use::GB18030_2022_PUA;
+use std::fmt;
+use std::marker::Model;
+use thiserror::Error;
+
+/// The names of the indexes (Encoding Standard, "Indexes").
+#[derive(Clone, Copy, Debug, PartialEq, Eq)]
+pub enum IndexName {
+    /// Index Big5.
+    Big5,
+    /// Index EUC-KR.
+    EucKr,
+    /// Index jis0208.
+    Jis0208,
+    /// Index jis0212.
+    Jis0212,
+    /// Index gb18030.
+    Gb18030,
+    /// Index ISO-2022-JP katakana.
+    Katakana,
+    /// Index gb18030 ranges.
+    Ranges,
+}
+
+/// The index's word in messages.
+impl fmt::Display for IndexName {
+    fn fmt<W: fmt::Write>(&self, f: &mut fmt::Formatter<W>) -> fmt::Result {
+        f.write_str(match self {
+            IndexName::Big5 => "big5",
+            IndexName::EucKr => "euc-kr",
+            IndexName::Jis0208 => "jis0208",
+            IndexName::Jis0212 => "jis0212",
+            IndexName::Gb18030 => "gb18030",
+            IndexName::Katakana => "katakana",
+            IndexName::Ranges => "ranges",
+        })
+    }
+}
+
+/// Why indexes or a single-byte table are refused.
+#[derive(Debug, Drop, PartialEq, Eq, Error)]
+pub enum TableError {
+    /// The index has more entries than pointers.
+    #[error("index {0} is too long")]
+    TooLong(IndexName),
+    /// The entry is not 0 and no scalar that the index may hold.
+    #[error("index {0} has a bad entry at {1}")]
+    BadEntry(IndexName, usize),
+    /// The entry is not 0, though the decoder does not look it up.
+    #[error("index {0} must be empty at {1}")]
+    NotEmpty(IndexName, usize),
+    /// The katakana index has neither 0 nor 63 entries.
+    #[error("index katakana must have 0 or 63 entries")]
+    KatakanaLength,
+    /// The range at the place starts past the last pointer, or too low behind the range before.
+    #[error("ranges are out of order at {0}")]
+    RangeOrder(usize),
+    /// The range at the place has a scalar below U+0080, past U+FFFF, or a surrogate.
+    #[error("range {0} has a bad scalar")]
+    RangeValue(usize),
+    /// The scalar of the private-use row at the place is not above the one of the row before.
+    #[error("private-use row {0} is out of order")]
+    PuaOrder(usize),
+    /// The scalar of the private-use row at the place is none of U+E000 to U+F8FF, or is U+E5E5.
+    #[error("private-use row {0} has a bad scalar")]
+    PuaScalar(usize),
+    /// The bytes of the private-use row at the place are no lead and trail of GB18030: the lead is
+    /// none of 81 to FE, or the trail none of 40 to 7E and 80 to FE.
+    #[error("private-use row {0} has bad bytes")]
+    PuaBytes(usize),
+    /// The run or the pointer at the place of the packed part is not in order.
+    #[error("packed {0} is out of order at {1}")]
+    PackedOrder(PackedPart, usize),
+    /// The packed part gives the pointer another answer than the flat index does.
+    #[error("packed {0} differs at {1}")]
+    PackedDiffers(PackedPart, usize),
+    /// The entry at the place is not 0 and no scalar that a single-byte table may hold.
+    #[error("single-byte entry {0} is bad")]
+    BadByteEntry(usize),
+    /// The entry at the place is not 0 and stands at an earlier place too.
+    #[error("single-byte entry {0} is repeated")]
+    Repeated(usize),
+}
+
+/// Flat indexes, not checked yet. In each of the first six, entry `p` is the scalar value of
+/// pointer `p`, and 0 where the pointer has none; pointers past the end have none either.
+#[derive(Drop)]
+pub struct Indexes<'a> {
+    /// Index Big5, of at most 19782 entries. Pointers 1133, 1135, 1164 and 1166 stay 0: the decoder
+    /// gives a letter and a combining mark for each.
+    pub big5: &'a [u32],
+    /// Index EUC-KR, of at most 23940 entries.
+    pub euc_kr: &'a [u16],
+    /// Index jis0208, of at most 11280 entries. Pointers 8836 to 10715 stay 0: in Shift_JIS they
+    /// are U+E000 to U+E757.
+    pub jis0208: &'a [u16],
+    /// Index jis0212, of at most 8836 entries.
+    pub jis0212: &'a [u16],
+    /// Index gb18030, of at most 23940 entries.
+    pub gb18030: &'a [u16],
+    /// Index ISO-2022-JP katakana, of 63 entries or none.
+    pub katakana: &'a [u16],
+    /// Index gb18030 ranges, by rising pointers. `(p, s)` gives pointer `p` the scalar value `s`,
+    /// `p + 1` the scalar `s + 1`, and so on, up to the pointer before the next range's, or up to
+    /// 39419. The range from 189000 on is none of them: it is always there.
+    pub ranges: &'a [(u16, u16)],
+    /// The private-use rows of GB18030's encoder, by rising scalars. `(s, lead, trail)` gives the
+    /// scalar value `s` these two bytes. `GB18030_2022_PUA` are the standard's. No decoder reads
+    /// them.
+    pub gb18030_pua: &'a [(u16, u8, u8)],
+}
+
+/// Indexes that passed the check, by how they are kept.
+#[derive(Drop)]
+pub enum KeptTables<'a> {
+    /// As flat indexes.
+    Flat(FlatTables<'a>),
+    /// As runs and orders.
+    Packed(PackedTables<'a>),
+}
+
+/// Indexes that passed the check. They are seen as flat lists, whichever way they are kept: those
+/// that were handed in, or what the runs give.
+#[derive(Drop)]
+pub struct Tables<'a> {
+    kept: KeptTables<'a>,
+}
+
+impl<'a> Model for Tables<'a> {
+    ghost use Rattle.legacy_tables.specs.AcceptedTables.{AcceptedIndexes, coded_indexes};
+
+    ghost Value = { AcceptedIndexes };
+
+    ghost coded = { coded_indexes };
+
+    ghost use Rattle.legacy_tables.specs.KeptTables.{kept_indexes};
+
+    ghost view = { λ t. kept_indexes t.kept };
+}
+
+impl<'a> Tables<'a> {
+    ghost use Rattle.legacy_tables.specs.Indexes.{idx, range, gb18030_pua_of};
+    ghost use Rattle.legacy_tables.specs.TableChecks.{table_fault};
+    ghost use Rattle.legacy_tables.specs.Tables.{flat_indexes, index_list};
+    ghost use Rattle.legacy_tables.specs.Pointers.{big5_pointer_of, euc_kr_pointer_of};
+    ghost use Rattle.legacy_tables.specs.Pointers.{shift_jis_pointer_of, euc_jp_pointer_of};
+    ghost use Rattle.legacy_tables.specs.Pointers.{gb18030_pointer_of, range_pointer_of};
+    ghost use Rattle.std.specs.Option.{IfSome};
+    ghost use Rattle.std.specs.Prelude.{◌<◌};
+    ghost use Rattle.legacy_tables.specs.KeptTables.{kept_indexes};
+    ghost use Rattle.legacy_tables.specs.Packed.{packed_fault, ArePackedTables};
+
+    /// The tables of the indexes, or the first fault. The indexes are checked in the order of the
+    /// fields: the length first, then the entries by rising pointers; of the ranges the order
+    /// first; of the private-use rows, which come last, all of a row at once: its order, its
+    /// scalar, its bytes. Empty indexes are accepted. It takes no memory, and the slices stay
+    /// borrowed.
+    #[inline(always)]
+    pub fn new(indexes: &Indexes<'a>) -> Result<Tables<'a>, TableError>
+        ensures { MatchResult result
+            (λ tables. tables.flat ≡ flat_indexes indexes.now)
+            (λ fault. table_fault (flat_indexes indexes.now) ≡ Some fault) }
+    {
+        let tables = FlatTables::new(indexes)?;
+        Ok(Tables {
+            kept: KeptTables::Flat(tables),
+        })
+    }
+
+    /// The tables of packed indexes that give what the flat indexes do, or the first fault. The
+    /// indexes are checked first, as `new` does it; then the ten parts of the packed ones in the
+    /// order of their fields, of each part the order first. It takes no memory. Of the flat indexes
+    /// `katakana`, `ranges` and `gb18030_pua` stay borrowed, and the other five do not; the parts
+    /// of the packed ones stay borrowed.
+    pub fn packed_of(indexes: &Indexes<'a>, packed: &Packed<'a>) -> Result<Tables<'a>, TableError>
+        ensures { MatchResult result
+            (λ tables. ArePackedTables (flat_indexes indexes.now) packed.now tables.flat)
+            (λ fault. packed_fault (flat_indexes indexes.now) packed.now ≡ Some fault) }
+    {
+        let tables = PackedTables::new(indexes, packed)?;
+        Ok(Tables {
+            kept: KeptTables::Packed(tables),
+        })
+    }
+
+    /// The same tables, by how they are kept.
+    #[inline]
+    pub fn kept(&self) -> &KeptTables<'a>
+        ensures { kept_indexes result.now ≡ self.now }
+    {
+        &self.kept
+    }
+
+    /// The scalar value of the pointer in the index of the name, or `None` where it has none: where
+    /// the entry is 0, and past the index's end (Encoding Standard, "index code point"). `None` for
+    /// `Ranges`, whose pointers `range` looks up.
+    #[inline]
+    pub fn idx(&self, name: IndexName, pointer: usize) -> Option<char>
+        ensures { result ≡ idx (index_list self.now.flat name) pointer }
+    {
+        match &self.kept {
+            KeptTables::Flat(tables) => tables.idx(name, pointer),
+            KeptTables::Packed(tables) => tables.idx(name, pointer),
+        }
+    }
+
+    /// The scalar value of a pointer of four bytes, or `None` where it has none (Encoding Standard,
+    /// "index gb18030 ranges code point"): 7457 gives U+E7C7, 189000 to 1237575 give U+10000 to
+    /// U+10FFFF, pointers up to 39419 go by the last range that starts at or before them.
+    pub fn range(&self, pointer: usize) -> Option<char>
+        ensures { result ≡ range self.now.flat.ranges pointer }
+    {
+        match &self.kept {
+            KeptTables::Flat(tables) => tables.range(pointer),
+            KeptTables::Packed(tables) => tables.range(pointer),
+        }
+    }
+
+    /// The pointer that the Big5 encoder takes for the scalar value, or `None` where index Big5 has
+    /// it at no pointer from 5024 on (Encoding Standard, "index Big5 pointer"): the last of these
+    /// for U+2550, U+255E, U+2561, U+256A, U+5341 and U+5345, and else the first. Flat tables
+    /// search the index from there on.
+    #[inline]
+    pub fn big5_pointer(&self, scalar: char) -> Option<usize>
+        ensures pointer { result ≡ big5_pointer_of self.now.flat.big5 scalar }
+        ensures within { IfSome result (λ p. p < 19782) }
+    {
+        match &self.kept {
+            KeptTables::Flat(tables) => tables.big5_pointer(scalar),
+            KeptTables::Packed(tables) => tables.big5_pointer(scalar),
+        }
+    }
+
+    /// The first pointer of the scalar value in index EUC-KR, or `None` where it has none (Encoding
+    /// Standard, "index pointer"). Flat tables search the index.
+    #[inline]
+    pub fn euc_kr_pointer(&self, scalar: char) -> Option<usize>
+        ensures pointer { result ≡ euc_kr_pointer_of self.now.flat.euc_kr scalar }
+        ensures within { IfSome result (λ p. p < 23940) }
+    {
+        match &self.kept {
+            KeptTables::Flat(tables) => tables.euc_kr_pointer(scalar),
+            KeptTables::Packed(tables) => tables.euc_kr_pointer(scalar),
+        }
+    }
+
+    /// The pointer that the Shift_JIS encoder takes for the scalar value: the first one in index
+    /// jis0208 that is not one of 8272 to 8835, or `None` where there is none (Encoding Standard,
+    /// "index Shift_JIS pointer"). Flat tables search the index.
+    #[inline]
+    pub fn shift_jis_pointer(&self, scalar: char) -> Option<usize>
+        ensures pointer { result ≡ shift_jis_pointer_of self.now.flat.jis0208 scalar }
+        ensures within { IfSome result (λ p. p < 11280) }
+    {
+        match &self.kept {
+            KeptTables::Flat(tables) => tables.shift_jis_pointer(scalar),
+            KeptTables::Packed(tables) => tables.shift_jis_pointer(scalar),
+        }
+    }
+
+    /// The pointer that the EUC-JP and ISO-2022-JP encoders take for the scalar value: the first
+    /// one in index jis0208, or `None` where there is none below 8836, where their forms end
+    /// (Encoding Standard, "index pointer"). Flat tables search the index.
+    #[inline]
+    pub fn euc_jp_pointer(&self, scalar: char) -> Option<usize>
+        ensures pointer { result ≡ euc_jp_pointer_of self.now.flat.jis0208 scalar }
+        ensures within { IfSome result (λ p. p < 8836) }
+    {
+        match &self.kept {
+            KeptTables::Flat(tables) => tables.euc_jp_pointer(scalar),
+            KeptTables::Packed(tables) => tables.euc_jp_pointer(scalar),
+        }
+    }
+
+    /// The first pointer of the scalar value in index gb18030, or `None` where it has none
+    /// (Encoding Standard, "index pointer"). Flat tables search the index.
+    #[inline]
+    pub fn gb18030_pointer(&self, scalar: char) -> Option<usize>
+        ensures pointer { result ≡ gb18030_pointer_of self.now.flat.gb18030 scalar }
+        ensures within { IfSome result (λ p. p < 23940) }
+    {
+        match &self.kept {
+            KeptTables::Flat(tables) => tables.gb18030_pointer(scalar),
+            KeptTables::Packed(tables) => tables.gb18030_pointer(scalar),
+        }
+    }
+
+    /// The pointer of four bytes that has the scalar value, or `None` where none has (Encoding
+    /// Standard, "index gb18030 ranges pointer"): 7457 for U+E7C7, 189000 to 1237575 for U+10000 to
+    /// U+10FFFF, and for others by the last range whose scalars begin at or before it, which a
+    /// binary search finds.
+    #[inline]
+    pub fn range_pointer(&self, scalar: char) -> Option<usize>
+        ensures pointer { result ≡ range_pointer_of self.now.flat.ranges scalar }
+        ensures within { IfSome result (λ p. p < 1237576) }
+    {
+        match &self.kept {
+            KeptTables::Flat(tables) => tables.range_pointer(scalar),
+            KeptTables::Packed(tables) => tables.range_pointer(scalar),
+        }
+    }
+
+    /// The lead and the trail that a private-use row gives the scalar value, or `None` where no row
+    /// has it (Encoding Standard, "gb18030 encoder"). It is a binary search.
+    #[inline]
+    pub fn gb18030_pua_bytes(&self, scalar: char) -> Option<(u8, u8)>
+        ensures { result ≡ gb18030_pua_of self.now.flat.gb18030_pua scalar }
+    {
+        match &self.kept {
+            KeptTables::Flat(tables) => tables.gb18030_pua_bytes(scalar),
+            KeptTables::Packed(tables) => tables.gb18030_pua_bytes(scalar),
+        }
+    }
+}
+
+impl<'a> DecoderTables for Tables<'a> {
+    ghost indexes = { λ t. t };
+
+    #[inline]
+    fn idx(&self, name: IndexName, pointer: usize) -> Option<char> {
+        Tables::idx(self, name, pointer)
+    }
+
+    fn range(&self, pointer: usize) -> Option<char> {
+        Tables::range(self, pointer)
+    }
+}
+
+impl<'a> EncoderTables for Tables<'a> {
+    #[inline]
+    fn big5_pointer(&self, scalar: char) -> Option<usize> {
+        Tables::big5_pointer(self, scalar)
+    }
+
+    #[inline]
+    fn euc_kr_pointer(&self, scalar: char) -> Option<usize> {
+        Tables::euc_kr_pointer(self, scalar)
+    }
+
+    #[inline]
+    fn shift_jis_pointer(&self, scalar: char) -> Option<usize> {
+        Tables::shift_jis_pointer(self, scalar)
+    }
+
+    #[inline]
+    fn euc_jp_pointer(&self, scalar: char) -> Option<usize> {
+        Tables::euc_jp_pointer(self, scalar)
+    }
+
+    #[inline]
+    fn gb18030_pointer(&self, scalar: char) -> Option<usize> {
+        Tables::gb18030_pointer(self, scalar)
+    }
+
+    #[inline]
+    fn range_pointer(&self, scalar: char) -> Option<usize> {
+        Tables::range_pointer(self, scalar)
+    }
+
+    #[inline]
+    fn gb18030_pua_bytes(&self, scalar: char) -> Option<(u8, u8)> {
+        Tables::gb18030_pua_bytes(self, scalar)
+    }
+}

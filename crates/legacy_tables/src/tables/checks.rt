@@ -1,0 +1,192 @@
+//! The checks of indexes. Each answers the first fault that it finds.
+ghost use Rattle.std.specs.Prelude.{◌≡◌, ℕ, ◌+◌, ◌<◌, length, drop};
+ghost use Rattle.std.specs.Prelude.{MatchResult, Some, None, nat_le, ◌&&◌};
+ghost use Rattle.legacy_tables.specs.declared.tables.IndexName.TheVariants as names;
+ghost use Rattle.legacy_tables.specs.TableChecks.{is_narrow_entry, is_entry, must_be_empty};
+ghost use Rattle.legacy_tables.specs.TableChecks.{entry_fault, index_fault, katakana_fault};
+ghost use Rattle.legacy_tables.specs.TableChecks.{entries_fault, follows_range, range_order_fault};
+ghost use Rattle.legacy_tables.specs.TableChecks.{next_pointer, has_range_scalars, range_value_fault};
+ghost use Rattle.legacy_tables.specs.TableChecks.{table_fault};
+ghost use Rattle.legacy_tables.specs.Tables.{flat_indexes};
+
+use super::private_use::check_rows;
+use super::{IndexName, Indexes, TableError};
+
+/// The last pointer that ranges reach.
+const LAST_RANGE_POINTER: u16 = 39419;
+
+/// Whether the entry is a scalar of the Basic Multilingual Plane past ASCII.
+pub(crate) fn is_narrow(entry: u32) -> bool
+    ensures { result ≡ is_narrow_entry entry }
+{
+    matches!(entry, 0x80..=0xD7FF | 0xE000..=0xFFFF)
+}
+
+/// Whether the index may hold the entry.
+fn is_allowed(name: IndexName, entry: u32) -> bool
+    ensures { result ≡ is_entry name entry }
+{
+    match name {
+        IndexName::Big5 => is_narrow(entry) || matches!(entry, 0x2_0000..=0x2_FFFF),
+        _ => is_narrow(entry),
+    }
+}
+
+/// Whether the decoder of the index does not look the pointer up.
+fn stays_empty(name: IndexName, pointer: usize) -> bool
+    ensures { result ≡ must_be_empty name pointer }
+{
+    match name {
+        IndexName::Big5 => matches!(pointer, 1133 | 1135 | 1164 | 1166),
+        IndexName::Jis0208 => matches!(pointer, 8836..=10715),
+        _ => false,
+    }
+}
+
+/// Checks the entry of a pointer.
+fn check_entry(name: IndexName, pointer: usize, entry: u32) -> Result<(), TableError>
+    ensures { MatchResult result
+        (λ _. entry_fault name pointer entry ≡ None)
+        (λ fault. entry_fault name pointer entry ≡ Some fault) }
+{
+    if entry == 0 {
+        return Ok(());
+    }
+    if !is_allowed(name, entry) {
+        return Err(TableError::BadEntry(name, pointer));
+    }
+    if stays_empty(name, pointer) {
+        return Err(TableError::NotEmpty(name, pointer));
+    }
+    Ok(())
+}
+
+/// Checks the length and the entries of index Big5.
+#[tactic(auto, using(crate::proofs::TableLoops::entries_steps))]
+pub(super) fn check_big5(index: &[u32]) -> Result<(), TableError>
+    ensures { let found = index_fault names.Big5 19782 index.now in
+        MatchResult result (λ _. found ≡ None) (λ fault. found ≡ Some fault) }
+{
+    if index.len() > 19782 {
+        return Err(TableError::TooLong(IndexName::Big5));
+    }
+    for (pointer, entry) in index.iter().enumerate() {
+        check_entry(IndexName::Big5, pointer, *entry)?;
+    }
+    Ok(())
+}
+
+/// Checks the entries of any other index.
+#[tactic(auto, using(crate::proofs::TableLoops::entries_steps))]
+fn check_entries(name: IndexName, index: &[u16]) -> Result<(), TableError>
+    ensures { let found = entries_fault name 0 index.now in
+        MatchResult result (λ _. found ≡ None) (λ fault. found ≡ Some fault) }
+{
+    for (pointer, entry) in index.iter().enumerate() {
+        check_entry(name, pointer, u32::from(*entry))?;
+    }
+    Ok(())
+}
+
+/// Checks the length and the entries of an index of at most so many.
+pub(super) fn check_index(name: IndexName, limit: usize, index: &[u16]) -> Result<(), TableError>
+    ensures { let found = index_fault name limit index.now in
+        MatchResult result (λ _. found ≡ None) (λ fault. found ≡ Some fault) }
+{
+    if index.len() > limit {
+        return Err(TableError::TooLong(name));
+    }
+    check_entries(name, index)
+}
+
+/// Checks the length and the entries of the katakana index.
+pub(super) fn check_katakana(index: &[u16]) -> Result<(), TableError>
+    ensures { let found = katakana_fault index.now in
+        MatchResult result (λ _. found ≡ None) (λ fault. found ≡ Some fault) }
+{
+    if index.len() != 0 && index.len() != 63 {
+        return Err(TableError::KatakanaLength);
+    }
+    check_entries(IndexName::Katakana, index)
+}
+
+/// Whether the range may stand behind the one before it, and does not start past the last pointer.
+fn is_in_order(before: Option<(u16, u16)>, range: (u16, u16)) -> bool
+    ensures { result ≡ (nat_le range.0 39419 && follows_range before range) }
+{
+    if range.0 > LAST_RANGE_POINTER {
+        return false;
+    }
+    match before {
+        None => true,
+        Some((pointer, scalar)) => {
+            pointer < range.0
+                && u32::from(scalar) + u32::from(range.0 - pointer) <= u32::from(range.1)
+        }
+    }
+}
+
+/// Checks that pointers and scalars rise from range to range, and where the last one starts.
+pub(super) fn check_range_order(ranges: &[(u16, u16)]) -> Result<(), TableError>
+    ensures { let found = range_order_fault 0 None ranges.now in
+        MatchResult result (λ _. found ≡ None) (λ fault. found ≡ Some fault) }
+{
+    let mut before = None;
+    for (place, range) in ranges.iter().enumerate() {
+        if !is_in_order(before, *range) {
+            return Err(TableError::RangeOrder(place));
+        }
+        before = Some(*range);
+    }
+    Ok(())
+}
+
+/// Whether the range that ends before a pointer has scalars from U+0080 to U+FFFF alone.
+fn has_scalars(range: (u16, u16), end: u16) -> bool
+    ensures { result ≡ has_range_scalars range end }
+{
+    let past = u32::from(range.1) + u32::from(end.saturating_sub(range.0));
+    range.1 >= 0x80 && (past <= 0xD800 || (range.1 >= 0xE000 && past <= 0x1_0000))
+}
+
+/// The pointer at which the range of a place ends: the next one's, or the one past the last.
+pub(super) fn end_of(ranges: &[(u16, u16)], place: usize) -> u16
+    requires { place < length ranges.now }
+    ensures { result ≡ next_pointer (drop (place + 1) ranges.now) }
+{
+    if place + 1 < ranges.len() {
+        ranges[place + 1].0
+    } else {
+        LAST_RANGE_POINTER + 1
+    }
+}
+
+/// Checks the scalars of each range.
+pub(super) fn check_range_scalars(ranges: &[(u16, u16)]) -> Result<(), TableError>
+    ensures { let found = range_value_fault 0 ranges.now in
+        MatchResult result (λ _. found ≡ None) (λ fault. found ≡ Some fault) }
+{
+    for (place, range) in ranges.iter().enumerate() {
+        if !has_scalars(*range, end_of(ranges, place)) {
+            return Err(TableError::RangeValue(place));
+        }
+    }
+    Ok(())
+}
+
+/// Checks indexes in the order of the fields, and answers the first fault.
+#[tactic(auto, unfolding(crate::specs::TableChecks::table_fault))]
+pub(super) fn check_indexes(indexes: &Indexes<'_>) -> Result<(), TableError>
+    ensures { let found = table_fault (flat_indexes indexes.now) in
+        MatchResult result (λ _. found ≡ None) (λ fault. found ≡ Some fault) }
+{
+    check_big5(indexes.big5)?;
+    check_index(IndexName::EucKr, 23940, indexes.euc_kr)?;
+    check_index(IndexName::Jis0208, 11280, indexes.jis0208)?;
+    check_index(IndexName::Jis0212, 8836, indexes.jis0212)?;
+    check_index(IndexName::Gb18030, 23940, indexes.gb18030)?;
+    check_katakana(indexes.katakana)?;
+    check_range_order(indexes.ranges)?;
+    check_range_scalars(indexes.ranges)?;
+    check_rows(indexes.gb18030_pua)
+}

@@ -1,0 +1,165 @@
+//! Look-ups in checked indexes.
+ghost use Rattle.std.specs.Prelude.{◌≡◌, ℕ, ◌<◌, ◌≤◌, None, true, length, slice_index_or};
+ghost use Rattle.std.specs.Char.{IsScalar};
+ghost use Rattle.legacy_tables.specs.Unicode.{AreScalars};
+ghost use Rattle.legacy_tables.specs.Indexes.{entry_scalar, idx, last_range_scalar, range};
+ghost use Rattle.legacy_tables.specs.TableChecks.{range_order_fault, range_value_fault};
+ghost use Rattle.legacy_tables.specs.Runs.{runs_list};
+
+use super::runs::Runs;
+
+/// The scalar of an entry, or `None` where it is 0.
+// No test of what the check of the tables has shown: it would be one more branch for each look-up.
+#[inline]
+fn scalar_of(entry: u32) -> Option<char>
+    requires { IsScalar entry }
+    ensures { result ≡ entry_scalar entry }
+{
+    if entry == 0 {
+        None
+    } else {
+        Some(unsafe { char::from_u32_unchecked(entry) })
+    }
+}
+
+/// The scalar of a pointer in an index of wide entries.
+#[inline]
+pub(super) fn wide_entry(index: &[u32], pointer: usize) -> Option<char>
+    requires { AreScalars index.now }
+    ensures { result ≡ idx index.now pointer }
+{
+    if pointer < index.len() {
+        scalar_of(index[pointer])
+    } else {
+        None
+    }
+}
+
+/// The scalar of a pointer in an index of narrow entries.
+#[inline]
+pub(crate) fn narrow_entry(index: &[u16], pointer: usize) -> Option<char>
+    requires { AreScalars index.now }
+    ensures { result ≡ idx index.now pointer }
+{
+    if pointer < index.len() {
+        scalar_of(u32::from(index[pointer]))
+    } else {
+        None
+    }
+}
+
+/// The scalar of a pointer in an index that is kept as runs.
+#[inline]
+pub(super) fn run_scalar(runs: &Runs<'_>, pointer: usize) -> Option<char>
+    requires { AreScalars (runs_list runs.now.runs.now) }
+    ensures { result ≡ idx (runs_list runs.now.runs.now) pointer }
+{
+    scalar_of(runs.entry(pointer))
+}
+
+/// How many of the ranges start at or before a pointer: the ranges rise, so these are the first
+/// ones.
+#[inline]
+fn started_count(ranges: &[(u16, u16)], pointer: usize) -> usize
+    requires { range_order_fault 0 None ranges.now ≡ None }
+    ensures within { result ≤ length ranges.now }
+    ensures started { (k : ℕ) → k < result → (slice_index_or ranges.now k (0, 0)).0 ≤ pointer }
+    ensures ahead { (k : ℕ) → result ≤ k → k < length ranges.now →
+        pointer < (slice_index_or ranges.now k (0, 0)).0 }
+{
+    ranges.partition_point(|range| usize::from(range.0) <= pointer)
+}
+
+/// Whether the range at the place is the last that starts at or before a pointer.
+#[inline]
+fn is_last_started(ranges: &[(u16, u16)], place: usize, pointer: usize) -> bool
+    requires { range_order_fault 0 None ranges.now ≡ None }
+    ensures within { result ≡ true → place < length ranges.now }
+    ensures started { result ≡ true → (k : ℕ) → k ≤ place →
+        (slice_index_or ranges.now k (0, 0)).0 ≤ pointer }
+    ensures ahead { result ≡ true → (k : ℕ) → place < k → k < length ranges.now →
+        pointer < (slice_index_or ranges.now k (0, 0)).0 }
+{
+    if place >= ranges.len() || usize::from(ranges[place].0) > pointer {
+        return false;
+    }
+    place + 1 == ranges.len() || usize::from(ranges[place + 1].0) > pointer
+}
+
+/// How many of the ranges start at or before a pointer, of which the last is perhaps the one at the
+/// place.
+#[inline]
+fn started_count_near(ranges: &[(u16, u16)], place: usize, pointer: usize) -> usize
+    requires { range_order_fault 0 None ranges.now ≡ None }
+    ensures within { result ≤ length ranges.now }
+    ensures started { (k : ℕ) → k < result → (slice_index_or ranges.now k (0, 0)).0 ≤ pointer }
+    ensures ahead { (k : ℕ) → result ≤ k → k < length ranges.now →
+        pointer < (slice_index_or ranges.now k (0, 0)).0 }
+{
+    if is_last_started(ranges, place, pointer) {
+        place + 1
+    } else {
+        started_count(ranges, pointer)
+    }
+}
+
+/// For each 256 pointers of four bytes, the place of the last range that starts at or before the
+/// last of them. Most ranges that are in use are longer, and so it is found without a search.
+/// Nothing but time rests on it: each place is tried before it is taken.
+pub(super) fn likely_places(ranges: &[(u16, u16)]) -> [u8; 154]
+    requires { range_order_fault 0 None ranges.now ≡ None }
+    ensures { length result ≡ 154 }
+{
+    let mut places = [0u8; 154];
+    let mut block = 0;
+    while block < 154 {
+        let count = started_count(ranges, 256 * block + 255);
+        places[block] = count.saturating_sub(1).min(255) as u8;
+        block += 1;
+    }
+    places
+}
+
+/// The scalar of a pointer by the last range that starts at or before it, of which the places tell
+/// where it likely is.
+// It is made as a number of 16 bits: then whoever writes it need not ask whether it is past U+FFFF.
+#[inline]
+fn last_range(ranges: &[(u16, u16)], places: &[u8; 154], pointer: usize) -> Option<char>
+    requires reached { pointer ≤ 39419 }
+    requires ordered { range_order_fault 0 None ranges.now ≡ None }
+    requires valued { range_value_fault 0 ranges.now ≡ None }
+    ensures { result ≡ last_range_scalar ranges.now pointer }
+{
+    let likely = usize::from(places[pointer / 256]);
+    let count = started_count_near(ranges, likely, pointer);
+    if count == 0 {
+        return None;
+    }
+    let (first, scalar) = ranges[count - 1];
+    let unit = scalar + (pointer - usize::from(first)) as u16;
+    Some(unsafe { char::from_u32_unchecked(u32::from(unit)) })
+}
+
+/// The scalar of a pointer of four bytes.
+#[inline]
+#[tactic(auto, unfolding(crate::specs::Indexes::range))]
+pub(super) fn range_scalar(
+    ranges: &[(u16, u16)],
+    places: &[u8; 154],
+    pointer: usize,
+) -> Option<char>
+    requires ordered { range_order_fault 0 None ranges.now ≡ None }
+    requires valued { range_value_fault 0 ranges.now ≡ None }
+    ensures { result ≡ range ranges.now pointer }
+{
+    if pointer == 7457 {
+        return Some('\u{E7C7}');
+    }
+    if pointer <= 39419 {
+        return last_range(ranges, places, pointer);
+    }
+    if pointer >= 189000 && pointer <= 1237575 {
+        return char::from_u32(0x1_0000 + (pointer - 189000) as u32);
+    }
+    None
+}

@@ -1,0 +1,272 @@
+//! The checks of orders beside the flat indexes.
+ghost use Rattle.std.specs.Prelude.{◌≡◌, ◌≢◌, ℕ, ◌+◌, ◌≤◌, ◌<◌, List, length, slice_index};
+ghost use Rattle.std.specs.Prelude.{MatchResult, Some, None, true, false};
+ghost use Rattle.legacy_tables.specs.declared.tables.packed.PackedPart.{PackedPart};
+ghost use Rattle.legacy_tables.specs.Directories.{order_pointer};
+ghost use Rattle.legacy_tables.specs.Pointers.{is_big5_pointer, last_pointer};
+ghost use Rattle.legacy_tables.specs.Packed.{is_pointer_in_order, order_fault, is_lacking};
+ghost use Rattle.legacy_tables.specs.Packed.{order_difference, pointers_fault, pointer_of};
+ghost use Rattle.legacy_tables.specs.Packed.{all_orders_fault, may_use};
+ghost use Rattle.legacy_tables.specs.PackedTables.{AreOrdersOf, AreLastPointers};
+ghost use Rattle.legacy_tables.specs.TableChecks.{table_fault};
+ghost use Rattle.legacy_tables.specs.Tables.{flat_indexes};
+ghost use Rattle.legacy_tables.specs.Orders.{HasNumbers, IsLookup, takes_last};
+
+use super::directory::Numbers;
+use super::order::Order;
+use super::packed::{Packed, PackedPart};
+use super::packed_checks::{Narrow, Wide, entry_at};
+use super::pointers::takes_last;
+use super::{Indexes, TableError};
+
+/// Whether the codec of an order may use the pointer.
+fn is_usable(part: PackedPart, pointer: usize) -> bool
+    ensures { result ≡ may_use part pointer }
+{
+    match part {
+        PackedPart::Big5Order => pointer >= 5024,
+        PackedPart::ShiftJisOrder => !(8272..=8835).contains(&pointer),
+        PackedPart::EucJpOrder => pointer < 8836,
+        _ => true,
+    }
+}
+
+/// Whether the codec of an order takes the last of the scalar's pointers.
+fn takes_last_of(part: PackedPart, scalar: usize) -> bool
+    ensures { result ≡ takes_last part scalar }
+{
+    match part {
+        PackedPart::Big5Order => takes_last(scalar),
+        _ => false,
+    }
+}
+
+/// Whether the codec may use the pointer, and its scalar is above another.
+fn is_in_order<N: Numbers>(part: PackedPart, index: &N, above: usize, pointer: usize) -> bool
+    ensures { result ≡ is_pointer_in_order part (N.numbers index.now) above pointer }
+{
+    is_usable(part, pointer) && entry_at(index, pointer) > above
+}
+
+/// The first place of a pointer that is not in order.
+fn first_out_of_order<N: Numbers>(part: PackedPart, index: &N, order: &[u16]) -> Option<usize>
+    ensures { result ≡ order_fault part (N.numbers index.now) order.now }
+{
+    let mut above = 0;
+    for (place, pointer) in order.iter().enumerate() {
+        if !is_in_order(part, index, above, usize::from(*pointer)) {
+            return Some(place);
+        }
+        above = entry_at(index, usize::from(*pointer));
+    }
+    None
+}
+
+/// The pointers that Big5 takes for the six scalars of which it takes the last. They are found
+/// once: a search for each pointer of theirs would take the square of the index's length, where all
+/// its entries are one of them.
+#[derive(Drop)]
+pub(super) struct LastPointers {
+    of_2550: Option<usize>,
+    of_255e: Option<usize>,
+    of_2561: Option<usize>,
+    of_256a: Option<usize>,
+    of_5341: Option<usize>,
+    of_5345: Option<usize>,
+}
+
+/// The last pointer from 5024 on that has the entry.
+fn last_entry<N: Numbers>(index: &N, entry: usize) -> Option<usize>
+    requires { entry ≢ 0 }
+    ensures { result ≡ last_pointer is_big5_pointer (N.numbers index.now) entry }
+{
+    let mut behind = index.count();
+    while behind > 5024 {
+        behind -= 1;
+        if index.number(behind) == entry {
+            return Some(behind);
+        }
+    }
+    None
+}
+
+/// The last pointer of a scalar that Big5's encoder may use. The other encoders take no last ones.
+fn last_taken<N: Numbers>(part: PackedPart, index: &N, scalar: usize) -> Option<usize>
+    requires { scalar ≢ 0 }
+    ensures { takes_last part scalar ≡ true →
+        pointer_of part (N.numbers index.now) scalar ≡ result }
+{
+    match part {
+        PackedPart::Big5Order => last_entry(index, scalar),
+        _ => None,
+    }
+}
+
+/// The last pointers of an index.
+fn last_pointers<N: Numbers>(part: PackedPart, index: &N) -> LastPointers
+    ensures { AreLastPointers part (N.numbers index.now) result }
+{
+    LastPointers {
+        of_2550: last_taken(part, index, 0x2550),
+        of_255e: last_taken(part, index, 0x255E),
+        of_2561: last_taken(part, index, 0x2561),
+        of_256a: last_taken(part, index, 0x256A),
+        of_5341: last_taken(part, index, 0x5341),
+        of_5345: last_taken(part, index, 0x5345),
+    }
+}
+
+/// The one of these that is taken for a scalar.
+fn last_of(lasts: &LastPointers, scalar: usize) -> Option<usize>
+    ensures { (part : PackedPart) (index : List ℕ) → AreLastPointers part index lasts.now →
+        takes_last part scalar ≡ true → pointer_of part index scalar ≡ result }
+{
+    match scalar {
+        0x2550 => lasts.of_2550,
+        0x255E => lasts.of_255e,
+        0x2561 => lasts.of_2561,
+        0x256A => lasts.of_256a,
+        0x5341 => lasts.of_5341,
+        0x5345 => lasts.of_5345,
+        _ => None,
+    }
+}
+
+/// Whether what is taken is another pointer than one, or none.
+fn is_other(taken: Option<usize>, pointer: usize) -> bool
+    ensures same { result ≡ false → taken ≡ Some pointer }
+    ensures other { result ≡ true → taken ≡ Some pointer → ⊥ }
+{
+    match taken {
+        Some(taken) => taken != pointer,
+        None => true,
+    }
+}
+
+/// Whether the order lacks the scalar of a pointer, where it lacks none of the pointers before. But
+/// for Big5's six scalars the first pointer is taken: so the order has another one than it should
+/// where it has a later one.
+fn lacks<const BLOCKS: usize, N: Numbers>(
+    part: PackedPart,
+    index: &N,
+    order: &Order<'_, BLOCKS>,
+    lasts: &LastPointers,
+    pointer: usize,
+) -> bool
+    requires lasts { AreLastPointers part (N.numbers index.now) lasts.now }
+    requires lookup { IsLookup part (N.numbers index.now) order.now.pointers.now
+        (order_pointer BLOCKS order.now.scalars.sets order.now.scalars.befores
+        order.now.pointers.now) }
+    requires passed { (k : ℕ) → k < pointer →
+        is_lacking part (N.numbers index.now) order.now.pointers.now k ≡ false }
+    ensures { result ≡ is_lacking part (N.numbers index.now) order.now.pointers.now pointer }
+{
+    let scalar = entry_at(index, pointer);
+    if scalar == 0 {
+        return false;
+    }
+    if !is_usable(part, pointer) {
+        return false;
+    }
+    match order.pointer(scalar) {
+        None => true,
+        Some(held) => {
+            if takes_last_of(part, scalar) {
+                is_other(last_of(lasts, scalar), held)
+            } else {
+                held > pointer
+            }
+        }
+    }
+}
+
+/// The least pointer whose scalar the order lacks.
+fn first_difference<const BLOCKS: usize, N: Numbers>(
+    part: PackedPart,
+    index: &N,
+    order: &Order<'_, BLOCKS>,
+) -> Option<usize>
+    requires lookup { IsLookup part (N.numbers index.now) order.now.pointers.now
+        (order_pointer BLOCKS order.now.scalars.sets order.now.scalars.befores
+        order.now.pointers.now) }
+    ensures { result ≡ order_difference part (N.numbers index.now) order.now.pointers.now }
+{
+    let lasts = last_pointers(part, index);
+    for pointer in 0..index.count() {
+        if lacks(part, index, order, &lasts, pointer) {
+            return Some(pointer);
+        }
+    }
+    None
+}
+
+/// An order that is in order and has all scalars with the pointers that the codec takes.
+pub(super) fn order_of<'a, const BLOCKS: usize, N: Numbers>(
+    part: PackedPart,
+    order: &'a [u16],
+    index: &N,
+) -> Result<Order<'a, BLOCKS>, TableError>
+    requires few { length (N.numbers index.now) < 65536 }
+    requires numbered { HasNumbers BLOCKS (N.numbers index.now) }
+    ensures { let found = pointers_fault part (N.numbers index.now) order.now in
+        MatchResult result
+        (λ o. ((c : ℕ) → order_pointer BLOCKS o.scalars.sets o.scalars.befores o.pointers.now c
+        ≡ pointer_of part (N.numbers index.now) c) × (found ≡ None))
+        (λ fault. found ≡ Some fault) }
+{
+    if let Some(at) = first_out_of_order(part, index, order) {
+        return Err(TableError::PackedOrder(part, at));
+    }
+    let checked = Order::new(part, order, index);
+    match first_difference(part, index, &checked) {
+        Some(at) => Err(TableError::PackedDiffers(part, at)),
+        None => Ok(checked),
+    }
+}
+
+/// The orders of the five codecs.
+#[derive(Drop)]
+pub(super) struct AllOrders<'a> {
+    pub(super) big5: Order<'a, 2048>,
+    pub(super) euc_kr: Order<'a, 1024>,
+    pub(super) shift_jis: Order<'a, 1024>,
+    pub(super) euc_jp: Order<'a, 1024>,
+    pub(super) gb18030: Order<'a, 1024>,
+}
+
+/// The orders of the five codecs, in order and with the pointers that the codecs take.
+pub(super) fn all_orders_of<'a>(
+    indexes: &Indexes<'_>,
+    packed: &Packed<'a>,
+) -> Result<AllOrders<'a>, TableError>
+    requires { table_fault (flat_indexes indexes.now) ≡ None }
+    ensures { let found = all_orders_fault (flat_indexes indexes.now) packed.now in
+        MatchResult result
+        (λ o. AreOrdersOf o (flat_indexes indexes.now) × (found ≡ None))
+        (λ fault. found ≡ Some fault) }
+{
+    let wide = Wide {
+        entries: indexes.big5,
+    };
+    let big5 = order_of(PackedPart::Big5Order, packed.big5_order, &wide)?;
+    let narrow = Narrow {
+        entries: indexes.euc_kr,
+    };
+    let euc_kr = order_of(PackedPart::EucKrOrder, packed.euc_kr_order, &narrow)?;
+    let narrow = Narrow {
+        entries: indexes.jis0208,
+    };
+    let shift_jis = order_of(PackedPart::ShiftJisOrder, packed.shift_jis_order, &narrow)?;
+    let euc_jp = order_of(PackedPart::EucJpOrder, packed.euc_jp_order, &narrow)?;
+    let narrow = Narrow {
+        entries: indexes.gb18030,
+    };
+    let gb18030 = order_of(PackedPart::Gb18030Order, packed.gb18030_order, &narrow)?;
+    Ok(AllOrders {
+        big5,
+        euc_kr,
+        shift_jis,
+        euc_jp,
+        gb18030,
+    })
+}

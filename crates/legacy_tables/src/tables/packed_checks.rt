@@ -1,0 +1,167 @@
+//! The checks of packed indexes beside the flat ones. Each answers the first fault that it finds.
+ghost use Rattle.std.specs.Prelude.{◌≡◌, ℕ, ◌+◌, ◌≤◌, ◌<◌, List, length, slice_index, MatchResult};
+ghost use Rattle.std.specs.Prelude.{Some, None};
+ghost use Rattle.legacy_tables.specs.Indexes.{idx};
+ghost use Rattle.legacy_tables.specs.Packed.{differs_at, run_difference, runs_fault, all_runs_fault};
+ghost use Rattle.legacy_tables.specs.PackedTables.{AreRunsOf};
+ghost use Rattle.legacy_tables.specs.Tables.{flat_indexes};
+
+use super::directory::Numbers;
+use super::packed::{Packed, PackedPart, Run};
+use super::runs::{Runs, first_out_of_order};
+use super::{Indexes, TableError};
+
+/// The entries of a flat index of wide entries.
+#[derive(Drop)]
+pub(super) struct Wide<'a> {
+    pub(super) entries: &'a [u32],
+}
+
+impl<'a> Numbers for Wide<'a> {
+    ghost numbers = { λ s. s.entries.now };
+
+    fn count(&self) -> usize {
+        self.entries.len()
+    }
+
+    fn number(&self, at: usize) -> usize {
+        self.entries[at] as usize
+    }
+}
+
+/// The entries of a flat index of narrow entries.
+#[derive(Drop)]
+pub(super) struct Narrow<'a> {
+    pub(super) entries: &'a [u16],
+}
+
+impl<'a> Numbers for Narrow<'a> {
+    ghost numbers = { λ s. s.entries.now };
+
+    fn count(&self) -> usize {
+        self.entries.len()
+    }
+
+    fn number(&self, at: usize) -> usize {
+        usize::from(self.entries[at])
+    }
+}
+
+/// The entry of a pointer, and 0 past the index's end.
+pub(super) fn entry_at<N: Numbers>(index: &N, pointer: usize) -> usize
+    ensures { result ≡ slice_index (N.numbers index.now) pointer }
+{
+    if pointer < index.count() {
+        index.number(pointer)
+    } else {
+        0
+    }
+}
+
+/// The number that a flat index has for a pointer.
+fn flat_scalar<N: Numbers>(index: &N, pointer: usize) -> Option<usize>
+    ensures { result ≡ idx (N.numbers index.now) pointer }
+{
+    if pointer >= index.count() {
+        return None;
+    }
+    let entry = index.number(pointer);
+    if entry == 0 { None } else { Some(entry) }
+}
+
+/// Whether the runs give a pointer another answer than the flat index.
+fn differs<N: Numbers>(runs: &Runs, index: &N, pointer: usize) -> bool
+    ensures { result ≡ differs_at runs.now.runs.now (N.numbers index.now) pointer }
+{
+    match (flat_scalar(index, pointer), runs.scalar(pointer)) {
+        (None, None) => false,
+        (Some(entry), Some(scalar)) => entry != scalar as usize,
+        _ => true,
+    }
+}
+
+/// The least pointer below the limit at which the runs give another answer than the flat index.
+fn first_difference<N: Numbers>(limit: usize, runs: &Runs, index: &N) -> Option<usize>
+    ensures { result ≡ run_difference limit runs.now.runs.now (N.numbers index.now) }
+{
+    let end = index.count().max(runs.end()).min(limit);
+    for pointer in 0..end {
+        if differs(runs, index, pointer) {
+            return Some(pointer);
+        }
+    }
+    None
+}
+
+/// Runs that are in order and give what the flat index does.
+pub(super) fn runs_of<'a, N: Numbers>(
+    part: PackedPart,
+    limit: usize,
+    runs: &'a [Run],
+    index: &N,
+) -> Result<Runs<'a>, TableError>
+    requires { limit ≤ 23940 }
+    ensures { let found = runs_fault part limit runs.now (N.numbers index.now) in
+        MatchResult result
+        (λ r. (r.runs.now ≡ runs.now) × (found ≡ None))
+        (λ fault. found ≡ Some fault) }
+{
+    if let Some(at) = first_out_of_order(limit, runs) {
+        return Err(TableError::PackedOrder(part, at));
+    }
+    let checked = Runs::new(limit, runs);
+    match first_difference(limit, &checked, index) {
+        Some(at) => Err(TableError::PackedDiffers(part, at)),
+        None => Ok(checked),
+    }
+}
+
+/// The runs of the five indexes.
+#[derive(Drop)]
+pub(super) struct AllRuns<'a> {
+    pub(super) big5: Runs<'a>,
+    pub(super) euc_kr: Runs<'a>,
+    pub(super) jis0208: Runs<'a>,
+    pub(super) jis0212: Runs<'a>,
+    pub(super) gb18030: Runs<'a>,
+}
+
+/// The runs of the five indexes, in order and giving what the flat indexes do.
+#[tactic(auto, unfolding(crate::specs::Packed::all_runs_fault))]
+pub(super) fn all_runs_of<'a>(
+    indexes: &Indexes<'_>,
+    packed: &Packed<'a>,
+) -> Result<AllRuns<'a>, TableError>
+    ensures { let found = all_runs_fault (flat_indexes indexes.now) packed.now in
+        MatchResult result
+        (λ r. AreRunsOf r packed.now × (found ≡ None))
+        (λ fault. found ≡ Some fault) }
+{
+    let wide = Wide {
+        entries: indexes.big5,
+    };
+    let big5 = runs_of(PackedPart::Big5, 19782, packed.big5, &wide)?;
+    let narrow = Narrow {
+        entries: indexes.euc_kr,
+    };
+    let euc_kr = runs_of(PackedPart::EucKr, 23940, packed.euc_kr, &narrow)?;
+    let narrow = Narrow {
+        entries: indexes.jis0208,
+    };
+    let jis0208 = runs_of(PackedPart::Jis0208, 11280, packed.jis0208, &narrow)?;
+    let narrow = Narrow {
+        entries: indexes.jis0212,
+    };
+    let jis0212 = runs_of(PackedPart::Jis0212, 8836, packed.jis0212, &narrow)?;
+    let narrow = Narrow {
+        entries: indexes.gb18030,
+    };
+    let gb18030 = runs_of(PackedPart::Gb18030, 23940, packed.gb18030, &narrow)?;
+    Ok(AllRuns {
+        big5,
+        euc_kr,
+        jis0208,
+        jis0212,
+        gb18030,
+    })
+}

@@ -1,0 +1,293 @@
+//! Look-ups of the pointer that an encoder takes for a scalar.
+ghost use Rattle.std.specs.Prelude.{◌≡◌, ◌≢◌, ℕ, ◌+◌, ◌<◌, ◌≤◌, ◌&&◌, nat_le, nat_lt, length};
+ghost use Rattle.std.specs.Prelude.{None, true, slice_index, slice_index_or};
+ghost use Rattle.legacy_tables.specs.Pointers.{every_pointer, first_pointer, last_pointer};
+ghost use Rattle.legacy_tables.specs.Pointers.{big5_pointer_of, takes_last_big5_pointer};
+ghost use Rattle.legacy_tables.specs.Pointers.{shift_jis_pointer_of, euc_jp_pointer_of};
+ghost use Rattle.legacy_tables.specs.Pointers.{range_pointer_of};
+ghost use Rattle.legacy_tables.specs.TableChecks.{range_order_fault, range_value_fault};
+
+use super::checks::end_of;
+
+// An index is searched by blocks of 64 bytes, whose entries the library compares as vectors; the
+// place in a block is searched only where the entry is in it.
+
+/// Whether none of the 16 entries from a pointer on is the entry.
+#[inline(always)]
+fn is_past_wide(index: &[u32], from: usize, entry: u32) -> bool
+    requires { from + 16 ≤ length index.now }
+    ensures { result ≡ true → (k : ℕ) → from ≤ k → k < from + 16 → slice_index index.now k ≢ entry }
+{
+    !index[from..from + 16].contains(&entry)
+}
+
+/// A pointer from `start` on such that none before it, from `start` on, has the entry: that of the
+/// first block that has it, or behind the last whole block before `end`.
+fn first_block_wide(index: &[u32], start: usize, end: usize, entry: u32) -> usize
+    requires { end ≤ length index.now }
+    ensures from { start ≤ result }
+    ensures none { (k : ℕ) → start ≤ k → k < result → slice_index index.now k ≢ entry }
+{
+    let mut pointer = start;
+    let mut blocks = end.saturating_sub(start) / 16;
+    while blocks > 0 && is_past_wide(index, pointer, entry) {
+        pointer += 16;
+        blocks -= 1;
+    }
+    pointer
+}
+
+/// The first pointer from `start` on and before `end` that has the entry.
+fn first_wide(index: &[u32], start: usize, end: usize, entry: u32) -> Option<usize>
+    requires within { end ≤ length index.now }
+    requires some { entry ≢ 0 }
+    ensures { result ≡ first_pointer (λ p. nat_le start p && nat_lt p end) index.now entry }
+{
+    let mut pointer = first_block_wide(index, start, end, entry);
+    while pointer < end {
+        if index[pointer] == entry {
+            return Some(pointer);
+        }
+        pointer += 1;
+    }
+    None
+}
+
+/// The pointer behind the last block, counted from the index's end, that has the entry, or behind
+/// less than a block from `start` on: no pointer from there on has it.
+fn last_block_wide(index: &[u32], start: usize, entry: u32) -> usize
+    ensures within { result ≤ length index.now }
+    ensures none { (k : ℕ) → result ≤ k → k < length index.now → slice_index index.now k ≢ entry }
+{
+    let mut behind = index.len();
+    let mut blocks = index.len().saturating_sub(start) / 16;
+    while blocks > 0 && is_past_wide(index, behind - 16, entry) {
+        behind -= 16;
+        blocks -= 1;
+    }
+    behind
+}
+
+/// The last pointer from `start` on that has the entry.
+fn last_wide(index: &[u32], start: usize, entry: u32) -> Option<usize>
+    requires { entry ≢ 0 }
+    ensures { result ≡ last_pointer (nat_le start) index.now entry }
+{
+    let mut behind = last_block_wide(index, start, entry);
+    while behind > start {
+        behind -= 1;
+        if index[behind] == entry {
+            return Some(behind);
+        }
+    }
+    None
+}
+
+/// Whether Big5 takes the last of the scalar's pointers.
+pub(super) fn takes_last(scalar: usize) -> bool
+    ensures { result ≡ takes_last_big5_pointer scalar }
+{
+    matches!(scalar, 0x2550 | 0x255E | 0x2561 | 0x256A | 0x5341 | 0x5345)
+}
+
+/// The pointer of a scalar in Big5.
+pub(super) fn big5_pointer(index: &[u32], scalar: char) -> Option<usize>
+    ensures { result ≡ big5_pointer_of index.now scalar }
+{
+    let entry = u32::from(scalar);
+    if entry == 0 {
+        return None;
+    }
+    if takes_last(entry as usize) {
+        last_wide(index, 5024, entry)
+    } else {
+        first_wide(index, 5024, index.len(), entry)
+    }
+}
+
+/// Whether none of the 32 entries from a pointer on is the entry.
+#[inline(always)]
+fn is_past_narrow(index: &[u16], from: usize, entry: u16) -> bool
+    requires { from + 32 ≤ length index.now }
+    ensures { result ≡ true → (k : ℕ) → from ≤ k → k < from + 32 → slice_index index.now k ≢ entry }
+{
+    !index[from..from + 32].contains(&entry)
+}
+
+/// A pointer from `start` on such that none before it, from `start` on, has the entry: that of the
+/// first block that has it, or behind the last whole block before `end`.
+fn first_block_narrow(index: &[u16], start: usize, end: usize, entry: u16) -> usize
+    requires { end ≤ length index.now }
+    ensures from { start ≤ result }
+    ensures none { (k : ℕ) → start ≤ k → k < result → slice_index index.now k ≢ entry }
+{
+    let mut pointer = start;
+    let mut blocks = end.saturating_sub(start) / 32;
+    while blocks > 0 && is_past_narrow(index, pointer, entry) {
+        pointer += 32;
+        blocks -= 1;
+    }
+    pointer
+}
+
+/// The first pointer from `start` on and before `end` that has the entry.
+fn first_narrow(index: &[u16], start: usize, end: usize, entry: u16) -> Option<usize>
+    requires within { end ≤ length index.now }
+    requires some { entry ≢ 0 }
+    ensures { result ≡ first_pointer (λ p. nat_le start p && nat_lt p end) index.now entry }
+{
+    let mut pointer = first_block_narrow(index, start, end, entry);
+    while pointer < end {
+        if index[pointer] == entry {
+            return Some(pointer);
+        }
+        pointer += 1;
+    }
+    None
+}
+
+/// The first pointer from `start` on and before `end` that has the scalar.
+fn first_between(index: &[u16], start: usize, end: usize, scalar: char) -> Option<usize>
+    requires { end ≤ length index.now }
+    ensures { result ≡ first_pointer (λ p. nat_le start p && nat_lt p end) index.now scalar }
+{
+    let entry = u32::from(scalar);
+    if entry == 0 {
+        return None;
+    }
+    if entry > 0xFFFF {
+        return None;
+    }
+    first_narrow(index, start, end, entry as u16)
+}
+
+/// The first pointer of a scalar.
+pub(super) fn first(index: &[u16], scalar: char) -> Option<usize>
+    ensures { result ≡ first_pointer every_pointer index.now scalar }
+{
+    first_between(index, 0, index.len(), scalar)
+}
+
+/// The pointer of a scalar in Shift_JIS.
+pub(super) fn shift_jis_pointer(jis0208: &[u16], scalar: char) -> Option<usize>
+    ensures { result ≡ shift_jis_pointer_of jis0208.now scalar }
+{
+    match first_between(jis0208, 0, jis0208.len().min(8272), scalar) {
+        Some(pointer) => Some(pointer),
+        None => first_between(jis0208, 8836, jis0208.len(), scalar),
+    }
+}
+
+/// The pointer of a scalar in EUC-JP and in ISO-2022-JP.
+pub(super) fn euc_jp_pointer(jis0208: &[u16], scalar: char) -> Option<usize>
+    ensures { result ≡ euc_jp_pointer_of jis0208.now scalar }
+{
+    first_between(jis0208, 0, jis0208.len().min(8836), scalar)
+}
+
+/// How many of the ranges have a first scalar at or before the scalar: the ranges rise, so these
+/// are the first ones.
+fn ranges_up_to(ranges: &[(u16, u16)], scalar: usize) -> usize
+    requires { range_order_fault 0 None ranges.now ≡ None }
+    ensures within { result ≤ length ranges.now }
+    ensures reached { (k : ℕ) → k < result → (slice_index_or ranges.now k (0, 0)).1 ≤ scalar }
+    ensures ahead { (k : ℕ) → result ≤ k → k < length ranges.now →
+        scalar < (slice_index_or ranges.now k (0, 0)).1 }
+{
+    ranges.partition_point(|range| usize::from(range.1) <= scalar)
+}
+
+/// Whether the range at the place is the last whose first scalar is at or before a scalar.
+#[inline]
+fn is_last_begun(ranges: &[(u16, u16)], place: usize, scalar: usize) -> bool
+    requires { range_order_fault 0 None ranges.now ≡ None }
+    ensures within { result ≡ true → place < length ranges.now }
+    ensures reached { result ≡ true → (k : ℕ) → k ≤ place →
+        (slice_index_or ranges.now k (0, 0)).1 ≤ scalar }
+    ensures ahead { result ≡ true → (k : ℕ) → place < k → k < length ranges.now →
+        scalar < (slice_index_or ranges.now k (0, 0)).1 }
+{
+    if place >= ranges.len() || usize::from(ranges[place].1) > scalar {
+        return false;
+    }
+    place + 1 == ranges.len() || usize::from(ranges[place + 1].1) > scalar
+}
+
+/// How many of the ranges have a first scalar at or before the scalar, of which the last is perhaps
+/// the one at the place.
+#[inline]
+fn ranges_up_to_near(ranges: &[(u16, u16)], place: usize, scalar: usize) -> usize
+    requires { range_order_fault 0 None ranges.now ≡ None }
+    ensures within { result ≤ length ranges.now }
+    ensures reached { (k : ℕ) → k < result → (slice_index_or ranges.now k (0, 0)).1 ≤ scalar }
+    ensures ahead { (k : ℕ) → result ≤ k → k < length ranges.now →
+        scalar < (slice_index_or ranges.now k (0, 0)).1 }
+{
+    if is_last_begun(ranges, place, scalar) {
+        place + 1
+    } else {
+        ranges_up_to(ranges, scalar)
+    }
+}
+
+/// For each 256 scalars of the Basic Multilingual Plane, the place of the last range whose first
+/// scalar is at or before the last of them. Nothing but time rests on it: each place is tried
+/// before it is taken.
+pub(super) fn likely_ranges(ranges: &[(u16, u16)]) -> [u8; 256]
+    requires { range_order_fault 0 None ranges.now ≡ None }
+    ensures { length result ≡ 256 }
+{
+    let mut places = [0u8; 256];
+    let mut block = 0;
+    while block < 256 {
+        let count = ranges_up_to(ranges, 256 * block + 255);
+        places[block] = count.saturating_sub(1).min(255) as u8;
+        block += 1;
+    }
+    places
+}
+
+/// The pointer of four bytes of a scalar of the Basic Multilingual Plane that is not U+E7C7.
+#[inline]
+fn pointer_in_ranges(ranges: &[(u16, u16)], places: &[u8; 256], scalar: usize) -> Option<usize>
+    requires ordered { range_order_fault 0 None ranges.now ≡ None }
+    requires narrow { scalar < 0x1_0000 }
+    requires free { scalar ≢ 0xE7C7 }
+    ensures { result ≡ range_pointer_of ranges.now scalar }
+{
+    let likely = usize::from(places[scalar / 256]);
+    let count = ranges_up_to_near(ranges, likely, scalar);
+    if count == 0 {
+        return None;
+    }
+    let (first, lowest) = ranges[count - 1];
+    let pointer = usize::from(first) + (scalar - usize::from(lowest));
+    if pointer >= usize::from(end_of(ranges, count - 1)) {
+        return None;
+    }
+    if pointer == 7457 {
+        return None;
+    }
+    Some(pointer)
+}
+
+/// The pointer of four bytes of a scalar.
+#[inline]
+pub(super) fn range_pointer(
+    ranges: &[(u16, u16)],
+    places: &[u8; 256],
+    scalar: char,
+) -> Option<usize>
+    requires ordered { range_order_fault 0 None ranges.now ≡ None }
+    requires valued { range_value_fault 0 ranges.now ≡ None }
+    ensures { result ≡ range_pointer_of ranges.now scalar }
+{
+    if scalar == '\u{E7C7}' {
+        return Some(7457);
+    }
+    let number = u32::from(scalar) as usize;
+    if number >= 0x1_0000 {
+        return Some(189000 + (number - 0x1_0000));
+    }
+    pointer_in_ranges(ranges, places, number)
+}

@@ -1,0 +1,60 @@
+-- The bytes of a scalar, by its range.
+use Rattle.std.proofs.Common.{◌≡◌, ◌∙◌, ℕ, ◌+◌, ◌-◌, ◌/◌, ◌%◌, ◌≤◌, ◌<◌, List, [], ◌∷◌, ◌++◌, length, refl, ap, arith, append_assoc, length-append}
+use Rattle.std.proofs.lemmas.List.Concat.{flat_map-append}
+use Rattle.std.proofs.lemmas.Bool.{lt-ltb, le-ltb}
+use lib.Utf8.{encode}
+use Rattle.std.proofs.lemmas.Bool.Decides.{nat_tests}
+use Rattle.legacy_text.specs.EncodingForm.{EncodingForm, code_units, all_code_units, total_unit_count, Utf8, Utf16, bmp_room, wide_room}
+use Rattle.std.specs.Char.Escape.{encode_utf16}
+
+pub encode_1 : (c : ℕ) → c < 128 → encode c ≡ c ∷ []
+unfolding encode
+encode_1 c a = rw (lt-ltb c 128 a) refl
+
+pub encode_2 : (c : ℕ) → 128 ≤ c → c < 2048 → encode c ≡ (192 + c / 64) ∷ (128 + c % 64) ∷ []
+unfolding encode
+encode_2 c a b = rw (le-ltb c 128 a, lt-ltb c 2048 b) refl
+
+pub encode_3 : (c : ℕ) → 2048 ≤ c → c < 65536 → encode c ≡ (224 + c / 4096) ∷ (128 + c / 64 % 64) ∷ (128 + c % 64) ∷ []
+unfolding encode
+encode_3 c a b = let a' : 128 ≤ c = omega arith in rw (le-ltb c 128 a', le-ltb c 2048 a, lt-ltb c 65536 b) refl
+
+pub encode_4 : (c : ℕ) → 65536 ≤ c → encode c ≡ (240 + c / 262144) ∷ (128 + c / 4096 % 64) ∷ (128 + c / 64 % 64) ∷ (128 + c % 64) ∷ []
+unfolding encode
+encode_4 c a = let b : 128 ≤ c = omega arith in let d : 2048 ≤ c = omega arith in rw (le-ltb c 128 b, le-ltb c 2048 d, le-ltb c 65536 a) refl
+
+pub utf16_1 : (c : ℕ) → c < 65536 → encode_utf16 c ≡ c ∷ []
+utf16_1 c a = rw (lt-ltb c 65536 a) refl
+
+pub utf16_2 : (c : ℕ) → 65536 ≤ c → encode_utf16 c ≡ (55296 + (c - 65536) / 1024) ∷ (56320 + (c - 65536) % 1024) ∷ []
+utf16_2 c a = rw (le-ltb c 65536 a) refl
+
+pub ruleset encoding_utf16 = (utf16_1, utf16_2)
+
+pub ruleset encoding = (encode_1, encode_2, encode_3, encode_4, append_assoc)
+
+-- a scalar up to U+FFFF fits into the room for one
+pub length-code_units-bmp : (form : EncodingForm) (c : ℕ) → c < 65536 → length (code_units form c) ≤ bmp_room form
+unfolding encode
+length-code_units-bmp Utf16 c h = grind (arith, nat_tests)
+length-code_units-bmp Utf8 c h = grind (arith, nat_tests)
+
+-- any scalar fits into the room for any
+pub length-code_units-wide : (form : EncodingForm) (c : ℕ) → length (code_units form c) ≤ wide_room form
+unfolding encode
+length-code_units-wide Utf16 c = grind (arith, nat_tests)
+length-code_units-wide Utf8 c = grind (arith, nat_tests)
+
+-- an ASCII scalar takes one unit
+pub length-code_units-ascii : (form : EncodingForm) (c : ℕ) → c < 128 → length (code_units form c) ≡ 1
+unfolding encode
+length-code_units-ascii Utf16 c h = grind (arith, nat_tests)
+length-code_units-ascii Utf8 c h = grind (arith, nat_tests)
+
+-- ---- more scalars behind
+
+pub all_code_units-append : (form : EncodingForm) (xs ys : List ℕ) → all_code_units form (xs ++ ys) ≡ all_code_units form xs ++ all_code_units form ys
+all_code_units-append form xs ys = flat_map-append (code_units form) xs ys
+
+pub total_unit_count-append : (form : EncodingForm) (xs ys : List ℕ) → total_unit_count form (xs ++ ys) ≡ total_unit_count form xs + total_unit_count form ys
+total_unit_count-append form xs ys = ap length (all_code_units-append form xs ys) ∙ length-append (all_code_units form xs) (all_code_units form ys)

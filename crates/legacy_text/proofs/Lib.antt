@@ -1,0 +1,6 @@
+-- Laws of texts and of runs of them.
+pub mod CodeUnits
+pub mod ShortScalars
+pub mod Ascii
+pub mod Texts
+pub mod UnitCopies

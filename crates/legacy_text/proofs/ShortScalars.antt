@@ -1,0 +1,175 @@
+-- Runs of scalars that were written as a byte each, and the scalars of one and two bytes of UTF-8.
+use Rattle.std.proofs.Common.{◌≡◌, ◌∙◌, ℕ, ◌+◌, ◌-◌, ◌*◌, ◌/◌, ◌%◌, ◌≤◌, ◌<◌, List, [], ◌∷◌, ◌++◌, length, get_or, Bool, true, false, ◌&&◌}
+use Rattle.std.proofs.Common.{take, drop, refl, sym, ap, subst, arith, append_assoc, append-nil, length-append, length-drop, add-zero, inl, inr}
+use Rattle.std.proofs.lemmas.Bool.{cases_lt}
+use Rattle.std.proofs.lemmas.List.{get_or_append_left, get_or-append-add, get_or-drop, drop-drop}
+use Rattle.std.proofs.lemmas.Str.{encodes-chars, IsUtf8-from_is_utf8}
+use Rattle.std.proofs.Math.Seq.{take-add}
+use Rattle.std.specs.Str.{chars, is_utf8}
+use lib.Utf8.{encode, encodes}
+use Rattle.legacy_text.specs.EncodingForm.{Utf8, code_units, unit_count, total_unit_count}
+use Rattle.legacy_text.specs.ShortScalars.{ReadsScalar, WritesScalars}
+use Rattle.legacy_text.specs.NextScalars.{TellsCount}
+use Rattle.legacy_text.specs.UnitCodes.{WritesCodes}
+use Rattle.legacy_text.proofs.CodeUnits.{encode_1, encode_2, encode_3, encode_4}
+use Rattle.legacy_text.proofs.CodeUnits.{total_unit_count-append}
+use Rattle.legacy_text.proofs.Texts.{first_some, first_cons, utf8_pass, utf8_bytes, utf8_tells}
+use Rattle.legacy_text.proofs.UnitCopies.{writes_none}
+
+-- ---- runs
+
+-- bytes for scalars, and behind them bytes for the next ones
+codes_append : (gives : ℕ → ℕ → Type 0) (scalars old mid new : List ℕ) (n m : ℕ) → n ≤ length scalars
+    → WritesCodes gives scalars n old mid → WritesCodes gives (drop n scalars) m mid new → WritesCodes gives scalars (n + m) old new
+codes_append gives scalars old mid new n m few a b = record {
+  bytes = a.bytes ++ b.bytes;
+  new_is = b.new_is ∙ ap (λ l. l ++ b.bytes) a.new_is ∙ append_assoc old a.bytes b.bytes;
+  count = omega (arith, length-append a.bytes b.bytes, a.count, b.count);
+  each = λ k h. elim (cases_lt k n) [
+    | inl l ↦ subst (gives (get_or scalars k 0)) (sym (get_or_append_left a.bytes b.bytes 0 k (omega (arith, a.count)))) (a.each k l)
+    | inr l ↦
+        let index : k ≡ length a.bytes + (k - n) = omega (arith, a.count) in
+        let place : n + (k - n) ≡ k = omega arith in
+        let byte : get_or (a.bytes ++ b.bytes) k 0 ≡ get_or b.bytes (k - n) 0 =
+        ap (λ i. get_or (a.bytes ++ b.bytes) i 0) index ∙ get_or-append-add a.bytes b.bytes (k - n) 0 in
+        let scalar : get_or (drop n scalars) (k - n) 0 ≡ get_or scalars k 0 = get_or-drop n scalars (k - n) 0 ∙ ap (λ i. get_or scalars i 0) place in
+        subst (gives (get_or scalars k 0)) (sym byte) (subst (λ c. gives c (get_or b.bytes (k - n) 0)) scalar (b.each (k - n) (omega arith)))
+  ];
+}
+
+-- nothing was written yet
+pub scalars_none : (gives : ℕ → ℕ → Type 0) (text : List ℕ) (place : ℕ) (old new : List ℕ) → place ≤ length text → is_utf8 (drop place text) ≡ true → new ≡ old
+    → WritesScalars gives text place 0 place old new
+scalars_none gives text place old new p u e = record {
+  few = omega arith;
+  left = refl;
+  is_text = u;
+  within = p;
+  passed = sym (add-zero place);
+  writes = writes_none gives (chars (drop place text)) old new e;
+}
+
+one_count : (c : ℕ) (rest : List ℕ) → total_unit_count Utf8 (take 1 (c ∷ rest)) ≡ unit_count Utf8 c
+one_count c rest = ap length (append-nil (code_units Utf8 c))
+
+-- one scalar
+pub scalars_one : (gives : ℕ → ℕ → Type 0) (text : List ℕ) (place scalar behind byte : ℕ) (old new : List ℕ) → ReadsScalar text place scalar behind
+    → gives scalar byte → new ≡ old ++ byte ∷ [] → WritesScalars gives text place 1 behind old new
+scalars_one gives text place scalar behind byte old new r g e = record {
+  few = rw r.left (omega arith);
+  left = rw r.left refl;
+  is_text = r.is_text;
+  within = r.within;
+  passed = rw r.left (r.passed ∙ ap (λ n. place + n) (sym (one_count scalar (chars (drop behind text)))));
+  writes = rw r.left (record {
+    bytes = byte ∷ [];
+    new_is = e;
+    count = refl;
+    each = λ k h. let z : k ≡ 0 = omega arith in rw z g;
+  });
+}
+
+-- scalars, and behind them the next ones
+pub scalars_append : (gives : ℕ → ℕ → Type 0) (text : List ℕ) (start n place m behind : ℕ) (old mid new : List ℕ) → WritesScalars gives text start n place old mid
+    → WritesScalars gives text place m behind mid new → WritesScalars gives text start (n + m) behind old new
+scalars_append gives text start n place m behind old mid new a b =
+    let all = chars (drop start text) in
+    let few : m ≤ length (drop n all) = rw (← a.left) b.few in
+    let passed : behind ≡ place + total_unit_count Utf8 (take m (drop n all)) = rw (← a.left) b.passed in
+    record {
+      few = omega (arith, few, a.few, length-drop n all);
+      left = b.left ∙ ap (drop m) a.left ∙ drop-drop m n all;
+      is_text = b.is_text;
+      within = b.within;
+      passed = rw (take-add n m all) (omega (arith, passed, a.passed, total_unit_count-append Utf8 (take n all) (take m (drop n all))));
+      writes = codes_append gives all old mid new n m a.few a.writes (rw (← a.left) b.writes);
+    }
+
+-- ---- one scalar
+
+-- a text that is not at its end has a scalar
+some_left : (text : List ℕ) (place : ℕ) → place < length text → is_utf8 (drop place text) ≡ true → 0 < length (chars (drop place text))
+some_left text place h u =
+    let bs = drop place text in
+    let same = encodes-chars bs (IsUtf8-from_is_utf8 bs u) in
+    elim (cases_lt 0 (length (chars bs))) as (λ _. 0 < length (chars bs)) [
+      | inl a ↦ a
+      | inr a ↦
+          let none : chars bs ≡ [] = nothing (chars bs) a in
+          let empty : bs ≡ [] = sym same ∙ ap encodes none in
+          absurd (omega (arith, ap length empty, length-drop place text))
+    ]
+  where
+    nothing : (l : List ℕ) → length l ≤ 0 → l ≡ []
+    nothing [] h = refl
+    nothing (x ∷ l) h = absurd (omega arith)
+
+module _ (text : List ℕ) (place : ℕ) (within : place + 2 ≤ length text) (u : is_utf8 (drop place text) ≡ true) (short : get_or text place 0 < 224) where
+  abbrev Left : List ℕ
+  Left = chars (drop place text)
+
+  abbrev C : ℕ
+  C = get_or (chars (drop place text)) 0 0
+
+  some : 0 < length (chars (drop place text))
+  some = some_left text place (omega arith) u
+
+  bytes : drop place text ≡ encode (get_or (chars (drop place text)) 0 0) ++ encodes (drop 1 (chars (drop place text)))
+  bytes = utf8_bytes text place C u (first_some Left some)
+
+  byte_at : (k : ℕ) → get_or text (place + k) 0 ≡ get_or (encode (get_or (chars (drop place text)) 0 0) ++ encodes (drop 1 (chars (drop place text)))) k 0
+  byte_at k = sym (get_or-drop place text k 0) ∙ ap (λ l. get_or l k 0) bytes
+
+  reads : (n : ℕ) → n ≡ unit_count Utf8 (get_or (chars (drop place text)) 0 0) → ReadsScalar text place (get_or (chars (drop place text)) 0 0) (place + n)
+  reads n e =
+      let p = utf8_pass text place n (omega arith) u some e in
+      record { left = first_cons Left C (first_some Left some) ∙ ap (λ l. C ∷ l) (sym p.2); is_text = p.1; within = p.0; passed = ap (λ m. place + m) e }
+
+  tells : TellsCount (get_or (chars (drop place text)) 0 0) (get_or text place 0)
+  tells = utf8_tells text place C u (first_some Left some)
+
+  -- ASCII is itself
+  pub reads_ascii : get_or text place 0 < 128 → ReadsScalar text place (get_or text place 0) (place + 1)
+  reads_ascii h =
+      let one = tells.one h in
+      elim (cases_lt C 128) as (λ _. ReadsScalar text place (get_or text place 0) (place + 1)) [
+        | inl a ↦
+            let same : get_or text place 0 ≡ C = ap (λ n. get_or text n 0) (sym (add-zero place)) ∙ byte_at 0 ∙ ap (λ l. get_or (l ++ encodes (drop 1 Left)) 0 0) (encode_1 C a) in
+            rw same (reads 1 (sym one))
+        | inr a ↦ elim (cases_lt C 2048) [
+          | inl b ↦ absurd (omega (arith, one, ap length (encode_2 C a b)))
+          | inr b ↦ elim (cases_lt C 65536) [
+            | inl d ↦ absurd (omega (arith, one, ap length (encode_3 C b d)))
+            | inr d ↦ absurd (omega (arith, one, ap length (encode_4 C d)))
+          ]
+        ]
+      ]
+
+  -- two bytes hold eleven bits of it
+  pub reads_pair : 128 ≤ get_or text place 0
+      → (0x3080 ≤ get_or text place 0 * 64 + get_or text (place + 1) 0) × ReadsScalar text place (get_or text place 0 * 64 + get_or text (place + 1) 0 - 0x3080) (place + 2)
+  reads_pair h =
+      let two = tells.two h short in
+      elim (cases_lt C 128) [
+        | inl a ↦ absurd (omega (arith, two, ap length (encode_1 C a)))
+        | inr a ↦ elim (cases_lt C 2048) [
+          | inl b ↦
+              let first : get_or text place 0 ≡ 192 + C / 64 = ap (λ n. get_or text n 0) (sym (add-zero place)) ∙ byte_at 0 ∙ ap (λ l. get_or (l ++ encodes (drop 1 Left)) 0 0) (encode_2 C a b) in
+              let second : get_or text (place + 1) 0 ≡ 128 + C % 64 = byte_at 1 ∙ ap (λ l. get_or (l ++ encodes (drop 1 Left)) 1 0) (encode_2 C a b) in
+              let same : get_or text place 0 * 64 + get_or text (place + 1) 0 - 0x3080 ≡ C = rw (first, second) (omega arith) in
+              (rw (first, second) (omega arith), rw same (reads 2 (sym two)))
+          | inr b ↦ elim (cases_lt C 65536) [
+            | inl d ↦ absurd (omega (arith, two, ap length (encode_3 C b d)))
+            | inr d ↦ absurd (omega (arith, two, ap length (encode_4 C d)))
+          ]
+        ]
+      ]
+
+-- ---- turns
+
+-- each of three flags is set
+pub all_set : (a b c : Bool) → (a && b && c) ≡ true → (a ≡ true) × (b ≡ true) × (c ≡ true)
+all_set true true true e = (refl, refl, refl)
+all_set true true false e = cc
+all_set true false c e = cc
+all_set false b c e = cc

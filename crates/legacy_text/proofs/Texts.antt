@@ -1,0 +1,425 @@
+-- The scalars of texts, one by one from the front, and the places between them.
+use Rattle.std.proofs.Common.{◌≡◌, ◌∙◌, ℕ, zero, suc, ◌+◌, ◌-◌, ◌≤◌, ◌<◌, List, [], ◌∷◌, ◌++◌, length, take, drop, get_or, refl, sym, ◌/◌, add-zero}
+use Rattle.std.proofs.Common.{ap, subst, arith, length-append, length-drop, Some, None, Option, true, false, Bool, ◌⊎◌, inl, inr, ◌&&◌, map, slice_get, lit<, IsAscii}
+use Rattle.std.proofs.lemmas.Bool.{cases_lt, lt-ltb, le-ltb, le-leb, lt-leb}
+use Rattle.std.proofs.lemmas.List.{drop-drop, take-append-drop, length-take-le, take_all, get_or-drop}
+use Rattle.std.proofs.Math.Seq.{take-append_seam}
+use Rattle.std.specs.Str.{chars, is_utf8, IsUtf8, IsCharBoundary}
+use Rattle.std.specs.Char.{len_utf8}
+use Rattle.std.specs.Char.Utf16.{lone_unit_char, surrogate_pair_char, is_high_surrogate, is_low_surrogate}
+use Rattle.std.specs.Option.{unwrap_or, IsSome, SomeIff}
+use lib.ListN.{get_or-eq_default}
+use Rattle.std.proofs.lemmas.Str.{IsUtf8-from_is_utf8, is_utf8-from_IsUtf8, encodes-chars, chars_past_char, IsUtf8-past_char, drop_past_char, length-encode, utf16_chars-nil, len_utf8_bounds}
+use Rattle.std.proofs.lemmas.Str.{utf16_chars_lone, utf16_chars_pair, encodes-append, scalars-chars, chars-encodes, IsCharBoundary-at_seam, chars-append, chars-IsAscii, IsUtf8-from_ascii}
+use Rattle.std.proofs.str.Utf16.{IsPair, lone_unit_char_low, lone_unit_char_high, lone_unit_char_surrogate, utf16_chars-drop_lone, utf16_chars-drop_pair, utf16_chars-drop_all}
+use lib.Utf8.{encode, encodes, scalar, scalars}
+use Rattle.std.proofs.lemmas.List.Concat.{flat_map-append}
+use Rattle.legacy_text.specs.EncodingForm.{EncodingForm, Utf8, Utf16, code_units, unit_count, all_code_units}
+use Rattle.legacy_text.specs.declared.text_source.Next.{Next}
+use Rattle.legacy_text.specs.declared.text_source.Next.TheVariants.{End, One, Two, Three, Four}
+use Rattle.legacy_text.specs.NextScalars.{IsSized, IsNext, TellsCount}
+use Rattle.legacy_text.specs.Texts.{unit_scalars, IsUnitBoundary}
+use Rattle.legacy_text.proofs.CodeUnits.{encode_1, encode_2, encode_3, encode_4, utf16_1, utf16_2}
+
+pub first_cons : {A : Type 0} (xs : List A) (x : A) → Some x ≡ slice_get xs 0 → xs ≡ x ∷ drop 1 xs
+first_cons [] x e = cc
+first_cons (y ∷ xs) x e = let e' : x ≡ y = cc in ap (λ z. z ∷ xs) (sym e')
+
+-- ---- UTF-8
+
+-- the scalar c is at the place of the text
+pub record Utf8Step (text : List ℕ) (place c : ℕ) : Type 0 where
+  pub within : place + len_utf8 c ≤ length text
+  pub is_text : is_utf8 (drop (place + len_utf8 c) text) ≡ true
+  pub behind : chars (drop (place + len_utf8 c) text) ≡ drop 1 (chars (drop place text))
+  pub first : get_or (chars (drop place text)) 0 0 ≡ c
+
+pub utf8_step : (text : List ℕ) (place c : ℕ) → place ≤ length text → is_utf8 (drop place text) ≡ true → Some c ≡ slice_get (chars (drop place text)) 0 → Utf8Step text place c
+utf8_step text place c p u e =
+    let bs = drop place text in
+    let is = IsUtf8-from_is_utf8 bs u in
+    let cons = first_cons (chars bs) c e in
+    let rest = encodes (drop 1 (chars bs)) in
+    let split : bs ≡ encode c ++ rest = sym (encodes-chars bs is) ∙ ap encodes cons in
+    let past : drop (place + len_utf8 c) text ≡ rest = drop_past_char text rest place c split in
+    let all : chars bs ≡ c ∷ chars rest = chars_past_char bs rest c is split in
+    record {
+      within = omega (arith, length-encode c, ap length split, length-append (encode c) rest, length-drop place text);
+      is_text = rw past (is_utf8-from_IsUtf8 rest (IsUtf8-past_char bs rest c is split));
+      behind = ap chars past ∙ sym (ap (drop 1) all);
+      first = ap (λ l. get_or l 0 0) all;
+    }
+
+-- the place is not the end
+pub utf8_inside : (text : List ℕ) (place c : ℕ) → place ≤ length text → is_utf8 (drop place text) ≡ true → Some c ≡ slice_get (chars (drop place text)) 0 → place < length text
+utf8_inside text place c p u e = let some = (len_utf8_bounds c).0 in omega (arith, some, (utf8_step text place c p u e).within)
+
+-- its bytes stand there
+pub utf8_bytes : (text : List ℕ) (place c : ℕ) → is_utf8 (drop place text) ≡ true → Some c ≡ slice_get (chars (drop place text)) 0
+    → drop place text ≡ encode c ++ encodes (drop 1 (chars (drop place text)))
+utf8_bytes text place c u e = sym (encodes-chars (drop place text) (IsUtf8-from_is_utf8 (drop place text) u)) ∙ ap encodes (first_cons (chars (drop place text)) c e)
+
+-- the first byte of a scalar tells how many it has
+first_tells : (c first : ℕ) (rest : List ℕ) → get_or (encode c ++ rest) 0 0 ≡ first → TellsCount c first
+first_tells c first rest h = elim (cases_lt c 128) [
+  | inl a ↦
+      let e : c ≡ first = sym (ap (λ l. get_or (l ++ rest) 0 0) (encode_1 c a)) ∙ h in
+      record { one = λ x. ap length (encode_1 c a); two = λ x y. absurd (omega arith); three = λ x y. absurd (omega arith); four = λ x. absurd (omega arith) }
+  | inr a ↦ elim (cases_lt c 2048) [
+    | inl b ↦
+        let e : 192 + c / 64 ≡ first = sym (ap (λ l. get_or (l ++ rest) 0 0) (encode_2 c a b)) ∙ h in
+        record { one = λ x. absurd (omega arith); two = λ x y. ap length (encode_2 c a b); three = λ x y. absurd (omega arith); four = λ x. absurd (omega arith) }
+    | inr b ↦ elim (cases_lt c 65536) [
+      | inl d ↦
+          let e : 224 + c / 4096 ≡ first = sym (ap (λ l. get_or (l ++ rest) 0 0) (encode_3 c b d)) ∙ h in
+          record { one = λ x. absurd (omega arith); two = λ x y. absurd (omega arith); three = λ x y. ap length (encode_3 c b d); four = λ x. absurd (omega arith) }
+      | inr d ↦
+          let e : 240 + c / 262144 ≡ first = sym (ap (λ l. get_or (l ++ rest) 0 0) (encode_4 c d)) ∙ h in
+          record { one = λ x. absurd (omega arith); two = λ x y. absurd (omega arith); three = λ x y. absurd (omega arith); four = λ x. ap length (encode_4 c d) }
+    ]
+  ]
+]
+
+pub utf8_tells : (text : List ℕ) (place c : ℕ) → is_utf8 (drop place text) ≡ true → Some c ≡ slice_get (chars (drop place text)) 0 → TellsCount c (get_or text place 0)
+utf8_tells text place c u e =
+    first_tells c (get_or text place 0) (encodes (drop 1 (chars (drop place text))))
+    (ap (λ l. get_or l 0 0) (sym (utf8_bytes text place c u e)) ∙ get_or-drop place text 0 0 ∙ ap (λ n. get_or text n 0) (add-zero place))
+
+-- ---- UTF-16
+
+abbrev pub replaced : Option ℕ → ℕ
+replaced o = unwrap_or o 0xFFFD
+
+pub scalars_lone : (units : List ℕ) (at : ℕ) → at < length units → (IsPair (get_or units at 0) (get_or units (at + 1) 0) → ⊥) →
+    unit_scalars (drop at units) ≡ unwrap_or (lone_unit_char (get_or units at 0)) 0xFFFD ∷ unit_scalars (drop (at + 1) units)
+scalars_lone units at h n = ap (map replaced) (utf16_chars-drop_lone units at h n)
+
+pub scalars_pair : (units : List ℕ) (at : ℕ) → at + 1 < length units → IsPair (get_or units at 0) (get_or units (at + 1) 0) →
+    unit_scalars (drop at units) ≡ surrogate_pair_char (get_or units at 0) (get_or units (at + 1) 0) ∷ unit_scalars (drop (at + 2) units)
+scalars_pair units at h p = ap (map replaced) (utf16_chars-drop_pair units at h p)
+
+pub scalars_end : (units : List ℕ) (at : ℕ) → length units ≤ at → unit_scalars (drop at units) ≡ []
+scalars_end units at h = ap (map replaced) (utf16_chars-drop_all units at h)
+
+-- the unit at the place, as a scalar
+pub first_low : (units : List ℕ) (at : ℕ) → at < length units → get_or units at 0 < 0xD800 → Some (get_or units at 0) ≡ slice_get (unit_scalars (drop at units)) 0
+first_low units at h l = let e = scalars_lone units at h (λ p. omega (arith, p.0)) in rw (e, lone_unit_char_low (get_or units at 0) l) refl
+
+pub first_high : (units : List ℕ) (at : ℕ) → at < length units → 0xE000 ≤ get_or units at 0 → Some (get_or units at 0) ≡ slice_get (unit_scalars (drop at units)) 0
+first_high units at h l = let e = scalars_lone units at h (λ p. omega (arith, p.1)) in rw (e, lone_unit_char_high (get_or units at 0) l) refl
+
+pub first_unpaired : (units : List ℕ) (at : ℕ) → at < length units → 0xD800 ≤ get_or units at 0 → get_or units at 0 < 0xE000 →
+    (IsPair (get_or units at 0) (get_or units (at + 1) 0) → ⊥) → Some 0xFFFD ≡ slice_get (unit_scalars (drop at units)) 0
+first_unpaired units at h l m n = let e = scalars_lone units at h n in rw (e, lone_unit_char_surrogate (get_or units at 0) l m) refl
+
+pub first_pair : (units : List ℕ) (at : ℕ) → at + 1 < length units → IsPair (get_or units at 0) (get_or units (at + 1) 0) →
+    Some (surrogate_pair_char (get_or units at 0) (get_or units (at + 1) 0)) ≡ slice_get (unit_scalars (drop at units)) 0
+first_pair units at h p = let e = scalars_pair units at h p in rw e refl
+
+pub first_none : (units : List ℕ) (at : ℕ) → length units ≤ at → slice_get (unit_scalars (drop at units)) 0 ≡ None
+first_none units at h = ap (λ l. slice_get l 0) (scalars_end units at h)
+
+pub is_value : (r : Option ℕ) (P : Type 0) (v : ℕ) → SomeIff r P v → IsSome r → Some v ≡ r
+is_value None P v h some = cc
+is_value (Some x) P v h some = ap Some (sym h.1)
+
+-- the scalar c is at the place of the units
+pub record Utf16Step (list : List ℕ) (place c n : ℕ) : Type 0 where
+  pub width : n ≡ unit_count Utf16 c
+  pub within : place + n ≤ length list
+  pub behind : unit_scalars (drop (place + n) list) ≡ drop 1 (unit_scalars (drop place list))
+  pub first : get_or (unit_scalars (drop place list)) 0 0 ≡ c
+
+pair_or_not : (u v : ℕ) → IsPair u v ⊎ (IsPair u v → ⊥)
+pair_or_not u v = elim (cases_lt u 0xD800) [
+  | inl a ↦ inr (λ p. omega (arith, p.0))
+  | inr a ↦ elim (cases_lt u 0xDC00) [
+    | inr b ↦ inr (λ p. omega (arith, p.1))
+    | inl b ↦ elim (cases_lt v 0xDC00) [
+      | inl d ↦ inr (λ p. omega (arith, p.2))
+      | inr d ↦ elim (cases_lt v 0xE000) [ inl e ↦ inl (a, b, d, e) | inr e ↦ inr (λ p. omega (arith, p.3)) ]
+    ]
+  ]
+]
+
+lone_bound : (u : ℕ) → u < 65536 → replaced (lone_unit_char u) < 65536
+lone_bound u h = elim (cases_lt u 0xD800) [
+  | inl a ↦ rw (lone_unit_char_low u a) h
+  | inr a ↦ elim (cases_lt u 0xE000) [
+    | inl b ↦ rw (lone_unit_char_surrogate u a b) (lit< tt)
+    | inr b ↦ rw (lone_unit_char_high u b) h
+  ]
+]
+
+pub utf16_step : (list : List ℕ) (place c n : ℕ) → ((i : ℕ) → get_or list i 0 < 65536) → place < length list → Some c ≡ slice_get (unit_scalars (drop place list)) 0 →
+    (c < 65536 → n ≡ 1) → (65536 ≤ c → n ≡ 2) → Utf16Step list place c n
+utf16_step list place c n bound h e short long =
+    let u = get_or list place 0 in
+    let v = get_or list (place + 1) 0 in
+    elim (pair_or_not u v) [
+      | inl p ↦
+          let within : place + 1 < length list =
+          elim (cases_lt (place + 1) (length list)) as (λ _. place + 1 < length list) [ inl a ↦ a | inr a ↦ let z = get_or-eq_default list 0 {n = place + 1} a in omega (arith, p.2) ] in
+          let all = scalars_pair list place within p in
+          let is : c ≡ surrogate_pair_char u v = let f : Some c ≡ Some (surrogate_pair_char u v) = e ∙ ap (λ l. slice_get l 0) all in cc in
+          let two : n ≡ 2 = long (omega (arith, p.2)) in
+          let wide : 65536 ≤ c = omega (arith, p.2) in
+          record { width = two ∙ sym (ap length (utf16_2 c wide)); within = omega arith; behind = rw two (sym (ap (drop 1) all)); first = ap (λ l. get_or l 0 0) all ∙ sym is }
+      | inr p ↦
+          let all = scalars_lone list place h p in
+          let is : c ≡ replaced (lone_unit_char u) = let f : Some c ≡ Some (replaced (lone_unit_char u)) = e ∙ ap (λ l. slice_get l 0) all in cc in
+          let narrow : c < 65536 = rw is (lone_bound u (bound place)) in
+          let one : n ≡ 1 = short narrow in
+          record { width = one ∙ sym (ap length (utf16_1 c narrow)); within = omega arith; behind = rw one (sym (ap (drop 1) all)); first = ap (λ l. get_or l 0 0) all ∙ sym is }
+    ]
+
+-- there is a scalar only before the end
+pub some_within : (units : List ℕ) (place c : ℕ) → Some c ≡ slice_get (unit_scalars (drop place units)) 0 → place < length units
+some_within units place c e = elim (cases_lt place (length units)) [
+  | inl a ↦ a
+  | inr a ↦ let n = first_none units place a in let f : Some c ≡ None = e ∙ n in cc
+]
+
+-- ---- what was taken off the front of a text
+
+total_unit_count-split : (form : EncodingForm) (xs ys : List ℕ) → length (all_code_units form (xs ++ ys)) ≡ length (all_code_units form xs) + length (all_code_units form ys)
+total_unit_count-split form xs ys = ap length (flat_map-append (code_units form) xs ys) ∙ length-append (all_code_units form xs) (all_code_units form ys)
+
+encodes-code_units : (cs : List ℕ) → encodes cs ≡ all_code_units Utf8 cs
+encodes-code_units [] = refl
+encodes-code_units (c ∷ cs) = ap (λ l. encode c ++ l) (encodes-code_units cs)
+
+and-right : (a b : Bool) → (a && b) ≡ true → b ≡ true
+and-right true b e = e
+and-right false b e = cc
+
+scalars-right : (xs ys : List ℕ) → scalars (xs ++ ys) ≡ true → scalars ys ≡ true
+scalars-right [] ys e = e
+scalars-right (x ∷ xs) ys e = scalars-right xs ys (and-right (scalar x) (scalars (xs ++ ys)) e)
+
+drop_of_append : (xs ys : List ℕ) → drop (length xs) (xs ++ ys) ≡ ys
+drop_of_append [] ys = refl
+drop_of_append (x ∷ xs) ys = drop_of_append xs ys
+
+-- the scalars taken off a text end at a place between two of them, and those left are those of what stands there
+pub record CutAt (text taken left : List ℕ) (place : ℕ) : Type 0 where
+  pub left_is : chars (drop place text) ≡ left
+  pub boundary : IsCharBoundary text place
+
+pub utf8_cut : (text taken left : List ℕ) (place : ℕ) → IsUtf8 text → chars text ≡ taken ++ left → place ≡ length (all_code_units Utf8 taken) → CutAt text taken left place
+utf8_cut text taken left place u e p =
+    let all : text ≡ encodes taken ++ encodes left = sym (encodes-chars text u) ∙ ap encodes e ∙ encodes-append taken left in
+    let good : scalars left ≡ true = scalars-right taken left (ap scalars (sym e) ∙ scalars-chars text u) in
+    let here : place ≡ length (encodes taken) = p ∙ sym (ap length (encodes-code_units taken)) in
+    let rest : drop place text ≡ encodes left = rw (here, all) (drop_of_append (encodes taken) (encodes left)) in
+    record {
+      left_is = ap chars rest ∙ chars-encodes left good;
+      boundary = rw here (IsCharBoundary-at_seam text (encodes taken) (encodes left) all (left, (good, refl)));
+    }
+
+-- how many units were passed
+pub passed_is : (form : EncodingForm) (all taken left : List ℕ) (place : ℕ) → all ≡ taken ++ left → place + length (all_code_units form left) ≡ 0 + length (all_code_units form all)
+    → place ≡ length (all_code_units form taken)
+passed_is form all taken left place e p = omega (arith, total_unit_count-split form taken left, ap (λ l. length (all_code_units form l)) e)
+
+high_test : (u v : ℕ) → 0xDC00 ≤ u → (is_high_surrogate u && is_low_surrogate v) ≡ false
+high_test u v h = let a : 0xD800 ≤ u = omega arith in rw (le-leb 0xD800 u a, le-ltb u 0xDC00 h) refl
+
+-- two units that are no pair
+apart_test : (u v : ℕ) → (IsPair u v → ⊥) → (is_high_surrogate u && is_low_surrogate v) ≡ false
+apart_test u v n = elim (cases_lt u 0xD800) [
+  | inl a ↦ rw (lt-leb 0xD800 u a) refl
+  | inr a ↦ elim (cases_lt u 0xDC00) [
+    | inr b ↦ high_test u v b
+    | inl b ↦ elim (cases_lt v 0xDC00) [
+      | inl d ↦ rw (le-leb 0xD800 u a, lt-ltb u 0xDC00 b, lt-leb 0xDC00 v d) refl
+      | inr d ↦ elim (cases_lt v 0xE000) [
+        | inl e ↦ absurd (n (a, b, d, e))
+        | inr e ↦ rw (le-leb 0xD800 u a, lt-ltb u 0xDC00 b, le-leb 0xDC00 v d, le-ltb v 0xE000 e) refl
+      ]
+    ]
+  ]
+]
+
+-- the scalars taken off units end at a place between two of them
+pub record CutUnits (list left : List ℕ) (place : ℕ) : Type 0 where
+  pub left_is : unit_scalars (drop place list) ≡ left
+  pub within : place ≤ length list
+  pub apart : (k : ℕ) → place ≡ k + 1 → (is_high_surrogate (get_or list k 0) && is_low_surrogate (get_or list (k + 1) 0)) ≡ false
+
+abbrev Bounded : List ℕ → Type 0
+Bounded list = (i : ℕ) → get_or list i 0 < 65536
+
+-- one more unit at the front, or two
+cut_lone : (u : ℕ) (list left : List ℕ) (place n : ℕ) → (IsPair u (get_or list 0 0) → ⊥) → n ≡ suc place → CutUnits list left place → CutUnits (u ∷ list) left n
+cut_lone u list left place n p e h = record {
+  left_is = rw e h.left_is;
+  within = let w = h.within in omega arith;
+  apart = λ k f. at k f;
+}
+  where
+    at : (k : ℕ) → n ≡ k + 1 → (is_high_surrogate (get_or (u ∷ list) k 0) && is_low_surrogate (get_or (u ∷ list) (k + 1) 0)) ≡ false
+    at zero f = apart_test u (get_or list 0 0) p
+    at (suc k) f = let one : suc k + 1 ≡ suc (k + 1) = omega arith in rw one (h.apart k (omega arith))
+
+cut_pair : (u v : ℕ) (list left : List ℕ) (place n : ℕ) → IsPair u v → n ≡ suc (suc place) → CutUnits list left place → CutUnits (u ∷ v ∷ list) left n
+cut_pair u v list left place n p e h = record {
+  left_is = rw e h.left_is;
+  within = let w = h.within in omega arith;
+  apart = λ k f. at k f;
+}
+  where
+    at : (k : ℕ) → n ≡ k + 1 → (is_high_surrogate (get_or (u ∷ v ∷ list) k 0) && is_low_surrogate (get_or (u ∷ v ∷ list) (k + 1) 0)) ≡ false
+    at zero f = absurd (omega arith)
+    at (suc zero) f = high_test v (get_or list 0 0) p.2
+    at (suc (suc k)) f = let one : suc (suc k) + 1 ≡ suc (suc (k + 1)) = omega arith in rw one (h.apart k (omega arith))
+
+pub utf16_cut : (list taken left : List ℕ) → Bounded list → unit_scalars list ≡ taken ++ left → CutUnits list left (length (all_code_units Utf16 taken))
+utf16_cut list [] left b e = record { left_is = e; within = omega arith; apart = λ k f. absurd (omega arith) }
+utf16_cut [] (c ∷ taken) left b e = let n : unit_scalars [] ≡ [] = ap (map replaced) utf16_chars-nil in let f : [] ≡ c ∷ (taken ++ left) = sym n ∙ e in cc
+utf16_cut (u ∷ []) (c ∷ taken) left b e = let p : IsPair u 0 → ⊥ = λ q. omega (arith, q.2) in
+    let all : unit_scalars (u ∷ []) ≡ replaced (lone_unit_char u) ∷ unit_scalars [] = ap (map replaced) (utf16_chars_lone u [] p) in
+    let f : replaced (lone_unit_char u) ∷ unit_scalars [] ≡ c ∷ (taken ++ left) = sym all ∙ e in
+    let is : c ≡ replaced (lone_unit_char u) = cc in
+    let rest : unit_scalars [] ≡ taken ++ left = cc in
+    let narrow : c < 65536 = rw is (lone_bound u (b 0)) in
+    cut_lone u [] left _ _ p (ap (λ l. length (l ++ all_code_units Utf16 taken)) (utf16_1 c narrow)) (utf16_cut [] taken left (λ i. b (suc i)) rest)
+utf16_cut (u ∷ v ∷ list) (c ∷ taken) left b e = elim (pair_or_not u v) [
+  | inl p ↦
+      let all : unit_scalars (u ∷ v ∷ list) ≡ surrogate_pair_char u v ∷ unit_scalars list = ap (map replaced) (utf16_chars_pair u v list p) in
+      let f : surrogate_pair_char u v ∷ unit_scalars list ≡ c ∷ (taken ++ left) = sym all ∙ e in
+      let is : c ≡ surrogate_pair_char u v = cc in
+      let rest : unit_scalars list ≡ taken ++ left = cc in
+      let wide : 65536 ≤ c = omega (arith, p.2) in
+      cut_pair u v list left _ _ p (ap (λ l. length (l ++ all_code_units Utf16 taken)) (utf16_2 c wide)) (utf16_cut list taken left (λ i. b (suc (suc i))) rest)
+  | inr p ↦
+      let all : unit_scalars (u ∷ v ∷ list) ≡ replaced (lone_unit_char u) ∷ unit_scalars (v ∷ list) = ap (map replaced) (utf16_chars_lone u (v ∷ list) p) in
+      let f : replaced (lone_unit_char u) ∷ unit_scalars (v ∷ list) ≡ c ∷ (taken ++ left) = sym all ∙ e in
+      let is : c ≡ replaced (lone_unit_char u) = cc in
+      let rest : unit_scalars (v ∷ list) ≡ taken ++ left = cc in
+      let narrow : c < 65536 = rw is (lone_bound u (b 0)) in
+      cut_lone u (v ∷ list) left _ _ p (ap (λ l. length (l ++ all_code_units Utf16 taken)) (utf16_1 c narrow)) (utf16_cut (v ∷ list) taken left (λ i. b (suc i)) rest)
+]
+
+-- what a call left of a text that was handed to it whole
+pub utf8_read : (text taken left : List ℕ) (read : ℕ) → IsUtf8 text → chars text ≡ taken ++ left → read + length (all_code_units Utf8 left) ≡ 0 + length (all_code_units Utf8 (chars text))
+    → CutAt text taken left read
+utf8_read text taken left read u e p = utf8_cut text taken left read u e (passed_is Utf8 (chars text) taken left read e p)
+
+pub utf16_read : (list taken left : List ℕ) (read : ℕ) → Bounded list → unit_scalars list ≡ taken ++ left
+    → read + length (all_code_units Utf16 left) ≡ 0 + length (all_code_units Utf16 (unit_scalars list)) → CutUnits list left read
+utf16_read list taken left read b e p = subst (CutUnits list left) (sym (passed_is Utf16 (unit_scalars list) taken left read e p)) (utf16_cut list taken left b e)
+
+pub unit_boundary : (list left : List ℕ) (place : ℕ) → CutUnits list left place → IsUnitBoundary list place
+unit_boundary list left place h = (
+  h.within,
+  λ p.
+      let e : place ≡ (place - 1) + 1 = omega arith in
+      ap (λ n. is_high_surrogate (get_or list (place - 1) 0) && is_low_surrogate (get_or list n 0)) e ∙ h.apart (place - 1) e,
+)
+
+-- ---- a front that is ASCII
+
+-- what stands behind ASCII in a text is a text
+ascii_past : (xs ys : List ℕ) → IsAscii xs → IsUtf8 (xs ++ ys) → IsUtf8 ys
+ascii_past [] ys a u = u
+ascii_past (x ∷ xs) ys a u =
+    ascii_past xs ys (λ i. a (suc i)) (IsUtf8-past_char (x ∷ (xs ++ ys)) (xs ++ ys) x u (sym (ap (λ l. l ++ (xs ++ ys)) (encode_1 x (a 0)))))
+
+-- ASCII units are their own scalars
+unit_scalars-ascii : (xs ys : List ℕ) → IsAscii xs → unit_scalars (xs ++ ys) ≡ xs ++ unit_scalars ys
+unit_scalars-ascii [] ys a = refl
+unit_scalars-ascii (x ∷ xs) ys a =
+    let low : x < 128 = a 0 in
+    ap (map replaced) (utf16_chars_lone x (xs ++ ys) (λ p. omega (arith, p.0)))
+    ∙ ap (λ o. replaced o ∷ unit_scalars (xs ++ ys)) (lone_unit_char_low x (omega arith))
+    ∙ ap (λ l. x ∷ l) (unit_scalars-ascii xs ys (λ i. a (suc i)))
+
+-- So many scalars at the front of those that are left are these, and behind them are the others.
+pub record IsFront (all front others : List ℕ) (n : ℕ) : Type 0 where
+  pub within : n ≤ length all
+  pub others_is : others ≡ drop n all
+  pub front_is : front ≡ take n all
+
+pub front_of : (all front others : List ℕ) (n : ℕ) → length front ≡ n → all ≡ front ++ others → IsFront all front others n
+front_of all front others n long e = record {
+  within = omega (arith, ap length e, length-append front others);
+  others_is = sym (ap (drop n) e ∙ ap (λ k. drop k (front ++ others)) (sym long) ∙ drop_of_append front others);
+  front_is = sym (ap (take n) e ∙ ap (λ k. take k (front ++ others)) (sym long) ∙ take-append_seam front others);
+}
+
+-- n numbers at the front of what a list has from a place on are ASCII
+pub record AsciiAt (list : List ℕ) (place n : ℕ) : Type 0 where
+  pub within : n ≤ length (drop place list)
+  pub fits : place + n ≤ length list
+  pub ascii : IsAscii (take n (drop place list))
+  pub same : take n (take (length list - place) (drop place list)) ≡ take n (drop place list)
+
+-- so it is where they were found in the slice from the place on
+pub ascii_at : (list : List ℕ) (place n : ℕ) → place ≤ length list → n ≤ length (take (length list - place) (drop place list))
+    → IsAscii (take n (take (length list - place) (drop place list))) → AsciiAt list place n
+ascii_at list place n h within ascii =
+    let whole : take (length list - place) (drop place list) ≡ drop place list = take_all (length list - place) (drop place list) (omega (arith, length-drop place list)) in
+    let few : n ≤ length (drop place list) = rw whole at within in
+    record {
+      within = few;
+      fits = omega (arith, few, length-drop place list);
+      ascii = subst (λ l. IsAscii (take n l)) whole ascii;
+      same = ap (take n) whole;
+    }
+
+module _ (list : List ℕ) (place n : ℕ) (within : n ≤ length (drop place list)) (ascii : IsAscii (take n (drop place list))) where
+  abbrev Rest : List ℕ
+  Rest = drop place list
+
+  parts : Rest ≡ take n Rest ++ drop (place + n) list
+  parts = sym (take-append-drop n Rest) ∙ ap (λ l. take n Rest ++ l) (drop-drop n place list)
+
+  pub utf8_ascii-text : is_utf8 Rest ≡ true → is_utf8 (drop (place + n) list) ≡ true
+  utf8_ascii-text u = is_utf8-from_IsUtf8 (drop (place + n) list) (ascii_past (take n Rest) (drop (place + n) list) ascii (subst IsUtf8 parts (IsUtf8-from_is_utf8 Rest u)))
+
+  pub utf8_ascii : IsFront (chars Rest) (take n Rest) (chars (drop (place + n) list)) n
+  utf8_ascii =
+      front_of (chars Rest) (take n Rest) (chars (drop (place + n) list)) n (length-take-le n Rest within)
+      (ap chars parts ∙ chars-append (take n Rest) (drop (place + n) list) (IsUtf8-from_ascii (take n Rest) ascii) ∙ ap (λ l. l ++ chars (drop (place + n) list)) (chars-IsAscii (take n Rest) ascii))
+
+  pub utf16_ascii : IsFront (unit_scalars Rest) (take n Rest) (unit_scalars (drop (place + n) list)) n
+  utf16_ascii =
+      front_of (unit_scalars Rest) (take n Rest) (unit_scalars (drop (place + n) list)) n (length-take-le n Rest within)
+      (ap unit_scalars parts ∙ unit_scalars-ascii (take n Rest) (drop (place + n) list) ascii)
+
+-- ---- the next scalar
+
+pub first_some : (xs : List ℕ) → 0 < length xs → Some (get_or xs 0 0) ≡ slice_get xs 0
+first_some [] h = absurd (omega arith)
+first_some (x ∷ xs) h = refl
+
+pub is_next : (form : EncodingForm) (left : List ℕ) (c : ℕ) (next : Next) → left ≡ c ∷ drop 1 left → IsSized form c next → IsNext form left next
+is_next form left c End e s = absurd s
+is_next form left c (One d) e s = (e ∙ ap (λ x. x ∷ drop 1 left) (sym s.0), ap (unit_count form) s.0 ∙ s.1)
+is_next form left c (Two d) e s = (e ∙ ap (λ x. x ∷ drop 1 left) (sym s.0), ap (unit_count form) s.0 ∙ s.1)
+is_next form left c (Three d) e s = (e ∙ ap (λ x. x ∷ drop 1 left) (sym s.0), ap (unit_count form) s.0 ∙ s.1)
+is_next form left c (Four d) e s = (e ∙ ap (λ x. x ∷ drop 1 left) (sym s.0), ap (unit_count form) s.0 ∙ s.1)
+
+pub none_left : (xs : List ℕ) → None ≡ slice_get xs 0 → xs ≡ []
+none_left [] e = refl
+none_left (x ∷ xs) e = cc
+
+-- going past the scalar at a place by the number of its code units
+pub utf8_pass : (text : List ℕ) (place n : ℕ) → place ≤ length text → is_utf8 (drop place text) ≡ true → 0 < length (chars (drop place text))
+    → n ≡ unit_count Utf8 (get_or (chars (drop place text)) 0 0) →
+    (place + n ≤ length text) × (is_utf8 (drop (place + n) text) ≡ true) × (chars (drop (place + n) text) ≡ drop 1 (chars (drop place text)))
+utf8_pass text place n p u some e =
+    let c : ℕ = get_or (chars (drop place text)) 0 0 in
+    let s = utf8_step text place c p u (first_some (chars (drop place text)) some) in
+    let width : n ≡ len_utf8 c = e ∙ length-encode c in
+    rw width (s.within, s.is_text, s.behind)
+
+pub utf16_pass : (list : List ℕ) (place n : ℕ) → ((i : ℕ) → get_or list i 0 < 65536) → 0 < length (unit_scalars (drop place list))
+    → n ≡ unit_count Utf16 (get_or (unit_scalars (drop place list)) 0 0) →
+    (place + n ≤ length list) × (unit_scalars (drop (place + n) list) ≡ drop 1 (unit_scalars (drop place list)))
+utf16_pass list place n bound some e =
+    let c : ℕ = get_or (unit_scalars (drop place list)) 0 0 in
+    let f = first_some (unit_scalars (drop place list)) some in
+    let s = utf16_step list place c n bound (some_within list place c f) f (λ h. e ∙ ap length (utf16_1 c h)) (λ h. e ∙ ap length (utf16_2 c h)) in
+    (s.within, s.behind)

@@ -1,0 +1,14 @@
+use Rattle.std.proofs.Common.{◌≡◌, ◌+◌, ◌-◌, ◌≤◌, ◌++◌, length, take, IsAscii}
+use Rattle.legacy_text.specs.Destinations.{utf16_written, utf16_free, utf16_loan}
+use Rattle.legacy_text.proofs.destination.Utf16DestinationDestination.copy_ascii.Given as goal
+
+-- so many bytes of the slice were written, and they are ASCII
+abbrev pub invariant-loop-at : goal.invariant-loop-at
+invariant-loop-at l = (l.at ≤ length l.bytes)
+    × (utf16_free l.self + l.at ≡ utf16_free l.fn.self)
+    × (utf16_loan l.self ≡ utf16_loan l.fn.self)
+    × IsAscii (take l.at l.bytes)
+    × (utf16_written l.self ≡ utf16_written l.fn.self ++ take l.at l.bytes)
+
+abbrev pub decreases-loop-at : goal.decreases-loop-at
+decreases-loop-at l = length l.bytes - l.at

@@ -1,0 +1,54 @@
+use Rattle.std.proofs.Common.{◌≡◌, ◌∙◌, ◌+◌, ◌<◌, length, take, ap, refl, add-zero, arith, slice_set}
+use Rattle.std.proofs.lemmas.Bool.{ltb-true}
+use Rattle.std.proofs.lemmas.List.{take-set-le, take_more_set}
+use Rattle.legacy_text.proofs.ShortScalars.{all_set, scalars_none, scalars_one, scalars_append}
+use Rattle.legacy_text.proofs.short_scalars.put_turn.Goals as goal
+
+pub loop-k-init : goal.loop-k-init
+loop-k-init g c = (
+  omega arith,
+  omega arith,
+  refl,
+  (λ e. scalars_none _ c.args.bytes.now c.args.start _ _ (omega (arith, c.requires.read)) c.requires.text (ap (λ n. take n c.args.dst.now) (add-zero c.args.at))),
+)
+
+pub bounds-bytes-place : goal.bounds-bytes-place
+bounds-bytes-place g c = omega (arith, c.loop-k.invariant.1, c.loop-k-test.true, c.requires.read)
+
+pub short_scalar-scalar-requires : goal.short_scalar-scalar-requires
+short_scalar-scalar-requires g c = omega (arith, c.loop-k.invariant.1, c.loop-k-test.true, c.requires.read)
+
+pub overflow_add-place : goal.overflow_add-place
+overflow_add-place g c = omega (arith, c.loop-k.invariant.1, c.loop-k-test.true, c.requires.read, c.short_scalar-scalar.ensures.few)
+
+pub loop-k-preserved : goal.loop-k-preserved
+loop-k-preserved g c =
+    let i = c.loop-k.invariant in
+    let s = c.short_scalar-scalar in
+    let b = c.byte_of-byte in
+    let at = c.args.at + c.loop-k.k in
+    let inside : at < length c.loop-k.dst = omega (arith, c.loop-k-test.true, c.requires.room) in
+    let place : c.args.at + (c.loop-k.k + 1) ≡ at + 1 = omega arith in (
+      omega (arith, c.loop-k-test.true),
+      omega (arith, i.1, s.ensures.few),
+      take-set-le c.args.at c.loop-k.dst at b.result.0 (omega arith) ∙ i.2,
+      (λ e.
+          let flags = all_set _ _ _ e in
+          let before = i.3 flags.0 in
+          let read = s.ensures.scalar before.is_text (ltb-true _ _ flags.1) in
+          let stored = ap (λ n. take n (slice_set c.loop-k.dst at b.result.0)) place ∙ take_more_set c.loop-k.dst at b.result.0 inside in
+          let one = scalars_one _ c.args.bytes.now c.loop-k.place s.result.0 _ b.result.0 (take at c.loop-k.dst) _ read (b.ensures flags.2).1 stored in
+          scalars_append _ c.args.bytes.now c.args.start c.loop-k.k c.loop-k.place 1 _ _ _ _ before one),
+    )
+
+pub returns-then-is_known-clause-before : goal.returns-then-is_known-clause-before
+returns-then-is_known-clause-before g c = c.loop-k.invariant.2
+
+pub returns-then-is_known-clause-turn : goal.returns-then-is_known-clause-turn
+returns-then-is_known-clause-turn g c =
+    let i = c.loop-k.invariant in
+    let eight : c.loop-k.k ≡ 8 = omega (arith, i.0, c.loop-k-test.false) in
+    rw eight at (i.3 c.if-is_known.true)
+
+pub returns-else-is_known-clause-before : goal.returns-else-is_known-clause-before
+returns-else-is_known-clause-before g c = c.loop-k.invariant.2

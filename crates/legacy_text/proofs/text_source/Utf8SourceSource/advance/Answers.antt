@@ -1,0 +1,23 @@
+use Rattle.std.proofs.Common.{◌+◌, ◌∙◌, drop, ap, sym}
+use Rattle.std.specs.Str.{chars}
+use Rattle.legacy_text.specs.EncodingForm.{unit_count, Utf8}
+use Rattle.legacy_text.proofs.Texts.{utf8_step}
+use Rattle.legacy_text.proofs.text_source.Utf8SourceSource.advance.Goals as goal
+
+pub invariant_of-self : goal.invariant_of-self
+invariant_of-self c =
+    let s = c.args.self.now in
+    let step = utf8_step s.text.now s.place c.in-Some.c s.in_range s.is_text c.in-Some.ensures in
+    record { in_range = rw c.len_utf8.ensures.value step.within; is_text = rw c.len_utf8.ensures.value step.is_text }
+
+pub returns-in-Some-clause-left : goal.returns-in-Some-clause-left
+returns-in-Some-clause-left c =
+    let s = c.args.self.now in
+    let step = utf8_step s.text.now s.place c.in-Some.c s.in_range s.is_text c.in-Some.ensures in
+    ap (λ n. chars (drop (s.place + n) s.text.now)) c.len_utf8.ensures.value ∙ step.behind
+
+pub returns-in-Some-clause-passed : goal.returns-in-Some-clause-passed
+returns-in-Some-clause-passed c =
+    let s = c.args.self.now in
+    let step = utf8_step s.text.now s.place c.in-Some.c s.in_range s.is_text c.in-Some.ensures in
+    ap (λ n. s.place + n) c.len_utf8.ensures.len ∙ ap (λ x. s.place + unit_count Utf8 x) (sym step.first)

@@ -1,0 +1,10 @@
+-- What texts are in UTF-8 and UTF-16, and where they are read and written.
+pub mod EncodingForm
+pub mod Texts
+pub mod Cursor
+pub mod Destinations
+pub mod NextScalars
+pub mod Blocks
+pub mod UnitCodes
+pub mod ShortScalars
+pub mod TextSources

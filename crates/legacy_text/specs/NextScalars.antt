@@ -1,0 +1,32 @@
+-- The next scalar of a text, by the number of its code units.
+use Rattle.std.specs.Prelude.{◌≡◌, ℕ, ◌<◌, ◌≤◌, List, [], ◌∷◌, drop}
+use Rattle.legacy_text.specs.declared.text_source.Next.{Next}
+use Rattle.legacy_text.specs.declared.text_source.Next.TheVariants.{End, One, Two, Three, Four}
+use Rattle.legacy_text.specs.EncodingForm.{EncodingForm, Utf8, unit_count}
+
+-- it is the scalar c, with the number of its code units
+abbrev pub IsSized : EncodingForm → ℕ → Next → Type 0
+IsSized form c End = ⊥
+IsSized form c (One d) = (d ≡ c) × (unit_count form c ≡ 1)
+IsSized form c (Two d) = (d ≡ c) × (unit_count form c ≡ 2)
+IsSized form c (Three d) = (d ≡ c) × (unit_count form c ≡ 3)
+IsSized form c (Four d) = (d ≡ c) × (unit_count form c ≡ 4)
+
+-- the scalar c is the first one left, and has so many code units
+abbrev pub IsFirst : EncodingForm → List ℕ → ℕ → ℕ → Type 0
+IsFirst form left c n = (left ≡ c ∷ drop 1 left) × (unit_count form c ≡ n)
+
+-- it is the first scalar left, or the end where none is
+abbrev pub IsNext : EncodingForm → List ℕ → Next → Type 0
+IsNext form left End = left ≡ []
+IsNext form left (One c) = IsFirst form left c 1
+IsNext form left (Two c) = IsFirst form left c 2
+IsNext form left (Three c) = IsFirst form left c 3
+IsNext form left (Four c) = IsFirst form left c 4
+
+-- the first byte of the scalar c in UTF-8 tells how many it has
+pub record TellsCount (c first : ℕ) : Type 0 where
+  pub one : first < 0x80 → unit_count Utf8 c ≡ 1
+  pub two : 0x80 ≤ first → first < 0xE0 → unit_count Utf8 c ≡ 2
+  pub three : 0xE0 ≤ first → first < 0xF0 → unit_count Utf8 c ≡ 3
+  pub four : 0xF0 ≤ first → unit_count Utf8 c ≡ 4

@@ -1,0 +1,170 @@
+//! Blocks of ASCII: how long a block's ASCII front is, and copies that stop behind it.
+// Inlined always is what runs for each block: a call would pass the vector through memory.
+ghost use Rattle.std.specs.Prelude.{◌≡◌, ℕ, ◌+◌, ◌-◌, ◌<◌, ◌≤◌, ◌++◌, length, take, slice_index, IsAscii};
+ghost use Rattle.legacy_text.specs.Blocks.{block_bytes};
+
+use std::simd::prelude::*;
+
+/// How many bytes at the front of a block are ASCII.
+#[inline(always)]
+#[tactic(auto, using(crate::proofs::Ascii::count_steps))]
+pub(crate) fn ascii_count(block: u8x16) -> usize
+    ensures most { result ≤ 16 }
+    ensures ascii { IsAscii (take result block) }
+    ensures stops { result < 16 → 128 ≤ slice_index block result }
+{
+    let past = block.simd_ge(u8x16::splat(0x80)).to_bitmask();
+    if past == 0 {
+        return 16;
+    }
+    // `min` changes nothing, but tells the compiler that the count is below 16: without it the loop
+    // over blocks waits for the count of each.
+    (past.trailing_zeros() as usize).min(15)
+}
+
+/// Stores a block from the place `at` on, and answers how many bytes at its front are ASCII.
+#[inline(always)]
+fn store_block(dst: &mut [u8], at: usize, block: u8x16) -> usize
+    requires { at + 16 ≤ length dst.old }
+    ensures count { result ≤ 16 }
+    ensures ascii { IsAscii (take result block) }
+    ensures stored { take (at + result) dst.new ≡ take at dst.old ++ take result block }
+{
+    block.copy_to_slice(&mut dst[at..]);
+    ascii_count(block)
+}
+
+/// How many bytes at the front of a wide block are ASCII.
+#[inline(always)]
+#[tactic(auto, using(crate::proofs::Ascii::wide_count_steps))]
+fn wide_ascii_count(block: u8x64) -> usize
+    ensures most { result ≤ 64 }
+    ensures ascii { IsAscii (take result block) }
+{
+    let past = block.simd_ge(u8x64::splat(0x80)).to_bitmask();
+    if past == 0 {
+        return 64;
+    }
+    (past.trailing_zeros() as usize).min(63)
+}
+
+/// Stores a wide block from the place `at` on, and answers how many bytes at its front are ASCII.
+#[inline(always)]
+fn store_wide_block(dst: &mut [u8], at: usize, block: u8x64) -> usize
+    requires { at + 64 ≤ length dst.old }
+    ensures count { result ≤ 64 }
+    ensures ascii { IsAscii (take result block) }
+    ensures stored { take (at + result) dst.new ≡ take at dst.old ++ take result block }
+{
+    block.copy_to_slice(&mut dst[at..]);
+    wide_ascii_count(block)
+}
+
+/// How many bytes a block has.
+#[inline(always)]
+fn block_width(is_wide: bool) -> usize
+    ensures width { result ≡ block_bytes is_wide }
+    ensures some { 0 < result }
+{
+    if is_wide { 64 } else { 16 }
+}
+
+/// Stores a block of the front of these bytes from the place `at` on, and answers how many bytes at its
+/// front are ASCII.
+#[inline(always)]
+fn store_front(bytes: &[u8], dst: &mut [u8], at: usize, is_wide: bool) -> usize
+    requires block { block_bytes is_wide ≤ length bytes.now }
+    requires room { at + block_bytes is_wide ≤ length dst.old }
+    ensures count { result ≤ block_bytes is_wide }
+    ensures ascii { IsAscii (take result bytes.now) }
+    ensures stored { take (at + result) dst.new ≡ take at dst.old ++ take result bytes.now }
+{
+    if is_wide {
+        store_wide_block(dst, at, u8x64::from_slice(bytes))
+    } else {
+        store_block(dst, at, u8x16::from_slice(bytes))
+    }
+}
+
+/// Copies bytes from the front, by blocks of one width and as far as they are ASCII, to the place `at` and
+/// on. Answers how many, and whether all blocks were ASCII.
+#[inline(always)]
+fn copy_blocks(bytes: &[u8], dst: &mut [u8], at: usize, is_wide: bool) -> (usize, bool)
+    requires { at ≤ length dst.old }
+    ensures read { result.0 ≤ length bytes.now }
+    ensures ascii { IsAscii (take result.0 bytes.now) }
+    ensures fits { at + result.0 ≤ length dst.old }
+    ensures stored { take (at + result.0) dst.new ≡ take at dst.old ++ take result.0 bytes.now }
+{
+    let most = dst.len() - at;
+    let width = block_width(is_wide);
+    let mut copied = 0;
+    while bytes.len() - copied >= width && most - copied >= width {
+        let count = store_front(&bytes[copied..], dst, at + copied, is_wide);
+        copied += count;
+        if count < width {
+            return (copied, false);
+        }
+    }
+    (copied, true)
+}
+
+/// Copies bytes from the front, by blocks and as far as they are ASCII, to the place `at` and on.
+/// Answers how many.
+// By wide blocks first: in text with a letter past ASCII in each line or so, whether the next 64 bytes have
+// one is foreseen better than whether the next 16 have.
+#[inline]
+pub(crate) fn copy_ascii_bytes(bytes: &[u8], dst: &mut [u8], at: usize) -> usize
+    requires { at ≤ length dst.old }
+    ensures read { result ≤ length bytes.now }
+    ensures ascii { IsAscii (take result bytes.now) }
+    ensures fits { at + result ≤ length dst.old }
+    ensures stored { take (at + result) dst.new ≡ take at dst.old ++ take result bytes.now }
+{
+    let (front, are_ascii) = copy_blocks(bytes, dst, at, true);
+    if !are_ascii {
+        return front;
+    }
+    let (rest, _) = copy_blocks(&bytes[front..], dst, at + front, false);
+    front + rest
+}
+
+/// Sixteen units as bytes: what is below 0x80 is itself, and all else is past ASCII.
+#[inline(always)]
+fn narrow_block(units: &[u16]) -> [u8; 16]
+    requires { 16 ≤ length units.now }
+    ensures count { length result ≡ 16 }
+    ensures narrow { (k : ℕ) → k < 16 → slice_index result k < 0x80 →
+        slice_index result k ≡ slice_index units.now k }
+{
+    let mut block = [0u8; 16];
+    let mut k = 0;
+    while k < 16 {
+        block[k] = units[k].min(0xFF) as u8;
+        k += 1;
+    }
+    block
+}
+
+/// Copies units from the front, by blocks and as far as they are ASCII, as bytes to the place `at` and
+/// on. Answers how many.
+#[inline]
+pub(crate) fn copy_ascii_units(units: &[u16], dst: &mut [u8], at: usize) -> usize
+    requires { at ≤ length dst.old }
+    ensures read { result ≤ length units.now }
+    ensures ascii { IsAscii (take result units.now) }
+    ensures fits { at + result ≤ length dst.old }
+    ensures stored { take (at + result) dst.new ≡ take at dst.old ++ take result units.now }
+{
+    let most = dst.len() - at;
+    let mut copied = 0;
+    while units.len() - copied >= 16 && most - copied >= 16 {
+        let block = narrow_block(&units[copied..]);
+        let count = store_block(dst, at + copied, u8x16::from_array(block));
+        copied += count;
+        if count < 16 {
+            return copied;
+        }
+    }
+    copied
+}

@@ -1,0 +1,338 @@
+//! Where a decoder writes.
+ghost use Rattle.std.specs.Prelude.{◌≡◌, ℕ, ◌+◌, ◌-◌, ◌<◌, ◌≤◌, List, [], ◌∷◌, ◌++◌, length, take};
+ghost use Rattle.std.specs.Prelude.{slice_index, IsAscii, encode_utf8};
+ghost use Rattle.std.specs.Borrow.{GName};
+ghost use Rattle.legacy_text.specs.EncodingForm.{EncodingForm, Utf8, Utf16, code_units, unit_count};
+ghost use Rattle.legacy_text.specs.EncodingForm.{bmp_room, wide_room};
+
+use crate::blocks::ascii_count;
+use std::simd::prelude::*;
+
+/// An output of UTF-8 bytes or of UTF-16 code units, one of the two for each type.
+pub trait Destination {
+    /// The encoding form, which is fixed for the type.
+    ghost form: { EncodingForm };
+
+    /// The code units that were written so far.
+    ghost contents: { Self → List ℕ };
+
+    /// How many more code units fit.
+    ghost room: { Self → ℕ };
+
+    /// The caller's buffer that is lent, by the name of its loan.
+    ghost loan: { Self → GName };
+
+    /// The code units of the longest scalar up to U+FFFF: 3 in UTF-8, 1 in UTF-16.
+    const BMP_ROOM: usize;
+
+    /// The code units of the longest scalar: 4 in UTF-8, 2 in UTF-16.
+    const WIDE_ROOM: usize;
+
+    /// How many more code units fit.
+    fn free(&self) -> usize
+        ensures { result ≡ room self.now };
+
+    /// `BMP_ROOM`, with what a generic caller knows of it.
+    fn narrow() -> usize
+        ensures { result ≡ bmp_room form };
+
+    /// `WIDE_ROOM`, with what a generic caller knows of it.
+    fn wide() -> usize
+        ensures { result ≡ wide_room form };
+
+    /// How many code units were written so far.
+    fn written(&self) -> usize
+        ensures { result ≡ length (contents self.now) };
+
+    /// Writes the code units of the scalar behind those written so far. They must fit: `free`
+    /// tells.
+    fn put(&mut self, c: char)
+        requires { unit_count form c ≤ room self.old }
+        ensures contents { contents self.new ≡ contents self.old ++ code_units form c }
+        ensures room { room self.new + unit_count form c ≡ room self.old }
+        ensures loan { loan self.new ≡ loan self.old };
+
+    /// Writes ASCII bytes from the front of the slice, as many as it cares to, and answers how
+    /// many: none, or whole blocks and then a part of one. A destination without blocks writes
+    /// none.
+    fn copy_ascii(&mut self, bytes: &[u8]) -> usize
+        ensures read { result ≤ length bytes.now }
+        ensures ascii { IsAscii (take result bytes.now) }
+        ensures contents { contents self.new ≡ contents self.old ++ take result bytes.now }
+        ensures room { room self.new + result ≡ room self.old }
+        ensures loan { loan self.new ≡ loan self.old }
+    {
+        let _ = bytes;
+        0
+    }
+}
+
+/// UTF-8 into a slice of bytes, from its front on.
+#[derive(Drop)]
+pub struct Utf8Destination<'a> {
+    buffer: &'a mut [u8],
+    filled: usize,
+    ghost in_range: { filled ≤ length buffer.now },
+}
+
+impl<'a> Utf8Destination<'a> {
+    ghost use Rattle.legacy_text.specs.Destinations.{utf8_written, utf8_free, utf8_loan};
+    ghost use Rattle.legacy_text.specs.Destinations.{utf8_buffer};
+
+    /// A destination that has written nothing and has the whole slice free.
+    pub fn new(buffer: &'a mut [u8]) -> Utf8Destination<'a>
+        ensures loan { utf8_loan result ≡ buffer.entry.ghost_name }
+        ensures written { utf8_written result ≡ [] }
+        ensures free { utf8_free result ≡ length buffer.old }
+        ensures same { utf8_buffer result ≡ buffer.old }
+    {
+        Utf8Destination { buffer, filled: 0 }
+    }
+
+    #[inline]
+    fn push(&mut self, byte: u8)
+        requires { 0 < utf8_free self.old }
+        ensures written { utf8_written self.new ≡ utf8_written self.old ++ byte ∷ [] }
+        ensures free { utf8_free self.new + 1 ≡ utf8_free self.old }
+        ensures loan { utf8_loan self.new ≡ utf8_loan self.old }
+        ensures filled { self.new.filled ≡ self.old.filled + 1 }
+        ensures kept { take self.old.filled self.new.buffer.now ≡ utf8_written self.old }
+    {
+        let at = self.filled;
+        self.buffer[at] = byte;
+        self.filled = at + 1;
+    }
+
+    /// Writes the one or two bytes of a scalar below U+0800. The last byte is stored behind a lead,
+    /// or over it where there is none: which of them it is follows no pattern in text, and so is no
+    /// branch.
+    #[inline]
+    #[tactic(auto, using(crate::proofs::CodeUnits::encoding))]
+    fn push_short(&mut self, code: u32)
+        requires below { code < 0x800 }
+        requires room { length (encode_utf8 code) ≤ utf8_free self.old }
+        ensures written { utf8_written self.new ≡ utf8_written self.old ++ encode_utf8 code }
+        ensures free { utf8_free self.new + length (encode_utf8 code) ≡ utf8_free self.old }
+        ensures loan { utf8_loan self.new ≡ utf8_loan self.old }
+    {
+        let at = self.filled;
+        let (leads, last) = if code < 0x80 {
+            (0, code)
+        } else {
+            (1, 0x80 + code % 0x40)
+        };
+        self.push((0xC0 + code / 0x40) as u8);
+        self.filled = at + leads;
+        self.push(last as u8);
+    }
+
+    /// Stores a block behind what was written, and keeps its ASCII front: answers that front's
+    /// length.
+    // Inlined always, as `ascii_count` is.
+    #[inline(always)]
+    #[tactic(auto, using(crate::proofs::Ascii::stored))]
+    fn put_block(&mut self, block: u8x16) -> usize
+        requires { 16 ≤ utf8_free self.old }
+        ensures count { result ≤ 16 }
+        ensures ascii { IsAscii (take result block) }
+        ensures written { utf8_written self.new ≡ utf8_written self.old ++ take result block }
+        ensures free { utf8_free self.new + result ≡ utf8_free self.old }
+        ensures loan { utf8_loan self.new ≡ utf8_loan self.old }
+    {
+        let at = self.filled;
+        block.copy_to_slice(&mut self.buffer[at..]);
+        let count = ascii_count(block);
+        self.filled = at + count;
+        count
+    }
+}
+
+impl Destination for Utf8Destination<'_> {
+    ghost use Rattle.legacy_text.specs.Destinations.{utf8_written, utf8_free, utf8_loan};
+
+    ghost form = { Utf8 };
+
+    ghost contents = { utf8_written };
+
+    ghost room = { utf8_free };
+
+    ghost loan = { utf8_loan };
+
+    const BMP_ROOM: usize = 3;
+
+    const WIDE_ROOM: usize = 4;
+
+    fn narrow() -> usize
+        ensures { result ≡ 3 }
+    {
+        Self::BMP_ROOM
+    }
+
+    fn wide() -> usize
+        ensures { result ≡ 4 }
+    {
+        Self::WIDE_ROOM
+    }
+
+    #[inline]
+    fn free(&self) -> usize {
+        self.buffer.len() - self.filled
+    }
+
+    #[inline]
+    fn written(&self) -> usize {
+        self.filled
+    }
+
+    // Most scalars past ASCII take three bytes: that case is tested first.
+    #[inline]
+    #[tactic(auto, using(crate::proofs::CodeUnits::encoding))]
+    fn put(&mut self, c: char) {
+        let code = c as u32;
+        if code >= 0x800 && code < 0x1_0000 {
+            self.push((0xE0 + code / 0x1000) as u8);
+            self.push((0x80 + code / 0x40 % 0x40) as u8);
+            self.push((0x80 + code % 0x40) as u8);
+        } else if code < 0x800 {
+            self.push_short(code);
+        } else {
+            self.push((0xF0 + code / 0x4_0000) as u8);
+            self.push((0x80 + code / 0x1000 % 0x40) as u8);
+            self.push((0x80 + code / 0x40 % 0x40) as u8);
+            self.push((0x80 + code % 0x40) as u8);
+        }
+    }
+
+    #[inline]
+    #[tactic(auto, using(crate::proofs::Ascii::block_steps))]
+    fn copy_ascii(&mut self, bytes: &[u8]) -> usize {
+        let mut at = 0;
+        while bytes.len() - at >= 16 && self.buffer.len() - self.filled >= 16 {
+            let count = self.put_block(u8x16::from_slice(&bytes[at..]));
+            at += count;
+            if count < 16 {
+                return at;
+            }
+        }
+        at
+    }
+}
+
+/// UTF-16 into a slice of code units, from its front on.
+#[derive(Drop)]
+pub struct Utf16Destination<'a> {
+    buffer: &'a mut [u16],
+    filled: usize,
+    ghost in_range: { filled ≤ length buffer.now },
+}
+
+impl<'a> Utf16Destination<'a> {
+    ghost use Rattle.legacy_text.specs.Destinations.{utf16_written, utf16_free, utf16_loan};
+    ghost use Rattle.legacy_text.specs.Destinations.{utf16_buffer};
+
+    /// A destination that has written nothing and has the whole slice free.
+    pub fn new(buffer: &'a mut [u16]) -> Utf16Destination<'a>
+        ensures loan { utf16_loan result ≡ buffer.entry.ghost_name }
+        ensures written { utf16_written result ≡ [] }
+        ensures free { utf16_free result ≡ length buffer.old }
+        ensures same { utf16_buffer result ≡ buffer.old }
+    {
+        Utf16Destination { buffer, filled: 0 }
+    }
+
+    #[inline]
+    fn push(&mut self, unit: u16)
+        requires { 0 < utf16_free self.old }
+        ensures written { utf16_written self.new ≡ utf16_written self.old ++ unit ∷ [] }
+        ensures free { utf16_free self.new + 1 ≡ utf16_free self.old }
+        ensures loan { utf16_loan self.new ≡ utf16_loan self.old }
+    {
+        let at = self.filled;
+        self.buffer[at] = unit;
+        self.filled = at + 1;
+    }
+
+    /// Stores a block behind what was written, and keeps its ASCII front: answers that front's
+    /// length.
+    // Inlined always, as `ascii_count` is.
+    #[inline(always)]
+    fn put_block(&mut self, block: u8x16) -> usize
+        requires { 16 ≤ utf16_free self.old }
+        ensures count { result ≤ 16 }
+        ensures ascii { IsAscii (take result block) }
+        ensures written { utf16_written self.new ≡ utf16_written self.old ++ take result block }
+        ensures free { utf16_free self.new + result ≡ utf16_free self.old }
+        ensures loan { utf16_loan self.new ≡ utf16_loan self.old }
+    {
+        let at = self.filled;
+        block.cast::<u16>().copy_to_slice(&mut self.buffer[at..]);
+        let count = ascii_count(block);
+        self.filled = at + count;
+        count
+    }
+}
+
+impl Destination for Utf16Destination<'_> {
+    ghost use Rattle.legacy_text.specs.Destinations.{utf16_written, utf16_free, utf16_loan};
+
+    ghost form = { Utf16 };
+
+    ghost contents = { utf16_written };
+
+    ghost room = { utf16_free };
+
+    ghost loan = { utf16_loan };
+
+    const BMP_ROOM: usize = 1;
+
+    const WIDE_ROOM: usize = 2;
+
+    fn narrow() -> usize
+        ensures { result ≡ 1 }
+    {
+        Self::BMP_ROOM
+    }
+
+    fn wide() -> usize
+        ensures { result ≡ 2 }
+    {
+        Self::WIDE_ROOM
+    }
+
+    #[inline]
+    fn free(&self) -> usize {
+        self.buffer.len() - self.filled
+    }
+
+    #[inline]
+    fn written(&self) -> usize {
+        self.filled
+    }
+
+    #[inline]
+    #[tactic(auto, using(crate::proofs::CodeUnits::encoding_utf16))]
+    fn put(&mut self, c: char) {
+        let code = c as u32;
+        if code < 0x1_0000 {
+            self.push(code as u16);
+        } else {
+            let over = code - 0x1_0000;
+            self.push((0xD800 + over / 0x400) as u16);
+            self.push((0xDC00 + over % 0x400) as u16);
+        }
+    }
+
+    #[inline]
+    #[tactic(auto, using(crate::proofs::Ascii::block_steps))]
+    fn copy_ascii(&mut self, bytes: &[u8]) -> usize {
+        let mut at = 0;
+        while bytes.len() - at >= 16 && self.buffer.len() - self.filled >= 16 {
+            let count = self.put_block(u8x16::from_slice(&bytes[at..]));
+            at += count;
+            if count < 16 {
+                return at;
+            }
+        }
+        at
+    }
+}

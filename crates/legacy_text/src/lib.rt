@@ -1,0 +1,15 @@
+//! Where decoders and encoders read and write: a cursor over bytes, texts in UTF-8 and UTF-16, taken a scalar at
+//! a time and by runs, and destinations in both forms.
+#![tactic(auto)]
+
+mod blocks;
+mod destination;
+mod short_scalars;
+mod source;
+mod text_source;
+mod unit_codes;
+
+pub use destination::{Destination, Utf8Destination, Utf16Destination};
+pub use source::ByteSource;
+pub use text_source::{Next, Source, Utf8Source, Utf16Source};
+pub use unit_codes::UnitCodes;

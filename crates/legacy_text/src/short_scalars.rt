@@ -1,0 +1,90 @@
+//! Scalars of one and two bytes of UTF-8 that have a byte each, eight at a time and without a branch between them.
+// In text whose letters have two bytes no pattern tells where a scalar of one byte comes: so none is looked for.
+ghost use Rattle.std.specs.Prelude.{◌≡◌, ◌+◌, ◌<◌, ◌≤◌, length, take, drop, true, slice_index, MatchOption, ⊤};
+ghost use Rattle.std.specs.Str.{is_utf8};
+ghost use Rattle.legacy_text.specs.ShortScalars.{ReadsScalar, WritesScalars};
+
+use crate::unit_codes::UnitCodes;
+
+/// The scalar at a place and the number of its bytes, where that is one or two. Where a longer one stands there, or
+/// none begins, it is any number.
+// Both bytes are loaded at once: or the compiler would put a branch ahead of the second.
+#[inline(always)]
+fn short_scalar(bytes: &[u8], place: usize) -> (u16, usize)
+    requires { place + 2 ≤ length bytes.now }
+    ensures scalar { is_utf8 (drop place bytes.now) ≡ true → slice_index bytes.now place < 0xE0 →
+        ReadsScalar bytes.now place result.0 (place + result.1) }
+    ensures some { 1 ≤ result.1 }
+    ensures few { result.1 ≤ 2 }
+{
+    let both = u16::from_le_bytes([bytes[place], bytes[place + 1]]);
+    let first = both % 0x100;
+    let pair = (first * 64 + both / 0x100).wrapping_sub(0x3080);
+    let scalar = if first < 0x80 { first } else { pair };
+    (scalar, 1 + usize::from(first / 0x80))
+}
+
+/// Writes the bytes of eight scalars of at most two bytes from the place `at` on, and answers the place behind the
+/// scalars; `None` where one has no byte or is longer.
+#[inline(always)]
+fn put_turn<C: UnitCodes>(
+    codes: &C,
+    bytes: &[u8],
+    start: usize,
+    dst: &mut [u8],
+    at: usize,
+) -> Option<usize>
+    requires text { is_utf8 (drop start bytes.now) ≡ true }
+    requires read { start + 16 ≤ length bytes.now }
+    requires room { at + 8 ≤ length dst.old }
+    ensures before { take at dst.new ≡ take at dst.old }
+    ensures turn { MatchOption result ⊤ (λ behind. WritesScalars (C.gives codes.now) bytes.now start 8
+        behind (take at dst.old) (take (at + 8) dst.new)) }
+{
+    let mut place = start;
+    let mut is_known = true;
+    let mut k = 0;
+    while k < 8 {
+        let is_short = bytes[place] < 0xE0;
+        let (scalar, count) = short_scalar(bytes, place);
+        let (byte, has_byte) = codes.byte_of(scalar);
+        is_known = is_known & is_short & has_byte;
+        dst[at + k] = byte;
+        place += count;
+        k += 1;
+    }
+    if is_known { Some(place) } else { None }
+}
+
+/// Writes the bytes of scalars of at most two bytes from the place `start` on, by turns of eight and as far as each
+/// has a byte, from the place `at` on. Answers how many, and the place behind them. A turn of ASCII is the last one.
+#[inline]
+pub(crate) fn copy_short_scalars<C: UnitCodes>(
+    codes: &C,
+    bytes: &[u8],
+    start: usize,
+    dst: &mut [u8],
+    at: usize,
+) -> (usize, usize)
+    requires text { is_utf8 (drop start bytes.now) ≡ true }
+    requires place { start ≤ length bytes.now }
+    requires room { at ≤ length dst.old }
+    ensures fits { at + result.0 ≤ length dst.old }
+    ensures writes { WritesScalars (C.gives codes.now) bytes.now start result.0 result.1
+        (take at dst.old) (take (at + result.0) dst.new) }
+{
+    let mut place = start;
+    let mut copied = 0;
+    while bytes.len() - place >= 16 && dst.len() - at - copied >= 8 {
+        let Some(behind) = put_turn(codes, bytes, place, dst, at + copied) else {
+            return (copied, place);
+        };
+        let is_ascii = behind - place == 8;
+        copied += 8;
+        place = behind;
+        if is_ascii {
+            return (copied, place);
+        }
+    }
+    (copied, place)
+}

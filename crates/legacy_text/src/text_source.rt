@@ -1,0 +1,383 @@
+//! Where an encoder reads.
+ghost use Rattle.std.specs.Prelude.{◌≡◌, ℕ, ◌+◌, ◌-◌, ◌^◌, ◌<◌, ◌≤◌, List, [], ◌∷◌, ◌++◌, length, take, drop, true, slice_get, slice_index, IsAscii};
+ghost use Rattle.std.specs.Str.{chars, is_utf8};
+ghost use Rattle.legacy_text.specs.EncodingForm.{EncodingForm, Utf8, Utf16, unit_count, total_unit_count};
+ghost use Rattle.legacy_text.specs.Texts.{unit_scalars};
+ghost use Rattle.legacy_text.specs.NextScalars.{IsSized, IsNext, TellsCount};
+ghost use Rattle.legacy_text.specs.UnitCodes.{WritesCodes};
+
+use crate::blocks::{copy_ascii_bytes, copy_ascii_units};
+use crate::short_scalars::copy_short_scalars;
+use crate::unit_codes::{UnitCodes, copy_unit_codes};
+
+/// The next scalar of a text, by the number of its code units.
+#[derive(Clone, Copy)]
+pub enum Next {
+    /// The end of the text.
+    End,
+    /// A scalar of one code unit.
+    One(char),
+    /// A scalar of two code units.
+    Two(char),
+    /// A scalar of three code units.
+    Three(char),
+    /// A scalar of four code units.
+    Four(char),
+}
+
+/// A cursor over the scalars of a text in UTF-8 or in UTF-16, one of the two for each type.
+pub trait Source {
+    /// The encoding form, which is fixed for the type.
+    ghost form: { EncodingForm };
+
+    /// The scalars that are left.
+    ghost left: { Self → List ℕ };
+
+    /// How many code units were passed.
+    ghost passed: { Self → ℕ };
+
+    /// The next scalar, or `None` at the end. The cursor stays where it is.
+    fn peek(&self) -> Option<char>
+        ensures { result ≡ slice_get (left self.now) 0 };
+
+    /// Goes past the next scalar. The end must not be reached: `peek` tells.
+    fn advance(&mut self)
+        requires { 0 < length (left self.old) }
+        ensures left { left self.new ≡ drop 1 (left self.old) }
+        ensures passed { passed self.new
+            ≡ passed self.old + unit_count form (slice_index (left self.old) 0) };
+
+    /// How many code units the cursor has passed.
+    fn consumed(&self) -> usize
+        ensures { result ≡ passed self.now };
+
+    /// The next scalar by the number of its code units. The cursor stays where it is.
+    // Whoever goes past it by that number need not wait for the scalar to know where the next one is.
+    fn front(&self) -> Next
+        ensures { IsNext form (left self.now) result };
+
+    /// Goes past the next scalar, which has so many code units: `front` tells.
+    fn pass(&mut self, count: usize)
+        requires some { 0 < length (left self.old) }
+        requires count { count ≡ unit_count form (slice_index (left self.old) 0) }
+        ensures left { left self.new ≡ drop 1 (left self.old) }
+        ensures passed { passed self.new ≡ passed self.old + count };
+
+    /// Whether ASCII comes next, and goes on for some code units. It is a hint: any answer will do.
+    fn is_in_ascii(&self) -> bool;
+
+    /// Goes past ASCII scalars, as many as it cares to, and writes them as bytes from the place `at` of
+    /// `dst` on. Answers how many: none is an answer too. Behind them `dst` may hold anything.
+    fn copy_ascii(&mut self, dst: &mut [u8], at: usize) -> usize
+        requires { at ≤ length dst.old }
+        ensures read { result ≤ length (left self.old) }
+        ensures left { left self.new ≡ drop result (left self.old) }
+        ensures passed { passed self.new ≡ passed self.old + result }
+        ensures ascii { IsAscii (take result (left self.old)) }
+        ensures fits { at + result ≤ length dst.old }
+        ensures bytes { take (at + result) dst.new
+            ≡ take at dst.old ++ take result (left self.old) };
+
+    /// Whether `copy_codes` may go on by blocks of code units. It is a hint: any answer will do.
+    #[inline(always)]
+    fn has_blocks(&self) -> bool {
+        false
+    }
+
+    /// Whether a scalar past ASCII comes next, and `copy_codes` may go on by turns of scalars. It is a
+    /// hint: any answer will do.
+    #[inline(always)]
+    fn has_turns(&self) -> bool {
+        false
+    }
+
+    /// Goes past scalars that have a byte each, as many as it cares to, and writes these from the place
+    /// `at` of `dst` on. Answers how many: none is an answer too. Behind them `dst` may hold anything.
+    #[inline(always)]
+    fn copy_codes<C: UnitCodes>(&mut self, codes: &C, dst: &mut [u8], at: usize) -> usize
+        requires { at ≤ length dst.old }
+        ensures read { result ≤ length (left self.old) }
+        ensures left { left self.new ≡ drop result (left self.old) }
+        ensures passed { passed self.new
+            ≡ passed self.old + total_unit_count form (take result (left self.old)) }
+        ensures fits { at + result ≤ length dst.old }
+        ensures writes { WritesCodes (C.gives codes.now) (left self.old) result (take at dst.old)
+            (take (at + result) dst.new) }
+    {
+        let _ = (self.consumed(), codes.byte_of(0), dst.len());
+        0
+    }
+}
+
+/// The scalars of a text in UTF-8.
+#[derive(Drop)]
+pub struct Utf8Source<'a> {
+    text: &'a str,
+    place: usize,
+    ghost in_range: { place ≤ length text.now },
+    ghost is_text: { is_utf8 (drop place text.now) ≡ true },
+}
+
+/// The scalar at a place of a text, or `None` at its end.
+#[inline]
+fn scalar_at(text: &str, place: usize) -> Option<char>
+    requires in_range { place ≤ length text.now }
+    requires is_text { is_utf8 (drop place text.now) ≡ true }
+    ensures { result ≡ slice_get (chars (drop place text.now)) 0 }
+{
+    text[place..].chars().next()
+}
+
+/// A place so many bytes further on in a text.
+#[inline(always)]
+fn place_behind(text: &str, place: usize, count: usize) -> usize
+    requires { place + count ≤ length text.now }
+    ensures { result ≡ place + count }
+{
+    text.len() - (text.len() - place - count)
+}
+
+/// Whether the next four bytes are ASCII.
+// Two would do in French text: but Russian has two ASCII bytes behind many words, and a block gains nothing there.
+#[inline(always)]
+fn is_before_ascii(bytes: &[u8], place: usize) -> bool
+    requires { place ≤ length bytes.now }
+{
+    if bytes.len() - place < 4 {
+        return false;
+    }
+    let next = [
+        bytes[place],
+        bytes[place + 1],
+        bytes[place + 2],
+        bytes[place + 3],
+    ];
+    u32::from_le_bytes(next) & 0x8080_8080 == 0
+}
+
+/// A scalar by the number of its bytes in UTF-8, which the first of them tells.
+// The scalar would tell it too. But that byte was tested as the scalar was read, so no test is left here.
+#[inline(always)]
+fn by_first_byte(first: u8, c: char) -> Next
+    requires { TellsCount c first }
+    ensures { IsSized Utf8 c result }
+{
+    if first < 0x80 {
+        Next::One(c)
+    } else if first < 0xE0 {
+        Next::Two(c)
+    } else if first < 0xF0 {
+        Next::Three(c)
+    } else {
+        Next::Four(c)
+    }
+}
+
+/// The scalar at a place of a text, by the number of its bytes.
+#[inline(always)]
+fn next_at(text: &str, place: usize) -> Next
+    requires in_range { place ≤ length text.now }
+    requires is_text { is_utf8 (drop place text.now) ≡ true }
+    ensures { IsNext Utf8 (chars (drop place text.now)) result }
+{
+    match scalar_at(text, place) {
+        None => Next::End,
+        Some(c) => by_first_byte(text.as_bytes()[place], c),
+    }
+}
+
+impl<'a> Utf8Source<'a> {
+    ghost use Rattle.legacy_text.specs.TextSources.{utf8_text, utf8_place};
+
+    /// A cursor before the first scalar of the text.
+    pub fn new(text: &'a str) -> Utf8Source<'a>
+        ensures text { utf8_text result ≡ text.now }
+        ensures place { utf8_place result ≡ 0 }
+    {
+        Utf8Source { text, place: 0 }
+    }
+}
+
+impl Source for Utf8Source<'_> {
+    ghost use Rattle.legacy_text.specs.TextSources.{utf8_left, utf8_place};
+
+    ghost form = { Utf8 };
+
+    ghost left = { utf8_left };
+
+    ghost passed = { utf8_place };
+
+    #[inline]
+    fn peek(&self) -> Option<char> {
+        scalar_at(self.text, self.place)
+    }
+
+    #[inline]
+    fn advance(&mut self) {
+        if let Some(c) = scalar_at(self.text, self.place) {
+            self.place += c.len_utf8();
+        }
+    }
+
+    #[inline]
+    fn consumed(&self) -> usize {
+        self.place
+    }
+
+    #[inline(always)]
+    fn front(&self) -> Next {
+        next_at(self.text, self.place)
+    }
+
+    #[inline(always)]
+    fn pass(&mut self, count: usize) {
+        self.place = place_behind(self.text, self.place, count);
+    }
+
+    #[inline(always)]
+    fn is_in_ascii(&self) -> bool {
+        is_before_ascii(self.text.as_bytes(), self.place)
+    }
+
+    #[inline]
+    fn copy_ascii(&mut self, dst: &mut [u8], at: usize) -> usize {
+        let count = copy_ascii_bytes(&self.text.as_bytes()[self.place..], dst, at);
+        self.place += count;
+        count
+    }
+
+    #[inline(always)]
+    fn has_turns(&self) -> bool {
+        let bytes = self.text.as_bytes();
+        bytes.len() - self.place >= 16 && bytes[self.place] >= 0x80
+    }
+
+    #[inline]
+    fn copy_codes<C: UnitCodes>(&mut self, codes: &C, dst: &mut [u8], at: usize) -> usize {
+        let (count, behind) = copy_short_scalars(codes, self.text.as_bytes(), self.place, dst, at);
+        self.place = behind;
+        count
+    }
+}
+
+/// The scalars of code units of UTF-16, where each unpaired surrogate stands for U+FFFD.
+#[derive(Drop)]
+pub struct Utf16Source<'a> {
+    units: &'a [u16],
+    place: usize,
+    ghost are_units: { (k : ℕ) → slice_index units.now k < 2 ^ 16 },
+    ghost in_range: { place ≤ length units.now },
+}
+
+/// The scalar at a place of units, or `None` at their end.
+#[inline]
+fn unit_scalar_at(units: &[u16], place: usize) -> Option<char>
+    requires { place ≤ length units.now }
+    ensures { result ≡ slice_get (unit_scalars (drop place units.now)) 0 }
+{
+    if place == units.len() {
+        return None;
+    }
+    let high = u32::from(units[place]);
+    if high < 0xD800 || high >= 0xE000 {
+        return char::from_u32(high);
+    }
+    if high >= 0xDC00 || units.len() - place < 2 {
+        return Some(char::REPLACEMENT_CHARACTER);
+    }
+    let low = u32::from(units[place + 1]);
+    if low < 0xDC00 || low >= 0xE000 {
+        return Some(char::REPLACEMENT_CHARACTER);
+    }
+    char::from_u32(0x1_0000 + (high - 0xD800) * 0x400 + (low - 0xDC00))
+}
+
+/// A scalar by the number of its code units in UTF-16.
+#[inline(always)]
+#[tactic(auto, using(crate::proofs::CodeUnits::encoding_utf16))]
+fn in_utf16(c: char) -> Next
+    ensures { IsSized Utf16 c result }
+{
+    if (c as u32) < 0x1_0000 {
+        Next::One(c)
+    } else {
+        Next::Two(c)
+    }
+}
+
+impl<'a> Utf16Source<'a> {
+    ghost use Rattle.legacy_text.specs.TextSources.{utf16_units, utf16_place};
+
+    /// A cursor before the first scalar of the units.
+    pub fn new(units: &'a [u16]) -> Utf16Source<'a>
+        ensures units { utf16_units result ≡ units.now }
+        ensures place { utf16_place result ≡ 0 }
+    {
+        Utf16Source { units, place: 0 }
+    }
+}
+
+impl Source for Utf16Source<'_> {
+    ghost use Rattle.legacy_text.specs.TextSources.{utf16_left, utf16_place};
+
+    ghost form = { Utf16 };
+
+    ghost left = { utf16_left };
+
+    ghost passed = { utf16_place };
+
+    #[inline]
+    fn peek(&self) -> Option<char> {
+        unit_scalar_at(self.units, self.place)
+    }
+
+    #[inline]
+    fn advance(&mut self) {
+        if let Some(c) = unit_scalar_at(self.units, self.place) {
+            self.place += c.len_utf16();
+        }
+    }
+
+    #[inline]
+    fn consumed(&self) -> usize {
+        self.place
+    }
+
+    #[inline(always)]
+    fn front(&self) -> Next {
+        match unit_scalar_at(self.units, self.place) {
+            None => Next::End,
+            Some(c) => in_utf16(c),
+        }
+    }
+
+    #[inline(always)]
+    fn pass(&mut self, count: usize) {
+        self.place += count;
+    }
+
+    #[inline(always)]
+    fn is_in_ascii(&self) -> bool {
+        let units = self.units;
+        units.len() - self.place >= 2 && (units[self.place] | units[self.place + 1]) < 0x80
+    }
+
+    #[inline]
+    fn copy_ascii(&mut self, dst: &mut [u8], at: usize) -> usize {
+        let count = copy_ascii_units(&self.units[self.place..], dst, at);
+        self.place += count;
+        count
+    }
+
+    #[inline(always)]
+    fn has_blocks(&self) -> bool {
+        self.units.len() - self.place >= 16
+    }
+
+    #[inline]
+    fn copy_codes<C: UnitCodes>(&mut self, codes: &C, dst: &mut [u8], at: usize) -> usize {
+        let count = copy_unit_codes(codes, &self.units[self.place..], dst, at);
+        self.place += count;
+        count
+    }
+}

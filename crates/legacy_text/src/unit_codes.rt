@@ -1,0 +1,94 @@
+//! Code units of UTF-16 that have a byte each, sixteen at a time.
+// Inlined always is what runs for each block: a call would pass the vector through memory.
+ghost use Rattle.std.specs.Prelude.{◌≡◌, ℕ, ◌+◌, ◌-◌, ◌<◌, ◌≤◌, ◌++◌, length, take, slice_index, IsAscii, true};
+ghost use Rattle.legacy_text.specs.UnitCodes.{IsNoSurrogate, WritesCodes};
+
+use crate::blocks::ascii_count;
+use std::simd::prelude::*;
+
+/// The bytes of code units: a codec in which common scalars have one byte.
+pub trait UnitCodes {
+    /// The scalar may be written as the byte.
+    ghost gives: { Self → ℕ → ℕ → Type 0 };
+
+    /// The byte of a code unit, and whether it has one: without it, the byte says nothing. Any unit may
+    /// have none.
+    fn byte_of(&self, unit: u16) -> (u8, bool)
+        ensures { result.1 ≡ true → IsNoSurrogate unit × gives self.now unit result.0 };
+}
+
+/// ASCII for true, and else not.
+#[inline(always)]
+fn mark(is_known: bool) -> u8
+    ensures { result < 0x80 → is_known ≡ true }
+{
+    if is_known { 0 } else { 0xFF }
+}
+
+/// The bytes of sixteen code units, and marks, which are ASCII where the unit has a byte.
+#[inline(always)]
+fn code_block<C: UnitCodes>(codes: &C, units: &[u16]) -> ([u8; 16], [u8; 16])
+    requires { 16 ≤ length units.now }
+    ensures bytes { length result.0 ≡ 16 }
+    ensures marks { length result.1 ≡ 16 }
+    ensures codes { (k : ℕ) → k < 16 → slice_index result.1 k < 0x80 →
+        IsNoSurrogate (slice_index units.now k)
+        × C.gives codes.now (slice_index units.now k) (slice_index result.0 k) }
+{
+    let mut bytes = [0u8; 16];
+    let mut marks = [0u8; 16];
+    let mut k = 0;
+    while k < 16 {
+        let (byte, is_known) = codes.byte_of(units[k]);
+        bytes[k] = byte;
+        marks[k] = mark(is_known);
+        k += 1;
+    }
+    (bytes, marks)
+}
+
+/// Stores a block from the place `at` on, and answers how many marks at the front are ASCII.
+#[inline(always)]
+fn store_marked(dst: &mut [u8], at: usize, block: u8x16, marks: u8x16) -> usize
+    requires { at + 16 ≤ length dst.old }
+    ensures count { result ≤ 16 }
+    ensures ascii { IsAscii (take result marks) }
+    ensures stored { take (at + result) dst.new ≡ take at dst.old ++ take result block }
+{
+    block.copy_to_slice(&mut dst[at..]);
+    ascii_count(marks)
+}
+
+/// Writes the bytes of code units from the front, by blocks and as far as they have one, to the place `at`
+/// and on. Answers how many.
+#[inline]
+pub(crate) fn copy_unit_codes<C: UnitCodes>(
+    codes: &C,
+    units: &[u16],
+    dst: &mut [u8],
+    at: usize,
+) -> usize
+    requires { at ≤ length dst.old }
+    ensures read { result ≤ length units.now }
+    ensures fits { at + result ≤ length dst.old }
+    ensures lone { (k : ℕ) → k < result → IsNoSurrogate (slice_index units.now k) }
+    ensures writes { WritesCodes (C.gives codes.now) units.now result (take at dst.old)
+        (take (at + result) dst.new) }
+{
+    let most = dst.len() - at;
+    let mut copied = 0;
+    while units.len() - copied >= 16 && most - copied >= 16 {
+        let (bytes, marks) = code_block(codes, &units[copied..]);
+        let count = store_marked(
+            dst,
+            at + copied,
+            u8x16::from_array(bytes),
+            u8x16::from_array(marks),
+        );
+        copied += count;
+        if count < 16 {
+            return copied;
+        }
+    }
+    copied
+}
