@@ -14,7 +14,7 @@ pub use legacy_tables::{
     Packed, PackedPart, PackedTables, Run, SingleByteTable, TableError, Tables,
 };
 pub use legacy_text::{
-    ByteSource, Destination, Next, Source, UnitCodes, Utf8Destination, Utf8Source, Utf16Destination,
-    Utf16Source,
+    ByteSource, Destination, Next, Source, UnitCodes, Utf8Destination, Utf8Source,
+    Utf16Destination, Utf16Source,
 };
 pub use results::{DecodeEvent, DecoderResult, EncodeEvent, EncoderResult};

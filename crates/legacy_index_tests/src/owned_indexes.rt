@@ -1,6 +1,6 @@
 //! An owning set of indexes, from the text of a file to what tables give.
-use legacy_tables::{IndexName, TableError};
 use legacy_index_files::{FileIndex, FileTable, IndexFileError, OwnedIndexes, read_index};
+use legacy_tables::{IndexName, TableError};
 use std::test::Fail;
 
 #[test]

@@ -1,5 +1,5 @@
-use legacy_tables::{IndexName, Indexes, KeptTables, Packed, Tables};
 use legacy_index_files::{FileIndex, OwnedIndexes, PackedIndexes, pack};
+use legacy_tables::{IndexName, Indexes, KeptTables, Packed, Tables};
 use std::process::Abort;
 use std::test::Fail;
 

@@ -2,11 +2,12 @@
 mod encoder;
 
 use crate::events::bad;
-use crate::indexes::{no_entries, no_parts, packed_tables_of, run, tables_of};
+use crate::indexes::{no_entries, no_parts, run};
+use crate::over_tables::{Codec, decode_over_both};
 use crate::rows::Row::{
     BareLength, Decoder, Events, Lone, Neutral, ToUtf8, ToUtf16, Utf8Length, Utf16Length,
 };
-use crate::rows::{Row, Tested, follow};
+use crate::rows::{Row, Tested};
 use legacy_base::DecodeEvent::Scalar;
 use legacy_base::DecoderResult::{InputEmpty, Malformed, OutputFull};
 use legacy_base::{Indexes, Packed, Tables};
@@ -91,10 +92,13 @@ const WITHOUT_ENTRIES: &[Row] = &[
 
 #[test]
 fn decodes_with_an_empty_index(rt: HostRuntime) {
-    let tables = tables_of(&rt, &no_entries());
-    follow::<Big5Decoder>(&rt, &tables, WITHOUT_ENTRIES);
-    let packed = packed_tables_of(&rt, &no_entries(), &no_parts());
-    follow::<Big5Decoder>(&rt, &packed, WITHOUT_ENTRIES);
+    decode_over_both(
+        &rt,
+        Codec::Big5,
+        &no_entries(),
+        &no_parts(),
+        WITHOUT_ENTRIES,
+    );
 }
 
 const THE_LAST_POINTER: &[Row] = &[
@@ -125,8 +129,5 @@ fn decodes_the_last_pointer(rt: HostRuntime) {
         big5_order: &[19780],
         ..no_parts()
     };
-    let tables = tables_of(&rt, &indexes);
-    follow::<Big5Decoder>(&rt, &tables, THE_LAST_POINTER);
-    let tables = packed_tables_of(&rt, &indexes, &packed);
-    follow::<Big5Decoder>(&rt, &tables, THE_LAST_POINTER);
+    decode_over_both(&rt, Codec::Big5, &indexes, &packed, THE_LAST_POINTER);
 }

@@ -2,11 +2,12 @@
 mod encoder;
 
 use crate::events::bad;
-use crate::indexes::{no_entries, no_parts, packed_tables_of, run, tables_of};
+use crate::indexes::{no_entries, no_parts, run};
+use crate::over_tables::{Codec, decode_over_both};
 use crate::rows::Row::{
     BareLength, Decoder, Events, Neutral, ToUtf8, ToUtf16, Utf8Length, Utf16Length,
 };
-use crate::rows::{Row, Tested, follow};
+use crate::rows::{Row, Tested};
 use legacy_base::DecodeEvent::Scalar;
 use legacy_base::DecoderResult::{InputEmpty, Malformed, OutputFull};
 use legacy_base::{Indexes, Packed, Tables};
@@ -81,10 +82,13 @@ const WITHOUT_ENTRIES: &[Row] = &[
 
 #[test]
 fn decodes_with_empty_indexes(rt: HostRuntime) {
-    let tables = tables_of(&rt, &no_entries());
-    follow::<EucJpDecoder>(&rt, &tables, WITHOUT_ENTRIES);
-    let packed = packed_tables_of(&rt, &no_entries(), &no_parts());
-    follow::<EucJpDecoder>(&rt, &packed, WITHOUT_ENTRIES);
+    decode_over_both(
+        &rt,
+        Codec::EucJp,
+        &no_entries(),
+        &no_parts(),
+        WITHOUT_ENTRIES,
+    );
 }
 
 const PAIRS: &[Row] = &[
@@ -124,8 +128,5 @@ fn decodes_pairs_by_jis0208_and_behind_8f_by_jis0212(rt: HostRuntime) {
         euc_jp_order: &[0, 60],
         ..no_parts()
     };
-    let tables = tables_of(&rt, &indexes);
-    follow::<EucJpDecoder>(&rt, &tables, PAIRS);
-    let tables = packed_tables_of(&rt, &indexes, &packed);
-    follow::<EucJpDecoder>(&rt, &tables, PAIRS);
+    decode_over_both(&rt, Codec::EucJp, &indexes, &packed, PAIRS);
 }

@@ -2,11 +2,12 @@
 mod encoder;
 
 use crate::events::bad;
-use crate::indexes::{no_entries, no_parts, packed_tables_of, run, tables_of};
+use crate::indexes::{no_entries, no_parts, run};
+use crate::over_tables::{Codec, decode_over_both};
 use crate::rows::Row::{
     BareLength, Decoder, Events, Neutral, ToUtf8, ToUtf16, Utf8Length, Utf16Length,
 };
-use crate::rows::{Row, Tested, follow};
+use crate::rows::{Row, Tested};
 use legacy_base::DecodeEvent::Scalar;
 use legacy_base::DecoderResult::{InputEmpty, Malformed, OutputFull};
 use legacy_base::{Indexes, Packed, Tables};
@@ -80,8 +81,5 @@ fn decodes_with_one_entry(rt: HostRuntime) {
         euc_kr_order: &[0],
         ..no_parts()
     };
-    let tables = tables_of(&rt, &indexes);
-    follow::<EucKrDecoder>(&rt, &tables, ROWS);
-    let tables = packed_tables_of(&rt, &indexes, &packed);
-    follow::<EucKrDecoder>(&rt, &tables, ROWS);
+    decode_over_both(&rt, Codec::EucKr, &indexes, &packed, ROWS);
 }

@@ -2,11 +2,12 @@
 mod encoder;
 
 use crate::events::bad;
-use crate::indexes::{no_entries, no_parts, packed_tables_of, run, tables_of};
+use crate::indexes::{no_entries, no_parts, run};
+use crate::over_tables::{Codec, decode_over_both};
 use crate::rows::Row::{
     BareLength, Decoder, Events, Neutral, ToUtf8, ToUtf16, Utf8Length, Utf16Length,
 };
-use crate::rows::{Row, Tested, follow};
+use crate::rows::{Row, Tested};
 use legacy_base::DecodeEvent::Scalar;
 use legacy_base::DecoderResult::{InputEmpty, Malformed, OutputFull};
 use legacy_base::{Indexes, Packed, Tables};
@@ -61,10 +62,7 @@ const PUT_BACK: &[Row] = &[
 
 #[test]
 fn decodes_again_what_was_put_back(rt: HostRuntime) {
-    let tables = tables_of(&rt, &no_entries());
-    follow::<Gb18030Decoder>(&rt, &tables, PUT_BACK);
-    let packed = packed_tables_of(&rt, &no_entries(), &no_parts());
-    follow::<Gb18030Decoder>(&rt, &packed, PUT_BACK);
+    decode_over_both(&rt, Codec::Gb18030, &no_entries(), &no_parts(), PUT_BACK);
 }
 
 const WITHOUT_ENTRIES: &[Row] = &[
@@ -144,10 +142,13 @@ const WITHOUT_ENTRIES: &[Row] = &[
 
 #[test]
 fn decodes_with_empty_indexes(rt: HostRuntime) {
-    let tables = tables_of(&rt, &no_entries());
-    follow::<Gb18030Decoder>(&rt, &tables, WITHOUT_ENTRIES);
-    let packed = packed_tables_of(&rt, &no_entries(), &no_parts());
-    follow::<Gb18030Decoder>(&rt, &packed, WITHOUT_ENTRIES);
+    decode_over_both(
+        &rt,
+        Codec::Gb18030,
+        &no_entries(),
+        &no_parts(),
+        WITHOUT_ENTRIES,
+    );
 }
 
 const PAIRS: &[Row] = &[
@@ -184,10 +185,7 @@ fn decodes_pairs_on_both_sides_of_7f(rt: HostRuntime) {
         gb18030_order: &[0, 62, 63, 189, 190],
         ..no_parts()
     };
-    let tables = tables_of(&rt, &indexes);
-    follow::<Gb18030Decoder>(&rt, &tables, PAIRS);
-    let tables = packed_tables_of(&rt, &indexes, &packed);
-    follow::<Gb18030Decoder>(&rt, &tables, PAIRS);
+    decode_over_both(&rt, Codec::Gb18030, &indexes, &packed, PAIRS);
 }
 
 /// The rows with the ranges from pointer 0 and U+0080, and from pointer 36 and U+00A5.
@@ -225,8 +223,5 @@ fn decodes_four_bytes_by_the_ranges(rt: HostRuntime) {
         ..no_entries()
     };
     let packed = no_parts();
-    let tables = tables_of(&rt, &indexes);
-    follow::<Gb18030Decoder>(&rt, &tables, RANGES);
-    let tables = packed_tables_of(&rt, &indexes, &packed);
-    follow::<Gb18030Decoder>(&rt, &tables, RANGES);
+    decode_over_both(&rt, Codec::Gb18030, &indexes, &packed, RANGES);
 }

@@ -2,11 +2,12 @@
 mod encoder;
 
 use crate::events::bad;
-use crate::indexes::{no_entries, no_parts, packed_tables_of, run, tables_of};
+use crate::indexes::{no_entries, no_parts, run};
+use crate::over_tables::{Codec, decode_over_both};
 use crate::rows::Row::{
     BareLength, Decoder, Events, Neutral, ToUtf8, ToUtf16, Utf8Length, Utf16Length,
 };
-use crate::rows::{Row, Tested, follow};
+use crate::rows::{Row, Tested};
 use legacy_base::DecodeEvent::Scalar;
 use legacy_base::DecoderResult::{InputEmpty, Malformed, OutputFull};
 use legacy_base::{Indexes, Packed, Tables};
@@ -128,10 +129,13 @@ const WITHOUT_ENTRIES: &[Row] = &[
 
 #[test]
 fn decodes_with_an_empty_index(rt: HostRuntime) {
-    let tables = tables_of(&rt, &no_entries());
-    follow::<Iso2022JpDecoder>(&rt, &tables, WITHOUT_ENTRIES);
-    let packed = packed_tables_of(&rt, &no_entries(), &no_parts());
-    follow::<Iso2022JpDecoder>(&rt, &packed, WITHOUT_ENTRIES);
+    decode_over_both(
+        &rt,
+        Codec::Iso2022Jp,
+        &no_entries(),
+        &no_parts(),
+        WITHOUT_ENTRIES,
+    );
 }
 
 /// The rows with pointers 0, 95, 671 and 4861 of index jis0208.
@@ -263,8 +267,5 @@ fn decodes_pairs_between_escapes(rt: HostRuntime) {
         euc_jp_order: &[95, 671, 0, 4861],
         ..no_parts()
     };
-    let tables = tables_of(&rt, &indexes);
-    follow::<Iso2022JpDecoder>(&rt, &tables, PAIRS);
-    let tables = packed_tables_of(&rt, &indexes, &packed);
-    follow::<Iso2022JpDecoder>(&rt, &tables, PAIRS);
+    decode_over_both(&rt, Codec::Iso2022Jp, &indexes, &packed, PAIRS);
 }

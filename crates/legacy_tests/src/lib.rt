@@ -31,6 +31,8 @@ mod indexes;
 #[cfg(test)]
 mod iso_2022_jp;
 #[cfg(test)]
+mod over_tables;
+#[cfg(test)]
 mod packed;
 #[cfg(test)]
 mod pointers;

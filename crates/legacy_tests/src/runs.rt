@@ -3,28 +3,21 @@ mod encoders;
 
 use crate::events::bad;
 use crate::indexes::{byte_table_of, no_entries, no_parts, packed_tables_of, run, tables_of};
+use crate::over_tables::{Codec, decode_over};
 use crate::rows::Row::{Cut, Decoder, RefusedRuns, RunToUtf8, RunToUtf16, ToUtf8};
 use crate::rows::{Row, follow};
 use legacy_base::DecodeEvent::Scalar;
 use legacy_base::DecoderResult::{InputEmpty, OutputFull};
 use legacy_base::{DecoderResult, Destination, Indexes, Packed, RawDecoder, Tables};
 use legacy_codecs::{OutputForm, RunError, ScalarBuffer, Utf8Form, Utf16Form};
-use legacy_decoders::{
-    Big5Decoder, EucJpDecoder, EucKrDecoder, Gb18030Decoder, Iso2022JpDecoder, ReplacementDecoder,
-    ShiftJisDecoder, SingleByteDecoder, UserDefinedDecoder, Utf16Decoder,
-};
+use legacy_decoders::{ReplacementDecoder, SingleByteDecoder, UserDefinedDecoder, Utf16Decoder};
 use std::process::Abort;
 use std::test::Fail;
 
-/// A decoder.
+/// What a decoder is made of: tables, or something else.
 #[derive(Clone, Copy)]
-enum Codec {
-    Big5,
-    EucKr,
-    ShiftJis,
-    EucJp,
-    Gb18030,
-    Iso2022Jp,
+enum Made {
+    Over(Codec),
     Utf16Le,
     SingleByte,
     UserDefined,
@@ -32,9 +25,9 @@ enum Codec {
 }
 
 /// The cases, with U+AC02 at pointer 0 of index EUC-KR, and no other scalar in any index.
-const CASES: &[(Codec, &[Row])] = &[
+const CASES: &[(Made, &[Row])] = &[
     (
-        Codec::Big5,
+        Made::Over(Codec::Big5),
         &[
             Decoder("a pair of two scalars, and a lead that the end cuts off"),
             Cut(
@@ -51,14 +44,14 @@ const CASES: &[(Codec, &[Row])] = &[
         ],
     ),
     (
-        Codec::EucKr,
+        Made::Over(Codec::EucKr),
         &[
             Decoder("a pair, and a lead that the end cuts off"),
             Cut(b"\x81\x41\x81", &[Scalar('\u{AC02}'), bad!(2, 1)]),
         ],
     ),
     (
-        Codec::ShiftJis,
+        Made::Over(Codec::ShiftJis),
         &[
             Decoder("a single byte, and a lead behind a lead"),
             Cut(
@@ -68,14 +61,14 @@ const CASES: &[(Codec, &[Row])] = &[
         ],
     ),
     (
-        Codec::EucJp,
+        Made::Over(Codec::EucJp),
         &[
             Decoder("an ASCII byte behind 8F and a lead, and an 8F that the end cuts off"),
             Cut(b"\x8F\xA2\x41\x8F", &[bad!(0, 2), Scalar('A'), bad!(3, 1)]),
         ],
     ),
     (
-        Codec::Gb18030,
+        Made::Over(Codec::Gb18030),
         &[
             Decoder("two broken forms of four bytes, of which the end cuts off the second"),
             Cut(
@@ -91,7 +84,7 @@ const CASES: &[(Codec, &[Row])] = &[
         ],
     ),
     (
-        Codec::Iso2022Jp,
+        Made::Over(Codec::Iso2022Jp),
         &[
             Decoder("two escapes, the yen sign, and a lead before an escape that the end cuts off"),
             Cut(
@@ -107,7 +100,7 @@ const CASES: &[(Codec, &[Row])] = &[
         ],
     ),
     (
-        Codec::Utf16Le,
+        Made::Utf16Le,
         &[
             Decoder("an unpaired high surrogate, and one with an odd byte at the end"),
             Cut(
@@ -125,14 +118,14 @@ const CASES: &[(Codec, &[Row])] = &[
         ],
     ),
     (
-        Codec::SingleByte,
+        Made::SingleByte,
         &[
             Decoder("a byte without an entry"),
             Cut(b"\x41\x80", &[Scalar('A'), bad!(1, 1)]),
         ],
     ),
     (
-        Codec::UserDefined,
+        Made::UserDefined,
         &[
             Decoder("the last byte of ASCII, and the first past it"),
             Cut(b"\x7F\x80", &[Scalar('\u{7F}'), Scalar('\u{F780}')]),
@@ -155,7 +148,7 @@ const CASES: &[(Codec, &[Row])] = &[
         ],
     ),
     (
-        Codec::Replacement,
+        Made::Replacement,
         &[
             Decoder("the first byte, and the rest"),
             Cut(b"\x41\x42", &[bad!(0, 1)]),
@@ -164,21 +157,16 @@ const CASES: &[(Codec, &[Row])] = &[
 ];
 
 /// Follows the rows with a decoder over these tables, the single-byte one without an entry.
-fn decodes(rt: &(impl AllocGlobal + Abort), tables: &Tables, codec: Codec, rows: &[Row]) {
-    match codec {
-        Codec::Big5 => follow::<Big5Decoder>(rt, tables, rows),
-        Codec::EucKr => follow::<EucKrDecoder>(rt, tables, rows),
-        Codec::ShiftJis => follow::<ShiftJisDecoder>(rt, tables, rows),
-        Codec::EucJp => follow::<EucJpDecoder>(rt, tables, rows),
-        Codec::Gb18030 => follow::<Gb18030Decoder>(rt, tables, rows),
-        Codec::Iso2022Jp => follow::<Iso2022JpDecoder>(rt, tables, rows),
-        Codec::Utf16Le => follow::<Utf16Decoder>(rt, false, rows),
-        Codec::SingleByte => {
+fn decodes(rt: &(impl AllocGlobal + Abort), tables: &Tables, made: Made, rows: &[Row]) {
+    match made {
+        Made::Over(codec) => decode_over(rt, codec, tables, rows),
+        Made::Utf16Le => follow::<Utf16Decoder>(rt, false, rows),
+        Made::SingleByte => {
             let table = byte_table_of(rt, &[0; 128]);
             follow::<SingleByteDecoder>(rt, &table, rows);
         }
-        Codec::UserDefined => follow::<UserDefinedDecoder>(rt, (), rows),
-        Codec::Replacement => follow::<ReplacementDecoder>(rt, (), rows),
+        Made::UserDefined => follow::<UserDefinedDecoder>(rt, (), rows),
+        Made::Replacement => follow::<ReplacementDecoder>(rt, (), rows),
     }
 }
 
@@ -195,9 +183,9 @@ fn runs_give_the_same_events_in_every_cut(rt: HostRuntime) {
     };
     let flat = tables_of(&rt, &indexes);
     let packed = packed_tables_of(&rt, &indexes, &packed);
-    for (codec, rows) in CASES {
-        decodes(&rt, &flat, *codec, rows);
-        decodes(&rt, &packed, *codec, rows);
+    for (made, rows) in CASES {
+        decodes(&rt, &flat, *made, rows);
+        decodes(&rt, &packed, *made, rows);
     }
 }
 

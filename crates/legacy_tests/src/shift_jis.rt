@@ -2,9 +2,10 @@
 mod encoder;
 
 use crate::events::bad;
-use crate::indexes::{no_entries, no_parts, packed_tables_of, tables_of};
+use crate::indexes::{no_entries, no_parts};
+use crate::over_tables::{Codec, decode_over_both};
 use crate::rows::Row::{BareLength, Decoder, Events, Neutral, ToUtf8, Utf8Length, Utf16Length};
-use crate::rows::{Row, Tested, follow};
+use crate::rows::{Row, Tested};
 use legacy_base::DecodeEvent::Scalar;
 use legacy_base::DecoderResult::{InputEmpty, Malformed, OutputFull};
 use legacy_base::Tables;
@@ -70,8 +71,11 @@ const WITHOUT_ENTRIES: &[Row] = &[
 
 #[test]
 fn decodes_with_an_empty_index(rt: HostRuntime) {
-    let tables = tables_of(&rt, &no_entries());
-    follow::<ShiftJisDecoder>(&rt, &tables, WITHOUT_ENTRIES);
-    let packed = packed_tables_of(&rt, &no_entries(), &no_parts());
-    follow::<ShiftJisDecoder>(&rt, &packed, WITHOUT_ENTRIES);
+    decode_over_both(
+        &rt,
+        Codec::ShiftJis,
+        &no_entries(),
+        &no_parts(),
+        WITHOUT_ENTRIES,
+    );
 }

@@ -69,10 +69,11 @@ pub enum PackedPart {
     Gb18030Order,
 }
 
-/// The part's word in messages.
-impl fmt::Display for PackedPart {
-    fn fmt<W: fmt::Write>(&self, f: &mut fmt::Formatter<W>) -> fmt::Result {
-        f.write_str(match self {
+impl PackedPart {
+    /// The part's word in messages.
+    // Apart from where it is written: there each word would be a way of its own through the call.
+    fn word(self) -> &'static str {
+        match self {
             PackedPart::Big5 => "big5",
             PackedPart::EucKr => "euc-kr",
             PackedPart::Jis0208 => "jis0208",
@@ -83,6 +84,13 @@ impl fmt::Display for PackedPart {
             PackedPart::ShiftJisOrder => "shift-jis-order",
             PackedPart::EucJpOrder => "euc-jp-order",
             PackedPart::Gb18030Order => "gb18030-order",
-        })
+        }
+    }
+}
+
+/// The part's word in messages.
+impl fmt::Display for PackedPart {
+    fn fmt<W: fmt::Write>(&self, f: &mut fmt::Formatter<W>) -> fmt::Result {
+        f.write_str(self.word())
     }
 }

@@ -1,8 +1,9 @@
 //! The encoder of Big5.
 use crate::encode_events::Wanted::{Bytes, Report};
 use crate::encoder_rows::EncoderRow::{Encoder, Encodes, FromUtf8, Utf8Length, Utf16Length};
-use crate::encoder_rows::{EncoderRow, TestedEncoder, follow_encoder};
-use crate::indexes::{no_entries, no_parts, packed_tables_of, run, tables_of};
+use crate::encoder_rows::{EncoderRow, TestedEncoder};
+use crate::indexes::{no_entries, no_parts, run};
+use crate::over_tables::{Codec, encode_over_both};
 use legacy_base::EncoderResult::{OutputFull, Unmappable};
 use legacy_base::{Indexes, Packed, Tables};
 use legacy_encoders::Big5Encoder;
@@ -28,10 +29,13 @@ const WITHOUT_ENTRIES: &[EncoderRow] = &[
 
 #[test]
 fn encodes_without_entries(rt: HostRuntime) {
-    let tables = tables_of(&rt, &no_entries());
-    follow_encoder::<Big5Encoder>(&rt, &tables, WITHOUT_ENTRIES);
-    let tables = packed_tables_of(&rt, &no_entries(), &no_parts());
-    follow_encoder::<Big5Encoder>(&rt, &tables, WITHOUT_ENTRIES);
+    encode_over_both(
+        &rt,
+        Codec::Big5,
+        &no_entries(),
+        &no_parts(),
+        WITHOUT_ENTRIES,
+    );
 }
 
 const WITH_ENTRIES: &[EncoderRow] = &[
@@ -65,10 +69,7 @@ fn encodes_by_the_pointers_that_are_written(rt: HostRuntime) {
         big5_order: &[18991, 5024],
         ..no_parts()
     };
-    let tables = tables_of(&rt, &indexes);
-    follow_encoder::<Big5Encoder>(&rt, &tables, WITH_ENTRIES);
-    let tables = packed_tables_of(&rt, &indexes, &packed);
-    follow_encoder::<Big5Encoder>(&rt, &tables, WITH_ENTRIES);
+    encode_over_both(&rt, Codec::Big5, &indexes, &packed, WITH_ENTRIES);
 }
 
 const FIRST_POINTERS: &[EncoderRow] = &[
@@ -93,8 +94,5 @@ fn encodes_the_first_pointer(rt: HostRuntime) {
         big5_order: &[5024],
         ..no_parts()
     };
-    let tables = tables_of(&rt, &indexes);
-    follow_encoder::<Big5Encoder>(&rt, &tables, FIRST_POINTERS);
-    let tables = packed_tables_of(&rt, &indexes, &packed);
-    follow_encoder::<Big5Encoder>(&rt, &tables, FIRST_POINTERS);
+    encode_over_both(&rt, Codec::Big5, &indexes, &packed, FIRST_POINTERS);
 }

@@ -1,8 +1,9 @@
 //! The encoder of EUC-JP.
 use crate::encode_events::Wanted::{Bytes, Report};
 use crate::encoder_rows::EncoderRow::{Encoder, Encodes, FromUtf8, Utf8Length, Utf16Length};
-use crate::encoder_rows::{EncoderRow, TestedEncoder, follow_encoder};
-use crate::indexes::{no_entries, no_parts, packed_tables_of, run, tables_of};
+use crate::encoder_rows::{EncoderRow, TestedEncoder};
+use crate::indexes::{no_entries, no_parts, run};
+use crate::over_tables::{Codec, encode_over_both};
 use legacy_base::EncoderResult::{InputEmpty, OutputFull};
 use legacy_base::{Indexes, Packed, Tables};
 use legacy_encoders::EucJpEncoder;
@@ -31,10 +32,13 @@ const WITHOUT_ENTRIES: &[EncoderRow] = &[
 
 #[test]
 fn encodes_without_entries(rt: HostRuntime) {
-    let tables = tables_of(&rt, &no_entries());
-    follow_encoder::<EucJpEncoder>(&rt, &tables, WITHOUT_ENTRIES);
-    let tables = packed_tables_of(&rt, &no_entries(), &no_parts());
-    follow_encoder::<EucJpEncoder>(&rt, &tables, WITHOUT_ENTRIES);
+    encode_over_both(
+        &rt,
+        Codec::EucJp,
+        &no_entries(),
+        &no_parts(),
+        WITHOUT_ENTRIES,
+    );
 }
 
 const WITH_ENTRIES: &[EncoderRow] = &[
@@ -68,8 +72,5 @@ fn encodes_by_the_pointers_that_are_written(rt: HostRuntime) {
         euc_jp_order: &[8647, 60],
         ..no_parts()
     };
-    let tables = tables_of(&rt, &indexes);
-    follow_encoder::<EucJpEncoder>(&rt, &tables, WITH_ENTRIES);
-    let tables = packed_tables_of(&rt, &indexes, &packed);
-    follow_encoder::<EucJpEncoder>(&rt, &tables, WITH_ENTRIES);
+    encode_over_both(&rt, Codec::EucJp, &indexes, &packed, WITH_ENTRIES);
 }

@@ -3,8 +3,9 @@ use crate::encode_events::Wanted::{Bytes, Report};
 use crate::encoder_rows::EncoderRow::{
     Encoder, Encodes, FromUtf8, FromUtf16, Utf8Length, Utf16Length,
 };
-use crate::encoder_rows::{EncoderRow, TestedEncoder, follow_encoder};
-use crate::indexes::{no_entries, no_parts, packed_tables_of, run, tables_of};
+use crate::encoder_rows::{EncoderRow, TestedEncoder};
+use crate::indexes::{no_entries, no_parts, run};
+use crate::over_tables::{Codec, encode_over_both};
 use legacy_base::EncoderResult::{InputEmpty, OutputFull, Unmappable};
 use legacy_base::{Indexes, Packed, Tables};
 use legacy_encoders::EucKrEncoder;
@@ -52,10 +53,7 @@ fn encodes_with_one_entry(rt: HostRuntime) {
         euc_kr_order: &[0],
         ..no_parts()
     };
-    let tables = tables_of(&rt, &indexes);
-    follow_encoder::<EucKrEncoder>(&rt, &tables, ROWS);
-    let tables = packed_tables_of(&rt, &indexes, &packed);
-    follow_encoder::<EucKrEncoder>(&rt, &tables, ROWS);
+    encode_over_both(&rt, Codec::EucKr, &indexes, &packed, ROWS);
 }
 
 const LAST: &[EncoderRow] = &[
@@ -77,8 +75,5 @@ fn encodes_the_last_pointer(rt: HostRuntime) {
         euc_kr_order: &[23939],
         ..no_parts()
     };
-    let tables = tables_of(&rt, &indexes);
-    follow_encoder::<EucKrEncoder>(&rt, &tables, LAST);
-    let tables = packed_tables_of(&rt, &indexes, &packed);
-    follow_encoder::<EucKrEncoder>(&rt, &tables, LAST);
+    encode_over_both(&rt, Codec::EucKr, &indexes, &packed, LAST);
 }

@@ -3,13 +3,13 @@ use crate::encode_events::Wanted::{Bytes, Report};
 use crate::encoder_rows::EncoderRow::{
     Encoder, Encodes, FromUtf8, FromUtf16, Utf8Length, Utf16Length,
 };
-use crate::encoder_rows::{EncoderRow, TestedEncoder, follow_encoder};
-use crate::indexes::{no_entries, no_parts, packed_tables_of, tables_of};
+use crate::encoder_rows::{EncoderRow, TestedEncoder};
+use crate::indexes::{no_entries, no_parts, tables_of};
+use crate::over_tables::{Codec, decode_over, encode_over, encode_over_both};
+use crate::rows::Row;
 use crate::rows::Row::{Decoder, ToUtf8};
-use crate::rows::{Row, follow};
 use legacy_base::EncoderResult::{InputEmpty, OutputFull, Unmappable};
 use legacy_base::{DecoderResult, Indexes, Tables};
-use legacy_decoders::Gb18030Decoder;
 use legacy_encoders::Gb18030Encoder;
 use std::process::Abort;
 
@@ -68,12 +68,9 @@ const GBK_WITHOUT_ENTRIES: &[EncoderRow] = &[
 
 #[test]
 fn encodes_without_entries(rt: HostRuntime) {
-    let tables = tables_of(&rt, &no_entries());
-    follow_encoder::<Gb18030Encoder>(&rt, (&tables, true), WITHOUT_ENTRIES);
-    follow_encoder::<Gb18030Encoder>(&rt, (&tables, false), GBK_WITHOUT_ENTRIES);
-    let tables = packed_tables_of(&rt, &no_entries(), &no_parts());
-    follow_encoder::<Gb18030Encoder>(&rt, (&tables, true), WITHOUT_ENTRIES);
-    follow_encoder::<Gb18030Encoder>(&rt, (&tables, false), GBK_WITHOUT_ENTRIES);
+    let (indexes, packed) = (no_entries(), no_parts());
+    encode_over_both(&rt, Codec::Gb18030, &indexes, &packed, WITHOUT_ENTRIES);
+    encode_over_both(&rt, Codec::Gbk, &indexes, &packed, GBK_WITHOUT_ENTRIES);
 }
 
 const WITH_RANGE: &[EncoderRow] = &[
@@ -103,8 +100,8 @@ fn encodes_by_a_range(rt: HostRuntime) {
             ..no_entries()
         },
     );
-    follow_encoder::<Gb18030Encoder>(&rt, (&tables, true), WITH_RANGE);
-    follow_encoder::<Gb18030Encoder>(&rt, (&tables, false), GBK_WITH_RANGE);
+    encode_over(&rt, Codec::Gb18030, &tables, WITH_RANGE);
+    encode_over(&rt, Codec::Gbk, &tables, GBK_WITH_RANGE);
 }
 
 const BESIDE_7457: &[EncoderRow] = &[
@@ -122,10 +119,7 @@ fn encodes_beside_pointer_7457(rt: HostRuntime) {
         ranges: &[(7457, 0x3000)],
         ..no_entries()
     };
-    let tables = tables_of(&rt, &indexes);
-    follow_encoder::<Gb18030Encoder>(&rt, (&tables, true), BESIDE_7457);
-    let tables = packed_tables_of(&rt, &indexes, &no_parts());
-    follow_encoder::<Gb18030Encoder>(&rt, (&tables, true), BESIDE_7457);
+    encode_over_both(&rt, Codec::Gb18030, &indexes, &no_parts(), BESIDE_7457);
 }
 
 const OTHER_ROW: &[EncoderRow] = &[
@@ -147,8 +141,8 @@ fn encodes_by_the_rows_that_are_handed_in(rt: HostRuntime) {
             ..no_entries()
         },
     );
-    follow_encoder::<Gb18030Encoder>(&rt, (&tables, true), OTHER_ROW);
-    follow_encoder::<Gb18030Encoder>(&rt, (&tables, false), OTHER_ROW);
+    encode_over(&rt, Codec::Gb18030, &tables, OTHER_ROW);
+    encode_over(&rt, Codec::Gbk, &tables, OTHER_ROW);
     let tables = tables_of(
         &rt,
         &Indexes {
@@ -156,7 +150,7 @@ fn encodes_by_the_rows_that_are_handed_in(rt: HostRuntime) {
             ..no_entries()
         },
     );
-    follow_encoder::<Gb18030Encoder>(&rt, (&tables, true), NO_ROWS);
+    encode_over(&rt, Codec::Gb18030, &tables, NO_ROWS);
 }
 
 const IN_THE_INDEX: &[EncoderRow] = &[
@@ -193,7 +187,7 @@ fn encodes_rows_before_the_index(rt: HostRuntime) {
             ..no_entries()
         },
     );
-    follow_encoder::<Gb18030Encoder>(&rt, (&tables, true), IN_THE_INDEX);
+    encode_over(&rt, Codec::Gb18030, &tables, IN_THE_INDEX);
     gb18030[23775] = 0x9FB4;
     let tables = tables_of(
         &rt,
@@ -202,6 +196,6 @@ fn encodes_rows_before_the_index(rt: HostRuntime) {
             ..no_entries()
         },
     );
-    follow_encoder::<Gb18030Encoder>(&rt, (&tables, true), BOTH);
-    follow::<Gb18030Decoder>(&rt, &tables, DECODED);
+    encode_over(&rt, Codec::Gb18030, &tables, BOTH);
+    decode_over(&rt, Codec::Gb18030, &tables, DECODED);
 }

@@ -3,8 +3,9 @@ use crate::encode_events::Wanted::{Bytes, Report};
 use crate::encoder_rows::EncoderRow::{
     Encoder, Encodes, FromUtf8, FromUtf16, Pending, Utf8Length, Utf16Length,
 };
-use crate::encoder_rows::{EncoderRow, TestedEncoder, follow_encoder};
-use crate::indexes::{no_entries, no_parts, packed_tables_of, run, tables_of};
+use crate::encoder_rows::{EncoderRow, TestedEncoder};
+use crate::indexes::{no_entries, no_parts, run};
+use crate::over_tables::{Codec, encode_over_both};
 use legacy_base::EncoderResult::{InputEmpty, OutputFull, Unmappable};
 use legacy_base::{Indexes, Packed, Tables};
 use legacy_encoders::Iso2022JpEncoder;
@@ -78,10 +79,13 @@ const WITHOUT_ENTRIES: &[EncoderRow] = &[
 
 #[test]
 fn encodes_without_entries(rt: HostRuntime) {
-    let tables = tables_of(&rt, &no_entries());
-    follow_encoder::<Iso2022JpEncoder>(&rt, &tables, WITHOUT_ENTRIES);
-    let tables = packed_tables_of(&rt, &no_entries(), &no_parts());
-    follow_encoder::<Iso2022JpEncoder>(&rt, &tables, WITHOUT_ENTRIES);
+    encode_over_both(
+        &rt,
+        Codec::Iso2022Jp,
+        &no_entries(),
+        &no_parts(),
+        WITHOUT_ENTRIES,
+    );
 }
 
 /// The rows with U+58FA at pointer 4861.
@@ -138,10 +142,7 @@ fn encodes_pairs(rt: HostRuntime) {
         euc_jp_order: &[4861],
         ..no_parts()
     };
-    let tables = tables_of(&rt, &indexes);
-    follow_encoder::<Iso2022JpEncoder>(&rt, &tables, PAIRS);
-    let tables = packed_tables_of(&rt, &indexes, &packed);
-    follow_encoder::<Iso2022JpEncoder>(&rt, &tables, PAIRS);
+    encode_over_both(&rt, Codec::Iso2022Jp, &indexes, &packed, PAIRS);
 }
 
 const KATAKANA: &[EncoderRow] = &[
@@ -179,8 +180,5 @@ fn encodes_katakana(rt: HostRuntime) {
         euc_jp_order: &[2],
         ..no_parts()
     };
-    let tables = tables_of(&rt, &indexes);
-    follow_encoder::<Iso2022JpEncoder>(&rt, &tables, KATAKANA);
-    let tables = packed_tables_of(&rt, &indexes, &packed);
-    follow_encoder::<Iso2022JpEncoder>(&rt, &tables, KATAKANA);
+    encode_over_both(&rt, Codec::Iso2022Jp, &indexes, &packed, KATAKANA);
 }

@@ -7,33 +7,26 @@ use crate::encoder_rows::{EncoderRow, follow_encoder};
 use crate::indexes::{
     byte_table_of, entries_of, no_entries, no_parts, packed_tables_of, run, tables_of,
 };
+use crate::over_tables::{Codec, encode_over};
 use legacy_base::EncoderResult::InputEmpty;
 use legacy_base::{Indexes, Packed, Tables};
 use legacy_codecs::RunError;
-use legacy_encoders::{
-    Big5Encoder, EucJpEncoder, EucKrEncoder, Gb18030Encoder, Iso2022JpEncoder, ShiftJisEncoder,
-    SingleByteEncoder, UserDefinedEncoder,
-};
+use legacy_encoders::{SingleByteEncoder, UserDefinedEncoder};
 use std::process::Abort;
 
-/// An encoder.
+/// What an encoder is made of: tables, or something else.
 #[derive(Clone, Copy)]
-enum Codec {
-    Big5,
-    EucKr,
-    ShiftJis,
-    EucJp,
-    Gb18030,
-    Iso2022Jp,
+enum Made {
+    Over(Codec),
     SingleByte,
     UserDefined,
 }
 
 /// The cases, with U+AC02 at pointer 0 of index EUC-KR, the private-use rows of the standard, U+0391 at place 65 of
 /// the single-byte table, and no other scalar in any index.
-const CASES: &[(Codec, &[EncoderRow])] = &[
+const CASES: &[(Made, &[EncoderRow])] = &[
     (
-        Codec::Iso2022Jp,
+        Made::Over(Codec::Iso2022Jp),
         &[
             Encoder("ASCII, the yen sign, and a reverse solidus"),
             Encodes("a\u{A5}\x5C", &[Bytes(b"a\x1B(J\x5C\x1B(B\x5C")]),
@@ -66,7 +59,7 @@ const CASES: &[(Codec, &[EncoderRow])] = &[
         ],
     ),
     (
-        Codec::Gb18030,
+        Made::Over(Codec::Gb18030),
         &[
             Encoder("a private-use row, and a scalar past U+FFFF"),
             Encodes("\u{E843}\u{1F4A9}", &[Bytes(b"\xFE\x7E\x94\x39\xDA\x33")]),
@@ -89,35 +82,35 @@ const CASES: &[(Codec, &[EncoderRow])] = &[
         ],
     ),
     (
-        Codec::EucJp,
+        Made::Over(Codec::EucJp),
         &[
             Encoder("a half-width katakana, and the overline"),
             Encodes("\u{FF61}\u{203E}", &[Bytes(b"\x8E\xA1\x7E")]),
         ],
     ),
     (
-        Codec::ShiftJis,
+        Made::Over(Codec::ShiftJis),
         &[
             Encoder("a control, and a half-width katakana"),
             Encodes("\u{80}\u{FF9F}", &[Bytes(b"\x80\xDF")]),
         ],
     ),
     (
-        Codec::Big5,
+        Made::Over(Codec::Big5),
         &[
             Encoder("a scalar that the index lacks"),
             Encodes("\u{4E00}", &[Report('\u{4E00}')]),
         ],
     ),
     (
-        Codec::EucKr,
+        Made::Over(Codec::EucKr),
         &[
             Encoder("a scalar of the index"),
             Encodes("\u{AC02}", &[Bytes(b"\x81\x41")]),
         ],
     ),
     (
-        Codec::UserDefined,
+        Made::UserDefined,
         &[
             Encoder("a byte past ASCII, and a scalar that has none"),
             Encodes("\u{F7FF}\u{80}", &[Bytes(b"\xFF"), Report('\u{80}')]),
@@ -146,7 +139,7 @@ const CASES: &[(Codec, &[EncoderRow])] = &[
         ],
     ),
     (
-        Codec::SingleByte,
+        Made::SingleByte,
         &[
             Encoder("a scalar of the table"),
             Encodes("\u{391}", &[Bytes(b"\xC1")]),
@@ -155,19 +148,14 @@ const CASES: &[(Codec, &[EncoderRow])] = &[
 ];
 
 /// Follows the rows with an encoder over these tables.
-fn encodes(rt: &(impl AllocGlobal + Abort), tables: &Tables, codec: Codec, rows: &[EncoderRow]) {
-    match codec {
-        Codec::Big5 => follow_encoder::<Big5Encoder>(rt, tables, rows),
-        Codec::EucKr => follow_encoder::<EucKrEncoder>(rt, tables, rows),
-        Codec::ShiftJis => follow_encoder::<ShiftJisEncoder>(rt, tables, rows),
-        Codec::EucJp => follow_encoder::<EucJpEncoder>(rt, tables, rows),
-        Codec::Gb18030 => follow_encoder::<Gb18030Encoder>(rt, (tables, true), rows),
-        Codec::Iso2022Jp => follow_encoder::<Iso2022JpEncoder>(rt, tables, rows),
-        Codec::SingleByte => {
+fn encodes(rt: &(impl AllocGlobal + Abort), tables: &Tables, made: Made, rows: &[EncoderRow]) {
+    match made {
+        Made::Over(codec) => encode_over(rt, codec, tables, rows),
+        Made::SingleByte => {
             let table = byte_table_of(rt, &entries_of(&[(65, 0x391), (116, 0x3C4)]));
             follow_encoder::<SingleByteEncoder>(rt, (&table, 0x391, 65, 1), rows);
         }
-        Codec::UserDefined => follow_encoder::<UserDefinedEncoder>(rt, (), rows),
+        Made::UserDefined => follow_encoder::<UserDefinedEncoder>(rt, (), rows),
     }
 }
 
@@ -184,8 +172,8 @@ fn runs_of_encoders_give_the_same_events_in_every_cut(rt: HostRuntime) {
     };
     let flat = tables_of(&rt, &indexes);
     let packed = packed_tables_of(&rt, &indexes, &packed);
-    for (codec, rows) in CASES {
-        encodes(&rt, &flat, *codec, rows);
-        encodes(&rt, &packed, *codec, rows);
+    for (made, rows) in CASES {
+        encodes(&rt, &flat, *made, rows);
+        encodes(&rt, &packed, *made, rows);
     }
 }

@@ -1,8 +1,9 @@
 //! The encoder of Shift_JIS.
 use crate::encode_events::Wanted::{Bytes, Report};
 use crate::encoder_rows::EncoderRow::{Encoder, Encodes, FromUtf8, Utf8Length, Utf16Length};
-use crate::encoder_rows::{EncoderRow, TestedEncoder, follow_encoder};
-use crate::indexes::{no_entries, no_parts, packed_tables_of, run, tables_of};
+use crate::encoder_rows::{EncoderRow, TestedEncoder};
+use crate::indexes::{no_entries, no_parts, run};
+use crate::over_tables::{Codec, encode_over_both};
 use legacy_base::EncoderResult::{InputEmpty, OutputFull};
 use legacy_base::{Indexes, Packed, Run, Tables};
 use legacy_encoders::ShiftJisEncoder;
@@ -31,10 +32,13 @@ const WITHOUT_ENTRIES: &[EncoderRow] = &[
 
 #[test]
 fn encodes_without_entries(rt: HostRuntime) {
-    let tables = tables_of(&rt, &no_entries());
-    follow_encoder::<ShiftJisEncoder>(&rt, &tables, WITHOUT_ENTRIES);
-    let tables = packed_tables_of(&rt, &no_entries(), &no_parts());
-    follow_encoder::<ShiftJisEncoder>(&rt, &tables, WITHOUT_ENTRIES);
+    encode_over_both(
+        &rt,
+        Codec::ShiftJis,
+        &no_entries(),
+        &no_parts(),
+        WITHOUT_ENTRIES,
+    );
 }
 
 /// Entries of index jis0208, the same as runs, the pointers that are written by rising scalars, those of EUC-JP, and the
@@ -99,10 +103,7 @@ fn follow_case(rt: &(impl AllocGlobal + Abort), case: &Case) {
         euc_jp_order,
         ..no_parts()
     };
-    let tables = tables_of(rt, &indexes);
-    follow_encoder::<ShiftJisEncoder>(rt, &tables, rows);
-    let tables = packed_tables_of(rt, &indexes, &packed);
-    follow_encoder::<ShiftJisEncoder>(rt, &tables, rows);
+    encode_over_both(rt, Codec::ShiftJis, &indexes, &packed, rows);
 }
 
 #[test]
