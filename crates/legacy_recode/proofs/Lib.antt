@@ -1,9 +1,3 @@
--- Laws of lines and of recoding.
-pub mod Hexadecimal
-pub mod EventLines
-pub mod PlainLines
-pub mod PieceUnderWay
-pub mod Whole
-pub mod TextUnderWay
+-- Laws of the words and of the files that they name.
 pub mod CommandLine
 pub mod GivenFiles

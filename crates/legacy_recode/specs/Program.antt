@@ -17,8 +17,8 @@ use Rattle.legacy_recode.specs.declared.words.OutputKind.{OutputKind}
 use Rattle.legacy_recode.specs.declared.words.OutputKind.TheVariants.{Lines, Text}
 use Rattle.legacy_recode.specs.Words.{output_kind, plain_words, codec_of_words}
 use Rattle.legacy_recode.specs.IndexTexts.{text_given}
-use Rattle.legacy_recode.specs.Recoding.{RecodesAll}
-use Rattle.legacy_recode.specs.Text.{WritesAll}
+use Rattle.legacy_streams.specs.Recoding.{RecodesAll}
+use Rattle.legacy_streams.specs.Text.{WritesAll}
 
 -- the grammar of a codec, over indexes and the entries of a single-byte table
 abbrev pub grammar_of : CodecWord → FlatIndexes → List ℕ → Grammar

@@ -4,14 +4,9 @@
 
 mod arguments;
 mod given_indexes;
-mod line_parts;
-mod lines;
-mod pieces;
 pub mod program;
-pub mod recode;
 #[cfg(test)]
 mod tests;
-pub mod text;
 pub mod words;
 
 use arguments::{ArgumentsError, arguments, status_of};

@@ -8,8 +8,6 @@ ghost use Rattle.legacy_recode.specs.Program.{grammar_of, flat_of, RecodesInput,
 ghost use Rattle.legacy_recode.specs.Program.{RecodesByTexts, RecodesByWords};
 
 use crate::given_indexes::read_files;
-use crate::recode::{RecodeError, recode};
-use crate::text::recode_text;
 use crate::words::{CodecWord, OutputKind, codec_in, output_asked, request};
 use legacy_codecs::{
     Big5Decoder, EucJpDecoder, EucKrDecoder, Gb18030Decoder, Iso2022JpDecoder, RawDecoder,
@@ -17,6 +15,8 @@ use legacy_codecs::{
     UserDefinedDecoder, Utf16Decoder,
 };
 use legacy_index_files::OwnedIndexes;
+use legacy_streams::recode::{RecodeError, recode};
+use legacy_streams::text::recode_text;
 use std::alloc::Global;
 use std::io::{Read, Write};
 use thiserror::Error;

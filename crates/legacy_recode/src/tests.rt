@@ -1,11 +1,11 @@
 //! What no clause says: the texts, the statuses 1, and what stands where a read, a write or memory fails.
 use crate::arguments::{ArgumentsError, arguments, status_of};
 use crate::program::{Fault, run};
-use crate::recode::{RecodeError, recode};
-use crate::text::recode_text;
 use legacy_codecs::{
     EucKrDecoder, GB18030_2022_PUA, Indexes, RawDecoder, Tables, UserDefinedDecoder, Utf16Decoder,
 };
+use legacy_streams::recode::{RecodeError, recode};
+use legacy_streams::text::recode_text;
 use std::env::{Env, FillError};
 use std::io::{self, Error, ErrorKind, Read, Write};
 use std::process::Abort;

@@ -1,0 +1,145 @@
+-- Laws of lines.
+use Rattle.std.proofs.Common.{◌≡◌, ◌∙◌, ℕ, zero, suc, zero-add, ◌+◌, ◌*◌, ◌-◌, ◌/◌, ◌%◌, ◌≤◌, ◌<◌, ◌^◌, List, [], ◌∷◌, ◌++◌, length, take, drop, set, map, get_or, refl, sym, ap, arith, append_assoc, append-nil}
+use Rattle.std.proofs.Common.{length-append, take-suc, add-one, decimal}
+use Rattle.std.proofs.lemmas.List.{drop-set, map-append}
+use Rattle.std.proofs.lemmas.Fmt.{decimal_step, decimal_digit, length-decimal-le}
+use Rattle.legacy_base.specs.declared.results.DecodeEvent.{DecodeEvent}
+use Rattle.legacy_base.specs.declared.results.DecodeEvent.TheVariants.{Scalar, Bad}
+use Rattle.legacy_streams.specs.Lines.{event_line, event_lines, lone_faults}
+use Rattle.legacy_streams.proofs.Hexadecimal.{glyph, last_four, hexadecimal_4, hexadecimal_5, hexadecimal_6}
+
+pub line_of_four : (c : ℕ) → c < 0x1_0000 → event_line (Scalar c) ≡ 85 ∷ 43 ∷ (last_four c ++ 10 ∷ [])
+unfolding event_line
+line_of_four c h = rw (hexadecimal_4 c h) refl
+
+pub line_of_five : (c : ℕ) → 0x1_0000 ≤ c → c < 0x10_0000 → event_line (Scalar c) ≡ 85 ∷ 43 ∷ glyph (c / 0x1_0000) ∷ (last_four c ++ 10 ∷ [])
+unfolding event_line
+line_of_five c k h = rw (hexadecimal_5 c k h) refl
+
+pub line_of_six : (c : ℕ) → 0x10_0000 ≤ c → c < 0x100_0000 → event_line (Scalar c) ≡ 85 ∷ 43 ∷ glyph (c / 0x10_0000) ∷ glyph (c / 0x1_0000) ∷ (last_four c ++ 10 ∷ [])
+unfolding event_line
+line_of_six c k h = rw (hexadecimal_6 c k h) refl
+
+-- the line of a malformed sequence, part by part
+pub bad_line : (o : List ℕ) {a b c d e : List ℕ} (place n : ℕ) → a ≡ o ++ 98 ∷ 97 ∷ 100 ∷ 32 ∷ [] → b ≡ a ++ decimal place
+    → c ≡ b ++ 32 ∷ [] → d ≡ c ++ decimal n → e ≡ d ++ 10 ∷ [] → e ≡ o ++ event_line (Bad place n)
+unfolding event_line
+bad_line o place n p q r s t = rw (t, s, r, q, p) (simp append_assoc)
+
+pub event_lines-append : (xs ys : List DecodeEvent) → event_lines (xs ++ ys) ≡ event_lines xs ++ event_lines ys
+unfolding event_lines
+event_lines-append [] ys = refl
+event_lines-append (x ∷ xs) ys = simp (event_lines-append xs ys, append_assoc)
+
+pub event_lines-one : (event : DecodeEvent) → event_lines (event ∷ []) ≡ event_line event
+unfolding event_lines
+event_lines-one event = append-nil (event_line event)
+
+pub event_lines-none : event_lines [] ≡ []
+unfolding event_lines
+event_lines-none = refl
+
+pub no_lines : (o : List ℕ) → o ≡ o ++ event_lines []
+unfolding event_lines
+no_lines o = sym (append-nil o)
+
+-- one more scalar
+pub one_more_line : (o : List ℕ) {a b : List ℕ} (scalars : List ℕ) (i c : ℕ) → i < length scalars → c ≡ get_or scalars i c
+    → a ≡ o ++ event_lines (map Scalar (take i scalars)) → b ≡ a ++ event_line (Scalar c)
+    → b ≡ o ++ event_lines (map Scalar (take (i + 1) scalars))
+one_more_line o scalars i c h e p q =
+    rw (q, p, add-one i, take-suc scalars i c h, map-append, event_lines-append, event_lines-one, ← e) (append_assoc o _ _)
+
+pub length-decimal_digit : (n : ℕ) → n < 10 → length (decimal n) ≡ 1
+length-decimal_digit n h = ap length (decimal_digit n h)
+
+pub length-decimal_more : (n : ℕ) → 10 ≤ n → n < 2 ^ 64 → length (decimal n) ≡ length (decimal (n / 10)) + 1
+length-decimal_more n h k = ap length (decimal_step n h k) ∙ length-append (decimal (n / 10)) ((48 + n % 10) ∷ [])
+
+pub length-decimal_20 : (n : ℕ) → n < 2 ^ 64 → length (decimal n) ≤ 20
+length-decimal_20 n h = length-decimal-le 20 n (omega arith) (omega arith) h
+
+-- the last two digits of a number
+pub decimal_of_hundreds : (n : ℕ) → 100 ≤ n → n < 2 ^ 64 → decimal n ≡ decimal (n / 100) ++ (48 + n % 100 / 10) ∷ (48 + n % 100 % 10) ∷ []
+decimal_of_hundreds n h k =
+    let tens : n / 10 / 10 ≡ n / 100 = omega arith in
+    let ten : n / 10 % 10 ≡ n % 100 / 10 = omega arith in
+    let one : n % 10 ≡ n % 100 % 10 = omega arith in
+    decimal_step n (omega arith) k ∙ ap (λ l. l ++ (48 + n % 10) ∷ []) (decimal_step (n / 10) (omega arith) (omega arith))
+    ∙ rw (tens, ten, one) (append_assoc (decimal (n / 100)) ((48 + n % 100 / 10) ∷ []) ((48 + n % 100 % 10) ∷ []))
+
+-- how many digits a number has
+pub ruleset decimal_lengths = (length-decimal_digit, length-decimal_more, length-decimal_20)
+
+-- the lines of a call that reports a malformed sequence
+pub line_of_fault : (o : List ℕ) {a b : List ℕ} (scalars : List ℕ) {place n : ℕ} (read sequence back : ℕ)
+    → a ≡ o ++ event_lines (map Scalar scalars) → b ≡ a ++ event_line (Bad place n) → place ≡ read - back - sequence → n ≡ sequence
+    → b ≡ o ++ event_lines (map Scalar scalars ++ Bad (read - back - sequence) sequence ∷ [])
+line_of_fault o scalars read sequence back p q e f = rw (event_lines-append, event_lines-one, ← e, ← f, q, p) (append_assoc o _ _)
+
+-- a digit is put in front of those that stand at the end
+pub digit_before : (digits : List ℕ) (place rest all : ℕ) → 10 ≤ rest → rest < 2 ^ 64 → 1 ≤ place → place ≤ length digits
+    → decimal rest ++ drop place digits ≡ decimal all
+    → decimal (rest / 10) ++ drop (place - 1) (set digits (place - 1) (48 + rest % 10)) ≡ decimal all
+digit_before digits place rest all h k one within e =
+    let at : place - 1 < length digits = omega arith in
+    let next : place - 1 + 1 ≡ place = omega arith in
+    rw (drop-set digits (place - 1) (48 + rest % 10) at, next)
+    (sym (append_assoc (decimal (rest / 10)) ((48 + rest % 10) ∷ []) (drop place digits)) ∙ ap (λ l. l ++ drop place digits) (sym (decimal_step rest h k)) ∙ e)
+
+-- the first digit is put in front of the others
+pub last_digit : (digits : List ℕ) (place rest all : ℕ) → rest < 10 → 1 ≤ place → place ≤ length digits
+    → decimal rest ++ drop place digits ≡ decimal all → drop (place - 1) (set digits (place - 1) (48 + rest)) ≡ decimal all
+last_digit digits place rest all h one within e =
+    let at : place - 1 < length digits = omega arith in
+    let next : place - 1 + 1 ≡ place = omega arith in
+    rw (drop-set digits (place - 1) (48 + rest) at, next) (ap (λ l. l ++ drop place digits) (sym (decimal_digit rest h)) ∙ e)
+
+-- ---- malformed sequences of one byte each
+
+pub lone_faults-append : (place m n : ℕ) → lone_faults place (m + n) ≡ lone_faults place m ++ lone_faults (place + m) n
+unfolding lone_faults
+lone_faults-append place zero n = let e : place + 0 ≡ place = omega arith in rw (zero-add n, e) refl
+lone_faults-append place (suc m) n =
+    let e : place + 1 + m ≡ place + suc m = omega arith in
+    let s : suc m + n ≡ suc (m + n) = omega arith in
+    rw s (ap (λ l. Bad place 1 ∷ l) (lone_faults-append (place + 1) m n ∙ ap (λ k. lone_faults (place + 1) m ++ lone_faults k n) e))
+
+pub lone_faults-one : (place : ℕ) → lone_faults place 1 ≡ Bad place 1 ∷ []
+unfolding lone_faults
+lone_faults-one place = refl
+
+pub no_lone_lines : (o : List ℕ) (place : ℕ) → o ≡ o ++ event_lines (lone_faults place 0)
+unfolding lone_faults
+no_lone_lines o place = no_lines o
+
+-- some lines, and then some more
+pub more_lone_lines : (o : List ℕ) {a b : List ℕ} (place m n : ℕ) → a ≡ o ++ event_lines (lone_faults place m)
+    → b ≡ a ++ event_lines (lone_faults (place + m) n) → b ≡ o ++ event_lines (lone_faults place (m + n))
+more_lone_lines o place m n p q =
+    rw (q, p, lone_faults-append place m n, event_lines-append) (append_assoc o (event_lines (lone_faults place m)) (event_lines (lone_faults (place + m) n)))
+
+-- one line more in front
+pub two_lone_lines : (o : List ℕ) (place count : ℕ)
+    → o ++ event_lines (lone_faults place (suc count)) ≡ (o ++ event_line (Bad place 1)) ++ event_lines (lone_faults (place + 1) count)
+unfolding lone_faults event_lines
+two_lone_lines o place count = sym (append_assoc o (event_line (Bad place 1)) (event_lines (lone_faults (place + 1) count)))
+
+-- one line is that of one of them
+pub one_lone_line : (place : ℕ) → event_line (Bad place 1) ≡ event_lines (lone_faults place 1)
+one_lone_line place = rw (lone_faults-one place) (sym (event_lines-one (Bad place 1)))
+
+-- the line of one, by the digits of its place but the last two, and these
+pub lone_line : (o : List ℕ) {a b e : List ℕ} (number rest : ℕ) → 1 ≤ number → rest < 100 → number * 100 + rest < 2 ^ 64
+    → a ≡ o ++ 98 ∷ 97 ∷ 100 ∷ 32 ∷ [] → b ≡ a ++ decimal number
+    → e ≡ b ++ (48 + rest / 10) ∷ (48 + rest % 10) ∷ 32 ∷ 49 ∷ 10 ∷ []
+    → e ≡ o ++ event_line (Bad (number * 100 + rest) 1)
+lone_line o {a} {b} number rest some few within p q r =
+    let hundreds : (number * 100 + rest) / 100 ≡ number = omega arith in
+    let others : (number * 100 + rest) % 100 ≡ rest = omega arith in
+    let last : List ℕ = (48 + rest / 10) ∷ (48 + rest % 10) ∷ [] in
+    let digits : decimal (number * 100 + rest) ≡ decimal number ++ last = decimal_of_hundreds (number * 100 + rest) (omega arith) within ∙ rw (hundreds, others) refl in
+    let place : b ++ last ≡ a ++ decimal (number * 100 + rest) = rw (q, digits) (append_assoc a (decimal number) last) in
+    let one : ((b ++ last) ++ 32 ∷ []) ++ 49 ∷ [] ≡ ((b ++ last) ++ 32 ∷ []) ++ decimal 1 = rw (decimal_digit 1 (omega arith)) refl in
+    let parts : (((b ++ last) ++ 32 ∷ []) ++ 49 ∷ []) ++ 10 ∷ [] ≡ b ++ (48 + rest / 10) ∷ (48 + rest % 10) ∷ 32 ∷ 49 ∷ 10 ∷ [] = simp append_assoc in
+    r ∙ sym parts ∙ bad_line o (number * 100 + rest) 1 p place refl one refl

@@ -1,0 +1,7 @@
+-- Laws of lines, and of streams that are read in pieces.
+pub mod Hexadecimal
+pub mod EventLines
+pub mod PlainLines
+pub mod PieceUnderWay
+pub mod Whole
+pub mod TextUnderWay

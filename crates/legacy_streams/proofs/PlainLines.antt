@@ -1,0 +1,181 @@
+-- The lines of scalars of one code unit, and the scalars of code units.
+use Rattle.std.proofs.Common.{◌≡◌, ◌∙◌, ℕ, suc, ◌+◌, ◌*◌, ◌-◌, ◌/◌, ◌%◌, ◌≤◌, ◌<◌, List, [], ◌∷◌, ◌++◌, length, take, drop, map, get_or, refl, sym, ap, arith, inl, inr, ◌⊎◌, All, Some, slice_get}
+use Rattle.std.proofs.Common.{append_assoc, append-nil, take-suc, add-one, zero, None, ◌^◌}
+use Rattle.std.proofs.lemmas.Bool.{cases_lt}
+use Rattle.std.proofs.lemmas.Bool.Decides.{nat_tests}
+use Rattle.std.proofs.lemmas.List.{map-append}
+use Rattle.std.proofs.lemmas.Nat.{le_bytes_8}
+use Rattle.std.proofs.lemmas.Str.{utf16_chars-nil, utf16_chars_lone, utf16_chars_pair}
+use Rattle.std.proofs.str.Utf16.{IsPair, lone_unit_char_low, lone_unit_char_high}
+use Rattle.std.specs.Char.{IsScalar}
+use Rattle.std.specs.Char.Utf16.{lone_unit_char, surrogate_pair_char}
+use Rattle.std.specs.Int.{w64, to_le_bytes, from_le_bytes}
+use Rattle.std.specs.List.{range_with_len}
+use Rattle.legacy_base.specs.declared.results.DecodeEvent.{DecodeEvent}
+use Rattle.legacy_base.specs.declared.results.DecodeEvent.TheVariants.{Scalar}
+use Rattle.legacy_text.specs.EncodingForm.{Utf16, all_code_units}
+use Rattle.legacy_text.specs.Texts.{unit_scalars}
+use Rattle.legacy_text.proofs.CodeUnits.{utf16_1, utf16_2}
+use Rattle.legacy_text.proofs.Texts.{replaced, scalars_lone, scalars_end, first_cons, none_left, utf16_step}
+use Rattle.legacy_streams.specs.Lines.{event_line, event_lines}
+use Rattle.legacy_streams.specs.declared.line_parts.TheConstants.{HEADS, TAILS}
+use Rattle.legacy_streams.proofs.EventLines.{line_of_four, event_lines-append, event_lines-one}
+use Rattle.legacy_streams.proofs.Hexadecimal.{glyph, last_four}
+
+-- ---- the parts of a line
+
+-- `U+` and two digits, the first in the low byte
+pub head_number : ℕ → ℕ
+head_number n = 85 + 43 * 0x100 + glyph (n / 16) * 0x1_0000 + glyph n * 0x100_0000
+
+-- two digits and the line's end, behind four bytes
+pub tail_number : ℕ → ℕ
+tail_number n = glyph (n / 16) * 0x1_0000_0000 + glyph n * 0x100_0000_0000 + 10 * 0x1_0000_0000_0000
+
+pub heads_are : HEADS ≡ map head_number (range_with_len 0 256)
+unfolding head_number
+heads_are = refl
+
+pub tails_are : TAILS ≡ map tail_number (range_with_len 0 256)
+unfolding tail_number
+tails_are = refl
+
+small_glyph : (n : ℕ) → glyph n < 128
+small_glyph n = grind (arith, nat_tests)
+
+-- the parts of a line have room in a number of 64 bits
+pub parts_fit : (h t : ℕ) → head_number h + tail_number t < 2 ^ 64
+unfolding head_number tail_number
+parts_fit h t =
+    let m = small_glyph (h / 16) in let n = small_glyph h in let o = small_glyph (t / 16) in let p = small_glyph t in
+    omega arith
+
+same_glyph : (m n : ℕ) → m % 16 ≡ n % 16 → glyph m ≡ glyph n
+same_glyph m n e = rw e refl
+
+all_bytes : (a b c d : ℕ) → a < 256 → b < 256 → c < 256 → d < 256 → (i : ℕ) → get_or (85 ∷ 43 ∷ a ∷ b ∷ c ∷ d ∷ 10 ∷ 0 ∷ []) i 0 < 256
+all_bytes a b c d p q r s zero = omega arith
+all_bytes a b c d p q r s (suc zero) = omega arith
+all_bytes a b c d p q r s (suc (suc zero)) = p
+all_bytes a b c d p q r s (suc (suc (suc zero))) = q
+all_bytes a b c d p q r s (suc (suc (suc (suc zero)))) = r
+all_bytes a b c d p q r s (suc (suc (suc (suc (suc zero))))) = s
+all_bytes a b c d p q r s (suc (suc (suc (suc (suc (suc zero)))))) = omega arith
+all_bytes a b c d p q r s (suc (suc (suc (suc (suc (suc (suc zero))))))) = omega arith
+all_bytes a b c d p q r s (suc (suc (suc (suc (suc (suc (suc (suc i)))))))) = omega arith
+
+-- the bytes of both parts together
+bytes_of_parts : (a b c d n : ℕ) → a < 128 → b < 128 → c < 128 → d < 128
+    → n ≡ (85 + 43 * 0x100 + a * 0x1_0000 + b * 0x100_0000) + (c * 0x1_0000_0000 + d * 0x100_0000_0000 + 10 * 0x1_0000_0000_0000)
+    → to_le_bytes w64 n ≡ 85 ∷ 43 ∷ a ∷ b ∷ c ∷ d ∷ 10 ∷ 0 ∷ []
+bytes_of_parts a b c d n p q r s e =
+    le_bytes_8 (85 ∷ 43 ∷ a ∷ b ∷ c ∷ d ∷ 10 ∷ 0 ∷ []) n refl (all_bytes a b c d (omega arith) (omega arith) (omega arith) (omega arith)) (omega arith)
+
+-- so they are the line and a byte behind it
+pub line_of_parts : (u n : ℕ) (bytes : List ℕ) → u < 0x1_0000 → n ≡ head_number (u / 256) + tail_number (u % 256)
+    → bytes ≡ to_le_bytes w64 n → take 7 bytes ≡ event_line (Scalar u)
+unfolding head_number tail_number
+line_of_parts u n bytes h e f =
+    let first = same_glyph (u / 256 / 16) (u / 0x1000) (omega arith) in
+    let third = same_glyph (u % 256 / 16) (u / 0x10) (omega arith) in
+    let fourth = same_glyph (u % 256) u (omega arith) in
+    let is : bytes ≡ 85 ∷ 43 ∷ glyph (u / 256 / 16) ∷ glyph (u / 256) ∷ glyph (u % 256 / 16) ∷ glyph (u % 256) ∷ 10 ∷ 0 ∷ [] =
+    f ∙ bytes_of_parts (glyph (u / 256 / 16)) (glyph (u / 256)) (glyph (u % 256 / 16)) (glyph (u % 256)) n
+    (small_glyph (u / 256 / 16)) (small_glyph (u / 256)) (small_glyph (u % 256 / 16)) (small_glyph (u % 256)) e in
+    rw (line_of_four u h, is, first, third, fourth) refl
+
+-- ---- the scalars of units
+
+abbrev pub scalar_lines : List ℕ → List ℕ
+scalar_lines scalars = event_lines (map Scalar scalars)
+
+scalar_lines-append : (xs ys : List ℕ) → scalar_lines (xs ++ ys) ≡ scalar_lines xs ++ scalar_lines ys
+scalar_lines-append xs ys = ap event_lines (map-append Scalar xs ys) ∙ event_lines-append (map Scalar xs) (map Scalar ys)
+
+-- a unit that is no surrogate is a scalar
+replaced_unit : (u : ℕ) → (u < 0xD800) ⊎ (0xE000 ≤ u) → replaced (lone_unit_char u) ≡ u
+replaced_unit u (inl l) = ap replaced (lone_unit_char_low u l)
+replaced_unit u (inr l) = ap replaced (lone_unit_char_high u l)
+
+apart : (u v : ℕ) → (u < 0xD800) ⊎ (0xE000 ≤ u) → IsPair u v → ⊥
+apart u v (inl l) p = omega (arith, p.0)
+apart u v (inr l) p = omega (arith, p.1)
+
+-- one more unit that is no surrogate
+pub plain_more : (units : List ℕ) (at u : ℕ) → at < length units → u ≡ get_or units at 0 → (u < 0xD800) ⊎ (0xE000 ≤ u)
+    → unit_scalars units ≡ take at units ++ unit_scalars (drop at units)
+    → unit_scalars units ≡ take (at + 1) units ++ unit_scalars (drop (at + 1) units)
+plain_more units at u h e plain given =
+    let lone = rw (← e) at (scalars_lone units at h) in
+    let next : unit_scalars (drop at units) ≡ u ∷ unit_scalars (drop (at + 1) units) =
+    lone (apart u (get_or units (at + 1) 0) plain) ∙ ap (λ c. c ∷ unit_scalars (drop (at + 1) units)) (replaced_unit u plain) in
+    let more : take (at + 1) units ≡ take at units ++ u ∷ [] = ap (λ n. take n units) (add-one at) ∙ take-suc units at 0 h ∙ ap (λ c. take at units ++ c ∷ []) (sym e) in
+    given ∙ ap (λ l. take at units ++ l) next ∙ sym (append_assoc (take at units) (u ∷ []) (unit_scalars (drop (at + 1) units)))
+    ∙ ap (λ l. l ++ unit_scalars (drop (at + 1) units)) (sym more)
+
+-- and its line
+pub plain_line_more : (o units : List ℕ) (at u : ℕ) {a b : List ℕ} → at < length units → u ≡ get_or units at 0
+    → a ≡ o ++ scalar_lines (take at units) → b ≡ a ++ event_line (Scalar u) → b ≡ o ++ scalar_lines (take (at + 1) units)
+plain_line_more o units at u h e p q =
+    rw (q, p, add-one at, take-suc units at 0 h, scalar_lines-append, event_lines-one, e) (append_assoc o _ _)
+
+-- the lines of units at the front, and of those behind them
+pub front_lines : (o units : List ℕ) (n : ℕ) {a : List ℕ} → a ≡ o ++ scalar_lines (take n units)
+    → unit_scalars units ≡ take n units ++ unit_scalars (drop n units)
+    → a ++ scalar_lines (unit_scalars (drop n units)) ≡ o ++ scalar_lines (unit_scalars units)
+front_lines o units n e f =
+    rw (e, f, scalar_lines-append) (append_assoc o (scalar_lines (take n units)) (scalar_lines (unit_scalars (drop n units))))
+
+-- the line of a first scalar, and the lines behind it
+pub first_line : (o units : List ℕ) (c n : ℕ) {a : List ℕ} → Some c ≡ slice_get (unit_scalars units) 0
+    → unit_scalars (drop n units) ≡ drop 1 (unit_scalars units) → a ≡ o ++ event_line (Scalar c)
+    → a ++ scalar_lines (unit_scalars (drop n units)) ≡ o ++ scalar_lines (unit_scalars units)
+unfolding event_lines
+first_line o units c n e behind p =
+    rw (behind, p, append_assoc) (ap (λ l. o ++ scalar_lines l) (sym (first_cons (unit_scalars units) c e)))
+
+-- how many units the first scalar has, and what stands behind them
+pub record FirstUnits (units : List ℕ) (n : ℕ) : Type 0 where
+  pub some : 0 < n
+  pub within : n ≤ length units
+  pub behind : unit_scalars (drop n units) ≡ drop 1 (unit_scalars units)
+
+pub first_units : (units : List ℕ) (c n : ℕ) → ((i : ℕ) → get_or units i 0 < 65536) → 0 < length units → Some c ≡ slice_get (unit_scalars units) 0
+    → (c < 65536 → n ≡ 1) → (65536 ≤ c → n ≡ 2) → FirstUnits units n
+first_units units c n bound h e short long =
+    let step = utf16_step units 0 c n bound h e short long in
+    let z : 0 + n ≡ n = omega arith in
+    record {
+      some = elim (cases_lt c 65536) [ inl l ↦ omega (arith, short l) | inr l ↦ omega (arith, long l) ];
+      within = omega (arith, step.within);
+      behind = rw z at step.behind;
+    }
+
+-- behind all units there is none
+pub none_behind : (units : List ℕ) → None ≡ slice_get (unit_scalars units) 0
+    → scalar_lines (unit_scalars (drop (length units) units)) ≡ scalar_lines (unit_scalars units)
+none_behind units e = ap scalar_lines (scalars_end units (length units) (omega arith) ∙ sym (none_left (unit_scalars units) e))
+
+-- the lines of all that is behind the last unit
+pub all_lines : (o l units : List ℕ) (at : ℕ) → length units ≤ at → l ++ scalar_lines (unit_scalars (drop at units)) ≡ o → l ≡ o
+unfolding event_lines
+all_lines o l units at h e = sym (append-nil l) ∙ ap (λ x. l ++ scalar_lines x) (sym (scalars_end units at h)) ∙ e
+
+-- units of scalars give these scalars
+pub scalars_of_units : (cs : List ℕ) → All IsScalar cs → unit_scalars (all_code_units Utf16 cs) ≡ cs
+scalars_of_units [] all = ap (map replaced) utf16_chars-nil
+scalars_of_units (c ∷ cs) all =
+    let rest = scalars_of_units cs (λ k d l. all (suc k) d (omega arith)) in
+    let is : IsScalar c = all 0 0 (omega arith) in
+    let units = all_code_units Utf16 cs in
+    elim (cases_lt c 0x1_0000) [
+      | inl short ↦
+          let plain : (c < 0xD800) ⊎ (0xE000 ≤ c) = grind (arith, nat_tests) in
+          rw (utf16_1 c short) (ap (map replaced) (utf16_chars_lone c units (apart c (get_or units 0 0) plain)) ∙ ap (λ d. d ∷ unit_scalars units) (replaced_unit c plain) ∙ ap (λ l. c ∷ l) rest)
+      | inr long ↦
+          let most : c < 0x11_0000 = grind (arith, nat_tests) in
+          let high = 55296 + (c - 65536) / 1024 in
+          let low = 56320 + (c - 65536) % 1024 in
+          let value : surrogate_pair_char high low ≡ c = omega arith in
+          rw (utf16_2 c long) (ap (map replaced) (utf16_chars_pair high low units (omega arith, omega arith, omega arith, omega arith)) ∙ ap (λ d. d ∷ unit_scalars units) value ∙ ap (λ l. c ∷ l) rest)
+    ]

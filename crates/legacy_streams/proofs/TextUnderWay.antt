@@ -1,0 +1,235 @@
+-- The text of an input under way.
+use Rattle.std.proofs.Common.{◌≡◌, ◌∙◌, ℕ, ◌+◌, ◌-◌, ◌≤◌, ◌<◌, List, [], ◌∷◌, ◌++◌, length, take, drop, take-append-drop, refl, sym, ap, arith, append_assoc, append-nil}
+use Rattle.std.proofs.Common.{length-append, length-drop, Bool, true, false, ◌||◌, IsTrue, Option}
+use Rattle.std.specs.Io.KnownBytes.{Appends, Consumes, IsAtEnd, Keeps}
+use Rattle.std.proofs.KnownBytes.{Appends-nil, Appends-trans, Consumes-nil, Consumes-trans, Consumes-kept}
+use Rattle.std.proofs.lemmas.List.{drop-drop}
+use Rattle.std.proofs.Math.ListN.{drop_of_length-le}
+use Rattle.legacy_base.specs.declared.results.DecodeEvent.{DecodeEvent}
+use Rattle.legacy_text.specs.EncodingForm.{Utf8, all_code_units}
+use Rattle.legacy_base.specs.Events.{shift}
+use Rattle.legacy_base.specs.Grammar.{events_of}
+use Rattle.legacy_base.specs.States.{DecoderState}
+use Rattle.legacy_base.specs.Calls.{Progress}
+use Rattle.legacy_base.proofs.Progress.{stay, after_that}
+use Rattle.legacy_text.proofs.CodeUnits.{all_code_units-append}
+use Rattle.legacy_base.proofs.Rooms.{lacks_small}
+use Rattle.legacy_codecs.specs.declared.results.CoderResult.{CoderResult}
+use Rattle.legacy_codecs.specs.declared.results.CoderResult.TheVariants.{InputEmpty, OutputFull}
+use Rattle.legacy_codecs.specs.Replacing.{replaced_scalars, has_bad, ReplacingDecoderCall}
+use Rattle.legacy_codecs.proofs.Replaced.{replaced-append, replaced-shift, has_bad-append, has_bad-shift, length-shift}
+use Rattle.legacy_streams.specs.Text.{text_of, WritesPiece, WritesFront, WritesAll, WritesBeginning, WritesPartly}
+use Rattle.legacy_streams.proofs.Whole.{way_on}
+
+text-none : text_of [] ≡ []
+unfolding text_of
+text-none = refl
+
+-- events that stand further on have the same text
+text-append : (xs ys : List DecodeEvent) (k : ℕ) → text_of (xs ++ shift k ys) ≡ text_of xs ++ text_of ys
+unfolding text_of
+text-append xs ys k =
+    ap (all_code_units Utf8) (replaced-append xs (shift k ys) ∙ ap (λ l. replaced_scalars xs ++ l) (replaced-shift k ys))
+    ∙ all_code_units-append Utf8 (replaced_scalars xs) (replaced_scalars ys)
+
+found-append : (xs ys : List DecodeEvent) (k : ℕ) → has_bad (xs ++ shift k ys) ≡ (has_bad xs || has_bad ys)
+found-append xs ys k = has_bad-append xs (shift k ys) ∙ ap (λ b. has_bad xs || b) (has_bad-shift k ys)
+
+text_is : (events : List DecodeEvent) (written : List ℕ) → written ≡ all_code_units Utf8 (replaced_scalars events) → written ≡ text_of events
+unfolding text_of
+text_is events written e = e
+
+-- text is of some event
+some_event : (events : List DecodeEvent) → 1 ≤ length (text_of events) → 1 ≤ length events
+unfolding text_of
+some_event [] h = omega arith
+some_event (x ∷ events) h = omega arith
+
+-- ---- a piece
+
+-- So much of the piece was decoded, and the text of its events was written, with a malformed sequence among them or none.
+pub record TextUnderWay (before : DecoderState) (piece : List ℕ) (last : Bool) (now : DecoderState) (offset : ℕ) (found : Bool)
+    (old new : Option (List ℕ)) : Type 0 where
+  pub within : offset ≤ length piece
+  pub passed : ℕ
+  pub events : List DecodeEvent
+  pub progress : Progress last before piece passed now (drop offset piece) events
+  pub found_is : found ≡ has_bad events
+  pub written : Appends old new (text_of events)
+
+pub text_start : (before : DecoderState) (piece : List ℕ) (last : Bool) (old : Option (List ℕ)) → TextUnderWay before piece last before 0 false old old
+text_start before piece last old = record {
+  within = omega arith;
+  passed = 0;
+  events = [];
+  progress = stay last before piece;
+  found_is = refl;
+  written = rw text-none (Appends-nil old);
+}
+
+module _ {before : DecoderState} {piece : List ℕ} {last : Bool} {now : DecoderState} {offset : ℕ} {found : Bool} {old mid : Option (List ℕ)}
+    (u : TextUnderWay before piece last now offset found old mid)
+    {free : ℕ} {after : DecoderState} {answer : CoderResult} {read : ℕ} {written : List ℕ} {more : Bool}
+    (c : ReplacingDecoderCall Utf8 now (drop offset piece) last free after answer read written more) where
+  -- the way to the end of the call
+  way_of_call : Progress last before piece (u.passed + c.passed) after (drop (offset + read) piece) (u.events ++ shift u.passed c.out)
+  way_of_call = rw (← drop-drop read offset piece) (after_that _ _ _ _ _ _ _ _ _ _ _ u.progress c.progress)
+
+  -- a front of the text of the call was written
+  pub text_front : {new : Option (List ℕ)} (count : ℕ) → Appends mid new (take count written) → WritesFront before piece last after old new
+  text_front count w =
+      let first = text_of u.events in
+      record {
+        passed = u.passed + c.passed;
+        left = drop (offset + read) piece;
+        events = u.events ++ shift u.passed c.out;
+        progress = way_of_call;
+        sent = first ++ take count written;
+        unsent = drop count written;
+        text =
+            text-append u.events c.out u.passed ∙ ap (λ l. first ++ l) (sym (text_is c.out written c.text) ∙ sym (take-append-drop count written))
+            ∙ sym (append_assoc first (take count written) (drop count written));
+        written = Appends-trans _ _ _ _ _ u.written w;
+      }
+
+  -- the text of the call was written
+  pub text_step : {new : Option (List ℕ)} → Appends mid new written → TextUnderWay before piece last after (offset + read) (found || more) old new
+  text_step w = record {
+    within = let r = c.within in let v = u.within in omega (arith, length-drop offset piece);
+    passed = u.passed + c.passed;
+    events = u.events ++ shift u.passed c.out;
+    progress = way_of_call;
+    found_is = rw (found-append u.events c.out u.passed, ← u.found_is, ← c.found_is) refl;
+    written = rw (text-append u.events c.out u.passed, ← text_is c.out written c.text) (Appends-trans _ _ _ _ _ u.written w);
+  }
+
+  -- and the piece is read
+  pub text_end : {new : Option (List ℕ)} → Appends mid new written → answer ≡ InputEmpty → WritesPiece before piece last after (found || more) old new
+  text_end w e =
+      let s = text_step w in
+      let done = c.input_empty e in
+      let none : drop (offset + read) piece ≡ [] = drop_of_length-le piece (let l = done.0 in omega (arith, length-drop offset piece)) in
+      record {
+        passed = s.passed;
+        events = s.events;
+        progress = rw (← none) s.progress;
+        found_is = s.found_is;
+        written = s.written;
+        ended = λ l. done.2 l;
+      }
+
+  -- a call that does not end the piece gives an event
+  gave_event : 4 ≤ free → answer ≡ OutputFull → 1 ≤ length c.out
+  gave_event h e =
+      let l = lacks_small Utf8 after (drop read (drop offset piece)) last (free - length written) (c.output_full e) in
+      let t = ap length (text_is c.out written c.text) in
+      some_event c.out (omega arith)
+
+  full_or_end : (x : CoderResult) → (x ≡ InputEmpty → ⊥) → x ≡ OutputFull
+  full_or_end InputEmpty h = absurd (h refl)
+  full_or_end OutputFull h = refl
+
+  pub text_less : 4 ≤ free → (answer ≡ InputEmpty → ⊥)
+      → length (events_of after.grammar (after.held ++ drop (offset + read) piece)) < length (events_of now.grammar (now.held ++ drop offset piece))
+  text_less h n =
+      let some = gave_event h (full_or_end answer n) in
+      let all = ap length (c.progress.events [] (λ _. refl)) in
+      let counted = rw (append-nil, append-nil, drop-drop, length-append, length-shift) at all in
+      omega arith
+
+-- ---- the input
+
+-- The bytes read so far were decoded, and the text of their events was written.
+pub record TextSoFar (before now : DecoderState) (found : Bool) (left_old left old new : Option (List ℕ)) : Type 0 where
+  pub bytes : List ℕ
+  pub read : Consumes left_old left bytes
+  pub passed : ℕ
+  pub events : List DecodeEvent
+  pub progress : Progress false before bytes passed now [] events
+  pub found_is : found ≡ has_bad events
+  pub written : Appends old new (text_of events)
+
+pub so_far_start : (before : DecoderState) (left old : Option (List ℕ)) → TextSoFar before before false left left old old
+so_far_start before left old = record {
+  bytes = [];
+  read = Consumes-nil left;
+  passed = 0;
+  events = [];
+  progress = stay false before [];
+  found_is = refl;
+  written = rw text-none (Appends-nil old);
+}
+
+module _ {before now : DecoderState} {found : Bool} {left_old left_mid old mid : Option (List ℕ)}
+    (s : TextSoFar before now found left_old left_mid old mid)
+    (piece : List ℕ) {after : DecoderState} {new : Option (List ℕ)} where
+  joined_text : {last more : Bool} (p : WritesPiece now piece last after more mid new) → Appends old new (text_of (s.events ++ shift s.passed p.events))
+  joined_text p = rw (text-append s.events p.events s.passed) (Appends-trans _ _ _ _ _ s.written p.written)
+
+  joined_found : {last more : Bool} (p : WritesPiece now piece last after more mid new) → (found || more) ≡ has_bad (s.events ++ shift s.passed p.events)
+  joined_found p = rw (found-append s.events p.events s.passed, ← s.found_is, ← p.found_is) refl
+
+  module _ {left : Option (List ℕ)} (r : Consumes left_mid left piece) where
+    pub so_far_step : {last more : Bool} → last ≡ false → WritesPiece now piece last after more mid new → TextSoFar before after (found || more) left_old left old new
+    so_far_step e given =
+        let p = rw e at given in
+        record {
+          bytes = s.bytes ++ piece;
+          read = Consumes-trans _ _ _ _ _ s.read r;
+          passed = s.passed + p.passed;
+          events = s.events ++ shift s.passed p.events;
+          progress = way_on false piece s.progress p.progress;
+          found_is = joined_found p;
+          written = joined_text p;
+        }
+
+    pub so_far_end : {last more : Bool} → IsAtEnd left → last ≡ true → WritesPiece now piece last after more mid new
+        → WritesAll before after (found || more) left_old left old new
+    so_far_end at_end is_last given =
+        let p = rw is_last at given in
+        let all = s.events ++ shift s.passed p.events in
+        let e : events_of before.grammar (before.held ++ (s.bytes ++ piece)) ≡ all =
+        ap (λ l. events_of before.grammar (before.held ++ l)) (sym (append-nil (s.bytes ++ piece))) ∙ (way_on true piece s.progress p.progress).events [] (λ _. refl)
+        ∙ ap (λ l. all ++ shift (s.passed + p.passed) l) (ap (events_of after.grammar) (append-nil after.held) ∙ p.ended refl) ∙ append-nil all in
+        record {
+          bytes = s.bytes ++ piece;
+          read = Consumes-trans _ _ _ _ _ s.read r;
+          at_end = at_end;
+          found_is = rw e (joined_found p);
+          written = rw e (joined_text p);
+          ended = p.ended refl;
+        }
+
+    -- what stands where writing fails
+    pub so_far_partly : (last : Bool) → (IsTrue last → IsAtEnd left) → WritesFront now piece last after mid new → WritesPartly before after left_old left old new
+    so_far_partly last at_end p =
+        let first = text_of s.events in
+        let way = way_on last piece s.progress p.progress in
+        record {
+          bytes = s.bytes ++ piece;
+          read = Consumes-trans _ _ _ _ _ s.read r;
+          last = last;
+          at_end = at_end;
+          passed = s.passed + p.passed;
+          left = p.left;
+          events = s.events ++ shift s.passed p.events;
+          progress = way;
+          sent = first ++ p.sent;
+          unsent = p.unsent;
+          text = text-append s.events p.events s.passed ∙ ap (λ l. first ++ l) p.text ∙ sym (append_assoc first p.sent p.unsent);
+          written = Appends-trans _ _ _ _ _ s.written p.written;
+          beginning = λ more e. (shift (s.passed + p.passed) (events_of after.grammar (after.held ++ (p.left ++ more))), way.events more e);
+        }
+
+-- what stands where reading fails
+pub so_far_beginning : {before now : DecoderState} {found : Bool} {left_old left_mid left old new : Option (List ℕ)}
+    → TextSoFar before now found left_old left_mid old new → Keeps left_mid left → WritesBeginning before now left_old left old new
+so_far_beginning s k = record {
+  bytes = s.bytes;
+  read = Consumes-kept _ _ _ _ s.read k;
+  passed = s.passed;
+  events = s.events;
+  progress = s.progress;
+  written = s.written;
+  beginning = λ more. (shift s.passed (events_of _ (_ ++ ([] ++ more))), s.progress.events more (λ f. cc));
+}

@@ -1,0 +1,30 @@
+use Rattle.std.proofs.Common.{◌≡◌, ◌∙◌, ◌≤◌, ◌++◌, [], drop, length, decimal, arith, ap, append-nil}
+use Rattle.std.proofs.Math.ListN.{drop_of_length-le}
+use Rattle.legacy_streams.proofs.EventLines.{length-decimal_20, length-decimal_digit, length-decimal_more, digit_before, last_digit}
+use Rattle.legacy_streams.proofs.lines.put_digits.Goals as goal
+
+pub digits-init : goal.digits-init
+digits-init c =
+    let short : length c.args.digits.now ≤ 20 = omega arith in
+    let none : drop 20 c.args.digits.now ≡ [] = drop_of_length-le c.args.digits.now short in
+    record {
+      place = omega arith;
+      room = length-decimal_20 c.args.number (omega arith);
+      digits = ap (λ l. decimal c.args.number ++ l) none ∙ append-nil (decimal c.args.number);
+    }
+
+pub digits-preserved : goal.digits-preserved
+digits-preserved c =
+    let i = c.digits.invariant in
+    let more = length-decimal_more c.digits.rest c.digits-test.true (omega arith) in
+    record {
+      place = omega arith;
+      room = omega (arith, more);
+      digits = digit_before c.digits.digits c.digits.place c.digits.rest c.args.number c.digits-test.true
+          (omega arith) (omega (arith, more)) (omega arith) i.digits;
+    }
+
+pub returns-clause-digits : goal.returns-clause-digits
+returns-clause-digits c =
+    let one = length-decimal_digit c.digits.rest c.digits-test.false in
+    last_digit c.digits.digits c.digits.place c.digits.rest c.args.number c.digits-test.false (omega (arith, one)) (omega arith) c.digits.invariant.digits
