@@ -9,6 +9,15 @@ pub(crate) type Place<'a> = (&'a str, usize);
 /// What a call answers, how much it read, what it wrote, and whether it replaced something.
 pub(crate) type Outcome<'a, A, U> = (A, usize, &'a [U], bool);
 
+/// Whether the same came of a call as is wanted.
+// Apart from the message: or each of the tests would be a case of its own in the proof of the printing.
+fn is_same_outcome<A: Copy + PartialEq, U: Copy + PartialEq>(
+    came: Outcome<A, U>,
+    wanted: Outcome<A, U>,
+) -> bool {
+    came.0 == wanted.0 && came.1 == wanted.1 && came.2 == wanted.2 && came.3 == wanted.3
+}
+
 /// Compares what came of a call with what is wanted.
 pub(crate) fn is_call<A: Copy + PartialEq + Debug, U: Copy + PartialEq + Into<u32>>(
     rt: &impl Abort,
@@ -17,9 +26,8 @@ pub(crate) fn is_call<A: Copy + PartialEq + Debug, U: Copy + PartialEq + Into<u3
     came: Outcome<A, U>,
     wanted: Outcome<A, U>,
 ) {
-    let is_same = came.0 == wanted.0 && came.1 == wanted.1 && came.3 == wanted.3;
     assert!(rt;
-        is_same && came.2 == wanted.2,
+        is_same_outcome(came, wanted),
         "\"{case}\", row {row}, {form}\n  came:   {}\n  wanted: {}",
         Shown(came),
         Shown(wanted)
@@ -58,16 +66,26 @@ pub(crate) fn is_answer<T: Copy + PartialEq + Debug>(
 /// The events of a run, how many calls it has, and whether it is finished.
 pub(crate) type Ended<'a, V> = (&'a [V], usize, bool);
 
+/// What is wanted of a run: as much of it, with the number of its calls or without.
+pub(crate) type WantedEnd<'a, V> = (&'a [V], Option<usize>, bool);
+
+/// Whether the same came of a run as is wanted.
+fn is_same_end<V: Copy + PartialEq>(came: Ended<V>, wanted: WantedEnd<V>) -> bool {
+    came.0 == wanted.0 && came.1 == wanted.1.unwrap_or(came.1) && came.2 == wanted.2
+}
+
 /// Compares what came of a run with what is wanted, of whose calls the number is stated or not.
 pub(crate) fn is_run<V: Copy + PartialEq + Debug>(
     rt: &impl Abort,
     (case, row): Place,
     form: &str,
-    (events, calls, finished): Ended<V>,
-    (wanted, wanted_calls, is_finished): (&[V], Option<usize>, bool),
+    came: Ended<V>,
+    asked: WantedEnd<V>,
 ) {
+    let (events, calls, finished) = came;
+    let (wanted, _, is_finished) = asked;
     assert!(rt;
-        events == wanted && calls == wanted_calls.unwrap_or(calls) && finished == is_finished,
+        is_same_end(came, asked),
         "\"{case}\", row {row}: a run {form}\n  came:   {events:?}, {calls} calls, finished: {finished}\n  wanted: {wanted:?}, finished: {is_finished}"
     );
 }

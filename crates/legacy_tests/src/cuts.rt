@@ -13,7 +13,7 @@ pub(crate) fn small_lengths() -> [usize; 300] {
 const MOST: usize = 160;
 
 /// Pieces of an input, the first 160 of them.
-#[derive(Clone, Copy)]
+#[derive(Drop)]
 pub(crate) struct Pieces<P: Copy> {
     pieces: [P; MOST],
     count: usize,

@@ -7,7 +7,7 @@ use crate::over_tables::{Codec, decode_over_both};
 use crate::rows::Row::{
     BareLength, Decoder, Events, Neutral, ToUtf8, ToUtf16, Utf8Length, Utf16Length,
 };
-use crate::rows::{Row, Tested};
+use crate::rows::{Row, Tested, Told};
 use legacy_base::DecodeEvent::Scalar;
 use legacy_base::DecoderResult::{InputEmpty, Malformed, OutputFull};
 use legacy_base::{Indexes, Packed, Tables};
@@ -20,8 +20,8 @@ impl<'a> Tested for EucKrDecoder<'a> {
         EucKrDecoder::new(of)
     }
 
-    fn neutral(&self) -> Option<bool> {
-        Some(self.in_neutral_state())
+    fn told(&self) -> Told {
+        Told::of_neutral(self.in_neutral_state())
     }
 }
 

@@ -45,19 +45,35 @@ pub(crate) enum Row<'a> {
     RefusedRuns(&'a [u8], usize, &'a RunError),
 }
 
-/// A decoder, what it is made of, and the queries that only some have.
+/// What only some decoders tell: whether they are in their neutral state, and what they add to the lengths.
+#[derive(Drop)]
+pub(crate) struct Told {
+    pub(crate) neutral: Option<bool>,
+    pub(crate) additional: Option<usize>,
+}
+
+impl Told {
+    /// What a decoder tells of its neutral state alone.
+    pub(crate) fn of_neutral(is_neutral: bool) -> Told {
+        Told {
+            neutral: Some(is_neutral),
+            additional: None,
+        }
+    }
+}
+
+/// A decoder, what it is made of, and what only some tell.
 pub(crate) trait Tested: RawDecoder + Drop {
     /// What the decoder is made of.
     type Of: Copy;
 
     fn made(of: Self::Of) -> Self;
 
-    fn neutral(&self) -> Option<bool> {
-        None
-    }
-
-    fn additional(&self) -> Option<usize> {
-        None
+    fn told(&self) -> Told {
+        Told {
+            neutral: None,
+            additional: None,
+        }
     }
 }
 
@@ -235,7 +251,7 @@ fn follow_query<D: Tested>(rt: &impl Abort, place: Place, decoder: &D, row: &Row
             is_answer(rt, place, "the length without U+FFFD", came, *length);
         }
         Row::Neutral(is_neutral) => {
-            let came = decoder.neutral();
+            let came = decoder.told().neutral;
             is_answer(rt, place, "in_neutral_state", came, Some(*is_neutral));
         }
         Row::Lone(bytes, count) => {
@@ -243,7 +259,7 @@ fn follow_query<D: Tested>(rt: &impl Abort, place: Place, decoder: &D, row: &Row
             is_answer(rt, place, "lone_malformed", came, *count);
         }
         Row::Additional(more) => {
-            let came = decoder.additional();
+            let came = decoder.told().additional;
             is_answer(rt, place, "additional_from_state", came, Some(*more));
         }
         _ => {}

@@ -5,7 +5,7 @@ use crate::events::bad;
 use crate::indexes::{no_entries, no_parts};
 use crate::over_tables::{Codec, decode_over_both};
 use crate::rows::Row::{BareLength, Decoder, Events, Neutral, ToUtf8, Utf8Length, Utf16Length};
-use crate::rows::{Row, Tested};
+use crate::rows::{Row, Tested, Told};
 use legacy_base::DecodeEvent::Scalar;
 use legacy_base::DecoderResult::{InputEmpty, Malformed, OutputFull};
 use legacy_base::Tables;
@@ -18,8 +18,8 @@ impl<'a> Tested for ShiftJisDecoder<'a> {
         ShiftJisDecoder::new(of)
     }
 
-    fn neutral(&self) -> Option<bool> {
-        Some(self.in_neutral_state())
+    fn told(&self) -> Told {
+        Told::of_neutral(self.in_neutral_state())
     }
 }
 

@@ -75,7 +75,7 @@ impl Form for Units {
 }
 
 /// Code units in hexadecimal, two digits or more each.
-#[derive(Clone, Copy)]
+#[derive(Drop)]
 pub(crate) struct Hex<'a, U>(pub(crate) &'a [U]);
 
 impl<U: Copy + Into<u32>> fmt::Display for Hex<'_, U> {

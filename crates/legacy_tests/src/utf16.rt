@@ -1,7 +1,7 @@
 //! UTF-16.
 use crate::events::bad;
 use crate::rows::Row::{Additional, BareLength, Decoder, Events, ToUtf8, ToUtf16, Utf16Length};
-use crate::rows::{Row, Tested, follow};
+use crate::rows::{Row, Tested, Told, follow};
 use legacy_base::DecodeEvent;
 use legacy_base::DecodeEvent::Scalar;
 use legacy_base::DecoderResult::{InputEmpty, Malformed, OutputFull};
@@ -16,8 +16,11 @@ impl Tested for Utf16Decoder {
         Utf16Decoder::new(of)
     }
 
-    fn additional(&self) -> Option<usize> {
-        Some(self.additional_from_state())
+    fn told(&self) -> Told {
+        Told {
+            neutral: None,
+            additional: Some(self.additional_from_state()),
+        }
     }
 }
 
