@@ -12,8 +12,8 @@ pub(crate) type Outcome<'a, A, U> = (A, usize, &'a [U], bool);
 /// Whether the same came of a call as is wanted.
 // Apart from the message: or each of the tests would be a case of its own in the proof of the printing.
 fn is_same_outcome<A: Copy + PartialEq, U: Copy + PartialEq>(
-    came: Outcome<A, U>,
-    wanted: Outcome<A, U>,
+    came: &Outcome<A, U>,
+    wanted: &Outcome<A, U>,
 ) -> bool {
     came.0 == wanted.0 && came.1 == wanted.1 && came.2 == wanted.2 && came.3 == wanted.3
 }
@@ -27,7 +27,7 @@ pub(crate) fn is_call<A: Copy + PartialEq + Debug, U: Copy + PartialEq + Into<u3
     wanted: Outcome<A, U>,
 ) {
     assert!(rt;
-        is_same_outcome(came, wanted),
+        is_same_outcome(&came, &wanted),
         "\"{case}\", row {row}, {form}\n  came:   {}\n  wanted: {}",
         Shown(came),
         Shown(wanted)
