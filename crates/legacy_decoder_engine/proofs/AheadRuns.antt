@@ -22,8 +22,8 @@ use Rattle.legacy_text.proofs.CodeUnits.{all_code_units-append, total_unit_count
 use Rattle.legacy_base.proofs.Rooms.{lacks_small, full_most, HadRooms-append}
 use Rattle.legacy_base.proofs.SameUnits.{some_unit}
 use Rattle.legacy_decoder_engine.specs.Ahead.{RunsTo, Runs, ReadsTo}
-use Rattle.legacy_decoder_engine.specs.Moves.{SameRooms}
-use Rattle.legacy_decoder_engine.proofs.CallUnderWay.{Going, front_nil, both_rooms}
+use Rattle.legacy_decoder_engine.specs.Moves.{SameRooms, HoldsBytes}
+use Rattle.legacy_decoder_engine.proofs.CallUnderWay.{Going, front_nil, both_rooms, held_going}
 
 wide_most : (form : EncodingForm) → wide_room form ≤ 4
 wide_most Utf8 = omega arith
@@ -153,4 +153,24 @@ module _ {D : Type 0} {T : Ghosts D} where
         reads.writes.written ∙ ap (λ l. l ++ all_code_units T.form ds) e ∙ append_assoc (T.contents first) (all_code_units T.form scalars) (all_code_units T.form ds)
             ∙ ap (λ l. T.contents first ++ l) (sym (all_code_units-append T.form scalars ds)),
         omega (arith, total_unit_count-append T.form scalars ds, reads.writes.room, room),
+      )
+
+  -- a call under way, once forms were read ahead and bytes behind them are held back
+  pub front_going : (before : DecoderState) (source : List ℕ) (last : Bool) (now mid next : DecoderState) (read : ℕ) (scalars : List ℕ) (r h : ℕ) (first old new : D)
+      → Going T.form before source last (T.room first) now read scalars → T.contents old ≡ T.contents first ++ all_code_units T.form scalars
+      → T.room old + total_unit_count T.form scalars ≡ T.room first
+      → ReadsTo T now mid (take (length source - read) (drop read source)) r old new
+      → h ≤ length (take (length source - (read + r)) (drop (read + r) source))
+      → HoldsBytes T.form (T.room new) mid (take h (take (length source - (read + r)) (drop (read + r) source))) next
+      → (cs : List ℕ) × Going T.form before source last (T.room first) next (read + r + h) cs
+      × (T.contents new ≡ T.contents first ++ all_code_units T.form cs) × (T.room new + total_unit_count T.form cs ≡ T.room first)
+  front_going before source last now mid next read scalars r h first old new going e room reads within holds =
+      let i = ahead_going before source last now mid read scalars r first old new going e room reads in
+      let rest : List ℕ = drop (read + r) source in
+      let whole : take (length source - (read + r)) rest ≡ rest = take_all (length source - (read + r)) rest (omega (arith, length-drop (read + r) source)) in (
+        i.0,
+        held_going T.form before source last (T.room first) mid (read + r) i.0 i.1 (T.room new) i.3 next h (omega (arith, within, ap length whole))
+            (subst (λ l. HoldsBytes T.form (T.room new) mid (take h l) next) whole holds),
+        i.2,
+        i.3,
       )

@@ -1,6 +1,6 @@
 -- How the moves of a decoder make a call.
-use Rattle.std.proofs.Common.{◌≡◌, ◌≢◌, ◌∙◌, ℕ, zero, suc, ◌+◌, ◌-◌, ◌≤◌, ◌<◌, List, [], ◌∷◌, ◌++◌, length, map, get_or, drop, refl, sym, ap, subst, arith, length-append, length-drop, drop-cons}
-use Rattle.std.proofs.Common.{add-one, append-nil, Bool, true, false, IsTrue, Some, None, Option, ◌⊎◌, inl, inr, All}
+use Rattle.std.proofs.Common.{◌≡◌, ◌≢◌, ◌∙◌, ℕ, zero, suc, ◌+◌, ◌-◌, ◌≤◌, ◌<◌, List, [], ◌∷◌, ◌++◌, length, map, get_or, take, drop, refl, sym, ap, subst, arith, length-append, length-drop, drop-cons}
+use Rattle.std.proofs.Common.{add-zero, add-one, append-nil, Bool, true, false, IsTrue, Some, None, Option, ◌⊎◌, inl, inr, All}
 use Rattle.std.proofs.lemmas.List.{map-append}
 use Rattle.std.proofs.lemmas.List.Elements.{All-append, All-nil, All-cons}
 use Rattle.std.proofs.Math.Nat.{sub-zero}
@@ -24,7 +24,7 @@ use Rattle.legacy_base.proofs.Rooms.{HadRooms-append, HadRooms-none, HadRooms-re
 use Rattle.legacy_base.proofs.Enough.{room-answer}
 use Rattle.legacy_decoder_engine.specs.declared.moves.Fed.{Fed}
 use Rattle.legacy_decoder_engine.specs.declared.moves.Fed.TheVariants.{Nothing, One, Two, Fault}
-use Rattle.legacy_decoder_engine.specs.Moves.{SameRooms, Feeds, Releases, Reports, Finishes, IsCovered, read_room, fed_scalars, fed_fault, fed_units, unread_byte, FedHolds, IsFaulty}
+use Rattle.legacy_decoder_engine.specs.Moves.{SameRooms, Feeds, Releases, Reports, Finishes, IsCovered, read_room, fed_scalars, fed_fault, fed_units, unread_byte, FedHolds, IsFaulty, HoldsBytes}
 
 -- A call under way: the decoder is in the state `now`, it has read so many bytes and written these scalars.
 pub record Going (form : EncodingForm) (before : DecoderState) (source : List ℕ) (last : Bool) (free : ℕ) (now : DecoderState) (read : ℕ) (scalars : List ℕ) : Type 0 where
@@ -393,3 +393,28 @@ module _ (form : EncodingForm) (before : DecoderState) (source : List ℕ) (last
         suffices = λ query q enough x. full query q enough;
         enough = λ query q n k le answered most x. full query q (let r' = room-answer query before (length source) n k le answered in omega arith);
       }
+
+-- no bytes are held back
+pub holds_none : (form : EncodingForm) (free : ℕ) (state : DecoderState) → HoldsBytes form free state [] state
+unfolding HoldsBytes
+holds_none form free state = refl
+
+-- a call under way whose decoder holds bytes back
+pub held_going : (form : EncodingForm) (before : DecoderState) (source : List ℕ) (last : Bool) (free : ℕ) (now : DecoderState) (read : ℕ) (scalars : List ℕ)
+    → Going form before source last free now read scalars → (left : ℕ) → left + total_unit_count form scalars ≡ free → (next : DecoderState) (n : ℕ) → n ≤ length (drop read source)
+    → HoldsBytes form left now (take n (drop read source)) next → Going form before source last free next (read + n) scalars
+unfolding HoldsBytes
+held_going form before source last free now read scalars going left e next zero within holds =
+    subst (λ s. Going form before source last free s (read + 0) scalars) (sym holds) (subst (λ k. Going form before source last free now k scalars) (sym (add-zero read)) going)
+held_going form before source last free now read scalars going left e next (suc n) within holds =
+    let some : read < length source = omega (arith, within, length-drop read source) in
+    let byte : ℕ = get_or source read 0 in
+    let front : drop read source ≡ byte ∷ drop (read + 1) source = drop-cons source read 0 some ∙ rw add-one refl in
+    let cut : take (suc n) (drop read source) ≡ byte ∷ take n (drop (read + 1) source) = ap (λ l. take (suc n) l) front in
+    let h : HoldsBytes form left now (byte ∷ take n (drop (read + 1) source)) next = subst (λ l. HoldsBytes form left now l next) cut holds in
+    let enough : read_room form now byte ≤ free - total_unit_count form scalars = omega (arith, h.2, e) in
+    let step : Going form before source last free h.0 (read + 1) (scalars ++ []) = going_feed form before source last free now read scalars going byte h.0 Nothing some refl h.1 (λ x. x) enough in
+    let mid : Going form before source last free h.0 (read + 1) scalars = subst (λ cs. Going form before source last free h.0 (read + 1) cs) (append-nil scalars) step in
+    let shorter : n ≤ length (drop (read + 1) source) = omega (arith, within, length-drop read source, length-drop (read + 1) source) in
+    let place : read + 1 + n ≡ read + suc n = omega arith in
+    subst (λ k. Going form before source last free next k scalars) place (held_going form before source last free h.0 (read + 1) scalars mid left e next n shorter h.3)

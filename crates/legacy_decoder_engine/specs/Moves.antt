@@ -112,6 +112,12 @@ pub record Feeds (before : DecoderState) (byte : ℕ) (after : DecoderState) (fe
   pub lowers : (query : LengthQuery) (n : ℕ) →
       room query after (n + length (unread_byte byte fed)) + (total_unit_count (query_form query) (fed_scalars fed) + fed_units query fed) ≤ room query before (n + 1)
 
+-- bytes were read one behind the other, each where there was room for it, and are held back
+unfoldable pub HoldsBytes : EncodingForm → ℕ → DecoderState → List ℕ → DecoderState → Type 0
+HoldsBytes form free before [] after = after ≡ before
+HoldsBytes form free before (byte ∷ bytes) after =
+    (mid : DecoderState) × Feeds before byte mid Nothing × (read_room form before byte ≤ free) × HoldsBytes form free mid bytes after
+
 -- ---- writing a scalar that is held back
 
 -- what writing it does

@@ -87,6 +87,7 @@ pub fn drive_decoder<D: DecoderMoves, T: Destination>(
     let mut read = 0;
     loop {
         read += decoder.read_runs(&src[read..], dst);
+        read += decoder.hold_back(&src[read..], dst);
         if read == src.len() {
             break;
         }

@@ -1,10 +1,11 @@
 //! The small moves that each decoder makes, and the runs that it reads ahead of them.
-ghost use Rattle.std.specs.Prelude.{◌≡◌, ◌≢◌, ◌≤◌, [], true, false, MatchOption};
+ghost use Rattle.std.specs.Prelude.{◌≡◌, ◌≢◌, ◌≤◌, [], length, take, true, false, MatchOption};
 ghost use Rattle.legacy_text.specs.EncodingForm.{EncodingForm};
 ghost use Rattle.legacy_base.specs.Grammar.{events_of};
 ghost use Rattle.legacy_base.specs.States.{DecoderState, may_hold, rests};
 ghost use Rattle.legacy_base.specs.Calls.{IsLoneFault};
 ghost use Rattle.legacy_decoder_engine.specs.Moves.{room_units, move_units, IsCovered, Releases, Feeds, Reports};
+ghost use Rattle.legacy_decoder_engine.specs.Moves.{HoldsBytes};
 ghost use Rattle.legacy_decoder_engine.specs.Ahead.{ReadsTo, ReadsAhead};
 
 use legacy_base::Destination;
@@ -119,5 +120,17 @@ pub trait DecoderMoves {
             dst.old dst.new }
     {
         self.read_ahead(src, dst)
+    }
+
+    /// Holds back bytes from the front of the input, as far as it cares to, and answers how many: they are
+    /// read as by `feed`, one behind the other, where each of them leads to nothing and has its room.
+    #[inline(always)]
+    fn hold_back<T: Destination>(&mut self, src: &[u8], dst: &T) -> usize
+        ensures within { result ≤ length src.now }
+        ensures holds { HoldsBytes T.form (T.room dst.now) (state self.old) (take result src.now)
+            (state self.new) }
+    {
+        let _ = (self.rests(), src.len(), dst.free());
+        0
     }
 }

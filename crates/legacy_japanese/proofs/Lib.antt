@@ -8,6 +8,7 @@ pub mod Iso2022JpRooms
 pub mod Iso2022JpEnding
 pub mod Iso2022JpEscapes
 pub mod Iso2022JpFeeding
+pub mod Iso2022JpHolding
 pub mod Iso2022JpRuns
 pub mod Iso2022JpEncoderRooms
 pub mod Iso2022JpEncoderMoves

@@ -6,7 +6,7 @@ ghost use Rattle.legacy_base.specs.States.{is_neutral, new_state};
 ghost use Rattle.legacy_japanese.specs.Iso2022JpMachine.{is_held};
 ghost use Rattle.legacy_japanese.specs.Iso2022JpMoves.{weight_of};
 
-use super::runs::read_modes;
+use super::runs::{escape_at, read_modes};
 use super::steps::{Held, Mode, Start, finish, pending, read};
 use legacy_base::{DecoderResult, Destination, RawDecoder, Tables};
 use legacy_decoder_engine::drive::drive_decoder;
@@ -106,12 +106,30 @@ impl<'a> DecoderMoves for Iso2022JpDecoder<'a> {
 
     #[inline(always)]
     fn read_runs<T: Destination>(&mut self, src: &[u8], dst: &mut T) -> usize {
-        if !matches!(self.held, Held::Begun(Start::Nothing)) {
+        if !self.held.is_nothing() {
             return 0;
         }
         let (mode, read) = read_modes(self.tables, self.mode, src, dst);
         self.mode = mode;
         read
+    }
+
+    // An escape that no run follows: byte by byte it takes three turns of the loop.
+    #[inline(always)]
+    fn hold_back<T: Destination>(&mut self, src: &[u8], dst: &T) -> usize {
+        if !self.held.is_nothing() {
+            return 0;
+        }
+        if dst.free() < T::narrow() {
+            return 0;
+        }
+        match escape_at(src) {
+            Some(escape) => {
+                self.held = Held::Whole(escape, Start::Nothing);
+                3
+            }
+            None => 0,
+        }
     }
 }
 

@@ -167,7 +167,7 @@ fn read_begun<T: Destination>(tables: &Tables, mode: Mode, src: &[u8], dst: &mut
 
 /// The valid escape at the front, where a byte that is no escape byte stands behind it.
 #[inline]
-fn escape_at(src: &[u8]) -> Option<Escape>
+pub fn escape_at(src: &[u8]) -> Option<Escape>
     ensures { IfSome result (λ escape. HasEscape escape src.now) }
 {
     if src.len() < 4 || src[0] != ESCAPE || src[3] == ESCAPE {

@@ -1,10 +1,12 @@
 //! The steps of an ISO-2022-JP decoder: what each byte, and the end of the input, makes of its mode
 //! and of what it holds back (Encoding Standard, "ISO-2022-JP decoder").
-ghost use Rattle.std.specs.Prelude.{◌≡◌, ◌≤◌, IfSome, length, true};
+ghost use Rattle.std.specs.Prelude.{◌≡◌, ◌≤◌, ◌↔◌, IfSome, IsTrue, length, true};
 ghost use Rattle.legacy_tables.specs.Indexes.{idx};
 ghost use Rattle.legacy_japanese.specs.Iso2022JpMachine as machine;
 ghost use Rattle.legacy_japanese.specs.Iso2022JpMachine.{start_bytes, bytes_of, is_held, is_resting};
 ghost use Rattle.legacy_japanese.specs.declared.iso_2022_jp.steps.Mode.TheVariants.{Ascii, TwoByte};
+ghost use Rattle.legacy_japanese.specs.declared.iso_2022_jp.steps.Start.TheVariants.{Nothing};
+ghost use Rattle.legacy_japanese.specs.declared.iso_2022_jp.steps.Held.TheVariants.{Begun};
 ghost use Rattle.legacy_japanese.specs.Iso2022JpMoves.{fed_of, weight_of, IsNarrow, IsNarrowScalar};
 
 use legacy_base::{DecoderTables, IndexName, Tables};
@@ -109,6 +111,17 @@ impl Start {
 }
 
 impl Held {
+    /// Whether nothing is held back.
+    #[inline]
+    pub fn is_nothing(self) -> bool
+        ensures { IsTrue result ↔ (self ≡ Begun Nothing) }
+    {
+        match self {
+            Held::Begun(Start::Nothing) => true,
+            _ => false,
+        }
+    }
+
     /// How many bytes it has.
     #[inline]
     pub fn count(self) -> u8

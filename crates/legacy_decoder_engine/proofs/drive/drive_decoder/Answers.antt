@@ -8,7 +8,7 @@ use Rattle.legacy_decoder_engine.specs.declared.moves.Fed.{Fed}
 use Rattle.legacy_decoder_engine.specs.declared.moves.Fed.TheVariants.{Fault}
 use Rattle.legacy_decoder_engine.specs.Moves.{fed_scalars, IsFaulty}
 use Rattle.legacy_decoder_engine.proofs.CallUnderWay.{going_start, going_release, going_feed, call_full_read, call_full_release, call_fault_read, call_fault_unread, call_finish}
-use Rattle.legacy_decoder_engine.proofs.AheadRuns.{ahead_going}
+use Rattle.legacy_decoder_engine.proofs.AheadRuns.{front_going}
 use Rattle.legacy_decoder_engine.proofs.drive.drive_decoder.Goals as goal
 use Rattle.legacy_decoder_engine.proofs.drive.drive_decoder.Goals.{then-not-rests+else-not-has_room+in-Some, else-not-rests}
 
@@ -27,17 +27,23 @@ pub feed-fed-requires : goal.feed-fed-requires
 feed-fed-requires g c =
     let T = g.T.Destination in
     let b = c.loop-read.invariant in
-    (ahead_going _ _ _ _ _ _ _ c.read_runs-read.result _ _ _ b.1 b.2 b.3 c.read_runs-read.ensures.runs).1.resting
+    (front_going _ _ _ _ _ _ _ _ c.read_runs-read.result c.hold_back-read.result _ _ _ b.1 b.2 b.3 c.read_runs-read.ensures.runs c.hold_back-read.ensures.within c.hold_back-read.ensures.holds).1.resting
+
+pub finish-requires : goal.finish-requires
+finish-requires g c =
+    let T = g.T.Destination in
+    let b = c.loop-read.invariant in
+    (front_going _ _ _ _ _ _ _ _ c.read_runs-read.result c.hold_back-read.result _ _ _ b.1 b.2 b.3 c.read_runs-read.ensures.runs c.hold_back-read.ensures.within c.hold_back-read.ensures.holds).1.resting
 
 pub returns-then-not-has_room-2-clause-call : goal.returns-then-not-has_room-2-clause-call
 returns-then-not-has_room-2-clause-call g c =
     let T = g.T.Destination in
     let b = c.loop-read.invariant in
     let a = c.read_runs-read.ensures.runs in
-    let i = ahead_going _ _ _ _ _ _ _ c.read_runs-read.result _ _ _ b.1 b.2 b.3 a in
+    let i = front_going _ _ _ _ _ _ _ _ c.read_runs-read.result c.hold_back-read.result _ _ _ b.1 b.2 b.3 a c.hold_back-read.ensures.within c.hold_back-read.ensures.holds in
     let F = g.T.Destination.form in (
       i.0,
-      call_full_read F _ _ _ _ _ _ _ i.1 c.room-in-loop-read.ensures.covered (get_or c.args.src.now (c.loop-read.read + c.read_runs-read.result) 0)
+      call_full_read F _ _ _ _ _ _ _ i.1 c.room-in-loop-read.ensures.covered (get_or c.args.src.now (c.loop-read.read + c.read_runs-read.result + c.hold_back-read.result) 0)
           (omega (arith, i.1.within, c.if-read-src.false)) refl
           (no_room _ _ _ _ _ _ c.has_room-in-loop-read.ensures c.if-not-has_room-2.true (c.room-in-loop-read.ensures.units F) i.3),
       i.2,
@@ -48,11 +54,11 @@ returns-then-unread-clause-call g c =
     let T = g.T.Destination in
     let b = c.loop-read.invariant in
     let a = c.read_runs-read.ensures.runs in
-    let i = ahead_going _ _ _ _ _ _ _ c.read_runs-read.result _ _ _ b.1 b.2 b.3 a in
+    let i = front_going _ _ _ _ _ _ _ _ c.read_runs-read.result c.hold_back-read.result _ _ _ b.1 b.2 b.3 a c.hold_back-read.ensures.within c.hold_back-read.ensures.holds in
     let F = g.T.Destination.form in
     let f = c.in-Fault.ensures in (
       i.0,
-      call_fault_unread F _ _ _ _ _ _ _ i.1 (get_or c.args.src.now (c.loop-read.read + c.read_runs-read.result) 0) _ c.in-Fault.length c.in-Fault.back
+      call_fault_unread F _ _ _ _ _ _ _ i.1 (get_or c.args.src.now (c.loop-read.read + c.read_runs-read.result + c.hold_back-read.result) 0) _ c.in-Fault.length c.in-Fault.back
           (omega (arith, i.1.within, c.if-read-src.false)) refl
           (rw c.if-unread.true at f)
           (some_room _ _ _ _ _ _ c.has_room-in-loop-read.ensures c.if-not-has_room-2.false (c.room-in-loop-read.ensures.units F) i.3),
@@ -64,11 +70,11 @@ returns-in-Fault-clause-call g c =
     let T = g.T.Destination in
     let b = c.loop-read.invariant in
     let a = c.read_runs-read.ensures.runs in
-    let i = ahead_going _ _ _ _ _ _ _ c.read_runs-read.result _ _ _ b.1 b.2 b.3 a in
+    let i = front_going _ _ _ _ _ _ _ _ c.read_runs-read.result c.hold_back-read.result _ _ _ b.1 b.2 b.3 a c.hold_back-read.ensures.within c.hold_back-read.ensures.holds in
     let F = g.T.Destination.form in
     let f = c.in-Fault.ensures in (
       i.0,
-      call_fault_read F _ _ _ _ _ _ _ i.1 (get_or c.args.src.now (c.loop-read.read + c.read_runs-read.result) 0) _ c.in-Fault.length c.in-Fault.back
+      call_fault_read F _ _ _ _ _ _ _ i.1 (get_or c.args.src.now (c.loop-read.read + c.read_runs-read.result + c.hold_back-read.result) 0) _ c.in-Fault.length c.in-Fault.back
           (omega (arith, i.1.within, c.if-read-src.false)) refl
           (rw c.if-unread.false at f)
           (some_room _ _ _ _ _ _ c.has_room-in-loop-read.ensures c.if-not-has_room-2.false (c.room-in-loop-read.ensures.units F) i.3),
@@ -80,11 +86,11 @@ loop-read-preserved g c =
     let T = g.T.Destination in
     let b = c.loop-read.invariant in
     let a = c.read_runs-read.ensures.runs in
-    let i = ahead_going _ _ _ _ _ _ _ c.read_runs-read.result _ _ _ b.1 b.2 b.3 a in
+    let i = front_going _ _ _ _ _ _ _ _ c.read_runs-read.result c.hold_back-read.result _ _ _ b.1 b.2 b.3 a c.hold_back-read.ensures.within c.hold_back-read.ensures.holds in
     let F = g.T.Destination.form in
     let room = some_room _ _ _ _ _ _ c.has_room-in-loop-read.ensures c.if-not-has_room-2.false (c.room-in-loop-read.ensures.units F) i.3 in (
       i.0 ++ fed_scalars c.feed-fed.result,
-      going_feed F _ _ _ _ _ _ _ i.1 (get_or c.args.src.now (c.loop-read.read + c.read_runs-read.result) 0) _ c.feed-fed.result
+      going_feed F _ _ _ _ _ _ _ i.1 (get_or c.args.src.now (c.loop-read.read + c.read_runs-read.result + c.hold_back-read.result) 0) _ c.feed-fed.result
           (omega (arith, i.1.within, c.if-read-src.false)) refl c.feed-fed.ensures (sound c.feed-fed.result c.in_default-fed.not-Fault) room,
       c.put_fed.ensures.contents ∙ ap (λ l. l ++ all_code_units F (fed_scalars c.feed-fed.result)) i.2 ∙ append_assoc (g.T.Destination.contents c.args.dst.now) (all_code_units F i.0)
           (all_code_units F (fed_scalars c.feed-fed.result)) ∙ ap (λ l. g.T.Destination.contents c.args.dst.now ++ l) (sym (all_code_units-append F i.0 (fed_scalars c.feed-fed.result))),
@@ -133,8 +139,8 @@ returns-clause-call g c =
     let T = g.T.Destination in
     let b = c.loop-read.invariant in
     let a = c.read_runs-read.ensures.runs in
-    let i = ahead_going _ _ _ _ _ _ _ c.read_runs-read.result _ _ _ b.1 b.2 b.3 a in
-    let all : c.loop-read.read + c.read_runs-read.result ≡ length c.args.src.now = c.if-read-src.true in (
+    let i = front_going _ _ _ _ _ _ _ _ c.read_runs-read.result c.hold_back-read.result _ _ _ b.1 b.2 b.3 a c.hold_back-read.ensures.within c.hold_back-read.ensures.holds in
+    let all : c.loop-read.read + c.read_runs-read.result + c.hold_back-read.result ≡ length c.args.src.now = c.if-read-src.true in (
       i.0,
       subst (λ n. DecoderCall T.form (g.D.DecoderMoves.state c.args.decoder.now) c.args.src.now c.args.last (T.room c.args.dst.now)
           (g.D.DecoderMoves.state c.finish.new.decoder) c.finish.result n i.0) all

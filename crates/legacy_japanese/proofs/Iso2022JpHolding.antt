@@ -1,0 +1,54 @@
+-- A whole escape is held back at once.
+use Rattle.std.proofs.Common.{◌≡◌, ℕ, ◌≤◌, List, [], ◌∷◌, take, refl, sym, subst}
+use Rattle.legacy_text.specs.EncodingForm.{EncodingForm, bmp_room}
+use Rattle.legacy_base.specs.Iso2022Jp.{esc}
+use Rattle.legacy_decoder_engine.specs.Moves.{HoldsBytes}
+use Rattle.legacy_japanese.specs.declared.iso_2022_jp.steps.{Mode.Mode, Escape.Escape, Start.Start, Held.Held}
+use Rattle.legacy_japanese.specs.declared.iso_2022_jp.steps.Escape.TheVariants.{ToAscii, ToJis1978, ToJis1983}
+use Rattle.legacy_japanese.specs.declared.iso_2022_jp.steps.Start.TheVariants.{Nothing, EscapeByte, Dollar, Paren}
+use Rattle.legacy_japanese.specs.declared.iso_2022_jp.steps.Held.TheVariants.{Begun, Whole}
+use Rattle.legacy_japanese.specs.declared.iso_2022_jp.steps.Action.TheVariants.{Holds}
+use Rattle.legacy_japanese.specs.Iso2022JpMachine.{moves, read, second_of, third_of}
+use Rattle.legacy_japanese.specs.Iso2022JpMoves.{state_in}
+use Rattle.legacy_japanese.specs.Iso2022JpRuns.{run_state, HasEscape}
+use Rattle.legacy_japanese.proofs.Iso2022JpFeeding.{feeds}
+use Rattle.legacy_japanese.proofs.Iso2022JpHeld.{held_rests}
+use Rattle.legacy_japanese.proofs.Iso2022JpRooms.{read_room-is}
+
+-- the start of an escape behind its first two bytes
+abbrev second_start : Escape → Start
+second_start ToJis1978 = Dollar
+second_start ToJis1983 = Dollar
+second_start _ = Paren
+
+second_read : (jis0208 : List ℕ) (mode : Mode) (e : Escape) → moves Holds mode (Begun (second_start e)) ≡ read jis0208 mode (Begun EscapeByte) (second_of e)
+second_read jis0208 mode ToAscii = refl
+second_read jis0208 mode _ = refl
+
+third_read : (jis0208 : List ℕ) (mode : Mode) (e : Escape) → moves Holds mode (Whole e Nothing) ≡ read jis0208 mode (Begun (second_start e)) (third_of e)
+third_read jis0208 mode ToAscii = refl
+third_read jis0208 mode _ = refl
+
+module _ (form : EncodingForm) (free : ℕ) (enough : bmp_room form ≤ free) (jis0208 : List ℕ) (mode : Mode) where
+  -- a byte is read and held back, behind some that were
+  holds_byte : (start : Start) (byte : ℕ) (held : Held) (bytes : List ℕ) (next : Held) → moves Holds mode held ≡ read jis0208 mode (Begun start) byte
+      → HoldsBytes form free (state_in jis0208 mode held) bytes (state_in jis0208 mode next)
+      → HoldsBytes form free (state_in jis0208 mode (Begun start)) (byte ∷ bytes) (state_in jis0208 mode next)
+  unfolding HoldsBytes
+  holds_byte start byte held bytes next is rest = (
+    state_in jis0208 mode held,
+    feeds jis0208 mode (Begun start) byte (moves Holds mode held) refl (held_rests jis0208 mode (Begun start) refl) is tt,
+    rw (read_room-is form jis0208 mode (Begun start) byte) enough,
+    rest,
+  )
+
+  holds_whole : (e : Escape) → HoldsBytes form free (run_state jis0208 mode) (esc ∷ second_of e ∷ third_of e ∷ []) (state_in jis0208 mode (Whole e Nothing))
+  unfolding HoldsBytes
+  holds_whole e =
+      holds_byte Nothing esc (Begun EscapeByte) (second_of e ∷ third_of e ∷ []) (Whole e Nothing) refl
+      (holds_byte EscapeByte (second_of e) (Begun (second_start e)) (third_of e ∷ []) (Whole e Nothing) (second_read jis0208 mode e)
+      (holds_byte (second_start e) (third_of e) (Whole e Nothing) [] (Whole e Nothing) (third_read jis0208 mode e) refl))
+
+  -- the escape at the front
+  pub holds_escape : (e : Escape) (source : List ℕ) → HasEscape e source → HoldsBytes form free (run_state jis0208 mode) (take 3 source) (state_in jis0208 mode (Whole e Nothing))
+  holds_escape e source has = subst (λ bytes. HoldsBytes form free (run_state jis0208 mode) bytes (state_in jis0208 mode (Whole e Nothing))) (sym has.begins) (holds_whole e)
