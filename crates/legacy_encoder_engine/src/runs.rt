@@ -174,6 +174,8 @@ fn read_scalars<C: PlainCodes, S: Source>(
 
 /// Reads blocks and runs of other scalars from the front of what the source has left, and writes
 /// their bytes from the place `start` of `dst` on while any scalar fits. Answers where they end.
+// By a copy of the cursor, which nothing else refers to: the compiler keeps its place in a register, and does not
+// store and load it again behind each byte that is written. So what takes the copy is inlined always.
 #[inline]
 pub fn read_runs<C: PlainCodes, S: Source>(
     encoder: &C,
@@ -191,10 +193,12 @@ pub fn read_runs<C: PlainCodes, S: Source>(
 {
     let widest = encoder.past_room();
     let mut at = start;
+    let mut own = *src;
     loop {
-        at += read_blocks(encoder, src, dst, at);
-        let end = read_scalars(encoder, src, dst, at, widest);
+        at += read_blocks(encoder, &mut own, dst, at);
+        let end = read_scalars(encoder, &mut own, dst, at, widest);
         if end == at {
+            *src = own;
             return at;
         }
         at = end;
