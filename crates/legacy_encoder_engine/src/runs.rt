@@ -92,14 +92,15 @@ fn read_blocks<C: PlainCodes, S: Source>(
     src.copy_ascii(dst, at)
 }
 
-/// Reads by turns scalars that have a byte each, where they seem to go on, and writes their bytes from the
-/// place `at` on. Answers how many: none is an answer too.
+/// Reads by turns scalars that have a byte each, where `goes_on` and they seem to go on, and writes their
+/// bytes from the place `at` on. Answers how many: none is an answer too.
 #[inline(always)]
 fn read_turns<C: PlainCodes, S: Source>(
     encoder: &C,
     src: &mut S,
     dst: &mut [u8],
     at: usize,
+    goes_on: bool,
 ) -> usize
     requires { at ≤ length dst.old }
     ensures keeps { KeepsOn (new_encoder (C.codec encoder.now)) (length dst.old) (S.left src.old)
@@ -109,7 +110,7 @@ fn read_turns<C: PlainCodes, S: Source>(
     ensures passed { S.passed src.new + total_unit_count S.form (S.left src.new)
         ≡ S.passed src.old + total_unit_count S.form (S.left src.old) }
 {
-    if encoder.goes_by_units() && src.has_turns() {
+    if goes_on && encoder.goes_by_units() && src.has_turns() {
         return read_byte_codes(encoder, src, dst, at);
     }
     0
@@ -155,9 +156,10 @@ fn read_scalars<C: PlainCodes, S: Source>(
                 let Some(end) = put_code(encoder, dst, at, c) else {
                     return at;
                 };
+                let goes_on = at > start;
                 at = end;
                 src.pass(2);
-                at += read_turns(encoder, src, dst, at);
+                at += read_turns(encoder, src, dst, at, goes_on);
             }
             Next::Three(c) => {
                 let Some(end) = put_code(encoder, dst, at, c) else {
