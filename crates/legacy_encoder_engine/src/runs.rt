@@ -42,10 +42,12 @@ fn put_code<C: PlainCodes>(encoder: &C, dst: &mut [u8], at: usize, c: char) -> O
     Some(put_move(dst, at, step))
 }
 
-/// Whether what comes next is perhaps read by blocks. It is a hint: any answer will do.
+/// Whether what comes next, of which this is the first scalar, is perhaps read by blocks. It is a hint: any
+/// answer will do.
+// The scalar is asked about first: whoever writes it asks the same, and a pair then asks nothing else here.
 #[inline(always)]
-fn may_go_by_blocks<C: PlainCodes, S: Source>(encoder: &C, src: &S) -> bool {
-    (encoder.goes_by_units() && src.has_blocks()) || src.is_in_ascii()
+fn may_go_by_blocks<C: PlainCodes, S: Source>(encoder: &C, src: &S, c: char) -> bool {
+    (encoder.goes_by_units() && src.has_blocks()) || ((c as u32) < 0x80 && src.is_in_ascii())
 }
 
 /// Reads scalars that have a byte each, and writes their bytes from the place `at` on. Answers how many: none is
@@ -143,7 +145,7 @@ fn read_scalars<C: PlainCodes, S: Source>(
     while dst.len() - at >= widest {
         match src.front() {
             Next::One(c) => {
-                if at > start && may_go_by_blocks(encoder, src) {
+                if at > start && may_go_by_blocks(encoder, src, c) {
                     return at;
                 }
                 let Some(end) = put_code(encoder, dst, at, c) else {
