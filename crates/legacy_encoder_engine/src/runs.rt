@@ -42,10 +42,12 @@ fn put_code<C: PlainCodes>(encoder: &C, dst: &mut [u8], at: usize, c: char) -> O
     Some(put_move(dst, at, step))
 }
 
-/// Whether what comes next is perhaps read by blocks. It is a hint: any answer will do.
+/// Whether what comes next, of which this is the first scalar, is perhaps read by blocks. It is a hint: any
+/// answer will do.
+// The scalar is asked about first: whoever writes it asks the same, and a pair then asks nothing else here.
 #[inline(always)]
-fn may_go_by_blocks<C: PlainCodes, S: Source>(encoder: &C, src: &S) -> bool {
-    (encoder.goes_by_units() && src.has_blocks()) || src.is_in_ascii()
+fn may_go_by_blocks<C: PlainCodes, S: Source>(encoder: &C, src: &S, c: char) -> bool {
+    (encoder.goes_by_units() && src.has_blocks()) || ((c as u32) < 0x80 && src.is_in_ascii())
 }
 
 /// Reads scalars that have a byte each, and writes their bytes from the place `at` on. Answers how many: none is
@@ -92,14 +94,15 @@ fn read_blocks<C: PlainCodes, S: Source>(
     src.copy_ascii(dst, at)
 }
 
-/// Reads by turns scalars that have a byte each, where they seem to go on, and writes their bytes from the
-/// place `at` on. Answers how many: none is an answer too.
+/// Reads by turns scalars that have a byte each, where `goes_on` and they seem to go on, and writes their
+/// bytes from the place `at` on. Answers how many: none is an answer too.
 #[inline(always)]
 fn read_turns<C: PlainCodes, S: Source>(
     encoder: &C,
     src: &mut S,
     dst: &mut [u8],
     at: usize,
+    goes_on: bool,
 ) -> usize
     requires { at ≤ length dst.old }
     ensures keeps { KeepsOn (new_encoder (C.codec encoder.now)) (length dst.old) (S.left src.old)
@@ -109,7 +112,7 @@ fn read_turns<C: PlainCodes, S: Source>(
     ensures passed { S.passed src.new + total_unit_count S.form (S.left src.new)
         ≡ S.passed src.old + total_unit_count S.form (S.left src.old) }
 {
-    if encoder.goes_by_units() && src.has_turns() {
+    if goes_on && encoder.goes_by_units() && src.has_turns() {
         return read_byte_codes(encoder, src, dst, at);
     }
     0
@@ -142,7 +145,7 @@ fn read_scalars<C: PlainCodes, S: Source>(
     while dst.len() - at >= widest {
         match src.front() {
             Next::One(c) => {
-                if at > start && may_go_by_blocks(encoder, src) {
+                if at > start && may_go_by_blocks(encoder, src, c) {
                     return at;
                 }
                 let Some(end) = put_code(encoder, dst, at, c) else {
@@ -155,9 +158,10 @@ fn read_scalars<C: PlainCodes, S: Source>(
                 let Some(end) = put_code(encoder, dst, at, c) else {
                     return at;
                 };
+                let goes_on = at > start;
                 at = end;
                 src.pass(2);
-                at += read_turns(encoder, src, dst, at);
+                at += read_turns(encoder, src, dst, at, goes_on);
             }
             Next::Three(c) => {
                 let Some(end) = put_code(encoder, dst, at, c) else {
@@ -174,6 +178,8 @@ fn read_scalars<C: PlainCodes, S: Source>(
 
 /// Reads blocks and runs of other scalars from the front of what the source has left, and writes
 /// their bytes from the place `start` of `dst` on while any scalar fits. Answers where they end.
+// By a copy of the cursor, which nothing else refers to: the compiler keeps its place in a register, and does not
+// store and load it again behind each byte that is written. So what takes the copy is inlined always.
 #[inline]
 pub fn read_runs<C: PlainCodes, S: Source>(
     encoder: &C,
@@ -191,10 +197,12 @@ pub fn read_runs<C: PlainCodes, S: Source>(
 {
     let widest = encoder.past_room();
     let mut at = start;
+    let mut own = *src;
     loop {
-        at += read_blocks(encoder, src, dst, at);
-        let end = read_scalars(encoder, src, dst, at, widest);
+        at += read_blocks(encoder, &mut own, dst, at);
+        let end = read_scalars(encoder, &mut own, dst, at, widest);
         if end == at {
+            *src = own;
             return at;
         }
         at = end;

@@ -35,6 +35,16 @@ ones-kept set k h =
     ap (λ n. set * 2 ^ (63 - k) % 2 ^ n) (sym e) ∙ parts ∙ rw (low, high) refl in
     ap count_ones cut ∙ ones_cat (63 - k) (set % 2 ^ (k + 1)) 0 (pow_pos (63 - k)) ∙ add_zero _
 
+-- a bit that is set is one more among those up to it
+pub ones-held : (set k : ℕ) → bit_at set k ≡ 1 → count_ones (set % 2 ^ (k + 1)) ≡ count_ones (set % 2 ^ k) + 1
+unfolding count_ones
+ones-held set k held =
+    let e : 1 + k ≡ k + 1 = omega arith in
+    let cut : set % 2 ^ (k + 1) ≡ 1 * 2 ^ k + set % 2 ^ k =
+    ap (λ n. set % 2 ^ n) (sym e) ∙ mod-pow-add set 1 k ∙ ap (λ n. n * 2 ^ k + set % 2 ^ k) held in
+    let more : count_ones (1 * 2 ^ k + set % 2 ^ k) ≡ 1 + count_ones (set % 2 ^ k) = ones_cat k 1 (set % 2 ^ k) (mod_below set (2 ^ k) (pow_pos k)) in
+    ap count_ones cut ∙ more ∙ omega arith
+
 module _ (set place : ℕ) (low : set < 2 ^ place) where
   -- one bit more above all others
   pub ones-more : count_ones (set + 2 ^ place) ≡ count_ones set + 1

@@ -26,7 +26,7 @@ pub enum Next {
 }
 
 /// A cursor over the scalars of a text in UTF-8 or in UTF-16, one of the two for each type.
-pub trait Source {
+pub trait Source: Copy {
     /// The encoding form, which is fixed for the type.
     ghost form: { EncodingForm };
 
@@ -110,7 +110,7 @@ pub trait Source {
 }
 
 /// The scalars of a text in UTF-8.
-#[derive(Drop)]
+#[derive(Clone, Copy)]
 pub struct Utf8Source<'a> {
     text: &'a str,
     place: usize,
@@ -239,7 +239,7 @@ impl Source for Utf8Source<'_> {
         is_before_ascii(self.text.as_bytes(), self.place)
     }
 
-    #[inline]
+    #[inline(always)]
     fn copy_ascii(&mut self, dst: &mut [u8], at: usize) -> usize {
         let count = copy_ascii_bytes(&self.text.as_bytes()[self.place..], dst, at);
         self.place += count;
@@ -252,7 +252,7 @@ impl Source for Utf8Source<'_> {
         bytes.len() - self.place >= 16 && bytes[self.place] >= 0x80
     }
 
-    #[inline]
+    #[inline(always)]
     fn copy_codes<C: UnitCodes>(&mut self, codes: &C, dst: &mut [u8], at: usize) -> usize {
         let (count, behind) = copy_short_scalars(codes, self.text.as_bytes(), self.place, dst, at);
         self.place = behind;
@@ -261,7 +261,7 @@ impl Source for Utf8Source<'_> {
 }
 
 /// The scalars of code units of UTF-16, where each unpaired surrogate stands for U+FFFD.
-#[derive(Drop)]
+#[derive(Clone, Copy)]
 pub struct Utf16Source<'a> {
     units: &'a [u16],
     place: usize,
@@ -362,7 +362,7 @@ impl Source for Utf16Source<'_> {
         units.len() - self.place >= 2 && (units[self.place] | units[self.place + 1]) < 0x80
     }
 
-    #[inline]
+    #[inline(always)]
     fn copy_ascii(&mut self, dst: &mut [u8], at: usize) -> usize {
         let count = copy_ascii_units(&self.units[self.place..], dst, at);
         self.place += count;
@@ -374,7 +374,7 @@ impl Source for Utf16Source<'_> {
         self.units.len() - self.place >= 16
     }
 
-    #[inline]
+    #[inline(always)]
     fn copy_codes<C: UnitCodes>(&mut self, codes: &C, dst: &mut [u8], at: usize) -> usize {
         let count = copy_unit_codes(codes, &self.units[self.place..], dst, at);
         self.place += count;

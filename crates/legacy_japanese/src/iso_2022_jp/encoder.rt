@@ -403,8 +403,29 @@ impl<V: EncoderTables> CodesInMode<'_, V> {
 
     /// Reads scalars of the mode, up to one that wants an escape or has no bytes, and writes their bytes from
     /// the place `start` on. Answers where they end.
+    // By a copy of the cursor, which nothing else refers to: so its place is not stored and loaded again
+    // behind each byte that is written.
     #[inline]
     fn read_codes<S: Source>(&self, src: &mut S, dst: &mut [u8], start: usize) -> usize
+        requires { start ≤ length dst.old }
+        ensures keeps { KeepsOn (state_by (V.indexes self.now.tables.now) self.now.mode)
+            (length dst.old) (S.left src.old) (take start dst.old) (S.left src.new)
+            (take result dst.new) }
+        ensures start { start ≤ result }
+        ensures end { result ≤ length dst.old }
+        ensures passed { S.passed src.new + total_unit_count S.form (S.left src.new)
+            ≡ S.passed src.old + total_unit_count S.form (S.left src.old) }
+    {
+        let mut own = *src;
+        let end = self.read_by_mode(&mut own, dst, start);
+        *src = own;
+        end
+    }
+
+    /// Reads scalars of the mode as it goes by them, up to one that wants an escape or has no bytes, and
+    /// writes their bytes from the place `start` on. Answers where they end.
+    #[inline(always)]
+    fn read_by_mode<S: Source>(&self, src: &mut S, dst: &mut [u8], start: usize) -> usize
         requires { start ≤ length dst.old }
         ensures keeps { KeepsOn (state_by (V.indexes self.now.tables.now) self.now.mode)
             (length dst.old) (S.left src.old) (take start dst.old) (S.left src.new)
@@ -425,7 +446,7 @@ impl<V: EncoderTables> CodesInMode<'_, V> {
 
     /// Reads scalars of the mode, up to one that wants an escape or has no bytes, and writes their bytes from
     /// the place `start` on. Answers where they end.
-    #[inline]
+    #[inline(always)]
     fn read_scalars<S: Source>(&self, src: &mut S, dst: &mut [u8], start: usize) -> usize
         requires { start ≤ length dst.old }
         ensures keeps { KeepsOn (state_by (V.indexes self.now.tables.now) self.now.mode)

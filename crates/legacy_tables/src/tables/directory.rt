@@ -97,7 +97,6 @@ impl<const BLOCKS: usize> Directory<BLOCKS> {
         if (set >> bit) & 1 == 0 {
             return None;
         }
-        let below = set & ((1u64 << bit) - 1);
-        Some(usize::from(self.befores[number / 64]) + below.count_ones() as usize)
+        Some(self.count_up_to(number) - 1)
     }
 }

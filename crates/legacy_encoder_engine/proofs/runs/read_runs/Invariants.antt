@@ -8,10 +8,10 @@ use Rattle.legacy_encoder_engine.proofs.runs.read_runs.Given as goal
 abbrev pub invariant-loop-at : goal.invariant-loop-at
 invariant-loop-at g l =
     let S = g.S.Source in
-    KeepsOn (new_encoder (g.C.PlainCodes.codec l.encoder)) (length l.fn.dst) (S.left l.fn.src) (take l.start l.fn.dst) (S.left l.src) (take l.at l.dst)
+    KeepsOn (new_encoder (g.C.PlainCodes.codec l.encoder)) (length l.fn.dst) (S.left l.fn.src) (take l.start l.fn.dst) (S.left l.own) (take l.at l.dst)
     × (l.start ≤ l.at)
     × (l.at ≤ length l.dst)
-    × (S.passed l.src + total_unit_count S.form (S.left l.src) ≡ S.passed l.fn.src + total_unit_count S.form (S.left l.fn.src))
+    × (S.passed l.own + total_unit_count S.form (S.left l.own) ≡ S.passed l.fn.src + total_unit_count S.form (S.left l.fn.src))
 
 abbrev pub decreases-loop-at : goal.decreases-loop-at
-decreases-loop-at g l = length (g.S.Source.left l.src)
+decreases-loop-at g l = length (g.S.Source.left l.own)
