@@ -2,14 +2,9 @@
 //! Standard, and prints a line for each scalar and each malformed sequence, or with `--text` the text in UTF-8.
 #![tactic(auto)]
 
-mod arguments;
-mod given_indexes;
-pub mod program;
-#[cfg(test)]
-mod tests;
-pub mod words;
-
-use arguments::{ArgumentsError, arguments, status_of};
+use legacy_command::arguments::{ArgumentsError, arguments, status_of};
+use legacy_command::program::run;
+use legacy_command::words::{codec_in, request};
 use std::alloc::Global;
 use std::fs;
 use std::io::{self, ErrorKind, Write};
@@ -27,8 +22,8 @@ fn contents(rt: &HostRuntime, path: &str) -> io::Result<Option<Vec<u8>>> {
 /// The contents of each FILE among the words, in their order.
 fn files(rt: &HostRuntime, alloc: Global, words: &[&str]) -> io::Result<Vec<Option<Vec<u8>>>> {
     let mut files = Vec::new(alloc);
-    let plain = words::request(words);
-    if words::codec_in(plain).is_some() {
+    let plain = request(words);
+    if codec_in(plain).is_some() {
         for (place, word) in plain.iter().enumerate() {
             if place > 0 && place % 2 == 0 {
                 files.push(contents(rt, word)?)?;
@@ -49,7 +44,7 @@ fn run_on(rt: &HostRuntime, alloc: Global, arguments: &[String]) -> io::Result<u
     for file in &files {
         texts.push(file.as_deref())?;
     }
-    Ok(program::run(
+    Ok(run(
         alloc,
         words.as_slice(),
         texts.as_slice(),

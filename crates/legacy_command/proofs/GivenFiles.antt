@@ -1,0 +1,29 @@
+-- Laws of the files that the program is given.
+use Rattle.std.proofs.Common.{◌≡◌, ℕ, drop, ◌≤◌, ◌<◌, List, [], ◌∷◌, length, arith, Option, Some, sym, ap, subst, if◌then◌else◌}
+use Rattle.std.specs.Borrow.{Bor}
+use Rattle.legacy_index_files.specs.declared.index_file.FileIndex.{FileIndex}
+use Rattle.legacy_index_files.specs.declared.owned_indexes.OwnedIndexes.{OwnedIndexes}
+use Rattle.legacy_command.specs.Words.{texts_of, first_index_named}
+use Rattle.legacy_index_files.specs.IndexTexts.{is_index, no_text, with_text}
+use Rattle.legacy_index_files.specs.OwnedIndexes.{HoldsTexts}
+use Rattle.legacy_command.specs.IndexTexts.{text_given, contents_of}
+
+-- no INDEX and FILE
+pub few_words : (tables : OwnedIndexes) (words : List (Bor (List ℕ))) (files : List (Option (Bor (List ℕ)))) → length words < 2
+    → HoldsTexts no_text tables → HoldsTexts (text_given (texts_of words) (contents_of files)) tables
+few_words tables [] files h k = k
+few_words tables (w ∷ []) files h k = k
+few_words tables (v ∷ w ∷ words) files h k = absurd (omega arith)
+
+-- one more INDEX and FILE in front
+pub one_more_file : (tables : OwnedIndexes) (words : List (Bor (List ℕ))) (name : FileIndex) (text : Bor (List ℕ)) (later files : List (Option (Bor (List ℕ)))) →
+    2 ≤ length words → first_index_named (texts_of words) ≡ Some name → files ≡ Some text ∷ later →
+    HoldsTexts (with_text (text_given (texts_of (drop 2 words)) (contents_of later)) name text.now) tables → HoldsTexts (text_given (texts_of words) (contents_of files)) tables
+one_more_file tables [] name text later files h n f k = absurd (omega arith)
+one_more_file tables (w ∷ []) name text later files h n f k = absurd (omega arith)
+one_more_file tables (v ∷ w ∷ words) name text later files h n f k =
+    let rest = text_given (texts_of words) (contents_of later) in
+    let same : (other : FileIndex) → with_text rest name text.now other ≡ text_given (texts_of (v ∷ w ∷ words)) (Some text.now ∷ contents_of later) other =
+    λ other. ap (λ (o : Option FileIndex). if is_index o other then text.now else rest other) (sym n) in
+    let P : (FileIndex → List ℕ) → Type 0 = λ texts. HoldsTexts texts tables in
+    rw f (subst P (λ i. λ other. same other i) k)

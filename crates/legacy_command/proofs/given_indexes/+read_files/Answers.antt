@@ -1,0 +1,20 @@
+use Rattle.std.proofs.Common.{rules, sym, ap, ◌∙◌, ◌∷◌}
+use Rattle.legacy_command.proofs.CommandLine.{later_words, later_indexes}
+use Rattle.legacy_command.proofs.GivenFiles.{few_words, one_more_file}
+use Rattle.legacy_command.proofs.given_indexes.+read_files.Goals as goal
+
+pub read_files-requires : goal.read_files-requires
+read_files-requires t c = (search rules, rw (later_words c.args.words.now c.in-len2-up.len_at_least) (later_indexes c.args.words.now c.in-len2-up.len_at_least c.requires))
+
+pub returns-in_default-clause-texts : goal.returns-in_default-clause-texts
+returns-in_default-clause-texts t c = few_words _ _ c.args.files.now c.in_default.len_below c.new.ensures.empty
+
+pub returns-clause-texts : goal.returns-clause-texts
+returns-clause-texts t c =
+    let words = c.args.words.now in
+    let two = c.in-len2-up.len_at_least in
+    let read = c.in-Some-Some-default in
+    let later = rw (later_words words two) at c.in_ok-indexes.ensures.texts in
+    one_more_file _ words c.in-Some.name read.text read.later_files.now c.args.files.now two (sym c.first_index.ensures ∙ c.in-Some.is)
+    (read.ensures.cases.0 ∙ ap (λ f. f ∷ read.later_files.now) read.field-0-0-is)
+    (c.set.ensures.texts _ read.text.now later c.in-Ok.ensures.table)

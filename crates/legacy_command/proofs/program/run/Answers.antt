@@ -1,0 +1,10 @@
+use Rattle.std.proofs.Common.{sym, ◌∙◌}
+use Rattle.legacy_command.proofs.CommandLine.{words_behind_codec}
+use Rattle.legacy_command.proofs.program.run.Goals as goal
+
+pub returns-in-Ok-clause-recoded : goal.returns-in-Ok-clause-recoded
+returns-in-Ok-clause-recoded g c e = record {
+  codec = c.in-Some.codec;
+  named = rw c.request-plain.ensures at (sym c.codec_in.ensures ∙ c.in-Some.is);
+  recodes = rw (words_behind_codec c.request-plain.result.now, c.request-plain.ensures, c.output_asked-kind.ensures) at c.in-Ok.ensures;
+}

@@ -1,0 +1,18 @@
+-- The texts of the index files that the program's words name.
+use Rattle.std.specs.Prelude.{ℕ, List, [], ◌∷◌, map, Option, Some, if◌then◌else◌}
+use Rattle.std.specs.Option.{option_map}
+use Rattle.std.specs.Borrow.{Bor}
+use Rattle.legacy_index_files.specs.declared.index_file.FileIndex.{FileIndex}
+use Rattle.legacy_index_files.specs.IndexTexts.{is_index}
+use Rattle.legacy_command.specs.Words.{index_named}
+
+-- the contents of each file, or none where it cannot be read
+abbrev pub contents_of : List (Option (Bor (List ℕ))) → List (Option (List ℕ))
+contents_of files = map (option_map (λ file. file.now)) files
+
+-- The text of each index, where the words are INDEX and FILE any number of times and the files are those: that of its
+-- file, and empty where none is given.
+abbrev pub text_given : List (List ℕ) → List (Option (List ℕ)) → FileIndex → List ℕ
+text_given (index ∷ file ∷ words) (Some text ∷ files) name =
+    if is_index (index_named index) name then text else text_given words files name
+text_given _ _ name = []

@@ -1,4 +1,0 @@
--- What the program writes.
-pub mod Words
-pub mod IndexTexts
-pub mod Program
