@@ -1,6 +1,16 @@
 //! The encodings against rows of the Standard.
 use legacy_index_files::{CodecName, ENCODINGS, Encoding, FileIndex};
 
+/// The codec of the encoding with this name.
+fn codec_of(name: &str) -> Option<CodecName> {
+    Some(Encoding::by_name(name)?.codec())
+}
+
+/// The name of the file that the encoding with this name has for this index.
+fn file_name_of(name: &str, index: FileIndex) -> Option<Option<&'static str>> {
+    Some(Encoding::by_name(name)?.file_name(index))
+}
+
 #[test]
 fn encodings_are_known_by_their_names(rt: HostRuntime) {
     let rows: [(&str, Option<CodecName>); 16] = [
@@ -22,8 +32,7 @@ fn encodings_are_known_by_their_names(rt: HostRuntime) {
         ("gbk", None),
     ];
     for (name, codec) in rows {
-        let found = Encoding::by_name(name).map(|encoding| encoding.codec());
-        assert_eq!(rt; found, codec, "{name}");
+        assert_eq!(rt; codec_of(name), codec, "{name}");
     }
 }
 
@@ -47,8 +56,7 @@ fn index_files_have_their_published_names(rt: HostRuntime) {
         ("Big5", FileIndex::Big5, Some("index-big5.txt")),
     ];
     for (name, index, file) in rows {
-        let found = Encoding::by_name(name).map(|encoding| encoding.file_name(index));
-        assert_eq!(rt; found, Some(file), "{name}");
+        assert_eq!(rt; file_name_of(name, index), Some(file), "{name}");
     }
     assert_eq!(rt; single_byte_count(), 28);
 }

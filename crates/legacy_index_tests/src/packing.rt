@@ -1,5 +1,6 @@
-use legacy_index_files::{FileIndex, OwnedIndexes, PackedIndexes, pack};
-use legacy_tables::{IndexName, Indexes, KeptTables, Packed, Tables};
+use legacy_index_files::{FileIndex, OwnedIndexes, OwnedPacked, PackedIndexes, pack};
+use legacy_tables::{IndexName, Indexes, KeptTables, Packed, TableError, Tables};
+use std::alloc::Global;
 use std::process::Abort;
 use std::test::Fail;
 
@@ -16,11 +17,27 @@ fn no_entries<'a>() -> Indexes<'a> {
     }
 }
 
+// The next three functions have no clauses: those of the calls in them would be looked through in each statement that
+// follows one.
+
+/// What is packed of indexes.
+fn packed_of(rt: &impl Abort, alloc: Global, indexes: &Indexes) -> OwnedPacked {
+    pack(alloc, indexes).expect(rt, "no memory")
+}
+
+/// The first fault of indexes with what is packed of them.
+fn fault_with<'a>(indexes: &Indexes<'a>, packed: &Packed<'a>) -> Option<TableError> {
+    Tables::packed_of(indexes, packed).err()
+}
+
+/// The first fault of indexes.
+fn fault_of<'a>(indexes: &Indexes<'a>) -> Option<TableError> {
+    Tables::new(indexes).err()
+}
+
 /// Asserts that packed indexes have no fault of their own beside indexes.
 fn has_no_own_fault<'a>(rt: &impl Abort, indexes: &Indexes<'a>, packed: &Packed<'a>) {
-    let came = Tables::packed_of(indexes, packed).err();
-    let wanted = Tables::new(indexes).err();
-    assert!(rt; came == wanted, "came {came:?}, wanted {wanted:?}");
+    assert_eq!(rt; fault_with(indexes, packed), fault_of(indexes));
 }
 
 /// Entries of index EUC-KR, their runs, and the pointers by scalar values.
@@ -61,7 +78,7 @@ fn runs_and_orders_of_an_index(rt: HostRuntime) {
     for (entries, runs, order) in ROWS {
         let mut indexes = no_entries();
         indexes.euc_kr = entries;
-        let made = pack(rt.alloc(), &indexes).expect(&rt, "no memory");
+        let made = packed_of(&rt, rt.alloc(), &indexes);
         has_no_own_fault(&rt, &indexes, &made.packed());
         assert!(rt; made.euc_kr.len() == runs.len(), "came {:?}", made.euc_kr);
         for (run, wanted) in made.euc_kr.iter().zip(*runs) {
@@ -100,7 +117,7 @@ fn two_orders_of_jis0208(rt: HostRuntime) {
         }
         let mut indexes = no_entries();
         indexes.jis0208 = &entries;
-        let made = pack(rt.alloc(), &indexes).expect(&rt, "no memory");
+        let made = packed_of(&rt, rt.alloc(), &indexes);
         has_no_own_fault(&rt, &indexes, &made.packed());
         assert!(rt; made.jis0208.len() == places.len());
         assert!(rt;
@@ -145,7 +162,7 @@ fn an_order_of_big5(rt: HostRuntime) {
         }
         let mut indexes = no_entries();
         indexes.big5 = &entries;
-        let made = pack(rt.alloc(), &indexes).expect(&rt, "no memory");
+        let made = packed_of(&rt, rt.alloc(), &indexes);
         has_no_own_fault(&rt, &indexes, &made.packed());
         assert!(rt;
             made.big5_order.as_slice() == *order,
@@ -169,7 +186,7 @@ fn indexes_that_are_refused_are_packed_too(rt: HostRuntime) {
     for entries in REFUSED {
         let mut indexes = no_entries();
         indexes.big5 = entries;
-        let made = pack(rt.alloc(), &indexes).expect(&rt, "no memory");
+        let made = packed_of(&rt, rt.alloc(), &indexes);
         has_no_own_fault(&rt, &indexes, &made.packed());
     }
 }
