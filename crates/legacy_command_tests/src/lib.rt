@@ -3,4 +3,8 @@
 #![tactic(auto)]
 
 #[cfg(test)]
-mod tests;
+mod program;
+#[cfg(test)]
+mod recoding;
+#[cfg(test)]
+mod streams;

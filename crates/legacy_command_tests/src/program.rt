@@ -1,0 +1,468 @@
+//! The program: its statuses and texts, and what it says where a stream or memory fails, or a word is no text.
+use crate::streams::{BYTES, FailingReader, FailingWriter, TEXT};
+use legacy_command::arguments::{ArgumentsError, arguments, status_of};
+use legacy_command::program::{Fault, run};
+use std::alloc::Global;
+use std::env::{Env, FillError};
+use std::fmt::Display;
+use std::io::{Read, Write};
+use std::process::Abort;
+use std::test::Fail;
+
+const USAGE: &[u8] = b"usage: legacy_recode [--text] CODEC [INDEX FILE]...\n";
+
+/// The program's answer.
+fn ran(
+    alloc: Global,
+    words: &[&str],
+    files: &[Option<&[u8]>],
+    input: &mut impl Read,
+    output: &mut impl Write,
+    errors: &mut impl Write,
+) -> u8 {
+    run(alloc, words, files, input, output, errors)
+}
+
+/// The words of a line, of none where it is empty.
+fn words_in(alloc: Global, line: &str) -> Option<Vec<&str>> {
+    let mut words = Vec::new(alloc);
+    if line.is_empty() {
+        return Some(words);
+    }
+    for word in line.split(' ') {
+        let Ok(()) = words.push(word) else {
+            return None;
+        };
+    }
+    Some(words)
+}
+
+/// Whether the program answers this status to the words, the files and the input, and prints these lines and errors.
+fn prints(
+    alloc: Global,
+    line: &str,
+    files: &[Option<&[u8]>],
+    mut input: &[u8],
+    status: u8,
+    lines: &[u8],
+    error: &[u8],
+) -> bool {
+    let Some(words) = words_in(alloc, line) else {
+        return false;
+    };
+    let words = words.as_slice();
+    let mut output = Vec::new(alloc);
+    let mut errors = Vec::new(alloc);
+    let found = ran(alloc, words, files, &mut input, &mut output, &mut errors);
+    found == status && output.as_slice() == lines && errors.as_slice() == error
+}
+
+/// Asserts what was found of these words.
+fn holds(rt: &impl Abort, line: &str, is_so: bool) {
+    assert!(rt; is_so, "{line}");
+}
+
+// More than are told at once, from a place of one digit to places of four.
+#[test]
+fn tells_each_malformed_byte(rt: HostRuntime) -> Result<(), Fail> {
+    let bytes = [0xFF; 1200];
+    let mut lines = Vec::new(rt.alloc());
+    for place in 0..1200 {
+        writeln!(lines, "bad {place} 1")?;
+    }
+    let is_so = prints(rt.alloc(), "big5", &[], &bytes, 0, lines.as_slice(), b"");
+    holds(&rt, "big5", is_so);
+    Ok(())
+}
+
+/// Words, files, an input, and the lines or the text of it.
+type Request = (
+    &'static str,
+    &'static [Option<&'static [u8]>],
+    &'static [u8],
+    &'static [u8],
+);
+
+const REQUESTS: &[Request] = &[
+    // without files
+    ("x-user-defined", &[], BYTES, b"U+0061\nU+F780\nU+F7FF\n"),
+    ("replacement", &[], b"AB", b"bad 0 1\n"),
+    ("replacement", &[], b"", b""),
+    (
+        "shift_jis",
+        &[],
+        b"\x80\xA1\xDF\xA0\xF0\x40",
+        b"U+0080\nU+FF61\nU+FF9F\nbad 3 1\nU+E000\n",
+    ),
+    (
+        "euc-jp",
+        &[],
+        b"\x8F\xA2\x41\x8F",
+        b"bad 0 2\nU+0041\nbad 3 1\n",
+    ),
+    (
+        "utf-16le",
+        &[],
+        b"\x41\x00\x3D\xD8\x42",
+        b"U+0041\nbad 2 3\n",
+    ),
+    (
+        "utf-16be",
+        &[],
+        b"\x00\x0A\xD7\xFF\xD8\x00\xDC\x00\xD8\x3D\xDC\xA9\xDB\xBF\xDF\xFF\xDB\xFF\xDF\xFF",
+        b"U+000A\nU+D7FF\nU+10000\nU+1F4A9\nU+FFFFF\nU+10FFFF\n",
+    ),
+    (
+        "euc-kr",
+        &[],
+        b"aaaaaaaaa\x80a\x80\x81",
+        b"U+0061\nU+0061\nU+0061\nU+0061\nU+0061\nU+0061\nU+0061\nU+0061\nU+0061\nbad 9 1\nU+0061\nbad 11 1\nbad 12 1\n",
+    ),
+    // with files
+    (
+        "euc-kr euc-kr FILE",
+        &[Some(b"0 0xAC02\n")],
+        b"\x81\x41\x81\x5B",
+        b"U+AC02\nbad 2 1\nU+005B\n",
+    ),
+    (
+        "big5 big5 FILE",
+        &[Some(b"19780 0x2910D\n")],
+        b"\xFE\xFD\x88\x62",
+        b"U+2910D\nU+00CA\nU+0304\n",
+    ),
+    (
+        "iso-2022-jp jis0208 FILE",
+        &[Some(b"4861 0x58FA\n")],
+        b"\x1B\x24\x42\x54\x64\x1B\x28\x42A",
+        b"U+58FA\nU+0041\n",
+    ),
+    (
+        "gb18030 ranges FILE",
+        &[Some(b"0 0x0080\n36 0x00A5\n189000 0x10000\n")],
+        b"\x81\x30\x81\x30\x94\x39\xDA\x33",
+        b"U+0080\nU+1F4A9\n",
+    ),
+    (
+        "gbk ranges FILE",
+        &[Some(b"0 0x0080\n36 0x00A5\n189000 0x10000\n")],
+        b"\x81\x30\x81\x30\x94\x39\xDA\x33",
+        b"U+0080\nU+1F4A9\n",
+    ),
+    (
+        "single-byte single-byte FILE euc-kr FILE",
+        &[Some(b"65 0x0391\n116 0x03C4\n"), Some(b"0 0xAC02\n")],
+        b"\xC1\xF4\x80",
+        b"U+0391\nU+03C4\nbad 2 1\n",
+    ),
+    // to text
+    (
+        "--text gb18030",
+        &[],
+        b"\xE3\x32\x9A\x00",
+        b"\xEF\xBF\xBD\x32\xEF\xBF\xBD\x00",
+    ),
+    ("--text x-user-defined", &[], BYTES, TEXT),
+    ("--text x-user-defined", &[], b"", b""),
+    ("--text replacement", &[], b"AB", b"\xEF\xBF\xBD"),
+    (
+        "--text euc-kr euc-kr FILE",
+        &[Some(b"0 0xAC02\n")],
+        b"\x81\x41\x81\x5B",
+        b"\xEA\xB0\x82\xEF\xBF\xBD\x5B",
+    ),
+];
+
+#[test]
+fn recodes_as_the_words_ask(rt: HostRuntime) {
+    for (line, files, input, lines) in REQUESTS {
+        holds(
+            &rt,
+            *line,
+            prints(rt.alloc(), *line, *files, *input, 0, *lines, b""),
+        );
+    }
+}
+
+/// Words that are refused, or whose files are; the files; the status and the error.
+type Refused = (
+    &'static str,
+    &'static [Option<&'static [u8]>],
+    u8,
+    &'static [u8],
+);
+
+const TWO_FILES: &str = "euc-kr euc-kr KR single-byte SB";
+
+const REFUSED: &[Refused] = &[
+    // What is wrong with the files is told.
+    (TWO_FILES, &[None, None], 1, b"KR: cannot be read\n"),
+    (TWO_FILES, &[Some(b""), None], 1, b"SB: cannot be read\n"),
+    (TWO_FILES, &[Some(b"# x\n1\n"), None], 1, b"KR: line 2\n"),
+    (
+        TWO_FILES,
+        &[None, Some(b"# x\n1\n")],
+        1,
+        b"KR: cannot be read\n",
+    ),
+    (
+        TWO_FILES,
+        &[Some(b"0 0xD800\n"), Some(b"3 0x007F\n")],
+        1,
+        b"tables: index euc-kr has a bad entry at 0\n",
+    ),
+    (
+        TWO_FILES,
+        &[Some(b""), Some(b"3 0x007F\n")],
+        1,
+        b"tables: single-byte entry 3 is bad\n",
+    ),
+    (TWO_FILES, &[], 1, b"KR: cannot be read\n"),
+    (
+        "gb18030 ranges R",
+        &[Some(b"0 0x0080\n0 0x0100\n")],
+        1,
+        b"tables: ranges are out of order at 1\n",
+    ),
+    // Words that are no request are refused.
+    ("", &[], 2, USAGE),
+    ("--text", &[], 2, USAGE),
+    ("--text latin", &[], 2, USAGE),
+    ("--text --text big5", &[], 2, USAGE),
+    ("big5 --text", &[], 2, USAGE),
+    ("big5 --text FILE", &[], 2, USAGE),
+    ("latin", &[], 2, USAGE),
+    ("Big5", &[], 2, USAGE),
+    ("big5 big5", &[], 2, USAGE),
+    ("big5 latin FILE", &[], 2, USAGE),
+    ("big5 katakana FILE", &[], 2, USAGE),
+    ("big5 big5 FILE ranges", &[], 2, USAGE),
+    ("big5 big5 FILE big5 FILE", &[], 2, USAGE),
+    ("big5 big5 FILE ranges FILE big5 FILE", &[], 2, USAGE),
+];
+
+#[test]
+fn refuses_words_and_files(rt: HostRuntime) {
+    for (line, files, status, error) in REFUSED {
+        holds(
+            &rt,
+            *line,
+            prints(rt.alloc(), *line, *files, b"A", *status, b"", *error),
+        );
+    }
+}
+
+/// Has these words, the first of which is the program's name, and no environment.
+#[derive(Drop)]
+struct Words<'a> {
+    words: &'a [&'a [u8]],
+}
+
+impl Env for Words<'_> {
+    fn arg(&self, i: usize, buf: &mut [u8]) -> Result<usize, FillError> {
+        if i >= self.words.len() {
+            return Err(FillError::NotPresent);
+        }
+        let word = self.words[i];
+        if word.len() > buf.len() {
+            return Err(FillError::TooLong);
+        }
+        buf[..word.len()].copy_from_slice(word);
+        Ok(word.len())
+    }
+
+    fn var(&self, _name: &str, _buf: &mut [u8]) -> Result<usize, FillError> {
+        Err(FillError::NotPresent)
+    }
+
+    fn var_at(&self, _i: usize, _buf: &mut [u8]) -> Result<usize, FillError> {
+        Err(FillError::NotPresent)
+    }
+}
+
+/// The words behind the first one.
+fn taken(alloc: Global, words: &[&[u8]]) -> Result<Vec<String>, ArgumentsError> {
+    arguments(&(Words { words }, alloc))
+}
+
+// In a run where one allocation is refused, the call that it hits tells so.
+#[test]
+fn takes_words_that_are_text(rt: HostRuntime) {
+    let named: [&[u8]; 3] = [b"legacy_recode", b"big5", b"\xEA\xB0\x82"];
+    assert!(rt;
+        match taken(rt.alloc(), &named) {
+            Ok(words) => {
+                words.len() == 2 && words[0].as_str() == "big5" && words[1].as_str() == "\u{AC02}"
+            }
+            Err(error) => error == ArgumentsError::Memory,
+        }
+    );
+}
+
+// Likewise.
+#[test]
+fn refuses_words_that_are_no_text(rt: HostRuntime) {
+    let no_text: [&[u8]; 2] = [b"legacy_recode", b"\xFF"];
+    assert!(rt;
+        match taken(rt.alloc(), &no_text) {
+            Ok(_) => false,
+            Err(error) => error == ArgumentsError::NotText || error == ArgumentsError::Memory,
+        }
+    );
+    assert_eq!(rt; status_of(&ArgumentsError::NotText), 2);
+    assert_eq!(rt; status_of(&ArgumentsError::Unread), 1);
+    assert_eq!(rt; status_of(&ArgumentsError::Memory), 1);
+}
+
+/// Whether the fault prints this text.
+fn says(alloc: Global, fault: &impl Display, text: &str) -> bool {
+    match format!(in alloc; "{fault}") {
+        Ok(found) => found.as_str() == text,
+        Err(_) => false,
+    }
+}
+
+#[test]
+fn the_faults_print_their_texts(rt: HostRuntime) {
+    assert!(rt; says(rt.alloc(), &Fault::Memory, "memory"));
+    assert!(rt; says(rt.alloc(), &Fault::Line("KR", 3), "KR: line 3"));
+    let refused = "arguments: not UTF-8";
+    assert!(rt; says(rt.alloc(), &ArgumentsError::NotText, refused));
+    let unread = "arguments: cannot be read";
+    assert!(rt; says(rt.alloc(), &ArgumentsError::Unread, unread));
+    assert!(rt; says(rt.alloc(), &ArgumentsError::Memory, "memory"));
+}
+
+/// Words; reads; writes, and whether there is a flush; writes of errors; the status, the lines and the error.
+type Failure = (
+    &'static str,
+    usize,
+    (usize, bool),
+    usize,
+    u8,
+    &'static [u8],
+    &'static [u8],
+);
+
+const FAILURES: &[Failure] = &[
+    (
+        "x-user-defined",
+        2,
+        (2, true),
+        99,
+        1,
+        b"U+0061\nU+F780\n",
+        b"input: cannot be read\n",
+    ),
+    (
+        "x-user-defined",
+        4,
+        (0, true),
+        99,
+        1,
+        b"",
+        b"output: cannot be written\n",
+    ),
+    (
+        "x-user-defined",
+        4,
+        (9, false),
+        99,
+        1,
+        b"U+0061\nU+F780\nU+F7FF\n",
+        b"output: cannot be written\n",
+    ),
+    (
+        "x-user-defined",
+        0,
+        (6, false),
+        99,
+        1,
+        b"",
+        b"input: cannot be read\n",
+    ),
+    // A failed line of error changes no status.
+    ("latin", 4, (9, true), 0, 2, b"", b""),
+    ("big5 big5 FILE", 4, (9, true), 0, 1, b"", b""),
+];
+
+/// Whether the program answers this status to the words, reading a byte at a read of so many, writing up to seven bytes
+/// at a write of so many, and prints these lines and errors.
+fn fails(
+    alloc: Global,
+    line: &str,
+    reads: usize,
+    (writes, flushes): (usize, bool),
+    error_writes: usize,
+    status: u8,
+    lines: &[u8],
+    error: &[u8],
+) -> bool {
+    let Some(words) = words_in(alloc, line) else {
+        return false;
+    };
+    let words = words.as_slice();
+    let mut input = FailingReader {
+        bytes: BYTES,
+        most: 1,
+        reads,
+    };
+    let mut output = FailingWriter {
+        written: Vec::new(alloc),
+        most: 7,
+        writes,
+        flushes,
+    };
+    let mut errors = FailingWriter {
+        written: Vec::new(alloc),
+        most: 7,
+        writes: error_writes,
+        flushes: true,
+    };
+    let found = ran(alloc, words, &[], &mut input, &mut output, &mut errors);
+    found == status && output.written.as_slice() == lines && errors.written.as_slice() == error
+}
+
+#[test]
+fn tells_that_a_stream_fails(rt: HostRuntime) {
+    for (line, reads, output, errors, status, lines, error) in FAILURES {
+        holds(
+            &rt,
+            *line,
+            fails(
+                rt.alloc(),
+                *line,
+                *reads,
+                *output,
+                *errors,
+                *status,
+                *lines,
+                *error,
+            ),
+        );
+    }
+}
+
+/// The program's answer to EUC-KR with a file, and what it prints in seven bytes for lines and seven for an error.
+fn ran_without_memory(alloc: Global) -> (u8, [u8; 7], [u8; 7]) {
+    let (mut lines, mut line) = ([0u8; 7], [0u8; 7]);
+    let mut output: &mut [u8] = &mut lines;
+    let mut errors: &mut [u8] = &mut line;
+    let mut input: &[u8] = b"\x81\x41";
+    let words = ["euc-kr", "euc-kr", "FILE"];
+    let file: &[u8] = b"0 0xAC02\n";
+    let files = [Some(file)];
+    let status = ran(alloc, &words, &files, &mut input, &mut output, &mut errors);
+    (status, lines, line)
+}
+
+// In a run where one allocation is refused, a call that it hits tells so, and else it prints its lines.
+#[test]
+fn tells_that_memory_is_refused(rt: HostRuntime) {
+    let (status, lines, line) = ran_without_memory(rt.alloc());
+    if status == 0 {
+        assert!(rt; lines.as_slice() == b"U+AC02\n".as_slice());
+    } else {
+        assert!(rt; status == 1 && line.as_slice() == b"memory\n".as_slice());
+    }
+}

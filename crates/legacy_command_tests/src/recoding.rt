@@ -1,0 +1,359 @@
+//! Recoding: what stands where a read or a write fails, and what the next piece of an input takes on.
+use crate::streams::{BYTES, FailingReader, FailingWriter, TEXT};
+use legacy_codecs::{
+    EucKrDecoder, GB18030_2022_PUA, Indexes, RawDecoder, Tables, UserDefinedDecoder, Utf16Decoder,
+};
+use legacy_streams::recode::{RecodeError, recode};
+use legacy_streams::text::recode_text;
+use std::alloc::Global;
+
+/// What recoding answers: to lines as to text without a malformed sequence.
+type Recoded = Result<bool, RecodeError>;
+
+/// Recodes to text, or to lines.
+fn recodes(
+    is_text: bool,
+    decoder: &mut impl RawDecoder,
+    input: &mut FailingReader,
+    output: &mut FailingWriter,
+) -> Recoded {
+    if is_text {
+        return recode_text(decoder, input, output);
+    }
+    match recode(decoder, input, output) {
+        Ok(()) => Ok(false),
+        Err(error) => Err(error),
+    }
+}
+
+/// Whether recoding answers this, and these bytes stand then in a writer of so many writes of so many bytes.
+fn gives(
+    alloc: Global,
+    is_text: bool,
+    decoder: &mut impl RawDecoder,
+    input: &mut FailingReader,
+    (most, writes): (usize, usize),
+    answer: &Recoded,
+    bytes: &[u8],
+) -> bool {
+    let mut output = FailingWriter {
+        written: Vec::new(alloc),
+        most,
+        writes,
+        flushes: true,
+    };
+    let found = recodes(is_text, decoder, input, &mut output);
+    found == *answer && output.written.as_slice() == bytes
+}
+
+/// Whether recoding the bytes from x-user-defined, read and written by so many bytes so many times, answers this, and
+/// these bytes stand then.
+fn user_defined_gives(
+    alloc: Global,
+    is_text: bool,
+    bytes: &[u8],
+    (most, reads): (usize, usize),
+    written: (usize, usize),
+    answer: &Recoded,
+    wanted: &[u8],
+) -> bool {
+    let mut input = FailingReader { bytes, most, reads };
+    let mut decoder = UserDefinedDecoder::new();
+    gives(
+        alloc,
+        is_text,
+        &mut decoder,
+        &mut input,
+        written,
+        answer,
+        wanted,
+    )
+}
+
+/// Bytes at a read, and reads; bytes at a write, and writes; the answer; and what stands then.
+type Recoding = (bool, (usize, usize), (usize, usize), Recoded, &'static [u8]);
+
+// A read of all three bytes makes one piece of them, and its lines, or its text, are written at once; a read of each
+// byte makes three pieces.
+const RECODINGS: &[Recoding] = &[
+    (
+        false,
+        (9, 9),
+        (99, 99),
+        Ok(false),
+        b"U+0061\nU+F780\nU+F7FF\n",
+    ),
+    // A failed read keeps the lines before it.
+    (false, (1, 0), (99, 99), Err(RecodeError::Read), b""),
+    (false, (1, 1), (99, 99), Err(RecodeError::Read), b"U+0061\n"),
+    (
+        false,
+        (1, 2),
+        (99, 99),
+        Err(RecodeError::Read),
+        b"U+0061\nU+F780\n",
+    ),
+    (
+        false,
+        (1, 3),
+        (99, 99),
+        Err(RecodeError::Read),
+        b"U+0061\nU+F780\nU+F7FF\n",
+    ),
+    (
+        false,
+        (1, 4),
+        (99, 99),
+        Ok(false),
+        b"U+0061\nU+F780\nU+F7FF\n",
+    ),
+    // A failed write keeps the bytes before it: of a line after another, and of all three.
+    (false, (1, 4), (7, 0), Err(RecodeError::Write), b""),
+    (false, (1, 4), (7, 1), Err(RecodeError::Write), b"U+0061\n"),
+    (
+        false,
+        (1, 4),
+        (7, 2),
+        Err(RecodeError::Write),
+        b"U+0061\nU+F780\n",
+    ),
+    (
+        false,
+        (1, 4),
+        (7, 3),
+        Ok(false),
+        b"U+0061\nU+F780\nU+F7FF\n",
+    ),
+    (false, (1, 4), (4, 1), Err(RecodeError::Write), b"U+00"),
+    (false, (1, 4), (4, 2), Err(RecodeError::Write), b"U+0061\n"),
+    (
+        false,
+        (1, 4),
+        (4, 3),
+        Err(RecodeError::Write),
+        b"U+0061\nU+F7",
+    ),
+    (
+        false,
+        (1, 4),
+        (4, 4),
+        Err(RecodeError::Write),
+        b"U+0061\nU+F780\n",
+    ),
+    (
+        false,
+        (1, 4),
+        (4, 5),
+        Err(RecodeError::Write),
+        b"U+0061\nU+F780\nU+F7",
+    ),
+    (
+        false,
+        (1, 4),
+        (4, 6),
+        Ok(false),
+        b"U+0061\nU+F780\nU+F7FF\n",
+    ),
+    (false, (1, 4), (0, 9), Err(RecodeError::Write), b""),
+    (
+        false,
+        (9, 9),
+        (10, 1),
+        Err(RecodeError::Write),
+        b"U+0061\nU+F",
+    ),
+    (
+        false,
+        (9, 9),
+        (10, 2),
+        Err(RecodeError::Write),
+        b"U+0061\nU+F780\nU+F7FF",
+    ),
+    (
+        false,
+        (9, 9),
+        (10, 3),
+        Ok(false),
+        b"U+0061\nU+F780\nU+F7FF\n",
+    ),
+    (
+        false,
+        (9, 9),
+        (21, 1),
+        Ok(false),
+        b"U+0061\nU+F780\nU+F7FF\n",
+    ),
+    // A failed read keeps the text before it.
+    (true, (1, 0), (99, 99), Err(RecodeError::Read), b""),
+    (true, (1, 1), (99, 99), Err(RecodeError::Read), b"\x61"),
+    (
+        true,
+        (1, 2),
+        (99, 99),
+        Err(RecodeError::Read),
+        b"\x61\xEF\x9E\x80",
+    ),
+    (true, (1, 3), (99, 99), Err(RecodeError::Read), TEXT),
+    (true, (1, 4), (99, 99), Ok(false), TEXT),
+    // A failed write keeps the text before it: of a scalar after another, and of all three.
+    (true, (1, 4), (3, 0), Err(RecodeError::Write), b""),
+    (true, (1, 4), (3, 1), Err(RecodeError::Write), b"\x61"),
+    (
+        true,
+        (1, 4),
+        (3, 2),
+        Err(RecodeError::Write),
+        b"\x61\xEF\x9E\x80",
+    ),
+    (true, (1, 4), (3, 3), Ok(false), TEXT),
+    (
+        true,
+        (1, 4),
+        (2, 2),
+        Err(RecodeError::Write),
+        b"\x61\xEF\x9E",
+    ),
+    (
+        true,
+        (1, 4),
+        (2, 3),
+        Err(RecodeError::Write),
+        b"\x61\xEF\x9E\x80",
+    ),
+    (
+        true,
+        (1, 4),
+        (2, 4),
+        Err(RecodeError::Write),
+        b"\x61\xEF\x9E\x80\xEF\x9F",
+    ),
+    (true, (1, 4), (2, 5), Ok(false), TEXT),
+    (true, (9, 9), (7, 0), Err(RecodeError::Write), b""),
+    (true, (9, 9), (7, 1), Ok(false), TEXT),
+    (
+        true,
+        (9, 9),
+        (4, 1),
+        Err(RecodeError::Write),
+        b"\x61\xEF\x9E\x80",
+    ),
+    (true, (9, 9), (4, 2), Ok(false), TEXT),
+    (true, (9, 9), (0, 9), Err(RecodeError::Write), b""),
+];
+
+#[test]
+fn a_failed_stream_keeps_what_stands_before_it(rt: HostRuntime) {
+    for (is_text, read, written, answer, bytes) in RECODINGS {
+        assert!(rt;
+            user_defined_gives(rt.alloc(), *is_text, BYTES, *read, *written, answer, *bytes),
+            "{read:?} {written:?}"
+        );
+    }
+    let read = Err(RecodeError::Read);
+    assert!(rt;
+        user_defined_gives(
+            rt.alloc(),
+            false,
+            b"\x80",
+            (1, 1),
+            (99, 99),
+            &read,
+            b"U+F780\n"
+        )
+    );
+}
+
+/// These bytes, so many times.
+fn repeated(alloc: Global, bytes: &[u8], times: usize) -> Option<Vec<u8>> {
+    let mut all = Vec::new(alloc);
+    for _ in 0..times {
+        let Ok(()) = all.extend_from_slice(bytes) else {
+            return None;
+        };
+    }
+    Some(all)
+}
+
+#[test]
+fn recodes_more_than_a_piece(rt: HostRuntime) {
+    let bytes = [b'A'; 5000];
+    let Some(lines) = repeated(rt.alloc(), b"U+0041\n", 5000) else {
+        assert!(rt; false);
+        return;
+    };
+    let (read, written) = ((5000, 9), (usize::MAX, usize::MAX));
+    let lines = lines.as_slice();
+    assert!(rt; user_defined_gives(rt.alloc(), false, &bytes, read, written, &Ok(false), lines));
+    assert!(rt; user_defined_gives(rt.alloc(), true, &bytes, read, written, &Ok(false), &bytes));
+}
+
+// The malformed sequence begins in one piece, and no later piece has one.
+#[test]
+fn tells_of_a_replacement_in_any_piece(rt: HostRuntime) {
+    let mut input = FailingReader {
+        bytes: b"\x41\x00\x00\xD8\x42\x00",
+        most: 1,
+        reads: 7,
+    };
+    let mut decoder = Utf16Decoder::new(false);
+    let text = b"\x41\xEF\xBF\xBD\x42";
+    assert!(rt;
+        gives(
+            rt.alloc(),
+            true,
+            &mut decoder,
+            &mut input,
+            (99, 99),
+            &Ok(true),
+            text
+        )
+    );
+}
+
+/// Tables without an entry.
+fn empty_tables<'a>() -> Option<Tables<'a>> {
+    let indexes = Indexes {
+        big5: &[],
+        euc_kr: &[],
+        jis0208: &[],
+        jis0212: &[],
+        gb18030: &[],
+        katakana: &[],
+        ranges: &[],
+        gb18030_pua: &GB18030_2022_PUA,
+    };
+    Tables::new(&indexes).ok()
+}
+
+/// A decoder that holds a lead back.
+fn behind_a_lead<'a>(tables: &'a Tables<'a>) -> EucKrDecoder<'a> {
+    let mut decoder = EucKrDecoder::new(tables);
+    decoder.decode_to_utf8_raw(b"\x81", &mut [0; 4], false);
+    decoder
+}
+
+#[test]
+fn places_count_behind_what_was_held_back(rt: HostRuntime) {
+    let Some(tables) = empty_tables() else {
+        assert!(rt; false);
+        return;
+    };
+    let mut decoder = behind_a_lead(&tables);
+    let mut input = FailingReader {
+        bytes: b"\x20\x81",
+        most: 9,
+        reads: 9,
+    };
+    let lines = b"bad 0 1\nU+0020\nbad 1 1\n";
+    assert!(rt;
+        gives(
+            rt.alloc(),
+            false,
+            &mut decoder,
+            &mut input,
+            (99, 99),
+            &Ok(false),
+            lines
+        )
+    );
+}
