@@ -1,5 +1,5 @@
 //! The input and the outputs of a call.
-use crate::units::Hex;
+use crate::compared::is_answer;
 use legacy_base::{ByteSource, Destination, Utf8Destination, Utf16Destination};
 use std::process::Abort;
 
@@ -34,62 +34,86 @@ fn put_units(dst: &mut Utf16Destination, scalars: &[char]) {
     }
 }
 
-/// Puts the scalars into so many bytes that are AA, and compares how many are written, and all of them, with
-/// what is wanted.
-fn put_in_utf8<const N: usize>(rt: &impl Abort, scalars: &[char], written: usize, wanted: [u8; N]) {
-    let mut bytes = [0xAAu8; N];
-    let mut dst = Utf8Destination::new(&mut bytes);
+/// Scalars, how many bytes or code units are written of them, and all of these that were free, each of which was AA
+/// or AAAA.
+type Put<'a, U> = (&'a [char], usize, &'a [U]);
+
+/// Puts the scalars into as many bytes as are wanted, and compares how many were free and are written, and all of
+/// them, with what is wanted.
+fn put_in_utf8(rt: &impl Abort, at: usize, (scalars, written, wanted): &Put<u8>) {
+    let mut bytes = [0xAAu8; 12];
+    let mut dst = Utf8Destination::new(&mut bytes[..wanted.len().min(12)]);
     let free = dst.free();
     put_bytes(&mut dst, scalars);
-    assert!(rt; free == N && dst.written() == written);
-    assert!(rt;
-        bytes == wanted,
-        "came {}, wanted {}",
-        Hex(&bytes),
-        Hex(&wanted)
+    let counts = (free, dst.written());
+    is_put(rt, at, counts, (wanted.len(), *written));
+    is_answer(
+        rt,
+        ("UTF-8", at),
+        "the bytes",
+        &bytes[..wanted.len().min(12)],
+        *wanted,
     );
 }
 
-/// The same with code units that are AAAA.
-fn put_in_utf16<const N: usize>(
-    rt: &impl Abort,
-    scalars: &[char],
-    written: usize,
-    wanted: [u16; N],
-) {
-    let mut units = [0xAAAAu16; N];
-    let mut dst = Utf16Destination::new(&mut units);
+/// The same with code units.
+fn put_in_utf16(rt: &impl Abort, at: usize, (scalars, written, wanted): &Put<u16>) {
+    let mut units = [0xAAAAu16; 12];
+    let mut dst = Utf16Destination::new(&mut units[..wanted.len().min(12)]);
     let free = dst.free();
     put_units(&mut dst, scalars);
-    assert!(rt; free == N && dst.written() == written);
-    assert!(rt;
-        units == wanted,
-        "came {}, wanted {}",
-        Hex(&units),
-        Hex(&wanted)
+    let counts = (free, dst.written());
+    is_put(rt, at, counts, (wanted.len(), *written));
+    is_answer(
+        rt,
+        ("UTF-16", at),
+        "the units",
+        &units[..wanted.len().min(12)],
+        *wanted,
     );
 }
 
-#[test]
-fn utf_8_takes_one_to_four_bytes_for_a_scalar(rt: HostRuntime) {
-    let wanted = [
-        0x61, 0xC3, 0xA9, 0xEF, 0x9E, 0x80, 0xF0, 0x9F, 0x92, 0xA9, 0xAA, 0xAA,
-    ];
-    put_in_utf8(&rt, &['a', '\u{E9}', '\u{F780}', '\u{1F4A9}'], 10, wanted);
+/// Compares how many code units were free and how many are written with what is wanted.
+fn is_put(rt: &impl Abort, at: usize, came: (usize, usize), wanted: (usize, usize)) {
+    is_answer(rt, ("code units", at), "free and written", came, wanted);
 }
 
+const IN_UTF8: &[Put<u8>] = &[
+    (
+        &['a', '\u{E9}', '\u{F780}', '\u{1F4A9}'],
+        10,
+        &[
+            0x61, 0xC3, 0xA9, 0xEF, 0x9E, 0x80, 0xF0, 0x9F, 0x92, 0xA9, 0xAA, 0xAA,
+        ],
+    ),
+    // the last bytes are filled with short scalars
+    (&['a'], 1, &[0x61]),
+    (&['\u{E9}'], 2, &[0xC3, 0xA9]),
+    (
+        &['\u{80}', '\u{7F}', 'a', '\u{7FF}'],
+        6,
+        &[0xC2, 0x80, 0x7F, 0x61, 0xDF, 0xBF],
+    ),
+];
+
+const IN_UTF16: &[Put<u16>] = &[(
+    &['a', '\u{F780}', '\u{1F4A9}'],
+    4,
+    &[0x61, 0xF780, 0xD83D, 0xDCA9, 0xAAAA, 0xAAAA],
+)];
+
 #[test]
-fn utf_8_fills_its_last_bytes_with_short_scalars(rt: HostRuntime) {
-    put_in_utf8(&rt, &['a'], 1, [0x61]);
-    put_in_utf8(&rt, &['\u{E9}'], 2, [0xC3, 0xA9]);
-    let four = ['\u{80}', '\u{7F}', 'a', '\u{7FF}'];
-    put_in_utf8(&rt, &four, 6, [0xC2, 0x80, 0x7F, 0x61, 0xDF, 0xBF]);
+fn utf_8_takes_one_to_four_bytes_for_a_scalar_and_fills_its_last_bytes(rt: HostRuntime) {
+    for (at, put) in IN_UTF8.iter().enumerate() {
+        put_in_utf8(&rt, at, put);
+    }
 }
 
 #[test]
 fn utf_16_takes_one_or_two_units_for_a_scalar(rt: HostRuntime) {
-    let wanted = [0x61, 0xF780, 0xD83D, 0xDCA9, 0xAAAA, 0xAAAA];
-    put_in_utf16(&rt, &['a', '\u{F780}', '\u{1F4A9}'], 4, wanted);
+    for (at, put) in IN_UTF16.iter().enumerate() {
+        put_in_utf16(&rt, at, put);
+    }
 }
 
 #[test]

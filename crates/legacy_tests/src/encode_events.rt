@@ -3,7 +3,7 @@ use legacy_base::EncodeEvent;
 use legacy_base::EncodeEvent::{Byte, Unmappable};
 
 /// What is wanted of a part of a text.
-#[derive(Clone, Copy, Debug)]
+#[derive(Clone, Copy)]
 pub(crate) enum Wanted<'a> {
     /// These bytes.
     Bytes(&'a [u8]),

@@ -1,10 +1,10 @@
 //! Rows: calls, queries and runs of an encoder with what must come of each, and the function that follows them.
-use crate::compared::{Place, is_answer, is_call, is_run};
+use crate::compared::{Place, is_answer, is_refusal};
 use crate::cuts::{small_lengths, spaced, text_pieces, unit_pieces};
 use crate::encode_events::{Wanted, events_of};
+use crate::texts::Text;
 use legacy_base::{EncodeEvent, EncoderResult, RawEncoder};
-use legacy_codecs::{EncodeRun, RunError, encode_run_utf8, encode_run_utf16};
-use std::alloc::Global;
+use legacy_codecs::{EncodeRun, RunError};
 use std::process::Abort;
 
 /// A call, a query or a run of an encoder, and what must come of it.
@@ -43,45 +43,21 @@ pub(crate) trait TestedEncoder: RawEncoder + Drop {
 
     fn made(rt: &impl Abort, of: Self::Of) -> Self;
 
-    fn pending(&self) -> Option<bool> {
-        None
-    }
+    fn pending(&self) -> Option<bool>;
 }
 
-/// Makes a call from UTF-8, and compares what comes of it with what is wanted.
-fn encodes_text<E: RawEncoder>(
+/// Makes a call, and compares what comes of it with what is wanted.
+fn encodes<T: Text, E: RawEncoder>(
     rt: &impl Abort,
     place: Place,
     encoder: &mut E,
-    (text, room, last): (&str, usize, bool),
-    (answer, read, bytes): (EncoderResult, usize, &[u8]),
+    (text, room, last): (T, usize, bool),
+    wanted: (EncoderResult, usize, &[u8]),
 ) {
     let mut output = [0u8; 96];
-    let (result, seen, written) = encoder.encode_from_utf8_raw(
-        text,
-        &mut output[..room.min(96)],
-        last,
-    );
-    let came = (result, seen, &output[..written.min(96)], false);
-    is_call(rt, place, "UTF-8", came, (answer, read, bytes, false));
-}
-
-/// Makes a call from UTF-16, and compares what comes of it with what is wanted.
-fn encodes_units<E: RawEncoder>(
-    rt: &impl Abort,
-    place: Place,
-    encoder: &mut E,
-    (units, room, last): (&[u16], usize, bool),
-    (answer, read, bytes): (EncoderResult, usize, &[u8]),
-) {
-    let mut output = [0u8; 96];
-    let (result, seen, written) = encoder.encode_from_utf16_raw(
-        units,
-        &mut output[..room.min(96)],
-        last,
-    );
-    let came = (result, seen, &output[..written.min(96)], false);
-    is_call(rt, place, "UTF-16", came, (answer, read, bytes, false));
+    let (answer, read, written) = text.call(encoder, &mut output[..room.min(96)], last);
+    let came = (answer, read, &output[..written.min(96)]);
+    is_answer(rt, place, T::FORM, came, wanted);
 }
 
 /// What a run must give: the events, how many calls where that is stated, and whether it is finished.
@@ -92,55 +68,27 @@ fn is_encoded(
     rt: &impl Abort,
     place: Place,
     form: &str,
-    run: Result<EncodeRun, RunError>,
+    run: &Result<EncodeRun, RunError>,
+    (events, calls, finished): Ends,
+) {
+    is_refusal(rt, place, form, run.as_ref().err(), None);
+    if let Ok(run) = run {
+        let came = (run.events.as_slice(), run.calls, run.finished);
+        let wanted = (events, calls.unwrap_or(run.calls), finished);
+        is_answer(rt, place, form, came, wanted);
+    }
+}
+
+/// Makes a run, and compares what comes of it with what is wanted.
+fn goes<T: Text, E: RawEncoder>(
+    rt: &(impl AllocGlobal + Abort),
+    place: Place,
+    encoder: &mut E,
+    (pieces, lengths): (&[T], &[usize]),
     wanted: Ends,
 ) {
-    match run {
-        Ok(run) => {
-            let came = (run.events.as_slice(), run.calls, run.finished);
-            is_run(rt, place, form, came, wanted);
-        }
-        Err(error) => panic!(rt; "\"{}\", row {}: {error}", place.0, place.1),
-    }
-}
-
-/// A text in UTF-8 or in UTF-16.
-trait Text: Copy {
-    const FORM: &'static str;
-
-    /// Makes a run over the pieces.
-    fn run<E: RawEncoder>(
-        alloc: Global,
-        encoder: &mut E,
-        pieces: &[Self],
-        lengths: &[usize],
-    ) -> Result<EncodeRun, RunError>;
-}
-
-impl Text for &str {
-    const FORM: &'static str = "from UTF-8";
-
-    fn run<E: RawEncoder>(
-        alloc: Global,
-        encoder: &mut E,
-        pieces: &[Self],
-        lengths: &[usize],
-    ) -> Result<EncodeRun, RunError> {
-        encode_run_utf8(alloc, encoder, pieces, lengths)
-    }
-}
-
-impl Text for &[u16] {
-    const FORM: &'static str = "from UTF-16";
-
-    fn run<E: RawEncoder>(
-        alloc: Global,
-        encoder: &mut E,
-        pieces: &[Self],
-        lengths: &[usize],
-    ) -> Result<EncodeRun, RunError> {
-        encode_run_utf16(alloc, encoder, pieces, lengths)
-    }
+    let run = T::run(rt.alloc(), encoder, pieces, lengths);
+    is_encoded(rt, place, T::FORM, &run, wanted);
 }
 
 /// Makes a run of an encoder of its own, and compares what comes of it.
@@ -148,11 +96,10 @@ fn runs<T: Text, E: TestedEncoder>(
     rt: &(impl AllocGlobal + Abort),
     place: Place,
     of: E::Of,
-    (pieces, lengths): (&[T], &[usize]),
+    input: (&[T], &[usize]),
     wanted: Ends,
 ) {
-    let run = T::run(rt.alloc(), &mut E::made(rt, of), pieces, lengths);
-    is_encoded(rt, place, T::FORM, run, wanted);
+    goes::<T, E>(rt, place, &mut E::made(rt, of), input, wanted);
 }
 
 /// Makes a run over these pieces with small outputs, and one over these with an empty one behind each.
@@ -253,20 +200,16 @@ fn encodes_utf16<E: TestedEncoder>(
     encodes_utf16_in_both::<E>(rt, place, of, scalars.as_slice(), wanted);
 }
 
-/// Makes runs that must be refused, and compares the errors with the one that is wanted.
-fn are_refused<E: RawEncoder>(
+/// Makes a run that must be refused, and compares the error with the one that is wanted.
+fn refuses<T: Text, E: RawEncoder>(
     rt: &(impl AllocGlobal + Abort),
-    (case, row): Place,
+    place: Place,
     encoder: &mut E,
-    length: usize,
+    (pieces, length): (&[T], usize),
     wanted: &RunError,
 ) {
-    let narrow = encode_run_utf8(rt.alloc(), encoder, &["a"], &[length]);
-    let wide = encode_run_utf16(rt.alloc(), encoder, &[&[0x61]], &[length]);
-    assert!(rt;
-        narrow.err().as_ref() == Some(wanted) && wide.err().as_ref() == Some(wanted),
-        "\"{case}\", row {row}: not refused as {wanted}"
-    );
+    let run = T::run(rt.alloc(), encoder, pieces, &[length]);
+    is_refusal(rt, place, T::FORM, run.as_ref().err(), Some(wanted));
 }
 
 /// Follows the row of a query: compares the answer with what is wanted.
@@ -297,18 +240,19 @@ fn follow_run<E: RawEncoder>(
 ) {
     match row {
         EncoderRow::RunFromUtf8(pieces, lengths, events, calls, finished) => {
-            let run = encode_run_utf8(rt.alloc(), encoder, pieces, lengths);
             let wanted = events_of(events);
             let ends = (wanted.as_slice(), Some(*calls), *finished);
-            is_encoded(rt, place, "from UTF-8", run, ends);
+            goes::<&str, E>(rt, place, encoder, (pieces, lengths), ends);
         }
         EncoderRow::RunFromUtf16(pieces, lengths, events, calls, finished) => {
-            let run = encode_run_utf16(rt.alloc(), encoder, pieces, lengths);
             let wanted = events_of(events);
             let ends = (wanted.as_slice(), Some(*calls), *finished);
-            is_encoded(rt, place, "from UTF-16", run, ends);
+            goes::<&[u16], E>(rt, place, encoder, (pieces, lengths), ends);
         }
-        EncoderRow::RefusedRuns(length, error) => are_refused(rt, place, encoder, *length, error),
+        EncoderRow::RefusedRuns(length, error) => {
+            refuses::<&str, E>(rt, place, encoder, (&["a"], *length), error);
+            refuses::<&[u16], E>(rt, place, encoder, (&[&[0x61]], *length), error);
+        }
         _ => {}
     }
 }
@@ -318,11 +262,11 @@ fn follow_call<E: RawEncoder>(rt: &impl Abort, place: Place, encoder: &mut E, ro
     match row {
         EncoderRow::FromUtf8(text, room, last, answer, read, bytes) => {
             let wanted = (*answer, *read, *bytes);
-            encodes_text(rt, place, encoder, (text, *room, *last), wanted);
+            encodes::<&str, E>(rt, place, encoder, (text, *room, *last), wanted);
         }
         EncoderRow::FromUtf16(units, room, last, answer, read, bytes) => {
             let wanted = (*answer, *read, *bytes);
-            encodes_units(rt, place, encoder, (units, *room, *last), wanted);
+            encodes::<&[u16], E>(rt, place, encoder, (units, *room, *last), wanted);
         }
         _ => {}
     }

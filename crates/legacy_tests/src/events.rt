@@ -70,7 +70,7 @@ pub(crate) fn events<F: Form, D: RawDecoder>(
     for _call in 0..1000 {
         let source = input.get(seen..end).unwrap_or(&[]);
         let last = end == input.len();
-        let (answer, read) = F::call(decoder, source, room, last, &mut found);
+        let (answer, read) = F::find(decoder, source, room, last, &mut found);
         seen = seen.saturating_add(read);
         if let Some(event) = reported(answer, seen) {
             found.push(event);

@@ -51,6 +51,8 @@ mod single_byte;
 #[cfg(test)]
 mod tables;
 #[cfg(test)]
+mod texts;
+#[cfg(test)]
 mod units;
 #[cfg(test)]
 mod user_defined;

@@ -1,14 +1,21 @@
 //! The check of packed indexes, and look-ups in tables that are made of them.
+use crate::compared::{Place, is_fault, prints};
 use crate::indexes::{no_entries, no_parts, packed_tables_of, run};
+use crate::tables::{Pointer, have_scalars};
 use legacy_base::IndexName::{Big5, EucKr, Gb18030, Jis0208, Jis0212, Katakana};
 use legacy_base::TableError::{BadEntry, PackedDiffers, PackedOrder};
 use legacy_base::{IndexName, Indexes, Packed, PackedPart, Run, TableError, Tables};
 use std::process::Abort;
 
 /// Looks for the fault of indexes and of their parts.
-fn has_fault(rt: &impl Abort, indexes: &Indexes, packed: &Packed, wanted: &Option<TableError>) {
-    let came = Tables::packed_of(indexes, packed).err();
-    assert!(rt; came == *wanted, "came {came:?}, wanted {wanted:?}");
+fn has_fault(
+    rt: &impl Abort,
+    place: Place,
+    indexes: &Indexes,
+    packed: &Packed,
+    wanted: &Option<TableError>,
+) {
+    is_fault(rt, place, &Tables::packed_of(indexes, packed).err(), wanted);
 }
 
 /// Runs of index EUC-KR, and their fault beside U+AC02, U+AC03, none and U+AC05.
@@ -59,11 +66,11 @@ const RUNS: &[Runs] = &[
 fn runs_are_in_order_and_give_what_the_index_does(rt: HostRuntime) {
     let mut indexes = no_entries();
     indexes.euc_kr = &[0xAC02, 0xAC03, 0, 0xAC05];
-    for (runs, wanted) in RUNS {
+    for (at, (runs, wanted)) in RUNS.iter().enumerate() {
         let mut packed = no_parts();
         packed.euc_kr = runs;
         packed.euc_kr_order = &[0, 1, 3];
-        has_fault(&rt, &indexes, &packed, wanted);
+        has_fault(&rt, ("runs", at), &indexes, &packed, wanted);
     }
 }
 
@@ -75,11 +82,11 @@ fn the_indexes_come_first_and_then_the_parts_in_their_order(rt: HostRuntime) {
     packed.euc_kr = &[run!(0, 0xAC02, 2)];
     packed.jis0208 = &[run!(0, 0x3000, 0)];
     let differs = Some(PackedDiffers(PackedPart::EucKr, 3));
-    has_fault(&rt, &indexes, &packed, &differs);
+    has_fault(&rt, ("of two parts", 0), &indexes, &packed, &differs);
     indexes.katakana = &[];
     indexes.gb18030 = &[0x7F];
     let bad = Some(BadEntry(Gb18030, 0));
-    has_fault(&rt, &indexes, &packed, &bad);
+    has_fault(&rt, ("of an index and a part", 0), &indexes, &packed, &bad);
 }
 
 /// Orders of Shift_JIS and of EUC-JP, and their fault where U+FF02 stands at two pointers.
@@ -115,12 +122,12 @@ fn an_order_holds_the_pointers_of_its_codec(rt: HostRuntime) {
     jis0208[10739] = 0xFF02;
     let mut indexes = no_entries();
     indexes.jis0208 = &jis0208;
-    for (shift_jis, euc_jp, wanted) in ORDERS {
+    for (at, (shift_jis, euc_jp, wanted)) in ORDERS.iter().enumerate() {
         let mut packed = no_parts();
         packed.jis0208 = RUNS_OF_FF02;
         packed.shift_jis_order = shift_jis;
         packed.euc_jp_order = euc_jp;
-        has_fault(&rt, &indexes, &packed, wanted);
+        has_fault(&rt, ("orders", at), &indexes, &packed, wanted);
     }
 }
 
@@ -152,14 +159,19 @@ fn big5_takes_the_last_pointer_of_six_scalars(rt: HostRuntime) {
     packed.big5 = &[run!(5247, 0x2550, 1), run!(18991, 0x2550, 1)];
     packed.big5_order = &[5247];
     let differs = Some(PackedDiffers(PackedPart::Big5Order, 5247));
-    has_fault(&rt, &indexes, &packed, &differs);
+    has_fault(
+        &rt,
+        ("the first of two pointers", 0),
+        &indexes,
+        &packed,
+        &differs,
+    );
     packed.big5_order = &[18991];
     let tables = packed_tables_of(&rt, &indexes, &packed);
     assert!(rt; tables.big5_pointer('\u{2550}') == Some(18991));
 }
 
-/// An index, a pointer, and the scalar that it has there.
-const POINTERS: &[(IndexName, usize, Option<char>)] = &[
+const POINTERS: &[Pointer] = &[
     (Big5, 0, Some('\u{2008A}')),
     (EucKr, 63, Some('\u{AC02}')),
     (EucKr, 64, Some('\u{AC03}')),
@@ -200,13 +212,7 @@ fn a_pointer_has_the_scalar_of_its_run(rt: HostRuntime) {
     packed.euc_jp_order = &[0];
     packed.gb18030_order = &[0, 1];
     let tables = packed_tables_of(&rt, &indexes, &packed);
-    for (name, pointer, wanted) in POINTERS {
-        let came = tables.idx(*name, *pointer);
-        assert!(rt;
-            came == *wanted,
-            "{pointer} of {name}: came {came:?}, wanted {wanted:?}"
-        );
-    }
+    have_scalars(&rt, &tables, POINTERS);
 }
 
 const WORDS: &[(PackedPart, &str, &str)] = &[
@@ -264,12 +270,8 @@ const WORDS: &[(PackedPart, &str, &str)] = &[
 
 #[test]
 fn the_words_of_faults_and_parts(rt: HostRuntime) {
-    for (part, order, differs) in WORDS {
-        let fault = PackedOrder(*part, 5);
-        let came = fault.to_string(rt.alloc()).expect(&rt, "no memory");
-        assert!(rt; came.as_str() == *order, "came {came}, wanted {order}");
-        let fault = PackedDiffers(*part, 5);
-        let came = fault.to_string(rt.alloc()).expect(&rt, "no memory");
-        assert!(rt; came.as_str() == *differs, "came {came}, wanted {differs}");
+    for (at, (part, order, differs)) in WORDS.iter().enumerate() {
+        prints(&rt, ("words", at), &PackedOrder(*part, 5), order);
+        prints(&rt, ("words", at), &PackedDiffers(*part, 5), differs);
     }
 }

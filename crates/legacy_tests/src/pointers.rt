@@ -1,10 +1,11 @@
 //! Look-ups of the pointers and of the private-use bytes that encoders take.
+use crate::compared::is_pointer;
 use crate::indexes::{no_entries, tables_of};
 use legacy_base::{Indexes, Tables};
 use std::process::Abort;
 
 /// A look-up of a pointer.
-#[derive(Clone, Copy, Debug)]
+#[derive(Clone, Copy)]
 enum LookUp {
     Big5,
     EucKr,
@@ -30,14 +31,11 @@ fn pointer_of(tables: &Tables, look_up: LookUp, scalar: char) -> Option<usize> {
 type Row = (LookUp, char, Option<usize>);
 
 /// Compares what look-ups answer with what is wanted.
-fn have(rt: &impl Abort, indexes: &Indexes, rows: &[Row]) {
+fn have(rt: &impl Abort, case: &str, indexes: &Indexes, rows: &[Row]) {
     let tables = tables_of(rt, indexes);
-    for (look_up, scalar, wanted) in rows {
+    for (at, (look_up, scalar, wanted)) in rows.iter().enumerate() {
         let came = pointer_of(&tables, *look_up, *scalar);
-        assert!(rt;
-            came == *wanted,
-            "{look_up:?} of {scalar:?}: came {came:?}, wanted {wanted:?}"
-        );
+        is_pointer(rt, (case, at), came, *wanted);
     }
 }
 
@@ -60,7 +58,7 @@ fn the_first_pointer_is_taken(rt: HostRuntime) {
         gb18030: &[0, 0x4E02, 0x4E02],
         ..no_entries()
     };
-    have(&rt, &indexes, FIRST);
+    have(&rt, "first pointers", &indexes, FIRST);
 }
 
 const OF_BIG5: &[Row] = &[
@@ -82,7 +80,7 @@ fn big5_takes_no_pointer_below_5024_and_the_last_of_six_scalars(rt: HostRuntime)
         big5: &big5,
         ..no_entries()
     };
-    have(&rt, &indexes, OF_BIG5);
+    have(&rt, "Big5", &indexes, OF_BIG5);
 }
 
 const TWICE_IN_JIS0208: &[Row] = &[
@@ -101,12 +99,12 @@ fn shift_jis_takes_no_pointer_that_nec_repeats(rt: HostRuntime) {
         jis0208: &jis0208,
         ..no_entries()
     };
-    have(&rt, &indexes, TWICE_IN_JIS0208);
+    have(&rt, "twice in jis0208", &indexes, TWICE_IN_JIS0208);
     let indexes = Indexes {
         jis0208: &jis0208[..8648],
         ..no_entries()
     };
-    have(&rt, &indexes, ONCE_IN_JIS0208);
+    have(&rt, "once in jis0208", &indexes, ONCE_IN_JIS0208);
 }
 
 const BY_THE_LAST_RANGE: &[Row] = &[
@@ -128,12 +126,12 @@ fn four_bytes_go_by_the_ranges(rt: HostRuntime) {
         ranges: &[(39394, 0xFFE6)],
         ..no_entries()
     };
-    have(&rt, &indexes, BY_THE_LAST_RANGE);
+    have(&rt, "the last range", &indexes, BY_THE_LAST_RANGE);
     let indexes = Indexes {
         ranges: &[(7457, 0x3000)],
         ..no_entries()
     };
-    have(&rt, &indexes, AROUND_7457);
+    have(&rt, "around 7457", &indexes, AROUND_7457);
 }
 
 #[test]

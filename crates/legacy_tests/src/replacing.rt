@@ -1,5 +1,5 @@
 //! Calls with replacement: rows of calls with what must come of each, and the functions that follow them.
-use crate::compared::{Place, is_answer, is_call};
+use crate::compared::{Place, is_answer};
 use crate::indexes::{no_entries, tables_of};
 use crate::replacing::Row::{Decoder, Pieces, Text, ToUtf8, ToUtf16, Utf16Length};
 use crate::rows::{Call, Tested};
@@ -48,7 +48,7 @@ fn writes_text<D: RawDecoder>(
     );
     let came = (result, seen, &output[..written.min(96)], told);
     let wanted = (answer, read, text.as_bytes(), replaced);
-    is_call(rt, place, "UTF-8", came, wanted);
+    is_answer(rt, place, "UTF-8", came, wanted);
 }
 
 /// Makes a call into UTF-16, and compares what comes of it with what is wanted.
@@ -67,7 +67,7 @@ fn writes_units<D: RawDecoder>(
         last,
     );
     let came = (result, seen, &output[..written.min(96)], told);
-    is_call(rt, place, "UTF-16", came, wanted);
+    is_answer(rt, place, "UTF-16", came, wanted);
 }
 
 /// Writes the text of the input from the front of the slice on, by calls with so many bytes free, and

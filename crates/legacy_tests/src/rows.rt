@@ -1,10 +1,10 @@
 //! Rows: calls, queries and runs of a decoder with what must come of each, and the function that follows them.
-use crate::compared::{Place, is_answer, is_call, is_run};
+use crate::compared::{Place, is_answer, is_refusal};
 use crate::cuts::{byte_pieces, small_lengths, spaced};
 use crate::events::events;
 use crate::units::{Bytes, Form, Units};
 use legacy_base::{DecodeEvent, DecoderResult, RawDecoder};
-use legacy_codecs::{DecodeRun, RunError, decode_run_utf8, decode_run_utf16};
+use legacy_codecs::{DecodeRun, RunError};
 use std::process::Abort;
 
 /// A call, a query or a run of a decoder, and what must come of it.
@@ -86,17 +86,12 @@ fn writes_text<D: RawDecoder>(
     place: Place,
     decoder: &mut D,
     (source, room, last): Call,
-    (answer, read, text): (DecoderResult, usize, &str),
+    wanted: (DecoderResult, usize, &[u8]),
 ) {
     let mut output = [0u8; 96];
-    let (result, seen, written) = decoder.decode_to_utf8_raw(
-        source,
-        &mut output[..room.min(96)],
-        last,
-    );
-    let came = (result, seen, &output[..written.min(96)], false);
-    let wanted = (answer, read, text.as_bytes(), false);
-    is_call(rt, place, "UTF-8", came, wanted);
+    let (answer, read, written) = Bytes::call(decoder, source, &mut output[..room.min(96)], last);
+    let came = (answer, read, &output[..written.min(96)]);
+    is_answer(rt, place, Bytes::NAME, came, wanted);
 }
 
 /// Makes a call into UTF-16, and compares what comes of it with what is wanted.
@@ -105,29 +100,25 @@ fn writes_units<D: RawDecoder>(
     place: Place,
     decoder: &mut D,
     (source, room, last): Call,
-    (answer, read, units): (DecoderResult, usize, &[u16]),
+    wanted: (DecoderResult, usize, &[u16]),
 ) {
     let mut output = [0u16; 96];
-    let (result, seen, written) = decoder.decode_to_utf16_raw(
-        source,
-        &mut output[..room.min(96)],
-        last,
-    );
-    let came = (result, seen, &output[..written.min(96)], false);
-    is_call(rt, place, "UTF-16", came, (answer, read, units, false));
+    let (answer, read, written) = Units::call(decoder, source, &mut output[..room.min(96)], last);
+    let came = (answer, read, &output[..written.min(96)]);
+    is_answer(rt, place, Units::NAME, came, wanted);
 }
 
 /// Finds the events of the input in calls of at most so many bytes, with so many code units free, and
 /// compares them with those that are wanted.
-fn finds<F: Form, D: RawDecoder + Drop>(
+fn finds<F: Form, D: Tested>(
     rt: &impl Abort,
     place: Place,
-    mut decoder: D,
+    of: D::Of,
     input: &[u8],
     (piece, room): (usize, usize),
     wanted: &[DecodeEvent],
 ) {
-    let found = events::<F, D>(&mut decoder, input, piece, room);
+    let found = events::<F, D>(&mut D::made(of), input, piece, room);
     is_answer(rt, place, F::NAME, found.as_slice(), wanted);
 }
 
@@ -139,10 +130,10 @@ fn finds_by_calls<D: Tested>(
     input: &[u8],
     wanted: &[DecodeEvent],
 ) {
-    finds::<Bytes, D>(rt, place, D::made(of), input, (input.len(), 48), wanted);
-    finds::<Units, D>(rt, place, D::made(of), input, (input.len(), 96), wanted);
-    finds::<Bytes, D>(rt, place, D::made(of), input, (1, 4), wanted);
-    finds::<Units, D>(rt, place, D::made(of), input, (1, 2), wanted);
+    finds::<Bytes, D>(rt, place, of, input, (input.len(), 48), wanted);
+    finds::<Units, D>(rt, place, of, input, (input.len(), 96), wanted);
+    finds::<Bytes, D>(rt, place, of, input, (1, 4), wanted);
+    finds::<Units, D>(rt, place, of, input, (1, 2), wanted);
 }
 
 /// What a run must give: the events, how many calls where that is stated, and whether it is finished.
@@ -153,30 +144,39 @@ fn is_decoded(
     rt: &impl Abort,
     place: Place,
     form: &str,
-    run: Result<DecodeRun, RunError>,
-    wanted: Wanted,
+    run: &Result<DecodeRun, RunError>,
+    (events, calls, finished): Wanted,
 ) {
-    match run {
-        Ok(run) => {
-            let came = (run.events.as_slice(), run.calls, run.finished);
-            is_run(rt, place, form, came, wanted);
-        }
-        Err(error) => panic!(rt; "\"{}\", row {}: {error}", place.0, place.1),
+    is_refusal(rt, place, form, run.as_ref().err(), None);
+    if let Ok(run) = run {
+        let came = (run.events.as_slice(), run.calls, run.finished);
+        let wanted = (events, calls.unwrap_or(run.calls), finished);
+        is_answer(rt, place, form, came, wanted);
     }
 }
 
-/// Makes a run of a decoder of its own into UTF-8 and another into UTF-16, and compares what comes of them.
-fn runs<D: Tested>(
+/// Makes a run, and compares what comes of it with what is wanted.
+fn runs<F: Form, D: RawDecoder>(
     rt: &(impl AllocGlobal + Abort),
     place: Place,
-    of: D::Of,
+    decoder: &mut D,
     (pieces, lengths): (&[&[u8]], &[usize]),
     wanted: Wanted,
 ) {
-    let run = decode_run_utf8(rt.alloc(), &mut D::made(of), pieces, lengths);
-    is_decoded(rt, place, "into UTF-8", run, wanted);
-    let run = decode_run_utf16(rt.alloc(), &mut D::made(of), pieces, lengths);
-    is_decoded(rt, place, "into UTF-16", run, wanted);
+    let run = F::run(rt.alloc(), decoder, pieces, lengths);
+    is_decoded(rt, place, F::NAME, &run, wanted);
+}
+
+/// Makes a run of a decoder of its own into UTF-8 and another into UTF-16, and compares what comes of them.
+fn runs_in_both<D: Tested>(
+    rt: &(impl AllocGlobal + Abort),
+    place: Place,
+    of: D::Of,
+    input: (&[&[u8]], &[usize]),
+    wanted: Wanted,
+) {
+    runs::<Bytes, D>(rt, place, &mut D::made(of), input, wanted);
+    runs::<Units, D>(rt, place, &mut D::made(of), input, wanted);
 }
 
 /// Makes runs over these pieces with small outputs, and compares what comes of them.
@@ -188,7 +188,7 @@ fn finds_in_pieces<D: Tested>(
     wanted: &[DecodeEvent],
 ) {
     let lengths = small_lengths();
-    runs::<D>(rt, place, of, (pieces, &lengths), (wanted, None, true));
+    runs_in_both::<D>(rt, place, of, (pieces, &lengths), (wanted, None, true));
 }
 
 /// Makes runs over these pieces, and over these with an empty one behind each.
@@ -214,25 +214,21 @@ fn finds_in_cuts<D: Tested>(
 ) {
     let whole = [input];
     finds_in_both::<D>(rt, place, of, &whole, wanted);
-    runs::<D>(rt, place, of, (&whole, &[0; 5]), (&[], Some(5), false));
+    runs_in_both::<D>(rt, place, of, (&whole, &[0; 5]), (&[], Some(5), false));
     let bytes = byte_pieces(input);
     finds_in_both::<D>(rt, place, of, bytes.as_slice(), wanted);
 }
 
-/// Makes runs that must be refused, and compares the errors with the one that is wanted.
-fn are_refused<D: RawDecoder>(
+/// Makes a run that must be refused, and compares the error with the one that is wanted.
+fn refuses<F: Form, D: RawDecoder>(
     rt: &(impl AllocGlobal + Abort),
-    (case, row): Place,
+    place: Place,
     decoder: &mut D,
     (piece, length): (&[u8], usize),
     wanted: &RunError,
 ) {
-    let narrow = decode_run_utf8(rt.alloc(), decoder, &[piece], &[length]);
-    let wide = decode_run_utf16(rt.alloc(), decoder, &[piece], &[length]);
-    assert!(rt;
-        narrow.err().as_ref() == Some(wanted) && wide.err().as_ref() == Some(wanted),
-        "\"{case}\", row {row}: not refused as {wanted}"
-    );
+    let run = F::run(rt.alloc(), decoder, &[piece], &[length]);
+    is_refusal(rt, place, F::NAME, run.as_ref().err(), Some(wanted));
 }
 
 /// Follows the row of a query: compares the answer with what is wanted.
@@ -284,17 +280,16 @@ fn follow_run<D: RawDecoder>(
 ) {
     match row {
         Row::RunToUtf8(pieces, lengths, events, calls, finished) => {
-            let run = decode_run_utf8(rt.alloc(), decoder, pieces, lengths);
             let wanted = (*events, Some(*calls), *finished);
-            is_decoded(rt, place, "into UTF-8", run, wanted);
+            runs::<Bytes, D>(rt, place, decoder, (pieces, lengths), wanted);
         }
         Row::RunToUtf16(pieces, lengths, events, calls, finished) => {
-            let run = decode_run_utf16(rt.alloc(), decoder, pieces, lengths);
             let wanted = (*events, Some(*calls), *finished);
-            is_decoded(rt, place, "into UTF-16", run, wanted);
+            runs::<Units, D>(rt, place, decoder, (pieces, lengths), wanted);
         }
         Row::RefusedRuns(piece, length, error) => {
-            are_refused(rt, place, decoder, (piece, *length), error);
+            refuses::<Bytes, D>(rt, place, decoder, (piece, *length), error);
+            refuses::<Units, D>(rt, place, decoder, (piece, *length), error);
         }
         _ => {}
     }
@@ -304,7 +299,7 @@ fn follow_run<D: RawDecoder>(
 fn follow_call<D: RawDecoder>(rt: &impl Abort, place: Place, decoder: &mut D, row: &Row) {
     match row {
         Row::ToUtf8(source, room, last, answer, read, text) => {
-            let wanted = (*answer, *read, *text);
+            let wanted = (*answer, *read, text.as_bytes());
             writes_text(rt, place, decoder, (source, *room, *last), wanted);
         }
         Row::ToUtf16(source, room, last, answer, read, units) => {

@@ -1,6 +1,7 @@
 //! Runs of decoders: one table of cases, whole and in every cut, into outputs of every small length.
 mod encoders;
 
+use crate::compared::prints;
 use crate::events::bad;
 use crate::indexes::{byte_table_of, no_entries, no_parts, packed_tables_of, run, tables_of};
 use crate::over_tables::{Codec, decode_over};
@@ -12,7 +13,6 @@ use legacy_base::{DecoderResult, Destination, Indexes, Packed, RawDecoder, Table
 use legacy_codecs::{OutputForm, RunError, ScalarBuffer, Utf8Form, Utf16Form};
 use legacy_decoders::{ReplacementDecoder, SingleByteDecoder, UserDefinedDecoder, Utf16Decoder};
 use std::process::Abort;
-use std::test::Fail;
 
 /// What a decoder is made of: tables, or something else.
 #[derive(Clone, Copy)]
@@ -190,10 +190,14 @@ fn runs_give_the_same_events_in_every_cut(rt: HostRuntime) {
 }
 
 #[test]
-fn the_errors_print_their_texts(rt: HostRuntime) -> Result<(), Fail> {
-    let text = format!(in rt.alloc(); "{}, {}", RunError::Memory, RunError::TooLong)?;
-    assert_eq!(rt; text.as_str(), "memory, run is too long");
-    Ok(())
+fn the_errors_print_their_texts(rt: HostRuntime) {
+    prints(&rt, ("errors of runs", 0), &RunError::Memory, "memory");
+    prints(
+        &rt,
+        ("errors of runs", 1),
+        &RunError::TooLong,
+        "run is too long",
+    );
 }
 
 /// Whether a buffer with room for four code units takes so many scalars of 61, 80 and 80, of so many units.

@@ -1,11 +1,11 @@
 //! The single-byte codecs.
 mod encoder;
 
+use crate::compared::is_answer;
 use crate::events::{Found, bad};
 use crate::indexes::{byte_table_of, entries_of};
 use crate::rows::Row::{BareLength, Decoder, Events, ToUtf8, Utf8Length, Utf16Length};
 use crate::rows::{Row, Tested, follow};
-use crate::units::Hex;
 use legacy_base::DecodeEvent::{Bad, Scalar};
 use legacy_base::DecoderResult::{InputEmpty, Malformed, OutputFull};
 use legacy_base::{DecodeEvent, SingleByteTable};
@@ -78,14 +78,10 @@ const FRONTS: &[(u16, &[u8], usize)] = &[
 
 #[test]
 fn the_front_of_latin_1_ends_at_another_scalar(rt: HostRuntime) {
-    for (entry, bytes, front) in FRONTS {
+    for (at, (entry, bytes, front)) in FRONTS.iter().enumerate() {
         let table = byte_table_of(&rt, &entries_of(&[(5, *entry)]));
         let came = SingleByteDecoder::new(&table).latin1_byte_compatible_up_to(bytes);
-        assert!(rt;
-            came == *front,
-            "{}: came {came}, wanted {front}",
-            Hex(bytes)
-        );
+        is_answer(&rt, ("fronts", at), "the front", came, *front);
     }
 }
 

@@ -1,4 +1,5 @@
 //! The checks of the tables, and look-ups in them.
+use crate::compared::{Place, is_fault, is_pointer, is_scalar, prints};
 use crate::indexes::{byte_table_of, entries_of, no_entries, tables_of};
 use legacy_base::IndexName::{Big5, EucKr, Gb18030, Jis0208, Jis0212, Katakana};
 use legacy_base::TableError::{
@@ -6,7 +7,6 @@ use legacy_base::TableError::{
     RangeValue, Repeated, TooLong,
 };
 use legacy_base::{IndexName, Indexes, SingleByteTable, TableError, Tables};
-use std::alloc::{AllocError, Global};
 use std::process::Abort;
 
 /// Indexes in which one index of entries up to U+FFFF has these, and the others none.
@@ -26,51 +26,54 @@ fn narrow<'a>(name: IndexName, entries: &'a [u16]) -> Indexes<'a> {
 /// The index, how many entries it has, the one that is not 0 and its pointer, and the fault.
 type Entries = (IndexName, usize, u32, usize, Option<TableError>);
 
-/// The fault of so many entries that are 0, but for one, in such an index.
-fn narrow_fault(
-    alloc: Global,
-    name: IndexName,
-    length: usize,
-    entry: u16,
-    pointer: usize,
-) -> Result<Option<TableError>, AllocError> {
-    let mut entries = vec![in alloc; 0u16; length]?;
-    if let Some(place) = entries.get_mut(pointer) {
-        *place = entry;
-    }
-    Ok(Tables::new(&narrow(name, &entries)).err())
+/// Compares the fault of these indexes with what is wanted.
+fn have_fault(rt: &impl Abort, place: Place, indexes: &Indexes, wanted: &Option<TableError>) {
+    is_fault(rt, place, &Tables::new(indexes).err(), wanted);
 }
 
-/// The fault of so many entries of index Big5 that are 0, but for one.
-fn big5_fault(
-    alloc: Global,
+/// Compares the fault of so many entries that are 0, but for one, in such an index with what is wanted.
+fn narrow_has_fault(
+    rt: &impl Abort,
+    place: Place,
+    (name, length): (IndexName, usize),
+    (entry, pointer): (u16, usize),
+    wanted: &Option<TableError>,
+) {
+    let mut entries = [0u16; 23941];
+    if pointer < 23941 {
+        entries[pointer] = entry;
+    }
+    let indexes = narrow(name, &entries[..length.min(23941)]);
+    have_fault(rt, place, &indexes, wanted);
+}
+
+/// Compares the fault of so many entries of index Big5 that are 0, but for one, with what is wanted.
+fn big5_has_fault(
+    rt: &impl Abort,
+    place: Place,
     length: usize,
-    entry: u32,
-    pointer: usize,
-) -> Result<Option<TableError>, AllocError> {
-    let mut entries = vec![in alloc; 0u32; length]?;
-    if let Some(place) = entries.get_mut(pointer) {
-        *place = entry;
+    (entry, pointer): (u32, usize),
+    wanted: &Option<TableError>,
+) {
+    let mut entries = [0u32; 19783];
+    if pointer < 19783 {
+        entries[pointer] = entry;
     }
     let mut indexes = no_entries();
-    indexes.big5 = &entries;
-    Ok(Tables::new(&indexes).err())
+    indexes.big5 = &entries[..length.min(19783)];
+    have_fault(rt, place, &indexes, wanted);
 }
 
 /// Looks for the fault of each row.
-fn are_checked(rt: &impl Abort, alloc: Global, rows: &[Entries]) {
-    for (name, length, entry, pointer, wanted) in rows {
-        let found = match u16::try_from(*entry) {
+fn are_checked(rt: &impl Abort, rows: &[Entries]) {
+    for (at, (name, length, entry, pointer, wanted)) in rows.iter().enumerate() {
+        let place = ("entries", at);
+        match u16::try_from(*entry) {
             Ok(entry) if *name != IndexName::Big5 => {
-                narrow_fault(alloc, *name, *length, entry, *pointer)
+                narrow_has_fault(rt, place, (*name, *length), (entry, *pointer), wanted);
             }
-            _ => big5_fault(alloc, *length, *entry, *pointer),
-        };
-        let came = found.expect(rt, "no memory");
-        assert!(rt;
-            came == *wanted,
-            "{length} entries of {name}, {entry:X} at {pointer}: came {came:?}, wanted {wanted:?}"
-        );
+            _ => big5_has_fault(rt, place, *length, (*entry, *pointer), wanted),
+        }
     }
 }
 
@@ -90,7 +93,7 @@ const ENTRIES_OF_BIG5: &[Entries] = &[
 
 #[test]
 fn entries_of_big5_are_checked(rt: HostRuntime) {
-    are_checked(&rt, rt.alloc(), ENTRIES_OF_BIG5);
+    are_checked(&rt, ENTRIES_OF_BIG5);
 }
 
 const ENTRIES_OF_OTHERS: &[Entries] = &[
@@ -114,7 +117,7 @@ const ENTRIES_OF_OTHERS: &[Entries] = &[
 
 #[test]
 fn entries_of_the_other_indexes_are_checked(rt: HostRuntime) {
-    are_checked(&rt, rt.alloc(), ENTRIES_OF_OTHERS);
+    are_checked(&rt, ENTRIES_OF_OTHERS);
 }
 
 /// Ranges alone, and their fault.
@@ -132,14 +135,10 @@ const RANGES: &[Ranges] = &[
 
 #[test]
 fn ranges_rise_before_their_scalars_count(rt: HostRuntime) {
-    for (ranges, wanted) in RANGES {
+    for (at, (ranges, wanted)) in RANGES.iter().enumerate() {
         let mut indexes = no_entries();
         indexes.ranges = ranges;
-        let came = Tables::new(&indexes).err();
-        assert!(rt;
-            came == *wanted,
-            "{ranges:?}: came {came:?}, wanted {wanted:?}"
-        );
+        have_fault(&rt, ("ranges", at), &indexes, wanted);
     }
 }
 
@@ -164,19 +163,24 @@ const PRIVATE_USE: &[PrivateUse] = &[
 
 #[test]
 fn private_use_rows_rise_and_have_two_bytes(rt: HostRuntime) {
-    for (rows, wanted) in PRIVATE_USE {
+    for (at, (rows, wanted)) in PRIVATE_USE.iter().enumerate() {
         let mut indexes = no_entries();
         indexes.gb18030_pua = rows;
-        let came = Tables::new(&indexes).err();
-        assert!(rt;
-            came == *wanted,
-            "{rows:?}: came {came:?}, wanted {wanted:?}"
-        );
+        have_fault(&rt, ("private-use rows", at), &indexes, wanted);
     }
 }
 
 /// An index, a pointer, and the scalar that it has there.
-const POINTERS: &[(IndexName, usize, Option<char>)] = &[
+pub(crate) type Pointer = (IndexName, usize, Option<char>);
+
+/// Compares the scalars that the indexes of these tables have at pointers with what is wanted.
+pub(crate) fn have_scalars(rt: &impl Abort, tables: &Tables, rows: &[Pointer]) {
+    for (at, (name, pointer, wanted)) in rows.iter().enumerate() {
+        is_scalar(rt, ("pointers", at), tables.idx(*name, *pointer), *wanted);
+    }
+}
+
+const POINTERS: &[Pointer] = &[
     (Big5, 0, Some('\u{2008A}')),
     (EucKr, 0, Some('\u{AC02}')),
     // an entry 0
@@ -205,13 +209,7 @@ fn a_pointer_has_its_entry_in_the_named_index(rt: HostRuntime) {
             gb18030_pua: &[],
         },
     );
-    for (name, pointer, wanted) in POINTERS {
-        let came = tables.idx(*name, *pointer);
-        assert!(rt;
-            came == *wanted,
-            "{pointer} of {name}: came {came:?}, wanted {wanted:?}"
-        );
-    }
+    have_scalars(&rt, &tables, POINTERS);
 }
 
 /// Compares the scalars that these ranges give pointers of four bytes with what is wanted.
@@ -219,12 +217,8 @@ fn give(rt: &impl Abort, ranges: &[(u16, u16)], rows: &[(usize, Option<char>)]) 
     let mut indexes = no_entries();
     indexes.ranges = ranges;
     let tables = tables_of(rt, &indexes);
-    for (pointer, wanted) in rows {
-        let came = tables.range(*pointer);
-        assert!(rt;
-            came == *wanted,
-            "pointer {pointer}: came {came:?}, wanted {wanted:?}"
-        );
+    for (at, (pointer, wanted)) in rows.iter().enumerate() {
+        is_scalar(rt, ("four bytes", at), tables.range(*pointer), *wanted);
     }
 }
 
@@ -276,9 +270,8 @@ const WORDS: &[(TableError, &str)] = &[
 
 #[test]
 fn the_words_of_faults_and_indexes(rt: HostRuntime) {
-    for (fault, wanted) in WORDS {
-        let came = fault.to_string(rt.alloc()).expect(&rt, "no memory");
-        assert!(rt; came.as_str() == *wanted, "came {came}, wanted {wanted}");
+    for (at, (fault, wanted)) in WORDS.iter().enumerate() {
+        prints(&rt, ("words", at), fault, wanted);
     }
 }
 
@@ -291,12 +284,9 @@ const ENTRIES_OF_BYTES: &[(&[(usize, u16)], Option<TableError>)] = &[
 
 #[test]
 fn a_single_byte_table_is_checked_from_its_first_place(rt: HostRuntime) {
-    for (some, wanted) in ENTRIES_OF_BYTES {
+    for (at, (some, wanted)) in ENTRIES_OF_BYTES.iter().enumerate() {
         let came = SingleByteTable::new(&entries_of(some)).err();
-        assert!(rt;
-            came == *wanted,
-            "{some:?}: came {came:?}, wanted {wanted:?}"
-        );
+        is_fault(&rt, ("entries of bytes", at), &came, wanted);
     }
 }
 
@@ -306,13 +296,9 @@ fn belong(
     table: &SingleByteTable,
     rows: &[(usize, Option<char>, char, Option<usize>)],
 ) {
-    for (place, its_scalar, scalar, its_place) in rows {
-        let came = (table.scalar(*place), table.place(*scalar));
-        let wanted = (*its_scalar, *its_place);
-        assert!(rt;
-            came == wanted,
-            "{place} and {scalar:?}: came {came:?}, wanted {wanted:?}"
-        );
+    for (at, (place, its_scalar, scalar, its_place)) in rows.iter().enumerate() {
+        is_scalar(rt, ("places", at), table.scalar(*place), *its_scalar);
+        is_pointer(rt, ("places", at), table.place(*scalar), *its_place);
     }
 }
 

@@ -1,15 +1,48 @@
-//! UTF-8 and UTF-16: calls into either, and how code units are printed.
+//! UTF-8 and UTF-16: calls and runs of decoders into either.
+// What a call ensures stays behind in these functions: their callers do not state it, and are cheap to prove.
 use crate::events::Found;
 use legacy_base::DecodeEvent::Scalar;
 use legacy_base::{DecoderResult, RawDecoder};
-use std::fmt;
+use legacy_codecs::{
+    CoderResult, DecodeRun, RunError, decode_replacing_utf8, decode_replacing_utf16,
+    decode_run_utf8, decode_run_utf16,
+};
+use std::alloc::Global;
+use std::fmt::Debug;
 
 /// An encoding form that decoders write.
 pub(crate) trait Form {
+    /// Its code unit.
+    type Unit: Copy + PartialEq + Debug;
+
     const NAME: &'static str;
 
-    /// Makes a call with so many code units free, and adds the scalars that it writes to what was found.
+    /// Makes a call.
     fn call<D: RawDecoder>(
+        decoder: &mut D,
+        source: &[u8],
+        output: &mut [Self::Unit],
+        last: bool,
+    ) -> (DecoderResult, usize, usize);
+
+    /// Makes a call with replacement.
+    fn replacing<D: RawDecoder>(
+        decoder: &mut D,
+        source: &[u8],
+        output: &mut [Self::Unit],
+        last: bool,
+    ) -> (CoderResult, usize, usize, bool);
+
+    /// Makes a run over the pieces.
+    fn run<D: RawDecoder>(
+        alloc: Global,
+        decoder: &mut D,
+        pieces: &[&[u8]],
+        lengths: &[usize],
+    ) -> Result<DecodeRun, RunError>;
+
+    /// Makes a call with so many code units free, and adds the scalars that it writes to what was found.
+    fn find<D: RawDecoder>(
         decoder: &mut D,
         source: &[u8],
         room: usize,
@@ -25,9 +58,38 @@ pub(crate) struct Bytes;
 pub(crate) struct Units;
 
 impl Form for Bytes {
-    const NAME: &'static str = "UTF-8";
+    type Unit = u8;
+
+    const NAME: &'static str = "into UTF-8";
 
     fn call<D: RawDecoder>(
+        decoder: &mut D,
+        source: &[u8],
+        output: &mut [u8],
+        last: bool,
+    ) -> (DecoderResult, usize, usize) {
+        decoder.decode_to_utf8_raw(source, output, last)
+    }
+
+    fn replacing<D: RawDecoder>(
+        decoder: &mut D,
+        source: &[u8],
+        output: &mut [u8],
+        last: bool,
+    ) -> (CoderResult, usize, usize, bool) {
+        decode_replacing_utf8(decoder, source, output, last)
+    }
+
+    fn run<D: RawDecoder>(
+        alloc: Global,
+        decoder: &mut D,
+        pieces: &[&[u8]],
+        lengths: &[usize],
+    ) -> Result<DecodeRun, RunError> {
+        decode_run_utf8(alloc, decoder, pieces, lengths)
+    }
+
+    fn find<D: RawDecoder>(
         decoder: &mut D,
         source: &[u8],
         room: usize,
@@ -35,7 +97,8 @@ impl Form for Bytes {
         found: &mut Found,
     ) -> (DecoderResult, usize) {
         let mut output = [0u8; 48];
-        let (answer, read, written) = decoder.decode_to_utf8_raw(
+        let (answer, read, written) = Bytes::call(
+            decoder,
             source,
             &mut output[..room.min(48)],
             last,
@@ -50,9 +113,38 @@ impl Form for Bytes {
 }
 
 impl Form for Units {
-    const NAME: &'static str = "UTF-16";
+    type Unit = u16;
+
+    const NAME: &'static str = "into UTF-16";
 
     fn call<D: RawDecoder>(
+        decoder: &mut D,
+        source: &[u8],
+        output: &mut [u16],
+        last: bool,
+    ) -> (DecoderResult, usize, usize) {
+        decoder.decode_to_utf16_raw(source, output, last)
+    }
+
+    fn replacing<D: RawDecoder>(
+        decoder: &mut D,
+        source: &[u8],
+        output: &mut [u16],
+        last: bool,
+    ) -> (CoderResult, usize, usize, bool) {
+        decode_replacing_utf16(decoder, source, output, last)
+    }
+
+    fn run<D: RawDecoder>(
+        alloc: Global,
+        decoder: &mut D,
+        pieces: &[&[u8]],
+        lengths: &[usize],
+    ) -> Result<DecodeRun, RunError> {
+        decode_run_utf16(alloc, decoder, pieces, lengths)
+    }
+
+    fn find<D: RawDecoder>(
         decoder: &mut D,
         source: &[u8],
         room: usize,
@@ -60,7 +152,8 @@ impl Form for Units {
         found: &mut Found,
     ) -> (DecoderResult, usize) {
         let mut output = [0u16; 96];
-        let (answer, read, written) = decoder.decode_to_utf16_raw(
+        let (answer, read, written) = Units::call(
+            decoder,
             source,
             &mut output[..room.min(96)],
             last,
@@ -71,20 +164,5 @@ impl Form for Units {
             }
         }
         (answer, read)
-    }
-}
-
-/// Code units in hexadecimal, two digits or more each.
-#[derive(Drop)]
-pub(crate) struct Hex<'a, U>(pub(crate) &'a [U]);
-
-impl<U: Copy + Into<u32>> fmt::Display for Hex<'_, U> {
-    fn fmt<W: fmt::Write>(&self, f: &mut fmt::Formatter<W>) -> fmt::Result {
-        write!(f, "[")?;
-        for unit in self.0 {
-            let unit: u32 = (*unit).into();
-            write!(f, " {unit:02X}")?;
-        }
-        write!(f, " ]")
     }
 }

@@ -15,6 +15,10 @@ impl<'a> TestedEncoder for Big5Encoder<'a> {
     fn made(_rt: &impl Abort, of: &'a Tables<'a>) -> Big5Encoder<'a> {
         Big5Encoder::new(of)
     }
+
+    fn pending(&self) -> Option<bool> {
+        None
+    }
 }
 
 const WITHOUT_ENTRIES: &[EncoderRow] = &[

@@ -15,6 +15,10 @@ impl<'a> TestedEncoder for EucJpEncoder<'a> {
     fn made(_rt: &impl Abort, of: &'a Tables<'a>) -> EucJpEncoder<'a> {
         EucJpEncoder::new(of)
     }
+
+    fn pending(&self) -> Option<bool> {
+        None
+    }
 }
 
 const WITHOUT_ENTRIES: &[EncoderRow] = &[

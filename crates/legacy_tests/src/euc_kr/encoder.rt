@@ -17,6 +17,10 @@ impl<'a> TestedEncoder for EucKrEncoder<'a> {
     fn made(_rt: &impl Abort, of: &'a Tables<'a>) -> EucKrEncoder<'a> {
         EucKrEncoder::new(of)
     }
+
+    fn pending(&self) -> Option<bool> {
+        None
+    }
 }
 
 /// The rows with U+AC02 at pointer 0, and no other scalar.

@@ -19,6 +19,10 @@ impl<'a> TestedEncoder for Gb18030Encoder<'a> {
     fn made(_rt: &impl Abort, (tables, extended): (&'a Tables<'a>, bool)) -> Gb18030Encoder<'a> {
         Gb18030Encoder::new(tables, extended)
     }
+
+    fn pending(&self) -> Option<bool> {
+        None
+    }
 }
 
 /// The rows of gb18030 without entries, but with the private-use rows of the standard.

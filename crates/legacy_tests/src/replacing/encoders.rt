@@ -1,11 +1,12 @@
 //! Calls with replacement of encoders.
-use crate::compared::{Outcome, Place, is_call};
+use crate::compared::{Place, is_answer};
 use crate::encoder_rows::TestedEncoder;
 use crate::indexes::{byte_table_of, entries_of, no_entries, tables_of};
 use crate::replacing::encoders::Row::{Encoder, FromUtf8, FromUtf16};
+use crate::texts::Text;
 use legacy_base::{Indexes, RawEncoder};
+use legacy_codecs::CoderResult;
 use legacy_codecs::CoderResult::{InputEmpty, OutputFull};
-use legacy_codecs::{CoderResult, encode_replacing_utf8, encode_replacing_utf16};
 use legacy_encoders::{EucKrEncoder, Iso2022JpEncoder, SingleByteEncoder, UserDefinedEncoder};
 use std::process::Abort;
 
@@ -21,42 +22,22 @@ enum Row<'a> {
     FromUtf16(&'a [u16], usize, bool, CoderResult, usize, &'a [u8], bool),
 }
 
-/// Makes a call from UTF-8, and compares what comes of it with what is wanted.
-fn encodes_text<E: RawEncoder>(
+/// Makes a call, and compares what comes of it with what is wanted.
+fn encodes<T: Text, E: RawEncoder>(
     rt: &impl Abort,
     place: Place,
     encoder: &mut E,
-    (text, room, last): (&str, usize, bool),
-    wanted: Outcome<CoderResult, u8>,
+    (text, room, last): (T, usize, bool),
+    wanted: (CoderResult, usize, &[u8], bool),
 ) {
     let mut output = [0u8; 96];
-    let (result, read, written, replaced) = encode_replacing_utf8(
+    let (answer, read, written, replaced) = text.replacing(
         encoder,
-        text,
         &mut output[..room.min(96)],
         last,
     );
-    let came = (result, read, &output[..written.min(96)], replaced);
-    is_call(rt, place, "UTF-8", came, wanted);
-}
-
-/// Makes a call from UTF-16, and compares what comes of it with what is wanted.
-fn encodes_units<E: RawEncoder>(
-    rt: &impl Abort,
-    place: Place,
-    encoder: &mut E,
-    (units, room, last): (&[u16], usize, bool),
-    wanted: Outcome<CoderResult, u8>,
-) {
-    let mut output = [0u8; 96];
-    let (result, read, written, replaced) = encode_replacing_utf16(
-        encoder,
-        units,
-        &mut output[..room.min(96)],
-        last,
-    );
-    let came = (result, read, &output[..written.min(96)], replaced);
-    is_call(rt, place, "UTF-16", came, wanted);
+    let came = (answer, read, &output[..written.min(96)], replaced);
+    is_answer(rt, place, T::FORM, came, wanted);
 }
 
 /// Follows one row: makes its call, and compares what comes of it with what is wanted.
@@ -71,11 +52,11 @@ fn follow_row<E: TestedEncoder>(
         Encoder(_) => *encoder = E::made(rt, of),
         FromUtf8(text, room, last, answer, read, bytes, replaced) => {
             let wanted = (*answer, *read, *bytes, *replaced);
-            encodes_text(rt, place, encoder, (text, *room, *last), wanted);
+            encodes::<&str, E>(rt, place, encoder, (text, *room, *last), wanted);
         }
         FromUtf16(units, room, last, answer, read, bytes, replaced) => {
             let wanted = (*answer, *read, *bytes, *replaced);
-            encodes_units(rt, place, encoder, (units, *room, *last), wanted);
+            encodes::<&[u16], E>(rt, place, encoder, (units, *room, *last), wanted);
         }
     }
 }

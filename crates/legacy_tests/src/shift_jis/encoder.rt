@@ -15,6 +15,10 @@ impl<'a> TestedEncoder for ShiftJisEncoder<'a> {
     fn made(_rt: &impl Abort, of: &'a Tables<'a>) -> ShiftJisEncoder<'a> {
         ShiftJisEncoder::new(of)
     }
+
+    fn pending(&self) -> Option<bool> {
+        None
+    }
 }
 
 const WITHOUT_ENTRIES: &[EncoderRow] = &[

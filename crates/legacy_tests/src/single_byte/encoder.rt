@@ -1,4 +1,5 @@
 //! The encoders of the single-byte codecs.
+use crate::compared::{is_answer, prints};
 use crate::encode_events::Wanted::{Bytes, Report};
 use crate::encoder_rows::EncoderRow::{
     Encoder, Encodes, FromUtf8, FromUtf16, Utf8Length, Utf16Length,
@@ -10,7 +11,6 @@ use legacy_base::SingleByteTable;
 use legacy_encoders::SingleByteRunError::{RunMismatch, RunPastEnd, RunStart};
 use legacy_encoders::{SingleByteEncoder, SingleByteRunError};
 use std::process::Abort;
-use std::test::Fail;
 
 impl<'a> TestedEncoder for SingleByteEncoder<'a> {
     type Of = (&'a SingleByteTable, u16, u8, u8);
@@ -21,6 +21,10 @@ impl<'a> TestedEncoder for SingleByteEncoder<'a> {
             Ok(encoder) => encoder,
             Err(fault) => panic!(rt; "{fault}"),
         }
+    }
+
+    fn pending(&self) -> Option<bool> {
+        None
     }
 }
 
@@ -84,42 +88,34 @@ fn encodes_ascii_alone_with_an_empty_table(rt: HostRuntime) {
     follow_encoder::<SingleByteEncoder>(&rt, (&table, 0, 32, 1), WITHOUT_ENTRIES);
 }
 
-/// Compares why a run is refused with what is wanted.
-fn is_fault(
-    rt: &impl Abort,
-    table: &SingleByteTable,
-    (scalar, start, count): (u16, u8, u8),
-    wanted: Option<SingleByteRunError>,
-) {
-    let came = SingleByteEncoder::new(table, scalar, start, count).err();
-    assert!(rt;
-        came == wanted,
-        "the run of {count} scalars from {scalar:X} on, from place {start} on\n  came:   {came:?}\n  wanted: {wanted:?}"
-    );
-}
+/// Runs by their first scalar, their first place and their length, and why the table with U+0391 at place 65 alone
+/// refuses them.
+const RUNS: &[((u16, u8, u8), Option<SingleByteRunError>)] = &[
+    ((0x391, 31, 1), Some(RunStart)),
+    ((0x391, 31, 200), Some(RunStart)),
+    ((0x391, 127, 2), Some(RunPastEnd)),
+    ((0x391, 200, 0), Some(RunPastEnd)),
+    ((0x391, 65, 2), Some(RunMismatch(66))),
+    ((0x391, 64, 1), Some(RunMismatch(64))),
+    ((0x391, 65, 1), None),
+    ((0x391, 128, 0), None),
+    ((0x391, 32, 0), None),
+    // place 32 holds 0
+    ((0, 32, 1), None),
+];
 
 #[test]
 fn refuses_runs_that_the_table_does_not_have(rt: HostRuntime) {
     let table = byte_table_of(&rt, &entries_of(&[(65, 0x391)]));
-    is_fault(&rt, &table, (0x391, 31, 1), Some(RunStart));
-    is_fault(&rt, &table, (0x391, 31, 200), Some(RunStart));
-    is_fault(&rt, &table, (0x391, 127, 2), Some(RunPastEnd));
-    is_fault(&rt, &table, (0x391, 200, 0), Some(RunPastEnd));
-    is_fault(&rt, &table, (0x391, 65, 2), Some(RunMismatch(66)));
-    is_fault(&rt, &table, (0x391, 64, 1), Some(RunMismatch(64)));
-    is_fault(&rt, &table, (0x391, 65, 1), None);
-    is_fault(&rt, &table, (0x391, 128, 0), None);
-    is_fault(&rt, &table, (0x391, 32, 0), None);
-    // place 32 holds 0
-    is_fault(&rt, &table, (0, 32, 1), None);
+    for (at, ((scalar, start, count), wanted)) in RUNS.iter().enumerate() {
+        let came = SingleByteEncoder::new(&table, *scalar, *start, *count).err();
+        is_answer(&rt, ("runs", at), "why", came.as_ref(), wanted.as_ref());
+    }
 }
 
 #[test]
-fn says_why_a_run_is_refused(rt: HostRuntime) -> Result<(), Fail> {
-    let text = format!(in rt.alloc(); "{RunStart}, {RunPastEnd}, {}", RunMismatch(70))?;
-    assert_eq!(rt;
-        text.as_str(),
-        "run starts before 32, run passes 128, run differs at 70"
-    );
-    Ok(())
+fn says_why_a_run_is_refused(rt: HostRuntime) {
+    prints(&rt, ("why", 0), &RunStart, "run starts before 32");
+    prints(&rt, ("why", 1), &RunPastEnd, "run passes 128");
+    prints(&rt, ("why", 2), &RunMismatch(70), "run differs at 70");
 }

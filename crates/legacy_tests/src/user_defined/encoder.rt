@@ -14,6 +14,10 @@ impl TestedEncoder for UserDefinedEncoder {
     fn made(_rt: &impl Abort, _of: ()) -> UserDefinedEncoder {
         UserDefinedEncoder::new()
     }
+
+    fn pending(&self) -> Option<bool> {
+        None
+    }
 }
 
 const ROWS: &[EncoderRow] = &[
