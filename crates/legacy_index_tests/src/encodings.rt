@@ -1,4 +1,5 @@
 //! The encodings against rows of the Standard.
+use crate::compared::holds;
 use legacy_index_files::{CodecName, ENCODINGS, Encoding, FileIndex};
 
 /// The codec of the encoding with this name.
@@ -32,7 +33,7 @@ fn encodings_are_known_by_their_names(rt: HostRuntime) {
         ("gbk", None),
     ];
     for (name, codec) in rows {
-        assert_eq!(rt; codec_of(name), codec, "{name}");
+        holds(&rt, name, codec_of(name) == codec);
     }
 }
 
@@ -56,9 +57,9 @@ fn index_files_have_their_published_names(rt: HostRuntime) {
         ("Big5", FileIndex::Big5, Some("index-big5.txt")),
     ];
     for (name, index, file) in rows {
-        assert_eq!(rt; file_name_of(name, index), Some(file), "{name}");
+        holds(&rt, name, file_name_of(name, index) == Some(file));
     }
-    assert_eq!(rt; single_byte_count(), 28);
+    holds(&rt, "single-byte encodings", single_byte_count() == 28);
 }
 
 /// How many encodings are single-byte encodings.

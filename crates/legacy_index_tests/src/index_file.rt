@@ -1,3 +1,4 @@
+use crate::compared::{holds, is_refusal};
 use legacy_index_files::{FileIndex, FileTable, IndexFileError, read_index};
 use std::alloc::{AllocError, Global};
 use std::process::Abort;
@@ -19,8 +20,9 @@ fn gives(alloc: Global, text: &[u8], values: &[u16]) -> Result<bool, AllocError>
 
 /// Asserts that a file's first malformed line is this one.
 fn refuses(rt: &impl Abort, alloc: Global, name: FileIndex, text: &[u8], number: usize) {
-    let fault = read(alloc, name, text).err();
-    assert_eq!(rt; fault, Some(IndexFileError::Line(number)));
+    let answer = read(alloc, name, text);
+    let wanted = IndexFileError::Line(number);
+    is_refusal(rt, "a malformed line", answer.as_ref().err(), Some(&wanted));
 }
 
 #[test]
@@ -54,7 +56,7 @@ fn reads_entries(rt: HostRuntime) -> Result<(), Fail> {
         ("a later value 0", b"1 0x41\n1 0x0\n", &[0, 0]),
     ];
     for (what, text, values) in rows {
-        assert!(rt; gives(rt.alloc(), text, values)?, "{what}");
+        holds(&rt, what, gives(rt.alloc(), text, values)?);
     }
     Ok(())
 }
@@ -109,7 +111,7 @@ fn reads_ranges(rt: HostRuntime) -> Result<(), Fail> {
         ),
     ];
     for (what, text, ranges) in rows {
-        assert!(rt; gives_ranges(rt.alloc(), text, ranges)?, "{what}");
+        holds(&rt, what, gives_ranges(rt.alloc(), text, ranges)?);
     }
     Ok(())
 }
@@ -118,7 +120,7 @@ fn reads_ranges(rt: HostRuntime) -> Result<(), Fail> {
 fn reads_wide_values_of_big5_alone(rt: HostRuntime) -> Result<(), Fail> {
     let values = vec![in rt.alloc(); 0x43F0, 0x10FFFF]?;
     let table = read(rt.alloc(), FileIndex::Big5, b"0 0x43F0\n1 0x10FFFF");
-    assert_eq!(rt; table, Ok(FileTable::Wide(values)));
+    holds(&rt, "wide values", table == Ok(FileTable::Wide(values)));
     Ok(())
 }
 
@@ -132,9 +134,9 @@ fn reads_a_single_byte_index(rt: HostRuntime) {
         FileIndex::SingleByte,
         b"  0\t0x20AC\n127\t0x02D9\n",
     );
-    assert_eq!(rt; table, Ok(FileTable::Bytes(values)));
+    holds(&rt, "two entries", table == Ok(FileTable::Bytes(values)));
     let empty = read(rt.alloc(), FileIndex::SingleByte, b"");
-    assert_eq!(rt; empty, Ok(FileTable::Bytes([0; 128])));
+    holds(&rt, "no entry", empty == Ok(FileTable::Bytes([0; 128])));
 }
 
 #[test]
@@ -149,7 +151,8 @@ fn reads_pointers_below_the_greatest_length(rt: HostRuntime) {
         (FileIndex::SingleByte, b"127 0x1", b"128 0x1"),
     ];
     for (name, last, past) in cases {
-        assert!(rt; read(rt.alloc(), name, last).is_ok(), "{name:?}");
+        let is_read = read(rt.alloc(), name, last).is_ok();
+        holds(&rt, "the last pointer", is_read);
         refuses(&rt, rt.alloc(), name, past, 1);
     }
 }
@@ -163,7 +166,8 @@ fn reads_an_index_of_each_pointer(rt: HostRuntime) -> Result<(), Fail> {
         text.push_str(&line)?;
         values.push(pointer + 7)?;
     }
-    assert!(rt; gives(rt.alloc(), text.as_bytes(), &values)?);
+    let is_so = gives(rt.alloc(), text.as_bytes(), &values)?;
+    holds(&rt, "an entry a pointer", is_so);
     Ok(())
 }
 
@@ -176,27 +180,34 @@ fn shows_its_faults(rt: HostRuntime) -> Result<(), Fail> {
     Ok(())
 }
 
+const NINE: &[u8] = b"0 0x1\n1 0x2\n2 0x3\n3 0x4\n4 0x5\n5 0x6\n6 0x7\n7 0x8\n8 0x9";
+
+/// Whether a table has nine entries, from 1 to 9, or nine ranges.
+fn has_nine(table: &FileTable) -> bool {
+    match table {
+        FileTable::Wide(values) => values.as_slice() == [1, 2, 3, 4, 5, 6, 7, 8, 9].as_slice(),
+        FileTable::Narrow(values) => values.as_slice() == [1, 2, 3, 4, 5, 6, 7, 8, 9].as_slice(),
+        FileTable::Ranges(ranges) => ranges.len() == 9,
+        FileTable::Bytes(_) => false,
+    }
+}
+
 // In a run where one allocation is refused, whichever it is, the call that asked for it answers `Memory`,
 // and every other one its table.
 #[test]
 fn answers_memory_only_where_a_growth_is_refused(rt: HostRuntime) {
-    let text = b"0 0x1\n1 0x2\n2 0x3\n3 0x4\n4 0x5\n5 0x6\n6 0x7\n7 0x8\n8 0x9";
     let mut refused = false;
     for name in [FileIndex::Big5, FileIndex::Jis0208, FileIndex::Ranges] {
-        match read(rt.alloc(), name, text) {
-            Ok(FileTable::Wide(values)) => assert_eq!(rt;
-                values.as_slice(),
-                [1, 2, 3, 4, 5, 6, 7, 8, 9].as_slice()
-            ),
-            Ok(FileTable::Narrow(values)) => assert_eq!(rt;
-                values.as_slice(),
-                [1, 2, 3, 4, 5, 6, 7, 8, 9].as_slice()
-            ),
-            Ok(FileTable::Ranges(ranges)) => assert_eq!(rt; ranges.len(), 9),
-            Ok(FileTable::Bytes(_)) => assert!(rt; false),
+        match read(rt.alloc(), name, NINE) {
+            Ok(table) => holds(&rt, "nine entries", has_nine(&table)),
             Err(fault) => {
-                assert_eq!(rt; fault, IndexFileError::Memory);
-                assert!(rt; !refused);
+                is_refusal(
+                    &rt,
+                    "nine entries",
+                    Some(&fault),
+                    Some(&IndexFileError::Memory),
+                );
+                holds(&rt, "one refusal", !refused);
                 refused = true;
             }
         }

@@ -1,4 +1,5 @@
 //! An owning set of indexes, from the text of a file to what tables give.
+use crate::compared::{holds, is_fault, is_refusal, is_scalar};
 use legacy_index_files::{FileIndex, FileTable, IndexFileError, OwnedIndexes, read_index};
 use legacy_tables::{IndexName, SingleByteTable, TableError, Tables};
 use std::alloc::Global;
@@ -34,43 +35,59 @@ fn scalar_of(tables: &Tables, index: IndexName, pointer: usize) -> Option<char> 
 
 /// Asserts that tables are those of the files below.
 fn have_what_files_say(rt: &impl Abort, tables: &Tables) {
-    assert_eq!(rt; scalar_of(tables, IndexName::EucKr, 1), Some('\u{AC03}'));
-    assert_eq!(rt; scalar_of(tables, IndexName::Jis0208, 0), None);
-    assert_eq!(rt; tables.range(37), Some('\u{A6}'));
-    assert_eq!(rt; tables.gb18030_pua_bytes('\u{E78D}'), Some((0xA6, 0xD9)));
+    let scalar = scalar_of(tables, IndexName::EucKr, 1);
+    is_scalar(rt, "EUC-KR", scalar, Some('\u{AC03}'));
+    is_scalar(
+        rt,
+        "jis0208",
+        scalar_of(tables, IndexName::Jis0208, 0),
+        None,
+    );
+    is_scalar(rt, "ranges", tables.range(37), Some('\u{A6}'));
+    let bytes = tables.gb18030_pua_bytes('\u{E78D}');
+    holds(rt, "a private-use row", bytes == Some((0xA6, 0xD9)));
 }
+
+/// A file of an index, and the first malformed line, if it has one.
+type File = (FileIndex, &'static [u8], Option<IndexFileError>);
+
+const FILES: &[File] = &[
+    (FileIndex::EucKr, b"0 0xAC02\n1 0xAC03\n", None),
+    (FileIndex::Ranges, b"0 0x0080\n36 0x00A5\n", None),
+    (
+        FileIndex::EucKr,
+        b"0 0xAC05\n0xAC06\n",
+        Some(IndexFileError::Line(2)),
+    ),
+];
 
 #[test]
 fn tables_are_borrowed_of_what_files_say(rt: HostRuntime) {
     let mut owned = OwnedIndexes::new(rt.alloc());
-    let rows: [(FileIndex, &[u8], Result<(), IndexFileError>); 3] = [
-        (FileIndex::EucKr, b"0 0xAC02\n1 0xAC03\n", Ok(())),
-        (FileIndex::Ranges, b"0 0x0080\n36 0x00A5\n", Ok(())),
-        (
-            FileIndex::EucKr,
-            b"0 0xAC05\n0xAC06\n",
-            Err(IndexFileError::Line(2)),
-        ),
-    ];
-    for (index, text, wanted) in rows {
-        assert_eq!(rt; read(&mut owned, rt.alloc(), index, text), wanted);
+    for (index, text, refusal) in FILES {
+        let answer = read(&mut owned, rt.alloc(), *index, *text);
+        is_refusal(&rt, "a file", answer.as_ref().err(), refusal.as_ref());
     }
     match tables_of(&owned) {
         Ok(tables) => have_what_files_say(&rt, &tables),
-        Err(_) => assert!(rt; false),
+        Err(_) => holds(&rt, "tables", false),
+    }
+}
+
+/// A set with the euro sign at pointer 0 of a single-byte index, as in windows-1252.
+fn has_the_euro_sign(rt: &impl Abort, owned: &OwnedIndexes) {
+    match single_byte_table_of(owned) {
+        Ok(table) => is_scalar(rt, "a single-byte index", table.scalar(0), Some('\u{20AC}')),
+        Err(_) => holds(rt, "a single-byte table", false),
     }
 }
 
 #[test]
 fn the_first_fault_of_a_set_is_told(rt: HostRuntime) {
     let mut owned = OwnedIndexes::new(rt.alloc());
-    // The euro sign is at pointer 0 of windows-1252.
     let answer = read(&mut owned, rt.alloc(), FileIndex::SingleByte, b"0 0x20AC\n");
-    assert_eq!(rt; answer, Ok(()));
-    match single_byte_table_of(&owned) {
-        Ok(table) => assert_eq!(rt; table.scalar(0), Some('\u{20AC}')),
-        Err(_) => assert!(rt; false),
-    }
+    is_refusal(&rt, "a file", answer.as_ref().err(), None);
+    has_the_euro_sign(&rt, &owned);
     // The ideographic full stop is at pointer 0 of index ISO-2022-JP katakana, which has 63 pointers.
     if let Ok(FileTable::Narrow(values)) = read_index(
         rt.alloc(),
@@ -79,8 +96,11 @@ fn the_first_fault_of_a_set_is_told(rt: HostRuntime) {
     ) {
         owned.katakana = values;
     }
-    match tables_of(&owned) {
-        Ok(_) => assert!(rt; false),
-        Err(fault) => assert_eq!(rt; fault, TableError::KatakanaLength),
-    }
+    let fault = tables_of(&owned).err();
+    is_fault(
+        &rt,
+        "katakana",
+        fault.as_ref(),
+        Some(&TableError::KatakanaLength),
+    );
 }

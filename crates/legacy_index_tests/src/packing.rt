@@ -1,5 +1,6 @@
+use crate::compared::{are_pointers, holds, is_fault, is_scalar};
 use legacy_index_files::{FileIndex, OwnedIndexes, OwnedPacked, PackedIndexes, pack};
-use legacy_tables::{IndexName, Indexes, KeptTables, Packed, TableError, Tables};
+use legacy_tables::{IndexName, Indexes, KeptTables, Packed, Run, TableError, Tables};
 use std::alloc::Global;
 use std::process::Abort;
 use std::test::Fail;
@@ -37,7 +38,8 @@ fn fault_of<'a>(indexes: &Indexes<'a>) -> Option<TableError> {
 
 /// Asserts that packed indexes have no fault of their own beside indexes.
 fn has_no_own_fault<'a>(rt: &impl Abort, indexes: &Indexes<'a>, packed: &Packed<'a>) {
-    assert_eq!(rt; fault_with(indexes, packed), fault_of(indexes));
+    let (came, wanted) = (fault_with(indexes, packed), fault_of(indexes));
+    is_fault(rt, "packed", came.as_ref(), wanted.as_ref());
 }
 
 /// Entries of index EUC-KR, their runs, and the pointers by scalar values.
@@ -73,6 +75,19 @@ const ROWS: &[Row] = &[
     ),
 ];
 
+/// Whether these runs were made.
+fn are_runs(came: &[Run], wanted: &[(u16, u32, u16)]) -> bool {
+    if came.len() != wanted.len() {
+        return false;
+    }
+    for (run, wanted) in came.iter().zip(wanted) {
+        if (run.pointer, run.scalar, run.length) != *wanted {
+            return false;
+        }
+    }
+    true
+}
+
 #[test]
 fn runs_and_orders_of_an_index(rt: HostRuntime) {
     for (entries, runs, order) in ROWS {
@@ -80,16 +95,8 @@ fn runs_and_orders_of_an_index(rt: HostRuntime) {
         indexes.euc_kr = entries;
         let made = packed_of(&rt, rt.alloc(), &indexes);
         has_no_own_fault(&rt, &indexes, &made.packed());
-        assert!(rt; made.euc_kr.len() == runs.len(), "came {:?}", made.euc_kr);
-        for (run, wanted) in made.euc_kr.iter().zip(*runs) {
-            let came = (run.pointer, run.scalar, run.length);
-            assert!(rt; came == *wanted, "came {came:?}, wanted {wanted:?}");
-        }
-        assert!(rt;
-            made.euc_kr_order.as_slice() == *order,
-            "came {:?}",
-            made.euc_kr_order
-        );
+        holds(&rt, "the runs of EUC-KR", are_runs(&made.euc_kr, *runs));
+        are_pointers(&rt, "EUC-KR", &made.euc_kr_order, *order);
     }
 }
 
@@ -119,17 +126,10 @@ fn two_orders_of_jis0208(rt: HostRuntime) {
         indexes.jis0208 = &entries;
         let made = packed_of(&rt, rt.alloc(), &indexes);
         has_no_own_fault(&rt, &indexes, &made.packed());
-        assert!(rt; made.jis0208.len() == places.len());
-        assert!(rt;
-            made.shift_jis_order.as_slice() == *shift_jis,
-            "came {:?}",
-            made.shift_jis_order
-        );
-        assert!(rt;
-            made.euc_jp_order.as_slice() == *euc_jp,
-            "came {:?}",
-            made.euc_jp_order
-        );
+        let count = made.jis0208.len();
+        holds(&rt, "a run for each place", count == places.len());
+        are_pointers(&rt, "Shift_JIS", &made.shift_jis_order, *shift_jis);
+        are_pointers(&rt, "EUC-JP", &made.euc_jp_order, *euc_jp);
     }
 }
 
@@ -164,11 +164,7 @@ fn an_order_of_big5(rt: HostRuntime) {
         indexes.big5 = &entries;
         let made = packed_of(&rt, rt.alloc(), &indexes);
         has_no_own_fault(&rt, &indexes, &made.packed());
-        assert!(rt;
-            made.big5_order.as_slice() == *order,
-            "came {:?}",
-            made.big5_order
-        );
+        are_pointers(&rt, "Big5", &made.big5_order, *order);
     }
 }
 
@@ -191,6 +187,17 @@ fn indexes_that_are_refused_are_packed_too(rt: HostRuntime) {
     }
 }
 
+/// Asserts that tables are packed ones of the entries below.
+fn are_packed_of_three(rt: &impl Abort, tables: &Tables) {
+    let is_packed = matches!(tables.kept(), KeptTables::Packed(_));
+    holds(rt, "packed", is_packed);
+    let scalar = tables.idx(IndexName::EucKr, 1);
+    is_scalar(rt, "pointer 1", scalar, Some('\u{AC03}'));
+    is_scalar(rt, "pointer 2", tables.idx(IndexName::EucKr, 2), None);
+    let pointer = tables.euc_kr_pointer('\u{AC05}');
+    holds(rt, "the pointer of U+AC05", pointer == Some(3));
+}
+
 #[test]
 fn an_owning_set_makes_packed_tables(rt: HostRuntime) -> Result<(), Fail> {
     let text = b"0 0xAC02\n1 0xAC03\n3 0xAC05\n";
@@ -198,10 +205,7 @@ fn an_owning_set_makes_packed_tables(rt: HostRuntime) -> Result<(), Fail> {
     owned.read(rt.alloc(), FileIndex::EucKr, text)?;
     let packed = PackedIndexes::new(rt.alloc(), owned)?;
     let tables = packed.tables()?;
-    assert!(rt; matches!(tables.kept(), KeptTables::Packed(_)));
-    assert!(rt; tables.idx(IndexName::EucKr, 1) == Some('\u{AC03}'));
-    assert!(rt; tables.idx(IndexName::EucKr, 2) == None);
-    assert!(rt; tables.euc_kr_pointer('\u{AC05}') == Some(3));
+    are_packed_of_three(&rt, &tables);
     Ok(())
 }
 
@@ -214,9 +218,12 @@ fn answers_memory_only_where_a_growth_is_refused(rt: HostRuntime) {
         let mut indexes = no_entries();
         indexes.euc_kr = &[0xAC02, 0, 0xAC05];
         match pack(rt.alloc(), &indexes) {
-            Ok(made) => assert!(rt; made.euc_kr.len() == 2 && made.euc_kr_order.len() == 2),
+            Ok(made) => {
+                let is_so = made.euc_kr.len() == 2 && made.euc_kr_order.len() == 2;
+                holds(&rt, "two runs and two pointers", is_so);
+            }
             Err(_) => {
-                assert!(rt; !refused);
+                holds(&rt, "one refusal", !refused);
                 refused = true;
             }
         }
