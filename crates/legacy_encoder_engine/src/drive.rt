@@ -16,6 +16,16 @@ fn put(dst: &mut [u8], at: usize, byte: u8)
     dst[at] = byte;
 }
 
+/// Writes two bytes from a place on.
+#[inline(always)]
+pub fn put_two(dst: &mut [u8], at: usize, first: u8, second: u8)
+    requires { at + 2 ≤ length dst.old }
+    ensures { take (at + 2) dst.new ≡ take at dst.old ++ first ∷ second ∷ [] }
+{
+    put(dst, at, first);
+    put(dst, at + 1, second);
+}
+
 /// Writes the bytes of a move from a place on, and answers where they end.
 #[inline]
 pub fn put_move(dst: &mut [u8], at: usize, step: EncoderMove) -> usize

@@ -1,5 +1,5 @@
 //! The one encoder of the codecs of ASCII and pairs: no code has more than two bytes.
-ghost use Rattle.std.specs.Prelude.{◌≡◌, [], ◌∷◌, Some, IfSome};
+ghost use Rattle.std.specs.Prelude.{◌≡◌, ◌≤◌, [], ◌∷◌, Some, IfSome};
 ghost use Rattle.legacy_tables.specs.Indexes.{FlatIndexes};
 ghost use Rattle.legacy_base.specs.Encoders.{Codec, encoder_profile, new_encoder};
 ghost use Rattle.legacy_base.specs.Lengths.{answer, number, ◌⊕◌, ◌⊗◌};
@@ -24,11 +24,19 @@ pub trait PairCodec {
     /// What is shown of it.
     ghost pairs: { (flat : FlatIndexes) → IsPairCodec (codec flat) };
 
-    /// The lead and the trail of a scalar whose code these are. Any scalar may have none here: `code_of` has
-    /// all codes.
+    /// The lead and the trail of a scalar past ASCII whose code these are. Any scalar may have none here:
+    /// `code_of` has all codes.
     fn pair_of<V: EncoderTables>(tables: &V, c: char) -> Option<(u8, u8)>
+        requires { 0x80 ≤ c }
         ensures { IfSome result (λ pair. (encoder_profile (codec (V.indexes tables.now).flat)).code c
             ≡ Some (pair.0 ∷ pair.1 ∷ [])) };
+
+    /// Whether scalars past ASCII that have no pair here are common: then their codes are made where pairs are.
+    /// It is a hint: any answer will do.
+    #[inline(always)]
+    fn goes_past_pairs() -> bool {
+        false
+    }
 
     /// The bytes of a scalar, or the scalar itself as unmappable.
     fn code_of<V: EncoderTables>(tables: &V, c: char) -> EncoderMove
@@ -133,6 +141,11 @@ impl<'a, C: PairCodec, V: EncoderTables> PlainCodes for PairCodes<'a, C, V> {
     #[inline(always)]
     fn code_of(&self, c: char) -> EncoderMove {
         C::code_of(self.tables, c)
+    }
+
+    #[inline(always)]
+    fn goes_past_pairs(&self) -> bool {
+        C::goes_past_pairs()
     }
 
     #[inline(always)]

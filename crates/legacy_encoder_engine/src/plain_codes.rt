@@ -1,5 +1,5 @@
 //! The codecs without modes: the code of each scalar stands by itself.
-ghost use Rattle.std.specs.Prelude.{◌≡◌, ℕ, [], ◌∷◌, true, Some, IfSome};
+ghost use Rattle.std.specs.Prelude.{◌≡◌, ◌≤◌, ℕ, [], ◌∷◌, true, Some, IfSome};
 ghost use Rattle.legacy_text.specs.UnitCodes.{IsNoSurrogate};
 ghost use Rattle.legacy_base.specs.Encoders.{Codec, encoder_profile};
 ghost use Rattle.legacy_encoder_engine.specs.Moves.{IsCode};
@@ -26,15 +26,23 @@ pub trait PlainCodes {
     fn code_of(&self, c: char) -> EncoderMove
         ensures { IsCode ((encoder_profile (codec self.now)).code c) c result };
 
-    /// The lead and the trail of a scalar whose code these are. Any scalar may have none here: `code_of` has
-    /// all codes.
+    /// The lead and the trail of a scalar past ASCII whose code these are. Any scalar may have none here:
+    /// `code_of` has all codes.
     #[inline(always)]
     fn pair_of(&self, c: char) -> Option<(u8, u8)>
+        requires { 0x80 ≤ c }
         ensures { IfSome result (λ pair.
             (encoder_profile (codec self.now)).code c ≡ Some (pair.0 ∷ pair.1 ∷ [])) }
     {
         let _ = c;
         None
+    }
+
+    /// Whether scalars past ASCII that have no pair here are common: then their codes are made where pairs are.
+    /// It is a hint: any answer will do.
+    #[inline(always)]
+    fn goes_past_pairs(&self) -> bool {
+        false
     }
 
     /// Whether runs of code units of UTF-16 are worth `byte_of`. It is a hint: any answer will do.

@@ -6,7 +6,7 @@ ghost use Rattle.legacy_base.specs.Encoders.{new_encoder, scalar_room};
 ghost use Rattle.legacy_encoder_engine.specs.Moves.{is_escape, move_report};
 ghost use Rattle.legacy_encoder_engine.specs.UnderWay.{KeepsOn, PutsCode};
 
-use crate::drive::put_move;
+use crate::drive::{put_move, put_two};
 use crate::moves::EncoderMove;
 use crate::plain_codes::PlainCodes;
 use crate::units::Units;
@@ -23,8 +23,34 @@ pub fn has_bytes(step: EncoderMove) -> bool
     }
 }
 
-/// Writes the bytes of a scalar that is next, and answers where they end; `None` where it has none.
-// Pairs come first: where all moves meet, the compiler packs their bytes into one number and unpacks it.
+/// Writes the bytes of a scalar past ASCII that is next, and answers where they end; `None` where it has none,
+/// or is no pair and left to the moves.
+// Where no more than pairs is written here, the loop has no call and nothing of what is rare, and each of its
+// values stays in a register. A pair is not made a move, which the compiler would pack into one number and unpack.
+#[inline(always)]
+fn put_past_ascii<C: PlainCodes>(encoder: &C, dst: &mut [u8], at: usize, c: char) -> Option<usize>
+    requires room { at + scalar_room (new_encoder (C.codec encoder.now)) c ≤ length dst.old }
+    requires past { 0x80 ≤ c }
+    ensures { MatchOption result (take at dst.new ≡ take at dst.old)
+        (λ end. PutsCode (new_encoder (C.codec encoder.now)) c (take at dst.old) at
+        (take end dst.new) end) }
+{
+    if let Some((lead, trail)) = encoder.pair_of(c) {
+        put_two(dst, at, lead, trail);
+        return Some(at + 2);
+    }
+    if !encoder.goes_past_pairs() {
+        return None;
+    }
+    let step = encoder.code_of(c);
+    if !has_bytes(step) {
+        return None;
+    }
+    Some(put_move(dst, at, step))
+}
+
+/// Writes the bytes of a scalar that is next, and answers where they end; `None` where it has none, or is
+/// neither ASCII nor a pair and left to the moves.
 #[inline(always)]
 fn put_code<C: PlainCodes>(encoder: &C, dst: &mut [u8], at: usize, c: char) -> Option<usize>
     requires { at + scalar_room (new_encoder (C.codec encoder.now)) c ≤ length dst.old }
@@ -32,14 +58,10 @@ fn put_code<C: PlainCodes>(encoder: &C, dst: &mut [u8], at: usize, c: char) -> O
         (λ end. PutsCode (new_encoder (C.codec encoder.now)) c (take at dst.old) at
         (take end dst.new) end) }
 {
-    if let Some((lead, trail)) = encoder.pair_of(c) {
-        return Some(put_move(dst, at, EncoderMove::Two(lead, trail)));
+    if (c as u32) < 0x80 {
+        return Some(put_move(dst, at, EncoderMove::One(c as u8)));
     }
-    let step = encoder.code_of(c);
-    if !has_bytes(step) {
-        return None;
-    }
-    Some(put_move(dst, at, step))
+    put_past_ascii(encoder, dst, at, c)
 }
 
 /// Whether what comes next, of which this is the first scalar, is perhaps read by blocks. It is a hint: any
@@ -145,7 +167,7 @@ fn read_scalars<C: PlainCodes, S: Source>(
     while dst.len() - at >= widest {
         match src.front() {
             Next::One(c) => {
-                if at > start && may_go_by_blocks(encoder, src, c) {
+                if may_go_by_blocks(encoder, src, c) && at > start {
                     return at;
                 }
                 let Some(end) = put_code(encoder, dst, at, c) else {
@@ -155,7 +177,7 @@ fn read_scalars<C: PlainCodes, S: Source>(
                 src.pass(1);
             }
             Next::Two(c) => {
-                let Some(end) = put_code(encoder, dst, at, c) else {
+                let Some(end) = put_past_ascii(encoder, dst, at, c) else {
                     return at;
                 };
                 let goes_on = at > start;
@@ -164,7 +186,7 @@ fn read_scalars<C: PlainCodes, S: Source>(
                 at += read_turns(encoder, src, dst, at, goes_on);
             }
             Next::Three(c) => {
-                let Some(end) = put_code(encoder, dst, at, c) else {
+                let Some(end) = put_past_ascii(encoder, dst, at, c) else {
                     return at;
                 };
                 at = end;

@@ -7,7 +7,7 @@ use Rattle.std.proofs.lemmas.Nat.Bits.{bit_at-lt}
 use borrow.Author.Tests.{eqb-true, eqb-false}
 use Rattle.std.proofs.lemmas.Bool.{cases_lt}
 use Rattle.std.proofs.lemmas.List.{length-replicate}
-use Rattle.std.proofs.lemmas.Nat.{ones_cat, pow_pos, pow-add, shl-shr, mod-pow-add, mod_below}
+use Rattle.std.proofs.lemmas.Nat.{ones_cat, pow_pos, pow-add, shl-shr, shr-shr, shr_high, mod-pow-add, mod_below}
 use Rattle.std.proofs.Math.Nat.{mod-eq_of_lt, mul-mod_left, mul-add-mod_self_right, pow-le-pow_right, pow-suc}
 use Rattle.legacy_tables.specs.Directories.{IsRising, IsCountBelow, IsDirectory, IsBounded, count_below, is_held}
 
@@ -24,16 +24,30 @@ double : (k : ℕ) → 2 ^ (k + 1) ≡ 2 ^ k + 2 ^ k
 double k = let e : k + 1 ≡ suc k = omega arith in let f = pow-suc 2 k in ap (λ n. 2 ^ n) e ∙ f ∙ omega arith
 
 -- to shift out what lies above place k is to keep the k + 1 lowest bits
-pub ones-kept : (set k : ℕ) → k < 64 → count_ones (set * 2 ^ (63 - k) % 2 ^ 64) ≡ count_ones (set % 2 ^ (k + 1))
-unfolding count_ones
-ones-kept set k h =
+kept-is : (set k : ℕ) → k < 64 → set * 2 ^ (63 - k) % 2 ^ 64 ≡ (set % 2 ^ (k + 1)) * 2 ^ (63 - k) + 0
+kept-is set k h =
     let e : (k + 1) + (63 - k) ≡ 64 = omega arith in
     let parts = mod-pow-add (set * 2 ^ (63 - k)) (k + 1) (63 - k) in
     let low : set * 2 ^ (63 - k) % 2 ^ (63 - k) ≡ 0 = mul-mod_left set (2 ^ (63 - k)) in
     let high : set * 2 ^ (63 - k) / 2 ^ (63 - k) ≡ set = shl-shr set (63 - k) in
-    let cut : set * 2 ^ (63 - k) % 2 ^ 64 ≡ (set % 2 ^ (k + 1)) * 2 ^ (63 - k) + 0 =
-    ap (λ n. set * 2 ^ (63 - k) % 2 ^ n) (sym e) ∙ parts ∙ rw (low, high) refl in
-    ap count_ones cut ∙ ones_cat (63 - k) (set % 2 ^ (k + 1)) 0 (pow_pos (63 - k)) ∙ add_zero _
+    ap (λ n. set * 2 ^ (63 - k) % 2 ^ n) (sym e) ∙ parts ∙ rw (low, high) refl
+
+-- as many are then set
+pub ones-kept : (set k : ℕ) → k < 64 → count_ones (set * 2 ^ (63 - k) % 2 ^ 64) ≡ count_ones (set % 2 ^ (k + 1))
+unfolding count_ones
+ones-kept set k h = ap count_ones (kept-is set k h) ∙ ones_cat (63 - k) (set % 2 ^ (k + 1)) 0 (pow_pos (63 - k)) ∙ add_zero _
+
+-- and the highest bit is that of place k
+pub highest-kept : (set k : ℕ) → k < 64 → set * 2 ^ (63 - k) % 2 ^ 64 / 2 ^ 63 ≡ bit_at set k
+highest-kept set k h =
+    let e : (63 - k) + k ≡ 63 = omega arith in
+    let f : 1 + k ≡ k + 1 = omega arith in
+    let bits : set % 2 ^ (k + 1) ≡ bit_at set k * 2 ^ k + set % 2 ^ k = ap (λ n. set % 2 ^ n) (sym f) ∙ mod-pow-add set 1 k in
+    ap (λ n. n / 2 ^ 63) (kept-is set k h ∙ add_zero _)
+    ∙ ap (λ n. (set % 2 ^ (k + 1)) * 2 ^ (63 - k) / 2 ^ n) (sym e)
+    ∙ sym (shr-shr ((set % 2 ^ (k + 1)) * 2 ^ (63 - k)) (63 - k) k)
+    ∙ ap (λ n. n / 2 ^ k) (shl-shr (set % 2 ^ (k + 1)) (63 - k) ∙ bits)
+    ∙ shr_high (bit_at set k) k (set % 2 ^ k) (mod_below set (2 ^ k) (pow_pos k))
 
 -- a bit that is set is one more among those up to it
 pub ones-held : (set k : ℕ) → bit_at set k ≡ 1 → count_ones (set % 2 ^ (k + 1)) ≡ count_ones (set % 2 ^ k) + 1

@@ -1,10 +1,10 @@
 -- The bytes of a scalar, by its range.
-use Rattle.std.proofs.Common.{◌≡◌, ◌∙◌, ℕ, ◌+◌, ◌-◌, ◌/◌, ◌%◌, ◌≤◌, ◌<◌, List, [], ◌∷◌, ◌++◌, length, refl, ap, arith, append_assoc, length-append}
+use Rattle.std.proofs.Common.{◌≡◌, ◌∙◌, ℕ, ◌+◌, ◌-◌, ◌/◌, ◌%◌, ◌≤◌, ◌<◌, List, [], ◌∷◌, ◌++◌, length, refl, ap, arith, append_assoc, length-append, inl, inr}
 use Rattle.std.proofs.lemmas.List.Concat.{flat_map-append}
-use Rattle.std.proofs.lemmas.Bool.{lt-ltb, le-ltb}
+use Rattle.std.proofs.lemmas.Bool.{cases_lt, lt-ltb, le-ltb}
 use lib.Utf8.{encode}
 use Rattle.std.proofs.lemmas.Bool.Decides.{nat_tests}
-use Rattle.legacy_text.specs.EncodingForm.{EncodingForm, code_units, all_code_units, total_unit_count, Utf8, Utf16, bmp_room, wide_room}
+use Rattle.legacy_text.specs.EncodingForm.{EncodingForm, code_units, all_code_units, unit_count, total_unit_count, Utf8, Utf16, bmp_room, wide_room}
 use Rattle.std.specs.Char.Escape.{encode_utf16}
 
 pub encode_1 : (c : ℕ) → c < 128 → encode c ≡ c ∷ []
@@ -22,6 +22,25 @@ encode_3 c a b = let a' : 128 ≤ c = omega arith in rw (le-ltb c 128 a', le-ltb
 pub encode_4 : (c : ℕ) → 65536 ≤ c → encode c ≡ (240 + c / 262144) ∷ (128 + c / 4096 % 64) ∷ (128 + c / 64 % 64) ∷ (128 + c % 64) ∷ []
 unfolding encode
 encode_4 c a = let b : 128 ≤ c = omega arith in let d : 2048 ≤ c = omega arith in rw (le-ltb c 128 b, le-ltb c 2048 d, le-ltb c 65536 a) refl
+
+-- a scalar of so many bytes in UTF-8 lies below a power of two
+pub two_below : (c : ℕ) → unit_count Utf8 c ≡ 2 → c < 2048
+two_below c e = elim (cases_lt c 2048) [
+  | inl a ↦ a
+  | inr a ↦ elim (cases_lt c 65536) [ inl b ↦ absurd (omega (arith, ap length (encode_3 c a b))) | inr b ↦ absurd (omega (arith, ap length (encode_4 c b))) ]
+]
+
+pub two_above : (c : ℕ) → unit_count Utf8 c ≡ 2 → 128 ≤ c
+two_above c e = elim (cases_lt c 128) [ inl a ↦ absurd (omega (arith, ap length (encode_1 c a))) | inr a ↦ a ]
+
+pub three_above : (c : ℕ) → unit_count Utf8 c ≡ 3 → 2048 ≤ c
+three_above c e = elim (cases_lt c 128) [
+  | inl a ↦ absurd (omega (arith, ap length (encode_1 c a)))
+  | inr a ↦ elim (cases_lt c 2048) [ inl b ↦ absurd (omega (arith, ap length (encode_2 c a b))) | inr b ↦ b ]
+]
+
+pub three_below : (c : ℕ) → unit_count Utf8 c ≡ 3 → c < 65536
+three_below c e = elim (cases_lt c 65536) [ inl a ↦ a | inr a ↦ absurd (omega (arith, ap length (encode_4 c a))) ]
 
 pub utf16_1 : (c : ℕ) → c < 65536 → encode_utf16 c ≡ c ∷ []
 utf16_1 c a = rw (lt-ltb c 65536 a) refl

@@ -9,11 +9,10 @@ use Rattle.std.specs.Str.{chars, is_utf8}
 use lib.Utf8.{encode, encodes}
 use Rattle.legacy_text.specs.EncodingForm.{Utf8, code_units, unit_count, total_unit_count}
 use Rattle.legacy_text.specs.ShortScalars.{ReadsScalar, WritesScalars}
-use Rattle.legacy_text.specs.NextScalars.{TellsCount}
 use Rattle.legacy_text.specs.UnitCodes.{WritesCodes}
 use Rattle.legacy_text.proofs.CodeUnits.{encode_1, encode_2, encode_3, encode_4}
 use Rattle.legacy_text.proofs.CodeUnits.{total_unit_count-append}
-use Rattle.legacy_text.proofs.Texts.{first_some, first_cons, utf8_pass, utf8_bytes, utf8_tells}
+use Rattle.legacy_text.proofs.Texts.{TellsCount, first_some, first_cons, utf8_pass, utf8_bytes, utf8_tells}
 use Rattle.legacy_text.proofs.UnitCopies.{writes_none}
 
 -- ---- runs

@@ -1,5 +1,5 @@
 -- The scalars of texts, one by one from the front, and the places between them.
-use Rattle.std.proofs.Common.{◌≡◌, ◌∙◌, ℕ, zero, suc, ◌+◌, ◌-◌, ◌≤◌, ◌<◌, List, [], ◌∷◌, ◌++◌, length, take, drop, get_or, refl, sym, ◌/◌, add-zero}
+use Rattle.std.proofs.Common.{◌≡◌, ◌∙◌, ℕ, zero, suc, ◌+◌, ◌-◌, ◌≤◌, ◌<◌, List, [], ◌∷◌, ◌++◌, length, take, drop, get_or, refl, sym, ◌*◌, ◌/◌, ◌%◌, add-zero}
 use Rattle.std.proofs.Common.{ap, subst, arith, length-append, length-drop, Some, None, Option, true, false, Bool, ◌⊎◌, inl, inr, ◌&&◌, map, slice_get, lit<, IsAscii}
 use Rattle.std.proofs.lemmas.Bool.{cases_lt, lt-ltb, le-ltb, le-leb, lt-leb}
 use Rattle.std.proofs.lemmas.List.{drop-drop, take-append-drop, length-take-le, take_all, get_or-drop}
@@ -7,7 +7,7 @@ use Rattle.std.proofs.Math.Seq.{take-append_seam}
 use Rattle.std.specs.Str.{chars, is_utf8, IsUtf8, IsCharBoundary}
 use Rattle.std.specs.Char.{len_utf8}
 use Rattle.std.specs.Char.Utf16.{lone_unit_char, surrogate_pair_char, is_high_surrogate, is_low_surrogate}
-use Rattle.std.specs.Option.{unwrap_or, IsSome, SomeIff}
+use Rattle.std.specs.Option.{unwrap_or}
 use lib.ListN.{get_or-eq_default}
 use Rattle.std.proofs.lemmas.Str.{IsUtf8-from_is_utf8, is_utf8-from_IsUtf8, encodes-chars, chars_past_char, IsUtf8-past_char, drop_past_char, length-encode, utf16_chars-nil, len_utf8_bounds}
 use Rattle.std.proofs.lemmas.Str.{utf16_chars_lone, utf16_chars_pair, encodes-append, scalars-chars, chars-encodes, IsCharBoundary-at_seam, chars-append, chars-IsAscii, IsUtf8-from_ascii}
@@ -17,9 +17,9 @@ use Rattle.std.proofs.lemmas.List.Concat.{flat_map-append}
 use Rattle.legacy_text.specs.EncodingForm.{EncodingForm, Utf8, Utf16, code_units, unit_count, all_code_units}
 use Rattle.legacy_text.specs.declared.text_source.Next.{Next}
 use Rattle.legacy_text.specs.declared.text_source.Next.TheVariants.{End, One, Two, Three, Four}
-use Rattle.legacy_text.specs.NextScalars.{IsSized, IsNext, TellsCount}
+use Rattle.legacy_text.specs.NextScalars.{StandsAt, IsSized, IsNext}
 use Rattle.legacy_text.specs.Texts.{unit_scalars, IsUnitBoundary}
-use Rattle.legacy_text.proofs.CodeUnits.{encode_1, encode_2, encode_3, encode_4, utf16_1, utf16_2}
+use Rattle.legacy_text.proofs.CodeUnits.{encode_1, encode_2, encode_3, encode_4, two_above, two_below, three_above, three_below, utf16_1, utf16_2}
 
 pub first_cons : {A : Type 0} (xs : List A) (x : A) → Some x ≡ slice_get xs 0 → xs ≡ x ∷ drop 1 xs
 first_cons [] x e = cc
@@ -59,7 +59,13 @@ pub utf8_bytes : (text : List ℕ) (place c : ℕ) → is_utf8 (drop place text)
     → drop place text ≡ encode c ++ encodes (drop 1 (chars (drop place text)))
 utf8_bytes text place c u e = sym (encodes-chars (drop place text) (IsUtf8-from_is_utf8 (drop place text) u)) ∙ ap encodes (first_cons (chars (drop place text)) c e)
 
--- the first byte of a scalar tells how many it has
+-- the first byte of the scalar c in UTF-8 tells how many it has
+pub record TellsCount (c first : ℕ) : Type 0 where
+  pub one : first < 0x80 → unit_count Utf8 c ≡ 1
+  pub two : 0x80 ≤ first → first < 0xE0 → unit_count Utf8 c ≡ 2
+  pub three : 0xE0 ≤ first → first < 0xF0 → unit_count Utf8 c ≡ 3
+  pub four : 0xF0 ≤ first → unit_count Utf8 c ≡ 4
+
 first_tells : (c first : ℕ) (rest : List ℕ) → get_or (encode c ++ rest) 0 0 ≡ first → TellsCount c first
 first_tells c first rest h = elim (cases_lt c 128) [
   | inl a ↦
@@ -84,6 +90,61 @@ pub utf8_tells : (text : List ℕ) (place c : ℕ) → is_utf8 (drop place text)
 utf8_tells text place c u e =
     first_tells c (get_or text place 0) (encodes (drop 1 (chars (drop place text))))
     (ap (λ l. get_or l 0 0) (sym (utf8_bytes text place c u e)) ∙ get_or-drop place text 0 0 ∙ ap (λ n. get_or text n 0) (add-zero place))
+
+-- ---- scalars of two and of three bytes, made of these
+
+-- the bytes at a place are those of the scalar
+stands_byte : (text : List ℕ) (place c : ℕ) → (s : StandsAt text place c) → (k : ℕ) → get_or text (place + k) 0 ≡ get_or (encode c ++ s.rest) k 0
+stands_byte text place c s k = sym (get_or-drop place text k 0) ∙ ap (λ l. get_or l k 0) s.is
+
+pub utf8_stands : (text : List ℕ) (place c : ℕ) → is_utf8 (drop place text) ≡ true → Some c ≡ slice_get (chars (drop place text)) 0 → StandsAt text place c
+utf8_stands text place c u e = record { rest = encodes (drop 1 (chars (drop place text))); is = utf8_bytes text place c u e }
+
+stands_tells : (text : List ℕ) (place c : ℕ) → StandsAt text place c → TellsCount c (get_or text place 0)
+stands_tells text place c s = first_tells c (get_or text place 0) s.rest (sym (stands_byte text place c s 0) ∙ ap (λ n. get_or text n 0) (add-zero place))
+
+stands_within : (text : List ℕ) (place c : ℕ) → StandsAt text place c → place + unit_count Utf8 c ≤ length text
+stands_within text place c s =
+    let some = (len_utf8_bounds c).0 in
+    let long = length-encode c in
+    omega (arith, some, long, ap length s.is, length-append (encode c) s.rest, length-drop place text)
+
+pub stands_one : (text : List ℕ) (place c : ℕ) → StandsAt text place c → get_or text place 0 < 0x80 → unit_count Utf8 c ≡ 1
+stands_one text place c s h = (stands_tells text place c s).one h
+
+pub stands_four : (text : List ℕ) (place c : ℕ) → StandsAt text place c → 0xF0 ≤ get_or text place 0 → unit_count Utf8 c ≡ 4
+stands_four text place c s h = (stands_tells text place c s).four h
+
+pub record MadeOfTwo (text : List ℕ) (place c : ℕ) : Type 0 where
+  pub within : place + 2 ≤ length text
+  pub count : unit_count Utf8 c ≡ 2
+  pub made : get_or text place 0 % 0x20 * 0x40 + get_or text (place + 1) 0 % 0x40 ≡ c
+
+pub made_of_two : (text : List ℕ) (place c : ℕ) → StandsAt text place c → 0x80 ≤ get_or text place 0 → get_or text place 0 < 0xE0 → MadeOfTwo text place c
+made_of_two text place c s low high =
+    let count = (stands_tells text place c s).two low high in
+    let below = two_below c count in
+    let above = two_above c count in
+    let bytes = encode_2 c above below in
+    let first : get_or text place 0 ≡ 192 + c / 64 = ap (λ n. get_or text n 0) (sym (add-zero place)) ∙ stands_byte text place c s 0 ∙ ap (λ l. get_or (l ++ s.rest) 0 0) bytes in
+    let second : get_or text (place + 1) 0 ≡ 128 + c % 64 = stands_byte text place c s 1 ∙ ap (λ l. get_or (l ++ s.rest) 1 0) bytes in
+    record { within = omega (arith, count, stands_within text place c s); count = count; made = rw (first, second) (omega arith) }
+
+pub record MadeOfThree (text : List ℕ) (place c : ℕ) : Type 0 where
+  pub within : place + 3 ≤ length text
+  pub count : unit_count Utf8 c ≡ 3
+  pub made : get_or text place 0 % 0x10 * 0x1000 + get_or text (place + 1) 0 % 0x40 * 0x40 + get_or text (place + 2) 0 % 0x40 ≡ c
+
+pub made_of_three : (text : List ℕ) (place c : ℕ) → StandsAt text place c → 0xE0 ≤ get_or text place 0 → get_or text place 0 < 0xF0 → MadeOfThree text place c
+made_of_three text place c s low high =
+    let count = (stands_tells text place c s).three low high in
+    let below = three_below c count in
+    let above = three_above c count in
+    let bytes = encode_3 c above below in
+    let first : get_or text place 0 ≡ 224 + c / 4096 = ap (λ n. get_or text n 0) (sym (add-zero place)) ∙ stands_byte text place c s 0 ∙ ap (λ l. get_or (l ++ s.rest) 0 0) bytes in
+    let second : get_or text (place + 1) 0 ≡ 128 + c / 64 % 64 = stands_byte text place c s 1 ∙ ap (λ l. get_or (l ++ s.rest) 1 0) bytes in
+    let third : get_or text (place + 2) 0 ≡ 128 + c % 64 = stands_byte text place c s 2 ∙ ap (λ l. get_or (l ++ s.rest) 2 0) bytes in
+    record { within = omega (arith, count, stands_within text place c s); count = count; made = rw (first, second, third) (omega arith) }
 
 -- ---- UTF-16
 
@@ -118,10 +179,6 @@ first_pair units at h p = let e = scalars_pair units at h p in rw e refl
 
 pub first_none : (units : List ℕ) (at : ℕ) → length units ≤ at → slice_get (unit_scalars (drop at units)) 0 ≡ None
 first_none units at h = ap (λ l. slice_get l 0) (scalars_end units at h)
-
-pub is_value : (r : Option ℕ) (P : Type 0) (v : ℕ) → SomeIff r P v → IsSome r → Some v ≡ r
-is_value None P v h some = cc
-is_value (Some x) P v h some = ap Some (sym h.1)
 
 -- the scalar c is at the place of the units
 pub record Utf16Step (list : List ℕ) (place c n : ℕ) : Type 0 where

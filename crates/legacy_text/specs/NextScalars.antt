@@ -1,8 +1,8 @@
 -- The next scalar of a text, by the number of its code units.
-use Rattle.std.specs.Prelude.{◌≡◌, ℕ, ◌<◌, ◌≤◌, List, [], ◌∷◌, drop}
+use Rattle.std.specs.Prelude.{◌≡◌, ℕ, List, [], ◌∷◌, ◌++◌, drop}
 use Rattle.legacy_text.specs.declared.text_source.Next.{Next}
 use Rattle.legacy_text.specs.declared.text_source.Next.TheVariants.{End, One, Two, Three, Four}
-use Rattle.legacy_text.specs.EncodingForm.{EncodingForm, Utf8, unit_count}
+use Rattle.legacy_text.specs.EncodingForm.{EncodingForm, Utf8, code_units, unit_count}
 
 -- it is the scalar c, with the number of its code units
 abbrev pub IsSized : EncodingForm → ℕ → Next → Type 0
@@ -24,9 +24,7 @@ IsNext form left (Two c) = IsFirst form left c 2
 IsNext form left (Three c) = IsFirst form left c 3
 IsNext form left (Four c) = IsFirst form left c 4
 
--- the first byte of the scalar c in UTF-8 tells how many it has
-pub record TellsCount (c first : ℕ) : Type 0 where
-  pub one : first < 0x80 → unit_count Utf8 c ≡ 1
-  pub two : 0x80 ≤ first → first < 0xE0 → unit_count Utf8 c ≡ 2
-  pub three : 0xE0 ≤ first → first < 0xF0 → unit_count Utf8 c ≡ 3
-  pub four : 0xF0 ≤ first → unit_count Utf8 c ≡ 4
+-- the bytes of the scalar c in UTF-8 stand at the place, before others
+pub record StandsAt (bytes : List ℕ) (place c : ℕ) : Type 0 where
+  pub rest : List ℕ
+  pub is : drop place bytes ≡ code_units Utf8 c ++ rest

@@ -1,9 +1,10 @@
 //! Where an encoder reads.
 ghost use Rattle.std.specs.Prelude.{◌≡◌, ℕ, ◌+◌, ◌-◌, ◌^◌, ◌<◌, ◌≤◌, List, [], ◌∷◌, ◌++◌, length, take, drop, true, slice_get, slice_index, IsAscii};
+ghost use Rattle.std.specs.Char.{IsScalar};
 ghost use Rattle.std.specs.Str.{chars, is_utf8};
 ghost use Rattle.legacy_text.specs.EncodingForm.{EncodingForm, Utf8, Utf16, unit_count, total_unit_count};
 ghost use Rattle.legacy_text.specs.Texts.{unit_scalars};
-ghost use Rattle.legacy_text.specs.NextScalars.{IsSized, IsNext, TellsCount};
+ghost use Rattle.legacy_text.specs.NextScalars.{IsSized, IsNext, StandsAt};
 ghost use Rattle.legacy_text.specs.UnitCodes.{WritesCodes};
 
 use crate::blocks::{copy_ascii_bytes, copy_ascii_units};
@@ -155,19 +156,36 @@ fn is_before_ascii(bytes: &[u8], place: usize) -> bool
     u32::from_le_bytes(next) & 0x8080_8080 == 0
 }
 
-/// A scalar by the number of its bytes in UTF-8, which the first of them tells.
-// The scalar would tell it too. But that byte was tested as the scalar was read, so no test is left here.
+/// The scalar of a number that is one.
+// No test of what is known already: it would be one more branch for each scalar.
 #[inline(always)]
-fn by_first_byte(first: u8, c: char) -> Next
-    requires { TellsCount c first }
+fn scalar_of(number: u32) -> char
+    requires { IsScalar number }
+    ensures { result ≡ number }
+{
+    unsafe { char::from_u32_unchecked(number) }
+}
+
+/// A scalar whose bytes stand at a place, by their number, which the first of them tells.
+// The scalar would tell it too. But that byte was tested as the scalar was read, so no test is left here. Of two
+// and of three bytes the scalar is made here: so the compiler knows that it lies below U+0800 or U+10000, and what it
+// is divided by 64, by which it is looked up.
+#[inline(always)]
+fn by_bytes(bytes: &[u8], place: usize, c: char) -> Next
+    requires within { place < length bytes.now }
+    requires stands { StandsAt bytes.now place c }
     ensures { IsSized Utf8 c result }
 {
+    let first = u32::from(bytes[place]);
     if first < 0x80 {
         Next::One(c)
     } else if first < 0xE0 {
-        Next::Two(c)
+        let second = u32::from(bytes[place + 1]);
+        Next::Two(scalar_of(first % 0x20 * 0x40 + second % 0x40))
     } else if first < 0xF0 {
-        Next::Three(c)
+        let second = u32::from(bytes[place + 1]);
+        let third = u32::from(bytes[place + 2]);
+        Next::Three(scalar_of(first % 0x10 * 0x1000 + second % 0x40 * 0x40 + third % 0x40))
     } else {
         Next::Four(c)
     }
@@ -182,7 +200,7 @@ fn next_at(text: &str, place: usize) -> Next
 {
     match scalar_at(text, place) {
         None => Next::End,
-        Some(c) => by_first_byte(text.as_bytes()[place], c),
+        Some(c) => by_bytes(text.as_bytes(), place, c),
     }
 }
 
@@ -280,7 +298,7 @@ fn unit_scalar_at(units: &[u16], place: usize) -> Option<char>
     }
     let high = u32::from(units[place]);
     if high < 0xD800 || high >= 0xE000 {
-        return char::from_u32(high);
+        return Some(scalar_of(high));
     }
     if high >= 0xDC00 || units.len() - place < 2 {
         return Some(char::REPLACEMENT_CHARACTER);
@@ -289,7 +307,7 @@ fn unit_scalar_at(units: &[u16], place: usize) -> Option<char>
     if low < 0xDC00 || low >= 0xE000 {
         return Some(char::REPLACEMENT_CHARACTER);
     }
-    char::from_u32(0x1_0000 + (high - 0xD800) * 0x400 + (low - 0xDC00))
+    Some(scalar_of(0x1_0000 + (high - 0xD800) * 0x400 + (low - 0xDC00)))
 }
 
 /// A scalar by the number of its code units in UTF-16.

@@ -53,9 +53,6 @@ impl PairCodec for Big5 {
     #[inline(always)]
     #[tactic(auto, unfolding(legacy_base::specs::Big5::big5_code))]
     fn pair_of<V: EncoderTables>(tables: &V, c: char) -> Option<(u8, u8)> {
-        if (c as u32) < 0x80 {
-            return None;
-        }
         pair(tables, c)
     }
 }

@@ -1,5 +1,5 @@
 //! The encoder of GB18030 and GBK.
-ghost use Rattle.std.specs.Prelude.{◌≡◌, ◌≢◌, ◌+◌, ◌≤◌, [], ◌∷◌, length, take, true};
+ghost use Rattle.std.specs.Prelude.{◌≡◌, ◌≢◌, ◌+◌, ◌≤◌, [], ◌∷◌, length, take, true, false};
 ghost use Rattle.std.specs.Prelude.{Some, IfSome, option_map};
 ghost use Rattle.legacy_text.specs.EncodingForm.{total_unit_count};
 ghost use Rattle.legacy_tables.specs.Pointers.{range_pointer_of};
@@ -66,30 +66,27 @@ fn pair_of<V: EncoderTables>(tables: &V, c: char) -> Option<(u8, u8)>
     }
 }
 
-/// Whether a scalar is past ASCII, and by no rule but those of rows and of the index: U+20AC and the scalars
-/// for private use, of which rows are, are none such.
+/// Whether a scalar is for private use, of which the rows are.
+// The look-up of rows asks the same in the same way, so the compiler leaves that out.
 #[inline(always)]
-fn is_common(c: char) -> bool
-    ensures { result ≡ true → (0x80 ≤ c) × (c ≢ 0x20AC) × (c ≢ 0xE5E5) }
+fn is_private_use(c: char) -> bool
+    ensures { result ≡ false → c ≢ 0xE5E5 }
 {
-    let code = c as u32;
-    if code < 0x80 || code == 0x20AC {
-        return false;
-    }
-    !(code >= 0xE000 && code <= 0xF8FF)
+    matches!(u32::from(c), 0xE000..=0xF8FF)
 }
 
 /// The lead and the trail of a common scalar, if it has them.
 #[inline(always)]
 #[tactic(auto, unfolding(legacy_base::specs::Gb18030::gb18030_code, legacy_base::specs::Gb18030::gbk_code))]
 fn common_pair_of<V: EncoderTables>(tables: &V, c: char) -> Option<(u8, u8)>
+    requires { 0x80 ≤ c }
     ensures gb18030 { IfSome result (λ pair. gb18030_code (V.indexes tables.now).flat.gb18030
         (V.indexes tables.now).flat.ranges (V.indexes tables.now).flat.gb18030_pua c
         ≡ Some (pair.0 ∷ pair.1 ∷ [])) }
     ensures gbk { IfSome result (λ pair. gbk_code (V.indexes tables.now).flat.gb18030
         (V.indexes tables.now).flat.gb18030_pua c ≡ Some (pair.0 ∷ pair.1 ∷ [])) }
 {
-    if !is_common(c) {
+    if is_private_use(c) || c == '\u{20AC}' {
         return None;
     }
     pair_of(tables, c)
@@ -230,6 +227,12 @@ impl<V: EncoderTables, const EXTENDED: bool, const PAIRS_FIRST: bool> PlainCodes
     #[inline(always)]
     fn code_of(&self, c: char) -> EncoderMove {
         any_code_of(self.tables, EXTENDED, c)
+    }
+
+    // Of text in GB18030 much may be of four bytes each.
+    #[inline(always)]
+    fn goes_past_pairs(&self) -> bool {
+        EXTENDED || !PAIRS_FIRST
     }
 
     #[inline(always)]

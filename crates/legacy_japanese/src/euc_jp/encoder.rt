@@ -38,6 +38,12 @@ impl PairCodec for EucJp {
 
     ghost pairs = { λ flat. euc_jp_pairs flat.jis0208 flat.jis0212 };
 
+    // Half-width katakana are none of the scalars that are looked up first.
+    #[inline(always)]
+    fn goes_past_pairs() -> bool {
+        true
+    }
+
     #[inline]
     #[tactic(auto, unfolding(legacy_base::specs::EucJp::euc_jp_code))]
     fn code_of<V: EncoderTables>(tables: &V, c: char) -> EncoderMove {

@@ -1,5 +1,6 @@
 //! The encoder of ISO-2022-JP.
-ghost use Rattle.std.specs.Prelude.{◌≡◌, ◌≢◌, ◌==◌, ◌||◌, ◌<◌, ◌≤◌, ℕ, List, true, IfSome};
+ghost use Rattle.std.specs.Prelude.{◌≡◌, ◌≢◌, ◌==◌, ◌||◌, ◌<◌, ◌≤◌, ◌+◌, ◌/◌, ◌%◌, ℕ};
+ghost use Rattle.std.specs.Prelude.{List, [], ◌∷◌, ◌++◌, length, take, true, IfSome};
 ghost use Rattle.legacy_base.specs.EncoderProfile.{in_ascii, in_roman, in_two_byte};
 ghost use Rattle.legacy_base.specs.Encoders.{iso_2022_jp, is_pending, new_encoder};
 ghost use Rattle.legacy_base.specs.Iso2022Jp.{iso_2022_jp_fold, iso_2022_jp_pointer_of};
@@ -12,7 +13,7 @@ use legacy_base::{
     EncoderResult, EncoderTables, IndexName, KeptTables, Next, RawEncoder, Source, Tables,
     UnitCodes,
 };
-use legacy_encoder_engine::drive::{drive_encoder, put_move};
+use legacy_encoder_engine::drive::{drive_encoder, put_move, put_two};
 use legacy_encoder_engine::moves::{EncoderMove, EncoderMoves};
 use legacy_encoder_engine::runs::has_bytes;
 
@@ -75,6 +76,17 @@ fn folded<V: EncoderTables>(tables: &V, c: char) -> Option<char>
     Some(minus_as_hyphen(c))
 }
 
+/// The pointer of a scalar that is looked up as it is.
+#[inline(always)]
+fn own_pointer<V: EncoderTables>(tables: &V, c: char) -> Option<usize>
+    requires { (0x2213 ≤ c) × (c < 0xFF61) }
+    ensures value { result ≡ iso_2022_jp_pointer_of (V.indexes tables.now).flat.jis0208
+        (V.indexes tables.now).flat.katakana c }
+    ensures within { IfSome result (λ p. p < 8836) }
+{
+    tables.euc_jp_pointer(c)
+}
+
 /// The pointer of a scalar past ASCII, or `None` where it has no pair.
 #[inline]
 fn pointer<V: EncoderTables>(tables: &V, c: char) -> Option<usize>
@@ -83,7 +95,7 @@ fn pointer<V: EncoderTables>(tables: &V, c: char) -> Option<usize>
     ensures within { IfSome result (λ p. p < 8836) }
 {
     if is_by_index(c) {
-        return tables.euc_jp_pointer(c);
+        return own_pointer(tables, c);
     }
     match folded(tables, c) {
         Some(found) => tables.euc_jp_pointer(found),
@@ -265,19 +277,20 @@ fn roman_code<V: EncoderTables>(tables: &V, c: char) -> Option<EncoderMove>
     Some(own)
 }
 
-/// What reads a scalar in two-byte mode, if it has its bytes there.
+/// Writes the lead and the trail of a pointer from a place on.
 #[inline(always)]
-fn two_byte_code<V: EncoderTables>(tables: &V, c: char) -> Option<EncoderMove>
-    ensures { IfSome result (λ own. ReadsThere (V.indexes tables.now).flat.jis0208
-        (V.indexes tables.now).flat.katakana in_two_byte c own) }
+fn put_pointer(dst: &mut [u8], at: usize, pointer: usize)
+    requires room { at + 2 ≤ length dst.old }
+    requires within { pointer < 8836 }
+    ensures { take (at + 2) dst.new ≡ take at dst.old
+        ++ (pointer / 94 + 0x21) ∷ (pointer % 94 + 0x21) ∷ [] }
 {
-    if !is_looked_up(c) {
-        return None;
-    }
-    match pointer(tables, c) {
-        Some(p) => Some(EncoderMove::Two((p / 94 + 0x21) as u8, (p % 94 + 0x21) as u8)),
-        None => None,
-    }
+    put_two(
+        dst,
+        at,
+        (pointer / 94 + 0x21) as u8,
+        (pointer % 94 + 0x21) as u8,
+    );
 }
 
 /// Whether both tests hold, of which both are made.
@@ -318,7 +331,7 @@ impl<V: EncoderTables> CodesInMode<'_, V> {
     ghost use Rattle.legacy_encoder_engine.specs.UnderWay.{KeepsOn, PutsCode};
     ghost use Rattle.legacy_japanese.specs.Iso2022JpEncoder.{ReadsThere, mode_of, state_by};
 
-    /// What reads a scalar in the mode, if it has its bytes there.
+    /// What reads a scalar in the mode, if that is one of single bytes and it has its byte there.
     #[inline(always)]
     fn code_of(&self, c: char) -> Option<EncoderMove>
         ensures { IfSome result (λ own. ReadsThere (V.indexes self.now.tables.now).flat.jis0208
@@ -327,12 +340,12 @@ impl<V: EncoderTables> CodesInMode<'_, V> {
         match self.mode {
             Mode::Ascii => ascii_code(c),
             Mode::Roman => roman_code(self.tables, c),
-            Mode::TwoByte => two_byte_code(self.tables, c),
+            Mode::TwoByte => None,
         }
     }
 
-    /// Writes the bytes of a scalar that is next, and answers where they end; `None` where it has none or
-    /// wants an escape.
+    /// Writes the byte of a scalar that is next, and answers where it ends; `None` where the scalar has none, wants
+    /// an escape or has two.
     #[inline(always)]
     fn put_here(&self, dst: &mut [u8], at: usize, c: char) -> Option<usize>
         requires { at + 3 ≤ length dst.old }
@@ -344,6 +357,31 @@ impl<V: EncoderTables> CodesInMode<'_, V> {
             Some(own) => Some(put_move(dst, at, own)),
             None => None,
         }
+    }
+
+    /// Writes the pair of a scalar that is next in two-byte mode, and answers where it ends; `None` where the
+    /// scalar has none or wants an escape.
+    // What is looked up as it is comes first, by a way of its own: where two ways met, the compiler would no longer
+    // know how great a pointer can be.
+    #[inline(always)]
+    fn put_pair(&self, dst: &mut [u8], at: usize, c: char) -> Option<usize>
+        requires room { at + 3 ≤ length dst.old }
+        requires mode { mode_of self.now.mode ≡ in_two_byte }
+        ensures { MatchOption result (take at dst.new ≡ take at dst.old)
+            (λ end. PutsCode (state_by (V.indexes self.now.tables.now) self.now.mode) c
+            (take at dst.old) at (take end dst.new) end) }
+    {
+        if is_by_index(c) {
+            let own = own_pointer(self.tables, c)?;
+            put_pointer(dst, at, own);
+            return Some(at + 2);
+        }
+        if !is_looked_up(c) {
+            return None;
+        }
+        let other = pointer(self.tables, c)?;
+        put_pointer(dst, at, other);
+        Some(at + 2)
     }
 
     /// Reads blocks of code units in ASCII mode, where the source has these, and writes their bytes from the
@@ -371,9 +409,9 @@ impl<V: EncoderTables> CodesInMode<'_, V> {
         start + src.copy_codes(&AsciiUnits, &mut dst[..limit], start)
     }
 
-    /// Reads scalars of one code unit that the mode has, and writes their bytes from the place `start` on.
+    /// Reads scalars of one code unit that have a byte in the mode, and writes these from the place `start` on.
     /// Answers where they end.
-    // In ASCII mode no others have bytes: then it is a loop of few tests.
+    // In ASCII mode no others have bytes, and in Roman mode two: so it is a loop of few tests.
     #[inline(always)]
     fn read_short<S: Source>(&self, src: &mut S, dst: &mut [u8], start: usize) -> usize
         requires { start ≤ length dst.old }
@@ -440,15 +478,17 @@ impl<V: EncoderTables> CodesInMode<'_, V> {
                 let end = self.copy_ascii(src, dst, start);
                 self.read_short(src, dst, end)
             }
-            Mode::Roman | Mode::TwoByte => self.read_scalars(src, dst, start),
+            Mode::Roman => self.read_short(src, dst, start),
+            Mode::TwoByte => self.read_pairs(src, dst, start),
         }
     }
 
-    /// Reads scalars of the mode, up to one that wants an escape or has no bytes, and writes their bytes from
+    /// Reads scalars in two-byte mode, up to one that wants an escape or has no bytes, and writes their pairs from
     /// the place `start` on. Answers where they end.
     #[inline(always)]
-    fn read_scalars<S: Source>(&self, src: &mut S, dst: &mut [u8], start: usize) -> usize
-        requires { start ≤ length dst.old }
+    fn read_pairs<S: Source>(&self, src: &mut S, dst: &mut [u8], start: usize) -> usize
+        requires start { start ≤ length dst.old }
+        requires mode { mode_of self.now.mode ≡ in_two_byte }
         ensures keeps { KeepsOn (state_by (V.indexes self.now.tables.now) self.now.mode)
             (length dst.old) (S.left src.old) (take start dst.old) (S.left src.new)
             (take result dst.new) }
@@ -461,21 +501,21 @@ impl<V: EncoderTables> CodesInMode<'_, V> {
         while dst.len() - end >= 3 {
             match src.front() {
                 Next::One(c) => {
-                    let Some(behind) = self.put_here(dst, end, c) else {
+                    let Some(behind) = self.put_pair(dst, end, c) else {
                         return end;
                     };
                     end = behind;
                     src.pass(1);
                 }
                 Next::Two(c) => {
-                    let Some(behind) = self.put_here(dst, end, c) else {
+                    let Some(behind) = self.put_pair(dst, end, c) else {
                         return end;
                     };
                     end = behind;
                     src.pass(2);
                 }
                 Next::Three(c) => {
-                    let Some(behind) = self.put_here(dst, end, c) else {
+                    let Some(behind) = self.put_pair(dst, end, c) else {
                         return end;
                     };
                     end = behind;

@@ -40,6 +40,12 @@ impl PairCodec for ShiftJis {
 
     ghost pairs = { λ flat. shift_jis_pairs flat.jis0208 };
 
+    // Half-width katakana are none of the scalars that are looked up first.
+    #[inline(always)]
+    fn goes_past_pairs() -> bool {
+        true
+    }
+
     #[inline]
     #[tactic(auto, unfolding(legacy_base::specs::ShiftJis::shift_jis_code))]
     fn code_of<V: EncoderTables>(tables: &V, c: char) -> EncoderMove {

@@ -49,9 +49,6 @@ impl PairCodec for EucKr {
     #[inline(always)]
     #[tactic(auto, unfolding(legacy_base::specs::EucKr::euc_kr_code))]
     fn pair_of<V: EncoderTables>(tables: &V, c: char) -> Option<(u8, u8)> {
-        if (c as u32) < 0x80 {
-            return None;
-        }
         pair(tables, c)
     }
 }

@@ -62,6 +62,11 @@ impl PlainCodes for UserDefinedEncoder {
     }
 
     #[inline(always)]
+    fn goes_past_pairs(&self) -> bool {
+        true
+    }
+
+    #[inline(always)]
     fn goes_by_units(&self) -> bool {
         true
     }

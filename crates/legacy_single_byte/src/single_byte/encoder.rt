@@ -190,6 +190,11 @@ impl PlainCodes for SingleByteEncoder<'_> {
     }
 
     #[inline(always)]
+    fn goes_past_pairs(&self) -> bool {
+        true
+    }
+
+    #[inline(always)]
     fn goes_by_units(&self) -> bool {
         true
     }

@@ -3,6 +3,7 @@
 //! a count of bits, and no search.
 ghost use Rattle.std.specs.Prelude.{◌≡◌, ℕ, ◌+◌, ◌*◌, ◌/◌, ◌%◌, ◌^◌, ◌<◌, ◌≤◌, List, length};
 ghost use Rattle.std.specs.Prelude.{slice_index, IfSome, MatchOption};
+ghost use Rattle.std.specs.Int.{bit_at};
 ghost use Rattle.std.specs.Int.RustNames.{count_ones};
 ghost use Rattle.legacy_tables.specs.Directories.{IsRising, IsCountBelow, IsDirectory, count_below};
 ghost use Rattle.legacy_tables.specs.Directories.{held_place};
@@ -75,6 +76,18 @@ impl<const BLOCKS: usize> Directory<BLOCKS> {
         Directory { sets, befores }
     }
 
+    /// The set of a number's block without what lies above the number, whose bit is the highest.
+    #[inline(always)]
+    fn kept(&self, number: usize) -> u64
+        requires { number < 64 * BLOCKS }
+        ensures highest { result / 2 ^ 63
+            ≡ bit_at (slice_index self.now.sets (number / 64)) (number % 64) }
+        ensures ones { count_ones result
+            ≡ count_ones (slice_index self.now.sets (number / 64) % 2 ^ (number % 64 + 1)) }
+    {
+        self.sets[number / 64] << (63 - number % 64)
+    }
+
     /// How many numbers of the list are at most the number.
     #[inline(always)]
     pub(super) fn count_up_to(&self, number: usize) -> usize
@@ -82,8 +95,7 @@ impl<const BLOCKS: usize> Directory<BLOCKS> {
         ensures { result ≡ count_below self.now.sets self.now.befores (number / 64)
             (number % 64 + 1) }
     {
-        let kept = self.sets[number / 64] << (63 - number % 64);
-        usize::from(self.befores[number / 64]) + kept.count_ones() as usize
+        usize::from(self.befores[number / 64]) + self.kept(number).count_ones() as usize
     }
 
     /// The place of a number in the list, if the list has it.
@@ -92,9 +104,7 @@ impl<const BLOCKS: usize> Directory<BLOCKS> {
         requires { number < 64 * BLOCKS }
         ensures { result ≡ held_place self.now.sets self.now.befores number }
     {
-        let set = self.sets[number / 64];
-        let bit = number % 64;
-        if (set >> bit) & 1 == 0 {
+        if self.kept(number) >> 63 == 0 {
             return None;
         }
         Some(self.count_up_to(number) - 1)

@@ -1,43 +1,21 @@
 use Rattle.std.proofs.Common.{arith, refl}
-use Rattle.legacy_base.specs.Encoders.{encoder_profile}
-use Rattle.legacy_encoder_engine.specs.Moves.{IsCode}
-use Rattle.legacy_encoder_engine.specs.declared.moves.EncoderMove.TheVariants.{Two}
-use Rattle.legacy_encoder_engine.proofs.PlainServes.{plain_moves}
+use Rattle.legacy_encoder_engine.specs.declared.moves.EncoderMove.TheVariants.{One}
+use Rattle.legacy_encoder_engine.proofs.PlainServes.{ascii_room, plain_ascii}
 use Rattle.legacy_encoder_engine.proofs.runs.put_code.Goals as goal
 
 pub put_move-requires : goal.put_move-requires
 put_move-requires g c =
-    let codec = g.C.PlainCodes.codec c.args.encoder.now in
-    let is : IsCode ((encoder_profile codec).code c.args.c) c.args.c (Two c.in-Some.lead c.in-Some.trail) = rw c.in-Some.is at c.pair_of.ensures in
-    let moves = plain_moves codec g.C.PlainCodes.past (g.C.PlainCodes.plain c.args.encoder.now) c.args.c (Two c.in-Some.lead c.in-Some.trail) is in
-    omega (arith, moves.fits, c.requires)
+    let room = ascii_room (g.C.PlainCodes.codec c.args.encoder.now) g.C.PlainCodes.past (g.C.PlainCodes.plain c.args.encoder.now) c.args.c c.if-c-lt128.true in
+    omega (arith, room, c.requires)
 
-pub returns-in-Some : goal.returns-in-Some
-returns-in-Some g c =
-    let codec = g.C.PlainCodes.codec c.args.encoder.now in
-    let is : IsCode ((encoder_profile codec).code c.args.c) c.args.c (Two c.in-Some.lead c.in-Some.trail) = rw c.in-Some.is at c.pair_of.ensures in
+pub returns-then-c-lt128 : goal.returns-then-c-lt128
+returns-then-c-lt128 g c =
+    let ascii = plain_ascii (g.C.PlainCodes.codec c.args.encoder.now) g.C.PlainCodes.past (g.C.PlainCodes.plain c.args.encoder.now) in
     record {
-      move = Two c.in-Some.lead c.in-Some.trail;
-      moves = plain_moves codec g.C.PlainCodes.past (g.C.PlainCodes.plain c.args.encoder.now) c.args.c (Two c.in-Some.lead c.in-Some.trail) is;
+      move = One c.args.c;
+      moves = ascii.moves c.args.c c.if-c-lt128.true;
       reads = refl;
       silent = refl;
       bytes = c.put_move.ensures.bytes;
       ends = c.put_move.ensures.end;
-    }
-
-pub put_move-requires-2 : goal.put_move-requires-2
-put_move-requires-2 g c =
-    let moves = plain_moves (g.C.PlainCodes.codec c.args.encoder.now) g.C.PlainCodes.past (g.C.PlainCodes.plain c.args.encoder.now) c.args.c c.code_of-step.result c.code_of-step.ensures in
-    omega (arith, moves.fits, c.requires)
-
-pub returns : goal.returns
-returns g c =
-    let common = c.has_bytes.ensures c.if-not-has_bytes.false in
-    record {
-      move = c.code_of-step.result;
-      moves = plain_moves (g.C.PlainCodes.codec c.args.encoder.now) g.C.PlainCodes.past (g.C.PlainCodes.plain c.args.encoder.now) c.args.c c.code_of-step.result c.code_of-step.ensures;
-      reads = common.0;
-      silent = common.1;
-      bytes = c.put_move-2.ensures.bytes;
-      ends = c.put_move-2.ensures.end;
     }

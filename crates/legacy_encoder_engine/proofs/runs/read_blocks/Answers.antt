@@ -2,7 +2,7 @@ use Rattle.std.proofs.Common.{◌≤◌, ◌+◌, length, take, drop, sym, arith
 use Rattle.std.proofs.lemmas.List.{take-append-drop, length-take-le}
 use Rattle.legacy_base.specs.Encoders.{new_encoder}
 use Rattle.legacy_encoder_engine.proofs.CallUnderWay.{keeps_ascii, front_length, front_units}
-use Rattle.legacy_encoder_engine.proofs.PlainServes.{keeps_codes, plain_serves, plain_ascii}
+use Rattle.legacy_encoder_engine.proofs.PlainServes.{plain_serves, plain_ascii}
 use Rattle.legacy_encoder_engine.proofs.runs.read_blocks.Goals as goal
 
 pub returns-clause-keeps : goal.returns-clause-keeps

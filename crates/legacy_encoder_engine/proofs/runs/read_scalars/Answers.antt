@@ -42,9 +42,9 @@ loop-dst-preserved-in-Two g c =
     reads_on S.form state (length c.args.dst.now) (plain_serves (g.C.PlainCodes.codec c.args.encoder.now) g.C.PlainCodes.past (g.C.PlainCodes.plain c.args.encoder.now))
     (S.left c.args.src.now) (take c.args.start c.args.dst.now) c.args.start (S.passed c.args.src.now)
     left (take c.loop-dst.at c.loop-dst.dst) c.loop-dst.at (S.passed c.loop-dst.src) i.0 i.1 i.3 i.5 (front_length c.loop-dst.at c.loop-dst.dst i.2)
-    scalar 2 c.in-Two.ensures.0 c.in-Two.ensures.1 room _ _ c.in-Some-put_code.end _ c.in-Some-put_code.ensures c.pass-in-Two.ensures.left c.pass-in-Two.ensures.passed in
+    scalar 2 c.in-Two.ensures.0 c.in-Two.ensures.1 room _ _ c.in-Some-put_past_ascii.end _ c.in-Some-put_past_ascii.ensures c.pass-in-Two.ensures.left c.pass-in-Two.ensures.passed in
     let t = c.read_turns-at.ensures in
-    let same : length c.put_code-in-Two.new.dst ≡ length c.args.dst.now = omega arith in
+    let same : length c.put_past_ascii.new.dst ≡ length c.args.dst.now = omega arith in
     let turns = rw same at t.keeps in (
       keeps_then state (length c.args.dst.now) _ _ _ _ _ _ r.keeps turns,
       omega (arith, r.start_is),
@@ -66,5 +66,5 @@ loop-dst-preserved g c =
     reads_on S.form state (length c.args.dst.now) (plain_serves (g.C.PlainCodes.codec c.args.encoder.now) g.C.PlainCodes.past (g.C.PlainCodes.plain c.args.encoder.now))
     (S.left c.args.src.now) (take c.args.start c.args.dst.now) c.args.start (S.passed c.args.src.now)
     left (take c.loop-dst.at c.loop-dst.dst) c.loop-dst.at (S.passed c.loop-dst.src) i.0 i.1 i.3 i.5 (front_length c.loop-dst.at c.loop-dst.dst i.2)
-    scalar 3 c.in-Three.ensures.0 c.in-Three.ensures.1 room _ _ c.in-Some-put_code-2.end _ c.in-Some-put_code-2.ensures c.pass-in-Three.ensures.left c.pass-in-Three.ensures.passed in
+    scalar 3 c.in-Three.ensures.0 c.in-Three.ensures.1 room _ _ c.in-Some-put_past_ascii-2.end _ c.in-Some-put_past_ascii-2.ensures c.pass-in-Three.ensures.left c.pass-in-Three.ensures.passed in
     (r.keeps, r.start_is, omega (arith, r.end_is), omega (arith, r.fewer), (λ h. r.fewer), r.passed_is)

@@ -1,4 +1,4 @@
-use Rattle.std.proofs.Common.{take, length, ap, add-zero}
+use Rattle.std.proofs.Common.{take, length, add-zero}
 use Rattle.legacy_base.specs.Encoders.{new_encoder}
 use Rattle.legacy_encoder_engine.proofs.CallUnderWay.{keeps_none}
 use Rattle.legacy_encoder_engine.proofs.runs.read_turns.Goals as goal

@@ -1,8 +1,8 @@
-use Rattle.std.proofs.Common.{◌≡◌, ◌∙◌, ◌<◌, ◌≤◌, ◌+◌, ◌-◌, ◌*◌, arith, ap, refl, Some, sym, inl, inr, get_or, length}
+use Rattle.std.proofs.Common.{◌≡◌, ◌∙◌, ◌<◌, ◌≤◌, ◌+◌, ◌-◌, ◌*◌, arith, ap, refl, Some, sym, get_or, length}
 use Rattle.std.proofs.str.Utf16.{IsPair}
 use Rattle.std.specs.Char.Utf16.{surrogate_pair_char}
 use lib.ListN.{get_or-eq_default}
-use Rattle.legacy_text.proofs.Texts.{first_none, first_unpaired, first_low, first_high, first_pair, is_value}
+use Rattle.legacy_text.proofs.Texts.{first_none, first_unpaired, first_low, first_high, first_pair}
 use Rattle.legacy_text.proofs.text_source.unit_scalar_at.Goals as goal
 use Rattle.legacy_text.proofs.text_source.unit_scalar_at.Goals.{then-high-lt55296-via-then-high-lt55296, then-high-lt55296-via-else-high-lt55296+then-high-ge57344}
 use Rattle.legacy_text.proofs.text_source.unit_scalar_at.Goals.{then-high-ge56320-via-then-high-ge56320, then-high-ge56320-via-else-high-ge56320+then-units-place-lt2}
@@ -17,13 +17,10 @@ returns-then-high-lt55296 c =
     let fits = c.type_inv.units at in
     let within : at < length xs = omega arith in
     let value : get_or xs at 0 ≡ c.from-high.result = sym c.from-high.ensures in
+    let made : c.scalar_of.result ≡ get_or xs at 0 = c.scalar_of.ensures ∙ sym value in
     elim c.then-high-lt55296.branch [
-      | then-high-lt55296-via-then-high-lt55296 w ↦
-          let low : get_or xs at 0 < 55296 = omega arith in sym (is_value _ _ _ c.from_u32.ensures.value (c.from_u32.ensures.succeeds (inl w.if-high-lt55296.true))) ∙ ap Some (sym value)
-          ∙ first_low xs at within low
-      | then-high-lt55296-via-else-high-lt55296+then-high-ge57344 w ↦
-          let high : 57344 ≤ get_or xs at 0 = omega arith in sym (is_value _ _ _ c.from_u32.ensures.value (c.from_u32.ensures.succeeds (inr (w.if-high-ge57344.true, omega arith))))
-          ∙ ap Some (sym value) ∙ first_high xs at within high
+      | then-high-lt55296-via-then-high-lt55296 w ↦ let low : get_or xs at 0 < 55296 = omega arith in ap Some made ∙ first_low xs at within low
+      | then-high-lt55296-via-else-high-lt55296+then-high-ge57344 w ↦ let high : 57344 ≤ get_or xs at 0 = omega arith in ap Some made ∙ first_high xs at within high
     ]
 
 pub returns-then-high-ge56320 : goal.returns-then-high-ge56320
@@ -45,5 +42,4 @@ returns c =
     let at = c.args.place in
     let value : 65536 + (c.from-high.result - 55296) * 1024 + (c.from-low.result - 56320) ≡ surrogate_pair_char (get_or xs at 0) (get_or xs (at + 1) 0) =
     rw (c.from-high.ensures, c.from-low.ensures) refl in
-    let made = is_value _ _ _ c.from_u32-2.ensures.value (c.from_u32-2.ensures.succeeds (inr (omega arith, omega arith))) in
-    sym made ∙ ap Some value ∙ first_pair xs at (omega arith) (omega arith, omega arith, omega arith, omega arith)
+    ap Some (c.scalar_of-2.ensures ∙ value) ∙ first_pair xs at (omega arith) (omega arith, omega arith, omega arith, omega arith)

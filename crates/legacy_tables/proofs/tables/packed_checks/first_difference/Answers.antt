@@ -1,4 +1,4 @@
-use Rattle.std.proofs.Common.{◌∙◌, ◌≤◌, length, sym, arith, inl, inr}
+use Rattle.std.proofs.Common.{◌∙◌, sym, arith, inl, inr}
 use Rattle.std.proofs.lemmas.Bool.{cases_lt}
 use Rattle.legacy_tables.specs.Packed.{differs_at, run_difference}
 use Rattle.legacy_tables.proofs.FirstPlaces.{find-some, find-none}

@@ -2,7 +2,7 @@ use Rattle.std.proofs.Common.{◌≡◌, ◌+◌, ◌≤◌, length, take}
 use Rattle.legacy_text.specs.EncodingForm.{total_unit_count}
 use Rattle.legacy_encoder_engine.specs.UnderWay.{KeepsOn}
 use Rattle.legacy_japanese.specs.Iso2022JpEncoder.{state_by}
-use Rattle.legacy_japanese.proofs.iso_2022_jp.encoder.CodesInMode.read_scalars.Given as goal
+use Rattle.legacy_japanese.proofs.iso_2022_jp.encoder.CodesInMode.read_pairs.Given as goal
 
 -- what was read was written
 abbrev pub invariant-loop-dst : goal.invariant-loop-dst

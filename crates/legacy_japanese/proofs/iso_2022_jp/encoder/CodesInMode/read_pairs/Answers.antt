@@ -2,7 +2,7 @@ use Rattle.std.proofs.Common.{length, take, arith, refl}
 use Rattle.legacy_encoder_engine.proofs.CallUnderWay.{keeps_none, front_length, reads_on}
 use Rattle.legacy_japanese.specs.Iso2022JpEncoder.{state_by}
 use Rattle.legacy_japanese.proofs.Iso2022JpEncoderMoves.{serves}
-use Rattle.legacy_japanese.proofs.iso_2022_jp.encoder.CodesInMode.read_scalars.Goals as goal
+use Rattle.legacy_japanese.proofs.iso_2022_jp.encoder.CodesInMode.read_pairs.Goals as goal
 
 pub loop-dst-init : goal.loop-dst-init
 loop-dst-init g c =
@@ -27,7 +27,7 @@ loop-dst-preserved-in-Two g c =
     let r = reads_on S.form (state_by tables c.args.self.now.mode) (length c.args.dst.now) (serves tables.flat.jis0208 tables.flat.katakana)
     (S.left c.args.src.now) (take c.args.start c.args.dst.now) c.args.start (S.passed c.args.src.now)
     (S.left c.loop-dst.src) (take c.loop-dst.end c.loop-dst.dst) c.loop-dst.end (S.passed c.loop-dst.src) i.0 i.1 i.3 i.4 (front_length c.loop-dst.end c.loop-dst.dst i.2)
-    c.in-Two.c 2 c.in-Two.ensures.0 c.in-Two.ensures.1 (omega arith) _ _ c.in-Some-put_here.behind _ c.in-Some-put_here.ensures c.pass-in-Two.ensures.left c.pass-in-Two.ensures.passed in
+    c.in-Two.c 2 c.in-Two.ensures.0 c.in-Two.ensures.1 (omega arith) _ _ c.in-Some-put_pair.behind _ c.in-Some-put_pair.ensures c.pass-in-Two.ensures.left c.pass-in-Two.ensures.passed in
     (r.keeps, r.start_is, omega (arith, r.end_is), omega (arith, r.fewer), r.passed_is)
 
 pub loop-dst-preserved : goal.loop-dst-preserved
@@ -38,5 +38,5 @@ loop-dst-preserved g c =
     let r = reads_on S.form (state_by tables c.args.self.now.mode) (length c.args.dst.now) (serves tables.flat.jis0208 tables.flat.katakana)
     (S.left c.args.src.now) (take c.args.start c.args.dst.now) c.args.start (S.passed c.args.src.now)
     (S.left c.loop-dst.src) (take c.loop-dst.end c.loop-dst.dst) c.loop-dst.end (S.passed c.loop-dst.src) i.0 i.1 i.3 i.4 (front_length c.loop-dst.end c.loop-dst.dst i.2)
-    c.in-Three.c 3 c.in-Three.ensures.0 c.in-Three.ensures.1 (omega arith) _ _ c.in-Some-put_here-2.behind _ c.in-Some-put_here-2.ensures c.pass-in-Three.ensures.left c.pass-in-Three.ensures.passed in
+    c.in-Three.c 3 c.in-Three.ensures.0 c.in-Three.ensures.1 (omega arith) _ _ c.in-Some-put_pair-2.behind _ c.in-Some-put_pair-2.ensures c.pass-in-Three.ensures.left c.pass-in-Three.ensures.passed in
     (r.keeps, r.start_is, omega (arith, r.end_is), omega (arith, r.fewer), r.passed_is)

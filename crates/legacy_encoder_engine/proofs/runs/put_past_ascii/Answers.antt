@@ -1,0 +1,43 @@
+use Rattle.std.proofs.Common.{arith, refl}
+use Rattle.legacy_base.specs.Encoders.{encoder_profile}
+use Rattle.legacy_encoder_engine.specs.Moves.{IsCode}
+use Rattle.legacy_encoder_engine.specs.declared.moves.EncoderMove.TheVariants.{Two}
+use Rattle.legacy_encoder_engine.proofs.PlainServes.{plain_moves}
+use Rattle.legacy_encoder_engine.proofs.runs.put_past_ascii.Goals as goal
+
+pub put_two-requires : goal.put_two-requires
+put_two-requires g c =
+    let codec = g.C.PlainCodes.codec c.args.encoder.now in
+    let is : IsCode ((encoder_profile codec).code c.args.c) c.args.c (Two c.in-Some.lead c.in-Some.trail) = rw c.in-Some.is at c.pair_of.ensures in
+    let moves = plain_moves codec g.C.PlainCodes.past (g.C.PlainCodes.plain c.args.encoder.now) c.args.c (Two c.in-Some.lead c.in-Some.trail) is in
+    omega (arith, moves.fits, c.requires.room)
+
+pub returns-in-Some : goal.returns-in-Some
+returns-in-Some g c =
+    let codec = g.C.PlainCodes.codec c.args.encoder.now in
+    let is : IsCode ((encoder_profile codec).code c.args.c) c.args.c (Two c.in-Some.lead c.in-Some.trail) = rw c.in-Some.is at c.pair_of.ensures in
+    record {
+      move = Two c.in-Some.lead c.in-Some.trail;
+      moves = plain_moves codec g.C.PlainCodes.past (g.C.PlainCodes.plain c.args.encoder.now) c.args.c (Two c.in-Some.lead c.in-Some.trail) is;
+      reads = refl;
+      silent = refl;
+      bytes = c.put_two.ensures;
+      ends = refl;
+    }
+
+pub put_move-requires : goal.put_move-requires
+put_move-requires g c =
+    let moves = plain_moves (g.C.PlainCodes.codec c.args.encoder.now) g.C.PlainCodes.past (g.C.PlainCodes.plain c.args.encoder.now) c.args.c c.code_of-step.result c.code_of-step.ensures in
+    omega (arith, moves.fits, c.requires.room)
+
+pub returns : goal.returns
+returns g c =
+    let common = c.has_bytes.ensures c.if-not-has_bytes.false in
+    record {
+      move = c.code_of-step.result;
+      moves = plain_moves (g.C.PlainCodes.codec c.args.encoder.now) g.C.PlainCodes.past (g.C.PlainCodes.plain c.args.encoder.now) c.args.c c.code_of-step.result c.code_of-step.ensures;
+      reads = common.0;
+      silent = common.1;
+      bytes = c.put_move.ensures.bytes;
+      ends = c.put_move.ensures.end;
+    }
