@@ -1,7 +1,6 @@
 -- What is shown of the codes of GB18030 and of GBK.
-use Rattle.std.proofs.Common.{ℕ, ◌≤◌, ◌==◌, List, [], ◌∷◌, Option, Some, None, Bool, true, false, refl, arith, option_map}
+use Rattle.std.proofs.Common.{ℕ, ◌≤◌, ◌==◌, List, [], ◌∷◌, Bool, true, false, refl, arith}
 use Rattle.std.proofs.lemmas.Bool.{lt-ltb}
-use Rattle.std.specs.Option.{option_or}
 use Rattle.legacy_tables.specs.Indexes.{FlatIndexes, gb18030_pua_of}
 use Rattle.legacy_base.specs.EncodeEvents.{code_length}
 use Rattle.legacy_tables.specs.Pointers.{gb18030_pointer_of, range_pointer_of}

@@ -1,6 +1,7 @@
 -- How the codecs work inside: nothing here has to be believed. What they promise is said by legacy_base.
 pub mod Big5Codes
 pub mod Big5Machine
+pub mod Big5Places
 pub mod FourPlaces
 pub mod Gb18030Codec
 pub mod Gb18030Codes

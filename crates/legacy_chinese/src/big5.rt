@@ -1,3 +1,4 @@
 //! Big5.
 pub mod decoder;
 pub mod encoder;
+mod places;

@@ -14,11 +14,11 @@ use borrow.Author.Tests.{ltb-false, ltb-true, leb-true, leb-false, le-leb, lt-le
 use Rattle.legacy_tables.specs.declared.tables.IndexName.{IndexName}
 use Rattle.legacy_tables.specs.declared.tables.IndexName.TheVariants as names
 use Rattle.legacy_tables.specs.declared.tables.TableError.{TableError}
-use Rattle.legacy_tables.specs.declared.tables.TableError.TheVariants.{TooLong, BadEntry, KatakanaLength, RangeOrder, RangeValue}
+use Rattle.legacy_tables.specs.declared.tables.TableError.TheVariants.{TooLong, BadEntry, NotEmpty, KatakanaLength, RangeOrder, RangeValue}
 use Rattle.legacy_tables.specs.Indexes.{FlatIndexes, entry_scalar, idx, range, last_range_scalar}
 use Rattle.legacy_tables.specs.Unicode.{AreScalars}
 use Rattle.legacy_tables.specs.Tables.{index_list, is_narrow_index}
-use Rattle.legacy_tables.specs.TableChecks.{is_narrow_entry, is_entry, entry_fault, entries_fault, index_fault, katakana_fault, range_order_fault, AreAccepted}
+use Rattle.legacy_tables.specs.TableChecks.{is_narrow_entry, is_entry, must_be_empty, entry_fault, entries_fault, index_fault, katakana_fault, range_order_fault, AreAccepted}
 use Rattle.legacy_tables.specs.TableChecks.{follows_range, next_pointer, has_range_scalars, range_value_fault, rows_fault, table_fault}
 
 -- ---- no fault among two, and none at a test
@@ -154,6 +154,19 @@ module _ (flat : FlatIndexes) (accepted : AreAccepted flat) where
 
   pub gb18030-below : All (λ c. c < 0x1_0000) flat.gb18030
   gb18030-below = all_entries _ names.Gb18030 (omega arith) is_narrow-below 0 flat.gb18030 (parts flat accepted).gb18030.1
+
+  -- a pointer of Big5 that is looked up has no other rule
+  pub big5-used : (p c : ℕ) → Some c ≡ idx flat.big5 p → must_be_empty names.Big5 p ≡ false
+  big5-used p c e =
+      let same : 0 + p ≡ p = omega arith in
+      let fine = rw same at (entry_at names.Big5 0 flat.big5 (parts flat accepted).big5.1 p) in
+      go (get_or flat.big5 p 0 == 0) (is_entry names.Big5 (get_or flat.big5 p 0)) (must_be_empty names.Big5 p) e fine
+    where
+      go : (z t m : Bool) → Some c ≡ cond z None (Some (get_or flat.big5 p 0)) → cond z None (cond (not t) (Some (BadEntry names.Big5 p)) (cond m (Some (NotEmpty names.Big5 p)) None)) ≡ None → m ≡ false
+      go true t m s f = cc
+      go false true false s f = refl
+      go false true true s f = cc
+      go false false m s f = cc
 
   pub length-big5 : length flat.big5 ≤ 19782
   length-big5 = (parts flat accepted).big5.0

@@ -9,6 +9,7 @@ pub mod PointerBounds
 pub mod PrivateUse
 pub mod Directories
 pub mod PackedRuns
+pub mod RunPlaces
 pub mod PackedPointers
 pub mod PackedAccepted
 pub mod OrderNumbers

@@ -1,5 +1,5 @@
 -- Runs that give what accepted indexes do are accepted indexes too.
-use Rattle.std.proofs.Common.{◌≡◌, ◌∙◌, ℕ, suc, ◌+◌, ◌≤◌, ◌<◌, List, [], ◌∷◌, length, get_or, refl, sym, ap, arith, Some, None, Option, false, not, ◌==◌, inl, inr}
+use Rattle.std.proofs.Common.{◌≡◌, ◌∙◌, ℕ, suc, ◌+◌, ◌≤◌, ◌<◌, All, List, [], ◌∷◌, length, get_or, refl, sym, ap, arith, Some, None, Option, false, not, ◌==◌, inl, inr}
 use Rattle.std.proofs.lemmas.Bool.{cases_lt, cases_eq, ne_eqb, true≢false}
 use Rattle.std.proofs.lemmas.List.{get_or_past}
 use Rattle.std.proofs.lemmas.List.Elements.{All-get_or}
@@ -32,6 +32,14 @@ pub entry-scalar : (xs : List ℕ) → AreScalars xs → (p : ℕ) → IsScalar 
 entry-scalar xs all p = elim (cases_lt p (length xs)) [
   | inl h ↦ All-get_or IsScalar xs p 0 h all
   | inr h ↦ rw (get_or_past xs p 0 h) refl
+]
+
+-- ---- each entry of narrow ones is below U+10000, and 0 past their end too
+
+pub entry-narrow : (xs : List ℕ) → All (λ c. c < 0x1_0000) xs → (p : ℕ) → get_or xs p 0 < 0x1_0000
+entry-narrow xs all p = elim (cases_lt p (length xs)) [
+  | inl h ↦ All-get_or (λ c. c < 0x1_0000) xs p 0 h all
+  | inr h ↦ rw (get_or_past xs p 0 h) (omega arith)
 ]
 
 -- ---- one index

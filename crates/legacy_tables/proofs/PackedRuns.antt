@@ -1,17 +1,16 @@
 -- What runs in order are, and what they give each pointer.
-use Rattle.std.proofs.Common.{◌≡◌, ◌∙◌, ℕ, zero, suc, ◌+◌, ◌-◌, ◌/◌, ◌%◌, ◌≤◌, ◌<◌, List, [], ◌∷◌, length, map, get_or, slice_index, drop, drop-cons, add-one, refl, sym, ap, arith, Some, None}
-use Rattle.std.proofs.Common.{Option, true, false, Bool, ◌&&◌, cond, nat_le, nat_lt, inl, inr, subst}
+use Rattle.std.proofs.Common.{◌≡◌, ◌∙◌, ℕ, zero, suc, ◌+◌, ◌-◌, ◌≤◌, ◌<◌, List, [], ◌∷◌, length, map, get_or, drop, drop-cons, add-one, refl, sym, ap, arith, Some, None}
+use Rattle.std.proofs.Common.{Option, true, false, Bool, ◌&&◌, cond, nat_le, nat_lt, inl, inr}
 use Rattle.std.proofs.lemmas.Bool.{cases_lt}
-use Rattle.std.proofs.lemmas.List.{length-map, get_or-map, get_or_past}
+use Rattle.std.proofs.lemmas.List.{get_or_past}
 use Rattle.std.proofs.lemmas.List.FromFn.{get_or-map-range_with_len, length-map-range_with_len}
 use Rattle.std.proofs.Math.ListN.{drop_of_length-le}
 use Rattle.std.specs.List.{range_with_len}
 use Rattle.std.specs.Option.{option_map_or}
 use borrow.Author.Tests.{ltb-true, leb-true, le-leb, lt-leb, lt-ltb, le-ltb}
 use Rattle.legacy_tables.specs.declared.tables.packed.Run.{Run}
-use Rattle.legacy_tables.specs.Directories.{IsRising, IsDirectory, count_below}
 use Rattle.legacy_tables.specs.Packed.{differs_at}
-use Rattle.legacy_tables.specs.Runs.{run_end, run_scalar, runs_scalar, runs_entry, runs_end, runs_list, is_run_in_order, run_fault_from, run_fault, AreInOrder, run_starts}
+use Rattle.legacy_tables.specs.Runs.{run_end, run_scalar, runs_scalar, runs_entry, runs_end, runs_list, is_run_in_order, run_fault_from, run_fault, AreInOrder}
 
 -- a run of no pointers
 abbrev pub no_run : Run
@@ -101,13 +100,7 @@ are_in_order limit runs small e = record {
 pub run-reach : (limit : ℕ) (runs : List Run) → run_fault limit runs ≡ None → (i : ℕ) (d : Run) → i < length runs → run_end (get_or runs i d) ≤ limit
 run-reach limit runs e i d h = (behind_all 0 0 limit runs e i d h).reach
 
--- ---- where runs start
-
-start-at : (runs : List Run) (i : ℕ) → i < length runs → slice_index (run_starts runs) i ≡ (get_or runs i no_run).pointer
-start-at runs i h = get_or-map (λ (run : Run). run.pointer) runs i no_run 0 h
-
-starts-length : (runs : List Run) → length (run_starts runs) ≡ length runs
-starts-length runs = length-map runs (λ (run : Run). run.pointer)
+-- ---- how many runs there are
 
 module _ (runs : List Run) (ordered : AreInOrder runs) where
   starts_below : (i j : ℕ) → i < j → j < length runs → (get_or runs i no_run).pointer < (get_or runs j no_run).pointer
@@ -116,13 +109,6 @@ module _ (runs : List Run) (ordered : AreInOrder runs) where
       let f = ordered.full i no_run within in
       let r = ordered.rising i j no_run h l in
       omega arith
-
-  pub starts-rising : IsRising (run_starts runs)
-  starts-rising = record {
-    above = λ i j h l.
-        let within : j < length runs = subst (λ n. j < n) (starts-length runs) l in
-        rw (start-at runs i (omega arith), start-at runs j within) (starts_below i j h within);
-  }
 
   at_least : (i : ℕ) → i < length runs → i ≤ (get_or runs i no_run).pointer
   at_least zero h = omega arith
@@ -141,8 +127,8 @@ module _ (runs : List Run) (ordered : AreInOrder runs) where
       let reach = ordered.reach n no_run within in
       omega arith
 
-  pub starts-few : length (run_starts runs) < 65536
-  starts-few = rw (starts-length runs) (few_runs (length runs) refl)
+  pub runs-few : length runs < 65536
+  runs-few = few_runs (length runs) refl
 
 -- ---- what runs give a pointer
 
@@ -156,7 +142,7 @@ outside-behind run p h = go (nat_le run.pointer p)
     go true = rw (le-ltb p (run_end run) h) refl
     go false = refl
 
-inside : (run : Run) (p : ℕ) → run.pointer ≤ p → p < run_end run → run_scalar run p ≡ Some (run.scalar + (p - run.pointer))
+pub inside : (run : Run) (p : ℕ) → run.pointer ≤ p → p < run_end run → run_scalar run p ≡ Some (run.scalar + (p - run.pointer))
 inside run p h l = rw (le-leb run.pointer p h, lt-ltb p (run_end run) l) refl
 
 pub scalar-none : (runs : List Run) (p : ℕ) → ((k : ℕ) → k < length runs → run_scalar (get_or runs k no_run) p ≡ None) → runs_scalar runs p ≡ None
@@ -165,7 +151,7 @@ scalar-none (run ∷ runs) p all =
     let here : run_scalar run p ≡ None = all 0 (omega arith) in
     rw here (scalar-none runs p (λ k h. all (suc k) (omega arith)))
 
-scalar-some : (runs : List Run) (p n c : ℕ) → n < length runs → run_scalar (get_or runs n no_run) p ≡ Some c → ((k : ℕ) → k < n → run_scalar (get_or runs k no_run) p ≡ None) →
+pub scalar-some : (runs : List Run) (p n c : ℕ) → n < length runs → run_scalar (get_or runs n no_run) p ≡ Some c → ((k : ℕ) → k < n → run_scalar (get_or runs k no_run) p ≡ None) →
     runs_scalar runs p ≡ Some c
 scalar-some [] p n c h is before = absurd (omega arith)
 scalar-some (run ∷ runs) p zero c h is before = let here : run_scalar run p ≡ Some c = is in rw here refl
@@ -173,57 +159,7 @@ scalar-some (run ∷ runs) p (suc n) c h is before =
     let here : run_scalar run p ≡ None = before 0 (omega arith) in
     rw here (scalar-some runs p n c (less n (length runs) h) is (λ k l. before (suc k) (omega arith)))
 
--- so many of the runs start at or before a pointer
-pub record IsStartedCount (runs : List Run) (p count : ℕ) : Type 0 where
-  pub within : count ≤ length runs
-  pub started : (k : ℕ) → k < count → (get_or runs k no_run).pointer ≤ p
-  pub ahead : (k : ℕ) → count ≤ k → k < length runs → p < (get_or runs k no_run).pointer
-
-pub started_count : (runs : List Run) (sets befores : List ℕ) → IsDirectory 375 sets befores (run_starts runs) → (p : ℕ) → p < 24000 →
-    IsStartedCount runs p (count_below sets befores (p / 64) (p % 64 + 1))
-started_count runs sets befores placed p h =
-    let point = placed.counts (p / 64) (p % 64 + 1) (omega arith) (omega arith) in
-    let within = subst (λ n. count_below sets befores (p / 64) (p % 64 + 1) ≤ n) (starts-length runs) point.within in
-    record {
-      within = within;
-      started = λ k l.
-          let inner : k < length runs = omega arith in
-          let low = rw (start-at runs k inner) at (point.below k l) in
-          omega arith;
-      ahead = λ k l m.
-          let high = rw (start-at runs k m) at (point.above k l (rw (starts-length runs) m)) in
-          omega arith;
-    }
-
 module _ (runs : List Run) (ordered : AreInOrder runs) (p : ℕ) where
-  -- no run starts at or before the pointer
-  pub scalar-ahead : IsStartedCount runs p 0 → runs_scalar runs p ≡ None
-  scalar-ahead count = scalar-none runs p (λ k h. outside-before (get_or runs k no_run) p (count.ahead k (omega arith) h))
-
-  module _ (n : ℕ) (count : IsStartedCount runs p (n + 1)) where
-    last_within : n < length runs
-    last_within = let w = count.within in omega arith
-
-    earlier : (k : ℕ) → k < n → run_scalar (get_or runs k no_run) p ≡ None
-    earlier k h =
-        let start = count.started n (omega arith) in
-        let end = ordered.rising k n no_run h last_within in
-        outside-behind (get_or runs k no_run) p (omega arith)
-
-    -- the last run that starts at or before the pointer has it
-    pub scalar-inside : p < run_end (get_or runs n no_run) → runs_scalar runs p ≡ Some ((get_or runs n no_run).scalar + (p - (get_or runs n no_run).pointer))
-    scalar-inside h = scalar-some runs p n _ last_within (inside (get_or runs n no_run) p (count.started n (omega arith)) h) earlier
-
-    -- or ends before it
-    pub scalar-outside : run_end (get_or runs n no_run) ≤ p → runs_scalar runs p ≡ None
-    scalar-outside h = scalar-none runs p (λ k l. elim (cases_lt k n) [
-      | inl m ↦ earlier k m
-      | inr m ↦ elim (cases_lt n k) [
-        | inl g ↦ outside-before (get_or runs k no_run) p (count.ahead k (omega arith) l)
-        | inr g ↦ let same : k ≡ n = omega arith in rw same (outside-behind (get_or runs n no_run) p h)
-      ]
-    ])
-
   -- a pointer behind the last run
   pub scalar-behind : (n : ℕ) → n + 1 ≡ length runs → run_end (get_or runs n no_run) ≤ p → runs_scalar runs p ≡ None
   scalar-behind n last h = scalar-none runs p (λ k l. elim (cases_lt k n) [

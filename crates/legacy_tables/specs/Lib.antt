@@ -8,6 +8,7 @@ pub mod Tables
 pub mod KeptTables
 pub mod Directories
 pub mod Runs
+pub mod RunPlaces
 pub mod Packed
 pub mod Orders
 pub mod PackedTables

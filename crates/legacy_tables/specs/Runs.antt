@@ -61,7 +61,3 @@ pub record AreInOrder (runs : List Run) : Type 0 where
       (slice_index_or runs i d).scalar + (slice_index_or runs i d).length ≤ 0x11_0000
   pub rising : (i j : ℕ) (d : Run) → i < j → j < length runs →
       run_end (slice_index_or runs i d) ≤ (slice_index_or runs j d).pointer
-
--- the pointers where runs start
-abbrev pub run_starts : List Run → List ℕ
-run_starts runs = map (λ (run : Run). run.pointer) runs

@@ -14,6 +14,7 @@ pub(crate) mod packed_checks;
 pub(crate) mod packed_tables;
 pub(crate) mod pointers;
 pub(crate) mod private_use;
+pub(crate) mod run_places;
 pub(crate) mod runs;
 
 pub use decoder_tables::DecoderTables;

@@ -1,6 +1,7 @@
 //! The decoder of Big5.
-ghost use Rattle.std.specs.Prelude.{◌≡◌, ℕ, [], ◌∷◌};
-ghost use Rattle.legacy_base.specs.Big5.{big5_pointer, big5_scalars};
+ghost use Rattle.std.specs.Prelude.{◌≡◌, ℕ, [], ◌∷◌, true, IfSome};
+ghost use Rattle.std.specs.Char.{IsScalar};
+ghost use Rattle.legacy_base.specs.Big5.{big5_scalars};
 ghost use Rattle.legacy_base.specs.Grammar.{big5};
 ghost use Rattle.legacy_base.specs.States.{is_lead};
 ghost use Rattle.legacy_decoder_engine.specs.Steps.{trail_step};
@@ -10,11 +11,13 @@ ghost use Rattle.legacy_decoder_engine.specs.Feeding.{Took};
 ghost use Rattle.legacy_chinese.specs.Big5Shown.{big5_codec};
 ghost use Rattle.legacy_decoder_engine.proofs.TwoByteMeets.{is_lead-in};
 
+use super::places::{ROWS_OF_157, TRAILS};
 use legacy_base::{DecoderTables, IndexName, Tables};
 use legacy_decoder_engine::common_forms::CommonForm;
 use legacy_decoder_engine::held::Lead;
 use legacy_decoder_engine::lead::{LeadCodec, LeadDecoder};
 use legacy_decoder_engine::moves::{Fed, Room};
+use legacy_decoder_engine::places::pair_pointer;
 use legacy_decoder_engine::two_byte::{read_first, read_trail};
 
 /// The codec of Big5.
@@ -29,26 +32,22 @@ pub struct Big5;
 /// the lead alone, and the byte is read again.
 pub type Big5Decoder<'a> = LeadDecoder<'a, Big5>;
 
-/// The pointer of a lead and a trail, or `None` where the second byte is no trail.
+/// The scalar of two bytes, if they are a lead and a trail whose pointer has an entry.
 #[inline]
-fn pair_pointer(lead: Lead, trail: u8) -> Option<usize>
-    ensures { result ≡ big5_pointer lead.byte trail }
+fn entry_scalar<V: DecoderTables>(tables: &V, lead: u8, trail: u8) -> Option<char>
+    ensures value { IfSome result (λ c. (is_lead lead ≡ true)
+        × (big5_pair_scalars (V.indexes tables.now).flat.big5 lead trail ≡ c ∷ [])) }
+    ensures scalar { IfSome result IsScalar }
 {
-    // Chosen without a branch: which range a trail is from follows no pattern. Both its ends are one test.
-    let offset = if trail < 0x7F { 0x40 } else { 0x62 };
-    let column = trail.wrapping_sub(offset);
-    if column >= 157 || (trail > 0x7E && trail < 0xA1) {
-        return None;
-    }
-    Some(usize::from(lead.byte - 0x81) * 157 + usize::from(column))
+    let pointer = pair_pointer(&ROWS_OF_157, &TRAILS, lead, trail);
+    tables.idx(IndexName::Big5, pointer)
 }
 
 /// Reads a trail behind its lead, which have this pointer: four pointers give a letter and a combining
 /// mark, and the others their entry.
 #[inline]
-fn read_pointer<V: DecoderTables>(tables: &V, pointer: usize, trail: u8) -> Fed
-    ensures { (lead : ℕ) →
-        Took (trail_step 1 (big5_scalars (V.indexes tables.now).flat.big5 pointer) trail)
+fn read_pointer(tables: &Tables<'_>, pointer: usize, trail: u8) -> Fed
+    ensures { (lead : ℕ) → Took (trail_step 1 (big5_scalars tables.now.flat.big5 pointer) trail)
         (lead ∷ []) trail result [] }
 {
     match pointer {
@@ -57,19 +56,6 @@ fn read_pointer<V: DecoderTables>(tables: &V, pointer: usize, trail: u8) -> Fed
         1164 => Fed::Two('\u{EA}', '\u{304}'),
         1166 => Fed::Two('\u{EA}', '\u{30C}'),
         _ => read_trail(tables.idx(IndexName::Big5, pointer), trail),
-    }
-}
-
-/// Reads the byte behind a lead.
-#[inline]
-fn pair<V: DecoderTables>(tables: &V, lead: Lead, trail: u8) -> Fed
-    ensures { Took
-        (trail_step 1 (big5_pair_scalars (V.indexes tables.now).flat.big5 lead.byte trail) trail)
-        (lead.byte ∷ []) trail result [] }
-{
-    match pair_pointer(lead, trail) {
-        Some(pointer) => read_pointer(tables, pointer, trail),
-        None => read_trail(None, trail),
     }
 }
 
@@ -97,16 +83,14 @@ impl LeadCodec for Big5 {
 
     #[inline]
     fn read_pair(tables: &Tables<'_>, lead: Lead, trail: u8) -> Fed {
-        pair(tables, lead, trail)
+        let pointer = pair_pointer(&ROWS_OF_157, &TRAILS, lead.byte, trail);
+        read_pointer(tables, pointer, trail)
     }
 
     #[inline]
     fn front<V: DecoderTables>(tables: &V, lead: u8, trail: u8) -> CommonForm {
-        let Some(lead) = Lead::new(lead) else {
-            return CommonForm::Other;
-        };
-        match pair(tables, lead, trail) {
-            Fed::One(scalar) if scalar <= '\u{FFFF}' => CommonForm::Pair(scalar),
+        match entry_scalar(tables, lead, trail) {
+            Some(scalar) if scalar <= '\u{FFFF}' => CommonForm::Pair(scalar),
             _ => CommonForm::Other,
         }
     }

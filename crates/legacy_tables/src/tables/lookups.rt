@@ -1,5 +1,6 @@
 //! Look-ups in checked indexes.
-ghost use Rattle.std.specs.Prelude.{◌≡◌, ℕ, ◌<◌, ◌≤◌, None, true, length, slice_index_or};
+ghost use Rattle.std.specs.Prelude.{◌≡◌, ℕ, ◌<◌, ◌≤◌, None, true, length};
+ghost use Rattle.std.specs.Prelude.{slice_index, slice_index_or};
 ghost use Rattle.std.specs.Char.{IsScalar};
 ghost use Rattle.legacy_tables.specs.Unicode.{AreScalars};
 ghost use Rattle.legacy_tables.specs.Indexes.{entry_scalar, idx, last_range_scalar, range};
@@ -55,6 +56,17 @@ pub(super) fn run_scalar(runs: &Runs<'_>, pointer: usize) -> Option<char>
     ensures { result ≡ idx (runs_list runs.now.runs.now) pointer }
 {
     scalar_of(runs.entry(pointer))
+}
+
+/// The scalar of a pointer in an index of narrow entries that is kept as runs.
+// It is made as a number of 16 bits, as that of a range is.
+#[inline]
+pub(super) fn narrow_run_scalar(runs: &Runs<'_>, pointer: usize) -> Option<char>
+    requires scalars { AreScalars (runs_list runs.now.runs.now) }
+    requires narrow { (p : ℕ) → slice_index (runs_list runs.now.runs.now) p < 0x1_0000 }
+    ensures { result ≡ idx (runs_list runs.now.runs.now) pointer }
+{
+    scalar_of(u32::from(runs.entry(pointer) as u16))
 }
 
 /// How many of the ranges start at or before a pointer: the ranges rise, so these are the first

@@ -78,10 +78,10 @@ impl<'a> DecoderTables for PackedTables<'a> {
     fn idx(&self, name: IndexName, pointer: usize) -> Option<char> {
         match name {
             IndexName::Big5 => lookups::run_scalar(&self.runs.big5, pointer),
-            IndexName::EucKr => lookups::run_scalar(&self.runs.euc_kr, pointer),
-            IndexName::Jis0208 => lookups::run_scalar(&self.runs.jis0208, pointer),
-            IndexName::Jis0212 => lookups::run_scalar(&self.runs.jis0212, pointer),
-            IndexName::Gb18030 => lookups::run_scalar(&self.runs.gb18030, pointer),
+            IndexName::EucKr => lookups::narrow_run_scalar(&self.runs.euc_kr, pointer),
+            IndexName::Jis0208 => lookups::narrow_run_scalar(&self.runs.jis0208, pointer),
+            IndexName::Jis0212 => lookups::narrow_run_scalar(&self.runs.jis0212, pointer),
+            IndexName::Gb18030 => lookups::narrow_run_scalar(&self.runs.gb18030, pointer),
             IndexName::Katakana => lookups::narrow_entry(self.katakana, pointer),
             IndexName::Ranges => None,
         }

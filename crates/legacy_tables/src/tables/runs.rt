@@ -1,38 +1,19 @@
 //! Runs that are in order, and the look-up of a pointer in them.
-ghost use Rattle.std.specs.Prelude.{◌≡◌, ℕ, ◌+◌, ◌≤◌, ◌<◌, length, [], map, None, Some};
-ghost use Rattle.std.specs.Prelude.{MatchResult};
-ghost use Rattle.legacy_tables.specs.Directories.{IsDirectory};
-ghost use Rattle.legacy_tables.specs.Runs.{runs_scalar, runs_entry, run_end, run_fault};
-ghost use Rattle.legacy_tables.specs.Runs.{is_run_in_order, AreInOrder, run_starts};
+ghost use Rattle.std.specs.Prelude.{◌≡◌, ℕ, ◌≤◌, None};
+ghost use Rattle.legacy_tables.specs.RunPlaces.{ArePlacesOf};
+ghost use Rattle.legacy_tables.specs.Runs.{runs_scalar, runs_entry, run_fault};
+ghost use Rattle.legacy_tables.specs.Runs.{is_run_in_order, AreInOrder};
 
-use super::directory::{Directory, Numbers};
 use super::packed::Run;
+use super::run_places::RunPlaces;
 
-/// The pointers where runs start.
-#[derive(Drop)]
-struct Starts<'a> {
-    runs: &'a [Run],
-}
-
-impl<'a> Numbers for Starts<'a> {
-    ghost numbers = { λ s. run_starts s.runs.now };
-
-    fn count(&self) -> usize {
-        self.runs.len()
-    }
-
-    fn number(&self, at: usize) -> usize {
-        usize::from(self.runs[at].pointer)
-    }
-}
-
-/// Runs in order, of at most 23940 pointers, with the directory of where they start.
+/// Runs in order, of at most 23940 pointers, with their places.
 #[derive(Drop)]
 pub(crate) struct Runs<'a> {
     runs: &'a [Run],
-    starts: Directory<375>,
+    places: RunPlaces,
     ghost ordered: { AreInOrder runs.now },
-    ghost placed: { IsDirectory 375 starts.sets starts.befores (run_starts runs.now) },
+    ghost placed: { ArePlacesOf places.firsts places.overs runs.now },
 }
 
 /// Whether a run has pointers, begins behind the run before it, and ends within the limit.
@@ -70,7 +51,7 @@ impl<'a> Runs<'a> {
     {
         Runs {
             runs,
-            starts: Directory::new(&Starts { runs }),
+            places: RunPlaces::new(runs),
         }
     }
 
@@ -94,17 +75,9 @@ impl<'a> Runs<'a> {
         if pointer >= 24000 {
             return None;
         }
-        let count = self.starts.count_up_to(pointer);
-        if count == 0 {
-            return None;
-        }
-        let run = self.runs[count - 1];
-        let over = pointer - usize::from(run.pointer);
-        if over < usize::from(run.length) {
-            Some(run.scalar + over as u32)
-        } else {
-            None
-        }
+        let place = self.places.place(pointer)?;
+        let run = self.runs[place];
+        Some(run.scalar + (pointer - usize::from(run.pointer)) as u32)
     }
 
     /// The same as an entry of a flat list, where 0 stands for none.

@@ -1,0 +1,66 @@
+-- What index Big5 has at the sum of a lead's place and a trail's.
+use Rattle.std.proofs.Common.{◌≡◌, ◌∙◌, ℕ, ◌+◌, ◌-◌, ◌*◌, ◌≤◌, List, [], ◌∷◌, length, cond, refl, sym, ap, arith, Bool, true, false, ◌||◌, ◌==◌, Option, Some, None, IfSome}
+use Rattle.std.specs.Int.{is_in_range}
+use Rattle.std.specs.Prelude.{option_to_list}
+use Rattle.std.specs.Option.{option_map_or}
+use Rattle.std.proofs.lemmas.Bool.{ne_eqb}
+use Rattle.legacy_tables.specs.declared.tables.IndexName.TheVariants as names
+use Rattle.legacy_tables.specs.Indexes.{FlatIndexes, idx}
+use Rattle.legacy_tables.specs.TableChecks.{AreAccepted, must_be_empty}
+use Rattle.legacy_tables.proofs.Accepted.{length-big5, big5-used}
+use Rattle.legacy_base.specs.Big5.{big5_scalars}
+use Rattle.legacy_base.specs.States.{is_lead}
+use Rattle.legacy_chinese.specs.Big5Machine.{big5_pair_scalars}
+use Rattle.legacy_chinese.specs.Big5Places.{big5_lead_place, big5_trail_place}
+use Rattle.legacy_chinese.specs.declared.big5.places.TheConstants.{ROWS_OF_157, TRAILS}
+use Rattle.legacy_decoder_engine.specs.Places.{IsTableOf}
+use Rattle.legacy_decoder_engine.proofs.PairPlaces.{none_past, pair_entry, found}
+
+pub big5_rows_are : IsTableOf big5_lead_place ROWS_OF_157
+unfolding big5_lead_place
+big5_rows_are = refl
+
+pub big5_trails_are : IsTableOf big5_trail_place TRAILS
+unfolding big5_trail_place
+big5_trails_are = refl
+
+by_range : (f : ℕ → List ℕ) (a b : Bool) (x y : ℕ) → cond a (f x) (cond b (f y) []) ≡ option_map_or f (cond a (Some x) (cond b (Some y) None)) []
+by_range f true b x y = refl
+by_range f false true x y = refl
+by_range f false false x y = refl
+
+-- none of four tests
+no_test : (a b c d : Bool) (v w x y rest : List ℕ) → ((a || b) || (c || d)) ≡ false → cond a v (cond b w (cond c x (cond d y rest))) ≡ rest
+no_test false false false false v w x y rest e = refl
+no_test false false false true v w x y rest e = cc
+no_test false false true d v w x y rest e = cc
+no_test false true c d v w x y rest e = cc
+no_test true b c d v w x y rest e = cc
+
+-- a pointer that is looked up gives its entry
+pub entry_is : (index : List ℕ) (p : ℕ) → must_be_empty names.Big5 p ≡ false → big5_scalars index p ≡ option_to_list (idx index p)
+entry_is index p e =
+    no_test (p == 1133) (p == 1135) (p == 1164) (p == 1166) (0xCA ∷ 0x304 ∷ []) (0xCA ∷ 0x30C ∷ []) (0xEA ∷ 0x304 ∷ []) (0xEA ∷ 0x30C ∷ []) (option_to_list (idx index p)) e
+
+past : (index : List ℕ) → length index ≤ 65535 → (p : ℕ) → 65535 ≤ p → big5_scalars index p ≡ []
+past index short p h =
+    rw (ne_eqb p 1133 (λ e. omega arith), ne_eqb p 1135 (λ e. omega arith), ne_eqb p 1164 (λ e. omega arith), ne_eqb p 1166 (λ e. omega arith)) (none_past index short p h)
+
+pub big5_at : (index : List ℕ) → length index ≤ 65535 → (lead trail : ℕ) →
+    big5_scalars index (big5_lead_place lead + big5_trail_place trail) ≡ cond (is_lead lead) (big5_pair_scalars index lead trail) []
+unfolding big5_lead_place big5_trail_place
+big5_at index short lead trail =
+    pair_entry (big5_scalars index) (past index short) (is_lead lead) (is_in_range 0x40 0x7E trail) (is_in_range 0xA1 0xFE trail)
+    ((lead - 0x81) * 157) (trail - 0x40) (trail - 0x62)
+    ∙ ap (λ l. cond (is_lead lead) l [])
+    (by_range (big5_scalars index) (is_in_range 0x40 0x7E trail) (is_in_range 0xA1 0xFE trail) ((lead - 0x81) * 157 + (trail - 0x40)) ((lead - 0x81) * 157 + (trail - 0x62)))
+
+-- what the index has there is found behind a lead
+pub big5_found : (flat : FlatIndexes) → AreAccepted flat → (lead trail : ℕ) (o : Option ℕ) → o ≡ idx flat.big5 (big5_lead_place lead + big5_trail_place trail) →
+    IfSome o (λ c. (is_lead lead ≡ true) × (big5_pair_scalars flat.big5 lead trail ≡ c ∷ []))
+big5_found flat accepted lead trail None e = tt
+big5_found flat accepted lead trail (Some c) e =
+    let p = big5_lead_place lead + big5_trail_place trail in
+    let short : length flat.big5 ≤ 65535 = let most = length-big5 flat accepted in omega arith in
+    let used = big5-used flat accepted p c e in
+    found (is_lead lead) (big5_pair_scalars flat.big5 lead trail) c (ap option_to_list e ∙ sym (entry_is flat.big5 p used) ∙ big5_at flat.big5 short lead trail)
