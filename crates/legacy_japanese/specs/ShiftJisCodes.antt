@@ -1,5 +1,5 @@
 -- What is shown of the codes of Shift_JIS.
-use Rattle.std.proofs.Common.{ℕ, ◌≤◌, ◌==◌, List, [], ◌∷◌, Some, refl, arith, ◌||◌}
+use Rattle.std.proofs.Common.{ℕ, ◌≤◌, ◌==◌, List, refl, arith, ◌||◌}
 use Rattle.std.proofs.lemmas.Bool.{lt-ltb}
 use Rattle.std.specs.Char.{is_ascii}
 use Rattle.legacy_base.specs.EncodeEvents.{code_length}

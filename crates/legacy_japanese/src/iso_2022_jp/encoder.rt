@@ -1,6 +1,7 @@
 //! The encoder of ISO-2022-JP.
 ghost use Rattle.std.specs.Prelude.{◌≡◌, ◌≢◌, ◌==◌, ◌||◌, ◌<◌, ◌≤◌, ◌+◌, ◌/◌, ◌%◌, ℕ};
-ghost use Rattle.std.specs.Prelude.{List, [], ◌∷◌, ◌++◌, length, take, true, IfSome};
+ghost use Rattle.std.specs.Prelude.{List, [], ◌∷◌, ◌++◌, length, take, slice_index, true, false};
+ghost use Rattle.std.specs.Prelude.{IfSome};
 ghost use Rattle.legacy_base.specs.EncoderProfile.{in_ascii, in_roman, in_two_byte};
 ghost use Rattle.legacy_base.specs.Encoders.{iso_2022_jp, is_pending, new_encoder};
 ghost use Rattle.legacy_base.specs.Iso2022Jp.{iso_2022_jp_fold, iso_2022_jp_pointer_of};
@@ -293,6 +294,21 @@ fn put_pointer(dst: &mut [u8], at: usize, pointer: usize)
     );
 }
 
+/// Whether one of the bytes is a control that would switch modes.
+#[inline(always)]
+fn has_control(bytes: &[u8]) -> bool
+    ensures { result ≡ false → (k : ℕ) → k < length bytes.now →
+        is_mode_control (slice_index bytes.now k) ≡ false }
+{
+    let mut found = false;
+    let mut at = 0;
+    while at < bytes.len() {
+        found = found | is_control(u32::from(bytes[at]));
+        at += 1;
+    }
+    found
+}
+
 /// Whether both tests hold, of which both are made.
 #[inline(always)]
 fn both(first: bool, second: bool) -> bool
@@ -384,11 +400,11 @@ impl<V: EncoderTables> CodesInMode<'_, V> {
         Some(at + 2)
     }
 
-    /// Reads blocks of code units in ASCII mode, where the source has these, and writes their bytes from the
-    /// place `start` on. Answers where they end.
+    /// Reads code units in ASCII mode by blocks, and writes their bytes from the place `start` on. Answers where
+    /// they end.
     // A scalar is read where any fits, so the last two bytes of the output stay free.
     #[inline(always)]
-    fn copy_ascii<S: Source>(&self, src: &mut S, dst: &mut [u8], start: usize) -> usize
+    fn copy_blocks<S: Source>(&self, src: &mut S, dst: &mut [u8], start: usize) -> usize
         requires start { start ≤ length dst.old }
         requires mode { mode_of self.now.mode ≡ in_ascii }
         ensures keeps { KeepsOn (state_by (V.indexes self.now.tables.now) self.now.mode)
@@ -402,11 +418,64 @@ impl<V: EncoderTables> CodesInMode<'_, V> {
         if dst.len() - start < 2 {
             return start;
         }
-        if !src.has_blocks() {
-            return start;
-        }
         let limit = dst.len() - 2;
         start + src.copy_codes(&AsciiUnits, &mut dst[..limit], start)
+    }
+
+    /// Reads at most 256 bytes of ASCII, where none is a control, and writes them from the place `start` on. Answers
+    /// where they end.
+    // By a copy of the cursor, which is left where it is if a control is among what was copied: so little is copied
+    // in vain, however many controls there are.
+    #[inline(always)]
+    fn copy_piece<S: Source>(&self, src: &mut S, dst: &mut [u8], start: usize) -> usize
+        requires start { start ≤ length dst.old }
+        requires mode { mode_of self.now.mode ≡ in_ascii }
+        ensures keeps { KeepsOn (state_by (V.indexes self.now.tables.now) self.now.mode)
+            (length dst.old) (S.left src.old) (take start dst.old) (S.left src.new)
+            (take result dst.new) }
+        ensures start { start ≤ result }
+        ensures end { result ≤ length dst.old }
+        ensures passed { S.passed src.new + total_unit_count S.form (S.left src.new)
+            ≡ S.passed src.old + total_unit_count S.form (S.left src.old) }
+    {
+        if dst.len() - start < 2 {
+            return start;
+        }
+        let mut own = *src;
+        let limit = start + (dst.len() - 2 - start).min(256);
+        let count = own.copy_ascii(&mut dst[..limit], start);
+        if has_control(&dst[start..start + count]) {
+            return start;
+        }
+        *src = own;
+        start + count
+    }
+
+    /// Reads ASCII in ASCII mode as it goes by blocks, and writes it from the place `start` on. Answers where it
+    /// ends.
+    #[inline(always)]
+    fn copy_ascii<S: Source>(&self, src: &mut S, dst: &mut [u8], start: usize) -> usize
+        requires start { start ≤ length dst.old }
+        requires mode { mode_of self.now.mode ≡ in_ascii }
+        ensures keeps { KeepsOn (state_by (V.indexes self.now.tables.now) self.now.mode)
+            (length dst.old) (S.left src.old) (take start dst.old) (S.left src.new)
+            (take result dst.new) }
+        ensures start { start ≤ result }
+        ensures end { result ≤ length dst.old }
+        ensures passed { S.passed src.new + total_unit_count S.form (S.left src.new)
+            ≡ S.passed src.old + total_unit_count S.form (S.left src.old) }
+    {
+        if src.has_blocks() {
+            return self.copy_blocks(src, dst, start);
+        }
+        let mut end = start;
+        loop {
+            let behind = self.copy_piece(src, dst, end);
+            if behind - end < 256 {
+                return behind;
+            }
+            end = behind;
+        }
     }
 
     /// Reads scalars of one code unit that have a byte in the mode, and writes these from the place `start` on.

@@ -1,4 +1,4 @@
-use Rattle.std.proofs.Common.{◌∙◌, sym, arith}
+use Rattle.std.proofs.Common.{arith}
 use Rattle.legacy_japanese.specs.Iso2022JpEncoder.{ReadsThere, mode_of}
 use Rattle.legacy_japanese.proofs.Iso2022JpEncoderMoves.{reads}
 use Rattle.legacy_japanese.proofs.iso_2022_jp.encoder.CodesInMode.put_here.Goals as goal

@@ -2,7 +2,7 @@ use Rattle.std.proofs.Common.{◌≡◌, ◌+◌, ◌-◌, take, drop, length, a
 use Rattle.std.proofs.lemmas.List.{take-append-drop, take-append-le, take-take, length-take-le}
 use Rattle.legacy_text.proofs.CodeUnits.{total_unit_count-append}
 use Rattle.legacy_japanese.proofs.Iso2022JpEncoderMoves.{keeps_own_bytes}
-use Rattle.legacy_japanese.proofs.iso_2022_jp.encoder.CodesInMode.copy_ascii.Goals as goal
+use Rattle.legacy_japanese.proofs.iso_2022_jp.encoder.CodesInMode.copy_blocks.Goals as goal
 
 pub returns-clause-keeps : goal.returns-clause-keeps
 returns-clause-keeps g c =
