@@ -4,7 +4,7 @@
 use crate::decoding::{self, ToUtf16, ToUtf8};
 use crate::encoding::{self, From, FromUtf16, FromUtf8};
 use crate::ours::{Calls, Kept, Ours};
-use crate::{corpora, CORPORA, PACKED};
+use crate::{corpora, CORPORA, OF_PAIRS, PACKED};
 use encoding_rs::{Encoding, REPLACEMENT};
 
 /// The encodings, by their names.
@@ -108,7 +108,7 @@ const FLAT_SHARE: usize = 10;
 fn agree_back(codecs: &[Ours], encoding: &'static Encoding, units: &[u16], what: &str) -> Result<(), String> {
     let failed = |error| format!("{what} in {}: {error}", encoding.name());
     for (at, ours) in codecs.iter().enumerate() {
-        let is_searched = at + 1 < codecs.len();
+        let is_searched = at == 0 && codecs.len() > 1;
         let units = if is_searched { &units[..units.len() / FLAT_SHARE] } else { units };
         let text = FromUtf8::units(&String::from_utf16_lossy(units));
         for calls in [Calls::Raw, Calls::Replacing] {
@@ -119,11 +119,15 @@ fn agree_back(codecs: &[Ours], encoding: &'static Encoding, units: &[u16], what:
     Ok(())
 }
 
-/// The codec over flat tables, and over packed ones where it can have them.
+/// The codec over flat tables, over packed ones where it can have them, and with its pairs looked up ahead where it is
+/// one of pairs.
 fn codecs(encoding: &'static Encoding) -> Vec<Ours> {
     let mut codecs = vec![Ours::new(encoding, Kept::Flat)];
     if PACKED.contains(&encoding.name()) {
         codecs.push(Ours::new(encoding, Kept::Packed));
+    }
+    if OF_PAIRS.contains(&encoding.name()) {
+        codecs.push(Ours::new(encoding, Kept::Ahead));
     }
     codecs
 }

@@ -74,11 +74,13 @@ pub fn compare<D: Into>(codec: &Ours, encoding: &'static Encoding, calls: Calls,
     Ok(())
 }
 
-/// A codec over flat tables, and over packed ones where it reads by an index that can be packed.
+/// A codec over flat tables, over packed ones where it reads by an index that can be packed, and with its pairs looked
+/// up ahead where it is one of pairs.
 pub struct Codec {
     pub encoding: &'static Encoding,
     pub flat: Ours,
     pub packed: Option<Ours>,
+    pub ahead: Option<Ours>,
 }
 
 /// The headings of the columns of one source.

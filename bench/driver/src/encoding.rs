@@ -1,4 +1,4 @@
-//! The encoders' table: over packed tables, beside encoding_rs with its default tables and with its fast ones, ICU
+//! The encoders' tables: over packed tables, and with pairs looked up ahead, beside encoding_rs with its default tables and with its fast ones, ICU
 //! and iconv.
 
 use crate::decoding::Codec;
@@ -129,15 +129,16 @@ pub fn compare<D: From>(codec: &Ours, encoding: &'static Encoding, calls: Calls,
 /// All that write a line's text.
 struct Writers<'a> {
     codec: &'a Codec,
+    ours: &'a Ours,
     fast: &'static FastEncoding,
     icu: Option<Box<dyn Peer>>,
     iconv: Option<Box<dyn Peer>>,
 }
 
 impl<'a> Writers<'a> {
-    fn new(codec: &'a Codec) -> Result<Writers<'a>, String> {
+    fn new(codec: &'a Codec, ours: &'a Ours) -> Result<Writers<'a>, String> {
         let name = codec.encoding.name();
-        Ok(Writers { codec, fast: fast_encoding(codec.encoding)?, icu: peers::icu(name), iconv: peers::glibc(name) })
+        Ok(Writers { codec, ours, fast: fast_encoding(codec.encoding)?, icu: peers::icu(name), iconv: peers::glibc(name) })
     }
 
     /// The text without the characters for which another library has other bytes: so all write the same.
@@ -161,8 +162,7 @@ impl<'a> Writers<'a> {
     /// Compares what all write, and drops the library that writes something else.
     fn compare<D: From>(&mut self, src: &[D::Read]) -> Result<(), String> {
         let encoding = self.codec.encoding;
-        let packed = self.codec.packed.as_ref().unwrap_or(&self.codec.flat);
-        compare::<D>(packed, encoding, Calls::Raw, src)?;
+        compare::<D>(self.ours, encoding, Calls::Raw, src)?;
         let mut dst = room(src);
         let wanted = written(&fast::<D>(self.fast, Calls::Raw, src, 0, 1), &mut dst);
         is_same(&wanted, &theirs::<D>(encoding, src, 0, 1), &mut dst).map_err(|error| format!("encoding_rs's two builds: {error}"))?;
@@ -179,14 +179,13 @@ impl<'a> Writers<'a> {
 
     /// The cells of one source, with those of the default tables or without.
     fn cells<D: From>(&self, src: &[D::Read], piece: usize, rounds: usize, times: usize, with_default: bool) -> String {
-        let codec = self.codec.packed.as_ref().unwrap_or(&self.codec.flat);
         let calls = [
             with_default.then(|| theirs::<D>(self.codec.encoding, src, piece, rounds)),
             Some(fast::<D>(self.fast, Calls::Raw, src, piece, rounds)),
             self.icu.as_deref().map(|icu| peer::<D>(icu, src, piece, rounds)),
             self.iconv.as_deref().map(|iconv| peer::<D>(iconv, src, piece, rounds)),
-            Some(ours::<D>(codec, Calls::Raw, src, piece, rounds)),
-            Some(ours::<D>(codec, Calls::Raw, src, piece, 0)),
+            Some(ours::<D>(self.ours, Calls::Raw, src, piece, rounds)),
+            Some(ours::<D>(self.ours, Calls::Raw, src, piece, 0)),
         ];
         let best = best_times(&calls, &mut room(src), times);
         let bytes = size_of_val(src) * rounds;
@@ -238,15 +237,15 @@ pub fn decoded(encoding: &'static Encoding, bytes: &[u8]) -> String {
 }
 
 /// The two lines of an encoder, where there is one: it encodes what the decoder gives.
-pub fn lines(corpus: &str, codec: &Codec, long: &[u8], short: &[u8], times: usize) -> Result<(), String> {
+pub fn lines(corpus: &str, codec: &Codec, ours: &Ours, long: &[u8], short: &[u8], times: usize) -> Result<(), String> {
     let encoding = codec.encoding;
     if encoding.output_encoding() != encoding {
         return Ok(());
     }
-    let text = |bytes: &[u8]| -> Result<String, String> { Ok(Writers::new(codec)?.alike(&decoded(encoding, bytes))) };
+    let text = |bytes: &[u8]| -> Result<String, String> { Ok(Writers::new(codec, ours)?.alike(&decoded(encoding, bytes))) };
     let (long, short) = (text(long)?, text(short)?);
-    Writers::new(codec)?.line::<FromUtf8>(corpus, &long, &short, times)?;
-    Writers::new(codec)?.line::<FromUtf16>(corpus, &long, &short, times)
+    Writers::new(codec, ours)?.line::<FromUtf8>(corpus, &long, &short, times)?;
+    Writers::new(codec, ours)?.line::<FromUtf16>(corpus, &long, &short, times)
 }
 
 /// The heading of the table of encoders over flat tables.

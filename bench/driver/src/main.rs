@@ -2,7 +2,7 @@
 //! `legacy_recode`.
 //!
 //! Arguments: words that a line must have, as `ja-text`, `Big5`, or the name of a table (`decode`, `encode`,
-//! `replace`, `flat`, `checks`), or `recode` for the program's table (none: all lines of all are made), and a number:
+//! `ahead`, `replace`, `flat`, `checks`), or `recode` for the program's table (none: all lines of all are made), and a number:
 //! how many times at the least each call of a codec is timed. Or `agreement`: all codecs are compared and nothing is
 //! timed. Or `sources`: the packed indexes are printed as source text. Or `medians` and the files of the tables of
 //! several builds, of which one table is made.
@@ -41,7 +41,10 @@ const CORPORA: &[(&str, &str, f64, &[&str])] = &[
 ];
 
 /// The encodings whose indexes can be packed.
-const PACKED: [&str; 7] = ["EUC-KR", "gb18030", "GBK", "Shift_JIS", "EUC-JP", "ISO-2022-JP", "Big5"];
+const PACKED: &[&str] = &["EUC-KR", "gb18030", "GBK", "Shift_JIS", "EUC-JP", "Big5", "ISO-2022-JP"];
+
+/// Those of them whose encoders can look their pairs up ahead.
+const OF_PAIRS: &[&str] = PACKED.split_at(6).0;
 
 /// How many times a measured call converts a short source, so that it takes as long as a call on a long one.
 const SHORT_ROUNDS: usize = 16;
@@ -54,15 +57,17 @@ const PIECE: usize = 64;
 enum Table {
     Decode,
     Encode,
+    Ahead,
     Flat,
     Replace,
     Checks,
 }
 
 /// Their names, in the order in which they are made.
-const TABLES: [(&str, Table); 5] = [
+const TABLES: [(&str, Table); 6] = [
     ("decode", Table::Decode),
     ("encode", Table::Encode),
+    ("ahead", Table::Ahead),
     ("flat", Table::Flat),
     ("replace", Table::Replace),
     ("checks", Table::Checks),
@@ -101,7 +106,8 @@ impl Codecs {
         if !self.made.contains_key(label) {
             let encoding = Encoding::for_label(label.as_bytes()).ok_or("no such encoding")?;
             let packed = PACKED.contains(&label).then(|| Ours::new(encoding, Kept::Packed));
-            self.made.insert(label, Codec { encoding, flat: Ours::new(encoding, Kept::Flat), packed });
+            let ahead = OF_PAIRS.contains(&label).then(|| Ours::new(encoding, Kept::Ahead));
+            self.made.insert(label, Codec { encoding, flat: Ours::new(encoding, Kept::Flat), packed, ahead });
         }
         self.made.get(label).ok_or_else(|| "no codec".to_string())
     }
@@ -112,7 +118,8 @@ fn lines(table: Table, corpus: &str, codec: &Codec, long: &[u8], short: &[u8], t
     let is_text = corpus.ends_with("text");
     match table {
         Table::Decode => decoding::lines(corpus, codec, long, short, times),
-        Table::Encode => encoding::lines(corpus, codec, long, short, times),
+        Table::Encode => encoding::lines(corpus, codec, codec.packed.as_ref().unwrap_or(&codec.flat), long, short, times),
+        Table::Ahead => codec.ahead.as_ref().map_or(Ok(()), |ahead| encoding::lines(corpus, codec, ahead, long, short, times)),
         Table::Flat if is_text => encoding::flat_lines(corpus, codec, short, times),
         Table::Replace if is_text => {
             replacing::lines(corpus, codec, long, short, times)?;
@@ -129,7 +136,7 @@ fn lines(table: Table, corpus: &str, codec: &Codec, long: &[u8], short: &[u8], t
 fn heading(table: Table) -> String {
     match table {
         Table::Decode => decoding::heading(),
-        Table::Encode => encoding::heading(),
+        Table::Encode | Table::Ahead => encoding::heading(),
         Table::Flat => encoding::flat_heading(),
         Table::Replace => replacing::heading(),
         Table::Checks => String::new(),

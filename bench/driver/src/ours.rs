@@ -96,6 +96,7 @@ struct IndexSlices {
     single_byte: Slice<u16>,
     single_byte_run: ByteRun,
     is_packed: bool,
+    is_cached: bool,
     packed: PackedSlices,
 }
 
@@ -205,6 +206,8 @@ impl Packed {
 pub enum Kept {
     Flat,
     Packed,
+    /// Packed, and encoders of pairs look these up ahead.
+    Ahead,
 }
 
 /// Who replaces what is malformed or has no bytes.
@@ -221,14 +224,15 @@ pub struct Ours {
     pub codec: u32,
     pub indexes: Indexes,
     pub packed: Option<Packed>,
+    is_cached: bool,
 }
 
 type Export<R, W> = unsafe extern "C" fn(u32, *const IndexSlices, *const R, usize, *mut W, usize, usize, usize) -> usize;
 
 impl Ours {
     pub fn with(codec: u32, indexes: Indexes, kept: Kept) -> Ours {
-        let packed = (kept == Kept::Packed).then(|| Packed::of(&indexes));
-        Ours { codec, indexes, packed }
+        let packed = (kept != Kept::Flat).then(|| Packed::of(&indexes));
+        Ours { codec, indexes, packed, is_cached: kept == Kept::Ahead }
     }
 
     /// The codec of an encoding.
@@ -269,6 +273,7 @@ impl Ours {
             single_byte: Slice::from(&indexes.single_byte),
             single_byte_run: indexes.single_byte_run,
             is_packed: self.packed.is_some(),
+            is_cached: self.is_cached,
             packed,
         }
     }

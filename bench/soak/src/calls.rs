@@ -1,4 +1,4 @@
-//! Calls of the static library over flat and packed tables, into outputs behind which nothing may be written.
+//! Calls of the static library over flat and packed tables, and with pairs looked up ahead, into outputs behind which nothing may be written.
 
 use crate::codec::Codec;
 use crate::ours::{numbers, Calls, Kept, Ours};
@@ -54,16 +54,17 @@ fn called<W: Copy + PartialEq>(room: usize, blank: W, function: impl FnOnce(&mut
     Ok(Some(output))
 }
 
-/// A codec of the library, over flat tables and over packed ones.
+/// A codec of the library, over flat tables, over packed ones, and over these with its pairs looked up ahead.
 pub struct Library {
     flat: Ours,
     packed: Ours,
+    ahead: Ours,
 }
 
 impl Library {
     pub fn new(codec: Codec, tables: &Tables) -> Library {
         let with = |kept| Ours::with(number(codec), tables.clone(), kept);
-        Library { flat: with(Kept::Flat), packed: with(Kept::Packed) }
+        Library { flat: with(Kept::Flat), packed: with(Kept::Packed), ahead: with(Kept::Ahead) }
     }
 
     /// The library over packed tables.
@@ -75,6 +76,7 @@ impl Library {
         match cut.kept {
             Kept::Flat => &self.flat,
             Kept::Packed => &self.packed,
+            Kept::Ahead => &self.ahead,
         }
     }
 

@@ -22,6 +22,7 @@ pub struct Count {
     units: u64,
     calls: u64,
     over_packed: u64,
+    ahead: u64,
     with_replacement: u64,
 }
 
@@ -36,12 +37,14 @@ impl Count {
         self.units += other.units;
         self.calls += other.calls;
         self.over_packed += other.over_packed;
+        self.ahead += other.ahead;
         self.with_replacement += other.with_replacement;
     }
 
     fn add_call(&mut self, cut: Cut) {
         self.calls += 1;
-        self.over_packed += u64::from(cut.kept == Kept::Packed);
+        self.over_packed += u64::from(cut.kept != Kept::Flat);
+        self.ahead += u64::from(cut.kept == Kept::Ahead);
         self.with_replacement += u64::from(cut.calls == Calls::Replacing);
     }
 }
@@ -50,9 +53,12 @@ impl fmt::Display for Count {
     fn fmt(&self, f: &mut fmt::Formatter) -> fmt::Result {
         let Count { standard_rounds, odd_rounds, spoiled, decoded, bytes, encoded, units, calls, .. } = self;
         write!(f, " {standard_rounds} | {odd_rounds} | {spoiled} | {decoded} | {bytes} | {encoded} | {units} | {calls} |")?;
-        write!(f, " {} | {} |", self.over_packed, self.with_replacement)
+        write!(f, " {} | {} | {} |", self.over_packed, self.ahead, self.with_replacement)
     }
 }
+
+/// How tables are kept, and whether pairs are looked up ahead.
+const KEPT: [Kept; 3] = [Kept::Flat, Kept::Packed, Kept::Ahead];
 
 /// The kinds of calls.
 const CALLS: [Calls; 2] = [Calls::Raw, Calls::Replacing];
@@ -78,7 +84,7 @@ const ROOM_IN_BYTES: usize = 4;
 const ROOM_IN_UNITS: usize = 2;
 const ROOM_WITH_REFERENCE: usize = 14;
 
-/// Cuts to try by these calls: whole, in pieces, and into outputs that are too small; each over flat or packed tables.
+/// Cuts to try by these calls: whole, in pieces, and into outputs that are too small; each over tables of some kind.
 fn cuts(numbers: &mut Numbers, calls: Calls, source: usize, output: usize) -> Vec<Cut> {
     let ample = output + 16;
     let small = |numbers: &mut Numbers| numbers.below(output + 4);
@@ -91,7 +97,7 @@ fn cuts(numbers: &mut Numbers, calls: Calls, source: usize, output: usize) -> Ve
     if numbers.once_in(4) {
         cuts.push((1, ample));
     }
-    let mut cut = |(piece, room)| Cut { kept: numbers.of(&[Kept::Flat, Kept::Packed]), calls, piece, room };
+    let mut cut = |(piece, room)| Cut { kept: numbers.of(&KEPT), calls, piece, room };
     cuts.into_iter().map(&mut cut).collect()
 }
 

@@ -79,8 +79,8 @@ fn seed_behind(seed: u64) -> u64 {
 }
 
 fn report(counts: &[Count], seconds: u64) {
-    println!("| codec | rounds, standard tables | rounds, odd tables | refused tables | sources decoded | bytes | sources encoded | code units | calls | of them over packed tables | with replacement |");
-    println!("|---|---|---|---|---|---|---|---|---|---|---|");
+    println!("| codec | rounds, standard tables | rounds, odd tables | refused tables | sources decoded | bytes | sources encoded | code units | calls | of them over packed tables | with pairs looked up ahead | with replacement |");
+    println!("|---|---|---|---|---|---|---|---|---|---|---|---|");
     let mut total = Count::default();
     for (codec, count) in CODECS.iter().zip(counts) {
         println!("| {} |{count}", codec.name());

@@ -26,8 +26,9 @@ pub use legacy_decoders::{
     ShiftJisDecoder, SingleByteDecoder, UserDefinedDecoder, Utf16Decoder,
 };
 pub use legacy_encoders::{
-    Big5Encoder, EucJpEncoder, EucKrEncoder, Gb18030Encoder, Iso2022JpEncoder, ShiftJisEncoder,
-    SingleByteEncoder, SingleByteRun, SingleByteRunError, UserDefinedEncoder,
+    Big5Encoder, CachedEncoder, EncodesPairs, EucJpEncoder, EucKrEncoder, Gb18030Encoder,
+    Iso2022JpEncoder, PAIR_ROOM, ShiftJisEncoder, SingleByteEncoder, SingleByteRun,
+    SingleByteRunError, UserDefinedEncoder,
 };
 pub use references::{encode_replacing_utf8, encode_replacing_utf16};
 pub use replacing::{decode_replacing_utf8, decode_replacing_utf16};

@@ -2,3 +2,5 @@
 pub mod CallUnderWay
 pub mod PlainServes
 pub mod PairAnswers
+pub mod CachedPairs
+pub mod UnitTurns

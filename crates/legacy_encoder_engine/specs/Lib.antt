@@ -5,3 +5,5 @@ pub mod UnderWay
 pub mod PlainCodecs
 pub mod PlainLengths
 pub mod PairCodecs
+pub mod UnitTurns
+pub mod CachedPairs

@@ -79,6 +79,11 @@ impl<'a, C: PairCodec> PlainCodes for PairEncoder<'a, C> {
     fn code_of(&self, c: char) -> EncoderMove {
         C::code_of(self.tables, c)
     }
+
+    #[inline(always)]
+    fn goes_past_pairs(&self) -> bool {
+        C::goes_past_pairs()
+    }
 }
 
 impl<'a, C: PairCodec> PlainEncoder for PairEncoder<'a, C> {

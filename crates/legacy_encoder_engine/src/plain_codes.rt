@@ -4,6 +4,7 @@ ghost use Rattle.legacy_text.specs.UnitCodes.{IsNoSurrogate};
 ghost use Rattle.legacy_base.specs.Encoders.{Codec, encoder_profile};
 ghost use Rattle.legacy_encoder_engine.specs.Moves.{IsCode};
 ghost use Rattle.legacy_encoder_engine.specs.PlainCodecs.{IsPlainCodec, HasByte};
+ghost use Rattle.legacy_encoder_engine.specs.UnitTurns.{HasUnitCode};
 
 use crate::moves::EncoderMove;
 
@@ -43,6 +44,23 @@ pub trait PlainCodes {
     #[inline(always)]
     fn goes_past_pairs(&self) -> bool {
         false
+    }
+
+    /// Whether code units of UTF-16 are worth `unit_code`. It is a hint: any answer will do.
+    #[inline(always)]
+    fn goes_by_turns(&self) -> bool {
+        false
+    }
+
+    /// The bytes of a code unit of UTF-16 as one number, the first in the low byte, and whether it has them: one
+    /// where it is ASCII, and else two. Any unit may have none, and is then read as a scalar.
+    #[inline(always)]
+    fn unit_code(&self, unit: u16) -> (u16, bool)
+        ensures { result.1 ≡ true →
+            IsNoSurrogate unit × HasUnitCode (codec self.now) unit result.0 }
+    {
+        let _ = unit;
+        (0, false)
     }
 
     /// Whether runs of code units of UTF-16 are worth `byte_of`. It is a hint: any answer will do.

@@ -1,10 +1,11 @@
 //! The loops that read ahead of the moves, for codecs without modes: ASCII by blocks, and scalars one after
 //! another. All that is rare is left to the moves: scalars that have no bytes, and small outputs.
-ghost use Rattle.std.specs.Prelude.{◌≡◌, ℕ, ◌+◌, ◌<◌, ◌≤◌, [], true, false, length, take, MatchOption};
+ghost use Rattle.std.specs.Prelude.{◌≡◌, ℕ, ◌+◌, ◌/◌, ◌%◌, ◌<◌, ◌≤◌, [], ◌∷◌, ◌++◌, true, false, length, take, MatchOption};
 ghost use Rattle.legacy_text.specs.EncodingForm.{total_unit_count};
 ghost use Rattle.legacy_base.specs.Encoders.{new_encoder, scalar_room};
 ghost use Rattle.legacy_encoder_engine.specs.Moves.{is_escape, move_report};
 ghost use Rattle.legacy_encoder_engine.specs.UnderWay.{KeepsOn, PutsCode};
+ghost use Rattle.legacy_encoder_engine.specs.UnitTurns.{PutsUnits};
 
 use crate::drive::{put_move, put_two};
 use crate::moves::EncoderMove;
@@ -140,6 +141,90 @@ fn read_turns<C: PlainCodes, S: Source>(
     0
 }
 
+/// Writes the bytes of a code unit from a place on, one where it is ASCII and else two, and answers where they end.
+// Both bytes are stored: so there is no branch.
+#[inline(always)]
+fn put_unit(dst: &mut [u8], at: usize, unit: u16, both: u16) -> usize
+    requires { at + 2 ≤ length dst.old }
+    ensures ascii { unit < 0x80 → (result ≡ at + 1)
+        × (take result dst.new ≡ take at dst.old ++ both % 256 ∷ []) }
+    ensures past { 0x80 ≤ unit → (result ≡ at + 2)
+        × (take result dst.new ≡ take at dst.old ++ both % 256 ∷ both / 256 ∷ []) }
+{
+    put_two(dst, at, (both % 256) as u8, (both / 256) as u8);
+    let count = if unit < 0x80 { 1 } else { 2 };
+    at + count
+}
+
+/// Writes the bytes of eight code units from a place on, and answers where they end; `None` where one has none here.
+// Without a branch between them: in text with spaces no pattern tells where a scalar of one byte comes.
+#[inline(always)]
+fn put_eight<C: PlainCodes>(
+    encoder: &C,
+    dst: &mut [u8],
+    start: usize,
+    units: [u16; 8],
+) -> Option<usize>
+    requires room { start + 32 ≤ length dst.old }
+    requires past { C.past ≤ 16 }
+    ensures { MatchOption result (take start dst.new ≡ take start dst.old)
+        (λ end. (start + 8 ≤ end) × (end ≤ start + 16)
+        × PutsUnits (new_encoder (C.codec encoder.now)) (length dst.old) units
+        (take start dst.old) (take end dst.new)) }
+{
+    let mut end = start;
+    let mut is_known = true;
+    let mut k = 0;
+    while k < 8 {
+        let (both, has_code) = encoder.unit_code(units[k]);
+        is_known = is_known & has_code;
+        end = put_unit(dst, end, units[k], both);
+        k += 1;
+    }
+    if is_known { Some(end) } else { None }
+}
+
+/// Reads code units of UTF-16 by turns of eight, up to one in which a unit has no bytes here, and writes their bytes
+/// from the place `start` on. Answers where they end. A turn of ASCII is the last one.
+// By a copy of the cursor, which is left where it is where a turn fails.
+#[inline(always)]
+fn read_eights<C: PlainCodes, S: Source>(
+    encoder: &C,
+    src: &mut S,
+    dst: &mut [u8],
+    start: usize,
+) -> usize
+    requires { start ≤ length dst.old }
+    ensures keeps { KeepsOn (new_encoder (C.codec encoder.now)) (length dst.old) (S.left src.old)
+        (take start dst.old) (S.left src.new) (take result dst.new) }
+    ensures start { start ≤ result }
+    ensures end { result ≤ length dst.old }
+    ensures few { length (S.left src.new) ≤ length (S.left src.old) }
+    ensures passed { S.passed src.new + total_unit_count S.form (S.left src.new)
+        ≡ S.passed src.old + total_unit_count S.form (S.left src.old) }
+{
+    let mut at = start;
+    if !encoder.goes_by_turns() || encoder.past_room() > 16 {
+        return at;
+    }
+    while dst.len() - at >= 32 {
+        let mut ahead = *src;
+        let Some(units) = ahead.take_eight() else {
+            return at;
+        };
+        let Some(end) = put_eight(encoder, dst, at, units) else {
+            return at;
+        };
+        *src = ahead;
+        let is_ascii = end - at == 8;
+        at = end;
+        if is_ascii {
+            return at;
+        }
+    }
+    at
+}
+
 /// Reads scalars up to where blocks seem to go on or to one that has no bytes, and writes their bytes
 /// from the place `start` on, while `widest` bytes are free. Answers where they end.
 // For each number of code units it goes on by itself: so the place of the next scalar is known before
@@ -164,6 +249,7 @@ fn read_scalars<C: PlainCodes, S: Source>(
         ≡ S.passed src.old + total_unit_count S.form (S.left src.old) }
 {
     let mut at = start;
+    let mut by_turns = true;
     while dst.len() - at >= widest {
         match src.front() {
             Next::One(c) => {
@@ -175,6 +261,11 @@ fn read_scalars<C: PlainCodes, S: Source>(
                 };
                 at = end;
                 src.pass(1);
+                if by_turns && (c as u32) >= 0x80 {
+                    let behind = read_eights(encoder, src, dst, at);
+                    by_turns = behind > at;
+                    at = behind;
+                }
             }
             Next::Two(c) => {
                 let Some(end) = put_past_ascii(encoder, dst, at, c) else {

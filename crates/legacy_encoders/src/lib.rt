@@ -3,6 +3,7 @@
 #![tactic(auto)]
 
 pub use legacy_chinese::{Big5Encoder, Gb18030Encoder};
+pub use legacy_encoder_engine::cached::{CachedEncoder, EncodesPairs, PAIR_ROOM};
 pub use legacy_japanese::{EucJpEncoder, Iso2022JpEncoder, ShiftJisEncoder};
 pub use legacy_korean::EucKrEncoder;
 pub use legacy_miscellaneous::UserDefinedEncoder;

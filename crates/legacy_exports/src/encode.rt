@@ -9,8 +9,8 @@ use crate::pieces::Reading;
 use crate::texts::Text;
 use legacy_base::RawEncoder;
 use legacy_encoders::{
-    Big5Encoder, EucJpEncoder, EucKrEncoder, Gb18030Encoder, Iso2022JpEncoder, ShiftJisEncoder,
-    SingleByteEncoder, UserDefinedEncoder,
+    Big5Encoder, CachedEncoder, EncodesPairs, EucJpEncoder, EucKrEncoder, Gb18030Encoder,
+    Iso2022JpEncoder, PAIR_ROOM, ShiftJisEncoder, SingleByteEncoder, UserDefinedEncoder,
 };
 
 /// Encodes the text in pieces of so many code units by calls of a kind, and answers how many bytes it wrote. It stops
@@ -71,6 +71,40 @@ fn encode_times<C: Calls, T: Text, E: RawEncoder>(
     written
 }
 
+/// Encodes by an encoder whose pairs are looked up ahead, as `encode_times` does.
+// A function of its own, so that only who wants it pays for the room.
+#[inline(never)]
+fn encode_ahead<C: Calls, T: Text, E: EncodesPairs>(
+    encoder: &E,
+    reading: Reading<C, T>,
+    output: &mut [u8],
+) -> usize
+    ensures { result ≤ length output.new }
+{
+    let mut room = [0u16; PAIR_ROOM];
+    let Some(mut cached) = CachedEncoder::new(encoder, &mut room) else {
+        unreachable!()
+    };
+    encode_times(&mut cached, reading, output)
+}
+
+/// Encodes by an encoder of pairs, as `encode_times` does, which are looked up ahead where that is asked for.
+#[inline(always)]
+fn encode_pairs<C: Calls, T: Text, E: EncodesPairs + Drop>(
+    mut encoder: E,
+    ahead: bool,
+    reading: Reading<C, T>,
+    output: &mut [u8],
+) -> usize
+    ensures { result ≤ length output.new }
+{
+    if ahead {
+        encode_ahead(&encoder, reading, output)
+    } else {
+        encode_times(&mut encoder, reading, output)
+    }
+}
+
 // The loop of `encode_times` is inlined here, as that of the decoders is.
 /// Encodes by the codec's encoder, as `encode_times` does, or answers `None` where the codec has none or the
 /// indexes are refused.
@@ -91,15 +125,16 @@ pub fn encode<C: Calls, T: Text>(
     let Some(tables) = tables_with(indexes, &pairs[..range_count]) else {
         return None;
     };
+    let ahead = indexes.is_cached;
     let written = match codec {
         Codec::SingleByte => return encode_single_byte(indexes, reading, output),
-        Codec::Gbk => encode_times(&mut Gb18030Encoder::new(&tables, false), reading, output),
-        Codec::Gb18030 => encode_times(&mut Gb18030Encoder::new(&tables, true), reading, output),
-        Codec::Big5 => encode_times(&mut Big5Encoder::new(&tables), reading, output),
-        Codec::EucJp => encode_times(&mut EucJpEncoder::new(&tables), reading, output),
+        Codec::Gbk => encode_pairs(Gb18030Encoder::new(&tables, false), ahead, reading, output),
+        Codec::Gb18030 => encode_pairs(Gb18030Encoder::new(&tables, true), ahead, reading, output),
+        Codec::Big5 => encode_pairs(Big5Encoder::new(&tables), ahead, reading, output),
+        Codec::EucJp => encode_pairs(EucJpEncoder::new(&tables), ahead, reading, output),
         Codec::Iso2022Jp => encode_times(&mut Iso2022JpEncoder::new(&tables), reading, output),
-        Codec::ShiftJis => encode_times(&mut ShiftJisEncoder::new(&tables), reading, output),
-        Codec::EucKr => encode_times(&mut EucKrEncoder::new(&tables), reading, output),
+        Codec::ShiftJis => encode_pairs(ShiftJisEncoder::new(&tables), ahead, reading, output),
+        Codec::EucKr => encode_pairs(EucKrEncoder::new(&tables), ahead, reading, output),
         Codec::UserDefined => encode_times(&mut UserDefinedEncoder::new(), reading, output),
         Codec::Replacement | Codec::Utf16Be | Codec::Utf16Le => return None,
     };

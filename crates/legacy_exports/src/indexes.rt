@@ -77,6 +77,8 @@ pub struct IndexSlices<'a> {
     pub single_byte_run: ByteRun,
     /// Whether the tables are packed ones.
     pub is_packed: bool,
+    /// Whether encoders of pairs look these up ahead.
+    pub is_cached: bool,
     /// What packed tables are made of; flat ones do not look at it.
     pub packed: PackedSlices<'a>,
 }

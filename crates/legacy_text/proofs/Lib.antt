@@ -4,3 +4,4 @@ pub mod ShortScalars
 pub mod Ascii
 pub mod Texts
 pub mod UnitCopies
+pub mod UnitTurns

@@ -6,5 +6,6 @@ pub mod Destinations
 pub mod NextScalars
 pub mod Blocks
 pub mod UnitCodes
+pub mod UnitTurns
 pub mod ShortScalars
 pub mod TextSources

@@ -1,11 +1,12 @@
 //! Where an encoder reads.
-ghost use Rattle.std.specs.Prelude.{◌≡◌, ℕ, ◌+◌, ◌-◌, ◌^◌, ◌<◌, ◌≤◌, List, [], ◌∷◌, ◌++◌, length, take, drop, true, slice_get, slice_index, IsAscii};
+ghost use Rattle.std.specs.Prelude.{◌≡◌, ℕ, ◌+◌, ◌-◌, ◌^◌, ◌<◌, ◌≤◌, List, [], ◌∷◌, ◌++◌, length, take, drop, true, slice_get, slice_index, IsAscii, MatchOption};
 ghost use Rattle.std.specs.Char.{IsScalar};
 ghost use Rattle.std.specs.Str.{chars, is_utf8};
 ghost use Rattle.legacy_text.specs.EncodingForm.{EncodingForm, Utf8, Utf16, unit_count, total_unit_count};
 ghost use Rattle.legacy_text.specs.Texts.{unit_scalars};
 ghost use Rattle.legacy_text.specs.NextScalars.{IsSized, IsNext, StandsAt};
 ghost use Rattle.legacy_text.specs.UnitCodes.{WritesCodes};
+ghost use Rattle.legacy_text.specs.UnitTurns.{TakesUnits};
 
 use crate::blocks::{copy_ascii_bytes, copy_ascii_units};
 use crate::short_scalars::copy_short_scalars;
@@ -83,6 +84,17 @@ pub trait Source: Copy {
     #[inline(always)]
     fn has_blocks(&self) -> bool {
         false
+    }
+
+    /// Goes past the next eight code units of UTF-16, and answers them: each is a scalar, if none is a surrogate.
+    /// `None` where not so many are left, and in UTF-8: then the cursor stays where it is.
+    #[inline(always)]
+    fn take_eight(&mut self) -> Option<[u16; 8]>
+        ensures { MatchOption result (self.new ≡ self.old) (λ units. TakesUnits form (left self.old)
+            (passed self.old) units (left self.new) (passed self.new)) }
+    {
+        let _ = self.consumed();
+        None
     }
 
     /// Whether a scalar past ASCII comes next, and `copy_codes` may go on by turns of scalars. It is a
@@ -310,6 +322,24 @@ fn unit_scalar_at(units: &[u16], place: usize) -> Option<char>
     Some(scalar_of(0x1_0000 + (high - 0xD800) * 0x400 + (low - 0xDC00)))
 }
 
+/// Eight code units from a place on.
+#[inline(always)]
+fn eight_at(units: &[u16], place: usize) -> [u16; 8]
+    requires { place + 8 ≤ length units.now }
+    ensures { result ≡ take 8 (drop place units.now) }
+{
+    [
+        units[place],
+        units[place + 1],
+        units[place + 2],
+        units[place + 3],
+        units[place + 4],
+        units[place + 5],
+        units[place + 6],
+        units[place + 7],
+    ]
+}
+
 /// A scalar by the number of its code units in UTF-16.
 #[inline(always)]
 #[tactic(auto, using(crate::proofs::CodeUnits::encoding_utf16))]
@@ -385,6 +415,16 @@ impl Source for Utf16Source<'_> {
         let count = copy_ascii_units(&self.units[self.place..], dst, at);
         self.place += count;
         count
+    }
+
+    #[inline(always)]
+    fn take_eight(&mut self) -> Option<[u16; 8]> {
+        if self.units.len() - self.place < 8 {
+            return None;
+        }
+        let units = eight_at(self.units, self.place);
+        self.place += 8;
+        Some(units)
     }
 
     #[inline(always)]

@@ -2,6 +2,7 @@
 //! `docs/CALLING.md`.
 #![tactic(auto)]
 
+pub mod ahead;
 pub mod faults;
 pub mod index_data;
 pub mod piece_by_piece;

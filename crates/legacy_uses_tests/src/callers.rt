@@ -1,9 +1,10 @@
 //! Each caller once, by EUC-KR with U+AC02 at pointer 0 and no other scalar.
 use legacy_codecs::{
-    EucKrDecoder, GB18030_2022_PUA, Indexes, RawDecoder, SingleByteRun, SingleByteTable, Tables,
-    UserDefinedEncoder,
+    EucKrDecoder, EucKrEncoder, GB18030_2022_PUA, Indexes, PAIR_ROOM, RawDecoder, SingleByteRun,
+    SingleByteTable, Tables, UserDefinedEncoder,
 };
 use legacy_index_files::{Encoding, FileIndex};
+use legacy_uses::ahead::encode_long;
 use legacy_uses::faults::{MalformedSequence, malformed_sequences};
 use legacy_uses::index_data::decode_by_file;
 use legacy_uses::piece_by_piece::decode_piece;
@@ -99,6 +100,29 @@ fn references_stand_for_what_is_lacking(rt: HostRuntime) {
     let mut encoder = UserDefinedEncoder::new();
     let bytes = transcode(rt.alloc(), &mut decoder, &mut encoder, b"a\x81\x41\xFFb");
     assert_eq!(rt; bytes.as_deref(), Ok(b"a&#44034;&#65533;b".as_slice()));
+}
+
+/// Room for pairs.
+// Without a clause: none of its entries is to be known.
+fn pair_room(rt: &(impl AllocGlobal + Abort)) -> Vec<u16> {
+    match vec![in rt.alloc(); 0xFFFF; PAIR_ROOM] {
+        Ok(room) => room,
+        Err(_) => panic!(rt; "memory"),
+    }
+}
+
+#[test]
+fn a_long_text_is_encoded_with_its_pairs_looked_up_ahead(rt: HostRuntime) {
+    let tables = tables_of(&rt);
+    let mut encoder = EucKrEncoder::new(&tables);
+    let mut room = pair_room(&rt);
+    let bytes = encode_long(
+        rt.alloc(),
+        &mut encoder,
+        room.as_mut_slice(),
+        "a\u{AC02}\u{1F4A9}b",
+    );
+    assert_eq!(rt; bytes.as_deref(), Ok(b"a\x81\x41&#128169;b".as_slice()));
 }
 
 #[test]

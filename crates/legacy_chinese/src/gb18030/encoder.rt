@@ -14,6 +14,7 @@ ghost use Rattle.legacy_chinese.specs.Gb18030Codes.{gb18030_plain};
 use legacy_base::{
     EncoderResult, EncoderTables, FlatTables, KeptTables, PackedTables, RawEncoder, Source, Tables,
 };
+use legacy_encoder_engine::cached::{EncodesPairs, WithPairs};
 use legacy_encoder_engine::drive::drive_encoder;
 use legacy_encoder_engine::moves::EncoderMove;
 use legacy_encoder_engine::plain::PlainEncoder;
@@ -188,6 +189,11 @@ impl PlainCodes for Gb18030Encoder<'_> {
     fn code_of(&self, c: char) -> EncoderMove {
         any_code_of(self.tables, self.extended_range, c)
     }
+
+    #[inline(always)]
+    fn goes_past_pairs(&self) -> bool {
+        self.extended_range
+    }
 }
 
 impl PlainEncoder for Gb18030Encoder<'_> {
@@ -277,6 +283,36 @@ fn read_by<V: EncoderTables, S: Source, const PAIRS_FIRST: bool>(
             dst,
             start,
         )
+    }
+}
+
+impl EncodesPairs for Gb18030Encoder<'_> {
+    ghost use Rattle.std.proofs.Common.{refl};
+
+    ghost same = { λ e. refl };
+
+    // The forms of four bytes are made by the tables as they are kept. GBK has none.
+    #[inline]
+    fn read_with<S: Source>(
+        &self,
+        pairs: &[u16],
+        src: &mut S,
+        dst: &mut [u8],
+        start: usize,
+    ) -> usize {
+        if !self.extended_range {
+            return read_runs(&WithPairs::new(self, pairs), src, dst, start);
+        }
+        match self.tables.kept() {
+            KeptTables::Flat(tables) => {
+                let codes = Gb18030Codes::<FlatTables<'_>, true, false> { tables };
+                read_runs(&WithPairs::new(&codes, pairs), src, dst, start)
+            }
+            KeptTables::Packed(tables) => {
+                let codes = Gb18030Codes::<PackedTables<'_>, true, true> { tables };
+                read_runs(&WithPairs::new(&codes, pairs), src, dst, start)
+            }
+        }
     }
 }
 

@@ -3,14 +3,14 @@ use crate::encode_events::Wanted::{Bytes, Report};
 use crate::encoder_rows::EncoderRow::{
     Encoder, Encodes, FromUtf8, FromUtf16, Utf8Length, Utf16Length,
 };
-use crate::encoder_rows::{EncoderRow, TestedEncoder};
+use crate::encoder_rows::{EncoderRow, TestedEncoder, follow_encoder};
 use crate::indexes::{no_entries, no_parts, tables_of};
 use crate::over_tables::{Codec, decode_over, encode_over, encode_over_both};
 use crate::rows::Row;
 use crate::rows::Row::{Decoder, ToUtf8};
 use legacy_base::EncoderResult::{InputEmpty, OutputFull, Unmappable};
 use legacy_base::{DecoderResult, Indexes, Tables};
-use legacy_encoders::Gb18030Encoder;
+use legacy_encoders::{CachedEncoder, Gb18030Encoder, PAIR_ROOM};
 use std::process::Abort;
 
 impl<'a> TestedEncoder for Gb18030Encoder<'a> {
@@ -69,6 +69,43 @@ const GBK_WITHOUT_ENTRIES: &[EncoderRow] = &[
     Utf16Length(5, Some(12)),
     Utf16Length(usize::MAX / 2, None),
 ];
+
+impl<'a, 'b> TestedEncoder for CachedEncoder<'a, Gb18030Encoder<'b>> {
+    type Of = CachedEncoder<'a, Gb18030Encoder<'b>>;
+
+    fn made(_rt: &impl Abort, of: Self::Of) -> Self {
+        of
+    }
+
+    fn pending(&self) -> Option<bool> {
+        None
+    }
+}
+
+/// Follows the rows with an encoder that looks its pairs up ahead, in this room.
+fn encode_ahead(rt: &(impl AllocGlobal + Abort), room: &mut [u16], rows: &[EncoderRow]) {
+    let tables = tables_of(rt, &no_entries());
+    let encoder = Gb18030Encoder::new(&tables, true);
+    match CachedEncoder::new(&encoder, room) {
+        Some(cached) => follow_encoder::<CachedEncoder<Gb18030Encoder>>(rt, cached, rows),
+        None => panic!(rt; "the room is refused"),
+    }
+}
+
+#[test]
+fn encodes_with_pairs_looked_up_ahead(rt: HostRuntime) {
+    match vec![in rt.alloc(); 0xFFFF; PAIR_ROOM] {
+        Ok(mut room) => encode_ahead(&rt, room.as_mut_slice(), WITHOUT_ENTRIES),
+        Err(_) => panic!(rt; "memory"),
+    }
+}
+
+#[test]
+fn takes_no_room_that_is_too_small(rt: HostRuntime) {
+    let tables = tables_of(&rt, &no_entries());
+    let encoder = Gb18030Encoder::new(&tables, true);
+    assert!(rt; CachedEncoder::new(&encoder, &mut [0; 8]).is_none());
+}
 
 #[test]
 fn encodes_without_entries(rt: HostRuntime) {

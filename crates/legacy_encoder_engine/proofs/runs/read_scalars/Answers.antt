@@ -15,8 +15,8 @@ loop-dst-init g c = (
   refl,
 )
 
-pub loop-dst-preserved-in-One : goal.loop-dst-preserved-in-One
-loop-dst-preserved-in-One g c =
+pub loop-dst-preserved-else-by_turns : goal.loop-dst-preserved-else-by_turns
+loop-dst-preserved-else-by_turns g c =
     let S = g.S.Source in
     let i = c.loop-dst.invariant in
     let state = new_encoder (g.C.PlainCodes.codec c.args.encoder.now) in
@@ -29,6 +29,30 @@ loop-dst-preserved-in-One g c =
     left (take c.loop-dst.at c.loop-dst.dst) c.loop-dst.at (S.passed c.loop-dst.src) i.0 i.1 i.3 i.5 (front_length c.loop-dst.at c.loop-dst.dst i.2)
     scalar 1 c.in-One.ensures.0 c.in-One.ensures.1 room _ _ c.in-Some.end _ c.in-Some.ensures c.pass.ensures.left c.pass.ensures.passed in
     (r.keeps, r.start_is, omega (arith, r.end_is), omega (arith, r.fewer), (λ h. r.fewer), r.passed_is)
+
+pub loop-dst-preserved-then-c-ge128 : goal.loop-dst-preserved-then-c-ge128
+loop-dst-preserved-then-c-ge128 g c =
+    let S = g.S.Source in
+    let i = c.loop-dst.invariant in
+    let state = new_encoder (g.C.PlainCodes.codec c.args.encoder.now) in
+    let left = S.left c.loop-dst.src in
+    let scalar = c.in-One.c in
+    let room : c.loop-dst.at + scalar_room state scalar ≤ length c.args.dst.now = omega (arith, c.requires.room scalar, c.loop-dst-test.true) in
+    let r =
+    reads_on S.form state (length c.args.dst.now) (plain_serves (g.C.PlainCodes.codec c.args.encoder.now) g.C.PlainCodes.past (g.C.PlainCodes.plain c.args.encoder.now))
+    (S.left c.args.src.now) (take c.args.start c.args.dst.now) c.args.start (S.passed c.args.src.now)
+    left (take c.loop-dst.at c.loop-dst.dst) c.loop-dst.at (S.passed c.loop-dst.src) i.0 i.1 i.3 i.5 (front_length c.loop-dst.at c.loop-dst.dst i.2)
+    scalar 1 c.in-One.ensures.0 c.in-One.ensures.1 room _ _ c.in-Some.end _ c.in-Some.ensures c.pass.ensures.left c.pass.ensures.passed in
+    let t = c.read_eights-behind.ensures in
+    let same : length c.put_code.new.dst ≡ length c.args.dst.now = omega arith in
+    let turns = rw same at t.keeps in (
+      keeps_then state (length c.args.dst.now) _ _ _ _ _ _ r.keeps turns,
+      omega (arith, r.start_is),
+      omega (arith, t.end),
+      omega (arith, r.fewer, t.few),
+      (λ h. omega (arith, r.fewer, t.few)),
+      omega (arith, t.passed, r.passed_is),
+    )
 
 pub loop-dst-preserved-in-Two : goal.loop-dst-preserved-in-Two
 loop-dst-preserved-in-Two g c =

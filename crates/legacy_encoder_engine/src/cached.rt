@@ -1,0 +1,238 @@
+//! Encoders that look no pair up: those of all scalars below U+10000 are looked up once, ahead, and kept in room that
+//! the user lends.
+ghost use Rattle.std.specs.Prelude.{◌≡◌, ◌+◌, ◌<◌, ◌≤◌, length, take, MatchOption};
+ghost use Rattle.legacy_text.specs.EncodingForm.{total_unit_count};
+ghost use Rattle.legacy_base.specs.Encoders.{new_encoder};
+ghost use Rattle.legacy_encoder_engine.specs.CachedPairs.{ArePairsOf, IsPairEntry};
+ghost use Rattle.legacy_encoder_engine.specs.UnderWay.{KeepsOn};
+
+use crate::drive::drive_encoder;
+use crate::moves::EncoderMove;
+use crate::pairs::{PairCodec, PairEncoder};
+use crate::plain::PlainEncoder;
+use crate::plain_codes::PlainCodes;
+use crate::runs::read_runs;
+use legacy_base::{EncoderResult, RawEncoder, Source};
+use std::alloc::AllocError;
+
+/// The room that the pairs of a codec take, in entries of 16 bits: one for each scalar below U+10000.
+pub const PAIR_ROOM: usize = 0x1_0000;
+
+/// Codes of which the pairs stand in a list.
+#[derive(Drop)]
+pub struct WithPairs<'a, C: PlainCodes> {
+    codes: &'a C,
+    pairs: &'a [u16],
+    ghost right: { ArePairsOf (C.codec codes.now) pairs.now },
+}
+
+impl<'a, C: PlainCodes> WithPairs<'a, C> {
+    /// These codes with the pairs of this list.
+    #[inline(always)]
+    pub fn new(codes: &'a C, pairs: &'a [u16]) -> WithPairs<'a, C>
+        requires { ArePairsOf (C.codec codes.now) pairs.now }
+        ensures { result.codes.now ≡ codes.now }
+    {
+        WithPairs { codes, pairs }
+    }
+}
+
+impl<'a, C: PlainCodes> PlainCodes for WithPairs<'a, C> {
+    ghost codec = { λ e. C.codec e.codes.now };
+
+    ghost past = { C.past };
+
+    ghost plain = { λ e. C.plain e.codes.now };
+
+    #[inline(always)]
+    fn past_room(&self) -> usize {
+        self.codes.past_room()
+    }
+
+    #[inline(always)]
+    fn code_of(&self, c: char) -> EncoderMove {
+        self.codes.code_of(c)
+    }
+
+    #[inline(always)]
+    fn pair_of(&self, c: char) -> Option<(u8, u8)> {
+        let code = c as usize;
+        if code >= PAIR_ROOM {
+            return None;
+        }
+        let entry = self.pairs[code];
+        if entry == 0 {
+            return None;
+        }
+        Some(((entry % 256) as u8, (entry / 256) as u8))
+    }
+
+    #[inline(always)]
+    fn goes_past_pairs(&self) -> bool {
+        self.codes.goes_past_pairs()
+    }
+
+    #[inline(always)]
+    fn goes_by_turns(&self) -> bool {
+        true
+    }
+
+    #[inline(always)]
+    fn unit_code(&self, unit: u16) -> (u16, bool) {
+        let entry = self.pairs[usize::from(unit)];
+        (entry, entry != 0)
+    }
+}
+
+/// An encoder most of whose codes past ASCII are pairs, so that they are worth being looked up ahead.
+pub trait EncodesPairs: PlainEncoder + RawEncoder + Sized {
+    /// `read_codes` by the pairs of a list.
+    #[inline]
+    fn read_with<S: Source>(
+        &self,
+        pairs: &[u16],
+        src: &mut S,
+        dst: &mut [u8],
+        start: usize,
+    ) -> usize
+        requires pairs { ArePairsOf (Self.codec self.now) pairs.now }
+        requires start { start ≤ length dst.old }
+        ensures keeps { KeepsOn (new_encoder (Self.codec self.now)) (length dst.old)
+            (S.left src.old) (take start dst.old) (S.left src.new) (take result dst.new) }
+        ensures start { start ≤ result }
+        ensures end { result ≤ length dst.old }
+        ensures passed { S.passed src.new + total_unit_count S.form (S.left src.new)
+            ≡ S.passed src.old + total_unit_count S.form (S.left src.old) }
+    {
+        read_runs(&WithPairs::new(self, pairs), src, dst, start)
+    }
+
+    /// As an encoder it is nothing but its codec.
+    ghost same: { (encoder : Self) → Self.state encoder ≡ new_encoder (Self.codec encoder) };
+}
+
+impl<'a, C: PairCodec> EncodesPairs for PairEncoder<'a, C> {
+    ghost use Rattle.std.proofs.Common.{refl};
+
+    ghost same = { λ e. refl };
+}
+
+/// The entry of a scalar: its byte in ASCII, its lead in the low byte and its trail in the high one past it, and 0 where
+/// its code is another.
+fn pair_entry<C: PlainCodes>(encoder: &C, c: char) -> u16
+    ensures { IsPairEntry (C.codec encoder.now) c result }
+{
+    match encoder.code_of(c) {
+        EncoderMove::One(byte) if (c as u32) < 0x80 => u16::from(byte),
+        EncoderMove::Two(lead, trail) if (c as u32) >= 0x80 => {
+            u16::from(lead) + 256 * u16::from(trail)
+        }
+        _ => 0,
+    }
+}
+
+/// Looks the codes of all scalars below U+10000 up.
+fn fill_pairs<C: PlainCodes>(encoder: &C, pairs: &mut [u16])
+    requires { length pairs.old ≡ 65536 }
+    ensures { ArePairsOf (C.codec encoder.now) pairs.new }
+{
+    for code in 0..0x1_0000u32 {
+        let entry = match char::from_u32(code) {
+            Some(c) => pair_entry(encoder, c),
+            None => 0,
+        };
+        pairs[code as usize] = entry;
+    }
+}
+
+/// An encoder that writes what another one does, and looks no pair up: those of all scalars below U+10000 stand in room
+/// that the user lends.
+///
+/// To be made it looks each of them up once, which over packed tables takes about a millisecond. Then a pair is one
+/// load, whatever tables the other encoder has. It has no modes, so one after another any number of texts are encoded
+/// by it; and it is two references, so that copies of it encode texts beside each other.
+#[derive(Drop)]
+pub struct CachedEncoder<'a, E: EncodesPairs> {
+    encoder: &'a E,
+    pairs: &'a [u16],
+    ghost right: { ArePairsOf (E.codec encoder.now) pairs.now },
+}
+
+impl<'a, E: EncodesPairs> CachedEncoder<'a, E> {
+    /// An encoder that writes what this one does, or `None` exactly where the room is below `PAIR_ROOM` entries. The
+    /// room's first `PAIR_ROOM` entries are written to, whatever is in them.
+    pub fn new(encoder: &'a E, room: &'a mut [u16]) -> Option<CachedEncoder<'a, E>>
+        ensures { MatchOption result (length room.old < 65536)
+            (λ cached. (65536 ≤ length room.old)
+            × (new_encoder (E.codec cached.encoder.now) ≡ E.state encoder.now)) }
+    {
+        if room.len() < PAIR_ROOM {
+            return None;
+        }
+        let pairs = &mut room[..PAIR_ROOM];
+        fill_pairs(encoder, pairs);
+        Some(CachedEncoder { encoder, pairs })
+    }
+}
+
+impl<'a, E: EncodesPairs> Copy for CachedEncoder<'a, E> {}
+
+impl<'a, E: EncodesPairs> Clone for CachedEncoder<'a, E> {
+    ghost use Rattle.std.specs.Prelude.{⊤};
+
+    ghost is_clone = { λ x y. y ≡ x };
+
+    ghost is_infallible = { λ _. ⊤ };
+
+    fn clone(&self) -> Result<CachedEncoder<'a, E>, AllocError> {
+        Ok(*self)
+    }
+}
+
+impl<'a, E: EncodesPairs> PlainCodes for CachedEncoder<'a, E> {
+    ghost codec = { λ e. E.codec e.encoder.now };
+
+    ghost past = { E.past };
+
+    ghost plain = { λ e. E.plain e.encoder.now };
+
+    #[inline]
+    fn past_room(&self) -> usize {
+        self.encoder.past_room()
+    }
+
+    #[inline]
+    fn code_of(&self, c: char) -> EncoderMove {
+        self.encoder.code_of(c)
+    }
+}
+
+impl<'a, E: EncodesPairs> PlainEncoder for CachedEncoder<'a, E> {
+    #[inline]
+    fn read_codes<S: Source>(&self, src: &mut S, dst: &mut [u8], start: usize) -> usize {
+        self.encoder.read_with(self.pairs, src, dst, start)
+    }
+}
+
+impl<'a, E: EncodesPairs> RawEncoder for CachedEncoder<'a, E> {
+    ghost state = { λ e. new_encoder (E.codec e.encoder.now) };
+
+    fn step<S: Source>(
+        &mut self,
+        src: &mut S,
+        dst: &mut [u8],
+        last: bool,
+    ) -> (EncoderResult, usize) {
+        drive_encoder(self, src, dst, last)
+    }
+
+    fn max_buffer_length_from_utf16_without_replacement(&self, u16_length: usize) -> Option<usize> {
+        self.encoder
+            .max_buffer_length_from_utf16_without_replacement(u16_length)
+    }
+
+    fn max_buffer_length_from_utf8_without_replacement(&self, byte_length: usize) -> Option<usize> {
+        self.encoder
+            .max_buffer_length_from_utf8_without_replacement(byte_length)
+    }
+}

@@ -1,0 +1,34 @@
+-- Code units of UTF-16 that are taken several at a time are scalars, if none is a surrogate.
+use Rattle.std.proofs.Common.{◌≡◌, ◌∙◌, ℕ, ◌+◌, ◌-◌, ◌≤◌, ◌<◌, List, length, take, drop, get_or, sym, ap, subst, arith, length-drop}
+use Rattle.std.specs.Bool.{⊤}
+use Rattle.std.proofs.lemmas.List.{get_or-take, length-take-le, take_all, take-append-drop}
+use Rattle.legacy_text.specs.EncodingForm.{Utf16, total_unit_count}
+use Rattle.legacy_text.specs.Texts.{unit_scalars}
+use Rattle.legacy_text.specs.UnitCodes.{IsNoSurrogate}
+use Rattle.legacy_text.specs.UnitTurns.{AreLone, TakesUnits}
+use Rattle.legacy_text.proofs.UnitCopies.{lone_front, lone_count}
+
+module _ (list : List ℕ) (place n : ℕ) (fits : place + n ≤ length list) (bound : (k : ℕ) → get_or list k 0 < 65536) (units : List ℕ) (is : units ≡ take n (drop place list)) where
+  long : n ≤ length (drop place list)
+  long = omega (arith, length-drop place list)
+
+  whole : take (length list - place) (drop place list) ≡ drop place list
+  whole = take_all (length list - place) (drop place list) (omega (arith, length-drop place list))
+
+  count : length units ≡ n
+  count = ap length is ∙ length-take-le n (drop place list) long
+
+  lone_here : AreLone units → (k : ℕ) → k < n → IsNoSurrogate (get_or (take (length list - place) (drop place list)) k 0)
+  lone_here lone k h =
+      subst IsNoSurrogate (ap (λ l. get_or l k 0) is ∙ get_or-take n (drop place list) k 0 h ∙ ap (λ l. get_or l k 0) (sym whole)) (lone k (omega (arith, count)))
+
+  pub takes_units : TakesUnits Utf16 (unit_scalars (drop place list)) place units (unit_scalars (drop (place + n) list)) (place + n)
+  takes_units = record {
+    front = λ lone.
+        let f = lone_front (λ a b. ⊤) list place n (omega arith) bound (rw whole long) (lone_here lone) in
+        rw (is, f.front_is, f.others_is) (sym (take-append-drop n (unit_scalars (drop place list))));
+    count = λ lone.
+        let f = lone_front (λ a b. ⊤) list place n (omega arith) bound (rw whole long) (lone_here lone) in
+        ap (total_unit_count Utf16) (is ∙ f.front_is) ∙ lone_count (λ a b. ⊤) list place n (omega arith) bound (rw whole long) (lone_here lone) ∙ sym count;
+    passed_is = omega (arith, count);
+  }
