@@ -1,4 +1,5 @@
 use Rattle.std.proofs.Common.{arith, take-add, length-drop}
+use Rattle.std.proofs.lemmas.Grind.{common_steps}
 use Rattle.std.proofs.KnownBytes.{Appends-kept, Appends-trans}
 use Rattle.legacy_streams.proofs.pieces.write_whole.Goals as goal
 use Rattle.legacy_streams.proofs.pieces.write_whole.Goals.{in-Ok, in-Err+else-ne}
@@ -18,3 +19,6 @@ writes-preserved g c =
           }
       | in-Err+else-ne w ↦ rw w.written-is record { within = i.within; sent = Appends-kept _ _ _ _ i.sent w.in-Err.ensures.bytes }
     ]
+
+pub returns-then-written-bytes-clause-ok : goal.returns-then-written-bytes-clause-ok
+returns-then-written-bytes-clause-ok g c = grind (arith, common_steps)

@@ -1,4 +1,6 @@
+use Rattle.std.proofs.Common.{arith}
 use Rattle.std.proofs.Common.{inl, inr}
+use Rattle.std.proofs.lemmas.Grind.{common_steps}
 use Rattle.legacy_decoder_engine.proofs.LeadHeld.{covered}
 use Rattle.legacy_decoder_engine.proofs.lead.LeadDecoderDecoderMoves.room.Goals as goal
 
@@ -19,3 +21,6 @@ returns-in-Release g c =
       | inl h ↦ record { units = λ form. rw h (writes form c.args.self.now.tables.now.flat); covered = enough }
       | inr h ↦ record { units = λ form. rw h (writes form c.args.self.now.tables.now.flat); covered = enough }
     ]
+
+pub returns-in-Read-2-clause-units : goal.returns-in-Read-2-clause-units
+returns-in-Read-2-clause-units g c = grind (arith, common_steps)

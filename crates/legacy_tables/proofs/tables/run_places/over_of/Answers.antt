@@ -1,4 +1,5 @@
 use Rattle.std.proofs.Common.{refl, arith}
+use Rattle.std.proofs.lemmas.Grind.{common_steps}
 use Rattle.legacy_tables.proofs.RunPlaces.{none-has}
 use Rattle.legacy_tables.proofs.tables.run_places.over_of.Goals as goal
 use Rattle.legacy_tables.proofs.tables.run_places.over_of.Goals.{else-ended-runs-via-then-ended-runs+else-from-pointer, else-ended-runs-via-else-ended-runs}
@@ -13,3 +14,6 @@ returns-else-ended-runs c = record {
     | else-ended-runs-via-else-ended-runs w ↦ none-has c.args.runs.now c.requires.ordered c.args.pointer c.args.ended c.requires.count (λ l. absurd (omega arith))
   ];
 }
+
+pub returns-then-from-pointer : goal.returns-then-from-pointer
+returns-then-from-pointer c = grind (arith, common_steps)
