@@ -1,8 +1,13 @@
 -- A pair that is the code of a scalar in GB18030 and in GBK, by which of the two the codec is.
-use Rattle.std.proofs.Common.{◌≡◌, ℕ, [], ◌∷◌, Option, Some, Bool, true, false, IfSome}
+use Rattle.std.proofs.Common.{◌≡◌, ◌≢◌, ℕ, ◌+◌, ◌≤◌, List, [], ◌∷◌, Option, Some, None, Bool, true, false, IfSome, option_map, refl, arith}
+use Rattle.std.proofs.lemmas.Bool.{ne_eqb}
+use Rattle.std.proofs.lemmas.Bool.Decides.{nat_tests}
+use Rattle.std.specs.Char.{is_ascii}
+use Rattle.legacy_tables.specs.Indexes.{gb18030_pua_of}
+use Rattle.legacy_tables.specs.Pointers.{gb18030_pointer_of, range_pointer_of}
 use Rattle.legacy_tables.specs.Indexes.{FlatIndexes}
 use Rattle.legacy_base.specs.Encoders.{encoder_profile}
-use Rattle.legacy_base.specs.Gb18030.{gb18030_code, gbk_code}
+use Rattle.legacy_base.specs.Gb18030.{gb18030_code, gbk_code, gb18030_pair_bytes, gb18030_range_bytes}
 use Rattle.legacy_chinese.specs.Gb18030Codec.{gb18030_codec}
 
 pub pair_by : (flat : FlatIndexes) (extended : Bool) (c : ℕ) (o : Option (ℕ × ℕ))
@@ -11,3 +16,20 @@ pub pair_by : (flat : FlatIndexes) (extended : Bool) (c : ℕ) (o : Option (ℕ 
     → IfSome o (λ pair. (encoder_profile (gb18030_codec flat extended)).code c ≡ Some (pair.0 ∷ pair.1 ∷ []))
 pair_by flat true c o a b = a
 pair_by flat false c o a b = b
+
+-- without a row and without a pair a scalar past ASCII has four bytes or none
+pub four_past_pairs : (index : List ℕ) (ranges : List (ℕ × ℕ)) (pua : List (ℕ × ℕ × ℕ)) (c : ℕ) → 0x80 ≤ c → c ≢ 0xE5E5 → gb18030_pua_of pua c ≡ None
+    → ((lead trail : ℕ) → gb18030_code index ranges pua c ≡ Some (lead ∷ trail ∷ []) → lead + trail ≡ 0)
+    → gb18030_code index ranges pua c ≡ option_map gb18030_range_bytes (range_pointer_of ranges c)
+unfolding gb18030_code
+four_past_pairs index ranges pua c past other row none = by_pointer (gb18030_pointer_of index c) refl
+  where
+    ascii : is_ascii c ≡ false
+    ascii = grind (arith, nat_tests)
+
+    by_pointer : (o : Option ℕ) → gb18030_pointer_of index c ≡ o → gb18030_code index ranges pua c ≡ option_map gb18030_range_bytes (range_pointer_of ranges c)
+    by_pointer None e = rw (ascii, ne_eqb c 0xE5E5 other, row, e) refl
+    by_pointer (Some p) e =
+        let pair : gb18030_code index ranges pua c ≡ Some (gb18030_pair_bytes p) = rw (ascii, ne_eqb c 0xE5E5 other, row, e) refl in
+        let sum = none _ _ pair in
+        absurd (omega arith)

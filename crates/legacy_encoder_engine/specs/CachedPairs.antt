@@ -1,15 +1,21 @@
 -- The codes of a codec's scalars below U+10000 as a list: an entry for each, with the lead in its low byte and the
 -- trail in its high one, or with the byte of ASCII.
-use Rattle.std.specs.Prelude.{◌≡◌, ◌≢◌, ℕ, ◌<◌, List, length, slice_index}
+use Rattle.std.specs.Prelude.{◌≡◌, ◌≢◌, ℕ, ◌+◌, ◌<◌, ◌≤◌, List, [], ◌∷◌, Some, length, slice_index}
+use Rattle.std.specs.Char.{IsScalar}
 use Rattle.legacy_text.specs.UnitCodes.{IsNoSurrogate}
-use Rattle.legacy_base.specs.Encoders.{Codec}
+use Rattle.legacy_base.specs.Encoders.{Codec, encoder_profile}
 use Rattle.legacy_encoder_engine.specs.UnitTurns.{HasUnitCode}
 
 -- an entry is the code of the scalar c, or 0
 abbrev pub IsPairEntry : Codec → ℕ → ℕ → Type 0
 IsPairEntry codec c entry = entry ≢ 0 → IsNoSurrogate c × HasUnitCode codec c entry
 
--- so are all entries
+-- the scalar c has no lead and trail for its code, but for two bytes 00
+abbrev pub IsNoPair : Codec → ℕ → Type 0
+IsNoPair codec c = (lead trail : ℕ) → (encoder_profile codec).code c ≡ Some (lead ∷ trail ∷ []) → lead + trail ≡ 0
+
+-- All entries are codes or 0, and those that are 0 past ASCII are of scalars without a lead and a trail, or of none.
 pub record ArePairsOf (codec : Codec) (pairs : List ℕ) : Type 0 where
   pub all : length pairs ≡ 65536
   pub told : (c : ℕ) → c < 65536 → IsPairEntry codec c (slice_index pairs c)
+  pub whole : (c : ℕ) → c < 65536 → IsScalar c → 0x80 ≤ c → slice_index pairs c ≡ 0 → IsNoPair codec c

@@ -2,8 +2,9 @@
 //! the user lends.
 ghost use Rattle.std.specs.Prelude.{◌≡◌, ◌+◌, ◌<◌, ◌≤◌, length, take, MatchOption};
 ghost use Rattle.legacy_text.specs.EncodingForm.{total_unit_count};
-ghost use Rattle.legacy_base.specs.Encoders.{new_encoder};
-ghost use Rattle.legacy_encoder_engine.specs.CachedPairs.{ArePairsOf, IsPairEntry};
+ghost use Rattle.legacy_base.specs.Encoders.{encoder_profile, new_encoder};
+ghost use Rattle.legacy_encoder_engine.specs.CachedPairs.{ArePairsOf, IsNoPair, IsPairEntry};
+ghost use Rattle.legacy_encoder_engine.specs.Moves.{IsCode};
 ghost use Rattle.legacy_encoder_engine.specs.UnderWay.{KeepsOn};
 
 use crate::drive::drive_encoder;
@@ -18,15 +19,28 @@ use std::alloc::AllocError;
 /// The room that the pairs of a codec take, in entries of 16 bits: one for each scalar below U+10000.
 pub const PAIR_ROOM: usize = 0x1_0000;
 
+/// The codes of scalars past ASCII that have no lead and trail.
+pub trait PastPairs: PlainCodes {
+    /// The bytes of such a scalar, or the scalar itself as unmappable.
+    #[inline(always)]
+    fn code_past_pairs(&self, c: char) -> EncoderMove
+        requires past { 0x80 ≤ c }
+        requires none { IsNoPair (Self.codec self.now) c }
+        ensures { IsCode ((encoder_profile (Self.codec self.now)).code c) c result }
+    {
+        self.code_of(c)
+    }
+}
+
 /// Codes of which the pairs stand in a list.
 #[derive(Drop)]
-pub struct WithPairs<'a, C: PlainCodes> {
+pub struct WithPairs<'a, C: PastPairs> {
     codes: &'a C,
     pairs: &'a [u16],
     ghost right: { ArePairsOf (C.codec codes.now) pairs.now },
 }
 
-impl<'a, C: PlainCodes> WithPairs<'a, C> {
+impl<'a, C: PastPairs> WithPairs<'a, C> {
     /// These codes with the pairs of this list.
     #[inline(always)]
     pub fn new(codes: &'a C, pairs: &'a [u16]) -> WithPairs<'a, C>
@@ -37,7 +51,7 @@ impl<'a, C: PlainCodes> WithPairs<'a, C> {
     }
 }
 
-impl<'a, C: PlainCodes> PlainCodes for WithPairs<'a, C> {
+impl<'a, C: PastPairs> PlainCodes for WithPairs<'a, C> {
     ghost codec = { λ e. C.codec e.codes.now };
 
     ghost past = { C.past };
@@ -49,8 +63,13 @@ impl<'a, C: PlainCodes> PlainCodes for WithPairs<'a, C> {
         self.codes.past_room()
     }
 
+    // A scalar that the list has no pair for is not looked for in the index of pairs again.
     #[inline(always)]
     fn code_of(&self, c: char) -> EncoderMove {
+        let code = c as usize;
+        if code >= 0x80 && code < PAIR_ROOM && self.pairs[code] == 0 {
+            return self.codes.code_past_pairs(c);
+        }
         self.codes.code_of(c)
     }
 
@@ -85,7 +104,7 @@ impl<'a, C: PlainCodes> PlainCodes for WithPairs<'a, C> {
 }
 
 /// An encoder most of whose codes past ASCII are pairs, so that they are worth being looked up ahead.
-pub trait EncodesPairs: PlainEncoder + RawEncoder + Sized {
+pub trait EncodesPairs: PlainEncoder + PastPairs + RawEncoder + Sized {
     /// `read_codes` by the pairs of a list.
     #[inline]
     fn read_with<S: Source>(
@@ -111,6 +130,8 @@ pub trait EncodesPairs: PlainEncoder + RawEncoder + Sized {
     ghost same: { (encoder : Self) → Self.state encoder ≡ new_encoder (Self.codec encoder) };
 }
 
+impl<C: PairCodec> PastPairs for PairEncoder<'_, C> {}
+
 impl<'a, C: PairCodec> EncodesPairs for PairEncoder<'a, C> {
     ghost use Rattle.std.proofs.Common.{refl};
 
@@ -120,7 +141,8 @@ impl<'a, C: PairCodec> EncodesPairs for PairEncoder<'a, C> {
 /// The entry of a scalar: its byte in ASCII, its lead in the low byte and its trail in the high one past it, and 0 where
 /// its code is another.
 fn pair_entry<C: PlainCodes>(encoder: &C, c: char) -> u16
-    ensures { IsPairEntry (C.codec encoder.now) c result }
+    ensures code { IsPairEntry (C.codec encoder.now) c result }
+    ensures none { 0x80 ≤ c → result ≡ 0 → IsNoPair (C.codec encoder.now) c }
 {
     match encoder.code_of(c) {
         EncoderMove::One(byte) if (c as u32) < 0x80 => u16::from(byte),

@@ -16,7 +16,9 @@ use Rattle.legacy_tables.specs.TableChecks.{AreAccepted, is_narrow_entry, table_
 use Rattle.legacy_tables.specs.Packed.{all_runs_fault, all_orders_fault, runs_fault, pointers_fault}
 use Rattle.legacy_tables.proofs.Accepted.{parts, all_entries, euc_kr-below, jis0208-below, jis0212-below, gb18030-below}
 use Rattle.legacy_index_files.specs.declared.packing.OwnedPacked.{OwnedPacked}
-use Rattle.legacy_index_files.specs.Packing.{AreBelow, GivesIndex, IsOrderOf, HasParts, HasLongestRuns, IsPackOf}
+use Rattle.legacy_index_files.specs.declared.packing.runs.AllRuns.{AllRuns}
+use Rattle.legacy_index_files.specs.declared.packing.orders.AllOrders.{AllOrders}
+use Rattle.legacy_index_files.specs.Packing.{AreBelow, GiveIndexes, AreOrdersOf, HasParts, IsPackOf}
 
 -- ---- the entries of accepted indexes
 
@@ -36,20 +38,23 @@ is_wide-below e h = grind (arith, nat_tests)
 
 -- ---- the parts
 
--- what each part was made to be
-pub record AreMade (flat : FlatIndexes) (owned : OwnedPacked) : Type 0 where
-  pub big5 : length flat.big5 ≤ 19782 → GivesIndex 19782 flat.big5 owned.big5.items
-  pub euc_kr : length flat.euc_kr ≤ 23940 → GivesIndex 23940 flat.euc_kr owned.euc_kr.items
-  pub jis0208 : length flat.jis0208 ≤ 11280 → GivesIndex 11280 flat.jis0208 owned.jis0208.items
-  pub jis0212 : length flat.jis0212 ≤ 8836 → GivesIndex 8836 flat.jis0212 owned.jis0212.items
-  pub gb18030 : length flat.gb18030 ≤ 23940 → GivesIndex 23940 flat.gb18030 owned.gb18030.items
-  pub big5_order : length flat.big5 ≤ 23940 → IsOrderOf parts.Big5Order 0x3_0000 flat.big5 owned.big5_order.items
-  pub euc_kr_order : length flat.euc_kr ≤ 23940 → IsOrderOf parts.EucKrOrder 0x1_0000 flat.euc_kr owned.euc_kr_order.items
-  pub shift_jis_order : length flat.jis0208 ≤ 23940 → IsOrderOf parts.ShiftJisOrder 0x1_0000 flat.jis0208 owned.shift_jis_order.items
-  pub euc_jp_order : length flat.jis0208 ≤ 23940 → IsOrderOf parts.EucJpOrder 0x1_0000 flat.jis0208 owned.euc_jp_order.items
-  pub gb18030_order : length flat.gb18030 ≤ 23940 → IsOrderOf parts.Gb18030Order 0x1_0000 flat.gb18030 owned.gb18030_order.items
+-- the runs and the orders as one pack
+abbrev pub owned_of : AllRuns → AllOrders → OwnedPacked
+owned_of runs orders = record {
+  big5 = runs.big5;
+  euc_kr = runs.euc_kr;
+  jis0208 = runs.jis0208;
+  jis0212 = runs.jis0212;
+  gb18030 = runs.gb18030;
+  big5_order = orders.big5;
+  euc_kr_order = orders.euc_kr;
+  shift_jis_order = orders.shift_jis;
+  euc_jp_order = orders.euc_jp;
+  gb18030_order = orders.gb18030;
+}
 
-module _ (flat : FlatIndexes) (owned : OwnedPacked) (made : AreMade flat owned) (packed : Packed) (has : HasParts owned packed) where
+module _ (flat : FlatIndexes) (runs : AllRuns) (orders : AllOrders) (given : GiveIndexes flat runs) (ordered : AreOrdersOf flat orders)
+    (packed : Packed) (has : HasParts (owned_of runs orders) packed) where
   module _ (accepted : AreAccepted flat) where
     big5_below : AreBelow 0x3_0000 flat.big5
     big5_below = below_of 0x3_0000 flat.big5 (omega arith) (all_entries (λ e. e < 0x3_0000) names.Big5 (omega arith) is_wide-below 0 flat.big5 (parts flat accepted).big5.1)
@@ -67,34 +72,34 @@ module _ (flat : FlatIndexes) (owned : OwnedPacked) (made : AreMade flat owned) 
     gb18030_below = below_of 0x1_0000 flat.gb18030 (omega arith) (gb18030-below flat accepted)
 
     big5_runs : runs_fault parts.Big5 19782 packed.big5.now flat.big5 ≡ None
-    big5_runs = rw has.big5 ((made.big5 (parts flat accepted).big5.0).accepted (wider 0x3_0000 flat.big5 (omega arith) big5_below) parts.Big5)
+    big5_runs = rw has.big5 ((given.big5.gives (parts flat accepted).big5.0).accepted (wider 0x3_0000 flat.big5 (omega arith) big5_below) parts.Big5)
 
     euc_kr_runs : runs_fault parts.EucKr 23940 packed.euc_kr.now flat.euc_kr ≡ None
-    euc_kr_runs = rw has.euc_kr ((made.euc_kr (parts flat accepted).euc_kr.0).accepted (wider 0x1_0000 flat.euc_kr (omega arith) euc_kr_below) parts.EucKr)
+    euc_kr_runs = rw has.euc_kr ((given.euc_kr.gives (parts flat accepted).euc_kr.0).accepted (wider 0x1_0000 flat.euc_kr (omega arith) euc_kr_below) parts.EucKr)
 
     jis0208_runs : runs_fault parts.Jis0208 11280 packed.jis0208.now flat.jis0208 ≡ None
-    jis0208_runs = rw has.jis0208 ((made.jis0208 (parts flat accepted).jis0208.0).accepted (wider 0x1_0000 flat.jis0208 (omega arith) jis0208_below) parts.Jis0208)
+    jis0208_runs = rw has.jis0208 ((given.jis0208.gives (parts flat accepted).jis0208.0).accepted (wider 0x1_0000 flat.jis0208 (omega arith) jis0208_below) parts.Jis0208)
 
     jis0212_runs : runs_fault parts.Jis0212 8836 packed.jis0212.now flat.jis0212 ≡ None
-    jis0212_runs = rw has.jis0212 ((made.jis0212 (parts flat accepted).jis0212.0).accepted (wider 0x1_0000 flat.jis0212 (omega arith) jis0212_below) parts.Jis0212)
+    jis0212_runs = rw has.jis0212 ((given.jis0212.gives (parts flat accepted).jis0212.0).accepted (wider 0x1_0000 flat.jis0212 (omega arith) jis0212_below) parts.Jis0212)
 
     gb18030_runs : runs_fault parts.Gb18030 23940 packed.gb18030.now flat.gb18030 ≡ None
-    gb18030_runs = rw has.gb18030 ((made.gb18030 (parts flat accepted).gb18030.0).accepted (wider 0x1_0000 flat.gb18030 (omega arith) gb18030_below) parts.Gb18030)
+    gb18030_runs = rw has.gb18030 ((given.gb18030.gives (parts flat accepted).gb18030.0).accepted (wider 0x1_0000 flat.gb18030 (omega arith) gb18030_below) parts.Gb18030)
 
     big5_pointers : pointers_fault parts.Big5Order flat.big5 packed.big5_order.now ≡ None
-    big5_pointers = rw has.big5_order ((made.big5_order (let l = (parts flat accepted).big5.0 in omega arith)).accepted big5_below)
+    big5_pointers = rw has.big5_order ((ordered.big5 (let l = (parts flat accepted).big5.0 in omega arith)).accepted big5_below)
 
     euc_kr_pointers : pointers_fault parts.EucKrOrder flat.euc_kr packed.euc_kr_order.now ≡ None
-    euc_kr_pointers = rw has.euc_kr_order ((made.euc_kr_order (parts flat accepted).euc_kr.0).accepted euc_kr_below)
+    euc_kr_pointers = rw has.euc_kr_order ((ordered.euc_kr (parts flat accepted).euc_kr.0).accepted euc_kr_below)
 
     shift_jis_pointers : pointers_fault parts.ShiftJisOrder flat.jis0208 packed.shift_jis_order.now ≡ None
-    shift_jis_pointers = rw has.shift_jis_order ((made.shift_jis_order (let l = (parts flat accepted).jis0208.0 in omega arith)).accepted jis0208_below)
+    shift_jis_pointers = rw has.shift_jis_order ((ordered.shift_jis (let l = (parts flat accepted).jis0208.0 in omega arith)).accepted jis0208_below)
 
     euc_jp_pointers : pointers_fault parts.EucJpOrder flat.jis0208 packed.euc_jp_order.now ≡ None
-    euc_jp_pointers = rw has.euc_jp_order ((made.euc_jp_order (let l = (parts flat accepted).jis0208.0 in omega arith)).accepted jis0208_below)
+    euc_jp_pointers = rw has.euc_jp_order ((ordered.euc_jp (let l = (parts flat accepted).jis0208.0 in omega arith)).accepted jis0208_below)
 
     gb18030_pointers : pointers_fault parts.Gb18030Order flat.gb18030 packed.gb18030_order.now ≡ None
-    gb18030_pointers = rw has.gb18030_order ((made.gb18030_order (parts flat accepted).gb18030.0).accepted gb18030_below)
+    gb18030_pointers = rw has.gb18030_order ((ordered.gb18030 (parts flat accepted).gb18030.0).accepted gb18030_below)
 
     runs_whole : all_runs_fault flat packed ≡ None
     unfolding all_runs_fault
@@ -108,5 +113,8 @@ module _ (flat : FlatIndexes) (owned : OwnedPacked) (made : AreMade flat owned) 
   no_more_faults (Some fault) e = refl
   no_more_faults None e = rw (runs_whole e) (orders_whole e)
 
-pub pack-made : (flat : FlatIndexes) (owned : OwnedPacked) → AreMade flat owned → HasLongestRuns owned → IsPackOf flat owned
-pack-made flat owned made longest = record { faults = λ packed has. no_more_faults flat owned made packed has (table_fault flat) refl; longest = longest }
+pub pack-made : (flat : FlatIndexes) (runs : AllRuns) (orders : AllOrders) → GiveIndexes flat runs → AreOrdersOf flat orders → IsPackOf flat (owned_of runs orders)
+pack-made flat runs orders given ordered = record {
+  faults = λ packed has. no_more_faults flat runs orders given ordered packed has (table_fault flat) refl;
+  longest = record { big5 = given.big5.longest; euc_kr = given.euc_kr.longest; jis0208 = given.jis0208.longest; jis0212 = given.jis0212.longest; gb18030 = given.gb18030.longest };
+}

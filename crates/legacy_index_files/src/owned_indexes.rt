@@ -70,14 +70,35 @@ impl OwnedIndexes {
             → HoldsTexts (with_text texts name text) self.new }
         ensures katakana { self.new.katakana ≡ self.old.katakana }
     {
-        match (name, table) {
-            (FileIndex::Big5, FileTable::Wide(values)) => self.big5 = values,
-            (FileIndex::EucKr, FileTable::Narrow(values)) => self.euc_kr = values,
-            (FileIndex::Jis0208, FileTable::Narrow(values)) => self.jis0208 = values,
-            (FileIndex::Jis0212, FileTable::Narrow(values)) => self.jis0212 = values,
-            (FileIndex::Gb18030, FileTable::Narrow(values)) => self.gb18030 = values,
-            (FileIndex::Ranges, FileTable::Ranges(ranges)) => self.ranges = ranges,
-            (FileIndex::SingleByte, FileTable::Bytes(values)) => self.single_byte = values,
+        match table {
+            FileTable::Narrow(values) => self.set_narrow(name, values),
+            FileTable::Wide(values) => {
+                if name == FileIndex::Big5 {
+                    self.big5 = values;
+                }
+            }
+            FileTable::Ranges(ranges) => {
+                if name == FileIndex::Ranges {
+                    self.ranges = ranges;
+                }
+            }
+            FileTable::Bytes(values) => {
+                if name == FileIndex::SingleByte {
+                    self.single_byte = values;
+                }
+            }
+        }
+    }
+
+    /// Puts the values of an index whose entries are narrow in its place. Of another index they change nothing.
+    fn set_narrow(&mut self, name: FileIndex, values: Vec<u16>)
+        ensures { self.new ≡ with_table self.old name (FileTable.Narrow values) }
+    {
+        match name {
+            FileIndex::EucKr => self.euc_kr = values,
+            FileIndex::Jis0208 => self.jis0208 = values,
+            FileIndex::Jis0212 => self.jis0212 = values,
+            FileIndex::Gb18030 => self.gb18030 = values,
             _ => {}
         }
     }

@@ -7,9 +7,9 @@ pub(crate) mod entries;
 pub(crate) mod orders;
 pub(crate) mod runs;
 
-use legacy_tables::{Indexes, Packed, PackedPart, Run};
-use orders::{narrow_order, wide_order};
-use runs::{narrow_runs, wide_runs};
+use legacy_tables::{Indexes, Packed, Run};
+use orders::all_orders;
+use runs::all_runs;
 use std::alloc::{AllocError, Global};
 
 /// Packed indexes with their memory, by the parts of `legacy_tables::Packed`. They are not checked:
@@ -73,26 +73,18 @@ impl OwnedPacked {
 pub fn pack(alloc: Global, indexes: &Indexes<'_>) -> Result<OwnedPacked, AllocError>
     ensures { IfOk result (IsPackOf (flat_indexes indexes.now)) }
 {
-    let big5 = wide_runs(alloc, 19782, indexes.big5)?;
-    let euc_kr = narrow_runs(alloc, 23940, indexes.euc_kr)?;
-    let jis0208 = narrow_runs(alloc, 11280, indexes.jis0208)?;
-    let jis0212 = narrow_runs(alloc, 8836, indexes.jis0212)?;
-    let gb18030 = narrow_runs(alloc, 23940, indexes.gb18030)?;
-    let big5_order = wide_order(alloc, PackedPart::Big5Order, indexes.big5)?;
-    let euc_kr_order = narrow_order(alloc, PackedPart::EucKrOrder, indexes.euc_kr)?;
-    let shift_jis_order = narrow_order(alloc, PackedPart::ShiftJisOrder, indexes.jis0208)?;
-    let euc_jp_order = narrow_order(alloc, PackedPart::EucJpOrder, indexes.jis0208)?;
-    let gb18030_order = narrow_order(alloc, PackedPart::Gb18030Order, indexes.gb18030)?;
+    let runs = all_runs(alloc, indexes)?;
+    let orders = all_orders(alloc, indexes)?;
     Ok(OwnedPacked {
-        big5,
-        euc_kr,
-        jis0208,
-        jis0212,
-        gb18030,
-        big5_order,
-        euc_kr_order,
-        shift_jis_order,
-        euc_jp_order,
-        gb18030_order,
+        big5: runs.big5,
+        euc_kr: runs.euc_kr,
+        jis0208: runs.jis0208,
+        jis0212: runs.jis0212,
+        gb18030: runs.gb18030,
+        big5_order: orders.big5,
+        euc_kr_order: orders.euc_kr,
+        shift_jis_order: orders.shift_jis,
+        euc_jp_order: orders.euc_jp,
+        gb18030_order: orders.gb18030,
     })
 }

@@ -3,9 +3,10 @@ use crate::compared::{Place, is_answer};
 use crate::indexes::{no_entries, tables_of};
 use crate::replacing::Row::{Decoder, Pieces, Text, ToUtf8, ToUtf16, Utf16Length};
 use crate::rows::{Call, Tested};
+use crate::units::{Bytes, Form, Units};
 use legacy_base::{Indexes, RawDecoder};
+use legacy_codecs::CoderResult;
 use legacy_codecs::CoderResult::InputEmpty;
-use legacy_codecs::{CoderResult, decode_replacing_utf8, decode_replacing_utf16};
 use legacy_decoders::{Gb18030Decoder, Iso2022JpDecoder, Utf16Decoder};
 use std::process::Abort;
 
@@ -40,7 +41,7 @@ fn writes_text<D: RawDecoder>(
     (answer, read, text, replaced): (CoderResult, usize, &str, bool),
 ) {
     let mut output = [0u8; 96];
-    let (result, seen, written, told) = decode_replacing_utf8(
+    let (result, seen, written, told) = Bytes::replacing(
         decoder,
         source,
         &mut output[..room.min(96)],
@@ -48,7 +49,7 @@ fn writes_text<D: RawDecoder>(
     );
     let came = (result, seen, &output[..written.min(96)], told);
     let wanted = (answer, read, text.as_bytes(), replaced);
-    is_answer(rt, place, "UTF-8", came, wanted);
+    is_answer(rt, place, Bytes::NAME, came, wanted);
 }
 
 /// Makes a call into UTF-16, and compares what comes of it with what is wanted.
@@ -60,35 +61,36 @@ fn writes_units<D: RawDecoder>(
     wanted: (CoderResult, usize, &[u16], bool),
 ) {
     let mut output = [0u16; 96];
-    let (result, seen, written, told) = decode_replacing_utf16(
+    let (result, seen, written, told) = Units::replacing(
         decoder,
         source,
         &mut output[..room.min(96)],
         last,
     );
     let came = (result, seen, &output[..written.min(96)], told);
-    is_answer(rt, place, "UTF-16", came, wanted);
+    is_answer(rt, place, Units::NAME, came, wanted);
 }
 
-/// Writes the text of the input from the front of the slice on, by calls with so many bytes free, and
-/// answers how many bytes it has.
-fn text_by_calls<D: RawDecoder>(
+/// Writes the text of the input from the front of the slice on, by calls with so many code units free, and
+/// answers how many it has.
+fn by_calls<F: Form, D: RawDecoder>(
     decoder: &mut D,
     input: &[u8],
     room: usize,
-    text: &mut [u8; 96],
+    text: &mut [F::Unit],
 ) -> usize {
     let mut unread = input;
     let mut end = 0usize;
     for _call in 0..64 {
-        let start = end.min(96);
-        let (answer, read, written, _) = decode_replacing_utf8(
+        let start = end.min(text.len());
+        let stop = start.saturating_add(room).min(text.len());
+        let (answer, read, written, _) = F::replacing(
             decoder,
             unread,
-            &mut text[start..(start + room.min(96)).min(96)],
+            &mut text[start..stop],
             true,
         );
-        end = start + written.min(96);
+        end = start.saturating_add(written);
         unread = &unread[read.min(unread.len())..];
         if answer == InputEmpty {
             return end;
@@ -97,85 +99,81 @@ fn text_by_calls<D: RawDecoder>(
     end
 }
 
-/// The same in code units of UTF-16.
-fn units_by_calls<D: RawDecoder>(
+/// Compares the text of the input by calls with so many bytes free with what is wanted.
+fn has_text<D: RawDecoder>(
+    rt: &impl Abort,
+    place: Place,
     decoder: &mut D,
-    input: &[u8],
-    room: usize,
-    units: &mut [u16; 96],
-) -> usize {
-    let mut unread = input;
-    let mut end = 0usize;
-    for _call in 0..64 {
-        let start = end.min(96);
-        let (answer, read, written, _) = decode_replacing_utf16(
-            decoder,
-            unread,
-            &mut units[start..(start + room.min(96)).min(96)],
-            true,
-        );
-        end = start + written.min(96);
-        unread = &unread[read.min(unread.len())..];
-        if answer == InputEmpty {
-            return end;
+    (input, room): (&[u8], usize),
+    text: &str,
+) {
+    let mut output = [0u8; 96];
+    let end = by_calls::<Bytes, D>(decoder, input, room, &mut output);
+    let came = &output[..end.min(96)];
+    is_answer(rt, place, Bytes::NAME, came, text.as_bytes());
+}
+
+/// Compares the text of the input by calls with so many code units free with what is wanted.
+fn has_units<D: RawDecoder>(
+    rt: &impl Abort,
+    place: Place,
+    decoder: &mut D,
+    (input, room): (&[u8], usize),
+    units: &[u16],
+) {
+    let mut output = [0u16; 96];
+    let end = by_calls::<Units, D>(decoder, input, room, &mut output);
+    is_answer(rt, place, Units::NAME, &output[..end.min(96)], units);
+}
+
+/// Follows the row of a text: compares it by calls with small outputs with what is wanted.
+fn follow_text<D: Tested>(rt: &impl Abort, place: Place, of: D::Of, row: &Row) {
+    if let Text(input, text, units) = row {
+        for room in 2..16 {
+            if room >= 4 {
+                has_text(rt, place, &mut D::made(of), (input, room), text);
+            }
+            if room < 8 {
+                has_units(rt, place, &mut D::made(of), (input, room), units);
+            }
         }
     }
-    end
 }
 
-/// Compares the text of the input by calls with small outputs with what is wanted.
-fn follow_text<D: Tested>(
-    rt: &impl Abort,
-    place: Place,
-    of: D::Of,
-    input: &[u8],
-    (text, units): (&str, &[u16]),
-) {
-    for room in 4..16 {
-        let mut output = [0u8; 96];
-        let end = text_by_calls(&mut D::made(of), input, room, &mut output);
-        is_answer(
-            rt,
-            place,
-            "its UTF-8",
-            &output[..end.min(96)],
-            text.as_bytes(),
-        );
-    }
-    for room in 2..8 {
-        let mut output = [0u16; 96];
-        let end = units_by_calls(&mut D::made(of), input, room, &mut output);
-        is_answer(rt, place, "its UTF-16", &output[..end.min(96)], units);
-    }
+/// Decodes a piece, not the last one, into the length that the decoder answers for it: all of it is read, and
+/// nothing replaced.
+fn is_read<D: RawDecoder>(rt: &impl Abort, place: Place, decoder: &mut D, piece: &[u8]) {
+    let length = decoder.max_utf16_buffer_length(piece.len()).unwrap_or(0);
+    let mut output = [0u16; 96];
+    let (answer, read, _, replaced) = Units::replacing(
+        decoder,
+        piece,
+        &mut output[..length.min(96)],
+        false,
+    );
+    let came = (answer, read, replaced);
+    is_answer(rt, place, "a piece", came, (InputEmpty, piece.len(), false));
 }
 
-/// Decodes the pieces, each into the length that the decoder answers for it, and compares the answers with
-/// those that are wanted.
-fn follow_pieces<D: RawDecoder>(
-    rt: &impl Abort,
-    place: Place,
-    decoder: &mut D,
-    input: &[u8],
-    size: usize,
-) {
-    for piece in input.chunks(size.max(1)) {
-        let length = decoder.max_utf16_buffer_length(piece.len());
-        let mut output = [0u16; 96];
-        let (answer, read, _, replaced) = decode_replacing_utf16(
-            decoder,
-            piece,
-            &mut output[..length.unwrap_or(0).min(96)],
-            false,
-        );
-        let came = (answer, read, replaced);
-        is_answer(rt, place, "a piece", came, (InputEmpty, piece.len(), false));
-    }
-}
-
-/// Follows one row: makes its calls or its query, and compares what comes of it with what is wanted.
-fn follow_row<D: Tested>(rt: &impl Abort, place: Place, of: D::Of, decoder: &mut D, row: &Row) {
+/// Follows the row of a query, or of pieces: compares what comes of them with what is wanted.
+fn follow_lengths<D: RawDecoder>(rt: &impl Abort, place: Place, decoder: &mut D, row: &Row) {
     match row {
-        Decoder(_) => *decoder = D::made(of),
+        Utf16Length(bytes, length) => {
+            let came = decoder.max_utf16_buffer_length(*bytes);
+            is_answer(rt, place, "the length in UTF-16", came, *length);
+        }
+        Pieces(input, size) => {
+            for piece in input.chunks((*size).max(1)) {
+                is_read(rt, place, decoder, piece);
+            }
+        }
+        _ => {}
+    }
+}
+
+/// Follows the row of a call: makes it, and compares what comes of it with what is wanted.
+fn follow_call<D: RawDecoder>(rt: &impl Abort, place: Place, decoder: &mut D, row: &Row) {
+    match row {
         ToUtf8(source, room, last, answer, read, text, replaced) => {
             let wanted = (*answer, *read, *text, *replaced);
             writes_text(rt, place, decoder, (source, *room, *last), wanted);
@@ -184,24 +182,22 @@ fn follow_row<D: Tested>(rt: &impl Abort, place: Place, of: D::Of, decoder: &mut
             let wanted = (*answer, *read, *units, *replaced);
             writes_units(rt, place, decoder, (source, *room, *last), wanted);
         }
-        Utf16Length(bytes, length) => {
-            let came = decoder.max_utf16_buffer_length(*bytes);
-            is_answer(rt, place, "the length in UTF-16", came, *length);
-        }
-        Text(input, text, units) => follow_text::<D>(rt, place, of, input, (text, units)),
-        Pieces(input, size) => follow_pieces(rt, place, decoder, input, *size),
+        _ => {}
     }
 }
 
-/// Follows the rows in turn.
+/// Follows the rows in turn, each in one of these three ways.
 fn follow<D: Tested>(rt: &impl Abort, of: D::Of, rows: &[Row]) {
     let mut case = "";
     let mut decoder = D::made(of);
     for (at, row) in rows.iter().enumerate() {
         if let Decoder(name) = row {
             case = name;
+            decoder = D::made(of);
         }
-        follow_row(rt, (case, at), of, &mut decoder, row);
+        follow_call(rt, (case, at), &mut decoder, row);
+        follow_lengths(rt, (case, at), &mut decoder, row);
+        follow_text::<D>(rt, (case, at), of, row);
     }
 }
 

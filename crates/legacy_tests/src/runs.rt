@@ -170,23 +170,40 @@ fn decodes(rt: &(impl AllocGlobal + Abort), tables: &Tables, made: Made, rows: &
     }
 }
 
-#[test]
-fn runs_give_the_same_events_in_every_cut(rt: HostRuntime) {
-    let indexes = Indexes {
+/// Follows each case over these tables.
+fn decodes_each_case(rt: &(impl AllocGlobal + Abort), tables: &Tables) {
+    for (made, rows) in CASES {
+        decodes(rt, tables, *made, *rows);
+    }
+}
+
+/// The index of all cases: U+AC02 at pointer 0 of index EUC-KR.
+fn indexes<'a>() -> Indexes<'a> {
+    Indexes {
         euc_kr: &[0xAC02],
         ..no_entries()
-    };
+    }
+}
+
+/// Tables of it as a flat index.
+pub(super) fn flat_tables<'a>(rt: &impl Abort) -> Tables<'a> {
+    tables_of(rt, &indexes())
+}
+
+/// Tables of it as runs and orders.
+pub(super) fn packed_tables<'a>(rt: &impl Abort) -> Tables<'a> {
     let packed = Packed {
         euc_kr: &[run!(0, 0xAC02, 1)],
         euc_kr_order: &[0],
         ..no_parts()
     };
-    let flat = tables_of(&rt, &indexes);
-    let packed = packed_tables_of(&rt, &indexes, &packed);
-    for (made, rows) in CASES {
-        decodes(&rt, &flat, *made, rows);
-        decodes(&rt, &packed, *made, rows);
-    }
+    packed_tables_of(rt, &indexes(), &packed)
+}
+
+#[test]
+fn runs_give_the_same_events_in_every_cut(rt: HostRuntime) {
+    decodes_each_case(&rt, &flat_tables(&rt));
+    decodes_each_case(&rt, &packed_tables(&rt));
 }
 
 #[test]

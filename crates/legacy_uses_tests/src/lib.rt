@@ -1,6 +1,23 @@
-//! Tests of `legacy_uses` by its public calls, in a crate of their own: the tests of a crate are proved beside all
-//! of that crate, and these need none of it.
+//! Tests of what uses the codecs, by public calls: index files and packing (`legacy_index_files`), recoding and the
+//! program (`legacy_streams`, `legacy_command`), and the callers (`legacy_uses`). They are a crate of their own: the
+//! tests of a crate are proved beside all of that crate, and these need none of it.
 #![tactic(auto)]
 
 #[cfg(test)]
 mod callers;
+#[cfg(test)]
+mod compared;
+#[cfg(test)]
+mod encodings;
+#[cfg(test)]
+mod index_file;
+#[cfg(test)]
+mod owned_indexes;
+#[cfg(test)]
+mod packing;
+#[cfg(test)]
+mod program;
+#[cfg(test)]
+mod recoding;
+#[cfg(test)]
+mod streams;

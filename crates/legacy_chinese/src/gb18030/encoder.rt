@@ -1,5 +1,5 @@
 //! The encoder of GB18030 and GBK.
-ghost use Rattle.std.specs.Prelude.{◌≡◌, ◌≢◌, ◌+◌, ◌≤◌, [], ◌∷◌, length, take, true, false};
+ghost use Rattle.std.specs.Prelude.{◌≡◌, ◌≢◌, ℕ, ◌+◌, ◌≤◌, [], ◌∷◌, length, take, true, false};
 ghost use Rattle.std.specs.Prelude.{Some, IfSome, option_map};
 ghost use Rattle.legacy_text.specs.EncodingForm.{total_unit_count};
 ghost use Rattle.legacy_tables.specs.Pointers.{range_pointer_of};
@@ -14,7 +14,7 @@ ghost use Rattle.legacy_chinese.specs.Gb18030Codes.{gb18030_plain};
 use legacy_base::{
     EncoderResult, EncoderTables, FlatTables, KeptTables, PackedTables, RawEncoder, Source, Tables,
 };
-use legacy_encoder_engine::cached::{EncodesPairs, WithPairs};
+use legacy_encoder_engine::cached::{EncodesPairs, PastPairs, WithPairs};
 use legacy_encoder_engine::drive::drive_encoder;
 use legacy_encoder_engine::moves::EncoderMove;
 use legacy_encoder_engine::plain::PlainEncoder;
@@ -125,6 +125,26 @@ fn gb18030_code_of<V: EncoderTables>(tables: &V, c: char) -> EncoderMove
         return EncoderMove::Unmappable(c);
     }
     match pair_of(tables, c) {
+        Some((lead, trail)) => EncoderMove::Two(lead, trail),
+        None => four_of(tables, c),
+    }
+}
+
+/// What a scalar past ASCII leads to in GB18030, where it has no lead and trail: the index of these is not asked.
+#[inline(always)]
+#[tactic(auto, unfolding(legacy_base::specs::Gb18030::gb18030_code))]
+fn past_pairs_of<V: EncoderTables>(tables: &V, c: char) -> EncoderMove
+    requires past { 0x80 ≤ c }
+    requires none { (lead trail : ℕ) → gb18030_code (V.indexes tables.now).flat.gb18030
+        (V.indexes tables.now).flat.ranges (V.indexes tables.now).flat.gb18030_pua c
+        ≡ Some (lead ∷ trail ∷ []) → lead + trail ≡ 0 }
+    ensures { IsCode (gb18030_code (V.indexes tables.now).flat.gb18030
+        (V.indexes tables.now).flat.ranges (V.indexes tables.now).flat.gb18030_pua c) c result }
+{
+    if c as u32 == 0xE5E5 {
+        return EncoderMove::Unmappable(c);
+    }
+    match tables.gb18030_pua_bytes(c) {
         Some((lead, trail)) => EncoderMove::Two(lead, trail),
         None => four_of(tables, c),
     }
@@ -283,6 +303,20 @@ fn read_by<V: EncoderTables, S: Source, const PAIRS_FIRST: bool>(
             dst,
             start,
         )
+    }
+}
+
+impl PastPairs for Gb18030Encoder<'_> {}
+
+impl<V: EncoderTables, const EXTENDED: bool, const PAIRS_FIRST: bool> PastPairs
+    for Gb18030Codes<'_, V, EXTENDED, PAIRS_FIRST> {
+    #[inline(always)]
+    fn code_past_pairs(&self, c: char) -> EncoderMove {
+        if EXTENDED {
+            past_pairs_of(self.tables, c)
+        } else {
+            self.code_of(c)
+        }
     }
 }
 

@@ -1,9 +1,10 @@
 //! The runs of a flat index.
 ghost use Rattle.std.specs.Prelude.{◌≡◌, ◌≢◌, ℕ, ◌+◌, ◌<◌, ◌≤◌, IfOk, length, slice_index};
-ghost use Rattle.legacy_index_files.specs.Packing.{GivesIndex, AreLongest};
+ghost use Rattle.legacy_tables.specs.Tables.{flat_indexes};
+ghost use Rattle.legacy_index_files.specs.Packing.{GivesIndex, AreLongest, GiveIndexes};
 
 use super::entries::{Entries, Narrow, Wide, below};
-use legacy_tables::Run;
+use legacy_tables::{Indexes, Run};
 use std::alloc::{AllocError, Global};
 
 /// How many pointers from one on have scalar values in a row, among those before the end.
@@ -55,11 +56,7 @@ fn runs_of<E: Entries>(alloc: Global, limit: usize, index: &E) -> Result<Vec<Run
 }
 
 /// The runs of index Big5.
-pub(crate) fn wide_runs(
-    alloc: Global,
-    limit: usize,
-    entries: &[u32],
-) -> Result<Vec<Run>, AllocError>
+fn wide_runs(alloc: Global, limit: usize, entries: &[u32]) -> Result<Vec<Run>, AllocError>
     requires { limit ≤ 23940 }
     ensures index { IfOk result (λ runs. length entries.now ≤ limit →
         GivesIndex limit entries.now runs.items) }
@@ -72,11 +69,7 @@ pub(crate) fn wide_runs(
 }
 
 /// The runs of another index.
-pub(crate) fn narrow_runs(
-    alloc: Global,
-    limit: usize,
-    entries: &[u16],
-) -> Result<Vec<Run>, AllocError>
+fn narrow_runs(alloc: Global, limit: usize, entries: &[u16]) -> Result<Vec<Run>, AllocError>
     requires { limit ≤ 23940 }
     ensures index { IfOk result (λ runs. length entries.now ≤ limit →
         GivesIndex limit entries.now runs.items) }
@@ -86,4 +79,32 @@ pub(crate) fn narrow_runs(
         entries: below(limit, entries),
     };
     runs_of(alloc, limit, &index)
+}
+
+/// The runs of the five indexes.
+#[derive(Drop)]
+pub(crate) struct AllRuns {
+    pub(crate) big5: Vec<Run>,
+    pub(crate) euc_kr: Vec<Run>,
+    pub(crate) jis0208: Vec<Run>,
+    pub(crate) jis0212: Vec<Run>,
+    pub(crate) gb18030: Vec<Run>,
+}
+
+/// The runs of the five indexes, each as long as it can be.
+pub(crate) fn all_runs(alloc: Global, indexes: &Indexes<'_>) -> Result<AllRuns, AllocError>
+    ensures { IfOk result (GiveIndexes (flat_indexes indexes.now)) }
+{
+    let big5 = wide_runs(alloc, 19782, indexes.big5)?;
+    let euc_kr = narrow_runs(alloc, 23940, indexes.euc_kr)?;
+    let jis0208 = narrow_runs(alloc, 11280, indexes.jis0208)?;
+    let jis0212 = narrow_runs(alloc, 8836, indexes.jis0212)?;
+    let gb18030 = narrow_runs(alloc, 23940, indexes.gb18030)?;
+    Ok(AllRuns {
+        big5,
+        euc_kr,
+        jis0208,
+        jis0212,
+        gb18030,
+    })
 }

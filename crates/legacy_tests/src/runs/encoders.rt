@@ -4,12 +4,11 @@ use crate::encoder_rows::EncoderRow::{
     Encoder, Encodes, FromUtf8, Pending, RefusedRuns, RunFromUtf8, RunFromUtf16,
 };
 use crate::encoder_rows::{EncoderRow, follow_encoder};
-use crate::indexes::{
-    byte_table_of, entries_of, no_entries, no_parts, packed_tables_of, run, tables_of,
-};
+use crate::indexes::{byte_table_of, entries_of};
 use crate::over_tables::{Codec, encode_over};
+use crate::runs::{flat_tables, packed_tables};
 use legacy_base::EncoderResult::InputEmpty;
-use legacy_base::{Indexes, Packed, Tables};
+use legacy_base::Tables;
 use legacy_codecs::RunError;
 use legacy_encoders::{SingleByteEncoder, UserDefinedEncoder};
 use std::process::Abort;
@@ -159,21 +158,15 @@ fn encodes(rt: &(impl AllocGlobal + Abort), tables: &Tables, made: Made, rows: &
     }
 }
 
+/// Follows each case over these tables.
+fn encodes_each_case(rt: &(impl AllocGlobal + Abort), tables: &Tables) {
+    for (made, rows) in CASES {
+        encodes(rt, tables, *made, *rows);
+    }
+}
+
 #[test]
 fn runs_of_encoders_give_the_same_events_in_every_cut(rt: HostRuntime) {
-    let indexes = Indexes {
-        euc_kr: &[0xAC02],
-        ..no_entries()
-    };
-    let packed = Packed {
-        euc_kr: &[run!(0, 0xAC02, 1)],
-        euc_kr_order: &[0],
-        ..no_parts()
-    };
-    let flat = tables_of(&rt, &indexes);
-    let packed = packed_tables_of(&rt, &indexes, &packed);
-    for (made, rows) in CASES {
-        encodes(&rt, &flat, *made, rows);
-        encodes(&rt, &packed, *made, rows);
-    }
+    encodes_each_case(&rt, &flat_tables(&rt));
+    encodes_each_case(&rt, &packed_tables(&rt));
 }

@@ -2,5 +2,8 @@ use Rattle.std.proofs.Common.{arith}
 use Rattle.std.proofs.lemmas.Grind.{common_steps}
 use Rattle.legacy_index_files.proofs.owned_indexes.OwnedIndexes.set.Goals as goal
 
-pub returns-in-SingleByte-Bytes-clause-place : goal.returns-in-SingleByte-Bytes-clause-place
-returns-in-SingleByte-Bytes-clause-place c = grind (arith, common_steps)
+pub returns-then-eq-3-clause-place : goal.returns-then-eq-3-clause-place
+returns-then-eq-3-clause-place c = grind (arith, common_steps)
+
+pub returns-then-eq-3-clause-texts : goal.returns-then-eq-3-clause-texts
+returns-then-eq-3-clause-texts c = grind (arith, common_steps)

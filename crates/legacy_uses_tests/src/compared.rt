@@ -2,7 +2,7 @@
 // Each is a function of its own: an `assert!` with a message is proved for each place where it stands.
 use legacy_index_files::IndexFileError;
 use legacy_tables::TableError;
-use std::fmt::Debug;
+use std::fmt::{Debug, Display};
 use std::process::Abort;
 
 /// Compares what came of a case with what is wanted.
@@ -43,4 +43,10 @@ pub(crate) fn is_fault(
     wanted: Option<&TableError>,
 ) {
     is(rt, case, came, wanted);
+}
+
+/// Compares the text that is printed with what is wanted.
+pub(crate) fn prints<T: Display>(rt: &(impl AllocGlobal + Abort), what: &T, wanted: &str) {
+    let came = what.to_string(rt.alloc()).expect(rt, "no memory");
+    is(rt, "the text", came.as_str(), wanted);
 }

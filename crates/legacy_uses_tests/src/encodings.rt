@@ -1,0 +1,79 @@
+//! The encodings against rows of the Standard.
+use crate::compared::holds;
+use legacy_index_files::{CodecName, ENCODINGS, Encoding, FileIndex};
+
+/// The codec of the encoding with this name.
+fn codec_of(name: &str) -> Option<CodecName> {
+    Some(Encoding::by_name(name)?.codec())
+}
+
+/// The name of the file that the encoding with this name has for this index.
+fn file_name_of(name: &str, index: FileIndex) -> Option<Option<&'static str>> {
+    Some(Encoding::by_name(name)?.file_name(index))
+}
+
+/// A name, and the codec of the encoding with it, if there is one.
+type Name<'a> = (&'a str, Option<CodecName>);
+
+const NAMES: &[Name] = &[
+    ("IBM866", Some(CodecName::SingleByte)),
+    ("ISO-8859-8-I", Some(CodecName::SingleByte)),
+    ("x-mac-cyrillic", Some(CodecName::SingleByte)),
+    ("GBK", Some(CodecName::Gbk)),
+    ("gb18030", Some(CodecName::Gb18030)),
+    ("Big5", Some(CodecName::Big5)),
+    ("EUC-JP", Some(CodecName::EucJp)),
+    ("ISO-2022-JP", Some(CodecName::Iso2022Jp)),
+    ("Shift_JIS", Some(CodecName::ShiftJis)),
+    ("EUC-KR", Some(CodecName::EucKr)),
+    ("replacement", Some(CodecName::Replacement)),
+    ("UTF-16BE", Some(CodecName::Utf16Be)),
+    ("UTF-16LE", Some(CodecName::Utf16Le)),
+    ("x-user-defined", Some(CodecName::UserDefined)),
+    ("windows-1259", None),
+    ("gbk", None),
+];
+
+#[test]
+fn encodings_are_known_by_their_names(rt: HostRuntime) {
+    for (name, codec) in NAMES {
+        holds(&rt, *name, codec_of(*name) == *codec);
+    }
+}
+
+/// The name of an encoding, an index, and the name of its file, if the encoding has one of that index.
+type File<'a> = (&'a str, FileIndex, Option<&'a str>);
+
+const FILES: &[File] = &[
+    (
+        "ISO-8859-8-I",
+        FileIndex::SingleByte,
+        Some("index-iso-8859-8.txt"),
+    ),
+    (
+        "windows-1252",
+        FileIndex::SingleByte,
+        Some("index-windows-1252.txt"),
+    ),
+    ("KOI8-U", FileIndex::SingleByte, Some("index-koi8-u.txt")),
+    ("EUC-JP", FileIndex::Jis0212, Some("index-jis0212.txt")),
+    ("GBK", FileIndex::Ranges, Some("index-gb18030-ranges.txt")),
+    ("Shift_JIS", FileIndex::SingleByte, None),
+    ("Big5", FileIndex::Big5, Some("index-big5.txt")),
+];
+
+#[test]
+fn index_files_have_their_published_names(rt: HostRuntime) {
+    for (name, index, file) in FILES {
+        holds(&rt, *name, file_name_of(*name, *index) == Some(*file));
+    }
+    holds(&rt, "single-byte encodings", single_byte_count() == 28);
+}
+
+/// How many encodings are single-byte encodings.
+fn single_byte_count() -> usize {
+    ENCODINGS
+        .iter()
+        .filter(|encoding| encoding.codec() == CodecName::SingleByte)
+        .count()
+}
