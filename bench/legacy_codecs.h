@@ -127,9 +127,9 @@ struct legacy_indexes {
     /* whether packed tables are made, of the flat indexes above and what follows: by these encoders
      * find a pointer without a search; otherwise flat tables, and nothing looks at what follows */
     bool is_packed;
-    /* whether the encoders of Big5, EUC-JP, EUC-KR, GBK, gb18030 and Shift_JIS look the pairs of all
-     * scalar values below U+10000 up ahead, as each call begins, in 128 KB of its stack; no other
-     * codec looks at it */
+    /* whether the encoders of Big5, EUC-JP, EUC-KR, GBK, gb18030, ISO-2022-JP and Shift_JIS look the
+     * pairs of all scalar values below U+10000 up ahead, as each call begins, in 128 KB of its stack;
+     * no other codec looks at it */
     bool is_cached;
     struct legacy_packed packed;
 };

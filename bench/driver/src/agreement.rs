@@ -4,7 +4,7 @@
 use crate::decoding::{self, ToUtf16, ToUtf8};
 use crate::encoding::{self, From, FromUtf16, FromUtf8};
 use crate::ours::{Calls, Kept, Ours};
-use crate::{corpora, CORPORA, OF_PAIRS, PACKED};
+use crate::{corpora, CORPORA, PACKED};
 use encoding_rs::{Encoding, REPLACEMENT};
 
 /// The encodings, by their names.
@@ -119,14 +119,11 @@ fn agree_back(codecs: &[Ours], encoding: &'static Encoding, units: &[u16], what:
     Ok(())
 }
 
-/// The codec over flat tables, over packed ones where it can have them, and with its pairs looked up ahead where it is
-/// one of pairs.
+/// The codec over flat tables, and where it is one of pairs over packed ones, and with its pairs looked up ahead.
 fn codecs(encoding: &'static Encoding) -> Vec<Ours> {
     let mut codecs = vec![Ours::new(encoding, Kept::Flat)];
     if PACKED.contains(&encoding.name()) {
         codecs.push(Ours::new(encoding, Kept::Packed));
-    }
-    if OF_PAIRS.contains(&encoding.name()) {
         codecs.push(Ours::new(encoding, Kept::Ahead));
     }
     codecs

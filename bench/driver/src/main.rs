@@ -40,11 +40,8 @@ const CORPORA: &[(&str, &str, f64, &[&str])] = &[
     ("ru-RU", "ru", 0.5, &["windows-1251"]),
 ];
 
-/// The encodings whose indexes can be packed.
+/// The encodings whose indexes can be packed, and whose encoders can look their pairs up ahead.
 const PACKED: &[&str] = &["EUC-KR", "gb18030", "GBK", "Shift_JIS", "EUC-JP", "Big5", "ISO-2022-JP"];
-
-/// Those of them whose encoders can look their pairs up ahead.
-const OF_PAIRS: &[&str] = PACKED.split_at(6).0;
 
 /// How many times a measured call converts a short source, so that it takes as long as a call on a long one.
 const SHORT_ROUNDS: usize = 16;
@@ -106,7 +103,7 @@ impl Codecs {
         if !self.made.contains_key(label) {
             let encoding = Encoding::for_label(label.as_bytes()).ok_or("no such encoding")?;
             let packed = PACKED.contains(&label).then(|| Ours::new(encoding, Kept::Packed));
-            let ahead = OF_PAIRS.contains(&label).then(|| Ours::new(encoding, Kept::Ahead));
+            let ahead = PACKED.contains(&label).then(|| Ours::new(encoding, Kept::Ahead));
             self.made.insert(label, Codec { encoding, flat: Ours::new(encoding, Kept::Flat), packed, ahead });
         }
         self.made.get(label).ok_or_else(|| "no codec".to_string())

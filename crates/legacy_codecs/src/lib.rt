@@ -26,8 +26,8 @@ pub use legacy_decoders::{
     ShiftJisDecoder, SingleByteDecoder, UserDefinedDecoder, Utf16Decoder,
 };
 pub use legacy_encoders::{
-    Big5Encoder, CachedEncoder, EncodesPairs, EucJpEncoder, EucKrEncoder, Gb18030Encoder,
-    Iso2022JpEncoder, PAIR_ROOM, ShiftJisEncoder, SingleByteEncoder, SingleByteRun,
+    Big5Encoder, CachedEncoder, CachedIso2022JpEncoder, EncodesPairs, EucJpEncoder, EucKrEncoder,
+    Gb18030Encoder, Iso2022JpEncoder, PAIR_ROOM, ShiftJisEncoder, SingleByteEncoder, SingleByteRun,
     SingleByteRunError, UserDefinedEncoder,
 };
 pub use references::{encode_replacing_utf8, encode_replacing_utf16};

@@ -9,8 +9,9 @@ use crate::pieces::Reading;
 use crate::texts::Text;
 use legacy_base::RawEncoder;
 use legacy_encoders::{
-    Big5Encoder, CachedEncoder, EncodesPairs, EucJpEncoder, EucKrEncoder, Gb18030Encoder,
-    Iso2022JpEncoder, PAIR_ROOM, ShiftJisEncoder, SingleByteEncoder, UserDefinedEncoder,
+    Big5Encoder, CachedEncoder, CachedIso2022JpEncoder, EncodesPairs, EucJpEncoder, EucKrEncoder,
+    Gb18030Encoder, Iso2022JpEncoder, PAIR_ROOM, ShiftJisEncoder, SingleByteEncoder,
+    UserDefinedEncoder,
 };
 
 /// Encodes the text in pieces of so many code units by calls of a kind, and answers how many bytes it wrote. It stops
@@ -105,6 +106,39 @@ fn encode_pairs<C: Calls, T: Text, E: EncodesPairs + Drop>(
     }
 }
 
+/// Encodes by ISO-2022-JP's encoder with its pairs looked up ahead, as `encode_times` does.
+#[inline(never)]
+fn encode_modes_ahead<C: Calls, T: Text>(
+    encoder: &Iso2022JpEncoder,
+    reading: Reading<C, T>,
+    output: &mut [u8],
+) -> usize
+    ensures { result ≤ length output.new }
+{
+    let mut room = [0u16; PAIR_ROOM];
+    let Some(mut cached) = CachedIso2022JpEncoder::new(encoder, &mut room) else {
+        unreachable!()
+    };
+    encode_times(&mut cached, reading, output)
+}
+
+/// Encodes by ISO-2022-JP's encoder, as `encode_times` does, whose pairs are looked up ahead where that is asked for.
+#[inline(always)]
+fn encode_modes<C: Calls, T: Text>(
+    mut encoder: Iso2022JpEncoder,
+    ahead: bool,
+    reading: Reading<C, T>,
+    output: &mut [u8],
+) -> usize
+    ensures { result ≤ length output.new }
+{
+    if ahead {
+        encode_modes_ahead(&encoder, reading, output)
+    } else {
+        encode_times(&mut encoder, reading, output)
+    }
+}
+
 // The loop of `encode_times` is inlined here, as that of the decoders is.
 /// Encodes by the codec's encoder, as `encode_times` does, or answers `None` where the codec has none or the
 /// indexes are refused.
@@ -132,7 +166,7 @@ pub fn encode<C: Calls, T: Text>(
         Codec::Gb18030 => encode_pairs(Gb18030Encoder::new(&tables, true), ahead, reading, output),
         Codec::Big5 => encode_pairs(Big5Encoder::new(&tables), ahead, reading, output),
         Codec::EucJp => encode_pairs(EucJpEncoder::new(&tables), ahead, reading, output),
-        Codec::Iso2022Jp => encode_times(&mut Iso2022JpEncoder::new(&tables), reading, output),
+        Codec::Iso2022Jp => encode_modes(Iso2022JpEncoder::new(&tables), ahead, reading, output),
         Codec::ShiftJis => encode_pairs(ShiftJisEncoder::new(&tables), ahead, reading, output),
         Codec::EucKr => encode_pairs(EucKrEncoder::new(&tables), ahead, reading, output),
         Codec::UserDefined => encode_times(&mut UserDefinedEncoder::new(), reading, output),

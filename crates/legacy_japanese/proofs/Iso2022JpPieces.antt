@@ -1,6 +1,6 @@
 -- A piece of ASCII that was copied: what then stands in the output, and that its scalars are written as themselves.
 use Rattle.std.proofs.Common.{◌≡◌, ◌∙◌, ℕ, ◌+◌, ◌-◌, ◌≤◌, ◌<◌, List, ◌++◌, length, take, drop, slice_index, get_or-take, false, refl, sym, ap, subst, arith}
-use Rattle.std.proofs.lemmas.List.{take-take, take-append-le, length-take-le, drop-take}
+use Rattle.std.proofs.lemmas.List.{take-take, take-append-le, length-take, length-take-le, drop-take}
 use Rattle.std.proofs.Math.Seq.{take-append_seam, drop-append_seam}
 use Rattle.legacy_text.specs.UnitCodes.{WritesCodes}
 use Rattle.legacy_base.specs.Iso2022Jp.{is_mode_control}
@@ -44,3 +44,12 @@ own_bytes left old n within ascii none =
           let same : slice_index (take n left) k ≡ slice_index left k = get_or-take n left k 0 h in
           (same, rw same at (ascii k), rw same at (none k (omega (arith, long))));
     }
+
+-- the front of bytes without controls has none
+pub front_without : (n m : ℕ) (bytes : List ℕ) → n ≤ m → ((k : ℕ) → k < length (take m bytes) → is_mode_control (slice_index (take m bytes) k) ≡ false)
+    → (k : ℕ) → k < length (take n bytes) → is_mode_control (slice_index (take n bytes) k) ≡ false
+front_without n m bytes within none k h =
+    let short = length-take n bytes in
+    let long = length-take m bytes in
+    let same : slice_index (take m bytes) k ≡ slice_index (take n bytes) k = get_or-take m bytes k 0 (omega (arith, short)) ∙ sym (get_or-take n bytes k 0 (omega (arith, short))) in
+    subst (λ b. is_mode_control b ≡ false) same (none k (omega (arith, short, long)))

@@ -25,6 +25,10 @@ state_in jis0208 katakana_index mode = record { codec = iso_2022_jp jis0208 kata
 abbrev pub state_by : AcceptedIndexes → Mode → EncoderState
 state_by tables mode = state_in tables.flat.jis0208 tables.flat.katakana mode
 
+-- the same in two-byte mode
+abbrev pub pairs_state : AcceptedIndexes → EncoderState
+pairs_state tables = state_by tables TwoByte
+
 -- the state that its calls speak of
 abbrev pub iso_2022_jp_encoder_state : Iso2022JpEncoder → EncoderState
 iso_2022_jp_encoder_state encoder = state_in encoder.tables.now.flat.jis0208 encoder.tables.now.flat.katakana encoder.mode

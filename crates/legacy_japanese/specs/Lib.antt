@@ -8,6 +8,8 @@ pub mod Iso2022JpMoves
 pub mod Iso2022JpDecoder
 pub mod Iso2022JpRuns
 pub mod Iso2022JpEncoder
+pub mod Iso2022JpPairs
+pub mod Iso2022JpCached
 pub mod Jis0208Places
 pub mod ShiftJisCodes
 pub mod ShiftJisMachine

@@ -9,6 +9,7 @@ mod shift_jis;
 
 pub use euc_jp::decoder::EucJpDecoder;
 pub use euc_jp::encoder::{EucJp, EucJpEncoder};
+pub use iso_2022_jp::cached::CachedIso2022JpEncoder;
 pub use iso_2022_jp::decoder::Iso2022JpDecoder;
 pub use iso_2022_jp::encoder::Iso2022JpEncoder;
 pub use shift_jis::decoder::{ShiftJis, ShiftJisDecoder};

@@ -10,6 +10,7 @@ ghost use Rattle.legacy_japanese.specs.Iso2022JpEncoder.{Asks, ReadsThere, mode_
 ghost use Rattle.legacy_japanese.specs.Iso2022JpEncoder.{is_same_mode};
 
 use crate::folds::{is_by_index, minus_as_hyphen};
+use crate::iso_2022_jp::pairs::{Pairs, read_pairs};
 use legacy_base::{
     EncoderResult, EncoderTables, IndexName, KeptTables, Next, RawEncoder, Source, Tables,
     UnitCodes,
@@ -20,7 +21,7 @@ use legacy_encoder_engine::runs::has_bytes;
 
 /// How the bytes are read that come behind those written so far.
 #[derive(Clone, Copy)]
-enum Mode {
+pub enum Mode {
     Ascii,
     Roman,
     TwoByte,
@@ -29,7 +30,7 @@ enum Mode {
 impl Mode {
     /// Whether the modes are the same.
     #[inline]
-    fn is(self, other: Mode) -> bool
+    pub fn is(self, other: Mode) -> bool
         ensures { result ≡ is_same_mode self other }
     {
         match (self, other) {
@@ -53,7 +54,7 @@ impl Mode {
 
     /// The escape to the mode.
     #[inline]
-    fn escape(self) -> EncoderMove
+    pub fn escape(self) -> EncoderMove
         ensures { result ≡ escape_move self }
     {
         match self {
@@ -134,7 +135,7 @@ fn is_looked_up(c: char) -> bool
 
 /// The mode that a scalar asks for where it comes in a mode, and the move that reads it there.
 #[inline]
-fn asked<V: EncoderTables>(tables: &V, mode: Mode, c: char) -> (Mode, EncoderMove)
+pub fn asked<V: EncoderTables>(tables: &V, mode: Mode, c: char) -> (Mode, EncoderMove)
     ensures { Asks (V.indexes tables.now).flat.jis0208 (V.indexes tables.now).flat.katakana
         mode c result.0 result.1 }
 {
@@ -174,8 +175,8 @@ fn asked<V: EncoderTables>(tables: &V, mode: Mode, c: char) -> (Mode, EncoderMov
 /// reported as U+FFFD. The minus sign U+2212 is written as U+FF0D.
 #[derive(Drop)]
 pub struct Iso2022JpEncoder<'a> {
-    tables: &'a Tables<'a>,
-    mode: Mode,
+    pub(crate) tables: &'a Tables<'a>,
+    pub(crate) mode: Mode,
 }
 
 impl<'a> Iso2022JpEncoder<'a> {
@@ -375,31 +376,6 @@ impl<V: EncoderTables> CodesInMode<'_, V> {
         }
     }
 
-    /// Writes the pair of a scalar that is next in two-byte mode, and answers where it ends; `None` where the
-    /// scalar has none or wants an escape.
-    // What is looked up as it is comes first, by a way of its own: where two ways met, the compiler would no longer
-    // know how great a pointer can be.
-    #[inline(always)]
-    fn put_pair(&self, dst: &mut [u8], at: usize, c: char) -> Option<usize>
-        requires room { at + 3 ≤ length dst.old }
-        requires mode { mode_of self.now.mode ≡ in_two_byte }
-        ensures { MatchOption result (take at dst.new ≡ take at dst.old)
-            (λ end. PutsCode (state_by (V.indexes self.now.tables.now) self.now.mode) c
-            (take at dst.old) at (take end dst.new) end) }
-    {
-        if is_by_index(c) {
-            let own = own_pointer(self.tables, c)?;
-            put_pointer(dst, at, own);
-            return Some(at + 2);
-        }
-        if !is_looked_up(c) {
-            return None;
-        }
-        let other = pointer(self.tables, c)?;
-        put_pointer(dst, at, other);
-        Some(at + 2)
-    }
-
     /// Reads code units in ASCII mode by blocks, and writes their bytes from the place `start` on. Answers where
     /// they end.
     // A scalar is read where any fits, so the last two bytes of the output stay free.
@@ -451,6 +427,35 @@ impl<V: EncoderTables> CodesInMode<'_, V> {
         start + count
     }
 
+    /// Reads ASCII up to the end of one block of sixteen bytes, where none of these is a control, and writes it from
+    /// the place `start` on. Answers where it ends.
+    // Between pairs most ASCII is that short. All sixteen bytes are tested, also those behind the ASCII: so the test
+    // has no loop.
+    #[inline(always)]
+    fn copy_block<S: Source>(&self, src: &mut S, dst: &mut [u8], start: usize) -> usize
+        requires start { start ≤ length dst.old }
+        requires mode { mode_of self.now.mode ≡ in_ascii }
+        ensures keeps { KeepsOn (state_by (V.indexes self.now.tables.now) self.now.mode)
+            (length dst.old) (S.left src.old) (take start dst.old) (S.left src.new)
+            (take result dst.new) }
+        ensures start { start ≤ result }
+        ensures end { result ≤ length dst.old }
+        ensures passed { S.passed src.new + total_unit_count S.form (S.left src.new)
+            ≡ S.passed src.old + total_unit_count S.form (S.left src.old) }
+    {
+        if dst.len() - start < 18 {
+            return start;
+        }
+        let mut own = *src;
+        let limit = start + 16;
+        let count = own.copy_ascii(&mut dst[..limit], start);
+        if has_control(&dst[start..start + 16]) {
+            return start;
+        }
+        *src = own;
+        start + count
+    }
+
     /// Reads ASCII in ASCII mode as it goes by blocks, and writes it from the place `start` on. Answers where it
     /// ends.
     #[inline(always)]
@@ -468,7 +473,10 @@ impl<V: EncoderTables> CodesInMode<'_, V> {
         if src.has_blocks() {
             return self.copy_blocks(src, dst, start);
         }
-        let mut end = start;
+        let mut end = self.copy_block(src, dst, start);
+        if end - start < 16 {
+            return end;
+        }
         loop {
             let behind = self.copy_piece(src, dst, end);
             if behind - end < 256 {
@@ -548,52 +556,38 @@ impl<V: EncoderTables> CodesInMode<'_, V> {
                 self.read_short(src, dst, end)
             }
             Mode::Roman => self.read_short(src, dst, start),
-            Mode::TwoByte => self.read_pairs(src, dst, start),
-        }
-    }
-
-    /// Reads scalars in two-byte mode, up to one that wants an escape or has no bytes, and writes their pairs from
-    /// the place `start` on. Answers where they end.
-    #[inline(always)]
-    fn read_pairs<S: Source>(&self, src: &mut S, dst: &mut [u8], start: usize) -> usize
-        requires start { start ≤ length dst.old }
-        requires mode { mode_of self.now.mode ≡ in_two_byte }
-        ensures keeps { KeepsOn (state_by (V.indexes self.now.tables.now) self.now.mode)
-            (length dst.old) (S.left src.old) (take start dst.old) (S.left src.new)
-            (take result dst.new) }
-        ensures start { start ≤ result }
-        ensures end { result ≤ length dst.old }
-        ensures passed { S.passed src.new + total_unit_count S.form (S.left src.new)
-            ≡ S.passed src.old + total_unit_count S.form (S.left src.old) }
-    {
-        let mut end = start;
-        while dst.len() - end >= 3 {
-            match src.front() {
-                Next::One(c) => {
-                    let Some(behind) = self.put_pair(dst, end, c) else {
-                        return end;
-                    };
-                    end = behind;
-                    src.pass(1);
-                }
-                Next::Two(c) => {
-                    let Some(behind) = self.put_pair(dst, end, c) else {
-                        return end;
-                    };
-                    end = behind;
-                    src.pass(2);
-                }
-                Next::Three(c) => {
-                    let Some(behind) = self.put_pair(dst, end, c) else {
-                        return end;
-                    };
-                    end = behind;
-                    src.pass(3);
-                }
-                Next::Four(_) | Next::End => return end,
+            Mode::TwoByte => {
+                let tables = self.tables;
+                read_pairs(&SearchedPairs { tables }, src, dst, start)
             }
         }
-        end
+    }
+}
+
+/// Pairs that are searched for in tables.
+#[derive(Drop)]
+struct SearchedPairs<'a, V: EncoderTables> {
+    tables: &'a V,
+}
+
+impl<V: EncoderTables> Pairs for SearchedPairs<'_, V> {
+    ghost indexes = { λ p. V.indexes p.tables.now };
+
+    // What is looked up as it is comes first, by a way of its own: where two ways met, the compiler would no longer
+    // know how great a pointer can be.
+    #[inline(always)]
+    fn put_pair(&self, dst: &mut [u8], at: usize, c: char) -> Option<usize> {
+        if is_by_index(c) {
+            let own = own_pointer(self.tables, c)?;
+            put_pointer(dst, at, own);
+            return Some(at + 2);
+        }
+        if !is_looked_up(c) {
+            return None;
+        }
+        let other = pointer(self.tables, c)?;
+        put_pointer(dst, at, other);
+        Some(at + 2)
     }
 }
 

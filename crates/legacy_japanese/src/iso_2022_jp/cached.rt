@@ -1,0 +1,300 @@
+//! The encoder of ISO-2022-JP that looks no pair up: those of all scalars below U+10000 are looked up once, ahead, and
+//! kept in room that the user lends.
+ghost use Rattle.std.specs.Prelude.{◌≡◌, ◌≢◌, ◌+◌, ◌<◌, ◌≤◌, length, take, true, MatchOption};
+ghost use Rattle.legacy_text.specs.EncodingForm.{total_unit_count};
+ghost use Rattle.legacy_base.specs.Encoders.{iso_2022_jp, is_pending};
+ghost use Rattle.legacy_encoder_engine.specs.CachedPairs.{IsPairEntry};
+ghost use Rattle.legacy_encoder_engine.specs.UnderWay.{KeepsOn};
+ghost use Rattle.legacy_encoder_engine.specs.UnitTurns.{PutsUnits};
+ghost use Rattle.legacy_japanese.specs.Iso2022JpEncoder.{Asks, iso_2022_jp_encoder_state, pairs_state};
+ghost use Rattle.legacy_japanese.specs.Iso2022JpPairs.{IsPairOf, ListsPairs};
+
+use crate::iso_2022_jp::encoder::{Iso2022JpEncoder, Mode, asked};
+use crate::iso_2022_jp::pairs::{Pairs, read_pairs};
+use legacy_base::{EncoderResult, RawEncoder, Source, Tables};
+use legacy_encoder_engine::cached::PAIR_ROOM;
+use legacy_encoder_engine::drive::{drive_encoder, put_two};
+use legacy_encoder_engine::moves::{EncoderMove, EncoderMoves};
+
+/// The entry of a scalar: the lead of its pair in the low byte and the trail in the high one, and 0 where it has none.
+fn pair_entry(tables: &Tables, c: char) -> u16
+    ensures right { IsPairEntry (iso_2022_jp tables.now.flat.jis0208 tables.now.flat.katakana) c
+        result }
+    ensures past { c < 0x80 → result ≡ 0 }
+{
+    match asked(tables, Mode::TwoByte, c) {
+        (_, EncoderMove::Two(lead, trail)) if (c as u32) >= 0x80 => {
+            u16::from(lead) + 256 * u16::from(trail)
+        }
+        _ => 0,
+    }
+}
+
+/// Looks the pairs of all scalars below U+10000 up.
+fn list_pairs(tables: &Tables, pairs: &mut [u16])
+    requires { length pairs.old ≡ 65536 }
+    ensures { ListsPairs tables.now.flat.jis0208 tables.now.flat.katakana pairs.new }
+{
+    for code in 0..0x1_0000u32 {
+        let entry = match char::from_u32(code) {
+            Some(c) => pair_entry(tables, c),
+            None => 0,
+        };
+        pairs[code as usize] = entry;
+    }
+}
+
+/// The pairs by these tables, in a list.
+#[derive(Clone, Copy)]
+pub struct ListedPairs<'a> {
+    tables: &'a Tables<'a>,
+    pairs: &'a [u16],
+    ghost right: { ListsPairs tables.now.flat.jis0208 tables.now.flat.katakana pairs.now },
+}
+
+impl ListedPairs<'_> {
+    /// The pair of a scalar as one number, the lead in the low byte; 0 where it has none here.
+    #[inline(always)]
+    fn entry_of(&self, c: char) -> u16
+        ensures { result ≢ 0 → IsPairOf self.now.tables.now.flat.jis0208
+            self.now.tables.now.flat.katakana c result }
+    {
+        let code = c as usize;
+        if code >= PAIR_ROOM {
+            return 0;
+        }
+        self.pairs[code]
+    }
+
+    /// The pair of a code unit of UTF-16 as one number, and whether it has one here.
+    #[inline(always)]
+    fn unit_pair(&self, unit: u16) -> (u16, bool)
+        ensures { result.1 ≡ true → IsPairOf self.now.tables.now.flat.jis0208
+            self.now.tables.now.flat.katakana unit result.0 }
+    {
+        let entry = self.pairs[usize::from(unit)];
+        (entry, entry != 0)
+    }
+
+    /// Writes the pairs of eight code units from a place on. Answers whether each has one here.
+    // Without a branch between them: nothing is kept where one has none.
+    #[inline(always)]
+    fn put_eight(&self, dst: &mut [u8], start: usize, units: [u16; 8]) -> bool
+        requires { start + 24 ≤ length dst.old }
+        ensures before { take start dst.new ≡ take start dst.old }
+        ensures puts { result ≡ true → PutsUnits (pairs_state self.now.tables.now) (length dst.old)
+            units (take start dst.old) (take (start + 16) dst.new) }
+    {
+        let mut is_known = true;
+        let mut k = 0;
+        while k < 8 {
+            let (both, has_pair) = self.unit_pair(units[k]);
+            is_known = is_known & has_pair;
+            put_two(dst, start + 2 * k, (both % 256) as u8, (both / 256) as u8);
+            k += 1;
+        }
+        is_known
+    }
+
+    /// Reads code units of UTF-16 by turns of eight, up to one in which a unit has no pair here, and writes their pairs
+    /// from the place `start` on. Answers where they end.
+    // By a copy of the cursor, which is left where it is where a turn fails.
+    #[inline(always)]
+    fn read_eights<S: Source>(&self, src: &mut S, dst: &mut [u8], start: usize) -> usize
+        requires { start ≤ length dst.old }
+        ensures keeps { KeepsOn (pairs_state self.now.tables.now) (length dst.old) (S.left src.old)
+            (take start dst.old) (S.left src.new) (take result dst.new) }
+        ensures start { start ≤ result }
+        ensures end { result ≤ length dst.old }
+        ensures passed { S.passed src.new + total_unit_count S.form (S.left src.new)
+            ≡ S.passed src.old + total_unit_count S.form (S.left src.old) }
+    {
+        let mut at = start;
+        while dst.len() - at >= 24 {
+            let mut ahead = *src;
+            let Some(units) = ahead.take_eight() else {
+                return at;
+            };
+            if !self.put_eight(dst, at, units) {
+                return at;
+            }
+            *src = ahead;
+            at += 16;
+        }
+        at
+    }
+
+    /// Reads scalars in two-byte mode, up to one that wants an escape or has no pair here, and writes their pairs from
+    /// the place `start` on. Answers where they end.
+    // By a copy of the cursor, as all runs go.
+    #[inline]
+    fn read_listed<S: Source>(&self, src: &mut S, dst: &mut [u8], start: usize) -> usize
+        requires { start ≤ length dst.old }
+        ensures keeps { KeepsOn (pairs_state self.now.tables.now) (length dst.old) (S.left src.old)
+            (take start dst.old) (S.left src.new) (take result dst.new) }
+        ensures start { start ≤ result }
+        ensures end { result ≤ length dst.old }
+        ensures passed { S.passed src.new + total_unit_count S.form (S.left src.new)
+            ≡ S.passed src.old + total_unit_count S.form (S.left src.old) }
+    {
+        let mut own = *src;
+        let behind = self.read_eights(&mut own, dst, start);
+        let end = read_pairs(self, &mut own, dst, behind);
+        *src = own;
+        end
+    }
+
+    /// What `asked` tells, of a scalar in the list by its entry.
+    #[inline]
+    fn asked(&self, mode: Mode, c: char) -> (Mode, EncoderMove)
+        ensures { Asks self.now.tables.now.flat.jis0208 self.now.tables.now.flat.katakana
+            mode c result.0 result.1 }
+    {
+        let entry = self.entry_of(c);
+        if entry == 0 {
+            return asked(self.tables, mode, c);
+        }
+        let pair = EncoderMove::Two((entry % 256) as u8, (entry / 256) as u8);
+        (Mode::TwoByte, pair)
+    }
+}
+
+impl Pairs for ListedPairs<'_> {
+    ghost indexes = { λ p. p.tables.now };
+
+    #[inline(always)]
+    fn put_pair(&self, dst: &mut [u8], at: usize, c: char) -> Option<usize> {
+        let entry = self.entry_of(c);
+        if entry == 0 {
+            return None;
+        }
+        put_two(dst, at, (entry % 256) as u8, (entry / 256) as u8);
+        Some(at + 2)
+    }
+}
+
+/// The encoder of ISO-2022-JP that looks no pair up: it writes what `Iso2022JpEncoder` does, and the pairs of all scalars
+/// below U+10000 stand in room that the user lends.
+///
+/// To be made it looks each of them up once, which over packed tables takes about a millisecond. Then a pair is one
+/// load, whatever tables the other encoder has. It has a mode of its own, which changes as that of the other one does:
+/// behind the last call of a text it is ASCII again, so one after another any number of texts are encoded by it. Copies
+/// of it, each with its mode, encode texts beside each other.
+#[derive(Clone, Copy)]
+pub struct CachedIso2022JpEncoder<'a> {
+    listed: ListedPairs<'a>,
+    mode: Mode,
+}
+
+impl<'a> CachedIso2022JpEncoder<'a> {
+    ghost use Rattle.legacy_japanese.specs.Iso2022JpCached.{cached_state};
+
+    /// An encoder that goes on from where this one is and writes what it would, or `None` exactly where the room is
+    /// below `PAIR_ROOM` entries. The room's first `PAIR_ROOM` entries are written to, whatever is in them. This one
+    /// stays as it is.
+    pub fn new(
+        encoder: &Iso2022JpEncoder<'a>,
+        room: &'a mut [u16],
+    ) -> Option<CachedIso2022JpEncoder<'a>>
+        ensures { MatchOption result (length room.old < 65536)
+            (λ cached. (65536 ≤ length room.old)
+            × (cached_state cached ≡ iso_2022_jp_encoder_state encoder.now)) }
+    {
+        if room.len() < PAIR_ROOM {
+            return None;
+        }
+        let (tables, mode) = (encoder.tables, encoder.mode);
+        let pairs = &mut room[..PAIR_ROOM];
+        list_pairs(tables, pairs);
+        let listed = ListedPairs { tables, pairs };
+        Some(CachedIso2022JpEncoder { listed, mode })
+    }
+
+    /// The encoder without the list, in the same mode.
+    #[inline(always)]
+    fn without(&self) -> Iso2022JpEncoder<'a>
+        ensures { iso_2022_jp_encoder_state result ≡ cached_state self.now }
+    {
+        let (tables, mode) = (self.listed.tables, self.mode);
+        Iso2022JpEncoder { tables, mode }
+    }
+
+    /// Whether the mode is not ASCII, so that the end of the text still writes an escape of three bytes. Nothing
+    /// changes.
+    pub fn has_pending_state(&self) -> bool
+        ensures { result ≡ is_pending (cached_state self.now) }
+    {
+        self.without().has_pending_state()
+    }
+}
+
+impl EncoderMoves for CachedIso2022JpEncoder<'_> {
+    ghost use Rattle.legacy_japanese.specs.Iso2022JpCached.{cached_state};
+
+    ghost state = { cached_state };
+
+    #[inline]
+    #[tactic(auto, using(crate::proofs::Iso2022JpEncoderMoves::serves))]
+    fn room(&self, _c: char) -> usize {
+        3
+    }
+
+    #[inline]
+    fn next(&mut self, c: char) -> EncoderMove {
+        let (mode, own) = self.listed.asked(self.mode, c);
+        if self.mode.is(mode) {
+            return own;
+        }
+        self.mode = mode;
+        mode.escape()
+    }
+
+    #[inline]
+    #[tactic(auto, using(crate::proofs::Iso2022JpEncoderMoves::serves))]
+    fn is_pending(&self) -> bool {
+        self.has_pending_state()
+    }
+
+    #[inline]
+    #[tactic(auto, using(crate::proofs::Iso2022JpEncoderMoves::finishes))]
+    fn finish(&mut self) {
+        self.mode = Mode::Ascii;
+    }
+
+    // The list is copied, so that nothing else refers to where it is told.
+    #[inline]
+    fn read_ahead<S: Source>(&self, src: &mut S, dst: &mut [u8], at: usize) -> usize {
+        match self.mode {
+            Mode::TwoByte => {
+                let listed = self.listed;
+                listed.read_listed(src, dst, at)
+            }
+            Mode::Ascii | Mode::Roman => self.without().read_ahead(src, dst, at),
+        }
+    }
+}
+
+impl RawEncoder for CachedIso2022JpEncoder<'_> {
+    ghost use Rattle.legacy_japanese.specs.Iso2022JpCached.{cached_state};
+
+    ghost state = { cached_state };
+
+    fn step<S: Source>(
+        &mut self,
+        src: &mut S,
+        dst: &mut [u8],
+        last: bool,
+    ) -> (EncoderResult, usize) {
+        drive_encoder(self, src, dst, last)
+    }
+
+    fn max_buffer_length_from_utf16_without_replacement(&self, u16_length: usize) -> Option<usize> {
+        self.without()
+            .max_buffer_length_from_utf16_without_replacement(u16_length)
+    }
+
+    fn max_buffer_length_from_utf8_without_replacement(&self, byte_length: usize) -> Option<usize> {
+        self.without()
+            .max_buffer_length_from_utf8_without_replacement(byte_length)
+    }
+}
