@@ -10,12 +10,16 @@ use Rattle.legacy_encoder_engine.specs.UnitTurns.{HasUnitCode}
 abbrev pub IsPairEntry : Codec → ℕ → ℕ → Type 0
 IsPairEntry codec c entry = entry ≢ 0 → IsNoSurrogate c × HasUnitCode codec c entry
 
+-- so are all entries
+pub record ArePairsOf (codec : Codec) (pairs : List ℕ) : Type 0 where
+  pub all : length pairs ≡ 65536
+  pub told : (c : ℕ) → c < 65536 → IsPairEntry codec c (slice_index pairs c)
+
 -- the scalar c has no lead and trail for its code, but for two bytes 00
 abbrev pub IsNoPair : Codec → ℕ → Type 0
 IsNoPair codec c = (lead trail : ℕ) → (encoder_profile codec).code c ≡ Some (lead ∷ trail ∷ []) → lead + trail ≡ 0
 
--- All entries are codes or 0, and those that are 0 past ASCII are of scalars without a lead and a trail, or of none.
-pub record ArePairsOf (codec : Codec) (pairs : List ℕ) : Type 0 where
-  pub all : length pairs ≡ 65536
-  pub told : (c : ℕ) → c < 65536 → IsPairEntry codec c (slice_index pairs c)
+-- no pair is missing: an entry of 0 past ASCII is of a scalar that has none
+pub record AreAllPairsOf (codec : Codec) (pairs : List ℕ) : Type 0 where
+  pub right : ArePairsOf codec pairs
   pub whole : (c : ℕ) → c < 65536 → IsScalar c → 0x80 ≤ c → slice_index pairs c ≡ 0 → IsNoPair codec c

@@ -3,7 +3,7 @@
 ghost use Rattle.std.specs.Prelude.{◌≡◌, ◌+◌, ◌<◌, ◌≤◌, length, take, MatchOption};
 ghost use Rattle.legacy_text.specs.EncodingForm.{total_unit_count};
 ghost use Rattle.legacy_base.specs.Encoders.{encoder_profile, new_encoder};
-ghost use Rattle.legacy_encoder_engine.specs.CachedPairs.{ArePairsOf, IsNoPair, IsPairEntry};
+ghost use Rattle.legacy_encoder_engine.specs.CachedPairs.{AreAllPairsOf, IsNoPair, IsPairEntry};
 ghost use Rattle.legacy_encoder_engine.specs.Moves.{IsCode};
 ghost use Rattle.legacy_encoder_engine.specs.UnderWay.{KeepsOn};
 
@@ -37,14 +37,14 @@ pub trait PastPairs: PlainCodes {
 pub struct WithPairs<'a, C: PastPairs> {
     codes: &'a C,
     pairs: &'a [u16],
-    ghost right: { ArePairsOf (C.codec codes.now) pairs.now },
+    ghost right: { AreAllPairsOf (C.codec codes.now) pairs.now },
 }
 
 impl<'a, C: PastPairs> WithPairs<'a, C> {
     /// These codes with the pairs of this list.
     #[inline(always)]
     pub fn new(codes: &'a C, pairs: &'a [u16]) -> WithPairs<'a, C>
-        requires { ArePairsOf (C.codec codes.now) pairs.now }
+        requires { AreAllPairsOf (C.codec codes.now) pairs.now }
         ensures { result.codes.now ≡ codes.now }
     {
         WithPairs { codes, pairs }
@@ -114,7 +114,7 @@ pub trait EncodesPairs: PlainEncoder + PastPairs + RawEncoder + Sized {
         dst: &mut [u8],
         start: usize,
     ) -> usize
-        requires pairs { ArePairsOf (Self.codec self.now) pairs.now }
+        requires pairs { AreAllPairsOf (Self.codec self.now) pairs.now }
         requires start { start ≤ length dst.old }
         ensures keeps { KeepsOn (new_encoder (Self.codec self.now)) (length dst.old)
             (S.left src.old) (take start dst.old) (S.left src.new) (take result dst.new) }
@@ -156,7 +156,7 @@ fn pair_entry<C: PlainCodes>(encoder: &C, c: char) -> u16
 /// Looks the codes of all scalars below U+10000 up.
 fn fill_pairs<C: PlainCodes>(encoder: &C, pairs: &mut [u16])
     requires { length pairs.old ≡ 65536 }
-    ensures { ArePairsOf (C.codec encoder.now) pairs.new }
+    ensures { AreAllPairsOf (C.codec encoder.now) pairs.new }
 {
     for code in 0..0x1_0000u32 {
         let entry = match char::from_u32(code) {
@@ -177,7 +177,7 @@ fn fill_pairs<C: PlainCodes>(encoder: &C, pairs: &mut [u16])
 pub struct CachedEncoder<'a, E: EncodesPairs> {
     encoder: &'a E,
     pairs: &'a [u16],
-    ghost right: { ArePairsOf (E.codec encoder.now) pairs.now },
+    ghost right: { AreAllPairsOf (E.codec encoder.now) pairs.now },
 }
 
 impl<'a, E: EncodesPairs> CachedEncoder<'a, E> {
