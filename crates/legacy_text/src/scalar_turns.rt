@@ -3,9 +3,8 @@
 // In text with spaces no pattern tells where a scalar of one byte comes: so none is looked for. Inlined always is what
 // runs for each turn: a call would pass vectors through memory.
 ghost use Rattle.std.specs.Prelude.{◌≡◌, ◌↔◌, ℕ, ◌+◌, ◌*◌, ◌^◌, ◌<◌, ◌≤◌, length, take, drop, true, slice_index, MatchOption, ⊤};
-ghost use Rattle.std.specs.Int.{bit_at, trailing_zeros};
+ghost use Rattle.std.specs.Int.{bit_at, trailing_zeros, w32};
 ghost use Rattle.std.specs.Str.{is_utf8};
-ghost use Rattle.std.proofs.Common.{w32};
 ghost use Rattle.legacy_text.specs.ScalarTurns.{IsStart, IsUnitOf, IsUnitAt, ReadsUnits};
 
 use std::simd::prelude::*;
