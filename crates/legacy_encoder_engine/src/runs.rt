@@ -184,8 +184,8 @@ fn put_eight<C: PlainCodes>(
     if is_known { Some(end) } else { None }
 }
 
-/// Reads code units of UTF-16 by turns of eight, up to one in which a unit has no bytes here, and writes their bytes
-/// from the place `start` on. Answers where they end. A turn of ASCII is the last one.
+/// Reads scalars as code units of UTF-16 by turns of eight, up to one in which a unit has no bytes here, and writes
+/// their bytes from the place `start` on. Answers where they end. A turn of ASCII is the last one.
 // By a copy of the cursor, which is left where it is where a turn fails.
 #[inline(always)]
 fn read_eights<C: PlainCodes, S: Source>(
@@ -261,7 +261,7 @@ fn read_scalars<C: PlainCodes, S: Source>(
                 };
                 at = end;
                 src.pass(1);
-                if by_turns && (c as u32) >= 0x80 {
+                if by_turns && src.has_eights(c) {
                     let behind = read_eights(encoder, src, dst, at);
                     by_turns = behind > at;
                     at = behind;

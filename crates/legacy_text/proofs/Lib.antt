@@ -5,3 +5,4 @@ pub mod Ascii
 pub mod Texts
 pub mod UnitCopies
 pub mod UnitTurns
+pub mod ScalarTurns

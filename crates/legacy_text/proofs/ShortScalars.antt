@@ -87,7 +87,7 @@ scalars_append gives text start n place m behind old mid new a b =
 -- ---- one scalar
 
 -- a text that is not at its end has a scalar
-some_left : (text : List ℕ) (place : ℕ) → place < length text → is_utf8 (drop place text) ≡ true → 0 < length (chars (drop place text))
+pub some_left : (text : List ℕ) (place : ℕ) → place < length text → is_utf8 (drop place text) ≡ true → 0 < length (chars (drop place text))
 some_left text place h u =
     let bs = drop place text in
     let same = encodes-chars bs (IsUtf8-from_is_utf8 bs u) in

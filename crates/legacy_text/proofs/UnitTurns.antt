@@ -27,8 +27,8 @@ module _ (list : List ℕ) (place n : ℕ) (fits : place + n ≤ length list) (b
     front = λ lone.
         let f = lone_front (λ a b. ⊤) list place n (omega arith) bound (rw whole long) (lone_here lone) in
         rw (is, f.front_is, f.others_is) (sym (take-append-drop n (unit_scalars (drop place list))));
-    count = λ lone.
+    passed_is = λ lone.
         let f = lone_front (λ a b. ⊤) list place n (omega arith) bound (rw whole long) (lone_here lone) in
-        ap (total_unit_count Utf16) (is ∙ f.front_is) ∙ lone_count (λ a b. ⊤) list place n (omega arith) bound (rw whole long) (lone_here lone) ∙ sym count;
-    passed_is = omega (arith, count);
+        ap (λ m. place + m) (sym (ap (total_unit_count Utf16) (is ∙ f.front_is) ∙ lone_count (λ a b. ⊤) list place n (omega arith) bound (rw whole long) (lone_here lone)));
+    all_passed = λ e. omega (arith, count);
   }

@@ -7,5 +7,6 @@ pub mod NextScalars
 pub mod Blocks
 pub mod UnitCodes
 pub mod UnitTurns
+pub mod ScalarTurns
 pub mod ShortScalars
 pub mod TextSources

@@ -4,6 +4,7 @@
 
 mod blocks;
 mod destination;
+mod scalar_turns;
 mod short_scalars;
 mod source;
 mod text_source;

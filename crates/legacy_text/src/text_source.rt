@@ -9,6 +9,7 @@ ghost use Rattle.legacy_text.specs.UnitCodes.{WritesCodes};
 ghost use Rattle.legacy_text.specs.UnitTurns.{TakesUnits};
 
 use crate::blocks::{copy_ascii_bytes, copy_ascii_units};
+use crate::scalar_turns::eight_scalars;
 use crate::short_scalars::copy_short_scalars;
 use crate::unit_codes::{UnitCodes, copy_unit_codes};
 
@@ -86,8 +87,16 @@ pub trait Source: Copy {
         false
     }
 
-    /// Goes past the next eight code units of UTF-16, and answers them: each is a scalar, if none is a surrogate.
-    /// `None` where not so many are left, and in UTF-8: then the cursor stays where it is.
+    /// Whether it may go on by `take_eight` behind this scalar. It is a hint: any answer will do.
+    #[inline(always)]
+    fn has_eights(&self, before: char) -> bool {
+        let _ = before;
+        false
+    }
+
+    /// Goes past the next eight code units of UTF-16, or in UTF-8 past eight scalars, and answers them as units: each
+    /// is a scalar, if none is a surrogate. In UTF-8 one stands in place of each scalar of two or four bytes. `None`
+    /// where not so much is left, and wherever it cares to: then the cursor stays where it is.
     #[inline(always)]
     fn take_eight(&mut self) -> Option<[u16; 8]>
         ensures { MatchOption result (self.new ≡ self.old) (λ units. TakesUnits form (left self.old)
@@ -277,6 +286,18 @@ impl Source for Utf8Source<'_> {
     }
 
     #[inline(always)]
+    fn has_eights(&self, before: char) -> bool {
+        (before as u32) < 0x80
+    }
+
+    #[inline(always)]
+    fn take_eight(&mut self) -> Option<[u16; 8]> {
+        let (units, behind) = eight_scalars(self.text.as_bytes(), self.place)?;
+        self.place = behind;
+        Some(units)
+    }
+
+    #[inline(always)]
     fn has_turns(&self) -> bool {
         let bytes = self.text.as_bytes();
         bytes.len() - self.place >= 16 && bytes[self.place] >= 0x80
@@ -415,6 +436,11 @@ impl Source for Utf16Source<'_> {
         let count = copy_ascii_units(&self.units[self.place..], dst, at);
         self.place += count;
         count
+    }
+
+    #[inline(always)]
+    fn has_eights(&self, before: char) -> bool {
+        (before as u32) >= 0x80
     }
 
     #[inline(always)]

@@ -3,12 +3,12 @@ use crate::encode_events::Wanted::{Bytes, Report};
 use crate::encoder_rows::EncoderRow::{
     Encoder, Encodes, FromUtf8, FromUtf16, Utf8Length, Utf16Length,
 };
-use crate::encoder_rows::{EncoderRow, TestedEncoder};
-use crate::indexes::{no_entries, no_parts, run};
+use crate::encoder_rows::{EncoderRow, TestedEncoder, follow_encoder};
+use crate::indexes::{no_entries, no_parts, run, tables_of};
 use crate::over_tables::{Codec, encode_over_both};
 use legacy_base::EncoderResult::{InputEmpty, OutputFull, Unmappable};
 use legacy_base::{Indexes, Packed, Tables};
-use legacy_encoders::EucKrEncoder;
+use legacy_encoders::{CachedEncoder, EucKrEncoder, PAIR_ROOM};
 use std::process::Abort;
 
 impl<'a> TestedEncoder for EucKrEncoder<'a> {
@@ -80,4 +80,136 @@ fn encodes_the_last_pointer(rt: HostRuntime) {
         ..no_parts()
     };
     encode_over_both(&rt, Codec::EucKr, &indexes, &packed, LAST);
+}
+
+impl<'a, 'b> TestedEncoder for CachedEncoder<'a, EucKrEncoder<'b>> {
+    type Of = CachedEncoder<'a, EucKrEncoder<'b>>;
+
+    fn made(_rt: &impl Abort, of: Self::Of) -> Self {
+        of
+    }
+
+    fn pending(&self) -> Option<bool> {
+        None
+    }
+}
+
+/// The rows with the first four scalars of the standard's index, and no other scalar.
+const WORDS: &[EncoderRow] = &[
+    Encoder("words with spaces between them"),
+    FromUtf8(
+        "a\u{AC02}\u{AC03} \u{AC05}\u{AC06}\u{AC02} \u{AC03}\u{AC05}, \u{AC06}\u{AC02}\u{AC03}\u{AC05}. \u{AC02}\u{AC06} x",
+        96,
+        true,
+        InputEmpty,
+        48,
+        b"a\x81A\x81B \x81C\x81D\x81A \x81B\x81C, \x81D\x81A\x81B\x81C. \x81A\x81D x",
+    ),
+    FromUtf8(
+        "\u{AC02} \u{AC02} \u{AC02} \u{AC02} \u{AC02} \u{AC02} \u{AC02} \u{AC02} \u{AC02} \u{AC02} \u{AC02} \u{AC02} ",
+        96,
+        true,
+        InputEmpty,
+        48,
+        b"\x81A \x81A \x81A \x81A \x81A \x81A \x81A \x81A \x81A \x81A \x81A \x81A ",
+    ),
+    Encoder("letters alone behind a space"),
+    FromUtf8(
+        " \u{AC02}\u{AC03}\u{AC05}\u{AC06}\u{AC02}\u{AC03}\u{AC05}\u{AC06}\u{AC02}\u{AC03}\u{AC05}\u{AC06}\u{AC02}\u{AC03}\u{AC05}\u{AC06}",
+        96,
+        true,
+        InputEmpty,
+        49,
+        b" \x81A\x81B\x81C\x81D\x81A\x81B\x81C\x81D\x81A\x81B\x81C\x81D\x81A\x81B\x81C\x81D",
+    ),
+    Encoder(
+        "what has no bytes, or another number of bytes of UTF-8, among eight scalars behind a space",
+    ),
+    FromUtf8(
+        " \u{AC02}\u{AC03}\u{AC05}\u{AC04}\u{AC02}\u{AC03} \u{AC05}\u{AC06}\u{AC02} \u{AC03}\u{AC05}, \u{AC06}\u{AC02}\u{AC03}\u{AC05}. \u{AC02}\u{AC06} x",
+        96,
+        true,
+        Unmappable('\u{AC04}'),
+        13,
+        b" \x81A\x81B\x81C",
+    ),
+    FromUtf8(
+        " \u{AC02}\u{AC03}\u{AC05}\u{E9}\u{AC02}\u{AC03} \u{AC05}\u{AC06}\u{AC02} \u{AC03}\u{AC05}, \u{AC06}\u{AC02}\u{AC03}\u{AC05}. \u{AC02}\u{AC06} x",
+        96,
+        true,
+        Unmappable('\u{E9}'),
+        12,
+        b" \x81A\x81B\x81C",
+    ),
+    FromUtf8(
+        " \u{AC02}\u{AC03} \u{AC05}\u{AC06}\u{AC02}\u{AC03}\u{1F4A9}\u{AC02}\u{AC03} \u{AC05}\u{AC06}\u{AC02} \u{AC03}\u{AC05}, \u{AC06}\u{AC02}\u{AC03}\u{AC05}. \u{AC02}\u{AC06} x",
+        96,
+        true,
+        Unmappable('\u{1F4A9}'),
+        24,
+        b" \x81A\x81B \x81C\x81D\x81A\x81B",
+    ),
+    Encoder("a text that ends within eight scalars, or some bytes behind them"),
+    FromUtf8(
+        " \u{AC02}\u{AC03}\u{AC05} \u{AC02}\u{AC03}\u{AC05} \u{AC02}\u{AC03}\u{AC05} \u{AC02}",
+        96,
+        true,
+        InputEmpty,
+        34,
+        b" \x81A\x81B\x81C \x81A\x81B\x81C \x81A\x81B\x81C \x81A",
+    ),
+    FromUtf8(
+        " \u{AC02}\u{AC03}\u{AC05} \u{AC02}\u{AC03}\u{AC05} \u{AC02}\u{AC03}\u{AC05} \u{AC02} ",
+        96,
+        true,
+        InputEmpty,
+        35,
+        b" \x81A\x81B\x81C \x81A\x81B\x81C \x81A\x81B\x81C \x81A ",
+    ),
+    FromUtf8(
+        " \u{AC02}\u{AC03}\u{AC05} \u{AC02}\u{AC03}\u{AC05} \u{AC02}\u{AC03}\u{AC05} \u{AC02}  ",
+        96,
+        true,
+        InputEmpty,
+        36,
+        b" \x81A\x81B\x81C \x81A\x81B\x81C \x81A\x81B\x81C \x81A  ",
+    ),
+    FromUtf8(
+        " \u{AC02}\u{AC03}\u{AC05} \u{AC02}\u{AC03}\u{AC05} \u{AC02}\u{AC03}\u{AC05} \u{AC02}\u{AC03}",
+        96,
+        true,
+        InputEmpty,
+        37,
+        b" \x81A\x81B\x81C \x81A\x81B\x81C \x81A\x81B\x81C \x81A\x81B",
+    ),
+    FromUtf8(
+        " \u{AC02}\u{AC03}\u{AC05}\u{AC06}\u{AC02}\u{AC03}\u{AC05}\u{AC06}\u{AC02}\u{AC03}\u{AC05}\u{AC06}",
+        96,
+        true,
+        InputEmpty,
+        37,
+        b" \x81A\x81B\x81C\x81D\x81A\x81B\x81C\x81D\x81A\x81B\x81C\x81D",
+    ),
+];
+
+/// Follows the rows with an encoder that looks its pairs up ahead, in this room.
+fn encode_ahead(rt: &(impl AllocGlobal + Abort), room: &mut [u16], rows: &[EncoderRow]) {
+    let indexes = Indexes {
+        euc_kr: &[0xAC02, 0xAC03, 0xAC05, 0xAC06],
+        ..no_entries()
+    };
+    let tables = tables_of(rt, &indexes);
+    let encoder = EucKrEncoder::new(&tables);
+    match CachedEncoder::new(&encoder, room) {
+        Some(cached) => follow_encoder::<CachedEncoder<EucKrEncoder>>(rt, cached, rows),
+        None => panic!(rt; "the room is refused"),
+    }
+}
+
+#[test]
+fn encodes_words_with_pairs_looked_up_ahead(rt: HostRuntime) {
+    match vec![in rt.alloc(); 0; PAIR_ROOM] {
+        Ok(mut room) => encode_ahead(&rt, room.as_mut_slice(), WORDS),
+        Err(_) => panic!(rt; "memory"),
+    }
 }

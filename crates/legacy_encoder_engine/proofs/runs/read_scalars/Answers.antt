@@ -30,8 +30,8 @@ loop-dst-preserved-else-by_turns g c =
     scalar 1 c.in-One.ensures.0 c.in-One.ensures.1 room _ _ c.in-Some.end _ c.in-Some.ensures c.pass.ensures.left c.pass.ensures.passed in
     (r.keeps, r.start_is, omega (arith, r.end_is), omega (arith, r.fewer), (λ h. r.fewer), r.passed_is)
 
-pub loop-dst-preserved-then-c-ge128 : goal.loop-dst-preserved-then-c-ge128
-loop-dst-preserved-then-c-ge128 g c =
+pub loop-dst-preserved-then-has_eights : goal.loop-dst-preserved-then-has_eights
+loop-dst-preserved-then-has_eights g c =
     let S = g.S.Source in
     let i = c.loop-dst.invariant in
     let state = new_encoder (g.C.PlainCodes.codec c.args.encoder.now) in

@@ -1,0 +1,420 @@
+-- Bits that tell where scalars begin, and the scalars of one and three bytes of UTF-8 between them.
+use Rattle.std.proofs.Common.{◌≡◌, ◌↔◌, ◌∙◌, ℕ, zero, suc, ◌+◌, ◌-◌, ◌*◌, ◌/◌, ◌%◌, ◌^◌, ◌≤◌, ◌<◌, List, [], ◌∷◌, ◌++◌, length, get_or, Bool, true, false, cond, leb, map, max}
+use Rattle.std.proofs.Common.{take, drop, replicate, refl, sym, ap, subst, arith, append_assoc, append-nil, length-append, add-zero, slice_set, inl, inr, w8, w32, Fits, bit_and, bit_or}
+use Rattle.std.specs.Int.{bit_at, bit_not, trailing_zeros}
+use Rattle.std.specs.Simd.Lanes.{zip2, mask_l, top, number_l, digits_l, put_chunk, Each1}
+use Rattle.std.specs.Str.{chars, is_utf8}
+use Rattle.std.proofs.Math.ListN.{get_or-map}
+use Rattle.std.proofs.Math.Nat.{mod-lt, pow-suc}
+use Rattle.std.proofs.lemmas.Bool.{cases_lt, leb-true, leb-false}
+use Rattle.std.proofs.lemmas.List.{get_or-set_same, get_or-set_other, get_or_past, length-drop, get_or_append_left, get_or-append-add, get_or-drop, get_or-take, length-map}
+use Rattle.std.proofs.lemmas.Nat.{pow_pos}
+use Rattle.std.proofs.lemmas.Nat.Bits.{bit_at-trailing_zeros, bit_at-pow_same, bit_at-pow_other, bit_at_and, bit_at_or, bit_at_not, bit_at_ones_above, bit_at_cat_low, bit_at_cat_high, same_from_bits_below, bit_at-lt}
+use Rattle.std.proofs.lemmas.Simd.{bit_mask_l, tops_compared, mask_l-mod, mask_l-lt, get_or_wider, Each1-from_get_or, Each1-get_or, below_from_Fits, get_or-put_chunk_below, get_or-put_chunk_at, length-put_chunk}
+use Rattle.std.proofs.lemmas.Str.{length-encode, len_utf8_bounds}
+use lib.Utf8.{encode}
+use Rattle.legacy_text.specs.EncodingForm.{Utf8, code_units, unit_count, total_unit_count}
+use Rattle.legacy_text.specs.NextScalars.{StandsAt}
+use Rattle.legacy_text.specs.ShortScalars.{ReadsScalar}
+use Rattle.legacy_text.specs.ScalarTurns.{IsStart, IsUnitAt, ReadsUnits}
+use Rattle.legacy_text.specs.UnitCodes.{IsNoSurrogate}
+use Rattle.legacy_text.specs.UnitTurns.{AreLone}
+use Rattle.legacy_text.proofs.Ascii.{splat_zip2}
+use Rattle.legacy_text.proofs.CodeUnits.{encode_1, encode_2, encode_3, encode_4, total_unit_count-append}
+use Rattle.legacy_text.proofs.Texts.{made_of_three, first_some, first_cons, utf8_pass, utf8_stands}
+use Rattle.legacy_text.proofs.ShortScalars.{some_left, reads_ascii}
+
+-- ---- the lowest bit
+
+module _ (n : ℕ) (some : 0 < n) (fits : n < 2 ^ 32) where
+  abbrev T : ℕ
+  T = trailing_zeros w32 n
+
+  at_lowest : (trailing_zeros w32 n < 32) × (bit_at n (trailing_zeros w32 n) ≡ 1) × ((i : ℕ) → i < trailing_zeros w32 n → bit_at n i ≡ 0)
+  at_lowest = bit_at-trailing_zeros w32 n some fits
+
+  -- the number is what stands above its lowest bit, and this bit
+  cut : n ≡ n / 2 ^ (trailing_zeros w32 n + 1) * 2 ^ (trailing_zeros w32 n + 1) + n % 2 ^ (trailing_zeros w32 n + 1)
+  cut = omega (arith, pow_pos (T + 1))
+
+  twice : 2 ^ (trailing_zeros w32 n + 1) ≡ 2 * 2 ^ trailing_zeros w32 n
+  twice = let e : T + 1 ≡ suc T = omega arith in omega (arith, ap (λ m. 2 ^ m) e, pow-suc 2 T)
+
+  low_bits : (i : ℕ) → i < trailing_zeros w32 n + 1 → bit_at (n % 2 ^ (trailing_zeros w32 n + 1)) i ≡ bit_at (2 ^ trailing_zeros w32 n) i
+  low_bits i h =
+      let here : bit_at (n % 2 ^ (T + 1)) i ≡ bit_at n i = sym (bit_at_cat_low (n / 2 ^ (T + 1)) (T + 1) (n % 2 ^ (T + 1)) i h) ∙ ap (λ m. bit_at m i) (sym cut) in
+      elim (cases_lt i T) [
+        | inl l ↦ here ∙ at_lowest.2 i l ∙ sym (bit_at-pow_other T i (omega arith))
+        | inr l ↦ let e : i ≡ T = omega arith in here ∙ rw e (at_lowest.1 ∙ sym (bit_at-pow_same T))
+      ]
+
+  low_is : n % 2 ^ (trailing_zeros w32 n + 1) ≡ 2 ^ trailing_zeros w32 n
+  low_is = same_from_bits_below (T + 1) (n % 2 ^ (T + 1)) (2 ^ T) (mod-lt n (pow_pos (T + 1))) (omega (arith, twice, pow_pos T)) low_bits
+
+  less_is : n - 1 ≡ n / 2 ^ (trailing_zeros w32 n + 1) * 2 ^ (trailing_zeros w32 n + 1) + (2 ^ trailing_zeros w32 n - 1)
+  less_is = omega (arith, cut, low_is, pow_pos T)
+
+  -- without it nothing is left up to it
+  pub lowest_gone : (k : ℕ) → k ≤ trailing_zeros w32 n → bit_at (bit_and n (n - 1)) k ≡ 0
+  lowest_gone k le = elim (cases_lt k T) [
+    | inl l ↦ omega (arith, bit_at_and n (n - 1) k, at_lowest.2 k l)
+    | inr l ↦
+        let e : k ≡ T = omega arith in
+        let gone : bit_at (n - 1) k ≡ 0 =
+        ap (λ m. bit_at m k) less_is ∙ bit_at_cat_low (n / 2 ^ (T + 1)) (T + 1) (2 ^ T - 1) k (omega arith) ∙ bit_at_ones_above T k (omega arith) in
+        omega (arith, bit_at_and n (n - 1) k, gone)
+  ]
+
+  -- and all above it stays
+  pub others_stay : (k : ℕ) → trailing_zeros w32 n < k → bit_at (bit_and n (n - 1)) k ≡ bit_at n k
+  others_stay k l =
+      let below : 2 ^ T - 1 < 2 ^ (T + 1) = omega (arith, twice, pow_pos T) in
+      let less : bit_at (n - 1) k ≡ bit_at (n / 2 ^ (T + 1)) (k - (T + 1)) = ap (λ m. bit_at m k) less_is ∙ bit_at_cat_high (n / 2 ^ (T + 1)) (T + 1) (2 ^ T - 1) k below (omega arith) in
+      let all : bit_at n k ≡ bit_at (n / 2 ^ (T + 1)) (k - (T + 1)) = ap (λ m. bit_at m k) cut ∙ bit_at_cat_high (n / 2 ^ (T + 1)) (T + 1) (n % 2 ^ (T + 1)) k (mod-lt n (pow_pos (T + 1))) (omega arith) in
+      omega (arith, bit_at_and n (n - 1) k, less, all)
+
+-- ---- the bits of starts
+
+-- the mask of the lanes that are not below x
+abbrev pub mask_from : ℕ → ℕ → List ℕ → ℕ
+mask_from x lanes v = mask_l (map (top 7) (zip2 (λ a b. cond (leb a b) 255 0) (replicate lanes x) v)) % 2 ^ 64
+
+mask_from-is : (x lanes : ℕ) (v : List ℕ) → lanes ≤ 64 → length v ≡ lanes → mask_from x lanes v ≡ mask_l (map (leb x) v)
+mask_from-is x lanes v few long =
+    ap (λ ms. mask_l ms % 2 ^ 64) (tops_compared w8 leb (replicate lanes x) v ∙ ap (λ m. zip2 leb (replicate m x) v) (sym long) ∙ splat_zip2 leb x v)
+    ∙ mask_l-mod (map (leb x) v) 64 (omega (arith, length-map v (leb x)))
+
+pub mask_from-lt : (x : ℕ) (v : List ℕ) → length v ≡ 32 → mask_from x 32 v < 2 ^ 32
+mask_from-lt x v long =
+    let below = mask_l-lt (map (leb x) v) in
+    let count : length (map (leb x) v) ≡ 32 = length-map v (leb x) ∙ long in
+    rw (mask_from-is x 32 v (omega arith) long) (subst (λ n. mask_l (map (leb x) v) < 2 ^ n) count below)
+
+bit_tells : (x y : ℕ) (b : Bool) → leb x y ≡ b → (cond {A = ℕ} b 1 0 ≡ 1) ↔ (x ≤ y)
+bit_tells x y true e = (λ h. leb-true x y e, λ h. refl)
+bit_tells x y false e = (λ h. absurd (omega arith), λ h. omega (arith, leb-false x y e))
+
+mask_bit : (x : ℕ) → leb x 0 ≡ false → (v : List ℕ) → length v ≡ 32 → (k : ℕ) → (bit_at (mask_from x 32 v) k ≡ 1) ↔ (x ≤ get_or v k 0)
+mask_bit x some v long k =
+    let lane : get_or (map (leb x) v) k false ≡ leb x (get_or v k 0) = subst (λ d. get_or (map (leb x) v) k d ≡ leb x (get_or v k 0)) some (get_or-map (leb x) v k 0) in
+    let e : bit_at (mask_from x 32 v) k ≡ cond (leb x (get_or v k 0)) 1 0 =
+    ap (λ m. bit_at m k) (mask_from-is x 32 v (omega arith) long) ∙ bit_mask_l (map (leb x) v) k ∙ ap (λ b. cond b 1 0) lane in
+    let t = bit_tells x (get_or v k 0) _ refl in
+    (λ s. t.0 (sym e ∙ s), λ s. e ∙ t.1 s)
+
+starts_from : (byte p l r : ℕ) → ((p ≡ 1) ↔ (128 ≤ byte)) → ((l ≡ 1) ↔ (192 ≤ byte)) → p < 2 → l < 2 → r ≡ max (1 - p) l → (r ≡ 1) ↔ IsStart byte
+starts_from byte p l r past leads few few_leads is = (
+  (λ set high. let e : p ≡ 1 = past.1 high in let one : l ≡ 1 = omega arith in leads.0 one),
+  (λ start. elim (cases_lt p 1) as (λ _. r ≡ 1) [
+    | inl none ↦ omega arith
+    | inr some ↦ let e : p ≡ 1 = omega arith in let one : l ≡ 1 = leads.1 (start (past.0 e)) in omega arith
+  ]),
+)
+
+-- a bit that is not set for a byte from 128 on, or set for one from 192 on
+pub starts_bit : (v : List ℕ) → length v ≡ 32 → (k : ℕ) → k < 32
+    → (bit_at (bit_or (bit_not w32 (mask_from 128 32 v)) (mask_from 192 32 v)) k ≡ 1) ↔ IsStart (get_or v k 0)
+starts_bit v long k h =
+    let none = bit_at_not w32 (mask_from 128 32 v) k (mask_from-lt 128 v long) h in
+    let either = bit_at_or (bit_not w32 (mask_from 128 32 v)) (mask_from 192 32 v) k in
+    starts_from (get_or v k 0) (bit_at (mask_from 128 32 v) k) (bit_at (mask_from 192 32 v) k) (bit_at (bit_or (bit_not w32 (mask_from 128 32 v)) (mask_from 192 32 v)) k)
+    (mask_bit 128 refl v long k) (mask_bit 192 refl v long k) (bit_at-lt (mask_from 128 32 v) k) (bit_at-lt (mask_from 192 32 v) k)
+    (either ∙ ap (λ n. max n (bit_at (mask_from 192 32 v) k)) none)
+
+-- ---- lanes of two bytes
+
+-- two bytes as a number, the lower first
+pair : (bytes : List ℕ) → 2 ≤ length bytes → number_l 256 (take 2 bytes) ≡ get_or bytes 0 0 + 256 * get_or bytes 1 0
+pair [] h = absurd (omega arith)
+pair (a ∷ []) h = absurd (omega arith)
+pair (a ∷ b ∷ bytes) h = omega arith
+
+-- a lane of two bytes
+pub lane : (n : ℕ) (bytes : List ℕ) (k : ℕ) → ((i : ℕ) → i < 2 * n → get_or bytes i 0 < 256) → length bytes ≡ 2 * n → k < n
+    → get_or (digits_l 65536 n (number_l 256 bytes)) k 0 ≡ get_or bytes (2 * k) 0 + 256 * get_or bytes (2 * k + 1) 0
+lane n bytes k are long h =
+    let rest : 2 ≤ length (drop (2 * k) bytes) = omega (arith, length-drop (2 * k) bytes) in
+    let high = get_or-drop (2 * k) bytes 1 0 in
+    let low = get_or-drop (2 * k) bytes 0 0 in
+    let same : 2 * k + 0 ≡ 2 * k = omega arith in
+    get_or_wider 256 2 65536 n bytes k refl (Each1-from_get_or (λ x. x < 256) bytes 0 (λ i l. are i (omega arith))) h
+    ∙ pair (drop (2 * k) bytes) rest ∙ rw (high, low, same) refl
+
+-- one lane more of two lists of bytes
+pub filled : (P : ℕ → ℕ → Type 0) (lows highs : List ℕ) (k low high : ℕ) → k < length lows → k < length highs → ((j : ℕ) → j < k → P j (get_or lows j 0 + 256 * get_or highs j 0))
+    → P k (low + 256 * high) → (j : ℕ) → j < k + 1 → P j (get_or (slice_set lows k low) j 0 + 256 * get_or (slice_set highs k high) j 0)
+filled P lows highs k low high a b before here j h = elim (cases_lt j k) [
+  | inl l ↦ rw (get_or-set_other lows k j low 0 (omega arith), get_or-set_other highs k j high 0 (omega arith)) (before j l)
+  | inr l ↦ let e : j ≡ k = omega arith in rw e (rw (get_or-set_same lows k low 0 a, get_or-set_same highs k high 0 b) here)
+]
+
+-- a byte of sixteen
+pub sixteenth : (bytes : List ℕ) (place k : ℕ) → k < 16 → get_or (take 16 (drop place bytes)) k 0 ≡ get_or bytes (place + k) 0
+sixteenth bytes place k h = get_or-take 16 (drop place bytes) k 0 h ∙ get_or-drop place bytes k 0
+
+-- the lanes of a vector of bytes
+pub below_256 : (v : List ℕ) → Each1 (Fits w8) v → (i : ℕ) → get_or v i 0 < 256
+below_256 v fits i = elim (cases_lt i (length v)) [
+  | inl l ↦ Each1-get_or (λ x. x < 256) v i 0 l (below_from_Fits w8 v fits)
+  | inr l ↦ omega (arith, get_or_past v i 0 l)
+]
+
+-- the entries of two lists of sixteen in turn, n of each from a on
+abbrev pub woven : ℕ → ℕ → List ℕ → List ℕ
+woven zero a xs = []
+woven (suc n) a xs = get_or xs a 0 ∷ get_or xs (a + 16) 0 ∷ woven n (suc a) xs
+
+woven_at : (n a : ℕ) (xs : List ℕ) (k : ℕ) → k < n
+    → (get_or (woven n a xs) (2 * k) 0 ≡ get_or xs (a + k) 0) × (get_or (woven n a xs) (2 * k + 1) 0 ≡ get_or xs (a + k + 16) 0)
+woven_at zero a xs k h = absurd (omega arith)
+woven_at (suc n) a xs zero h = let e : a + 0 ≡ a = omega arith in rw e (refl, refl)
+woven_at (suc n) a xs (suc k) h =
+    let low : 2 * suc k ≡ suc (suc (2 * k)) = omega arith in
+    let high : 2 * suc k + 1 ≡ suc (suc (2 * k + 1)) = omega arith in
+    let e : a + suc k ≡ suc a + k = omega arith in
+    rw (high, low, e) (woven_at n (suc a) xs k (omega arith))
+
+woven_below : (n a : ℕ) (xs : List ℕ) → ((i : ℕ) → get_or xs i 0 < 256) → (i : ℕ) → get_or (woven n a xs) i 0 < 256
+woven_below zero a xs are i = omega arith
+woven_below (suc n) a xs are zero = are a
+woven_below (suc n) a xs are (suc zero) = are (a + 16)
+woven_below (suc n) a xs are (suc (suc i)) = woven_below n (suc a) xs are i
+
+woven_length : (n a : ℕ) (xs : List ℕ) → length (woven n a xs) ≡ 2 * n
+woven_length zero a xs = refl
+woven_length (suc n) a xs = omega (arith, woven_length n (suc a) xs)
+
+module _ (lows highs : List ℕ) (count : length lows ≡ 16) (are_low : (i : ℕ) → get_or lows i 0 < 256) (are_high : (i : ℕ) → get_or highs i 0 < 256) where
+  low_at : (i : ℕ) → i < 16 → get_or (lows ++ highs) i 0 ≡ get_or lows i 0
+  low_at i h = get_or_append_left lows highs 0 i (omega (arith, count))
+
+  high_at : (i : ℕ) → get_or (lows ++ highs) (i + 16) 0 ≡ get_or highs i 0
+  high_at i = let e : i + 16 ≡ length lows + i = omega (arith, count) in rw e (get_or-append-add lows highs i 0)
+
+  are : (i : ℕ) → get_or (lows ++ highs) i 0 < 256
+  are i = elim (cases_lt i 16) [
+    | inl l ↦ rw (low_at i l) (are_low i)
+    | inr l ↦ let e : i ≡ i - 16 + 16 = omega arith in rw e (rw (high_at (i - 16)) (are_high (i - 16)))
+  ]
+
+  -- a lane of eight of them, from one on
+  pub joined_lane : (a k : ℕ) → a + k < 16 → k < 8
+      → get_or (digits_l 65536 8 (number_l 256 (woven 8 a (lows ++ highs)))) k 0 ≡ get_or lows (a + k) 0 + 256 * get_or highs (a + k) 0
+  joined_lane a k within h =
+      let at = woven_at 8 a (lows ++ highs) k h in
+      lane 8 (woven 8 a (lows ++ highs)) k (λ i l. woven_below 8 a (lows ++ highs) are i) (woven_length 8 a (lows ++ highs)) h
+      ∙ rw (at.0, at.1, low_at (a + k) within, high_at (a + k)) refl
+
+  pub joined_front : (k : ℕ) → k < 8 → get_or (digits_l 65536 8 (number_l 256 (woven 8 0 (lows ++ highs)))) k 0 ≡ get_or lows k 0 + 256 * get_or highs k 0
+  joined_front k h =
+      let e : 0 + k ≡ k = omega arith in
+      subst (λ i. get_or (digits_l 65536 8 (number_l 256 (woven 8 0 (lows ++ highs)))) k 0 ≡ get_or lows i 0 + 256 * get_or highs i 0) e (joined_lane 0 k (omega arith) h)
+
+-- what stands up to a place is not changed by two vectors that are stored from it on
+pub stored_before : (all front back : List ℕ) (at k : ℕ) → k < at → get_or (put_chunk (at + 8) (put_chunk at all front) back) k 0 ≡ get_or all k 0
+stored_before all front back at k h = get_or-put_chunk_below (at + 8) (put_chunk at all front) back k 0 (omega arith) ∙ get_or-put_chunk_below at all front k 0 h
+
+-- and they stand there
+pub stored_at : (P : ℕ → ℕ → Type 0) (all front back : List ℕ) (at : ℕ) → length front ≡ 8 → length back ≡ 8 → at + 16 ≤ length all
+    → ((k : ℕ) → k < 8 → P k (get_or front k 0)) → ((k : ℕ) → k < 8 → P (8 + k) (get_or back k 0))
+    → (k : ℕ) → k < 16 → P k (get_or (put_chunk (at + 8) (put_chunk at all front) back) (at + k) 0)
+stored_at P all front back at long long_back room first others k h = elim (cases_lt k 8) [
+  | inl l ↦
+      rw (get_or-put_chunk_below (at + 8) (put_chunk at all front) back (at + k) 0 (omega arith), get_or-put_chunk_at at all front k 0 (omega (arith, long)) (omega (arith, long))) (first k l)
+  | inr l ↦
+      let place : at + k ≡ at + 8 + (k - 8) = omega arith in
+      let same : 8 + (k - 8) ≡ k = omega arith in
+      rw (place, get_or-put_chunk_at (at + 8) (put_chunk at all front) back (k - 8) 0 (omega (arith, long_back)) (omega (arith, long_back, length-put_chunk at all front)))
+      (subst (λ n. P n (get_or back (k - 8) 0)) same (others (k - 8) (omega arith)))
+]
+
+-- sixteen entries, and sixteen behind them
+pub both_halves : (P : ℕ → ℕ → Type 0) (front all : List ℕ) → ((k : ℕ) → k < 16 → get_or all k 0 ≡ get_or front k 0) → ((k : ℕ) → k < 16 → P k (get_or front (0 + k) 0))
+    → ((k : ℕ) → k < 16 → P (16 + k) (get_or all (16 + k) 0)) → (k : ℕ) → k < 32 → P k (get_or all k 0)
+both_halves P front all same first others k h = elim (cases_lt k 16) [
+  | inl l ↦ let e : 0 + k ≡ k = omega arith in rw (same k l) (subst (λ i. P k (get_or front i 0)) e (first k l))
+  | inr l ↦ let e : 16 + (k - 16) ≡ k = omega arith in subst (λ i. P i (get_or all i 0)) e (others (k - 16) (omega arith))
+]
+
+-- ---- scalars
+
+goes_on : (x : ℕ) → 128 ≤ x → x < 192 → IsStart x → ⊥
+goes_on x low high start = omega (arith, start low)
+
+module _ (text : List ℕ) (place : ℕ) (inside : place < length text) (u : is_utf8 (drop place text) ≡ true) where
+  abbrev C : ℕ
+  C = get_or (chars (drop place text)) 0 0
+
+  some : 0 < length (chars (drop place text))
+  some = some_left text place inside u
+
+  stands : StandsAt text place (get_or (chars (drop place text)) 0 0)
+  stands = utf8_stands text place C u (first_some (chars (drop place text)) some)
+
+  byte_at : (k : ℕ) → get_or text (place + k) 0 ≡ get_or (encode (get_or (chars (drop place text)) 0 0) ++ stands.rest) k 0
+  byte_at k = sym (get_or-drop place text k 0) ∙ ap (λ l. get_or l k 0) stands.is
+
+  pub reads_here : ReadsScalar text place (get_or (chars (drop place text)) 0 0) (place + unit_count Utf8 (get_or (chars (drop place text)) 0 0))
+  reads_here =
+      let p = utf8_pass text place (unit_count Utf8 C) (omega arith) u some refl in
+      record { left = first_cons (chars (drop place text)) C (first_some (chars (drop place text)) some) ∙ ap (λ l. C ∷ l) (sym p.2); is_text = p.1; within = p.0; passed = refl }
+
+  pub some_units : 0 < unit_count Utf8 (get_or (chars (drop place text)) 0 0)
+  some_units = let l = (len_utf8_bounds C).0 in omega (arith, length-encode C, l)
+
+  first_byte : get_or text place 0 ≡ get_or (encode (get_or (chars (drop place text)) 0 0) ++ stands.rest) 0 0
+  first_byte = ap (λ n. get_or text n 0) (sym (add-zero place)) ∙ byte_at 0
+
+  -- a scalar begins with such a byte
+  pub start_here : IsStart (get_or text place 0)
+  start_here past = elim (cases_lt C 128) [
+    | inl a ↦ omega (arith, first_byte ∙ ap (λ l. get_or (l ++ stands.rest) 0 0) (encode_1 C a))
+    | inr a ↦ elim (cases_lt C 2048) [
+      | inl b ↦ omega (arith, first_byte ∙ ap (λ l. get_or (l ++ stands.rest) 0 0) (encode_2 C a b))
+      | inr b ↦ elim (cases_lt C 65536) [
+        | inl d ↦ omega (arith, first_byte ∙ ap (λ l. get_or (l ++ stands.rest) 0 0) (encode_3 C b d))
+        | inr d ↦ omega (arith, first_byte ∙ ap (λ l. get_or (l ++ stands.rest) 0 0) (encode_4 C d))
+      ]
+    ]
+  ]
+
+  -- and no other byte of it is one
+  pub no_start : (k : ℕ) → 0 < k → k < unit_count Utf8 (get_or (chars (drop place text)) 0 0) → IsStart (get_or text (place + k) 0) → ⊥
+  no_start k some_k few start = elim (cases_lt C 128) [
+    | inl a ↦ omega (arith, ap length (encode_1 C a))
+    | inr a ↦ elim (cases_lt C 2048) [
+      | inl b ↦
+          let one : k ≡ 1 = omega (arith, ap length (encode_2 C a b)) in
+          let is : get_or text (place + k) 0 ≡ 128 + C % 64 = byte_at k ∙ rw one (ap (λ l. get_or (l ++ stands.rest) 1 0) (encode_2 C a b)) in
+          goes_on (get_or text (place + k) 0) (omega (arith, is)) (omega (arith, is)) start
+      | inr b ↦ elim (cases_lt C 65536) [
+        | inl d ↦ elim (cases_lt k 2) [
+          | inl l ↦
+              let one : k ≡ 1 = omega arith in
+              let is : get_or text (place + k) 0 ≡ 128 + C / 64 % 64 = byte_at k ∙ rw one (ap (λ l. get_or (l ++ stands.rest) 1 0) (encode_3 C b d)) in
+              goes_on (get_or text (place + k) 0) (omega (arith, is)) (omega (arith, is)) start
+          | inr l ↦
+              let two : k ≡ 2 = omega (arith, ap length (encode_3 C b d)) in
+              let is : get_or text (place + k) 0 ≡ 128 + C % 64 = byte_at k ∙ rw two (ap (λ l. get_or (l ++ stands.rest) 2 0) (encode_3 C b d)) in
+              goes_on (get_or text (place + k) 0) (omega (arith, is)) (omega (arith, is)) start
+        ]
+        | inr d ↦ elim (cases_lt k 2) [
+          | inl l ↦
+              let one : k ≡ 1 = omega arith in
+              let is : get_or text (place + k) 0 ≡ 128 + C / 4096 % 64 = byte_at k ∙ rw one (ap (λ l. get_or (l ++ stands.rest) 1 0) (encode_4 C d)) in
+              goes_on (get_or text (place + k) 0) (omega (arith, is)) (omega (arith, is)) start
+          | inr l ↦ elim (cases_lt k 3) [
+            | inl m ↦
+                let two : k ≡ 2 = omega arith in
+                let is : get_or text (place + k) 0 ≡ 128 + C / 64 % 64 = byte_at k ∙ rw two (ap (λ l. get_or (l ++ stands.rest) 2 0) (encode_4 C d)) in
+                goes_on (get_or text (place + k) 0) (omega (arith, is)) (omega (arith, is)) start
+            | inr m ↦
+                let three : k ≡ 3 = omega (arith, ap length (encode_4 C d)) in
+                let is : get_or text (place + k) 0 ≡ 128 + C % 64 = byte_at k ∙ rw three (ap (λ l. get_or (l ++ stands.rest) 3 0) (encode_4 C d)) in
+                goes_on (get_or text (place + k) 0) (omega (arith, is)) (omega (arith, is)) start
+          ]
+        ]
+      ]
+    ]
+  ]
+
+  -- the unit of a place where a scalar begins is this scalar, if it is none of a surrogate's
+  pub unit_is : place + 2 ≤ length text → (unit : ℕ) → IsUnitAt text place unit → IsNoSurrogate unit → unit ≡ get_or (chars (drop place text)) 0 0
+  unit_is two unit made lone = elim (made lone) [
+    | inl one ↦
+        let r = reads_ascii text place two u (omega (arith, one.0)) one.0 in
+        one.1 ∙ sym (ap (λ l. get_or l 0 0) r.left)
+    | inr three ↦
+        let m = made_of_three text place C stands three.0 three.1 in
+        three.2 ∙ m.made
+  ]
+
+-- the next place at which a scalar begins is that behind the scalar
+next_is : (text : List ℕ) (start p q : ℕ) → start + 32 ≤ length text → p < q → q < 32 → is_utf8 (drop (start + p) text) ≡ true → IsStart (get_or text (start + q) 0)
+    → ((j : ℕ) → p < j → j < q → IsStart (get_or text (start + j) 0) → ⊥) → start + q ≡ start + p + unit_count Utf8 (get_or (chars (drop (start + p) text)) 0 0)
+next_is text start p q long more few u at_q none =
+    let inside : start + p < length text = omega arith in
+    let n = unit_count Utf8 (get_or (chars (drop (start + p) text)) 0 0) in
+    let r = reads_here text (start + p) inside u in
+    elim (cases_lt q (p + n)) as (λ _. start + q ≡ start + p + n) [
+      | inl l ↦
+          let place : start + q ≡ start + p + (q - p) = omega arith in
+          absurd (no_start text (start + p) inside u (q - p) (omega arith) (omega arith) (rw place at at_q))
+      | inr l ↦ elim (cases_lt (p + n) q) [
+        | inl m ↦
+            let place : start + p + n ≡ start + (p + n) = omega arith in
+            let some_n : 0 < n = some_units text (start + p) inside u in
+            absurd (none (p + n) (omega arith) m (rw place at (start_here text (start + p + n) (omega arith) r.is_text)))
+        | inr m ↦ omega arith
+      ]
+    ]
+
+-- ---- turns
+
+one_count : (c : ℕ) → total_unit_count Utf8 (c ∷ []) ≡ unit_count Utf8 c
+one_count c = ap length (append-nil (code_units Utf8 c))
+
+-- no units were read yet
+units_none : (text : List ℕ) (start : ℕ) → start ≤ length text → is_utf8 (drop start text) ≡ true → ReadsUnits text start [] start
+units_none text start within u = record { is_text = u; within = within; front = λ _. refl; passed = λ _. sym (add-zero start) }
+
+-- one unit more
+units_more : (text : List ℕ) (start : ℕ) (units : List ℕ) (place c behind unit : ℕ) → ReadsUnits text start units place → ReadsScalar text place c behind
+    → (IsNoSurrogate unit → unit ≡ c) → ReadsUnits text start (units ++ unit ∷ []) behind
+units_more text start units place c behind unit before r is = record {
+  is_text = r.is_text;
+  within = r.within;
+  front = λ lone.
+      let same = is (last lone) in
+      before.front (firsts lone) ∙ ap (λ l. units ++ l) r.left ∙ rw same (sym (append_assoc units (c ∷ []) (chars (drop behind text))));
+  passed = λ lone.
+      let same = is (last lone) in
+      omega (arith, before.passed (firsts lone), r.passed, total_unit_count-append Utf8 units (unit ∷ []), one_count unit, ap (unit_count Utf8) same);
+}
+  where
+    long : length (units ++ unit ∷ []) ≡ length units + 1
+    long = length-append units (unit ∷ [])
+
+    firsts : AreLone (units ++ unit ∷ []) → AreLone units
+    firsts lone k h = subst IsNoSurrogate (get_or_append_left units (unit ∷ []) 0 k h) (lone k (omega (arith, long)))
+
+    last : AreLone (units ++ unit ∷ []) → IsNoSurrogate unit
+    last lone = subst IsNoSurrogate (get_or-append-add units (unit ∷ []) 0 0) (lone (length units + 0) (omega (arith, long)))
+
+-- where units were read up to the lowest bit, and the bits from it on tell where scalars begin
+pub record StandsBehind (text : List ℕ) (start : ℕ) (units : List ℕ) (bits : ℕ) : Type 0 where
+  pub reads : ReadsUnits text start units (start + trailing_zeros w32 bits)
+  pub starts : (k : ℕ) → trailing_zeros w32 bits ≤ k → k < 32 → (bit_at bits k ≡ 1) ↔ IsStart (get_or text (start + k) 0)
+
+pub stands_first : (text : List ℕ) (start bits : ℕ) → start + 34 ≤ length text → is_utf8 (drop start text) ≡ true
+    → ((k : ℕ) → k < 32 → (bit_at bits k ≡ 1) ↔ IsStart (get_or text (start + k) 0)) → bits < 2 ^ 32 → 0 < bits → StandsBehind text start [] bits
+stands_first text start bits long u starts fits some =
+    let h = bit_at-trailing_zeros w32 bits some fits in
+    let first : bit_at bits 0 ≡ 1 = (starts 0 (omega arith)).1 (rw (add-zero start) (start_here text start (omega arith) u)) in
+    let zero_is : trailing_zeros w32 bits ≡ 0 = elim (cases_lt 0 (trailing_zeros w32 bits)) [
+      | inl l ↦ omega (arith, first, h.2 0 l)
+      | inr l ↦ omega arith
+    ] in
+    record { reads = rw (zero_is, add-zero start) (units_none text start (omega arith) u); starts = λ k _ l. starts k l }
+
+pub stands_more : (text : List ℕ) (start : ℕ) (units : List ℕ) (bits rest unit : ℕ) → start + 34 ≤ length text → 0 < bits → bits < 2 ^ 32 → 0 < rest → rest < 2 ^ 32
+    → ((k : ℕ) → k ≤ trailing_zeros w32 bits → bit_at rest k ≡ 0) → ((k : ℕ) → trailing_zeros w32 bits < k → bit_at rest k ≡ bit_at bits k)
+    → ((k : ℕ) → k < 32 → k ≡ trailing_zeros w32 bits → IsUnitAt text (start + k) unit) → StandsBehind text start units bits → StandsBehind text start (units ++ unit ∷ []) rest
+stands_more text start units bits rest unit long some fits some_rest fits_rest gone others made s =
+    let p = trailing_zeros w32 bits in
+    let q = trailing_zeros w32 rest in
+    let at = bit_at-trailing_zeros w32 bits some fits in
+    let next = bit_at-trailing_zeros w32 rest some_rest fits_rest in
+    let more : p < q = elim (cases_lt p q) as (λ _. p < q) [
+      | inl l ↦ l
+      | inr l ↦ absurd (omega (arith, gone q l, next.1))
+    ] in
+    let begins : IsStart (get_or text (start + q) 0) = (s.starts q (omega (arith, more)) next.0).0 (sym (others q more) ∙ next.1) in
+    let inside : start + p < length text = omega (arith, at.0, long) in
+    let place = next_is text start p q (omega (arith, long)) more next.0 s.reads.is_text begins
+    (λ j l m start_j. omega (arith, others j l, next.2 j m, (s.starts j (omega (arith, l)) (omega (arith, m, next.0))).1 start_j)) in
+    record {
+      reads = rw place (units_more text start units (start + p) (get_or (chars (drop (start + p) text)) 0 0) (start + p + unit_count Utf8 (get_or (chars (drop (start + p) text)) 0 0)) unit s.reads
+          (reads_here text (start + p) inside s.reads.is_text) (unit_is text (start + p) inside s.reads.is_text (omega (arith, at.0, long)) unit (made p at.0 refl)));
+      starts = λ k l h. rw (others k (omega (arith, more, l))) (s.starts k (omega (arith, more, l)) h);
+    }

@@ -1,0 +1,146 @@
+//! Eight scalars of UTF-8 at once and without a branch between them: vectors make what may begin at each of 32 places,
+//! and bits tell where scalars do.
+// In text with spaces no pattern tells where a scalar of one byte comes: so none is looked for. Inlined always is what
+// runs for each turn: a call would pass vectors through memory.
+ghost use Rattle.std.specs.Prelude.{◌≡◌, ◌↔◌, ℕ, ◌+◌, ◌*◌, ◌^◌, ◌<◌, ◌≤◌, length, take, drop, true, slice_index, MatchOption, ⊤};
+ghost use Rattle.std.specs.Int.{bit_at, trailing_zeros, w32};
+ghost use Rattle.std.specs.Str.{is_utf8};
+ghost use Rattle.legacy_text.specs.ScalarTurns.{IsStart, IsUnitOf, IsUnitAt, ReadsUnits};
+
+use std::simd::prelude::*;
+
+/// The low byte and the high one of the scalar of one or three bytes whose bytes these are, or else of a surrogate.
+#[inline(always)]
+fn unit_parts(first: u8, second: u8, third: u8) -> (u8, u8)
+    ensures { IsUnitOf first second third (result.0 + 256 * result.1) }
+{
+    let low = second % 4 * 64 + third % 64;
+    let high = first % 16 * 16 + second / 4 % 16;
+    let marked = if first / 16 == 14 { high } else { 0xD8 };
+    if first < 0x80 {
+        (first, 0)
+    } else {
+        (low, marked)
+    }
+}
+
+/// Sixteen bytes from a place on.
+#[inline(always)]
+fn sixteen_at(bytes: &[u8], place: usize) -> [u8; 16]
+    requires { place + 16 ≤ length bytes.now }
+    ensures { result ≡ take 16 (drop place bytes.now) }
+{
+    u8x16::from_slice(&bytes[place..]).to_array()
+}
+
+/// The low bytes and the high ones of the units of sixteen places.
+#[inline(always)]
+fn parts_at(bytes: &[u8], place: usize) -> ([u8; 16], [u8; 16])
+    requires { place + 18 ≤ length bytes.now }
+    ensures low { length result.0 ≡ 16 }
+    ensures high { length result.1 ≡ 16 }
+    ensures units { (k : ℕ) → k < 16 → IsUnitAt bytes.now (place + k)
+        (slice_index result.0 k + 256 * slice_index result.1 k) }
+{
+    let firsts = sixteen_at(bytes, place);
+    let seconds = sixteen_at(bytes, place + 1);
+    let thirds = sixteen_at(bytes, place + 2);
+    let mut lows = [0u8; 16];
+    let mut highs = [0u8; 16];
+    let mut k = 0;
+    while k < 16 {
+        let (low, high) = unit_parts(firsts[k], seconds[k], thirds[k]);
+        lows[k] = low;
+        highs[k] = high;
+        k += 1;
+    }
+    (lows, highs)
+}
+
+/// The units of sixteen low bytes and as many high ones.
+#[inline(always)]
+fn joined(lows: u8x16, highs: u8x16) -> (u16x8, u16x8)
+    ensures front { length result.0 ≡ 8 }
+    ensures back { length result.1 ≡ 8 }
+    ensures first { (k : ℕ) → k < 8 → slice_index result.0 k
+        ≡ slice_index lows k + 256 * slice_index highs k }
+    ensures others { (k : ℕ) → k < 8 → slice_index result.1 k
+        ≡ slice_index lows (8 + k) + 256 * slice_index highs (8 + k) }
+{
+    let (front, back) = lows.interleave(highs);
+    (u16x8::from_le_bytes(front), u16x8::from_le_bytes(back))
+}
+
+/// Puts the units of sixteen places at a place of a list.
+#[inline(always)]
+fn put_units(bytes: &[u8], place: usize, all: &mut [u16], at: usize)
+    requires read { place + 18 ≤ length bytes.now }
+    requires room { at + 16 ≤ length all.old }
+    ensures before { (k : ℕ) → k < at → slice_index all.new k ≡ slice_index all.old k }
+    ensures units { (k : ℕ) → k < 16 → IsUnitAt bytes.now (place + k) (slice_index all.new (at + k)) }
+{
+    let (lows, highs) = parts_at(bytes, place);
+    let (front, back) = joined(u8x16::from_array(lows), u8x16::from_array(highs));
+    front.copy_to_slice(&mut all[at..]);
+    back.copy_to_slice(&mut all[at + 8..]);
+}
+
+/// The units of 32 places, and one more entry that says nothing.
+#[inline(always)]
+fn units_at(bytes: &[u8], place: usize) -> [u16; 33]
+    requires { place + 34 ≤ length bytes.now }
+    ensures { (k : ℕ) → k < 32 → IsUnitAt bytes.now (place + k) (slice_index result k) }
+{
+    let mut all = [0u16; 33];
+    put_units(bytes, place, &mut all, 0);
+    put_units(bytes, place + 16, &mut all, 16);
+    all
+}
+
+/// The places among the next 32 at which scalars begin, as bits.
+#[inline(always)]
+fn starts_at(bytes: &[u8], place: usize) -> u32
+    requires { place + 32 ≤ length bytes.now }
+    ensures { (k : ℕ) → k < 32 → (bit_at result k ≡ 1) ↔ IsStart (slice_index bytes.now (place + k)) }
+{
+    let block = u8x32::from_slice(&bytes[place..]);
+    let past = block.simd_ge(u8x32::splat(0x80)).to_bitmask() as u32;
+    let leads = block.simd_ge(u8x32::splat(0xC0)).to_bitmask() as u32;
+    !past | leads
+}
+
+/// The bits without the lowest of them.
+#[inline(always)]
+fn without_lowest(bits: u32) -> u32
+    ensures none { bits ≡ 0 → result ≡ 0 }
+    ensures lowest { 0 < bits → (k : ℕ) → k ≤ trailing_zeros w32 bits → bit_at result k ≡ 0 }
+    ensures others { 0 < bits → (k : ℕ) → trailing_zeros w32 bits < k → bit_at result k ≡ bit_at bits k }
+{
+    bits & bits.wrapping_sub(1)
+}
+
+/// The next eight scalars of a text as units, with a surrogate in place of each that has two or four bytes, and the
+/// place behind them. `None` where the next 34 bytes do not tell.
+#[inline(always)]
+pub(crate) fn eight_scalars(bytes: &[u8], start: usize) -> Option<([u16; 8], usize)>
+    requires place { start ≤ length bytes.now }
+    requires text { is_utf8 (drop start bytes.now) ≡ true }
+    ensures { MatchOption result ⊤ (λ read. ReadsUnits bytes.now start read.0 read.1) }
+{
+    if bytes.len() - start < 34 {
+        return None;
+    }
+    let all = units_at(bytes, start);
+    let mut bits = starts_at(bytes, start);
+    let mut units = [0u16; 8];
+    let mut k = 0;
+    while k < 8 {
+        units[k] = all[bits.trailing_zeros() as usize];
+        bits = without_lowest(bits);
+        k += 1;
+    }
+    if bits == 0 {
+        return None;
+    }
+    Some((units, start + bits.trailing_zeros() as usize))
+}
