@@ -126,7 +126,7 @@ impl ListedPairs<'_> {
 
     /// Reads scalars in two-byte mode, up to one that wants an escape or has no pair here, and writes their pairs from
     /// the place `start` on. Answers where they end.
-    // By a copy of the cursor, as all runs go.
+    // By a copy of the cursor, as all runs go. A scalar of two-byte mode comes before, as U+3000 is one.
     #[inline]
     fn read_listed<S: Source>(&self, src: &mut S, dst: &mut [u8], start: usize) -> usize
         requires { start ≤ length dst.old }
@@ -138,8 +138,11 @@ impl ListedPairs<'_> {
             ≡ S.passed src.old + total_unit_count S.form (S.left src.old) }
     {
         let mut own = *src;
-        let behind = self.read_eights(&mut own, dst, start);
-        let end = read_pairs(self, &mut own, dst, behind);
+        let mut at = start;
+        if own.has_eights('\u{3000}') {
+            at = self.read_eights(&mut own, dst, at);
+        }
+        let end = read_pairs(self, &mut own, dst, at);
         *src = own;
         end
     }
