@@ -46,13 +46,13 @@ fn list_pairs(tables: &Tables, pairs: &mut [u16])
 
 /// The pairs by these tables, in a list.
 #[derive(Clone, Copy)]
-pub struct ListedPairs<'a> {
+pub struct ListedPairs<'a, 'b> {
     tables: &'a Tables<'a>,
-    pairs: &'a [u16],
+    pairs: &'b [u16],
     ghost right: { ListsPairs tables.now.flat.jis0208 tables.now.flat.katakana pairs.now },
 }
 
-impl ListedPairs<'_> {
+impl ListedPairs<'_, '_> {
     /// The pair of a scalar as one number, the lead in the low byte; 0 where it has none here.
     #[inline(always)]
     fn entry_of(&self, c: char) -> u16
@@ -162,7 +162,7 @@ impl ListedPairs<'_> {
     }
 }
 
-impl Pairs for ListedPairs<'_> {
+impl Pairs for ListedPairs<'_, '_> {
     ghost indexes = { λ p. p.tables.now };
 
     #[inline(always)]
@@ -184,12 +184,12 @@ impl Pairs for ListedPairs<'_> {
 /// behind the last call of a text it is ASCII again, so one after another any number of texts are encoded by it. Copies
 /// of it, each with its mode, encode texts beside each other.
 #[derive(Clone, Copy)]
-pub struct CachedIso2022JpEncoder<'a> {
-    listed: ListedPairs<'a>,
+pub struct CachedIso2022JpEncoder<'a, 'b> {
+    listed: ListedPairs<'a, 'b>,
     mode: Mode,
 }
 
-impl<'a> CachedIso2022JpEncoder<'a> {
+impl<'a, 'b> CachedIso2022JpEncoder<'a, 'b> {
     ghost use Rattle.legacy_japanese.specs.Iso2022JpCached.{cached_state};
 
     /// An encoder that goes on from where this one is and writes what it would, or `None` exactly where the room is
@@ -197,8 +197,8 @@ impl<'a> CachedIso2022JpEncoder<'a> {
     /// stays as it is.
     pub fn new(
         encoder: &Iso2022JpEncoder<'a>,
-        room: &'a mut [u16],
-    ) -> Option<CachedIso2022JpEncoder<'a>>
+        room: &'b mut [u16],
+    ) -> Option<CachedIso2022JpEncoder<'a, 'b>>
         ensures { MatchOption result (length room.old < 65536)
             (λ cached. (65536 ≤ length room.old)
             × (cached_state cached ≡ iso_2022_jp_encoder_state encoder.now)) }
@@ -231,7 +231,7 @@ impl<'a> CachedIso2022JpEncoder<'a> {
     }
 }
 
-impl EncoderMoves for CachedIso2022JpEncoder<'_> {
+impl EncoderMoves for CachedIso2022JpEncoder<'_, '_> {
     ghost use Rattle.legacy_japanese.specs.Iso2022JpCached.{cached_state};
 
     ghost state = { cached_state };
@@ -277,7 +277,7 @@ impl EncoderMoves for CachedIso2022JpEncoder<'_> {
     }
 }
 
-impl RawEncoder for CachedIso2022JpEncoder<'_> {
+impl RawEncoder for CachedIso2022JpEncoder<'_, '_> {
     ghost use Rattle.legacy_japanese.specs.Iso2022JpCached.{cached_state};
 
     ghost state = { cached_state };

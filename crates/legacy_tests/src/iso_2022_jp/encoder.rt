@@ -3,12 +3,12 @@ use crate::encode_events::Wanted::{Bytes, Report};
 use crate::encoder_rows::EncoderRow::{
     Encoder, Encodes, FromUtf8, FromUtf16, Pending, Utf8Length, Utf16Length,
 };
-use crate::encoder_rows::{EncoderRow, TestedEncoder};
-use crate::indexes::{no_entries, no_parts, run};
+use crate::encoder_rows::{EncoderRow, TestedEncoder, follow_encoder};
+use crate::indexes::{no_entries, no_parts, packed_tables_of, run, tables_of};
 use crate::over_tables::{Codec, encode_over_both};
 use legacy_base::EncoderResult::{InputEmpty, OutputFull, Unmappable};
 use legacy_base::{Indexes, Packed, Tables};
-use legacy_encoders::Iso2022JpEncoder;
+use legacy_encoders::{CachedIso2022JpEncoder, Iso2022JpEncoder, PAIR_ROOM};
 use std::process::Abort;
 
 impl<'a> TestedEncoder for Iso2022JpEncoder<'a> {
@@ -21,6 +21,57 @@ impl<'a> TestedEncoder for Iso2022JpEncoder<'a> {
     fn pending(&self) -> Option<bool> {
         Some(self.has_pending_state())
     }
+}
+
+impl<'a, 'b> TestedEncoder for CachedIso2022JpEncoder<'a, 'b> {
+    type Of = CachedIso2022JpEncoder<'a, 'b>;
+
+    fn made(_rt: &impl Abort, of: Self::Of) -> Self {
+        of
+    }
+
+    fn pending(&self) -> Option<bool> {
+        Some(self.has_pending_state())
+    }
+}
+
+/// Follows the rows with an encoder that looks its pairs up ahead, in this room.
+fn encode_ahead(
+    rt: &(impl AllocGlobal + Abort),
+    tables: &Tables,
+    room: &mut [u16],
+    rows: &[EncoderRow],
+) {
+    let encoder = Iso2022JpEncoder::new(tables);
+    match CachedIso2022JpEncoder::new(&encoder, room) {
+        Some(cached) => follow_encoder::<CachedIso2022JpEncoder>(rt, cached, rows),
+        None => panic!(rt; "the room is refused"),
+    }
+}
+
+/// Follows the rows over flat tables of these indexes, over packed ones, and over these with pairs looked up ahead.
+// Over flat tables 65,536 scalars would be searched for.
+fn encode_in_all_ways(
+    rt: &(impl AllocGlobal + Abort),
+    indexes: &Indexes,
+    packed: &Packed,
+    rows: &[EncoderRow],
+) {
+    encode_over_both(rt, Codec::Iso2022Jp, indexes, packed, rows);
+    match vec![in rt.alloc(); 0xFFFF; PAIR_ROOM] {
+        Ok(mut room) => {
+            let tables = packed_tables_of(rt, indexes, packed);
+            encode_ahead(rt, &tables, room.as_mut_slice(), rows);
+        }
+        Err(_) => panic!(rt; "memory"),
+    }
+}
+
+#[test]
+fn takes_no_room_that_is_too_small(rt: HostRuntime) {
+    let tables = tables_of(&rt, &no_entries());
+    let encoder = Iso2022JpEncoder::new(&tables);
+    assert!(rt; CachedIso2022JpEncoder::new(&encoder, &mut [0; 8]).is_none());
 }
 
 const WITHOUT_ENTRIES: &[EncoderRow] = &[
@@ -79,13 +130,7 @@ const WITHOUT_ENTRIES: &[EncoderRow] = &[
 
 #[test]
 fn encodes_without_entries(rt: HostRuntime) {
-    encode_over_both(
-        &rt,
-        Codec::Iso2022Jp,
-        &no_entries(),
-        &no_parts(),
-        WITHOUT_ENTRIES,
-    );
+    encode_in_all_ways(&rt, &no_entries(), &no_parts(), WITHOUT_ENTRIES);
 }
 
 /// The rows with U+58FA at pointer 4861.
@@ -126,6 +171,29 @@ const PAIRS: &[EncoderRow] = &[
     FromUtf16(&[0x58FA], 17, false, InputEmpty, 1, b"\x1B$BTd"),
     FromUtf16(&[0x61], 12, false, InputEmpty, 1, b"\x1B(Ba"),
     FromUtf16(&[0x58FA], 8, true, InputEmpty, 1, b"\x1B$BTd\x1B(B"),
+    Encoder("eight pairs are followed by two, and a letter stands before the last ones"),
+    FromUtf16(
+        &[
+            0x58FA, 0x58FA, 0x58FA, 0x58FA, 0x58FA, 0x58FA, 0x58FA, 0x58FA, 0x58FA, 0x58FA, 0x61,
+            0x58FA, 0x58FA, 0x58FA, 0x58FA, 0x58FA,
+        ],
+        96,
+        true,
+        InputEmpty,
+        16,
+        b"\x1B$BTdTdTdTdTdTdTdTdTdTd\x1B(Ba\x1B$BTdTdTdTdTd\x1B(B",
+    ),
+    Encoder("among eight code units is an unpaired surrogate"),
+    FromUtf16(
+        &[
+            0x58FA, 0x58FA, 0x58FA, 0x58FA, 0x58FA, 0x58FA, 0x58FA, 0xD800, 0x58FA,
+        ],
+        96,
+        true,
+        Unmappable('\u{FFFD}'),
+        8,
+        b"\x1B$BTdTdTdTdTdTdTd\x1B(B",
+    ),
 ];
 
 #[test]
@@ -142,7 +210,7 @@ fn encodes_pairs(rt: HostRuntime) {
         euc_jp_order: &[4861],
         ..no_parts()
     };
-    encode_over_both(&rt, Codec::Iso2022Jp, &indexes, &packed, PAIRS);
+    encode_in_all_ways(&rt, &indexes, &packed, PAIRS);
 }
 
 const KATAKANA: &[EncoderRow] = &[
@@ -180,5 +248,5 @@ fn encodes_katakana(rt: HostRuntime) {
         euc_jp_order: &[2],
         ..no_parts()
     };
-    encode_over_both(&rt, Codec::Iso2022Jp, &indexes, &packed, KATAKANA);
+    encode_in_all_ways(&rt, &indexes, &packed, KATAKANA);
 }
