@@ -94,16 +94,16 @@ impl<'a, 'b> TestedEncoder for CachedEncoder<'a, EucKrEncoder<'b>> {
     }
 }
 
-/// The rows with the first four scalars of the standard's index, and no other scalar.
+/// The rows with the first sixteen scalars of the standard's index, and no other scalar.
 const WORDS: &[EncoderRow] = &[
     Encoder("words with spaces between them"),
     FromUtf8(
-        "a\u{AC02}\u{AC03} \u{AC05}\u{AC06}\u{AC02} \u{AC03}\u{AC05}, \u{AC06}\u{AC02}\u{AC03}\u{AC05}. \u{AC02}\u{AC06} x",
+        "a\u{AC02}\u{AC05} \u{AC22}\u{AC25}\u{AC02} \u{AC05}\u{AC22}, \u{AC25}\u{AC02}\u{AC05}\u{AC22}. \u{AC02}\u{AC25} x",
         96,
         true,
         InputEmpty,
         48,
-        b"a\x81A\x81B \x81C\x81D\x81A \x81B\x81C, \x81D\x81A\x81B\x81C. \x81A\x81D x",
+        b"a\x81A\x81C \x81N\x81P\x81A \x81C\x81N, \x81P\x81A\x81C\x81N. \x81A\x81P x",
     ),
     FromUtf8(
         "\u{AC02} \u{AC02} \u{AC02} \u{AC02} \u{AC02} \u{AC02} \u{AC02} \u{AC02} \u{AC02} \u{AC02} \u{AC02} \u{AC02} ",
@@ -115,87 +115,85 @@ const WORDS: &[EncoderRow] = &[
     ),
     Encoder("letters alone behind a space"),
     FromUtf8(
-        " \u{AC02}\u{AC03}\u{AC05}\u{AC06}\u{AC02}\u{AC03}\u{AC05}\u{AC06}\u{AC02}\u{AC03}\u{AC05}\u{AC06}\u{AC02}\u{AC03}\u{AC05}\u{AC06}",
+        " \u{AC02}\u{AC05}\u{AC22}\u{AC25}\u{AC02}\u{AC05}\u{AC22}\u{AC25}\u{AC02}\u{AC05}\u{AC22}\u{AC25}\u{AC02}\u{AC05}\u{AC22}\u{AC25}",
         96,
         true,
         InputEmpty,
         49,
-        b" \x81A\x81B\x81C\x81D\x81A\x81B\x81C\x81D\x81A\x81B\x81C\x81D\x81A\x81B\x81C\x81D",
+        b" \x81A\x81C\x81N\x81P\x81A\x81C\x81N\x81P\x81A\x81C\x81N\x81P\x81A\x81C\x81N\x81P",
     ),
-    Encoder(
-        "what has no bytes, or another number of bytes of UTF-8, among eight scalars behind a space",
-    ),
+    Encoder("what has no bytes, or another number of bytes of UTF-8, among eight scalars behind a space"),
     FromUtf8(
-        " \u{AC02}\u{AC03}\u{AC05}\u{AC04}\u{AC02}\u{AC03} \u{AC05}\u{AC06}\u{AC02} \u{AC03}\u{AC05}, \u{AC06}\u{AC02}\u{AC03}\u{AC05}. \u{AC02}\u{AC06} x",
+        " \u{AC02}\u{AC05}\u{AC22}\u{AC04}\u{AC02}\u{AC05} \u{AC22}\u{AC25}\u{AC02} \u{AC05}\u{AC22}, \u{AC25}\u{AC02}\u{AC05}\u{AC22}. \u{AC02}\u{AC25} x",
         96,
         true,
         Unmappable('\u{AC04}'),
         13,
-        b" \x81A\x81B\x81C",
+        b" \x81A\x81C\x81N",
     ),
     FromUtf8(
-        " \u{AC02}\u{AC03}\u{AC05}\u{E9}\u{AC02}\u{AC03} \u{AC05}\u{AC06}\u{AC02} \u{AC03}\u{AC05}, \u{AC06}\u{AC02}\u{AC03}\u{AC05}. \u{AC02}\u{AC06} x",
+        " \u{AC02}\u{AC05}\u{AC22}\u{E9}\u{AC02}\u{AC05} \u{AC22}\u{AC25}\u{AC02} \u{AC05}\u{AC22}, \u{AC25}\u{AC02}\u{AC05}\u{AC22}. \u{AC02}\u{AC25} x",
         96,
         true,
         Unmappable('\u{E9}'),
         12,
-        b" \x81A\x81B\x81C",
+        b" \x81A\x81C\x81N",
     ),
     FromUtf8(
-        " \u{AC02}\u{AC03} \u{AC05}\u{AC06}\u{AC02}\u{AC03}\u{1F4A9}\u{AC02}\u{AC03} \u{AC05}\u{AC06}\u{AC02} \u{AC03}\u{AC05}, \u{AC06}\u{AC02}\u{AC03}\u{AC05}. \u{AC02}\u{AC06} x",
+        " \u{AC02}\u{AC05} \u{AC22}\u{AC25}\u{AC02}\u{AC05}\u{1F4A9}\u{AC02}\u{AC05} \u{AC22}\u{AC25}\u{AC02} \u{AC05}\u{AC22}, \u{AC25}\u{AC02}\u{AC05}\u{AC22}. \u{AC02}\u{AC25} x",
         96,
         true,
         Unmappable('\u{1F4A9}'),
         24,
-        b" \x81A\x81B \x81C\x81D\x81A\x81B",
+        b" \x81A\x81C \x81N\x81P\x81A\x81C",
     ),
     Encoder("a text that ends within eight scalars, or some bytes behind them"),
     FromUtf8(
-        " \u{AC02}\u{AC03}\u{AC05} \u{AC02}\u{AC03}\u{AC05} \u{AC02}\u{AC03}\u{AC05} \u{AC02}",
+        " \u{AC02}\u{AC05}\u{AC22} \u{AC02}\u{AC05}\u{AC22} \u{AC02}\u{AC05}\u{AC22} \u{AC02}",
         96,
         true,
         InputEmpty,
         34,
-        b" \x81A\x81B\x81C \x81A\x81B\x81C \x81A\x81B\x81C \x81A",
+        b" \x81A\x81C\x81N \x81A\x81C\x81N \x81A\x81C\x81N \x81A",
     ),
     FromUtf8(
-        " \u{AC02}\u{AC03}\u{AC05} \u{AC02}\u{AC03}\u{AC05} \u{AC02}\u{AC03}\u{AC05} \u{AC02} ",
+        " \u{AC02}\u{AC05}\u{AC22} \u{AC02}\u{AC05}\u{AC22} \u{AC02}\u{AC05}\u{AC22} \u{AC02} ",
         96,
         true,
         InputEmpty,
         35,
-        b" \x81A\x81B\x81C \x81A\x81B\x81C \x81A\x81B\x81C \x81A ",
+        b" \x81A\x81C\x81N \x81A\x81C\x81N \x81A\x81C\x81N \x81A ",
     ),
     FromUtf8(
-        " \u{AC02}\u{AC03}\u{AC05} \u{AC02}\u{AC03}\u{AC05} \u{AC02}\u{AC03}\u{AC05} \u{AC02}  ",
+        " \u{AC02}\u{AC05}\u{AC22} \u{AC02}\u{AC05}\u{AC22} \u{AC02}\u{AC05}\u{AC22} \u{AC02}  ",
         96,
         true,
         InputEmpty,
         36,
-        b" \x81A\x81B\x81C \x81A\x81B\x81C \x81A\x81B\x81C \x81A  ",
+        b" \x81A\x81C\x81N \x81A\x81C\x81N \x81A\x81C\x81N \x81A  ",
     ),
     FromUtf8(
-        " \u{AC02}\u{AC03}\u{AC05} \u{AC02}\u{AC03}\u{AC05} \u{AC02}\u{AC03}\u{AC05} \u{AC02}\u{AC03}",
+        " \u{AC02}\u{AC05}\u{AC22} \u{AC02}\u{AC05}\u{AC22} \u{AC02}\u{AC05}\u{AC22} \u{AC02}\u{AC05}",
         96,
         true,
         InputEmpty,
         37,
-        b" \x81A\x81B\x81C \x81A\x81B\x81C \x81A\x81B\x81C \x81A\x81B",
+        b" \x81A\x81C\x81N \x81A\x81C\x81N \x81A\x81C\x81N \x81A\x81C",
     ),
     FromUtf8(
-        " \u{AC02}\u{AC03}\u{AC05}\u{AC06}\u{AC02}\u{AC03}\u{AC05}\u{AC06}\u{AC02}\u{AC03}\u{AC05}\u{AC06}",
+        " \u{AC02}\u{AC05}\u{AC22}\u{AC25}\u{AC02}\u{AC05}\u{AC22}\u{AC25}\u{AC02}\u{AC05}\u{AC22}\u{AC25}",
         96,
         true,
         InputEmpty,
         37,
-        b" \x81A\x81B\x81C\x81D\x81A\x81B\x81C\x81D\x81A\x81B\x81C\x81D",
+        b" \x81A\x81C\x81N\x81P\x81A\x81C\x81N\x81P\x81A\x81C\x81N\x81P",
     ),
 ];
 
 /// Follows the rows with an encoder that looks its pairs up ahead, in this room.
 fn encode_ahead(rt: &(impl AllocGlobal + Abort), room: &mut [u16], rows: &[EncoderRow]) {
     let indexes = Indexes {
-        euc_kr: &[0xAC02, 0xAC03, 0xAC05, 0xAC06],
+        euc_kr: &[0xAC02, 0xAC03, 0xAC05, 0xAC06, 0xAC0B, 0xAC0C, 0xAC0D, 0xAC0E, 0xAC0F, 0xAC18, 0xAC1E, 0xAC1F, 0xAC21, 0xAC22, 0xAC23, 0xAC25],
         ..no_entries()
     };
     let tables = tables_of(rt, &indexes);
