@@ -8,15 +8,15 @@ use Rattle.std.proofs.Math.ListN.{get_or-map}
 use Rattle.std.proofs.Math.Nat.{mod-lt, pow-suc}
 use Rattle.std.proofs.lemmas.Bool.{cases_lt, leb-true, leb-false}
 use Rattle.std.proofs.lemmas.List.{get_or-set_same, get_or-set_other, get_or_past, length-drop, get_or_append_left, get_or-append-add, get_or-drop, get_or-take, length-map}
-use Rattle.std.proofs.lemmas.Nat.{pow_pos}
+use Rattle.std.proofs.lemmas.Nat.{pow_pos, and_mask}
 use Rattle.std.proofs.lemmas.Nat.Bits.{bit_at-trailing_zeros, bit_at-pow_same, bit_at-pow_other, bit_at_and, bit_at_or, bit_at_not, bit_at_ones_above, bit_at_cat_low, bit_at_cat_high, same_from_bits_below, bit_at-lt}
-use Rattle.std.proofs.lemmas.Simd.{bit_mask_l, tops_compared, mask_l-mod, mask_l-lt, get_or_wider, Each1-from_get_or, Each1-get_or, below_from_Fits, get_or-put_chunk_below, get_or-put_chunk_at, length-put_chunk}
+use Rattle.std.proofs.lemmas.Simd.{bit_mask_l, tops_compared, mask_l-mod, mask_l-lt, get_or_wider, Each1-from_get_or, Each1-get_or, below_from_Fits, get_or-put_chunk_below, get_or-put_chunk_at, length-put_chunk, get_or-zip2, get_or-replicate}
 use Rattle.std.proofs.lemmas.Str.{length-encode, len_utf8_bounds}
 use lib.Utf8.{encode}
 use Rattle.legacy_text.specs.EncodingForm.{Utf8, code_units, unit_count, total_unit_count}
 use Rattle.legacy_text.specs.NextScalars.{StandsAt}
 use Rattle.legacy_text.specs.ShortScalars.{ReadsScalar}
-use Rattle.legacy_text.specs.ScalarTurns.{IsStart, IsUnitAt, ReadsUnits}
+use Rattle.legacy_text.specs.ScalarTurns.{IsStart, IsUnitOf, IsUnitAt, ReadsUnits}
 use Rattle.legacy_text.specs.UnitCodes.{IsNoSurrogate}
 use Rattle.legacy_text.specs.UnitTurns.{AreLone}
 use Rattle.legacy_text.proofs.Ascii.{splat_zip2}
@@ -151,6 +151,19 @@ filled P lows highs k low high a b before here j h = elim (cases_lt j k) [
 -- a byte of sixteen
 pub sixteenth : (bytes : List ℕ) (place k : ℕ) → k < 16 → get_or (take 16 (drop place bytes)) k 0 ≡ get_or bytes (place + k) 0
 sixteenth bytes place k h = get_or-take 16 (drop place bytes) k 0 h ∙ get_or-drop place bytes k 0
+
+-- the low six bits of sixteen bytes
+pub tails_is : (v : List ℕ) → length v ≡ 16 → (k : ℕ) → k < 16 → get_or (zip2 bit_and v (replicate 16 63)) k 0 ≡ get_or v k 0 % 64
+tails_is v long k h =
+    let count : length (replicate {A = ℕ} 16 63) ≡ 16 = refl in
+    get_or-zip2 bit_and v (replicate 16 63) k 0 0 0 (omega (arith, long)) (omega (arith, count)) ∙ ap (λ b. bit_and (get_or v k 0) b) (get_or-replicate 16 k 63 0 h) ∙ and_mask (get_or v k 0) 6
+
+-- a unit is made of them
+pub of_tails : (first second third unit : ℕ) → IsUnitOf first (second % 64) (third % 64) unit → IsUnitOf first second third unit
+of_tails first second third unit made lone = elim (made lone) [
+  | inl one ↦ inl one
+  | inr three ↦ inr (three.0, three.1, omega (arith, three.2))
+]
 
 -- the lanes of a vector of bytes
 pub below_256 : (v : List ℕ) → Each1 (Fits w8) v → (i : ℕ) → get_or v i 0 < 256

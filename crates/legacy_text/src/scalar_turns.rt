@@ -2,7 +2,7 @@
 //! and bits tell where scalars do.
 // In text with spaces no pattern tells where a scalar of one byte comes: so none is looked for. Inlined always is what
 // runs for each turn: a call would pass vectors through memory.
-ghost use Rattle.std.specs.Prelude.{◌≡◌, ◌↔◌, ℕ, ◌+◌, ◌*◌, ◌^◌, ◌<◌, ◌≤◌, length, take, drop, true, slice_index, MatchOption, ⊤};
+ghost use Rattle.std.specs.Prelude.{◌≡◌, ◌↔◌, ℕ, ◌+◌, ◌*◌, ◌%◌, ◌^◌, ◌<◌, ◌≤◌, length, take, drop, true, slice_index, MatchOption, ⊤};
 ghost use Rattle.std.specs.Int.{bit_at, trailing_zeros, w32};
 ghost use Rattle.std.specs.Str.{is_utf8};
 ghost use Rattle.legacy_text.specs.ScalarTurns.{IsStart, IsUnitOf, IsUnitAt, ReadsUnits};
@@ -33,6 +33,16 @@ fn sixteen_at(bytes: &[u8], place: usize) -> [u8; 16]
     u8x16::from_slice(&bytes[place..]).to_array()
 }
 
+/// What sixteen bytes from a place on hold of a scalar that they go on with: their low six bits.
+// By a vector operation: of bytes that overlap with others and are loaded as they are, the compiler makes single loads.
+#[inline(always)]
+fn tails_at(bytes: &[u8], place: usize) -> [u8; 16]
+    requires { place + 16 ≤ length bytes.now }
+    ensures { (k : ℕ) → k < 16 → slice_index result k ≡ slice_index bytes.now (place + k) % 64 }
+{
+    (u8x16::from_slice(&bytes[place..]) & u8x16::splat(0x3F)).to_array()
+}
+
 /// The low bytes and the high ones of the units of sixteen places.
 #[inline(always)]
 fn parts_at(bytes: &[u8], place: usize) -> ([u8; 16], [u8; 16])
@@ -43,8 +53,8 @@ fn parts_at(bytes: &[u8], place: usize) -> ([u8; 16], [u8; 16])
         (slice_index result.0 k + 256 * slice_index result.1 k) }
 {
     let firsts = sixteen_at(bytes, place);
-    let seconds = sixteen_at(bytes, place + 1);
-    let thirds = sixteen_at(bytes, place + 2);
+    let seconds = tails_at(bytes, place + 1);
+    let thirds = tails_at(bytes, place + 2);
     let mut lows = [0u8; 16];
     let mut highs = [0u8; 16];
     let mut k = 0;

@@ -1,7 +1,7 @@
-use Rattle.std.proofs.Common.{◌≡◌, ◌∙◌, ◌+◌, ◌*◌, ◌<◌, get_or, ap, arith}
+use Rattle.std.proofs.Common.{◌≡◌, ◌∙◌, ◌+◌, ◌*◌, ◌%◌, ◌<◌, get_or, ap, arith}
 use Rattle.std.proofs.lemmas.List.{length-set}
 use Rattle.legacy_text.specs.ScalarTurns.{IsUnitAt}
-use Rattle.legacy_text.proofs.ScalarTurns.{filled, sixteenth}
+use Rattle.legacy_text.proofs.ScalarTurns.{filled, of_tails, sixteenth}
 use Rattle.legacy_text.proofs.scalar_turns.parts_at.Goals as goal
 
 pub loop-k-preserved : goal.loop-k-preserved
@@ -14,12 +14,12 @@ loop-k-preserved c =
     let second : place + 1 + k ≡ place + k + 1 = omega arith in
     let third : place + 2 + k ≡ place + k + 2 = omega arith in
     let first_is : get_or c.sixteen_at-firsts.result k 0 ≡ get_or bytes (place + k) 0 = ap (λ l. get_or l k 0) c.sixteen_at-firsts.ensures ∙ sixteenth bytes place k within in
-    let second_is : get_or c.sixteen_at-seconds.result k 0 ≡ get_or bytes (place + k + 1) 0 =
-    ap (λ l. get_or l k 0) c.sixteen_at-seconds.ensures ∙ sixteenth bytes (place + 1) k within ∙ ap (λ n. get_or bytes n 0) second in
-    let third_is : get_or c.sixteen_at-thirds.result k 0 ≡ get_or bytes (place + k + 2) 0 =
-    ap (λ l. get_or l k 0) c.sixteen_at-thirds.ensures ∙ sixteenth bytes (place + 2) k within ∙ ap (λ n. get_or bytes n 0) third in
+    let second_is : get_or c.tails_at-seconds.result k 0 ≡ get_or bytes (place + k + 1) 0 % 64 = c.tails_at-seconds.ensures k within ∙ ap (λ n. get_or bytes n 0 % 64) second in
+    let third_is : get_or c.tails_at-thirds.result k 0 ≡ get_or bytes (place + k + 2) 0 % 64 = c.tails_at-thirds.ensures k within ∙ ap (λ n. get_or bytes n 0 % 64) third in
     let r = c.unit_parts-low.result in
-    let here : IsUnitAt bytes (place + k) (r.0 + 256 * r.1) = rw (← first_is, ← second_is, ← third_is) c.unit_parts-low.ensures in (
+    let here : IsUnitAt bytes (place + k) (r.0 + 256 * r.1) =
+    of_tails (get_or bytes (place + k) 0) (get_or bytes (place + k + 1) 0) (get_or bytes (place + k + 2) 0) (r.0 + 256 * r.1)
+    (rw (← first_is, ← second_is, ← third_is) c.unit_parts-low.ensures) in (
       omega (arith, within),
       length-set c.loop-k.lows k r.0 ∙ i.1,
       length-set c.loop-k.highs k r.1 ∙ i.2,
