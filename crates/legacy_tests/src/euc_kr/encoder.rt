@@ -122,7 +122,9 @@ const WORDS: &[EncoderRow] = &[
         49,
         b" \x81A\x81C\x81N\x81P\x81A\x81C\x81N\x81P\x81A\x81C\x81N\x81P\x81A\x81C\x81N\x81P",
     ),
-    Encoder("what has no bytes, or another number of bytes of UTF-8, among eight scalars behind a space"),
+    Encoder(
+        "what has no bytes, or another number of bytes of UTF-8, among eight scalars behind a space",
+    ),
     FromUtf8(
         " \u{AC02}\u{AC05}\u{AC22}\u{AC04}\u{AC02}\u{AC05} \u{AC22}\u{AC25}\u{AC02} \u{AC05}\u{AC22}, \u{AC25}\u{AC02}\u{AC05}\u{AC22}. \u{AC02}\u{AC25} x",
         96,
@@ -193,7 +195,10 @@ const WORDS: &[EncoderRow] = &[
 /// Follows the rows with an encoder that looks its pairs up ahead, in this room.
 fn encode_ahead(rt: &(impl AllocGlobal + Abort), room: &mut [u16], rows: &[EncoderRow]) {
     let indexes = Indexes {
-        euc_kr: &[0xAC02, 0xAC03, 0xAC05, 0xAC06, 0xAC0B, 0xAC0C, 0xAC0D, 0xAC0E, 0xAC0F, 0xAC18, 0xAC1E, 0xAC1F, 0xAC21, 0xAC22, 0xAC23, 0xAC25],
+        euc_kr: &[
+            0xAC02, 0xAC03, 0xAC05, 0xAC06, 0xAC0B, 0xAC0C, 0xAC0D, 0xAC0E, 0xAC0F, 0xAC18, 0xAC1E,
+            0xAC1F, 0xAC21, 0xAC22, 0xAC23, 0xAC25,
+        ],
         ..no_entries()
     };
     let tables = tables_of(rt, &indexes);
