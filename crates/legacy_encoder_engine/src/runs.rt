@@ -259,10 +259,10 @@ fn read_scalars<C: PlainCodes, S: Source>(
                 let Some(end) = put_code(encoder, dst, at, c) else {
                     return at;
                 };
-                let is_short = end <= at + 2;
+                let may_turn = end == at + 2 || widest <= 2;
                 at = end;
                 src.pass(1);
-                if by_turns && is_short && src.has_eights(c) {
+                if by_turns && may_turn && src.has_eights(c) {
                     let behind = read_eights(encoder, src, dst, at);
                     by_turns = behind > at;
                     at = behind;

@@ -84,14 +84,11 @@ rising_ends place before limit (run ∷ runs) e zero (suc j) d h l =
 rising_ends place before limit (run ∷ runs) e (suc i) (suc j) d h l =
     rising_ends (place + 1) (run_end run) limit runs (taken _ place (run_fault_from (place + 1) (run_end run) limit runs) e).1 i j d (less i j h) (less j (length runs) l)
 
-at_most : (a b c : ℕ) → a ≤ b → b ≤ c → a ≤ c
-at_most a b c h l = omega arith
-
 -- runs without a fault are in order
-pub are_in_order : (limit : ℕ) (runs : List Run) → limit ≤ 23940 → run_fault limit runs ≡ None → AreInOrder runs
-are_in_order limit runs small e = record {
+pub are_in_order : (limit : ℕ) (runs : List Run) → run_fault limit runs ≡ None → AreInOrder limit runs
+are_in_order limit runs e = record {
   full = λ i d h. (behind_all 0 0 limit runs e i d h).full;
-  reach = λ i d h. at_most (run_end (get_or runs i d)) limit 23940 (behind_all 0 0 limit runs e i d h).reach small;
+  reach = λ i d h. (behind_all 0 0 limit runs e i d h).reach;
   scalars = λ i d h. (behind_all 0 0 limit runs e i d h).scalars;
   rising = rising_ends 0 0 limit runs e;
 }
@@ -102,7 +99,7 @@ run-reach limit runs e i d h = (behind_all 0 0 limit runs e i d h).reach
 
 -- ---- how many runs there are
 
-module _ (runs : List Run) (ordered : AreInOrder runs) where
+module _ {limit : ℕ} (small : limit ≤ 23940) (runs : List Run) (ordered : AreInOrder limit runs) where
   starts_below : (i j : ℕ) → i < j → j < length runs → (get_or runs i no_run).pointer < (get_or runs j no_run).pointer
   starts_below i j h l =
       let within : i < length runs = omega arith in
@@ -118,7 +115,7 @@ module _ (runs : List Run) (ordered : AreInOrder runs) where
       let next = starts_below i (suc i) (omega arith) h in
       omega arith
 
-  few_runs : (n : ℕ) → n ≡ length runs → length runs < 65536
+  few_runs : (n : ℕ) → n ≡ length runs → length runs < 65535
   few_runs zero e = omega arith
   few_runs (suc n) e =
       let within : n < length runs = omega arith in
@@ -127,7 +124,7 @@ module _ (runs : List Run) (ordered : AreInOrder runs) where
       let reach = ordered.reach n no_run within in
       omega arith
 
-  pub runs-few : length runs < 65536
+  pub runs-few : length runs < 65535
   runs-few = few_runs (length runs) refl
 
 -- ---- what runs give a pointer
@@ -159,7 +156,7 @@ scalar-some (run ∷ runs) p (suc n) c h is before =
     let here : run_scalar run p ≡ None = before 0 (omega arith) in
     rw here (scalar-some runs p n c (less n (length runs) h) is (λ k l. before (suc k) (omega arith)))
 
-module _ (runs : List Run) (ordered : AreInOrder runs) (p : ℕ) where
+module _ {limit : ℕ} (runs : List Run) (ordered : AreInOrder limit runs) (p : ℕ) where
   -- a pointer behind the last run
   pub scalar-behind : (n : ℕ) → n + 1 ≡ length runs → run_end (get_or runs n no_run) ≤ p → runs_scalar runs p ≡ None
   scalar-behind n last h = scalar-none runs p (λ k l. elim (cases_lt k n) [
@@ -167,8 +164,8 @@ module _ (runs : List Run) (ordered : AreInOrder runs) (p : ℕ) where
     | inr m ↦ let same : k ≡ n = omega arith in rw same (outside-behind (get_or runs n no_run) p h)
   ])
 
-  -- a pointer past all that any index has
-  pub scalar-past : 23940 ≤ p → runs_scalar runs p ≡ None
+  -- a pointer past all that the index has
+  pub scalar-past : limit ≤ p → runs_scalar runs p ≡ None
   scalar-past h = scalar-none runs p (λ k l. let r = ordered.reach k no_run l in outside-behind (get_or runs k no_run) p (omega arith))
 
 -- where neither runs nor an index have a pointer, they do not differ

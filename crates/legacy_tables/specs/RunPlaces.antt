@@ -1,6 +1,6 @@
--- The places of runs by the pointers that they have: for each 128 pointers how many runs end at or
--- before the first of them, and for each pointer a byte more, or 255 where no run has it.
-use Rattle.std.specs.Prelude.{◌≡◌, ◌≢◌, ℕ, ◌+◌, ◌/◌, ◌≤◌, ◌<◌, ◌==◌, List, Option, Some, None}
+-- The places of runs by the pointers that they have: for each pointer the place of the run that has it, or 65535 where
+-- no run does.
+use Rattle.std.specs.Prelude.{◌≡◌, ◌≢◌, ℕ, ◌≤◌, ◌<◌, ◌==◌, List, Option, Some, None}
 use Rattle.std.specs.Prelude.{if◌then◌else◌, length, slice_index, slice_index_or}
 use Rattle.legacy_tables.specs.declared.tables.packed.Run.{Run}
 use Rattle.legacy_tables.specs.Runs.{run_end, runs_scalar}
@@ -21,19 +21,15 @@ pub record HasPointer (runs : List Run) (n p : ℕ) : Type 0 where
   pub from : (run_at runs n).pointer ≤ p
   pub before : p < run_end (run_at runs n)
 
--- a byte tells pointer p's run over a place
-pub record IsOver (runs : List Run) (first over p : ℕ) : Type 0 where
-  pub some : over ≢ 255 → HasPointer runs (first + over) p
-  pub none : over ≡ 255 → runs_scalar runs p ≡ None
+-- a number tells pointer p's run
+pub record IsPlaceOf (runs : List Run) (place p : ℕ) : Type 0 where
+  pub some : place ≢ 65535 → HasPointer runs place p
+  pub none : place ≡ 65535 → runs_scalar runs p ≡ None
 
 -- the place that is told for pointer p
-abbrev pub told_place : List ℕ → List ℕ → ℕ → Option ℕ
-told_place firsts overs p =
-    if slice_index overs p == 255
-    then None
-    else Some (slice_index firsts (p / 128) + slice_index overs p)
+abbrev pub told_place : List ℕ → ℕ → Option ℕ
+told_place places p = if slice_index places p == 65535 then None else Some (slice_index places p)
 
--- for each pointer its run is told
-pub record ArePlacesOf (firsts overs : List ℕ) (runs : List Run) : Type 0 where
-  pub told : (p : ℕ) → p < 24000 →
-      IsOver runs (slice_index firsts (p / 128)) (slice_index overs p) p
+-- for each pointer below a limit its run is told
+pub record ArePlacesOf (limit : ℕ) (places : List ℕ) (runs : List Run) : Type 0 where
+  pub told : (p : ℕ) → p < limit → IsPlaceOf runs (slice_index places p) p

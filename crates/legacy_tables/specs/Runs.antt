@@ -53,10 +53,10 @@ run_fault_from place before limit (run ∷ runs) =
 abbrev pub run_fault : ℕ → List Run → Option ℕ
 run_fault limit runs = run_fault_from 0 0 limit runs
 
--- runs in order, one by one
-pub record AreInOrder (runs : List Run) : Type 0 where
+-- runs in order and within a limit, one by one
+pub record AreInOrder (limit : ℕ) (runs : List Run) : Type 0 where
   pub full : (i : ℕ) (d : Run) → i < length runs → 0 < (slice_index_or runs i d).length
-  pub reach : (i : ℕ) (d : Run) → i < length runs → run_end (slice_index_or runs i d) ≤ 23940
+  pub reach : (i : ℕ) (d : Run) → i < length runs → run_end (slice_index_or runs i d) ≤ limit
   pub scalars : (i : ℕ) (d : Run) → i < length runs →
       (slice_index_or runs i d).scalar + (slice_index_or runs i d).length ≤ 0x11_0000
   pub rising : (i j : ℕ) (d : Run) → i < j → j < length runs →

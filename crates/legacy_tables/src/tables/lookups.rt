@@ -51,7 +51,10 @@ pub(crate) fn narrow_entry(index: &[u16], pointer: usize) -> Option<char>
 
 /// The scalar of a pointer in an index that is kept as runs.
 #[inline]
-pub(super) fn run_scalar(runs: &Runs<'_>, pointer: usize) -> Option<char>
+pub(super) fn run_scalar<const POINTERS: usize>(
+    runs: &Runs<'_, POINTERS>,
+    pointer: usize,
+) -> Option<char>
     requires { AreScalars (runs_list runs.now.runs.now) }
     ensures { result ≡ idx (runs_list runs.now.runs.now) pointer }
 {
@@ -61,7 +64,10 @@ pub(super) fn run_scalar(runs: &Runs<'_>, pointer: usize) -> Option<char>
 /// The scalar of a pointer in an index of narrow entries that is kept as runs.
 // It is made as a number of 16 bits, as that of a range is.
 #[inline]
-pub(super) fn narrow_run_scalar(runs: &Runs<'_>, pointer: usize) -> Option<char>
+pub(super) fn narrow_run_scalar<const POINTERS: usize>(
+    runs: &Runs<'_, POINTERS>,
+    pointer: usize,
+) -> Option<char>
     requires scalars { AreScalars (runs_list runs.now.runs.now) }
     requires narrow { (p : ℕ) → slice_index (runs_list runs.now.runs.now) p < 0x1_0000 }
     ensures { result ≡ idx (runs_list runs.now.runs.now) pointer }

@@ -70,7 +70,11 @@ fn flat_scalar<N: Numbers>(index: &N, pointer: usize) -> Option<usize>
 }
 
 /// Whether the runs give a pointer another answer than the flat index.
-fn differs<N: Numbers>(runs: &Runs, index: &N, pointer: usize) -> bool
+fn differs<N: Numbers, const POINTERS: usize>(
+    runs: &Runs<'_, POINTERS>,
+    index: &N,
+    pointer: usize,
+) -> bool
     ensures { result ≡ differs_at runs.now.runs.now (N.numbers index.now) pointer }
 {
     match (flat_scalar(index, pointer), runs.scalar(pointer)) {
@@ -81,7 +85,11 @@ fn differs<N: Numbers>(runs: &Runs, index: &N, pointer: usize) -> bool
 }
 
 /// The least pointer below the limit at which the runs give another answer than the flat index.
-fn first_difference<N: Numbers>(limit: usize, runs: &Runs, index: &N) -> Option<usize>
+fn first_difference<N: Numbers, const POINTERS: usize>(
+    limit: usize,
+    runs: &Runs<'_, POINTERS>,
+    index: &N,
+) -> Option<usize>
     ensures { result ≡ run_difference limit runs.now.runs.now (N.numbers index.now) }
 {
     let end = index.count().max(runs.end()).min(limit);
@@ -94,23 +102,22 @@ fn first_difference<N: Numbers>(limit: usize, runs: &Runs, index: &N) -> Option<
 }
 
 /// Runs that are in order and give what the flat index does.
-pub(super) fn runs_of<'a, N: Numbers>(
+pub(super) fn runs_of<'a, N: Numbers, const POINTERS: usize>(
     part: PackedPart,
-    limit: usize,
     runs: &'a [Run],
     index: &N,
-) -> Result<Runs<'a>, TableError>
-    requires { limit ≤ 23940 }
-    ensures { let found = runs_fault part limit runs.now (N.numbers index.now) in
+) -> Result<Runs<'a, POINTERS>, TableError>
+    requires { POINTERS ≤ 23940 }
+    ensures { let found = runs_fault part POINTERS runs.now (N.numbers index.now) in
         MatchResult result
         (λ r. (r.runs.now ≡ runs.now) × (found ≡ None))
         (λ fault. found ≡ Some fault) }
 {
-    if let Some(at) = first_out_of_order(limit, runs) {
+    if let Some(at) = first_out_of_order(POINTERS, runs) {
         return Err(TableError::PackedOrder(part, at));
     }
-    let checked = Runs::new(limit, runs);
-    match first_difference(limit, &checked, index) {
+    let checked = Runs::new(runs);
+    match first_difference(POINTERS, &checked, index) {
         Some(at) => Err(TableError::PackedDiffers(part, at)),
         None => Ok(checked),
     }
@@ -119,11 +126,11 @@ pub(super) fn runs_of<'a, N: Numbers>(
 /// The runs of the five indexes.
 #[derive(Drop)]
 pub(super) struct AllRuns<'a> {
-    pub(super) big5: Runs<'a>,
-    pub(super) euc_kr: Runs<'a>,
-    pub(super) jis0208: Runs<'a>,
-    pub(super) jis0212: Runs<'a>,
-    pub(super) gb18030: Runs<'a>,
+    pub(super) big5: Runs<'a, 19782>,
+    pub(super) euc_kr: Runs<'a, 23940>,
+    pub(super) jis0208: Runs<'a, 11280>,
+    pub(super) jis0212: Runs<'a, 8836>,
+    pub(super) gb18030: Runs<'a, 23940>,
 }
 
 /// The runs of the five indexes, in order and giving what the flat indexes do.
@@ -140,23 +147,23 @@ pub(super) fn all_runs_of<'a>(
     let wide = Wide {
         entries: indexes.big5,
     };
-    let big5 = runs_of(PackedPart::Big5, 19782, packed.big5, &wide)?;
+    let big5 = runs_of(PackedPart::Big5, packed.big5, &wide)?;
     let narrow = Narrow {
         entries: indexes.euc_kr,
     };
-    let euc_kr = runs_of(PackedPart::EucKr, 23940, packed.euc_kr, &narrow)?;
+    let euc_kr = runs_of(PackedPart::EucKr, packed.euc_kr, &narrow)?;
     let narrow = Narrow {
         entries: indexes.jis0208,
     };
-    let jis0208 = runs_of(PackedPart::Jis0208, 11280, packed.jis0208, &narrow)?;
+    let jis0208 = runs_of(PackedPart::Jis0208, packed.jis0208, &narrow)?;
     let narrow = Narrow {
         entries: indexes.jis0212,
     };
-    let jis0212 = runs_of(PackedPart::Jis0212, 8836, packed.jis0212, &narrow)?;
+    let jis0212 = runs_of(PackedPart::Jis0212, packed.jis0212, &narrow)?;
     let narrow = Narrow {
         entries: indexes.gb18030,
     };
-    let gb18030 = runs_of(PackedPart::Gb18030, 23940, packed.gb18030, &narrow)?;
+    let gb18030 = runs_of(PackedPart::Gb18030, packed.gb18030, &narrow)?;
     Ok(AllRuns {
         big5,
         euc_kr,

@@ -7,13 +7,13 @@ ghost use Rattle.legacy_tables.specs.Runs.{is_run_in_order, AreInOrder};
 use super::packed::Run;
 use super::run_places::RunPlaces;
 
-/// Runs in order, of at most 23940 pointers, with their places.
+/// Runs in order, with pointers below a limit, and their places.
 #[derive(Drop)]
-pub(crate) struct Runs<'a> {
+pub(crate) struct Runs<'a, const POINTERS: usize> {
     runs: &'a [Run],
-    places: RunPlaces,
-    ghost ordered: { AreInOrder runs.now },
-    ghost placed: { ArePlacesOf places.firsts places.overs runs.now },
+    places: RunPlaces<POINTERS>,
+    ghost ordered: { AreInOrder POINTERS runs.now },
+    ghost placed: { ArePlacesOf POINTERS places.places runs.now },
 }
 
 /// Whether a run has pointers, begins behind the run before it, and ends within the limit.
@@ -42,11 +42,11 @@ pub(super) fn first_out_of_order(limit: usize, runs: &[Run]) -> Option<usize>
     None
 }
 
-impl<'a> Runs<'a> {
+impl<'a, const POINTERS: usize> Runs<'a, POINTERS> {
     /// Runs that are in order.
-    pub(super) fn new(limit: usize, runs: &'a [Run]) -> Runs<'a>
-        requires small { limit ≤ 23940 }
-        requires ordered { run_fault limit runs.now ≡ None }
+    pub(super) fn new(runs: &'a [Run]) -> Runs<'a, POINTERS>
+        requires small { POINTERS ≤ 23940 }
+        requires ordered { run_fault POINTERS runs.now ≡ None }
         ensures { result.runs.now ≡ runs.now }
     {
         Runs {
@@ -72,7 +72,7 @@ impl<'a> Runs<'a> {
     pub(super) fn scalar(&self, pointer: usize) -> Option<u32>
         ensures { result ≡ runs_scalar self.now.runs.now pointer }
     {
-        if pointer >= 24000 {
+        if pointer >= POINTERS {
             return None;
         }
         let place = self.places.place(pointer)?;

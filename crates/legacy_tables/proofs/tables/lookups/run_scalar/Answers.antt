@@ -7,11 +7,11 @@ use Rattle.legacy_tables.proofs.PackedAccepted.{entry-scalar}
 use Rattle.legacy_tables.proofs.tables.lookups.run_scalar.Goals as goal
 
 pub scalar_of-requires : goal.scalar_of-requires
-scalar_of-requires c =
+scalar_of-requires g c =
     let is = runs_list-entry c.args.runs.now.runs.now c.args.pointer in
     subst IsScalar (is ∙ sym c.entry.ensures) (entry-scalar (runs_list c.args.runs.now.runs.now) c.requires c.args.pointer)
 
 pub returns : goal.returns
-returns c =
+returns g c =
     let is = runs_list-entry c.args.runs.now.runs.now c.args.pointer in
     c.scalar_of.ensures ∙ ap entry_scalar (c.entry.ensures ∙ sym is)

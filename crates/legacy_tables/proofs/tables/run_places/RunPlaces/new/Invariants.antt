@@ -3,4 +3,4 @@ use Rattle.legacy_tables.proofs.tables.run_places.RunPlaces.new.Given as goal
 
 -- the pointers so far have their places
 abbrev pub invariant-loop-pointer : goal.invariant-loop-pointer
-invariant-loop-pointer l = ArePlaced l.runs l.pointer l.first l.ended l.firsts l.overs
+invariant-loop-pointer g l = ArePlaced g.row.POINTERS l.runs l.pointer l.ended l.places
