@@ -156,26 +156,26 @@ fn put_unit(dst: &mut [u8], at: usize, unit: u16, both: u16) -> usize
     at + count
 }
 
-/// Writes the bytes of eight code units from a place on, and answers where they end; `None` where one has none here.
+/// Writes the bytes of ten code units from a place on, and answers where they end; `None` where one has none here.
 // Without a branch between them: in text with spaces no pattern tells where a scalar of one byte comes.
 #[inline(always)]
-fn put_eight<C: PlainCodes>(
+fn put_ten<C: PlainCodes>(
     encoder: &C,
     dst: &mut [u8],
     start: usize,
-    units: [u16; 8],
+    units: [u16; 10],
 ) -> Option<usize>
     requires room { start + 32 ≤ length dst.old }
-    requires past { C.past ≤ 16 }
+    requires past { C.past ≤ 12 }
     ensures { MatchOption result (take start dst.new ≡ take start dst.old)
-        (λ end. (start + 8 ≤ end) × (end ≤ start + 16)
+        (λ end. (start + 10 ≤ end) × (end ≤ start + 20)
         × PutsUnits (new_encoder (C.codec encoder.now)) (length dst.old) units
         (take start dst.old) (take end dst.new)) }
 {
     let mut end = start;
     let mut is_known = true;
     let mut k = 0;
-    while k < 8 {
+    while k < 10 {
         let (both, has_code) = encoder.unit_code(units[k]);
         is_known = is_known & has_code;
         end = put_unit(dst, end, units[k], both);
@@ -184,11 +184,11 @@ fn put_eight<C: PlainCodes>(
     if is_known { Some(end) } else { None }
 }
 
-/// Reads scalars as code units of UTF-16 by turns of eight, up to one in which a unit has no bytes here, and writes
+/// Reads scalars as code units of UTF-16 by turns of ten, up to one in which a unit has no bytes here, and writes
 /// their bytes from the place `start` on. Answers where they end. A turn of ASCII is the last one.
 // By a copy of the cursor, which is left where it is where a turn fails.
 #[inline(always)]
-fn read_eights<C: PlainCodes, S: Source>(
+fn read_tens<C: PlainCodes, S: Source>(
     encoder: &C,
     src: &mut S,
     dst: &mut [u8],
@@ -204,19 +204,19 @@ fn read_eights<C: PlainCodes, S: Source>(
         ≡ S.passed src.old + total_unit_count S.form (S.left src.old) }
 {
     let mut at = start;
-    if !encoder.goes_by_turns() || encoder.past_room() > 16 {
+    if !encoder.goes_by_turns() || encoder.past_room() > 12 {
         return at;
     }
     while dst.len() - at >= 32 {
         let mut ahead = *src;
-        let Some(units) = ahead.take_eight() else {
+        let Some(units) = ahead.take_ten() else {
             return at;
         };
-        let Some(end) = put_eight(encoder, dst, at, units) else {
+        let Some(end) = put_ten(encoder, dst, at, units) else {
             return at;
         };
         *src = ahead;
-        let is_ascii = end - at == 8;
+        let is_ascii = end - at == 10;
         at = end;
         if is_ascii {
             return at;
@@ -262,8 +262,8 @@ fn read_scalars<C: PlainCodes, S: Source>(
                 let may_turn = end == at + 2 || widest <= 2;
                 at = end;
                 src.pass(1);
-                if by_turns && may_turn && src.has_eights(c) {
-                    let behind = read_eights(encoder, src, dst, at);
+                if by_turns && may_turn && src.has_tens(c) {
+                    let behind = read_tens(encoder, src, dst, at);
                     by_turns = behind > at;
                     at = behind;
                 }

@@ -1,4 +1,4 @@
-//! Eight scalars of UTF-8 at once and without a branch between them: vectors make what may begin at each of 32 places,
+//! Ten scalars of UTF-8 at once and without a branch between them: vectors make what may begin at each of 32 places,
 //! and bits tell where scalars do.
 // In text with spaces no pattern tells where a scalar of one byte comes: so none is looked for. Inlined always is what
 // runs for each turn: a call would pass vectors through memory.
@@ -129,10 +129,10 @@ fn without_lowest(bits: u32) -> u32
     bits & bits.wrapping_sub(1)
 }
 
-/// The next eight scalars of a text as units, with a surrogate in place of each that has two or four bytes, and the
+/// The next ten scalars of a text as units, with a surrogate in place of each that has two or four bytes, and the
 /// place behind them. `None` where the next 34 bytes do not tell.
 #[inline(always)]
-pub(crate) fn eight_scalars(bytes: &[u8], start: usize) -> Option<([u16; 8], usize)>
+pub(crate) fn ten_scalars(bytes: &[u8], start: usize) -> Option<([u16; 10], usize)>
     requires place { start ≤ length bytes.now }
     requires text { is_utf8 (drop start bytes.now) ≡ true }
     ensures { MatchOption result ⊤ (λ read. ReadsUnits bytes.now start read.0 read.1) }
@@ -142,9 +142,9 @@ pub(crate) fn eight_scalars(bytes: &[u8], start: usize) -> Option<([u16; 8], usi
     }
     let all = units_at(bytes, start);
     let mut bits = starts_at(bytes, start);
-    let mut units = [0u16; 8];
+    let mut units = [0u16; 10];
     let mut k = 0;
-    while k < 8 {
+    while k < 10 {
         units[k] = all[bits.trailing_zeros() as usize];
         bits = without_lowest(bits);
         k += 1;

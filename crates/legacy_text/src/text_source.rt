@@ -9,7 +9,7 @@ ghost use Rattle.legacy_text.specs.UnitCodes.{WritesCodes};
 ghost use Rattle.legacy_text.specs.UnitTurns.{TakesUnits};
 
 use crate::blocks::{copy_ascii_bytes, copy_ascii_units};
-use crate::scalar_turns::eight_scalars;
+use crate::scalar_turns::ten_scalars;
 use crate::short_scalars::copy_short_scalars;
 use crate::unit_codes::{UnitCodes, copy_unit_codes};
 
@@ -87,18 +87,18 @@ pub trait Source: Copy {
         false
     }
 
-    /// Whether it may go on by `take_eight` behind this scalar. It is a hint: any answer will do.
+    /// Whether it may go on by `take_ten` behind this scalar. It is a hint: any answer will do.
     #[inline(always)]
-    fn has_eights(&self, before: char) -> bool {
+    fn has_tens(&self, before: char) -> bool {
         let _ = before;
         false
     }
 
-    /// Goes past the next eight code units of UTF-16, or in UTF-8 past eight scalars, and answers them as units: each
+    /// Goes past the next ten code units of UTF-16, or in UTF-8 past ten scalars, and answers them as units: each
     /// is a scalar, if none is a surrogate. In UTF-8 one stands in place of each scalar of two or four bytes. `None`
     /// where not so much is left, and wherever it cares to: then the cursor stays where it is.
     #[inline(always)]
-    fn take_eight(&mut self) -> Option<[u16; 8]>
+    fn take_ten(&mut self) -> Option<[u16; 10]>
         ensures { MatchOption result (self.new ≡ self.old) (λ units. TakesUnits form (left self.old)
             (passed self.old) units (left self.new) (passed self.new)) }
     {
@@ -286,13 +286,13 @@ impl Source for Utf8Source<'_> {
     }
 
     #[inline(always)]
-    fn has_eights(&self, before: char) -> bool {
+    fn has_tens(&self, before: char) -> bool {
         (before as u32) < 0x80
     }
 
     #[inline(always)]
-    fn take_eight(&mut self) -> Option<[u16; 8]> {
-        let (units, behind) = eight_scalars(self.text.as_bytes(), self.place)?;
+    fn take_ten(&mut self) -> Option<[u16; 10]> {
+        let (units, behind) = ten_scalars(self.text.as_bytes(), self.place)?;
         self.place = behind;
         Some(units)
     }
@@ -343,11 +343,11 @@ fn unit_scalar_at(units: &[u16], place: usize) -> Option<char>
     Some(scalar_of(0x1_0000 + (high - 0xD800) * 0x400 + (low - 0xDC00)))
 }
 
-/// Eight code units from a place on.
+/// Ten code units from a place on.
 #[inline(always)]
-fn eight_at(units: &[u16], place: usize) -> [u16; 8]
-    requires { place + 8 ≤ length units.now }
-    ensures { result ≡ take 8 (drop place units.now) }
+fn ten_at(units: &[u16], place: usize) -> [u16; 10]
+    requires { place + 10 ≤ length units.now }
+    ensures { result ≡ take 10 (drop place units.now) }
 {
     [
         units[place],
@@ -358,6 +358,8 @@ fn eight_at(units: &[u16], place: usize) -> [u16; 8]
         units[place + 5],
         units[place + 6],
         units[place + 7],
+        units[place + 8],
+        units[place + 9],
     ]
 }
 
@@ -439,17 +441,17 @@ impl Source for Utf16Source<'_> {
     }
 
     #[inline(always)]
-    fn has_eights(&self, before: char) -> bool {
+    fn has_tens(&self, before: char) -> bool {
         (before as u32) >= 0x80
     }
 
     #[inline(always)]
-    fn take_eight(&mut self) -> Option<[u16; 8]> {
-        if self.units.len() - self.place < 8 {
+    fn take_ten(&mut self) -> Option<[u16; 10]> {
+        if self.units.len() - self.place < 10 {
             return None;
         }
-        let units = eight_at(self.units, self.place);
-        self.place += 8;
+        let units = ten_at(self.units, self.place);
+        self.place += 10;
         Some(units)
     }
 

@@ -76,18 +76,18 @@ impl ListedPairs<'_, '_> {
         (entry, entry != 0)
     }
 
-    /// Writes the pairs of eight code units from a place on. Answers whether each has one here.
+    /// Writes the pairs of ten code units from a place on. Answers whether each has one here.
     // Without a branch between them: nothing is kept where one has none.
     #[inline(always)]
-    fn put_eight(&self, dst: &mut [u8], start: usize, units: [u16; 8]) -> bool
+    fn put_ten(&self, dst: &mut [u8], start: usize, units: [u16; 10]) -> bool
         requires { start + 24 ≤ length dst.old }
         ensures before { take start dst.new ≡ take start dst.old }
         ensures puts { result ≡ true → PutsUnits (pairs_state self.now.tables.now) (length dst.old)
-            units (take start dst.old) (take (start + 16) dst.new) }
+            units (take start dst.old) (take (start + 20) dst.new) }
     {
         let mut is_known = true;
         let mut k = 0;
-        while k < 8 {
+        while k < 10 {
             let (both, has_pair) = self.unit_pair(units[k]);
             is_known = is_known & has_pair;
             put_two(dst, start + 2 * k, (both % 256) as u8, (both / 256) as u8);
@@ -96,11 +96,11 @@ impl ListedPairs<'_, '_> {
         is_known
     }
 
-    /// Reads code units of UTF-16 by turns of eight, up to one in which a unit has no pair here, and writes their pairs
+    /// Reads code units of UTF-16 by turns of ten, up to one in which a unit has no pair here, and writes their pairs
     /// from the place `start` on. Answers where they end.
     // By a copy of the cursor, which is left where it is where a turn fails.
     #[inline(always)]
-    fn read_eights<S: Source>(&self, src: &mut S, dst: &mut [u8], start: usize) -> usize
+    fn read_tens<S: Source>(&self, src: &mut S, dst: &mut [u8], start: usize) -> usize
         requires { start ≤ length dst.old }
         ensures keeps { KeepsOn (pairs_state self.now.tables.now) (length dst.old) (S.left src.old)
             (take start dst.old) (S.left src.new) (take result dst.new) }
@@ -112,14 +112,14 @@ impl ListedPairs<'_, '_> {
         let mut at = start;
         while dst.len() - at >= 24 {
             let mut ahead = *src;
-            let Some(units) = ahead.take_eight() else {
+            let Some(units) = ahead.take_ten() else {
                 return at;
             };
-            if !self.put_eight(dst, at, units) {
+            if !self.put_ten(dst, at, units) {
                 return at;
             }
             *src = ahead;
-            at += 16;
+            at += 20;
         }
         at
     }
@@ -139,8 +139,8 @@ impl ListedPairs<'_, '_> {
     {
         let mut own = *src;
         let mut at = start;
-        if own.has_eights('\u{3000}') {
-            at = self.read_eights(&mut own, dst, at);
+        if own.has_tens('\u{3000}') {
+            at = self.read_tens(&mut own, dst, at);
         }
         let end = read_pairs(self, &mut own, dst, at);
         *src = own;

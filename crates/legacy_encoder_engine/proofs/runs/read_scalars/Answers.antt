@@ -30,8 +30,8 @@ loop-dst-preserved-else-by_turns g c =
     scalar 1 c.in-One.ensures.0 c.in-One.ensures.1 room _ _ c.in-Some.end _ c.in-Some.ensures c.pass.ensures.left c.pass.ensures.passed in
     (r.keeps, r.start_is, omega (arith, r.end_is), omega (arith, r.fewer), (λ h. r.fewer), r.passed_is)
 
-pub loop-dst-preserved-then-has_eights : goal.loop-dst-preserved-then-has_eights
-loop-dst-preserved-then-has_eights g c =
+pub loop-dst-preserved-then-has_tens : goal.loop-dst-preserved-then-has_tens
+loop-dst-preserved-then-has_tens g c =
     let S = g.S.Source in
     let i = c.loop-dst.invariant in
     let state = new_encoder (g.C.PlainCodes.codec c.args.encoder.now) in
@@ -43,7 +43,7 @@ loop-dst-preserved-then-has_eights g c =
     (S.left c.args.src.now) (take c.args.start c.args.dst.now) c.args.start (S.passed c.args.src.now)
     left (take c.loop-dst.at c.loop-dst.dst) c.loop-dst.at (S.passed c.loop-dst.src) i.0 i.1 i.3 i.5 (front_length c.loop-dst.at c.loop-dst.dst i.2)
     scalar 1 c.in-One.ensures.0 c.in-One.ensures.1 room _ _ c.in-Some.end _ c.in-Some.ensures c.pass.ensures.left c.pass.ensures.passed in
-    let t = c.read_eights-behind.ensures in
+    let t = c.read_tens-behind.ensures in
     let same : length c.put_code.new.dst ≡ length c.args.dst.now = omega arith in
     let turns = rw same at t.keeps in (
       keeps_then state (length c.args.dst.now) _ _ _ _ _ _ r.keeps turns,

@@ -1,7 +1,7 @@
 use Rattle.std.proofs.Common.{◌∙◌, ◌+◌, ◌≤◌, length, take, get_or, refl, arith}
 use Rattle.legacy_encoder_engine.proofs.CallUnderWay.{front_length}
 use Rattle.legacy_encoder_engine.proofs.UnitTurns.{IsPut, both_set, put_behind, puts_more}
-use Rattle.legacy_encoder_engine.proofs.runs.put_eight.Goals as goal
+use Rattle.legacy_encoder_engine.proofs.runs.put_ten.Goals as goal
 
 pub loop-k-preserved : goal.loop-k-preserved
 loop-k-preserved g c =

@@ -4,7 +4,7 @@ use Rattle.std.proofs.lemmas.List.{length-set, take_more_set}
 use Rattle.std.specs.Int.{trailing_zeros}
 use Rattle.std.proofs.Common.{w32}
 use Rattle.legacy_text.proofs.ScalarTurns.{stands_first, stands_more}
-use Rattle.legacy_text.proofs.scalar_turns.eight_scalars.Goals as goal
+use Rattle.legacy_text.proofs.scalar_turns.ten_scalars.Goals as goal
 
 pub loop-k-init : goal.loop-k-init
 loop-k-init c = (

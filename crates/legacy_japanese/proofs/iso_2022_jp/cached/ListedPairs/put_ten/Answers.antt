@@ -2,7 +2,7 @@ use Rattle.std.proofs.Common.{◌≡◌, ◌∙◌, ◌+◌, ◌*◌, ◌≤◌,
 use Rattle.legacy_encoder_engine.proofs.CallUnderWay.{front_length}
 use Rattle.legacy_encoder_engine.proofs.UnitTurns.{both_set, stays}
 use Rattle.legacy_japanese.proofs.Iso2022JpListed.{units_listed}
-use Rattle.legacy_japanese.proofs.iso_2022_jp.cached.ListedPairs.put_eight.Goals as goal
+use Rattle.legacy_japanese.proofs.iso_2022_jp.cached.ListedPairs.put_ten.Goals as goal
 
 pub loop-k-preserved : goal.loop-k-preserved
 loop-k-preserved c =
