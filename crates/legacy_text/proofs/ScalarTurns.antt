@@ -152,6 +152,12 @@ filled P lows highs k low high a b before here j h = elim (cases_lt j k) [
 pub sixteenth : (bytes : List ℕ) (place k : ℕ) → k < 16 → get_or (take 16 (drop place bytes)) k 0 ≡ get_or bytes (place + k) 0
 sixteenth bytes place k h = get_or-take 16 (drop place bytes) k 0 h ∙ get_or-drop place bytes k 0
 
+-- sixteen bytes with their highest bits turned over
+pub turned_is : (v : List ℕ) → length v ≡ 16 → (k : ℕ) → k < 16 → get_or (zip2 (λ a b. (a + b) % 256) v (replicate 16 128)) k 0 ≡ (get_or v k 0 + 128) % 256
+turned_is v long k h =
+    let count : length (replicate {A = ℕ} 16 128) ≡ 16 = refl in
+    get_or-zip2 (λ a b. (a + b) % 256) v (replicate 16 128) k 0 0 0 (omega (arith, long)) (omega (arith, count)) ∙ ap (λ b. (get_or v k 0 + b) % 256) (get_or-replicate 16 k 128 0 h)
+
 -- the low six bits of sixteen bytes
 pub tails_is : (v : List ℕ) → length v ≡ 16 → (k : ℕ) → k < 16 → get_or (zip2 bit_and v (replicate 16 63)) k 0 ≡ get_or v k 0 % 64
 tails_is v long k h =

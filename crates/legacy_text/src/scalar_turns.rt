@@ -9,32 +9,33 @@ ghost use Rattle.legacy_text.specs.ScalarTurns.{IsStart, IsUnitOf, IsUnitAt, Rea
 
 use std::simd::prelude::*;
 
-/// The low byte and the high one of the scalar of one or three bytes whose bytes these are, or else of a surrogate.
+/// The low byte and the high one of the scalar of one or three bytes whose bytes these are, the first with its highest
+/// bit turned over, or else of a surrogate.
 #[inline(always)]
-fn unit_parts(first: u8, second: u8, third: u8) -> (u8, u8)
-    ensures { IsUnitOf first second third (result.0 + 256 * result.1) }
+fn unit_parts(turned: u8, second: u8, third: u8) -> (u8, u8)
+    ensures { IsUnitOf ((turned + 128) % 256) second third (result.0 + 256 * result.1) }
 {
     let low = second % 4 * 64 + third % 64;
-    let high = first % 16 * 16 + second / 4 % 16;
-    let marked = if first / 16 == 14 { high } else { 0xD8 };
-    if first < 0x80 {
-        (first, 0)
+    let high = turned % 16 * 16 + second / 4 % 16;
+    let marked = if turned / 16 == 6 { high } else { 0xD8 };
+    if turned >= 0x80 {
+        (turned - 0x80, 0)
     } else {
         (low, marked)
     }
 }
 
-/// Sixteen bytes from a place on.
+/// Sixteen bytes from a place on, each with its highest bit turned over.
+// By a vector operation: of bytes that overlap with others and are loaded as they are, the compiler makes single loads.
 #[inline(always)]
-fn sixteen_at(bytes: &[u8], place: usize) -> [u8; 16]
+fn turned_at(bytes: &[u8], place: usize) -> [u8; 16]
     requires { place + 16 ≤ length bytes.now }
-    ensures { result ≡ take 16 (drop place bytes.now) }
+    ensures { (k : ℕ) → k < 16 → slice_index result k ≡ (slice_index bytes.now (place + k) + 128) % 256 }
 {
-    u8x16::from_slice(&bytes[place..]).to_array()
+    (u8x16::from_slice(&bytes[place..]) + u8x16::splat(0x80)).to_array()
 }
 
 /// What sixteen bytes from a place on hold of a scalar that they go on with: their low six bits.
-// By a vector operation: of bytes that overlap with others and are loaded as they are, the compiler makes single loads.
 #[inline(always)]
 fn tails_at(bytes: &[u8], place: usize) -> [u8; 16]
     requires { place + 16 ≤ length bytes.now }
@@ -52,7 +53,7 @@ fn parts_at(bytes: &[u8], place: usize) -> ([u8; 16], [u8; 16])
     ensures units { (k : ℕ) → k < 16 → IsUnitAt bytes.now (place + k)
         (slice_index result.0 k + 256 * slice_index result.1 k) }
 {
-    let firsts = sixteen_at(bytes, place);
+    let firsts = turned_at(bytes, place);
     let seconds = tails_at(bytes, place + 1);
     let thirds = tails_at(bytes, place + 2);
     let mut lows = [0u8; 16];

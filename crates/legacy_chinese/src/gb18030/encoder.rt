@@ -6,6 +6,7 @@ ghost use Rattle.legacy_tables.specs.Pointers.{range_pointer_of};
 ghost use Rattle.legacy_base.specs.Gb18030.{gb18030_pair_code, gb18030_range_bytes, gb18030_code, gbk_code};
 ghost use Rattle.legacy_base.specs.Encoders.{encoder_profile, new_encoder};
 ghost use Rattle.legacy_base.specs.Lengths.{answer, number, ◌⊕◌, ◌⊗◌};
+ghost use Rattle.legacy_encoder_engine.specs.CachedPairs.{AreAllPairsOf};
 ghost use Rattle.legacy_encoder_engine.specs.Moves.{IsCode};
 ghost use Rattle.legacy_encoder_engine.specs.UnderWay.{KeepsOn};
 ghost use Rattle.legacy_chinese.specs.Gb18030Codec.{gb18030_codec};
@@ -320,6 +321,29 @@ impl<V: EncoderTables, const EXTENDED: bool, const PAIRS_FIRST: bool> PastPairs
     }
 }
 
+/// Reads ahead in GB18030 by the pairs of a list, and by the tables as they are kept. Answers where the bytes end.
+#[inline(always)]
+fn read_listed_by<V: EncoderTables, S: Source, const PAIRS_FIRST: bool>(
+    tables: &V,
+    pairs: &[u16],
+    src: &mut S,
+    dst: &mut [u8],
+    start: usize,
+) -> usize
+    requires pairs { AreAllPairsOf (gb18030_codec (V.indexes tables.now).flat true) pairs.now }
+    requires start { start ≤ length dst.old }
+    ensures keeps { KeepsOn (new_encoder (gb18030_codec (V.indexes tables.now).flat true))
+        (length dst.old) (S.left src.old) (take start dst.old) (S.left src.new)
+        (take result dst.new) }
+    ensures start { start ≤ result }
+    ensures end { result ≤ length dst.old }
+    ensures passed { S.passed src.new + total_unit_count S.form (S.left src.new)
+        ≡ S.passed src.old + total_unit_count S.form (S.left src.old) }
+{
+    let codes = Gb18030Codes::<V, true, PAIRS_FIRST> { tables };
+    read_runs(&WithPairs::new(&codes, pairs), src, dst, start)
+}
+
 impl EncodesPairs for Gb18030Encoder<'_> {
     ghost use Rattle.std.proofs.Common.{refl};
 
@@ -339,12 +363,10 @@ impl EncodesPairs for Gb18030Encoder<'_> {
         }
         match self.tables.kept() {
             KeptTables::Flat(tables) => {
-                let codes = Gb18030Codes::<FlatTables<'_>, true, false> { tables };
-                read_runs(&WithPairs::new(&codes, pairs), src, dst, start)
+                read_listed_by::<FlatTables<'_>, S, false>(tables, pairs, src, dst, start)
             }
             KeptTables::Packed(tables) => {
-                let codes = Gb18030Codes::<PackedTables<'_>, true, true> { tables };
-                read_runs(&WithPairs::new(&codes, pairs), src, dst, start)
+                read_listed_by::<PackedTables<'_>, S, true>(tables, pairs, src, dst, start)
             }
         }
     }

@@ -1,7 +1,7 @@
 use Rattle.std.proofs.Common.{◌≡◌, ◌∙◌, ◌+◌, ◌*◌, ◌%◌, ◌<◌, get_or, ap, arith}
 use Rattle.std.proofs.lemmas.List.{length-set}
 use Rattle.legacy_text.specs.ScalarTurns.{IsUnitAt}
-use Rattle.legacy_text.proofs.ScalarTurns.{filled, of_tails, sixteenth}
+use Rattle.legacy_text.proofs.ScalarTurns.{filled, of_tails}
 use Rattle.legacy_text.proofs.scalar_turns.parts_at.Goals as goal
 
 pub loop-k-preserved : goal.loop-k-preserved
@@ -13,7 +13,9 @@ loop-k-preserved c =
     let within : k < 16 = omega (arith, c.loop-k-test.true) in
     let second : place + 1 + k ≡ place + k + 1 = omega arith in
     let third : place + 2 + k ≡ place + k + 2 = omega arith in
-    let first_is : get_or c.sixteen_at-firsts.result k 0 ≡ get_or bytes (place + k) 0 = ap (λ l. get_or l k 0) c.sixteen_at-firsts.ensures ∙ sixteenth bytes place k within in
+    let fits = c.type_inv.bytes (place + k) in
+    let byte : get_or bytes (place + k) 0 < 256 = omega arith in
+    let first_is : (get_or c.turned_at-firsts.result k 0 + 128) % 256 ≡ get_or bytes (place + k) 0 = omega (arith, c.turned_at-firsts.ensures k within, byte) in
     let second_is : get_or c.tails_at-seconds.result k 0 ≡ get_or bytes (place + k + 1) 0 % 64 = c.tails_at-seconds.ensures k within ∙ ap (λ n. get_or bytes n 0 % 64) second in
     let third_is : get_or c.tails_at-thirds.result k 0 ≡ get_or bytes (place + k + 2) 0 % 64 = c.tails_at-thirds.ensures k within ∙ ap (λ n. get_or bytes n 0 % 64) third in
     let r = c.unit_parts-low.result in
