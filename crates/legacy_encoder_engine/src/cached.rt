@@ -1,6 +1,6 @@
 //! Encoders that look no pair up: those of all scalars below U+10000 are looked up once, ahead, and kept in room that
 //! the user lends.
-ghost use Rattle.std.specs.Prelude.{◌≡◌, ◌+◌, ◌<◌, ◌≤◌, length, take, MatchOption};
+ghost use Rattle.std.specs.Prelude.{◌≡◌, ◌+◌, ◌<◌, ◌≤◌, [], ◌∷◌, length, take, Some, IfSome, MatchOption};
 ghost use Rattle.legacy_text.specs.EncodingForm.{total_unit_count};
 ghost use Rattle.legacy_base.specs.Encoders.{encoder_profile, new_encoder};
 ghost use Rattle.legacy_encoder_engine.specs.CachedPairs.{AreAllPairsOf, IsNoPair, IsPairEntry};
@@ -29,6 +29,19 @@ pub trait PastPairs: PlainCodes {
         ensures { IsCode ((encoder_profile (Self.codec self.now)).code c) c result }
     {
         self.code_of(c)
+    }
+
+    /// The four bytes of such a scalar whose code these are. Any scalar may have none here: `code_past_pairs` has all
+    /// codes.
+    #[inline(always)]
+    fn four_past_pairs(&self, c: char) -> Option<(u8, u8, u8, u8)>
+        requires past { 0x80 ≤ c }
+        requires none { IsNoPair (Self.codec self.now) c }
+        ensures { IfSome result (λ four. (encoder_profile (Self.codec self.now)).code c
+            ≡ Some (four.0 ∷ four.1 ∷ four.2 ∷ four.3 ∷ [])) }
+    {
+        let _ = c;
+        None
     }
 }
 
@@ -84,6 +97,15 @@ impl<'a, C: PastPairs> PlainCodes for WithPairs<'a, C> {
             return None;
         }
         Some(((entry % 256) as u8, (entry / 256) as u8))
+    }
+
+    #[inline(always)]
+    fn four_of(&self, c: char) -> Option<(u8, u8, u8, u8)> {
+        let code = c as usize;
+        if code >= PAIR_ROOM || self.pairs[code] != 0 {
+            return None;
+        }
+        self.codes.four_past_pairs(c)
     }
 
     #[inline(always)]

@@ -26,6 +26,17 @@ pub fn put_two(dst: &mut [u8], at: usize, first: u8, second: u8)
     put(dst, at + 1, second);
 }
 
+/// Writes four bytes from a place on.
+#[inline(always)]
+pub fn put_four(dst: &mut [u8], at: usize, bytes: (u8, u8, u8, u8))
+    requires { at + 4 ≤ length dst.old }
+    ensures { take (at + 4) dst.new
+        ≡ take at dst.old ++ bytes.0 ∷ bytes.1 ∷ bytes.2 ∷ bytes.3 ∷ [] }
+{
+    put_two(dst, at, bytes.0, bytes.1);
+    put_two(dst, at + 2, bytes.2, bytes.3);
+}
+
 /// Writes the bytes of a move from a place on, and answers where they end.
 #[inline]
 pub fn put_move(dst: &mut [u8], at: usize, step: EncoderMove) -> usize
@@ -39,15 +50,11 @@ pub fn put_move(dst: &mut [u8], at: usize, step: EncoderMove) -> usize
             at + 1
         }
         EncoderMove::Two(a, b) => {
-            put(dst, at, a);
-            put(dst, at + 1, b);
+            put_two(dst, at, a, b);
             at + 2
         }
         EncoderMove::Four(a, b, c, d) => {
-            put(dst, at, a);
-            put(dst, at + 1, b);
-            put(dst, at + 2, c);
-            put(dst, at + 3, d);
+            put_four(dst, at, (a, b, c, d));
             at + 4
         }
         EncoderMove::Escape(a, b) => {

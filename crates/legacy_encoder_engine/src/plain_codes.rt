@@ -39,7 +39,20 @@ pub trait PlainCodes {
         None
     }
 
-    /// Whether scalars past ASCII that have no pair here are common: then their codes are made where pairs are.
+    /// The four bytes of a scalar past ASCII whose code these are. Any scalar may have none here: `code_of` has all
+    /// codes. It is asked behind `pair_of`.
+    #[inline(always)]
+    fn four_of(&self, c: char) -> Option<(u8, u8, u8, u8)>
+        requires { 0x80 ≤ c }
+        ensures { IfSome result (λ four. (encoder_profile (codec self.now)).code c
+            ≡ Some (four.0 ∷ four.1 ∷ four.2 ∷ four.3 ∷ [])) }
+    {
+        let _ = c;
+        None
+    }
+
+    /// Whether scalars past ASCII that have no pair and no four bytes here are common: then their codes are made where
+    /// pairs are.
     /// It is a hint: any answer will do.
     #[inline(always)]
     fn goes_past_pairs(&self) -> bool {

@@ -7,7 +7,7 @@ ghost use Rattle.legacy_encoder_engine.specs.Moves.{is_escape, move_report};
 ghost use Rattle.legacy_encoder_engine.specs.UnderWay.{KeepsOn, PutsCode};
 ghost use Rattle.legacy_encoder_engine.specs.UnitTurns.{PutsUnits};
 
-use crate::drive::{put_move, put_two};
+use crate::drive::{put_four, put_move, put_two};
 use crate::moves::EncoderMove;
 use crate::plain_codes::PlainCodes;
 use crate::units::Units;
@@ -25,9 +25,9 @@ pub fn has_bytes(step: EncoderMove) -> bool
 }
 
 /// Writes the bytes of a scalar past ASCII that is next, and answers where they end; `None` where it has none,
-/// or is no pair and left to the moves.
-// Where no more than pairs is written here, the loop has no call and nothing of what is rare, and each of its
-// values stays in a register. A pair is not made a move, which the compiler would pack into one number and unpack.
+/// or has neither a pair nor four bytes here and is left to the moves.
+// Where no more than these is written here, the loop has no call and nothing of what is rare, and each of its
+// values stays in a register. Neither is made a move, which the compiler would pack into one number and unpack.
 #[inline(always)]
 fn put_past_ascii<C: PlainCodes>(encoder: &C, dst: &mut [u8], at: usize, c: char) -> Option<usize>
     requires room { at + scalar_room (new_encoder (C.codec encoder.now)) c ≤ length dst.old }
@@ -40,6 +40,10 @@ fn put_past_ascii<C: PlainCodes>(encoder: &C, dst: &mut [u8], at: usize, c: char
         put_two(dst, at, lead, trail);
         return Some(at + 2);
     }
+    if let Some(four) = encoder.four_of(c) {
+        put_four(dst, at, four);
+        return Some(at + 4);
+    }
     if !encoder.goes_past_pairs() {
         return None;
     }
@@ -50,8 +54,8 @@ fn put_past_ascii<C: PlainCodes>(encoder: &C, dst: &mut [u8], at: usize, c: char
     Some(put_move(dst, at, step))
 }
 
-/// Writes the bytes of a scalar that is next, and answers where they end; `None` where it has none, or is
-/// neither ASCII nor a pair and left to the moves.
+/// Writes the bytes of a scalar that is next, and answers where they end; `None` where it has none, or is past
+/// ASCII and left to the moves.
 #[inline(always)]
 fn put_code<C: PlainCodes>(encoder: &C, dst: &mut [u8], at: usize, c: char) -> Option<usize>
     requires { at + scalar_room (new_encoder (C.codec encoder.now)) c ≤ length dst.old }

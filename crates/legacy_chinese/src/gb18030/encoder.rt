@@ -1,5 +1,5 @@
 //! The encoder of GB18030 and GBK.
-ghost use Rattle.std.specs.Prelude.{◌≡◌, ◌≢◌, ℕ, ◌+◌, ◌≤◌, [], ◌∷◌, length, take, true, false};
+ghost use Rattle.std.specs.Prelude.{◌≡◌, ◌≢◌, ℕ, ◌+◌, ◌*◌, ◌/◌, ◌%◌, ◌<◌, ◌≤◌, [], ◌∷◌, length, take, true, false};
 ghost use Rattle.std.specs.Prelude.{Some, IfSome, option_map};
 ghost use Rattle.legacy_text.specs.EncodingForm.{total_unit_count};
 ghost use Rattle.legacy_tables.specs.Pointers.{range_pointer_of};
@@ -94,19 +94,87 @@ fn common_pair_of<V: EncoderTables>(tables: &V, c: char) -> Option<(u8, u8)>
     pair_of(tables, c)
 }
 
+/// A lead and a digit, the lead in the low byte, of a number of both.
+// By one quotient: the digit is what is left of ten times it.
+#[inline(always)]
+fn lead_and_digit(number: u32) -> u32
+    requires { number < 1260 }
+    ensures { result ≡ number / 10 + 0x81 + 256 * (number % 10 + 0x30) }
+{
+    256 * number - 2559 * (number / 10) + 0x3081
+}
+
+/// The four bytes of a range pointer.
+// As one number: so they are one store.
+#[inline(always)]
+fn range_bytes(pointer: usize) -> (u8, u8, u8, u8)
+    requires { pointer < 1237576 }
+    ensures { result.0 ∷ result.1 ∷ result.2 ∷ result.3 ∷ [] ≡ gb18030_range_bytes pointer }
+{
+    let pointer = pointer as u32;
+    let all = lead_and_digit(pointer / 1260) + 65536 * lead_and_digit(pointer % 1260);
+    (
+        (all % 256) as u8,
+        (all / 256 % 256) as u8,
+        (all / 65536 % 256) as u8,
+        (all / 16777216) as u8,
+    )
+}
+
+/// The four bytes of a scalar's range pointer, if it has one.
+#[inline(always)]
+fn range_bytes_of<V: EncoderTables>(tables: &V, c: char) -> Option<(u8, u8, u8, u8)>
+    ensures { option_map (λ four. four.0 ∷ four.1 ∷ four.2 ∷ four.3 ∷ []) result
+        ≡ option_map gb18030_range_bytes (range_pointer_of (V.indexes tables.now).flat.ranges c) }
+{
+    match tables.range_pointer(c) {
+        Some(pointer) => Some(range_bytes(pointer)),
+        None => None,
+    }
+}
+
+/// The four bytes of a common scalar in GB18030, if it has them and no lead and trail.
+#[inline(always)]
+#[tactic(auto, unfolding(legacy_base::specs::Gb18030::gb18030_code))]
+fn common_four_of<V: EncoderTables>(tables: &V, c: char) -> Option<(u8, u8, u8, u8)>
+    requires { 0x80 ≤ c }
+    ensures { IfSome result (λ four. gb18030_code (V.indexes tables.now).flat.gb18030
+        (V.indexes tables.now).flat.ranges (V.indexes tables.now).flat.gb18030_pua c
+        ≡ Some (four.0 ∷ four.1 ∷ four.2 ∷ four.3 ∷ [])) }
+{
+    if is_private_use(c) || pair_of(tables, c).is_some() {
+        return None;
+    }
+    range_bytes_of(tables, c)
+}
+
+/// The four bytes of a common scalar that has no lead and trail in GB18030, if it has them: the index of these is not
+/// asked.
+#[inline(always)]
+#[tactic(auto, unfolding(legacy_base::specs::Gb18030::gb18030_code))]
+fn four_past_pairs_of<V: EncoderTables>(tables: &V, c: char) -> Option<(u8, u8, u8, u8)>
+    requires past { 0x80 ≤ c }
+    requires none { (lead trail : ℕ) → gb18030_code (V.indexes tables.now).flat.gb18030
+        (V.indexes tables.now).flat.ranges (V.indexes tables.now).flat.gb18030_pua c
+        ≡ Some (lead ∷ trail ∷ []) → lead + trail ≡ 0 }
+    ensures { IfSome result (λ four. gb18030_code (V.indexes tables.now).flat.gb18030
+        (V.indexes tables.now).flat.ranges (V.indexes tables.now).flat.gb18030_pua c
+        ≡ Some (four.0 ∷ four.1 ∷ four.2 ∷ four.3 ∷ [])) }
+{
+    if is_private_use(c) || tables.gb18030_pua_bytes(c).is_some() {
+        return None;
+    }
+    range_bytes_of(tables, c)
+}
+
 /// The four bytes of a scalar past ASCII, or the scalar as unmappable.
 #[inline(always)]
 fn four_of<V: EncoderTables>(tables: &V, c: char) -> EncoderMove
     ensures { IsCode (option_map gb18030_range_bytes
         (range_pointer_of (V.indexes tables.now).flat.ranges c)) c result }
 {
-    match tables.range_pointer(c) {
-        Some(p) => EncoderMove::Four(
-            (p / 12600 + 0x81) as u8,
-            (p % 12600 / 1260 + 0x30) as u8,
-            (p % 1260 / 10 + 0x81) as u8,
-            (p % 10 + 0x30) as u8,
-        ),
+    match range_bytes_of(tables, c) {
+        Some((first, second, third, fourth)) => EncoderMove::Four(first, second, third, fourth),
         None => EncoderMove::Unmappable(c),
     }
 }
@@ -256,10 +324,10 @@ impl<V: EncoderTables, const EXTENDED: bool, const PAIRS_FIRST: bool> PlainCodes
         any_code_of(self.tables, EXTENDED, c)
     }
 
-    // Of text in GB18030 much may be of four bytes each.
+    // Where pairs come first, forms of four bytes come behind them, and what is left is rare.
     #[inline(always)]
     fn goes_past_pairs(&self) -> bool {
-        EXTENDED || !PAIRS_FIRST
+        !PAIRS_FIRST
     }
 
     #[inline(always)]
@@ -268,6 +336,15 @@ impl<V: EncoderTables, const EXTENDED: bool, const PAIRS_FIRST: bool> PlainCodes
             return None;
         }
         common_pair_of(self.tables, c)
+    }
+
+    // Whoever asks has asked for the pair before, so the compiler leaves that out here.
+    #[inline(always)]
+    fn four_of(&self, c: char) -> Option<(u8, u8, u8, u8)> {
+        if !EXTENDED || !PAIRS_FIRST {
+            return None;
+        }
+        common_four_of(self.tables, c)
     }
 }
 
@@ -319,11 +396,19 @@ impl<V: EncoderTables, const EXTENDED: bool, const PAIRS_FIRST: bool> PastPairs
             self.code_of(c)
         }
     }
+
+    #[inline(always)]
+    fn four_past_pairs(&self, c: char) -> Option<(u8, u8, u8, u8)> {
+        if !EXTENDED {
+            return None;
+        }
+        four_past_pairs_of(self.tables, c)
+    }
 }
 
 /// Reads ahead in GB18030 by the pairs of a list, and by the tables as they are kept. Answers where the bytes end.
 #[inline(always)]
-fn read_listed_by<V: EncoderTables, S: Source, const PAIRS_FIRST: bool>(
+fn read_listed_by<V: EncoderTables, S: Source>(
     tables: &V,
     pairs: &[u16],
     src: &mut S,
@@ -340,7 +425,7 @@ fn read_listed_by<V: EncoderTables, S: Source, const PAIRS_FIRST: bool>(
     ensures passed { S.passed src.new + total_unit_count S.form (S.left src.new)
         ≡ S.passed src.old + total_unit_count S.form (S.left src.old) }
 {
-    let codes = Gb18030Codes::<V, true, PAIRS_FIRST> { tables };
+    let codes = Gb18030Codes::<V, true, true> { tables };
     read_runs(&WithPairs::new(&codes, pairs), src, dst, start)
 }
 
@@ -363,10 +448,10 @@ impl EncodesPairs for Gb18030Encoder<'_> {
         }
         match self.tables.kept() {
             KeptTables::Flat(tables) => {
-                read_listed_by::<FlatTables<'_>, S, false>(tables, pairs, src, dst, start)
+                read_listed_by::<FlatTables<'_>, S>(tables, pairs, src, dst, start)
             }
             KeptTables::Packed(tables) => {
-                read_listed_by::<PackedTables<'_>, S, true>(tables, pairs, src, dst, start)
+                read_listed_by::<PackedTables<'_>, S>(tables, pairs, src, dst, start)
             }
         }
     }

@@ -1,7 +1,7 @@
 use Rattle.std.proofs.Common.{arith, refl}
 use Rattle.legacy_base.specs.Encoders.{encoder_profile}
 use Rattle.legacy_encoder_engine.specs.Moves.{IsCode}
-use Rattle.legacy_encoder_engine.specs.declared.moves.EncoderMove.TheVariants.{Two}
+use Rattle.legacy_encoder_engine.specs.declared.moves.EncoderMove.TheVariants.{Two, Four}
 use Rattle.legacy_encoder_engine.proofs.PlainServes.{plain_moves}
 use Rattle.legacy_encoder_engine.proofs.runs.put_past_ascii.Goals as goal
 
@@ -22,6 +22,28 @@ returns-in-Some g c =
       reads = refl;
       silent = refl;
       bytes = c.put_two.ensures;
+      ends = refl;
+    }
+
+pub put_four-requires : goal.put_four-requires
+put_four-requires g c =
+    let codec = g.C.PlainCodes.codec c.args.encoder.now in
+    let four = c.in-Some-four_of.four in
+    let is : IsCode ((encoder_profile codec).code c.args.c) c.args.c (Four four.0 four.1 four.2 four.3) = rw c.in-Some-four_of.is at c.four_of.ensures in
+    let moves = plain_moves codec g.C.PlainCodes.past (g.C.PlainCodes.plain c.args.encoder.now) c.args.c (Four four.0 four.1 four.2 four.3) is in
+    omega (arith, moves.fits, c.requires.room)
+
+pub returns-in-Some-four_of : goal.returns-in-Some-four_of
+returns-in-Some-four_of g c =
+    let codec = g.C.PlainCodes.codec c.args.encoder.now in
+    let four = c.in-Some-four_of.four in
+    let is : IsCode ((encoder_profile codec).code c.args.c) c.args.c (Four four.0 four.1 four.2 four.3) = rw c.in-Some-four_of.is at c.four_of.ensures in
+    record {
+      move = Four four.0 four.1 four.2 four.3;
+      moves = plain_moves codec g.C.PlainCodes.past (g.C.PlainCodes.plain c.args.encoder.now) c.args.c (Four four.0 four.1 four.2 four.3) is;
+      reads = refl;
+      silent = refl;
+      bytes = c.put_four.ensures;
       ends = refl;
     }
 
