@@ -50,8 +50,10 @@ impl Times {
     }
 }
 
-/// The best time of each call. They are made in turn, each so many times at the least if it does not take too long.
-pub fn best_times<W>(calls: &[Option<Call<'_, W>>], dst: &mut [W], times: usize) -> Vec<Option<Duration>> {
+/// The best time of each call. They are made in turn, each so many times at the least if it does not take too long, and
+/// each behind a call of another library that is not timed. So all begin with the processor's caches and guesses as that
+/// one leaves them: above all a call and the check that is a part of it, which else was timed behind a call of its own.
+pub fn best_times<W>(calls: &[Option<Call<'_, W>>], between: &Call<'_, W>, dst: &mut [W], times: usize) -> Vec<Option<Duration>> {
     let mut all = vec![Times::default(); calls.len()];
     loop {
         let mut made = 0;
@@ -60,6 +62,7 @@ pub fn best_times<W>(calls: &[Option<Call<'_, W>>], dst: &mut [W], times: usize)
             if so_far.is_done(times) {
                 continue;
             }
+            black_box(between(dst));
             let start = thread_time();
             black_box(call(dst));
             so_far.add(thread_time() - start);

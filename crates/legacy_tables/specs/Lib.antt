@@ -2,6 +2,7 @@
 pub mod Unicode
 pub mod Indexes
 pub mod Pointers
+pub mod PagePointers
 pub mod TableChecks
 pub mod AcceptedTables
 pub mod Tables

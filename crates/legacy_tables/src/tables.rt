@@ -12,6 +12,7 @@ pub(crate) mod order_checks;
 pub(crate) mod packed;
 pub(crate) mod packed_checks;
 pub(crate) mod packed_tables;
+pub(crate) mod page_pointers;
 pub(crate) mod pointers;
 pub(crate) mod private_use;
 pub(crate) mod run_places;

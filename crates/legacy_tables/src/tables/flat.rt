@@ -1,9 +1,11 @@
 //! Tables that are kept as flat indexes.
 ghost use Rattle.std.specs.Prelude.{◌≡◌, MatchResult, Some};
 ghost use Rattle.legacy_tables.specs.AcceptedTables.{flat_lists};
+ghost use Rattle.legacy_tables.specs.PagePointers.{ArePagePointers};
 ghost use Rattle.legacy_tables.specs.TableChecks.{AreAccepted};
 
 use super::checks::check_indexes;
+use super::page_pointers::PagePointers;
 use super::private_use::row_bytes;
 use super::{DecoderTables, EncoderTables, IndexName, Indexes, TableError, lookups, pointers};
 use std::marker::Model;
@@ -21,8 +23,10 @@ pub struct FlatTables<'a> {
     gb18030_pua: &'a [(u16, u8, u8)],
     likely_places: [u8; 154],
     likely_ranges: [u8; 256],
+    page_pointers: PagePointers,
     ghost accepted: { AreAccepted (flat_lists big5.now euc_kr.now jis0208.now jis0212.now
         gb18030.now katakana.now ranges.now gb18030_pua.now) },
+    ghost paged: { ArePagePointers ranges.now page_pointers.firsts },
 }
 
 impl<'a> Model for FlatTables<'a> {
@@ -65,6 +69,7 @@ impl<'a> FlatTables<'a> {
             gb18030_pua: indexes.gb18030_pua,
             likely_places: lookups::likely_places(indexes.ranges),
             likely_ranges: pointers::likely_ranges(indexes.ranges),
+            page_pointers: PagePointers::new(indexes.ranges),
         })
     }
 }
@@ -119,7 +124,12 @@ impl<'a> EncoderTables for FlatTables<'a> {
 
     #[inline]
     fn range_pointer(&self, scalar: char) -> Option<usize> {
-        pointers::range_pointer(self.ranges, &self.likely_ranges, scalar)
+        pointers::range_pointer(
+            self.ranges,
+            &self.likely_ranges,
+            &self.page_pointers,
+            scalar,
+        )
     }
 
     #[inline]

@@ -2,11 +2,13 @@
 ghost use Rattle.std.specs.Prelude.{◌≡◌, MatchResult, Some};
 ghost use Rattle.legacy_tables.specs.TableChecks.{AreAccepted};
 ghost use Rattle.legacy_tables.specs.PackedTables.{lists_of_runs, AreOrdersOf};
+ghost use Rattle.legacy_tables.specs.PagePointers.{ArePagePointers};
 
 use super::checks::check_indexes;
 use super::order_checks::{AllOrders, all_orders_of};
 use super::packed::Packed;
 use super::packed_checks::{AllRuns, all_runs_of};
+use super::page_pointers::PagePointers;
 use super::private_use::row_bytes;
 use super::{DecoderTables, EncoderTables, IndexName, Indexes, TableError, lookups, pointers};
 use std::marker::Model;
@@ -23,9 +25,11 @@ pub struct PackedTables<'a> {
     gb18030_pua: &'a [(u16, u8, u8)],
     likely_places: [u8; 154],
     likely_ranges: [u8; 256],
+    page_pointers: PagePointers,
     ghost accepted: { AreAccepted (lists_of_runs runs katakana.now ranges.now gb18030_pua.now) },
     ghost ordered: { AreOrdersOf orders
         (lists_of_runs runs katakana.now ranges.now gb18030_pua.now) },
+    ghost paged: { ArePagePointers ranges.now page_pointers.firsts },
 }
 
 impl<'a> Model for PackedTables<'a> {
@@ -67,6 +71,7 @@ impl<'a> PackedTables<'a> {
             gb18030_pua: indexes.gb18030_pua,
             likely_places: lookups::likely_places(indexes.ranges),
             likely_ranges: pointers::likely_ranges(indexes.ranges),
+            page_pointers: PagePointers::new(indexes.ranges),
         })
     }
 }
@@ -120,7 +125,12 @@ impl<'a> EncoderTables for PackedTables<'a> {
 
     #[inline]
     fn range_pointer(&self, scalar: char) -> Option<usize> {
-        pointers::range_pointer(self.ranges, &self.likely_ranges, scalar)
+        pointers::range_pointer(
+            self.ranges,
+            &self.likely_ranges,
+            &self.page_pointers,
+            scalar,
+        )
     }
 
     #[inline]

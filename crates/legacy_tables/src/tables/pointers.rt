@@ -5,9 +5,11 @@ ghost use Rattle.legacy_tables.specs.Pointers.{every_pointer, first_pointer, las
 ghost use Rattle.legacy_tables.specs.Pointers.{big5_pointer_of, takes_last_big5_pointer};
 ghost use Rattle.legacy_tables.specs.Pointers.{shift_jis_pointer_of, euc_jp_pointer_of};
 ghost use Rattle.legacy_tables.specs.Pointers.{range_pointer_of};
+ghost use Rattle.legacy_tables.specs.PagePointers.{ArePagePointers};
 ghost use Rattle.legacy_tables.specs.TableChecks.{range_order_fault, range_value_fault};
 
 use super::checks::end_of;
+use super::page_pointers::PagePointers;
 
 // An index is searched by blocks of 64 bytes, whose entries the library compares as vectors; the
 // place in a block is searched only where the entry is in it.
@@ -187,7 +189,7 @@ pub(super) fn euc_jp_pointer(jis0208: &[u16], scalar: char) -> Option<usize>
 
 /// How many of the ranges have a first scalar at or before the scalar: the ranges rise, so these
 /// are the first ones.
-fn ranges_up_to(ranges: &[(u16, u16)], scalar: usize) -> usize
+pub(super) fn ranges_up_to(ranges: &[(u16, u16)], scalar: usize) -> usize
     requires { range_order_fault 0 None ranges.now ≡ None }
     ensures within { result ≤ length ranges.now }
     ensures reached { (k : ℕ) → k < result → (slice_index_or ranges.now k (0, 0)).1 ≤ scalar }
@@ -276,18 +278,23 @@ fn pointer_in_ranges(ranges: &[(u16, u16)], places: &[u8; 256], scalar: usize) -
 pub(super) fn range_pointer(
     ranges: &[(u16, u16)],
     places: &[u8; 256],
+    pages: &PagePointers,
     scalar: char,
 ) -> Option<usize>
     requires ordered { range_order_fault 0 None ranges.now ≡ None }
     requires valued { range_value_fault 0 ranges.now ≡ None }
+    requires paged { ArePagePointers ranges.now pages.now.firsts }
     ensures { result ≡ range_pointer_of ranges.now scalar }
 {
-    if scalar == '\u{E7C7}' {
-        return Some(7457);
-    }
     let number = u32::from(scalar) as usize;
     if number >= 0x1_0000 {
         return Some(189000 + (number - 0x1_0000));
+    }
+    if let Some(pointer) = pages.pointer(number) {
+        return Some(pointer);
+    }
+    if scalar == '\u{E7C7}' {
+        return Some(7457);
     }
     pointer_in_ranges(ranges, places, number)
 }

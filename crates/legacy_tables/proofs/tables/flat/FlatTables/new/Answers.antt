@@ -6,3 +6,6 @@ likely_places-requires c = (parts _ c.in_ok-check_indexes.ensures).ordered
 
 pub likely_ranges-requires : goal.likely_ranges-requires
 likely_ranges-requires c = (parts _ c.in_ok-check_indexes.ensures).ordered
+
+pub new-requires : goal.new-requires
+new-requires c = (parts _ c.in_ok-check_indexes.ensures).ordered

@@ -9,13 +9,16 @@ likely_places-requires c = (parts _ c.in_ok-check_indexes.ensures).ordered
 pub likely_ranges-requires : goal.likely_ranges-requires
 likely_ranges-requires c = (parts _ c.in_ok-check_indexes.ensures).ordered
 
+pub new-requires : goal.new-requires
+new-requires c = (parts _ c.in_ok-check_indexes.ensures).ordered
+
 pub invariant_of-result : goal.invariant_of-result
 invariant_of-result c =
     let same = lists-same c.in_ok-runs.runs (flat_indexes c.args.indexes.now) c.args.packed.now c.in_ok-runs.ensures.0 in (
       rw same (packed-accepted (flat_indexes c.args.indexes.now) c.args.packed.now c.in_ok-check_indexes.ensures c.in_ok-runs.ensures.1),
       (
         rw same (orders-same c.in_ok-orders.orders (flat_indexes c.args.indexes.now) c.args.packed.now c.in_ok-check_indexes.ensures c.in_ok-runs.ensures.1 c.in_ok-orders.ensures.0),
-        tt,
+        (c.new.ensures, tt),
       ),
     )
 
