@@ -1,16 +1,17 @@
 //! Big5.
 mod encoder;
 
+use crate::codecs::DecoderOf::Over;
+use crate::codecs::{Codec, DecoderCase, decode_each};
 use crate::events::bad;
-use crate::indexes::{no_entries, no_parts, run};
-use crate::over_tables::{Codec, decode_over_both};
+use crate::indexes::{Both, EMPTY, Flat, NO_ENTRIES, NO_PARTS, run};
 use crate::rows::Row::{
     BareLength, Decoder, Events, Lone, Neutral, ToUtf8, ToUtf16, Utf8Length, Utf16Length,
 };
 use crate::rows::{Row, Tested, Told};
 use legacy_base::DecodeEvent::Scalar;
 use legacy_base::DecoderResult::{InputEmpty, Malformed, OutputFull};
-use legacy_base::{Indexes, Packed, Tables};
+use legacy_base::{Packed, Tables};
 use legacy_decoders::Big5Decoder;
 
 impl<'a> Tested for Big5Decoder<'a> {
@@ -90,17 +91,6 @@ const WITHOUT_ENTRIES: &[Row] = &[
     ToUtf16(b"\x61\x88", 2, true, OutputFull, 1, &[0x61]),
 ];
 
-#[test]
-fn decodes_with_an_empty_index(rt: HostRuntime) {
-    decode_over_both(
-        &rt,
-        Codec::Big5,
-        &no_entries(),
-        &no_parts(),
-        WITHOUT_ENTRIES,
-    );
-}
-
 const THE_LAST_POINTER: &[Row] = &[
     Decoder("the last pointer's scalar is past U+FFFF"),
     ToUtf8(b"\xFE\xFD", 16, true, InputEmpty, 2, "\u{2910D}"),
@@ -116,18 +106,25 @@ const THE_LAST_POINTER: &[Row] = &[
     ),
 ];
 
-#[test]
-fn decodes_the_last_pointer(rt: HostRuntime) {
-    let mut index = [0u32; 19781];
-    index[19780] = 0x2_910D;
-    let indexes = Indexes {
-        big5: &index,
-        ..no_entries()
-    };
-    let packed = Packed {
+/// U+2910D at the last pointer, 19780.
+const LAST: &Both = &Both {
+    flat: Flat {
+        big5: (19781, &[(19780, 0x2_910D)]),
+        ..NO_ENTRIES
+    },
+    packed: Packed {
         big5: &[run!(19780, 0x2910D, 1)],
         big5_order: &[19780],
-        ..no_parts()
-    };
-    decode_over_both(&rt, Codec::Big5, &indexes, &packed, THE_LAST_POINTER);
+        ..NO_PARTS
+    },
+};
+
+const CASES: &[DecoderCase] = &[
+    (Over(Codec::Big5), EMPTY, WITHOUT_ENTRIES),
+    (Over(Codec::Big5), LAST, THE_LAST_POINTER),
+];
+
+#[test]
+fn decodes_with_an_empty_index_and_at_the_last_pointer(rt: HostRuntime) {
+    decode_each(&rt, CASES);
 }

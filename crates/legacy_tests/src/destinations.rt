@@ -96,23 +96,17 @@ const IN_UTF8: &[Put<u8>] = &[
     ),
 ];
 
-const IN_UTF16: &[Put<u16>] = &[(
+const IN_UTF16: &Put<u16> = &(
     &['a', '\u{F780}', '\u{1F4A9}'],
     4,
     &[0x61, 0xF780, 0xD83D, 0xDCA9, 0xAAAA, 0xAAAA],
-)];
+);
 
 #[test]
-fn utf_8_takes_one_to_four_bytes_for_a_scalar_and_fills_its_last_bytes(rt: HostRuntime) {
+fn a_scalar_takes_one_to_four_bytes_or_one_or_two_units_and_fills_the_last(rt: HostRuntime) {
+    put_in_utf16(&rt, 0, IN_UTF16);
     for (at, put) in IN_UTF8.iter().enumerate() {
         put_in_utf8(&rt, at, put);
-    }
-}
-
-#[test]
-fn utf_16_takes_one_or_two_units_for_a_scalar(rt: HostRuntime) {
-    for (at, put) in IN_UTF16.iter().enumerate() {
-        put_in_utf16(&rt, at, put);
     }
 }
 

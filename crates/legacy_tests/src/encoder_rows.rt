@@ -2,9 +2,10 @@
 use crate::compared::{Place, is_answer, is_refusal};
 use crate::cuts::{small_lengths, spaced, text_pieces, unit_pieces};
 use crate::encode_events::{Wanted, events_of};
+use crate::replacing::encoders::follow_replacing;
 use crate::texts::Text;
 use legacy_base::{EncodeEvent, EncoderResult, RawEncoder};
-use legacy_codecs::{EncodeRun, RunError};
+use legacy_codecs::{CoderResult, RunError};
 use std::process::Abort;
 
 /// A call, a query or a run of an encoder, and what must come of it.
@@ -32,6 +33,10 @@ pub(crate) enum EncoderRow<'a> {
     RunFromUtf8(&'a [&'a str], &'a [usize], &'a [Wanted<'a>], usize, bool),
     /// The same from UTF-16.
     RunFromUtf16(&'a [&'a [u16]], &'a [usize], &'a [Wanted<'a>], usize, bool),
+    /// A call from UTF-8 with references: the same as without them, and whether one was written.
+    ReplacedFromUtf8(&'a str, usize, bool, CoderResult, usize, &'a [u8], bool),
+    /// A call from UTF-16 with references.
+    ReplacedFromUtf16(&'a [u16], usize, bool, CoderResult, usize, &'a [u8], bool),
     /// Runs over `a` with one output of so many bytes, from UTF-8 and from UTF-16, that are refused, and why.
     RefusedRuns(usize, &'a RunError),
 }
@@ -63,32 +68,21 @@ fn encodes<T: Text, E: RawEncoder>(
 /// What a run must give: the events, how many calls where that is stated, and whether it is finished.
 type Ends<'a> = (&'a [EncodeEvent], Option<usize>, bool);
 
-/// Compares what came of a run with what is wanted.
-fn is_encoded(
-    rt: &impl Abort,
-    place: Place,
-    form: &str,
-    run: &Result<EncodeRun, RunError>,
-    (events, calls, finished): Ends,
-) {
-    is_refusal(rt, place, form, run.as_ref().err(), None);
-    if let Ok(run) = run {
-        let came = (run.events.as_slice(), run.calls, run.finished);
-        let wanted = (events, calls.unwrap_or(run.calls), finished);
-        is_answer(rt, place, form, came, wanted);
-    }
-}
-
 /// Makes a run, and compares what comes of it with what is wanted.
 fn goes<T: Text, E: RawEncoder>(
     rt: &(impl AllocGlobal + Abort),
     place: Place,
     encoder: &mut E,
     (pieces, lengths): (&[T], &[usize]),
-    wanted: Ends,
+    (events, calls, finished): Ends,
 ) {
     let run = T::run(rt.alloc(), encoder, pieces, lengths);
-    is_encoded(rt, place, T::FORM, &run, wanted);
+    is_refusal(rt, place, T::FORM, run.as_ref().err(), None);
+    if let Ok(run) = run {
+        let came = (run.events.as_slice(), run.calls, run.finished);
+        let wanted = (events, calls.unwrap_or(run.calls), finished);
+        is_answer(rt, place, T::FORM, came, wanted);
+    }
 }
 
 /// Makes a run of an encoder of its own, and compares what comes of it.
@@ -288,7 +282,7 @@ fn follow_text<E: TestedEncoder>(
     }
 }
 
-/// Follows the rows in turn, each in one of these four ways.
+/// Follows the rows in turn, each in one of these five ways.
 pub(crate) fn follow_encoder<E: TestedEncoder>(
     rt: &(impl AllocGlobal + Abort),
     of: E::Of,
@@ -305,5 +299,6 @@ pub(crate) fn follow_encoder<E: TestedEncoder>(
         follow_run(rt, (case, at), &mut encoder, row);
         follow_query(rt, (case, at), &encoder, row);
         follow_text::<E>(rt, (case, at), of, row);
+        follow_replacing(rt, (case, at), &mut encoder, row);
     }
 }

@@ -1,16 +1,17 @@
 //! EUC-JP.
 mod encoder;
 
+use crate::codecs::DecoderOf::Over;
+use crate::codecs::{Codec, DecoderCase, decode_each};
 use crate::events::bad;
-use crate::indexes::{no_entries, no_parts, run};
-use crate::over_tables::{Codec, decode_over_both};
+use crate::indexes::{Both, EMPTY, Flat, NO_ENTRIES, NO_PARTS, run};
 use crate::rows::Row::{
     BareLength, Decoder, Events, Neutral, ToUtf8, ToUtf16, Utf8Length, Utf16Length,
 };
 use crate::rows::{Row, Tested, Told};
 use legacy_base::DecodeEvent::Scalar;
 use legacy_base::DecoderResult::{InputEmpty, Malformed, OutputFull};
-use legacy_base::{Indexes, Packed, Tables};
+use legacy_base::{Packed, Tables};
 use legacy_decoders::EucJpDecoder;
 
 impl<'a> Tested for EucJpDecoder<'a> {
@@ -80,17 +81,6 @@ const WITHOUT_ENTRIES: &[Row] = &[
     ToUtf8(b"", 3, true, Malformed(1, 0), 0, ""),
 ];
 
-#[test]
-fn decodes_with_empty_indexes(rt: HostRuntime) {
-    decode_over_both(
-        &rt,
-        Codec::EucJp,
-        &no_entries(),
-        &no_parts(),
-        WITHOUT_ENTRIES,
-    );
-}
-
 const PAIRS: &[Row] = &[
     Decoder("pairs go by index jis0208, and behind 8F by index jis0212"),
     ToUtf16(
@@ -109,24 +99,28 @@ const PAIRS: &[Row] = &[
     ToUtf16(b"\x8F\xA1\xA1", 8, true, Malformed(3, 0), 3, &[]),
 ];
 
-#[test]
-fn decodes_pairs_by_jis0208_and_behind_8f_by_jis0212(rt: HostRuntime) {
-    let mut jis0208 = [0u16; 109];
-    jis0208[0] = 0x3000;
-    jis0208[60] = 0xFF0D;
-    let mut jis0212 = [0u16; 109];
-    jis0212[108] = 0x02D8;
-    let indexes = Indexes {
-        jis0208: &jis0208,
-        jis0212: &jis0212,
-        ..no_entries()
-    };
-    let packed = Packed {
+/// U+3000 and U+FF0D in index jis0208, and U+02D8 in index jis0212.
+const ENTRIES: &Both = &Both {
+    flat: Flat {
+        jis0208: (109, &[(0, 0x3000), (60, 0xFF0D)]),
+        jis0212: (109, &[(108, 0x02D8)]),
+        ..NO_ENTRIES
+    },
+    packed: Packed {
         jis0208: &[run!(0, 0x3000, 1), run!(60, 0xFF0D, 1)],
         jis0212: &[run!(108, 0x2D8, 1)],
         shift_jis_order: &[0, 60],
         euc_jp_order: &[0, 60],
-        ..no_parts()
-    };
-    decode_over_both(&rt, Codec::EucJp, &indexes, &packed, PAIRS);
+        ..NO_PARTS
+    },
+};
+
+const CASES: &[DecoderCase] = &[
+    (Over(Codec::EucJp), EMPTY, WITHOUT_ENTRIES),
+    (Over(Codec::EucJp), ENTRIES, PAIRS),
+];
+
+#[test]
+fn decodes_pairs_by_jis0208_and_behind_8f_by_jis0212(rt: HostRuntime) {
+    decode_each(&rt, CASES);
 }

@@ -1,16 +1,17 @@
 //! EUC-KR.
 mod encoder;
 
+use crate::codecs::DecoderOf::Over;
+use crate::codecs::{Codec, DecoderCase, decode_each};
 use crate::events::bad;
-use crate::indexes::{no_entries, no_parts, run};
-use crate::over_tables::{Codec, decode_over_both};
+use crate::indexes::{Both, Flat, NO_ENTRIES, NO_PARTS, run};
 use crate::rows::Row::{
     BareLength, Decoder, Events, Neutral, ToUtf8, ToUtf16, Utf8Length, Utf16Length,
 };
 use crate::rows::{Row, Tested, Told};
 use legacy_base::DecodeEvent::Scalar;
 use legacy_base::DecoderResult::{InputEmpty, Malformed, OutputFull};
-use legacy_base::{Indexes, Packed, Tables};
+use legacy_base::{Packed, Tables};
 use legacy_decoders::EucKrDecoder;
 
 impl<'a> Tested for EucKrDecoder<'a> {
@@ -70,16 +71,22 @@ const ROWS: &[Row] = &[
     ToUtf16(b"\x61\x81\x41", 1, true, OutputFull, 1, &[0x61]),
 ];
 
-#[test]
-fn decodes_with_one_entry(rt: HostRuntime) {
-    let indexes = Indexes {
-        euc_kr: &[0xAC02],
-        ..no_entries()
-    };
-    let packed = Packed {
+/// U+AC02 at pointer 0, and no other entry.
+pub(crate) const ONE_ENTRY: &Both = &Both {
+    flat: Flat {
+        euc_kr: (1, &[(0, 0xAC02)]),
+        ..NO_ENTRIES
+    },
+    packed: Packed {
         euc_kr: &[run!(0, 0xAC02, 1)],
         euc_kr_order: &[0],
-        ..no_parts()
-    };
-    decode_over_both(&rt, Codec::EucKr, &indexes, &packed, ROWS);
+        ..NO_PARTS
+    },
+};
+
+const CASES: &[DecoderCase] = &[(Over(Codec::EucKr), ONE_ENTRY, ROWS)];
+
+#[test]
+fn decodes_with_one_entry(rt: HostRuntime) {
+    decode_each(&rt, CASES);
 }

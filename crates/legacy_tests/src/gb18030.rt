@@ -1,16 +1,18 @@
 //! gb18030.
 mod encoder;
 
+use crate::codecs::DecoderOf::Over;
+use crate::codecs::{Codec, DecoderCase, decode_each};
 use crate::events::bad;
-use crate::indexes::{no_entries, no_parts, run};
-use crate::over_tables::{Codec, decode_over_both};
+use crate::gb18030::encoder::ROW_AND_ENTRY;
+use crate::indexes::{Both, EMPTY, Flat, NO_ENTRIES, NO_PARTS, run};
 use crate::rows::Row::{
     BareLength, Decoder, Events, Neutral, ToUtf8, ToUtf16, Utf8Length, Utf16Length,
 };
 use crate::rows::{Row, Tested, Told};
 use legacy_base::DecodeEvent::Scalar;
 use legacy_base::DecoderResult::{InputEmpty, Malformed, OutputFull};
-use legacy_base::{Indexes, Packed, Tables};
+use legacy_base::{Packed, Tables};
 use legacy_decoders::Gb18030Decoder;
 
 impl<'a> Tested for Gb18030Decoder<'a> {
@@ -60,9 +62,11 @@ const PUT_BACK: &[Row] = &[
     Neutral(true),
 ];
 
+const BROKEN_CASES: &[DecoderCase] = &[(Over(Codec::Gb18030), EMPTY, PUT_BACK)];
+
 #[test]
 fn decodes_again_what_was_put_back(rt: HostRuntime) {
-    decode_over_both(&rt, Codec::Gb18030, &no_entries(), &no_parts(), PUT_BACK);
+    decode_each(&rt, BROKEN_CASES);
 }
 
 const WITHOUT_ENTRIES: &[Row] = &[
@@ -140,15 +144,11 @@ const WITHOUT_ENTRIES: &[Row] = &[
     Events(b"\x80\x81", &[Scalar('\u{20AC}'), bad!(1, 1)]),
 ];
 
+const EMPTY_CASES: &[DecoderCase] = &[(Over(Codec::Gb18030), EMPTY, WITHOUT_ENTRIES)];
+
 #[test]
 fn decodes_with_empty_indexes(rt: HostRuntime) {
-    decode_over_both(
-        &rt,
-        Codec::Gb18030,
-        &no_entries(),
-        &no_parts(),
-        WITHOUT_ENTRIES,
-    );
+    decode_each(&rt, EMPTY_CASES);
 }
 
 const PAIRS: &[Row] = &[
@@ -162,31 +162,6 @@ const PAIRS: &[Row] = &[
         &[0x4E02, 0x4E79, 0x4E85, 0x4F22, 0x4F23, 0x20AC],
     ),
 ];
-
-#[test]
-fn decodes_pairs_on_both_sides_of_7f(rt: HostRuntime) {
-    let mut index = [0u16; 192];
-    index[0] = 0x4E02;
-    index[62] = 0x4E79;
-    index[63] = 0x4E85;
-    index[189] = 0x4F22;
-    index[190] = 0x4F23;
-    let indexes = Indexes {
-        gb18030: &index,
-        ..no_entries()
-    };
-    let packed = Packed {
-        gb18030: &[
-            run!(0, 0x4E02, 1),
-            run!(62, 0x4E79, 1),
-            run!(63, 0x4E85, 1),
-            run!(189, 0x4F22, 2),
-        ],
-        gb18030_order: &[0, 62, 63, 189, 190],
-        ..no_parts()
-    };
-    decode_over_both(&rt, Codec::Gb18030, &indexes, &packed, PAIRS);
-}
 
 /// The rows with the ranges from pointer 0 and U+0080, and from pointer 36 and U+00A5.
 const RANGES: &[Row] = &[
@@ -216,12 +191,54 @@ const RANGES: &[Row] = &[
     ),
 ];
 
-#[test]
-fn decodes_four_bytes_by_the_ranges(rt: HostRuntime) {
-    let indexes = Indexes {
+/// Scalars at pointers whose trails are on both sides of 7F.
+const BESIDE_7F: &Both = &Both {
+    flat: Flat {
+        gb18030: (
+            192,
+            &[
+                (0, 0x4E02),
+                (62, 0x4E79),
+                (63, 0x4E85),
+                (189, 0x4F22),
+                (190, 0x4F23),
+            ],
+        ),
+        ..NO_ENTRIES
+    },
+    packed: Packed {
+        gb18030: &[
+            run!(0, 0x4E02, 1),
+            run!(62, 0x4E79, 1),
+            run!(63, 0x4E85, 1),
+            run!(189, 0x4F22, 2),
+        ],
+        gb18030_order: &[0, 62, 63, 189, 190],
+        ..NO_PARTS
+    },
+};
+
+const TWO_RANGES: &Both = &Both {
+    flat: Flat {
         ranges: &[(0, 0x0080), (36, 0x00A5)],
-        ..no_entries()
-    };
-    let packed = no_parts();
-    decode_over_both(&rt, Codec::Gb18030, &indexes, &packed, RANGES);
+        ..NO_ENTRIES
+    },
+    packed: NO_PARTS,
+};
+
+/// The rows with U+9FB4 at pointer 23775.
+const DECODED: &[Row] = &[
+    Decoder("the bytes of a row decode to the scalar that the index has there"),
+    ToUtf8(b"\xFE\x59", 16, true, InputEmpty, 2, "\u{9FB4}"),
+];
+
+const CASES: &[DecoderCase] = &[
+    (Over(Codec::Gb18030), BESIDE_7F, PAIRS),
+    (Over(Codec::Gb18030), TWO_RANGES, RANGES),
+    (Over(Codec::Gb18030), ROW_AND_ENTRY, DECODED),
+];
+
+#[test]
+fn decodes_pairs_by_the_index_and_four_bytes_by_the_ranges(rt: HostRuntime) {
+    decode_each(&rt, CASES);
 }

@@ -1,4 +1,4 @@
-//! Tables to test with, their indexes, and the entries of a single-byte table.
+//! Indexes as rows state them, flat and packed, and the tables that are made of them.
 use legacy_base::{GB18030_2022_PUA, Indexes, Packed, SingleByteTable, Tables};
 use std::process::Abort;
 
@@ -15,6 +15,120 @@ macro_rules! run {
 
 pub(crate) use run;
 
+/// How many entries an index has, and those that are not 0, by their pointers.
+pub(crate) type Entries<'a, T> = (usize, &'a [(usize, T)]);
+
+/// Flat indexes.
+#[derive(Drop)]
+pub(crate) struct Flat<'a> {
+    pub(crate) big5: Entries<'a, u32>,
+    pub(crate) euc_kr: Entries<'a, u16>,
+    pub(crate) jis0208: Entries<'a, u16>,
+    pub(crate) jis0212: Entries<'a, u16>,
+    pub(crate) gb18030: Entries<'a, u16>,
+    pub(crate) katakana: Entries<'a, u16>,
+    pub(crate) ranges: &'a [(u16, u16)],
+    pub(crate) gb18030_pua: &'a [(u16, u8, u8)],
+}
+
+/// Indexes without an entry, and the private-use rows of GB18030-2022.
+pub(crate) const NO_ENTRIES: Flat = Flat {
+    big5: (0, &[]),
+    euc_kr: (0, &[]),
+    jis0208: (0, &[]),
+    jis0212: (0, &[]),
+    gb18030: (0, &[]),
+    katakana: (0, &[]),
+    ranges: &[],
+    gb18030_pua: &GB18030_2022_PUA,
+};
+
+/// Packed indexes without a run and without a pointer.
+pub(crate) const NO_PARTS: Packed = Packed {
+    big5: &[],
+    euc_kr: &[],
+    jis0208: &[],
+    jis0212: &[],
+    gb18030: &[],
+    big5_order: &[],
+    euc_kr_order: &[],
+    shift_jis_order: &[],
+    euc_jp_order: &[],
+    gb18030_order: &[],
+};
+
+/// Indexes flat, and the same ones packed.
+#[derive(Drop)]
+pub(crate) struct Both<'a> {
+    pub(crate) flat: Flat<'a>,
+    pub(crate) packed: Packed<'a>,
+}
+
+/// No entries, flat and packed.
+pub(crate) const EMPTY: &Both = &Both {
+    flat: NO_ENTRIES,
+    packed: NO_PARTS,
+};
+
+/// The entries of flat indexes by their pointers, with room for one more than an index may have.
+#[derive(Drop)]
+pub(crate) struct Filled {
+    big5: [u32; 19783],
+    euc_kr: [u16; 23941],
+    jis0208: [u16; 11281],
+    jis0212: [u16; 8837],
+    gb18030: [u16; 23941],
+    katakana: [u16; 63],
+}
+
+/// Puts the entries to their pointers.
+fn fill<T: Copy>(index: &mut [T], entries: &[(usize, T)]) {
+    for (pointer, entry) in entries {
+        if *pointer < index.len() {
+            index[*pointer] = *entry;
+        }
+    }
+}
+
+/// So many entries from the front of an index.
+fn front<T>(index: &[T], length: usize) -> &[T] {
+    &index[..length.min(index.len())]
+}
+
+impl Filled {
+    pub(crate) fn of(flat: &Flat) -> Filled {
+        let mut filled = Filled {
+            big5: [0; 19783],
+            euc_kr: [0; 23941],
+            jis0208: [0; 11281],
+            jis0212: [0; 8837],
+            gb18030: [0; 23941],
+            katakana: [0; 63],
+        };
+        fill(&mut filled.big5, flat.big5.1);
+        fill(&mut filled.euc_kr, flat.euc_kr.1);
+        fill(&mut filled.jis0208, flat.jis0208.1);
+        fill(&mut filled.jis0212, flat.jis0212.1);
+        fill(&mut filled.gb18030, flat.gb18030.1);
+        fill(&mut filled.katakana, flat.katakana.1);
+        filled
+    }
+
+    /// These entries as indexes, with the ranges and the private-use rows that are stated beside them.
+    pub(crate) fn indexes<'a>(&'a self, flat: &Flat<'a>) -> Indexes<'a> {
+        Indexes {
+            big5: front(&self.big5, flat.big5.0),
+            euc_kr: front(&self.euc_kr, flat.euc_kr.0),
+            jis0208: front(&self.jis0208, flat.jis0208.0),
+            jis0212: front(&self.jis0212, flat.jis0212.0),
+            gb18030: front(&self.gb18030, flat.gb18030.0),
+            katakana: front(&self.katakana, flat.katakana.0),
+            ranges: flat.ranges,
+            gb18030_pua: flat.gb18030_pua,
+        }
+    }
+}
+
 /// Indexes without an entry, and the private-use rows of GB18030-2022.
 pub(crate) fn no_entries<'a>() -> Indexes<'a> {
     Indexes {
@@ -26,22 +140,6 @@ pub(crate) fn no_entries<'a>() -> Indexes<'a> {
         katakana: &[],
         ranges: &[],
         gb18030_pua: &GB18030_2022_PUA,
-    }
-}
-
-/// Packed indexes without a run and without a pointer.
-pub(crate) fn no_parts<'a>() -> Packed<'a> {
-    Packed {
-        big5: &[],
-        euc_kr: &[],
-        jis0208: &[],
-        jis0212: &[],
-        gb18030: &[],
-        big5_order: &[],
-        euc_kr_order: &[],
-        shift_jis_order: &[],
-        euc_jp_order: &[],
-        gb18030_order: &[],
     }
 }
 

@@ -1,16 +1,17 @@
 //! ISO-2022-JP.
-mod encoder;
+pub(crate) mod encoder;
 
+use crate::codecs::DecoderOf::Over;
+use crate::codecs::{Codec, DecoderCase, decode_each};
 use crate::events::bad;
-use crate::indexes::{no_entries, no_parts, run};
-use crate::over_tables::{Codec, decode_over_both};
+use crate::indexes::{Both, EMPTY, Flat, NO_ENTRIES, NO_PARTS, run};
 use crate::rows::Row::{
     BareLength, Decoder, Events, Neutral, ToUtf8, ToUtf16, Utf8Length, Utf16Length,
 };
 use crate::rows::{Row, Tested, Told};
 use legacy_base::DecodeEvent::Scalar;
 use legacy_base::DecoderResult::{InputEmpty, Malformed, OutputFull};
-use legacy_base::{Indexes, Packed, Tables};
+use legacy_base::{Packed, Tables};
 use legacy_decoders::Iso2022JpDecoder;
 
 impl<'a> Tested for Iso2022JpDecoder<'a> {
@@ -127,15 +128,11 @@ const WITHOUT_ENTRIES: &[Row] = &[
     ToUtf16(b"\x1B", 1, true, Malformed(1, 0), 1, &[]),
 ];
 
+const EMPTY_CASES: &[DecoderCase] = &[(Over(Codec::Iso2022Jp), EMPTY, WITHOUT_ENTRIES)];
+
 #[test]
 fn decodes_with_an_empty_index(rt: HostRuntime) {
-    decode_over_both(
-        &rt,
-        Codec::Iso2022Jp,
-        &no_entries(),
-        &no_parts(),
-        WITHOUT_ENTRIES,
-    );
+    decode_each(&rt, EMPTY_CASES);
 }
 
 /// The rows with pointers 0, 95, 671 and 4861 of index jis0208.
@@ -245,18 +242,16 @@ const PAIRS: &[Row] = &[
     Neutral(false),
 ];
 
-#[test]
-fn decodes_pairs_between_escapes(rt: HostRuntime) {
-    let mut jis0208 = [0u16; 4862];
-    jis0208[0] = 0x3000;
-    jis0208[95] = 0x2225;
-    jis0208[671] = 0x250F;
-    jis0208[4861] = 0x58FA;
-    let indexes = Indexes {
-        jis0208: &jis0208,
-        ..no_entries()
-    };
-    let packed = Packed {
+/// Scalars at pointers 0, 95, 671 and 4861 of index jis0208.
+const ENTRIES: &Both = &Both {
+    flat: Flat {
+        jis0208: (
+            4862,
+            &[(0, 0x3000), (95, 0x2225), (671, 0x250F), (4861, 0x58FA)],
+        ),
+        ..NO_ENTRIES
+    },
+    packed: Packed {
         jis0208: &[
             run!(0, 0x3000, 1),
             run!(95, 0x2225, 1),
@@ -265,7 +260,13 @@ fn decodes_pairs_between_escapes(rt: HostRuntime) {
         ],
         shift_jis_order: &[95, 671, 0, 4861],
         euc_jp_order: &[95, 671, 0, 4861],
-        ..no_parts()
-    };
-    decode_over_both(&rt, Codec::Iso2022Jp, &indexes, &packed, PAIRS);
+        ..NO_PARTS
+    },
+};
+
+const CASES: &[DecoderCase] = &[(Over(Codec::Iso2022Jp), ENTRIES, PAIRS)];
+
+#[test]
+fn decodes_pairs_between_escapes(rt: HostRuntime) {
+    decode_each(&rt, CASES);
 }

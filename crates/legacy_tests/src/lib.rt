@@ -2,12 +2,16 @@
 //! beside all of that crate, and these need none of it.
 //!
 //! Each codec has one file for its decoder and, in its folder, one for its encoder, with rows of calls and what
-//! must come of them. `rows` and `encoder_rows` follow the rows, and a row that does not hold is printed with what
-//! came of it beside what was wanted.
+//! must come of them. `rows` and `encoder_rows` follow the rows, `codecs` those of each case with its codec over flat
+//! tables and packed ones, and a row that does not hold is printed with what came of it beside what was wanted.
 #![tactic(auto)]
 
 #[cfg(test)]
+mod ahead;
+#[cfg(test)]
 mod big5;
+#[cfg(test)]
+mod codecs;
 #[cfg(test)]
 mod compared;
 #[cfg(test)]
@@ -30,8 +34,6 @@ mod gb18030;
 mod indexes;
 #[cfg(test)]
 mod iso_2022_jp;
-#[cfg(test)]
-mod over_tables;
 #[cfg(test)]
 mod packed;
 #[cfg(test)]

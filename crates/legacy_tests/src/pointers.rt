@@ -1,7 +1,10 @@
-//! Look-ups of the pointers and of the private-use bytes that encoders take.
-use crate::compared::is_pointer;
-use crate::indexes::{no_entries, tables_of};
-use legacy_base::{Indexes, Tables};
+//! Look-ups of the scalars of pointers, and of the pointers and private-use bytes that encoders take.
+use crate::compared::{is_pointer, is_scalar};
+use crate::indexes::{
+    Both, Filled, Flat, NO_ENTRIES, NO_PARTS, no_entries, packed_tables_of, run, tables_of,
+};
+use legacy_base::IndexName::{Big5, EucKr, Gb18030, Jis0208, Jis0212, Katakana};
+use legacy_base::{IndexName, Packed, Tables};
 use std::process::Abort;
 
 /// A look-up of a pointer.
@@ -30,12 +33,62 @@ fn pointer_of(tables: &Tables, look_up: LookUp, scalar: char) -> Option<usize> {
 /// A look-up, a scalar, and the pointer that it must have.
 type Row = (LookUp, char, Option<usize>);
 
-/// Compares what look-ups answer with what is wanted.
-fn have(rt: &impl Abort, case: &str, indexes: &Indexes, rows: &[Row]) {
-    let tables = tables_of(rt, indexes);
+/// An index, a pointer, and the scalar that it must have there.
+type Pointer = (IndexName, usize, Option<char>);
+
+/// A pointer of four bytes, and the scalar that it must have.
+type FourBytes = (usize, Option<char>);
+
+/// Indexes, and what look-ups in tables of them must answer.
+struct Case<'a> {
+    name: &'a str,
+    both: Both<'a>,
+    scalars: &'a [Pointer],
+    four_bytes: &'a [FourBytes],
+    pointers: &'a [Row],
+}
+
+/// Compares the scalars that the indexes have at pointers with what is wanted.
+fn have_scalars(rt: &impl Abort, tables: &Tables, case: &str, rows: &[Pointer]) {
+    for (at, (name, pointer, wanted)) in rows.iter().enumerate() {
+        is_scalar(rt, (case, at), tables.idx(*name, *pointer), *wanted);
+    }
+}
+
+/// Compares the scalars that pointers of four bytes have with what is wanted.
+fn have_four_bytes(rt: &impl Abort, tables: &Tables, case: &str, rows: &[FourBytes]) {
+    for (at, (pointer, wanted)) in rows.iter().enumerate() {
+        is_scalar(rt, (case, at), tables.range(*pointer), *wanted);
+    }
+}
+
+/// Compares the pointers that scalars have with what is wanted.
+fn have_pointers(rt: &impl Abort, tables: &Tables, case: &str, rows: &[Row]) {
     for (at, (look_up, scalar, wanted)) in rows.iter().enumerate() {
-        let came = pointer_of(&tables, *look_up, *scalar);
+        let came = pointer_of(tables, *look_up, *scalar);
         is_pointer(rt, (case, at), came, *wanted);
+    }
+}
+
+/// Compares what look-ups in these tables answer with what is wanted.
+fn answer(rt: &impl Abort, tables: &Tables, case: &Case) {
+    have_scalars(rt, tables, case.name, case.scalars);
+    have_four_bytes(rt, tables, case.name, case.four_bytes);
+    have_pointers(rt, tables, case.name, case.pointers);
+}
+
+/// Looks up in flat tables of the indexes, and in packed ones.
+fn answer_in_both(rt: &impl Abort, case: &Case) {
+    let filled = Filled::of(&case.both.flat);
+    let indexes = filled.indexes(&case.both.flat);
+    answer(rt, &tables_of(rt, &indexes), case);
+    answer(rt, &packed_tables_of(rt, &indexes, &case.both.packed), case);
+}
+
+/// Looks up in the tables of each case.
+fn answer_in_each(rt: &impl Abort, cases: &[Case]) {
+    for case in cases {
+        answer_in_both(rt, case);
     }
 }
 
@@ -49,18 +102,6 @@ const FIRST: &[Row] = &[
     (LookUp::Gb18030, '\u{4E02}', Some(1)),
 ];
 
-#[test]
-fn the_first_pointer_is_taken(rt: HostRuntime) {
-    let mut euc_kr = [0u16; 23940];
-    euc_kr[23939] = 0x8A70;
-    let indexes = Indexes {
-        euc_kr: &euc_kr,
-        gb18030: &[0, 0x4E02, 0x4E02],
-        ..no_entries()
-    };
-    have(&rt, "first pointers", &indexes, FIRST);
-}
-
 const OF_BIG5: &[Row] = &[
     // the last of two
     (LookUp::Big5, '\u{2550}', Some(18991)),
@@ -69,43 +110,13 @@ const OF_BIG5: &[Row] = &[
     (LookUp::Big5, '\u{3001}', None),
 ];
 
-#[test]
-fn big5_takes_no_pointer_below_5024_and_the_last_of_six_scalars(rt: HostRuntime) {
-    let mut big5 = [0u32; 18992];
-    big5[5023] = 0x3001;
-    big5[5024] = 0x3000;
-    big5[5247] = 0x2550;
-    big5[18991] = 0x2550;
-    let indexes = Indexes {
-        big5: &big5,
-        ..no_entries()
-    };
-    have(&rt, "Big5", &indexes, OF_BIG5);
-}
-
 const TWICE_IN_JIS0208: &[Row] = &[
     (LookUp::ShiftJis, '\u{FF02}', Some(10739)),
     (LookUp::EucJp, '\u{FF02}', Some(8647)),
+    (LookUp::ShiftJis, '\u{FF03}', None),
 ];
 
 const ONCE_IN_JIS0208: &[Row] = &[(LookUp::ShiftJis, '\u{FF02}', None)];
-
-#[test]
-fn shift_jis_takes_no_pointer_that_nec_repeats(rt: HostRuntime) {
-    let mut jis0208 = [0u16; 10740];
-    jis0208[8647] = 0xFF02;
-    jis0208[10739] = 0xFF02;
-    let indexes = Indexes {
-        jis0208: &jis0208,
-        ..no_entries()
-    };
-    have(&rt, "twice in jis0208", &indexes, TWICE_IN_JIS0208);
-    let indexes = Indexes {
-        jis0208: &jis0208[..8648],
-        ..no_entries()
-    };
-    have(&rt, "once in jis0208", &indexes, ONCE_IN_JIS0208);
-}
 
 const BY_THE_LAST_RANGE: &[Row] = &[
     (LookUp::Ranges, '\u{FFFD}', Some(39417)),
@@ -120,18 +131,274 @@ const AROUND_7457: &[Row] = &[
     (LookUp::Ranges, '\u{E7C7}', Some(7457)),
 ];
 
+const BY_ENTRIES: &[Pointer] = &[
+    (Big5, 0, Some('\u{2008A}')),
+    (EucKr, 0, Some('\u{AC02}')),
+    // an entry 0
+    (EucKr, 1, None),
+    // past the end
+    (EucKr, 2, None),
+    (Jis0208, 0, Some('\u{3000}')),
+    (Jis0212, 0, Some('\u{4E02}')),
+    (Gb18030, 1, Some('\u{4E04}')),
+    (Katakana, 0, None),
+    (IndexName::Ranges, 0, None),
+];
+
+const BY_RUNS: &[Pointer] = &[
+    (Big5, 0, Some('\u{2008A}')),
+    (EucKr, 63, Some('\u{AC02}')),
+    (EucKr, 64, Some('\u{AC03}')),
+    // behind a run, and past the end
+    (EucKr, 65, None),
+    (EucKr, 23940, None),
+    (EucKr, 65535, None),
+    (EucKr, usize::MAX, None),
+    // before all runs
+    (EucKr, 62, None),
+    (Jis0208, 0, Some('\u{3000}')),
+    (Jis0212, 0, Some('\u{4E02}')),
+    (Gb18030, 1, Some('\u{4E04}')),
+    (Gb18030, 2, None),
+    (Katakana, 0, None),
+    (IndexName::Ranges, 0, None),
+];
+
+const OF_FOUR_BYTES: &[(usize, Option<char>)] = &[
+    (0, Some('\u{80}')),
+    (35, Some('\u{A3}')),
+    (36, Some('\u{A5}')),
+    (37, Some('\u{A6}')),
+    (38, Some('\u{A9}')),
+    (7457, Some('\u{E7C7}')),
+    (39420, None),
+    (188999, None),
+    (189000, Some('\u{10000}')),
+    (1237575, Some('\u{10FFFF}')),
+    (1237576, None),
+];
+
+const SCALARS: &[Case] = &[
+    Case {
+        name: "entries",
+        both: Both {
+            flat: Flat {
+                big5: (1, &[(0, 0x2_008A)]),
+                euc_kr: (2, &[(0, 0xAC02)]),
+                jis0208: (1, &[(0, 0x3000)]),
+                jis0212: (1, &[(0, 0x4E02)]),
+                gb18030: (2, &[(0, 0x4E02), (1, 0x4E04)]),
+                gb18030_pua: &[],
+                ..NO_ENTRIES
+            },
+            packed: Packed {
+                big5: &[run!(0, 0x2_008A, 1)],
+                euc_kr: &[run!(0, 0xAC02, 1)],
+                jis0208: &[run!(0, 0x3000, 1)],
+                jis0212: &[run!(0, 0x4E02, 1)],
+                gb18030: &[run!(0, 0x4E02, 1), run!(1, 0x4E04, 1)],
+                euc_kr_order: &[0],
+                shift_jis_order: &[0],
+                euc_jp_order: &[0],
+                gb18030_order: &[0, 1],
+                ..NO_PARTS
+            },
+        },
+        scalars: BY_ENTRIES,
+        four_bytes: &[],
+        pointers: &[],
+    },
+    Case {
+        name: "runs",
+        both: Both {
+            flat: Flat {
+                big5: (1, &[(0, 0x2_008A)]),
+                euc_kr: (66, &[(63, 0xAC02), (64, 0xAC03)]),
+                jis0208: (1, &[(0, 0x3000)]),
+                jis0212: (1, &[(0, 0x4E02)]),
+                gb18030: (2, &[(0, 0x4E02), (1, 0x4E04)]),
+                ..NO_ENTRIES
+            },
+            packed: Packed {
+                big5: &[run!(0, 0x2_008A, 1)],
+                euc_kr: &[run!(63, 0xAC02, 2)],
+                jis0208: &[run!(0, 0x3000, 1)],
+                jis0212: &[run!(0, 0x4E02, 1)],
+                gb18030: &[run!(0, 0x4E02, 1), run!(1, 0x4E04, 1)],
+                euc_kr_order: &[63, 64],
+                shift_jis_order: &[0],
+                euc_jp_order: &[0],
+                gb18030_order: &[0, 1],
+                ..NO_PARTS
+            },
+        },
+        scalars: BY_RUNS,
+        four_bytes: &[],
+        pointers: &[],
+    },
+    Case {
+        name: "three ranges",
+        both: Both {
+            flat: Flat {
+                ranges: &[(0, 0x80), (36, 0xA5), (38, 0xA9)],
+                ..NO_ENTRIES
+            },
+            packed: NO_PARTS,
+        },
+        scalars: &[],
+        four_bytes: OF_FOUR_BYTES,
+        pointers: &[],
+    },
+];
+
 #[test]
-fn four_bytes_go_by_the_ranges(rt: HostRuntime) {
-    let indexes = Indexes {
-        ranges: &[(39394, 0xFFE6)],
-        ..no_entries()
-    };
-    have(&rt, "the last range", &indexes, BY_THE_LAST_RANGE);
-    let indexes = Indexes {
-        ranges: &[(7457, 0x3000)],
-        ..no_entries()
-    };
-    have(&rt, "around 7457", &indexes, AROUND_7457);
+fn a_pointer_has_the_scalar_of_its_index_or_range(rt: HostRuntime) {
+    answer_in_each(&rt, SCALARS);
+}
+
+const OF_TWO: &[Case] = &[
+    Case {
+        name: "first pointers",
+        both: Both {
+            flat: Flat {
+                euc_kr: (23940, &[(23939, 0x8A70)]),
+                gb18030: (3, &[(1, 0x4E02), (2, 0x4E02)]),
+                ..NO_ENTRIES
+            },
+            packed: Packed {
+                euc_kr: &[run!(23939, 0x8A70, 1)],
+                gb18030: &[run!(1, 0x4E02, 1), run!(2, 0x4E02, 1)],
+                euc_kr_order: &[23939],
+                gb18030_order: &[1],
+                ..NO_PARTS
+            },
+        },
+        scalars: &[],
+        four_bytes: &[],
+        pointers: FIRST,
+    },
+    Case {
+        name: "Big5",
+        both: Both {
+            flat: Flat {
+                big5: (
+                    18992,
+                    &[
+                        (5023, 0x3001),
+                        (5024, 0x3000),
+                        (5247, 0x2550),
+                        (18991, 0x2550),
+                    ],
+                ),
+                ..NO_ENTRIES
+            },
+            packed: Packed {
+                big5: &[
+                    run!(5023, 0x3001, 1),
+                    run!(5024, 0x3000, 1),
+                    run!(5247, 0x2550, 1),
+                    run!(18991, 0x2550, 1),
+                ],
+                big5_order: &[18991, 5024],
+                ..NO_PARTS
+            },
+        },
+        scalars: &[],
+        four_bytes: &[],
+        pointers: OF_BIG5,
+    },
+    Case {
+        name: "twice in Big5",
+        both: Both {
+            flat: Flat {
+                big5: (18992, &[(5247, 0x2550), (18991, 0x2550)]),
+                ..NO_ENTRIES
+            },
+            packed: Packed {
+                big5: &[run!(5247, 0x2550, 1), run!(18991, 0x2550, 1)],
+                big5_order: &[18991],
+                ..NO_PARTS
+            },
+        },
+        scalars: &[],
+        four_bytes: &[],
+        pointers: &[(LookUp::Big5, '\u{2550}', Some(18991))],
+    },
+];
+
+#[test]
+fn the_first_pointer_is_taken_but_of_six_scalars_the_last(rt: HostRuntime) {
+    answer_in_each(&rt, OF_TWO);
+}
+
+const OF_JIS0208_AND_RANGES: &[Case] = &[
+    Case {
+        name: "twice in jis0208",
+        both: Both {
+            flat: Flat {
+                jis0208: (10740, &[(8647, 0xFF02), (10739, 0xFF02)]),
+                ..NO_ENTRIES
+            },
+            packed: Packed {
+                jis0208: &[run!(8647, 0xFF02, 1), run!(10739, 0xFF02, 1)],
+                shift_jis_order: &[10739],
+                euc_jp_order: &[8647],
+                ..NO_PARTS
+            },
+        },
+        scalars: &[],
+        four_bytes: &[],
+        pointers: TWICE_IN_JIS0208,
+    },
+    Case {
+        name: "once in jis0208",
+        both: Both {
+            flat: Flat {
+                jis0208: (8648, &[(8647, 0xFF02)]),
+                ..NO_ENTRIES
+            },
+            packed: Packed {
+                jis0208: &[run!(8647, 0xFF02, 1)],
+                euc_jp_order: &[8647],
+                ..NO_PARTS
+            },
+        },
+        scalars: &[],
+        four_bytes: &[],
+        pointers: ONCE_IN_JIS0208,
+    },
+    Case {
+        name: "the last range",
+        both: Both {
+            flat: Flat {
+                ranges: &[(39394, 0xFFE6)],
+                ..NO_ENTRIES
+            },
+            packed: NO_PARTS,
+        },
+        scalars: &[],
+        // a pointer before all ranges has no scalar
+        four_bytes: &[(39393, None), (39417, Some('\u{FFFD}'))],
+        pointers: BY_THE_LAST_RANGE,
+    },
+    Case {
+        name: "around 7457",
+        both: Both {
+            flat: Flat {
+                ranges: &[(7457, 0x3000)],
+                ..NO_ENTRIES
+            },
+            packed: NO_PARTS,
+        },
+        scalars: &[],
+        four_bytes: &[],
+        pointers: AROUND_7457,
+    },
+];
+
+#[test]
+fn shift_jis_takes_no_pointer_that_nec_repeats_and_four_bytes_go_by_the_ranges(rt: HostRuntime) {
+    answer_in_each(&rt, OF_JIS0208_AND_RANGES);
 }
 
 #[test]

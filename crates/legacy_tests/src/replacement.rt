@@ -1,7 +1,10 @@
 //! The replacement codec.
+use crate::codecs::DecoderOf::Replacement;
+use crate::codecs::{DecoderCase, decode_each};
 use crate::events::bad;
+use crate::indexes::EMPTY;
 use crate::rows::Row::{BareLength, Decoder, Events, ToUtf8, ToUtf16, Utf8Length, Utf16Length};
-use crate::rows::{Row, Tested, follow};
+use crate::rows::{Row, Tested};
 use legacy_base::DecoderResult::{InputEmpty, Malformed, OutputFull};
 use legacy_decoders::ReplacementDecoder;
 
@@ -35,7 +38,9 @@ const ROWS: &[Row] = &[
     BareLength(usize::MAX, Some(3)),
 ];
 
+const CASES: &[DecoderCase] = &[(Replacement, EMPTY, ROWS)];
+
 #[test]
 fn decodes_the_first_byte_as_malformed_and_swallows_the_rest(rt: HostRuntime) {
-    follow::<ReplacementDecoder>(&rt, (), ROWS);
+    decode_each(&rt, CASES);
 }

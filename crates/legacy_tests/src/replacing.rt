@@ -1,36 +1,18 @@
 //! Calls with replacement: rows of calls with what must come of each, and the functions that follow them.
+use crate::codecs::DecoderOf::{Over, Utf16};
+use crate::codecs::{Codec, DecoderCase, decode_each};
 use crate::compared::{Place, is_answer};
-use crate::indexes::{no_entries, tables_of};
-use crate::replacing::Row::{Decoder, Pieces, Text, ToUtf8, ToUtf16, Utf16Length};
-use crate::rows::{Call, Tested};
+use crate::indexes::EMPTY;
+use crate::iso_2022_jp::encoder::ONE_PAIR;
+use crate::rows::Row::{Decoder, Pieces, ReplacedToUtf8, ReplacedToUtf16, Text, Utf16Length};
+use crate::rows::{Call, Row, Tested};
 use crate::units::{Bytes, Form, Units};
-use legacy_base::{Indexes, RawDecoder};
+use legacy_base::RawDecoder;
 use legacy_codecs::CoderResult;
 use legacy_codecs::CoderResult::InputEmpty;
-use legacy_decoders::{Gb18030Decoder, Iso2022JpDecoder, Utf16Decoder};
 use std::process::Abort;
 
-mod encoders;
-
-/// A call or a query of a decoder, and what must come of it.
-#[derive(Clone, Copy)]
-enum Row<'a> {
-    /// A decoder that was just made, and the name of the case that begins with it.
-    Decoder(&'a str),
-    /// A call into UTF-8: the bytes, how many bytes are free, whether these are the last, the answer, how
-    /// many bytes are read, the text that is written, and whether something was replaced.
-    ToUtf8(&'a [u8], usize, bool, CoderResult, usize, &'a str, bool),
-    /// A call into UTF-16: the same, but what is free and what is written are code units.
-    ToUtf16(&'a [u8], usize, bool, CoderResult, usize, &'a [u16], bool),
-    /// The length in UTF-16 for so many bytes.
-    Utf16Length(usize, Option<usize>),
-    /// The text that decoders of their own write of the bytes, the last ones, call after call with outputs
-    /// of any one length from 4 to 15 bytes, and of 2 to 7 code units.
-    Text(&'a [u8], &'a str, &'a [u16]),
-    /// The bytes in pieces of so many, none of them the last. Each piece fits into as many code units of
-    /// UTF-16 as the decoder answers for it, and nothing is replaced.
-    Pieces(&'a [u8], usize),
-}
+pub(crate) mod encoders;
 
 /// Makes a call into UTF-8, and compares what comes of it with what is wanted.
 fn writes_text<D: RawDecoder>(
@@ -155,30 +137,23 @@ fn is_read<D: RawDecoder>(rt: &impl Abort, place: Place, decoder: &mut D, piece:
     is_answer(rt, place, "a piece", came, (InputEmpty, piece.len(), false));
 }
 
-/// Follows the row of a query, or of pieces: compares what comes of them with what is wanted.
-fn follow_lengths<D: RawDecoder>(rt: &impl Abort, place: Place, decoder: &mut D, row: &Row) {
-    match row {
-        Utf16Length(bytes, length) => {
-            let came = decoder.max_utf16_buffer_length(*bytes);
-            is_answer(rt, place, "the length in UTF-16", came, *length);
+/// Follows the row of pieces: compares what comes of each with what is wanted.
+fn follow_pieces<D: RawDecoder>(rt: &impl Abort, place: Place, decoder: &mut D, row: &Row) {
+    if let Pieces(input, size) = row {
+        for piece in input.chunks((*size).max(1)) {
+            is_read(rt, place, decoder, piece);
         }
-        Pieces(input, size) => {
-            for piece in input.chunks((*size).max(1)) {
-                is_read(rt, place, decoder, piece);
-            }
-        }
-        _ => {}
     }
 }
 
 /// Follows the row of a call: makes it, and compares what comes of it with what is wanted.
 fn follow_call<D: RawDecoder>(rt: &impl Abort, place: Place, decoder: &mut D, row: &Row) {
     match row {
-        ToUtf8(source, room, last, answer, read, text, replaced) => {
+        ReplacedToUtf8(source, room, last, answer, read, text, replaced) => {
             let wanted = (*answer, *read, *text, *replaced);
             writes_text(rt, place, decoder, (source, *room, *last), wanted);
         }
-        ToUtf16(source, room, last, answer, read, units, replaced) => {
+        ReplacedToUtf16(source, room, last, answer, read, units, replaced) => {
             let wanted = (*answer, *read, *units, *replaced);
             writes_units(rt, place, decoder, (source, *room, *last), wanted);
         }
@@ -186,26 +161,24 @@ fn follow_call<D: RawDecoder>(rt: &impl Abort, place: Place, decoder: &mut D, ro
     }
 }
 
-/// Follows the rows in turn, each in one of these three ways.
-fn follow<D: Tested>(rt: &impl Abort, of: D::Of, rows: &[Row]) {
-    let mut case = "";
-    let mut decoder = D::made(of);
-    for (at, row) in rows.iter().enumerate() {
-        if let Decoder(name) = row {
-            case = name;
-            decoder = D::made(of);
-        }
-        follow_call(rt, (case, at), &mut decoder, row);
-        follow_lengths(rt, (case, at), &mut decoder, row);
-        follow_text::<D>(rt, (case, at), of, row);
-    }
+/// Follows a row of calls with replacement, in one of these three ways.
+pub(crate) fn follow_replacing<D: Tested>(
+    rt: &impl Abort,
+    place: Place,
+    of: D::Of,
+    decoder: &mut D,
+    row: &Row,
+) {
+    follow_call(rt, place, decoder, row);
+    follow_pieces(rt, place, decoder, row);
+    follow_text::<D>(rt, place, of, row);
 }
 
 const ESCAPES: &[Row] = &[
     Decoder("the queried length is enough behind an escape that is held back"),
-    ToUtf16(b"\x1B", 2, false, InputEmpty, 1, &[], false),
+    ReplacedToUtf16(b"\x1B", 2, false, InputEmpty, 1, &[], false),
     Utf16Length(1, Some(2)),
-    ToUtf16(b"\x41", 2, true, InputEmpty, 1, &[0xFFFD, 0x41], true),
+    ReplacedToUtf16(b"\x41", 2, true, InputEmpty, 1, &[0xFFFD, 0x41], true),
     Decoder("any small output gives the same text"),
     Text(
         b"\x1B\x24\x42\x39\x1B\x24",
@@ -230,16 +203,10 @@ const ESCAPES: &[Row] = &[
     Text(b"\x61\x1B\x24\x42\x39", "a\u{FFFD}", &[0x61, 0xFFFD]),
 ];
 
-#[test]
-fn broken_escapes_are_replaced(rt: HostRuntime) {
-    let tables = tables_of(&rt, &no_entries());
-    follow::<Iso2022JpDecoder>(&rt, &tables, ESCAPES);
-}
-
 /// The rows with U+58FA at pointer 4861.
 const PAIRS: &[Row] = &[
     Decoder("a byte that is no lead is replaced in two-byte mode, which stays"),
-    ToUtf8(
+    ReplacedToUtf8(
         b"\x1B\x24\x40\x80\x54\x64",
         96,
         true,
@@ -249,7 +216,7 @@ const PAIRS: &[Row] = &[
         true,
     ),
     Decoder("of an escape that is none only the first byte is replaced"),
-    ToUtf8(
+    ReplacedToUtf8(
         b"\x1B\x24\x28\x44",
         96,
         true,
@@ -260,23 +227,9 @@ const PAIRS: &[Row] = &[
     ),
 ];
 
-#[test]
-fn two_byte_mode_goes_on_behind_a_replacement(rt: HostRuntime) {
-    let mut jis0208 = [0u16; 4862];
-    jis0208[4861] = 0x58FA;
-    let tables = tables_of(
-        &rt,
-        &Indexes {
-            jis0208: &jis0208,
-            ..no_entries()
-        },
-    );
-    follow::<Iso2022JpDecoder>(&rt, &tables, PAIRS);
-}
-
 const LITTLE_ENDIAN: &[Row] = &[
     Decoder("lone surrogates are replaced, also at the end"),
-    ToUtf8(
+    ReplacedToUtf8(
         b"\0\0\0\0\0\0\0\0\x3D\xD8\xA9\xDC\0\0\0\0\0\0\0\0\x3D\xD8\0\0\0\0\0\0\0\0\xA9\xDC\0\0\0\0\0\0\0\0\0\0\0\0\0\0\0\0\x3D\xD8",
         96,
         true,
@@ -286,10 +239,10 @@ const LITTLE_ENDIAN: &[Row] = &[
         true,
     ),
     Decoder("a unit may be cut"),
-    ToUtf8(b"\xFF", 96, false, InputEmpty, 1, "", false),
-    ToUtf8(b"\xFD", 96, true, InputEmpty, 1, "\u{FDFF}", false),
+    ReplacedToUtf8(b"\xFF", 96, false, InputEmpty, 1, "", false),
+    ReplacedToUtf8(b"\xFD", 96, true, InputEmpty, 1, "\u{FDFF}", false),
     Decoder("half a unit at the end is replaced"),
-    ToUtf8(b"\xFF", 96, true, InputEmpty, 1, "\u{FFFD}", true),
+    ReplacedToUtf8(b"\xFF", 96, true, InputEmpty, 1, "\u{FFFD}", true),
 ];
 
 const BIG_ENDIAN: &[Row] = &[
@@ -299,15 +252,9 @@ const BIG_ENDIAN: &[Row] = &[
     Pieces(b"\x00\xE4\x26\x03\xD8\x3D\xDC\xA9\x00\x61\x00\xE4", 3),
 ];
 
-#[test]
-fn broken_pairs_of_surrogates_are_replaced(rt: HostRuntime) {
-    follow::<Utf16Decoder>(&rt, false, LITTLE_ENDIAN);
-    follow::<Utf16Decoder>(&rt, true, BIG_ENDIAN);
-}
-
 const FOUR_BYTES: &[Row] = &[
     Decoder("four bytes that are no form, and two at the end"),
-    ToUtf8(
+    ReplacedToUtf8(
         b"\xE3\x32\x9A\x36\x81\x30",
         96,
         true,
@@ -317,7 +264,7 @@ const FOUR_BYTES: &[Row] = &[
         true,
     ),
     Decoder("the digits behind a byte that is no lead stay"),
-    ToUtf8(
+    ReplacedToUtf8(
         b"\xFF\x32\x9A\x33\0",
         96,
         true,
@@ -328,8 +275,15 @@ const FOUR_BYTES: &[Row] = &[
     ),
 ];
 
+const CASES: &[DecoderCase] = &[
+    (Over(Codec::Iso2022Jp), EMPTY, ESCAPES),
+    (Over(Codec::Iso2022Jp), ONE_PAIR, PAIRS),
+    (Utf16(false), EMPTY, LITTLE_ENDIAN),
+    (Utf16(true), EMPTY, BIG_ENDIAN),
+    (Over(Codec::Gb18030), EMPTY, FOUR_BYTES),
+];
+
 #[test]
-fn broken_forms_of_four_bytes_are_replaced(rt: HostRuntime) {
-    let tables = tables_of(&rt, &no_entries());
-    follow::<Gb18030Decoder>(&rt, &tables, FOUR_BYTES);
+fn what_is_malformed_is_replaced(rt: HostRuntime) {
+    decode_each(&rt, CASES);
 }

@@ -2,9 +2,10 @@
 use crate::compared::{Place, is_answer, is_refusal};
 use crate::cuts::{byte_pieces, small_lengths, spaced};
 use crate::events::events;
+use crate::replacing::follow_replacing;
 use crate::units::{Bytes, Form, Units};
 use legacy_base::{DecodeEvent, DecoderResult, RawDecoder};
-use legacy_codecs::{DecodeRun, RunError};
+use legacy_codecs::{CoderResult, RunError};
 use std::process::Abort;
 
 /// A call, a query or a run of a decoder, and what must come of it.
@@ -41,6 +42,16 @@ pub(crate) enum Row<'a> {
     RunToUtf8(&'a [&'a [u8]], &'a [usize], &'a [DecodeEvent], usize, bool),
     /// The same into UTF-16.
     RunToUtf16(&'a [&'a [u8]], &'a [usize], &'a [DecodeEvent], usize, bool),
+    /// A call into UTF-8 with replacement: the same as without it, and whether something was replaced.
+    ReplacedToUtf8(&'a [u8], usize, bool, CoderResult, usize, &'a str, bool),
+    /// A call into UTF-16 with replacement.
+    ReplacedToUtf16(&'a [u8], usize, bool, CoderResult, usize, &'a [u16], bool),
+    /// The text that decoders of their own write of the bytes, the last ones, with replacement, call after call with
+    /// outputs of any one length from 4 to 15 bytes, and of 2 to 7 code units.
+    Text(&'a [u8], &'a str, &'a [u16]),
+    /// The bytes in pieces of so many, none of them the last. Each piece fits into as many code units of
+    /// UTF-16 as the decoder answers for it, and nothing is replaced.
+    Pieces(&'a [u8], usize),
     /// Runs over a piece with one output of so many code units, in UTF-8 and in UTF-16, that are refused, and why.
     RefusedRuns(&'a [u8], usize, &'a RunError),
 }
@@ -139,32 +150,21 @@ fn finds_by_calls<D: Tested>(
 /// What a run must give: the events, how many calls where that is stated, and whether it is finished.
 type Wanted<'a> = (&'a [DecodeEvent], Option<usize>, bool);
 
-/// Compares what came of a run with what is wanted.
-fn is_decoded(
-    rt: &impl Abort,
-    place: Place,
-    form: &str,
-    run: &Result<DecodeRun, RunError>,
-    (events, calls, finished): Wanted,
-) {
-    is_refusal(rt, place, form, run.as_ref().err(), None);
-    if let Ok(run) = run {
-        let came = (run.events.as_slice(), run.calls, run.finished);
-        let wanted = (events, calls.unwrap_or(run.calls), finished);
-        is_answer(rt, place, form, came, wanted);
-    }
-}
-
 /// Makes a run, and compares what comes of it with what is wanted.
 fn runs<F: Form, D: RawDecoder>(
     rt: &(impl AllocGlobal + Abort),
     place: Place,
     decoder: &mut D,
     (pieces, lengths): (&[&[u8]], &[usize]),
-    wanted: Wanted,
+    (events, calls, finished): Wanted,
 ) {
     let run = F::run(rt.alloc(), decoder, pieces, lengths);
-    is_decoded(rt, place, F::NAME, &run, wanted);
+    is_refusal(rt, place, F::NAME, run.as_ref().err(), None);
+    if let Ok(run) = run {
+        let came = (run.events.as_slice(), run.calls, run.finished);
+        let wanted = (events, calls.unwrap_or(run.calls), finished);
+        is_answer(rt, place, F::NAME, came, wanted);
+    }
 }
 
 /// Makes a run of a decoder of its own into UTF-8 and another into UTF-16, and compares what comes of them.
@@ -310,7 +310,7 @@ fn follow_call<D: RawDecoder>(rt: &impl Abort, place: Place, decoder: &mut D, ro
     }
 }
 
-/// Follows one row, in one of these four ways.
+/// Follows one row, in one of these five ways.
 fn follow_row<D: Tested>(
     rt: &(impl AllocGlobal + Abort),
     place: Place,
@@ -322,6 +322,7 @@ fn follow_row<D: Tested>(
     follow_run(rt, place, decoder, row);
     follow_query(rt, place, decoder, row);
     follow_events::<D>(rt, place, of, row);
+    follow_replacing::<D>(rt, place, of, decoder, row);
 }
 
 /// Follows the rows in turn.

@@ -1,33 +1,24 @@
 //! Runs of decoders: one table of cases, whole and in every cut, into outputs of every small length.
 mod encoders;
 
+use crate::codecs::DecoderOf::{Over, Replacement, SingleByte, UserDefined, Utf16};
+use crate::codecs::{Codec, DecoderCase, decode_each};
 use crate::compared::prints;
+use crate::euc_kr::ONE_ENTRY;
 use crate::events::bad;
-use crate::indexes::{byte_table_of, no_entries, no_parts, packed_tables_of, run, tables_of};
-use crate::over_tables::{Codec, decode_over};
 use crate::rows::Row::{Cut, Decoder, RefusedRuns, RunToUtf8, RunToUtf16, ToUtf8};
-use crate::rows::{Row, follow};
 use legacy_base::DecodeEvent::Scalar;
 use legacy_base::DecoderResult::{InputEmpty, OutputFull};
-use legacy_base::{DecoderResult, Destination, Indexes, Packed, RawDecoder, Tables};
+use legacy_base::{DecoderResult, Destination, RawDecoder};
 use legacy_codecs::{OutputForm, RunError, ScalarBuffer, Utf8Form, Utf16Form};
-use legacy_decoders::{ReplacementDecoder, SingleByteDecoder, UserDefinedDecoder, Utf16Decoder};
+use legacy_decoders::UserDefinedDecoder;
 use std::process::Abort;
 
-/// What a decoder is made of: tables, or something else.
-#[derive(Clone, Copy)]
-enum Made {
-    Over(Codec),
-    Utf16Le,
-    SingleByte,
-    UserDefined,
-    Replacement,
-}
-
 /// The cases, with U+AC02 at pointer 0 of index EUC-KR, and no other scalar in any index.
-const CASES: &[(Made, &[Row])] = &[
+const CASES_OVER_TABLES: &[DecoderCase] = &[
     (
-        Made::Over(Codec::Big5),
+        Over(Codec::Big5),
+        ONE_ENTRY,
         &[
             Decoder("a pair of two scalars, and a lead that the end cuts off"),
             Cut(
@@ -44,14 +35,16 @@ const CASES: &[(Made, &[Row])] = &[
         ],
     ),
     (
-        Made::Over(Codec::EucKr),
+        Over(Codec::EucKr),
+        ONE_ENTRY,
         &[
             Decoder("a pair, and a lead that the end cuts off"),
             Cut(b"\x81\x41\x81", &[Scalar('\u{AC02}'), bad!(2, 1)]),
         ],
     ),
     (
-        Made::Over(Codec::ShiftJis),
+        Over(Codec::ShiftJis),
+        ONE_ENTRY,
         &[
             Decoder("a single byte, and a lead behind a lead"),
             Cut(
@@ -61,14 +54,16 @@ const CASES: &[(Made, &[Row])] = &[
         ],
     ),
     (
-        Made::Over(Codec::EucJp),
+        Over(Codec::EucJp),
+        ONE_ENTRY,
         &[
             Decoder("an ASCII byte behind 8F and a lead, and an 8F that the end cuts off"),
             Cut(b"\x8F\xA2\x41\x8F", &[bad!(0, 2), Scalar('A'), bad!(3, 1)]),
         ],
     ),
     (
-        Made::Over(Codec::Gb18030),
+        Over(Codec::Gb18030),
+        ONE_ENTRY,
         &[
             Decoder("two broken forms of four bytes, of which the end cuts off the second"),
             Cut(
@@ -84,7 +79,8 @@ const CASES: &[(Made, &[Row])] = &[
         ],
     ),
     (
-        Made::Over(Codec::Iso2022Jp),
+        Over(Codec::Iso2022Jp),
+        ONE_ENTRY,
         &[
             Decoder("two escapes, the yen sign, and a lead before an escape that the end cuts off"),
             Cut(
@@ -99,8 +95,13 @@ const CASES: &[(Made, &[Row])] = &[
             ),
         ],
     ),
+];
+
+/// The cases, with U+AC02 at pointer 0 of index EUC-KR, and no other scalar in any index.
+const CASES_OF_OTHERS: &[DecoderCase] = &[
     (
-        Made::Utf16Le,
+        Utf16(false),
+        ONE_ENTRY,
         &[
             Decoder("an unpaired high surrogate, and one with an odd byte at the end"),
             Cut(
@@ -118,14 +119,16 @@ const CASES: &[(Made, &[Row])] = &[
         ],
     ),
     (
-        Made::SingleByte,
+        SingleByte(&[]),
+        ONE_ENTRY,
         &[
             Decoder("a byte without an entry"),
             Cut(b"\x41\x80", &[Scalar('A'), bad!(1, 1)]),
         ],
     ),
     (
-        Made::UserDefined,
+        UserDefined,
+        ONE_ENTRY,
         &[
             Decoder("the last byte of ASCII, and the first past it"),
             Cut(b"\x7F\x80", &[Scalar('\u{7F}'), Scalar('\u{F780}')]),
@@ -148,7 +151,8 @@ const CASES: &[(Made, &[Row])] = &[
         ],
     ),
     (
-        Made::Replacement,
+        Replacement,
+        ONE_ENTRY,
         &[
             Decoder("the first byte, and the rest"),
             Cut(b"\x41\x42", &[bad!(0, 1)]),
@@ -156,54 +160,14 @@ const CASES: &[(Made, &[Row])] = &[
     ),
 ];
 
-/// Follows the rows with a decoder over these tables, the single-byte one without an entry.
-fn decodes(rt: &(impl AllocGlobal + Abort), tables: &Tables, made: Made, rows: &[Row]) {
-    match made {
-        Made::Over(codec) => decode_over(rt, codec, tables, rows),
-        Made::Utf16Le => follow::<Utf16Decoder>(rt, false, rows),
-        Made::SingleByte => {
-            let table = byte_table_of(rt, &[0; 128]);
-            follow::<SingleByteDecoder>(rt, &table, rows);
-        }
-        Made::UserDefined => follow::<UserDefinedDecoder>(rt, (), rows),
-        Made::Replacement => follow::<ReplacementDecoder>(rt, (), rows),
-    }
-}
-
-/// Follows each case over these tables.
-fn decodes_each_case(rt: &(impl AllocGlobal + Abort), tables: &Tables) {
-    for (made, rows) in CASES {
-        decodes(rt, tables, *made, *rows);
-    }
-}
-
-/// The index of all cases: U+AC02 at pointer 0 of index EUC-KR.
-fn indexes<'a>() -> Indexes<'a> {
-    Indexes {
-        euc_kr: &[0xAC02],
-        ..no_entries()
-    }
-}
-
-/// Tables of it as a flat index.
-pub(super) fn flat_tables<'a>(rt: &impl Abort) -> Tables<'a> {
-    tables_of(rt, &indexes())
-}
-
-/// Tables of it as runs and orders.
-pub(super) fn packed_tables<'a>(rt: &impl Abort) -> Tables<'a> {
-    let packed = Packed {
-        euc_kr: &[run!(0, 0xAC02, 1)],
-        euc_kr_order: &[0],
-        ..no_parts()
-    };
-    packed_tables_of(rt, &indexes(), &packed)
+#[test]
+fn runs_over_tables_give_the_same_events_in_every_cut(rt: HostRuntime) {
+    decode_each(&rt, CASES_OVER_TABLES);
 }
 
 #[test]
-fn runs_give_the_same_events_in_every_cut(rt: HostRuntime) {
-    decodes_each_case(&rt, &flat_tables(&rt));
-    decodes_each_case(&rt, &packed_tables(&rt));
+fn runs_of_the_other_decoders_do_so_too(rt: HostRuntime) {
+    decode_each(&rt, CASES_OF_OTHERS);
 }
 
 #[test]

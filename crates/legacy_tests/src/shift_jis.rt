@@ -1,9 +1,10 @@
 //! Shift_JIS.
 mod encoder;
 
+use crate::codecs::DecoderOf::Over;
+use crate::codecs::{Codec, DecoderCase, decode_each};
 use crate::events::bad;
-use crate::indexes::{no_entries, no_parts};
-use crate::over_tables::{Codec, decode_over_both};
+use crate::indexes::EMPTY;
 use crate::rows::Row::{BareLength, Decoder, Events, Neutral, ToUtf8, Utf8Length, Utf16Length};
 use crate::rows::{Row, Tested, Told};
 use legacy_base::DecodeEvent::Scalar;
@@ -69,13 +70,9 @@ const WITHOUT_ENTRIES: &[Row] = &[
     Utf16Length(usize::MAX, None),
 ];
 
+const CASES: &[DecoderCase] = &[(Over(Codec::ShiftJis), EMPTY, WITHOUT_ENTRIES)];
+
 #[test]
 fn decodes_with_an_empty_index(rt: HostRuntime) {
-    decode_over_both(
-        &rt,
-        Codec::ShiftJis,
-        &no_entries(),
-        &no_parts(),
-        WITHOUT_ENTRIES,
-    );
+    decode_each(&rt, CASES);
 }

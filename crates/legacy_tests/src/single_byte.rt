@@ -1,9 +1,11 @@
 //! The single-byte codecs.
-mod encoder;
+pub(crate) mod encoder;
 
+use crate::codecs::DecoderOf::SingleByte;
+use crate::codecs::{DecoderCase, decode_each};
 use crate::compared::is_answer;
 use crate::events::{Found, bad};
-use crate::indexes::{byte_table_of, entries_of};
+use crate::indexes::{EMPTY, byte_table_of, entries_of};
 use crate::rows::Row::{BareLength, Decoder, Events, ToUtf8, Utf8Length, Utf16Length};
 use crate::rows::{Row, Tested, follow};
 use legacy_base::DecodeEvent::{Bad, Scalar};
@@ -31,13 +33,6 @@ const WITHOUT_ENTRIES: &[Row] = &[
     BareLength(7, Some(21)),
 ];
 
-#[test]
-fn decodes_ascii_alone_with_an_empty_table(rt: HostRuntime) {
-    let table = byte_table_of(&rt, &[0; 128]);
-    follow::<SingleByteDecoder>(&rt, &table, WITHOUT_ENTRIES);
-}
-
-/// The rows with four letters at the places that ISO-8859-7 has them.
 const GREEK: &[Row] = &[
     Decoder("a byte without an entry is malformed"),
     ToUtf8(
@@ -61,11 +56,17 @@ const GREEK: &[Row] = &[
     ),
 ];
 
+/// Four letters at the places that ISO-8859-7 has them.
+const LETTERS: &[(usize, u16)] = &[(65, 0x391), (117, 0x3C5), (116, 0x3C4), (124, 0x3CC)];
+
+const CASES: &[DecoderCase] = &[
+    (SingleByte(&[]), EMPTY, WITHOUT_ENTRIES),
+    (SingleByte(LETTERS), EMPTY, GREEK),
+];
+
 #[test]
-fn decodes_greek_letters(rt: HostRuntime) {
-    let entries = entries_of(&[(65, 0x391), (117, 0x3C5), (116, 0x3C4), (124, 0x3CC)]);
-    let table = byte_table_of(&rt, &entries);
-    follow::<SingleByteDecoder>(&rt, &table, GREEK);
+fn decodes_ascii_and_the_bytes_that_have_an_entry(rt: HostRuntime) {
+    decode_each(&rt, CASES);
 }
 
 /// The entry of byte 85, bytes, and how many of them stand before the first that is another scalar.

@@ -1,250 +1,286 @@
-//! The checks of the tables, and look-ups in them.
-use crate::compared::{Place, is_fault, is_pointer, is_scalar, prints};
-use crate::indexes::{byte_table_of, entries_of, no_entries, tables_of};
+//! The checks of the tables, the words of their faults, and single-byte tables.
+use crate::compared::{is_fault, is_pointer, is_scalar, prints};
+use crate::indexes::{Filled, Flat, NO_ENTRIES, byte_table_of, entries_of};
+use crate::single_byte::encoder::TWO_LETTERS;
 use legacy_base::IndexName::{Big5, EucKr, Gb18030, Jis0208, Jis0212, Katakana};
 use legacy_base::TableError::{
-    BadByteEntry, BadEntry, KatakanaLength, NotEmpty, PuaBytes, PuaOrder, PuaScalar, RangeOrder,
-    RangeValue, Repeated, TooLong,
+    BadByteEntry, BadEntry, KatakanaLength, NotEmpty, PackedDiffers, PackedOrder, PuaBytes,
+    PuaOrder, PuaScalar, RangeOrder, RangeValue, Repeated, TooLong,
 };
-use legacy_base::{IndexName, Indexes, SingleByteTable, TableError, Tables};
+use legacy_base::{IndexName, PackedPart, SingleByteTable, TableError, Tables};
 use std::process::Abort;
 
-/// Indexes in which one index of entries up to U+FFFF has these, and the others none.
-fn narrow<'a>(name: IndexName, entries: &'a [u16]) -> Indexes<'a> {
-    let mut indexes = no_entries();
-    match name {
-        EucKr => indexes.euc_kr = entries,
-        Jis0208 => indexes.jis0208 = entries,
-        Jis0212 => indexes.jis0212 = entries,
-        Gb18030 => indexes.gb18030 = entries,
-        Katakana => indexes.katakana = entries,
-        Big5 | IndexName::Ranges => {}
-    }
-    indexes
-}
+/// Indexes, and their fault.
+type Faulty<'a> = (Flat<'a>, Option<TableError>);
 
-/// The index, how many entries it has, the one that is not 0 and its pointer, and the fault.
-type Entries = (IndexName, usize, u32, usize, Option<TableError>);
-
-/// Compares the fault of these indexes with what is wanted.
-fn have_fault(rt: &impl Abort, place: Place, indexes: &Indexes, wanted: &Option<TableError>) {
-    is_fault(rt, place, &Tables::new(indexes).err(), wanted);
-}
-
-/// Compares the fault of so many entries that are 0, but for one, in such an index with what is wanted.
-fn narrow_has_fault(
-    rt: &impl Abort,
-    place: Place,
-    (name, length): (IndexName, usize),
-    (entry, pointer): (u16, usize),
-    wanted: &Option<TableError>,
-) {
-    let mut entries = [0u16; 23941];
-    if pointer < 23941 {
-        entries[pointer] = entry;
-    }
-    let indexes = narrow(name, &entries[..length.min(23941)]);
-    have_fault(rt, place, &indexes, wanted);
-}
-
-/// Compares the fault of so many entries of index Big5 that are 0, but for one, with what is wanted.
-fn big5_has_fault(
-    rt: &impl Abort,
-    place: Place,
-    length: usize,
-    (entry, pointer): (u32, usize),
-    wanted: &Option<TableError>,
-) {
-    let mut entries = [0u32; 19783];
-    if pointer < 19783 {
-        entries[pointer] = entry;
-    }
-    let mut indexes = no_entries();
-    indexes.big5 = &entries[..length.min(19783)];
-    have_fault(rt, place, &indexes, wanted);
-}
-
-/// Looks for the fault of each row.
-fn are_checked(rt: &impl Abort, rows: &[Entries]) {
-    for (at, (name, length, entry, pointer, wanted)) in rows.iter().enumerate() {
-        let place = ("entries", at);
-        match u16::try_from(*entry) {
-            Ok(entry) if *name != IndexName::Big5 => {
-                narrow_has_fault(rt, place, (*name, *length), (entry, *pointer), wanted);
-            }
-            _ => big5_has_fault(rt, place, *length, (*entry, *pointer), wanted),
-        }
+/// Compares the fault of the indexes of each row with what is wanted.
+fn have_faults(rt: &impl Abort, case: &str, rows: &[Faulty]) {
+    for (at, (flat, wanted)) in rows.iter().enumerate() {
+        let filled = Filled::of(flat);
+        let came = Tables::new(&filled.indexes(flat)).err();
+        is_fault(rt, (case, at), &came, wanted);
     }
 }
 
-const ENTRIES_OF_BIG5: &[Entries] = &[
-    (Big5, 0, 0, 0, None),
-    // the length comes before the entries
-    (Big5, 19783, 0x7F, 0, Some(TooLong(Big5))),
-    (Big5, 19782, 0x80, 0, None),
-    // scalars of two planes
-    (Big5, 6, 0x1_0000, 5, Some(BadEntry(Big5, 5))),
-    (Big5, 6, 0x3_0000, 5, Some(BadEntry(Big5, 5))),
-    (Big5, 6, 0x2_FFFF, 5, None),
-    // a bad entry comes before one that must be empty
-    (Big5, 1134, 0x7F, 1133, Some(BadEntry(Big5, 1133))),
-    (Big5, 1134, 0x3000, 1133, Some(NotEmpty(Big5, 1133))),
-];
-
-#[test]
-fn entries_of_big5_are_checked(rt: HostRuntime) {
-    are_checked(&rt, ENTRIES_OF_BIG5);
-}
-
-const ENTRIES_OF_OTHERS: &[Entries] = &[
-    // each has a greatest length
-    (EucKr, 23941, 0, 0, Some(TooLong(EucKr))),
-    (EucKr, 23940, 0, 0, None),
-    (Jis0208, 11281, 0, 0, Some(TooLong(Jis0208))),
-    (Jis0208, 11280, 0, 0, None),
-    (Jis0212, 8837, 0, 0, Some(TooLong(Jis0212))),
-    (Jis0212, 8836, 0, 0, None),
-    (Gb18030, 23941, 0, 0, Some(TooLong(Gb18030))),
-    (Gb18030, 23940, 0, 0, None),
-    // and no surrogate
-    (EucKr, 3, 0xD800, 2, Some(BadEntry(EucKr, 2))),
-    // index jis0208 has no entry for user-defined characters
-    (Jis0208, 8837, 0x3000, 8836, Some(NotEmpty(Jis0208, 8836))),
-    // katakana has all its entries or none
-    (Katakana, 62, 0, 0, Some(KatakanaLength)),
-    (Katakana, 63, 0, 0, None),
-];
-
-#[test]
-fn entries_of_the_other_indexes_are_checked(rt: HostRuntime) {
-    are_checked(&rt, ENTRIES_OF_OTHERS);
-}
-
-/// Ranges alone, and their fault.
-type Ranges<'a> = (&'a [(u16, u16)], Option<TableError>);
-
-const RANGES: &[Ranges] = &[
-    (&[(0, 0x80), (36, 0xA3)], Some(RangeOrder(1))),
-    (&[(39420, 0x80)], Some(RangeOrder(0))),
-    (&[(0, 0x7F), (0, 0x100)], Some(RangeOrder(1))),
-    (&[(0, 0x7F)], Some(RangeValue(0))),
-    (&[(39394, 0xFFE7)], Some(RangeValue(0))),
-    (&[(39000, 0xD7FF)], Some(RangeValue(0))),
-    (&[(39419, 0xFFFF)], None),
-];
-
-#[test]
-fn ranges_rise_before_their_scalars_count(rt: HostRuntime) {
-    for (at, (ranges, wanted)) in RANGES.iter().enumerate() {
-        let mut indexes = no_entries();
-        indexes.ranges = ranges;
-        have_fault(&rt, ("ranges", at), &indexes, wanted);
-    }
-}
-
-/// Private-use rows alone, and their fault.
-type PrivateUse<'a> = (&'a [(u16, u8, u8)], Option<TableError>);
-
-const PRIVATE_USE: &[PrivateUse] = &[
+const ENTRIES_OF_BIG5: &[Faulty] = &[
     (
-        &[(0xE78E, 0xA6, 0xDA), (0xE78D, 0xA6, 0xD9)],
+        Flat {
+            big5: (0, &[]),
+            ..NO_ENTRIES
+        },
+        None,
+    ),
+    // the length comes before the entries
+    (
+        Flat {
+            big5: (19783, &[(0, 0x7F)]),
+            ..NO_ENTRIES
+        },
+        Some(TooLong(Big5)),
+    ),
+    (
+        Flat {
+            big5: (19782, &[(0, 0x80)]),
+            ..NO_ENTRIES
+        },
+        None,
+    ),
+    // scalars of two planes
+    (
+        Flat {
+            big5: (6, &[(5, 0x1_0000)]),
+            ..NO_ENTRIES
+        },
+        Some(BadEntry(Big5, 5)),
+    ),
+    (
+        Flat {
+            big5: (6, &[(5, 0x3_0000)]),
+            ..NO_ENTRIES
+        },
+        Some(BadEntry(Big5, 5)),
+    ),
+    (
+        Flat {
+            big5: (6, &[(5, 0x2_FFFF)]),
+            ..NO_ENTRIES
+        },
+        None,
+    ),
+    // a bad entry comes before one that must be empty
+    (
+        Flat {
+            big5: (1134, &[(1133, 0x7F)]),
+            ..NO_ENTRIES
+        },
+        Some(BadEntry(Big5, 1133)),
+    ),
+    (
+        Flat {
+            big5: (1134, &[(1133, 0x3000)]),
+            ..NO_ENTRIES
+        },
+        Some(NotEmpty(Big5, 1133)),
+    ),
+];
+
+const ENTRIES_OF_OTHERS: &[Faulty] = &[
+    // each has a greatest length
+    (
+        Flat {
+            euc_kr: (23941, &[]),
+            ..NO_ENTRIES
+        },
+        Some(TooLong(EucKr)),
+    ),
+    (
+        Flat {
+            euc_kr: (23940, &[]),
+            ..NO_ENTRIES
+        },
+        None,
+    ),
+    (
+        Flat {
+            jis0208: (11281, &[]),
+            ..NO_ENTRIES
+        },
+        Some(TooLong(Jis0208)),
+    ),
+    (
+        Flat {
+            jis0208: (11280, &[]),
+            ..NO_ENTRIES
+        },
+        None,
+    ),
+    (
+        Flat {
+            jis0212: (8837, &[]),
+            ..NO_ENTRIES
+        },
+        Some(TooLong(Jis0212)),
+    ),
+    (
+        Flat {
+            jis0212: (8836, &[]),
+            ..NO_ENTRIES
+        },
+        None,
+    ),
+    (
+        Flat {
+            gb18030: (23941, &[]),
+            ..NO_ENTRIES
+        },
+        Some(TooLong(Gb18030)),
+    ),
+    (
+        Flat {
+            gb18030: (23940, &[]),
+            ..NO_ENTRIES
+        },
+        None,
+    ),
+    // and no surrogate
+    (
+        Flat {
+            euc_kr: (3, &[(2, 0xD800)]),
+            ..NO_ENTRIES
+        },
+        Some(BadEntry(EucKr, 2)),
+    ),
+    // index jis0208 has no entry for user-defined characters
+    (
+        Flat {
+            jis0208: (8837, &[(8836, 0x3000)]),
+            ..NO_ENTRIES
+        },
+        Some(NotEmpty(Jis0208, 8836)),
+    ),
+    // katakana has all its entries or none
+    (
+        Flat {
+            katakana: (62, &[]),
+            ..NO_ENTRIES
+        },
+        Some(KatakanaLength),
+    ),
+    (
+        Flat {
+            katakana: (63, &[]),
+            ..NO_ENTRIES
+        },
+        None,
+    ),
+];
+
+/// Ranges alone.
+const RANGES: &[Faulty] = &[
+    (
+        Flat {
+            ranges: &[(0, 0x80), (36, 0xA3)],
+            ..NO_ENTRIES
+        },
+        Some(RangeOrder(1)),
+    ),
+    (
+        Flat {
+            ranges: &[(39420, 0x80)],
+            ..NO_ENTRIES
+        },
+        Some(RangeOrder(0)),
+    ),
+    (
+        Flat {
+            ranges: &[(0, 0x7F), (0, 0x100)],
+            ..NO_ENTRIES
+        },
+        Some(RangeOrder(1)),
+    ),
+    (
+        Flat {
+            ranges: &[(0, 0x7F)],
+            ..NO_ENTRIES
+        },
+        Some(RangeValue(0)),
+    ),
+    (
+        Flat {
+            ranges: &[(39394, 0xFFE7)],
+            ..NO_ENTRIES
+        },
+        Some(RangeValue(0)),
+    ),
+    (
+        Flat {
+            ranges: &[(39000, 0xD7FF)],
+            ..NO_ENTRIES
+        },
+        Some(RangeValue(0)),
+    ),
+    (
+        Flat {
+            ranges: &[(39419, 0xFFFF)],
+            ..NO_ENTRIES
+        },
+        None,
+    ),
+];
+
+/// Private-use rows alone.
+const PRIVATE_USE: &[Faulty] = &[
+    (
+        Flat {
+            gb18030_pua: &[(0xE78E, 0xA6, 0xDA), (0xE78D, 0xA6, 0xD9)],
+            ..NO_ENTRIES
+        },
         Some(PuaOrder(1)),
     ),
-    (&[(0xE5E5, 0xA6, 0xD9)], Some(PuaScalar(0))),
-    (&[(0xE000, 0xA6, 0x7F)], Some(PuaBytes(0))),
+    (
+        Flat {
+            gb18030_pua: &[(0xE5E5, 0xA6, 0xD9)],
+            ..NO_ENTRIES
+        },
+        Some(PuaScalar(0)),
+    ),
+    (
+        Flat {
+            gb18030_pua: &[(0xE000, 0xA6, 0x7F)],
+            ..NO_ENTRIES
+        },
+        Some(PuaBytes(0)),
+    ),
     // at one place the order comes first, then the scalar
     (
-        &[(0xE000, 0xA6, 0xD9), (0xDFFF, 0xA6, 0x7F)],
+        Flat {
+            gb18030_pua: &[(0xE000, 0xA6, 0xD9), (0xDFFF, 0xA6, 0x7F)],
+            ..NO_ENTRIES
+        },
         Some(PuaOrder(1)),
     ),
-    (&[(0xDFFF, 0xA6, 0x7F)], Some(PuaScalar(0))),
-    (&[(0xE000, 0x81, 0x40), (0xF8FF, 0xFE, 0xFE)], None),
-];
-
-#[test]
-fn private_use_rows_rise_and_have_two_bytes(rt: HostRuntime) {
-    for (at, (rows, wanted)) in PRIVATE_USE.iter().enumerate() {
-        let mut indexes = no_entries();
-        indexes.gb18030_pua = rows;
-        have_fault(&rt, ("private-use rows", at), &indexes, wanted);
-    }
-}
-
-/// An index, a pointer, and the scalar that it has there.
-pub(crate) type Pointer = (IndexName, usize, Option<char>);
-
-/// Compares the scalars that the indexes of these tables have at pointers with what is wanted.
-pub(crate) fn have_scalars(rt: &impl Abort, tables: &Tables, rows: &[Pointer]) {
-    for (at, (name, pointer, wanted)) in rows.iter().enumerate() {
-        is_scalar(rt, ("pointers", at), tables.idx(*name, *pointer), *wanted);
-    }
-}
-
-const POINTERS: &[Pointer] = &[
-    (Big5, 0, Some('\u{2008A}')),
-    (EucKr, 0, Some('\u{AC02}')),
-    // an entry 0
-    (EucKr, 1, None),
-    // past the end
-    (EucKr, 2, None),
-    (Jis0208, 0, Some('\u{3000}')),
-    (Jis0212, 0, Some('\u{4E02}')),
-    (Gb18030, 1, Some('\u{4E04}')),
-    (Katakana, 0, None),
-    (IndexName::Ranges, 0, None),
-];
-
-#[test]
-fn a_pointer_has_its_entry_in_the_named_index(rt: HostRuntime) {
-    let tables = tables_of(
-        &rt,
-        &Indexes {
-            big5: &[0x2_008A],
-            euc_kr: &[0xAC02, 0],
-            jis0208: &[0x3000],
-            jis0212: &[0x4E02],
-            gb18030: &[0x4E02, 0x4E04],
-            katakana: &[],
-            ranges: &[],
-            gb18030_pua: &[],
+    (
+        Flat {
+            gb18030_pua: &[(0xDFFF, 0xA6, 0x7F)],
+            ..NO_ENTRIES
         },
-    );
-    have_scalars(&rt, &tables, POINTERS);
-}
-
-/// Compares the scalars that these ranges give pointers of four bytes with what is wanted.
-fn give(rt: &impl Abort, ranges: &[(u16, u16)], rows: &[(usize, Option<char>)]) {
-    let mut indexes = no_entries();
-    indexes.ranges = ranges;
-    let tables = tables_of(rt, &indexes);
-    for (at, (pointer, wanted)) in rows.iter().enumerate() {
-        is_scalar(rt, ("four bytes", at), tables.range(*pointer), *wanted);
-    }
-}
-
-const OF_FOUR_BYTES: &[(usize, Option<char>)] = &[
-    (0, Some('\u{80}')),
-    (35, Some('\u{A3}')),
-    (36, Some('\u{A5}')),
-    (37, Some('\u{A6}')),
-    (38, Some('\u{A9}')),
-    (7457, Some('\u{E7C7}')),
-    (39420, None),
-    (188999, None),
-    (189000, Some('\u{10000}')),
-    (1237575, Some('\u{10FFFF}')),
-    (1237576, None),
+        Some(PuaScalar(0)),
+    ),
+    (
+        Flat {
+            gb18030_pua: &[(0xE000, 0x81, 0x40), (0xF8FF, 0xFE, 0xFE)],
+            ..NO_ENTRIES
+        },
+        None,
+    ),
 ];
 
 #[test]
-fn a_pointer_of_four_bytes_goes_by_its_range(rt: HostRuntime) {
-    give(&rt, &[(0, 0x80), (36, 0xA5), (38, 0xA9)], OF_FOUR_BYTES);
-    // a pointer before all ranges has no scalar
-    give(
-        &rt,
-        &[(39394, 0xFFE6)],
-        &[(39393, None), (39417, Some('\u{FFFD}'))],
-    );
+fn entries_ranges_and_private_use_rows_are_checked(rt: HostRuntime) {
+    have_faults(&rt, "entries of Big5", ENTRIES_OF_BIG5);
+    have_faults(&rt, "entries of the other indexes", ENTRIES_OF_OTHERS);
+    have_faults(&rt, "ranges", RANGES);
+    have_faults(&rt, "private-use rows", PRIVATE_USE);
 }
 
 const WORDS: &[(TableError, &str)] = &[
@@ -266,10 +302,90 @@ const WORDS: &[(TableError, &str)] = &[
     (PuaBytes(0), "private-use row 0 has bad bytes"),
     (BadByteEntry(3), "single-byte entry 3 is bad"),
     (Repeated(4), "single-byte entry 4 is repeated"),
+    (
+        PackedOrder(PackedPart::Big5, 5),
+        "packed big5 is out of order at 5",
+    ),
+    (
+        PackedDiffers(PackedPart::Big5, 5),
+        "packed big5 differs at 5",
+    ),
+    (
+        PackedOrder(PackedPart::EucKr, 5),
+        "packed euc-kr is out of order at 5",
+    ),
+    (
+        PackedDiffers(PackedPart::EucKr, 5),
+        "packed euc-kr differs at 5",
+    ),
+    (
+        PackedOrder(PackedPart::Jis0208, 5),
+        "packed jis0208 is out of order at 5",
+    ),
+    (
+        PackedDiffers(PackedPart::Jis0208, 5),
+        "packed jis0208 differs at 5",
+    ),
+    (
+        PackedOrder(PackedPart::Jis0212, 5),
+        "packed jis0212 is out of order at 5",
+    ),
+    (
+        PackedDiffers(PackedPart::Jis0212, 5),
+        "packed jis0212 differs at 5",
+    ),
+    (
+        PackedOrder(PackedPart::Gb18030, 5),
+        "packed gb18030 is out of order at 5",
+    ),
+    (
+        PackedDiffers(PackedPart::Gb18030, 5),
+        "packed gb18030 differs at 5",
+    ),
+    (
+        PackedOrder(PackedPart::Big5Order, 5),
+        "packed big5-order is out of order at 5",
+    ),
+    (
+        PackedDiffers(PackedPart::Big5Order, 5),
+        "packed big5-order differs at 5",
+    ),
+    (
+        PackedOrder(PackedPart::EucKrOrder, 5),
+        "packed euc-kr-order is out of order at 5",
+    ),
+    (
+        PackedDiffers(PackedPart::EucKrOrder, 5),
+        "packed euc-kr-order differs at 5",
+    ),
+    (
+        PackedOrder(PackedPart::ShiftJisOrder, 5),
+        "packed shift-jis-order is out of order at 5",
+    ),
+    (
+        PackedDiffers(PackedPart::ShiftJisOrder, 5),
+        "packed shift-jis-order differs at 5",
+    ),
+    (
+        PackedOrder(PackedPart::EucJpOrder, 5),
+        "packed euc-jp-order is out of order at 5",
+    ),
+    (
+        PackedDiffers(PackedPart::EucJpOrder, 5),
+        "packed euc-jp-order differs at 5",
+    ),
+    (
+        PackedOrder(PackedPart::Gb18030Order, 5),
+        "packed gb18030-order is out of order at 5",
+    ),
+    (
+        PackedDiffers(PackedPart::Gb18030Order, 5),
+        "packed gb18030-order differs at 5",
+    ),
 ];
 
 #[test]
-fn the_words_of_faults_and_indexes(rt: HostRuntime) {
+fn the_words_of_faults_indexes_and_parts(rt: HostRuntime) {
     for (at, (fault, wanted)) in WORDS.iter().enumerate() {
         prints(&rt, ("words", at), fault, wanted);
     }
@@ -290,30 +406,21 @@ fn a_single_byte_table_is_checked_from_its_first_place(rt: HostRuntime) {
     }
 }
 
-/// Compares the scalar of the place and the place of the scalar with what is wanted.
-fn belong(
-    rt: &impl Abort,
-    table: &SingleByteTable,
-    rows: &[(usize, Option<char>, char, Option<usize>)],
-) {
-    for (at, (place, its_scalar, scalar, its_place)) in rows.iter().enumerate() {
-        is_scalar(rt, ("places", at), table.scalar(*place), *its_scalar);
-        is_pointer(rt, ("places", at), table.place(*scalar), *its_place);
-    }
-}
+/// The entries of a single-byte table, a place and its scalar, and a scalar and its place.
+type Belonging<'a> = (&'a [(usize, u16)], usize, Option<char>, char, Option<usize>);
+
+const BELONGING: &[Belonging] = &[
+    (TWO_LETTERS, 65, Some('\u{391}'), '\u{3C4}', Some(116)),
+    (TWO_LETTERS, 66, None, '\u{1F4A9}', None),
+    (TWO_LETTERS, 128, None, '\0', None),
+    (&[], 0, None, '\0', None),
+];
 
 #[test]
 fn a_scalar_and_its_place_belong_together(rt: HostRuntime) {
-    let table = byte_table_of(&rt, &entries_of(&[(65, 0x391), (116, 0x3C4)]));
-    let rows = [
-        (65, Some('\u{391}'), '\u{3C4}', Some(116)),
-        (66, None, '\u{1F4A9}', None),
-        (128, None, '\0', None),
-    ];
-    belong(&rt, &table, &rows);
-    belong(
-        &rt,
-        &byte_table_of(&rt, &[0; 128]),
-        &[(0, None, '\0', None)],
-    );
+    for (at, (some, place, its_scalar, scalar, its_place)) in BELONGING.iter().enumerate() {
+        let table = byte_table_of(&rt, &entries_of(some));
+        is_scalar(&rt, ("places", at), table.scalar(*place), *its_scalar);
+        is_pointer(&rt, ("places", at), table.place(*scalar), *its_place);
+    }
 }

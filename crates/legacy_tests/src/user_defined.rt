@@ -1,8 +1,11 @@
 //! x-user-defined.
 mod encoder;
 
+use crate::codecs::DecoderOf::UserDefined;
+use crate::codecs::{DecoderCase, decode_each};
+use crate::indexes::EMPTY;
 use crate::rows::Row::{BareLength, Decoder, Events, ToUtf8, ToUtf16, Utf8Length, Utf16Length};
-use crate::rows::{Row, Tested, follow};
+use crate::rows::{Row, Tested};
 use legacy_base::DecodeEvent::Scalar;
 use legacy_base::DecoderResult::{InputEmpty, OutputFull};
 use legacy_decoders::UserDefinedDecoder;
@@ -96,7 +99,9 @@ const ROWS: &[Row] = &[
     ),
 ];
 
+const CASES: &[DecoderCase] = &[(UserDefined, EMPTY, ROWS)];
+
 #[test]
 fn decodes_bytes_past_ascii_as_private_use_scalars(rt: HostRuntime) {
-    follow::<UserDefinedDecoder>(&rt, (), ROWS);
+    decode_each(&rt, CASES);
 }

@@ -1,11 +1,12 @@
 //! The encoder of Big5.
+use crate::codecs::EncoderOf::Over;
+use crate::codecs::{Codec, EncoderCase, encode_each};
 use crate::encode_events::Wanted::{Bytes, Report};
 use crate::encoder_rows::EncoderRow::{Encoder, Encodes, FromUtf8, Utf8Length, Utf16Length};
 use crate::encoder_rows::{EncoderRow, TestedEncoder};
-use crate::indexes::{no_entries, no_parts, run};
-use crate::over_tables::{Codec, encode_over_both};
+use crate::indexes::{Both, EMPTY, Flat, NO_ENTRIES, NO_PARTS, run};
 use legacy_base::EncoderResult::{OutputFull, Unmappable};
-use legacy_base::{Indexes, Packed, Tables};
+use legacy_base::{Packed, Tables};
 use legacy_encoders::Big5Encoder;
 use std::process::Abort;
 
@@ -31,17 +32,6 @@ const WITHOUT_ENTRIES: &[EncoderRow] = &[
     Utf16Length(5, Some(10)),
 ];
 
-#[test]
-fn encodes_without_entries(rt: HostRuntime) {
-    encode_over_both(
-        &rt,
-        Codec::Big5,
-        &no_entries(),
-        &no_parts(),
-        WITHOUT_ENTRIES,
-    );
-}
-
 const WITH_ENTRIES: &[EncoderRow] = &[
     Encoder("of U+2550 the last pointer is taken, and of U+2551 the first"),
     Encodes("\u{2550}", &[Bytes(b"\xF9\xF9")]),
@@ -49,32 +39,6 @@ const WITH_ENTRIES: &[EncoderRow] = &[
     Encoder("pointers below 5024 are not written"),
     Encodes("\u{3001}", &[Report('\u{3001}')]),
 ];
-
-#[test]
-fn encodes_by_the_pointers_that_are_written(rt: HostRuntime) {
-    let mut big5 = [0u32; 18992];
-    big5[5023] = 0x3001;
-    big5[5024] = 0x2551;
-    big5[5247] = 0x2550;
-    big5[18990] = 0x2551;
-    big5[18991] = 0x2550;
-    let indexes = Indexes {
-        big5: &big5,
-        ..no_entries()
-    };
-    let packed = Packed {
-        big5: &[
-            run!(5023, 0x3001, 1),
-            run!(5024, 0x2551, 1),
-            run!(5247, 0x2550, 1),
-            run!(18990, 0x2551, 1),
-            run!(18991, 0x2550, 1),
-        ],
-        big5_order: &[18991, 5024],
-        ..no_parts()
-    };
-    encode_over_both(&rt, Codec::Big5, &indexes, &packed, WITH_ENTRIES);
-}
 
 const FIRST_POINTERS: &[EncoderRow] = &[
     Encoder("the first pointer that is written is A1 40"),
@@ -84,19 +48,54 @@ const FIRST_POINTERS: &[EncoderRow] = &[
     ),
 ];
 
-#[test]
-fn encodes_the_first_pointer(rt: HostRuntime) {
-    let mut big5 = [0u32; 5025];
-    big5[5023] = 0x3001;
-    big5[5024] = 0x3000;
-    let indexes = Indexes {
-        big5: &big5,
-        ..no_entries()
-    };
-    let packed = Packed {
+/// U+2550 and U+2551 at two pointers each that are written, and U+3001 at one that is not.
+const TWICE: &Both = &Both {
+    flat: Flat {
+        big5: (
+            18992,
+            &[
+                (5023, 0x3001),
+                (5024, 0x2551),
+                (5247, 0x2550),
+                (18990, 0x2551),
+                (18991, 0x2550),
+            ],
+        ),
+        ..NO_ENTRIES
+    },
+    packed: Packed {
+        big5: &[
+            run!(5023, 0x3001, 1),
+            run!(5024, 0x2551, 1),
+            run!(5247, 0x2550, 1),
+            run!(18990, 0x2551, 1),
+            run!(18991, 0x2550, 1),
+        ],
+        big5_order: &[18991, 5024],
+        ..NO_PARTS
+    },
+};
+
+/// U+3000 at the first pointer that is written, and U+3001 before it.
+const FIRST: &Both = &Both {
+    flat: Flat {
+        big5: (5025, &[(5023, 0x3001), (5024, 0x3000)]),
+        ..NO_ENTRIES
+    },
+    packed: Packed {
         big5: &[run!(5023, 0x3001, 1), run!(5024, 0x3000, 1)],
         big5_order: &[5024],
-        ..no_parts()
-    };
-    encode_over_both(&rt, Codec::Big5, &indexes, &packed, FIRST_POINTERS);
+        ..NO_PARTS
+    },
+};
+
+const CASES: &[EncoderCase] = &[
+    (Over(Codec::Big5), EMPTY, WITHOUT_ENTRIES),
+    (Over(Codec::Big5), TWICE, WITH_ENTRIES),
+    (Over(Codec::Big5), FIRST, FIRST_POINTERS),
+];
+
+#[test]
+fn encodes_by_the_pointers_that_are_written(rt: HostRuntime) {
+    encode_each(&rt, CASES);
 }

@@ -1,11 +1,12 @@
 //! The encoder of EUC-JP.
+use crate::codecs::EncoderOf::Over;
+use crate::codecs::{Codec, EncoderCase, encode_each};
 use crate::encode_events::Wanted::{Bytes, Report};
 use crate::encoder_rows::EncoderRow::{Encoder, Encodes, FromUtf8, Utf8Length, Utf16Length};
 use crate::encoder_rows::{EncoderRow, TestedEncoder};
-use crate::indexes::{no_entries, no_parts, run};
-use crate::over_tables::{Codec, encode_over_both};
+use crate::indexes::{Both, EMPTY, Flat, NO_ENTRIES, NO_PARTS, run};
 use legacy_base::EncoderResult::{InputEmpty, OutputFull};
-use legacy_base::{Indexes, Packed, Tables};
+use legacy_base::{Packed, Tables};
 use legacy_encoders::EucJpEncoder;
 use std::process::Abort;
 
@@ -34,17 +35,6 @@ const WITHOUT_ENTRIES: &[EncoderRow] = &[
     Utf16Length(5, Some(10)),
 ];
 
-#[test]
-fn encodes_without_entries(rt: HostRuntime) {
-    encode_over_both(
-        &rt,
-        Codec::EucJp,
-        &no_entries(),
-        &no_parts(),
-        WITHOUT_ENTRIES,
-    );
-}
-
 const WITH_ENTRIES: &[EncoderRow] = &[
     Encoder("the minus sign is written as U+FF0D"),
     Encodes("\u{2212}", &[Bytes(b"\xA1\xDD")]),
@@ -54,18 +44,21 @@ const WITH_ENTRIES: &[EncoderRow] = &[
     Encodes("\u{3001}", &[Report('\u{3001}')]),
 ];
 
-#[test]
-fn encodes_by_the_pointers_that_are_written(rt: HostRuntime) {
-    let mut jis0208 = [0u16; 10740];
-    jis0208[60] = 0xFF0D;
-    jis0208[8647] = 0xFF02;
-    jis0208[10738] = 0x3001;
-    jis0208[10739] = 0xFF02;
-    let indexes = Indexes {
-        jis0208: &jis0208,
-        ..no_entries()
-    };
-    let packed = Packed {
+/// U+FF0D, U+FF02 at two pointers of which only the first is written, and U+3001 at one that is not.
+const ENTRIES: &Both = &Both {
+    flat: Flat {
+        jis0208: (
+            10740,
+            &[
+                (60, 0xFF0D),
+                (8647, 0xFF02),
+                (10738, 0x3001),
+                (10739, 0xFF02),
+            ],
+        ),
+        ..NO_ENTRIES
+    },
+    packed: Packed {
         jis0208: &[
             run!(60, 0xFF0D, 1),
             run!(8647, 0xFF02, 1),
@@ -74,7 +67,16 @@ fn encodes_by_the_pointers_that_are_written(rt: HostRuntime) {
         ],
         shift_jis_order: &[10738, 10739, 60],
         euc_jp_order: &[8647, 60],
-        ..no_parts()
-    };
-    encode_over_both(&rt, Codec::EucJp, &indexes, &packed, WITH_ENTRIES);
+        ..NO_PARTS
+    },
+};
+
+const CASES: &[EncoderCase] = &[
+    (Over(Codec::EucJp), EMPTY, WITHOUT_ENTRIES),
+    (Over(Codec::EucJp), ENTRIES, WITH_ENTRIES),
+];
+
+#[test]
+fn encodes_by_the_pointers_that_are_written(rt: HostRuntime) {
+    encode_each(&rt, CASES);
 }

@@ -1,14 +1,17 @@
 //! The encoder of EUC-KR.
+use crate::ahead::encode_ahead;
+use crate::codecs::EncoderOf::Over;
+use crate::codecs::{Codec, EncoderCase, encode_each};
 use crate::encode_events::Wanted::{Bytes, Report};
 use crate::encoder_rows::EncoderRow::{
     Encoder, Encodes, FromUtf8, FromUtf16, Utf8Length, Utf16Length,
 };
-use crate::encoder_rows::{EncoderRow, TestedEncoder, follow_encoder};
-use crate::indexes::{no_entries, no_parts, run, tables_of};
-use crate::over_tables::{Codec, encode_over_both};
+use crate::encoder_rows::{EncoderRow, TestedEncoder};
+use crate::euc_kr::ONE_ENTRY;
+use crate::indexes::{Both, Flat, NO_ENTRIES, NO_PARTS, no_entries, run, tables_of};
 use legacy_base::EncoderResult::{InputEmpty, OutputFull, Unmappable};
 use legacy_base::{Indexes, Packed, Tables};
-use legacy_encoders::{CachedEncoder, EucKrEncoder, PAIR_ROOM};
+use legacy_encoders::{EucKrEncoder, PAIR_ROOM};
 use std::process::Abort;
 
 impl<'a> TestedEncoder for EucKrEncoder<'a> {
@@ -46,52 +49,33 @@ const ROWS: &[EncoderRow] = &[
     Utf16Length(usize::MAX / 2 + 1, None),
 ];
 
-#[test]
-fn encodes_with_one_entry(rt: HostRuntime) {
-    let indexes = Indexes {
-        euc_kr: &[0xAC02],
-        ..no_entries()
-    };
-    let packed = Packed {
-        euc_kr: &[run!(0, 0xAC02, 1)],
-        euc_kr_order: &[0],
-        ..no_parts()
-    };
-    encode_over_both(&rt, Codec::EucKr, &indexes, &packed, ROWS);
-}
-
 const LAST: &[EncoderRow] = &[
     Encoder("the last pointer is FE FE"),
     Encodes("\u{8A70}", &[Bytes(b"\xFE\xFE")]),
     FromUtf16(&[0x8A70], 2, true, InputEmpty, 1, b"\xFE\xFE"),
 ];
 
-#[test]
-fn encodes_the_last_pointer(rt: HostRuntime) {
-    let mut euc_kr = [0u16; 23940];
-    euc_kr[23939] = 0x8A70;
-    let indexes = Indexes {
-        euc_kr: &euc_kr,
-        ..no_entries()
-    };
-    let packed = Packed {
+/// U+8A70 at the last pointer, 23939.
+const LAST_ENTRY: &Both = &Both {
+    flat: Flat {
+        euc_kr: (23940, &[(23939, 0x8A70)]),
+        ..NO_ENTRIES
+    },
+    packed: Packed {
         euc_kr: &[run!(23939, 0x8A70, 1)],
         euc_kr_order: &[23939],
-        ..no_parts()
-    };
-    encode_over_both(&rt, Codec::EucKr, &indexes, &packed, LAST);
-}
+        ..NO_PARTS
+    },
+};
 
-impl<'a, 'b> TestedEncoder for CachedEncoder<'a, EucKrEncoder<'b>> {
-    type Of = CachedEncoder<'a, EucKrEncoder<'b>>;
+const CASES: &[EncoderCase] = &[
+    (Over(Codec::EucKr), ONE_ENTRY, ROWS),
+    (Over(Codec::EucKr), LAST_ENTRY, LAST),
+];
 
-    fn made(_rt: &impl Abort, of: Self::Of) -> Self {
-        of
-    }
-
-    fn pending(&self) -> Option<bool> {
-        None
-    }
+#[test]
+fn encodes_the_first_pointer_and_the_last(rt: HostRuntime) {
+    encode_each(&rt, CASES);
 }
 
 /// The rows with the first sixteen scalars of the standard's index, and no other scalar.
@@ -192,8 +176,8 @@ const WORDS: &[EncoderRow] = &[
     ),
 ];
 
-/// Follows the rows with an encoder that looks its pairs up ahead, in this room.
-fn encode_ahead(rt: &(impl AllocGlobal + Abort), room: &mut [u16], rows: &[EncoderRow]) {
+/// Follows the rows of words with pairs looked up ahead in this room, and answers whether it is enough.
+fn encode_in(rt: &(impl AllocGlobal + Abort), room: &mut [u16]) -> bool {
     let indexes = Indexes {
         euc_kr: &[
             0xAC02, 0xAC03, 0xAC05, 0xAC06, 0xAC0B, 0xAC0C, 0xAC0D, 0xAC0E, 0xAC0F, 0xAC18, 0xAC1E,
@@ -203,16 +187,13 @@ fn encode_ahead(rt: &(impl AllocGlobal + Abort), room: &mut [u16], rows: &[Encod
     };
     let tables = tables_of(rt, &indexes);
     let encoder = EucKrEncoder::new(&tables);
-    match CachedEncoder::new(&encoder, room) {
-        Some(cached) => follow_encoder::<CachedEncoder<EucKrEncoder>>(rt, cached, rows),
-        None => panic!(rt; "the room is refused"),
-    }
+    encode_ahead::<EucKrEncoder>(rt, &encoder, room, WORDS)
 }
 
 #[test]
 fn encodes_words_with_pairs_looked_up_ahead(rt: HostRuntime) {
     match vec![in rt.alloc(); 0; PAIR_ROOM] {
-        Ok(mut room) => encode_ahead(&rt, room.as_mut_slice(), WORDS),
+        Ok(mut room) => assert!(rt; encode_in(&rt, room.as_mut_slice())),
         Err(_) => panic!(rt; "memory"),
     }
 }

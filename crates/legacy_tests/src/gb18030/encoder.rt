@@ -1,16 +1,16 @@
 //! The encoders of gb18030 and GBK.
+use crate::ahead::encode_ahead;
+use crate::codecs::EncoderOf::Over;
+use crate::codecs::{Codec, EncoderCase, encode_each};
 use crate::encode_events::Wanted::{Bytes, Report};
 use crate::encoder_rows::EncoderRow::{
     Encoder, Encodes, FromUtf8, FromUtf16, Utf8Length, Utf16Length,
 };
-use crate::encoder_rows::{EncoderRow, TestedEncoder, follow_encoder};
-use crate::indexes::{no_entries, no_parts, tables_of};
-use crate::over_tables::{Codec, decode_over, encode_over, encode_over_both};
-use crate::rows::Row;
-use crate::rows::Row::{Decoder, ToUtf8};
+use crate::encoder_rows::{EncoderRow, TestedEncoder};
+use crate::indexes::{Both, EMPTY, Flat, NO_ENTRIES, NO_PARTS, no_entries, run, tables_of};
 use legacy_base::EncoderResult::{InputEmpty, OutputFull, Unmappable};
-use legacy_base::{DecoderResult, Indexes, Tables};
-use legacy_encoders::{CachedEncoder, Gb18030Encoder, PAIR_ROOM};
+use legacy_base::{Packed, Tables};
+use legacy_encoders::{Gb18030Encoder, PAIR_ROOM};
 use std::process::Abort;
 
 impl<'a> TestedEncoder for Gb18030Encoder<'a> {
@@ -70,50 +70,34 @@ const GBK_WITHOUT_ENTRIES: &[EncoderRow] = &[
     Utf16Length(usize::MAX / 2, None),
 ];
 
-impl<'a, 'b> TestedEncoder for CachedEncoder<'a, Gb18030Encoder<'b>> {
-    type Of = CachedEncoder<'a, Gb18030Encoder<'b>>;
-
-    fn made(_rt: &impl Abort, of: Self::Of) -> Self {
-        of
-    }
-
-    fn pending(&self) -> Option<bool> {
-        None
-    }
-}
-
-/// Follows the rows with an encoder that looks its pairs up ahead in this room, if the room is enough, and answers
-/// whether it is.
-fn encode_ahead(rt: &(impl AllocGlobal + Abort), room: &mut [u16], rows: &[EncoderRow]) -> bool {
+/// Follows the rows without entries with pairs looked up ahead in this room, and answers whether it is enough.
+fn encode_in(rt: &(impl AllocGlobal + Abort), room: &mut [u16]) -> bool {
     let tables = tables_of(rt, &no_entries());
     let encoder = Gb18030Encoder::new(&tables, true);
-    match CachedEncoder::new(&encoder, room) {
-        Some(cached) => {
-            follow_encoder::<CachedEncoder<Gb18030Encoder>>(rt, cached, rows);
-            true
-        }
-        None => false,
-    }
+    encode_ahead::<Gb18030Encoder>(rt, &encoder, room, WITHOUT_ENTRIES)
 }
 
 #[test]
 fn encodes_with_pairs_looked_up_ahead(rt: HostRuntime) {
     match vec![in rt.alloc(); 0xFFFF; PAIR_ROOM] {
-        Ok(mut room) => assert!(rt; encode_ahead(&rt, room.as_mut_slice(), WITHOUT_ENTRIES)),
+        Ok(mut room) => assert!(rt; encode_in(&rt, room.as_mut_slice())),
         Err(_) => panic!(rt; "memory"),
     }
 }
 
 #[test]
 fn takes_no_room_that_is_too_small(rt: HostRuntime) {
-    assert!(rt; !encode_ahead(&rt, &mut [0; 8], WITHOUT_ENTRIES));
+    assert!(rt; !encode_in(&rt, &mut [0; 8]));
 }
+
+const EMPTY_CASES: &[EncoderCase] = &[
+    (Over(Codec::Gb18030), EMPTY, WITHOUT_ENTRIES),
+    (Over(Codec::Gbk), EMPTY, GBK_WITHOUT_ENTRIES),
+];
 
 #[test]
 fn encodes_without_entries(rt: HostRuntime) {
-    let (indexes, packed) = (no_entries(), no_parts());
-    encode_over_both(&rt, Codec::Gb18030, &indexes, &packed, WITHOUT_ENTRIES);
-    encode_over_both(&rt, Codec::Gbk, &indexes, &packed, GBK_WITHOUT_ENTRIES);
+    encode_each(&rt, EMPTY_CASES);
 }
 
 const WITH_RANGE: &[EncoderRow] = &[
@@ -134,19 +118,6 @@ const GBK_WITH_RANGE: &[EncoderRow] = &[
     FromUtf16(&[0xDC00], 16, true, Unmappable('\u{FFFD}'), 1, b""),
 ];
 
-#[test]
-fn encodes_by_a_range(rt: HostRuntime) {
-    let tables = tables_of(
-        &rt,
-        &Indexes {
-            ranges: &[(39394, 0xFFE6)],
-            ..no_entries()
-        },
-    );
-    encode_over(&rt, Codec::Gb18030, &tables, WITH_RANGE);
-    encode_over(&rt, Codec::Gbk, &tables, GBK_WITH_RANGE);
-}
-
 const BESIDE_7457: &[EncoderRow] = &[
     Encoder("pointer 7457 is that of U+E7C7 alone"),
     Encodes("\u{3000}", &[Report('\u{3000}')]),
@@ -155,15 +126,6 @@ const BESIDE_7457: &[EncoderRow] = &[
         &[Bytes(b"\x81\x35\xF4\x38\x81\x35\xF4\x37")],
     ),
 ];
-
-#[test]
-fn encodes_beside_pointer_7457(rt: HostRuntime) {
-    let indexes = Indexes {
-        ranges: &[(7457, 0x3000)],
-        ..no_entries()
-    };
-    encode_over_both(&rt, Codec::Gb18030, &indexes, &no_parts(), BESIDE_7457);
-}
 
 const OTHER_ROW: &[EncoderRow] = &[
     Encoder("a row that is handed in gives its bytes"),
@@ -175,27 +137,6 @@ const NO_ROWS: &[EncoderRow] = &[
     Encodes("\u{E78D}", &[Report('\u{E78D}')]),
 ];
 
-#[test]
-fn encodes_by_the_rows_that_are_handed_in(rt: HostRuntime) {
-    let tables = tables_of(
-        &rt,
-        &Indexes {
-            gb18030_pua: &[(0xE000, 0xA6, 0xD9)],
-            ..no_entries()
-        },
-    );
-    encode_over(&rt, Codec::Gb18030, &tables, OTHER_ROW);
-    encode_over(&rt, Codec::Gbk, &tables, OTHER_ROW);
-    let tables = tables_of(
-        &rt,
-        &Indexes {
-            gb18030_pua: &[],
-            ..no_entries()
-        },
-    );
-    encode_over(&rt, Codec::Gb18030, &tables, NO_ROWS);
-}
-
 const IN_THE_INDEX: &[EncoderRow] = &[
     Encoder("without rows such a scalar has the pointer of the index"),
     Encodes("\u{E81E}", &[Bytes(b"\xFE\x59")]),
@@ -206,39 +147,88 @@ const BOTH: &[EncoderRow] = &[
     Encodes("\u{E81E}\u{9FB4}", &[Bytes(b"\xFE\x59\xFE\x59")]),
 ];
 
-const DECODED: &[Row] = &[
-    Decoder("the bytes of a row decode to the scalar that the index has there"),
-    ToUtf8(
-        b"\xFE\x59",
-        16,
-        true,
-        DecoderResult::InputEmpty,
-        2,
-        "\u{9FB4}",
-    ),
+/// The range of the last pointers.
+const LAST_RANGE: &Both = &Both {
+    flat: Flat {
+        ranges: &[(39394, 0xFFE6)],
+        ..NO_ENTRIES
+    },
+    packed: NO_PARTS,
+};
+
+/// A range from pointer 7457 on.
+const RANGE_FROM_7457: &Both = &Both {
+    flat: Flat {
+        ranges: &[(7457, 0x3000)],
+        ..NO_ENTRIES
+    },
+    packed: NO_PARTS,
+};
+
+const CASES_OF_RANGES: &[EncoderCase] = &[
+    (Over(Codec::Gb18030), LAST_RANGE, WITH_RANGE),
+    (Over(Codec::Gbk), LAST_RANGE, GBK_WITH_RANGE),
+    (Over(Codec::Gb18030), RANGE_FROM_7457, BESIDE_7457),
 ];
 
 #[test]
-fn encodes_rows_before_the_index(rt: HostRuntime) {
-    let mut gb18030 = [0u16; 23776];
-    gb18030[23775] = 0xE81E;
-    let tables = tables_of(
-        &rt,
-        &Indexes {
-            gb18030: &gb18030,
-            gb18030_pua: &[],
-            ..no_entries()
-        },
-    );
-    encode_over(&rt, Codec::Gb18030, &tables, IN_THE_INDEX);
-    gb18030[23775] = 0x9FB4;
-    let tables = tables_of(
-        &rt,
-        &Indexes {
-            gb18030: &gb18030,
-            ..no_entries()
-        },
-    );
-    encode_over(&rt, Codec::Gb18030, &tables, BOTH);
-    decode_over(&rt, Codec::Gb18030, &tables, DECODED);
+fn encodes_by_the_ranges(rt: HostRuntime) {
+    encode_each(&rt, CASES_OF_RANGES);
+}
+
+/// A private-use row of our own.
+const ROW_OF_E000: &Both = &Both {
+    flat: Flat {
+        gb18030_pua: &[(0xE000, 0xA6, 0xD9)],
+        ..NO_ENTRIES
+    },
+    packed: NO_PARTS,
+};
+
+const WITHOUT_ROWS: &Both = &Both {
+    flat: Flat {
+        gb18030_pua: &[],
+        ..NO_ENTRIES
+    },
+    packed: NO_PARTS,
+};
+
+/// U+E81E in the index, without private-use rows.
+const PRIVATE_USE: &Both = &Both {
+    flat: Flat {
+        gb18030: (23776, &[(23775, 0xE81E)]),
+        gb18030_pua: &[],
+        ..NO_ENTRIES
+    },
+    packed: Packed {
+        gb18030: &[run!(23775, 0xE81E, 1)],
+        gb18030_order: &[23775],
+        ..NO_PARTS
+    },
+};
+
+/// U+9FB4 in the index, where a private-use row has its bytes.
+pub(crate) const ROW_AND_ENTRY: &Both = &Both {
+    flat: Flat {
+        gb18030: (23776, &[(23775, 0x9FB4)]),
+        ..NO_ENTRIES
+    },
+    packed: Packed {
+        gb18030: &[run!(23775, 0x9FB4, 1)],
+        gb18030_order: &[23775],
+        ..NO_PARTS
+    },
+};
+
+const CASES_OF_ROWS: &[EncoderCase] = &[
+    (Over(Codec::Gb18030), ROW_OF_E000, OTHER_ROW),
+    (Over(Codec::Gbk), ROW_OF_E000, OTHER_ROW),
+    (Over(Codec::Gb18030), WITHOUT_ROWS, NO_ROWS),
+    (Over(Codec::Gb18030), PRIVATE_USE, IN_THE_INDEX),
+    (Over(Codec::Gb18030), ROW_AND_ENTRY, BOTH),
+];
+
+#[test]
+fn encodes_by_private_use_rows_before_the_index(rt: HostRuntime) {
+    encode_each(&rt, CASES_OF_ROWS);
 }

@@ -1,13 +1,16 @@
 //! The encoder of ISO-2022-JP.
+use crate::codecs::EncoderOf::Over;
+use crate::codecs::{Codec, EncoderCase, encode_case};
 use crate::encode_events::Wanted::{Bytes, Report};
 use crate::encoder_rows::EncoderRow::{
     Encoder, Encodes, FromUtf8, FromUtf16, Pending, Utf8Length, Utf16Length,
 };
 use crate::encoder_rows::{EncoderRow, TestedEncoder, follow_encoder};
-use crate::indexes::{no_entries, no_parts, packed_tables_of, run, tables_of};
-use crate::over_tables::{Codec, encode_over_both};
+use crate::indexes::{
+    Both, EMPTY, Filled, Flat, NO_ENTRIES, NO_PARTS, no_entries, packed_tables_of, run, tables_of,
+};
 use legacy_base::EncoderResult::{InputEmpty, OutputFull, Unmappable};
-use legacy_base::{Indexes, Packed, Tables};
+use legacy_base::{Packed, Tables};
 use legacy_encoders::{CachedIso2022JpEncoder, Iso2022JpEncoder, PAIR_ROOM};
 use std::process::Abort;
 
@@ -35,34 +38,23 @@ impl<'a, 'b> TestedEncoder for CachedIso2022JpEncoder<'a, 'b> {
     }
 }
 
-/// Follows the rows with an encoder that looks its pairs up ahead, in this room.
-fn encode_ahead(
-    rt: &(impl AllocGlobal + Abort),
-    tables: &Tables,
-    room: &mut [u16],
-    rows: &[EncoderRow],
-) {
-    let encoder = Iso2022JpEncoder::new(tables);
+/// Follows the rows of a case over packed tables, with an encoder that looks its pairs up ahead in this room.
+// Over flat tables 65,536 scalars would be searched for.
+fn encode_ahead(rt: &(impl AllocGlobal + Abort), room: &mut [u16], (_, both, rows): &EncoderCase) {
+    let filled = Filled::of(&both.flat);
+    let tables = packed_tables_of(rt, &filled.indexes(&both.flat), &both.packed);
+    let encoder = Iso2022JpEncoder::new(&tables);
     match CachedIso2022JpEncoder::new(&encoder, room) {
         Some(cached) => follow_encoder::<CachedIso2022JpEncoder>(rt, cached, rows),
         None => panic!(rt; "the room is refused"),
     }
 }
 
-/// Follows the rows over flat tables of these indexes, over packed ones, and over these with pairs looked up ahead.
-// Over flat tables 65,536 scalars would be searched for.
-fn encode_in_all_ways(
-    rt: &(impl AllocGlobal + Abort),
-    indexes: &Indexes,
-    packed: &Packed,
-    rows: &[EncoderRow],
-) {
-    encode_over_both(rt, Codec::Iso2022Jp, indexes, packed, rows);
+/// Follows the rows of a case over flat tables, over packed ones, and over these with pairs looked up ahead.
+fn encode_in_all_ways(rt: &(impl AllocGlobal + Abort), case: &EncoderCase) {
+    encode_case(rt, case);
     match vec![in rt.alloc(); 0xFFFF; PAIR_ROOM] {
-        Ok(mut room) => {
-            let tables = packed_tables_of(rt, indexes, packed);
-            encode_ahead(rt, &tables, room.as_mut_slice(), rows);
-        }
+        Ok(mut room) => encode_ahead(rt, room.as_mut_slice(), case),
         Err(_) => panic!(rt; "memory"),
     }
 }
@@ -128,9 +120,11 @@ const WITHOUT_ENTRIES: &[EncoderRow] = &[
     Utf8Length(usize::MAX / 3, None),
 ];
 
+const EMPTY_CASE: &EncoderCase = &(Over(Codec::Iso2022Jp), EMPTY, WITHOUT_ENTRIES);
+
 #[test]
 fn encodes_without_entries(rt: HostRuntime) {
-    encode_in_all_ways(&rt, &no_entries(), &no_parts(), WITHOUT_ENTRIES);
+    encode_in_all_ways(&rt, EMPTY_CASE);
 }
 
 /// The rows with U+58FA at pointer 4861.
@@ -196,21 +190,25 @@ const PAIRS: &[EncoderRow] = &[
     ),
 ];
 
-#[test]
-fn encodes_pairs(rt: HostRuntime) {
-    let mut jis0208 = [0u16; 4862];
-    jis0208[4861] = 0x58FA;
-    let indexes = Indexes {
-        jis0208: &jis0208,
-        ..no_entries()
-    };
-    let packed = Packed {
+/// U+58FA at pointer 4861 of index jis0208.
+pub(crate) const ONE_PAIR: &Both = &Both {
+    flat: Flat {
+        jis0208: (4862, &[(4861, 0x58FA)]),
+        ..NO_ENTRIES
+    },
+    packed: Packed {
         jis0208: &[run!(4861, 0x58FA, 1)],
         shift_jis_order: &[4861],
         euc_jp_order: &[4861],
-        ..no_parts()
-    };
-    encode_in_all_ways(&rt, &indexes, &packed, PAIRS);
+        ..NO_PARTS
+    },
+};
+
+const PAIRS_CASE: &EncoderCase = &(Over(Codec::Iso2022Jp), ONE_PAIR, PAIRS);
+
+#[test]
+fn encodes_pairs(rt: HostRuntime) {
+    encode_in_all_ways(&rt, PAIRS_CASE);
 }
 
 const KATAKANA: &[EncoderRow] = &[
@@ -232,21 +230,24 @@ const KATAKANA: &[EncoderRow] = &[
     ),
 ];
 
-#[test]
-fn encodes_katakana(rt: HostRuntime) {
-    let mut katakana = [0u16; 63];
-    katakana[0] = 0x3002;
-    katakana[1] = 0x300C;
-    let indexes = Indexes {
-        jis0208: &[0, 0, 0x3002],
-        katakana: &katakana,
-        ..no_entries()
-    };
-    let packed = Packed {
+/// U+3002 and U+300C in the katakana index, of which index jis0208 has only the first.
+const TWO_KATAKANA: &Both = &Both {
+    flat: Flat {
+        jis0208: (3, &[(2, 0x3002)]),
+        katakana: (63, &[(0, 0x3002), (1, 0x300C)]),
+        ..NO_ENTRIES
+    },
+    packed: Packed {
         jis0208: &[run!(2, 0x3002, 1)],
         shift_jis_order: &[2],
         euc_jp_order: &[2],
-        ..no_parts()
-    };
-    encode_in_all_ways(&rt, &indexes, &packed, KATAKANA);
+        ..NO_PARTS
+    },
+};
+
+const KATAKANA_CASE: &EncoderCase = &(Over(Codec::Iso2022Jp), TWO_KATAKANA, KATAKANA);
+
+#[test]
+fn encodes_katakana(rt: HostRuntime) {
+    encode_in_all_ways(&rt, KATAKANA_CASE);
 }

@@ -1,26 +1,17 @@
 //! Calls with replacement of encoders.
+use crate::codecs::EncoderOf::{Over, SingleByte, UserDefined};
+use crate::codecs::{Codec, EncoderCase, encode_each};
 use crate::compared::{Place, is_answer};
-use crate::encoder_rows::TestedEncoder;
-use crate::indexes::{byte_table_of, entries_of, no_entries, tables_of};
-use crate::replacing::encoders::Row::{Encoder, FromUtf8, FromUtf16};
+use crate::encoder_rows::EncoderRow;
+use crate::encoder_rows::EncoderRow::{Encoder, ReplacedFromUtf8, ReplacedFromUtf16};
+use crate::indexes::EMPTY;
+use crate::iso_2022_jp::encoder::ONE_PAIR;
+use crate::single_byte::encoder::TWO_LETTERS;
 use crate::texts::Text;
-use legacy_base::{Indexes, RawEncoder};
+use legacy_base::RawEncoder;
 use legacy_codecs::CoderResult;
 use legacy_codecs::CoderResult::{InputEmpty, OutputFull};
-use legacy_encoders::{EucKrEncoder, Iso2022JpEncoder, SingleByteEncoder, UserDefinedEncoder};
 use std::process::Abort;
-
-/// A call of an encoder, and what must come of it.
-#[derive(Clone, Copy)]
-enum Row<'a> {
-    /// An encoder that was just made, and the name of the case that begins with it.
-    Encoder(&'a str),
-    /// A call from UTF-8: the text, how many bytes are free, whether it is the last, the answer, how many
-    /// bytes of the text are read, the bytes that are written, and whether a reference was.
-    FromUtf8(&'a str, usize, bool, CoderResult, usize, &'a [u8], bool),
-    /// A call from UTF-16: the same, but what is read are code units.
-    FromUtf16(&'a [u16], usize, bool, CoderResult, usize, &'a [u8], bool),
-}
 
 /// Makes a call, and compares what comes of it with what is wanted.
 fn encodes<T: Text, E: RawEncoder>(
@@ -40,42 +31,29 @@ fn encodes<T: Text, E: RawEncoder>(
     is_answer(rt, place, T::FORM, came, wanted);
 }
 
-/// Follows one row: makes its call, and compares what comes of it with what is wanted.
-fn follow_row<E: TestedEncoder>(
+/// Follows the row of a call with references: makes it, and compares what comes of it with what is wanted.
+pub(crate) fn follow_replacing<E: RawEncoder>(
     rt: &impl Abort,
     place: Place,
-    of: E::Of,
     encoder: &mut E,
-    row: &Row,
+    row: &EncoderRow,
 ) {
     match row {
-        Encoder(_) => *encoder = E::made(rt, of),
-        FromUtf8(text, room, last, answer, read, bytes, replaced) => {
+        ReplacedFromUtf8(text, room, last, answer, read, bytes, replaced) => {
             let wanted = (*answer, *read, *bytes, *replaced);
             encodes::<&str, E>(rt, place, encoder, (text, *room, *last), wanted);
         }
-        FromUtf16(units, room, last, answer, read, bytes, replaced) => {
+        ReplacedFromUtf16(units, room, last, answer, read, bytes, replaced) => {
             let wanted = (*answer, *read, *bytes, *replaced);
             encodes::<&[u16], E>(rt, place, encoder, (units, *room, *last), wanted);
         }
+        _ => {}
     }
 }
 
-/// Follows the rows in turn.
-fn follow<E: TestedEncoder>(rt: &impl Abort, of: E::Of, rows: &[Row]) {
-    let mut case = "";
-    let mut encoder = E::made(rt, of);
-    for (at, row) in rows.iter().enumerate() {
-        if let Encoder(name) = row {
-            case = name;
-        }
-        follow_row(rt, (case, at), of, &mut encoder, row);
-    }
-}
-
-const GREEK: &[Row] = &[
+const GREEK: &[EncoderRow] = &[
     Encoder("ten bytes are kept free for a reference"),
-    FromUtf16(
+    ReplacedFromUtf16(
         &[0x391, 0xD83D, 0xDCA9, 0x3C4],
         11,
         true,
@@ -84,7 +62,7 @@ const GREEK: &[Row] = &[
         b"\xC1",
         false,
     ),
-    FromUtf16(
+    ReplacedFromUtf16(
         &[0xD83D, 0xDCA9, 0x3C4],
         11,
         true,
@@ -93,9 +71,9 @@ const GREEK: &[Row] = &[
         b"&#128169;",
         true,
     ),
-    FromUtf16(&[0x3C4], 11, true, InputEmpty, 1, b"\xF4", false),
+    ReplacedFromUtf16(&[0x3C4], 11, true, InputEmpty, 1, b"\xF4", false),
     Encoder("an unpaired low surrogate has the reference of U+FFFD"),
-    FromUtf16(
+    ReplacedFromUtf16(
         &[0x391, 0xDCA9, 0x3C4],
         96,
         true,
@@ -105,7 +83,7 @@ const GREEK: &[Row] = &[
         true,
     ),
     Encoder("so has an unpaired high surrogate at the end"),
-    FromUtf16(
+    ReplacedFromUtf16(
         &[0x391, 0x3C4, 0xD83D],
         96,
         true,
@@ -116,15 +94,9 @@ const GREEK: &[Row] = &[
     ),
 ];
 
-#[test]
-fn single_byte_references(rt: HostRuntime) {
-    let table = byte_table_of(&rt, &entries_of(&[(65, 0x391), (116, 0x3C4)]));
-    follow::<SingleByteEncoder>(&rt, (&table, 0x391, 65, 1), GREEK);
-}
-
-const SURROGATES: &[Row] = &[
+const SURROGATES: &[EncoderRow] = &[
     Encoder("each unpaired surrogate has a reference of its own"),
-    FromUtf16(
+    ReplacedFromUtf16(
         &[0xDC00, 0xDEDE],
         40,
         true,
@@ -135,15 +107,9 @@ const SURROGATES: &[Row] = &[
     ),
 ];
 
-#[test]
-fn euc_kr_references(rt: HostRuntime) {
-    let tables = tables_of(&rt, &no_entries());
-    follow::<EucKrEncoder>(&rt, &tables, SURROGATES);
-}
-
-const OUTSIDE: &[Row] = &[
+const OUTSIDE: &[EncoderRow] = &[
     Encoder("the scalars before and behind those of the bytes past ASCII"),
-    FromUtf8(
+    ReplacedFromUtf8(
         "\u{F77F}\u{F800}",
         96,
         true,
@@ -152,7 +118,7 @@ const OUTSIDE: &[Row] = &[
         b"&#63359;&#63488;",
         true,
     ),
-    FromUtf16(
+    ReplacedFromUtf16(
         &[0xF77F, 0xF800],
         96,
         true,
@@ -163,21 +129,16 @@ const OUTSIDE: &[Row] = &[
     ),
 ];
 
-#[test]
-fn user_defined_references(rt: HostRuntime) {
-    follow::<UserDefinedEncoder>(&rt, (), OUTSIDE);
-}
-
 /// The rows with U+58FA at pointer 4861.
-const MODES: &[Row] = &[
+const MODES: &[EncoderRow] = &[
     Encoder("without room for a reference nothing is read"),
-    FromUtf8("a", 9, true, OutputFull, 0, b"", false),
+    ReplacedFromUtf8("a", 9, true, OutputFull, 0, b"", false),
     Encoder("the end needs its own room and that of a reference"),
-    FromUtf8("\u{A5}", 96, false, InputEmpty, 2, b"\x1B(J\x5C", false),
-    FromUtf8("", 12, true, OutputFull, 0, b"", false),
-    FromUtf8("", 13, true, InputEmpty, 0, b"\x1B(B", false),
+    ReplacedFromUtf8("\u{A5}", 96, false, InputEmpty, 2, b"\x1B(J\x5C", false),
+    ReplacedFromUtf8("", 12, true, OutputFull, 0, b"", false),
+    ReplacedFromUtf8("", 13, true, InputEmpty, 0, b"\x1B(B", false),
     Encoder("a reference in Roman mode leaves the mode"),
-    FromUtf8(
+    ReplacedFromUtf8(
         "\u{A5}\u{1F4A9}",
         96,
         true,
@@ -188,16 +149,14 @@ const MODES: &[Row] = &[
     ),
 ];
 
+const CASES: &[EncoderCase] = &[
+    (SingleByte(TWO_LETTERS, (0x391, 65, 1)), EMPTY, GREEK),
+    (Over(Codec::EucKr), EMPTY, SURROGATES),
+    (UserDefined, EMPTY, OUTSIDE),
+    (Over(Codec::Iso2022Jp), ONE_PAIR, MODES),
+];
+
 #[test]
-fn iso_2022_jp_references(rt: HostRuntime) {
-    let mut jis0208 = [0u16; 4862];
-    jis0208[4861] = 0x58FA;
-    let tables = tables_of(
-        &rt,
-        &Indexes {
-            jis0208: &jis0208,
-            ..no_entries()
-        },
-    );
-    follow::<Iso2022JpEncoder>(&rt, &tables, MODES);
+fn what_has_no_bytes_is_written_as_a_reference(rt: HostRuntime) {
+    encode_each(&rt, CASES);
 }

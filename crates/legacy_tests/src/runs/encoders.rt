@@ -1,31 +1,21 @@
 //! Runs of encoders: one table of cases, whole and in every cut, into outputs of every small length.
+use crate::codecs::EncoderOf::{Over, SingleByte, UserDefined};
+use crate::codecs::{Codec, EncoderCase, encode_each};
 use crate::encode_events::Wanted::{Bytes, Report};
 use crate::encoder_rows::EncoderRow::{
     Encoder, Encodes, FromUtf8, Pending, RefusedRuns, RunFromUtf8, RunFromUtf16,
 };
-use crate::encoder_rows::{EncoderRow, follow_encoder};
-use crate::indexes::{byte_table_of, entries_of};
-use crate::over_tables::{Codec, encode_over};
-use crate::runs::{flat_tables, packed_tables};
+use crate::euc_kr::ONE_ENTRY;
+use crate::single_byte::encoder::TWO_LETTERS;
 use legacy_base::EncoderResult::InputEmpty;
-use legacy_base::Tables;
 use legacy_codecs::RunError;
-use legacy_encoders::{SingleByteEncoder, UserDefinedEncoder};
-use std::process::Abort;
-
-/// What an encoder is made of: tables, or something else.
-#[derive(Clone, Copy)]
-enum Made {
-    Over(Codec),
-    SingleByte,
-    UserDefined,
-}
 
 /// The cases, with U+AC02 at pointer 0 of index EUC-KR, the private-use rows of the standard, U+0391 at place 65 of
 /// the single-byte table, and no other scalar in any index.
-const CASES: &[(Made, &[EncoderRow])] = &[
+const CASES_OVER_TABLES: &[EncoderCase] = &[
     (
-        Made::Over(Codec::Iso2022Jp),
+        Over(Codec::Iso2022Jp),
+        ONE_ENTRY,
         &[
             Encoder("ASCII, the yen sign, and a reverse solidus"),
             Encodes("a\u{A5}\x5C", &[Bytes(b"a\x1B(J\x5C\x1B(B\x5C")]),
@@ -58,7 +48,8 @@ const CASES: &[(Made, &[EncoderRow])] = &[
         ],
     ),
     (
-        Made::Over(Codec::Gb18030),
+        Over(Codec::Gb18030),
+        ONE_ENTRY,
         &[
             Encoder("a private-use row, and a scalar past U+FFFF"),
             Encodes("\u{E843}\u{1F4A9}", &[Bytes(b"\xFE\x7E\x94\x39\xDA\x33")]),
@@ -81,35 +72,45 @@ const CASES: &[(Made, &[EncoderRow])] = &[
         ],
     ),
     (
-        Made::Over(Codec::EucJp),
+        Over(Codec::EucJp),
+        ONE_ENTRY,
         &[
             Encoder("a half-width katakana, and the overline"),
             Encodes("\u{FF61}\u{203E}", &[Bytes(b"\x8E\xA1\x7E")]),
         ],
     ),
     (
-        Made::Over(Codec::ShiftJis),
+        Over(Codec::ShiftJis),
+        ONE_ENTRY,
         &[
             Encoder("a control, and a half-width katakana"),
             Encodes("\u{80}\u{FF9F}", &[Bytes(b"\x80\xDF")]),
         ],
     ),
     (
-        Made::Over(Codec::Big5),
+        Over(Codec::Big5),
+        ONE_ENTRY,
         &[
             Encoder("a scalar that the index lacks"),
             Encodes("\u{4E00}", &[Report('\u{4E00}')]),
         ],
     ),
     (
-        Made::Over(Codec::EucKr),
+        Over(Codec::EucKr),
+        ONE_ENTRY,
         &[
             Encoder("a scalar of the index"),
             Encodes("\u{AC02}", &[Bytes(b"\x81\x41")]),
         ],
     ),
+];
+
+/// The cases, with U+AC02 at pointer 0 of index EUC-KR, the private-use rows of the standard, U+0391 at place 65 of
+/// the single-byte table, and no other scalar in any index.
+const CASES_OF_OTHERS: &[EncoderCase] = &[
     (
-        Made::UserDefined,
+        UserDefined,
+        ONE_ENTRY,
         &[
             Encoder("a byte past ASCII, and a scalar that has none"),
             Encodes("\u{F7FF}\u{80}", &[Bytes(b"\xFF"), Report('\u{80}')]),
@@ -138,7 +139,8 @@ const CASES: &[(Made, &[EncoderRow])] = &[
         ],
     ),
     (
-        Made::SingleByte,
+        SingleByte(TWO_LETTERS, (0x391, 65, 1)),
+        ONE_ENTRY,
         &[
             Encoder("a scalar of the table"),
             Encodes("\u{391}", &[Bytes(b"\xC1")]),
@@ -146,27 +148,12 @@ const CASES: &[(Made, &[EncoderRow])] = &[
     ),
 ];
 
-/// Follows the rows with an encoder over these tables.
-fn encodes(rt: &(impl AllocGlobal + Abort), tables: &Tables, made: Made, rows: &[EncoderRow]) {
-    match made {
-        Made::Over(codec) => encode_over(rt, codec, tables, rows),
-        Made::SingleByte => {
-            let table = byte_table_of(rt, &entries_of(&[(65, 0x391), (116, 0x3C4)]));
-            follow_encoder::<SingleByteEncoder>(rt, (&table, 0x391, 65, 1), rows);
-        }
-        Made::UserDefined => follow_encoder::<UserDefinedEncoder>(rt, (), rows),
-    }
-}
-
-/// Follows each case over these tables.
-fn encodes_each_case(rt: &(impl AllocGlobal + Abort), tables: &Tables) {
-    for (made, rows) in CASES {
-        encodes(rt, tables, *made, *rows);
-    }
+#[test]
+fn runs_of_encoders_over_tables_give_the_same_events_in_every_cut(rt: HostRuntime) {
+    encode_each(&rt, CASES_OVER_TABLES);
 }
 
 #[test]
-fn runs_of_encoders_give_the_same_events_in_every_cut(rt: HostRuntime) {
-    encodes_each_case(&rt, &flat_tables(&rt));
-    encodes_each_case(&rt, &packed_tables(&rt));
+fn runs_of_the_other_encoders_do_so_too(rt: HostRuntime) {
+    encode_each(&rt, CASES_OF_OTHERS);
 }

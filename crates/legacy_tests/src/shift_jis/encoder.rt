@@ -1,11 +1,12 @@
 //! The encoder of Shift_JIS.
+use crate::codecs::EncoderOf::Over;
+use crate::codecs::{Codec, EncoderCase, encode_each};
 use crate::encode_events::Wanted::{Bytes, Report};
 use crate::encoder_rows::EncoderRow::{Encoder, Encodes, FromUtf8, Utf8Length, Utf16Length};
 use crate::encoder_rows::{EncoderRow, TestedEncoder};
-use crate::indexes::{no_entries, no_parts, run};
-use crate::over_tables::{Codec, encode_over_both};
+use crate::indexes::{Both, EMPTY, Flat, NO_ENTRIES, NO_PARTS, run};
 use legacy_base::EncoderResult::{InputEmpty, OutputFull};
-use legacy_base::{Indexes, Packed, Run, Tables};
+use legacy_base::{Packed, Tables};
 use legacy_encoders::ShiftJisEncoder;
 use std::process::Abort;
 
@@ -34,27 +35,6 @@ const WITHOUT_ENTRIES: &[EncoderRow] = &[
     Utf16Length(5, Some(10)),
 ];
 
-#[test]
-fn encodes_without_entries(rt: HostRuntime) {
-    encode_over_both(
-        &rt,
-        Codec::ShiftJis,
-        &no_entries(),
-        &no_parts(),
-        WITHOUT_ENTRIES,
-    );
-}
-
-/// Entries of index jis0208, the same as runs, the pointers that are written by rising scalars, those of EUC-JP, and the
-/// rows with these.
-type Case<'a> = (
-    &'a [(usize, u16)],
-    &'a [Run],
-    &'a [u16],
-    &'a [u16],
-    &'a [EncoderRow<'a>],
-);
-
 const MINUS: &[EncoderRow] = &[
     Encoder("the minus sign is written as U+FF0D"),
     Encodes("\u{2212}\u{FF0D}", &[Bytes(b"\x81\x7C\x81\x7C")]),
@@ -70,49 +50,53 @@ const ONLY_THERE: &[EncoderRow] = &[
     Encodes("\u{FF02}", &[Report('\u{FF02}')]),
 ];
 
-const CASES: &[Case] = &[
-    (&[(60, 0xFF0D)], &[run!(60, 0xFF0D, 1)], &[60], &[60], MINUS),
-    (
-        &[(8647, 0xFF02), (10739, 0xFF02)],
-        &[run!(8647, 0xFF02, 1), run!(10739, 0xFF02, 1)],
-        &[10739],
-        &[8647],
-        DUPLICATE,
-    ),
-    (
-        &[(8647, 0xFF02)],
-        &[run!(8647, 0xFF02, 1)],
-        &[],
-        &[8647],
-        ONLY_THERE,
-    ),
-];
+const ONE_POINTER: &Both = &Both {
+    flat: Flat {
+        jis0208: (11280, &[(60, 0xFF0D)]),
+        ..NO_ENTRIES
+    },
+    packed: Packed {
+        jis0208: &[run!(60, 0xFF0D, 1)],
+        shift_jis_order: &[60],
+        euc_jp_order: &[60],
+        ..NO_PARTS
+    },
+};
 
-/// Follows the rows of a case over flat tables and over packed ones.
-fn follow_case(rt: &(impl AllocGlobal + Abort), case: &Case) {
-    let (entries, runs, order, euc_jp_order, rows) = case;
-    let mut jis0208 = [0u16; 11280];
-    for (pointer, scalar) in *entries {
-        if *pointer < 11280 {
-            jis0208[*pointer] = *scalar;
-        }
-    }
-    let indexes = Indexes {
-        jis0208: &jis0208,
-        ..no_entries()
-    };
-    let packed = Packed {
-        jis0208: runs,
-        shift_jis_order: order,
-        euc_jp_order,
-        ..no_parts()
-    };
-    encode_over_both(rt, Codec::ShiftJis, &indexes, &packed, rows);
-}
+const TWO_POINTERS: &Both = &Both {
+    flat: Flat {
+        jis0208: (11280, &[(8647, 0xFF02), (10739, 0xFF02)]),
+        ..NO_ENTRIES
+    },
+    packed: Packed {
+        jis0208: &[run!(8647, 0xFF02, 1), run!(10739, 0xFF02, 1)],
+        shift_jis_order: &[10739],
+        euc_jp_order: &[8647],
+        ..NO_PARTS
+    },
+};
+
+const A_DUPLICATE: &Both = &Both {
+    flat: Flat {
+        jis0208: (11280, &[(8647, 0xFF02)]),
+        ..NO_ENTRIES
+    },
+    packed: Packed {
+        jis0208: &[run!(8647, 0xFF02, 1)],
+        shift_jis_order: &[],
+        euc_jp_order: &[8647],
+        ..NO_PARTS
+    },
+};
+
+const CASES: &[EncoderCase] = &[
+    (Over(Codec::ShiftJis), EMPTY, WITHOUT_ENTRIES),
+    (Over(Codec::ShiftJis), ONE_POINTER, MINUS),
+    (Over(Codec::ShiftJis), TWO_POINTERS, DUPLICATE),
+    (Over(Codec::ShiftJis), A_DUPLICATE, ONLY_THERE),
+];
 
 #[test]
 fn encodes_by_the_pointers_that_are_written(rt: HostRuntime) {
-    for case in CASES {
-        follow_case(&rt, case);
-    }
+    encode_each(&rt, CASES);
 }

@@ -1,11 +1,13 @@
 //! The encoders of the single-byte codecs.
+use crate::codecs::EncoderOf::SingleByte;
+use crate::codecs::{EncoderCase, encode_each};
 use crate::compared::{is_answer, prints};
 use crate::encode_events::Wanted::{Bytes, Report};
 use crate::encoder_rows::EncoderRow::{
     Encoder, Encodes, FromUtf8, FromUtf16, Utf8Length, Utf16Length,
 };
-use crate::encoder_rows::{EncoderRow, TestedEncoder, follow_encoder};
-use crate::indexes::{byte_table_of, entries_of};
+use crate::encoder_rows::{EncoderRow, TestedEncoder};
+use crate::indexes::{EMPTY, byte_table_of, entries_of};
 use legacy_base::EncoderResult::{InputEmpty, OutputFull, Unmappable};
 use legacy_base::SingleByteTable;
 use legacy_encoders::SingleByteRunError::{RunMismatch, RunPastEnd, RunStart};
@@ -69,23 +71,24 @@ const GREEK: &[EncoderRow] = &[
     Utf16Length(usize::MAX, Some(usize::MAX)),
 ];
 
-#[test]
-fn encodes_by_a_run_and_by_places(rt: HostRuntime) {
-    let table = byte_table_of(&rt, &entries_of(&[(65, 0x391), (116, 0x3C4)]));
-    follow_encoder::<SingleByteEncoder>(&rt, (&table, 0x391, 65, 1), GREEK);
-    follow_encoder::<SingleByteEncoder>(&rt, (&table, 0, 32, 0), GREEK);
-}
-
 const WITHOUT_ENTRIES: &[EncoderRow] = &[
     Encoder("a run over places without a scalar leaves U+0000 the byte 00"),
     Encodes("\0a", &[Bytes(b"\0a")]),
     Encodes("\u{A0}", &[Report('\u{A0}')]),
 ];
 
+/// U+0391 and U+03C4 at the places that ISO-8859-7 has them.
+pub(crate) const TWO_LETTERS: &[(usize, u16)] = &[(65, 0x391), (116, 0x3C4)];
+
+const CASES: &[EncoderCase] = &[
+    (SingleByte(TWO_LETTERS, (0x391, 65, 1)), EMPTY, GREEK),
+    (SingleByte(TWO_LETTERS, (0, 32, 0)), EMPTY, GREEK),
+    (SingleByte(&[], (0, 32, 1)), EMPTY, WITHOUT_ENTRIES),
+];
+
 #[test]
-fn encodes_ascii_alone_with_an_empty_table(rt: HostRuntime) {
-    let table = byte_table_of(&rt, &[0; 128]);
-    follow_encoder::<SingleByteEncoder>(&rt, (&table, 0, 32, 1), WITHOUT_ENTRIES);
+fn encodes_by_a_run_and_by_places(rt: HostRuntime) {
+    encode_each(&rt, CASES);
 }
 
 /// Runs by their first scalar, their first place and their length, and why the table with U+0391 at place 65 alone

@@ -1,9 +1,12 @@
 //! The encoder of x-user-defined.
+use crate::codecs::EncoderOf::UserDefined;
+use crate::codecs::{EncoderCase, encode_each};
 use crate::encode_events::Wanted::{Bytes, Report};
 use crate::encoder_rows::EncoderRow::{
     Encoder, Encodes, FromUtf8, FromUtf16, Utf8Length, Utf16Length,
 };
-use crate::encoder_rows::{EncoderRow, TestedEncoder, follow_encoder};
+use crate::encoder_rows::{EncoderRow, TestedEncoder};
+use crate::indexes::EMPTY;
 use legacy_base::EncoderResult::{InputEmpty, OutputFull, Unmappable};
 use legacy_encoders::UserDefinedEncoder;
 use std::process::Abort;
@@ -58,7 +61,9 @@ const ROWS: &[EncoderRow] = &[
     Utf16Length(usize::MAX, Some(usize::MAX)),
 ];
 
+const CASES: &[EncoderCase] = &[(UserDefined, EMPTY, ROWS)];
+
 #[test]
 fn encodes(rt: HostRuntime) {
-    follow_encoder::<UserDefinedEncoder>(&rt, (), ROWS);
+    encode_each(&rt, CASES);
 }

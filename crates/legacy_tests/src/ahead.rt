@@ -1,0 +1,33 @@
+//! Encoders that look the pairs of another one up ahead.
+use crate::encoder_rows::{EncoderRow, TestedEncoder, follow_encoder};
+use legacy_encoders::{CachedEncoder, EncodesPairs};
+use std::process::Abort;
+
+impl<'a, E: EncodesPairs> TestedEncoder for CachedEncoder<'a, E> {
+    type Of = CachedEncoder<'a, E>;
+
+    fn made(_rt: &impl Abort, of: CachedEncoder<'a, E>) -> CachedEncoder<'a, E> {
+        of
+    }
+
+    fn pending(&self) -> Option<bool> {
+        None
+    }
+}
+
+/// Follows the rows with an encoder that looks the pairs of this one up ahead in this room, if the room is enough,
+/// and answers whether it is.
+pub(crate) fn encode_ahead<E: EncodesPairs>(
+    rt: &(impl AllocGlobal + Abort),
+    encoder: &E,
+    room: &mut [u16],
+    rows: &[EncoderRow],
+) -> bool {
+    match CachedEncoder::new(encoder, room) {
+        Some(cached) => {
+            follow_encoder::<CachedEncoder<E>>(rt, cached, rows);
+            true
+        }
+        None => false,
+    }
+}
