@@ -131,6 +131,32 @@ const AROUND_7457: &[Row] = &[
     (LookUp::Ranges, '\u{E7C7}', Some(7457)),
 ];
 
+/// By ranges from pointer 0 and U+0080, and from pointer 200 and U+3000.
+const BY_PAGES: &[Row] = &[
+    // the first range ends within a page
+    (LookUp::Ranges, '\u{100}', Some(128)),
+    (LookUp::Ranges, '\u{147}', Some(199)),
+    (LookUp::Ranges, '\u{148}', None),
+    // pages that a range fills
+    (LookUp::Ranges, '\u{3000}', Some(200)),
+    (LookUp::Ranges, '\u{30FF}', Some(455)),
+    (LookUp::Ranges, '\u{31FF}', Some(711)),
+    // one in which pointer 7457 is U+E7C7's
+    (LookUp::Ranges, '\u{4C58}', Some(7456)),
+    (LookUp::Ranges, '\u{4C59}', None),
+    (LookUp::Ranges, '\u{4C5A}', Some(7458)),
+];
+
+/// By a range from pointer 31228 and U+E000.
+const AROUND_E7C7: &[Row] = &[
+    (LookUp::Ranges, '\u{E6FF}', Some(33019)),
+    (LookUp::Ranges, '\u{E7C6}', Some(33218)),
+    (LookUp::Ranges, '\u{E7C7}', Some(7457)),
+    (LookUp::Ranges, '\u{E7C8}', Some(33220)),
+    (LookUp::Ranges, '\u{E800}', Some(33276)),
+    (LookUp::Ranges, '\u{FFFF}', Some(39419)),
+];
+
 const BY_ENTRIES: &[Pointer] = &[
     (Big5, 0, Some('\u{2008A}')),
     (EucKr, 0, Some('\u{AC02}')),
@@ -393,6 +419,32 @@ const OF_JIS0208_AND_RANGES: &[Case] = &[
         scalars: &[],
         four_bytes: &[],
         pointers: AROUND_7457,
+    },
+    Case {
+        name: "pages of 256 scalars",
+        both: Both {
+            flat: Flat {
+                ranges: &[(0, 0x80), (200, 0x3000)],
+                ..NO_ENTRIES
+            },
+            packed: NO_PARTS,
+        },
+        scalars: &[],
+        four_bytes: &[],
+        pointers: BY_PAGES,
+    },
+    Case {
+        name: "around U+E7C7",
+        both: Both {
+            flat: Flat {
+                ranges: &[(31228, 0xE000)],
+                ..NO_ENTRIES
+            },
+            packed: NO_PARTS,
+        },
+        scalars: &[],
+        four_bytes: &[],
+        pointers: AROUND_E7C7,
     },
 ];
 
