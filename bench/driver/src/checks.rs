@@ -13,8 +13,7 @@ const TIMES: usize = 100;
 fn times(flat: &Ours, packed: &Ours) -> Option<(Duration, Duration)> {
     let calls: Vec<Option<Call<'_, u8>>> =
         [flat, packed].into_iter().map(|codec| Some(ours::<ToUtf8>(codec, Calls::Raw, &[], 0, 0))).collect();
-    let nothing: Call<'_, u8> = Box::new(|_| 0);
-    let best = best_times(&calls, &nothing, &mut [0; 1], TIMES);
+    let best = best_times(&calls, &[0u8; 0], &mut [0; 1], TIMES);
     Some((best[0]?, best[1]?))
 }
 

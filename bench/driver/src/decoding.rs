@@ -58,11 +58,6 @@ pub fn theirs<'a, D: Into>(encoding: &'static Encoding, calls: Calls, src: &'a [
     Box::new(move |dst: &mut [D::Written]| D::theirs(encoding, calls, src, dst, piece, rounds))
 }
 
-/// The call of encoding_rs that is made between two that are timed.
-pub fn between<'a, D: Into>(encoding: &'static Encoding, src: &'a [u8]) -> Call<'a, D::Written> {
-    theirs::<D>(encoding, Calls::Raw, src, 0, 1)
-}
-
 /// Room for what a source is decoded to.
 pub fn room<D: Into>(src: &[u8]) -> Vec<D::Written> {
     vec![D::Written::default(); src.len() * 3 + 64]
@@ -116,7 +111,7 @@ fn cells<D: Into>(codec: &Codec, src: &[u8], piece: usize, rounds: usize, times:
         codec.packed.as_ref().map(|packed| ours::<D>(packed, Calls::Raw, src, piece, rounds)),
         codec.packed.as_ref().map(|packed| ours::<D>(packed, Calls::Raw, src, piece, 0)),
     ];
-    let best = best_times(&calls, &between::<D>(codec.encoding, src), &mut dst, times);
+    let best = best_times(&calls, src, &mut dst, times);
     let bytes = src.len() * rounds;
     let theirs = speed(bytes, best[0]);
     let flat = speed(bytes, without(best[1], best[2]));

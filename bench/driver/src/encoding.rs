@@ -98,11 +98,6 @@ pub fn fast<'a, D: From>(encoding: &'static FastEncoding, calls: Calls, src: &'a
     Box::new(move |dst: &mut [u8]| D::fast(encoding, calls, src, dst, piece, rounds))
 }
 
-/// The call of encoding_rs that is made between two that are timed.
-pub fn between<'a, D: From>(encoding: &'static FastEncoding, src: &'a [D::Read]) -> Call<'a, u8> {
-    fast::<D>(encoding, Calls::Raw, src, 0, 1)
-}
-
 fn peer<'a, D: From>(peer: &'a dyn Peer, src: &'a [D::Read], piece: usize, rounds: usize) -> Call<'a, u8> {
     Box::new(move |dst: &mut [u8]| D::peer(peer, src, dst, piece, rounds))
 }
@@ -192,7 +187,7 @@ impl<'a> Writers<'a> {
             Some(ours::<D>(self.ours, Calls::Raw, src, piece, rounds)),
             Some(ours::<D>(self.ours, Calls::Raw, src, piece, 0)),
         ];
-        let best = best_times(&calls, &between::<D>(self.fast, src), &mut room(src), times);
+        let best = best_times(&calls, src, &mut room(src), times);
         let bytes = size_of_val(src) * rounds;
         let others: Vec<Option<f64>> = best[..4].iter().map(|time| speed(bytes, *time)).collect();
         let ours = speed(bytes, without(best[4], best[5]));
@@ -268,7 +263,7 @@ fn flat_line<D: From>(corpus: &str, codec: &Codec, packed: &Ours, text: &str, ti
         Some(ours::<D>(packed, Calls::Raw, &src, 0, 1)),
         Some(ours::<D>(packed, Calls::Raw, &src, 0, 0)),
     ];
-    let best = best_times(&calls, &between::<D>(fast_encoding(codec.encoding)?, &src), &mut room(&src), times);
+    let best = best_times(&calls, &src, &mut room(&src), times);
     let bytes = size_of_val(src.as_slice());
     let (theirs, flat, packed) = (speed(bytes, best[0]), speed(bytes, without(best[1], best[2])), speed(bytes, without(best[3], best[4])));
     let cells = speed_cell(theirs) + &speed_cell(flat) + &speed_cell(packed) + &ratio_cell(flat, theirs);

@@ -1,5 +1,6 @@
 //! How long calls take.
 
+use crate::pieces::Unit;
 use std::hint::black_box;
 use std::time::Duration;
 
@@ -51,9 +52,9 @@ impl Times {
 }
 
 /// The best time of each call. They are made in turn, each so many times at the least if it does not take too long, and
-/// each behind a call of another library that is not timed. So all begin with the processor's caches and guesses as that
-/// one leaves them: above all a call and the check that is a part of it, which else was timed behind a call of its own.
-pub fn best_times<W>(calls: &[Option<Call<'_, W>>], between: &Call<'_, W>, dst: &mut [W], times: usize) -> Vec<Option<Duration>> {
+/// each behind a count of the source's letters, which is none of them. So all begin with the processor's caches and guesses
+/// as other code leaves them: above all a call and the check that is a part of it, which else came behind its own code.
+pub fn best_times<R: Unit, W>(calls: &[Option<Call<'_, W>>], src: &[R], dst: &mut [W], times: usize) -> Vec<Option<Duration>> {
     let mut all = vec![Times::default(); calls.len()];
     loop {
         let mut made = 0;
@@ -62,7 +63,7 @@ pub fn best_times<W>(calls: &[Option<Call<'_, W>>], between: &Call<'_, W>, dst: 
             if so_far.is_done(times) {
                 continue;
             }
-            black_box(between(dst));
+            black_box(R::letters(src));
             let start = thread_time();
             black_box(call(dst));
             so_far.add(thread_time() - start);

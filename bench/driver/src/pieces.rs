@@ -4,11 +4,18 @@
 pub trait Unit: Copy + PartialEq + Default {
     /// Whether the place lies between two characters.
     fn is_between(text: &[Self], place: usize) -> bool;
+
+    /// How many letters and digits the text has, by the standard library.
+    fn letters(text: &[Self]) -> usize;
 }
 
 impl Unit for u8 {
     fn is_between(text: &[u8], place: usize) -> bool {
         text.get(place).is_none_or(|byte| byte & 0xC0 != 0x80)
+    }
+
+    fn letters(text: &[u8]) -> usize {
+        String::from_utf8_lossy(text).chars().filter(|c| c.is_alphanumeric()).count()
     }
 }
 
@@ -16,6 +23,10 @@ impl Unit for u16 {
     fn is_between(text: &[u16], place: usize) -> bool {
         let is = |at: usize, first: u16| text.get(at).is_some_and(|unit| unit & 0xFC00 == first);
         place == 0 || !is(place - 1, 0xD800) || !is(place, 0xDC00)
+    }
+
+    fn letters(text: &[u16]) -> usize {
+        char::decode_utf16(text.iter().copied()).flatten().filter(|c| c.is_alphanumeric()).count()
     }
 }
 

@@ -42,7 +42,7 @@ fn decode_line<D: Into>(corpus: &str, codec: &Ours, encoding: &'static Encoding,
         let theirs = Some(decoding::theirs::<D>(encoding, Calls::Replacing, src, piece, rounds));
         let calls: [Option<Call<'_, D::Written>>; 5] =
             [theirs, ours(Calls::Raw, rounds), ours(Calls::Replacing, rounds), ours(Calls::Raw, 0), ours(Calls::Replacing, 0)];
-        let best = best_times(&calls, &decoding::between::<D>(encoding, src), &mut decoding::room::<D>(src), times);
+        let best = best_times(&calls, src, &mut decoding::room::<D>(src), times);
         print!("{}", cells(src.len() * rounds, &best));
     }
     println!();
@@ -59,7 +59,7 @@ fn encode_line<D: From>(corpus: &str, codec: &Ours, encoding: &'static Encoding,
         let ours = |calls, rounds| Some(encoding::ours::<D>(codec, calls, src, piece, rounds));
         let theirs = Some(encoding::fast::<D>(fast, Calls::Replacing, src, piece, rounds));
         let calls = [theirs, ours(Calls::Raw, rounds), ours(Calls::Replacing, rounds), ours(Calls::Raw, 0), ours(Calls::Replacing, 0)];
-        let best = best_times(&calls, &encoding::between::<D>(fast, src), &mut encoding::room(src), times);
+        let best = best_times(&calls, src, &mut encoding::room(src), times);
         print!("{}", cells(size_of_val(src.as_slice()) * rounds, &best));
     }
     println!();
