@@ -51,11 +51,16 @@ impl Times {
     }
 }
 
+/// How many code units are counted between two calls at the most: that takes a millisecond or less.
+const COUNTED: usize = 100_000;
+
 /// The best time of each call. They are made in turn, each so many times at the least if it does not take too long, and
-/// each behind a count of the source's letters, which is none of them. So all begin with the processor's caches and guesses
-/// as other code leaves them: above all a call and the check that is a part of it, which else came behind its own code.
+/// each behind a count of the letters at the source's front, which is none of them. So all begin with the processor's
+/// caches and guesses as other code leaves them: above all a call and the check that is a part of it, which else came
+/// behind its own code.
 pub fn best_times<R: Unit, W>(calls: &[Option<Call<'_, W>>], src: &[R], dst: &mut [W], times: usize) -> Vec<Option<Duration>> {
     let mut all = vec![Times::default(); calls.len()];
+    let front = &src[..src.len().min(COUNTED)];
     loop {
         let mut made = 0;
         for (call, so_far) in calls.iter().zip(&mut all) {
@@ -63,7 +68,7 @@ pub fn best_times<R: Unit, W>(calls: &[Option<Call<'_, W>>], src: &[R], dst: &mu
             if so_far.is_done(times) {
                 continue;
             }
-            black_box(R::letters(src));
+            black_box(R::letters(front));
             let start = thread_time();
             black_box(call(dst));
             so_far.add(thread_time() - start);
