@@ -4,7 +4,7 @@ mod encoder;
 use crate::codecs::DecoderOf::Over;
 use crate::codecs::{Codec, DecoderCase, decode_each};
 use crate::events::bad;
-use crate::indexes::{Both, EMPTY, Flat, NO_ENTRIES, NO_PARTS, run};
+use crate::indexes::{Both, EMPTY, NO_PARTS, flat, run};
 use crate::rows::Row::{
     BareLength, Decoder, Events, Lone, Neutral, ToUtf8, ToUtf16, Utf8Length, Utf16Length,
 };
@@ -108,10 +108,7 @@ const THE_LAST_POINTER: &[Row] = &[
 
 /// U+2910D at the last pointer, 19780.
 const LAST: &Both = &Both {
-    flat: Flat {
-        big5: (19781, &[(19780, 0x2_910D)]),
-        ..NO_ENTRIES
-    },
+    flat: flat!(big5: (19781, &[(19780, 0x2_910D)])),
     packed: Packed {
         big5: &[run!(19780, 0x2910D, 1)],
         big5_order: &[19780],

@@ -4,7 +4,7 @@ mod encoder;
 use crate::codecs::DecoderOf::Over;
 use crate::codecs::{Codec, DecoderCase, decode_each};
 use crate::events::bad;
-use crate::indexes::{Both, Flat, NO_ENTRIES, NO_PARTS, run};
+use crate::indexes::{Both, NO_PARTS, flat, run};
 use crate::rows::Row::{
     BareLength, Decoder, Events, Neutral, ToUtf8, ToUtf16, Utf8Length, Utf16Length,
 };
@@ -73,10 +73,7 @@ const ROWS: &[Row] = &[
 
 /// U+AC02 at pointer 0, and no other entry.
 pub(crate) const ONE_ENTRY: &Both = &Both {
-    flat: Flat {
-        euc_kr: (1, &[(0, 0xAC02)]),
-        ..NO_ENTRIES
-    },
+    flat: flat!(euc_kr: (1, &[(0, 0xAC02)])),
     packed: Packed {
         euc_kr: &[run!(0, 0xAC02, 1)],
         euc_kr_order: &[0],

@@ -1,11 +1,11 @@
 //! gb18030.
-mod encoder;
+pub(crate) mod encoder;
 
 use crate::codecs::DecoderOf::Over;
 use crate::codecs::{Codec, DecoderCase, decode_each};
 use crate::events::bad;
 use crate::gb18030::encoder::ROW_AND_ENTRY;
-use crate::indexes::{Both, EMPTY, Flat, NO_ENTRIES, NO_PARTS, run};
+use crate::indexes::{Both, EMPTY, Flat, NO_ENTRIES, NO_PARTS, flat, run};
 use crate::rows::Row::{
     BareLength, Decoder, Events, Neutral, ToUtf8, ToUtf16, Utf8Length, Utf16Length,
 };
@@ -219,10 +219,7 @@ const BESIDE_7F: &Both = &Both {
 };
 
 const TWO_RANGES: &Both = &Both {
-    flat: Flat {
-        ranges: &[(0, 0x0080), (36, 0x00A5)],
-        ..NO_ENTRIES
-    },
+    flat: flat!(ranges: &[(0, 0x0080), (36, 0x00A5)]),
     packed: NO_PARTS,
 };
 

@@ -43,6 +43,18 @@ pub(crate) const NO_ENTRIES: Flat = Flat {
     gb18030_pua: &GB18030_2022_PUA,
 };
 
+/// Flat indexes of which these are stated, and the others are without an entry.
+macro_rules! flat {
+    ($($index:ident: $entries:expr),*) => {
+        crate::indexes::Flat {
+            $($index: $entries,)*
+            ..crate::indexes::NO_ENTRIES
+        }
+    };
+}
+
+pub(crate) use flat;
+
 /// Packed indexes without a run and without a pointer.
 pub(crate) const NO_PARTS: Packed = Packed {
     big5: &[],

@@ -1,6 +1,6 @@
 //! The check of packed indexes.
 use crate::compared::is_fault;
-use crate::indexes::{Both, Filled, Flat, NO_ENTRIES, NO_PARTS, run};
+use crate::indexes::{Both, Filled, Flat, NO_ENTRIES, NO_PARTS, flat, run};
 use legacy_base::IndexName::Gb18030;
 use legacy_base::TableError::{BadEntry, PackedDiffers, PackedOrder};
 use legacy_base::{Packed, PackedPart, TableError, Tables};
@@ -23,10 +23,7 @@ fn have_faults(rt: &impl Abort, case: &str, rows: &[Faulty]) {
 macro_rules! of_euc_kr {
     ($runs:expr) => {
         Both {
-            flat: Flat {
-                euc_kr: (4, &[(0, 0xAC02), (1, 0xAC03), (3, 0xAC05)]),
-                ..NO_ENTRIES
-            },
+            flat: flat!(euc_kr: (4, &[(0, 0xAC02), (1, 0xAC03), (3, 0xAC05)])),
             packed: Packed {
                 euc_kr: $runs,
                 euc_kr_order: &[0, 1, 3],
@@ -81,10 +78,7 @@ const RUNS: &[Faulty] = &[
 const OF_TWO_PARTS: &[Faulty] = &[
     (
         Both {
-            flat: Flat {
-                euc_kr: (4, &[(0, 0xAC02), (1, 0xAC03), (3, 0xAC05)]),
-                ..NO_ENTRIES
-            },
+            flat: flat!(euc_kr: (4, &[(0, 0xAC02), (1, 0xAC03), (3, 0xAC05)])),
             packed: Packed {
                 euc_kr: &[run!(0, 0xAC02, 2)],
                 jis0208: &[run!(0, 0x3000, 0)],
@@ -114,10 +108,7 @@ const OF_TWO_PARTS: &[Faulty] = &[
 macro_rules! of_ff02 {
     ($shift_jis:expr, $euc_jp:expr) => {
         Both {
-            flat: Flat {
-                jis0208: (10740, &[(8647, 0xFF02), (10739, 0xFF02)]),
-                ..NO_ENTRIES
-            },
+            flat: flat!(jis0208: (10740, &[(8647, 0xFF02), (10739, 0xFF02)])),
             packed: Packed {
                 jis0208: &[run!(8647, 0xFF02, 1), run!(10739, 0xFF02, 1)],
                 shift_jis_order: $shift_jis,
@@ -149,10 +140,7 @@ const ORDERS: &[Faulty] = &[
 /// Big5 takes the last pointer of six scalars.
 const ORDER_OF_BIG5: &[Faulty] = &[(
     Both {
-        flat: Flat {
-            big5: (18992, &[(5247, 0x2550), (18991, 0x2550)]),
-            ..NO_ENTRIES
-        },
+        flat: flat!(big5: (18992, &[(5247, 0x2550), (18991, 0x2550)])),
         packed: Packed {
             big5: &[run!(5247, 0x2550, 1), run!(18991, 0x2550, 1)],
             big5_order: &[5247],

@@ -1,7 +1,8 @@
 //! Look-ups of the scalars of pointers, and of the pointers and private-use bytes that encoders take.
 use crate::compared::{is_pointer, is_scalar};
+use crate::gb18030::encoder::{LAST_RANGE, RANGE_FROM_7457};
 use crate::indexes::{
-    Both, Filled, Flat, NO_ENTRIES, NO_PARTS, no_entries, packed_tables_of, run, tables_of,
+    Both, Filled, Flat, NO_ENTRIES, NO_PARTS, flat, no_entries, packed_tables_of, run, tables_of,
 };
 use legacy_base::IndexName::{Big5, EucKr, Gb18030, Jis0208, Jis0212, Katakana};
 use legacy_base::{IndexName, Packed, Tables};
@@ -39,14 +40,16 @@ type Pointer = (IndexName, usize, Option<char>);
 /// A pointer of four bytes, and the scalar that it must have.
 type FourBytes = (usize, Option<char>);
 
-/// Indexes, and what look-ups in tables of them must answer.
-struct Case<'a> {
-    name: &'a str,
-    both: Both<'a>,
-    scalars: &'a [Pointer],
-    four_bytes: &'a [FourBytes],
-    pointers: &'a [Row],
+/// Look-ups, and what they must answer.
+#[derive(Clone, Copy)]
+enum Wanted<'a> {
+    Scalars(&'a [Pointer]),
+    OfFourBytes(&'a [FourBytes]),
+    Pointers(&'a [Row]),
 }
+
+/// The name of a case, its indexes, and what look-ups in tables of them must answer.
+type Case<'a> = (&'a str, &'a Both<'a>, Wanted<'a>);
 
 /// Compares the scalars that the indexes have at pointers with what is wanted.
 fn have_scalars(rt: &impl Abort, tables: &Tables, case: &str, rows: &[Pointer]) {
@@ -71,18 +74,25 @@ fn have_pointers(rt: &impl Abort, tables: &Tables, case: &str, rows: &[Row]) {
 }
 
 /// Compares what look-ups in these tables answer with what is wanted.
-fn answer(rt: &impl Abort, tables: &Tables, case: &Case) {
-    have_scalars(rt, tables, case.name, case.scalars);
-    have_four_bytes(rt, tables, case.name, case.four_bytes);
-    have_pointers(rt, tables, case.name, case.pointers);
+fn answer(rt: &impl Abort, tables: &Tables, case: &str, wanted: Wanted) {
+    match wanted {
+        Wanted::Scalars(rows) => have_scalars(rt, tables, case, rows),
+        Wanted::OfFourBytes(rows) => have_four_bytes(rt, tables, case, rows),
+        Wanted::Pointers(rows) => have_pointers(rt, tables, case, rows),
+    }
 }
 
 /// Looks up in flat tables of the indexes, and in packed ones.
-fn answer_in_both(rt: &impl Abort, case: &Case) {
-    let filled = Filled::of(&case.both.flat);
-    let indexes = filled.indexes(&case.both.flat);
-    answer(rt, &tables_of(rt, &indexes), case);
-    answer(rt, &packed_tables_of(rt, &indexes, &case.both.packed), case);
+fn answer_in_both(rt: &impl Abort, (case, both, wanted): &Case) {
+    let filled = Filled::of(&both.flat);
+    let indexes = filled.indexes(&both.flat);
+    answer(rt, &tables_of(rt, &indexes), case, *wanted);
+    answer(
+        rt,
+        &packed_tables_of(rt, &indexes, &both.packed),
+        case,
+        *wanted,
+    );
 }
 
 /// Looks up in the tables of each case.
@@ -110,13 +120,13 @@ const OF_BIG5: &[Row] = &[
     (LookUp::Big5, '\u{3001}', None),
 ];
 
-const TWICE_IN_JIS0208: &[Row] = &[
+const OF_TWICE_IN_JIS0208: &[Row] = &[
     (LookUp::ShiftJis, '\u{FF02}', Some(10739)),
     (LookUp::EucJp, '\u{FF02}', Some(8647)),
     (LookUp::ShiftJis, '\u{FF03}', None),
 ];
 
-const ONCE_IN_JIS0208: &[Row] = &[(LookUp::ShiftJis, '\u{FF02}', None)];
+const OF_ONCE_IN_JIS0208: &[Row] = &[(LookUp::ShiftJis, '\u{FF02}', None)];
 
 const BY_THE_LAST_RANGE: &[Row] = &[
     (LookUp::Ranges, '\u{FFFD}', Some(39417)),
@@ -204,77 +214,146 @@ const OF_FOUR_BYTES: &[(usize, Option<char>)] = &[
     (1237576, None),
 ];
 
+const ENTRIES: &Both = &Both {
+    flat: Flat {
+        big5: (1, &[(0, 0x2_008A)]),
+        euc_kr: (2, &[(0, 0xAC02)]),
+        jis0208: (1, &[(0, 0x3000)]),
+        jis0212: (1, &[(0, 0x4E02)]),
+        gb18030: (2, &[(0, 0x4E02), (1, 0x4E04)]),
+        gb18030_pua: &[],
+        ..NO_ENTRIES
+    },
+    packed: Packed {
+        big5: &[run!(0, 0x2_008A, 1)],
+        euc_kr: &[run!(0, 0xAC02, 1)],
+        jis0208: &[run!(0, 0x3000, 1)],
+        jis0212: &[run!(0, 0x4E02, 1)],
+        gb18030: &[run!(0, 0x4E02, 1), run!(1, 0x4E04, 1)],
+        euc_kr_order: &[0],
+        shift_jis_order: &[0],
+        euc_jp_order: &[0],
+        gb18030_order: &[0, 1],
+        ..NO_PARTS
+    },
+};
+
+const RUNS: &Both = &Both {
+    flat: Flat {
+        big5: (1, &[(0, 0x2_008A)]),
+        euc_kr: (66, &[(63, 0xAC02), (64, 0xAC03)]),
+        jis0208: (1, &[(0, 0x3000)]),
+        jis0212: (1, &[(0, 0x4E02)]),
+        gb18030: (2, &[(0, 0x4E02), (1, 0x4E04)]),
+        ..NO_ENTRIES
+    },
+    packed: Packed {
+        big5: &[run!(0, 0x2_008A, 1)],
+        euc_kr: &[run!(63, 0xAC02, 2)],
+        jis0208: &[run!(0, 0x3000, 1)],
+        jis0212: &[run!(0, 0x4E02, 1)],
+        gb18030: &[run!(0, 0x4E02, 1), run!(1, 0x4E04, 1)],
+        euc_kr_order: &[63, 64],
+        shift_jis_order: &[0],
+        euc_jp_order: &[0],
+        gb18030_order: &[0, 1],
+        ..NO_PARTS
+    },
+};
+
+const THREE_RANGES: &Both = &Both {
+    flat: flat!(ranges: &[(0, 0x80), (36, 0xA5), (38, 0xA9)]),
+    packed: NO_PARTS,
+};
+
+const FIRST_POINTERS: &Both = &Both {
+    flat: Flat {
+        euc_kr: (23940, &[(23939, 0x8A70)]),
+        gb18030: (3, &[(1, 0x4E02), (2, 0x4E02)]),
+        ..NO_ENTRIES
+    },
+    packed: Packed {
+        euc_kr: &[run!(23939, 0x8A70, 1)],
+        gb18030: &[run!(1, 0x4E02, 1), run!(2, 0x4E02, 1)],
+        euc_kr_order: &[23939],
+        gb18030_order: &[1],
+        ..NO_PARTS
+    },
+};
+
+const BIG5: &Both = &Both {
+    flat: Flat {
+        big5: (
+            18992,
+            &[
+                (5023, 0x3001),
+                (5024, 0x3000),
+                (5247, 0x2550),
+                (18991, 0x2550),
+            ],
+        ),
+        ..NO_ENTRIES
+    },
+    packed: Packed {
+        big5: &[
+            run!(5023, 0x3001, 1),
+            run!(5024, 0x3000, 1),
+            run!(5247, 0x2550, 1),
+            run!(18991, 0x2550, 1),
+        ],
+        big5_order: &[18991, 5024],
+        ..NO_PARTS
+    },
+};
+
+const TWICE_IN_BIG5: &Both = &Both {
+    flat: flat!(big5: (18992, &[(5247, 0x2550), (18991, 0x2550)])),
+    packed: Packed {
+        big5: &[run!(5247, 0x2550, 1), run!(18991, 0x2550, 1)],
+        big5_order: &[18991],
+        ..NO_PARTS
+    },
+};
+
+const TWO_RANGES: &Both = &Both {
+    flat: flat!(ranges: &[(0, 0x80), (200, 0x3000)]),
+    packed: NO_PARTS,
+};
+
+const RANGE_OF_PRIVATE_USE: &Both = &Both {
+    flat: flat!(ranges: &[(31228, 0xE000)]),
+    packed: NO_PARTS,
+};
+
+/// U+FF02 at a pointer that NEC's selection repeats, and at the one that is written.
+const TWICE_IN_JIS0208: &Both = &Both {
+    flat: flat!(jis0208: (10740, &[(8647, 0xFF02), (10739, 0xFF02)])),
+    packed: Packed {
+        jis0208: &[run!(8647, 0xFF02, 1), run!(10739, 0xFF02, 1)],
+        shift_jis_order: &[10739],
+        euc_jp_order: &[8647],
+        ..NO_PARTS
+    },
+};
+
+/// U+FF02 at the first alone, which is the index's last.
+const ONCE_IN_JIS0208: &Both = &Both {
+    flat: flat!(jis0208: (8648, &[(8647, 0xFF02)])),
+    packed: Packed {
+        jis0208: &[run!(8647, 0xFF02, 1)],
+        euc_jp_order: &[8647],
+        ..NO_PARTS
+    },
+};
+
 const SCALARS: &[Case] = &[
-    Case {
-        name: "entries",
-        both: Both {
-            flat: Flat {
-                big5: (1, &[(0, 0x2_008A)]),
-                euc_kr: (2, &[(0, 0xAC02)]),
-                jis0208: (1, &[(0, 0x3000)]),
-                jis0212: (1, &[(0, 0x4E02)]),
-                gb18030: (2, &[(0, 0x4E02), (1, 0x4E04)]),
-                gb18030_pua: &[],
-                ..NO_ENTRIES
-            },
-            packed: Packed {
-                big5: &[run!(0, 0x2_008A, 1)],
-                euc_kr: &[run!(0, 0xAC02, 1)],
-                jis0208: &[run!(0, 0x3000, 1)],
-                jis0212: &[run!(0, 0x4E02, 1)],
-                gb18030: &[run!(0, 0x4E02, 1), run!(1, 0x4E04, 1)],
-                euc_kr_order: &[0],
-                shift_jis_order: &[0],
-                euc_jp_order: &[0],
-                gb18030_order: &[0, 1],
-                ..NO_PARTS
-            },
-        },
-        scalars: BY_ENTRIES,
-        four_bytes: &[],
-        pointers: &[],
-    },
-    Case {
-        name: "runs",
-        both: Both {
-            flat: Flat {
-                big5: (1, &[(0, 0x2_008A)]),
-                euc_kr: (66, &[(63, 0xAC02), (64, 0xAC03)]),
-                jis0208: (1, &[(0, 0x3000)]),
-                jis0212: (1, &[(0, 0x4E02)]),
-                gb18030: (2, &[(0, 0x4E02), (1, 0x4E04)]),
-                ..NO_ENTRIES
-            },
-            packed: Packed {
-                big5: &[run!(0, 0x2_008A, 1)],
-                euc_kr: &[run!(63, 0xAC02, 2)],
-                jis0208: &[run!(0, 0x3000, 1)],
-                jis0212: &[run!(0, 0x4E02, 1)],
-                gb18030: &[run!(0, 0x4E02, 1), run!(1, 0x4E04, 1)],
-                euc_kr_order: &[63, 64],
-                shift_jis_order: &[0],
-                euc_jp_order: &[0],
-                gb18030_order: &[0, 1],
-                ..NO_PARTS
-            },
-        },
-        scalars: BY_RUNS,
-        four_bytes: &[],
-        pointers: &[],
-    },
-    Case {
-        name: "three ranges",
-        both: Both {
-            flat: Flat {
-                ranges: &[(0, 0x80), (36, 0xA5), (38, 0xA9)],
-                ..NO_ENTRIES
-            },
-            packed: NO_PARTS,
-        },
-        scalars: &[],
-        four_bytes: OF_FOUR_BYTES,
-        pointers: &[],
-    },
+    ("entries", ENTRIES, Wanted::Scalars(BY_ENTRIES)),
+    ("runs", RUNS, Wanted::Scalars(BY_RUNS)),
+    (
+        "three ranges",
+        THREE_RANGES,
+        Wanted::OfFourBytes(OF_FOUR_BYTES),
+    ),
 ];
 
 #[test]
@@ -283,73 +362,13 @@ fn a_pointer_has_the_scalar_of_its_index_or_range(rt: HostRuntime) {
 }
 
 const OF_TWO: &[Case] = &[
-    Case {
-        name: "first pointers",
-        both: Both {
-            flat: Flat {
-                euc_kr: (23940, &[(23939, 0x8A70)]),
-                gb18030: (3, &[(1, 0x4E02), (2, 0x4E02)]),
-                ..NO_ENTRIES
-            },
-            packed: Packed {
-                euc_kr: &[run!(23939, 0x8A70, 1)],
-                gb18030: &[run!(1, 0x4E02, 1), run!(2, 0x4E02, 1)],
-                euc_kr_order: &[23939],
-                gb18030_order: &[1],
-                ..NO_PARTS
-            },
-        },
-        scalars: &[],
-        four_bytes: &[],
-        pointers: FIRST,
-    },
-    Case {
-        name: "Big5",
-        both: Both {
-            flat: Flat {
-                big5: (
-                    18992,
-                    &[
-                        (5023, 0x3001),
-                        (5024, 0x3000),
-                        (5247, 0x2550),
-                        (18991, 0x2550),
-                    ],
-                ),
-                ..NO_ENTRIES
-            },
-            packed: Packed {
-                big5: &[
-                    run!(5023, 0x3001, 1),
-                    run!(5024, 0x3000, 1),
-                    run!(5247, 0x2550, 1),
-                    run!(18991, 0x2550, 1),
-                ],
-                big5_order: &[18991, 5024],
-                ..NO_PARTS
-            },
-        },
-        scalars: &[],
-        four_bytes: &[],
-        pointers: OF_BIG5,
-    },
-    Case {
-        name: "twice in Big5",
-        both: Both {
-            flat: Flat {
-                big5: (18992, &[(5247, 0x2550), (18991, 0x2550)]),
-                ..NO_ENTRIES
-            },
-            packed: Packed {
-                big5: &[run!(5247, 0x2550, 1), run!(18991, 0x2550, 1)],
-                big5_order: &[18991],
-                ..NO_PARTS
-            },
-        },
-        scalars: &[],
-        four_bytes: &[],
-        pointers: &[(LookUp::Big5, '\u{2550}', Some(18991))],
-    },
+    ("first pointers", FIRST_POINTERS, Wanted::Pointers(FIRST)),
+    ("Big5", BIG5, Wanted::Pointers(OF_BIG5)),
+    (
+        "twice in Big5",
+        TWICE_IN_BIG5,
+        Wanted::Pointers(&[(LookUp::Big5, '\u{2550}', Some(18991))]),
+    ),
 ];
 
 #[test]
@@ -358,94 +377,42 @@ fn the_first_pointer_is_taken_but_of_six_scalars_the_last(rt: HostRuntime) {
 }
 
 const OF_JIS0208_AND_RANGES: &[Case] = &[
-    Case {
-        name: "twice in jis0208",
-        both: Both {
-            flat: Flat {
-                jis0208: (10740, &[(8647, 0xFF02), (10739, 0xFF02)]),
-                ..NO_ENTRIES
-            },
-            packed: Packed {
-                jis0208: &[run!(8647, 0xFF02, 1), run!(10739, 0xFF02, 1)],
-                shift_jis_order: &[10739],
-                euc_jp_order: &[8647],
-                ..NO_PARTS
-            },
-        },
-        scalars: &[],
-        four_bytes: &[],
-        pointers: TWICE_IN_JIS0208,
-    },
-    Case {
-        name: "once in jis0208",
-        both: Both {
-            flat: Flat {
-                jis0208: (8648, &[(8647, 0xFF02)]),
-                ..NO_ENTRIES
-            },
-            packed: Packed {
-                jis0208: &[run!(8647, 0xFF02, 1)],
-                euc_jp_order: &[8647],
-                ..NO_PARTS
-            },
-        },
-        scalars: &[],
-        four_bytes: &[],
-        pointers: ONCE_IN_JIS0208,
-    },
-    Case {
-        name: "the last range",
-        both: Both {
-            flat: Flat {
-                ranges: &[(39394, 0xFFE6)],
-                ..NO_ENTRIES
-            },
-            packed: NO_PARTS,
-        },
-        scalars: &[],
-        // a pointer before all ranges has no scalar
-        four_bytes: &[(39393, None), (39417, Some('\u{FFFD}'))],
-        pointers: BY_THE_LAST_RANGE,
-    },
-    Case {
-        name: "around 7457",
-        both: Both {
-            flat: Flat {
-                ranges: &[(7457, 0x3000)],
-                ..NO_ENTRIES
-            },
-            packed: NO_PARTS,
-        },
-        scalars: &[],
-        four_bytes: &[],
-        pointers: AROUND_7457,
-    },
-    Case {
-        name: "pages of 256 scalars",
-        both: Both {
-            flat: Flat {
-                ranges: &[(0, 0x80), (200, 0x3000)],
-                ..NO_ENTRIES
-            },
-            packed: NO_PARTS,
-        },
-        scalars: &[],
-        four_bytes: &[],
-        pointers: BY_PAGES,
-    },
-    Case {
-        name: "around U+E7C7",
-        both: Both {
-            flat: Flat {
-                ranges: &[(31228, 0xE000)],
-                ..NO_ENTRIES
-            },
-            packed: NO_PARTS,
-        },
-        scalars: &[],
-        four_bytes: &[],
-        pointers: AROUND_E7C7,
-    },
+    (
+        "twice in jis0208",
+        TWICE_IN_JIS0208,
+        Wanted::Pointers(OF_TWICE_IN_JIS0208),
+    ),
+    (
+        "once in jis0208",
+        ONCE_IN_JIS0208,
+        Wanted::Pointers(OF_ONCE_IN_JIS0208),
+    ),
+    // a pointer before all ranges has no scalar
+    (
+        "the last range",
+        LAST_RANGE,
+        Wanted::OfFourBytes(&[(39393, None), (39417, Some('\u{FFFD}'))]),
+    ),
+    (
+        "the last range",
+        LAST_RANGE,
+        Wanted::Pointers(BY_THE_LAST_RANGE),
+    ),
+    (
+        "around 7457",
+        RANGE_FROM_7457,
+        Wanted::Pointers(AROUND_7457),
+    ),
+    (
+        "pages of 256 scalars",
+        TWO_RANGES,
+        Wanted::Pointers(BY_PAGES),
+    ),
+    (
+        "around U+E7C7",
+        RANGE_OF_PRIVATE_USE,
+        Wanted::Pointers(AROUND_E7C7),
+    ),
 ];
 
 #[test]

@@ -1,6 +1,6 @@
 //! The checks of the tables, the words of their faults, and single-byte tables.
 use crate::compared::{is_fault, is_pointer, is_scalar, prints};
-use crate::indexes::{Filled, Flat, NO_ENTRIES, byte_table_of, entries_of};
+use crate::indexes::{Filled, Flat, byte_table_of, entries_of, flat};
 use crate::single_byte::encoder::TWO_LETTERS;
 use legacy_base::IndexName::{Big5, EucKr, Gb18030, Jis0208, Jis0212, Katakana};
 use legacy_base::TableError::{
@@ -23,254 +23,83 @@ fn have_faults(rt: &impl Abort, case: &str, rows: &[Faulty]) {
 }
 
 const ENTRIES_OF_BIG5: &[Faulty] = &[
-    (
-        Flat {
-            big5: (0, &[]),
-            ..NO_ENTRIES
-        },
-        None,
-    ),
+    (flat!(big5: (0, &[])), None),
     // the length comes before the entries
-    (
-        Flat {
-            big5: (19783, &[(0, 0x7F)]),
-            ..NO_ENTRIES
-        },
-        Some(TooLong(Big5)),
-    ),
-    (
-        Flat {
-            big5: (19782, &[(0, 0x80)]),
-            ..NO_ENTRIES
-        },
-        None,
-    ),
+    (flat!(big5: (19783, &[(0, 0x7F)])), Some(TooLong(Big5))),
+    (flat!(big5: (19782, &[(0, 0x80)])), None),
     // scalars of two planes
-    (
-        Flat {
-            big5: (6, &[(5, 0x1_0000)]),
-            ..NO_ENTRIES
-        },
-        Some(BadEntry(Big5, 5)),
-    ),
-    (
-        Flat {
-            big5: (6, &[(5, 0x3_0000)]),
-            ..NO_ENTRIES
-        },
-        Some(BadEntry(Big5, 5)),
-    ),
-    (
-        Flat {
-            big5: (6, &[(5, 0x2_FFFF)]),
-            ..NO_ENTRIES
-        },
-        None,
-    ),
+    (flat!(big5: (6, &[(5, 0x1_0000)])), Some(BadEntry(Big5, 5))),
+    (flat!(big5: (6, &[(5, 0x3_0000)])), Some(BadEntry(Big5, 5))),
+    (flat!(big5: (6, &[(5, 0x2_FFFF)])), None),
     // a bad entry comes before one that must be empty
     (
-        Flat {
-            big5: (1134, &[(1133, 0x7F)]),
-            ..NO_ENTRIES
-        },
+        flat!(big5: (1134, &[(1133, 0x7F)])),
         Some(BadEntry(Big5, 1133)),
     ),
     (
-        Flat {
-            big5: (1134, &[(1133, 0x3000)]),
-            ..NO_ENTRIES
-        },
+        flat!(big5: (1134, &[(1133, 0x3000)])),
         Some(NotEmpty(Big5, 1133)),
     ),
 ];
 
 const ENTRIES_OF_OTHERS: &[Faulty] = &[
     // each has a greatest length
-    (
-        Flat {
-            euc_kr: (23941, &[]),
-            ..NO_ENTRIES
-        },
-        Some(TooLong(EucKr)),
-    ),
-    (
-        Flat {
-            euc_kr: (23940, &[]),
-            ..NO_ENTRIES
-        },
-        None,
-    ),
-    (
-        Flat {
-            jis0208: (11281, &[]),
-            ..NO_ENTRIES
-        },
-        Some(TooLong(Jis0208)),
-    ),
-    (
-        Flat {
-            jis0208: (11280, &[]),
-            ..NO_ENTRIES
-        },
-        None,
-    ),
-    (
-        Flat {
-            jis0212: (8837, &[]),
-            ..NO_ENTRIES
-        },
-        Some(TooLong(Jis0212)),
-    ),
-    (
-        Flat {
-            jis0212: (8836, &[]),
-            ..NO_ENTRIES
-        },
-        None,
-    ),
-    (
-        Flat {
-            gb18030: (23941, &[]),
-            ..NO_ENTRIES
-        },
-        Some(TooLong(Gb18030)),
-    ),
-    (
-        Flat {
-            gb18030: (23940, &[]),
-            ..NO_ENTRIES
-        },
-        None,
-    ),
+    (flat!(euc_kr: (23941, &[])), Some(TooLong(EucKr))),
+    (flat!(euc_kr: (23940, &[])), None),
+    (flat!(jis0208: (11281, &[])), Some(TooLong(Jis0208))),
+    (flat!(jis0208: (11280, &[])), None),
+    (flat!(jis0212: (8837, &[])), Some(TooLong(Jis0212))),
+    (flat!(jis0212: (8836, &[])), None),
+    (flat!(gb18030: (23941, &[])), Some(TooLong(Gb18030))),
+    (flat!(gb18030: (23940, &[])), None),
     // and no surrogate
-    (
-        Flat {
-            euc_kr: (3, &[(2, 0xD800)]),
-            ..NO_ENTRIES
-        },
-        Some(BadEntry(EucKr, 2)),
-    ),
+    (flat!(euc_kr: (3, &[(2, 0xD800)])), Some(BadEntry(EucKr, 2))),
     // index jis0208 has no entry for user-defined characters
     (
-        Flat {
-            jis0208: (8837, &[(8836, 0x3000)]),
-            ..NO_ENTRIES
-        },
+        flat!(jis0208: (8837, &[(8836, 0x3000)])),
         Some(NotEmpty(Jis0208, 8836)),
     ),
     // katakana has all its entries or none
-    (
-        Flat {
-            katakana: (62, &[]),
-            ..NO_ENTRIES
-        },
-        Some(KatakanaLength),
-    ),
-    (
-        Flat {
-            katakana: (63, &[]),
-            ..NO_ENTRIES
-        },
-        None,
-    ),
+    (flat!(katakana: (62, &[])), Some(KatakanaLength)),
+    (flat!(katakana: (63, &[])), None),
 ];
 
 /// Ranges alone.
 const RANGES: &[Faulty] = &[
-    (
-        Flat {
-            ranges: &[(0, 0x80), (36, 0xA3)],
-            ..NO_ENTRIES
-        },
-        Some(RangeOrder(1)),
-    ),
-    (
-        Flat {
-            ranges: &[(39420, 0x80)],
-            ..NO_ENTRIES
-        },
-        Some(RangeOrder(0)),
-    ),
-    (
-        Flat {
-            ranges: &[(0, 0x7F), (0, 0x100)],
-            ..NO_ENTRIES
-        },
-        Some(RangeOrder(1)),
-    ),
-    (
-        Flat {
-            ranges: &[(0, 0x7F)],
-            ..NO_ENTRIES
-        },
-        Some(RangeValue(0)),
-    ),
-    (
-        Flat {
-            ranges: &[(39394, 0xFFE7)],
-            ..NO_ENTRIES
-        },
-        Some(RangeValue(0)),
-    ),
-    (
-        Flat {
-            ranges: &[(39000, 0xD7FF)],
-            ..NO_ENTRIES
-        },
-        Some(RangeValue(0)),
-    ),
-    (
-        Flat {
-            ranges: &[(39419, 0xFFFF)],
-            ..NO_ENTRIES
-        },
-        None,
-    ),
+    (flat!(ranges: &[(0, 0x80), (36, 0xA3)]), Some(RangeOrder(1))),
+    (flat!(ranges: &[(39420, 0x80)]), Some(RangeOrder(0))),
+    (flat!(ranges: &[(0, 0x7F), (0, 0x100)]), Some(RangeOrder(1))),
+    (flat!(ranges: &[(0, 0x7F)]), Some(RangeValue(0))),
+    (flat!(ranges: &[(39394, 0xFFE7)]), Some(RangeValue(0))),
+    (flat!(ranges: &[(39000, 0xD7FF)]), Some(RangeValue(0))),
+    (flat!(ranges: &[(39419, 0xFFFF)]), None),
 ];
 
 /// Private-use rows alone.
 const PRIVATE_USE: &[Faulty] = &[
     (
-        Flat {
-            gb18030_pua: &[(0xE78E, 0xA6, 0xDA), (0xE78D, 0xA6, 0xD9)],
-            ..NO_ENTRIES
-        },
+        flat!(gb18030_pua: &[(0xE78E, 0xA6, 0xDA), (0xE78D, 0xA6, 0xD9)]),
         Some(PuaOrder(1)),
     ),
     (
-        Flat {
-            gb18030_pua: &[(0xE5E5, 0xA6, 0xD9)],
-            ..NO_ENTRIES
-        },
+        flat!(gb18030_pua: &[(0xE5E5, 0xA6, 0xD9)]),
         Some(PuaScalar(0)),
     ),
     (
-        Flat {
-            gb18030_pua: &[(0xE000, 0xA6, 0x7F)],
-            ..NO_ENTRIES
-        },
+        flat!(gb18030_pua: &[(0xE000, 0xA6, 0x7F)]),
         Some(PuaBytes(0)),
     ),
     // at one place the order comes first, then the scalar
     (
-        Flat {
-            gb18030_pua: &[(0xE000, 0xA6, 0xD9), (0xDFFF, 0xA6, 0x7F)],
-            ..NO_ENTRIES
-        },
+        flat!(gb18030_pua: &[(0xE000, 0xA6, 0xD9), (0xDFFF, 0xA6, 0x7F)]),
         Some(PuaOrder(1)),
     ),
     (
-        Flat {
-            gb18030_pua: &[(0xDFFF, 0xA6, 0x7F)],
-            ..NO_ENTRIES
-        },
+        flat!(gb18030_pua: &[(0xDFFF, 0xA6, 0x7F)]),
         Some(PuaScalar(0)),
     ),
     (
-        Flat {
-            gb18030_pua: &[(0xE000, 0x81, 0x40), (0xF8FF, 0xFE, 0xFE)],
-            ..NO_ENTRIES
-        },
+        flat!(gb18030_pua: &[(0xE000, 0x81, 0x40), (0xF8FF, 0xFE, 0xFE)]),
         None,
     ),
 ];

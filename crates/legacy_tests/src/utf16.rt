@@ -133,131 +133,56 @@ fn decodes_units_in_the_byte_order_that_is_named(rt: HostRuntime) {
     decode_each(&rt, CASES);
 }
 
-/// Zeros with a pair at 4 and 5, a high surrogate at 10 and at the end, and a low one at 15.
-const ZEROS: &[u16] = &[
-    0x00, 0x00, 0x00, 0x00, 0xD83D, 0xDCA9, 0x00, 0x00, 0x00, 0x00, 0xD83D, 0x00, 0x00, 0x00, 0x00,
-    0xDCA9, 0x00, 0x00, 0x00, 0x00, 0x00, 0x00, 0x00, 0x00, 0xD83D,
-];
+/// Looks for the events of these units, and of an odd byte where there is one, in either byte order.
+fn in_either_order(
+    rt: &(impl AllocGlobal + Abort),
+    units: &[u16],
+    odd: &[u8],
+    events: &[DecodeEvent],
+) {
+    for big_endian in [false, true] {
+        let mut bytes = Vec::new(rt.alloc());
+        for unit in units {
+            let pair = if big_endian {
+                unit.to_be_bytes()
+            } else {
+                unit.to_le_bytes()
+            };
+            bytes.extend_from_slice(&pair).expect(rt, "no memory");
+        }
+        bytes.extend_from_slice(odd).expect(rt, "no memory");
+        follow::<Utf16Decoder>(rt, big_endian, &[Events(&bytes, events)]);
+    }
+}
 
-const EVENTS_OF_ZEROS: &[DecodeEvent] = &[
-    Scalar('\0'),
-    Scalar('\0'),
-    Scalar('\0'),
-    Scalar('\0'),
-    Scalar('\u{1F4A9}'),
-    Scalar('\0'),
-    Scalar('\0'),
-    Scalar('\0'),
-    Scalar('\0'),
-    bad!(20, 2),
-    Scalar('\0'),
-    Scalar('\0'),
-    Scalar('\0'),
-    Scalar('\0'),
-    bad!(30, 2),
-    Scalar('\0'),
-    Scalar('\0'),
-    Scalar('\0'),
-    Scalar('\0'),
-    Scalar('\0'),
-    Scalar('\0'),
-    Scalar('\0'),
-    Scalar('\0'),
-    bad!(48, 2),
-];
+#[test]
+fn decodes_surrogates_among_zeros(rt: HostRuntime) {
+    let mut units = [0u16; 25];
+    units[4] = 0xD83D;
+    units[5] = 0xDCA9;
+    units[10] = 0xD83D;
+    units[15] = 0xDCA9;
+    units[24] = 0xD83D;
+    let mut events = [Scalar('\0'); 24];
+    events[4] = Scalar('\u{1F4A9}');
+    events[9] = bad!(20, 2);
+    events[14] = bad!(30, 2);
+    events[23] = bad!(48, 2);
+    in_either_order(&rt, &units, b"", &events);
+}
 
-/// The letter A 80 times, but for wider units at 20, 47 and 63.
-const LETTERS: &[u16] = &[
-    0x41, 0x41, 0x41, 0x41, 0x41, 0x41, 0x41, 0x41, 0x41, 0x41, 0x41, 0x41, 0x41, 0x41, 0x41, 0x41,
-    0x41, 0x41, 0x41, 0x41, 0x0141, 0x41, 0x41, 0x41, 0x41, 0x41, 0x41, 0x41, 0x41, 0x41, 0x41,
-    0x41, 0x41, 0x41, 0x41, 0x41, 0x41, 0x41, 0x41, 0x41, 0x41, 0x41, 0x41, 0x41, 0x41, 0x41, 0x41,
-    0x80, 0x41, 0x41, 0x41, 0x41, 0x41, 0x41, 0x41, 0x41, 0x41, 0x41, 0x41, 0x41, 0x41, 0x41, 0x41,
-    0x4100, 0x41, 0x41, 0x41, 0x41, 0x41, 0x41, 0x41, 0x41, 0x41, 0x41, 0x41, 0x41, 0x41, 0x41,
-    0x41, 0x41,
-];
-
-const EVENTS_OF_LETTERS: &[DecodeEvent] = &[
-    Scalar('A'),
-    Scalar('A'),
-    Scalar('A'),
-    Scalar('A'),
-    Scalar('A'),
-    Scalar('A'),
-    Scalar('A'),
-    Scalar('A'),
-    Scalar('A'),
-    Scalar('A'),
-    Scalar('A'),
-    Scalar('A'),
-    Scalar('A'),
-    Scalar('A'),
-    Scalar('A'),
-    Scalar('A'),
-    Scalar('A'),
-    Scalar('A'),
-    Scalar('A'),
-    Scalar('A'),
-    Scalar('\u{141}'),
-    Scalar('A'),
-    Scalar('A'),
-    Scalar('A'),
-    Scalar('A'),
-    Scalar('A'),
-    Scalar('A'),
-    Scalar('A'),
-    Scalar('A'),
-    Scalar('A'),
-    Scalar('A'),
-    Scalar('A'),
-    Scalar('A'),
-    Scalar('A'),
-    Scalar('A'),
-    Scalar('A'),
-    Scalar('A'),
-    Scalar('A'),
-    Scalar('A'),
-    Scalar('A'),
-    Scalar('A'),
-    Scalar('A'),
-    Scalar('A'),
-    Scalar('A'),
-    Scalar('A'),
-    Scalar('A'),
-    Scalar('A'),
-    Scalar('\u{80}'),
-    Scalar('A'),
-    Scalar('A'),
-    Scalar('A'),
-    Scalar('A'),
-    Scalar('A'),
-    Scalar('A'),
-    Scalar('A'),
-    Scalar('A'),
-    Scalar('A'),
-    Scalar('A'),
-    Scalar('A'),
-    Scalar('A'),
-    Scalar('A'),
-    Scalar('A'),
-    Scalar('A'),
-    Scalar('\u{4100}'),
-    Scalar('A'),
-    Scalar('A'),
-    Scalar('A'),
-    Scalar('A'),
-    Scalar('A'),
-    Scalar('A'),
-    Scalar('A'),
-    Scalar('A'),
-    Scalar('A'),
-    Scalar('A'),
-    Scalar('A'),
-    Scalar('A'),
-    Scalar('A'),
-    Scalar('A'),
-    Scalar('A'),
-    Scalar('A'),
-];
+#[test]
+fn decodes_ascii_among_which_units_are_wider(rt: HostRuntime) {
+    let mut units = [0x41u16; 80];
+    units[20] = 0x0141;
+    units[47] = 0x0080;
+    units[63] = 0x4100;
+    let mut events = [Scalar('A'); 80];
+    events[20] = Scalar('\u{141}');
+    events[47] = Scalar('\u{80}');
+    events[63] = Scalar('\u{4100}');
+    in_either_order(&rt, &units, b"", &events);
+}
 
 /// A run, a pair, a run, a low surrogate, a run, a high surrogate, and a run before an odd byte.
 const RUNS: &[u16] = &[
@@ -341,48 +266,8 @@ const EVENTS_OF_UNITS: &[DecodeEvent] = &[
     bad!(78, 2),
 ];
 
-/// Units, an odd byte behind them or none, and their events.
-const IN_EITHER_ORDER: &[(&[u16], &[u8], &[DecodeEvent])] = &[
-    (ZEROS, b"", EVENTS_OF_ZEROS),
-    (LETTERS, b"", EVENTS_OF_LETTERS),
-    (RUNS, b"\x41", EVENTS_OF_RUNS),
-    (UNITS, b"", EVENTS_OF_UNITS),
-];
-
-/// The bytes of these units in one order, and the odd byte behind them where there is one.
-fn bytes_of(
-    rt: &(impl AllocGlobal + Abort),
-    big_endian: bool,
-    (units, odd): (&[u16], &[u8]),
-) -> Vec<u8> {
-    let mut bytes = Vec::new(rt.alloc());
-    for unit in units {
-        let pair = if big_endian {
-            unit.to_be_bytes()
-        } else {
-            unit.to_le_bytes()
-        };
-        bytes.extend_from_slice(&pair).expect(rt, "no memory");
-    }
-    bytes.extend_from_slice(odd).expect(rt, "no memory");
-    bytes
-}
-
-/// Follows the events of these units in one order.
-fn decodes_in_order(
-    rt: &(impl AllocGlobal + Abort),
-    big_endian: bool,
-    input: (&[u16], &[u8]),
-    events: &[DecodeEvent],
-) {
-    let bytes = bytes_of(rt, big_endian, input);
-    follow::<Utf16Decoder>(rt, big_endian, &[Events(&bytes, events)]);
-}
-
 #[test]
 fn decodes_units_of_any_length_in_either_order(rt: HostRuntime) {
-    for (units, odd, events) in IN_EITHER_ORDER {
-        decodes_in_order(&rt, false, (units, odd), events);
-        decodes_in_order(&rt, true, (units, odd), events);
-    }
+    in_either_order(&rt, RUNS, b"\x41", EVENTS_OF_RUNS);
+    in_either_order(&rt, UNITS, b"", EVENTS_OF_UNITS);
 }

@@ -4,7 +4,7 @@ use crate::codecs::{Codec, EncoderCase, encode_each};
 use crate::encode_events::Wanted::{Bytes, Report};
 use crate::encoder_rows::EncoderRow::{Encoder, Encodes, FromUtf8, Utf8Length, Utf16Length};
 use crate::encoder_rows::{EncoderRow, TestedEncoder};
-use crate::indexes::{Both, EMPTY, Flat, NO_ENTRIES, NO_PARTS, run};
+use crate::indexes::{Both, EMPTY, Flat, NO_ENTRIES, NO_PARTS, flat, run};
 use legacy_base::EncoderResult::{OutputFull, Unmappable};
 use legacy_base::{Packed, Tables};
 use legacy_encoders::Big5Encoder;
@@ -78,10 +78,7 @@ const TWICE: &Both = &Both {
 
 /// U+3000 at the first pointer that is written, and U+3001 before it.
 const FIRST: &Both = &Both {
-    flat: Flat {
-        big5: (5025, &[(5023, 0x3001), (5024, 0x3000)]),
-        ..NO_ENTRIES
-    },
+    flat: flat!(big5: (5025, &[(5023, 0x3001), (5024, 0x3000)])),
     packed: Packed {
         big5: &[run!(5023, 0x3001, 1), run!(5024, 0x3000, 1)],
         big5_order: &[5024],

@@ -8,7 +8,7 @@ use crate::encoder_rows::EncoderRow::{
 };
 use crate::encoder_rows::{EncoderRow, TestedEncoder};
 use crate::euc_kr::ONE_ENTRY;
-use crate::indexes::{Both, Flat, NO_ENTRIES, NO_PARTS, no_entries, run, tables_of};
+use crate::indexes::{Both, NO_PARTS, flat, no_entries, run, tables_of};
 use legacy_base::EncoderResult::{InputEmpty, OutputFull, Unmappable};
 use legacy_base::{Indexes, Packed, Tables};
 use legacy_encoders::{EucKrEncoder, PAIR_ROOM};
@@ -57,10 +57,7 @@ const LAST: &[EncoderRow] = &[
 
 /// U+8A70 at the last pointer, 23939.
 const LAST_ENTRY: &Both = &Both {
-    flat: Flat {
-        euc_kr: (23940, &[(23939, 0x8A70)]),
-        ..NO_ENTRIES
-    },
+    flat: flat!(euc_kr: (23940, &[(23939, 0x8A70)])),
     packed: Packed {
         euc_kr: &[run!(23939, 0x8A70, 1)],
         euc_kr_order: &[23939],

@@ -7,7 +7,7 @@ use crate::encoder_rows::EncoderRow::{
     Encoder, Encodes, FromUtf8, FromUtf16, Utf8Length, Utf16Length,
 };
 use crate::encoder_rows::{EncoderRow, TestedEncoder};
-use crate::indexes::{Both, EMPTY, Flat, NO_ENTRIES, NO_PARTS, no_entries, run, tables_of};
+use crate::indexes::{Both, EMPTY, Flat, NO_ENTRIES, NO_PARTS, flat, no_entries, run, tables_of};
 use legacy_base::EncoderResult::{InputEmpty, OutputFull, Unmappable};
 use legacy_base::{Packed, Tables};
 use legacy_encoders::{Gb18030Encoder, PAIR_ROOM};
@@ -148,20 +148,14 @@ const BOTH: &[EncoderRow] = &[
 ];
 
 /// The range of the last pointers.
-const LAST_RANGE: &Both = &Both {
-    flat: Flat {
-        ranges: &[(39394, 0xFFE6)],
-        ..NO_ENTRIES
-    },
+pub(crate) const LAST_RANGE: &Both = &Both {
+    flat: flat!(ranges: &[(39394, 0xFFE6)]),
     packed: NO_PARTS,
 };
 
 /// A range from pointer 7457 on.
-const RANGE_FROM_7457: &Both = &Both {
-    flat: Flat {
-        ranges: &[(7457, 0x3000)],
-        ..NO_ENTRIES
-    },
+pub(crate) const RANGE_FROM_7457: &Both = &Both {
+    flat: flat!(ranges: &[(7457, 0x3000)]),
     packed: NO_PARTS,
 };
 
@@ -178,18 +172,12 @@ fn encodes_by_the_ranges(rt: HostRuntime) {
 
 /// A private-use row of our own.
 const ROW_OF_E000: &Both = &Both {
-    flat: Flat {
-        gb18030_pua: &[(0xE000, 0xA6, 0xD9)],
-        ..NO_ENTRIES
-    },
+    flat: flat!(gb18030_pua: &[(0xE000, 0xA6, 0xD9)]),
     packed: NO_PARTS,
 };
 
 const WITHOUT_ROWS: &Both = &Both {
-    flat: Flat {
-        gb18030_pua: &[],
-        ..NO_ENTRIES
-    },
+    flat: flat!(gb18030_pua: &[]),
     packed: NO_PARTS,
 };
 
@@ -209,10 +197,7 @@ const PRIVATE_USE: &Both = &Both {
 
 /// U+9FB4 in the index, where a private-use row has its bytes.
 pub(crate) const ROW_AND_ENTRY: &Both = &Both {
-    flat: Flat {
-        gb18030: (23776, &[(23775, 0x9FB4)]),
-        ..NO_ENTRIES
-    },
+    flat: flat!(gb18030: (23776, &[(23775, 0x9FB4)])),
     packed: Packed {
         gb18030: &[run!(23775, 0x9FB4, 1)],
         gb18030_order: &[23775],

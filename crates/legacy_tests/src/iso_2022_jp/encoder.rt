@@ -7,7 +7,8 @@ use crate::encoder_rows::EncoderRow::{
 };
 use crate::encoder_rows::{EncoderRow, TestedEncoder, follow_encoder};
 use crate::indexes::{
-    Both, EMPTY, Filled, Flat, NO_ENTRIES, NO_PARTS, no_entries, packed_tables_of, run, tables_of,
+    Both, EMPTY, Filled, Flat, NO_ENTRIES, NO_PARTS, flat, no_entries, packed_tables_of, run,
+    tables_of,
 };
 use legacy_base::EncoderResult::{InputEmpty, OutputFull, Unmappable};
 use legacy_base::{Packed, Tables};
@@ -192,10 +193,7 @@ const PAIRS: &[EncoderRow] = &[
 
 /// U+58FA at pointer 4861 of index jis0208.
 pub(crate) const ONE_PAIR: &Both = &Both {
-    flat: Flat {
-        jis0208: (4862, &[(4861, 0x58FA)]),
-        ..NO_ENTRIES
-    },
+    flat: flat!(jis0208: (4862, &[(4861, 0x58FA)])),
     packed: Packed {
         jis0208: &[run!(4861, 0x58FA, 1)],
         shift_jis_order: &[4861],

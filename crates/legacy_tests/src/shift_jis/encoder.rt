@@ -4,7 +4,7 @@ use crate::codecs::{Codec, EncoderCase, encode_each};
 use crate::encode_events::Wanted::{Bytes, Report};
 use crate::encoder_rows::EncoderRow::{Encoder, Encodes, FromUtf8, Utf8Length, Utf16Length};
 use crate::encoder_rows::{EncoderRow, TestedEncoder};
-use crate::indexes::{Both, EMPTY, Flat, NO_ENTRIES, NO_PARTS, run};
+use crate::indexes::{Both, EMPTY, NO_PARTS, flat, run};
 use legacy_base::EncoderResult::{InputEmpty, OutputFull};
 use legacy_base::{Packed, Tables};
 use legacy_encoders::ShiftJisEncoder;
@@ -51,10 +51,7 @@ const ONLY_THERE: &[EncoderRow] = &[
 ];
 
 const ONE_POINTER: &Both = &Both {
-    flat: Flat {
-        jis0208: (11280, &[(60, 0xFF0D)]),
-        ..NO_ENTRIES
-    },
+    flat: flat!(jis0208: (11280, &[(60, 0xFF0D)])),
     packed: Packed {
         jis0208: &[run!(60, 0xFF0D, 1)],
         shift_jis_order: &[60],
@@ -64,10 +61,7 @@ const ONE_POINTER: &Both = &Both {
 };
 
 const TWO_POINTERS: &Both = &Both {
-    flat: Flat {
-        jis0208: (11280, &[(8647, 0xFF02), (10739, 0xFF02)]),
-        ..NO_ENTRIES
-    },
+    flat: flat!(jis0208: (11280, &[(8647, 0xFF02), (10739, 0xFF02)])),
     packed: Packed {
         jis0208: &[run!(8647, 0xFF02, 1), run!(10739, 0xFF02, 1)],
         shift_jis_order: &[10739],
@@ -77,10 +71,7 @@ const TWO_POINTERS: &Both = &Both {
 };
 
 const A_DUPLICATE: &Both = &Both {
-    flat: Flat {
-        jis0208: (11280, &[(8647, 0xFF02)]),
-        ..NO_ENTRIES
-    },
+    flat: flat!(jis0208: (11280, &[(8647, 0xFF02)])),
     packed: Packed {
         jis0208: &[run!(8647, 0xFF02, 1)],
         shift_jis_order: &[],
