@@ -1,5 +1,5 @@
 -- Pages of the Basic Multilingual Plane, the 256 scalars with the same high byte, and the pointers of four bytes of their
--- first scalars, which tell those of the others.
+-- first scalars, which tell those of the others (Encoding Standard, "Indexes": "index gb18030 ranges pointer").
 use Rattle.std.specs.Prelude.{◌≡◌, ◌≢◌, ℕ, ◌+◌, ◌*◌, ◌/◌, ◌%◌, ◌<◌, ◌==◌, List, Option, Some, None}
 use Rattle.std.specs.Prelude.{if◌then◌else◌, slice_index}
 use Rattle.legacy_tables.specs.Pointers.{range_pointer_of}

@@ -10,6 +10,13 @@ use super::pointers::ranges_up_to;
 /// What stands for a page whose scalars do not all have pointers, one behind the other.
 const NO_POINTER: u16 = 65535;
 
+/// The page of U+E7C7, whose pointer is 7457 whatever the ranges give (Encoding Standard, "index gb18030 ranges
+/// pointer").
+const FIXED_PAGE: usize = 0xE7;
+
+/// The pointer of U+E7C7 and of no other scalar.
+const FIXED_POINTER: usize = 7457;
+
 /// The pointers of the first scalars of all pages.
 #[derive(Drop)]
 pub(super) struct PagePointers {
@@ -24,7 +31,7 @@ fn page_pointer(ranges: &[(u16, u16)], page: usize) -> u16
 {
     let lowest = 256 * page;
     let count = ranges_up_to(ranges, lowest + 255);
-    if count == 0 || page == 0xE7 {
+    if count == 0 || page == FIXED_PAGE {
         return NO_POINTER;
     }
     let (start, first) = ranges[count - 1];
@@ -32,7 +39,7 @@ fn page_pointer(ranges: &[(u16, u16)], page: usize) -> u16
         return NO_POINTER;
     }
     let pointer = usize::from(start) + (lowest - usize::from(first));
-    let has_fixed = pointer <= 7457 && 7457 < pointer + 256;
+    let has_fixed = pointer <= FIXED_POINTER && FIXED_POINTER < pointer + 256;
     if has_fixed || pointer + 256 > usize::from(end_of(ranges, count - 1)) {
         return NO_POINTER;
     }
