@@ -153,7 +153,7 @@ impl<D: CommonForms> Blocks for CommonBlocks<'_, D> {
 /// Reads common forms and ASCII from the front of `src` and writes their scalars to `dst`, where nothing is
 /// held back and as far as three code units more than they need are free. Answers how many bytes were read:
 /// none is an answer too.
-#[inline]
+#[inline(always)]
 pub fn read_common_forms<D: CommonForms, T: Destination>(
     decoder: &D,
     src: &[u8],

@@ -198,7 +198,7 @@ impl<'a, C: LeadCodec> DecoderMoves for LeadDecoder<'a, C> {
         }
     }
 
-    #[inline]
+    #[inline(always)]
     fn read_ahead<T: Destination>(&self, src: &[u8], dst: &mut T) -> usize {
         match self.tables.kept() {
             KeptTables::Flat(tables) => {

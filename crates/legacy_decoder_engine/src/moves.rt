@@ -104,7 +104,7 @@ pub trait DecoderMoves {
     /// cares to, and answers how many bytes were read; the decoder does not change. It needs four free code units at least and leaves
     /// three, so that no act of the machine would have lacked room. A decoder without common forms reads
     /// none.
-    #[inline]
+    #[inline(always)]
     fn read_ahead<T: Destination>(&self, src: &[u8], dst: &mut T) -> usize
         ensures { ReadsAhead T.Destination (state self.now) src.now result dst.old dst.new }
     {
@@ -114,7 +114,7 @@ pub trait DecoderMoves {
 
     /// Reads ahead as `read_ahead` does, and where the codec has bytes that switch how those behind them
     /// are read, from one run over such bytes to the next: then the decoder changes with them.
-    #[inline]
+    #[inline(always)]
     fn read_runs<T: Destination>(&mut self, src: &[u8], dst: &mut T) -> usize
         ensures runs { ReadsTo T.Destination (state self.old) (state self.new) src.now result
             dst.old dst.new }

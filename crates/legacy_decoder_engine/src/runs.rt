@@ -1,6 +1,6 @@
 //! The two loops that read ahead of the machine: forms four at a time, and blocks one behind the other.
-// Inlined always is what runs for each form or block: a call would pass vectors through memory, and put the
-// destination's place there from form to form.
+// Inlined always is what runs for each form or block, and what leads from a decoder's call to it: a call would pass
+// vectors through memory, and put the destination's place there from form to form.
 ghost use Rattle.std.specs.Prelude.{◌≡◌, ℕ, ◌+◌, ◌*◌, ◌<◌, ◌≤◌, length, take, true};
 ghost use Rattle.legacy_base.specs.Grammar.{Grammar};
 ghost use Rattle.legacy_base.specs.States.{DecoderState, new_state};

@@ -299,7 +299,7 @@ impl DecoderMoves for Gb18030Decoder<'_> {
         }
     }
 
-    #[inline]
+    #[inline(always)]
     fn read_ahead<T: Destination>(&self, src: &[u8], dst: &mut T) -> usize {
         if !self.in_neutral_state() {
             return 0;

@@ -287,7 +287,7 @@ impl DecoderMoves for EucJpDecoder<'_> {
         }
     }
 
-    #[inline]
+    #[inline(always)]
     fn read_ahead<T: Destination>(&self, src: &[u8], dst: &mut T) -> usize {
         let held = self.held;
         match self.tables.kept() {

@@ -1,7 +1,7 @@
 //! The runs of ISO-2022-JP: plain ASCII in ASCII mode, pairs of index jis0208 in two-byte mode, and the
 //! escapes between them.
-// Inlined always is what runs for each form or block: a call would pass vectors through memory, and put the
-// destination's place there from form to form.
+// Inlined always is what runs for each form or block, and what leads from a decoder's call to it: a call would pass
+// vectors through memory, and put the destination's place there from form to form.
 ghost use Rattle.std.specs.Prelude.{◌≡◌, ℕ, ◌+◌, ◌<◌, ◌≤◌, List, All, IfSome, length, take, true};
 ghost use Rattle.legacy_japanese.specs.Iso2022JpRuns.{IsPlain, run_state, pairs_grammar};
 ghost use Rattle.legacy_japanese.specs.Iso2022JpRuns.{HasEscape};
@@ -81,7 +81,7 @@ fn plain_count(src: &[u8]) -> usize
 
 /// Reads such bytes from the front, in ASCII mode, as many as leave three code units free. Answers how
 /// many were read: none is an answer too.
-#[inline]
+#[inline(always)]
 fn read_plain<T: Destination>(src: &[u8], dst: &mut T) -> usize
     ensures { (jis0208 : List ℕ)
         → ReadsAhead T.Destination (run_state jis0208 Mode.Ascii) src.now result dst.old dst.new }
@@ -97,6 +97,7 @@ fn read_plain<T: Destination>(src: &[u8], dst: &mut T) -> usize
 }
 
 /// Reads a run of pairs from the front. Answers how many bytes were read: none is an answer too.
+#[inline(always)]
 fn read_jis0208<T: Destination>(tables: &Tables, src: &[u8], dst: &mut T) -> usize
     ensures { ReadsAhead T.Destination (run_state tables.now.flat.jis0208 Mode.TwoByte) src.now
         result dst.old dst.new }
@@ -108,6 +109,7 @@ fn read_jis0208<T: Destination>(tables: &Tables, src: &[u8], dst: &mut T) -> usi
 }
 
 /// Reads a run of the mode from the front. Answers how many bytes were read: none is an answer too.
+#[inline(always)]
 fn read_mode<T: Destination>(tables: &Tables, mode: Mode, src: &[u8], dst: &mut T) -> usize
     ensures { ReadsAhead T.Destination (run_state tables.now.flat.jis0208 mode) src.now result
         dst.old dst.new }

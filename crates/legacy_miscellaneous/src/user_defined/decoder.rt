@@ -92,7 +92,7 @@ impl DecoderMoves for UserDefinedDecoder {
         None
     }
 
-    #[inline]
+    #[inline(always)]
     fn read_ahead<T: Destination>(&self, src: &[u8], dst: &mut T) -> usize {
         if T::narrow() == 1 {
             read_units(src, dst)
@@ -123,6 +123,7 @@ impl RawDecoder for UserDefinedDecoder {
 
     ghost state = { user_defined_state };
 
+    #[inline(always)]
     fn step<T: Destination>(
         &mut self,
         src: &[u8],

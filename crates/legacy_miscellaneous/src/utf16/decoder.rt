@@ -114,7 +114,7 @@ impl DecoderMoves for Utf16Decoder {
     }
 
     // The byte order is decided here, and not at each unit.
-    #[inline]
+    #[inline(always)]
     fn read_ahead<T: Destination>(&self, src: &[u8], dst: &mut T) -> usize {
         if !matches!(self.held, Held::Nothing) {
             0

@@ -138,7 +138,7 @@ impl DecoderMoves for SingleByteDecoder<'_> {
     }
 
     // In UTF-8 eight bytes at a time do not pay: text with few letters past ASCII loses a fifth.
-    #[inline]
+    #[inline(always)]
     fn read_ahead<T: Destination>(&self, src: &[u8], dst: &mut T) -> usize {
         if T::narrow() > 1 {
             return read_common_forms(self, src, dst);
@@ -172,6 +172,7 @@ impl RawDecoder for SingleByteDecoder<'_> {
 
     ghost state = { single_byte_state };
 
+    #[inline(always)]
     fn step<T: Destination>(
         &mut self,
         src: &[u8],
