@@ -4,15 +4,18 @@
 //! Arguments: words that a line must have, as `ja-text`, `Big5`, or the name of a table (`decode`, `encode`,
 //! `ahead`, `replace`, `flat`, `checks`), or `recode` for the program's table (none: all lines of all are made), and a number:
 //! how many times at the least each call of a codec is timed. Or `agreement`: all codecs are compared and nothing is
-//! timed. Or `sources`: the packed indexes are printed as source text. Or `medians` and the files of the tables of
+//! timed. Or `compare`, two builds of the library as shared ones, and words and a number as above: they are timed beside
+//! each other. Or `sources`: the packed indexes are printed as source text. Or `medians` and the files of the tables of
 //! several builds, of which one table is made.
 
 mod agreement;
 mod checks;
+mod compare;
 mod corpora;
 mod decoding;
 mod encoding;
 mod indexes;
+mod loaded;
 mod measure;
 mod medians;
 mod ours;
@@ -24,6 +27,7 @@ mod replacing;
 mod sources;
 mod theirs;
 
+use compare::Builds;
 use decoding::Codec;
 use encoding_rs::{Encoding, BIG5};
 use ours::{Kept, Ours};
@@ -140,12 +144,8 @@ fn heading(table: Table) -> String {
     }
 }
 
-/// A table with the lines that are wanted.
-fn table(table: Table, wanted: &Wanted, codecs: &mut Codecs, times: usize) -> Result<(), String> {
-    if table == Table::Checks {
-        return checks::table();
-    }
-    println!("{}", heading(table));
+/// Hands what each wanted line is of to a function: its corpus, its codec, and the long and the short source.
+fn each_line(wanted: &Wanted, codecs: &mut Codecs, mut make: impl FnMut(&str, &Codec, &[u8], &[u8]) -> Result<(), String>) -> Result<(), String> {
     for (language, name, share, encodings) in CORPORA {
         let pages = corpora::html(language).map_err(|error| format!("{language}: {error}"))?;
         for (kind, content) in [("text", corpora::text(&pages, *share)), ("html", pages)] {
@@ -154,10 +154,20 @@ fn table(table: Table, wanted: &Wanted, codecs: &mut Codecs, times: usize) -> Re
                 let codec = codecs.codec(label)?;
                 let long = corpora::encode_long(codec.encoding, &content);
                 let short = corpora::encode_short(codec.encoding, &content);
-                lines(table, &corpus, codec, &long, &short, times)?;
+                make(&corpus, codec, &long, &short)?;
             }
         }
     }
+    Ok(())
+}
+
+/// A table with the lines that are wanted.
+fn table(table: Table, wanted: &Wanted, codecs: &mut Codecs, times: usize) -> Result<(), String> {
+    if table == Table::Checks {
+        return checks::table();
+    }
+    println!("{}", heading(table));
+    each_line(wanted, codecs, |corpus, codec, long, short| lines(table, corpus, codec, long, short, times))?;
     if table == Table::Replace && wanted.has_line(&["Big5", "ff"]) {
         replacing::ff_lines(&Ours::new(BIG5, Kept::Flat), times)?;
     }
@@ -177,19 +187,48 @@ fn tables(words: Vec<String>, times: usize) -> Result<(), String> {
     Ok(())
 }
 
+/// The table of two builds beside each other: decoding over flat tables and over packed ones, encoding over packed ones
+/// where the codec can have them, and with pairs looked up ahead.
+fn compared(builds: &Builds, words: Vec<String>, times: usize) -> Result<(), String> {
+    let (wanted, mut codecs, mut ratios) = (Wanted::new(words), Codecs::default(), Vec::new());
+    println!("{}", compare::heading());
+    each_line(&wanted, &mut codecs, |corpus, codec, long, short| {
+        let name = |tables: &str| format!("{corpus} | {} | {tables}", codec.encoding.name());
+        let kept = [("flat", Some(&codec.flat)), ("packed", codec.packed.as_ref()), ("pairs looked up ahead", codec.ahead.as_ref())];
+        for (at, (tables, ours)) in kept.into_iter().enumerate() {
+            let Some(ours) = ours else { continue };
+            if wanted.has_table(Table::Decode) && at < 2 {
+                ratios.extend(compare::decoder_lines(builds, &name(tables), ours, long, short, times)?);
+            }
+            let encoders = if at == 2 { Table::Ahead } else { Table::Encode };
+            if wanted.has_table(encoders) && (at > 0 || codec.packed.is_none()) {
+                ratios.extend(compare::encoder_lines(builds, &name(tables), codec, ours, long, short, times)?);
+            }
+        }
+        Ok(())
+    })?;
+    println!();
+    compare::print_medians(&ratios);
+    Ok(())
+}
+
 fn main() -> Result<(), String> {
-    if std::env::args().nth(1).is_some_and(|word| word == "medians") {
-        return medians::tables(std::env::args().skip(2));
+    let arguments: Vec<String> = std::env::args().skip(1).collect();
+    match arguments.first().map(String::as_str) {
+        Some("medians") => return medians::tables(arguments.into_iter().skip(1)),
+        Some("agreement") => return agreement::report(),
+        Some("sources") => {
+            sources::print();
+            return Ok(());
+        }
+        _ => {}
     }
-    if std::env::args().nth(1).is_some_and(|word| word == "agreement") {
-        return agreement::report();
-    }
-    if std::env::args().nth(1).is_some_and(|word| word == "sources") {
-        sources::print();
-        return Ok(());
-    }
-    let (numbers, mut words): (Vec<String>, Vec<String>) = std::env::args().skip(1).partition(|word| word.parse::<usize>().is_ok());
+    let (numbers, mut words): (Vec<String>, Vec<String>) = arguments.into_iter().partition(|word| word.parse::<usize>().is_ok());
     let times = numbers.first().map_or(Ok(20), |number| number.parse()).map_err(|_| "not a number".to_string())?;
+    if words.first().is_some_and(|word| word == "compare") {
+        let [_, older, newer, words @ ..] = words.as_slice() else { return Err("compare: two libraries".to_string()) };
+        return compared(&Builds::open(older, newer)?, words.to_vec(), times);
+    }
     let all = words.is_empty();
     let program = all || words.iter().any(|word| word == "recode");
     words.retain(|word| word != "recode");

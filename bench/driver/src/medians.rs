@@ -29,7 +29,7 @@ fn parse(text: &str) -> Vec<Table> {
 }
 
 /// The median of numbers.
-fn median(numbers: &mut [f64]) -> f64 {
+pub fn median(numbers: &mut [f64]) -> f64 {
     numbers.sort_by(f64::total_cmp);
     (numbers[(numbers.len() - 1) / 2] + numbers[numbers.len() / 2]) / 2.0
 }

@@ -1,6 +1,7 @@
 //! Other libraries that encode: ICU and the C library's iconv. They have other names for the encodings, and other
 //! bytes for some characters.
 
+use crate::loaded::Loaded;
 use crate::pieces::{end_of_piece, Unit};
 use std::ffi::{c_char, c_int, c_void, CStr, CString};
 use std::ptr::null_mut;
@@ -56,13 +57,6 @@ fn in_pieces<U: Unit>(src: &[U], piece: usize, mut encode: impl FnMut(usize, usi
 
 // ---- ICU
 
-extern "C" {
-    fn dlopen(name: *const c_char, flags: c_int) -> *mut c_void;
-    fn dlsym(library: *mut c_void, name: *const c_char) -> *mut c_void;
-}
-
-const RTLD_NOW: c_int = 2;
-
 /// The versions of ICU that are looked for, the newest first. Their functions end in the version.
 const ICU_VERSIONS: std::ops::Range<u32> = 60..100;
 
@@ -98,13 +92,8 @@ impl IcuFunctions {
     /// Those of the newest version that is there.
     fn load() -> Option<IcuFunctions> {
         ICU_VERSIONS.rev().find_map(|version| {
-            let name = CString::new(format!("libicuuc.so.{version}")).ok()?;
-            let library = unsafe { dlopen(name.as_ptr(), RTLD_NOW) };
-            let find = |name: &str| {
-                let name = CString::new(format!("{name}_{version}")).ok()?;
-                let found = if library.is_null() { null_mut() } else { unsafe { dlsym(library, name.as_ptr()) } };
-                (!found.is_null()).then_some(found)
-            };
+            let library = Loaded::open(&format!("libicuuc.so.{version}"))?;
+            let find = |name: &str| library.find(&format!("{name}_{version}"));
             Some(unsafe {
                 IcuFunctions {
                     open: std::mem::transmute::<*mut c_void, Open>(find("ucnv_open")?),

@@ -1,0 +1,119 @@
+//! Two builds of this library in one process: how fast the newer one is beside the older one. Called in turn they meet
+//! the same hour of the machine, which between two runs moves times by more than most changes do.
+
+use crate::decoding::{self, Codec, ToUtf16, ToUtf8};
+use crate::encoding::{self, decoded, From, FromUtf16, FromUtf8};
+use crate::loaded::Loaded;
+use crate::measure::{best_times, ratio_cell, speed, speed_cell, without, Call};
+use crate::medians::median;
+use crate::ours::{Export, Ours};
+use crate::pieces::Unit;
+use crate::{PIECE, SHORT_ROUNDS};
+use std::ffi::c_void;
+
+/// The two builds, as shared libraries.
+pub struct Builds {
+    older: Loaded,
+    newer: Loaded,
+}
+
+/// The same function in both builds.
+struct Both<R, W> {
+    older: Export<R, W>,
+    newer: Export<R, W>,
+}
+
+impl Builds {
+    pub fn open(older: &str, newer: &str) -> Result<Builds, String> {
+        let open = |path: &str| Loaded::open(path).ok_or_else(|| format!("{path}: cannot be opened"));
+        Ok(Builds { older: open(older)?, newer: open(newer)? })
+    }
+
+    /// A function of the header, if both builds have it.
+    fn find<R, W>(&self, name: &str) -> Option<Both<R, W>> {
+        let function = |library: Loaded| Some(unsafe { std::mem::transmute::<*mut c_void, Export<R, W>>(library.find(name)?) });
+        Some(Both { older: function(self.older)?, newer: function(self.newer)? })
+    }
+}
+
+/// What both write, if it is the same; `None` where the older one refuses the tables.
+fn is_alike<R, W: Copy + PartialEq + Default>(both: &Both<R, W>, ours: &Ours, src: &[R], dst: &mut [W]) -> Option<Result<(), String>> {
+    let length = ours.call(both.older, src, dst, 0, 1);
+    let wanted = dst.get(..length)?.to_vec();
+    dst.fill(W::default());
+    let is_same = ours.call(both.newer, src, dst, 0, 1) == length && dst[..length] == wanted[..];
+    Some(if is_same { Ok(()) } else { Err("the two builds write different things".to_string()) })
+}
+
+/// The ratios of a line: with 3 MB, with short inputs, and in pieces.
+pub type Ratios = [f64; 3];
+
+/// A line, where both builds can make it.
+fn line<R: Unit, W: Copy + PartialEq + Default>(
+    name: &str,
+    both: Option<Both<R, W>>,
+    ours: &Ours,
+    sources: [&[R]; 2],
+    dst: &mut [W],
+    times: usize,
+) -> Result<Option<Ratios>, String> {
+    let Some(both) = both else { return Ok(None) };
+    for src in sources {
+        let Some(is_alike) = is_alike(&both, ours, src, dst) else { return Ok(None) };
+        is_alike.map_err(|error| format!("{name}: {error}"))?;
+    }
+    let mut ratios = Ratios::default();
+    print!("| {name} |");
+    for (at, (src, piece, rounds)) in [(sources[0], 0, 1), (sources[1], 0, SHORT_ROUNDS), (sources[0], PIECE, 1)].into_iter().enumerate() {
+        let call = |export: Export<R, W>, rounds: usize| -> Option<Call<'_, W>> {
+            Some(Box::new(move |dst: &mut [W]| ours.call(export, src, dst, piece, rounds)))
+        };
+        let calls = [call(both.older, rounds), call(both.older, 0), call(both.newer, rounds), call(both.newer, 0)];
+        let best = best_times(&calls, src, dst, times);
+        let bytes = size_of_val(src) * rounds;
+        let (older, newer) = (speed(bytes, without(best[0], best[1])), speed(bytes, without(best[2], best[3])));
+        print!("{}{}{}", speed_cell(older), speed_cell(newer), ratio_cell(newer, older));
+        ratios[at] = newer.unwrap_or_default() / older.unwrap_or(1.0);
+    }
+    println!();
+    Ok(Some(ratios))
+}
+
+pub fn heading() -> String {
+    let columns: Vec<String> = ["3 MB", "short", "pieces of 64"].iter().map(|source| format!("older MB/s, {source} | newer | ratio")).collect();
+    format!("| corpus | encoding | tables | direction | {} |\n|{}", columns.join(" | "), "---|".repeat(13))
+}
+
+/// The lines of a decoder over tables of one kind.
+pub fn decoder_lines(builds: &Builds, name: &str, ours: &Ours, long: &[u8], short: &[u8], times: usize) -> Result<Vec<Ratios>, String> {
+    let name = |direction: &str| format!("{name} | {direction}");
+    let mut narrow = decoding::room::<ToUtf8>(long);
+    let to_utf8 = line(&name("to UTF-8"), builds.find("legacy_decode_to_utf8"), ours, [long, short], &mut narrow, times)?;
+    let mut wide = decoding::room::<ToUtf16>(long);
+    let to_utf16 = line(&name("to UTF-16"), builds.find("legacy_decode_to_utf16"), ours, [long, short], &mut wide, times)?;
+    Ok([to_utf8, to_utf16].into_iter().flatten().collect())
+}
+
+/// The lines of an encoder, which encodes what the decoder gives.
+pub fn encoder_lines(builds: &Builds, name: &str, codec: &Codec, ours: &Ours, long: &[u8], short: &[u8], times: usize) -> Result<Vec<Ratios>, String> {
+    if codec.encoding.output_encoding() != codec.encoding {
+        return Ok(Vec::new());
+    }
+    let (long, short) = (decoded(codec.encoding, long), decoded(codec.encoding, short));
+    let mut dst = encoding::room(long.as_bytes());
+    let name = |direction: &str| format!("{name} | {direction}");
+    let texts = [long.as_bytes(), short.as_bytes()];
+    let from_utf8 = line(&name(FromUtf8::NAME), builds.find("legacy_encode_from_utf8"), ours, texts, &mut dst, times)?;
+    let units = [FromUtf16::units(&long), FromUtf16::units(&short)];
+    let from_utf16 = line(&name(FromUtf16::NAME), builds.find("legacy_encode_from_utf16"), ours, [&units[0], &units[1]], &mut dst, times)?;
+    Ok([from_utf8, from_utf16].into_iter().flatten().collect())
+}
+
+/// Prints the medians of all lines' ratios.
+pub fn print_medians(lines: &[Ratios]) {
+    if lines.is_empty() {
+        return;
+    }
+    let of = |at: usize| median(&mut lines.iter().map(|ratios| ratios[at]).collect::<Vec<f64>>());
+    println!("Medians of the {} ratios: {:.2} with 3 MB, {:.2} with short inputs, {:.2} in pieces of 64.", lines.len(), of(0), of(1), of(2));
+}
