@@ -100,6 +100,12 @@ impl DecoderMoves for UserDefinedDecoder {
             read_common_forms(self, src, dst)
         }
     }
+
+    // Written here, since a provided body is not inlined always.
+    #[inline(always)]
+    fn read_runs<T: Destination>(&mut self, src: &[u8], dst: &mut T) -> usize {
+        self.read_ahead(src, dst)
+    }
 }
 
 impl CommonForms for UserDefinedDecoder {

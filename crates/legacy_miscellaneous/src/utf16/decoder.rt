@@ -124,6 +124,12 @@ impl DecoderMoves for Utf16Decoder {
             read_blocks(&Units { big_endian: false }, src, dst)
         }
     }
+
+    // Written here, since a provided body is not inlined always.
+    #[inline(always)]
+    fn read_runs<T: Destination>(&mut self, src: &[u8], dst: &mut T) -> usize {
+        self.read_ahead(src, dst)
+    }
 }
 
 impl RawDecoder for Utf16Decoder {

@@ -146,6 +146,12 @@ impl DecoderMoves for SingleByteDecoder<'_> {
         let read = read_blocks(&self.scalars, src, dst);
         read + read_common_forms(self, &src[read..], dst)
     }
+
+    // Written here, since a provided body is not inlined always.
+    #[inline(always)]
+    fn read_runs<T: Destination>(&mut self, src: &[u8], dst: &mut T) -> usize {
+        self.read_ahead(src, dst)
+    }
 }
 
 impl CommonForms for SingleByteDecoder<'_> {
