@@ -54,17 +54,18 @@ impl Times {
 /// How many code units are counted between two calls at the most: that takes a millisecond or less.
 const COUNTED: usize = 100_000;
 
-/// The best time of each call. They are made in turn, each so many times at the least if it does not take too long, and
-/// each behind a count of the letters at the source's front, which is none of them. So all begin with the processor's
-/// caches and guesses as other code leaves them: above all a call and the check that is a part of it, which else came
-/// behind its own code.
+/// The best time of each call. They are made in turn, there and back, each so many times at the least if it does not take
+/// too long, and each behind a count of the letters at the source's front, which is none of them. So all begin with the
+/// processor's caches and guesses as other code leaves them; and a call and the check that is a part of it, which stand
+/// beside each other, each begin in turn behind the other and behind other code.
 pub fn best_times<R: Unit, W>(calls: &[Option<Call<'_, W>>], src: &[R], dst: &mut [W], times: usize) -> Vec<Option<Duration>> {
     let mut all = vec![Times::default(); calls.len()];
     let front = &src[..src.len().min(COUNTED)];
+    let mut order: Vec<usize> = (0..calls.len()).filter(|at| calls[*at].is_some()).collect();
     loop {
         let mut made = 0;
-        for (call, so_far) in calls.iter().zip(&mut all) {
-            let Some(call) = call else { continue };
+        for at in &order {
+            let (Some(call), so_far) = (&calls[*at], &mut all[*at]) else { continue };
             if so_far.is_done(times) {
                 continue;
             }
@@ -77,6 +78,7 @@ pub fn best_times<R: Unit, W>(calls: &[Option<Call<'_, W>>], src: &[R], dst: &mu
         if made == 0 {
             return all.into_iter().map(|times| times.least).collect();
         }
+        order.reverse();
     }
 }
 
