@@ -36,8 +36,8 @@ impl Builds {
     }
 }
 
-/// What both write, if it is the same; `None` where the older one refuses the tables.
-fn is_alike<R, W: Copy + PartialEq + Default>(both: &Both<R, W>, ours: &Ours, src: &[R], dst: &mut [W]) -> Option<Result<(), String>> {
+/// Compares what both write; `None` where the older one refuses the tables.
+fn same_output<R, W: Copy + PartialEq + Default>(both: &Both<R, W>, ours: &Ours, src: &[R], dst: &mut [W]) -> Option<Result<(), String>> {
     let length = ours.call(both.older, src, dst, 0, 1);
     let wanted = dst.get(..length)?.to_vec();
     dst.fill(W::default());
@@ -59,8 +59,8 @@ fn line<R: Unit, W: Copy + PartialEq + Default>(
 ) -> Result<Option<Ratios>, String> {
     let Some(both) = both else { return Ok(None) };
     for src in sources {
-        let Some(is_alike) = is_alike(&both, ours, src, dst) else { return Ok(None) };
-        is_alike.map_err(|error| format!("{name}: {error}"))?;
+        let Some(compared) = same_output(&both, ours, src, dst) else { return Ok(None) };
+        compared.map_err(|error| format!("{name}: {error}"))?;
     }
     let mut ratios = Ratios::default();
     print!("| {name} |");
@@ -109,11 +109,11 @@ pub fn encoder_lines(builds: &Builds, name: &str, codec: &Codec, ours: &Ours, lo
     Ok([from_utf8, from_utf16].into_iter().flatten().collect())
 }
 
-/// Prints the medians of all lines' ratios.
-pub fn print_medians(lines: &[Ratios]) {
+/// Prints the medians of the ratios of all lines over tables of one kind.
+pub fn print_medians(tables: &str, lines: &[Ratios]) {
     if lines.is_empty() {
         return;
     }
     let of = |at: usize| median(&mut lines.iter().map(|ratios| ratios[at]).collect::<Vec<f64>>());
-    println!("Medians of the {} ratios: {:.2} with 3 MB, {:.2} with short inputs, {:.2} in pieces of 64.", lines.len(), of(0), of(1), of(2));
+    println!("Medians of the {} ratios, {tables}: {:.2} with 3 MB, {:.2} with short inputs, {:.2} in pieces of 64.", lines.len(), of(0), of(1), of(2));
 }

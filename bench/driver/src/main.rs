@@ -27,7 +27,7 @@ mod replacing;
 mod sources;
 mod theirs;
 
-use compare::Builds;
+use compare::{Builds, Ratios};
 use decoding::Codec;
 use encoding_rs::{Encoding, BIG5};
 use ours::{Kept, Ours};
@@ -187,28 +187,37 @@ fn tables(words: Vec<String>, times: usize) -> Result<(), String> {
     Ok(())
 }
 
+/// How tables are kept, in the order of the lines of `compare`, and their name there.
+const KEPT: [(Kept, &str); 3] = [(Kept::Flat, "flat"), (Kept::Packed, "packed"), (Kept::Ahead, "pairs looked up ahead")];
+
 /// The table of two builds beside each other: decoding over flat tables and over packed ones, encoding over packed ones
 /// where the codec can have them, and with pairs looked up ahead.
 fn compared(builds: &Builds, words: Vec<String>, times: usize) -> Result<(), String> {
-    let (wanted, mut codecs, mut ratios) = (Wanted::new(words), Codecs::default(), Vec::new());
+    let (wanted, mut codecs) = (Wanted::new(words), Codecs::default());
+    let mut ratios: [Vec<Ratios>; 3] = Default::default();
     println!("{}", compare::heading());
     each_line(&wanted, &mut codecs, |corpus, codec, long, short| {
-        let name = |tables: &str| format!("{corpus} | {} | {tables}", codec.encoding.name());
-        let kept = [("flat", Some(&codec.flat)), ("packed", codec.packed.as_ref()), ("pairs looked up ahead", codec.ahead.as_ref())];
-        for (at, (tables, ours)) in kept.into_iter().enumerate() {
+        for ((kept, tables), so_far) in KEPT.into_iter().zip(&mut ratios) {
+            let (ours, encodes) = match kept {
+                Kept::Flat => (Some(&codec.flat), codec.packed.is_none() && wanted.has_table(Table::Encode)),
+                Kept::Packed => (codec.packed.as_ref(), wanted.has_table(Table::Encode)),
+                Kept::Ahead => (codec.ahead.as_ref(), wanted.has_table(Table::Ahead)),
+            };
             let Some(ours) = ours else { continue };
-            if wanted.has_table(Table::Decode) && at < 2 {
-                ratios.extend(compare::decoder_lines(builds, &name(tables), ours, long, short, times)?);
+            let name = format!("{corpus} | {} | {tables}", codec.encoding.name());
+            if kept != Kept::Ahead && wanted.has_table(Table::Decode) {
+                so_far.extend(compare::decoder_lines(builds, &name, ours, long, short, times)?);
             }
-            let encoders = if at == 2 { Table::Ahead } else { Table::Encode };
-            if wanted.has_table(encoders) && (at > 0 || codec.packed.is_none()) {
-                ratios.extend(compare::encoder_lines(builds, &name(tables), codec, ours, long, short, times)?);
+            if encodes {
+                so_far.extend(compare::encoder_lines(builds, &name, codec, ours, long, short, times)?);
             }
         }
         Ok(())
     })?;
     println!();
-    compare::print_medians(&ratios);
+    for ((_, tables), lines) in KEPT.into_iter().zip(&ratios) {
+        compare::print_medians(tables, lines);
+    }
     Ok(())
 }
 
