@@ -1,5 +1,5 @@
 -- What is shown of the codes of EUC-KR.
-use Rattle.std.proofs.Common.{ℕ, ◌≤◌, List, [], ◌∷◌, Some, refl, arith}
+use Rattle.std.proofs.Common.{ℕ, ◌≤◌, List, refl, arith}
 use Rattle.std.proofs.lemmas.Bool.{lt-ltb}
 use Rattle.legacy_base.specs.EncodeEvents.{code_length}
 use Rattle.legacy_tables.specs.Pointers.{euc_kr_pointer_of}

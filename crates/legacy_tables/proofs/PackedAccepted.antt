@@ -1,5 +1,5 @@
 -- Runs that give what accepted indexes do are accepted indexes too.
-use Rattle.std.proofs.Common.{◌≡◌, ◌∙◌, ℕ, suc, ◌+◌, ◌≤◌, ◌<◌, All, List, [], ◌∷◌, length, get_or, refl, sym, ap, arith, Some, None, Option, false, not, ◌==◌, inl, inr}
+use Rattle.std.proofs.Common.{◌≡◌, ◌≢◌, ◌∙◌, ℕ, suc, ◌+◌, ◌≤◌, ◌<◌, All, List, [], ◌∷◌, length, get_or, refl, sym, ap, arith, Some, None, Option, false, not, ◌==◌, inl, inr}
 use Rattle.std.proofs.lemmas.Bool.{cases_lt, cases_eq, ne_eqb, true≢false}
 use Rattle.std.proofs.lemmas.List.{get_or_past}
 use Rattle.std.proofs.lemmas.List.Elements.{All-get_or}
@@ -15,13 +15,13 @@ use Rattle.legacy_tables.specs.declared.tables.packed.PackedPart.TheVariants as 
 use Rattle.legacy_tables.specs.Unicode.{AreScalars}
 use Rattle.legacy_tables.specs.Indexes.{FlatIndexes, idx, entry_scalar}
 use Rattle.legacy_tables.specs.TableChecks.{entry_fault, entries_fault, index_fault, table_fault, AreAccepted}
-use Rattle.legacy_tables.specs.Runs.{runs_scalar, runs_entry, runs_list, run_fault}
+use Rattle.legacy_tables.specs.Runs.{runs_scalar, runs_entry, GiveNoZero, runs_list, run_fault}
 use Rattle.legacy_tables.specs.Tables.{index_list}
 use Rattle.legacy_tables.specs.Packed.{part_fault, differs_at, run_difference, runs_fault, all_runs_fault, all_orders_fault, packed_lists, AnswerAlike, ArePackedTables}
 use Rattle.legacy_tables.proofs.Accepted.{parts, or_none, entry_at}
-use Rattle.legacy_tables.specs.PackedTables.{lists_of_runs, AreRunsOf, AreOrdersOf}
-use Rattle.legacy_tables.specs.declared.tables.packed_checks.AllRuns.{AllRuns}
-use Rattle.legacy_tables.specs.declared.tables.order_checks.AllOrders.{AllOrders}
+use Rattle.legacy_tables.specs.PackedTables.{lists_of_runs, AreRunsOf, AllGiveNoZero, AnswerPointersOf}
+use Rattle.legacy_tables.specs.declared.tables.packed_checks.CheckedRuns.{CheckedRuns}
+use Rattle.legacy_tables.specs.declared.tables.order_checks.CheckedOrders.{CheckedOrders}
 use Rattle.legacy_tables.proofs.FirstPlaces.{find-none-at}
 use Rattle.legacy_tables.proofs.PackedPointers.{pointer-same}
 use Rattle.legacy_tables.proofs.PackedRuns.{no_run, run-reach, scalar-none, outside-behind, runs_end-within, runs_list-length, runs_list-entry}
@@ -42,6 +42,11 @@ entry-narrow xs all p = elim (cases_lt p (length xs)) [
   | inr h ↦ rw (get_or_past xs p 0 h) (omega arith)
 ]
 
+-- ---- what runs give is an entry of their list
+
+pub given-entry : (runs : List Run) (p c : ℕ) → Some c ≡ runs_scalar runs p → get_or (runs_list runs) p 0 ≡ c
+given-entry runs p c is = runs_list-entry runs p ∙ ap (λ o. option_map_or (λ c. c) o 0) (sym is)
+
 -- ---- one index
 
 same_options : (a b : Option ℕ) → not (option_eq (λ x y. x == y) a b) ≡ false → a ≡ b
@@ -58,6 +63,16 @@ entry-back e = elim (cases_lt e 1) [
   | inl h ↦ let z : e ≡ 0 = omega arith in rw z refl
   | inr h ↦ rw (ne_eqb e 0 (λ z. omega arith)) refl
 ]
+
+-- the number 0 is no scalar of an entry
+entry-no-zero : (e : ℕ) → entry_scalar e ≢ Some 0
+entry-no-zero e is = elim (cases_eq e 0) [
+  | inl z ↦ let f = rw z at is in cc
+  | inr other ↦ let f = rw (ne_eqb e 0 other) at is in other (same_numbers f)
+]
+  where
+    same_numbers : {a b : ℕ} → Some a ≡ Some b → a ≡ b
+    same_numbers f = cc
 
 part-none : (part : PackedPart) (a b : Option ℕ) → part_fault part a b ≡ None → (a ≡ None) × (b ≡ None)
 part-none part None None e = (refl, refl)
@@ -80,6 +95,16 @@ module _ (part : PackedPart) (limit : ℕ) (runs : List Run) (index : List ℕ) 
         ap (λ o. option_map_or (λ c. c) o 0) (sym (same_options (idx index p) (runs_scalar runs p) alike)) ∙ entry-back (get_or index p 0)
     | inr h ↦
         ap (λ o. option_map_or (λ c. c) o 0) (past_runs p h) ∙ sym (get_or_past index p 0 (omega arith))
+  ]
+
+  -- they give no pointer 0: there the index would have none
+  pub no-zero : GiveNoZero runs
+  unfolding run_difference
+  no-zero p is = elim (cases_lt p limit) [
+    | inl h ↦
+        let alike = find-none-at (differs_at runs index) 0 limit (part-none part (run_fault limit runs) (run_difference limit runs index) none).1 p (omega arith) (omega arith) in
+        entry-no-zero (get_or index p 0) (same_options (idx index p) (runs_scalar runs p) alike ∙ is)
+    | inr h ↦ let none = past_runs p h in let e = rw none at is in cc
   ]
 
   pub same-list : (p : ℕ) → get_or (runs_list runs) p 0 ≡ get_or index p 0
@@ -174,12 +199,12 @@ module _ (flat : FlatIndexes) (packed : Packed) (accepted : AreAccepted flat) (n
 
 -- ---- the lists and the orders that packed tables keep
 
-pub lists-same : (runs : AllRuns) (flat : FlatIndexes) (packed : Packed) → AreRunsOf runs packed → lists_of_runs runs flat.katakana flat.ranges flat.gb18030_pua ≡ packed_lists flat packed
+pub lists-same : (runs : CheckedRuns) (flat : FlatIndexes) (packed : Packed) → AreRunsOf runs packed → lists_of_runs runs flat.katakana flat.ranges flat.gb18030_pua ≡ packed_lists flat packed
 lists-same runs flat packed are = rw (are.big5, are.euc_kr, are.jis0208, are.jis0212, are.gb18030) refl
 
 -- orders answer in the lists of runs what they do in the flat indexes
-pub orders-same : (orders : AllOrders) (flat : FlatIndexes) (packed : Packed) (accepted : AreAccepted flat) (none : all_runs_fault flat packed ≡ None) → AreOrdersOf orders flat →
-    AreOrdersOf orders (packed_lists flat packed)
+pub orders-same : (orders : CheckedOrders) (flat : FlatIndexes) (packed : Packed) (accepted : AreAccepted flat) (none : all_runs_fault flat packed ≡ None) → AnswerPointersOf orders flat →
+    AnswerPointersOf orders (packed_lists flat packed)
 orders-same orders flat packed accepted none are = record {
   big5 = λ c. are.big5 c ∙ sym (pointer-same parts.Big5Order (runs_list packed.big5.now) flat.big5 (same-big5 flat packed accepted none) c);
   euc_kr = λ c. are.euc_kr c ∙ sym (pointer-same parts.EucKrOrder (runs_list packed.euc_kr.now) flat.euc_kr (same-euc_kr flat packed accepted none) c);
@@ -187,3 +212,15 @@ orders-same orders flat packed accepted none are = record {
   euc_jp = λ c. are.euc_jp c ∙ sym (pointer-same parts.EucJpOrder (runs_list packed.jis0208.now) flat.jis0208 (same-jis0208 flat packed accepted none) c);
   gb18030 = λ c. are.gb18030 c ∙ sym (pointer-same parts.Gb18030Order (runs_list packed.gb18030.now) flat.gb18030 (same-gb18030 flat packed accepted none) c);
 }
+
+-- runs that give what accepted indexes do give no pointer the number 0
+pub numbers-given : (runs : CheckedRuns) (flat : FlatIndexes) (packed : Packed) → AreRunsOf runs packed → AreAccepted flat → all_runs_fault flat packed ≡ None → AllGiveNoZero runs
+numbers-given runs flat packed are accepted none =
+    let r = runs_parts flat packed none in
+    let p = parts flat accepted in record {
+      big5 = rw are.big5 (no-zero parts.Big5 19782 packed.big5.now flat.big5 r.big5 p.big5.0);
+      euc_kr = rw are.euc_kr (no-zero parts.EucKr 23940 packed.euc_kr.now flat.euc_kr r.euc_kr p.euc_kr.0);
+      jis0208 = rw are.jis0208 (no-zero parts.Jis0208 11280 packed.jis0208.now flat.jis0208 r.jis0208 p.jis0208.0);
+      jis0212 = rw are.jis0212 (no-zero parts.Jis0212 8836 packed.jis0212.now flat.jis0212 r.jis0212 p.jis0212.0);
+      gb18030 = rw are.gb18030 (no-zero parts.Gb18030 23940 packed.gb18030.now flat.gb18030 r.gb18030 p.gb18030.0);
+    }

@@ -1,7 +1,7 @@
 -- What runs in order are, and what they give each pointer.
-use Rattle.std.proofs.Common.{◌≡◌, ◌∙◌, ℕ, zero, suc, ◌+◌, ◌-◌, ◌≤◌, ◌<◌, List, [], ◌∷◌, length, map, get_or, drop, drop-cons, add-one, refl, sym, ap, arith, Some, None}
+use Rattle.std.proofs.Common.{◌≡◌, ◌≢◌, ◌∙◌, ℕ, zero, suc, ◌+◌, ◌-◌, ◌≤◌, ◌<◌, List, [], ◌∷◌, length, map, get_or, drop, drop-cons, add-one, refl, sym, ap, arith, Some, None}
 use Rattle.std.proofs.Common.{Option, true, false, Bool, ◌&&◌, cond, nat_le, nat_lt, inl, inr}
-use Rattle.std.proofs.lemmas.Bool.{cases_lt}
+use Rattle.std.proofs.lemmas.Bool.{cases_lt, ne_eqb}
 use Rattle.std.proofs.lemmas.List.{get_or_past}
 use Rattle.std.proofs.lemmas.List.FromFn.{get_or-map-range_with_len, length-map-range_with_len}
 use Rattle.std.proofs.Math.ListN.{drop_of_length-le}
@@ -9,8 +9,9 @@ use Rattle.std.specs.List.{range_with_len}
 use Rattle.std.specs.Option.{option_map_or}
 use borrow.Author.Tests.{ltb-true, leb-true, le-leb, lt-leb, lt-ltb, le-ltb}
 use Rattle.legacy_tables.specs.declared.tables.packed.Run.{Run}
+use Rattle.legacy_tables.specs.Indexes.{idx, entry_scalar}
 use Rattle.legacy_tables.specs.Packed.{differs_at}
-use Rattle.legacy_tables.specs.Runs.{run_end, run_scalar, runs_scalar, runs_entry, runs_end, runs_list, is_run_in_order, run_fault_from, run_fault, AreInOrder}
+use Rattle.legacy_tables.specs.Runs.{run_end, run_scalar, runs_scalar, runs_entry, GiveNoZero, runs_end, runs_list, is_run_in_order, run_fault_from, run_fault, AreInOrder}
 
 -- a run of no pointers
 abbrev pub no_run : Run
@@ -200,3 +201,11 @@ runs_list-entry runs p = elim (cases_lt p (runs_end runs)) [
       let none = scalar-none runs p (λ k l. let m = end_most runs k l in outside-behind (get_or runs k no_run) p (omega arith)) in
       get_or_past (map (runs_entry runs) (range_with_len 0 (runs_end runs))) p 0 past ∙ sym (ap (λ o. option_map_or (λ c. c) o 0) none)
 ]
+
+-- where no number is 0, the flat list answers what the runs give
+pub idx-given : (runs : List Run) → GiveNoZero runs → (p : ℕ) → idx (runs_list runs) p ≡ runs_scalar runs p
+idx-given runs numbered p = rw (runs_list-entry runs p) (go (runs_scalar runs p) (numbered p))
+  where
+    go : (found : Option ℕ) → found ≢ Some 0 → entry_scalar (option_map_or (λ c. c) found 0) ≡ found
+    go None other = refl
+    go (Some c) other = rw (ne_eqb c 0 (λ e. other (ap Some e))) refl

@@ -1,5 +1,5 @@
 -- Indexes as runs of pointers, and what they give.
-use Rattle.std.specs.Prelude.{ℕ, ◌+◌, ◌-◌, ◌≤◌, ◌<◌, List, [], ◌∷◌, Option, Some, None, Bool, ◌&&◌}
+use Rattle.std.specs.Prelude.{◌≢◌, ℕ, ◌+◌, ◌-◌, ◌≤◌, ◌<◌, List, [], ◌∷◌, Option, Some, None, Bool, ◌&&◌}
 use Rattle.std.specs.Prelude.{nat_le, nat_lt, if◌then◌else◌, length, map, max, slice_index_or}
 use Rattle.std.specs.Option.{option_or, option_map_or}
 use Rattle.std.specs.List.{range_with_len}
@@ -24,6 +24,10 @@ runs_scalar (run ∷ runs) p = option_or (run_scalar run p) (runs_scalar runs p)
 -- the entry that it is in a flat list, where 0 stands for none
 abbrev pub runs_entry : List Run → ℕ → ℕ
 runs_entry runs p = option_map_or (λ c. c) (runs_scalar runs p) 0
+
+-- no pointer is given the number 0
+abbrev pub GiveNoZero : List Run → Type 0
+GiveNoZero runs = (p : ℕ) → runs_scalar runs p ≢ Some 0
 
 -- the pointer behind all runs
 abbrev pub runs_end : List Run → ℕ

@@ -169,7 +169,7 @@ fn four_past_pairs_of<V: EncoderTables>(tables: &V, c: char) -> Option<(u8, u8, 
 
 /// The four bytes of a scalar past ASCII, or the scalar as unmappable.
 #[inline(always)]
-fn four_of<V: EncoderTables>(tables: &V, c: char) -> EncoderMove
+fn four_or_unmappable<V: EncoderTables>(tables: &V, c: char) -> EncoderMove
     ensures { IsCode (option_map gb18030_range_bytes
         (range_pointer_of (V.indexes tables.now).flat.ranges c)) c result }
 {
@@ -195,7 +195,7 @@ fn gb18030_code_of<V: EncoderTables>(tables: &V, c: char) -> EncoderMove
     }
     match pair_of(tables, c) {
         Some((lead, trail)) => EncoderMove::Two(lead, trail),
-        None => four_of(tables, c),
+        None => four_or_unmappable(tables, c),
     }
 }
 
@@ -215,7 +215,7 @@ fn past_pairs_of<V: EncoderTables>(tables: &V, c: char) -> EncoderMove
     }
     match tables.gb18030_pua_bytes(c) {
         Some((lead, trail)) => EncoderMove::Two(lead, trail),
-        None => four_of(tables, c),
+        None => four_or_unmappable(tables, c),
     }
 }
 

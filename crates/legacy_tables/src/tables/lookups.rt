@@ -5,7 +5,7 @@ ghost use Rattle.std.specs.Char.{IsScalar};
 ghost use Rattle.legacy_tables.specs.Unicode.{AreScalars};
 ghost use Rattle.legacy_tables.specs.Indexes.{entry_scalar, idx, last_range_scalar, range};
 ghost use Rattle.legacy_tables.specs.TableChecks.{range_order_fault, range_value_fault};
-ghost use Rattle.legacy_tables.specs.Runs.{runs_list};
+ghost use Rattle.legacy_tables.specs.Runs.{GiveNoZero, runs_list};
 
 use super::runs::Runs;
 
@@ -50,15 +50,18 @@ pub(crate) fn narrow_entry(index: &[u16], pointer: usize) -> Option<char>
 }
 
 /// The scalar of a pointer in an index that is kept as runs.
+// A number that runs give is no entry 0, so it is not compared with one.
 #[inline]
 pub(super) fn run_scalar<const POINTERS: usize>(
     runs: &Runs<'_, POINTERS>,
     pointer: usize,
 ) -> Option<char>
-    requires { AreScalars (runs_list runs.now.runs.now) }
+    requires scalars { AreScalars (runs_list runs.now.runs.now) }
+    requires numbered { GiveNoZero runs.now.runs.now }
     ensures { result ≡ idx (runs_list runs.now.runs.now) pointer }
 {
-    scalar_of(runs.entry(pointer))
+    let scalar = runs.scalar(pointer)?;
+    Some(unsafe { char::from_u32_unchecked(scalar) })
 }
 
 /// The scalar of a pointer in an index of narrow entries that is kept as runs.
@@ -69,10 +72,12 @@ pub(super) fn narrow_run_scalar<const POINTERS: usize>(
     pointer: usize,
 ) -> Option<char>
     requires scalars { AreScalars (runs_list runs.now.runs.now) }
+    requires numbered { GiveNoZero runs.now.runs.now }
     requires narrow { (p : ℕ) → slice_index (runs_list runs.now.runs.now) p < 0x1_0000 }
     ensures { result ≡ idx (runs_list runs.now.runs.now) pointer }
 {
-    scalar_of(u32::from(runs.entry(pointer) as u16))
+    let scalar = runs.scalar(pointer)?;
+    Some(unsafe { char::from_u32_unchecked(u32::from(scalar as u16)) })
 }
 
 /// How many of the ranges start at or before a pointer: the ranges rise, so these are the first

@@ -7,7 +7,7 @@ ghost use Rattle.legacy_tables.specs.Pointers.{is_big5_pointer, last_pointer};
 ghost use Rattle.legacy_tables.specs.Packed.{is_pointer_in_order, order_fault, is_lacking};
 ghost use Rattle.legacy_tables.specs.Packed.{order_difference, pointers_fault, pointer_of};
 ghost use Rattle.legacy_tables.specs.Packed.{all_orders_fault, may_use};
-ghost use Rattle.legacy_tables.specs.PackedTables.{AreOrdersOf, AreLastPointers};
+ghost use Rattle.legacy_tables.specs.PackedTables.{AnswerPointersOf, AreLastPointers};
 ghost use Rattle.legacy_tables.specs.TableChecks.{table_fault};
 ghost use Rattle.legacy_tables.specs.Tables.{flat_indexes};
 ghost use Rattle.legacy_tables.specs.Orders.{HasNumbers, IsLookup, takes_last};
@@ -226,7 +226,7 @@ pub(super) fn order_of<'a, const BLOCKS: usize, N: Numbers>(
 
 /// The orders of the five codecs.
 #[derive(Drop)]
-pub(super) struct AllOrders<'a> {
+pub(super) struct CheckedOrders<'a> {
     pub(super) big5: Order<'a, 2048>,
     pub(super) euc_kr: Order<'a, 1024>,
     pub(super) shift_jis: Order<'a, 1024>,
@@ -238,11 +238,11 @@ pub(super) struct AllOrders<'a> {
 pub(super) fn all_orders_of<'a>(
     indexes: &Indexes<'_>,
     packed: &Packed<'a>,
-) -> Result<AllOrders<'a>, TableError>
+) -> Result<CheckedOrders<'a>, TableError>
     requires { table_fault (flat_indexes indexes.now) ≡ None }
     ensures { let found = all_orders_fault (flat_indexes indexes.now) packed.now in
         MatchResult result
-        (λ o. AreOrdersOf o (flat_indexes indexes.now) × (found ≡ None))
+        (λ o. AnswerPointersOf o (flat_indexes indexes.now) × (found ≡ None))
         (λ fault. found ≡ Some fault) }
 {
     let wide = Wide {
@@ -262,7 +262,7 @@ pub(super) fn all_orders_of<'a>(
         entries: indexes.gb18030,
     };
     let gb18030 = order_of(PackedPart::Gb18030Order, packed.gb18030_order, &narrow)?;
-    Ok(AllOrders {
+    Ok(CheckedOrders {
         big5,
         euc_kr,
         shift_jis,

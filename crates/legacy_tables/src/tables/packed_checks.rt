@@ -125,7 +125,7 @@ pub(super) fn runs_of<'a, N: Numbers, const POINTERS: usize>(
 
 /// The runs of the five indexes.
 #[derive(Drop)]
-pub(super) struct AllRuns<'a> {
+pub(super) struct CheckedRuns<'a> {
     pub(super) big5: Runs<'a, 19782>,
     pub(super) euc_kr: Runs<'a, 23940>,
     pub(super) jis0208: Runs<'a, 11280>,
@@ -138,7 +138,7 @@ pub(super) struct AllRuns<'a> {
 pub(super) fn all_runs_of<'a>(
     indexes: &Indexes<'_>,
     packed: &Packed<'a>,
-) -> Result<AllRuns<'a>, TableError>
+) -> Result<CheckedRuns<'a>, TableError>
     ensures { let found = all_runs_fault (flat_indexes indexes.now) packed.now in
         MatchResult result
         (λ r. AreRunsOf r packed.now × (found ≡ None))
@@ -164,7 +164,7 @@ pub(super) fn all_runs_of<'a>(
         entries: indexes.gb18030,
     };
     let gb18030 = runs_of(PackedPart::Gb18030, packed.gb18030, &narrow)?;
-    Ok(AllRuns {
+    Ok(CheckedRuns {
         big5,
         euc_kr,
         jis0208,

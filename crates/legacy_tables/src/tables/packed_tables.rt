@@ -1,13 +1,13 @@
 //! Tables that are kept as runs and orders.
 ghost use Rattle.std.specs.Prelude.{◌≡◌, MatchResult, Some};
 ghost use Rattle.legacy_tables.specs.TableChecks.{AreAccepted};
-ghost use Rattle.legacy_tables.specs.PackedTables.{lists_of_runs, AreOrdersOf};
+ghost use Rattle.legacy_tables.specs.PackedTables.{lists_of_runs, AllGiveNoZero, AnswerPointersOf};
 ghost use Rattle.legacy_tables.specs.PagePointers.{ArePagePointers};
 
 use super::checks::check_indexes;
-use super::order_checks::{AllOrders, all_orders_of};
+use super::order_checks::{CheckedOrders, all_orders_of};
 use super::packed::Packed;
-use super::packed_checks::{AllRuns, all_runs_of};
+use super::packed_checks::{CheckedRuns, all_runs_of};
 use super::page_pointers::PagePointers;
 use super::private_use::row_bytes;
 use super::{DecoderTables, EncoderTables, IndexName, Indexes, TableError, lookups, pointers};
@@ -18,8 +18,8 @@ use std::marker::Model;
 // The five flat indexes are not kept: no look-up reads them.
 #[derive(Drop)]
 pub struct PackedTables<'a> {
-    runs: AllRuns<'a>,
-    orders: AllOrders<'a>,
+    runs: CheckedRuns<'a>,
+    orders: CheckedOrders<'a>,
     katakana: &'a [u16],
     ranges: &'a [(u16, u16)],
     gb18030_pua: &'a [(u16, u8, u8)],
@@ -27,7 +27,8 @@ pub struct PackedTables<'a> {
     likely_ranges: [u8; 256],
     page_pointers: PagePointers,
     ghost accepted: { AreAccepted (lists_of_runs runs katakana.now ranges.now gb18030_pua.now) },
-    ghost ordered: { AreOrdersOf orders
+    ghost numbered: { AllGiveNoZero runs },
+    ghost ordered: { AnswerPointersOf orders
         (lists_of_runs runs katakana.now ranges.now gb18030_pua.now) },
     ghost paged: { ArePagePointers ranges.now page_pointers.firsts },
 }

@@ -1,7 +1,7 @@
 //! Runs that are in order, and the look-up of a pointer in them.
 ghost use Rattle.std.specs.Prelude.{◌≡◌, ℕ, ◌≤◌, None};
 ghost use Rattle.legacy_tables.specs.RunPlaces.{ArePlacesOf};
-ghost use Rattle.legacy_tables.specs.Runs.{runs_scalar, runs_entry, run_fault};
+ghost use Rattle.legacy_tables.specs.Runs.{runs_scalar, run_fault};
 ghost use Rattle.legacy_tables.specs.Runs.{is_run_in_order, AreInOrder};
 
 use super::packed::Run;
@@ -76,18 +76,7 @@ impl<'a, const POINTERS: usize> Runs<'a, POINTERS> {
             return None;
         }
         let place = self.places.place(pointer)?;
-        let run = self.runs[place];
+        let run = &self.runs[place];
         Some(run.scalar + (pointer - usize::from(run.pointer)) as u32)
-    }
-
-    /// The same as an entry of a flat list, where 0 stands for none.
-    #[inline(always)]
-    pub(super) fn entry(&self, pointer: usize) -> u32
-        ensures { result ≡ runs_entry self.now.runs.now pointer }
-    {
-        match self.scalar(pointer) {
-            Some(scalar) => scalar,
-            None => 0,
-        }
     }
 }

@@ -1,17 +1,18 @@
-use Rattle.std.proofs.Common.{◌∙◌, sym, ap, subst}
+use Rattle.std.proofs.Common.{◌∙◌, Some, sym, ap, subst}
 use Rattle.std.specs.Char.{IsScalar}
-use Rattle.legacy_tables.specs.Indexes.{entry_scalar}
 use Rattle.legacy_tables.specs.Runs.{runs_list}
-use Rattle.legacy_tables.proofs.PackedRuns.{runs_list-entry}
-use Rattle.legacy_tables.proofs.PackedAccepted.{entry-scalar}
+use Rattle.legacy_tables.proofs.PackedRuns.{idx-given}
+use Rattle.legacy_tables.proofs.PackedAccepted.{entry-scalar, given-entry}
 use Rattle.legacy_tables.proofs.tables.lookups.run_scalar.Goals as goal
 
-pub scalar_of-requires : goal.scalar_of-requires
-scalar_of-requires g c =
-    let is = runs_list-entry c.args.runs.now.runs.now c.args.pointer in
-    subst IsScalar (is ∙ sym c.entry.ensures) (entry-scalar (runs_list c.args.runs.now.runs.now) c.requires c.args.pointer)
+pub returns-in_err-scalar : goal.returns-in_err-scalar
+returns-in_err-scalar g c =
+    c.from_residual.ensures ∙ sym c.in_err-scalar.was ∙ c.scalar.ensures ∙ sym (idx-given c.args.runs.now.runs.now c.requires.numbered c.args.pointer)
+
+pub from_u32_unchecked-requires : goal.from_u32_unchecked-requires
+from_u32_unchecked-requires g c =
+    subst IsScalar (given-entry c.args.runs.now.runs.now c.args.pointer c.in_ok-scalar.scalar c.in_ok-scalar.ensures) (entry-scalar (runs_list c.args.runs.now.runs.now) c.requires.scalars c.args.pointer)
 
 pub returns : goal.returns
 returns g c =
-    let is = runs_list-entry c.args.runs.now.runs.now c.args.pointer in
-    c.scalar_of.ensures ∙ ap entry_scalar (c.entry.ensures ∙ sym is)
+    ap Some c.from_u32_unchecked.ensures ∙ c.in_ok-scalar.ensures ∙ sym (idx-given c.args.runs.now.runs.now c.requires.numbered c.args.pointer)
