@@ -24,6 +24,7 @@ mod peers;
 mod pieces;
 mod recode;
 mod replacing;
+mod rest;
 mod sources;
 mod theirs;
 

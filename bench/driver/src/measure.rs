@@ -1,10 +1,9 @@
 //! How long calls take.
 
 use crate::pieces::Unit;
-use std::cell::RefCell;
+use crate::rest;
 use std::hint::black_box;
-use std::thread::sleep;
-use std::time::{Duration, Instant};
+use std::time::Duration;
 
 /// A call that writes to an output, and answers how many code units it wrote.
 pub type Call<'a, W> = Box<dyn Fn(&mut [W]) -> usize + 'a>;
@@ -17,7 +16,7 @@ const LEAST_TIME: Duration = Duration::from_micros(3500);
 const MOST_TIME: Duration = Duration::from_millis(300);
 
 /// The time that this thread has run: what other programs take of the processor does not count.
-fn thread_time() -> Duration {
+pub fn thread_time() -> Duration {
     #[repr(C)]
     struct Timespec {
         seconds: i64,
@@ -33,77 +32,8 @@ fn thread_time() -> Duration {
     Duration::new(time.seconds as u64, time.nanoseconds as u32)
 }
 
-/// How many calls of each are wanted that began and ended while the processor was at rest.
+/// How many calls of each are wanted that began and ended while the core was at rest.
 const RESTED: usize = 3;
-
-/// How much longer than at its best the loop of additions may take where the processor is at rest.
-const REST: f64 = 1.1;
-
-/// How long is waited for rest before a call, and for all calls together.
-const LEAST_PATIENCE: Duration = Duration::from_millis(50);
-const MOST_PATIENCE: Duration = Duration::from_secs(90);
-
-/// How long the processor is watched before the first call, so that its best is known.
-const WATCHED: Duration = Duration::from_secs(2);
-
-/// The time of additions of which each waits for the fourth one before it: a processor makes four of them in a cycle.
-fn additions() -> Duration {
-    let start = thread_time();
-    let mut sums = [0u64; 4];
-    for _ in 0..20_000 {
-        let [a, b, c, d] = &mut sums;
-        unsafe {
-            std::arch::asm!(
-                "add {a}, 1", "add {b}, 1", "add {c}, 1", "add {d}, 1",
-                "add {a}, 1", "add {b}, 1", "add {c}, 1", "add {d}, 1",
-                a = inout(reg) *a, b = inout(reg) *b, c = inout(reg) *c, d = inout(reg) *d,
-                options(nomem, nostack),
-            );
-        }
-    }
-    black_box(sums);
-    thread_time() - start
-}
-
-/// What is known of the processor: the best time of the loop of additions, and how long was waited for such times. On a
-/// shared host another guest may run on the same core. Then what runs at four instructions in a cycle takes up to twice
-/// as long, and what waits for memory hardly longer, so that a ratio of the two tells of that guest.
-struct Processor {
-    least: Duration,
-    waited: Duration,
-}
-
-impl Processor {
-    /// Watches it for a while.
-    fn new() -> Processor {
-        let start = Instant::now();
-        let mut least = Duration::MAX;
-        while start.elapsed() < WATCHED {
-            least = least.min(additions());
-            sleep(Duration::from_millis(1));
-        }
-        Processor { least, waited: Duration::ZERO }
-    }
-
-    fn is_at_rest(&mut self) -> bool {
-        let time = additions().min(additions());
-        self.least = self.least.min(time);
-        time.as_secs_f64() <= REST * self.least.as_secs_f64()
-    }
-
-    /// Waits until it is at rest, as far as there is patience.
-    fn wait(&mut self) {
-        let start = Instant::now();
-        while self.waited + start.elapsed() < MOST_PATIENCE && start.elapsed() < LEAST_PATIENCE && !self.is_at_rest() {
-            sleep(Duration::from_millis(1));
-        }
-        self.waited += start.elapsed();
-    }
-}
-
-thread_local! {
-    static PROCESSOR: RefCell<Processor> = RefCell::new(Processor::new());
-}
 
 /// The times of one call so far.
 #[derive(Clone, Default)]
@@ -132,7 +62,8 @@ impl Times {
 const COUNTED: usize = 100_000;
 
 /// The best time of each call. They are made in turn, there and back, each so many times at the least if it does not take
-/// too long, and each behind a count of the letters at the source's front, which is none of them. So all begin with the
+/// too long, some of them while the core is at rest, for which each waits as long as there is patience, and each behind a
+/// count of the letters at the source's front, which is none of them. So all begin with the
 /// processor's caches and guesses as other code leaves them; and a call and the check that is a part of it, which stand
 /// beside each other, each begin in turn behind the other and behind other code.
 pub fn best_times<R: Unit, W>(calls: &[Option<Call<'_, W>>], src: &[R], dst: &mut [W], times: usize) -> Vec<Option<Duration>> {
@@ -146,12 +77,12 @@ pub fn best_times<R: Unit, W>(calls: &[Option<Call<'_, W>>], src: &[R], dst: &mu
             if so_far.is_done(times) {
                 continue;
             }
-            PROCESSOR.with_borrow_mut(Processor::wait);
+            let began_at_rest = rest::wait();
             black_box(R::letters(front));
             let start = thread_time();
             black_box(call(dst));
             let time = thread_time() - start;
-            so_far.add(time, PROCESSOR.with_borrow_mut(Processor::is_at_rest));
+            so_far.add(time, began_at_rest && rest::is_at_rest());
             made += 1;
         }
         if made == 0 {

@@ -1,0 +1,90 @@
+//! Whether the processor's core is at rest. On a shared host another guest may run on the same core. Then what runs at four
+//! instructions in a cycle takes up to twice as long, and what waits for memory hardly longer, so that a ratio of the two
+//! tells of that guest.
+
+use crate::measure::thread_time;
+use std::cell::RefCell;
+use std::hint::black_box;
+use std::thread::sleep;
+use std::time::{Duration, Instant};
+
+/// How much longer than at its best the loop of additions may take where the core is at rest.
+const REST: f64 = 1.1;
+
+/// How long a call waits for rest, and how long all calls of a build do.
+const PATIENCE_OF_CALL: Duration = Duration::from_millis(50);
+const PATIENCE_OF_ALL: Duration = Duration::from_secs(90);
+
+/// How long the core is watched before the first call, so that its best is known.
+const WATCHED: Duration = Duration::from_secs(2);
+
+/// The time of additions of which each waits for the fourth one before it: a processor makes four of them in a cycle.
+fn additions() -> Duration {
+    let start = thread_time();
+    let mut sums = [0u64; 4];
+    for _ in 0..20_000 {
+        let [a, b, c, d] = &mut sums;
+        unsafe {
+            std::arch::asm!(
+                "add {a}, 1", "add {b}, 1", "add {c}, 1", "add {d}, 1",
+                "add {a}, 1", "add {b}, 1", "add {c}, 1", "add {d}, 1",
+                a = inout(reg) *a, b = inout(reg) *b, c = inout(reg) *c, d = inout(reg) *d,
+                options(nomem, nostack),
+            );
+        }
+    }
+    black_box(sums);
+    thread_time() - start
+}
+
+/// What is known of the core: the best time of the additions, and how long was waited for such times.
+struct Core {
+    least: Duration,
+    waited: Duration,
+}
+
+impl Core {
+    /// Watches it for a while.
+    fn new() -> Core {
+        let start = Instant::now();
+        let mut least = Duration::MAX;
+        while start.elapsed() < WATCHED {
+            least = least.min(additions());
+            sleep(Duration::from_millis(1));
+        }
+        Core { least, waited: Duration::ZERO }
+    }
+
+    fn is_at_rest(&mut self) -> bool {
+        let time = additions().min(additions());
+        self.least = self.least.min(time);
+        time.as_secs_f64() <= REST * self.least.as_secs_f64()
+    }
+
+    fn wait(&mut self) -> bool {
+        let start = Instant::now();
+        loop {
+            let is_at_rest = self.is_at_rest();
+            let waited = self.waited + start.elapsed();
+            if is_at_rest || start.elapsed() >= PATIENCE_OF_CALL || waited >= PATIENCE_OF_ALL {
+                self.waited = waited;
+                return is_at_rest;
+            }
+            sleep(Duration::from_millis(1));
+        }
+    }
+}
+
+thread_local! {
+    static CORE: RefCell<Core> = RefCell::new(Core::new());
+}
+
+/// Whether the core is at rest.
+pub fn is_at_rest() -> bool {
+    CORE.with_borrow_mut(Core::is_at_rest)
+}
+
+/// Waits until the core is at rest, as far as there is patience, and answers whether it is.
+pub fn wait() -> bool {
+    CORE.with_borrow_mut(Core::wait)
+}
