@@ -7,8 +7,7 @@ use crate::loaded::Loaded;
 use crate::measure::{best_times, ratio_cell, speed, speed_cell, without, Call};
 use crate::medians::median;
 use crate::ours::{Export, Ours};
-use crate::pieces::Unit;
-use crate::{PIECE, SHORT_ROUNDS};
+use crate::pieces::{measured, Unit};
 use std::ffi::c_void;
 
 /// The two builds, as shared libraries.
@@ -64,7 +63,7 @@ fn line<R: Unit, W: Copy + PartialEq + Default>(
     }
     let mut ratios = Ratios::default();
     print!("| {name} |");
-    for (at, (src, piece, rounds)) in [(sources[0], 0, 1), (sources[1], 0, SHORT_ROUNDS), (sources[0], PIECE, 1)].into_iter().enumerate() {
+    for (at, (src, piece, rounds)) in measured(name, sources[0], sources[1]).into_iter().enumerate() {
         let call = |export: Export<R, W>, rounds: usize| -> Option<Call<'_, W>> {
             Some(Box::new(move |dst: &mut [W]| ours.call(export, src, dst, piece, rounds)))
         };

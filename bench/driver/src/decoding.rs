@@ -2,7 +2,8 @@
 
 use crate::measure::{best_times, is_same, ratio_cell, speed, speed_cell, without, written, Call};
 use crate::ours::{Calls, Ours};
-use crate::{theirs, PIECE, SHORT_ROUNDS};
+use crate::pieces::{measured, PIECE};
+use crate::theirs;
 use encoding_rs::Encoding;
 
 /// An encoding form that is written, with both libraries' calls in it.
@@ -126,7 +127,7 @@ fn line<D: Into>(corpus: &str, codec: &Codec, long: &[u8], short: &[u8], times: 
         }
     }
     print!("| {corpus} | {} | {} |", codec.encoding.name(), D::NAME);
-    for (src, piece, rounds) in [(long, 0, 1), (short, 0, SHORT_ROUNDS), (long, PIECE, 1)] {
+    for (src, piece, rounds) in measured(corpus, long, short) {
         print!("{}", cells::<D>(codec, src, piece, rounds, times));
     }
     println!();

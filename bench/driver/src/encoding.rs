@@ -1,12 +1,12 @@
-//! The encoders' tables: over packed tables, and with pairs looked up ahead, beside encoding_rs with its default tables and with its fast ones, ICU
-//! and iconv.
+//! The encoders' tables: over packed tables, and with pairs looked up ahead, beside encoding_rs with its default tables and
+//! with its fast ones, ICU and iconv.
 
 use crate::decoding::Codec;
 use crate::measure::{best_times, is_same, ratio_cell, speed, speed_cell, without, written, Call};
 use crate::ours::{Calls, Ours};
 use crate::peers::{self, Peer};
-use crate::pieces::Unit;
-use crate::{theirs, PIECE, SHORT_ROUNDS};
+use crate::pieces::{measured, Unit, PIECE};
+use crate::theirs;
 use encoding_rs::Encoding;
 use std::collections::HashMap;
 
@@ -213,9 +213,10 @@ impl<'a> Writers<'a> {
             self.compare::<D>(src).map_err(|error| format!("{corpus} {name}: {error}"))?;
         }
         print!("| {corpus} | {name} | {} |", D::NAME);
-        print!("{}", self.cells::<D>(&long, 0, 1, times, true));
-        print!("{}", self.cells::<D>(&short, 0, SHORT_ROUNDS, times, false));
-        println!("{}", self.cells::<D>(&long, PIECE, 1, times, false));
+        for (at, (src, piece, rounds)) in measured(corpus, &long, &short).into_iter().enumerate() {
+            print!("{}", self.cells::<D>(src, piece, rounds, times, at == 0));
+        }
+        println!();
         Ok(())
     }
 }

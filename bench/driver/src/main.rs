@@ -48,12 +48,6 @@ const CORPORA: &[(&str, &str, f64, &[&str])] = &[
 /// The encodings whose indexes can be packed, and whose encoders can look their pairs up ahead.
 const PACKED: &[&str] = &["EUC-KR", "gb18030", "GBK", "Shift_JIS", "EUC-JP", "Big5", "ISO-2022-JP"];
 
-/// How many times a measured call converts a short source, so that it takes as long as a call on a long one.
-const SHORT_ROUNDS: usize = 16;
-
-/// The length of a small piece in code units.
-const PIECE: usize = 64;
-
 /// The tables of the codecs.
 #[derive(Clone, Copy, PartialEq, Eq)]
 enum Table {

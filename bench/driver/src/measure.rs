@@ -10,7 +10,7 @@ pub type Call<'a, W> = Box<dyn Fn(&mut [W]) -> usize + 'a>;
 
 /// How long each call of a cell is timed at the least, for each time that it is made at the least: the best of a few
 /// short calls moves from run to run.
-const LEAST_TIME: Duration = Duration::from_micros(3500);
+const LEAST_TIME: Duration = Duration::from_millis(10);
 
 /// How long it is timed at the most, once it was made twice: some are a hundred times as slow as others.
 const MOST_TIME: Duration = Duration::from_millis(300);

@@ -5,7 +5,7 @@ use crate::decoding::{self, Codec, Into, ToUtf16, ToUtf8};
 use crate::encoding::{self, fast_encoding, From, FromUtf16, FromUtf8};
 use crate::measure::{best_times, ratio_cell, speed, speed_cell, without, Call};
 use crate::ours::{Calls, Ours};
-use crate::{PIECE, SHORT_ROUNDS};
+use crate::pieces::measured;
 use encoding_rs::{Encoding, BIG5};
 use std::time::Duration;
 
@@ -37,7 +37,7 @@ fn decode_line<D: Into>(corpus: &str, codec: &Ours, encoding: &'static Encoding,
         decoding::compare::<D>(codec, encoding, Calls::Replacing, src).map_err(|error| format!("{corpus} {}: {error}", encoding.name()))?;
     }
     print!("| {corpus} | {} | {} |", encoding.name(), D::NAME);
-    for (src, piece, rounds) in [(long, 0, 1), (short, 0, SHORT_ROUNDS), (long, PIECE, 1)] {
+    for (src, piece, rounds) in measured(corpus, long, short) {
         let ours = |calls, rounds| Some(decoding::ours::<D>(codec, calls, src, piece, rounds));
         let theirs = Some(decoding::theirs::<D>(encoding, Calls::Replacing, src, piece, rounds));
         let calls: [Option<Call<'_, D::Written>>; 5] =
@@ -55,12 +55,12 @@ fn encode_line<D: From>(corpus: &str, codec: &Ours, encoding: &'static Encoding,
         encoding::compare::<D>(codec, encoding, Calls::Replacing, src).map_err(|error| format!("{corpus} {}: {error}", encoding.name()))?;
     }
     print!("| {corpus} | {} | {} |", encoding.name(), D::NAME);
-    for (src, piece, rounds) in [(&long, 0, 1), (&short, 0, SHORT_ROUNDS), (&long, PIECE, 1)] {
+    for (src, piece, rounds) in measured(corpus, &long, &short) {
         let ours = |calls, rounds| Some(encoding::ours::<D>(codec, calls, src, piece, rounds));
         let theirs = Some(encoding::fast::<D>(fast, Calls::Replacing, src, piece, rounds));
         let calls = [theirs, ours(Calls::Raw, rounds), ours(Calls::Replacing, rounds), ours(Calls::Raw, 0), ours(Calls::Replacing, 0)];
         let best = best_times(&calls, src, &mut encoding::room(src), times);
-        print!("{}", cells(size_of_val(src.as_slice()) * rounds, &best));
+        print!("{}", cells(size_of_val(src) * rounds, &best));
     }
     println!();
     Ok(())

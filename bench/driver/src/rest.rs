@@ -13,7 +13,7 @@ const REST: f64 = 1.1;
 
 /// How long a call waits for rest, and how long all calls of a build do.
 const PATIENCE_OF_CALL: Duration = Duration::from_millis(50);
-const PATIENCE_OF_ALL: Duration = Duration::from_secs(90);
+const PATIENCE_OF_ALL: Duration = Duration::from_secs(240);
 
 /// How long the core is watched before the first call, so that its best is known.
 const WATCHED: Duration = Duration::from_secs(2);
