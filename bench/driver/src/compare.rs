@@ -7,7 +7,8 @@ use crate::loaded::Loaded;
 use crate::measure::{best_times, ratio_cell, speed, speed_cell, without, Call};
 use crate::medians::median;
 use crate::ours::{Export, Ours};
-use crate::pieces::{measured, Unit};
+use crate::pieces::Unit;
+use crate::rounds::measured;
 use std::ffi::c_void;
 
 /// The two builds, as shared libraries.

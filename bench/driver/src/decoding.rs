@@ -2,7 +2,8 @@
 
 use crate::measure::{best_times, is_same, ratio_cell, speed, speed_cell, without, written, Call};
 use crate::ours::{Calls, Ours};
-use crate::pieces::{measured, PIECE};
+use crate::pieces::PIECE;
+use crate::rounds::measured;
 use crate::theirs;
 use encoding_rs::Encoding;
 

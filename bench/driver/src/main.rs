@@ -25,6 +25,7 @@ mod pieces;
 mod recode;
 mod replacing;
 mod rest;
+mod rounds;
 mod sources;
 mod theirs;
 

@@ -63,9 +63,9 @@ const COUNTED: usize = 100_000;
 
 /// The best time of each call. They are made in turn, there and back, each so many times at the least if it does not take
 /// too long, some of them while the core is at rest, for which each waits as long as there is patience, and each behind a
-/// count of the letters at the source's front, which is none of them. So all begin with the
-/// processor's caches and guesses as other code leaves them; and a call and the check that is a part of it, which stand
-/// beside each other, each begin in turn behind the other and behind other code.
+/// count of the letters at the source's front, which is none of them. So all begin with the processor's caches and guesses
+/// as other code leaves them; and a call and the check that is a part of it, which stand beside each other, each begin in
+/// turn behind the other and behind other code.
 pub fn best_times<R: Unit, W>(calls: &[Option<Call<'_, W>>], src: &[R], dst: &mut [W], times: usize) -> Vec<Option<Duration>> {
     let mut all = vec![Times::default(); calls.len()];
     let front = &src[..src.len().min(COUNTED)];

@@ -5,7 +5,7 @@ use crate::decoding::{self, Codec, Into, ToUtf16, ToUtf8};
 use crate::encoding::{self, fast_encoding, From, FromUtf16, FromUtf8};
 use crate::measure::{best_times, ratio_cell, speed, speed_cell, without, Call};
 use crate::ours::{Calls, Ours};
-use crate::pieces::measured;
+use crate::rounds::measured;
 use encoding_rs::{Encoding, BIG5};
 use std::time::Duration;
 
