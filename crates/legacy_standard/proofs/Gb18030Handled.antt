@@ -1,0 +1,153 @@
+-- The gb18030 decoder.
+use Rattle.std.proofs.Common.{◌≡◌, ℕ, ◌+◌, ◌-◌, ◌*◌, Bool, cond, List, [], ◌∷◌, Option, Some, None, refl, true, false, arith}
+use Rattle.std.specs.Prelude.{option_to_list, ◌==◌, ◌||◌, nat_lt}
+use Rattle.std.specs.Int.{is_in_range}
+use Rattle.std.specs.Char.{is_ascii, is_ascii_digit}
+use Rattle.std.specs.Option.{option_and_then}
+use Rattle.std.proofs.lemmas.Bool.{cond_both}
+use Rattle.std.proofs.lemmas.Bool.Decides.{nat_tests}
+use Rattle.legacy_base.specs.declared.results.DecodeEvent.{DecodeEvent}
+use Rattle.legacy_base.specs.Fronts.{Front, malformed, reads_or}
+use Rattle.legacy_base.specs.Profile.{is_lead}
+use Rattle.legacy_base.specs.Gb18030.{gb18030_scalars, gb18030_range_pointer, gb18030_fourth, gb18030_third, gb18030_second, gb18030_front}
+use Rattle.legacy_base.specs.Grammar.{gb18030, events_of}
+use Rattle.legacy_base.proofs.FrontLaws.{gb18030_front-of}
+use Rattle.legacy_tables.specs.Indexes.{idx, range}
+use Rattle.legacy_standard.specs.Queue.{Item, byte, end_of_queue, Handled, returns, restores, continue, error, return_or_error, code_point_or_error}
+use Rattle.legacy_standard.specs.Gb18030.{Gb18030, gb18030_state, gb18030_initial, gb18030_handler}
+use Rattle.legacy_standard.proofs.LeadHandled.{lead-some}
+use Rattle.legacy_standard.proofs.Turns.{goes_on, gives, error_at, error_at_end}
+use Rattle.legacy_standard.proofs.Fronts.{Reads, whole, one, bad_one, returns_scalars, scalars-of, trailing, lead_alone}
+use Rattle.legacy_standard.proofs.OneResult.{Runs, IsDecodedBy}
+
+digit-some : (b : ℕ) → is_ascii_digit b ≡ true → (b == 0) ≡ false
+digit-some b h = grind (arith, nat_tests)
+
+-- the code point of a lead and a trail that is no digit, as the Standard has it
+pair-code : (index : List ℕ) (n t : ℕ) →
+    option_and_then (idx index) (cond (is_in_range 0x40 0x7E t || is_in_range 0x80 0xFE t) (Some (n + (t - cond (nat_lt t 0x7F) 0x40 0x41))) None)
+    ≡ cond (is_in_range 0x40 0x7E t) (idx index (n + (t - 0x40))) (cond (is_in_range 0x80 0xFE t) (idx index (n + (t - 0x41))) None)
+pair-code index n t = rw pointer (by_tests (is_in_range 0x40 0x7E t) (is_in_range 0x80 0xFE t))
+  where
+    pointer : cond (is_in_range 0x40 0x7E t || is_in_range 0x80 0xFE t) (Some (n + (t - cond (nat_lt t 0x7F) 0x40 0x41))) None
+        ≡ cond (is_in_range 0x40 0x7E t) (Some (n + (t - 0x40))) (cond (is_in_range 0x80 0xFE t) (Some (n + (t - 0x41))) None)
+    pointer = grind (arith, nat_tests)
+
+    by_tests : (s u : Bool) → option_and_then (idx index) (cond s (Some (n + (t - 0x40))) (cond u (Some (n + (t - 0x41))) None))
+        ≡ cond s (idx index (n + (t - 0x40))) (cond u (idx index (n + (t - 0x41))) None)
+    by_tests true u = refl
+    by_tests false true = refl
+    by_tests false false = refl
+
+module _ (index : List ℕ) (ranges : List (ℕ × ℕ)) where
+  abbrev handler : Gb18030 → Item → Handled Gb18030
+  handler = gb18030_handler index ranges
+
+  abbrev Has : List ℕ → Front → Type 0
+  Has = Reads handler gb18030_initial
+
+  -- the steps to what is behind a lead, a digit and a lead
+  leads : (b : ℕ) → is_ascii b ≡ false → (b == 0x80) ≡ false → is_lead b ≡ true → handler gb18030_initial (byte b) ≡ returns continue (gb18030_state b 0 0)
+  unfolding gb18030_handler
+  leads b h k l = rw (h, k, l) refl
+
+  seconds : (b s : ℕ) → is_lead b ≡ true → is_ascii_digit s ≡ true → handler (gb18030_state b 0 0) (byte s) ≡ returns continue (gb18030_state b s 0)
+  unfolding gb18030_handler
+  seconds b s l d = rw (lead-some b l, d) refl
+
+  thirds : (b s t : ℕ) → is_ascii_digit s ≡ true → is_lead t ≡ true → handler (gb18030_state b s 0) (byte t) ≡ returns continue (gb18030_state b s t)
+  unfolding gb18030_handler
+  thirds b s t d l = rw (digit-some s d, l) refl
+
+  no_third : (b s t : ℕ) → is_ascii_digit s ≡ true → is_lead t ≡ false → handler (gb18030_state b s 0) (byte t) ≡ restores (s ∷ t ∷ []) error gb18030_initial
+  unfolding gb18030_handler
+  no_third b s t d l = rw (digit-some s d, l) refl
+
+  no_fourth : (b s t u : ℕ) → is_lead t ≡ true → is_ascii_digit u ≡ false → handler (gb18030_state b s t) (byte u) ≡ restores (s ∷ t ∷ u ∷ []) error gb18030_initial
+  unfolding gb18030_handler
+  no_fourth b s t u l d = rw (lead-some t l, d) refl
+
+  fourths : (b s t u : ℕ) → is_lead t ≡ true → is_ascii_digit u ≡ true →
+      handler (gb18030_state b s t) (byte u) ≡ returns (code_point_or_error (range ranges (gb18030_range_pointer b s t u))) gb18030_initial
+  unfolding gb18030_handler
+  fourths b s t u l d =
+      let pointer : (b - 0x81) * 12600 + (s - 0x30) * 1260 + (t - 0x81) * 10 + (u - 0x30) ≡ gb18030_range_pointer b s t u = omega arith in
+      rw (lead-some t l, d, pointer) refl
+
+  -- the ends
+  end_one : (b : ℕ) → is_lead b ≡ true → handler (gb18030_state b 0 0) end_of_queue ≡ returns error gb18030_initial
+  unfolding gb18030_handler
+  end_one b l = rw (lead-some b l) refl
+
+  end_more : (b s t : ℕ) → is_lead b ≡ true → handler (gb18030_state b s t) end_of_queue ≡ returns error gb18030_initial
+  unfolding gb18030_handler
+  end_more b s t l = rw (lead-some b l) refl
+
+  module _ (b : ℕ) (h : is_ascii b ≡ false) (k : (b == 0x80) ≡ false) (l : is_lead b ≡ true) where
+    -- behind three bytes
+    fourth-reads : (s t : ℕ) (rest : List ℕ) → is_ascii_digit s ≡ true → is_lead t ≡ true → Has (b ∷ s ∷ t ∷ rest) (gb18030_fourth ranges b s t rest)
+    unfolding gb18030_fourth
+    fourth-reads s t [] d m = λ place es after.
+        goes_on handler gb18030_initial (gb18030_state b 0 0) place 0 b (s ∷ t ∷ []) _ (leads b h k l)
+        (goes_on handler (gb18030_state b 0 0) (gb18030_state b s 0) place 1 s (t ∷ []) _ (seconds b s l d)
+        (goes_on handler (gb18030_state b s 0) (gb18030_state b s t) place 2 t [] _ (thirds b s t d m)
+        (error_at_end handler (gb18030_state b s t) gb18030_initial place 3 es (end_more b s t l) after)))
+    fourth-reads s t (u ∷ rest) d m =
+        cond_both (is_ascii_digit u) _ _ (Has (b ∷ s ∷ t ∷ u ∷ rest)) (λ e. by_code (range ranges (gb18030_range_pointer b s t u)) (fourths b s t u m e))
+        (λ e place es after. reach place _ (error_at handler (gb18030_state b s t) gb18030_initial place 3 u (s ∷ t ∷ u ∷ []) rest es (no_fourth b s t u m e) after))
+      where
+        reach : (place : ℕ) (es : List DecodeEvent) → Runs handler (gb18030_state b s t) place 3 (u ∷ rest) es → Runs handler gb18030_initial place 0 (b ∷ s ∷ t ∷ u ∷ rest) es
+        reach place es at =
+            goes_on handler gb18030_initial (gb18030_state b 0 0) place 0 b (s ∷ t ∷ u ∷ rest) es (leads b h k l)
+            (goes_on handler (gb18030_state b 0 0) (gb18030_state b s 0) place 1 s (t ∷ u ∷ rest) es (seconds b s l d)
+            (goes_on handler (gb18030_state b s 0) (gb18030_state b s t) place 2 t (u ∷ rest) es (thirds b s t d m) at))
+
+        by_code : (o : Option ℕ) → handler (gb18030_state b s t) (byte u) ≡ returns (code_point_or_error o) gb18030_initial →
+            Has (b ∷ s ∷ t ∷ u ∷ rest) (reads_or 4 (option_to_list o) (malformed 4))
+        by_code None e = λ place es after. reach place _ (error_at handler (gb18030_state b s t) gb18030_initial place 3 u [] rest es e after)
+        by_code (Some c) e = λ place es after. reach place _ (gives handler (gb18030_state b s t) gb18030_initial place 3 u (c ∷ []) rest es e after)
+
+    -- behind two
+    third-reads : (s : ℕ) (rest : List ℕ) → is_ascii_digit s ≡ true → Has (b ∷ s ∷ rest) (gb18030_third ranges b s rest)
+    unfolding gb18030_third
+    third-reads s [] d = λ place es after.
+        goes_on handler gb18030_initial (gb18030_state b 0 0) place 0 b (s ∷ []) _ (leads b h k l)
+        (goes_on handler (gb18030_state b 0 0) (gb18030_state b s 0) place 1 s [] _ (seconds b s l d)
+        (error_at_end handler (gb18030_state b s 0) gb18030_initial place 2 es (end_more b s 0 l) after))
+    third-reads s (t ∷ rest) d =
+        cond_both (is_lead t) _ _ (Has (b ∷ s ∷ t ∷ rest)) (λ m. fourth-reads s t rest d m)
+        (λ m place es after.
+        goes_on handler gb18030_initial (gb18030_state b 0 0) place 0 b (s ∷ t ∷ rest) _ (leads b h k l)
+        (goes_on handler (gb18030_state b 0 0) (gb18030_state b s 0) place 1 s (t ∷ rest) _ (seconds b s l d)
+        (error_at handler (gb18030_state b s 0) gb18030_initial place 2 t (s ∷ t ∷ []) rest es (no_third b s t d m) after)))
+
+    -- a trail that is no digit
+    pair-does : (t : ℕ) → is_ascii_digit t ≡ false →
+        handler (gb18030_state b 0 0) (byte t) ≡ returns_scalars handler gb18030_initial (gb18030_scalars index b t) t
+    unfolding gb18030_handler
+    pair-does t d = rw (lead-some b l, d, pair-code index ((b - 0x81) * 190) t) (by_tests (is_in_range 0x40 0x7E t) (is_in_range 0x80 0xFE t))
+      where
+        by_tests : (s u : Bool) →
+            return_or_error (cond s (idx index ((b - 0x81) * 190 + (t - 0x40))) (cond u (idx index ((b - 0x81) * 190 + (t - 0x41))) None)) t gb18030_initial
+            ≡ returns_scalars handler gb18030_initial (cond s (option_to_list (idx index ((b - 0x81) * 190 + (t - 0x40)))) (cond u (option_to_list (idx index ((b - 0x81) * 190 + (t - 0x41)))) [])) t
+        by_tests true u = scalars-of handler gb18030_initial (idx index ((b - 0x81) * 190 + (t - 0x40))) t
+        by_tests false true = scalars-of handler gb18030_initial (idx index ((b - 0x81) * 190 + (t - 0x41))) t
+        by_tests false false = refl
+
+    second-reads : (rest : List ℕ) → Has (b ∷ rest) (gb18030_second index ranges b rest)
+    unfolding gb18030_second
+    second-reads [] = lead_alone handler gb18030_initial b (gb18030_state b 0 0) (leads b h k l) (end_one b l)
+    second-reads (t ∷ rest) =
+        cond_both (is_ascii_digit t) _ _ (Has (b ∷ t ∷ rest)) (λ d. third-reads t rest d)
+        (λ d. trailing handler gb18030_initial b (gb18030_state b 0 0) (leads b h k l) t rest (gb18030_scalars index b t) (pair-does t d))
+
+  gb18030-reads : (b : ℕ) (rest : List ℕ) → Has (b ∷ rest) (gb18030_front index ranges b rest)
+  unfolding gb18030_front gb18030_handler
+  gb18030-reads b rest =
+      cond_both (is_ascii b) _ _ (Has (b ∷ rest)) (λ h. one handler gb18030_initial b b rest (rw h refl))
+      (λ h. cond_both (b == 0x80) _ _ (Has (b ∷ rest)) (λ k. one handler gb18030_initial b 0x20AC rest (rw (h, k) refl))
+      (λ k. cond_both (is_lead b) _ _ (Has (b ∷ rest)) (λ l. second-reads b h k l rest) (λ l. bad_one handler gb18030_initial b rest (rw (h, k, l) refl))))
+
+  pub gb18030_handled : IsDecodedBy (gb18030 index ranges) (gb18030_handler index ranges) gb18030_initial
+  unfolding events_of gb18030_handler
+  gb18030_handled bytes all = whole handler gb18030_initial (gb18030_front index ranges) (gb18030_front-of index ranges (λ p. absurd p) (λ p c e q. absurd q)) refl gb18030-reads bytes

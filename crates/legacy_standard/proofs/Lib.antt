@@ -1,0 +1,15 @@
+-- That the handlers give what the grammars say.
+pub mod OneResult
+pub mod Turns
+pub mod Fronts
+pub mod SingleByteHandled
+pub mod LeadHandled
+pub mod EucJpHandled
+pub mod Gb18030Handled
+pub mod ReplacementHandled
+pub mod Utf16Handled
+pub mod Iso2022JpHandled
+pub mod TextTurns
+pub mod RangePointers
+pub mod PlainEncoded
+pub mod Iso2022JpEncoded

@@ -1,0 +1,53 @@
+-- A run over a queue that has finished is the same with more turns.
+use Rattle.std.proofs.Common.{◌≡◌, ℕ, zero, suc, ◌+◌, ◌-◌, ◌≤◌, List, [], ◌∷◌, ◌++◌, length, map, Option, Some, None, refl, arith}
+use Rattle.std.specs.Prelude.{option_map}
+use Rattle.legacy_base.specs.declared.results.DecodeEvent.{DecodeEvent}
+use Rattle.legacy_base.specs.declared.results.DecodeEvent.TheVariants.{Scalar, Bad}
+use Rattle.legacy_standard.specs.Queue.{Item, byte, end_of_queue, Handled, Outcome, continue, finished, error, code_points}
+use Rattle.legacy_standard.specs.Processing.{act_on, process, Processes}
+use Rattle.legacy_base.specs.Grammar.{Grammar, events_of}
+use Rattle.legacy_tables.specs.Unicode.{AreBytes}
+
+-- none, or the same
+abbrev pub Agrees : Option (List DecodeEvent) → Option (List DecodeEvent) → Type 0
+Agrees None x = Unit {0}
+Agrees (Some events) x = x ≡ Some events
+
+agrees-map : (f : List DecodeEvent → List DecodeEvent) (x y : Option (List DecodeEvent)) → Agrees x y → Agrees (option_map f x) (option_map f y)
+agrees-map f None y h = tt
+agrees-map f (Some events) y h = rw h refl
+
+module _ {S : Type 0} (handler : S → Item → Handled S) where
+  agrees-act : (go more : S → ℕ → ℕ → List ℕ → Option (List DecodeEvent)) →
+      ((s : S) (place size : ℕ) (queue : List ℕ) → Agrees (go s place size queue) (more s place size queue)) →
+      (o : Outcome) (s : S) (place size : ℕ) (queue : List ℕ) → Agrees (act_on go o s place size queue) (act_on more o s place size queue)
+  agrees-act go more h continue s place size queue = h s place size queue
+  agrees-act go more h finished s place size queue = refl
+  agrees-act go more h error s place size queue =
+      agrees-map (λ events. Bad place size ∷ events) (go s (place + size) 0 queue) (more s (place + size) 0 queue) (h s (place + size) 0 queue)
+  agrees-act go more h (code_points cs) s place size queue =
+      agrees-map (λ events. map Scalar cs ++ events) (go s (place + size) 0 queue) (more s (place + size) 0 queue) (h s (place + size) 0 queue)
+
+  agrees : (m n : ℕ) → m ≤ n → (s : S) (place size : ℕ) (queue : List ℕ) → Agrees (process handler m s place size queue) (process handler n s place size queue)
+  unfolding process
+  agrees zero n h s place size queue = tt
+  agrees (suc m) zero h s place size queue = absurd (omega arith)
+  agrees (suc m) (suc n) h s place size [] =
+      let a = handler s end_of_queue in
+      agrees-act (process handler m) (process handler n) (agrees m n (omega arith)) (a.outcome) (a.state) place (size - length a.restored) (a.restored)
+  agrees (suc m) (suc n) h s place size (b ∷ rest) =
+      let a = handler s (byte b) in
+      agrees-act (process handler m) (process handler n) (agrees m n (omega arith)) (a.outcome) (a.state) place (size + 1 - length a.restored) (a.restored ++ rest)
+
+  -- within so many turns these events come
+  abbrev pub Runs : S → ℕ → ℕ → List ℕ → List DecodeEvent → Type 0
+  Runs s place size queue events = (turns : ℕ) × (process handler turns s place size queue ≡ Some events)
+
+  -- and then with more turns too
+  pub steady : (s : S) (place size : ℕ) (queue : List ℕ) (events : List DecodeEvent) → Runs s place size queue events → Processes handler s place size queue events
+  steady s place size queue events (n, h) =
+      (n, λ more. let same : Agrees (process handler n s place size queue) (process handler (n + more) s place size queue) = agrees n (n + more) (omega arith) s place size queue in rw h at same)
+
+-- the handler gives the events of the grammar, over every list of bytes
+abbrev pub IsDecodedBy : {State : Type 0} → Grammar → (State → Item → Handled State) → State → Type 0
+IsDecodedBy grammar handler initial = (bytes : List ℕ) → AreBytes bytes → Processes handler initial 0 0 bytes (events_of grammar bytes)

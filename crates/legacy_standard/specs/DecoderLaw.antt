@@ -1,0 +1,66 @@
+-- The handlers of the decoders give what the grammars say.
+use Rattle.std.specs.Prelude.{ℕ, List, Bool, false}
+use Rattle.legacy_base.specs.declared.results.DecodeEvent.{DecodeEvent}
+use Rattle.legacy_base.specs.Grammar as grammars
+use Rattle.legacy_base.specs.Grammar.{Grammar, events_of}
+use Rattle.legacy_base.specs.EucKr as korean
+use Rattle.legacy_base.specs.Iso2022Jp.{ascii}
+use Rattle.legacy_tables.specs.Unicode.{AreBytes}
+use Rattle.legacy_standard.specs.Processing.{Processes}
+use Rattle.legacy_standard.specs.SingleByte.{single_byte_handler}
+use Rattle.legacy_standard.specs.UserDefined.{user_defined_handler}
+use Rattle.legacy_standard.specs.Replacement.{replacement_handler}
+use Rattle.legacy_standard.specs.EucKr.{euc_kr_handler}
+use Rattle.legacy_standard.specs.Big5.{big5_handler}
+use Rattle.legacy_standard.specs.ShiftJis.{shift_jis_handler}
+use Rattle.legacy_standard.specs.EucJp.{euc_jp_handler, euc_jp_initial}
+use Rattle.legacy_standard.specs.Gb18030.{gb18030_handler, gb18030_initial}
+use Rattle.legacy_standard.specs.Utf16.{utf16_handler, utf16_initial}
+use Rattle.legacy_standard.specs.Iso2022Jp.{iso_2022_jp_handler, iso_2022_jp_initial}
+use Rattle.legacy_standard.specs.Iso2022JpPlaces.{lateness, AreLate}
+
+-- the decoders of the Standard, with the indexes that they read by; that of gb18030 is GBK's too
+pub data Decoder : Type 0 where
+  single_byte : (table : List ℕ) → Decoder
+  user_defined : Decoder
+  replacement : Decoder
+  utf16 : (is_utf16be : Bool) → Decoder
+  euc_kr : (index : List ℕ) → Decoder
+  big5 : (index : List ℕ) → Decoder
+  shift_jis : (jis0208 : List ℕ) → Decoder
+  euc_jp : (jis0208 jis0212 : List ℕ) → Decoder
+  gb18030 : (index : List ℕ) (ranges : List (ℕ × ℕ)) → Decoder
+  iso_2022_jp : (jis0208 : List ℕ) → Decoder
+
+-- the grammar of each
+abbrev pub grammar_of : Decoder → Grammar
+grammar_of (single_byte table) = grammars.single_byte table
+grammar_of user_defined = grammars.user_defined
+grammar_of replacement = grammars.replacement false
+grammar_of (utf16 is_utf16be) = grammars.utf16 is_utf16be
+grammar_of (euc_kr index) = korean.euc_kr index
+grammar_of (big5 index) = grammars.big5 index
+grammar_of (shift_jis jis0208) = grammars.shift_jis jis0208
+grammar_of (euc_jp jis0208 jis0212) = grammars.euc_jp jis0208 jis0212
+grammar_of (gb18030 index ranges) = grammars.gb18030 index ranges
+grammar_of (iso_2022_jp jis0208) = grammars.iso_2022_jp jis0208 ascii
+
+-- The handler finishes over these bytes, and its code points and errors are these events: with the place and length of each
+-- error, and in ISO-2022-JP with errors that end as late as `lateness` says.
+abbrev pub IsDecodedAs : Decoder → List ℕ → List DecodeEvent → Type 0
+IsDecodedAs (single_byte table) bytes events = Processes (single_byte_handler table) tt 0 0 bytes events
+IsDecodedAs user_defined bytes events = Processes user_defined_handler tt 0 0 bytes events
+IsDecodedAs replacement bytes events = Processes replacement_handler false 0 0 bytes events
+IsDecodedAs (utf16 is_utf16be) bytes events = Processes (utf16_handler is_utf16be) utf16_initial 0 0 bytes events
+IsDecodedAs (euc_kr index) bytes events = Processes (euc_kr_handler index) 0x00 0 0 bytes events
+IsDecodedAs (big5 index) bytes events = Processes (big5_handler index) 0x00 0 0 bytes events
+IsDecodedAs (shift_jis jis0208) bytes events = Processes (shift_jis_handler jis0208) 0x00 0 0 bytes events
+IsDecodedAs (euc_jp jis0208 jis0212) bytes events = Processes (euc_jp_handler jis0208 jis0212) euc_jp_initial 0 0 bytes events
+IsDecodedAs (gb18030 index ranges) bytes events = Processes (gb18030_handler index ranges) gb18030_initial 0 0 bytes events
+IsDecodedAs (iso_2022_jp jis0208) bytes events =
+    (handled : List DecodeEvent) × Processes (iso_2022_jp_handler jis0208) iso_2022_jp_initial 0 0 bytes handled
+    × AreLate (lateness bytes) handled events
+
+-- so it is with the events of each grammar, over every list of bytes and any indexes, accepted or not
+abbrev pub AreDecodedByHandlers : Type 0
+AreDecodedByHandlers = (decoder : Decoder) (bytes : List ℕ) → AreBytes bytes → IsDecodedAs decoder bytes (events_of (grammar_of decoder) bytes)

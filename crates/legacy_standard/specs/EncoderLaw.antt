@@ -1,0 +1,80 @@
+-- The handlers of the encoders give what the definitions of encoding say.
+use Rattle.std.specs.Prelude.{◌≡◌, ℕ, ◌-◌, ◌==◌, ◌||◌, List, Some, None, Bool, true, false, not, is_some, ⊤}
+use Rattle.std.specs.Int.{is_in_range}
+use Rattle.std.specs.Char.{is_ascii, IsScalar}
+use Rattle.legacy_base.specs.declared.results.EncodeEvent.{EncodeEvent}
+use Rattle.legacy_tables.specs.Indexes.{idx, gb18030_pua_of}
+use Rattle.legacy_tables.specs.Unicode.{AreScalars}
+use Rattle.legacy_tables.specs.Pointers.{shift_jis_pointer_of, euc_jp_pointer_of, gb18030_pointer_of, range_pointer_of}
+use Rattle.legacy_tables.specs.TableChecks.{range_order_fault, range_value_fault}
+use Rattle.legacy_base.specs.Encoders.{Codec, single_byte, user_defined, big5, euc_kr, shift_jis, euc_jp, gb18030, gbk, iso_2022_jp, new_encoder, encoded}
+use Rattle.legacy_standard.specs.TextQueue.{by_scalar, Encodes}
+use Rattle.legacy_standard.specs.IndexPointers.{index_pointer}
+use Rattle.legacy_standard.specs.SingleByteEncoder.{single_byte_encodes}
+use Rattle.legacy_standard.specs.UserDefinedEncoder.{user_defined_encodes}
+use Rattle.legacy_standard.specs.EucKrEncoder.{euc_kr_encodes}
+use Rattle.legacy_standard.specs.Big5Encoder.{big5_encodes}
+use Rattle.legacy_standard.specs.ShiftJisEncoder.{shift_jis_encodes}
+use Rattle.legacy_standard.specs.EucJpEncoder.{euc_jp_encodes}
+use Rattle.legacy_standard.specs.Gb18030Encoder.{gb18030_encodes}
+use Rattle.legacy_standard.specs.Iso2022JpEncoder.{ascii, iso_2022_jp_encodes}
+
+-- the handler finishes over this text, and its bytes and errors are these events
+abbrev pub IsEncodedAs : Codec → List ℕ → List EncodeEvent → Type 0
+IsEncodedAs (single_byte table) text events = Encodes (by_scalar (single_byte_encodes table)) tt text events
+IsEncodedAs user_defined text events = Encodes (by_scalar user_defined_encodes) tt text events
+IsEncodedAs (big5 index) text events = Encodes (by_scalar (big5_encodes index)) tt text events
+IsEncodedAs (euc_kr index) text events = Encodes (by_scalar (euc_kr_encodes index)) tt text events
+IsEncodedAs (shift_jis jis0208) text events = Encodes (by_scalar (shift_jis_encodes jis0208)) tt text events
+IsEncodedAs (euc_jp jis0208 jis0212) text events = Encodes (by_scalar (euc_jp_encodes jis0208)) tt text events
+IsEncodedAs (gb18030 index ranges pua) text events = Encodes (by_scalar (gb18030_encodes false index ranges pua)) tt text events
+IsEncodedAs (gbk index ranges pua) text events = Encodes (by_scalar (gb18030_encodes true index ranges pua)) tt text events
+IsEncodedAs (iso_2022_jp jis0208 katakana_index) text events = Encodes (iso_2022_jp_encodes jis0208 katakana_index) ascii text events
+
+-- ---- what the Standard's own indexes have, and a table need not have
+
+-- a scalar with a pointer in index jis0208 has its first one in the 94 rows of 94, and U+FF0D has one
+pub record HasRows (jis0208 : List ℕ) : Type 0 where
+  pub first : (c : ℕ) → index_pointer jis0208 c ≡ euc_jp_pointer_of jis0208 c
+  pub hyphen : is_some (euc_jp_pointer_of jis0208 0xFF0D) ≡ true
+
+-- the ISO-2022-JP encoder looks up the scalar itself
+abbrev pub is_looked_up : ℕ → Bool
+is_looked_up c = not ((is_ascii c || is_in_range 0xFF61 0xFF9F c) || ((c == 0xA5 || c == 0x203E) || c == 0x2212))
+
+-- a half-width katakana has an entry in index ISO-2022-JP katakana, which is looked up itself and has a pointer
+pub record IsFold (jis0208 katakana_index : List ℕ) (c : ℕ) : Type 0 where
+  pub entry : ℕ
+  pub entry_is : idx katakana_index (c - 0xFF61) ≡ Some entry
+  pub looked_up : is_looked_up entry ≡ true
+  pub has_pointer : is_some (euc_jp_pointer_of jis0208 entry) ≡ true
+
+-- each half-width katakana has
+abbrev pub HasFolds : List ℕ → List ℕ → Type 0
+HasFolds jis0208 katakana_index = (c : ℕ) → is_in_range 0xFF61 0xFF9F c ≡ true → IsFold jis0208 katakana_index c
+
+-- the ranges passed the checks of tables
+pub record AreAcceptedRanges (ranges : List (ℕ × ℕ)) : Type 0 where
+  pub ordered : range_order_fault 0 None ranges ≡ None
+  pub valued : range_value_fault 0 ranges ≡ None
+
+-- each scalar without other bytes has a pointer of four bytes
+abbrev pub HasRangePointers : List ℕ → List (ℕ × ℕ) → List (ℕ × ℕ × ℕ) → Type 0
+HasRangePointers index ranges pua = (c : ℕ) → IsScalar c → is_ascii c ≡ false → (c == 0xE5E5) ≡ false →
+    gb18030_pua_of pua c ≡ None → gb18030_pointer_of index c ≡ None → is_some (range_pointer_of ranges c) ≡ true
+
+-- what a codec's lists need to have
+abbrev pub HasPointers : Codec → Type 0
+HasPointers (shift_jis jis0208) = is_some (shift_jis_pointer_of jis0208 0xFF0D) ≡ true
+HasPointers (euc_jp jis0208 jis0212) = HasRows jis0208
+HasPointers (gb18030 index ranges pua) = AreAcceptedRanges ranges × HasRangePointers index ranges pua
+HasPointers (iso_2022_jp jis0208 katakana_index) = HasRows jis0208 × HasFolds jis0208 katakana_index
+HasPointers _ = ⊤
+
+-- ---- the law
+
+-- what a new encoder gives of a text to its end is what the handler gives
+abbrev pub AreEncodedByHandlers : Type 0
+AreEncodedByHandlers =
+    (codec : Codec) → HasPointers codec →
+    (text : List ℕ) → AreScalars text → IsEncodedAs codec text (encoded (new_encoder codec) text true)

@@ -1,0 +1,23 @@
+-- The Standard's "EUC-JP encoder".
+use Rattle.std.specs.Prelude.{ℕ, ◌+◌, ◌-◌, ◌/◌, ◌%◌, ◌==◌, List, [], ◌∷◌, Option, Some, None, if◌then◌else◌}
+use Rattle.std.specs.Int.{is_in_range}
+use Rattle.std.specs.Char.{is_ascii}
+use Rattle.legacy_standard.specs.TextQueue.{TextOutcome, bytes, error_with}
+use Rattle.legacy_standard.specs.IndexPointers.{index_pointer}
+use Rattle.legacy_standard.specs.ShiftJisEncoder.{minus_set}
+
+-- with its index pointer
+abbrev pub euc_jp_at : Option ℕ → ℕ → TextOutcome
+euc_jp_at None c = error_with c
+euc_jp_at (Some pointer) c =
+    let leading : ℕ = pointer / 94 + 0xA1 in
+    let trailing : ℕ = pointer % 94 + 0xA1 in
+    bytes (leading ∷ trailing ∷ [])
+
+unfoldable pub euc_jp_encodes : List ℕ → ℕ → TextOutcome
+euc_jp_encodes jis0208 c =
+    if is_ascii c then bytes (c ∷ [])
+    else if c == 0xA5 then bytes (0x5C ∷ [])
+    else if c == 0x203E then bytes (0x7E ∷ [])
+    else if is_in_range 0xFF61 0xFF9F c then bytes (0x8E ∷ (c - 0xFF61 + 0xA1) ∷ [])
+    else euc_jp_at (index_pointer jis0208 (minus_set c)) (minus_set c)

@@ -1,0 +1,39 @@
+-- The Standard's "gb18030 encoder", and by is GBK "GBK encoder".
+use Rattle.std.specs.Prelude.{ℕ, ◌+◌, ◌*◌, ◌/◌, ◌%◌, ◌==◌, ◌&&◌, nat_lt, Bool, List, [], ◌∷◌, Option, Some, None, if◌then◌else◌}
+use Rattle.std.specs.Char.{is_ascii}
+use Rattle.legacy_tables.specs.Indexes.{gb18030_pua_of}
+use Rattle.legacy_standard.specs.TextQueue.{TextOutcome, bytes, error_with}
+use Rattle.legacy_standard.specs.IndexPointers.{index_pointer, ranges_pointer}
+
+-- with its index gb18030 ranges pointer
+abbrev pub gb18030_range_at : Option ℕ → ℕ → TextOutcome
+gb18030_range_at None c = error_with c
+gb18030_range_at (Some pointer) c =
+    let byte1 : ℕ = pointer / (10 * 126 * 10) in
+    let pointer2 : ℕ = pointer % (10 * 126 * 10) in
+    let byte2 : ℕ = pointer2 / (10 * 126) in
+    let pointer3 : ℕ = pointer2 % (10 * 126) in
+    let byte3 : ℕ = pointer3 / 10 in
+    let byte4 : ℕ = pointer3 % 10 in
+    bytes ((byte1 + 0x81) ∷ (byte2 + 0x30) ∷ (byte3 + 0x81) ∷ (byte4 + 0x30) ∷ [])
+
+-- with its index pointer
+abbrev pub gb18030_at : Bool → List (ℕ × ℕ) → Option ℕ → ℕ → TextOutcome
+gb18030_at is_gbk ranges (Some pointer) c =
+    let leading : ℕ = pointer / 190 + 0x81 in
+    let trailing : ℕ = pointer % 190 in
+    let offset : ℕ = if nat_lt trailing 0x3F then 0x40 else 0x41 in
+    bytes (leading ∷ (trailing + offset) ∷ [])
+gb18030_at is_gbk ranges None c = if is_gbk then error_with c else gb18030_range_at (ranges_pointer ranges c) c
+
+-- with its row in the table of private-use scalars
+abbrev pub gb18030_row : Bool → List ℕ → List (ℕ × ℕ) → Option (ℕ × ℕ) → ℕ → TextOutcome
+gb18030_row is_gbk index ranges (Some row) c = bytes (row.0 ∷ row.1 ∷ [])
+gb18030_row is_gbk index ranges None c = gb18030_at is_gbk ranges (index_pointer index c) c
+
+unfoldable pub gb18030_encodes : (is_gbk : Bool) → List ℕ → List (ℕ × ℕ) → List (ℕ × ℕ × ℕ) → ℕ → TextOutcome
+gb18030_encodes is_gbk index ranges pua c =
+    if is_ascii c then bytes (c ∷ [])
+    else if c == 0xE5E5 then error_with c
+    else if is_gbk && c == 0x20AC then bytes (0x80 ∷ [])
+    else gb18030_row is_gbk index ranges (gb18030_pua_of pua c) c

@@ -1,0 +1,21 @@
+-- The Standard's "index pointer" and "index gb18030 ranges pointer". `Pointers` of `legacy_tables` has "index Big5 pointer" and
+-- "index Shift_JIS pointer".
+use Rattle.std.specs.Prelude.{ℕ, ◌+◌, ◌-◌, ◌==◌, nat_le, List, [], ◌∷◌, Option, Some, None, if◌then◌else◌}
+use Rattle.std.specs.Option.{option_or}
+use Rattle.legacy_tables.specs.Pointers.{first_pointer, every_pointer}
+
+-- "index pointer": the first pointer of a code point in an index
+abbrev pub index_pointer : List ℕ → ℕ → Option ℕ
+index_pointer index c = first_pointer every_pointer index c
+
+-- by the last of the ranges whose code point is less than or equal to c
+abbrev pub offset_pointer : List (ℕ × ℕ) → ℕ → Option ℕ
+offset_pointer [] c = None
+offset_pointer (r ∷ ranges) c = option_or (offset_pointer ranges c) (if nat_le r.1 c then Some (r.0 + (c - r.1)) else None)
+
+-- "index gb18030 ranges pointer". The last range of the Standard's index, 189000 and U+10000, is in no list of ranges.
+unfoldable pub ranges_pointer : List (ℕ × ℕ) → ℕ → Option ℕ
+ranges_pointer ranges c =
+    if c == 0xE7C7 then Some 7457
+    else if nat_le 0x1_0000 c then Some (189000 + (c - 0x1_0000))
+    else offset_pointer ranges c

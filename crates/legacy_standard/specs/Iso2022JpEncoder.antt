@@ -1,0 +1,69 @@
+-- The Standard's "ISO-2022-JP encoder". Its state is the ISO-2022-JP encoder state, initially ASCII.
+use Rattle.std.specs.Prelude.{ℕ, ◌+◌, ◌-◌, ◌/◌, ◌%◌, ◌==◌, ◌||◌, ◌&&◌, not, Bool, true, false, List, [], ◌∷◌, Option, Some, None, if◌then◌else◌}
+use Rattle.std.specs.Int.{is_in_range}
+use Rattle.std.specs.Char.{is_ascii}
+use Rattle.legacy_tables.specs.Indexes.{idx}
+use Rattle.legacy_standard.specs.TextQueue.{TextItem, scalar, end_of_queue, TextOutcome, TextHandled, finished, bytes, error_with, returns, restores}
+use Rattle.legacy_standard.specs.IndexPointers.{index_pointer}
+
+pub data EncoderState : Type 0 where
+  ascii roman jis0208 : EncoderState
+
+abbrev pub is_ascii_state : EncoderState → Bool
+is_ascii_state ascii = true
+is_ascii_state _ = false
+
+abbrev pub is_roman_state : EncoderState → Bool
+is_roman_state roman = true
+is_roman_state _ = false
+
+abbrev pub is_jis0208_state : EncoderState → Bool
+is_jis0208_state jis0208 = true
+is_jis0208_state _ = false
+
+-- the bytes of the escapes
+abbrev pub to_ascii : TextOutcome
+to_ascii = bytes (0x1B ∷ 0x28 ∷ 0x42 ∷ [])
+
+abbrev pub to_roman : TextOutcome
+to_roman = bytes (0x1B ∷ 0x28 ∷ 0x4A ∷ [])
+
+abbrev pub to_jis0208 : TextOutcome
+to_jis0208 = bytes (0x1B ∷ 0x24 ∷ 0x42 ∷ [])
+
+-- the byte in Roman
+abbrev pub roman_byte : ℕ → ℕ
+roman_byte c = if is_ascii c then c else if c == 0xA5 then 0x5C else 0x7E
+
+-- what a code point is set to before the index pointer
+abbrev pub set_scalar : List ℕ → ℕ → Option ℕ
+set_scalar katakana_index c =
+    if c == 0x2212 then Some 0xFF0D
+    else if is_in_range 0xFF61 0xFF9F c then idx katakana_index (c - 0xFF61)
+    else Some c
+
+-- with its index pointer
+abbrev pub at_pointer : EncoderState → Option ℕ → ℕ → TextHandled EncoderState
+at_pointer state None c =
+    if is_jis0208_state state then restores c to_ascii ascii
+    else returns (error_with c) state
+at_pointer state (Some pointer) c =
+    if not (is_jis0208_state state) then restores c to_jis0208 jis0208
+    else returns (bytes ((pointer / 94 + 0x21) ∷ (pointer % 94 + 0x21) ∷ [])) state
+
+-- with what it is set to; with nothing, the index being too short, it is taken as it was
+abbrev pub at_set : List ℕ → EncoderState → Option ℕ → ℕ → TextHandled EncoderState
+at_set index state None c = at_pointer state None c
+at_set index state (Some set) c = at_pointer state (index_pointer index set) set
+
+unfoldable pub iso_2022_jp_encodes : List ℕ → List ℕ → EncoderState → TextItem → TextHandled EncoderState
+iso_2022_jp_encodes index katakana_index state end_of_queue =
+    if not (is_ascii_state state) then returns to_ascii ascii else returns finished state
+iso_2022_jp_encodes index katakana_index state (scalar c) =
+    if (is_ascii_state state || is_roman_state state) && ((c == 0x0E || c == 0x0F) || c == 0x1B) then returns (error_with 0xFFFD) state
+    else if is_ascii_state state && is_ascii c then returns (bytes (c ∷ [])) state
+    else if is_roman_state state && ((is_ascii c && not (c == 0x5C || c == 0x7E)) || (c == 0xA5 || c == 0x203E))
+    then returns (bytes (roman_byte c ∷ [])) state
+    else if is_ascii c && not (is_ascii_state state) then restores c to_ascii ascii
+    else if (c == 0xA5 || c == 0x203E) && not (is_roman_state state) then restores c to_roman roman
+    else at_set index state (set_scalar katakana_index c) c

@@ -1,0 +1,28 @@
+-- The Standard's "Shift_JIS encoder".
+use Rattle.std.specs.Prelude.{ℕ, ◌+◌, ◌-◌, ◌/◌, ◌%◌, ◌==◌, ◌||◌, nat_lt, List, [], ◌∷◌, Option, Some, None, if◌then◌else◌}
+use Rattle.std.specs.Int.{is_in_range}
+use Rattle.std.specs.Char.{is_ascii}
+use Rattle.legacy_tables.specs.Pointers.{shift_jis_pointer_of}
+use Rattle.legacy_standard.specs.TextQueue.{TextOutcome, bytes, error_with}
+
+-- "if code point is U+2212, then set it to U+FF0D"
+abbrev pub minus_set : ℕ → ℕ
+minus_set c = if c == 0x2212 then 0xFF0D else c
+
+-- with its index Shift_JIS pointer
+abbrev pub shift_jis_at : Option ℕ → ℕ → TextOutcome
+shift_jis_at None c = error_with c
+shift_jis_at (Some pointer) c =
+    let leading : ℕ = pointer / 188 in
+    let leading_offset : ℕ = if nat_lt leading 0x1F then 0x81 else 0xC1 in
+    let trailing : ℕ = pointer % 188 in
+    let offset : ℕ = if nat_lt trailing 0x3F then 0x40 else 0x41 in
+    bytes ((leading + leading_offset) ∷ (trailing + offset) ∷ [])
+
+unfoldable pub shift_jis_encodes : List ℕ → ℕ → TextOutcome
+shift_jis_encodes jis0208 c =
+    if is_ascii c || c == 0x80 then bytes (c ∷ [])
+    else if c == 0xA5 then bytes (0x5C ∷ [])
+    else if c == 0x203E then bytes (0x7E ∷ [])
+    else if is_in_range 0xFF61 0xFF9F c then bytes ((c - 0xFF61 + 0xA1) ∷ [])
+    else shift_jis_at (shift_jis_pointer_of jis0208 (minus_set c)) (minus_set c)
