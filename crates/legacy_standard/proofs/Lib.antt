@@ -13,3 +13,4 @@ pub mod TextTurns
 pub mod RangePointers
 pub mod PlainEncoded
 pub mod Iso2022JpEncoded
+pub mod AllCodecs

@@ -53,28 +53,33 @@ pub record IsFold (jis0208 katakana_index : List ℕ) (c : ℕ) : Type 0 where
 abbrev pub HasFolds : List ℕ → List ℕ → Type 0
 HasFolds jis0208 katakana_index = (c : ℕ) → is_in_range 0xFF61 0xFF9F c ≡ true → IsFold jis0208 katakana_index c
 
--- the ranges passed the checks of tables
-pub record AreAcceptedRanges (ranges : List (ℕ × ℕ)) : Type 0 where
-  pub ordered : range_order_fault 0 None ranges ≡ None
-  pub valued : range_value_fault 0 ranges ≡ None
-
 -- each scalar without other bytes has a pointer of four bytes
 abbrev pub HasRangePointers : List ℕ → List (ℕ × ℕ) → List (ℕ × ℕ × ℕ) → Type 0
 HasRangePointers index ranges pua = (c : ℕ) → IsScalar c → is_ascii c ≡ false → (c == 0xE5E5) ≡ false →
     gb18030_pua_of pua c ≡ None → gb18030_pointer_of index c ≡ None → is_some (range_pointer_of ranges c) ≡ true
 
--- what a codec's lists need to have
+-- the pointers that a codec's lists need to have
 abbrev pub HasPointers : Codec → Type 0
 HasPointers (shift_jis jis0208) = is_some (shift_jis_pointer_of jis0208 0xFF0D) ≡ true
 HasPointers (euc_jp jis0208 jis0212) = HasRows jis0208
-HasPointers (gb18030 index ranges pua) = AreAcceptedRanges ranges × HasRangePointers index ranges pua
+HasPointers (gb18030 index ranges pua) = HasRangePointers index ranges pua
 HasPointers (iso_2022_jp jis0208 katakana_index) = HasRows jis0208 × HasFolds jis0208 katakana_index
 HasPointers _ = ⊤
 
 -- ---- the law
 
--- what a new encoder gives of a text to its end is what the handler gives
+-- the ranges passed the checks of tables
+pub record AreAcceptedRanges (ranges : List (ℕ × ℕ)) : Type 0 where
+  pub ordered : range_order_fault 0 None ranges ≡ None
+  pub valued : range_value_fault 0 ranges ≡ None
+
+-- so it is with those of a codec, if it has some
+abbrev pub HasAcceptedRanges : Codec → Type 0
+HasAcceptedRanges (gb18030 index ranges pua) = AreAcceptedRanges ranges
+HasAcceptedRanges _ = ⊤
+
+-- the handler gives what a new encoder gives of a text to its end
 abbrev pub AreEncodedByHandlers : Type 0
 AreEncodedByHandlers =
-    (codec : Codec) → HasPointers codec →
+    (codec : Codec) → HasAcceptedRanges codec → HasPointers codec →
     (text : List ℕ) → AreScalars text → IsEncodedAs codec text (encoded (new_encoder codec) text true)

@@ -5,7 +5,8 @@ use Rattle.std.specs.Int.{is_in_range}
 use Rattle.std.specs.Char.{is_ascii}
 use Rattle.std.specs.Option.{option_and_then}
 use Rattle.legacy_tables.specs.Indexes.{idx, range}
-use Rattle.legacy_standard.specs.Queue.{Item, byte, end_of_queue, Handled, continue, finished, error, code_point, returns, restores, return_or_error, code_point_or_error}
+use Rattle.legacy_standard.specs.Queue.{Item, byte, end_of_queue, Handled, continue, finished, error, code_point}
+use Rattle.legacy_standard.specs.Queue.{returns, restores, return_or_error, code_point_or_error}
 
 pub record Gb18030 : Type 0 where
   pub first : ℕ

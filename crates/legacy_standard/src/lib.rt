@@ -19,7 +19,7 @@ pub fn decoders_are_the_standards()
 ///
 /// Over every text of scalar values the handler of each encoder finishes, and its bytes and errors are the events of a new
 /// encoder that writes the text to its end. In Shift_JIS, EUC-JP, ISO-2022-JP and gb18030 the indexes need the pointers that
-/// the Standard's own have (`HasPointers`).
+/// the Standard's own have (`HasPointers`), and in gb18030 ranges that passed the checks of tables.
 pub fn encoders_are_the_standards()
     ensures { AreEncodedByHandlers }
 {}
