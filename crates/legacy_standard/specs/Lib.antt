@@ -24,3 +24,5 @@ pub mod EucJpEncoder
 pub mod Gb18030Encoder
 pub mod Iso2022JpEncoder
 pub mod EncoderLaw
+pub mod WorkedBytes
+pub mod WorkedTexts

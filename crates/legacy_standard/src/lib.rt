@@ -4,6 +4,8 @@
 
 ghost use Rattle.legacy_standard.specs.DecoderLaw.{AreDecodedByHandlers};
 ghost use Rattle.legacy_standard.specs.EncoderLaw.{AreEncodedByHandlers};
+ghost use Rattle.legacy_standard.specs.WorkedBytes.{ComputeWorkedBytes};
+ghost use Rattle.legacy_standard.specs.WorkedTexts.{ComputeWorkedTexts, PartWithoutPointers};
 
 /// Shows that the grammars of the decoders are the handlers of the Standard.
 ///
@@ -22,4 +24,13 @@ pub fn decoders_are_the_standards()
 /// the Standard's own have (`HasPointers`), and in gb18030 ranges that passed the checks of tables.
 pub fn encoders_are_the_standards()
     ensures { AreEncodedByHandlers }
+{}
+
+/// Shows what the handlers compute from worked rows, and the smallest indexes with which an encoder is not the Standard's.
+///
+/// `docs/DIFFERENCES.md` says what such an index lacks.
+pub fn worked_rows()
+    ensures bytes { ComputeWorkedBytes }
+    ensures texts { ComputeWorkedTexts }
+    ensures without_pointers { PartWithoutPointers }
 {}
