@@ -13,6 +13,7 @@ use Rattle.legacy_standard.specs.ShiftJisEncoder.{shift_jis_encodes}
 use Rattle.legacy_standard.specs.EucJpEncoder.{euc_jp_encodes}
 use Rattle.legacy_standard.specs.Gb18030Encoder.{gb18030_encodes}
 use Rattle.legacy_standard.specs.Iso2022JpEncoder.{ascii, iso_2022_jp_encodes}
+use Rattle.legacy_standard.specs.EncoderLaw.{HasPointers}
 
 -- within 20 turns the handler gives each row's events of its text
 abbrev pub Computes : {State : Type 0} → (State → TextItem → TextHandled State) → State → List (List ℕ × List EncodeEvent) → Type 0
@@ -29,28 +30,28 @@ entry_at pointer c = replicate pointer 0 ++ c ∷ []
 
 pub record ComputeWorkedTexts : Type 0 where
   pub single_byte : Computes (by_scalar (single_byte_encodes (entry_at 65 0x391))) tt (
-    (0x391 ∷ 0x1_F4A9 ∷ 0x41 ∷ [], Byte 0xC1 ∷ Unmappable 0x1_F4A9 ∷ Byte 0x41 ∷ []) ∷ [])
+      (0x391 ∷ 0x1_F4A9 ∷ 0x41 ∷ [], Byte 0xC1 ∷ Unmappable 0x1_F4A9 ∷ Byte 0x41 ∷ []) ∷ [])
   pub user_defined : Computes (by_scalar user_defined_encodes) tt (
-    (0x61 ∷ 0xF780 ∷ 0xF7FF ∷ 0x80 ∷ [], Byte 0x61 ∷ Byte 0x80 ∷ Byte 0xFF ∷ Unmappable 0x80 ∷ []) ∷ [])
+      (0x61 ∷ 0xF780 ∷ 0xF7FF ∷ 0x80 ∷ [], Byte 0x61 ∷ Byte 0x80 ∷ Byte 0xFF ∷ Unmappable 0x80 ∷ []) ∷ [])
   pub euc_kr : Computes (by_scalar (euc_kr_encodes (entry_at 190 0xAC02))) tt (
-    (0xAC02 ∷ 0xAC00 ∷ [], Byte 0x82 ∷ Byte 0x41 ∷ Unmappable 0xAC00 ∷ []) ∷ [])
+      (0xAC02 ∷ 0xAC00 ∷ [], Byte 0x82 ∷ Byte 0x41 ∷ Unmappable 0xAC00 ∷ []) ∷ [])
   pub big5 : Computes (by_scalar (big5_encodes (0x4E00 ∷ []))) tt (
-    (0x7F ∷ 0x4E00 ∷ [], Byte 0x7F ∷ Unmappable 0x4E00 ∷ []) ∷ [])
+      (0x7F ∷ 0x4E00 ∷ [], Byte 0x7F ∷ Unmappable 0x4E00 ∷ []) ∷ [])
   pub shift_jis : Computes (by_scalar (shift_jis_encodes (entry_at 60 0xFF0D))) tt (
-    (0x80 ∷ 0xA5 ∷ 0x203E ∷ 0xFF9F ∷ 0x2212 ∷ 0xFF0D ∷ [], Byte 0x80 ∷ Byte 0x5C ∷ Byte 0x7E ∷ Byte 0xDF ∷ Byte 0x81 ∷ Byte 0x7C ∷ Byte 0x81 ∷ Byte 0x7C ∷ []) ∷ [])
+      (0x80 ∷ 0xA5 ∷ 0x203E ∷ 0xFF9F ∷ 0x2212 ∷ 0xFF0D ∷ [], Byte 0x80 ∷ Byte 0x5C ∷ Byte 0x7E ∷ Byte 0xDF ∷ Byte 0x81 ∷ Byte 0x7C ∷ Byte 0x81 ∷ Byte 0x7C ∷ []) ∷ [])
   pub euc_jp : Computes (by_scalar (euc_jp_encodes (entry_at 60 0xFF0D))) tt (
-    (0xA5 ∷ 0x203E ∷ 0xFF61 ∷ 0x2212 ∷ 0x80 ∷ [], Byte 0x5C ∷ Byte 0x7E ∷ Byte 0x8E ∷ Byte 0xA1 ∷ Byte 0xA1 ∷ Byte 0xDD ∷ Unmappable 0x80 ∷ []) ∷ [])
+      (0xA5 ∷ 0x203E ∷ 0xFF61 ∷ 0x2212 ∷ 0x80 ∷ [], Byte 0x5C ∷ Byte 0x7E ∷ Byte 0x8E ∷ Byte 0xA1 ∷ Byte 0xA1 ∷ Byte 0xDD ∷ Unmappable 0x80 ∷ []) ∷ [])
   pub gb18030 : Computes (by_scalar (gb18030_encodes false (0x4E02 ∷ []) ((39394, 0xFFE6) ∷ []) ((0xE81E, 0xFE, 0x59) ∷ []))) tt (
-    (0xFFFD ∷ 0xE7C7 ∷ [], Byte 0x84 ∷ Byte 0x31 ∷ Byte 0xA4 ∷ Byte 0x37 ∷ Byte 0x81 ∷ Byte 0x35 ∷ Byte 0xF4 ∷ Byte 0x37 ∷ [])
-    ∷ (0x10_FFFF ∷ 0xE5E5 ∷ [], Byte 0xE3 ∷ Byte 0x32 ∷ Byte 0x9A ∷ Byte 0x35 ∷ Unmappable 0xE5E5 ∷ [])
-    ∷ (0xE81E ∷ 0x4E02 ∷ 0x20AC ∷ [], Byte 0xFE ∷ Byte 0x59 ∷ Byte 0x81 ∷ Byte 0x40 ∷ Unmappable 0x20AC ∷ []) ∷ [])
+      (0xFFFD ∷ 0xE7C7 ∷ [], Byte 0x84 ∷ Byte 0x31 ∷ Byte 0xA4 ∷ Byte 0x37 ∷ Byte 0x81 ∷ Byte 0x35 ∷ Byte 0xF4 ∷ Byte 0x37 ∷ [])
+      ∷ (0x10_FFFF ∷ 0xE5E5 ∷ [], Byte 0xE3 ∷ Byte 0x32 ∷ Byte 0x9A ∷ Byte 0x35 ∷ Unmappable 0xE5E5 ∷ [])
+      ∷ (0xE81E ∷ 0x4E02 ∷ 0x20AC ∷ [], Byte 0xFE ∷ Byte 0x59 ∷ Byte 0x81 ∷ Byte 0x40 ∷ Unmappable 0x20AC ∷ []) ∷ [])
   pub gbk : Computes (by_scalar (gb18030_encodes true (0x4E02 ∷ []) ((39394, 0xFFE6) ∷ []) ((0xE81E, 0xFE, 0x59) ∷ []))) tt (
-    (0x20AC ∷ 0xE81E ∷ 0x4E02 ∷ 0xFFFD ∷ [], Byte 0x80 ∷ Byte 0xFE ∷ Byte 0x59 ∷ Byte 0x81 ∷ Byte 0x40 ∷ Unmappable 0xFFFD ∷ []) ∷ [])
+      (0x20AC ∷ 0xE81E ∷ 0x4E02 ∷ 0xFFFD ∷ [], Byte 0x80 ∷ Byte 0xFE ∷ Byte 0x59 ∷ Byte 0x81 ∷ Byte 0x40 ∷ Unmappable 0xFFFD ∷ []) ∷ [])
   pub iso_2022_jp : Computes (iso_2022_jp_encodes (0x58FA ∷ 0xFF0D ∷ 0x3002 ∷ []) (0x3002 ∷ [])) ascii (
-    (0x61 ∷ 0xA5 ∷ 0x62 ∷ 0x5C ∷ [], Byte 0x61 ∷ Byte 0x1B ∷ Byte 0x28 ∷ Byte 0x4A ∷ Byte 0x5C ∷ Byte 0x62 ∷ Byte 0x1B ∷ Byte 0x28 ∷ Byte 0x42 ∷ Byte 0x5C ∷ [])
-    ∷ (0x58FA ∷ 0x1_F4A9 ∷ [], Byte 0x1B ∷ Byte 0x24 ∷ Byte 0x42 ∷ Byte 0x21 ∷ Byte 0x21 ∷ Byte 0x1B ∷ Byte 0x28 ∷ Byte 0x42 ∷ Unmappable 0x1_F4A9 ∷ [])
-    ∷ (0x2212 ∷ 0xFF61 ∷ [], Byte 0x1B ∷ Byte 0x24 ∷ Byte 0x42 ∷ Byte 0x21 ∷ Byte 0x22 ∷ Byte 0x21 ∷ Byte 0x23 ∷ Byte 0x1B ∷ Byte 0x28 ∷ Byte 0x42 ∷ [])
-    ∷ (0x1B ∷ 0x0E ∷ [], Unmappable 0xFFFD ∷ Unmappable 0xFFFD ∷ []) ∷ [])
+      (0x61 ∷ 0xA5 ∷ 0x62 ∷ 0x5C ∷ [], Byte 0x61 ∷ Byte 0x1B ∷ Byte 0x28 ∷ Byte 0x4A ∷ Byte 0x5C ∷ Byte 0x62 ∷ Byte 0x1B ∷ Byte 0x28 ∷ Byte 0x42 ∷ Byte 0x5C ∷ [])
+      ∷ (0x58FA ∷ 0x1_F4A9 ∷ [], Byte 0x1B ∷ Byte 0x24 ∷ Byte 0x42 ∷ Byte 0x21 ∷ Byte 0x21 ∷ Byte 0x1B ∷ Byte 0x28 ∷ Byte 0x42 ∷ Unmappable 0x1_F4A9 ∷ [])
+      ∷ (0x2212 ∷ 0xFF61 ∷ [], Byte 0x1B ∷ Byte 0x24 ∷ Byte 0x42 ∷ Byte 0x21 ∷ Byte 0x22 ∷ Byte 0x21 ∷ Byte 0x23 ∷ Byte 0x1B ∷ Byte 0x28 ∷ Byte 0x42 ∷ [])
+      ∷ (0x1B ∷ 0x0E ∷ [], Unmappable 0xFFFD ∷ Unmappable 0xFFFD ∷ []) ∷ [])
 
 -- The smallest indexes without the pointers of `HasPointers`: the handler's events part from the encoder's.
 pub record PartWithoutPointers : Type 0 where
@@ -64,3 +65,14 @@ pub record PartWithoutPointers : Type 0 where
   pub overline : Parts (iso_2022_jp_encodes (0x203E ∷ []) (0x203E ∷ [])) ascii (codecs.iso_2022_jp (0x203E ∷ []) (0x203E ∷ [])) 0xFF61
       (Byte 0x1B ∷ Byte 0x24 ∷ Byte 0x42 ∷ Byte 0x1B ∷ Byte 0x28 ∷ Byte 0x4A ∷ Byte 0x7E ∷ Byte 0x1B ∷ Byte 0x28 ∷ Byte 0x42 ∷ [])
       (Byte 0x1B ∷ Byte 0x24 ∷ Byte 0x42 ∷ Byte 0x21 ∷ Byte 0x21 ∷ Byte 0x1B ∷ Byte 0x28 ∷ Byte 0x42 ∷ [])
+  -- a scalar whose only pointer is past the rows: the handler's bytes decode to an error
+  pub row : Parts (by_scalar (euc_jp_encodes (entry_at 8836 0x4E00))) tt (codecs.euc_jp (entry_at 8836 0x4E00) []) 0x4E00 (Byte 0xFF ∷ Byte 0xA1 ∷ []) (Unmappable 0x4E00 ∷ [])
+  -- a scalar past the last pointer of the ranges
+  pub gb18030 : Parts (by_scalar (gb18030_encodes false [] ((0, 0x80) ∷ []) [])) tt (codecs.gb18030 [] ((0, 0x80) ∷ []) []) 0x9A7C
+      (Byte 0x84 ∷ Byte 0x31 ∷ Byte 0xA5 ∷ Byte 0x30 ∷ []) (Unmappable 0x9A7C ∷ [])
+
+-- small tables with these pointers; no small table of gb18030 has them
+pub record HavePointers : Type 0 where
+  pub shift_jis : HasPointers (codecs.shift_jis (entry_at 60 0xFF0D))
+  pub euc_jp : HasPointers (codecs.euc_jp (entry_at 60 0xFF0D) [])
+  pub iso_2022_jp : HasPointers (codecs.iso_2022_jp (0xFF0D ∷ 0x3002 ∷ []) (replicate 63 0x3002))

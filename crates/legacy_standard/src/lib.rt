@@ -5,7 +5,7 @@
 ghost use Rattle.legacy_standard.specs.DecoderLaw.{AreDecodedByHandlers};
 ghost use Rattle.legacy_standard.specs.EncoderLaw.{AreEncodedByHandlers};
 ghost use Rattle.legacy_standard.specs.WorkedBytes.{ComputeWorkedBytes};
-ghost use Rattle.legacy_standard.specs.WorkedTexts.{ComputeWorkedTexts, PartWithoutPointers};
+ghost use Rattle.legacy_standard.specs.WorkedTexts.{ComputeWorkedTexts, PartWithoutPointers, HavePointers};
 
 /// Shows that the grammars of the decoders are the handlers of the Standard.
 ///
@@ -26,11 +26,13 @@ pub fn encoders_are_the_standards()
     ensures { AreEncodedByHandlers }
 {}
 
-/// Shows what the handlers compute from worked rows, and the smallest indexes with which an encoder is not the Standard's.
+/// Shows what the handlers compute from worked rows.
 ///
-/// `docs/DIFFERENCES.md` says what such an index lacks.
+/// Also shows small indexes that have the pointers of `HasPointers`, and the smallest ones that lack one, with which an encoder
+/// is not the Standard's (`docs/DIFFERENCES.md`).
 pub fn worked_rows()
     ensures bytes { ComputeWorkedBytes }
     ensures texts { ComputeWorkedTexts }
     ensures without_pointers { PartWithoutPointers }
+    ensures with_pointers { HavePointers }
 {}
