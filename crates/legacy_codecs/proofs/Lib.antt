@@ -13,3 +13,4 @@ pub mod Replaced
 pub mod Replacements
 pub mod ReferenceTexts
 pub mod ReferencingCalls
+pub mod StandardRuns

@@ -8,3 +8,4 @@ pub mod Filling
 pub mod EncodeFilling
 pub mod Replacing
 pub mod References
+pub mod StandardRuns

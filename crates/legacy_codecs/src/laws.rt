@@ -7,8 +7,26 @@ ghost use Rattle.legacy_codecs.specs.EncodeFilling.{EncodeQueriedLengthSuffices}
 ghost use Rattle.legacy_codecs.specs.EncodeRuns.{EncodeCutsDoNotMatter};
 ghost use Rattle.legacy_codecs.specs.RoundTripRuns.{RunsEncode, RunsRoundTrip, RunsReencodeToTheSame, RunsEncodeWellFormed};
 ghost use Rattle.legacy_codecs.specs.Runs.{CutsDoNotMatter};
+ghost use Rattle.legacy_codecs.specs.StandardRuns.{RunsAreDecodedByHandlers, RunsAreEncodedByHandlers};
 
 pub use legacy_decoders::laws::{lists_are_read_by_fronts, nothing_has_no_events};
+pub use legacy_standard::{decoders_are_the_standards, encoders_are_the_standards};
+
+/// Shows that finished runs answer what the Standard's decoders and encoders give.
+///
+/// Let a new decoder, as `new` makes it, read bytes to their end in a finished run. Then the handler of the Standard's decoder,
+/// run over all these bytes, finishes with the code points and errors that the run answered, however the bytes were cut. Each
+/// error has the place and length of the malformed sequence, and in ISO-2022-JP ends as late as `lateness` says.
+///
+/// Let a new encoder with accepted tables write a text to its end in a finished run. Then the handler of the Standard's encoder,
+/// run over the whole text, finishes with the bytes and errors that the run answered, if the tables have the pointers that the
+/// Standard's indexes have: U+FF0D in Shift_JIS; U+FF0D, and for each scalar of index jis0208 one below 8836, in EUC-JP and
+/// ISO-2022-JP; the half-width katakana in ISO-2022-JP; every scalar in GB18030. `docs/DIFFERENCES.md` lists what is otherwise
+/// without them.
+pub fn runs_are_the_standards()
+    ensures decoders { RunsAreDecodedByHandlers }
+    ensures encoders { RunsAreEncodedByHandlers }
+{}
 
 /// A length query that a decoder answers for all bytes to come is enough for all calls with them.
 ///

@@ -1,0 +1,46 @@
+-- What finished runs give is what the Standard's decoders and encoders give.
+use Rattle.std.proofs.Common.{◌≡◌, ◌∙◌, ℕ, ◌-◌, List, [], ◌∷◌, refl, sym, ap, subst, arith}
+use Rattle.legacy_base.specs.declared.results.DecodeEvent.{DecodeEvent}
+use Rattle.legacy_base.specs.declared.results.DecodeEvent.TheVariants.{Scalar, Bad}
+use Rattle.legacy_base.specs.Encoders.{Codec, single_byte, user_defined, big5, euc_kr, shift_jis, euc_jp, gb18030, gbk, iso_2022_jp}
+use Rattle.legacy_base.specs.RoundTrips.{HasAcceptedLists}
+use Rattle.legacy_tables.proofs.Accepted.{parts}
+use Rattle.legacy_standard.specs.DecoderLaw.{IsDecodedAs}
+use Rattle.legacy_standard.specs.EncoderLaw.{HasAcceptedRanges, AreAcceptedRanges, IsEncodedAs}
+use Rattle.legacy_standard.proofs.AllCodecs.{all_decoders, all_encoders}
+use Rattle.legacy_codecs.specs.Runs.{placed_event, placed}
+use Rattle.legacy_codecs.specs.StandardRuns.{RunsAreDecodedByHandlers, RunsAreEncodedByHandlers}
+use Rattle.legacy_codecs.proofs.RunEvents.{finished_gives}
+use Rattle.legacy_codecs.proofs.EncodeRunEvents.{finished_encodes}
+
+-- from a decoder that holds nothing back, places stay
+placed_event-zero : (event : DecodeEvent) → placed_event 0 event ≡ event
+placed_event-zero (Scalar c) = refl
+placed_event-zero (Bad place length) = let same : place - 0 ≡ place = omega arith in ap (λ (p : ℕ). Bad p length) same
+
+placed-zero : (events : List DecodeEvent) → placed 0 events ≡ events
+unfolding placed
+placed-zero [] = refl
+placed-zero (event ∷ events) =
+    ap (λ e. e ∷ placed 0 events) (placed_event-zero event) ∙ ap (λ es. event ∷ es) (placed-zero events)
+
+pub runs_are_decoded : RunsAreDecodedByHandlers
+runs_are_decoded decoder bytes all answered run =
+    subst (IsDecodedAs decoder bytes) (sym (placed-zero _) ∙ finished_gives run) (all_decoders decoder bytes all)
+
+accepted_ranges : (codec : Codec) → HasAcceptedLists codec → HasAcceptedRanges codec
+accepted_ranges (single_byte table) lists = tt
+accepted_ranges user_defined lists = tt
+accepted_ranges (big5 index) lists = tt
+accepted_ranges (euc_kr index) lists = tt
+accepted_ranges (shift_jis jis0208) lists = tt
+accepted_ranges (euc_jp jis0208 jis0212) lists = tt
+accepted_ranges (gb18030 index ranges pua) (indexes, _, same, _) =
+    let p = parts indexes.flat indexes.accepted in
+    subst AreAcceptedRanges (sym same) (record { ordered = p.ordered; valued = p.valued })
+accepted_ranges (gbk index ranges pua) lists = tt
+accepted_ranges (iso_2022_jp jis0208 katakana_index) lists = tt
+
+pub runs_are_encoded : RunsAreEncodedByHandlers
+runs_are_encoded codec lists has text all answered run =
+    subst (IsEncodedAs codec text) (finished_encodes run) (all_encoders codec (accepted_ranges codec lists) has text all)
