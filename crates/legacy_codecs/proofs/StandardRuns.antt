@@ -5,8 +5,8 @@ use Rattle.legacy_base.specs.declared.results.DecodeEvent.TheVariants.{Scalar, B
 use Rattle.legacy_base.specs.Encoders.{Codec, single_byte, user_defined, big5, euc_kr, shift_jis, euc_jp, gb18030, gbk, iso_2022_jp}
 use Rattle.legacy_base.specs.RoundTrips.{HasAcceptedLists}
 use Rattle.legacy_tables.proofs.Accepted.{parts}
-use Rattle.legacy_standard.specs.DecoderLaw.{IsDecodedAs}
-use Rattle.legacy_standard.specs.EncoderLaw.{HasAcceptedRanges, AreAcceptedRanges, IsEncodedAs}
+use Rattle.legacy_standard.specs.DecoderLaw.{HandlerDecodes}
+use Rattle.legacy_standard.specs.EncoderLaw.{HasAcceptedRanges, AreAcceptedRanges, HandlerEncodes}
 use Rattle.legacy_standard.proofs.AllCodecs.{all_decoders, all_encoders}
 use Rattle.legacy_codecs.specs.Runs.{placed_event, placed}
 use Rattle.legacy_codecs.specs.StandardRuns.{RunsAreDecodedByHandlers, RunsAreEncodedByHandlers}
@@ -26,7 +26,7 @@ placed-zero (event ∷ events) =
 
 pub runs_are_decoded : RunsAreDecodedByHandlers
 runs_are_decoded decoder bytes all answered run =
-    subst (IsDecodedAs decoder bytes) (sym (placed-zero _) ∙ finished_gives run) (all_decoders decoder bytes all)
+    subst (HandlerDecodes decoder bytes) (sym (placed-zero _) ∙ finished_gives run) (all_decoders decoder bytes all)
 
 accepted_ranges : (codec : Codec) → HasAcceptedLists codec → HasAcceptedRanges codec
 accepted_ranges (single_byte table) lists = tt
@@ -43,4 +43,4 @@ accepted_ranges (iso_2022_jp jis0208 katakana_index) lists = tt
 
 pub runs_are_encoded : RunsAreEncodedByHandlers
 runs_are_encoded codec lists has text all answered run =
-    subst (IsEncodedAs codec text) (finished_encodes run) (all_encoders codec (accepted_ranges codec lists) has text all)
+    subst (HandlerEncodes codec text) (finished_encodes run) (all_encoders codec (accepted_ranges codec lists) has text all)

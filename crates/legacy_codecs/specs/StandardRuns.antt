@@ -6,8 +6,8 @@ use Rattle.legacy_tables.specs.Unicode.{AreBytes, AreScalars}
 use Rattle.legacy_base.specs.States.{new_state}
 use Rattle.legacy_base.specs.Encoders.{Codec, new_encoder}
 use Rattle.legacy_base.specs.RoundTrips.{HasAcceptedLists}
-use Rattle.legacy_standard.specs.DecoderLaw.{Decoder, grammar_of, IsDecodedAs}
-use Rattle.legacy_standard.specs.EncoderLaw.{HasPointers, IsEncodedAs}
+use Rattle.legacy_standard.specs.DecoderLaw.{Decoder, grammar_of, HandlerDecodes}
+use Rattle.legacy_standard.specs.EncoderLaw.{HasPointers, HandlerEncodes}
 use Rattle.legacy_codecs.specs.Runs.{FinishedRun}
 use Rattle.legacy_codecs.specs.EncodeRuns.{FinishedEncodeRun}
 
@@ -16,7 +16,7 @@ abbrev pub RunsAreDecodedByHandlers : Type 0
 RunsAreDecodedByHandlers =
     (decoder : Decoder) (bytes : List ℕ) → AreBytes bytes →
     (answered : List DecodeEvent) → FinishedRun (new_state (grammar_of decoder)) bytes answered →
-    IsDecodedAs decoder bytes answered
+    HandlerDecodes decoder bytes answered
 
 -- A finished run of a new encoder with accepted tables answered what the handler of the Standard's encoder gives of the whole
 -- text, if no pointer is missing.
@@ -25,4 +25,4 @@ RunsAreEncodedByHandlers =
     (codec : Codec) → HasAcceptedLists codec → HasPointers codec →
     (text : List ℕ) → AreScalars text →
     (answered : List EncodeEvent) → FinishedEncodeRun (new_encoder codec) text answered →
-    IsEncodedAs codec text answered
+    HandlerEncodes codec text answered

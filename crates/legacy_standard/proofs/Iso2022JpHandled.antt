@@ -25,7 +25,7 @@ use Rattle.legacy_standard.specs.Iso2022JpPlaces.{mode_after, bytes_after, laten
 use Rattle.legacy_standard.specs.Iso2022Jp.{DecoderState, ascii, roman, katakana, leading_byte, trailing_byte, escape_start, escape, Iso2022Jp, iso_2022_jp_handler, iso_2022_jp_initial, escape_state}
 use Rattle.legacy_standard.proofs.OneResult.{steady}
 use Rattle.legacy_standard.specs.DecoderLaw as decoders
-use Rattle.legacy_standard.specs.DecoderLaw.{IsDecodedAs}
+use Rattle.legacy_standard.specs.DecoderLaw.{HandlerDecodes}
 
 -- ---- turns, by the number of bytes that are read
 
@@ -572,7 +572,7 @@ module _ (jis0208 : List ℕ) (late : ℕ → ℕ → ℕ) (third_late : (p : �
   below_all zero m l flag pos (b ∷ more) stands h = absurd (omega arith)
   below_all (suc n) m l flag pos (b ∷ more) stands h = first m l flag pos b more stands (λ m l flag pos bytes stands k. below_all n m l flag pos bytes stands (omega arith))
 
-pub iso_2022_jp_handled : (jis0208 bytes : List ℕ) → AreBytes bytes → IsDecodedAs (decoders.iso_2022_jp jis0208) bytes (events_of (iso_2022_jp jis0208 iso.ascii) bytes)
+pub iso_2022_jp_handled : (jis0208 bytes : List ℕ) → AreBytes bytes → HandlerDecodes (decoders.iso_2022_jp jis0208) bytes (events_of (iso_2022_jp jis0208 iso.ascii) bytes)
 unfolding events_of
 iso_2022_jp_handled jis0208 bytes all =
     let late = lateness bytes in

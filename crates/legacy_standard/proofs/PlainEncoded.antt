@@ -1,5 +1,5 @@
 -- The encoders without a state.
-use Rattle.std.proofs.Common.{◌≡◌, ℕ, ◌+◌, ◌-◌, ◌%◌, Bool, cond, List, [], ◌∷◌, ◌++◌, Option, Some, None, refl, true, false, arith}
+use Rattle.std.proofs.Common.{◌≡◌, ◌≢◌, ◌∙◌, ◌≤◌, ◌<◌, length, inl, inr, sym, ℕ, ◌+◌, ◌-◌, ◌%◌, Bool, cond, List, [], ◌∷◌, ◌++◌, Option, Some, None, refl, true, false, arith}
 use Rattle.std.specs.Prelude.{option_map, is_some, ◌==◌, ◌||◌, position}
 use Rattle.std.specs.Option.{option_or}
 use Rattle.std.specs.Int.{is_in_range}
@@ -17,7 +17,14 @@ use Rattle.legacy_base.specs.Gb18030.{gb18030_code, gbk_code, gb18030_pair_bytes
 use Rattle.legacy_base.specs.Encoders as codecs
 use Rattle.legacy_tables.specs.Indexes.{gb18030_pua_of}
 use Rattle.legacy_tables.specs.Unicode.{AreScalars, is_katakana_scalar, katakana_byte_of}
-use Rattle.legacy_tables.specs.Pointers.{big5_pointer_of, shift_jis_pointer_of, euc_jp_pointer_of, range_pointer_of}
+use Rattle.std.specs.Prelude.{slice_index}
+use Rattle.std.specs.List.{position_or_len}
+use Rattle.std.proofs.lemmas.List.{get_or_past}
+use Rattle.std.proofs.lemmas.List.Sums.{position_or_len_is}
+use Rattle.std.proofs.lemmas.Bool.{cases_lt, eq-eqb, ne_eqb}
+use borrow.Author.Tests.{lt-ltb, le-ltb}
+use Rattle.legacy_tables.proofs.Pointers.{IsTaken, first-taken, first-least}
+use Rattle.legacy_tables.specs.Pointers.{every_pointer, big5_pointer_of, shift_jis_pointer_of, euc_jp_pointer_of, range_pointer_of}
 use Rattle.legacy_standard.specs.TextQueue.{TextOutcome, bytes, error_with, by_scalar, Encodes}
 use Rattle.legacy_standard.specs.IndexPointers.{index_pointer, ranges_pointer}
 use Rattle.legacy_standard.specs.SingleByteEncoder.{single_byte_at, single_byte_encodes}
@@ -69,9 +76,36 @@ single_byte_at-is : (o : Option ℕ) (c : ℕ) → single_byte_at o c ≡ by_cod
 single_byte_at-is None c = refl
 single_byte_at-is (Some p) c = let e : p + 0x80 ≡ 0x80 + p = omega arith in rw e refl
 
+-- "index pointer" is the first place of a scalar
+pointer-position : (table : List ℕ) (c : ℕ) → c ≢ 0 → index_pointer table c ≡ position (λ entry. entry == c) table
+pointer-position table c some = by_pointer (index_pointer table c) refl
+  where
+    taken : IsTaken every_pointer table c (index_pointer table c)
+    taken = first-taken every_pointer table c
+
+    place-is : (i : ℕ) → i ≤ length table → ((k : ℕ) → k < i → slice_index table k ≡ c → ⊥) → (i < length table → slice_index table i ≡ c) → position_or_len (λ entry. entry == c) table ≡ i
+    place-is i few before here =
+        position_or_len_is (λ entry. entry == c) table i 0 few (λ k h. ne_eqb (slice_index table k) c (before k h)) (λ h. eq-eqb (slice_index table i) c (here h))
+
+    by_pointer : (o : Option ℕ) → index_pointer table c ≡ o → o ≡ position (λ entry. entry == c) table
+    by_pointer None e =
+        let last : position_or_len (λ entry. entry == c) table ≡ length table = place-is (length table) (omega arith) (λ k h is. taken.missing e k refl is some) (λ h. absurd (omega arith)) in
+        rw (last, le-ltb (length table) (length table) (omega arith)) refl
+    by_pointer (Some s) e = elim (cases_lt s (length table)) [
+        | inl h ↦
+            let found : position_or_len (λ entry. entry == c) table ≡ s =
+            place-is s (omega arith) (λ k l is. let least = first-least every_pointer table c s k e refl is some in absurd (omega arith)) (λ l. (taken.chosen s e).1) in
+            rw (found, lt-ltb s (length table) h) refl
+        | inr h ↦ absurd (some (sym (taken.chosen s e).1 ∙ get_or_past table s 0 h))
+      ]
+
 single_byte-is : (table : List ℕ) (c : ℕ) → single_byte_encodes table c ≡ by_code c (single_byte_code table c)
 unfolding single_byte_encodes single_byte_code
-single_byte-is table c = either c (is_ascii c) _ _ _ _ (λ h. refl) (λ h. single_byte_at-is (position (λ entry. entry == c) table) c)
+single_byte-is table c = either c (is_ascii c) _ _ _ _ (λ h. refl)
+    (λ h. rw (pointer-position table c (past h)) (single_byte_at-is (position (λ entry. entry == c) table) c))
+  where
+    past : is_ascii c ≡ false → c ≢ 0
+    past h is = let none = rw is at h in cc
 
 pub single_byte_encoded : (table : List ℕ) → IsEncodedBy (codecs.single_byte table) (by_scalar (single_byte_encodes table)) tt
 single_byte_encoded table = plain (single_byte_encodes table) (single_byte_code table) (single_byte-is table)

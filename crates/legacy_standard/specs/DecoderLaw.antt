@@ -47,20 +47,20 @@ grammar_of (iso_2022_jp jis0208) = grammars.iso_2022_jp jis0208 ascii
 
 -- The handler finishes over these bytes, and its code points and errors are these events: with the place and length of each
 -- error, and in ISO-2022-JP with errors that end as late as `lateness` says.
-abbrev pub IsDecodedAs : Decoder → List ℕ → List DecodeEvent → Type 0
-IsDecodedAs (single_byte table) bytes events = Processes (single_byte_handler table) tt 0 0 bytes events
-IsDecodedAs user_defined bytes events = Processes user_defined_handler tt 0 0 bytes events
-IsDecodedAs replacement bytes events = Processes replacement_handler false 0 0 bytes events
-IsDecodedAs (utf16 is_utf16be) bytes events = Processes (utf16_handler is_utf16be) utf16_initial 0 0 bytes events
-IsDecodedAs (euc_kr index) bytes events = Processes (euc_kr_handler index) 0x00 0 0 bytes events
-IsDecodedAs (big5 index) bytes events = Processes (big5_handler index) 0x00 0 0 bytes events
-IsDecodedAs (shift_jis jis0208) bytes events = Processes (shift_jis_handler jis0208) 0x00 0 0 bytes events
-IsDecodedAs (euc_jp jis0208 jis0212) bytes events = Processes (euc_jp_handler jis0208 jis0212) euc_jp_initial 0 0 bytes events
-IsDecodedAs (gb18030 index ranges) bytes events = Processes (gb18030_handler index ranges) gb18030_initial 0 0 bytes events
-IsDecodedAs (iso_2022_jp jis0208) bytes events =
+abbrev pub HandlerDecodes : Decoder → List ℕ → List DecodeEvent → Type 0
+HandlerDecodes (single_byte table) bytes events = Processes (single_byte_handler table) tt 0 0 bytes events
+HandlerDecodes user_defined bytes events = Processes user_defined_handler tt 0 0 bytes events
+HandlerDecodes replacement bytes events = Processes replacement_handler false 0 0 bytes events
+HandlerDecodes (utf16 is_utf16be) bytes events = Processes (utf16_handler is_utf16be) utf16_initial 0 0 bytes events
+HandlerDecodes (euc_kr index) bytes events = Processes (euc_kr_handler index) 0x00 0 0 bytes events
+HandlerDecodes (big5 index) bytes events = Processes (big5_handler index) 0x00 0 0 bytes events
+HandlerDecodes (shift_jis jis0208) bytes events = Processes (shift_jis_handler jis0208) 0x00 0 0 bytes events
+HandlerDecodes (euc_jp jis0208 jis0212) bytes events = Processes (euc_jp_handler jis0208 jis0212) euc_jp_initial 0 0 bytes events
+HandlerDecodes (gb18030 index ranges) bytes events = Processes (gb18030_handler index ranges) gb18030_initial 0 0 bytes events
+HandlerDecodes (iso_2022_jp jis0208) bytes events =
     (handled : List DecodeEvent) × Processes (iso_2022_jp_handler jis0208) iso_2022_jp_initial 0 0 bytes handled
     × AreLate (lateness bytes) handled events
 
 -- so it is with the events of each grammar, over every list of bytes and any indexes, accepted or not
 abbrev pub AreDecodedByHandlers : Type 0
-AreDecodedByHandlers = (decoder : Decoder) (bytes : List ℕ) → AreBytes bytes → IsDecodedAs decoder bytes (events_of (grammar_of decoder) bytes)
+AreDecodedByHandlers = (decoder : Decoder) (bytes : List ℕ) → AreBytes bytes → HandlerDecodes decoder bytes (events_of (grammar_of decoder) bytes)

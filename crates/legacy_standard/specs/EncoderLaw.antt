@@ -20,16 +20,16 @@ use Rattle.legacy_standard.specs.Gb18030Encoder.{gb18030_encodes}
 use Rattle.legacy_standard.specs.Iso2022JpEncoder.{ascii, iso_2022_jp_encodes}
 
 -- the handler finishes over this text, and its bytes and errors are these events
-abbrev pub IsEncodedAs : Codec → List ℕ → List EncodeEvent → Type 0
-IsEncodedAs (single_byte table) text events = Encodes (by_scalar (single_byte_encodes table)) tt text events
-IsEncodedAs user_defined text events = Encodes (by_scalar user_defined_encodes) tt text events
-IsEncodedAs (big5 index) text events = Encodes (by_scalar (big5_encodes index)) tt text events
-IsEncodedAs (euc_kr index) text events = Encodes (by_scalar (euc_kr_encodes index)) tt text events
-IsEncodedAs (shift_jis jis0208) text events = Encodes (by_scalar (shift_jis_encodes jis0208)) tt text events
-IsEncodedAs (euc_jp jis0208 jis0212) text events = Encodes (by_scalar (euc_jp_encodes jis0208)) tt text events
-IsEncodedAs (gb18030 index ranges pua) text events = Encodes (by_scalar (gb18030_encodes false index ranges pua)) tt text events
-IsEncodedAs (gbk index ranges pua) text events = Encodes (by_scalar (gb18030_encodes true index ranges pua)) tt text events
-IsEncodedAs (iso_2022_jp jis0208 katakana_index) text events = Encodes (iso_2022_jp_encodes jis0208 katakana_index) ascii text events
+abbrev pub HandlerEncodes : Codec → List ℕ → List EncodeEvent → Type 0
+HandlerEncodes (single_byte table) text events = Encodes (by_scalar (single_byte_encodes table)) tt text events
+HandlerEncodes user_defined text events = Encodes (by_scalar user_defined_encodes) tt text events
+HandlerEncodes (big5 index) text events = Encodes (by_scalar (big5_encodes index)) tt text events
+HandlerEncodes (euc_kr index) text events = Encodes (by_scalar (euc_kr_encodes index)) tt text events
+HandlerEncodes (shift_jis jis0208) text events = Encodes (by_scalar (shift_jis_encodes jis0208)) tt text events
+HandlerEncodes (euc_jp jis0208 jis0212) text events = Encodes (by_scalar (euc_jp_encodes jis0208)) tt text events
+HandlerEncodes (gb18030 index ranges pua) text events = Encodes (by_scalar (gb18030_encodes false index ranges pua)) tt text events
+HandlerEncodes (gbk index ranges pua) text events = Encodes (by_scalar (gb18030_encodes true index ranges pua)) tt text events
+HandlerEncodes (iso_2022_jp jis0208 katakana_index) text events = Encodes (iso_2022_jp_encodes jis0208 katakana_index) ascii text events
 
 -- ---- what the Standard's own indexes have, and a table need not have
 
@@ -82,4 +82,4 @@ HasAcceptedRanges _ = ⊤
 abbrev pub AreEncodedByHandlers : Type 0
 AreEncodedByHandlers =
     (codec : Codec) → HasAcceptedRanges codec → HasPointers codec →
-    (text : List ℕ) → AreScalars text → IsEncodedAs codec text (encoded (new_encoder codec) text true)
+    (text : List ℕ) → AreScalars text → HandlerEncodes codec text (encoded (new_encoder codec) text true)

@@ -1,9 +1,10 @@
 -- The Standard's "single-byte encoder".
-use Rattle.std.specs.Prelude.{ℕ, ◌+◌, ◌==◌, List, [], ◌∷◌, Option, Some, None, if◌then◌else◌, position}
+use Rattle.std.specs.Prelude.{ℕ, ◌+◌, List, [], ◌∷◌, Option, Some, None, if◌then◌else◌}
 use Rattle.std.specs.Char.{is_ascii}
 use Rattle.legacy_standard.specs.TextQueue.{TextOutcome, bytes, error_with}
+use Rattle.legacy_standard.specs.IndexPointers.{index_pointer}
 
--- with its pointer
+-- with its index pointer
 abbrev pub single_byte_at : Option ℕ → ℕ → TextOutcome
 single_byte_at None c = error_with c
 single_byte_at (Some pointer) c = bytes ((pointer + 0x80) ∷ [])
@@ -11,4 +12,4 @@ single_byte_at (Some pointer) c = bytes ((pointer + 0x80) ∷ [])
 unfoldable pub single_byte_encodes : List ℕ → ℕ → TextOutcome
 single_byte_encodes index c =
     if is_ascii c then bytes (c ∷ [])
-    else single_byte_at (position (λ entry. entry == c) index) c
+    else single_byte_at (index_pointer index c) c
