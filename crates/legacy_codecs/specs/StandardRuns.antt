@@ -1,25 +1,44 @@
 -- What finished runs give is what the Standard's decoders and encoders give.
-use Rattle.std.specs.Prelude.{ℕ, List}
+use Rattle.std.specs.Prelude.{◌≡◌, ℕ, List, Bool, IsTrue}
 use Rattle.legacy_base.specs.declared.results.DecodeEvent.{DecodeEvent}
 use Rattle.legacy_base.specs.declared.results.EncodeEvent.{EncodeEvent}
 use Rattle.legacy_tables.specs.Unicode.{AreBytes, AreScalars}
-use Rattle.legacy_base.specs.States.{new_state}
-use Rattle.legacy_base.specs.Encoders.{Codec, new_encoder}
+use Rattle.legacy_base.specs.States.{DecoderState, new_state}
+use Rattle.legacy_base.specs.Encoders.{Codec, EncoderState, new_encoder}
 use Rattle.legacy_base.specs.RoundTrips.{HasAcceptedLists}
 use Rattle.legacy_standard.specs.DecoderLaw.{Decoder, grammar_of, HandlerDecodes}
 use Rattle.legacy_standard.specs.EncoderLaw.{HasPointers, HandlerEncodes}
+use Rattle.legacy_codecs.specs.Pieces.{joined}
 use Rattle.legacy_codecs.specs.Runs.{FinishedRun}
 use Rattle.legacy_codecs.specs.EncodeRuns.{FinishedEncodeRun}
 
--- A finished run of a new decoder answered what the handler of the Standard's decoder gives of the whole input.
+-- ---- what one run gave
+
+-- If the decoder was new and the run is finished, its events are what the handler of the Standard's decoder gives for all
+-- pieces together.
+abbrev pub RunIsDecodedByHandler : DecoderState → List (List ℕ) → Bool → List DecodeEvent → Type 0
+RunIsDecodedByHandler before pieces finished answered =
+    (decoder : Decoder) → before ≡ new_state (grammar_of decoder) → IsTrue finished → AreBytes (joined pieces) →
+    HandlerDecodes decoder (joined pieces) answered
+
+-- If the encoder was new, its tables are accepted and lack no pointer, and the run is finished, its events are what the
+-- handler of the Standard's encoder gives for all pieces together.
+abbrev pub RunIsEncodedByHandler : EncoderState → List (List ℕ) → Bool → List EncodeEvent → Type 0
+RunIsEncodedByHandler before pieces finished answered =
+    (codec : Codec) → HasAcceptedLists codec → HasPointers codec → before ≡ new_encoder codec →
+    IsTrue finished → AreScalars (joined pieces) →
+    HandlerEncodes codec (joined pieces) answered
+
+-- ---- any finished run
+
+-- the same of any finished run of a new decoder over these bytes, however they are cut
 abbrev pub RunsAreDecodedByHandlers : Type 0
 RunsAreDecodedByHandlers =
     (decoder : Decoder) (bytes : List ℕ) → AreBytes bytes →
     (answered : List DecodeEvent) → FinishedRun (new_state (grammar_of decoder)) bytes answered →
     HandlerDecodes decoder bytes answered
 
--- A finished run of a new encoder with accepted tables answered what the handler of the Standard's encoder gives of the whole
--- text, if no pointer is missing.
+-- and of a new encoder over a text
 abbrev pub RunsAreEncodedByHandlers : Type 0
 RunsAreEncodedByHandlers =
     (codec : Codec) → HasAcceptedLists codec → HasPointers codec →

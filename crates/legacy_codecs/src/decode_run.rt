@@ -5,6 +5,7 @@ ghost use Rattle.legacy_text.specs.EncodingForm.{EncodingForm, Utf8, Utf16};
 ghost use Rattle.legacy_base.specs.Calls.{DecoderCall};
 ghost use Rattle.legacy_codecs.specs.Pieces.{contents_of, place_before, IsTooLong};
 ghost use Rattle.legacy_codecs.specs.Runs.{IsRun, IsBeginning, HasNoneLeft, HasAmpleLengths};
+ghost use Rattle.legacy_codecs.specs.StandardRuns.{RunIsDecodedByHandler};
 
 use crate::run_parts::{RunError, is_last, longest, push_items, push_within, room_for_events};
 use crate::scalars::{OutputForm, ScalarBuffer, Utf8Form, Utf16Form};
@@ -156,6 +157,11 @@ fn decode_run<D: RawDecoder, F: OutputForm>(
 /// The events are a beginning of those that the decoder's grammar gives the bytes that it held back and
 /// all pieces. Where the run is finished they are all of them, and the decoder then holds back nothing
 /// that has an event. The decoder goes on from where the run ended.
+///
+/// If the decoder was new, the events of a finished run are the code points and errors that the handler of the Standard's
+/// decoder gives for all pieces together, with the place and length of each error. In ISO-2022-JP an error of the handler ends
+/// as late as `lateness` says.
+///
 /// The run is sure to be finished where each length is at least 4, and there are as many as the whole
 /// input has events and pieces together, or more.
 ///
@@ -177,6 +183,11 @@ pub fn decode_run_utf8<D: RawDecoder>(
     // Its events are a beginning of those of all pieces, and all of them where it is finished.
     ensures beginning { IfOk result (λ run.
         IsBeginning (D.state decoder.old) (contents_of pieces.now) run.finished run.events.items) }
+
+    // If the decoder was new and it is finished, the Standard's handler gives these events.
+    ensures standard { IfOk result (λ run.
+        RunIsDecodedByHandler (D.state decoder.old) (contents_of pieces.now) run.finished
+        run.events.items) }
 
     // Where it is finished, the decoder holds back nothing that has an event.
     ensures none_left { IfOk result (λ run.
@@ -209,6 +220,9 @@ pub fn decode_run_utf16<D: RawDecoder>(
         (D.state decoder.new)) }
     ensures beginning { IfOk result (λ run.
         IsBeginning (D.state decoder.old) (contents_of pieces.now) run.finished run.events.items) }
+    ensures standard { IfOk result (λ run.
+        RunIsDecodedByHandler (D.state decoder.old) (contents_of pieces.now) run.finished
+        run.events.items) }
     ensures none_left { IfOk result (λ run.
         IsTrue run.finished → HasNoneLeft (D.state decoder.new)) }
     ensures finishes { IfOk result (λ run.

@@ -5,6 +5,7 @@ ghost use Rattle.legacy_base.specs.EncoderCalls.{EncoderCall, reported};
 ghost use Rattle.legacy_codecs.specs.Pieces.{contents_of, place_before, IsTooLong};
 ghost use Rattle.legacy_codecs.specs.RoundTripRuns.{RunComesBack};
 ghost use Rattle.legacy_codecs.specs.EncodeRuns.{chars_of, unit_scalars_of, is_input_empty, IsEncodeRun, IsEncodeBeginning, HasNoEnd, HasAmpleOutputs};
+ghost use Rattle.legacy_codecs.specs.StandardRuns.{RunIsEncodedByHandler};
 
 use crate::run_parts::{RunError, is_last, longest, push_items, push_within, room_for_events};
 use crate::texts::Text;
@@ -137,6 +138,10 @@ fn encode_run<E: RawEncoder, T: Text>(
 /// The run is sure to be finished where each length is at least 4, and there are as many as the whole
 /// text has events and pieces together, or more.
 ///
+/// If the encoder was new, the events of a finished run are the bytes and errors that the handler of the Standard's encoder
+/// gives for the text of all pieces together. In Shift_JIS, EUC-JP, ISO-2022-JP and GB18030 the tables need the pointers that
+/// the Standard's indexes have (`laws::runs_are_the_standards`).
+///
 /// What a new encoder gave comes back. Where the run is finished, no event is an unmappable scalar and the
 /// text holds no fold, a scalar that the encoding writes with the bytes of another one, the decoder of the
 /// same encoding and tables reads the bytes as the scalars of the text, and nothing else. Of a text with
@@ -162,6 +167,11 @@ pub fn encode_run_utf8<E: RawEncoder>(
     // Its events are a beginning of those of all pieces, and all of them where it is finished.
     ensures beginning { IfOk result (λ run.
         IsEncodeBeginning (E.state encoder.old) (chars_of pieces.now) run.finished
+        run.events.items) }
+
+    // If the encoder was new, its tables lack no pointer and it is finished, the Standard's handler gives these events.
+    ensures standard { IfOk result (λ run.
+        RunIsEncodedByHandler (E.state encoder.old) (chars_of pieces.now) run.finished
         run.events.items) }
 
     // Where it is finished, the encoder has no end left to write.
@@ -199,6 +209,9 @@ pub fn encode_run_utf16<E: RawEncoder>(
         (E.state encoder.new)) }
     ensures beginning { IfOk result (λ run.
         IsEncodeBeginning (E.state encoder.old) (unit_scalars_of pieces.now) run.finished
+        run.events.items) }
+    ensures standard { IfOk result (λ run.
+        RunIsEncodedByHandler (E.state encoder.old) (unit_scalars_of pieces.now) run.finished
         run.events.items) }
     ensures none_left { IfOk result (λ run. IsTrue run.finished → HasNoEnd (E.state encoder.new)) }
     ensures finishes { IfOk result (λ run.

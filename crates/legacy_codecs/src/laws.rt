@@ -12,17 +12,22 @@ ghost use Rattle.legacy_codecs.specs.StandardRuns.{RunsAreDecodedByHandlers, Run
 pub use legacy_decoders::laws::{lists_are_read_by_fronts, nothing_has_no_events};
 pub use legacy_standard::{decoders_are_the_standards, encoders_are_the_standards};
 
-/// Shows that finished runs answer what the Standard's decoders and encoders give.
+/// Shows that finished runs return what the Standard's decoders and encoders give.
 ///
-/// Let a new decoder, as `new` makes it, read bytes to their end in a finished run. Then the handler of the Standard's decoder,
-/// run over all these bytes, finishes with the code points and errors that the run answered, however the bytes were cut. Each
-/// error has the place and length of the malformed sequence, and in ISO-2022-JP ends as late as `lateness` says.
+/// Let a new decoder, as `new` makes it, read bytes to their end in a finished run. Run over all these bytes, the handler of the
+/// Standard's decoder finishes with the code points and errors that the run returned, however the bytes were cut. Each error
+/// has the place and length of the malformed sequence. In ISO-2022-JP it ends as late as `lateness` says.
 ///
-/// Let a new encoder with accepted tables write a text to its end in a finished run. Then the handler of the Standard's encoder,
-/// run over the whole text, finishes with the bytes and errors that the run answered, if the tables have the pointers that the
-/// Standard's indexes have: U+FF0D in Shift_JIS; U+FF0D, and for each scalar of index jis0208 one below 8836, in EUC-JP and
-/// ISO-2022-JP; the half-width katakana in ISO-2022-JP; every scalar in GB18030. `docs/DIFFERENCES.md` lists what is otherwise
-/// without them.
+/// Let a new encoder with accepted tables write a text to its end in a finished run. Run over the whole text, the handler of the
+/// Standard's encoder finishes with the bytes and errors that the run returned, if the tables have these pointers, as the
+/// Standard's own indexes do:
+///
+/// - in Shift_JIS one for U+FF0D;
+/// - in EUC-JP and ISO-2022-JP one below 8836 for U+FF0D and for each scalar of index jis0208;
+/// - in ISO-2022-JP one for the entry of each half-width katakana, which the encoder looks up as it is;
+/// - in GB18030 one for each scalar that has no other bytes.
+///
+/// `docs/DIFFERENCES.md` has the smallest tables that lack one, and what differs with them.
 pub fn runs_are_the_standards()
     ensures decoders { RunsAreDecodedByHandlers }
     ensures encoders { RunsAreEncodedByHandlers }

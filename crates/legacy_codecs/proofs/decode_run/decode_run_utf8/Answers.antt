@@ -1,5 +1,6 @@
 use Rattle.std.proofs.lemmas.Result.{IfOk-weaker}
 use Rattle.legacy_codecs.proofs.RunEvents.{is_beginning, none_left}
+use Rattle.legacy_codecs.proofs.StandardRuns.{run_is_decoded}
 use Rattle.legacy_codecs.proofs.AmpleLengths.{is_finished}
 use Rattle.legacy_codecs.proofs.decode_run.decode_run_utf8.Goals as goal
 
@@ -11,3 +12,6 @@ returns-clause-none_left g c = IfOk-weaker c.decode_run.result _ _ (λ run r. no
 
 pub returns-clause-finishes : goal.returns-clause-finishes
 returns-clause-finishes g c = IfOk-weaker c.decode_run.result _ _ (λ run r. is_finished _ _ r) c.decode_run.ensures.run
+
+pub returns-clause-standard : goal.returns-clause-standard
+returns-clause-standard g c = IfOk-weaker c.decode_run.result _ _ (λ run r. run_is_decoded _ _ (is_beginning r)) c.decode_run.ensures.run

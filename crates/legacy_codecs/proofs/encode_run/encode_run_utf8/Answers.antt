@@ -1,6 +1,7 @@
 use Rattle.std.proofs.lemmas.Result.{IfOk-weaker}
 use Rattle.legacy_codecs.proofs.EncodeRunEvents.{is_encode_beginning, no_end_left}
 use Rattle.legacy_codecs.proofs.RoundTripRuns.{run_comes_back}
+use Rattle.legacy_codecs.proofs.StandardRuns.{run_is_encoded}
 use Rattle.legacy_codecs.proofs.AmpleOutputs.{encode_is_finished}
 use Rattle.legacy_codecs.proofs.encode_run.encode_run_utf8.Goals as goal
 
@@ -15,3 +16,6 @@ returns-clause-finishes g c = IfOk-weaker c.encode_run.result _ _ (λ run r. enc
 
 pub returns-clause-comes_back : goal.returns-clause-comes_back
 returns-clause-comes_back g c = IfOk-weaker c.encode_run.result _ _ (λ run r. run_comes_back _ _ r) c.encode_run.ensures.run
+
+pub returns-clause-standard : goal.returns-clause-standard
+returns-clause-standard g c = IfOk-weaker c.encode_run.result _ _ (λ run r. run_is_encoded _ _ (is_encode_beginning _ _ r)) c.encode_run.ensures.run
