@@ -16,7 +16,7 @@ use Rattle.legacy_standard.proofs.Turns.{at_end, goes_on, gives, error_at, error
 use Rattle.legacy_standard.proofs.OneResult.{Runs, steady, IsDecodedBy}
 
 -- the bytes of a unit are those that it was made of
-bytes-back : (big_endian : Bool) (a b : ℕ) → IsByte a → IsByte b → unit_bytes big_endian (unit_of big_endian a b) ≡ a ∷ b ∷ []
+bytes-back : (is_utf16be : Bool) (a b : ℕ) → IsByte a → IsByte b → unit_bytes is_utf16be (unit_of is_utf16be a b) ≡ a ∷ b ∷ []
 bytes-back true a b p q =
     let high : (a * 0x100 + b) / 0x100 ≡ a = omega arith in
     let low : (a * 0x100 + b) % 0x100 ≡ b = omega arith in
@@ -29,18 +29,18 @@ bytes-back false a b p q =
 not_both : (u : ℕ) → is_low_surrogate u ≡ true → is_high_surrogate u ≡ false
 not_both u h = grind (arith, nat_tests)
 
-module _ (big_endian : Bool) where
+module _ (is_utf16be : Bool) where
   abbrev handler : Utf16 → Item → Handled Utf16
-  handler = utf16_handler big_endian
+  handler = utf16_handler is_utf16be
 
   abbrev unit : ℕ → ℕ → ℕ
-  unit a b = unit_of big_endian a b
+  unit a b = unit_of is_utf16be a b
 
   first : (a : ℕ) (surrogate : Option ℕ) → handler (utf16_state None surrogate) (byte a) ≡ returns continue (utf16_state (Some a) surrogate)
   unfolding utf16_handler
   first a surrogate = refl
 
-  second : (a b : ℕ) (surrogate : Option ℕ) → handler (utf16_state (Some a) surrogate) (byte b) ≡ utf16_unit big_endian surrogate (unit a b)
+  second : (a b : ℕ) (surrogate : Option ℕ) → handler (utf16_state (Some a) surrogate) (byte b) ≡ utf16_unit is_utf16be surrogate (unit a b)
   unfolding utf16_handler
   second a b surrogate = refl
 
@@ -58,7 +58,7 @@ module _ (big_endian : Bool) where
 
   -- the events of the bytes from the unit with the index i on
   abbrev events : ℕ → List ℕ → List DecodeEvent
-  events i bytes = units_events i (units_of big_endian bytes) (has_odd_byte bytes)
+  events i bytes = units_events i (units_of is_utf16be bytes) (has_odd_byte bytes)
 
   abbrev Gives : ℕ → List ℕ → Type 0
   Gives i bytes = Runs handler utf16_initial (2 * i) 0 bytes (events i bytes)
@@ -97,7 +97,7 @@ module _ (big_endian : Bool) where
   lone : (i a b : ℕ) (rest : List ℕ) → is_high_surrogate (unit a b) ≡ false → Gives (i + 1) rest → Gives i (a ∷ b ∷ rest)
   unfolding units_of has_odd_byte
   lone i a b rest h after =
-      rw (lone-events i (unit a b) (units_of big_endian rest) (has_odd_byte rest) h, h)
+      rw (lone-events i (unit a b) (units_of is_utf16be rest) (has_odd_byte rest) h, h)
       (cond_both (is_low_surrogate (unit a b)) (Bad (2 * i) 2 ∷ []) (Scalar (unit a b) ∷ [])
       (λ es. Runs handler utf16_initial (2 * i) 0 (a ∷ b ∷ rest) (es ++ events (i + 1) rest))
       (λ l. goes_on handler utf16_initial (utf16_state (Some a) None) (2 * i) 0 a (b ∷ rest) _ (first a None)
@@ -144,15 +144,15 @@ module _ (big_endian : Bool) where
       (by_low (is_low_surrogate (unit c d)) refl))
     where
       by_low : (t : Bool) → is_low_surrogate (unit c d) ≡ t →
-          Runs handler (utf16_state (Some c) (Some (unit a b))) (2 * i) 3 (d ∷ rest) (units_events i (unit a b ∷ unit c d ∷ units_of big_endian rest) (has_odd_byte rest))
+          Runs handler (utf16_state (Some c) (Some (unit a b))) (2 * i) 3 (d ∷ rest) (units_events i (unit a b ∷ unit c d ∷ units_of is_utf16be rest) (has_odd_byte rest))
       by_low true l =
-          rw (pair-events i (unit a b) (unit c d) (units_of big_endian rest) (has_odd_byte rest) h l)
+          rw (pair-events i (unit a b) (unit c d) (units_of is_utf16be rest) (has_odd_byte rest) h l)
           (gives handler (utf16_state (Some c) (Some (unit a b))) utf16_initial (2 * i) 3 d (surrogate_pair_char (unit a b) (unit c d) ∷ []) rest _
           (rw (second c d (Some (unit a b)), l) refl) (rw (over_next i) after))
       by_low false l =
-          rw (high-events i (unit a b) (unit c d) (units_of big_endian rest) (has_odd_byte rest) h l)
+          rw (high-events i (unit a b) (unit c d) (units_of is_utf16be rest) (has_odd_byte rest) h l)
           (error_at handler (utf16_state (Some c) (Some (unit a b))) utf16_initial (2 * i) 3 d (c ∷ d ∷ []) rest _
-          (rw (second c d (Some (unit a b)), l, bytes-back big_endian c d p q) refl) (rw (next i) other))
+          (rw (second c d (Some (unit a b)), l, bytes-back is_utf16be c d p q) refl) (rw (next i) other))
 
   below : (n i : ℕ) (bytes : List ℕ) → AreBytes bytes → length bytes ≤ n → Gives i bytes
   below n i [] all h = nothing i
@@ -170,6 +170,6 @@ module _ (big_endian : Bool) where
       cond_both (is_high_surrogate (unit a b)) true false (λ s. Gives i (a ∷ b ∷ c ∷ d ∷ rest))
       (λ t. high_more i a b c d rest (All-head IsByte c (d ∷ rest) behind_b) (All-head IsByte d rest behind_c) t after other) (λ f. lone i a b (c ∷ d ∷ rest) f other)
 
-  pub utf16_handled : IsDecodedBy (utf16 big_endian) (utf16_handler big_endian) utf16_initial
+  pub utf16_handled : IsDecodedBy (utf16 is_utf16be) (utf16_handler is_utf16be) utf16_initial
   unfolding events_of utf16_events
   utf16_handled bytes all = steady handler utf16_initial 0 0 bytes _ (below (length bytes) 0 bytes all (omega arith))

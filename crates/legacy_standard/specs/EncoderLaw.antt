@@ -49,7 +49,7 @@ pub record IsFold (jis0208 katakana_index : List ℕ) (c : ℕ) : Type 0 where
   pub looked_up : is_looked_up entry ≡ true
   pub has_pointer : is_some (euc_jp_pointer_of jis0208 entry) ≡ true
 
--- each half-width katakana has
+-- each half-width katakana has one
 abbrev pub HasFolds : List ℕ → List ℕ → Type 0
 HasFolds jis0208 katakana_index = (c : ℕ) → is_in_range 0xFF61 0xFF9F c ≡ true → IsFold jis0208 katakana_index c
 

@@ -15,15 +15,15 @@ abbrev pub is_lead_before_escape : Mode → List ℕ → Bool
 is_lead_before_escape mode (lead ∷ e ∷ rest) = (is_two_byte_mode mode && is_in_range 0x21 0x7E lead) && e == esc
 is_lead_before_escape mode _ = false
 
--- The handler returns error this many bytes after the end of a malformed sequence of this length, with which bytes in a mode
--- begin. After a valid escape it reads the next escape; after a lead it reads the escape byte; otherwise it reads no more.
+-- How many bytes after the end of a malformed sequence the handler returns error. The bytes begin with the sequence, which has
+-- this length and is read in the mode. After an escape the handler reads the next one, after a lead the escape byte.
 abbrev pub bytes_after : Mode → List ℕ → ℕ → ℕ
 bytes_after mode bytes length =
     if length == 3 then 3
     else if is_lead_before_escape mode bytes then 1
     else 0
 
--- the same of the malformed sequence of this place and length
+-- the same for the malformed sequence with this place and length among all bytes
 abbrev pub lateness : List ℕ → ℕ → ℕ → ℕ
 lateness bytes begin length = bytes_after (mode_after ascii (take begin bytes)) (drop begin bytes) length
 
