@@ -3,6 +3,7 @@ use Rattle.std.proofs.Common.{◌≡◌, ◌∙◌, ℕ, ◌+◌, ◌-◌, ◌�
 use Rattle.std.proofs.Common.{append-nil, length-append, Bool, true, false, ◌||◌, IsTrue, Some, inl, inr}
 use Rattle.std.specs.Prelude.{is_some}
 use Rattle.std.proofs.lemmas.Bool.{true≢false}
+use Rattle.std.proofs.Math.Nat.{sub-zero}
 use Rattle.legacy_base.specs.declared.results.EncodeEvent.{EncodeEvent}
 use Rattle.legacy_base.specs.declared.results.EncodeEvent.TheVariants.{Byte}
 use Rattle.legacy_base.specs.declared.results.EncodeEvent.TheVariants as event
@@ -82,7 +83,7 @@ nothing_reported before last free after c left bytes call =
 -- behind bytes that leave the room free
 reserve-bytes : (free : ℕ) (bytes : List ℕ) (events : List EncodeEvent) → length bytes ≤ free - reference_room → KeepsReserve (free - length bytes) events → KeepsReserve free (map Byte bytes ++ events)
 unfolding KeepsReserve
-reserve-bytes free [] events fits kept = kept
+reserve-bytes free [] events fits kept = rw sub-zero at kept
 reserve-bytes free (b ∷ bytes) events fits kept =
     let less : free - 1 - length bytes ≡ free - length (b ∷ bytes) = omega arith in
     (omega (arith, fits), reserve-bytes (free - 1) bytes events (omega (arith, fits)) (rw less kept))
@@ -90,7 +91,7 @@ reserve-bytes free (b ∷ bytes) events fits kept =
 -- behind events
 reserve-append : (free : ℕ) (xs ys : List EncodeEvent) → KeepsReserve free xs → KeepsReserve (free - length (referenced_bytes xs)) ys → KeepsReserve free (xs ++ ys)
 unfolding KeepsReserve
-reserve-append free [] ys a b = b
+reserve-append free [] ys a b = rw sub-zero at b
 reserve-append free (Byte c ∷ xs) ys a b =
     let less : free - 1 - length (referenced_bytes xs) ≡ free - length (referenced_bytes (Byte c ∷ xs)) = omega arith in
     (a.0, reserve-append (free - 1) xs ys a.1 (rw less b))
@@ -157,6 +158,14 @@ module _ {before : EncoderState} {source : List ℕ} {last : Bool} {free : ℕ} 
   end_text : (written : List ℕ) (answer : EncoderResult) → reported_bytes answer ≡ [] → bytes ++ written ≡ referenced_bytes (out_after written answer)
   end_text written answer e = ap (λ l. bytes ++ l) (sym (ap (λ l. written ++ l) e ∙ append-nil written)) ∙ text_after written answer
 
+  -- what a call wrote leaves the room of a reference free, and so does what it reported
+  reserve_after : (room : ℕ) → room ≡ free - length bytes - reference_room → (written : List ℕ) (answer : EncoderResult) → length written ≤ room →
+      KeepsReserve (free - length bytes - length written) (reported answer) → KeepsReserve free (out_after written answer)
+  reserve_after room room_is written answer fits kept =
+      let done : length (referenced_bytes u.out) ≡ length bytes = ap length (sym u.text) in
+      reserve-append free u.out (out_events written answer) u.reserve
+      (rw done (reserve-bytes (free - length bytes) written (reported answer) (omega (arith, fits, room_is)) kept))
+
   -- a call with so much room as there is but for a reference
   module _ {room : ℕ} (room_is : room ≡ free - length bytes - reference_room) {after : EncoderState} {rest written : List ℕ} where
     cut_after : (answer : EncoderResult) (c : EncoderCall now left last room after answer rest written) → source ≡ (u.taken ++ c.taken) ++ rest
@@ -172,13 +181,6 @@ module _ {before : EncoderState} {source : List ℕ} {last : Bool} {free : ℕ} 
           | inr g ↦ inr (begins_later u.out (out_events written answer) (encoded now (left ++ more) ended) (rw first at g))
         ]))
         ∙ ap (λ l. u.out ++ l) (sym (append_assoc (map Byte written) (reported answer) behind)) ∙ sym (append_assoc u.out (out_events written answer) behind)
-
-    -- what the call wrote leaves the room of a reference free, and so does what it reported
-    reserve_after : (answer : EncoderResult) → length written ≤ room → KeepsReserve (free - length bytes - length written) (reported answer) → KeepsReserve free (out_after written answer)
-    reserve_after answer fits kept =
-        let done : length (referenced_bytes u.out) ≡ length bytes = ap length (sym u.text) in
-        reserve-append free u.out (out_events written answer) u.reserve
-        (rw done (reserve-bytes (free - length bytes) written (reported answer) (omega (arith, fits, room_is)) kept))
 
     -- where room was lacking as the call began, this call answers so
     full_so : (answer : EncoderResult) → EncoderCall now left last room after answer rest written →
@@ -206,7 +208,7 @@ module _ {before : EncoderState} {source : List ℕ} {last : Bool} {free : ℕ} 
           out = out_after written x;
           gives = gives_after x call;
           text = text_after written x;
-          reserve = reserve_after x call.fits (some, tt);
+          reserve = reserve_after room room_is written x call.fits (some, tt);
           found_is = ap (λ b. found_after b x) u.found_is ∙ found-call u.out written x;
           untouched = λ e. absurd (true≢false e);
           unfound = λ need lacks. absurd (never (full_so x call need lacks).0);
@@ -241,7 +243,7 @@ module _ {before : EncoderState} {source : List ℕ} {last : Bool} {free : ℕ} 
           out = out_after written x;
           gives = gives_after x c;
           text = end_text written x refl;
-          reserve = reserve_after x fits tt;
+          reserve = reserve_after room room_is written x fits tt;
           found_is = u.found_is ∙ found-call u.out written x;
           input_empty = λ _. c.input_empty refl;
           output_full = λ e. absurd (no_full e);
@@ -281,7 +283,7 @@ module _ {before : EncoderState} {source : List ℕ} {last : Bool} {free : ℕ} 
           out = out_after written x;
           gives = gives_after x c;
           text = end_text written x refl;
-          reserve = reserve_after x fits tt;
+          reserve = reserve_after room room_is written x fits tt;
           found_is = u.found_is ∙ found-call u.out written x;
           input_empty = λ e. absurd (no_end e);
           output_full = λ _. omega (arith, long, fits, had, lacks);

@@ -1,8 +1,9 @@
 -- A call with replacement under way.
-use Rattle.std.proofs.Common.{◌≡◌, ◌∙◌, ℕ, zero, suc, ◌+◌, ◌-◌, ◌≤◌, ◌<◌, List, [], ◌∷◌, ◌++◌, length, drop, map, refl, sym, ap, arith, append_assoc}
+use Rattle.std.proofs.Common.{◌≡◌, ◌∙◌, ℕ, ◌+◌, ◌-◌, ◌≤◌, ◌<◌, List, [], ◌∷◌, ◌++◌, length, drop, map, refl, sym, ap, arith, append_assoc}
 use Rattle.std.proofs.Common.{append-nil, length-append, length-drop, add-zero, Bool, true, false, ◌||◌, IsTrue, All, cond, nat_eq, inl}
 use Rattle.std.specs.Char.{IsScalar}
 use Rattle.std.proofs.lemmas.List.{drop-drop}
+use Rattle.std.proofs.Math.Seq.{drop-nil}
 use Rattle.std.proofs.lemmas.List.Elements.{All-append, All-nil, All-cons}
 use Rattle.legacy_base.specs.declared.results.DecodeEvent.{DecodeEvent}
 use Rattle.legacy_base.specs.declared.results.DecodeEvent.TheVariants.{Scalar, Bad}
@@ -151,15 +152,11 @@ still_found : (last found : Bool) (answer : DecoderResult) (count : ℕ) (left :
 still_found last false answer count left h = cc
 still_found false true answer count left h = cc
 still_found true true answer count (b ∷ left) h = cc
-still_found true true answer count [] h = rw (found_still answer, drop_none count) refl where
+still_found true true answer count [] h = rw (found_still answer, drop-nil) refl where
   found_still : (answer : DecoderResult) → found_after true answer ≡ true
   found_still InputEmpty = refl
   found_still OutputFull = refl
   found_still (Malformed a b) = refl
-
-  drop_none : (n : ℕ) → drop n {A = ℕ} [] ≡ []
-  drop_none zero = refl
-  drop_none (suc n) = refl
 
 -- on a last call
 pub end_found-last : (last found : Bool) (left : List ℕ) → IsTrue (may_replace_end last found left) → IsTrue last

@@ -1,4 +1,4 @@
-use Rattle.std.proofs.Common.{◌≡◌, ◌∙◌, ◌≤◌, ◌++◌, length, take, is_some, sym, ap, refl, arith, append_assoc, inl, inr}
+use Rattle.std.proofs.Common.{◌≡◌, ◌∙◌, ◌+◌, ◌≤◌, ◌++◌, length, take, is_some, sym, ap, refl, arith, append_assoc, inl, inr}
 use Rattle.std.proofs.lemmas.List.{length-take-le}
 use Rattle.legacy_base.specs.declared.results.EncoderResult.TheVariants.{OutputFull}
 use Rattle.legacy_codecs.specs.References.{reference}
