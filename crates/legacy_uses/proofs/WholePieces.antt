@@ -51,7 +51,7 @@ module _ (form : EncodingForm) (before : DecoderState) (source : List ℕ) (last
   unfolding text_of
   scalars_go_on later h =
       let rest = events_of after.grammar (after.held ++ later) in
-      let whole = rw (all_read source read (c.input_empty empty).0) at c.progress.events later (λ l. inl (h (end_found-last last found _ l))) in
+      let whole = rw (all_read source read (c.input_empty empty).0) at c.progress.events later (λ l. inl (h (end_found-last last found [] l))) in
       ap replaced_scalars whole ∙ replaced-append c.out (shift c.passed rest) ∙ ap (λ l. replaced_scalars c.out ++ l) (replaced-shift c.passed rest)
 
   pub text_goes_on : TextGoesOn form last before source after written
