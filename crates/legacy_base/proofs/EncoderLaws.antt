@@ -1,5 +1,5 @@
 -- What is shown of each encoder's profile for whole runs: its end, its rooms, and that its lengths rise.
-use Rattle.std.proofs.Common.{◌≡◌, ℕ, ◌-◌, ◌≤◌, List, [], ◌∷◌, length, map, refl, arith, Option, Bool, true, false, Some, ltb}
+use Rattle.std.proofs.Common.{◌≡◌, ℕ, ◌-◌, ◌≤◌, List, [], ◌∷◌, length, map, refl, arith, Option, Bool, true, false, IsTrue, Some, ltb}
 use Rattle.std.proofs.lemmas.Bool.{cond_both}
 use Rattle.legacy_base.specs.declared.results.EncodeEvent.TheVariants.{Byte}
 use Rattle.legacy_text.specs.EncodingForm.{EncodingForm, Utf8, Utf16}
@@ -7,6 +7,9 @@ use Rattle.legacy_base.specs.EncodeEvents.{plain_events}
 use Rattle.legacy_base.specs.EncoderProfile.{EncoderProfile, EncoderMode, in_ascii, in_roman, in_two_byte, plain_encoder}
 use Rattle.legacy_base.specs.Encoders.{Codec, single_byte, user_defined, big5, euc_kr, shift_jis, euc_jp, gb18030, gbk, iso_2022_jp, encoder_profile}
 use Rattle.legacy_base.specs.Encoders.{EncoderState, encoded, end_bytes, encoder_need, encoder_formula, encoder_answer, encoder_room}
+use Rattle.legacy_base.specs.declared.results.EncoderResult.{EncoderResult}
+use Rattle.legacy_base.specs.declared.results.EncoderResult.TheVariants.{InputEmpty, OutputFull, Unmappable}
+use Rattle.legacy_base.specs.EncoderCalls.{tells_end}
 use Rattle.legacy_base.specs.Iso2022Jp.{iso_2022_jp_encoder, iso_2022_jp_text_events, mode_behind}
 use Rattle.legacy_base.specs.Lengths.{Formula, number, ◌⊕◌, ◌⊗◌, value}
 use Rattle.legacy_base.proofs.Enough.{answer-value}
@@ -97,3 +100,9 @@ encoder_room-rises form s = (encoder_laws s.codec).rises form s.mode
 -- the room is no more than the answer
 pub encoder_room-answer : (form : EncodingForm) (s : EncoderState) (n k : ℕ) → encoder_answer form s n ≡ Some k → encoder_room form s n ≤ k
 encoder_room-answer form s n k e = let v = answer-value (encoder_formula form s n) k e in omega arith
+
+-- the end is told of on a last call
+pub told_end-last : (last : Bool) (answer : EncoderResult) → IsTrue (tells_end last answer) → IsTrue last
+told_end-last last InputEmpty h = h
+told_end-last last OutputFull h = cc
+told_end-last last (Unmappable c) h = cc

@@ -1,6 +1,6 @@
 -- Each front of each codec has one to four bytes of the list, so that every list has its events. It gives one scalar or two,
 -- or is malformed.
-use Rattle.std.proofs.Common.{◌≡◌, ℕ, suc, ◌+◌, ◌-◌, ◌≤◌, ◌<◌, List, [], ◌∷◌, Bool, true, cond, length, ◌||◌, ◌==◌, Option, Some, None, option_to_list, refl, arith}
+use Rattle.std.proofs.Common.{◌≡◌, ℕ, suc, ◌+◌, ◌-◌, ◌*◌, ◌≤◌, ◌<◌, List, [], ◌∷◌, Bool, true, false, not, cond, length, ◌||◌, ◌==◌, Option, Some, None, option_to_list, refl, arith}
 use Rattle.std.specs.Option.{option_map_or}
 use Rattle.std.specs.Int.{is_in_range}
 use Rattle.std.specs.Char.{IsScalar, is_ascii, is_ascii_digit}
@@ -9,7 +9,7 @@ use Rattle.std.proofs.lemmas.Bool.Decides.{nat_tests}
 use Rattle.std.proofs.lemmas.List.Elements.{All-nil, All-cons}
 use Rattle.legacy_tables.specs.Indexes.{idx, range}
 use Rattle.legacy_tables.specs.Unicode.{IsByte, AreScalars, is_katakana_byte, katakana_of}
-use Rattle.legacy_base.specs.Fronts.{Front, reads, malformed, reads_or, trail_rule, trail_front}
+use Rattle.legacy_base.specs.Fronts.{Front, reads, malformed, front_length, reads_or, trail_rule, trail_front}
 use Rattle.legacy_base.specs.Laws.{IsFrontOf}
 use Rattle.legacy_base.specs.Profile.{is_lead}
 use Rattle.legacy_base.specs.SingleByte.{single_byte_front}
@@ -19,6 +19,7 @@ use Rattle.legacy_base.specs.LeadForms.{lead_pair, lead_front}
 use Rattle.legacy_base.specs.ShiftJis.{is_shift_jis_lead, shift_jis_pointer, shift_jis_scalars, shift_jis_pair, shift_jis_front}
 use Rattle.legacy_base.specs.EucJp.{is_euc_jp_lead, euc_jp_scalars, euc_jp_katakana, euc_jp_third, euc_jp_second, euc_jp_pair, euc_jp_front}
 use Rattle.legacy_base.specs.Gb18030.{gb18030_scalars, gb18030_range_pointer, gb18030_fourth, gb18030_third, gb18030_second, gb18030_front}
+use Rattle.legacy_base.specs.Iso2022Jp.{Mode, ascii, roman, katakana, two_byte, iso_2022_jp_front}
 use Rattle.legacy_tables.proofs.Accepted.{idx-all}
 
 -- ---- scalars by a test
@@ -48,7 +49,7 @@ module _ {P : Type 0} where
   give-none : MayGive P []
   give-none = (omega arith, λ p. All-nil IsScalar)
 
-  give-one : (c : ℕ) → (P → IsScalar c) → MayGive P (c ∷ [])
+  pub give-one : (c : ℕ) → (P → IsScalar c) → MayGive P (c ∷ [])
   give-one c h = (omega arith, λ p. All-cons IsScalar c [] (h p) (All-nil IsScalar))
 
   give-two : (c d : ℕ) → IsScalar c → IsScalar d → MayGive P (c ∷ d ∷ [])
@@ -70,13 +71,13 @@ module _ {P : Type 0} where
 
   -- ---- fronts by their form
 
-  front_of-cond : (size : ℕ) (t : Bool) (f g : Front) → (t ≡ true → IsFrontOf size P f) → IsFrontOf size P g → IsFrontOf size P (cond t f g)
+  pub front_of-cond : (size : ℕ) (t : Bool) (f g : Front) → (t ≡ true → IsFrontOf size P f) → IsFrontOf size P g → IsFrontOf size P (cond t f g)
   front_of-cond size t f g h k = cond_both t f g (IsFrontOf size P) h (λ _. k)
 
-  front_of-malformed : (size n : ℕ) → 0 < n → n ≤ size → n ≤ 4 → IsFrontOf size P (malformed n)
+  pub front_of-malformed : (size n : ℕ) → 0 < n → n ≤ size → n ≤ 4 → IsFrontOf size P (malformed n)
   front_of-malformed size n some within short = record { some = some; within = within; short = short; few = tt; scalars = λ p. All-nil IsScalar }
 
-  front_of-reads_or : (size n : ℕ) (scalars : List ℕ) (other : Front) → 0 < n → n ≤ size → n ≤ 4 → MayGive P scalars → IsFrontOf size P other →
+  pub front_of-reads_or : (size n : ℕ) (scalars : List ℕ) (other : Front) → 0 < n → n ≤ size → n ≤ 4 → MayGive P scalars → IsFrontOf size P other →
       IsFrontOf size P (reads_or n scalars other)
   front_of-reads_or size n [] other some within short given h = h
   front_of-reads_or size n (c ∷ scalars) other some within short given h =
@@ -94,11 +95,11 @@ module _ {P : Type 0} where
       front_of-reads_or size (n + 1) (scalars t) (trail_rule n t) (omega arith) (omega arith) (omega arith) (given t)
       (front_of-trail_rule size n t some (omega arith) short)
 
-  bad : (rest : List ℕ) → IsFrontOf (suc (length rest)) P (malformed 1)
+  pub bad : (rest : List ℕ) → IsFrontOf (suc (length rest)) P (malformed 1)
   bad rest = front_of-malformed (suc (length rest)) 1 (omega arith) (omega arith) (omega arith)
 
   -- a byte by itself
-  byte : (rest : List ℕ) (c : ℕ) → (P → IsScalar c) → IsFrontOf (suc (length rest)) P (reads 1 (c ∷ []))
+  pub byte : (rest : List ℕ) (c : ℕ) → (P → IsScalar c) → IsFrontOf (suc (length rest)) P (reads 1 (c ∷ []))
   byte rest c h = front_of-reads_or _ 1 (c ∷ []) (malformed 1) (omega arith) (omega arith) (omega arith) (give-one c h) (bad rest)
 
   -- ASCII is itself
@@ -203,3 +204,56 @@ module _ {P : Type 0} (index : List ℕ) (ranges : List (ℕ × ℕ)) (checked :
       ascii_or b rest _
       (front_of-cond _ (b == 0x80) _ _ (λ _. byte rest 0x20AC (λ _. refl))
       (front_of-cond _ (is_lead b) _ _ (λ _. gb18030_second-of b rest) (bad rest)))
+
+-- ---- ISO-2022-JP
+
+-- a byte of a mode of single bytes
+ascii_part : (b : ℕ) → ((b == 0x0E || b == 0x0F) || not (is_ascii b)) ≡ false → is_ascii b ≡ true
+ascii_part b h = grind (arith, nat_tests)
+
+katakana_part : (b : ℕ) → is_in_range 0x21 0x5F b ≡ true → IsScalar (0xFF61 + (b - 0x21))
+katakana_part b h = grind (arith, nat_tests)
+
+module _ {P : Type 0} (jis0208 : List ℕ) (checked : P → AreScalars jis0208) where
+  -- the second front only where the test fails
+  unless : (size : ℕ) (t : Bool) (f g : Front) → IsFrontOf size P f → (t ≡ false → IsFrontOf size P g) → IsFrontOf size P (cond t f g)
+  unless size t f g h k = cond_both t f g (IsFrontOf size P) (λ _. h) k
+
+  pub iso_2022_jp_front-of : (mode : Mode) (b : ℕ) (rest : List ℕ) → IsFrontOf (suc (length rest)) P (iso_2022_jp_front jis0208 mode b rest)
+  unfolding iso_2022_jp_front
+  iso_2022_jp_front-of ascii b rest = unless _ _ _ _ (bad rest) (λ e. byte rest b (λ _. is_ascii-scalar b (ascii_part b e)))
+  iso_2022_jp_front-of roman b rest =
+      unless _ _ _ _ (bad rest) (λ e.
+      front_of-cond _ (b == 0x5C) _ _ (λ _. byte rest 0xA5 (λ _. refl))
+      (front_of-cond _ (b == 0x7E) _ _ (λ _. byte rest 0x203E (λ _. refl)) (byte rest b (λ _. is_ascii-scalar b (ascii_part b e)))))
+  iso_2022_jp_front-of katakana b rest = front_of-cond _ (is_in_range 0x21 0x5F b) _ _ (λ e. byte rest _ (λ _. katakana_part b e)) (bad rest)
+  iso_2022_jp_front-of two_byte b [] = bad []
+  iso_2022_jp_front-of two_byte b (t ∷ rest) =
+      let two : IsFrontOf (suc (suc (length rest))) P (malformed 2) = front_of-malformed _ 2 (omega arith) (omega arith) (omega arith) in
+      front_of-cond _ (not (is_in_range 0x21 0x7E b)) _ _ (λ _. bad (t ∷ rest))
+      (front_of-cond _ (is_in_range 0x21 0x7E t) _ _ (λ _. front_of-reads_or _ 2 _ _ (omega arith) (omega arith) (omega arith) (give-idx jis0208 checked _) two) two)
+
+-- its fronts have one byte or two
+short_cond : (t : Bool) (f g : Front) → front_length f ≤ 2 → front_length g ≤ 2 → front_length (cond t f g) ≤ 2
+short_cond true f g h k = h
+short_cond false f g h k = k
+
+short_pair : (o : Option ℕ) → front_length (reads_or 2 (option_to_list o) (malformed 2)) ≤ 2
+short_pair None = omega arith
+short_pair (Some c) = omega arith
+
+pub iso_2022_jp_front-short : (jis0208 : List ℕ) (mode : Mode) (b : ℕ) (rest : List ℕ) → front_length (iso_2022_jp_front jis0208 mode b rest) ≤ 2
+unfolding iso_2022_jp_front
+iso_2022_jp_front-short jis0208 ascii b rest = short_cond ((b == 0x0E || b == 0x0F) || not (is_ascii b)) (malformed 1) (reads 1 (b ∷ [])) (omega arith) (omega arith)
+iso_2022_jp_front-short jis0208 roman b rest =
+    let plain : Front = reads 1 (b ∷ []) in
+    let overline : Front = cond (b == 0x7E) (reads 1 (0x203E ∷ [])) plain in
+    short_cond ((b == 0x0E || b == 0x0F) || not (is_ascii b)) (malformed 1) (cond (b == 0x5C) (reads 1 (0xA5 ∷ [])) overline) (omega arith)
+    (short_cond (b == 0x5C) (reads 1 (0xA5 ∷ [])) overline (omega arith) (short_cond (b == 0x7E) (reads 1 (0x203E ∷ [])) plain (omega arith) (omega arith)))
+iso_2022_jp_front-short jis0208 katakana b rest = short_cond (is_in_range 0x21 0x5F b) (reads 1 ((0xFF61 + (b - 0x21)) ∷ [])) (malformed 1) (omega arith) (omega arith)
+iso_2022_jp_front-short jis0208 two_byte b [] = omega arith
+iso_2022_jp_front-short jis0208 two_byte b (t ∷ rest) =
+    let entry = idx jis0208 ((b - 0x21) * 94 + (t - 0x21)) in
+    let pair : Front = reads_or 2 (option_to_list entry) (malformed 2) in
+    short_cond (not (is_in_range 0x21 0x7E b)) (malformed 1) (cond (is_in_range 0x21 0x7E t) pair (malformed 2)) (omega arith)
+    (short_cond (is_in_range 0x21 0x7E t) pair (malformed 2) (short_pair entry) (omega arith))

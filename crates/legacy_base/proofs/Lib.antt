@@ -2,6 +2,7 @@
 pub mod SameUnits
 pub mod Shifts
 pub mod Cuts
+pub mod Beginnings
 pub mod Progress
 pub mod Rooms
 pub mod Enough
@@ -11,6 +12,7 @@ pub mod Iso2022JpFronts
 pub mod Iso2022JpEncoding
 pub mod FrontLaws
 pub mod GrammarLaws
+pub mod EventLaws
 pub mod PointersBack
 pub mod Trips
 pub mod TwoByteTrips

@@ -1,23 +1,45 @@
 -- How what a decoder does in turn makes one whole.
-use Rattle.std.proofs.Common.{◌≡◌, ◌∙◌, ℕ, ◌+◌, ◌≤◌, List, [], ◌++◌, length, drop, refl, sym, ap, arith, append_assoc, length-append, Bool, false, IsTrue}
+use Rattle.std.proofs.Common.{◌≡◌, ◌∙◌, ℕ, ◌+◌, ◌≤◌, List, [], ◌++◌, length, drop, refl, sym, ap, arith, append_assoc, length-append, Bool, true, false, IsTrue, ◌⊎◌, inl, inr}
 use Rattle.std.proofs.lemmas.List.{drop-drop, drop-append-le}
 use Rattle.legacy_base.specs.declared.results.DecodeEvent.{DecodeEvent}
+use Rattle.legacy_base.specs.declared.results.DecoderResult.{DecoderResult}
+use Rattle.legacy_base.specs.declared.results.DecoderResult.TheVariants.{InputEmpty, OutputFull, Malformed}
 use Rattle.legacy_base.specs.Events.{shift}
 use Rattle.legacy_base.specs.Grammar.{events_of}
 use Rattle.legacy_base.specs.States.{DecoderState}
-use Rattle.legacy_base.specs.Calls.{Progress}
+use Rattle.legacy_base.specs.Profile.{is_empty}
+use Rattle.legacy_base.specs.Beginnings.{BeginsWith}
+use Rattle.legacy_base.specs.Calls.{Progress, may_report_end}
+use Rattle.legacy_base.proofs.Beginnings.{begins_sooner, begins_later, begins_back}
 use Rattle.legacy_base.proofs.Shifts.{shift-append, shift-zero, shift-shift}
 
-never : (more : List ℕ) → IsTrue false → more ≡ []
-never more f = cc
+no_end : {A : Type 0} → IsTrue false → A
+no_end f = cc
 
 -- nothing was done
-pub stay : (last : Bool) (s : DecoderState) (source : List ℕ) → Progress last s source 0 s source []
-stay last s source = record { counts = omega arith; rest = refl; events = λ more h. sym (shift-zero _) }
+pub stay : (ended : Bool) (s : DecoderState) (source : List ℕ) → Progress ended s source 0 s source []
+stay ended s source = record { counts = omega arith; rest = refl; events = λ more h. sym (shift-zero _) }
+
+-- what holds where less is said of what may follow holds where more is
+pub at_less : (a b : Bool) → (IsTrue a → IsTrue b) → (s : DecoderState) (xs : List ℕ) (n : ℕ) (t : DecoderState) (ys : List ℕ) (out : List DecodeEvent) → Progress a s xs n t ys out → Progress b s xs n t ys out
+at_less a b i s xs n t ys out h = record { counts = h.counts; rest = h.rest; events = λ more e. h.events more (λ l. e (i l)) }
 
 -- what holds whatever follows holds at a last end too
-pub at_last : (last : Bool) (s : DecoderState) (xs : List ℕ) (n : ℕ) (t : DecoderState) (ys : List ℕ) (out : List DecodeEvent) → Progress false s xs n t ys out → Progress last s xs n t ys out
-at_last last s xs n t ys out h = record { counts = h.counts; rest = h.rest; events = λ more e. h.events more (never more) }
+pub at_last : (ended : Bool) (s : DecoderState) (xs : List ℕ) (n : ℕ) (t : DecoderState) (ys : List ℕ) (out : List DecodeEvent) → Progress false s xs n t ys out → Progress ended s xs n t ys out
+at_last ended s xs n t ys out h = at_less false ended no_end s xs n t ys out h
+
+-- a report at the end is one of a last call, with nothing unread
+pub end_report-last : (last : Bool) (answer : DecoderResult) (left : List ℕ) → IsTrue (may_report_end last answer left) → IsTrue last
+end_report-last last InputEmpty left h = cc
+end_report-last last OutputFull left h = cc
+end_report-last true (Malformed a b) left h = refl
+end_report-last false (Malformed a b) left h = cc
+
+pub end_report-empty : (last : Bool) (answer : DecoderResult) (left : List ℕ) → IsTrue (may_report_end last answer left) → IsTrue (is_empty left)
+end_report-empty last InputEmpty left h = cc
+end_report-empty last OutputFull left h = cc
+end_report-empty true (Malformed a b) left h = h
+end_report-empty false (Malformed a b) left h = cc
 
 -- with more source behind it
 pub behind : (s : DecoderState) (xs : List ℕ) (n : ℕ) (t : DecoderState) (ys : List ℕ) (out : List DecodeEvent) (zs : List ℕ) →
@@ -28,19 +50,29 @@ behind s xs n t ys out zs h = record {
       let a : n ≤ length (s.held ++ xs) = simp length-append (omega (arith, h.counts)) in
       ap (drop n) (sym (append_assoc s.held xs zs)) ∙ drop-append-le n (s.held ++ xs) zs a ∙ ap (λ l. l ++ zs) h.rest ∙ append_assoc t.held ys zs;
   events = λ more e.
-      ap (λ l. events_of s.grammar (s.held ++ l)) (append_assoc xs zs more) ∙ h.events (zs ++ more) (never (zs ++ more))
+      ap (λ l. events_of s.grammar (s.held ++ l)) (append_assoc xs zs more) ∙ h.events (zs ++ more) no_end
       ∙ ap (λ l. out ++ shift n (events_of t.grammar (t.held ++ l))) (sym (append_assoc ys zs more));
 }
 
+-- what is behind the first events begins with the second ones
+behind_first : (m : ℕ) (one two items : List DecodeEvent) → BeginsWith (one ++ shift m items) (one ++ shift m two) → BeginsWith items two
+behind_first m one two items b = begins_back m two items (begins_later one (shift m two) (shift m items) b)
+
 -- one after the other
-pub after_that : (last : Bool) (s : DecoderState) (xs : List ℕ) (m : ℕ) (t : DecoderState) (ys : List ℕ) (one : List DecodeEvent) (n : ℕ) (u : DecoderState) (zs : List ℕ) (two : List DecodeEvent) →
-    Progress last s xs m t ys one → Progress last t ys n u zs two → Progress last s xs (m + n) u zs (one ++ shift m two)
-after_that last s xs m t ys one n u zs two a b = record {
+pub after_that : (ended : Bool) (s : DecoderState) (xs : List ℕ) (m : ℕ) (t : DecoderState) (ys : List ℕ) (one : List DecodeEvent) (n : ℕ) (u : DecoderState) (zs : List ℕ) (two : List DecodeEvent) →
+    Progress ended s xs m t ys one → Progress ended t ys n u zs two → Progress ended s xs (m + n) u zs (one ++ shift m two)
+after_that ended s xs m t ys one n u zs two a b = record {
   counts = omega (arith, a.counts, b.counts);
   rest = sym (drop-drop n m (s.held ++ xs)) ∙ ap (drop n) a.rest ∙ b.rest;
   events = λ more h.
-      a.events more h
-      ∙ ap (λ l. one ++ shift m l) (b.events more h)
+      let all = events_of s.grammar (s.held ++ (xs ++ more)) in
+      let later = events_of t.grammar (t.held ++ (ys ++ more)) in
+      let first : all ≡ one ++ shift m later =
+      a.events more (λ l. elim (h l) [ inl z ↦ inl z | inr g ↦ inr (begins_sooner one (shift m two) all g) ]) in
+      let second : later ≡ two ++ shift n (events_of u.grammar (u.held ++ (zs ++ more))) =
+      b.events more (λ l. elim (h l) [ inl z ↦ inl z | inr g ↦ inr (behind_first m one two later (rw first at g)) ]) in
+      first
+      ∙ ap (λ l. one ++ shift m l) second
       ∙ ap (λ l. one ++ l) (shift-append m two (shift n (events_of u.grammar (u.held ++ (zs ++ more)))))
       ∙ ap (λ l. one ++ (shift m two ++ l)) (shift-shift m n (events_of u.grammar (u.held ++ (zs ++ more))))
       ∙ sym (append_assoc one (shift m two) (shift (m + n) (events_of u.grammar (u.held ++ (zs ++ more)))));

@@ -1,5 +1,5 @@
 -- The law of one call of a decoder.
-use Rattle.std.specs.Prelude.{◌≡◌, ◌≢◌, ℕ, ◌+◌, ◌-◌, ◌<◌, ◌≤◌, List, [], ◌∷◌, ◌++◌, drop, length, map, Bool, false, IsTrue, All, Some}
+use Rattle.std.specs.Prelude.{◌≡◌, ◌≢◌, ℕ, ◌+◌, ◌-◌, ◌<◌, ◌≤◌, List, [], ◌∷◌, ◌++◌, drop, length, map, Bool, false, IsTrue, All, Some, ◌&&◌, ◌⊎◌}
 use Rattle.std.specs.Char.{IsScalar}
 use Rattle.legacy_base.specs.declared.results.DecodeEvent.{DecodeEvent}
 use Rattle.legacy_base.specs.declared.results.DecodeEvent.TheVariants.{Scalar, Bad}
@@ -7,6 +7,8 @@ use Rattle.legacy_base.specs.declared.results.DecoderResult.{DecoderResult}
 use Rattle.legacy_base.specs.declared.results.DecoderResult.TheVariants.{InputEmpty, OutputFull, Malformed}
 use Rattle.legacy_text.specs.EncodingForm.{EncodingForm, all_code_units, total_unit_count}
 use Rattle.legacy_base.specs.Events.{shift}
+use Rattle.legacy_base.specs.Beginnings.{BeginsWith}
+use Rattle.legacy_base.specs.Profile.{is_empty}
 use Rattle.legacy_base.specs.Grammar.{events_of}
 use Rattle.legacy_base.specs.States.{DecoderState, may_hold, rests}
 use Rattle.legacy_base.specs.Acts.{LacksRoom, HadRooms, fault_room, full_room_in}
@@ -23,16 +25,25 @@ reported_events seen (Malformed length back) = Bad (seen - back - length) length
 abbrev pub out_events : ℕ → List ℕ → DecoderResult → List DecodeEvent
 out_events seen scalars answer = map Scalar scalars ++ reported_events seen answer
 
+-- The answer may report what is only malformed because the input ends: it is Malformed, on a last call, with nothing unread.
+abbrev pub may_report_end : Bool → DecoderResult → List ℕ → Bool
+may_report_end last InputEmpty left = false
+may_report_end last OutputFull left = false
+may_report_end last (Malformed length back) left = last && is_empty left
+
 -- From the state `before`, with the bytes `source`, a decoder came to the state `after` and left the bytes `left`. It is
 -- done with `passed` bytes of those held back and the source, and what it holds back and left is the rest of them.
--- Whatever bytes come behind, but nothing at the last end: all events are `out`, and then those of the rest.
-pub record Progress (last : Bool) (before : DecoderState) (source : List ℕ) (passed : ℕ) (after : DecoderState) (left : List ℕ) (out : List DecodeEvent) : Type 0 where
+-- Whatever bytes follow, also after a last call: all events are `out`, and then those of the rest. Only after a report at
+-- the end (`ended`), which other bytes may belie, this is said of no bytes, and of all with which the events are still
+-- `out` at first.
+pub record Progress (ended : Bool) (before : DecoderState) (source : List ℕ) (passed : ℕ) (after : DecoderState) (left : List ℕ) (out : List DecodeEvent) : Type 0 where
   -- the bytes that are done with, and those held back and left, are as many as were held back and in the source
   pub counts : passed + (length after.held + length left) ≡ length before.held + length source
   -- what is held back and left is the rest of them, byte for byte
   pub rest : drop passed (before.held ++ source) ≡ after.held ++ left
   -- all events are `out`, and then those of the rest, whatever follows
-  pub events : (more : List ℕ) → (IsTrue last → more ≡ []) →
+  pub events : (more : List ℕ) →
+      (IsTrue ended → (more ≡ []) ⊎ BeginsWith (events_of before.grammar (before.held ++ (source ++ more))) out) →
       events_of before.grammar (before.held ++ (source ++ more))
       ≡ out ++ shift passed (events_of after.grammar (after.held ++ (left ++ more)))
 
@@ -79,8 +90,9 @@ pub record DecoderCall (form : EncodingForm) (before : DecoderState) (source : L
   pub scalar : All IsScalar scalars
   -- so many bytes, of those held back and the source, are done with
   pub passed : ℕ
-  -- what it gave, and then the events of what is left, are the grammar's events, whatever follows
-  pub progress : Progress last before source passed after (drop read source) (out_events (length before.held + read) scalars answer)
+  -- what it gave, and then the events of what is left, are the grammar's events, whatever follows; after a report at the
+  -- end, whatever does not belie it
+  pub progress : Progress (may_report_end last answer (drop read source)) before source passed after (drop read source) (out_events (length before.held + read) scalars answer)
   -- what is held back is one of the lists that the codec may hold back
   pub allowed : IsTrue (may_hold after.grammar after.held)
   -- what Malformed reports is short, lies among the bytes seen, and the bytes behind it are those held back

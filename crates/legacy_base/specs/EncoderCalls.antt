@@ -1,11 +1,12 @@
 -- The law of one call of an encoder.
-use Rattle.std.specs.Prelude.{◌≡◌, ◌≢◌, ℕ, ◌+◌, ◌-◌, ◌<◌, ◌≤◌, List, [], ◌∷◌, ◌++◌, length, take, slice_index, map, Bool, false, IsTrue, Some}
+use Rattle.std.specs.Prelude.{◌≡◌, ◌≢◌, ℕ, ◌+◌, ◌-◌, ◌<◌, ◌≤◌, List, [], ◌∷◌, ◌++◌, length, take, slice_index, map, Bool, false, IsTrue, Some, ◌⊎◌}
 use Rattle.legacy_base.specs.declared.results.EncodeEvent.{EncodeEvent}
 use Rattle.legacy_base.specs.declared.results.EncodeEvent.TheVariants.{Byte}
 use Rattle.legacy_base.specs.declared.results.EncodeEvent.TheVariants as events
 use Rattle.legacy_base.specs.declared.results.EncoderResult.{EncoderResult}
 use Rattle.legacy_base.specs.declared.results.EncoderResult.TheVariants.{InputEmpty, OutputFull, Unmappable}
 use Rattle.legacy_text.specs.EncodingForm.{EncodingForm, total_unit_count}
+use Rattle.legacy_base.specs.Beginnings.{BeginsWith}
 use Rattle.legacy_base.specs.EncodeEvents.{byte_count, code_length}
 use Rattle.legacy_base.specs.Encoders.{EncoderState, code, encoded, end_bytes, scalar_room, encoder_need, encoder_answer, encoder_room}
 
@@ -14,6 +15,12 @@ abbrev pub reported : EncoderResult → List EncodeEvent
 reported InputEmpty = []
 reported OutputFull = []
 reported (Unmappable c) = events.Unmappable c ∷ []
+
+-- the answer tells that the end of the text was written
+abbrev pub tells_end : Bool → EncoderResult → Bool
+tells_end last InputEmpty = last
+tells_end last OutputFull = false
+tells_end last (Unmappable c) = false
 
 -- the next act needs more room than is free
 abbrev pub EncoderLacksRoom : EncoderState → List ℕ → Bool → ℕ → Type 0
@@ -37,9 +44,12 @@ pub record EncoderCall (before : EncoderState) (source : List ℕ) (last : Bool)
   pub cut : source ≡ taken ++ left
   -- no more is written than is free
   pub fits : length bytes ≤ free
-  -- The events of the source and whatever comes behind it, ended or not, are what was written and reported, and then
-  -- those of what is left. On a last call nothing but the end comes behind.
-  pub events : (more : List ℕ) (ended : Bool) → (IsTrue last → (more ≡ []) × IsTrue ended) →
+  -- The events of the source and whatever text follows, ended or not, also after a last call, are what was written and
+  -- reported, and then those of what is left. Only where the end was written this is said of no text, and of all with
+  -- which the events are still those at first.
+  pub events : (more : List ℕ) (ended : Bool) →
+      (IsTrue (tells_end last answer) →
+      ((more ≡ []) × IsTrue ended) ⊎ BeginsWith (encoded before (source ++ more) ended) (map Byte bytes ++ reported answer)) →
       encoded before (source ++ more) ended ≡ map Byte bytes ++ (reported answer ++ encoded after (left ++ more) ended)
   -- at InputEmpty all is read; on a last call the end has nothing left to write
   pub input_empty : answer ≡ InputEmpty → (left ≡ []) × (IsTrue last → end_bytes after ≡ [])

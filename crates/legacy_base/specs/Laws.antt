@@ -1,6 +1,9 @@
 -- What is proved of the definitions themselves.
-use Rattle.std.specs.Prelude.{◌≡◌, ℕ, ◌<◌, ◌≤◌, List, [], ◌∷◌, ◌++◌, length, drop, Bool, Option}
+use Rattle.std.specs.Prelude.{◌≡◌, ℕ, ◌+◌, ◌<◌, ◌≤◌, List, [], ◌∷◌, ◌++◌, length, drop, Bool, Option, All}
+use Rattle.std.specs.Char.{IsScalar}
 use Rattle.legacy_tables.specs.declared.tables.IndexName.{IndexName}
+use Rattle.legacy_base.specs.declared.results.DecodeEvent.{DecodeEvent}
+use Rattle.legacy_base.specs.declared.results.DecodeEvent.TheVariants.{Scalar, Bad}
 use Rattle.legacy_base.specs.Events.{shift}
 use Rattle.legacy_base.specs.Fronts.{Front, reads, malformed, front_length, front_events}
 use Rattle.legacy_base.specs.SingleByte.{single_byte_front}
@@ -10,11 +13,11 @@ use Rattle.legacy_base.specs.LeadForms.{lead_front}
 use Rattle.legacy_base.specs.ShiftJis.{shift_jis_front}
 use Rattle.legacy_base.specs.EucJp.{euc_jp_front}
 use Rattle.legacy_base.specs.Gb18030.{gb18030_front}
-use Rattle.legacy_base.specs.Grammar.{Grammar, single_byte, user_defined, plain, big5, shift_jis, euc_jp, gb18030, events_of}
+use Rattle.legacy_base.specs.Grammar.{Grammar, single_byte, user_defined, replacement, utf16, plain, big5, shift_jis, euc_jp, gb18030, iso_2022_jp, events_of}
 use Rattle.legacy_tables.specs.Indexes.{FlatIndexes}
 use Rattle.legacy_tables.specs.TableChecks.{AreAccepted, IsAcceptedTable}
 use Rattle.legacy_tables.specs.Tables.{index_list}
-use Rattle.legacy_tables.specs.Unicode.{IsByte, AreScalars}
+use Rattle.legacy_tables.specs.Unicode.{IsByte, AreBytes, AreScalars}
 
 -- the scalars of a front, and none of malformed bytes
 abbrev pub front_scalars : Front → List ℕ
@@ -61,3 +64,30 @@ pub record AreReadByFronts : Type 0 where
 -- an empty list has no events
 abbrev pub HasNoneOfNothing : Type 0
 HasNoneOfNothing = (grammar : Grammar) → events_of grammar [] ≡ []
+
+-- the lists that a grammar reads by are those of accepted tables
+abbrev pub IsOfAcceptedTables : Grammar → Type 0
+IsOfAcceptedTables (single_byte table) = IsAcceptedTable table
+IsOfAcceptedTables user_defined = Unit {0}
+IsOfAcceptedTables (replacement reported) = Unit {0}
+IsOfAcceptedTables (utf16 big_endian) = Unit {0}
+IsOfAcceptedTables (big5 index) = (flat : FlatIndexes) × AreAccepted flat × (index ≡ flat.big5)
+IsOfAcceptedTables (plain is_lead_byte pointers index) =
+    (flat : FlatIndexes) × AreAccepted flat × (name : IndexName) × (index ≡ index_list flat name)
+IsOfAcceptedTables (shift_jis jis0208) = (flat : FlatIndexes) × AreAccepted flat × (jis0208 ≡ flat.jis0208)
+IsOfAcceptedTables (euc_jp jis0208 jis0212) =
+    (flat : FlatIndexes) × AreAccepted flat × (jis0208 ≡ flat.jis0208) × (jis0212 ≡ flat.jis0212)
+IsOfAcceptedTables (gb18030 index ranges) =
+    (flat : FlatIndexes) × AreAccepted flat × (index ≡ flat.gb18030) × (ranges ≡ flat.ranges)
+IsOfAcceptedTables (iso_2022_jp jis0208 mode) = (flat : FlatIndexes) × AreAccepted flat × (jis0208 ≡ flat.jis0208)
+
+-- An event of a list of so many bytes: a malformed sequence has one to four bytes of it, and a scalar is a Unicode scalar
+-- value where what it is read by is checked.
+abbrev pub IsEventOf : ℕ → Type 0 → DecodeEvent → Type 0
+IsEventOf size checked (Scalar c) = checked → IsScalar c
+IsEventOf size checked (Bad place length) = (1 ≤ length) × (length ≤ 4) × (place + length ≤ size)
+
+-- all events of all lists are, in every codec, where its tables are accepted and the list is of bytes
+abbrev pub HasSoundEvents : Type 0
+HasSoundEvents = (grammar : Grammar) (bytes : List ℕ) →
+    All (IsEventOf (length bytes) (IsOfAcceptedTables grammar × AreBytes bytes)) (events_of grammar bytes)

@@ -1,6 +1,7 @@
 -- What the codecs mean, in the order in which a reader comes to believe it. An `abbrev` is a small case analysis, which
 -- proofs see through. What recurses on lists, or holds a codec's whole case analysis, is `unfoldable`: a proof opens it
 -- where it wants to, and else goes by its laws.
+pub mod Beginnings
 pub mod Events
 pub mod Fronts
 pub mod Formulas

@@ -12,7 +12,8 @@ use Rattle.legacy_base.specs.States.{gb18030_may_hold, rests}
 use Rattle.legacy_decoder_engine.specs.Steps.{hold, finish, leave, PendingMeets, end_events, trail_step, Meets}
 use Rattle.legacy_chinese.specs.Gb18030Machine.{gb18030_pending, gb18030_first, gb18030_step, gb18030_machine}
 use Rattle.legacy_base.proofs.Cuts.{cut-nil}
-use Rattle.legacy_decoder_engine.proofs.FrontMoves.{HasFront, Fits, fits_test, fits_trail, fits_meets, write_meets, end_meets}
+use Rattle.legacy_base.proofs.FrontLaws.{gb18030_front-of}
+use Rattle.legacy_decoder_engine.proofs.FrontMoves.{HasFront, Fits, fits_test, fits_trail, fits_meets, write_meets, end_meets, report_meets}
 
 lead_not_ascii : (b : ℕ) → is_lead b ≡ true → (is_ascii b ≡ false) × ((b == 0x80) ≡ false)
 lead_not_ascii b h = (grind (arith, nat_tests), grind (arith, nat_tests))
@@ -151,5 +152,7 @@ module _ (index : List ℕ) (ranges : List (ℕ × ℕ)) where
     steps = λ held b h r. fits_meets (gb18030 index ranges) (gb18030_front index ranges) ev_is gb18030_may_hold (λ held'. refl) held b (gb18030_step index ranges held b) (few_held held h)
         (fits held b h r);
     ends = all_end;
+    reports = λ held more h r. report_meets (gb18030 index ranges) (gb18030_front index ranges) ev_is held more
+        (λ b rest e. (gb18030_front-of {P = ⊥} index ranges (λ n. absurd n) (λ p c q n. absurd n) b rest).some);
     few = few_held;
   }

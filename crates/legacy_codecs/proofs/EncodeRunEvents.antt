@@ -1,5 +1,5 @@
 -- What the calls of an encoder's run give together.
-use Rattle.std.proofs.Common.{◌≡◌, ◌∙◌, ℕ, ◌+◌, List, [], ◌∷◌, ◌++◌, map, refl, sym, ap, append_assoc, append-nil, subst, Bool, true, false, IsTrue, Some}
+use Rattle.std.proofs.Common.{◌≡◌, ◌∙◌, ℕ, ◌+◌, List, [], ◌∷◌, ◌++◌, map, refl, sym, ap, append_assoc, append-nil, subst, Bool, true, false, IsTrue, Some, inl}
 use Rattle.std.proofs.lemmas.Bool.{false≢true}
 use Rattle.std.specs.Prelude.{slice_get}
 use Rattle.legacy_base.specs.declared.results.EncodeEvent.{EncodeEvent}
@@ -8,7 +8,7 @@ use Rattle.legacy_base.specs.declared.results.EncoderResult.{EncoderResult}
 use Rattle.legacy_base.specs.declared.results.EncoderResult.TheVariants.{InputEmpty, OutputFull, Unmappable}
 use Rattle.legacy_base.specs.Encoders.{EncoderState, encoded}
 use Rattle.legacy_base.specs.EncoderCalls.{EncoderCall, reported}
-use Rattle.legacy_base.proofs.EncoderLaws.{end-encoded}
+use Rattle.legacy_base.proofs.EncoderLaws.{end-encoded, told_end-last}
 use Rattle.legacy_codecs.specs.Pieces.{joined, RunPlace, is_none, place_before, place_behind, ends_run}
 use Rattle.legacy_codecs.specs.EncodeRuns.{is_input_empty, EncodeReaches, IsEncodeRun, IsEncodeBeginning, HasNoEnd, FinishedEncodeRun, EncodeCutsDoNotMatter}
 use Rattle.legacy_codecs.specs.EncodeRuns.EncodeReaches.{begun, called}
@@ -43,7 +43,7 @@ module _ {from : RunPlace EncoderState} {lengths : List ℕ} where
       encoded_ahead from ≡ events ++ encoded_ahead p
   reaches-encoded begun = refl
   reaches-encoded (called calls events p r free e after answer left bytes c) =
-      let one = c.events (joined p.later) true (λ l. (ap joined (last_empty p.later l), refl)) in
+      let one = c.events (joined p.later) true (λ l. inl (ap joined (last_empty p.later (told_end-last (is_none p.later) answer l)), refl)) in
       let two = place_behind-encoded p after answer left (λ q. (c.input_empty q).0) in
       let next = encoded_ahead (place_behind p after (is_input_empty answer) left) in
       reaches-encoded r

@@ -1,8 +1,9 @@
 -- A call that writes references under way.
 use Rattle.std.proofs.Common.{◌≡◌, ◌∙◌, ℕ, ◌+◌, ◌-◌, ◌≤◌, ◌<◌, List, [], ◌∷◌, ◌++◌, length, map, slice_get, refl, sym, ap, subst, arith, append_assoc}
-use Rattle.std.proofs.Common.{append-nil, length-append, Bool, true, false, ◌||◌, IsTrue, Some}
+use Rattle.std.proofs.Common.{append-nil, length-append, Bool, true, false, ◌||◌, IsTrue, Some, inl, inr}
 use Rattle.std.specs.Prelude.{is_some}
 use Rattle.std.proofs.lemmas.Bool.{true≢false}
+use Rattle.std.proofs.Math.Nat.{sub-zero}
 use Rattle.legacy_base.specs.declared.results.EncodeEvent.{EncodeEvent}
 use Rattle.legacy_base.specs.declared.results.EncodeEvent.TheVariants.{Byte}
 use Rattle.legacy_base.specs.declared.results.EncodeEvent.TheVariants as event
@@ -10,10 +11,11 @@ use Rattle.legacy_base.specs.declared.results.EncoderResult.{EncoderResult}
 use Rattle.legacy_base.specs.declared.results.EncoderResult.TheVariants.{InputEmpty, OutputFull, Unmappable}
 use Rattle.legacy_text.specs.EncodingForm.{EncodingForm, total_unit_count}
 use Rattle.legacy_base.specs.Encoders.{EncoderState, encoded, end_bytes, encoder_need, encoder_answer}
-use Rattle.legacy_base.specs.EncoderCalls.{EncoderCall, EncoderLacksRoom, reported}
+use Rattle.legacy_base.specs.EncoderCalls.{EncoderCall, EncoderLacksRoom, tells_end, reported}
+use Rattle.legacy_base.proofs.Beginnings.{begins_later}
 use Rattle.legacy_base.proofs.EncoderLaws.{end-encoded, encoder_need-small}
 use Rattle.legacy_codecs.specs.declared.results.CoderResult.TheVariants as coder
-use Rattle.legacy_codecs.specs.References.{reference, reference_room, referenced_bytes, has_unmappable, Gives, LacksReferenceRoom, ReplacingEncoderCall}
+use Rattle.legacy_codecs.specs.References.{reference, reference_room, referenced_bytes, has_unmappable, Gives, KeepsReserve, LacksReferenceRoom, ReplacingEncoderCall}
 use Rattle.legacy_codecs.proofs.ReferenceTexts.{referenced-append, referenced-of_bytes, has_unmappable-append, has_unmappable-of_bytes}
 
 -- ---- what one call adds
@@ -71,10 +73,32 @@ pub nothing_reported : (before : EncoderState) (last : Bool) (free : ℕ) (after
 nothing_reported before last free after c left bytes call =
     let byte : ℕ → EncodeEvent = λ b. Byte b in
     let rest = encoded after (left ++ []) true in
-    let e : map byte (end_bytes before) ≡ map byte bytes ++ (event.Unmappable c ∷ rest) = sym (end-encoded before) ∙ call.events [] true (λ _. (refl, refl)) in
+    let e : map byte (end_bytes before) ≡ map byte bytes ++ (event.Unmappable c ∷ rest) = sym (end-encoded before) ∙ call.events [] true (λ _. inl (refl, refl)) in
     let none : has_unmappable (map byte bytes ++ (event.Unmappable c ∷ rest)) ≡ false = ap has_unmappable (sym e) ∙ has_unmappable-of_bytes (end_bytes before) in
     let some : has_unmappable (map byte bytes ++ (event.Unmappable c ∷ rest)) ≡ true = has_unmappable-append (map byte bytes) (event.Unmappable c ∷ rest) ∙ or_some (has_unmappable (map byte bytes)) in
     true≢false (sym some ∙ none)
+
+-- ---- the room of a reference
+
+-- behind bytes that leave the room free
+reserve-bytes : (free : ℕ) (bytes : List ℕ) (events : List EncodeEvent) → length bytes ≤ free - reference_room → KeepsReserve (free - length bytes) events → KeepsReserve free (map Byte bytes ++ events)
+unfolding KeepsReserve
+reserve-bytes free [] events fits kept = rw sub-zero at kept
+reserve-bytes free (b ∷ bytes) events fits kept =
+    let less : free - 1 - length bytes ≡ free - length (b ∷ bytes) = omega arith in
+    (omega (arith, fits), reserve-bytes (free - 1) bytes events (omega (arith, fits)) (rw less kept))
+
+-- behind events
+reserve-append : (free : ℕ) (xs ys : List EncodeEvent) → KeepsReserve free xs → KeepsReserve (free - length (referenced_bytes xs)) ys → KeepsReserve free (xs ++ ys)
+unfolding KeepsReserve
+reserve-append free [] ys a b = rw sub-zero at b
+reserve-append free (Byte c ∷ xs) ys a b =
+    let less : free - 1 - length (referenced_bytes xs) ≡ free - length (referenced_bytes (Byte c ∷ xs)) = omega arith in
+    (a.0, reserve-append (free - 1) xs ys a.1 (rw less b))
+reserve-append free (event.Unmappable c ∷ xs) ys a b =
+    let less : free - length (reference c) - length (referenced_bytes xs) ≡ free - length (referenced_bytes (event.Unmappable c ∷ xs)) =
+    omega (arith, length-append (reference c) (referenced_bytes xs)) in
+    (a.0, reserve-append (free - length (reference c)) xs ys a.1 (rw less b))
 
 -- ---- calls under way
 
@@ -84,8 +108,9 @@ pub record IsReferencing (before : EncoderState) (source : List ℕ) (last : Boo
   pub cut : source ≡ taken ++ left
   pub fits : length bytes ≤ free
   pub out : List EncodeEvent
-  pub gives : Gives last before source now left out
+  pub gives : Gives false before source now left out
   pub text : bytes ≡ referenced_bytes out
+  pub reserve : KeepsReserve free out
   pub found_is : found ≡ has_unmappable out
   -- nothing was done yet where nothing was found
   pub untouched : found ≡ false → (now ≡ before) × (left ≡ source) × (bytes ≡ [])
@@ -93,6 +118,7 @@ pub record IsReferencing (before : EncoderState) (source : List ℕ) (last : Boo
   pub unfound : 0 < encoder_need before source last → LacksReferenceRoom before source last free → found ≡ false
 
 pub referencing_start : (before : EncoderState) (source : List ℕ) (last : Bool) (free : ℕ) → IsReferencing before source last free before source [] false
+unfolding KeepsReserve
 referencing_start before source last free = record {
   taken = [];
   cut = refl;
@@ -100,6 +126,7 @@ referencing_start before source last free = record {
   out = [];
   gives = λ more ended h. refl;
   text = refl;
+  reserve = tt;
   found_is = refl;
   untouched = λ _. (refl, refl, refl);
   unfound = λ _ _. refl;
@@ -131,15 +158,28 @@ module _ {before : EncoderState} {source : List ℕ} {last : Bool} {free : ℕ} 
   end_text : (written : List ℕ) (answer : EncoderResult) → reported_bytes answer ≡ [] → bytes ++ written ≡ referenced_bytes (out_after written answer)
   end_text written answer e = ap (λ l. bytes ++ l) (sym (ap (λ l. written ++ l) e ∙ append-nil written)) ∙ text_after written answer
 
+  -- what a call wrote leaves the room of a reference free, and so does what it reported
+  reserve_after : (room : ℕ) → room ≡ free - length bytes - reference_room → (written : List ℕ) (answer : EncoderResult) → length written ≤ room →
+      KeepsReserve (free - length bytes - length written) (reported answer) → KeepsReserve free (out_after written answer)
+  reserve_after room room_is written answer fits kept =
+      let done : length (referenced_bytes u.out) ≡ length bytes = ap length (sym u.text) in
+      reserve-append free u.out (out_events written answer) u.reserve
+      (rw done (reserve-bytes (free - length bytes) written (reported answer) (omega (arith, fits, room_is)) kept))
+
   -- a call with so much room as there is but for a reference
   module _ {room : ℕ} (room_is : room ≡ free - length bytes - reference_room) {after : EncoderState} {rest written : List ℕ} where
     cut_after : (answer : EncoderResult) (c : EncoderCall now left last room after answer rest written) → source ≡ (u.taken ++ c.taken) ++ rest
     cut_after answer c = u.cut ∙ ap (λ l. u.taken ++ l) c.cut ∙ sym (append_assoc u.taken c.taken rest)
 
-    gives_after : (answer : EncoderResult) → EncoderCall now left last room after answer rest written → Gives last before source after rest (out_after written answer)
+    gives_after : (answer : EncoderResult) → EncoderCall now left last room after answer rest written → Gives (tells_end last answer) before source after rest (out_after written answer)
     gives_after answer c more ended h =
         let behind = encoded after (rest ++ more) ended in
-        u.gives more ended h ∙ ap (λ l. u.out ++ l) (c.events more ended h)
+        let first : encoded before (source ++ more) ended ≡ u.out ++ encoded now (left ++ more) ended = u.gives more ended (λ l. let no : false ≡ true = l in cc) in
+        first
+        ∙ ap (λ l. u.out ++ l) (c.events more ended (λ l. elim (h l) [
+          | inl e ↦ inl e
+          | inr g ↦ inr (begins_later u.out (out_events written answer) (encoded now (left ++ more) ended) (rw first at g))
+        ]))
         ∙ ap (λ l. u.out ++ l) (sym (append_assoc (map Byte written) (reported answer) behind)) ∙ sym (append_assoc u.out (out_events written answer) behind)
 
     -- where room was lacking as the call began, this call answers so
@@ -155,10 +195,12 @@ module _ {before : EncoderState} {source : List ℕ} {last : Bool} {free : ℕ} 
 
     -- ---- a scalar without bytes
 
-    pub referencing_step : (c : ℕ) → length (bytes ++ (written ++ reference c)) ≤ free → EncoderCall now left last room after (Unmappable c) rest written →
-        IsReferencing before source last free after rest (bytes ++ (written ++ reference c)) true
-    referencing_step c fits call =
+    pub referencing_step : (c : ℕ) → length (bytes ++ (written ++ reference c)) ≤ free → length bytes + length written + reference_room ≤ free →
+        EncoderCall now left last room after (Unmappable c) rest written → IsReferencing before source last free after rest (bytes ++ (written ++ reference c)) true
+    unfolding KeepsReserve
+    referencing_step c fits spare call =
         let x = Unmappable c in
+        let some : reference_room ≤ free - length bytes - length written = omega (arith, spare) in
         record {
           taken = u.taken ++ call.taken;
           cut = cut_after x call;
@@ -166,6 +208,7 @@ module _ {before : EncoderState} {source : List ℕ} {last : Bool} {free : ℕ} 
           out = out_after written x;
           gives = gives_after x call;
           text = text_after written x;
+          reserve = reserve_after room room_is written x call.fits (some, tt);
           found_is = ap (λ b. found_after b x) u.found_is ∙ found-call u.out written x;
           untouched = λ e. absurd (true≢false e);
           unfound = λ need lacks. absurd (never (full_so x call need lacks).0);
@@ -178,7 +221,7 @@ module _ {before : EncoderState} {source : List ℕ} {last : Bool} {free : ℕ} 
     referencing_less c call =
         let byte : ℕ → EncodeEvent = λ b. Byte b in
         let f : encoded now left true ≡ map byte written ++ (event.Unmappable c ∷ encoded after rest true) =
-        ap (λ l. encoded now l true) (sym (append-nil left)) ∙ call.events [] true (λ _. (refl, refl))
+        ap (λ l. encoded now l true) (sym (append-nil left)) ∙ call.events [] true (λ _. inl (refl, refl))
         ∙ ap (λ l. map byte written ++ (event.Unmappable c ∷ encoded after l true)) (append-nil rest) in
         let n = ap length f ∙ length-append (map byte written) (event.Unmappable c ∷ encoded after rest true) in
         omega (arith, n)
@@ -187,6 +230,7 @@ module _ {before : EncoderState} {source : List ℕ} {last : Bool} {free : ℕ} 
 
     pub referencing_end : EncoderCall now left last room after InputEmpty rest written →
         ReplacingEncoderCall before source last free after coder.InputEmpty rest (bytes ++ written) found
+    unfolding KeepsReserve
     referencing_end c =
         let x = InputEmpty in
         let fits = c.fits in
@@ -199,6 +243,7 @@ module _ {before : EncoderState} {source : List ℕ} {last : Bool} {free : ℕ} 
           out = out_after written x;
           gives = gives_after x c;
           text = end_text written x refl;
+          reserve = reserve_after room room_is written x fits tt;
           found_is = u.found_is ∙ found-call u.out written x;
           input_empty = λ _. c.input_empty refl;
           output_full = λ e. absurd (no_full e);
@@ -223,6 +268,7 @@ module _ {before : EncoderState} {source : List ℕ} {last : Bool} {free : ℕ} 
 
     pub referencing_full : EncoderCall now left last room after OutputFull rest written →
         ReplacingEncoderCall before source last free after coder.OutputFull rest (bytes ++ written) found
+    unfolding KeepsReserve
     referencing_full c =
         let x = OutputFull in
         let fits = c.fits in
@@ -237,6 +283,7 @@ module _ {before : EncoderState} {source : List ℕ} {last : Bool} {free : ℕ} 
           out = out_after written x;
           gives = gives_after x c;
           text = end_text written x refl;
+          reserve = reserve_after room room_is written x fits tt;
           found_is = u.found_is ∙ found-call u.out written x;
           input_empty = λ e. absurd (no_end e);
           output_full = λ _. omega (arith, long, fits, had, lacks);
@@ -258,6 +305,7 @@ module _ {before : EncoderState} {source : List ℕ} {last : Bool} {free : ℕ} 
     out = u.out;
     gives = u.gives;
     text = u.text;
+    reserve = u.reserve;
     found_is = u.found_is;
     input_empty = λ e. absurd (no_end e);
     output_full = λ _. omega arith;

@@ -1,8 +1,9 @@
 -- A call with replacement under way.
 use Rattle.std.proofs.Common.{◌≡◌, ◌∙◌, ℕ, ◌+◌, ◌-◌, ◌≤◌, ◌<◌, List, [], ◌∷◌, ◌++◌, length, drop, map, refl, sym, ap, arith, append_assoc}
-use Rattle.std.proofs.Common.{append-nil, length-append, length-drop, add-zero, Bool, true, false, ◌||◌, IsTrue, All, cond, nat_eq}
+use Rattle.std.proofs.Common.{append-nil, length-append, length-drop, add-zero, Bool, true, false, ◌||◌, IsTrue, All, cond, nat_eq, inl}
 use Rattle.std.specs.Char.{IsScalar}
 use Rattle.std.proofs.lemmas.List.{drop-drop}
+use Rattle.std.proofs.Math.Seq.{drop-nil}
 use Rattle.std.proofs.lemmas.List.Elements.{All-append, All-nil, All-cons}
 use Rattle.legacy_base.specs.declared.results.DecodeEvent.{DecodeEvent}
 use Rattle.legacy_base.specs.declared.results.DecodeEvent.TheVariants.{Scalar, Bad}
@@ -15,13 +16,13 @@ use Rattle.legacy_base.specs.States.{DecoderState}
 use Rattle.legacy_base.specs.Acts.{LacksRoom, reading_room, writing_room, full_room_in, release_room_in}
 use Rattle.legacy_base.specs.Profile.{Rooms, narrow_acts, wide_reads, wide_acts}
 use Rattle.legacy_base.specs.Lengths.{query_form, replacement_units, answer_units, room}
-use Rattle.legacy_base.specs.Calls.{Progress, DecoderCall, reported_events, out_events}
+use Rattle.legacy_base.specs.Calls.{Progress, DecoderCall, may_report_end, reported_events, out_events}
 use Rattle.legacy_text.proofs.CodeUnits.{encode_3}
 use Rattle.legacy_base.proofs.Enough.{room-answer}
-use Rattle.legacy_base.proofs.Progress.{stay, after_that}
+use Rattle.legacy_base.proofs.Progress.{stay, at_less, after_that}
 use Rattle.legacy_text.proofs.CodeUnits.{all_code_units-append}
 use Rattle.legacy_codecs.specs.declared.results.CoderResult.TheVariants as coder
-use Rattle.legacy_codecs.specs.Replacing.{replaced_scalars, has_bad, replacing_query, ReplacingDecoderCall}
+use Rattle.legacy_codecs.specs.Replacing.{replaced_scalars, has_bad, replacing_query, may_replace_end, ReplacingDecoderCall}
 use Rattle.legacy_codecs.proofs.Replaced.{replaced-append, replaced-shift, replaced-of_scalars, has_bad-append, has_bad-shift, has_bad-of_scalars, length-shift}
 
 -- ---- what one call adds
@@ -125,7 +126,7 @@ pub record IsReplacing (form : EncodingForm) (before : DecoderState) (source : L
   pub fits : length written ≤ free
   pub passed : ℕ
   pub out : List DecodeEvent
-  pub progress : Progress last before source passed now (drop read source) out
+  pub progress : Progress (may_replace_end last found (drop read source)) before source passed now (drop read source) out
   pub scalar : All IsScalar (replaced_scalars out)
   pub text : written ≡ all_code_units form (replaced_scalars out)
   pub found_is : found ≡ has_bad out
@@ -138,13 +139,35 @@ replacing_start form before source last free = record {
   fits = omega arith;
   passed = 0;
   out = [];
-  progress = stay last before source;
+  progress = stay false before source;
   scalar = All-nil IsScalar;
   text = refl;
   found_is = refl;
   untouched = λ _. (refl, refl, refl, refl);
   lowers = λ more _. omega arith;
 }
+
+-- what ended the input still does behind another call
+still_found : (last found : Bool) (answer : DecoderResult) (count : ℕ) (left : List ℕ) → IsTrue (may_replace_end last found left) → IsTrue (may_replace_end last (found_after found answer) (drop count left))
+still_found last false answer count left h = cc
+still_found false true answer count left h = cc
+still_found true true answer count (b ∷ left) h = cc
+still_found true true answer count [] h = rw (found_still answer, drop-nil) refl where
+  found_still : (answer : DecoderResult) → found_after true answer ≡ true
+  found_still InputEmpty = refl
+  found_still OutputFull = refl
+  found_still (Malformed a b) = refl
+
+-- on a last call
+pub end_found-last : (last found : Bool) (left : List ℕ) → IsTrue (may_replace_end last found left) → IsTrue last
+end_found-last true found left h = refl
+end_found-last false true left h = cc
+end_found-last false false left h = cc
+
+found_now : (last found : Bool) (answer : DecoderResult) (left : List ℕ) → IsTrue (may_report_end last answer left) → IsTrue (may_replace_end last (found_after found answer) left)
+found_now last found InputEmpty left h = cc
+found_now last found OutputFull left h = cc
+found_now last found (Malformed a b) left h = h
 
 -- where nothing was done, the next act lacks its room as it did
 still_lacks : (form : EncodingForm) (before now : DecoderState) (source : List ℕ) (last : Bool) (read free left : ℕ) → now ≡ before → read ≡ 0 → left ≡ free → LacksRoom form before source last free →
@@ -163,11 +186,15 @@ module _ (form : EncodingForm) (before : DecoderState) (source : List ℕ) (last
   out_after answer = u.out ++ shift u.passed (out_events (length now.held + count) scalars answer)
 
   progress_after : (answer : DecoderResult) (c : DecoderCall form now (drop read source) last left after answer count scalars) →
-      Progress last before source (u.passed + c.passed) after (drop (read + count) source) (out_after answer)
+      Progress (may_replace_end last (found_after found answer) (drop (read + count) source)) before source (u.passed + c.passed) after (drop (read + count) source) (out_after answer)
   progress_after answer c =
       let d = drop-drop count read source in
+      let unread = drop count (drop read source) in
       let out = out_events (length now.held + count) scalars answer in
-      rw (← d) (after_that last before source u.passed now (drop read source) u.out c.passed after (drop count (drop read source)) out u.progress c.progress)
+      let ended = may_replace_end last (found_after found answer) unread in
+      let first = at_less _ ended (still_found last found answer count (drop read source)) before source u.passed now (drop read source) u.out u.progress in
+      let second = at_less _ ended (found_now last found answer unread) now (drop read source) c.passed after unread out c.progress in
+      rw (← d) (after_that ended before source u.passed now (drop read source) u.out c.passed after unread out first second)
 
   replaced_after : (answer : DecoderResult) → replaced_scalars (out_after answer) ≡ replaced_scalars u.out ++ (scalars ++ reported_scalars answer)
   replaced_after answer =
@@ -244,7 +271,7 @@ module _ (form : EncodingForm) (before : DecoderState) (source : List ℕ) (last
   replacing_less a b c =
       let event : ℕ → DecodeEvent = λ x. Scalar x in
       let bad : List DecodeEvent = Bad (length now.held + count - b - a) a ∷ [] in
-      let e = c.progress.events [] (λ _. refl) in
+      let e = c.progress.events [] (λ _. inl refl) in
       let x : length (events_of now.grammar (now.held ++ (drop read source ++ [])))
       ≡ length (map event scalars ++ bad) + length (events_of after.grammar (after.held ++ (drop count (drop read source) ++ []))) =
       ap length e ∙ length-append (map event scalars ++ bad) _ ∙ ap (λ n. length (map event scalars ++ bad) + n) (length-shift c.passed _) in
@@ -272,6 +299,7 @@ module _ (form : EncodingForm) (before : DecoderState) (source : List ℕ) (last
         passed = u.passed + c.passed;
         out = out_after x;
         progress = progress_after x c;
+        allowed = c.allowed;
         scalar = scalar_after x c.scalar;
         text = sym same ∙ text_after x;
         found_is = u.found_is ∙ found-call u.out u.passed (length now.held + count) scalars x;
@@ -309,6 +337,7 @@ module _ (form : EncodingForm) (before : DecoderState) (source : List ℕ) (last
         passed = u.passed + c.passed;
         out = out_after x;
         progress = progress_after x c;
+        allowed = c.allowed;
         scalar = scalar_after x c.scalar;
         text = sym same ∙ text_after x;
         found_is = u.found_is ∙ found-call u.out u.passed (length now.held + count) scalars x;

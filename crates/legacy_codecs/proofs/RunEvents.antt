@@ -1,5 +1,5 @@
 -- What the calls of a run give together.
-use Rattle.std.proofs.Common.{◌≡◌, ◌∙◌, ℕ, ◌+◌, List, [], ◌∷◌, ◌++◌, length, drop, map, refl, sym, ap, arith, append_assoc, append-nil, subst, Bool, true, IsTrue}
+use Rattle.std.proofs.Common.{◌≡◌, ◌∙◌, ℕ, ◌+◌, List, [], ◌∷◌, ◌++◌, length, drop, map, refl, sym, ap, arith, append_assoc, append-nil, subst, Bool, true, IsTrue, inl}
 use Rattle.std.proofs.lemmas.Bool.{false≢true}
 use Rattle.std.proofs.Math.ListN.{drop_of_length-le}
 use Rattle.legacy_base.specs.declared.results.DecodeEvent.{DecodeEvent}
@@ -12,7 +12,8 @@ use Rattle.legacy_base.specs.Grammar.{events_of}
 use Rattle.legacy_base.specs.States.{DecoderState}
 use Rattle.legacy_base.specs.Calls.{out_events}
 use Rattle.legacy_base.proofs.Shifts.{shift-append, shift-shift, shift-zero}
-use Rattle.legacy_codecs.specs.Pieces.{joined, RunPlace, place_before, place_behind}
+use Rattle.legacy_base.proofs.Progress.{end_report-last}
+use Rattle.legacy_codecs.specs.Pieces.{joined, RunPlace, is_none, place_before, place_behind}
 use Rattle.legacy_codecs.specs.Runs.{is_input_empty, Reaches, placed_event, placed, IsRun, IsBeginning, HasNoneLeft, FinishedRun, CutsDoNotMatter}
 use Rattle.legacy_codecs.specs.Runs.Reaches.{begun, called}
 use Rattle.legacy_codecs.proofs.Places.{last_empty, place_before-state, place_behind-state}
@@ -65,7 +66,7 @@ module _ {form : EncodingForm} {from : RunPlace DecoderState} {lengths : List �
       let out = out_events (length p.state.held + read) scalars answer in
       let next = behind p after answer read in
       let one : events_ahead p ≡ out ++ shift c.passed (events_of after.grammar (after.held ++ (drop read p.piece ++ joined p.later))) =
-      c.progress.events (joined p.later) (λ l. ap joined (last_empty p.later l)) in
+      c.progress.events (joined p.later) (λ l. inl (ap joined (last_empty p.later (end_report-last (is_none p.later) answer (drop read p.piece) l)))) in
       let two : events_of after.grammar (after.held ++ (drop read p.piece ++ joined p.later)) ≡ events_ahead next =
       ap (λ l. events_of after.grammar l) (place_behind-ahead p after answer read (λ q. (c.input_empty q).0))
       ∙ ap (λ (s : DecoderState). events_of s.grammar (ahead next)) (sym (place_behind-state p after (is_input_empty answer) (drop read p.piece))) in

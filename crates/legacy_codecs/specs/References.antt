@@ -1,8 +1,9 @@
 -- Calls of an encoder that write a numeric character reference for each scalar that has no bytes.
-use Rattle.std.specs.Prelude.{◌≡◌, ℕ, ◌+◌, ◌-◌, ◌<◌, ◌≤◌, List, [], ◌∷◌, ◌++◌, length, flat_map, Bool, true, false, IsTrue, Some, decimal, codes}
+use Rattle.std.specs.Prelude.{◌≡◌, ℕ, ◌+◌, ◌-◌, ◌<◌, ◌≤◌, List, [], ◌∷◌, ◌++◌, length, flat_map, Bool, true, false, IsTrue, Some, ◌⊎◌, decimal, codes}
 use Rattle.std.specs.List.{list_any}
 use Rattle.legacy_base.specs.declared.results.EncodeEvent.{EncodeEvent}
 use Rattle.legacy_base.specs.declared.results.EncodeEvent.TheVariants.{Byte, Unmappable}
+use Rattle.legacy_base.specs.Beginnings.{BeginsWith}
 use Rattle.legacy_text.specs.EncodingForm.{EncodingForm, total_unit_count}
 use Rattle.legacy_base.specs.Encoders.{EncoderState, encoded, end_bytes, encoder_need, encoder_answer}
 use Rattle.legacy_codecs.specs.declared.results.CoderResult.{CoderResult}
@@ -34,12 +35,25 @@ is_unmappable (Unmappable c) = true
 abbrev pub has_unmappable : List EncodeEvent → Bool
 has_unmappable events = list_any is_unmappable events
 
--- The events of the source and whatever comes behind it, ended or not, are `out`, and then those of what is left. On a
--- last call nothing but the end comes behind.
+-- the answer tells that the end of the text was written
+abbrev pub tells_text_end : Bool → CoderResult → Bool
+tells_text_end last InputEmpty = last
+tells_text_end last OutputFull = false
+
+-- The events of the source and whatever text follows, ended or not, are `out`, and then those of what is left. Only where
+-- the end was written (`wrote_end`) this is said of no text, and of all with which the events are still `out` at first.
 abbrev pub Gives : Bool → EncoderState → List ℕ → EncoderState → List ℕ → List EncodeEvent → Type 0
-Gives last before source after left out =
-    (more : List ℕ) (ended : Bool) → (IsTrue last → (more ≡ []) × IsTrue ended) →
+Gives wrote_end before source after left out =
+    (more : List ℕ) (ended : Bool) →
+    (IsTrue wrote_end → ((more ≡ []) × IsTrue ended) ⊎ BeginsWith (encoded before (source ++ more) ended) out) →
     encoded before (source ++ more) ended ≡ out ++ encoded after (left ++ more) ended
+
+-- Where so much is free, a reference still fits behind each byte of a code or an escape, and each reference begins where
+-- one that is as long as can be would fit.
+unfoldable pub KeepsReserve : ℕ → List EncodeEvent → Type 0
+KeepsReserve free [] = Unit {0}
+KeepsReserve free (Byte b ∷ events) = (1 + reference_room ≤ free) × KeepsReserve (free - 1) events
+KeepsReserve free (Unmappable c ∷ events) = (reference_room ≤ free) × KeepsReserve (free - length (reference c)) events
 
 -- with a reference behind it, the next act needs more room than is free
 abbrev pub LacksReferenceRoom : EncoderState → List ℕ → Bool → ℕ → Type 0
@@ -56,9 +70,11 @@ pub record ReplacingEncoderCall (before : EncoderState) (source : List ℕ) (las
   -- what the call gave
   pub out : List EncodeEvent
   -- that, and then the events of what is left, are the codec's events, whatever follows
-  pub gives : Gives last before source after left out
+  pub gives : Gives (tells_text_end last answer) before source after left out
   -- what is written is what it gave, with its reference for each scalar that has no bytes
   pub text : bytes ≡ referenced_bytes out
+  -- no byte of the encoder's own is in the ten that are kept free for a reference
+  pub reserve : KeepsReserve free out
   -- the last answer is whether there was one
   pub found_is : found ≡ has_unmappable out
   -- at InputEmpty all is read; on a last call the end has nothing left to write

@@ -1,12 +1,13 @@
 -- Calls of a decoder that write U+FFFD for each malformed sequence.
-use Rattle.std.specs.Prelude.{◌≡◌, ℕ, ◌+◌, ◌-◌, ◌≤◌, List, [], length, drop, map, Bool, true, false, IsTrue, All, Some}
+use Rattle.std.specs.Prelude.{◌≡◌, ℕ, ◌+◌, ◌-◌, ◌≤◌, List, [], length, drop, map, Bool, true, false, IsTrue, All, Some, ◌&&◌}
 use Rattle.std.specs.Char.{IsScalar}
 use Rattle.std.specs.List.{list_any}
 use Rattle.legacy_base.specs.declared.results.DecodeEvent.{DecodeEvent}
 use Rattle.legacy_base.specs.declared.results.DecodeEvent.TheVariants.{Scalar, Bad}
 use Rattle.legacy_text.specs.EncodingForm.{EncodingForm, Utf8, Utf16, all_code_units}
 use Rattle.legacy_base.specs.Grammar.{events_of}
-use Rattle.legacy_base.specs.States.{DecoderState, rests}
+use Rattle.legacy_base.specs.Profile.{is_empty}
+use Rattle.legacy_base.specs.States.{DecoderState, may_hold, rests}
 use Rattle.legacy_base.specs.Acts.{LacksRoom}
 use Rattle.legacy_base.specs.Lengths.{LengthQuery, to_utf16, to_utf8, query_answer, room}
 use Rattle.legacy_base.specs.Calls.{Progress}
@@ -36,6 +37,11 @@ abbrev pub replacing_query : EncodingForm → LengthQuery
 replacing_query Utf8 = to_utf8
 replacing_query Utf16 = to_utf16
 
+-- The call may have found what is only malformed because the input ends: it found a malformed sequence, and is a last call
+-- with nothing unread.
+abbrev pub may_replace_end : Bool → Bool → List ℕ → Bool
+may_replace_end last found left = found && (last && is_empty left)
+
 -- A call from the state `before` with so many code units free, which read so many bytes of the source, wrote these code
 -- units, answered so, came to the state `after`, and found a malformed sequence or did not.
 pub record ReplacingDecoderCall (form : EncodingForm) (before : DecoderState) (source : List ℕ) (last : Bool) (free : ℕ) (after : DecoderState) (answer : CoderResult) (read : ℕ) (written : List ℕ) (found : Bool) : Type 0 where
@@ -47,8 +53,11 @@ pub record ReplacingDecoderCall (form : EncodingForm) (before : DecoderState) (s
   pub passed : ℕ
   -- what the call gave
   pub out : List DecodeEvent
-  -- that, and then the events of what is left, are the grammar's events, whatever follows
-  pub progress : Progress last before source passed after (drop read source) out
+  -- that, and then the events of what is left, are the grammar's events, whatever follows; after a malformed sequence that
+  -- ends the input, whatever does not belie it
+  pub progress : Progress (may_replace_end last found (drop read source)) before source passed after (drop read source) out
+  -- what is held back is one of the lists that the codec may hold back
+  pub allowed : IsTrue (may_hold after.grammar after.held)
   -- what is written are Unicode scalar values
   pub scalar : All IsScalar (replaced_scalars out)
   -- namely those of what it gave, with U+FFFD for each malformed sequence

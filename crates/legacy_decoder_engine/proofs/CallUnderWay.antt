@@ -16,7 +16,7 @@ use Rattle.legacy_base.specs.Grammar.{Grammar, events_of}
 use Rattle.legacy_base.specs.States.{DecoderState, may_hold, rests}
 use Rattle.legacy_base.specs.Acts.{room_needed, LacksRoom, HadRoom, HadRooms, fault_room, full_room_in, release_room_in}
 use Rattle.legacy_base.specs.Lengths.{LengthQuery, query_form, room}
-use Rattle.legacy_base.specs.Calls.{Progress, DecoderCall, IsFault, out_events, reported_events}
+use Rattle.legacy_base.specs.Calls.{Progress, DecoderCall, IsFault, out_events, reported_events, may_report_end}
 use Rattle.legacy_base.proofs.Shifts.{shift-scalars}
 use Rattle.legacy_base.proofs.Progress.{stay, at_last, behind, after_that}
 use Rattle.legacy_text.proofs.CodeUnits.{total_unit_count-append}
@@ -145,7 +145,7 @@ module _ (form : EncodingForm) (before : DecoderState) (source : List ℕ) (last
       fits = going.fits;
       scalar = going.scalar;
       passed = going.passed;
-      progress = rw append-nil (at_last last before source going.passed now (drop read source) (map Scalar scalars) going.progress);
+      progress = rw append-nil going.progress;
       allowed = going.allowed;
       fault = tt;
       input_empty = λ e. cc;
@@ -256,7 +256,7 @@ module _ (form : EncodingForm) (before : DecoderState) (source : List ℕ) (last
           fits = going.fits;
           scalar = going.scalar;
           passed = going.passed + f.passed;
-          progress = at_last last before source (going.passed + f.passed) next (drop now_read source) (out_events (length before.held + now_read) scalars (Malformed a b))
+          progress = at_last (may_report_end last (Malformed a b) (drop now_read source)) before source (going.passed + f.passed) next (drop now_read source) (out_events (length before.held + now_read) scalars (Malformed a b))
               (subst (λ o. Progress false before source (going.passed + f.passed) next (drop now_read source) o) end.0 t);
           allowed = f.allowed;
           fault = end.1;
@@ -298,7 +298,7 @@ module _ (form : EncodingForm) (before : DecoderState) (source : List ℕ) (last
           fits = going.fits;
           scalar = going.scalar;
           passed = going.passed;
-          progress = rw append-nil (at_last last before source going.passed now (drop read source) (map Scalar scalars) going.progress);
+          progress = rw append-nil going.progress;
           allowed = going.allowed;
           fault = tt;
           input_empty = λ e. (all, going.resting, none);
@@ -328,10 +328,11 @@ module _ (form : EncodingForm) (before : DecoderState) (source : List ℕ) (last
         DecoderCall form before source last free next (Malformed a b) read scalars
     call_report next a b all end some enough f =
         let nothing_left : drop read source ≡ [] = drop_of_length-le source (omega arith) in
-        let t : Progress last before source (going.passed + f.passed) next (drop read source) (map Scalar scalars ++ shift going.passed (Bad (f.passed - a) a ∷ [])) =
-        after_that last before source going.passed now (drop read source) (map Scalar scalars) f.passed next (drop read source) (Bad (f.passed - a) a ∷ [])
-        (at_last last before source going.passed now (drop read source) (map Scalar scalars) going.progress)
-        (rw (nothing_left, end) f.progress) in
+        let t : Progress true before source (going.passed + f.passed) next (drop read source) (map Scalar scalars ++ shift going.passed (Bad (f.passed - a) a ∷ [])) =
+        after_that true before source going.passed now (drop read source) (map Scalar scalars) f.passed next (drop read source) (Bad (f.passed - a) a ∷ [])
+        (at_last true before source going.passed now (drop read source) (map Scalar scalars) going.progress)
+        (rw nothing_left f.progress) in
+        let at_end : true ≡ may_report_end last (Malformed a b) (drop read source) = rw (nothing_left, end) refl in
         let end' = ended next a b read f.passed going.within f.holds t.counts in
         let r = going.rooms.full form in
         record {
@@ -339,7 +340,8 @@ module _ (form : EncodingForm) (before : DecoderState) (source : List ℕ) (last
           fits = going.fits;
           scalar = going.scalar;
           passed = going.passed + f.passed;
-          progress = subst (λ o. Progress last before source (going.passed + f.passed) next (drop read source) o) end'.0 t;
+          progress = subst (λ e. Progress e before source (going.passed + f.passed) next (drop read source) (out_events (length before.held + read) scalars (Malformed a b))) at_end
+              (subst (λ o. Progress true before source (going.passed + f.passed) next (drop read source) o) end'.0 t);
           allowed = f.allowed;
           fault = end'.1;
           input_empty = λ x. cc;
@@ -380,7 +382,7 @@ module _ (form : EncodingForm) (before : DecoderState) (source : List ℕ) (last
         fits = omega arith;
         scalar = All-nil IsScalar;
         passed = 0;
-        progress = stay last before source;
+        progress = stay false before source;
         allowed = m;
         fault = tt;
         input_empty = λ x. cc;

@@ -332,9 +332,10 @@ module _ {g : Grammar} {m : DecoderMachine} (shown : IsShown g m) (held : List �
           progress = record {
             counts = omega arith;
             rest = ap (drop (length (x ∷ xs))) (append-nil (x ∷ xs)) ∙ (let le : length (x ∷ xs) ≤ length (x ∷ xs) = omega arith in drop_of_length-le (x ∷ xs) le);
-            events = λ more l.
-                let z = l refl in
-                ap (λ q. events_of g ((x ∷ xs) ++ q)) z ∙ ap (events_of g) (append-nil (x ∷ xs)) ∙ shown.meets.ends (x ∷ xs) m r' ∙ rw (zero_place, z, none) refl;
+            events = λ more l. elim (l refl) [
+              | inl z ↦ ap (λ q. events_of g ((x ∷ xs) ++ q)) z ∙ ap (events_of g) (append-nil (x ∷ xs)) ∙ shown.meets.ends (x ∷ xs) m r' ∙ rw (zero_place, z, none) refl
+              | inr b ↦ let b' = rw zero_place at b in rw zero_place (shown.meets.reports (x ∷ xs) more m r' (omega arith) b')
+            ];
           };
           holds = record { some = omega arith; few = omega arith; near = omega arith; held = refl; within = omega arith };
           allowed = may_none g;

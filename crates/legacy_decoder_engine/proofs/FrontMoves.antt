@@ -1,16 +1,19 @@
 -- From the front of a list to what one move of a decoder does, for every continuation.
 use Rattle.std.proofs.Common.{◌≡◌, ℕ, suc, ◌+◌, ◌<◌, ◌≤◌, List, [], ◌∷◌, ◌++◌, drop, length, Bool, true, false, cond, ◌-◌, refl, sym, ap, ◌∙◌, append_assoc, length-append, length-drop}
-use Rattle.std.proofs.Common.{drop_of_length-le, le_refl, arith}
-use Rattle.std.proofs.Math.Seq.{drop-length}
+use Rattle.std.proofs.Common.{drop_of_length-le, le_refl, arith, subst}
+use Rattle.std.proofs.Math.Seq.{drop-length, drop-append_seam}
 use Rattle.std.specs.Char.{is_ascii}
 use Rattle.std.proofs.lemmas.List.{drop-append-le}
+use Rattle.legacy_base.specs.declared.results.DecodeEvent.TheVariants.{Scalar, Bad}
+use Rattle.legacy_base.specs.Beginnings.{BeginsWith}
 use Rattle.legacy_base.specs.Events.{shift}
 use Rattle.legacy_base.specs.Fronts.{Front, reads, malformed, front_length, front_events, reads_or, trail_rule, cut}
 use Rattle.legacy_base.specs.Grammar.{Grammar, events_of}
 use Rattle.legacy_base.specs.States.{may_hold}
-use Rattle.legacy_decoder_engine.specs.Steps.{Step, hold, finish, leave, HasFaultLength, StepMeets, WriteMeets, end_events, trail_step}
+use Rattle.legacy_decoder_engine.specs.Steps.{Step, hold, finish, leave, HasFaultLength, StepMeets, WriteMeets, end_events, ReportMeets, trail_step}
 use Rattle.legacy_base.proofs.Shifts.{shift-zero}
 use Rattle.legacy_base.proofs.Cuts.{cut-nil, cut-front}
+use Rattle.legacy_base.proofs.Beginnings.{no_sooner}
 
 -- the list begins with the front
 abbrev pub HasFront : (ℕ → List ℕ → Front) → List ℕ → Front → Type 0
@@ -29,6 +32,30 @@ Fits front may held b hold = (length held ≤ 2) × (may (held ++ b ∷ []) ≡ 
 Fits front may held b (finish f) = ((more : List ℕ) → HasFront front (held ++ b ∷ more) f) × (0 < front_length f) × (front_length f ≤ suc (length held)) ×
     (may (drop (front_length f) (held ++ b ∷ [])) ≡ true)
 Fits front may held b (leave n) = ((more : List ℕ) → HasFront front (held ++ b ∷ more) (malformed n)) × (0 < n) × (n ≤ length held) × (may (drop n held) ≡ true)
+
+-- a front that is malformed, or gives scalars, by its form
+pub some_reads_or : (n : ℕ) (scalars : List ℕ) (other : Front) → 0 < n → 0 < front_length other → 0 < front_length (reads_or n scalars other)
+some_reads_or n [] other some h = h
+some_reads_or n (c ∷ scalars) other some h = some
+
+pub some_trail_rule : (n t : ℕ) → 0 < n → 0 < front_length (trail_rule n t)
+some_trail_rule n t some = go (is_ascii t)
+  where
+    go : (a : Bool) → 0 < front_length (cond a (malformed n) (malformed (n + 1)))
+    go true = some
+    go false = omega arith
+
+-- a list that is cut into fronts, and begins with the report of so many bytes, has them as its front
+front_reported : (front : ℕ → List ℕ → Front) (b : ℕ) (rest : List ℕ) (n : ℕ) (f : Front) → front b rest ≡ f → 0 < front_length f → BeginsWith (cut front 0 0 (b ∷ rest)) (Bad 0 n ∷ []) →
+    f ≡ malformed n
+front_reported front b rest n (reads k []) e some g =
+    let all : shift k (cut front 0 0 (drop k (b ∷ rest))) ≡ Bad 0 n ∷ g.0 = sym (front_move front (b ∷ rest) (drop k (b ∷ rest)) (reads k []) e some refl) ∙ g.1 in
+    absurd (no_sooner k 0 n (cut front 0 0 (drop k (b ∷ rest))) g.0 some all)
+front_reported front b rest n (reads k (c ∷ scalars)) e some g =
+    let all = sym (front_move front (b ∷ rest) (drop k (b ∷ rest)) (reads k (c ∷ scalars)) e some refl) ∙ g.1 in cc
+front_reported front b rest n (malformed k) e some g =
+    let all = sym (front_move front (b ∷ rest) (drop k (b ∷ rest)) (malformed k) e some refl) ∙ g.1 in
+    let same : k ≡ n = cc in ap malformed same
 
 -- a test decides what a step is
 pub fits_test : (front : ℕ → List ℕ → Front) (may : List ℕ → Bool) (held : List ℕ) (b : ℕ) (t : Bool) (s₁ s₂ : Step) →
@@ -102,3 +129,11 @@ module _ (g : Grammar) (front : ℕ → List ℕ → Front) (ev_is : (bytes : Li
   end_meets b held h =
       let none : events_of g [] ≡ [] = ev_is [] ∙ cut-nil front in
       ev_front (b ∷ held) [] (malformed (length (b ∷ held))) h (omega arith) (drop-length (b ∷ held)) ∙ rw none
+
+  -- and is so whatever follows with which it is reported
+  pub report_meets : (held more : List ℕ) → ((b : ℕ) (rest : List ℕ) → held ++ more ≡ b ∷ rest → 0 < front_length (front b rest)) → ReportMeets g held more
+  report_meets [] more some pos g = absurd (omega arith)
+  report_meets (b ∷ held) more some pos g =
+      let n = length (b ∷ held) in
+      let is = front_reported front b (held ++ more) n (front b (held ++ more)) refl (some b (held ++ more) refl) (subst (λ l. BeginsWith l (Bad 0 n ∷ [])) (ev_is (b ∷ (held ++ more))) g) in
+      ev_front (b ∷ (held ++ more)) more (malformed n) is (omega arith) (drop-append_seam (b ∷ held) more)

@@ -2,13 +2,19 @@
 use Rattle.std.proofs.Common.{◌≡◌, ℕ, ◌≤◌, List, [], ◌∷◌, length, true, refl, arith}
 use Rattle.std.proofs.lemmas.Bool.{false≢true}
 use Rattle.legacy_base.specs.Fronts.{Front, malformed, reads_or}
+use Rattle.legacy_base.specs.Grammar.{Grammar}
 use Rattle.legacy_base.specs.States.{is_empty}
-use Rattle.legacy_decoder_engine.specs.Steps.{finish}
+use Rattle.legacy_decoder_engine.specs.Steps.{finish, ReportMeets}
 use Rattle.legacy_decoder_engine.proofs.FrontMoves.{Fits}
 
 pub few_held : (held : List ℕ) → is_empty held ≡ true → length held ≤ 3
 few_held [] h = omega arith
 few_held (b ∷ held) h = absurd (false≢true h)
+
+-- nothing is ever reported at the end
+pub no_report : (g : Grammar) (held more : List ℕ) → is_empty held ≡ true → ReportMeets g held more
+no_report g [] more h some = absurd (omega arith)
+no_report g (b ∷ held) more h some = absurd (false≢true h)
 
 -- one byte that gives these scalars, or is malformed
 pub one_fits : (front : ℕ → List ℕ → Front) (b : ℕ) (scalars : List ℕ) →

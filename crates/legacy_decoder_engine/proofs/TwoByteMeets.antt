@@ -4,17 +4,17 @@ use Rattle.std.proofs.lemmas.Bool.{false≢true}
 use Rattle.std.proofs.lemmas.Bool.Decides.{nat_tests}
 use Rattle.std.specs.Int.{is_in_range}
 use Rattle.std.specs.Char.{is_ascii}
-use Rattle.legacy_base.specs.Fronts.{Front, reads, malformed, reads_or, trail_rule, cut}
+use Rattle.legacy_base.specs.Fronts.{Front, reads, malformed, reads_or, trail_rule, front_length, cut}
 use Rattle.legacy_base.specs.Profile.{Profile, always_rests}
 use Rattle.legacy_base.specs.Grammar.{Grammar, profile, events_of}
 use Rattle.legacy_base.specs.States.{is_lead, single_lead_may_hold, may_hold, rests}
 use Rattle.legacy_base.specs.Acts.{has_marks}
-use Rattle.legacy_decoder_engine.specs.Steps.{Step, hold, finish, end_events, Meets}
+use Rattle.legacy_decoder_engine.specs.Steps.{Step, hold, finish, end_events, ReportMeets, Meets}
 use Rattle.legacy_decoder_engine.specs.LeadMachines.{two_byte_step, two_byte_machine, lead_first}
 use Rattle.legacy_decoder_engine.specs.LeadCodecs.{IsPastAscii}
 use Rattle.legacy_decoder_engine.specs.Settling.{IsOneOrMarked, Settles}
 use Rattle.legacy_base.proofs.Cuts.{cut-nil}
-use Rattle.legacy_decoder_engine.proofs.FrontMoves.{Fits, fits_trail, fits_meets, end_meets}
+use Rattle.legacy_decoder_engine.proofs.FrontMoves.{Fits, fits_trail, fits_meets, end_meets, report_meets, some_reads_or, some_trail_rule}
 
 -- What the first byte of a form is: ASCII, and itself; another scalar up to U+FFFF; a lead; or malformed. `paid` for
 -- each two bytes is enough for the scalar.
@@ -126,12 +126,26 @@ module _ (g : Grammar) (front : ℕ → List ℕ → Front) (is_lead_byte : ℕ 
   all_ends (b ∷ []) h = end_meets g front ev_is b [] (is.front_is b [] ∙ ap (step_front (scalars b) []) (lead_holds is_lead_byte paid first firsts b h))
   all_ends (b ∷ c ∷ held) h = absurd (false≢true h)
 
+  lead_some : (lead : ℕ) (rest : List ℕ) → is_lead_byte lead ≡ true → 0 < front_length (front lead rest)
+  lead_some lead rest h = rw (is.front_is lead rest ∙ ap (step_front (scalars lead) rest) (lead_holds is_lead_byte paid first firsts lead h)) (by rest)
+    where
+      by : (rest : List ℕ) → 0 < front_length (step_front (scalars lead) rest hold)
+      by [] = omega arith
+      by (t ∷ rest) = some_reads_or 2 (scalars lead t) (trail_rule 1 t) (omega arith) (some_trail_rule 1 t (omega arith))
+
+  all_reports : (held more : List ℕ) → single_lead_may_hold is_lead_byte held ≡ true → ReportMeets g held more
+  all_reports [] more h = λ some. absurd (omega arith)
+  all_reports (lead ∷ []) more h =
+      report_meets g front ev_is (lead ∷ []) more (λ b rest e. let first : lead ≡ b = cc in rw (← first) (lead_some lead rest h))
+  all_reports (b ∷ c ∷ held) more h = absurd (false≢true h)
+
   pub two_byte_meets : Meets g (two_byte_machine g first scalars)
   two_byte_meets = record {
     writes = λ held h. rests_is held;
     steps = λ held b h r. fits_meets g front ev_is (single_lead_may_hold is_lead_byte) may_is held b (two_byte_step first scalars held b) (few_held held (rw (may_is held) at h))
         (step_fits held b (rw (may_is held) at h));
     ends = λ held h r. all_ends held (rw (may_is held) at h);
+    reports = λ held more h r. all_reports held more (rw (may_is held) at h);
     few = λ held h. few_held held (rw (may_is held) at h);
   }
 

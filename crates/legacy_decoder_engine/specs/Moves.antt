@@ -133,7 +133,8 @@ pub record Releases (before : DecoderState) (after : DecoderState) (c : ℕ) : T
 
 -- ---- the end of input
 
--- what reporting a malformed sequence of so many bytes does, with so many held back behind it
+-- what reporting a malformed sequence of so many bytes does, with so many held back behind it, also where bytes follow with
+-- which it is malformed all the same
 pub record Reports (before : DecoderState) (after : DecoderState) (sequence back : ℕ) : Type 0 where
   pub passed : ℕ
   pub holding : before.held ≢ []

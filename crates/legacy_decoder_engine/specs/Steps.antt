@@ -3,6 +3,7 @@ use Rattle.std.specs.Prelude.{ℕ, ◌+◌, ◌≤◌, ◌<◌, ◌≡◌, List,
 use Rattle.std.specs.Char.{is_ascii}
 use Rattle.legacy_base.specs.declared.results.DecodeEvent.{DecodeEvent}
 use Rattle.legacy_base.specs.declared.results.DecodeEvent.TheVariants.{Scalar, Bad}
+use Rattle.legacy_base.specs.Beginnings.{BeginsWith}
 use Rattle.legacy_base.specs.Events.{shift}
 use Rattle.legacy_base.specs.Fronts.{Front, reads, malformed, front_length, front_events}
 use Rattle.legacy_base.specs.Grammar.{Grammar, events_of}
@@ -81,6 +82,12 @@ abbrev pub end_events : List ℕ → List DecodeEvent
 end_events [] = []
 end_events (b ∷ held) = Bad 0 (length (b ∷ held)) ∷ []
 
+-- and what follows that report, where bytes follow with which it is made all the same
+abbrev pub ReportMeets : Grammar → List ℕ → List ℕ → Type 0
+ReportMeets g held more =
+    0 < length held → BeginsWith (events_of g (held ++ more)) (end_events held) →
+    events_of g (held ++ more) ≡ end_events held ++ shift (length held) (events_of g more)
+
 -- A decoder's machine: the scalar that is to be written first, with the number of its bytes; the step at a
 -- byte; and the grammar behind that step.
 pub record DecoderMachine : Type 0 where
@@ -101,6 +108,7 @@ pub record Meets (g : Grammar) (m : DecoderMachine) : Type 0 where
   pub writes : (held : List ℕ) → may_hold g held ≡ true → PendingMeets g held (m.pending held)
   pub steps : (held : List ℕ) (b : ℕ) → may_hold g held ≡ true → rests g held ≡ true → StepMeets g held b (m.step held b) (m.to held b)
   pub ends : (held : List ℕ) → may_hold g held ≡ true → rests g held ≡ true → events_of g held ≡ end_events held
+  pub reports : (held more : List ℕ) → may_hold g held ≡ true → rests g held ≡ true → ReportMeets g held more
   pub few : (held : List ℕ) → may_hold g held ≡ true → length held ≤ 3
 
 -- n bytes were held back, and with t they are to give these scalars: with none the trail rule applies

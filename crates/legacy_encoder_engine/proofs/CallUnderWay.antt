@@ -1,6 +1,6 @@
 -- How the moves of an encoder make a call.
 use Rattle.std.proofs.Common.{◌≡◌, ◌∙◌, ℕ, suc, ◌+◌, ◌-◌, ◌≤◌, ◌<◌, List, [], ◌∷◌, ◌++◌, length, get_or, take, drop, map, refl, sym}
-use Rattle.std.proofs.Common.{ap, subst, arith, append_assoc, append-nil, length-append, length-take, length-drop, add-zero, inl, inr, Bool, true, false, IsTrue, Some, None, slice_get, not, IsAscii}
+use Rattle.std.proofs.Common.{ap, subst, arith, append_assoc, append-nil, length-append, length-take, length-drop, add-zero, inl, inr, Bool, true, false, IsTrue, Some, None, slice_get, not, IsAscii, ◌⊎◌}
 use Rattle.std.proofs.lemmas.Bool.{cases_lt}
 use Rattle.std.proofs.lemmas.List.{take-append-le, get_or_append_left, take-append-drop, length-take-le}
 use Rattle.std.proofs.Math.Nat.{sub-zero}
@@ -10,6 +10,7 @@ use Rattle.legacy_base.specs.declared.results.EncodeEvent.TheVariants.{Byte}
 use Rattle.legacy_base.specs.declared.results.EncodeEvent.TheVariants as events
 use Rattle.legacy_base.specs.declared.results.EncoderResult.TheVariants.{InputEmpty, OutputFull, Unmappable}
 use Rattle.legacy_text.specs.EncodingForm.{EncodingForm, code_units, unit_count, all_code_units, total_unit_count}
+use Rattle.legacy_base.specs.Beginnings.{BeginsWith}
 use Rattle.legacy_base.specs.EncodeEvents.{byte_count, code_length}
 use Rattle.legacy_base.specs.Profile.{is_empty}
 use Rattle.legacy_base.specs.EncoderProfile.{EncoderMode, in_ascii, in_roman, in_two_byte}
@@ -17,6 +18,7 @@ use Rattle.legacy_base.specs.Encoders.{EncoderState, encoder_profile, code, enco
 use Rattle.legacy_base.specs.EncoderCalls.{EncoderCall, EncoderLacksRoom, bytes_before}
 use Rattle.legacy_text.proofs.CodeUnits.{length-code_units-ascii}
 use Rattle.legacy_base.proofs.Enough.{answer-value}
+use Rattle.legacy_base.proofs.Beginnings.{begins_later}
 use Rattle.legacy_text.proofs.CodeUnits.{total_unit_count-append}
 use Rattle.legacy_encoder_engine.specs.declared.moves.EncoderMove.{EncoderMove}
 use Rattle.legacy_encoder_engine.specs.declared.moves.EncoderMove.TheVariants as moves
@@ -397,7 +399,7 @@ module _ (before : EncoderState) (source : List ℕ) (last : Bool) (free : ℕ) 
           taken = under.taken;
           cut = under.cut;
           fits = let g = under.fits in omega (arith, length-append bytes (0x1B ∷ 0x28 ∷ 0x42 ∷ []));
-          events = λ more ended h. let k = h is_last in finished next f more ended k.0 k.1;
+          events = λ more ended h. finished next f more ended (h is_last);
           input_empty = λ e. (none, λ l. f.done);
           output_full = λ e. cc;
           full_at_once = λ l. let s = still l in let n = end_need in absurd (omega arith);
@@ -408,12 +410,31 @@ module _ (before : EncoderState) (source : List ℕ) (last : Bool) (free : ℕ) 
           enough = λ form n k h e g x. cc;
         }
           where
-            finished : (next : EncoderState) → Finishes now next → (more : List ℕ) (ended : Bool) → more ≡ [] → IsTrue ended →
-                encoded before (source ++ more) ended ≡ map Byte (bytes ++ 0x1B ∷ 0x28 ∷ 0x42 ∷ []) ++ encoded next (left ++ more) ended
-            finished next f more ended m e =
-                whole more ended
-                ∙ rw (none, m, e, map_bytes-append bytes (0x1B ∷ 0x28 ∷ 0x42 ∷ []), append_assoc (map Byte bytes) (map Byte (0x1B ∷ 0x28 ∷ 0x42 ∷ [])) (encoded next [] true))
-                (ap (λ l. map Byte bytes ++ l) f.events)
+            escape : List ℕ
+            escape = 0x1B ∷ 0x28 ∷ 0x42 ∷ []
+
+            -- what was written, and then the escape
+            written : map Byte (bytes ++ escape) ++ [] ≡ map Byte bytes ++ map Byte escape
+            written = append-nil (map Byte (bytes ++ escape)) ∙ map_bytes-append bytes escape
+
+            here : (more : List ℕ) (ended : Bool) → encoded before (source ++ more) ended ≡ map Byte bytes ++ encoded now more ended
+            here more ended = whole more ended ∙ ap (λ l. map Byte bytes ++ encoded now (l ++ more) ended) none
+
+            finished : (next : EncoderState) → Finishes now next → (more : List ℕ) (ended : Bool)
+                → ((more ≡ []) × IsTrue ended) ⊎ BeginsWith (encoded before (source ++ more) ended) (map Byte (bytes ++ escape) ++ [])
+                → encoded before (source ++ more) ended ≡ map Byte (bytes ++ escape) ++ encoded next (left ++ more) ended
+            finished next f more ended h =
+                let is : ((more ≡ []) × IsTrue ended) ⊎ BeginsWith (encoded now more ended) (map Byte escape) = elim h [
+                  | inl e ↦ inl e
+                  | inr g ↦
+                      let g' = rw (here more ended, written) at g in
+                      inr (begins_later (map Byte bytes) (map Byte escape) (encoded now more ended) g')
+                ] in
+                here more ended
+                ∙ ap (λ l. map Byte bytes ++ l) (f.events more ended is)
+                ∙ sym (append_assoc (map Byte bytes) (map Byte escape) (encoded next more ended))
+                ∙ ap (λ l. l ++ encoded next more ended) (sym (map_bytes-append bytes escape))
+                ∙ ap (λ l. map Byte (bytes ++ escape) ++ encoded next (l ++ more) ended) (sym none)
 
 -- ---- for the loop
 

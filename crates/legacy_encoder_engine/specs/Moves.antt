@@ -1,8 +1,9 @@
 -- What the small moves of an encoder do, of which its calls are made.
-use Rattle.std.specs.Prelude.{◌≡◌, ℕ, ◌≤◌, List, [], ◌∷◌, ◌++◌, length, map, Bool, true, false, Option, Some, None}
+use Rattle.std.specs.Prelude.{◌≡◌, ℕ, ◌≤◌, List, [], ◌∷◌, ◌++◌, length, map, Bool, true, false, IsTrue, Option, Some, None, ◌⊎◌}
 use Rattle.legacy_base.specs.declared.results.EncodeEvent.{EncodeEvent}
 use Rattle.legacy_base.specs.declared.results.EncodeEvent.TheVariants.{Byte}
 use Rattle.legacy_base.specs.declared.results.EncodeEvent.TheVariants as events
+use Rattle.legacy_base.specs.Beginnings.{BeginsWith}
 use Rattle.legacy_base.specs.EncodeEvents.{code_length}
 use Rattle.legacy_base.specs.EncoderProfile.{EncoderMode, in_ascii, in_roman, in_two_byte}
 use Rattle.legacy_base.specs.Encoders.{EncoderState, encoder_profile, code, encoded, end_bytes, scalar_room}
@@ -58,9 +59,11 @@ pub record Moves (before : EncoderState) (c : ℕ) (after : EncoderState) (move 
   pub asks : is_escape move ≡ wants_escape before c
   pub goes : after ≡ state_for before c
 
--- what the escape at the end of the last call does
+-- what the escape at the end of the last call does, also where a text follows that begins with it
 pub record Finishes (before after : EncoderState) : Type 0 where
-  pub events : encoded before [] true ≡ map Byte (0x1B ∷ 0x28 ∷ 0x42 ∷ []) ++ encoded after [] true
+  pub events : (more : List ℕ) (ended : Bool) →
+      ((more ≡ []) × IsTrue ended) ⊎ BeginsWith (encoded before more ended) (map Byte (0x1B ∷ 0x28 ∷ 0x42 ∷ [])) →
+      encoded before more ended ≡ map Byte (0x1B ∷ 0x28 ∷ 0x42 ∷ []) ++ encoded after more ended
   pub done : end_bytes after ≡ []
 
 -- the move is what the code of the scalar c says, in a codec without modes

@@ -10,11 +10,12 @@ use Rattle.legacy_base.specs.Grammar.{euc_jp, events_of}
 use Rattle.legacy_base.specs.{Acts.act_room, Acts.takes, Lengths.to_utf16}
 use Rattle.legacy_base.specs.States.{is_euc_jp_lead, euc_jp_may_hold, state_of}
 use Rattle.legacy_base.proofs.Cuts.{cut-nil}
+use Rattle.legacy_base.proofs.FrontLaws.{euc_jp_front-of}
 use Rattle.legacy_decoder_engine.specs.Steps.{Step, finish, leave, end_events, trail_step, Meets}
 use Rattle.legacy_decoder_engine.specs.Costs.{units, IsWidth, IsNarrowIndex, Cost}
 use Rattle.legacy_decoder_engine.specs.Settling.{IsOneOrMarked, Settles}
 use Rattle.legacy_decoder_engine.specs.Shown.{IsShown}
-use Rattle.legacy_decoder_engine.proofs.FrontMoves.{Fits, fits_trail, fits_meets, end_meets}
+use Rattle.legacy_decoder_engine.proofs.FrontMoves.{Fits, fits_trail, fits_meets, end_meets, report_meets}
 use Rattle.legacy_decoder_engine.proofs.{CallUnderWay.same_rooms, Widths.narrow_idx_units}
 use Rattle.legacy_decoder_engine.proofs.RoomMoves.{first_room, held_room_is, HasCosts, IsSloped, sloped_rooms}
 use Rattle.legacy_decoder_engine.proofs.TwoByteCosts.{units_test, katakana_below}
@@ -198,6 +199,8 @@ module _ (jis0208 jis0212 : List ℕ) where
         steps = λ held b h r. let s = step_shows n m held b h in
             fits_meets (euc_jp jis0208 jis0212) (euc_jp_front jis0208 jis0212) ev_is euc_jp_may_hold (λ held'. refl) held b (euc_jp_step jis0208 jis0212 held b) (few_held held h) s.fits;
         ends = λ held h r. all_end held h;
+        reports = λ held more h r. report_meets (euc_jp jis0208 jis0212) (euc_jp_front jis0208 jis0212) ev_is held more
+            (λ b rest e. (euc_jp_front-of {P = ⊥} jis0208 jis0212 (λ n. absurd n) (λ n. absurd n) b rest).some);
         few = few_held;
       } in
       let costs : HasCosts (euc_jp jis0208 jis0212) (euc_jp_machine jis0208 jis0212) euc_jp_weight 3 = record {

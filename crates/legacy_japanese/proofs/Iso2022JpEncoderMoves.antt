@@ -1,15 +1,17 @@
 -- The moves of the ISO-2022-JP encoder.
-use Rattle.std.proofs.Common.{◌≡◌, ◌∙◌, ℕ, suc, ◌+◌, ◌≤◌, ◌<◌, take, drop, get_or, append-nil, append_assoc, length-append, subst, ◌/◌, ◌%◌, List, [], ◌∷◌, ◌++◌, length, refl, sym, ap, arith, Bool, true, false, ◌||◌, not, Some, None, eqb}
-use Rattle.std.proofs.lemmas.Bool.{ne_eqb, lt-ltb}
+use Rattle.std.proofs.Common.{◌≡◌, ◌∙◌, ℕ, suc, ◌+◌, ◌≤◌, ◌<◌, take, drop, get_or, append-nil, append_assoc, length-append, subst, ◌/◌, ◌%◌, List, [], ◌∷◌, ◌++◌, length, refl, sym, ap, arith, Bool, true, false, IsTrue, ◌||◌, not, Option, Some, None, eqb, option_map, map, ◌⊎◌, inl, inr}
+use Rattle.std.proofs.lemmas.Bool.{ne_eqb, lt-ltb, cond_both, false≢true}
 use Rattle.std.proofs.lemmas.List.{take-append-drop, length-take-le, get_or-take}
 use Rattle.std.specs.Char.{is_ascii}
+use Rattle.legacy_base.specs.declared.results.EncodeEvent.{EncodeEvent}
 use Rattle.legacy_base.specs.declared.results.EncodeEvent.TheVariants as events
+use Rattle.legacy_base.specs.Beginnings.{BeginsWith}
 use Rattle.legacy_base.specs.EncodeEvents.{code_events, code_length}
 use Rattle.legacy_base.specs.EncoderProfile.{EncoderMode, in_ascii, in_roman, in_two_byte}
 use Rattle.legacy_base.specs.Encoders.{EncoderState, encoded, encoder_profile, iso_2022_jp, is_pending}
 use Rattle.legacy_base.specs.Profile.{is_empty}
-use Rattle.legacy_base.specs.Iso2022Jp.{is_mode_control, iso_2022_jp_code, iso_2022_jp_reported, iso_2022_jp_pointer_of, escape_between, roman_or_ascii}
-use Rattle.legacy_base.proofs.Iso2022JpEncoding.{text_events-here, text_events-escape, text_events-end, text_events-open, mode_for, mode_for-twice, code-short}
+use Rattle.legacy_base.specs.Iso2022Jp.{is_mode_control, iso_2022_jp_code, iso_2022_jp_reported, iso_2022_jp_pointer_of, iso_2022_jp_pair, escape_to, escape_between, roman_or_ascii}
+use Rattle.legacy_base.proofs.Iso2022JpEncoding.{text_events, text_events-here, text_events-escape, text_events-end, text_events-open, mode_for, mode_for-twice, code-short}
 use Rattle.legacy_base.proofs.Iso2022JpEncoding.{at_control, at_special, at_neutral, at_yen, at_overline, at_pair, at_none}
 use Rattle.legacy_encoder_engine.specs.Moves.{Moves, Finishes, IsCode, differs}
 use Rattle.legacy_text.specs.UnitCodes.{WritesCodes}
@@ -154,10 +156,95 @@ module _ (jis0208 katakana_index : List ℕ) where
       goes = ap (λ m. record { codec = iso_2022_jp jis0208 katakana_index; mode = m }) (sym e);
     }
 
+  -- ---- the end
+
+  -- the bytes of a scalar are some, and the escape byte is not their first
+  abbrev StartsPlain : Option (List ℕ) → Type 0
+  StartsPlain None = Unit {0}
+  StartsPlain (Some []) = ⊥
+  StartsPlain (Some (b ∷ bytes)) = b ≡ 0x1B → ⊥
+
+  pair_plain : (o : Option ℕ) → StartsPlain (option_map iso_2022_jp_pair o)
+  pair_plain None = tt
+  pair_plain (Some p) = λ e. omega arith
+
+  code_plain : (c : ℕ) → StartsPlain (iso_2022_jp_code jis0208 katakana_index c)
+  unfolding iso_2022_jp_code
+  code_plain c =
+      cond_both (is_mode_control c) None _ StartsPlain (λ _. tt) (λ f.
+      cond_both (is_ascii c) (Some (c ∷ [])) _ StartsPlain (λ _ e. let f' : is_mode_control 0x1B ≡ false = subst (λ x. is_mode_control x ≡ false) e f in cc) (λ _.
+      cond_both (eqb c 0xA5) (Some (0x5C ∷ [])) _ StartsPlain (λ _ e. cc) (λ _.
+      cond_both (eqb c 0x203E) (Some (0x7E ∷ [])) _ StartsPlain (λ _ e. cc) (λ _. pair_plain (iso_2022_jp_pointer_of jis0208 katakana_index c)))))
+
+  no_escape : (r : ℕ) (o : Option (List ℕ)) (more rest : List EncodeEvent) → StartsPlain o → code_events r o ++ more ≡ events.Byte 0x1B ∷ rest → ⊥
+  no_escape r None more rest h e = cc
+  no_escape r (Some []) more rest h e = absurd h
+  no_escape r (Some (b ∷ bytes)) more rest h e = h cc
+
+  same_or_other : (mode new : EncoderMode) → (mode ≡ new) ⊎ (mode ≡ new → ⊥)
+  same_or_other in_ascii in_ascii = inl refl
+  same_or_other in_ascii in_roman = inr (λ e. cc)
+  same_or_other in_ascii in_two_byte = inr (λ e. cc)
+  same_or_other in_roman in_ascii = inr (λ e. cc)
+  same_or_other in_roman in_roman = inl refl
+  same_or_other in_roman in_two_byte = inr (λ e. cc)
+  same_or_other in_two_byte in_ascii = inr (λ e. cc)
+  same_or_other in_two_byte in_roman = inr (λ e. cc)
+  same_or_other in_two_byte in_two_byte = inl refl
+
+  -- the escape to ASCII mode
+  abbrev to_ascii : List EncodeEvent
+  to_ascii = map events.Byte (0x1B ∷ 0x28 ∷ 0x42 ∷ [])
+
+  -- the second and the third of events, where they are bytes
+  second_byte : List EncodeEvent → ℕ
+  second_byte (x ∷ events.Byte b ∷ rest) = b
+  second_byte _ = 0
+
+  third_byte : List EncodeEvent → ℕ
+  third_byte (x ∷ y ∷ events.Byte b ∷ rest) = b
+  third_byte _ = 0
+
+  -- no other escape is that to ASCII mode
+  no_other : (new : EncoderMode) (more rest : List EncodeEvent) → (new ≡ in_ascii → ⊥) → map events.Byte (escape_to new) ++ more ≡ to_ascii ++ rest → ⊥
+  unfolding second_byte third_byte
+  no_other in_ascii more rest n e = n refl
+  no_other in_roman more rest n e = false≢true (ap (λ l. eqb (third_byte l) 0x42) e)
+  no_other in_two_byte more rest n e = false≢true (ap (λ l. eqb (second_byte l) 0x28) e)
+
+  -- the escape at the end, or before a text that begins with it: the rest is that from ASCII mode
+  escape_first : (mode : EncoderMode) → (mode ≡ in_ascii → ⊥) → escape_between mode in_ascii ≡ 0x1B ∷ 0x28 ∷ 0x42 ∷ [] → (more : List ℕ) (ended : Bool)
+      → ((more ≡ []) × IsTrue ended) ⊎ BeginsWith (text_events jis0208 katakana_index mode more ended) to_ascii
+      → text_events jis0208 katakana_index mode more ended ≡ to_ascii ++ text_events jis0208 katakana_index in_ascii more ended
+  escape_first mode other is [] true h = rw (text_events-end jis0208 katakana_index mode, text_events-end jis0208 katakana_index in_ascii, is) refl
+  escape_first mode other is [] false h = elim h [
+    | inl e ↦ absurd (false≢true e.1)
+    | inr g ↦ let e = sym (text_events-open jis0208 katakana_index mode) ∙ g.1 in cc
+  ]
+  escape_first mode other is (c ∷ more) ended h = elim h [
+    | inl e ↦ absurd (let none : c ∷ more ≡ [] = e.0 in cc)
+    | inr g ↦ by_mode (mode_for jis0208 katakana_index mode c) refl g
+  ]
+    where
+      -- the scalar is written in another mode than ASCII
+      elsewhere : (new : EncoderMode) → mode_for jis0208 katakana_index mode c ≡ new → (new ≡ in_ascii → ⊥)
+          → BeginsWith (text_events jis0208 katakana_index mode (c ∷ more) ended) to_ascii → ⊥
+      elsewhere new e n g = elim (same_or_other mode new) [
+        | inl s ↦ no_escape (iso_2022_jp_reported c) (iso_2022_jp_code jis0208 katakana_index c) _ _ (code_plain c)
+            (sym (text_events-here jis0208 katakana_index mode c (e ∙ sym s) more ended) ∙ g.1)
+        | inr s ↦ no_other new _ g.0 n (sym (text_events-escape jis0208 katakana_index mode new c e s more ended) ∙ g.1)
+      ]
+
+      by_mode : (new : EncoderMode) → mode_for jis0208 katakana_index mode c ≡ new → BeginsWith (text_events jis0208 katakana_index mode (c ∷ more) ended) to_ascii
+          → text_events jis0208 katakana_index mode (c ∷ more) ended ≡ to_ascii ++ text_events jis0208 katakana_index in_ascii (c ∷ more) ended
+      by_mode in_ascii e g = text_events-escape jis0208 katakana_index mode in_ascii c e other more ended
+      by_mode in_roman e g = absurd (elsewhere in_roman e (λ f. cc) g)
+      by_mode in_two_byte e g = absurd (elsewhere in_two_byte e (λ f. cc) g)
+
   pub finishes : (mode : Mode) → is_pending (state_in jis0208 katakana_index mode) ≡ true → Finishes (state_in jis0208 katakana_index mode) (state_in jis0208 katakana_index modes.Ascii)
   finishes modes.Ascii p = cc
-  finishes modes.Roman p = record { events = rw (text_events-end jis0208 katakana_index in_roman, text_events-end jis0208 katakana_index in_ascii) refl; done = refl }
-  finishes modes.TwoByte p = record { events = rw (text_events-end jis0208 katakana_index in_two_byte, text_events-end jis0208 katakana_index in_ascii) refl; done = refl }
+  finishes modes.Roman p = record { events = escape_first in_roman (λ e. cc) refl; done = refl }
+  finishes modes.TwoByte p = record { events = escape_first in_two_byte (λ e. cc) refl; done = refl }
 
   -- ---- what a scalar asks for, by the tests of its rules
 

@@ -1,25 +1,30 @@
 -- What writing a scalar that is held back, and the end of the input, are to the loop of all decoders.
-use Rattle.std.proofs.Common.{◌≡◌, ◌≢◌, ◌∙◌, ℕ, Bool, true, false, Option, Some, None, List, [], ◌∷◌, inl, inr, length, refl, sym, ap, arith, append-nil}
+use Rattle.std.proofs.Common.{◌≡◌, ◌≢◌, ◌∙◌, ℕ, ◌-◌, ◌+◌, ◌*◌, ◌++◌, ◌⊎◌, cond, option_to_list, Bool, true, false, Option, Some, None, List, [], ◌∷◌, inl, inr, length, refl, sym, ap, arith, append-nil}
 use Rattle.std.specs.Prelude.{◌==◌, is_some}
 use Rattle.std.proofs.lemmas.Bool.{eqb-true, or_cases}
-use Rattle.legacy_base.specs.declared.results.DecodeEvent.TheVariants.{Scalar}
+use Rattle.std.specs.Int.{is_in_range}
+use Rattle.legacy_base.specs.declared.results.DecodeEvent.{DecodeEvent, TheVariants.Scalar, TheVariants.Bad}
+use Rattle.legacy_base.specs.Beginnings.{BeginsWith}
 use Rattle.legacy_text.specs.EncodingForm.{unit_count}
 use Rattle.legacy_base.specs.{Events.shift, Grammar.iso_2022_jp, Grammar.events_of}
-use Rattle.legacy_base.specs.Fronts.{reads, malformed}
-use Rattle.legacy_base.specs.Iso2022Jp.{esc, part_mode}
+use Rattle.legacy_base.specs.Fronts.{Front, reads, malformed, reads_or, front_length, front_events}
+use Rattle.legacy_tables.specs.Indexes.{idx}
+use Rattle.legacy_base.specs.Iso2022Jp as iso
+use Rattle.legacy_base.specs.Iso2022Jp.{esc, escape_mode, part_mode, iso_2022_jp_events}
 use Rattle.legacy_base.specs.Lengths.{query_form, replacement_units}
 use Rattle.legacy_base.specs.States.{is_escape_second, is_two_byte_mode, rests}
 use Rattle.legacy_text.proofs.CodeUnits.{length-code_units-bmp}
 use Rattle.legacy_base.proofs.{Shifts.shift-shift, Iso2022JpParts.first_part}
-use Rattle.legacy_base.proofs.Iso2022JpFronts.{step_end, step_one, step_no_escape}
+use Rattle.legacy_base.proofs.Iso2022JpFronts.{step_end, step_one, step_two, step_escape, step_no_escape}
+use Rattle.legacy_base.proofs.Beginnings.{no_sooner}
 use Rattle.legacy_decoder_engine.specs.Moves.{Releases, Reports}
-use Rattle.legacy_japanese.specs.declared.iso_2022_jp.steps.{Mode.Mode, Mode.TheVariants.TwoByte, Start.Start, Held.Held}
+use Rattle.legacy_japanese.specs.declared.iso_2022_jp.steps.{Mode.Mode, Mode.TheVariants.TwoByte, Escape.Escape, Start.Start, Held.Held}
 use Rattle.legacy_japanese.specs.declared.iso_2022_jp.steps.Start.TheVariants.{Nothing, EscapeByte, Dollar, Paren}
 use Rattle.legacy_japanese.specs.declared.iso_2022_jp.steps.Held.TheVariants.{Byte, Begun, Whole}
-use Rattle.legacy_japanese.specs.Iso2022JpMachine.{mode_meaning, bytes_of, finish, finish_start, is_held, is_resting, mode_of, pending, single, start_bytes}
+use Rattle.legacy_japanese.specs.Iso2022JpMachine.{mode_meaning, bytes_of, finish, finish_start, is_held, is_resting, mode_of, pending, second_of, single, start_bytes, third_of}
 use Rattle.legacy_japanese.specs.Iso2022JpMoves.{state_in, IsNarrowScalar}
 use Rattle.legacy_japanese.proofs.Iso2022JpLaw.{MeetsEnd, ended, events_in, front_in}
-use Rattle.legacy_japanese.proofs.Iso2022JpStep.{front-lone, front-single, front_of, escape_alone, in_range_plain}
+use Rattle.legacy_japanese.proofs.Iso2022JpStep.{front-lone, front-single, front-trail, front_of, escape_alone, in_range_plain, valid}
 use Rattle.legacy_japanese.proofs.Iso2022JpHeld.{held_allowed, held_rests, finish_sound, EndsSound}
 use Rattle.legacy_japanese.proofs.Iso2022JpRooms.{same_rooms, room-falls, replacement_fits, times_one}
 
@@ -81,21 +86,96 @@ module _ (jis0208 : List ℕ) where
   no_escape_yet Nothing = refl
   no_escape_yet _ = refl
 
+  -- a valid escape is no lone escape byte
+  no_lone : (t : Bool) (items rest : List DecodeEvent) → cond t (Bad 0 3 ∷ []) [] ++ shift 3 items ≡ Bad 0 1 ∷ rest → ⊥
+  no_lone true items rest e = cc
+  no_lone false items rest e = no_sooner 3 0 1 items rest (omega arith) e
+
+  -- an escape byte that is reported alone begins no valid escape
+  lone_escape : (mode : Mode) (rest : List ℕ) → BeginsWith (events_in jis0208 mode (esc ∷ rest)) (Bad 0 1 ∷ []) → part_mode (esc ∷ rest) ≡ None
+  unfolding part_mode
+  lone_escape mode [] g = refl
+  lone_escape mode (a ∷ []) g = refl
+  lone_escape mode (a ∷ b ∷ more) g = by_mode (escape_mode a b) refl
+    where
+      by_mode : (o : Option iso.Mode) → escape_mode a b ≡ o → o ≡ None
+      by_mode None e = refl
+      by_mode (Some next) e =
+          absurd (no_lone (is_some (part_mode more)) (iso_2022_jp_events jis0208 next more) g.0 (sym (step_escape jis0208 (mode_meaning mode) next a b more e) ∙ g.1))
+
+  -- an escape byte, and what came with it, at the end
+  escape_end : (mode : Mode) (rest more : List ℕ) → part_mode (esc ∷ rest) ≡ None
+      → (more ≡ []) ⊎ BeginsWith (events_in jis0208 mode (esc ∷ rest ++ more)) (Bad 0 1 ∷ [])
+      → events_in jis0208 mode (esc ∷ rest ++ more) ≡ Bad 0 1 ∷ shift 1 (events_in jis0208 mode (rest ++ more))
+  escape_end mode rest more none h = elim h [
+    | inl z ↦ let e : rest ++ more ≡ rest = ap (λ l. rest ++ l) z ∙ append-nil rest in rw e (step_no_escape jis0208 (mode_meaning mode) rest none)
+    | inr g ↦ step_no_escape jis0208 (mode_meaning mode) (rest ++ more) (lone_escape mode (rest ++ more) g)
+  ]
+
   start_end : (mode : Mode) (s : Start) → MeetsEnd jis0208 mode (Begun s) (finish_start mode s)
   start_end mode Nothing = step_end jis0208 (mode_meaning mode)
-  start_end mode EscapeByte = step_no_escape jis0208 (mode_meaning mode) [] (no_escape_yet EscapeByte)
-  start_end mode Dollar = step_no_escape jis0208 (mode_meaning mode) (0x24 ∷ []) (no_escape_yet Dollar)
-  start_end mode Paren = step_no_escape jis0208 (mode_meaning mode) (0x28 ∷ []) (no_escape_yet Paren)
+  start_end mode EscapeByte = λ more h. escape_end mode [] more (no_escape_yet EscapeByte) h
+  start_end mode Dollar = λ more h. escape_end mode (0x24 ∷ []) more (no_escape_yet Dollar) h
+  start_end mode Paren = λ more h. escape_end mode (0x28 ∷ []) more (no_escape_yet Paren) h
+
+  -- a lead and a trail are no malformed byte alone
+  no_lone_pair : (f : Front) (items rest : List DecodeEvent) → front_length f ≡ 2 → front_events 0 f ++ shift 2 items ≡ Bad 0 1 ∷ rest → ⊥
+  no_lone_pair (reads n []) items rest two e = no_sooner 2 0 1 items rest (omega arith) e
+  no_lone_pair (reads n (c ∷ scalars)) items rest two e = cc
+  no_lone_pair (malformed n) items rest two e = cc
+
+  pair_two : (l t : ℕ) (rest : List ℕ) → is_in_range 0x21 0x7E l ≡ true → front_length (front_in jis0208 TwoByte l (t ∷ rest)) ≡ 2
+  pair_two l t rest lead = rw (front-trail jis0208 l t rest lead) (by_trail (is_in_range 0x21 0x7E t) (idx jis0208 ((l - 0x21) * 94 + (t - 0x21))))
+    where
+      by_trail : (r : Bool) (o : Option ℕ) → front_length (cond r (reads_or 2 (option_to_list o) (malformed 2)) (malformed 2)) ≡ 2
+      by_trail true None = refl
+      by_trail true (Some c) = refl
+      by_trail false o = refl
+
+  -- a lead at the end, and a lead that is reported alone
+  lone_lead : (l : ℕ) (more : List ℕ) → is_in_range 0x21 0x7E l ≡ true → (more ≡ []) ⊎ BeginsWith (events_in jis0208 TwoByte (l ∷ more)) (Bad 0 1 ∷ [])
+      → first_part more ≡ []
+  lone_lead l [] lead h = refl
+  lone_lead l (t ∷ more) lead h = elim h [ inl z ↦ absurd (let n : t ∷ more ≡ [] = z in cc) | inr g ↦ by_test (t == esc) refl g ]
+    where
+      by_test : (e : Bool) → (t == esc) ≡ e → BeginsWith (events_in jis0208 TwoByte (l ∷ t ∷ more)) (Bad 0 1 ∷ []) → cond e [] (t ∷ first_part more) ≡ []
+      by_test true e g = refl
+      by_test false e g =
+          let f = front_in jis0208 TwoByte l (t ∷ first_part more) in
+          let two = pair_two l t (first_part more) lead in
+          absurd (no_lone_pair f (events_in jis0208 TwoByte more) g.0 two
+          (sym (step_two jis0208 (mode_meaning TwoByte) l t more f (in_range_plain l lead) e refl two) ∙ g.1))
 
   lead_end : (mode : Mode) (l : ℕ) → is_held mode (Byte l) ≡ true → is_two_byte_mode (mode_meaning mode) ≡ true → MeetsEnd jis0208 mode (Byte l) (finish mode (Byte l))
-  lead_end TwoByte l held two = step_one jis0208 (mode_meaning TwoByte) l [] (malformed 1) (in_range_plain l held) (front-lone jis0208 l) refl
+  lead_end TwoByte l held two = λ more h.
+      step_one jis0208 (mode_meaning TwoByte) l more (malformed 1) (in_range_plain l held)
+      (ap (front_in jis0208 TwoByte l) (lone_lead l more held h) ∙ front-lone jis0208 l) refl
   lead_end _ l held two = cc
+
+  -- behind a whole escape comes an escape byte that is reported alone, so that the whole one is not malformed
+  whole_alone : (mode : Mode) (e : Escape) (items rest : List DecodeEvent) (o : Option iso.Mode) → cond (is_some o) (Bad 0 3 ∷ []) [] ++ items ≡ Bad 3 1 ∷ rest → o ≡ None
+  whole_alone mode e items rest None h = refl
+  whole_alone mode e items rest (Some next) h = cc
+
+  whole_end : (mode : Mode) (e : Escape) (rest more : List ℕ) → part_mode (esc ∷ rest) ≡ None
+      → (more ≡ []) ⊎ BeginsWith (events_in jis0208 mode (esc ∷ second_of e ∷ third_of e ∷ esc ∷ rest ++ more)) (Bad 3 1 ∷ [])
+      → events_in jis0208 mode (esc ∷ second_of e ∷ third_of e ∷ esc ∷ rest ++ more) ≡ Bad 3 1 ∷ shift 4 (events_in jis0208 (mode_of e) (rest ++ more))
+  whole_end mode e rest more none h =
+      let behind = esc ∷ rest ++ more in
+      let alone : part_mode behind ≡ None = elim h [
+        | inl z ↦ ap (λ l. part_mode (esc ∷ l)) (ap (λ l. rest ++ l) z ∙ append-nil rest) ∙ none
+        | inr g ↦ whole_alone mode e (shift 3 (events_in jis0208 (mode_of e) behind)) g.0 (part_mode behind)
+            (sym (step_escape jis0208 (mode_meaning mode) (mode_meaning (mode_of e)) (second_of e) (third_of e) behind (valid e)) ∙ g.1)
+      ] in
+      rw (escape_alone jis0208 mode e behind alone, step_no_escape jis0208 (mode_meaning (mode_of e)) (rest ++ more) alone, shift-shift 3 1) refl
 
   end_law : (mode : Mode) (held : Held) → is_held mode held ≡ true → is_resting mode held ≡ true → MeetsEnd jis0208 mode held (finish mode held)
   end_law mode (Byte l) h r = lead_end mode l h r
   end_law mode (Begun s) h r = start_end mode s
   end_law mode (Whole e Nothing) h r = rw (escape_alone jis0208 mode e [] (no_escape_yet Nothing), start_end (mode_of e) Nothing)
-  end_law mode (Whole e s) h r = rw (escape_alone jis0208 mode e (start_bytes s) (no_escape_yet s), start_end (mode_of e) s, shift-shift 3 1)
+  end_law mode (Whole e EscapeByte) h r = λ more g. whole_end mode e [] more (no_escape_yet EscapeByte) g
+  end_law mode (Whole e Dollar) h r = λ more g. whole_end mode e (0x24 ∷ []) more (no_escape_yet Dollar) g
+  end_law mode (Whole e Paren) h r = λ more g. whole_end mode e (0x28 ∷ []) more (no_escape_yet Paren) g
 
   -- what it does, by the answer of `finish`
   abbrev EndFacts : Mode → Held → Option (Mode × Held) → Type 0
@@ -116,13 +196,13 @@ module _ (jis0208 : List ℕ) where
           progress = record {
             counts = omega arith;
             rest = rw (append-nil (bytes_of held), append-nil (bytes_of o.1)) sound.suffix;
-            events = λ more last. rw (last refl, append-nil (bytes_of held), append-nil (bytes_of o.1)) law;
+            events = λ more h. law more (h refl);
           };
           holds = record { some = omega arith; few = omega arith; near = sound.short; held = refl; within = omega arith };
           allowed = held_allowed jis0208 o.0 o.1 sound.kept;
           lowers = λ query. room-falls query jis0208 mode o.0 held o.1 0 0 1 (replacement_units query) (omega arith) (replacement_fits query);
         },
-        λ none. (let e = sym none ∙ law in cc),
+        λ none. (let all = law [] (inl refl) in let e = sym none ∙ ap (events_in jis0208 mode) (sym (append-nil (bytes_of held))) ∙ all in cc),
       )
 
   ends : (mode : Mode) (held : Held) (o : Option (Mode × Held)) → is_held mode held ≡ true

@@ -1,7 +1,7 @@
 -- What a step of the machine must do.
-use Rattle.std.proofs.Common.{◌≡◌, ℕ, ◌+◌, ◌-◌, ◌≤◌, true, Option, Some, None, List, [], ◌∷◌, ◌++◌, length, drop}
+use Rattle.std.proofs.Common.{◌≡◌, ℕ, ◌+◌, ◌-◌, ◌≤◌, true, Option, Some, None, List, [], ◌∷◌, ◌++◌, length, drop, ◌⊎◌}
 use Rattle.std.specs.Prelude.{if◌then◌else◌}
-use Rattle.legacy_base.specs.{Events.shift, Fronts.Front}
+use Rattle.legacy_base.specs.{Beginnings.BeginsWith, Events.shift, Fronts.Front}
 use Rattle.legacy_base.specs.declared.results.DecodeEvent.{DecodeEvent, TheVariants.Bad}
 use Rattle.legacy_base.specs.Iso2022Jp.{iso_2022_jp_front, iso_2022_jp_events}
 use Rattle.legacy_japanese.specs.declared.iso_2022_jp.steps.{Mode.Mode, Start.TheVariants.Nothing, Held.Held, Held.TheVariants.Begun, Action.Action, Outcome.Outcome}
@@ -34,12 +34,13 @@ MeetsLaw jis0208 mode held b o = (more : List ℕ) →
 abbrev pub ended : Held → Held → ℕ
 ended held new_held = length (bytes_of held) - length (bytes_of new_held)
 
--- its law
+-- its law: what is reported, and what follows that, also where bytes follow with which it is reported all the same
 abbrev pub MeetsEnd : List ℕ → Mode → Held → Option (Mode × Held) → Type 0
 MeetsEnd jis0208 mode held None = events_in jis0208 mode (bytes_of held) ≡ []
-MeetsEnd jis0208 mode held (Some o) =
-    events_in jis0208 mode (bytes_of held)
-    ≡ Bad (ended held o.1 - 1) 1 ∷ shift (ended held o.1) (events_in jis0208 o.0 (bytes_of o.1))
+MeetsEnd jis0208 mode held (Some o) = (more : List ℕ) →
+    (more ≡ []) ⊎ BeginsWith (events_in jis0208 mode (bytes_of held ++ more)) (Bad (ended held o.1 - 1) 1 ∷ []) →
+    events_in jis0208 mode (bytes_of held ++ more)
+    ≡ Bad (ended held o.1 - 1) 1 ∷ shift (ended held o.1) (events_in jis0208 o.0 (bytes_of o.1 ++ more))
 
 -- ---- numbers
 

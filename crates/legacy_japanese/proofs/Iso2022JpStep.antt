@@ -137,7 +137,7 @@ module _ (jis0208 : List ℕ) where
   unfolding iso_2022_jp_front
   front-lone l = refl
 
-  front-trail : (l b : ℕ) (rest : List ℕ) → is_in_range 0x21 0x7E l ≡ true
+  pub front-trail : (l b : ℕ) (rest : List ℕ) → is_in_range 0x21 0x7E l ≡ true
       → front_in jis0208 TwoByte l (b ∷ rest)
       ≡ (if is_in_range 0x21 0x7E b then reads_or 2 (option_to_list (idx jis0208 ((l - 0x21) * 94 + (b - 0x21)))) (malformed 2) else malformed 2)
   unfolding iso_2022_jp_front

@@ -7,7 +7,7 @@ use Rattle.legacy_base.specs.Replacement.{replacement_events}
 use Rattle.legacy_base.specs.States.{is_empty}
 use Rattle.legacy_decoder_engine.specs.Steps.{finish, StepMeets, end_events, Meets}
 use Rattle.legacy_miscellaneous.specs.ReplacementMachine.{replacement_machine}
-use Rattle.legacy_decoder_engine.proofs.OneByteMeets.{few_held}
+use Rattle.legacy_decoder_engine.proofs.OneByteMeets.{few_held, no_report}
 
 replacement_steps : (reported : Bool) (held : List ℕ) (b : ℕ) → is_empty held ≡ true →
     StepMeets (replacement reported) held b (cond reported (finish (reads 1 [])) (finish (malformed 1))) (replacement true)
@@ -27,5 +27,6 @@ replacement_meets reported = record {
   writes = λ held h. refl;
   steps = λ held b h r. replacement_steps reported held b h;
   ends = λ held h r. replacement_ends reported held h;
+  reports = λ held more h r. no_report (replacement reported) held more h;
   few = few_held;
 }

@@ -9,7 +9,7 @@ use Rattle.legacy_base.specs.States.{is_empty}
 use Rattle.legacy_decoder_engine.specs.Steps.{finish, end_events, Meets}
 use Rattle.legacy_miscellaneous.specs.UserDefinedMachine.{user_defined_first, user_defined_machine}
 use Rattle.legacy_decoder_engine.proofs.FrontMoves.{Fits, fits_test, fits_meets}
-use Rattle.legacy_decoder_engine.proofs.OneByteMeets.{few_held}
+use Rattle.legacy_decoder_engine.proofs.OneByteMeets.{few_held, no_report}
 
 user_defined_fits : (held : List ℕ) (b : ℕ) → is_empty held ≡ true → Fits user_defined_front is_empty held b (user_defined_first b)
 unfolding user_defined_front
@@ -30,5 +30,6 @@ user_defined_meets = record {
   writes = λ held h. refl;
   steps = λ held b h r. fits_meets user_defined user_defined_front (λ bytes. refl) is_empty (λ held'. refl) held b (user_defined_first b) (few_held held h) (user_defined_fits held b h);
   ends = λ held h r. user_defined_ends held h;
+  reports = λ held more h r. no_report user_defined held more h;
   few = few_held;
 }

@@ -1,17 +1,17 @@
 -- The machine of UTF-16 does what its grammar says.
-use Rattle.std.proofs.Common.{◌≡◌, ℕ, ◌≤◌, List, [], ◌∷◌, length, Bool, true, false, cond, Some, None, refl, ◌∙◌, ◌||◌, ◌&&◌, arith}
+use Rattle.std.proofs.Common.{◌≡◌, ℕ, ◌≤◌, ◌<◌, List, [], ◌∷◌, length, Bool, true, false, cond, Some, None, refl, ◌∙◌, ◌||◌, ◌&&◌, arith}
 use Rattle.std.proofs.lemmas.Bool.{false≢true, not-true, not_from_false, and_left, or_left}
 use Rattle.std.proofs.lemmas.Bool.Decides.{nat_tests}
 use Rattle.std.specs.Char.Utf16.{is_high_surrogate, is_low_surrogate, surrogate_pair_char}
-use Rattle.legacy_base.specs.Fronts.{reads, malformed, cut}
+use Rattle.legacy_base.specs.Fronts.{Front, reads, malformed, front_length, cut}
 use Rattle.legacy_base.specs.Grammar.{utf16, events_of}
 use Rattle.legacy_base.specs.Utf16.{unit_of, utf16_events}
-use Rattle.legacy_miscellaneous.specs.Utf16Fronts.{lone_unit_front, utf16_front}
+use Rattle.legacy_miscellaneous.specs.Utf16Fronts.{lone_unit_front, unit_front, utf16_front}
 use Rattle.legacy_base.specs.States.{utf16_may_hold, rests}
 use Rattle.legacy_decoder_engine.specs.Steps.{hold, finish, PendingMeets, end_events, Meets}
 use Rattle.legacy_miscellaneous.specs.Utf16Machine.{utf16_pending, utf16_step, utf16_machine}
 use Rattle.legacy_base.proofs.Cuts.{cut-nil}
-use Rattle.legacy_decoder_engine.proofs.FrontMoves.{Fits, fits_test, fits_meets, write_meets, end_meets}
+use Rattle.legacy_decoder_engine.proofs.FrontMoves.{Fits, fits_test, fits_meets, write_meets, end_meets, report_meets}
 use Rattle.legacy_miscellaneous.proofs.Utf16Cut.{utf16_cut}
 
 high_not_low : (u : ℕ) → is_high_surrogate u ≡ true → is_low_surrogate u ≡ false
@@ -94,10 +94,29 @@ module _ (be : Bool) where
   all_end (a ∷ b ∷ c ∷ []) h r = end_meets (utf16 be) (utf16_front be) ev_is a (b ∷ c ∷ []) (rw h)
   all_end (a ∷ b ∷ c ∷ d ∷ held) h r = absurd (false≢true h)
 
+  -- each front has a byte or more
+  some_cond : (t : Bool) (f g : Front) → 0 < front_length f → 0 < front_length g → 0 < front_length (cond t f g)
+  some_cond true f g h k = h
+  some_cond false f g h k = k
+
+  some_lone : (u : ℕ) → 0 < front_length (lone_unit_front u)
+  some_lone u = some_cond (is_high_surrogate u || is_low_surrogate u) (malformed 2) (reads 2 (u ∷ [])) (omega arith) (omega arith)
+
+  some_unit : (u : ℕ) (rest : List ℕ) → 0 < front_length (unit_front be u rest)
+  some_unit u [] = some_lone u
+  some_unit u (c ∷ []) = some_cond (is_high_surrogate u) (malformed 3) (lone_unit_front u) (omega arith) (some_lone u)
+  some_unit u (c ∷ d ∷ rest) = some_cond _ (reads 4 (surrogate_pair_char u (unit_of be c d) ∷ [])) (lone_unit_front u) (omega arith) (some_lone u)
+
+  some_front : (b : ℕ) (rest : List ℕ) → 0 < front_length (utf16_front be b rest)
+  unfolding utf16_front
+  some_front a [] = omega arith
+  some_front a (b ∷ rest) = some_unit (unit_of be a b) rest
+
   pub utf16_meets : Meets (utf16 be) (utf16_machine be)
   utf16_meets = record {
     writes = writes;
     steps = λ held b h r. fits_meets (utf16 be) (utf16_front be) ev_is (utf16_may_hold be) (λ held'. refl) held b (utf16_step be held b) (few_held held h) (fits held b h r);
     ends = all_end;
+    reports = λ held more h r. report_meets (utf16 be) (utf16_front be) ev_is held more (λ b rest e. some_front b rest);
     few = few_held;
   }

@@ -10,7 +10,7 @@ use Rattle.legacy_base.specs.States.{is_empty}
 use Rattle.legacy_decoder_engine.specs.Steps.{finish, end_events, Meets}
 use Rattle.legacy_single_byte.specs.SingleByteMachine.{single_byte_first, single_byte_machine}
 use Rattle.legacy_decoder_engine.proofs.FrontMoves.{Fits, fits_test, fits_meets}
-use Rattle.legacy_decoder_engine.proofs.OneByteMeets.{few_held, one_fits}
+use Rattle.legacy_decoder_engine.proofs.OneByteMeets.{few_held, no_report, one_fits}
 
 single_byte_fits : (table held : List ℕ) (b : ℕ) → is_empty held ≡ true → Fits (single_byte_front table) is_empty held b (single_byte_first table b)
 unfolding single_byte_front
@@ -32,5 +32,6 @@ single_byte_meets table = record {
   steps = λ held b h r. fits_meets (single_byte table) (single_byte_front table) (λ bytes. refl) is_empty (λ held'. refl) held b (single_byte_first table b) (few_held held h)
       (single_byte_fits table held b h);
   ends = λ held h r. single_byte_ends table held h;
+  reports = λ held more h r. no_report (single_byte table) held more h;
   few = few_held;
 }

@@ -1,5 +1,5 @@
 -- Runs of single-byte tables: from a place on, so many entries are the scalars from a first one upwards.
-use Rattle.std.specs.Prelude.{◌≡◌, ℕ, ◌+◌, ◌<◌, List, Option, Some, ◌==◌, nat_lt, not, find, if◌then◌else◌, option_map, slice_index}
+use Rattle.std.specs.Prelude.{◌≡◌, ℕ, ◌+◌, ◌<◌, ◌≤◌, List, Option, Some, None, ◌==◌, nat_lt, not, find, if◌then◌else◌, option_map, slice_index}
 use Rattle.std.specs.List.{range_with_len}
 use Rattle.legacy_single_byte.specs.declared.single_byte.run.SingleByteRunError.{SingleByteRunError}
 use Rattle.legacy_single_byte.specs.declared.single_byte.run.SingleByteRunError.TheVariants.{RunStart, RunPastEnd, RunMismatch}
@@ -19,3 +19,11 @@ single_byte_run_fault table scalar start count =
     if nat_lt start 32 then Some RunStart
     else if nat_lt 128 (start + count) then Some RunPastEnd
     else option_map (λ k. RunMismatch (start + k)) (first_mismatch table scalar start count)
+
+-- The run is one that an encoder takes, its scalars lie below U+2000, and of such runs none is longer.
+pub record IsLongestRun (table : List ℕ) (scalar start count : ℕ) : Type 0 where
+  pub accepted : single_byte_run_fault table scalar start count ≡ None
+  pub letters : scalar + count ≤ 0x2000
+  pub longest : (other_scalar other_start other_count : ℕ) →
+      single_byte_run_fault table other_scalar other_start other_count ≡ None →
+      other_scalar + other_count ≤ 0x2000 → other_count ≤ count

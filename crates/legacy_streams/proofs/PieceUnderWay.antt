@@ -1,6 +1,6 @@
 -- A piece under way.
 use Rattle.std.proofs.Common.{◌≡◌, ◌∙◌, ℕ, zero, suc, ◌+◌, ◌-◌, ◌≤◌, ◌<◌, List, [], ◌∷◌, ◌++◌, length, take, drop, take-append-drop, refl, sym, ap, arith, append_assoc, append-nil, length-append}
-use Rattle.std.proofs.Common.{length-drop, map, get_or, Bool, Option}
+use Rattle.std.proofs.Common.{length-drop, map, get_or, Bool, true, false, Option, inl}
 use Rattle.std.proofs.lemmas.List.{drop-drop, drop_more, get_or-drop}
 use Rattle.std.proofs.Math.ListN.{drop_of_length-le}
 use Rattle.std.proofs.KnownBytes.{Appends-nil, Appends-trans}
@@ -15,7 +15,7 @@ use Rattle.legacy_base.specs.Grammar.{events_of}
 use Rattle.legacy_base.specs.States.{DecoderState}
 use Rattle.legacy_base.specs.Calls.{Progress, DecoderCall, IsLoneFault, reported_events, out_events}
 use Rattle.legacy_base.proofs.Shifts.{shift-append, shift-scalars}
-use Rattle.legacy_base.proofs.Progress.{stay, after_that, at_last, behind}
+use Rattle.legacy_base.proofs.Progress.{stay, after_that, at_less, at_last, end_report-last, behind}
 use Rattle.legacy_base.proofs.Rooms.{lacks_small}
 use Rattle.legacy_codecs.proofs.RunEvents.{placed-append, placed-scalars}
 use Rattle.legacy_codecs.specs.Runs.{placed}
@@ -126,7 +126,7 @@ module _ {before : DecoderState} {piece : List ℕ} {last : Bool} {total : ℕ} 
           within = let r = c.within in let v = u.within in omega (arith, length-drop offset piece);
           passed = u.passed + c.passed;
           events = u.events ++ shift u.passed given;
-          progress = rw (← drop-drop read offset piece) (after_that _ _ _ _ _ _ _ _ _ _ _ u.progress c.progress);
+          progress = rw (← drop-drop read offset piece) (after_that _ _ _ _ _ _ _ _ _ _ _ u.progress (at_less _ last (end_report-last last answer _) _ _ _ _ _ _ c.progress));
           sent = u.sent;
           written = u.written;
           lines =
@@ -163,7 +163,7 @@ module _ {before : DecoderState} {piece : List ℕ} {last : Bool} {total : ℕ} 
         → length (events_of after.grammar (after.held ++ drop (offset + read) piece)) < length (events_of now.grammar (now.held ++ drop offset piece))
     piece_less h =
         let some = some_cases answer refl scalars refl h in
-        let all = ap length (c.progress.events [] (λ _. refl)) in
+        let all = ap length (c.progress.events [] (λ _. inl refl)) in
         let counted = rw (append-nil, append-nil, drop-drop, length-append, length-shift) at all in
         omega arith
 
@@ -229,7 +229,7 @@ piece_lone_less (suc count) now piece offset h lone =
     let there : offset + 1 + count ≡ offset + suc count = omega arith in
     let first = lone 0 (omega arith) in
     let one = rw here at first in
-    let all = ap length (one.progress.events (drop (offset + 1) piece) (λ f. cc)) in
+    let all = ap length (one.progress.events (drop (offset + 1) piece) (λ f. absurd (let no : false ≡ true = f in cc))) in
     let more = rw (length-shift, ← drop_more piece offset 0 (omega arith)) at all in
     let rest = piece_lone_less count now piece (offset + 1) (omega arith) (λ k f. let e : offset + 1 + k ≡ offset + suc k = omega arith in rw e (lone (suc k) (omega arith))) in
     let rest' = rw there at rest in

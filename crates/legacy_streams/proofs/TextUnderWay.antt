@@ -1,6 +1,6 @@
 -- The text of an input under way.
 use Rattle.std.proofs.Common.{◌≡◌, ◌∙◌, ℕ, ◌+◌, ◌-◌, ◌≤◌, ◌<◌, List, [], ◌∷◌, ◌++◌, length, take, drop, take-append-drop, refl, sym, ap, arith, append_assoc, append-nil}
-use Rattle.std.proofs.Common.{length-append, length-drop, Bool, true, false, ◌||◌, IsTrue, Option}
+use Rattle.std.proofs.Common.{length-append, length-drop, Bool, true, false, ◌||◌, IsTrue, Option, inl}
 use Rattle.std.specs.Io.KnownBytes.{Appends, Consumes, IsAtEnd, Keeps}
 use Rattle.std.proofs.KnownBytes.{Appends-nil, Appends-trans, Consumes-nil, Consumes-trans, Consumes-kept}
 use Rattle.std.proofs.lemmas.List.{drop-drop}
@@ -11,12 +11,13 @@ use Rattle.legacy_base.specs.Events.{shift}
 use Rattle.legacy_base.specs.Grammar.{events_of}
 use Rattle.legacy_base.specs.States.{DecoderState}
 use Rattle.legacy_base.specs.Calls.{Progress}
-use Rattle.legacy_base.proofs.Progress.{stay, after_that}
+use Rattle.legacy_base.proofs.Progress.{stay, at_less, after_that}
 use Rattle.legacy_text.proofs.CodeUnits.{all_code_units-append}
 use Rattle.legacy_base.proofs.Rooms.{lacks_small}
 use Rattle.legacy_codecs.specs.declared.results.CoderResult.{CoderResult}
 use Rattle.legacy_codecs.specs.declared.results.CoderResult.TheVariants.{InputEmpty, OutputFull}
 use Rattle.legacy_codecs.specs.Replacing.{replaced_scalars, has_bad, ReplacingDecoderCall}
+use Rattle.legacy_codecs.proofs.Replacements.{end_found-last}
 use Rattle.legacy_codecs.proofs.Replaced.{replaced-append, replaced-shift, has_bad-append, has_bad-shift, length-shift}
 use Rattle.legacy_streams.specs.Text.{text_of, WritesPiece, WritesFront, WritesAll, WritesBeginning, WritesPartly}
 use Rattle.legacy_streams.proofs.Whole.{way_on}
@@ -73,7 +74,7 @@ module _ {before : DecoderState} {piece : List ℕ} {last : Bool} {now : Decoder
     (c : ReplacingDecoderCall Utf8 now (drop offset piece) last free after answer read written more) where
   -- the way to the end of the call
   way_of_call : Progress last before piece (u.passed + c.passed) after (drop (offset + read) piece) (u.events ++ shift u.passed c.out)
-  way_of_call = rw (← drop-drop read offset piece) (after_that _ _ _ _ _ _ _ _ _ _ _ u.progress c.progress)
+  way_of_call = rw (← drop-drop read offset piece) (after_that _ _ _ _ _ _ _ _ _ _ _ u.progress (at_less _ last (end_found-last last more _) _ _ _ _ _ _ c.progress))
 
   -- a front of the text of the call was written
   pub text_front : {new : Option (List ℕ)} (count : ℕ) → Appends mid new (take count written) → WritesFront before piece last after old new
@@ -133,7 +134,7 @@ module _ {before : DecoderState} {piece : List ℕ} {last : Bool} {now : Decoder
       → length (events_of after.grammar (after.held ++ drop (offset + read) piece)) < length (events_of now.grammar (now.held ++ drop offset piece))
   text_less h n =
       let some = gave_event h (full_or_end answer n) in
-      let all = ap length (c.progress.events [] (λ _. refl)) in
+      let all = ap length (c.progress.events [] (λ _. inl refl)) in
       let counted = rw (append-nil, append-nil, drop-drop, length-append, length-shift) at all in
       omega arith
 
@@ -189,7 +190,7 @@ module _ {before now : DecoderState} {found : Bool} {left_old left_mid old mid :
         let p = rw is_last at given in
         let all = s.events ++ shift s.passed p.events in
         let e : events_of before.grammar (before.held ++ (s.bytes ++ piece)) ≡ all =
-        ap (λ l. events_of before.grammar (before.held ++ l)) (sym (append-nil (s.bytes ++ piece))) ∙ (way_on true piece s.progress p.progress).events [] (λ _. refl)
+        ap (λ l. events_of before.grammar (before.held ++ l)) (sym (append-nil (s.bytes ++ piece))) ∙ (way_on true piece s.progress p.progress).events [] (λ _. inl refl)
         ∙ ap (λ l. all ++ shift (s.passed + p.passed) l) (ap (events_of after.grammar) (append-nil after.held) ∙ p.ended refl) ∙ append-nil all in
         record {
           bytes = s.bytes ++ piece;
@@ -218,7 +219,7 @@ module _ {before now : DecoderState} {found : Bool} {left_old left_mid old mid :
           unsent = p.unsent;
           text = text-append s.events p.events s.passed ∙ ap (λ l. first ++ l) p.text ∙ sym (append_assoc first p.sent p.unsent);
           written = Appends-trans _ _ _ _ _ s.written p.written;
-          beginning = λ more e. (shift (s.passed + p.passed) (events_of after.grammar (after.held ++ (p.left ++ more))), way.events more e);
+          beginning = λ more e. (shift (s.passed + p.passed) (events_of after.grammar (after.held ++ (p.left ++ more))), way.events more (λ l. inl (e l)));
         }
 
 -- what stands where reading fails
@@ -231,5 +232,5 @@ so_far_beginning s k = record {
   events = s.events;
   progress = s.progress;
   written = s.written;
-  beginning = λ more. (shift s.passed (events_of _ (_ ++ ([] ++ more))), s.progress.events more (λ f. cc));
+  beginning = λ more. (shift s.passed (events_of _ (_ ++ ([] ++ more))), s.progress.events more (λ f. absurd (let no : false ≡ true = f in cc)));
 }

@@ -1,5 +1,5 @@
 -- The recoding of a whole input under way.
-use Rattle.std.proofs.Common.{◌≡◌, ◌∙◌, ℕ, ◌+◌, ◌-◌, List, [], ◌∷◌, ◌++◌, length, refl, sym, ap, arith, append-nil, length-append, Bool, true, false, IsTrue, Option, append_assoc}
+use Rattle.std.proofs.Common.{◌≡◌, ◌∙◌, ℕ, ◌+◌, ◌-◌, List, [], ◌∷◌, ◌++◌, length, refl, sym, ap, arith, append-nil, length-append, Bool, true, false, IsTrue, Option, inl, append_assoc}
 use Rattle.std.specs.Io.KnownBytes.{Appends, Consumes, IsAtEnd, Keeps}
 use Rattle.legacy_base.specs.declared.results.DecodeEvent.{DecodeEvent}
 use Rattle.legacy_base.specs.declared.results.DecodeEvent.TheVariants.{Scalar, Bad}
@@ -88,7 +88,7 @@ module _ {before now : DecoderState} {total : ℕ} {left_old left_mid old mid : 
       let p = rw is_last at given in
       let all = w.events ++ shift w.passed p.events in
       let e : events_of before.grammar (before.held ++ (w.bytes ++ piece)) ≡ all =
-      ap (λ l. events_of before.grammar (before.held ++ l)) (sym (append-nil (w.bytes ++ piece))) ∙ (joined_progress true piece p.progress).events [] (λ _. refl)
+      ap (λ l. events_of before.grammar (before.held ++ l)) (sym (append-nil (w.bytes ++ piece))) ∙ (joined_progress true piece p.progress).events [] (λ _. inl refl)
       ∙ ap (λ l. all ++ shift (w.passed + p.passed) l) (ap (events_of after.grammar) (append-nil after.held) ∙ p.ended refl) ∙ append-nil all in
       record {
         bytes = w.bytes ++ piece;
@@ -118,7 +118,7 @@ module _ {before now : DecoderState} {total : ℕ} {left_old left_mid old mid : 
             joined_lines p.events ∙ ap (λ l. event_lines (placed (length before.held) w.events) ++ l) p.lines
             ∙ sym (append_assoc (event_lines (placed (length before.held) w.events)) p.sent p.unsent);
         written = Appends-trans _ _ _ _ _ w.written p.written;
-        beginning = λ more e. (shift (w.passed + p.passed) (events_of after.grammar (after.held ++ (p.left ++ more))), way.events more e);
+        beginning = λ more e. (shift (w.passed + p.passed) (events_of after.grammar (after.held ++ (p.left ++ more))), way.events more (λ l. inl (e l)));
       }
 
 -- what stands where reading fails
@@ -131,5 +131,5 @@ whole_beginning w k = record {
   events = w.events;
   progress = w.progress;
   written = w.written;
-  beginning = λ more. (shift w.passed (events_of _ (_ ++ ([] ++ more))), w.progress.events more (λ f. cc));
+  beginning = λ more. (shift w.passed (events_of _ (_ ++ ([] ++ more))), w.progress.events more (λ f. absurd (let no : false ≡ true = f in cc)));
 }

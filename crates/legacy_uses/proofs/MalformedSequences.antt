@@ -1,5 +1,5 @@
 -- The search for malformed sequences under way.
-use Rattle.std.proofs.Common.{◌≡◌, ◌∙◌, ℕ, ◌+◌, ◌-◌, ◌≤◌, ◌<◌, List, [], ◌∷◌, ◌++◌, length, drop, map, refl, sym, ap, ap₂, arith, append-nil, add-zero, length-append, length-drop, true}
+use Rattle.std.proofs.Common.{◌≡◌, ◌∙◌, ℕ, ◌+◌, ◌-◌, ◌≤◌, ◌<◌, List, [], ◌∷◌, ◌++◌, length, drop, map, refl, sym, ap, ap₂, arith, append-nil, add-zero, length-append, length-drop, true, inl}
 use Rattle.std.proofs.lemmas.List.{drop_all}
 use Rattle.legacy_base.specs.declared.results.DecodeEvent.{DecodeEvent}
 use Rattle.legacy_base.specs.declared.results.DecodeEvent.TheVariants.{Scalar, Bad}
@@ -10,8 +10,8 @@ use Rattle.legacy_base.specs.Events.{shift}
 use Rattle.legacy_base.specs.Grammar.{events_of}
 use Rattle.legacy_base.specs.States.{DecoderState}
 use Rattle.legacy_base.specs.Lengths.{to_utf8_without_replacement, room}
-use Rattle.legacy_base.specs.Calls.{Progress, DecoderCall, out_events}
-use Rattle.legacy_base.proofs.Progress.{stay, after_that}
+use Rattle.legacy_base.specs.Calls.{Progress, DecoderCall, may_report_end, out_events}
+use Rattle.legacy_base.proofs.Progress.{stay, at_less, after_that}
 use Rattle.legacy_codecs.proofs.Replaced.{length-shift}
 use Rattle.legacy_uses.specs.declared.faults.MalformedSequence.{MalformedSequence}
 use Rattle.legacy_uses.specs.MalformedSequences.{malformed_of}
@@ -49,7 +49,8 @@ module _ (before : DecoderState) (input : List ℕ) (free : ℕ) (now : DecoderS
     (after : DecoderState) (count : ℕ) (scalars : List ℕ) where
   progress_after : (answer : DecoderResult) (c : DecoderCall Utf8 now rest true free after answer count scalars) →
       Progress true before input (f.passed + c.passed) after (drop count rest) (f.out ++ shift f.passed (out_events (length now.held + count) scalars answer))
-  progress_after answer c = after_that true before input f.passed now rest f.out c.passed after (drop count rest) (out_events (length now.held + count) scalars answer) f.progress c.progress
+  progress_after answer c = after_that true before input f.passed now rest f.out c.passed after (drop count rest) (out_events (length now.held + count) scalars answer) f.progress
+      (at_less (may_report_end true answer (drop count rest)) true (λ l. refl) now rest c.passed after (drop count rest) (out_events (length now.held + count) scalars answer) c.progress)
 
   -- the place of a malformed sequence
   place_is : (a b : ℕ) → DecoderCall Utf8 now rest true free after (Malformed a b) count scalars → f.passed + (length now.held + count - b - a) - length before.held ≡ read + count - (a + b)
@@ -85,7 +86,7 @@ module _ (before : DecoderState) (input : List ℕ) (free : ℕ) (now : DecoderS
   finds_less a b c =
       let event : ℕ → DecodeEvent = λ x. Scalar x in
       let bad : List DecodeEvent = Bad (length now.held + count - b - a) a ∷ [] in
-      let e = c.progress.events [] (λ _. refl) in
+      let e = c.progress.events [] (λ _. inl refl) in
       let x : length (events_of now.grammar (now.held ++ (rest ++ [])))
       ≡ length (map event scalars ++ bad) + length (events_of after.grammar (after.held ++ (drop count rest ++ []))) =
       ap length e ∙ length-append (map event scalars ++ bad) _ ∙ ap (λ n. length (map event scalars ++ bad) + n) (length-shift c.passed _) in
@@ -101,7 +102,7 @@ module _ (before : DecoderState) (input : List ℕ) (free : ℕ) (now : DecoderS
       let nothing : drop count rest ≡ [] = drop_all count rest (omega (arith, done.0)) in
       let none : events_of after.grammar (after.held ++ (drop count rest ++ [])) ≡ [] =
       ap (λ l. events_of after.grammar (after.held ++ (l ++ []))) nothing ∙ ap (events_of after.grammar) (append-nil after.held) ∙ done.2 refl in
-      let whole = (progress_after InputEmpty c).events [] (λ _. refl) in
+      let whole = (progress_after InputEmpty c).events [] (λ _. inl refl) in
       let all : events_of before.grammar (before.held ++ input) ≡ out =
       ap (λ l. events_of before.grammar (before.held ++ l)) (sym (append-nil input)) ∙ whole ∙ ap (λ l. out ++ shift (f.passed + c.passed) l) none ∙ append-nil out in
       f.found_is ∙ sym (ap (malformed_of (length before.held)) all

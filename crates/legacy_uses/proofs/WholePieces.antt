@@ -1,5 +1,5 @@
 -- A call with replacement that read its whole source gave the text of it.
-use Rattle.std.proofs.Common.{◌≡◌, ◌∙◌, ℕ, List, [], ◌∷◌, ◌++◌, length, drop, refl, sym, ap, arith, take, ◌≤◌, Bool, true, IsTrue, All, append-nil}
+use Rattle.std.proofs.Common.{◌≡◌, ◌∙◌, ℕ, List, [], ◌∷◌, ◌++◌, length, drop, refl, sym, ap, arith, take, ◌≤◌, Bool, true, IsTrue, All, append-nil, inl}
 use Rattle.std.proofs.lemmas.List.{drop_all, take-take, take-append-le}
 use Rattle.std.proofs.lemmas.List.Elements.{All-head, All-tail}
 use Rattle.std.proofs.lemmas.Str.{chars_from_encodes}
@@ -14,6 +14,7 @@ use Rattle.legacy_text.proofs.CodeUnits.{all_code_units-append}
 use Rattle.legacy_codecs.specs.declared.results.CoderResult.{CoderResult}
 use Rattle.legacy_codecs.specs.declared.results.CoderResult.TheVariants.{InputEmpty}
 use Rattle.legacy_codecs.specs.Replacing.{replaced_scalars, ReplacingDecoderCall}
+use Rattle.legacy_codecs.proofs.Replacements.{end_found-last}
 use Rattle.legacy_codecs.proofs.Replaced.{replaced-append, replaced-shift}
 use Rattle.legacy_uses.specs.WholeTexts.{text_of, TextGoesOn}
 
@@ -50,7 +51,7 @@ module _ (form : EncodingForm) (before : DecoderState) (source : List ℕ) (last
   unfolding text_of
   scalars_go_on later h =
       let rest = events_of after.grammar (after.held ++ later) in
-      let whole = rw (all_read source read (c.input_empty empty).0) at c.progress.events later h in
+      let whole = rw (all_read source read (c.input_empty empty).0) at c.progress.events later (λ l. inl (h (end_found-last last found [] l))) in
       ap replaced_scalars whole ∙ replaced-append c.out (shift c.passed rest) ∙ ap (λ l. replaced_scalars c.out ++ l) (replaced-shift c.passed rest)
 
   pub text_goes_on : TextGoesOn form last before source after written

@@ -1,5 +1,5 @@
 -- Calls of an encoder with references, over a whole text.
-use Rattle.std.proofs.Common.{◌≡◌, ◌∙◌, ℕ, ◌≤◌, ◌<◌, List, [], ◌++◌, length, refl, sym, ap, arith, append-nil, append_assoc, length-append, Bool, true, map}
+use Rattle.std.proofs.Common.{◌≡◌, ◌∙◌, ℕ, ◌≤◌, ◌<◌, List, [], ◌++◌, length, refl, sym, ap, arith, append-nil, append_assoc, length-append, Bool, true, map, inl}
 use Rattle.std.proofs.lemmas.Grind.{flat_map-append}
 use Rattle.legacy_base.specs.declared.results.EncodeEvent.TheVariants.{Byte}
 use Rattle.legacy_base.specs.Encoders.{EncoderState, encoded}
@@ -13,7 +13,7 @@ module _ (before : EncoderState) (source : List ℕ) (free : ℕ) (after : Encod
   -- what was written, and then the bytes of what is left, are those of the text
   pub bytes_go_on : referenced_bytes (encoded before source true) ≡ bytes ++ referenced_bytes (encoded after left true)
   bytes_go_on =
-      let gives : encoded before (source ++ []) true ≡ c.out ++ encoded after (left ++ []) true = c.gives [] true (λ _. (refl, refl)) in
+      let gives : encoded before (source ++ []) true ≡ c.out ++ encoded after (left ++ []) true = c.gives [] true (λ _. inl (refl, refl)) in
       let all = rw (append-nil source, append-nil left) at gives in
       ap referenced_bytes all ∙ flat_map-append event_bytes c.out (encoded after left true) ∙ ap (λ l. l ++ referenced_bytes (encoded after left true)) (sym c.text)
 

@@ -259,7 +259,6 @@ impl EncoderMoves for CachedIso2022JpEncoder<'_, '_> {
     }
 
     #[inline]
-    #[tactic(auto, using(crate::proofs::Iso2022JpEncoderMoves::finishes))]
     fn finish(&mut self) {
         self.mode = Mode::Ascii;
     }

@@ -235,7 +235,6 @@ impl EncoderMoves for Iso2022JpEncoder<'_> {
     }
 
     #[inline]
-    #[tactic(auto, using(crate::proofs::Iso2022JpEncoderMoves::finishes))]
     fn finish(&mut self) {
         self.mode = Mode::Ascii;
     }

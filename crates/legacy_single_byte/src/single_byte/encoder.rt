@@ -1,7 +1,7 @@
 //! The encoder of the single-byte encodings.
 ghost use Rattle.std.specs.Prelude.{◌≡◌, ◌+◌, ◌-◌, ◌<◌, ◌≤◌, ◌==◌, MatchResult, Some, None, IfSome, true, false, position};
 ghost use Rattle.legacy_base.specs.Encoders.{single_byte, new_encoder};
-ghost use Rattle.legacy_single_byte.specs.SingleByteRun.{IsRun, single_byte_run_fault};
+ghost use Rattle.legacy_single_byte.specs.SingleByteRun.{IsRun, IsLongestRun, single_byte_run_fault};
 ghost use Rattle.legacy_single_byte.specs.SingleByteCodes.{single_byte_plain};
 
 use super::run::{SingleByteRun, SingleByteRunError, check_run};
@@ -84,10 +84,13 @@ impl<'a> SingleByteEncoder<'a> {
         })
     }
 
-    /// An encoder before its first scalar, which writes by the table. Its run is the table's longest one
-    /// of letters, `SingleByteRun::longest`. It takes no memory.
+    /// An encoder before its first scalar, which writes by the table. Its run is a longest one of the
+    /// table's letters, as `SingleByteRun::longest` finds it. It takes no memory.
     pub fn with_longest_run(table: &'a SingleByteTable) -> SingleByteEncoder<'a>
-        ensures { single_byte_encoder_state result ≡ new_encoder (single_byte table.now.entries) }
+        ensures state { single_byte_encoder_state result
+            ≡ new_encoder (single_byte table.now.entries) }
+        ensures run { IsLongestRun table.now.entries
+            result.run_bmp_offset result.run_byte_offset result.run_length }
     {
         let run = SingleByteRun::longest(table);
         SingleByteEncoder {

@@ -72,6 +72,9 @@ const GREEK: &[EncoderRow] = &[
         true,
     ),
     ReplacedFromUtf16(&[0x3C4], 11, true, InputEmpty, 1, b"\xF4", false),
+    Encoder("no scalar is written into the ten bytes that are kept free"),
+    ReplacedFromUtf16(&[0x391, 0x391], 11, true, OutputFull, 1, b"\xC1", false),
+    ReplacedFromUtf16(&[0x391], 11, true, InputEmpty, 1, b"\xC1", false),
     Encoder("an unpaired low surrogate has the reference of U+FFFD"),
     ReplacedFromUtf16(
         &[0x391, 0xDCA9, 0x3C4],

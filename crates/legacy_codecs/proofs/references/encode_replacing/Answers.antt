@@ -1,4 +1,4 @@
-use Rattle.std.proofs.Common.{◌≡◌, ◌∙◌, ◌≤◌, ◌++◌, length, take, is_some, sym, ap, refl, arith, append_assoc, inl, inr}
+use Rattle.std.proofs.Common.{◌≡◌, ◌∙◌, ◌+◌, ◌≤◌, ◌++◌, length, take, is_some, sym, ap, refl, arith, append_assoc, inl, inr}
 use Rattle.std.proofs.lemmas.List.{length-take-le}
 use Rattle.legacy_base.specs.declared.results.EncoderResult.TheVariants.{OutputFull}
 use Rattle.legacy_codecs.specs.References.{reference}
@@ -45,8 +45,10 @@ calls-preserved g c =
     let within = ap length (sym all) ∙ length-take-le p.result p.new.dst p.ensures.within in
     let fits : length (take c.calls.written c.calls.dst ++ (call.0 ++ r)) ≤ length c.args.dst.now =
     omega (arith, within, p.ensures.within, p.auto.dst, c.encode_from-answer.auto.dst, c.calls.auto.dst) in
+    let spare : length (take c.calls.written c.calls.dst) + length call.0 + 10 ≤ length c.args.dst.now =
+    omega (arith, long, call.3, c.encode_from-answer.ensures.room, c.encode_from-answer.auto.dst, c.calls.auto.dst) in
     record {
-      calls = rw all (referencing_step c.calls.invariant.calls (omega (arith, long, c.calls.auto.dst)) c.in-Unmappable.c fits one);
+      calls = rw all (referencing_step c.calls.invariant.calls (omega (arith, long, c.calls.auto.dst)) c.in-Unmappable.c fits spare one);
       within = p.ensures.within;
       passed = c.encode_from-answer.ensures.passed ∙ c.calls.invariant.passed;
     }

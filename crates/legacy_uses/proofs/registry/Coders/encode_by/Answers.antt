@@ -15,4 +15,4 @@ returns-in_ok-table-in-SingleByte c =
     (λ bytes. bytes.items ≡ bytes_by (Some (single_byte entries)) text)
     (λ bytes. AreBytesBy coders.tables.flat coders.single_bytes.now c.args.encoding text bytes.items)
     (λ bytes k. record { entries = entries; own = λ e. found.ensures; encodes = rw is k })
-    (c.encode_from_start.ensures (single_byte entries) c.with_longest_run.ensures)
+    (c.encode_from_start.ensures (single_byte entries) c.with_longest_run.ensures.state)

@@ -1,0 +1,44 @@
+-- How lists of events begin that begin with more.
+use Rattle.std.proofs.Common.{◌≡◌, ◌∙◌, ℕ, ◌+◌, ◌<◌, List, [], ◌∷◌, ◌++◌, cond, Bool, true, false, refl, sym, ap, arith, append_assoc}
+use Rattle.std.proofs.lemmas.List.{append_cancel_left}
+use Rattle.legacy_base.specs.declared.results.DecodeEvent.{DecodeEvent}
+use Rattle.legacy_base.specs.declared.results.DecodeEvent.TheVariants.{Scalar, Bad}
+use Rattle.legacy_base.specs.Beginnings.{BeginsWith}
+use Rattle.legacy_base.specs.Events.{shift_event, shift}
+
+-- a list begins with less
+pub begins_sooner : {Item : Type 0} (front more items : List Item) → BeginsWith items (front ++ more) → BeginsWith items front
+begins_sooner front more items b = (more ++ b.0, b.1 ∙ append_assoc front more b.0)
+
+-- and behind that with the rest
+pub begins_later : {Item : Type 0} (front more items : List Item) → BeginsWith (front ++ items) (front ++ more) → BeginsWith items more
+begins_later front more items b = (b.0, append_cancel_left front items (more ++ b.0) (b.1 ∙ append_assoc front more b.0))
+
+event_back : (k : ℕ) (x y : DecodeEvent) → shift_event k x ≡ shift_event k y → x ≡ y
+event_back k (Scalar c) (Scalar d) e = cc
+event_back k (Scalar c) (Bad p n) e = cc
+event_back k (Bad p n) (Scalar d) e = cc
+event_back k (Bad p n) (Bad q m) e =
+    let place : k + p ≡ k + q = cc in
+    let same : p ≡ q = omega arith in
+    let long : n ≡ m = cc in
+    cc
+
+-- the same of events that stand further on
+pub begins_back : (k : ℕ) (front items : List DecodeEvent) → BeginsWith (shift k items) (shift k front) → BeginsWith items front
+begins_back k [] items b = (items, refl)
+begins_back k (x ∷ front) [] b = let e = b.1 in cc
+begins_back k (x ∷ front) (y ∷ items) b =
+    let e : shift_event k y ∷ shift k items ≡ shift_event k x ∷ (shift k front ++ b.0) = b.1 in
+    let first : shift_event k y ≡ shift_event k x = cc in
+    let others : shift k items ≡ shift k front ++ b.0 = cc in
+    let rest = begins_back k front items (b.0, others) in
+    let same : y ≡ x = event_back k y x first in
+    let all : items ≡ front ++ rest.0 = rest.1 in
+    (rest.0, cc)
+
+-- no malformed sequence that stands further on has a place before that
+pub no_sooner : (k p n : ℕ) (items rest : List DecodeEvent) → p < k → shift k items ≡ Bad p n ∷ rest → ⊥
+no_sooner k p n [] rest h e = cc
+no_sooner k p n (Scalar c ∷ items) rest h e = cc
+no_sooner k p n (Bad q m ∷ items) rest h e = let place : k + q ≡ p = cc in omega arith

@@ -1,0 +1,165 @@
+-- Each malformed sequence of a list lies inside it and has one to four bytes, and each scalar is a Unicode scalar value.
+use Rattle.std.proofs.Common.{◌≡◌, ℕ, zero, suc, ◌+◌, ◌<◌, ◌≤◌, List, [], ◌∷◌, ◌++◌, length, drop, map, Bool, true, false, cond, Option, Some, None, refl, arith, length-drop, All}
+use Rattle.std.specs.Prelude.{◌==◌, is_some}
+use Rattle.std.specs.Char.{IsScalar}
+use Rattle.std.proofs.lemmas.Bool.{eqb-true, cond_both}
+use Rattle.std.proofs.lemmas.List.Elements.{All-nil, All-cons, All-append, All-head, All-tail, All-drop}
+use Rattle.legacy_tables.specs.Unicode.{IsByte, AreBytes, AreScalars}
+use Rattle.legacy_base.specs.declared.results.DecodeEvent.{DecodeEvent}
+use Rattle.legacy_base.specs.declared.results.DecodeEvent.TheVariants.{Scalar, Bad}
+use Rattle.legacy_base.specs.Events.{shift_event, shift}
+use Rattle.legacy_base.specs.Fronts.{Front, reads, malformed, front_length, front_events, cut}
+use Rattle.legacy_base.specs.Iso2022Jp.{Mode, esc, escape_mode, part_mode, iso_2022_jp_front, iso_2022_jp_events}
+use Rattle.legacy_base.specs.Laws.{IsFrontOf, IsEventOf}
+use Rattle.legacy_base.proofs.Cuts.{cut-nil, cut-front}
+use Rattle.legacy_base.proofs.FrontLaws.{front_of-malformed, iso_2022_jp_front-of, iso_2022_jp_front-short}
+use Rattle.legacy_base.proofs.Iso2022JpParts.{first_part}
+use Rattle.legacy_base.proofs.Iso2022JpFronts.{step_end, step_one, step_two, step_escape, step_no_escape}
+
+module _ (Q : Type 0) where
+  -- all are events of a list of so many bytes
+  abbrev AreOf : ℕ → List DecodeEvent → Type 0
+  AreOf size events = All (IsEventOf size Q) events
+
+  pub none_of : (size : ℕ) → AreOf size []
+  none_of size = All-nil (IsEventOf size Q)
+
+  pub bad_of : (size n : ℕ) → 1 ≤ n → n ≤ 4 → n ≤ size → AreOf size (Bad 0 n ∷ [])
+  bad_of size n some few within = All-cons (IsEventOf size Q) (Bad 0 n) [] (some, few, omega (arith, within)) (none_of size)
+
+  -- those of what is behind so many bytes
+  further : (k size whole : ℕ) → k + size ≤ whole → (events : List DecodeEvent) → AreOf size events → AreOf whole (shift k events)
+  further k size whole h [] a = none_of whole
+  further k size whole h (x ∷ events) a =
+      All-cons (IsEventOf whole Q) (shift_event k x) (shift k events) (one x (All-head (IsEventOf size Q) x events a)) (further k size whole h events (All-tail (IsEventOf size Q) x events a))
+    where
+      one : (x : DecodeEvent) → IsEventOf size Q x → IsEventOf whole Q (shift_event k x)
+      one (Scalar c) i = i
+      one (Bad p n) i = (i.0, i.1, omega (arith, h, i.2))
+
+  scalars_of : (size : ℕ) (scalars : List ℕ) → (Q → AreScalars scalars) → AreOf size (map Scalar scalars)
+  scalars_of size [] h = none_of size
+  scalars_of size (c ∷ scalars) h =
+      All-cons (IsEventOf size Q) (Scalar c) (map Scalar scalars) (λ q. All-head IsScalar c scalars (h q)) (scalars_of size scalars (λ q. All-tail IsScalar c scalars (h q)))
+
+  front_of : (size : ℕ) (f : Front) → IsFrontOf size Q f → AreOf size (front_events 0 f)
+  front_of size (reads n scalars) i = scalars_of size scalars i.scalars
+  front_of size (malformed n) i = bad_of size n i.some i.short i.within
+
+  -- a front, and what is behind it
+  front_and : (size : ℕ) (f : Front) (behind : ℕ) (events : List DecodeEvent) → IsFrontOf size Q f → front_length f + behind ≤ size → AreOf behind events
+      → AreOf size (front_events 0 f ++ shift (front_length f) events)
+  front_and size f behind events i h a =
+      All-append (IsEventOf size Q) (front_events 0 f) (shift (front_length f) events) (front_of size f i) (further (front_length f) behind size h events a)
+
+  -- ---- lists that are cut into fronts
+
+  module _ (front : ℕ → List ℕ → Front) (fronts : (b : ℕ) (rest : List ℕ) → (Q → AreBytes (b ∷ rest)) → IsFrontOf (length (b ∷ rest)) Q (front b rest)) where
+    cut_within : (n : ℕ) (bytes : List ℕ) → length bytes ≤ n → (Q → AreBytes bytes) → AreOf (length bytes) (cut front 0 0 bytes)
+    cut_within n [] h are = rw (cut-nil front) (none_of 0)
+    cut_within zero (b ∷ rest) h are = absurd (omega arith)
+    cut_within (suc n) (b ∷ rest) h are =
+        let f = front b rest in
+        let i = fronts b rest are in
+        let behind = drop (front_length f) (b ∷ rest) in
+        let d = length-drop (front_length f) (b ∷ rest) in
+        let some = i.some in
+        let within = i.within in
+        rw (cut-front front b rest some)
+        (front_and (length (b ∷ rest)) f (length behind) (cut front 0 0 behind) i (omega (arith, d, within))
+        (cut_within n behind (omega (arith, d, some, h)) (λ q. All-drop IsByte (front_length f) (b ∷ rest) (are q))))
+
+    pub cut_sound : (bytes : List ℕ) → (Q → AreBytes bytes) → AreOf (length bytes) (cut front 0 0 bytes)
+    cut_sound bytes are = cut_within (length bytes) bytes (omega arith) are
+
+  -- ---- ISO-2022-JP
+
+  module _ (jis0208 : List ℕ) (checked : Q → AreScalars jis0208) where
+    wider : (size more : ℕ) (f : Front) → size ≤ more → IsFrontOf size Q f → IsFrontOf more Q f
+    wider size more f h i = let within = i.within in record { some = i.some; within = omega arith; short = i.short; few = i.few; scalars = i.scalars }
+
+    first_shorter : (bytes : List ℕ) → length (first_part bytes) ≤ length bytes
+    first_shorter [] = omega arith
+    first_shorter (b ∷ bytes) =
+        cond_both (b == esc) [] (b ∷ first_part bytes) (λ l. length l ≤ length (b ∷ bytes)) (λ _. omega arith) (λ _. let h = first_shorter bytes in omega arith)
+
+    module _ (n : ℕ) (below : (mode : Mode) (bytes : List ℕ) → length bytes ≤ n → AreOf (length bytes) (iso_2022_jp_events jis0208 mode bytes)) where
+      -- an escape byte that begins no valid escape
+      lone_of : (mode : Mode) (rest : List ℕ) → length rest ≤ n → part_mode (esc ∷ rest) ≡ None → AreOf (length (esc ∷ rest)) (iso_2022_jp_events jis0208 mode (esc ∷ rest))
+      lone_of mode rest h none =
+          rw (step_no_escape jis0208 mode rest none)
+          (front_and (length (esc ∷ rest)) (malformed 1) (length rest) (iso_2022_jp_events jis0208 mode rest)
+          (front_of-malformed {P = Q} (length (esc ∷ rest)) 1 (omega arith) (omega arith) (omega arith)) (omega arith) (below mode rest h))
+
+      -- an escape byte, whatever follows
+      escape_of : (mode : Mode) (rest : List ℕ) → length rest ≤ n → AreOf (length (esc ∷ rest)) (iso_2022_jp_events jis0208 mode (esc ∷ rest))
+      unfolding part_mode
+      escape_of mode [] h = lone_of mode [] h refl
+      escape_of mode (a ∷ []) h = lone_of mode (a ∷ []) h refl
+      escape_of mode (a ∷ b ∷ rest) h = by_mode (escape_mode a b) refl
+        where
+          size : ℕ
+          size = length (esc ∷ a ∷ b ∷ rest)
+
+          by_mode : (o : Option Mode) → escape_mode a b ≡ o → AreOf size (iso_2022_jp_events jis0208 mode (esc ∷ a ∷ b ∷ rest))
+          by_mode None e = lone_of mode (a ∷ b ∷ rest) h e
+          by_mode (Some next) e =
+              let t = is_some (part_mode rest) in
+              let bare : AreOf size (cond t (Bad 0 3 ∷ []) []) =
+              cond_both t (Bad 0 3 ∷ []) [] (AreOf size) (λ _. bad_of size 3 (omega arith) (omega arith) (omega arith)) (λ _. none_of size) in
+              rw (step_escape jis0208 mode next a b rest e)
+              (All-append (IsEventOf size Q) (cond t (Bad 0 3 ∷ []) []) (shift 3 (iso_2022_jp_events jis0208 next rest)) bare
+              (further 3 (length rest) size (omega arith) (iso_2022_jp_events jis0208 next rest) (below next rest (omega arith))))
+
+      -- a byte of a body
+      module _ (mode : Mode) (b : ℕ) (plain : (b == esc) ≡ false) where
+        one_of : (rest : List ℕ) (f : Front) → length rest ≤ n → iso_2022_jp_front jis0208 mode b (first_part rest) ≡ f → IsFrontOf (suc (length (first_part rest))) Q f → front_length f ≡ 1
+            → AreOf (length (b ∷ rest)) (iso_2022_jp_events jis0208 mode (b ∷ rest))
+        one_of rest f h is i one =
+            let shorter = first_shorter rest in
+            let all = front_and (length (b ∷ rest)) f (length rest) (iso_2022_jp_events jis0208 mode rest)
+                (wider (suc (length (first_part rest))) (length (b ∷ rest)) f (omega arith) i) (omega (arith, one)) (below mode rest h) in
+            rw (step_one jis0208 mode b rest f plain is one) (rw one at all)
+
+        two_of : (rest : List ℕ) (f : Front) → length rest ≤ n → iso_2022_jp_front jis0208 mode b (first_part rest) ≡ f → IsFrontOf (suc (length (first_part rest))) Q f → front_length f ≡ 2
+            → AreOf (length (b ∷ rest)) (iso_2022_jp_events jis0208 mode (b ∷ rest))
+        two_of [] f h is i two = let within = i.within in absurd (omega (arith, within, two))
+        two_of (t ∷ rest) f h is i two = by_test (t == esc) refl
+          where
+            by_test : (e : Bool) → (t == esc) ≡ e → AreOf (length (b ∷ t ∷ rest)) (iso_2022_jp_events jis0208 mode (b ∷ t ∷ rest))
+            by_test true e = let i' = rw e at i in let within = i'.within in absurd (omega (arith, within, two))
+            by_test false e =
+                let is' = rw e at is in
+                let i' = rw e at i in
+                let shorter = first_shorter rest in
+                let all = front_and (length (b ∷ t ∷ rest)) f (length rest) (iso_2022_jp_events jis0208 mode rest)
+                    (wider (suc (suc (length (first_part rest)))) (length (b ∷ t ∷ rest)) f (omega arith) i') (omega (arith, two)) (below mode rest (omega arith)) in
+                rw (step_two jis0208 mode b t rest f plain e is' two) (rw two at all)
+
+        body_of : (rest : List ℕ) → length rest ≤ n → AreOf (length (b ∷ rest)) (iso_2022_jp_events jis0208 mode (b ∷ rest))
+        body_of rest h = by_length (front_length f) refl
+          where
+            f : Front
+            f = iso_2022_jp_front jis0208 mode b (first_part rest)
+
+            i : IsFrontOf (suc (length (first_part rest))) Q f
+            i = iso_2022_jp_front-of {P = Q} jis0208 checked mode b (first_part rest)
+
+            by_length : (k : ℕ) → front_length f ≡ k → AreOf (length (b ∷ rest)) (iso_2022_jp_events jis0208 mode (b ∷ rest))
+            by_length zero e = let some = i.some in absurd (omega (arith, some, e))
+            by_length (suc zero) e = one_of rest f h refl i e
+            by_length (suc (suc zero)) e = two_of rest f h refl i e
+            by_length (suc (suc (suc k))) e = let short = iso_2022_jp_front-short jis0208 mode b (first_part rest) in absurd (omega (arith, short, e))
+
+    iso_within : (n : ℕ) (mode : Mode) (bytes : List ℕ) → length bytes ≤ n → AreOf (length bytes) (iso_2022_jp_events jis0208 mode bytes)
+    iso_within n mode [] h = rw (step_end jis0208 mode) (none_of 0)
+    iso_within zero mode (b ∷ bytes) h = absurd (omega arith)
+    iso_within (suc n) mode (b ∷ bytes) h = by_test (iso_within n) (b == esc) refl
+      where
+        by_test : ((mode : Mode) (bytes : List ℕ) → length bytes ≤ n → AreOf (length bytes) (iso_2022_jp_events jis0208 mode bytes)) → (e : Bool) → (b == esc) ≡ e
+            → AreOf (length (b ∷ bytes)) (iso_2022_jp_events jis0208 mode (b ∷ bytes))
+        by_test below true e = rw (eqb-true b esc e) (escape_of n below mode bytes (omega arith))
+        by_test below false e = body_of n below mode b e bytes (omega arith)
+
+    pub iso_2022_jp_sound : (mode : Mode) (bytes : List ℕ) → AreOf (length bytes) (iso_2022_jp_events jis0208 mode bytes)
+    iso_2022_jp_sound mode bytes = iso_within (length bytes) mode bytes (omega arith)

@@ -1,0 +1,2 @@
+-- Laws of the grammars of all ten codecs.
+pub mod SoundEvents
