@@ -124,8 +124,8 @@ struct legacy_indexes {
     /* the run that the encoder of the single-byte encoding takes, which refuses one that the index
      * does not have; no decoder looks at it */
     struct legacy_byte_run single_byte_run;
-    /* whether packed tables are made, of the flat indexes above and what follows: by these encoders
-     * find a pointer without a search; otherwise flat tables, and nothing looks at what follows */
+    /* whether packed tables are made, of the flat indexes above and what follows; otherwise flat
+     * tables are made, and nothing looks at what follows */
     bool is_packed;
     /* whether the encoders of Big5, EUC-JP, EUC-KR, GBK, gb18030, ISO-2022-JP and Shift_JIS look the
      * pairs of all scalar values below U+10000 up ahead, as each call begins, in 128 KB of its stack;

@@ -11,7 +11,7 @@ pub use decoder::RawDecoder;
 pub use encoder::RawEncoder;
 pub use legacy_tables::{
     DecoderTables, EncoderTables, FlatTables, GB18030_2022_PUA, IndexName, Indexes, KeptTables,
-    Packed, PackedPart, PackedTables, Run, SingleByteTable, TableError, Tables,
+    Marks, Packed, PackedPart, PackedTables, Run, SingleByteTable, TableError, Tables,
 };
 pub use legacy_text::{
     ByteSource, Destination, Next, Source, UnitCodes, Utf8Destination, Utf8Source,

@@ -8,3 +8,5 @@ pub mod FourPlaces
 pub mod Big5Places
 pub mod Gb18030Places
 pub mod Gb18030Pairs
+pub mod Big5Walk
+pub mod Gb18030Walk

@@ -1,5 +1,6 @@
 -- What is shown of the codes of Big5.
-use Rattle.std.proofs.Common.{ℕ, ◌≤◌, List, refl, arith}
+use Rattle.std.proofs.Common.{ℕ, ◌≢◌, ◌+◌, ◌*◌, ◌/◌, ◌%◌, ◌≤◌, List, refl, arith, nat_lt}
+use Rattle.std.specs.Prelude.{if◌then◌else◌}
 use Rattle.std.proofs.lemmas.Bool.{lt-ltb}
 use Rattle.legacy_base.specs.EncodeEvents.{code_length}
 use Rattle.legacy_tables.specs.Pointers.{big5_pointer_of}
@@ -15,3 +16,10 @@ short index c h = short_past c _ _ 2 h (short_map big5_bytes (big5_pointer_of in
 pub big5_pairs : (index : List ℕ) → IsPairCodec (big5 index)
 unfolding big5_code
 big5_pairs index = record { code = big5_code index; profile_is = refl; ascii = λ c h. rw (lt-ltb c 128 h) refl; short = short index }
+
+-- the lead and the trail of a pointer as one number, the lead in the low byte
+abbrev pub big5_mark : ℕ → ℕ
+big5_mark p = (p / 157 + 0x81) + 256 * (p % 157 + (if nat_lt (p % 157) 0x3F then 0x40 else 0x62))
+
+pub big5_mark-some : (p : ℕ) → big5_mark p ≢ 0
+big5_mark-some p e = omega arith

@@ -6,6 +6,7 @@ pub mod FourPlaces
 pub mod Gb18030Codec
 pub mod Gb18030Codes
 pub mod Gb18030Held
+pub mod Gb18030List
 pub mod Gb18030Decoder
 pub mod Gb18030Encoder
 pub mod Gb18030Machine

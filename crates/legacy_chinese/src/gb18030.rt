@@ -4,4 +4,5 @@ pub mod digit;
 pub mod encoder;
 pub mod four_places;
 pub mod fours;
+pub mod list;
 pub mod pair_places;

@@ -16,10 +16,10 @@ mod texts;
 pub use decode_run::{DecodeRun, decode_run_utf8, decode_run_utf16};
 pub use encode_run::{EncodeRun, encode_run_utf8, encode_run_utf16};
 pub use legacy_base::{
-    ByteSource, DecodeEvent, DecoderResult, Destination, EncodeEvent, EncoderResult,
-    GB18030_2022_PUA, IndexName, Indexes, Next, Packed, PackedPart, RawDecoder, RawEncoder, Run,
-    SingleByteTable, Source, TableError, Tables, UnitCodes, Utf8Destination, Utf8Source,
-    Utf16Destination, Utf16Source,
+    ByteSource, DecodeEvent, DecoderResult, DecoderTables, Destination, EncodeEvent, EncoderResult,
+    EncoderTables, FlatTables, GB18030_2022_PUA, IndexName, Indexes, KeptTables, Marks, Next,
+    Packed, PackedPart, PackedTables, RawDecoder, RawEncoder, Run, SingleByteTable, Source,
+    TableError, Tables, UnitCodes, Utf8Destination, Utf8Source, Utf16Destination, Utf16Source,
 };
 pub use legacy_decoders::{
     Big5Decoder, EucJpDecoder, EucKrDecoder, Gb18030Decoder, Iso2022JpDecoder, ReplacementDecoder,

@@ -1,63 +1,63 @@
--- How the codes of scalars are filled.
-use Rattle.std.proofs.Common.{◌≡◌, ◌≢◌, ◌∙◌, ℕ, ◌+◌, ◌<◌, ◌≤◌, List, length, slice_index, slice_set, length-set, arith, inl, inr, get_or-set_other, get_or-set_same}
-use Rattle.std.proofs.lemmas.Bool.{cases_lt}
-use Rattle.std.specs.Char.{IsScalar}
+-- How a list of codes is filled one by one.
+use Rattle.std.proofs.Common.{◌⊎◌, nat_le, nat_lt, refl, Bool, true, false, ◌||◌, ◌&&◌, ◌≡◌, ◌≢◌, ◌∙◌, ℕ, ◌+◌, ◌<◌, List, slice_set, length-set, arith, inl, inr, get_or-set_other, get_or-set_same}
+use Rattle.std.proofs.lemmas.Bool.{cases_lt, cases_eq}
+use borrow.Author.Tests.{ltb-true, leb-true, lt-ltb}
 use Rattle.legacy_base.specs.Encoders.{Codec}
-use Rattle.legacy_encoder_engine.specs.CachedPairs.{IsPairEntry, IsNoPair, ArePairsOf, AreAllPairsOf}
+use Rattle.legacy_encoder_engine.specs.CachedPairs.{AreAllPairsOf, AreWhere, AreRightWhere, or_between}
 
--- an entry that is put in is found there, and the others stay
-module _ (pairs : List ℕ) (code entry : ℕ) (all : length pairs ≡ 65536) (within : code < 65536) where
-  here : (c : ℕ) → c < code + 1 → (c < code → ⊥) → slice_index (slice_set pairs code entry) c ≡ entry
-  here c h m =
-      let same : c ≡ code = omega (arith, m) in
-      rw same (get_or-set_same pairs code entry 0 (omega arith))
+or_cases : (a b : Bool) → (a || b) ≡ true → (a ≡ true) ⊎ (b ≡ true)
+or_cases true b e = inl refl
+or_cases false b e = inr e
 
-  before : (c : ℕ) → c < code → slice_index (slice_set pairs code entry) c ≡ slice_index pairs c
-  before c m = let ne : c ≢ code = λ e. omega arith in get_or-set_other pairs code c entry 0 ne
+or_left : (a b : Bool) → a ≡ true → (a || b) ≡ true
+or_left a b e = rw e refl
 
--- the entries of the scalars before one
-pub record AreFilled (codec : Codec) (code : ℕ) (pairs : List ℕ) : Type 0 where
-  pub all : length pairs ≡ 65536
-  pub told : (c : ℕ) → c < code → IsPairEntry codec c (slice_index pairs c)
+or_right : (a b : Bool) → b ≡ true → (a || b) ≡ true
+or_right true b e = refl
+or_right false b e = e
 
-pub none-filled : (codec : Codec) (pairs : List ℕ) → length pairs ≡ 65536 → AreFilled codec 0 pairs
-none-filled codec pairs all = record { all = all; told = λ c h. absurd (omega arith) }
+both_true : (a b : Bool) → (a && b) ≡ true → (a ≡ true) × (b ≡ true)
+both_true true b e = (refl, e)
+both_true false b e = cc
 
-pub filled-more : (codec : Codec) (code : ℕ) (pairs : List ℕ) → AreFilled codec code pairs → code < 65536 → (entry : ℕ) → IsPairEntry codec code entry
-    → AreFilled codec (code + 1) (slice_set pairs code entry)
-filled-more codec code pairs filled within entry is = record {
-  all = length-set pairs code entry ∙ filled.all;
-  told = λ c h. elim (cases_lt c code) [
-    | inl m ↦ rw (before pairs code entry filled.all within c m) (filled.told c m)
-    | inr m ↦
-        let same : c ≡ code = omega arith in
-        rw (here pairs code entry filled.all within c h (λ l. omega arith)) (rw same is)
-  ];
+below_other : (c code : ℕ) → c < code + 1 → c ≢ code → c < code
+below_other c code h n = elim (cases_lt c code) [
+  | inl l ↦ l
+  | inr l ↦ absurd (n (omega arith))
+]
+
+module _ (Is : ℕ → ℕ → Type 0) (done : ℕ → Bool) (first : ℕ) where
+  -- none yet
+  pub none-asked : (pairs : List ℕ) → AreWhere Is done pairs → AreWhere Is (or_between done first first) pairs
+  none-asked pairs now = record {
+    all = now.all;
+    right = λ c h e. elim (or_cases (done c) _ e) [
+      | inl d ↦ now.right c h d
+      | inr b ↦ let p = both_true (nat_le first c) (nat_lt c first) b in let low = leb-true first c p.0 in let high = ltb-true c first p.1 in absurd (omega arith)
+    ];
+  }
+
+  -- one more
+  pub asked-more : (code : ℕ) (pairs : List ℕ) → AreWhere Is (or_between done first code) pairs → code < 65536 → (entry : ℕ) → Is code entry
+      → AreWhere Is (or_between done first (code + 1)) (slice_set pairs code entry)
+  asked-more code pairs now within entry is = record {
+    all = length-set pairs code entry ∙ now.all;
+    right = λ c h e. elim (cases_eq c code) [
+      | inl same ↦ let all = now.all in rw (same, get_or-set_same pairs code entry 0 (omega arith)) is
+      | inr other ↦ rw (get_or-set_other pairs code c entry 0 other) (now.right c h (elim (or_cases (done c) _ e) [
+        | inl d ↦ or_left (done c) _ d
+        | inr b ↦
+            let p = both_true (nat_le first c) (nat_lt c (code + 1)) b in
+            let high = ltb-true c (code + 1) p.1 in
+            let below : c < code = below_other c code high other in
+            or_right (done c) _ (rw (p.0, lt-ltb c code below) refl)
+      ]))
+    ];
+  }
+
+-- all entries are right
+pub all-right : (codec : Codec) (done : ℕ → Bool) (pairs : List ℕ) → AreRightWhere codec done pairs → ((c : ℕ) → c < 65536 → done c ≡ true) → AreAllPairsOf codec pairs
+all-right codec done pairs now all = record {
+  right = record { all = now.all; told = λ c h. (now.right c h (all c h)).told };
+  whole = λ c h. (now.right c h (all c h)).whole;
 }
-
-pub all-filled : (codec : Codec) (pairs : List ℕ) → AreFilled codec 65536 pairs → ArePairsOf codec pairs
-all-filled codec pairs filled = record { all = filled.all; told = filled.told }
-
--- the entries of the scalars before one, and no pair of these is missing
-pub record AreAllFilled (codec : Codec) (code : ℕ) (pairs : List ℕ) : Type 0 where
-  pub filled : AreFilled codec code pairs
-  pub whole : (c : ℕ) → c < code → IsScalar c → 0x80 ≤ c → slice_index pairs c ≡ 0 → IsNoPair codec c
-
-pub none-all-filled : (codec : Codec) (pairs : List ℕ) → length pairs ≡ 65536 → AreAllFilled codec 0 pairs
-none-all-filled codec pairs all = record { filled = none-filled codec pairs all; whole = λ c h. absurd (omega arith) }
-
-pub all-filled-more : (codec : Codec) (code : ℕ) (pairs : List ℕ) → AreAllFilled codec code pairs → code < 65536 → (entry : ℕ) → IsPairEntry codec code entry
-    → (IsScalar code → 0x80 ≤ code → entry ≡ 0 → IsNoPair codec code)
-    → AreAllFilled codec (code + 1) (slice_set pairs code entry)
-all-filled-more codec code pairs now within entry is none = record {
-  filled = filled-more codec code pairs now.filled within entry is;
-  whole = λ c h scalar past zero. elim (cases_lt c code) [
-    | inl m ↦ now.whole c m scalar past (rw (before pairs code entry now.filled.all within c m) at zero)
-    | inr m ↦
-        let same : c ≡ code = omega arith in
-        rw same (none (rw same at scalar) (omega arith) (rw (here pairs code entry now.filled.all within c h (λ l. omega arith)) at zero))
-  ];
-}
-
-pub whole-filled : (codec : Codec) (pairs : List ℕ) → AreAllFilled codec 65536 pairs → AreAllPairsOf codec pairs
-whole-filled codec pairs now = record { right = all-filled codec pairs now.filled; whole = now.whole }

@@ -4,3 +4,4 @@ pub mod PlainServes
 pub mod PairAnswers
 pub mod CachedPairs
 pub mod UnitTurns
+pub mod WalkedPairs

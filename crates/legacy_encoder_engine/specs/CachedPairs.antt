@@ -1,6 +1,6 @@
 -- The codes of a codec's scalars below U+10000 as a list: an entry for each, with the lead in its low byte and the
 -- trail in its high one, or with the byte of ASCII.
-use Rattle.std.specs.Prelude.{◌≡◌, ◌≢◌, ℕ, ◌+◌, ◌<◌, ◌≤◌, List, [], ◌∷◌, Some, length, slice_index}
+use Rattle.std.specs.Prelude.{◌≡◌, ◌≢◌, ℕ, ◌+◌, ◌<◌, ◌≤◌, List, [], ◌∷◌, Some, length, slice_index, Bool, true, ◌||◌, ◌&&◌, nat_le, nat_lt}
 use Rattle.std.specs.Char.{IsScalar}
 use Rattle.legacy_text.specs.UnitCodes.{IsNoSurrogate}
 use Rattle.legacy_base.specs.Encoders.{Codec, encoder_profile}
@@ -23,3 +23,21 @@ IsNoPair codec c = (lead trail : ℕ) → (encoder_profile codec).code c ≡ Som
 pub record AreAllPairsOf (codec : Codec) (pairs : List ℕ) : Type 0 where
   pub right : ArePairsOf codec pairs
   pub whole : (c : ℕ) → c < 65536 → IsScalar c → 0x80 ≤ c → slice_index pairs c ≡ 0 → IsNoPair codec c
+
+-- an entry is right for the scalar c, and lacks no pair
+pub record IsRightEntry (codec : Codec) (c entry : ℕ) : Type 0 where
+  pub told : IsPairEntry codec c entry
+  pub whole : IsScalar c → 0x80 ≤ c → entry ≡ 0 → IsNoPair codec c
+
+-- each entry of a scalar that passes a test is right, by a property of the scalar and its entry
+pub record AreWhere (Is : ℕ → ℕ → Type 0) (done : ℕ → Bool) (pairs : List ℕ) : Type 0 where
+  pub all : length pairs ≡ 65536
+  pub right : (c : ℕ) → c < 65536 → done c ≡ true → Is c (slice_index pairs c)
+
+-- the entries of the scalars that pass a test are right, and lack no pair
+abbrev pub AreRightWhere : Codec → (ℕ → Bool) → List ℕ → Type 0
+AreRightWhere codec done pairs = AreWhere (IsRightEntry codec) done pairs
+
+-- those that passed it, and those from one scalar up to another
+abbrev pub or_between : (ℕ → Bool) → ℕ → ℕ → ℕ → Bool
+or_between done first end c = done c || (nat_le first c && nat_lt c end)

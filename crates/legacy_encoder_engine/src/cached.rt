@@ -1,15 +1,15 @@
-//! Encoders that look no pair up: those of all scalars below U+10000 are looked up once, ahead, and kept in room that
-//! the user lends.
+//! Encoders that look no pair up: those of all scalars below U+10000 are listed once, ahead, in room that the user
+//! lends.
 ghost use Rattle.std.specs.Prelude.{◌≡◌, ◌+◌, ◌<◌, ◌≤◌, [], ◌∷◌, length, take, Some, IfSome, MatchOption};
 ghost use Rattle.legacy_text.specs.EncodingForm.{total_unit_count};
 ghost use Rattle.legacy_base.specs.Encoders.{encoder_profile, new_encoder};
-ghost use Rattle.legacy_encoder_engine.specs.CachedPairs.{AreAllPairsOf, IsNoPair, IsPairEntry};
+ghost use Rattle.legacy_encoder_engine.specs.CachedPairs.{AreAllPairsOf, IsNoPair};
 ghost use Rattle.legacy_encoder_engine.specs.Moves.{IsCode};
 ghost use Rattle.legacy_encoder_engine.specs.UnderWay.{KeepsOn};
 
 use crate::drive::drive_encoder;
 use crate::moves::EncoderMove;
-use crate::pairs::{PairCodec, PairEncoder};
+use crate::pairs::{FillsPairs, PairCodec, PairEncoder};
 use crate::plain::PlainEncoder;
 use crate::plain_codes::PlainCodes;
 use crate::runs::read_runs;
@@ -148,52 +148,33 @@ pub trait EncodesPairs: PlainEncoder + PastPairs + RawEncoder + Sized {
         read_runs(&WithPairs::new(self, pairs), src, dst, start)
     }
 
+    /// Fills a list with the codes of all scalars below U+10000.
+    fn fill_pairs(&self, pairs: &mut [u16])
+        requires { length pairs.old ≡ 65536 }
+        ensures { AreAllPairsOf (Self.codec self.now) pairs.new };
+
     /// As an encoder it is nothing but its codec.
     ghost same: { (encoder : Self) → Self.state encoder ≡ new_encoder (Self.codec encoder) };
 }
 
 impl<C: PairCodec> PastPairs for PairEncoder<'_, C> {}
 
-impl<'a, C: PairCodec> EncodesPairs for PairEncoder<'a, C> {
+impl<'a, C: FillsPairs> EncodesPairs for PairEncoder<'a, C> {
     ghost use Rattle.std.proofs.Common.{refl};
 
     ghost same = { λ e. refl };
-}
 
-/// The entry of a scalar: its byte in ASCII, its lead in the low byte and its trail in the high one past it, and 0 where
-/// its code is another.
-fn pair_entry<C: PlainCodes>(encoder: &C, c: char) -> u16
-    ensures code { IsPairEntry (C.codec encoder.now) c result }
-    ensures none { 0x80 ≤ c → result ≡ 0 → IsNoPair (C.codec encoder.now) c }
-{
-    match encoder.code_of(c) {
-        EncoderMove::One(byte) if (c as u32) < 0x80 => u16::from(byte),
-        EncoderMove::Two(lead, trail) if (c as u32) >= 0x80 => {
-            u16::from(lead) + 256 * u16::from(trail)
-        }
-        _ => 0,
-    }
-}
-
-/// Looks the codes of all scalars below U+10000 up.
-fn fill_pairs<C: PlainCodes>(encoder: &C, pairs: &mut [u16])
-    requires { length pairs.old ≡ 65536 }
-    ensures { AreAllPairsOf (C.codec encoder.now) pairs.new }
-{
-    for code in 0..0x1_0000u32 {
-        let entry = match char::from_u32(code) {
-            Some(c) => pair_entry(encoder, c),
-            None => 0,
-        };
-        pairs[code as usize] = entry;
+    #[inline]
+    fn fill_pairs(&self, pairs: &mut [u16]) {
+        C::fill(self.tables, pairs)
     }
 }
 
 /// An encoder that writes what another one does, and looks no pair up: those of all scalars below U+10000 stand in room
 /// that the user lends.
 ///
-/// To be made it looks each of them up once, which over packed tables takes about a millisecond. Then a pair is one
-/// load, whatever tables the other encoder has. It has no modes, so one after another any number of texts are encoded
+/// To be made it walks once over the codec's index, flat or packed. Then a pair is one load, whatever tables the other
+/// encoder has. It has no modes, so one after another any number of texts are encoded
 /// by it; and it is two references, so that copies of it encode texts beside each other.
 #[derive(Drop)]
 pub struct CachedEncoder<'a, E: EncodesPairs> {
@@ -214,7 +195,7 @@ impl<'a, E: EncodesPairs> CachedEncoder<'a, E> {
             return None;
         }
         let pairs = &mut room[..PAIR_ROOM];
-        fill_pairs(encoder, pairs);
+        encoder.fill_pairs(pairs);
         Some(CachedEncoder { encoder, pairs })
     }
 }

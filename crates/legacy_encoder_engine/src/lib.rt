@@ -3,6 +3,7 @@
 //! encoder of the codecs without modes, of which that of the codecs of pairs is a part.
 #![tactic(auto)]
 
+pub mod asked_pairs;
 pub mod cached;
 pub mod drive;
 pub mod moves;

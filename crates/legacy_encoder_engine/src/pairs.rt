@@ -1,5 +1,6 @@
 //! The one encoder of the codecs of ASCII and pairs: no code has more than two bytes.
-ghost use Rattle.std.specs.Prelude.{◌≡◌, ◌≤◌, [], ◌∷◌, Some, IfSome};
+ghost use Rattle.std.specs.Prelude.{◌≡◌, ◌≤◌, [], ◌∷◌, Some, IfSome, length};
+ghost use Rattle.legacy_encoder_engine.specs.CachedPairs.{AreAllPairsOf};
 ghost use Rattle.legacy_tables.specs.Indexes.{FlatIndexes};
 ghost use Rattle.legacy_base.specs.Encoders.{Codec, encoder_profile, new_encoder};
 ghost use Rattle.legacy_base.specs.Lengths.{answer, number, ◌⊕◌, ◌⊗◌};
@@ -43,10 +44,19 @@ pub trait PairCodec {
         ensures { IsCode ((encoder_profile (codec (V.indexes tables.now).flat)).code c) c result };
 }
 
+/// A codec of ASCII and pairs that can list the codes of all scalars below U+10000.
+// A trait of its own: `ask_pairs` is generic over the codec, and a method of `PairCodec` cannot call it.
+pub trait FillsPairs: PairCodec {
+    /// Fills a list with the codes of all scalars below U+10000.
+    fn fill<V: EncoderTables>(tables: &V, entries: &mut [u16])
+        requires { length entries.old ≡ 65536 }
+        ensures { AreAllPairsOf (Self.codec (V.indexes tables.now).flat) entries.new };
+}
+
 /// The encoder of such a codec. It writes by an index of the tables.
 #[derive(Drop)]
 pub struct PairEncoder<'a, C: PairCodec> {
-    tables: &'a Tables<'a>,
+    pub(crate) tables: &'a Tables<'a>,
     codec: PhantomData<C>,
 }
 
@@ -112,7 +122,7 @@ impl<'a, C: PairCodec> PlainEncoder for PairEncoder<'a, C> {
 
 /// The codes of such a codec, by its tables as they are kept.
 #[derive(Drop)]
-struct PairCodes<'a, C: PairCodec, V: EncoderTables> {
+pub struct PairCodes<'a, C: PairCodec, V: EncoderTables> {
     tables: &'a V,
     codec: PhantomData<C>,
 }
@@ -120,7 +130,7 @@ struct PairCodes<'a, C: PairCodec, V: EncoderTables> {
 impl<'a, C: PairCodec, V: EncoderTables> PairCodes<'a, C, V> {
     /// The codes by these tables.
     #[inline]
-    fn new(tables: &'a V) -> PairCodes<'a, C, V>
+    pub fn new(tables: &'a V) -> PairCodes<'a, C, V>
         ensures { result.tables.now ≡ tables.now }
     {
         PairCodes {

@@ -1,49 +1,18 @@
--- Pairs that stand in a list: how it is filled, and how they are written.
-use Rattle.std.proofs.Common.{◌≡◌, ◌≢◌, ℕ, suc, ◌+◌, ◌/◌, ◌%◌, ◌<◌, ◌≤◌, List, [], ◌∷◌, ◌++◌, length, take, get_or, slice_index, slice_set, refl, subst, arith, inl, inr}
-use Rattle.std.proofs.Common.{get_or-set_other, get_or-set_same}
-use Rattle.std.proofs.lemmas.Bool.{cases_lt}
+-- How a pair that stands in a list is written.
+use Rattle.std.proofs.Common.{◌≡◌, ℕ, suc, ◌+◌, ◌/◌, ◌%◌, ◌<◌, ◌≤◌, List, [], ◌∷◌, ◌++◌, length, take, get_or, refl, subst, arith}
 use Rattle.legacy_base.specs.EncoderProfile.{EncoderMode, in_two_byte}
-use Rattle.legacy_base.specs.Encoders.{iso_2022_jp}
 use Rattle.legacy_base.specs.Iso2022Jp.{mode_behind}
-use Rattle.legacy_encoder_engine.specs.CachedPairs.{IsPairEntry}
 use Rattle.legacy_encoder_engine.specs.UnderWay.{PutsCode}
 use Rattle.legacy_encoder_engine.specs.UnitTurns.{PutsUnits}
-use Rattle.legacy_encoder_engine.proofs.CachedPairs.{AreFilled, none-filled, filled-more, all-filled}
 use Rattle.legacy_encoder_engine.proofs.UnitTurns.{units_more}
 use Rattle.legacy_encoder_engine.specs.declared.moves.EncoderMove.TheVariants.{Two}
 use Rattle.legacy_japanese.specs.declared.iso_2022_jp.encoder.Mode.{Mode}
 use Rattle.legacy_japanese.specs.declared.iso_2022_jp.encoder.Mode.TheVariants.{TwoByte}
 use Rattle.legacy_japanese.specs.Iso2022JpEncoder.{Asks, state_in}
-use Rattle.legacy_japanese.specs.Iso2022JpPairs.{IsPairOf, ListsPairs}
+use Rattle.legacy_japanese.specs.Iso2022JpPairs.{IsPairOf}
 use Rattle.legacy_japanese.proofs.Iso2022JpEncoderMoves.{reads, serves}
 
 module _ (jis0208 katakana_index : List ℕ) where
-  -- ---- how the list is filled
-
-  -- the entries of the scalars before one
-  pub record AreListed (code : ℕ) (pairs : List ℕ) : Type 0 where
-    pub filled : AreFilled (iso_2022_jp jis0208 katakana_index) code pairs
-    pub past : (c : ℕ) → c < code → c < 128 → slice_index pairs c ≡ 0
-
-  pub none-listed : (pairs : List ℕ) → length pairs ≡ 65536 → AreListed 0 pairs
-  none-listed pairs all = record { filled = none-filled (iso_2022_jp jis0208 katakana_index) pairs all; past = λ c h l. absurd (omega arith) }
-
-  pub listed-more : (code : ℕ) (pairs : List ℕ) → AreListed code pairs → code < 65536 → (entry : ℕ) → IsPairEntry (iso_2022_jp jis0208 katakana_index) code entry → (code < 128 → entry ≡ 0)
-      → AreListed (code + 1) (slice_set pairs code entry)
-  listed-more code pairs listed within entry is none = record {
-    filled = filled-more (iso_2022_jp jis0208 katakana_index) code pairs listed.filled within entry is;
-    past = λ c h l. elim (cases_lt c code) [
-      | inl m ↦ let ne : c ≢ code = λ e. omega arith in rw (get_or-set_other pairs code c entry 0 ne) (listed.past c m l)
-      | inr m ↦
-          let same : c ≡ code = omega arith in
-          let all = listed.filled.all in
-          rw (same, get_or-set_same pairs code entry 0 (omega arith)) (none (omega arith))
-    ];
-  }
-
-  pub all-listed : (pairs : List ℕ) → AreListed 65536 pairs → ListsPairs jis0208 katakana_index pairs
-  all-listed pairs listed = record { right = all-filled (iso_2022_jp jis0208 katakana_index) pairs listed.filled; past = λ c l. listed.past c (omega arith) l }
-
   -- ---- how a pair is written
 
   module _ (c both : ℕ) (is : IsPairOf jis0208 katakana_index c both) where

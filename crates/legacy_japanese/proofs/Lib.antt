@@ -13,7 +13,11 @@ pub mod Iso2022JpRuns
 pub mod Iso2022JpEncoderRooms
 pub mod Iso2022JpEncoderMoves
 pub mod Iso2022JpListed
+pub mod Iso2022JpWalk
 pub mod Iso2022JpPieces
 pub mod ShiftJisRuns
 pub mod ShiftJisPlaces
 pub mod Jis0208Places
+pub mod AskedScalars
+pub mod ShiftJisWalk
+pub mod EucJpWalk

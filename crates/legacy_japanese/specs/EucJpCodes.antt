@@ -1,5 +1,5 @@
 -- What is shown of the codes of EUC-JP.
-use Rattle.std.proofs.Common.{ℕ, ◌≤◌, ◌==◌, List, refl, arith}
+use Rattle.std.proofs.Common.{ℕ, ◌≢◌, ◌+◌, ◌*◌, ◌/◌, ◌%◌, ◌≤◌, ◌==◌, List, refl, arith}
 use Rattle.std.proofs.lemmas.Bool.{lt-ltb}
 use Rattle.std.specs.Char.{is_ascii}
 use Rattle.legacy_base.specs.EncodeEvents.{code_length}
@@ -22,3 +22,10 @@ short jis0208 c h =
 pub euc_jp_pairs : (jis0208 jis0212 : List ℕ) → IsPairCodec (euc_jp jis0208 jis0212)
 unfolding euc_jp_code
 euc_jp_pairs jis0208 jis0212 = record { code = euc_jp_code jis0208; profile_is = refl; ascii = λ c h. rw (lt-ltb c 128 h) refl; short = short jis0208 }
+
+-- the lead and the trail of a pointer as one number, the lead in the low byte
+abbrev pub euc_jp_mark : ℕ → ℕ
+euc_jp_mark p = (p / 94 + 0xA1) + 256 * (p % 94 + 0xA1)
+
+pub euc_jp_mark-some : (p : ℕ) → euc_jp_mark p ≢ 0
+euc_jp_mark-some p e = omega arith

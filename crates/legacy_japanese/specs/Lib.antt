@@ -15,3 +15,4 @@ pub mod ShiftJisCodes
 pub mod ShiftJisMachine
 pub mod ShiftJisPlaces
 pub mod ShiftJisShown
+pub mod ByPointer

@@ -1,5 +1,6 @@
 -- What is shown of the codes of Shift_JIS.
-use Rattle.std.proofs.Common.{ℕ, ◌≤◌, ◌==◌, List, refl, arith, ◌||◌}
+use Rattle.std.proofs.Common.{ℕ, ◌≢◌, ◌+◌, ◌*◌, ◌/◌, ◌%◌, ◌≤◌, ◌==◌, List, refl, arith, ◌||◌, Bool, true, false, nat_lt}
+use Rattle.std.specs.Prelude.{if◌then◌else◌}
 use Rattle.std.proofs.lemmas.Bool.{lt-ltb}
 use Rattle.std.specs.Char.{is_ascii}
 use Rattle.legacy_base.specs.EncodeEvents.{code_length}
@@ -22,3 +23,16 @@ short jis0208 c h =
 pub shift_jis_pairs : (jis0208 : List ℕ) → IsPairCodec (shift_jis jis0208)
 unfolding shift_jis_code
 shift_jis_pairs jis0208 = record { code = shift_jis_code jis0208; profile_is = refl; ascii = λ c h. rw (lt-ltb c 128 h) refl; short = short jis0208 }
+
+-- the lead and the trail of a pointer as one number, the lead in the low byte
+abbrev pub shift_jis_mark : ℕ → ℕ
+shift_jis_mark p =
+    (p / 188 + (if nat_lt (p / 188) 0x1F then 0x81 else 0xC1))
+    + 256 * (p % 188 + (if nat_lt (p % 188) 0x3F then 0x40 else 0x41))
+
+mark_some : (row column : ℕ) (t : Bool) → row + (if t then 0x81 else 0xC1) + column ≢ 0
+mark_some row column true e = omega arith
+mark_some row column false e = omega arith
+
+pub shift_jis_mark-some : (p : ℕ) → shift_jis_mark p ≢ 0
+shift_jis_mark-some p = mark_some (p / 188) (256 * (p % 188 + (if nat_lt (p % 188) 0x3F then 0x40 else 0x41))) (nat_lt (p / 188) 0x1F)

@@ -2,6 +2,7 @@
 //! encodings"): EUC-JP, ISO-2022-JP and Shift_JIS.
 #![tactic(auto)]
 
+mod asked_scalars;
 mod euc_jp;
 mod folds;
 mod iso_2022_jp;

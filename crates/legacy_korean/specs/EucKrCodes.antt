@@ -1,5 +1,5 @@
 -- What is shown of the codes of EUC-KR.
-use Rattle.std.proofs.Common.{ℕ, ◌≤◌, List, refl, arith}
+use Rattle.std.proofs.Common.{ℕ, ◌≢◌, ◌+◌, ◌*◌, ◌/◌, ◌%◌, ◌≤◌, List, refl, arith}
 use Rattle.std.proofs.lemmas.Bool.{lt-ltb}
 use Rattle.legacy_base.specs.EncodeEvents.{code_length}
 use Rattle.legacy_tables.specs.Pointers.{euc_kr_pointer_of}
@@ -15,3 +15,10 @@ short index c h = short_past c _ _ 2 h (short_map euc_kr_bytes (euc_kr_pointer_o
 pub euc_kr_pairs : (index : List ℕ) → IsPairCodec (euc_kr index)
 unfolding euc_kr_code
 euc_kr_pairs index = record { code = euc_kr_code index; profile_is = refl; ascii = λ c h. rw (lt-ltb c 128 h) refl; short = short index }
+
+-- the lead and the trail of a pointer as one number, the lead in the low byte
+abbrev pub euc_kr_mark : ℕ → ℕ
+euc_kr_mark p = (p / 190 + 0x81) + 256 * (p % 190 + 0x41)
+
+pub euc_kr_mark-some : (p : ℕ) → euc_kr_mark p ≢ 0
+euc_kr_mark-some p e = omega arith

@@ -7,11 +7,12 @@ pub mod Accepted
 pub mod RangePointers
 pub mod PointerBounds
 pub mod PrivateUse
-pub mod Directories
 pub mod PackedRuns
-pub mod RunPlaces
 pub mod PackedPointers
 pub mod PackedAccepted
-pub mod OrderNumbers
 pub mod Orders
+pub mod PointerSets
 pub mod AcceptedTable
+pub mod RunWalks
+pub mod Walks
+pub mod Unpacking

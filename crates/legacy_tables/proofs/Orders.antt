@@ -1,23 +1,21 @@
--- What an order of pointers is that is in order, and what its directory answers.
-use Rattle.std.proofs.Common.{◌≡◌, ◌≢◌, ◌∙◌, ℕ, zero, suc, ◌+◌, ◌*◌, ◌/◌, ◌%◌, ◌≤◌, ◌<◌, List, [], ◌∷◌, length, map, get_or, slice_index, refl, sym, ap, subst, arith, Some, None, Option, true}
-use Rattle.std.proofs.Common.{false, Bool, ◌&&◌, cond, eqb, eq-eqb, ◌==◌, nat_lt, not, inl, inr, drop, drop-cons, add-one}
-use Rattle.std.proofs.lemmas.Bool.{cases_lt, cases_eq, ne_eqb, true≢false}
-use Rattle.std.proofs.lemmas.List.{length-map, get_or-map, get_or_past}
+-- What an order of pointers is that is in order, and what it answers.
+use Rattle.std.proofs.Common.{◌≡◌, ◌≢◌, ◌∙◌, ℕ, zero, suc, ◌+◌, ◌≤◌, ◌<◌, List, [], ◌∷◌, length, get_or, slice_index, refl, sym, ap, subst, arith, Some, None, Option, true}
+use Rattle.std.proofs.Common.{false, find, Bool, ◌&&◌, ◌||◌, cond, eq-eqb, ◌==◌, nat_lt, not, inl, inr, drop, drop-cons, add-one}
+use Rattle.std.proofs.lemmas.Bool.{cases_lt, cases_eq, ne_eqb, eqb-true, true≢false}
+use Rattle.std.proofs.lemmas.List.{get_or_past, get_or_default}
 use Rattle.std.proofs.lemmas.List.Folds.{list_any_at}
-use Rattle.std.proofs.lemmas.Map.Steps.{length-le_from_distinct_below}
 use Rattle.std.proofs.Math.ListN.{drop_of_length-le}
-use Rattle.std.specs.List.{list_any, IsDistinct, AllByRecursion}
+use Rattle.std.specs.List.{list_any}
+use Rattle.std.specs.List.Sorted.{IsNonDecreasingBy}
 use borrow.Author.Tests.{ltb-true, lt-ltb, le-ltb}
 use Rattle.legacy_tables.specs.declared.tables.packed.PackedPart.{PackedPart}
 use Rattle.legacy_tables.specs.declared.tables.packed.PackedPart.TheVariants as parts
 use Rattle.legacy_tables.specs.Pointers.{first_pointer}
-use Rattle.legacy_tables.specs.Directories.{held_place, IsRising, IsDirectory, count_below, is_held, number_of, order_pointer}
-use Rattle.legacy_tables.specs.Orders.{HasNumbers, IsLookup, takes_last}
+use Rattle.legacy_tables.specs.Orders.{IsLookup, IsOrder, RisesBy, order_pointer, takes_last}
 use Rattle.legacy_tables.specs.Packed.{may_use, pointer_of, is_pointer_in_order, order_fault_from, order_fault, is_lacking, order_difference}
 use Rattle.legacy_tables.proofs.FirstPlaces.{find-none-at}
-use Rattle.legacy_tables.proofs.Directories.{held-at, not-held}
 use Rattle.legacy_tables.proofs.Pointers.{first-least}
-use Rattle.legacy_tables.proofs.PackedPointers.{pointer-taken}
+use Rattle.legacy_tables.proofs.PackedPointers.{pointer-taken, pointer-same}
 
 both_true : (a b : Bool) → (a && b) ≡ true → (a ≡ true) × (b ≡ true)
 both_true true b e = (refl, e)
@@ -26,6 +24,10 @@ both_true false b e = cc
 taken : (t : Bool) (place : ℕ) (a : Option ℕ) → cond t a (Some place) ≡ None → (t ≡ true) × (a ≡ None)
 taken true place a e = (refl, e)
 taken false place a e = cc
+
+or_true : (a : Bool) → (a || true) ≡ true
+or_true true = refl
+or_true false = refl
 
 less : (a b : ℕ) → suc a < suc b → a < b
 less a b h = omega arith
@@ -75,27 +77,6 @@ module _ (part : PackedPart) (index : List ℕ) where
             record { usable = l.usable; higher = let a = here.higher in let b = l.higher in omega arith }
       ]
 
-  none_equal : (place above : ℕ) (order : List ℕ) → order_fault_from part index place above order ≡ None → (p : ℕ) → slice_index index p ≤ above → AllByRecursion (λ y. eqb p y ≡ false) order
-  unfolding order_fault_from
-  none_equal place above [] e p h = tt
-  none_equal place above (r ∷ order) e p h =
-      let t = taken (is_pointer_in_order part index above r) place (order_fault_from part index (place + 1) (slice_index index r) order) e in
-      let here = in_order above r t.0 in
-      (apart here, none_equal (place + 1) (slice_index index r) order t.1 p (lower here))
-    where
-      lower : IsAbove above r → slice_index index p ≤ slice_index index r
-      lower here = let a = here.higher in omega arith
-
-      apart : IsAbove above r → eqb p r ≡ false
-      apart here = ne_eqb p r (λ same. let e = ap (slice_index index) same in let a = here.higher in absurd (omega arith))
-
-  pub order-distinct : (place above : ℕ) (order : List ℕ) → order_fault_from part index place above order ≡ None → IsDistinct eqb order
-  unfolding order_fault_from IsDistinct
-  order-distinct place above [] e = tt
-  order-distinct place above (p ∷ order) e =
-      let t = taken (is_pointer_in_order part index above p) place (order_fault_from part index (place + 1) (slice_index index p) order) e in
-      (none_equal (place + 1) (slice_index index p) order t.1 p (omega arith), order-distinct (place + 1) (slice_index index p) order t.1)
-
   rising_from : (place above : ℕ) (order : List ℕ) → order_fault_from part index place above order ≡ None → (i j : ℕ) → i < j → j < length order →
       slice_index index (get_or order i 0) < slice_index index (get_or order j 0)
   unfolding order_fault_from
@@ -134,172 +115,78 @@ module _ (part : PackedPart) (index : List ℕ) where
     pub order-mapped : (q : ℕ) → list_any (λ r. q == r) order ≡ true → 0 < slice_index index q
     order-mapped q h = (members 0 0 order none q h).higher
 
-    one_place : (i j : ℕ) → i < length order → j < length order → slice_index index (get_or order i 0) ≡ slice_index index (get_or order j 0) → i ≡ j
-    one_place i j h l e = elim (cases_lt i j) [
-      | inl m ↦ absurd (let r = rising_from 0 0 order none i j m l in omega arith)
-      | inr m ↦ elim (cases_lt j i) [
-        | inl g ↦ absurd (let r = rising_from 0 0 order none j i g h in omega arith)
-        | inr g ↦ omega arith
-      ]
-    ]
+-- ---- what an order answers
 
-    within_index : (q : ℕ) → 0 < slice_index index q → q < length index
-    within_index q h = elim (cases_lt q (length index)) [
-      | inl l ↦ l
-      | inr l ↦ absurd (let z = get_or_past index q 0 l in omega arith)
-    ]
+-- the first item of a list that passes a test
+find-at : (test : ℕ → Bool) (xs : List ℕ) (n : ℕ) → n < length xs → test (get_or xs n 0) ≡ true → ((k : ℕ) → k < n → test (get_or xs k 0) ≡ false) → find test xs ≡ Some (get_or xs n 0)
+find-at test [] n h is before = absurd (omega arith)
+find-at test (x ∷ xs) zero h is before = let here : test x ≡ true = is in rw here refl
+find-at test (x ∷ xs) (suc n) h is before =
+    let here : test x ≡ false = before 0 (omega arith) in
+    rw here (find-at test xs n (less n (length xs) h) is (λ k l. before (suc k) (omega arith)))
 
-    -- an order is no longer than the index
-    pub order-short : length order ≤ length index
-    order-short = length-le_from_distinct_below order (length index) (order-distinct 0 0 order none) (λ q h. within_index q (order-mapped q h))
+find-absent : (test : ℕ → Bool) (xs : List ℕ) → ((k : ℕ) → k < length xs → test (get_or xs k 0) ≡ false) → find test xs ≡ None
+find-absent test [] all = refl
+find-absent test (x ∷ xs) all =
+    let here : test x ≡ false = all 0 (omega arith) in
+    rw here (find-absent test xs (λ k l. all (suc k) (omega arith)))
 
--- ---- scalars as numbers
+find-held : (test : ℕ → Bool) (xs : List ℕ) (q : ℕ) → find test xs ≡ Some q → (list_any (λ r. q == r) xs ≡ true) × (test q ≡ true)
+find-held test [] q e = cc
+find-held test (x ∷ xs) q e = go (test x) refl e (find-held test xs q)
+  where
+    go : (t : Bool) → test x ≡ t → cond t (Some x) (find test xs) ≡ Some q → (find test xs ≡ Some q → (list_any (λ r. q == r) xs ≡ true) × (test q ≡ true)) →
+        (list_any (λ r. q == r) (x ∷ xs) ≡ true) × (test q ≡ true)
+    go true z f rest = let same : x ≡ q = cc in (rw (eq-eqb q x (sym same)) refl, subst (λ r. test r ≡ true) same z)
+    go false z f rest = let later = rest f in (rw later.0 (or_true (q == x)), later.1)
 
-number-same : (a b : ℕ) → number_of a ≡ number_of b → number_of b < 0x2_0000 → a ≡ b
-number-same a b e h = elim (cases_lt a 0x1_0000) [
-  | inl a1 ↦ elim (cases_lt b 0x1_0000) [
-    | inl b1 ↦ rw (lt-ltb a 0x1_0000 a1, lt-ltb b 0x1_0000 b1) at e
-    | inr b1 ↦ elim (cases_lt b 0x2_0000) [
-      | inl b2 ↦ let f = rw (lt-ltb a 0x1_0000 a1, le-ltb b 0x1_0000 b1, lt-ltb b 0x2_0000 b2) at e in absurd (omega arith)
-      | inr b2 ↦ let f = rw (lt-ltb a 0x1_0000 a1, le-ltb b 0x1_0000 b1, le-ltb b 0x2_0000 b2) at e in absurd (omega arith)
-    ]
-  ]
-  | inr a1 ↦ elim (cases_lt a 0x2_0000) [
-    | inl a2 ↦
-        let g : number_of a ≡ a + 0x2_0000 = rw (le-ltb a 0x1_0000 a1, lt-ltb a 0x2_0000 a2) refl in
-        absurd (omega arith)
-    | inr a2 ↦ elim (cases_lt b 0x1_0000) [
-      | inl b1 ↦ let f = rw (le-ltb a 0x1_0000 a1, le-ltb a 0x2_0000 a2, lt-ltb b 0x1_0000 b1) at e in absurd (omega arith)
-      | inr b1 ↦ elim (cases_lt b 0x2_0000) [
-        | inl b2 ↦
-            let g : number_of b ≡ b + 0x2_0000 = rw (le-ltb b 0x1_0000 b1, lt-ltb b 0x2_0000 b2) refl in
-            absurd (omega arith)
-        | inr b2 ↦ let f = rw (le-ltb a 0x1_0000 a1, le-ltb a 0x2_0000 a2, le-ltb b 0x1_0000 b1, le-ltb b 0x2_0000 b2) at e in omega arith
-      ]
-    ]
-  ]
+-- what a binary search asks
+pub order-rising : (index order : List ℕ) → RisesBy index order → IsNonDecreasingBy (λ p. slice_index index p) order
+order-rising index order rises = λ i j d h l. elim (cases_lt i j) [
+  | inl m ↦
+      let above = rises.above i j m l in
+      rw (get_or_default order i d 0 (omega arith), get_or_default order j d 0 l) (omega arith)
+  | inr m ↦ let same : i ≡ j = omega arith in rw same (omega arith)
 ]
 
-number-rises : (a b : ℕ) → a < b → number_of a < 0x2_0000 → number_of b < 0x2_0000 → number_of a < number_of b
-number-rises a b h l m = elim (cases_lt b 0x1_0000) [
-  | inl b1 ↦ rw (lt-ltb a 0x1_0000 (omega arith), lt-ltb b 0x1_0000 b1) h
-  | inr b1 ↦ elim (cases_lt b 0x2_0000) [
-    | inl b2 ↦ let g : number_of b ≡ b + 0x2_0000 = rw (le-ltb b 0x1_0000 b1, lt-ltb b 0x2_0000 b2) refl in absurd (omega arith)
-    | inr b2 ↦ elim (cases_lt a 0x1_0000) [
-      | inl a1 ↦ rw (lt-ltb a 0x1_0000 a1, le-ltb b 0x1_0000 b1, le-ltb b 0x2_0000 b2) (omega arith)
-      | inr a1 ↦ elim (cases_lt a 0x2_0000) [
-        | inl a2 ↦ let g : number_of a ≡ a + 0x2_0000 = rw (le-ltb a 0x1_0000 a1, lt-ltb a 0x2_0000 a2) refl in absurd (omega arith)
-        | inr a2 ↦ rw (le-ltb a 0x1_0000 a1, le-ltb a 0x2_0000 a2, le-ltb b 0x1_0000 b1, le-ltb b 0x2_0000 b2) (omega arith)
-      ]
-    ]
-  ]
-]
+module _ (index order : List ℕ) (rises : RisesBy index order) (c : ℕ) where
+  -- at the one place that has the scalar
+  pub order-at : (n : ℕ) → n < length order → slice_index index (slice_index order n) ≡ c → order_pointer index order c ≡ Some (slice_index order n)
+  unfolding order_pointer
+  order-at n h is =
+      find-at (λ p. slice_index index p == c) order n h (eq-eqb (slice_index index (slice_index order n)) c is)
+      (λ k l. let above = rises.above k n l h in ne_eqb (slice_index index (slice_index order k)) c (λ e. absurd (omega arith)))
 
--- the numbers of an order's scalars
-abbrev pub order_numbers : List ℕ → List ℕ → List ℕ
-order_numbers index order = map (λ p. number_of (slice_index index p)) order
+  -- where no place has it
+  pub order-absent : (n : ℕ) → ((k : ℕ) → k < n → slice_index index (slice_index order k) < c) → ((k : ℕ) → n ≤ k → k < length order → c ≤ slice_index index (slice_index order k))
+      → (n < length order → slice_index index (slice_index order n) ≢ c) → order_pointer index order c ≡ None
+  unfolding order_pointer
+  order-absent n below from other =
+      find-absent (λ p. slice_index index p == c) order
+      (λ k h. ne_eqb (slice_index index (slice_index order k)) c (λ e. elim (cases_lt k n) [
+        | inl l ↦ let b = below k l in absurd (omega arith)
+        | inr l ↦ elim (cases_lt n k) [
+          | inl m ↦ let a = rises.above n k m h in let f = from n (omega arith) (omega arith) in absurd (omega arith)
+          | inr m ↦ let same : k ≡ n = omega arith in other (omega arith) (ap (λ i. slice_index index (slice_index order i)) (sym same) ∙ e)
+        ]
+      ]))
 
-number-at : (index order : List ℕ) (i : ℕ) → i < length order → slice_index (order_numbers index order) i ≡ number_of (slice_index index (get_or order i 0))
-number-at index order i h = get_or-map (λ p. number_of (slice_index index p)) order i 0 0 h
+module _ (part : PackedPart) (index order : List ℕ) (none : order_fault part index order ≡ None) where
+  -- an order that is in order rises
+  pub order-rises : RisesBy index order
+  order-rises = record { above = rising_from part index 0 0 order none }
 
-pub numbers-length : (index order : List ℕ) → length (order_numbers index order) ≡ length order
-numbers-length index order = length-map order (λ p. number_of (slice_index index p))
-
--- ---- what an order with a directory answers
-
-module _ (part : PackedPart) (blocks : ℕ) (index order : List ℕ) (none : order_fault part index order ≡ None) (numbered : HasNumbers blocks index) where
-  small : (p : ℕ) → number_of (slice_index index p) < 0x2_0000
-  small p = let b = numbered.below p in let s = numbered.small in omega arith
-
-  pub numbers-rising : IsRising (order_numbers index order)
-  numbers-rising = record {
-    above = λ i j h l.
-        let within : j < length order = subst (λ n. j < n) (numbers-length index order) l in
-        rw (number-at index order i (omega arith), number-at index order j within)
-        (number-rises (slice_index index (get_or order i 0)) (slice_index index (get_or order j 0)) (rising_from part index 0 0 order none i j h within) (small (get_or order i 0)) (small
-        (get_or order j 0)));
+  -- and answers by its pointers
+  pub order-lookup : IsLookup part index order (order_pointer index order)
+  unfolding order_pointer
+  order-lookup = record {
+    usable = order-usable part index order none;
+    mapped = order-mapped part index order none;
+    found = λ c q e. let held = find-held (λ p. slice_index index p == c) order q e in (held.0, eqb-true (slice_index index q) c held.1);
+    only = λ c q h e.
+        let at = place_of part index order q h in
+        order-at index order order-rises c at.0 at.1 (ap (slice_index index) at.2 ∙ e) ∙ ap Some at.2;
   }
-
-  module _ (sets befores : List ℕ) (directory : IsDirectory blocks sets befores (order_numbers index order)) where
-    place : ℕ → ℕ
-    place c = count_below sets befores (number_of c / 64) (number_of c % 64)
-
-    at_place : (c : ℕ) → number_of c < 64 * blocks → is_held sets (number_of c) ≡ true →
-        (count_below sets befores (number_of c / 64) (number_of c % 64) < length order) × (slice_index index (get_or order (count_below sets befores (number_of c / 64) (number_of c % 64)) 0) ≡ c)
-    at_place c h e =
-        let at = held-at blocks sets befores (order_numbers index order) directory (number_of c) h e in
-        let i : ℕ = count_below sets befores (number_of c / 64) (number_of c % 64) in
-        let within : i < length order = subst (λ n. i < n) (numbers-length index order) at.0 in
-        let same : number_of (slice_index index (get_or order i 0)) ≡ number_of c = sym (number-at index order i within) ∙ at.1 in
-        (within, sym (number-same c (slice_index index (get_or order i 0)) (sym same) (small (get_or order i 0))))
-
-    answer : (c : ℕ) → number_of c < 64 * blocks → is_held sets (number_of c) ≡ true →
-        order_pointer blocks sets befores order c ≡ Some (slice_index order (count_below sets befores (number_of c / 64) (number_of c % 64)))
-    unfolding order_pointer
-    answer c h e = rw (lt-ltb (number_of c) (64 * blocks) h, e) refl
-
-    found_there : (c q : ℕ) → order_pointer blocks sets befores order c ≡ Some q → (list_any (λ r. q == r) order ≡ true) × (slice_index index q ≡ c)
-    unfolding order_pointer
-    found_there c q e = go (nat_lt (number_of c) (64 * blocks)) (is_held sets (number_of c)) refl refl e
-      where
-        go : (a b : Bool) → nat_lt (number_of c) (64 * blocks) ≡ a → is_held sets (number_of c) ≡ b
-            → cond (a && b) (Some (slice_index order (count_below sets befores (number_of c / 64) (number_of c % 64)))) None ≡ Some q →
-            (list_any (λ r. q == r) order ≡ true) × (slice_index index q ≡ c)
-        go true true h k z =
-            let at = at_place c (ltb-true (number_of c) (64 * blocks) h) k in
-            let same : slice_index order (count_below sets befores (number_of c / 64) (number_of c % 64)) ≡ q = cc in (
-              subst (λ p. list_any (λ r. p == r) order ≡ true) same (held part index order none (count_below sets befores (number_of c / 64) (number_of c % 64)) at.0),
-              subst (λ p. slice_index index p ≡ c) same at.1,
-            )
-        go true false h k z = cc
-        go false b h k z = cc
-
-    pub order-lookup : IsLookup part index order (order_pointer blocks sets befores order)
-    order-lookup = record {
-      usable = order-usable part index order none;
-      mapped = order-mapped part index order none;
-      found = found_there;
-      only = λ c q h e.
-          let fits : number_of c < 64 * blocks = subst (λ x. number_of x < 64 * blocks) e (numbered.below q) in
-          let at = place_of part index order q h in
-          let there : slice_index (order_numbers index order) at.0 ≡ number_of c = number-at index order at.0 at.1 ∙ ap (λ p. number_of (slice_index index p)) at.2 ∙ ap number_of e in
-          decide c q e fits at there (is_held sets (number_of c)) refl;
-    }
-      where
-        decide : (c q : ℕ) → slice_index index q ≡ c → number_of c < 64 * blocks → (at : (i : ℕ) × (i < length order) × (get_or order i 0 ≡ q)) →
-            slice_index (order_numbers index order) at.0 ≡ number_of c → (t : Bool) → is_held sets (number_of c) ≡ t → order_pointer blocks sets befores order c ≡ Some q
-        decide c q e fits at there false k =
-            absurd (not-held blocks sets befores (order_numbers index order) directory (number_of c) fits k at.0 (subst (λ n. at.0 < n) (sym (numbers-length index order)) at.1) there)
-        decide c q e fits at there true k =
-            let p = at_place c fits k in
-            let i : ℕ = count_below sets befores (number_of c / 64) (number_of c % 64) in
-            let same : i ≡ at.0 = one_place part index order none i at.0 p.0 at.1 (p.1 ∙ sym e ∙ ap (slice_index index) (sym at.2)) in
-            answer c fits k ∙ ap Some (ap (λ n. get_or order n 0) same ∙ at.2)
-
--- ---- the look-up, as code makes it
-
-module _ (blocks : ℕ) (sets befores pointers : List ℕ) (c : ℕ) where
-  pub order-past : 64 * blocks ≤ number_of c → order_pointer blocks sets befores pointers c ≡ None
-  unfolding order_pointer
-  order-past h = rw (le-ltb (number_of c) (64 * blocks) h) refl
-
-  pub order-none : number_of c < 64 * blocks → held_place sets befores (number_of c) ≡ None → order_pointer blocks sets befores pointers c ≡ None
-  unfolding order_pointer
-  order-none h e = rw (lt-ltb (number_of c) (64 * blocks) h) (go (is_held sets (number_of c)) e)
-    where
-      go : (t : Bool) → cond t (Some (count_below sets befores (number_of c / 64) (number_of c % 64))) None ≡ None →
-          cond t (Some (slice_index pointers (count_below sets befores (number_of c / 64) (number_of c % 64)))) None ≡ None
-      go true z = cc
-      go false z = refl
-
-  pub order-some : number_of c < 64 * blocks → (place : ℕ) → held_place sets befores (number_of c) ≡ Some place → order_pointer blocks sets befores pointers c ≡ Some (slice_index pointers place)
-  unfolding order_pointer
-  order-some h place e = rw (lt-ltb (number_of c) (64 * blocks) h) (go (is_held sets (number_of c)) e)
-    where
-      go : (t : Bool) → cond t (Some (count_below sets befores (number_of c / 64) (number_of c % 64))) None ≡ Some place →
-          cond t (Some (slice_index pointers (count_below sets befores (number_of c / 64) (number_of c % 64)))) None ≡ Some (slice_index pointers place)
-      go true z = let same : count_below sets befores (number_of c / 64) (number_of c % 64) ≡ place = cc in ap (λ i. Some (slice_index pointers i)) same
-      go false z = cc
 
 held_true : (t : Bool) → not t ≡ false → t ≡ true
 held_true true e = refl
@@ -443,3 +330,22 @@ pub order-answers : (part : PackedPart) (index order : List ℕ) (lookup : ℕ �
 unfolding order_difference
 order-answers part index order lookup is none =
     lookup-taken part index order lookup is (λ k h. find-none-at (is_lacking part index order) 0 (length index) none k (omega arith) (omega arith))
+
+-- so it is an order of the codec's
+pub is-order : (part : PackedPart) (index order : List ℕ) → order_fault part index order ≡ None → order_difference part index order ≡ None → IsOrder part index order
+is-order part index order none all = record {
+  rises = order-rises part index order none;
+  answers = order-answers part index order (order_pointer index order) (order-lookup part index order none) all;
+}
+
+-- also in an index with the same entries
+pub order-same : (part : PackedPart) (a b order : List ℕ) → ((p : ℕ) → slice_index a p ≡ slice_index b p) → IsOrder part b order → IsOrder part a order
+unfolding order_pointer
+order-same part a b order same is = record {
+  rises = record { above = λ i j h l. rw (same (slice_index order i), same (slice_index order j)) (is.rises.above i j h l) };
+  answers = λ c. find-alike c order ∙ is.answers c ∙ sym (pointer-same part a b same c);
+}
+  where
+    find-alike : (c : ℕ) (xs : List ℕ) → find (λ p. slice_index a p == c) xs ≡ find (λ p. slice_index b p == c) xs
+    find-alike c [] = refl
+    find-alike c (x ∷ xs) = rw (same x, find-alike c xs) refl

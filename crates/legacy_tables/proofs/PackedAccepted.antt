@@ -23,7 +23,7 @@ use Rattle.legacy_tables.specs.PackedTables.{lists_of_runs, AreRunsOf, AllGiveNo
 use Rattle.legacy_tables.specs.declared.tables.packed_checks.CheckedRuns.{CheckedRuns}
 use Rattle.legacy_tables.specs.declared.tables.order_checks.CheckedOrders.{CheckedOrders}
 use Rattle.legacy_tables.proofs.FirstPlaces.{find-none-at}
-use Rattle.legacy_tables.proofs.PackedPointers.{pointer-same}
+use Rattle.legacy_tables.proofs.Orders.{order-same}
 use Rattle.legacy_tables.proofs.PackedRuns.{no_run, run-reach, scalar-none, outside-behind, runs_end-within, runs_list-length, runs_list-entry}
 
 -- ---- each entry of scalars is one, and 0 past their end too
@@ -206,11 +206,11 @@ lists-same runs flat packed are = rw (are.big5, are.euc_kr, are.jis0208, are.jis
 pub orders-same : (orders : CheckedOrders) (flat : FlatIndexes) (packed : Packed) (accepted : AreAccepted flat) (none : all_runs_fault flat packed ≡ None) → AnswerPointersOf orders flat →
     AnswerPointersOf orders (packed_lists flat packed)
 orders-same orders flat packed accepted none are = record {
-  big5 = λ c. are.big5 c ∙ sym (pointer-same parts.Big5Order (runs_list packed.big5.now) flat.big5 (same-big5 flat packed accepted none) c);
-  euc_kr = λ c. are.euc_kr c ∙ sym (pointer-same parts.EucKrOrder (runs_list packed.euc_kr.now) flat.euc_kr (same-euc_kr flat packed accepted none) c);
-  shift_jis = λ c. are.shift_jis c ∙ sym (pointer-same parts.ShiftJisOrder (runs_list packed.jis0208.now) flat.jis0208 (same-jis0208 flat packed accepted none) c);
-  euc_jp = λ c. are.euc_jp c ∙ sym (pointer-same parts.EucJpOrder (runs_list packed.jis0208.now) flat.jis0208 (same-jis0208 flat packed accepted none) c);
-  gb18030 = λ c. are.gb18030 c ∙ sym (pointer-same parts.Gb18030Order (runs_list packed.gb18030.now) flat.gb18030 (same-gb18030 flat packed accepted none) c);
+  big5 = order-same parts.Big5Order (runs_list packed.big5.now) flat.big5 orders.big5.now (same-big5 flat packed accepted none) are.big5;
+  euc_kr = order-same parts.EucKrOrder (runs_list packed.euc_kr.now) flat.euc_kr orders.euc_kr.now (same-euc_kr flat packed accepted none) are.euc_kr;
+  shift_jis = order-same parts.ShiftJisOrder (runs_list packed.jis0208.now) flat.jis0208 orders.shift_jis.now (same-jis0208 flat packed accepted none) are.shift_jis;
+  euc_jp = order-same parts.EucJpOrder (runs_list packed.jis0208.now) flat.jis0208 orders.euc_jp.now (same-jis0208 flat packed accepted none) are.euc_jp;
+  gb18030 = order-same parts.Gb18030Order (runs_list packed.gb18030.now) flat.gb18030 orders.gb18030.now (same-gb18030 flat packed accepted none) are.gb18030;
 }
 
 -- runs that give what accepted indexes do give no pointer the number 0

@@ -6,12 +6,13 @@ use Rattle.std.proofs.lemmas.List.{get_or_past}
 use Rattle.std.proofs.lemmas.List.FromFn.{get_or-map-range_with_len, length-map-range_with_len}
 use Rattle.std.proofs.Math.ListN.{drop_of_length-le}
 use Rattle.std.specs.List.{range_with_len}
+use Rattle.std.specs.List.Sorted.{IsNonDecreasingBy}
 use Rattle.std.specs.Option.{option_map_or}
 use borrow.Author.Tests.{ltb-true, leb-true, le-leb, lt-leb, lt-ltb, le-ltb}
 use Rattle.legacy_tables.specs.declared.tables.packed.Run.{Run}
 use Rattle.legacy_tables.specs.Indexes.{idx, entry_scalar}
 use Rattle.legacy_tables.specs.Packed.{differs_at}
-use Rattle.legacy_tables.specs.Runs.{run_end, run_scalar, runs_scalar, runs_entry, GiveNoZero, runs_end, runs_list, is_run_in_order, run_fault_from, run_fault, AreInOrder}
+use Rattle.legacy_tables.specs.Runs.{run_at, HasPointer, run_end, run_scalar, runs_scalar, runs_entry, GiveNoZero, runs_end, runs_list, is_run_in_order, run_fault_from, run_fault, AreInOrder, IsFirstBehind}
 
 -- a run of no pointers
 abbrev pub no_run : Run
@@ -98,35 +99,13 @@ are_in_order limit runs e = record {
 pub run-reach : (limit : ℕ) (runs : List Run) → run_fault limit runs ≡ None → (i : ℕ) (d : Run) → i < length runs → run_end (get_or runs i d) ≤ limit
 run-reach limit runs e i d h = (behind_all 0 0 limit runs e i d h).reach
 
--- ---- how many runs there are
+-- ---- their first pointers rise
 
-module _ {limit : ℕ} (small : limit ≤ 23940) (runs : List Run) (ordered : AreInOrder limit runs) where
-  starts_below : (i j : ℕ) → i < j → j < length runs → (get_or runs i no_run).pointer < (get_or runs j no_run).pointer
-  starts_below i j h l =
-      let within : i < length runs = omega arith in
-      let f = ordered.full i no_run within in
-      let r = ordered.rising i j no_run h l in
-      omega arith
-
-  at_least : (i : ℕ) → i < length runs → i ≤ (get_or runs i no_run).pointer
-  at_least zero h = omega arith
-  at_least (suc i) h =
-      let within : i < length runs = omega arith in
-      let low = at_least i within in
-      let next = starts_below i (suc i) (omega arith) h in
-      omega arith
-
-  few_runs : (n : ℕ) → n ≡ length runs → length runs < 65535
-  few_runs zero e = omega arith
-  few_runs (suc n) e =
-      let within : n < length runs = omega arith in
-      let low = at_least n within in
-      let full = ordered.full n no_run within in
-      let reach = ordered.reach n no_run within in
-      omega arith
-
-  pub runs-few : length runs < 65535
-  runs-few = few_runs (length runs) refl
+pub starts-rise : {limit : ℕ} (runs : List Run) → AreInOrder limit runs → IsNonDecreasingBy (λ (run : Run). run.pointer) runs
+starts-rise runs ordered = λ i j d h l. elim (cases_lt i j) [
+  | inl m ↦ let r = ordered.rising i j d m l in omega arith
+  | inr m ↦ let same : i ≡ j = omega arith in rw same (omega arith)
+]
 
 -- ---- what runs give a pointer
 
@@ -158,16 +137,48 @@ scalar-some (run ∷ runs) p (suc n) c h is before =
     rw here (scalar-some runs p n c (less n (length runs) h) is (λ k l. before (suc k) (omega arith)))
 
 module _ {limit : ℕ} (runs : List Run) (ordered : AreInOrder limit runs) (p : ℕ) where
-  -- a pointer behind the last run
-  pub scalar-behind : (n : ℕ) → n + 1 ≡ length runs → run_end (get_or runs n no_run) ≤ p → runs_scalar runs p ≡ None
-  scalar-behind n last h = scalar-none runs p (λ k l. elim (cases_lt k n) [
-    | inl m ↦ let end = ordered.rising k n no_run m (omega arith) in outside-behind (get_or runs k no_run) p (omega arith)
-    | inr m ↦ let same : k ≡ n = omega arith in rw same (outside-behind (get_or runs n no_run) p h)
-  ])
+  -- the run that has a pointer gives its scalar
+  pub scalar-had : (n : ℕ) → HasPointer runs n p → runs_scalar runs p ≡ Some ((run_at runs n).scalar + (p - (run_at runs n).pointer))
+  scalar-had n has = scalar-some runs p n _ has.within (inside (run_at runs n) p has.from has.before)
+      (λ k h.
+      let end = ordered.rising k n no_run h has.within in
+      let from = has.from in
+      outside-behind (run_at runs k) p (omega arith))
 
-  -- a pointer past all that the index has
-  pub scalar-past : limit ≤ p → runs_scalar runs p ≡ None
-  scalar-past h = scalar-none runs p (λ k l. let r = ordered.reach k no_run l in outside-behind (get_or runs k no_run) p (omega arith))
+  -- no run has a pointer that lies behind the last one that starts at or before it
+  pub none-has : (n : ℕ) → ((k : ℕ) → n ≤ k → k < length runs → p < (run_at runs k).pointer) → (0 < n → run_end (run_at runs (n - 1)) ≤ p) → n ≤ length runs → runs_scalar runs p ≡ None
+  none-has n ahead behind within = scalar-none runs p (λ k l. elim (cases_lt k n) [
+    | inl h ↦ outside-behind (run_at runs k) p (up_to k h (behind (omega arith)))
+    | inr h ↦ outside-before (run_at runs k) p (ahead k h l)
+  ])
+    where
+      up_to : (k : ℕ) → k < n → run_end (run_at runs (n - 1)) ≤ p → run_end (run_at runs k) ≤ p
+      up_to k h e = elim (cases_lt k (n - 1)) [
+        | inl m ↦ let end = ordered.rising k (n - 1) no_run m (omega arith) in omega arith
+        | inr m ↦ let same : k ≡ n - 1 = omega arith in rw same e
+      ]
+
+-- ---- the first run that ends behind a pointer
+
+module _ {limit : ℕ} (runs : List Run) (ordered : AreInOrder limit runs) where
+  -- of pointer 0 it is the first run
+  pub first-behind : IsFirstBehind runs 0 0
+  first-behind = record { within = omega arith; ended = λ k h. absurd (omega arith); behind = λ h. let full = ordered.full 0 no_run h in omega arith }
+
+  module _ (n p : ℕ) (first : IsFirstBehind runs n p) where
+    -- a pointer before it has no scalar
+    pub scalar-before : (n < length runs → p < (run_at runs n).pointer) → runs_scalar runs p ≡ None
+    scalar-before before = scalar-none runs p (λ k h. elim (cases_lt k n) [
+      | inl l ↦ outside-behind (run_at runs k) p (first.ended k l)
+      | inr l ↦ elim (cases_lt n k) [
+        | inl m ↦ let low = before (omega arith) in let full = ordered.rising n k no_run m h in outside-before (run_at runs k) p (omega arith)
+        | inr m ↦ let same : k ≡ n = omega arith in let low = before (omega arith) in outside-before (run_at runs k) p (rw same low)
+      ]
+    ])
+
+    -- one from its start on has the scalar that it gives
+    pub scalar-within : (within : n < length runs) → (run_at runs n).pointer ≤ p → runs_scalar runs p ≡ Some ((run_at runs n).scalar + (p - (run_at runs n).pointer))
+    scalar-within within from = scalar-had runs ordered p n (record { within = within; from = from; before = first.behind within })
 
 -- where neither runs nor an index have a pointer, they do not differ
 pub same-behind : (runs : List Run) (index : List ℕ) (p : ℕ) → length index ≤ p → runs_scalar runs p ≡ None → differs_at runs index p ≡ false
@@ -175,7 +186,7 @@ same-behind runs index p h e = rw (get_or_past index p 0 h, e) refl
 
 -- ---- the flat list of runs
 
-end_most : (runs : List Run) (k : ℕ) → k < length runs → run_end (get_or runs k no_run) ≤ runs_end runs
+pub end_most : (runs : List Run) (k : ℕ) → k < length runs → run_end (get_or runs k no_run) ≤ runs_end runs
 end_most [] k h = absurd (omega arith)
 end_most (run ∷ runs) zero h = omega arith
 end_most (run ∷ runs) (suc k) h = let m = end_most runs k (less k (length runs) h) in omega arith
@@ -201,6 +212,31 @@ runs_list-entry runs p = elim (cases_lt p (runs_end runs)) [
       let none = scalar-none runs p (λ k l. let m = end_most runs k l in outside-behind (get_or runs k no_run) p (omega arith)) in
       get_or_past (map (runs_entry runs) (range_with_len 0 (runs_end runs))) p 0 past ∙ sym (ap (λ o. option_map_or (λ c. c) o 0) none)
 ]
+
+-- it ends where the last run does
+pub runs_end-last : {limit : ℕ} (runs : List Run) → AreInOrder limit runs → (n : ℕ) → n + 1 ≡ length runs → run_end (run_at runs n) ≡ length (runs_list runs)
+runs_end-last runs ordered n last =
+    let most = end_most runs n (omega arith) in
+    let least = runs_end-within (run_end (run_at runs n)) runs (λ k h. up_to k h) in
+    rw (runs_list-length runs) (omega arith)
+  where
+    up_to : (k : ℕ) → k < length runs → run_end (run_at runs k) ≤ run_end (run_at runs n)
+    up_to k h = elim (cases_lt k n) [
+      | inl m ↦ let end = ordered.rising k n no_run m (omega arith) in omega arith
+      | inr m ↦ let same : k ≡ n = omega arith in rw same (omega arith)
+    ]
+
+-- where there are none, at 0
+pub runs_end-none : (runs : List Run) → length runs ≡ 0 → 0 ≡ length (runs_list runs)
+runs_end-none runs none =
+    let least = runs_end-within 0 runs (λ k h. absurd (omega arith)) in
+    rw (runs_list-length runs) (omega arith)
+
+-- behind it no run has a pointer
+pub scalar-past_list : (runs : List Run) (p : ℕ) → length (runs_list runs) ≤ p → runs_scalar runs p ≡ None
+scalar-past_list runs p h =
+    let past : runs_end runs ≤ p = rw (← runs_list-length runs) h in
+    scalar-none runs p (λ k l. let m = end_most runs k l in outside-behind (get_or runs k no_run) p (omega arith))
 
 -- where no number is 0, the flat list answers what the runs give
 pub idx-given : (runs : List Run) → GiveNoZero runs → (p : ℕ) → idx (runs_list runs) p ≡ runs_scalar runs p

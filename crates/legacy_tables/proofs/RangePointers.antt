@@ -5,6 +5,7 @@ use Rattle.std.proofs.lemmas.Bool.{cases_lt, ne_eqb}
 use Rattle.std.proofs.lemmas.Bool.Decides.{nat_tests}
 use Rattle.std.proofs.Math.ListN.{drop_of_length-le}
 use Rattle.std.specs.Option.{option_or}
+use Rattle.std.specs.Char.{IsScalar}
 use Rattle.std.specs.Int.{is_in_range}
 use borrow.Author.Tests.{leb-true, leb-false, le-leb, lt-leb}
 use Rattle.legacy_tables.specs.Indexes.{range, last_range_scalar}
@@ -111,6 +112,45 @@ module _ (ranges : List (ℕ × ℕ)) where
   next_end : (place : ℕ) → length ranges ≤ place → next_pointer (drop place ranges) ≡ 39420
   next_end place h = rw (drop_of_length-le ranges h) refl
 
+-- ---- the pointers of the range at a place
+
+module _ (ranges : List (ℕ × ℕ)) (ordered : range_order_fault 0 None ranges ≡ None) (place : ℕ) where
+  ends : next_pointer (drop (place + 1) ranges) ≤ 39420
+  ends = elim (cases_lt (place + 1) (length ranges)) [
+    | inl l ↦ rw (next_is ranges (place + 1) l) (let h = started_by ranges ordered (place + 1) l in omega arith)
+    | inr l ↦ rw (next_end ranges (place + 1) l) (omega arith)
+  ]
+
+  all_ahead : (p : ℕ) → p < next_pointer (drop (place + 1) ranges) → (k : ℕ) → place < k → k < length ranges → p < (get_or ranges k (0, 0)).0
+  all_ahead p before k l h =
+      let first : p < (get_or ranges (place + 1) (0, 0)).0 = rw (next_is ranges (place + 1) (omega arith)) at before in
+      let up = rising 0 None ranges ordered (place + 1) k (0, 0) (omega arith) h in
+      omega arith
+
+  -- what the range gives a pointer of its own
+  pub record IsInRange (p : ℕ) : Type 0 where
+    pub scalar : IsScalar ((get_or ranges place (0, 0)).1 + (p - (get_or ranges place (0, 0)).0))
+    pub narrow : (get_or ranges place (0, 0)).1 + (p - (get_or ranges place (0, 0)).0) < 0x1_0000
+    pub given : range ranges p ≡ Some ((get_or ranges place (0, 0)).1 + (p - (get_or ranges place (0, 0)).0))
+
+  pub in-range : range_value_fault 0 ranges ≡ None → place < length ranges → (p : ℕ) → (get_or ranges place (0, 0)).0 ≤ p → p < next_pointer (drop (place + 1) ranges) → p ≢ 7457 → IsInRange p
+  in-range valued within p from before n =
+      let end = ends in
+      let is = last-at ranges p place within from (all_ahead p before) in
+      let narrow = last_range-narrow 0 ranges valued p _ (omega arith) is in
+      record { scalar = narrow.0; narrow = narrow.1; given = gives ranges p _ n (omega arith) is }
+
+  -- no later range begins at or before a scalar that the range gives one of its pointers
+  pub begun-ahead : (c : ℕ) → (get_or ranges place (0, 0)).1 ≤ c → (get_or ranges place (0, 0)).0 + (c - (get_or ranges place (0, 0)).1) < next_pointer (drop (place + 1) ranges)
+      → (k : ℕ) → place < k → k < length ranges → c < (get_or ranges k (0, 0)).1
+  begun-ahead c reached before k l h =
+      let next : (get_or ranges place (0, 0)).0 + (c - (get_or ranges place (0, 0)).1) < (get_or ranges (place + 1) (0, 0)).0 = rw (next_is ranges (place + 1) (omega arith)) at before in
+      let up = rise ranges ordered place (omega arith) in
+      let low = up.0 in
+      let high = up.1 in
+      let above = rising_scalars 0 None ranges ordered (place + 1) k (0, 0) (omega arith) h in
+      omega arith
+
 module _ (ranges : List (ℕ × ℕ)) (ordered : range_order_fault 0 None ranges ≡ None) (c : ℕ) (narrow : c < 0x1_0000) (free : c ≢ 0xE7C7) where
   -- the scalar lies before all ranges
   pub pointer-before : ((k : ℕ) → k < length ranges → c < (get_or ranges k (0, 0)).1) → None ≡ range_pointer_of ranges c
@@ -170,22 +210,10 @@ module _ (ranges : List (ℕ × ℕ)) (ordered : range_order_fault 0 None ranges
     pointer-fixed p is fixed = sym (range-none ranges c free (λ q e. let o = only q e in o.other (o.is ∙ sym is ∙ fixed)))
 
     -- or it has the scalar
-    ends : next_pointer (drop (place + 1) ranges) ≤ 39420
-    ends = elim (cases_lt (place + 1) (length ranges)) [
-      | inl l ↦ rw (next_is ranges (place + 1) l) (let h = started_by ranges ordered (place + 1) l in omega arith)
-      | inr l ↦ rw (next_end ranges (place + 1) l) (omega arith)
-    ]
-
-    all_ahead : (p : ℕ) → p < next_pointer (drop (place + 1) ranges) → (k : ℕ) → place < k → k < length ranges → p < (get_or ranges k (0, 0)).0
-    all_ahead p before k l h =
-        let first : p < (get_or ranges (place + 1) (0, 0)).0 = rw (next_is ranges (place + 1) (omega arith)) at before in
-        let up = rising 0 None ranges ordered (place + 1) k (0, 0) (omega arith) h in
-        omega arith
-
     pub pointer-found : (p : ℕ) → p ≡ (get_or ranges place (0, 0)).0 + (c - (get_or ranges place (0, 0)).1) → p < next_pointer (drop (place + 1) ranges) → p ≢ 7457 → Some p ≡ range_pointer_of ranges c
     pointer-found p is before n =
-        let end = ends in
+        let end = ends ranges ordered place in
         let scalar : (get_or ranges place (0, 0)).1 + (p - (get_or ranges place (0, 0)).0) ≡ c = omega arith in
         sym (range-first ranges c free p (omega arith)
-        (gives ranges p c n (omega arith) (last-at ranges p place within (omega arith) (all_ahead p before) ∙ ap Some scalar))
+        (gives ranges p c n (omega arith) (last-at ranges p place within (omega arith) (all_ahead ranges ordered place p before) ∙ ap Some scalar))
         (λ k m e. let o = only k e in let same = o.is in absurd (omega arith)))

@@ -2,14 +2,14 @@
 pub mod Unicode
 pub mod Indexes
 pub mod Pointers
-pub mod PagePointers
 pub mod TableChecks
 pub mod AcceptedTables
 pub mod Tables
 pub mod KeptTables
-pub mod Directories
 pub mod Runs
-pub mod RunPlaces
 pub mod Packed
 pub mod Orders
+pub mod PointerSets
 pub mod PackedTables
+pub mod Walks
+pub mod Unpacking

@@ -1,17 +1,20 @@
 -- Orders of pointers by their scalars, and what a look-up in them answers.
-use Rattle.std.specs.Prelude.{◌≡◌, ℕ, ◌*◌, ◌≤◌, ◌<◌, List, Option, Some, Bool, true}
+use Rattle.std.specs.Prelude.{◌≡◌, ℕ, ◌<◌, List, Option, Some, Bool, true, length, find}
 use Rattle.std.specs.Prelude.{false, ◌==◌, slice_index}
 use Rattle.std.specs.List.{list_any}
 use Rattle.legacy_tables.specs.declared.tables.packed.PackedPart.{PackedPart}
 use Rattle.legacy_tables.specs.declared.tables.packed.PackedPart.TheVariants as parts
-use Rattle.legacy_tables.specs.Directories.{number_of}
 use Rattle.legacy_tables.specs.Pointers.{takes_last_big5_pointer}
-use Rattle.legacy_tables.specs.Packed.{may_use}
+use Rattle.legacy_tables.specs.Packed.{may_use, pointer_of}
 
--- the scalars of an index are numbers of so many blocks
-pub record HasNumbers (blocks : ℕ) (index : List ℕ) : Type 0 where
-  pub small : blocks ≤ 2048
-  pub below : (p : ℕ) → number_of (slice_index index p) < 64 * blocks
+-- the scalar of each pointer of an order is above those before it
+pub record RisesBy (index order : List ℕ) : Type 0 where
+  pub above : (i j : ℕ) → i < j → j < length order →
+      slice_index index (slice_index order i) < slice_index index (slice_index order j)
+
+-- the first pointer of an order that has a scalar
+unfoldable pub order_pointer : List ℕ → List ℕ → ℕ → Option ℕ
+order_pointer index order c = find (λ p. slice_index index p == c) order
 
 -- a look-up that answers by the pointers of an order
 pub record IsLookup (part : PackedPart) (index order : List ℕ)
@@ -27,3 +30,8 @@ pub record IsLookup (part : PackedPart) (index order : List ℕ)
 abbrev pub takes_last : PackedPart → ℕ → Bool
 takes_last parts.Big5Order c = takes_last_big5_pointer c
 takes_last _ c = false
+
+-- an order answers for each scalar the pointer that the codec takes
+pub record IsOrder (part : PackedPart) (index order : List ℕ) : Type 0 where
+  pub rises : RisesBy index order
+  pub answers : (c : ℕ) → order_pointer index order c ≡ pointer_of part index c

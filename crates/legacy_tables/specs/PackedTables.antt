@@ -7,9 +7,8 @@ use Rattle.legacy_tables.specs.declared.tables.order_checks.CheckedOrders.{Check
 use Rattle.legacy_tables.specs.declared.tables.order_checks.LastPointers.{LastPointers}
 use Rattle.legacy_tables.specs.declared.tables.packed.PackedPart.{PackedPart}
 use Rattle.legacy_tables.specs.Indexes.{FlatIndexes}
-use Rattle.legacy_tables.specs.Directories.{order_pointer}
 use Rattle.legacy_tables.specs.Packed.{pointer_of}
-use Rattle.legacy_tables.specs.Orders.{takes_last}
+use Rattle.legacy_tables.specs.Orders.{takes_last, IsOrder}
 use Rattle.legacy_tables.specs.Runs.{GiveNoZero, runs_list}
 use Rattle.legacy_tables.specs.AcceptedTables.{flat_lists}
 
@@ -38,20 +37,11 @@ pub record AllGiveNoZero (runs : CheckedRuns) : Type 0 where
 
 -- orders answer the pointers that the codecs take in flat indexes
 pub record AnswerPointersOf (orders : CheckedOrders) (flat : FlatIndexes) : Type 0 where
-  pub big5 : (c : ℕ) → order_pointer 2048 orders.big5.scalars.sets orders.big5.scalars.befores
-      orders.big5.pointers.now c ≡ pointer_of parts.Big5Order flat.big5 c
-  pub euc_kr : (c : ℕ) → order_pointer 1024 orders.euc_kr.scalars.sets
-      orders.euc_kr.scalars.befores orders.euc_kr.pointers.now c
-      ≡ pointer_of parts.EucKrOrder flat.euc_kr c
-  pub shift_jis : (c : ℕ) → order_pointer 1024 orders.shift_jis.scalars.sets
-      orders.shift_jis.scalars.befores orders.shift_jis.pointers.now c
-      ≡ pointer_of parts.ShiftJisOrder flat.jis0208 c
-  pub euc_jp : (c : ℕ) → order_pointer 1024 orders.euc_jp.scalars.sets
-      orders.euc_jp.scalars.befores orders.euc_jp.pointers.now c
-      ≡ pointer_of parts.EucJpOrder flat.jis0208 c
-  pub gb18030 : (c : ℕ) → order_pointer 1024 orders.gb18030.scalars.sets
-      orders.gb18030.scalars.befores orders.gb18030.pointers.now c
-      ≡ pointer_of parts.Gb18030Order flat.gb18030 c
+  pub big5 : IsOrder parts.Big5Order flat.big5 orders.big5.now
+  pub euc_kr : IsOrder parts.EucKrOrder flat.euc_kr orders.euc_kr.now
+  pub shift_jis : IsOrder parts.ShiftJisOrder flat.jis0208 orders.shift_jis.now
+  pub euc_jp : IsOrder parts.EucJpOrder flat.jis0208 orders.euc_jp.now
+  pub gb18030 : IsOrder parts.Gb18030Order flat.gb18030 orders.gb18030.now
 
 -- what is taken for a scalar, where the codec takes the last of its pointers
 abbrev pub IsLast : PackedPart → List ℕ → ℕ → Option ℕ → Type 0

@@ -5,6 +5,10 @@ use Rattle.std.specs.Option.{option_or, option_map_or}
 use Rattle.std.specs.List.{range_with_len}
 use Rattle.legacy_tables.specs.declared.tables.packed.Run.{Run}
 
+-- the run at a place
+abbrev pub run_at : List Run → ℕ → Run
+run_at runs n = slice_index_or runs n (record { pointer = 0; scalar = 0; length = 0 })
+
 -- the pointer behind a run
 abbrev pub run_end : Run → ℕ
 run_end run = run.pointer + run.length
@@ -65,3 +69,15 @@ pub record AreInOrder (limit : ℕ) (runs : List Run) : Type 0 where
       (slice_index_or runs i d).scalar + (slice_index_or runs i d).length ≤ 0x11_0000
   pub rising : (i j : ℕ) (d : Run) → i < j → j < length runs →
       run_end (slice_index_or runs i d) ≤ (slice_index_or runs j d).pointer
+
+-- the run at place n has pointer p
+pub record HasPointer (runs : List Run) (n p : ℕ) : Type 0 where
+  pub within : n < length runs
+  pub from : (run_at runs n).pointer ≤ p
+  pub before : p < run_end (run_at runs n)
+
+-- the run at place n is the first that ends behind pointer p, or all runs end at or before p
+pub record IsFirstBehind (runs : List Run) (n p : ℕ) : Type 0 where
+  pub within : n ≤ length runs
+  pub ended : (k : ℕ) → k < n → run_end (run_at runs k) ≤ p
+  pub behind : n < length runs → p < run_end (run_at runs n)

@@ -8,5 +8,5 @@ mod tables;
 pub use single_byte_table::SingleByteTable;
 pub use tables::{
     DecoderTables, EncoderTables, FlatTables, GB18030_2022_PUA, IndexName, Indexes, KeptTables,
-    Packed, PackedPart, PackedTables, Run, TableError, Tables,
+    Marks, Packed, PackedPart, PackedTables, Run, TableError, Tables,
 };

@@ -3,20 +3,21 @@ ghost use Rattle.std.specs.Prelude.{◌≡◌, MatchResult, Some};
 
 pub(crate) mod checks;
 pub(crate) mod decoder_tables;
-pub(crate) mod directory;
 pub(crate) mod encoder_tables;
 pub(crate) mod flat;
 pub(crate) mod lookups;
+pub(crate) mod numbers;
 pub(crate) mod order;
 pub(crate) mod order_checks;
 pub(crate) mod packed;
 pub(crate) mod packed_checks;
 pub(crate) mod packed_tables;
-pub(crate) mod page_pointers;
+pub(crate) mod pointer_set;
 pub(crate) mod pointers;
 pub(crate) mod private_use;
-pub(crate) mod run_places;
 pub(crate) mod runs;
+pub(crate) mod unpacking;
+pub(crate) mod walks;
 
 pub use decoder_tables::DecoderTables;
 pub use encoder_tables::EncoderTables;
@@ -24,9 +25,11 @@ pub use flat::FlatTables;
 pub use packed::{Packed, PackedPart, Run};
 pub use packed_tables::PackedTables;
 pub use private_use::GB18030_2022_PUA;
+use std::cell::Cell;
 use std::fmt;
 use std::marker::Model;
 use thiserror::Error;
+pub use walks::Marks;
 
 /// The names of the indexes (Encoding Standard, "Indexes").
 #[derive(Clone, Copy, Debug, PartialEq, Eq)]
@@ -166,12 +169,12 @@ impl<'a> Model for Tables<'a> {
 impl<'a> Tables<'a> {
     ghost use Rattle.legacy_tables.specs.Indexes.{idx, range, gb18030_pua_of};
     ghost use Rattle.legacy_tables.specs.TableChecks.{table_fault};
-    ghost use Rattle.legacy_tables.specs.Tables.{flat_indexes, index_list};
+    ghost use Rattle.legacy_tables.specs.Tables.{flat_indexes, index_list, is_narrow_index};
     ghost use Rattle.legacy_tables.specs.Pointers.{big5_pointer_of, euc_kr_pointer_of};
     ghost use Rattle.legacy_tables.specs.Pointers.{shift_jis_pointer_of, euc_jp_pointer_of};
     ghost use Rattle.legacy_tables.specs.Pointers.{gb18030_pointer_of, range_pointer_of};
     ghost use Rattle.std.specs.Option.{IfSome};
-    ghost use Rattle.std.specs.Prelude.{◌<◌};
+    ghost use Rattle.std.specs.Prelude.{◌<◌, length, true, MatchOption};
     ghost use Rattle.legacy_tables.specs.KeptTables.{kept_indexes};
     ghost use Rattle.legacy_tables.specs.Packed.{packed_fault, ArePackedTables};
 
@@ -180,7 +183,6 @@ impl<'a> Tables<'a> {
     /// first; of the private-use rows, which come last, all of a row at once: its order, its
     /// scalar, its bytes. Empty indexes are accepted. It takes no memory, and the slices stay
     /// borrowed.
-    #[inline(always)]
     pub fn new(indexes: &Indexes<'a>) -> Result<Tables<'a>, TableError>
         ensures { MatchResult result
             (λ tables. tables.flat ≡ flat_indexes indexes.now)
@@ -194,9 +196,8 @@ impl<'a> Tables<'a> {
 
     /// The tables of packed indexes that give what the flat indexes do, or the first fault. The
     /// indexes are checked first, as `new` does it; then the ten parts of the packed ones in the
-    /// order of their fields, of each part the order first. It takes no memory. Of the flat indexes
-    /// `katakana`, `ranges` and `gb18030_pua` stay borrowed, and the other five do not; the parts
-    /// of the packed ones stay borrowed.
+    /// order of their fields, of each part the order first. It takes no memory, and all slices stay
+    /// borrowed.
     pub fn packed_of(indexes: &Indexes<'a>, packed: &Packed<'a>) -> Result<Tables<'a>, TableError>
         ensures { MatchResult result
             (λ tables. ArePackedTables (flat_indexes indexes.now) packed.now tables.flat)
@@ -214,6 +215,32 @@ impl<'a> Tables<'a> {
         ensures { kept_indexes result.now ≡ self.now }
     {
         &self.kept
+    }
+
+    /// Index Big5 as a flat index, which is written to the start of the room, or `None` exactly where
+    /// the room is shorter than the index. Tables that are made of flat indexes look a pointer up
+    /// without a search.
+    pub fn unpack_big5<'b>(&self, room: &'b mut [u32]) -> Option<&'b [u32]>
+        ensures { MatchOption result (length room.old < length self.now.flat.big5)
+            (λ flat. flat.now ≡ self.now.flat.big5) }
+    {
+        match &self.kept {
+            KeptTables::Flat(tables) => tables.unpack_big5(room),
+            KeptTables::Packed(tables) => tables.unpack_big5(room),
+        }
+    }
+
+    /// The index of the name, `EucKr`, `Jis0208`, `Jis0212` or `Gb18030`, as a flat index, which is
+    /// written to the start of the room, or `None` exactly where the room is shorter than the index.
+    pub fn unpack<'b>(&self, name: IndexName, room: &'b mut [u16]) -> Option<&'b [u16]>
+        requires { is_narrow_index name ≡ true }
+        ensures { MatchOption result (length room.old < length (index_list self.now.flat name))
+            (λ flat. flat.now ≡ index_list self.now.flat name) }
+    {
+        match &self.kept {
+            KeptTables::Flat(tables) => tables.unpack_narrow(name, room),
+            KeptTables::Packed(tables) => tables.unpack_narrow(name, room),
+        }
     }
 
     /// The scalar value of the pointer in the index of the name, or `None` where it has none: where
@@ -349,6 +376,13 @@ impl<'a> DecoderTables for Tables<'a> {
     fn range(&self, pointer: usize) -> Option<char> {
         Tables::range(self, pointer)
     }
+
+    fn range_near(&self, guess: &Cell<usize>, pointer: usize) -> Option<char> {
+        match &self.kept {
+            KeptTables::Flat(tables) => tables.range_near(guess, pointer),
+            KeptTables::Packed(tables) => tables.range_near(guess, pointer),
+        }
+    }
 }
 
 impl<'a> EncoderTables for Tables<'a> {
@@ -382,8 +416,30 @@ impl<'a> EncoderTables for Tables<'a> {
         Tables::range_pointer(self, scalar)
     }
 
+    fn range_pointer_near(&self, guess: &Cell<usize>, scalar: char) -> Option<usize> {
+        match &self.kept {
+            KeptTables::Flat(tables) => tables.range_pointer_near(guess, scalar),
+            KeptTables::Packed(tables) => tables.range_pointer_near(guess, scalar),
+        }
+    }
+
     #[inline]
     fn gb18030_pua_bytes(&self, scalar: char) -> Option<(u8, u8)> {
         Tables::gb18030_pua_bytes(self, scalar)
+    }
+
+    fn gb18030_rows(&self) -> &[(u16, u8, u8)] {
+        match &self.kept {
+            KeptTables::Flat(tables) => tables.gb18030_rows(),
+            KeptTables::Packed(tables) => tables.gb18030_rows(),
+        }
+    }
+
+    #[inline(always)]
+    fn fill<M: Marks>(&self, part: PackedPart, marks: &M, entries: &mut [u16]) {
+        match &self.kept {
+            KeptTables::Flat(tables) => tables.fill(part, marks, entries),
+            KeptTables::Packed(tables) => tables.fill(part, marks, entries),
+        }
     }
 }

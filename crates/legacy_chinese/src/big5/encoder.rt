@@ -3,12 +3,14 @@ ghost use Rattle.std.specs.Prelude.{◌≡◌, [], ◌∷◌, option_map};
 ghost use Rattle.legacy_base.specs.Big5.{big5_bytes};
 ghost use Rattle.legacy_base.specs.Encoders.{big5};
 ghost use Rattle.legacy_tables.specs.Pointers.{big5_pointer_of};
-ghost use Rattle.legacy_chinese.specs.Big5Codes.{big5_pairs};
+ghost use Rattle.legacy_chinese.specs.Big5Codes.{big5_pairs, big5_mark, big5_mark-some};
 
 use super::decoder::Big5;
 use legacy_base::EncoderTables;
+use legacy_encoder_engine::asked_pairs::ask_pairs;
 use legacy_encoder_engine::moves::EncoderMove;
-use legacy_encoder_engine::pairs::{PairCodec, PairEncoder};
+use legacy_encoder_engine::pairs::{FillsPairs, PairCodec, PairCodes, PairEncoder};
+use legacy_tables::{Marks, PackedPart};
 
 /// The encoder of Big5 (Encoding Standard, "Big5 encoder").
 ///
@@ -30,6 +32,21 @@ fn pair<V: EncoderTables>(tables: &V, c: char) -> Option<(u8, u8)>
         }
         None => None,
     }
+}
+
+/// The lead and the trail of a pointer as one number.
+struct Big5Marks;
+
+impl Marks for Big5Marks {
+    ghost mark = { big5_mark };
+
+    #[inline(always)]
+    fn mark(&self, pointer: usize) -> u16 {
+        let offset = if pointer % 157 < 0x3F { 0x40 } else { 0x62 };
+        (pointer / 157 + 0x81) as u16 + 256 * (pointer % 157 + offset) as u16
+    }
+
+    ghost some = { big5_mark-some };
 }
 
 impl PairCodec for Big5 {
@@ -54,5 +71,12 @@ impl PairCodec for Big5 {
     #[tactic(auto, unfolding(legacy_base::specs::Big5::big5_code))]
     fn pair_of<V: EncoderTables>(tables: &V, c: char) -> Option<(u8, u8)> {
         pair(tables, c)
+    }
+}
+
+impl FillsPairs for Big5 {
+    fn fill<V: EncoderTables>(tables: &V, entries: &mut [u16]) {
+        tables.fill(PackedPart::Big5Order, &Big5Marks, entries);
+        ask_pairs(&PairCodes::<Big5, V>::new(tables), entries, 0, 0x80);
     }
 }

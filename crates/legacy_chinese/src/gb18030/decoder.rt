@@ -25,6 +25,7 @@ use legacy_decoder_engine::places::{ROWS_OF_190, pair_pointer};
 use legacy_decoder_engine::runs::{read_blocks, read_one};
 use legacy_decoder_engine::trail::unmapped;
 use legacy_decoder_engine::two_byte::fault_through;
+use std::cell::Cell;
 
 /// What is held back: the first bytes of a form, or a digit of a broken form and what came behind it.
 #[derive(Clone, Copy)]
@@ -305,8 +306,14 @@ impl DecoderMoves for Gb18030Decoder<'_> {
             return 0;
         }
         match self.tables.kept() {
-            KeptTables::Flat(tables) => read_blocks(&Gb18030Blocks { tables }, src, dst),
-            KeptTables::Packed(tables) => read_blocks(&Gb18030Blocks { tables }, src, dst),
+            KeptTables::Flat(tables) => {
+                let guess = Cell::new(0);
+                read_blocks(&Gb18030Blocks { tables, guess }, src, dst)
+            }
+            KeptTables::Packed(tables) => {
+                let guess = Cell::new(0);
+                read_blocks(&Gb18030Blocks { tables, guess }, src, dst)
+            }
         }
     }
 
@@ -315,6 +322,7 @@ impl DecoderMoves for Gb18030Decoder<'_> {
     fn read_runs<T: Destination>(&mut self, src: &[u8], dst: &mut T) -> usize {
         let forms = Gb18030Blocks {
             tables: self.tables,
+            guess: Cell::new(0),
         };
         if begins_rare(&forms, src) {
             return 0;

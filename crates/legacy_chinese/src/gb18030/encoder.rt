@@ -12,15 +12,19 @@ ghost use Rattle.legacy_encoder_engine.specs.UnderWay.{KeepsOn};
 ghost use Rattle.legacy_chinese.specs.Gb18030Codec.{gb18030_codec};
 ghost use Rattle.legacy_chinese.specs.Gb18030Codes.{gb18030_plain};
 
+use super::list::{Gb18030Marks, ask_rows};
 use legacy_base::{
-    EncoderResult, EncoderTables, FlatTables, KeptTables, PackedTables, RawEncoder, Source, Tables,
+    EncoderResult, EncoderTables, FlatTables, KeptTables, PackedPart, PackedTables, RawEncoder,
+    Source, Tables,
 };
+use legacy_encoder_engine::asked_pairs::ask_pairs;
 use legacy_encoder_engine::cached::{EncodesPairs, PastPairs, WithPairs};
 use legacy_encoder_engine::drive::drive_encoder;
 use legacy_encoder_engine::moves::EncoderMove;
 use legacy_encoder_engine::plain::PlainEncoder;
 use legacy_encoder_engine::plain_codes::PlainCodes;
 use legacy_encoder_engine::runs::read_runs;
+use std::cell::Cell;
 
 /// The encoder of GB18030 or of GBK (Encoding Standard, "gb18030 encoder").
 ///
@@ -77,23 +81,6 @@ fn is_private_use(c: char) -> bool
     matches!(u32::from(c), 0xE000..=0xF8FF)
 }
 
-/// The lead and the trail of a common scalar, if it has them.
-#[inline(always)]
-#[tactic(auto, unfolding(legacy_base::specs::Gb18030::gb18030_code, legacy_base::specs::Gb18030::gbk_code))]
-fn common_pair_of<V: EncoderTables>(tables: &V, c: char) -> Option<(u8, u8)>
-    requires { 0x80 ≤ c }
-    ensures gb18030 { IfSome result (λ pair. gb18030_code (V.indexes tables.now).flat.gb18030
-        (V.indexes tables.now).flat.ranges (V.indexes tables.now).flat.gb18030_pua c
-        ≡ Some (pair.0 ∷ pair.1 ∷ [])) }
-    ensures gbk { IfSome result (λ pair. gbk_code (V.indexes tables.now).flat.gb18030
-        (V.indexes tables.now).flat.gb18030_pua c ≡ Some (pair.0 ∷ pair.1 ∷ [])) }
-{
-    if is_private_use(c) || c == '\u{20AC}' {
-        return None;
-    }
-    pair_of(tables, c)
-}
-
 /// A lead and a digit, the lead in the low byte, of a number of both.
 // By one quotient: the digit is what is left of ten times it.
 #[inline(always)]
@@ -133,26 +120,31 @@ fn range_bytes_of<V: EncoderTables>(tables: &V, c: char) -> Option<(u8, u8, u8, 
     }
 }
 
-/// The four bytes of a common scalar in GB18030, if it has them and no lead and trail.
+/// The same, where the guess is the place of the last range.
 #[inline(always)]
-#[tactic(auto, unfolding(legacy_base::specs::Gb18030::gb18030_code))]
-fn common_four_of<V: EncoderTables>(tables: &V, c: char) -> Option<(u8, u8, u8, u8)>
-    requires { 0x80 ≤ c }
-    ensures { IfSome result (λ four. gb18030_code (V.indexes tables.now).flat.gb18030
-        (V.indexes tables.now).flat.ranges (V.indexes tables.now).flat.gb18030_pua c
-        ≡ Some (four.0 ∷ four.1 ∷ four.2 ∷ four.3 ∷ [])) }
+fn near_range_bytes_of<V: EncoderTables>(
+    tables: &V,
+    guess: &Cell<usize>,
+    c: char,
+) -> Option<(u8, u8, u8, u8)>
+    ensures { option_map (λ four. four.0 ∷ four.1 ∷ four.2 ∷ four.3 ∷ []) result
+        ≡ option_map gb18030_range_bytes (range_pointer_of (V.indexes tables.now).flat.ranges c) }
 {
-    if is_private_use(c) || pair_of(tables, c).is_some() {
-        return None;
+    match tables.range_pointer_near(guess, c) {
+        Some(pointer) => Some(range_bytes(pointer)),
+        None => None,
     }
-    range_bytes_of(tables, c)
 }
 
 /// The four bytes of a common scalar that has no lead and trail in GB18030, if it has them: the index of these is not
-/// asked.
+/// asked. The guess is the place of the last range.
 #[inline(always)]
 #[tactic(auto, unfolding(legacy_base::specs::Gb18030::gb18030_code))]
-fn four_past_pairs_of<V: EncoderTables>(tables: &V, c: char) -> Option<(u8, u8, u8, u8)>
+fn four_past_pairs_of<V: EncoderTables>(
+    tables: &V,
+    guess: &Cell<usize>,
+    c: char,
+) -> Option<(u8, u8, u8, u8)>
     requires past { 0x80 ≤ c }
     requires none { (lead trail : ℕ) → gb18030_code (V.indexes tables.now).flat.gb18030
         (V.indexes tables.now).flat.ranges (V.indexes tables.now).flat.gb18030_pua c
@@ -164,7 +156,7 @@ fn four_past_pairs_of<V: EncoderTables>(tables: &V, c: char) -> Option<(u8, u8, 
     if is_private_use(c) || tables.gb18030_pua_bytes(c).is_some() {
         return None;
     }
-    range_bytes_of(tables, c)
+    near_range_bytes_of(tables, guess, c)
 }
 
 /// The four bytes of a scalar past ASCII, or the scalar as unmappable.
@@ -290,24 +282,43 @@ impl PlainEncoder for Gb18030Encoder<'_> {
     fn read_codes<S: Source>(&self, src: &mut S, dst: &mut [u8], start: usize) -> usize {
         match self.tables.kept() {
             KeptTables::Flat(tables) => {
-                read_by::<FlatTables<'_>, S, false>(tables, self.extended_range, src, dst, start)
+                read_by::<FlatTables<'_>, S>(tables, self.extended_range, src, dst, start)
             }
             KeptTables::Packed(tables) => {
-                read_by::<PackedTables<'_>, S, true>(tables, self.extended_range, src, dst, start)
+                read_by::<PackedTables<'_>, S>(tables, self.extended_range, src, dst, start)
             }
         }
     }
 }
 
-/// The codes of GB18030 or of GBK, by the tables as they are kept. Pairs come first where a pointer is no
-/// search: a scalar of four bytes is looked for a second time behind it.
+/// The codes of GB18030 or of GBK by the tables as they are kept, alone or beside a list of the pairs. The place of the range
+/// that was used last is a guess for the next form of four bytes.
 #[derive(Drop)]
-struct Gb18030Codes<'a, V: EncoderTables, const EXTENDED: bool, const PAIRS_FIRST: bool> {
+struct Gb18030Codes<'a, V: EncoderTables, const EXTENDED: bool, const LISTED: bool> {
     tables: &'a V,
+    guess: Cell<usize>,
 }
 
-impl<V: EncoderTables, const EXTENDED: bool, const PAIRS_FIRST: bool> PlainCodes
-    for Gb18030Codes<'_, V, EXTENDED, PAIRS_FIRST> {
+impl<'a, V: EncoderTables, const EXTENDED: bool, const LISTED: bool> Gb18030Codes<
+    'a,
+    V,
+    EXTENDED,
+    LISTED,
+> {
+    /// The codes by these tables.
+    #[inline(always)]
+    fn new(tables: &'a V) -> Gb18030Codes<'a, V, EXTENDED, LISTED>
+        ensures { result.tables.now ≡ tables.now }
+    {
+        Gb18030Codes {
+            tables,
+            guess: Cell::new(0),
+        }
+    }
+}
+
+impl<V: EncoderTables, const EXTENDED: bool, const LISTED: bool> PlainCodes
+    for Gb18030Codes<'_, V, EXTENDED, LISTED> {
     ghost codec = { λ e. gb18030_codec (V.indexes e.tables.now).flat EXTENDED };
 
     ghost past = { 4 };
@@ -324,34 +335,17 @@ impl<V: EncoderTables, const EXTENDED: bool, const PAIRS_FIRST: bool> PlainCodes
         any_code_of(self.tables, EXTENDED, c)
     }
 
-    // Where pairs come first, forms of four bytes come behind them, and what is left is rare.
+    // With a list, `four_past_pairs` has the forms of four bytes, and what is left is rare.
     #[inline(always)]
     fn goes_past_pairs(&self) -> bool {
-        !PAIRS_FIRST
-    }
-
-    #[inline(always)]
-    fn pair_of(&self, c: char) -> Option<(u8, u8)> {
-        if !PAIRS_FIRST {
-            return None;
-        }
-        common_pair_of(self.tables, c)
-    }
-
-    // Whoever asks has asked for the pair before, so the compiler leaves that out here.
-    #[inline(always)]
-    fn four_of(&self, c: char) -> Option<(u8, u8, u8, u8)> {
-        if !EXTENDED || !PAIRS_FIRST {
-            return None;
-        }
-        common_four_of(self.tables, c)
+        !LISTED
     }
 }
 
 /// Reads ahead in GB18030 or in GBK, by the tables as they are kept. Answers where the bytes end.
 // Neither loop has anything of the other: four bytes beside two would be told apart at each character.
 #[inline(always)]
-fn read_by<V: EncoderTables, S: Source, const PAIRS_FIRST: bool>(
+fn read_by<V: EncoderTables, S: Source>(
     tables: &V,
     extended_range: bool,
     src: &mut S,
@@ -369,14 +363,14 @@ fn read_by<V: EncoderTables, S: Source, const PAIRS_FIRST: bool>(
 {
     if extended_range {
         read_runs(
-            &Gb18030Codes::<V, true, PAIRS_FIRST> { tables },
+            &Gb18030Codes::<V, true, false>::new(tables),
             src,
             dst,
             start,
         )
     } else {
         read_runs(
-            &Gb18030Codes::<V, false, PAIRS_FIRST> { tables },
+            &Gb18030Codes::<V, false, false>::new(tables),
             src,
             dst,
             start,
@@ -386,8 +380,8 @@ fn read_by<V: EncoderTables, S: Source, const PAIRS_FIRST: bool>(
 
 impl PastPairs for Gb18030Encoder<'_> {}
 
-impl<V: EncoderTables, const EXTENDED: bool, const PAIRS_FIRST: bool> PastPairs
-    for Gb18030Codes<'_, V, EXTENDED, PAIRS_FIRST> {
+impl<V: EncoderTables, const EXTENDED: bool, const LISTED: bool> PastPairs
+    for Gb18030Codes<'_, V, EXTENDED, LISTED> {
     #[inline(always)]
     fn code_past_pairs(&self, c: char) -> EncoderMove {
         if EXTENDED {
@@ -402,7 +396,7 @@ impl<V: EncoderTables, const EXTENDED: bool, const PAIRS_FIRST: bool> PastPairs
         if !EXTENDED {
             return None;
         }
-        four_past_pairs_of(self.tables, c)
+        four_past_pairs_of(self.tables, &self.guess, c)
     }
 }
 
@@ -425,7 +419,7 @@ fn read_listed_by<V: EncoderTables, S: Source>(
     ensures passed { S.passed src.new + total_unit_count S.form (S.left src.new)
         ≡ S.passed src.old + total_unit_count S.form (S.left src.old) }
 {
-    let codes = Gb18030Codes::<V, true, true> { tables };
+    let codes = Gb18030Codes::<V, true, true>::new(tables);
     read_runs(&WithPairs::new(&codes, pairs), src, dst, start)
 }
 
@@ -433,6 +427,15 @@ impl EncodesPairs for Gb18030Encoder<'_> {
     ghost use Rattle.std.proofs.Common.{refl};
 
     ghost same = { λ e. refl };
+
+    fn fill_pairs(&self, pairs: &mut [u16]) {
+        self.tables
+            .fill(PackedPart::Gb18030Order, &Gb18030Marks, pairs);
+        ask_pairs(self, pairs, 0, 0x80);
+        ask_pairs(self, pairs, 0x20AC, 0x20AD);
+        ask_pairs(self, pairs, 0xE5E5, 0xE5E6);
+        ask_rows(self, self.tables.gb18030_rows(), pairs);
+    }
 
     // The forms of four bytes are made by the tables as they are kept. GBK has none.
     #[inline]

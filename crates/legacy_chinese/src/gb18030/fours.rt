@@ -11,11 +11,13 @@ use super::four_places::four_pointer;
 use legacy_base::{DecoderTables, Destination};
 use legacy_decoder_engine::common_forms::{CommonBlocks, CommonForm, CommonForms, begins_rare};
 use legacy_decoder_engine::runs::{Blocks, Forms, read_blocks, read_run};
+use std::cell::Cell;
 
-/// The scalar of four bytes, if they are a form that has one.
+/// The scalar of four bytes, if they are a form that has one. The guess is the place of the last range.
 #[inline]
 fn four_scalar<V: DecoderTables>(
     tables: &V,
+    guess: &Cell<usize>,
     first: u8,
     second: u8,
     third: u8,
@@ -25,13 +27,14 @@ fn four_scalar<V: DecoderTables>(
         IfSome result (λ c. Runs (gb18030 flat.gb18030 flat.ranges)
         (first ∷ second ∷ third ∷ fourth ∷ []) (c ∷ [])) }
 {
-    tables.range(four_pointer(first, second, third, fourth))
+    tables.range_near(guess, four_pointer(first, second, third, fourth))
 }
 
 /// Forms of four bytes, and ASCII bytes.
 #[derive(Drop)]
 struct FourByteForms<'a, V: DecoderTables> {
     tables: &'a V,
+    guess: &'a Cell<usize>,
 }
 
 impl<V: DecoderTables> Forms for FourByteForms<'_, V> {
@@ -64,7 +67,14 @@ impl<V: DecoderTables> Forms for FourByteForms<'_, V> {
                     return at;
                 }
             } else {
-                match four_scalar(self.tables, byte, next, src[at + 2], src[at + 3]) {
+                match four_scalar(
+                    self.tables,
+                    self.guess,
+                    byte,
+                    next,
+                    src[at + 2],
+                    src[at + 3],
+                ) {
                     Some(scalar) => dst.put(scalar),
                     None => return at,
                 }
@@ -76,10 +86,12 @@ impl<V: DecoderTables> Forms for FourByteForms<'_, V> {
     }
 }
 
-/// The blocks of GB18030 by its tables as they are kept, where nothing is held back.
+/// The blocks of GB18030 by its tables as they are kept, where nothing is held back. The place of the range that was used
+/// last is a guess for the next form of four bytes.
 #[derive(Drop)]
 pub(super) struct Gb18030Blocks<'a, V: DecoderTables> {
     pub(super) tables: &'a V,
+    pub(super) guess: Cell<usize>,
 }
 
 impl<V: DecoderTables> CommonForms for Gb18030Blocks<'_, V> {
@@ -119,6 +131,7 @@ impl<V: DecoderTables> Blocks for Gb18030Blocks<'_, V> {
         let read = read_run(
             &FourByteForms {
                 tables: self.tables,
+                guess: &self.guess,
             },
             &src[at..],
             dst,

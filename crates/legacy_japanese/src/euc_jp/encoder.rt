@@ -3,12 +3,14 @@ ghost use Rattle.std.specs.Prelude.{◌≡◌, [], ◌∷◌, option_map};
 ghost use Rattle.legacy_tables.specs.Pointers.{euc_jp_pointer_of, minus_as_hyphen};
 ghost use Rattle.legacy_base.specs.EucJp.{euc_jp_bytes};
 ghost use Rattle.legacy_base.specs.Encoders.{euc_jp};
-ghost use Rattle.legacy_japanese.specs.EucJpCodes.{euc_jp_pairs};
+ghost use Rattle.legacy_japanese.specs.EucJpCodes.{euc_jp_pairs, euc_jp_mark, euc_jp_mark-some};
 
+use crate::asked_scalars::ask_others;
 use crate::folds::{is_by_index, minus_as_hyphen};
 use legacy_base::EncoderTables;
 use legacy_encoder_engine::moves::EncoderMove;
-use legacy_encoder_engine::pairs::{PairCodec, PairEncoder};
+use legacy_encoder_engine::pairs::{FillsPairs, PairCodec, PairCodes, PairEncoder};
+use legacy_tables::{Marks, PackedPart};
 
 /// The codec of EUC-JP.
 pub struct EucJp;
@@ -31,6 +33,20 @@ fn pair<V: EncoderTables>(tables: &V, c: char) -> Option<(u8, u8)>
         Some(p) => Some(((p / 94 + 0xA1) as u8, (p % 94 + 0xA1) as u8)),
         None => None,
     }
+}
+
+/// The lead and the trail of a pointer as one number.
+struct EucJpMarks;
+
+impl Marks for EucJpMarks {
+    ghost mark = { euc_jp_mark };
+
+    #[inline(always)]
+    fn mark(&self, pointer: usize) -> u16 {
+        (pointer / 94 + 0xA1) as u16 + 256 * (pointer % 94 + 0xA1) as u16
+    }
+
+    ghost some = { euc_jp_mark-some };
 }
 
 impl PairCodec for EucJp {
@@ -71,5 +87,12 @@ impl PairCodec for EucJp {
             return None;
         }
         pair(tables, c)
+    }
+}
+
+impl FillsPairs for EucJp {
+    fn fill<V: EncoderTables>(tables: &V, entries: &mut [u16]) {
+        tables.fill(PackedPart::EucJpOrder, &EucJpMarks, entries);
+        ask_others(&PairCodes::<EucJp, V>::new(tables), entries);
     }
 }

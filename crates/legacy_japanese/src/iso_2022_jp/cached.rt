@@ -1,20 +1,23 @@
-//! The encoder of ISO-2022-JP that looks no pair up: those of all scalars below U+10000 are looked up once, ahead, and
-//! kept in room that the user lends.
-ghost use Rattle.std.specs.Prelude.{◌≡◌, ◌≢◌, ◌+◌, ◌<◌, ◌≤◌, length, take, true, MatchOption};
+//! The encoder of ISO-2022-JP that looks no pair up: those of all scalars below U+10000 are listed once, ahead, in room
+//! that the user lends.
+ghost use Rattle.std.specs.Prelude.{◌≡◌, ◌≢◌, ℕ, ◌+◌, ◌<◌, ◌≤◌, Bool, length, take, true};
+ghost use Rattle.std.specs.Prelude.{MatchOption};
 ghost use Rattle.legacy_text.specs.EncodingForm.{total_unit_count};
 ghost use Rattle.legacy_base.specs.Encoders.{iso_2022_jp, is_pending};
-ghost use Rattle.legacy_encoder_engine.specs.CachedPairs.{IsPairEntry};
+ghost use Rattle.legacy_encoder_engine.specs.CachedPairs.{IsPairEntry, or_between};
 ghost use Rattle.legacy_encoder_engine.specs.UnderWay.{KeepsOn};
 ghost use Rattle.legacy_encoder_engine.specs.UnitTurns.{PutsUnits};
 ghost use Rattle.legacy_japanese.specs.Iso2022JpEncoder.{Asks, iso_2022_jp_encoder_state, pairs_state};
-ghost use Rattle.legacy_japanese.specs.Iso2022JpPairs.{IsPairOf, ListsPairs};
+ghost use Rattle.legacy_japanese.specs.Iso2022JpPairs.{AreListedWhere, IsListedEntry, IsPairOf, ListsPairs};
+ghost use Rattle.legacy_japanese.specs.Iso2022JpPairs.{iso_2022_jp_mark, iso_2022_jp_mark-some};
 
 use crate::iso_2022_jp::encoder::{Iso2022JpEncoder, Mode, asked};
 use crate::iso_2022_jp::pairs::{Pairs, read_pairs};
-use legacy_base::{EncoderResult, RawEncoder, Source, Tables};
+use legacy_base::{EncoderResult, EncoderTables, PackedPart, RawEncoder, Source, Tables};
 use legacy_encoder_engine::cached::PAIR_ROOM;
 use legacy_encoder_engine::drive::{drive_encoder, put_two};
 use legacy_encoder_engine::moves::{EncoderMove, EncoderMoves};
+use legacy_tables::Marks;
 
 /// The entry of a scalar: the lead of its pair in the low byte and the trail in the high one, and 0 where it has none.
 fn pair_entry(tables: &Tables, c: char) -> u16
@@ -30,18 +33,59 @@ fn pair_entry(tables: &Tables, c: char) -> u16
     }
 }
 
-/// Looks the pairs of all scalars below U+10000 up.
+/// The entry of a number: that of the scalar, and 0 if it is none.
+fn entry_of(tables: &Tables, code: u32) -> u16
+    ensures { IsListedEntry tables.now.flat.jis0208 tables.now.flat.katakana code result }
+{
+    match char::from_u32(code) {
+        Some(c) => pair_entry(tables, c),
+        None => 0,
+    }
+}
+
+/// Looks up the pairs of the scalars from `first` up to `end`, and writes their entries.
+fn list_between(tables: &Tables, pairs: &mut [u16], first: u32, end: u32)
+    requires all { length pairs.old ≡ 65536 }
+    requires rising { first ≤ end }
+    requires within { end ≤ 65536 }
+    ensures { (done : ℕ → Bool) →
+        AreListedWhere tables.now.flat.jis0208 tables.now.flat.katakana done pairs.old →
+        AreListedWhere tables.now.flat.jis0208 tables.now.flat.katakana
+        (or_between done first end) pairs.new }
+{
+    let mut code = first;
+    while code < end {
+        pairs[code as usize] = entry_of(tables, code);
+        code += 1;
+    }
+}
+
+/// The lead and the trail of a pointer as one number.
+struct Iso2022JpMarks;
+
+impl Marks for Iso2022JpMarks {
+    ghost mark = { iso_2022_jp_mark };
+
+    #[inline(always)]
+    fn mark(&self, pointer: usize) -> u16 {
+        (pointer / 94 + 0x21) as u16 + 256 * (pointer % 94 + 0x21) as u16
+    }
+
+    ghost some = { iso_2022_jp_mark-some };
+}
+
+/// Lists the pairs of all scalars below U+10000: by a walk over index jis0208, and by single look-ups of the scalars that
+/// have another pair than their pointer's.
 fn list_pairs(tables: &Tables, pairs: &mut [u16])
     requires { length pairs.old ≡ 65536 }
     ensures { ListsPairs tables.now.flat.jis0208 tables.now.flat.katakana pairs.new }
 {
-    for code in 0..0x1_0000u32 {
-        let entry = match char::from_u32(code) {
-            Some(c) => pair_entry(tables, c),
-            None => 0,
-        };
-        pairs[code as usize] = entry;
-    }
+    tables.fill(PackedPart::EucJpOrder, &Iso2022JpMarks, pairs);
+    list_between(tables, pairs, 0, 0x81);
+    list_between(tables, pairs, 0xA5, 0xA6);
+    list_between(tables, pairs, 0x203E, 0x203F);
+    list_between(tables, pairs, 0x2212, 0x2213);
+    list_between(tables, pairs, 0xFF61, 0xFFA0);
 }
 
 /// The pairs by these tables, in a list.
@@ -179,8 +223,8 @@ impl Pairs for ListedPairs<'_, '_> {
 /// The encoder of ISO-2022-JP that looks no pair up: it writes what `Iso2022JpEncoder` does, and the pairs of all scalars
 /// below U+10000 stand in room that the user lends.
 ///
-/// To be made it looks each of them up once, which over packed tables takes about a millisecond. Then a pair is one
-/// load, whatever tables the other encoder has. It has a mode of its own, which changes as that of the other one does:
+/// To be made it walks once over index jis0208, flat or packed. Then a pair is one load, whatever tables the other
+/// encoder has. It has a mode of its own, which changes as that of the other one does:
 /// behind the last call of a text it is ASCII again, so one after another any number of texts are encoded by it. Copies
 /// of it, each with its mode, encode texts beside each other.
 #[derive(Clone, Copy)]

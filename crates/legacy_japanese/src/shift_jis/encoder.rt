@@ -3,13 +3,16 @@ ghost use Rattle.std.specs.Prelude.{◌≡◌, [], ◌∷◌, option_map};
 ghost use Rattle.legacy_tables.specs.Pointers.{shift_jis_pointer_of, minus_as_hyphen};
 ghost use Rattle.legacy_base.specs.ShiftJis.{shift_jis_bytes};
 ghost use Rattle.legacy_base.specs.Encoders.{shift_jis};
-ghost use Rattle.legacy_japanese.specs.ShiftJisCodes.{shift_jis_pairs};
+ghost use Rattle.legacy_japanese.specs.ShiftJisCodes.{shift_jis_pairs, shift_jis_mark};
+ghost use Rattle.legacy_japanese.specs.ShiftJisCodes.{shift_jis_mark-some};
 
 use super::decoder::ShiftJis;
+use crate::asked_scalars::ask_others;
 use crate::folds::{is_by_index, minus_as_hyphen};
 use legacy_base::EncoderTables;
 use legacy_encoder_engine::moves::EncoderMove;
-use legacy_encoder_engine::pairs::{PairCodec, PairEncoder};
+use legacy_encoder_engine::pairs::{FillsPairs, PairCodec, PairCodes, PairEncoder};
+use legacy_tables::{Marks, PackedPart};
 
 /// The encoder of Shift_JIS (Encoding Standard, "Shift_JIS encoder").
 ///
@@ -33,6 +36,22 @@ fn pair<V: EncoderTables>(tables: &V, c: char) -> Option<(u8, u8)>
         }
         None => None,
     }
+}
+
+/// The lead and the trail of a pointer as one number.
+struct ShiftJisMarks;
+
+impl Marks for ShiftJisMarks {
+    ghost mark = { shift_jis_mark };
+
+    #[inline(always)]
+    fn mark(&self, pointer: usize) -> u16 {
+        let first = if pointer / 188 < 0x1F { 0x81 } else { 0xC1 };
+        let second = if pointer % 188 < 0x3F { 0x40 } else { 0x41 };
+        (pointer / 188 + first) as u16 + 256 * (pointer % 188 + second) as u16
+    }
+
+    ghost some = { shift_jis_mark-some };
 }
 
 impl PairCodec for ShiftJis {
@@ -75,5 +94,12 @@ impl PairCodec for ShiftJis {
             return None;
         }
         pair(tables, c)
+    }
+}
+
+impl FillsPairs for ShiftJis {
+    fn fill<V: EncoderTables>(tables: &V, entries: &mut [u16]) {
+        tables.fill(PackedPart::ShiftJisOrder, &ShiftJisMarks, entries);
+        ask_others(&PairCodes::<ShiftJis, V>::new(tables), entries);
     }
 }

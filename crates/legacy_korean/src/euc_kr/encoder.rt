@@ -3,12 +3,14 @@ ghost use Rattle.std.specs.Prelude.{◌≡◌, [], ◌∷◌, option_map};
 ghost use Rattle.legacy_base.specs.EucKr.{euc_kr_bytes};
 ghost use Rattle.legacy_base.specs.Encoders.{euc_kr};
 ghost use Rattle.legacy_tables.specs.Pointers.{euc_kr_pointer_of};
-ghost use Rattle.legacy_korean.specs.EucKrCodes.{euc_kr_pairs};
+ghost use Rattle.legacy_korean.specs.EucKrCodes.{euc_kr_pairs, euc_kr_mark, euc_kr_mark-some};
 
 use super::decoder::EucKr;
 use legacy_base::EncoderTables;
+use legacy_encoder_engine::asked_pairs::ask_pairs;
 use legacy_encoder_engine::moves::EncoderMove;
-use legacy_encoder_engine::pairs::{PairCodec, PairEncoder};
+use legacy_encoder_engine::pairs::{FillsPairs, PairCodec, PairCodes, PairEncoder};
+use legacy_tables::{Marks, PackedPart};
 
 /// The encoder of EUC-KR (Encoding Standard, "EUC-KR encoder").
 ///
@@ -26,6 +28,20 @@ fn pair<V: EncoderTables>(tables: &V, c: char) -> Option<(u8, u8)>
         Some(p) => Some(((p / 190 + 0x81) as u8, (p % 190 + 0x41) as u8)),
         None => None,
     }
+}
+
+/// The lead and the trail of a pointer as one number.
+struct EucKrMarks;
+
+impl Marks for EucKrMarks {
+    ghost mark = { euc_kr_mark };
+
+    #[inline(always)]
+    fn mark(&self, pointer: usize) -> u16 {
+        (pointer / 190 + 0x81) as u16 + 256 * (pointer % 190 + 0x41) as u16
+    }
+
+    ghost some = { euc_kr_mark-some };
 }
 
 impl PairCodec for EucKr {
@@ -50,5 +66,12 @@ impl PairCodec for EucKr {
     #[tactic(auto, unfolding(legacy_base::specs::EucKr::euc_kr_code))]
     fn pair_of<V: EncoderTables>(tables: &V, c: char) -> Option<(u8, u8)> {
         pair(tables, c)
+    }
+}
+
+impl FillsPairs for EucKr {
+    fn fill<V: EncoderTables>(tables: &V, entries: &mut [u16]) {
+        tables.fill(PackedPart::EucKrOrder, &EucKrMarks, entries);
+        ask_pairs(&PairCodes::<EucKr, V>::new(tables), entries, 0, 0x80);
     }
 }

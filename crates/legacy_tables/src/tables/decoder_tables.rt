@@ -5,6 +5,7 @@ ghost use Rattle.legacy_tables.specs.Indexes.{idx, range};
 ghost use Rattle.legacy_tables.specs.Tables.{index_list};
 
 use super::IndexName;
+use std::cell::Cell;
 
 /// What a decoder looks up in tables, however they are kept. What runs for each form is generic
 /// over this: which way they are kept is then asked once a run, and not at each look-up.
@@ -22,5 +23,10 @@ pub trait DecoderTables {
     /// "index gb18030 ranges code point"): 7457 gives U+E7C7, 189000 to 1237575 give U+10000 to
     /// U+10FFFF, pointers up to 39419 go by the last range that starts at or before them.
     fn range(&self, pointer: usize) -> Option<char>
+        ensures { result ≡ range (indexes self.now).flat.ranges pointer };
+
+    /// Returns what `range` does. It tries the range at the guessed place before it searches, and
+    /// sets the guess to the place where it found the pointer. The guess may be any number.
+    fn range_near(&self, guess: &Cell<usize>, pointer: usize) -> Option<char>
         ensures { result ≡ range (indexes self.now).flat.ranges pointer };
 }

@@ -5,8 +5,10 @@ ghost use Rattle.legacy_tables.specs.Indexes.{gb18030_pua_of};
 ghost use Rattle.legacy_tables.specs.Pointers.{big5_pointer_of, euc_kr_pointer_of};
 ghost use Rattle.legacy_tables.specs.Pointers.{shift_jis_pointer_of, euc_jp_pointer_of};
 ghost use Rattle.legacy_tables.specs.Pointers.{gb18030_pointer_of, range_pointer_of};
+ghost use Rattle.legacy_tables.specs.Walks.{IsFilled, order_index};
 
-use super::DecoderTables;
+use super::{DecoderTables, Marks, PackedPart};
+use std::cell::Cell;
 
 /// What an encoder looks up in tables, however they are kept: pointers of scalars, and what a
 /// decoder looks up. What runs for each character is generic over this: which way they are kept is
@@ -54,8 +56,26 @@ pub trait EncoderTables: DecoderTables {
         ensures pointer { result ≡ range_pointer_of (Self.indexes self.now).flat.ranges scalar }
         ensures within { IfSome result (λ p. p < 1237576) };
 
+    /// Returns what `range_pointer` does. It tries the range at the guessed place before it
+    /// searches, and sets the guess to the place where it found the scalar. The guess may be any
+    /// number.
+    fn range_pointer_near(&self, guess: &Cell<usize>, scalar: char) -> Option<usize>
+        ensures pointer { result ≡ range_pointer_of (Self.indexes self.now).flat.ranges scalar }
+        ensures within { IfSome result (λ p. p < 1237576) };
+
     /// The lead and the trail that a private-use row gives the scalar value, or `None` where no row
     /// has it (Encoding Standard, "gb18030 encoder").
     fn gb18030_pua_bytes(&self, scalar: char) -> Option<(u8, u8)>
         ensures { result ≡ gb18030_pua_of (Self.indexes self.now).flat.gb18030_pua scalar };
+
+    /// The private-use rows of GB18030's encoder: a scalar value, a lead and a trail each.
+    fn gb18030_rows(&self) -> &[(u16, u8, u8)]
+        ensures { result.now ≡ (Self.indexes self.now).flat.gb18030_pua };
+
+    /// Fills a list with an entry for each scalar value: with the mark of the pointer that the codec
+    /// of an order takes for the scalar value, or with 0 if it takes none. This is one walk over the
+    /// index. A part that is no order is as the order of a codec that takes the first pointer of its
+    /// index.
+    fn fill<M: Marks>(&self, part: PackedPart, marks: &M, entries: &mut [u16])
+        ensures { IsFilled part M.mark (order_index (Self.indexes self.now).flat part) entries.new };
 }

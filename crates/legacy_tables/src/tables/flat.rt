@@ -1,13 +1,18 @@
 //! Tables that are kept as flat indexes.
 ghost use Rattle.std.specs.Prelude.{◌≡◌, MatchResult, Some};
 ghost use Rattle.legacy_tables.specs.AcceptedTables.{flat_lists};
-ghost use Rattle.legacy_tables.specs.PagePointers.{ArePagePointers};
 ghost use Rattle.legacy_tables.specs.TableChecks.{AreAccepted};
 
 use super::checks::check_indexes;
-use super::page_pointers::PagePointers;
+use super::numbers::{Narrow, Wide};
 use super::private_use::row_bytes;
-use super::{DecoderTables, EncoderTables, IndexName, Indexes, TableError, lookups, pointers};
+use super::unpacking::{copy_narrow, copy_wide};
+use super::walks::walk;
+use super::{
+    DecoderTables, EncoderTables, IndexName, Indexes, Marks, PackedPart, TableError, lookups,
+    pointers,
+};
+use std::cell::Cell;
 use std::marker::Model;
 
 /// Indexes that passed the check, kept as they were handed in. They are seen as these flat lists.
@@ -21,12 +26,8 @@ pub struct FlatTables<'a> {
     katakana: &'a [u16],
     ranges: &'a [(u16, u16)],
     gb18030_pua: &'a [(u16, u8, u8)],
-    likely_places: [u8; 154],
-    likely_ranges: [u8; 256],
-    page_pointers: PagePointers,
     ghost accepted: { AreAccepted (flat_lists big5.now euc_kr.now jis0208.now jis0212.now
         gb18030.now katakana.now ranges.now gb18030_pua.now) },
-    ghost paged: { ArePagePointers ranges.now page_pointers.firsts },
 }
 
 impl<'a> Model for FlatTables<'a> {
@@ -45,7 +46,8 @@ impl<'a> Model for FlatTables<'a> {
 
 impl<'a> FlatTables<'a> {
     ghost use Rattle.legacy_tables.specs.TableChecks.{table_fault};
-    ghost use Rattle.legacy_tables.specs.Tables.{flat_indexes};
+    ghost use Rattle.legacy_tables.specs.Tables.{flat_indexes, index_list, is_narrow_index};
+    ghost use Rattle.std.specs.Prelude.{◌<◌, length, true, MatchOption};
 
     /// The tables of the indexes, or the first fault. The indexes are checked in the order of the
     /// fields: the length first, then the entries by rising pointers; of the ranges the order
@@ -67,10 +69,35 @@ impl<'a> FlatTables<'a> {
             katakana: indexes.katakana,
             ranges: indexes.ranges,
             gb18030_pua: indexes.gb18030_pua,
-            likely_places: lookups::likely_places(indexes.ranges),
-            likely_ranges: pointers::likely_ranges(indexes.ranges),
-            page_pointers: PagePointers::new(indexes.ranges),
         })
+    }
+
+    /// Index Big5 at the start of the room, or `None` exactly where the room is too short.
+    pub(super) fn unpack_big5<'b>(&self, room: &'b mut [u32]) -> Option<&'b [u32]>
+        ensures { MatchOption result (length room.old < length self.now.flat.big5)
+            (λ flat. flat.now ≡ self.now.flat.big5) }
+    {
+        copy_wide(self.big5, room)
+    }
+
+    /// An index of narrow entries at the start of the room, or `None` exactly where the room is too
+    /// short.
+    pub(super) fn unpack_narrow<'b>(
+        &self,
+        name: IndexName,
+        room: &'b mut [u16],
+    ) -> Option<&'b [u16]>
+        requires { is_narrow_index name ≡ true }
+        ensures { MatchOption result (length room.old < length (index_list self.now.flat name))
+            (λ flat. flat.now ≡ index_list self.now.flat name) }
+    {
+        match name {
+            IndexName::EucKr => copy_narrow(self.euc_kr, room),
+            IndexName::Jis0208 => copy_narrow(self.jis0208, room),
+            IndexName::Jis0212 => copy_narrow(self.jis0212, room),
+            IndexName::Gb18030 => copy_narrow(self.gb18030, room),
+            _ => None,
+        }
     }
 }
 
@@ -91,7 +118,12 @@ impl<'a> DecoderTables for FlatTables<'a> {
     }
 
     fn range(&self, pointer: usize) -> Option<char> {
-        lookups::range_scalar(self.ranges, &self.likely_places, pointer)
+        lookups::range_scalar(self.ranges, pointer)
+    }
+
+    #[inline(always)]
+    fn range_near(&self, guess: &Cell<usize>, pointer: usize) -> Option<char> {
+        lookups::range_scalar_near(self.ranges, guess, pointer)
     }
 }
 
@@ -124,16 +156,69 @@ impl<'a> EncoderTables for FlatTables<'a> {
 
     #[inline]
     fn range_pointer(&self, scalar: char) -> Option<usize> {
-        pointers::range_pointer(
-            self.ranges,
-            &self.likely_ranges,
-            &self.page_pointers,
-            scalar,
-        )
+        pointers::range_pointer(self.ranges, scalar)
+    }
+
+    #[inline(always)]
+    fn range_pointer_near(&self, guess: &Cell<usize>, scalar: char) -> Option<usize> {
+        pointers::range_pointer_near(self.ranges, guess, scalar)
     }
 
     #[inline]
     fn gb18030_pua_bytes(&self, scalar: char) -> Option<(u8, u8)> {
         row_bytes(self.gb18030_pua, scalar)
+    }
+
+    #[inline]
+    fn gb18030_rows(&self) -> &[(u16, u8, u8)] {
+        self.gb18030_pua
+    }
+
+    // Inlined, so that a walk has no part of another codec.
+    #[inline(always)]
+    fn fill<M: Marks>(&self, part: PackedPart, marks: &M, entries: &mut [u16]) {
+        match part {
+            PackedPart::Big5 | PackedPart::Big5Order => {
+                walk(part, marks, &Wide { entries: self.big5 }, entries)
+            }
+            PackedPart::EucKr | PackedPart::EucKrOrder => {
+                walk(
+                    part,
+                    marks,
+                    &Narrow {
+                        entries: self.euc_kr,
+                    },
+                    entries,
+                )
+            }
+            PackedPart::Jis0208 | PackedPart::ShiftJisOrder | PackedPart::EucJpOrder => {
+                walk(
+                    part,
+                    marks,
+                    &Narrow {
+                        entries: self.jis0208,
+                    },
+                    entries,
+                )
+            }
+            PackedPart::Jis0212 => walk(
+                part,
+                marks,
+                &Narrow {
+                    entries: self.jis0212,
+                },
+                entries,
+            ),
+            PackedPart::Gb18030 | PackedPart::Gb18030Order => {
+                walk(
+                    part,
+                    marks,
+                    &Narrow {
+                        entries: self.gb18030,
+                    },
+                    entries,
+                )
+            }
+        }
     }
 }

@@ -1,5 +1,5 @@
 //! Look-ups in checked indexes.
-ghost use Rattle.std.specs.Prelude.{◌≡◌, ℕ, ◌<◌, ◌≤◌, None, true, length};
+ghost use Rattle.std.specs.Prelude.{◌≡◌, ℕ, ◌<◌, ◌≤◌, Some, None, IfSome, length};
 ghost use Rattle.std.specs.Prelude.{slice_index, slice_index_or};
 ghost use Rattle.std.specs.Char.{IsScalar};
 ghost use Rattle.legacy_tables.specs.Unicode.{AreScalars};
@@ -7,7 +7,9 @@ ghost use Rattle.legacy_tables.specs.Indexes.{entry_scalar, idx, last_range_scal
 ghost use Rattle.legacy_tables.specs.TableChecks.{range_order_fault, range_value_fault};
 ghost use Rattle.legacy_tables.specs.Runs.{GiveNoZero, runs_list};
 
+use super::checks::end_of;
 use super::runs::Runs;
+use std::cell::Cell;
 
 /// The scalar of an entry, or `None` where it is 0.
 // No test of what the check of the tables has shown: it would be one more branch for each look-up.
@@ -93,68 +95,16 @@ fn started_count(ranges: &[(u16, u16)], pointer: usize) -> usize
     ranges.partition_point(|range| usize::from(range.0) <= pointer)
 }
 
-/// Whether the range at the place is the last that starts at or before a pointer.
-#[inline]
-fn is_last_started(ranges: &[(u16, u16)], place: usize, pointer: usize) -> bool
-    requires { range_order_fault 0 None ranges.now ≡ None }
-    ensures within { result ≡ true → place < length ranges.now }
-    ensures started { result ≡ true → (k : ℕ) → k ≤ place →
-        (slice_index_or ranges.now k (0, 0)).0 ≤ pointer }
-    ensures ahead { result ≡ true → (k : ℕ) → place < k → k < length ranges.now →
-        pointer < (slice_index_or ranges.now k (0, 0)).0 }
-{
-    if place >= ranges.len() || usize::from(ranges[place].0) > pointer {
-        return false;
-    }
-    place + 1 == ranges.len() || usize::from(ranges[place + 1].0) > pointer
-}
-
-/// How many of the ranges start at or before a pointer, of which the last is perhaps the one at the
-/// place.
-#[inline]
-fn started_count_near(ranges: &[(u16, u16)], place: usize, pointer: usize) -> usize
-    requires { range_order_fault 0 None ranges.now ≡ None }
-    ensures within { result ≤ length ranges.now }
-    ensures started { (k : ℕ) → k < result → (slice_index_or ranges.now k (0, 0)).0 ≤ pointer }
-    ensures ahead { (k : ℕ) → result ≤ k → k < length ranges.now →
-        pointer < (slice_index_or ranges.now k (0, 0)).0 }
-{
-    if is_last_started(ranges, place, pointer) {
-        place + 1
-    } else {
-        started_count(ranges, pointer)
-    }
-}
-
-/// For each 256 pointers of four bytes, the place of the last range that starts at or before the
-/// last of them. Most ranges that are in use are longer, and so it is found without a search.
-/// Nothing but time rests on it: each place is tried before it is taken.
-pub(super) fn likely_places(ranges: &[(u16, u16)]) -> [u8; 154]
-    requires { range_order_fault 0 None ranges.now ≡ None }
-    ensures { length result ≡ 154 }
-{
-    let mut places = [0u8; 154];
-    let mut block = 0;
-    while block < 154 {
-        let count = started_count(ranges, 256 * block + 255);
-        places[block] = count.saturating_sub(1).min(255) as u8;
-        block += 1;
-    }
-    places
-}
-
-/// The scalar of a pointer by the last range that starts at or before it, of which the places tell
-/// where it likely is.
+/// The scalar of a pointer by the last range that starts at or before it.
 // It is made as a number of 16 bits: then whoever writes it need not ask whether it is past U+FFFF.
 #[inline]
-fn last_range(ranges: &[(u16, u16)], places: &[u8; 154], pointer: usize) -> Option<char>
+fn last_range(ranges: &[(u16, u16)], pointer: usize) -> Option<char>
     requires reached { pointer ≤ 39419 }
     requires ordered { range_order_fault 0 None ranges.now ≡ None }
     requires valued { range_value_fault 0 ranges.now ≡ None }
     ensures { result ≡ last_range_scalar ranges.now pointer }
 {
-    let likely = usize::from(places[pointer / 256]);
-    let count = started_count_near(ranges, likely, pointer);
+    let count = started_count(ranges, pointer);
     if count == 0 {
         return None;
     }
@@ -166,11 +116,7 @@ fn last_range(ranges: &[(u16, u16)], places: &[u8; 154], pointer: usize) -> Opti
 /// The scalar of a pointer of four bytes.
 #[inline]
 #[tactic(auto, unfolding(crate::specs::Indexes::range))]
-pub(super) fn range_scalar(
-    ranges: &[(u16, u16)],
-    places: &[u8; 154],
-    pointer: usize,
-) -> Option<char>
+pub(super) fn range_scalar(ranges: &[(u16, u16)], pointer: usize) -> Option<char>
     requires ordered { range_order_fault 0 None ranges.now ≡ None }
     requires valued { range_value_fault 0 ranges.now ≡ None }
     ensures { result ≡ range ranges.now pointer }
@@ -179,10 +125,59 @@ pub(super) fn range_scalar(
         return Some('\u{E7C7}');
     }
     if pointer <= 39419 {
-        return last_range(ranges, places, pointer);
+        return last_range(ranges, pointer);
     }
     if pointer >= 189000 && pointer <= 1237575 {
         return char::from_u32(0x1_0000 + (pointer - 189000) as u32);
     }
     None
+}
+
+/// The scalar of a pointer of four bytes by the range at a place, or `None` if it is not that range's or has none.
+#[inline(always)]
+fn scalar_in_range(ranges: &[(u16, u16)], place: usize, pointer: usize) -> Option<char>
+    requires ordered { range_order_fault 0 None ranges.now ≡ None }
+    requires valued { range_value_fault 0 ranges.now ≡ None }
+    ensures { IfSome result (λ c. range ranges.now pointer ≡ Some c) }
+{
+    if place >= ranges.len() || pointer == 7457 {
+        return None;
+    }
+    let (first, scalar) = ranges[place];
+    if pointer < usize::from(first) || pointer >= usize::from(end_of(ranges, place)) {
+        return None;
+    }
+    let unit = scalar + (pointer - usize::from(first)) as u16;
+    Some(unsafe { char::from_u32_unchecked(u32::from(unit)) })
+}
+
+/// The scalar of a pointer of four bytes, whose range the guess may tell. The guess becomes that range.
+#[inline(always)]
+pub(super) fn range_scalar_near(
+    ranges: &[(u16, u16)],
+    guess: &Cell<usize>,
+    pointer: usize,
+) -> Option<char>
+    requires ordered { range_order_fault 0 None ranges.now ≡ None }
+    requires valued { range_value_fault 0 ranges.now ≡ None }
+    ensures { result ≡ range ranges.now pointer }
+{
+    match scalar_in_range(ranges, guess.get(), pointer) {
+        Some(scalar) => Some(scalar),
+        None => range_scalar_far(ranges, guess, pointer),
+    }
+}
+
+/// The same, where the guess does not tell.
+fn range_scalar_far(ranges: &[(u16, u16)], guess: &Cell<usize>, pointer: usize) -> Option<char>
+    requires ordered { range_order_fault 0 None ranges.now ≡ None }
+    requires valued { range_value_fault 0 ranges.now ≡ None }
+    ensures { result ≡ range ranges.now pointer }
+{
+    let place = started_count(ranges, pointer).saturating_sub(1);
+    guess.set(place);
+    match scalar_in_range(ranges, place, pointer) {
+        Some(scalar) => Some(scalar),
+        None => range_scalar(ranges, pointer),
+    }
 }

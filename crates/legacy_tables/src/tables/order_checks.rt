@@ -2,25 +2,24 @@
 ghost use Rattle.std.specs.Prelude.{◌≡◌, ◌≢◌, ℕ, ◌+◌, ◌≤◌, ◌<◌, List, length, slice_index};
 ghost use Rattle.std.specs.Prelude.{MatchResult, Some, None, true, false};
 ghost use Rattle.legacy_tables.specs.declared.tables.packed.PackedPart.{PackedPart};
-ghost use Rattle.legacy_tables.specs.Directories.{order_pointer};
 ghost use Rattle.legacy_tables.specs.Pointers.{is_big5_pointer, last_pointer};
 ghost use Rattle.legacy_tables.specs.Packed.{is_pointer_in_order, order_fault, is_lacking};
 ghost use Rattle.legacy_tables.specs.Packed.{order_difference, pointers_fault, pointer_of};
 ghost use Rattle.legacy_tables.specs.Packed.{all_orders_fault, may_use};
 ghost use Rattle.legacy_tables.specs.PackedTables.{AnswerPointersOf, AreLastPointers};
-ghost use Rattle.legacy_tables.specs.TableChecks.{table_fault};
 ghost use Rattle.legacy_tables.specs.Tables.{flat_indexes};
-ghost use Rattle.legacy_tables.specs.Orders.{HasNumbers, IsLookup, takes_last};
+ghost use Rattle.legacy_tables.specs.PointerSets.{HasOnly};
+ghost use Rattle.legacy_tables.specs.Orders.{IsLookup, IsOrder, RisesBy, order_pointer, takes_last};
 
-use super::directory::Numbers;
-use super::order::Order;
+use super::numbers::{Narrow, Numbers, Wide, number_at};
+use super::order::pointer_in_order;
 use super::packed::{Packed, PackedPart};
-use super::packed_checks::{Narrow, Wide, entry_at};
+use super::pointer_set::PointerSet;
 use super::pointers::takes_last;
 use super::{Indexes, TableError};
 
 /// Whether the codec of an order may use the pointer.
-fn is_usable(part: PackedPart, pointer: usize) -> bool
+pub(super) fn is_usable(part: PackedPart, pointer: usize) -> bool
     ensures { result ≡ may_use part pointer }
 {
     match part {
@@ -32,7 +31,7 @@ fn is_usable(part: PackedPart, pointer: usize) -> bool
 }
 
 /// Whether the codec of an order takes the last of the scalar's pointers.
-fn takes_last_of(part: PackedPart, scalar: usize) -> bool
+pub(super) fn takes_last_of(part: PackedPart, scalar: usize) -> bool
     ensures { result ≡ takes_last part scalar }
 {
     match part {
@@ -45,7 +44,7 @@ fn takes_last_of(part: PackedPart, scalar: usize) -> bool
 fn is_in_order<N: Numbers>(part: PackedPart, index: &N, above: usize, pointer: usize) -> bool
     ensures { result ≡ is_pointer_in_order part (N.numbers index.now) above pointer }
 {
-    is_usable(part, pointer) && entry_at(index, pointer) > above
+    is_usable(part, pointer) && number_at(index, pointer) > above
 }
 
 /// The first place of a pointer that is not in order.
@@ -57,7 +56,7 @@ fn first_out_of_order<N: Numbers>(part: PackedPart, index: &N, order: &[u16]) ->
         if !is_in_order(part, index, above, usize::from(*pointer)) {
             return Some(place);
         }
-        above = entry_at(index, usize::from(*pointer));
+        above = number_at(index, usize::from(*pointer));
     }
     None
 }
@@ -143,95 +142,109 @@ fn is_other(taken: Option<usize>, pointer: usize) -> bool
     }
 }
 
+/// The pointer that an order has for the scalar of a pointer: that one, if it is in the order.
+// A search is left to the pointers that are not in it: few, as no codec takes them.
+#[inline(always)]
+fn held_pointer<N: Numbers>(
+    part: PackedPart,
+    index: &N,
+    order: &[u16],
+    held: &PointerSet,
+    pointer: usize,
+) -> Option<usize>
+    requires held { HasOnly held.now.blocks order.now }
+    requires rises { RisesBy (N.numbers index.now) order.now }
+    requires lookup { IsLookup part (N.numbers index.now) order.now
+        (order_pointer (N.numbers index.now) order.now) }
+    ensures { result ≡ order_pointer (N.numbers index.now) order.now
+        (slice_index (N.numbers index.now) pointer) }
+{
+    if held.contains(pointer) {
+        return Some(pointer);
+    }
+    pointer_in_order(index, order, number_at(index, pointer))
+}
+
 /// Whether the order lacks the scalar of a pointer, where it lacks none of the pointers before. But
 /// for Big5's six scalars the first pointer is taken: so the order has another one than it should
 /// where it has a later one.
-fn lacks<const BLOCKS: usize, N: Numbers>(
+fn lacks<N: Numbers>(
     part: PackedPart,
     index: &N,
-    order: &Order<'_, BLOCKS>,
+    order: &[u16],
+    held: &PointerSet,
     lasts: &LastPointers,
     pointer: usize,
 ) -> bool
+    requires held { HasOnly held.now.blocks order.now }
     requires lasts { AreLastPointers part (N.numbers index.now) lasts.now }
-    requires lookup { IsLookup part (N.numbers index.now) order.now.pointers.now
-        (order_pointer BLOCKS order.now.scalars.sets order.now.scalars.befores
-        order.now.pointers.now) }
+    requires rises { RisesBy (N.numbers index.now) order.now }
+    requires lookup { IsLookup part (N.numbers index.now) order.now
+        (order_pointer (N.numbers index.now) order.now) }
     requires passed { (k : ℕ) → k < pointer →
-        is_lacking part (N.numbers index.now) order.now.pointers.now k ≡ false }
-    ensures { result ≡ is_lacking part (N.numbers index.now) order.now.pointers.now pointer }
+        is_lacking part (N.numbers index.now) order.now k ≡ false }
+    ensures { result ≡ is_lacking part (N.numbers index.now) order.now pointer }
 {
-    let scalar = entry_at(index, pointer);
+    let scalar = number_at(index, pointer);
     if scalar == 0 {
         return false;
     }
     if !is_usable(part, pointer) {
         return false;
     }
-    match order.pointer(scalar) {
+    match held_pointer(part, index, order, held, pointer) {
         None => true,
-        Some(held) => {
+        Some(taken) => {
             if takes_last_of(part, scalar) {
-                is_other(last_of(lasts, scalar), held)
+                is_other(last_of(lasts, scalar), taken)
             } else {
-                held > pointer
+                taken > pointer
             }
         }
     }
 }
 
 /// The least pointer whose scalar the order lacks.
-fn first_difference<const BLOCKS: usize, N: Numbers>(
-    part: PackedPart,
-    index: &N,
-    order: &Order<'_, BLOCKS>,
-) -> Option<usize>
-    requires lookup { IsLookup part (N.numbers index.now) order.now.pointers.now
-        (order_pointer BLOCKS order.now.scalars.sets order.now.scalars.befores
-        order.now.pointers.now) }
-    ensures { result ≡ order_difference part (N.numbers index.now) order.now.pointers.now }
+fn first_difference<N: Numbers>(part: PackedPart, index: &N, order: &[u16]) -> Option<usize>
+    requires rises { RisesBy (N.numbers index.now) order.now }
+    requires lookup { IsLookup part (N.numbers index.now) order.now
+        (order_pointer (N.numbers index.now) order.now) }
+    ensures { result ≡ order_difference part (N.numbers index.now) order.now }
 {
+    let held = PointerSet::of(order);
     let lasts = last_pointers(part, index);
     for pointer in 0..index.count() {
-        if lacks(part, index, order, &lasts, pointer) {
+        if lacks(part, index, order, &held, &lasts, pointer) {
             return Some(pointer);
         }
     }
     None
 }
 
-/// An order that is in order and has all scalars with the pointers that the codec takes.
-pub(super) fn order_of<'a, const BLOCKS: usize, N: Numbers>(
-    part: PackedPart,
-    order: &'a [u16],
-    index: &N,
-) -> Result<Order<'a, BLOCKS>, TableError>
-    requires few { length (N.numbers index.now) < 65536 }
-    requires numbered { HasNumbers BLOCKS (N.numbers index.now) }
+/// Checks that an order is in order and has all scalars with the pointers that the codec takes.
+fn check_order<N: Numbers>(part: PackedPart, order: &[u16], index: &N) -> Result<(), TableError>
     ensures { let found = pointers_fault part (N.numbers index.now) order.now in
         MatchResult result
-        (λ o. ((c : ℕ) → order_pointer BLOCKS o.scalars.sets o.scalars.befores o.pointers.now c
-        ≡ pointer_of part (N.numbers index.now) c) × (found ≡ None))
+        (λ _. IsOrder part (N.numbers index.now) order.now × (found ≡ None))
         (λ fault. found ≡ Some fault) }
 {
     if let Some(at) = first_out_of_order(part, index, order) {
         return Err(TableError::PackedOrder(part, at));
     }
-    let checked = Order::new(part, order, index);
-    match first_difference(part, index, &checked) {
+    match first_difference(part, index, order) {
         Some(at) => Err(TableError::PackedDiffers(part, at)),
-        None => Ok(checked),
+        None => Ok(()),
     }
 }
 
 /// The orders of the five codecs.
 #[derive(Drop)]
 pub(super) struct CheckedOrders<'a> {
-    pub(super) big5: Order<'a, 2048>,
-    pub(super) euc_kr: Order<'a, 1024>,
-    pub(super) shift_jis: Order<'a, 1024>,
-    pub(super) euc_jp: Order<'a, 1024>,
-    pub(super) gb18030: Order<'a, 1024>,
+    pub(super) big5: &'a [u16],
+    pub(super) euc_kr: &'a [u16],
+    pub(super) shift_jis: &'a [u16],
+    pub(super) euc_jp: &'a [u16],
+    pub(super) gb18030: &'a [u16],
 }
 
 /// The orders of the five codecs, in order and with the pointers that the codecs take.
@@ -239,7 +252,6 @@ pub(super) fn all_orders_of<'a>(
     indexes: &Indexes<'_>,
     packed: &Packed<'a>,
 ) -> Result<CheckedOrders<'a>, TableError>
-    requires { table_fault (flat_indexes indexes.now) ≡ None }
     ensures { let found = all_orders_fault (flat_indexes indexes.now) packed.now in
         MatchResult result
         (λ o. AnswerPointersOf o (flat_indexes indexes.now) × (found ≡ None))
@@ -248,25 +260,25 @@ pub(super) fn all_orders_of<'a>(
     let wide = Wide {
         entries: indexes.big5,
     };
-    let big5 = order_of(PackedPart::Big5Order, packed.big5_order, &wide)?;
+    check_order(PackedPart::Big5Order, packed.big5_order, &wide)?;
     let narrow = Narrow {
         entries: indexes.euc_kr,
     };
-    let euc_kr = order_of(PackedPart::EucKrOrder, packed.euc_kr_order, &narrow)?;
+    check_order(PackedPart::EucKrOrder, packed.euc_kr_order, &narrow)?;
     let narrow = Narrow {
         entries: indexes.jis0208,
     };
-    let shift_jis = order_of(PackedPart::ShiftJisOrder, packed.shift_jis_order, &narrow)?;
-    let euc_jp = order_of(PackedPart::EucJpOrder, packed.euc_jp_order, &narrow)?;
+    check_order(PackedPart::ShiftJisOrder, packed.shift_jis_order, &narrow)?;
+    check_order(PackedPart::EucJpOrder, packed.euc_jp_order, &narrow)?;
     let narrow = Narrow {
         entries: indexes.gb18030,
     };
-    let gb18030 = order_of(PackedPart::Gb18030Order, packed.gb18030_order, &narrow)?;
+    check_order(PackedPart::Gb18030Order, packed.gb18030_order, &narrow)?;
     Ok(CheckedOrders {
-        big5,
-        euc_kr,
-        shift_jis,
-        euc_jp,
-        gb18030,
+        big5: packed.big5_order,
+        euc_kr: packed.euc_kr_order,
+        shift_jis: packed.shift_jis_order,
+        euc_jp: packed.euc_jp_order,
+        gb18030: packed.gb18030_order,
     })
 }

@@ -1,62 +1,16 @@
 //! The checks of packed indexes beside the flat ones. Each answers the first fault that it finds.
-ghost use Rattle.std.specs.Prelude.{◌≡◌, ℕ, ◌+◌, ◌≤◌, ◌<◌, List, length, slice_index, MatchResult};
+ghost use Rattle.std.specs.Prelude.{◌≡◌, ◌≤◌, ◌==◌, not, MatchResult};
 ghost use Rattle.std.specs.Prelude.{Some, None};
+ghost use Rattle.std.specs.Option.{option_eq};
 ghost use Rattle.legacy_tables.specs.Indexes.{idx};
-ghost use Rattle.legacy_tables.specs.Packed.{differs_at, run_difference, runs_fault, all_runs_fault};
+ghost use Rattle.legacy_tables.specs.Packed.{run_difference, runs_fault, all_runs_fault};
 ghost use Rattle.legacy_tables.specs.PackedTables.{AreRunsOf};
 ghost use Rattle.legacy_tables.specs.Tables.{flat_indexes};
 
-use super::directory::Numbers;
+use super::numbers::{Narrow, Numbers, Wide};
 use super::packed::{Packed, PackedPart, Run};
 use super::runs::{Runs, first_out_of_order};
 use super::{Indexes, TableError};
-
-/// The entries of a flat index of wide entries.
-#[derive(Drop)]
-pub(super) struct Wide<'a> {
-    pub(super) entries: &'a [u32],
-}
-
-impl<'a> Numbers for Wide<'a> {
-    ghost numbers = { λ s. s.entries.now };
-
-    fn count(&self) -> usize {
-        self.entries.len()
-    }
-
-    fn number(&self, at: usize) -> usize {
-        self.entries[at] as usize
-    }
-}
-
-/// The entries of a flat index of narrow entries.
-#[derive(Drop)]
-pub(super) struct Narrow<'a> {
-    pub(super) entries: &'a [u16],
-}
-
-impl<'a> Numbers for Narrow<'a> {
-    ghost numbers = { λ s. s.entries.now };
-
-    fn count(&self) -> usize {
-        self.entries.len()
-    }
-
-    fn number(&self, at: usize) -> usize {
-        usize::from(self.entries[at])
-    }
-}
-
-/// The entry of a pointer, and 0 past the index's end.
-pub(super) fn entry_at<N: Numbers>(index: &N, pointer: usize) -> usize
-    ensures { result ≡ slice_index (N.numbers index.now) pointer }
-{
-    if pointer < index.count() {
-        index.number(pointer)
-    } else {
-        0
-    }
-}
 
 /// The number that a flat index has for a pointer.
 fn flat_scalar<N: Numbers>(index: &N, pointer: usize) -> Option<usize>
@@ -69,22 +23,18 @@ fn flat_scalar<N: Numbers>(index: &N, pointer: usize) -> Option<usize>
     if entry == 0 { None } else { Some(entry) }
 }
 
-/// Whether the runs give a pointer another answer than the flat index.
-fn differs<N: Numbers, const POINTERS: usize>(
-    runs: &Runs<'_, POINTERS>,
-    index: &N,
-    pointer: usize,
-) -> bool
-    ensures { result ≡ differs_at runs.now.runs.now (N.numbers index.now) pointer }
+/// Whether a flat index and runs give a pointer different scalars.
+fn differ(entry: Option<usize>, scalar: Option<u32>) -> bool
+    ensures { result ≡ not (option_eq (λ x y. x == y) entry scalar) }
 {
-    match (flat_scalar(index, pointer), runs.scalar(pointer)) {
+    match (entry, scalar) {
         (None, None) => false,
         (Some(entry), Some(scalar)) => entry != scalar as usize,
         _ => true,
     }
 }
 
-/// The least pointer below the limit at which the runs give another answer than the flat index.
+/// The least pointer below the limit for which the runs give another scalar than the flat index.
 fn first_difference<N: Numbers, const POINTERS: usize>(
     limit: usize,
     runs: &Runs<'_, POINTERS>,
@@ -93,10 +43,12 @@ fn first_difference<N: Numbers, const POINTERS: usize>(
     ensures { result ≡ run_difference limit runs.now.runs.now (N.numbers index.now) }
 {
     let end = index.count().max(runs.end()).min(limit);
+    let mut place = 0;
     for pointer in 0..end {
-        if differs(runs, index, pointer) {
+        if differ(flat_scalar(index, pointer), runs.scalar_at(place, pointer)) {
             return Some(pointer);
         }
+        place = runs.next_place(place, pointer);
     }
     None
 }

@@ -2,15 +2,20 @@
 ghost use Rattle.std.specs.Prelude.{◌≡◌, MatchResult, Some};
 ghost use Rattle.legacy_tables.specs.TableChecks.{AreAccepted};
 ghost use Rattle.legacy_tables.specs.PackedTables.{lists_of_runs, AllGiveNoZero, AnswerPointersOf};
-ghost use Rattle.legacy_tables.specs.PagePointers.{ArePagePointers};
 
 use super::checks::check_indexes;
+use super::order::pointer_in_order;
 use super::order_checks::{CheckedOrders, all_orders_of};
 use super::packed::Packed;
 use super::packed_checks::{CheckedRuns, all_runs_of};
-use super::page_pointers::PagePointers;
 use super::private_use::row_bytes;
-use super::{DecoderTables, EncoderTables, IndexName, Indexes, TableError, lookups, pointers};
+use super::unpacking::{unpack_narrow, unpack_wide};
+use super::walks::walk_runs;
+use super::{
+    DecoderTables, EncoderTables, IndexName, Indexes, Marks, PackedPart, TableError, lookups,
+    pointers,
+};
+use std::cell::Cell;
 use std::marker::Model;
 
 /// Indexes that passed the check, kept as runs and orders. They are seen as the flat lists of what
@@ -23,14 +28,10 @@ pub struct PackedTables<'a> {
     katakana: &'a [u16],
     ranges: &'a [(u16, u16)],
     gb18030_pua: &'a [(u16, u8, u8)],
-    likely_places: [u8; 154],
-    likely_ranges: [u8; 256],
-    page_pointers: PagePointers,
     ghost accepted: { AreAccepted (lists_of_runs runs katakana.now ranges.now gb18030_pua.now) },
     ghost numbered: { AllGiveNoZero runs },
     ghost ordered: { AnswerPointersOf orders
         (lists_of_runs runs katakana.now ranges.now gb18030_pua.now) },
-    ghost paged: { ArePagePointers ranges.now page_pointers.firsts },
 }
 
 impl<'a> Model for PackedTables<'a> {
@@ -49,7 +50,8 @@ impl<'a> Model for PackedTables<'a> {
 }
 
 impl<'a> PackedTables<'a> {
-    ghost use Rattle.legacy_tables.specs.Tables.{flat_indexes};
+    ghost use Rattle.legacy_tables.specs.Tables.{flat_indexes, index_list, is_narrow_index};
+    ghost use Rattle.std.specs.Prelude.{◌<◌, length, true, MatchOption};
     ghost use Rattle.legacy_tables.specs.Packed.{packed_fault, ArePackedTables};
 
     /// The tables of packed indexes that give what the flat indexes do, or the first fault.
@@ -70,10 +72,35 @@ impl<'a> PackedTables<'a> {
             katakana: indexes.katakana,
             ranges: indexes.ranges,
             gb18030_pua: indexes.gb18030_pua,
-            likely_places: lookups::likely_places(indexes.ranges),
-            likely_ranges: pointers::likely_ranges(indexes.ranges),
-            page_pointers: PagePointers::new(indexes.ranges),
         })
+    }
+
+    /// Index Big5 at the start of the room, or `None` exactly where the room is too short.
+    pub(super) fn unpack_big5<'b>(&self, room: &'b mut [u32]) -> Option<&'b [u32]>
+        ensures { MatchOption result (length room.old < length self.now.flat.big5)
+            (λ flat. flat.now ≡ self.now.flat.big5) }
+    {
+        unpack_wide(&self.runs.big5, room)
+    }
+
+    /// An index of narrow entries at the start of the room, or `None` exactly where the room is too
+    /// short.
+    pub(super) fn unpack_narrow<'b>(
+        &self,
+        name: IndexName,
+        room: &'b mut [u16],
+    ) -> Option<&'b [u16]>
+        requires { is_narrow_index name ≡ true }
+        ensures { MatchOption result (length room.old < length (index_list self.now.flat name))
+            (λ flat. flat.now ≡ index_list self.now.flat name) }
+    {
+        match name {
+            IndexName::EucKr => unpack_narrow(&self.runs.euc_kr, room),
+            IndexName::Jis0208 => unpack_narrow(&self.runs.jis0208, room),
+            IndexName::Jis0212 => unpack_narrow(&self.runs.jis0212, room),
+            IndexName::Gb18030 => unpack_narrow(&self.runs.gb18030, room),
+            _ => None,
+        }
     }
 }
 
@@ -94,48 +121,78 @@ impl<'a> DecoderTables for PackedTables<'a> {
     }
 
     fn range(&self, pointer: usize) -> Option<char> {
-        lookups::range_scalar(self.ranges, &self.likely_places, pointer)
+        lookups::range_scalar(self.ranges, pointer)
+    }
+
+    #[inline(always)]
+    fn range_near(&self, guess: &Cell<usize>, pointer: usize) -> Option<char> {
+        lookups::range_scalar_near(self.ranges, guess, pointer)
     }
 }
 
 impl<'a> EncoderTables for PackedTables<'a> {
     #[inline]
     fn big5_pointer(&self, scalar: char) -> Option<usize> {
-        self.orders.big5.pointer(scalar as usize)
+        pointer_in_order(&self.runs.big5, self.orders.big5, scalar as usize)
     }
 
     #[inline]
     fn euc_kr_pointer(&self, scalar: char) -> Option<usize> {
-        self.orders.euc_kr.pointer(scalar as usize)
+        pointer_in_order(&self.runs.euc_kr, self.orders.euc_kr, scalar as usize)
     }
 
     #[inline]
     fn shift_jis_pointer(&self, scalar: char) -> Option<usize> {
-        self.orders.shift_jis.pointer(scalar as usize)
+        pointer_in_order(&self.runs.jis0208, self.orders.shift_jis, scalar as usize)
     }
 
     #[inline]
     fn euc_jp_pointer(&self, scalar: char) -> Option<usize> {
-        self.orders.euc_jp.pointer(scalar as usize)
+        pointer_in_order(&self.runs.jis0208, self.orders.euc_jp, scalar as usize)
     }
 
     #[inline]
     fn gb18030_pointer(&self, scalar: char) -> Option<usize> {
-        self.orders.gb18030.pointer(scalar as usize)
+        pointer_in_order(&self.runs.gb18030, self.orders.gb18030, scalar as usize)
     }
 
     #[inline]
     fn range_pointer(&self, scalar: char) -> Option<usize> {
-        pointers::range_pointer(
-            self.ranges,
-            &self.likely_ranges,
-            &self.page_pointers,
-            scalar,
-        )
+        pointers::range_pointer(self.ranges, scalar)
+    }
+
+    #[inline(always)]
+    fn range_pointer_near(&self, guess: &Cell<usize>, scalar: char) -> Option<usize> {
+        pointers::range_pointer_near(self.ranges, guess, scalar)
     }
 
     #[inline]
     fn gb18030_pua_bytes(&self, scalar: char) -> Option<(u8, u8)> {
         row_bytes(self.gb18030_pua, scalar)
+    }
+
+    #[inline]
+    fn gb18030_rows(&self) -> &[(u16, u8, u8)] {
+        self.gb18030_pua
+    }
+
+    // Inlined, so that a walk has no part of another codec.
+    #[inline(always)]
+    fn fill<M: Marks>(&self, part: PackedPart, marks: &M, entries: &mut [u16]) {
+        match part {
+            PackedPart::Big5 | PackedPart::Big5Order => {
+                walk_runs(part, marks, &self.runs.big5, entries)
+            }
+            PackedPart::EucKr | PackedPart::EucKrOrder => {
+                walk_runs(part, marks, &self.runs.euc_kr, entries)
+            }
+            PackedPart::Jis0208 | PackedPart::ShiftJisOrder | PackedPart::EucJpOrder => {
+                walk_runs(part, marks, &self.runs.jis0208, entries)
+            }
+            PackedPart::Jis0212 => walk_runs(part, marks, &self.runs.jis0212, entries),
+            PackedPart::Gb18030 | PackedPart::Gb18030Order => {
+                walk_runs(part, marks, &self.runs.gb18030, entries)
+            }
+        }
     }
 }

@@ -1,15 +1,14 @@
 //! Look-ups of the pointer that an encoder takes for a scalar.
 ghost use Rattle.std.specs.Prelude.{◌≡◌, ◌≢◌, ℕ, ◌+◌, ◌<◌, ◌≤◌, ◌&&◌, nat_le, nat_lt, length};
-ghost use Rattle.std.specs.Prelude.{None, true, slice_index, slice_index_or};
+ghost use Rattle.std.specs.Prelude.{Some, None, IfSome, true, slice_index, slice_index_or};
 ghost use Rattle.legacy_tables.specs.Pointers.{every_pointer, first_pointer, last_pointer};
 ghost use Rattle.legacy_tables.specs.Pointers.{big5_pointer_of, takes_last_big5_pointer};
 ghost use Rattle.legacy_tables.specs.Pointers.{shift_jis_pointer_of, euc_jp_pointer_of};
 ghost use Rattle.legacy_tables.specs.Pointers.{range_pointer_of};
-ghost use Rattle.legacy_tables.specs.PagePointers.{ArePagePointers};
 ghost use Rattle.legacy_tables.specs.TableChecks.{range_order_fault, range_value_fault};
 
 use super::checks::end_of;
-use super::page_pointers::PagePointers;
+use std::cell::Cell;
 
 // An index is searched by blocks of 64 bytes, whose entries the library compares as vectors; the
 // place in a block is searched only where the entry is in it.
@@ -199,66 +198,15 @@ pub(super) fn ranges_up_to(ranges: &[(u16, u16)], scalar: usize) -> usize
     ranges.partition_point(|range| usize::from(range.1) <= scalar)
 }
 
-/// Whether the range at the place is the last whose first scalar is at or before a scalar.
-#[inline]
-fn is_last_begun(ranges: &[(u16, u16)], place: usize, scalar: usize) -> bool
-    requires { range_order_fault 0 None ranges.now ≡ None }
-    ensures within { result ≡ true → place < length ranges.now }
-    ensures reached { result ≡ true → (k : ℕ) → k ≤ place →
-        (slice_index_or ranges.now k (0, 0)).1 ≤ scalar }
-    ensures ahead { result ≡ true → (k : ℕ) → place < k → k < length ranges.now →
-        scalar < (slice_index_or ranges.now k (0, 0)).1 }
-{
-    if place >= ranges.len() || usize::from(ranges[place].1) > scalar {
-        return false;
-    }
-    place + 1 == ranges.len() || usize::from(ranges[place + 1].1) > scalar
-}
-
-/// How many of the ranges have a first scalar at or before the scalar, of which the last is perhaps
-/// the one at the place.
-#[inline]
-fn ranges_up_to_near(ranges: &[(u16, u16)], place: usize, scalar: usize) -> usize
-    requires { range_order_fault 0 None ranges.now ≡ None }
-    ensures within { result ≤ length ranges.now }
-    ensures reached { (k : ℕ) → k < result → (slice_index_or ranges.now k (0, 0)).1 ≤ scalar }
-    ensures ahead { (k : ℕ) → result ≤ k → k < length ranges.now →
-        scalar < (slice_index_or ranges.now k (0, 0)).1 }
-{
-    if is_last_begun(ranges, place, scalar) {
-        place + 1
-    } else {
-        ranges_up_to(ranges, scalar)
-    }
-}
-
-/// For each 256 scalars of the Basic Multilingual Plane, the place of the last range whose first
-/// scalar is at or before the last of them. Nothing but time rests on it: each place is tried
-/// before it is taken.
-pub(super) fn likely_ranges(ranges: &[(u16, u16)]) -> [u8; 256]
-    requires { range_order_fault 0 None ranges.now ≡ None }
-    ensures { length result ≡ 256 }
-{
-    let mut places = [0u8; 256];
-    let mut block = 0;
-    while block < 256 {
-        let count = ranges_up_to(ranges, 256 * block + 255);
-        places[block] = count.saturating_sub(1).min(255) as u8;
-        block += 1;
-    }
-    places
-}
-
 /// The pointer of four bytes of a scalar of the Basic Multilingual Plane that is not U+E7C7.
 #[inline]
-fn pointer_in_ranges(ranges: &[(u16, u16)], places: &[u8; 256], scalar: usize) -> Option<usize>
+fn pointer_in_ranges(ranges: &[(u16, u16)], scalar: usize) -> Option<usize>
     requires ordered { range_order_fault 0 None ranges.now ≡ None }
     requires narrow { scalar < 0x1_0000 }
     requires free { scalar ≢ 0xE7C7 }
     ensures { result ≡ range_pointer_of ranges.now scalar }
 {
-    let likely = usize::from(places[scalar / 256]);
-    let count = ranges_up_to_near(ranges, likely, scalar);
+    let count = ranges_up_to(ranges, scalar);
     if count == 0 {
         return None;
     }
@@ -275,26 +223,75 @@ fn pointer_in_ranges(ranges: &[(u16, u16)], places: &[u8; 256], scalar: usize) -
 
 /// The pointer of four bytes of a scalar.
 #[inline]
-pub(super) fn range_pointer(
-    ranges: &[(u16, u16)],
-    places: &[u8; 256],
-    pages: &PagePointers,
-    scalar: char,
-) -> Option<usize>
+pub(super) fn range_pointer(ranges: &[(u16, u16)], scalar: char) -> Option<usize>
     requires ordered { range_order_fault 0 None ranges.now ≡ None }
     requires valued { range_value_fault 0 ranges.now ≡ None }
-    requires paged { ArePagePointers ranges.now pages.now.firsts }
     ensures { result ≡ range_pointer_of ranges.now scalar }
 {
     let number = u32::from(scalar) as usize;
     if number >= 0x1_0000 {
         return Some(189000 + (number - 0x1_0000));
     }
-    if let Some(pointer) = pages.pointer(number) {
-        return Some(pointer);
-    }
     if scalar == '\u{E7C7}' {
         return Some(7457);
     }
-    pointer_in_ranges(ranges, places, number)
+    pointer_in_ranges(ranges, number)
+}
+
+/// The pointer of four bytes of a scalar by the range at a place, or `None` if that range does not have the scalar.
+#[inline(always)]
+fn pointer_in_range(ranges: &[(u16, u16)], place: usize, scalar: usize) -> Option<usize>
+    requires ordered { range_order_fault 0 None ranges.now ≡ None }
+    requires narrow { scalar < 0x1_0000 }
+    requires free { scalar ≢ 0xE7C7 }
+    ensures { IfSome result (λ p. range_pointer_of ranges.now scalar ≡ Some p) }
+{
+    if place >= ranges.len() {
+        return None;
+    }
+    let (start, lowest) = ranges[place];
+    if scalar < usize::from(lowest) {
+        return None;
+    }
+    let pointer = usize::from(start) + (scalar - usize::from(lowest));
+    if pointer >= usize::from(end_of(ranges, place)) || pointer == 7457 {
+        return None;
+    }
+    Some(pointer)
+}
+
+/// The pointer of four bytes of a scalar, whose range the guess may tell. The guess becomes that range.
+#[inline(always)]
+pub(super) fn range_pointer_near(
+    ranges: &[(u16, u16)],
+    guess: &Cell<usize>,
+    scalar: char,
+) -> Option<usize>
+    requires ordered { range_order_fault 0 None ranges.now ≡ None }
+    requires valued { range_value_fault 0 ranges.now ≡ None }
+    ensures { result ≡ range_pointer_of ranges.now scalar }
+{
+    let number = u32::from(scalar) as usize;
+    if number >= 0x1_0000 || number == 0xE7C7 {
+        return range_pointer(ranges, scalar);
+    }
+    match pointer_in_range(ranges, guess.get(), number) {
+        Some(pointer) => Some(pointer),
+        None => pointer_far(ranges, guess, number),
+    }
+}
+
+/// The same of a scalar of the Basic Multilingual Plane that is not U+E7C7, where the guess does not tell.
+fn pointer_far(ranges: &[(u16, u16)], guess: &Cell<usize>, scalar: usize) -> Option<usize>
+    requires ordered { range_order_fault 0 None ranges.now ≡ None }
+    requires narrow { scalar < 0x1_0000 }
+    requires free { scalar ≢ 0xE7C7 }
+    ensures { result ≡ range_pointer_of ranges.now scalar }
+{
+    let place = ranges_up_to(ranges, scalar).saturating_sub(1);
+    guess.set(place);
+    match pointer_in_range(ranges, place, scalar) {
+        Some(pointer) => Some(pointer),
+        None => pointer_in_ranges(ranges, scalar),
+    }
 }

@@ -1,19 +1,16 @@
 //! Runs that are in order, and the look-up of a pointer in them.
-ghost use Rattle.std.specs.Prelude.{◌≡◌, ℕ, ◌≤◌, None};
-ghost use Rattle.legacy_tables.specs.RunPlaces.{ArePlacesOf};
-ghost use Rattle.legacy_tables.specs.Runs.{runs_scalar, run_fault};
-ghost use Rattle.legacy_tables.specs.Runs.{is_run_in_order, AreInOrder};
+ghost use Rattle.std.specs.Prelude.{◌≡◌, ℕ, ◌+◌, ◌<◌, ◌≤◌, None, length};
+ghost use Rattle.legacy_tables.specs.Runs.{runs_scalar, runs_list, run_fault};
+ghost use Rattle.legacy_tables.specs.Runs.{is_run_in_order, AreInOrder, IsFirstBehind, run_at};
 
+use super::numbers::Numbers;
 use super::packed::Run;
-use super::run_places::RunPlaces;
 
-/// Runs in order, with pointers below a limit, and their places.
+/// Runs in order, with pointers below a limit.
 #[derive(Drop)]
 pub(crate) struct Runs<'a, const POINTERS: usize> {
-    runs: &'a [Run],
-    places: RunPlaces<POINTERS>,
+    pub(super) runs: &'a [Run],
     ghost ordered: { AreInOrder POINTERS runs.now },
-    ghost placed: { ArePlacesOf POINTERS places.places runs.now },
 }
 
 /// Whether a run has pointers, begins behind the run before it, and ends within the limit.
@@ -42,22 +39,31 @@ pub(super) fn first_out_of_order(limit: usize, runs: &[Run]) -> Option<usize>
     None
 }
 
+/// How many of the runs start at or before a pointer: they rise, so these are the first ones.
+#[inline]
+fn started_count<const POINTERS: usize>(runs: &[Run], pointer: usize) -> usize
+    requires { AreInOrder POINTERS runs.now }
+    ensures within { result ≤ length runs.now }
+    ensures started { (k : ℕ) → k < result → (run_at runs.now k).pointer ≤ pointer }
+    ensures ahead { (k : ℕ) → result ≤ k → k < length runs.now →
+        pointer < (run_at runs.now k).pointer }
+{
+    runs.partition_point(|run| usize::from(run.pointer) <= pointer)
+}
+
 impl<'a, const POINTERS: usize> Runs<'a, POINTERS> {
     /// Runs that are in order.
     pub(super) fn new(runs: &'a [Run]) -> Runs<'a, POINTERS>
-        requires small { POINTERS ≤ 23940 }
-        requires ordered { run_fault POINTERS runs.now ≡ None }
+        requires { run_fault POINTERS runs.now ≡ None }
         ensures { result.runs.now ≡ runs.now }
     {
-        Runs {
-            runs,
-            places: RunPlaces::new(runs),
-        }
+        Runs { runs }
     }
 
-    /// A pointer behind all that the runs have.
+    /// The pointer behind all that the runs have.
+    #[inline(always)]
     pub(super) fn end(&self) -> usize
-        ensures { (p : ℕ) → result ≤ p → runs_scalar self.now.runs.now p ≡ None }
+        ensures { result ≡ length (runs_list self.now.runs.now) }
     {
         let count = self.runs.len();
         if count == 0 {
@@ -67,16 +73,70 @@ impl<'a, const POINTERS: usize> Runs<'a, POINTERS> {
         usize::from(run.pointer) + usize::from(run.length)
     }
 
+    /// The number that the runs give a pointer, by the first run that ends behind it.
+    #[inline(always)]
+    pub(super) fn scalar_at(&self, place: usize, pointer: usize) -> Option<u32>
+        requires { IsFirstBehind self.now.runs.now place pointer }
+        ensures { result ≡ runs_scalar self.now.runs.now pointer }
+    {
+        if place == self.runs.len() {
+            return None;
+        }
+        let run = &self.runs[place];
+        if pointer < usize::from(run.pointer) {
+            return None;
+        }
+        Some(run.scalar + (pointer - usize::from(run.pointer)) as u32)
+    }
+
+    /// The place of the first run that ends behind the next pointer, from that of a pointer.
+    #[inline(always)]
+    pub(super) fn next_place(&self, place: usize, pointer: usize) -> usize
+        requires { IsFirstBehind self.now.runs.now place pointer }
+        ensures { IsFirstBehind self.now.runs.now result (pointer + 1) }
+    {
+        if place == self.runs.len() {
+            return place;
+        }
+        let run = &self.runs[place];
+        if usize::from(run.pointer) + usize::from(run.length) == pointer + 1 {
+            place + 1
+        } else {
+            place
+        }
+    }
+
     /// The number that the runs give a pointer.
     #[inline(always)]
     pub(super) fn scalar(&self, pointer: usize) -> Option<u32>
         ensures { result ≡ runs_scalar self.now.runs.now pointer }
     {
-        if pointer >= POINTERS {
+        let count = started_count::<POINTERS>(self.runs, pointer);
+        if count == 0 {
             return None;
         }
-        let place = self.places.place(pointer)?;
-        let run = &self.runs[place];
-        Some(run.scalar + (pointer - usize::from(run.pointer)) as u32)
+        let run = &self.runs[count - 1];
+        let at = pointer - usize::from(run.pointer);
+        if at >= usize::from(run.length) {
+            return None;
+        }
+        Some(run.scalar + at as u32)
+    }
+}
+
+impl<'a, const POINTERS: usize> Numbers for Runs<'a, POINTERS> {
+    ghost numbers = { λ r. runs_list r.runs.now };
+
+    #[inline(always)]
+    fn count(&self) -> usize {
+        self.end()
+    }
+
+    #[inline(always)]
+    fn number(&self, at: usize) -> usize {
+        match self.scalar(at) {
+            Some(scalar) => scalar as usize,
+            None => 0,
+        }
     }
 }

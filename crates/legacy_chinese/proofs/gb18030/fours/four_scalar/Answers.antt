@@ -6,4 +6,4 @@ use Rattle.legacy_chinese.proofs.gb18030.fours.four_scalar.Goals as goal
 pub returns : goal.returns
 returns g c =
     let tables = g.V.DecoderTables.indexes c.args.tables.now in
-    four_placed tables c.args.first c.args.second c.args.third c.args.fourth c.range.result (c.range.ensures ∙ ap (range tables.flat.ranges) c.four_pointer.ensures)
+    four_placed tables c.args.first c.args.second c.args.third c.args.fourth c.range_near.result (c.range_near.ensures ∙ ap (range tables.flat.ranges) c.four_pointer.ensures)

@@ -10,24 +10,24 @@ last : (ranges : List (ℕ × ℕ)) (p n : ℕ) → 0 < n → n ≤ length range
 last ranges p n some within started ahead = last-at ranges p (n - 1) (omega arith) (started (n - 1) (omega arith)) (λ k m h. ahead k (omega arith) h)
 
 pub returns-then-count-eq0 : goal.returns-then-count-eq0
-returns-then-count-eq0 c = sym (last-none c.args.ranges.now c.args.pointer (λ k h. c.started_count_near-count.ensures.ahead k (omega arith) h))
+returns-then-count-eq0 c = sym (last-none c.args.ranges.now c.args.pointer (λ k h. c.started_count-count.ensures.ahead k (omega arith) h))
 
 pub overflow_sub-unit : goal.overflow_sub-unit
-overflow_sub-unit c = rw c.from.ensures (c.started_count_near-count.ensures.started (c.started_count_near-count.result - 1) (omega arith))
+overflow_sub-unit c = rw c.from.ensures (c.started_count-count.ensures.started (c.started_count-count.result - 1) (omega arith))
 
 pub overflow_add-unit : goal.overflow_add-unit
 overflow_add-unit c =
-    let e = c.started_count_near-count.ensures in
-    let at = last c.args.ranges.now c.args.pointer c.started_count_near-count.result (omega arith) e.within e.started e.ahead in
+    let e = c.started_count-count.ensures in
+    let at = last c.args.ranges.now c.args.pointer c.started_count-count.result (omega arith) e.within e.started e.ahead in
     rw c.from.ensures (omega (arith, (last_range-narrow 0 c.args.ranges.now c.requires.valued c.args.pointer _ c.requires.reached at).1))
 
 pub from_u32_unchecked-requires : goal.from_u32_unchecked-requires
 from_u32_unchecked-requires c =
-    let e = c.started_count_near-count.ensures in
-    let at = last c.args.ranges.now c.args.pointer c.started_count_near-count.result (omega arith) e.within e.started e.ahead in
+    let e = c.started_count-count.ensures in
+    let at = last c.args.ranges.now c.args.pointer c.started_count-count.result (omega arith) e.within e.started e.ahead in
     rw (c.from-2.ensures, c.from.ensures) (last_range-narrow 0 c.args.ranges.now c.requires.valued c.args.pointer _ c.requires.reached at).0
 
 pub returns : goal.returns
 returns c =
-    let e = c.started_count_near-count.ensures in
-    rw (c.from_u32_unchecked.ensures, c.from-2.ensures, c.from.ensures) (sym (last c.args.ranges.now c.args.pointer c.started_count_near-count.result (omega arith) e.within e.started e.ahead))
+    let e = c.started_count-count.ensures in
+    rw (c.from_u32_unchecked.ensures, c.from-2.ensures, c.from.ensures) (sym (last c.args.ranges.now c.args.pointer c.started_count-count.result (omega arith) e.within e.started e.ahead))

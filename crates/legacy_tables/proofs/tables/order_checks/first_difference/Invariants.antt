@@ -4,4 +4,4 @@ use Rattle.legacy_tables.proofs.tables.order_checks.first_difference.Given as go
 
 -- none is lacking so far
 abbrev pub invariant-loop-pointer : goal.invariant-loop-pointer
-invariant-loop-pointer g l = (k : ℕ) → k < l.pointer → is_lacking l.part (g.N.Numbers.numbers l.index) l.order.pointers.now k ≡ false
+invariant-loop-pointer g l = (k : ℕ) → k < l.pointer → is_lacking l.part (g.N.Numbers.numbers l.index) l.order k ≡ false

@@ -11,7 +11,7 @@ returns-then-not-is_in_order g c =
 pub loop-place-preserved : goal.loop-place-preserved
 loop-place-preserved g c =
     let is = rw c.from.ensures at c.is_in_order.ensures in
-    rw (c.entry_at-above.ensures, c.from-in-loop-place.ensures)
+    rw (c.number_at-above.ensures, c.from-in-loop-place.ensures)
     (order-pass c.args.part (g.N.Numbers.numbers c.args.index.now) c.args.order.now c.loop-place.place c.loop-place.above _ c.loop-place.invariant c.loop-place-test.true (sym is
     ∙ c.if-not-is_in_order.false))
 

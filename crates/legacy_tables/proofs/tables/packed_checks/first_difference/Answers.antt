@@ -1,21 +1,36 @@
-use Rattle.std.proofs.Common.{◌∙◌, sym, arith, inl, inr}
+use Rattle.std.proofs.Common.{◌≡◌, ◌∙◌, sym, arith, inl, inr}
 use Rattle.std.proofs.lemmas.Bool.{cases_lt}
 use Rattle.legacy_tables.specs.Packed.{differs_at, run_difference}
 use Rattle.legacy_tables.proofs.FirstPlaces.{find-some, find-none}
-use Rattle.legacy_tables.proofs.PackedRuns.{same-behind}
+use Rattle.legacy_tables.proofs.PackedRuns.{first-behind, same-behind, scalar-past_list}
 use Rattle.legacy_tables.proofs.tables.packed_checks.first_difference.Goals as goal
 
-pub returns-then-differs : goal.returns-then-differs
+pub loop-pointer-init : goal.loop-pointer-init
+loop-pointer-init g c = record { none = λ k h. absurd (omega arith); place = first-behind c.args.runs.now.runs.now c.args.runs.now.ordered }
+
+pub returns-then-differ : goal.returns-then-differ
 unfolding run_difference
-returns-then-differs g c =
+returns-then-differ g c =
+    let told = rw (c.flat_scalar.ensures, c.scalar_at.ensures) at c.differ.ensures in
     sym (find-some (differs_at c.args.runs.now.runs.now (g.N.Numbers.numbers c.args.index.now)) 0 c.args.limit c.loop-pointer.pointer (omega arith) (omega arith)
-    (sym c.differs.ensures ∙ c.if-differs.true) (λ k l h. c.loop-pointer.invariant k h))
+    (sym told ∙ c.if-differ.true) (λ k l h. c.loop-pointer.invariant.none k h))
+
+pub loop-pointer-preserved : goal.loop-pointer-preserved
+loop-pointer-preserved g c =
+    let told = rw (c.flat_scalar.ensures, c.scalar_at.ensures) at c.differ.ensures in
+    record {
+      none = λ k h. elim (cases_lt k c.loop-pointer.pointer) [
+        | inl l ↦ c.loop-pointer.invariant.none k l
+        | inr l ↦ let same : k ≡ c.loop-pointer.pointer = omega arith in rw same (sym told ∙ c.if-differ.false)
+      ];
+      place = c.next_place-place.ensures;
+    }
 
 pub returns : goal.returns
 unfolding run_difference
 returns g c =
     sym (find-none (differs_at c.args.runs.now.runs.now (g.N.Numbers.numbers c.args.index.now)) 0 c.args.limit
     (λ k l h. elim (cases_lt k c.loop-pointer.pointer) [
-      | inl m ↦ c.loop-pointer.invariant k m
-      | inr m ↦ same-behind c.args.runs.now.runs.now (g.N.Numbers.numbers c.args.index.now) k (omega arith) (c.end.ensures k (omega arith))
+      | inl m ↦ c.loop-pointer.invariant.none k m
+      | inr m ↦ same-behind c.args.runs.now.runs.now (g.N.Numbers.numbers c.args.index.now) k (omega arith) (scalar-past_list c.args.runs.now.runs.now k (omega (arith, c.end.ensures)))
     ]))

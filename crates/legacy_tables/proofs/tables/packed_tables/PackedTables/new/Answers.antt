@@ -1,16 +1,6 @@
 use Rattle.legacy_tables.specs.Tables.{flat_indexes}
-use Rattle.legacy_tables.proofs.Accepted.{parts}
 use Rattle.legacy_tables.proofs.PackedAccepted.{packed-accepted, packed-tables, lists-same, numbers-given, orders-same}
 use Rattle.legacy_tables.proofs.tables.packed_tables.PackedTables.new.Goals as goal
-
-pub likely_places-requires : goal.likely_places-requires
-likely_places-requires c = (parts _ c.in_ok-check_indexes.ensures).ordered
-
-pub likely_ranges-requires : goal.likely_ranges-requires
-likely_ranges-requires c = (parts _ c.in_ok-check_indexes.ensures).ordered
-
-pub new-requires : goal.new-requires
-new-requires c = (parts _ c.in_ok-check_indexes.ensures).ordered
 
 pub invariant_of-result : goal.invariant_of-result
 invariant_of-result c =
@@ -18,10 +8,7 @@ invariant_of-result c =
       rw same (packed-accepted (flat_indexes c.args.indexes.now) c.args.packed.now c.in_ok-check_indexes.ensures c.in_ok-runs.ensures.1),
       (
         numbers-given c.in_ok-runs.runs (flat_indexes c.args.indexes.now) c.args.packed.now c.in_ok-runs.ensures.0 c.in_ok-check_indexes.ensures c.in_ok-runs.ensures.1,
-        (
-          rw same (orders-same c.in_ok-orders.orders (flat_indexes c.args.indexes.now) c.args.packed.now c.in_ok-check_indexes.ensures c.in_ok-runs.ensures.1 c.in_ok-orders.ensures.0),
-          (c.new.ensures, tt),
-        ),
+        (rw same (orders-same c.in_ok-orders.orders (flat_indexes c.args.indexes.now) c.args.packed.now c.in_ok-check_indexes.ensures c.in_ok-runs.ensures.1 c.in_ok-orders.ensures.0), tt),
       ),
     )
 

@@ -4,5 +4,5 @@ use Rattle.legacy_tables.proofs.tables.packed_tables.PackedTablesEncoderTables.e
 
 pub returns : goal.returns
 returns c =
-    let is = c.pointer.ensures ∙ c.self.inside.ordered.euc_jp c.args.scalar in
+    let is = c.pointer_in_order.ensures ∙ c.self.inside.ordered.euc_jp.answers c.args.scalar in
     rw (← c.self.view_is) (record { pointer = is; within = rw is (euc-jp-bound c.args.scalar _) })

@@ -4,5 +4,5 @@ use Rattle.legacy_tables.proofs.tables.packed_tables.PackedTablesEncoderTables.g
 
 pub returns : goal.returns
 returns c =
-    let is = c.pointer.ensures ∙ c.self.inside.ordered.gb18030 c.args.scalar in
+    let is = c.pointer_in_order.ensures ∙ c.self.inside.ordered.gb18030.answers c.args.scalar in
     rw (← c.self.view_is) (record { pointer = is; within = rw is (gb18030-bound _ c.self.inside.accepted c.args.scalar) })

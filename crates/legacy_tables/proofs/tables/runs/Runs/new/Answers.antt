@@ -1,12 +1,5 @@
-use Rattle.std.proofs.Common.{rules}
 use Rattle.legacy_tables.proofs.PackedRuns.{are_in_order}
 use Rattle.legacy_tables.proofs.tables.runs.Runs.new.Goals as goal
 
-pub new-requires : goal.new-requires
-new-requires g c = (search rules, (c.requires.small, are_in_order _ c.args.runs.now c.requires.ordered))
-
 pub invariant_of-result : goal.invariant_of-result
-invariant_of-result g c = record {
-  ordered = are_in_order _ c.args.runs.now c.requires.ordered;
-  placed = c.new.ensures;
-}
+invariant_of-result g c = record { ordered = are_in_order _ c.args.runs.now c.requires }

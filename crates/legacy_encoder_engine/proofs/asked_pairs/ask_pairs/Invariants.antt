@@ -1,0 +1,13 @@
+use Rattle.std.proofs.Common.{◌≤◌, ◌-◌, ℕ, Bool}
+use Rattle.legacy_encoder_engine.specs.CachedPairs.{AreRightWhere, or_between}
+use Rattle.legacy_encoder_engine.proofs.asked_pairs.ask_pairs.Given as goal
+
+-- those so far are right, and those that were
+abbrev pub invariant-loop-code : goal.invariant-loop-code
+invariant-loop-code g l = record {
+  to : l.code ≤ l.end;
+  right : (done : ℕ → Bool) → AreRightWhere (g.C.PlainCodes.codec l.encoder) done l.fn.pairs → AreRightWhere (g.C.PlainCodes.codec l.encoder) (or_between done l.first l.code) l.pairs;
+}
+
+abbrev pub decreases-loop-code : goal.decreases-loop-code
+decreases-loop-code g l = l.end - l.code

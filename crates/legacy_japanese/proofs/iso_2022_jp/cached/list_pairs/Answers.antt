@@ -1,0 +1,11 @@
+use Rattle.std.proofs.Common.{◌∙◌}
+use Rattle.legacy_japanese.specs.ByPointer.{goes_by_pointer}
+use Rattle.legacy_japanese.proofs.Iso2022JpWalk.{walked-listed, all-listed}
+use Rattle.legacy_japanese.proofs.iso_2022_jp.cached.list_pairs.Goals as goal
+
+pub returns : goal.returns
+returns c =
+    let tables = c.args.tables.now in
+    let walked = walked-listed tables.flat tables.accepted c.fill.new.entries (c.fill.auto.entries ∙ c.requires) c.fill.ensures in
+    all-listed tables.flat.jis0208 tables.flat.katakana c.list_between-5.new.pairs
+    (c.list_between-5.ensures _ (c.list_between-4.ensures _ (c.list_between-3.ensures _ (c.list_between-2.ensures _ (c.list_between.ensures goes_by_pointer walked)))))

@@ -1,0 +1,16 @@
+use Rattle.std.proofs.Common.{sym, refl}
+use Rattle.legacy_tables.proofs.Orders.{is-order, order-rises, order-lookup}
+use Rattle.legacy_tables.proofs.tables.order_checks.check_order.Goals as goal
+
+pub first_difference-requires : goal.first_difference-requires
+first_difference-requires g c =
+    let ordered = sym c.in_default.ensures in
+    record { rises = order-rises c.args.part _ c.args.order.now ordered; lookup = order-lookup c.args.part _ c.args.order.now ordered }
+
+pub returns-in-None : goal.returns-in-None
+returns-in-None g c =
+    let ordered = c.in_default.ensures in
+    let none = c.in-None.ensures in (
+      is-order c.args.part (g.N.Numbers.numbers c.args.index.now) c.args.order.now (sym ordered) (sym none),
+      rw (← ordered, ← none) refl,
+    )
