@@ -3,7 +3,6 @@ use Rattle.std.proofs.Common.{◌≡◌, ◌∙◌, ℕ, zero, suc, ◌+◌, ◌
 use Rattle.std.proofs.lemmas.Bool.{ltb-true, ltb-false, eqb-true}
 use Rattle.std.proofs.lemmas.List.{length-map}
 use Rattle.std.proofs.lemmas.Simd.{bitmask_splat}
-use Rattle.std.proofs.Math.ListN.{get_or-map}
 use lib.Lanes.{zip2, sel_l, mask_l, top}
 use Rattle.legacy_miscellaneous.specs.Utf16Decoder.{AreBelow}
 

@@ -1,5 +1,5 @@
 -- The runs of UTF-16.
-use Rattle.std.proofs.Common.{rules, ◌≡◌, ◌∙◌, ℕ, zero, suc, ◌+◌, ◌-◌, ◌*◌, ◌<◌, ◌≤◌, ◌^◌, List, [], ◌∷◌, ◌++◌, Bool, true, false, Option, Some, None, length, take, drop, get_or, sym, ap, subst, arith, refl, length-append}
+use Rattle.std.proofs.Common.{rules, ◌≡◌, ◌∙◌, ℕ, zero, suc, ◌+◌, ◌-◌, ◌*◌, ◌<◌, ◌≤◌, List, [], ◌∷◌, ◌++◌, Bool, true, false, Option, Some, None, length, take, drop, get_or, sym, ap, subst, arith, refl, length-append}
 use Rattle.std.specs.Prelude.{IfSome, IsAscii}
 use Rattle.std.specs.Option.{SomeIff}
 use Rattle.std.specs.Char.{IsScalar}
@@ -142,17 +142,3 @@ few_units form be source units bytes long are =
 pub short_eight : (be : Bool) (source units : List ℕ) (group : ℕ) → AreUnitsBelow be source 64 0x800 → group < 8
     → ((k : ℕ) → k < 8 → get_or units k 0 ≡ unit_at be (take (length source - 16 * group) (drop (16 * group) source)) k) → (k : ℕ) → k < 8 → get_or units k 0 < 0x800
 short_eight be source units group below h are k l = subst (λ u. u < 0x800) (sym (are k l ∙ rest_unit be source group k)) (below (8 * group + k) (omega arith))
-
--- eight units at the front
-pub reads_eight : {D : Type 0} (T : Ghosts D) (be : Bool) (source units : List ℕ) (old new : D) → ((k : ℕ) → IsByte (get_or source k 0)) → 16 ≤ length source → length units ≡ 8
-    → ((k : ℕ) → k < 8 → (get_or units k 0 ≡ unit_at be source k) × IsScalar (get_or units k 0))
-    → T.contents new ≡ T.contents old ++ all_code_units T.form units → T.room new + total_unit_count T.form units ≡ T.room old → T.loan new ≡ T.loan old → 35 ≤ T.room old
-    → ReadsAhead T (new_state (utf16 be)) source 16 old new
-reads_eight T be source units old new bytes within long are contents room loan enough =
-    let all : take 8 units ≡ units = take_all 8 units (omega arith) in
-    let most = few_units T.form be source units bytes long (λ k h. (are k h).0) in
-    let enough' : 2 * 8 ≤ length source = omega arith in
-    let room' : T.room new + total_unit_count T.form (take 8 units) ≡ T.room old = omega (arith, ap (total_unit_count T.form) all, room) in
-    reads_written {D = _} {T = T} {g = utf16 be} {source = source} {old = old} {new = new} {r = 16} within
-    (writes_units T be source units 8 bytes enough' (omega arith) are (contents ∙ ap (λ l. T.contents old ++ all_code_units T.form l) (sym all)) room' loan)
-    (omega (arith, most, room)) (omega arith)

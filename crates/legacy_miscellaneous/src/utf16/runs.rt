@@ -107,19 +107,31 @@ impl Units {
     #[inline(always)]
     fn read_sixty_four<T: Destination>(&self, src: &[u8], dst: &mut T) -> usize
         requires source { 128 ≤ length src.now }
-        requires room { 227 ≤ T.room dst.old }
+        requires room { 203 ≤ T.room dst.old }
         ensures { ReadsAhead T.Destination (new_state (utf16 self.now.big_endian)) src.now result
             dst.old dst.new }
     {
-        let is_utf8 = T::narrow() > 1;
-        if is_utf8 && self.are_below(src, 0x80) {
-            return read_blocks(&AsciiUnits { units: self }, src, dst);
+        if T::narrow() > 1 {
+            if self.are_below(src, 0x80) {
+                return read_blocks(&AsciiUnits { units: self }, src, dst);
+            }
+            if self.are_below(src, 0x800) {
+                return self.read_short_units(src, dst);
+            }
         }
-        if is_utf8 && self.are_below(src, 0x800) {
-            return self.read_short_units(src, dst);
-        }
+        self.read_eights(src, dst, 8)
+    }
+
+    /// Decodes this many times eight units, up to the first eight with a surrogate. Returns the number of bytes read.
+    #[inline(always)]
+    fn read_eights<T: Destination>(&self, src: &[u8], dst: &mut T, eights: usize) -> usize
+        requires source { 16 * eights ≤ length src.now }
+        requires room { 0 < eights → 24 * eights + 11 ≤ T.room dst.old }
+        ensures { ReadsAhead T.Destination (new_state (utf16 self.now.big_endian)) src.now result
+            dst.old dst.new }
+    {
         let mut group = 0;
-        while group < 8 {
+        while group < eights {
             let units = eight_units(self.big_endian, &src[16 * group..]);
             if has_surrogate(&units.to_array()) {
                 return 16 * group;
@@ -127,7 +139,7 @@ impl Units {
             dst.put_eight(units);
             group += 1;
         }
-        128
+        16 * eights
     }
 
     /// Decodes 64 units below U+0800. Returns the number of bytes read.
@@ -135,7 +147,7 @@ impl Units {
     fn read_short_units<T: Destination>(&self, src: &[u8], dst: &mut T) -> usize
         requires source { 128 ≤ length src.now }
         requires short { AreUnitsBelow self.now.big_endian src.now 64 0x800 }
-        requires room { 227 ≤ T.room dst.old }
+        requires room { 203 ≤ T.room dst.old }
         ensures { ReadsAhead T.Destination (new_state (utf16 self.now.big_endian)) src.now result
             dst.old dst.new }
     {
@@ -148,24 +160,6 @@ impl Units {
         128
     }
 
-    /// Decodes eight units, or none if one of them is a surrogate or the source or the room is too short. Returns
-    /// the number of bytes read.
-    #[inline(always)]
-    fn read_eight<T: Destination>(&self, src: &[u8], dst: &mut T) -> usize
-        ensures { ReadsAhead T.Destination (new_state (utf16 self.now.big_endian)) src.now result
-            dst.old dst.new }
-    {
-        if src.len() < 16 || dst.free() < 35 {
-            return 0;
-        }
-        let units = eight_units(self.big_endian, src);
-        if has_surrogate(&units.to_array()) {
-            return 0;
-        }
-        dst.put_eight(units);
-        16
-    }
-
     /// Decodes up to eight units one by one, up to a surrogate. Returns the number of bytes read.
     #[inline(always)]
     fn read_some<T: Destination>(&self, src: &[u8], dst: &mut T) -> usize
@@ -176,16 +170,17 @@ impl Units {
         read_pairs(self, &src[..part], dst)
     }
 
-    /// Decodes 64 units or eight. Returns the number of bytes read.
+    /// Decodes up to 64 units by vectors. Returns the number of bytes read.
     #[inline(always)]
     fn read_vectors<T: Destination>(&self, src: &[u8], dst: &mut T) -> usize
         ensures { ReadsAhead T.Destination (new_state (utf16 self.now.big_endian)) src.now result
             dst.old dst.new }
     {
-        if src.len() >= 128 && dst.free() >= 227 {
+        let eights = (src.len() / 16).min(dst.free().saturating_sub(11) / 24);
+        if eights >= 8 {
             self.read_sixty_four(src, dst)
         } else {
-            self.read_eight(src, dst)
+            self.read_eights(src, dst, eights)
         }
     }
 }

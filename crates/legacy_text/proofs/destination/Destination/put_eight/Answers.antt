@@ -1,5 +1,5 @@
-use Rattle.std.proofs.Common.{◌≡◌, ◌∙◌, ◌+◌, ◌<◌, ◌++◌, ℕ, List, arith, refl, append-nil, sym, ap, length, take}
-use Rattle.legacy_text.specs.EncodingForm.{code_units, total_unit_count}
+use Rattle.std.proofs.Common.{◌∙◌, ◌<◌, ◌++◌, ℕ, arith, refl, append-nil, sym, ap, length}
+use Rattle.legacy_text.specs.EncodingForm.{code_units}
 use Rattle.legacy_text.proofs.VectorUnits.{few-units, one-more, more-units, unit-below}
 use Rattle.legacy_text.proofs.destination.Destination.put_eight.Goals as goal
 

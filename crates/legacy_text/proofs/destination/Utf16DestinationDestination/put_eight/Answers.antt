@@ -1,7 +1,7 @@
 use Rattle.std.proofs.Common.{◌∙◌, ◌++◌, ap, sym, take, length, List, ℕ, arith}
 use Rattle.std.proofs.lemmas.List.{take_all}
 use Rattle.legacy_text.proofs.Ascii.{stored}
-use Rattle.legacy_text.proofs.VectorUnits.{own-units, free-after}
+use Rattle.legacy_text.proofs.VectorUnits.{own-units}
 use Rattle.legacy_text.proofs.destination.Utf16DestinationDestination.put_eight.Goals as goal
 
 pub returns-clause-contents : goal.returns-clause-contents

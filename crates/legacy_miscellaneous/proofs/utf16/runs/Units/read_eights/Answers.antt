@@ -1,11 +1,11 @@
-use Rattle.std.proofs.Common.{◌≡◌, ◌∙◌, ℕ, ◌+◌, ◌-◌, ◌*◌, ◌<◌, ◌≤◌, length, arith, get_or}
+use Rattle.std.proofs.Common.{◌≡◌, ℕ, ◌*◌, length, arith, get_or}
 use Rattle.std.proofs.lemmas.List.Elements.{All-from_get_or}
 use Rattle.std.specs.Char.{IsScalar}
 use Rattle.legacy_tables.specs.Unicode.{IsByte}
 use Rattle.legacy_base.specs.Grammar.{utf16}
 use Rattle.legacy_decoder_engine.proofs.WrittenRuns.{writes_none}
 use Rattle.legacy_miscellaneous.proofs.Utf16Runs.{few_units, rest_bytes, writes_eight}
-use Rattle.legacy_miscellaneous.proofs.utf16.runs.Units.read_sixty_four.Goals as goal
+use Rattle.legacy_miscellaneous.proofs.utf16.runs.Units.read_eights.Goals as goal
 
 pub loop-group-init : goal.loop-group-init
 loop-group-init g c = record { within = omega arith; room = omega arith; writes = writes_none g.T.Destination (utf16 c.args.self.now.big_endian) c.args.dst.now }
