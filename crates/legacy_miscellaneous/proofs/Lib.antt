@@ -12,3 +12,4 @@ pub mod Utf16Shown
 pub mod Utf16Held
 pub mod Utf16Runs
 pub mod Utf16Vectors
+pub mod Utf16Bounds

@@ -1,24 +1,24 @@
 -- The runs of UTF-16.
-use Rattle.std.proofs.Common.{rules, ◌≡◌, ◌∙◌, ℕ, zero, suc, ◌+◌, ◌*◌, ◌<◌, ◌≤◌, ◌^◌, List, [], ◌∷◌, ◌++◌, Bool, true, false, Option, Some, None, length, take, get_or, sym, ap, subst, arith, refl}
+use Rattle.std.proofs.Common.{rules, ◌≡◌, ◌∙◌, ℕ, zero, suc, ◌+◌, ◌-◌, ◌*◌, ◌<◌, ◌≤◌, List, [], ◌∷◌, ◌++◌, Bool, true, false, Option, Some, None, length, take, drop, get_or, sym, ap, subst, arith, refl, length-append}
 use Rattle.std.specs.Prelude.{IfSome, IsAscii}
 use Rattle.std.specs.Option.{SomeIff}
 use Rattle.std.specs.Char.{IsScalar}
 use Rattle.std.proofs.lemmas.Bool.Decides.{nat_tests}
-use Rattle.std.proofs.lemmas.List.{take_more, length-take-le, get_or-take}
+use Rattle.std.proofs.lemmas.List.{take_more, length-take-le, length-drop, get_or-take, get_or-drop, take_all}
 use Rattle.std.proofs.lemmas.List.Elements.{All-get_or}
 use Rattle.std.proofs.lemmas.Str.Ascii.{All-from_ascii}
 use Rattle.std.specs.Char.Utf16.{is_high_surrogate, is_low_surrogate}
 use Rattle.legacy_text.specs.declared.destination.Destination.{Ghosts}
-use Rattle.legacy_text.specs.EncodingForm.{code_units}
+use Rattle.legacy_text.specs.EncodingForm.{EncodingForm, code_units, all_code_units, total_unit_count}
 use Rattle.legacy_tables.specs.Unicode.{IsByte}
 use Rattle.legacy_base.specs.Grammar.{utf16}
 use Rattle.legacy_base.specs.Utf16.{unit_of}
 use Rattle.legacy_decoder_engine.specs.Ahead.{Runs, IsPair, Writes, ReadsAhead}
 use Rattle.legacy_base.specs.States.{new_state}
-use Rattle.legacy_miscellaneous.specs.Utf16Decoder.{HasAsciiUnits, unit_at}
+use Rattle.legacy_miscellaneous.specs.Utf16Decoder.{HasAsciiUnits, AreUnitsBelow, unit_at}
 use Rattle.legacy_decoder_engine.proofs.RunForms.{pair_runs}
 use Rattle.legacy_decoder_engine.proofs.JoinedRuns.{reads_written}
-use Rattle.legacy_decoder_engine.proofs.WrittenRuns.{runs_none, runs_more, take_two, writes_two, all_code_units_ascii}
+use Rattle.legacy_decoder_engine.proofs.WrittenRuns.{runs_none, runs_more, take_two, rest_of, writes_run, all_code_units_ascii, short}
 use Rattle.legacy_miscellaneous.proofs.Utf16Shown.{utf16_shown}
 
 not_high : (u : ℕ) → IsScalar u → is_high_surrogate u ≡ false
@@ -45,72 +45,100 @@ unit_scalar be a b code byte byte' is (Some c) h =
     let same : c ≡ unit_of be a b = cc in
     rw same (unit_pair be a b byte byte' (subst IsScalar is h.0))
 
--- ---- blocks of ASCII
+-- ---- units of a vector, none of them a surrogate
 
-small : (x : ℕ) → x < 0x80 → IsScalar x
-small x h = search rules
-
-suc_is : (n : ℕ) → suc n ≡ n + 1
-suc_is n = omega arith
-
--- a unit below 80
-unit_runs : (be : Bool) (a b u : ℕ) → unit_of be a b ≡ u → u < 0x80 → Runs (utf16 be) (a ∷ b ∷ []) (u ∷ [])
-unit_runs true a b u e h =
-    let byte : a < 2 ^ 8 = omega arith in
-    let byte' : b < 2 ^ 8 = omega arith in
-    subst (λ c. Runs (utf16 true) (a ∷ b ∷ []) (c ∷ [])) e ((unit_pair true a b byte byte' (small (unit_of true a b) (omega arith))).1)
-unit_runs false a b u e h =
-    let byte : a < 2 ^ 8 = omega arith in
-    let byte' : b < 2 ^ 8 = omega arith in
-    subst (λ c. Runs (utf16 false) (a ∷ b ∷ []) (c ∷ [])) e ((unit_pair false a b byte byte' (small (unit_of false a b) (omega arith))).1)
-
-block_runs : (be : Bool) (source block : List ℕ) (r : ℕ) → 2 * r ≤ length source → r ≤ length block → HasAsciiUnits be source block r → ((k : ℕ) → k < r → get_or block k 0 < 0x80)
-    → Runs (utf16 be) (take (2 * r) source) (take r block)
-block_runs be source block zero within room narrow ascii = runs_none (utf16 be)
-block_runs be source block (suc r) within room narrow ascii =
-    let u : ℕ = get_or block r 0 in
+-- the first units of the source are these scalars
+units_run : (be : Bool) (source units : List ℕ) (r : ℕ) → ((k : ℕ) → IsByte (get_or source k 0)) → 2 * r ≤ length source → r ≤ length units
+    → ((k : ℕ) → k < r → (get_or units k 0 ≡ unit_at be source k) × IsScalar (get_or units k 0)) → Runs (utf16 be) (take (2 * r) source) (take r units)
+units_run be source units zero bytes within room are = runs_none (utf16 be)
+units_run be source units (suc r) bytes within room are =
+    let u : ℕ = get_or units r 0 in
     let a : ℕ = get_or source (2 * r) 0 in
     let b : ℕ = get_or source (2 * r + 1) 0 in
-    let low : u < 0x80 = ascii r (omega arith) in
-    let before = block_runs be source block r (omega arith) (omega arith) (λ k h. narrow k (omega arith)) (λ k h. ascii k (omega arith)) in
+    let is = are r (omega arith) in
+    let before = units_run be source units r bytes (omega arith) (omega arith) (λ k h. are k (omega arith)) in
+    let one = subst (λ x. Runs (utf16 be) (a ∷ b ∷ []) (x ∷ [])) (sym is.0) ((unit_pair be a b (bytes (2 * r)) (bytes (2 * r + 1)) (subst IsScalar is.0 is.1)).1) in
     let place : 2 * suc r ≡ 2 * r + 2 = omega arith in
-    let bytes : take (2 * suc r) source ≡ take (2 * r) source ++ a ∷ b ∷ [] = ap (λ n. take n source) place ∙ take_two source (2 * r) (omega arith) in
-    let scalars : take (suc r) block ≡ take r block ++ u ∷ [] = ap (λ n. take n block) (suc_is r) ∙ take_more block r 0 (omega arith) in
-    subst (λ l. Runs (utf16 be) l (take (suc r) block)) (sym bytes) (subst (λ l. Runs (utf16 be) (take (2 * r) source ++ a ∷ b ∷ []) l) (sym scalars)
-    (runs_more (utf16 be) (take (2 * r) source) (a ∷ b ∷ []) (take r block) (u ∷ []) before (unit_runs be a b u (narrow r (omega arith) low) low)))
+    let more : suc r ≡ r + 1 = omega arith in
+    let taken : take (2 * suc r) source ≡ take (2 * r) source ++ a ∷ b ∷ [] = ap (λ n. take n source) place ∙ take_two source (2 * r) (omega arith) in
+    let scalars : take (suc r) units ≡ take r units ++ u ∷ [] = ap (λ n. take n units) more ∙ take_more units r 0 (omega arith) in
+    subst (λ l. Runs (utf16 be) l (take (suc r) units)) (sym taken) (subst (λ l. Runs (utf16 be) (take (2 * r) source ++ a ∷ b ∷ []) l) (sym scalars)
+    (runs_more (utf16 be) (take (2 * r) source) (a ∷ b ∷ []) (take r units) (u ∷ []) before one))
 
--- a block of which so many units were written
-pub reads_block : {D : Type 0} (T : Ghosts D) (be : Bool) (source block : List ℕ) (old new : D) (r : ℕ)
-    → 32 ≤ length source → length block ≡ 16 → HasAsciiUnits be source block 16 → r ≤ length block → IsAscii (take r block)
-    → T.contents new ≡ T.contents old ++ take r block → T.room new + r ≡ T.room old → T.loan new ≡ T.loan old → 19 ≤ T.room old → ReadsAhead T (new_state (utf16 be)) source (2 * r) old new
-reads_block T be source block old new r within long narrow count ascii contents room loan enough =
-    let all = All-from_ascii (take r block) ascii in
-    let l : length (take r block) ≡ r = length-take-le r block count in
-    let same = all_code_units_ascii T.form (take r block) ascii in
-    reads_written {D = _} {T = T} {g = utf16 be} {source = source} {old = old} {new = new} {r = 2 * r} (omega arith) record {
-      scalars = take r block;
-      runs = block_runs be source block r (omega arith) count (λ k h. narrow k (omega arith))
-          (λ k h. subst (λ u. u < 0x80) (get_or-take r block k 0 h) (All-get_or (λ u. u < 0x80) (take r block) k 0 (omega arith) all));
-      written = contents ∙ ap (λ units. T.contents old ++ units) (sym same);
-      room = omega (arith, ap length same, l, room);
-      loan = loan;
-    } (omega arith) (omega arith)
+-- and they were written
+pub writes_units : {D : Type 0} (T : Ghosts D) (be : Bool) (source units : List ℕ) {old new : D} (r : ℕ) → ((k : ℕ) → IsByte (get_or source k 0)) → 2 * r ≤ length source → r ≤ length units
+    → ((k : ℕ) → k < r → (get_or units k 0 ≡ unit_at be source k) × IsScalar (get_or units k 0))
+    → T.contents new ≡ T.contents old ++ all_code_units T.form (take r units) → T.room new + total_unit_count T.form (take r units) ≡ T.room old → T.loan new ≡ T.loan old
+    → Writes T (utf16 be) (take (2 * r) source) old new
+writes_units T be source units r bytes within room are contents room' loan = record {
+  scalars = take r units;
+  runs = units_run be source units r bytes within room are;
+  written = contents;
+  room = room';
+  loan = loan;
+}
 
--- ---- blocks without surrogates
-
--- no unit of at most two bytes in UTF-8 is a surrogate
+-- no unit below U+0800 is a surrogate
 pub below_scalar : (c : ℕ) → c < 0x800 → IsScalar c
 below_scalar c h = search rules
 
--- one more unit is written
-pub writes_unit : {D : Type 0} (T : Ghosts D) (be : Bool) (source : List ℕ) {old mid new : D} (at c : ℕ) → ((k : ℕ) → IsByte (get_or source k 0)) → 2 * at + 1 < length source
-    → Writes T (utf16 be) (take (2 * at) source) old mid
-    → IsScalar (unit_at be source at) → c ≡ unit_at be source at → T.contents new ≡ T.contents mid ++ code_units T.form c
-    → T.room new + length (code_units T.form c) ≡ T.room mid → T.loan new ≡ T.loan mid
-    → Writes T (utf16 be) (take (2 * (at + 1)) source) old new
-writes_unit T be source at c bytes within before scalar is contents room loan =
-    let place : 2 * (at + 1) ≡ 2 * at + 2 = omega arith in
-    let a : ℕ = get_or source (2 * at) 0 in
-    let b : ℕ = get_or source (2 * at + 1) 0 in
-    let run = subst (λ x. Runs (utf16 be) (a ∷ b ∷ []) (x ∷ [])) (sym is) ((unit_pair be a b (bytes (2 * at)) (bytes (2 * at + 1)) scalar).1) in
-    rw place (writes_two T source (2 * at) c within before run contents room loan)
+-- a block of which so many units of ASCII were written
+pub reads_block : {D : Type 0} (T : Ghosts D) (be : Bool) (source block : List ℕ) (old new : D) (r : ℕ) → ((k : ℕ) → IsByte (get_or source k 0))
+    → 32 ≤ length source → length block ≡ 16 → HasAsciiUnits be source block 16 → r ≤ length block → IsAscii (take r block)
+    → T.contents new ≡ T.contents old ++ take r block → T.room new + r ≡ T.room old → T.loan new ≡ T.loan old → 19 ≤ T.room old → ReadsAhead T (new_state (utf16 be)) source (2 * r) old new
+reads_block T be source block old new r bytes within long narrow count ascii contents room loan enough =
+    let all = All-from_ascii (take r block) ascii in
+    let l : length (take r block) ≡ r = length-take-le r block count in
+    let same = all_code_units_ascii T.form (take r block) ascii in
+    let low : (k : ℕ) → k < r → get_or block k 0 < 0x80 = λ k h. subst (λ u. u < 0x80) (get_or-take r block k 0 h) (All-get_or (λ u. u < 0x80) (take r block) k 0 (omega arith) all) in
+    reads_written {D = _} {T = T} {g = utf16 be} {source = source} {old = old} {new = new} {r = 2 * r} (omega arith)
+    (writes_units T be source block r bytes (omega arith) count (λ k h. (sym (narrow k (omega arith) (low k h)), below_scalar (get_or block k 0) (omega (arith, low k h))))
+    (contents ∙ ap (λ units. T.contents old ++ units) (sym same)) (omega (arith, ap length same, l, room)) loan) (omega arith) (omega arith)
+
+-- ---- eight units more
+
+-- the bytes of the rest of a source are bytes
+pub rest_bytes : (source : List ℕ) (at : ℕ) → ((k : ℕ) → IsByte (get_or source k 0)) → (k : ℕ) → IsByte (get_or (take (length source - at) (drop at source)) k 0)
+rest_bytes source at bytes k = subst (λ l. IsByte (get_or l k 0)) (sym (rest_of source at)) (subst IsByte (sym (get_or-drop at source k 0)) (bytes (at + k)))
+
+-- a unit of that rest
+pub rest_unit : (be : Bool) (source : List ℕ) (group k : ℕ) → unit_at be (take (length source - 16 * group) (drop (16 * group) source)) k ≡ unit_at be source (8 * group + k)
+rest_unit be source group k =
+    let first : 16 * group + 2 * k ≡ 2 * (8 * group + k) = omega arith in
+    let second : 16 * group + (2 * k + 1) ≡ 2 * (8 * group + k) + 1 = omega arith in
+    rw (rest_of source (16 * group), get_or-drop (16 * group) source (2 * k) 0, get_or-drop (16 * group) source (2 * k + 1) 0, first, second) refl
+
+pub writes_eight : {D : Type 0} (T : Ghosts D) (be : Bool) (source units : List ℕ) {old mid new : D} (group : ℕ) → ((k : ℕ) → IsByte (get_or source k 0)) → 16 * group + 16 ≤ length source
+    → length units ≡ 8 → Writes T (utf16 be) (take (16 * group) source) old mid
+    → ((k : ℕ) → k < 8 → (get_or units k 0 ≡ unit_at be (take (length source - 16 * group) (drop (16 * group) source)) k) × IsScalar (get_or units k 0))
+    → T.contents new ≡ T.contents mid ++ all_code_units T.form units → T.room new + total_unit_count T.form units ≡ T.room mid → T.loan new ≡ T.loan mid
+    → Writes T (utf16 be) (take (16 * (group + 1)) source) old new
+writes_eight T be source units {old} {mid} {new} group bytes within long before are contents room loan =
+    let at = 16 * group in
+    let rest : List ℕ = take (length source - at) (drop at source) in
+    let longer : length rest ≡ length source - at = length-take-le (length source - at) (drop at source) (omega (arith, length-drop at source)) in
+    let all : take 8 units ≡ units = take_all 8 units (omega arith) in
+    let place : at + 16 ≡ 16 * (group + 1) = omega arith in
+    let enough : 2 * 8 ≤ length rest = omega arith in
+    let room' : T.room new + total_unit_count T.form (take 8 units) ≡ T.room mid = omega (arith, ap (total_unit_count T.form) all, room) in
+    subst (λ n. Writes T (utf16 be) (take n source) old new) place
+    (writes_run T source at 16 before (writes_units T be rest units 8 (rest_bytes source at bytes) enough (omega arith) are
+    (contents ∙ ap (λ l. T.contents mid ++ all_code_units T.form l) (sym all)) room' loan))
+
+-- eight units have three code units each at most
+eight_most : (form : EncodingForm) (units : List ℕ) → ((k : ℕ) → k < length units → get_or units k 0 < 65536) → total_unit_count form units ≤ 3 * length units
+eight_most form [] small = omega arith
+eight_most form (u ∷ units) small =
+    let one = short form u (small zero (omega arith)) in
+    let more = eight_most form units (λ k h. small (suc k) (omega arith)) in
+    omega (arith, one, more, length-append (code_units form u) (all_code_units form units))
+
+pub few_units : (form : EncodingForm) (be : Bool) (source units : List ℕ) → ((k : ℕ) → IsByte (get_or source k 0)) → length units ≡ 8 → ((k : ℕ) → k < 8 → get_or units k 0 ≡ unit_at be source k)
+    → total_unit_count form units ≤ 24
+few_units form be source units bytes long are =
+    omega (arith, long, eight_most form units (λ k h. subst (λ u. u < 65536) (sym (are k (omega arith))) (unit_below be (get_or source (2 * k) 0) (get_or source (2 * k + 1) 0) (bytes (2 * k)) (bytes (2 * k + 1)))))
+
+-- units of a source that is below U+0800 there are so too
+pub short_eight : (be : Bool) (source units : List ℕ) (group : ℕ) → AreUnitsBelow be source 64 0x800 → group < 8
+    → ((k : ℕ) → k < 8 → get_or units k 0 ≡ unit_at be (take (length source - 16 * group) (drop (16 * group) source)) k) → (k : ℕ) → k < 8 → get_or units k 0 < 0x800
+short_eight be source units group below h are k l = subst (λ u. u < 0x800) (sym (are k l ∙ rest_unit be source group k)) (below (8 * group + k) (omega arith))

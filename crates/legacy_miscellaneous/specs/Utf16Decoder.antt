@@ -1,5 +1,5 @@
 -- What the UTF-16 decoder is between two calls.
-use Rattle.std.specs.Prelude.{◌≡◌, ℕ, ◌+◌, ◌*◌, ◌<◌, slice_index, ◌/◌, ◌%◌, List, [], ◌∷◌, Bool, if◌then◌else◌}
+use Rattle.std.specs.Prelude.{◌≡◌, ℕ, ◌+◌, ◌*◌, ◌<◌, length, slice_index, ◌/◌, ◌%◌, List, [], ◌∷◌, Bool, if◌then◌else◌}
 use Rattle.legacy_base.specs.Grammar.{Grammar, utf16}
 use Rattle.legacy_base.specs.Utf16.{unit_of}
 use Rattle.legacy_base.specs.States.{DecoderState}
@@ -38,3 +38,11 @@ unit_at big_endian bytes k = unit_of big_endian (slice_index bytes (2 * k)) (sli
 -- where one of the first n numbers of the block is ASCII, the unit is that number
 abbrev pub HasAsciiUnits : Bool → List ℕ → List ℕ → ℕ → Type 0
 HasAsciiUnits big_endian bytes block n = (k : ℕ) → k < n → slice_index block k < 0x80 → unit_at big_endian bytes k ≡ slice_index block k
+
+-- each number is below n
+abbrev pub AreBelow : ℕ → List ℕ → Type 0
+AreBelow n units = (k : ℕ) → k < length units → slice_index units k < n
+
+-- the first units of the bytes are below a bound
+abbrev pub AreUnitsBelow : Bool → List ℕ → ℕ → ℕ → Type 0
+AreUnitsBelow big_endian bytes count bound = (k : ℕ) → k < count → unit_at big_endian bytes k < bound

@@ -6,3 +6,6 @@ pub mod Texts
 pub mod UnitCopies
 pub mod UnitTurns
 pub mod ScalarTurns
+pub mod UnitLanes
+pub mod VectorUnits
+pub mod ShortUnits

@@ -10,3 +10,4 @@ pub mod UnitTurns
 pub mod ScalarTurns
 pub mod ShortScalars
 pub mod TextSources
+pub mod UnitBytes

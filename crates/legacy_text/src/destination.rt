@@ -1,11 +1,16 @@
 //! Where a decoder writes.
 ghost use Rattle.std.specs.Prelude.{◌≡◌, ℕ, ◌+◌, ◌-◌, ◌<◌, ◌≤◌, List, [], ◌∷◌, ◌++◌, length, take};
-ghost use Rattle.std.specs.Prelude.{slice_index, IsAscii, encode_utf8};
+ghost use Rattle.std.specs.Prelude.{slice_index, IsAscii, encode_utf8, All};
+ghost use Rattle.std.specs.Char.{IsScalar};
 ghost use Rattle.std.specs.Borrow.{GName};
 ghost use Rattle.legacy_text.specs.EncodingForm.{EncodingForm, Utf8, Utf16, code_units, unit_count};
+ghost use Rattle.legacy_text.specs.EncodingForm.{all_code_units, total_unit_count};
+ghost use Rattle.legacy_text.specs.UnitBytes.{AreShort};
 ghost use Rattle.legacy_text.specs.EncodingForm.{bmp_room, wide_room};
 
 use crate::blocks::ascii_count;
+use crate::eight_units::put_eight_units;
+use crate::short_units::put_short_units;
 use std::simd::prelude::*;
 
 /// An output of UTF-8 bytes or of UTF-16 code units, one of the two for each type.
@@ -64,6 +69,36 @@ pub trait Destination {
     {
         let _ = bytes;
         0
+    }
+
+    /// Writes the code units of eight scalar values up to U+FFFF. At least 32 code units must be free.
+    #[inline(always)]
+    fn put_eight(&mut self, units: u16x8)
+        requires scalars { All IsScalar units }
+        requires room { 32 ≤ room self.old }
+        ensures contents { contents self.new ≡ contents self.old ++ all_code_units form units }
+        ensures room { room self.new + total_unit_count form units ≡ room self.old }
+        ensures loan { loan self.new ≡ loan self.old }
+    {
+        let scalars = units.to_array();
+        let mut at = 0;
+        while at < 8 {
+            self.put(unsafe { char::from_u32_unchecked(u32::from(scalars[at])) });
+            at += 1;
+        }
+    }
+
+    /// Writes the code units of eight scalar values below U+0800. At least 32 code units must be free.
+    #[inline(always)]
+    fn put_eight_short(&mut self, units: u16x8)
+        requires scalars { All IsScalar units }
+        requires short { AreShort units }
+        requires room { 32 ≤ room self.old }
+        ensures contents { contents self.new ≡ contents self.old ++ all_code_units form units }
+        ensures room { room self.new + total_unit_count form units ≡ room self.old }
+        ensures loan { loan self.new ≡ loan self.old }
+    {
+        self.put_eight(units);
     }
 }
 
@@ -216,6 +251,16 @@ impl Destination for Utf8Destination<'_> {
         }
         at
     }
+
+    #[inline(always)]
+    fn put_eight(&mut self, units: u16x8) {
+        self.filled = put_eight_units(self.buffer, self.filled, units);
+    }
+
+    #[inline(always)]
+    fn put_eight_short(&mut self, units: u16x8) {
+        self.filled = put_short_units(self.buffer, self.filled, units);
+    }
 }
 
 /// UTF-16 into a slice of code units, from its front on.
@@ -334,5 +379,11 @@ impl Destination for Utf16Destination<'_> {
             }
         }
         at
+    }
+
+    #[inline(always)]
+    fn put_eight(&mut self, units: u16x8) {
+        units.copy_to_slice(&mut self.buffer[self.filled..]);
+        self.filled += 8;
     }
 }

@@ -4,11 +4,14 @@
 
 mod blocks;
 mod destination;
+mod eight_units;
 mod scalar_turns;
 mod short_scalars;
+mod short_units;
 mod source;
 mod text_source;
 mod unit_codes;
+mod unit_rows;
 
 pub use destination::{Destination, Utf8Destination, Utf16Destination};
 pub use source::ByteSource;

@@ -1,21 +1,20 @@
-//! The blocks of UTF-16: units of ASCII, and units that are no surrogates.
+//! Blocks of UTF-16 code units that are no surrogates: 64 units at a time, eight at a time, and one by one.
 // Inlined always is what runs for each form or block: a call would pass vectors through memory, and put the
 // destination's place there from form to form.
-ghost use Rattle.std.specs.Prelude.{◌≡◌, ◌+◌, ◌<◌, ◌≤◌, ℕ, length, false, slice_index, ◌++◌};
+ghost use Rattle.std.specs.Prelude.{◌≡◌, ◌+◌, ◌*◌, ◌<◌, ◌≤◌, ℕ, length, true, false, slice_index};
 ghost use Rattle.std.specs.Char.{IsScalar};
-ghost use Rattle.legacy_text.specs.EncodingForm.{code_units, unit_count};
 ghost use Rattle.legacy_base.specs.Grammar.{utf16};
 ghost use Rattle.legacy_base.specs.States.{new_state};
 ghost use Rattle.legacy_decoder_engine.specs.Ahead.{ReadsAhead};
-ghost use Rattle.legacy_miscellaneous.specs.Utf16Decoder.{HasAsciiUnits};
+ghost use Rattle.legacy_miscellaneous.specs.Utf16Decoder.{HasAsciiUnits, AreUnitsBelow};
 
 use super::units::unit;
-use super::vectors::{eight_units, sixteen_units};
+use super::vectors::{are_all_below, eight_units, greater_units, sixteen_units};
 use legacy_base::Destination;
 use legacy_decoder_engine::pairs::{Pairs, read_pairs};
 use legacy_decoder_engine::runs::{Blocks, read_blocks};
 
-/// The units of a byte order.
+/// The code units of a byte order.
 #[derive(Drop)]
 pub struct Units {
     pub big_endian: bool,
@@ -32,7 +31,7 @@ impl Pairs for Units {
     }
 }
 
-/// Whether any of the units is a surrogate.
+/// Returns whether any of the units is a surrogate.
 #[inline(always)]
 fn has_surrogate(units: &[u16]) -> bool
     ensures { result ≡ false → (k : ℕ) → k < length units.now → IsScalar (slice_index units.now k) }
@@ -46,90 +45,29 @@ fn has_surrogate(units: &[u16]) -> bool
     found
 }
 
-/// Writes a unit that is a scalar.
-#[inline(always)]
-fn put_unit<T: Destination>(dst: &mut T, unit: u16)
-    requires scalar { IsScalar unit }
-    requires room { 3 ≤ T.room dst.old }
-    ensures contents { T.contents dst.new ≡ T.contents dst.old ++ code_units T.form unit }
-    ensures room { T.room dst.new + unit_count T.form unit ≡ T.room dst.old }
-    ensures loan { T.loan dst.new ≡ T.loan dst.old }
-{
-    dst.put(unsafe { char::from_u32_unchecked(u32::from(unit)) });
-}
-
-/// Sixteen units at a time.
+/// ASCII by sixteens.
 #[derive(Drop)]
-struct Sixteens<'a> {
+struct AsciiUnits<'a> {
     units: &'a Units,
 }
 
-impl Blocks for Sixteens<'_> {
+impl Blocks for AsciiUnits<'_> {
     ghost grammar = { λ blocks. utf16 blocks.units.now.big_endian };
 
-    /// Reads sixteen units, or none where one of them is a surrogate.
-    // No turn ends early and the units are those of a vector, so where a scalar is one code unit the compiler
-    // stores the vector as it is.
+    /// Decodes the ASCII at the front of sixteen units.
     #[inline(always)]
     fn read_block<T: Destination>(&self, src: &[u8], dst: &mut T) -> (usize, bool) {
-        if src.len() < 32 || dst.free() < 51 {
+        if src.len() < 32 || dst.free() < 19 {
             return (0, false);
         }
-        let units = sixteen_units(self.units.big_endian, src).to_array();
-        if has_surrogate(&units) {
-            return (0, false);
-        }
-        let mut at = 0;
-        while at < 16 {
-            let unit = units[at];
-            put_unit(dst, unit);
-            at += 1;
-        }
-        (32, true)
-    }
-}
-
-/// Units past ASCII by eights, and single ones of ASCII between them.
-#[derive(Drop)]
-struct PastAscii<'a> {
-    units: &'a Units,
-}
-
-impl Blocks for PastAscii<'_> {
-    ghost grammar = { λ blocks. utf16 blocks.units.now.big_endian };
-
-    /// Reads up to eight units: none where one of them is a surrogate, and otherwise those before two of ASCII
-    /// in a row.
-    // A put for each length of a scalar: each then knows its length, and three bytes are tested first.
-    #[inline(always)]
-    fn read_block<T: Destination>(&self, src: &[u8], dst: &mut T) -> (usize, bool) {
-        if src.len() < 16 || dst.free() < 27 {
-            return (0, false);
-        }
-        let units = eight_units(self.units.big_endian, src).to_array();
-        if has_surrogate(&units) {
-            return (0, false);
-        }
-        let mut at = 0;
-        while at < 8 {
-            let unit = units[at];
-            if unit >= 0x800 {
-                put_unit(dst, unit);
-            } else if unit >= 0x80 {
-                put_unit(dst, unit);
-            } else if at < 7 && units[at + 1] < 0x80 {
-                return (2 * at, false);
-            } else {
-                put_unit(dst, unit);
-            }
-            at += 1;
-        }
-        (16, true)
+        let block = self.units.narrow_block(src);
+        let count = dst.copy_ascii(&block);
+        (2 * count, count >= 16)
     }
 }
 
 impl Units {
-    /// The first sixteen units as bytes: those below 100 as they are, and FF for the others.
+    /// Returns the first sixteen units as bytes: a unit below 0100 as it is, and FF for any other.
     // Of units in a vector the compiler makes two operations of this.
     #[inline(always)]
     fn narrow_block(&self, src: &[u8]) -> [u8; 16]
@@ -147,123 +85,113 @@ impl Units {
         block
     }
 
-    /// Whether there is a first unit and it is below the bound.
+    /// Returns whether the first 64 units are below the bound.
     #[inline(always)]
-    fn begins_below(&self, src: &[u8], bound: u16) -> bool {
-        src.len() >= 2 && unit(self.big_endian, src[0], src[1]) < bound
+    fn are_below(&self, src: &[u8], bound: u16) -> bool
+        requires { 128 ≤ length src.now }
+        ensures { result ≡ true → AreUnitsBelow self.now.big_endian src.now 64 bound }
+    {
+        let mut greatest = eight_units(self.big_endian, src);
+        let mut group = 1;
+        while group < 8 {
+            let units = eight_units(self.big_endian, &src[16 * group..]);
+            greatest = greater_units(greatest, units);
+            group += 1;
+        }
+        are_all_below(greatest, bound)
     }
 
-    /// Reads the first unit, unless it is a surrogate. Answers how many bytes were read: none is an answer
-    /// too.
-    // Units of at most two bytes in UTF-8 come first: of them no other test is left.
+    /// Decodes up to 64 units, up to the first eight with a surrogate. Returns the number of bytes read.
+    // How long the scalars are in UTF-8 is asked once for all 64: in text with letters past ASCII it is foreseen
+    // better so than for each eight.
     #[inline(always)]
-    fn read_unit<T: Destination>(&self, src: &[u8], dst: &mut T) -> usize
-        requires source { 2 ≤ length src.now }
-        requires room { 6 ≤ T.room dst.old }
+    fn read_sixty_four<T: Destination>(&self, src: &[u8], dst: &mut T) -> usize
+        requires source { 128 ≤ length src.now }
+        requires room { 203 ≤ T.room dst.old }
         ensures { ReadsAhead T.Destination (new_state (utf16 self.now.big_endian)) src.now result
             dst.old dst.new }
     {
-        let first = unit(self.big_endian, src[0], src[1]);
-        if first < 0x800 {
-            put_unit(dst, first);
-            return 2;
-        }
-        match self.scalar(src[0], src[1]) {
-            Some(scalar) => {
-                dst.put(scalar);
-                2
+        if T::narrow() > 1 {
+            if self.are_below(src, 0x80) {
+                return read_blocks(&AsciiUnits { units: self }, src, dst);
             }
-            None => 0,
+            if self.are_below(src, 0x800) {
+                return self.read_short_units(src, dst);
+            }
         }
+        self.read_eights(src, dst, 8)
     }
 
-    /// Reads the first unit, and unless ASCII goes on behind it the units past ASCII there. Answers how many
-    /// bytes were read: none is an answer too.
-    // Between ASCII and a unit below U+0800, which is a letter of a Latin script there, ASCII goes on: the unit
-    // behind it is not looked at.
+    /// Decodes this many times eight units, up to the first eight with a surrogate. Returns the number of bytes read.
     #[inline(always)]
-    fn read_unit_and_next<T: Destination>(
-        &self,
-        src: &[u8],
-        dst: &mut T,
-        is_behind_ascii: bool,
-    ) -> usize
-        requires source { 2 ≤ length src.now }
-        requires room { 6 ≤ T.room dst.old }
+    fn read_eights<T: Destination>(&self, src: &[u8], dst: &mut T, eights: usize) -> usize
+        requires source { 16 * eights ≤ length src.now }
+        requires room { 0 < eights → 24 * eights + 11 ≤ T.room dst.old }
         ensures { ReadsAhead T.Destination (new_state (utf16 self.now.big_endian)) src.now result
             dst.old dst.new }
     {
-        let at = self.read_unit(src, dst);
-        if at == 0 || (is_behind_ascii && self.begins_below(src, 0x800)) {
-            return at;
+        let mut group = 0;
+        while group < eights {
+            let units = eight_units(self.big_endian, &src[16 * group..]);
+            if has_surrogate(&units.to_array()) {
+                return 16 * group;
+            }
+            dst.put_eight(units);
+            group += 1;
         }
-        if self.begins_below(&src[at..], 0x80) {
-            return at;
-        }
-        at + read_blocks(&PastAscii { units: self }, &src[at..], dst)
+        16 * eights
     }
-}
 
-/// Units of ASCII by sixteens, and what is between them.
-#[derive(Drop)]
-struct MixedUnits<'a> {
-    units: &'a Units,
-}
-
-impl Blocks for MixedUnits<'_> {
-    ghost grammar = { λ blocks. utf16 blocks.units.now.big_endian };
-
-    /// Reads sixteen units of ASCII, or fewer and what `read_unit_and_next` does behind them.
+    /// Decodes 64 units below U+0800. Returns the number of bytes read.
     #[inline(always)]
-    fn read_block<T: Destination>(&self, src: &[u8], dst: &mut T) -> (usize, bool) {
-        if src.len() < 32 || dst.free() < 21 {
-            return (0, false);
-        }
-        let block = self.units.narrow_block(src);
-        let count = dst.copy_ascii(&block);
-        let at = 2 * count;
-        if count >= 16 {
-            return (at, true);
-        }
-        let read = self.units.read_unit_and_next(&src[at..], dst, count > 0);
-        (at + read, read > 0)
-    }
-}
-
-impl Units {
-    /// Reads units that are no surrogates as suits the encoding form: by sixteens where each scalar is one
-    /// code unit, and otherwise by what each sixteen have. Answers how many bytes were read: none is an
-    /// answer too.
-    #[inline(always)]
-    fn read_part<T: Destination>(&self, src: &[u8], dst: &mut T) -> usize
+    fn read_short_units<T: Destination>(&self, src: &[u8], dst: &mut T) -> usize
+        requires source { 128 ≤ length src.now }
+        requires short { AreUnitsBelow self.now.big_endian src.now 64 0x800 }
+        requires room { 203 ≤ T.room dst.old }
         ensures { ReadsAhead T.Destination (new_state (utf16 self.now.big_endian)) src.now result
             dst.old dst.new }
     {
-        if T::narrow() == 1 {
-            return read_blocks(&Sixteens { units: self }, src, dst);
+        let mut group = 0;
+        while group < 8 {
+            let units = eight_units(self.big_endian, &src[16 * group..]);
+            dst.put_eight_short(units);
+            group += 1;
         }
-        read_blocks(&MixedUnits { units: self }, src, dst)
+        128
     }
 
-    /// Reads up to sixteen units from the front, one by one. Answers how many bytes were read: none is an
-    /// answer too.
+    /// Decodes up to eight units one by one, up to a surrogate. Returns the number of bytes read.
     #[inline(always)]
     fn read_some<T: Destination>(&self, src: &[u8], dst: &mut T) -> usize
         ensures { ReadsAhead T.Destination (new_state (utf16 self.now.big_endian)) src.now result
             dst.old dst.new }
     {
-        let part = src.len().min(32);
+        let part = src.len().min(16);
         read_pairs(self, &src[..part], dst)
+    }
+
+    /// Decodes up to 64 units by vectors. Returns the number of bytes read.
+    #[inline(always)]
+    fn read_vectors<T: Destination>(&self, src: &[u8], dst: &mut T) -> usize
+        ensures { ReadsAhead T.Destination (new_state (utf16 self.now.big_endian)) src.now result
+            dst.old dst.new }
+    {
+        let eights = (src.len() / 16).min(dst.free().saturating_sub(11) / 24);
+        if eights >= 8 {
+            self.read_sixty_four(src, dst)
+        } else {
+            self.read_eights(src, dst, eights)
+        }
     }
 }
 
 impl Blocks for Units {
     ghost grammar = { λ units. utf16 units.big_endian };
 
-    /// Reads units by vectors, or where there are none for them up to sixteen one by one.
+    /// Decodes units by vectors, or up to eight one by one where no vector can be read.
     #[inline(always)]
     fn read_block<T: Destination>(&self, src: &[u8], dst: &mut T) -> (usize, bool) {
-        let at = self.read_part(src, dst);
+        let at = self.read_vectors(src, dst);
         if at > 0 {
             return (at, true);
         }

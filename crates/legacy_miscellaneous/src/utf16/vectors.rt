@@ -2,7 +2,7 @@
 // Inlined always is what runs for each form or block: a call would pass vectors through memory, and put the
 // destination's place there from form to form.
 ghost use Rattle.std.specs.Prelude.{◌≡◌, ◌<◌, ◌≤◌, ℕ, length, true, false, slice_index};
-ghost use Rattle.legacy_miscellaneous.specs.Utf16Decoder.{unit_at};
+ghost use Rattle.legacy_miscellaneous.specs.Utf16Decoder.{unit_at, AreBelow};
 
 use std::simd::prelude::*;
 
@@ -73,4 +73,20 @@ pub fn sixteen_units(big_endian: bool, src: &[u8]) -> u16x16
     } else {
         sixteen_little(src)
     }
+}
+
+/// The greater unit of each lane.
+#[inline(always)]
+pub fn greater_units(a: u16x8, b: u16x8) -> u16x8
+    ensures { (n : ℕ) → AreBelow n result → AreBelow n a × AreBelow n b }
+{
+    a.simd_max(b)
+}
+
+/// Whether each unit is below the bound.
+#[inline(always)]
+pub fn are_all_below(units: u16x8, bound: u16) -> bool
+    ensures { result ≡ true → AreBelow bound units }
+{
+    units.simd_lt(u16x8::splat(bound)).all()
 }

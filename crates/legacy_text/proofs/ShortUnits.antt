@@ -1,0 +1,160 @@
+-- Units below 0x800.
+use Rattle.std.proofs.Common.{◌≡◌, ℕ, suc, ◌+◌, ◌-◌, ◌*◌, ◌/◌, ◌%◌, ◌^◌, ◌<◌, ◌≤◌, Bool, true, false, cond, ltb, leb, eqb, List, [], ◌∷◌, ◌++◌, length, get_or, map, take, replicate, bit_and, refl, ap, ap₂, ◌∙◌, arith, w8, w16, Fits, All}
+use Rattle.std.proofs.lemmas.Bool.{ltb-true, ltb-false, leb-true, eqb-true, agree_below_at}
+use Rattle.std.proofs.lemmas.List.{map-append, length-map, take-take, take-map}
+use Rattle.std.proofs.Math.Seq.{take-append_seam}
+use Rattle.std.proofs.lemmas.Nat.{and_mask}
+use Rattle.std.proofs.lemmas.Simd.{bitmask_splat, mask_l-lt, swz_l}
+use Rattle.std.specs.Char.{encode_utf8}
+use Rattle.std.specs.Int.RustNames.{count_ones}
+use Rattle.std.specs.List.{range_with_len}
+use lib.Lanes.{Each1, zip2, sel_l, mask_l, top, number_l, digits_l, all_below}
+use Rattle.legacy_text.specs.declared.unit_rows.TheConstants.{SHORT_WRITTEN}
+use Rattle.legacy_text.specs.UnitBytes.{short_bytes, short_lanes, short_pattern, short_places, short_row, AreShort, utf8_bytes}
+use Rattle.legacy_text.proofs.UnitLanes.{of_eight, le_bytes, shuffled, each_below}
+
+-- ---- two bytes of each unit
+
+short_is : (u : ℕ) → u < 65536
+    → cond (top 15 (cond (ltb u 128) (2 ^ 16 - 1) 0)) u (((bit_and (u / 2 ^ 6) 31 + 192) % 2 ^ 16 + (bit_and u 63 + 128) % 2 ^ 16 * 2 ^ 8 % 2 ^ 16) % 2 ^ 16) ≡ short_bytes u
+short_is u small = go (ltb u 128)
+  where
+    go : (t : Bool) → cond (top 15 (cond t (2 ^ 16 - 1) 0)) u (((bit_and (u / 2 ^ 6) 31 + 192) % 2 ^ 16 + (bit_and u 63 + 128) % 2 ^ 16 * 2 ^ 8 % 2 ^ 16) % 2 ^ 16)
+        ≡ cond t u (192 + u / 64 % 32 + 256 * (128 + u % 64))
+    go true = refl
+    go false = omega (arith, and_mask u 6, and_mask (u / 2 ^ 6) 5)
+
+short_small : (u : ℕ) → u < 65536 → short_bytes u < 65536
+short_small u small = go (ltb u 128)
+  where
+    go : (t : Bool) → cond t u (192 + u / 64 % 32 + 256 * (128 + u % 64)) < 65536
+    go true = small
+    go false = omega arith
+
+abbrev vector_short : List ℕ → List ℕ
+vector_short v =
+    sel_l (map (top 15) (zip2 (λ a b. cond (ltb a b) (2 ^ 16 - 1) 0) v (replicate 8 128))) v
+    (zip2 (λ a b. (a + b) % 2 ^ 16) (zip2 (λ a b. (a + b) % 2 ^ 16) (zip2 bit_and (zip2 (λ a b. a / 2 ^ b) v (replicate 8 6)) (replicate 8 31)) (replicate 8 192))
+    (zip2 (λ a b. a * 2 ^ b % 2 ^ 16) (zip2 (λ a b. (a + b) % 2 ^ 16) (zip2 bit_and v (replicate 8 63)) (replicate 8 128)) (replicate 8 8)))
+
+pub vector_short_lanes : (v : List ℕ) → length v ≡ 8 → Each1 (Fits w16) v → digits_l 256 16 (number_l 65536 (vector_short v)) ≡ short_lanes v
+vector_short_lanes =
+    of_eight (λ v. digits_l 256 16 (number_l 65536 (vector_short v)) ≡ short_lanes v) (λ a b c d e f g h sa sb sc sd se sf sg sh.
+    (λ t. digits_l 256 16 (number_l 65536 (short_is a sa t ∷ short_is b sb t ∷ short_is c sc t ∷ short_is d sd t ∷ short_is e se t ∷ short_is f sf t ∷ short_is g sg t ∷ short_is h sh t ∷ [])))
+    ∙ le_bytes (short_bytes a ∷ short_bytes b ∷ short_bytes c ∷ short_bytes d ∷ short_bytes e ∷ short_bytes f ∷ short_bytes g ∷ short_bytes h ∷ [])
+    (short_small a sa, (short_small b sb, (short_small c sc, (short_small d sd, (short_small e se, (short_small f sf, (short_small g sg, (short_small h sh, tt)))))))))
+
+-- ---- which of them have one
+
+pub short_bits_are : (v : List ℕ) → length v ≡ 8
+    → mask_l (map (top 15) (zip2 (λ a b. cond (ltb a b) (2 ^ 16 - 1) 0) v (replicate 8 128))) % 2 ^ 64 ≡ short_pattern v
+unfolding short_pattern
+short_bits_are v long = bitmask_splat w16 ltb v 8 128 long (omega arith)
+
+pub short_pattern_lt : (v : List ℕ) → length v ≡ 8 → short_pattern v < 256
+unfolding short_pattern
+short_pattern_lt v long =
+    let n : length (map (λ u. ltb u 128) v) ≡ 8 = length-map v (λ u. ltb u 128) ∙ long in
+    let e : 2 ^ length (map (λ u. ltb u 128) v) ≡ 2 ^ 8 = ap (λ k. 2 ^ k) n in
+    omega (arith, mask_l-lt (map (λ u. ltb u 128) v), e)
+
+-- ---- the table
+
+short_within : (r : ℕ) → r < 256 → all_below 16 (short_row r) ≡ true
+unfolding short_row short_places
+short_within r h = agree_below_at (λ n. all_below 16 (short_row n)) (λ _. true) 256 r refl h
+
+short_long : (r : ℕ) → r < 256 → eqb (length (short_row r)) 16 ≡ true
+unfolding short_row short_places
+short_long r h = agree_below_at (λ n. eqb (length (short_row n)) 16) (λ _. true) 256 r refl h
+
+short_count : (r : ℕ) → r < 256 → eqb (16 - count_ones r) (length (short_places 0 8 r)) ≡ true
+unfolding short_places count_ones
+short_count r h = agree_below_at (λ n. eqb (16 - count_ones n) (length (short_places 0 8 n))) (λ _. true) 256 r refl h
+
+short_most : (r : ℕ) → r < 256 → leb (length (short_places 0 8 r)) 16 ≡ true
+unfolding short_places
+short_most r h = agree_below_at (λ n. leb (length (short_places 0 8 n)) 16) (λ _. true) 256 r refl h
+
+short_ones : (r : ℕ) → r < 256 → leb (count_ones r) 8 ≡ true
+unfolding count_ones
+short_ones r h = agree_below_at (λ n. leb (count_ones n) 8) (λ _. true) 256 r refl h
+
+pub short_rows_are : SHORT_WRITTEN ≡ map short_row (range_with_len 0 256)
+unfolding short_row short_places
+short_rows_are = refl
+
+pub short_row_within : (r : ℕ) → r < 256 → Each1 (λ j. j < 16) (short_row r)
+short_row_within r h = each_below 16 (short_row r) (short_within r h)
+
+pub short_row_long : (r : ℕ) → r < 256 → length (short_row r) ≡ 16
+short_row_long r h = eqb-true _ _ (short_long r h)
+
+pub short_counted : (at r : ℕ) → r < 256 → at + 16 - count_ones r ≡ at + length (short_places 0 8 r)
+short_counted at r h = omega (arith, eqb-true _ _ (short_count r h), leb-true _ _ (short_ones r h))
+
+pub short_places_most : (r : ℕ) → r < 256 → length (short_places 0 8 r) ≤ 16
+short_places_most r h = leb-true _ _ (short_most r h)
+
+pub short_written : (xs : List ℕ) (r : ℕ) → r < 256 → take (length (short_places 0 8 r)) (swz_l w8 16 xs 0 (short_row r)) ≡ map (λ j. get_or xs j 0) (short_places 0 8 r)
+unfolding short_row
+short_written xs r h =
+    let n = length (short_places 0 8 r) in
+    ap (take n) (shuffled xs 0 (short_row r) (omega (arith, short_row_long r h)) (short_row_within r h))
+    ∙ take-map (λ j. get_or xs j 0) n (short_row r)
+    ∙ ap (map (λ j. get_or xs j 0)) (take-take n 16 _ (short_places_most r h) ∙ take-append_seam (short_places 0 8 r) (replicate 16 0))
+
+-- ---- the bytes that are written are the text
+
+abbrev ReadsShort : (ℕ → ℕ) → ℕ → List ℕ → Type 0
+ReadsShort f base [] = Unit {0}
+ReadsShort f base (u ∷ us) = (f base ≡ short_bytes u % 256) × (f (base + 1) ≡ short_bytes u / 256) × ReadsShort f (base + 2) us
+
+digit : (s : Bool) (m : ℕ) → (eqb ((cond s 1 0 + 2 * m) % 2) 1 ≡ s) × ((cond s 1 0 + 2 * m) / 2 ≡ m)
+digit true m =
+    let e : (1 + 2 * m) % 2 ≡ 1 = omega arith in
+    (ap (λ n. eqb n 1) e, omega arith)
+digit false m =
+    let e : (0 + 2 * m) % 2 ≡ 0 = omega arith in
+    (ap (λ n. eqb n 1) e, omega arith)
+
+short_unit : (u a b : ℕ) → u < 2048 → a ≡ short_bytes u % 256 → b ≡ short_bytes u / 256 → cond (ltb u 128) (a ∷ []) (a ∷ b ∷ []) ≡ encode_utf8 u
+unfolding encode_utf8
+short_unit u a b small p q = go (ltb u 128) (ltb u 2048) refl refl p q
+  where
+    go : (s t : Bool) → ltb u 128 ≡ s → ltb u 2048 ≡ t → a ≡ cond s u (192 + u / 64 % 32 + 256 * (128 + u % 64)) % 256 → b ≡ cond s u (192 + u / 64 % 32 + 256 * (128 + u % 64)) / 256
+        → cond s (a ∷ []) (a ∷ b ∷ []) ≡ cond s (u ∷ []) (cond t ((192 + u / 64) ∷ (128 + u % 64) ∷ []) (cond (ltb u 65536) ((224 + u / 4096) ∷ (128 + u / 64 % 64) ∷ (128 + u % 64) ∷ [])
+        ((240 + u / 262144) ∷ (128 + u / 4096 % 64) ∷ (128 + u / 64 % 64) ∷ (128 + u % 64) ∷ [])))
+    go true t e f p q =
+        let low : u < 128 = ltb-true _ _ e in
+        let x : a ≡ u = omega arith in
+        rw x refl
+    go false true e f p q =
+        let x : a ≡ 192 + u / 64 = omega arith in
+        let y : b ≡ 128 + u % 64 = omega arith in
+        rw (x, y) refl
+    go false false e f p q = absurd (omega (arith, ltb-false _ _ f))
+
+short_text : (f : ℕ → ℕ) (base : ℕ) (us : List ℕ) → All (λ u. u < 2048) us → ReadsShort f base us → map f (short_places base (length us) (short_pattern us)) ≡ utf8_bytes us
+unfolding short_places short_pattern
+short_text f base [] small reads = refl
+short_text f base (u ∷ us) small reads =
+    let d = digit (ltb u 128) (short_pattern us) in
+    let s = ltb u 128 in
+    let first : u < 2048 = small 0 0 (omega arith) in
+    let rest = short_places (base + 2) (length us) (short_pattern us) in
+    (λ i. map f (cond (d.0 i) (base ∷ []) (base ∷ (base + 1) ∷ []) ++ short_places (base + 2) (length us) (d.1 i)))
+    ∙ map-append f (cond s (base ∷ []) (base ∷ (base + 1) ∷ [])) rest
+    ∙ ap₂ (λ (x y : List ℕ). x ++ y)
+    (chosen s ∙ short_unit u (f base) (f (base + 1)) first reads.0 reads.1)
+    (short_text f (base + 2) us (λ k d' h. small (suc k) d' (omega arith)) reads.2)
+  where
+    chosen : (s : Bool) → map f (cond s (base ∷ []) (base ∷ (base + 1) ∷ [])) ≡ cond s (f base ∷ []) (f base ∷ f (base + 1) ∷ [])
+    chosen true = refl
+    chosen false = refl
+
+pub short_text_of_eight : (v : List ℕ) → length v ≡ 8 → Each1 (Fits w16) v → AreShort v → map (λ k. get_or (short_lanes v) k 0) (short_places 0 8 (short_pattern v)) ≡ utf8_bytes v
+short_text_of_eight =
+    of_eight (λ v. AreShort v → map (λ k. get_or (short_lanes v) k 0) (short_places 0 8 (short_pattern v)) ≡ utf8_bytes v) (λ a b c d e f g h sa sb sc sd se sf sg sh short.
+    short_text (λ k. get_or (short_lanes (a ∷ b ∷ c ∷ d ∷ e ∷ f ∷ g ∷ h ∷ [])) k 0) 0 (a ∷ b ∷ c ∷ d ∷ e ∷ f ∷ g ∷ h ∷ []) short
+    (refl, refl, (refl, refl, (refl, refl, (refl, refl, (refl, refl, (refl, refl, (refl, refl, (refl, refl, tt)))))))))

@@ -1,0 +1,389 @@
+-- Vectors lane by lane, where a vector is the list of its lanes written out.
+use Rattle.std.proofs.Common.{◌≡◌, ℕ, zero, suc, ◌+◌, ◌-◌, ◌*◌, ◌/◌, ◌%◌, ◌^◌, ◌<◌, ◌≤◌, Bool, true, false, cond, ltb, leb, eqb, List, [], ◌∷◌, ◌++◌, length, get_or, map, take, drop, replicate, bit_and, refl, sym, ap, ap₂, ◌∙◌, arith, w8, w16, Fits, ◌&&◌, mod-lt, zero-lt-suc, mul_assoc}
+use Rattle.std.proofs.lemmas.Bool.{ltb-true, ltb-false, leb-true, eqb-true, lt-leb, and_parts, agree_below_at}
+use Rattle.std.proofs.lemmas.List.{map-append, append_assoc, length-take-le, length-drop, take-take, take-append-drop, take-append-le, take-map}
+use Rattle.std.proofs.Math.Seq.{take-append_seam, take-append-add, take-add}
+use Rattle.std.proofs.lemmas.Nat.{and_mask}
+use Rattle.std.proofs.lemmas.Nat.Bits.{and_high}
+use Rattle.std.proofs.lemmas.Simd.{mask_l-lt, mask_l-mod, swz_l, put_chunk_is}
+use Rattle.std.proofs.lemmas.Grind.{flat_map-append}
+use Rattle.std.specs.Char.{encode_utf8}
+use Rattle.std.specs.List.{range_with_len}
+use lib.Lanes.{Each1, zip2, sel_l, mask_l, top, number_l, digits_l, pick_l, all_below, put_chunk}
+use Rattle.legacy_text.specs.declared.unit_rows.TheConstants.{WRITTEN, COUNTS}
+use Rattle.legacy_text.specs.UnitBytes.{last_byte, front_bytes, lanes, flags, pattern, lane_places, places, row, utf8_bytes}
+
+-- ---- eight lanes
+
+-- what holds of any eight lanes that fit holds of a vector
+pub of_eight : (P : List ℕ → Type 0) → ((a b c d e f g h : ℕ) → a < 65536 → b < 65536 → c < 65536 → d < 65536 → e < 65536 → f < 65536 → g < 65536 → h < 65536
+    → P (a ∷ b ∷ c ∷ d ∷ e ∷ f ∷ g ∷ h ∷ [])) → (v : List ℕ) → length v ≡ 8 → Each1 (Fits w16) v → P v
+of_eight P p [] n s = absurd (omega arith)
+of_eight P p (a ∷ []) n s = absurd (omega arith)
+of_eight P p (a ∷ b ∷ []) n s = absurd (omega arith)
+of_eight P p (a ∷ b ∷ c ∷ []) n s = absurd (omega arith)
+of_eight P p (a ∷ b ∷ c ∷ d ∷ []) n s = absurd (omega arith)
+of_eight P p (a ∷ b ∷ c ∷ d ∷ e ∷ []) n s = absurd (omega arith)
+of_eight P p (a ∷ b ∷ c ∷ d ∷ e ∷ f ∷ []) n s = absurd (omega arith)
+of_eight P p (a ∷ b ∷ c ∷ d ∷ e ∷ f ∷ g ∷ []) n s = absurd (omega arith)
+of_eight P p (a ∷ b ∷ c ∷ d ∷ e ∷ f ∷ g ∷ h ∷ []) n s =
+    p a b c d e f g h s.0.fits s.1.0.fits s.1.1.0.fits s.1.1.1.0.fits s.1.1.1.1.0.fits s.1.1.1.1.1.0.fits s.1.1.1.1.1.1.0.fits s.1.1.1.1.1.1.1.0.fits
+of_eight P p (a ∷ b ∷ c ∷ d ∷ e ∷ f ∷ g ∷ h ∷ i ∷ v) n s = absurd (omega arith)
+
+-- and where it is said lane by lane
+pub each_of_eight : (f g : ℕ → ℕ) → ((u : ℕ) → u < 65536 → f u ≡ g u) → (v : List ℕ) → Each1 (Fits w16) v → map f v ≡ map g v
+each_of_eight f g e [] s = refl
+each_of_eight f g e (u ∷ v) s = ap₂ (λ (x : ℕ) (y : List ℕ). x ∷ y) (e u s.0.fits) (each_of_eight f g e v s.1)
+
+-- ---- the bytes of one unit
+
+pub last_is : (u : ℕ) → u < 65536 → cond (top 15 (cond (ltb u 128) (2 ^ 16 - 1) 0)) u ((bit_and u 63 + 128) % 2 ^ 16) ≡ last_byte u
+last_is u small = go (ltb u 128)
+  where
+    go : (t : Bool) → cond (top 15 (cond t (2 ^ 16 - 1) 0)) u ((bit_and u 63 + 128) % 2 ^ 16) ≡ cond t u (128 + u % 64)
+    go true = refl
+    go false = omega (arith, and_mask u 6)
+
+pub front_is : (u : ℕ) → u < 65536
+    → (((u / 2 ^ 12 + 224) % 2 ^ 16 + bit_and (u * 2 ^ 2 % 2 ^ 16) 16128) % 2 ^ 16 + cond (top 15 (cond (ltb u 2048) (2 ^ 16 - 1) 0)) 49152 32768) % 2 ^ 16 ≡ front_bytes u
+front_is u small = go (ltb u 2048) (bit_and (u * 2 ^ 2 % 2 ^ 16) 16128) middle
+  where
+    middle : bit_and (u * 2 ^ 2 % 2 ^ 16) 16128 ≡ 256 * (u / 64 % 64)
+    middle =
+        let e : bit_and (u * 2 ^ 2 % 2 ^ 16) 16128 ≡ u * 2 ^ 2 % 2 ^ 16 / 256 % 64 * 256 = and_high (u * 2 ^ 2 % 2 ^ 16) 6 8 in
+        omega (arith, e)
+
+    go : (t : Bool) (m : ℕ) → m ≡ 256 * (u / 64 % 64)
+        → (((u / 2 ^ 12 + 224) % 2 ^ 16 + m) % 2 ^ 16 + cond (top 15 (cond t (2 ^ 16 - 1) 0)) 49152 32768) % 2 ^ 16 ≡ 224 + u / 4096 + 256 * (u / 64 % 64) + cond t 49152 32768
+    go true m e = omega arith
+    go false m e = omega arith
+
+-- which of them are written, and in what order
+abbrev pub chosen : Bool → Bool → ℕ → ℕ → ℕ → List ℕ
+chosen one two last first middle = cond one (last ∷ []) (cond two (middle ∷ last ∷ []) (first ∷ middle ∷ last ∷ []))
+
+pub unit_is : (u : ℕ) → u < 65536 → chosen (ltb u 128) (ltb u 2048) (last_byte u % 256) (front_bytes u % 256) (front_bytes u / 256) ≡ encode_utf8 u
+unfolding encode_utf8
+unit_is u small = go (ltb u 128) (ltb u 2048) (ltb u 65536) refl refl refl
+  where
+    go : (s t r : Bool) → ltb u 128 ≡ s → ltb u 2048 ≡ t → ltb u 65536 ≡ r
+        → chosen s t (cond s u (128 + u % 64) % 256) ((224 + u / 4096 + 256 * (u / 64 % 64) + cond t 49152 32768) % 256) ((224 + u / 4096 + 256 * (u / 64 % 64) + cond t 49152 32768) / 256)
+        ≡ cond s (u ∷ []) (cond t ((192 + u / 64) ∷ (128 + u % 64) ∷ []) (cond r ((224 + u / 4096) ∷ (128 + u / 64 % 64) ∷ (128 + u % 64) ∷ [])
+        ((240 + u / 262144) ∷ (128 + u / 4096 % 64) ∷ (128 + u / 64 % 64) ∷ (128 + u % 64) ∷ [])))
+    go true t r e f g =
+        let low : u < 128 = ltb-true _ _ e in
+        let a : u % 256 ≡ u = omega arith in
+        rw a refl
+    go false true r e f g =
+        let low : u < 2048 = ltb-true _ _ f in
+        let a : (224 + u / 4096 + 256 * (u / 64 % 64) + 49152) / 256 ≡ 192 + u / 64 = omega arith in
+        let b : (128 + u % 64) % 256 ≡ 128 + u % 64 = omega arith in
+        rw (a, b) refl
+    go false false true e f g =
+        let a : (224 + u / 4096 + 256 * (u / 64 % 64) + 32768) % 256 ≡ 224 + u / 4096 = omega arith in
+        let b : (224 + u / 4096 + 256 * (u / 64 % 64) + 32768) / 256 ≡ 128 + u / 64 % 64 = omega arith in
+        let d : (128 + u % 64) % 256 ≡ 128 + u % 64 = omega arith in
+        rw (a, b, d) refl
+    go false false false e f g = absurd (omega (arith, ltb-false _ _ g))
+
+-- ---- lanes of two bytes as bytes
+
+abbrev pub doubled : List ℕ → ℕ
+doubled [] = zero
+doubled (x ∷ xs) = suc (suc (doubled xs))
+
+abbrev pub halves : List ℕ → List ℕ
+halves [] = []
+halves (x ∷ xs) = x % 256 ∷ x / 256 ∷ halves xs
+
+pub le_bytes : (xs : List ℕ) → Each1 (λ x. x < 65536) xs → digits_l 256 (doubled xs) (number_l 65536 xs) ≡ halves xs
+le_bytes [] s = refl
+le_bytes (x ∷ xs) s =
+    let n = number_l 65536 xs in
+    let low : x < 65536 = s.0 in
+    let a : (x + 65536 * n) % 256 ≡ x % 256 = omega arith in
+    let b : (x + 65536 * n) / 256 % 256 ≡ x / 256 = omega arith in
+    let r : (x + 65536 * n) / 256 / 256 ≡ n = omega arith in
+    (λ t. a t ∷ b t ∷ digits_l 256 (doubled xs) (r t)) ∙ ap (λ (l : List ℕ). x % 256 ∷ x / 256 ∷ l) (le_bytes xs s.1)
+
+pub last_small : (u : ℕ) → u < 65536 → last_byte u < 65536
+last_small u small = go (ltb u 128)
+  where
+    go : (t : Bool) → cond t u (128 + u % 64) < 65536
+    go true = small
+    go false = omega arith
+
+pub front_small : (u : ℕ) → u < 65536 → front_bytes u < 65536
+front_small u small = go (ltb u 2048) refl
+  where
+    go : (t : Bool) → ltb u 2048 ≡ t → 224 + u / 4096 + 256 * (u / 64 % 64) + cond t 49152 32768 < 65536
+    go true e = omega (arith, ltb-true _ _ e)
+    go false e = omega arith
+
+-- ---- vectors of eight units
+
+pub vector_last : (v : List ℕ) → length v ≡ 8 → Each1 (Fits w16) v
+    → sel_l (map (top 15) (zip2 (λ a b. cond (ltb a b) (2 ^ 16 - 1) 0) v (replicate 8 128))) v
+    (zip2 (λ a b. (a + b) % 2 ^ 16) (zip2 bit_and v (replicate 8 63)) (replicate 8 128)) ≡ map last_byte v
+vector_last =
+    of_eight (λ v. sel_l (map (top 15) (zip2 (λ a b. cond (ltb a b) (2 ^ 16 - 1) 0) v (replicate 8 128))) v
+    (zip2 (λ a b. (a + b) % 2 ^ 16) (zip2 bit_and v (replicate 8 63)) (replicate 8 128)) ≡ map last_byte v)
+    (λ a b c d e f g h sa sb sc sd se sf sg sh t.
+    last_is a sa t ∷ last_is b sb t ∷ last_is c sc t ∷ last_is d sd t ∷ last_is e se t ∷ last_is f sf t ∷ last_is g sg t ∷ last_is h sh t ∷ [])
+
+pub vector_front : (v : List ℕ) → length v ≡ 8 → Each1 (Fits w16) v
+    → zip2 (λ a b. (a + b) % 2 ^ 16)
+    (zip2 (λ a b. (a + b) % 2 ^ 16) (zip2 (λ a b. (a + b) % 2 ^ 16) (zip2 (λ a b. a / 2 ^ b) v (replicate 8 12)) (replicate 8 224))
+    (zip2 bit_and (zip2 (λ a b. a * 2 ^ b % 2 ^ 16) v (replicate 8 2)) (replicate 8 16128)))
+    (sel_l (map (top 15) (zip2 (λ a b. cond (ltb a b) (2 ^ 16 - 1) 0) v (replicate 8 2048))) (replicate 8 49152) (replicate 8 32768)) ≡ map front_bytes v
+vector_front =
+    of_eight (λ v. zip2 (λ a b. (a + b) % 2 ^ 16)
+    (zip2 (λ a b. (a + b) % 2 ^ 16) (zip2 (λ a b. (a + b) % 2 ^ 16) (zip2 (λ a b. a / 2 ^ b) v (replicate 8 12)) (replicate 8 224))
+    (zip2 bit_and (zip2 (λ a b. a * 2 ^ b % 2 ^ 16) v (replicate 8 2)) (replicate 8 16128)))
+    (sel_l (map (top 15) (zip2 (λ a b. cond (ltb a b) (2 ^ 16 - 1) 0) v (replicate 8 2048))) (replicate 8 49152) (replicate 8 32768)) ≡ map front_bytes v)
+    (λ a b c d e f g h sa sb sc sd se sf sg sh t.
+    front_is a sa t ∷ front_is b sb t ∷ front_is c sc t ∷ front_is d sd t ∷ front_is e se t ∷ front_is f sf t ∷ front_is g sg t ∷ front_is h sh t ∷ [])
+
+-- ---- the four bytes of each unit
+
+pub vector_lanes : (v : List ℕ) → length v ≡ 8 → Each1 (Fits w16) v
+    → (digits_l 256 16 (number_l 65536 (pick_l 0 (map last_byte v ++ map front_bytes v) (0 ∷ 8 ∷ 1 ∷ 9 ∷ 2 ∷ 10 ∷ 3 ∷ 11 ∷ []))) ≡ lanes (take 4 v))
+    × (digits_l 256 16 (number_l 65536 (pick_l 0 (map last_byte v ++ map front_bytes v) (4 ∷ 12 ∷ 5 ∷ 13 ∷ 6 ∷ 14 ∷ 7 ∷ 15 ∷ []))) ≡ lanes (drop 4 v))
+vector_lanes =
+    of_eight (λ v. (digits_l 256 16 (number_l 65536 (pick_l 0 (map last_byte v ++ map front_bytes v) (0 ∷ 8 ∷ 1 ∷ 9 ∷ 2 ∷ 10 ∷ 3 ∷ 11 ∷ []))) ≡ lanes (take 4 v))
+    × (digits_l 256 16 (number_l 65536 (pick_l 0 (map last_byte v ++ map front_bytes v) (4 ∷ 12 ∷ 5 ∷ 13 ∷ 6 ∷ 14 ∷ 7 ∷ 15 ∷ []))) ≡ lanes (drop 4 v)))
+    (λ a b c d e f g h sa sb sc sd se sf sg sh. (
+      le_bytes (last_byte a ∷ front_bytes a ∷ last_byte b ∷ front_bytes b ∷ last_byte c ∷ front_bytes c ∷ last_byte d ∷ front_bytes d ∷ [])
+          (last_small a sa, (front_small a sa, (last_small b sb, (front_small b sb, (last_small c sc, (front_small c sc, (last_small d sd, (front_small d sd, tt)))))))),
+      le_bytes (last_byte e ∷ front_bytes e ∷ last_byte f ∷ front_bytes f ∷ last_byte g ∷ front_bytes g ∷ last_byte h ∷ front_bytes h ∷ [])
+          (last_small e se, (front_small e se, (last_small f sf, (front_small f sf, (last_small g sg, (front_small g sg, (last_small h sh, (front_small h sh, tt)))))))),
+    ))
+
+-- ---- which of them are written, as bits
+
+-- a byte past 0x7F in the low half of a unit below 0x80, and one in the high half of a unit below 0x800
+abbrev pub marks : ℕ → ℕ
+marks u = (cond (top 15 (cond (ltb u 128) (2 ^ 16 - 1) 0)) 255 0 + cond (top 15 (cond (ltb u 2048) (2 ^ 16 - 1) 0)) 65280 0) % 2 ^ 16
+
+abbrev marked : ℕ → Bool
+marked b = top 7 (cond (leb 128 b) (2 ^ 8 - 1) 0)
+
+low_mark : (u : ℕ) → marked (marks u % 256) ≡ ltb u 128
+low_mark u = go (ltb u 128) (ltb u 2048)
+  where
+    go : (s t : Bool) → marked ((cond (top 15 (cond s (2 ^ 16 - 1) 0)) 255 0 + cond (top 15 (cond t (2 ^ 16 - 1) 0)) 65280 0) % 2 ^ 16 % 256) ≡ s
+    go true true = refl
+    go true false = refl
+    go false true = refl
+    go false false = refl
+
+high_mark : (u : ℕ) → marked (marks u / 256) ≡ ltb u 2048
+high_mark u = go (ltb u 128) (ltb u 2048)
+  where
+    go : (s t : Bool) → marked ((cond (top 15 (cond s (2 ^ 16 - 1) 0)) 255 0 + cond (top 15 (cond t (2 ^ 16 - 1) 0)) 65280 0) % 2 ^ 16 / 256) ≡ t
+    go true true = refl
+    go true false = refl
+    go false true = refl
+    go false false = refl
+
+marks_small : (u : ℕ) → marks u < 65536
+marks_small u = mod-lt _ (zero-lt-suc 65535)
+
+abbrev pub vector_bits : List ℕ → ℕ
+vector_bits v =
+    mask_l (map (top 7) (zip2 (λ a b. cond (leb a b) (2 ^ 8 - 1) 0) (replicate 16 128)
+    (digits_l 256 16 (number_l 65536 (zip2 (λ a b. (a + b) % 2 ^ 16)
+    (sel_l (map (top 15) (zip2 (λ a b. cond (ltb a b) (2 ^ 16 - 1) 0) v (replicate 8 128))) (replicate 8 255) (replicate 8 0))
+    (sel_l (map (top 15) (zip2 (λ a b. cond (ltb a b) (2 ^ 16 - 1) 0) v (replicate 8 2048))) (replicate 8 65280) (replicate 8 0))))))) % 2 ^ 64
+
+abbrev all_marked : List ℕ → ℕ
+all_marked bytes = mask_l (map (top 7) (zip2 (λ a b. cond (leb a b) (2 ^ 8 - 1) 0) (replicate 16 128) bytes)) % 2 ^ 64
+
+bits_are : (v : List ℕ) → length v ≡ 8 → Each1 (Fits w16) v → vector_bits v ≡ mask_l (flags v) % 2 ^ 64
+bits_are =
+    of_eight (λ v. vector_bits v ≡ mask_l (flags v) % 2 ^ 64) (λ a b c d e f g h sa sb sc sd se sf sg sh.
+    ap all_marked (le_bytes (marks a ∷ marks b ∷ marks c ∷ marks d ∷ marks e ∷ marks f ∷ marks g ∷ marks h ∷ [])
+    (marks_small a, (marks_small b, (marks_small c, (marks_small d, (marks_small e, (marks_small f, (marks_small g, (marks_small h, tt)))))))))
+    ∙ (λ t. mask_l (low_mark a t ∷ high_mark a t ∷ low_mark b t ∷ high_mark b t ∷ low_mark c t ∷ high_mark c t ∷ low_mark d t ∷ high_mark d t
+    ∷ low_mark e t ∷ high_mark e t ∷ low_mark f t ∷ high_mark f t ∷ low_mark g t ∷ high_mark g t ∷ low_mark h t ∷ high_mark h t ∷ []) % 2 ^ 64))
+
+flags_long : (v : List ℕ) → length (flags v) ≡ 2 * length v
+flags_long [] = refl
+flags_long (u ∷ v) = let e = flags_long v in omega arith
+
+mask_append : (xs ys : List Bool) → mask_l (xs ++ ys) ≡ mask_l xs + 2 ^ length xs * mask_l ys
+mask_append [] ys = omega arith
+mask_append (x ∷ xs) ys =
+    let e = mask_append xs ys in
+    let n = 2 ^ length xs in
+    let q : 2 ^ suc (length xs) ≡ 2 * n = omega arith in
+    let p : 2 ^ suc (length xs) * mask_l ys ≡ 2 * (n * mask_l ys) = ap (λ k. k * mask_l ys) q ∙ mul_assoc 2 n (mask_l ys) in
+    omega arith
+
+flags_append : (us vs : List ℕ) → flags (us ++ vs) ≡ flags us ++ flags vs
+flags_append [] vs = refl
+flags_append (u ∷ us) vs = ap (λ (l : List Bool). ltb u 128 ∷ ltb u 2048 ∷ l) (flags_append us vs)
+
+module _ (v : List ℕ) (long : length v ≡ 8) (fits : Each1 (Fits w16) v) where
+  four_long : length (take 4 v) ≡ 4
+  four_long = length-take-le 4 v (omega arith)
+
+  first_lt : pattern (take 4 v) < 256
+  unfolding pattern
+  first_lt =
+      let n : length (flags (take 4 v)) ≡ 8 = omega (arith, flags_long (take 4 v), four_long) in
+      let e : 2 ^ length (flags (take 4 v)) ≡ 2 ^ 8 = ap (λ k. 2 ^ k) n in
+      omega (arith, mask_l-lt (flags (take 4 v)), e)
+
+  others_lt : pattern (drop 4 v) < 256
+  unfolding pattern
+  others_lt =
+      let n : length (flags (drop 4 v)) ≡ 8 = omega (arith, flags_long (drop 4 v), length-drop 4 v, long) in
+      let e : 2 ^ length (flags (drop 4 v)) ≡ 2 ^ 8 = ap (λ k. 2 ^ k) n in
+      omega (arith, mask_l-lt (flags (drop 4 v)), e)
+
+  bits_split : vector_bits v ≡ pattern (take 4 v) + 256 * pattern (drop 4 v)
+  unfolding pattern
+  bits_split =
+      let n : length (flags (take 4 v)) ≡ 8 = omega (arith, flags_long (take 4 v), four_long) in
+      let e : 2 ^ length (flags (take 4 v)) ≡ 256 = ap (λ k. 2 ^ k) n in
+      bits_are v long fits ∙ mask_l-mod (flags v) 64 (omega (arith, flags_long v, long))
+      ∙ ap (λ l. mask_l (flags l)) (sym (take-append-drop 4 v)) ∙ ap mask_l (flags_append (take 4 v) (drop 4 v))
+      ∙ mask_append (flags (take 4 v)) (flags (drop 4 v)) ∙ ap (λ n. mask_l (flags (take 4 v)) + n * mask_l (flags (drop 4 v))) e
+
+  pub first_pattern : vector_bits v % 256 ≡ pattern (take 4 v)
+  first_pattern = omega (arith, bits_split, first_lt)
+
+  pub other_pattern : vector_bits v / 256 ≡ pattern (drop 4 v)
+  other_pattern = omega (arith, bits_split, first_lt)
+
+  pub other_below : vector_bits v / 256 < 256
+  other_below = omega (arith, other_pattern, others_lt)
+
+-- ---- the table
+
+all_rows : (r : ℕ) → r < 256 → (all_below 16 (row r) && (eqb (length (row r)) 16 && leb (length (places 0 4 r)) 12)) ≡ true
+unfolding row places
+all_rows r h = agree_below_at (λ n. all_below 16 (row n) && (eqb (length (row n)) 16 && leb (length (places 0 4 n)) 12)) (λ _. true) 256 r refl h
+
+pub rows_are : WRITTEN ≡ map row (range_with_len 0 256)
+unfolding row places
+rows_are = refl
+
+pub counts_are : COUNTS ≡ map (λ r. length (places 0 4 r)) (range_with_len 0 256)
+unfolding places
+counts_are = refl
+
+pub each_below : (n : ℕ) (js : List ℕ) → all_below n js ≡ true → Each1 (λ j. j < n) js
+each_below n [] e = tt
+each_below n (j ∷ js) e = let p = and_parts _ _ e in (ltb-true _ _ p.0, each_below n js p.1)
+
+pub row_within : (r : ℕ) → r < 256 → Each1 (λ j. j < 16) (row r)
+row_within r h = each_below 16 (row r) (and_parts _ _ (all_rows r h)).0
+
+pub row_long : (r : ℕ) → r < 256 → length (row r) ≡ 16
+row_long r h = eqb-true _ _ (and_parts _ _ (and_parts _ _ (all_rows r h)).1).0
+
+pub count_most : (r : ℕ) → r < 256 → length (places 0 4 r) ≤ 12
+count_most r h = leb-true _ _ (and_parts _ _ (and_parts _ _ (all_rows r h)).1).1
+
+-- a shuffle of sixteen bytes by places within them
+pub shuffled : (xs : List ℕ) (i : ℕ) (js : List ℕ) → i + length js ≤ 16 → Each1 (λ j. j < 16) js → swz_l w8 16 xs i js ≡ map (λ j. get_or xs j 0) js
+shuffled xs i [] room s = refl
+shuffled xs i (j ∷ js) room s =
+    let low : j < 16 = s.0 in
+    let here : leb 128 j ≡ false = lt-leb 128 j (omega arith) in
+    let at : 16 * (i / 16) + j ≡ j = omega arith in
+    (λ t. cond (here t) 0 (get_or xs (at t) 0) ∷ swz_l w8 16 xs (suc i) js) ∙ ap (λ (l : List ℕ). get_or xs j 0 ∷ l) (shuffled xs (suc i) js (omega arith) s.1)
+
+row_begins : (r : ℕ) → r < 256 → take (length (places 0 4 r)) (row r) ≡ places 0 4 r
+unfolding row
+row_begins r h = take-take (length (places 0 4 r)) 16 _ (omega (arith, count_most r h)) ∙ take-append_seam (places 0 4 r) (replicate 16 0)
+
+pub written_places : (xs : List ℕ) (r : ℕ) → r < 256 → take (length (places 0 4 r)) (swz_l w8 16 xs 0 (row r)) ≡ map (λ j. get_or xs j 0) (places 0 4 r)
+written_places xs r h =
+    ap (take (length (places 0 4 r))) (shuffled xs 0 (row r) (omega (arith, row_long r h)) (row_within r h))
+    ∙ take-map (λ j. get_or xs j 0) (length (places 0 4 r)) (row r) ∙ ap (map (λ j. get_or xs j 0)) (row_begins r h)
+
+-- a vector that is stored at a place: what stands up to within it
+pub stored : (at k : ℕ) (xs block : List ℕ) → length block ≡ 16 → k ≤ 16 → at + 16 ≤ length xs → take (at + k) (put_chunk at xs block) ≡ take at xs ++ take k block
+stored at k xs block long h room =
+    let front : length (take at xs) ≡ at = length-take-le at xs (omega arith) in
+    let place : at + k ≡ length (take at xs) + k = omega arith in
+    ap (take (at + k)) (put_chunk_is at xs block (omega arith))
+    ∙ ap (λ n. take n (take at xs ++ (block ++ drop (length block) (drop at xs)))) place
+    ∙ take-append-add (take at xs) (block ++ drop (length block) (drop at xs)) k
+    ∙ ap (λ (l : List ℕ). take at xs ++ l) (take-append-le k block (drop (length block) (drop at xs)) (omega arith))
+
+-- ---- the bytes that are written are the text
+
+-- a list of bytes has those of the lanes of these units from a place on
+abbrev pub Reads : (ℕ → ℕ) → ℕ → List ℕ → Type 0
+Reads f base [] = Unit {0}
+Reads f base (u ∷ us) = (f base ≡ last_byte u % 256) × (f (base + 2) ≡ front_bytes u % 256) × (f (base + 3) ≡ front_bytes u / 256) × Reads f (base + 4) us
+
+digit : (s t : Bool) (m : ℕ) → ((cond s 1 0 + 2 * (cond t 1 0 + 2 * m)) % 4 ≡ cond s 1 0 + 2 * cond t 1 0) × ((cond s 1 0 + 2 * (cond t 1 0 + 2 * m)) / 4 ≡ m)
+digit true true m = (omega arith, omega arith)
+digit true false m = (omega arith, omega arith)
+digit false true m = (omega arith, omega arith)
+digit false false m = (omega arith, omega arith)
+
+lane_chosen : (f : ℕ → ℕ) (base : ℕ) (s t : Bool) → map f (lane_places base (cond s 1 0 + 2 * cond t 1 0)) ≡ chosen s t (f base) (f (base + 2)) (f (base + 3))
+lane_chosen f base true true = refl
+lane_chosen f base true false = refl
+lane_chosen f base false true = refl
+lane_chosen f base false false = refl
+
+pub text_written : (f : ℕ → ℕ) (base : ℕ) (us : List ℕ) → Each1 (λ u. u < 65536) us → Reads f base us → map f (places base (length us) (pattern us)) ≡ utf8_bytes us
+unfolding places pattern
+text_written f base [] small reads = refl
+text_written f base (u ∷ us) small reads =
+    let d = digit (ltb u 128) (ltb u 2048) (mask_l (flags us)) in
+    let s = ltb u 128 in
+    let t = ltb u 2048 in
+    (λ i. map f (lane_places base (d.0 i) ++ places (base + 4) (length us) (d.1 i)))
+    ∙ map-append f (lane_places base (cond s 1 0 + 2 * cond t 1 0)) (places (base + 4) (length us) (mask_l (flags us)))
+    ∙ ap₂ (λ (x y : List ℕ). x ++ y)
+    (lane_chosen f base s t ∙ (λ i. chosen s t (reads.0 i) (reads.1 i) (reads.2 i)) ∙ unit_is u small.0)
+    (text_written f (base + 4) us small.1 reads.3)
+
+pub reads_lanes : (a b c d : ℕ) → Reads (λ k. get_or (lanes (a ∷ b ∷ c ∷ d ∷ [])) k 0) 0 (a ∷ b ∷ c ∷ d ∷ [])
+reads_lanes a b c d = (refl, refl, refl, (refl, refl, refl, (refl, refl, refl, (refl, refl, refl, tt))))
+
+-- both halves of eight units
+pub text_of_eight : (v : List ℕ) → length v ≡ 8 → Each1 (Fits w16) v
+    → (map (λ k. get_or (lanes (take 4 v)) k 0) (places 0 4 (pattern (take 4 v))) ≡ utf8_bytes (take 4 v))
+    × (map (λ k. get_or (lanes (drop 4 v)) k 0) (places 0 4 (pattern (drop 4 v))) ≡ utf8_bytes (drop 4 v))
+text_of_eight =
+    of_eight (λ v. (map (λ k. get_or (lanes (take 4 v)) k 0) (places 0 4 (pattern (take 4 v))) ≡ utf8_bytes (take 4 v))
+    × (map (λ k. get_or (lanes (drop 4 v)) k 0) (places 0 4 (pattern (drop 4 v))) ≡ utf8_bytes (drop 4 v)))
+    (λ a b c d e f g h sa sb sc sd se sf sg sh. (
+      text_written (λ k. get_or (lanes (a ∷ b ∷ c ∷ d ∷ [])) k 0) 0 (a ∷ b ∷ c ∷ d ∷ []) (sa, (sb, (sc, (sd, tt)))) (reads_lanes a b c d),
+      text_written (λ k. get_or (lanes (e ∷ f ∷ g ∷ h ∷ [])) k 0) 0 (e ∷ f ∷ g ∷ h ∷ []) (se, (sf, (sg, (sh, tt)))) (reads_lanes e f g h),
+    ))
+
+pub joined_text : (us : List ℕ) → utf8_bytes (take 4 us) ++ utf8_bytes (drop 4 us) ≡ utf8_bytes us
+joined_text us = sym (flat_map-append encode_utf8 (take 4 us) (drop 4 us)) ∙ ap utf8_bytes (take-append-drop 4 us)
+
+-- two stores, one behind the other
+pub both_stored : (old old_front : List ℕ) (front back : List ℕ) (p q : ℕ) (v new : List ℕ) → length v ≡ 8 → Each1 (Fits w16) v
+    → front ≡ lanes (take 4 v) → back ≡ lanes (drop 4 v) → p ≡ pattern (take 4 v) → q ≡ pattern (drop 4 v)
+    → old_front ≡ old ++ map (λ k. get_or front k 0) (places 0 4 p)
+    → new ≡ old_front ++ map (λ k. get_or back k 0) (places 0 4 q) → new ≡ old ++ utf8_bytes v
+both_stored old old_front front back p q v new long fits fe be pe qe first second =
+    let t = text_of_eight v long fits in
+    second ∙ ap (λ (l : List ℕ). l ++ map (λ k. get_or back k 0) (places 0 4 q)) first
+    ∙ append_assoc old (map (λ k. get_or front k 0) (places 0 4 p)) (map (λ k. get_or back k 0) (places 0 4 q))
+    ∙ ap (λ (l : List ℕ). old ++ l)
+    (ap₂ (λ (x y : List ℕ). x ++ y) ((λ i. map (λ k. get_or (fe i) k 0) (places 0 4 (pe i))) ∙ t.0) ((λ i. map (λ k. get_or (be i) k 0) (places 0 4 (qe i))) ∙ t.1) ∙ joined_text v)
+
+-- eight units more
+pub next_text : (g : ℕ) (old before next units : List ℕ) → before ≡ old ++ utf8_bytes (take (8 * g) units)
+    → next ≡ before ++ utf8_bytes (take 8 (drop (8 * g) units)) → next ≡ old ++ utf8_bytes (take (8 * (g + 1)) units)
+next_text g old before next units first second =
+    let a = 8 * g in
+    let n : a + 8 ≡ 8 * (g + 1) = omega arith in
+    second ∙ ap (λ (l : List ℕ). l ++ utf8_bytes (take 8 (drop a units))) first
+    ∙ append_assoc old (utf8_bytes (take a units)) (utf8_bytes (take 8 (drop a units)))
+    ∙ ap (λ (l : List ℕ). old ++ l)
+    (sym (flat_map-append encode_utf8 (take a units) (take 8 (drop a units))) ∙ ap utf8_bytes (sym (take-add a 8 units)) ∙ ap (λ k. utf8_bytes (take k units)) n)

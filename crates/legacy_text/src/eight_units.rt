@@ -1,0 +1,115 @@
+//! Eight code units of UTF-16, none of them a surrogate, as UTF-8 by vectors: four bytes of each unit are made by lanes,
+//! and a shuffle keeps those that its text has.
+// Inlined always is what runs for each vector: a call would pass the vectors through memory.
+ghost use Rattle.std.specs.Prelude.{◌≡◌, ℕ, ◌+◌, ◌<◌, ◌≤◌, ◌++◌, List, length, map, take, drop, get_or};
+ghost use Rattle.std.specs.List.{range_with_len};
+ghost use Rattle.legacy_text.specs.UnitBytes.{last_byte, front_bytes, lanes, pattern, places, utf8_bytes};
+
+use crate::unit_rows::{COUNTS, WRITTEN};
+use std::simd::prelude::*;
+
+/// The last byte of each unit's text.
+#[inline(always)]
+fn last_bytes(units: u16x8) -> u16x8
+    ensures { result ≡ map last_byte units }
+{
+    let past = (units & u16x8::splat(0x3F)) + u16x8::splat(0x80);
+    units.simd_lt(u16x8::splat(0x80)).select(units, past)
+}
+
+/// The bytes before the last one of each unit's text.
+#[inline(always)]
+fn bytes_before(units: u16x8) -> u16x8
+    ensures { result ≡ map front_bytes units }
+{
+    let middle = (units << u16x8::splat(2)) & u16x8::splat(0x3F00);
+    let mark = units
+        .simd_lt(u16x8::splat(0x800))
+        .select(u16x8::splat(0xC000), u16x8::splat(0x8000));
+    (units >> u16x8::splat(12)) + u16x8::splat(0xE0) + middle + mark
+}
+
+/// Four bytes of each unit: of the first four units, and of the others.
+#[inline(always)]
+fn unit_lanes(units: u16x8) -> (u8x16, u8x16)
+    ensures front { result.0 ≡ lanes (take 4 units) }
+    ensures back { result.1 ≡ lanes (drop 4 units) }
+{
+    let (front, back) = last_bytes(units).interleave(bytes_before(units));
+    (front.to_le_bytes(), back.to_le_bytes())
+}
+
+/// How many bytes each unit has, two bits a unit: of the first four units, and of the others.
+#[inline(always)]
+fn patterns(units: u16x8) -> (usize, usize)
+    ensures front { result.0 ≡ pattern (take 4 units) }
+    ensures back { result.1 ≡ pattern (drop 4 units) }
+    ensures front_within { result.0 < 256 }
+    ensures back_within { result.1 < 256 }
+{
+    let zero = u16x8::splat(0);
+    let one = units
+        .simd_lt(u16x8::splat(0x80))
+        .select(u16x8::splat(0x00FF), zero);
+    let two = units
+        .simd_lt(u16x8::splat(0x800))
+        .select(u16x8::splat(0xFF00), zero);
+    let bits = (one + two)
+        .to_le_bytes()
+        .simd_ge(u8x16::splat(0x80))
+        .to_bitmask();
+    ((bits % 256) as usize, (bits / 256) as usize)
+}
+
+/// A row of a table of places.
+#[inline(always)]
+pub(crate) fn row_of(rows: &[[u8; 16]; 256], pattern: usize) -> u8x16
+    requires { pattern < 256 }
+    ensures { (rule : ℕ → List ℕ) → rows.now ≡ map rule (range_with_len 0 256) → result ≡ rule pattern }
+{
+    u8x16::from_array(rows[pattern])
+}
+
+/// An entry of a table of counts.
+#[inline(always)]
+fn count_of(counts: &[u8; 256], pattern: usize) -> usize
+    requires { pattern < 256 }
+    ensures { (rule : ℕ → ℕ) → counts.now ≡ map rule (range_with_len 0 256) → result ≡ rule pattern }
+{
+    usize::from(counts[pattern])
+}
+
+/// Stores a vector from the place `at` on.
+#[inline(always)]
+pub(crate) fn store(dst: &mut [u8], at: usize, block: u8x16)
+    requires { at + 16 ≤ length dst.old }
+    ensures { (k : ℕ) → k ≤ 16 → take (at + k) dst.new ≡ take at dst.old ++ take k block }
+{
+    block.copy_to_slice(&mut dst[at..]);
+}
+
+/// Stores the text of four units from the place `at` on, with other bytes after it. Returns the place after the text.
+#[inline(always)]
+fn put_four(dst: &mut [u8], at: usize, lanes: u8x16, pattern: usize) -> usize
+    requires room { at + 16 ≤ length dst.old }
+    requires within { pattern < 256 }
+    ensures most { result ≤ at + 12 }
+    ensures written { take result dst.new ≡ take at dst.old ++ map (λ k. get_or lanes k 0) (places 0 4 pattern) }
+{
+    let row = row_of(&WRITTEN, pattern);
+    store(dst, at, lanes.swizzle_dyn(row));
+    at + count_of(&COUNTS, pattern)
+}
+
+/// Stores the text of eight units from the place `at` on, with other bytes after it. Returns the place after the text.
+#[inline(always)]
+pub(crate) fn put_eight_units(dst: &mut [u8], at: usize, units: u16x8) -> usize
+    requires room { at + 32 ≤ length dst.old }
+    ensures most { result ≤ at + 24 }
+    ensures written { take result dst.new ≡ take at dst.old ++ utf8_bytes units }
+{
+    let (front, back) = unit_lanes(units);
+    let (first, second) = patterns(units);
+    let middle = put_four(dst, at, front, first);
+    put_four(dst, middle, back, second)
+}

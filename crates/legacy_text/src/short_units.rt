@@ -1,0 +1,46 @@
+//! Eight code units below U+0800 as UTF-8 by vectors: two bytes of each unit are made by lanes, and one shuffle keeps
+//! those that its text has.
+// Inlined always is what runs for each vector: a call would pass the vectors through memory.
+ghost use Rattle.std.specs.Prelude.{◌≡◌, ◌+◌, ◌<◌, ◌≤◌, ◌++◌, length, take};
+ghost use Rattle.legacy_text.specs.UnitBytes.{short_lanes, short_pattern, AreShort, utf8_bytes};
+
+use crate::eight_units::{row_of, store};
+use crate::unit_rows::SHORT_WRITTEN;
+use std::simd::prelude::*;
+
+/// Two bytes of each unit.
+#[inline(always)]
+fn short_unit_lanes(units: u16x8) -> u8x16
+    ensures { result ≡ short_lanes units }
+{
+    let first = ((units >> u16x8::splat(6)) & u16x8::splat(0x1F)) + u16x8::splat(0xC0);
+    let second = ((units & u16x8::splat(0x3F)) + u16x8::splat(0x80)) << u16x8::splat(8);
+    units
+        .simd_lt(u16x8::splat(0x80))
+        .select(units, first + second)
+        .to_le_bytes()
+}
+
+/// Which units have one byte, one bit a unit.
+#[inline(always)]
+fn short_bits(units: u16x8) -> usize
+    ensures bits { result ≡ short_pattern units }
+    ensures within { result < 256 }
+{
+    units.simd_lt(u16x8::splat(0x80)).to_bitmask() as usize
+}
+
+/// Stores the text of eight units below U+0800 from the place `at` on, with other bytes after it. Returns the place
+/// after the text.
+#[inline(always)]
+pub(crate) fn put_short_units(dst: &mut [u8], at: usize, units: u16x8) -> usize
+    requires room { at + 16 ≤ length dst.old }
+    requires short { AreShort units }
+    ensures most { result ≤ at + 16 }
+    ensures written { take result dst.new ≡ take at dst.old ++ utf8_bytes units }
+{
+    let ones = short_bits(units);
+    let row = row_of(&SHORT_WRITTEN, ones);
+    store(dst, at, short_unit_lanes(units).swizzle_dyn(row));
+    at + 16 - ones.count_ones() as usize
+}
