@@ -1,5 +1,4 @@
 -- What the laws of the codecs give their callers.
-pub mod CodersByName
 pub mod EucKrFiles
 pub mod MalformedSequences
 pub mod ReadTables

@@ -1,6 +1,5 @@
--- Inputs in EUC-KR and windows-1252, by a registry that read the index files of both.
-use Rattle.std.proofs.Common.{◌≡◌, ◌≢◌, ◌∙◌, ℕ, List, [], ◌∷◌, length, Some, None, find, bytes_eq, codes, sym, ap, refl, subst}
-use Rattle.legacy_base.specs.Grammar.{single_byte}
+-- An input in EUC-KR, by a registry that read its index file.
+use Rattle.std.proofs.Common.{◌≡◌, ◌≢◌, ◌∙◌, ℕ, List, length, Some, None, find, bytes_eq, codes, sym, ap, refl, subst}
 use Rattle.legacy_base.specs.EucKr.{euc_kr}
 use Rattle.legacy_base.specs.Lengths.{query_answer, to_utf8}
 use Rattle.legacy_base.specs.States.{DecoderState, new_state}
@@ -9,13 +8,13 @@ use Rattle.legacy_tables.specs.Indexes.{FlatIndexes}
 use Rattle.legacy_index_files.specs.declared.encodings.Encoding.{Encoding}
 use Rattle.legacy_index_files.specs.declared.encodings.Encoding.TheVariants as encoding
 use Rattle.legacy_index_files.specs.declared.encodings.TheConstants.{ENCODINGS}
-use Rattle.legacy_index_files.specs.Encodings.{encoding_name, codec_of}
+use Rattle.legacy_index_files.specs.Encodings.{encoding_name}
 use Rattle.legacy_index_files.proofs.EncodingNames.{named}
 use Rattle.legacy_uses.specs.declared.registry.EncodingTable.{EncodingTable}
 use Rattle.legacy_uses.specs.declared.registry.RegistryError.{RegistryError}
-use Rattle.legacy_uses.specs.declared.registry.RegistryError.TheVariants.{Unknown, NoIndex}
+use Rattle.legacy_uses.specs.declared.registry.RegistryError.TheVariants.{Unknown}
 use Rattle.legacy_uses.specs.IndexData.{IsEucKrFile, IsTextByFile, only_euc_kr}
-use Rattle.legacy_uses.specs.Registries.{entries_of, decoder_for, IsDecodeError, IsDecoderOf, IsText, LacksTable}
+use Rattle.legacy_uses.specs.Registries.{decoder_for, IsDecodeError, IsDecoderOf, IsText}
 use Rattle.legacy_uses.specs.WholeTexts.{text_of}
 
 some_same : {A : Type 0} (a b : A) → Some a ≡ Some b → a ≡ b
@@ -28,18 +27,15 @@ named_is name known k e h =
 is_euc_kr : (e : Encoding) → encoding_name e ≡ codes "EUC-KR" → e ≡ encoding.EucKr
 is_euc_kr = named_is (codes "EUC-KR") encoding.EucKr refl
 
-is_windows_1252 : (e : Encoding) → encoding_name e ≡ codes "windows-1252" → e ≡ encoding.Windows1252
-is_windows_1252 = named_is (codes "windows-1252") encoding.Windows1252 refl
-
-module _ (flat : FlatIndexes) (tables : List EncodingTable) (input text : List ℕ) where
+module _ (flat : FlatIndexes) (tables : List EncodingTable) (input : List ℕ) where
   euc_kr_state : (state : DecoderState) → IsDecoderOf flat tables (codes "EUC-KR") state → state ≡ new_state (euc_kr flat.euc_kr)
   euc_kr_state state is =
       let made : Some (new_state (euc_kr flat.euc_kr)) ≡ Some state = subst (λ e. decoder_for flat tables e ≡ Some state) (is_euc_kr is.encoding is.named) is.made in
       sym (some_same (new_state (euc_kr flat.euc_kr)) state made)
 
-  pub euc_kr_by_file : (file index : List ℕ) → IsEucKrFile file index → AreAccepted flat → flat ≡ only_euc_kr index →
+  pub euc_kr_by_file : (file index text : List ℕ) → IsEucKrFile file index → AreAccepted flat → flat ≡ only_euc_kr index →
       IsText flat tables (codes "EUC-KR") input text → IsTextByFile file input text
-  euc_kr_by_file file index of_file accepted same is =
+  euc_kr_by_file file index text of_file accepted same is =
       let at = euc_kr_state is.state is.decoder ∙ ap (λ f. new_state (euc_kr f.euc_kr)) same in
       record {
         index = index;
@@ -52,34 +48,3 @@ module _ (flat : FlatIndexes) (tables : List EncodingTable) (input text : List �
   euc_kr_known error is e =
       let none = subst (λ x. IsDecodeError flat tables (codes "EUC-KR") input x) e is in
       none encoding.EucKr refl
-
-  pub euc_kr_read : (error : RegistryError) → IsDecodeError flat tables (codes "EUC-KR") input error → error ≢ NoIndex
-  euc_kr_read error is e =
-      let lacks : LacksTable tables (codes "EUC-KR") = subst (λ x. IsDecodeError flat tables (codes "EUC-KR") input x) e is in
-      let same = ap codec_of (is_euc_kr lacks.encoding lacks.named) in
-      let single_byte = lacks.single_byte in
-      cc
-
-  module _ (table : EncodingTable) (of : table.encoding ≡ encoding.Windows1252) (only : tables ≡ table ∷ []) where
-    entries_are : entries_of tables encoding.Windows1252 ≡ Some table.table.entries
-    entries_are = rw (only, of) refl
-
-    pub windows_1252_text : IsText flat tables (codes "windows-1252") input text → text ≡ text_of (new_state (single_byte table.table.entries)) input
-    windows_1252_text is =
-        let made : decoder_for flat tables encoding.Windows1252 ≡ Some is.state =
-        subst (λ e. decoder_for flat tables e ≡ Some is.state) (is_windows_1252 is.decoder.encoding is.decoder.named) is.decoder.made in
-        let new : Some (new_state (single_byte table.table.entries)) ≡ Some is.state = rw entries_are at made in
-        is.decodes ∙ ap (λ s. text_of s input) (sym (some_same (new_state (single_byte table.table.entries)) is.state new))
-
-    pub windows_1252_known : (error : RegistryError) → IsDecodeError flat tables (codes "windows-1252") input error → error ≢ Unknown
-    windows_1252_known error is e =
-        let none = subst (λ x. IsDecodeError flat tables (codes "windows-1252") input x) e is in
-        none encoding.Windows1252 refl
-
-    pub windows_1252_read : (error : RegistryError) → IsDecodeError flat tables (codes "windows-1252") input error → error ≢ NoIndex
-    windows_1252_read error is e =
-        let lacks : LacksTable tables (codes "windows-1252") = subst (λ x. IsDecodeError flat tables (codes "windows-1252") input x) e is in
-        let not_read : entries_of tables encoding.Windows1252 ≡ None =
-        subst (λ e. entries_of tables e ≡ None) (is_windows_1252 lacks.encoding lacks.named) lacks.not_read in
-        let read = entries_are in
-        cc

@@ -8,6 +8,7 @@ use legacy_index_files::{Encoding, FileIndex};
 use std::alloc::Global;
 
 /// The index files of two encodings.
+#[derive(Drop)]
 pub struct TwoFiles<'a> {
     pub euc_kr: &'a [u8],
     pub windows_1252: &'a [u8],

@@ -14,7 +14,7 @@ returns-in_err-korean_text-clause-known c = λ e.
     let first = p.1 in
     let second = p.2 in
     let coders = c.in_ok-coders.coders in
-    euc_kr_known coders.tables.flat coders.single_bytes.now c.args.korean.now c.args.korean.now c.in_err-korean_text.field-0.0 c.in_err-korean_text.ensures (cc)
+    euc_kr_known coders.tables.flat coders.single_bytes.now c.args.korean.now c.in_err-korean_text.field-0.0 c.in_err-korean_text.ensures (cc)
 
 pub returns-clause-korean : goal.returns-clause-korean
 returns-clause-korean c =
@@ -22,5 +22,5 @@ returns-clause-korean c =
     (well_formed_ok (Of EucKr) c.args.files.now.euc_kr.now _ c.in_ok-read.ensures.line _ refl) in
     let coders = c.in_ok-coders.coders in
     let same = c.in_ok-coders.ensures.0 ∙ ap owned_lists c.in_ok-read_single_byte.ensures.indexes ∙ h.only in
-    euc_kr_by_file coders.tables.flat coders.single_bytes.now c.args.korean.now _ c.args.files.now.euc_kr.now c.read.new.self.euc_kr.items
+    euc_kr_by_file coders.tables.flat coders.single_bytes.now c.args.korean.now c.args.files.now.euc_kr.now c.read.new.self.euc_kr.items _
     h.of_file coders.tables.accepted same c.in_ok-korean_text.ensures
