@@ -1,12 +1,14 @@
 -- Laws of the files that the program is given.
-use Rattle.std.proofs.Common.{◌≡◌, ℕ, drop, ◌≤◌, ◌<◌, List, [], ◌∷◌, length, arith, Option, Some, sym, ap, subst, if◌then◌else◌}
+use Rattle.std.proofs.Common.{◌≡◌, ℕ, drop, ◌≤◌, ◌<◌, List, [], ◌∷◌, length, arith, Option, Some, None, sym, ap, subst, if◌then◌else◌}
 use Rattle.std.specs.Borrow.{Bor}
 use Rattle.legacy_index_files.specs.declared.index_file.FileIndex.{FileIndex}
 use Rattle.legacy_index_files.specs.declared.owned_indexes.OwnedIndexes.{OwnedIndexes}
 use Rattle.legacy_command.specs.Words.{texts_of, first_index_named}
+use Rattle.legacy_index_files.specs.IndexLine.{lines}
+use Rattle.legacy_index_files.specs.IndexTable.{first_malformed}
 use Rattle.legacy_index_files.specs.IndexTexts.{is_index, no_text, with_text}
 use Rattle.legacy_index_files.specs.OwnedIndexes.{HoldsTexts}
-use Rattle.legacy_command.specs.IndexTexts.{text_given, contents_of}
+use Rattle.legacy_command.specs.IndexTexts.{text_given, contents_of, IsWellFormed, AreWellFormed}
 
 -- no INDEX and FILE
 pub few_words : (tables : OwnedIndexes) (words : List (Bor (List ℕ))) (files : List (Option (Bor (List ℕ)))) → length words < 2
@@ -27,3 +29,19 @@ one_more_file tables (v ∷ w ∷ words) name text later files h n f k =
     λ other. ap (λ (o : Option FileIndex). if is_index o other then text.now else rest other) (sym n) in
     let P : (FileIndex → List ℕ) → Type 0 = λ texts. HoldsTexts texts tables in
     rw f (subst P (λ i. λ other. same other i) k)
+
+-- no INDEX and FILE has no malformed line
+pub few_well_formed : (words : List (Bor (List ℕ))) (files : List (Option (Bor (List ℕ)))) → length words < 2 → AreWellFormed (texts_of words) (contents_of files)
+few_well_formed [] files h = tt
+few_well_formed (w ∷ []) files h = tt
+few_well_formed (v ∷ w ∷ words) files h = absurd (omega arith)
+
+-- one more INDEX and FILE in front has none either
+pub one_more_well_formed : (words : List (Bor (List ℕ))) (name : FileIndex) (text : Bor (List ℕ)) (later files : List (Option (Bor (List ℕ)))) →
+    2 ≤ length words → first_index_named (texts_of words) ≡ Some name → files ≡ Some text ∷ later → first_malformed name 1 (lines text.now) ≡ None →
+    AreWellFormed (texts_of (drop 2 words)) (contents_of later) → AreWellFormed (texts_of words) (contents_of files)
+one_more_well_formed [] name text later files h n f e k = absurd (omega arith)
+one_more_well_formed (w ∷ []) name text later files h n f e k = absurd (omega arith)
+one_more_well_formed (v ∷ w ∷ words) name text later files h n f e k =
+    let P : Option FileIndex → Type 0 = λ o. IsWellFormed o text.now in
+    rw f (subst P (sym n) e, k)

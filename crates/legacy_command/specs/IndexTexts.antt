@@ -1,8 +1,10 @@
 -- The texts of the index files that the program's words name.
-use Rattle.std.specs.Prelude.{ℕ, List, [], ◌∷◌, map, Option, Some, if◌then◌else◌}
+use Rattle.std.specs.Prelude.{◌≡◌, ℕ, List, [], ◌∷◌, map, Option, Some, None, if◌then◌else◌}
 use Rattle.std.specs.Option.{option_map}
 use Rattle.std.specs.Borrow.{Bor}
 use Rattle.legacy_index_files.specs.declared.index_file.FileIndex.{FileIndex}
+use Rattle.legacy_index_files.specs.IndexLine.{lines}
+use Rattle.legacy_index_files.specs.IndexTable.{first_malformed}
 use Rattle.legacy_index_files.specs.IndexTexts.{is_index}
 use Rattle.legacy_command.specs.Words.{index_named}
 
@@ -16,3 +18,15 @@ abbrev pub text_given : List (List ℕ) → List (Option (List ℕ)) → FileInd
 text_given (index ∷ file ∷ words) (Some text ∷ files) name =
     if is_index (index_named index) name then text else text_given words files name
 text_given _ _ name = []
+
+-- the word names an index, and each line of the text is of the form of its file
+abbrev pub IsWellFormed : Option FileIndex → List ℕ → Type 0
+IsWellFormed None text = ⊥
+IsWellFormed (Some name) text = first_malformed name 1 (lines text) ≡ None
+
+-- Each FILE could be read, and has no malformed line, where the words are INDEX and FILE any number of times and the files
+-- are those.
+abbrev pub AreWellFormed : List (List ℕ) → List (Option (List ℕ)) → Type 0
+AreWellFormed (index ∷ file ∷ words) (Some text ∷ files) = IsWellFormed (index_named index) text × AreWellFormed words files
+AreWellFormed (index ∷ file ∷ words) _ = ⊥
+AreWellFormed _ files = Unit {0}

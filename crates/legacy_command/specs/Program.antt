@@ -16,7 +16,7 @@ use Rattle.legacy_index_files.specs.OwnedIndexes.{HoldsTexts}
 use Rattle.legacy_command.specs.declared.words.OutputKind.{OutputKind}
 use Rattle.legacy_command.specs.declared.words.OutputKind.TheVariants.{Lines, Text}
 use Rattle.legacy_command.specs.Words.{output_kind, plain_words, codec_of_words}
-use Rattle.legacy_command.specs.IndexTexts.{text_given}
+use Rattle.legacy_command.specs.IndexTexts.{text_given, AreWellFormed}
 use Rattle.legacy_streams.specs.Recoding.{RecodesAll}
 use Rattle.legacy_streams.specs.Text.{WritesAll}
 
@@ -61,8 +61,10 @@ pub record RecodesByTexts (kind : OutputKind) (codec : CodecWord) (texts : FileI
   pub holds : HoldsTexts texts tables
   pub recodes : RecodesByTables kind codec tables input_old input_new output_old output_new
 
--- The same by the codec and the index files that the program's words name.
+-- The same by the codec and the index files that the program's words name. Each of these could be read and has no malformed
+-- line.
 pub record RecodesByWords (words : List (List ℕ)) (files : List (Option (List ℕ))) (input_old input_new output_old output_new : Option (List ℕ)) : Type 0 where
   pub codec : CodecWord
   pub named : codec_of_words (plain_words words) ≡ Some codec
+  pub well_formed : AreWellFormed (drop 1 (plain_words words)) files
   pub recodes : RecodesByTexts (output_kind words) codec (text_given (drop 1 (plain_words words)) files) input_old input_new output_old output_new

@@ -1,8 +1,8 @@
 //! The indexes that the program is given in files.
-ghost use Rattle.std.specs.Prelude.{◌≡◌, [], IfOk, IsTrue, length};
+ghost use Rattle.std.specs.Prelude.{◌≡◌, [], IfOk, OnOk, IsTrue, length};
 ghost use Rattle.legacy_index_files.specs.OwnedIndexes.{HoldsTexts};
 ghost use Rattle.legacy_command.specs.Words.{texts_of, are_indexes};
-ghost use Rattle.legacy_command.specs.IndexTexts.{text_given, contents_of};
+ghost use Rattle.legacy_command.specs.IndexTexts.{text_given, contents_of, AreWellFormed};
 
 use crate::program::Fault;
 use crate::words::first_index;
@@ -19,6 +19,8 @@ pub fn read_files<'a>(
 ) -> Result<OwnedIndexes, Fault<'a>>
     requires { IsTrue (are_indexes (texts_of words.now)) }
     ensures texts { IfOk result (HoldsTexts (text_given (texts_of words.now) (contents_of files.now))) }
+    ensures well_formed { OnOk result
+        (AreWellFormed (texts_of words.now) (contents_of files.now)) }
     ensures katakana { IfOk result (λ indexes. indexes.katakana.items ≡ []) }
 {
     let [_index, file, later_words @ ..] = words else {

@@ -3,7 +3,7 @@ ghost use Rattle.std.specs.Prelude.{◌≡◌, ◌↔◌, ◌≤◌, [], IfOk, O
 ghost use Rattle.legacy_base.specs.Grammar.{Grammar};
 ghost use Rattle.legacy_base.specs.States.{new_state};
 ghost use Rattle.legacy_command.specs.Words.{texts_of, are_indexes, plain_words, codec_of_words};
-ghost use Rattle.legacy_command.specs.IndexTexts.{contents_of, text_given};
+ghost use Rattle.legacy_command.specs.IndexTexts.{contents_of, text_given, AreWellFormed};
 ghost use Rattle.legacy_command.specs.Program.{grammar_of, flat_of, RecodesInput, RecodesByTables};
 ghost use Rattle.legacy_command.specs.Program.{RecodesByTexts, RecodesByWords};
 
@@ -178,7 +178,9 @@ fn read_and_decode<'a, R: Read, W: Write>(
     output: &mut W,
 ) -> Result<(), Fault<'a>>
     requires { IsTrue (are_indexes (texts_of indexes.now)) }
-    ensures { OnOk result (RecodesByTexts kind codec
+    ensures well_formed { OnOk result
+        (AreWellFormed (texts_of indexes.now) (contents_of files.now)) }
+    ensures recoded { OnOk result (RecodesByTexts kind codec
         (text_given (texts_of indexes.now) (contents_of files.now))
         (R.remaining input.old) (R.remaining input.new)
         (W.contents output.old) (W.contents output.new)) }
@@ -195,7 +197,8 @@ fn read_and_decode<'a, R: Read, W: Write>(
 /// recoded: each event of it is a line of the output, or with `--text` the output is the text in UTF-8, with U+FFFD for
 /// each malformed sequence. The output is flushed at the end.
 ///
-/// - 0: all events were written, or the whole text, with U+FFFD in it or without.
+/// - 0: each file was read and has no malformed line, and all events were written, or the whole text, with U+FFFD in it
+///   or without.
 /// - 2: the words are not of that form; nothing is read.
 /// - 1: a file cannot be read or has a bad line, an index is refused, the input cannot be read, the output cannot be
 ///   written or flushed, or memory was refused. What was written before stands.

@@ -4,9 +4,9 @@ use Rattle.std.proofs.lemmas.Grind.{common_steps}
 use Rattle.std.proofs.lemmas.Bool.Decides.{nat_tests}
 use Rattle.std.specs.Option.{option_or, unwrap_or}
 use Rattle.legacy_index_files.specs.declared.index_line.LineKind.TheVariants.{Entry}
-use Rattle.legacy_index_files.specs.declared.index_file.FileIndex.{FileIndex}
+use Rattle.legacy_index_files.specs.declared.index_file.EncoderIndex.{EncoderIndex}
 use Rattle.legacy_index_files.specs.IndexLine.{lines}
-use Rattle.legacy_index_files.specs.IndexTable.{says, entries_of, with_entry, table_length, last_value}
+use Rattle.legacy_index_files.specs.IndexTable.{says, file_entries, with_entry, table_length, last_value}
 
 -- the value of a pointer whose place was written last, or not
 written_at : (values : List ℕ) (pointer value p : ℕ) → pointer < length values
@@ -21,11 +21,11 @@ fills_entry entries values pointer value p within =
     elim (last_value entries p) as P [ Some later ↦ refl | None ↦ written_at values pointer value p within ]
 
 -- a line that is an entry, written before those behind it are
-pub record FillsLine (name : FileIndex) (rest behind : List ℕ) (values : List ℕ) (pointer value : ℕ) : Type 0 where
-  pub room : table_length (entries_of name (lines behind)) ≤ length values
+pub record FillsLine (name : EncoderIndex) (rest behind : List ℕ) (values : List ℕ) (pointer value : ℕ) : Type 0 where
+  pub room : table_length (file_entries name (lines behind)) ≤ length values
   pub within : pointer < length values
-  pub at_each : (p : ℕ) → unwrap_or (last_value (entries_of name (lines behind)) p) (get_or (set values pointer value) p 0)
-      ≡ unwrap_or (last_value (entries_of name (lines rest)) p) (get_or values p 0)
+  pub at_each : (p : ℕ) → unwrap_or (last_value (file_entries name (lines behind)) p) (get_or (set values pointer value) p 0)
+      ≡ unwrap_or (last_value (file_entries name (lines rest)) p) (get_or values p 0)
 
 fills_with : (entries others : List (ℕ × ℕ)) (values : List ℕ) (pointer value p : ℕ) → entries ≡ (pointer, value) ∷ others → pointer < length values
     → unwrap_or (last_value others p) (get_or (set values pointer value) p 0) ≡ unwrap_or (last_value entries p) (get_or values p 0)
@@ -36,14 +36,14 @@ room_with : (entries others : List (ℕ × ℕ)) (room pointer value : ℕ) → 
 room_with entries others room pointer value split fits =
     let length_is = ap table_length split in (omega arith, omega arith)
 
-pub fills_line : (name : FileIndex) (line rest behind values : List ℕ) (pointer value : ℕ) → lines rest ≡ line ∷ lines behind
-    → Entry pointer value ≡ says name line → table_length (entries_of name (lines rest)) ≤ length values → FillsLine name rest behind values pointer value
+pub fills_line : (name : EncoderIndex) (line rest behind values : List ℕ) (pointer value : ℕ) → lines rest ≡ line ∷ lines behind
+    → Entry pointer value ≡ says name line → table_length (file_entries name (lines rest)) ≤ length values → FillsLine name rest behind values pointer value
 fills_line name line rest behind values pointer value first said fits =
-    let others = entries_of name (lines behind) in
-    let split : entries_of name (lines rest) ≡ (pointer, value) ∷ others = ap (entries_of name) first ∙ ap (λ kind. with_entry kind others) (sym said) in
-    let has_room = room_with (entries_of name (lines rest)) others (length values) pointer value split fits in
+    let others = file_entries name (lines behind) in
+    let split : file_entries name (lines rest) ≡ (pointer, value) ∷ others = ap (file_entries name) first ∙ ap (λ kind. with_entry kind others) (sym said) in
+    let has_room = room_with (file_entries name (lines rest)) others (length values) pointer value split fits in
     record {
       room = has_room.0;
       within = has_room.1;
-      at_each = λ p. fills_with (entries_of name (lines rest)) others values pointer value p split has_room.1;
+      at_each = λ p. fills_with (file_entries name (lines rest)) others values pointer value p split has_room.1;
     }

@@ -8,3 +8,4 @@ pub mod IndexValues
 pub mod PackingRuns
 pub mod PackingOrders
 pub mod PackingFaults
+pub mod WellFormed

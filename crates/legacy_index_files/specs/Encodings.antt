@@ -1,8 +1,10 @@
 -- The encodings of the Standard that this layer serves: their names ("Names and labels"), codecs and index files
 -- ("Indexes").
-use Rattle.std.specs.Prelude.{ℕ, List, [], ◌∷◌, Option, Some, None, codes}
+use Rattle.std.specs.Prelude.{ℕ, List, [], ◌∷◌, Option, Some, None, codes, map}
 use Rattle.legacy_index_files.specs.declared.index_file.FileIndex.{FileIndex}
 use Rattle.legacy_index_files.specs.declared.index_file.FileIndex.TheVariants as index
+use Rattle.legacy_index_files.specs.declared.index_file.EncoderIndex.{EncoderIndex}
+use Rattle.legacy_index_files.specs.declared.index_file.EncoderIndex.TheVariants.{Of, Katakana}
 use Rattle.legacy_index_files.specs.declared.encodings.Encoding.{Encoding}
 use Rattle.legacy_index_files.specs.declared.encodings.Encoding.TheVariants as encoding
 use Rattle.legacy_index_files.specs.declared.encodings.CodecName.{CodecName}
@@ -65,7 +67,7 @@ codec_of encoding.Utf16Le = codec.Utf16Le
 codec_of encoding.UserDefined = codec.UserDefined
 codec_of _ = codec.SingleByte
 
--- the indexes that a codec looks up, but for the katakana index of the encoder of ISO-2022-JP
+-- the indexes that the decoder of a codec looks up
 abbrev pub indexes_of : CodecName → List FileIndex
 indexes_of codec.SingleByte = index.SingleByte ∷ []
 indexes_of codec.Gbk = index.Gb18030 ∷ index.Ranges ∷ []
@@ -79,6 +81,11 @@ indexes_of codec.Replacement = []
 indexes_of codec.Utf16Be = []
 indexes_of codec.Utf16Le = []
 indexes_of codec.UserDefined = []
+
+-- the indexes that the encoder of a codec looks up: those of its decoder, and for ISO-2022-JP the katakana index
+abbrev pub encoder_indexes_of : CodecName → List EncoderIndex
+encoder_indexes_of codec.Iso2022Jp = Of index.Jis0208 ∷ Katakana ∷ []
+encoder_indexes_of codec = map Of (indexes_of codec)
 
 -- the name of the file that is published of a single-byte encoding
 abbrev pub single_byte_file : Encoding → Option (List ℕ)

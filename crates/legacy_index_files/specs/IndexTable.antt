@@ -1,36 +1,40 @@
 -- What the lines of an index file of the WHATWG Encoding Standard ("Indexes") give: the first malformed line, or the table.
+-- The file of index ISO-2022-JP katakana, which only an encoder looks up, is no `FileIndex`.
 use Rattle.std.specs.Prelude.{◌≡◌, ℕ, ◌+◌, ◌<◌, ◌≤◌, Bool, false, ◌&&◌, List, [], ◌∷◌, Option, Some, None, nat_le, nat_lt, ◌==◌, if◌then◌else◌, length, max, slice_index}
 use Rattle.std.specs.Option.{option_or, unwrap_or}
 use Rattle.legacy_index_files.specs.declared.index_line.LineKind.{LineKind}
 use Rattle.legacy_index_files.specs.declared.index_line.LineKind.TheVariants.{Skipped, Entry, Malformed}
 use Rattle.legacy_index_files.specs.declared.index_file.FileIndex.{FileIndex}
 use Rattle.legacy_index_files.specs.declared.index_file.FileIndex.TheVariants.{Big5, EucKr, Jis0208, Jis0212, Gb18030, Ranges, SingleByte}
+use Rattle.legacy_index_files.specs.declared.index_file.EncoderIndex.{EncoderIndex}
+use Rattle.legacy_index_files.specs.declared.index_file.EncoderIndex.TheVariants.{Of, Katakana}
 use Rattle.legacy_index_files.specs.declared.index_file.FileTable.{FileTable}
 use Rattle.legacy_index_files.specs.declared.index_file.FileTable.TheVariants as table
 use Rattle.legacy_index_files.specs.IndexLine.{line_kind}
 
 -- the greatest length of an index: its pointers are below it
-abbrev pub greatest_length : FileIndex → ℕ
-greatest_length Big5 = 19782
-greatest_length EucKr = 23940
-greatest_length Jis0208 = 11280
-greatest_length Jis0212 = 8836
-greatest_length Gb18030 = 23940
-greatest_length Ranges = 65536
-greatest_length SingleByte = 128
+abbrev pub greatest_length : EncoderIndex → ℕ
+greatest_length (Of Big5) = 19782
+greatest_length (Of EucKr) = 23940
+greatest_length (Of Jis0208) = 11280
+greatest_length (Of Jis0212) = 8836
+greatest_length (Of Gb18030) = 23940
+greatest_length (Of Ranges) = 65536
+greatest_length (Of SingleByte) = 128
+greatest_length Katakana = 63
 
 -- the greatest value of an index
-abbrev pub greatest_value : FileIndex → ℕ
-greatest_value Big5 = 0x10_FFFF
+abbrev pub greatest_value : EncoderIndex → ℕ
+greatest_value (Of Big5) = 0x10_FFFF
 greatest_value _ = 0xFFFF
 
 -- whether a line of the index is skipped by its pointer and value: in the ranges, that of the supplementary planes
-abbrev pub is_left_out : FileIndex → ℕ → ℕ → Bool
-is_left_out Ranges pointer value = pointer == 189000 && value == 0x1_0000
+abbrev pub is_left_out : EncoderIndex → ℕ → ℕ → Bool
+is_left_out (Of Ranges) pointer value = pointer == 189000 && value == 0x1_0000
 is_left_out _ pointer value = false
 
 -- what a line says in a file of the index, by its form and its pointer's and value's ranges
-abbrev pub kind_within : FileIndex → LineKind → LineKind
+abbrev pub kind_within : EncoderIndex → LineKind → LineKind
 kind_within name Skipped = Skipped
 kind_within name Malformed = Malformed
 kind_within name (Entry pointer value) =
@@ -39,21 +43,24 @@ kind_within name (Entry pointer value) =
     else Malformed
 
 -- what a line says in a file of the index
-abbrev pub says : FileIndex → List ℕ → LineKind
+abbrev pub says : EncoderIndex → List ℕ → LineKind
 says name line = kind_within name (line_kind line)
 
 -- whether an entry's pointer and value are in the index's range
-abbrev pub IsInRange : FileIndex → LineKind → Type 0
+abbrev pub IsInRange : EncoderIndex → LineKind → Type 0
 IsInRange name (Entry pointer value) = (pointer < greatest_length name) × (value ≤ greatest_value name)
 IsInRange name _ = Unit {0}
 
 -- ---- the first malformed line
 
 -- the number of the first malformed line, where the first of the lines has the number n
+abbrev pub malformed_line : EncoderIndex → ℕ → List (List ℕ) → Option ℕ
+malformed_line name n [] = None
+malformed_line name n (line ∷ more) =
+    elim (says name line) [ Skipped ↦ malformed_line name (n + 1) more | Entry p v ↦ malformed_line name (n + 1) more | Malformed ↦ Some n ]
+
 abbrev pub first_malformed : FileIndex → ℕ → List (List ℕ) → Option ℕ
-first_malformed name n [] = None
-first_malformed name n (line ∷ more) =
-    elim (says name line) [ Skipped ↦ first_malformed name (n + 1) more | Entry p v ↦ first_malformed name (n + 1) more | Malformed ↦ Some n ]
+first_malformed name = malformed_line (Of name)
 
 -- ---- the entries and their table
 
@@ -63,9 +70,12 @@ with_entry (Entry pointer value) entries = (pointer, value) ∷ entries
 with_entry _ entries = entries
 
 -- the entries of the lines, in their order
+abbrev pub file_entries : EncoderIndex → List (List ℕ) → List (ℕ × ℕ)
+file_entries name [] = []
+file_entries name (line ∷ more) = with_entry (says name line) (file_entries name more)
+
 abbrev pub entries_of : FileIndex → List (List ℕ) → List (ℕ × ℕ)
-entries_of name [] = []
-entries_of name (line ∷ more) = with_entry (says name line) (entries_of name more)
+entries_of name = file_entries (Of name)
 
 -- the length of a table of the entries: one more than the greatest pointer, and 0 where there is none
 abbrev pub table_length : List (ℕ × ℕ) → ℕ
@@ -92,7 +102,7 @@ pub record IsIndexOf (entries : List (ℕ × ℕ)) (values : List ℕ) : Type 0 
 
 -- whether a list has the values of the entries for all pointers of a single-byte index
 pub record IsSingleByteIndexOf (entries : List (ℕ × ℕ)) (values : List ℕ) : Type 0 where
-  pub len : length values ≡ greatest_length SingleByte
+  pub len : length values ≡ greatest_length (Of SingleByte)
   pub at_each : HasValues entries values
 
 -- whether a table of the index is the one that the entries give

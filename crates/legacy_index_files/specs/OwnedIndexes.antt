@@ -5,11 +5,12 @@ use Rattle.legacy_tables.specs.AcceptedTables.{flat_lists}
 use Rattle.legacy_tables.specs.declared.tables.private_use.TheConstants.{GB18030_2022_PUA}
 use Rattle.legacy_index_files.specs.declared.index_file.FileIndex.{FileIndex}
 use Rattle.legacy_index_files.specs.declared.index_file.FileIndex.TheVariants.{Big5, EucKr, Jis0208, Jis0212, Gb18030, Ranges, SingleByte}
+use Rattle.legacy_index_files.specs.declared.index_file.EncoderIndex.TheVariants.{Katakana}
 use Rattle.legacy_index_files.specs.declared.index_file.FileTable.{FileTable}
 use Rattle.legacy_index_files.specs.declared.index_file.FileTable.TheVariants as table
 use Rattle.legacy_index_files.specs.declared.owned_indexes.OwnedIndexes.{OwnedIndexes}
 use Rattle.legacy_index_files.specs.IndexLine.{lines}
-use Rattle.legacy_index_files.specs.IndexTable.{entries_of, IsIndexOf, IsSingleByteIndexOf, IsTableOf}
+use Rattle.legacy_index_files.specs.IndexTable.{entries_of, IsIndexOf, IsSingleByteIndexOf, IsTableOf, file_entries}
 
 -- the entries of an index, where each index has a text
 abbrev pub text_entries : (FileIndex → List ℕ) → FileIndex → List (ℕ × ℕ)
@@ -41,6 +42,11 @@ pub record HoldsFile (name : FileIndex) (text : List ℕ) (before after : OwnedI
   pub table : FileTable
   pub is_table : IsTableOf name (entries_of name (lines text)) table
   pub place : after ≡ with_table before name table
+
+-- the second set is the first one with what the text says in the place of index ISO-2022-JP katakana
+pub record HoldsKatakana (text : List ℕ) (before after : OwnedIndexes) : Type 0 where
+  pub says : IsIndexOf (file_entries Katakana (lines text)) after.katakana.items
+  pub place : after ≡ record before { katakana = after.katakana }
 
 -- the flat lists of the set, with the Standard's private-use rows
 abbrev pub owned_lists : OwnedIndexes → FlatIndexes

@@ -2,9 +2,10 @@
 ghost use Rattle.std.specs.Prelude.{◌≡◌, ◌↔◌, ℕ, List, Some, find, bytes_eq};
 ghost use Rattle.std.specs.Option.{option_map};
 ghost use Rattle.legacy_index_files.specs.Encodings.{encoding_name, codec_of, indexes_of};
+ghost use Rattle.legacy_index_files.specs.Encodings.{encoder_indexes_of};
 ghost use Rattle.legacy_index_files.specs.Encodings.{single_byte_file, file_name_of};
 
-use crate::index_file::FileIndex;
+use crate::index_file::{EncoderIndex, FileIndex};
 
 /// An encoding of the Standard ("Names and labels"): each but UTF-8.
 #[derive(Clone, Copy, Debug, PartialEq, Eq)]
@@ -249,9 +250,7 @@ impl Encoding {
         }
     }
 
-    /// The indexes that its decoder and its encoder look up; none for replacement, UTF-16 and
-    /// x-user-defined. The encoder of ISO-2022-JP also looks up index ISO-2022-JP katakana, of which no
-    /// `FileIndex` is.
+    /// The indexes that its decoder looks up; none for replacement, UTF-16 and x-user-defined.
     pub fn indexes(self) -> &'static [FileIndex]
         ensures { result.now ≡ indexes_of (codec_of self) }
     {
@@ -262,6 +261,38 @@ impl Encoding {
             CodecName::EucJp => &[FileIndex::Jis0208, FileIndex::Jis0212],
             CodecName::Iso2022Jp | CodecName::ShiftJis => &[FileIndex::Jis0208],
             CodecName::EucKr => &[FileIndex::EucKr],
+            CodecName::Replacement
+            | CodecName::Utf16Be
+            | CodecName::Utf16Le
+            | CodecName::UserDefined => &[],
+        }
+    }
+
+    /// The indexes that its encoder looks up: those of its decoder, and for ISO-2022-JP index ISO-2022-JP
+    /// katakana; none for replacement and UTF-16, which have no encoder, and x-user-defined.
+    pub fn encoder_indexes(self) -> &'static [EncoderIndex]
+        ensures { result.now ≡ encoder_indexes_of (codec_of self) }
+    {
+        match self.codec() {
+            CodecName::SingleByte => &[EncoderIndex::Of(FileIndex::SingleByte)],
+            CodecName::Gbk | CodecName::Gb18030 => {
+                &[
+                    EncoderIndex::Of(FileIndex::Gb18030),
+                    EncoderIndex::Of(FileIndex::Ranges),
+                ]
+            }
+            CodecName::Big5 => &[EncoderIndex::Of(FileIndex::Big5)],
+            CodecName::EucJp => {
+                &[
+                    EncoderIndex::Of(FileIndex::Jis0208),
+                    EncoderIndex::Of(FileIndex::Jis0212),
+                ]
+            }
+            CodecName::Iso2022Jp => {
+                &[EncoderIndex::Of(FileIndex::Jis0208), EncoderIndex::Katakana]
+            }
+            CodecName::ShiftJis => &[EncoderIndex::Of(FileIndex::Jis0208)],
+            CodecName::EucKr => &[EncoderIndex::Of(FileIndex::EucKr)],
             CodecName::Replacement
             | CodecName::Utf16Be
             | CodecName::Utf16Le

@@ -3,6 +3,8 @@ ghost use Rattle.std.specs.Prelude.{◌≡◌, ℕ, ◌↔◌, List, Some, None,
 ghost use Rattle.legacy_index_files.specs.IndexLine.{lines, line_kind};
 ghost use Rattle.legacy_index_files.specs.IndexGrammar.{IsOfKind};
 ghost use Rattle.legacy_index_files.specs.IndexTable.{first_malformed, entries_of, IsTableOf};
+ghost use Rattle.legacy_index_files.specs.IndexTable.{malformed_line, file_entries, IsIndexOf};
+ghost use Rattle.legacy_index_files.specs.declared.index_file.EncoderIndex.TheVariants.{Katakana};
 
 use crate::index_table::{check_lines, read_narrow, read_ranges, read_single_byte, read_wide};
 use std::alloc::Global;
@@ -26,6 +28,18 @@ pub enum FileIndex {
     /// An index of a single-byte encoding: pointers below 128, values to FFFF.
     SingleByte,
 }
+
+/// An index that an encoder looks up.
+#[derive(Clone, Copy, Debug, PartialEq, Eq)]
+pub enum EncoderIndex {
+    /// One that its decoder looks up too.
+    Of(FileIndex),
+    /// Index ISO-2022-JP katakana: pointers below 63, values to FFFF. `KATAKANA_FILE` is its file.
+    Katakana,
+}
+
+/// The name of the file that the Standard publishes of index ISO-2022-JP katakana.
+pub const KATAKANA_FILE: &str = "index-iso-2022-jp-katakana.txt";
 
 /// What an index file holds.
 #[derive(Debug, PartialEq, Eq, Drop)]
@@ -70,15 +84,36 @@ pub fn read_index(alloc: Global, name: FileIndex, text: &[u8]) -> Result<FileTab
         ↔ (first_malformed name 1 (lines text.now) ≡ Some n) }
     ensures grammar { (line : List ℕ) → IsOfKind line (line_kind line) }
 {
-    let length = match check_lines(name, text) {
+    let length = match check_lines(EncoderIndex::Of(name), text) {
         Ok(length) => length,
         Err(number) => return Err(IndexFileError::Line(number)),
     };
     let table = match name {
-        FileIndex::Big5 => read_wide(alloc, name, length, text).map(FileTable::Wide),
+        FileIndex::Big5 => read_wide(alloc, EncoderIndex::Of(name), length, text).map(
+            FileTable::Wide,
+        ),
         FileIndex::Ranges => read_ranges(alloc, text).map(FileTable::Ranges),
         FileIndex::SingleByte => Ok(FileTable::Bytes(read_single_byte(text))),
-        _ => read_narrow(alloc, name, length, text).map(FileTable::Narrow),
+        _ => read_narrow(alloc, EncoderIndex::Of(name), length, text).map(FileTable::Narrow),
     };
     table.map_err(|_| IndexFileError::Memory)
+}
+
+/// Reads the text of the file of index ISO-2022-JP katakana, by which the encoder of ISO-2022-JP writes
+/// half-width katakana, as `read_index` does that of other indexes: the value of each pointer up to the
+/// greatest one given, 0 where none is. The Standard's file gives all 63.
+pub fn read_katakana(alloc: Global, text: &[u8]) -> Result<Vec<u16>, IndexFileError>
+    ensures table { IfOk result (λ values.
+        IsIndexOf (file_entries Katakana (lines text.now)) values.items) }
+    ensures line { (n : ℕ) → (result ≡ Err (IndexFileError.Line n))
+        ↔ (malformed_line Katakana 1 (lines text.now) ≡ Some n) }
+{
+    let length = match check_lines(EncoderIndex::Katakana, text) {
+        Ok(length) => length,
+        Err(line) => return Err(IndexFileError::Line(line)),
+    };
+    match read_narrow(alloc, EncoderIndex::Katakana, length, text) {
+        Ok(values) => Ok(values),
+        Err(_) => Err(IndexFileError::Memory),
+    }
 }

@@ -2,18 +2,18 @@
 ghost use Rattle.std.specs.Prelude.{◌≡◌, ℕ, ◌<◌, ◌≤◌, ◌+◌, Some, None, Ok, Err, IfOk, MatchResult, length, slice_index};
 ghost use Rattle.std.specs.Option.{unwrap_or};
 ghost use Rattle.legacy_index_files.specs.IndexLine.{lines, line_kind};
-ghost use Rattle.legacy_index_files.specs.IndexTable.{greatest_length, greatest_value, is_left_out, kind_within, says, first_malformed, entries_of, table_length, last_value, IsIndexOf, IsSingleByteIndexOf, IsInRange};
+ghost use Rattle.legacy_index_files.specs.IndexTable.{greatest_length, greatest_value, is_left_out, kind_within, says, malformed_line, file_entries, entries_of, table_length, last_value, IsIndexOf, IsSingleByteIndexOf, IsInRange};
 
-use crate::index_file::FileIndex;
+use crate::index_file::{EncoderIndex, FileIndex};
 use crate::index_line::{LineKind, parse_line, split_line};
 use std::alloc::{AllocError, Global};
 
 /// The first malformed line's number, or the length of the table that the lines give.
-pub(crate) fn check_lines(name: FileIndex, text: &[u8]) -> Result<usize, usize>
+pub(crate) fn check_lines(name: EncoderIndex, text: &[u8]) -> Result<usize, usize>
     ensures sound { MatchResult result
-        (λ _. first_malformed name 1 (lines text.now) ≡ None)
-        (λ n. first_malformed name 1 (lines text.now) ≡ Some n) }
-    ensures length { IfOk result (λ n. n ≡ table_length (entries_of name (lines text.now))) }
+        (λ _. malformed_line name 1 (lines text.now) ≡ None)
+        (λ n. malformed_line name 1 (lines text.now) ≡ Some n) }
+    ensures length { IfOk result (λ n. n ≡ table_length (file_entries name (lines text.now))) }
     ensures bound { IfOk result (λ n. n ≤ greatest_length name) }
 {
     let mut rest = text;
@@ -35,12 +35,12 @@ pub(crate) fn check_lines(name: FileIndex, text: &[u8]) -> Result<usize, usize>
 /// The table of index Big5, whose text has no malformed line.
 pub(crate) fn read_wide(
     alloc: Global,
-    name: FileIndex,
+    name: EncoderIndex,
     length: usize,
     text: &[u8],
 ) -> Result<Vec<u32>, AllocError>
-    requires len { length ≡ table_length (entries_of name (lines text.now)) }
-    ensures { IfOk result (λ v. IsIndexOf (entries_of name (lines text.now)) v.items) }
+    requires len { length ≡ table_length (file_entries name (lines text.now)) }
+    ensures { IfOk result (λ v. IsIndexOf (file_entries name (lines text.now)) v.items) }
 {
     let mut values = vec![in alloc; 0; length]?;
     fill_wide(&mut values, name, text);
@@ -50,13 +50,13 @@ pub(crate) fn read_wide(
 /// The table of another index by pointer, whose text has no malformed line.
 pub(crate) fn read_narrow(
     alloc: Global,
-    name: FileIndex,
+    name: EncoderIndex,
     length: usize,
     text: &[u8],
 ) -> Result<Vec<u16>, AllocError>
     requires narrow { greatest_value name ≡ 0xFFFF }
-    requires len { length ≡ table_length (entries_of name (lines text.now)) }
-    ensures { IfOk result (λ v. IsIndexOf (entries_of name (lines text.now)) v.items) }
+    requires len { length ≡ table_length (file_entries name (lines text.now)) }
+    ensures { IfOk result (λ v. IsIndexOf (file_entries name (lines text.now)) v.items) }
 {
     let mut values = vec![in alloc; 0; length]?;
     fill_narrow(&mut values, name, text);
@@ -69,7 +69,7 @@ pub(crate) fn read_single_byte(text: &[u8]) -> [u16; 128]
     ensures { IsSingleByteIndexOf (entries_of FileIndex.SingleByte (lines text.now)) result }
 {
     let mut values = [0; 128];
-    fill_narrow(&mut values, FileIndex::SingleByte, text);
+    fill_narrow(&mut values, EncoderIndex::Of(FileIndex::SingleByte), text);
     values
 }
 
@@ -81,7 +81,10 @@ pub(crate) fn read_ranges(alloc: Global, text: &[u8]) -> Result<Vec<(u16, u16)>,
     let mut rest = text;
     while !rest.is_empty() {
         let (line, behind) = split_line(rest);
-        if let LineKind::Entry(pointer, value) = read_line(FileIndex::Ranges, line) {
+        if let LineKind::Entry(pointer, value) = read_line(
+            EncoderIndex::Of(FileIndex::Ranges),
+            line,
+        ) {
             ranges.push((pointer as u16, value as u16))?;
         }
         rest = behind;
@@ -90,10 +93,10 @@ pub(crate) fn read_ranges(alloc: Global, text: &[u8]) -> Result<Vec<(u16, u16)>,
 }
 
 /// Writes each line's value to its pointer's place, in the lines' order.
-fn fill_wide(values: &mut [u32], name: FileIndex, text: &[u8])
-    requires { table_length (entries_of name (lines text.now)) ≤ length values.old }
+fn fill_wide(values: &mut [u32], name: EncoderIndex, text: &[u8])
+    requires { table_length (file_entries name (lines text.now)) ≤ length values.old }
     ensures { (p : ℕ) → p < length values.old → slice_index values.new p
-        ≡ unwrap_or (last_value (entries_of name (lines text.now)) p) (slice_index values.old p) }
+        ≡ unwrap_or (last_value (file_entries name (lines text.now)) p) (slice_index values.old p) }
 {
     let mut rest = text;
     while !rest.is_empty() {
@@ -106,11 +109,11 @@ fn fill_wide(values: &mut [u32], name: FileIndex, text: &[u8])
 }
 
 /// Writes each line's value to its pointer's place, in the lines' order.
-fn fill_narrow(values: &mut [u16], name: FileIndex, text: &[u8])
+fn fill_narrow(values: &mut [u16], name: EncoderIndex, text: &[u8])
     requires narrow { greatest_value name ≡ 0xFFFF }
-    requires room { table_length (entries_of name (lines text.now)) ≤ length values.old }
+    requires room { table_length (file_entries name (lines text.now)) ≤ length values.old }
     ensures { (p : ℕ) → p < length values.old → slice_index values.new p
-        ≡ unwrap_or (last_value (entries_of name (lines text.now)) p) (slice_index values.old p) }
+        ≡ unwrap_or (last_value (file_entries name (lines text.now)) p) (slice_index values.old p) }
 {
     let mut rest = text;
     while !rest.is_empty() {
@@ -123,7 +126,7 @@ fn fill_narrow(values: &mut [u16], name: FileIndex, text: &[u8])
 }
 
 /// What a line says in a file of the index.
-fn read_line(name: FileIndex, line: &[u8]) -> LineKind
+fn read_line(name: EncoderIndex, line: &[u8]) -> LineKind
     ensures says { result ≡ says name line.now }
     ensures in_range { IsInRange name result }
 {
@@ -134,11 +137,11 @@ fn read_line(name: FileIndex, line: &[u8]) -> LineKind
 }
 
 /// What the line of an entry says in a file of the index.
-fn kind_in_range(name: FileIndex, pointer: u32, value: u32) -> LineKind
+fn kind_in_range(name: EncoderIndex, pointer: u32, value: u32) -> LineKind
     ensures says { result ≡ kind_within name (LineKind.Entry pointer value) }
     ensures in_range { IsInRange name result }
 {
-    if name == FileIndex::Ranges && pointer == 189000 && value == 0x1_0000 {
+    if name == EncoderIndex::Of(FileIndex::Ranges) && pointer == 189000 && value == 0x1_0000 {
         LineKind::Skipped
     } else if pointer < pointer_limit(name) && value <= value_limit(name) {
         LineKind::Entry(pointer, value)
@@ -148,25 +151,26 @@ fn kind_in_range(name: FileIndex, pointer: u32, value: u32) -> LineKind
 }
 
 /// The index's greatest length: its pointers are below it.
-fn pointer_limit(name: FileIndex) -> u32
+fn pointer_limit(name: EncoderIndex) -> u32
     ensures { result ≡ greatest_length name }
 {
     match name {
-        FileIndex::Big5 => 19782,
-        FileIndex::EucKr | FileIndex::Gb18030 => 23940,
-        FileIndex::Jis0208 => 11280,
-        FileIndex::Jis0212 => 8836,
-        FileIndex::Ranges => 65536,
-        FileIndex::SingleByte => 128,
+        EncoderIndex::Of(FileIndex::Big5) => 19782,
+        EncoderIndex::Of(FileIndex::EucKr | FileIndex::Gb18030) => 23940,
+        EncoderIndex::Of(FileIndex::Jis0208) => 11280,
+        EncoderIndex::Of(FileIndex::Jis0212) => 8836,
+        EncoderIndex::Of(FileIndex::Ranges) => 65536,
+        EncoderIndex::Of(FileIndex::SingleByte) => 128,
+        EncoderIndex::Katakana => 63,
     }
 }
 
 /// The index's greatest value.
-fn value_limit(name: FileIndex) -> u32
+fn value_limit(name: EncoderIndex) -> u32
     ensures { result ≡ greatest_value name }
 {
     match name {
-        FileIndex::Big5 => 0x10_FFFF,
+        EncoderIndex::Of(FileIndex::Big5) => 0x10_FFFF,
         _ => 0xFFFF,
     }
 }

@@ -12,7 +12,9 @@ mod packed_indexes;
 mod packing;
 
 pub use encodings::{CodecName, ENCODINGS, Encoding};
-pub use index_file::{FileIndex, FileTable, IndexFileError, read_index};
+pub use index_file::{
+    EncoderIndex, FileIndex, FileTable, IndexFileError, KATAKANA_FILE, read_index, read_katakana,
+};
 pub use legacy_tables::GB18030_2022_PUA;
 pub use owned_indexes::OwnedIndexes;
 pub use packed_indexes::PackedIndexes;

@@ -4,10 +4,12 @@ ghost use Rattle.legacy_tables.specs.Tables.{flat_indexes};
 ghost use Rattle.legacy_tables.specs.TableChecks.{table_fault, single_byte_fault};
 ghost use Rattle.legacy_index_files.specs.IndexLine.{lines};
 ghost use Rattle.legacy_index_files.specs.IndexTable.{first_malformed, entries_of, IsTableOf};
+ghost use Rattle.legacy_index_files.specs.IndexTable.{malformed_line};
+ghost use Rattle.legacy_index_files.specs.declared.index_file.EncoderIndex.TheVariants.{Katakana};
 ghost use Rattle.legacy_index_files.specs.IndexTexts.{no_text, with_text};
-ghost use Rattle.legacy_index_files.specs.OwnedIndexes.{HoldsTexts, HoldsFile, with_table, owned_lists};
+ghost use Rattle.legacy_index_files.specs.OwnedIndexes.{HoldsTexts, HoldsFile, HoldsKatakana, with_table, owned_lists};
 
-use crate::index_file::{FileIndex, FileTable, IndexFileError, read_index};
+use crate::index_file::{FileIndex, FileTable, IndexFileError, read_index, read_katakana};
 use legacy_tables::{GB18030_2022_PUA, Indexes, SingleByteTable, TableError, Tables};
 use std::alloc::Global;
 
@@ -34,8 +36,7 @@ pub struct OwnedIndexes {
     /// Index gb18030.
     pub gb18030: Vec<u16>,
     /// Index ISO-2022-JP katakana, of 63 entries or none, by which ISO-2022-JP encodes half-width
-    /// katakana. No `FileIndex` is this one: its file has the form of the others, and what
-    /// `read_index` gives for it as index jis0212 may be put here.
+    /// katakana (`read_katakana`).
     pub katakana: Vec<u16>,
     /// Index gb18030 ranges.
     pub ranges: Vec<(u16, u16)>,
@@ -121,6 +122,26 @@ impl OwnedIndexes {
         match read_index(alloc, name, text) {
             Ok(table) => {
                 self.set(name, table);
+                Ok(())
+            }
+            Err(fault) => Err(fault),
+        }
+    }
+
+    /// Reads the text of the file of index ISO-2022-JP katakana by the function `read_katakana`, and puts
+    /// its values in their place. After an error the set is as it was. Where the lines give other than 63
+    /// values or none, `tables` refuses them.
+    pub fn read_katakana(&mut self, alloc: Global, text: &[u8]) -> Result<(), IndexFileError>
+        ensures values { IfOk result (λ _. HoldsKatakana text.now self.old self.new) }
+        ensures texts { (texts : FileIndex → List ℕ) → HoldsTexts texts self.old
+            → HoldsTexts texts self.new }
+        ensures line { (n : ℕ) → (result ≡ Err (IndexFileError.Line n))
+            ↔ (malformed_line Katakana 1 (lines text.now) ≡ Some n) }
+        ensures unchanged { OnErr result (self.new ≡ self.old) }
+    {
+        match read_katakana(alloc, text) {
+            Ok(values) => {
+                self.katakana = values;
                 Ok(())
             }
             Err(fault) => Err(fault),

@@ -1,22 +1,20 @@
 -- What a registry of encodings does by their names, over the index data that it owns.
-use Rattle.std.specs.Prelude.{◌≡◌, ℕ, List, ◌∷◌, Option, Some, None, true, false, find, option_map, bytes_eq}
+use Rattle.std.specs.Prelude.{◌≡◌, ◌≢◌, ℕ, List, ◌∷◌, length, Option, Some, None, true, find, option_map, bytes_eq}
 use Rattle.std.specs.Str.{chars}
-use Rattle.legacy_base.specs.Grammar.{Grammar, single_byte, user_defined, replacement, utf16, big5, shift_jis, euc_jp, gb18030, iso_2022_jp}
-use Rattle.legacy_base.specs.EucKr.{euc_kr}
-use Rattle.legacy_base.specs.Iso2022Jp.{ascii}
-use Rattle.legacy_tables.specs.Indexes.{FlatIndexes}
-use Rattle.legacy_base.specs.States.{new_state}
-use Rattle.legacy_base.specs.Encoders.{Codec, new_encoder, encoded}
-use Rattle.legacy_base.specs.Encoders as encoders
+use Rattle.legacy_base.specs.States.{DecoderState}
+use Rattle.legacy_base.specs.Encoders.{EncoderState, encoded}
+use Rattle.legacy_base.specs.Lengths.{query_answer, to_utf8}
 use Rattle.legacy_codecs.specs.References.{referenced_bytes}
-use Rattle.legacy_index_files.specs.declared.index_file.FileIndex.TheVariants.{SingleByte}
+use Rattle.legacy_tables.specs.Indexes.{FlatIndexes}
 use Rattle.legacy_index_files.specs.declared.encodings.Encoding.{Encoding}
-use Rattle.legacy_index_files.specs.declared.encodings.CodecName.{CodecName}
 use Rattle.legacy_index_files.specs.declared.encodings.CodecName.TheVariants as codec
 use Rattle.legacy_index_files.specs.Encodings.{encoding_name, codec_of}
-use Rattle.legacy_index_files.specs.IndexLine.{lines}
-use Rattle.legacy_index_files.specs.IndexTable as index
 use Rattle.legacy_uses.specs.declared.registry.EncodingTable.{EncodingTable}
+use Rattle.legacy_uses.specs.declared.registry.RegistryError.{RegistryError}
+use Rattle.legacy_uses.specs.declared.registry.RegistryError.TheVariants.{Unknown, NoIndex, Sized}
+use Rattle.legacy_uses.specs.declared.sized.SizedError.TheVariants.{TooLong, Memory}
+use Rattle.legacy_uses.specs.Coders.{decoder_of, encoder_of}
+use Rattle.legacy_uses.specs.SingleByteFiles.{IsSingleByteFile}
 use Rattle.legacy_uses.specs.WholeTexts.{text_of}
 
 -- ---- the tables of single-byte encodings
@@ -30,70 +28,84 @@ entries_of tables encoding =
 pub record IsReadTable (encoding : Encoding) (text : List ℕ) (before after : List EncodingTable) : Type 0 where
   pub table : EncodingTable
   pub of : table.encoding ≡ encoding
-  pub says : index.IsSingleByteIndexOf (index.entries_of SingleByte (lines text)) table.table.entries
+  pub of_file : IsSingleByteFile text table.table.entries
   pub first : after ≡ table ∷ before
 
--- ---- the encodings
-
--- the grammar of a codec, over the lists of the indexes and the entries of a single-byte table
-abbrev pub grammar_of : CodecName → FlatIndexes → List ℕ → Grammar
-grammar_of codec.SingleByte flat entries = single_byte entries
-grammar_of codec.Gbk flat entries = gb18030 flat.gb18030 flat.ranges
-grammar_of codec.Gb18030 flat entries = gb18030 flat.gb18030 flat.ranges
-grammar_of codec.Big5 flat entries = big5 flat.big5
-grammar_of codec.EucJp flat entries = euc_jp flat.jis0208 flat.jis0212
-grammar_of codec.Iso2022Jp flat entries = iso_2022_jp flat.jis0208 ascii
-grammar_of codec.ShiftJis flat entries = shift_jis flat.jis0208
-grammar_of codec.EucKr flat entries = euc_kr flat.euc_kr
-grammar_of codec.Replacement flat entries = replacement false
-grammar_of codec.Utf16Be flat entries = utf16 true
-grammar_of codec.Utf16Le flat entries = utf16 false
-grammar_of codec.UserDefined flat entries = user_defined
-
--- the codec that an encoder has; none where the output encoding is UTF-8
-abbrev pub encoder_of : CodecName → FlatIndexes → List ℕ → Option Codec
-encoder_of codec.SingleByte flat entries = Some (encoders.single_byte entries)
-encoder_of codec.Gbk flat entries = Some (encoders.gbk flat.gb18030 flat.ranges flat.gb18030_pua)
-encoder_of codec.Gb18030 flat entries = Some (encoders.gb18030 flat.gb18030 flat.ranges flat.gb18030_pua)
-encoder_of codec.Big5 flat entries = Some (encoders.big5 flat.big5)
-encoder_of codec.EucJp flat entries = Some (encoders.euc_jp flat.jis0208 flat.jis0212)
-encoder_of codec.Iso2022Jp flat entries = Some (encoders.iso_2022_jp flat.jis0208 flat.katakana)
-encoder_of codec.ShiftJis flat entries = Some (encoders.shift_jis flat.jis0208)
-encoder_of codec.EucKr flat entries = Some (encoders.euc_kr flat.euc_kr)
-encoder_of codec.Replacement flat entries = None
-encoder_of codec.Utf16Be flat entries = None
-encoder_of codec.Utf16Le flat entries = None
-encoder_of codec.UserDefined flat entries = Some encoders.user_defined
-
--- the bytes of a text of UTF-8 by a codec up to its end, with references; by none, the text itself
-unfoldable pub bytes_by : Option Codec → List ℕ → List ℕ
-bytes_by None text = text
-bytes_by (Some codec) text = referenced_bytes (encoded (new_encoder codec) (chars text) true)
+-- ---- coders by name
 
 -- no encoding has the name
 abbrev pub HasNoName : List ℕ → Type 0
 HasNoName name = (encoding : Encoding) → ¬ (encoding_name encoding ≡ name)
 
--- The characters of the input by the encoding. Where it is a single-byte encoding, its entries are those of its table.
-pub record IsTextBy (flat : FlatIndexes) (tables : List EncodingTable) (encoding : Encoding) (input text : List ℕ) : Type 0 where
-  pub entries : List ℕ
-  pub own : codec_of encoding ≡ codec.SingleByte → entries_of tables encoding ≡ Some entries
-  pub decodes : text ≡ text_of (new_state (grammar_of (codec_of encoding) flat entries)) input
+-- a new decoder of the encoding is in this state; of a single-byte encoding whose table was not read there is none
+abbrev pub decoder_for : FlatIndexes → List EncodingTable → Encoding → Option DecoderState
+decoder_for flat tables encoding = decoder_of (codec_of encoding) flat (entries_of tables encoding)
 
--- The bytes of the text by the encoding, likewise.
-pub record AreBytesBy (flat : FlatIndexes) (tables : List EncodingTable) (encoding : Encoding) (text bytes : List ℕ) : Type 0 where
-  pub entries : List ℕ
-  pub own : codec_of encoding ≡ codec.SingleByte → entries_of tables encoding ≡ Some entries
-  pub encodes : bytes ≡ bytes_by (encoder_of (codec_of encoding) flat entries) text
+-- a new decoder of the encoding of the name is in this state
+pub record IsDecoderOf (flat : FlatIndexes) (tables : List EncodingTable) (name : List ℕ) (state : DecoderState) : Type 0 where
+  pub encoding : Encoding
+  pub named : encoding_name encoding ≡ name
+  pub made : decoder_for flat tables encoding ≡ Some state
+
+-- the encoding of the name is a single-byte encoding whose table was not read
+pub record LacksTable (tables : List EncodingTable) (name : List ℕ) : Type 0 where
+  pub encoding : Encoding
+  pub named : encoding_name encoding ≡ name
+  pub single_byte : codec_of encoding ≡ codec.SingleByte
+  pub not_read : entries_of tables encoding ≡ None
+
+-- why there is no coder of the name
+abbrev pub IsNameError : List EncodingTable → List ℕ → RegistryError → Type 0
+IsNameError tables name Unknown = HasNoName name
+IsNameError tables name NoIndex = LacksTable tables name
+IsNameError tables name _ = ⊥
+
+-- The encoding of the name has an encoder, and a new one is in this state; or its output encoding is UTF-8 (Encoding
+-- Standard, "get an output encoding"), and there is none.
+abbrev pub encoder_for : FlatIndexes → List EncodingTable → Encoding → Option EncoderState
+encoder_for flat tables encoding = encoder_of (codec_of encoding) flat (entries_of tables encoding)
+
+pub record IsEncoderOf (flat : FlatIndexes) (tables : List EncodingTable) (name : List ℕ) (output : Option EncoderState) : Type 0 where
+  pub encoding : Encoding
+  pub named : encoding_name encoding ≡ name
+  pub made : encoder_for flat tables encoding ≡ output
+  pub read : codec_of encoding ≡ codec.SingleByte → entries_of tables encoding ≢ None
+
+-- ---- whole inputs and texts
 
 -- the characters of the input by the encoding of the name
 pub record IsText (flat : FlatIndexes) (tables : List EncodingTable) (name input text : List ℕ) : Type 0 where
-  pub encoding : Encoding
-  pub named : encoding_name encoding ≡ name
-  pub is_text : IsTextBy flat tables encoding input text
+  pub state : DecoderState
+  pub decoder : IsDecoderOf flat tables name state
+  pub short : query_answer to_utf8 state (length input) ≢ None
+  pub decodes : text ≡ text_of state input
+
+-- the length query of a new decoder of the name answers none for the input
+pub record IsTooLong (flat : FlatIndexes) (tables : List EncodingTable) (name input : List ℕ) : Type 0 where
+  pub state : DecoderState
+  pub decoder : IsDecoderOf flat tables name state
+  pub too_long : query_answer to_utf8 state (length input) ≡ None
+
+-- why an input was not decoded; memory may be refused wherever there is a decoder and a length
+abbrev pub IsDecodeError : FlatIndexes → List EncodingTable → List ℕ → List ℕ → RegistryError → Type 0
+IsDecodeError flat tables name input (Sized TooLong) = IsTooLong flat tables name input
+IsDecodeError flat tables name input (Sized Memory) =
+    (state : DecoderState) × IsDecoderOf flat tables name state × (query_answer to_utf8 state (length input) ≢ None)
+IsDecodeError flat tables name input error = IsNameError tables name error
+
+-- the bytes of a text in UTF-8 by an encoder up to its end, with references; by none, the text itself
+unfoldable pub bytes_by : Option EncoderState → List ℕ → List ℕ
+bytes_by None text = text
+bytes_by (Some state) text = referenced_bytes (encoded state (chars text) true)
 
 -- the bytes of the text by the encoding of the name
 pub record AreBytes (flat : FlatIndexes) (tables : List EncodingTable) (name text bytes : List ℕ) : Type 0 where
-  pub encoding : Encoding
-  pub named : encoding_name encoding ≡ name
-  pub are_bytes : AreBytesBy flat tables encoding text bytes
+  pub output : Option EncoderState
+  pub encoder : IsEncoderOf flat tables name output
+  pub encodes : bytes ≡ bytes_by output text
+
+-- why a text was not encoded; memory may be refused wherever there is an encoder, or none is needed
+abbrev pub IsEncodeError : FlatIndexes → List EncodingTable → List ℕ → RegistryError → Type 0
+IsEncodeError flat tables name (Sized TooLong) = ⊥
+IsEncodeError flat tables name (Sized Memory) = (output : Option EncoderState) × IsEncoderOf flat tables name output
+IsEncodeError flat tables name error = IsNameError tables name error

@@ -4,10 +4,9 @@ ghost use Rattle.std.specs.Str.{chars};
 ghost use Rattle.legacy_base.specs.Encoders.{encoded};
 ghost use Rattle.legacy_codecs.specs.References.{referenced_bytes};
 
-use crate::sized::SizedError;
 use crate::transcode::encode_whole;
 use legacy_codecs::{CachedEncoder, EncodesPairs};
-use std::alloc::Global;
+use std::alloc::{AllocError, Global};
 
 /// Encodes a whole text as `encode_whole` does, with all pairs of the codec looked up ahead where the room has
 /// `PAIR_ROOM` entries.
@@ -16,7 +15,7 @@ pub fn encode_long<E: EncodesPairs>(
     encoder: &mut E,
     room: &mut [u16],
     text: &str,
-) -> Result<Vec<u8>, SizedError>
+) -> Result<Vec<u8>, AllocError>
     ensures { IfOk result (λ bytes. bytes.items
         ≡ referenced_bytes (encoded (E.state encoder.old) (chars text.now) true)) }
 {

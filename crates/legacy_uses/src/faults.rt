@@ -1,6 +1,7 @@
 //! The malformed sequences of an input, with their places.
-ghost use Rattle.std.specs.Prelude.{◌≡◌, ◌+◌, ◌-◌, ◌≤◌, ◌++◌, length, drop, IfOk};
+ghost use Rattle.std.specs.Prelude.{◌≡◌, ◌↔◌, ◌+◌, ◌-◌, ◌≤◌, ◌++◌, length, drop, Err, IfOk, None};
 ghost use Rattle.legacy_base.specs.Grammar.{events_of};
+ghost use Rattle.legacy_base.specs.Lengths.{query_answer, to_utf8_without_replacement};
 ghost use Rattle.legacy_uses.specs.MalformedSequences.{malformed_of};
 
 use crate::sized::SizedError;
@@ -42,9 +43,11 @@ pub fn malformed_sequences<D: RawDecoder>(
     decoder: &mut D,
     input: &[u8],
 ) -> Result<Vec<MalformedSequence>, SizedError>
-    ensures { IfOk result (λ found. let before = D.state decoder.old in
+    ensures found { IfOk result (λ found. let before = D.state decoder.old in
         found.items ≡ malformed_of (length before.held)
         (events_of before.grammar (before.held ++ input.now))) }
+    ensures too_long { (result ≡ Err SizedError.TooLong)
+        ↔ query_answer to_utf8_without_replacement (D.state decoder.old) (length input.now) ≡ None }
 {
     let Some(room) = decoder.max_utf8_buffer_length_without_replacement(input.len()) else {
         return Err(SizedError::TooLong);

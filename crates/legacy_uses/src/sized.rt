@@ -5,10 +5,10 @@ ghost use Rattle.legacy_base.specs.Lengths.{query_answer, to_utf8};
 ghost use Rattle.legacy_uses.specs.WholeTexts.{text_of};
 
 use legacy_codecs::{RawDecoder, decode_replacing_utf8};
-use std::alloc::Global;
+use std::alloc::{AllocError, Global};
 use thiserror::Error;
 
-/// Why an input was not decoded. The decoder is as it was.
+/// Why a result was not made.
 #[derive(Clone, Copy, Debug, PartialEq, Eq, Error)]
 pub enum SizedError {
     /// The length of the buffer would be above `usize::MAX`.
@@ -19,7 +19,18 @@ pub enum SizedError {
     Memory,
 }
 
+impl From<AllocError> for SizedError {
+    ghost use Rattle.legacy_uses.specs.declared.sized.SizedError.TheVariants.{Memory};
+
+    ghost from_gives = { λ _ error. error ≡ Memory };
+
+    fn from(_: AllocError) -> SizedError {
+        SizedError::Memory
+    }
+}
+
 /// Decodes an input that is whole in memory, and answers its text, with U+FFFD for each malformed sequence.
+/// After an error the decoder is as it was.
 pub fn decode_whole<D: RawDecoder>(
     alloc: Global,
     decoder: &mut D,

@@ -11,6 +11,7 @@ use legacy_uses::piece_by_piece::decode_piece;
 use legacy_uses::registry::{Coders, Registry, RegistryError};
 use legacy_uses::sized::decode_whole;
 use legacy_uses::transcode::transcode;
+use legacy_uses::two_files::{TwoFiles, decode_two};
 use std::alloc::Global;
 use std::process::Abort;
 
@@ -131,6 +132,20 @@ fn an_index_file_is_decoded_by(rt: HostRuntime) {
     assert_eq!(rt; text.as_deref(), Ok("a\u{AC02}\u{FFFD}"));
 }
 
+#[test]
+fn two_encodings_are_decoded_by_their_files(rt: HostRuntime) {
+    let files = TwoFiles {
+        euc_kr: b"0\t0xAC02\n",
+        windows_1252: b"0\t0x20AC\n",
+    };
+    let texts = decode_two(rt.alloc(), &files, b"a\x81\x41\xFF", b"a\x80\x81");
+    let Ok((korean, western)) = texts else {
+        panic!(rt; "two files");
+    };
+    assert_eq!(rt; korean.as_str(), "a\u{AC02}\u{FFFD}");
+    assert_eq!(rt; western.as_str(), "a\u{20AC}\u{FFFD}");
+}
+
 /// A registry that read the first line of index EUC-KR, and that of windows-1252: the euro sign at pointer 0.
 fn registry_of(alloc: Global) -> Result<Registry, RegistryError> {
     let mut registry = Registry::new(alloc);
@@ -212,4 +227,29 @@ fn runs(entries: &[u16; 128], scalar: u16, start: u8, count: u8) -> bool {
         }
         Err(_) => false,
     }
+}
+
+/// A registry that read the ideographic full stop, at pointer 2 of index jis0208, and two of 63 half-width katakana: the
+/// full stop, and the corner bracket, which that index lacks.
+fn japanese(alloc: Global) -> Result<Registry, RegistryError> {
+    let mut registry = Registry::new(alloc);
+    registry
+        .indexes
+        .read(alloc, FileIndex::Jis0208, b"2 0x3002\n")?;
+    registry
+        .indexes
+        .read_katakana(alloc, b"0 0x3002\n1 0x300C\n62 0x0\n")?;
+    Ok(registry)
+}
+
+#[test]
+fn half_width_katakana_are_written_by_their_file(rt: HostRuntime) {
+    let Ok(registry) = japanese(rt.alloc()) else {
+        panic!(rt; "registry");
+    };
+    let Ok(coders) = registry.coders() else {
+        panic!(rt; "coders");
+    };
+    let bytes = coders.encode(rt.alloc(), "ISO-2022-JP", "\u{FF61}\u{FF62}");
+    assert_eq!(rt; bytes.as_deref(), Ok(b"\x1B$B!#\x1B(B&#65378;".as_slice()));
 }

@@ -1,6 +1,6 @@
 //! The encodings against rows of the Standard.
 use crate::compared::holds;
-use legacy_index_files::{CodecName, ENCODINGS, Encoding, FileIndex};
+use legacy_index_files::{CodecName, ENCODINGS, EncoderIndex, Encoding, FileIndex};
 
 /// The codec of the encoding with this name.
 fn codec_of(name: &str) -> Option<CodecName> {
@@ -76,4 +76,28 @@ fn single_byte_count() -> usize {
         .iter()
         .filter(|encoding| encoding.codec() == CodecName::SingleByte)
         .count()
+}
+
+/// The name of an encoding, and the indexes that its encoder looks up.
+type Encoders<'a> = (&'a str, &'a [EncoderIndex]);
+
+const ENCODERS: &[Encoders] = &[
+    (
+        "ISO-2022-JP",
+        &[EncoderIndex::Of(FileIndex::Jis0208), EncoderIndex::Katakana],
+    ),
+    ("Shift_JIS", &[EncoderIndex::Of(FileIndex::Jis0208)]),
+    ("UTF-16LE", &[]),
+];
+
+/// The indexes of the encoder of the encoding with this name.
+fn encoder_indexes_of(name: &str) -> Option<&'static [EncoderIndex]> {
+    Some(Encoding::by_name(name)?.encoder_indexes())
+}
+
+#[test]
+fn the_encoder_of_iso_2022_jp_looks_katakana_up(rt: HostRuntime) {
+    for (name, indexes) in ENCODERS {
+        holds(&rt, *name, encoder_indexes_of(*name) == Some(*indexes));
+    }
 }

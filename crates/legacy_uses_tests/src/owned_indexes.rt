@@ -1,6 +1,6 @@
 //! An owning set of indexes, from the text of a file to what tables give.
 use crate::compared::{holds, is_fault, is_refusal, is_scalar};
-use legacy_index_files::{FileIndex, FileTable, IndexFileError, OwnedIndexes, read_index};
+use legacy_index_files::{FileIndex, IndexFileError, OwnedIndexes};
 use legacy_tables::{IndexName, SingleByteTable, TableError, Tables};
 use std::alloc::Global;
 use std::process::Abort;
@@ -74,6 +74,35 @@ fn tables_are_borrowed_of_what_files_say(rt: HostRuntime) {
     }
 }
 
+/// What the set reads of a file of index ISO-2022-JP katakana.
+fn read_katakana(
+    owned: &mut OwnedIndexes,
+    alloc: Global,
+    text: &[u8],
+) -> Result<(), IndexFileError> {
+    owned.read_katakana(alloc, text)
+}
+
+/// A file of index ISO-2022-JP katakana, and its refusal.
+type Katakana<'a> = (&'a [u8], Option<IndexFileError>);
+
+const KATAKANA: &[Katakana] = &[
+    (b"62 0xFFFF\n", None),
+    (b"0 0x3002\n63 0x309C\n", Some(IndexFileError::Line(2))),
+    (b"0 0x10000\n", Some(IndexFileError::Line(1))),
+    (b"", None),
+];
+
+#[test]
+fn katakana_are_63_or_none(rt: HostRuntime) {
+    let mut owned = OwnedIndexes::new(rt.alloc());
+    for (text, refusal) in KATAKANA {
+        let answer = read_katakana(&mut owned, rt.alloc(), *text);
+        is_refusal(&rt, "katakana", answer.as_ref().err(), refusal.as_ref());
+        holds(&rt, "tables of them", tables_of(&owned).is_ok());
+    }
+}
+
 /// A set with the euro sign at pointer 0 of a single-byte index, as in windows-1252.
 fn has_the_euro_sign(rt: &impl Abort, owned: &OwnedIndexes) {
     match single_byte_table_of(owned) {
@@ -89,13 +118,8 @@ fn the_first_fault_of_a_set_is_told(rt: HostRuntime) {
     is_refusal(&rt, "a file", answer.as_ref().err(), None);
     has_the_euro_sign(&rt, &owned);
     // The ideographic full stop is at pointer 0 of index ISO-2022-JP katakana, which has 63 pointers.
-    if let Ok(FileTable::Narrow(values)) = read_index(
-        rt.alloc(),
-        FileIndex::Jis0212,
-        b"0 0x3002\n",
-    ) {
-        owned.katakana = values;
-    }
+    let answer = read_katakana(&mut owned, rt.alloc(), b"0 0x3002\n");
+    is_refusal(&rt, "a katakana", answer.as_ref().err(), None);
     let fault = tables_of(&owned).err();
     is_fault(
         &rt,

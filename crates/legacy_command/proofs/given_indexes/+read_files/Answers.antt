@@ -1,6 +1,8 @@
 use Rattle.std.proofs.Common.{rules, sym, ap, ◌∙◌, ◌∷◌}
 use Rattle.legacy_command.proofs.CommandLine.{later_words, later_indexes}
-use Rattle.legacy_command.proofs.GivenFiles.{few_words, one_more_file}
+use Rattle.legacy_index_files.specs.declared.index_file.EncoderIndex.TheVariants.{Of}
+use Rattle.legacy_index_files.proofs.WellFormed.{well_formed_ok}
+use Rattle.legacy_command.proofs.GivenFiles.{few_words, one_more_file, few_well_formed, one_more_well_formed}
 use Rattle.legacy_command.proofs.given_indexes.+read_files.Goals as goal
 
 pub read_files-requires : goal.read_files-requires
@@ -18,3 +20,17 @@ returns-clause-texts t c =
     one_more_file _ words c.in-Some.name read.text read.later_files.now c.args.files.now two (sym c.first_index.ensures ∙ c.in-Some.is)
     (read.ensures.cases.0 ∙ ap (λ f. f ∷ read.later_files.now) read.field-0-0-is)
     (c.set.ensures.texts _ read.text.now later c.in-Ok.ensures.table)
+
+pub returns-in_default-clause-well_formed : goal.returns-in_default-clause-well_formed
+returns-in_default-clause-well_formed t c = few_well_formed _ c.args.files.now c.in_default.len_below
+
+pub returns-clause-well_formed : goal.returns-clause-well_formed
+returns-clause-well_formed t c =
+    let words = c.args.words.now in
+    let two = c.in-len2-up.len_at_least in
+    let read = c.in-Some-Some-default in
+    let later = rw (later_words words two) at c.in_ok-indexes.ensures.well_formed in
+    one_more_well_formed words c.in-Some.name read.text read.later_files.now c.args.files.now two (sym c.first_index.ensures ∙ c.in-Some.is)
+    (read.ensures.cases.0 ∙ ap (λ f. f ∷ read.later_files.now) read.field-0-0-is)
+    (well_formed_ok (Of c.in-Some.name) read.text.now c.read_index.result c.read_index.ensures.line c.in-Ok.table c.in-Ok.is)
+    later

@@ -6,5 +6,6 @@ pub returns-in-Ok-clause-recoded : goal.returns-in-Ok-clause-recoded
 returns-in-Ok-clause-recoded g c e = record {
   codec = c.in-Some.codec;
   named = rw c.request-plain.ensures at (sym c.codec_in.ensures ∙ c.in-Some.is);
-  recodes = rw (words_behind_codec c.request-plain.result.now, c.request-plain.ensures, c.output_asked-kind.ensures) at c.in-Ok.ensures;
+  well_formed = rw (words_behind_codec c.request-plain.result.now, c.request-plain.ensures) at c.in-Ok.ensures.well_formed;
+  recodes = rw (words_behind_codec c.request-plain.result.now, c.request-plain.ensures, c.output_asked-kind.ensures) at c.in-Ok.ensures.recoded;
 }

@@ -12,8 +12,8 @@ calls-init g c =
     let fits = room-answer to_utf8_without_replacement before n n c.in-Some.room (omega arith) (sym c.max_utf8_buffer_length_without_replacement.ensures ∙ c.in-Some.is) in
     rw (c.new-found.ensures.items, c.in-Ok.ensures.len) (finds_start before c.args.input.now c.in-Some.room fits)
 
-pub returns-in_default-answer : goal.returns-in_default-answer
-returns-in_default-answer g c =
+pub returns-in_default-answer-clause-found : goal.returns-in_default-answer-clause-found
+returns-in_default-answer-clause-found g c =
     let call = c.decode_to_utf8_raw-answer.ensures.call in
     let free = rw c.as_mut_slice.ensures.len at call.1 in
     finds_stop _ _ _ _ _ _ _ c.calls.invariant _ _ call.0 _ free c.in_default-answer.not-Malformed

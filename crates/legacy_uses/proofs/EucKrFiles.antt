@@ -1,0 +1,68 @@
+-- What is known of a set of indexes into which only index EUC-KR was read of a file.
+use Rattle.std.proofs.Common.{◌≡◌, ◌↔◌, ℕ, List, [], ◌∷◌, length, Some, None, Result, Err, refl, sym, subst, arith}
+use Rattle.legacy_base.specs.EucKr.{euc_kr}
+use Rattle.legacy_base.specs.Lengths.{query_answer, to_utf8}
+use Rattle.legacy_base.specs.States.{DecoderState, new_state}
+use Rattle.legacy_index_files.specs.declared.index_file.EncoderIndex.TheVariants.{Of}
+use Rattle.legacy_index_files.specs.declared.index_file.IndexFileError.{IndexFileError}
+use Rattle.legacy_index_files.specs.declared.index_file.IndexFileError.TheVariants as reading
+use Rattle.legacy_index_files.proofs.WellFormed.{well_formed_memory}
+use Rattle.legacy_uses.specs.declared.registry.RegistryError.TheVariants.{File, Sized}
+use Rattle.legacy_uses.specs.declared.sized.SizedError.{SizedError}
+use Rattle.legacy_uses.specs.declared.sized.SizedError.TheVariants.{TooLong, Memory}
+use Rattle.legacy_index_files.specs.declared.index_file.FileIndex.TheVariants.{EucKr}
+use Rattle.legacy_index_files.specs.declared.index_file.FileTable.{FileTable}
+use Rattle.legacy_index_files.specs.declared.index_file.FileTable.TheVariants.{Wide, Narrow, Ranges, Bytes}
+use Rattle.legacy_index_files.specs.declared.owned_indexes.OwnedIndexes.{OwnedIndexes}
+use Rattle.legacy_index_files.specs.IndexLine.{lines}
+use Rattle.legacy_index_files.specs.IndexTable.{entries_of, first_malformed, IsTableOf, IsIndexOf}
+use Rattle.legacy_index_files.specs.IndexTexts.{no_text}
+use Rattle.legacy_index_files.specs.OwnedIndexes.{HoldsFile, HoldsTexts, with_table, owned_lists}
+use Rattle.legacy_uses.specs.IndexData.{IsEucKrFile, IsEucKrIndex, IsFaultByFile, only_euc_kr}
+
+empty : (l : List ℕ) → IsIndexOf [] l → l ≡ []
+empty [] is = refl
+empty (x ∷ l) is = let none = is.len in absurd (omega arith)
+
+-- a set into which nothing but an index EUC-KR was read
+pub record HoldsEucKr (text : List ℕ) (owned : OwnedIndexes) : Type 0 where
+  pub of_file : IsEucKrFile text owned.euc_kr.items
+  pub only : owned_lists owned ≡ only_euc_kr owned.euc_kr.items
+
+pub holds_euc_kr : (text : List ℕ) (before after : OwnedIndexes) → HoldsTexts no_text before → before.katakana.items ≡ [] →
+    HoldsFile EucKr text before after → first_malformed EucKr 1 (lines text) ≡ None → HoldsEucKr text after
+holds_euc_kr text before after none katakana read well_formed = go read.table read.is_table read.place
+  where
+    go : (table : FileTable) → IsTableOf EucKr (entries_of EucKr (lines text)) table → after ≡ with_table before EucKr table → HoldsEucKr text after
+    go (Wide values) is place = absurd is
+    go (Narrow values) is place =
+        rw place
+        (record {
+          of_file = record { well_formed = well_formed; says = is };
+          only = rw (
+            empty before.big5.items none.big5,
+            empty before.jis0208.items none.jis0208,
+            empty before.jis0212.items none.jis0212,
+            empty before.gb18030.items none.gb18030,
+            katakana,
+            none.ranges,
+          ) refl;
+        })
+    go (Ranges ranges) is place = absurd is
+    go (Bytes values) is place = absurd is
+
+-- why the file was not read
+pub euc_kr_fault_of : {T : Type 0} (text input : List ℕ) (result : Result T IndexFileError)
+    (line : (n : ℕ) → (result ≡ Err (reading.Line n)) ↔ (first_malformed EucKr 1 (lines text) ≡ Some n)) →
+    (error : IndexFileError) → result ≡ Err error → IsFaultByFile text input (File error)
+euc_kr_fault_of text input result line (reading.Line n) e = (line n).0 e
+euc_kr_fault_of text input result line reading.Memory e = well_formed_memory (Of EucKr) text result line e
+
+-- why an input was not decoded by it
+pub not_decoded_by_file : {T : Type 0} (text input index : List ℕ) → IsEucKrIndex text index → (state : DecoderState) → state ≡ new_state (euc_kr index) →
+    (result : Result T SizedError) → ((result ≡ Err TooLong) ↔ (query_answer to_utf8 state (length input) ≡ None)) →
+    (error : SizedError) → result ≡ Err error → IsFaultByFile text input (Sized error)
+not_decoded_by_file text input index is state same result long TooLong e =
+    record { index = index; is_index = is; too_long = subst (λ s. query_answer to_utf8 s (length input) ≡ None) same (long.0 e) }
+not_decoded_by_file text input index is state same result long Memory e =
+    (index, is, λ h. let other = long.1 (subst (λ s. query_answer to_utf8 s (length input) ≡ None) (sym same) h) in cc)

@@ -1,0 +1,40 @@
+//! Two encodings by the index files of both.
+ghost use Rattle.std.specs.Prelude.{◌≢◌, string_bytes, Err, IfOk};
+ghost use Rattle.std.specs.Str.{chars};
+ghost use Rattle.legacy_uses.specs.IndexData.{IsTextByFile, IsTextBySingleByteFile};
+
+use crate::registry::{Registry, RegistryError};
+use legacy_index_files::{Encoding, FileIndex};
+use std::alloc::Global;
+
+/// The index files of two encodings.
+#[derive(Drop)]
+pub struct TwoFiles<'a> {
+    pub euc_kr: &'a [u8],
+    pub windows_1252: &'a [u8],
+}
+
+/// Decodes an input in EUC-KR, and one in windows-1252, by a registry that read the index files of both.
+pub fn decode_two(
+    alloc: Global,
+    files: &TwoFiles,
+    korean: &[u8],
+    western: &[u8],
+) -> Result<(String, String), RegistryError>
+    ensures korean { IfOk result (λ texts.
+        IsTextByFile files.now.euc_kr.now korean.now (chars (string_bytes texts.0))) }
+    ensures western { IfOk result (λ texts.
+        IsTextBySingleByteFile files.now.windows_1252.now western.now (chars (string_bytes texts.1))) }
+    ensures known { result ≢ Err RegistryError.Unknown }
+    ensures read { result ≢ Err RegistryError.NoIndex }
+{
+    let mut registry = Registry::new(alloc);
+    registry
+        .indexes
+        .read(alloc, FileIndex::EucKr, files.euc_kr)?;
+    registry.read_single_byte(alloc, Encoding::Windows1252, files.windows_1252)?;
+    let coders = registry.coders()?;
+    let korean_text = coders.decode(alloc, "EUC-KR", korean)?;
+    let western_text = coders.decode(alloc, "windows-1252", western)?;
+    Ok((korean_text, western_text))
+}
