@@ -92,12 +92,12 @@ pointer-position table c some = by_pointer (index_pointer table c) refl
         let last : position_or_len (λ entry. entry == c) table ≡ length table = place-is (length table) (omega arith) (λ k h is. taken.missing e k refl is some) (λ h. absurd (omega arith)) in
         rw (last, le-ltb (length table) (length table) (omega arith)) refl
     by_pointer (Some s) e = elim (cases_lt s (length table)) [
-        | inl h ↦
-            let found : position_or_len (λ entry. entry == c) table ≡ s =
-            place-is s (omega arith) (λ k l is. let least = first-least every_pointer table c s k e refl is some in absurd (omega arith)) (λ l. (taken.chosen s e).1) in
-            rw (found, lt-ltb s (length table) h) refl
-        | inr h ↦ absurd (some (sym (taken.chosen s e).1 ∙ get_or_past table s 0 h))
-      ]
+      | inl h ↦
+          let found : position_or_len (λ entry. entry == c) table ≡ s =
+          place-is s (omega arith) (λ k l is. let least = first-least every_pointer table c s k e refl is some in absurd (omega arith)) (λ l. (taken.chosen s e).1) in
+          rw (found, lt-ltb s (length table) h) refl
+      | inr h ↦ absurd (some (sym (taken.chosen s e).1 ∙ get_or_past table s 0 h))
+    ]
 
 single_byte-is : (table : List ℕ) (c : ℕ) → single_byte_encodes table c ≡ by_code c (single_byte_code table c)
 unfolding single_byte_encodes single_byte_code

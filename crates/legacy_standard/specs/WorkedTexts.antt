@@ -38,7 +38,8 @@ pub record ComputeWorkedTexts : Type 0 where
   pub big5 : Computes (by_scalar (big5_encodes (0x4E00 ∷ []))) tt (
       (0x7F ∷ 0x4E00 ∷ [], Byte 0x7F ∷ Unmappable 0x4E00 ∷ []) ∷ [])
   pub shift_jis : Computes (by_scalar (shift_jis_encodes (entry_at 60 0xFF0D))) tt (
-      (0x80 ∷ 0xA5 ∷ 0x203E ∷ 0xFF9F ∷ 0x2212 ∷ 0xFF0D ∷ [], Byte 0x80 ∷ Byte 0x5C ∷ Byte 0x7E ∷ Byte 0xDF ∷ Byte 0x81 ∷ Byte 0x7C ∷ Byte 0x81 ∷ Byte 0x7C ∷ []) ∷ [])
+      (0x80 ∷ 0xA5 ∷ 0x203E ∷ 0xFF9F ∷ [], Byte 0x80 ∷ Byte 0x5C ∷ Byte 0x7E ∷ Byte 0xDF ∷ [])
+      ∷ (0x2212 ∷ 0xFF0D ∷ [], Byte 0x81 ∷ Byte 0x7C ∷ Byte 0x81 ∷ Byte 0x7C ∷ []) ∷ [])
   pub euc_jp : Computes (by_scalar (euc_jp_encodes (entry_at 60 0xFF0D))) tt (
       (0xA5 ∷ 0x203E ∷ 0xFF61 ∷ 0x2212 ∷ 0x80 ∷ [], Byte 0x5C ∷ Byte 0x7E ∷ Byte 0x8E ∷ Byte 0xA1 ∷ Byte 0xA1 ∷ Byte 0xDD ∷ Unmappable 0x80 ∷ []) ∷ [])
   pub gb18030 : Computes (by_scalar (gb18030_encodes false (0x4E02 ∷ []) ((39394, 0xFFE6) ∷ []) ((0xE81E, 0xFE, 0x59) ∷ []))) tt (
@@ -47,8 +48,10 @@ pub record ComputeWorkedTexts : Type 0 where
       ∷ (0xE81E ∷ 0x4E02 ∷ 0x20AC ∷ [], Byte 0xFE ∷ Byte 0x59 ∷ Byte 0x81 ∷ Byte 0x40 ∷ Unmappable 0x20AC ∷ []) ∷ [])
   pub gbk : Computes (by_scalar (gb18030_encodes true (0x4E02 ∷ []) ((39394, 0xFFE6) ∷ []) ((0xE81E, 0xFE, 0x59) ∷ []))) tt (
       (0x20AC ∷ 0xE81E ∷ 0x4E02 ∷ 0xFFFD ∷ [], Byte 0x80 ∷ Byte 0xFE ∷ Byte 0x59 ∷ Byte 0x81 ∷ Byte 0x40 ∷ Unmappable 0xFFFD ∷ []) ∷ [])
-  pub iso_2022_jp : Computes (iso_2022_jp_encodes (0x58FA ∷ 0xFF0D ∷ 0x3002 ∷ []) (0x3002 ∷ [])) ascii (
-      (0x61 ∷ 0xA5 ∷ 0x62 ∷ 0x5C ∷ [], Byte 0x61 ∷ Byte 0x1B ∷ Byte 0x28 ∷ Byte 0x4A ∷ Byte 0x5C ∷ Byte 0x62 ∷ Byte 0x1B ∷ Byte 0x28 ∷ Byte 0x42 ∷ Byte 0x5C ∷ [])
+  pub iso_2022_jp : Computes (iso_2022_jp_encodes (0x58FA ∷ 0xFF0D ∷ 0x3002 ∷ []) (0x3002 ∷ [])) ascii ((
+    0x61 ∷ 0xA5 ∷ 0x62 ∷ 0x5C ∷ [],
+    Byte 0x61 ∷ Byte 0x1B ∷ Byte 0x28 ∷ Byte 0x4A ∷ Byte 0x5C ∷ Byte 0x62 ∷ Byte 0x1B ∷ Byte 0x28 ∷ Byte 0x42 ∷ Byte 0x5C ∷ [],
+  )
       ∷ (0x58FA ∷ 0x1_F4A9 ∷ [], Byte 0x1B ∷ Byte 0x24 ∷ Byte 0x42 ∷ Byte 0x21 ∷ Byte 0x21 ∷ Byte 0x1B ∷ Byte 0x28 ∷ Byte 0x42 ∷ Unmappable 0x1_F4A9 ∷ [])
       ∷ (0x2212 ∷ 0xFF61 ∷ [], Byte 0x1B ∷ Byte 0x24 ∷ Byte 0x42 ∷ Byte 0x21 ∷ Byte 0x22 ∷ Byte 0x21 ∷ Byte 0x23 ∷ Byte 0x1B ∷ Byte 0x28 ∷ Byte 0x42 ∷ [])
       ∷ (0x1B ∷ 0x0E ∷ [], Unmappable 0xFFFD ∷ Unmappable 0xFFFD ∷ []) ∷ [])
@@ -60,13 +63,15 @@ pub record PartWithoutPointers : Type 0 where
   pub euc_jp : Parts (by_scalar (euc_jp_encodes [])) tt (codecs.euc_jp [] []) 0x2212 (Unmappable 0xFF0D ∷ []) (Unmappable 0x2212 ∷ [])
   pub iso_2022_jp : Parts (iso_2022_jp_encodes [] []) ascii (codecs.iso_2022_jp [] []) 0x2212 (Unmappable 0xFF0D ∷ []) (Unmappable 0x2212 ∷ [])
   -- an entry of the katakana index without a pointer in index jis0208
-  pub katakana : Parts (iso_2022_jp_encodes [] (0x3002 ∷ [])) ascii (codecs.iso_2022_jp [] (0x3002 ∷ [])) 0xFF61 (Unmappable 0x3002 ∷ []) (Unmappable 0xFF61 ∷ [])
+  pub katakana : Parts (iso_2022_jp_encodes [] (0x3002 ∷ [])) ascii (codecs.iso_2022_jp [] (0x3002 ∷ [])) 0xFF61
+      (Unmappable 0x3002 ∷ []) (Unmappable 0xFF61 ∷ [])
   -- an entry that is the overline, with a pointer: the handler writes it in Roman
   pub overline : Parts (iso_2022_jp_encodes (0x203E ∷ []) (0x203E ∷ [])) ascii (codecs.iso_2022_jp (0x203E ∷ []) (0x203E ∷ [])) 0xFF61
       (Byte 0x1B ∷ Byte 0x24 ∷ Byte 0x42 ∷ Byte 0x1B ∷ Byte 0x28 ∷ Byte 0x4A ∷ Byte 0x7E ∷ Byte 0x1B ∷ Byte 0x28 ∷ Byte 0x42 ∷ [])
       (Byte 0x1B ∷ Byte 0x24 ∷ Byte 0x42 ∷ Byte 0x21 ∷ Byte 0x21 ∷ Byte 0x1B ∷ Byte 0x28 ∷ Byte 0x42 ∷ [])
   -- a scalar whose only pointer is past the rows: the handler's bytes decode to an error
-  pub row : Parts (by_scalar (euc_jp_encodes (entry_at 8836 0x4E00))) tt (codecs.euc_jp (entry_at 8836 0x4E00) []) 0x4E00 (Byte 0xFF ∷ Byte 0xA1 ∷ []) (Unmappable 0x4E00 ∷ [])
+  pub row : Parts (by_scalar (euc_jp_encodes (entry_at 8836 0x4E00))) tt (codecs.euc_jp (entry_at 8836 0x4E00) []) 0x4E00
+      (Byte 0xFF ∷ Byte 0xA1 ∷ []) (Unmappable 0x4E00 ∷ [])
   -- a scalar past the last pointer of the ranges
   pub gb18030 : Parts (by_scalar (gb18030_encodes false [] ((0, 0x80) ∷ []) [])) tt (codecs.gb18030 [] ((0, 0x80) ∷ []) []) 0x9A7C
       (Byte 0x84 ∷ Byte 0x31 ∷ Byte 0xA5 ∷ Byte 0x30 ∷ []) (Unmappable 0x9A7C ∷ [])
