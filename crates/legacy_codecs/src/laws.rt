@@ -8,7 +8,9 @@ ghost use Rattle.legacy_codecs.specs.EncodeRuns.{EncodeCutsDoNotMatter};
 ghost use Rattle.legacy_codecs.specs.RoundTripRuns.{RunsEncode, RunsRoundTrip, RunsReencodeToTheSame, RunsEncodeWellFormed};
 ghost use Rattle.legacy_codecs.specs.Runs.{CutsDoNotMatter};
 
-pub use legacy_decoders::laws::{events_are_sound, lists_are_read_by_fronts, nothing_has_no_events};
+pub use legacy_decoders::laws::{
+    events_are_sound, lists_are_read_by_fronts, nothing_has_no_events,
+};
 
 /// A length query that a decoder answers for all bytes to come is enough for all calls with them.
 ///

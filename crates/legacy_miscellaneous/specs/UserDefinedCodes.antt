@@ -1,5 +1,5 @@
 -- What is shown of the codes of x-user-defined.
-use Rattle.std.proofs.Common.{ℕ, ◌≤◌, ◌+◌, ◌-◌, [], ◌∷◌, Some, None, refl, arith}
+use Rattle.std.proofs.Common.{ℕ, ◌≤◌, refl, arith}
 use Rattle.std.proofs.lemmas.Bool.{lt-ltb}
 use Rattle.std.specs.Int.{is_in_range}
 use Rattle.legacy_base.specs.EncodeEvents.{code_length}
