@@ -1,5 +1,5 @@
 -- Each malformed sequence of a list lies inside it and has one to four bytes, and each scalar is a Unicode scalar value.
-use Rattle.std.proofs.Common.{◌≡◌, ℕ, zero, suc, ◌+◌, ◌<◌, ◌≤◌, List, [], ◌∷◌, ◌++◌, length, drop, map, Bool, true, false, cond, Option, Some, None, refl, arith, length-drop, All}
+use Rattle.std.proofs.Common.{◌≡◌, ℕ, zero, suc, ◌+◌, ◌≤◌, List, [], ◌∷◌, ◌++◌, length, drop, map, Bool, true, false, cond, Option, Some, None, refl, arith, length-drop, All}
 use Rattle.std.specs.Prelude.{◌==◌, is_some}
 use Rattle.std.specs.Char.{IsScalar}
 use Rattle.std.proofs.lemmas.Bool.{eqb-true, cond_both}
@@ -118,7 +118,7 @@ module _ (Q : Type 0) where
         one_of rest f h is i one =
             let shorter = first_shorter rest in
             let all = front_and (length (b ∷ rest)) f (length rest) (iso_2022_jp_events jis0208 mode rest)
-                (wider (suc (length (first_part rest))) (length (b ∷ rest)) f (omega arith) i) (omega (arith, one)) (below mode rest h) in
+            (wider (suc (length (first_part rest))) (length (b ∷ rest)) f (omega arith) i) (omega (arith, one)) (below mode rest h) in
             rw (step_one jis0208 mode b rest f plain is one) (rw one at all)
 
         two_of : (rest : List ℕ) (f : Front) → length rest ≤ n → iso_2022_jp_front jis0208 mode b (first_part rest) ≡ f → IsFrontOf (suc (length (first_part rest))) Q f → front_length f ≡ 2
@@ -133,7 +133,7 @@ module _ (Q : Type 0) where
                 let i' = rw e at i in
                 let shorter = first_shorter rest in
                 let all = front_and (length (b ∷ t ∷ rest)) f (length rest) (iso_2022_jp_events jis0208 mode rest)
-                    (wider (suc (suc (length (first_part rest)))) (length (b ∷ t ∷ rest)) f (omega arith) i') (omega (arith, two)) (below mode rest (omega arith)) in
+                (wider (suc (suc (length (first_part rest)))) (length (b ∷ t ∷ rest)) f (omega arith) i') (omega (arith, two)) (below mode rest (omega arith)) in
                 rw (step_two jis0208 mode b t rest f plain e is' two) (rw two at all)
 
         body_of : (rest : List ℕ) → length rest ≤ n → AreOf (length (b ∷ rest)) (iso_2022_jp_events jis0208 mode (b ∷ rest))

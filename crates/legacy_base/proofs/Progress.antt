@@ -1,5 +1,5 @@
 -- How what a decoder does in turn makes one whole.
-use Rattle.std.proofs.Common.{◌≡◌, ◌∙◌, ℕ, ◌+◌, ◌≤◌, List, [], ◌++◌, length, drop, refl, sym, ap, arith, append_assoc, length-append, Bool, true, false, IsTrue, ◌⊎◌, inl, inr}
+use Rattle.std.proofs.Common.{◌≡◌, ◌∙◌, ℕ, ◌+◌, ◌≤◌, List, [], ◌++◌, length, drop, refl, sym, ap, arith, append_assoc, length-append, Bool, true, false, IsTrue, inl, inr}
 use Rattle.std.proofs.lemmas.List.{drop-drop, drop-append-le}
 use Rattle.legacy_base.specs.declared.results.DecodeEvent.{DecodeEvent}
 use Rattle.legacy_base.specs.declared.results.DecoderResult.{DecoderResult}

@@ -1,5 +1,5 @@
 -- The events of a list, in each codec: malformed sequences inside it, and Unicode scalar values.
-use Rattle.std.proofs.Common.{◌≡◌, ℕ, ◌+◌, ◌<◌, ◌≤◌, List, [], ◌∷◌, Bool, true, false, cond, length, refl, sym, subst, arith, ◌||◌, ◌&&◌, All, Some}
+use Rattle.std.proofs.Common.{◌≡◌, ℕ, ◌+◌, ◌<◌, ◌≤◌, List, [], ◌∷◌, Bool, true, false, length, sym, subst, arith, ◌||◌, ◌&&◌, Some}
 use Rattle.std.proofs.lemmas.Bool.{cond_both, and_parts}
 use Rattle.std.proofs.lemmas.Bool.Decides.{nat_tests}
 use Rattle.std.proofs.lemmas.List.Elements.{All-nil, All-cons, All-head, All-tail}
@@ -9,8 +9,7 @@ use Rattle.legacy_tables.specs.Unicode.{IsByte, AreBytes, AreScalars}
 use Rattle.legacy_tables.specs.Indexes.{range}
 use Rattle.legacy_tables.proofs.Accepted.{index-scalars, big5-scalars, jis0208-scalars, jis0212-scalars, gb18030-scalars, range-scalar}
 use Rattle.legacy_tables.proofs.AcceptedTable.{table-scalars}
-use Rattle.legacy_base.specs.declared.results.DecodeEvent.TheVariants.{Bad}
-use Rattle.legacy_base.specs.Fronts.{Front, reads, malformed, cut}
+use Rattle.legacy_base.specs.Fronts.{reads, malformed}
 use Rattle.legacy_base.specs.SingleByte.{single_byte_front}
 use Rattle.legacy_base.specs.UserDefined.{user_defined_front}
 use Rattle.legacy_base.specs.Big5.{big5_front}
@@ -20,8 +19,8 @@ use Rattle.legacy_base.specs.EucJp.{euc_jp_front}
 use Rattle.legacy_base.specs.Gb18030.{gb18030_front}
 use Rattle.legacy_base.specs.Replacement.{replacement_events}
 use Rattle.legacy_base.specs.Utf16.{unit_of, utf16_events}
-use Rattle.legacy_base.specs.Grammar.{Grammar, single_byte, user_defined, replacement, utf16, plain, big5, shift_jis, euc_jp, gb18030, iso_2022_jp, events_of}
-use Rattle.legacy_base.specs.Laws.{IsFrontOf, IsEventOf, IsOfAcceptedTables, HasSoundEvents}
+use Rattle.legacy_base.specs.Grammar.{single_byte, user_defined, replacement, utf16, plain, big5, shift_jis, euc_jp, gb18030, iso_2022_jp, events_of}
+use Rattle.legacy_base.specs.Laws.{IsFrontOf, IsOfAcceptedTables, HasSoundEvents}
 use Rattle.legacy_base.proofs.FrontLaws.{front_of-malformed, single_byte_front-of, user_defined_front-of, lead_front-of, big5_front-of, shift_jis_front-of, euc_jp_front-of, gb18030_front-of}
 use Rattle.legacy_base.proofs.EventLaws.{none_of, bad_of, cut_sound, iso_2022_jp_sound}
 use Rattle.legacy_miscellaneous.specs.Utf16Fronts.{lone_unit_front, unit_front, utf16_front}

@@ -9,9 +9,8 @@ use Rattle.std.proofs.lemmas.Str.{utf16_chars-nil, utf16_chars_lone, utf16_chars
 use Rattle.std.proofs.str.Utf16.{IsPair, lone_unit_char_low, lone_unit_char_high}
 use Rattle.std.specs.Char.{IsScalar}
 use Rattle.std.specs.Char.Utf16.{lone_unit_char, surrogate_pair_char}
-use Rattle.std.specs.Int.{w64, to_le_bytes, from_le_bytes}
+use Rattle.std.specs.Int.{w64, to_le_bytes}
 use Rattle.std.specs.List.{range_with_len}
-use Rattle.legacy_base.specs.declared.results.DecodeEvent.{DecodeEvent}
 use Rattle.legacy_base.specs.declared.results.DecodeEvent.TheVariants.{Scalar}
 use Rattle.legacy_text.specs.EncodingForm.{Utf16, all_code_units}
 use Rattle.legacy_text.specs.Texts.{unit_scalars}
@@ -20,7 +19,7 @@ use Rattle.legacy_text.proofs.Texts.{replaced, scalars_lone, scalars_end, first_
 use Rattle.legacy_streams.specs.Lines.{event_line, event_lines}
 use Rattle.legacy_streams.specs.declared.line_parts.TheConstants.{HEADS, TAILS}
 use Rattle.legacy_streams.proofs.EventLines.{line_of_four, event_lines-append, event_lines-one}
-use Rattle.legacy_streams.proofs.Hexadecimal.{glyph, last_four}
+use Rattle.legacy_streams.proofs.Hexadecimal.{glyph}
 
 -- ---- the parts of a line
 

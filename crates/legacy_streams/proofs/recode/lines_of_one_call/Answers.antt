@@ -1,4 +1,4 @@
-use Rattle.std.proofs.Common.{◌≡◌, ◌∙◌, length, take, ap, arith, sym}
+use Rattle.std.proofs.Common.{◌∙◌, ap}
 use Rattle.legacy_text.specs.Texts.{unit_scalars}
 use Rattle.legacy_streams.proofs.PlainLines.{scalars_of_units}
 use Rattle.legacy_streams.proofs.recode.lines_of_one_call.Goals as goal

@@ -1,4 +1,4 @@
-use Rattle.std.proofs.Common.{◌≡◌, ◌∙◌, ◌≤◌, ◌<◌, ◌++◌, ap, arith, length, sym, Some, None, slice_get, unwrap_or, get_or}
+use Rattle.std.proofs.Common.{◌≡◌, ◌++◌, ap, arith, Some, None, slice_get}
 use Rattle.legacy_text.specs.Texts.{unit_scalars}
 use Rattle.legacy_streams.specs.LineBuffers.{line_bytes}
 use Rattle.legacy_streams.proofs.PlainLines.{first_line, first_units, none_behind}
