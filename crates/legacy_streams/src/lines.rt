@@ -35,8 +35,8 @@ pub const LONE_BATCH: usize = 256;
 /// The most bytes of the lines that are made between two writes: those of `LONE_BATCH` malformed sequences, and of one call.
 pub const TURN_LINES: usize = LONE_BATCH * BAD_LINE + CALL_LINES;
 
-/// The bytes of the array: the lines of a piece without a malformed sequence have room in it, with those of a turn more.
-pub const CAPACITY: usize = 53248;
+/// The bytes of the array: the lines of a call without a malformed sequence have room in it, with those of a turn more.
+pub const CAPACITY: usize = 28672;
 
 /// The digits of a number in decimal, at the front of an array.
 #[derive(Drop)]
