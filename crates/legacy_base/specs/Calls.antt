@@ -33,9 +33,9 @@ may_report_end last (Malformed length back) left = last && is_empty left
 
 -- From the state `before`, with the bytes `source`, a decoder came to the state `after` and left the bytes `left`. It is
 -- done with `passed` bytes of those held back and the source, and what it holds back and left is the rest of them.
--- Whatever bytes follow, also after a last call: all events are `out`, and then those of the rest. Only after a report at
--- the end (`ended`), which other bytes may belie, this is said of no bytes, and of all with which the events are still
--- `out` at first.
+-- All events are `out`, and then those of the rest, whatever bytes follow, also after a last call. A report at the end
+-- (`ended`) is the exception, because bytes that follow can make something else of what was reported: there this holds if
+-- none follow, and if the events with those that follow still begin with `out`.
 pub record Progress (ended : Bool) (before : DecoderState) (source : List ℕ) (passed : ℕ) (after : DecoderState) (left : List ℕ) (out : List DecodeEvent) : Type 0 where
   -- the bytes that are done with, and those held back and left, are as many as were held back and in the source
   pub counts : passed + (length after.held + length left) ≡ length before.held + length source
@@ -91,7 +91,7 @@ pub record DecoderCall (form : EncodingForm) (before : DecoderState) (source : L
   -- so many bytes, of those held back and the source, are done with
   pub passed : ℕ
   -- what it gave, and then the events of what is left, are the grammar's events, whatever follows; after a report at the
-  -- end, whatever does not belie it
+  -- end, if they still begin so
   pub progress : Progress (may_report_end last answer (drop read source)) before source passed after (drop read source) (out_events (length before.held + read) scalars answer)
   -- what is held back is one of the lists that the codec may hold back
   pub allowed : IsTrue (may_hold after.grammar after.held)

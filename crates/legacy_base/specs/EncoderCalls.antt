@@ -45,8 +45,8 @@ pub record EncoderCall (before : EncoderState) (source : List ℕ) (last : Bool)
   -- no more is written than is free
   pub fits : length bytes ≤ free
   -- The events of the source and whatever text follows, ended or not, also after a last call, are what was written and
-  -- reported, and then those of what is left. Only where the end was written this is said of no text, and of all with
-  -- which the events are still those at first.
+  -- reported, and then those of what is left. If the end was written, this holds if no text follows, and if the events with
+  -- the text that follows still begin so.
   pub events : (more : List ℕ) (ended : Bool) →
       (IsTrue (tells_end last answer) →
       ((more ≡ []) × IsTrue ended) ⊎ BeginsWith (encoded before (source ++ more) ended) (map Byte bytes ++ reported answer)) →

@@ -40,16 +40,15 @@ abbrev pub tells_text_end : Bool → CoderResult → Bool
 tells_text_end last InputEmpty = last
 tells_text_end last OutputFull = false
 
--- The events of the source and whatever text follows, ended or not, are `out`, and then those of what is left. Only where
--- the end was written (`wrote_end`) this is said of no text, and of all with which the events are still `out` at first.
+-- The events of the source and whatever text follows, ended or not, are `out`, and then those of what is left. If the end
+-- was written (`wrote_end`), this holds if no text follows, and if the events with the text that follows still begin so.
 abbrev pub Gives : Bool → EncoderState → List ℕ → EncoderState → List ℕ → List EncodeEvent → Type 0
 Gives wrote_end before source after left out =
     (more : List ℕ) (ended : Bool) →
     (IsTrue wrote_end → ((more ≡ []) × IsTrue ended) ⊎ BeginsWith (encoded before (source ++ more) ended) out) →
     encoded before (source ++ more) ended ≡ out ++ encoded after (left ++ more) ended
 
--- Where so much is free, a reference still fits behind each byte of a code or an escape, and each reference begins where
--- one that is as long as can be would fit.
+-- With so many bytes free, ten stay free after each byte of the encoder's own, and are free where a reference begins.
 unfoldable pub KeepsReserve : ℕ → List EncodeEvent → Type 0
 KeepsReserve free [] = Unit {0}
 KeepsReserve free (Byte b ∷ events) = (1 + reference_room ≤ free) × KeepsReserve (free - 1) events

@@ -53,8 +53,8 @@ pub record ReplacingDecoderCall (form : EncodingForm) (before : DecoderState) (s
   pub passed : ℕ
   -- what the call gave
   pub out : List DecodeEvent
-  -- that, and then the events of what is left, are the grammar's events, whatever follows; after a malformed sequence that
-  -- ends the input, whatever does not belie it
+  -- that, and then the events of what is left, are the grammar's events, whatever follows; after a malformed sequence at the
+  -- end of the input, if they still begin so
   pub progress : Progress (may_replace_end last found (drop read source)) before source passed after (drop read source) out
   -- what is held back is one of the lists that the codec may hold back
   pub allowed : IsTrue (may_hold after.grammar after.held)
