@@ -1,5 +1,5 @@
 -- Laws of runs of bytes and of what is written for them.
-use Rattle.std.proofs.Common.{add-zero, ◌≡◌, ◌∙◌, ℕ, suc, ◌+◌, ◌-◌, ◌≤◌, ◌<◌, List, [], ◌∷◌, ◌++◌, length, map, take, drop, get_or, refl, sym, ap, subst, arith, append_assoc, append-nil}
+use Rattle.std.proofs.Common.{add-zero, ◌≡◌, ◌∙◌, ℕ, zero, suc, ◌+◌, ◌-◌, ◌*◌, ◌≤◌, ◌<◌, List, [], ◌∷◌, ◌++◌, length, map, take, drop, get_or, refl, sym, ap, subst, arith, append_assoc, append-nil}
 use Rattle.std.proofs.Common.{length-append, IsAscii}
 use Rattle.std.proofs.lemmas.List.{map-append}
 use Rattle.std.proofs.lemmas.List.{take_more, take_all, length-drop}
@@ -8,7 +8,7 @@ use Rattle.std.proofs.Math.Seq.{take-add}
 use Rattle.std.specs.Char.{IsScalar}
 use Rattle.legacy_text.specs.declared.destination.Destination.{Ghosts}
 use Rattle.legacy_base.specs.declared.results.DecodeEvent.TheVariants.{Scalar}
-use Rattle.legacy_text.specs.EncodingForm.{EncodingForm, Utf8, Utf16, code_units, all_code_units, bmp_room}
+use Rattle.legacy_text.specs.EncodingForm.{EncodingForm, Utf8, Utf16, code_units, all_code_units, bmp_room, total_unit_count}
 use Rattle.legacy_base.specs.Events.{shift}
 use Rattle.legacy_base.specs.Lengths.{query_form}
 use Rattle.legacy_base.specs.States.{DecoderState}
@@ -75,6 +75,14 @@ four_fit Utf16 c room h = omega (arith, length-code_units-wide Utf16 c, h)
 pub short : (form : EncodingForm) (c : ℕ) → c < 65536 → length (code_units form c) ≤ 3
 short Utf8 c h = length-code_units-bmp Utf8 c h
 short Utf16 c h = omega (arith, length-code_units-bmp Utf16 c h)
+
+-- scalars up to U+FFFF have three code units each at most
+pub all_short : (form : EncodingForm) (cs : List ℕ) → ((k : ℕ) → k < length cs → get_or cs k 0 < 65536) → total_unit_count form cs ≤ 3 * length cs
+all_short form [] small = omega arith
+all_short form (c ∷ cs) small =
+    let one = short form c (small zero (omega arith)) in
+    let more = all_short form cs (λ k h. small (suc k) (omega arith)) in
+    omega (arith, one, more, length-append (code_units form c) (all_code_units form cs))
 
 -- and fits into three
 pub three_fit : (form : EncodingForm) (c room : ℕ) → c < 65536 → 3 ≤ room → length (code_units form c) ≤ room

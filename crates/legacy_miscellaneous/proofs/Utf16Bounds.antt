@@ -30,29 +30,3 @@ both_below n (x ∷ xs) (y ∷ ys) long below =
     let head = greater_lane x y n (below zero (omega arith)) in
     let tail = both_below n xs ys (omega arith) (λ k h. below (suc k) (omega arith)) in
     (below_both n x xs head.0 tail.0, below_both n y ys head.1 tail.1)
-
--- ---- a mask in which each bit is set
-
-double : (bits : List Bool) → 2 ^ suc (length bits) ≡ 2 * 2 ^ length bits
-double bits = omega arith
-
-all_set : (bits : List Bool) → mask_l bits + 1 ≡ 2 ^ length bits → (k : ℕ) → k < length bits → get_or bits k false ≡ true
-all_set [] whole k h = absurd (omega arith)
-all_set (true ∷ bits) whole zero h = refl
-all_set (true ∷ bits) whole (suc k) h = all_set bits (omega (arith, double bits)) k (omega arith)
-all_set (false ∷ bits) whole k h = absurd (omega (arith, double bits))
-
-pub all_below : (n : ℕ) (xs : List ℕ) → length xs ≡ 8
-    → eqb (mask_l (map (top 15) (zip2 (λ a b. cond (ltb a b) (2 ^ 16 - 1) 0) xs (replicate 8 n))) % 2 ^ 64) 255 ≡ true → AreBelow n xs
-all_below n xs long whole k h =
-    let bits : List Bool = map (λ x. ltb x n) xs in
-    let same : mask_l (map (top 15) (zip2 (λ a b. cond (ltb a b) (2 ^ 16 - 1) 0) xs (replicate 8 n))) % 2 ^ 64 ≡ mask_l bits = bitmask_splat w16 ltb xs 8 n long (omega arith) in
-    let many : length bits ≡ 8 = length-map xs (λ x. ltb x n) ∙ long in
-    let power : 2 ^ length bits ≡ 2 ^ 8 = ap (λ m. 2 ^ m) many in
-    let set = all_set bits (omega (arith, eqb-true _ _ whole, same, power)) k (omega arith) in
-    ltb-true _ _ (sym (bit_of xs k h) ∙ set)
-  where
-    bit_of : (ys : List ℕ) (j : ℕ) → j < length ys → get_or (map (λ x. ltb x n) ys) j false ≡ ltb (get_or ys j 0) n
-    bit_of [] j l = absurd (omega arith)
-    bit_of (y ∷ ys) zero l = refl
-    bit_of (y ∷ ys) (suc j) l = bit_of ys j (omega arith)

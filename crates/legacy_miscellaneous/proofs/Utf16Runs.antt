@@ -18,7 +18,7 @@ use Rattle.legacy_base.specs.States.{new_state}
 use Rattle.legacy_miscellaneous.specs.Utf16Decoder.{HasAsciiUnits, AreUnitsBelow, unit_at}
 use Rattle.legacy_decoder_engine.proofs.RunForms.{pair_runs}
 use Rattle.legacy_decoder_engine.proofs.JoinedRuns.{reads_written}
-use Rattle.legacy_decoder_engine.proofs.WrittenRuns.{runs_none, runs_more, take_two, rest_of, writes_run, all_code_units_ascii, short}
+use Rattle.legacy_decoder_engine.proofs.WrittenRuns.{runs_none, runs_more, take_two, rest_of, writes_run, all_code_units_ascii, all_short}
 use Rattle.legacy_miscellaneous.proofs.Utf16Shown.{utf16_shown}
 
 not_high : (u : ℕ) → IsScalar u → is_high_surrogate u ≡ false
@@ -126,17 +126,10 @@ writes_eight T be source units {old} {mid} {new} group bytes within long before 
     (contents ∙ ap (λ l. T.contents mid ++ all_code_units T.form l) (sym all)) room' loan))
 
 -- eight units have three code units each at most
-eight_most : (form : EncodingForm) (units : List ℕ) → ((k : ℕ) → k < length units → get_or units k 0 < 65536) → total_unit_count form units ≤ 3 * length units
-eight_most form [] small = omega arith
-eight_most form (u ∷ units) small =
-    let one = short form u (small zero (omega arith)) in
-    let more = eight_most form units (λ k h. small (suc k) (omega arith)) in
-    omega (arith, one, more, length-append (code_units form u) (all_code_units form units))
-
 pub few_units : (form : EncodingForm) (be : Bool) (source units : List ℕ) → ((k : ℕ) → IsByte (get_or source k 0)) → length units ≡ 8 → ((k : ℕ) → k < 8 → get_or units k 0 ≡ unit_at be source k)
     → total_unit_count form units ≤ 24
 few_units form be source units bytes long are =
-    omega (arith, long, eight_most form units (λ k h. subst (λ u. u < 65536) (sym (are k (omega arith))) (unit_below be (get_or source (2 * k) 0) (get_or source (2 * k + 1) 0) (bytes (2 * k)) (bytes (2 * k + 1)))))
+    omega (arith, long, all_short form units (λ k h. subst (λ u. u < 65536) (sym (are k (omega arith))) (unit_below be (get_or source (2 * k) 0) (get_or source (2 * k + 1) 0) (bytes (2 * k)) (bytes (2 * k + 1)))))
 
 -- units of a source that is below U+0800 there are so too
 pub short_eight : (be : Bool) (source units : List ℕ) (group : ℕ) → AreUnitsBelow be source 64 0x800 → group < 8

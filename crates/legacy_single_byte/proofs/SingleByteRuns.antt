@@ -1,16 +1,22 @@
 -- The runs of the single-byte decoders.
-use Rattle.std.proofs.Common.{rules, ◌≡◌, ℕ, List, ◌+◌, ◌-◌, ◌≤◌, ◌<◌, ◌^◌, [], ◌∷◌, length, get_or, Some, refl, sym, subst, ◌∙◌, arith, inl, inr, All}
+use Rattle.std.proofs.Common.{rules, ◌≡◌, ℕ, List, ◌+◌, ◌-◌, ◌≤◌, ◌<◌, ◌^◌, [], ◌∷◌, ◌++◌, zero, suc, length, take, get_or, Some, refl, sym, subst, ◌∙◌, arith, inl, inr, All}
 use Rattle.std.proofs.lemmas.Bool.{ne_eqb, cases_lt}
 use Rattle.std.proofs.Math.ListN.{set}
-use Rattle.std.proofs.lemmas.List.{get_or_past, get_or-set_same, get_or-set_other}
+use Rattle.std.proofs.lemmas.List.{get_or_past, get_or-set_same, get_or-set_other, take_all, take_more}
+use Rattle.std.proofs.lemmas.List.Elements.{All-from_get_or}
 use Rattle.std.specs.Char.{IsScalar}
+use Rattle.legacy_text.specs.declared.destination.Destination.{Ghosts}
+use Rattle.legacy_text.specs.EncodingForm.{all_code_units, total_unit_count}
+use Rattle.legacy_base.specs.States.{new_state}
 use Rattle.legacy_tables.specs.Indexes.{entry_scalar, idx}
 use Rattle.legacy_tables.specs.AcceptedTables.{AcceptedTable}
 use Rattle.legacy_base.specs.Grammar.{single_byte}
 use Rattle.legacy_tables.proofs.AcceptedTable.{table-below, table-scalars}
-use Rattle.legacy_decoder_engine.specs.Ahead.{Runs, IsSingle, HasAscii}
+use Rattle.legacy_decoder_engine.specs.Ahead.{Runs, IsSingle, HasAscii, ReadsAhead}
 use Rattle.legacy_single_byte.specs.ByteEntries.{IsByteEntry, AreByteEntries}
 use Rattle.legacy_decoder_engine.proofs.RunForms.{single_runs, has_ascii, ascii_is, past_ascii}
+use Rattle.legacy_decoder_engine.proofs.JoinedRuns.{reads_written}
+use Rattle.legacy_decoder_engine.proofs.WrittenRuns.{all_short, runs_none, runs_more}
 use Rattle.legacy_single_byte.proofs.SingleByteShown.{single_byte_shown}
 
 -- an entry that is a scalar is that scalar
@@ -72,11 +78,47 @@ module _ (table : AcceptedTable) where
         front_runs b e byte h found
   ]
 
--- one more entry
-pub entries_more : (table entries : List ℕ) (at e : ℕ) → at < length entries → AreByteEntries table entries at → IsByteEntry table at e → AreByteEntries table (set entries at e) (at + 1)
-entries_more table entries at e here before is k h = elim (cases_lt k at) [
-  | inl l ↦ subst (IsByteEntry table k) (sym (get_or-set_other entries at k e 0 (λ s. absurd (omega arith)))) (before k l)
+  -- ---- eight bytes at once, by their entries
+
+  module _ (source units : List ℕ) (bytes : (k : ℕ) → get_or source k 0 < 2 ^ 8) (same : (k : ℕ) → k < 8 → IsByteEntry table.entries (get_or source k 0) (get_or units k 0)) where
+    -- bytes of which no entry is 0 are runs by themselves
+    bytes_run : ((k : ℕ) → k < 8 → get_or units k 0 ≡ 0 → ⊥) → (r : ℕ) → r ≤ 8 → r ≤ length source → r ≤ length units → Runs (single_byte table.entries) (take r source) (take r units)
+    bytes_run some zero few within room = runs_none (single_byte table.entries)
+    bytes_run some (suc r) few within room =
+        let b : ℕ = get_or source r 0 in
+        let u : ℕ = get_or units r 0 in
+        let one = (entry_runs b u (bytes r) (same r (omega arith)) (some r (omega arith))).1 in
+        let more : suc r ≡ r + 1 = omega arith in
+        subst (λ n. Runs (single_byte table.entries) (take n source) (take n units)) (sym more)
+        (subst (λ l. Runs (single_byte table.entries) (take (r + 1) source) l) (sym (take_more units r 0 (omega arith)))
+        (subst (λ l. Runs (single_byte table.entries) l (take r units ++ u ∷ [])) (sym (take_more source r 0 (omega arith)))
+        (runs_more (single_byte table.entries) (take r source) (b ∷ []) (take r units) (u ∷ []) (bytes_run some r (omega arith) (omega arith) (omega arith)) one)))
+
+    -- an entry is a scalar up to U+FFFF, also if it is 0
+    pub units_are_scalars : length units ≡ 8 → All IsScalar units
+    units_are_scalars long = All-from_get_or IsScalar units 0 (λ k h. (entry_below (get_or source k 0) (get_or units k 0) (same k (omega arith))).1)
+
+    -- and they were written
+    pub reads_eight : {D : Type 0} (T : Ghosts D) (old new : D) → ((k : ℕ) → k < length units → get_or units k 0 ≡ 0 → ⊥) → 8 ≤ length source → length units ≡ 8
+        → T.contents new ≡ T.contents old ++ all_code_units T.form units → T.room new + total_unit_count T.form units ≡ T.room old → T.loan new ≡ T.loan old → 35 ≤ T.room old
+        → ReadsAhead T (new_state (single_byte table.entries)) source 8 old new
+    reads_eight T old new some within long contents room loan enough =
+        let all : take 8 units ≡ units = take_all 8 units (omega arith) in
+        let few = all_short T.form units (λ k h. (entry_below (get_or source k 0) (get_or units k 0) (same k (omega arith))).0) in
+        let run = bytes_run (λ k h. some k (omega arith)) 8 (omega arith) within (omega arith) in
+        reads_written {D = _} {T = T} {g = single_byte table.entries} {source = source} {old = old} {new = new} {r = 8} within
+        (record { scalars = units; runs = subst (λ l. Runs (single_byte table.entries) (take 8 source) l) all run; written = contents; room = room; loan = loan })
+        (omega (arith, few, room)) (omega arith)
+
+-- one more entry of a list, of which something is said at each place so far
+pub set_more : (P : ℕ → ℕ → Type 0) (entries : List ℕ) (at e : ℕ) → at < length entries → ((k : ℕ) → k < at → P k (get_or entries k 0)) → P at e
+    → (k : ℕ) → k < at + 1 → P k (get_or (set entries at e) k 0)
+set_more P entries at e here before is k h = elim (cases_lt k at) [
+  | inl l ↦ subst (P k) (sym (get_or-set_other entries at k e 0 (λ s. absurd (omega arith)))) (before k l)
   | inr g ↦
       let same : k ≡ at = omega arith in
-      subst (λ n. IsByteEntry table n (get_or (set entries at e) n 0)) (sym same) (subst (IsByteEntry table at) (sym (get_or-set_same entries at e 0 here)) is)
+      subst (λ n. P n (get_or (set entries at e) n 0)) (sym same) (subst (P at) (sym (get_or-set_same entries at e 0 here)) is)
 ]
+
+pub entries_more : (table entries : List ℕ) (at e : ℕ) → at < length entries → AreByteEntries table entries at → IsByteEntry table at e → AreByteEntries table (set entries at e) (at + 1)
+entries_more table entries at e here before is = set_more (IsByteEntry table) entries at e here before is

@@ -1,7 +1,8 @@
 -- Units below 0x800.
-use Rattle.std.proofs.Common.{◌≡◌, ℕ, suc, ◌+◌, ◌-◌, ◌*◌, ◌/◌, ◌%◌, ◌^◌, ◌<◌, ◌≤◌, Bool, true, false, cond, ltb, leb, eqb, List, [], ◌∷◌, ◌++◌, length, get_or, map, take, replicate, bit_and, refl, ap, ap₂, ◌∙◌, arith, w8, w16, Fits, All}
+use Rattle.std.proofs.Common.{◌≡◌, ℕ, zero, suc, ◌+◌, ◌-◌, ◌*◌, ◌/◌, ◌%◌, ◌^◌, ◌<◌, ◌≤◌, Bool, true, false, cond, ltb, leb, eqb, List, [], ◌∷◌, ◌++◌, length, get_or, map, take, replicate, bit_and, refl, sym, ap, ap₂, ◌∙◌, arith, w8, w16, Fits, All}
 use Rattle.std.proofs.lemmas.Bool.{ltb-true, ltb-false, leb-true, eqb-true, agree_below_at}
 use Rattle.std.proofs.lemmas.List.{map-append, length-map, take-take, take-map}
+use Rattle.std.proofs.lemmas.List.Elements.{All-from_get_or}
 use Rattle.std.proofs.Math.Seq.{take-append_seam}
 use Rattle.std.proofs.lemmas.Nat.{and_mask}
 use Rattle.std.proofs.lemmas.Simd.{bitmask_splat, mask_l-lt, swz_l}
@@ -158,3 +159,29 @@ short_text_of_eight =
     of_eight (λ v. AreShort v → map (λ k. get_or (short_lanes v) k 0) (short_places 0 8 (short_pattern v)) ≡ utf8_bytes v) (λ a b c d e f g h sa sb sc sd se sf sg sh short.
     short_text (λ k. get_or (short_lanes (a ∷ b ∷ c ∷ d ∷ e ∷ f ∷ g ∷ h ∷ [])) k 0) 0 (a ∷ b ∷ c ∷ d ∷ e ∷ f ∷ g ∷ h ∷ []) short
     (refl, refl, (refl, refl, (refl, refl, (refl, refl, (refl, refl, (refl, refl, (refl, refl, (refl, refl, tt)))))))))
+
+-- ---- a mask in which each bit is set
+
+double : (bits : List Bool) → 2 ^ suc (length bits) ≡ 2 * 2 ^ length bits
+double bits = omega arith
+
+all_set : (bits : List Bool) → mask_l bits + 1 ≡ 2 ^ length bits → (k : ℕ) → k < length bits → get_or bits k false ≡ true
+all_set [] whole k h = absurd (omega arith)
+all_set (true ∷ bits) whole zero h = refl
+all_set (true ∷ bits) whole (suc k) h = all_set bits (omega (arith, double bits)) k (omega arith)
+all_set (false ∷ bits) whole k h = absurd (omega (arith, double bits))
+
+pub units_below : (n : ℕ) (xs : List ℕ) → length xs ≡ 8
+    → eqb (mask_l (map (top 15) (zip2 (λ a b. cond (ltb a b) (2 ^ 16 - 1) 0) xs (replicate 8 n))) % 2 ^ 64) 255 ≡ true → All (λ x. x < n) xs
+units_below n xs long whole = All-from_get_or (λ x. x < n) xs 0 (λ k h.
+    let bits : List Bool = map (λ x. ltb x n) xs in
+    let same : mask_l (map (top 15) (zip2 (λ a b. cond (ltb a b) (2 ^ 16 - 1) 0) xs (replicate 8 n))) % 2 ^ 64 ≡ mask_l bits = bitmask_splat w16 ltb xs 8 n long (omega arith) in
+    let many : length bits ≡ 8 = length-map xs (λ x. ltb x n) ∙ long in
+    let power : 2 ^ length bits ≡ 2 ^ 8 = ap (λ m. 2 ^ m) many in
+    let set = all_set bits (omega (arith, eqb-true _ _ whole, same, power)) k (omega arith) in
+    ltb-true _ _ (sym (bit_of xs k h) ∙ set))
+  where
+    bit_of : (ys : List ℕ) (j : ℕ) → j < length ys → get_or (map (λ x. ltb x n) ys) j false ≡ ltb (get_or ys j 0) n
+    bit_of [] j l = absurd (omega arith)
+    bit_of (y ∷ ys) zero l = refl
+    bit_of (y ∷ ys) (suc j) l = bit_of ys j (omega arith)

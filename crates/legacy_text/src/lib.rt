@@ -14,6 +14,7 @@ mod unit_codes;
 mod unit_rows;
 
 pub use destination::{Destination, Utf8Destination, Utf16Destination};
+pub use short_units::are_all_below;
 pub use source::ByteSource;
 pub use text_source::{Next, Source, Utf8Source, Utf16Source};
 pub use unit_codes::UnitCodes;

@@ -1,7 +1,7 @@
 //! Eight code units below U+0800 as UTF-8 by vectors: two bytes of each unit are made by lanes, and one shuffle keeps
 //! those that its text has.
 // Inlined always is what runs for each vector: a call would pass the vectors through memory.
-ghost use Rattle.std.specs.Prelude.{◌≡◌, ◌+◌, ◌<◌, ◌≤◌, ◌++◌, length, take};
+ghost use Rattle.std.specs.Prelude.{◌≡◌, ◌+◌, ◌<◌, ◌≤◌, ◌++◌, All, length, take, true};
 ghost use Rattle.legacy_text.specs.UnitBytes.{short_lanes, short_pattern, AreShort, utf8_bytes};
 
 use crate::eight_units::{row_of, store};
@@ -43,4 +43,12 @@ pub(crate) fn put_short_units(dst: &mut [u8], at: usize, units: u16x8) -> usize
     let row = row_of(&SHORT_WRITTEN, ones);
     store(dst, at, short_unit_lanes(units).swizzle_dyn(row));
     at + 16 - ones.count_ones() as usize
+}
+
+/// Returns whether each unit is below the bound.
+#[inline(always)]
+pub fn are_all_below(units: u16x8, bound: u16) -> bool
+    ensures { result ≡ true → All (λ u. u < bound) units }
+{
+    units.simd_lt(u16x8::splat(bound)).all()
 }

@@ -9,8 +9,8 @@ ghost use Rattle.legacy_decoder_engine.specs.Ahead.{ReadsAhead};
 ghost use Rattle.legacy_miscellaneous.specs.Utf16Decoder.{HasAsciiUnits, AreUnitsBelow};
 
 use super::units::unit;
-use super::vectors::{are_all_below, eight_units, greater_units, sixteen_units};
-use legacy_base::Destination;
+use super::vectors::{eight_units, greater_units, sixteen_units};
+use legacy_base::{Destination, are_all_below};
 use legacy_decoder_engine::pairs::{Pairs, read_pairs};
 use legacy_decoder_engine::runs::{Blocks, read_blocks};
 

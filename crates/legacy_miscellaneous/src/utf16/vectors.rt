@@ -82,11 +82,3 @@ pub fn greater_units(a: u16x8, b: u16x8) -> u16x8
 {
     a.simd_max(b)
 }
-
-/// Whether each unit is below the bound.
-#[inline(always)]
-pub fn are_all_below(units: u16x8, bound: u16) -> bool
-    ensures { result ≡ true → AreBelow bound units }
-{
-    units.simd_lt(u16x8::splat(bound)).all()
-}

@@ -137,12 +137,8 @@ impl DecoderMoves for SingleByteDecoder<'_> {
         None
     }
 
-    // In UTF-8 eight bytes at a time do not pay: text with few letters past ASCII loses a fifth.
     #[inline(always)]
     fn read_ahead<T: Destination>(&self, src: &[u8], dst: &mut T) -> usize {
-        if T::narrow() > 1 {
-            return read_common_forms(self, src, dst);
-        }
         let read = read_blocks(&self.scalars, src, dst);
         read + read_common_forms(self, &src[read..], dst)
     }

@@ -2,7 +2,7 @@
 //! kind of byte it is. In text with letters past ASCII such a branch follows no pattern.
 // Inlined always is what runs for each form or block: a call would pass vectors through memory, and put the
 // destination's place there from form to form.
-ghost use Rattle.std.specs.Prelude.{◌≡◌, ◌<◌, ℕ, length, IfSome};
+ghost use Rattle.std.specs.Prelude.{◌≡◌, ◌<◌, ◌≤◌, ℕ, length, slice_index, IfSome};
 ghost use Rattle.legacy_base.specs.Grammar.{single_byte};
 ghost use Rattle.legacy_decoder_engine.specs.Ahead.{IsSingle};
 ghost use Rattle.legacy_single_byte.specs.ByteEntries.{IsByteEntry, AreByteEntries};
@@ -67,5 +67,22 @@ impl<'a> ByteScalars<'a> {
             return None;
         }
         Some(unsafe { char::from_u32_unchecked(u32::from(entry)) })
+    }
+
+    /// Returns the code units of the first eight bytes: 0 for a byte that has no scalar, and for the byte 00.
+    #[inline(always)]
+    pub fn units(&self, src: &[u8]) -> [u16; 8]
+        requires { 8 ≤ length src.now }
+        ensures count { length result ≡ 8 }
+        ensures same { (k : ℕ) → k < 8 → IsByteEntry self.now.table.now.entries
+            (slice_index src.now k) (slice_index result k) }
+    {
+        let mut units = [0u16; 8];
+        let mut at = 0;
+        while at < 8 {
+            units[at] = self.entries[usize::from(src[at])];
+            at += 1;
+        }
+        units
     }
 }

@@ -1,5 +1,6 @@
 use Rattle.std.proofs.Common.{◌≡◌, ◌∙◌, ◌+◌, ◌-◌, ◌*◌, ◌<◌, arith, inl, inr, subst, ap}
 use Rattle.std.proofs.lemmas.Bool.{cases_lt}
+use Rattle.std.proofs.lemmas.List.Elements.{All-get_or}
 use Rattle.legacy_miscellaneous.specs.Utf16Decoder.{unit_at}
 use Rattle.legacy_miscellaneous.proofs.Utf16Runs.{rest_unit}
 use Rattle.legacy_miscellaneous.proofs.utf16.runs.Units.are_below.Goals as goal
@@ -28,4 +29,4 @@ loop-group-preserved c = record {
 }
 
 pub returns : goal.returns
-returns c t k h = c.loop-group.invariant.below c.args.bound (c.are_all_below.ensures t) k (omega (arith, h, c.loop-group-test.false, c.loop-group.invariant.within))
+returns c t k h = c.loop-group.invariant.below c.args.bound (λ j l. All-get_or (λ u. u < c.args.bound) c.loop-group.greatest j 0 l (c.are_all_below.ensures t)) k (omega (arith, h, c.loop-group-test.false, c.loop-group.invariant.within))

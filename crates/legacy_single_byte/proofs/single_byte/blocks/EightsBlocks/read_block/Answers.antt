@@ -1,24 +1,21 @@
 use Rattle.std.proofs.Common.{arith}
 use Rattle.legacy_base.specs.Grammar.{single_byte}
 use Rattle.legacy_base.specs.States.{new_state}
-use Rattle.legacy_decoder_engine.proofs.WrittenRuns.{writes_none, writes_one, reads_none, three_fit, short}
+use Rattle.legacy_decoder_engine.proofs.WrittenRuns.{reads_none}
+use Rattle.legacy_single_byte.proofs.SingleByteRuns.{units_are_scalars, reads_eight}
 use Rattle.legacy_single_byte.proofs.single_byte.blocks.EightsBlocks.read_block.Goals as goal
 
 pub returns-then-src-lt16-clause-ahead : goal.returns-then-src-lt16-clause-ahead
 returns-then-src-lt16-clause-ahead g c = reads_none g.T.Destination (new_state (single_byte c.args.self.now.scalars.now.table.now.entries)) c.args.src.now c.args.dst.now
 
-pub loop-at-init : goal.loop-at-init
-loop-at-init g c = (omega arith, omega arith, writes_none g.T.Destination (single_byte c.args.self.now.scalars.now.table.now.entries) c.args.dst.now)
+pub put_units-requires-clause-scalars : goal.put_units-requires-clause-scalars
+put_units-requires-clause-scalars g c =
+    let units = c.units-units in
+    units_are_scalars c.args.self.now.scalars.now.table.now c.args.src.now units.result (λ k. let f = c.type_inv.src k in omega arith) units.ensures.same units.ensures.count
 
-pub put-requires : goal.put-requires
-put-requires g c = three_fit g.T.Destination.form c.in-Some.scalar _ c.in-Some.ensures.0 (omega (arith, c.loop-at.invariant.1, c.loop-at-test.true))
-
-pub loop-at-preserved : goal.loop-at-preserved
-loop-at-preserved g c =
-    let T = g.T.Destination in
-    let i = c.loop-at.invariant in
-    let e = c.put.ensures in (
-      omega (arith, c.loop-at-test.true),
-      omega (arith, i.1, short T.form c.in-Some.scalar c.in-Some.ensures.0, e.room),
-      writes_one T c.args.src.now c.loop-at.at c.in-Some.scalar (omega (arith, c.loop-at-test.true)) i.2 c.in-Some.ensures.1 e.contents e.room e.loan,
-    )
+pub returns-clause-ahead : goal.returns-clause-ahead
+returns-clause-ahead g c =
+    let units = c.units-units in
+    let e = c.put_units.ensures in
+    reads_eight c.args.self.now.scalars.now.table.now c.args.src.now units.result (λ k. let f = c.type_inv.src k in omega arith) units.ensures.same g.T.Destination c.args.dst.now c.put_units.new.dst
+    (c.has_zero.ensures c.if-has_zero.false) (omega arith) units.ensures.count e.contents e.room e.loan (omega arith)

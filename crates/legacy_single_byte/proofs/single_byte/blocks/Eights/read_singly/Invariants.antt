@@ -1,7 +1,7 @@
 use Rattle.std.proofs.Common.{◌+◌, ◌*◌, ◌-◌, ◌≤◌, take}
 use Rattle.legacy_base.specs.Grammar.{single_byte}
 use Rattle.legacy_decoder_engine.specs.Ahead.{Writes}
-use Rattle.legacy_single_byte.proofs.single_byte.blocks.EightsBlocks.read_block.Given as goal
+use Rattle.legacy_single_byte.proofs.single_byte.blocks.Eights.read_singly.Given as goal
 
 -- the bytes that were passed are written, each as three code units at the most
 abbrev pub invariant-loop-at : goal.invariant-loop-at
