@@ -15,6 +15,6 @@ pub use legacy_tables::{
 };
 pub use legacy_text::{
     ByteSource, Destination, Next, Source, UnitCodes, Utf8Destination, Utf8Source,
-    Utf16Destination, Utf16Source, are_all_below,
+    Utf16Destination, Utf16Source,
 };
 pub use results::{DecodeEvent, DecoderResult, EncodeEvent, EncoderResult};

@@ -1,9 +1,7 @@
 -- Units of vectors that are below a bound.
-use Rattle.std.proofs.Common.{◌≡◌, ◌∙◌, ℕ, zero, suc, ◌+◌, ◌-◌, ◌*◌, ◌%◌, ◌^◌, ◌<◌, Bool, true, false, cond, ltb, eqb, List, [], ◌∷◌, length, map, get_or, replicate, refl, sym, ap, arith, w16}
-use Rattle.std.proofs.lemmas.Bool.{ltb-true, ltb-false, eqb-true}
-use Rattle.std.proofs.lemmas.List.{length-map}
-use Rattle.std.proofs.lemmas.Simd.{bitmask_splat}
-use lib.Lanes.{zip2, sel_l, mask_l, top}
+use Rattle.std.proofs.Common.{◌≡◌, ℕ, zero, suc, ◌-◌, ◌^◌, ◌<◌, Bool, true, false, cond, ltb, List, [], ◌∷◌, length, map, refl, arith}
+use Rattle.std.proofs.lemmas.Bool.{ltb-true, ltb-false}
+use lib.Lanes.{zip2, sel_l, top}
 use Rattle.legacy_miscellaneous.specs.Utf16Decoder.{AreBelow}
 
 -- ---- the greater of two units, lane by lane

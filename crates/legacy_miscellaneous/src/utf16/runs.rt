@@ -10,9 +10,10 @@ ghost use Rattle.legacy_miscellaneous.specs.Utf16Decoder.{HasAsciiUnits, AreUnit
 
 use super::units::unit;
 use super::vectors::{eight_units, greater_units, sixteen_units};
-use legacy_base::{Destination, are_all_below};
+use legacy_base::Destination;
 use legacy_decoder_engine::pairs::{Pairs, read_pairs};
 use legacy_decoder_engine::runs::{Blocks, read_blocks};
+use legacy_text::are_all_below;
 
 /// The code units of a byte order.
 #[derive(Drop)]

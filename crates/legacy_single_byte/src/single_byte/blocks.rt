@@ -9,8 +9,9 @@ ghost use Rattle.legacy_base.specs.States.{new_state};
 ghost use Rattle.legacy_decoder_engine.specs.Ahead.{ReadsAhead};
 
 use super::scalars::ByteScalars;
-use legacy_base::{Destination, are_all_below};
+use legacy_base::Destination;
 use legacy_decoder_engine::runs::{Blocks, read_ascii, read_blocks};
+use legacy_text::are_all_below;
 use std::simd::prelude::*;
 
 /// Whether one of the first eight bytes is past ASCII.

@@ -1,7 +1,6 @@
 use Rattle.std.proofs.Common.{arith}
 use Rattle.legacy_base.specs.Grammar.{single_byte}
-use Rattle.legacy_base.specs.States.{new_state}
-use Rattle.legacy_decoder_engine.proofs.WrittenRuns.{writes_none, writes_one, reads_none, three_fit, short}
+use Rattle.legacy_decoder_engine.proofs.WrittenRuns.{writes_none, writes_one, three_fit, short}
 use Rattle.legacy_single_byte.proofs.single_byte.blocks.Eights.read_singly.Goals as goal
 
 pub loop-at-init : goal.loop-at-init
