@@ -9,7 +9,7 @@ use Rattle.std.proofs.lemmas.List.Elements.{All-get_or}
 use Rattle.std.proofs.lemmas.Str.Ascii.{All-from_ascii}
 use Rattle.std.specs.Char.Utf16.{is_high_surrogate, is_low_surrogate}
 use Rattle.legacy_text.specs.declared.destination.Destination.{Ghosts}
-use Rattle.legacy_text.specs.EncodingForm.{EncodingForm, all_code_units, total_unit_count}
+use Rattle.legacy_text.specs.EncodingForm.{EncodingForm, code_units, all_code_units, total_unit_count}
 use Rattle.legacy_tables.specs.Unicode.{IsByte}
 use Rattle.legacy_base.specs.Grammar.{utf16}
 use Rattle.legacy_base.specs.Utf16.{unit_of}
@@ -18,7 +18,7 @@ use Rattle.legacy_base.specs.States.{new_state}
 use Rattle.legacy_miscellaneous.specs.Utf16Decoder.{HasAsciiUnits, AreUnitsBelow, unit_at}
 use Rattle.legacy_decoder_engine.proofs.RunForms.{pair_runs}
 use Rattle.legacy_decoder_engine.proofs.JoinedRuns.{reads_written}
-use Rattle.legacy_decoder_engine.proofs.WrittenRuns.{runs_none, runs_more, take_two, rest_of, writes_run, all_code_units_ascii, all_short}
+use Rattle.legacy_decoder_engine.proofs.WrittenRuns.{runs_none, runs_more, take_two, writes_two, rest_of, writes_run, all_code_units_ascii, all_short}
 use Rattle.legacy_miscellaneous.proofs.Utf16Shown.{utf16_shown}
 
 not_high : (u : ℕ) → IsScalar u → is_high_surrogate u ≡ false
@@ -135,3 +135,16 @@ few_units form be source units bytes long are =
 pub short_eight : (be : Bool) (source units : List ℕ) (group : ℕ) → AreUnitsBelow be source 64 0x800 → group < 8
     → ((k : ℕ) → k < 8 → get_or units k 0 ≡ unit_at be (take (length source - 16 * group) (drop (16 * group) source)) k) → (k : ℕ) → k < 8 → get_or units k 0 < 0x800
 short_eight be source units group below h are k l = subst (λ u. u < 0x800) (sym (are k l ∙ rest_unit be source group k)) (below (8 * group + k) (omega arith))
+
+-- one more unit is written
+pub writes_unit : {D : Type 0} (T : Ghosts D) (be : Bool) (source : List ℕ) {old mid new : D} (at c : ℕ) → ((k : ℕ) → IsByte (get_or source k 0)) → 2 * at + 1 < length source
+    → Writes T (utf16 be) (take (2 * at) source) old mid
+    → IsScalar (unit_at be source at) → c ≡ unit_at be source at → T.contents new ≡ T.contents mid ++ code_units T.form c
+    → T.room new + length (code_units T.form c) ≡ T.room mid → T.loan new ≡ T.loan mid
+    → Writes T (utf16 be) (take (2 * (at + 1)) source) old new
+writes_unit T be source at c bytes within before scalar is contents room loan =
+    let place : 2 * (at + 1) ≡ 2 * at + 2 = omega arith in
+    let a : ℕ = get_or source (2 * at) 0 in
+    let b : ℕ = get_or source (2 * at + 1) 0 in
+    let run = subst (λ x. Runs (utf16 be) (a ∷ b ∷ []) (x ∷ [])) (sym is) ((unit_pair be a b (bytes (2 * at)) (bytes (2 * at + 1)) scalar).1) in
+    rw place (writes_two T source (2 * at) c within before run contents room loan)

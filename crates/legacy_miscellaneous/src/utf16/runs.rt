@@ -1,8 +1,9 @@
 //! Blocks of UTF-16 code units that are no surrogates: 64 units at a time, eight at a time, and one by one.
 // Inlined always is what runs for each form or block: a call would pass vectors through memory, and put the
 // destination's place there from form to form.
-ghost use Rattle.std.specs.Prelude.{◌≡◌, ◌+◌, ◌*◌, ◌<◌, ◌≤◌, ℕ, length, true, false, slice_index};
+ghost use Rattle.std.specs.Prelude.{◌≡◌, ◌+◌, ◌*◌, ◌<◌, ◌≤◌, ◌++◌, ℕ, length, true, false, slice_index};
 ghost use Rattle.std.specs.Char.{IsScalar};
+ghost use Rattle.legacy_text.specs.EncodingForm.{code_units, unit_count};
 ghost use Rattle.legacy_base.specs.Grammar.{utf16};
 ghost use Rattle.legacy_base.specs.States.{new_state};
 ghost use Rattle.legacy_decoder_engine.specs.Ahead.{ReadsAhead};
@@ -44,6 +45,48 @@ fn has_surrogate(units: &[u16]) -> bool
         at += 1;
     }
     found
+}
+
+/// Writes a unit that is a scalar.
+#[inline(always)]
+fn put_unit<T: Destination>(dst: &mut T, unit: u16)
+    requires scalar { IsScalar unit }
+    requires room { 3 ≤ T.room dst.old }
+    ensures contents { T.contents dst.new ≡ T.contents dst.old ++ code_units T.form unit }
+    ensures room { T.room dst.new + unit_count T.form unit ≡ T.room dst.old }
+    ensures loan { T.loan dst.new ≡ T.loan dst.old }
+{
+    dst.put(unsafe { char::from_u32_unchecked(u32::from(unit)) });
+}
+
+/// Sixteen units at a time, for an output of UTF-16.
+#[derive(Drop)]
+struct Sixteens<'a> {
+    units: &'a Units,
+}
+
+impl Blocks for Sixteens<'_> {
+    ghost grammar = { λ blocks. utf16 blocks.units.now.big_endian };
+
+    /// Decodes sixteen units, or none if one of them is a surrogate.
+    // No turn ends early and the units are those of a vector, so the compiler stores the vector as it is.
+    #[inline(always)]
+    fn read_block<T: Destination>(&self, src: &[u8], dst: &mut T) -> (usize, bool) {
+        if src.len() < 32 || dst.free() < 51 {
+            return (0, false);
+        }
+        let units = sixteen_units(self.units.big_endian, src).to_array();
+        if has_surrogate(&units) {
+            return (0, false);
+        }
+        let mut at = 0;
+        while at < 16 {
+            let unit = units[at];
+            put_unit(dst, unit);
+            at += 1;
+        }
+        (32, true)
+    }
 }
 
 /// ASCII by sixteens.
@@ -112,13 +155,11 @@ impl Units {
         ensures { ReadsAhead T.Destination (new_state (utf16 self.now.big_endian)) src.now result
             dst.old dst.new }
     {
-        if T::narrow() > 1 {
-            if self.are_below(src, 0x80) {
-                return read_blocks(&AsciiUnits { units: self }, src, dst);
-            }
-            if self.are_below(src, 0x800) {
-                return self.read_short_units(src, dst);
-            }
+        if self.are_below(src, 0x80) {
+            return read_blocks(&AsciiUnits { units: self }, src, dst);
+        }
+        if self.are_below(src, 0x800) {
+            return self.read_short_units(src, dst);
         }
         self.read_eights(src, dst, 8)
     }
@@ -177,6 +218,9 @@ impl Units {
         ensures { ReadsAhead T.Destination (new_state (utf16 self.now.big_endian)) src.now result
             dst.old dst.new }
     {
+        if T::narrow() == 1 {
+            return read_blocks(&Sixteens { units: self }, src, dst);
+        }
         let eights = (src.len() / 16).min(dst.free().saturating_sub(11) / 24);
         if eights >= 8 {
             self.read_sixty_four(src, dst)

@@ -47,7 +47,7 @@ fn put_units<T: Destination>(dst: &mut T, units: u16x8)
     ensures room { T.room dst.new + total_unit_count T.form units ≡ T.room dst.old }
     ensures loan { T.loan dst.new ≡ T.loan dst.old }
 {
-    if T::narrow() > 1 && are_all_below(units, 0x800) {
+    if are_all_below(units, 0x800) {
         dst.put_eight_short(units);
     } else {
         dst.put_eight(units);
@@ -86,10 +86,15 @@ impl Blocks for Eights<'_> {
     ghost grammar = { λ eights. single_byte eights.scalars.now.table.now.entries };
 
     /// Decodes up to a byte that has no scalar, and goes on if one of the next eight bytes is past ASCII.
+    // If each scalar is one code unit, eight puts are faster than a vector of entries.
     #[inline(always)]
     fn read_block<T: Destination>(&self, src: &[u8], dst: &mut T) -> (usize, bool) {
         if src.len() < 16 || dst.free() < 35 {
             return (0, false);
+        }
+        if T::narrow() == 1 {
+            let read = self.read_singly(src, dst);
+            return (read, read == 8 && has_past_ascii(&src[8..]));
         }
         let units = self.scalars.units(src);
         if has_zero(&units) {
