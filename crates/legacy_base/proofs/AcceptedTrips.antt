@@ -1,5 +1,5 @@
--- What round trips need of accepted indexes: jis0208 has nothing where Shift_JIS decodes to private use, and private-use
--- rows are for private use, and have leads and trails.
+-- Facts about accepted indexes for round trips. The jis0208 entries that Shift_JIS decodes to private use are empty.
+-- Each private-use row has a private-use scalar, a lead and a trail.
 use Rattle.std.proofs.Common.{◌≡◌, ℕ, zero, suc, ◌+◌, List, [], ◌∷◌, Bool, true, false, cond, not, ◌==◌, Option, Some, None, slice_index, refl, ap, arith, find, option_map, eqb-true}
 use Rattle.legacy_tables.specs.declared.tables.IndexName.{IndexName}
 use Rattle.legacy_tables.specs.declared.tables.IndexName.TheVariants as names
@@ -10,9 +10,9 @@ use Rattle.legacy_tables.proofs.Accepted.{or_none, parts}
 use Rattle.legacy_base.proofs.TwoByteTrips.{PrivateUseIsEmpty}
 use Rattle.legacy_base.proofs.Gb18030Trip.{AreGoodRows}
 
--- ---- places that must be empty
+-- ---- entries that must be empty
 
--- each entry is without fault
+-- no entry of an accepted index has a fault
 each_entry : (name : IndexName) (p : ℕ) (entries : List ℕ) → entries_fault name p entries ≡ None
     → (j : ℕ) → entry_fault name (p + j) (slice_index entries j) ≡ None
 unfolding entries_fault
@@ -26,7 +26,7 @@ each_entry name p (e ∷ entries) h (suc j) =
     let there : p + suc j ≡ p + 1 + j = omega arith in
     rw there (each_entry name (p + 1) entries both.1 j)
 
--- where an entry must be empty, one without a fault is
+-- if an entry must be empty and has no fault, it is empty
 empty_entry : (name : IndexName) (p entry : ℕ) → must_be_empty name p ≡ true → entry_fault name p entry ≡ None → (entry == 0) ≡ true
 empty_entry name p entry must h = by_tests (entry == 0) (is_entry name entry) refl (rw must at h)
   where
@@ -57,7 +57,7 @@ good_row place before r h = by_tests (follows_scalar before r.0) (is_row_scalar 
 same_pair : (a b x y : ℕ) → ◌≡◌ {A = Option (ℕ × ℕ)} (Some (a, x)) (Some (b, y)) → (a ≡ b) × (x ≡ y)
 same_pair a b x y h = let same : ◌≡◌ {A = ℕ × ℕ} (a, x) (b, y) = cc in (ap (λ (p : ℕ × ℕ). p.0) same, ap (λ (p : ℕ × ℕ). p.1) same)
 
--- what is known of the row that is found for c
+-- the facts about the row found for c
 abbrev IsGoodRow : ℕ → ℕ → ℕ → Type 0
 IsGoodRow c lead trail = (is_row_scalar c ≡ true) × (are_row_bytes lead trail ≡ true)
 

@@ -1,4 +1,4 @@
--- How lists of events begin that begin with more.
+-- Laws of `BeginsWith`.
 use Rattle.std.proofs.Common.{◌≡◌, ◌∙◌, ℕ, ◌+◌, ◌<◌, List, [], ◌∷◌, ◌++◌, refl, arith, append_assoc}
 use Rattle.std.proofs.lemmas.List.{append_cancel_left}
 use Rattle.legacy_base.specs.declared.results.DecodeEvent.{DecodeEvent}
@@ -6,11 +6,11 @@ use Rattle.legacy_base.specs.declared.results.DecodeEvent.TheVariants.{Scalar, B
 use Rattle.legacy_base.specs.Beginnings.{BeginsWith}
 use Rattle.legacy_base.specs.Events.{shift_event, shift}
 
--- a list begins with less
+-- a list that begins with `front ++ more` begins with `front`
 pub begins_sooner : {Item : Type 0} (front more items : List Item) → BeginsWith items (front ++ more) → BeginsWith items front
 begins_sooner front more items b = (more ++ b.0, b.1 ∙ append_assoc front more b.0)
 
--- and behind that with the rest
+-- and after `front` the rest begins with `more`
 pub begins_later : {Item : Type 0} (front more items : List Item) → BeginsWith (front ++ items) (front ++ more) → BeginsWith items more
 begins_later front more items b = (b.0, append_cancel_left front items (more ++ b.0) (b.1 ∙ append_assoc front more b.0))
 
@@ -24,7 +24,7 @@ event_back k (Bad p n) (Bad q m) e =
     let long : n ≡ m = cc in
     cc
 
--- the same of events that stand further on
+-- if shifted events begin with shifted events, so do the events themselves
 pub begins_back : (k : ℕ) (front items : List DecodeEvent) → BeginsWith (shift k items) (shift k front) → BeginsWith items front
 begins_back k [] items b = (items, refl)
 begins_back k (x ∷ front) [] b = let e = b.1 in cc
@@ -37,7 +37,7 @@ begins_back k (x ∷ front) (y ∷ items) b =
     let all : items ≡ front ++ rest.0 = rest.1 in
     (rest.0, cc)
 
--- no malformed sequence that stands further on has a place before that
+-- in a list shifted by k, no malformed sequence begins before place k
 pub no_sooner : (k p n : ℕ) (items rest : List DecodeEvent) → p < k → shift k items ≡ Bad p n ∷ rest → ⊥
 no_sooner k p n [] rest h e = cc
 no_sooner k p n (Scalar c ∷ items) rest h e = cc

@@ -1,4 +1,4 @@
--- How a list of bytes that is cut into fronts unfolds, front by front.
+-- How `cut` unfolds, front by front.
 use Rattle.std.proofs.Common.{◌≡◌, ℕ, zero, suc, pred, ◌+◌, ◌<◌, List, [], ◌∷◌, ◌++◌, drop, refl, sym, ap, ap₂, add_assoc, add-zero, zero-add, arith}
 use Rattle.legacy_base.specs.declared.results.DecodeEvent.{DecodeEvent}
 use Rattle.legacy_base.specs.Events.{shift}
@@ -9,7 +9,7 @@ pub front_events-place : (k p : ℕ) (f : Front) → front_events (k + p) f ≡ 
 front_events-place k p (reads n cs) = sym (shift-scalars k cs)
 front_events-place k p (malformed n) = refl
 
--- a list that begins k places further on
+-- the events of a list whose first byte is k places later
 pub cut-place : (front : ℕ → List ℕ → Front) (skip k p : ℕ) (bytes : List ℕ) → cut front skip (k + p) bytes ≡ shift k (cut front skip p bytes)
 unfolding cut
 cut-place front skip k p [] = refl
@@ -18,11 +18,11 @@ cut-place front zero k p (b ∷ rest) =
     (ap₂ ◌++◌ (front_events-place k p (front b rest)) (cut-place front (pred (front_length (front b rest))) k (p + 1) rest))
 cut-place front (suc skip) k p (b ∷ rest) = rw add_assoc (cut-place front skip k (p + 1) rest)
 
--- the same by what it gives at place 0
+-- the events at place p are those at place 0, shifted by p
 pub cut_from_zero : (front : ℕ → List ℕ → Front) (skip p : ℕ) (bytes : List ℕ) → cut front skip p bytes ≡ shift p (cut front skip 0 bytes)
 cut_from_zero front skip p bytes = rw (← (cut-place front skip p 0 bytes), add-zero)
 
--- the bytes of a front that began before
+-- bytes of a front that began earlier are skipped
 pub cut-skip : (front : ℕ → List ℕ → Front) (n p : ℕ) (bytes : List ℕ) → cut front n p bytes ≡ cut front 0 (p + n) (drop n bytes)
 unfolding cut
 cut-skip front zero p bytes = rw add-zero
@@ -35,7 +35,7 @@ pub cut-nil : (front : ℕ → List ℕ → Front) → cut front 0 0 [] ≡ []
 unfolding cut
 cut-nil front = refl
 
--- the first front at a place, where it is known, and then what is behind it
+-- if the first front is known: its events, and then those of the bytes after it
 pub cut_at : (front : ℕ → List ℕ → Front) (p b : ℕ) (rest : List ℕ) (f : Front) → front b rest ≡ f → 0 < front_length f →
     cut front 0 p (b ∷ rest) ≡ front_events p f ++ cut front 0 (p + front_length f) (drop (front_length f) (b ∷ rest))
 unfolding cut
@@ -47,7 +47,7 @@ cut_at front p b rest f e pos = rw e (ap (λ (es : List DecodeEvent). front_even
         let q : (p + 1) + n ≡ p + suc n = omega arith in
         rw (← q) (cut-skip front n (p + 1) rest)
 
--- the first front, and then what is behind it
+-- the events of the first front, and then those of the bytes after it
 pub cut-front : (front : ℕ → List ℕ → Front) (b : ℕ) (rest : List ℕ) → 0 < front_length (front b rest) →
     cut front 0 0 (b ∷ rest) ≡ front_events 0 (front b rest) ++ shift (front_length (front b rest)) (cut front 0 0 (drop (front_length (front b rest)) (b ∷ rest)))
 cut-front front b rest pos =

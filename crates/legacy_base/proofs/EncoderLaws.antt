@@ -1,4 +1,4 @@
--- What is shown of each encoder's profile for whole runs: its end, its rooms, and that its lengths rise.
+-- Laws of each encoder's profile: the end of a text, the room that acts need, and monotonic length formulas.
 use Rattle.std.proofs.Common.{◌≡◌, ℕ, ◌-◌, ◌≤◌, List, [], ◌∷◌, length, map, refl, arith, Option, Bool, true, false, IsTrue, Some, ltb}
 use Rattle.std.proofs.lemmas.Bool.{cond_both}
 use Rattle.legacy_base.specs.declared.results.EncodeEvent.TheVariants.{Byte}
@@ -14,23 +14,23 @@ use Rattle.legacy_base.specs.Iso2022Jp.{iso_2022_jp_encoder, iso_2022_jp_text_ev
 use Rattle.legacy_base.specs.Lengths.{Formula, number, ◌⊕◌, ◌⊗◌, value}
 use Rattle.legacy_base.proofs.Enough.{answer-value}
 
--- ---- what is shown of a profile
+-- ---- the laws of a profile
 
 pub record HasLaws (p : EncoderProfile) : Type 0 where
-  -- an empty text that ends gives what the end writes
+  -- the events of an empty text that ends are the bytes of the end
   pub ended : (mode : EncoderMode) → p.events mode [] true ≡ map Byte (p.end_bytes mode)
-  -- no scalar and no end needs more than four bytes
+  -- each scalar and the end need at most four bytes
   pub scalar_fits : (c : ℕ) → p.scalar_room c ≤ 4
   pub end_fits : (mode : EncoderMode) → length (p.end_bytes mode) ≤ 4
-  -- more code units need no less room
+  -- more code units need at least as much room
   pub rises : (form : EncodingForm) (mode : EncoderMode) (m n : ℕ) → m ≤ n →
       value (p.formula form (number m)) - p.surplus form mode m ≤ value (p.formula form (number n)) - p.surplus form mode n
 
--- a formula rises with the number of code units
+-- a formula is monotonic in the number of code units
 abbrev pub Rises : (Formula → Formula) → Type 0
 Rises f = (m n : ℕ) → m ≤ n → value (f (number m)) ≤ value (f (number n))
 
--- a codec without modes
+-- the laws of a codec without modes
 pub plain_laws : (code : ℕ → Option (List ℕ)) (past : ℕ) (from_utf8 from_utf16 : Formula → Formula) → past ≤ 4 → Rises from_utf8 → Rises from_utf16 →
     HasLaws (plain_encoder code past from_utf8 from_utf16)
 unfolding plain_events
@@ -49,15 +49,15 @@ plain_laws code past from_utf8 from_utf16 few rises8 rises16 = record {
 
 -- ---- the codecs
 
--- one byte a scalar
+-- codecs with one byte for each scalar
 byte_laws : (code : ℕ → Option (List ℕ)) → HasLaws (plain_encoder code 1 (λ n. n) (λ n. n))
 byte_laws code = plain_laws code 1 _ _ (omega arith) (λ m n h. h) (λ m n h. h)
 
--- one byte, or a lead and a trail
+-- codecs with one byte, or a lead and a trail
 pair_laws : (code : ℕ → Option (List ℕ)) → HasLaws (plain_encoder code 2 (λ n. n ⊕ number 1) (λ n. number 2 ⊗ n))
 pair_laws code = plain_laws code 2 _ _ (omega arith) (λ m n h. omega arith) (λ m n h. omega arith)
 
--- escapes between runs of bytes
+-- ISO-2022-JP, with escapes between the modes
 iso_2022_jp_laws : (jis0208 katakana : List ℕ) → HasLaws (iso_2022_jp_encoder jis0208 katakana)
 unfolding iso_2022_jp_text_events mode_behind
 iso_2022_jp_laws jis0208 katakana = record {
@@ -81,9 +81,9 @@ encoder_laws (gb18030 index ranges pua) = plain_laws _ 4 _ _ (omega arith) (λ m
 encoder_laws (gbk index ranges pua) = plain_laws _ 4 _ _ (omega arith) (λ m n h. omega arith) (λ m n h. omega arith)
 encoder_laws (iso_2022_jp jis0208 katakana) = iso_2022_jp_laws jis0208 katakana
 
--- ---- the same of a state
+-- ---- the same laws of an encoder's state
 
--- what is left of a text of which only the end is to come
+-- if the text is empty and ends, its events are the bytes of the end
 pub end-encoded : (s : EncoderState) → encoded s [] true ≡ map Byte (end_bytes s)
 end-encoded s = (encoder_laws s.codec).ended s.mode
 
@@ -93,15 +93,15 @@ encoder_need-small s (c ∷ unread) last = (encoder_laws s.codec).scalar_fits c
 encoder_need-small s [] true = (encoder_laws s.codec).end_fits s.mode
 encoder_need-small s [] false = omega arith
 
--- more code units need no less room
+-- more code units need at least as much room
 pub encoder_room-rises : (form : EncodingForm) (s : EncoderState) (m n : ℕ) → m ≤ n → encoder_room form s m ≤ encoder_room form s n
 encoder_room-rises form s = (encoder_laws s.codec).rises form s.mode
 
--- the room is no more than the answer
+-- the room is at most the result of the length query
 pub encoder_room-answer : (form : EncodingForm) (s : EncoderState) (n k : ℕ) → encoder_answer form s n ≡ Some k → encoder_room form s n ≤ k
 encoder_room-answer form s n k e = let v = answer-value (encoder_formula form s n) k e in omega arith
 
--- the end is told of on a last call
+-- a result says that the end was written only on a last call
 pub told_end-last : (last : Bool) (answer : EncoderResult) → IsTrue (tells_end last answer) → IsTrue last
 told_end-last last InputEmpty h = h
 told_end-last last OutputFull h = cc

@@ -1,4 +1,4 @@
--- What a length query answers is at least the room that is needed.
+-- The result of a length query is at least the room that is needed.
 use Rattle.std.proofs.Common.{◌≡◌, ℕ, ◌≤◌, List, arith, true, false, cond, Some}
 use Rattle.std.proofs.lemmas.Nat.{mul-le}
 use Rattle.std.proofs.lemmas.Bool.{cond_both}
@@ -9,11 +9,11 @@ use Rattle.legacy_base.specs.States.{DecoderState}
 use Rattle.legacy_base.specs.Acts.{has_reported}
 use Rattle.legacy_base.specs.Lengths.{value, has_lengths, answer, LengthQuery, to_utf16, to_utf8, to_utf8_without_replacement, weighted, utf16_units, state_formula, query_answer, room}
 
--- an answer is the formula's value
+-- the result is the value of the formula
 pub answer-value : (f : Formula) (k : ℕ) → answer f ≡ Some k → value f ≡ k
 answer-value f k e = (cond_some (has_lengths f) (value f) k e).1
 
--- a term's value rises with those of which it is made
+-- the value of a term is monotonic in each of its parts
 module _ (n n' m m' u u' : Formula) (hn : value n ≤ value n') (hm : value m ≤ value m') (hu : value u ≤ value u') where
   value-rises : (t : Term) → value (formula t n m u) ≤ value (formula t n' m' u')
   value-rises to_come = hn
@@ -24,7 +24,7 @@ module _ (n n' m m' u u' : Formula) (hn : value n ≤ value n') (hm : value m �
   value-rises (a ⊠ b) = mul-le (value (formula a n m u)) (value (formula b n m u)) (value (formula a n' m' u')) (value (formula b n' m' u')) (value-rises a) (value-rises b)
   value-rises (halved a) = let x = value-rises a in omega arith
 
--- each formula rises with the number of bytes
+-- each formula is monotonic in the number of bytes
 pub rises : (query : LengthQuery) (g : Grammar) (held : List ℕ) (m n : ℕ) → m ≤ n →
     value (state_formula query (record { grammar = g; held = held }) m) ≤ value (state_formula query (record { grammar = g; held = held }) n)
 rises query g held m n h = by_query query where
@@ -39,14 +39,14 @@ rises query g held m n h = by_query query where
   by_query to_utf8 = by_term (profile g).utf8_length
   by_query to_utf8_without_replacement = by_term (profile g).utf8_length_without_replacement
 
--- the room for as many bytes, or fewer, is no more than the answer
+-- for at most as many bytes, the room is at most the result
 pub room-answer : (query : LengthQuery) (s : DecoderState) (m n k : ℕ) → m ≤ n → query_answer query s n ≡ Some k → room query s m ≤ k
 room-answer query s m n k h e =
     let v = answer-value (state_formula query s n) k e in
     let r = rises query s.grammar s.held m n h in
     cond_both (has_reported s.grammar) 0 (value (state_formula query s m)) (λ x. x ≤ k) (λ _. omega arith) (λ _. omega arith)
 
--- more bytes take no less room
+-- more bytes need at least as much room
 pub room-rises : (query : LengthQuery) (s : DecoderState) (m n : ℕ) → m ≤ n → room query s m ≤ room query s n
 room-rises query s m n h =
     let f : ℕ → ℕ = λ k. value (state_formula query s k) in

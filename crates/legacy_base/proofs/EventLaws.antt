@@ -1,4 +1,5 @@
--- Each malformed sequence of a list lies inside it and has one to four bytes, and each scalar is a Unicode scalar value.
+-- Each malformed sequence in the events of a list lies inside the list and has one to four bytes. Each scalar is a
+-- Unicode scalar value.
 use Rattle.std.proofs.Common.{◌≡◌, ℕ, zero, suc, ◌+◌, ◌≤◌, List, [], ◌∷◌, ◌++◌, length, drop, map, Bool, true, false, cond, Option, Some, None, refl, arith, length-drop, All}
 use Rattle.std.specs.Prelude.{◌==◌, is_some}
 use Rattle.std.specs.Char.{IsScalar}
@@ -17,7 +18,7 @@ use Rattle.legacy_base.proofs.Iso2022JpParts.{first_part}
 use Rattle.legacy_base.proofs.Iso2022JpFronts.{step_end, step_one, step_two, step_escape, step_no_escape}
 
 module _ (Q : Type 0) where
-  -- all are events of a list of so many bytes
+  -- all are events of a list of the given number of bytes
   abbrev AreOf : ℕ → List DecodeEvent → Type 0
   AreOf size events = All (IsEventOf size Q) events
 
@@ -27,7 +28,7 @@ module _ (Q : Type 0) where
   pub bad_of : (size n : ℕ) → 1 ≤ n → n ≤ 4 → n ≤ size → AreOf size (Bad 0 n ∷ [])
   bad_of size n some few within = All-cons (IsEventOf size Q) (Bad 0 n) [] (some, few, omega (arith, within)) (none_of size)
 
-  -- those of what is behind so many bytes
+  -- the same for the bytes after the first k
   further : (k size whole : ℕ) → k + size ≤ whole → (events : List DecodeEvent) → AreOf size events → AreOf whole (shift k events)
   further k size whole h [] a = none_of whole
   further k size whole h (x ∷ events) a =
@@ -46,7 +47,7 @@ module _ (Q : Type 0) where
   front_of size (reads n scalars) i = scalars_of size scalars i.scalars
   front_of size (malformed n) i = bad_of size n i.some i.short i.within
 
-  -- a front, and what is behind it
+  -- the events of a front, and then those of the bytes after it
   front_and : (size : ℕ) (f : Front) (behind : ℕ) (events : List DecodeEvent) → IsFrontOf size Q f → front_length f + behind ≤ size → AreOf behind events
       → AreOf size (front_events 0 f ++ shift (front_length f) events)
   front_and size f behind events i h a =
@@ -91,7 +92,7 @@ module _ (Q : Type 0) where
           (front_and (length (esc ∷ rest)) (malformed 1) (length rest) (iso_2022_jp_events jis0208 mode rest)
           (front_of-malformed {P = Q} (length (esc ∷ rest)) 1 (omega arith) (omega arith) (omega arith)) (omega arith) (below mode rest h))
 
-      -- an escape byte, whatever follows
+      -- an escape byte and any bytes after it
       escape_of : (mode : Mode) (rest : List ℕ) → length rest ≤ n → AreOf (length (esc ∷ rest)) (iso_2022_jp_events jis0208 mode (esc ∷ rest))
       unfolding part_mode
       escape_of mode [] h = lone_of mode [] h refl

@@ -1,5 +1,5 @@
--- Each front of each codec has one to four bytes of the list, so that every list has its events. It gives one scalar or two,
--- or is malformed.
+-- Each front of each codec has one to four bytes of its list, so every list has events. A front gives one or two
+-- scalars, or is malformed.
 use Rattle.std.proofs.Common.{◌≡◌, ℕ, suc, ◌+◌, ◌-◌, ◌*◌, ◌≤◌, ◌<◌, List, [], ◌∷◌, Bool, true, false, not, cond, length, ◌||◌, ◌==◌, Option, Some, None, option_to_list, refl, arith}
 use Rattle.std.specs.Option.{option_map_or}
 use Rattle.std.specs.Int.{is_in_range}
@@ -22,7 +22,7 @@ use Rattle.legacy_base.specs.Gb18030.{gb18030_scalars, gb18030_range_pointer, gb
 use Rattle.legacy_base.specs.Iso2022Jp.{Mode, ascii, roman, katakana, two_byte, iso_2022_jp_front}
 use Rattle.legacy_tables.proofs.Accepted.{idx-all}
 
--- ---- scalars by a test
+-- ---- scalars that depend on a test
 
 is_ascii-scalar : (b : ℕ) → is_ascii b ≡ true → IsScalar b
 is_ascii-scalar b h = grind (arith, nat_tests)
@@ -39,9 +39,9 @@ shift_jis-private p h = grind (arith, nat_tests)
 shift_jis-single : (b : ℕ) → (is_ascii b || b == 0x80) ≡ true → IsScalar b
 shift_jis-single b h = grind (arith, nat_tests)
 
--- ---- what a front gives
+-- ---- the scalars of a front
 
--- scalars that a front may give: two at most, and Unicode scalar values where it is checked
+-- the scalars of a front: at most two, and Unicode scalar values if P holds
 abbrev MayGive : Type 0 → List ℕ → Type 0
 MayGive P scalars = (length scalars ≤ 2) × (P → AreScalars scalars)
 
@@ -69,7 +69,7 @@ module _ {P : Type 0} where
   give-pointer scalars None h = give-none
   give-pointer scalars (Some p) h = h p
 
-  -- ---- fronts by their form
+  -- ---- fronts by their shape
 
   pub front_of-cond : (size : ℕ) (t : Bool) (f g : Front) → (t ≡ true → IsFrontOf size P f) → IsFrontOf size P g → IsFrontOf size P (cond t f g)
   front_of-cond size t f g h k = cond_both t f g (IsFrontOf size P) h (λ _. k)
@@ -98,15 +98,15 @@ module _ {P : Type 0} where
   pub bad : (rest : List ℕ) → IsFrontOf (suc (length rest)) P (malformed 1)
   bad rest = front_of-malformed (suc (length rest)) 1 (omega arith) (omega arith) (omega arith)
 
-  -- a byte by itself
+  -- a front of one byte
   pub byte : (rest : List ℕ) (c : ℕ) → (P → IsScalar c) → IsFrontOf (suc (length rest)) P (reads 1 (c ∷ []))
   byte rest c h = front_of-reads_or _ 1 (c ∷ []) (malformed 1) (omega arith) (omega arith) (omega arith) (give-one c h) (bad rest)
 
-  -- ASCII is itself
+  -- an ASCII byte is its own scalar
   ascii_or : (b : ℕ) (rest : List ℕ) (other : Front) → IsFrontOf (suc (length rest)) P other → IsFrontOf (suc (length rest)) P (cond (is_ascii b) (reads 1 (b ∷ [])) other)
   ascii_or b rest other h = front_of-cond _ (is_ascii b) _ _ (λ e. byte rest b (λ _. is_ascii-scalar b e)) h
 
-  -- a lead, and no trail or any
+  -- a lead, with or without a trail
   pair : (scalars : ℕ → List ℕ) (rest : List ℕ) → ((t : ℕ) → MayGive P (scalars t)) → IsFrontOf (suc (length rest)) P (trail_front 1 scalars rest)
   pair scalars rest given = front_of-trail_front _ 1 scalars rest (omega arith) (omega arith) (omega arith) given
 
@@ -207,7 +207,7 @@ module _ {P : Type 0} (index : List ℕ) (ranges : List (ℕ × ℕ)) (checked :
 
 -- ---- ISO-2022-JP
 
--- a byte of a mode of single bytes
+-- a byte that passes the tests of a single-byte mode is ASCII
 ascii_part : (b : ℕ) → ((b == 0x0E || b == 0x0F) || not (is_ascii b)) ≡ false → is_ascii b ≡ true
 ascii_part b h = grind (arith, nat_tests)
 
@@ -215,7 +215,7 @@ katakana_part : (b : ℕ) → is_in_range 0x21 0x5F b ≡ true → IsScalar (0xF
 katakana_part b h = grind (arith, nat_tests)
 
 module _ {P : Type 0} (jis0208 : List ℕ) (checked : P → AreScalars jis0208) where
-  -- the second front only where the test fails
+  -- the second front is used only if the test fails
   unless : (size : ℕ) (t : Bool) (f g : Front) → IsFrontOf size P f → (t ≡ false → IsFrontOf size P g) → IsFrontOf size P (cond t f g)
   unless size t f g h k = cond_both t f g (IsFrontOf size P) (λ _. h) k
 
@@ -233,7 +233,7 @@ module _ {P : Type 0} (jis0208 : List ℕ) (checked : P → AreScalars jis0208) 
       front_of-cond _ (not (is_in_range 0x21 0x7E b)) _ _ (λ _. bad (t ∷ rest))
       (front_of-cond _ (is_in_range 0x21 0x7E t) _ _ (λ _. front_of-reads_or _ 2 _ _ (omega arith) (omega arith) (omega arith) (give-idx jis0208 checked _) two) two)
 
--- its fronts have one byte or two
+-- both fronts have at most two bytes
 short_cond : (t : Bool) (f g : Front) → front_length f ≤ 2 → front_length g ≤ 2 → front_length (cond t f g) ≤ 2
 short_cond true f g h k = h
 short_cond false f g h k = k

@@ -1,4 +1,5 @@
--- The codes of GB18030 and GBK decode to their scalars, and those of private-use rows to the scalars of the rows' bytes.
+-- The codes of GB18030 and GBK decode to their scalars. The codes of private-use rows decode to the scalars of the
+-- rows' bytes.
 use Rattle.std.proofs.Common.{◌≡◌, ℕ, ◌+◌, ◌-◌, ◌*◌, ◌/◌, ◌%◌, ◌<◌, ◌≤◌, List, [], ◌∷◌, length, get_or, Bool, true}
 use Rattle.std.proofs.Common.{false, cond, not, ◌||◌, ◌==◌, nat_lt, Option, Some, None, option_map, option_to_list, refl, sym, ◌∙◌, arith, if◌then◌else◌, eqb-true}
 use Rattle.std.proofs.lemmas.Bool.{false≢true}
@@ -56,9 +57,9 @@ pair_decodes index ranges c bytes short h =
     let m = mapped gb18030_pair_bytes (gb18030_pointer_of index c) bytes h in
     two_bytes (gb18030_front index ranges) _ _ c bytes m.2 (λ more. pair_back index ranges m.0 c more short (leads_back every_pointer index c _ (first-taken every_pointer index c) m.0 m.1))
 
--- ---- four bytes
+-- ---- four-byte codes
 
--- the four parts of a pointer make it up
+-- the four parts of a pointer add up to the pointer
 parts_of_pointer : (p : ℕ) → 12600 * (p / 12600) + 1260 * (p % 12600 / 1260) + 10 * (p % 1260 / 10) + p % 10 ≡ p
 parts_of_pointer p = omega arith
 
@@ -89,11 +90,11 @@ four_decodes index ranges c bytes h =
 
 -- ---- private-use rows
 
--- what is known of the rows of accepted indexes: they are for private use, and have leads and trails
+-- the facts about the rows of accepted indexes: private-use scalars, with leads and trails
 pub record AreGoodRows (pua : List (ℕ × ℕ × ℕ)) : Type 0 where
   pub each : (c lead trail : ℕ) → gb18030_pua_of pua c ≡ Some (lead, trail) → (is_row_scalar c ≡ true) × (are_row_bytes lead trail ≡ true)
 
--- the scalar of a lead and a trail that have one
+-- if a lead and a trail have a scalar, they decode to it
 pub pair_has : (index : List ℕ) (lead trail c : ℕ) → is_empty (gb18030_scalars index lead trail) ≡ false
     → gb18030_scalars index lead trail ≡ get_or (gb18030_scalars index lead trail) 0 c ∷ []
 pair_has index lead trail c h = by_tests (is_in_range 0x40 0x7E trail) (is_in_range 0x80 0xFE trail) h
@@ -121,7 +122,7 @@ row_back index ranges lead trail c more bytes gives =
     let no_digit : is_ascii_digit trail ≡ false = grind (arith, nat_tests) in
     rw (lead_ascii, not_80, is_one, no_digit, gives) refl
 
--- a scalar that is no fold has a row that gives it, or none
+-- a scalar that is no fold has no row, or a row that decodes to it
 pub no_private_use_fold : (index : List ℕ) (pua : List (ℕ × ℕ × ℕ)) (c : ℕ) → is_private_use_fold index pua c ≡ false
     → (private_use_scalar index pua c ≡ c) × (has_lost_row index pua c ≡ false)
 no_private_use_fold index pua c h = by_row (gb18030_pua_of pua c) h
@@ -152,7 +153,7 @@ no_private_use_fold index pua c h = by_row (gb18030_pua_of pua c) h
 -- ---- the codes
 
 module _ (index : List ℕ) (ranges : List (ℕ × ℕ)) (pua : List (ℕ × ℕ × ℕ)) (short : length index ≤ 23940) (rows : AreGoodRows pua) where
-  -- a scalar that is not for private use has no row
+  -- a scalar outside private use has no row
   no_row : (c : ℕ) → is_row_scalar c ≡ false → private_use_scalar index pua c ≡ c
   no_row c h = by_row (gb18030_pua_of pua c) refl
     where
@@ -173,7 +174,7 @@ module _ (index : List ℕ) (ranges : List (ℕ × ℕ)) (pua : List (ℕ × ℕ
       let s = get_or (gb18030_scalars index lead trail) 0 c in
       two_bytes (gb18030_front index ranges) lead trail s bytes (cc) (λ more. row_back index ranges lead trail s more (rows.each c lead trail e).1 (pair_has index lead trail c kept))
 
-  -- by the rows, then by the index, and then by what comes after both
+  -- the code comes from the rows, then from the index, then from `other`
   pair_or : (c : ℕ) (bytes : List ℕ) (other : Option (List ℕ)) → has_lost_row index pua c ≡ false
       → (other ≡ Some bytes → Decodes (gb18030_front index ranges) bytes c)
       → option_or (gb18030_pair_code pua index c) other ≡ Some bytes → Decodes (gb18030_front index ranges) bytes (private_use_scalar index pua c)

@@ -1,4 +1,4 @@
--- Laws of whole lists.
+-- Laws of the events of whole lists.
 use Rattle.std.proofs.Common.{◌≡◌, ◌∙◌, ℕ, List, [], ◌∷◌, ◌++◌, length, drop, refl, sym, ap, true}
 use Rattle.legacy_base.specs.Events.{shift}
 use Rattle.legacy_base.specs.Fronts.{Front, front_length, front_events, cut}
@@ -41,7 +41,7 @@ unfolding events_of cut replacement_events utf16_events units_of has_odd_byte un
 none_of_nothing (replacement true) = refl
 none_of_nothing _ = refl
 
--- nothing may always be held back, and rests
+-- an empty list may always be held back, and rests
 pub may_none : (g : Grammar) → may_hold g [] ≡ true
 may_none user_defined = refl
 may_none _ = refl

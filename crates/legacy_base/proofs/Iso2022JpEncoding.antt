@@ -1,5 +1,5 @@
--- A text in ISO-2022-JP, scalar by scalar: the escape to the mode of the first one, its own bytes, and then the rest as
--- from that mode.
+-- The events of a text in ISO-2022-JP, scalar by scalar: the escape to the scalar's mode, its own bytes, and then the
+-- rest of the text from that mode.
 use Rattle.std.proofs.Common.{◌≡◌, ◌∙◌, ℕ, ◌/◌, ◌%◌, ◌+◌, ◌≤◌, List, [], ◌∷◌, ◌++◌, map, refl, sym, ap}
 use Rattle.std.proofs.Common.{arith, append_assoc, Bool, true, false, ◌||◌, ◌&&◌, not, Some, None, Option, cond, eqb, option_map, is_none}
 use Rattle.std.specs.Char.{is_ascii}
@@ -12,7 +12,7 @@ use Rattle.legacy_base.specs.EncoderProfile.{EncoderMode, in_ascii, in_roman, in
 use Rattle.legacy_base.specs.Iso2022Jp.{is_mode_control, iso_2022_jp_pointer_of, iso_2022_jp_pair, iso_2022_jp_code, iso_2022_jp_reported, is_roman_scalar, is_pair}
 use Rattle.legacy_base.specs.Iso2022Jp.{is_two_byte_scalar, keeps_mode, roman_or_ascii, settled_mode, mode_behind, escape_to, escape_between, iso_2022_jp_text_events}
 
--- ---- the rules of a code, with the tests of a scalar c
+-- ---- the rules for the code of a scalar c
 
 abbrev by_rules : ℕ → (control is_ascii_byte yen overline : Bool) → Option (List ℕ) → Option (List ℕ)
 by_rules c control is_ascii_byte yen overline pair =
@@ -58,7 +58,7 @@ escape_between-other in_two_byte in_ascii n = refl
 escape_between-other in_two_byte in_roman n = refl
 escape_between-other in_two_byte in_two_byte n = absurd (n refl)
 
--- the mode behind one scalar, by what it says of the mode
+-- the mode after one scalar, by three tests of the scalar
 abbrev pub mode_by : (pair keeps romans : Bool) → EncoderMode → EncoderMode
 mode_by pair keeps romans mode = cond pair in_two_byte (cond keeps (roman_or_ascii mode) (cond romans in_roman in_ascii))
 
@@ -68,7 +68,7 @@ mode_by-twice false true romans mode = roman_or_ascii-twice mode
 mode_by-twice false false romans mode = refl
 
 module _ (jis0208 katakana_index : List ℕ) where
-  -- a scalar that is written as a pair says something of the mode, and it is no scalar of Roman mode
+  -- a scalar written as a pair determines the mode, and is not a scalar of Roman mode
   pair_settles : (c : ℕ) → is_two_byte_scalar jis0208 katakana_index c ≡ true
       → (keeps_mode jis0208 katakana_index c ≡ false) × (is_roman_scalar c ≡ false)
   unfolding iso_2022_jp_code
@@ -95,7 +95,7 @@ module _ (jis0208 katakana_index : List ℕ) where
       go true h = let settles = pair_settles c h in rw (settles.0, settles.1) refl
       go false h = sym (settled_mode-settled mode (c ∷ before))
 
-  -- the settled mode, and the mode, behind two parts are those behind the second from the mode behind the first
+  -- the mode after two parts is the mode after the second, begun in the mode after the first
   settled_mode-append : (mode : EncoderMode) (second first : List ℕ)
       → settled_mode jis0208 katakana_index mode (second ++ first)
       ≡ settled_mode jis0208 katakana_index (mode_behind jis0208 katakana_index mode first) second
@@ -110,7 +110,7 @@ module _ (jis0208 katakana_index : List ℕ) where
   mode_behind-append mode [] first = refl
   mode_behind-append mode (c ∷ second) first = rw (settled_mode-append mode (c ∷ second) first) refl
 
-  -- a text goes on as from the mode behind what was before
+  -- the events after a first part are those of a text that begins in the mode after that part
   pub text_events-behind : (mode : EncoderMode) (near far text : List ℕ) (ended : Bool)
       → iso_2022_jp_text_events jis0208 katakana_index mode (near ++ far) text ended
       ≡ iso_2022_jp_text_events jis0208 katakana_index (mode_behind jis0208 katakana_index mode far) near text ended
@@ -122,11 +122,11 @@ module _ (jis0208 katakana_index : List ℕ) where
 
   -- ---- one scalar
 
-  -- the mode behind the scalar c
+  -- the mode after the scalar c
   abbrev pub mode_for : EncoderMode → ℕ → EncoderMode
   mode_for mode c = mode_behind jis0208 katakana_index mode (c ∷ [])
 
-  -- what the scalar gives by itself
+  -- the events of the scalar itself, without an escape
   abbrev pub own_events : ℕ → List EncodeEvent
   own_events c = code_events (iso_2022_jp_reported c) (iso_2022_jp_code jis0208 katakana_index c)
 
@@ -139,7 +139,7 @@ module _ (jis0208 katakana_index : List ℕ) where
   unfolding mode_behind settled_mode
   mode_for-by mode c = refl
 
-  -- the scalar stays in the mode that it asked for
+  -- writing a scalar twice leaves the same mode as writing it once
   pub mode_for-twice : (mode : EncoderMode) (c : ℕ) → mode_for (mode_for mode c) c ≡ mode_for mode c
   mode_for-twice mode c =
       let pair = is_two_byte_scalar jis0208 katakana_index c in
@@ -150,7 +150,7 @@ module _ (jis0208 katakana_index : List ℕ) where
   unfolding mode_behind
   mode_behind-nothing mode = refl
 
-  -- a scalar, and then the rest as from the mode behind it
+  -- the events of a scalar, and then those of the rest in the mode after it
   pub text_events-scalar : (mode : EncoderMode) (c : ℕ) (more : List ℕ) (ended : Bool)
       → text_events mode (c ∷ more) ended
       ≡ map Byte (escape_between mode (mode_for mode c)) ++ (own_events c ++ text_events (mode_for mode c) more ended)
@@ -160,7 +160,7 @@ module _ (jis0208 katakana_index : List ℕ) where
       ∙ append_assoc (map Byte (escape_between mode (mode_for mode c))) (own_events c) (iso_2022_jp_text_events jis0208 katakana_index mode (c ∷ []) more ended)
       ∙ ap (λ l. map Byte (escape_between mode (mode_for mode c)) ++ (own_events c ++ l)) (text_events-behind mode [] (c ∷ []) more ended)
 
-  -- a scalar that is written in the mode at hand
+  -- a scalar that is written in the current mode needs no escape
   pub text_events-here : (mode : EncoderMode) (c : ℕ) → mode_for mode c ≡ mode → (more : List ℕ) (ended : Bool)
       → text_events mode (c ∷ more) ended ≡ own_events c ++ text_events mode more ended
   text_events-here mode c e more ended =
@@ -168,7 +168,7 @@ module _ (jis0208 katakana_index : List ℕ) where
       ∙ ap (λ m. map Byte (escape_between mode m) ++ (own_events c ++ text_events m more ended)) e
       ∙ ap (λ l. map Byte l ++ (own_events c ++ text_events mode more ended)) (escape_between-same mode)
 
-  -- a scalar that is written in another mode: the escape to it, and then the same text as from that mode
+  -- a scalar that is written in another mode: the escape to it, and then the same text begun in that mode
   pub text_events-escape : (mode new : EncoderMode) (c : ℕ) → mode_for mode c ≡ new → (mode ≡ new → ⊥) → (more : List ℕ) (ended : Bool)
       → text_events mode (c ∷ more) ended ≡ map Byte (escape_to new) ++ text_events new (c ∷ more) ended
   text_events-escape mode new c e n more ended =
@@ -188,9 +188,9 @@ module _ (jis0208 katakana_index : List ℕ) where
   unfolding iso_2022_jp_text_events
   text_events-open mode = refl
 
-  -- ---- what a scalar is, by the tests of its rules
+  -- ---- the mode and the code of a scalar, by the tests of the rules
 
-  -- the scalar c, in the mode, asks for a mode and has a code
+  -- the scalar c, after the given mode, is written in `new` and has the code `own`
   pub record IsWritten (mode : EncoderMode) (c : ℕ) (new : EncoderMode) (own : Option (List ℕ)) : Type 0 where
     pub mode_is : mode_for mode c ≡ new
     pub code_is : iso_2022_jp_code jis0208 katakana_index c ≡ own
@@ -254,7 +254,7 @@ module _ (jis0208 katakana_index : List ℕ) where
     code_is = k;
   }
 
-  -- ---- how long codes are
+  -- ---- the lengths of codes
 
   if_short : (t : Bool) (a b : Option (List ℕ)) (n : ℕ) → code_length a ≤ n → code_length b ≤ n → code_length (cond t a b) ≤ n
   if_short true a b n p q = p

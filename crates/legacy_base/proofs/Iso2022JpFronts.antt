@@ -1,5 +1,5 @@
--- What stands at the front of a list gives its own events, and the rest of the list gives the others: one equation
--- for each kind of front. Together they read a list from first to last, though it was cut before any mode was known.
+-- One equation for each kind of front: the events of a list are those of its first front, and then those of the rest.
+-- With these a list is read from first to last, although the definition cuts it at escapes before any mode is known.
 use Rattle.std.proofs.Common.{◌≡◌, ℕ, suc, ◌+◌, Bool, true, false, cond, Option, Some, None, List, [], ◌∷◌, ◌++◌, length, refl, sym, ap, zero-add, one-add, append_assoc, subst, arith}
 use Rattle.std.specs.Prelude.{◌==◌, ◌&&◌, is_some}
 use Rattle.std.proofs.lemmas.Bool.{eqb-true, ne_eqb, cond_both}
@@ -13,12 +13,12 @@ use Rattle.legacy_base.proofs.Shifts.{shift-append, shift-shift, shift-zero}
 use Rattle.legacy_base.proofs.Cuts.{cut_from_zero}
 use Rattle.legacy_base.proofs.Iso2022JpParts.{first_part, later_parts, events-by_parts, no_escape, parts_events-at}
 
--- the end of a list
+-- the end of the list
 pub step_end : (jis0208 : List ℕ) (mode : Mode) → iso_2022_jp_events jis0208 mode [] ≡ []
 unfolding iso_2022_jp_events parts_of parts_events part_events escape_events escape_length cut
 step_end jis0208 mode = refl
 
--- a form of one byte
+-- a front of one byte
 pub step_one : (jis0208 : List ℕ) (mode : Mode) (b : ℕ) (more : List ℕ) (f : Front)
     → (b == esc) ≡ false
     → iso_2022_jp_front jis0208 mode b (first_part more) ≡ f
@@ -29,7 +29,7 @@ step_one jis0208 mode b more f plain is one =
     rw (events-by_parts jis0208 mode (b ∷ more), events-by_parts jis0208 mode more, plain, is, one)
     (rw (cut_from_zero (iso_2022_jp_front jis0208 mode) 0 1 (first_part more), shift-append, shift-shift, append_assoc, one-add))
 
--- a form of two bytes
+-- a front of two bytes
 pub step_two : (jis0208 : List ℕ) (mode : Mode) (b t : ℕ) (more : List ℕ) (f : Front)
     → (b == esc) ≡ false
     → (t == esc) ≡ false
@@ -47,11 +47,11 @@ step_two jis0208 mode b t more f plain plain_t is two =
 no_third : (a : ℕ) → escape_mode a esc ≡ None
 no_third a = grind (arith, nat_tests)
 
--- the second and the third byte of a valid escape are no escape bytes
+-- the second and third bytes of a valid escape are not escape bytes
 other_byte : (mode_by : ℕ → Option Mode) (b : ℕ) (mode : Mode) → mode_by esc ≡ None → mode_by b ≡ Some mode → (b == esc) ≡ false
 other_byte mode_by b mode none some = ne_eqb b esc (λ e. let same = ap mode_by e in cc)
 
--- a part begins with the valid escape that the list begins with
+-- a list and its first part begin with the same valid escape, if any
 part_mode-first : (rest : List ℕ) → part_mode (esc ∷ first_part rest) ≡ part_mode (esc ∷ rest)
 unfolding part_mode
 part_mode-first [] = refl
@@ -60,7 +60,7 @@ part_mode-first (a ∷ b ∷ more) =
     cond_both (a == esc) [] (a ∷ first_part (b ∷ more)) (λ l. part_mode (esc ∷ l) ≡ escape_mode a b) (λ h. rw (eqb-true a esc h))
     (λ _. cond_both (b == esc) [] (b ∷ first_part more) (λ l. part_mode (esc ∷ a ∷ l) ≡ escape_mode a b) (λ k. rw (eqb-true b esc k) (sym (no_third a))) (λ _. refl))
 
--- a valid escape has nothing behind it but the next valid escape, where the list goes on with one
+-- the test for a valid escape directly before another one, by the bytes after the first
 bare-first : (a b : ℕ) (more : List ℕ)
     → (length (esc ∷ a ∷ b ∷ first_part more) == 3 && begins_valid (later_parts more)) ≡ is_some (part_mode more)
 unfolding part_mode
@@ -76,7 +76,7 @@ bare-first a b (x ∷ rest) = by_test (x == esc) refl
         subst P (sym (eqb-true x esc h)) (ap (λ m. is_some m) (part_mode-first rest))
     by_test false h = rw (no_escape x rest h, ne_eqb (suc (suc (suc (suc (length (first_part rest)))))) 3 (λ e. omega arith))
 
--- an escape byte that begins no valid escape: what follows it is read in the old mode
+-- an escape byte that begins no valid escape: the bytes after it are read in the old mode
 pub step_no_escape : (jis0208 : List ℕ) (mode : Mode) (rest : List ℕ)
     → part_mode (esc ∷ rest) ≡ None
     → iso_2022_jp_events jis0208 mode (esc ∷ rest) ≡ Bad 0 1 ∷ shift 1 (iso_2022_jp_events jis0208 mode rest)
@@ -90,7 +90,7 @@ pub escape_ahead : (a b : ℕ) (mode : Mode) (body : List ℕ) → escape_mode a
 unfolding part_mode
 escape_ahead a b mode body h = h
 
--- a valid escape: what follows it is read in its mode
+-- a valid escape: the bytes after it are read in its mode
 pub step_escape : (jis0208 : List ℕ) (mode new_mode : Mode) (a b : ℕ) (more : List ℕ)
     → escape_mode a b ≡ Some new_mode
     → iso_2022_jp_events jis0208 mode (esc ∷ a ∷ b ∷ more)

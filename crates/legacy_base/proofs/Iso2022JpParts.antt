@@ -1,5 +1,5 @@
--- The parts of a list that is cut before its escape bytes: the front up to the first escape byte, and the parts
--- behind it. The events of a list, by these two.
+-- The parts of a list that is cut before its escape bytes: the bytes up to the first escape byte, and the parts after
+-- them. The events of a list are given by these two.
 use Rattle.std.proofs.Common.{◌≡◌, ℕ, ◌+◌, Bool, true, false, cond, None, List, [], ◌∷◌, ◌++◌, drop, length, refl, add_assoc, zero-add, add-zero}
 use Rattle.std.specs.Prelude.{◌==◌, ◌&&◌, unwrap_or, is_some}
 use Rattle.std.proofs.lemmas.Bool.{cond_both}
@@ -20,7 +20,7 @@ abbrev pub later_parts : List ℕ → List (List ℕ)
 later_parts [] = []
 later_parts (b ∷ bytes) = cond (b == esc) ((b ∷ first_part bytes) ∷ later_parts bytes) (later_parts bytes)
 
--- the list cut before its escape bytes is these two
+-- the list cut before its escape bytes consists of these two
 pub parts_of-is : (bytes : List ℕ) → parts_of bytes ≡ first_part bytes ∷ later_parts bytes
 unfolding parts_of
 parts_of-is [] = refl
@@ -36,7 +36,7 @@ no_escape b [] h = refl
 no_escape b (a ∷ []) h = refl
 no_escape b (a ∷ c ∷ part) h = rw h
 
--- the first part has no escape, valid or not
+-- the first part begins with no escape, valid or not
 first_plain : (place : ℕ) (bytes : List ℕ) (next : List (List ℕ)) →
     (part_mode (first_part bytes) ≡ None) × (escape_length (first_part bytes) ≡ 0) × (escape_events place (first_part bytes) next ≡ [])
 unfolding part_mode escape_length escape_events
@@ -45,7 +45,7 @@ first_plain place (b ∷ bytes) next =
     cond_both (b == esc) [] (b ∷ first_part bytes) (λ l. (part_mode l ≡ None) × (escape_length l ≡ 0) × (escape_events place l next ≡ [])) (λ _. (refl, refl, refl))
     (λ h. let none = no_escape b (first_part bytes) h in (none, rw (none, h), rw (none, h)))
 
--- the first part is its body, in the mode in which the list begins
+-- the first part is all body, in the mode in which the list begins
 first_events : (jis0208 : List ℕ) (mode : Mode) (place : ℕ) (bytes : List ℕ) (next : List (List ℕ))
     → parts_events jis0208 mode place (first_part bytes ∷ next)
     ≡ cut (iso_2022_jp_front jis0208 mode) 0 place (first_part bytes)
@@ -54,7 +54,7 @@ unfolding parts_events part_events
 first_events jis0208 mode place bytes next =
     let plain = first_plain place bytes next in rw (plain.0, plain.2, plain.1, add-zero)
 
--- what parts give that stand k places further on
+-- the events of parts that begin k places later are shifted by k
 escape_events-shift : (k place : ℕ) (part : List ℕ) (next : List (List ℕ))
     → escape_events (k + place) part next ≡ shift k (escape_events place part next)
 unfolding escape_events
@@ -86,7 +86,7 @@ pub parts_events-at : (jis0208 : List ℕ) (mode : Mode) (place : ℕ) (parts : 
     → parts_events jis0208 mode place parts ≡ shift place (parts_events jis0208 mode 0 parts)
 parts_events-at jis0208 mode place parts = rw (← (parts_events-shift jis0208 mode place 0 parts), add-zero)
 
--- the events of a list: its first part's, read in the mode, and those of the parts behind
+-- the events of a list: those of its first part in the given mode, and then those of the later parts
 pub events-by_parts : (jis0208 : List ℕ) (mode : Mode) (bytes : List ℕ)
     → iso_2022_jp_events jis0208 mode bytes
     ≡ cut (iso_2022_jp_front jis0208 mode) 0 0 (first_part bytes)

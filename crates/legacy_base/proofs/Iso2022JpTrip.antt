@@ -1,5 +1,5 @@
--- What an ISO-2022-JP encoder writes decodes to its text: the escapes give nothing, and each code is read in the mode
--- in which it was written.
+-- The output of an ISO-2022-JP encoder decodes to its text. The escapes give no events, and each code is read in the
+-- mode in which it was written.
 use Rattle.std.proofs.Common.{◌≡◌, ℕ, ◌+◌, ◌-◌, ◌*◌, ◌/◌, ◌%◌, ◌<◌, List, [], ◌∷◌, ◌++◌, map, length, Bool, true, false}
 use Rattle.std.proofs.Common.{cond, ◌||◌, ◌&&◌, ◌==◌, Option, Some, None, is_some, option_and_then, inl, inr, refl, sym, ap, ◌∙◌, append_assoc, length-append, arith}
 use Rattle.std.proofs.lemmas.Bool.{or_parts, cases_eq, true≢false}
@@ -29,7 +29,7 @@ use Rattle.legacy_base.proofs.Iso2022JpFronts.{step_one, step_two, step_escape}
 use Rattle.legacy_base.proofs.Iso2022JpEncoding.{mode_for, mode_for-by, own_events, text_events, text_events-scalar, text_events-end, IsWritten}
 use Rattle.legacy_base.proofs.Iso2022JpEncoding.{at_control, at_special, at_neutral, at_yen, at_overline, at_pair, at_none}
 
--- the mode of a decoder in which an encoder's mode is read
+-- the decoder's mode for an encoder's mode
 abbrev pub read_in : EncoderMode → Mode
 read_in in_ascii = ascii
 read_in in_roman = roman
@@ -41,7 +41,7 @@ plain_start b [] h = refl
 plain_start b (x ∷ []) h = refl
 plain_start b (x ∷ y ∷ bytes) h = rw h refl
 
--- a list begins with a valid escape where a part would
+-- `part_mode` and `is_whole_escape` agree on which lists begin with a valid escape
 escape_begins : (bytes : List ℕ) → is_some (part_mode bytes) ≡ is_whole_escape bytes
 unfolding part_mode
 escape_begins [] = refl
@@ -60,7 +60,7 @@ module _ (jis0208 : List ℕ) where
       step_escape jis0208 old new a b rest valid
       ∙ ap (λ t. cond t (Bad 0 3 ∷ []) [] ++ shift 3 (iso_2022_jp_events jis0208 new rest)) (escape_begins rest ∙ alone)
 
-  -- an escape from one mode to another gives nothing
+  -- an escape from one mode to another gives no events, and the rest is read in the new mode
   escape_read : (old new : EncoderMode) (rest : List ℕ) → is_whole_escape rest ≡ false
       → iso_2022_jp_events jis0208 (read_in old) (escape_between old new ++ rest)
       ≡ shift (length (escape_between old new)) (iso_2022_jp_events jis0208 (read_in new) rest)
@@ -93,7 +93,7 @@ module _ (jis0208 : List ℕ) where
   unfolding iso_2022_jp_front
   front-overline rest = refl
 
-  -- the two bytes of a pointer
+  -- the facts about the two bytes of pointer p, which decode to c
   record IsPair (p c : ℕ) : Type 0 where
     first_plain : ((p / 94 + 0x21) == esc) ≡ false
     second_plain : ((p % 94 + 0x21) == esc) ≡ false
@@ -122,7 +122,7 @@ adjacent-plain : (b : ℕ) (bytes : List ℕ) → (b == esc) ≡ false → holds
 unfolding holds_adjacent_escapes
 adjacent-plain b bytes h = rw (plain_start b bytes h) refl
 
--- a valid escape behind which no other one stands
+-- a valid escape with no other one after it
 adjacent-escape : (a b : ℕ) (rest : List ℕ) → (a == esc) ≡ false → (b == esc) ≡ false → is_whole_escape rest ≡ false
     → holds_adjacent_escapes (esc ∷ a ∷ b ∷ rest) ≡ holds_adjacent_escapes rest
 unfolding holds_adjacent_escapes
@@ -145,7 +145,7 @@ escape_adjacent in_two_byte in_ascii rest h = adjacent-escape 0x28 0x42 rest ref
 escape_adjacent in_two_byte in_roman rest h = adjacent-escape 0x28 0x4A rest refl refl h
 
 module _ (jis0208 katakana_index : List ℕ) where
-  -- own bytes in the mode that give c: they begin no escape, and they hold none
+  -- bytes in a mode that decode to c, and neither begin with an escape nor contain one
   record OwnRead (mode : EncoderMode) (c : ℕ) (bytes : List ℕ) : Type 0 where
     plain : (more : List ℕ) → is_whole_escape (bytes ++ more) ≡ false
     gives : (more : List ℕ) → iso_2022_jp_events jis0208 (read_in mode) (bytes ++ more) ≡ Scalar c ∷ shift (length bytes) (iso_2022_jp_events jis0208 (read_in mode) more)
@@ -176,7 +176,7 @@ module _ (jis0208 katakana_index : List ℕ) where
       by_mode in_two_byte p q = own_byte in_ascii c c p.1 (λ rest. front-ascii jis0208 c rest a p.0)
       by_mode in_roman p q = own_byte in_roman c c p.1 (λ rest. front-roman jis0208 c rest a p.0 q.0 q.1)
 
-  -- a scalar whose mode and code are known
+  -- a scalar with a known mode and code
   own_written : (mode new : EncoderMode) (c scalar : ℕ) (own bytes : List ℕ) → IsWritten jis0208 katakana_index mode c new (Some own)
       → iso_2022_jp_code jis0208 katakana_index c ≡ Some bytes → OwnRead new scalar own → OwnRead (mode_for jis0208 katakana_index mode c) scalar bytes
   own_written mode new c scalar own bytes w is o = let same = same_code (sym w.code_is ∙ is) in rw (w.mode_is, ← same) o
@@ -184,11 +184,11 @@ module _ (jis0208 katakana_index : List ℕ) where
       same_code : Some own ≡ Some bytes → own ≡ bytes
       same_code h = cc
 
-  -- and one without a code
+  -- a scalar known to have no code
   no_code : (mode new : EncoderMode) (c : ℕ) (bytes : List ℕ) → IsWritten jis0208 katakana_index mode c new None → iso_2022_jp_code jis0208 katakana_index c ≡ Some bytes → ⊥
   no_code mode new c bytes w is = let none = sym w.code_is ∙ is in cc
 
-  -- the scalar that c is looked up as, and its pointer
+  -- the scalar that is looked up for c, and its pointer
   record IsLookedUp (c p : ℕ) : Type 0 where
     scalar : ℕ
     fold : iso_2022_jp_fold katakana_index c ≡ Some scalar
@@ -201,11 +201,11 @@ module _ (jis0208 katakana_index : List ℕ) where
       by_fold None e h = cc
       by_fold (Some scalar) e h = record { scalar = scalar; fold = e; pointer = h }
 
-  -- what c is read as
+  -- the scalar that the code of c decodes to
   abbrev pub own_scalar : ℕ → ℕ
   own_scalar c = read_as (iso_2022_jp jis0208 katakana_index) c
 
-  -- what is no fold stands for itself
+  -- a scalar that is no fold decodes to itself
   pub no_fold : (c : ℕ) → is_fold (iso_2022_jp jis0208 katakana_index) c ≡ false → own_scalar c ≡ c
   no_fold c h =
       let p = or_parts (c == 0x2212) (is_in_range 0xFF61 0xFF9F c) h in
@@ -214,7 +214,7 @@ module _ (jis0208 katakana_index : List ℕ) where
   pub ascii_stands : (c : ℕ) → is_ascii c ≡ true → own_scalar c ≡ c
   ascii_stands c h = let plain : is_fold (iso_2022_jp jis0208 katakana_index) c ≡ false = grind (arith, nat_tests) in no_fold c plain
 
-  -- a scalar whose code these bytes are
+  -- the code of a scalar decodes to `own_scalar`, in the scalar's mode
   own_read : (mode : EncoderMode) (c : ℕ) (bytes : List ℕ)
       → iso_2022_jp_code jis0208 katakana_index c ≡ Some bytes → OwnRead (mode_for jis0208 katakana_index mode c) (own_scalar c) bytes
   own_read mode c bytes is = by_tests (is_mode_control c) (is_ascii c) (c == 0x5C || c == 0x7E) refl refl refl
@@ -247,7 +247,7 @@ module _ (jis0208 katakana_index : List ℕ) where
           own_written mode (roman_or_ascii mode) c (own_scalar c) _ bytes (at_neutral jis0208 katakana_index mode c m a s) is (rw (ascii_stands c a) (own_neutral mode c a m s))
       by_tests false false special m a s = past_ascii m a
 
-  -- the mode that a scalar without a code asks for
+  -- the mode for a scalar without a code
   pub none_keeps : (mode : EncoderMode) (c : ℕ) → iso_2022_jp_code jis0208 katakana_index c ≡ None → mode_for jis0208 katakana_index mode c ≡ roman_or_ascii mode
   none_keeps mode c none = mode_for-by jis0208 katakana_index mode c ∙ rw none (kept (is_neutral_scalar c))
     where
@@ -261,15 +261,15 @@ module _ (jis0208 katakana_index : List ℕ) where
   abbrev pub coded_here : List ℕ → List ℕ
   coded_here text = coded (iso_2022_jp_code jis0208 katakana_index) text
 
-  -- what is read of a text
+  -- the scalars that the text decodes to
   abbrev pub text_back : List ℕ → List ℕ
   text_back text = map own_scalar (coded_here text)
 
-  -- the bytes of a text that begins in the mode
+  -- the bytes of a text that begins in the given mode
   abbrev pub text_bytes : EncoderMode → List ℕ → List ℕ
   text_bytes mode text = bytes_of (text_events jis0208 katakana_index mode text true)
 
-  -- what a scalar's escape, its own bytes and those behind make up, by its code
+  -- a scalar's escape, its own bytes and the bytes after it, by its code
   abbrev pub scalar_bytes : EncoderMode → EncoderMode → Option (List ℕ) → List ℕ → List ℕ
   scalar_bytes mode new None behind = escape_between mode new ++ behind
   scalar_bytes mode new (Some own) behind = escape_between mode new ++ (own ++ behind)
@@ -292,9 +292,9 @@ module _ (jis0208 katakana_index : List ℕ) where
   pub text_bytes-end : (mode : EncoderMode) → text_bytes mode [] ≡ escape_between mode in_ascii
   text_bytes-end mode = ap bytes_of (text_events-end jis0208 katakana_index mode) ∙ bytes_of-bytes (escape_between mode in_ascii)
 
-  -- ---- what begins with a valid escape, and what does not
+  -- ---- lists that begin with a valid escape, and lists that do not
 
-  -- a list that begins with no valid escape, nor does it so with what stands behind it, if that does not
+  -- if appending `more` makes no valid escape at the beginning of `bytes`, nor does it after an escape before them
   begins_with_none : (old new : EncoderMode) (bytes more : List ℕ)
       → (is_whole_escape bytes ≡ false → is_whole_escape (bytes ++ more) ≡ false)
       → is_whole_escape (escape_between old new ++ bytes) ≡ false → is_whole_escape ((escape_between old new ++ bytes) ++ more) ≡ false
@@ -331,15 +331,15 @@ module _ (jis0208 katakana_index : List ℕ) where
           let behind = text_bytes (mode_for jis0208 katakana_index mode c) text in
           begins_with_none mode _ (own ++ behind) more (λ _. rw (append_assoc own behind more) ((own_read mode c own e).plain (behind ++ more))) h
 
-  -- ---- no two escapes that meet
+  -- ---- no two adjacent escapes
 
-  -- a list without such has none at its end
+  -- if a list has no adjacent escapes, neither has its end
   pub apart_behind : (front bytes : List ℕ) → holds_adjacent_escapes (front ++ bytes) ≡ false → holds_adjacent_escapes bytes ≡ false
   unfolding holds_adjacent_escapes
   apart_behind [] bytes h = h
   apart_behind (b ∷ front) bytes h = apart_behind front bytes (or_parts _ (holds_adjacent_escapes (front ++ bytes)) h).1
 
-  -- behind an escape there is no other
+  -- no second escape follows an escape
   pub escape_apart : (old new : EncoderMode) (bytes : List ℕ) → (old ≡ new → ⊥) → holds_adjacent_escapes (escape_between old new ++ bytes) ≡ false → is_whole_escape bytes ≡ false
   unfolding holds_adjacent_escapes
   escape_apart in_ascii in_ascii bytes n h = absurd (n refl)
@@ -352,21 +352,21 @@ module _ (jis0208 katakana_index : List ℕ) where
   escape_apart in_two_byte in_ascii bytes n h = (or_parts (is_whole_escape bytes) _ h).0
   escape_apart in_two_byte in_roman bytes n h = (or_parts (is_whole_escape bytes) _ h).0
 
-  -- ---- what is read
+  -- ---- decoding
 
-  -- What a text's bytes give that were written from the mode: what is read of it, and then what is behind, which is read
-  -- in ASCII mode.
+  -- The events of the bytes of a text that began in the given mode, with more bytes after them. They are the scalars
+  -- that the text decodes to, and then the events of those bytes, read in ASCII mode.
   abbrev pub IsTextRead : EncoderMode → List ℕ → List ℕ → List ℕ → Type 0
   IsTextRead mode back bytes more =
       iso_2022_jp_events jis0208 (read_in mode) (bytes ++ more) ≡ map Scalar back ++ shift (length bytes) (iso_2022_jp_events jis0208 ascii more)
 
-  -- c, and then what is read, behind n bytes
+  -- the events of c, and then those of the bytes after its n bytes
   scalar_then : (n m c : ℕ) (back : List ℕ) (events : List DecodeEvent)
       → Scalar c ∷ shift n (map Scalar back ++ shift m events) ≡ map Scalar (c ∷ back) ++ shift (n + m) events
   scalar_then n m c back events =
       rw (shift-append n (map Scalar back) (shift m events), shift-scalars n back, shift-shift n m events) refl
 
-  -- an escape, and then what is read
+  -- the events after an escape
   escape_then : (old new : EncoderMode) (back bytes more : List ℕ) → is_whole_escape (bytes ++ more) ≡ false
       → IsTextRead new back bytes more → IsTextRead old back (escape_between old new ++ bytes) more
   escape_then old new back bytes more alone read =
@@ -423,9 +423,9 @@ module _ (jis0208 katakana_index : List ℕ) where
           let read = later (apart_behind own behind (apart_behind (escape_between mode new) (own ++ behind) h)) in
           text_read-scalar mode new (own_scalar c) own (text_back text) behind more (own_read mode c own e) read
 
-  -- ---- texts of which nothing is unmappable
+  -- ---- texts without unmappable scalars
 
-  -- all their scalars have codes, and no two escapes meet
+  -- all scalars of the text have codes, and no two escapes are adjacent
   pub record IsApart (text bytes : List ℕ) : Type 0 where
     pub coded_all : coded_here text ≡ text
     pub apart : holds_adjacent_escapes bytes ≡ false

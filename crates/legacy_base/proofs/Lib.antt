@@ -1,4 +1,4 @@
--- Laws of the definitions.
+-- Laws of the definitions in specs/.
 pub mod SameUnits
 pub mod Shifts
 pub mod Cuts

@@ -1,10 +1,10 @@
--- The pointer that an encoder takes for a scalar leads a decoder back to the scalar.
+-- The pointer that an encoder uses for a scalar decodes to that scalar.
 use Rattle.std.proofs.Common.{◌≡◌, ℕ, ◌<◌, List, length, Bool, true, Option, Some, refl}
 use Rattle.std.proofs.lemmas.Bool.{ne_eqb}
 use Rattle.legacy_tables.specs.Indexes.{idx}
 use Rattle.legacy_tables.proofs.Pointers.{IsTaken, taken-within}
 
--- a pointer that may be used, lies within the index and has the scalar
+-- the pointer may be used, is within the index, and its entry is the scalar
 pub record LeadsBack (may : ℕ → Bool) (index : List ℕ) (c p : ℕ) : Type 0 where
   pub may_use : may p ≡ true
   pub has : idx index p ≡ Some c

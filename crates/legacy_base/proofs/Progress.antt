@@ -1,4 +1,4 @@
--- How what a decoder does in turn makes one whole.
+-- How `Progress` of two consecutive steps combines into one.
 use Rattle.std.proofs.Common.{◌≡◌, ◌∙◌, ℕ, ◌+◌, ◌≤◌, List, [], ◌++◌, length, drop, refl, sym, ap, arith, append_assoc, length-append, Bool, true, false, IsTrue, inl, inr}
 use Rattle.std.proofs.lemmas.List.{drop-drop, drop-append-le}
 use Rattle.legacy_base.specs.declared.results.DecodeEvent.{DecodeEvent}
@@ -16,19 +16,19 @@ use Rattle.legacy_base.proofs.Shifts.{shift-append, shift-zero, shift-shift}
 no_end : {A : Type 0} → IsTrue false → A
 no_end f = cc
 
--- nothing was done
+-- a decoder that does nothing makes progress by 0 bytes
 pub stay : (ended : Bool) (s : DecoderState) (source : List ℕ) → Progress ended s source 0 s source []
 stay ended s source = record { counts = omega arith; rest = refl; events = λ more h. sym (shift-zero _) }
 
--- what holds where less is said of what may follow holds where more is
+-- if `a` implies `b`, progress with the exception `a` implies progress with the exception `b`
 pub at_less : (a b : Bool) → (IsTrue a → IsTrue b) → (s : DecoderState) (xs : List ℕ) (n : ℕ) (t : DecoderState) (ys : List ℕ) (out : List DecodeEvent) → Progress a s xs n t ys out → Progress b s xs n t ys out
 at_less a b i s xs n t ys out h = record { counts = h.counts; rest = h.rest; events = λ more e. h.events more (λ l. e (i l)) }
 
--- what holds whatever follows holds at a last end too
+-- progress without the exception implies progress with it
 pub at_last : (ended : Bool) (s : DecoderState) (xs : List ℕ) (n : ℕ) (t : DecoderState) (ys : List ℕ) (out : List DecodeEvent) → Progress false s xs n t ys out → Progress ended s xs n t ys out
 at_last ended s xs n t ys out h = at_less false ended no_end s xs n t ys out h
 
--- a report at the end is one of a last call, with nothing unread
+-- a report at the end is made on a last call, with nothing unread
 pub end_report-last : (last : Bool) (answer : DecoderResult) (left : List ℕ) → IsTrue (may_report_end last answer left) → IsTrue last
 end_report-last last InputEmpty left h = cc
 end_report-last last OutputFull left h = cc
@@ -41,7 +41,7 @@ end_report-empty last OutputFull left h = cc
 end_report-empty true (Malformed a b) left h = h
 end_report-empty false (Malformed a b) left h = cc
 
--- with more source behind it
+-- the same progress if more source follows
 pub behind : (s : DecoderState) (xs : List ℕ) (n : ℕ) (t : DecoderState) (ys : List ℕ) (out : List DecodeEvent) (zs : List ℕ) →
     Progress false s xs n t ys out → Progress false s (xs ++ zs) n t (ys ++ zs) out
 behind s xs n t ys out zs h = record {
@@ -54,11 +54,11 @@ behind s xs n t ys out zs h = record {
       ∙ ap (λ l. out ++ shift n (events_of t.grammar (t.held ++ l))) (sym (append_assoc ys zs more));
 }
 
--- what is behind the first events begins with the second ones
+-- a list of events that begins with `one` and then `two` begins with `two` after `one`
 behind_first : (m : ℕ) (one two items : List DecodeEvent) → BeginsWith (one ++ shift m items) (one ++ shift m two) → BeginsWith items two
 behind_first m one two items b = begins_back m two items (begins_later one (shift m two) (shift m items) b)
 
--- one after the other
+-- one step after another
 pub after_that : (ended : Bool) (s : DecoderState) (xs : List ℕ) (m : ℕ) (t : DecoderState) (ys : List ℕ) (one : List DecodeEvent) (n : ℕ) (u : DecoderState) (zs : List ℕ) (two : List DecodeEvent) →
     Progress ended s xs m t ys one → Progress ended t ys n u zs two → Progress ended s xs (m + n) u zs (one ++ shift m two)
 after_that ended s xs m t ys one n u zs two a b = record {

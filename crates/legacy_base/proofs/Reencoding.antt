@@ -1,4 +1,4 @@
--- What was encoded decodes to a text that is encoded as the same bytes.
+-- The text that encoded bytes decode to is encoded as the same bytes.
 use Rattle.std.proofs.Common.{◌≡◌, ◌∙◌, ℕ, suc, List, [], ◌∷◌, ◌++◌, map, refl, sym, ap, arith, All}
 use Rattle.std.proofs.Common.{Bool, true, false, cond, ◌==◌, Option, Some, None, is_some, option_map, eqb-true}
 use Rattle.std.proofs.lemmas.Bool.{true≢false}
@@ -24,7 +24,7 @@ use Rattle.legacy_base.proofs.Iso2022JpEncoding.{mode_by, mode_for, mode_for-by,
 use Rattle.legacy_base.proofs.Iso2022JpTrip.{own_scalar, ascii_stands, none_keeps, coded_here, text_back, text_bytes, scalar_bytes, text_bytes-scalar, text_bytes-end, apart_behind, escape_apart}
 use Rattle.legacy_base.proofs.RoundTrips.{same_scalars, encodes_well_formed}
 
--- what holds of all scalars of a text holds of the first, and of those behind it
+-- a property of all scalars of a text holds for the first one and for the rest
 first_of : (P : ℕ → Type 0) (c : ℕ) (text : List ℕ) → All P (c ∷ text) → P c
 first_of P c text all = all 0 0 (omega arith)
 
@@ -50,7 +50,7 @@ plain-again code read (c ∷ text) same =
         rw (here own e, bytes_of-behind own (plain_events code text), map-append Byte own (bytes_of (plain_events code text)))
         (ap (λ l. map Byte own ++ l) later)
 
--- what a fold is read as has the code of the fold
+-- the scalar that a fold decodes to has the code of the fold
 shift_jis-same : (jis0208 : List ℕ) (c : ℕ) → shift_jis_code jis0208 (japanese_scalar c) ≡ shift_jis_code jis0208 c
 unfolding shift_jis_code
 shift_jis-same jis0208 c = by_tests (c == 0xA5) (c == 0x203E) (c == 0x2212) refl refl refl
@@ -73,7 +73,7 @@ euc_jp-same jis0208 c = by_tests (c == 0xA5) (c == 0x203E) (c == 0x2212) refl re
 
 -- ---- ISO-2022-JP
 
--- a scalar that stays in ASCII mode goes there from two-byte mode
+-- a scalar that is written in ASCII mode after ASCII mode is also written in ASCII mode after two-byte mode
 back_to_ascii : (pair keeps romans : Bool) → mode_by pair keeps romans in_ascii ≡ in_ascii → mode_by pair keeps romans in_two_byte ≡ in_ascii
 back_to_ascii true keeps romans h = cc
 back_to_ascii false true romans h = refl
@@ -84,7 +84,7 @@ module _ (jis0208 katakana_index : List ℕ) where
   abbrev SameHere : ℕ → Type 0
   SameHere c = HasSameCode (iso_2022_jp jis0208 katakana_index) c
 
-  -- a scalar of one byte is read as itself
+  -- a scalar with a code of one byte decodes to itself
   single_stands : (c : ℕ) (own : List ℕ) → iso_2022_jp_code jis0208 katakana_index c ≡ Some own → is_pair (Some own) ≡ false → own_scalar jis0208 katakana_index c ≡ c
   unfolding iso_2022_jp_code
   single_stands c own h single = by_tests (is_mode_control c) (is_ascii c) (c == 0xA5) (c == 0x203E) refl refl refl h
@@ -102,7 +102,7 @@ module _ (jis0208 katakana_index : List ℕ) where
       by_tests false false false true e f g h = rw (eqb-true c 0x203E g) refl
       by_tests false false false false e f g h = by_pointer (iso_2022_jp_pointer_of jis0208 katakana_index c) h
 
-  -- what a scalar is read as is written in the same mode, with the same code
+  -- the scalar that c decodes to is written in the same mode and with the same code as c
   same_mode : (mode : EncoderMode) (c : ℕ) (own : List ℕ) → iso_2022_jp_code jis0208 katakana_index c ≡ Some own
       → iso_2022_jp_code jis0208 katakana_index (own_scalar jis0208 katakana_index c) ≡ Some own
       → mode_for jis0208 katakana_index mode (own_scalar jis0208 katakana_index c) ≡ mode_for jis0208 katakana_index mode c
@@ -117,8 +117,8 @@ module _ (jis0208 katakana_index : List ℕ) where
       by_pair true pair = two_byte (own_scalar jis0208 katakana_index c) again pair ∙ sym (two_byte c e pair)
       by_pair false single = ap (mode_for jis0208 katakana_index mode) (single_stands c own e single)
 
-  -- The rest of a text as from two-byte mode is that from ASCII mode behind the escape to it, where it does not begin with
-  -- an escape in ASCII mode.
+  -- The bytes of a text from two-byte mode are the escape to ASCII mode and its bytes from that mode. This holds if the
+  -- latter do not begin with an escape.
   late_escape : (text : List ℕ) → All SameHere text → is_whole_escape (text_bytes jis0208 katakana_index in_ascii text) ≡ false
       → text_events jis0208 katakana_index in_two_byte (text_back jis0208 katakana_index text) true
       ≡ map Byte (escape_to in_ascii) ++ text_events jis0208 katakana_index in_ascii (text_back jis0208 katakana_index text) true
@@ -191,12 +191,12 @@ module _ (jis0208 katakana_index : List ℕ) where
           text_events-scalar jis0208 katakana_index mode s (text_back jis0208 katakana_index text) true
           ∙ rw (mode_is, again, read, map-append Byte (escape_between mode new) (own ++ behind), map-append Byte own behind) refl
 
--- ---- all
+-- ---- all codecs
 
 same_of : (codec : Codec) (text : List ℕ) → ((c : ℕ) → HasSameCode codec c) → All (HasSameCode codec) text
 same_of codec text each k d h = each _
 
--- what is read of a text is encoded as the same bytes
+-- the text that the bytes decode to is encoded as the same bytes
 again : (codec : Codec) (text : List ℕ) → IsSound codec text → KeepsCodes codec text → encoded (new_encoder codec) (read_back codec text) true ≡ map Byte (written codec text)
 again (single_byte table) text sound keeps = plain-again (single_byte_code table) (read_as (single_byte table)) text (same_of (single_byte table) text (λ c bytes e. e))
 again user_defined text sound keeps = plain-again user_defined_code (read_as user_defined) text (same_of user_defined text (λ c bytes e. e))

@@ -1,4 +1,4 @@
--- Laws of the room that acts need and scalars had.
+-- Laws of the room that acts need and of the room before each scalar.
 use Rattle.std.proofs.Common.{◌≡◌, ◌≢◌, ℕ, ◌-◌, ◌≤◌, ◌<◌, List, [], ◌∷◌, ◌++◌, refl}
 use Rattle.std.proofs.Common.{subst, arith, length-append, Bool, true, false, not, ◌||◌, ◌&&◌, IsTrue, Some, None, cond, Option}
 use Rattle.std.specs.Prelude.{MatchBool}
@@ -13,9 +13,9 @@ use Rattle.legacy_base.specs.States.{DecoderState, rests, is_empty}
 use Rattle.legacy_base.specs.Acts.{Act, writes, takes, act_at_end, act_room, act_at_rest, room_of_act, reading_room, writing_room, has_reported, has_short_ascii}
 use Rattle.legacy_base.specs.Acts.{has_marks, is_mark_behind, room_needed, LacksRoom, full_room_in, release_room_in, HadRoom, HadRoomReleased, HadRooms}
 
--- ---- the room that scalars had
+-- ---- the room before each scalar
 
--- a scalar wants no more room behind another than it wants first
+-- a scalar after another one needs at most the room that it needs at first
 less_behind : (short marks : Bool) (behind : Bool) → IsTrue (not (short || (marks && behind))) → IsTrue (not (short || (marks && false)))
 less_behind true marks behind h = h
 less_behind false true behind h = refl
@@ -83,7 +83,7 @@ room_needed-none form s last e f = rw e (by_last last f) where
   by_last false f = ended (events_of s.grammar s.held)
   by_last true f = rw (f refl) refl
 
--- a byte past ASCII needs no more than the room of any scalar
+-- reading a byte past ASCII needs at most the room of the longest scalar
 pub full_most : (form : EncodingForm) (g : Grammar) → full_room_in form g ≤ wide_room form
 full_most form g = by_rooms form (profile g).rooms where
   by_rooms : (f : EncodingForm) (r : Rooms) → reading_room (bmp_room f) (wide_room f) r ≤ wide_room f
@@ -91,7 +91,7 @@ full_most form g = by_rooms form (profile g).rooms where
   by_rooms Utf16 narrow_acts = omega arith
   by_rooms _ _ = omega arith
 
--- a report needs no more room than a byte past ASCII
+-- a report needs at most the room of a byte past ASCII
 pub release-full : (form : EncodingForm) (g : Grammar) → release_room_in form g ≤ full_room_in form g
 release-full form g = by_rooms form (profile g).rooms where
   by_rooms : (f : EncodingForm) (r : Rooms) → writing_room (bmp_room f) (wide_room f) r ≤ reading_room (bmp_room f) (wide_room f) r
@@ -99,7 +99,7 @@ release-full form g = by_rooms form (profile g).rooms where
   by_rooms Utf16 wide_reads = omega arith
   by_rooms _ _ = omega arith
 
--- no act needs more than the room of any scalar
+-- each act needs at most the room of the longest scalar
 act_most : (form : EncodingForm) (s : DecoderState) (act : Act) → act_room (bmp_room form) (wide_room form) s act ≤ wide_room form
 act_most form s (takes b) =
     let some : 1 ≤ wide_room form = elim form as (λ f. 1 ≤ wide_room f) [ Utf8 ↦ omega arith | Utf16 ↦ omega arith ] in

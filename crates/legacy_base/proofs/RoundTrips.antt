@@ -1,4 +1,4 @@
--- What was encoded is well formed, and decodes to the same text where nothing was unmappable and no fold, in every codec.
+-- In every codec, encoded text is well formed. It decodes to the same text if no scalar was unmappable or a fold.
 use Rattle.std.proofs.Common.{◌≡◌, ℕ, List, [], ◌∷◌, map, filter, append-nil, true, false, is_some, refl, sym, ap, ap₂, ◌∙◌}
 use Rattle.std.proofs.lemmas.Bool.{or_parts}
 use Rattle.std.specs.List.{list_any}
@@ -29,7 +29,7 @@ use Rattle.legacy_base.proofs.Iso2022JpFronts.{step_end}
 use Rattle.legacy_base.proofs.Iso2022JpTrip.{no_fold, text_bytes, text_read, text_apart}
 use Rattle.legacy_base.proofs.AcceptedTrips.{private_use-empty, are_good_rows}
 
--- what was encoded of any text is well formed
+-- the encoding of any text is well formed
 abbrev IsWellFormed : Codec → Type 0
 IsWellFormed codec = (text : List ℕ) → IsSound codec text → events_of (grammar_of codec) (written codec text) ≡ map Scalar (read_back codec text)
 
@@ -88,7 +88,7 @@ iso_2022_jp-read jis0208 katakana_index text sound =
     rw (append-nil bytes, step_end jis0208 ascii, append-nil (map Scalar (read_back (iso_2022_jp jis0208 katakana_index) text)))
     at (text_read jis0208 katakana_index in_ascii text [] refl sound)
 
--- ---- all
+-- ---- all codecs
 
 pub encodes_well_formed : EncodesWellFormed
 encodes_well_formed (single_byte table) a = single_byte-read table
@@ -101,9 +101,9 @@ encodes_well_formed (gb18030 index ranges pua) a = rw (a.1, a.2, a.3) (gb18030-r
 encodes_well_formed (gbk index ranges pua) a = rw (a.1, a.2, a.3) (gbk-read a.0.flat a.0.accepted)
 encodes_well_formed (iso_2022_jp jis0208 katakana_index) a = iso_2022_jp-read jis0208 katakana_index
 
--- ---- texts that are encoded in full, without folds
+-- ---- texts without unmappable scalars and folds
 
--- what only bytes came of has a code for each scalar
+-- if all events of a text are bytes, each of its scalars has a code
 coded_all : (codec : Codec) (text bytes : List ℕ) → encoded (new_encoder codec) text true ≡ map Byte bytes
     → filter (λ c. is_some (code (new_encoder codec) c)) text ≡ text
 coded_all (single_byte table) text bytes h = plain-coded (single_byte_code table) text bytes h
@@ -116,7 +116,7 @@ coded_all (gb18030 index ranges pua) text bytes h = plain-coded (gb18030_code in
 coded_all (gbk index ranges pua) text bytes h = plain-coded (gbk_code index pua) text bytes h
 coded_all (iso_2022_jp jis0208 katakana_index) text bytes h = (text_apart jis0208 katakana_index in_ascii text bytes h).coded_all
 
--- a scalar that is no fold is read as itself
+-- a scalar that is no fold decodes to itself
 stands : (codec : Codec) (c : ℕ) → is_fold codec c ≡ false → read_as codec c ≡ c
 stands (single_byte table) c h = refl
 stands user_defined c h = refl
@@ -134,11 +134,11 @@ all_stand codec (c ∷ text) none =
     let folds = or_parts (is_fold codec c) (list_any (is_fold codec) text) none in
     ap₂ ◌∷◌ (stands codec c folds.0) (all_stand codec text folds.1)
 
--- it is read as itself
+-- such a text decodes to itself
 reads_itself : (codec : Codec) (text bytes : List ℕ) → IsEncodedAs codec text bytes → read_back codec text ≡ text
 reads_itself codec text bytes t = ap (map (read_as codec)) (coded_all codec text bytes t.whole) ∙ all_stand codec text t.unfolded
 
--- no scalar has a row whose bytes have none
+-- no scalar has a row whose bytes have no scalar
 none_has_lost_row : (index : List ℕ) (pua : List (ℕ × ℕ × ℕ)) (text : List ℕ) → list_any (is_private_use_fold index pua) text ≡ false → list_any (has_lost_row index pua) text ≡ false
 none_has_lost_row index pua [] none = refl
 none_has_lost_row index pua (c ∷ text) none =

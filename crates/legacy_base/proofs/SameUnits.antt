@@ -1,4 +1,4 @@
--- The code_units of scalars tell the scalars.
+-- Equal code units come from equal scalars.
 use Rattle.std.proofs.Common.{◌≡◌, ◌∙◌, ℕ, suc, ◌≤◌, List, [], ◌∷◌, ◌++◌, length, refl, sym, ap, arith, length-append, All}
 use Rattle.std.proofs.lemmas.Bool.Decides.{nat_tests}
 use lib.Utf8.{encode}
@@ -18,7 +18,7 @@ units_same Utf8 c d r t p q e = encode_same c d r t e
 units_same Utf16 c d r t p q e =
     let same = utf16_scalar c d r t p q e in (same, utf16_rest c r t (e ∙ ap (λ x. encode_utf16 x ++ t) (sym same)))
 
--- a scalar has a unit
+-- each scalar has at least one code unit
 pub some_unit : (form : EncodingForm) (c : ℕ) → 1 ≤ length (code_units form c)
 unfolding encode
 some_unit Utf16 c = grind (arith, nat_tests)
@@ -36,7 +36,7 @@ all_units_same form (x ∷ xs) (y ∷ ys) p q e =
     let t = all_units_same form xs ys (λ k d l. p (suc k) d (omega arith)) (λ k d l. q (suc k) d (omega arith)) h.1 in
     ap (λ z. z ∷ xs) h.0 ∙ ap (λ zs. y ∷ zs) t
 
--- there are at least as many code_units as scalars
+-- a text has at least as many code units as scalars
 pub length-le-all_code_units : (form : EncodingForm) (cs : List ℕ) → length cs ≤ length (all_code_units form cs)
 length-le-all_code_units form [] = omega arith
 length-le-all_code_units form (c ∷ cs) = omega (arith, length-le-all_code_units form cs, some_unit form c, length-append (code_units form c) (all_code_units form cs))

@@ -1,4 +1,4 @@
--- Lists of events that stand further on.
+-- Laws of shifted lists of events.
 use Rattle.std.proofs.Common.{◌≡◌, ℕ, ◌+◌, List, [], ◌∷◌, ◌++◌, map, refl, ap, ap₂, zero-add, arith}
 use Rattle.legacy_base.specs.declared.results.DecodeEvent.{DecodeEvent}
 use Rattle.legacy_base.specs.declared.results.DecodeEvent.TheVariants.{Scalar, Bad}
@@ -24,7 +24,7 @@ pub shift-shift : (j k : ℕ) (xs : List DecodeEvent) → shift j (shift k xs) �
 shift-shift j k [] = refl
 shift-shift j k (x ∷ xs) = ap₂ ◌∷◌ (shift_event-shift_event j k x) (shift-shift j k xs)
 
--- scalars have no place
+-- shifting changes no scalars
 pub shift-scalars : (k : ℕ) (cs : List ℕ) → shift k (map Scalar cs) ≡ map Scalar cs
 shift-scalars k [] = refl
 shift-scalars k (c ∷ cs) = ap (λ (es : List DecodeEvent). Scalar c ∷ es) (shift-scalars k cs)

@@ -1,4 +1,4 @@
--- Codes that decode to a scalar, whatever comes behind; and what a text of such codes decodes to.
+-- Codes that decode to one scalar whatever bytes follow, and texts of such codes.
 use Rattle.std.proofs.Common.{◌≡◌, ℕ, suc, ◌<◌, List, [], ◌∷◌, ◌++◌, drop, length, map, filter, Option, Some, None, is_some, Bool, false, cond, refl, sym, ◌∙◌, ap, ap₂, arith}
 use Rattle.std.proofs.lemmas.Bool.{or_parts}
 use Rattle.std.specs.List.{list_any}
@@ -13,12 +13,12 @@ use Rattle.legacy_base.specs.RoundTrips.{bytes_of}
 use Rattle.legacy_base.proofs.Shifts.{shift-scalars}
 use Rattle.legacy_base.proofs.Cuts.{cut-nil, cut-front}
 
--- the list begins with the front
+-- the list begins with the front, whatever bytes follow
 abbrev pub HasFront : (ℕ → List ℕ → Front) → List ℕ → Front → Type 0
 HasFront front [] f = ⊥
 HasFront front (b ∷ rest) f = front b rest ≡ f
 
--- the bytes decode to c, whatever comes behind
+-- the bytes decode to c, whatever bytes follow
 pub record Decodes (front : ℕ → List ℕ → Front) (bytes : List ℕ) (c : ℕ) : Type 0 where
   pub some : 0 < length bytes
   pub gives : (more : List ℕ) → HasFront front (bytes ++ more) (reads (length bytes) (c ∷ []))
@@ -27,7 +27,7 @@ dropped : (bytes more : List ℕ) → drop (length bytes) (bytes ++ more) ≡ mo
 dropped [] more = refl
 dropped (b ∷ bytes) more = dropped bytes more
 
--- the code at the front of a list, and then what is behind it
+-- the events of the code at the beginning of a list, and then those of the bytes after it
 cut-code : (front : ℕ → List ℕ → Front) (bytes more : List ℕ) (c : ℕ) → Decodes front bytes c
     → cut front 0 0 (bytes ++ more) ≡ Scalar c ∷ shift (length bytes) (cut front 0 0 more)
 cut-code front [] more c h = absurd (let some = h.some in omega arith)
@@ -38,7 +38,7 @@ cut-code front (b ∷ bytes) more c h =
 
 -- ---- the bytes of events
 
--- events that begin with bytes, and are bytes: what comes behind those
+-- events that are all bytes and begin with `own`: the remaining events are bytes too
 pub record BeginsWith (own bytes : List ℕ) (events : List EncodeEvent) : Type 0 where
   pub rest : List ℕ
   pub split : bytes ≡ own ++ rest
@@ -63,7 +63,7 @@ begins_with (b ∷ own) (a ∷ bytes) events e =
     let t = begins_with own bytes events same.1 in
     record { rest = t.rest; split = ap₂ ◌∷◌ (sym same.0) t.split; behind = t.behind }
 
--- a scalar of which only bytes come has a code
+-- a scalar whose events are all bytes has a code
 pub record HasCode (c : ℕ) (code : Option (List ℕ)) (bytes : List ℕ) (events : List EncodeEvent) : Type 0 where
   pub own : List ℕ
   pub code_is : code ≡ Some own
@@ -86,7 +86,7 @@ unfolding bytes_of
 bytes_of-bytes [] = refl
 bytes_of-bytes (b ∷ bytes) = ap (λ (l : List ℕ). b ∷ l) (bytes_of-bytes bytes)
 
--- a scalar that is reported writes nothing
+-- an unmappable scalar gives no bytes
 pub bytes_of-unmappable : (c : ℕ) (events : List EncodeEvent) → bytes_of (code_events c None ++ events) ≡ bytes_of events
 unfolding bytes_of
 bytes_of-unmappable c events = refl
@@ -97,11 +97,11 @@ bytes_of-nothing = refl
 
 -- ---- texts
 
--- what the scalars that have a code are read as
+-- the scalars of a text that have a code
 abbrev pub coded : (ℕ → Option (List ℕ)) → List ℕ → List ℕ
 coded code text = filter (λ c. is_some (code c)) text
 
--- the events of the bytes of a text, each code of which decodes to one scalar
+-- the events of the bytes of a text, if each code decodes to one scalar
 pub plain-read : (front : ℕ → List ℕ → Front) (code : ℕ → Option (List ℕ)) (read : ℕ → ℕ) (lost : ℕ → Bool)
     → ((c : ℕ) (bytes : List ℕ) → lost c ≡ false → code c ≡ Some bytes → Decodes front bytes (read c))
     → (text : List ℕ) → list_any lost text ≡ false
@@ -121,12 +121,12 @@ plain-read front code read lost each (c ∷ text) none =
         (cut-code front own (bytes_of (plain_events code text)) (read c) (each c own kept e)
         ∙ ap (λ (es : List DecodeEvent). Scalar (read c) ∷ es) (ap (shift (length own)) later ∙ shift-scalars (length own) (map read (coded code text))))
 
--- where nothing is lost
+-- no scalar of a text is lost if none can be
 pub none_lost : (text : List ℕ) → list_any (λ (c : ℕ). false) text ≡ false
 none_lost [] = refl
 none_lost (c ∷ text) = none_lost text
 
--- where only bytes come, every scalar has a code
+-- if all events of a text are bytes, each of its scalars has a code
 pub plain-coded : (code : ℕ → Option (List ℕ)) (text bytes : List ℕ) → plain_events code text ≡ map Byte bytes → coded code text ≡ text
 unfolding plain_events
 plain-coded code [] bytes e = refl

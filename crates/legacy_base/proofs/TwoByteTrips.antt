@@ -1,5 +1,5 @@
--- The codes of Big5, EUC-KR, Shift_JIS, EUC-JP, the single-byte codecs and x-user-defined decode to their scalars, and
--- those of folds to the scalars that folds are read as.
+-- The codes of Big5, EUC-KR, Shift_JIS, EUC-JP, the single-byte codecs and x-user-defined decode to their scalars. The
+-- codes of folds decode to other scalars (`read_as`).
 use Rattle.std.proofs.Common.{◌≡◌, ◌≢◌, ℕ, ◌+◌, ◌-◌, ◌*◌, ◌/◌, ◌%◌, ◌<◌, ◌≤◌, List, [], ◌∷◌, length, Bool, true, false}
 use Rattle.std.proofs.Common.{cond, ◌||◌, ◌==◌, nat_lt, nat_le, Option, Some, None, option_map, option_to_list, position, get_or, refl, sym, ap, ◌∙◌, arith, if◌then◌else◌}
 use Rattle.std.proofs.lemmas.Bool.{and_parts, or_parts, leb-true, ne_eqb, eqb-true, true≢false}
@@ -26,16 +26,16 @@ use Rattle.legacy_tables.proofs.Pointers.{first-taken, big5-taken}
 use Rattle.legacy_base.proofs.PointersBack.{LeadsBack, leads_back}
 use Rattle.legacy_base.proofs.Trips.{Decodes}
 
--- a code that is mapped from a pointer is that of some pointer
+-- a code made from an optional pointer has a pointer
 pub mapped : (f : ℕ → List ℕ) (o : Option ℕ) (bytes : List ℕ) → option_map f o ≡ Some bytes → (p : ℕ) × (o ≡ Some p) × (bytes ≡ f p)
 mapped f None bytes h = cc
 mapped f (Some p) bytes h = (p, refl, (let same : f p ≡ bytes = cc in sym same))
 
--- a byte that is its own front
+-- one byte that is a front by itself
 pub one_byte : (front : ℕ → List ℕ → Front) (b c : ℕ) (bytes : List ℕ) → bytes ≡ b ∷ [] → ((more : List ℕ) → front b more ≡ reads 1 (c ∷ [])) → Decodes front bytes c
 one_byte front b c bytes is h = rw is (record { some = omega arith; gives = h })
 
--- two bytes that are their own front
+-- two bytes that are a front by themselves
 pub two_bytes : (front : ℕ → List ℕ → Front) (a b c : ℕ) (bytes : List ℕ) → bytes ≡ a ∷ b ∷ [] → ((more : List ℕ) → front a (b ∷ more) ≡ reads 2 (c ∷ [])) → Decodes front bytes c
 two_bytes front a b c bytes is h = rw is (record { some = omega arith; gives = h })
 
@@ -116,7 +116,7 @@ euc_kr-decodes index c bytes short h = by_test (is_ascii c) refl h
 
 -- ---- Shift_JIS
 
--- a lead is read as one, and its number is the row
+-- the lead of a row is a lead, and its number is the row
 shift_jis_lead_back : (q : ℕ) → q < 60 → (t : Bool) → nat_lt q 0x1F ≡ t
     → ((is_ascii (q + cond t 0x81 0xC1) || (q + cond t 0x81 0xC1) == 0x80) ≡ false)
     × (is_in_range 0xA1 0xDF (q + cond t 0x81 0xC1) ≡ false)
@@ -140,7 +140,7 @@ shift_jis_back lead q r h part false e =
     let high : is_in_range 0x80 0xFC (r + 0x41) ≡ true = grind (arith, nat_tests) in
     rw (low, high, part) (ap Some (omega arith))
 
--- the pointers for private use are empty
+-- the pointers that decode to private use have empty entries
 pub record PrivateUseIsEmpty (jis0208 : List ℕ) : Type 0 where
   pub empty : (p : ℕ) → is_in_range 8836 10715 p ≡ true → idx jis0208 p ≡ None
 
@@ -163,7 +163,7 @@ shift_jis_pair_back jis0208 p c more short empty back =
     let pointer = shift_jis_back (p / 188 + (if nat_lt (p / 188) 0x1F then 0x81 else 0xC1)) (p / 188) (p % 188) column lead.3 (nat_lt (p % 188) 0x3F) refl in
     rw (lead.0, lead.1, lead.2, pointer, p_is, shift_jis_scalar jis0208 p c empty back.has) refl
 
--- a scalar that is no fold stands for itself
+-- a scalar that is no fold decodes to itself
 pub no_japanese_fold : (c : ℕ) → is_japanese_fold c ≡ false → japanese_scalar c ≡ c
 no_japanese_fold c h =
     let p = or_parts (c == 0xA5 || c == 0x203E) (c == 0x2212) h in
@@ -249,9 +249,9 @@ euc_jp-decodes jis0208 jis0212 c bytes h =
         let back = leads_back is_jis0208_pointer jis0208 looked_up _ (first-taken is_jis0208_pointer jis0208 looked_up) m.0 m.1 in
         rw (f, g) (two_bytes (euc_jp_front jis0208 jis0212) _ _ looked_up bytes m.2 (λ more. euc_jp_pair_back jis0208 jis0212 m.0 looked_up more back))
 
--- ---- single-byte and x-user-defined
+-- ---- single-byte codecs and x-user-defined
 
--- the place that holds the scalar is that of the scalar
+-- the position found for a scalar has that scalar as its entry
 place_back : (table : List ℕ) (c place : ℕ) → c ≢ 0 → position (λ entry. entry == c) table ≡ Some place → idx table place ≡ Some c
 place_back table c place n e =
     let is = eqb-true (get_or table place 0) c (position-Some (λ entry. entry == c) table place 0 e).1 in

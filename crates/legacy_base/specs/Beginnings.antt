@@ -1,6 +1,6 @@
--- How a list begins.
+-- The beginnings of lists.
 use Rattle.std.specs.Prelude.{◌≡◌, List, ◌++◌}
 
--- the list is these items first, and then some or none
+-- the list begins with these items
 abbrev pub BeginsWith : {Item : Type 0} → List Item → List Item → Type 0
 BeginsWith {Item} items front = (rest : List Item) × (items ≡ front ++ rest)

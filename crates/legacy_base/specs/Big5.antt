@@ -1,4 +1,4 @@
--- The forms and the codes of Big5 (WHATWG Encoding Standard, "Big5 decoder" and "Big5 encoder").
+-- Big5: its fronts and its codes (WHATWG Encoding Standard, "Big5 decoder" and "Big5 encoder").
 use Rattle.std.specs.Prelude.{ℕ, ◌+◌, ◌-◌, ◌*◌, ◌/◌, ◌%◌, List, [], ◌∷◌, length, true, false, Option, Some, None, ◌==◌, nat_lt, if◌then◌else◌, option_to_list, option_map}
 use Rattle.std.specs.Option.{option_map_or}
 use Rattle.std.specs.Int.{is_in_range}
@@ -10,14 +10,14 @@ use Rattle.legacy_base.specs.Profile.{Profile, wide_acts, is_lead, single_lead_m
 use Rattle.legacy_base.specs.EncoderProfile.{EncoderProfile, plain_encoder}
 use Rattle.legacy_base.specs.Formulas.{weighed, constant, ◌⊞◌, ◌⊠◌, number, ◌⊕◌, ◌⊗◌}
 
--- the pointer of a lead and a trail, or none where the second byte is no trail
+-- the pointer of a lead and a trail, or none if the second byte is no trail
 abbrev pub big5_pointer : ℕ → ℕ → Option ℕ
 big5_pointer lead trail =
     if is_in_range 0x40 0x7E trail then Some ((lead - 0x81) * 157 + (trail - 0x40))
     else if is_in_range 0xA1 0xFE trail then Some ((lead - 0x81) * 157 + (trail - 0x62))
     else None
 
--- the scalars of a pointer: four pointers give a letter and a combining mark, the others their entry
+-- the scalars of a pointer: a letter and a combining mark for four pointers, the entry of the index for the others
 abbrev pub big5_scalars : List ℕ → ℕ → List ℕ
 big5_scalars index p =
     if p == 1133 then 0xCA ∷ 0x304 ∷ []

@@ -14,111 +14,111 @@ use Rattle.legacy_base.specs.States.{DecoderState, may_hold, rests}
 use Rattle.legacy_base.specs.Acts.{LacksRoom, HadRooms, fault_room, full_room_in}
 use Rattle.legacy_base.specs.Lengths.{LengthQuery, query_form, query_answer, answer_units, room}
 
--- What an answer reports: the malformed sequence has `length` bytes, and ends `back` bytes before the end of the `seen`
--- bytes that were held back as the call began or read by it.
+-- The malformed sequence that a result reports. It has `length` bytes and ends `back` bytes before the end of the
+-- `seen` bytes, which were held back before the call or read by it.
 abbrev pub reported_events : ℕ → DecoderResult → List DecodeEvent
 reported_events seen InputEmpty = []
 reported_events seen OutputFull = []
 reported_events seen (Malformed length back) = Bad (seen - back - length) length ∷ []
 
--- what a call gave: the scalars that it wrote, and then what its answer reports
+-- the events of a call: the scalars that it wrote, and then what its result reports
 abbrev pub out_events : ℕ → List ℕ → DecoderResult → List DecodeEvent
 out_events seen scalars answer = map Scalar scalars ++ reported_events seen answer
 
--- The answer may report what is only malformed because the input ends: it is Malformed, on a last call, with nothing unread.
+-- The result may report a sequence that is malformed only because the input ends: Malformed on a last call, with
+-- nothing unread.
 abbrev pub may_report_end : Bool → DecoderResult → List ℕ → Bool
 may_report_end last InputEmpty left = false
 may_report_end last OutputFull left = false
 may_report_end last (Malformed length back) left = last && is_empty left
 
--- From the state `before`, with the bytes `source`, a decoder came to the state `after` and left the bytes `left`. It is
--- done with `passed` bytes of those held back and the source, and what it holds back and left is the rest of them.
--- All events are `out`, and then those of the rest, whatever bytes follow, also after a last call. A report at the end
--- (`ended`) is the exception, because bytes that follow can make something else of what was reported: there this holds if
--- none follow, and if the events with those that follow still begin with `out`.
+-- A decoder goes from the state `before`, with the bytes `source`, to the state `after`, with the bytes `left`. It is
+-- done with `passed` of the held-back bytes and the source. The rest is held back or left. All events are `out` and
+-- then the events of the rest, whatever bytes follow, also after a last call. The exception is a report at the end
+-- (`ended`), because the bytes that follow can change what was reported. Then this holds if no bytes follow, or if the
+-- events with the bytes that follow still begin with `out`.
 pub record Progress (ended : Bool) (before : DecoderState) (source : List ℕ) (passed : ℕ) (after : DecoderState) (left : List ℕ) (out : List DecodeEvent) : Type 0 where
-  -- the bytes that are done with, and those held back and left, are as many as were held back and in the source
+  -- the bytes done with, held back and left are as many as were held back and in the source
   pub counts : passed + (length after.held + length left) ≡ length before.held + length source
-  -- what is held back and left is the rest of them, byte for byte
+  -- the bytes held back and left are the rest, byte for byte
   pub rest : drop passed (before.held ++ source) ≡ after.held ++ left
-  -- all events are `out`, and then those of the rest, whatever follows
+  -- all events are `out`, and then those of the rest, whatever bytes follow
   pub events : (more : List ℕ) →
       (IsTrue ended → (more ≡ []) ⊎ BeginsWith (events_of before.grammar (before.held ++ (source ++ more))) out) →
       events_of before.grammar (before.held ++ (source ++ more))
       ≡ out ++ shift passed (events_of after.grammar (after.held ++ (left ++ more)))
 
--- A byte that is malformed by itself, where nothing is held back: it gives that event whatever bytes come behind it, and
--- leaves the state as it is.
+-- A byte that is malformed by itself if nothing is held back, whatever bytes follow. It leaves the state unchanged.
 pub record IsLoneFault (state : DecoderState) (byte : ℕ) : Type 0 where
   pub empty : state.held ≡ []
   pub progress : Progress false state (byte ∷ []) 1 state [] (Bad 0 1 ∷ [])
 
--- A malformed sequence has one to four bytes. The bytes behind it, at most three, are those that are held back, and it
--- lies among the `seen` bytes.
+-- A malformed sequence has one to four bytes and lies among the `seen` bytes. The bytes after it, at most three, are
+-- those held back.
 pub record IsFault (seen : ℕ) (after : DecoderState) (sequence back : ℕ) : Type 0 where
-  -- it has a byte or more
+  -- it has at least one byte
   pub some : 1 ≤ sequence
-  -- and four at most
+  -- it has at most four bytes
   pub few : sequence ≤ 4
-  -- at most three bytes stand behind it
+  -- at most three bytes follow it
   pub near : back ≤ 3
-  -- and those are held back
+  -- these are the held-back bytes
   pub held : back ≡ length after.held
-  -- it and they are among the bytes seen
+  -- the sequence and the bytes after it are among the bytes seen
   pub within : sequence + back ≤ seen
 
--- so it is with the malformed sequence of an answer, if it reports one
+-- the same for the malformed sequence of a result, if it reports one
 abbrev pub HoldsBack : ℕ → DecoderState → DecoderResult → Type 0
 HoldsBack seen after InputEmpty = Unit {0}
 HoldsBack seen after OutputFull = Unit {0}
 HoldsBack seen after (Malformed length back) = IsFault seen after length back
 
--- an answer reports a malformed sequence
+-- the result reports a malformed sequence
 abbrev pub IsMalformed : DecoderResult → Type 0
 IsMalformed InputEmpty = ⊥
 IsMalformed OutputFull = ⊥
 IsMalformed (Malformed length back) = Unit {0}
 
--- A call from the state `before` with so many code units free, which read so many bytes of the source, wrote these
--- scalars, gave this answer and came to the state `after`.
+-- A call from the state `before` with `free` free code units. It read `read` bytes of the source, wrote the scalars,
+-- returned a result and left the state `after`.
 pub record DecoderCall (form : EncodingForm) (before : DecoderState) (source : List ℕ) (last : Bool) (free : ℕ) (after : DecoderState) (answer : DecoderResult) (read : ℕ) (scalars : List ℕ) : Type 0 where
-  -- no more is read than the source has
+  -- at most the whole source is read
   pub within : read ≤ length source
-  -- no more is written than is free
+  -- at most the free code units are written
   pub fits : total_unit_count form scalars ≤ free
-  -- what is written are Unicode scalar values
+  -- the scalars are Unicode scalar values
   pub scalar : All IsScalar scalars
-  -- so many bytes, of those held back and the source, are done with
+  -- the number of bytes done with, of those held back and the source
   pub passed : ℕ
-  -- what it gave, and then the events of what is left, are the grammar's events, whatever follows; after a report at the
-  -- end, if they still begin so
+  -- the events of the call, and then those of the bytes left, are the grammar's events, whatever bytes follow; after a
+  -- report at the end, only if the events still begin so
   pub progress : Progress (may_report_end last answer (drop read source)) before source passed after (drop read source) (out_events (length before.held + read) scalars answer)
-  -- what is held back is one of the lists that the codec may hold back
+  -- the codec may hold back these bytes
   pub allowed : IsTrue (may_hold after.grammar after.held)
-  -- what Malformed reports is short, lies among the bytes seen, and the bytes behind it are those held back
+  -- the sequence of Malformed has one to four bytes among the bytes seen, and the bytes after it are those held back
   pub fault : HoldsBack (length before.held + read) after answer
-  -- at InputEmpty all is read and no scalar is held back; at the last end no event is left
+  -- at InputEmpty all bytes are read and no scalar is held back; on a last call no events are left
   pub input_empty : answer ≡ InputEmpty → (read ≡ length source) × IsTrue (rests after.grammar after.held) × (IsTrue last → events_of after.grammar after.held ≡ [])
-  -- at OutputFull the next act lacks its room
+  -- at OutputFull the next act needs more room than is free
   pub output_full : answer ≡ OutputFull → LacksRoom form after (drop read source) last (free - total_unit_count form scalars)
-  -- where the next act lacks its room as the call begins, the answer is OutputFull and nothing was done
+  -- if the next act lacks room when the call begins, the result is OutputFull and nothing is done
   pub full_at_once : LacksRoom form before source last free → (answer ≡ OutputFull) × (read ≡ 0) × (scalars ≡ []) × (after ≡ before)
-  -- behind a malformed sequence there is room for U+FFFD
+  -- after a malformed sequence there is room for U+FFFD
   pub room_at_fault : IsMalformed answer → fault_room form before.grammar read ≤ free - total_unit_count form scalars
-  -- where a byte was read and some are held back, there is the room of a byte
+  -- if a byte was read and bytes are held back, there is room for reading a byte past ASCII
   pub room_held : 0 < read → after.held ≢ [] → full_room_in form before.grammar ≤ free - total_unit_count form scalars
-  -- each scalar was written with the room that it wants
+  -- each scalar was written with the room that it needs
   pub had_room : HadRooms form before free scalars
-  -- what was written, with U+FFFD where the query counts it, lowers the room that is still needed
+  -- the written scalars, and U+FFFD if the query counts it, lower the room that is still needed
   pub lowers : (query : LengthQuery) → query_form query ≡ form → (more : ℕ) → (IsTrue last → more ≡ 0) →
       room query after (length (drop read source) + more) + (total_unit_count form scalars + answer_units query answer)
       ≤ room query before (length source + more)
-  -- with the room free that the source still needs, the output is never full
+  -- with the room that the source needs free, the result is not OutputFull
   pub suffices : (query : LengthQuery) → query_form query ≡ form → room query before (length source) ≤ free → answer ≢ OutputFull
-  -- with a length free that a query answered for at least so many bytes, the output is never full
+  -- with the room returned by a query for at least as many bytes free, the result is not OutputFull
   pub enough : (query : LengthQuery) → query_form query ≡ form → (n k : ℕ) → length source ≤ n → query_answer query before n ≡ Some k → k ≤ free → answer ≢ OutputFull
 
--- a call, by what the destination held before it and after it
+-- a call, by the contents of the destination before and after it
 abbrev pub IsDecoderCall : EncodingForm → DecoderState → List ℕ → Bool → ℕ → DecoderState → DecoderResult → ℕ → List ℕ → List ℕ → Type 0
 IsDecoderCall form before source last free after answer read old new =
     (scalars : List ℕ) × DecoderCall form before source last free after answer read scalars

@@ -10,13 +10,13 @@ use Rattle.legacy_base.specs.Beginnings.{BeginsWith}
 use Rattle.legacy_base.specs.EncodeEvents.{byte_count, code_length}
 use Rattle.legacy_base.specs.Encoders.{EncoderState, code, encoded, end_bytes, scalar_room, encoder_need, encoder_answer, encoder_room}
 
--- what an answer reports
+-- the event that a result reports
 abbrev pub reported : EncoderResult → List EncodeEvent
 reported InputEmpty = []
 reported OutputFull = []
 reported (Unmappable c) = events.Unmappable c ∷ []
 
--- the answer tells that the end of the text was written
+-- the result shows that the end of the text was written
 abbrev pub tells_end : Bool → EncoderResult → Bool
 tells_end last InputEmpty = last
 tells_end last OutputFull = false
@@ -26,47 +26,47 @@ tells_end last (Unmappable c) = false
 abbrev pub EncoderLacksRoom : EncoderState → List ℕ → Bool → ℕ → Type 0
 EncoderLacksRoom state unread last free = free < encoder_need state unread last
 
--- how many bytes a text and then the scalar c give, but for the own bytes of c: those before them, or before its report
+-- the number of bytes that a text and then the scalar c give, without the own bytes of c
 abbrev pub bytes_before : EncoderState → List ℕ → ℕ → ℕ
 bytes_before state text c = byte_count (encoded state (text ++ c ∷ []) false) - code_length (code state c)
 
--- a text goes on behind the call
+-- the text continues after the call
 abbrev pub GoesOn : Bool → EncoderResult → Type 0
 GoesOn last InputEmpty = last ≡ false
 GoesOn last OutputFull = ⊥
 GoesOn last (Unmappable c) = Unit {0}
 
--- From the state `before`, with the scalars `source` and so many bytes free, an encoder gave this answer, came to the
--- state `after`, left the scalars `left` and wrote these bytes.
+-- A call from the state `before` with the scalars `source` and `free` free bytes. It returned a result, left the state
+-- `after` and the scalars `left`, and wrote `bytes`.
 pub record EncoderCall (before : EncoderState) (source : List ℕ) (last : Bool) (free : ℕ) (after : EncoderState) (answer : EncoderResult) (left bytes : List ℕ) : Type 0 where
-  -- the scalars that were read, and those that are left, are the source
+  -- the scalars that were read; with those left they are the source
   pub taken : List ℕ
   pub cut : source ≡ taken ++ left
-  -- no more is written than is free
+  -- at most the free bytes are written
   pub fits : length bytes ≤ free
-  -- The events of the source and whatever text follows, ended or not, also after a last call, are what was written and
-  -- reported, and then those of what is left. If the end was written, this holds if no text follows, and if the events with
-  -- the text that follows still begin so.
+  -- All events are the bytes written, the report, and then the events of the scalars left. This holds for the source
+  -- with any text after it, ended or not, also after a last call. If the end was written, it holds if no text follows,
+  -- or if the events with the text that follows still begin so.
   pub events : (more : List ℕ) (ended : Bool) →
       (IsTrue (tells_end last answer) →
       ((more ≡ []) × IsTrue ended) ⊎ BeginsWith (encoded before (source ++ more) ended) (map Byte bytes ++ reported answer)) →
       encoded before (source ++ more) ended ≡ map Byte bytes ++ (reported answer ++ encoded after (left ++ more) ended)
-  -- at InputEmpty all is read; on a last call the end has nothing left to write
+  -- at InputEmpty all scalars are read; on a last call the end has nothing left to write
   pub input_empty : answer ≡ InputEmpty → (left ≡ []) × (IsTrue last → end_bytes after ≡ [])
-  -- at OutputFull the next act lacks its room
+  -- at OutputFull the next act needs more room than is free
   pub output_full : answer ≡ OutputFull → EncoderLacksRoom after left last (free - length bytes)
-  -- where the next act lacks its room as the call begins, the answer is OutputFull and nothing was done
+  -- if the next act lacks room when the call begins, the result is OutputFull and nothing is done
   pub full_at_once : EncoderLacksRoom before source last free → (answer ≡ OutputFull) × (left ≡ source) × (bytes ≡ []) × (after ≡ before)
-  -- before the own bytes, or the report, of each scalar that was read its room was free
+  -- before the own bytes, or the report, of each scalar read, its room was free
   pub had_room : (k : ℕ) → k < length taken →
       bytes_before before (take k taken) (slice_index taken k) + scalar_room before (slice_index taken k) ≤ free
-  -- what was written lowers the room that is still needed
+  -- the written bytes lower the room that is still needed
   pub lowers : (form : EncodingForm) (more : ℕ) → GoesOn last answer →
       encoder_room form after (total_unit_count form left + more) + length bytes ≤ encoder_room form before (total_unit_count form source + more)
-  -- at the end of the text it fits into the room that was needed
+  -- at the end of the text, the written bytes fit into the room that was needed
   pub ends : (form : EncodingForm) → answer ≡ InputEmpty → IsTrue last →
       length bytes ≤ encoder_room form before (total_unit_count form source)
-  -- with the room free that the source needs, the output is never full
+  -- with the room that the source needs free, the result is not OutputFull
   pub suffices : (form : EncodingForm) → encoder_room form before (total_unit_count form source) ≤ free → answer ≢ OutputFull
-  -- with a length free that a query answered for at least so many code units, the output is never full
+  -- with the room returned by a query for at least as many code units free, the result is not OutputFull
   pub enough : (form : EncodingForm) (n k : ℕ) → total_unit_count form source ≤ n → encoder_answer form before n ≡ Some k → k ≤ free → answer ≢ OutputFull

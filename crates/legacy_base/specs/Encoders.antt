@@ -1,4 +1,4 @@
--- The encoders: what each gives of a text, and the numbers by which its outputs are sized.
+-- The encoders: the events of a text, and the room and lengths of outputs.
 use Rattle.std.specs.Prelude.{ℕ, ◌-◌, List, [], ◌∷◌, length, Option, Bool, true, false, not}
 use Rattle.legacy_base.specs.declared.results.EncodeEvent.{EncodeEvent}
 use Rattle.legacy_text.specs.EncodingForm.{EncodingForm}
@@ -14,7 +14,7 @@ use Rattle.legacy_base.specs.EucJp.{euc_jp_encoder}
 use Rattle.legacy_base.specs.Gb18030.{gb18030_encoder, gbk_encoder}
 use Rattle.legacy_base.specs.Iso2022Jp.{iso_2022_jp_encoder}
 
--- A codec with the lists of both its directions.
+-- A codec with the lists that its decoder and its encoder use.
 pub data Codec : Type 0 where
   single_byte : (table : List ℕ) → Codec
   user_defined : Codec
@@ -40,7 +40,7 @@ encoder_profile (iso_2022_jp jis0208 katakana_index) = iso_2022_jp_encoder jis02
 
 -- ---- an encoder between two calls
 
--- what an encoder is between two calls: its codec, and the mode that it is in
+-- the state of an encoder between two calls: its codec and its mode
 pub record EncoderState : Type 0 where
   pub codec : Codec
   pub mode : EncoderMode
@@ -53,39 +53,39 @@ new_encoder codec = record { codec = codec; mode = in_ascii }
 abbrev pub code : EncoderState → ℕ → Option (List ℕ)
 code state c = (encoder_profile state.codec).code c
 
--- the events of the scalars of a text, which ends with them or goes on
+-- the events of the scalars of a text, which ends with them or continues
 abbrev pub encoded : EncoderState → List ℕ → Bool → List EncodeEvent
 encoded state scalars ended = (encoder_profile state.codec).events state.mode scalars ended
 
--- what the end of a text writes
+-- the bytes that the end of a text writes
 abbrev pub end_bytes : EncoderState → List ℕ
 end_bytes state = (encoder_profile state.codec).end_bytes state.mode
 
--- the end of a text writes something
+-- the end of the text writes bytes
 abbrev pub is_pending : EncoderState → Bool
 is_pending state = not (is_empty (end_bytes state))
 
--- ---- room, and the length queries
+-- ---- room and length queries
 
 -- the free bytes that a scalar needs, mapped or not
 abbrev pub scalar_room : EncoderState → ℕ → ℕ
 scalar_room state c = (encoder_profile state.codec).scalar_room c
 
--- The free bytes that the next act needs, and 0 where there is none: the next of the unread scalars, with an escape
--- before it or not, or the end of the last call.
+-- The free bytes that the next act needs, or 0 if there is none. The next act writes the first unread scalar, with an
+-- escape before it if needed, or the end of the last call.
 abbrev pub encoder_need : EncoderState → List ℕ → Bool → ℕ
 encoder_need state (c ∷ unread) last = scalar_room state c
 encoder_need state [] true = length (end_bytes state)
 encoder_need state [] false = 0
 
--- the formula of the length query for a text's form, for n more code units
+-- the formula of the length query for a text's form and n more code units
 abbrev pub encoder_formula : EncodingForm → EncoderState → ℕ → Formula
 encoder_formula form state n = (encoder_profile state.codec).formula form (number n)
 
--- what a length query answers, for n more code units
+-- the result of a length query for n more code units
 abbrev pub encoder_answer : EncodingForm → EncoderState → ℕ → Option ℕ
 encoder_answer form state n = answer (encoder_formula form state n)
 
--- the room that n more code units can still take, over numbers without a limit
+-- the room that n more code units can need, as an unbounded number
 abbrev pub encoder_room : EncodingForm → EncoderState → ℕ → ℕ
 encoder_room form state n = value (encoder_formula form state n) - (encoder_profile state.codec).surplus form state.mode n

@@ -1,4 +1,4 @@
--- The forms and the codes of EUC-JP (WHATWG Encoding Standard, "EUC-JP decoder" and "EUC-JP encoder").
+-- EUC-JP: its fronts and its codes (WHATWG Encoding Standard, "EUC-JP decoder" and "EUC-JP encoder").
 use Rattle.std.specs.Prelude.{ℕ, ◌+◌, ◌-◌, ◌*◌, ◌/◌, ◌%◌, List, [], ◌∷◌, length, min, Option, Some, Bool, true, false, ◌&&◌, ◌||◌, ◌==◌, if◌then◌else◌, option_to_list, option_map}
 use Rattle.std.specs.Int.{is_in_range}
 use Rattle.std.specs.Char.{is_ascii}
@@ -10,11 +10,11 @@ use Rattle.legacy_base.specs.Profile.{Profile, narrow_acts, always_rests}
 use Rattle.legacy_base.specs.EncoderProfile.{EncoderProfile, plain_encoder}
 use Rattle.legacy_base.specs.Formulas.{weighed, constant, ◌⊞◌, ◌⊠◌, halved, number, ◌⊕◌, ◌⊗◌}
 
--- the bytes that begin a pair of EUC-JP, and stand behind 0x8F
+-- the leads of EUC-JP, which also follow 0x8F
 abbrev pub is_euc_jp_lead : ℕ → Bool
 is_euc_jp_lead b = is_in_range 0xA1 0xFE b
 
--- the scalar of two bytes from 0xA1 on in an index with 94 columns, if there is one
+-- the scalar of two bytes from 0xA1 to 0xFE in an index of 94 columns, if there is one
 abbrev pub euc_jp_scalars : List ℕ → ℕ → ℕ → List ℕ
 euc_jp_scalars index lead trail =
     if is_euc_jp_lead trail then option_to_list (idx index ((lead - 0xA1) * 94 + (trail - 0xA1)))
@@ -49,14 +49,14 @@ euc_jp_front jis0208 jis0212 b rest =
     else if is_euc_jp_lead b then euc_jp_pair jis0208 b rest
     else malformed 1
 
--- nothing, 0x8E, 0x8F, a lead, or 0x8F and a lead
+-- true for nothing, 0x8E, 0x8F, a lead, and 0x8F with a lead
 abbrev pub euc_jp_may_hold : List ℕ → Bool
 euc_jp_may_hold [] = true
 euc_jp_may_hold (b ∷ []) = (b == 0x8E || b == 0x8F) || is_euc_jp_lead b
 euc_jp_may_hold (b ∷ c ∷ []) = b == 0x8F && is_euc_jp_lead c
 euc_jp_may_hold _ = false
 
--- what is held back is worth one byte
+-- held-back bytes count as one byte
 abbrev pub euc_jp_weight : List ℕ → ℕ
 euc_jp_weight held = min 1 (length held)
 
@@ -77,7 +77,7 @@ euc_jp_profile jis0208 jis0212 = record {
   utf8_length_without_replacement = constant 2 ⊞ (weighed ⊞ halved (weighed ⊞ constant 1));
 }
 
--- ---- encoding: by JIS X 0208 alone
+-- ---- encoding: with index JIS X 0208 only
 
 -- the lead and the trail of a pointer
 abbrev pub euc_jp_bytes : ℕ → List ℕ

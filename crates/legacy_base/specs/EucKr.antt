@@ -8,13 +8,13 @@ use Rattle.legacy_base.specs.EncoderProfile.{EncoderProfile, plain_encoder}
 use Rattle.legacy_base.specs.Formulas.{number, ◌⊕◌, ◌⊗◌}
 use Rattle.legacy_base.specs.Grammar.{Grammar, plain}
 
--- the pointer of a lead and a trail, or none where the second byte is no trail
+-- the pointer of a lead and a trail, or none if the second byte is no trail
 abbrev pub euc_kr_pointer : ℕ → ℕ → Option ℕ
 euc_kr_pointer lead trail =
     if is_in_range 0x41 0xFE trail then Some ((lead - 0x81) * 190 + (trail - 0x41))
     else None
 
--- the codec: its leads are 81 to FE, and its index is index EUC-KR
+-- the codec: its leads are 0x81 to 0xFE, and its index is index EUC-KR
 abbrev pub euc_kr : List ℕ → Grammar
 euc_kr index = plain is_lead euc_kr_pointer index
 

@@ -1,7 +1,7 @@
--- Formulas of lengths, and the terms that a codec gives for its own.
+-- The formulas of lengths, and the terms of each codec.
 use Rattle.std.specs.Prelude.{ℕ}
 
--- a formula: numbers, sums, products, and halves, which drop the rest
+-- a formula: numbers, sums, products, and halves, which are rounded down
 infixl 60 ◌⊕◌
 infixl 70 ◌⊗◌
 pub data Formula : Type 0 where
@@ -10,8 +10,8 @@ pub data Formula : Type 0 where
   ◌⊗◌ : Formula → Formula → Formula
   half : Formula → Formula
 
--- The term of a codec's formula: of the bytes to come; of those with the weight of what is held back; and of the
--- units of UTF-16 that they make.
+-- The term of a codec's formula. Its variables are the bytes to come (n), those bytes with the weight of the held-back
+-- bytes (m), and their UTF-16 code units.
 infixl 60 ◌⊞◌
 infixl 70 ◌⊠◌
 pub data Term : Type 0 where
@@ -21,7 +21,7 @@ pub data Term : Type 0 where
   ◌⊠◌ : Term → Term → Term
   halved : Term → Term
 
--- the formula of a term, of n, m, and the units
+-- the formula of a term, by n, m and the code units
 abbrev pub formula : Term → Formula → Formula → Formula → Formula
 formula to_come n m u = n
 formula weighed n m u = m

@@ -1,42 +1,42 @@
--- How most decoders of the WHATWG Encoding Standard see a list of bytes: cut into fronts, from first to last.
+-- How most decoders of the WHATWG Encoding Standard read a list of bytes: cut into fronts, from first to last.
 use Rattle.std.specs.Prelude.{ℕ, pred, ◌+◌, List, [], ◌∷◌, ◌++◌, map, zero, suc, if◌then◌else◌}
 use Rattle.std.specs.Char.{is_ascii}
 use Rattle.legacy_base.specs.declared.results.DecodeEvent.{DecodeEvent}
 use Rattle.legacy_base.specs.declared.results.DecodeEvent.TheVariants.{Scalar, Bad}
 
--- what stands at the front of a list: so many bytes that give these scalars, or so many malformed bytes
+-- the sequence that a list begins with: a number of bytes with their scalars, or a number of malformed bytes
 pub data Front : Type 0 where
   reads : ℕ → List ℕ → Front
   malformed : ℕ → Front
 
--- how many bytes a front has
+-- the number of bytes of a front
 abbrev pub front_length : Front → ℕ
 front_length (reads n scalars) = n
 front_length (malformed n) = n
 
--- what a front gives that begins at the place
+-- the events of a front that begins at the place
 abbrev pub front_events : ℕ → Front → List DecodeEvent
 front_events place (reads n scalars) = map Scalar scalars
 front_events place (malformed n) = Bad place n ∷ []
 
--- n bytes with these scalars, or the other front where there are none
+-- n bytes with these scalars, or the other front if there are no scalars
 abbrev pub reads_or : ℕ → List ℕ → Front → Front
 reads_or n [] other = other
 reads_or n (c ∷ scalars) other = reads n (c ∷ scalars)
 
--- The rule of all codecs with leads: n bytes and then t were looked at, and do not map. An ASCII t is no
--- part of the malformed sequence, and is read again; any other t is its last byte.
+-- The rule of all codecs with leads, if n bytes and then the byte t do not map. An ASCII t is not part of the malformed
+-- sequence and is read again; any other t is its last byte.
 abbrev pub trail_rule : ℕ → ℕ → Front
 trail_rule n t = if is_ascii t then malformed n else malformed (n + 1)
 
--- The front after n bytes that want a trail, by the scalars that each trail gives, if any. Without a trail, the n
--- bytes are malformed.
+-- The front of n bytes that need a trail, by the scalars of each trail, if any. Without a trail, the n bytes are
+-- malformed.
 abbrev pub trail_front : ℕ → (ℕ → List ℕ) → List ℕ → Front
 trail_front n scalars [] = malformed n
 trail_front n scalars (t ∷ rest) = reads_or (n + 1) (scalars t) (trail_rule n t)
 
--- The events of a list whose first byte has the place. The first `skip` bytes belong to a front that began
--- before; then each front begins where the one before it ends. `front b rest` is the front of `b ∷ rest`.
+-- The events of a list whose first byte is at the place. The first `skip` bytes belong to a front that began earlier.
+-- After them each front begins where the previous one ends. `front b rest` is the front of `b ∷ rest`.
 unfoldable pub cut : (ℕ → List ℕ → Front) → ℕ → ℕ → List ℕ → List DecodeEvent
 cut front skip place [] = []
 cut front zero place (b ∷ rest) =

@@ -1,4 +1,4 @@
--- The forms and the codes of GB18030 and GBK (WHATWG Encoding Standard, "gb18030 decoder" and "gb18030 encoder").
+-- GB18030 and GBK: their fronts and codes (WHATWG Encoding Standard, "gb18030 decoder" and "gb18030 encoder").
 use Rattle.std.specs.Prelude.{ℕ, ◌+◌, ◌-◌, ◌*◌, ◌/◌, ◌%◌, List, [], ◌∷◌, length, Option, Some, None, Bool, true, false, not, ◌&&◌, ◌||◌, ◌==◌, nat_lt, if◌then◌else◌, option_to_list, option_map}
 use Rattle.std.specs.Option.{option_or}
 use Rattle.std.specs.Int.{is_in_range}
@@ -22,7 +22,7 @@ abbrev pub gb18030_range_pointer : ℕ → ℕ → ℕ → ℕ → ℕ
 gb18030_range_pointer first second third fourth =
     12600 * (first - 0x81) + 1260 * (second - 0x30) + 10 * (third - 0x81) + (fourth - 0x30)
 
--- the front after a lead, a digit and a lead; with no digit fourth, reading goes on at the second byte
+-- the front after a lead, a digit and a lead; if the fourth byte is no digit, reading continues at the second byte
 unfoldable pub gb18030_fourth : List (ℕ × ℕ) → ℕ → ℕ → ℕ → List ℕ → Front
 gb18030_fourth ranges first second third [] = malformed 3
 gb18030_fourth ranges first second third (fourth ∷ rest) =
@@ -30,7 +30,7 @@ gb18030_fourth ranges first second third (fourth ∷ rest) =
     then reads_or 4 (option_to_list (range ranges (gb18030_range_pointer first second third fourth))) (malformed 4)
     else malformed 1
 
--- the front after a lead and a digit; with no lead third, reading goes on at the second byte
+-- the front after a lead and a digit; if the third byte is no lead, reading continues at the second byte
 unfoldable pub gb18030_third : List (ℕ × ℕ) → ℕ → ℕ → List ℕ → Front
 gb18030_third ranges first second [] = malformed 2
 gb18030_third ranges first second (third ∷ rest) =
@@ -51,7 +51,7 @@ gb18030_front index ranges b rest =
     else if is_lead b then gb18030_second index ranges b rest
     else malformed 1
 
--- nothing, the first one to three bytes of four, a digit to be written, or that and a lead
+-- true for nothing, the first one to three bytes of four, a digit to be written, and such a digit with a lead
 abbrev pub gb18030_may_hold : List ℕ → Bool
 gb18030_may_hold [] = true
 gb18030_may_hold (b ∷ []) = is_lead b || is_ascii_digit b
@@ -59,7 +59,7 @@ gb18030_may_hold (b ∷ c ∷ []) = (is_lead b && is_ascii_digit c) || (is_ascii
 gb18030_may_hold (b ∷ c ∷ d ∷ []) = (is_lead b && is_ascii_digit c) && is_lead d
 gb18030_may_hold _ = false
 
--- a digit of a broken form is still to be written
+-- false if a digit of a malformed sequence is still to be written
 abbrev pub gb18030_rests : List ℕ → Bool
 gb18030_rests (b ∷ bytes) = not (is_ascii_digit b)
 gb18030_rests _ = true
@@ -92,7 +92,7 @@ abbrev pub gb18030_range_bytes : ℕ → List ℕ
 gb18030_range_bytes p =
     (p / 12600 + 0x81) ∷ (p % 12600 / 1260 + 0x30) ∷ (p % 1260 / 10 + 0x81) ∷ (p % 10 + 0x30) ∷ []
 
--- the two bytes of a scalar past ASCII: by the private-use rows, and then by the index
+-- the two bytes of a scalar past ASCII, from the private-use rows or else from the index
 abbrev pub gb18030_pair_code : List (ℕ × ℕ × ℕ) → List ℕ → ℕ → Option (List ℕ)
 gb18030_pair_code pua index c =
     option_or (option_map (λ row. row.0 ∷ row.1 ∷ []) (gb18030_pua_of pua c))
@@ -105,7 +105,7 @@ gb18030_code index ranges pua c =
     else if c == 0xE5E5 then None
     else option_or (gb18030_pair_code pua index c) (option_map gb18030_range_bytes (range_pointer_of ranges c))
 
--- the code of a scalar in GBK: no four bytes, and a byte for the euro sign
+-- the code of a scalar in GBK: no code has four bytes, and the euro sign has one byte
 unfoldable pub gbk_code : List ℕ → List (ℕ × ℕ × ℕ) → ℕ → Option (List ℕ)
 gbk_code index pua c =
     if is_ascii c then Some (c ∷ [])

@@ -1,4 +1,4 @@
--- What each decoder gives of a whole list of bytes.
+-- The events of each decoder for a whole list of bytes.
 use Rattle.std.specs.Prelude.{ℕ, List, Bool, Option}
 use Rattle.legacy_base.specs.declared.results.DecodeEvent.{DecodeEvent}
 use Rattle.legacy_base.specs.Profile.{Profile}
@@ -13,9 +13,9 @@ use Rattle.legacy_base.specs.Iso2022Jp.{Mode, iso_2022_jp_profile}
 use Rattle.legacy_base.specs.Utf16.{utf16_profile}
 use Rattle.legacy_base.specs.Replacement.{replacement_profile}
 
--- A decoder with the lists that it reads by. In ISO-2022-JP also the mode in which a list begins, in UTF-16
--- the byte order, in the replacement decoder whether the fault was reported. Each plain codec of leads and trails is a
--- `plain`, by its leads, its pointers and its index.
+-- A decoder with the lists that it uses. ISO-2022-JP also has the mode in which a list begins, UTF-16 the byte order,
+-- and the replacement decoder whether it has reported its error. Each plain codec of leads and trails is a `plain` with
+-- its leads, pointers and index.
 pub data Grammar : Type 0 where
   single_byte : (table : List ℕ) → Grammar
   user_defined : Grammar
@@ -28,7 +28,7 @@ pub data Grammar : Type 0 where
   gb18030 : (index : List ℕ) (ranges : List (ℕ × ℕ)) → Grammar
   iso_2022_jp : (jis0208 : List ℕ) (mode : Mode) → Grammar
 
--- the codec of a grammar
+-- the profile of a grammar's codec
 abbrev pub profile : Grammar → Profile
 profile (single_byte table) = single_byte_profile table
 profile user_defined = user_defined_profile

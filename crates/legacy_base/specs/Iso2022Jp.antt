@@ -1,6 +1,6 @@
--- ISO-2022-JP (WHATWG Encoding Standard, "ISO-2022-JP decoder" and "ISO-2022-JP encoder"). Bytes are cut before each
--- escape byte, and each part is read by itself. Of a text, the mode behind each scalar is found by looking back: no
--- mode is carried along.
+-- ISO-2022-JP (WHATWG Encoding Standard, "ISO-2022-JP decoder" and "ISO-2022-JP encoder"). To decode, a list is cut
+-- before each escape byte and each part is read by itself. To encode, the mode after each scalar is found by looking
+-- back over the text.
 use Rattle.std.specs.Prelude.{ℕ, ◌+◌, ◌-◌, ◌*◌, ◌/◌, ◌%◌, List, [], ◌∷◌, ◌++◌, drop, map, Option, Some, None}
 use Rattle.std.specs.Prelude.{Bool, true, false, not, ◌&&◌, ◌||◌, ◌==◌, if◌then◌else◌, length, is_some, is_none, option_to_list, option_map, option_and_then, unwrap_or}
 use Rattle.std.specs.Int.{is_in_range}
@@ -18,7 +18,7 @@ use Rattle.legacy_base.specs.EncodeEvents.{code_events}
 use Rattle.legacy_base.specs.EncoderProfile.{EncoderProfile, EncoderMode, in_ascii, in_roman, in_two_byte, by_form}
 use Rattle.legacy_tables.specs.Pointers.{euc_jp_pointer_of, minus_as_hyphen}
 
--- how the bytes behind an escape are read
+-- how the bytes after an escape are read
 pub data Mode : Type 0 where
   ascii roman katakana two_byte : Mode
 
@@ -26,7 +26,7 @@ pub data Mode : Type 0 where
 abbrev pub esc : ℕ
 esc = 0x1B
 
--- the mode that an escape byte and these two bytes switch to
+-- the mode of the escape that consists of an escape byte and these two bytes
 abbrev pub escape_mode : ℕ → ℕ → Option Mode
 escape_mode a b =
     if a == 0x28 && b == 0x42 then Some ascii
@@ -37,22 +37,23 @@ escape_mode a b =
 
 -- ---- the parts
 
--- a byte in front of the first part
+-- puts a byte at the beginning of the first part
 abbrev pub with_first : ℕ → List (List ℕ) → List (List ℕ)
 with_first b [] = (b ∷ []) ∷ []
 with_first b (part ∷ parts) = (b ∷ part) ∷ parts
 
--- the list cut before each escape byte: the first part has none, and may be empty
+-- the list cut before each escape byte: the first part begins with none, and may be empty
 unfoldable pub parts_of : List ℕ → List (List ℕ)
 parts_of [] = [] ∷ []
 parts_of (b ∷ bytes) = if b == esc then [] ∷ with_first b (parts_of bytes) else with_first b (parts_of bytes)
 
--- the mode of the valid escape that a part begins with, if it does
+-- the mode of the valid escape that a part begins with, if any
 unfoldable pub part_mode : List ℕ → Option Mode
 part_mode (e ∷ a ∷ b ∷ body) = if e == esc then escape_mode a b else None
 part_mode _ = None
 
--- how many bytes stand before a part's body: a valid escape, or an escape byte that begins none
+-- the number of bytes before a part's body: those of a valid escape, or 1 for an escape byte that begins no valid
+-- escape
 unfoldable pub escape_length : List ℕ → ℕ
 escape_length [] = 0
 escape_length (b ∷ part) =
@@ -88,8 +89,8 @@ iso_2022_jp_front jis0208 two_byte b (t ∷ rest) =
 
 -- ---- the events
 
--- What stands before a body gives: an escape byte that begins no valid escape is malformed, and so is a
--- valid escape with nothing behind it but the next valid escape. Any other valid escape gives nothing.
+-- The events of the bytes before a body. An escape byte that begins no valid escape is malformed. So is a valid escape
+-- directly before the next valid escape. Other valid escapes give no events.
 unfoldable pub escape_events : ℕ → List ℕ → List (List ℕ) → List DecodeEvent
 escape_events place [] next = []
 escape_events place (b ∷ part) next =
@@ -98,14 +99,14 @@ escape_events place (b ∷ part) next =
     else if b == esc then Bad place 1 ∷ []
     else []
 
--- what a part gives that begins at the place, is read in the mode and has these parts behind it
+-- the events of a part that begins at the place, is read in the mode, and is followed by these parts
 unfoldable pub part_events : List ℕ → Mode → ℕ → List ℕ → List (List ℕ) → List DecodeEvent
 part_events jis0208 mode place part next =
     escape_events place part next
     ++ cut (iso_2022_jp_front jis0208 mode) 0 (place + escape_length part) (drop (escape_length part) part)
 
--- What parts give, the first at the place and after a part in the mode: each is in the mode of its own valid
--- escape, or of the part before it.
+-- The events of parts, the first of which begins at the place and follows a part in the mode. Each part is read in the
+-- mode of its own valid escape, or else in the mode of the previous part.
 unfoldable pub parts_events : List ℕ → Mode → ℕ → List (List ℕ) → List DecodeEvent
 parts_events jis0208 mode place [] = []
 parts_events jis0208 mode place (part ∷ parts) =
@@ -116,23 +117,23 @@ parts_events jis0208 mode place (part ∷ parts) =
 unfoldable pub iso_2022_jp_events : List ℕ → Mode → List ℕ → List DecodeEvent
 iso_2022_jp_events jis0208 mode bytes = parts_events jis0208 mode 0 (parts_of bytes)
 
--- ---- what is held back
+-- ---- held-back bytes
 
--- the two-byte mode
+-- true for the two-byte mode
 abbrev pub is_two_byte_mode : Mode → Bool
 is_two_byte_mode two_byte = true
 is_two_byte_mode _ = false
 
--- the ASCII mode
+-- true for the ASCII mode
 abbrev pub is_ascii_mode : Mode → Bool
 is_ascii_mode ascii = true
 is_ascii_mode _ = false
 
--- the second byte of the valid escapes
+-- the byte is the second byte of a valid escape
 abbrev pub is_escape_second : ℕ → Bool
 is_escape_second b = b == 0x24 || b == 0x28
 
--- less than a whole escape, but one may come: nothing, the escape byte, or that and a second byte
+-- the beginning of an escape: nothing, the escape byte, or the escape byte and a second byte
 abbrev pub is_escape_start : List ℕ → Bool
 is_escape_start [] = true
 is_escape_start (e ∷ []) = e == esc
@@ -144,17 +145,17 @@ abbrev pub is_whole_escape : List ℕ → Bool
 is_whole_escape (e ∷ a ∷ b ∷ bytes) = e == esc && is_some (escape_mode a b)
 is_whole_escape _ = false
 
--- a byte by itself that is held back: a lead, or what came behind a lone escape byte
+-- the byte may be held back by itself: a lead, or the byte after a malformed escape byte
 abbrev pub is_iso_2022_jp_byte : Mode → ℕ → Bool
 is_iso_2022_jp_byte mode b = if is_two_byte_mode mode then is_in_range 0x21 0x7E b else is_escape_second b
 
--- a byte by itself, less than a whole escape, or a whole one and less than the next
+-- a byte by itself, the beginning of an escape, or a whole escape and the beginning of the next one
 abbrev pub iso_2022_jp_may_hold : Mode → List ℕ → Bool
 iso_2022_jp_may_hold mode (b ∷ []) = b == esc || is_iso_2022_jp_byte mode b
 iso_2022_jp_may_hold mode bytes =
     is_escape_start bytes || (is_whole_escape bytes && is_escape_start (drop 3 bytes))
 
--- what came behind a lone escape byte outside two-byte mode is still to be written
+-- false outside two-byte mode if the byte after a malformed escape byte is still to be written
 abbrev pub iso_2022_jp_rests : Mode → List ℕ → Bool
 iso_2022_jp_rests mode (b ∷ []) = is_two_byte_mode mode || not (is_escape_second b)
 iso_2022_jp_rests mode _ = true
@@ -182,17 +183,17 @@ iso_2022_jp_profile jis0208 mode = record {
 
 -- ---- encoding: the code of a scalar, without the escapes around it
 
--- the controls that would switch modes have no code
+-- the control characters that could switch modes, which have no code
 abbrev pub is_mode_control : ℕ → Bool
 is_mode_control c = (c == 0x0E || c == 0x0F) || c == esc
 
--- The scalar that is looked up for c: for a half-width katakana letter the entry of the katakana index, if it has
--- one, and for the minus sign the full-width hyphen-minus.
+-- The scalar that is looked up for c: for half-width katakana its entry in the katakana index, if any, and for the
+-- minus sign the full-width hyphen-minus.
 abbrev pub iso_2022_jp_fold : List ℕ → ℕ → Option ℕ
 iso_2022_jp_fold katakana_index c =
     if is_in_range 0xFF61 0xFF9F c then idx katakana_index (c - 0xFF61) else Some (minus_as_hyphen c)
 
--- the pointer of what is looked up for c
+-- the pointer of the scalar that is looked up for c
 abbrev pub iso_2022_jp_pointer_of : List ℕ → List ℕ → ℕ → Option ℕ
 iso_2022_jp_pointer_of jis0208 katakana_index c =
     option_and_then (euc_jp_pointer_of jis0208) (iso_2022_jp_fold katakana_index c)
@@ -201,7 +202,7 @@ iso_2022_jp_pointer_of jis0208 katakana_index c =
 abbrev pub iso_2022_jp_pair : ℕ → List ℕ
 iso_2022_jp_pair p = (p / 94 + 0x21) ∷ (p % 94 + 0x21) ∷ []
 
--- the code of a scalar, in the mode that it needs
+-- the code of a scalar in the mode that it needs
 unfoldable pub iso_2022_jp_code : List ℕ → List ℕ → ℕ → Option (List ℕ)
 iso_2022_jp_code jis0208 katakana_index c =
     if is_mode_control c then None
@@ -210,21 +211,21 @@ iso_2022_jp_code jis0208 katakana_index c =
     else if c == 0x203E then Some (0x7E ∷ [])
     else option_map iso_2022_jp_pair (iso_2022_jp_pointer_of jis0208 katakana_index c)
 
--- the scalar that is reported where c has no code
+-- the scalar that is reported if c is unmappable
 abbrev pub iso_2022_jp_reported : ℕ → ℕ
 iso_2022_jp_reported c = if is_mode_control c then 0xFFFD else c
 
--- ---- the mode behind a text
+-- ---- the mode after a text
 
--- a scalar that is the same byte in ASCII mode and in Roman mode
+-- the scalar is the same byte in ASCII mode and in Roman mode
 abbrev pub is_neutral_scalar : ℕ → Bool
 is_neutral_scalar c = is_ascii c && not ((c == 0x5C || c == 0x7E) || is_mode_control c)
 
--- a scalar of Roman mode alone
+-- the scalar is written in Roman mode only
 abbrev pub is_roman_scalar : ℕ → Bool
 is_roman_scalar c = c == 0xA5 || c == 0x203E
 
--- the code is a pair
+-- the code has two bytes
 abbrev pub is_pair : Option (List ℕ) → Bool
 is_pair (Some (a ∷ b ∷ [])) = true
 is_pair _ = false
@@ -233,17 +234,17 @@ is_pair _ = false
 abbrev pub is_two_byte_scalar : List ℕ → List ℕ → ℕ → Bool
 is_two_byte_scalar jis0208 katakana_index c = is_pair (iso_2022_jp_code jis0208 katakana_index c)
 
--- the scalar says nothing of the mode: it is neutral, or has no code
+-- the scalar does not determine the mode: it is neutral or unmappable
 abbrev pub keeps_mode : List ℕ → List ℕ → ℕ → Bool
 keeps_mode jis0208 katakana_index c = is_neutral_scalar c || is_none (iso_2022_jp_code jis0208 katakana_index c)
 
--- Roman mode stays, and any other becomes ASCII mode
+-- Roman mode stays, and any other mode becomes ASCII mode
 abbrev pub roman_or_ascii : EncoderMode → EncoderMode
 roman_or_ascii in_roman = in_roman
 roman_or_ascii _ = in_ascii
 
--- The mode behind a text that does not end with a scalar of two-byte mode, its last scalar first, where it began in
--- the mode: the last scalar that says something of the mode decides, and without one a Roman mode stays.
+-- The mode after a text that began in the mode and does not end with a scalar of two-byte mode. The text is given last
+-- scalar first. The last scalar that determines the mode decides; without one, Roman mode stays.
 unfoldable pub settled_mode : List ℕ → List ℕ → EncoderMode → List ℕ → EncoderMode
 settled_mode jis0208 katakana_index mode [] = roman_or_ascii mode
 settled_mode jis0208 katakana_index mode (c ∷ before) =
@@ -251,7 +252,7 @@ settled_mode jis0208 katakana_index mode (c ∷ before) =
     else if is_roman_scalar c then in_roman
     else in_ascii
 
--- the mode behind a text that began in the mode, its last scalar first
+-- the mode after a text that began in the mode, given last scalar first
 unfoldable pub mode_behind : List ℕ → List ℕ → EncoderMode → List ℕ → EncoderMode
 mode_behind jis0208 katakana_index mode [] = mode
 mode_behind jis0208 katakana_index mode (c ∷ before) =
@@ -266,30 +267,30 @@ escape_to in_ascii = esc ∷ 0x28 ∷ 0x42 ∷ []
 escape_to in_roman = esc ∷ 0x28 ∷ 0x4A ∷ []
 escape_to in_two_byte = esc ∷ 0x24 ∷ 0x42 ∷ []
 
--- the escape from one mode to another, and nothing between equal ones
+-- the escape from one mode to another, or nothing if they are equal
 abbrev pub escape_between : EncoderMode → EncoderMode → List ℕ
 escape_between in_ascii in_ascii = []
 escape_between in_roman in_roman = []
 escape_between in_two_byte in_two_byte = []
 escape_between _ new = escape_to new
 
--- the escape before c behind the scalars `before`, the last one first, of a text that began in the mode
+-- the escape before c, after the scalars `before` (last one first) of a text that began in the mode
 abbrev pub escape_before : List ℕ → List ℕ → EncoderMode → List ℕ → ℕ → List ℕ
 escape_before jis0208 katakana_index mode before c =
     escape_between (mode_behind jis0208 katakana_index mode before) (mode_behind jis0208 katakana_index mode (c ∷ before))
 
--- what c gives there: the escape, where the mode changes, and its bytes, or the report that it has none
+-- the events of c after `before`: the escape if the mode changes, and its bytes or its report
 abbrev pub iso_2022_jp_scalar_events : List ℕ → List ℕ → EncoderMode → List ℕ → ℕ → List EncodeEvent
 iso_2022_jp_scalar_events jis0208 katakana_index mode before c =
     map Byte (escape_before jis0208 katakana_index mode before c)
     ++ code_events (iso_2022_jp_reported c) (iso_2022_jp_code jis0208 katakana_index c)
 
--- what the end of a text gives: the escape to ASCII mode where it ends in another; a text that goes on gives nothing
+-- the events of the end of a text: the escape to ASCII mode if it ends in another mode; none if the text continues
 abbrev pub iso_2022_jp_end_events : EncoderMode → Bool → List EncodeEvent
 iso_2022_jp_end_events mode false = []
 iso_2022_jp_end_events mode true = map Byte (escape_between mode in_ascii)
 
--- the events of the rest of a text that began in the mode, behind the scalars `before`, the last one first
+-- the events of the rest of a text that began in the mode, after the scalars `before`, last one first
 unfoldable pub iso_2022_jp_text_events : List ℕ → List ℕ
     → EncoderMode → List ℕ → List ℕ → Bool → List EncodeEvent
 iso_2022_jp_text_events jis0208 katakana_index mode before [] ended =
@@ -298,8 +299,8 @@ iso_2022_jp_text_events jis0208 katakana_index mode before (c ∷ text) ended =
     iso_2022_jp_scalar_events jis0208 katakana_index mode before c
     ++ iso_2022_jp_text_events jis0208 katakana_index mode (c ∷ before) text ended
 
--- by how much less than the formula's value is enough: by one from UTF-8 in ASCII mode, and by one from UTF-16 in
--- two-byte mode for an odd number of code units
+-- The amount by which less than the formula's value is enough. It is one from UTF-8 in ASCII mode, and one from UTF-16
+-- in two-byte mode for an odd number of code units.
 abbrev pub iso_2022_jp_surplus : EncodingForm → EncoderMode → ℕ → ℕ
 iso_2022_jp_surplus Utf8 in_ascii n = 1
 iso_2022_jp_surplus Utf16 in_two_byte n = n % 2

@@ -1,4 +1,4 @@
--- What is proved of the definitions themselves.
+-- The laws that are proved of the definitions.
 use Rattle.std.specs.Prelude.{◌≡◌, ℕ, ◌+◌, ◌<◌, ◌≤◌, List, [], ◌∷◌, ◌++◌, length, drop, Bool, Option, All}
 use Rattle.std.specs.Char.{IsScalar}
 use Rattle.legacy_tables.specs.declared.tables.IndexName.{IndexName}
@@ -19,18 +19,18 @@ use Rattle.legacy_tables.specs.TableChecks.{AreAccepted, IsAcceptedTable}
 use Rattle.legacy_tables.specs.Tables.{index_list}
 use Rattle.legacy_tables.specs.Unicode.{IsByte, AreBytes, AreScalars}
 
--- the scalars of a front, and none of malformed bytes
+-- the scalars of a front, or none if it is malformed
 abbrev pub front_scalars : Front → List ℕ
 front_scalars (reads n scalars) = scalars
 front_scalars (malformed n) = []
 
--- a front that is not malformed gives one scalar or two
+-- a front that is not malformed gives one or two scalars
 abbrev pub GivesOneOrTwo : Front → Type 0
 GivesOneOrTwo (reads n scalars) = (1 ≤ length scalars) × (length scalars ≤ 2)
 GivesOneOrTwo (malformed n) = Unit {0}
 
--- A front of a list of so many bytes: of one to four of them. What it gives are one scalar or two, and Unicode scalar
--- values where what it is read by is checked.
+-- A front of a list of `size` bytes has one to four of them. It is malformed or gives one or two scalars, which are
+-- Unicode scalar values if `checked` holds.
 pub record IsFrontOf (size : ℕ) (checked : Type 0) (f : Front) : Type 0 where
   pub some : 0 < front_length f
   pub within : front_length f ≤ size
@@ -38,16 +38,16 @@ pub record IsFrontOf (size : ℕ) (checked : Type 0) (f : Front) : Type 0 where
   pub few : GivesOneOrTwo f
   pub scalars : checked → AreScalars (front_scalars f)
 
--- A grammar is read front by front, and this is the front of a list by its first byte b and the bytes behind it. What
--- each front gives are Unicode scalar values where the grammar's lists are accepted and b is a byte.
+-- A grammar is read front by front; `front b rest` is the front of a list with the first byte b. The scalars of each
+-- front are Unicode scalar values if the grammar's lists are accepted and b is a byte.
 abbrev pub IsReadByFronts : Grammar → Type 0 → (ℕ → List ℕ → Front) → Type 0
 IsReadByFronts grammar accepted front = (b : ℕ) (rest : List ℕ) →
     IsFrontOf (length (b ∷ rest)) (accepted × IsByte b) (front b rest)
     × (events_of grammar (b ∷ rest)
     ≡ front_events 0 (front b rest) ++ shift (front_length (front b rest)) (events_of grammar (drop (front_length (front b rest)) (b ∷ rest))))
 
--- The grammars that are, by any lists, accepted or not: six of one codec each, and those of the plain codecs of leads and
--- trails, of which EUC-KR is one, with any of the indexes.
+-- The grammars that are read front by front, with any lists, accepted or not. Six are of one codec each. The others are
+-- the plain codecs of leads and trails, such as EUC-KR, with any of the indexes.
 pub record AreReadByFronts : Type 0 where
   pub single_byte_is : (table : List ℕ) → IsReadByFronts (single_byte table) (IsAcceptedTable table) (single_byte_front table)
   pub user_defined_is : IsReadByFronts user_defined Unit user_defined_front
@@ -65,7 +65,7 @@ pub record AreReadByFronts : Type 0 where
 abbrev pub HasNoneOfNothing : Type 0
 HasNoneOfNothing = (grammar : Grammar) → events_of grammar [] ≡ []
 
--- the lists that a grammar reads by are those of accepted tables
+-- the lists of a grammar are those of accepted tables
 abbrev pub IsOfAcceptedTables : Grammar → Type 0
 IsOfAcceptedTables (single_byte table) = IsAcceptedTable table
 IsOfAcceptedTables user_defined = Unit {0}
@@ -81,13 +81,14 @@ IsOfAcceptedTables (gb18030 index ranges) =
     (flat : FlatIndexes) × AreAccepted flat × (index ≡ flat.gb18030) × (ranges ≡ flat.ranges)
 IsOfAcceptedTables (iso_2022_jp jis0208 mode) = (flat : FlatIndexes) × AreAccepted flat × (jis0208 ≡ flat.jis0208)
 
--- An event of a list of so many bytes: a malformed sequence has one to four bytes of it, and a scalar is a Unicode scalar
--- value where what it is read by is checked.
+-- An event of a list of `size` bytes. A malformed sequence has one to four bytes inside the list. A scalar is a Unicode
+-- scalar value if `checked` holds.
 abbrev pub IsEventOf : ℕ → Type 0 → DecodeEvent → Type 0
 IsEventOf size checked (Scalar c) = checked → IsScalar c
 IsEventOf size checked (Bad place length) = (1 ≤ length) × (length ≤ 4) × (place + length ≤ size)
 
--- all events of all lists are, in every codec, where its tables are accepted and the list is of bytes
+-- In every codec, all events of a list are such events. A scalar is a Unicode scalar value if the tables are accepted
+-- and the list consists of bytes.
 abbrev pub HasSoundEvents : Type 0
 HasSoundEvents = (grammar : Grammar) (bytes : List ℕ) →
     All (IsEventOf (length bytes) (IsOfAcceptedTables grammar × AreBytes bytes)) (events_of grammar bytes)

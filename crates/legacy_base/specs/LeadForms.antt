@@ -1,5 +1,5 @@
--- Plain codecs of leads and trails: ASCII bytes are themselves, a lead and a trail give the scalar of their pointer in one
--- index, and there are no other forms (WHATWG Encoding Standard, as in "EUC-KR decoder").
+-- Plain codecs of leads and trails (WHATWG Encoding Standard, for example "EUC-KR decoder"). An ASCII byte is its own
+-- scalar. A lead and a trail give the scalar of their pointer in one index. There are no other sequences.
 use Rattle.std.specs.Prelude.{ℕ, List, [], ◌∷◌, length, Bool, true, false, Option, if◌then◌else◌, option_to_list}
 use Rattle.std.specs.Option.{option_map_or}
 use Rattle.std.specs.Char.{is_ascii}
@@ -12,7 +12,7 @@ use Rattle.legacy_base.specs.Formulas.{weighed, constant, ◌⊞◌, ◌⊠◌, 
 abbrev pub pointer_scalars : List ℕ → Option ℕ → List ℕ
 pointer_scalars index pointer = option_map_or (λ p. option_to_list (idx index p)) pointer []
 
--- the scalar of a lead and a trail, if they have a pointer and that has one
+-- the scalar of a lead and a trail, if they have a pointer with a scalar
 abbrev pub pair_scalars : (ℕ → ℕ → Option ℕ) → List ℕ → ℕ → ℕ → List ℕ
 pair_scalars pointers index lead trail = pointer_scalars index (pointers lead trail)
 
@@ -27,7 +27,7 @@ lead_front is_lead_byte pointers index b rest =
     else if is_lead_byte b then lead_pair pointers index b rest
     else malformed 1
 
--- the codec, by which bytes are leads, by the pointer of a lead and another byte, if they have one, and by its index
+-- the codec, given which bytes are leads, the pointer of a lead and another byte (if any), and the index
 abbrev pub plain_profile : (ℕ → Bool) → (ℕ → ℕ → Option ℕ) → List ℕ → Profile
 plain_profile is_lead_byte pointers index = record {
   events = cut (lead_front is_lead_byte pointers index) 0 0;

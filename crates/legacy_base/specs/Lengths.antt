@@ -1,5 +1,5 @@
--- How many code units of output, at most, a number of bytes needs: the formulas that the length queries
--- answer, and the room that they leave. They are this library's own; that they suffice is proved of every call.
+-- The number of code units of output that a number of bytes needs, at most. These are the formulas that the length
+-- queries return, and the room that they leave. They are not in the Standard; each call is proved to need no more.
 use Rattle.std.specs.Prelude.{ℕ, ◌+◌, ◌-◌, ◌*◌, ◌/◌, ◌^◌, List, Option, Some, None, Bool, true, ◌&&◌, nat_le, if◌then◌else◌}
 use Rattle.legacy_base.specs.declared.results.DecoderResult.{DecoderResult}
 use Rattle.legacy_base.specs.declared.results.DecoderResult.TheVariants.{InputEmpty, OutputFull, Malformed}
@@ -12,46 +12,46 @@ use Rattle.legacy_base.specs.Acts.{has_reported}
 
 -- ---- formulas
 
--- the value of a formula, over numbers without a limit
+-- the value of a formula, as an unbounded number
 abbrev pub value : Formula → ℕ
 value (number n) = n
 value (a ⊕ b) = value a + value b
 value (a ⊗ b) = value a * value b
 value (half a) = value a / 2
 
--- the greatest length
+-- the maximum of `usize`
 abbrev pub usize_max : ℕ
 usize_max = 2 ^ 64 - 1
 
--- each sum and each product on the way is a length
+-- each sum and each product of the formula is at most `usize::MAX`
 abbrev pub has_lengths : Formula → Bool
 has_lengths (number n) = true
 has_lengths (a ⊕ b) = (has_lengths a && has_lengths b) && nat_le (value a + value b) usize_max
 has_lengths (a ⊗ b) = (has_lengths a && has_lengths b) && nat_le (value a * value b) usize_max
 has_lengths (half a) = has_lengths a
 
--- what a length query answers: none where a sum or a product on the way is above the greatest length
+-- the result of a length query: none if a sum or a product of the formula exceeds `usize::MAX`
 abbrev pub answer : Formula → Option ℕ
 answer f = if has_lengths f then Some (value f) else None
 
--- ---- the weight of the bytes that are held back
+-- ---- the weight of held-back bytes
 
--- how many bytes to come those held back are worth
+-- the number of further bytes that the held-back bytes count as
 abbrev pub weight : Grammar → List ℕ → ℕ
 weight grammar bytes = (profile grammar).weight bytes
 
--- ---- the formulas of decoders: for n more bytes, for m, which is n with the weight of what is held back, and in
--- UTF-16 for the units that they make
+-- ---- the formulas of decoders: by n, the number of bytes to come, by m, which is n with the weight of the held-back
+-- bytes, and in UTF-16 by the number of code units
 
 -- m
 abbrev pub weighted : DecoderState → ℕ → Formula
 weighted state n = number n ⊕ number (weight state.grammar state.held)
 
--- the units that n more bytes and those held back make, at most
+-- the code units that n more bytes and the held-back bytes make, at most
 abbrev pub utf16_units : DecoderState → ℕ → Formula
 utf16_units state n = half (number n ⊕ number (additional_from_state state))
 
--- `max_utf16_buffer_length`, of n, m, and the units
+-- `max_utf16_buffer_length`, by n, m and the code units
 abbrev pub utf16_formula : Grammar → Formula → Formula → Formula → Formula
 utf16_formula grammar = formula (profile grammar).utf16_length
 
@@ -70,19 +70,19 @@ utf8_formula grammar = formula (profile grammar).utf8_length
 pub data LengthQuery : Type 0 where
   to_utf16 to_utf8 to_utf8_without_replacement : LengthQuery
 
--- the encoding form that a query is about
+-- the encoding form of a query
 abbrev pub query_form : LengthQuery → EncodingForm
 query_form to_utf16 = Utf16
 query_form to_utf8 = Utf8
 query_form to_utf8_without_replacement = Utf8
 
--- the code units that a query sets aside for the U+FFFD of a malformed sequence
+-- the code units that a query counts for the U+FFFD of a malformed sequence
 abbrev pub replacement_units : LengthQuery → ℕ
 replacement_units to_utf16 = 1
 replacement_units to_utf8 = 3
 replacement_units to_utf8_without_replacement = 0
 
--- the code units that a query sets aside for an answer
+-- the code units that a query counts for a result
 abbrev pub answer_units : LengthQuery → DecoderResult → ℕ
 answer_units query InputEmpty = 0
 answer_units query OutputFull = 0
@@ -99,11 +99,11 @@ abbrev pub state_formula : LengthQuery → DecoderState → ℕ → Formula
 state_formula query state n =
     query_formula query state.grammar (number n) (weighted state n) (utf16_units state n)
 
--- what a query answers, for n more bytes
+-- the result of a query for n more bytes
 abbrev pub query_answer : LengthQuery → DecoderState → ℕ → Option ℕ
 query_answer query state n = answer (state_formula query state n)
 
--- The room that n more bytes can still take, over numbers without a limit; no room once a replacement decoder has
--- reported.
+-- The room that n more bytes can need, as an unbounded number. It is 0 after a replacement decoder has reported its
+-- error.
 abbrev pub room : LengthQuery → DecoderState → ℕ → ℕ
 room query state n = if has_reported state.grammar then 0 else value (state_formula query state n)

@@ -1,6 +1,6 @@
--- What the codecs mean, in the order in which a reader comes to believe it. An `abbrev` is a small case analysis, which
--- proofs see through. What recurses on lists, or holds a codec's whole case analysis, is `unfoldable`: a proof opens it
--- where it wants to, and else goes by its laws.
+-- The meaning of each codec, in reading order. An `abbrev` is a small case analysis that proofs see through. A
+-- definition that recurses over lists, or contains a codec's whole case analysis, is `unfoldable`. Proofs mostly use
+-- its laws, and unfold it only if they must.
 pub mod Beginnings
 pub mod Events
 pub mod Fronts

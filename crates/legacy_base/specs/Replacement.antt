@@ -5,13 +5,13 @@ use Rattle.legacy_base.specs.declared.results.DecodeEvent.TheVariants.{Bad}
 use Rattle.legacy_base.specs.Profile.{Profile, narrow_acts, is_empty, always_rests, weightless}
 use Rattle.legacy_base.specs.Formulas.{constant}
 
--- the first byte is malformed and the rest is swallowed; nothing more once that was reported
+-- the first byte is malformed and the rest is ignored; there are no events after the report
 unfoldable pub replacement_events : Bool → List ℕ → List DecodeEvent
 replacement_events true bytes = []
 replacement_events false [] = []
 replacement_events false (b ∷ bytes) = Bad 0 1 ∷ []
 
--- the codec, which has reported its fault or has not
+-- the codec, by whether it has reported its error
 abbrev pub replacement_profile : Bool → Profile
 replacement_profile has_reported = record {
   events = replacement_events has_reported;

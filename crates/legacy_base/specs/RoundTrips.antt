@@ -1,4 +1,4 @@
--- What comes back: a text that was encoded, and is decoded again.
+-- Round trips: a text is encoded, and its bytes are decoded.
 use Rattle.std.specs.Prelude.{◌≡◌, ℕ, List, [], ◌∷◌, ◌++◌, drop, get_or, length, map, filter, Bool, true, false, not, ◌&&◌, ◌||◌, ◌==◌, ⊤, All, Some, is_some, unwrap_or, if◌then◌else◌}
 use Rattle.std.specs.Option.{option_map_or}
 use Rattle.std.specs.List.{list_any}
@@ -19,7 +19,7 @@ use Rattle.legacy_tables.specs.AcceptedTables.{AcceptedIndexes, AcceptedTable}
 use Rattle.legacy_base.specs.Encoders.{Codec, single_byte, user_defined, big5, euc_kr, shift_jis, euc_jp, gb18030, gbk, iso_2022_jp}
 use Rattle.legacy_base.specs.Encoders.{new_encoder, code, encoded}
 
--- the grammar of a codec's decoder with the same lists: GBK is decoded as GB18030, and ISO-2022-JP from ASCII mode on
+-- the grammar of a codec's decoder with the same lists: GBK is decoded as GB18030, and ISO-2022-JP begins in ASCII mode
 abbrev pub grammar_of : Codec → Grammar
 grammar_of (single_byte table) = grammars.single_byte table
 grammar_of user_defined = grammars.user_defined
@@ -31,7 +31,7 @@ grammar_of (gb18030 index ranges pua) = grammars.gb18030 index ranges
 grammar_of (gbk index ranges pua) = grammars.gb18030 index ranges
 grammar_of (iso_2022_jp jis0208 katakana_index) = grammars.iso_2022_jp jis0208 ascii
 
--- The lists of a codec are those of indexes that passed their check, or of a single-byte table that did.
+-- The lists of a codec are those of accepted indexes, or of an accepted single-byte table.
 abbrev pub HasAcceptedLists : Codec → Type 0
 HasAcceptedLists (single_byte table) = (accepted : AcceptedTable) × (table ≡ accepted.entries)
 HasAcceptedLists user_defined = ⊤
@@ -49,9 +49,9 @@ HasAcceptedLists (gbk index ranges pua) =
 HasAcceptedLists (iso_2022_jp jis0208 katakana_index) =
     (indexes : AcceptedIndexes) × (jis0208 ≡ indexes.flat.jis0208) × (katakana_index ≡ indexes.flat.katakana)
 
--- ---- folds: the scalars that an encoder writes with the bytes of another scalar
+-- ---- folds: scalars that an encoder writes with the bytes of another scalar
 
--- the yen sign and the overline, which get bytes of ASCII, and the minus sign, which gets those of U+FF0D
+-- the yen sign and the overline, which are written as ASCII bytes, and the minus sign, which is written as U+FF0D
 abbrev pub is_japanese_fold : ℕ → Bool
 is_japanese_fold c = (c == 0xA5 || c == 0x203E) || c == 0x2212
 
@@ -71,19 +71,19 @@ is_fold _ c = false
 
 -- ---- the law
 
--- A text that a new encoder writes in full: these bytes are all that it gives up to the end, so that no scalar is
--- unmappable; and no scalar of the text is a fold.
+-- A new encoder writes the text in full as `bytes`, including its end, so no scalar is unmappable. No scalar of the
+-- text is a fold.
 pub record IsEncodedAs (codec : Codec) (text bytes : List ℕ) : Type 0 where
   pub whole : encoded (new_encoder codec) text true ≡ map Byte bytes
   pub unfolded : list_any (is_fold codec) text ≡ false
 
--- what was encoded decodes to the same text: to its scalars, and nothing else
+-- encoded text decodes to the scalars of the text, with no malformed sequences
 abbrev pub RoundTrips : Type 0
 RoundTrips =
     (codec : Codec) → HasAcceptedLists codec →
     (text bytes : List ℕ) → IsEncodedAs codec text bytes → events_of (grammar_of codec) bytes ≡ map Scalar text
 
--- Where bytes were written so, the text that they decode to is encoded as the same bytes.
+-- The text that these bytes decode to is encoded as the same bytes.
 abbrev pub ReencodesToTheSame : Type 0
 ReencodesToTheSame =
     (codec : Codec) → HasAcceptedLists codec →
@@ -93,38 +93,37 @@ ReencodesToTheSame =
 
 -- ---- escapes in ISO-2022-JP
 
--- The bytes end in ASCII mode: behind them everything is read as from that mode, where it does not begin with a valid
--- escape.
+-- The bytes end in ASCII mode: bytes after them are read as from ASCII mode, if they do not begin with a valid escape.
 abbrev pub EndsInAscii : List ℕ → List ℕ → List ℕ → Type 0
 EndsInAscii jis0208 text bytes =
     (more : List ℕ) → is_whole_escape more ≡ false →
     events_of (grammars.iso_2022_jp jis0208 ascii) (bytes ++ more)
     ≡ map Scalar text ++ shift (length bytes) (events_of (grammars.iso_2022_jp jis0208 ascii) more)
 
--- somewhere in the bytes a valid escape stands right behind another one
+-- the bytes contain a valid escape directly after another one
 unfoldable pub holds_adjacent_escapes : List ℕ → Bool
 holds_adjacent_escapes [] = false
 holds_adjacent_escapes (b ∷ bytes) =
     (is_whole_escape (b ∷ bytes) && is_whole_escape (drop 2 bytes)) || holds_adjacent_escapes bytes
 
--- what was encoded ends in ASCII mode, and no two escapes are adjacent in it
+-- encoded text ends in ASCII mode and has no adjacent escapes
 abbrev pub EscapesAreInPlace : Type 0
 EscapesAreInPlace =
     (jis0208 katakana_index text bytes : List ℕ) → IsEncodedAs (iso_2022_jp jis0208 katakana_index) text bytes →
     EndsInAscii jis0208 text bytes × (holds_adjacent_escapes bytes ≡ false)
 
--- ---- any text: with folds, and with scalars that are unmappable
+-- ---- any text: with folds and unmappable scalars
 
--- the scalar that a Japanese fold's bytes are those of, and any other scalar itself
+-- the scalar whose bytes a Japanese fold is written with, and any other scalar itself
 abbrev pub japanese_scalar : ℕ → ℕ
 japanese_scalar c = if c == 0xA5 then 0x5C else if c == 0x203E then 0x7E else minus_as_hyphen c
 
--- the scalar of the bytes of c's private-use row, and c itself where it has no row
+-- the scalar of the bytes of c's private-use row, or c itself if it has no row
 abbrev pub private_use_scalar : List ℕ → List (ℕ × ℕ × ℕ) → ℕ → ℕ
 private_use_scalar index pua c =
     option_map_or (λ row. get_or (gb18030_scalars index row.0 row.1) 0 c) (gb18030_pua_of pua c) c
 
--- the scalar that c is read as, where it was encoded: c itself, but for folds
+-- the scalar that the code of c decodes to: c itself, except for folds
 abbrev pub read_as : Codec → ℕ → ℕ
 read_as (shift_jis jis0208) c = japanese_scalar c
 read_as (euc_jp jis0208 jis0212) c = japanese_scalar c
@@ -133,7 +132,7 @@ read_as (gbk index ranges pua) c = private_use_scalar index pua c
 read_as (iso_2022_jp jis0208 katakana_index) c = unwrap_or (iso_2022_jp_fold katakana_index c) c
 read_as _ c = c
 
--- what is read of a text that was encoded: each scalar that has a code, as what it is read as
+-- the text that an encoded text decodes to: for each scalar with a code, the scalar that the code decodes to
 abbrev pub read_back : Codec → List ℕ → List ℕ
 read_back codec text = map (read_as codec) (filter (λ c. is_some (code (new_encoder codec) c)) text)
 
@@ -143,45 +142,46 @@ bytes_of [] = []
 bytes_of (Byte b ∷ events) = b ∷ bytes_of events
 bytes_of (Unmappable c ∷ events) = bytes_of events
 
--- the bytes that a new encoder writes of a text up to its end, with nothing for a scalar that is unmappable
+-- the bytes that a new encoder writes for a text with its end, without unmappable scalars
 abbrev pub written : Codec → List ℕ → List ℕ
 written codec text = bytes_of (encoded (new_encoder codec) text true)
 
--- c has a private-use row, the bytes of which the index gives no scalar
+-- c has a private-use row whose bytes have no scalar in the index
 abbrev pub has_lost_row : List ℕ → List (ℕ × ℕ × ℕ) → ℕ → Bool
 has_lost_row index pua c =
     option_map_or (λ row. is_empty (gb18030_scalars index row.0 row.1)) (gb18030_pua_of pua c) false
 
--- What a text has to be for its bytes to be well formed: in GB18030 and GBK no scalar of it has a row with bytes of no
--- scalar, and in ISO-2022-JP no two escapes meet, as they can around unmappable scalars alone. Else any text will do.
+-- The condition for well-formed bytes. In GB18030 and GBK no scalar of the text has a row whose bytes have no scalar.
+-- In ISO-2022-JP no two escapes are adjacent, which only unmappable scalars can cause. In other codecs there is no
+-- condition.
 abbrev pub IsSound : Codec → List ℕ → Type 0
 IsSound (gb18030 index ranges pua) text = list_any (has_lost_row index pua) text ≡ false
 IsSound (gbk index ranges pua) text = list_any (has_lost_row index pua) text ≡ false
 IsSound (iso_2022_jp jis0208 katakana_index) text = holds_adjacent_escapes (written (iso_2022_jp jis0208 katakana_index) text) ≡ false
 IsSound _ text = ⊤
 
--- What was encoded is well formed, unmappable scalars and folds or not: the bytes decode to what is read of the text,
--- and nothing is malformed.
+-- Encoded text is well formed, also with unmappable scalars and folds. Its bytes decode to `read_back` of the text,
+-- with no malformed sequences.
 abbrev pub EncodesWellFormed : Type 0
 EncodesWellFormed =
     (codec : Codec) → HasAcceptedLists codec →
     (text : List ℕ) → IsSound codec text →
     events_of (grammar_of codec) (written codec text) ≡ map Scalar (read_back codec text)
 
--- what c is read as has the code of c, if c has one
+-- if c has a code, the scalar that it decodes to has the same code
 abbrev pub HasSameCode : Codec → ℕ → Type 0
 HasSameCode codec c =
     (bytes : List ℕ) → code (new_encoder codec) c ≡ Some bytes → code (new_encoder codec) (read_as codec c) ≡ Some bytes
 
--- What the scalars of a text are read as have the same codes. Where folds go by a table, it may say otherwise; else it is
--- so of any text.
+-- The scalars that a text decodes to have the same codes as its scalars. This is a condition only in codecs whose folds
+-- depend on a table.
 abbrev pub KeepsCodes : Codec → List ℕ → Type 0
 KeepsCodes (gb18030 index ranges pua) text = All (HasSameCode (gb18030 index ranges pua)) text
 KeepsCodes (gbk index ranges pua) text = All (HasSameCode (gbk index ranges pua)) text
 KeepsCodes (iso_2022_jp jis0208 katakana_index) text = All (HasSameCode (iso_2022_jp jis0208 katakana_index)) text
 KeepsCodes _ text = ⊤
 
--- What was encoded of a text decodes to one that is encoded as the same bytes, unmappable scalars and folds or not.
+-- The bytes of a text decode to a text that is encoded as the same bytes, also with unmappable scalars and folds.
 abbrev pub ReencodesAnyText : Type 0
 ReencodesAnyText =
     (codec : Codec) → HasAcceptedLists codec →
@@ -189,7 +189,7 @@ ReencodesAnyText =
     (decoded : List ℕ) → events_of (grammar_of codec) (written codec text) ≡ map Scalar decoded →
     encoded (new_encoder codec) decoded true ≡ map Byte (written codec text)
 
--- In ISO-2022-JP no two escapes meet where nothing is unmappable, folds or not.
+-- In ISO-2022-JP no two escapes are adjacent if no scalar is unmappable, also with folds.
 abbrev pub EscapesStayApart : Type 0
 EscapesStayApart =
     (jis0208 katakana_index text bytes : List ℕ) →

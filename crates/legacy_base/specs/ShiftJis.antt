@@ -1,4 +1,4 @@
--- The forms and the codes of Shift_JIS (WHATWG Encoding Standard, "Shift_JIS decoder" and "Shift_JIS encoder").
+-- Shift_JIS: its fronts and its codes (WHATWG Encoding Standard, "Shift_JIS decoder" and "Shift_JIS encoder").
 use Rattle.std.specs.Prelude.{ℕ, ◌+◌, ◌-◌, ◌*◌, ◌/◌, ◌%◌, List, [], ◌∷◌, length, Option, Some, None, Bool, true, false, ◌||◌, ◌==◌, nat_lt, if◌then◌else◌, option_to_list, option_map}
 use Rattle.std.specs.Option.{option_map_or}
 use Rattle.std.specs.Int.{is_in_range}
@@ -19,14 +19,14 @@ is_shift_jis_lead b = is_in_range 0x81 0x9F b || is_in_range 0xE0 0xFC b
 abbrev pub shift_jis_lead_part : ℕ → ℕ
 shift_jis_lead_part lead = if is_in_range 0x81 0x9F lead then lead - 0x81 else lead - 0xC1
 
--- the pointer of a lead and a trail, or none where the second byte is no trail
+-- the pointer of a lead and a trail, or none if the second byte is no trail
 abbrev pub shift_jis_pointer : ℕ → ℕ → Option ℕ
 shift_jis_pointer lead trail =
     if is_in_range 0x40 0x7E trail then Some (shift_jis_lead_part lead * 188 + (trail - 0x40))
     else if is_in_range 0x80 0xFC trail then Some (shift_jis_lead_part lead * 188 + (trail - 0x41))
     else None
 
--- the scalar of a pointer, if there is one: those for private use go from U+E000 on
+-- the scalar of a pointer, if there is one; the private-use range begins at U+E000
 abbrev pub shift_jis_scalars : List ℕ → ℕ → List ℕ
 shift_jis_scalars jis0208 p =
     if is_in_range 8836 10715 p then (0xE000 + (p - 8836)) ∷ []

@@ -1,4 +1,4 @@
--- The forms and the codes of the single-byte codecs (WHATWG Encoding Standard, "single-byte decoder" and "single-byte
+-- The single-byte codecs: their fronts and codes (WHATWG Encoding Standard, "single-byte decoder" and "single-byte
 -- encoder").
 use Rattle.std.specs.Prelude.{ℕ, ◌+◌, ◌-◌, List, [], ◌∷◌, Option, Some, true, false, ◌==◌, if◌then◌else◌, option_to_list, option_map, position}
 use Rattle.std.specs.Char.{is_ascii}
@@ -8,7 +8,7 @@ use Rattle.legacy_base.specs.Profile.{Profile, narrow_acts, is_empty, always_res
 use Rattle.legacy_base.specs.EncoderProfile.{EncoderProfile, plain_encoder}
 use Rattle.legacy_base.specs.Formulas.{to_come, constant, ◌⊠◌}
 
--- ASCII is itself, and a byte from 0x80 on the scalar at its place in the table of 128
+-- an ASCII byte is its own scalar, and a byte from 0x80 on gives its entry in the table of 128 scalars
 unfoldable pub single_byte_front : List ℕ → ℕ → List ℕ → Front
 single_byte_front table b rest =
     if is_ascii b then reads 1 (b ∷ [])
@@ -33,7 +33,7 @@ single_byte_profile table = record {
 
 -- ---- encoding
 
--- the code of a scalar: ASCII is itself, and another scalar the byte of the place that holds it
+-- the code of a scalar: ASCII is itself, and another scalar is the byte whose entry it is
 unfoldable pub single_byte_code : List ℕ → ℕ → Option (List ℕ)
 single_byte_code table c =
     if is_ascii c then Some (c ∷ [])

@@ -1,4 +1,4 @@
--- The forms and the codes of x-user-defined (WHATWG Encoding Standard, "x-user-defined decoder" and "x-user-defined
+-- x-user-defined: its fronts and its codes (WHATWG Encoding Standard, "x-user-defined decoder" and "x-user-defined
 -- encoder").
 use Rattle.std.specs.Prelude.{ℕ, ◌+◌, ◌-◌, List, [], ◌∷◌, Option, Some, None, true, false, if◌then◌else◌}
 use Rattle.std.specs.Char.{is_ascii}
@@ -8,7 +8,7 @@ use Rattle.legacy_base.specs.Profile.{Profile, narrow_acts, is_empty, always_res
 use Rattle.legacy_base.specs.EncoderProfile.{EncoderProfile, plain_encoder}
 use Rattle.legacy_base.specs.Formulas.{to_come, constant, ◌⊠◌}
 
--- ASCII is itself, and the bytes from 0x80 on are U+F780 to U+F7FF
+-- an ASCII byte is its own scalar, and the bytes from 0x80 on are U+F780 to U+F7FF
 unfoldable pub user_defined_front : ℕ → List ℕ → Front
 user_defined_front b rest =
     if is_ascii b then reads 1 (b ∷ [])

@@ -11,25 +11,24 @@ use legacy_text::{Destination, Utf8Destination, Utf16Destination};
 
 /// A streaming decoder of the Encoding Standard.
 ///
-/// Bytes go in as they arrive, in slices of any length; scalars come out in UTF-8 or UTF-16, into
-/// an output of any length. However the bytes are cut and whatever lengths the outputs have, the
-/// scalars and malformed sequences together are the events that the codec's grammar gives the whole
-/// input. A caller hands the unread rest of a slice in again before the next slice, and sets `last`
-/// on the calls with the final slice and on no others.
+/// Bytes go in as they arrive, in slices of any length. Scalar values come out in UTF-8 or UTF-16,
+/// into an output of any length. The scalars and malformed sequences together are the events that
+/// the codec's grammar gives for the whole input. They do not depend on how the bytes are split,
+/// nor on the lengths of the outputs. The caller passes the unread rest of a slice again before the
+/// next slice. It sets `last` on the calls with the final slice and on no others.
 pub trait RawDecoder {
-    /// The grammar, and the bytes that were read and are held back.
+    /// The grammar, and the held-back bytes.
     ghost state: { Self → DecoderState };
 
-    /// Decodes bytes from the front of `src` into `dst`, and answers how that ended and how many
-    /// bytes it read.
+    /// Decodes bytes of `src` into `dst`, and returns the result and the number of bytes read.
     ///
-    /// - `InputEmpty`: the whole of `src` was read and no scalar is held back; where `last` is set,
-    ///   nothing at all is left to report.
-    /// - `OutputFull`: the decoder's next act needs more code units than are free. Where that is so
-    ///   as the call begins, nothing is read or written and the decoder is unchanged.
-    /// - `Malformed`: see there. The scalars before the malformed sequence were written.
+    /// - `InputEmpty`: all of `src` was read and no scalar is held back. If `last` is set, nothing
+    ///   is left to report.
+    /// - `OutputFull`: the decoder's next act needs more code units than are free. If this holds
+    ///   when the call begins, nothing is read or written and the decoder is unchanged.
+    /// - `Malformed`: the scalars before the malformed sequence were written (see the variant).
     ///
-    /// After any answer the decoder goes on from its state, also after a last `InputEmpty`.
+    /// After any result the decoder continues from its state, also after a last `InputEmpty`.
     fn step<T: Destination>(
         &mut self,
         src: &[u8],
@@ -42,8 +41,10 @@ pub trait RawDecoder {
             ≡ T.room dst.old + length (T.contents dst.old) }
         ensures loan { T.loan dst.new ≡ T.loan dst.old };
 
-    /// `step` into a slice of UTF-8 bytes: answers the result, the bytes read and the bytes
-    /// written, which stand at the front of `dst`.
+    /// Decodes with `step` into a slice of UTF-8 bytes.
+    ///
+    /// Returns the result, the number of bytes read and the number of bytes written to the
+    /// beginning of `dst`.
     fn decode_to_utf8_raw(
         &mut self,
         src: &[u8],
@@ -60,8 +61,10 @@ pub trait RawDecoder {
         (answer, read, written)
     }
 
-    /// `step` into a slice of UTF-16 code units: answers the result, the bytes read and the units
-    /// written, which stand at the front of `dst`.
+    /// Decodes with `step` into a slice of UTF-16 code units.
+    ///
+    /// Returns the result, the number of bytes read and the number of code units written to the
+    /// beginning of `dst`.
     fn decode_to_utf16_raw(
         &mut self,
         src: &[u8],
@@ -78,10 +81,12 @@ pub trait RawDecoder {
         (answer, read, written)
     }
 
-    /// How many bytes at the front of `src` are malformed sequences each by itself, whatever bytes follow,
-    /// where nothing is held back. Reading one gives that sequence of one byte and leaves the decoder as it
-    /// is, so whoever tells of them himself goes on behind them without a call. Not all that are there need
-    /// be counted, and none is an answer too. Nothing changes.
+    /// Returns a number of bytes at the beginning of `src` that are malformed one by one.
+    ///
+    /// Each of them is a malformed sequence by itself, whatever bytes follow, if nothing is held
+    /// back. Reading one reports that sequence of one byte and leaves the decoder unchanged. A
+    /// caller that reports them itself can therefore skip them without a call. The number may be
+    /// less than there are, and may be 0. Nothing changes.
     fn lone_malformed(&self, src: &[u8]) -> usize
         ensures count { result ≤ length src.now }
         ensures lone { (k : ℕ) → k < result
@@ -91,21 +96,27 @@ pub trait RawDecoder {
         0
     }
 
-    /// A number of UTF-16 code units that is enough for the next call with at most `byte_length`
-    /// bytes, and for all calls with that many bytes together, with U+FFFD for each malformed
-    /// sequence. `None` exactly where a step of the formula passes `usize::MAX`.
+    /// Returns a number of UTF-16 code units that is enough for at most `byte_length` more bytes.
+    ///
+    /// It is enough for the next call with at most that many bytes, and for several calls with that
+    /// many bytes together. It includes U+FFFD for each malformed sequence. Returns `None` exactly
+    /// if a step of the formula exceeds `usize::MAX`.
     fn max_utf16_buffer_length(&self, byte_length: usize) -> Option<usize>
         ensures { result ≡ query_answer to_utf16 (state self.now) byte_length };
 
-    /// A number of UTF-8 bytes that is enough for the next call with at most `byte_length` bytes,
-    /// and for all calls with that many bytes together, with nothing written for a malformed
-    /// sequence. `None` exactly where a step of the formula passes `usize::MAX`.
+    /// Returns a number of UTF-8 bytes that is enough for at most `byte_length` more bytes.
+    ///
+    /// It is enough for the next call with at most that many bytes, and for several calls with that
+    /// many bytes together. It includes nothing for malformed sequences. Returns `None` exactly if
+    /// a step of the formula exceeds `usize::MAX`.
     fn max_utf8_buffer_length_without_replacement(&self, byte_length: usize) -> Option<usize>
         ensures { result ≡ query_answer to_utf8_without_replacement (state self.now) byte_length };
 
-    /// A number of UTF-8 bytes that is enough for the next call with at most `byte_length` bytes,
-    /// and for all calls with that many bytes together, with U+FFFD for each malformed sequence.
-    /// `None` exactly where a step of the formula passes `usize::MAX`.
+    /// Returns a number of UTF-8 bytes that is enough for at most `byte_length` more bytes.
+    ///
+    /// It is enough for the next call with at most that many bytes, and for several calls with that
+    /// many bytes together. It includes U+FFFD for each malformed sequence. Returns `None` exactly
+    /// if a step of the formula exceeds `usize::MAX`.
     fn max_utf8_buffer_length(&self, byte_length: usize) -> Option<usize>
         ensures { result ≡ query_answer to_utf8 (state self.now) byte_length };
 }

@@ -11,24 +11,26 @@ use legacy_text::{Source, Utf8Source, Utf16Source};
 
 /// A streaming encoder of the Encoding Standard.
 ///
-/// Text goes in as it arrives, in pieces of any length; bytes come out, into an output of any length.
-/// However the text is cut and whatever lengths the outputs have, the bytes and the scalars that have
-/// none together are the events that the codec gives the whole text. A caller hands the unread rest of a
-/// piece in again before the next piece, and sets `last` on the calls with the final piece and on no
-/// others.
+/// Text goes in as it arrives, in pieces of any length. Bytes come out, into an output of any
+/// length. The bytes and the unmappable scalars together are the events that the codec gives for
+/// the whole text. They do not depend on how the text is split, nor on the lengths of the outputs.
+/// The caller passes the unread rest of a piece again before the next piece. It sets `last` on the
+/// calls with the final piece and on no others.
 pub trait RawEncoder {
-    /// The codec with its lists, and the mode that the encoder is in.
+    /// The codec with its lists, and the encoder's mode.
     ghost state: { Self → EncoderState };
 
-    /// Encodes scalars from the front of what `src` has left into `dst`, and answers how that ended and
-    /// how many bytes it wrote, which stand at the front of `dst`. The source tells what was read.
+    /// Encodes scalars from what `src` has left into `dst`, and returns the result and a length.
     ///
-    /// - `InputEmpty`: all of `src` was read; where `last` is set, the end is written too.
-    /// - `OutputFull`: the encoder's next act needs more bytes than are free. Where that is so as the
-    ///   call begins, nothing is read or written and the encoder is unchanged.
+    /// The length is the number of bytes written to the beginning of `dst`. The source keeps the
+    /// place up to which it was read.
+    ///
+    /// - `InputEmpty`: all of `src` was read. If `last` is set, the end is written too.
+    /// - `OutputFull`: the encoder's next act needs more bytes than are free. If this holds when
+    ///   the call begins, nothing is read or written and the encoder is unchanged.
     /// - `Unmappable`: the scalar was read, and has no bytes in the encoding.
     ///
-    /// After any answer the encoder goes on from its state, also after a last `InputEmpty`.
+    /// After any result the encoder continues from its state, also after a last `InputEmpty`.
     fn step<S: Source>(&mut self, src: &mut S, dst: &mut [u8], last: bool) -> (EncoderResult, usize)
         ensures call { EncoderCall (state self.old) (S.left src.old) last (length dst.old)
             (state self.new) result.0 (S.left src.new) (take result.1 dst.new) }
@@ -36,8 +38,10 @@ pub trait RawEncoder {
         ensures passed { S.passed src.new + total_unit_count S.form (S.left src.new)
             ≡ S.passed src.old + total_unit_count S.form (S.left src.old) };
 
-    /// `step` over a text in UTF-8: answers the result, the bytes read and the bytes written. What was
-    /// read ends between two characters.
+    /// Encodes a text in UTF-8 with `step`.
+    ///
+    /// Returns the result, the number of bytes read and the number of bytes written. Reading stops
+    /// between two characters.
     fn encode_from_utf8_raw(
         &mut self,
         src: &str,
@@ -55,8 +59,10 @@ pub trait RawEncoder {
         (answer, read, written)
     }
 
-    /// `step` over code units of UTF-16, each unpaired surrogate being U+FFFD: answers the result, the
-    /// units read and the bytes written. No pair of surrogates is parted.
+    /// Encodes UTF-16 code units with `step`, with U+FFFD for each unpaired surrogate.
+    ///
+    /// Returns the result, the number of code units read and the number of bytes written. Reading
+    /// does not stop inside a surrogate pair.
     fn encode_from_utf16_raw(
         &mut self,
         src: &[u16],
@@ -74,15 +80,19 @@ pub trait RawEncoder {
         (answer, read, written)
     }
 
-    /// A number of bytes that is enough for the next call with at most `u16_length` code units of UTF-16,
-    /// and for all calls with that many together, with nothing written for an unmappable scalar. `None`
-    /// exactly where a step of the formula passes `usize::MAX`.
+    /// Returns a number of bytes that is enough for at most `u16_length` more UTF-16 code units.
+    ///
+    /// It is enough for the next call with at most that many code units, and for several calls with
+    /// that many together. It includes nothing for unmappable scalars. Returns `None` exactly if a
+    /// step of the formula exceeds `usize::MAX`.
     fn max_buffer_length_from_utf16_without_replacement(&self, u16_length: usize) -> Option<usize>
         ensures { result ≡ encoder_answer Utf16 (state self.now) u16_length };
 
-    /// A number of bytes that is enough for the next call with at most `byte_length` bytes of UTF-8, and
-    /// for all calls with that many together, with nothing written for an unmappable scalar. `None`
-    /// exactly where a step of the formula passes `usize::MAX`.
+    /// Returns a number of bytes that is enough for at most `byte_length` more bytes of UTF-8.
+    ///
+    /// It is enough for the next call with at most that many bytes, and for several calls with that
+    /// many together. It includes nothing for unmappable scalars. Returns `None` exactly if a step
+    /// of the formula exceeds `usize::MAX`.
     fn max_buffer_length_from_utf8_without_replacement(&self, byte_length: usize) -> Option<usize>
         ensures { result ≡ encoder_answer Utf8 (state self.now) byte_length };
 }

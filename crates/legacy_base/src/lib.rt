@@ -1,6 +1,8 @@
-//! What all legacy codecs of the WHATWG Encoding Standard stand on: what each encoding means, results and
-//! events, and the traits of the decoders and of the encoders with the law that each of their calls keeps.
-//! Sources, destinations and tables stand in crates of their own, and are named here too.
+//! The common base of all legacy codecs of the WHATWG Encoding Standard.
+//!
+//! It defines the meaning of each encoding, the results and events, and the traits of decoders and
+//! encoders with the law of each call. Sources, destinations and tables are in crates of their own,
+//! and are re-exported here.
 #![tactic(auto)]
 
 mod decoder;
@@ -10,11 +12,11 @@ mod results;
 pub use decoder::RawDecoder;
 pub use encoder::RawEncoder;
 pub use legacy_tables::{
-    DecoderTables, EncoderTables, FlatTables, GB18030_2022_PUA, IndexName, Indexes, KeptTables,
-    Marks, Packed, PackedPart, PackedTables, Run, SingleByteTable, TableError, Tables,
+    DecoderTables, EncoderTables, FlatTables, GB18030_2022_PUA, IndexName, Indexes, Marks, Packed,
+    PackedPart, RangePart, Ranges, Run, SingleByteTable, TableError, Tables,
 };
 pub use legacy_text::{
-    ByteSource, Destination, Next, Source, UnitCodes, Utf8Destination, Utf8Source,
-    Utf16Destination, Utf16Source,
+    ByteSource, Destination, Next, ReadingLoop, Source, TextCursor, UnitCodes, Utf8Destination,
+    Utf8Source, Utf16Destination, Utf16Source,
 };
 pub use results::{DecodeEvent, DecoderResult, EncodeEvent, EncoderResult};

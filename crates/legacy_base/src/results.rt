@@ -1,19 +1,20 @@
-//! What a call of a decoder or an encoder answers, and what it finds in its input.
+//! The results of decoder and encoder calls, and the events of decoding and encoding.
 
-/// How a call of a decoder ended (Encoding Standard, "process an item": continue, and error).
+/// The result of a decoder call (Encoding Standard, "process an item": continue, and error).
 #[derive(Clone, Copy, Debug, PartialEq, Eq)]
 pub enum DecoderResult {
-    /// The whole input was read, and every scalar that it gave so far was written.
+    /// The whole input was read, and every complete scalar was written.
     InputEmpty,
     /// The decoder's next act needs more room than the output has left.
     OutputFull,
-    /// `Malformed(length, back)`: a malformed sequence of `length` bytes (1 to 4) that ends `back`
-    /// bytes (0 to 3) before the end of all that the decoder has read so far, this call included.
-    /// The output has room left for U+FFFD.
+    /// `Malformed(length, back)`: a malformed sequence of `length` bytes (1 to 4).
+    ///
+    /// It ends `back` bytes (0 to 3) before the end of all bytes that the decoder has read, this
+    /// call included. The output has room left for U+FFFD.
     Malformed(u8, u8),
 }
 
-/// One thing that decoding finds in a list of bytes.
+/// One event of decoding a list of bytes.
 #[derive(Clone, Copy, Debug, PartialEq, Eq)]
 pub enum DecodeEvent {
     /// A Unicode scalar value.
@@ -22,15 +23,15 @@ pub enum DecodeEvent {
     Bad {
         /// The place of its first byte, counted in bytes from 0.
         place: usize,
-        /// How many bytes it has.
+        /// The number of its bytes.
         length: usize,
     },
 }
 
-/// How a call of an encoder ended (Encoding Standard, "process an item": continue, and error).
+/// The result of an encoder call (Encoding Standard, "process an item": continue, and error).
 #[derive(Clone, Copy, Debug, PartialEq, Eq)]
 pub enum EncoderResult {
-    /// The whole input was read, and its bytes were written; where it was the last, its end too.
+    /// The whole input was read and its bytes were written; on a last call, its end too.
     InputEmpty,
     /// The encoder's next act needs more room than the output has left.
     OutputFull,
@@ -38,7 +39,7 @@ pub enum EncoderResult {
     Unmappable(char),
 }
 
-/// One thing that encoding gives.
+/// One event of encoding.
 #[derive(Clone, Copy, Debug, PartialEq, Eq)]
 pub enum EncodeEvent {
     /// A byte.

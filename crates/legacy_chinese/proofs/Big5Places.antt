@@ -1,4 +1,4 @@
--- What index Big5 has at the sum of a lead's place and a trail's.
+-- The entry of index Big5 at the sum of a lead's place and a trail's place.
 use Rattle.std.proofs.Common.{◌≡◌, ◌∙◌, ℕ, ◌+◌, ◌-◌, ◌*◌, ◌≤◌, List, [], ◌∷◌, length, cond, refl, sym, ap, arith, Bool, true, false, ◌||◌, ◌==◌, Option, Some, None, IfSome}
 use Rattle.std.specs.Int.{is_in_range}
 use Rattle.std.specs.Prelude.{option_to_list}
@@ -29,7 +29,7 @@ by_range f true b x y = refl
 by_range f false true x y = refl
 by_range f false false x y = refl
 
--- none of four tests
+-- if none of four tests holds, the rest is taken
 no_test : (a b c d : Bool) (v w x y rest : List ℕ) → ((a || b) || (c || d)) ≡ false → cond a v (cond b w (cond c x (cond d y rest))) ≡ rest
 no_test false false false false v w x y rest e = refl
 no_test false false false true v w x y rest e = cc
@@ -37,7 +37,7 @@ no_test false false true d v w x y rest e = cc
 no_test false true c d v w x y rest e = cc
 no_test true b c d v w x y rest e = cc
 
--- a pointer that is looked up gives its entry
+-- a pointer that is not one of the four letters with a mark gives its entry
 pub entry_is : (index : List ℕ) (p : ℕ) → must_be_empty names.Big5 p ≡ false → big5_scalars index p ≡ option_to_list (idx index p)
 entry_is index p e =
     no_test (p == 1133) (p == 1135) (p == 1164) (p == 1166) (0xCA ∷ 0x304 ∷ []) (0xCA ∷ 0x30C ∷ []) (0xEA ∷ 0x304 ∷ []) (0xEA ∷ 0x30C ∷ []) (option_to_list (idx index p)) e
@@ -55,7 +55,7 @@ big5_at index short lead trail =
     ∙ ap (λ l. cond (is_lead lead) l [])
     (by_range (big5_scalars index) (is_in_range 0x40 0x7E trail) (is_in_range 0xA1 0xFE trail) ((lead - 0x81) * 157 + (trail - 0x40)) ((lead - 0x81) * 157 + (trail - 0x62)))
 
--- what the index has there is found behind a lead
+-- an entry at the sum of the places is the scalar of the lead and the trail
 pub big5_found : (flat : FlatIndexes) → AreAccepted flat → (lead trail : ℕ) (o : Option ℕ) → o ≡ idx flat.big5 (big5_lead_place lead + big5_trail_place trail) →
     IfSome o (λ c. (is_lead lead ≡ true) × (big5_pair_scalars flat.big5 lead trail ≡ c ∷ []))
 big5_found flat accepted lead trail None e = tt

@@ -1,4 +1,4 @@
--- The codes of Big5 past ASCII are those of the pointers that a walk takes.
+-- A walk over the pointers of index Big5 lists the codes of all scalars from U+0080 on.
 use Rattle.std.proofs.Common.{◌≡◌, ◌∙◌, ℕ, ◌+◌, ◌*◌, ◌/◌, ◌%◌, ◌<◌, ◌≤◌, [], ◌∷◌, Some, None, Bool, true, false, cond, nat_lt, refl, ap, sym, subst, arith, nat_le, option_map}
 use Rattle.std.proofs.lemmas.Bool.{le-ltb}
 use Rattle.std.specs.Option.{IfSome}

@@ -1,4 +1,4 @@
--- The tables of places of four bytes hold the places, and what the ranges have at their sum.
+-- The tables contain the places of the four bytes; the ranges are read at their sum.
 use Rattle.std.proofs.Common.{◌≡◌, ℕ, ◌+◌, ◌-◌, ◌*◌, ◌≤◌, ◌<◌, List, [], ◌∷◌, get_or, Bool, true, false, cond, Option, None, ◌==◌, nat_le, refl, arith}
 use Rattle.std.proofs.lemmas.Bool.Decides.{nat_tests}
 use Rattle.std.specs.Prelude.{IfSome}
@@ -30,6 +30,20 @@ pub fourth_read : (b : ℕ) → b < 256 → get_or FOURTHS b 0 ≡ fourth_place 
 unfolding fourth_place
 fourth_read = read FOURTHS fourth_place refl
 
+place_small : (t : Bool) (n : ℕ) → n ≤ 4_000_000 → cond t n 2_000_000 ≤ 4_000_000
+place_small true n h = h
+place_small false n h = omega arith
+
+-- their sum is a number of 32 bits
+pub four_small : (a b c d : ℕ) → a < 256 → b < 256 → c < 256 → d < 256 → first_place a + second_place b + third_place c + fourth_place d < 0x1_0000_0000
+unfolding first_place second_place third_place fourth_place
+four_small a b c d h i j k =
+    let w = place_small (is_lead a) (12600 * (a - 0x81)) (omega arith) in
+    let x = place_small (is_ascii_digit b) (1260 * (b - 0x30)) (omega arith) in
+    let y = place_small (is_lead c) (10 * (c - 0x81)) (omega arith) in
+    let z = place_small (is_ascii_digit d) (d - 0x30) (omega arith) in
+    omega (arith, w, x, y, z)
+
 -- past all pointers there is no scalar
 past_tests : (p : ℕ) → 2_000_000 ≤ p → ((p == 7457) ≡ false) × (is_in_range 189000 1237575 p ≡ false) × (nat_le p 39419 ≡ false)
 past_tests p h = (grind (arith, nat_tests), grind (arith, nat_tests), grind (arith, nat_tests))
@@ -44,7 +58,7 @@ lead_bounds b is = (grind (arith, nat_tests), grind (arith, nat_tests))
 digit_bounds : (b : ℕ) → is_ascii_digit b ≡ true → (0x30 ≤ b) × (b ≤ 0x39)
 digit_bounds b is = (grind (arith, nat_tests), grind (arith, nat_tests))
 
--- what the sum of the places gives is the scalar of the four bytes
+-- the scalar at the sum of the places is the scalar of the four bytes
 pub four_placed : (tables : AcceptedIndexes) (a b c d : ℕ) (found : Option ℕ) → found ≡ range tables.flat.ranges (first_place a + second_place b + third_place c + fourth_place d)
     → IfSome found (λ x. Runs (gb18030 tables.flat.gb18030 tables.flat.ranges) (a ∷ b ∷ c ∷ d ∷ []) (x ∷ []))
 unfolding first_place second_place third_place fourth_place

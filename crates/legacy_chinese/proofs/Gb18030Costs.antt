@@ -1,4 +1,4 @@
--- What the steps of gb18030 write.
+-- The output of the steps of gb18030.
 use Rattle.std.proofs.Common.{◌≡◌, ℕ, ◌+◌, ◌-◌, ◌*◌, ◌≤◌, List, [], ◌∷◌, length, true, cond, ◌==◌, option_to_list, arith}
 use Rattle.std.proofs.lemmas.Bool.{false≢true, ltb-true}
 use Rattle.std.specs.Int.{is_in_range}

@@ -1,4 +1,4 @@
--- What the GB18030 decoder holds back is what its machine may hold back, and its moves are the machine's.
+-- The gb18030 decoder holds back only what its machine may hold back, and its moves are the machine's.
 use Rattle.std.proofs.Common.{◌≡◌, ◌≢◌, ◌∙◌, ℕ, ◌+◌, ◌-◌, ◌*◌, ◌^◌, ◌<◌, ◌≤◌, List, [], ◌∷◌, length, Bool, true, false, refl, sym, ap, arith, Option, Some, None, cond, ◌==◌}
 use Rattle.std.proofs.lemmas.Bool.Decides.{nat_tests}
 use Rattle.std.proofs.lemmas.List.Elements.{All-nil, All-cons}
@@ -103,7 +103,7 @@ module _ (tables : AcceptedIndexes) where
   abbrev g : Grammar
   g = gb18030 tables.flat.gb18030 tables.flat.ranges
 
-  -- a digit to be written is what does not rest
+  -- the held-back bytes rest exactly if there is no digit to write
   pub rests-held : (held : Held) → rests (gb18030 tables.flat.gb18030 tables.flat.ranges) (held_bytes held) ≡ is_resting held
   rests-held Nothing = refl
   rests-held (First first) = rw (of_lead first).1 refl
@@ -125,7 +125,7 @@ module _ (tables : AcceptedIndexes) where
       Took (gb18030_step tables.flat.gb18030 tables.flat.ranges (held_bytes held) b) (held_bytes held) b fed kept → Feeds (state_of g (held_bytes held)) b (state_of g kept) fed
   feeds held b byte r fed kept took = moves.feeds shown (held_bytes held) (may held) (are_bytes held) b byte r fed kept took
 
-  -- a digit that is held back, with what stands behind it
+  -- a held-back digit is written; the bytes after it stay held back
   pub releases-digit : (digit : HeldDigit) → Releases (state_of g (held_bytes (Digit digit))) (state_of g []) digit.byte
   releases-digit digit =
       moves.releases shown (held_bytes (Digit digit)) (may (Digit digit)) (are_bytes (Digit digit))
@@ -139,7 +139,7 @@ module _ (tables : AcceptedIndexes) where
   pub reports : (held : Held) → rests g (held_bytes held) ≡ true → held_bytes held ≢ [] → Reports (state_of g (held_bytes held)) (state_of g []) (length (held_bytes held)) 0
   reports held r some = moves.reports_all shown (held_bytes held) (may held) (are_bytes held) r some
 
-  -- there is something to report exactly where something is held back
+  -- there is something to report exactly if bytes are held back
   pub ends_none : (held : Held) → length (held_bytes held) ≡ 0 → events_of (gb18030 tables.flat.gb18030 tables.flat.ranges) (held_bytes held) ≡ []
   ends_none held e = moves.ends_empty shown (held_bytes held) (may held) (are_bytes held) e
 
@@ -176,13 +176,13 @@ module _ (tables : AcceptedIndexes) where
       (rw first.0 refl) (rw (first.0, second.0) refl) (rw (first.0, second.0, third.0) refl) (rw first.1 refl) (rw first.1 refl) (rw first.1 refl) (λ held byte. refl)
       (rw (other.0, other.1, first.0) refl) (rw second.0 refl) (rw third.0 refl) (rw (fourth.0, ← e) refl)
 
-  -- what such bytes' pointer gives
+  -- the scalar, if any, of the pointer of four bytes
   pub four_if : (a b c d p : ℕ) → 0x81 ≤ a → a ≤ 0xFE → 0x30 ≤ b → b ≤ 0x39 → 0x81 ≤ c → c ≤ 0xFE → 0x30 ≤ d → d ≤ 0x39 → p ≡ gb18030_range_pointer a b c d →
       (found : Option ℕ) → found ≡ range tables.flat.ranges p →
       IfSome found (λ x. Runs g (a ∷ b ∷ c ∷ d ∷ []) (x ∷ []))
   four_if a b c d p a_low a_high b_low b_high c_low c_high d_low d_high is None e = tt
   four_if a b c d p a_low a_high b_low b_high c_low c_high d_low d_high is (Some x) e = four a b c d x a_low a_high b_low b_high c_low c_high d_low d_high (e ∙ ap (range tables.flat.ranges) is)
 
--- a decoder that holds nothing back
+-- a decoder that holds nothing back is idle
 pub idle : (decoder : Gb18030Decoder) → is_neutral (gb18030_state decoder) ≡ true → IsIdle (gb18030_state decoder)
 idle decoder neutral = record { empty = neutral_empty (held_bytes decoder.held) neutral; ascii = ascii decoder.tables.now }

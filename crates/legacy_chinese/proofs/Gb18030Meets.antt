@@ -1,4 +1,4 @@
--- The machine of GB18030 does what its grammar says.
+-- The machine of gb18030 keeps to its grammar.
 use Rattle.std.proofs.Common.{◌≡◌, ℕ, ◌≤◌, List, [], ◌∷◌, ◌++◌, drop, length, Bool, true, false, not, cond, Some, None, refl, ◌∙◌, ◌&&◌, ◌==◌, option_to_list, arith, ⊎_elim}
 use Rattle.std.proofs.lemmas.Bool.{false≢true, not-true, and_parts, and_from, or_cases, or_left, or_right, both_ways}
 use Rattle.std.proofs.lemmas.Bool.Decides.{nat_tests}
@@ -24,7 +24,7 @@ digit_is_ascii b h = grind (arith, nat_tests)
 digit_not_lead : (b : ℕ) → is_ascii_digit b ≡ true → is_lead b ≡ false
 digit_not_lead b h = grind (arith, nat_tests)
 
--- n bytes that give these scalars, or are malformed
+-- four bytes that give these scalars, or are malformed if there are none
 reads_fits : (front : ℕ → List ℕ → Front) (may : List ℕ → Bool) (held : List ℕ) (b : ℕ) (scalars : List ℕ) → may (drop 4 (held ++ b ∷ [])) ≡ true → length held ≡ 3 →
     ((more : List ℕ) → HasFront front (held ++ b ∷ more) (reads_or 4 scalars (malformed 4))) → Fits front may held b (finish (reads_or 4 scalars (malformed 4)))
 reads_fits front may held b [] m l h = (h, omega arith, omega arith, m)
@@ -32,7 +32,7 @@ reads_fits front may held b (c ∷ scalars) m l h = (h, omega arith, omega arith
 
 -- ---- what may be held back
 
--- a byte that rests is a lead
+-- a byte held back alone that rests is a lead
 one_lead : (first : ℕ) → gb18030_may_hold (first ∷ []) ≡ true → not (is_ascii_digit first) ≡ true → is_lead first ≡ true
 one_lead first h r = let d = not-true (is_ascii_digit first) r in ⊎_elim (λ l. l) (λ e. absurd (both_ways (is_ascii_digit first) d e)) (or_cases (is_lead first) (is_ascii_digit first) h)
 
@@ -110,7 +110,7 @@ module _ (index : List ℕ) (ranges : List (ℕ × ℕ)) where
   few_held (a ∷ b ∷ c ∷ d ∷ held) h = absurd (false≢true h)
   few_held held h = omega arith
 
-  -- ---- a digit that is to be written
+  -- ---- a digit to write
 
   behind_digit : (b : ℕ) (held : List ℕ) → gb18030_may_hold (b ∷ held) ≡ true → is_ascii_digit b ≡ true → gb18030_may_hold held ≡ true
   behind_digit b [] h d = refl
@@ -136,7 +136,7 @@ module _ (index : List ℕ) (ranges : List (ℕ × ℕ)) where
   writes [] h = refl
   writes (b ∷ held) h = pending b held h (is_ascii_digit b) refl
 
-  -- ---- the end
+  -- ---- the end of the input
 
   all_end : (held : List ℕ) → gb18030_may_hold held ≡ true → rests (gb18030 index ranges) held ≡ true → events_of (gb18030 index ranges) held ≡ end_events held
   unfolding gb18030_second gb18030_third gb18030_fourth

@@ -1,11 +1,12 @@
--- A pair that is the code of a scalar in GB18030 and in GBK, by which of the two the codec is.
-use Rattle.std.proofs.Common.{◌≡◌, ◌≢◌, ℕ, ◌+◌, ◌≤◌, List, [], ◌∷◌, Option, Some, None, Bool, true, false, IfSome, option_map, refl, arith}
+-- A pair that is the code of a scalar in gb18030 or in GBK.
+use Rattle.std.proofs.Common.{◌≡◌, ◌≢◌, ℕ, ◌+◌, ◌<◌, ◌≤◌, List, [], ◌∷◌, Option, Some, None, Bool, true, false, IfSome, option_map, refl, arith}
 use Rattle.std.proofs.lemmas.Bool.{ne_eqb}
 use Rattle.std.proofs.lemmas.Bool.Decides.{nat_tests}
 use Rattle.std.specs.Char.{is_ascii}
 use Rattle.legacy_tables.specs.Indexes.{gb18030_pua_of}
 use Rattle.legacy_tables.specs.Pointers.{gb18030_pointer_of, range_pointer_of}
 use Rattle.legacy_tables.specs.Indexes.{FlatIndexes}
+use Rattle.legacy_tables.proofs.PointerBounds.{range-bound}
 use Rattle.legacy_base.specs.Encoders.{encoder_profile}
 use Rattle.legacy_base.specs.Gb18030.{gb18030_code, gbk_code, gb18030_pair_bytes, gb18030_range_bytes}
 use Rattle.legacy_chinese.specs.Gb18030Codec.{gb18030_codec}
@@ -17,7 +18,11 @@ pub pair_by : (flat : FlatIndexes) (extended : Bool) (c : ℕ) (o : Option (ℕ 
 pair_by flat true c o a b = a
 pair_by flat false c o a b = b
 
--- without a row and without a pair a scalar past ASCII has four bytes or none
+-- a scalar's pointer of four bytes is below their number
+pub pointer_bound : (ranges : List (ℕ × ℕ)) (c p : ℕ) → range_pointer_of ranges c ≡ Some p → p < 1237576
+pointer_bound ranges c p e = rw e at (range-bound c ranges)
+
+-- in gb18030 a scalar from U+0080 on with no private-use row and no pair has four bytes or is unmappable
 pub four_past_pairs : (index : List ℕ) (ranges : List (ℕ × ℕ)) (pua : List (ℕ × ℕ × ℕ)) (c : ℕ) → 0x80 ≤ c → c ≢ 0xE5E5 → gb18030_pua_of pua c ≡ None
     → ((lead trail : ℕ) → gb18030_code index ranges pua c ≡ Some (lead ∷ trail ∷ []) → lead + trail ≡ 0)
     → gb18030_code index ranges pua c ≡ option_map gb18030_range_bytes (range_pointer_of ranges c)

@@ -1,4 +1,4 @@
--- What index gb18030 has at the sum of a lead's place and a trail's.
+-- The entry of index gb18030 at the sum of a lead's place and a trail's place.
 use Rattle.std.proofs.Common.{◌≡◌, ℕ, ◌+◌, ◌-◌, ◌*◌, ◌≤◌, List, [], length, cond, refl}
 use Rattle.std.specs.Int.{is_in_range}
 use Rattle.std.specs.Prelude.{option_to_list}

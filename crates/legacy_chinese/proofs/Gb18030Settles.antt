@@ -1,4 +1,4 @@
--- What the steps of gb18030 leave.
+-- After each step of gb18030 the held-back bytes rest, or nothing is held back.
 use Rattle.std.proofs.Common.{◌≡◌, ℕ, List, [], ◌∷◌, true, false, not, refl, ◌==◌, option_to_list, arith}
 use Rattle.std.proofs.lemmas.Bool.{false≢true}
 use Rattle.std.proofs.lemmas.Bool.Decides.{nat_tests}

@@ -1,4 +1,4 @@
--- What is shown of GB18030.
+-- The steps of gb18030 agree with its grammar.
 use Rattle.std.proofs.Common.{◌≡◌, ℕ, ◌+◌, ◌<◌, ◌≤◌, List, [], ◌∷◌, length, Bool, true, false, cond, Some, None, refl, inl, arith}
 use Rattle.std.proofs.lemmas.Bool.Decides.{nat_tests}
 use Rattle.std.specs.Char.{is_ascii, is_ascii_digit}
@@ -32,7 +32,7 @@ module _ (index : List ℕ) (ranges : List (ℕ × ℕ)) where
       cost len narrow wide w [] b h r bytes byte = rw (first_room (is_ascii b) 1 wide) (gb18030_first_cost len narrow wide w b)
       cost len narrow wide w (a ∷ held) b h r bytes byte = rw (held_room_is (is_ascii b) true 1 wide) (gb18030_held_cost len narrow wide w index ranges a held b h)
 
-  -- a digit that is written
+  -- writing a held-back digit pays its room
   digit_pays : (len : ℕ → ℕ) (narrow wide : ℕ) → IsWidth len narrow wide → (room : DecoderState → ℕ → ℕ) →
       ((b : ℕ) (held : List ℕ) (n : ℕ) → room (state_of (gb18030 index ranges) held) n + 1 ≤ room (state_of (gb18030 index ranges) (b ∷ held)) n) →
       (held : List ℕ) → WritePays len narrow wide room (gb18030 index ranges) held (gb18030_pending held)

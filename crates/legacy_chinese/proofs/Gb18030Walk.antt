@@ -1,5 +1,5 @@
--- The codes of GB18030 and of GBK that go by pointers are those of the pointers that a walk takes; the others are asked
--- for.
+-- A walk over the pointers of index gb18030 lists the codes of the scalars that have the code of their pointer. The
+-- other scalars of gb18030 and GBK are looked up one by one.
 use Rattle.std.proofs.Common.{◌≡◌, ◌∙◌, ◌⊎◌, ℕ, ◌+◌, ◌*◌, ◌/◌, ◌%◌, ◌<◌, ◌≤◌, List, [], ◌∷◌, length, take, get_or, Some, None, Option, Bool, true, false, cond, not, find, ◌&&◌, ◌||◌, ◌==◌, nat_lt, nat_le, refl, ap, sym, subst, arith, option_map, inl, inr}
 use Rattle.std.proofs.lemmas.Bool.{cases_lt, cases_eq, eqb-true, ne_eqb, le-ltb}
 use Rattle.std.proofs.lemmas.List.Folds.{list_any_more}
@@ -19,7 +19,7 @@ use Rattle.legacy_encoder_engine.proofs.WalkedPairs.{GoesByPointers}
 use Rattle.legacy_chinese.specs.Gb18030Codec.{gb18030_codec}
 use Rattle.legacy_chinese.specs.Gb18030List.{goes_by_pointer, is_in_rows, or_in_rows, gb18030_mark, gb18030_mark-some}
 
--- ---- the scalars that go by pointers
+-- ---- the scalars that have the code of their pointer
 
 record IsByPointer (rows : List (ℕ × ℕ × ℕ)) (c : ℕ) : Type 0 where
   past : 0x80 ≤ c
@@ -70,14 +70,14 @@ module _ (flat : FlatIndexes) (accepted : AreAccepted flat) where
   paired : (c : ℕ) → IsByPointer flat.gb18030_pua c → gb18030_pair_code flat.gb18030_pua flat.gb18030 c ≡ option_map gb18030_pair_bytes (gb18030_pointer_of flat.gb18030 c)
   paired c by = rw (no-row flat.gb18030_pua c by.no_row) refl
 
-  -- a scalar with a pointer has its lead and trail
+  -- a scalar with a pointer has the lead and the trail of that pointer
   pointed : (extended : Bool) (c p : ℕ) → IsByPointer flat.gb18030_pua c → gb18030_pointer_of flat.gb18030 c ≡ Some p →
       (encoder_profile (gb18030_codec flat extended)).code c ≡ Some (gb18030_pair_bytes p)
   unfolding gb18030_code gbk_code
   pointed true c p by e = rw (le-ltb c 128 by.past, by.no_e5e5, paired c by, e) refl
   pointed false c p by e = rw (le-ltb c 128 by.past, by.no_e5e5, by.no_euro, paired c by, e) refl
 
-  -- and one without has four bytes or none
+  -- in gb18030 a scalar without a pointer has four bytes or is unmappable
   four : (c : ℕ) → IsByPointer flat.gb18030_pua c → gb18030_pointer_of flat.gb18030 c ≡ None →
       (encoder_profile (gb18030_codec flat true)).code c ≡ option_map gb18030_range_bytes (range_pointer_of flat.ranges c)
   unfolding gb18030_code
@@ -121,7 +121,7 @@ module _ (flat : FlatIndexes) (accepted : AreAccepted flat) where
     pub goes-by-pointers : GoesByPointers (gb18030_codec flat extended) parts.Gb18030Order gb18030_mark flat.gb18030 (goes_by_pointer flat.gb18030_pua)
     goes-by-pointers = record { scalars = gb18030-scalars flat accepted; some = gb18030_mark-some; coded = coded; uncoded = uncoded }
 
--- ---- what is asked for
+-- ---- the scalars that are looked up one by one
 
 or_left : (a b : Bool) → a ≡ true → (a || b) ≡ true
 or_left a b e = rw e refl
@@ -138,7 +138,7 @@ there : (done : ℕ → Bool) (first end c : ℕ) → first ≤ c → c < end �
 there done first end c l h = or_right (done c) _ (rw (le-leb first c l, lt-ltb c end h) refl)
 
 module _ (codec : Codec) (done : ℕ → Bool) (rows : List (ℕ × ℕ × ℕ)) where
-  -- the rows of none
+  -- with no rows nothing is added
   pub no-rows : (pairs : List ℕ) → AreRightWhere codec done pairs → AreRightWhere codec (or_in_rows done (take 0 rows)) pairs
   no-rows pairs now = record { all = now.all; right = λ c h e. elim (or_cases (done c) _ e) [ inl d ↦ now.right c h d | inr b ↦ cc ] }
 
@@ -169,7 +169,7 @@ module _ (rows : List (ℕ × ℕ × ℕ)) where
   past_ascii : (c : ℕ) → ascii_asked c ≡ true → e5e5_asked c ≡ true
   past_ascii c e = or_left (euro_asked c) _ (or_left (ascii_asked c) _ e)
 
-  -- all scalars go by pointers or are asked for
+  -- each scalar has the code of its pointer or is looked up
   pub all-asked : (c : ℕ) → or_in_rows e5e5_asked rows c ≡ true
   all-asked c = go (is_in_rows rows c) refl
     where

@@ -1,4 +1,4 @@
--- What is shown of the codes of Big5.
+-- The bytes of the codes of Big5.
 use Rattle.std.proofs.Common.{ℕ, ◌≢◌, ◌+◌, ◌*◌, ◌/◌, ◌%◌, ◌≤◌, List, refl, arith, nat_lt}
 use Rattle.std.specs.Prelude.{if◌then◌else◌}
 use Rattle.std.proofs.lemmas.Bool.{lt-ltb}
@@ -17,7 +17,7 @@ pub big5_pairs : (index : List ℕ) → IsPairCodec (big5 index)
 unfolding big5_code
 big5_pairs index = record { code = big5_code index; profile_is = refl; ascii = λ c h. rw (lt-ltb c 128 h) refl; short = short index }
 
--- the lead and the trail of a pointer as one number, the lead in the low byte
+-- the lead and the trail of a pointer as one number, with the lead in the low byte
 abbrev pub big5_mark : ℕ → ℕ
 big5_mark p = (p / 157 + 0x81) + 256 * (p % 157 + (if nat_lt (p % 157) 0x3F then 0x40 else 0x62))
 

@@ -1,4 +1,4 @@
--- What is shown of Big5.
+-- The steps of Big5 agree with its grammar.
 use Rattle.std.proofs.Common.{ℕ, ◌<◌, ◌≤◌, List, [], ◌∷◌, Option, Some, None, true, refl, ◌==◌, arith}
 use Rattle.std.specs.Option.{option_map_or}
 use Rattle.legacy_base.specs.Big5.{big5_front, big5_pair, big5_scalars, big5_pointer}
@@ -17,7 +17,7 @@ use Rattle.legacy_decoder_engine.proofs.TwoByteCosts.{units_test}
 use Rattle.legacy_decoder_engine.proofs.TwoByteShown.{HasTwoByteRooms, lead_codec}
 use Rattle.legacy_decoder_engine.specs.LeadCodecs.{IsLeadCodec}
 
--- four pointers give a letter and a mark
+-- each pointer gives at most one scalar, or a letter and a combining mark
 one : (index : List ℕ) (o : Option ℕ) → IsOneOrMarked true (option_map_or (big5_scalars index) o [])
 one index None = tt
 one index (Some p) =

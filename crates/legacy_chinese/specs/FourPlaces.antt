@@ -1,5 +1,5 @@
--- The places of the four bytes of a form of GB18030: their pointer is the sum. A byte that cannot stand there has a
--- place past all pointers.
+-- The places of the bytes of a four-byte sequence of gb18030. The pointer is their sum. A byte that is not allowed
+-- there has a place past all pointers.
 use Rattle.std.specs.Prelude.{ℕ, ◌-◌, ◌*◌, if◌then◌else◌}
 use Rattle.std.specs.Char.{is_ascii_digit}
 use Rattle.legacy_base.specs.States.{is_lead}

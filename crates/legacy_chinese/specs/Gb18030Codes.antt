@@ -1,4 +1,4 @@
--- What is shown of the codes of GB18030 and of GBK.
+-- The bytes of the codes of gb18030 and GBK.
 use Rattle.std.proofs.Common.{ℕ, ◌≤◌, ◌==◌, List, [], ◌∷◌, Bool, true, false, refl, arith}
 use Rattle.std.proofs.lemmas.Bool.{lt-ltb}
 use Rattle.legacy_tables.specs.Indexes.{FlatIndexes, gb18030_pua_of}
@@ -10,7 +10,7 @@ use Rattle.legacy_chinese.specs.Gb18030Codec.{gb18030_codec}
 use Rattle.legacy_encoder_engine.specs.PlainCodecs.{HasPlainLengths, IsPlainCodec}
 use Rattle.legacy_encoder_engine.proofs.PlainServes.{short_past, short_if, short_map, short_or}
 
--- a pair has two bytes
+-- a pair has at most two bytes
 short_pair : (pua : List (ℕ × ℕ × ℕ)) (index : List ℕ) (c : ℕ) → code_length (gb18030_pair_code pua index c) ≤ 2
 short_pair pua index c =
     short_or _ _ 2 (short_map (λ row. row.0 ∷ row.1 ∷ []) (gb18030_pua_of pua c) 2 (λ row. omega arith))
@@ -30,7 +30,7 @@ short_gbk index pua c h =
     (short_if (c == 0xE5E5) _ _ 2 (omega arith)
     (short_if (c == 0x20AC) _ _ 2 (omega arith) (short_pair pua index c)))
 
--- the length formulas serve
+-- the length formulas are enough
 gbk_lengths : HasPlainLengths 4 2 (λ n. n ⊕ number 3) (λ n. number 2 ⊕ number 2 ⊗ n)
 gbk_lengths = record {
   fits = (omega arith, omega arith);

@@ -1,9 +1,9 @@
--- What the GB18030 decoder holds back, as bytes.
+-- The held-back bytes of the gb18030 decoder.
 use Rattle.std.specs.Prelude.{ℕ, List, [], ◌∷◌, Bool, true, false}
 use Rattle.legacy_chinese.specs.declared.gb18030.decoder.Held.{Held}
 use Rattle.legacy_chinese.specs.declared.gb18030.decoder.Held.TheVariants.{Nothing, First, Second, Third, Digit, DigitLead}
 
--- the bytes that are held back
+-- the held-back bytes
 abbrev pub held_bytes : Held → List ℕ
 held_bytes Nothing = []
 held_bytes (First first) = first.byte ∷ []
@@ -12,7 +12,7 @@ held_bytes (Third first second third) = first.byte ∷ second.byte ∷ third.byt
 held_bytes (Digit digit) = digit.byte ∷ []
 held_bytes (DigitLead digit lead) = digit.byte ∷ lead.byte ∷ []
 
--- no digit is to be written first
+-- there is no digit to write before the next byte is read
 abbrev pub is_resting : Held → Bool
 is_resting (Digit digit) = false
 is_resting (DigitLead digit lead) = false

@@ -8,7 +8,7 @@ use Rattle.legacy_base.specs.States.{is_lead}
 use Rattle.legacy_base.specs.Grammar.{gb18030}
 use Rattle.legacy_decoder_engine.specs.Steps.{Step, hold, finish, leave, DecoderMachine, trail_step}
 
--- a digit of a broken form
+-- the held-back digit after a malformed lead, which is written before the next byte is read
 abbrev pub gb18030_pending : List ℕ → Option (ℕ × ℕ)
 gb18030_pending [] = None
 gb18030_pending (b ∷ held) = if is_ascii_digit b then Some (1, b) else None

@@ -2,7 +2,7 @@
 use Rattle.std.specs.Prelude.{ℕ, ◌-◌, if◌then◌else◌}
 use Rattle.std.specs.Int.{is_in_range}
 
--- the place of a trail in its row, or a number past the end of the index
+-- the place of a trail in its row; a number past the end of the index if the byte is not a trail
 unfoldable pub gb18030_trail_place : ℕ → ℕ
 gb18030_trail_place trail =
     if is_in_range 0x40 0x7E trail then trail - 0x40

@@ -1,4 +1,4 @@
-//! gb18030, and GBK, whose decoder is the same.
+//! gb18030 and GBK, which have the same decoder.
 pub mod decoder;
 pub mod digit;
 pub mod encoder;

@@ -1,5 +1,7 @@
-//! The legacy multi-byte Chinese encodings (Encoding Standard, sections "Legacy multi-byte Chinese
-//! (simplified) encodings" and "(traditional)"): gb18030, GBK too, and Big5.
+//! The legacy multi-byte Chinese encodings: gb18030 with GBK, and Big5.
+//!
+//! See the Encoding Standard, sections "Legacy multi-byte Chinese (simplified) encodings" and
+//! "Legacy multi-byte Chinese (traditional) encodings".
 #![tactic(auto)]
 
 mod big5;

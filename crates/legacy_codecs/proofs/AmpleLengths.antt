@@ -1,4 +1,4 @@
--- A run with outputs that are wide and many is finished.
+-- A run is finished if its outputs are wide and many enough.
 use Rattle.std.proofs.Common.{◌≡◌, ◌∙◌, ℕ, ◌+◌, ◌-◌, ◌≤◌, List, [], ◌∷◌, length, map, refl, sym, ap, arith, length-append, All, Bool, true, false, IsTrue}
 use Rattle.std.proofs.lemmas.List.{length-map}
 use Rattle.std.proofs.lemmas.List.Elements.{All-get_or}
@@ -19,18 +19,18 @@ use Rattle.legacy_codecs.proofs.Places.{later_less, calls_are_fewer}
 use Rattle.legacy_codecs.proofs.Replaced.{length-shift}
 use Rattle.legacy_codecs.proofs.RunEvents.{behind, events_ahead, place_before-ahead, Reaches-events}
 
--- what is given at the end of a call comes on top of its scalars
+-- a call's report adds its events after those of its scalars
 out-some : (seen : ℕ) (scalars : List ℕ) (answer : DecoderResult) → length (out_events seen scalars answer) ≡ length scalars + length (reported_events seen answer)
 out-some seen scalars answer =
     let event : ℕ → DecodeEvent = λ x. Scalar x in
     length-append (map event scalars) (reported_events seen answer) ∙ ap (λ n. n + length (reported_events seen answer)) (length-map scalars event)
 
--- where units were written, there is a scalar
+-- if code units were written, there is a scalar
 some_scalar : (form : EncodingForm) (scalars : List ℕ) → 1 ≤ total_unit_count form scalars → 1 ≤ length scalars
 some_scalar form [] h = omega arith
 some_scalar form (c ∷ cs) h = omega arith
 
--- a call that does not end the run gives an event, or goes on to the next piece
+-- a call that does not end the run gives an event or goes on to the next piece
 progresses : (form : EncodingForm) (p : RunPlace DecoderState) (free : ℕ) (after : DecoderState) (answer : DecoderResult) (read : ℕ) (scalars : List ℕ) → wide_room form ≤ free →
     DecoderCall form p.state p.piece (is_none p.later) free after answer read scalars → ends_run p (is_input_empty answer) ≡ false →
     1 + length (behind p after answer read).later ≤ length (out_events (length p.state.held + read) scalars answer) + length p.later
@@ -44,7 +44,7 @@ progresses form p free after (Malformed a b) read scalars w c e =
     let out = out-some (length p.state.held + read) scalars (Malformed a b) in
     omega arith
 
--- so there are no more calls than events and pieces
+-- so there are at most as many calls as events and pieces
 calls-few : {form : EncodingForm} {from : RunPlace DecoderState} {lengths : List ℕ} {calls : ℕ} {events : List DecodeEvent} {passed : ℕ} {finished : Bool} {p : RunPlace DecoderState} →
     Reaches form from lengths calls events passed finished p → All (λ n. wide_room form ≤ n) lengths → finished ≡ false → calls + length p.later ≤ length events + length from.later
 calls-few begun w h = omega arith

@@ -1,4 +1,4 @@
--- A run of an encoder with outputs that are wide and many is finished.
+-- A run of an encoder is finished if its outputs are wide and many enough.
 use Rattle.std.proofs.Common.{◌≡◌, ◌∙◌, ℕ, ◌+◌, ◌≤◌, List, ◌++◌, length, map, refl, sym, ap, arith, length-append, All, Bool, true, false, IsTrue}
 use Rattle.std.proofs.lemmas.List.{length-map}
 use Rattle.std.proofs.lemmas.List.Elements.{All-get_or}
@@ -16,13 +16,13 @@ use Rattle.legacy_codecs.specs.EncodeRuns.EncodeReaches.{begun, called}
 use Rattle.legacy_codecs.proofs.Places.{later_less, calls_are_fewer}
 use Rattle.legacy_codecs.proofs.EncodeRunEvents.{encoded_ahead, place_before-encoded, reaches-encoded}
 
--- what is reported at the end of a call comes on top of its bytes
+-- a call's report adds its events after those of its bytes
 out-length : (bytes : List ℕ) (answer : EncoderResult) → length (map Byte bytes ++ reported answer) ≡ length bytes + length (reported answer)
 out-length bytes answer =
     let event : ℕ → EncodeEvent = λ b. Byte b in
     length-append (map event bytes) (reported answer) ∙ ap (λ n. n + length (reported answer)) (length-map bytes event)
 
--- a call that does not end the run gives an event, or goes on to the next piece
+-- a call that does not end the run gives an event or goes on to the next piece
 progresses : (p : RunPlace EncoderState) (free : ℕ) (after : EncoderState) (answer : EncoderResult) (left bytes : List ℕ) → 4 ≤ free →
     EncoderCall p.state p.piece (is_none p.later) free after answer left bytes → ends_run p (is_input_empty answer) ≡ false →
     1 + length (place_behind p after (is_input_empty answer) left).later ≤ length (map Byte bytes ++ reported answer) + length p.later
@@ -34,7 +34,7 @@ progresses p free after OutputFull left bytes w c e =
     omega arith
 progresses p free after (Unmappable d) left bytes w c e = let out = out-length bytes (Unmappable d) in omega arith
 
--- so there are no more calls than events and pieces
+-- so there are at most as many calls as events and pieces
 calls-few : {from : RunPlace EncoderState} {lengths : List ℕ} {calls : ℕ} {events : List EncodeEvent} {finished : Bool} {p : RunPlace EncoderState} →
     EncodeReaches from lengths calls events finished p → All (λ n. 4 ≤ n) lengths → finished ≡ false → calls + length p.later ≤ length events + length from.later
 calls-few begun w h = omega arith

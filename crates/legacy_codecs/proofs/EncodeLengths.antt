@@ -1,4 +1,4 @@
--- Calls of an encoder that fill one output leave the room that the text to come needs.
+-- Calls of an encoder that fill one output leave the room that the rest of the text needs.
 use Rattle.std.proofs.Common.{◌≡◌, ◌≢◌, ℕ, ◌+◌, ◌-◌, ◌≤◌, List, length, refl, arith, Bool, false}
 use Rattle.legacy_base.specs.declared.results.EncoderResult.{EncoderResult}
 use Rattle.legacy_base.specs.declared.results.EncoderResult.TheVariants.{InputEmpty, OutputFull, Unmappable}
@@ -9,7 +9,7 @@ use Rattle.legacy_base.proofs.EncoderLaws.{encoder_room-rises, encoder_room-answ
 use Rattle.legacy_codecs.specs.EncodeFilling.{NextEncodeCall, EncodeFills, EncodeQueriedLengthSuffices}
 use Rattle.legacy_codecs.specs.EncodeFilling.EncodeFills.{begun, called}
 
--- a call that is not the end of a text and has the room that it needs goes on
+-- calls go on after a call that returns neither OutputFull nor, at the end of a text, InputEmpty
 goes_on : (last : Bool) (answer : EncoderResult) → answer ≢ OutputFull → (answer ≡ InputEmpty → last ≡ false) → GoesOn last answer
 goes_on last InputEmpty n e = e refl
 goes_on last OutputFull n e = n refl
@@ -17,11 +17,11 @@ goes_on last (Unmappable c) n e = tt
 
 module _ {form : EncodingForm} {before : EncoderState} {units free : ℕ} {after : EncoderState} {answer : EncoderResult} {read : ℕ} {bytes : List ℕ}
     (n : NextEncodeCall form before units free after answer read bytes) (enough : encoder_room form before units ≤ free) where
-  -- what is to come has room
+  -- the next call does not return OutputFull
   next-suffices : answer ≢ OutputFull
   next-suffices = let r = encoder_room-rises form before (total_unit_count form n.source) units n.some in n.call.suffices form (omega arith)
 
-  -- and so has what is to come behind the call
+  -- after the next call the rest of the text has room
   next-lowers : (answer ≡ InputEmpty → n.last ≡ false) → encoder_room form after (units - read) ≤ free - length bytes
   next-lowers e =
       let some = n.some in

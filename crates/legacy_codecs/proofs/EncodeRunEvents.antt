@@ -14,7 +14,7 @@ use Rattle.legacy_codecs.specs.EncodeRuns.{is_input_empty, EncodeReaches, IsEnco
 use Rattle.legacy_codecs.specs.EncodeRuns.EncodeReaches.{begun, called}
 use Rattle.legacy_codecs.proofs.Places.{last_empty, place_before-state}
 
--- one more call, by other words for what went in and what came out
+-- one more call, with its inputs and outputs given by equations
 pub reaches_call : {from : RunPlace EncoderState} {lengths : List ℕ} {calls : ℕ} {items items' : List EncodeEvent} {p p' : RunPlace EncoderState} {free : ℕ} {after : EncoderState}
     {last finished empty : Bool} {answer : EncoderResult} {left bytes : List ℕ} →
     EncodeReaches from lengths calls items false p → slice_get lengths calls ≡ Some free → EncoderCall p.state p.piece last free after answer left bytes →
@@ -22,7 +22,7 @@ pub reaches_call : {from : RunPlace EncoderState} {lengths : List ℕ} {calls : 
     finished ≡ ends_run p empty → p' ≡ place_behind p after empty left → EncodeReaches from lengths (calls + 1) items' finished p'
 reaches_call r given c l e i f q = let c' = rw l at c in rw (i, f, q, e) (called _ _ _ r _ given _ _ _ _ c')
 
--- the events of what is unread and of what comes after it
+-- the events of what is unread and of the pieces after it
 abbrev pub encoded_ahead : RunPlace EncoderState → List EncodeEvent
 encoded_ahead p = encoded p.state (p.piece ++ joined p.later) true
 
@@ -30,7 +30,7 @@ pub place_before-encoded : (s : EncoderState) (pieces : List (List ℕ)) → enc
 place_before-encoded s [] = refl
 place_before-encoded s (p ∷ ps) = refl
 
--- what is left and after it stays ahead
+-- after a call the same scalars are ahead, without those that it read
 place_behind-encoded : (p : RunPlace EncoderState) (after : EncoderState) (answer : EncoderResult) (left : List ℕ) → (answer ≡ InputEmpty → left ≡ []) →
     encoded after (left ++ joined p.later) true ≡ encoded_ahead (place_behind p after (is_input_empty answer) left)
 place_behind-encoded p after InputEmpty left h = ap (λ l. encoded after (l ++ joined p.later) true) (h refl) ∙ sym (place_before-encoded after p.later)
@@ -38,7 +38,7 @@ place_behind-encoded p after OutputFull left h = refl
 place_behind-encoded p after (Unmappable c) left h = refl
 
 module _ {from : RunPlace EncoderState} {lengths : List ℕ} where
-  -- the events so far, and then those of what is ahead, are all events
+  -- the events up to a place, and then those of what is ahead, are all events
   pub reaches-encoded : {calls : ℕ} {events : List EncodeEvent} {finished : Bool} {p : RunPlace EncoderState} → EncodeReaches from lengths calls events finished p →
       encoded_ahead from ≡ events ++ encoded_ahead p
   reaches-encoded begun = refl
@@ -50,7 +50,7 @@ module _ {from : RunPlace EncoderState} {lengths : List ℕ} where
       ∙ ap (λ l. events ++ l) (one ∙ ap (λ l. map Byte bytes ++ (reported answer ++ l)) two ∙ sym (append_assoc (map Byte bytes) (reported answer) next))
       ∙ sym (append_assoc events (map Byte bytes ++ reported answer) next)
 
-  -- a run is finished behind all pieces, and the end has nothing left to write there
+  -- a finished run is past all pieces, and the end has nothing left to write
   pub reaches-finished : {calls : ℕ} {events : List EncodeEvent} {finished : Bool} {p : RunPlace EncoderState} → EncodeReaches from lengths calls events finished p →
       finished ≡ true → (p ≡ place_before p.state []) × HasNoEnd p.state
   reaches-finished begun h = absurd (false≢true h)
@@ -61,7 +61,7 @@ module _ {from : RunPlace EncoderState} {lengths : List ℕ} where
   reaches-finished (called calls events p r free e after OutputFull left bytes c) h = absurd (false≢true h)
   reaches-finished (called calls events p r free e after (Unmappable d) left bytes c) h = absurd (false≢true h)
 
--- what a run gave is a beginning of all events
+-- the events of a run are a prefix of all events
 pub is_encode_beginning : (before : EncoderState) (pieces : List (List ℕ)) {lengths : List ℕ} {calls : ℕ} {finished : Bool} {items : List EncodeEvent} {after : EncoderState} →
     IsEncodeRun (place_before before pieces) lengths calls finished items after → IsEncodeBeginning before pieces finished items
 is_encode_beginning before pieces r = record {
@@ -72,12 +72,12 @@ is_encode_beginning before pieces r = record {
       ap encoded_ahead done.0 ∙ end-encoded r.place.state ∙ ap (map Byte) done.1;
 }
 
--- a finished run leaves nothing to write
+-- after a finished run nothing is left to write
 pub no_end_left : {from : RunPlace EncoderState} {lengths : List ℕ} {calls : ℕ} {finished : Bool} {items : List EncodeEvent} {after : EncoderState} →
     IsEncodeRun from lengths calls finished items after → IsTrue finished → HasNoEnd after
 no_end_left r h = subst HasNoEnd r.state (reaches-finished r.reaches h).1
 
--- it gives all events
+-- a finished run gives all events
 pub finished_encodes : {before : EncoderState} {scalars : List ℕ} {answered : List EncodeEvent} → FinishedEncodeRun before scalars answered → encoded before scalars true ≡ answered
 finished_encodes {before = before} {answered = answered} f =
     let b = is_encode_beginning _ _ f.run in

@@ -14,3 +14,6 @@ pub mod Replacements
 pub mod ReferenceTexts
 pub mod ReferencingCalls
 pub mod StandardRuns
+pub mod MalformedSequences
+pub mod WholePieces
+pub mod WholeTexts

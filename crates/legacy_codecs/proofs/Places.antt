@@ -1,4 +1,4 @@
--- Where a run stands, and the numbers of which its driver speaks.
+-- The place of a run, and the numbers that its driver computes.
 use Rattle.std.proofs.Common.{◌≡◌, ◌∙◌, ℕ, zero, suc, ◌+◌, ◌-◌, ◌≤◌, ◌<◌, List, [], ◌∷◌, length, drop, get_or, map, Bool, true, false, IsTrue, leb, inl, inr}
 use Rattle.std.proofs.Common.{refl, sym, arith, drop-cons, add-one}
 use Rattle.std.proofs.lemmas.Bool.{true≢false, false≢true, cases_lt, le-leb, lt-leb}
@@ -8,7 +8,7 @@ use Rattle.std.proofs.Math.ListN.{drop_of_length-le}
 use Rattle.std.specs.Prelude.{slice_index_or, sum_by, sum}
 use Rattle.legacy_codecs.specs.Pieces.{RunPlace, is_none, place_before, place_behind, piece_count, AreAmple}
 
--- behind a last piece there is none
+-- after a last piece there is none
 pub last_empty : (later : List (List ℕ)) → IsTrue (is_none later) → later ≡ []
 last_empty [] h = refl
 last_empty (q ∷ qs) h = absurd (false≢true h)
@@ -22,12 +22,12 @@ module _ {State : Type 0} where
   place_behind-state p after true unread = place_before-state after p.later
   place_behind-state p after false unread = refl
 
-  -- before the first piece all of the pieces is unread
+  -- before the first piece all pieces are unread
   pub pieces-length : (s : State) (pieces : List (List ℕ)) → length (place_before s pieces).piece + sum_by length (place_before s pieces).later ≡ sum_by length pieces
   pieces-length s [] = refl
   pieces-length s (p ∷ ps) = sym (sum_by-cons length p ps)
 
-  -- how many pieces are left
+  -- a step to the next piece leaves one fewer
   pub later_less : (s : State) (later : List (List ℕ)) → is_none later ≡ false → length (place_before s later).later + 1 ≡ length later
   later_less s [] h = absurd (true≢false h)
   later_less s (q ∷ qs) h = omega arith
@@ -36,14 +36,14 @@ module _ {State : Type 0} where
   later_count s [] = refl
   later_count s (p ∷ ps) = omega arith
 
-  -- calls for which the events and the pieces that they used up do not suffice are fewer than ample outputs
+  -- if the calls are at most as many as the events and pieces used, ample outputs are left
   pub calls_are_fewer : (s : State) (pieces : List (List ℕ)) (lengths : List ℕ) (room events calls given left : ℕ) → AreAmple room events pieces lengths →
       calls + left ≤ given + length (place_before s pieces).later → given ≤ events → calls < length lengths
   calls_are_fewer s pieces lengths room events calls given left a few part = let count = later_count s pieces in let many = a.many in omega arith
 
   -- ---- places by an index
 
-  -- where a run stands, with so much of the piece at the index read
+  -- the place of a run that has read `offset` code units of the piece at an index
   abbrev pub place_at : List (List ℕ) → State → ℕ → ℕ → RunPlace State
   place_at pieces now index offset = record { state = now; piece = drop offset (slice_index_or pieces index []); later = drop (index + 1) pieces }
 
@@ -58,7 +58,7 @@ module _ {State : Type 0} where
   pub place_at-next : (pieces : List (List ℕ)) (s : State) (index : ℕ) → index + 1 < length pieces → place_at pieces s (index + 1) 0 ≡ place_before s (drop (index + 1) pieces)
   place_at-next pieces s index h = rw (drop-cons pieces (index + 1) [] h, add-one (index + 1)) refl
 
--- whether no piece stands behind an index
+-- the test for the last piece, by the number of pieces
 pub last_is : (pieces : List (List ℕ)) (n index : ℕ) → n ≡ length pieces → leb (n - index) 1 ≡ is_none (drop (index + 1) pieces)
 last_is pieces n index e = elim (cases_lt (index + 1) n) [
   | inl a ↦
@@ -69,20 +69,20 @@ last_is pieces n index e = elim (cases_lt (index + 1) n) [
       le-leb (n - index) 1 (omega arith) ∙ rw none refl
 ]
 
--- that does not hang on what a piece is to its reader
+-- which piece is the last does not depend on how its reader sees it
 pub same_end : {A : Type 0} (f g : A → List ℕ) (pieces : List A) (index : ℕ) → is_none (drop index (map f pieces)) ≡ is_none (drop index (map g pieces))
 same_end f g [] zero = refl
 same_end f g [] (suc index) = refl
 same_end f g (p ∷ ps) zero = refl
 same_end f g (p ∷ ps) (suc index) = same_end f g ps index
 
--- what it tells where it is not
+-- if the piece at an index is not the last, the next index is one of a piece
 pub not_last : (pieces : List (List ℕ)) (index : ℕ) → is_none (drop (index + 1) pieces) ≡ false → index + 1 < length pieces
 not_last pieces index e = elim (cases_lt (index + 1) (length pieces)) [
   | inl a ↦ a
   | inr a ↦ let n : drop (index + 1) pieces ≡ [] = drop_of_length-le pieces a in let f = rw n at e in absurd (true≢false f)
 ]
 
--- the room that the calls after one need
+-- the room for a call and for all calls after it
 pub room_step : (xs : List ℕ) (i : ℕ) → i < length xs → sum (drop i xs) + length (drop i xs) ≡ get_or xs i 0 + 1 + (sum (drop (i + 1) xs) + length (drop (i + 1) xs))
 room_step xs i h = grind (arith, common_steps)

@@ -1,4 +1,4 @@
--- Calls that fill one output leave the room that the bytes to come need.
+-- Calls that fill one output leave the room that the rest of the bytes needs.
 use Rattle.std.proofs.Common.{◌≡◌, ◌≢◌, ℕ, ◌+◌, ◌-◌, ◌≤◌, List, length, drop, length-drop, refl, arith, IsTrue}
 use Rattle.legacy_base.specs.declared.results.DecoderResult.{DecoderResult}
 use Rattle.legacy_base.specs.declared.results.DecoderResult.TheVariants.{OutputFull}

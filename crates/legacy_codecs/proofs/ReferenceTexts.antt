@@ -1,4 +1,4 @@
--- Laws of the text that is written for the events of an encoder, and how a reference is made.
+-- Laws of the text that is written for the events of an encoder, and of how a reference is made.
 use Rattle.std.proofs.Common.{◌≡◌, ◌∙◌, ℕ, ◌+◌, ◌-◌, ◌/◌, ◌%◌, ◌^◌, ◌≤◌, ◌<◌, List, [], ◌∷◌, ◌++◌, length, drop, take, set, map}
 use Rattle.std.proofs.Common.{decimal, refl, sym, ap, subst, arith, append_assoc, length-append, length-set, false, ◌||◌}
 use Rattle.std.proofs.Math.ListN.{drop_of_length-le}
@@ -18,7 +18,7 @@ use Rattle.legacy_codecs.specs.References.{event_bytes, referenced_bytes, is_unm
 pub referenced-append : (xs ys : List EncodeEvent) → referenced_bytes (xs ++ ys) ≡ referenced_bytes xs ++ referenced_bytes ys
 referenced-append xs ys = flat_map-append event_bytes xs ys
 
--- bytes are written as they are
+-- bytes are written unchanged
 pub referenced-of_bytes : (bs : List ℕ) → referenced_bytes (map Byte bs) ≡ bs
 referenced-of_bytes [] = refl
 referenced-of_bytes (b ∷ bs) = ap (λ (l : List ℕ). b ∷ l) (referenced-of_bytes bs)
@@ -26,7 +26,7 @@ referenced-of_bytes (b ∷ bs) = ap (λ (l : List ℕ). b ∷ l) (referenced-of_
 pub has_unmappable-append : (xs ys : List EncodeEvent) → has_unmappable (xs ++ ys) ≡ (has_unmappable xs || has_unmappable ys)
 has_unmappable-append xs ys = list_any-append is_unmappable xs ys
 
--- no byte is a scalar without bytes
+-- a list of bytes has no unmappable scalar
 pub has_unmappable-of_bytes : (bs : List ℕ) → has_unmappable (map Byte bs) ≡ false
 has_unmappable-of_bytes [] = refl
 has_unmappable-of_bytes (b ∷ bs) = has_unmappable-of_bytes bs
@@ -42,12 +42,12 @@ length-decimal_one n h = ap length (decimal_digit n h)
 pub length-decimal_more : (n : ℕ) → 10 ≤ n → n < 2 ^ 64 → length (decimal n) ≡ length (decimal (n / 10)) + 1
 length-decimal_more n h k = ap length (decimal_step n h k) ∙ length-append (decimal (n / 10)) ((48 + n % 10) ∷ [])
 
--- how many digits a number has
+-- the number of digits of a number
 pub ruleset decimal_lengths = (length-decimal_one, length-decimal_more, length-decimal_seven)
 
--- ---- how it is made, from its end on
+-- ---- how a number is written, from its last digit
 
--- a digit is put in front of what stands behind it
+-- one digit more is written before those that are written already
 pub digit_before : (text : List ℕ) (place rest : ℕ) (all : List ℕ) → 10 ≤ rest → rest < 2 ^ 64 → 1 ≤ place → place ≤ length text →
     decimal rest ++ drop place text ≡ all → decimal (rest / 10) ++ drop (place - 1) (set text (place - 1) (48 + rest % 10)) ≡ all
 digit_before text place rest all h k one within e =
@@ -56,7 +56,7 @@ digit_before text place rest all h k one within e =
     rw (drop-set text (place - 1) (48 + rest % 10) at, next)
     (sym (append_assoc (decimal (rest / 10)) ((48 + rest % 10) ∷ []) (drop place text)) ∙ ap (λ l. l ++ drop place text) (sym (decimal_step rest h k)) ∙ e)
 
--- the first digit is put in front of the others
+-- the first digit is written before the others
 pub first_digit : (text : List ℕ) (place rest : ℕ) (all : List ℕ) → rest < 10 → 1 ≤ place → place ≤ length text →
     decimal rest ++ drop place text ≡ all → drop (place - 1) (set text (place - 1) (48 + rest)) ≡ all
 first_digit text place rest all h one within e =
@@ -64,7 +64,7 @@ first_digit text place rest all h one within e =
     let next : place - 1 + 1 ≡ place = omega arith in
     rw (drop-set text (place - 1) (48 + rest) at, next) (ap (λ l. l ++ drop place text) (sym (decimal_digit rest h)) ∙ e)
 
--- the two bytes in front of the digits
+-- the two bytes before the digits
 pub marks_before : (text : List ℕ) (place : ℕ) → 2 ≤ place → place ≤ length text →
     drop (place - 2) (set (set text (place - 1) 35) (place - 2) 38) ≡ 38 ∷ 35 ∷ drop place text
 marks_before text place two within =
@@ -75,7 +75,7 @@ marks_before text place two within =
     ∙ ap (λ n. 38 ∷ drop n (set text (place - 1) 35)) one
     ∙ ap (λ l. 38 ∷ l) (drop-set text (place - 1) 35 (omega arith) ∙ ap (λ n. 35 ∷ drop n text) none)
 
--- and the one behind them
+-- the byte after the digits
 pub mark_behind : (text : List ℕ) → length text ≡ 10 → drop 9 (set text 9 59) ≡ 59 ∷ []
 mark_behind text long =
     let short : length text ≤ 10 = omega arith in
@@ -83,7 +83,7 @@ mark_behind text long =
 
 -- ---- a part of an output
 
--- what an output holds up to the end of what was written at the front of its part from a on
+-- what an output holds up to the last byte written into its part from `a` on
 pub front_of_part : (a k r : ℕ) (xs ys : List ℕ) → a ≤ length xs → r ≤ length ys → take (a + r) (put_mid a k xs ys) ≡ take a xs ++ take r ys
 front_of_part a k r xs ys within le =
     let all : take (a + length ys) (put_mid a k xs ys) ≡ take a xs ++ ys = take-put_mid a k xs ys (a + length ys) refl within in

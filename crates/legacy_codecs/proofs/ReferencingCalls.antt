@@ -1,4 +1,4 @@
--- A call that writes references under way.
+-- A call that writes references, in progress.
 use Rattle.std.proofs.Common.{◌≡◌, ◌∙◌, ℕ, ◌+◌, ◌-◌, ◌≤◌, ◌<◌, List, [], ◌∷◌, ◌++◌, length, map, slice_get, refl, sym, ap, subst, arith, append_assoc}
 use Rattle.std.proofs.Common.{append-nil, length-append, Bool, true, false, ◌||◌, IsTrue, Some, inl, inr}
 use Rattle.std.specs.Prelude.{is_some}
@@ -20,13 +20,13 @@ use Rattle.legacy_codecs.proofs.ReferenceTexts.{referenced-append, referenced-of
 
 -- ---- what one call adds
 
--- the bytes that are written for what a call reports
+-- the bytes that are written for the report of a call
 abbrev pub reported_bytes : EncoderResult → List ℕ
 reported_bytes InputEmpty = []
 reported_bytes OutputFull = []
 reported_bytes (Unmappable c) = reference c
 
--- whether a scalar without bytes was found, also in this call
+-- whether an unmappable scalar was found, including that of this call
 abbrev pub found_after : Bool → EncoderResult → Bool
 found_after found InputEmpty = found
 found_after found OutputFull = found
@@ -50,7 +50,7 @@ found-reported found InputEmpty = or_none found
 found-reported found OutputFull = or_none found
 found-reported found (Unmappable c) = or_some found
 
--- what a call gave
+-- the events of a call
 abbrev pub out_events : List ℕ → EncoderResult → List EncodeEvent
 out_events bytes answer = map Byte bytes ++ reported answer
 
@@ -68,7 +68,7 @@ found-call out bytes answer =
     has_unmappable-append (map byte bytes) (reported answer) ∙ ap (λ b. b || has_unmappable (reported answer)) (has_unmappable-of_bytes bytes) in
     sym (has_unmappable-append out (out_events bytes answer) ∙ ap (λ b. has_unmappable out || b) one ∙ found-reported (has_unmappable out) answer)
 
--- an empty text reports nothing
+-- a call with no text reports no unmappable scalar
 pub nothing_reported : (before : EncoderState) (last : Bool) (free : ℕ) (after : EncoderState) (c : ℕ) (left bytes : List ℕ) → EncoderCall before [] last free after (Unmappable c) left bytes → ⊥
 nothing_reported before last free after c left bytes call =
     let byte : ℕ → EncodeEvent = λ b. Byte b in
@@ -80,7 +80,7 @@ nothing_reported before last free after c left bytes call =
 
 -- ---- the room of a reference
 
--- behind bytes that leave the room free
+-- the reserve is kept by bytes that leave it free, and then by the events after them
 reserve-bytes : (free : ℕ) (bytes : List ℕ) (events : List EncodeEvent) → length bytes ≤ free - reference_room → KeepsReserve (free - length bytes) events → KeepsReserve free (map Byte bytes ++ events)
 unfolding KeepsReserve
 reserve-bytes free [] events fits kept = rw sub-zero at kept
@@ -88,7 +88,7 @@ reserve-bytes free (b ∷ bytes) events fits kept =
     let less : free - 1 - length bytes ≡ free - length (b ∷ bytes) = omega arith in
     (omega (arith, fits), reserve-bytes (free - 1) bytes events (omega (arith, fits)) (rw less kept))
 
--- behind events
+-- the reserve is kept by two lists of events, one after the other
 reserve-append : (free : ℕ) (xs ys : List EncodeEvent) → KeepsReserve free xs → KeepsReserve (free - length (referenced_bytes xs)) ys → KeepsReserve free (xs ++ ys)
 unfolding KeepsReserve
 reserve-append free [] ys a b = rw sub-zero at b
@@ -100,9 +100,9 @@ reserve-append free (event.Unmappable c ∷ xs) ys a b =
     omega (arith, length-append (reference c) (referenced_bytes xs)) in
     (a.0, reserve-append (free - length (reference c)) xs ys a.1 (rw less b))
 
--- ---- calls under way
+-- ---- calls in progress
 
--- These scalars are left, these bytes were written, and a scalar without bytes was found or was not.
+-- The scalars that are left, the bytes that were written, and whether an unmappable scalar was found.
 pub record IsReferencing (before : EncoderState) (source : List ℕ) (last : Bool) (free : ℕ) (now : EncoderState) (left bytes : List ℕ) (found : Bool) : Type 0 where
   pub taken : List ℕ
   pub cut : source ≡ taken ++ left
@@ -112,9 +112,9 @@ pub record IsReferencing (before : EncoderState) (source : List ℕ) (last : Boo
   pub text : bytes ≡ referenced_bytes out
   pub reserve : KeepsReserve free out
   pub found_is : found ≡ has_unmappable out
-  -- nothing was done yet where nothing was found
+  -- if no unmappable scalar was found, nothing was done yet
   pub untouched : found ≡ false → (now ≡ before) × (left ≡ source) × (bytes ≡ [])
-  -- nor was anything found where room was lacking as the call began
+  -- if the room was lacking as the call began, no unmappable scalar was found
   pub unfound : 0 < encoder_need before source last → LacksReferenceRoom before source last free → found ≡ false
 
 pub referencing_start : (before : EncoderState) (source : List ℕ) (last : Bool) (free : ℕ) → IsReferencing before source last free before source [] false
@@ -132,7 +132,7 @@ referencing_start before source last free = record {
   unfound = λ _ _. refl;
 }
 
--- where nothing was done, what lacked its room still does
+-- if nothing was done, what lacked room still lacks it
 still_lacks : (before now : EncoderState) (source left bytes : List ℕ) (last : Bool) (free room : ℕ) → now ≡ before → left ≡ source → bytes ≡ [] →
     room ≡ free - length bytes - reference_room → 0 < encoder_need before source last → LacksReferenceRoom before source last free → EncoderLacksRoom now left last room
 still_lacks before now source left bytes last free room e f g h some lacks =
@@ -140,25 +140,25 @@ still_lacks before now source left bytes last free room e f g h some lacks =
     let none : length bytes ≡ 0 = ap length g in
     omega arith
 
--- nothing fits where there is no room
+-- nothing is written if there is no room
 none_written : (written : List ℕ) → length written ≤ 0 → written ≡ []
 none_written [] h = refl
 none_written (b ∷ written) h = absurd (omega arith)
 
 module _ {before : EncoderState} {source : List ℕ} {last : Bool} {free : ℕ} {now : EncoderState} {left bytes : List ℕ} {found : Bool}
     (u : IsReferencing before source last free now left bytes found) where
-  -- what was given behind a call that wrote these bytes
+  -- the events after a call that wrote these bytes
   abbrev out_after : List ℕ → EncoderResult → List EncodeEvent
   out_after written answer = u.out ++ out_events written answer
 
   text_after : (written : List ℕ) (answer : EncoderResult) → bytes ++ (written ++ reported_bytes answer) ≡ referenced_bytes (out_after written answer)
   text_after written answer = ap (λ l. l ++ (written ++ reported_bytes answer)) u.text ∙ sym (referenced-call u.out written answer)
 
-  -- nothing is added at an answer that reports nothing
+  -- a result that reports nothing adds no bytes
   end_text : (written : List ℕ) (answer : EncoderResult) → reported_bytes answer ≡ [] → bytes ++ written ≡ referenced_bytes (out_after written answer)
   end_text written answer e = ap (λ l. bytes ++ l) (sym (ap (λ l. written ++ l) e ∙ append-nil written)) ∙ text_after written answer
 
-  -- what a call wrote leaves the room of a reference free, and so does what it reported
+  -- the reserve is kept after a call, if its bytes leave it free and its report keeps it
   reserve_after : (room : ℕ) → room ≡ free - length bytes - reference_room → (written : List ℕ) (answer : EncoderResult) → length written ≤ room →
       KeepsReserve (free - length bytes - length written) (reported answer) → KeepsReserve free (out_after written answer)
   reserve_after room room_is written answer fits kept =
@@ -166,7 +166,7 @@ module _ {before : EncoderState} {source : List ℕ} {last : Bool} {free : ℕ} 
       reserve-append free u.out (out_events written answer) u.reserve
       (rw done (reserve-bytes (free - length bytes) written (reported answer) (omega (arith, fits, room_is)) kept))
 
-  -- a call with so much room as there is but for a reference
+  -- a call with all the free room but that of a reference
   module _ {room : ℕ} (room_is : room ≡ free - length bytes - reference_room) {after : EncoderState} {rest written : List ℕ} where
     cut_after : (answer : EncoderResult) (c : EncoderCall now left last room after answer rest written) → source ≡ (u.taken ++ c.taken) ++ rest
     cut_after answer c = u.cut ∙ ap (λ l. u.taken ++ l) c.cut ∙ sym (append_assoc u.taken c.taken rest)
@@ -182,7 +182,7 @@ module _ {before : EncoderState} {source : List ℕ} {last : Bool} {free : ℕ} 
         ]))
         ∙ ap (λ l. u.out ++ l) (sym (append_assoc (map Byte written) (reported answer) behind)) ∙ sym (append_assoc u.out (out_events written answer) behind)
 
-    -- where room was lacking as the call began, this call answers so
+    -- if the room was lacking as the call began, this call returns OutputFull and nothing is done
     full_so : (answer : EncoderResult) → EncoderCall now left last room after answer rest written →
         0 < encoder_need before source last → LacksReferenceRoom before source last free →
         (answer ≡ OutputFull) × (rest ≡ source) × (bytes ++ written ≡ []) × (after ≡ before)
@@ -193,7 +193,7 @@ module _ {before : EncoderState} {source : List ℕ} {last : Bool} {free : ℕ} 
           nothing : bytes ≡ [] → written ≡ [] → bytes ++ written ≡ []
           nothing e f = rw (e, f) refl
 
-    -- ---- a scalar without bytes
+    -- ---- an unmappable scalar
 
     pub referencing_step : (c : ℕ) → length (bytes ++ (written ++ reference c)) ≤ free → length bytes + length written + reference_room ≤ free →
         EncoderCall now left last room after (Unmappable c) rest written → IsReferencing before source last free after rest (bytes ++ (written ++ reference c)) true
@@ -257,7 +257,7 @@ module _ {before : EncoderState} {source : List ℕ} {last : Bool} {free : ℕ} 
           never : InputEmpty ≡ OutputFull → ⊥
           never e = cc
 
-    -- with a length free that a query answered, room was lacking only behind a scalar without bytes
+    -- with a queried length free, the room is lacking only after an unmappable scalar
     found_if_full : (found : Bool) → (found ≡ false → (now ≡ before) × (left ≡ source) × (bytes ≡ [])) → EncoderCall now left last room after OutputFull rest written →
         (form : EncodingForm) (n k : ℕ) → total_unit_count form source ≤ n → encoder_answer form before n ≡ Some k → k + reference_room ≤ free → IsTrue found
     found_if_full true same c form n k h e f = refl
@@ -323,7 +323,7 @@ module _ {before : EncoderState} {source : List ℕ} {last : Bool} {free : ℕ} 
   same_bytes : (written : List ℕ) → length written ≤ 0 → bytes ++ written ≡ bytes
   same_bytes written h = ap (λ l. bytes ++ l) (none_written written h) ∙ append-nil bytes
 
-  -- no scalar is left, and a call without room tells whether the end has something to write
+  -- no scalar is left, and a call without room shows whether the end has something to write
   module _ (none : free < length bytes + reference_room) {after : EncoderState} {rest written : List ℕ} where
     pub referencing_done : EncoderCall now left last 0 after InputEmpty rest written → ReplacingEncoderCall before source last free after coder.InputEmpty rest bytes found
     referencing_done c =
@@ -333,7 +333,7 @@ module _ {before : EncoderState} {source : List ℕ} {last : Bool} {free : ℕ} 
     referencing_pending c =
         subst (λ l. ReplacingEncoderCall before source last free after coder.OutputFull rest l found) (same_bytes written c.fits) (referencing_full (omega arith) c)
 
--- the end of the scalars
+-- the list of scalars is at its end
 pub nothing_left : (xs : List ℕ) → is_some (slice_get xs 0) ≡ false → xs ≡ []
 nothing_left [] e = refl
 nothing_left (x ∷ xs) e = absurd (true≢false e)

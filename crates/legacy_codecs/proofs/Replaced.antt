@@ -10,13 +10,13 @@ use Rattle.legacy_codecs.specs.Replacing.{replaced_scalar, replaced_scalars, is_
 pub replaced-append : (xs ys : List DecodeEvent) → replaced_scalars (xs ++ ys) ≡ replaced_scalars xs ++ replaced_scalars ys
 replaced-append xs ys = map-append replaced_scalar xs ys
 
--- a place is not written
+-- places do not change what is written
 pub replaced-shift : (k : ℕ) (events : List DecodeEvent) → replaced_scalars (shift k events) ≡ replaced_scalars events
 replaced-shift k [] = refl
 replaced-shift k (Scalar c ∷ events) = ap (λ (l : List ℕ). c ∷ l) (replaced-shift k events)
 replaced-shift k (Bad place n ∷ events) = ap (λ (l : List ℕ). 0xFFFD ∷ l) (replaced-shift k events)
 
--- scalars are written as they are
+-- scalars are written unchanged
 pub replaced-of_scalars : (cs : List ℕ) → replaced_scalars (map Scalar cs) ≡ cs
 replaced-of_scalars [] = refl
 replaced-of_scalars (c ∷ cs) = ap (λ (l : List ℕ). c ∷ l) (replaced-of_scalars cs)
@@ -29,12 +29,12 @@ has_bad-shift k [] = refl
 has_bad-shift k (Scalar c ∷ events) = has_bad-shift k events
 has_bad-shift k (Bad place n ∷ events) = refl
 
--- no scalar is a malformed sequence
+-- a list of scalars has no malformed sequence
 pub has_bad-of_scalars : (cs : List ℕ) → has_bad (map Scalar cs) ≡ false
 has_bad-of_scalars [] = refl
 has_bad-of_scalars (c ∷ cs) = has_bad-of_scalars cs
 
--- and no event is lost where places move
+-- moving places keeps the number of events
 pub length-shift : (k : ℕ) (es : List DecodeEvent) → length (shift k es) ≡ length es
 length-shift k [] = refl
 length-shift k (e ∷ es) = ap suc (length-shift k es)

@@ -1,4 +1,4 @@
--- A call with replacement under way.
+-- A call with replacement, in progress.
 use Rattle.std.proofs.Common.{◌≡◌, ◌∙◌, ℕ, ◌+◌, ◌-◌, ◌≤◌, ◌<◌, List, [], ◌∷◌, ◌++◌, length, drop, map, refl, sym, ap, arith, append_assoc}
 use Rattle.std.proofs.Common.{append-nil, length-append, length-drop, add-zero, Bool, true, false, ◌||◌, IsTrue, All, cond, nat_eq, inl}
 use Rattle.std.specs.Char.{IsScalar}
@@ -27,13 +27,13 @@ use Rattle.legacy_codecs.proofs.Replaced.{replaced-append, replaced-shift, repla
 
 -- ---- what one call adds
 
--- the scalar that is written for what a call reports
+-- the scalar that is written for the report of a call
 abbrev pub reported_scalars : DecoderResult → List ℕ
 reported_scalars InputEmpty = []
 reported_scalars OutputFull = []
 reported_scalars (Malformed a b) = 0xFFFD ∷ []
 
--- whether a malformed sequence was found, also in this call
+-- whether a malformed sequence was found, including that of this call
 abbrev pub found_after : Bool → DecoderResult → Bool
 found_after found InputEmpty = found
 found_after found OutputFull = found
@@ -44,7 +44,7 @@ replaced-reported seen InputEmpty = refl
 replaced-reported seen OutputFull = refl
 replaced-reported seen (Malformed a b) = refl
 
--- what a call gave, as it is written
+-- what is written for the events of a call
 replaced-call : (k seen : ℕ) (cs : List ℕ) (answer : DecoderResult) → replaced_scalars (shift k (out_events seen cs answer)) ≡ cs ++ reported_scalars answer
 replaced-call k seen cs answer =
     let event : ℕ → DecodeEvent = λ x. Scalar x in
@@ -100,7 +100,7 @@ writing_least form narrow_acts = omega arith
 writing_least form wide_reads = omega arith
 writing_least form wide_acts = least form
 
--- behind a malformed sequence U+FFFD has room
+-- after a malformed sequence U+FFFD has room
 fault_least : (form : EncodingForm) (g : Grammar) (b : Bool) → bmp_room form ≤ cond b (release_room_in form g) (full_room_in form g)
 fault_least form g true = writing_least form (profile g).rooms
 fault_least form g false = reading_least form (profile g).rooms
@@ -118,9 +118,9 @@ replacement_fits form before source last free after a b read scalars c =
       bmp_some Utf8 = omega arith
       bmp_some Utf16 = omega arith
 
--- ---- calls under way
+-- ---- calls in progress
 
--- So many bytes were read, these code units were written, and a malformed sequence was found or was not.
+-- The bytes that were read, the code units that were written, and whether a malformed sequence was found.
 pub record IsReplacing (form : EncodingForm) (before : DecoderState) (source : List ℕ) (last : Bool) (free : ℕ) (now : DecoderState) (read : ℕ) (written : List ℕ) (found : Bool) : Type 0 where
   pub within : read ≤ length source
   pub fits : length written ≤ free
@@ -147,7 +147,7 @@ replacing_start form before source last free = record {
   lowers = λ more _. omega arith;
 }
 
--- what ended the input still does behind another call
+-- if the end of the input may be replaced before a call, it may be after it
 still_found : (last found : Bool) (answer : DecoderResult) (count : ℕ) (left : List ℕ) → IsTrue (may_replace_end last found left) → IsTrue (may_replace_end last (found_after found answer) (drop count left))
 still_found last false answer count left h = cc
 still_found false true answer count left h = cc
@@ -158,7 +158,7 @@ still_found true true answer count [] h = rw (found_still answer, drop-nil) refl
   found_still OutputFull = refl
   found_still (Malformed a b) = refl
 
--- on a last call
+-- the end of the input is replaced only on a last call
 pub end_found-last : (last found : Bool) (left : List ℕ) → IsTrue (may_replace_end last found left) → IsTrue last
 end_found-last true found left h = refl
 end_found-last false true left h = cc
@@ -169,7 +169,7 @@ found_now last found InputEmpty left h = cc
 found_now last found OutputFull left h = cc
 found_now last found (Malformed a b) left h = h
 
--- where nothing was done, the next act lacks its room as it did
+-- if nothing was done, the next act still lacks its room
 still_lacks : (form : EncodingForm) (before now : DecoderState) (source : List ℕ) (last : Bool) (read free left : ℕ) → now ≡ before → read ≡ 0 → left ≡ free → LacksRoom form before source last free →
     LacksRoom form now (drop read source) last left
 still_lacks form before now source last read free left e f g h = rw (e, f, g) h
@@ -177,11 +177,11 @@ still_lacks form before now source last read free left e f g h = rw (e, f, g) h
 module _ (form : EncodingForm) (before : DecoderState) (source : List ℕ) (last : Bool) (free : ℕ) (now : DecoderState) (read : ℕ) (written : List ℕ) (found : Bool)
     (u : IsReplacing form before source last free now read written found) (left : ℕ) (left_is : left + length written ≡ free)
     (after : DecoderState) (count : ℕ) (scalars : List ℕ) where
-  -- what stands in the output after the call
+  -- the output after the call
   abbrev units : DecoderResult → List ℕ
   units answer = written ++ all_code_units form (scalars ++ reported_scalars answer)
 
-  -- what was given behind the call
+  -- the events after the call
   abbrev out_after : DecoderResult → List DecodeEvent
   out_after answer = u.out ++ shift u.passed (out_events (length now.held + count) scalars answer)
 
@@ -213,7 +213,7 @@ module _ (form : EncodingForm) (before : DecoderState) (source : List ℕ) (last
   text_after : (answer : DecoderResult) → units answer ≡ all_code_units form (replaced_scalars (out_after answer))
   text_after answer = rw (replaced_after answer, all_code_units-append form (replaced_scalars u.out) (scalars ++ reported_scalars answer), ← u.text) refl
 
-  -- nothing is added at an answer that reports nothing
+  -- a result that reports nothing adds no code units
   units_at : (answer : DecoderResult) → reported_scalars answer ≡ [] → units answer ≡ written ++ all_code_units form scalars
   units_at answer e = ap (λ l. written ++ all_code_units form (scalars ++ l)) e ∙ ap (λ l. written ++ all_code_units form l) (append-nil scalars)
 
@@ -229,7 +229,7 @@ module _ (form : EncodingForm) (before : DecoderState) (source : List ℕ) (last
       let three = rw (drop-drop count read source) at two in
       omega (arith, one, three)
 
-  -- the room law at the end of the source
+  -- the law of the room at the end of the source
   lowers_here : room (replacing_query form) now (length (drop read source)) + length written ≤ room (replacing_query form) before (length source)
   lowers_here = let h = u.lowers 0 (λ _. refl) in rw (add-zero (length (drop read source)), add-zero (length source)) at h
 
@@ -358,9 +358,9 @@ module _ (form : EncodingForm) (before : DecoderState) (source : List ℕ) (last
         never : InputEmpty ≡ OutputFull → ⊥
         never e = cc
 
--- ---- the same, by what the destination holds
+-- ---- the same, by the contents of the destination
 
--- Calls under way, from a destination that held `old` and had so much room free, to one that holds `new` and has `left`.
+-- Calls in progress: the destination held `old` with `free` code units free, and now holds `new` with `left` free.
 pub record Replaces (form : EncodingForm) (before : DecoderState) (source : List ℕ) (last : Bool) (free : ℕ) (now : DecoderState) (read : ℕ) (found : Bool) (old new : List ℕ) (left : ℕ) : Type 0 where
   pub written : List ℕ
   pub state : IsReplacing form before source last free now read written found
@@ -378,11 +378,11 @@ replaces_start form before source last free old = record {
 module _ (form : EncodingForm) (before : DecoderState) (source : List ℕ) (last : Bool) (free : ℕ) (now : DecoderState) (read : ℕ) (found : Bool) (old mid : List ℕ) (left : ℕ)
     (r : Replaces form before source last free now read found old mid left) (after : DecoderState) (count : ℕ) (scalars : List ℕ)
     (stepped : List ℕ) (stepped_is : stepped ≡ mid ++ all_code_units form scalars) where
-  -- the contents behind the call
+  -- the contents after the call
   contents_now : stepped ≡ old ++ (r.written ++ all_code_units form scalars)
   contents_now = stepped_is ∙ ap (λ l. l ++ all_code_units form scalars) r.contents ∙ append_assoc old r.written (all_code_units form scalars)
 
-  -- the room behind the call
+  -- the room after the call
   room_now : (left_now : ℕ) → left_now + length stepped ≡ left + length mid → left_now + total_unit_count form scalars ≡ left
   room_now left_now e =
       let long : length stepped ≡ length mid + total_unit_count form scalars = ap length stepped_is ∙ length-append mid (all_code_units form scalars) in
@@ -396,7 +396,7 @@ module _ (form : EncodingForm) (before : DecoderState) (source : List ℕ) (last
       (written : List ℕ) × ReplacingDecoderCall form before source last free after coder.OutputFull (read + count) written found × (stepped ≡ old ++ written)
   replaces_full c = (r.written ++ all_code_units form scalars, replacing_full form before source last free now read r.written found r.state left r.room after count scalars c, contents_now)
 
-  -- a malformed sequence, and U+FFFD behind it
+  -- a malformed sequence, and U+FFFD after it
   pub replaces_step : (a b : ℕ) → DecoderCall form now (drop read source) last left after (Malformed a b) count scalars →
       (left_now left_put : ℕ) → left_now + length stepped ≡ left + length mid → left_put + length (code_units form 0xFFFD) ≡ left_now →
       (put : List ℕ) → put ≡ stepped ++ code_units form 0xFFFD → Replaces form before source last free after (read + count) true old put left_put

@@ -1,4 +1,4 @@
--- Runs of an encoder and of a decoder, one behind the other.
+-- Runs of an encoder, and of a decoder over its output.
 use Rattle.std.proofs.Common.{◌≡◌, ◌∙◌, List, ℕ, ◌++◌, Bool, true, map, sym, ap, append-nil}
 use Rattle.legacy_base.specs.declared.results.DecodeEvent.TheVariants.{Scalar}
 use Rattle.legacy_base.specs.declared.results.EncodeEvent.{EncodeEvent}
@@ -33,7 +33,7 @@ runs_encode_well_formed codec accepted text sound given run answered f =
     ∙ ap (placed 0) (ap (events_of (grammar_of codec)) bytes ∙ encodes_well_formed codec accepted text sound)
     ∙ placed-scalars 0 _
 
--- ---- what one run answered
+-- ---- the events of one run
 
 in_place : (codec : Codec) (text bytes : List ℕ) → IsEncodedAs codec text bytes → HasEscapesInPlace codec text bytes
 in_place (single_byte table) text bytes t = tt

@@ -28,14 +28,14 @@ unfolding placed
 placed-scalars h [] = refl
 placed-scalars h (c ∷ cs) = ap (λ l. Scalar c ∷ l) (placed-scalars h cs)
 
--- all that is held back or still to come at a place, and its events
+-- the bytes that are held back or still to come at a place, and their events
 abbrev pub ahead : RunPlace DecoderState → List ℕ
 ahead p = p.state.held ++ (p.piece ++ joined p.later)
 
 abbrev pub events_ahead : RunPlace DecoderState → List DecodeEvent
 events_ahead p = events_of p.state.grammar (ahead p)
 
--- where a call leads to
+-- the place after a call
 abbrev pub behind : RunPlace DecoderState → DecoderState → DecoderResult → ℕ → RunPlace DecoderState
 behind p after answer read = place_behind p after (is_input_empty answer) (drop read p.piece)
 
@@ -47,7 +47,7 @@ pub place_before-ahead : (s : DecoderState) (pieces : List (List ℕ)) → event
 place_before-ahead s [] = refl
 place_before-ahead s (p ∷ ps) = refl
 
--- what is unread and after it stays ahead
+-- after a call the same bytes are ahead, without those that it is done with
 place_behind-ahead : (p : RunPlace DecoderState) (after : DecoderState) (answer : DecoderResult) (read : ℕ) → (answer ≡ InputEmpty → read ≡ length p.piece) →
     after.held ++ (drop read p.piece ++ joined p.later) ≡ ahead (behind p after answer read)
 place_behind-ahead p after InputEmpty read h =
@@ -58,7 +58,7 @@ place_behind-ahead p after OutputFull read h = refl
 place_behind-ahead p after (Malformed a b) read h = refl
 
 module _ {form : EncodingForm} {from : RunPlace DecoderState} {lengths : List ℕ} where
-  -- the events so far, and then those of what is ahead, are all events
+  -- the events up to a place, and then those of what is ahead, are all events
   pub Reaches-events : {calls : ℕ} {events : List DecodeEvent} {passed : ℕ} {finished : Bool} {p : RunPlace DecoderState} → Reaches form from lengths calls events passed finished p →
       events_ahead from ≡ events ++ shift passed (events_ahead p)
   Reaches-events begun = sym (shift-zero (events_ahead from))
@@ -75,7 +75,7 @@ module _ {form : EncodingForm} {from : RunPlace DecoderState} {lengths : List �
       ∙ ap (λ l. events ++ l) (shift-append passed out (shift c.passed (events_ahead next)) ∙ ap (λ l. shift passed out ++ l) (shift-shift passed c.passed (events_ahead next)))
       ∙ sym (append_assoc events (shift passed out) (shift (passed + c.passed) (events_ahead next)))
 
-  -- a run is finished behind all pieces, and nothing is left there
+  -- a finished run is past all pieces, and nothing is left
   pub Reaches-finished : {calls : ℕ} {events : List DecodeEvent} {passed : ℕ} {finished : Bool} {p : RunPlace DecoderState} → Reaches form from lengths calls events passed finished p →
       finished ≡ true → (p ≡ place_before p.state []) × HasNoneLeft p.state
   Reaches-finished begun h = absurd (false≢true h)
@@ -86,7 +86,7 @@ module _ {form : EncodingForm} {from : RunPlace DecoderState} {lengths : List �
   Reaches-finished (called calls events passed p r free e after OutputFull read scalars c) h = absurd (false≢true h)
   Reaches-finished (called calls events passed p r free e after (Malformed a b) read scalars c) h = absurd (false≢true h)
 
--- what a run gave is a beginning of all events
+-- the events of a run are a prefix of all events
 pub is_beginning : {form : EncodingForm} {before : DecoderState} {pieces : List (List ℕ)} {lengths : List ℕ} {calls : ℕ} {finished : Bool} {items : List DecodeEvent} {after : DecoderState} →
     IsRun form (place_before before pieces) lengths calls finished items after → IsBeginning before pieces finished items
 unfolding placed
@@ -108,7 +108,7 @@ pub none_left : {form : EncodingForm} {from : RunPlace DecoderState} {lengths : 
     IsRun form from lengths calls finished items after → IsTrue finished → HasNoneLeft after
 none_left r h = subst HasNoneLeft r.state (Reaches-finished r.reaches h).1
 
--- it gives all events
+-- a finished run gives all events
 pub finished_gives : {before : DecoderState} {bytes : List ℕ} {answered : List DecodeEvent} → FinishedRun before bytes answered →
     placed (length before.held) (events_of before.grammar (before.held ++ bytes)) ≡ answered
 finished_gives {before = before} {answered = answered} f =

@@ -1,4 +1,4 @@
--- A run under way, call by call.
+-- A run in progress, call by call.
 use Rattle.std.proofs.Common.{◌≡◌, ℕ, ◌+◌, ◌-◌, ◌≤◌, List, [], ◌∷◌, ◌++◌, length, drop, map, Bool, false, Some}
 use Rattle.std.proofs.Common.{refl, ap, arith, append_assoc, length-drop}
 use Rattle.std.proofs.lemmas.List.{drop-drop}
@@ -18,7 +18,7 @@ use Rattle.legacy_codecs.specs.Runs.Reaches.{begun, called}
 use Rattle.legacy_codecs.proofs.Places.{place_behind-state, pieces-length, place_at}
 use Rattle.legacy_codecs.proofs.RunEvents.{behind, placed-append, placed-scalars}
 
--- A run under way: the calls that were made lead to the place p, gave these events, and read so many bytes.
+-- A run in progress: its calls lead to the place `p`, gave these events, and read `total` bytes.
 pub record Running (form : EncodingForm) (from : RunPlace DecoderState) (lengths : List ℕ) (calls : ℕ) (items : List DecodeEvent) (total : ℕ) (finished : Bool)
     (p : RunPlace DecoderState) : Type 0 where
   pub events : List DecodeEvent
@@ -32,13 +32,13 @@ pub running_start : (form : EncodingForm) (from : RunPlace DecoderState) (length
 unfolding placed
 running_start form from lengths = record { events = []; passed = 0; reaches = begun; items_are = refl; passed_is = omega arith; bytes = omega arith }
 
--- what a call reports that ends behind `total` bytes
+-- the report of a call that ends after `total` bytes
 abbrev pub reported_behind : ℕ → DecoderResult → List DecodeEvent
 reported_behind total InputEmpty = []
 reported_behind total OutputFull = []
 reported_behind total (Malformed a b) = Bad (total - (a + b)) a ∷ []
 
--- that is what the law of a call says, counted from the first byte of the run
+-- it is the report of the law of a call, with places counted from the first byte of the run
 reported-placed : (h passed held total read : ℕ) (after : DecoderState) (answer : DecoderResult) → HoldsBack (held + read) after answer → passed + held ≡ h + total →
     placed h (shift passed (reported_events (held + read) answer)) ≡ reported_behind (total + read) answer
 unfolding placed
@@ -49,7 +49,7 @@ reported-placed h passed held total read after (Malformed a b) f e =
     let place : passed + (held + read - b - a) - h ≡ total + read - (a + b) = omega arith in
     ap (λ n. Bad n a ∷ []) place
 
--- no more bytes are unread behind a call than were before it
+-- after a call at most as many bytes are unread as before it
 place_behind-bytes : (p : RunPlace DecoderState) (after : DecoderState) (answer : DecoderResult) (read : ℕ) → read ≤ length p.piece → (answer ≡ InputEmpty → read ≡ length p.piece) →
     read + (length (behind p after answer read).piece + sum_by length (behind p after answer read).later) ≤ length p.piece + sum_by length p.later
 place_behind-bytes p after InputEmpty read w all = let e = all refl in let b = pieces-length after p.later in omega arith
@@ -92,7 +92,7 @@ module _ {form : EncodingForm} {from : RunPlace DecoderState} {lengths : List �
     bytes = let b = place_behind-bytes p after answer read c.within (λ e. (c.input_empty e).0) in omega (arith, r.bytes);
   }
 
--- the same by other words for what went in and what came out
+-- one more call, with its inputs and outputs given by equations
 pub running_call : {form : EncodingForm} {from : RunPlace DecoderState} {lengths : List ℕ} {calls : ℕ} {items items' : List DecodeEvent} {total : ℕ} {p p' : RunPlace DecoderState}
     {free : ℕ} {after : DecoderState}
     {unread : List ℕ} {last finished : Bool} {given_back answer : DecoderResult} {read : ℕ} {scalars : List ℕ} →
@@ -107,7 +107,7 @@ pub is_run : {form : EncodingForm} {from : RunPlace DecoderState} {lengths : Lis
     Running form from lengths calls items total finished p → p.state ≡ after → calls ≤ length lengths → (finished ≡ false → calls ≡ length lengths) → IsRun form from lengths calls finished items after
 is_run r state few all = record { events = r.events; passed = r.passed; place = _; reaches = r.reaches; state = state; placed_is = r.items_are; few = few; all = all }
 
--- where a run stands behind a call in the piece at an index
+-- the place of a run after a call in the piece at an index
 pub place_at-more : (pieces : List (List ℕ)) (s : DecoderState) (index offset read : ℕ) →
     place_at pieces s index (offset + read) ≡ record { state = s; piece = drop read (drop offset (slice_index_or pieces index [])); later = drop (index + 1) pieces }
 place_at-more pieces s index offset read = rw (drop-drop read offset (slice_index_or pieces index [])) refl

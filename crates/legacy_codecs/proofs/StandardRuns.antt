@@ -1,4 +1,4 @@
--- What finished runs give is what the Standard's decoders and encoders give.
+-- Finished runs give what the Standard's decoders and encoders give.
 use Rattle.std.proofs.Common.{◌≡◌, ◌∙◌, ℕ, ◌-◌, Bool, true, List, [], ◌∷◌, ◌++◌, length, append-nil, refl, sym, ap, subst, arith}
 use Rattle.legacy_base.specs.declared.results.DecodeEvent.{DecodeEvent}
 use Rattle.legacy_base.specs.declared.results.DecodeEvent.TheVariants.{Scalar, Bad}
@@ -19,7 +19,7 @@ use Rattle.legacy_codecs.specs.StandardRuns.{RunIsDecodedByHandler, RunIsEncoded
 use Rattle.legacy_codecs.proofs.RunEvents.{finished_gives}
 use Rattle.legacy_codecs.proofs.EncodeRunEvents.{finished_encodes}
 
--- from a decoder that holds nothing back, places stay
+-- for a decoder that holds nothing back, places do not change
 placed_event-zero : (event : DecodeEvent) → placed_event 0 event ≡ event
 placed_event-zero (Scalar c) = refl
 placed_event-zero (Bad place length) = let same : place - 0 ≡ place = omega arith in ap (λ (p : ℕ). Bad p length) same

@@ -1,4 +1,4 @@
--- Calls of a decoder that fill one output, of a length that a query answered before the first of them.
+-- Calls of a decoder that fill one output, whose length was queried before the first of them.
 use Rattle.std.specs.Prelude.{◌≡◌, ◌≢◌, ℕ, ◌+◌, ◌-◌, ◌≤◌, List, length, Bool, IsTrue, Some}
 use Rattle.legacy_base.specs.declared.results.DecoderResult.{DecoderResult}
 use Rattle.legacy_base.specs.declared.results.DecoderResult.TheVariants.{OutputFull}
@@ -7,8 +7,7 @@ use Rattle.legacy_base.specs.States.{DecoderState}
 use Rattle.legacy_base.specs.Lengths.{LengthQuery, query_form, query_answer, answer_units}
 use Rattle.legacy_base.specs.Calls.{DecoderCall}
 
--- A call with some of the bytes that are still to come, and with all of them where it is the last one, into what is free
--- of the output.
+-- A call with some of the bytes to come, or all of them if it is the last. It writes into the free part of the output.
 pub record NextCall (query : LengthQuery) (before : DecoderState) (bytes free : ℕ) (after : DecoderState) (answer : DecoderResult) (read : ℕ) (scalars : List ℕ) : Type 0 where
   pub source : List ℕ
   pub last : Bool
@@ -16,9 +15,9 @@ pub record NextCall (query : LengthQuery) (before : DecoderState) (bytes free : 
   pub all : IsTrue last → length source ≡ bytes
   pub call : DecoderCall (query_form query) before source last free after answer read scalars
 
--- Calls lead from a state, with so many bytes to come and so many code units free, to a state with so many to come and
--- free. The bytes that a call reads do not come again. What it writes is no longer free, nor is U+FFFD for a malformed
--- sequence, which the caller writes where the query counts it.
+-- Calls from the state `from` with `bytes` bytes to come and `free` code units free, to a state with what is left of
+-- both. Bytes that are read do not come again, and code units that are written are free no more. If the query counts
+-- U+FFFD, the caller writes it for each malformed sequence, and it takes free code units too.
 pub data Fills (query : LengthQuery) (from : DecoderState) (bytes free : ℕ) : DecoderState → ℕ → ℕ → Type 0 where
   begun : Fills query from bytes free from bytes free
   called : (before : DecoderState) (to_come left : ℕ) → Fills query from bytes free before to_come left →
@@ -26,8 +25,8 @@ pub data Fills (query : LengthQuery) (from : DecoderState) (bytes free : ℕ) : 
       NextCall query before to_come left after answer read scalars →
       Fills query from bytes free after (to_come - read) (left - (total_unit_count (query_form query) scalars + answer_units query answer))
 
--- A query was answered for all bytes to come, and the output has that length or more: no call answers OutputFull, in
--- whatever pieces the bytes come, and U+FFFD always fits.
+-- An output of at least the length queried for all bytes to come suffices: no call returns OutputFull, however the
+-- bytes are cut. What is written for the query always fits.
 abbrev pub QueriedLengthSuffices : LengthQuery → Type 0
 QueriedLengthSuffices query =
     (from : DecoderState) (bytes units free : ℕ) → query_answer query from bytes ≡ Some units → units ≤ free →

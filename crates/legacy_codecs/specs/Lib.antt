@@ -1,4 +1,4 @@
--- What a run of a coder over a whole input is.
+-- What a run of a decoder or an encoder over a whole input is.
 pub mod Scalars
 pub mod Pieces
 pub mod Runs
@@ -9,3 +9,5 @@ pub mod EncodeFilling
 pub mod Replacing
 pub mod References
 pub mod StandardRuns
+pub mod MalformedSequences
+pub mod WholeTexts

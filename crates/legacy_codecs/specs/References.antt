@@ -1,4 +1,4 @@
--- Calls of an encoder that write a numeric character reference for each scalar that has no bytes.
+-- Calls of an encoder that write a numeric character reference for each unmappable scalar.
 use Rattle.std.specs.Prelude.{◌≡◌, ℕ, ◌+◌, ◌-◌, ◌<◌, ◌≤◌, List, [], ◌∷◌, ◌++◌, length, flat_map, Bool, true, false, IsTrue, Some, ◌⊎◌, decimal, codes}
 use Rattle.std.specs.List.{list_any}
 use Rattle.legacy_base.specs.declared.results.EncodeEvent.{EncodeEvent}
@@ -13,11 +13,11 @@ use Rattle.legacy_codecs.specs.declared.results.CoderResult.TheVariants.{InputEm
 abbrev pub reference : ℕ → List ℕ
 reference c = codes "&#" ++ decimal c ++ codes ";"
 
--- the bytes of the longest reference, `&#1114111;`
+-- the length of the longest reference, `&#1114111;`
 abbrev pub reference_room : ℕ
 reference_room = 10
 
--- the bytes that are written for an event: of a scalar that has none, its reference
+-- the bytes that are written for an event: for an unmappable scalar its reference
 abbrev pub event_bytes : EncodeEvent → List ℕ
 event_bytes (Byte b) = b ∷ []
 event_bytes (Unmappable c) = reference c
@@ -26,66 +26,65 @@ event_bytes (Unmappable c) = reference c
 abbrev pub referenced_bytes : List EncodeEvent → List ℕ
 referenced_bytes events = flat_map event_bytes events
 
--- an event is a scalar that has no bytes
+-- the event is an unmappable scalar
 abbrev pub is_unmappable : EncodeEvent → Bool
 is_unmappable (Byte b) = false
 is_unmappable (Unmappable c) = true
 
--- some of the events is a scalar that has no bytes
+-- some of the events is an unmappable scalar
 abbrev pub has_unmappable : List EncodeEvent → Bool
 has_unmappable events = list_any is_unmappable events
 
--- the answer tells that the end of the text was written
+-- the result says that the end of the text was written
 abbrev pub tells_text_end : Bool → CoderResult → Bool
 tells_text_end last InputEmpty = last
 tells_text_end last OutputFull = false
 
--- The events of the source and whatever text follows, ended or not, are `out`, and then those of what is left. If the end
--- was written (`wrote_end`), this holds if no text follows, and if the events with the text that follows still begin so.
+-- The events of the source and any text after it, ended or not, are `out` and then those of what is left. After the end
+-- was written (`wrote_end`), this holds if no text follows, or if the events with that text still begin with `out`.
 abbrev pub Gives : Bool → EncoderState → List ℕ → EncoderState → List ℕ → List EncodeEvent → Type 0
 Gives wrote_end before source after left out =
     (more : List ℕ) (ended : Bool) →
     (IsTrue wrote_end → ((more ≡ []) × IsTrue ended) ⊎ BeginsWith (encoded before (source ++ more) ended) out) →
     encoded before (source ++ more) ended ≡ out ++ encoded after (left ++ more) ended
 
--- With so many bytes free, ten stay free after each byte of the encoder's own, and are free where a reference begins.
+-- Ten of the free bytes stay free after each byte of an encoded scalar, and are free before each reference.
 unfoldable pub KeepsReserve : ℕ → List EncodeEvent → Type 0
 KeepsReserve free [] = Unit {0}
 KeepsReserve free (Byte b ∷ events) = (1 + reference_room ≤ free) × KeepsReserve (free - 1) events
 KeepsReserve free (Unmappable c ∷ events) = (reference_room ≤ free) × KeepsReserve (free - length (reference c)) events
 
--- with a reference behind it, the next act needs more room than is free
+-- the next act and a reference after it need more room than is free
 abbrev pub LacksReferenceRoom : EncoderState → List ℕ → Bool → ℕ → Type 0
 LacksReferenceRoom state unread last free = free < encoder_need state unread last + reference_room
 
--- From the state `before`, with the scalars `source` and so many bytes free, a call gave this answer, came to the state
--- `after`, left the scalars `left`, wrote these bytes, and found a scalar that has no bytes or did not.
+-- A call from the state `before` over the scalars `source` with `free` bytes free. It returns a result, goes to the
+-- state `after`, leaves the scalars `left`, and writes `bytes`. `found` is whether it found an unmappable scalar.
 pub record ReplacingEncoderCall (before : EncoderState) (source : List ℕ) (last : Bool) (free : ℕ) (after : EncoderState) (answer : CoderResult) (left bytes : List ℕ) (found : Bool) : Type 0 where
-  -- the scalars that were read, and those that are left, are the source
+  -- the source is the scalars that were read, and then those that are left
   pub taken : List ℕ
   pub cut : source ≡ taken ++ left
-  -- no more is written than is free
+  -- at most the free bytes are written
   pub fits : length bytes ≤ free
-  -- what the call gave
+  -- the events of the call
   pub out : List EncodeEvent
-  -- that, and then the events of what is left, are the codec's events, whatever follows
+  -- these, and then the events of what is left, are the codec's events, whatever text follows
   pub gives : Gives (tells_text_end last answer) before source after left out
-  -- what is written is what it gave, with its reference for each scalar that has no bytes
+  -- the bytes are those of the events, with a reference for each unmappable scalar
   pub text : bytes ≡ referenced_bytes out
-  -- no byte of the encoder's own is in the ten that are kept free for a reference
+  -- ten bytes are kept free for a reference
   pub reserve : KeepsReserve free out
-  -- the last answer is whether there was one
+  -- `found` is whether a scalar was unmappable
   pub found_is : found ≡ has_unmappable out
   -- at InputEmpty all is read; on a last call the end has nothing left to write
   pub input_empty : answer ≡ InputEmpty → (left ≡ []) × (IsTrue last → end_bytes after ≡ [])
   -- at OutputFull the next act and a reference lack their room
   pub output_full : answer ≡ OutputFull → LacksReferenceRoom after left last (free - length bytes)
-  -- so that fewer than fourteen bytes are free
+  -- at OutputFull fewer than fourteen bytes are free
   pub few : answer ≡ OutputFull → free - length bytes < 14
-  -- where the next act and a reference lack their room as the call begins, the answer is OutputFull and nothing was done
+  -- if the next act and a reference lack their room as the call begins, it returns OutputFull and does nothing
   pub full_at_once : 0 < encoder_need before source last → LacksReferenceRoom before source last free →
       (answer ≡ OutputFull) × (left ≡ source) × (bytes ≡ []) × (found ≡ false) × (after ≡ before)
-  -- with a length free that a query answered for at least so many code units, and ten bytes more, the output is only full
-  -- behind a scalar that has no bytes
+  -- with ten bytes more than the length queried for the source, OutputFull is returned only after an unmappable scalar
   pub enough : (form : EncodingForm) (n k : ℕ) → total_unit_count form source ≤ n → encoder_answer form before n ≡ Some k →
       k + reference_room ≤ free → answer ≡ OutputFull → IsTrue found

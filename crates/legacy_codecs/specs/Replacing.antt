@@ -23,7 +23,7 @@ replaced_scalar (Bad place length) = 0xFFFD
 abbrev pub replaced_scalars : List DecodeEvent → List ℕ
 replaced_scalars events = map replaced_scalar events
 
--- an event is a malformed sequence
+-- the event is a malformed sequence
 abbrev pub is_bad : DecodeEvent → Bool
 is_bad (Scalar c) = false
 is_bad (Bad place length) = true
@@ -37,44 +37,44 @@ abbrev pub replacing_query : EncodingForm → LengthQuery
 replacing_query Utf8 = to_utf8
 replacing_query Utf16 = to_utf16
 
--- The call may have found what is only malformed because the input ends: it found a malformed sequence, and is a last call
--- with nothing unread.
+-- The call may have found a sequence that is malformed only because the input ends: it found a malformed sequence, it
+-- is a last call, and nothing is unread.
 abbrev pub may_replace_end : Bool → Bool → List ℕ → Bool
 may_replace_end last found left = found && (last && is_empty left)
 
--- A call from the state `before` with so many code units free, which read so many bytes of the source, wrote these code
--- units, answered so, came to the state `after`, and found a malformed sequence or did not.
+-- A call from the state `before` with `free` code units free. It returns a result, reads `read` bytes of the source,
+-- writes these code units, and goes to the state `after`. `found` is whether it found a malformed sequence.
 pub record ReplacingDecoderCall (form : EncodingForm) (before : DecoderState) (source : List ℕ) (last : Bool) (free : ℕ) (after : DecoderState) (answer : CoderResult) (read : ℕ) (written : List ℕ) (found : Bool) : Type 0 where
-  -- no more is read than the source has
+  -- at most the source is read
   pub within : read ≤ length source
-  -- no more is written than is free
+  -- at most the free code units are written
   pub fits : length written ≤ free
-  -- so many bytes, of those held back and the source, are done with
+  -- the number of bytes, of those held back and of the source, that are done with
   pub passed : ℕ
-  -- what the call gave
+  -- the events of the call
   pub out : List DecodeEvent
-  -- that, and then the events of what is left, are the grammar's events, whatever follows; after a malformed sequence at the
-  -- end of the input, if they still begin so
+  -- these, and then the events of what is left, are the grammar's events, whatever bytes follow; after a malformed
+  -- sequence at the end of the input, only if the events with those bytes still begin so
   pub progress : Progress (may_replace_end last found (drop read source)) before source passed after (drop read source) out
-  -- what is held back is one of the lists that the codec may hold back
+  -- the held-back bytes are some that the codec may hold back
   pub allowed : IsTrue (may_hold after.grammar after.held)
-  -- what is written are Unicode scalar values
+  -- the written scalars are Unicode scalar values
   pub scalar : All IsScalar (replaced_scalars out)
-  -- namely those of what it gave, with U+FFFD for each malformed sequence
+  -- the code units are those of the events, with U+FFFD for each malformed sequence
   pub text : written ≡ all_code_units form (replaced_scalars out)
-  -- the last answer is whether there was one
+  -- `found` is whether a sequence was malformed
   pub found_is : found ≡ has_bad out
   -- at InputEmpty all is read and no scalar is held back; at the last end no event is left
   pub input_empty : answer ≡ InputEmpty → (read ≡ length source) × IsTrue (rests after.grammar after.held) × (IsTrue last → events_of after.grammar after.held ≡ [])
   -- at OutputFull the next act lacks its room
   pub output_full : answer ≡ OutputFull → LacksRoom form after (drop read source) last (free - length written)
-  -- where the next act lacks its room as the call begins, the answer is OutputFull and nothing was done
+  -- if the next act lacks its room as the call begins, it returns OutputFull and does nothing
   pub full_at_once : LacksRoom form before source last free → (answer ≡ OutputFull) × (read ≡ 0) × (written ≡ []) × (found ≡ false) × (after ≡ before)
-  -- what was written lowers the room that is still needed
+  -- the room that is still needed is lowered by at least what was written
   pub lowers : (more : ℕ) → (IsTrue last → more ≡ 0) →
       room (replacing_query form) after (length (drop read source) + more) + length written
       ≤ room (replacing_query form) before (length source + more)
-  -- with the room free that the source still needs, the answer is InputEmpty
+  -- with the room free that the source needs, the result is InputEmpty
   pub suffices : room (replacing_query form) before (length source) ≤ free → answer ≡ InputEmpty
-  -- with a length free that the query answered for at least so many bytes, the answer is InputEmpty
+  -- with the length free that was queried for at least the source, the result is InputEmpty
   pub enough : (n k : ℕ) → length source ≤ n → query_answer (replacing_query form) before n ≡ Some k → k ≤ free → answer ≡ InputEmpty

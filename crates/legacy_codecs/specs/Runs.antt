@@ -11,7 +11,7 @@ use Rattle.legacy_base.specs.States.{DecoderState}
 use Rattle.legacy_base.specs.Calls.{DecoderCall, out_events}
 use Rattle.legacy_codecs.specs.Pieces.{joined, AreAmple, RunPlace, is_none, place_before, place_behind, ends_run}
 
--- the call answered InputEmpty
+-- the call returned InputEmpty
 abbrev pub is_input_empty : DecoderResult → Bool
 is_input_empty InputEmpty = true
 is_input_empty OutputFull = false
@@ -19,9 +19,9 @@ is_input_empty (Malformed length back) = false
 
 -- ---- the calls of a run
 
--- So many calls lead from a place to another, each with an output of the next of the lengths, and with `last` set where
--- the piece is the last one. They gave these events, and so many bytes are done with, both counted from the front of
--- what was held back at the start.
+-- Calls from one place to another, which gave these events and are done with `passed` bytes. Each has an output of the
+-- next of the lengths, and `last` is set if the piece is the last. Bytes and places count from the first byte that was
+-- held back at the start.
 pub data Reaches (form : EncodingForm) (from : RunPlace DecoderState) (lengths : List ℕ) : ℕ → List DecodeEvent → ℕ → Bool → RunPlace DecoderState → Type 0 where
   begun : Reaches form from lengths 0 [] 0 false from
   called : (calls : ℕ) (events : List DecodeEvent) (passed : ℕ) (p : RunPlace DecoderState) → Reaches form from lengths calls events passed false p →
@@ -31,20 +31,20 @@ pub data Reaches (form : EncodingForm) (from : RunPlace DecoderState) (lengths :
       Reaches form from lengths (calls + 1) (events ++ shift passed (out_events (length p.state.held + read) scalars answer))
       (passed + c.passed) (ends_run p (is_input_empty answer)) (place_behind p after (is_input_empty answer) (drop read p.piece))
 
--- the place of an event counted from the first byte behind the `held` ones, and 0 where it lies before that
+-- the event with its place counted from the first byte after the `held` ones; an earlier place is 0
 abbrev pub placed_event : ℕ → DecodeEvent → DecodeEvent
 placed_event held (Scalar c) = Scalar c
 placed_event held (Bad place length) = Bad (place - held) length
 
--- the same of each event of a list
+-- each event of a list with such a place
 unfoldable pub placed : ℕ → List DecodeEvent → List DecodeEvent
 placed held [] = []
 placed held (event ∷ events) = placed_event held event ∷ placed held events
 
--- ---- what a run answers
+-- ---- the result of a run
 
--- A run of so many calls from a place gave these events, with places counted from its first byte, and ends in this state. There is a
--- call for each of the lengths, but where the run is finished before.
+-- A run from a place gave these events, with places counted from its first byte, and ends in this state. It makes one
+-- call for each length, or fewer if it is finished earlier.
 pub record IsRun (form : EncodingForm) (from : RunPlace DecoderState) (lengths : List ℕ) (calls : ℕ) (finished : Bool) (answered : List DecodeEvent) (after : DecoderState) : Type 0 where
   pub events : List DecodeEvent
   pub passed : ℕ
@@ -55,7 +55,7 @@ pub record IsRun (form : EncodingForm) (from : RunPlace DecoderState) (lengths :
   pub few : calls ≤ length lengths
   pub all : finished ≡ false → calls ≡ length lengths
 
--- These are a beginning of the grammar's events of what was held back and all pieces, and all of them where the run is
+-- The events are a prefix of the grammar's events of the held-back bytes and all pieces, and all of them if the run is
 -- finished.
 pub record IsBeginning (before : DecoderState) (pieces : List (List ℕ)) (finished : Bool) (answered : List DecodeEvent) : Type 0 where
   pub rest : List DecodeEvent
@@ -66,15 +66,15 @@ pub record IsBeginning (before : DecoderState) (pieces : List (List ℕ)) (finis
 abbrev pub HasNoneLeft : DecoderState → Type 0
 HasNoneLeft state = events_of state.grammar state.held ≡ []
 
--- Each output has room for any scalar, and there are as many as the whole input has events and pieces together, or more.
+-- Each output has room for any scalar, and there are at least as many as the whole input has events and pieces.
 abbrev pub HasAmpleLengths : EncodingForm → DecoderState → List (List ℕ) → List ℕ → Type 0
 HasAmpleLengths form before pieces lengths =
     AreAmple (wide_room form) (length (events_of before.grammar (before.held ++ joined pieces))) pieces lengths
 
 -- ---- runs of the same bytes
 
--- Some finished run from the state answers these events: in some encoding form, with outputs of some lengths, over pieces
--- that are these bytes together.
+-- Some finished run from the state gives these events, in some encoding form, with outputs of some lengths, over pieces
+-- that together are these bytes.
 pub record FinishedRun (before : DecoderState) (bytes : List ℕ) (answered : List DecodeEvent) : Type 0 where
   pub form : EncodingForm
   pub pieces : List (List ℕ)
@@ -84,8 +84,8 @@ pub record FinishedRun (before : DecoderState) (bytes : List ℕ) (answered : Li
   pub after : DecoderState
   pub run : IsRun form (place_before before pieces) lengths calls true answered after
 
--- However the same bytes are cut into pieces, whatever lengths the outputs have, and in UTF-8 and UTF-16 alike: any two
--- finished runs from one state answer the same events, with the same places and lengths.
+-- Two finished runs from one state over the same bytes give the same events with the same places and lengths. The bytes
+-- may be cut in any way, and the outputs may be of UTF-8 or UTF-16 and of any lengths.
 abbrev pub CutsDoNotMatter : Type 0
 CutsDoNotMatter =
     (before : DecoderState) (bytes : List ℕ) (one other : List DecodeEvent) →

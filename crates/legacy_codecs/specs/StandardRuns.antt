@@ -1,4 +1,4 @@
--- What finished runs give is what the Standard's decoders and encoders give.
+-- Finished runs give what the Standard's decoders and encoders give.
 use Rattle.std.specs.Prelude.{◌≡◌, ℕ, List, Bool, IsTrue}
 use Rattle.legacy_base.specs.declared.results.DecodeEvent.{DecodeEvent}
 use Rattle.legacy_base.specs.declared.results.EncodeEvent.{EncodeEvent}
@@ -12,7 +12,7 @@ use Rattle.legacy_codecs.specs.Pieces.{joined}
 use Rattle.legacy_codecs.specs.Runs.{FinishedRun}
 use Rattle.legacy_codecs.specs.EncodeRuns.{FinishedEncodeRun}
 
--- ---- what one run gave
+-- ---- the events of one run
 
 -- If the decoder was new and the run is finished, its events are what the handler of the Standard's decoder gives for all
 -- pieces together.
@@ -21,8 +21,8 @@ RunIsDecodedByHandler before pieces finished answered =
     (decoder : Decoder) → before ≡ new_state (grammar_of decoder) → IsTrue finished → AreBytes (joined pieces) →
     HandlerDecodes decoder (joined pieces) answered
 
--- If the encoder was new, its tables are accepted and lack no pointer, and the run is finished, its events are what the
--- handler of the Standard's encoder gives for all pieces together.
+-- Let the encoder be new, its tables accepted and without a missing pointer, and the run finished. Then its events are
+-- what the handler of the Standard's encoder gives for all pieces together.
 abbrev pub RunIsEncodedByHandler : EncoderState → List (List ℕ) → Bool → List EncodeEvent → Type 0
 RunIsEncodedByHandler before pieces finished answered =
     (codec : Codec) → HasAcceptedLists codec → HasPointers codec → before ≡ new_encoder codec →
@@ -31,14 +31,14 @@ RunIsEncodedByHandler before pieces finished answered =
 
 -- ---- any finished run
 
--- the same of any finished run of a new decoder over these bytes, however they are cut
+-- the same for any finished run of a new decoder over these bytes, however they are cut
 abbrev pub RunsAreDecodedByHandlers : Type 0
 RunsAreDecodedByHandlers =
     (decoder : Decoder) (bytes : List ℕ) → AreBytes bytes →
     (answered : List DecodeEvent) → FinishedRun (new_state (grammar_of decoder)) bytes answered →
     HandlerDecodes decoder bytes answered
 
--- and of a new encoder over a text
+-- the same for any finished run of a new encoder over a text
 abbrev pub RunsAreEncodedByHandlers : Type 0
 RunsAreEncodedByHandlers =
     (codec : Codec) → HasAcceptedLists codec → HasPointers codec →

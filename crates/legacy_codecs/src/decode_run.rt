@@ -12,19 +12,21 @@ use crate::scalars::{OutputForm, ScalarBuffer, Utf8Form, Utf16Form};
 use legacy_base::{DecodeEvent, DecoderResult, RawDecoder};
 use std::alloc::Global;
 
-/// What a run of a decoder gave.
+/// The result of a run of a decoder.
 #[derive(Debug, PartialEq, Eq, Drop)]
 pub struct DecodeRun {
-    /// The scalars and malformed sequences in the order of the input. A place counts the bytes from the
-    /// run's first byte, and is 0 where the sequence began in bytes that were held back before the run.
+    /// The scalars and malformed sequences in the order of the input.
+    ///
+    /// A place is a number of bytes from the run's first byte. It is 0 if the sequence began in
+    /// bytes that were held back before the run.
     pub events: Vec<DecodeEvent>,
-    /// How many calls of the decoder were made, each with one of the lengths.
+    /// The number of calls of the decoder, each with one of the lengths.
     pub calls: usize,
-    /// Whether the whole input was decoded. If not, the lengths were used up before.
+    /// Whether the whole input was decoded. If not, the lengths were used up first.
     pub finished: bool,
 }
 
-/// Makes one call, with an output of so many code units, and adds the scalars that it gave.
+/// Makes one call with an output of `free` code units, and adds the scalars that it gave.
 fn call_once<D: RawDecoder, F: OutputForm>(
     decoder: &mut D,
     unread: &[u8],
@@ -48,8 +50,9 @@ fn call_once<D: RawDecoder, F: OutputForm>(
     (answer, read)
 }
 
-/// The malformed sequence of so many bytes that ends `back` bytes before the end of the `total` bytes
-/// read, at place 0 where it lies before the first of them.
+/// Returns a malformed sequence that ends `back` bytes before the end of `total` bytes.
+///
+/// Its place is 0 if it began before the first of them.
 fn bad_event(total: usize, length: u8, back: u8) -> DecodeEvent
     ensures { result ≡ DecodeEvent.Bad (total - (length + back)) length }
 {
@@ -60,7 +63,7 @@ fn bad_event(total: usize, length: u8, back: u8) -> DecodeEvent
     }
 }
 
-/// What is unread of a piece.
+/// Returns the unread part of a piece.
 fn unread_of<'a>(pieces: &[&'a [u8]], index: usize, offset: usize) -> &'a [u8]
     requires inside { index < length pieces.now }
     requires within { offset ≤ length (slice_index_or (contents_of pieces.now) index []) }
@@ -70,7 +73,7 @@ fn unread_of<'a>(pieces: &[&'a [u8]], index: usize, offset: usize) -> &'a [u8]
     &piece[offset..]
 }
 
-/// Makes the calls of a run over one piece or more.
+/// Makes the calls of a run over at least one piece.
 fn run_calls<D: RawDecoder, F: OutputForm>(
     decoder: &mut D,
     pieces: &[&[u8]],
@@ -121,7 +124,7 @@ fn run_calls<D: RawDecoder, F: OutputForm>(
     }
 }
 
-/// Takes the memory of a run and makes it.
+/// Allocates the memory of a run and makes it.
 fn decode_run<D: RawDecoder, F: OutputForm>(
     alloc: Global,
     decoder: &mut D,
@@ -147,53 +150,54 @@ fn decode_run<D: RawDecoder, F: OutputForm>(
     Ok(run_calls::<D, F>(decoder, pieces, lengths, events, buffer))
 }
 
-/// Decodes an input in pieces by calls with outputs of UTF-8, and answers what was found in it.
+/// Decodes an input in pieces by calls with outputs of UTF-8, and returns the events.
 ///
-/// Each call of the decoder has an output of as many bytes as the next of `lengths` says. What a call
-/// leaves unread of a piece goes in again, alone, until a call answers `InputEmpty`; then the next piece
-/// follows. `last` is set on the calls with the final piece and on no others, and no pieces count as one
-/// empty piece. The run is finished at an `InputEmpty` on the final piece, and else ends with the lengths.
+/// Each call of the decoder has an output of as many bytes as the next of `lengths`. If a call
+/// leaves some of a piece unread, the rest is passed again, alone, until a call returns
+/// `InputEmpty`. Then the next piece follows. `last` is set for the final piece and for no other,
+/// and no pieces count as one empty piece. The run is finished at an `InputEmpty` on the final
+/// piece. Otherwise it ends with the lengths.
 ///
-/// The events are a beginning of those that the decoder's grammar gives the bytes that it held back and
-/// all pieces. Where the run is finished they are all of them, and the decoder then holds back nothing
-/// that has an event. The decoder goes on from where the run ended.
+/// The events are a prefix of those that the decoder's grammar gives for the held-back bytes and
+/// all pieces. If the run is finished they are all of them, and the decoder then holds back nothing
+/// that has an event. The decoder can be used further after the run.
 ///
-/// If the decoder was new, the events of a finished run are the code points and errors that the handler of the Standard's
-/// decoder gives for all pieces together, with the place and length of each error. In ISO-2022-JP an error of the handler ends
-/// as late as `lateness` says.
+/// If the decoder was new, the events of a finished run are those of the Standard's decoder: the
+/// code points and errors of its handler for all pieces together, with the place and length of each
+/// error. In ISO-2022-JP an error of the handler ends as late as `lateness` says.
 ///
-/// The run is sure to be finished where each length is at least 4, and there are as many as the whole
-/// input has events and pieces together, or more.
+/// A run is always finished if each length is at least 4 and there are enough of them: as many as
+/// the whole input has events and pieces together, or more.
 ///
-/// `TooLong` is answered exactly where the pieces' lengths together, or `lengths` and their number
-/// together, are above `usize::MAX`, and `Memory` where memory was refused. After either of them no call
-/// was made and the decoder is unchanged.
+/// Returns `TooLong` exactly if the sum of the pieces' lengths, or the sum of `lengths` and their
+/// number, exceeds `usize::MAX`. Returns `Memory` if allocation fails. After either error no call
+/// was made, and the decoder is unchanged.
 pub fn decode_run_utf8<D: RawDecoder>(
     alloc: Global,
     decoder: &mut D,
     pieces: &[&[u8]],
     lengths: &[usize],
 ) -> Result<DecodeRun, RunError>
-    // The answer is that of a run, which ends in the decoder's new state.
+    // The result is that of a run, which ends in the decoder's new state.
     ensures run { IfOk result (λ run.
         let from = place_before (D.state decoder.old) (contents_of pieces.now) in
         IsRun Utf8 from lengths.now run.calls run.finished run.events.items
         (D.state decoder.new)) }
 
-    // Its events are a beginning of those of all pieces, and all of them where it is finished.
+    // The events are a prefix of those of all pieces, and all of them if the run is finished.
     ensures beginning { IfOk result (λ run.
         IsBeginning (D.state decoder.old) (contents_of pieces.now) run.finished run.events.items) }
 
-    // If the decoder was new and it is finished, the Standard's handler gives these events.
+    // If the decoder was new and the run is finished, the Standard's handler gives these events.
     ensures standard { IfOk result (λ run.
         RunIsDecodedByHandler (D.state decoder.old) (contents_of pieces.now) run.finished
         run.events.items) }
 
-    // Where it is finished, the decoder holds back nothing that has an event.
+    // If the run is finished, the decoder holds back nothing that has an event.
     ensures none_left { IfOk result (λ run.
         IsTrue run.finished → HasNoneLeft (D.state decoder.new)) }
 
-    // It is finished where there are outputs enough, each with room for any scalar.
+    // The run is finished if there are enough outputs, each with room for any scalar.
     ensures finishes { IfOk result (λ run.
         HasAmpleLengths Utf8 (D.state decoder.old) (contents_of pieces.now) lengths.now
         → IsTrue run.finished) }
@@ -204,10 +208,10 @@ pub fn decode_run_utf8<D: RawDecoder>(
     decode_run::<D, Utf8Form>(alloc, decoder, pieces, lengths)
 }
 
-/// Decodes an input in pieces by calls with outputs of UTF-16, and answers what was found in it.
+/// Decodes an input in pieces by calls with outputs of UTF-16, and returns the events.
 ///
-/// It is as `decode_run_utf8`, but `lengths` count UTF-16 code units, of which a scalar has at most 2: the
-/// run is sure to be finished where each length is at least 2, and there are enough of them.
+/// It does what `decode_run_utf8` does, but `lengths` count UTF-16 code units, of which a scalar
+/// has at most 2. A run is always finished if there are enough lengths, each at least 2.
 pub fn decode_run_utf16<D: RawDecoder>(
     alloc: Global,
     decoder: &mut D,

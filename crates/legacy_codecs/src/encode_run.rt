@@ -12,19 +12,20 @@ use crate::texts::Text;
 use legacy_base::{EncodeEvent, EncoderResult, RawEncoder, Source};
 use std::alloc::Global;
 
-/// What a run of an encoder gave.
+/// The result of a run of an encoder.
 #[derive(Debug, PartialEq, Eq, Drop)]
 pub struct EncodeRun {
-    /// The bytes, and the scalars that have none, in the order of the text.
+    /// The bytes and the unmappable scalars, in the order of the text.
     pub events: Vec<EncodeEvent>,
-    /// How many calls of the encoder were made, each with one of the lengths.
+    /// The number of calls of the encoder, each with one of the lengths.
     pub calls: usize,
-    /// Whether the whole text was encoded, its end too. If not, the lengths were used up before.
+    /// Whether the whole text and its end were encoded. If not, the lengths were used up first.
     pub finished: bool,
 }
 
-/// Makes one call into the output, and adds the bytes that it wrote and the scalar that it reported.
-/// Answers whether it read all that the source had left.
+/// Makes one call into the output, and adds its bytes and the scalar that it reported.
+///
+/// Returns whether it read all that the source had left.
 fn call_once<E: RawEncoder, S: Source>(
     encoder: &mut E,
     source: &mut S,
@@ -53,7 +54,7 @@ fn call_once<E: RawEncoder, S: Source>(
     }
 }
 
-/// The first piece, and the empty text where there is none.
+/// Returns the first piece, or the empty text if there is none.
 fn first_piece<T: Text>(pieces: &[T]) -> T
     ensures { T.scalars result ≡ slice_index_or (map T.scalars pieces.now) 0 [] }
 {
@@ -102,7 +103,7 @@ fn run_calls<E: RawEncoder, T: Text>(
     }
 }
 
-/// Takes the memory of a run and makes it.
+/// Allocates the memory of a run and makes it.
 fn encode_run<E: RawEncoder, T: Text>(
     alloc: Global,
     encoder: &mut E,
@@ -125,64 +126,69 @@ fn encode_run<E: RawEncoder, T: Text>(
     Ok(run_calls(encoder, pieces, lengths, events, output))
 }
 
-/// Encodes a text in pieces of UTF-8, by calls with outputs of so many bytes, and answers what it gave.
+/// Encodes a text in pieces of UTF-8, and returns the events.
 ///
-/// Each call of the encoder has an output of as many bytes as the next of `lengths` says. What a call
-/// leaves unread of a piece goes in again, alone, until a call answers `InputEmpty`; then the next piece
-/// follows. `last` is set on the calls with the final piece and on no others, and no pieces count as one
-/// empty piece. The run is finished at an `InputEmpty` on the final piece, and else ends with the lengths.
+/// Each call of the encoder has an output of as many bytes as the next of `lengths`. If a call
+/// leaves some of a piece unread, the rest is passed again, alone, until a call returns
+/// `InputEmpty`. Then the next piece follows. `last` is set for the final piece and for no other,
+/// and no pieces count as one empty piece. The run is finished at an `InputEmpty` on the final
+/// piece. Otherwise it ends with the lengths.
 ///
-/// The events are a beginning of those that the encoder's codec gives the scalars of all pieces, from the
-/// mode that it is in, with the end behind them. Where the run is finished they are all of them, and the
-/// encoder has then no end left to write. It goes on from where the run ended.
-/// The run is sure to be finished where each length is at least 4, and there are as many as the whole
-/// text has events and pieces together, or more.
+/// The events are a prefix of those that the codec gives from the encoder's mode for the scalars of
+/// all pieces and the end of the text. If the run is finished they are all of them, and the encoder
+/// then has no end left to write. The encoder can be used further after the run.
 ///
-/// If the encoder was new, the events of a finished run are the bytes and errors that the handler of the Standard's encoder
-/// gives for the text of all pieces together. In Shift_JIS, EUC-JP, ISO-2022-JP and GB18030 the tables need the pointers that
-/// the Standard's indexes have (`laws::runs_are_the_standards`).
+/// A run is always finished if each length is at least 4 and there are enough of them: as many as
+/// the whole text has events and pieces together, or more.
 ///
-/// What a new encoder gave comes back. Where the run is finished, no event is an unmappable scalar and the
-/// text holds no fold, a scalar that the encoding writes with the bytes of another one, the decoder of the
-/// same encoding and tables reads the bytes as the scalars of the text, and nothing else. Of a text with
-/// folds or unmappable scalars it reads the folds as those other scalars, and nothing is malformed, but
-/// in ISO-2022-JP where two escapes meet around unmappable scalars, and in GB18030 and GBK where the
-/// tables have a private-use row of bytes that index gb18030 lacks.
+/// If the encoder was new, the events of a finished run are those of the Standard's encoder: the
+/// bytes and errors of its handler for the text of all pieces together. In Shift_JIS, EUC-JP,
+/// ISO-2022-JP and GB18030 the tables need the pointers that the Standard's indexes have
+/// (`laws::runs_are_the_standards`).
 ///
-/// `TooLong` is answered exactly where the pieces' lengths together, or `lengths` and their number
-/// together, are above `usize::MAX`, and `Memory` where memory was refused. After either of them no call
-/// was made and the encoder is unchanged.
+/// The output of a new encoder and a finished run decodes, with the same encoding and tables, as
+/// follows. A fold is a scalar that the encoding writes with the bytes of another one.
+///
+/// - If no scalar of the text is unmappable or a fold, the bytes decode to the scalars of the text.
+/// - Otherwise a fold decodes to that other scalar, and nothing is malformed, with two exceptions.
+///   In ISO-2022-JP two escapes may meet around unmappable scalars. In GB18030 and GBK the tables
+///   may have a private-use row whose bytes index gb18030 lacks.
+///
+/// Returns `TooLong` exactly if the sum of the pieces' lengths, or the sum of `lengths` and their
+/// number, exceeds `usize::MAX`. Returns `Memory` if allocation fails. After either error no call
+/// was made, and the encoder is unchanged.
 pub fn encode_run_utf8<E: RawEncoder>(
     alloc: Global,
     encoder: &mut E,
     pieces: &[&str],
     lengths: &[usize],
 ) -> Result<EncodeRun, RunError>
-    // The answer is that of a run, which ends in the encoder's new state.
+    // The result is that of a run, which ends in the encoder's new state.
     ensures run { IfOk result (λ run.
         let from = place_before (E.state encoder.old) (chars_of pieces.now) in
         IsEncodeRun from lengths.now run.calls run.finished run.events.items
         (E.state encoder.new)) }
 
-    // Its events are a beginning of those of all pieces, and all of them where it is finished.
+    // The events are a prefix of those of all pieces, and all of them if the run is finished.
     ensures beginning { IfOk result (λ run.
         IsEncodeBeginning (E.state encoder.old) (chars_of pieces.now) run.finished
         run.events.items) }
 
-    // If the encoder was new, its tables lack no pointer and it is finished, the Standard's handler gives these events.
+    // If the encoder was new, its tables lack no pointer and the run is finished, the Standard's handler gives these
+    // events.
     ensures standard { IfOk result (λ run.
         RunIsEncodedByHandler (E.state encoder.old) (chars_of pieces.now) run.finished
         run.events.items) }
 
-    // Where it is finished, the encoder has no end left to write.
+    // If the run is finished, the encoder has no end left to write.
     ensures none_left { IfOk result (λ run. IsTrue run.finished → HasNoEnd (E.state encoder.new)) }
 
-    // It is finished where there are outputs enough, each with room for any act.
+    // The run is finished if there are enough outputs, each with room for any act.
     ensures finishes { IfOk result (λ run.
         HasAmpleOutputs (E.state encoder.old) (chars_of pieces.now) lengths.now
         → IsTrue run.finished) }
 
-    // Where it is finished, and the encoder was new, the bytes decode to the text.
+    // If the run is finished and the encoder was new, the bytes decode to the text.
     ensures comes_back { IfOk result (λ run.
         RunComesBack (E.state encoder.old) (chars_of pieces.now) run.finished
         run.events.items) }
@@ -193,10 +199,10 @@ pub fn encode_run_utf8<E: RawEncoder>(
     encode_run(alloc, encoder, pieces, lengths)
 }
 
-/// Encodes a text in pieces of UTF-16, by calls with outputs of so many bytes, and answers what it gave.
+/// Encodes a text in pieces of UTF-16, and returns the events.
 ///
-/// It is as `encode_run_utf8`. Each piece is read by itself: a surrogate without its other half in the
-/// same piece is the scalar U+FFFD.
+/// It does what `encode_run_utf8` does. Each piece is read alone: a surrogate without its other
+/// half in the same piece is the scalar U+FFFD.
 pub fn encode_run_utf16<E: RawEncoder>(
     alloc: Global,
     encoder: &mut E,

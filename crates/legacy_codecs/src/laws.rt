@@ -16,17 +16,19 @@ pub use legacy_standard::{decoders_are_the_standards, encoders_are_the_standards
 
 /// Shows that finished runs return what the Standard's decoders and encoders give.
 ///
-/// Let a new decoder, as `new` makes it, read bytes to their end in a finished run. Run over all these bytes, the handler of the
-/// Standard's decoder finishes with the code points and errors that the run returned, however the bytes were cut. Each error
-/// has the place and length of the malformed sequence. In ISO-2022-JP it ends as late as `lateness` says.
+/// Let a new decoder, as `new` makes it, read bytes to their end in a finished run. Run over all
+/// these bytes, the handler of the Standard's decoder finishes with the same code points and
+/// errors, however the bytes were cut. Each error has the place and length of the malformed
+/// sequence. In ISO-2022-JP it ends as late as `lateness` says.
 ///
-/// Let a new encoder with accepted tables write a text to its end in a finished run. Run over the whole text, the handler of the
-/// Standard's encoder finishes with the bytes and errors that the run returned, if the tables have these pointers, as the
-/// Standard's own indexes do:
+/// Let a new encoder with accepted tables write a text to its end in a finished run. Run over the
+/// whole text, the handler of the Standard's encoder finishes with the same bytes and errors. For
+/// that the tables need these pointers, which the Standard's indexes have:
 ///
 /// - in Shift_JIS one for U+FF0D;
 /// - in EUC-JP and ISO-2022-JP one below 8836 for U+FF0D and for each scalar of index jis0208;
-/// - in ISO-2022-JP one for the entry of each half-width katakana, which the encoder looks up as it is;
+/// - in ISO-2022-JP one for the entry of each half-width katakana, which the encoder looks up as it
+///   is;
 /// - in GB18030 one for each scalar that has no other bytes.
 ///
 /// `docs/DIFFERENCES.md` has the smallest tables that lack one, and what differs with them.
@@ -35,62 +37,65 @@ pub fn runs_are_the_standards()
     ensures encoders { RunsAreEncodedByHandlers }
 {}
 
-/// A length query that a decoder answers for all bytes to come is enough for all calls with them.
+/// Shows that a length queried of a decoder for all bytes to come suffices for all calls over them.
 ///
-/// Let an output have the length that one of a decoder's three length queries answered for `n` bytes, or
-/// more code units. Then let calls be made into that output, each into what is still free of it, until
-/// `n` bytes are read, in pieces of any lengths. Where the query counts U+FFFD, let it be written behind
-/// each `Malformed`. Then no call answers `OutputFull`, and what is written always fits.
+/// Let an output have at least the length that one of a decoder's three length queries returned for
+/// `n` bytes. Let calls write into that output, each into its free part, until `n` bytes are read
+/// in pieces of any lengths. If the query counts U+FFFD, let it be written after each `Malformed`.
+/// Then no call returns `OutputFull`, and what is written always fits.
 pub fn queried_length_suffices()
     ensures utf16 { QueriedLengthSuffices to_utf16 }
     ensures utf8 { QueriedLengthSuffices to_utf8 }
     ensures utf8_without_replacement { QueriedLengthSuffices to_utf8_without_replacement }
 {}
 
-/// Two finished runs over the same bytes answer the same events.
+/// Shows that two finished runs over the same bytes return the same events.
 ///
-/// Let decoders go from one state through the same bytes, cut into pieces in any two ways, with outputs
-/// of any lengths, in UTF-8 or UTF-16. Where both runs are finished, they answer the same scalars and
-/// malformed sequences in the same order: no place and no length depends on the cuts.
+/// Let decoders read the same bytes from one state, cut into pieces in any two ways, with outputs
+/// of any lengths, in UTF-8 or UTF-16. If both runs are finished, they return the same scalars and
+/// malformed sequences in the same order. No place and no length depends on the cuts.
 pub fn cuts_do_not_matter()
     ensures { CutsDoNotMatter }
 {}
 
-/// A length query that an encoder answers for all code units to come is enough for all calls with them.
+/// Shows that a length queried of an encoder for all code units to come suffices for all calls.
 ///
-/// Let an output have the length that one of an encoder's two length queries answered for `n` code units,
-/// of UTF-8 or of UTF-16, or more bytes. Then let calls be made into that output, each into what is still
-/// free of it, until the text is at its end, in pieces of any lengths, with nothing written for an
-/// unmappable scalar. Then no call answers `OutputFull`.
+/// Let an output have at least the length that one of an encoder's two length queries returned for
+/// `n` code units of UTF-8 or UTF-16. Let calls write into that output, each into its free part,
+/// until the text is at its end, in pieces of any lengths. Let nothing be written for an unmappable
+/// scalar. Then no call returns `OutputFull`.
 pub fn encode_queried_length_suffices()
     ensures from_utf16 { EncodeQueriedLengthSuffices Utf16 }
     ensures from_utf8 { EncodeQueriedLengthSuffices Utf8 }
 {}
 
-/// Two finished runs over the same scalars answer the same events.
+/// Shows that two finished runs over the same scalars return the same events.
 ///
-/// Let encoders go from one state through the same scalars, cut into pieces in any two ways, from UTF-8 or
-/// from UTF-16, where each piece is read by itself, with outputs of any lengths. Where both runs are
-/// finished, they answer the same bytes and the same unmappable scalars in the same order.
+/// Let encoders read the same scalars from one state, cut into pieces in any two ways, with outputs
+/// of any lengths. The text is in UTF-8 or UTF-16, and in UTF-16 each piece is read alone. If both
+/// runs are finished, they return the same bytes and the same unmappable scalars in the same order.
 pub fn encode_cuts_do_not_matter()
     ensures { EncodeCutsDoNotMatter }
 {}
 
-/// What was encoded decodes to the same text.
+/// Shows that an encoded text decodes to the same text.
 ///
-/// Let a new encoder write a text to its end, with no scalar unmappable. Then the decoder of the same
-/// encoding, over the same tables, reads the bytes as the scalars of the text, and nothing is malformed:
-/// GBK is read as GB18030, and an ISO-2022-JP decoder begins in ASCII mode. The text may hold no fold, a
-/// scalar that is written with the bytes of another one: in EUC-JP and Shift_JIS U+00A5, U+203E and
-/// U+2212, in ISO-2022-JP U+2212 and U+FF61 to U+FF9F, and in GB18030 and GBK those scalars of the
-/// private-use rows whose bytes do not decode to them.
+/// Let a new encoder write a text to its end, with no scalar unmappable. Then the decoder of the
+/// same encoding and tables reads the bytes as the scalars of the text, and nothing is malformed.
+/// GBK is read as GB18030, and an ISO-2022-JP decoder begins in ASCII mode.
 ///
-/// What an ISO-2022-JP encoder wrote of such a text ends in ASCII mode: bytes behind it are read as from
-/// there, where they do not begin with an escape of their own. No two escapes in it are adjacent.
+/// The text must have no fold, which is a scalar that is written with the bytes of another one:
 ///
-/// The same holds of runs: what a finished run of an encoder wrote is that of its text, from UTF-8 and
-/// UTF-16, and any finished run of a decoder over it answers the scalars of the text, however both are
-/// cut and whatever lengths the outputs have.
+/// - in EUC-JP and Shift_JIS U+00A5, U+203E and U+2212;
+/// - in ISO-2022-JP U+2212 and U+FF61 to U+FF9F;
+/// - in GB18030 and GBK those scalars of the private-use rows whose bytes do not decode to them.
+///
+/// The output of an ISO-2022-JP encoder for such a text ends in ASCII mode. Bytes after it are read
+/// from there, if they do not begin with an escape of their own. No two escapes in it are adjacent.
+///
+/// The same holds of runs. A finished run of an encoder writes the bytes of its text, from UTF-8
+/// and UTF-16. Any finished run of a decoder over them returns the scalars of the text, however
+/// both are cut and whatever lengths the outputs have.
 pub fn round_trips()
     ensures texts { RoundTrips }
     ensures escapes { EscapesAreInPlace }
@@ -98,38 +103,42 @@ pub fn round_trips()
     ensures runs { RunsRoundTrip }
 {}
 
-/// What was encoded decodes to a text that is encoded as the same bytes.
+/// Shows that an encoded text decodes to a text that is encoded as the same bytes.
 ///
-/// Let a new encoder write a text to its end, as in `round_trips`: nothing is unmappable, and no scalar is
-/// a fold. Then the text that the decoder of the same encoding and tables reads from the bytes is written
-/// as these bytes again. The same holds of finished runs, however all three are cut.
+/// Let a new encoder write a text to its end as in `round_trips`: nothing is unmappable, and no
+/// scalar is a fold. Then the text that the decoder of the same encoding and tables reads from the
+/// bytes is encoded as these bytes again. The same holds of finished runs, however all three are
+/// cut.
 ///
-/// It holds of any text as well, with unmappable scalars and with folds, where the bytes are well formed
-/// as `encodes_well_formed` says, and where each fold has the code of the scalar that it is read as. So it
-/// is in EUC-JP and Shift_JIS whatever the tables say. The tables decide in GB18030 and GBK, whose folds go
-/// by the private-use rows, and in ISO-2022-JP, whose half-width katakana go by the katakana index.
+/// It also holds of any text, with unmappable scalars and with folds, under two conditions: the
+/// bytes are well formed as `encodes_well_formed` says, and each fold has the code of the scalar
+/// that it is read as. In EUC-JP and Shift_JIS each fold has that code for all tables. In GB18030
+/// and GBK it depends on the private-use rows, and in ISO-2022-JP on the katakana index.
 ///
-/// Of other bytes it does not hold, even where nothing in them is malformed: a scalar may have more than
-/// one form, of which an encoder takes one.
+/// It does not hold of other bytes, even if nothing in them is malformed: a scalar may have several
+/// forms, of which an encoder writes one.
 pub fn reencodes_to_the_same()
     ensures texts { ReencodesToTheSame }
     ensures any_text { ReencodesAnyText }
     ensures runs { RunsReencodeToTheSame }
 {}
 
-/// What was encoded is well formed.
+/// Shows that the output of an encoder is well formed.
 ///
-/// Let a new encoder write any text to its end, with nothing for an unmappable scalar. Then the decoder of
-/// the same encoding and tables reads each scalar that has a code, the folds as the scalars whose bytes
-/// they are written with, and nothing is malformed. So it is of every text in all encodings but three:
+/// Let a new encoder write any text to its end, with nothing for an unmappable scalar. Then the
+/// decoder of the same encoding and tables reads each scalar that has a code, and nothing is
+/// malformed. A fold is read as the scalar with whose bytes it is written. That holds of every text
+/// in all encodings but three:
 ///
-/// - In GB18030 and GBK the text holds no scalar of a private-use row whose bytes have no scalar in index
-///   gb18030. The standard's rows have none such.
-/// - In ISO-2022-JP no two escapes meet in the bytes: the first of two is malformed. They meet only where
-///   unmappable scalars stand behind one of two bytes, since they are reported in ASCII mode there, and
-///   before one of two bytes or of Roman mode; so never where nothing is unmappable.
+/// - In GB18030 and GBK the text must have no scalar of a private-use row whose bytes have no
+///   scalar in index gb18030. The Standard's rows contain no such scalar.
+/// - In ISO-2022-JP no two escapes may meet in the bytes: the first of two is malformed. They meet
+///   only at unmappable scalars between a scalar of two bytes and one of two bytes or of Roman
+///   mode: after two bytes, an unmappable scalar is reported in ASCII mode. So they never meet if
+///   nothing is unmappable.
 ///
-/// The same holds of runs: any finished run of a decoder over the bytes of a finished run of an encoder.
+/// The same holds of runs: any finished run of a decoder over the bytes of a finished run of an
+/// encoder.
 pub fn encodes_well_formed()
     ensures texts { EncodesWellFormed }
     ensures escapes { EscapesStayApart }

@@ -1,10 +1,13 @@
-//! The legacy codecs of the WHATWG Encoding Standard, under one name: every public item of the crates
-//! below, calls that run a coder over a whole input, and calls that replace what is malformed or has no
-//! bytes.
+//! The legacy codecs of the WHATWG Encoding Standard, under one name.
+//!
+//! The crate has what a user of the codecs names. It adds calls that replace what is malformed or
+//! unmappable, calls for whole inputs and texts, and runs that return events. What only the codecs'
+//! own loops use, and how tables are kept, is public in the crates below alone.
 #![tactic(auto)]
 
 mod decode_run;
 mod encode_run;
+mod faults;
 pub mod laws;
 mod references;
 mod replacing;
@@ -12,14 +15,16 @@ mod results;
 mod run_parts;
 mod scalars;
 mod texts;
+mod whole;
 
 pub use decode_run::{DecodeRun, decode_run_utf8, decode_run_utf16};
 pub use encode_run::{EncodeRun, encode_run_utf8, encode_run_utf16};
+pub use faults::{MalformedSequence, malformed_sequences};
 pub use legacy_base::{
-    ByteSource, DecodeEvent, DecoderResult, DecoderTables, Destination, EncodeEvent, EncoderResult,
-    EncoderTables, FlatTables, GB18030_2022_PUA, IndexName, Indexes, KeptTables, Marks, Next,
-    Packed, PackedPart, PackedTables, RawDecoder, RawEncoder, Run, SingleByteTable, Source,
-    TableError, Tables, UnitCodes, Utf8Destination, Utf8Source, Utf16Destination, Utf16Source,
+    ByteSource, DecodeEvent, DecoderResult, Destination, EncodeEvent, EncoderResult,
+    GB18030_2022_PUA, IndexName, Indexes, Packed, PackedPart, RawDecoder, RawEncoder, ReadingLoop,
+    Run, SingleByteTable, Source, TableError, Tables, Utf8Destination, Utf8Source,
+    Utf16Destination, Utf16Source,
 };
 pub use legacy_decoders::{
     Big5Decoder, EucJpDecoder, EucKrDecoder, Gb18030Decoder, Iso2022JpDecoder, ReplacementDecoder,
@@ -35,3 +40,4 @@ pub use replacing::{decode_replacing_utf8, decode_replacing_utf16};
 pub use results::CoderResult;
 pub use run_parts::RunError;
 pub use scalars::{OutputForm, ScalarBuffer, Utf8Form, Utf16Form};
+pub use whole::{SizedError, decode_piece, decode_whole, encode_whole, transcode};

@@ -1,4 +1,4 @@
-//! Calls of an encoder that write a numeric character reference for each scalar that has no bytes.
+//! Calls of an encoder that write a numeric character reference for each unmappable scalar.
 ghost use Rattle.std.specs.Prelude.{◌≡◌, ℕ, ◌+◌, ◌-◌, ◌^◌, ◌<◌, ◌≤◌, List, ◌++◌, length, drop, take, decimal};
 ghost use Rattle.std.specs.Str.{chars, IsCharBoundary};
 ghost use Rattle.legacy_text.specs.EncodingForm.{total_unit_count};
@@ -9,14 +9,15 @@ ghost use Rattle.legacy_codecs.specs.References.{reference, ReplacingEncoderCall
 use crate::results::CoderResult;
 use legacy_base::{EncoderResult, RawEncoder, Source, Utf8Source, Utf16Source};
 
-/// The bytes of the longest reference, `&#1114111;`.
+/// The length in bytes of the longest reference, `&#1114111;`.
 const REFERENCE_ROOM: usize = 10;
 
-/// The most digits of a scalar's number.
+/// The greatest number of digits of a scalar's number.
 const DIGITS: usize = 7;
 
-/// Puts the digits of the number into the array, up to the place `end`, and answers the place of the
-/// first.
+/// Writes the digits of the number into the array, so that they end at `end`.
+///
+/// Returns the place of the first digit.
 #[tactic(auto, using(crate::proofs::ReferenceTexts::decimal_lengths))]
 fn put_digits(text: &mut [u8; REFERENCE_ROOM], end: usize, number: u32) -> usize
     requires end { end ≤ REFERENCE_ROOM }
@@ -38,7 +39,7 @@ fn put_digits(text: &mut [u8; REFERENCE_ROOM], end: usize, number: u32) -> usize
     place
 }
 
-/// Puts the reference of the scalar at the end of the array, and answers the place where it begins.
+/// Writes the reference of the scalar at the end of the array, and returns where it begins.
 fn make_reference(text: &mut [u8; REFERENCE_ROOM], c: char) -> usize
     ensures place { result ≤ REFERENCE_ROOM }
     ensures reference { drop result text.new ≡ reference c }
@@ -50,7 +51,7 @@ fn make_reference(text: &mut [u8; REFERENCE_ROOM], c: char) -> usize
     digits - 2
 }
 
-/// Writes the reference of the scalar from a place on, and answers where it ends.
+/// Writes the reference of the scalar at a place, and returns the place after it.
 fn put_reference(dst: &mut [u8], at: usize, c: char) -> usize
     requires { at + REFERENCE_ROOM ≤ length dst.old }
     ensures end { result ≡ at + length (reference c) }
@@ -64,8 +65,9 @@ fn put_reference(dst: &mut [u8], at: usize, c: char) -> usize
     end
 }
 
-/// Makes one call of the encoder into the output from a place on, but for the room of a reference at its
-/// end, and answers its answer and where its bytes end.
+/// Makes one call of the encoder into the output from a place on, without the last ten bytes.
+///
+/// Returns its result, and the place after the bytes that it wrote.
 fn encode_from<E: RawEncoder, S: Source>(
     encoder: &mut E,
     src: &mut S,
@@ -87,9 +89,10 @@ fn encode_from<E: RawEncoder, S: Source>(
     (answer, at + written)
 }
 
-/// Makes calls of the encoder while a reference has room behind each, until one does not answer
-/// `Unmappable`, and writes the reference behind each that does. Answers how it ended, how many bytes were
-/// written, and whether a reference was.
+/// Calls the encoder, and writes a reference after each result `Unmappable`.
+///
+/// It ends at any other result. It stops earlier if a reference has no room. Returns the result,
+/// the number of bytes written, and whether a reference was written.
 fn encode_replacing<E: RawEncoder, S: Source>(
     encoder: &mut E,
     src: &mut S,
@@ -119,7 +122,7 @@ fn encode_replacing<E: RawEncoder, S: Source>(
     if src.peek().is_some() {
         return (CoderResult::OutputFull, written, replaced);
     }
-    // No scalar is left to report: the call tells whether the end has something to write.
+    // No scalar is left to report: the call shows whether the end has something to write.
     match encoder.step(src, &mut [], last).0 {
         EncoderResult::InputEmpty => (CoderResult::InputEmpty, written, replaced),
         EncoderResult::OutputFull | EncoderResult::Unmappable(_) => {
@@ -128,18 +131,23 @@ fn encode_replacing<E: RawEncoder, S: Source>(
     }
 }
 
-/// Encodes scalars from the front of a text in UTF-8, with a numeric character reference for each scalar
-/// that has no bytes in the encoding, as `&#128169;` (Encoding Standard, error mode "html"). Answers how
-/// that ended, how many bytes of `src` were read, how many were written, which stand at the front of `dst`,
-/// and whether a reference was written. What was read ends between two characters.
+/// Encodes text in UTF-8, with a numeric character reference for each unmappable scalar.
 ///
-/// - `InputEmpty`: the whole of `src` was read; where `last` is set, the end is written too.
-/// - `OutputFull`: what is free is less than the encoder's next act and a reference need, which is at most
-///   14 bytes. Where that is so as the call begins, nothing is read or written and the encoder is unchanged.
+/// The text is read from the start of `src`, and a reference is written as `&#128169;` (Encoding
+/// Standard, error mode "html"). Returns the result, the number of bytes read, the number of bytes
+/// written to the start of `dst`, and whether a reference was written. What is read ends between
+/// two characters.
 ///
-/// Where `dst` has 10 bytes more than `max_buffer_length_from_utf8_without_replacement` answered for at
-/// least so many bytes, `OutputFull` only comes where a reference was written. The encoder goes on from its
-/// state after either answer.
+/// - `InputEmpty`: the whole of `src` was read. If `last` is set, the end of the text is written
+///   too.
+/// - `OutputFull`: the free bytes of `dst` are fewer than the encoder's next act and a reference
+///   need, which is at most 14. If that is so when the call begins, nothing is read or written and
+///   the encoder is unchanged.
+///
+/// Let `dst` be at least 10 bytes longer than the result of
+/// `max_buffer_length_from_utf8_without_replacement` for the length of `src` or more. Then
+/// `OutputFull` is only returned after a reference was written. After either result the encoder
+/// continues from its state.
 pub fn encode_replacing_utf8<E: RawEncoder>(
     encoder: &mut E,
     src: &str,
@@ -158,11 +166,11 @@ pub fn encode_replacing_utf8<E: RawEncoder>(
     (answer, read, written, replaced)
 }
 
-/// Encodes scalars from the front of code units of UTF-16, each unpaired surrogate being U+FFFD, with a
-/// numeric character reference for each scalar that has no bytes in the encoding.
+/// Encodes text in UTF-16, with a numeric character reference for each unmappable scalar.
 ///
-/// It is as `encode_replacing_utf8`, but reads code units of UTF-16 and parts no pair of surrogates, and
-/// the length is that of `max_buffer_length_from_utf16_without_replacement`.
+/// An unpaired surrogate is read as U+FFFD. It does what `encode_replacing_utf8` does, but reads
+/// code units of UTF-16 and splits no pair of surrogates. The length is that of
+/// `max_buffer_length_from_utf16_without_replacement`.
 pub fn encode_replacing_utf16<E: RawEncoder>(
     encoder: &mut E,
     src: &[u16],

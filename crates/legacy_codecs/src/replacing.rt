@@ -6,7 +6,7 @@ ghost use Rattle.legacy_codecs.specs.Replacing.{ReplacingDecoderCall};
 use crate::results::CoderResult;
 use legacy_base::{DecoderResult, Destination, RawDecoder, Utf8Destination, Utf16Destination};
 
-/// The bytes from the offset on.
+/// Returns the bytes from the offset on.
 #[inline]
 fn rest_of(bytes: &[u8], offset: usize) -> &[u8]
     requires { offset ≤ length bytes.now }
@@ -15,7 +15,7 @@ fn rest_of(bytes: &[u8], offset: usize) -> &[u8]
     &bytes[offset..]
 }
 
-/// Writes U+FFFD behind what was written. It must fit.
+/// Writes U+FFFD to the destination, which must have room for it.
 #[inline(always)]
 fn put_replacement<T: Destination>(dst: &mut T)
     requires { unit_count T.form 0xFFFD ≤ T.room dst.old }
@@ -26,9 +26,10 @@ fn put_replacement<T: Destination>(dst: &mut T)
     dst.put(char::REPLACEMENT_CHARACTER);
 }
 
-/// Makes calls of the decoder into the destination until one does not answer `Malformed`, and writes
-/// U+FFFD behind each that does. Answers how the last call ended, how many bytes were read, and whether
-/// U+FFFD was written so.
+/// Calls the decoder, and writes U+FFFD after each result `Malformed`.
+///
+/// It ends at any other result. Returns the result of the last call, the number of bytes read, and
+/// whether U+FFFD was written for a malformed sequence.
 #[inline(always)]
 fn decode_replacing<D: RawDecoder, T: Destination>(
     decoder: &mut D,
@@ -58,17 +59,19 @@ fn decode_replacing<D: RawDecoder, T: Destination>(
     }
 }
 
-/// Decodes bytes from the front of `src` into UTF-8 at the front of `dst`, with U+FFFD for each
-/// malformed sequence. Answers how that ended, how many bytes were read and written, and whether U+FFFD
-/// was written for a malformed sequence (Encoding Standard, error mode "replacement").
+/// Decodes bytes to UTF-8, with U+FFFD for each malformed sequence.
 ///
-/// - `InputEmpty`: the whole of `src` was read and no scalar is held back; where `last` is set, nothing
-///   at all is left to report.
-/// - `OutputFull`: the decoder's next act needs more bytes than are free. Where that is so as the call
-///   begins, nothing is read or written and the decoder is unchanged.
+/// It reads from the start of `src` and writes to the start of `dst` (Encoding Standard, error mode
+/// "replacement"). Returns the result, the numbers of bytes read and written, and whether U+FFFD
+/// was written for a malformed sequence.
 ///
-/// Where `dst` is as long as `max_utf8_buffer_length` answered for at least so many bytes, the answer is
-/// `InputEmpty`. The decoder goes on from its state after either answer.
+/// - `InputEmpty`: the whole of `src` was read and no scalar is held back. If `last` is set,
+///   nothing is left to report.
+/// - `OutputFull`: the decoder's next act needs more bytes than are free in `dst`. If that is so
+///   when the call begins, nothing is read or written and the decoder is unchanged.
+///
+/// If `dst` is at least as long as the result of `max_utf8_buffer_length` for at least the length
+/// of `src`, the result is `InputEmpty`. After either result the decoder continues from its state.
 #[inline(never)]
 pub fn decode_replacing_utf8<D: RawDecoder>(
     decoder: &mut D,
@@ -86,11 +89,10 @@ pub fn decode_replacing_utf8<D: RawDecoder>(
     (answer, read, written, replaced)
 }
 
-/// Decodes bytes from the front of `src` into UTF-16 at the front of `dst`, with U+FFFD for each
-/// malformed sequence.
+/// Decodes bytes to UTF-16, with U+FFFD for each malformed sequence.
 ///
-/// It is as `decode_replacing_utf8`, but counts code units of UTF-16, and the answer is `InputEmpty`
-/// where `dst` is as long as `max_utf16_buffer_length` answered.
+/// It does what `decode_replacing_utf8` does, but writes code units of UTF-16. The result is
+/// `InputEmpty` if `dst` is at least as long as the result of `max_utf16_buffer_length`.
 #[inline(never)]
 pub fn decode_replacing_utf16<D: RawDecoder>(
     decoder: &mut D,

@@ -1,11 +1,12 @@
-//! What a call of a coder answers where nothing is left to the caller to replace.
+//! The result of a call with replacement, which leaves nothing for the caller to replace.
 
-/// How a call with replacement ended.
+/// The result of a call with replacement.
 #[derive(Clone, Copy, Debug, PartialEq, Eq)]
 pub enum CoderResult {
     /// The whole input was read, and all that it gave so far was written.
     InputEmpty,
-    /// The coder's next act lacks its room. For an encoder that room is more by ten bytes, which are kept
-    /// free for a reference.
+    /// The output lacks room for the next act of the decoder or encoder.
+    ///
+    /// An encoder needs ten bytes more, which are kept free for a reference.
     OutputFull,
 }

@@ -1,4 +1,4 @@
-//! What the runs of decoders and of encoders share: pieces of an input, lengths of outputs, and events.
+//! Common parts of the runs of decoders and encoders: pieces, lengths of outputs, and events.
 ghost use Rattle.std.specs.Prelude.{◌≡◌, ℕ, ◌↔◌, ◌+◌, ◌^◌, ◌<◌, ◌≤◌, List, [], ◌∷◌, ◌++◌, length, drop, map, sum, sum_by, vec_len, vec_capacity, All, IfOk, SomeIff};
 ghost use Rattle.legacy_base.specs.declared.results.DecodeEvent.TheVariants.{Scalar};
 ghost use Rattle.legacy_base.specs.declared.results.EncodeEvent.TheVariants.{Byte};
@@ -8,14 +8,13 @@ use legacy_base::{DecodeEvent, EncodeEvent};
 use std::alloc::Global;
 use thiserror::Error;
 
-/// Why there was no run. No call of the decoder or the encoder was made.
+/// Why a run was not made. No call of the decoder or the encoder was made.
 #[derive(Debug, PartialEq, Eq, Drop, Error)]
 pub enum RunError {
-    /// Memory was refused. All memory that a run needs is taken before its first call.
+    /// Allocation failed. A run allocates all its memory before its first call.
     #[error("memory")]
     Memory,
-    /// The pieces' lengths together, or the outputs' lengths and their number together, are above
-    /// `usize::MAX`.
+    /// A sum exceeds `usize::MAX`: the pieces' lengths, or the outputs' lengths and their number.
     #[error("run is too long")]
     TooLong,
 }
@@ -25,7 +24,7 @@ pub(crate) trait Piece: Copy {
     /// Its code units.
     ghost units: { Self → List ℕ };
 
-    /// How many code units it has.
+    /// Returns its number of code units.
     fn count(self) -> usize
         ensures { result ≡ length (units self) };
 }
@@ -54,7 +53,7 @@ impl Piece for &[u16] {
     }
 }
 
-/// The sum of the pieces' lengths, where it is a `usize`.
+/// Returns the sum of the pieces' lengths, or `None` if it exceeds `usize::MAX`.
 fn total_length<P: Piece>(pieces: &[P]) -> Option<usize>
     ensures { SomeIff result (sum_by length (map P.units pieces.now) < 2 ^ 64)
         (sum_by length (map P.units pieces.now)) }
@@ -66,7 +65,7 @@ fn total_length<P: Piece>(pieces: &[P]) -> Option<usize>
     Some(total)
 }
 
-/// The sum of the lengths and their number, where it is a `usize`.
+/// Returns the sum of the lengths and their number, or `None` if it exceeds `usize::MAX`.
 fn total_room(lengths: &[usize]) -> Option<usize>
     ensures { SomeIff result (sum lengths.now + length lengths.now < 2 ^ 64)
         (sum lengths.now + length lengths.now) }
@@ -78,8 +77,9 @@ fn total_room(lengths: &[usize]) -> Option<usize>
     Some(total)
 }
 
-/// Takes the memory for the events of a run over the pieces, with outputs of the lengths: each code unit
-/// of an output is one event at most, and so is what a call reports.
+/// Allocates the memory for the events of a run over the pieces, with outputs of these lengths.
+///
+/// Each code unit of an output is at most one event, and so is the report of each call.
 pub(crate) fn room_for_events<P: Piece, T: Copy>(
     alloc: Global,
     pieces: &[P],
@@ -104,14 +104,14 @@ pub(crate) fn room_for_events<P: Piece, T: Copy>(
     Ok(events)
 }
 
-/// The greatest of the lengths, and 0 for none.
+/// Returns the greatest of the lengths, or 0 if there is none.
 pub(crate) fn longest(lengths: &[usize]) -> usize
     ensures { All (λ n. n ≤ result) lengths.now }
 {
     lengths.iter().copied().max().unwrap_or(0)
 }
 
-/// Whether no piece stands behind this index.
+/// Checks whether no piece is after this index.
 pub(crate) fn is_last<P: Piece>(pieces: &[P], index: usize) -> bool
     requires { index ≤ length pieces.now }
     ensures { result ≡ is_none (drop (index + 1) (map P.units pieces.now)) }
@@ -119,7 +119,7 @@ pub(crate) fn is_last<P: Piece>(pieces: &[P], index: usize) -> bool
     pieces.len() - index <= 1
 }
 
-/// Adds an event where there is room for it.
+/// Adds an event. The list must have room for it.
 pub(crate) fn push_within<T: Copy>(events: &mut Vec<T>, event: T)
     requires { vec_len events.old < vec_capacity events.old }
     ensures items { events.new.items ≡ events.old.items ++ event ∷ [] }
@@ -129,12 +129,12 @@ pub(crate) fn push_within<T: Copy>(events: &mut Vec<T>, event: T)
     let _ = events.push(event);
 }
 
-/// An event that tells of one item of an output.
+/// An event that describes one item of an output.
 pub(crate) trait EventOf<T>: Copy {
     /// The event of an item.
     ghost event: { T → Self };
 
-    /// The event of an item.
+    /// Returns the event of an item.
     fn event_of(item: T) -> Self
         ensures { result ≡ event item };
 }

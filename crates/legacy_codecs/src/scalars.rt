@@ -21,7 +21,7 @@ pub trait OutputForm {
 
     ghost WIDE_ROOM: { ℕ };
 
-    /// How many code units a scalar has: 1 to 4 in UTF-8, 1 or 2 in UTF-16.
+    /// Returns the number of code units of a scalar: 1 to 4 in UTF-8, 1 or 2 in UTF-16.
     fn unit_count(c: char) -> usize
         ensures value { result ≡ unit_count form c }
         ensures some { 1 ≤ result };
@@ -77,8 +77,10 @@ impl OutputForm for Utf16Form {
     ghost wide_is = { refl };
 }
 
-/// An output that keeps the scalars themselves, from the front of a lent slice on, and counts the code
-/// units that they have in UTF-8 or in UTF-16. To a decoder it is an output of that many code units.
+/// An output that keeps the scalars themselves, at the start of a lent slice.
+///
+/// It counts the code units that they have in UTF-8 or in UTF-16. For a decoder it is an output of
+/// `room` code units.
 #[derive(Drop)]
 pub struct ScalarBuffer<'a, F: OutputForm> {
     scalars: &'a mut [char],
@@ -95,8 +97,9 @@ pub struct ScalarBuffer<'a, F: OutputForm> {
 impl<'a, F: OutputForm> ScalarBuffer<'a, F> {
     ghost use Rattle.legacy_codecs.specs.Scalars.{kept_scalars, free_units, scalars_loan, scalars_buffer};
 
-    /// An output that has kept nothing and has `room` code units free, at most as many as the slice has
-    /// places.
+    /// Returns an output without scalars that has `room` code units free.
+    ///
+    /// `room` is at most the length of the slice.
     pub fn new(scalars: &'a mut [char], room: usize) -> ScalarBuffer<'a, F>
         requires { room ≤ length scalars.old }
         ensures loan { scalars_loan result ≡ scalars.entry.ghost_name }
@@ -113,7 +116,7 @@ impl<'a, F: OutputForm> ScalarBuffer<'a, F> {
         }
     }
 
-    /// The scalars that were kept, in the order in which they were written.
+    /// Returns the kept scalars, in the order in which they were written.
     pub fn scalars(&self) -> &[char]
         ensures value { result.now ≡ kept_scalars self.now }
         ensures scalar { All IsScalar result.now }

@@ -1,4 +1,4 @@
-//! Texts in UTF-8 and UTF-16, of which an encoder reads.
+//! Texts in UTF-8 and UTF-16, which an encoder reads.
 ghost use Rattle.std.specs.Prelude.{◌≡◌, ℕ, List, []};
 ghost use Rattle.std.specs.Str.{chars};
 ghost use Rattle.legacy_text.specs.Texts.{unit_scalars};
@@ -6,7 +6,7 @@ ghost use Rattle.legacy_text.specs.Texts.{unit_scalars};
 use crate::run_parts::Piece;
 use legacy_base::{Source, Utf8Source, Utf16Source};
 
-/// A text in UTF-8 or in UTF-16, one of the two for each type.
+/// A text in UTF-8 or in UTF-16: a type of pieces for each.
 pub(crate) trait Text: Piece {
     /// A cursor over its scalars.
     type Cursor: Source + Drop;
@@ -14,11 +14,11 @@ pub(crate) trait Text: Piece {
     /// Its scalars.
     ghost scalars: { Self → List ℕ };
 
-    /// The empty text.
+    /// Returns the empty text.
     fn empty() -> Self
         ensures { scalars result ≡ [] };
 
-    /// A cursor before its first scalar.
+    /// Returns a cursor before its first scalar.
     fn cursor(self) -> Self::Cursor
         ensures { Self.Cursor.left result ≡ scalars self };
 }

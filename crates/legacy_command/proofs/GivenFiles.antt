@@ -1,4 +1,4 @@
--- Laws of the files that the program is given.
+-- Laws of the index files that the program is given.
 use Rattle.std.proofs.Common.{◌≡◌, ℕ, drop, ◌≤◌, ◌<◌, List, [], ◌∷◌, length, arith, Option, Some, None, sym, ap, subst, if◌then◌else◌}
 use Rattle.std.specs.Borrow.{Bor}
 use Rattle.legacy_index_files.specs.declared.index_file.FileIndex.{FileIndex}
@@ -10,14 +10,14 @@ use Rattle.legacy_index_files.specs.IndexTexts.{is_index, no_text, with_text}
 use Rattle.legacy_index_files.specs.OwnedIndexes.{HoldsTexts}
 use Rattle.legacy_command.specs.IndexTexts.{text_given, contents_of, IsWellFormed, AreWellFormed}
 
--- no INDEX and FILE
+-- with no INDEX and FILE every text is empty
 pub few_words : (tables : OwnedIndexes) (words : List (Bor (List ℕ))) (files : List (Option (Bor (List ℕ)))) → length words < 2
     → HoldsTexts no_text tables → HoldsTexts (text_given (texts_of words) (contents_of files)) tables
 few_words tables [] files h k = k
 few_words tables (w ∷ []) files h k = k
 few_words tables (v ∷ w ∷ words) files h k = absurd (omega arith)
 
--- one more INDEX and FILE in front
+-- the texts with one more INDEX and FILE before the others
 pub one_more_file : (tables : OwnedIndexes) (words : List (Bor (List ℕ))) (name : FileIndex) (text : Bor (List ℕ)) (later files : List (Option (Bor (List ℕ)))) →
     2 ≤ length words → first_index_named (texts_of words) ≡ Some name → files ≡ Some text ∷ later →
     HoldsTexts (with_text (text_given (texts_of (drop 2 words)) (contents_of later)) name text.now) tables → HoldsTexts (text_given (texts_of words) (contents_of files)) tables
@@ -30,13 +30,13 @@ one_more_file tables (v ∷ w ∷ words) name text later files h n f k =
     let P : (FileIndex → List ℕ) → Type 0 = λ texts. HoldsTexts texts tables in
     rw f (subst P (λ i. λ other. same other i) k)
 
--- no INDEX and FILE has no malformed line
+-- with no INDEX and FILE there is no malformed line
 pub few_well_formed : (words : List (Bor (List ℕ))) (files : List (Option (Bor (List ℕ)))) → length words < 2 → AreWellFormed (texts_of words) (contents_of files)
 few_well_formed [] files h = tt
 few_well_formed (w ∷ []) files h = tt
 few_well_formed (v ∷ w ∷ words) files h = absurd (omega arith)
 
--- one more INDEX and FILE in front has none either
+-- if one more INDEX and FILE before the others has no malformed line, there is still none
 pub one_more_well_formed : (words : List (Bor (List ℕ))) (name : FileIndex) (text : Bor (List ℕ)) (later files : List (Option (Bor (List ℕ)))) →
     2 ≤ length words → first_index_named (texts_of words) ≡ Some name → files ≡ Some text ∷ later → first_malformed name 1 (lines text.now) ≡ None →
     AreWellFormed (texts_of (drop 2 words)) (contents_of later) → AreWellFormed (texts_of words) (contents_of files)

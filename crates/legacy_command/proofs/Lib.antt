@@ -1,3 +1,3 @@
--- Laws of the words and of the files that they name.
+-- Laws of the command line's words, and of the files that they name.
 pub mod CommandLine
 pub mod GivenFiles

@@ -1,4 +1,4 @@
--- The texts of the index files that the program's words name.
+-- The texts of the index files that the command line names.
 use Rattle.std.specs.Prelude.{◌≡◌, ℕ, List, [], ◌∷◌, map, Option, Some, None, if◌then◌else◌}
 use Rattle.std.specs.Option.{option_map}
 use Rattle.std.specs.Borrow.{Bor}
@@ -8,23 +8,23 @@ use Rattle.legacy_index_files.specs.IndexTable.{first_malformed}
 use Rattle.legacy_index_files.specs.IndexTexts.{is_index}
 use Rattle.legacy_command.specs.Words.{index_named}
 
--- the contents of each file, or none where it cannot be read
+-- the contents of each file, or `None` if it cannot be read
 abbrev pub contents_of : List (Option (Bor (List ℕ))) → List (Option (List ℕ))
 contents_of files = map (option_map (λ file. file.now)) files
 
--- The text of each index, where the words are INDEX and FILE any number of times and the files are those: that of its
--- file, and empty where none is given.
+-- The text of each index, if the words are INDEX and FILE any number of times and the files are those. It is the text
+-- of the index's file, and empty if the words do not name the index.
 abbrev pub text_given : List (List ℕ) → List (Option (List ℕ)) → FileIndex → List ℕ
 text_given (index ∷ file ∷ words) (Some text ∷ files) name =
     if is_index (index_named index) name then text else text_given words files name
 text_given _ _ name = []
 
--- the word names an index, and each line of the text is of the form of its file
+-- the word names an index, and each line of the text has the form of its file
 abbrev pub IsWellFormed : Option FileIndex → List ℕ → Type 0
 IsWellFormed None text = ⊥
 IsWellFormed (Some name) text = first_malformed name 1 (lines text) ≡ None
 
--- Each FILE could be read, and has no malformed line, where the words are INDEX and FILE any number of times and the files
+-- Each FILE could be read and has no malformed line, if the words are INDEX and FILE any number of times and the files
 -- are those.
 abbrev pub AreWellFormed : List (List ℕ) → List (Option (List ℕ)) → Type 0
 AreWellFormed (index ∷ file ∷ words) (Some text ∷ files) = IsWellFormed (index_named index) text × AreWellFormed words files

@@ -1,4 +1,4 @@
--- What the command line asks for, and what the program does by it.
+-- What the command line means, and what the program does with it.
 pub mod Words
 pub mod IndexTexts
 pub mod Program

@@ -1,10 +1,10 @@
--- The words of the program's command line: perhaps `--text`, then CODEC, and then INDEX and FILE any number of times.
+-- The words of the command line: optionally `--text`, then CODEC, then INDEX and FILE any number of times.
 use Rattle.std.specs.Prelude.{ℕ, List, [], ◌∷◌, drop, map, Option, Some, None, is_some, Bool, true, false, not, ◌&&◌, ◌||◌, codes, bytes_eq, if◌then◌else◌}
 use Rattle.std.specs.Borrow.{Bor}
 use Rattle.legacy_index_files.specs.declared.index_file.FileIndex.{FileIndex}
 use Rattle.legacy_index_files.specs.declared.index_file.FileIndex.TheVariants as index
-use Rattle.legacy_command.specs.declared.words.CodecWord.{CodecWord}
-use Rattle.legacy_command.specs.declared.words.CodecWord.TheVariants as codec
+use Rattle.legacy_index_files.specs.declared.encodings.CodecName.{CodecName}
+use Rattle.legacy_index_files.specs.declared.encodings.CodecName.TheVariants as codec
 use Rattle.legacy_command.specs.declared.words.OutputKind.{OutputKind}
 use Rattle.legacy_command.specs.declared.words.OutputKind.TheVariants.{Lines, Text}
 
@@ -17,21 +17,21 @@ abbrev pub wants_text : List (List ℕ) → Bool
 wants_text [] = false
 wants_text (word ∷ words) = bytes_eq word (codes "--text")
 
--- what the words ask the program to write
+-- what the program is to write
 abbrev pub output_kind : List (List ℕ) → OutputKind
 output_kind words = if wants_text words then Text else Lines
 
--- the words without one `--text` in front
+-- the words without a leading `--text`
 abbrev pub plain_words : List (List ℕ) → List (List ℕ)
 plain_words words = if wants_text words then drop 1 words else words
 
--- what a word of a table means
+-- the meaning of a word in a table
 abbrev pub meaning : {A : Type 0} → List (List ℕ × A) → List ℕ → Option A
 meaning [] word = None
 meaning (entry ∷ entries) word = if bytes_eq word entry.0 then Some entry.1 else meaning entries word
 
 -- the codec that a word names
-abbrev pub codec_named : List ℕ → Option CodecWord
+abbrev pub codec_named : List ℕ → Option CodecName
 codec_named = meaning (
     (codes "x-user-defined", codec.UserDefined)
     ∷ (codes "replacement", codec.Replacement)
@@ -64,18 +64,18 @@ abbrev pub first_index_named : List (List ℕ) → Option FileIndex
 first_index_named [] = None
 first_index_named (word ∷ words) = index_named word
 
--- a word is INDEX among these, which are INDEX and FILE any number of times
+-- a word is one of the INDEX words among these, which are INDEX and FILE any number of times
 abbrev pub stands_among : List ℕ → List (List ℕ) → Bool
 stands_among word (name ∷ file ∷ words) = bytes_eq name word || stands_among word words
 stands_among word _ = false
 
--- INDEX and FILE any number of times, each INDEX the word of an index, and none twice
+-- the words are INDEX and FILE any number of times, each INDEX names an index, and no index is named twice
 abbrev pub are_indexes : List (List ℕ) → Bool
 are_indexes [] = true
 are_indexes (word ∷ []) = false
 are_indexes (name ∷ file ∷ words) = is_some (index_named name) && not (stands_among name words) && are_indexes words
 
 -- the codec of words that are CODEC, and then INDEX and FILE any number of times
-abbrev pub codec_of_words : List (List ℕ) → Option CodecWord
+abbrev pub codec_of_words : List (List ℕ) → Option CodecName
 codec_of_words [] = None
 codec_of_words (word ∷ words) = if are_indexes words then codec_named word else None

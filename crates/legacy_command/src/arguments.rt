@@ -1,4 +1,4 @@
-//! The words behind the program's name.
+//! The words after the program's name.
 ghost use Rattle.std.specs.Prelude.{◌≡◌};
 
 use std::alloc::Alloc;
@@ -6,22 +6,23 @@ use std::env::{self, Env};
 use std::io::ErrorKind;
 use thiserror::Error;
 
-/// Why the words cannot be had.
+/// The reason why the words are not available.
 #[derive(Debug, PartialEq, Eq, Drop, Error)]
 pub enum ArgumentsError {
-    /// A word is no UTF-8 text.
+    /// A word is not UTF-8 text.
     #[error("arguments: not UTF-8")]
     NotText,
-    /// The system does not give them.
+    /// The system does not provide them.
     #[error("arguments: cannot be read")]
     Unread,
-    /// Memory was refused.
+    /// Allocation failed.
     #[error("memory")]
     Memory,
 }
 
-/// The status of a program without its words: 2 where a word is no text, as for other words that are no request, and
-/// else 1.
+/// Returns the exit status of a program that has no words.
+///
+/// It is 2 if a word is not UTF-8 text, as for other invalid words, and 1 otherwise.
 pub fn status_of(error: &ArgumentsError) -> u8
     ensures not_text { error.now ≡ ArgumentsError.NotText → result ≡ 2 }
     ensures unread { error.now ≡ ArgumentsError.Unread → result ≡ 1 }
@@ -33,7 +34,7 @@ pub fn status_of(error: &ArgumentsError) -> u8
     }
 }
 
-/// What an error of this kind says of the words.
+/// Returns the error that an I/O error of this kind means for the words.
 fn fault_of(kind: ErrorKind) -> ArgumentsError {
     match kind {
         ErrorKind::InvalidData => ArgumentsError::NotText,
@@ -42,7 +43,10 @@ fn fault_of(kind: ErrorKind) -> ArgumentsError {
     }
 }
 
-/// The words behind the program's name, in their order.
+/// Returns the words after the program's name, in their order.
+///
+/// Returns an error if a word is not UTF-8 text, the system does not provide the words, or
+/// allocation fails.
 pub fn arguments<R: Env + Alloc>(rt: &R) -> Result<Vec<String<R::A>, R::A>, ArgumentsError> {
     let all = match env::args(rt) {
         Ok(all) => all,

@@ -1,4 +1,4 @@
-//! The indexes that the program is given in files.
+//! The indexes that the program reads from files.
 ghost use Rattle.std.specs.Prelude.{◌≡◌, [], IfOk, OnOk, IsTrue, length};
 ghost use Rattle.legacy_index_files.specs.OwnedIndexes.{HoldsTexts};
 ghost use Rattle.legacy_command.specs.Words.{texts_of, are_indexes};
@@ -9,9 +9,12 @@ use crate::words::first_index;
 use legacy_index_files::{IndexFileError, OwnedIndexes, read_index};
 use std::alloc::Global;
 
-/// Reads the files of the indexes that the words name, which are INDEX and FILE any number of times, in their order.
-/// `files` has the contents of each FILE, in the same order, or `None` where it cannot be read; one that is missing
-/// counts as such.
+/// Reads the files of the indexes that the words name, in their order.
+///
+/// The words are INDEX and FILE any number of times. `files` has the contents of each FILE, in the
+/// same order, or `None` if it cannot be read. A missing entry counts as `None`.
+///
+/// Returns an error if a file cannot be read or has a bad line, or if allocation fails.
 pub fn read_files<'a>(
     alloc: Global,
     words: &[&'a str],

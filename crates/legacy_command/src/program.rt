@@ -1,33 +1,28 @@
-//! What the program does with its words, its files and its streams.
-ghost use Rattle.std.specs.Prelude.{◌≡◌, ◌↔◌, ◌≤◌, [], IfOk, OnOk, None, IsTrue};
-ghost use Rattle.legacy_base.specs.Grammar.{Grammar};
-ghost use Rattle.legacy_base.specs.States.{new_state};
+//! What the programs do with their words, their files and their streams.
+ghost use Rattle.std.specs.Prelude.{◌≡◌, ◌↔◌, ◌≤◌, [], IfOk, OnOk, None, Some, IsTrue};
 ghost use Rattle.legacy_command.specs.Words.{texts_of, are_indexes, plain_words, codec_of_words};
 ghost use Rattle.legacy_command.specs.IndexTexts.{contents_of, text_given, AreWellFormed};
-ghost use Rattle.legacy_command.specs.Program.{grammar_of, flat_of, RecodesInput, RecodesByTables};
+ghost use Rattle.legacy_command.specs.Program.{flat_of, RecodesInput, RecodesByTables};
 ghost use Rattle.legacy_command.specs.Program.{RecodesByTexts, RecodesByWords};
 
 use crate::given_indexes::read_files;
-use crate::words::{CodecWord, OutputKind, codec_in, output_asked, request};
-use legacy_codecs::{
-    Big5Decoder, EucJpDecoder, EucKrDecoder, Gb18030Decoder, Iso2022JpDecoder, RawDecoder,
-    ReplacementDecoder, ShiftJisDecoder, SingleByteDecoder, SingleByteTable, TableError, Tables,
-    UserDefinedDecoder, Utf16Decoder,
-};
-use legacy_index_files::OwnedIndexes;
+use crate::words::{OutputKind, codec_in, output_asked, request};
+use legacy_codecs::{RawDecoder, SingleByteTable, TableError, Tables};
+use legacy_encodings::AnyDecoder;
+use legacy_index_files::{CodecName, OwnedIndexes};
 use legacy_streams::recode::{RecodeError, recode};
 use legacy_streams::text::recode_text;
 use std::alloc::Global;
 use std::io::{Read, Write};
 use thiserror::Error;
 
-/// Why the program ends with status 1.
+/// The reason why the program ends with status 1.
 #[derive(Debug, PartialEq, Eq, Drop, Error)]
 pub enum Fault<'a> {
     /// The file cannot be read.
     #[error("{0}: cannot be read")]
     Unread(&'a str),
-    /// The line of the file, counted from 1, is not of the form, or its pointer or value is out of range.
+    /// The line of the file, counted from 1, is malformed or has a pointer or value out of range.
     #[error("{0}: line {1}")]
     Line(&'a str, usize),
     /// The indexes or the single-byte table are refused.
@@ -36,91 +31,45 @@ pub enum Fault<'a> {
     /// The input cannot be read, or the output cannot be written.
     #[error("{0}")]
     Recode(RecodeError),
-    /// Memory was refused.
+    /// Allocation failed.
     #[error("memory")]
     Memory,
 }
 
-/// Recodes the input by a decoder that has just been made.
-fn decode_from_start<D: RawDecoder + Drop, R: Read, W: Write>(
+/// Recodes the input by the decoder.
+fn recode_input<R: Read, W: Write>(
     kind: OutputKind,
-    mut decoder: D,
+    decoder: &mut AnyDecoder,
     input: &mut R,
     output: &mut W,
 ) -> Result<(), RecodeError>
-    ensures { (grammar : Grammar) → D.state decoder ≡ new_state grammar
-        → OnOk result (RecodesInput kind grammar
+    ensures { OnOk result (RecodesInput kind
+        (⟦<AnyDecoder<'static> as RawDecoder>⟧.state decoder.old)
         (R.remaining input.old) (R.remaining input.new)
         (W.contents output.old) (W.contents output.new)) }
 {
     match kind {
-        OutputKind::Lines => recode(&mut decoder, input, output),
-        OutputKind::Text => match recode_text(&mut decoder, input, output) {
+        OutputKind::Lines => recode(decoder, input, output),
+        OutputKind::Text => match recode_text(decoder, input, output) {
             Ok(_) => Ok(()),
             Err(fault) => Err(fault),
         },
     }
 }
 
-/// Recodes the input by the codec, from a decoder that has just been made.
-fn decode_by_codec<R: Read, W: Write>(
+/// Recodes the input by the decoder and flushes the output, also if the input cannot be read.
+fn recode_and_flush<R: Read, W: Write>(
     kind: OutputKind,
-    codec: CodecWord,
-    tables: &Tables,
-    single_byte: &SingleByteTable,
+    decoder: &mut AnyDecoder,
     input: &mut R,
     output: &mut W,
 ) -> Result<(), RecodeError>
     ensures { OnOk result (RecodesInput kind
-        (grammar_of codec tables.now.flat single_byte.now.entries)
+        (⟦<AnyDecoder<'static> as RawDecoder>⟧.state decoder.old)
         (R.remaining input.old) (R.remaining input.new)
         (W.contents output.old) (W.contents output.new)) }
 {
-    match codec {
-        CodecWord::UserDefined => decode_from_start(kind, UserDefinedDecoder::new(), input, output),
-        CodecWord::Replacement => decode_from_start(kind, ReplacementDecoder::new(), input, output),
-        CodecWord::SingleByte => decode_from_start(
-            kind,
-            SingleByteDecoder::new(single_byte),
-            input,
-            output,
-        ),
-        CodecWord::Utf16Le => decode_from_start(kind, Utf16Decoder::new(false), input, output),
-        CodecWord::Utf16Be => decode_from_start(kind, Utf16Decoder::new(true), input, output),
-        CodecWord::Big5 => decode_from_start(kind, Big5Decoder::new(tables), input, output),
-        CodecWord::EucKr => decode_from_start(kind, EucKrDecoder::new(tables), input, output),
-        CodecWord::ShiftJis => decode_from_start(kind, ShiftJisDecoder::new(tables), input, output),
-        CodecWord::EucJp => decode_from_start(kind, EucJpDecoder::new(tables), input, output),
-        CodecWord::Gb18030 | CodecWord::Gbk => decode_from_start(
-            kind,
-            Gb18030Decoder::new(tables),
-            input,
-            output,
-        ),
-        CodecWord::Iso2022Jp => decode_from_start(
-            kind,
-            Iso2022JpDecoder::new(tables),
-            input,
-            output,
-        ),
-    }
-}
-
-/// Recodes the input by the codec and flushes the output, also where the input could not be read.
-fn decode_and_flush<R: Read, W: Write>(
-    kind: OutputKind,
-    codec: CodecWord,
-    tables: &Tables,
-    single_byte: &SingleByteTable,
-    input: &mut R,
-    output: &mut W,
-) -> Result<(), RecodeError>
-    ensures { OnOk result (RecodesInput kind
-        (grammar_of codec tables.now.flat single_byte.now.entries)
-        (R.remaining input.old) (R.remaining input.new)
-        (W.contents output.old) (W.contents output.new)) }
-{
-    let recoded = decode_by_codec(kind, codec, tables, single_byte, input, output);
+    let recoded = recode_input(kind, decoder, input, output);
     let flushed = output.flush();
     recoded?;
     match flushed {
@@ -129,21 +78,36 @@ fn decode_and_flush<R: Read, W: Write>(
     }
 }
 
-/// The tables of the indexes, of which none is the katakana index, or the first fault.
-fn tables_of(indexes: &OwnedIndexes) -> Result<Tables<'_>, TableError>
+/// Index data that passed the check.
+#[derive(Drop)]
+pub(crate) struct CheckedIndexes<'a> {
+    pub(crate) tables: Tables<'a>,
+    pub(crate) single_byte: SingleByteTable,
+}
+
+/// Checks the indexes, of which none is the katakana index.
+pub(crate) fn check<'a, 'b>(indexes: &'a OwnedIndexes) -> Result<CheckedIndexes<'a>, Fault<'b>>
     requires { indexes.now.katakana.items ≡ [] }
-    ensures { IfOk result (λ tables. tables.flat ≡ flat_of indexes.now) }
+    ensures { IfOk result (λ checked. (checked.tables.flat ≡ flat_of indexes.now)
+        × (checked.single_byte.entries ≡ indexes.now.single_byte)) }
 {
-    match indexes.tables() {
-        Ok(tables) => Ok(tables),
-        Err(fault) => Err(fault),
+    let tables = match indexes.tables() {
+        Ok(tables) => tables,
+        Err(fault) => return Err(Fault::Tables(fault)),
+    };
+    match indexes.single_byte_table() {
+        Ok(single_byte) => Ok(CheckedIndexes {
+            tables,
+            single_byte,
+        }),
+        Err(fault) => Err(Fault::Tables(fault)),
     }
 }
 
 /// Checks the indexes, and recodes the input by the codec.
-fn check_and_decode<'a, R: Read, W: Write>(
+fn check_and_recode<'a, R: Read, W: Write>(
     kind: OutputKind,
-    codec: CodecWord,
+    codec: CodecName,
     indexes: &OwnedIndexes,
     input: &mut R,
     output: &mut W,
@@ -153,25 +117,22 @@ fn check_and_decode<'a, R: Read, W: Write>(
         (R.remaining input.old) (R.remaining input.new)
         (W.contents output.old) (W.contents output.new)) }
 {
-    let tables = match tables_of(indexes) {
-        Ok(tables) => tables,
-        Err(fault) => return Err(Fault::Tables(fault)),
+    let checked = check(indexes)?;
+    let Some(mut decoder) = AnyDecoder::new(codec, &checked.tables, Some(&checked.single_byte))
+    else {
+        unreachable!()
     };
-    let single_byte = match indexes.single_byte_table() {
-        Ok(table) => table,
-        Err(fault) => return Err(Fault::Tables(fault)),
-    };
-    match decode_and_flush(kind, codec, &tables, &single_byte, input, output) {
+    match recode_and_flush(kind, &mut decoder, input, output) {
         Ok(()) => Ok(()),
         Err(fault) => Err(Fault::Recode(fault)),
     }
 }
 
 /// Reads the files of the indexes that the words name, checks them, and recodes the input by the codec.
-fn read_and_decode<'a, R: Read, W: Write>(
+fn read_and_recode<'a, R: Read, W: Write>(
     alloc: Global,
     kind: OutputKind,
-    codec: CodecWord,
+    codec: CodecName,
     indexes: &[&'a str],
     files: &[Option<&[u8]>],
     input: &mut R,
@@ -186,24 +147,27 @@ fn read_and_decode<'a, R: Read, W: Write>(
         (W.contents output.old) (W.contents output.new)) }
 {
     let indexes = read_files(alloc, indexes, files)?;
-    check_and_decode(kind, codec, &indexes, input, output)
+    check_and_recode(kind, codec, &indexes, input, output)
 }
 
-/// Runs the program on its words, which are without its name, and answers its status.
+/// Runs the program on its words, without the program's name, and returns its status.
 ///
-/// The words are CODEC, and then INDEX and FILE any number of times, no INDEX twice; `--text` may stand before them.
-/// `files` has the contents of each FILE, in the same order, or `None` where it cannot be read; one that is missing
-/// counts as such. The words are checked first, then the files in their order, then the indexes, and then the input is
-/// recoded: each event of it is a line of the output, or with `--text` the output is the text in UTF-8, with U+FFFD for
-/// each malformed sequence. The output is flushed at the end.
+/// The words are CODEC, and then INDEX and FILE any number of times, no INDEX twice. `--text` may
+/// come before them. `files` has the contents of each FILE, in the same order, or `None` if it
+/// cannot be read. A missing entry counts as `None`.
 ///
-/// - 0: each file was read and has no malformed line, and all events were written, or the whole text, with U+FFFD in it
-///   or without.
-/// - 2: the words are not of that form; nothing is read.
-/// - 1: a file cannot be read or has a bad line, an index is refused, the input cannot be read, the output cannot be
-///   written or flushed, or memory was refused. What was written before stands.
+/// The program checks the words first, then the files in their order, then the indexes. Then it
+/// recodes the input: the output is a line for each event. With `--text` the output is the text in
+/// UTF-8, with U+FFFD for each malformed sequence. The output is flushed at the end.
 ///
-/// With 1 and 2 a line on `errors` says why. That it cannot be written does not change the status.
+/// - 0: each file was read and has no malformed line, and all events or the whole text were
+///   written. Malformed sequences in the input do not change the status.
+/// - 2: the words do not have that form; nothing is read.
+/// - 1: a file cannot be read or has a bad line; an index is refused; the input cannot be read; the
+///   output cannot be written or flushed; or allocation failed. What was written before remains.
+///
+/// With 1 and 2 a line on `errors` gives the reason. If it cannot be written, the status is the
+/// same.
 pub fn run<R: Read, W: Write, E: Write>(
     alloc: Global,
     words: &[&str],
@@ -226,7 +190,7 @@ pub fn run<R: Read, W: Write, E: Write>(
         let _ = errors.write_all(b"usage: legacy_recode [--text] CODEC [INDEX FILE]...\n");
         return 2;
     };
-    match read_and_decode(alloc, kind, codec, &plain[1..], files, input, output) {
+    match read_and_recode(alloc, kind, codec, &plain[1..], files, input, output) {
         Ok(()) => 0,
         Err(fault) => {
             let _ = writeln!(errors, "{fault}");

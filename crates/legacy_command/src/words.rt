@@ -1,40 +1,11 @@
-//! The words of the program's command line: perhaps `--text`, then CODEC, and then INDEX and FILE any number of times.
+//! The words of the command line: optionally `--text`, CODEC, and any number of INDEX and FILE.
 ghost use Rattle.std.specs.Prelude.{◌≡◌, length};
 ghost use Rattle.legacy_command.specs.Words.{texts_of, wants_text, output_kind, plain_words, codec_named};
 ghost use Rattle.legacy_command.specs.Words.{index_named, first_index_named, stands_among, are_indexes, codec_of_words};
 
-use legacy_index_files::FileIndex;
+use legacy_index_files::{CodecName, FileIndex};
 
-/// A codec that the program knows by a word.
-#[derive(Clone, Copy, Debug, PartialEq, Eq)]
-pub enum CodecWord {
-    /// `x-user-defined`
-    UserDefined,
-    /// `replacement`
-    Replacement,
-    /// `single-byte`
-    SingleByte,
-    /// `utf-16le`
-    Utf16Le,
-    /// `utf-16be`
-    Utf16Be,
-    /// `big5`
-    Big5,
-    /// `euc-kr`
-    EucKr,
-    /// `shift_jis`
-    ShiftJis,
-    /// `euc-jp`
-    EucJp,
-    /// `gb18030`
-    Gb18030,
-    /// `gbk`, which is decoded as GB18030 is.
-    Gbk,
-    /// `iso-2022-jp`
-    Iso2022Jp,
-}
-
-/// What the program writes.
+/// The kind of output.
 #[derive(Clone, Copy, Debug, PartialEq, Eq)]
 pub enum OutputKind {
     /// A line for each event.
@@ -43,7 +14,7 @@ pub enum OutputKind {
     Text,
 }
 
-/// Whether the first word is `--text`.
+/// Returns whether the first word is `--text`.
 fn is_text_wanted(words: &[&str]) -> bool
     ensures { result ≡ wants_text (texts_of words.now) }
 {
@@ -53,7 +24,7 @@ fn is_text_wanted(words: &[&str]) -> bool
     }
 }
 
-/// What the words ask the program to write: the text where the first one is `--text`, and else lines.
+/// Returns the kind of output: the text if the first word is `--text`, and lines otherwise.
 pub fn output_asked(words: &[&str]) -> OutputKind
     ensures { result ≡ output_kind (texts_of words.now) }
 {
@@ -64,7 +35,7 @@ pub fn output_asked(words: &[&str]) -> OutputKind
     }
 }
 
-/// The words behind `--text` where the first one is that, and else all words.
+/// Returns the words without a leading `--text`.
 pub fn request<'a, 'b>(words: &'a [&'b str]) -> &'a [&'b str]
     ensures { texts_of result.now ≡ plain_words (texts_of words.now) }
 {
@@ -75,27 +46,27 @@ pub fn request<'a, 'b>(words: &'a [&'b str]) -> &'a [&'b str]
 }
 
 /// The codec that a word names.
-fn codec_of(word: &str) -> Option<CodecWord>
+fn codec_of(word: &str) -> Option<CodecName>
     ensures { result ≡ codec_named word.now }
 {
     match word {
-        "x-user-defined" => Some(CodecWord::UserDefined),
-        "replacement" => Some(CodecWord::Replacement),
-        "single-byte" => Some(CodecWord::SingleByte),
-        "utf-16le" => Some(CodecWord::Utf16Le),
-        "utf-16be" => Some(CodecWord::Utf16Be),
-        "big5" => Some(CodecWord::Big5),
-        "euc-kr" => Some(CodecWord::EucKr),
-        "shift_jis" => Some(CodecWord::ShiftJis),
-        "euc-jp" => Some(CodecWord::EucJp),
-        "gb18030" => Some(CodecWord::Gb18030),
-        "gbk" => Some(CodecWord::Gbk),
-        "iso-2022-jp" => Some(CodecWord::Iso2022Jp),
+        "x-user-defined" => Some(CodecName::UserDefined),
+        "replacement" => Some(CodecName::Replacement),
+        "single-byte" => Some(CodecName::SingleByte),
+        "utf-16le" => Some(CodecName::Utf16Le),
+        "utf-16be" => Some(CodecName::Utf16Be),
+        "big5" => Some(CodecName::Big5),
+        "euc-kr" => Some(CodecName::EucKr),
+        "shift_jis" => Some(CodecName::ShiftJis),
+        "euc-jp" => Some(CodecName::EucJp),
+        "gb18030" => Some(CodecName::Gb18030),
+        "gbk" => Some(CodecName::Gbk),
+        "iso-2022-jp" => Some(CodecName::Iso2022Jp),
         _ => None,
     }
 }
 
-/// The index that a word names.
+/// Returns the index that a word names, or `None`.
 fn index_of(word: &str) -> Option<FileIndex>
     ensures { result ≡ index_named word.now }
 {
@@ -111,7 +82,7 @@ fn index_of(word: &str) -> Option<FileIndex>
     }
 }
 
-/// The index that the first word names.
+/// Returns the index that the first word names, or `None`.
 pub fn first_index(words: &[&str]) -> Option<FileIndex>
     ensures { result ≡ first_index_named (texts_of words.now) }
 {
@@ -121,7 +92,7 @@ pub fn first_index(words: &[&str]) -> Option<FileIndex>
     }
 }
 
-/// Whether the word stands among the words at the places 0, 2, 4 and so on.
+/// Returns whether the word is one of the words at the places 0, 2, 4 and so on.
 fn is_index_again(word: &str, words: &[&str]) -> bool
     ensures { result ≡ stands_among word.now (texts_of words.now) }
 {
@@ -131,7 +102,7 @@ fn is_index_again(word: &str, words: &[&str]) -> bool
     }
 }
 
-/// Whether the words are INDEX and FILE any number of times, with no INDEX twice.
+/// Returns whether the words are INDEX and FILE any number of times, with no INDEX twice.
 fn is_indexes(words: &[&str]) -> bool
     ensures { result ≡ are_indexes (texts_of words.now) }
 {
@@ -147,7 +118,7 @@ fn is_indexes(words: &[&str]) -> bool
 /// The codec of the program's words, which are without the program's name and without `--text`. `None` where they are
 /// not a word of a codec, and then INDEX and FILE any number of times, each a word of an index that stands once and any
 /// word.
-pub fn codec_in(words: &[&str]) -> Option<CodecWord>
+pub fn codec_in(words: &[&str]) -> Option<CodecName>
     ensures { result ≡ codec_of_words (texts_of words.now) }
 {
     let [codec, indexes @ ..] = words else {

@@ -1,4 +1,4 @@
--- A run of common forms within a call that is under way.
+-- A run of common sequences within a call in progress.
 use Rattle.std.proofs.Common.{◌≡◌, ◌∙◌, ℕ, suc, ◌+◌, ◌-◌, ◌≤◌, List, [], ◌∷◌, ◌++◌, length, map, take, drop, refl, sym, ap, subst, arith, append_assoc, append-nil, length-append, length-drop}
 use Rattle.std.proofs.Common.{Bool, false, Some, None, Option, inl, inr}
 use Rattle.std.proofs.lemmas.List.{length-map, map-append, take-append-drop, length-take-le, drop-drop, take_all}
@@ -29,7 +29,7 @@ wide_most : (form : EncodingForm) → wide_room form ≤ 4
 wide_most Utf8 = omega arith
 wide_most Utf16 = omega arith
 
--- scalars that leave three code units free were written with all the room that any act wants
+-- scalars that leave three free code units were written with the full room of any act
 pub ample : (form : EncodingForm) (g : Grammar) (previous : Option ℕ) (free : ℕ) (cs : List ℕ) → total_unit_count form cs + 3 ≤ free → HadRoom form g previous free cs
 unfolding HadRoom
 ample form g previous free [] h = tt
@@ -44,7 +44,7 @@ ample form g previous free (c ∷ cs) h =
 pub never_lacks : (form : EncodingForm) (s : DecoderState) (source : List ℕ) (last : Bool) (free : ℕ) → 4 ≤ free → LacksRoom form s source last free → ⊥
 never_lacks form s source last free h l = let m = lacks_small form s source last free l in let w = wide_most form in omega arith
 
--- the state holds nothing back, and reads a run, behind which nothing is held back
+-- the state holds nothing back, reads a run, and holds nothing back after it
 run_progress : (now next : DecoderState) (source : List ℕ) (read r : ℕ) (ds : List ℕ) → r ≤ length (drop read source) → now.held ≡ [] → next.held ≡ []
     → RunsTo now.grammar next.grammar (take r (drop read source)) ds
     → Progress false now (drop read source) r next (drop (read + r) source) (map Scalar ds)
@@ -67,7 +67,7 @@ run_progress now next source read r ds h e f runs =
 pub with_empty : (s : DecoderState) → s.held ≡ [] → s ≡ new_state s.grammar
 with_empty s e = ap (λ h. record { grammar = s.grammar; held = h }) e
 
--- a call under way that reads a run
+-- a call in progress that reads a run
 going_run : (form : EncodingForm) (before : DecoderState) (source : List ℕ) (last : Bool) (free : ℕ) (now next : DecoderState) (read : ℕ) (scalars : List ℕ) (r : ℕ) (ds : List ℕ)
     → (going : Going form before source last free now read scalars) → r ≤ length (drop read source) → now.held ≡ [] → next.held ≡ [] → SameRooms now.grammar next.grammar
     → RunsTo now.grammar next.grammar (take r (drop read source)) ds
@@ -104,7 +104,7 @@ going_run form before source last free now next read scalars r ds going h e f sa
           omega (arith, total_unit_count-append form scalars ds);
     }
 
--- a run of no bytes gives nothing
+-- a shift does not change the number of events
 length-shift : (k : ℕ) (es : List DecodeEvent) → length (shift k es) ≡ length es
 length-shift k [] = refl
 length-shift k (x ∷ es) = ap suc (length-shift k es)
@@ -125,7 +125,7 @@ module _ {D : Type 0} {T : Ghosts D} where
       let none : RunsTo before.grammar after.grammar [] ds = subst (λ n. RunsTo before.grammar after.grammar (take n source) ds) e reads.writes.runs in
       runs_nothing before.grammar ds (subst (λ s. RunsTo before.grammar s.grammar [] ds) (reads.stays e) none)
 
-  -- a call under way, once forms were read ahead
+  -- a call in progress, after sequences were read ahead
   pub ahead_going : (before : DecoderState) (source : List ℕ) (last : Bool) (now next : DecoderState) (read : ℕ) (scalars : List ℕ) (r : ℕ) (first old new : D)
       → Going T.form before source last (T.room first) now read scalars → T.contents old ≡ T.contents first ++ all_code_units T.form scalars
       → T.room old + total_unit_count T.form scalars ≡ T.room first
@@ -155,7 +155,7 @@ module _ {D : Type 0} {T : Ghosts D} where
         omega (arith, total_unit_count-append T.form scalars ds, reads.writes.room, room),
       )
 
-  -- a call under way, once forms were read ahead and bytes behind them are held back
+  -- a call in progress, after sequences were read ahead and the bytes after them were held back
   pub front_going : (before : DecoderState) (source : List ℕ) (last : Bool) (now mid next : DecoderState) (read : ℕ) (scalars : List ℕ) (r h : ℕ) (first old new : D)
       → Going T.form before source last (T.room first) now read scalars → T.contents old ≡ T.contents first ++ all_code_units T.form scalars
       → T.room old + total_unit_count T.form scalars ≡ T.room first

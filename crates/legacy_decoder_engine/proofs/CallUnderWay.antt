@@ -1,4 +1,4 @@
--- How the moves of a decoder make a call.
+-- The moves of a decoder make a call.
 use Rattle.std.proofs.Common.{◌≡◌, ◌≢◌, ◌∙◌, ℕ, zero, suc, ◌+◌, ◌-◌, ◌≤◌, ◌<◌, List, [], ◌∷◌, ◌++◌, length, map, get_or, take, drop, refl, sym, ap, subst, arith, length-append, length-drop, drop-cons}
 use Rattle.std.proofs.Common.{add-zero, add-one, append-nil, Bool, true, false, IsTrue, Some, None, Option, ◌⊎◌, inl, inr, All}
 use Rattle.std.proofs.lemmas.List.{map-append}
@@ -26,7 +26,7 @@ use Rattle.legacy_decoder_engine.specs.declared.moves.Fed.{Fed}
 use Rattle.legacy_decoder_engine.specs.declared.moves.Fed.TheVariants.{Nothing, One, Two, Fault}
 use Rattle.legacy_decoder_engine.specs.Moves.{SameRooms, Feeds, Releases, Reports, Finishes, IsCovered, read_room, fed_scalars, fed_fault, fed_units, unread_byte, FedHolds, IsFaulty, HoldsBytes}
 
--- A call under way: the decoder is in the state `now`, it has read so many bytes and written these scalars.
+-- A call in progress: the decoder is in the state `now`, has read `read` bytes and has written the scalars.
 pub record Going (form : EncodingForm) (before : DecoderState) (source : List ℕ) (last : Bool) (free : ℕ) (now : DecoderState) (read : ℕ) (scalars : List ℕ) : Type 0 where
   pub within : read ≤ length source
   pub passed : ℕ
@@ -123,11 +123,11 @@ module _ (form : EncodingForm) (before : DecoderState) (source : List ℕ) (last
   }
 
   module _ (now : DecoderState) (read : ℕ) (scalars : List ℕ) (going : Going form before source last free now read scalars) where
-    -- what lacked room at once lacks it still
+    -- an output without room for the first act still lacks room
     still : LacksRoom form before source last free → LacksRoom form now (drop read source) last (free - total_unit_count form scalars)
     still l = let e = going.once l in rw (e.0, e.1, e.2, sub-zero free) l
 
-    -- the room that lengths promise is there
+    -- an output of the length that a query returns has enough room
     covered_full : IsCovered now → LacksRoom form now (drop read source) last (free - total_unit_count form scalars) →
         (query : LengthQuery) → query_form query ≡ form → room query before (length source) ≤ free → ⊥
     covered_full c l query e enough =
@@ -159,7 +159,7 @@ module _ (form : EncodingForm) (before : DecoderState) (source : List ℕ) (last
       enough = λ query e n k le answered most x. covered_full c l query e (let r = room-answer query before (length source) n k le answered in omega arith);
     }
 
-    -- the act has room, so it didn't lack room at once
+    -- the act has room, so the first act did not lack room
     not_once : {n : ℕ} → room_needed form now (drop read source) last ≡ n → n ≤ free - total_unit_count form scalars → LacksRoom form before source last free → ⊥
     not_once {n} e h l = let s = still l in omega arith
 
@@ -170,7 +170,7 @@ module _ (form : EncodingForm) (before : DecoderState) (source : List ℕ) (last
     needs_byte : (byte : ℕ) → read < length source → get_or source read 0 ≡ byte → room_needed form now (drop read source) last ≡ read_room form now byte
     needs_byte byte h e = rw (next_byte byte h e) (room_needed-read form now byte (drop (read + 1) source) last going.resting)
 
-    -- reading a byte, with what it led to
+    -- the progress after a byte was read
     joined : (byte : ℕ) (next : DecoderState) (fed : Fed) → read < length source → get_or source read 0 ≡ byte → (f : Feeds now byte next fed) →
         Progress false before source (going.passed + f.passed) next (unread_byte byte fed ++ drop (read + 1) source)
         (map Scalar scalars ++ shift going.passed (map Scalar (fed_scalars fed) ++ fed_fault f.passed fed))
@@ -181,7 +181,7 @@ module _ (form : EncodingForm) (before : DecoderState) (source : List ℕ) (last
         (subst (λ l. Progress false now l f.passed next (unread_byte byte fed ++ drop (read + 1) source) (map Scalar (fed_scalars fed) ++ fed_fault f.passed fed)) (sym (next_byte byte h e))
         (behind now (byte ∷ []) f.passed next (unread_byte byte fed) (map Scalar (fed_scalars fed) ++ fed_fault f.passed fed) (drop (read + 1) source) f.progress))
 
-    -- the room that is still needed, behind a byte
+    -- the room still needed after a byte
     lowered : (byte : ℕ) (next : DecoderState) (fed : Fed) → read < length source → get_or source read 0 ≡ byte → Feeds now byte next fed → (query : LengthQuery) → query_form query ≡ form →
         (more : ℕ) →
         room query next ((length (drop (read + 1) source) + more) + length (unread_byte byte fed)) + (total_unit_count form (fed_scalars fed) + fed_units query fed) + total_unit_count form scalars ≤
@@ -289,7 +289,7 @@ module _ (form : EncodingForm) (before : DecoderState) (source : List ℕ) (last
         DecoderCall form before source last free now OutputFull read scalars
     call_full_read c byte h e lacks = call_full c (rw (needs_byte byte h e) lacks)
 
-    -- all is read, and nothing is left to report
+    -- all bytes are read, and there is nothing to report
     pub call_done : read ≡ length source → (IsTrue last → events_of now.grammar now.held ≡ []) → DecoderCall form before source last free now InputEmpty read scalars
     call_done all none =
         let nothing_left : drop read source ≡ [] = drop_of_length-le source (omega arith) in
@@ -317,12 +317,12 @@ module _ (form : EncodingForm) (before : DecoderState) (source : List ℕ) (last
         let nothing_left : drop read source ≡ [] = drop_of_length-le source (omega arith) in
         rw (nothing_left, end) (room_needed-report form now going.resting some)
 
-    -- what is left at the last end lacks the room for its report
+    -- the report at the end of input lacks its room
     pub call_full_report : IsCovered now → read ≡ length source → last ≡ true → events_of now.grammar now.held ≢ [] → free - total_unit_count form scalars < release_room_in form now.grammar →
         DecoderCall form before source last free now OutputFull read scalars
     call_full_report c all end some lacks = call_full c (rw (needs_report all end some) lacks)
 
-    -- what is left at the last end is reported
+    -- the held-back bytes are reported at the end of input
     pub call_report : (next : DecoderState) (a b : ℕ) → read ≡ length source → last ≡ true → events_of now.grammar now.held ≢ [] → release_room_in form now.grammar ≤
         free - total_unit_count form scalars → Reports now next a b →
         DecoderCall form before source last free next (Malformed a b) read scalars
@@ -361,14 +361,14 @@ module _ (form : EncodingForm) (before : DecoderState) (source : List ℕ) (last
           enough = λ query q n k le answered most x. cc;
         }
 
-    -- the call ends behind its input
+    -- the call ends after its input
     pub call_finish : (next : DecoderState) (answer : DecoderResult) (left : ℕ) → read ≡ length source → left + total_unit_count form scalars ≡ free → Finishes form now last left next answer →
         DecoderCall form before source last free next answer read scalars
     call_finish next InputEmpty left all e f = rw f.0 (call_done all f.1)
     call_finish next OutputFull left all e f = rw f.0 (call_full_report f.4 all f.1 f.2 (omega (arith, f.3)))
     call_finish next (Malformed a b) left all e f = call_report next a b all f.0 f.1 (omega (arith, f.2)) f.3
 
-  -- the scalar that is held back lacks its room
+  -- the held-back scalar lacks its room
   pub call_full_release : IsCovered before → may_hold before.grammar before.held ≡ true → rests before.grammar before.held ≡ false → free < release_room_in form before.grammar →
       DecoderCall form before source last free before OutputFull 0 []
   unfolding HadRoom
@@ -401,7 +401,7 @@ pub holds_none : (form : EncodingForm) (free : ℕ) (state : DecoderState) → H
 unfolding HoldsBytes
 holds_none form free state = refl
 
--- a call under way whose decoder holds bytes back
+-- a call in progress whose decoder holds bytes back
 pub held_going : (form : EncodingForm) (before : DecoderState) (source : List ℕ) (last : Bool) (free : ℕ) (now : DecoderState) (read : ℕ) (scalars : List ℕ)
     → Going form before source last free now read scalars → (left : ℕ) → left + total_unit_count form scalars ≡ free → (next : DecoderState) (n : ℕ) → n ≤ length (drop read source)
     → HoldsBytes form left now (take n (drop read source)) next → Going form before source last free next (read + n) scalars

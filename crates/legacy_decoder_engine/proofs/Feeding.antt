@@ -1,4 +1,4 @@
--- The moves of a machine that meets its grammar and keeps its rooms are the moves that the loop asks for.
+-- A machine that agrees with its grammar and keeps its rooms makes the moves that the loop requires.
 use Rattle.std.proofs.Common.{◌≡◌, ◌≢◌, ◌∙◌, ℕ, suc, zero-add, add-zero, ◌+◌, ◌-◌, ◌≤◌, List, [], ◌∷◌, ◌++◌, length, drop, refl, sym, ap, subst, arith, append-nil, length-append, length-drop}
 use Rattle.std.proofs.Common.{drop_of_length-le, Bool, true, false, not, ◌&&◌, ◌||◌, IsTrue, Option, Some, None, inl, inr, All}
 use Rattle.std.proofs.lemmas.List.{drop-append-le, nil_from_length}
@@ -29,12 +29,12 @@ use Rattle.legacy_decoder_engine.proofs.RoomMoves.{all_needs}
 
 -- ---- rooms of all three queries
 
--- the units of scalars, counted one by one
+-- the code units of scalars, counted one by one
 pub units-total : (form : EncodingForm) (cs : List ℕ) → units (unit_count form) cs ≡ total_unit_count form cs
 units-total form [] = refl
 units-total form (c ∷ cs) = let e = units-total form cs in omega (arith, length-append (code_units form c) (all_code_units form cs))
 
--- an encoding form has a query
+-- the length query of an encoding form
 query_of : EncodingForm → LengthQuery
 query_of Utf8 = to_utf8
 query_of Utf16 = to_utf16
@@ -52,7 +52,7 @@ writes_form Utf16 shown held n c m r bytes e = let w = (shown.rooms to_utf16).wr
 
 -- ---- what a step is
 
--- a form gives no scalar, one, or a letter and its mark
+-- a sequence gives no scalar, one scalar, or a letter and its mark
 sound_form : (g : Grammar) (cs : List ℕ) → IsOneOrMarked (has_marks g) cs →
     (fed_scalars (fed_form cs) ≡ cs) × (fed_fault 0 (fed_form cs) ≡ []) × ((query : LengthQuery) → fed_units query (fed_form cs) ≡ 0) × ((byte : ℕ) → unread_byte byte (fed_form cs) ≡ [])
 sound_form g (c ∷ d ∷ e ∷ cs) h = absurd h
@@ -72,7 +72,7 @@ form_holds passed after cs h = h
 
 -- ---- the room that the scalars of a step had
 
--- a scalar that is ASCII, where that is short, wants no more
+-- an ASCII scalar needs no more room if ASCII needs one code unit
 short_wants : (short marks mark : Bool) (want : ℕ) (free : ℕ) → short ≡ true → IsTrue (not (short || (marks && mark))) → want ≤ free
 short_wants true marks mark want free e w = absurd (false≢true w)
 short_wants false marks mark want free e w = absurd (false≢true e)
@@ -119,7 +119,7 @@ module _ {g : Grammar} {m : DecoderMachine} (shown : IsShown g m) (held : List �
     to : Grammar
     to = m.to held b
 
-    -- the step at the byte, with what is known of it
+    -- the step at the byte, with the facts about it
     record Known (s : Step) : Type 0 where
       pub is : m.step held b ≡ s
       pub meets : StepMeets g held b s (m.to held b)
@@ -139,7 +139,7 @@ module _ {g : Grammar} {m : DecoderMachine} (shown : IsShown g m) (held : List �
         room query (state_of (m.to held b) (step_held s held b)) (n + step_left s) + step_units (unit_count (query_form query)) (replacement_units query) s ≤ room query (state_of g held) (n + 1)
     pays_step query n s e = rw (← e) ((shown.rooms query).step_pays held b n may resting bytes byte)
 
-    -- a step that is no scalar of its own byte had the full room
+    -- there was full room before a step, unless the byte is its own scalar
     usual_step : (form : EncodingForm) (s : Step) → m.step held b ≡ s → (s ≡ finish (reads 1 (b ∷ [])) → ⊥) → has_reported g ≡ false → full_room_in form g ≤ read_room form (state_of g held) b
     usual_step form s e ne reported = elim (short_or_usual (bmp_room form) (wide_room form) g m shown held b reported) [
       | inl h ↦ h
@@ -224,7 +224,7 @@ module _ {g : Grammar} {m : DecoderMachine} (shown : IsShown g m) (held : List �
           lowers = λ query m. rw (zero-add (replacement_units query)) (pays_step query m (leave n) (k.is));
         }
 
-    -- the form was read, and all its scalars are scalars
+    -- the scalars of a sequence are those that the step returns
     scalars_are : (cs : List ℕ) → IsOneOrMarked (has_marks (m.to held b)) cs → fed_scalars (fed_form cs) ≡ cs
     scalars_are cs one = (sound_form (m.to held b) cs one).0
 
@@ -281,7 +281,7 @@ module _ {g : Grammar} {m : DecoderMachine} (shown : IsShown g m) (held : List �
               rw (same, sound.2 query, sound.3 b, add-zero (total_unit_count (query_form query) cs)) p';
         }
 
-    -- the step at the byte, whatever it is
+    -- any step at the byte is a move
     step_feeds : (s : Step) → Known s → All IsScalar (fed_scalars (fed_of s held b)) → Feeds (state_of g held) b (state_of (m.to held b) (step_held s held b)) (fed_of s held b)
     step_feeds hold k scalar = hold_feeds k
     step_feeds (finish (reads n cs)) k scalar = reads_feeds n cs k scalar
@@ -295,7 +295,7 @@ module _ {g : Grammar} {m : DecoderMachine} (shown : IsShown g m) (held : List �
         let scalar' = rw (took.answer) at scalar in
         rw (took.answer, took.holds) (step_feeds (m.step held b) known scalar')
 
-  -- a scalar that is held back is written
+  -- the held-back scalar is written
   pub releases : (n c : ℕ) → rests g held ≡ false → m.pending held ≡ Some (n, c) → IsScalar c → Releases (state_of g held) (state_of g (drop n held)) c
   releases n c r e scalar =
       let w = shown.meets.writes held may in
@@ -317,7 +317,7 @@ module _ {g : Grammar} {m : DecoderMachine} (shown : IsShown g m) (held : List �
         lowers = λ query m. let p = (shown.rooms query).write_pays held may r bytes in let p' = rw e at p in p'.1 m;
       }
 
-  -- at the end of input all that is held back is reported
+  -- at the end of input all held-back bytes are reported
   pub reports_all : rests g held ≡ true → held ≢ [] → Reports (state_of g held) (state_of g []) (length held) 0
   reports_all r some = by_held held may r some refl where
     by_held : (l : List ℕ) → may_hold g l ≡ true → rests g l ≡ true → l ≢ [] → l ≡ held → Reports (state_of g l) (state_of g []) (length l) 0
@@ -342,7 +342,7 @@ module _ {g : Grammar} {m : DecoderMachine} (shown : IsShown g m) (held : List �
           lowers = λ query. (shown.rooms query).report_pays x xs m r';
         }
 
-  -- at the end of input there is something to report exactly where bytes are held back
+  -- at the end of input there is nothing to report if no bytes are held back
   pub ends_none : rests g held ≡ true → held ≡ [] → events_of g held ≡ []
   ends_none r e = shown.meets.ends held may r ∙ rw e refl
 
@@ -355,14 +355,14 @@ module _ {g : Grammar} {m : DecoderMachine} (shown : IsShown g m) (held : List �
     by_held [] n e = n refl
     by_held (x ∷ xs) n e = cc
 
-  -- also where a scalar is still to be written
+  -- there is something to report if bytes are held back, even if a scalar is still to be written
   pub ends_held : held ≢ [] → events_of g held ≢ []
   ends_held n = by_pending (m.pending held) (shown.meets.writes held may) where
     by_pending : (p : Option (ℕ × ℕ)) → PendingMeets g held p → events_of g held ≢ []
     by_pending None r = ends_some r n
     by_pending (Some (k, c)) w = λ e. let first = w.1.goes_on [] in let all = ap (events_of g) (append-nil held) in cc
 
--- a byte that the machine calls malformed by itself, where nothing is held back
+-- a byte that is malformed by itself in the machine, if nothing is held back
 pub lone : {g : Grammar} {m : DecoderMachine} → IsShown g m → (b : ℕ) → m.step [] b ≡ finish (malformed 1) → m.to [] b ≡ g → IsLoneFault (state_of g []) b
 lone shown b e t =
     let s = shown.meets.steps [] b (may_none _) (rests-none _) in

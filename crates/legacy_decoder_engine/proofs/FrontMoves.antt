@@ -1,4 +1,4 @@
--- From the front of a list to what one move of a decoder does, for every continuation.
+-- The front of a list gives the move of a decoder, for every continuation.
 use Rattle.std.proofs.Common.{◌≡◌, ℕ, suc, ◌+◌, ◌<◌, ◌≤◌, List, [], ◌∷◌, ◌++◌, drop, length, Bool, true, false, cond, ◌-◌, refl, sym, ap, ◌∙◌, append_assoc, length-append, length-drop}
 use Rattle.std.proofs.Common.{drop_of_length-le, le_refl, arith, subst}
 use Rattle.std.proofs.Math.Seq.{drop-length, drop-append_seam}
@@ -20,20 +20,20 @@ abbrev pub HasFront : (ℕ → List ℕ → Front) → List ℕ → Front → Ty
 HasFront front [] f = ⊥
 HasFront front (b ∷ rest) f = front b rest ≡ f
 
--- the front, and then what is behind it
+-- the events of the front, and then those of the bytes after it
 pub front_move : (front : ℕ → List ℕ → Front) (bytes behind : List ℕ) (f : Front) → HasFront front bytes f → 0 < front_length f → drop (front_length f) bytes ≡ behind →
     cut front 0 0 bytes ≡ front_events 0 f ++ shift (front_length f) (cut front 0 0 behind)
 front_move front [] behind f h pos e = absurd h
 front_move front (b ∷ rest) behind f h pos e = rw (← e, ← h) (cut-front front b rest (rw h pos))
 
--- what a codec shows of a step: its front is the same for every continuation
+-- the front of a step is the same for every continuation
 abbrev pub Fits : (ℕ → List ℕ → Front) → (List ℕ → Bool) → List ℕ → ℕ → Step → Type 0
 Fits front may held b hold = (length held ≤ 2) × (may (held ++ b ∷ []) ≡ true)
 Fits front may held b (finish f) = ((more : List ℕ) → HasFront front (held ++ b ∷ more) f) × (0 < front_length f) × (front_length f ≤ suc (length held)) ×
     (may (drop (front_length f) (held ++ b ∷ [])) ≡ true)
 Fits front may held b (leave n) = ((more : List ℕ) → HasFront front (held ++ b ∷ more) (malformed n)) × (0 < n) × (n ≤ length held) × (may (drop n held) ≡ true)
 
--- a front that is malformed, or gives scalars, by its form
+-- a front that is malformed or gives scalars has at least one byte
 pub some_reads_or : (n : ℕ) (scalars : List ℕ) (other : Front) → 0 < n → 0 < front_length other → 0 < front_length (reads_or n scalars other)
 some_reads_or n [] other some h = h
 some_reads_or n (c ∷ scalars) other some h = some
@@ -45,7 +45,7 @@ some_trail_rule n t some = go (is_ascii t)
     go true = some
     go false = omega arith
 
--- a list that is cut into fronts, and begins with the report of so many bytes, has them as its front
+-- if the events of a list begin with a malformed sequence of n bytes, its front is that sequence
 front_reported : (front : ℕ → List ℕ → Front) (b : ℕ) (rest : List ℕ) (n : ℕ) (f : Front) → front b rest ≡ f → 0 < front_length f → BeginsWith (cut front 0 0 (b ∷ rest)) (Bad 0 n ∷ []) →
     f ≡ malformed n
 front_reported front b rest n (reads k []) e some g =
@@ -57,7 +57,7 @@ front_reported front b rest n (malformed k) e some g =
     let all = sym (front_move front (b ∷ rest) (drop k (b ∷ rest)) (malformed k) e some refl) ∙ g.1 in
     let same : k ≡ n = cc in ap malformed same
 
--- a test decides what a step is
+-- a step that depends on a test
 pub fits_test : (front : ℕ → List ℕ → Front) (may : List ℕ → Bool) (held : List ℕ) (b : ℕ) (t : Bool) (s₁ s₂ : Step) →
     (t ≡ true → Fits front may held b s₁) → (t ≡ false → Fits front may held b s₂) → Fits front may held b (cond t s₁ s₂)
 fits_test front may held b true s₁ s₂ f₁ f₂ = f₁ refl
@@ -114,7 +114,7 @@ module _ (g : Grammar) (front : ℕ → List ℕ → Front) (ev_is : (bytes : Li
         allowed = may_is _ ∙ fits.3;
       }
 
-  -- a scalar that is held back, whatever comes
+  -- the held-back scalar is written whatever bytes follow
   pub write_meets : (held : List ℕ) (n c : ℕ) → ((more : List ℕ) → HasFront front (held ++ more) (reads n (c ∷ []))) → 0 < n → n ≤ length held → may_hold g (drop n held) ≡ true → WriteMeets g held n c
   write_meets held n c has pos le may =
       let d : length (drop n held) ≡ length held - n = length-drop n held in record {
@@ -124,13 +124,13 @@ module _ (g : Grammar) (front : ℕ → List ℕ → Front) (ev_is : (bytes : Li
         allowed = may;
       }
 
-  -- all that is held back is malformed at the end of input
+  -- all held-back bytes are malformed at the end of input
   pub end_meets : (b : ℕ) (held : List ℕ) → front b held ≡ malformed (length (b ∷ held)) → events_of g (b ∷ held) ≡ end_events (b ∷ held)
   end_meets b held h =
       let none : events_of g [] ≡ [] = ev_is [] ∙ cut-nil front in
       ev_front (b ∷ held) [] (malformed (length (b ∷ held))) h (omega arith) (drop-length (b ∷ held)) ∙ rw none
 
-  -- and is so whatever follows with which it is reported
+  -- they are also malformed with bytes after them if the same sequence is reported
   pub report_meets : (held more : List ℕ) → ((b : ℕ) (rest : List ℕ) → held ++ more ≡ b ∷ rest → 0 < front_length (front b rest)) → ReportMeets g held more
   report_meets [] more some pos g = absurd (omega arith)
   report_meets (b ∷ held) more some pos g =

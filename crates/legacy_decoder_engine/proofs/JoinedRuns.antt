@@ -1,4 +1,4 @@
--- Runs that are read one behind another.
+-- Runs that are read one after another.
 use Rattle.std.proofs.Common.{◌≡◌, ◌∙◌, ℕ, ◌+◌, ◌-◌, ◌≤◌, List, ◌++◌, length, take, drop, refl, sym, ap, subst, arith, inl, inr}
 use Rattle.std.proofs.lemmas.Bool.{cases_lt}
 use Rattle.std.proofs.lemmas.List.{take-take, length-take, length-drop}
@@ -13,7 +13,7 @@ use Rattle.legacy_decoder_engine.proofs.CallUnderWay.{same_rooms, both_rooms}
 use Rattle.legacy_decoder_engine.proofs.WrittenRuns.{writes_then}
 
 module _ {D : Type 0} {T : Ghosts D} {source : List ℕ} {old mid new : D} {r s : ℕ} where
-  -- a run, and then a run behind it
+  -- a run, and then a run after it
   pub reads_then : {first next last : DecoderState} → ReadsTo T first next source r old mid → ReadsTo T next last (take (length source - r) (drop r source)) s mid new
       → ReadsTo T first last source (r + s) old new
   reads_then {first} {next} {last} a b =
@@ -54,12 +54,12 @@ module _ {D : Type 0} {T : Ghosts D} {source : List ℕ} {old mid new : D} {r s 
   pub reads_more : {state : DecoderState} → ReadsAhead T state source r old mid → ReadsAhead T state (take (length source - r) (drop r source)) s mid new → ReadsAhead T state source (r + s) old new
   reads_more a b = reads_then a b
 
--- what a decoder reads that holds nothing back
+-- a decoder that holds nothing back reads as a new one
 pub reads_idle : {D : Type 0} {T : Ghosts D} {state : DecoderState} {source : List ℕ} {old new : D} {r : ℕ} → IsIdle state → ReadsAhead T (new_state state.grammar) source r old new
     → ReadsAhead T state source r old new
 reads_idle {D} {T} {state} {source} {old} {new} {r} idle reads = subst (λ s. ReadsAhead T s source r old new) (sym (with_empty state idle.empty)) reads
 
--- what was read and written, with the room that it left
+-- the bytes read and the scalars written, with the room left
 pub reads_written : {D : Type 0} {T : Ghosts D} {g : Grammar} {source : List ℕ} {old new : D} {r : ℕ} → r ≤ length source → Writes T g (take r source) old new → 3 ≤ T.room new → 4 ≤ T.room old
     → ReadsAhead T (new_state g) source r old new
 reads_written {D} {T} {g} within writes slack had = record {

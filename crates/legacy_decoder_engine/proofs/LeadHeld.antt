@@ -1,4 +1,4 @@
--- The moves of the decoder of codecs with leads, by the lead that it holds back.
+-- The moves of a decoder with leads, by the lead that it holds back.
 use Rattle.std.proofs.Common.{◌≡◌, ◌≢◌, ◌∙◌, ℕ, List, [], ◌∷◌, Bool, Option, Some, None, is_some, ◌&&◌, true, false, cond, refl}
 use Rattle.std.proofs.lemmas.List.Elements.{All-nil, All-cons}
 use Rattle.std.specs.Char.{IsScalar, is_ascii}
@@ -21,7 +21,7 @@ use Rattle.legacy_decoder_engine.specs.LeadCodecs.{IsLeadCodec, held_bytes, lead
 use Rattle.legacy_decoder_engine.proofs.Feeding as feeding
 use Rattle.legacy_decoder_engine.proofs.RunForms.{has_ascii, pair_runs, ascii_is}
 
--- a decoder is neutral where it holds nothing back
+-- a neutral decoder holds nothing back
 pub neutral_empty : (bytes : List ℕ) → (is_empty bytes && true) ≡ true → bytes ≡ []
 neutral_empty [] e = refl
 neutral_empty (b ∷ bytes) e = cc
@@ -93,7 +93,7 @@ module _ (grammar : FlatIndexes → Grammar) (is_lead_byte : ℕ → Bool) (firs
       (is.may_is tables.flat (lead ∷ []) ∙ is_lead) (is.rests_is tables.flat (lead ∷ []))
       refl refl (is.lead_first lead is_lead) (rw e refl)
 
--- a trail that led to one scalar
+-- a trail that gives one scalar
 pub one_scalar : (scalars : List ℕ) (trail c : ℕ) (held : List ℕ) → One c ≡ fed_of (trail_step 1 scalars trail) held trail → scalars ≡ c ∷ []
 one_scalar [] trail c held e = go (is_ascii trail) e
   where

@@ -18,3 +18,7 @@ pub mod TwoByteMeets
 pub mod TwoByteShown
 pub mod PlainShown
 pub mod Turns
+pub mod Picking
+pub mod LaneUnits
+pub mod LanePlaces
+pub mod FormStarts

@@ -11,7 +11,7 @@ pub few_held : (held : List ℕ) → is_empty held ≡ true → length held ≤ 
 few_held [] h = omega arith
 few_held (b ∷ held) h = absurd (false≢true h)
 
--- nothing is ever reported at the end
+-- nothing is ever reported at the end of input
 pub no_report : (g : Grammar) (held more : List ℕ) → is_empty held ≡ true → ReportMeets g held more
 no_report g [] more h some = absurd (omega arith)
 no_report g (b ∷ held) more h some = absurd (false≢true h)

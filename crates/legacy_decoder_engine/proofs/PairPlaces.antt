@@ -1,4 +1,4 @@
--- The entries of a table of places, and what an index has at the sum of a lead's place and a trail's.
+-- The entries of a table of places, and the entry of an index at the sum of the places of a lead and a trail.
 use Rattle.std.proofs.Common.{◌≡◌, ◌∙◌, ℕ, ◌+◌, ◌≤◌, ◌<◌, List, [], ◌∷◌, length, get_or, Bool, true, false, cond, Some, None, refl, sym, ap, arith}
 use Rattle.std.proofs.lemmas.List.{get_or_past}
 use Rattle.std.proofs.lemmas.List.FromFn.{get_or-map-range_with_len}
@@ -22,12 +22,12 @@ idx_past index p h = ap entry_scalar (get_or_past index p 0 h)
 pub none_past : (index : List ℕ) → length index ≤ 65535 → (p : ℕ) → 65535 ≤ p → option_to_list (idx index p) ≡ []
 none_past index short p h = ap option_to_list (idx_past index p (omega arith))
 
--- what is found is found behind a lead
+-- a scalar is found only after a lead
 pub found : (t : Bool) (scalars : List ℕ) (c : ℕ) → c ∷ [] ≡ cond t scalars [] → (t ≡ true) × (scalars ≡ c ∷ [])
 found true scalars c e = (refl, sym e)
 found false scalars c e = cc
 
--- by whether the byte is a lead, and in which of two ranges the other is, with the places that they then have
+-- the entry at the sum of the places, by whether there is a lead and by the range of the other byte
 pub pair_entry : (scalars : ℕ → List ℕ) → ((p : ℕ) → 65535 ≤ p → scalars p ≡ []) → (l a b : Bool) (base low high : ℕ) →
     scalars (cond l base 65535 + cond a low (cond b high 65535)) ≡ cond l (cond a (scalars (base + low)) (cond b (scalars (base + high)) [])) []
 pair_entry scalars none true true b base low high = refl
@@ -37,7 +37,7 @@ pair_entry scalars none false true b base low high = none (65535 + low) (omega a
 pair_entry scalars none false false true base low high = none (65535 + high) (omega arith)
 pair_entry scalars none false false false base low high = none (65535 + 65535) (omega arith)
 
--- the pointer where there is one trail range, by whether the bytes are a lead and a trail, with the places that they then have
+-- the pointer with one trail range, by whether the bytes are a lead and a trail
 pub pointer_at : (l t : Bool) (base low : ℕ) → IsPointer (cond l (cond t (Some (base + low)) None) None) (cond l base 65535 + cond t low 65535)
 pointer_at true true base low = refl
 pointer_at true false base low = omega arith

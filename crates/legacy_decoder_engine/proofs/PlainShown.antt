@@ -1,4 +1,4 @@
--- What is shown of the plain codecs of leads and trails, once for all of them.
+-- The proof for all plain codecs with leads and trails.
 use Rattle.std.proofs.Common.{◌≡◌, ℕ, ◌≤◌, ◌<◌, List, [], ◌∷◌, length, Bool, true, false, cond, Option, Some, None, refl, option_to_list, arith}
 use Rattle.legacy_tables.specs.declared.tables.IndexName.{IndexName}
 use Rattle.legacy_tables.specs.Indexes.{idx}
@@ -44,7 +44,7 @@ module _ (leads : ℕ → Bool) (pointers : ℕ → ℕ → Option ℕ) where
     holds = elim [ to_utf16 ↦ λ b held. omega arith | _ ↦ λ b held. omega arith ];
   }
 
--- by the leads, which are past ASCII, and by the index, which is narrow
+-- for leads past ASCII and a narrow index
 module _ (leads : ℕ → Bool) (pointers : ℕ → ℕ → Option ℕ) (name : IndexName) where
   pub plain_codec : ((b : ℕ) → leads b ≡ true → IsPastAscii b) → is_narrow_index name ≡ true →
       IsLeadCodec (λ flat. plain leads pointers (index_list flat name)) leads (lead_first leads) (λ flat. pair_scalars pointers (index_list flat name))
@@ -52,16 +52,16 @@ module _ (leads : ℕ → Bool) (pointers : ℕ → ℕ → Option ℕ) (name : 
       (λ flat. pair_scalars pointers (index_list flat name)) (λ flat. is leads pointers (index_list flat name))
       3 (lead_first_is leads past_ascii 3 (omega arith)) (λ flat accepted. rooms leads pointers (index_list flat name) (narrow_index flat accepted name narrow).0) (lead_byte_below leads past_ascii)
 
--- ---- what is found in the index
+-- ---- entries of the index
 
--- at the place of a pair
+-- the entry at the place of a pair
 pub found_at : (index : List ℕ) → length index ≤ 65535 → (lead : Bool) (pointer : Option ℕ) (place : ℕ) → IsPointer (cond lead pointer None) place →
     option_to_list (idx index place) ≡ cond lead (pointer_scalars index pointer) []
 found_at index short false pointer place h = none_past index short place h
 found_at index short true None place h = none_past index short place h
 found_at index short true (Some p) place h = rw h refl
 
--- what is found is narrow
+-- the entry of a narrow index is below U+10000
 pub scalars_below : (index : List ℕ) → IsNarrowIndex index → (pointer : Option ℕ) (c : ℕ) → pointer_scalars index pointer ≡ c ∷ [] → c < 0x1_0000
 scalars_below index below None c e = cc
 scalars_below index below (Some p) c e = idx_below index p c below e

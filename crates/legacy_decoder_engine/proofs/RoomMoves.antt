@@ -1,4 +1,4 @@
--- From what a decoder's steps write to what its rooms promise.
+-- From the code units that a decoder's steps write to the lengths that its queries return.
 use Rattle.std.proofs.Common.{◌≡◌, ℕ, ◌+◌, ◌*◌, ◌<◌, ◌≤◌, List, [], ◌∷◌, length, Bool, true, false, cond, Some, refl, sym, ◌∙◌, ◌&&◌, mul-add, arith}
 use Rattle.std.proofs.lemmas.Bool.{false≢true}
 use Rattle.legacy_tables.specs.Unicode.{IsByte, AreBytes}
@@ -38,7 +38,7 @@ cond_most false x y z h k = k
 
 -- ---- the next act
 
--- no next act needs more than the room, where none of the three kinds does
+-- no next act needs more than the room if none of the three kinds of acts does
 pub all_needs : (narrow wide : ℕ) (room : ℕ → ℕ) (g : Grammar) (m : DecoderMachine) → Meets g m → rests g [] ≡ true → (held : List ℕ) → may_hold g held ≡ true →
     ((b n : ℕ) → 0 < n → act_room narrow wide (state_of g held) (takes b) ≤ room n) →
     ((n : ℕ) → 0 < length held → act_room narrow wide (state_of g held) writes ≤ room n) →
@@ -65,7 +65,7 @@ all_needs narrow wide room g m meets empty held may take write unread last = go 
 
 -- ---- rooms that fall by a slope for each byte, or for each two
 
--- half of `slope` units are needed less for each byte less
+-- each byte less lowers the room by at least half of `slope`
 abbrev pub Falls : (DecoderState → ℕ → ℕ) → Grammar → (List ℕ → ℕ) → ℕ → Type 0
 Falls room g wt slope = (held held' : List ℕ) (n n' u : ℕ) → 2 * u + slope * (n' + wt held') ≤ slope * (n + wt held) → room (state_of g held') n' + u ≤ room (state_of g held) n
 
@@ -85,20 +85,21 @@ sloped_pays room g wt slope sloped held held' left n u h =
 
 -- ---- a whole codec
 
--- what a codec's steps write, at either width
+-- the code units that a codec's steps write, in either encoding form
 pub record HasCosts (g : Grammar) (m : DecoderMachine) (wt : List ℕ → ℕ) (slope : ℕ) : Type 0 where
   pub to_is : (held : List ℕ) (b : ℕ) → m.to held b ≡ g
   pub cost : (len : ℕ → ℕ) (narrow wide : ℕ) → IsWidth len narrow wide → (held : List ℕ) (b : ℕ) → may_hold g held ≡ true → rests g held ≡ true → AreBytes held → IsByte b →
       Cost len narrow (act_room narrow wide (state_of g held) (takes b)) wt slope held b (m.step held b)
 
--- half of so many units are needed less for each byte less
+-- twice the code units by which each byte less lowers the room
 abbrev pub query_slope : ℕ → LengthQuery → ℕ
 query_slope paid to_utf16 = 2
 query_slope paid to_utf8 = 6
 query_slope paid to_utf8_without_replacement = paid
 
--- What is left to show of the rooms of a codec. What is held back weighs more than nothing; each room falls by its
--- slope; what is held back and is to be written pays; and the room covers a byte, and what is held back.
+-- The facts about the rooms of a codec that are left to show. Held-back bytes have more weight than none. Each room
+-- falls by its slope. A held-back scalar that is to be written lowers its room enough. The room covers a byte, and the
+-- held-back bytes.
 pub record IsSloped (g : Grammar) (m : DecoderMachine) (wt : List ℕ → ℕ) (paid : ℕ) : Type 0 where
   pub heavy : (b : ℕ) (held : List ℕ) → may_hold g (b ∷ held) ≡ true → wt [] + 1 ≤ wt (b ∷ held)
   pub falls : (query : LengthQuery) → Falls (room query) g wt (query_slope paid query)
@@ -107,14 +108,14 @@ pub record IsSloped (g : Grammar) (m : DecoderMachine) (wt : List ℕ → ℕ) (
   pub reads : (query : LengthQuery) (held : List ℕ) → full_room_in (query_form query) g ≤ room query (state_of g held) 1
   pub holds : (query : LengthQuery) (b : ℕ) (held : List ℕ) → may_hold g (b ∷ held) ≡ true → release_room_in (query_form query) g ≤ room query (state_of g (b ∷ held)) 0
 
--- what a step is to lower the room by
+-- the amount by which a step lowers the room
 paid_of : (query : LengthQuery) (wt : List ℕ → ℕ) (paid at_most : ℕ) (held : List ℕ) (b : ℕ) (s : Step) → Cost (unit_count (query_form query)) (bmp_room (query_form query)) at_most wt paid held b s →
     2 * step_units (unit_count (query_form query)) (replacement_units query) s + query_slope paid query * (wt (step_held s held b) + step_left s) ≤ query_slope paid query * (wt held + 1)
 paid_of to_utf16 wt paid at_most held b s c = let p = c.pays in omega arith
 paid_of to_utf8 wt paid at_most held b s c = let p = c.pays in omega arith
 paid_of to_utf8_without_replacement wt paid at_most held b s c = c.pays_without
 
--- a malformed sequence is paid by a byte
+-- a byte pays for a malformed sequence
 fault_paid : (query : LengthQuery) (paid x y : ℕ) → x + 1 ≤ y → 2 * replacement_units query + query_slope paid query * (0 + x) ≤ query_slope paid query * (0 + y)
 fault_paid to_utf16 paid x y h = omega arith
 fault_paid to_utf8 paid x y h = omega arith
@@ -146,7 +147,7 @@ narrow_read narrow wide rises g = by_rooms (profile g).rooms
     by_rooms wide_reads = (rises, omega arith)
     by_rooms wide_acts = (rises, omega arith)
 
--- the rooms of a codec whose rooms fall by slopes
+-- the rooms of a codec that fall by slopes
 module _ (g : Grammar) (m : DecoderMachine) (wt : List ℕ → ℕ) (paid : ℕ) (meets : Meets g m) (costs : HasCosts g m wt paid) (is : IsSloped g m wt paid) (query : LengthQuery) where
   w : IsWidth (unit_count (query_form query)) (bmp_room (query_form query)) (wide_room (query_form query))
   w = width_of (query_form query)

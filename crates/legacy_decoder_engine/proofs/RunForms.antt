@@ -1,4 +1,4 @@
--- The forms of a machine as runs: what a loop may read ahead of it.
+-- The sequences of a machine as runs, which a loop may read ahead.
 use Rattle.std.proofs.Common.{rules, ◌≡◌, ℕ, ◌+◌, ◌≤◌, ◌<◌, List, [], ◌∷◌, arith, true, false}
 use Rattle.std.proofs.lemmas.List.Elements.{All-nil, All-cons}
 use Rattle.std.proofs.lemmas.Bool.Decides.{nat_tests}
@@ -23,7 +23,7 @@ ascii_is b h = grind (arith, nat_tests)
 pub past_ascii : (b : ℕ) → 0x80 ≤ b → is_ascii b ≡ false
 past_ascii b h = grind (arith, nat_tests)
 
--- ---- the forms
+-- ---- the sequences
 
 module _ {g : Grammar} {m : DecoderMachine} (shown : IsShown g m) where
   one_byte : (b : ℕ) → IsByte b → AreBytes (b ∷ [])
@@ -33,7 +33,7 @@ module _ {g : Grammar} {m : DecoderMachine} (shown : IsShown g m) where
   one_total : (query : LengthQuery) (c : ℕ) → unit_count (query_form query) c + 0 ≡ total_unit_count (query_form query) (c ∷ [])
   one_total query c = units-total (query_form query) (c ∷ [])
 
-  -- a byte that is a scalar by itself
+  -- a byte that gives one scalar
   pub single_runs : (b c : ℕ) → IsByte b → IsScalar c → m.to [] b ≡ g → m.step [] b ≡ finish (reads 1 (c ∷ [])) → Runs g (b ∷ []) (c ∷ [])
   single_runs b c byte scalar to_is is =
       let meets = shown.meets.steps [] b (may_none g) (rests-none g) in
@@ -49,7 +49,7 @@ module _ {g : Grammar} {m : DecoderMachine} (shown : IsShown g m) where
             rw (← one_total query c) p'';
       }
 
-  -- a lead and a trail that are a scalar
+  -- a lead and a trail that give one scalar
   pub pair_runs : (lead trail c : ℕ) → IsByte lead → IsByte trail → IsScalar c → may_hold g (lead ∷ []) ≡ true → rests g (lead ∷ []) ≡ true →
       m.to [] lead ≡ g → m.to (lead ∷ []) trail ≡ g →
       m.step [] lead ≡ hold → m.step (lead ∷ []) trail ≡ finish (reads 2 (c ∷ [])) → Runs g (lead ∷ trail ∷ []) (c ∷ [])
@@ -72,7 +72,7 @@ module _ {g : Grammar} {m : DecoderMachine} (shown : IsShown g m) where
             rw (← one_total query c, e) (omega arith);
       }
 
-  -- four bytes that are a scalar
+  -- four bytes that give one scalar
   pub four_runs : (a b c d x : ℕ) → IsByte a → IsByte b → IsByte c → IsByte d → IsScalar x →
       may_hold g (a ∷ []) ≡ true → may_hold g (a ∷ b ∷ []) ≡ true → may_hold g (a ∷ b ∷ c ∷ []) ≡ true →
       rests g (a ∷ []) ≡ true → rests g (a ∷ b ∷ []) ≡ true → rests g (a ∷ b ∷ c ∷ []) ≡ true →
@@ -107,7 +107,7 @@ module _ {g : Grammar} {m : DecoderMachine} (shown : IsShown g m) where
             rw (← one_total query x, e) (omega arith);
       }
 
-  -- each ASCII byte is its own scalar, where the machine says so
+  -- each ASCII byte is its own scalar if that is so in the machine
   pub has_ascii : ((b : ℕ) → m.to [] b ≡ g) → ((b : ℕ) → b < 0x80 → m.step [] b ≡ finish (reads 1 (b ∷ []))) → HasAscii g
   has_ascii to_is first b h = single_runs b b (omega arith) (small b h) (to_is b) (first b h) where
     small : (x : ℕ) → x < 128 → IsScalar x

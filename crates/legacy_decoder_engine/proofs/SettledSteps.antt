@@ -1,4 +1,4 @@
--- What steps leave.
+-- The states after steps.
 use Rattle.std.proofs.Common.{◌≡◌, ℕ, suc, ◌+◌, List, [], ◌∷◌, length, Bool, true, false, cond, Option, Some, None, refl, option_to_list, arith}
 use Rattle.std.specs.Char.{is_ascii}
 use Rattle.legacy_base.specs.Fronts.{malformed, reads_or}
@@ -12,7 +12,7 @@ pub settles_test : (g : Grammar) (held : List ℕ) (b : ℕ) (t : Bool) (s₁ s�
 settles_test g held b true s₁ s₂ f₁ f₂ = f₁ refl
 settles_test g held b false s₁ s₂ f₁ f₂ = f₂ refl
 
--- ---- how many scalars
+-- ---- the number of scalars
 
 pub one_test : (marks t : Bool) (xs ys : List ℕ) → IsOneOrMarked marks xs → IsOneOrMarked marks ys → IsOneOrMarked marks (cond t xs ys)
 one_test marks true xs ys f g = f
@@ -32,7 +32,7 @@ pub or_settles : (g : Grammar) (held : List ℕ) (b : ℕ) (cs : List ℕ) → I
 or_settles g held b [] one = tt
 or_settles g held b (c ∷ cs) one = (refl, one)
 
--- ---- what a scalar that is held back leaves
+-- ---- the state after a held-back scalar was written
 
 pub write_test : (g : Grammar) (held : List ℕ) (t : Bool) (p q : Option (ℕ × ℕ)) → (t ≡ true → WriteSettles g held p) → (t ≡ false → WriteSettles g held q) → WriteSettles g held (cond t p q)
 write_test g held true p q f₁ f₂ = f₁ refl

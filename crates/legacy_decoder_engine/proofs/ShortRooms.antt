@@ -1,4 +1,4 @@
--- When a byte needs less than the usual room.
+-- The bytes that need less than the full room.
 use Rattle.std.proofs.Common.{◌≡◌, ℕ, ◌≤◌, List, [], ◌∷◌, Bool, true, false, cond, refl, ◌&&◌, ◌⊎◌, inl, inr, arith}
 use Rattle.std.specs.Char.{is_ascii}
 use Rattle.legacy_base.specs.Fronts.{reads}
@@ -9,7 +9,7 @@ use Rattle.legacy_decoder_engine.specs.Steps.{finish, DecoderMachine}
 use Rattle.legacy_base.specs.States.{state_of}
 use Rattle.legacy_decoder_engine.specs.Shown.{IsShown}
 
--- when a byte needs less than the usual room: ASCII with nothing held back, which is then its own scalar
+-- a byte needs less than the full room only if it is ASCII and nothing is held back; then it is its own scalar
 pub short_or_usual : (narrow wide : ℕ) (g : Grammar) (m : DecoderMachine) → IsShown g m → (held : List ℕ) (b : ℕ) → has_reported g ≡ false →
     (full_room narrow wide g ≤ act_room narrow wide (state_of g held) (takes b)) ⊎ (((has_short_ascii g && is_ascii b) ≡ true) × (m.step held b ≡ finish (reads 1 (b ∷ []))))
 short_or_usual narrow wide g m shown held b r = rw r (by_held held)

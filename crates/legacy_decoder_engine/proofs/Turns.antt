@@ -2,11 +2,11 @@
 use Rattle.std.proofs.Common.{◌≡◌, ◌∙◌, ℕ, ◌+◌, ◌-◌, ◌*◌, ◌/◌, ◌%◌, ◌<◌, ◌≤◌, ap, arith}
 use Rattle.std.proofs.Math.Nat.{mul-add}
 
--- all of them, before the first
+-- all turns, before the first
 pub all_turns : (size turns : ℕ) → size * (4 * (turns / 4) + turns % 4) ≡ size * turns
 all_turns size turns = let e : 4 * (turns / 4) + turns % 4 ≡ turns = omega arith in ap (λ n. size * n) e
 
--- four, and the rest
+-- four turns, and the rest
 pub four_turns : (size left rest : ℕ) → 0 < left → size * (4 * left + rest) ≡ size * 4 + size * (4 * (left - 1) + rest)
 four_turns size left rest h = let e : 4 * left + rest ≡ 4 + (4 * (left - 1) + rest) = omega arith in ap (λ n. size * n) e ∙ mul-add size 4 (4 * (left - 1) + rest)
 

@@ -1,4 +1,4 @@
--- What the steps of the codecs with forms of one and two bytes write.
+-- The code units that the steps write in codecs with sequences of one and two bytes.
 use Rattle.std.proofs.Common.{◌≡◌, ℕ, ◌*◌, ◌≤◌, List, [], ◌∷◌, length, Bool, true, false, cond, refl, arith}
 use Rattle.std.proofs.lemmas.Bool.{ltb-true}
 use Rattle.std.proofs.lemmas.Bool.Decides.{nat_tests}
@@ -9,7 +9,7 @@ use Rattle.legacy_decoder_engine.specs.Steps.{Step, finish, leave, trail_step}
 use Rattle.legacy_decoder_engine.specs.Costs.{units, IsWidth, Cost}
 use Rattle.legacy_decoder_engine.proofs.TwoByteMeets.{IsFirst, ascii, other, leads, fails}
 
--- a test decides what a step is
+-- a step that depends on a test
 pub cost_test : (len : ℕ → ℕ) (narrow at_most : ℕ) (wt : List ℕ → ℕ) (slope : ℕ) (held : List ℕ) (b : ℕ) (t : Bool) (s₁ s₂ : Step) →
     (t ≡ true → Cost len narrow at_most wt slope held b s₁) → (t ≡ false → Cost len narrow at_most wt slope held b s₂) → Cost len narrow at_most wt slope held b (cond t s₁ s₂)
 cost_test len narrow at_most wt slope held b true s₁ s₂ f₁ f₂ = f₁ refl

@@ -1,4 +1,4 @@
--- The machines of the codecs with forms of one and two bytes: what they owe, and that they do what their grammars say.
+-- The machines of codecs with sequences of one and two bytes agree with their grammars.
 use Rattle.std.proofs.Common.{◌≡◌, ◌∙◌, ℕ, ◌<◌, ◌≤◌, List, [], ◌∷◌, length, Bool, true, false, cond, refl, ap, arith}
 use Rattle.std.proofs.lemmas.Bool.{false≢true}
 use Rattle.std.proofs.lemmas.Bool.Decides.{nat_tests}
@@ -16,8 +16,8 @@ use Rattle.legacy_decoder_engine.specs.Settling.{IsOneOrMarked, Settles}
 use Rattle.legacy_base.proofs.Cuts.{cut-nil}
 use Rattle.legacy_decoder_engine.proofs.FrontMoves.{Fits, fits_trail, fits_meets, end_meets, report_meets, some_reads_or, some_trail_rule}
 
--- What the first byte of a form is: ASCII, and itself; another scalar up to U+FFFF; a lead; or malformed. `paid` for
--- each two bytes is enough for the scalar.
+-- The kinds of first bytes: ASCII, which is its own scalar; another scalar up to U+FFFF; a lead; or malformed. For each
+-- two bytes, `paid` code units are enough for the scalar.
 pub data IsFirst (is_lead_byte : ℕ → Bool) (paid b : ℕ) (s : Step) : Type 0 where
   ascii : s ≡ finish (reads 1 (b ∷ [])) → is_ascii b ≡ true → is_lead_byte b ≡ false → 2 ≤ paid → IsFirst is_lead_byte paid b s
   other : (c : ℕ) → s ≡ finish (reads 1 (c ∷ [])) → is_ascii b ≡ false → is_lead_byte b ≡ false → c < 0x1_0000 → 6 ≤ paid → IsFirst is_lead_byte paid b s
@@ -30,7 +30,7 @@ step_front scalars rest (finish f) = f
 step_front scalars [] s = malformed 1
 step_front scalars (t ∷ rest) s = reads_or 2 (scalars t) (trail_rule 1 t)
 
--- what such codecs have in common, and the rest of one
+-- the common part of such profiles, with the rest from `own`
 abbrev pub two_byte_profile : (ℕ → List ℕ → Front) → (ℕ → Bool) → Profile → Profile
 two_byte_profile front is_lead_byte own = record {
   events = cut front 0 0;
@@ -47,7 +47,7 @@ two_byte_profile front is_lead_byte own = record {
   utf8_length_without_replacement = own.utf8_length_without_replacement;
 }
 
--- what a codec with leads and trails shows: its profile, its front by the first step, and that a pair gives one scalar
+-- a codec with leads and trails: its profile, its front by the first step, and at most one scalar for a pair
 pub record IsTwoByte (g : Grammar) (front : ℕ → List ℕ → Front) (is_lead_byte : ℕ → Bool) (first : ℕ → Step) (scalars : ℕ → ℕ → List ℕ) : Type 0 where
   pub profile_is : profile g ≡ two_byte_profile front is_lead_byte (profile g)
   pub front_is : (b : ℕ) (rest : List ℕ) → front b rest ≡ step_front (scalars b) rest (first b)

@@ -1,4 +1,4 @@
--- What is shown of the codecs with forms of one and two bytes, from little that each shows of its own.
+-- The proof for all codecs with sequences of one and two bytes, from the few facts that each shows.
 use Rattle.std.proofs.Common.{◌≡◌, ℕ, ◌<◌, ◌≤◌, List, [], ◌∷◌, length, Bool, true, false, refl, inl, ap, arith}
 use Rattle.std.proofs.lemmas.Bool.{false≢true}
 use Rattle.std.specs.Char.{is_ascii}
@@ -22,7 +22,8 @@ use Rattle.legacy_decoder_engine.proofs.TwoByteCosts.{first_cost, trail_cost}
 use Rattle.legacy_decoder_engine.proofs.RoomMoves.{first_room, held_room_is, narrow_read, Falls, query_slope, HasCosts, IsSloped, sloped_rooms}
 use Rattle.legacy_decoder_engine.proofs.SettledSteps.{trail_settles}
 
--- What such a codec shows of its rooms: what a pair writes; that `paid` for each two bytes is enough; and of the rooms of the three queries how they fall, and that they cover a byte and a lead.
+-- The rooms of such a codec. A pair fits into the full room. For each two bytes, `paid` code units are enough. The
+-- rooms of the three queries fall by their slopes, and cover a byte and a lead.
 pub record HasTwoByteRooms (g : Grammar) (scalars : ℕ → ℕ → List ℕ) (paid : ℕ) : Type 0 where
   pub pair_units : (len : ℕ → ℕ) (narrow wide : ℕ) → IsWidth len narrow wide → (lead b : ℕ) → units len (scalars lead b) ≤ full_room narrow wide g
   pub is_paid : (len : ℕ → ℕ) (narrow wide : ℕ) → IsWidth len narrow wide → full_room narrow wide g ≤ paid
@@ -87,7 +88,7 @@ module _ (g : Grammar) (front : ℕ → List ℕ → Front) (is_lead_byte : ℕ 
         swallows = inl unreported;
       }
 
--- what the decoder asks, of a codec that shows this for each index
+-- the facts that the decoder requires, for a codec that has them for each index
 module _ (grammar : FlatIndexes → Grammar) (front : FlatIndexes → ℕ → List ℕ → Front) (is_lead_byte : ℕ → Bool) (first : ℕ → Step) (scalars : FlatIndexes → ℕ → ℕ → List ℕ)
     (is : (flat : FlatIndexes) → IsTwoByte (grammar flat) (front flat) is_lead_byte first (scalars flat)) (paid : ℕ) (firsts : (b : ℕ) → IsFirst is_lead_byte paid b (first b)) where
   pub lead_codec : ((flat : FlatIndexes) → AreAccepted flat → HasTwoByteRooms (grammar flat) (scalars flat) paid) → ((b : ℕ) → is_lead_byte b ≡ true → b < 0x100) →

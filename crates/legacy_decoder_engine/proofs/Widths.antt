@@ -1,4 +1,4 @@
--- The units of scalars in UTF-8 and in UTF-16, and the scalars of indexes.
+-- The code units of scalars in UTF-8 and UTF-16, and the scalars of indexes.
 use Rattle.std.proofs.Common.{◌≡◌, [], ◌∷◌, ℕ, ◌+◌, ◌<◌, ◌≤◌, List, length, get_or, Bool, true, false, cond, Option, Some, None, arith, ◌==◌, option_to_list, ⊎_elim}
 use Rattle.std.proofs.lemmas.Bool.{cases_lt}
 use Rattle.std.proofs.lemmas.List.Elements.{All-get_or}
@@ -8,7 +8,7 @@ use Rattle.legacy_tables.specs.Indexes.{entry_scalar, idx}
 use Rattle.legacy_text.proofs.CodeUnits.{encode_2, length-code_units-ascii, length-code_units-bmp, length-code_units-wide}
 use Rattle.legacy_decoder_engine.specs.Costs.{units, IsWidth, IsNarrowIndex}
 
--- UTF-8 and UTF-16 have what `IsWidth` asks
+-- UTF-8 and UTF-16 have the properties of `IsWidth`
 pub width_of : (form : EncodingForm) → IsWidth (unit_count form) (bmp_room form) (wide_room form)
 width_of Utf8 = record {
   ascii = length-code_units-ascii Utf8;
@@ -33,7 +33,7 @@ width_of Utf16 = record {
   twice = omega arith;
 }
 
--- what an index of narrow entries holds at a pointer
+-- an entry of a narrow index is below U+10000
 pub narrow_entry : (index : List ℕ) (p : ℕ) → IsNarrowIndex index → get_or index p 0 < 0x1_0000
 narrow_entry index p h = ⊎_elim (λ l. All-get_or (λ c. c < 0x1_0000) index p 0 l h) (λ l. rw (get_or_past index p 0 l) (omega arith)) (cases_lt p (length index))
 

@@ -1,4 +1,4 @@
--- Laws of runs of bytes and of what is written for them.
+-- Laws of runs of bytes and of the scalars written for them.
 use Rattle.std.proofs.Common.{add-zero, ◌≡◌, ◌∙◌, ℕ, zero, suc, ◌+◌, ◌-◌, ◌*◌, ◌≤◌, ◌<◌, List, [], ◌∷◌, ◌++◌, length, map, take, drop, get_or, refl, sym, ap, subst, arith, append_assoc, append-nil}
 use Rattle.std.proofs.Common.{length-append, IsAscii}
 use Rattle.std.proofs.lemmas.List.{map-append}
@@ -48,7 +48,7 @@ runs_then g h k xs ys cs ds a b = record {
 pub runs_more : (g : Grammar) (xs ys cs ds : List ℕ) → Runs g xs cs → Runs g ys ds → Runs g (xs ++ ys) (cs ++ ds)
 runs_more g xs ys cs ds a b = runs_then g g g xs ys cs ds a b
 
--- ASCII bytes, where each is its own scalar
+-- ASCII bytes, if each is its own scalar
 pub runs_ascii : (g : Grammar) → HasAscii g → (xs : List ℕ) → IsAscii xs → Runs g xs xs
 runs_ascii g law [] h = runs_none g
 runs_ascii g law (x ∷ xs) h = runs_more g (x ∷ []) xs (x ∷ []) xs (law x (h 0)) (runs_ascii g law xs (λ i. h (suc i)))
@@ -61,7 +61,7 @@ pub code_units_ascii : (form : EncodingForm) (c : ℕ) → c < 128 → code_unit
 code_units_ascii Utf8 c h = encode_1 c h
 code_units_ascii Utf16 c h = utf16_1 c (omega arith)
 
--- their code_units are the bytes
+-- the code units of ASCII bytes are the bytes
 pub all_code_units_ascii : (form : EncodingForm) (xs : List ℕ) → IsAscii xs → all_code_units form xs ≡ xs
 all_code_units_ascii form [] h = refl
 all_code_units_ascii form (x ∷ xs) h = ap (λ l. l ++ all_code_units form xs) (code_units_ascii form x (h 0)) ∙ ap (λ l. x ∷ l) (all_code_units_ascii form xs (λ i. h (suc i)))
@@ -71,12 +71,12 @@ pub four_fit : (form : EncodingForm) (c room : ℕ) → 4 ≤ room → length (c
 four_fit Utf8 c room h = omega (arith, length-code_units-wide Utf8 c, h)
 four_fit Utf16 c room h = omega (arith, length-code_units-wide Utf16 c, h)
 
--- a scalar up to U+FFFF is at most three code units
+-- a scalar up to U+FFFF has at most three code units
 pub short : (form : EncodingForm) (c : ℕ) → c < 65536 → length (code_units form c) ≤ 3
 short Utf8 c h = length-code_units-bmp Utf8 c h
 short Utf16 c h = omega (arith, length-code_units-bmp Utf16 c h)
 
--- scalars up to U+FFFF have three code units each at most
+-- scalars up to U+FFFF have at most three code units each
 pub all_short : (form : EncodingForm) (cs : List ℕ) → ((k : ℕ) → k < length cs → get_or cs k 0 < 65536) → total_unit_count form cs ≤ 3 * length cs
 all_short form [] small = omega arith
 all_short form (c ∷ cs) small =
@@ -84,11 +84,11 @@ all_short form (c ∷ cs) small =
     let more = all_short form cs (λ k h. small (suc k) (omega arith)) in
     omega (arith, one, more, length-append (code_units form c) (all_code_units form cs))
 
--- and fits into three
+-- a scalar up to U+FFFF fits into three code units
 pub three_fit : (form : EncodingForm) (c room : ℕ) → c < 65536 → 3 ≤ room → length (code_units form c) ≤ room
 three_fit form c room h k = let s = short form c h in omega arith
 
--- a scalar up to U+FFFF is one code unit where there is a room of one for it
+-- a scalar up to U+FFFF is one code unit if the encoding form has a room of one for it
 pub one_unit : (form : EncodingForm) (c : ℕ) → bmp_room form ≡ 1 → c < 65536 → length (code_units form c) ≡ 1
 one_unit form c room h = let most = length-code_units-bmp form c h in let least = some_unit form c in omega arith
 
@@ -108,7 +108,7 @@ take_four src at h =
     ap (λ n. take n src) (sym two) ∙ take_two src (at + 2) (omega arith) ∙ ap (λ n. take (at + 2) src ++ get_or src (at + 2) 0 ∷ get_or src n 0 ∷ []) three
     ∙ ap (λ l. l ++ last) (take_two src at (omega arith)) ∙ append_assoc (take at src) first last
 
--- what is behind so many bytes of a source, as the code has it
+-- the rest of a source, as the code takes it
 pub rest_of : (source : List ℕ) (at : ℕ) → take (length source - at) (drop at source) ≡ drop at source
 rest_of source at = take_all (length source - at) (drop at source) (let l = length-drop at source in omega arith)
 
@@ -130,7 +130,7 @@ module _ {D : Type 0} (T : Ghosts D) where
   }
 
   module _ {g h k : Grammar} {xs ys : List ℕ} {x y z : D} where
-    -- what was written, and then more
+    -- scalars that were written, and then more
     pub writes_then : WritesTo T g h xs x y → WritesTo T h k ys y z → WritesTo T g k (xs ++ ys) x z
     writes_then a b = record {
       scalars = a.scalars ++ b.scalars;
@@ -142,7 +142,7 @@ module _ {D : Type 0} (T : Ghosts D) where
     }
 
   module _ {g : Grammar} {y z : D} where
-    -- a form of which the scalar was put
+    -- a sequence whose scalar was put
     pub writes_put : (bytes : List ℕ) (c : ℕ) → Runs g bytes (c ∷ []) → T.contents z ≡ T.contents y ++ code_units T.form c → T.room z + length (code_units T.form c) ≡ T.room y → T.loan z ≡ T.loan y
         → Writes T g bytes y z
     writes_put bytes c run contents room loan =
@@ -151,25 +151,25 @@ module _ {D : Type 0} (T : Ghosts D) where
 
   module _ {g : Grammar} {x y z : D} where
     module _ (src : List ℕ) (at c : ℕ) where
-      -- a next byte
+      -- the next byte
       pub writes_one : at < length src → Writes T g (take at src) x y → Runs g (get_or src at 0 ∷ []) (c ∷ []) → T.contents z ≡ T.contents y ++ code_units T.form c
           → T.room z + length (code_units T.form c) ≡ T.room y → T.loan z ≡ T.loan y → Writes T g (take (at + 1) src) x z
       writes_one h a run contents room loan = subst (λ l. Writes T g l x z) (sym (take_more src at 0 h)) (writes_then a (writes_put (get_or src at 0 ∷ []) c run contents room loan))
 
-      -- a next pair of bytes
+      -- the next pair of bytes
       pub writes_two : at + 1 < length src → Writes T g (take at src) x y → Runs g (get_or src at 0 ∷ get_or src (at + 1) 0 ∷ []) (c ∷ []) → T.contents z ≡ T.contents y ++ code_units T.form c
           → T.room z + length (code_units T.form c) ≡ T.room y → T.loan z ≡ T.loan y → Writes T g (take (at + 2) src) x z
       writes_two h a run contents room loan =
           subst (λ l. Writes T g l x z) (sym (take_two src at h)) (writes_then a (writes_put (get_or src at 0 ∷ get_or src (at + 1) 0 ∷ []) c run contents room loan))
 
-      -- a next form of four bytes
+      -- the next four-byte sequence
       pub writes_four : at + 3 < length src → Writes T g (take at src) x y → Runs g (get_or src at 0 ∷ get_or src (at + 1) 0 ∷ get_or src (at + 2) 0 ∷ get_or src (at + 3) 0 ∷ []) (c ∷ [])
           → T.contents z ≡ T.contents y ++ code_units T.form c → T.room z + length (code_units T.form c) ≡ T.room y → T.loan z ≡ T.loan y → Writes T g (take (at + 4) src) x z
       writes_four h a run contents room loan =
           subst (λ l. Writes T g l x z) (sym (take_four src at h))
           (writes_then a (writes_put (get_or src at 0 ∷ get_or src (at + 1) 0 ∷ get_or src (at + 2) 0 ∷ get_or src (at + 3) 0 ∷ []) c run contents room loan))
 
-    -- a run behind what was read
+    -- a run after the bytes that were read
     pub writes_run : (src : List ℕ) (at r : ℕ) → Writes T g (take at src) x y → Writes T g (take r (take (length src - at) (drop at src))) y z → Writes T g (take (at + r) src) x z
     writes_run src at r a b = subst (λ l. Writes T g l x z) (sym (take-add at r src)) (writes_then a (subst (λ l. Writes T g (take r l) y z) (rest_of src at) b))
 

@@ -1,4 +1,4 @@
--- What the loop for runs of common forms reads and writes.
+-- The bytes that the loop for runs of common sequences reads, and the scalars that it writes.
 use Rattle.std.specs.Prelude.{◌≡◌, ℕ, ◌+◌, ◌<◌, ◌≤◌, List, [], ◌∷◌, ◌++◌, length, map, take, All}
 use Rattle.std.specs.Char.{IsScalar}
 use Rattle.legacy_text.specs.declared.destination.Destination.{Ghosts}
@@ -12,15 +12,15 @@ use Rattle.legacy_decoder_engine.specs.Moves.{SameRooms}
 use Rattle.legacy_decoder_engine.specs.declared.common_forms.CommonForm.{CommonForm}
 use Rattle.legacy_decoder_engine.specs.declared.common_forms.CommonForm.TheVariants.{Single, Pair, Other}
 
--- Whatever follows the bytes, their events by the one grammar are these scalars, and then those of what follows by the
--- other. The room that is still needed falls by what is written.
+-- Whatever bytes follow, the events of the bytes in the first grammar are these scalars, and then the events of the
+-- following bytes in the second grammar. The room still needed falls by what is written.
 pub record RunsTo (before after : Grammar) (bytes scalars : List ℕ) : Type 0 where
   pub events : (more : List ℕ) → events_of before (bytes ++ more) ≡ map Scalar scalars ++ shift (length bytes) (events_of after more)
   pub scalar : All IsScalar scalars
   pub lowers : (query : LengthQuery) (n : ℕ) →
       room query (new_state after) n + total_unit_count (query_form query) scalars ≤ room query (new_state before) (n + length bytes)
 
--- they leave the grammar as it is
+-- the same without a change of the grammar
 abbrev pub Runs : Grammar → List ℕ → List ℕ → Type 0
 Runs grammar bytes scalars = RunsTo grammar grammar bytes scalars
 
@@ -28,26 +28,26 @@ Runs grammar bytes scalars = RunsTo grammar grammar bytes scalars
 abbrev pub HasAscii : Grammar → Type 0
 HasAscii grammar = (b : ℕ) → b < 0x80 → Runs grammar (b ∷ []) (b ∷ [])
 
--- a decoder holds nothing back, and each ASCII byte is its own scalar
+-- a decoder that holds nothing back, with ASCII bytes that are their own scalars
 pub record IsIdle (state : DecoderState) : Type 0 where
   pub empty : state.held ≡ []
   pub ascii : HasAscii state.grammar
 
--- a byte is a scalar up to U+FFFF
+-- a byte that gives one scalar up to U+FFFF
 abbrev pub IsSingle : Grammar → ℕ → ℕ → Type 0
 IsSingle grammar byte c = (c < 0x1_0000) × Runs grammar (byte ∷ []) (c ∷ [])
 
--- two bytes are a scalar up to U+FFFF
+-- two bytes that give one scalar up to U+FFFF
 abbrev pub IsPair : Grammar → ℕ → ℕ → ℕ → Type 0
 IsPair grammar first second c = (c < 0x1_0000) × Runs grammar (first ∷ second ∷ []) (c ∷ [])
 
--- what a codec says of a byte and the byte behind it: a scalar up to U+FFFF, or nothing
+-- a codec's result for a byte and the byte after it: a scalar up to U+FFFF, or nothing
 abbrev pub IsCommonForm : Grammar → ℕ → ℕ → CommonForm → Type 0
 IsCommonForm grammar lead trail (Single c) = IsSingle grammar lead c
 IsCommonForm grammar lead trail (Pair c) = IsPair grammar lead trail c
 IsCommonForm grammar lead trail Other = Unit {0}
 
--- The bytes were read, and their scalars written behind what was written before, which took so much room. The
+-- The bytes were read, and their scalars were written after the text before. They took room of their size. The
 -- destination is still the same buffer.
 pub record WritesTo {D : Type 0} (T : Ghosts D) (before after : Grammar) (bytes : List ℕ) (old new : D) : Type 0 where
   pub scalars : List ℕ
@@ -56,12 +56,13 @@ pub record WritesTo {D : Type 0} (T : Ghosts D) (before after : Grammar) (bytes 
   pub room : T.room new + total_unit_count T.form scalars ≡ T.room old
   pub loan : T.loan new ≡ T.loan old
 
--- they leave the grammar as it is
+-- the same without a change of the grammar
 abbrev pub Writes : {D : Type 0} → Ghosts D → Grammar → List ℕ → D → D → Type 0
 Writes T grammar bytes old new = WritesTo T grammar grammar bytes old new
 
--- Bytes at the front of the source were read, and their scalars written: where any were, nothing is held back before
--- them and behind them, four code units were free before them, and three are behind them. Both states need the same room.
+-- Bytes at the front of the source were read, and their scalars were written. If any were read, nothing is held back
+-- before and after them, at least four code units were free before them, and at least three are free after them. Both
+-- states need the same room.
 pub record ReadsTo {D : Type 0} (T : Ghosts D) (before after : DecoderState) (source : List ℕ) (read : ℕ) (old new : D) : Type 0 where
   pub within : read ≤ length source
   pub idle : 0 < read → before.held ≡ []
@@ -72,6 +73,6 @@ pub record ReadsTo {D : Type 0} (T : Ghosts D) (before after : DecoderState) (so
   pub slack : 0 < read → 3 ≤ T.room new
   pub had : 0 < read → 4 ≤ T.room old
 
--- they leave the state as it is
+-- the same without a change of the state
 abbrev pub ReadsAhead : {D : Type 0} → Ghosts D → DecoderState → List ℕ → ℕ → D → D → Type 0
 ReadsAhead T state source read old new = ReadsTo T state state source read old new

@@ -1,4 +1,4 @@
--- How many units of output a move of a decoder writes, and what that must be of its room.
+-- The code units that a move of a decoder writes, and their bounds.
 use Rattle.std.specs.Prelude.{ℕ, ◌+◌, ◌*◌, ◌<◌, ◌≤◌, ◌≡◌, List, [], ◌∷◌, true, false, drop, length, All, Option, Some, None}
 use Rattle.legacy_tables.specs.Unicode.{IsByte, AreBytes}
 use Rattle.legacy_base.specs.Fronts.{reads, malformed}
@@ -7,26 +7,26 @@ use Rattle.legacy_base.specs.States.{DecoderState, state_of, may_hold, rests}
 use Rattle.legacy_base.specs.Acts.{takes, writes, act_room}
 use Rattle.legacy_decoder_engine.specs.Steps.{Step, hold, finish, leave, step_held, DecoderMachine}
 
--- the units of scalars
+-- the number of code units of scalars
 abbrev pub units : (ℕ → ℕ) → List ℕ → ℕ
 units len [] = 0
 units len (c ∷ scalars) = len c + units len scalars
 
--- the units that a step writes, with `fault` for a malformed sequence
+-- the code units that a step writes, with `fault` for a malformed sequence
 abbrev pub step_units : (ℕ → ℕ) → ℕ → Step → ℕ
 step_units len fault hold = 0
 step_units len fault (finish (reads n scalars)) = units len scalars
 step_units len fault (finish (malformed n)) = fault
 step_units len fault (leave n) = fault
 
--- 1 where the byte is still to be read, and 0 where it was
+-- 1 if the byte is still to be read, and 0 if it was read
 abbrev pub step_left : Step → ℕ
 step_left hold = 0
 step_left (finish f) = 0
 step_left (leave n) = 1
 
--- what the units of UTF-8 and of UTF-16 have in common: `narrow` is that of the longest scalar up to U+FFFF, and of
--- U+FFFD, and `wide` that of the longest one
+-- The common properties of the code units of UTF-8 and UTF-16. `narrow` is the number of code units of U+FFFD, and of
+-- the longest scalar up to U+FFFF. `wide` is that of the longest scalar.
 pub record IsWidth (len : ℕ → ℕ) (narrow wide : ℕ) : Type 0 where
   pub ascii : (c : ℕ) → c < 0x80 → len c ≡ 1
   pub two : (c : ℕ) → c < 0x800 → len c + len c ≤ wide
@@ -41,23 +41,23 @@ pub record IsWidth (len : ℕ → ℕ) (narrow wide : ℕ) : Type 0 where
 abbrev pub IsNarrowIndex : List ℕ → Type 0
 IsNarrowIndex index = All (λ c. c < 0x1_0000) index
 
--- What a step is to write: no more than the room of reading the byte, and no more than the room that n more bytes
--- need less than before. `wt` is the weight of what is held back. The last part counts no malformed sequence; twice
--- what is written is paid by `slope` for each byte.
+-- The bounds of what a step writes: the room for reading the byte, and the room that n fewer bytes save. `wt` is the
+-- weight of the held-back bytes. The last bound counts no malformed sequence: `slope` for each byte pays for twice the
+-- code units written.
 pub record Cost (len : ℕ → ℕ) (narrow at_most : ℕ) (wt : List ℕ → ℕ) (slope : ℕ) (held : List ℕ) (b : ℕ) (s : Step) : Type 0 where
   pub fits : step_units len narrow s ≤ at_most
   pub pays : step_units len narrow s + narrow * (wt (step_held s held b) + step_left s) ≤ narrow * (wt held + 1)
   pub pays_without : 2 * step_units len 0 s + slope * (wt (step_held s held b) + step_left s) ≤ slope * (wt held + 1)
 
--- a scalar that is held back in the first k bytes has its room, and the room needed then falls by its units
+-- a held-back scalar in the first k bytes has its room, and the room needed falls by its code units
 abbrev pub WritePays : (ℕ → ℕ) → ℕ → ℕ → (DecoderState → ℕ → ℕ) → Grammar → List ℕ → Option (ℕ × ℕ) → Type 0
 WritePays len narrow wide room g held None = Unit {0}
 WritePays len narrow wide room g held (Some (k, c)) =
     (len c ≤ act_room narrow wide (state_of g held) writes)
     × ((n : ℕ) → room (state_of g (drop k held)) n + len c ≤ room (state_of g held) n)
 
--- Each move has its room, and lowers the room of what is still to come by what it writes (and by `fault` for a malformed
--- sequence). That room covers reading a byte, and writing or reporting what is held back.
+-- Each move has its room, and lowers the room still needed by what it writes (and by `fault` for a malformed sequence).
+-- That room covers reading a byte, and writing or reporting the held-back bytes.
 pub record RoomMeets (len : ℕ → ℕ) (narrow wide fault : ℕ) (room : DecoderState → ℕ → ℕ) (g : Grammar) (m : DecoderMachine) : Type 0 where
   pub step_fits : (held : List ℕ) (b : ℕ) → may_hold g held ≡ true → rests g held ≡ true → AreBytes held → IsByte b →
       step_units len narrow (m.step held b) ≤ act_room narrow wide (state_of g held) (takes b)

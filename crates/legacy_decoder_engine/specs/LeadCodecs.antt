@@ -1,4 +1,4 @@
--- The codecs whose forms have one byte, or a lead and a trail: what their one decoder asks of each.
+-- The codecs whose sequences are one byte, or a lead and a trail: what their common decoder requires of each.
 use Rattle.std.specs.Prelude.{◌≡◌, ℕ, ◌<◌, ◌≤◌, List, [], ◌∷◌, Bool, true, false, length, Option, Some, None, MatchOption}
 use Rattle.std.specs.Char.{is_ascii}
 use Rattle.legacy_base.specs.Fronts.{reads}
@@ -17,20 +17,20 @@ use Rattle.legacy_decoder_engine.specs.Shown.{IsShown}
 abbrev pub IsPastAscii : ℕ → Type 0
 IsPastAscii b = (0x80 ≤ b) × (b < 0x100)
 
--- the byte as a lead, if it is one
+-- the byte as a lead, or none
 abbrev pub IsLeadOf : {L : Type 0} → (ℕ → Bool) → (L → ℕ) → ℕ → Option L → Type 0
 IsLeadOf is_lead_byte byte_of b lead = MatchOption lead (is_lead_byte b ≡ false) (λ l. (byte_of l ≡ b) × (is_lead_byte b ≡ true))
 
--- nothing, or the byte of a lead
+-- the byte of a lead, or nothing
 abbrev pub held_bytes : {L : Type 0} → (L → ℕ) → Option L → List ℕ
 held_bytes byte None = []
 held_bytes byte (Some lead) = byte lead ∷ []
 
--- what such a decoder is between two calls
+-- the state of such a decoder between two calls
 abbrev pub lead_state : {L : Type 0} → (FlatIndexes → Grammar) → (L → ℕ) → AcceptedIndexes → Option L → DecoderState
 lead_state grammar byte tables held = record { grammar = grammar tables.flat; held = held_bytes byte held }
 
--- what it asks of the grammar by the flat indexes, by the bytes that are leads, its first step, and its pairs
+-- the requirements on the grammar, given the flat indexes, the leads, the first step and the pairs
 pub record IsLeadCodec (grammar : FlatIndexes → Grammar) (is_lead_byte : ℕ → Bool) (first : ℕ → Step) (scalars : FlatIndexes → ℕ → ℕ → List ℕ) : Type 0 where
   pub shown : (flat : FlatIndexes) → AreAccepted flat → IsShown (grammar flat) (two_byte_machine (grammar flat) first (scalars flat))
   pub may_is : (flat : FlatIndexes) (held : List ℕ) → may_hold (grammar flat) held ≡ single_lead_may_hold is_lead_byte held

@@ -9,3 +9,6 @@ pub mod LeadCodecs
 pub mod Places
 pub mod Settling
 pub mod Shown
+pub mod PickedForms
+pub mod LaneCodes
+pub mod LaneRows

@@ -1,4 +1,4 @@
--- What the small moves of a decoder do, of which its calls are made. A move is the same in both encoding forms.
+-- The small moves of a decoder, which make up its calls. A move is the same in both encoding forms.
 use Rattle.std.specs.Prelude.{◌≡◌, ◌≢◌, ℕ, ◌+◌, ◌-◌, ◌<◌, ◌≤◌, List, [], ◌∷◌, ◌++◌, length, map, true, false, IsTrue, Bool, Option, None, ◌⊎◌, All, if◌then◌else◌}
 use Rattle.std.specs.Char.{IsScalar}
 use Rattle.legacy_base.specs.declared.results.DecodeEvent.{DecodeEvent}
@@ -19,7 +19,7 @@ use Rattle.legacy_decoder_engine.specs.declared.moves.Move.TheVariants.{Release,
 use Rattle.legacy_decoder_engine.specs.declared.moves.Fed.{Fed}
 use Rattle.legacy_decoder_engine.specs.declared.moves.Fed.TheVariants.{Nothing, One, Two, Fault}
 
--- how many code units an amount of room is
+-- the number of code units of an amount of room
 abbrev pub room_units : EncodingForm → Room → ℕ
 room_units form NoRoom = 0
 room_units form OneUnit = 1
@@ -42,85 +42,85 @@ pub record IsCovered (state : DecoderState) : Type 0 where
 
 -- ---- reading a byte
 
--- the scalars that a byte led to
+-- the scalars that a byte gives
 abbrev pub fed_scalars : Fed → List ℕ
 fed_scalars Nothing = []
 fed_scalars (One c) = c ∷ []
 fed_scalars (Two c d) = c ∷ d ∷ []
 fed_scalars (Fault sequence back unread) = []
 
--- the malformed sequence that a byte led to, which ends the bytes that are done with
+-- the malformed sequence that a byte reveals; it ends the bytes that are done with
 abbrev pub fed_fault : ℕ → Fed → List DecodeEvent
 fed_fault passed Nothing = []
 fed_fault passed (One c) = []
 fed_fault passed (Two c d) = []
 fed_fault passed (Fault sequence back unread) = Bad (passed - sequence) sequence ∷ []
 
--- the code units that a length query sets aside for it
+-- the code units that a length query sets aside for that sequence
 abbrev pub fed_units : LengthQuery → Fed → ℕ
 fed_units query Nothing = 0
 fed_units query (One c) = 0
 fed_units query (Two c d) = 0
 fed_units query (Fault sequence back unread) = replacement_units query
 
--- the byte, where it is not read
+-- the byte, if it is not read
 abbrev pub unread_byte : ℕ → Fed → List ℕ
 unread_byte byte Nothing = []
 unread_byte byte (One c) = []
 unread_byte byte (Two c d) = []
 unread_byte byte (Fault sequence back unread) = if unread then byte ∷ [] else []
 
--- What is held back rests, but behind a malformed sequence, which lies among the bytes seen and ends before those that
--- are held back.
+-- After a malformed sequence, the sequence is among the bytes seen and ends before the held-back bytes. Otherwise no
+-- held-back scalar is to be written.
 abbrev pub FedHolds : ℕ → DecoderState → Fed → Type 0
 FedHolds passed after Nothing = IsTrue (rests after.grammar after.held)
 FedHolds passed after (One c) = IsTrue (rests after.grammar after.held)
 FedHolds passed after (Two c d) = IsTrue (rests after.grammar after.held)
 FedHolds passed after (Fault sequence back unread) = IsFault (passed + length after.held) after sequence back
 
--- a byte led to a malformed sequence
+-- a byte reveals a malformed sequence
 abbrev pub IsFaulty : Fed → Type 0
 IsFaulty Nothing = ⊥
 IsFaulty (One c) = ⊥
 IsFaulty (Two c d) = ⊥
 IsFaulty (Fault sequence back unread) = Unit {0}
 
--- two grammars need the same room, for the same scalars
+-- two grammars need the same room for the same scalars
 pub record SameRooms (before after : Grammar) : Type 0 where
   pub full : (form : EncodingForm) → full_room_in form after ≡ full_room_in form before
   pub report : (form : EncodingForm) → release_room_in form after ≡ release_room_in form before
   pub wants : (previous : Option ℕ) (c : ℕ) → wants_full_room after previous c ≡ wants_full_room before previous c
 
--- what reading a byte does, where what is held back rests
+-- the result of reading a byte if no held-back scalar is to be written
 pub record Feeds (before : DecoderState) (byte : ℕ) (after : DecoderState) (fed : Fed) : Type 0 where
-  -- it goes on through the input
+  -- the decoder goes on through the input
   pub passed : ℕ
   pub progress : Progress false before (byte ∷ []) passed after (unread_byte byte fed) (map Scalar (fed_scalars fed) ++ fed_fault passed fed)
   pub holds : FedHolds passed after fed
   pub allowed : may_hold after.grammar after.held ≡ true
   pub rooms : SameRooms before.grammar after.grammar
-  -- what gave a scalar leaves nothing held back
+  -- a byte that gives a scalar leaves nothing held back
   pub empties : fed_scalars fed ≢ [] → after.held ≡ []
-  -- a malformed sequence, and a byte that is held back, had the full room, and a report needs no more
+  -- a malformed sequence and a held-back byte need the full room, and a report needs no more
   pub report : (form : EncodingForm) → release_room_in form before.grammar ≤ full_room_in form before.grammar
   pub full : (form : EncodingForm) → (IsFaulty fed ⊎ (after.held ≢ [])) → full_room_in form before.grammar ≤ read_room form before byte
-  -- the scalars fit into the room for reading the byte, and have the room that they want
+  -- the scalars fit into the room for reading the byte, and have the room that they need
   pub fits : (form : EncodingForm) → total_unit_count form (fed_scalars fed) ≤ read_room form before byte
   pub had : (form : EncodingForm) (free : ℕ) → read_room form before byte ≤ free → HadRoom form before.grammar None free (fed_scalars fed)
   pub scalar : All IsScalar (fed_scalars fed)
-  -- the room that is still needed falls by what is written
+  -- the room still needed falls by what is written
   pub lowers : (query : LengthQuery) (n : ℕ) →
       room query after (n + length (unread_byte byte fed)) + (total_unit_count (query_form query) (fed_scalars fed) + fed_units query fed) ≤ room query before (n + 1)
 
--- bytes were read one behind the other, each where there was room for it, and are held back
+-- bytes that were read one after another, each with its room, and are held back
 unfoldable pub HoldsBytes : EncodingForm → ℕ → DecoderState → List ℕ → DecoderState → Type 0
 HoldsBytes form free before [] after = after ≡ before
 HoldsBytes form free before (byte ∷ bytes) after =
     (mid : DecoderState) × Feeds before byte mid Nothing × (read_room form before byte ≤ free) × HoldsBytes form free mid bytes after
 
--- ---- writing a scalar that is held back
+-- ---- writing a held-back scalar
 
--- what writing it does
+-- the result of writing it
 pub record Releases (before : DecoderState) (after : DecoderState) (c : ℕ) : Type 0 where
   pub passed : ℕ
   pub progress : Progress false before [] passed after [] (Scalar c ∷ [])
@@ -133,8 +133,8 @@ pub record Releases (before : DecoderState) (after : DecoderState) (c : ℕ) : T
 
 -- ---- the end of input
 
--- what reporting a malformed sequence of so many bytes does, with so many held back behind it, also where bytes follow with
--- which it is malformed all the same
+-- The result of reporting a malformed sequence of `sequence` bytes, with `back` bytes held back after it. Bytes that
+-- follow may not change that sequence.
 pub record Reports (before : DecoderState) (after : DecoderState) (sequence back : ℕ) : Type 0 where
   pub passed : ℕ
   pub holding : before.held ≢ []
@@ -145,8 +145,8 @@ pub record Reports (before : DecoderState) (after : DecoderState) (sequence back
 
 -- ---- the end of a call
 
--- Behind the input a call with so much room ended with this answer: InputEmpty where nothing is left to report or it is
--- not the last call, OutputFull where the report lacks its room, else the report.
+-- The result of a call after its input, with `free` free code units. It is InputEmpty if there is nothing to report or
+-- the call is not the last one, OutputFull if the report lacks its room, and otherwise the report.
 abbrev pub Finishes : EncodingForm → DecoderState → Bool → ℕ → DecoderState → DecoderResult → Type 0
 Finishes form before last free after InputEmpty = (after ≡ before) × (IsTrue last → events_of before.grammar before.held ≡ [])
 Finishes form before last free after OutputFull =

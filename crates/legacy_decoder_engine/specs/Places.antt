@@ -1,4 +1,5 @@
--- The places of the bytes of a pair: their sum is its pointer. A byte that is none has a place past the end of every index.
+-- The places of the bytes of a pair, whose sum is the pointer. A byte that is no lead or trail has a place past the end
+-- of every index.
 use Rattle.std.specs.Prelude.{◌≡◌, ℕ, ◌≤◌, ◌-◌, ◌*◌, List, map, Option, Some, None, if◌then◌else◌}
 use Rattle.std.specs.List.{range_with_len}
 use Rattle.legacy_base.specs.States.{is_lead}
@@ -7,7 +8,7 @@ use Rattle.legacy_base.specs.States.{is_lead}
 abbrev pub IsTableOf : (ℕ → ℕ) → List ℕ → Type 0
 IsTableOf place table = table ≡ map place (range_with_len 0 256)
 
--- the pointer, or where there is none a number past the end of every index
+-- the pointer; without one, a number past the end of every index
 abbrev pub IsPointer : Option ℕ → ℕ → Type 0
 IsPointer None place = 65535 ≤ place
 IsPointer (Some pointer) place = place ≡ pointer

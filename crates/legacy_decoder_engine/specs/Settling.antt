@@ -1,4 +1,4 @@
--- What the steps of a decoder leave behind.
+-- The states after the steps of a decoder.
 use Rattle.std.specs.Prelude.{ℕ, suc, ◌≡◌, List, [], ◌∷◌, ◌++◌, Bool, true, ◌&&◌, length, Some}
 use Rattle.legacy_base.specs.Fronts.{reads, malformed}
 use Rattle.legacy_base.specs.Grammar.{Grammar}
@@ -6,15 +6,15 @@ use Rattle.legacy_base.specs.States.{rests}
 use Rattle.legacy_base.specs.Acts.{has_marks, is_mark_behind}
 use Rattle.legacy_decoder_engine.specs.Steps.{Step, hold, finish, leave}
 
--- one scalar at most, or a letter and its mark
+-- at most one scalar, or a letter and its mark
 abbrev pub IsOneOrMarked : Bool → List ℕ → Type 0
 IsOneOrMarked marks [] = Unit {0}
 IsOneOrMarked marks (c ∷ []) = Unit {0}
 IsOneOrMarked marks (c ∷ d ∷ []) = (marks && is_mark_behind (Some c) d) ≡ true
 IsOneOrMarked marks (c ∷ d ∷ e ∷ scalars) = ⊥
 
--- A byte that is held back leaves a state that rests. A form that was read leaves nothing held back, and is one
--- scalar, or two of Big5's.
+-- After a byte is held back, no held-back scalar is to be written. After a sequence is read, nothing is held back; the
+-- sequence gives at most one scalar, or a letter and a mark of Big5.
 abbrev pub Settles : Grammar → List ℕ → ℕ → Step → Type 0
 Settles to held b hold = rests to (held ++ b ∷ []) ≡ true
 Settles to held b (finish (reads n scalars)) = (n ≡ suc (length held)) × IsOneOrMarked (has_marks to) scalars

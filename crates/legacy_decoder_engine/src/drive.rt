@@ -1,4 +1,4 @@
-//! The one loop of all decoders, over the small moves that each decoder makes.
+//! The loop of all decoders, over the small moves that each decoder makes.
 ghost use Rattle.std.specs.Prelude.{◌≡◌, ℕ, ◌+◌, ◌<◌, ◌≤◌, ◌↔◌, ◌++◌, length, slice_index, IsTrue, true};
 ghost use Rattle.legacy_text.specs.EncodingForm.{all_code_units, total_unit_count};
 ghost use Rattle.legacy_base.specs.States.{rests};
@@ -38,7 +38,7 @@ fn put_fed<T: Destination>(dst: &mut T, fed: Fed)
     }
 }
 
-/// Ends a call whose input is read: where it is the last one, what is left is reported.
+/// Ends a call after its input: on the last call, reports the held-back bytes.
 #[inline(always)]
 fn finish<D: DecoderMoves, T: Destination>(decoder: &mut D, dst: &T, last: bool) -> DecoderResult
     requires { rests (D.state decoder.old).grammar (D.state decoder.old).held ≡ true }
@@ -57,10 +57,13 @@ fn finish<D: DecoderMoves, T: Destination>(decoder: &mut D, dst: &T, last: bool)
     }
 }
 
-/// One call of a decoder: lets it make its moves until the input is read, room is lacking or a malformed
-/// sequence is to be reported. Answers which of the three, and how many bytes of `src` were read; the
-/// scalars stand in `dst` behind what it held. With `last` nothing comes behind `src`. A scalar to be
-/// written first is held back only as a call begins. Runs of common forms are read ahead of the moves.
+/// Runs one call of a decoder.
+///
+/// The decoder makes its moves until the input is read, the output lacks room, or a malformed
+/// sequence is to be reported. The result says which, with the number of bytes read from `src`. The
+/// scalars are in `dst`, after its earlier contents. With `last`, no input follows `src`. A
+/// held-back scalar that is to be written exists only at the beginning of a call. Runs of common
+/// sequences are read ahead of the moves.
 #[inline(always)]
 pub fn drive_decoder<D: DecoderMoves, T: Destination>(
     decoder: &mut D,
@@ -113,7 +116,7 @@ pub fn drive_decoder<D: DecoderMoves, T: Destination>(
     (finish(decoder, dst, last), src.len())
 }
 
-/// How many bytes at the front are malformed each by itself, up to the first that is not.
+/// Returns the number of bytes at the front that are each malformed by itself.
 #[inline]
 pub fn count_lone<D: DecoderMoves>(decoder: &D, src: &[u8]) -> usize
     ensures count { result ≤ length src.now }

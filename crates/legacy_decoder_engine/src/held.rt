@@ -1,4 +1,4 @@
-//! A lead that decoders hold back between two calls.
+//! Leads that decoders hold back between two calls.
 ghost use Rattle.std.specs.Prelude.{◌≡◌, ◌≤◌, true, false, MatchOption};
 ghost use Rattle.legacy_base.specs.States.{is_lead};
 
@@ -11,7 +11,7 @@ pub struct Lead {
 }
 
 impl Lead {
-    /// The byte as a lead, if it is one.
+    /// Returns the byte as a lead, or `None` if it is not one.
     #[inline]
     pub fn new(byte: u8) -> Option<Lead>
         ensures { MatchOption result (is_lead byte ≡ false)

@@ -10,7 +10,7 @@ ghost use Rattle.legacy_base.specs.Lengths.{answer, utf16_formula, utf8_formula,
 ghost use Rattle.legacy_base.specs.Fronts.{malformed};
 ghost use Rattle.legacy_decoder_engine.specs.Steps.{Step, finish, trail_step};
 ghost use Rattle.legacy_decoder_engine.specs.Moves.{room_units};
-ghost use Rattle.legacy_decoder_engine.specs.Ahead.{IsCommonForm};
+ghost use Rattle.legacy_decoder_engine.specs.Ahead.{IsCommonForm, ReadsAhead};
 ghost use Rattle.legacy_decoder_engine.specs.Feeding.{Took};
 ghost use Rattle.legacy_decoder_engine.specs.LeadCodecs.{IsLeadCodec, held_bytes, lead_state};
 
@@ -20,10 +20,7 @@ use crate::common_forms::{
 use crate::drive::{count_lone, drive_decoder};
 use crate::moves::{DecoderMoves, Fed, Move, Room};
 use crate::runs::read_one;
-use legacy_base::{
-    DecoderResult, DecoderTables, Destination, FlatTables, KeptTables, PackedTables, RawDecoder,
-    Tables,
-};
+use legacy_base::{DecoderResult, DecoderTables, Destination, FlatTables, RawDecoder, Tables};
 
 /// A codec whose forms have one byte, or a lead and a trail: all that its decoder does not share.
 pub trait LeadCodec {
@@ -89,6 +86,16 @@ pub trait LeadCodec {
     ghost leads: { (lead : Self.Lead) → is_lead (byte_of lead) ≡ true };
 }
 
+/// How the decoder of such a codec reads ahead over flat tables.
+pub trait LeadRuns: LeadCodec {
+    /// Reads common forms and ASCII from the front of `src`, where nothing is held back, and writes their scalars to
+    /// `dst`, as far as three code units more than they need are free. Answers how many bytes were read: none is an answer
+    /// too.
+    fn read_flat<T: Destination>(tables: &FlatTables<'_>, src: &[u8], dst: &mut T) -> usize
+        ensures { ReadsAhead T.Destination (new_state (Self.grammar tables.now.flat)) src.now result
+            dst.old dst.new };
+}
+
 /// Whether the byte is malformed by itself where a form begins.
 #[inline(always)]
 fn is_fault<C: LeadCodec>(byte: u8) -> bool
@@ -137,7 +144,7 @@ impl<'a, C: LeadCodec> LeadDecoder<'a, C> {
     }
 }
 
-impl<'a, C: LeadCodec> DecoderMoves for LeadDecoder<'a, C> {
+impl<'a, C: LeadRuns> DecoderMoves for LeadDecoder<'a, C> {
     ghost state = { λ d. lead_state C.grammar C.byte_of d.tables.now d.held };
 
     #[inline]
@@ -200,17 +207,16 @@ impl<'a, C: LeadCodec> DecoderMoves for LeadDecoder<'a, C> {
 
     #[inline(always)]
     fn read_ahead<T: Destination>(&self, src: &[u8], dst: &mut T) -> usize {
-        match self.tables.kept() {
-            KeptTables::Flat(tables) => {
-                read_common_forms(
-                    &LeadForms::<C, FlatTables<'a>>::new(tables, self.held),
-                    src,
-                    dst,
-                )
+        match self.tables.flat() {
+            Some(tables) => {
+                if self.held.is_some() {
+                    return 0;
+                }
+                C::read_flat(tables, src, dst)
             }
-            KeptTables::Packed(tables) => {
+            None => {
                 read_common_forms(
-                    &LeadForms::<C, PackedTables<'a>>::new(tables, self.held),
+                    &LeadForms::<C, Tables<'a>>::new(self.tables, self.held),
                     src,
                     dst,
                 )
@@ -234,15 +240,15 @@ impl<'a, C: LeadCodec> DecoderMoves for LeadDecoder<'a, C> {
 
 /// The common forms of such a codec, by its tables as they are kept, where so much is held back.
 #[derive(Drop)]
-struct LeadForms<'a, C: LeadCodec, V: DecoderTables> {
-    tables: &'a V,
+pub struct LeadForms<'a, C: LeadCodec, V: DecoderTables> {
+    pub(crate) tables: &'a V,
     held: Option<C::Lead>,
 }
 
 impl<'a, C: LeadCodec, V: DecoderTables> LeadForms<'a, C, V> {
-    /// The common forms by these tables.
+    /// The common forms by these tables, where so much is held back.
     #[inline]
-    fn new(tables: &'a V, held: Option<C::Lead>) -> LeadForms<'a, C, V>
+    pub fn new(tables: &'a V, held: Option<C::Lead>) -> LeadForms<'a, C, V>
         ensures { lead_state C.grammar C.byte_of (V.indexes result.tables.now) result.held
             ≡ lead_state C.grammar C.byte_of (V.indexes tables.now) held }
     {
@@ -269,7 +275,7 @@ impl<'a, C: LeadCodec, V: DecoderTables> CommonForms for LeadForms<'a, C, V> {
     }
 }
 
-impl<'a, C: LeadCodec> RawDecoder for LeadDecoder<'a, C> {
+impl<'a, C: LeadRuns> RawDecoder for LeadDecoder<'a, C> {
     ghost state = { λ d. lead_state C.grammar C.byte_of d.tables.now d.held };
 
     #[inline(always)]

@@ -6,11 +6,15 @@
 pub mod common_forms;
 pub mod drive;
 pub mod held;
+pub mod lanes;
 pub mod lead;
 pub mod moves;
 pub mod pairs;
+mod pick_rows;
+mod picks;
 pub mod places;
 pub mod plain;
+pub mod rows;
 pub mod runs;
 pub mod trail;
 pub mod two_byte;

@@ -1,6 +1,7 @@
-//! Where the entry of a pair is in its index: a place for each lead, and one for each trail, of which the
-//! pointer is the sum. A byte that is none has a place past the end of every index, so what tests the pointer
-//! tests both bytes, and which of them a trail is makes no branch.
+//! Places of the two bytes of a pair in its index: the sum of the places is the pointer.
+//!
+//! A byte that is no lead or trail has a place past the end of every index. One test of the pointer
+//! therefore tests both bytes, and the range of the trail makes no branch.
 ghost use Rattle.std.specs.Prelude.{◌≡◌, ℕ, ◌+◌};
 ghost use Rattle.legacy_decoder_engine.specs.Places.{IsTableOf};
 
@@ -25,8 +26,8 @@ pub static ROWS_OF_190: [u16; 256] = [
     21090, 21280, 21470, 21660, 21850, 22040, 22230, 22420, 22610, 22800, 22990, 23180, 23370, 23560, 23750, 65535,
 ];
 
-/// The pointer of two bytes, by a table of places for each of them.
-// Inlined always, so that the tables are constants where their entries are read.
+/// Returns the pointer of two bytes, from a table of places for each.
+// Always inlined, so that the tables are constants where their entries are read.
 #[inline(always)]
 pub fn pair_pointer(leads: &[u16; 256], trails: &[u16; 256], lead: u8, trail: u8) -> usize
     ensures { (lead_place trail_place : ℕ → ℕ) → IsTableOf lead_place leads.now →

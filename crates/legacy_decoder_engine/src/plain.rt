@@ -1,6 +1,6 @@
 //! The plain codecs of leads and trails: ASCII bytes are themselves, a lead and a trail give the scalar of
 //! their pointer in one index, and there are no other forms.
-ghost use Rattle.std.specs.Prelude.{◌≡◌, ℕ, [], Bool, true, Option, None, option_to_list, IfSome, if◌then◌else◌, ⊤};
+ghost use Rattle.std.specs.Prelude.{◌≡◌, ℕ, ◌<◌, ◌/◌, ◌%◌, map, [], Bool, true, Option, None, option_to_list, IfSome, if◌then◌else◌, ⊤};
 ghost use Rattle.std.specs.Char.{IsScalar};
 ghost use Rattle.legacy_tables.specs.declared.tables.IndexName.{IndexName};
 ghost use Rattle.legacy_tables.specs.Tables.{index_list, is_narrow_index};
@@ -11,12 +11,14 @@ ghost use Rattle.legacy_decoder_engine.specs.LeadMachines.{lead_first};
 ghost use Rattle.legacy_decoder_engine.specs.Places.{IsPointer};
 
 use crate::common_forms::CommonForm;
-use crate::lead::LeadCodec;
+use crate::lanes::{LaneForms, read_lane_forms};
+use crate::lead::{LeadCodec, LeadForms, LeadRuns};
 use crate::moves::{Fed, Room};
 use crate::two_byte::{read_first, read_trail};
-use legacy_base::{DecoderTables, IndexName, Tables};
+use legacy_base::{DecoderTables, Destination, FlatTables, IndexName, Tables};
 use std::alloc::AllocError;
 use std::marker::PhantomData;
+use std::simd::prelude::*;
 
 /// A plain codec of leads and trails: all that it does not share with the others.
 pub trait PlainCodec {
@@ -40,6 +42,16 @@ pub trait PlainCodec {
     /// and trail.
     fn pointer(lead: u8, trail: u8) -> usize
         ensures { IsPointer (if leads lead then pointers lead trail else None) result };
+
+    /// The place of a code, its first byte low, in the index, or a number past its end.
+    ghost place: { ℕ → ℕ };
+
+    /// The places of eight codes.
+    fn places(codes: u16x8) -> u16x8
+        ensures { result ≡ map place codes };
+
+    ghost is_place: { (code : ℕ) → code < 0x1_0000 →
+        IsPointer (if leads (code % 0x100) then pointers (code % 0x100) (code / 0x100) else None) (place code) };
 
     ghost narrow: { is_narrow_index INDEX ≡ true };
 
@@ -104,6 +116,22 @@ fn pair_scalar<C: PlainCodec>(tables: &Tables<'_>, lead: PlainLead<C>, trail: u8
     form_scalar::<C, Tables<'_>>(tables, lead.byte, trail)
 }
 
+impl<'a, 'b, C: PlainCodec> LaneForms for LeadForms<'a, Plain<C>, FlatTables<'b>> {
+    ghost entries = { λ forms. index_list forms.tables.now.flat C.INDEX };
+
+    ghost pointer = { C.place };
+
+    #[inline(always)]
+    fn index(&self) -> &[u16] {
+        self.tables.narrow(C::INDEX)
+    }
+
+    #[inline(always)]
+    fn pointers(codes: u16x8) -> u16x8 {
+        C::places(codes)
+    }
+}
+
 /// A plain codec as what its decoder asks for.
 pub struct Plain<C: PlainCodec> {
     codec: PhantomData<C>,
@@ -161,5 +189,13 @@ impl<C: PlainCodec> LeadCodec for Plain<C> {
 
     fn utf8_length(byte_length: usize, held: usize) -> Option<usize> {
         byte_length.checked_add(held)?.checked_mul(3)
+    }
+}
+
+impl<C: PlainCodec> LeadRuns for Plain<C> {
+    #[inline(always)]
+    fn read_flat<T: Destination>(tables: &FlatTables<'_>, src: &[u8], dst: &mut T) -> usize {
+        let forms = LeadForms::<Plain<C>, FlatTables<'_>>::new(tables, None);
+        read_lane_forms(&forms, src, dst)
     }
 }

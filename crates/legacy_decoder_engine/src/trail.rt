@@ -1,11 +1,12 @@
-//! The rule of trails that do not map.
+//! The rule for trails that do not map.
 ghost use Rattle.std.specs.Prelude.{◌≡◌, ◌+◌, ◌<◌, true, false, if◌then◌else◌};
 ghost use Rattle.std.specs.Char.{is_ascii};
 
 use crate::moves::Fed;
 
-/// What a byte leads to that ends the bytes before it, which are so many, without a scalar: an ASCII
-/// byte is left unread behind the malformed sequence, any other byte is its last one.
+/// Returns the result of a byte that ends a sequence of `before` bytes without a scalar.
+///
+/// An ASCII byte is left unread after the malformed sequence. Any other byte is its last one.
 #[inline]
 pub fn unmapped(before: u8, byte: u8) -> Fed
     requires { before < 4 }

@@ -1,4 +1,4 @@
-//! What the codecs with forms of one lead and one trail have in common.
+//! The common steps of codecs whose sequences are a lead and a trail.
 ghost use Rattle.std.specs.Prelude.{◌≡◌, ℕ, [], ◌∷◌, Bool, false, option_to_list};
 ghost use Rattle.legacy_decoder_engine.specs.Steps.{trail_step};
 ghost use Rattle.legacy_decoder_engine.specs.LeadMachines.{lead_first};
@@ -7,7 +7,7 @@ ghost use Rattle.legacy_decoder_engine.specs.LeadCodecs.{IsLeadOf, held_bytes};
 
 use crate::moves::Fed;
 
-/// A malformed sequence that the byte ends, with nothing held back behind it.
+/// Returns a malformed sequence that ends with the byte, with nothing held back after it.
 #[inline]
 pub fn fault_through(length: u8) -> Fed
     ensures { result ≡ Fed.Fault length 0 false }
@@ -19,8 +19,9 @@ pub fn fault_through(length: u8) -> Fed
     }
 }
 
-/// Reads the first byte of a form, where this is the byte as a lead, if it is one: ASCII is itself, a
-/// lead is held back, and any other byte is malformed.
+/// Reads the first byte of a sequence, given the byte as a lead or `None`.
+///
+/// ASCII is its own scalar, a lead is held back, and any other byte is malformed.
 #[inline]
 pub fn read_first<L: Copy>(byte: u8, lead: Option<L>) -> (Fed, Option<L>)
     ensures { (is_lead : ℕ → Bool) (byte_of : L → ℕ) → IsLeadOf is_lead byte_of byte lead
@@ -35,8 +36,10 @@ pub fn read_first<L: Copy>(byte: u8, lead: Option<L>) -> (Fed, Option<L>)
     }
 }
 
-/// Reads the trail behind a lead, where the pair gives this scalar, if it gives any. An ASCII trail of
-/// a pair that gives none is left unread, and the lead alone is malformed; else both are.
+/// Reads the trail after a lead, given the scalar of the pair or `None`.
+///
+/// If the pair has no scalar, an ASCII trail is left unread and the lead alone is malformed. If the
+/// trail is not ASCII, both are malformed.
 #[inline]
 pub fn read_trail(scalar: Option<char>, trail: u8) -> Fed
     ensures { (lead : ℕ) → Took (trail_step 1 (option_to_list scalar) trail)

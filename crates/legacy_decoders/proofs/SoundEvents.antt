@@ -1,4 +1,4 @@
--- The events of a list, in each codec: malformed sequences inside it, and Unicode scalar values.
+-- The events of a list in each codec: malformed sequences are inside it, and scalars are Unicode scalar values.
 use Rattle.std.proofs.Common.{◌≡◌, ℕ, ◌+◌, ◌<◌, ◌≤◌, List, [], ◌∷◌, Bool, true, false, length, sym, subst, arith, ◌||◌, ◌&&◌, Some}
 use Rattle.std.proofs.lemmas.Bool.{cond_both, and_parts}
 use Rattle.std.proofs.lemmas.Bool.Decides.{nat_tests}

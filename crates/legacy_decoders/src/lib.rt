@@ -1,5 +1,6 @@
-//! The decoders of the legacy encodings, by name, and laws of their grammars. Each decoder stands in the
-//! crate of its chapter of the Encoding Standard.
+//! The decoders of the legacy encodings, by name, and laws of their grammars.
+//!
+//! Each decoder is in the crate of its chapter of the Encoding Standard.
 #![tactic(auto)]
 
 pub mod laws;

@@ -1,4 +1,4 @@
--- How a list of codes is filled one by one.
+-- Filling a list of codes one by one.
 use Rattle.std.proofs.Common.{◌⊎◌, nat_le, nat_lt, refl, Bool, true, false, ◌||◌, ◌&&◌, ◌≡◌, ◌≢◌, ◌∙◌, ℕ, ◌+◌, ◌<◌, List, slice_set, length-set, arith, inl, inr, get_or-set_other, get_or-set_same}
 use Rattle.std.proofs.lemmas.Bool.{cases_lt, cases_eq}
 use borrow.Author.Tests.{ltb-true, leb-true, lt-ltb}
@@ -27,7 +27,7 @@ below_other c code h n = elim (cases_lt c code) [
 ]
 
 module _ (Is : ℕ → ℕ → Type 0) (done : ℕ → Bool) (first : ℕ) where
-  -- none yet
+  -- before the first scalar of a range
   pub none-asked : (pairs : List ℕ) → AreWhere Is done pairs → AreWhere Is (or_between done first first) pairs
   none-asked pairs now = record {
     all = now.all;
@@ -37,7 +37,7 @@ module _ (Is : ℕ → ℕ → Type 0) (done : ℕ → Bool) (first : ℕ) where
     ];
   }
 
-  -- one more
+  -- after one more scalar
   pub asked-more : (code : ℕ) (pairs : List ℕ) → AreWhere Is (or_between done first code) pairs → code < 65536 → (entry : ℕ) → Is code entry
       → AreWhere Is (or_between done first (code + 1)) (slice_set pairs code entry)
   asked-more code pairs now within entry is = record {
@@ -55,7 +55,7 @@ module _ (Is : ℕ → ℕ → Type 0) (done : ℕ → Bool) (first : ℕ) where
     ];
   }
 
--- all entries are right
+-- if each scalar passes the test, all entries are right
 pub all-right : (codec : Codec) (done : ℕ → Bool) (pairs : List ℕ) → AreRightWhere codec done pairs → ((c : ℕ) → c < 65536 → done c ≡ true) → AreAllPairsOf codec pairs
 all-right codec done pairs now all = record {
   right = record { all = now.all; told = λ c h. (now.right c h (all c h)).told };

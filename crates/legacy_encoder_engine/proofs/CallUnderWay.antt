@@ -1,4 +1,4 @@
--- How the moves of an encoder make a call.
+-- The moves of an encoder make a call.
 use Rattle.std.proofs.Common.{◌≡◌, ◌∙◌, ℕ, suc, ◌+◌, ◌-◌, ◌≤◌, ◌<◌, List, [], ◌∷◌, ◌++◌, length, get_or, take, drop, map, refl, sym}
 use Rattle.std.proofs.Common.{ap, subst, arith, append_assoc, append-nil, length-append, length-take, length-drop, add-zero, inl, inr, Bool, true, false, IsTrue, Some, None, slice_get, not, IsAscii, ◌⊎◌}
 use Rattle.std.proofs.lemmas.Bool.{cases_lt}
@@ -43,7 +43,7 @@ map_bytes-append : (xs ys : List ℕ) → map Byte (xs ++ ys) ≡ map Byte xs ++
 map_bytes-append [] ys = refl
 map_bytes-append (x ∷ xs) ys = ap (λ l. Byte x ∷ l) (map_bytes-append xs ys)
 
--- where no escape is wanted, the mode stays
+-- if no escape is needed, the mode is unchanged
 same_mode : (m n : EncoderMode) → differs m n ≡ false → n ≡ m
 same_mode in_ascii in_ascii e = refl
 same_mode in_ascii in_roman e = cc
@@ -58,7 +58,7 @@ same_mode in_two_byte in_two_byte e = refl
 state_stays : (state : EncoderState) (c : ℕ) → wants_escape state c ≡ false → state_for state c ≡ state
 state_stays state c e = ap (λ m. record { codec = state.codec; mode = m }) (same_mode state.mode ((encoder_profile state.codec).mode_for state.mode c) e)
 
--- nothing to write, and something
+-- a list whose test says that it is empty has no items
 no_bytes : (bytes : List ℕ) → not (is_empty bytes) ≡ false → bytes ≡ []
 no_bytes [] e = refl
 no_bytes (b ∷ bytes) e = cc
@@ -75,7 +75,7 @@ get_or-append_at : (xs : List ℕ) (y : ℕ) (ys : List ℕ) → get_or (xs ++ y
 get_or-append_at [] y ys = refl
 get_or-append_at (x ∷ xs) y ys = get_or-append_at xs y ys
 
--- behind a scalar that is read nothing more comes before the end
+-- after a move that reads a scalar, an empty text that continues gives no bytes
 no_more : (next : EncoderState) → Serves (encoder_profile next.codec) → (move : EncoderMove) (c : ℕ) → is_escape move ≡ false
     → byte_count (move_report move ++ encoded next (unread_scalar move c ++ []) false) ≡ 0
 unfolding byte_count
@@ -107,7 +107,7 @@ escape_three (moves.Four a b x d) e = cc
 escape_three (moves.Escape a b) e = refl
 escape_three (moves.Unmappable r) e = cc
 
--- the code of a scalar and its room, by the codec alone
+-- the code of a scalar and its room depend only on the codec
 code_same : (now before : EncoderState) (c : ℕ) → now.codec ≡ before.codec → code_length (code now c) ≡ code_length (code before c)
 code_same now before c e = ap (λ k. code_length ((encoder_profile k).code c)) e
 
@@ -164,7 +164,7 @@ module _ (before : EncoderState) (source : List ℕ) (last : Bool) (free : ℕ) 
             let r = served_before.rises form (total_unit_count form source) n h in
             omega arith
 
-    -- what lacked room at once lacks it still
+    -- an act that lacks room when the call begins still lacks it
     still : EncoderLacksRoom before source last free → EncoderLacksRoom now left last (free - length bytes)
     still l = let o = under.once l in rw (o.2, o.0, o.1, sub-zero) l
 
@@ -172,7 +172,7 @@ module _ (before : EncoderState) (source : List ℕ) (last : Bool) (free : ℕ) 
       units_at : (form : EncodingForm) → total_unit_count form left ≡ unit_count form c + total_unit_count form rest
       units_at form = ap (total_unit_count form) at ∙ length-append (code_units form c) (all_code_units form rest)
 
-      -- the room for the scalars serves for the next one
+      -- the room for the remaining scalars is enough for the next one
       head_enough : (form : EncodingForm) → scalar_room now c + length bytes ≤ encoder_room form before (total_unit_count form source)
       head_enough form = elim under.lowers [
         | inl s ↦
@@ -203,7 +203,7 @@ module _ (before : EncoderState) (source : List ℕ) (last : Bool) (free : ℕ) 
         served_next : Serves (encoder_profile next.codec)
         served_next = subst (λ codec. Serves (encoder_profile codec)) (sym next_same) serves
 
-        -- the scalar with what its move gave
+        -- the events of the text, with those of the move for the scalar
         moved : (more : List ℕ) (ended : Bool)
             → encoded before (under.taken ++ (c ∷ more)) ended ≡ map Byte (bytes ++ move_bytes move) ++ (move_report move ++ encoded next (unread_scalar move c ++ more) ended)
         moved more ended =
@@ -244,7 +244,7 @@ module _ (before : EncoderState) (source : List ℕ) (last : Bool) (free : ℕ) 
               rw (t, g) (omega arith)
         ]
 
-        -- a scalar that is read leaves the state as it is
+        -- a move that reads the scalar leaves the state unchanged
         stays : is_escape move ≡ false → next ≡ now
         stays e = f.goes ∙ state_stays now c (sym f.asks ∙ e)
 
@@ -268,7 +268,7 @@ module _ (before : EncoderState) (source : List ℕ) (last : Bool) (free : ℕ) 
                   omega arith
             ])
 
-        -- behind an escape comes the scalar, and no other escape
+        -- after an escape the scalar follows, without another escape
         escape_lowers : is_escape move ≡ true → LowersEscaped before source next left (bytes ++ move_bytes move)
         escape_lowers e = elim under.lowers [
           | inr s ↦
@@ -351,7 +351,7 @@ module _ (before : EncoderState) (source : List ℕ) (last : Bool) (free : ℕ) 
         enough = λ form n k h e g x. cc;
       }
 
-    -- all is read
+    -- all scalars are read
     module _ (none : left ≡ []) where
       end_low : (form : EncodingForm) (t : ℕ) → encoder_room form now t + length bytes ≤ encoder_room form before (total_unit_count form source + t)
       end_low form t = elim under.lowers [
@@ -413,7 +413,7 @@ module _ (before : EncoderState) (source : List ℕ) (last : Bool) (free : ℕ) 
             escape : List ℕ
             escape = 0x1B ∷ 0x28 ∷ 0x42 ∷ []
 
-            -- what was written, and then the escape
+            -- the bytes written, and then the escape
             written : map Byte (bytes ++ escape) ++ [] ≡ map Byte bytes ++ map Byte escape
             written = append-nil (map Byte (bytes ++ escape)) ∙ map_bytes-append bytes escape
 
@@ -436,7 +436,7 @@ module _ (before : EncoderState) (source : List ℕ) (last : Bool) (free : ℕ) 
                 ∙ ap (λ l. l ++ encoded next more ended) (sym (map_bytes-append bytes escape))
                 ∙ ap (λ l. map Byte (bytes ++ escape) ++ encoded next (l ++ more) ended) (sym none)
 
--- ---- for the loop
+-- ---- lemmas for the loop
 
 pub no_report : (m : EncoderMove) → ((r : ℕ) → m ≡ moves.Unmappable r → ⊥) → move_report m ≡ []
 no_report (moves.One a) h = refl
@@ -459,12 +459,12 @@ first_nil (x ∷ xs) e = cc
 pub front_length : (n : ℕ) (xs : List ℕ) → n ≤ length xs → length (take n xs) ≡ n
 front_length n xs h = omega (arith, length-take n xs)
 
--- the code units of the first scalar, and of the others
+-- the code units of a text are those of its first scalar and of the others
 pub first_units : (form : EncodingForm) (left : List ℕ) (c : ℕ) → left ≡ c ∷ drop 1 left → total_unit_count form left ≡ unit_count form (get_or left 0 0) + total_unit_count form (drop 1 left)
 first_units form [] c e = cc
 first_units form (x ∷ xs) c e = length-append (code_units form x) (all_code_units form xs)
 
--- ---- what is read ahead of the moves
+-- ---- reading ahead
 
 module _ (state : EncoderState) (free : ℕ) where
   pub keeps_none : (left bytes : List ℕ) → KeepsOn state free left bytes left bytes
@@ -482,7 +482,7 @@ module _ (state : EncoderState) (free : ℕ) where
       keeps = λ before source last u. underway_read before source last free state left bytes u serves c rest at state move f room plain silent;
     }
 
-    -- a front of scalars that are ASCII, as it is
+    -- ASCII scalars at the beginning are written as themselves
     pub keeps_ascii : HasAscii state → (front left bytes rest : List ℕ) → IsAscii front → left ≡ front ++ rest → length bytes + length front ≤ free
         → KeepsOn state free left bytes rest (bytes ++ front)
     keeps_ascii has [] left bytes rest plain at fits = rw (append-nil bytes, at) (keeps_none rest bytes)
@@ -503,7 +503,7 @@ ascii_units form (c ∷ front) a =
     let others = ascii_units form front (λ i. a (suc i)) in
     omega (arith, length-append (code_units form c) (all_code_units form front))
 
--- the code units of a front that is ASCII, and of the others
+-- the code units of a text that begins with n ASCII scalars
 pub front_units : (form : EncodingForm) (left : List ℕ) (n : ℕ) → n ≤ length left → IsAscii (take n left) → total_unit_count form left ≡ n + total_unit_count form (drop n left)
 front_units form left n h a =
     let parts : left ≡ take n left ++ drop n left = sym (take-append-drop n left) in
@@ -512,13 +512,13 @@ front_units form left n h a =
     let long = length-take-le n left h in
     omega (arith, ap (total_unit_count form) parts)
 
--- the next scalar is there, with the number of its code units
+-- the next scalar exists, with its number of code units
 pub first_count : (form : EncodingForm) (left : List ℕ) (c n : ℕ) → left ≡ c ∷ drop 1 left → unit_count form c ≡ n → (0 < length left) × (n ≡ unit_count form (get_or left 0 0))
 first_count form [] c n e u = cc
 first_count form (x ∷ xs) c n e u = let same : x ≡ c = cc in (omega arith, sym u ∙ ap (unit_count form) (sym same))
 
--- What was read ahead, with one scalar more: the scalars and the bytes, where these end, how many scalars are left, and
--- how many code units were passed.
+-- Reading ahead, with one more scalar. It relates the scalars left, the bytes written, the end of these bytes and the
+-- code units passed, before and after.
 pub record ReadsOn (form : EncodingForm) (state : EncoderState) (free : ℕ) (left bytes : List ℕ) (start passed : ℕ) (left' bytes' : List ℕ) (end passed' : ℕ) : Type 0 where
   pub keeps : KeepsOn state free left bytes left' bytes'
   pub start_is : start ≤ end

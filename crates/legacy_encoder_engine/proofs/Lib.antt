@@ -1,4 +1,4 @@
--- What the loops stand on.
+-- The lemmas that the proofs of the loops use.
 pub mod CallUnderWay
 pub mod PlainServes
 pub mod PairAnswers

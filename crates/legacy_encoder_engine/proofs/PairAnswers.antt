@@ -1,4 +1,4 @@
--- What the length queries of the codecs of ASCII and pairs answer.
+-- The results of the length queries of codecs with ASCII and pairs.
 use Rattle.std.proofs.Common.{◌≡◌, ℕ, ap}
 use Rattle.legacy_text.specs.EncodingForm.{Utf8, Utf16}
 use Rattle.legacy_base.specs.EncoderProfile.{EncoderProfile}

@@ -1,4 +1,4 @@
--- The codecs without modes: their rooms serve for their scalars, and their moves are the codes of these.
+-- The codecs without modes: their rooms are enough for their scalars, and each move writes the code of its scalar.
 use Rattle.std.proofs.Common.{zero, suc, take, drop, get_or, append-nil, append_assoc, length-append, ◌≡◌, ◌∙◌, ℕ, ◌+◌, ◌-◌, ◌≤◌, ◌<◌, List, [], ◌∷◌}
 use Rattle.std.proofs.Common.{◌++◌, length, not, refl, sym, ap, subst, arith, Bool, true, false, Some, None, Option, cond, option_map, ltb, inl, inr}
 use Rattle.std.proofs.lemmas.Bool.{cases_lt, lt-ltb, le-ltb}
@@ -30,7 +30,7 @@ differs-same in_two_byte = refl
 never : {A : Type 0} (m : EncoderMode) → differs m m ≡ true → A
 never m e = let no : true ≡ false = sym e ∙ differs-same m in absurd (cc)
 
--- a scalar past ASCII has two bytes or more in UTF-8
+-- a scalar past ASCII has at least two bytes in UTF-8
 two_units : (c : ℕ) → 128 ≤ c → 2 ≤ unit_count Utf8 c
 two_units c a = elim (cases_lt c 2048) [
   | inl b ↦ rw (encode_2 c a b) (omega arith)
@@ -93,7 +93,7 @@ module _ (code : ℕ → Option (List ℕ)) (past most : ℕ) (from_utf8 from_ut
 
 -- ---- the moves
 
--- what a profile without modes does, with so much room past ASCII
+-- a profile without modes, with `past` bytes of room for a scalar past ASCII
 record ActsPlainly (p : EncoderProfile) (past : ℕ) : Type 0 where
   law : (c : ℕ) (more : List ℕ) (ended : Bool) → p.events in_ascii (c ∷ more) ended ≡ code_events c (p.code c) ++ p.events in_ascii more ended
   mode : (c : ℕ) → p.mode_for in_ascii c ≡ in_ascii
@@ -121,7 +121,7 @@ module _ (codec : Codec) (past : ℕ) (p : IsPlainCodec codec past) where
   code_is : (c : ℕ) → code S c ≡ p.code c
   code_is c = ap (λ (q : EncoderProfile). q.code c) p.profile_is
 
-  -- the room of ASCII, and of other scalars
+  -- the room of ASCII scalars and of other scalars
   pub ascii_room : (c : ℕ) → c < 128 → scalar_room S c ≡ 1
   ascii_room c h = acts_plainly.room c ∙ rw (lt-ltb c 128 h) refl
 
@@ -146,7 +146,7 @@ module _ (codec : Codec) (past : ℕ) (p : IsPlainCodec codec past) where
   asks : (c : ℕ) → false ≡ wants_escape S c
   asks c = rw (acts_plainly.mode c) refl
 
-  -- a move is the code of its scalar
+  -- a move that writes the code of its scalar is correct
   pub plain_moves : (c : ℕ) (move : EncoderMove) → IsCode (code S c) c move → Moves S c S move
   plain_moves c (One x) e = record {
     events = λ more ended. acts_plainly.law c more ended ∙ ap (λ o. code_events c o ++ encoded S more ended) e;
@@ -184,7 +184,7 @@ module _ (codec : Codec) (past : ℕ) (p : IsPlainCodec codec past) where
     moves = λ c h. plain_moves c (One c) (code_is c ∙ p.ascii c h);
   }
 
-  -- scalars that have a byte each, as these bytes
+  -- scalars with codes of one byte each are written as these bytes
   bytes_on : (free : ℕ) → past ≡ 1 → (front bytes left old rest : List ℕ) → length bytes ≡ length front
       → ((k : ℕ) → k < length front → code S (get_or front k 0) ≡ Some (get_or bytes k 0 ∷ []))
       → left ≡ front ++ rest → length old + length front ≤ free → KeepsOn S free left old rest (old ++ bytes)
@@ -211,11 +211,11 @@ module _ (codec : Codec) (past : ℕ) (p : IsPlainCodec codec past) where
       (λ k h. let below : k < suc m = omega (arith, h, long) in ap (code S) (get_or-take (suc m) left k 0 below) ∙ (w.each k below).1)
       (sym (take-append-drop (suc m) left)) (omega (arith, long)))
 
-  -- the end of a text writes nothing
+  -- the end of a text writes no bytes
   pub never_pending : is_pending S ≡ false
   never_pending = ap (λ l. not (is_empty l)) acts_plainly.never_ends
 
--- ---- how many bytes codes have
+-- ---- the lengths of codes
 
 pub short_if : (t : Bool) (a b : Option (List ℕ)) (n : ℕ) → code_length a ≤ n → code_length b ≤ n → code_length (cond t a b) ≤ n
 short_if true a b n p q = p
@@ -229,6 +229,6 @@ pub short_or : (a b : Option (List ℕ)) (n : ℕ) → code_length a ≤ n → c
 short_or None b n p q = q
 short_or (Some x) b n p q = p
 
--- past ASCII
+-- the code of a scalar past ASCII
 pub short_past : (c : ℕ) (a b : Option (List ℕ)) (n : ℕ) → 128 ≤ c → code_length b ≤ n → code_length (cond (ltb c 128) a b) ≤ n
 short_past c a b n h q = rw (le-ltb c 128 h) q

@@ -1,4 +1,4 @@
--- Code units of UTF-16 that are written several at a time.
+-- Writing the codes of several UTF-16 code units at a time.
 use Rattle.std.proofs.Common.{◌≡◌, ◌∙◌, ℕ, suc, ◌+◌, ◌/◌, ◌%◌, ◌<◌, ◌≤◌, List, [], ◌∷◌, ◌++◌, length, take, get_or, refl, sym, ap, subst, arith, append_assoc, inl, inr, Bool, true, false, ◌&&◌}
 use Rattle.std.proofs.Math.Seq.{take-suc}
 use Rattle.std.proofs.lemmas.Bool.{cases_lt}
@@ -19,12 +19,12 @@ both_set true true e = (refl, refl)
 both_set true false e = cc
 both_set false b e = cc
 
--- where a code unit's bytes were written, behind others that end at a place
+-- the bytes of a code unit are appended to the earlier bytes, which end at `at`
 pub record IsPut (c both : ℕ) (old : List ℕ) (at : ℕ) (new : List ℕ) (end : ℕ) : Type 0 where
   pub ascii : c < 128 → (end ≡ at + 1) × (new ≡ old ++ both % 256 ∷ [])
   pub past : 128 ≤ c → (end ≡ at + 2) × (new ≡ old ++ both % 256 ∷ both / 256 ∷ [])
 
--- they end one or two places further on, and what was before stays
+-- the bytes end one or two places later, and the earlier bytes are unchanged
 pub record IsPutBehind (start at : ℕ) (old new : List ℕ) (end : ℕ) : Type 0 where
   pub from : at + 1 ≤ end
   pub to : end ≤ at + 2
@@ -48,7 +48,7 @@ module _ (state : EncoderState) (free : ℕ) where
     keeps = λ rest. rw e (keeps_none state free rest old);
   }
 
-  -- one unit more, by the move that reads it
+  -- one more code unit, by the move that reads it
   pub units_more : (serves : Serves (encoder_profile state.codec)) (units old bytes new : List ℕ) (k c : ℕ) (move : EncoderMove) → PutsUnits state free (take k units) old bytes
       → k < length units → get_or units k 0 ≡ c → IsNoSurrogate c → Moves state c state move → is_escape move ≡ false → move_report move ≡ []
       → length bytes + scalar_room state c ≤ free → new ≡ bytes ++ move_bytes move → PutsUnits state free (take (suc k) units) old new
@@ -74,7 +74,7 @@ module _ (state : EncoderState) (free : ℕ) where
       }
 
 module _ (codec : Codec) (past : ℕ) (p : IsPlainCodec codec past) (free : ℕ) where
-  -- one unit more, by its code
+  -- one more code unit, by its code
   one_more : (units old bytes new : List ℕ) (k c : ℕ) (move : EncoderMove) → PutsUnits (new_encoder codec) free (take k units) old bytes
       → k < length units → get_or units k 0 ≡ c → IsNoSurrogate c → IsCode (code (new_encoder codec) c) c move → is_escape move ≡ false → move_report move ≡ []
       → length bytes + past ≤ free → new ≡ bytes ++ move_bytes move → PutsUnits (new_encoder codec) free (take (suc k) units) old new
@@ -82,7 +82,7 @@ module _ (codec : Codec) (past : ℕ) (p : IsPlainCodec codec past) (free : ℕ)
       let widest = widest_room codec past p c in
       units_more (new_encoder codec) free (plain_serves codec past p) units old bytes new k c move before within is lone (plain_moves codec past p c move own) reads silent (omega arith) new_is
 
-  -- one unit more, by its bytes
+  -- one more code unit, by its bytes
   pub puts_more : (units old bytes new : List ℕ) (k c both at end : ℕ) → PutsUnits (new_encoder codec) free (take k units) old bytes
       → k < length units → get_or units k 0 ≡ c → IsNoSurrogate c → HasUnitCode codec c both → length bytes ≡ at → at + past ≤ free
       → IsPut c both bytes at new end → PutsUnits (new_encoder codec) free (take (k + 1) units) old new

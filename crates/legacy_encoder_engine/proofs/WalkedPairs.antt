@@ -1,4 +1,4 @@
--- What a walk over an index makes of a list of codes.
+-- The list of codes after a walk over an index.
 use Rattle.std.proofs.Common.{◌≡◌, ◌≢◌, ◌∙◌, ℕ, ◌≤◌, List, length, slice_index, Option, Some, None, true, Bool, ap, sym, refl, subst, arith, nat_le, inl, inr}
 use Rattle.std.proofs.lemmas.Bool.{cases_lt}
 use Rattle.std.proofs.lemmas.Bool.Decides.{nat_tests}
@@ -15,19 +15,19 @@ use Rattle.legacy_base.specs.Encoders.{Codec}
 use Rattle.legacy_encoder_engine.specs.UnitTurns.{HasUnitCode}
 use Rattle.legacy_encoder_engine.specs.CachedPairs.{IsNoPair, IsRightEntry, AreRightWhere, or_between}
 
--- a scalar is no surrogate
+-- a scalar value is not a surrogate
 no-surrogate : (c : ℕ) → IsScalar c → IsNoSurrogate c
 no-surrogate c scalar high = grind (arith, nat_tests)
 
 module _ (codec : Codec) (part : PackedPart) (mark : ℕ → ℕ) (index : List ℕ) (done : ℕ → Bool) where
-  -- the codes of the scalars that pass a test are those of their pointers
+  -- the codes of the scalars that pass the test are those of their pointers
   pub record GoesByPointers : Type 0 where
     pub scalars : AreScalars index
     pub some : (p : ℕ) → mark p ≢ 0
     pub coded : (c p : ℕ) → done c ≡ true → pointer_of part index c ≡ Some p → HasUnitCode codec c (mark p)
     pub uncoded : (c : ℕ) → done c ≡ true → 0x80 ≤ c → pointer_of part index c ≡ None → IsNoPair codec c
 
-  -- so the list is right for these
+  -- then the entries of these scalars are right
   pub walked-right : GoesByPointers → (entries : List ℕ) → length entries ≡ 65536 → IsFilled part mark index entries → AreRightWhere codec done entries
   walked-right by entries all filled = record {
     all = all;
@@ -48,7 +48,7 @@ module _ (codec : Codec) (part : PackedPart) (mark : ℕ → ℕ) (index : List 
             whole = λ s h z. absurd (by.some p (sym there ∙ z));
           }
 
--- past ASCII by the walk, and in it asked for
+-- each scalar is past ASCII, for the walk, or in ASCII, where its code is asked for
 pub past-or-ascii : (c : ℕ) → or_between (nat_le 0x80) 0 0x80 c ≡ true
 past-or-ascii c = elim (cases_lt c 0x80) [
   | inl l ↦ rw (lt-leb 0x80 c l, le-leb 0 c (omega arith), lt-ltb c 0x80 l) refl

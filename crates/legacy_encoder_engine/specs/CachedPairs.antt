@@ -1,43 +1,43 @@
--- The codes of a codec's scalars below U+10000 as a list: an entry for each, with the lead in its low byte and the
--- trail in its high one, or with the byte of ASCII.
+-- The codes of a codec's scalars below U+10000 as a list of entries. An entry has the lead in its low byte and the
+-- trail in its high byte, or the byte of an ASCII scalar.
 use Rattle.std.specs.Prelude.{◌≡◌, ◌≢◌, ℕ, ◌+◌, ◌<◌, ◌≤◌, List, [], ◌∷◌, Some, length, slice_index, Bool, true, ◌||◌, ◌&&◌, nat_le, nat_lt}
 use Rattle.std.specs.Char.{IsScalar}
 use Rattle.legacy_text.specs.UnitCodes.{IsNoSurrogate}
 use Rattle.legacy_base.specs.Encoders.{Codec, encoder_profile}
 use Rattle.legacy_encoder_engine.specs.UnitTurns.{HasUnitCode}
 
--- an entry is the code of the scalar c, or 0
+-- the entry is the code of the scalar c, or 0
 abbrev pub IsPairEntry : Codec → ℕ → ℕ → Type 0
 IsPairEntry codec c entry = entry ≢ 0 → IsNoSurrogate c × HasUnitCode codec c entry
 
--- so are all entries
+-- all entries are such codes or 0
 pub record ArePairsOf (codec : Codec) (pairs : List ℕ) : Type 0 where
   pub all : length pairs ≡ 65536
   pub told : (c : ℕ) → c < 65536 → IsPairEntry codec c (slice_index pairs c)
 
--- the scalar c has no lead and trail for its code, but for two bytes 00
+-- the code of the scalar c is not a lead and a trail, except two bytes 00
 abbrev pub IsNoPair : Codec → ℕ → Type 0
 IsNoPair codec c = (lead trail : ℕ) → (encoder_profile codec).code c ≡ Some (lead ∷ trail ∷ []) → lead + trail ≡ 0
 
--- no pair is missing: an entry of 0 past ASCII is of a scalar that has none
+-- no pair is missing: if the entry of a scalar past ASCII is 0, the scalar has none
 pub record AreAllPairsOf (codec : Codec) (pairs : List ℕ) : Type 0 where
   pub right : ArePairsOf codec pairs
   pub whole : (c : ℕ) → c < 65536 → IsScalar c → 0x80 ≤ c → slice_index pairs c ≡ 0 → IsNoPair codec c
 
--- an entry is right for the scalar c, and lacks no pair
+-- the entry is right for the scalar c, and no pair is missing
 pub record IsRightEntry (codec : Codec) (c entry : ℕ) : Type 0 where
   pub told : IsPairEntry codec c entry
   pub whole : IsScalar c → 0x80 ≤ c → entry ≡ 0 → IsNoPair codec c
 
--- each entry of a scalar that passes a test is right, by a property of the scalar and its entry
+-- the entry of each scalar that passes the test has the property
 pub record AreWhere (Is : ℕ → ℕ → Type 0) (done : ℕ → Bool) (pairs : List ℕ) : Type 0 where
   pub all : length pairs ≡ 65536
   pub right : (c : ℕ) → c < 65536 → done c ≡ true → Is c (slice_index pairs c)
 
--- the entries of the scalars that pass a test are right, and lack no pair
+-- the entries of the scalars that pass the test are right, and no pair is missing
 abbrev pub AreRightWhere : Codec → (ℕ → Bool) → List ℕ → Type 0
 AreRightWhere codec done pairs = AreWhere (IsRightEntry codec) done pairs
 
--- those that passed it, and those from one scalar up to another
+-- the scalar passes the test, or is in the range from `first` to before `end`
 abbrev pub or_between : (ℕ → Bool) → ℕ → ℕ → ℕ → Bool
 or_between done first end c = done c || (nat_le first c && nat_lt c end)

@@ -1,4 +1,5 @@
--- How the encoders work inside: nothing here has to be believed. What they promise is said by legacy_base.
+-- The internal definitions of the encoders' engine. The promises of the encoders are in legacy_base and do not depend
+-- on these.
 pub mod Moves
 pub mod Serves
 pub mod UnderWay
@@ -7,3 +8,4 @@ pub mod PlainLengths
 pub mod PairCodecs
 pub mod UnitTurns
 pub mod CachedPairs
+pub mod Near

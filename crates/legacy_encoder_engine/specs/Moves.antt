@@ -1,4 +1,4 @@
--- What the small moves of an encoder do, of which its calls are made.
+-- The moves of an encoder, of which its calls consist.
 use Rattle.std.specs.Prelude.{◌≡◌, ℕ, ◌≤◌, List, [], ◌∷◌, ◌++◌, length, map, Bool, true, false, IsTrue, Option, Some, None, ◌⊎◌}
 use Rattle.legacy_base.specs.declared.results.EncodeEvent.{EncodeEvent}
 use Rattle.legacy_base.specs.declared.results.EncodeEvent.TheVariants.{Byte}
@@ -18,12 +18,12 @@ move_bytes (Four a b c d) = a ∷ b ∷ c ∷ d ∷ []
 move_bytes (Escape a b) = 0x1B ∷ a ∷ b ∷ []
 move_bytes (Unmappable c) = []
 
--- what a move reports
+-- the report of a move
 abbrev pub move_report : EncoderMove → List EncodeEvent
 move_report (Unmappable c) = events.Unmappable c ∷ []
 move_report _ = []
 
--- the scalar, where it is not read
+-- the scalar, if the move does not read it
 abbrev pub unread_scalar : EncoderMove → ℕ → List ℕ
 unread_scalar (Escape a b) c = c ∷ []
 unread_scalar _ c = []
@@ -40,33 +40,33 @@ differs in_roman in_roman = false
 differs in_two_byte in_two_byte = false
 differs _ _ = true
 
--- the scalar c wants an escape before it
+-- the scalar c needs an escape before it
 abbrev pub wants_escape : EncoderState → ℕ → Bool
 wants_escape state c = differs state.mode ((encoder_profile state.codec).mode_for state.mode c)
 
--- the state behind the scalar c, or behind the escape before it
+-- the state after the scalar c, or after the escape before it
 abbrev pub state_for : EncoderState → ℕ → EncoderState
 state_for state c = record { codec = state.codec; mode = (encoder_profile state.codec).mode_for state.mode c }
 
--- what the next move does where the scalar c is next, whatever comes behind it
+-- a move is correct for the next scalar c, whatever text follows
 pub record Moves (before : EncoderState) (c : ℕ) (after : EncoderState) (move : EncoderMove) : Type 0 where
   pub events : (more : List ℕ) (ended : Bool) →
       encoded before (c ∷ more) ended ≡ map Byte (move_bytes move) ++ (move_report move ++ encoded after (unread_scalar move c ++ more) ended)
-  -- its bytes are the code of the scalar, or an escape
+  -- the bytes are the code of the scalar, or an escape
   pub own : is_escape move ≡ false → code_length (code before c) ≡ length (move_bytes move)
   pub fits : length (move_bytes move) ≤ scalar_room before c
-  -- an escape goes to the mode of the scalar, which is read in the mode at hand
+  -- an escape goes to the mode of the scalar; the scalar is read in the current mode
   pub asks : is_escape move ≡ wants_escape before c
   pub goes : after ≡ state_for before c
 
--- what the escape at the end of the last call does, also where a text follows that begins with it
+-- the escape at the end of the last call, also if a text follows whose events begin with it
 pub record Finishes (before after : EncoderState) : Type 0 where
   pub events : (more : List ℕ) (ended : Bool) →
       ((more ≡ []) × IsTrue ended) ⊎ BeginsWith (encoded before more ended) (map Byte (0x1B ∷ 0x28 ∷ 0x42 ∷ [])) →
       encoded before more ended ≡ map Byte (0x1B ∷ 0x28 ∷ 0x42 ∷ []) ++ encoded after more ended
   pub done : end_bytes after ≡ []
 
--- the move is what the code of the scalar c says, in a codec without modes
+-- the move writes the code of the scalar c, in a codec without modes
 abbrev pub IsCode : Option (List ℕ) → ℕ → EncoderMove → Type 0
 IsCode own c (One x) = own ≡ Some (x ∷ [])
 IsCode own c (Two x y) = own ≡ Some (x ∷ y ∷ [])

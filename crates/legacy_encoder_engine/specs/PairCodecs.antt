@@ -1,4 +1,4 @@
--- What the one encoder of the codecs of ASCII and pairs asks of each.
+-- The requirements of the common encoder of codecs with ASCII and pairs.
 use Rattle.std.proofs.Common.{◌≡◌, ℕ, ◌<◌, ◌≤◌, List, [], ◌∷◌, Option, Some}
 use Rattle.legacy_tables.specs.Indexes.{FlatIndexes}
 use Rattle.legacy_tables.specs.AcceptedTables.{AcceptedIndexes}
@@ -9,11 +9,11 @@ use Rattle.legacy_base.specs.Lengths.{number, ◌⊕◌, ◌⊗◌}
 use Rattle.legacy_encoder_engine.specs.PlainCodecs.{IsPlainCodec}
 use Rattle.legacy_encoder_engine.specs.PlainLengths.{pair_lengths}
 
--- what such an encoder is between two calls, by its codec over the flat indexes: nothing changes
+-- the state of such an encoder between two calls, which never changes
 abbrev pub pair_encoder_state : (FlatIndexes → Codec) → AcceptedIndexes → EncoderState
 pair_encoder_state codec tables = new_encoder (codec tables.flat)
 
--- a codec without modes, in which ASCII is itself and no code has more than two bytes
+-- a codec without modes in which ASCII is itself and each code has at most two bytes
 pub record IsPairCodec (codec : Codec) : Type 0 where
   pub code : ℕ → Option (List ℕ)
   pub profile_is : encoder_profile codec ≡ plain_encoder code 2 (λ n. n ⊕ number 1) (λ n. number 2 ⊗ n)

@@ -1,4 +1,4 @@
--- The length formulas of codecs without modes serve: for codes of one byte, and for pairs.
+-- The length formulas of codecs without modes are enough, for codes of one byte and for pairs.
 use Rattle.std.proofs.Common.{arith}
 use Rattle.legacy_base.specs.Lengths.{number, ◌⊕◌, ◌⊗◌}
 use Rattle.legacy_encoder_engine.specs.PlainCodecs.{HasPlainLengths}

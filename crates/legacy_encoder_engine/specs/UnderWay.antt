@@ -1,4 +1,4 @@
--- A call of an encoder that is under way.
+-- An encoder call that is under way.
 use Rattle.std.specs.Prelude.{◌≡◌, ℕ, ◌+◌, ◌<◌, ◌≤◌, List, [], ◌∷◌, ◌++◌, length, map, take, slice_index, Bool, false, ◌⊎◌}
 use Rattle.legacy_base.specs.declared.results.EncodeEvent.TheVariants.{Byte}
 use Rattle.legacy_text.specs.EncodingForm.{EncodingForm, total_unit_count}
@@ -9,11 +9,11 @@ use Rattle.legacy_encoder_engine.specs.Moves.{Moves, wants_escape, is_escape, mo
 use Rattle.legacy_encoder_engine.specs.declared.moves.EncoderMove.{EncoderMove}
 use Rattle.legacy_encoder_engine.specs.declared.moves.EncoderMove.TheVariants.{One}
 
--- what was written lowers the room that is still needed
+-- the bytes written lower the room that is still needed
 pub record Lowers (before : EncoderState) (source : List ℕ) (now : EncoderState) (left bytes : List ℕ) : Type 0 where
   pub low : (form : EncodingForm) (more : ℕ) → encoder_room form now (total_unit_count form left + more) + length bytes ≤ encoder_room form before (total_unit_count form source + more)
 
--- the same behind an escape, with the scalar that it was written for
+-- the same after an escape, counting the scalar that it was written for
 pub record LowersEscaped (before : EncoderState) (source : List ℕ) (now : EncoderState) (left bytes : List ℕ) : Type 0 where
   pub c : ℕ
   pub rest : List ℕ
@@ -23,9 +23,9 @@ pub record LowersEscaped (before : EncoderState) (source : List ℕ) (now : Enco
       → encoder_room form now (total_unit_count form rest + more) + code_length (code now c) + length bytes ≤ encoder_room form before (total_unit_count form source + more)
   pub enough : (form : EncodingForm) → scalar_room now c + length bytes ≤ encoder_room form before (total_unit_count form source)
 
--- A call from the state `before`, with the scalars `source` and so many bytes free, came to the state `now`, with these
--- scalars left and these bytes written. An escape may have been written for the next scalar: the law of events speaks of
--- texts that go on with it.
+-- A call began in the state `before`, with the scalars `source` and `free` free bytes. It is now in the state `now`,
+-- with the scalars `left` left and `bytes` written. An escape may have been written for the next scalar, so the law of
+-- events is about texts that continue with it.
 pub record Underway (before : EncoderState) (source : List ℕ) (last : Bool) (free : ℕ) (now : EncoderState) (left bytes : List ℕ) : Type 0 where
   pub taken : List ℕ
   pub cut : source ≡ taken ++ left
@@ -33,21 +33,21 @@ pub record Underway (before : EncoderState) (source : List ℕ) (last : Bool) (f
   pub same : now.codec ≡ before.codec
   pub had_room : (k : ℕ) → k < length taken → bytes_before before (take k taken) (slice_index taken k) + scalar_room before (slice_index taken k) ≤ free
   pub fits : length bytes ≤ free
-  -- where the first act lacked its room nothing was done
+  -- if the first act lacked room, nothing was done
   pub once : EncoderLacksRoom before source last free → (left ≡ source) × (bytes ≡ []) × (now ≡ before)
   pub lowers : Lowers before source now left bytes ⊎ LowersEscaped before source now left bytes
 
--- In this state and with so many bytes free, whatever call is under way with the one list left and the one written goes
--- on with the other left and the other written.
+-- In this state, with `free` free bytes, any call under way with the first scalars left and bytes written continues
+-- with the second ones.
 pub record KeepsOn (state : EncoderState) (free : ℕ) (left_before bytes_before left_after bytes_after : List ℕ) : Type 0 where
   pub keeps : (before : EncoderState) (source : List ℕ) (last : Bool) → Underway before source last free state left_before bytes_before → Underway before source last free state left_after bytes_after
 
--- each ASCII scalar is its own byte, in this state and for one byte of room
+-- each ASCII scalar is its own byte and needs one byte of room
 pub record HasAscii (state : EncoderState) : Type 0 where
   pub room : (c : ℕ) → c < 0x80 → scalar_room state c ≤ 1
   pub moves : (c : ℕ) → c < 0x80 → Moves state c state (One c)
 
--- The bytes of the scalar c were written behind others, which ended at a place, and end at another one. The state stays.
+-- The bytes of the scalar c are appended to earlier bytes, which end at `at`, and end at `end`. The state is unchanged.
 pub record PutsCode (state : EncoderState) (c : ℕ) (old : List ℕ) (at : ℕ) (new : List ℕ) (end : ℕ) : Type 0 where
   pub move : EncoderMove
   pub moves : Moves state c state move

@@ -1,15 +1,15 @@
--- Code units of UTF-16 that an encoder writes several at a time.
+-- Writing several UTF-16 code units at a time.
 use Rattle.std.specs.Prelude.{◌≡◌, ℕ, ◌/◌, ◌%◌, ◌<◌, ◌≤◌, List, [], ◌∷◌, ◌++◌, Some}
 use Rattle.legacy_base.specs.Encoders.{Codec, EncoderState, encoder_profile}
 use Rattle.legacy_text.specs.UnitTurns.{AreLone}
 use Rattle.legacy_encoder_engine.specs.UnderWay.{KeepsOn}
 
--- the code of the scalar c is the number's low byte, or past ASCII its low byte and its high one
+-- the code of the scalar c is the low byte of `both` for ASCII, and its low and high bytes for other scalars
 pub record HasUnitCode (codec : Codec) (c both : ℕ) : Type 0 where
   pub ascii : c < 0x80 → (encoder_profile codec).code c ≡ Some (both % 256 ∷ [])
   pub past : 0x80 ≤ c → (encoder_profile codec).code c ≡ Some (both % 256 ∷ both / 256 ∷ [])
 
--- The codes of units that are scalars were written behind other bytes, whatever comes behind the units.
+-- The codes of code units that are scalars are appended to earlier bytes, whatever code units follow.
 pub record PutsUnits (state : EncoderState) (free : ℕ) (units old new : List ℕ) : Type 0 where
   pub lone : AreLone units
   pub keeps : (rest : List ℕ) → KeepsOn state free (units ++ rest) old rest new

@@ -1,4 +1,4 @@
-//! Codes of scalars that are looked up ahead, one by one.
+//! Entries of scalars whose codes are looked up ahead, one by one.
 ghost use Rattle.std.specs.Prelude.{◌≡◌, ◌≤◌, ℕ, Bool, length};
 ghost use Rattle.legacy_encoder_engine.specs.CachedPairs.{IsNoPair, IsPairEntry};
 ghost use Rattle.legacy_encoder_engine.specs.CachedPairs.{IsRightEntry, AreRightWhere, or_between};
@@ -6,8 +6,10 @@ ghost use Rattle.legacy_encoder_engine.specs.CachedPairs.{IsRightEntry, AreRight
 use crate::moves::EncoderMove;
 use crate::plain_codes::PlainCodes;
 
-/// The entry of a scalar: its byte in ASCII, its lead in the low byte and its trail in the high one past it, and 0 where
-/// its code is another.
+/// Returns the entry of a scalar, or 0 if its code is of another kind.
+///
+/// The entry of an ASCII scalar is its byte. Past ASCII it has the lead in the low byte and the
+/// trail in the high byte.
 fn pair_entry<C: PlainCodes>(encoder: &C, c: char) -> u16
     ensures code { IsPairEntry (C.codec encoder.now) c result }
     ensures none { 0x80 ≤ c → result ≡ 0 → IsNoPair (C.codec encoder.now) c }
@@ -21,7 +23,7 @@ fn pair_entry<C: PlainCodes>(encoder: &C, c: char) -> u16
     }
 }
 
-/// The entry of a number, and 0 where it is no scalar.
+/// Returns the entry of a number, or 0 if it is not a scalar value.
 fn entry_of<C: PlainCodes>(encoder: &C, code: u32) -> u16
     ensures { IsRightEntry (C.codec encoder.now) code result }
 {
@@ -31,7 +33,7 @@ fn entry_of<C: PlainCodes>(encoder: &C, code: u32) -> u16
     }
 }
 
-/// Looks up the codes of the scalars from `first` up to `end`, and writes their entries.
+/// Looks up the codes of the scalars from `first` to before `end`, and writes their entries.
 pub fn ask_pairs<C: PlainCodes>(encoder: &C, pairs: &mut [u16], first: u32, end: u32)
     requires all { length pairs.old ≡ 65536 }
     requires rising { first ≤ end }

@@ -5,6 +5,7 @@ ghost use Rattle.legacy_text.specs.EncodingForm.{total_unit_count};
 ghost use Rattle.legacy_base.specs.Encoders.{encoder_profile, new_encoder};
 ghost use Rattle.legacy_encoder_engine.specs.CachedPairs.{AreAllPairsOf, IsNoPair};
 ghost use Rattle.legacy_encoder_engine.specs.Moves.{IsCode};
+ghost use Rattle.legacy_encoder_engine.specs.Near.{IsNear};
 ghost use Rattle.legacy_encoder_engine.specs.UnderWay.{KeepsOn};
 
 use crate::drive::drive_encoder;
@@ -13,7 +14,7 @@ use crate::pairs::{FillsPairs, PairCodec, PairEncoder};
 use crate::plain::PlainEncoder;
 use crate::plain_codes::PlainCodes;
 use crate::runs::read_runs;
-use legacy_base::{EncoderResult, RawEncoder, Source};
+use legacy_base::{EncoderResult, RangePart, RawEncoder, Source};
 use std::alloc::AllocError;
 
 /// The room that the pairs of a codec take, in entries of 16 bits: one for each scalar below U+10000.
@@ -32,14 +33,17 @@ pub trait PastPairs: PlainCodes {
     }
 
     /// The four bytes of such a scalar whose code these are. Any scalar may have none here: `code_past_pairs` has all
-    /// codes.
+    /// codes. What the run keeps may change.
     #[inline(always)]
-    fn four_past_pairs(&self, c: char) -> Option<(u8, u8, u8, u8)>
+    fn four_past_pairs(&self, near: &mut RangePart, c: char) -> Option<(u8, u8, u8, u8)>
         requires past { 0x80 ≤ c }
         requires none { IsNoPair (Self.codec self.now) c }
-        ensures { IfSome result (λ four. (encoder_profile (Self.codec self.now)).code c
+        requires near { IsNear (Self.codec self.now) near.old }
+        ensures code { IfSome result (λ four. (encoder_profile (Self.codec self.now)).code c
             ≡ Some (four.0 ∷ four.1 ∷ four.2 ∷ four.3 ∷ [])) }
+        ensures near { IsNear (Self.codec self.now) near.new }
     {
+        let _ = *near;
         let _ = c;
         None
     }
@@ -100,12 +104,12 @@ impl<'a, C: PastPairs> PlainCodes for WithPairs<'a, C> {
     }
 
     #[inline(always)]
-    fn four_of(&self, c: char) -> Option<(u8, u8, u8, u8)> {
+    fn four_of(&self, near: &mut RangePart, c: char) -> Option<(u8, u8, u8, u8)> {
         let code = c as usize;
         if code >= PAIR_ROOM || self.pairs[code] != 0 {
             return None;
         }
-        self.codes.four_past_pairs(c)
+        self.codes.four_past_pairs(near, c)
     }
 
     #[inline(always)]

@@ -1,4 +1,4 @@
-//! The one loop of all encoders, over the small moves that each encoder makes.
+//! The loop of all encoders, over the small moves that each encoder makes.
 ghost use Rattle.std.specs.Prelude.{◌≡◌, ◌+◌, ◌<◌, ◌≤◌, [], ◌∷◌, ◌++◌, length, take};
 ghost use Rattle.legacy_text.specs.EncodingForm.{total_unit_count};
 ghost use Rattle.legacy_base.specs.EncoderCalls.{EncoderCall};
@@ -37,7 +37,7 @@ pub fn put_four(dst: &mut [u8], at: usize, bytes: (u8, u8, u8, u8))
     put_two(dst, at + 2, bytes.2, bytes.3);
 }
 
-/// Writes the bytes of a move from a place on, and answers where they end.
+/// Writes the bytes of a move from a place on, and returns the place after them.
 #[inline]
 pub fn put_move(dst: &mut [u8], at: usize, step: EncoderMove) -> usize
     requires { at + length (move_bytes step) ≤ length dst.old }
@@ -67,10 +67,12 @@ pub fn put_move(dst: &mut [u8], at: usize, step: EncoderMove) -> usize
     }
 }
 
-/// One call of an encoder: lets it make its moves until the source is read, room is lacking or a scalar
-/// has no bytes. Answers which of the three, and how many bytes were written, which stand at the front
-/// of `dst`. With `last` nothing comes behind the source, and the end is written. Runs of common scalars
-/// are read ahead of the moves.
+/// Runs one call of an encoder.
+///
+/// The encoder makes its moves until the source is read, the output lacks room, or a scalar is
+/// unmappable. The result says which, with the number of bytes written to the front of `dst`. With
+/// `last`, no text follows the source, and the end is written. Runs of common scalars are read
+/// ahead of the moves.
 #[inline]
 pub fn drive_encoder<E: EncoderMoves, S: Source>(
     encoder: &mut E,

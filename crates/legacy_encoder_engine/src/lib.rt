@@ -1,6 +1,8 @@
-//! What all encoders of the legacy encodings share: the small moves that an encoder is made of, the one
-//! loop that makes calls of them, the loops that read runs of common scalars ahead of it, and the one
-//! encoder of the codecs without modes, of which that of the codecs of pairs is a part.
+//! The common parts of all encoders of the legacy encodings.
+//!
+//! They are the small moves of an encoder, the loop that makes calls of them, and the loops that
+//! read runs of common scalars ahead of them. There is one encoder for the codecs without modes.
+//! That of the codecs with pairs is part of it.
 #![tactic(auto)]
 
 pub mod asked_pairs;

@@ -1,4 +1,4 @@
-//! The small moves that each encoder makes, and the runs that it reads ahead of them.
+//! The small moves of each encoder, and the runs that it reads ahead of them.
 ghost use Rattle.std.specs.Prelude.{◌≡◌, ◌+◌, ◌≤◌, length, take, true};
 ghost use Rattle.legacy_text.specs.EncodingForm.{total_unit_count};
 ghost use Rattle.legacy_base.specs.Encoders.{EncoderState, encoder_profile, is_pending, scalar_room};
@@ -8,7 +8,7 @@ ghost use Rattle.legacy_encoder_engine.specs.UnderWay.{KeepsOn};
 
 use legacy_base::Source;
 
-/// What an encoder does where a scalar is next.
+/// The move of an encoder at the next scalar.
 #[derive(Clone, Copy)]
 pub enum EncoderMove {
     /// It reads the scalar and writes this byte.
@@ -23,34 +23,38 @@ pub enum EncoderMove {
     Unmappable(char),
 }
 
-/// The moves of an encoder, of which `drive_encoder` makes its calls: what the standard calls an encoder's
-/// handler (Encoding Standard, section "Encoders and decoders"), with the room in the output that each move
-/// needs.
+/// The moves of an encoder, of which `drive_encoder` makes its calls.
+///
+/// They are the Standard's handler of the encoder (Encoding Standard, section "Encoders and
+/// decoders"), with the room in the output that each move needs.
 pub trait EncoderMoves {
-    /// The codec with its lists, and the mode that the encoder is in.
+    /// The codec with its lists, and the mode of the encoder.
     ghost state: { Self → EncoderState };
 
-    /// The free bytes that the next move needs where this scalar is next, whatever comes of it. Nothing
-    /// changes.
+    /// Returns the number of free bytes that the next move needs if this scalar is next.
+    ///
+    /// It is enough whatever the move is. Nothing changes.
     fn room(&self, c: char) -> usize
         ensures bytes { result ≡ scalar_room (state self.now) c }
         ensures serves { Serves (encoder_profile (state self.now).codec) };
 
-    /// Makes the next move where this scalar is next, and answers what it is.
+    /// Makes and returns the next move if this scalar is next.
     fn next(&mut self, c: char) -> EncoderMove
         ensures { Moves (state self.old) c (state self.new) result };
 
-    /// Whether the end of the text writes an escape. Nothing changes.
+    /// Returns whether the end of the text writes an escape. Nothing changes.
     fn is_pending(&self) -> bool
         ensures is { result ≡ is_pending (state self.now) }
         ensures serves { Serves (encoder_profile (state self.now).codec) };
 
-    /// Goes back to ASCII at the end of the text, where an escape is to be written.
+    /// Returns to ASCII at the end of the text if an escape is to be written.
     fn finish(&mut self)
         ensures { is_pending (state self.old) ≡ true → Finishes (state self.old) (state self.new) };
 
-    /// Reads scalars from the front of what the source has left and writes their bytes from the place `at`
-    /// of `dst` on, as many as it cares to, and answers where they end. The encoder does not change.
+    /// Reads scalars from the front of the source and writes their bytes from the place `at` on.
+    ///
+    /// Returns the place after the bytes in `dst`. It may read any number of scalars. The encoder is
+    /// unchanged.
     #[inline]
     fn read_ahead<S: Source>(&self, src: &mut S, dst: &mut [u8], at: usize) -> usize
         requires { at ≤ length dst.old }

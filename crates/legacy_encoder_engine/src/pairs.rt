@@ -13,7 +13,7 @@ use crate::plain::PlainEncoder;
 use crate::plain_codes::PlainCodes;
 use crate::runs::read_runs;
 use legacy_base::{
-    EncoderResult, EncoderTables, FlatTables, KeptTables, PackedTables, RawEncoder, Source, Tables,
+    DecoderTables, EncoderResult, EncoderTables, FlatTables, RawEncoder, Source, Tables,
 };
 use std::marker::PhantomData;
 
@@ -99,18 +99,18 @@ impl<'a, C: PairCodec> PlainCodes for PairEncoder<'a, C> {
 impl<'a, C: PairCodec> PlainEncoder for PairEncoder<'a, C> {
     #[inline]
     fn read_codes<S: Source>(&self, src: &mut S, dst: &mut [u8], start: usize) -> usize {
-        match self.tables.kept() {
-            KeptTables::Flat(tables) => {
+        match self.tables.flat() {
+            Some(tables) => {
                 read_runs(
-                    &PairCodes::<C, FlatTables<'a>>::new(tables),
+                    &PairCodes::<C, FlatTables<'_>>::new(tables),
                     src,
                     dst,
                     start,
                 )
             }
-            KeptTables::Packed(tables) => {
+            None => {
                 read_runs(
-                    &PairCodes::<C, PackedTables<'a>>::new(tables),
+                    &PairCodes::<C, Tables<'a>>::new(self.tables),
                     src,
                     dst,
                     start,

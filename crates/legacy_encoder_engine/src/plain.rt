@@ -1,4 +1,4 @@
-//! The one encoder of the codecs without modes: each `PlainCodes` makes the moves of its codes.
+//! The encoder of the codecs without modes: each `PlainCodes` makes the moves of its codes.
 ghost use Rattle.std.specs.Prelude.{◌≡◌, ◌+◌, ◌≤◌, length, take};
 ghost use Rattle.legacy_text.specs.EncodingForm.{total_unit_count};
 ghost use Rattle.legacy_base.specs.Encoders.{new_encoder};
@@ -8,12 +8,14 @@ use crate::moves::{EncoderMove, EncoderMoves};
 use crate::plain_codes::PlainCodes;
 use legacy_base::Source;
 
-/// An encoder of a codec without modes (Encoding Standard, section "Encoders and decoders"), by how it reads
-/// ahead.
+/// An encoder of a codec without modes, with its own way to read ahead.
+///
+/// See the Encoding Standard, section "Encoders and decoders".
 pub trait PlainEncoder: PlainCodes {
-    /// Reads scalars from the front of what the source has left and writes their bytes from the place
-    /// `start` of `dst` on, as many as it cares to, and answers where they end, in bytes.
-    // Most do it by `read_runs`. An encoder with tables chooses here, once, by how they are kept.
+    /// Reads scalars from the front of the source and writes their bytes from the place `start` on.
+    ///
+    /// Returns the place after the bytes in `dst`. It may read any number of scalars.
+    // Most encoders do it by `read_runs`. An encoder with tables chooses here, once, by the form of its tables.
     fn read_codes<S: Source>(&self, src: &mut S, dst: &mut [u8], start: usize) -> usize
         requires { start ≤ length dst.old }
         ensures keeps { KeepsOn (new_encoder (Self.codec self.now)) (length dst.old)

@@ -3,10 +3,12 @@ ghost use Rattle.std.specs.Prelude.{◌≡◌, ◌≤◌, ℕ, [], ◌∷◌, tr
 ghost use Rattle.legacy_text.specs.UnitCodes.{IsNoSurrogate};
 ghost use Rattle.legacy_base.specs.Encoders.{Codec, encoder_profile};
 ghost use Rattle.legacy_encoder_engine.specs.Moves.{IsCode};
+ghost use Rattle.legacy_encoder_engine.specs.Near.{IsNear};
 ghost use Rattle.legacy_encoder_engine.specs.PlainCodecs.{IsPlainCodec, HasByte};
 ghost use Rattle.legacy_encoder_engine.specs.UnitTurns.{HasUnitCode};
 
 use crate::moves::EncoderMove;
+use legacy_base::RangePart;
 
 /// The codes of a codec without modes: all that its encoder does not share. ASCII is itself.
 pub trait PlainCodes {
@@ -40,13 +42,16 @@ pub trait PlainCodes {
     }
 
     /// The four bytes of a scalar past ASCII whose code these are. Any scalar may have none here: `code_of` has all
-    /// codes. It is asked behind `pair_of`.
+    /// codes. It is asked behind `pair_of`. What the run keeps may change.
     #[inline(always)]
-    fn four_of(&self, c: char) -> Option<(u8, u8, u8, u8)>
-        requires { 0x80 ≤ c }
-        ensures { IfSome result (λ four. (encoder_profile (codec self.now)).code c
+    fn four_of(&self, near: &mut RangePart, c: char) -> Option<(u8, u8, u8, u8)>
+        requires past { 0x80 ≤ c }
+        requires near { IsNear (codec self.now) near.old }
+        ensures code { IfSome result (λ four. (encoder_profile (codec self.now)).code c
             ≡ Some (four.0 ∷ four.1 ∷ four.2 ∷ four.3 ∷ [])) }
+        ensures near { IsNear (codec self.now) near.new }
     {
+        let _ = *near;
         let _ = c;
         None
     }

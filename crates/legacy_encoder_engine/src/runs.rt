@@ -4,6 +4,7 @@ ghost use Rattle.std.specs.Prelude.{◌≡◌, ℕ, ◌+◌, ◌/◌, ◌%◌, �
 ghost use Rattle.legacy_text.specs.EncodingForm.{total_unit_count};
 ghost use Rattle.legacy_base.specs.Encoders.{new_encoder, scalar_room};
 ghost use Rattle.legacy_encoder_engine.specs.Moves.{is_escape, move_report};
+ghost use Rattle.legacy_encoder_engine.specs.Near.{IsNear};
 ghost use Rattle.legacy_encoder_engine.specs.UnderWay.{KeepsOn, PutsCode};
 ghost use Rattle.legacy_encoder_engine.specs.UnitTurns.{PutsUnits};
 
@@ -11,7 +12,7 @@ use crate::drive::{put_four, put_move, put_two};
 use crate::moves::EncoderMove;
 use crate::plain_codes::PlainCodes;
 use crate::units::Units;
-use legacy_base::{Next, Source};
+use legacy_base::{Next, RangePart, ReadingLoop, Source, TextCursor};
 
 /// Whether the scalar is read, and has bytes.
 #[inline(always)]
@@ -29,18 +30,26 @@ pub fn has_bytes(step: EncoderMove) -> bool
 // Where no more than these is written here, the loop has no call and nothing of what is rare, and each of its
 // values stays in a register. Neither is made a move, which the compiler would pack into one number and unpack.
 #[inline(always)]
-fn put_past_ascii<C: PlainCodes>(encoder: &C, dst: &mut [u8], at: usize, c: char) -> Option<usize>
+fn put_past_ascii<C: PlainCodes>(
+    encoder: &C,
+    near: &mut RangePart,
+    dst: &mut [u8],
+    at: usize,
+    c: char,
+) -> Option<usize>
     requires room { at + scalar_room (new_encoder (C.codec encoder.now)) c ≤ length dst.old }
     requires past { 0x80 ≤ c }
-    ensures { MatchOption result (take at dst.new ≡ take at dst.old)
+    requires near { IsNear (C.codec encoder.now) near.old }
+    ensures puts { MatchOption result (take at dst.new ≡ take at dst.old)
         (λ end. PutsCode (new_encoder (C.codec encoder.now)) c (take at dst.old) at
         (take end dst.new) end) }
+    ensures near { IsNear (C.codec encoder.now) near.new }
 {
     if let Some((lead, trail)) = encoder.pair_of(c) {
         put_two(dst, at, lead, trail);
         return Some(at + 2);
     }
-    if let Some(four) = encoder.four_of(c) {
+    if let Some(four) = encoder.four_of(near, c) {
         put_four(dst, at, four);
         return Some(at + 4);
     }
@@ -57,30 +66,38 @@ fn put_past_ascii<C: PlainCodes>(encoder: &C, dst: &mut [u8], at: usize, c: char
 /// Writes the bytes of a scalar that is next, and answers where they end; `None` where it has none, or is past
 /// ASCII and left to the moves.
 #[inline(always)]
-fn put_code<C: PlainCodes>(encoder: &C, dst: &mut [u8], at: usize, c: char) -> Option<usize>
-    requires { at + scalar_room (new_encoder (C.codec encoder.now)) c ≤ length dst.old }
-    ensures { MatchOption result (take at dst.new ≡ take at dst.old)
+fn put_code<C: PlainCodes>(
+    encoder: &C,
+    near: &mut RangePart,
+    dst: &mut [u8],
+    at: usize,
+    c: char,
+) -> Option<usize>
+    requires room { at + scalar_room (new_encoder (C.codec encoder.now)) c ≤ length dst.old }
+    requires near { IsNear (C.codec encoder.now) near.old }
+    ensures puts { MatchOption result (take at dst.new ≡ take at dst.old)
         (λ end. PutsCode (new_encoder (C.codec encoder.now)) c (take at dst.old) at
         (take end dst.new) end) }
+    ensures near { IsNear (C.codec encoder.now) near.new }
 {
     if (c as u32) < 0x80 {
         return Some(put_move(dst, at, EncoderMove::One(c as u8)));
     }
-    put_past_ascii(encoder, dst, at, c)
+    put_past_ascii(encoder, near, dst, at, c)
 }
 
 /// Whether what comes next, of which this is the first scalar, is perhaps read by blocks. It is a hint: any
 /// answer will do.
 // The scalar is asked about first: whoever writes it asks the same, and a pair then asks nothing else here.
 #[inline(always)]
-fn may_go_by_blocks<C: PlainCodes, S: Source>(encoder: &C, src: &S, c: char) -> bool {
+fn may_go_by_blocks<C: PlainCodes, S: TextCursor>(encoder: &C, src: &S, c: char) -> bool {
     (encoder.goes_by_units() && src.has_blocks()) || ((c as u32) < 0x80 && src.is_in_ascii())
 }
 
 /// Reads scalars that have a byte each, and writes their bytes from the place `at` on. Answers how many: none is
 /// an answer too.
 #[inline(always)]
-fn read_byte_codes<C: PlainCodes, S: Source>(
+fn read_byte_codes<C: PlainCodes, S: TextCursor>(
     encoder: &C,
     src: &mut S,
     dst: &mut [u8],
@@ -101,7 +118,7 @@ fn read_byte_codes<C: PlainCodes, S: Source>(
 /// writes their bytes from the place `at` on. Answers how many: none is an answer too.
 // Code units that have a byte go on over ASCII: a choice between the two would follow no pattern.
 #[inline(always)]
-fn read_blocks<C: PlainCodes, S: Source>(
+fn read_blocks<C: PlainCodes, S: TextCursor>(
     encoder: &C,
     src: &mut S,
     dst: &mut [u8],
@@ -124,7 +141,7 @@ fn read_blocks<C: PlainCodes, S: Source>(
 /// Reads by turns scalars that have a byte each, where `goes_on` and they seem to go on, and writes their
 /// bytes from the place `at` on. Answers how many: none is an answer too.
 #[inline(always)]
-fn read_turns<C: PlainCodes, S: Source>(
+fn read_turns<C: PlainCodes, S: TextCursor>(
     encoder: &C,
     src: &mut S,
     dst: &mut [u8],
@@ -192,7 +209,7 @@ fn put_ten<C: PlainCodes>(
 /// their bytes from the place `start` on. Answers where they end. A turn of ASCII is the last one.
 // By a copy of the cursor, which is left where it is where a turn fails.
 #[inline(always)]
-fn read_tens<C: PlainCodes, S: Source>(
+fn read_tens<C: PlainCodes, S: TextCursor>(
     encoder: &C,
     src: &mut S,
     dst: &mut [u8],
@@ -234,8 +251,9 @@ fn read_tens<C: PlainCodes, S: Source>(
 // For each number of code units it goes on by itself: so the place of the next scalar is known before
 // the scalar is.
 #[inline(always)]
-fn read_scalars<C: PlainCodes, S: Source>(
+fn read_scalars<C: PlainCodes, S: TextCursor>(
     encoder: &C,
+    near: &mut RangePart,
     src: &mut S,
     dst: &mut [u8],
     start: usize,
@@ -243,8 +261,10 @@ fn read_scalars<C: PlainCodes, S: Source>(
 ) -> usize
     requires room { (c : ℕ) → scalar_room (new_encoder (C.codec encoder.now)) c ≤ widest }
     requires start { start ≤ length dst.old }
+    requires near { IsNear (C.codec encoder.now) near.old }
     ensures keeps { KeepsOn (new_encoder (C.codec encoder.now)) (length dst.old) (S.left src.old)
         (take start dst.old) (S.left src.new) (take result dst.new) }
+    ensures near { IsNear (C.codec encoder.now) near.new }
     ensures start { start ≤ result }
     ensures end { result ≤ length dst.old }
     ensures few { length (S.left src.new) ≤ length (S.left src.old) }
@@ -260,7 +280,7 @@ fn read_scalars<C: PlainCodes, S: Source>(
                 if may_go_by_blocks(encoder, src, c) && at > start {
                     return at;
                 }
-                let Some(end) = put_code(encoder, dst, at, c) else {
+                let Some(end) = put_code(encoder, near, dst, at, c) else {
                     return at;
                 };
                 let may_turn = end == at + 2 || widest <= 2;
@@ -273,7 +293,7 @@ fn read_scalars<C: PlainCodes, S: Source>(
                 }
             }
             Next::Two(c) => {
-                let Some(end) = put_past_ascii(encoder, dst, at, c) else {
+                let Some(end) = put_past_ascii(encoder, near, dst, at, c) else {
                     return at;
                 };
                 let goes_on = at > start;
@@ -282,7 +302,7 @@ fn read_scalars<C: PlainCodes, S: Source>(
                 at += read_turns(encoder, src, dst, at, goes_on);
             }
             Next::Three(c) => {
-                let Some(end) = put_past_ascii(encoder, dst, at, c) else {
+                let Some(end) = put_past_ascii(encoder, near, dst, at, c) else {
                     return at;
                 };
                 at = end;
@@ -294,10 +314,38 @@ fn read_scalars<C: PlainCodes, S: Source>(
     at
 }
 
+/// The scalars that have bytes in a codec, as they are read ahead: blocks, and runs of other scalars, while any scalar
+/// fits.
+#[derive(Drop)]
+struct Runs<'a, C> {
+    encoder: &'a C,
+}
+
+impl<C: PlainCodes> ReadingLoop for Runs<'_, C> {
+    ghost keeps = { λ runs. KeepsOn (new_encoder (C.codec runs.encoder.now)) };
+
+    // What takes the cursor is inlined always: the compiler keeps its place in a register.
+    #[inline(always)]
+    fn read<S: TextCursor>(&self, src: &mut S, dst: &mut [u8], start: usize) -> usize {
+        let encoder = self.encoder;
+        let widest = encoder.past_room();
+        let mut at = start;
+        let mut near = RangePart::none();
+        loop {
+            at += read_blocks(encoder, src, dst, at);
+            let end = read_scalars(encoder, &mut near, src, dst, at, widest);
+            if end == at {
+                return at;
+            }
+            at = end;
+        }
+    }
+
+    ghost stays = { λ _ _ _ _. record { keeps = λ _ _ _ underway. underway } };
+}
+
 /// Reads blocks and runs of other scalars from the front of what the source has left, and writes
-/// their bytes from the place `start` of `dst` on while any scalar fits. Answers where they end.
-// By a copy of the cursor, which nothing else refers to: the compiler keeps its place in a register, and does not
-// store and load it again behind each byte that is written. So what takes the copy is inlined always.
+/// their bytes from the place `start` of `dst` on while any scalar fits. Returns where they end.
 #[inline]
 pub fn read_runs<C: PlainCodes, S: Source>(
     encoder: &C,
@@ -313,16 +361,5 @@ pub fn read_runs<C: PlainCodes, S: Source>(
     ensures passed { S.passed src.new + total_unit_count S.form (S.left src.new)
         ≡ S.passed src.old + total_unit_count S.form (S.left src.old) }
 {
-    let widest = encoder.past_room();
-    let mut at = start;
-    let mut own = *src;
-    loop {
-        at += read_blocks(encoder, &mut own, dst, at);
-        let end = read_scalars(encoder, &mut own, dst, at, widest);
-        if end == at {
-            *src = own;
-            return at;
-        }
-        at = end;
-    }
+    src.read_by(&Runs { encoder }, dst, start)
 }

@@ -1,10 +1,10 @@
-//! The code units of UTF-16 as a codec without modes writes them.
+//! UTF-16 code units as a codec without modes writes them.
 ghost use Rattle.legacy_encoder_engine.specs.PlainCodecs.{HasByte};
 
 use crate::plain_codes::PlainCodes;
 use legacy_base::UnitCodes;
 
-/// The code units that have a byte each in a codec.
+/// The code units that have one byte each in a codec.
 #[derive(Drop)]
 pub(crate) struct Units<'a, C> {
     pub encoder: &'a C,

@@ -1,5 +1,6 @@
-//! The encoders of the legacy encodings, by name. Each stands in the crate of its chapter of the Encoding
-//! Standard.
+//! The encoders of the legacy encodings, by name.
+//!
+//! Each encoder is in the crate of its chapter of the Encoding Standard.
 #![tactic(auto)]
 
 pub use legacy_chinese::{Big5Encoder, Gb18030Encoder};

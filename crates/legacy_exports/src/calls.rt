@@ -1,4 +1,4 @@
-//! The two kinds of calls: those that tell what is to be replaced, and those that replace it.
+//! The two kinds of calls: raw ones, and those with replacement.
 ghost use Rattle.std.specs.Prelude.{◌≡◌, ◌≤◌, length, IfSome};
 
 use crate::texts::Text;
@@ -6,21 +6,22 @@ use crate::unit::CodeUnit;
 use legacy_base::{DecoderResult, EncoderResult, RawDecoder, RawEncoder};
 use legacy_codecs::CoderResult;
 
-/// How a call ended, where what it told is replaced.
+/// How a call ended, after what it reported was replaced.
 #[derive(Clone, Copy)]
 pub enum CallEnd {
-    /// What was handed in is read.
+    /// All that was passed is read.
     Read,
     /// The output is full.
     Full,
-    /// Something was replaced, and more is perhaps left.
+    /// Something was replaced, and more may be left.
     Replaced,
 }
 
 /// A kind of calls.
 pub trait Calls: Copy {
-    /// A call of a decoder, with U+FFFD for each malformed sequence: answers how it ended, the bytes read and the
-    /// code units written.
+    /// Calls a decoder, with U+FFFD for each malformed sequence.
+    ///
+    /// Returns how the call ended, the number of bytes read, and the number of code units written.
     fn decode<U: CodeUnit, D: RawDecoder>(
         self,
         decoder: &mut D,
@@ -31,8 +32,9 @@ pub trait Calls: Copy {
         ensures read { result.1 ≤ length source.now }
         ensures written { result.2 ≤ length output.new };
 
-    /// A call of an encoder with the text from one place to another: answers how it ended, the code units read and
-    /// the bytes written.
+    /// Calls an encoder with the part of the text between two places.
+    ///
+    /// Returns how the call ended, the number of code units read, and the number of bytes written.
     fn encode<T: Text, E: RawEncoder>(
         self,
         encoder: &mut E,
@@ -44,8 +46,9 @@ pub trait Calls: Copy {
         ensures { result.2 ≤ length output.new };
 }
 
-/// Raw calls. Behind one that tells a malformed sequence U+FFFD is written, and a question mark behind one that
-/// tells a scalar that the encoding does not have.
+/// Raw calls, which report what is to be replaced.
+///
+/// U+FFFD is written for a malformed sequence, and a question mark for an unmappable scalar.
 #[derive(Clone, Copy)]
 pub struct Raw;
 
@@ -53,7 +56,7 @@ pub struct Raw;
 #[derive(Clone, Copy)]
 pub struct Replacing;
 
-/// Writes a question mark at a place, and answers the place behind it, or `None` where it has no room.
+/// Writes a question mark at a place, and returns the place after it, or `None` if it has no room.
 fn put_question_mark(output: &mut [u8], at: usize) -> Option<usize>
     ensures { IfSome result (λ end. end ≤ length output.new) }
 {
@@ -105,7 +108,7 @@ impl Calls for Raw {
     }
 }
 
-/// How a call with replacement ended.
+/// Returns how a call with replacement ended.
 fn end_of(answer: CoderResult) -> CallEnd {
     match answer {
         CoderResult::InputEmpty => CallEnd::Read,

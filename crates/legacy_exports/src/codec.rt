@@ -2,7 +2,7 @@
 ghost use Rattle.std.specs.Prelude.{◌≡◌, ◌≢◌, MatchOption};
 ghost use Rattle.legacy_exports.specs.Codecs.{number_of};
 
-/// A codec of the Encoding Standard, in its order.
+/// A codec of the Encoding Standard, in the Standard's order.
 #[derive(Clone, Copy)]
 pub enum Codec {
     /// A single-byte encoding, by its table.
@@ -31,7 +31,9 @@ pub enum Codec {
     UserDefined,
 }
 
-/// The codec of this number, or `None` where no codec has it. `bench/legacy_codecs.h` has the same numbers.
+/// Returns the codec of this number, or `None` if no codec has it.
+///
+/// `bench/legacy_codecs.h` has the same numbers.
 pub fn codec_of_number(number: u32) -> Option<Codec>
     ensures { MatchOption result ((c : Codec) → number_of c ≢ number) (λ c. number_of c ≡ number) }
 {

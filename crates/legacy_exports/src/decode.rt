@@ -12,10 +12,11 @@ use legacy_decoders::{
     ShiftJisDecoder, SingleByteDecoder, UserDefinedDecoder, Utf16Decoder,
 };
 
-// The loop of `decode_times` is inlined here: so a decoder's loop is compiled where its tables are, and
-// need not read from memory again where they lie.
-/// Decodes by the codec's decoder, as `decode_times` does, or answers `None` where the indexes are
-/// refused.
+// The loop of `decode_times` is inlined here, so a decoder's loop is compiled together with its tables. Then it does
+// not read from memory where they are.
+/// Decodes by the codec's decoder as `decode_times` does.
+///
+/// Returns `None` if the indexes are refused.
 pub fn decode<C: Calls, U: CodeUnit>(
     codec: Codec,
     indexes: &IndexSlices,
@@ -58,8 +59,9 @@ pub fn decode<C: Calls, U: CodeUnit>(
     Some(written)
 }
 
-/// Decodes by the codec of the number, as `decode` does, or answers `usize::MAX` where no codec has the
-/// number or the indexes are refused.
+/// Decodes by the codec of this number as `decode` does.
+///
+/// Returns `usize::MAX` if no codec has the number or the indexes are refused.
 pub fn decode_by_number<C: Calls, U: CodeUnit>(
     number: u32,
     indexes: &IndexSlices,

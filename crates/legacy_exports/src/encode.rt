@@ -10,12 +10,12 @@ use crate::texts::Text;
 use legacy_base::RawEncoder;
 use legacy_encoders::{
     Big5Encoder, CachedEncoder, CachedIso2022JpEncoder, EncodesPairs, EucJpEncoder, EucKrEncoder,
-    Gb18030Encoder, Iso2022JpEncoder, PAIR_ROOM, ShiftJisEncoder, SingleByteEncoder,
-    UserDefinedEncoder,
+    Gb18030Encoder, Iso2022JpEncoder, ShiftJisEncoder, SingleByteEncoder, UserDefinedEncoder,
 };
 
-/// Encodes the text in pieces of so many code units by calls of a kind, and answers how many bytes it wrote. It stops
-/// where the output is full.
+/// Encodes the text in pieces by calls of a kind, and returns the number of bytes written.
+///
+/// It stops if the output is full.
 #[inline(always)]
 fn encode_once<C: Calls, T: Text, E: RawEncoder>(
     calls: C,
@@ -50,7 +50,9 @@ fn encode_once<C: Calls, T: Text, E: RawEncoder>(
     written
 }
 
-/// Encodes a text by one encoder as often as it is read, and answers how many bytes it wrote the last time.
+/// Encodes a text by one encoder, `times` times.
+///
+/// Returns the number of bytes written the last time.
 #[inline(always)]
 fn encode_times<C: Calls, T: Text, E: RawEncoder>(
     encoder: &mut E,
@@ -72,81 +74,78 @@ fn encode_times<C: Calls, T: Text, E: RawEncoder>(
     written
 }
 
-/// Encodes by an encoder whose pairs are looked up ahead, as `encode_times` does.
-// A function of its own, so that only who wants it pays for the room.
-#[inline(never)]
-fn encode_ahead<C: Calls, T: Text, E: EncodesPairs>(
-    encoder: &E,
-    reading: Reading<C, T>,
-    output: &mut [u8],
-) -> usize
-    ensures { result ≤ length output.new }
-{
-    let mut room = [0u16; PAIR_ROOM];
-    let Some(mut cached) = CachedEncoder::new(encoder, &mut room) else {
-        unreachable!()
-    };
-    encode_times(&mut cached, reading, output)
-}
-
-/// Encodes by an encoder of pairs, as `encode_times` does, which are looked up ahead where that is asked for.
+/// Encodes as `encode_times` does, by an encoder of pairs. The pairs are cached if the room is long enough.
+// An encoder with its pairs is made in a function of its own, and its loop is inlined there.
 #[inline(always)]
 fn encode_pairs<C: Calls, T: Text, E: EncodesPairs + Drop>(
     mut encoder: E,
-    ahead: bool,
+    room: &mut [u16],
     reading: Reading<C, T>,
     output: &mut [u8],
 ) -> usize
     ensures { result ≤ length output.new }
 {
-    if ahead {
-        encode_ahead(&encoder, reading, output)
-    } else {
-        encode_times(&mut encoder, reading, output)
+    match encode_ahead(&encoder, room, reading, output) {
+        Some(written) => written,
+        None => encode_times(&mut encoder, reading, output),
     }
 }
 
-/// Encodes by ISO-2022-JP's encoder with its pairs looked up ahead, as `encode_times` does.
+/// Encodes with cached pairs, or returns `None` if the room is too short for them.
 #[inline(never)]
-fn encode_modes_ahead<C: Calls, T: Text>(
-    encoder: &Iso2022JpEncoder,
+fn encode_ahead<C: Calls, T: Text, E: EncodesPairs>(
+    encoder: &E,
+    room: &mut [u16],
     reading: Reading<C, T>,
     output: &mut [u8],
-) -> usize
-    ensures { result ≤ length output.new }
+) -> Option<usize>
+    ensures { IfSome result (λ written. written ≤ length output.new) }
 {
-    let mut room = [0u16; PAIR_ROOM];
-    let Some(mut cached) = CachedIso2022JpEncoder::new(encoder, &mut room) else {
-        unreachable!()
-    };
-    encode_times(&mut cached, reading, output)
+    let mut cached = CachedEncoder::new(encoder, room)?;
+    Some(encode_times(&mut cached, reading, output))
 }
 
-/// Encodes by ISO-2022-JP's encoder, as `encode_times` does, whose pairs are looked up ahead where that is asked for.
+/// Encodes as `encode_times` does, by ISO-2022-JP's encoder. The pairs are cached if the room is long enough.
 #[inline(always)]
 fn encode_modes<C: Calls, T: Text>(
     mut encoder: Iso2022JpEncoder,
-    ahead: bool,
+    room: &mut [u16],
     reading: Reading<C, T>,
     output: &mut [u8],
 ) -> usize
     ensures { result ≤ length output.new }
 {
-    if ahead {
-        encode_modes_ahead(&encoder, reading, output)
-    } else {
-        encode_times(&mut encoder, reading, output)
+    match encode_modes_ahead(&encoder, room, reading, output) {
+        Some(written) => written,
+        None => encode_times(&mut encoder, reading, output),
     }
 }
 
+/// The same by pairs that are looked up ahead, or `None` if the room is too short for them.
+#[inline(never)]
+fn encode_modes_ahead<C: Calls, T: Text>(
+    encoder: &Iso2022JpEncoder,
+    room: &mut [u16],
+    reading: Reading<C, T>,
+    output: &mut [u8],
+) -> Option<usize>
+    ensures { IfSome result (λ written. written ≤ length output.new) }
+{
+    let mut cached = CachedIso2022JpEncoder::new(encoder, room)?;
+    Some(encode_times(&mut cached, reading, output))
+}
+
 // The loop of `encode_times` is inlined here, as that of the decoders is.
-/// Encodes by the codec's encoder, as `encode_times` does, or answers `None` where the codec has none or the
-/// indexes are refused.
+/// Encodes by the codec's encoder as `encode_times` does.
+///
+/// Returns `None` if the codec has no encoder or the indexes are refused. An encoder of pairs caches
+/// them in the room if it is long enough.
 pub fn encode<C: Calls, T: Text>(
     codec: Codec,
     indexes: &IndexSlices,
     reading: Reading<C, T>,
     output: &mut [u8],
+    room: &mut [u16],
 ) -> Option<usize>
     ensures units { IfSome result (λ written. written ≤ length output.new) }
     ensures taken { IsSome result ↔ AreTakenToEncode codec indexes.now }
@@ -159,24 +158,24 @@ pub fn encode<C: Calls, T: Text>(
     let Some(tables) = tables_with(indexes, &pairs[..range_count]) else {
         return None;
     };
-    let ahead = indexes.is_cached;
     let written = match codec {
         Codec::SingleByte => return encode_single_byte(indexes, reading, output),
-        Codec::Gbk => encode_pairs(Gb18030Encoder::new(&tables, false), ahead, reading, output),
-        Codec::Gb18030 => encode_pairs(Gb18030Encoder::new(&tables, true), ahead, reading, output),
-        Codec::Big5 => encode_pairs(Big5Encoder::new(&tables), ahead, reading, output),
-        Codec::EucJp => encode_pairs(EucJpEncoder::new(&tables), ahead, reading, output),
-        Codec::Iso2022Jp => encode_modes(Iso2022JpEncoder::new(&tables), ahead, reading, output),
-        Codec::ShiftJis => encode_pairs(ShiftJisEncoder::new(&tables), ahead, reading, output),
-        Codec::EucKr => encode_pairs(EucKrEncoder::new(&tables), ahead, reading, output),
+        Codec::Gbk => encode_pairs(Gb18030Encoder::new(&tables, false), room, reading, output),
+        Codec::Gb18030 => encode_pairs(Gb18030Encoder::new(&tables, true), room, reading, output),
+        Codec::Big5 => encode_pairs(Big5Encoder::new(&tables), room, reading, output),
+        Codec::EucJp => encode_pairs(EucJpEncoder::new(&tables), room, reading, output),
+        Codec::Iso2022Jp => encode_modes(Iso2022JpEncoder::new(&tables), room, reading, output),
+        Codec::ShiftJis => encode_pairs(ShiftJisEncoder::new(&tables), room, reading, output),
+        Codec::EucKr => encode_pairs(EucKrEncoder::new(&tables), room, reading, output),
         Codec::UserDefined => encode_times(&mut UserDefinedEncoder::new(), reading, output),
         Codec::Replacement | Codec::Utf16Be | Codec::Utf16Le => return None,
     };
     Some(written)
 }
 
-/// Encodes by the encoder of the single-byte encoding that is handed in, or answers `None` where its index or its
-/// run is refused.
+/// Encodes by the encoder of the single-byte encoding whose index is passed.
+///
+/// Returns `None` if its index or its run is refused.
 fn encode_single_byte<C: Calls, T: Text>(
     indexes: &IndexSlices,
     reading: Reading<C, T>,
@@ -193,13 +192,15 @@ fn encode_single_byte<C: Calls, T: Text>(
     }
 }
 
-/// Encodes by the codec of the number, as `encode` does, or answers `usize::MAX` where no codec with an encoder has
-/// the number or the indexes are refused.
+/// Encodes by the codec of this number as `encode` does.
+///
+/// Returns `usize::MAX` if no codec with an encoder has the number or the indexes are refused.
 pub fn encode_by_number<C: Calls, T: Text>(
     number: u32,
     indexes: &IndexSlices,
     reading: Reading<C, T>,
     output: &mut [u8],
+    room: &mut [u16],
 ) -> usize
     ensures units { (result ≤ length output.new) ⊎ (result ≡ 0xFFFF_FFFF_FFFF_FFFF) }
     ensures taken { IsTakenToEncode number indexes.now → result ≤ length output.new }
@@ -208,5 +209,5 @@ pub fn encode_by_number<C: Calls, T: Text>(
     let Some(codec) = codec_of_number(number) else {
         return usize::MAX;
     };
-    encode(codec, indexes, reading, output).unwrap_or(usize::MAX)
+    encode(codec, indexes, reading, output, room).unwrap_or(usize::MAX)
 }

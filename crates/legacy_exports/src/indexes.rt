@@ -1,4 +1,4 @@
-//! The indexes as a caller in another language hands them in.
+//! The indexes as a caller in another language passes them.
 ghost use Rattle.std.specs.Prelude.{◌≡◌, ◌≤◌, ◌↔◌, length, map, take, IfSome, IsSome};
 ghost use Rattle.legacy_tables.specs.Tables.{flat_indexes};
 ghost use Rattle.legacy_exports.specs.Taken.{indexes_with, packed_with, range_pair};
@@ -15,20 +15,22 @@ pub struct IndexRange {
     pub scalar: u16,
 }
 
-/// A run of a single-byte encoding: its places from `start` on, `length` of them, hold the scalars from `scalar`
-/// upwards. Its encoder finds these without a search.
+/// A run of a single-byte encoding: `length` places from `start` on have successive scalars.
+///
+/// The first of them is `scalar`. The encoder finds these scalars without a search.
 #[repr(C)]
 pub struct ByteRun {
     /// The first scalar.
     pub scalar: u16,
     /// The first place, from 32 on.
     pub start: u8,
-    /// How many places; none is a run too.
+    /// The number of places, which may be 0.
     pub length: u8,
 }
 
-/// Indexes as runs, and the pointers that encoders take in the order of their scalars, not checked yet: the parts of
-/// `Packed`.
+/// Packed indexes that are not checked yet: the parts of `Packed`.
+///
+/// They are runs, and the pointers that encoders use in the order of their scalars.
 #[repr(C)]
 pub struct PackedSlices<'a> {
     /// Index Big5.
@@ -53,8 +55,9 @@ pub struct PackedSlices<'a> {
     pub gb18030_order: &'a [u16],
 }
 
-/// Flat indexes, not checked yet: entry `p` is the scalar of pointer `p`, and 0 where it has none. Those
-/// that a codec does not read by may be empty.
+/// Flat indexes that are not checked yet: entry `p` is the scalar of pointer `p`, or 0 for none.
+///
+/// Indexes that a codec does not read may be empty.
 #[repr(C)]
 pub struct IndexSlices<'a> {
     /// Index Big5.
@@ -71,22 +74,20 @@ pub struct IndexSlices<'a> {
     pub katakana: &'a [u16],
     /// Index gb18030 ranges, by rising pointers.
     pub ranges: &'a [IndexRange],
-    /// The index of a single-byte encoding: the scalars of the bytes from 80 on.
+    /// The index of a single-byte encoding: the scalars of the bytes from 0x80.
     pub single_byte: &'a [u16],
-    /// The run that the encoder of the single-byte encoding takes.
+    /// The run that the encoder of the single-byte encoding uses.
     pub single_byte_run: ByteRun,
     /// Whether the tables are packed ones.
     pub is_packed: bool,
-    /// Whether encoders of pairs look these up ahead.
-    pub is_cached: bool,
-    /// What packed tables are made of; flat ones do not look at it.
+    /// The parts of packed tables. Flat tables do not read them.
     pub packed: PackedSlices<'a>,
 }
 
-/// The most ranges that are taken.
+/// The greatest number of ranges that is accepted.
 pub const RANGE_LIMIT: usize = 256;
 
-/// The ranges as pairs, at the front.
+/// Returns the ranges as pairs, at the start of the array.
 pub fn range_pairs(ranges: &[IndexRange]) -> [(u16, u16); RANGE_LIMIT]
     requires { length ranges.now ≤ 256 }
     ensures count { length result ≡ 256 }
@@ -101,7 +102,7 @@ pub fn range_pairs(ranges: &[IndexRange]) -> [(u16, u16); RANGE_LIMIT]
     pairs
 }
 
-/// The indexes of pointers, with these ranges and the private-use rows of GB18030-2022.
+/// Returns the indexes of pointers, with these ranges and the private-use rows of GB18030-2022.
 fn with_ranges<'a: 'r, 'r>(slices: &IndexSlices<'a>, ranges: &'r [(u16, u16)]) -> Indexes<'r>
     ensures { flat_indexes result ≡ indexes_with slices.now ranges.now }
 {
@@ -117,7 +118,7 @@ fn with_ranges<'a: 'r, 'r>(slices: &IndexSlices<'a>, ranges: &'r [(u16, u16)]) -
     }
 }
 
-/// The parts of packed indexes.
+/// Returns the parts of packed indexes.
 fn packed_parts<'a>(parts: &PackedSlices<'a>) -> Packed<'a>
     ensures { result ≡ packed_with parts.now }
 {
@@ -135,8 +136,9 @@ fn packed_parts<'a>(parts: &PackedSlices<'a>) -> Packed<'a>
     }
 }
 
-/// The tables of the indexes with these ranges, packed ones where they are to be packed, or `None` where they are
-/// refused.
+/// Returns the tables of the indexes with these ranges, or `None` if they are refused.
+///
+/// The tables are packed ones if the caller asks for that.
 #[inline(always)]
 pub fn tables_with<'a: 'r, 'r>(
     slices: &IndexSlices<'a>,
@@ -153,7 +155,7 @@ pub fn tables_with<'a: 'r, 'r>(
     }
 }
 
-/// The table of these entries, if there are 128 and they are accepted.
+/// Returns the table of these entries, if there are 128 and they are accepted.
 pub fn single_byte_table(entries: &[u16]) -> Option<SingleByteTable>
     ensures taken { IsSome result ↔ IsTakenTable entries.now }
     ensures same { IfSome result (λ table. table.entries ≡ entries.now) }

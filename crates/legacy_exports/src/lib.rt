@@ -7,6 +7,7 @@
 //! on from one time to the next. For a malformed sequence U+FFFD is written, and for a scalar that the encoding
 //! does not have a question mark, or a reference by the calls with replacement; it stops where the output is full.
 //! Where no codec has the number, or the indexes are refused, nothing is written and the answer is `usize::MAX`.
+//! Encoders of pairs list these in room that the caller lends, if it is long enough.
 #![tactic(auto)]
 
 ghost use Rattle.std.specs.Prelude.{◌≡◌, ◌≤◌, ◌⊎◌, length, IsUtf8};
@@ -82,6 +83,7 @@ pub extern "C" fn legacy_encode_from_utf8(
     output: &mut [u8],
     piece: usize,
     times: usize,
+    room: &mut [u16],
 ) -> usize
     ensures units { (result ≤ length output.new) ⊎ (result ≡ 0xFFFF_FFFF_FFFF_FFFF) }
     ensures refused { IsRefusedToEncode codec indexes.now → result ≡ 0xFFFF_FFFF_FFFF_FFFF }
@@ -97,7 +99,7 @@ pub extern "C" fn legacy_encode_from_utf8(
         piece,
         times,
     };
-    encode_by_number(codec, indexes, reading, output)
+    encode_by_number(codec, indexes, reading, output, room)
 }
 
 /// Encodes the source, a text in UTF-16, by the codec of this number. An unpaired surrogate counts as U+FFFD.
@@ -109,6 +111,7 @@ pub extern "C" fn legacy_encode_from_utf16(
     output: &mut [u8],
     piece: usize,
     times: usize,
+    room: &mut [u16],
 ) -> usize
     ensures units { (result ≤ length output.new) ⊎ (result ≡ 0xFFFF_FFFF_FFFF_FFFF) }
     ensures taken { IsTakenToEncode codec indexes.now → result ≤ length output.new }
@@ -120,7 +123,7 @@ pub extern "C" fn legacy_encode_from_utf16(
         piece,
         times,
     };
-    encode_by_number(codec, indexes, reading, output)
+    encode_by_number(codec, indexes, reading, output, room)
 }
 
 /// Decodes the source to UTF-8 by the codec of this number, by calls with replacement.
@@ -178,6 +181,7 @@ pub extern "C" fn legacy_encode_replacing_from_utf8(
     output: &mut [u8],
     piece: usize,
     times: usize,
+    room: &mut [u16],
 ) -> usize
     ensures units { (result ≤ length output.new) ⊎ (result ≡ 0xFFFF_FFFF_FFFF_FFFF) }
     ensures refused { IsRefusedToEncode codec indexes.now → result ≡ 0xFFFF_FFFF_FFFF_FFFF }
@@ -193,7 +197,7 @@ pub extern "C" fn legacy_encode_replacing_from_utf8(
         piece,
         times,
     };
-    encode_by_number(codec, indexes, reading, output)
+    encode_by_number(codec, indexes, reading, output, room)
 }
 
 /// Encodes the source, a text in UTF-16, by the codec of this number, by calls with replacement. An unpaired surrogate counts as U+FFFD.
@@ -205,6 +209,7 @@ pub extern "C" fn legacy_encode_replacing_from_utf16(
     output: &mut [u8],
     piece: usize,
     times: usize,
+    room: &mut [u16],
 ) -> usize
     ensures units { (result ≤ length output.new) ⊎ (result ≡ 0xFFFF_FFFF_FFFF_FFFF) }
     ensures taken { IsTakenToEncode codec indexes.now → result ≤ length output.new }
@@ -216,5 +221,5 @@ pub extern "C" fn legacy_encode_replacing_from_utf16(
         piece,
         times,
     };
-    encode_by_number(codec, indexes, reading, output)
+    encode_by_number(codec, indexes, reading, output, room)
 }

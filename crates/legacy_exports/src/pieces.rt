@@ -5,20 +5,20 @@ use crate::calls::{CallEnd, Calls};
 use crate::unit::CodeUnit;
 use legacy_base::RawDecoder;
 
-/// How a source is read: by which kind of calls, in pieces of so many code units (0: in one piece), and so many times.
+/// How a source is read: by which calls, in pieces of what length, and how often.
 #[derive(Clone, Copy)]
 pub struct Reading<C: Calls, S: Copy> {
     /// The kind of calls.
     pub calls: C,
     /// The bytes of a decoder, or the text of an encoder.
     pub source: S,
-    /// The length of a piece.
+    /// The length of a piece in code units; 0: all in one piece.
     pub piece: usize,
-    /// How often.
+    /// The number of times.
     pub times: usize,
 }
 
-/// The end of a piece of so many bytes, where 0 stands for all that is left.
+/// Returns the end of a piece of `piece` bytes, or of all that is left if `piece` is 0.
 pub fn piece_end(read: usize, len: usize, piece: usize) -> usize
     requires { read ≤ len }
     ensures most { result ≤ len }
@@ -31,8 +31,9 @@ pub fn piece_end(read: usize, len: usize, piece: usize) -> usize
     }
 }
 
-/// Decodes the source in pieces of so many bytes by calls of a kind, and answers how many code units it wrote. It
-/// stops where the output is full.
+/// Decodes the source in pieces by calls of a kind, and returns the number of code units written.
+///
+/// It stops if the output is full.
 #[inline(always)]
 fn decode_once<C: Calls, U: CodeUnit, D: RawDecoder>(
     calls: C,
@@ -66,8 +67,9 @@ fn decode_once<C: Calls, U: CodeUnit, D: RawDecoder>(
     written
 }
 
-/// Decodes a source by one decoder as often as it is read, and answers how many code units it wrote the
-/// last time.
+/// Decodes a source by one decoder, `times` times.
+///
+/// Returns the number of code units written the last time.
 #[inline(always)]
 pub fn decode_times<C: Calls, U: CodeUnit, D: RawDecoder>(
     decoder: &mut D,

@@ -5,17 +5,20 @@ use crate::pieces::piece_end;
 use legacy_base::{EncoderResult, RawEncoder};
 use legacy_codecs::{CoderResult, encode_replacing_utf8, encode_replacing_utf16};
 
-/// A text in UTF-8 or in UTF-16, of which pieces are encoded that end between two characters.
+/// A text in UTF-8 or in UTF-16, whose pieces end between two characters.
 pub trait Text: Copy {
-    /// How many code units the text has.
+    /// Returns the number of code units of the text.
     fn unit_count(self) -> usize;
 
-    /// The end of the piece of so many code units from a place on, where 0 stands for all that is left: at the
-    /// next place between two characters.
+    /// Returns the end of the piece of `piece` code units that begins at `start`.
+    ///
+    /// The end is moved up to the next place between two characters. If `piece` is 0, the piece is
+    /// all that is left.
     fn end_of_piece(self, start: usize, piece: usize) -> usize;
 
-    /// A call of an encoder with the text from one place to another: answers the result, the code units read
-    /// and the bytes written.
+    /// Calls an encoder with the part of the text between two places.
+    ///
+    /// Returns the result, the number of code units read, and the number of bytes written.
     fn encode_raw<E: RawEncoder>(
         self,
         encoder: &mut E,
@@ -25,7 +28,7 @@ pub trait Text: Copy {
     ) -> (EncoderResult, usize, usize)
         ensures { result.2 ≤ length output.new };
 
-    /// The same call with replacement.
+    /// Calls an encoder likewise, with replacement.
     fn encode_replacing<E: RawEncoder>(
         self,
         encoder: &mut E,
@@ -73,7 +76,7 @@ impl Text for &str {
     }
 }
 
-/// Whether a pair of surrogates stands around a place.
+/// Checks whether the place is inside a pair of surrogates.
 fn parts_pair(units: &[u16], place: usize) -> bool {
     if place == 0 || place >= units.len() {
         return false;

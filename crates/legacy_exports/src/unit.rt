@@ -6,8 +6,9 @@ use legacy_codecs::{CoderResult, decode_replacing_utf8, decode_replacing_utf16};
 
 /// A code unit of an output: a byte of UTF-8, or a code unit of UTF-16.
 pub trait CodeUnit: Copy {
-    /// A call of a decoder to such an output: answers the result, the bytes read and the code units
-    /// written.
+    /// Calls a decoder with such an output.
+    ///
+    /// Returns the result, the number of bytes read, and the number of code units written.
     fn decode_raw<D: RawDecoder>(
         decoder: &mut D,
         source: &[u8],
@@ -17,7 +18,7 @@ pub trait CodeUnit: Copy {
         ensures read { result.1 ≤ length source.now }
         ensures written { result.2 ≤ length output.new };
 
-    /// The same call with replacement.
+    /// Calls a decoder likewise, with replacement.
     fn decode_replacing<D: RawDecoder>(
         decoder: &mut D,
         source: &[u8],
@@ -27,7 +28,7 @@ pub trait CodeUnit: Copy {
         ensures read { result.1 ≤ length source.now }
         ensures written { result.2 ≤ length output.new };
 
-    /// Writes U+FFFD at a place, and answers the place behind it, or `None` where it has no room.
+    /// Writes U+FFFD at a place, and returns the place after it, or `None` if it has no room.
     fn replace(output: &mut [Self], at: usize) -> Option<usize>
         ensures { IfSome result (λ end. end ≤ length output.new) };
 }

@@ -1,4 +1,4 @@
--- The tables of an index file without a line.
+-- The tables of an index file without lines.
 use Rattle.std.proofs.Common.{◌≡◌, ℕ, List, [], length, refl, arith, replicate}
 use Rattle.std.proofs.lemmas.List.{get_or-replicate, length-replicate}
 use Rattle.legacy_index_files.specs.IndexTable.{IsIndexOf, IsSingleByteIndexOf}

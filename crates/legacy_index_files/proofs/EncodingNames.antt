@@ -6,11 +6,11 @@ use Rattle.legacy_index_files.specs.declared.encodings.Encoding.TheVariants as e
 use Rattle.legacy_index_files.specs.declared.encodings.TheConstants.{ENCODINGS}
 use Rattle.legacy_index_files.specs.Encodings.{encoding_name}
 
--- an encoding has this name
+-- the encoding has this name
 abbrev has_name : List ℕ → Encoding → Bool
 has_name name e = bytes_eq (encoding_name e) name
 
--- what is found passes the test
+-- an item that is found passes the test
 found : {A : Type 0} (test : A → Bool) (list : List A) (x : A) → find test list ≡ Some x → test x ≡ true
 found test [] x e = cc
 found test (y ∷ list) x e = go (test y) refl e (found test list x)
@@ -19,7 +19,7 @@ found test (y ∷ list) x e = go (test y) refl e (found test list x)
     go true q z later = let same : y ≡ x = cc in subst (λ (w : _). test w ≡ true) same q
     go false q z later = later z
 
--- no other encoding has the name of one
+-- no two encodings have the same name
 only : (e : Encoding) → find (has_name (encoding_name e)) ENCODINGS ≡ Some e
 only encoding.Ibm866 = refl
 only encoding.Iso8859_2 = refl

@@ -1,4 +1,4 @@
--- What a line says is what it is by the grammar.
+-- The parser of lines agrees with the grammar.
 use Rattle.std.proofs.Common.{◌≡◌, ℕ, ◌≤◌, Bool, true, false, cond, ◌&&◌, ◌||◌, List, [], ◌∷◌, ◌++◌, length, Option, Some, None, nat_eq, nat_le, refl, sym, ◌∙◌, ap, subst, inl, inr, arith}
 use Rattle.std.proofs.lemmas.Bool.{and_parts, or_cases, eqb-true, leb-true, le-leb}
 use Rattle.std.proofs.lemmas.Option.{cond_some}
@@ -93,7 +93,7 @@ mark_sound (b ∷ c ∷ more) digits h =
     let rest = found.1 in
     cc
 
--- at least one blank and then `0x`, before digits
+-- at least one blank, then `0x`, then digits
 record HasMark (bytes digits : List ℕ) : Type 0 where
   blanks : List ℕ
   parts : bytes ≡ blanks ++ (0x30 ∷ 0x78 ∷ digits)
@@ -119,7 +119,7 @@ digits_complete (b ∷ bs) digits some blank =
 
 -- ---- an entry
 
--- the digits of a value that were found, and the value
+-- if the parser finds the digits of a value and their number, the grammar has that value
 value_sound : (bytes digits : List ℕ) (n : ℕ × List ℕ) → value_digits bytes ≡ Some digits → number_at 16 digits ≡ Some n → HasValue bytes n.0
 value_sound bytes digits n marked numbered =
     let mark = digits_sound bytes digits marked in
@@ -166,7 +166,7 @@ entry_sound_at bytes (Some n) entry is h =
 entry_sound : (bytes : List ℕ) (entry : ℕ × ℕ) → entry_at bytes ≡ Some entry → HasEntry bytes entry.0 entry.1
 entry_sound bytes entry h = entry_sound_at bytes (number_at 10 bytes) entry refl h
 
--- a blank is no digit, and a digit is none of the bytes that are not
+-- a blank is no digit, and ends a run of digits
 blank_ends : (b : ℕ) → is_blank b ≡ true → is_digit 10 b ≡ false
 blank_ends b h = elim (or_cases (nat_eq b 0x20) (nat_eq b 0x09) h) [
   | inl space ↦ ap (is_digit 10) (eqb-true b 0x20 space)
@@ -218,7 +218,7 @@ comment_says : (comment : List ℕ) → says_nothing (0x23 ∷ comment) ≡ true
 comment_says [] = refl
 comment_says (c ∷ more) = refl
 
--- what says nothing is behind its blanks, and is found to say nothing
+-- the bytes after the blanks of a line that is skipped
 record NothingHere (bytes : List ℕ) : Type 0 where
   ends : EndsRun is_blank bytes
   says : says_nothing bytes ≡ true
@@ -228,7 +228,7 @@ nothing_here bytes (inl empty) = subst NothingHere (sym empty) (record { ends = 
 nothing_here bytes (inr (inl return)) = subst NothingHere (sym return) (record { ends = refl; says = refl })
 nothing_here bytes (inr (inr comment)) = subst NothingHere (sym comment.1) (record { ends = refl; says = comment_says comment.0 })
 
--- an entry is behind its blanks, and is found to say something
+-- the bytes after the blanks of a line that is not skipped
 record EntryHere (bytes : List ℕ) : Type 0 where
   ends : EndsRun is_blank bytes
   says : says_nothing bytes ≡ false
@@ -275,7 +275,7 @@ entry_line_sound line pointer value h = record {
   entry = entry_sound (past_blanks line) (pointer, value) (kind_entry (says_nothing (past_blanks line)) (entry_at (past_blanks line)) pointer value h);
 }
 
--- the kind of a line by what is behind its blanks
+-- the kind of a line, by the bytes after its blanks
 abbrev kind_behind : List ℕ → LineKind
 kind_behind body = cond (says_nothing body) Skipped (kind_of_entry (entry_at body))
 

@@ -1,4 +1,4 @@
--- The lines of a text by the place of its first 0A.
+-- The lines of a text, by the position of its first 0A.
 use Rattle.std.proofs.Common.{◌≡◌, ℕ, ◌+◌, ◌-◌, ◌<◌, ◌≤◌, Bool, true, false, cond, not, List, [], ◌∷◌, length, take, drop, Some, None, nat_eq, nat_lt, refl, ap, add-one, one-add, arith}
 use Rattle.std.proofs.lemmas.Grind.{common_steps}
 use Rattle.std.proofs.lemmas.Bool.Decides.{nat_tests}
@@ -11,7 +11,7 @@ is_end b = nat_eq b 0x0A
 abbrev pub end_of : List ℕ → ℕ
 end_of text = prefix_len (λ b. not (is_end b)) text
 
--- the first line of a text, by whether it begins with 0A
+-- the first line of a text, by whether the text begins with 0A
 at_end_cons : (b : ℕ) (bs : List ℕ) (at : Bool) (n : ℕ)
     → (n < length bs → lines bs ≡ take n bs ∷ lines (drop (n + 1) bs))
     → cond (not at) (1 + n) 0 < length (b ∷ bs)
@@ -27,7 +27,7 @@ pub lines-at_end : (text : List ℕ) → end_of text < length text → lines tex
 lines-at_end [] h = absurd (omega arith)
 lines-at_end (b ∷ bs) h = at_end_cons b bs (is_end b) (end_of bs) (lines-at_end bs) h
 
--- a text with no 0A, by what follows its first byte
+-- a text without 0A, by the bytes after its first one
 no_end_cons : (b : ℕ) (bs : List ℕ) (at : Bool) (n : ℕ)
     → (0 < length bs → length bs ≤ n → lines bs ≡ bs ∷ [])
     → length (b ∷ bs) ≤ cond (not at) (1 + n) 0
@@ -36,19 +36,19 @@ no_end_cons b bs true n ih h = absurd (omega arith)
 no_end_cons b [] false n ih h = refl
 no_end_cons b (c ∷ bs) false n ih h = ap (before_first_line b) (ih (omega arith) (omega arith))
 
--- a text with no 0A is one line
+-- a text without 0A is one line
 pub lines-no_end : (text : List ℕ) → 0 < length text → length text ≤ end_of text → lines text ≡ text ∷ []
 lines-no_end [] h e = absurd (omega arith)
 lines-no_end (b ∷ bs) h e = no_end_cons b bs (is_end b) (end_of bs) (lines-no_end bs) e
 
--- what a search found, as a place or the length
+-- if a search finds a position, it is less than the length
 found_at : (i n length : ℕ) → Some i ≡ cond (nat_lt n length) (Some n) None → (i ≡ n) × (n < length)
 found_at i n length found = (grind (arith, nat_tests), grind (arith, nat_tests))
 
 found_none : (n length : ℕ) → None ≡ cond (nat_lt n length) (Some n) None → length ≤ n
 found_none n length found = grind (arith, nat_tests)
 
--- the first line and the rest, cut at the place that a search for 0A gives
+-- the first line and the rest of a text, split at the first 0A
 pub lines-split : (text : List ℕ) (end : ℕ) → Some end ≡ position is_end text
     → lines text ≡ take end text ∷ lines (take (length text - (end + 1)) (drop (end + 1) text))
 lines-split text end found =

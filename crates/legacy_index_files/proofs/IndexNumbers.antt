@@ -1,20 +1,20 @@
--- The steps and the bounds of a number of at most six digits.
+-- The steps and bounds of numbers with at most six digits.
 use Rattle.std.proofs.Common.{◌≡◌, ℕ, ◌+◌, ◌*◌, ◌^◌, ◌<◌, ◌≤◌, cond, List, [], ◌∷◌, length, ◌∙◌, ap, add-one, lt-ltb, arith}
 use Rattle.std.specs.Char.{digit_value}
 use Rattle.legacy_index_files.specs.IndexLine.{digits_at, past_digits, number_behind}
 use Rattle.std.proofs.Math.Nat.{mul-le-mul_left, pow-le-pow_right, pow-suc}
 
--- a digit more
+-- the bound for one more digit
 pub below_power : (value radix digit count : ℕ) → value < 16 ^ count → radix ≤ 16 → digit < radix
     → value * radix + digit < 16 ^ (count + 1)
 below_power value radix digit count small few below =
     rw (add-one, pow-suc) (omega (arith, mul-le-mul_left value few))
 
--- six digits fit 32 bits
+-- six digits fit in 32 bits
 pub six_digits : (count : ℕ) → count < 6 → 16 ^ (count + 1) ≤ 2 ^ 24
 six_digits count few = let most : count + 1 ≤ 6 = omega arith in pow-le-pow_right (omega arith) most
 
--- at a digit
+-- the step at a digit
 pub record TakesDigit (radix value digit : ℕ) (rest behind : List ℕ) : Type 0 where
   pub counted : length (digits_at radix rest) ≡ 1 + length (digits_at radix behind)
   pub number : number_behind radix value (digits_at radix rest) ≡ number_behind radix (value * radix + digit) (digits_at radix behind)

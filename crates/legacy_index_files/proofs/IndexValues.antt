@@ -1,4 +1,4 @@
--- The step of filling a table.
+-- The steps of filling a table.
 use Rattle.std.proofs.Common.{◌≡◌, ℕ, ◌<◌, ◌≤◌, cond, List, ◌∷◌, length, set, get_or, nat_eq, Option, Some, None, refl, sym, ◌∙◌, ap, arith}
 use Rattle.std.proofs.lemmas.Grind.{common_steps}
 use Rattle.std.proofs.lemmas.Bool.Decides.{nat_tests}
@@ -8,19 +8,19 @@ use Rattle.legacy_index_files.specs.declared.index_file.EncoderIndex.{EncoderInd
 use Rattle.legacy_index_files.specs.IndexLine.{lines}
 use Rattle.legacy_index_files.specs.IndexTable.{says, file_entries, with_entry, table_length, last_value}
 
--- the value of a pointer whose place was written last, or not
+-- the value of a pointer after one write to the table
 written_at : (values : List ℕ) (pointer value p : ℕ) → pointer < length values
     → get_or (set values pointer value) p 0 ≡ unwrap_or (cond (nat_eq pointer p) (Some value) None) (get_or values p 0)
 written_at values pointer value p within = grind (arith, nat_tests, common_steps)
 
--- an entry written before the others are
+-- writing an entry before the later ones
 pub fills_entry : (entries : List (ℕ × ℕ)) (values : List ℕ) (pointer value p : ℕ) → pointer < length values
     → unwrap_or (last_value entries p) (get_or (set values pointer value) p 0) ≡ unwrap_or (last_value ((pointer, value) ∷ entries) p) (get_or values p 0)
 fills_entry entries values pointer value p within =
     let P : Option ℕ → Type 0 = λ later. unwrap_or later (get_or (set values pointer value) p 0) ≡ unwrap_or (option_or later (cond (nat_eq pointer p) (Some value) None)) (get_or values p 0) in
     elim (last_value entries p) as P [ Some later ↦ refl | None ↦ written_at values pointer value p within ]
 
--- a line that is an entry, written before those behind it are
+-- writing the entry of a line before those of the later lines
 pub record FillsLine (name : EncoderIndex) (rest behind : List ℕ) (values : List ℕ) (pointer value : ℕ) : Type 0 where
   pub room : table_length (file_entries name (lines behind)) ≤ length values
   pub within : pointer < length values

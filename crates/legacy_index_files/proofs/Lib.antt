@@ -1,4 +1,4 @@
--- Laws of the lines of an index file, of their grammar and of their table, and of the names of encodings.
+-- Laws of the lines of an index file, their grammar and their table, and of the names of encodings.
 pub mod EmptyIndexes
 pub mod EncodingNames
 pub mod IndexGrammars

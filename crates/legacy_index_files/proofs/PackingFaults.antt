@@ -1,4 +1,4 @@
--- What is packed of accepted indexes is accepted beside them.
+-- The packed parts of accepted indexes are accepted.
 use Rattle.std.proofs.Common.{◌≡◌, ℕ, ◌≤◌, ◌<◌, List, length, refl, arith, Some, None, Option, true, ◌||◌, inl, inr}
 use Rattle.std.proofs.lemmas.Bool.{cases_lt}
 use Rattle.std.proofs.lemmas.Bool.Decides.{nat_tests}
@@ -38,7 +38,7 @@ is_wide-below e h = grind (arith, nat_tests)
 
 -- ---- the parts
 
--- the runs and the orders as one pack
+-- the runs and the orders as one `OwnedPacked`
 abbrev pub owned_of : AllRuns → AllOrders → OwnedPacked
 owned_of runs orders = record {
   big5 = runs.big5;

@@ -1,4 +1,4 @@
--- The runs that a loop has made of the pointers so far, and that they are accepted at its end.
+-- The runs of the first pointers of an index. At the end of the index they are accepted.
 use Rattle.std.proofs.Common.{◌≡◌, ◌≢◌, ◌∙◌, ℕ, ◌+◌, ◌-◌, ◌≤◌, ◌<◌, List, [], ◌∷◌, ◌++◌, length, get_or, refl, sym, ap, arith, Some, None, Option, true, false, Bool, cond, not, ◌==◌, inl, inr}
 use Rattle.std.proofs.lemmas.Bool.{cases_lt, ne_eqb}
 use Rattle.std.proofs.lemmas.List.{get_or_past, get_or_append_left, get_or_push, length_push}
@@ -13,9 +13,9 @@ use Rattle.legacy_tables.proofs.FirstPlaces.{find-none}
 use Rattle.legacy_tables.proofs.PackedRuns.{outside-before, outside-behind}
 use Rattle.legacy_index_files.specs.Packing.{AreBelow, GivesIndex, AreLongest}
 
--- ---- one run more
+-- ---- one more run
 
--- the pointer behind the last of runs
+-- the first pointer after the last run
 unfoldable pub end_from : ℕ → List Run → ℕ
 end_from before [] = before
 end_from before (run ∷ runs) = end_from (run_end run) runs
@@ -52,9 +52,9 @@ scalar-push (r ∷ runs) run p = ap (option_or (run_scalar r p)) (scalar-push ru
 inside : (run : Run) (p : ℕ) → run.pointer ≤ p → p < run_end run → run_scalar run p ≡ Some (run.scalar + (p - run.pointer))
 inside run p h l = rw (le-leb run.pointer p h, lt-ltb p (run_end run) l) refl
 
--- ---- the runs of the pointers below p, each as long as it can be
+-- ---- the longest runs of the pointers below p
 
--- The runs end at p or before. Where the last one ends at p, the pointer p does not go on with it.
+-- The runs end at p or earlier. If the last one ends at p, the pointer p does not continue it.
 pub record AreLongestBelow (p : ℕ) (index : List ℕ) (runs : List Run) : Type 0 where
   pub longest : AreLongest runs
   pub reach : (i : ℕ) (d : Run) → i < length runs → run_end (get_or runs i d) ≤ p
@@ -102,7 +102,7 @@ module _ (p : ℕ) (index : List ℕ) (runs : List Run) (so_far : AreLongestBelo
           rw (last i d (omega arith)) (λ e l same. longest l (sym same ∙ ap (λ s. s + run.length) scalar));
     }
 
--- ---- what they give
+-- ---- the entries of runs
 
 pub record AreRunsBelow (limit p : ℕ) (index : List ℕ) (runs : List Run) : Type 0 where
   pub ordered : AreBelow 0x11_0000 index → run_fault limit runs ≡ None

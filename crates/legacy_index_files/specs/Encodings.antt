@@ -1,4 +1,4 @@
--- The encodings of the Standard that this layer serves: their names ("Names and labels"), codecs and index files
+-- The encodings of the Standard that this crate lists: their names ("Names and labels"), codecs and index files
 -- ("Indexes").
 use Rattle.std.specs.Prelude.{ℕ, List, [], ◌∷◌, Option, Some, None, codes, map}
 use Rattle.legacy_index_files.specs.declared.index_file.FileIndex.{FileIndex}
@@ -67,7 +67,7 @@ codec_of encoding.Utf16Le = codec.Utf16Le
 codec_of encoding.UserDefined = codec.UserDefined
 codec_of _ = codec.SingleByte
 
--- the indexes that the decoder of a codec looks up
+-- the indexes that a codec's decoder uses
 abbrev pub indexes_of : CodecName → List FileIndex
 indexes_of codec.SingleByte = index.SingleByte ∷ []
 indexes_of codec.Gbk = index.Gb18030 ∷ index.Ranges ∷ []
@@ -82,12 +82,12 @@ indexes_of codec.Utf16Be = []
 indexes_of codec.Utf16Le = []
 indexes_of codec.UserDefined = []
 
--- the indexes that the encoder of a codec looks up: those of its decoder, and for ISO-2022-JP the katakana index
+-- the indexes that a codec's encoder uses: those of its decoder, and for ISO-2022-JP the katakana index
 abbrev pub encoder_indexes_of : CodecName → List EncoderIndex
 encoder_indexes_of codec.Iso2022Jp = Of index.Jis0208 ∷ Katakana ∷ []
 encoder_indexes_of codec = map Of (indexes_of codec)
 
--- the name of the file that is published of a single-byte encoding
+-- the name of the published file of a single-byte encoding
 abbrev pub single_byte_file : Encoding → Option (List ℕ)
 single_byte_file encoding.Ibm866 = Some (codes "index-ibm866.txt")
 single_byte_file encoding.Iso8859_2 = Some (codes "index-iso-8859-2.txt")
@@ -119,7 +119,7 @@ single_byte_file encoding.Windows1258 = Some (codes "index-windows-1258.txt")
 single_byte_file encoding.MacCyrillic = Some (codes "index-x-mac-cyrillic.txt")
 single_byte_file _ = None
 
--- the name of the file that is published of an index
+-- the name of the published file of an index
 abbrev pub file_name_of : Encoding → FileIndex → Option (List ℕ)
 file_name_of encoding index.Big5 = Some (codes "index-big5.txt")
 file_name_of encoding index.EucKr = Some (codes "index-euc-kr.txt")

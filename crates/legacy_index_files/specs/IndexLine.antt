@@ -1,4 +1,4 @@
--- The lines of an index file of the WHATWG Encoding Standard ("Indexes"), as lists of bytes, and what one says.
+-- The lines of an index file of the WHATWG Encoding Standard ("Indexes"), as lists of bytes, and the kind of each.
 use Rattle.std.specs.Prelude.{ℕ, ◌+◌, ◌*◌, Bool, true, ◌&&◌, ◌||◌, List, [], ◌∷◌, Option, Some, None, nat_le, nat_lt, ◌==◌, if◌then◌else◌, length}
 use Rattle.std.specs.Char.{digit_value}
 use Rattle.legacy_index_files.specs.declared.index_line.LineKind.{LineKind}
@@ -6,24 +6,24 @@ use Rattle.legacy_index_files.specs.declared.index_line.LineKind.TheVariants.{Sk
 
 -- ---- the lines of a text
 
--- the lines with a byte put before the first of them
+-- puts a byte at the beginning of the first line
 abbrev pub before_first_line : ℕ → List (List ℕ) → List (List ℕ)
 before_first_line b [] = (b ∷ []) ∷ []
 before_first_line b (line ∷ more) = (b ∷ line) ∷ more
 
--- the lines of a text: each ends with a byte 0A, which is left off here and which the last line may lack
+-- the lines of a text: each ends with a byte 0A, which is omitted here and which the last line may lack
 abbrev pub lines : List ℕ → List (List ℕ)
 lines [] = []
 lines (b ∷ bs) = if b == 0x0A then [] ∷ lines bs else before_first_line b (lines bs)
 
 -- ---- runs of bytes
 
--- the bytes at the front that pass a test
+-- the longest beginning whose bytes pass a test
 abbrev pub run_of : (ℕ → Bool) → List ℕ → List ℕ
 run_of test [] = []
 run_of test (b ∷ bs) = if test b then b ∷ run_of test bs else []
 
--- what follows the bytes at the front that pass a test
+-- the bytes after the longest beginning whose bytes pass a test
 abbrev pub behind_run : (ℕ → Bool) → List ℕ → List ℕ
 behind_run test [] = []
 behind_run test (b ∷ bs) = if test b then behind_run test bs else b ∷ bs
@@ -34,11 +34,11 @@ behind_run test (b ∷ bs) = if test b then behind_run test bs else b ∷ bs
 abbrev pub is_blank : ℕ → Bool
 is_blank b = b == 0x20 || b == 0x09
 
--- what follows the blanks at the front
+-- the bytes after the blanks at the beginning
 abbrev pub past_blanks : List ℕ → List ℕ
 past_blanks bs = behind_run is_blank bs
 
--- past its blanks, a line says nothing if it ends there, but for a carriage return, or if `#` stands there
+-- after its blanks, a skipped line is empty, a single carriage return, or a comment
 abbrev pub says_nothing : List ℕ → Bool
 says_nothing [] = true
 says_nothing (b ∷ []) = b == 0x0D || b == 0x23
@@ -46,24 +46,24 @@ says_nothing (b ∷ c ∷ more) = b == 0x23
 
 -- ---- numbers
 
--- a byte is a digit of a radix, where letters of either case stand for 10 to 35
+-- the byte is a digit of a radix; letters of either case are the digits 10 to 35
 abbrev pub is_digit : ℕ → ℕ → Bool
 is_digit radix b = nat_lt (digit_value b) radix
 
--- the digits of a radix at the front
+-- the digits of a radix at the beginning
 abbrev pub digits_at : ℕ → List ℕ → List ℕ
 digits_at radix bs = run_of (is_digit radix) bs
 
--- what follows the digits of a radix at the front
+-- the bytes after the digits of a radix at the beginning
 abbrev pub past_digits : ℕ → List ℕ → List ℕ
 past_digits radix bs = behind_run (is_digit radix) bs
 
--- the number that digits write behind others that write n
+-- the number of digits that follow the digits of n
 abbrev pub number_behind : ℕ → ℕ → List ℕ → ℕ
 number_behind radix n [] = n
 number_behind radix n (b ∷ bs) = number_behind radix (n * radix + digit_value b) bs
 
--- the number that 1 to 6 digits at the front write, with what follows them; none if there are fewer or more
+-- the number of 1 to 6 digits at the beginning, with the bytes after them; none if there are fewer or more digits
 abbrev pub number_at : ℕ → List ℕ → Option (ℕ × List ℕ)
 number_at radix bs =
     if nat_le 1 (length (digits_at radix bs)) && nat_le (length (digits_at radix bs)) 6
@@ -72,34 +72,34 @@ number_at radix bs =
 
 -- ---- entries
 
--- what follows `0x`, if that stands at the front
+-- the bytes after `0x`, if the list begins with it
 abbrev pub past_mark : List ℕ → Option (List ℕ)
 past_mark (b ∷ c ∷ more) = if b == 0x30 && c == 0x78 then Some more else None
 past_mark _ = None
 
--- what follows at least one blank and then `0x`, if these stand at the front
+-- the bytes after at least one blank and `0x`, if the list begins with these
 abbrev pub value_digits : List ℕ → Option (List ℕ)
 value_digits [] = None
 value_digits (b ∷ bs) = if is_blank b then past_mark (past_blanks bs) else None
 
--- the pointer with the value that 1 to 6 hexadecimal digits at the front write, whatever follows these
+-- the pointer, with the value of the 1 to 6 hexadecimal digits at the beginning
 abbrev pub entry_with : ℕ → List ℕ → Option (ℕ × ℕ)
 entry_with pointer digits = elim (number_at 16 digits) [ None ↦ None | Some value ↦ Some (pointer, value.0) ]
 
--- the same, where at least one blank and `0x` come before those digits
+-- the pointer, with the value after at least one blank and `0x`
 abbrev pub entry_behind : ℕ × List ℕ → Option (ℕ × ℕ)
 entry_behind pointer = elim (value_digits pointer.1) [ None ↦ None | Some digits ↦ entry_with pointer.0 digits ]
 
--- the entry at the front: 1 to 6 decimal digits, at least one blank, `0x`, and 1 to 6 hexadecimal digits
+-- the entry at the beginning: 1 to 6 decimal digits, at least one blank, `0x`, and 1 to 6 hexadecimal digits
 abbrev pub entry_at : List ℕ → Option (ℕ × ℕ)
 entry_at body = elim (number_at 10 body) [ None ↦ None | Some pointer ↦ entry_behind pointer ]
 
--- the kind of a line that has an entry past its blanks, or none
+-- the kind of a line by its entry, if any
 abbrev pub kind_of_entry : Option (ℕ × ℕ) → LineKind
 kind_of_entry None = Malformed
 kind_of_entry (Some entry) = Entry entry.0 entry.1
 
--- what a line says
+-- the kind of a line
 abbrev pub line_kind : List ℕ → LineKind
 line_kind line =
     if says_nothing (past_blanks line) then Skipped else kind_of_entry (entry_at (past_blanks line))

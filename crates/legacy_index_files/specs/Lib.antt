@@ -1,4 +1,4 @@
--- What an index file says, what a set of indexes holds, and the encodings.
+-- The content of an index file, the owning set of indexes, packing, and the encodings.
 pub mod Encodings
 pub mod IndexGrammar
 pub mod IndexLine

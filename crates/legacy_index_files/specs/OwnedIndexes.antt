@@ -1,4 +1,4 @@
--- The owning set of indexes: what it holds of each index, and the flat lists that tables of it have.
+-- The owning set of indexes: its values for each index, and the flat lists of its tables.
 use Rattle.std.specs.Prelude.{◌≡◌, ℕ, List}
 use Rattle.legacy_tables.specs.Indexes.{FlatIndexes}
 use Rattle.legacy_tables.specs.AcceptedTables.{flat_lists}
@@ -12,11 +12,11 @@ use Rattle.legacy_index_files.specs.declared.owned_indexes.OwnedIndexes.{OwnedIn
 use Rattle.legacy_index_files.specs.IndexLine.{lines}
 use Rattle.legacy_index_files.specs.IndexTable.{entries_of, IsIndexOf, IsSingleByteIndexOf, IsTableOf, file_entries}
 
--- the entries of an index, where each index has a text
+-- the entries of an index, if each index has a text
 abbrev pub text_entries : (FileIndex → List ℕ) → FileIndex → List (ℕ × ℕ)
 text_entries texts name = entries_of name (lines (texts name))
 
--- the set holds of each index what its text says
+-- the set has the values of each index's text
 pub record HoldsTexts (texts : FileIndex → List ℕ) (owned : OwnedIndexes) : Type 0 where
   pub big5 : IsIndexOf (text_entries texts Big5) owned.big5.items
   pub euc_kr : IsIndexOf (text_entries texts EucKr) owned.euc_kr.items
@@ -26,7 +26,7 @@ pub record HoldsTexts (texts : FileIndex → List ℕ) (owned : OwnedIndexes) : 
   pub ranges : owned.ranges.items ≡ text_entries texts Ranges
   pub single_byte : IsSingleByteIndexOf (text_entries texts SingleByte) owned.single_byte
 
--- the set with the table in its index's place; a table of another kind than the index's changes nothing
+-- the set with the table of an index replaced; a table of the wrong kind for the index changes nothing
 abbrev pub with_table : OwnedIndexes → FileIndex → FileTable → OwnedIndexes
 with_table owned Big5 (table.Wide values) = record owned { big5 = values }
 with_table owned EucKr (table.Narrow values) = record owned { euc_kr = values }
@@ -37,13 +37,13 @@ with_table owned Ranges (table.Ranges ranges) = record owned { ranges = ranges }
 with_table owned SingleByte (table.Bytes values) = record owned { single_byte = values }
 with_table owned _ _ = owned
 
--- the second set is the first one with what the text says in the place of the index
+-- the second set is the first one with the values of the text for this index
 pub record HoldsFile (name : FileIndex) (text : List ℕ) (before after : OwnedIndexes) : Type 0 where
   pub table : FileTable
   pub is_table : IsTableOf name (entries_of name (lines text)) table
   pub place : after ≡ with_table before name table
 
--- the second set is the first one with what the text says in the place of index ISO-2022-JP katakana
+-- the second set is the first one with the values of the text for index ISO-2022-JP katakana
 pub record HoldsKatakana (text : List ℕ) (before after : OwnedIndexes) : Type 0 where
   pub says : IsIndexOf (file_entries Katakana (lines text)) after.katakana.items
   pub place : after ≡ record before { katakana = after.katakana }

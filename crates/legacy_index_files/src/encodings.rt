@@ -1,4 +1,4 @@
-//! The encodings of the Standard that this layer serves: their names, codecs and index files.
+//! The encodings of the Standard that this crate lists: their names, codecs and index files.
 ghost use Rattle.std.specs.Prelude.{◌≡◌, ◌↔◌, ℕ, List, Some, find, bytes_eq};
 ghost use Rattle.std.specs.Option.{option_map};
 ghost use Rattle.legacy_index_files.specs.Encodings.{encoding_name, codec_of, indexes_of};
@@ -7,7 +7,7 @@ ghost use Rattle.legacy_index_files.specs.Encodings.{single_byte_file, file_name
 
 use crate::index_file::{EncoderIndex, FileIndex};
 
-/// An encoding of the Standard ("Names and labels"): each but UTF-8.
+/// An encoding of the Standard ("Names and labels"), except UTF-8.
 #[derive(Clone, Copy, Debug, PartialEq, Eq)]
 pub enum Encoding {
     /// `IBM866`
@@ -90,8 +90,7 @@ pub enum Encoding {
     UserDefined,
 }
 
-/// All of them: the single-byte encodings, the multi-byte ones of Chinese, Japanese and Korean, and the
-/// miscellaneous ones.
+/// All encodings: single-byte, then multi-byte Chinese, Japanese and Korean, then miscellaneous.
 pub const ENCODINGS: [Encoding; 39] = [
     Encoding::Ibm866,
     Encoding::Iso8859_2,
@@ -134,14 +133,14 @@ pub const ENCODINGS: [Encoding; 39] = [
     Encoding::UserDefined,
 ];
 
-/// A codec, by which an encoding is decoded and encoded.
+/// A codec, which decodes and encodes an encoding.
 #[derive(Clone, Copy, Debug, PartialEq, Eq)]
 pub enum CodecName {
-    /// `SingleByteDecoder` and `SingleByteEncoder`, over the encoding's own table.
+    /// `SingleByteDecoder` and `SingleByteEncoder`, with the encoding's own table.
     SingleByte,
-    /// `Gb18030Decoder`, and `Gb18030Encoder` without the forms of four bytes.
+    /// `Gb18030Decoder`, and `Gb18030Encoder` without four-byte sequences.
     Gbk,
-    /// `Gb18030Decoder`, and `Gb18030Encoder` with the forms of four bytes.
+    /// `Gb18030Decoder`, and `Gb18030Encoder` with four-byte sequences.
     Gb18030,
     /// `Big5Decoder` and `Big5Encoder`.
     Big5,
@@ -155,15 +154,15 @@ pub enum CodecName {
     EucKr,
     /// `ReplacementDecoder`. Its output encoding is UTF-8.
     Replacement,
-    /// `Utf16Decoder` of big-endian units. Its output encoding is UTF-8.
+    /// `Utf16Decoder` in big-endian byte order. Its output encoding is UTF-8.
     Utf16Be,
-    /// `Utf16Decoder` of little-endian units. Its output encoding is UTF-8.
+    /// `Utf16Decoder` in little-endian byte order. Its output encoding is UTF-8.
     Utf16Le,
     /// `UserDefinedDecoder` and `UserDefinedEncoder`.
     UserDefined,
 }
 
-/// The first encoding of this name.
+/// Returns the first encoding with this name.
 fn first_named(name: &str) -> Option<Encoding>
     ensures { result ≡ find (λ e. bytes_eq (encoding_name e) name.now) ENCODINGS }
 {
@@ -174,8 +173,10 @@ fn first_named(name: &str) -> Option<Encoding>
 }
 
 impl Encoding {
-    /// The encoding of this name, which is compared byte for byte (a label is another thing: the
-    /// Standard's table of labels leads from labels to names).
+    /// Returns the encoding with this name, or `None`.
+    ///
+    /// Names are compared byte for byte. Labels are not names: the Standard's table ("Names and
+    /// labels") maps labels to names.
     pub fn by_name(name: &str) -> Option<Encoding>
         ensures { (encoding : Encoding) →
             (result ≡ Some encoding) ↔ (encoding_name encoding ≡ name.now) }
@@ -183,7 +184,7 @@ impl Encoding {
         first_named(name)
     }
 
-    /// Its name.
+    /// Returns the encoding's name ("Names and labels").
     pub fn name(self) -> &'static str
         ensures { result.now ≡ encoding_name self }
     {
@@ -230,7 +231,7 @@ impl Encoding {
         }
     }
 
-    /// Its codec.
+    /// Returns the encoding's codec.
     pub fn codec(self) -> CodecName
         ensures { result ≡ codec_of self }
     {
@@ -250,7 +251,9 @@ impl Encoding {
         }
     }
 
-    /// The indexes that its decoder looks up; none for replacement, UTF-16 and x-user-defined.
+    /// Returns the indexes that the encoding's decoder uses.
+    ///
+    /// There are none for replacement, UTF-16 and x-user-defined.
     pub fn indexes(self) -> &'static [FileIndex]
         ensures { result.now ≡ indexes_of (codec_of self) }
     {
@@ -268,8 +271,10 @@ impl Encoding {
         }
     }
 
-    /// The indexes that its encoder looks up: those of its decoder, and for ISO-2022-JP index ISO-2022-JP
-    /// katakana; none for replacement and UTF-16, which have no encoder, and x-user-defined.
+    /// Returns the indexes that the encoding's encoder uses.
+    ///
+    /// These are the indexes of its decoder, and for ISO-2022-JP also index ISO-2022-JP katakana.
+    /// There are none for x-user-defined, nor for replacement and UTF-16, which have no encoder.
     pub fn encoder_indexes(self) -> &'static [EncoderIndex]
         ensures { result.now ≡ encoder_indexes_of (codec_of self) }
     {
@@ -300,9 +305,11 @@ impl Encoding {
         }
     }
 
-    /// The name of the file that the Standard publishes of one of its indexes, at
-    /// `https://encoding.spec.whatwg.org/` and the name. `None` is answered for `FileIndex::SingleByte`
-    /// of an encoding that is no single-byte encoding, and for nothing else.
+    /// Returns the name of the file that the Standard publishes for an index of the encoding.
+    ///
+    /// The file is at `https://encoding.spec.whatwg.org/` followed by the name. Returns `None`
+    /// exactly if the index is `FileIndex::SingleByte` and the encoding is not a single-byte
+    /// encoding.
     pub fn file_name(self, index: FileIndex) -> Option<&'static str>
         ensures { option_map (λ name. name.now) result ≡ file_name_of self index }
     {
@@ -317,7 +324,7 @@ impl Encoding {
         }
     }
 
-    /// The name of the file of a single-byte encoding: that of ISO-8859-8-I is that of ISO-8859-8.
+    /// Returns the file name of a single-byte encoding; ISO-8859-8-I has that of ISO-8859-8.
     fn single_byte_file(self) -> Option<&'static str>
         ensures { option_map (λ name. name.now) result ≡ single_byte_file self }
     {

@@ -10,55 +10,60 @@ use crate::index_table::{check_lines, read_narrow, read_ranges, read_single_byte
 use std::alloc::Global;
 use thiserror::Error;
 
-/// An index of the WHATWG Encoding Standard ("Indexes") that a file can hold.
+/// An index of the WHATWG Encoding Standard ("Indexes") that can be read from a file.
 #[derive(Clone, Copy, Debug, PartialEq, Eq)]
 pub enum FileIndex {
-    /// Index Big5: pointers below 19782, values to 10FFFF.
+    /// Index Big5: pointers below 19782, values up to 10FFFF.
     Big5,
-    /// Index EUC-KR: pointers below 23940, values to FFFF.
+    /// Index EUC-KR: pointers below 23940, values up to FFFF.
     EucKr,
-    /// Index jis0208: pointers below 11280, values to FFFF.
+    /// Index jis0208: pointers below 11280, values up to FFFF.
     Jis0208,
-    /// Index jis0212: pointers below 8836, values to FFFF.
+    /// Index jis0212: pointers below 8836, values up to FFFF.
     Jis0212,
-    /// Index gb18030: pointers below 23940, values to FFFF.
+    /// Index gb18030: pointers below 23940, values up to FFFF.
     Gb18030,
-    /// Index gb18030 ranges: pointers to 65535, values to FFFF.
+    /// Index gb18030 ranges: pointers up to 65535, values up to FFFF.
     Ranges,
-    /// An index of a single-byte encoding: pointers below 128, values to FFFF.
+    /// An index of a single-byte encoding: pointers below 128, values up to FFFF.
     SingleByte,
 }
 
-/// An index that an encoder looks up.
+/// An index that an encoder uses.
 #[derive(Clone, Copy, Debug, PartialEq, Eq)]
 pub enum EncoderIndex {
-    /// One that its decoder looks up too.
+    /// An index that the decoder uses too.
     Of(FileIndex),
-    /// Index ISO-2022-JP katakana: pointers below 63, values to FFFF. `KATAKANA_FILE` is its file.
+    /// Index ISO-2022-JP katakana: pointers below 63, values up to FFFF (`KATAKANA_FILE`).
     Katakana,
 }
 
-/// The name of the file that the Standard publishes of index ISO-2022-JP katakana.
+/// The name of the file that the Standard publishes for index ISO-2022-JP katakana.
 pub const KATAKANA_FILE: &str = "index-iso-2022-jp-katakana.txt";
 
-/// What an index file holds.
+/// The table of an index file.
 #[derive(Debug, PartialEq, Eq, Drop)]
 pub enum FileTable {
-    /// Of index Big5: the value of each pointer up to the greatest one given, 0 where none is.
+    /// Index Big5: the value of each pointer up to the greatest in the file.
+    ///
+    /// A pointer without a value has 0.
     Wide(Vec<u32>),
-    /// Of the other indexes by pointer: the value of each pointer up to the greatest one given, 0 where
-    /// none is.
+    /// The other indexes by pointer: the value of each pointer up to the greatest in the file.
+    ///
+    /// A pointer without a value has 0.
     Narrow(Vec<u16>),
-    /// Of index gb18030 ranges: each line's pointer and value, in the lines' order.
+    /// Index gb18030 ranges: the pointer and value of each line, in order.
     Ranges(Vec<(u16, u16)>),
-    /// Of a single-byte encoding: the value of each pointer, 0 where none is given.
+    /// An index of a single-byte encoding: the value of each pointer, 0 for those without one.
     Bytes([u16; 128]),
 }
 
-/// Why an index file was not read.
+/// The reason why an index file was not read.
 #[derive(Debug, PartialEq, Eq, Drop, Error)]
 pub enum IndexFileError {
-    /// The first line that is not of the form, or whose pointer or value is out of range, counted from 1.
+    /// The number of the first malformed line, counted from 1.
+    ///
+    /// A line whose pointer or value is out of range counts as malformed.
     #[error("line {0}")]
     Line(usize),
     /// Memory for the table was refused.
@@ -68,15 +73,22 @@ pub enum IndexFileError {
 
 /// Reads the text of an index file (WHATWG Encoding Standard, "Indexes").
 ///
-/// The text is bytes in lines that end with 0A; the last one may lack it. Blanks are 20 and 09. A line of
-/// blanks alone (a 0D at its end counts as one), or whose first byte past blanks is `#`, is skipped. Any
-/// other line is blanks or none, 1 to 6 decimal digits (the pointer), at least one blank, `0x`, 1 to 6
-/// hexadecimal digits of either case (the value), then the line's end or a byte that is no hexadecimal
-/// digit, and anything up to the line's end. The pointer and the value must be in the index's range; in
-/// the ranges, the line of pointer 189000 and value 10000 is skipped too.
+/// The text consists of lines that end with 0A, which the last one may lack. Blanks are 20 and 09.
+/// A line is skipped if it has only blanks (and perhaps a 0D at its end), or if its first byte
+/// after blanks is `#`. Any other line has the parts, in this order:
 ///
-/// The answer is the table that the lines give: a pointer that stands twice takes its later value. The
-/// first line that is not so is answered as `Line`, and only where there is none, `Memory` can be.
+/// - any number of blanks;
+/// - 1 to 6 decimal digits, the pointer;
+/// - at least one blank, and `0x`;
+/// - 1 to 6 hexadecimal digits of either case, the value;
+/// - the end of the line, or a byte that is no hexadecimal digit and any bytes after it.
+///
+/// The pointer and the value must be in the index's range. In the ranges, the line with pointer
+/// 189000 and value 10000 is skipped too.
+///
+/// Returns the table of the lines. If a pointer occurs twice, the later value counts. Returns
+/// `Line` for the first line that does not have this form, and `Memory` only if there is no such
+/// line.
 #[tactic(auto, using(crate::proofs::IndexGrammars::kind_by_grammar))]
 pub fn read_index(alloc: Global, name: FileIndex, text: &[u8]) -> Result<FileTable, IndexFileError>
     ensures table { IfOk result (λ table. IsTableOf name (entries_of name (lines text.now)) table) }
@@ -99,9 +111,11 @@ pub fn read_index(alloc: Global, name: FileIndex, text: &[u8]) -> Result<FileTab
     table.map_err(|_| IndexFileError::Memory)
 }
 
-/// Reads the text of the file of index ISO-2022-JP katakana, by which the encoder of ISO-2022-JP writes
-/// half-width katakana, as `read_index` does that of other indexes: the value of each pointer up to the
-/// greatest one given, 0 where none is. The Standard's file gives all 63.
+/// Reads the text of the file of index ISO-2022-JP katakana.
+///
+/// The encoder of ISO-2022-JP uses this index for half-width katakana. The text is read as by
+/// `read_index`, with the same errors. Returns the value of each pointer up to the greatest in the
+/// file, 0 for those without one. The Standard's file has all 63.
 pub fn read_katakana(alloc: Global, text: &[u8]) -> Result<Vec<u16>, IndexFileError>
     ensures table { IfOk result (λ values.
         IsIndexOf (file_entries Katakana (lines text.now)) values.items) }

@@ -1,23 +1,23 @@
-//! One line of an index file: skipped, an entry of a pointer and a value, or malformed.
+//! The parser of a line of an index file.
 ghost use Rattle.std.specs.Prelude.{◌≡◌, ◌<◌, ◌≤◌, ◌+◌, ◌∷◌, Some, None, MatchOption, length, ◌==◌, position};
 ghost use Rattle.std.specs.Option.{option_copied};
 ghost use Rattle.legacy_index_files.specs.IndexLine.{lines, is_blank, past_blanks, says_nothing, value_digits, number_at, entry_at, line_kind};
 
-/// What a line of an index file says.
+/// The kind of a line of an index file.
 #[derive(Clone, Copy, Debug, PartialEq, Eq)]
 pub(crate) enum LineKind {
-    /// Nothing: blanks alone, a comment, or the ranges' line of the supplementary planes.
+    /// Only blanks, a comment, or the ranges' line of the supplementary planes.
     Skipped,
     /// A pointer and its value.
     Entry(u32, u32),
-    /// Anything else.
+    /// Any other line.
     Malformed,
 }
 
-/// The most digits of a pointer or a value.
+/// The greatest number of digits of a pointer or a value.
 const MOST_DIGITS: usize = 6;
 
-/// Splits a text that is not empty behind its first line: the line without its 0A, and what follows it.
+/// Splits a non-empty text into its first line, without its 0A, and the bytes after it.
 pub(crate) fn split_line(text: &[u8]) -> (&[u8], &[u8])
     requires { 0 < length text.now }
     ensures first { lines text.now ≡ result.0.now ∷ lines result.1.now }
@@ -29,14 +29,14 @@ pub(crate) fn split_line(text: &[u8]) -> (&[u8], &[u8])
     }
 }
 
-/// The place of the first 0A.
+/// Returns the position of the first 0A.
 fn line_end(text: &[u8]) -> Option<usize>
     ensures { result ≡ position (λ byte. byte == 0x0A) text.now }
 {
     text.iter().position(|byte| *byte == b'\n')
 }
 
-/// What a line, given without its 0A, says by its form.
+/// Returns the kind of a line, which is given without its 0A.
 pub(crate) fn parse_line(line: &[u8]) -> LineKind
     ensures { result ≡ line_kind line.now }
 {
@@ -50,15 +50,16 @@ pub(crate) fn parse_line(line: &[u8]) -> LineKind
     }
 }
 
-/// Whether a line says nothing, from its first byte that is no blank on: it is at its end, has a lone
-/// 0D there, or is a comment.
+/// Checks whether a line is skipped, by its bytes after the blanks.
+///
+/// It is skipped if they are empty, a single 0D, or a comment.
 fn is_skipped(body: &[u8]) -> bool
     ensures { result ≡ says_nothing body.now }
 {
     matches!(body, [] | [b'\r'] | [b'#', ..])
 }
 
-/// The pointer and the value of an entry that begins at the front of `body`.
+/// Returns the pointer and the value of an entry at the beginning of `body`.
 fn parse_entry(body: &[u8]) -> Option<(u32, u32)>
     ensures { result ≡ entry_at body.now }
 {
@@ -68,7 +69,7 @@ fn parse_entry(body: &[u8]) -> Option<(u32, u32)>
     Some((pointer, value))
 }
 
-/// What follows `0x`, where at least one blank and then `0x` stand at the front of `behind`.
+/// Returns the bytes after at least one blank and `0x`, or `None` if the bytes begin otherwise.
 fn skip_to_value(behind: &[u8]) -> Option<&[u8]>
     ensures { option_copied result ≡ value_digits behind.now }
 {
@@ -82,8 +83,9 @@ fn skip_to_value(behind: &[u8]) -> Option<&[u8]>
     }
 }
 
-/// The number that the digits at the front of `bytes` write, and what follows them: `None` where they
-/// are not one to six.
+/// Returns the number of the digits at the beginning of `bytes`, and the bytes after them.
+///
+/// Returns `None` if there are not 1 to 6 digits.
 fn parse_number(bytes: &[u8], radix: u32) -> Option<(u32, &[u8])>
     requires low { 2 ≤ radix }
     requires high { radix ≤ 16 }
@@ -111,7 +113,7 @@ fn parse_number(bytes: &[u8], radix: u32) -> Option<(u32, &[u8])>
     }
 }
 
-/// What follows the blanks at the front of `bytes`.
+/// Returns the bytes after the blanks at the beginning of `bytes`.
 fn skip_blanks(bytes: &[u8]) -> &[u8]
     ensures { result.now ≡ past_blanks bytes.now }
 {

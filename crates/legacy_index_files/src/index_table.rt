@@ -1,4 +1,4 @@
-//! The table that the lines of an index file give.
+//! The table of the lines of an index file.
 ghost use Rattle.std.specs.Prelude.{◌≡◌, ℕ, ◌<◌, ◌≤◌, ◌+◌, Some, None, Ok, Err, IfOk, MatchResult, length, slice_index};
 ghost use Rattle.std.specs.Option.{unwrap_or};
 ghost use Rattle.legacy_index_files.specs.IndexLine.{lines, line_kind};
@@ -8,7 +8,7 @@ use crate::index_file::{EncoderIndex, FileIndex};
 use crate::index_line::{LineKind, parse_line, split_line};
 use std::alloc::{AllocError, Global};
 
-/// The first malformed line's number, or the length of the table that the lines give.
+/// Returns the length of the lines' table, or the number of the first malformed line.
 pub(crate) fn check_lines(name: EncoderIndex, text: &[u8]) -> Result<usize, usize>
     ensures sound { MatchResult result
         (λ _. malformed_line name 1 (lines text.now) ≡ None)
@@ -32,7 +32,7 @@ pub(crate) fn check_lines(name: EncoderIndex, text: &[u8]) -> Result<usize, usiz
     Ok(length)
 }
 
-/// The table of index Big5, whose text has no malformed line.
+/// Returns the table of index Big5, from a text without malformed lines.
 pub(crate) fn read_wide(
     alloc: Global,
     name: EncoderIndex,
@@ -47,7 +47,7 @@ pub(crate) fn read_wide(
     Ok(values)
 }
 
-/// The table of another index by pointer, whose text has no malformed line.
+/// Returns the table of another index by pointer, from a text without malformed lines.
 pub(crate) fn read_narrow(
     alloc: Global,
     name: EncoderIndex,
@@ -63,7 +63,7 @@ pub(crate) fn read_narrow(
     Ok(values)
 }
 
-/// The table of a single-byte encoding, whose text has no malformed line.
+/// Returns the table of a single-byte encoding, from a text without malformed lines.
 pub(crate) fn read_single_byte(text: &[u8]) -> [u16; 128]
     requires { table_length (entries_of FileIndex.SingleByte (lines text.now)) ≤ 128 }
     ensures { IsSingleByteIndexOf (entries_of FileIndex.SingleByte (lines text.now)) result }
@@ -73,7 +73,7 @@ pub(crate) fn read_single_byte(text: &[u8]) -> [u16; 128]
     values
 }
 
-/// The lines of index gb18030 ranges, whose text has no malformed line.
+/// Returns the lines of index gb18030 ranges, from a text without malformed lines.
 pub(crate) fn read_ranges(alloc: Global, text: &[u8]) -> Result<Vec<(u16, u16)>, AllocError>
     ensures { IfOk result (λ v. v.items ≡ entries_of FileIndex.Ranges (lines text.now)) }
 {
@@ -92,7 +92,7 @@ pub(crate) fn read_ranges(alloc: Global, text: &[u8]) -> Result<Vec<(u16, u16)>,
     Ok(ranges)
 }
 
-/// Writes each line's value to its pointer's place, in the lines' order.
+/// Writes the value of each line to the place of its pointer, in order.
 fn fill_wide(values: &mut [u32], name: EncoderIndex, text: &[u8])
     requires { table_length (file_entries name (lines text.now)) ≤ length values.old }
     ensures { (p : ℕ) → p < length values.old → slice_index values.new p
@@ -108,7 +108,7 @@ fn fill_wide(values: &mut [u32], name: EncoderIndex, text: &[u8])
     }
 }
 
-/// Writes each line's value to its pointer's place, in the lines' order.
+/// Writes the value of each line to the place of its pointer, in order.
 fn fill_narrow(values: &mut [u16], name: EncoderIndex, text: &[u8])
     requires narrow { greatest_value name ≡ 0xFFFF }
     requires room { table_length (file_entries name (lines text.now)) ≤ length values.old }
@@ -125,7 +125,7 @@ fn fill_narrow(values: &mut [u16], name: EncoderIndex, text: &[u8])
     }
 }
 
-/// What a line says in a file of the index.
+/// Returns the kind of a line in a file of the index.
 fn read_line(name: EncoderIndex, line: &[u8]) -> LineKind
     ensures says { result ≡ says name line.now }
     ensures in_range { IsInRange name result }
@@ -136,7 +136,7 @@ fn read_line(name: EncoderIndex, line: &[u8]) -> LineKind
     }
 }
 
-/// What the line of an entry says in a file of the index.
+/// Returns the kind of an entry line in a file of the index.
 fn kind_in_range(name: EncoderIndex, pointer: u32, value: u32) -> LineKind
     ensures says { result ≡ kind_within name (LineKind.Entry pointer value) }
     ensures in_range { IsInRange name result }
@@ -150,7 +150,7 @@ fn kind_in_range(name: EncoderIndex, pointer: u32, value: u32) -> LineKind
     }
 }
 
-/// The index's greatest length: its pointers are below it.
+/// Returns the greatest length of the index; its pointers are less.
 fn pointer_limit(name: EncoderIndex) -> u32
     ensures { result ≡ greatest_length name }
 {
@@ -165,7 +165,7 @@ fn pointer_limit(name: EncoderIndex) -> u32
     }
 }
 
-/// The index's greatest value.
+/// Returns the greatest value of the index.
 fn value_limit(name: EncoderIndex) -> u32
     ensures { result ≡ greatest_value name }
 {

@@ -1,6 +1,9 @@
-//! The index files of the WHATWG Encoding Standard ("Indexes"): the table that a file's lines give, or its first line
-//! that is not of the form; an owning set of indexes, of which tables are borrowed; a packer of flat indexes; and the
-//! encodings of the Standard, each with its name, its codec and its index files.
+//! The index files of the WHATWG Encoding Standard ("Indexes") and the encodings that need them.
+//!
+//! - A reader returns the table of a file's lines, or its first malformed line.
+//! - An owning set of indexes lends its tables.
+//! - A packer makes packed indexes of flat ones.
+//! - A list of the Standard's encodings has the name, the codec and the index files of each.
 #![tactic(auto)]
 
 mod encodings;

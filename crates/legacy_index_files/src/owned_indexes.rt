@@ -1,4 +1,4 @@
-//! An owning set of indexes, made of what index files say, of which tables are borrowed.
+//! An owning set of indexes, read from index files, which lends its tables.
 ghost use Rattle.std.specs.Prelude.{◌≡◌, ℕ, ◌↔◌, List, [], Some, Err, IfOk, OnErr, MatchResult};
 ghost use Rattle.legacy_tables.specs.Tables.{flat_indexes};
 ghost use Rattle.legacy_tables.specs.TableChecks.{table_fault, single_byte_fault};
@@ -13,16 +13,16 @@ use crate::index_file::{FileIndex, FileTable, IndexFileError, read_index, read_k
 use legacy_tables::{GB18030_2022_PUA, Indexes, SingleByteTable, TableError, Tables};
 use std::alloc::Global;
 
-/// The values of all indexes, owned. An index that no file was read of is empty, and the single-byte
-/// index all zero.
+/// The values of all indexes, owned.
 ///
-/// With `text` the bytes of a file `index-euc-kr.txt`, the tables of its index are three lines:
+/// An index without a file is empty, and the single-byte index is all zero. If `text` is the bytes
+/// of the file `index-euc-kr.txt`, three lines make tables of its index:
 ///
 ///     let mut owned = OwnedIndexes::new(alloc);
 ///     owned.read(alloc, FileIndex::EucKr, text)?;
 ///     let tables = owned.tables()?;
 ///
-/// They borrow the set. Decoders and encoders borrow them.
+/// The tables borrow the set. Decoders and encoders borrow the tables.
 #[derive(Drop)]
 pub struct OwnedIndexes {
     /// Index Big5.
@@ -35,8 +35,9 @@ pub struct OwnedIndexes {
     pub jis0212: Vec<u16>,
     /// Index gb18030.
     pub gb18030: Vec<u16>,
-    /// Index ISO-2022-JP katakana, of 63 entries or none, by which ISO-2022-JP encodes half-width
-    /// katakana (`read_katakana`).
+    /// Index ISO-2022-JP katakana, with 63 entries or none (`read_katakana`).
+    ///
+    /// ISO-2022-JP encodes half-width katakana with it.
     pub katakana: Vec<u16>,
     /// Index gb18030 ranges.
     pub ranges: Vec<(u16, u16)>,
@@ -45,7 +46,7 @@ pub struct OwnedIndexes {
 }
 
 impl OwnedIndexes {
-    /// All indexes empty, and that of a single-byte encoding all zero. It takes no memory.
+    /// Makes a set with empty indexes and an all-zero single-byte index. It allocates no memory.
     pub fn new(alloc: Global) -> OwnedIndexes
         ensures empty { HoldsTexts no_text result }
         ensures katakana { result.katakana.items ≡ [] }
@@ -62,8 +63,9 @@ impl OwnedIndexes {
         }
     }
 
-    /// Puts the table that `read_index` gave for the index in its place, and leaves the others as they
-    /// are. A table that is of another kind than the index's changes nothing; `read_index` gives none.
+    /// Replaces the table of an index with one from `read_index`. The other indexes do not change.
+    ///
+    /// A table of the wrong kind for the index changes nothing; `read_index` returns no such table.
     pub fn set(&mut self, name: FileIndex, table: FileTable)
         ensures place { self.new ≡ with_table self.old name table }
         ensures texts { (texts : FileIndex → List ℕ) (text : List ℕ) → HoldsTexts texts self.old
@@ -91,7 +93,7 @@ impl OwnedIndexes {
         }
     }
 
-    /// Puts the values of an index whose entries are narrow in its place. Of another index they change nothing.
+    /// Replaces the values of an index with narrow entries. For other indexes nothing changes.
     fn set_narrow(&mut self, name: FileIndex, values: Vec<u16>)
         ensures { self.new ≡ with_table self.old name (FileTable.Narrow values) }
     {
@@ -104,8 +106,9 @@ impl OwnedIndexes {
         }
     }
 
-    /// Reads the text of an index file by `read_index`, and puts its table in its index's place. After
-    /// an error the set is as it was.
+    /// Reads the text of an index file with `read_index`, and replaces the table of that index.
+    ///
+    /// The errors are those of `read_index`. After an error the set is unchanged.
     pub fn read(
         &mut self,
         alloc: Global,
@@ -128,9 +131,10 @@ impl OwnedIndexes {
         }
     }
 
-    /// Reads the text of the file of index ISO-2022-JP katakana by the function `read_katakana`, and puts
-    /// its values in their place. After an error the set is as it was. Where the lines give other than 63
-    /// values or none, `tables` refuses them.
+    /// Reads the text of the katakana index's file, and replaces the values of that index.
+    ///
+    /// The errors are those of the function `read_katakana`. After an error the set is unchanged.
+    /// If the file has neither 63 values nor none, `tables` returns a fault.
     pub fn read_katakana(&mut self, alloc: Global, text: &[u8]) -> Result<(), IndexFileError>
         ensures values { IfOk result (λ _. HoldsKatakana text.now self.old self.new) }
         ensures texts { (texts : FileIndex → List ℕ) → HoldsTexts texts self.old
@@ -148,7 +152,7 @@ impl OwnedIndexes {
         }
     }
 
-    /// All indexes, borrowed and not checked yet, with the Standard's private-use rows of GB18030.
+    /// Returns all indexes, borrowed and not yet checked, with GB18030's private-use rows.
     pub fn indexes(&self) -> Indexes<'_>
         ensures { flat_indexes result ≡ owned_lists self.now }
     {
@@ -164,8 +168,9 @@ impl OwnedIndexes {
         }
     }
 
-    /// The tables of all indexes, which are checked here, or the first fault (`Tables::new`). They
-    /// borrow the set, and take no memory.
+    /// Checks the indexes, and returns their tables or the first fault (`Tables::new`).
+    ///
+    /// The tables borrow the set and allocate no memory.
     pub fn tables(&self) -> Result<Tables<'_>, TableError>
         ensures { MatchResult result
             (λ tables. tables.flat ≡ owned_lists self.now)
@@ -174,8 +179,10 @@ impl OwnedIndexes {
         Tables::new(&self.indexes())
     }
 
-    /// The table of the single-byte encoding, which is checked here, or its first fault
-    /// (`SingleByteTable::new`). It borrows nothing, so it outlives the next file that is read.
+    /// Checks the single-byte index, and returns its table or the first fault.
+    ///
+    /// The checks are those of `SingleByteTable::new`. The table borrows nothing, so it stays valid
+    /// when the next file is read.
     pub fn single_byte_table(&self) -> Result<SingleByteTable, TableError>
         ensures { MatchResult result
             (λ table. table.entries ≡ self.now.single_byte)

@@ -1,4 +1,4 @@
-//! An owning set of indexes with what is packed of it, of which packed tables are borrowed.
+//! An owning set of indexes and their packed parts, which lends packed tables.
 ghost use Rattle.std.specs.Prelude.{◌≡◌, Some, MatchResult};
 ghost use Rattle.legacy_tables.specs.TableChecks.{table_fault};
 ghost use Rattle.legacy_index_files.specs.OwnedIndexes.{owned_lists};
@@ -9,25 +9,25 @@ use crate::packing::{OwnedPacked, pack};
 use legacy_tables::{TableError, Tables};
 use std::alloc::{AllocFailed, Global};
 
-/// The values of all indexes, owned, and what is packed of them.
+/// The values of all indexes and their packed parts, owned.
 ///
-/// With an `OwnedIndexes` of what files say, packed tables are two lines:
+/// With an `OwnedIndexes`, two lines make packed tables:
 ///
 ///     let packed = PackedIndexes::new(alloc, owned)?;
 ///     let tables = packed.tables()?;
 ///
-/// They borrow both. Decoders and encoders borrow them.
+/// The tables borrow the set. Decoders and encoders borrow the tables.
 #[derive(Drop)]
 pub struct PackedIndexes {
     /// The flat indexes.
     pub indexes: OwnedIndexes,
-    /// What is packed of them.
+    /// The packed parts.
     pub parts: OwnedPacked,
     ghost made: { IsPackOf (owned_lists indexes) parts },
 }
 
 impl PackedIndexes {
-    /// The indexes with what `pack` makes of them, or the indexes alone where memory was refused.
+    /// Packs the indexes, or returns them unchanged if memory is refused.
     pub fn new(
         alloc: Global,
         indexes: OwnedIndexes,
@@ -42,9 +42,10 @@ impl PackedIndexes {
         }
     }
 
-    /// The packed tables of all indexes, which are checked here, or the first fault of the indexes
-    /// (`Tables::packed_of`); the packed parts have none of their own. The tables borrow the indexes
-    /// and the parts, and take no memory.
+    /// Checks the indexes, and returns their packed tables or the first fault.
+    ///
+    /// The fault is one of the indexes (`Tables::packed_of`); the packed parts have none of their
+    /// own. The tables borrow the indexes and the parts, and allocate no memory.
     pub fn tables(&self) -> Result<Tables<'_>, TableError>
         ensures { MatchResult result
             (λ tables. AreTablesOf (owned_lists self.now.indexes) self.now.parts tables.flat)

@@ -1,4 +1,4 @@
-//! Packs flat indexes: makes their runs, and the orders of the pointers that encoders take.
+//! Packs flat indexes: makes their runs, and the orders of the pointers that encoders use.
 ghost use Rattle.std.specs.Prelude.{IfOk};
 ghost use Rattle.legacy_tables.specs.Tables.{flat_indexes};
 ghost use Rattle.legacy_index_files.specs.Packing.{HasParts, IsPackOf};
@@ -12,8 +12,9 @@ use orders::all_orders;
 use runs::all_runs;
 use std::alloc::{AllocError, Global};
 
-/// Packed indexes with their memory, by the parts of `legacy_tables::Packed`. They are not checked:
-/// `Tables::packed_of` does that, which takes what `packed` lends.
+/// Packed indexes with their memory, one field for each part of `legacy_tables::Packed`.
+///
+/// They are not checked: `Tables::packed_of` takes the result of `packed` and checks it.
 #[derive(Debug, Drop)]
 pub struct OwnedPacked {
     /// The runs of index Big5.
@@ -39,7 +40,7 @@ pub struct OwnedPacked {
 }
 
 impl OwnedPacked {
-    /// The ten parts, borrowed. It takes no memory.
+    /// Returns the ten parts, borrowed. It allocates no memory.
     pub fn packed(&self) -> Packed<'_>
         ensures { HasParts self.now result }
     {
@@ -58,18 +59,19 @@ impl OwnedPacked {
     }
 }
 
-/// Packs flat indexes: for each of five its runs, and for five codecs the pointers that their
-/// encoders take, in the order of their scalar values (Encoding Standard, "Indexes"). A run is as long
-/// as it can be: it ends before the first pointer that is not mapped, or whose scalar value is not one
-/// more than that before.
+/// Packs flat indexes (Encoding Standard, "Indexes").
 ///
-/// `Tables::packed_of` accepts what is made of indexes that `Tables::new` accepts. Of others it answers
-/// the fault that `Tables::new` answers, since it checks the flat indexes first. The only other answer
-/// is that memory was refused.
+/// Returns the runs of five indexes, and for five codecs the pointers that their encoders use, in
+/// the order of their scalar values. Each run is as long as possible. It ends before the first
+/// pointer that is unmapped, or whose scalar value is not one more than the previous one. The only
+/// error is that memory is refused.
 ///
-/// The work is near linear: a pass over each index for its runs, and for each order one over the index
-/// and one over all scalar values up to U+FFFF, in Big5 up to U+2FFFF. While an order is made, a table
-/// of these takes 4 bytes each.
+/// If `Tables::new` accepts the indexes, `Tables::packed_of` accepts them with the result.
+/// Otherwise both return the same fault, because `packed_of` checks the flat indexes first.
+///
+/// The time is near linear. Runs need one pass over each index. An order needs one pass over its
+/// index and one over all scalar values up to U+FFFF (U+2FFFF for Big5). While an order is made, a
+/// table has 4 bytes for each of these scalar values.
 pub fn pack(alloc: Global, indexes: &Indexes<'_>) -> Result<OwnedPacked, AllocError>
     ensures { IfOk result (IsPackOf (flat_indexes indexes.now)) }
 {

@@ -1,4 +1,4 @@
--- The scalars that go by their pointers, and those that are asked for.
+-- The scalars whose codes are those of their pointers, and the others, which are looked up one by one.
 use Rattle.std.proofs.Common.{◌≡◌, ◌≢◌, ℕ, ◌<◌, ◌≤◌, Bool, true, false, not, ◌&&◌, ◌||◌, ◌==◌, nat_lt, nat_le, refl, arith, inl, inr}
 use Rattle.std.proofs.lemmas.Bool.{cases_lt, cases_eq, ne_eqb}
 use borrow.Author.Tests.{leb-true, le-leb, lt-leb, lt-ltb}
@@ -6,7 +6,7 @@ use Rattle.legacy_tables.specs.Unicode.{is_katakana_scalar}
 use Rattle.legacy_encoder_engine.specs.CachedPairs.{or_between}
 use Rattle.legacy_japanese.specs.ByPointer.{goes_by_pointer}
 
--- ---- the scalars that go by pointers, and the others
+-- ---- the scalars whose codes are those of their pointers, and the others
 
 pub record IsByPointer (c : ℕ) : Type 0 where
   pub past : 0x81 ≤ c
@@ -32,7 +32,7 @@ by-pointer c e =
     let n = neither (c == 0xA5) (c == 0x203E) (c == 0x2212) (is_katakana_scalar c) b.1 in
     record { past = leb-true 0x81 c b.0; no_yen = n.0; no_overline = n.1.0; no_minus = n.1.1.0; no_katakana = n.1.1.1 }
 
--- ---- what is asked for
+-- ---- the scalars that are looked up one by one
 
 abbrev ascii_asked : ℕ → Bool
 ascii_asked = or_between goes_by_pointer 0 0x81
@@ -79,7 +79,7 @@ module _ (c : ℕ) where
   pointed : 0x81 ≤ c → c ≢ 0xA5 → c ≢ 0x203E → c ≢ 0x2212 → is_katakana_scalar c ≡ false → goes_by_pointer c ≡ true
   pointed h a b d k = rw (le-leb 0x81 c h, ne_eqb c 0xA5 a, ne_eqb c 0x203E b, ne_eqb c 0x2212 d, k) refl
 
-  -- all scalars go by pointers or are asked for
+  -- each scalar has the code of its pointer or is looked up
   pub all-asked : asked c ≡ true
   all-asked = elim (cases_lt c 0x81) [
     | inl l ↦ from_ascii (there goes_by_pointer 0 0x81 c (omega arith) l)

@@ -1,5 +1,5 @@
--- What the EUC-JP decoder holds back is what its machine may hold back, and its moves are the machine's.
-use Rattle.std.proofs.Common.{◌≡◌, ◌≢◌, ℕ, ◌^◌, ◌<◌, ◌≤◌, List, [], ◌∷◌, length, true, false, ◌==◌, refl, arith}
+-- The EUC-JP decoder holds back only what its machine may hold back, and its moves are the machine's.
+use Rattle.std.proofs.Common.{◌≡◌, ◌≢◌, ◌∙◌, ℕ, ◌+◌, ◌-◌, ◌*◌, ◌/◌, ◌%◌, ◌^◌, ◌<◌, ◌≤◌, ◌&&◌, List, [], ◌∷◌, length, get_or, option_to_list, Bool, true, false, cond, ◌==◌, refl, ap, arith}
 use Rattle.std.proofs.lemmas.Bool.{cond_both}
 use Rattle.std.proofs.lemmas.Bool.Decides.{nat_tests}
 use Rattle.std.proofs.lemmas.List.{nil_from_length}
@@ -7,17 +7,18 @@ use Rattle.std.proofs.lemmas.List.Elements.{All-nil, All-cons}
 use Rattle.std.specs.{Int.is_in_range, Char.IsScalar, Char.is_ascii}
 use Rattle.legacy_base.specs.EucJp.{euc_jp_scalars}
 use Rattle.legacy_tables.specs.AcceptedTables.{AcceptedIndexes}
+use Rattle.legacy_tables.specs.Indexes.{idx}
 use Rattle.legacy_tables.specs.Unicode.{IsByte, AreBytes}
 use Rattle.legacy_base.specs.Fronts.{malformed}
 use Rattle.legacy_base.specs.Calls.{IsLoneFault}
 use Rattle.legacy_decoder_engine.specs.Steps.{finish}
 use Rattle.legacy_base.specs.Grammar.{Grammar, euc_jp, events_of}
 use Rattle.legacy_base.specs.States.{is_euc_jp_lead, euc_jp_may_hold, state_of}
-use Rattle.legacy_tables.proofs.Accepted.{jis0208-below, jis0212-below}
+use Rattle.legacy_tables.proofs.Accepted.{jis0208-below, jis0212-below, jis0208-scalars, length-jis0208}
 use Rattle.legacy_decoder_engine.specs.Moves.{IsCovered, Feeds, Reports}
-use Rattle.legacy_decoder_engine.specs.{declared.moves.Fed.Fed, Costs.IsNarrowIndex, Feeding.Took, Shown.IsShown, Ahead.Runs, Ahead.HasAscii}
+use Rattle.legacy_decoder_engine.specs.{declared.moves.Fed.Fed, Costs.IsNarrowIndex, Feeding.Took, Shown.IsShown, Ahead.Runs, Ahead.HasAscii, Ahead.IsPair, LaneRows.row_place}
 use Rattle.legacy_decoder_engine.proofs.Feeding as moves
-use Rattle.legacy_decoder_engine.proofs.{RunForms.pair_runs, RunForms.has_ascii, RunForms.ascii_is, Widths.idx_below}
+use Rattle.legacy_decoder_engine.proofs.{RunForms.pair_runs, RunForms.has_ascii, RunForms.ascii_is, Widths.idx_below, LanePlaces.entry_is}
 use Rattle.legacy_japanese.specs.declared.euc_jp.{decoder.Held.Held, lead.EucJpLead.EucJpLead}
 use Rattle.legacy_japanese.specs.declared.euc_jp.decoder.Held.TheVariants.{Nothing, Katakana, Jis0212, Lead, Jis0212Lead}
 use Rattle.legacy_japanese.specs.{EucJpHeld.held_bytes, EucJpMachine.euc_jp_first, EucJpMachine.euc_jp_step, EucJpMachine.euc_jp_machine}
@@ -77,7 +78,7 @@ module _ (tables : AcceptedIndexes) where
   pub reports : (held : Held) → held_bytes held ≢ [] → Reports (state_of g (held_bytes held)) (state_of g []) (length (held_bytes held)) 0
   reports held some = moves.reports_all shown (held_bytes held) (may held) (are_bytes held) refl some
 
-  -- there is something to report exactly where something is held back
+  -- there is something to report exactly if bytes are held back
   pub ends_none : (held : Held) → length (held_bytes held) ≡ 0 → events_of (euc_jp tables.flat.jis0208 tables.flat.jis0212) (held_bytes held) ≡ []
   ends_none held none = moves.ends_none shown (held_bytes held) (may held) (are_bytes held) refl (nil_from_length (held_bytes held) none)
 
@@ -98,3 +99,25 @@ module _ (tables : AcceptedIndexes) where
         pair_runs shown lead trail c byte byte' scalar (rw (other.1, other.2, is) refl) refl refl refl
             (rw (other.0, other.1, other.2, is) refl) (rw (other.1, other.2, e) refl),
       )
+
+  -- the same of a code of two bytes, by the entry at its place
+  pub lane_pair : (code : ℕ) → code < 0x1_0000 → row_place 0xA1 0x5D 0xA1 0x5D 94 code < length tables.flat.jis0208 → get_or tables.flat.jis0208 (row_place 0xA1 0x5D 0xA1 0x5D 94 code) 0 ≢ 0
+      → IsScalar (get_or tables.flat.jis0208 (row_place 0xA1 0x5D 0xA1 0x5D 94 code) 0) × IsPair g (code % 0x100) (code / 0x100) (get_or tables.flat.jis0208 (row_place 0xA1 0x5D 0xA1 0x5D 94 code) 0)
+  lane_pair code small within some = go (is_in_range 0xA1 0xFE (code % 256)) (is_in_range 0xA1 0xFE (code / 256)) refl refl within some
+    where
+      index : List ℕ
+      index = tables.flat.jis0208
+
+      p : ℕ
+      p = (code % 256 - 0xA1) * 94 + (code / 256 - 0xA1)
+
+      short : length tables.flat.jis0208 ≤ 11280
+      short = length-jis0208 tables.flat tables.accepted
+
+      go : (s t : Bool) → is_in_range 0xA1 0xFE (code % 256) ≡ s → is_in_range 0xA1 0xFE (code / 256) ≡ t → cond (s && t) p 65535 < length index → get_or index (cond (s && t) p 65535) 0 ≢ 0
+          → IsScalar (get_or index (cond (s && t) p 65535) 0) × IsPair g (code % 256) (code / 256) (get_or index (cond (s && t) p 65535) 0)
+      go true true e f within some =
+          let scalar : IsScalar (get_or index p 0) = jis0208-scalars tables.flat tables.accepted p 0 within in
+          (scalar, pair (code % 256) (code / 256) (get_or index p 0) (omega arith) (omega arith) scalar e (ap (λ t. cond t (option_to_list (idx index p)) []) f ∙ entry_is (get_or index p 0) some))
+      go true false e f within some = absurd (omega (arith, within, short))
+      go false t e f within some = absurd (omega (arith, within, short))

@@ -1,4 +1,4 @@
--- What is shown of EUC-JP.
+-- The steps of EUC-JP agree with its grammar.
 use Rattle.std.proofs.Common.{◌≡◌, ℕ, ◌+◌, ◌-◌, ◌*◌, ◌≤◌, List, [], ◌∷◌, length, Bool, true, false, cond, refl, inl, ◌∙◌, ◌||◌, ◌==◌, arith}
 use Rattle.std.proofs.lemmas.Bool.{false≢true, eqb-true, and_parts, or_parts, ltb-true, cond_both}
 use Rattle.std.proofs.lemmas.Bool.Decides.{nat_tests}
@@ -22,9 +22,9 @@ use Rattle.legacy_decoder_engine.proofs.TwoByteCosts.{units_test, katakana_below
 use Rattle.legacy_decoder_engine.proofs.SettledSteps.{one_test, one_option, trail_settles}
 use Rattle.legacy_japanese.specs.EucJpMachine.{euc_jp_first, euc_jp_second_step, euc_jp_step, euc_jp_machine}
 
--- ---- the scalars of a form
+-- ---- the scalars of a sequence
 
--- one at most, and up to U+FFFF
+-- at most one scalar, which is at most U+FFFF
 record IsSmall (scalars : List ℕ) : Type 0 where
   one : IsOneOrMarked false scalars
   fits : (len : ℕ → ℕ) (narrow wide : ℕ) → IsWidth len narrow wide → units len scalars ≤ narrow
@@ -53,19 +53,19 @@ two_cost len narrow first lead b [] m h = cond_both (is_ascii b) (leave 2) (fini
     (λ a. record { fits = omega arith; pays = omega arith; pays_without = omega arith })
     (λ a. record { fits = omega arith; pays = omega arith; pays_without = omega arith })
 
--- the room of a byte
+-- the room that a byte needs
 abbrev most : List ℕ → ℕ → ℕ → ℕ
 most [] b narrow = cond (is_ascii b) 1 narrow
 most (a ∷ held) b narrow = narrow
 
 module _ (jis0208 jis0212 : List ℕ) where
-  -- what is shown of a step
+  -- what is proved of each step
   record Shows (held : List ℕ) (b : ℕ) (s : Step) : Type 0 where
     fits : Fits (euc_jp_front jis0208 jis0212) euc_jp_may_hold held b s
     settles : Settles (euc_jp jis0208 jis0212) held b s
     costs : (len : ℕ → ℕ) (narrow wide : ℕ) → IsWidth len narrow wide → Cost len narrow (most held b narrow) euc_jp_weight 3 held b s
 
-  -- ---- the front behind each first byte that may be held back
+  -- ---- the first front after each byte that may be held back
 
   front_katakana : (b : ℕ) (rest : List ℕ) → (b == 0x8E) ≡ true → euc_jp_front jis0208 jis0212 b rest ≡ euc_jp_katakana rest
   unfolding euc_jp_front
@@ -101,7 +101,7 @@ module _ (jis0208 jis0212 : List ℕ) where
         costs = λ len narrow wide w. record { fits = rw a (omega arith); pays = omega arith; pays_without = omega arith };
       }))
 
-  -- a trail behind one byte
+  -- a trail after one held-back byte
   one_shows : (lead b : ℕ) (scalars : List ℕ) → IsSmall scalars
       → ((more : List ℕ) → euc_jp_front jis0208 jis0212 lead (b ∷ more) ≡ reads_or 2 scalars (trail_rule 1 b)) → Shows (lead ∷ []) b (trail_step 1 scalars b)
   one_shows lead b scalars small front = record {
@@ -110,7 +110,7 @@ module _ (jis0208 jis0212 : List ℕ) where
     costs = λ len narrow wide w. one_cost len narrow lead b scalars w.most (small.fits len narrow wide w);
   }
 
-  -- a byte behind one that is held back
+  -- a byte after one held-back byte
   second_shows : IsNarrowIndex jis0208 → (lead b : ℕ) → euc_jp_may_hold (lead ∷ []) ≡ true → Shows (lead ∷ []) b (euc_jp_second_step jis0208 lead b)
   unfolding euc_jp_katakana euc_jp_second euc_jp_pair
   second_shows narrow_index lead b h = cond_both (lead == 0x8E) _ _ (Shows (lead ∷ []) b)
@@ -132,7 +132,7 @@ module _ (jis0208 jis0212 : List ℕ) where
       (λ l. one_shows lead b [] none_small (λ more. front_second lead (b ∷ more) f ∙ rw l)))
       (λ f. one_shows lead b (euc_jp_scalars jis0208 lead b) (pair_small jis0208 lead b narrow_index) (λ more. front_pair lead (b ∷ more) e f (rw (e, f) at h))))
 
-  -- a byte behind two
+  -- a byte after two held-back bytes
   third_shows : IsNarrowIndex jis0212 → (first lead b : ℕ) → euc_jp_may_hold (first ∷ lead ∷ []) ≡ true → Shows (first ∷ lead ∷ []) b (trail_step 2 (euc_jp_scalars jis0212 lead b) b)
   unfolding euc_jp_second euc_jp_third
   third_shows narrow_index first lead b h =
@@ -160,7 +160,7 @@ module _ (jis0208 jis0212 : List ℕ) where
   few_held (first ∷ lead ∷ c ∷ held) h = absurd (false≢true h)
   few_held held h = omega arith
 
-  -- what is held back has a front at the end of input
+  -- held-back bytes have a front at the end of the input
   one_ends : (b : ℕ) → euc_jp_may_hold (b ∷ []) ≡ true → (e f : Bool) → (b == 0x8E) ≡ e → (b == 0x8F) ≡ f → euc_jp_front jis0208 jis0212 b [] ≡ malformed 1
   unfolding euc_jp_katakana euc_jp_second euc_jp_pair
   one_ends b h true f is_e is_f = front_katakana b [] is_e
@@ -177,7 +177,7 @@ module _ (jis0208 jis0212 : List ℕ) where
   all_end (first ∷ lead ∷ []) h = end_meets (euc_jp jis0208 jis0212) (euc_jp_front jis0208 jis0212) ev_is first (lead ∷ []) (two_end first lead h)
   all_end (first ∷ lead ∷ c ∷ held) h = absurd (false≢true h)
 
-  -- ---- all of it
+  -- ---- all steps together
 
   room_is : (len : ℕ → ℕ) (narrow wide : ℕ) (held : List ℕ) (b : ℕ) → act_room narrow wide (state_of (euc_jp jis0208 jis0212) held) (takes b) ≡ most held b narrow
   room_is len narrow wide [] b = first_room (is_ascii b) 1 narrow

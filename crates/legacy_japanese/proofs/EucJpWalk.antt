@@ -1,4 +1,5 @@
--- The codes of EUC-JP that go by pointers are those of the pointers that a walk takes; the others are asked for.
+-- A walk over the pointers of index jis0208 lists the EUC-JP codes of the scalars that have the code of their pointer.
+-- The other scalars are looked up one by one.
 use Rattle.std.proofs.Common.{◌≡◌, ◌∙◌, ℕ, ◌+◌, ◌*◌, ◌/◌, ◌%◌, ◌<◌, ◌≤◌, [], ◌∷◌, Some, None, true, refl, ap, sym, subst, arith, option_map}
 use Rattle.std.proofs.lemmas.Bool.{le-ltb}
 use Rattle.std.specs.Option.{IfSome}

@@ -69,7 +69,7 @@ same_false modes.TwoByte modes.Roman e f = cc
 same_false modes.TwoByte modes.TwoByte e f = cc
 
 module _ (jis0208 katakana_index : List ℕ) where
-  -- ---- what the loop asks of the codec
+  -- ---- what the encoder's loop needs to know of the codec
 
   end_three : (mode : EncoderMode) → not (is_empty (escape_between mode in_ascii)) ≡ true → length (escape_between mode in_ascii) ≡ 3
   end_three in_ascii e = cc
@@ -89,7 +89,7 @@ module _ (jis0208 katakana_index : List ℕ) where
     rises = formula_rises jis0208 katakana_index;
   }
 
-  -- ---- its moves
+  -- ---- the moves
 
   module _ (mode : Mode) (c : ℕ) where
     abbrev state : EncoderState
@@ -102,7 +102,7 @@ module _ (jis0208 katakana_index : List ℕ) where
       goes : state ≡ record { codec = iso_2022_jp jis0208 katakana_index; mode = mode_for jis0208 katakana_index (mode_of mode) c }
       goes = ap (λ m. record { codec = iso_2022_jp jis0208 katakana_index; mode = m }) (sym stays)
 
-      -- the scalar is read in the mode at hand
+      -- the current mode encodes the scalar
       pub reads : (move : EncoderMove) → IsCode (iso_2022_jp_code jis0208 katakana_index c) (iso_2022_jp_reported c) move → Moves state c state move
       reads (One a) e = record {
         events = λ more ended. text_events-here jis0208 katakana_index (mode_of mode) c stays more ended ∙ ap (λ o. code_events (iso_2022_jp_reported c) o ++ encoded state more ended) e;
@@ -131,7 +131,7 @@ module _ (jis0208 katakana_index : List ℕ) where
         goes = goes;
       }
 
-    -- the scalar wants another mode
+    -- the scalar needs another mode
     pub escapes : (new : Mode) → mode_for jis0208 katakana_index (mode_of mode) c ≡ mode_of new → (mode_of mode ≡ mode_of new → ⊥)
         → Moves state c (state_in jis0208 katakana_index new) (escape_move new)
     escapes modes.Ascii e n = record {
@@ -158,7 +158,7 @@ module _ (jis0208 katakana_index : List ℕ) where
 
   -- ---- the end
 
-  -- the bytes of a scalar are some, and the escape byte is not their first
+  -- the bytes of a scalar are not empty, and the first is not the escape byte
   abbrev StartsPlain : Option (List ℕ) → Type 0
   StartsPlain None = Unit {0}
   StartsPlain (Some []) = ⊥
@@ -196,7 +196,7 @@ module _ (jis0208 katakana_index : List ℕ) where
   abbrev to_ascii : List EncodeEvent
   to_ascii = map events.Byte (0x1B ∷ 0x28 ∷ 0x42 ∷ [])
 
-  -- the second and the third of events, where they are bytes
+  -- the second and the third of some events, if they are bytes
   second_byte : List EncodeEvent → ℕ
   second_byte (x ∷ events.Byte b ∷ rest) = b
   second_byte _ = 0
@@ -205,14 +205,14 @@ module _ (jis0208 katakana_index : List ℕ) where
   third_byte (x ∷ y ∷ events.Byte b ∷ rest) = b
   third_byte _ = 0
 
-  -- no other escape is that to ASCII mode
+  -- no other escape is the one to ASCII mode
   no_other : (new : EncoderMode) (more rest : List EncodeEvent) → (new ≡ in_ascii → ⊥) → map events.Byte (escape_to new) ++ more ≡ to_ascii ++ rest → ⊥
   unfolding second_byte third_byte
   no_other in_ascii more rest n e = n refl
   no_other in_roman more rest n e = false≢true (ap (λ l. eqb (third_byte l) 0x42) e)
   no_other in_two_byte more rest n e = false≢true (ap (λ l. eqb (second_byte l) 0x28) e)
 
-  -- the escape at the end, or before a text that begins with it: the rest is that from ASCII mode
+  -- an escape to ASCII comes at the end, or before a text that begins with it; the rest is encoded from ASCII mode
   escape_first : (mode : EncoderMode) → (mode ≡ in_ascii → ⊥) → escape_between mode in_ascii ≡ 0x1B ∷ 0x28 ∷ 0x42 ∷ [] → (more : List ℕ) (ended : Bool)
       → ((more ≡ []) × IsTrue ended) ⊎ BeginsWith (text_events jis0208 katakana_index mode more ended) to_ascii
       → text_events jis0208 katakana_index mode more ended ≡ to_ascii ++ text_events jis0208 katakana_index in_ascii more ended
@@ -246,7 +246,7 @@ module _ (jis0208 katakana_index : List ℕ) where
   finishes modes.Roman p = record { events = escape_first in_roman (λ e. cc) refl; done = refl }
   finishes modes.TwoByte p = record { events = escape_first in_two_byte (λ e. cc) refl; done = refl }
 
-  -- ---- what a scalar asks for, by the tests of its rules
+  -- ---- the mode and move of a scalar, by the tests of its rules
 
   module _ (mode : Mode) (c : ℕ) where
     pub asks_control : (new : Mode) → is_mode_control c ≡ true → mode_of new ≡ roman_or_ascii (mode_of mode) → Asks jis0208 katakana_index mode c new (Unmappable 0xFFFD)
@@ -272,7 +272,7 @@ module _ (jis0208 katakana_index : List ℕ) where
       pub asks_none : (new : Mode) → iso_2022_jp_pointer_of jis0208 katakana_index c ≡ None → mode_of new ≡ roman_or_ascii (mode_of mode) → Asks jis0208 katakana_index mode c new (Unmappable c)
       asks_none new e s = let w = at_none jis0208 katakana_index (mode_of mode) c f a y o e in record { mode_is = w.mode_is ∙ sym s; code_is = (w.code_is, rw f refl) }
 
-  -- ---- what reads a scalar in a mode
+  -- ---- the scalars that are encoded in the current mode
 
   module _ (c : ℕ) where
     special_or_not : (t : Bool) → is_mode_control c ≡ false → is_ascii c ≡ true → (eqb c 0x5C || eqb c 0x7E) ≡ t → ReadsThere jis0208 katakana_index in_ascii c (One c)
@@ -319,6 +319,6 @@ module _ (jis0208 katakana_index : List ℕ) where
       (λ k h. let below : k < n = omega (arith, h, long) in subst (λ c. IsOwnByte c (get_or w.bytes k 0)) (sym (get_or-take n left k 0 below)) (w.each k below))
       (sym (take-append-drop n left)) (omega (arith, long)))
 
--- no scalar past ASCII is a control
+-- no scalar from U+0080 on is a control
 pub control_past : (c : ℕ) → 128 ≤ c → is_mode_control c ≡ false
 control_past c h = rw (ne_eqb c 0x0E (λ e. omega arith), ne_eqb c 0x0F (λ e. omega arith), ne_eqb c 0x1B (λ e. omega arith)) refl

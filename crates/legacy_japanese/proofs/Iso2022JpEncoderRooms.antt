@@ -1,4 +1,4 @@
--- The lengths of the ISO-2022-JP encoder serve for its scalars, and for the escapes before them.
+-- The length formulas of the ISO-2022-JP encoder are enough for its scalars and for the escapes before them.
 use Rattle.std.proofs.Common.{◌≡◌, ◌∙◌, ℕ, ◌+◌, ◌-◌, ◌≤◌, List, [], ◌∷◌, length, refl, sym, arith, Bool, true, false, Some, None, Option, cond, eqb, inl, inr}
 use Rattle.std.proofs.lemmas.Bool.{cases_lt, lt-ltb, ne_eqb}
 use Rattle.legacy_text.specs.EncodingForm.{EncodingForm, Utf8, Utf16, unit_count}
@@ -10,7 +10,7 @@ use Rattle.legacy_text.proofs.CodeUnits.{encode_2, encode_3, encode_4}
 use Rattle.legacy_base.proofs.SameUnits.{some_unit}
 use Rattle.legacy_base.proofs.Iso2022JpEncoding.{mode_by, mode_for-by, code-short}
 
--- a scalar past ASCII has two bytes or more in UTF-8
+-- a scalar from U+0080 on has at least two bytes in UTF-8
 two_bytes : (c : ℕ) → 128 ≤ c → 2 ≤ unit_count Utf8 c
 two_bytes c a = elim (cases_lt c 2048) [
   | inl b ↦ rw (encode_2 c a b) (omega arith)
@@ -31,11 +31,11 @@ module _ (jis0208 katakana_index : List ℕ) where
   abbrev encoder : EncoderProfile
   encoder = iso_2022_jp_encoder jis0208 katakana_index
 
-  -- the room that n more code units of a form can still take in a mode
+  -- the room that n more code units still need in a mode
   abbrev room : EncodingForm → EncoderMode → ℕ → ℕ
   room form mode n = value (encoder.formula form (number n)) - encoder.surplus form mode n
 
-  -- ---- over numbers: a scalar of u code units with t behind it, and so many bytes of its own
+  -- ---- on numbers: a scalar of u code units, t more after it, and `own` bytes for the scalar
 
   own_low : (mode : EncoderMode) (form : EncodingForm) (t u own : ℕ) → own ≤ 2 → 1 ≤ u → room form mode t + own ≤ room form mode (u + t)
   own_low in_ascii Utf8 t u own p q = omega arith
@@ -65,7 +65,7 @@ module _ (jis0208 katakana_index : List ℕ) where
   formula_rises Utf8 m n h = omega arith
   formula_rises Utf16 m n h = omega arith
 
-  -- an escape to the mode that the scalar asks for, by what it says of the mode, and then its bytes
+  -- an escape to the mode that the scalar needs, and then the scalar's bytes
   low_by : (pair keeps romans : Bool) (mode : EncoderMode) (form : EncodingForm) (t u own : ℕ) → (mode ≡ mode_by pair keeps romans mode → ⊥) → own ≤ 2 → (pair ≡ false → own ≤ 1) → 1 ≤ u →
       (form ≡ Utf8 → pair ≡ true → 2 ≤ u) → (form ≡ Utf8 → romans ≡ true → 2 ≤ u) →
       room form (mode_by pair keeps romans mode) t + (3 + own) ≤ room form mode (u + t)
@@ -101,9 +101,9 @@ module _ (jis0208 katakana_index : List ℕ) where
   enough_by false false true in_ascii Utf8 t u e p q r = let z = r refl refl in omega arith
   enough_by false false false in_ascii Utf8 t u e p q r = absurd (e refl)
 
-  -- ---- of scalars
+  -- ---- on scalars
 
-  -- a pair is no code of ASCII, and no scalar of Roman mode is ASCII
+  -- a two-byte scalar is not ASCII, and no scalar of Roman mode is ASCII
   pair_past : (c : ℕ) → is_two_byte_scalar jis0208 katakana_index c ≡ true → 128 ≤ c
   unfolding iso_2022_jp_code
   pair_past c e = elim (cases_lt c 128) [

@@ -1,4 +1,4 @@
--- What writing a scalar that is held back, and the end of the input, are to the loop of all decoders.
+-- Writing a held-back scalar and ending the input, as the decoders' loop sees them.
 use Rattle.std.proofs.Common.{◌≡◌, ◌≢◌, ◌∙◌, ℕ, ◌-◌, ◌+◌, ◌*◌, ◌++◌, ◌⊎◌, cond, option_to_list, Bool, true, false, Option, Some, None, List, [], ◌∷◌, inl, inr, length, refl, sym, ap, arith, append-nil}
 use Rattle.std.specs.Prelude.{◌==◌, is_some}
 use Rattle.std.proofs.lemmas.Bool.{eqb-true, or_cases}
@@ -30,16 +30,16 @@ use Rattle.legacy_japanese.proofs.Iso2022JpRooms.{same_rooms, room-falls, replac
 
 -- ---- a byte that is held back alone
 
--- what holds of `24` and of `28` holds of the byte that is one of them
+-- what holds for `24` and for `28` holds for the byte that is one of them
 by_second : (P : ℕ → Type 0) (b : ℕ) → is_escape_second b ≡ true → P 0x24 → P 0x28 → P b
 by_second P b h p q = elim (or_cases (b == 0x24) (b == 0x28) h) [ inl e ↦ rw (eqb-true b 0x24 e) p | inr e ↦ rw (eqb-true b 0x28 e) q ]
 
--- outside two-byte mode it is `24` or `28`, and has a scalar
+-- outside two-byte mode the byte is `24` or `28`, and has a scalar
 second_scalar : (mode : Mode) (b : ℕ) → is_held mode (Byte b) ≡ true → is_resting mode (Byte b) ≡ false → is_some (single mode b) ≡ true
 second_scalar TwoByte b held two = cc
 second_scalar mode b held two = by_second (λ b. is_some (single mode b) ≡ true) b held refl refl
 
--- it is no escape byte
+-- the byte is not the escape byte
 byte_plain : (mode : Mode) (b : ℕ) → is_held mode (Byte b) ≡ true → (b == esc) ≡ false
 byte_plain TwoByte b h = in_range_plain b h
 byte_plain mode b h = by_second (λ b. (b == esc) ≡ false) b h refl refl
@@ -49,12 +49,12 @@ module _ (jis0208 : List ℕ) where
   write_front TwoByte b c rest e = cc
   write_front mode b c rest e = front-single jis0208 mode b rest refl ∙ ap front_of e
 
-  -- a byte with a scalar by itself gives it, whatever comes
+  -- a byte that is a scalar by itself gives it, whatever bytes follow
   write_law : (mode : Mode) (b c : ℕ) (more : List ℕ) → is_held mode (Byte b) ≡ true → single mode b ≡ Some c
       → events_in jis0208 mode (b ∷ more) ≡ Scalar c ∷ shift 1 (events_in jis0208 mode more)
   write_law mode b c more held is = step_one jis0208 (mode_meaning mode) b more (reads 1 (c ∷ [])) (byte_plain mode b held) (write_front mode b c (first_part more) is) refl
 
-  -- so it has an event
+  -- so the byte has an event
   write_some : (mode : Mode) (b : ℕ) → is_held mode (Byte b) ≡ true → is_resting mode (Byte b) ≡ false → events_in jis0208 mode (b ∷ []) ≢ []
   write_some mode b held two = by_option (single mode b) refl (second_scalar mode b held two)
     where
@@ -62,7 +62,7 @@ module _ (jis0208 : List ℕ) where
       by_option None e s n = cc
       by_option (Some c) e s n = let l = write_law mode b c [] held e in cc
 
-  -- what writing it does
+  -- the law of writing the byte's scalar
   pub released : (mode : Mode) (held : Held) (c : ℕ) → is_held mode held ≡ true → Some c ≡ pending mode held → IsNarrowScalar c
       → Releases (state_in jis0208 mode held) (state_in jis0208 mode (Begun Nothing)) c
   unfolding events_of
@@ -86,7 +86,7 @@ module _ (jis0208 : List ℕ) where
   no_escape_yet Nothing = refl
   no_escape_yet _ = refl
 
-  -- a valid escape is no lone escape byte
+  -- a valid escape is not a lone escape byte
   no_lone : (t : Bool) (items rest : List DecodeEvent) → cond t (Bad 0 3 ∷ []) [] ++ shift 3 items ≡ Bad 0 1 ∷ rest → ⊥
   no_lone true items rest e = cc
   no_lone false items rest e = no_sooner 3 0 1 items rest (omega arith) e
@@ -103,7 +103,7 @@ module _ (jis0208 : List ℕ) where
       by_mode (Some next) e =
           absurd (no_lone (is_some (part_mode more)) (iso_2022_jp_events jis0208 next more) g.0 (sym (step_escape jis0208 (mode_meaning mode) next a b more e) ∙ g.1))
 
-  -- an escape byte, and what came with it, at the end
+  -- an escape byte, and the bytes held back after it, at the end
   escape_end : (mode : Mode) (rest more : List ℕ) → part_mode (esc ∷ rest) ≡ None
       → (more ≡ []) ⊎ BeginsWith (events_in jis0208 mode (esc ∷ rest ++ more)) (Bad 0 1 ∷ [])
       → events_in jis0208 mode (esc ∷ rest ++ more) ≡ Bad 0 1 ∷ shift 1 (events_in jis0208 mode (rest ++ more))
@@ -118,7 +118,7 @@ module _ (jis0208 : List ℕ) where
   start_end mode Dollar = λ more h. escape_end mode (0x24 ∷ []) more (no_escape_yet Dollar) h
   start_end mode Paren = λ more h. escape_end mode (0x28 ∷ []) more (no_escape_yet Paren) h
 
-  -- a lead and a trail are no malformed byte alone
+  -- a lead and a trail do not give a malformed byte alone
   no_lone_pair : (f : Front) (items rest : List DecodeEvent) → front_length f ≡ 2 → front_events 0 f ++ shift 2 items ≡ Bad 0 1 ∷ rest → ⊥
   no_lone_pair (reads n []) items rest two e = no_sooner 2 0 1 items rest (omega arith) e
   no_lone_pair (reads n (c ∷ scalars)) items rest two e = cc
@@ -132,7 +132,7 @@ module _ (jis0208 : List ℕ) where
       by_trail true (Some c) = refl
       by_trail false o = refl
 
-  -- a lead at the end, and a lead that is reported alone
+  -- a lead at the end, or a lead that is reported alone, has no trail
   lone_lead : (l : ℕ) (more : List ℕ) → is_in_range 0x21 0x7E l ≡ true → (more ≡ []) ⊎ BeginsWith (events_in jis0208 TwoByte (l ∷ more)) (Bad 0 1 ∷ [])
       → first_part more ≡ []
   lone_lead l [] lead h = refl
@@ -152,7 +152,7 @@ module _ (jis0208 : List ℕ) where
       (ap (front_in jis0208 TwoByte l) (lone_lead l more held h) ∙ front-lone jis0208 l) refl
   lead_end _ l held two = cc
 
-  -- behind a whole escape comes an escape byte that is reported alone, so that the whole one is not malformed
+  -- if an escape byte after a whole escape is reported alone, the whole escape is not malformed
   whole_alone : (mode : Mode) (e : Escape) (items rest : List DecodeEvent) (o : Option iso.Mode) → cond (is_some o) (Bad 0 3 ∷ []) [] ++ items ≡ Bad 3 1 ∷ rest → o ≡ None
   whole_alone mode e items rest None h = refl
   whole_alone mode e items rest (Some next) h = cc
@@ -177,7 +177,7 @@ module _ (jis0208 : List ℕ) where
   end_law mode (Whole e Dollar) h r = λ more g. whole_end mode e (0x24 ∷ []) more (no_escape_yet Dollar) g
   end_law mode (Whole e Paren) h r = λ more g. whole_end mode e (0x28 ∷ []) more (no_escape_yet Paren) g
 
-  -- what it does, by the answer of `finish`
+  -- the law of the end, by the result of `finish`
   abbrev EndFacts : Mode → Held → Option (Mode × Held) → Type 0
   EndFacts mode held None = events_of (iso_2022_jp jis0208 (mode_meaning mode)) (bytes_of held) ≡ []
   EndFacts mode held (Some o) =
@@ -221,7 +221,7 @@ module _ (jis0208 : List ℕ) where
 
   -- ---- whether an event is left
 
-  -- there is one, or there is none
+  -- there is an event, or there is none
   abbrev HasRest : Mode → Held → Bool → Type 0
   HasRest mode held t =
       (t ≡ true → events_of (iso_2022_jp jis0208 (mode_meaning mode)) (bytes_of held) ≢ [])

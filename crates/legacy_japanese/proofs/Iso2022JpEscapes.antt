@@ -1,4 +1,4 @@
--- The runs of ISO-2022-JP on both sides of an escape.
+-- The runs of ISO-2022-JP before and after an escape.
 use Rattle.std.proofs.Common.{◌≡◌, ◌≢◌, ◌∙◌, ℕ, suc, ◌+◌, ◌-◌, ◌<◌, List, ◌∷◌, ◌++◌, length, map, take, drop, get_or, refl, sym, ap, subst, arith, append-nil, length-drop}
 use Rattle.std.proofs.lemmas.Bool.{ne_eqb}
 use Rattle.std.proofs.lemmas.List.{drop-drop}
@@ -26,7 +26,7 @@ use Rattle.legacy_japanese.proofs.Iso2022JpRooms.{same_rooms, room-falls}
 use Rattle.legacy_japanese.proofs.Iso2022JpLaw.{events_in}
 use Rattle.legacy_japanese.proofs.Iso2022JpStep.{escape_alone}
 
--- an escape in front of a run of its mode, which begins with no escape byte
+-- an escape before a run of its mode; the run does not begin with an escape byte
 escape_runs : (jis0208 : List ℕ) (mode : Mode) (e : Escape) (x : ℕ) (bytes ds : List ℕ) → x ≢ esc → Runs (iso_2022_jp jis0208 (mode_meaning (mode_of e))) (x ∷ bytes) ds
     → RunsTo (iso_2022_jp jis0208 (mode_meaning mode)) (iso_2022_jp jis0208 (mode_meaning (mode_of e))) (esc ∷ second_of e ∷ third_of e ∷ x ∷ bytes) ds
 unfolding events_of
@@ -46,7 +46,7 @@ escape_runs jis0208 mode e x bytes ds alone runs = record {
       omega arith;
 }
 
--- the bytes of a run behind three others, and those of an escape and of the run behind it
+-- the bytes of a run after three others, and those of an escape and the run after it
 run_bytes : (source : List ℕ) (read : ℕ) → 3 < length source → 0 < read → take read (drop 3 source) ≡ get_or source 3 0 ∷ take (read - 1) (drop 4 source)
 run_bytes source read within some =
     let one_more : read ≡ suc (read - 1) = omega arith in
@@ -98,7 +98,7 @@ module _ {D : Type 0} {T : Ghosts D} where
       in
       subst (λ m. ReadsTo T (run_state jis0208 first) (run_state jis0208 m) source (at + (3 + read)) old new) (sym is) (reads_then runs (reads_escape jis0208 mode e S mid new read has some run))
 
-  -- runs, behind which nothing was read
+  -- runs, after which nothing was read
   pub reads_end : {before after other : DecoderState} {source behind : List ℕ} {old mid new : D} {at read : ℕ} → read ≡ 0 → ReadsTo T before after source at old mid
       → ReadsAhead T other behind read mid new
       → ReadsTo T before after source at old new

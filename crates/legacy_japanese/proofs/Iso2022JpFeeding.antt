@@ -1,4 +1,4 @@
--- What the machine's steps are to the loop of all decoders.
+-- The machine's steps, as the decoders' loop sees them.
 use Rattle.std.proofs.Common.{◌≡◌, ◌≢◌, ◌∙◌, ℕ, ◌+◌, ◌*◌, ◌≤◌, true, All, None, List, [], ◌∷◌, ◌++◌, length, map, refl, sym, ap, arith, append-nil}
 use Rattle.std.specs.{Char.IsScalar, Prelude.if◌then◌else◌}
 use Rattle.std.proofs.lemmas.List.Elements.{All-cons, All-nil}
@@ -17,7 +17,7 @@ use Rattle.legacy_japanese.proofs.Iso2022JpStep.{IsStep, read_step}
 use Rattle.legacy_japanese.proofs.Iso2022JpHeld.{held_allowed, held_rests}
 use Rattle.legacy_japanese.proofs.Iso2022JpRooms.{same_rooms, read_room-is, one_fits, room-falls, replacement_fits, times_one}
 
--- ---- a move, and what the loop is told
+-- ---- a move, and what the loop gets from it
 
 events_are : (k : ℕ) (move : Action) (back : ℕ) → move_events k move ≡ map Scalar (fed_scalars (fed_by move back)) ++ fed_fault k (fed_by move back)
 events_are k Holds back = refl
@@ -27,7 +27,7 @@ left_is : (move : Action) (back b : ℕ) (more : List ℕ) → (if is_left move 
 left_is Leaves back b more = refl
 left_is _ back b more = refl
 
--- the byte is done with or unread
+-- the byte is either consumed or left unread
 left_counts : (move : Action) (back b : ℕ) → (if is_left move then 0 else 1) + length (unread_byte b (fed_by move back)) ≡ 1
 left_counts Leaves back b = refl
 left_counts _ back b = refl
@@ -64,17 +64,17 @@ holds_back jis0208 k _ mode held kept sizes rest = record { some = sizes.0; few 
 
 -- ---- a step
 
--- it is what the machine reads
+-- the outcome is the machine's step
 stepped : (jis0208 : List ℕ) (mode : Mode) (held : Held) (byte : ℕ) (o : Outcome) → is_held mode held ≡ true
     → rests (iso_2022_jp jis0208 (mode_meaning mode)) (bytes_of held) ≡ true → o ≡ read jis0208 mode held byte → IsStep jis0208 mode held byte o
 stepped jis0208 mode held byte o sound rest is = rw is (read_step jis0208 mode held byte sound (sym (held_rests jis0208 mode held sound) ∙ rest))
 
--- what is held back then may be
+-- after the step only what is allowed is held back
 pub kept : (jis0208 : List ℕ) (mode : Mode) (held : Held) (byte : ℕ) (o : Outcome) → is_held mode held ≡ true
     → rests (iso_2022_jp jis0208 (mode_meaning mode)) (bytes_of held) ≡ true → o ≡ read jis0208 mode held byte → is_held o.mode o.held ≡ true
 kept jis0208 mode held byte o sound rest is = (let s = stepped jis0208 mode held byte o sound rest is in s.sound.kept)
 
--- and what the loop is told of it
+-- the law of a step for the loop
 pub feeds : (jis0208 : List ℕ) (mode : Mode) (held : Held) (byte : ℕ) (o : Outcome) → is_held mode held ≡ true
     → rests (iso_2022_jp jis0208 (mode_meaning mode)) (bytes_of held) ≡ true → o ≡ read jis0208 mode held byte → IsNarrow o.action
     → Feeds (state_in jis0208 mode held) byte (state_in jis0208 o.mode o.held) (fed_of o)

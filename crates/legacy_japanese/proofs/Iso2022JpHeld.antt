@@ -1,4 +1,4 @@
--- What the machine holds back is what may be held back, and its numbers.
+-- The machine holds back only bytes that the grammar may hold back, with the same weight.
 use Rattle.std.proofs.Common.{◌≡◌, ℕ, ◌+◌, ◌≤◌, true, Option, Some, None, List, [], ◌∷◌, length, drop, refl, arith, lit≤}
 use Rattle.std.specs.Prelude.{◌==◌}
 use Rattle.std.proofs.lemmas.Bool.{or_right}
@@ -11,13 +11,13 @@ use Rattle.legacy_japanese.specs.Iso2022JpMoves.{weight_of}
 use Rattle.legacy_japanese.proofs.Iso2022JpLaw.{ended}
 use Rattle.legacy_japanese.proofs.Iso2022JpStep.{valid, second_kept}
 
--- ---- the bytes of what is held back
+-- ---- the held-back bytes
 
 start_allowed : (s : Start) → is_escape_start (start_bytes s) ≡ true
 start_allowed Nothing = refl
 start_allowed _ = refl
 
--- they may be held back
+-- the grammar may hold back these bytes
 pub held_allowed : (jis0208 : List ℕ) (mode : Mode) (held : Held) → is_held mode held ≡ true → may_hold (iso_2022_jp jis0208 (mode_meaning mode)) (bytes_of held) ≡ true
 held_allowed jis0208 mode (Byte b) h = or_right (b == esc) (is_held mode (Byte b)) h
 held_allowed jis0208 mode (Whole e s) h = rw (valid e, start_allowed s)
@@ -28,7 +28,7 @@ byte_rests : (jis0208 : List ℕ) (mode : Mode) (b : ℕ) → is_held mode (Byte
 byte_rests jis0208 TwoByte b h = refl
 byte_rests jis0208 _ b h = rw h
 
--- they rest where the machine reads on
+-- they rest exactly if the machine reads on
 pub held_rests : (jis0208 : List ℕ) (mode : Mode) (held : Held) → is_held mode held ≡ true → rests (iso_2022_jp jis0208 (mode_meaning mode)) (bytes_of held) ≡ is_resting mode held
 held_rests jis0208 mode (Byte b) h = byte_rests jis0208 mode b h
 held_rests jis0208 mode (Begun EscapeByte) h = or_right (is_two_byte_mode (mode_meaning mode)) true refl
@@ -42,7 +42,7 @@ held_weight jis0208 mode _ = refl
 
 -- ---- the end
 
--- the end of input leaves what may be held back
+-- at the end of the input, only what is allowed is still held back
 pub record SoundEnd (held : Held) (new_mode : Mode) (new_held : Held) : Type 0 where
   pub kept : is_held new_mode new_held ≡ true
   pub suffix : drop (ended held new_held) (bytes_of held) ≡ bytes_of new_held

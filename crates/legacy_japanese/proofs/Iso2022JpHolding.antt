@@ -1,4 +1,4 @@
--- A whole escape is held back at once.
+-- The decoder holds back a whole escape at once.
 use Rattle.std.proofs.Common.{◌≡◌, ℕ, ◌≤◌, List, [], ◌∷◌, take, refl, sym, subst}
 use Rattle.legacy_text.specs.EncodingForm.{EncodingForm, bmp_room}
 use Rattle.legacy_base.specs.Iso2022Jp.{esc}
@@ -15,7 +15,7 @@ use Rattle.legacy_japanese.proofs.Iso2022JpFeeding.{feeds}
 use Rattle.legacy_japanese.proofs.Iso2022JpHeld.{held_rests}
 use Rattle.legacy_japanese.proofs.Iso2022JpRooms.{read_room-is}
 
--- the start of an escape behind its first two bytes
+-- the start of an escape: its first two bytes
 abbrev second_start : Escape → Start
 second_start ToJis1978 = Dollar
 second_start ToJis1983 = Dollar
@@ -30,7 +30,7 @@ third_read jis0208 mode ToAscii = refl
 third_read jis0208 mode _ = refl
 
 module _ (form : EncodingForm) (free : ℕ) (enough : bmp_room form ≤ free) (jis0208 : List ℕ) (mode : Mode) where
-  -- a byte is read and held back, behind some that were
+  -- one byte is read and held back, after those already held back
   holds_byte : (start : Start) (byte : ℕ) (held : Held) (bytes : List ℕ) (next : Held) → moves Holds mode held ≡ read jis0208 mode (Begun start) byte
       → HoldsBytes form free (state_in jis0208 mode held) bytes (state_in jis0208 mode next)
       → HoldsBytes form free (state_in jis0208 mode (Begun start)) (byte ∷ bytes) (state_in jis0208 mode next)
@@ -49,6 +49,6 @@ module _ (form : EncodingForm) (free : ℕ) (enough : bmp_room form ≤ free) (j
       (holds_byte EscapeByte (second_of e) (Begun (second_start e)) (third_of e ∷ []) (Whole e Nothing) (second_read jis0208 mode e)
       (holds_byte (second_start e) (third_of e) (Whole e Nothing) [] (Whole e Nothing) (third_read jis0208 mode e) refl))
 
-  -- the escape at the front
+  -- the escape at the beginning of the source
   pub holds_escape : (e : Escape) (source : List ℕ) → HasEscape e source → HoldsBytes form free (run_state jis0208 mode) (take 3 source) (state_in jis0208 mode (Whole e Nothing))
   holds_escape e source has = subst (λ bytes. HoldsBytes form free (run_state jis0208 mode) bytes (state_in jis0208 mode (Whole e Nothing))) (sym has.begins) (holds_whole e)

@@ -1,4 +1,4 @@
--- What a step of the machine must do.
+-- The law that each step of the machine must meet.
 use Rattle.std.proofs.Common.{◌≡◌, ℕ, ◌+◌, ◌-◌, ◌≤◌, true, Option, Some, None, List, [], ◌∷◌, ◌++◌, length, drop, ◌⊎◌}
 use Rattle.std.specs.Prelude.{if◌then◌else◌}
 use Rattle.legacy_base.specs.{Beginnings.BeginsWith, Events.shift, Fronts.Front}
@@ -9,7 +9,7 @@ use Rattle.legacy_japanese.specs.declared.iso_2022_jp.steps.Action.TheVariants.{
 use Rattle.legacy_japanese.specs.Iso2022JpMoves.{is_left, move_events, rooms_of, weight_of}
 use Rattle.legacy_japanese.specs.Iso2022JpMachine.{mode_meaning, bytes_of, is_held, is_resting}
 
--- the definitions at the code's modes
+-- the definitions at the modes of the code
 abbrev pub events_in : List ℕ → Mode → List ℕ → List DecodeEvent
 events_in jis0208 mode bytes = iso_2022_jp_events jis0208 (mode_meaning mode) bytes
 
@@ -18,23 +18,24 @@ front_in jis0208 mode b rest = iso_2022_jp_front jis0208 (mode_meaning mode) b r
 
 -- ---- the law
 
--- how many of the bytes that were held back and read are done with
+-- the number of held-back and read bytes that a step consumes
 abbrev pub done : Held → Outcome → ℕ
 done held o = (length (bytes_of held) + (if is_left o.action then 0 else 1)) - length (bytes_of o.held)
 
--- The step's law: whatever comes after the byte, the events of what was held back, the byte and the rest are those of
--- the move, and then those of what is held back now and what is unread.
+-- The law of a step, for all bytes that follow. The events of the held-back bytes, the byte and the rest are those of
+-- the move, and then others. The others are the events of the bytes now held back and the unread bytes.
 abbrev pub MeetsLaw : List ℕ → Mode → Held → ℕ → Outcome → Type 0
 MeetsLaw jis0208 mode held b o = (more : List ℕ) →
     events_in jis0208 mode (bytes_of held ++ b ∷ more)
     ≡ move_events (done held o) o.action
     ++ shift (done held o) (events_in jis0208 o.mode (bytes_of o.held ++ (if is_left o.action then b ∷ more else more)))
 
--- how many of the bytes that were held back are done with
+-- the number of held-back bytes that the end of the input consumes
 abbrev pub ended : Held → Held → ℕ
 ended held new_held = length (bytes_of held) - length (bytes_of new_held)
 
--- its law: what is reported, and what follows that, also where bytes follow with which it is reported all the same
+-- The law of the end: the report and the events after it. It also holds if more bytes follow and the report is the
+-- same.
 abbrev pub MeetsEnd : List ℕ → Mode → Held → Option (Mode × Held) → Type 0
 MeetsEnd jis0208 mode held None = events_in jis0208 mode (bytes_of held) ≡ []
 MeetsEnd jis0208 mode held (Some o) = (more : List ℕ) →
@@ -44,17 +45,17 @@ MeetsEnd jis0208 mode held (Some o) = (more : List ℕ) →
 
 -- ---- numbers
 
--- a report's numbers: one to three bytes, which are among those that are done with, and at most three held back
+-- the bounds of a report: one to three bytes, all of them consumed, and at most three held back
 abbrev pub HasReport : ℕ → ℕ → List ℕ → Type 0
 HasReport k a held = (1 ≤ a) × (a ≤ 3) × (a ≤ k) × (length held ≤ 3)
 
--- the numbers of a move
+-- the bounds of a move
 abbrev pub HasSizes : ℕ → Action → List ℕ → Type 0
 HasSizes k (Reports a) held = HasReport k a held
 HasSizes k Leaves held = HasReport k 1 held
 HasSizes k _ held = Unit {0}
 
--- what a move leaves to be done: after a scalar nothing is held back, and where nothing shows what is held back rests
+-- after a scalar nothing is held back, and after a move without event the held-back bytes rest
 abbrev pub RestsAfter : Action → Mode → Held → Type 0
 RestsAfter Holds mode held = is_resting mode held ≡ true
 RestsAfter (Writes c) mode held = held ≡ Begun Nothing

@@ -1,4 +1,4 @@
--- How a pair that stands in a list is written.
+-- Writing a pair that is in the list.
 use Rattle.std.proofs.Common.{◌≡◌, ℕ, suc, ◌+◌, ◌/◌, ◌%◌, ◌<◌, ◌≤◌, List, [], ◌∷◌, ◌++◌, length, take, get_or, refl, subst, arith}
 use Rattle.legacy_base.specs.EncoderProfile.{EncoderMode, in_two_byte}
 use Rattle.legacy_base.specs.Iso2022Jp.{mode_behind}
@@ -13,7 +13,7 @@ use Rattle.legacy_japanese.specs.Iso2022JpPairs.{IsPairOf}
 use Rattle.legacy_japanese.proofs.Iso2022JpEncoderMoves.{reads, serves}
 
 module _ (jis0208 katakana_index : List ℕ) where
-  -- ---- how a pair is written
+  -- ---- writing a pair
 
   module _ (c both : ℕ) (is : IsPairOf jis0208 katakana_index c both) where
     pub pair_mode : (mode : EncoderMode) → mode_behind jis0208 katakana_index mode (c ∷ []) ≡ in_two_byte
@@ -33,7 +33,7 @@ module _ (jis0208 katakana_index : List ℕ) where
       ends = refl;
     }
 
-    -- one code unit more of a turn
+    -- one more code unit of a turn
     pub units_listed : (free : ℕ) (units old bytes new : List ℕ) (k : ℕ) → PutsUnits (state_in jis0208 katakana_index TwoByte) free (take k units) old bytes → k < length units
         → get_or units k 0 ≡ c → length bytes + 3 ≤ free → new ≡ bytes ++ both % 256 ∷ both / 256 ∷ []
         → PutsUnits (state_in jis0208 katakana_index TwoByte) free (take (k + 1) units) old new

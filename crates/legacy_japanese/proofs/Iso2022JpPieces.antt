@@ -1,4 +1,4 @@
--- A piece of ASCII that was copied: what then stands in the output, and that its scalars are written as themselves.
+-- Copying a piece of ASCII: the output after it, and the scalars written as themselves.
 use Rattle.std.proofs.Common.{◌≡◌, ◌∙◌, ℕ, ◌+◌, ◌-◌, ◌≤◌, ◌<◌, List, ◌++◌, length, take, drop, slice_index, get_or-take, false, refl, sym, ap, subst, arith}
 use Rattle.std.proofs.lemmas.List.{take-take, take-append-le, length-take, length-take-le, drop-take}
 use Rattle.std.proofs.Math.Seq.{take-append_seam, drop-append_seam}
@@ -14,17 +14,17 @@ module _ (start n limit : ℕ) (dst new more : List ℕ) (from : start ≤ limit
   old_length : length (take start dst) ≡ start
   old_length = length-take-le start dst (omega (arith, from, within))
 
-  -- the piece stands behind what stood there
+  -- the output is what was there before, and then the piece
   pub piece_behind : take (start + n) (new ++ drop limit dst) ≡ take start dst ++ more
   piece_behind = take-append-le (start + n) new (drop limit dst) (omega (arith, same, fits)) ∙ bytes ∙ ap (λ l. l ++ more) (take-take start limit dst from)
 
-  -- which has not changed
+  -- what was there before has not changed
   pub front_same : take start (new ++ drop limit dst) ≡ take start dst
   front_same =
       sym (take-take start (start + n) (new ++ drop limit dst) (omega arith)) ∙ ap (take start) piece_behind
       ∙ subst (λ k. take k (take start dst ++ more) ≡ take start dst) old_length (take-append_seam (take start dst) more)
 
-  -- and is what is behind it
+  -- what comes after it is the piece
   pub piece_is : take (start + n - start) (drop start (new ++ drop limit dst)) ≡ more
   piece_is =
       let e : start + n - start ≡ n = omega arith in
@@ -45,7 +45,7 @@ own_bytes left old n within ascii none =
           (same, rw same at (ascii k), rw same at (none k (omega (arith, long))));
     }
 
--- the front of bytes without controls has none
+-- a front of bytes without controls has no control
 pub front_without : (n m : ℕ) (bytes : List ℕ) → n ≤ m → ((k : ℕ) → k < length (take m bytes) → is_mode_control (slice_index (take m bytes) k) ≡ false)
     → (k : ℕ) → k < length (take n bytes) → is_mode_control (slice_index (take n bytes) k) ≡ false
 front_without n m bytes within none k h =

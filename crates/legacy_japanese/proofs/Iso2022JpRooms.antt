@@ -1,4 +1,4 @@
--- The room that an ISO-2022-JP decoder needs, and how it falls.
+-- The room that an ISO-2022-JP decoder needs, and how it decreases.
 use Rattle.std.proofs.Common.{◌≡◌, ℕ, ◌+◌, ◌*◌, ◌<◌, ◌≤◌, Bool, true, false, cond, Some, List, [], ◌∷◌, length, refl, arith, length-append, ◌&&◌}
 use Rattle.std.specs.Char.{is_ascii}
 use Rattle.legacy_base.specs.declared.results.DecodeEvent.{DecodeEvent}
@@ -17,7 +17,7 @@ use Rattle.legacy_japanese.proofs.Iso2022JpHeld.{held_weight}
 
 -- ---- the room of an act
 
--- the modes need the same room
+-- all modes need the same room
 pub same_rooms : (jis0208 : List ℕ) (before after : Mode) → SameRooms (iso_2022_jp jis0208 (mode_meaning before)) (iso_2022_jp jis0208 (mode_meaning after))
 same_rooms jis0208 before after = record { full = λ form. refl; report = λ form. refl; wants = λ previous c. refl }
 
@@ -35,7 +35,7 @@ one_fits form c h = let l = length-code_units-bmp form c h in let a = length-app
 
 -- ---- the room of a state
 
--- the room of the bytes to come and of those that are held back, for each a scalar up to U+FFFF
+-- the room of the input bytes and the held-back bytes: for each a scalar up to U+FFFF
 pub room-is : (query : LengthQuery) (jis0208 : List ℕ) (mode : Mode) (held : Held) (n : ℕ) → room query (state_in jis0208 mode held) n ≡ bmp_room (query_form query) * (n + weight_of held)
 room-is to_utf16 jis0208 mode held n = rw (held_weight jis0208 mode held) (omega arith)
 room-is _ jis0208 mode held n = rw (held_weight jis0208 mode held) refl
@@ -44,7 +44,7 @@ falls : (query : LengthQuery) (x y r u : ℕ) → x + r ≤ y → u ≤ bmp_room
 falls to_utf16 x y r u h k = omega arith
 falls _ x y r u h k = omega arith
 
--- it falls by what is written, where the weight falls by the scalars and reports
+-- the room decreases by what is written, if the weight decreases by the number of scalars and reports
 pub room-falls : (query : LengthQuery) (jis0208 : List ℕ) (mode new_mode : Mode) (held new_held : Held) (n m r u : ℕ)
     → (m + weight_of new_held) + r ≤ n + weight_of held → u ≤ bmp_room (query_form query) * r
     → room query (state_in jis0208 new_mode new_held) m + u ≤ room query (state_in jis0208 mode held) n
@@ -60,14 +60,14 @@ pub times_one : (query : LengthQuery) (u : ℕ) → u ≤ bmp_room (query_form q
 times_one to_utf16 u h = omega arith
 times_one _ u h = omega arith
 
--- ---- the next act has its room
+-- ---- the room of the next act
 
 some_room : (query : LengthQuery) (x : ℕ) → 1 ≤ x → bmp_room (query_form query) ≤ bmp_room (query_form query) * x
 some_room to_utf16 x h = omega arith
 some_room _ x h = omega arith
 
 module _ (query : LengthQuery) (jis0208 : List ℕ) (mode : Mode) where
-  -- the room of the next act, at a test that what is held back rests
+  -- the room of the next act, by whether the held-back bytes rest
   needed : Held → List ℕ → Bool → Bool → ℕ
   needed held unread last resting =
       room_of_act (bmp_room (query_form query)) (wide_room (query_form query)) (state_in jis0208 mode held)

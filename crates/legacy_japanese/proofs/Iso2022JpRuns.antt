@@ -70,7 +70,7 @@ pair_run jis0208 a b c low high low' high' narrow scalar is = (
   },
 )
 
--- what two bytes give
+-- the scalar of two bytes
 pub pair_scalar : (jis0208 : List ℕ) (a b : ℕ) → 0x21 ≤ a → a ≤ 0x7E → 0x21 ≤ b → b ≤ 0x7E → (pointer : ℕ) → pointer ≡ (a - 0x21) * 94 + (b - 0x21)
     → (found : Option ℕ) → found ≡ idx jis0208 pointer → IfSome found IsNarrowScalar → IfSome found (λ c. IsPair (iso_2022_jp jis0208 two_byte) a b c)
 pair_scalar jis0208 a b low high low' high' pointer at None is narrow = tt
@@ -80,7 +80,7 @@ pair_scalar jis0208 a b low high low' high' pointer at (Some c) is narrow =
 in_94 : (b : ℕ) → is_in_range 0x21 0x7E b ≡ true → (0x21 ≤ b) × (b ≤ 0x7E)
 in_94 b is = (grind (arith, nat_tests), grind (arith, nat_tests))
 
--- what two bytes give by the sum of their places
+-- the scalar of two bytes, by the sum of their places
 pub placed_scalar : (jis0208 : List ℕ) → length jis0208 ≤ 65535 → (a b : ℕ) (found : Option ℕ) → found ≡ idx jis0208 (jis_lead_place a + jis_trail_place b)
     → IfSome found IsNarrowScalar → IfSome found (λ c. IsPair (iso_2022_jp jis0208 two_byte) a b c)
 unfolding jis_lead_place jis_trail_place
@@ -98,7 +98,7 @@ placed_scalar jis0208 short a b found is narrow = go (is_in_range 0x21 0x7E a) (
 
 -- ---- a run of plain bytes
 
--- the front of a front
+-- a front of a front
 pub plain_front : (source : List ℕ) (n count : ℕ) → count ≤ length (take n source) → All IsPlain (take count (take n source)) → (count ≤ length source) × (count ≤ n) × All IsPlain (take count source)
 plain_front source n count within plain =
     let l = length-take n source in
@@ -110,7 +110,7 @@ plain_at source count at within plain h =
     let l : length (take count source) ≡ count = length-take-le count source within in
     subst IsPlain (get_or-take count source at 0 h) (All-get_or IsPlain (take count source) at 0 (omega arith) plain)
 
--- its code units, one for a byte
+-- the code units of a run, one for each byte
 pub plain_units : (form : EncodingForm) (source : List ℕ) (count at : ℕ) → count ≤ length source → All IsPlain (take count source) → at < count
     → code_units form (get_or source at 0) ≡ get_or source at 0 ∷ []
 plain_units form source count at within plain h = code_units_ascii form (get_or source at 0) ((plain_at source count at within plain h).0)

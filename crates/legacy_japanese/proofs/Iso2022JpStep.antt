@@ -1,4 +1,4 @@
--- Each step of the machine meets its law, and leaves what may be held back.
+-- Each step of the machine meets its law, and leaves only what may be held back.
 use Rattle.std.proofs.Common.{◌≡◌, ℕ, suc, ◌+◌, ◌-◌, ◌*◌, ◌≤◌, Bool, true, false, cond, leb, Option, Some, None}
 use Rattle.std.proofs.Common.{List, [], ◌∷◌, ◌++◌, length, refl, sym, ap, ◌∙◌, append_assoc, length-append, arith, lit≤}
 use Rattle.std.specs.Prelude.{◌==◌, if◌then◌else◌, option_to_list}
@@ -27,19 +27,19 @@ pub valid : (e : Escape) → escape_mode (second_of e) (third_of e) ≡ Some (mo
 valid ToAscii = refl
 valid _ = refl
 
--- a second byte of an escape may be held back alone
+-- the second byte of an escape may be held back alone
 pub second_kept : (mode : Mode) → (is_held mode (Byte 0x24) ≡ true) × (is_held mode (Byte 0x28) ≡ true)
 second_kept TwoByte = (refl, refl)
 second_kept _ = (refl, refl)
 
--- the bytes of pairs are no escape bytes
+-- the bytes of a pair are not escape bytes
 pub in_range_plain : (b : ℕ) → is_in_range 0x21 0x7E b ≡ true → (b == esc) ≡ false
 in_range_plain b h = let low = leb-true 0x21 b (and_parts (leb 0x21 b) (leb b 0x7E) h).0 in ne_eqb b esc (λ e. omega arith)
 
 three_done : (s l c : ℕ) → l ≤ s + c → suc (suc (suc s)) + c - l ≡ suc (suc (suc (s + c - l)))
 three_done s l c h = omega arith
 
--- a move with three bytes more before it
+-- a move with three more bytes before it
 three_further : (k : ℕ) (move : Action) (held : List ℕ) → HasSizes k move held
     → (shift 3 (move_events k move) ≡ move_events (suc (suc (suc k))) move) × HasSizes (suc (suc (suc k))) move held
 three_further k (Reports a) held h = (ap (λ place. Bad place a ∷ []) (let fits = h.2 in omega arith), (h.0, h.1, omega arith, h.3))
@@ -56,12 +56,12 @@ front_cond true x y = refl
 front_cond false x y = refl
 
 module _ (jis0208 : List ℕ) where
-  -- a step, as it is and as it must be
+  -- a step meets its law and is sound
   pub record IsStep (mode : Mode) (held : Held) (b : ℕ) (o : Outcome) : Type 0 where
     pub law : MeetsLaw jis0208 mode held b o
     pub sound : Sound held b o
 
-  -- a byte that is held back behind what was
+  -- a byte that is held back after the others
   hold_step : (mode : Mode) (held new_held : Held) (b : ℕ) → bytes_of held ++ b ∷ [] ≡ bytes_of new_held
       → is_held mode new_held ≡ true → is_resting mode new_held ≡ true → weight_of new_held ≤ weight_of held + 1
       → IsStep mode held b (moves Holds mode new_held)
@@ -74,19 +74,19 @@ module _ (jis0208 : List ℕ) where
         sound = record { kept = kept; suffix = λ more. rw none_done (all more); sizes = tt; room = omega arith; fits = omega arith; rest = rest };
       }
 
-  -- ---- behind a whole escape
+  -- ---- after a whole escape
 
-  -- an escape gives nothing, and what follows is read in its mode, where no valid escape follows directly
+  -- an escape has no events, and the bytes after it are read in its mode, if no valid escape follows directly
   pub escape_alone : (mode : Mode) (e : Escape) (more : List ℕ) → part_mode more ≡ None
       → events_in jis0208 mode (esc ∷ second_of e ∷ third_of e ∷ more) ≡ shift 3 (events_in jis0208 (mode_of e) more)
   escape_alone mode e more h = rw (step_escape jis0208 (mode_meaning mode) (mode_meaning (mode_of e)) (second_of e) (third_of e) more (valid e), h)
 
-  -- and it is malformed where one does
+  -- an escape is malformed if a valid escape follows directly
   escape_again : (mode : Mode) (next : iso.Mode) (e : Escape) (more : List ℕ) → part_mode more ≡ Some next
       → events_in jis0208 mode (esc ∷ second_of e ∷ third_of e ∷ more) ≡ Bad 0 3 ∷ shift 3 (events_in jis0208 (mode_of e) more)
   escape_again mode next e more h = rw (step_escape jis0208 (mode_meaning mode) (mode_meaning (mode_of e)) (second_of e) (third_of e) more (valid e), h)
 
-  -- a step as if the escape had come before, where no valid escape follows it directly
+  -- a step after a whole escape is the step without it in its mode, if no valid escape follows directly
   behind_step : (mode : Mode) (e : Escape) (s : Start) (b : ℕ) (o : Outcome) → ((more : List ℕ) → part_mode (start_bytes s ++ b ∷ more) ≡ None)
       → IsStep (mode_of e) (Begun s) b o → IsStep mode (Whole e s) b o
   behind_step mode e s b o alone step =
@@ -152,7 +152,7 @@ module _ (jis0208 : List ℕ) where
       })
   plain_step mode b plain = single_step mode b (single mode b) plain (λ rest. front-single mode b rest refl)
 
-  -- a byte behind a lead, by the index's answer
+  -- a byte after a lead, by the entry of the index
   pair_step : (l b : ℕ) (o : Option ℕ) → is_in_range 0x21 0x7E l ≡ true → (b == esc) ≡ false → is_in_range 0x21 0x7E b ≡ true
       → idx jis0208 ((l - 0x21) * 94 + (b - 0x21)) ≡ o → IsStep TwoByte (Byte l) b (read_pair o)
   pair_step l b (Some c) lead plain trail is = record {
@@ -164,7 +164,7 @@ module _ (jis0208 : List ℕ) where
     sound = record { kept = refl; suffix = λ more. refl; sizes = (lit≤ tt, lit≤ tt, lit≤ tt, lit≤ tt); room = lit≤ tt; fits = lit≤ tt; rest = tt };
   }
 
-  -- a byte behind a lead, which is the byte that rests alone
+  -- a byte after a lead that is held back alone
   lead_step : (mode : Mode) (l b : ℕ) → is_held mode (Byte l) ≡ true → is_two_byte_mode (mode_meaning mode) ≡ true → IsStep mode (Byte l) b (read_trail jis0208 l b)
   lead_step TwoByte l b lead two = cond_both (b == esc) _ _ (IsStep TwoByte (Byte l) b)
       (λ h. rw (eqb-true b esc h) (record {
@@ -181,7 +181,7 @@ module _ (jis0208 : List ℕ) where
 
   -- ---- the start of an escape
 
-  -- a byte that neither goes on nor completes: no valid escape
+  -- after an escape byte, another byte than `24` and `28` gives no valid escape
   no_second : (b : ℕ) (more : List ℕ) → (b == 0x24) ≡ false → (b == 0x28) ≡ false → part_mode (esc ∷ b ∷ more) ≡ None
   unfolding part_mode
   no_second b [] h k = refl
@@ -191,7 +191,7 @@ module _ (jis0208 : List ℕ) where
   unfolding part_mode
   no_third a b more h = h
 
-  -- what a byte makes of an escape byte and a second byte: a valid escape, or none
+  -- an escape byte and two more bytes are this valid escape, or no valid escape
   abbrev Completed : ℕ → ℕ → Option Escape → Type 0
   Completed a b (Some e) = (second_of e ≡ a) × (third_of e ≡ b)
   Completed a b None = escape_mode a b ≡ None
@@ -221,7 +221,7 @@ module _ (jis0208 : List ℕ) where
     sound = record { kept = kept; suffix = λ more. rw is; sizes = rw is (lit≤ tt, lit≤ tt, lit≤ tt, lit≤ tt); room = rw is (lit≤ tt); fits = rw is (lit≤ tt); rest = tt };
   }
 
-  -- a byte behind an escape byte and a second byte
+  -- a byte after an escape byte and a second byte
   third_step : (mode : Mode) (s : Start) (a b : ℕ) (o : Option Escape) → start_bytes s ≡ esc ∷ a ∷ [] → is_held mode (Byte a) ≡ true
       → Completed a b o → IsStep mode (Begun s) b (read_third mode a o)
   third_step mode s a b (Some e) is kept c = hold_step mode (Begun s) (Whole e Nothing) b (rw (is, c.0, c.1)) refl refl (omega arith)
@@ -239,9 +239,9 @@ module _ (jis0208 : List ℕ) where
   start_step mode Dollar b = third_step mode Dollar 0x24 b (completes Dollar b) refl (second_kept mode).0 (completed_dollar b)
   start_step mode Paren b = third_step mode Paren 0x28 b (completes Paren b) refl (second_kept mode).1 (completed_paren b)
 
-  -- ---- behind a whole escape
+  -- ---- after a whole escape
 
-  -- the next escape is whole, and the one before it had nothing behind it
+  -- the next escape is whole, and nothing comes between it and the one before
   again_step : (mode : Mode) (e next : Escape) (s : Start) (a b : ℕ) → start_bytes s ≡ esc ∷ a ∷ [] → second_of next ≡ a → third_of next ≡ b
       → IsStep mode (Whole e s) b (moves (Reports 3) (mode_of e) (Whole next Nothing))
   again_step mode e next s a b is second third = rw (← third) (
@@ -268,7 +268,7 @@ module _ (jis0208 : List ℕ) where
   whole_step mode e Dollar b = next_third_step mode e Dollar 0x24 b (completes Dollar b) refl (second_kept (mode_of e)).0 (completed_dollar b)
   whole_step mode e Paren b = next_third_step mode e Paren 0x28 b (completes Paren b) refl (second_kept (mode_of e)).1 (completed_paren b)
 
-  -- Each byte that is read, whatever is held back and rests. This is the theorem of the machine.
+  -- The main theorem of the machine: each byte read is a correct step, if the held-back bytes rest.
   pub read_step : (mode : Mode) (held : Held) (b : ℕ) → is_held mode held ≡ true → is_resting mode held ≡ true → IsStep mode held b (read jis0208 mode held b)
   read_step mode (Byte l) b h r = lead_step mode l b h r
   read_step mode (Begun s) b h r = start_step mode s b

@@ -1,5 +1,5 @@
--- The pairs of ISO-2022-JP that go by pointers are those of the pointers that a walk takes; the others are looked up one
--- by one.
+-- A walk over the pointers of index jis0208 lists the pairs of the scalars that have the code of their pointer. The
+-- other scalars are looked up one by one.
 use Rattle.std.proofs.Common.{◌≡◌, ◌∙◌, ℕ, ◌+◌, ◌*◌, ◌/◌, ◌%◌, ◌<◌, ◌≤◌, List, [], ◌∷◌, length, Some, None, true, refl, ap, sym, subst, arith, option_map}
 use Rattle.std.proofs.lemmas.Bool.{ne_eqb, le-ltb}
 use Rattle.std.specs.Option.{IfSome}
@@ -55,7 +55,7 @@ module _ (flat : FlatIndexes) (accepted : AreAccepted flat) where
   goes-by-pointers : GoesByPointers (iso_2022_jp flat.jis0208 flat.katakana) parts.EucJpOrder iso_2022_jp_mark flat.jis0208 goes_by_pointer
   goes-by-pointers = record { scalars = jis0208-scalars flat accepted; some = iso_2022_jp_mark-some; coded = coded; uncoded = uncoded }
 
-  -- so the list is right for these
+  -- so the list is right for the scalars of the walk
   pub walked-listed : (pairs : List ℕ) → length pairs ≡ 65536 → IsFilled parts.EucJpOrder iso_2022_jp_mark flat.jis0208 pairs → AreListedWhere flat.jis0208 flat.katakana goes_by_pointer pairs
   walked-listed pairs all filled =
       let walked = walked-right (iso_2022_jp flat.jis0208 flat.katakana) parts.EucJpOrder iso_2022_jp_mark flat.jis0208 goes_by_pointer goes-by-pointers pairs all filled in
@@ -67,7 +67,7 @@ module _ (flat : FlatIndexes) (accepted : AreAccepted flat) where
         };
       }
 
--- a list that is right for all scalars has the pairs
+-- a list that is right for all scalars lists all pairs
 pub all-listed : (jis0208 katakana_index pairs : List ℕ) → AreListedWhere jis0208 katakana_index asked pairs → ListsPairs jis0208 katakana_index pairs
 all-listed jis0208 katakana_index pairs listed = record {
   right = record { all = listed.all; told = λ c h. (listed.right c h (all-asked c)).told };

@@ -1,4 +1,4 @@
--- The tables hold the places of leads and trails in two-byte mode.
+-- The tables contain the places of leads and trails in two-byte mode.
 use Rattle.std.proofs.Common.{refl}
 use Rattle.legacy_decoder_engine.specs.Places.{IsTableOf}
 use Rattle.legacy_japanese.specs.Jis0208Places.{jis_lead_place, jis_trail_place}

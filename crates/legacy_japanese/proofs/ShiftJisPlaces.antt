@@ -1,4 +1,4 @@
--- The tables hold the places of leads and trails, and what index jis0208 has at their sum.
+-- The tables contain the places of leads and trails; index jis0208 is read at their sum.
 use Rattle.std.proofs.Common.{◌≡◌, ◌∙◌, ℕ, ◌+◌, ◌-◌, ◌*◌, ◌≤◌, List, [], length, Bool, true, false, cond, Some, None, refl, ap, arith}
 use Rattle.std.proofs.lemmas.Bool.Decides.{nat_tests}
 use Rattle.std.specs.Int.{is_in_range}
@@ -21,7 +21,7 @@ shift_jis_trails_are = refl
 past_private : (p : ℕ) → 65535 ≤ p → is_in_range 8836 10715 p ≡ false
 past_private p h = grind (arith, nat_tests)
 
--- the scalars of a pointer, if there is one
+-- the scalars of a pointer, if there is a pointer
 of_pointer : (scalars : ℕ → List ℕ) (a b : Bool) (low high : ℕ) →
     cond a (scalars low) (cond b (scalars high) []) ≡ option_map_or scalars (cond a (Some low) (cond b (Some high) None)) []
 of_pointer scalars true b low high = refl

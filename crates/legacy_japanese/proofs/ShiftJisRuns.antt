@@ -1,4 +1,4 @@
--- Forms of Shift_JIS that give one scalar.
+-- Byte sequences of Shift_JIS that give one scalar.
 use Rattle.std.proofs.Common.{◌≡◌, ◌≤◌, ◌<◌, ◌^◌, ◌+◌, ◌-◌, ◌==◌, ℕ, List, [], ◌∷◌, Option, Some, None, false, true, cond, refl, arith}
 use Rattle.std.proofs.lemmas.Bool.{cond_both}
 use Rattle.std.proofs.lemmas.Bool.Decides.{nat_tests}
@@ -39,7 +39,7 @@ module _ (tables : AcceptedIndexes) where
             byte byte' scalar both.0 both.1,
       )
 
-  -- halfwidth katakana
+  -- half-width katakana
   pub katakana_form : (b c : ℕ) → 0xA1 ≤ b → b ≤ 0xDF → c ≡ katakana_of b → (c < 0x1_0000) × Runs (shift_jis tables.flat.jis0208) (b ∷ []) (c ∷ [])
   katakana_form b c low high e =
       let tests = katakana_tests b low high in

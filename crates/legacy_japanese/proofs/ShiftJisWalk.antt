@@ -1,4 +1,5 @@
--- The codes of Shift_JIS that go by pointers are those of the pointers that a walk takes; the others are asked for.
+-- A walk over the pointers of index jis0208 lists the Shift_JIS codes of the scalars that have the code of their
+-- pointer. The other scalars are looked up one by one.
 use Rattle.std.proofs.Common.{◌≡◌, ◌≢◌, ◌∙◌, ℕ, ◌+◌, ◌*◌, ◌/◌, ◌%◌, ◌<◌, ◌≤◌, [], ◌∷◌, Some, None, Bool, true, false, cond, nat_lt, refl, ap, sym, subst, arith, option_map}
 use Rattle.std.proofs.lemmas.Bool.{ne_eqb, le-ltb}
 use Rattle.std.specs.Option.{IfSome}

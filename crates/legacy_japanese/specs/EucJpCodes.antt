@@ -1,4 +1,4 @@
--- What is shown of the codes of EUC-JP.
+-- The bytes of the codes of EUC-JP.
 use Rattle.std.proofs.Common.{ℕ, ◌≢◌, ◌+◌, ◌*◌, ◌/◌, ◌%◌, ◌≤◌, ◌==◌, List, refl, arith}
 use Rattle.std.proofs.lemmas.Bool.{lt-ltb}
 use Rattle.std.specs.Char.{is_ascii}
@@ -23,7 +23,7 @@ pub euc_jp_pairs : (jis0208 jis0212 : List ℕ) → IsPairCodec (euc_jp jis0208 
 unfolding euc_jp_code
 euc_jp_pairs jis0208 jis0212 = record { code = euc_jp_code jis0208; profile_is = refl; ascii = λ c h. rw (lt-ltb c 128 h) refl; short = short jis0208 }
 
--- the lead and the trail of a pointer as one number, the lead in the low byte
+-- the lead and the trail of a pointer as one number, with the lead in the low byte
 abbrev pub euc_jp_mark : ℕ → ℕ
 euc_jp_mark p = (p / 94 + 0xA1) + 256 * (p % 94 + 0xA1)
 

@@ -1,4 +1,4 @@
--- What the ISO-2022-JP encoder is between two calls, and how it makes its moves.
+-- The state of the ISO-2022-JP encoder between two calls, and its moves.
 use Rattle.std.specs.Prelude.{◌≡◌, ◌<◌, ℕ, List, [], ◌∷◌, Bool, true, false}
 use Rattle.legacy_tables.specs.AcceptedTables.{AcceptedIndexes}
 use Rattle.legacy_base.specs.EncoderProfile.{EncoderMode, in_ascii, in_roman, in_two_byte}
@@ -11,31 +11,31 @@ use Rattle.legacy_japanese.specs.declared.iso_2022_jp.encoder.Mode.{Mode}
 use Rattle.legacy_japanese.specs.declared.iso_2022_jp.encoder.Mode.TheVariants.{Ascii, Roman, TwoByte}
 use Rattle.legacy_japanese.specs.declared.iso_2022_jp.encoder.Iso2022JpEncoder.{Iso2022JpEncoder}
 
--- the mode
+-- the mode of the profile
 abbrev pub mode_of : Mode → EncoderMode
 mode_of Ascii = in_ascii
 mode_of Roman = in_roman
 mode_of TwoByte = in_two_byte
 
--- the codec with these lists, in a mode
+-- the codec with these indexes, in a mode
 abbrev pub state_in : List ℕ → List ℕ → Mode → EncoderState
 state_in jis0208 katakana_index mode = record { codec = iso_2022_jp jis0208 katakana_index; mode = mode_of mode }
 
--- the codec by these tables, in a mode
+-- the codec with these tables, in a mode
 abbrev pub state_by : AcceptedIndexes → Mode → EncoderState
 state_by tables mode = state_in tables.flat.jis0208 tables.flat.katakana mode
 
--- the same in two-byte mode
+-- the codec with these tables, in two-byte mode
 abbrev pub pairs_state : AcceptedIndexes → EncoderState
 pairs_state tables = state_by tables TwoByte
 
--- the state that its calls speak of
+-- the state that the laws of its calls use
 abbrev pub iso_2022_jp_encoder_state : Iso2022JpEncoder → EncoderState
 iso_2022_jp_encoder_state encoder = state_in encoder.tables.now.flat.jis0208 encoder.tables.now.flat.katakana encoder.mode
 
--- ---- how it works inside
+-- ---- internal definitions
 
--- the modes are the same
+-- two modes are the same
 abbrev pub is_same_mode : Mode → Mode → Bool
 is_same_mode Ascii Ascii = true
 is_same_mode Roman Roman = true
@@ -48,18 +48,18 @@ escape_move Ascii = moves.Escape 0x28 0x42
 escape_move Roman = moves.Escape 0x28 0x4A
 escape_move TwoByte = moves.Escape 0x24 0x42
 
--- In a mode the scalar c asks for another one, and there it is read by this move.
+-- In `mode` the scalar c needs the mode `new`, in which `move` encodes it.
 pub record Asks (jis0208 katakana_index : List ℕ) (mode : Mode) (c : ℕ) (new : Mode) (move : EncoderMove) : Type 0 where
   pub mode_is : mode_behind jis0208 katakana_index (mode_of mode) (c ∷ []) ≡ mode_of new
   pub code_is : IsCode (iso_2022_jp_code jis0208 katakana_index c) (iso_2022_jp_reported c) move
 
--- In a mode, and with no escape, the scalar c is read by this move, which writes its bytes.
+-- In `mode` the scalar c needs no escape, and is encoded by `move`, which writes its bytes.
 pub record ReadsThere (jis0208 katakana_index : List ℕ) (mode : EncoderMode) (c : ℕ) (move : EncoderMove) : Type 0 where
   pub mode_is : mode_behind jis0208 katakana_index mode (c ∷ []) ≡ mode
   pub code_is : IsCode (iso_2022_jp_code jis0208 katakana_index c) (iso_2022_jp_reported c) move
   pub reads : is_escape move ≡ false
   pub silent : move_report move ≡ []
 
--- In ASCII mode the scalar c is written as this byte, which is c.
+-- in ASCII mode the scalar c is written as this byte, which is c
 abbrev pub IsOwnByte : ℕ → ℕ → Type 0
 IsOwnByte c byte = (byte ≡ c) × (c < 0x80) × (is_mode_control c ≡ false)

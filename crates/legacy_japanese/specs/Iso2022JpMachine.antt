@@ -1,5 +1,5 @@
--- An ISO-2022-JP decoder as the code has it, in small functions: it reads a byte at a time, and keeps a mode and what it
--- holds back.
+-- The machine of the ISO-2022-JP decoder, in small functions. It reads one byte at a time, and keeps a mode and the
+-- held-back bytes.
 use Rattle.std.specs.Prelude.{ℕ, ◌+◌, ◌-◌, ◌*◌, Bool, true, not, ◌==◌, ◌||◌, if◌then◌else◌, Option, Some, None, List, [], ◌∷◌}
 use Rattle.std.specs.Int.{is_in_range}
 use Rattle.std.specs.Char.{is_ascii}
@@ -19,7 +19,7 @@ use Rattle.legacy_japanese.specs.declared.iso_2022_jp.steps.Action.{Action}
 use Rattle.legacy_japanese.specs.declared.iso_2022_jp.steps.Action.TheVariants.{Holds, Writes, Reports, Leaves}
 use Rattle.legacy_japanese.specs.declared.iso_2022_jp.steps.Outcome.{Outcome}
 
--- the mode as the definitions speak of it
+-- the mode of the grammar
 abbrev pub mode_meaning : Mode → iso.Mode
 mode_meaning Ascii = iso.ascii
 mode_meaning Roman = iso.roman
@@ -58,7 +58,7 @@ bytes_of (Byte b) = b ∷ []
 bytes_of (Begun s) = start_bytes s
 bytes_of (Whole e s) = esc ∷ second_of e ∷ third_of e ∷ start_bytes s
 
--- a move, with what it leaves
+-- a move, with the mode and the held-back bytes after it
 abbrev pub moves : Action → Mode → Held → Outcome
 moves move mode held = record { action = move; mode = mode; held = held }
 
@@ -77,7 +77,7 @@ abbrev pub read_single : Mode → Option ℕ → Outcome
 read_single mode (Some c) = moves (Writes c) mode (Begun Nothing)
 read_single mode None = moves (Reports 1) mode (Begun Nothing)
 
--- a byte that is no escape byte, with nothing held back
+-- reads a byte that is not the escape byte, with nothing held back
 abbrev pub read_plain : Mode → ℕ → Outcome
 read_plain TwoByte b =
     if is_in_range 0x21 0x7E b then moves Holds TwoByte (Byte b) else moves (Reports 1) TwoByte (Begun Nothing)
@@ -87,7 +87,7 @@ abbrev pub read_pair : Option ℕ → Outcome
 read_pair (Some c) = moves (Writes c) TwoByte (Begun Nothing)
 read_pair None = moves (Reports 2) TwoByte (Begun Nothing)
 
--- a byte behind a lead
+-- reads a byte after a lead
 abbrev pub read_trail : List ℕ → ℕ → ℕ → Outcome
 read_trail jis0208 l b =
     if b == esc then moves (Reports 1) TwoByte (Begun EscapeByte)
@@ -104,7 +104,7 @@ completes Paren b =
     else None
 completes _ b = None
 
--- an escape is whole, or was none: its second byte stands then at the front
+-- the third byte completes an escape, or the escape byte is malformed and the second byte is held back alone
 abbrev pub read_third : Mode → ℕ → Option Escape → Outcome
 read_third mode a (Some e) = moves Holds mode (Whole e Nothing)
 read_third mode a None = moves Leaves mode (Byte a)
@@ -118,12 +118,12 @@ read_start mode EscapeByte b =
 read_start mode Dollar b = read_third mode 0x24 (completes Dollar b)
 read_start mode Paren b = read_third mode 0x28 (completes Paren b)
 
--- the next escape is whole, and the one before it had nothing behind it; or it was none
+-- the third byte completes the next escape, and the one before it is malformed; or the escape byte is malformed
 abbrev pub read_next_third : Mode → ℕ → Option Escape → Outcome
 read_next_third mode a (Some e) = moves (Reports 3) mode (Whole e Nothing)
 read_next_third mode a None = moves Leaves mode (Byte a)
 
--- a byte behind a whole escape: its mode holds from then on
+-- reads a byte after a whole escape, whose mode applies from here on
 abbrev pub read_whole : Mode → Escape → Start → ℕ → Outcome
 read_whole mode e Nothing b = if b == esc then moves Holds mode (Whole e EscapeByte) else read_plain (mode_of e) b
 read_whole mode e EscapeByte b =
@@ -133,13 +133,13 @@ read_whole mode e EscapeByte b =
 read_whole mode e Dollar b = read_next_third (mode_of e) 0x24 (completes Dollar b)
 read_whole mode e Paren b = read_next_third (mode_of e) 0x28 (completes Paren b)
 
--- the next byte
+-- reads the next byte
 abbrev pub read : List ℕ → Mode → Held → ℕ → Outcome
 read jis0208 mode (Byte l) b = read_trail jis0208 l b
 read jis0208 mode (Begun s) b = read_start mode s b
 read jis0208 mode (Whole e s) b = read_whole mode e s b
 
--- ---- what is held back
+-- ---- the held-back bytes
 
 -- what may be held back in a mode: a byte alone is a lead, or outside two-byte mode `24` or `28`
 abbrev pub is_held : Mode → Held → Bool
@@ -147,22 +147,22 @@ is_held mode (Byte b) = is_iso_2022_jp_byte (mode_meaning mode) b
 is_held mode (Begun s) = true
 is_held mode (Whole e s) = true
 
--- a byte alone outside two-byte mode is written before anything is read
+-- a byte held back alone outside two-byte mode is written before the next byte is read
 abbrev pub is_resting : Mode → Held → Bool
 is_resting mode (Byte b) = is_two_byte_mode (mode_meaning mode)
 is_resting mode (Begun s) = true
 is_resting mode (Whole e s) = true
 
--- ---- without a byte
+-- ---- moves that read no byte
 
--- the scalar that is to be written first: of `24` or `28`, outside two-byte mode
+-- the scalar to write first: `24` or `28`, outside two-byte mode
 abbrev pub pending : Mode → Held → Option ℕ
 pending mode (Byte b) = single mode b
 pending mode (Begun s) = None
 pending mode (Whole e s) = None
 
--- The end of input, with nothing to write: it reports one malformed byte, and this is the mode and what is held back
--- then; or nothing is left.
+-- The end of the input, with no scalar to write: one malformed byte is reported, and this is the mode and what is held
+-- back after it. `None`: nothing is left.
 abbrev pub finish_start : Mode → Start → Option (Mode × Held)
 finish_start mode Nothing = None
 finish_start mode EscapeByte = Some (mode, Begun Nothing)

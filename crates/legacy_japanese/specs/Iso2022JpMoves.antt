@@ -1,4 +1,4 @@
--- What the steps of an ISO-2022-JP decoder are to the loop of all decoders.
+-- The steps of the ISO-2022-JP decoder, as the decoders' loop sees them.
 use Rattle.std.specs.Prelude.{ℕ, ◌+◌, ◌-◌, ◌<◌, List, [], ◌∷◌, Bool, true, false, Option, Some, None, length}
 use Rattle.std.specs.Char.{IsScalar}
 use Rattle.legacy_base.specs.declared.results.DecodeEvent.{DecodeEvent}
@@ -15,7 +15,7 @@ use Rattle.legacy_japanese.specs.declared.iso_2022_jp.steps.Held.TheVariants.{By
 use Rattle.legacy_japanese.specs.declared.iso_2022_jp.steps.Outcome.{Outcome}
 use Rattle.legacy_japanese.specs.Iso2022JpMachine.{mode_meaning, start_bytes, bytes_of}
 
--- the state with this index, in this mode, with this held back
+-- the state with this index, this mode and these held-back bytes
 abbrev pub state_in : List ℕ → Mode → Held → DecoderState
 state_in jis0208 mode held = record { grammar = iso_2022_jp jis0208 (mode_meaning mode); held = bytes_of held }
 
@@ -24,37 +24,37 @@ abbrev pub is_left : Action → Bool
 is_left Leaves = true
 is_left _ = false
 
--- the events of a move behind which so many bytes are done with
+-- the events of a move that has consumed `taken` bytes
 abbrev pub move_events : ℕ → Action → List DecodeEvent
 move_events taken Holds = []
 move_events taken (Writes c) = Scalar c ∷ []
 move_events taken (Reports a) = Bad (taken - a) a ∷ []
 move_events taken Leaves = Bad (taken - 1) 1 ∷ []
 
--- how often a move takes the room of a scalar
+-- the number of scalars for which a move needs room
 abbrev pub rooms_of : Action → ℕ
 rooms_of Holds = 0
 rooms_of (Writes c) = 1
 rooms_of (Reports a) = 1
 rooms_of Leaves = 1
 
--- what the loop is told of a move behind which so many bytes are held back
+-- what the loop gets from a move after which `back` bytes are held back
 abbrev pub fed_by : Action → ℕ → Fed
 fed_by Holds back = Nothing
 fed_by (Writes c) back = One c
 fed_by (Reports a) back = Fault a back false
 fed_by Leaves back = Fault 1 back true
 
--- what the loop is told of a step
+-- what the loop gets from a step
 abbrev pub fed_of : Outcome → Fed
 fed_of o = fed_by o.action (length (bytes_of o.held))
 
--- what the loop is told of the end of the input: one malformed byte, and how many are held back behind it
+-- what the loop gets at the end of the input: one malformed byte, and the number of bytes still held back
 abbrev pub report_of : Option (Mode × Held) → Option (ℕ × ℕ)
 report_of None = None
 report_of (Some o) = Some (1, length (bytes_of o.1))
 
--- how many bytes to come those held back are worth: a whole escape counts as one
+-- the number of input bytes that the held-back bytes count as in a length; a whole escape counts as one
 abbrev pub weight_of : Held → ℕ
 weight_of (Byte b) = 1
 weight_of (Begun s) = length (start_bytes s)
@@ -64,7 +64,7 @@ weight_of (Whole e s) = 1 + length (start_bytes s)
 abbrev pub IsNarrowScalar : ℕ → Type 0
 IsNarrowScalar c = (c < 0x1_0000) × IsScalar c
 
--- a move writes no other
+-- a move writes no scalar above U+FFFF
 abbrev pub IsNarrow : Action → Type 0
 IsNarrow (Writes c) = IsNarrowScalar c
 IsNarrow _ = Unit {0}

@@ -1,4 +1,4 @@
--- What an ISO-2022-JP decoder reads in runs.
+-- The runs of the ISO-2022-JP decoder.
 use Rattle.std.specs.Prelude.{◌≡◌, ◌≢◌, ℕ, ◌<◌, List, [], ◌∷◌, length, take, get_or}
 use Rattle.legacy_base.specs.Grammar.{Grammar, iso_2022_jp}
 use Rattle.legacy_base.specs.Iso2022Jp.{esc, two_byte}
@@ -10,7 +10,7 @@ use Rattle.legacy_japanese.specs.declared.iso_2022_jp.steps.Held.TheVariants.{Be
 use Rattle.legacy_japanese.specs.Iso2022JpMachine.{second_of, third_of}
 use Rattle.legacy_japanese.specs.Iso2022JpMoves.{state_in}
 
--- an ASCII byte that is a scalar in ASCII mode, and no escape byte
+-- an ASCII byte that is itself in ASCII mode, and not the escape byte
 abbrev pub IsPlain : ℕ → Type 0
 IsPlain b = (b < 0x80) × (b ≢ 0x0E) × (b ≢ 0x0F) × (b ≢ esc)
 
@@ -18,12 +18,12 @@ IsPlain b = (b < 0x80) × (b ≢ 0x0E) × (b ≢ 0x0F) × (b ≢ esc)
 abbrev pub run_state : List ℕ → Mode → DecoderState
 run_state jis0208 mode = state_in jis0208 mode (Begun Nothing)
 
--- the bytes begin with the escape, and a byte that is no escape byte stands behind it
+-- the bytes begin with the escape, and the byte after it is not the escape byte
 pub record HasEscape (escape : Escape) (bytes : List ℕ) : Type 0 where
   pub within : 3 < length bytes
   pub begins : take 3 bytes ≡ esc ∷ second_of escape ∷ third_of escape ∷ []
   pub alone : get_or bytes 3 0 ≢ esc
 
--- the grammar of pairs
+-- the grammar in two-byte mode
 abbrev pub pairs_grammar : List ℕ → Grammar
 pairs_grammar jis0208 = iso_2022_jp jis0208 two_byte

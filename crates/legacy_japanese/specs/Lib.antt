@@ -1,4 +1,4 @@
--- How the codecs work inside: nothing here has to be believed. What they promise is said by legacy_base.
+-- The internal definitions of the codecs. The promises of the codecs are in legacy_base and do not depend on these.
 pub mod EucJpCodes
 pub mod EucJpHeld
 pub mod EucJpDecoder

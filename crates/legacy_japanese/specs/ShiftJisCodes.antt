@@ -1,4 +1,4 @@
--- What is shown of the codes of Shift_JIS.
+-- The bytes of the codes of Shift_JIS.
 use Rattle.std.proofs.Common.{ℕ, ◌≢◌, ◌+◌, ◌*◌, ◌/◌, ◌%◌, ◌≤◌, ◌==◌, List, refl, arith, ◌||◌, Bool, true, false, nat_lt}
 use Rattle.std.specs.Prelude.{if◌then◌else◌}
 use Rattle.std.proofs.lemmas.Bool.{lt-ltb}
@@ -24,7 +24,7 @@ pub shift_jis_pairs : (jis0208 : List ℕ) → IsPairCodec (shift_jis jis0208)
 unfolding shift_jis_code
 shift_jis_pairs jis0208 = record { code = shift_jis_code jis0208; profile_is = refl; ascii = λ c h. rw (lt-ltb c 128 h) refl; short = short jis0208 }
 
--- the lead and the trail of a pointer as one number, the lead in the low byte
+-- the lead and the trail of a pointer as one number, with the lead in the low byte
 abbrev pub shift_jis_mark : ℕ → ℕ
 shift_jis_mark p =
     (p / 188 + (if nat_lt (p / 188) 0x1F then 0x81 else 0xC1))

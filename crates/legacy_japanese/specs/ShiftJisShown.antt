@@ -1,4 +1,4 @@
--- What is shown of Shift_JIS.
+-- The steps of Shift_JIS agree with its grammar.
 use Rattle.std.proofs.Common.{◌≡◌, ℕ, ◌+◌, ◌-◌, ◌<◌, ◌≤◌, List, [], ◌∷◌, Option, Some, None, Bool, true, false, cond, refl, ◌||◌, ◌==◌, arith}
 use Rattle.std.proofs.lemmas.Bool.{or_parts}
 use Rattle.std.proofs.lemmas.Bool.Decides.{nat_tests}
@@ -23,7 +23,7 @@ use Rattle.legacy_decoder_engine.proofs.TwoByteShown.{HasTwoByteRooms, lead_code
 use Rattle.legacy_decoder_engine.specs.LeadCodecs.{IsLeadCodec}
 use Rattle.legacy_tables.proofs.Accepted.{jis0208-below}
 
--- the bytes before those of leads
+-- no ASCII byte is a lead
 no_lead : (b : ℕ) → is_ascii b ≡ true → is_shift_jis_lead b ≡ false
 no_lead b h = grind (arith, nat_tests)
 

@@ -1,4 +1,4 @@
-//! The scalars whose codes in Shift_JIS and in EUC-JP are not those of their own pointers.
+//! The scalars whose codes in Shift_JIS and EUC-JP are not those of their own pointers.
 ghost use Rattle.std.specs.Prelude.{◌≡◌, length};
 ghost use Rattle.legacy_encoder_engine.specs.CachedPairs.{AreAllPairsOf, AreRightWhere};
 ghost use Rattle.legacy_japanese.specs.ByPointer.{goes_by_pointer};
@@ -6,7 +6,9 @@ ghost use Rattle.legacy_japanese.specs.ByPointer.{goes_by_pointer};
 use legacy_encoder_engine::asked_pairs::ask_pairs;
 use legacy_encoder_engine::plain_codes::PlainCodes;
 
-/// Looks up the codes of these scalars, and writes their entries into a list that has those of all others.
+/// Looks up the codes of these scalars, and writes their entries into the list.
+///
+/// The list already has the entries of all other scalars.
 pub(crate) fn ask_others<C: PlainCodes>(codes: &C, entries: &mut [u16])
     requires { length entries.old ≡ 65536 }
     ensures { AreRightWhere (C.codec codes.now) goes_by_pointer entries.old →

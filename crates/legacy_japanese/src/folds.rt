@@ -1,8 +1,8 @@
-//! What stands for a scalar when index jis0208 is searched.
+//! Scalars that are replaced before the search in index jis0208.
 ghost use Rattle.std.specs.Prelude.{◌≡◌, ◌<◌, ◌≤◌, true};
 ghost use Rattle.legacy_tables.specs.Pointers.{minus_as_hyphen};
 
-/// The full-width hyphen-minus for the minus sign, and any other scalar itself.
+/// Returns U+FF0D for the minus sign U+2212, and any other scalar unchanged.
 #[inline]
 pub fn minus_as_hyphen(c: char) -> char
     ensures { result ≡ minus_as_hyphen c }
@@ -10,8 +10,9 @@ pub fn minus_as_hyphen(c: char) -> char
     if c == '\u{2212}' { '\u{FF0D}' } else { c }
 }
 
-/// Whether a scalar is one of U+2213 to U+FF60, as most of Japanese text are: in each encoding it is looked
-/// up in index jis0208, and as it is.
+/// Returns whether a scalar is one of U+2213 to U+FF60, as most of Japanese text is.
+///
+/// Each encoding looks up these scalars unchanged in index jis0208.
 #[inline(always)]
 pub fn is_by_index(c: char) -> bool
     ensures { result ≡ true → (0x2213 ≤ c) × (c < 0xFF61) }

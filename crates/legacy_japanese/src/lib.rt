@@ -1,5 +1,6 @@
-//! The legacy multi-byte Japanese encodings (Encoding Standard, section "Legacy multi-byte Japanese
-//! encodings"): EUC-JP, ISO-2022-JP and Shift_JIS.
+//! The legacy multi-byte Japanese encodings: EUC-JP, ISO-2022-JP and Shift_JIS.
+//!
+//! See the Encoding Standard, section "Legacy multi-byte Japanese encodings".
 #![tactic(auto)]
 
 mod asked_scalars;

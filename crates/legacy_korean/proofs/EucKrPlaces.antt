@@ -7,7 +7,7 @@ use Rattle.legacy_decoder_engine.specs.Places.{IsPointer, IsTableOf, lead_place}
 use Rattle.legacy_korean.specs.declared.euc_kr.places.TheConstants.{TRAILS}
 use Rattle.legacy_decoder_engine.proofs.PairPlaces.{pointer_at}
 
--- the place of a trail in its row, or a number past the end of the index
+-- the place of a trail in its row; a number past the end of the index if the byte is not a trail
 unfoldable pub euc_kr_trail_place : ℕ → ℕ
 euc_kr_trail_place trail = if is_in_range 0x41 0xFE trail then trail - 0x41 else 65535
 

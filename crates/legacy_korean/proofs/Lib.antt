@@ -1,3 +1,3 @@
--- How each decoder keeps to its codec.
+-- Each coder keeps to its codec.
 pub mod EucKrPlaces
 pub mod EucKrWalk

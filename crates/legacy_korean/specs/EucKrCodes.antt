@@ -1,4 +1,4 @@
--- What is shown of the codes of EUC-KR.
+-- The bytes of the codes of EUC-KR.
 use Rattle.std.proofs.Common.{ℕ, ◌≢◌, ◌+◌, ◌*◌, ◌/◌, ◌%◌, ◌≤◌, List, refl, arith}
 use Rattle.std.proofs.lemmas.Bool.{lt-ltb}
 use Rattle.legacy_base.specs.EncodeEvents.{code_length}
@@ -16,7 +16,7 @@ pub euc_kr_pairs : (index : List ℕ) → IsPairCodec (euc_kr index)
 unfolding euc_kr_code
 euc_kr_pairs index = record { code = euc_kr_code index; profile_is = refl; ascii = λ c h. rw (lt-ltb c 128 h) refl; short = short index }
 
--- the lead and the trail of a pointer as one number, the lead in the low byte
+-- the lead and the trail of a pointer as one number, with the lead in the low byte
 abbrev pub euc_kr_mark : ℕ → ℕ
 euc_kr_mark p = (p / 190 + 0x81) + 256 * (p % 190 + 0x41)
 

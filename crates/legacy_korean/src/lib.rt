@@ -1,5 +1,6 @@
-//! The legacy multi-byte Korean encoding (Encoding Standard, section "Legacy multi-byte Korean encodings"):
-//! EUC-KR.
+//! The legacy multi-byte Korean encoding, EUC-KR.
+//!
+//! See the Encoding Standard, section "Legacy multi-byte Korean encodings".
 #![tactic(auto)]
 
 mod euc_kr;

@@ -19,7 +19,7 @@ none_held : (held : List ℕ) → is_empty held ≡ true → length held ≡ 0
 none_held [] h = refl
 none_held (b ∷ held) h = absurd (false≢true h)
 
--- the length of nothing but one U+FFFD
+-- the length queries have room for one U+FFFD
 one_fits : (query : LengthQuery) (held : List ℕ) (n : ℕ) → bmp_room (query_form query) ≤ room query (state_of (replacement false) held) n
 one_fits to_utf16 held n = omega arith
 one_fits _ held n = omega arith

@@ -9,13 +9,13 @@ use Rattle.legacy_base.specs.States.{state_of}
 use Rattle.legacy_decoder_engine.proofs.Feeding as moves
 use Rattle.legacy_miscellaneous.proofs.ReplacementShown.{replacement_shown}
 
--- the first byte is reported
+-- the first byte is reported as malformed
 pub feeds_first : (reported : Bool) (b : ℕ) → IsByte b → reported ≡ false →
     Feeds (state_of (replacement reported) []) b (state_of (replacement true) []) (Fault 1 0 false)
 feeds_first reported b byte e =
     rw e (moves.feeds (replacement_shown false) [] refl (All-nil IsByte) b byte refl (Fault 1 0 false) [] (record { answer = refl; holds = refl; scalar = tt }))
 
--- each byte behind it is swallowed
+-- each byte after it is dropped
 pub feeds_more : (reported : Bool) (b : ℕ) → IsByte b → reported ≡ true →
     Feeds (state_of (replacement reported) []) b (state_of (replacement reported) []) Nothing
 feeds_more reported b byte e =

@@ -22,7 +22,7 @@ user_defined_ascii = has_ascii user_defined_shown (λ b. refl) (λ b h. let a = 
 abbrev scalar_is : ℕ → ℕ → Type 0
 scalar_is b c = c ≡ cond (is_ascii b) b (0xF780 + (b - 0x80))
 
--- any byte is a run by itself
+-- each byte is a run of its own
 pub is_single : (b c : ℕ) → b < 2 ^ 8 → IsScalar c → scalar_is b c → IsSingle user_defined b c
 is_single b c byte scalar e = go (is_ascii b) refl e
   where
@@ -30,7 +30,7 @@ is_single b c byte scalar e = go (is_ascii b) refl e
     go true t e = (omega arith, single_runs user_defined_shown b c byte scalar refl (rw (t, e) refl))
     go false t e = (omega arith, single_runs user_defined_shown b c byte scalar refl (rw (t, e) refl))
 
--- and the step of the machine
+-- the machine's step gives the same scalar
 pub takes_step : (b c : ℕ) → IsScalar c → scalar_is b c → Took (user_defined_first b) [] b (One c) []
 takes_step b c scalar e = go (is_ascii b) e
   where

@@ -1,4 +1,4 @@
--- The events of UTF-16 by way of units are those of the fronts.
+-- The events of UTF-16 by units are those by fronts.
 use Rattle.std.proofs.Common.{◌≡◌, ℕ, ◌+◌, ◌*◌, List, [], ◌∷◌, ◌++◌, Bool, true, false, cond, refl, sym, ap, ◌∙◌, ◌||◌, ◌&&◌, arith}
 use Rattle.std.proofs.lemmas.Bool.{and_left, and_right}
 use Rattle.std.specs.Char.Utf16.{is_high_surrogate, is_low_surrogate, surrogate_pair_char}
@@ -23,7 +23,7 @@ unpaired i u v units odd e = rw (e, units_events)
 
 -- ---- fronts
 
--- two bytes of a lone unit
+-- two bytes of an unpaired unit
 cut_lone : (front : ℕ → List ℕ → Front) (i u a b : ℕ) (rest : List ℕ) → front a (b ∷ rest) ≡ lone_unit_front u →
     cut front 0 (2 * i) (a ∷ b ∷ rest) ≡ lone_unit_events i u ++ cut front 0 (2 * (i + 1)) rest
 cut_lone front i u a b rest h = go (is_high_surrogate u || is_low_surrogate u) h

@@ -1,4 +1,4 @@
--- What a UTF-16 decoder holds back is what its machine may hold back.
+-- What a UTF-16 decoder holds back is what its machine allows.
 use Rattle.std.proofs.Common.{◌≡◌, ◌≢◌, ℕ, ◌<◌, List, [], ◌∷◌, length, Bool, true, false, refl, arith, Some}
 use Rattle.std.proofs.lemmas.Bool.Decides.{nat_tests}
 use Rattle.std.proofs.lemmas.List.Elements.{All-nil, All-cons}
@@ -20,7 +20,7 @@ use Rattle.legacy_miscellaneous.specs.Utf16Decoder.{first_byte, second_byte, hel
 use Rattle.legacy_decoder_engine.proofs.Feeding as moves
 use Rattle.legacy_miscellaneous.proofs.Utf16Shown.{utf16_shown}
 
--- the two bytes of a unit make the unit
+-- the two bytes of a unit give the unit
 pub unit_of-bytes : (be : Bool) (u : ℕ) → unit_of be (first_byte be u) (second_byte be u) ≡ u
 unit_of-bytes true u = omega arith
 unit_of-bytes false u = omega arith
@@ -81,7 +81,7 @@ module _ (be : Bool) where
   pub reports : (h : Held) → rests (utf16 be) (held_bytes be h) ≡ true → held_bytes be h ≢ [] → Reports (state_of (utf16 be) (held_bytes be h)) (state_of (utf16 be) []) (length (held_bytes be h)) 0
   reports h r some = moves.reports_all (utf16_shown be) (held_bytes be h) (may h) (bytes h) r some
 
-  -- there is something to report exactly where something is held back
+  -- there is something to report exactly if something is held back
   pub ends_none : events_of (utf16 be) [] ≡ []
   ends_none = moves.ends_none (utf16_shown be) [] refl (All-nil IsByte) refl refl
 

@@ -22,7 +22,7 @@ module _ (be : Bool) where
   unfolding events_of utf16_events
   ev_is bytes = utf16_cut be 0 bytes
 
-  -- a unit that is no high surrogate is a front by itself
+  -- a unit that is not a high surrogate is a front of its own
   front_lone : (a b : ℕ) (more : List ℕ) → is_high_surrogate (unit_of be a b) ≡ false → utf16_front be a (b ∷ more) ≡ lone_unit_front (unit_of be a b)
   unfolding utf16_front
   front_lone a b [] h = refl
@@ -65,7 +65,7 @@ module _ (be : Bool) where
   few_held (a ∷ b ∷ c ∷ d ∷ held) h = absurd (false≢true h)
   few_held held h = omega arith
 
-  -- ---- a unit that is to be written
+  -- ---- a held-back unit
 
   pending : (a b : ℕ) → utf16_may_hold be (a ∷ b ∷ []) ≡ true → (t : Bool) → is_high_surrogate (unit_of be a b) ≡ t →
       PendingMeets (utf16 be) (a ∷ b ∷ []) (cond t None (Some (2, unit_of be a b)))
@@ -94,7 +94,7 @@ module _ (be : Bool) where
   all_end (a ∷ b ∷ c ∷ []) h r = end_meets (utf16 be) (utf16_front be) ev_is a (b ∷ c ∷ []) (rw h)
   all_end (a ∷ b ∷ c ∷ d ∷ held) h r = absurd (false≢true h)
 
-  -- each front has a byte or more
+  -- each front has at least one byte
   some_cond : (t : Bool) (f g : Front) → 0 < front_length f → 0 < front_length g → 0 < front_length (cond t f g)
   some_cond true f g h k = h
   some_cond false f g h k = k

@@ -31,7 +31,7 @@ unit_below : (be : Bool) (a b : ℕ) → IsByte a → IsByte b → unit_of be a 
 unit_below true a b h k = omega arith
 unit_below false a b h k = omega arith
 
--- a unit that is no surrogate is a run by itself
+-- a unit that is not a surrogate is a run of its own
 pub unit_pair : (be : Bool) (a b : ℕ) → IsByte a → IsByte b → IsScalar (unit_of be a b) → IsPair (utf16 be) a b (unit_of be a b)
 unit_pair be a b byte byte' scalar =
     let high = not_high (unit_of be a b) scalar in
@@ -65,7 +65,7 @@ units_run be source units (suc r) bytes within room are =
     subst (λ l. Runs (utf16 be) l (take (suc r) units)) (sym taken) (subst (λ l. Runs (utf16 be) (take (2 * r) source ++ a ∷ b ∷ []) l) (sym scalars)
     (runs_more (utf16 be) (take (2 * r) source) (a ∷ b ∷ []) (take r units) (u ∷ []) before one))
 
--- and they were written
+-- these scalars were written
 pub writes_units : {D : Type 0} (T : Ghosts D) (be : Bool) (source units : List ℕ) {old new : D} (r : ℕ) → ((k : ℕ) → IsByte (get_or source k 0)) → 2 * r ≤ length source → r ≤ length units
     → ((k : ℕ) → k < r → (get_or units k 0 ≡ unit_at be source k) × IsScalar (get_or units k 0))
     → T.contents new ≡ T.contents old ++ all_code_units T.form (take r units) → T.room new + total_unit_count T.form (take r units) ≡ T.room old → T.loan new ≡ T.loan old
@@ -82,7 +82,7 @@ writes_units T be source units r bytes within room are contents room' loan = rec
 pub below_scalar : (c : ℕ) → c < 0x800 → IsScalar c
 below_scalar c h = search rules
 
--- a block of which so many units of ASCII were written
+-- a block of which `r` units of ASCII were written
 pub reads_block : {D : Type 0} (T : Ghosts D) (be : Bool) (source block : List ℕ) (old new : D) (r : ℕ) → ((k : ℕ) → IsByte (get_or source k 0))
     → 32 ≤ length source → length block ≡ 16 → HasAsciiUnits be source block 16 → r ≤ length block → IsAscii (take r block)
     → T.contents new ≡ T.contents old ++ take r block → T.room new + r ≡ T.room old → T.loan new ≡ T.loan old → 19 ≤ T.room old → ReadsAhead T (new_state (utf16 be)) source (2 * r) old new
@@ -95,13 +95,13 @@ reads_block T be source block old new r bytes within long narrow count ascii con
     (writes_units T be source block r bytes (omega arith) count (λ k h. (sym (narrow k (omega arith) (low k h)), below_scalar (get_or block k 0) (omega (arith, low k h))))
     (contents ∙ ap (λ units. T.contents old ++ units) (sym same)) (omega (arith, ap length same, l, room)) loan) (omega arith) (omega arith)
 
--- ---- eight units more
+-- ---- eight more units
 
--- the bytes of the rest of a source are bytes
+-- each byte of the rest of a source is a byte
 pub rest_bytes : (source : List ℕ) (at : ℕ) → ((k : ℕ) → IsByte (get_or source k 0)) → (k : ℕ) → IsByte (get_or (take (length source - at) (drop at source)) k 0)
 rest_bytes source at bytes k = subst (λ l. IsByte (get_or l k 0)) (sym (rest_of source at)) (subst IsByte (sym (get_or-drop at source k 0)) (bytes (at + k)))
 
--- a unit of that rest
+-- a unit of the rest of a source
 pub rest_unit : (be : Bool) (source : List ℕ) (group k : ℕ) → unit_at be (take (length source - 16 * group) (drop (16 * group) source)) k ≡ unit_at be source (8 * group + k)
 rest_unit be source group k =
     let first : 16 * group + 2 * k ≡ 2 * (8 * group + k) = omega arith in
@@ -125,13 +125,13 @@ writes_eight T be source units {old} {mid} {new} group bytes within long before 
     (writes_run T source at 16 before (writes_units T be rest units 8 (rest_bytes source at bytes) enough (omega arith) are
     (contents ∙ ap (λ l. T.contents mid ++ all_code_units T.form l) (sym all)) room' loan))
 
--- eight units have three code units each at most
+-- eight units have at most three code units each
 pub few_units : (form : EncodingForm) (be : Bool) (source units : List ℕ) → ((k : ℕ) → IsByte (get_or source k 0)) → length units ≡ 8 → ((k : ℕ) → k < 8 → get_or units k 0 ≡ unit_at be source k)
     → total_unit_count form units ≤ 24
 few_units form be source units bytes long are =
     omega (arith, long, all_short form units (λ k h. subst (λ u. u < 65536) (sym (are k (omega arith))) (unit_below be (get_or source (2 * k) 0) (get_or source (2 * k + 1) 0) (bytes (2 * k)) (bytes (2 * k + 1)))))
 
--- units of a source that is below U+0800 there are so too
+-- eight units of a source that is below U+0800 are below it
 pub short_eight : (be : Bool) (source units : List ℕ) (group : ℕ) → AreUnitsBelow be source 64 0x800 → group < 8
     → ((k : ℕ) → k < 8 → get_or units k 0 ≡ unit_at be (take (length source - 16 * group) (drop (16 * group) source)) k) → (k : ℕ) → k < 8 → get_or units k 0 < 0x800
 short_eight be source units group below h are k l = subst (λ u. u < 0x800) (sym (are k l ∙ rest_unit be source group k)) (below (8 * group + k) (omega arith))

@@ -22,7 +22,7 @@ use Rattle.legacy_decoder_engine.proofs.SettledSteps.{write_test}
 use Rattle.legacy_decoder_engine.proofs.Widths.{width_of}
 use Rattle.legacy_decoder_engine.proofs.RoomMoves.{no_short_room, cond_most}
 
--- What a step is to write: `narrow` for each two bytes that the input and what is held back have less.
+-- What a step writes: at most `narrow` for each two bytes by which input and held-back bytes become fewer.
 record Halved (len : ℕ → ℕ) (narrow wide : ℕ) (held : List ℕ) (b : ℕ) (s : Step) : Type 0 where
   pairs : ℕ
   fits : step_units len narrow s ≤ wide
@@ -41,7 +41,7 @@ unit_below false a b h k = omega arith
 byte_at : (held : List ℕ) (i : ℕ) → AreBytes held → i < length held → get_or held i 0 < 0x100
 byte_at held i h l = h i 0 l
 
--- the room of `held` bytes and n to come falls by u where these have 2 * pairs fewer
+-- the room falls by at least u if the bytes to come and those held back become fewer by 2 * pairs
 abbrev IsHalved : (DecoderState → ℕ → ℕ) → Bool → ℕ → Type 0
 IsHalved room be narrow = (held held' : List ℕ) (n n' u pairs : ℕ) → u ≤ narrow * pairs →
     (n' + length held') + 2 * pairs ≤ n + length held → room (state_of (utf16 be) held') n' + u ≤ room (state_of (utf16 be) held) n
@@ -70,7 +70,7 @@ module _ (be : Bool) where
         step_units len narrow (utf16_step be held b) ≤ act_room narrow wide (state_of (utf16 be) held) (takes b)
     step_fits held b h r bytes byte = rw (no_short_room _ 1 wide) ((halved held b h r bytes byte).fits)
 
-    -- a unit that is written
+    -- a written unit is covered by the room
     unit_pays : (room : DecoderState → ℕ → ℕ) → IsHalved room be narrow →
         (held : List ℕ) → utf16_may_hold be held ≡ true → AreBytes held → WritePays len narrow wide room (utf16 be) held (utf16_pending be held)
     unit_pays room falls [] h bytes = tt
@@ -97,7 +97,7 @@ module _ (be : Bool) where
   falls to_utf16 = λ held held' n n' u pairs h k. omega arith
   falls _ = λ held held' n n' u pairs h k. omega arith
 
-  -- a malformed sequence is no more than a scalar of its length, or is not counted
+  -- a malformed sequence needs no more room than a scalar of its length, or is not counted
   fewer_units : (query : LengthQuery) (len : ℕ → ℕ) (s : Step) → step_units len (replacement_units query) s ≤ step_units len (bmp_room (query_form query)) s
   fewer_units to_utf16 len s = omega arith
   fewer_units to_utf8 len s = omega arith
@@ -105,7 +105,7 @@ module _ (be : Bool) where
   fewer_units to_utf8_without_replacement len (finish (malformed n)) = omega arith
   fewer_units to_utf8_without_replacement len s = omega arith
 
-  -- the length of a byte to come covers any scalar, and that of a byte held back one up to U+FFFF
+  -- the length for a byte to come covers any scalar, and that for a held-back byte one up to U+FFFF
   byte_covered : (query : LengthQuery) (held : List ℕ) (n : ℕ) → 0 < n → wide_room (query_form query) ≤ room query (state_of (utf16 be) held) n
   byte_covered to_utf16 held n p = omega arith
   byte_covered _ held n p = omega arith

@@ -24,13 +24,13 @@ lane n bytes k are long h =
     get_or_wider 256 2 65536 n bytes k refl (Each1-from_get_or (λ x. x < 256) bytes 0 (λ i l. are i (omega arith))) h
     ∙ pair (drop (2 * k) bytes) rest ∙ rw (high, low, same) refl
 
--- units whose second byte is the high one
+-- units in little-endian order
 pub little : (n : ℕ) (src : List ℕ) → 2 * n ≤ length src → ((i : ℕ) → IsByte (get_or src i 0)) → (k : ℕ) → k < n → get_or (digits_l 65536 n (number_l 256 (take (2 * n) src))) k 0 ≡ unit_at false src k
 little n src within are k h =
     lane n (take (2 * n) src) k (λ i l. subst IsByte (sym (get_or-take (2 * n) src i 0 l)) (are i)) (length-take-le (2 * n) src within) h
     ∙ rw (get_or-take (2 * n) src (2 * k) 0 (omega arith), get_or-take (2 * n) src (2 * k + 1) 0 (omega arith)) refl
 
--- ---- units whose first byte is the high one: their bytes are swapped
+-- ---- units in big-endian order: the bytes of each are swapped
 
 swapped_lane : (n : ℕ) (src bytes : List ℕ) → length bytes ≡ 2 * n → ((k : ℕ) → k < n → (get_or bytes (2 * k) 0 ≡ get_or src (2 * k + 1) 0) × (get_or bytes (2 * k + 1) 0 ≡ get_or src (2 * k) 0))
     → ((i : ℕ) → IsByte (get_or src i 0)) → (k : ℕ) → k < n → get_or (digits_l 65536 n (number_l 256 bytes)) k 0 ≡ unit_at true src k
@@ -49,7 +49,7 @@ swapped_lane n src bytes long at are k h = lane n bytes k (λ i l. byte i l) lon
 front : (n : ℕ) (src : List ℕ) (j : ℕ) → n ≤ length src → j < n → get_or (take n src ++ take n src) j 0 ≡ get_or src j 0
 front n src j within h = let l = length-take-le n src within in get_or_append_left (take n src) (take n src) 0 j (omega arith) ∙ get_or-take n src j 0 h
 
--- the bytes of eight units, swapped in each
+-- the bytes of eight units, swapped in each unit
 abbrev eight : List ℕ → List ℕ
 eight src = get_or (take 16 src ++ take 16 src) 1 0 ∷ get_or (take 16 src ++ take 16 src) 0 0 ∷ get_or (take 16 src ++ take 16 src) 3 0 ∷ get_or (take 16 src ++ take 16 src) 2 0 ∷ get_or
     (take 16 src ++ take 16 src) 5 0 ∷ get_or (take 16 src ++ take 16 src) 4 0 ∷ get_or (take 16 src ++ take 16 src) 7 0 ∷ get_or (take 16 src ++ take 16 src) 6 0 ∷ get_or
@@ -67,7 +67,7 @@ eight_at src within (suc (suc (suc (suc (suc (suc zero)))))) h = (front 16 src 1
 eight_at src within (suc (suc (suc (suc (suc (suc (suc zero))))))) h = (front 16 src 15 within (omega arith), front 16 src 14 within (omega arith))
 eight_at src within (suc (suc (suc (suc (suc (suc (suc (suc n)))))))) h = absurd (omega arith)
 
--- the bytes of sixteen units, swapped in each
+-- the bytes of sixteen units, swapped in each unit
 abbrev sixteen : List ℕ → List ℕ
 sixteen src = get_or (take 32 src ++ take 32 src) 1 0 ∷ get_or (take 32 src ++ take 32 src) 0 0 ∷ get_or (take 32 src ++ take 32 src) 3 0 ∷ get_or (take 32 src ++ take 32 src) 2 0 ∷ get_or
     (take 32 src ++ take 32 src) 5 0 ∷ get_or (take 32 src ++ take 32 src) 4 0 ∷ get_or (take 32 src ++ take 32 src) 7 0 ∷ get_or (take 32 src ++ take 32 src) 6 0 ∷ get_or

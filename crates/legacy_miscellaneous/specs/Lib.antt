@@ -1,4 +1,4 @@
--- How the codecs work inside: nothing here has to be believed. What they promise is said by legacy_base.
+-- How the codecs work inside. Nothing here has to be believed: legacy_base says what they promise.
 pub mod ReplacementDecoder
 pub mod ReplacementMachine
 pub mod UserDefinedCodes

@@ -5,7 +5,7 @@ use Rattle.legacy_base.specs.Grammar.{replacement}
 use Rattle.legacy_decoder_engine.specs.Steps.{no_pending}
 use Rattle.legacy_decoder_engine.specs.Steps.{Step, finish, DecoderMachine}
 
--- the fault is reported once, and then each byte is swallowed
+-- the malformed sequence is reported once, and each later byte is dropped
 abbrev pub replacement_first : Bool → Step
 replacement_first reported = if reported then finish (reads 1 []) else finish (malformed 1)
 

@@ -1,7 +1,7 @@
--- What the x-user-defined encoder is between two calls: nothing changes.
+-- The state of the x-user-defined encoder between two calls: it never changes.
 use Rattle.legacy_base.specs.Encoders.{EncoderState, new_encoder, user_defined}
 use Rattle.legacy_miscellaneous.specs.declared.user_defined.encoder.UserDefinedEncoder.{UserDefinedEncoder}
 
--- the state that its calls speak of
+-- the state in the contracts of its calls
 abbrev pub user_defined_encoder_state : UserDefinedEncoder → EncoderState
 user_defined_encoder_state encoder = new_encoder user_defined

@@ -1,4 +1,4 @@
--- What the UTF-16 decoder is between two calls.
+-- The state of the UTF-16 decoders between two calls.
 use Rattle.std.specs.Prelude.{◌≡◌, ℕ, ◌+◌, ◌*◌, ◌<◌, length, slice_index, ◌/◌, ◌%◌, List, [], ◌∷◌, Bool, if◌then◌else◌}
 use Rattle.legacy_base.specs.Grammar.{Grammar, utf16}
 use Rattle.legacy_base.specs.Utf16.{unit_of}
@@ -8,14 +8,14 @@ use Rattle.legacy_miscellaneous.specs.declared.utf16.held.Held.TheVariants.{Noth
 use Rattle.legacy_miscellaneous.specs.declared.utf16.decoder.Utf16Decoder.{Utf16Decoder}
 use Rattle.legacy_miscellaneous.specs.declared.utf16.runs.Units.{Units}
 
--- the first byte of a unit, in the byte order, and the second
+-- the first and the second byte of a unit, in the byte order
 abbrev pub first_byte : Bool → ℕ → ℕ
 first_byte big_endian u = if big_endian then u / 0x100 else u % 0x100
 
 abbrev pub second_byte : Bool → ℕ → ℕ
 second_byte big_endian u = if big_endian then u % 0x100 else u / 0x100
 
--- the bytes that are held back
+-- the held-back bytes
 abbrev pub held_bytes : Bool → Held → List ℕ
 held_bytes big_endian Nothing = []
 held_bytes big_endian (Odd odd) = odd.byte ∷ []
@@ -23,19 +23,19 @@ held_bytes big_endian (High high) = first_byte big_endian high.unit ∷ second_b
 held_bytes big_endian (HighOdd high odd) = first_byte big_endian high.unit ∷ second_byte big_endian high.unit ∷ odd.byte ∷ []
 held_bytes big_endian (Pending pending) = first_byte big_endian pending.scalar ∷ second_byte big_endian pending.scalar ∷ []
 
--- the state that its calls speak of
+-- the state in the contracts of its calls
 abbrev pub utf16_state : Utf16Decoder → DecoderState
 utf16_state decoder = record { grammar = utf16 decoder.big_endian; held = held_bytes decoder.big_endian decoder.held }
 
--- the grammar of units in their byte order
+-- the grammar of the byte order
 abbrev pub units_grammar : Units → Grammar
 units_grammar units = utf16 units.big_endian
 
--- the unit at a place
+-- the unit at an index
 abbrev pub unit_at : Bool → List ℕ → ℕ → ℕ
 unit_at big_endian bytes k = unit_of big_endian (slice_index bytes (2 * k)) (slice_index bytes (2 * k + 1))
 
--- where one of the first n numbers of the block is ASCII, the unit is that number
+-- if one of the first n numbers of the block is ASCII, the unit at its index is that number
 abbrev pub HasAsciiUnits : Bool → List ℕ → List ℕ → ℕ → Type 0
 HasAsciiUnits big_endian bytes block n = (k : ℕ) → k < n → slice_index block k < 0x80 → unit_at big_endian bytes k ≡ slice_index block k
 
@@ -43,6 +43,6 @@ HasAsciiUnits big_endian bytes block n = (k : ℕ) → k < n → slice_index blo
 abbrev pub AreBelow : ℕ → List ℕ → Type 0
 AreBelow n units = (k : ℕ) → k < length units → slice_index units k < n
 
--- the first units of the bytes are below a bound
+-- each of the first `count` units of the bytes is below the bound
 abbrev pub AreUnitsBelow : Bool → List ℕ → ℕ → ℕ → Type 0
 AreUnitsBelow big_endian bytes count bound = (k : ℕ) → k < count → unit_at big_endian bytes k < bound

@@ -1,10 +1,10 @@
--- UTF-16 as a list of bytes that is cut into fronts. `utf16_events` goes by way of units; the two give the same.
+-- UTF-16 as fronts of a list of bytes. `utf16_events` goes by units, and both give the same events.
 use Rattle.std.specs.Prelude.{ℕ, List, [], ◌∷◌, Bool, ◌&&◌, ◌||◌, if◌then◌else◌}
 use Rattle.std.specs.Char.Utf16.{is_high_surrogate, is_low_surrogate, surrogate_pair_char}
 use Rattle.legacy_base.specs.Fronts.{Front, reads, malformed}
 use Rattle.legacy_base.specs.Utf16.{unit_of}
 
--- the front of a unit by itself
+-- the front of a unit alone
 abbrev pub lone_unit_front : ℕ → Front
 lone_unit_front u = if is_high_surrogate u || is_low_surrogate u then malformed 2 else reads 2 (u ∷ [])
 

@@ -6,12 +6,12 @@ use Rattle.legacy_base.specs.Utf16.{unit_of}
 use Rattle.legacy_base.specs.Grammar.{utf16}
 use Rattle.legacy_decoder_engine.specs.Steps.{Step, hold, finish, DecoderMachine}
 
--- a unit that is no high surrogate
+-- a held-back unit that is not a high surrogate, which is to be written
 abbrev pub utf16_pending : Bool → List ℕ → Option (ℕ × ℕ)
 utf16_pending big_endian (a ∷ b ∷ []) = if is_high_surrogate (unit_of big_endian a b) then None else Some (2, unit_of big_endian a b)
 utf16_pending big_endian _ = None
 
--- the step at a whole unit with nothing in front of it
+-- the step at a whole unit with no high surrogate before it
 abbrev pub utf16_unit_step : ℕ → Step
 utf16_unit_step u =
     if is_high_surrogate u then hold

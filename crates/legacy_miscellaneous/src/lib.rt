@@ -1,5 +1,6 @@
-//! The legacy miscellaneous encodings (Encoding Standard, section "Legacy miscellaneous encodings"):
-//! replacement, UTF-16 in both byte orders, and x-user-defined.
+//! The legacy miscellaneous encodings: replacement, UTF-16 in both byte orders, and x-user-defined.
+//!
+//! They are the section "Legacy miscellaneous encodings" of the Encoding Standard.
 #![tactic(auto)]
 
 mod replacement;

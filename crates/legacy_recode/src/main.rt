@@ -3,50 +3,36 @@
 #![tactic(auto)]
 
 use legacy_command::arguments::{ArgumentsError, arguments, status_of};
+use legacy_command::host::{files_of, slices_of, words_of};
 use legacy_command::program::run;
 use legacy_command::words::{codec_in, request};
 use std::alloc::Global;
-use std::fs;
-use std::io::{self, ErrorKind, Write};
+use std::io::{self, Write};
 use std::process::ExitCode;
 
-/// The bytes of the file, or `None` where it cannot be read. An error is that memory was refused.
-fn contents(rt: &HostRuntime, path: &str) -> io::Result<Option<Vec<u8>>> {
-    match fs::read(rt, path) {
-        Ok(bytes) => Ok(Some(bytes)),
-        Err(error) if error.kind() == ErrorKind::OutOfMemory => Err(error),
-        Err(_) => Ok(None),
-    }
-}
-
-/// The contents of each FILE among the words, in their order.
-fn files(rt: &HostRuntime, alloc: Global, words: &[&str]) -> io::Result<Vec<Option<Vec<u8>>>> {
-    let mut files = Vec::new(alloc);
+/// Returns the contents of each FILE among the words, in their order. Reads no file if the words are not of the program's
+/// form. An error is that memory was refused.
+fn files_named(
+    rt: &HostRuntime,
+    alloc: Global,
+    words: &[&str],
+) -> io::Result<Vec<Option<Vec<u8>>>> {
     let plain = request(words);
     if codec_in(plain).is_some() {
-        for (place, word) in plain.iter().enumerate() {
-            if place > 0 && place % 2 == 0 {
-                files.push(contents(rt, word)?)?;
-            }
-        }
+        return files_of(rt, alloc, plain);
     }
-    Ok(files)
+    Ok(Vec::new(alloc))
 }
 
-/// Hands the words, the files and the streams to the program.
+/// Hands the words, the files and the streams to the program. An error is that memory was refused.
 fn run_on(rt: &HostRuntime, alloc: Global, arguments: &[String]) -> io::Result<u8> {
-    let mut words: Vec<&str> = Vec::with_capacity(alloc, arguments.len())?;
-    for argument in arguments {
-        words.push(argument.as_str())?;
-    }
-    let files = files(rt, alloc, words.as_slice())?;
-    let mut texts: Vec<Option<&[u8]>> = Vec::with_capacity(alloc, files.len())?;
-    for file in &files {
-        texts.push(file.as_deref())?;
-    }
+    let words = words_of(alloc, arguments)?;
+    let words = words.as_slice();
+    let files = files_named(rt, alloc, words)?;
+    let texts = slices_of(alloc, files.as_slice())?;
     Ok(run(
         alloc,
-        words.as_slice(),
+        words,
         texts.as_slice(),
         &mut rt.stdin(),
         &mut rt.stdout(),
@@ -54,7 +40,7 @@ fn run_on(rt: &HostRuntime, alloc: Global, arguments: &[String]) -> io::Result<u
     ))
 }
 
-/// Runs the program where its words can be had. All that can fail before it runs is then memory.
+/// Runs the program if its words can be had. All that can fail before it runs is then memory.
 fn status(rt: &HostRuntime) -> Result<u8, ArgumentsError> {
     let arguments = arguments(rt)?;
     match run_on(rt, rt.alloc(), arguments.as_slice()) {

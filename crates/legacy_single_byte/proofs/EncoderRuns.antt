@@ -1,4 +1,4 @@
--- What the check of an encoder's run has shown, and the codes that follow from a table's places.
+-- The facts that the check of an encoder's run proves, and the codes that follow from a table's places.
 use Rattle.std.proofs.Common.{◌≡◌, ◌↔◌, ◌∙◌, IfSome, ℕ, ◌+◌, ◌-◌, ◌≤◌, ◌<◌, ◌==◌, List, ◌∷◌, [], length, get_or, refl, sym, ap, subst, arith, Some, None, Option, Bool, true, false, not, position, inl, inr}
 use Rattle.std.proofs.lemmas.Bool.{ne_eqb, lt-ltb, le-ltb, eqb-true, cases_lt}
 use Rattle.std.proofs.lemmas.Bool.Decides.{nat_tests}
@@ -26,7 +26,7 @@ run_holds table scalar start count e k h =
 pub mismatch_within : (table : List ℕ) (scalar start count k : ℕ) → first_mismatch table scalar start count ≡ Some k → k < count
 mismatch_within table scalar start count k e = let first = find-first (λ k. not (get_or table (start + k) 0 == scalar + k)) 0 count k e in let w = first.within in omega arith
 
--- the last scalar of a run is one of the Basic Multilingual Plane
+-- each entry of an accepted table is below U+10000
 entry_below : (table : List ℕ) → IsAcceptedTable table → (p : ℕ) → get_or table p 0 < 0x1_0000
 entry_below table accepted p = elim (cases_lt p (length table)) [
   | inl inside ↦ All-get_or (λ c. c < 0x1_0000) table p 0 inside (table-below table accepted)
@@ -44,7 +44,7 @@ run_below table accepted scalar start count low is = elim (cases_lt 0 count) [
 
 -- ---- places
 
--- two options that have the same values are the same
+-- two options with the same values are equal
 same_option : (a b : Option ℕ) → ((p : ℕ) → (a ≡ Some p) ↔ (b ≡ Some p)) → a ≡ b
 same_option None None h = refl
 same_option None (Some p) h = let e : None ≡ Some p = (h p).1 refl in cc
@@ -56,21 +56,21 @@ module _ (table : List ℕ) (accepted : IsAcceptedTable table) (c : ℕ) (past :
       let is = position-idx table accepted c (λ z. omega arith) p in
       ((λ e. is.1 ((says p).0 e)), (λ e. (says p).1 (is.0 e))))
 
-  -- a place that holds a scalar is one of 128
+  -- a place that holds a scalar is below 128
   pub place_bound : length table ≡ 128 → (place : Option ℕ) → ((p : ℕ) → (place ≡ Some p) ↔ (idx table p ≡ Some c)) → IfSome place (λ p. p < 128)
   place_bound long None says = tt
   place_bound long (Some p) says =
       let h = entry_scalar-is (get_or table p 0) c ((says p).0 refl) in
       omega (arith, within table accepted p c h.1 h.0, long)
 
-  -- the code of a scalar that stands at a place
+  -- the code of the scalar at a place
   pub code_at : (p : ℕ) → get_or table p 0 ≡ c → single_byte_code table c ≡ Some ((0x80 + p) ∷ [])
   unfolding single_byte_code
   code_at p e =
       let is : idx table p ≡ Some c = ap entry_scalar e ∙ rw (ne_eqb c 0 (λ n. omega arith)) refl in
       rw (le-ltb c 128 past, (position-idx table accepted c (λ z. omega arith) p).1 is) refl
 
-  -- which is no surrogate
+  -- the scalar at a place is not a surrogate
   pub lone_at : (p : ℕ) → get_or table p 0 ≡ c → IsNoSurrogate c
   lone_at p e high =
       let inside = within table accepted p c e (λ z. omega (arith, z, past)) in

@@ -1,4 +1,4 @@
--- How long the front of Latin-1 bytes is.
+-- The length of the front of Latin-1 bytes.
 use Rattle.std.proofs.Common.{◌≡◌, ◌∙◌, ℕ, ◌<◌, ◌≤◌, List, length, get_or, take, true, false, refl, sym, arith, get_or-take, IsAscii}
 use Rattle.std.proofs.lemmas.Bool.Decides.{nat_tests}
 use Rattle.std.specs.Char.{is_ascii}
@@ -13,7 +13,7 @@ unfolding latin1_front
 latin1_front-length table bytes n h pass stop =
     sym (length-prefix_len (is_latin1_byte table) bytes ∙ prefix_len_is (is_latin1_byte table) bytes n 0 h pass stop)
 
--- a front that is ASCII is Latin-1
+-- a front of ASCII bytes is Latin-1
 pub latin1-ascii : (table bytes : List ℕ) (n : ℕ) → IsAscii (take n bytes) → (k : ℕ) → k < n → is_latin1_byte table (get_or bytes k 0) ≡ true
 latin1-ascii table bytes n h k l =
     let small : get_or bytes k 0 < 128 = rw (← get_or-take n bytes k 0 l) (h k) in

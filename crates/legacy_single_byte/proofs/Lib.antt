@@ -1,4 +1,4 @@
--- How the decoder takes the steps of its machine, which keeps to its grammar, and what the encoder's run shows.
+-- The decoder takes the steps of its machine, the machine keeps to its grammar, and the encoder's run is right.
 pub mod EncoderRuns
 pub mod Latin1Fronts
 pub mod LongestRuns

@@ -1,4 +1,4 @@
--- The longest run of letters: what one more place changes, and what an encoder makes of it.
+-- The longest run of letters: how one more place changes it, and that the encoder accepts it.
 use Rattle.std.proofs.Common.{◌≡◌, ◌≢◌, ℕ, zero, suc, ◌+◌, ◌-◌, ◌<◌, ◌≤◌, ◌==◌, List, get_or, refl, sym, ap, subst, arith, inl, inr, Some, None, Option, Bool, true, false, not, if◌then◌else◌, nat_lt, option_map}
 use Rattle.std.proofs.lemmas.Bool.{cases_lt, le-ltb, ltb-false}
 use Rattle.std.proofs.lemmas.Bool.Decides.{nat_tests}
@@ -8,13 +8,13 @@ use Rattle.legacy_single_byte.specs.SingleByteRun.{IsRun, first_mismatch, single
 use Rattle.legacy_single_byte.specs.LongestRun.{IsLetterRun, LongestToThe, LongestUpTo}
 use Rattle.legacy_single_byte.proofs.EncoderRuns.{run_holds}
 
--- ---- runs that the encoder takes
+-- ---- runs that the encoder accepts
 
 no_mismatch : {A : Type 0} (f : ℕ → A) (o : Option ℕ) → option_map f o ≡ None → o ≡ None
 no_mismatch f None e = refl
 no_mismatch f (Some k) e = cc
 
--- what is known of a run that is not refused
+-- the facts about a run that is not refused
 pub record IsTaken (table : List ℕ) (scalar start count : ℕ) : Type 0 where
   pub from : 32 ≤ start
   pub within : start + count ≤ 128
@@ -64,7 +64,7 @@ module _ (table : List ℕ) where
   none_up_to_the_first = record { is = no_run; within = omega arith; longest = λ c s n run ends. let from = run.from in omega arith }
 
   module _ (scalar start count place : ℕ) (before : LongestToThe table scalar start count place) where
-    -- the scalar at the place goes on the run
+    -- the scalar at the place continues the run
     longer : (c s n : ℕ) → IsLetterRun table c s n → s + n ≡ place + 1 → n ≤ count + 1
     longer c s zero run e = omega arith
     longer c s (suc n) run e = let k : n ≤ count = before.longest c s n (front c s n run) (omega arith) in omega arith
@@ -86,7 +86,7 @@ module _ (table : List ℕ) where
           longest = longer;
         }
 
-    -- the scalar at the place does not follow on the one before it
+    -- the scalar at the place does not continue the run
     apart : (value : ℕ) → get_or table place 0 ≡ value → value ≢ scalar + count → (c s n : ℕ) → IsLetterRun table c s (suc (suc n)) → s + suc (suc n) ≡ place + 1 → ⊥
     apart value e other c s n run ends =
         let one : suc n ≤ count = before.longest c s (suc n) (front c s (suc n) run) (omega arith) in
@@ -137,7 +137,7 @@ module _ (table : List ℕ) where
           longest = nothing value e high;
         }
 
-  -- ---- the best so far
+  -- ---- the longest run up to a place
 
   module _ (scalar start count place : ℕ) (best : LongestUpTo table scalar start count place) (c s n : ℕ) (run : LongestToThe table c s n (place + 1)) where
     pub kept : n ≤ count → LongestUpTo table scalar start count (place + 1)
@@ -164,7 +164,7 @@ module _ (table : List ℕ) where
           ];
         }
 
-  -- no run that the encoder takes is longer than the longest one up to the end
+  -- no run that the encoder accepts is longer than the longest one up to the end
   pub none_longer : (scalar start count place : ℕ) → 128 ≤ place → LongestUpTo table scalar start count place →
       (c s n : ℕ) → single_byte_run_fault table c s n ≡ None → c + n ≤ 0x2000 → n ≤ count
   none_longer scalar start count place end best c s n e low =

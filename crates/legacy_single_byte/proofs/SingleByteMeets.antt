@@ -1,4 +1,4 @@
--- The machine of a single-byte decoder does what its grammar says.
+-- The machine of a single-byte decoder keeps to its grammar.
 use Rattle.std.proofs.Common.{◌≡◌, ℕ, ◌-◌, List, [], ◌∷◌, true, refl, option_to_list, arith}
 use Rattle.std.proofs.lemmas.Bool.{false≢true}
 use Rattle.std.specs.Char.{is_ascii}

@@ -1,22 +1,22 @@
 -- The runs of the single-byte decoders.
-use Rattle.std.proofs.Common.{rules, ◌≡◌, ℕ, List, ◌+◌, ◌-◌, ◌≤◌, ◌<◌, ◌^◌, [], ◌∷◌, ◌++◌, zero, suc, length, take, get_or, Some, refl, sym, subst, ◌∙◌, arith, inl, inr, All}
+use Rattle.std.proofs.Common.{rules, ap, IsAscii, ◌≡◌, ℕ, List, ◌+◌, ◌-◌, ◌≤◌, ◌<◌, ◌^◌, [], ◌∷◌, ◌++◌, zero, suc, length, take, get_or, Some, refl, sym, subst, ◌∙◌, arith, inl, inr, All}
 use Rattle.std.proofs.lemmas.Bool.{ne_eqb, cases_lt}
 use Rattle.std.proofs.Math.ListN.{set}
-use Rattle.std.proofs.lemmas.List.{get_or_past, get_or-set_same, get_or-set_other, take_all, take_more}
+use Rattle.std.proofs.lemmas.List.{get_or_past, get_or-set_same, get_or-set_other, take_all, take_more, take-take, length-take-le}
 use Rattle.std.proofs.lemmas.List.Elements.{All-from_get_or}
 use Rattle.std.specs.Char.{IsScalar}
 use Rattle.legacy_text.specs.declared.destination.Destination.{Ghosts}
-use Rattle.legacy_text.specs.EncodingForm.{all_code_units, total_unit_count}
-use Rattle.legacy_base.specs.States.{new_state}
+use Rattle.legacy_text.specs.EncodingForm.{code_units, all_code_units, total_unit_count}
+use Rattle.legacy_base.specs.States.{DecoderState, new_state}
 use Rattle.legacy_tables.specs.Indexes.{entry_scalar, idx}
 use Rattle.legacy_tables.specs.AcceptedTables.{AcceptedTable}
 use Rattle.legacy_base.specs.Grammar.{single_byte}
 use Rattle.legacy_tables.proofs.AcceptedTable.{table-below, table-scalars}
-use Rattle.legacy_decoder_engine.specs.Ahead.{Runs, IsSingle, HasAscii, ReadsAhead}
+use Rattle.legacy_decoder_engine.specs.Ahead.{Runs, IsSingle, HasAscii, Writes, ReadsAhead}
 use Rattle.legacy_single_byte.specs.ByteEntries.{IsByteEntry, AreByteEntries}
 use Rattle.legacy_decoder_engine.proofs.RunForms.{single_runs, has_ascii, ascii_is, past_ascii}
 use Rattle.legacy_decoder_engine.proofs.JoinedRuns.{reads_written}
-use Rattle.legacy_decoder_engine.proofs.WrittenRuns.{all_short, runs_none, runs_more}
+use Rattle.legacy_decoder_engine.proofs.WrittenRuns.{all_short, short, runs_none, runs_more, writes_ascii, writes_one}
 use Rattle.legacy_single_byte.proofs.SingleByteShown.{single_byte_shown}
 
 -- an entry that is a scalar is that scalar
@@ -36,7 +36,7 @@ module _ (table : AcceptedTable) where
   pub single_byte_ascii : HasAscii (single_byte table.entries)
   single_byte_ascii = has_ascii (single_byte_shown table.entries (table-below table.entries table.accepted)) (λ b. refl) (λ b h. let a = ascii_is b h in rw a refl)
 
-  -- what the entries are is what a scalar at a place is
+  -- what holds for all entries and for 0 holds for the scalar at a place
   at_place : (P : ℕ → Type 0) → All P table.entries → P 0 → (p c : ℕ) → Some c ≡ idx table.entries p → P c
   at_place P all none p c e =
       let is : get_or table.entries p 0 ≡ c = entry_is (get_or table.entries p 0) c (sym e) in
@@ -45,7 +45,7 @@ module _ (table : AcceptedTable) where
         | inr h ↦ subst P (sym (get_or_past table.entries p 0 h) ∙ is) none
       ]
 
-  -- a scalar at a place is up to U+FFFF
+  -- the scalar at a place is at most U+FFFF
   pub place_below : (p c : ℕ) → Some c ≡ idx table.entries p → c < 0x1_0000
   place_below p c e = at_place (λ x. x < 0x1_0000) (table-below table.entries table.accepted) (omega arith) p c e
 
@@ -68,7 +68,7 @@ module _ (table : AcceptedTable) where
         ]
   ]
 
-  -- where it is not 0 the byte is a run by itself
+  -- if the entry is not 0, the byte is a run by itself
   pub entry_runs : (b e : ℕ) → b < 2 ^ 8 → IsByteEntry table.entries b e → (e ≡ 0 → ⊥) → IsSingle (single_byte table.entries) b e
   entry_runs b e byte is some = elim (cases_lt b 0x80) [
     | inl h ↦ let same : b ≡ e = sym (is.0 h) in (omega arith, subst (λ c. Runs (single_byte table.entries) (b ∷ []) (c ∷ [])) same (single_byte_ascii b h))
@@ -78,10 +78,29 @@ module _ (table : AcceptedTable) where
         front_runs b e byte h found
   ]
 
+  -- ---- ASCII, and a byte behind it
+
+  module _ {D : Type 0} (T : Ghosts D) (source : List ℕ) (r : ℕ) (old mid : D) (few : r ≤ 64) (long : 64 < length source) (ascii : IsAscii (take r source)) (enough : 70 ≤ T.room old)
+      (contents : T.contents mid ≡ T.contents old ++ take r source) (room : T.room mid + r ≡ T.room old) (loan : T.loan mid ≡ T.loan old) where
+    front_writes : Writes T (single_byte table.entries) (take r source) old mid
+    front_writes =
+        let count : length (take r source) ≡ r = length-take-le r source (omega arith) in
+        writes_ascii T (single_byte table.entries) old mid (take r source) single_byte_ascii ascii contents (omega (arith, count, room)) loan
+
+    pub reads_front : ReadsAhead T (new_state (single_byte table.entries)) source r old mid
+    reads_front =
+        reads_written {D = _} {T = T} {g = single_byte table.entries} {source = source} {old = old} {new = mid} {r = r} (omega arith) front_writes (omega (arith, room)) (omega arith)
+
+    pub reads_lone : (new : D) (c : ℕ) → r < 64 → IsSingle (single_byte table.entries) (get_or source r 0) c → T.contents new ≡ T.contents mid ++ code_units T.form c
+        → T.room new + length (code_units T.form c) ≡ T.room mid → T.loan new ≡ T.loan mid → ReadsAhead T (new_state (single_byte table.entries)) source (r + 1) old new
+    reads_lone new c less single more less_room same =
+        reads_written {D = _} {T = T} {g = single_byte table.entries} {source = source} {old = old} {new = new} {r = r + 1} (omega arith)
+        (writes_one T source r c (omega arith) front_writes single.1 more less_room same) (omega (arith, room, less_room, short T.form c single.0)) (omega arith)
+
   -- ---- eight bytes at once, by their entries
 
   module _ (source units : List ℕ) (bytes : (k : ℕ) → get_or source k 0 < 2 ^ 8) (same : (k : ℕ) → k < 8 → IsByteEntry table.entries (get_or source k 0) (get_or units k 0)) where
-    -- bytes of which no entry is 0 are runs by themselves
+    -- if no entry is 0, the bytes are a run
     bytes_run : ((k : ℕ) → k < 8 → get_or units k 0 ≡ 0 → ⊥) → (r : ℕ) → r ≤ 8 → r ≤ length source → r ≤ length units → Runs (single_byte table.entries) (take r source) (take r units)
     bytes_run some zero few within room = runs_none (single_byte table.entries)
     bytes_run some (suc r) few within room =
@@ -94,11 +113,11 @@ module _ (table : AcceptedTable) where
         (subst (λ l. Runs (single_byte table.entries) l (take r units ++ u ∷ [])) (sym (take_more source r 0 (omega arith)))
         (runs_more (single_byte table.entries) (take r source) (b ∷ []) (take r units) (u ∷ []) (bytes_run some r (omega arith) (omega arith) (omega arith)) one)))
 
-    -- an entry is a scalar up to U+FFFF, also if it is 0
+    -- the entries are scalars up to U+FFFF, even those that are 0
     pub units_are_scalars : length units ≡ 8 → All IsScalar units
     units_are_scalars long = All-from_get_or IsScalar units 0 (λ k h. (entry_below (get_or source k 0) (get_or units k 0) (same k (omega arith))).1)
 
-    -- and they were written
+    -- the eight bytes were read and their entries were written
     pub reads_eight : {D : Type 0} (T : Ghosts D) (old new : D) → ((k : ℕ) → k < length units → get_or units k 0 ≡ 0 → ⊥) → 8 ≤ length source → length units ≡ 8
         → T.contents new ≡ T.contents old ++ all_code_units T.form units → T.room new + total_unit_count T.form units ≡ T.room old → T.loan new ≡ T.loan old → 35 ≤ T.room old
         → ReadsAhead T (new_state (single_byte table.entries)) source 8 old new
@@ -109,6 +128,20 @@ module _ (table : AcceptedTable) where
         reads_written {D = _} {T = T} {g = single_byte table.entries} {source = source} {old = old} {new = new} {r = 8} within
         (record { scalars = units; runs = subst (λ l. Runs (single_byte table.entries) (take 8 source) l) all run; written = contents; room = room; loan = loan })
         (omega (arith, few, room)) (omega arith)
+
+-- what was read of bytes with others behind them
+pub reads_padded : {D : Type 0} {T : Ghosts D} {state : DecoderState} {source padded : List ℕ} {r : ℕ} {old new : D} → r ≤ length source → take (length source) padded ≡ source
+    → ReadsAhead T state padded r old new → ReadsAhead T state source r old new
+reads_padded {D} {T} {state} {source} {padded} {r} {old} {new} within front reads = record {
+  within = within;
+  idle = reads.idle;
+  empties = reads.empties;
+  stays = reads.stays;
+  rooms = reads.rooms;
+  writes = subst (λ bytes. Writes T state.grammar bytes old new) (sym (take-take r (length source) padded within) ∙ ap (take r) front) reads.writes;
+  slack = reads.slack;
+  had = reads.had;
+}
 
 -- one more entry of a list, of which something is said at each place so far
 pub set_more : (P : ℕ → ℕ → Type 0) (entries : List ℕ) (at e : ℕ) → at < length entries → ((k : ℕ) → k < at → P k (get_or entries k 0)) → P at e

@@ -1,4 +1,4 @@
--- What is shown of the single-byte decoders.
+-- The steps of the single-byte decoders agree with their grammar.
 use Rattle.std.proofs.Common.{◌≡◌, ℕ, ◌-◌, ◌≤◌, List, [], ◌∷◌, true, false, cond, refl, inl, option_to_list, arith}
 use Rattle.std.proofs.lemmas.Bool.{false≢true, ltb-true}
 use Rattle.std.specs.Char.{is_ascii}

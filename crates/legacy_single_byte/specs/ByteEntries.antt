@@ -1,7 +1,7 @@
--- The entry of a byte by a single-byte table, ASCII too.
+-- The entry of each byte, also of ASCII, for a single-byte table.
 use Rattle.std.specs.Prelude.{◌≡◌, ◌<◌, ◌≤◌, ℕ, ◌-◌, List, slice_index}
 
--- the byte itself where it is ASCII, and otherwise what the table holds
+-- the byte itself if it is ASCII, and the table's entry otherwise
 abbrev pub IsByteEntry : List ℕ → ℕ → ℕ → Type 0
 IsByteEntry table byte entry = (byte < 0x80 → entry ≡ byte) × (0x80 ≤ byte → entry ≡ slice_index table (byte - 0x80))
 

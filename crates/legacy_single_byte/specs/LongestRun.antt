@@ -2,19 +2,19 @@
 use Rattle.std.specs.Prelude.{◌≡◌, ℕ, ◌+◌, ◌≤◌, List}
 use Rattle.legacy_single_byte.specs.SingleByteRun.{IsRun}
 
--- a run from place 32 on, of scalars below U+2000
+-- a run of scalars below U+2000 that starts at place 32 or later
 pub record IsLetterRun (table : List ℕ) (scalar start count : ℕ) : Type 0 where
   pub from : 32 ≤ start
   pub low : scalar + count ≤ 0x2000
   pub holds : IsRun table scalar start count
 
--- such a run that ends before the place, and no longer one ends there
+-- a run of letters that ends before the place; no run that ends there is longer
 pub record LongestToThe (table : List ℕ) (scalar start count place : ℕ) : Type 0 where
   pub is : IsLetterRun table scalar start count
   pub ends : start + count ≡ place
   pub longest : (c s n : ℕ) → IsLetterRun table c s n → s + n ≡ place → n ≤ count
 
--- such a run that ends before the place or earlier, and no longer one does
+-- a run of letters that ends before the place or earlier; no such run is longer
 pub record LongestUpTo (table : List ℕ) (scalar start count place : ℕ) : Type 0 where
   pub is : IsLetterRun table scalar start count
   pub within : start + count ≤ place

@@ -1,4 +1,4 @@
--- What is shown of the codes of the single-byte codecs.
+-- The bytes of the codes of the single-byte codecs.
 use Rattle.std.proofs.Common.{ℕ, ◌≤◌, ◌+◌, ◌==◌, List, [], ◌∷◌, refl, arith, position}
 use Rattle.std.proofs.lemmas.Bool.{lt-ltb}
 use Rattle.legacy_base.specs.EncodeEvents.{code_length}

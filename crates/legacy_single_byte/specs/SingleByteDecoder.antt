@@ -1,4 +1,4 @@
--- What a single-byte decoder is between two calls: it holds nothing back.
+-- The state of a single-byte decoder between two calls, with nothing held back.
 use Rattle.std.specs.Prelude.{ℕ, List}
 use Rattle.legacy_base.specs.Grammar.{single_byte}
 use Rattle.legacy_base.specs.States.{DecoderState, new_state}
@@ -8,6 +8,6 @@ use Rattle.legacy_single_byte.specs.declared.single_byte.decoder.SingleByteDecod
 abbrev pub single_byte_entries : SingleByteDecoder → List ℕ
 single_byte_entries decoder = decoder.scalars.table.now.entries
 
--- the state that its calls speak of
+-- the state that the laws of its calls use
 abbrev pub single_byte_state : SingleByteDecoder → DecoderState
 single_byte_state decoder = new_state (single_byte (single_byte_entries decoder))

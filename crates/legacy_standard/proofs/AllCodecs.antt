@@ -1,4 +1,4 @@
--- Both laws, codec by codec.
+-- Both laws of this crate, codec by codec.
 use Rattle.legacy_standard.proofs.SingleByteHandled.{single_byte_handled, user_defined_handled}
 use Rattle.legacy_standard.proofs.LeadHandled.{euc_kr_handled, big5_handled, shift_jis_handled}
 use Rattle.legacy_standard.proofs.EucJpHandled.{euc_jp_handled}

@@ -1,4 +1,4 @@
--- The EUC-JP decoder.
+-- The EUC-JP decoder's handler gives the events of its grammar.
 use Rattle.std.proofs.Common.{◌≡◌, ℕ, zero, suc, ◌+◌, ◌-◌, ◌*◌, Bool, cond, List, [], ◌∷◌, None, refl, true, false, arith}
 use Rattle.std.specs.Prelude.{option_to_list, ◌==◌, ◌&&◌}
 use Rattle.std.specs.Int.{is_in_range}
@@ -28,7 +28,7 @@ lead-not_8f : (b : ℕ) → is_euc_jp_lead b ≡ true → (b == 0x8F) ≡ false
 lead-not_8f b h = grind (arith, nat_tests)
 
 module _ (jis0208 jis0212 : List ℕ) where
-  -- the code point of a lead and a trail in an index
+  -- the scalar of a lead and a trail in an index is the handler's code point
   code-is : (index : List ℕ) (lead t : ℕ) → is_euc_jp_lead lead ≡ true →
       return_or_error (cond (is_in_range 0xA1 0xFE lead && is_in_range 0xA1 0xFE t) (idx index ((lead - 0xA1) * 94 + (t - 0xA1))) None) t euc_jp_initial
       ≡ returns_scalars (euc_jp_handler jis0208 jis0212) euc_jp_initial (euc_jp_scalars index lead t) t
@@ -39,7 +39,7 @@ module _ (jis0208 jis0212 : List ℕ) where
       by_test true = scalars-of (euc_jp_handler jis0208 jis0212) euc_jp_initial (idx index ((lead - 0xA1) * 94 + (t - 0xA1))) t
       by_test false = refl
 
-  -- at the end the flag does not matter
+  -- at the end of the queue the jis0212 flag does not matter
   flag_at_end : (place : ℕ) (es : List DecodeEvent) → Runs (euc_jp_handler jis0208 jis0212) euc_jp_initial place 0 [] es →
       Runs (euc_jp_handler jis0208 jis0212) (euc_jp_state true 0) place 0 [] es
   unfolding process euc_jp_handler

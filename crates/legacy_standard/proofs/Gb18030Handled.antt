@@ -1,4 +1,4 @@
--- The gb18030 decoder.
+-- The gb18030 decoder's handler gives the events of its grammar.
 use Rattle.std.proofs.Common.{◌≡◌, ℕ, ◌+◌, ◌-◌, ◌*◌, Bool, cond, List, [], ◌∷◌, Option, Some, None, refl, true, false, arith}
 use Rattle.std.specs.Prelude.{option_to_list, ◌==◌, ◌||◌, nat_lt}
 use Rattle.std.specs.Int.{is_in_range}
@@ -23,7 +23,7 @@ use Rattle.legacy_standard.proofs.OneResult.{Runs, IsDecodedBy}
 digit-some : (b : ℕ) → is_ascii_digit b ≡ true → (b == 0) ≡ false
 digit-some b h = grind (arith, nat_tests)
 
--- the code point of a lead and a trail that is no digit, as the Standard has it
+-- the scalar of a lead and a trail is the handler's code point, if the trail is no digit
 pair-code : (index : List ℕ) (n t : ℕ) →
     option_and_then (idx index) (cond (is_in_range 0x40 0x7E t || is_in_range 0x80 0xFE t) (Some (n + (t - cond (nat_lt t 0x7F) 0x40 0x41))) None)
     ≡ cond (is_in_range 0x40 0x7E t) (idx index (n + (t - 0x40))) (cond (is_in_range 0x80 0xFE t) (idx index (n + (t - 0x41))) None)
@@ -46,7 +46,7 @@ module _ (index : List ℕ) (ranges : List (ℕ × ℕ)) where
   abbrev Has : List ℕ → Front → Type 0
   Has = Reads handler gb18030_initial
 
-  -- the steps to what is behind a lead, a digit and a lead
+  -- the steps for a lead, a digit and a lead
   leads : (b : ℕ) → is_ascii b ≡ false → (b == 0x80) ≡ false → is_lead b ≡ true → handler gb18030_initial (byte b) ≡ returns continue (gb18030_state b 0 0)
   unfolding gb18030_handler
   leads b h k l = rw (h, k, l) refl
@@ -74,7 +74,7 @@ module _ (index : List ℕ) (ranges : List (ℕ × ℕ)) where
       let pointer : (b - 0x81) * 12600 + (s - 0x30) * 1260 + (t - 0x81) * 10 + (u - 0x30) ≡ gb18030_range_pointer b s t u = omega arith in
       rw (lead-some t l, d, pointer) refl
 
-  -- the ends
+  -- the end of the queue after one, two or three bytes
   end_one : (b : ℕ) → is_lead b ≡ true → handler (gb18030_state b 0 0) end_of_queue ≡ returns error gb18030_initial
   unfolding gb18030_handler
   end_one b l = rw (lead-some b l) refl
@@ -84,7 +84,7 @@ module _ (index : List ℕ) (ranges : List (ℕ × ℕ)) where
   end_more b s t l = rw (lead-some b l) refl
 
   module _ (b : ℕ) (h : is_ascii b ≡ false) (k : (b == 0x80) ≡ false) (l : is_lead b ≡ true) where
-    -- behind three bytes
+    -- the byte after three bytes
     fourth-reads : (s t : ℕ) (rest : List ℕ) → is_ascii_digit s ≡ true → is_lead t ≡ true → Has (b ∷ s ∷ t ∷ rest) (gb18030_fourth ranges b s t rest)
     unfolding gb18030_fourth
     fourth-reads s t [] d m = λ place es after.
@@ -107,7 +107,7 @@ module _ (index : List ℕ) (ranges : List (ℕ × ℕ)) where
         by_code None e = λ place es after. reach place _ (error_at handler (gb18030_state b s t) gb18030_initial place 3 u [] rest es e after)
         by_code (Some c) e = λ place es after. reach place _ (gives handler (gb18030_state b s t) gb18030_initial place 3 u (c ∷ []) rest es e after)
 
-    -- behind two
+    -- the byte after two bytes
     third-reads : (s : ℕ) (rest : List ℕ) → is_ascii_digit s ≡ true → Has (b ∷ s ∷ rest) (gb18030_third ranges b s rest)
     unfolding gb18030_third
     third-reads s [] d = λ place es after.
@@ -121,7 +121,7 @@ module _ (index : List ℕ) (ranges : List (ℕ × ℕ)) where
         (goes_on handler (gb18030_state b 0 0) (gb18030_state b s 0) place 1 s (t ∷ rest) _ (seconds b s l d)
         (error_at handler (gb18030_state b s 0) gb18030_initial place 2 t (s ∷ t ∷ []) rest es (no_third b s t d m) after)))
 
-    -- a trail that is no digit
+    -- a second byte that is no digit
     pair-does : (t : ℕ) → is_ascii_digit t ≡ false →
         handler (gb18030_state b 0 0) (byte t) ≡ returns_scalars handler gb18030_initial (gb18030_scalars index b t) t
     unfolding gb18030_handler

@@ -1,4 +1,4 @@
--- The ISO-2022-JP encoder.
+-- The ISO-2022-JP encoder's handler gives the events of its definition.
 use Rattle.std.proofs.Common.{◌≡◌, ◌∙◌, ℕ, ◌+◌, ◌/◌, ◌%◌, Bool, List, [], ◌∷◌, Option, Some, None, refl, sym, ap, subst, true, false, arith}
 use Rattle.std.specs.Prelude.{is_some, ◌==◌, ◌||◌, not}
 use Rattle.std.specs.Int.{is_in_range}
@@ -17,7 +17,7 @@ use Rattle.legacy_standard.specs.Iso2022JpEncoder.{EncoderState, ascii, roman, j
 use Rattle.legacy_standard.specs.EncoderLaw.{HasRows, HasFolds}
 use Rattle.legacy_standard.proofs.TextTurns.{IsEncodedBy, Writes, steady, ends, end_bytes, gives_bytes, gives_error, gives_escape}
 
--- the state of a mode
+-- the handler's state for a mode
 abbrev state_of : EncoderMode → EncoderState
 state_of in_ascii = ascii
 state_of in_roman = roman
@@ -42,21 +42,21 @@ module _ (index katakana_index : List ℕ) where
   abbrev Gives : EncoderMode → List ℕ → Type 0
   Gives mode text = Writes handler (state_of mode) text (events mode text)
 
-  -- a scalar with these bytes, in the mode that it asks for
+  -- a scalar with a code that is written in the current mode
   here_bytes : (mode : EncoderMode) (c d : ℕ) (bs more : List ℕ) → mode_for index katakana_index mode c ≡ mode → iso_2022_jp_code index katakana_index c ≡ Some bs →
       handler (state_of mode) (scalar d) ≡ returns (bytes bs) (state_of mode) → Gives mode more → Writes handler (state_of mode) (d ∷ more) (events mode (c ∷ more))
   here_bytes mode c d bs more stays code does h =
       rw (text_events-here index katakana_index mode c stays more true, code)
       (gives_bytes handler (state_of mode) (state_of mode) d bs more (events mode more) does h)
 
-  -- a scalar that has none, and stays in the mode
+  -- an unmappable scalar that leaves the mode unchanged
   here_error : (mode : EncoderMode) (c : ℕ) (more : List ℕ) → mode_for index katakana_index mode c ≡ mode → iso_2022_jp_code index katakana_index c ≡ None →
       handler (state_of mode) (scalar c) ≡ returns (error_with (iso_2022_jp_reported c)) (state_of mode) → Gives mode more → Gives mode (c ∷ more)
   here_error mode c more stays code does h =
       rw (text_events-here index katakana_index mode c stays more true, code)
       (gives_error handler (state_of mode) (state_of mode) c (iso_2022_jp_reported c) more (events mode more) does h)
 
-  -- a scalar that asks for another mode
+  -- a scalar that is written in another mode
   escapes : (mode new : EncoderMode) (c d : ℕ) (more : List ℕ) → mode_for index katakana_index mode c ≡ new → (mode ≡ new → ⊥) →
       handler (state_of mode) (scalar c) ≡ restores d (escape_outcome new) (state_of new) → Writes handler (state_of new) (d ∷ more) (events new (c ∷ more)) →
       Gives mode (c ∷ more)
@@ -67,7 +67,7 @@ module _ (index katakana_index : List ℕ) where
   abbrev Goes : List ℕ → Type 0
   Goes more = (mode : EncoderMode) → Gives mode more
 
-  -- ---- controls
+  -- ---- control characters
 
   control_ascii : (c : ℕ) (more : List ℕ) → is_mode_control c ≡ true → Goes more → Gives in_ascii (c ∷ more)
   unfolding iso_2022_jp_encodes
@@ -155,21 +155,21 @@ module _ (index katakana_index : List ℕ) where
 
   -- ---- scalars that are looked up
 
-  -- what is true of a scalar that goes past the first steps
+  -- a scalar that the handler's first steps pass over
   record Past (c : ℕ) : Type 0 where
     past_control : is_mode_control c ≡ false
     past_ascii : is_ascii c ≡ false
     past_yen : (c == 0xA5) ≡ false
     past_overline : (c == 0x203E) ≡ false
 
-  -- then it is set, and looked up
+  -- then the handler replaces the scalar if needed, and looks it up
   past : (c : ℕ) → Past c → (mode : EncoderMode) → handler (state_of mode) (scalar c) ≡ at_set index (state_of mode) (set_scalar katakana_index c) c
   unfolding iso_2022_jp_encodes
   past c p in_ascii = rw (p.past_control, p.past_ascii, p.past_yen, p.past_overline) refl
   past c p in_roman = rw (p.past_control, p.past_ascii, p.past_yen, p.past_overline) refl
   past c p in_two_byte = rw (p.past_ascii, p.past_yen, p.past_overline) refl
 
-  -- the scalar that it is set to, which is set to itself
+  -- the scalar that replaces c in the handler, which is not replaced again
   record Looked (c : ℕ) : Type 0 where
     set : ℕ
     set_is : set_scalar katakana_index c ≡ Some set
@@ -237,7 +237,7 @@ module _ (index katakana_index : List ℕ) where
         by_tests false false m r = looked_other c p m r
 
     module _ (c : ℕ) (more : List ℕ) (p : Past c) (goes : Goes more) where
-      -- what the handler does with c, and with what it is set to
+      -- the result of the handler for c and for the scalar that replaces it
       does : (l : Looked c) (o : Option ℕ) → euc_jp_pointer_of index l.set ≡ o → (mode : EncoderMode) →
           handler (state_of mode) (scalar c) ≡ at_pointer (state_of mode) o (l.set)
       does l o e mode = past c p mode ∙ rw (l.set_is, rows.first (l.set), e) refl

@@ -1,4 +1,4 @@
--- The ISO-2022-JP decoder: its handler reads a list as the laws of the grammar do, from first to last, and its errors end as
+-- The ISO-2022-JP decoder's handler reads a list from first to last, as the laws of the grammar do. Its errors end as
 -- late as `lateness` says.
 use Rattle.std.proofs.Common.{◌≡◌, ℕ, zero, suc, ◌+◌, ◌-◌, ◌*◌, ◌≤◌, Bool, cond, List, [], ◌∷◌, ◌++◌, length, Option, Some, None, refl, sym, ap, subst, ◌∙◌, take, drop, add-zero, zero-add, true, false, arith}
 use Rattle.std.specs.Prelude.{option_to_list, option_map, is_some, ◌==◌, ◌||◌, ◌&&◌, not}
@@ -27,15 +27,15 @@ use Rattle.legacy_standard.proofs.OneResult.{steady}
 use Rattle.legacy_standard.specs.DecoderLaw as decoders
 use Rattle.legacy_standard.specs.DecoderLaw.{HandlerDecodes}
 
--- ---- turns, by the number of bytes that are read
+-- ---- turns, by the number of bytes read
 
 module _ {S : Type 0} (late : ℕ → ℕ → ℕ) (handler : S → Item → Handled S) where
-  -- from this place, of which so many bytes are read, events come that are these, late
+  -- from this place, of which `size` bytes are read, the handler's events are the given ones, late
   abbrev Done : S → ℕ → ℕ → List ℕ → List DecodeEvent → Type 0
   Done s place size queue others =
       (turns : ℕ) × (events : List DecodeEvent) × (process handler turns s place size queue ≡ Some events) × AreLate late events others
 
-  -- wherever the queue stands behind pos bytes, with `few` of them or more in the present sequence
+  -- the same for any place if `pos` bytes are read, at least `few` of them in the current sequence
   abbrev Out : S → ℕ → ℕ → List ℕ → List DecodeEvent → Type 0
   Out s few pos queue others = (place size : ℕ) → place + size ≡ pos → few ≤ size → Done s place size queue others
 
@@ -78,7 +78,7 @@ module _ {S : Type 0} (late : ℕ → ℕ → ℕ) (handler : S → Item → Han
 
 -- ---- the decoder
 
--- the state of a mode
+-- the handler's state for a mode
 abbrev state_of : Mode → DecoderState
 state_of iso.ascii = ascii
 state_of iso.roman = roman
@@ -89,7 +89,7 @@ state_of iso.two_byte = leading_byte
 abbrev at_rest : Mode → ℕ → Bool → Iso2022Jp
 at_rest m l flag = record { state = state_of m; output_state = state_of m; leading = l; output = flag }
 
--- and behind an escape byte
+-- the decoder after an escape byte
 abbrev started : Mode → ℕ → Bool → Iso2022Jp
 started m l flag = record { state = escape_start; output_state = state_of m; leading = l; output = flag }
 
@@ -99,19 +99,20 @@ behind_two m l flag = record { state = escape; output_state = state_of m; leadin
 abbrev behind_lead : ℕ → Iso2022Jp
 behind_lead l = record { state = trailing_byte; output_state = leading_byte; leading = l; output = false }
 
--- what comes before the events where the output flag is set: an error at a valid escape, of the escape before it
+-- the events before those of the list: if the output flag is set and a valid escape follows, an error for the escape
+-- before it
 abbrev again : Bool → ℕ → List ℕ → List DecodeEvent
 again flag pos bytes = cond (is_some (part_mode bytes)) (cond flag (Bad (pos - 3) 3 ∷ []) []) []
 
 again-unset : (pos : ℕ) (bytes : List ℕ) → again false pos bytes ≡ []
 again-unset pos bytes = cond_both (is_some (part_mode bytes)) (cond false (Bad (pos - 3) 3 ∷ []) []) [] (λ es. es ≡ []) (λ h. refl) (λ h. refl)
 
--- a scalar, or an error of so many bytes
+-- a scalar, or an error of n bytes
 abbrev event : ℕ → ℕ → Option ℕ → DecodeEvent
 event pos n None = Bad pos n
 event pos n (Some c) = Scalar c
 
--- the states of escapes are their modes
+-- the states of escapes correspond to the modes
 escape-is : (a b : ℕ) → escape_state a b ≡ option_map state_of (escape_mode a b)
 escape-is a b = by_tests (a == 0x28 && b == 0x42) (a == 0x28 && b == 0x4A) (a == 0x28 && b == 0x49) (a == 0x24 && (b == 0x40 || b == 0x42))
   where
@@ -125,11 +126,11 @@ escape-is a b = by_tests (a == 0x28 && b == 0x42) (a == 0x28 && b == 0x4A) (a ==
 
 -- ---- how late errors end
 
--- how late the malformed sequence ends that stands k places on in these bytes, which are read in the mode
+-- the lateness of the malformed sequence that begins k bytes into these bytes, which are read in the mode
 abbrev late_at : Mode → List ℕ → ℕ → ℕ → ℕ
 late_at m bytes k n = bytes_after (mode_after m (take k bytes)) (drop k bytes) n
 
--- the second and the third byte of a valid escape are no escape bytes
+-- the second and third bytes of a valid escape are not escape bytes
 no_second : (a b : ℕ) (new : Mode) → escape_mode a b ≡ Some new → (a == esc) ≡ false
 no_second a b new valid = ne_eqb a esc (λ is. let same = rw is at valid in cc)
 
@@ -139,7 +140,7 @@ no_third a b new valid = ne_eqb b esc (λ is. none-some new (sym (none a) ∙ (r
     none : (a : ℕ) → escape_mode a esc ≡ None
     none a = grind (arith, nat_tests)
 
--- part of an escape that is none is none
+-- if bytes begin with no valid escape, neither does a shorter beginning of them
 part_mode-cut : (k : ℕ) (rest : List ℕ) → part_mode (esc ∷ rest) ≡ None → part_mode (esc ∷ take k rest) ≡ None
 unfolding part_mode
 part_mode-cut zero rest h = refl
@@ -173,7 +174,7 @@ late-escape m new a b more k n plain_a plain_b valid =
     (after-escape m new a b (take k more) valid ∙ after-plain new a (b ∷ take k more) plain_a ∙ after-plain new b (take k more) plain_b)
 
 module _ (jis0208 : List ℕ) (late : ℕ → ℕ → ℕ) (third_late : (p : ℕ) → late p 3 ≡ 3) where
-  -- from this position on, the malformed sequences of these bytes end as late as they do by themselves
+  -- from this position on, the lateness of a malformed sequence depends only on these bytes
   abbrev Fits : Mode → ℕ → List ℕ → Type 0
   Fits m pos bytes = (k n : ℕ) → late (pos + k) n ≡ late_at m bytes k n
 
@@ -195,19 +196,20 @@ module _ (jis0208 : List ℕ) (late : ℕ → ℕ → ℕ) (third_late : (p : �
       let plain_b : (b == esc) ≡ false = no_third a b new valid in
       rw same (fits (suc (suc (suc k))) n ∙ late-escape m new a b more k n plain_a plain_b valid)
 
-  -- a malformed sequence that the bytes begin with
+  -- the lateness of a malformed sequence at the beginning of the bytes
   late_here : (m : Mode) (pos n : ℕ) (bytes : List ℕ) → Fits m pos bytes → late pos n ≡ bytes_after m bytes n
   unfolding mode_after
   late_here m pos n bytes fits = let same : pos + 0 ≡ pos = omega arith in rw same at (fits 0 n)
 
-  -- Where a list stands: its sequences end as late as they do by themselves, and with the output set an escape is before it.
+  -- The position of a list: the lateness of its sequences depends only on its bytes. If the output flag is set, an
+  -- escape is before it.
   abbrev Stands : Mode → Bool → ℕ → List ℕ → Type 0
   Stands m flag pos bytes = Fits m pos bytes × (flag ≡ true → 3 ≤ pos)
 
   stands-unset : (m : Mode) (pos : ℕ) (bytes : List ℕ) → Fits m pos bytes → Stands m false pos bytes
   stands-unset m pos bytes fits = (fits, λ e. absurd (false≢true e))
 
-  -- the events of a list behind pos bytes
+  -- the events of a list that begins after `pos` bytes
   abbrev events : Mode → ℕ → List ℕ → List DecodeEvent
   events m pos bytes = shift pos (iso_2022_jp_events jis0208 m bytes)
 
@@ -217,7 +219,7 @@ module _ (jis0208 : List ℕ) (late : ℕ → ℕ → ℕ) (third_late : (p : �
   abbrev Decodes : Mode → ℕ → Bool → ℕ → List ℕ → Type 0
   Decodes m l flag pos bytes = Gives (at_rest m l flag) 0 pos bytes (again flag pos bytes ++ events m pos bytes)
 
-  -- with the output flag unset
+  -- decoding with the output flag unset
   unset : (m : Mode) (l pos : ℕ) (bytes : List ℕ) → Decodes m l false pos bytes → Gives (at_rest m l false) 0 pos bytes (events m pos bytes)
   unset m l pos bytes h = subst (λ es. Gives (at_rest m l false) 0 pos bytes (es ++ events m pos bytes)) (again-unset pos bytes) h
 
@@ -241,11 +243,11 @@ module _ (jis0208 : List ℕ) (late : ℕ → ℕ → ℕ) (third_late : (p : �
       bare true = ap (λ (p : ℕ). Bad p 3 ∷ []) same
       bare false = refl
 
-  -- all lists that are no longer than n are decoded, wherever they stand
+  -- all lists with at most n bytes are decoded, at any position
   abbrev Below : ℕ → Type 0
   Below n = (m : Mode) (l : ℕ) (flag : Bool) (pos : ℕ) (bytes : List ℕ) → Stands m flag pos bytes → length bytes ≤ n → Decodes m l flag pos bytes
 
-  -- an escape byte that begins no escape is no lead
+  -- an error for an escape byte that begins no valid escape is not late
   escape_byte_late : (m : Mode) (rest : List ℕ) → bytes_after m (esc ∷ rest) 1 ≡ 0
   escape_byte_late m [] = refl
   escape_byte_late iso.ascii (a ∷ rest) = refl
@@ -253,7 +255,7 @@ module _ (jis0208 : List ℕ) (late : ℕ → ℕ → ℕ) (third_late : (p : �
   escape_byte_late iso.katakana (a ∷ rest) = refl
   escape_byte_late iso.two_byte (a ∷ rest) = refl
 
-  -- The queue behind an escape byte and two more: with a valid escape its mode, and else the two bytes are restored.
+  -- The third byte of an escape. A valid escape switches to its mode; otherwise the two bytes are restored.
   third : (m : Mode) (flag : Bool) (pos a b : ℕ) (more : List ℕ) → Below (suc (suc (length more))) → Stands m flag pos (esc ∷ a ∷ b ∷ more) → (o : Option Mode) → escape_mode a b ≡ o →
       Gives (behind_two m a flag) 1 (pos + 2) (b ∷ more) (again flag pos (esc ∷ a ∷ b ∷ more) ++ events m pos (esc ∷ a ∷ b ∷ more))
   unfolding iso_2022_jp_handler part_mode
@@ -277,7 +279,7 @@ module _ (jis0208 : List ℕ) (late : ℕ → ℕ → ℕ) (third_late : (p : �
       (out-continue late (iso_2022_jp_handler jis0208) _ (at_rest new 0 true) 1 0 (pos + 2) (pos + 3) b more _ (rw state_is refl)
       (omega arith) (omega arith) (below new 0 true (pos + 3) more (fits-escape m new pos a b more e stands.0, λ h. omega arith) (omega arith)))
 
-  -- the queue behind an escape byte
+  -- the bytes after an escape byte
   behind_escape_byte : (m : Mode) (l : ℕ) (flag : Bool) (pos : ℕ) (rest : List ℕ) → Below (length rest) → Stands m flag pos (esc ∷ rest) →
       Gives (started m l flag) 0 (pos + 1) rest (again flag pos (esc ∷ rest) ++ events m pos (esc ∷ rest))
   unfolding iso_2022_jp_handler part_mode
@@ -376,7 +378,7 @@ module _ (jis0208 : List ℕ) (late : ℕ → ℕ → ℕ) (third_late : (p : �
       (returned (at_rest m l flag) m 0 pos (pos + 1) l b more pos 1 o does refl refl (λ e. late_here m pos 1 (b ∷ more) fits ∙ zero_late)
       (below m l false (pos + 1) more (stands-unset m (pos + 1) more (fits-plain m pos b more plain fits)) (omega arith)))
 
-  -- outside two-byte mode no byte is a lead
+  -- outside two-byte mode no error is late
   never_late : (b : ℕ) (more : List ℕ) → (bytes_after iso.ascii (b ∷ more) 1 ≡ 0) × (bytes_after iso.roman (b ∷ more) 1 ≡ 0) × (bytes_after iso.katakana (b ∷ more) 1 ≡ 0)
   never_late b [] = (refl, refl, refl)
   never_late b (t ∷ more) = (refl, refl, refl)
@@ -384,7 +386,7 @@ module _ (jis0208 : List ℕ) (late : ℕ → ℕ → ℕ) (third_late : (p : �
   is_short : (b : ℕ) → is_in_range 0x00 0x7F b ≡ is_ascii b
   is_short b = grind (arith, nat_tests)
 
-  -- ASCII
+  -- a byte in ASCII mode
   ascii_byte : (l : ℕ) (flag : Bool) (pos b : ℕ) (more : List ℕ) → (b == esc) ≡ false → Fits iso.ascii pos (b ∷ more) → Below (length more) → Decodes iso.ascii l flag pos (b ∷ more)
   unfolding iso_2022_jp_handler iso_2022_jp_front
   ascii_byte l flag pos b more plain fits below =
@@ -403,7 +405,7 @@ module _ (jis0208 : List ℕ) (late : ℕ → ℕ → ℕ) (third_late : (p : �
       does false true = refl
       does false false = refl
 
-  -- Roman
+  -- a byte in Roman mode
   roman_byte : (l : ℕ) (flag : Bool) (pos b : ℕ) (more : List ℕ) → (b == esc) ≡ false → Fits iso.roman pos (b ∷ more) → Below (length more) → Decodes iso.roman l flag pos (b ∷ more)
   unfolding iso_2022_jp_handler iso_2022_jp_front
   roman_byte l flag pos b more plain fits below =
@@ -434,7 +436,7 @@ module _ (jis0208 : List ℕ) (late : ℕ → ℕ → ℕ) (third_late : (p : �
       by_tests false true h k = let is = eqb-true b 0x7E k in rw is refl
       by_tests false false h k = does (b == 0x0E || b == 0x0F) (is_ascii b)
 
-  -- katakana
+  -- a byte in katakana mode
   katakana_byte : (l : ℕ) (flag : Bool) (pos b : ℕ) (more : List ℕ) → (b == esc) ≡ false → Fits iso.katakana pos (b ∷ more) → Below (length more) → Decodes iso.katakana l flag pos (b ∷ more)
   unfolding iso_2022_jp_handler iso_2022_jp_front
   katakana_byte l flag pos b more plain fits below =
@@ -450,7 +452,7 @@ module _ (jis0208 : List ℕ) (late : ℕ → ℕ → ℕ) (third_late : (p : �
       does true = refl
       does false = refl
 
-  -- a lead byte, and what is behind it
+  -- a lead byte and the byte after it
   reads-double : (o : Option ℕ) → reads_or 2 (option_to_list o) (malformed 2) ≡ double o
   reads-double None = refl
   reads-double (Some c) = refl

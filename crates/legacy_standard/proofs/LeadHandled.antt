@@ -1,4 +1,5 @@
--- Decoders with a leading byte and a trailing byte.
+-- The handlers of EUC-KR, Big5 and Shift_JIS, with a leading byte and a trailing byte, give the events of their
+-- grammars.
 use Rattle.std.proofs.Common.{◌≡◌, ℕ, ◌+◌, ◌-◌, ◌*◌, Bool, cond, List, [], ◌∷◌, Option, Some, None, refl, true, false, arith}
 use Rattle.std.specs.Prelude.{option_to_list, ◌==◌, ◌||◌, nat_lt}
 use Rattle.std.specs.Int.{is_in_range}
@@ -50,7 +51,7 @@ module _ (index : List ℕ) where
 
 -- ---- Big5
 
--- the pointer as the Standard has it
+-- the grammar's pointer is the Standard's pointer
 big5-pointer : (n t : ℕ) →
     cond (is_in_range 0x40 0x7E t || is_in_range 0xA1 0xFE t) (Some (n + (t - cond (nat_lt t 0x7F) 0x40 0x62))) None
     ≡ cond (is_in_range 0x40 0x7E t) (Some (n + (t - 0x40))) (cond (is_in_range 0xA1 0xFE t) (Some (n + (t - 0x62))) None)
@@ -89,7 +90,7 @@ module _ (index : List ℕ) where
 
 -- ---- Shift_JIS
 
--- the pointer as the Standard has it
+-- the grammar's pointer is the Standard's pointer
 shift_jis-pointer : (b t : ℕ) → is_shift_jis_lead b ≡ true →
     cond (is_in_range 0x40 0x7E t || is_in_range 0x80 0xFC t) (Some ((b - cond (nat_lt b 0xA0) 0x81 0xC1) * 188 + (t - cond (nat_lt t 0x7F) 0x40 0x41))) None
     ≡ shift_jis_pointer b t

@@ -1,4 +1,4 @@
--- That the handlers give what the grammars say.
+-- Proofs that the handlers give the events of the grammars and encoders.
 pub mod OneResult
 pub mod Turns
 pub mod Fronts

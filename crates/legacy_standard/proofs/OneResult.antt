@@ -1,4 +1,4 @@
--- A run over a queue that has finished is the same with more turns.
+-- More turns do not change the result of a run that has finished.
 use Rattle.std.proofs.Common.{◌≡◌, ℕ, zero, suc, ◌+◌, ◌-◌, ◌≤◌, List, [], ◌∷◌, ◌++◌, length, map, Option, Some, None, refl, arith}
 use Rattle.std.specs.Prelude.{option_map}
 use Rattle.legacy_base.specs.declared.results.DecodeEvent.{DecodeEvent}
@@ -8,7 +8,7 @@ use Rattle.legacy_standard.specs.Processing.{act_on, process, Processes}
 use Rattle.legacy_base.specs.Grammar.{Grammar, events_of}
 use Rattle.legacy_tables.specs.Unicode.{AreBytes}
 
--- none, or the same
+-- the first result is none, or both are the same
 abbrev pub Agrees : Option (List DecodeEvent) → Option (List DecodeEvent) → Type 0
 Agrees None x = Unit {0}
 Agrees (Some events) x = x ≡ Some events
@@ -39,15 +39,15 @@ module _ {S : Type 0} (handler : S → Item → Handled S) where
       let a = handler s (byte b) in
       agrees-act (process handler m) (process handler n) (agrees m n (omega arith)) (a.outcome) (a.state) place (size + 1 - length a.restored) (a.restored ++ rest)
 
-  -- within so many turns these events come
+  -- within some number of turns the events are these
   abbrev pub Runs : S → ℕ → ℕ → List ℕ → List DecodeEvent → Type 0
   Runs s place size queue events = (turns : ℕ) × (process handler turns s place size queue ≡ Some events)
 
-  -- and then with more turns too
+  -- and they are the same with more turns
   pub steady : (s : S) (place size : ℕ) (queue : List ℕ) (events : List DecodeEvent) → Runs s place size queue events → Processes handler s place size queue events
   steady s place size queue events (n, h) =
       (n, λ more. let same : Agrees (process handler n s place size queue) (process handler (n + more) s place size queue) = agrees n (n + more) (omega arith) s place size queue in rw h at same)
 
--- the handler gives the events of the grammar, over every list of bytes
+-- the handler gives the events of the grammar for every list of bytes
 abbrev pub IsDecodedBy : {State : Type 0} → Grammar → (State → Item → Handled State) → State → Type 0
 IsDecodedBy grammar handler initial = (bytes : List ℕ) → AreBytes bytes → Processes handler initial 0 0 bytes (events_of grammar bytes)

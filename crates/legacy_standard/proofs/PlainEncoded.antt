@@ -1,4 +1,4 @@
--- The encoders without a state.
+-- The handlers of the encoders without a state give the events of their definitions.
 use Rattle.std.proofs.Common.{◌≡◌, ◌≢◌, ◌∙◌, ◌≤◌, ◌<◌, length, inl, inr, sym, ℕ, ◌+◌, ◌-◌, ◌%◌, Bool, cond, List, [], ◌∷◌, ◌++◌, Option, Some, None, refl, true, false, arith}
 use Rattle.std.specs.Prelude.{option_map, is_some, ◌==◌, ◌||◌, position}
 use Rattle.std.specs.Option.{option_or}
@@ -38,7 +38,7 @@ use Rattle.legacy_standard.specs.EncoderLaw.{HasRows, AreAcceptedRanges, HasRang
 use Rattle.legacy_standard.proofs.RangePointers.{ranged_pointer}
 use Rattle.legacy_standard.proofs.TextTurns.{IsEncodedBy, Writes, steady, ends, gives_bytes, gives_error}
 
--- what is returned by the code of a scalar
+-- the result of a handler, by the code of the scalar
 abbrev by_code : ℕ → Option (List ℕ) → TextOutcome
 by_code c None = error_with c
 by_code c (Some bs) = bytes bs
@@ -47,7 +47,7 @@ by_code-cond : (c : ℕ) (t : Bool) (a b : Option (List ℕ)) → cond t (by_cod
 by_code-cond c true a b = refl
 by_code-cond c false a b = refl
 
--- cases that are each as the code says are so together
+-- if both cases of a test give the results of their codes, so does the test
 either : (c : ℕ) (t : Bool) (x y : TextOutcome) (a b : Option (List ℕ)) → (t ≡ true → x ≡ by_code c a) → (t ≡ false → y ≡ by_code c b) → cond t x y ≡ by_code c (cond t a b)
 either c true x y a b p q = p refl
 either c false x y a b p q = q refl
@@ -76,7 +76,7 @@ single_byte_at-is : (o : Option ℕ) (c : ℕ) → single_byte_at o c ≡ by_cod
 single_byte_at-is None c = refl
 single_byte_at-is (Some p) c = let e : p + 0x80 ≡ 0x80 + p = omega arith in rw e refl
 
--- "index pointer" is the first place of a scalar
+-- "index pointer" is the first position of a scalar
 pointer-position : (table : List ℕ) (c : ℕ) → c ≢ 0 → index_pointer table c ≡ position (λ entry. entry == c) table
 pointer-position table c some = by_pointer (index_pointer table c) refl
   where
@@ -147,7 +147,7 @@ big5-is index c = either c (is_ascii c) _ _ _ _ (λ h. refl) (λ h. big5_at-is (
 pub big5_encoded : (index : List ℕ) → IsEncodedBy (codecs.big5 index) (by_scalar (big5_encodes index)) tt
 big5_encoded index = plain (big5_encodes index) (big5_code index) (big5-is index)
 
--- ---- with the minus sign set to the hyphen-minus, which has a pointer
+-- ---- the minus sign, replaced with the full-width hyphen-minus, which has a pointer
 
 at_some : (at : Option ℕ → ℕ → TextOutcome) (bytes_of : ℕ → List ℕ) → ((o : Option ℕ) (c : ℕ) → at o c ≡ by_code c (option_map bytes_of o)) →
     (c d : ℕ) (o : Option ℕ) → is_some o ≡ true → at o d ≡ by_code c (option_map bytes_of o)

@@ -1,4 +1,4 @@
--- The replacement decoder.
+-- The replacement decoder's handler gives the events of its grammar.
 use Rattle.std.proofs.Common.{[], ◌∷◌, refl, false}
 use Rattle.legacy_base.specs.Replacement.{replacement_events}
 use Rattle.legacy_base.specs.Grammar.{replacement, events_of}

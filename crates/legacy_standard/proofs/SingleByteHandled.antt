@@ -1,4 +1,4 @@
--- The decoders of one byte: the single-byte decoder and x-user-defined.
+-- The handlers of the single-byte decoder and of x-user-defined give the events of their grammars.
 use Rattle.std.proofs.Common.{◌≡◌, ℕ, ◌+◌, ◌-◌, List, ◌∷◌, Option, Some, None, refl}
 use Rattle.std.specs.Char.{is_ascii}
 use Rattle.std.specs.Prelude.{option_to_list}

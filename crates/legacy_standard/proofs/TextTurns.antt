@@ -1,4 +1,4 @@
--- One turn of the run over a queue of scalars, and that more turns change nothing.
+-- One turn of the run over a queue of scalar values. More turns do not change the result.
 use Rattle.std.proofs.Common.{◌≡◌, ℕ, zero, suc, ◌+◌, ◌≤◌, List, [], ◌∷◌, ◌++◌, map, Option, Some, None, refl, arith, true}
 use Rattle.std.specs.Prelude.{option_map}
 use Rattle.legacy_base.specs.declared.results.EncodeEvent.{EncodeEvent}
@@ -31,7 +31,7 @@ module _ {S : Type 0} (handler : S → TextItem → TextHandled S) where
   agrees (suc m) (suc n) h s (c ∷ rest) =
       let a = handler s (scalar c) in agrees-act (process handler m) (process handler n) (agrees m n (omega arith)) (a.outcome) (a.state) (a.restored ++ rest)
 
-  -- within so many turns these events come
+  -- within some number of turns the events are these
   abbrev pub Writes : S → List ℕ → List EncodeEvent → Type 0
   Writes s queue events = (turns : ℕ) × (process handler turns s queue ≡ Some events)
 
@@ -64,7 +64,7 @@ module _ {S : Type 0} (handler : S → TextItem → TextHandled S) where
   unfolding process
   gives_escape s t c d bs rest es e (n, h) = (suc n, rw (e, h) refl)
 
--- the handler gives the events of the codec, over every text
+-- the handler gives the events of the codec for every text
 abbrev pub IsEncodedBy : {State : Type 0} → Codec → (State → TextItem → TextHandled State) → State → Type 0
 IsEncodedBy codec handler initial =
     (text : List ℕ) → AreScalars text → Encodes handler initial text (encoded (new_encoder codec) text true)

@@ -1,4 +1,4 @@
--- The UTF-16 decoders.
+-- The UTF-16 decoders' handlers give the events of their grammars.
 use Rattle.std.proofs.Common.{◌≡◌, ℕ, zero, suc, ◌+◌, ◌*◌, ◌/◌, ◌%◌, ◌≤◌, Bool, List, [], ◌∷◌, ◌++◌, length, Option, Some, None, refl, true, false, arith}
 use Rattle.std.specs.Prelude.{◌&&◌}
 use Rattle.std.specs.Char.Utf16.{is_high_surrogate, is_low_surrogate, surrogate_pair_char}
@@ -15,7 +15,7 @@ use Rattle.legacy_standard.specs.Utf16.{Utf16, utf16_state, utf16_initial, unit_
 use Rattle.legacy_standard.proofs.Turns.{at_end, goes_on, gives, error_at, error_at_end}
 use Rattle.legacy_standard.proofs.OneResult.{Runs, steady, IsDecodedBy}
 
--- the bytes of a unit are those that it was made of
+-- the bytes of a code unit are those that it was made from
 bytes-back : (is_utf16be : Bool) (a b : ℕ) → IsByte a → IsByte b → unit_bytes is_utf16be (unit_of is_utf16be a b) ≡ a ∷ b ∷ []
 bytes-back true a b p q =
     let high : (a * 0x100 + b) / 0x100 ≡ a = omega arith in
@@ -56,7 +56,7 @@ module _ (is_utf16be : Bool) where
   unfolding utf16_handler
   end_high u = refl
 
-  -- the events of the bytes from the unit with the index i on
+  -- the events of the bytes that begin with the code unit with the index i
   abbrev events : ℕ → List ℕ → List DecodeEvent
   events i bytes = units_events i (units_of is_utf16be bytes) (has_odd_byte bytes)
 
@@ -76,20 +76,20 @@ module _ (is_utf16be : Bool) where
       let e : (is_high_surrogate u && is_low_surrogate v) ≡ true = and_from (is_high_surrogate u) (is_low_surrogate v) h l in
       rw (e, units_events)
 
-  -- two units that are no pair
+  -- two code units that are no surrogate pair
   unpaired-events : (i u v : ℕ) (units : List ℕ) (odd : Bool) → (is_high_surrogate u && is_low_surrogate v) ≡ false →
       units_events i (u ∷ v ∷ units) odd ≡ lone_unit_events i u ++ units_events (i + 1) (v ∷ units) odd
   unfolding units_events
   unpaired-events i u v units odd e = rw (e, units_events)
 
-  -- a unit that is no high surrogate stands by itself
+  -- a code unit that is no high surrogate is not paired with the next one
   lone-events : (i u : ℕ) (units : List ℕ) (odd : Bool) → is_high_surrogate u ≡ false →
       units_events i (u ∷ units) odd ≡ lone_unit_events i u ++ units_events (i + 1) units odd
   unfolding units_events
   lone-events i u [] odd h = rw h refl
   lone-events i u (v ∷ units) odd h = unpaired-events i u v units odd (and_left (is_high_surrogate u) (is_low_surrogate v) h)
 
-  -- and a high surrogate before a unit that is no low one
+  -- a high surrogate before a code unit that is no low surrogate
   high-events : (i u v : ℕ) (units : List ℕ) (odd : Bool) → is_high_surrogate u ≡ true → is_low_surrogate v ≡ false →
       units_events i (u ∷ v ∷ units) odd ≡ Bad (2 * i) 2 ∷ units_events (i + 1) (v ∷ units) odd
   high-events i u v units odd h l = rw (unpaired-events i u v units odd (and_right (is_high_surrogate u) (is_low_surrogate v) l), h) refl
@@ -105,7 +105,7 @@ module _ (is_utf16be : Bool) where
       (λ l. goes_on handler utf16_initial (utf16_state (Some a) None) (2 * i) 0 a (b ∷ rest) _ (first a None)
       (gives handler (utf16_state (Some a) None) utf16_initial (2 * i) 1 b (unit a b ∷ []) rest _ (rw (second a b None, h, l) refl) (rw (next i) after))))
 
-  -- the steps over a high surrogate
+  -- the handler's steps for a high surrogate
   over_high : (place a b : ℕ) (rest : List ℕ) (es : List DecodeEvent) → is_high_surrogate (unit a b) ≡ true →
       Runs handler (utf16_state None (Some (unit a b))) place 2 rest es → Runs handler utf16_initial place 0 (a ∷ b ∷ rest) es
   over_high place a b rest es h after =

@@ -5,7 +5,7 @@ use Rattle.std.specs.Char.{is_ascii}
 use Rattle.legacy_tables.specs.Indexes.{idx}
 use Rattle.legacy_standard.specs.Queue.{Item, byte, end_of_queue, Handled, continue, finished, error, code_point, code_points, returns, return_or_error}
 
--- from "if there is a row in the table below" on
+-- the steps from "if there is a row in the table below" on
 abbrev pub big5_pointer_returns : List ℕ → Option ℕ → ℕ → Handled ℕ
 big5_pointer_returns index None b = return_or_error None b 0x00
 big5_pointer_returns index (Some pointer) b =
@@ -15,7 +15,7 @@ big5_pointer_returns index (Some pointer) b =
     else if pointer == 1166 then returns (code_points (0xEA ∷ 0x30C ∷ [])) 0x00
     else return_or_error (idx index pointer) b 0x00
 
--- with a leading byte
+-- the steps with a leading byte
 abbrev pub big5_trailing : List ℕ → ℕ → ℕ → Handled ℕ
 big5_trailing index leading b =
     let offset : ℕ = if nat_lt b 0x7F then 0x40 else 0x62 in

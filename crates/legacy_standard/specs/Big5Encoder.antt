@@ -4,7 +4,7 @@ use Rattle.std.specs.Char.{is_ascii}
 use Rattle.legacy_tables.specs.Pointers.{big5_pointer_of}
 use Rattle.legacy_standard.specs.TextQueue.{TextOutcome, bytes, error_with}
 
--- with its index Big5 pointer
+-- the steps after the index Big5 pointer is known
 abbrev pub big5_at : Option ℕ → ℕ → TextOutcome
 big5_at None c = error_with c
 big5_at (Some pointer) c =

@@ -1,4 +1,4 @@
--- The handlers of the decoders give what the grammars say.
+-- The law of decoders: the handlers give the events of the grammars.
 use Rattle.std.specs.Prelude.{ℕ, List, Bool, false}
 use Rattle.legacy_base.specs.declared.results.DecodeEvent.{DecodeEvent}
 use Rattle.legacy_base.specs.Grammar as grammars
@@ -19,7 +19,7 @@ use Rattle.legacy_standard.specs.Utf16.{utf16_handler, utf16_initial}
 use Rattle.legacy_standard.specs.Iso2022Jp.{iso_2022_jp_handler, iso_2022_jp_initial}
 use Rattle.legacy_standard.specs.Iso2022JpPlaces.{lateness, AreLate}
 
--- the decoders of the Standard, with the indexes that they read by; that of gb18030 is GBK's too
+-- the decoders of the Standard with their indexes; the gb18030 decoder is GBK's too
 pub data Decoder : Type 0 where
   single_byte : (table : List ℕ) → Decoder
   user_defined : Decoder
@@ -32,7 +32,7 @@ pub data Decoder : Type 0 where
   gb18030 : (index : List ℕ) (ranges : List (ℕ × ℕ)) → Decoder
   iso_2022_jp : (jis0208 : List ℕ) → Decoder
 
--- the grammar of each
+-- the grammar of each decoder
 abbrev pub grammar_of : Decoder → Grammar
 grammar_of (single_byte table) = grammars.single_byte table
 grammar_of user_defined = grammars.user_defined
@@ -45,8 +45,8 @@ grammar_of (euc_jp jis0208 jis0212) = grammars.euc_jp jis0208 jis0212
 grammar_of (gb18030 index ranges) = grammars.gb18030 index ranges
 grammar_of (iso_2022_jp jis0208) = grammars.iso_2022_jp jis0208 ascii
 
--- The handler finishes over these bytes, and its code points and errors are these events: with the place and length of each
--- error, and in ISO-2022-JP with errors that end as late as `lateness` says.
+-- The handler finishes over these bytes, and its code points and errors are these events, with the place and length of
+-- each error. In ISO-2022-JP errors end as late as `lateness` says.
 abbrev pub HandlerDecodes : Decoder → List ℕ → List DecodeEvent → Type 0
 HandlerDecodes (single_byte table) bytes events = Processes (single_byte_handler table) tt 0 0 bytes events
 HandlerDecodes user_defined bytes events = Processes user_defined_handler tt 0 0 bytes events
@@ -61,6 +61,6 @@ HandlerDecodes (iso_2022_jp jis0208) bytes events =
     (handled : List DecodeEvent) × Processes (iso_2022_jp_handler jis0208) iso_2022_jp_initial 0 0 bytes handled
     × AreLate (lateness bytes) handled events
 
--- so it is with the events of each grammar, over every list of bytes and any indexes, accepted or not
+-- each handler gives the events of its grammar, for every list of bytes and any indexes, accepted or not
 abbrev pub AreDecodedByHandlers : Type 0
 AreDecodedByHandlers = (decoder : Decoder) (bytes : List ℕ) → AreBytes bytes → HandlerDecodes decoder bytes (events_of (grammar_of decoder) bytes)

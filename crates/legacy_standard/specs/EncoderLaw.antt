@@ -1,4 +1,4 @@
--- The handlers of the encoders give what the definitions of encoding say.
+-- The law of encoders: the handlers give the events of the definitions.
 use Rattle.std.specs.Prelude.{◌≡◌, ℕ, ◌-◌, ◌==◌, ◌||◌, List, Some, None, Bool, true, false, not, is_some, ⊤}
 use Rattle.std.specs.Int.{is_in_range}
 use Rattle.std.specs.Char.{is_ascii, IsScalar}
@@ -31,34 +31,35 @@ HandlerEncodes (gb18030 index ranges pua) text events = Encodes (by_scalar (gb18
 HandlerEncodes (gbk index ranges pua) text events = Encodes (by_scalar (gb18030_encodes true index ranges pua)) tt text events
 HandlerEncodes (iso_2022_jp jis0208 katakana_index) text events = Encodes (iso_2022_jp_encodes jis0208 katakana_index) ascii text events
 
--- ---- what the Standard's own indexes have, and a table need not have
+-- ---- pointers that the Standard's own indexes have, and other tables can lack
 
--- a scalar with a pointer in index jis0208 has its first one in the 94 rows of 94, and U+FF0D has one
+-- each scalar with a pointer in index jis0208 has its first one in the 94 rows of 94, and U+FF0D has one
 pub record HasRows (jis0208 : List ℕ) : Type 0 where
   pub first : (c : ℕ) → index_pointer jis0208 c ≡ euc_jp_pointer_of jis0208 c
   pub hyphen : is_some (euc_jp_pointer_of jis0208 0xFF0D) ≡ true
 
--- the ISO-2022-JP encoder looks up the scalar itself
+-- the ISO-2022-JP encoder looks up the scalar without replacing it
 abbrev pub is_looked_up : ℕ → Bool
 is_looked_up c = not ((is_ascii c || is_in_range 0xFF61 0xFF9F c) || ((c == 0xA5 || c == 0x203E) || c == 0x2212))
 
--- a half-width katakana has an entry in index ISO-2022-JP katakana, which is looked up itself and has a pointer
+-- the half-width katakana c has an entry in index ISO-2022-JP katakana; that entry is looked up itself and has a
+-- pointer
 pub record IsFold (jis0208 katakana_index : List ℕ) (c : ℕ) : Type 0 where
   pub entry : ℕ
   pub entry_is : idx katakana_index (c - 0xFF61) ≡ Some entry
   pub looked_up : is_looked_up entry ≡ true
   pub has_pointer : is_some (euc_jp_pointer_of jis0208 entry) ≡ true
 
--- each half-width katakana has one
+-- each half-width katakana has such an entry
 abbrev pub HasFolds : List ℕ → List ℕ → Type 0
 HasFolds jis0208 katakana_index = (c : ℕ) → is_in_range 0xFF61 0xFF9F c ≡ true → IsFold jis0208 katakana_index c
 
--- each scalar without other bytes has a pointer of four bytes
+-- each scalar past ASCII without other bytes, except U+E5E5, has a pointer of four bytes
 abbrev pub HasRangePointers : List ℕ → List (ℕ × ℕ) → List (ℕ × ℕ × ℕ) → Type 0
 HasRangePointers index ranges pua = (c : ℕ) → IsScalar c → is_ascii c ≡ false → (c == 0xE5E5) ≡ false →
     gb18030_pua_of pua c ≡ None → gb18030_pointer_of index c ≡ None → is_some (range_pointer_of ranges c) ≡ true
 
--- the pointers that a codec's lists need to have
+-- the pointers that a codec's lists must have
 abbrev pub HasPointers : Codec → Type 0
 HasPointers (shift_jis jis0208) = is_some (shift_jis_pointer_of jis0208 0xFF0D) ≡ true
 HasPointers (euc_jp jis0208 jis0212) = HasRows jis0208
@@ -68,17 +69,17 @@ HasPointers _ = ⊤
 
 -- ---- the law
 
--- the ranges passed the checks of tables
+-- the ranges are accepted by the checks of tables
 pub record AreAcceptedRanges (ranges : List (ℕ × ℕ)) : Type 0 where
   pub ordered : range_order_fault 0 None ranges ≡ None
   pub valued : range_value_fault 0 ranges ≡ None
 
--- so it is with those of a codec, if it has some
+-- the ranges of the codec are accepted, if it has any
 abbrev pub HasAcceptedRanges : Codec → Type 0
 HasAcceptedRanges (gb18030 index ranges pua) = AreAcceptedRanges ranges
 HasAcceptedRanges _ = ⊤
 
--- the handler gives what a new encoder gives of a text to its end
+-- for each text the handler gives the events of a new encoder that writes the text to its end
 abbrev pub AreEncodedByHandlers : Type 0
 AreEncodedByHandlers =
     (codec : Codec) → HasAcceptedRanges codec → HasPointers codec →

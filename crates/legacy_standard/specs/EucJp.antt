@@ -1,4 +1,5 @@
--- The Standard's "EUC-JP decoder". Its state is EUC-JP jis0212, initially false, and the EUC-JP leading byte, initially 0x00.
+-- The Standard's "EUC-JP decoder". Its state is EUC-JP jis0212, initially false, and the EUC-JP leading byte, initially
+-- 0x00.
 use Rattle.std.specs.Prelude.{ℕ, ◌+◌, ◌-◌, ◌*◌, ◌==◌, ◌||◌, ◌&&◌, not, Bool, true, false, List, Option, None, if◌then◌else◌}
 use Rattle.std.specs.Int.{is_in_range}
 use Rattle.std.specs.Char.{is_ascii}
@@ -15,7 +16,7 @@ euc_jp_state jis0212 leading = record { jis0212 = jis0212; leading = leading }
 abbrev pub euc_jp_initial : EucJp
 euc_jp_initial = euc_jp_state false 0x00
 
--- with a leading byte, past the steps for 0x8E and 0x8F
+-- the steps with a leading byte, after those for 0x8E and 0x8F
 abbrev pub euc_jp_trailing : List ℕ → List ℕ → EucJp → ℕ → Handled EucJp
 euc_jp_trailing jis0208 jis0212 d b =
     let code_point : Option ℕ =

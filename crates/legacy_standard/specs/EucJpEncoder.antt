@@ -6,7 +6,7 @@ use Rattle.legacy_standard.specs.TextQueue.{TextOutcome, bytes, error_with}
 use Rattle.legacy_standard.specs.IndexPointers.{index_pointer}
 use Rattle.legacy_standard.specs.ShiftJisEncoder.{minus_set}
 
--- with its index pointer
+-- the steps after the index pointer is known
 abbrev pub euc_jp_at : Option ℕ → ℕ → TextOutcome
 euc_jp_at None c = error_with c
 euc_jp_at (Some pointer) c =

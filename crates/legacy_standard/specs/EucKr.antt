@@ -6,7 +6,7 @@ use Rattle.std.specs.Option.{option_and_then}
 use Rattle.legacy_tables.specs.Indexes.{idx}
 use Rattle.legacy_standard.specs.Queue.{Item, byte, end_of_queue, Handled, continue, finished, error, code_point, returns, return_or_error}
 
--- with a leading byte
+-- the steps with a leading byte
 abbrev pub euc_kr_trailing : List ℕ → ℕ → ℕ → Handled ℕ
 euc_kr_trailing index leading b =
     let pointer : Option ℕ = if is_in_range 0x41 0xFE b then Some ((leading - 0x81) * 190 + (b - 0x41)) else None in

@@ -19,7 +19,7 @@ gb18030_state first second third = record { first = first; second = second; thir
 abbrev pub gb18030_initial : Gb18030
 gb18030_initial = gb18030_state 0x00 0x00 0x00
 
--- with gb18030 third
+-- the steps if gb18030 third is set
 abbrev pub gb18030_fourth_byte : List (ℕ × ℕ) → Gb18030 → ℕ → Handled Gb18030
 gb18030_fourth_byte ranges d b =
     if not (is_in_range 0x30 0x39 b) then restores (d.second ∷ d.third ∷ b ∷ []) error (gb18030_state 0x00 0x00 0x00)
@@ -27,13 +27,13 @@ gb18030_fourth_byte ranges d b =
     let pointer : ℕ = (d.first - 0x81) * (10 * 126 * 10) + (d.second - 0x30) * (10 * 126) + (d.third - 0x81) * 10 + (b - 0x30) in
     returns (code_point_or_error (range ranges pointer)) (gb18030_state 0x00 0x00 0x00)
 
--- with gb18030 second
+-- the steps if gb18030 second is set
 abbrev pub gb18030_third_byte : Gb18030 → ℕ → Handled Gb18030
 gb18030_third_byte d b =
     if is_in_range 0x81 0xFE b then returns continue (gb18030_state d.first d.second b)
     else restores (d.second ∷ b ∷ []) error (gb18030_state 0x00 0x00 d.third)
 
--- with gb18030 first
+-- the steps if gb18030 first is set
 abbrev pub gb18030_second_byte : List ℕ → Gb18030 → ℕ → Handled Gb18030
 gb18030_second_byte index d b =
     if is_in_range 0x30 0x39 b then returns continue (gb18030_state d.first b d.third)

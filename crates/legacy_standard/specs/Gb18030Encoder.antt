@@ -1,11 +1,11 @@
--- The Standard's "gb18030 encoder", and by is GBK "GBK encoder".
+-- The Standard's "gb18030 encoder"; if is GBK is true, the "GBK encoder".
 use Rattle.std.specs.Prelude.{ℕ, ◌+◌, ◌*◌, ◌/◌, ◌%◌, ◌==◌, ◌&&◌, nat_lt, Bool, List, [], ◌∷◌, Option, Some, None, if◌then◌else◌}
 use Rattle.std.specs.Char.{is_ascii}
 use Rattle.legacy_tables.specs.Indexes.{gb18030_pua_of}
 use Rattle.legacy_standard.specs.TextQueue.{TextOutcome, bytes, error_with}
 use Rattle.legacy_standard.specs.IndexPointers.{index_pointer, ranges_pointer}
 
--- with its index gb18030 ranges pointer
+-- the steps after the index gb18030 ranges pointer is known
 abbrev pub gb18030_range_at : Option ℕ → ℕ → TextOutcome
 gb18030_range_at None c = error_with c
 gb18030_range_at (Some pointer) c =
@@ -17,7 +17,7 @@ gb18030_range_at (Some pointer) c =
     let byte4 : ℕ = pointer3 % 10 in
     bytes ((byte1 + 0x81) ∷ (byte2 + 0x30) ∷ (byte3 + 0x81) ∷ (byte4 + 0x30) ∷ [])
 
--- with its index pointer
+-- the steps after the index pointer is known
 abbrev pub gb18030_at : Bool → List (ℕ × ℕ) → Option ℕ → ℕ → TextOutcome
 gb18030_at is_gbk ranges (Some pointer) c =
     let leading : ℕ = pointer / 190 + 0x81 in
@@ -26,7 +26,7 @@ gb18030_at is_gbk ranges (Some pointer) c =
     bytes (leading ∷ (trailing + offset) ∷ [])
 gb18030_at is_gbk ranges None c = if is_gbk then error_with c else gb18030_range_at (ranges_pointer ranges c) c
 
--- with its row in the table of private-use scalars
+-- the steps after the row in the table of private-use scalars is known
 abbrev pub gb18030_row : Bool → List ℕ → List (ℕ × ℕ) → Option (ℕ × ℕ) → ℕ → TextOutcome
 gb18030_row is_gbk index ranges (Some row) c = bytes (row.0 ∷ row.1 ∷ [])
 gb18030_row is_gbk index ranges None c = gb18030_at is_gbk ranges (index_pointer index c) c

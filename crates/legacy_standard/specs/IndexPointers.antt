@@ -1,5 +1,5 @@
--- The Standard's "index pointer" and "index gb18030 ranges pointer". `Pointers` of `legacy_tables` has "index Big5 pointer" and
--- "index Shift_JIS pointer".
+-- The Standard's "index pointer" and "index gb18030 ranges pointer". `Pointers` of `legacy_tables` has "index Big5
+-- pointer" and "index Shift_JIS pointer".
 use Rattle.std.specs.Prelude.{ℕ, ◌+◌, ◌-◌, ◌==◌, nat_le, List, [], ◌∷◌, Option, Some, None, if◌then◌else◌}
 use Rattle.std.specs.Option.{option_or}
 use Rattle.legacy_tables.specs.Pointers.{first_pointer, every_pointer}
@@ -8,12 +8,12 @@ use Rattle.legacy_tables.specs.Pointers.{first_pointer, every_pointer}
 abbrev pub index_pointer : List ℕ → ℕ → Option ℕ
 index_pointer index c = first_pointer every_pointer index c
 
--- by the last of the ranges whose code point is less than or equal to c
+-- the pointer by the last range whose code point is at most c
 abbrev pub offset_pointer : List (ℕ × ℕ) → ℕ → Option ℕ
 offset_pointer [] c = None
 offset_pointer (r ∷ ranges) c = option_or (offset_pointer ranges c) (if nat_le r.1 c then Some (r.0 + (c - r.1)) else None)
 
--- "index gb18030 ranges pointer". The last range of the Standard's index, 189000 and U+10000, is in no list of ranges.
+-- "index gb18030 ranges pointer"; no list of ranges contains the last range of the Standard's index (189000, U+10000)
 unfoldable pub ranges_pointer : List (ℕ × ℕ) → ℕ → Option ℕ
 ranges_pointer ranges c =
     if c == 0xE7C7 then Some 7457

@@ -1,5 +1,5 @@
--- The Standard's "ISO-2022-JP decoder". Its state is the ISO-2022-JP decoder state and decoder output state, initially ASCII,
--- the ISO-2022-JP leading byte, initially 0x00, and ISO-2022-JP output, initially false.
+-- The Standard's "ISO-2022-JP decoder". Its state is the ISO-2022-JP decoder state and decoder output state, initially
+-- ASCII, the ISO-2022-JP leading byte, initially 0x00, and ISO-2022-JP output, initially false.
 use Rattle.std.specs.Prelude.{ℕ, ◌+◌, ◌-◌, ◌*◌, ◌==◌, ◌||◌, ◌&&◌, not, Bool, true, false, List, [], ◌∷◌, Option, Some, None, if◌then◌else◌}
 use Rattle.std.specs.Int.{is_in_range}
 use Rattle.legacy_tables.specs.Indexes.{idx}
@@ -17,19 +17,19 @@ pub record Iso2022Jp : Type 0 where
 abbrev pub iso_2022_jp_initial : Iso2022Jp
 iso_2022_jp_initial = record { state = ascii; output_state = ascii; leading = 0x00; output = false }
 
--- the decoder with its decoder state set to this
+-- the decoder with its decoder state set to the given one
 abbrev pub in_state : DecoderState → Iso2022Jp → Iso2022Jp
 in_state new d = record { state = new; output_state = d.output_state; leading = d.leading; output = d.output }
 
--- with its leading byte set to this
+-- the decoder with its leading byte set to the given one
 abbrev pub with_leading : ℕ → Iso2022Jp → Iso2022Jp
 with_leading b d = record { state = d.state; output_state = d.output_state; leading = b; output = d.output }
 
--- with its output set to this
+-- the decoder with its output set to the given value
 abbrev pub with_output : Bool → Iso2022Jp → Iso2022Jp
 with_output new d = record { state = d.state; output_state = d.output_state; leading = d.leading; output = new }
 
--- the state that the two bytes of an escape switch to, or null
+-- the decoder state for the two bytes of an escape, or null
 abbrev pub escape_state : ℕ → ℕ → Option DecoderState
 escape_state leading b =
     if leading == 0x28 && b == 0x42 then Some ascii
@@ -44,7 +44,7 @@ after_escape (Some new) leading b d =
     returns (if not d.output then continue else error) (record { state = new; output_state = new; leading = d.leading; output = true })
 after_escape None leading b d = restores (leading ∷ b ∷ []) error (in_state d.output_state (with_output false d))
 
--- by the decoder state
+-- the handler in a decoder state
 abbrev pub handler_in : DecoderState → List ℕ → Iso2022Jp → Item → Handled Iso2022Jp
 handler_in ascii jis0208 d (byte b) =
     if b == 0x1B then returns continue (in_state escape_start d)

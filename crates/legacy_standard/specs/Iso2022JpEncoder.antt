@@ -31,18 +31,18 @@ to_roman = bytes (0x1B ∷ 0x28 ∷ 0x4A ∷ [])
 abbrev pub to_jis0208 : TextOutcome
 to_jis0208 = bytes (0x1B ∷ 0x24 ∷ 0x42 ∷ [])
 
--- the byte in Roman
+-- the byte of a scalar in Roman state
 abbrev pub roman_byte : ℕ → ℕ
 roman_byte c = if is_ascii c then c else if c == 0xA5 then 0x5C else 0x7E
 
--- what a code point is set to before the index pointer
+-- the code point that is looked up for c
 abbrev pub set_scalar : List ℕ → ℕ → Option ℕ
 set_scalar katakana_index c =
     if c == 0x2212 then Some 0xFF0D
     else if is_in_range 0xFF61 0xFF9F c then idx katakana_index (c - 0xFF61)
     else Some c
 
--- with its index pointer
+-- the steps after the index pointer is known
 abbrev pub at_pointer : EncoderState → Option ℕ → ℕ → TextHandled EncoderState
 at_pointer state None c =
     if is_jis0208_state state then restores c to_ascii ascii
@@ -51,7 +51,8 @@ at_pointer state (Some pointer) c =
     if not (is_jis0208_state state) then restores c to_jis0208 jis0208
     else returns (bytes ((pointer / 94 + 0x21) ∷ (pointer % 94 + 0x21) ∷ [])) state
 
--- with what it is set to; with nothing, the index being too short, it is taken as it was
+-- the steps after the code point is replaced; if the katakana index has no entry for it, c itself is taken, without a
+-- pointer
 abbrev pub at_set : List ℕ → EncoderState → Option ℕ → ℕ → TextHandled EncoderState
 at_set index state None c = at_pointer state None c
 at_set index state (Some set) c = at_pointer state (index_pointer index set) set

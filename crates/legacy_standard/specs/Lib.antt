@@ -1,4 +1,5 @@
--- The decoders and encoders as the WHATWG Encoding Standard writes them, and the laws that ours are the same.
+-- The handlers of the WHATWG Encoding Standard's decoders and encoders, and the laws that they agree with our
+-- definitions.
 pub mod Queue
 pub mod Processing
 pub mod SingleByte

@@ -4,8 +4,9 @@ use Rattle.legacy_base.specs.declared.results.DecodeEvent.{DecodeEvent}
 use Rattle.legacy_base.specs.declared.results.DecodeEvent.TheVariants.{Scalar, Bad}
 use Rattle.legacy_standard.specs.Queue.{Item, byte, end_of_queue, Outcome, continue, finished, error, code_points, Handled}
 
--- What is done with an outcome. The handler has read `size` bytes from the place on since it last returned anything but
--- continue, without those that it restored. The Standard does not count bytes: only the place and length of an error use that.
+-- The effect of an outcome. The handler has read `size` bytes from `place` on since it last returned anything but
+-- continue, without those that it restored. The Standard does not count bytes; only the place and length of an error
+-- depend on this number.
 abbrev pub act_on : {State : Type 0} → (State → ℕ → ℕ → List ℕ → Option (List DecodeEvent))
     → Outcome → State → ℕ → ℕ → List ℕ → Option (List DecodeEvent)
 act_on go continue state place size queue = go state place size queue
@@ -14,7 +15,7 @@ act_on go error state place size queue = option_map (λ events. Bad place size �
 act_on go (code_points cs) state place size queue =
     option_map (λ events. map Scalar cs ++ events) (go state (place + size) 0 queue)
 
--- the events of a queue within this many turns, and none if the handler has not finished by then
+-- the events of a queue within this many turns, or none if the handler has not finished by then
 unfoldable pub process : {State : Type 0} → (State → Item → Handled State)
     → ℕ → State → ℕ → ℕ → List ℕ → Option (List DecodeEvent)
 process handler zero state place size queue = None
@@ -25,7 +26,7 @@ process handler (suc turns) state place size (b ∷ rest) =
     let h = handler state (byte b) in
     act_on (process handler turns) h.outcome h.state place (size + 1 - length h.restored) (h.restored ++ rest)
 
--- the handler finishes within some number of turns, and within any greater one, with these events
+-- the handler gives these events within some number of turns, and within any greater number
 abbrev pub Processes : {State : Type 0} → (State → Item → Handled State) → State → ℕ → ℕ → List ℕ → List DecodeEvent → Type 0
 Processes handler state place size queue events =
     (turns : ℕ) × ((more : ℕ) → process handler (turns + more) state place size queue ≡ Some events)

@@ -5,14 +5,14 @@ use Rattle.std.specs.Char.{is_ascii}
 use Rattle.legacy_tables.specs.Indexes.{idx}
 use Rattle.legacy_standard.specs.Queue.{Item, byte, end_of_queue, Handled, continue, finished, error, code_point, returns, return_or_error}
 
--- from "if pointer is in the range 8836 to 10715" on
+-- the steps from "if pointer is in the range 8836 to 10715" on
 abbrev pub shift_jis_pointer_returns : List ℕ → Option ℕ → ℕ → Handled ℕ
 shift_jis_pointer_returns jis0208 None b = return_or_error None b 0x00
 shift_jis_pointer_returns jis0208 (Some pointer) b =
     if is_in_range 8836 10715 pointer then returns (code_point (0xE000 + (pointer - 8836))) 0x00
     else return_or_error (idx jis0208 pointer) b 0x00
 
--- with a leading byte
+-- the steps with a leading byte
 abbrev pub shift_jis_trailing : List ℕ → ℕ → ℕ → Handled ℕ
 shift_jis_trailing jis0208 leading b =
     let offset : ℕ = if nat_lt b 0x7F then 0x40 else 0x41 in

@@ -9,7 +9,7 @@ use Rattle.legacy_standard.specs.TextQueue.{TextOutcome, bytes, error_with}
 abbrev pub minus_set : ℕ → ℕ
 minus_set c = if c == 0x2212 then 0xFF0D else c
 
--- with its index Shift_JIS pointer
+-- the steps after the index Shift_JIS pointer is known
 abbrev pub shift_jis_at : Option ℕ → ℕ → TextOutcome
 shift_jis_at None c = error_with c
 shift_jis_at (Some pointer) c =

@@ -4,7 +4,7 @@ use Rattle.std.specs.Char.{is_ascii}
 use Rattle.legacy_standard.specs.TextQueue.{TextOutcome, bytes, error_with}
 use Rattle.legacy_standard.specs.IndexPointers.{index_pointer}
 
--- with its index pointer
+-- the steps after the index pointer is known
 abbrev pub single_byte_at : Option ℕ → ℕ → TextOutcome
 single_byte_at None c = error_with c
 single_byte_at (Some pointer) c = bytes ((pointer + 0x80) ∷ [])

@@ -1,46 +1,46 @@
--- What an encoder's handler reads and returns, and its run over a queue of scalar values (Encoding Standard, "process a queue"
--- and "process an item").
+-- The items that an encoder's handler reads, its results, and its run over a queue of scalar values (Encoding Standard,
+-- "process a queue" and "process an item").
 use Rattle.std.specs.Prelude.{◌≡◌, ℕ, zero, suc, ◌+◌, List, [], ◌∷◌, ◌++◌, map, Option, Some, None, option_map}
 use Rattle.legacy_base.specs.declared.results.EncodeEvent.{EncodeEvent}
 use Rattle.legacy_base.specs.declared.results.EncodeEvent.TheVariants.{Byte, Unmappable}
 
--- what is read from a queue of scalar values
+-- an item of a queue of scalar values
 pub data TextItem : Type 0 where
   scalar : ℕ → TextItem
   end_of_queue : TextItem
 
--- what a handler returns; continue is returned by no encoder
+-- the result of a handler; no encoder returns continue
 pub data TextOutcome : Type 0 where
   finished : TextOutcome
   bytes : List ℕ → TextOutcome
   error_with : ℕ → TextOutcome
 
--- what a handler returns, the state that it leaves, and the scalar values that it restores
+-- a handler's result, its state after it, and the scalar values that it restores
 pub record TextHandled (State : Type 0) : Type 0 where
   pub outcome : TextOutcome
   pub state : State
   pub restored : List ℕ
 
--- restores nothing
+-- a result with no scalar value restored
 abbrev pub returns : {State : Type 0} → TextOutcome → State → TextHandled State
 returns outcome state = record { outcome = outcome; state = state; restored = [] }
 
--- restores this scalar value
+-- a result with this scalar value restored
 abbrev pub restores : {State : Type 0} → ℕ → TextOutcome → State → TextHandled State
 restores c outcome state = record { outcome = outcome; state = state; restored = c ∷ [] }
 
--- a handler without a state, by what it returns for a scalar value
+-- a handler without a state, by its result for each scalar value
 abbrev pub by_scalar : (ℕ → TextOutcome) → Unit {0} → TextItem → TextHandled (Unit {0})
 by_scalar outcome e end_of_queue = returns finished tt
 by_scalar outcome e (scalar c) = returns (outcome c) tt
 
--- what is done with an outcome
+-- the effect of an outcome
 abbrev pub act_on : {State : Type 0} → (State → List ℕ → Option (List EncodeEvent)) → TextOutcome → State → List ℕ → Option (List EncodeEvent)
 act_on go finished state queue = Some []
 act_on go (bytes bs) state queue = option_map (λ events. map Byte bs ++ events) (go state queue)
 act_on go (error_with c) state queue = option_map (λ events. Unmappable c ∷ events) (go state queue)
 
--- the events of a queue within this many turns, and none if the handler has not finished by then
+-- the events of a queue within this many turns, or none if the handler has not finished by then
 unfoldable pub process : {State : Type 0} → (State → TextItem → TextHandled State) → ℕ → State → List ℕ → Option (List EncodeEvent)
 process handler zero state queue = None
 process handler (suc turns) state [] =
@@ -48,6 +48,6 @@ process handler (suc turns) state [] =
 process handler (suc turns) state (c ∷ rest) =
     let h = handler state (scalar c) in act_on (process handler turns) h.outcome h.state (h.restored ++ rest)
 
--- the handler finishes within some number of turns, and within any greater one, with these events
+-- the handler gives these events within some number of turns, and within any greater number
 abbrev pub Encodes : {State : Type 0} → (State → TextItem → TextHandled State) → State → List ℕ → List EncodeEvent → Type 0
 Encodes handler state queue events = (turns : ℕ) × ((more : ℕ) → process handler (turns + more) state queue ≡ Some events)

@@ -1,5 +1,5 @@
--- The Standard's "shared UTF-16 decoder". Its state is the UTF-16 leading byte and the UTF-16 leading surrogate, initially
--- null. Is UTF-16BE decoder is an argument.
+-- The Standard's "shared UTF-16 decoder". Its state is the UTF-16 leading byte and the UTF-16 leading surrogate,
+-- initially null. Is UTF-16BE decoder is an argument.
 use Rattle.std.specs.Prelude.{ℕ, ◌+◌, ◌*◌, ◌/◌, ◌%◌, ◌||◌, Bool, List, [], ◌∷◌, Option, Some, None, is_some, if◌then◌else◌}
 use Rattle.std.specs.Char.Utf16.{is_high_surrogate, is_low_surrogate, surrogate_pair_char}
 use Rattle.legacy_standard.specs.Queue.{Item, byte, end_of_queue, Handled, continue, finished, error, code_point, returns, restores}
@@ -21,7 +21,7 @@ unit_bytes is_utf16be unit =
     let byte2 : ℕ = unit % 0x100 in
     if is_utf16be then byte1 ∷ byte2 ∷ [] else byte2 ∷ byte1 ∷ []
 
--- with a code unit
+-- the steps for a code unit
 abbrev pub utf16_unit : Bool → Option ℕ → ℕ → Handled Utf16
 utf16_unit is_utf16be (Some leading_surrogate) unit =
     if is_low_surrogate unit then returns (code_point (surrogate_pair_char leading_surrogate unit)) (utf16_state None None)
@@ -31,7 +31,7 @@ utf16_unit is_utf16be None unit =
     else if is_low_surrogate unit then returns error (utf16_state None None)
     else returns (code_point unit) (utf16_state None None)
 
--- with a byte
+-- the steps for a byte
 abbrev pub utf16_byte : Bool → Option ℕ → Option ℕ → ℕ → Handled Utf16
 utf16_byte is_utf16be None leading_surrogate b = returns continue (utf16_state (Some b) leading_surrogate)
 utf16_byte is_utf16be (Some leading_byte) leading_surrogate b =

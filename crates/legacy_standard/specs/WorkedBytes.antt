@@ -1,4 +1,4 @@
--- Worked rows: bytes, and the events that the handlers compute from them. Expected values are those of the Standard.
+-- Worked examples: bytes and the events that the handlers give for them. The expected events are those of the Standard.
 use Rattle.std.specs.Prelude.{◌≡◌, ℕ, List, [], ◌∷◌, map, Some, true, false}
 use Rattle.legacy_base.specs.declared.results.DecodeEvent.{DecodeEvent}
 use Rattle.legacy_base.specs.declared.results.DecodeEvent.TheVariants.{Scalar, Bad}
@@ -16,7 +16,7 @@ use Rattle.legacy_standard.specs.Utf16.{utf16_handler, utf16_initial}
 use Rattle.legacy_standard.specs.Iso2022Jp.{iso_2022_jp_handler, iso_2022_jp_initial}
 use Rattle.legacy_standard.specs.Iso2022JpPlaces.{lateness}
 
--- within 20 turns the handler gives each row's events of its bytes
+-- within 20 turns the handler gives the events of each row for its bytes
 abbrev pub Computes : {State : Type 0} → (State → Item → Handled State) → State → List (List ℕ × List DecodeEvent) → Type 0
 Computes handler initial rows = map (λ row. process handler 20 initial 0 0 row.0) rows ≡ map (λ row. Some row.1) rows
 
@@ -69,8 +69,8 @@ pub record ComputeWorkedBytes : Type 0 where
       ∷ (0x1B ∷ 0x24 ∷ 0x42 ∷ 0x39 ∷ 0x1B ∷ 0x24 ∷ [], Bad 0 5 ∷ Bad 5 0 ∷ Bad 5 1 ∷ [])
       ∷ (0x1B ∷ 0x41 ∷ 0x0E ∷ 0x1B ∷ [], Bad 0 1 ∷ Scalar 0x41 ∷ Bad 2 1 ∷ Bad 3 1 ∷ [])
       ∷ (0x1B ∷ 0x24 ∷ 0x40 ∷ 0x21 ∷ 0x22 ∷ [], Bad 0 5 ∷ []) ∷ [])
-  -- the grammar's malformed sequences, by place and length: an escape before another one, a lead before an escape byte, the
-  -- escape byte that follows it, a last lead, and a byte of katakana before an escape byte
+  -- The lateness of malformed sequences of the grammar, by place and length. The sequences are an escape before another
+  -- one, a lead before an escape byte, that escape byte, a lead at the end, and a katakana byte before an escape byte.
   pub escape_meets : lateness (0x1B ∷ 0x28 ∷ 0x42 ∷ 0x1B ∷ 0x28 ∷ 0x4A ∷ []) 0 3 ≡ 3
   pub lead_before_escape : lateness (0x1B ∷ 0x24 ∷ 0x42 ∷ 0x39 ∷ 0x1B ∷ 0x24 ∷ []) 3 1 ≡ 1
   pub escape_byte : lateness (0x1B ∷ 0x24 ∷ 0x42 ∷ 0x39 ∷ 0x1B ∷ 0x24 ∷ []) 4 1 ≡ 0

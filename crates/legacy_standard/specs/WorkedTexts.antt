@@ -1,4 +1,5 @@
--- Worked rows: texts, and the events that the encoders' handlers compute from them. Expected values are those of the Standard.
+-- Worked examples: texts and the events that the encoders' handlers give for them. The expected events are those of the
+-- Standard.
 use Rattle.std.specs.Prelude.{◌≡◌, ℕ, List, [], ◌∷◌, ◌++◌, map, replicate, Some, true, false}
 use Rattle.legacy_base.specs.declared.results.EncodeEvent.{EncodeEvent}
 use Rattle.legacy_base.specs.declared.results.EncodeEvent.TheVariants.{Byte, Unmappable}
@@ -15,11 +16,11 @@ use Rattle.legacy_standard.specs.Gb18030Encoder.{gb18030_encodes}
 use Rattle.legacy_standard.specs.Iso2022JpEncoder.{ascii, iso_2022_jp_encodes}
 use Rattle.legacy_standard.specs.EncoderLaw.{HasPointers}
 
--- within 20 turns the handler gives each row's events of its text
+-- within 20 turns the handler gives the events of each row for its text
 abbrev pub Computes : {State : Type 0} → (State → TextItem → TextHandled State) → State → List (List ℕ × List EncodeEvent) → Type 0
 Computes handler initial rows = map (λ row. process handler 20 initial row.0) rows ≡ map (λ row. Some row.1) rows
 
--- of one scalar the handler gives these events, and the encoder of the codec those
+-- for one scalar the handler gives the first events, and the codec's encoder the second
 abbrev pub Parts : {State : Type 0} → (State → TextItem → TextHandled State) → State → Codec → ℕ → List EncodeEvent → List EncodeEvent → Type 0
 Parts handler initial codec c handled events =
     (process handler 20 initial (c ∷ []) ≡ Some handled) × (encoded (new_encoder codec) (c ∷ []) true ≡ events)
@@ -56,7 +57,7 @@ pub record ComputeWorkedTexts : Type 0 where
       ∷ (0x2212 ∷ 0xFF61 ∷ [], Byte 0x1B ∷ Byte 0x24 ∷ Byte 0x42 ∷ Byte 0x21 ∷ Byte 0x22 ∷ Byte 0x21 ∷ Byte 0x23 ∷ Byte 0x1B ∷ Byte 0x28 ∷ Byte 0x42 ∷ [])
       ∷ (0x1B ∷ 0x0E ∷ [], Unmappable 0xFFFD ∷ Unmappable 0xFFFD ∷ []) ∷ [])
 
--- The smallest indexes without the pointers of `HasPointers`: the handler's events part from the encoder's.
+-- The smallest indexes that lack a pointer of `HasPointers`. The handler's events differ from the encoder's.
 pub record PartWithoutPointers : Type 0 where
   -- no U+FF0D
   pub shift_jis : Parts (by_scalar (shift_jis_encodes [])) tt (codecs.shift_jis []) 0x2212 (Unmappable 0xFF0D ∷ []) (Unmappable 0x2212 ∷ [])
@@ -69,14 +70,14 @@ pub record PartWithoutPointers : Type 0 where
   pub overline : Parts (iso_2022_jp_encodes (0x203E ∷ []) (0x203E ∷ [])) ascii (codecs.iso_2022_jp (0x203E ∷ []) (0x203E ∷ [])) 0xFF61
       (Byte 0x1B ∷ Byte 0x24 ∷ Byte 0x42 ∷ Byte 0x1B ∷ Byte 0x28 ∷ Byte 0x4A ∷ Byte 0x7E ∷ Byte 0x1B ∷ Byte 0x28 ∷ Byte 0x42 ∷ [])
       (Byte 0x1B ∷ Byte 0x24 ∷ Byte 0x42 ∷ Byte 0x21 ∷ Byte 0x21 ∷ Byte 0x1B ∷ Byte 0x28 ∷ Byte 0x42 ∷ [])
-  -- a scalar whose only pointer is past the rows: the handler's bytes decode to an error
+  -- a scalar whose only pointer is after the 94 rows: the handler's bytes decode to an error
   pub row : Parts (by_scalar (euc_jp_encodes (entry_at 8836 0x4E00))) tt (codecs.euc_jp (entry_at 8836 0x4E00) []) 0x4E00
       (Byte 0xFF ∷ Byte 0xA1 ∷ []) (Unmappable 0x4E00 ∷ [])
   -- a scalar past the last pointer of the ranges
   pub gb18030 : Parts (by_scalar (gb18030_encodes false [] ((0, 0x80) ∷ []) [])) tt (codecs.gb18030 [] ((0, 0x80) ∷ []) []) 0x9A7C
       (Byte 0x84 ∷ Byte 0x31 ∷ Byte 0xA5 ∷ Byte 0x30 ∷ []) (Unmappable 0x9A7C ∷ [])
 
--- small tables with these pointers; no small table of gb18030 has them
+-- small tables that have these pointers; no small table of gb18030 has them
 pub record HavePointers : Type 0 where
   pub shift_jis : HasPointers (codecs.shift_jis (entry_at 60 0xFF0D))
   pub euc_jp : HasPointers (codecs.euc_jp (entry_at 60 0xFF0D) [])

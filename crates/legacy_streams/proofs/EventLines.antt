@@ -1,4 +1,4 @@
--- Laws of lines.
+-- Laws of event lines.
 use Rattle.std.proofs.Common.{◌≡◌, ◌∙◌, ℕ, zero, suc, zero-add, ◌+◌, ◌*◌, ◌-◌, ◌/◌, ◌%◌, ◌≤◌, ◌<◌, ◌^◌, List, [], ◌∷◌, ◌++◌, length, take, drop, set, map, get_or, refl, sym, ap, arith, append_assoc, append-nil}
 use Rattle.std.proofs.Common.{length-append, take-suc, add-one, decimal}
 use Rattle.std.proofs.lemmas.List.{drop-set, map-append}
@@ -20,7 +20,7 @@ pub line_of_six : (c : ℕ) → 0x10_0000 ≤ c → c < 0x100_0000 → event_lin
 unfolding event_line
 line_of_six c k h = rw (hexadecimal_6 c k h) refl
 
--- the line of a malformed sequence, part by part
+-- the line of a malformed sequence is made of five parts
 pub bad_line : (o : List ℕ) {a b c d e : List ℕ} (place n : ℕ) → a ≡ o ++ 98 ∷ 97 ∷ 100 ∷ 32 ∷ [] → b ≡ a ++ decimal place
     → c ≡ b ++ 32 ∷ [] → d ≡ c ++ decimal n → e ≡ d ++ 10 ∷ [] → e ≡ o ++ event_line (Bad place n)
 unfolding event_line
@@ -43,7 +43,7 @@ pub no_lines : (o : List ℕ) → o ≡ o ++ event_lines []
 unfolding event_lines
 no_lines o = sym (append-nil o)
 
--- one more scalar
+-- the lines of i + 1 scalars are those of i scalars and one more line
 pub one_more_line : (o : List ℕ) {a b : List ℕ} (scalars : List ℕ) (i c : ℕ) → i < length scalars → c ≡ get_or scalars i c
     → a ≡ o ++ event_lines (map Scalar (take i scalars)) → b ≡ a ++ event_line (Scalar c)
     → b ≡ o ++ event_lines (map Scalar (take (i + 1) scalars))
@@ -59,7 +59,7 @@ length-decimal_more n h k = ap length (decimal_step n h k) ∙ length-append (de
 pub length-decimal_20 : (n : ℕ) → n < 2 ^ 64 → length (decimal n) ≤ 20
 length-decimal_20 n h = length-decimal-le 20 n (omega arith) (omega arith) h
 
--- the last two digits of a number
+-- the digits of a number are those of its hundreds and two more
 pub decimal_of_hundreds : (n : ℕ) → 100 ≤ n → n < 2 ^ 64 → decimal n ≡ decimal (n / 100) ++ (48 + n % 100 / 10) ∷ (48 + n % 100 % 10) ∷ []
 decimal_of_hundreds n h k =
     let tens : n / 10 / 10 ≡ n / 100 = omega arith in
@@ -68,16 +68,16 @@ decimal_of_hundreds n h k =
     decimal_step n (omega arith) k ∙ ap (λ l. l ++ (48 + n % 10) ∷ []) (decimal_step (n / 10) (omega arith) (omega arith))
     ∙ rw (tens, ten, one) (append_assoc (decimal (n / 100)) ((48 + n % 100 / 10) ∷ []) ((48 + n % 100 % 10) ∷ []))
 
--- how many digits a number has
+-- the number of decimal digits of a number
 pub ruleset decimal_lengths = (length-decimal_digit, length-decimal_more, length-decimal_20)
 
--- the lines of a call that reports a malformed sequence
+-- the lines of a call that reports a malformed sequence: those of its scalars, and then one for the sequence
 pub line_of_fault : (o : List ℕ) {a b : List ℕ} (scalars : List ℕ) {place n : ℕ} (read sequence back : ℕ)
     → a ≡ o ++ event_lines (map Scalar scalars) → b ≡ a ++ event_line (Bad place n) → place ≡ read - back - sequence → n ≡ sequence
     → b ≡ o ++ event_lines (map Scalar scalars ++ Bad (read - back - sequence) sequence ∷ [])
 line_of_fault o scalars read sequence back p q e f = rw (event_lines-append, event_lines-one, ← e, ← f, q, p) (append_assoc o _ _)
 
--- a digit is put in front of those that stand at the end
+-- one step of writing digits from the last to the first: the next digit goes before those already written
 pub digit_before : (digits : List ℕ) (place rest all : ℕ) → 10 ≤ rest → rest < 2 ^ 64 → 1 ≤ place → place ≤ length digits
     → decimal rest ++ drop place digits ≡ decimal all
     → decimal (rest / 10) ++ drop (place - 1) (set digits (place - 1) (48 + rest % 10)) ≡ decimal all
@@ -87,7 +87,7 @@ digit_before digits place rest all h k one within e =
     rw (drop-set digits (place - 1) (48 + rest % 10) at, next)
     (sym (append_assoc (decimal (rest / 10)) ((48 + rest % 10) ∷ []) (drop place digits)) ∙ ap (λ l. l ++ drop place digits) (sym (decimal_step rest h k)) ∙ e)
 
--- the first digit is put in front of the others
+-- the last step of writing digits from the last to the first
 pub last_digit : (digits : List ℕ) (place rest all : ℕ) → rest < 10 → 1 ≤ place → place ≤ length digits
     → decimal rest ++ drop place digits ≡ decimal all → drop (place - 1) (set digits (place - 1) (48 + rest)) ≡ decimal all
 last_digit digits place rest all h one within e =
@@ -113,23 +113,23 @@ pub no_lone_lines : (o : List ℕ) (place : ℕ) → o ≡ o ++ event_lines (lon
 unfolding lone_faults
 no_lone_lines o place = no_lines o
 
--- some lines, and then some more
+-- the lines of m sequences and then those of n more are the lines of m + n
 pub more_lone_lines : (o : List ℕ) {a b : List ℕ} (place m n : ℕ) → a ≡ o ++ event_lines (lone_faults place m)
     → b ≡ a ++ event_lines (lone_faults (place + m) n) → b ≡ o ++ event_lines (lone_faults place (m + n))
 more_lone_lines o place m n p q =
     rw (q, p, lone_faults-append place m n, event_lines-append) (append_assoc o (event_lines (lone_faults place m)) (event_lines (lone_faults (place + m) n)))
 
--- one line more in front
+-- the lines of count + 1 sequences are the first line and then those of count
 pub two_lone_lines : (o : List ℕ) (place count : ℕ)
     → o ++ event_lines (lone_faults place (suc count)) ≡ (o ++ event_line (Bad place 1)) ++ event_lines (lone_faults (place + 1) count)
 unfolding lone_faults event_lines
 two_lone_lines o place count = sym (append_assoc o (event_line (Bad place 1)) (event_lines (lone_faults (place + 1) count)))
 
--- one line is that of one of them
+-- the line of one such sequence
 pub one_lone_line : (place : ℕ) → event_line (Bad place 1) ≡ event_lines (lone_faults place 1)
 one_lone_line place = rw (lone_faults-one place) (sym (event_lines-one (Bad place 1)))
 
--- the line of one, by the digits of its place but the last two, and these
+-- the line of one such sequence, from the digits of the hundreds of its place and the last two digits
 pub lone_line : (o : List ℕ) {a b e : List ℕ} (number rest : ℕ) → 1 ≤ number → rest < 100 → number * 100 + rest < 2 ^ 64
     → a ≡ o ++ 98 ∷ 97 ∷ 100 ∷ 32 ∷ [] → b ≡ a ++ decimal number
     → e ≡ b ++ (48 + rest / 10) ∷ (48 + rest % 10) ∷ 32 ∷ 49 ∷ 10 ∷ []

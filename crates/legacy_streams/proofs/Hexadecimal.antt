@@ -1,10 +1,10 @@
--- The digits of a scalar, as the program finds them.
+-- The hexadecimal digits of a scalar, as the code computes them.
 use Rattle.std.proofs.Common.{◌≡◌, ◌∙◌, ℕ, zero, suc, ◌/◌, ◌%◌, ◌≤◌, ◌<◌, List, [], ◌∷◌, refl, ap, arith, Bool, true, cond, eq-eqb, inl, inr}
 use Rattle.std.proofs.lemmas.Bool.{ne_eqb, cases_lt}
 use Rattle.std.specs.Fmt.{digits, digits_onto, digit_glyph}
 use Rattle.legacy_streams.specs.Lines.{hexadecimal}
 
--- the last digit of a number
+-- the last hexadecimal digit of a number
 abbrev pub glyph : ℕ → ℕ
 glyph n = digit_glyph true (n % 16)
 
@@ -14,12 +14,12 @@ last_digit k n acc e = ap (λ (b : Bool). cond b (glyph n ∷ acc) (digits_onto 
 next_digit : (k n : ℕ) (acc : List ℕ) → (n / 16 ≡ 0 → ⊥) → digits_onto (suc k) 16 true n acc ≡ digits_onto k 16 true (n / 16) (glyph n ∷ acc)
 next_digit k n acc e = ap (λ (b : Bool). cond b (glyph n ∷ acc) (digits_onto k 16 true (n / 16) (glyph n ∷ acc))) (ne_eqb (n / 16) 0 e)
 
--- the last digits of a number, and then others
+-- the last `count` hexadecimal digits of a number, before `acc`
 abbrev pub glyphs : ℕ → ℕ → List ℕ → List ℕ
 glyphs zero n acc = acc
 glyphs (suc count) n acc = glyphs count (n / 16) (glyph n ∷ acc)
 
--- a number has so many digits in front of the last one
+-- a number has exactly count + 1 hexadecimal digits
 abbrev pub HasMore : ℕ → ℕ → Type 0
 HasMore zero n = n < 16
 HasMore (suc count) n = (16 ≤ n) × HasMore count (n / 16)
@@ -34,11 +34,11 @@ digits_are : (count n : ℕ) → count ≤ 63 → HasMore count n → digits 16 
 unfolding digits
 digits_are count n l h = all_digits count 63 n [] l h
 
--- the four last digits
+-- the last four hexadecimal digits
 abbrev pub last_four : ℕ → List ℕ
 last_four n = glyph (n / 0x1000) ∷ glyph (n / 0x100) ∷ glyph (n / 0x10) ∷ glyph n ∷ []
 
--- a place with no digit has a 0
+-- the digit of 0 is `0`
 zero_glyph : (n : ℕ) → n ≡ 0 → glyph n ≡ 48
 zero_glyph n e = rw e refl
 

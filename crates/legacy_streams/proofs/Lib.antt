@@ -1,7 +1,9 @@
--- Laws of lines, and of streams that are read in pieces.
+-- Laws of event lines, and of streams that are read in pieces.
 pub mod Hexadecimal
 pub mod EventLines
 pub mod PlainLines
 pub mod PieceUnderWay
 pub mod Whole
 pub mod TextUnderWay
+pub mod Utf8Pieces
+pub mod EncodingUnderWay

@@ -1,4 +1,4 @@
--- A piece under way.
+-- Decoding one piece: what holds after each step.
 use Rattle.std.proofs.Common.{◌≡◌, ◌∙◌, ℕ, zero, suc, ◌+◌, ◌-◌, ◌≤◌, ◌<◌, List, [], ◌∷◌, ◌++◌, length, take, drop, take-append-drop, refl, sym, ap, arith, append_assoc, append-nil, length-append}
 use Rattle.std.proofs.Common.{length-drop, map, get_or, Bool, true, false, Option, inl}
 use Rattle.std.proofs.lemmas.List.{drop-drop, drop_more, get_or-drop}
@@ -23,7 +23,8 @@ use Rattle.legacy_streams.specs.Lines.{event_line, event_lines, lone_faults}
 use Rattle.legacy_streams.specs.Recoding.{input_events, RecodesPiece, RecodesFront}
 use Rattle.legacy_streams.proofs.EventLines.{event_lines-append, event_lines-none, event_lines-one, no_lone_lines, two_lone_lines}
 
--- So much of the piece was decoded. The lines of its events were written, but for those at the end that are pending.
+-- `offset` bytes of the piece were decoded. The lines of their events were written, except `pending`, which are the
+-- last.
 pub record IsUnderWay (before : DecoderState) (piece : List ℕ) (last : Bool) (total : ℕ) (now : DecoderState) (offset : ℕ)
     (pending : List ℕ) (old new : Option (List ℕ)) : Type 0 where
   pub within : offset ≤ length piece
@@ -55,7 +56,7 @@ piece_start before piece last total pending old e = record {
   lines = event_lines-none ∙ sym e;
 }
 
--- the event of a malformed byte at a place of the whole input
+-- the event of a malformed byte, with its place in the whole input
 lone_given : (total held passed place : ℕ) → total + passed - held ≡ place → input_events total held (shift passed (Bad 0 1 ∷ [])) ≡ Bad place 1 ∷ []
 unfolding input_events placed
 lone_given total held passed place e = let at : total + (passed + 0) - held ≡ place = omega arith in ap (λ n. Bad n 1 ∷ []) at
@@ -66,7 +67,7 @@ length-shift k (e ∷ es) = ap suc (length-shift k es)
 
 module _ {before : DecoderState} {piece : List ℕ} {last : Bool} {total : ℕ} {now : DecoderState} {offset : ℕ} {pending : List ℕ}
     {old mid : Option (List ℕ)} (u : IsUnderWay before piece last total now offset pending old mid) where
-  -- a front of the pending lines was written
+  -- if only a front of the pending lines is written, the piece was decoded in part
   pub piece_front : {new : Option (List ℕ)} (count : ℕ) → Appends mid new (take count pending)
       → RecodesFront before piece last total now old new
   piece_front count w = record {
@@ -80,7 +81,7 @@ module _ {before : DecoderState} {piece : List ℕ} {last : Bool} {total : ℕ} 
     written = Appends-trans _ _ _ _ _ u.written w;
   }
 
-  -- pending lines were written
+  -- writing `sent` leaves the pending lines after it
   pub piece_sent : {kept : List ℕ} {new : Option (List ℕ)} (sent : List ℕ) → Appends mid new sent → pending ≡ sent ++ kept
       → IsUnderWay before piece last total now offset kept old new
   piece_sent sent w e = record {
@@ -96,7 +97,7 @@ module _ {before : DecoderState} {piece : List ℕ} {last : Bool} {total : ℕ} 
   module _ {after : DecoderState} {answer : DecoderResult} {read : ℕ} {scalars more : List ℕ}
       (c : DecoderCall Utf16 now (drop offset piece) last 1024 after answer read scalars)
       (w : more ≡ pending ++ event_lines (map Scalar scalars ++ reported_events (total + offset + read) answer)) where
-    -- what the call gave
+    -- the events of the call
     abbrev given : List DecodeEvent
     given = out_events (length now.held + read) scalars answer
 
@@ -135,7 +136,7 @@ module _ {before : DecoderState} {piece : List ℕ} {last : Bool} {total : ℕ} 
               ∙ append_assoc u.sent pending (event_lines made) ∙ ap (λ l. u.sent ++ l) (sym w);
         }
 
-    -- the piece is read, and all lines were written
+    -- after the last call of a piece, all its lines are written
     pub piece_end : {new : Option (List ℕ)} → answer ≡ InputEmpty → Appends mid new more → RecodesPiece before piece last total after old new
     piece_end e v =
         let s = piece_step in
@@ -158,7 +159,7 @@ module _ {before : DecoderState} {piece : List ℕ} {last : Bool} {total : ℕ} 
         absurd (omega arith)
     some_cases OutputFull e (d ∷ ds) f h = rw (f, e) (omega arith)
 
-    -- a call that does not end the piece gives an event
+    -- each call that does not end the piece leaves fewer events to decode
     pub piece_less : (answer ≡ InputEmpty → ⊥)
         → length (events_of after.grammar (after.held ++ drop (offset + read) piece)) < length (events_of now.grammar (now.held ++ drop offset piece))
     piece_less h =
@@ -167,7 +168,7 @@ module _ {before : DecoderState} {piece : List ℕ} {last : Bool} {total : ℕ} 
         let counted = rw (append-nil, append-nil, drop-drop, length-append, length-shift) at all in
         omega arith
 
--- what was told of bytes at the front is true of the piece
+-- what holds for the bytes of `unread` holds for the same bytes in the piece
 pub lone_bytes : (piece unread : List ℕ) (offset count : ℕ) (state : DecoderState) → unread ≡ drop offset piece → offset ≤ length piece → count ≤ length unread
     → ((k : ℕ) → k < count → IsLoneFault state (get_or unread k 0))
     → (offset + count ≤ length piece) × ((k : ℕ) → k < count → IsLoneFault state (get_or piece (offset + k) 0))
@@ -176,7 +177,7 @@ lone_bytes piece unread offset count state e within few lone =
     let m = rw e at few in
     (omega (arith, within, m, n), λ k f. rw (← get_or-drop offset piece k 0, ← e) (lone k f))
 
--- one byte at the front is malformed by itself
+-- adds the line of one byte that is malformed by itself
 piece_lone_byte : {before : DecoderState} {piece : List ℕ} {last : Bool} {total : ℕ} {now : DecoderState} {offset : ℕ} {pending more : List ℕ}
     {old mid : Option (List ℕ)} → IsUnderWay before piece last total now offset pending old mid → offset < length piece
     → IsLoneFault now (get_or piece offset 0) → more ≡ pending ++ event_line (Bad (total + offset) 1)
@@ -201,7 +202,7 @@ piece_lone_byte {before} {piece} {last} {total} {now} {offset} {pending} {more} 
           ∙ append_assoc u.sent pending (event_lines (Bad (total + offset) 1 ∷ [])) ∙ ap (λ l. u.sent ++ (pending ++ l)) (event_lines-one (Bad (total + offset) 1)) ∙ ap (λ l. u.sent ++ l) (sym w);
     }
 
--- So many bytes at the front are malformed each by itself.
+-- Adds the lines of `count` bytes that are malformed one by one.
 pub piece_lone : (count : ℕ) {before : DecoderState} {piece : List ℕ} {last : Bool} {total : ℕ} {now : DecoderState} {offset : ℕ} {pending more : List ℕ}
     {old mid : Option (List ℕ)} → IsUnderWay before piece last total now offset pending old mid → offset + count ≤ length piece
     → ((k : ℕ) → k < count → IsLoneFault now (get_or piece (offset + k) 0)) → more ≡ pending ++ event_lines (lone_faults (total + offset) count)
@@ -219,7 +220,7 @@ piece_lone (suc count) {before} {piece} {last} {total} {now} {offset} {pending} 
     (rw place (w ∙ two_lone_lines pending (total + offset) count)) in
     rw there at rest
 
--- The events that are left do not get more by them.
+-- After these bytes no more events are left than before.
 pub piece_lone_less : (count : ℕ) (now : DecoderState) (piece : List ℕ) (offset : ℕ) → offset + count ≤ length piece
     → ((k : ℕ) → k < count → IsLoneFault now (get_or piece (offset + k) 0))
     → length (events_of now.grammar (now.held ++ drop (offset + count) piece)) ≤ length (events_of now.grammar (now.held ++ drop offset piece))

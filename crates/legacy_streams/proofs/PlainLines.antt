@@ -21,13 +21,13 @@ use Rattle.legacy_streams.specs.declared.line_parts.TheConstants.{HEADS, TAILS}
 use Rattle.legacy_streams.proofs.EventLines.{line_of_four, event_lines-append, event_lines-one}
 use Rattle.legacy_streams.proofs.Hexadecimal.{glyph}
 
--- ---- the parts of a line
+-- ---- the two parts of a line
 
 -- `U+` and two digits, the first in the low byte
 pub head_number : ℕ → ℕ
 head_number n = 85 + 43 * 0x100 + glyph (n / 16) * 0x1_0000 + glyph n * 0x100_0000
 
--- two digits and the line's end, behind four bytes
+-- two digits and the line feed, after four bytes of 0
 pub tail_number : ℕ → ℕ
 tail_number n = glyph (n / 16) * 0x1_0000_0000 + glyph n * 0x100_0000_0000 + 10 * 0x1_0000_0000_0000
 
@@ -42,7 +42,7 @@ tails_are = refl
 small_glyph : (n : ℕ) → glyph n < 128
 small_glyph n = grind (arith, nat_tests)
 
--- the parts of a line have room in a number of 64 bits
+-- the sum of the parts fits in 64 bits
 pub parts_fit : (h t : ℕ) → head_number h + tail_number t < 2 ^ 64
 unfolding head_number tail_number
 parts_fit h t =
@@ -63,14 +63,14 @@ all_bytes a b c d p q r s (suc (suc (suc (suc (suc (suc zero)))))) = omega arith
 all_bytes a b c d p q r s (suc (suc (suc (suc (suc (suc (suc zero))))))) = omega arith
 all_bytes a b c d p q r s (suc (suc (suc (suc (suc (suc (suc (suc i)))))))) = omega arith
 
--- the bytes of both parts together
+-- the bytes of the sum of both parts
 bytes_of_parts : (a b c d n : ℕ) → a < 128 → b < 128 → c < 128 → d < 128
     → n ≡ (85 + 43 * 0x100 + a * 0x1_0000 + b * 0x100_0000) + (c * 0x1_0000_0000 + d * 0x100_0000_0000 + 10 * 0x1_0000_0000_0000)
     → to_le_bytes w64 n ≡ 85 ∷ 43 ∷ a ∷ b ∷ c ∷ d ∷ 10 ∷ 0 ∷ []
 bytes_of_parts a b c d n p q r s e =
     le_bytes_8 (85 ∷ 43 ∷ a ∷ b ∷ c ∷ d ∷ 10 ∷ 0 ∷ []) n refl (all_bytes a b c d (omega arith) (omega arith) (omega arith) (omega arith)) (omega arith)
 
--- so they are the line and a byte behind it
+-- the first seven of these bytes are the line
 pub line_of_parts : (u n : ℕ) (bytes : List ℕ) → u < 0x1_0000 → n ≡ head_number (u / 256) + tail_number (u % 256)
     → bytes ≡ to_le_bytes w64 n → take 7 bytes ≡ event_line (Scalar u)
 unfolding head_number tail_number
@@ -83,7 +83,7 @@ line_of_parts u n bytes h e f =
     (small_glyph (u / 256 / 16)) (small_glyph (u / 256)) (small_glyph (u % 256 / 16)) (small_glyph (u % 256)) e in
     rw (line_of_four u h, is, first, third, fourth) refl
 
--- ---- the scalars of units
+-- ---- the scalars of code units
 
 abbrev pub scalar_lines : List ℕ → List ℕ
 scalar_lines scalars = event_lines (map Scalar scalars)
@@ -91,7 +91,7 @@ scalar_lines scalars = event_lines (map Scalar scalars)
 scalar_lines-append : (xs ys : List ℕ) → scalar_lines (xs ++ ys) ≡ scalar_lines xs ++ scalar_lines ys
 scalar_lines-append xs ys = ap event_lines (map-append Scalar xs ys) ∙ event_lines-append (map Scalar xs) (map Scalar ys)
 
--- a unit that is no surrogate is a scalar
+-- a code unit that is not a surrogate is a scalar
 replaced_unit : (u : ℕ) → (u < 0xD800) ⊎ (0xE000 ≤ u) → replaced (lone_unit_char u) ≡ u
 replaced_unit u (inl l) = ap replaced (lone_unit_char_low u l)
 replaced_unit u (inr l) = ap replaced (lone_unit_char_high u l)
@@ -100,7 +100,7 @@ apart : (u v : ℕ) → (u < 0xD800) ⊎ (0xE000 ≤ u) → IsPair u v → ⊥
 apart u v (inl l) p = omega (arith, p.0)
 apart u v (inr l) p = omega (arith, p.1)
 
--- one more unit that is no surrogate
+-- the scalars of one more code unit that is not a surrogate
 pub plain_more : (units : List ℕ) (at u : ℕ) → at < length units → u ≡ get_or units at 0 → (u < 0xD800) ⊎ (0xE000 ≤ u)
     → unit_scalars units ≡ take at units ++ unit_scalars (drop at units)
     → unit_scalars units ≡ take (at + 1) units ++ unit_scalars (drop (at + 1) units)
@@ -112,20 +112,20 @@ plain_more units at u h e plain given =
     given ∙ ap (λ l. take at units ++ l) next ∙ sym (append_assoc (take at units) (u ∷ []) (unit_scalars (drop (at + 1) units)))
     ∙ ap (λ l. l ++ unit_scalars (drop (at + 1) units)) (sym more)
 
--- and its line
+-- the lines of one more code unit that is not a surrogate
 pub plain_line_more : (o units : List ℕ) (at u : ℕ) {a b : List ℕ} → at < length units → u ≡ get_or units at 0
     → a ≡ o ++ scalar_lines (take at units) → b ≡ a ++ event_line (Scalar u) → b ≡ o ++ scalar_lines (take (at + 1) units)
 plain_line_more o units at u h e p q =
     rw (q, p, add-one at, take-suc units at 0 h, scalar_lines-append, event_lines-one, e) (append_assoc o _ _)
 
--- the lines of units at the front, and of those behind them
+-- the lines of the first n units and those of the rest are the lines of all
 pub front_lines : (o units : List ℕ) (n : ℕ) {a : List ℕ} → a ≡ o ++ scalar_lines (take n units)
     → unit_scalars units ≡ take n units ++ unit_scalars (drop n units)
     → a ++ scalar_lines (unit_scalars (drop n units)) ≡ o ++ scalar_lines (unit_scalars units)
 front_lines o units n e f =
     rw (e, f, scalar_lines-append) (append_assoc o (scalar_lines (take n units)) (scalar_lines (unit_scalars (drop n units))))
 
--- the line of a first scalar, and the lines behind it
+-- the line of the first scalar and those of the rest are the lines of all
 pub first_line : (o units : List ℕ) (c n : ℕ) {a : List ℕ} → Some c ≡ slice_get (unit_scalars units) 0
     → unit_scalars (drop n units) ≡ drop 1 (unit_scalars units) → a ≡ o ++ event_line (Scalar c)
     → a ++ scalar_lines (unit_scalars (drop n units)) ≡ o ++ scalar_lines (unit_scalars units)
@@ -133,7 +133,7 @@ unfolding event_lines
 first_line o units c n e behind p =
     rw (behind, p, append_assoc) (ap (λ l. o ++ scalar_lines l) (sym (first_cons (unit_scalars units) c e)))
 
--- how many units the first scalar has, and what stands behind them
+-- the first scalar has n code units: bounds of n, and the scalars after it
 pub record FirstUnits (units : List ℕ) (n : ℕ) : Type 0 where
   pub some : 0 < n
   pub within : n ≤ length units
@@ -150,17 +150,17 @@ first_units units c n bound h e short long =
       behind = rw z at step.behind;
     }
 
--- behind all units there is none
+-- after all units there are no scalars
 pub none_behind : (units : List ℕ) → None ≡ slice_get (unit_scalars units) 0
     → scalar_lines (unit_scalars (drop (length units) units)) ≡ scalar_lines (unit_scalars units)
 none_behind units e = ap scalar_lines (scalars_end units (length units) (omega arith) ∙ sym (none_left (unit_scalars units) e))
 
--- the lines of all that is behind the last unit
+-- after the last unit no lines are left
 pub all_lines : (o l units : List ℕ) (at : ℕ) → length units ≤ at → l ++ scalar_lines (unit_scalars (drop at units)) ≡ o → l ≡ o
 unfolding event_lines
 all_lines o l units at h e = sym (append-nil l) ∙ ap (λ x. l ++ scalar_lines x) (sym (scalars_end units at h)) ∙ e
 
--- units of scalars give these scalars
+-- the scalars of the code units of scalars are these scalars
 pub scalars_of_units : (cs : List ℕ) → All IsScalar cs → unit_scalars (all_code_units Utf16 cs) ≡ cs
 scalars_of_units [] all = ap (map replaced) utf16_chars-nil
 scalars_of_units (c ∷ cs) all =

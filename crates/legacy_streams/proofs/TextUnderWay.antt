@@ -1,4 +1,4 @@
--- The text of an input under way.
+-- Decoding an input to text: what holds after each step.
 use Rattle.std.proofs.Common.{◌≡◌, ◌∙◌, ℕ, ◌+◌, ◌-◌, ◌≤◌, ◌<◌, List, [], ◌∷◌, ◌++◌, length, take, drop, take-append-drop, refl, sym, ap, arith, append_assoc, append-nil}
 use Rattle.std.proofs.Common.{length-append, length-drop, Bool, true, false, ◌||◌, IsTrue, Option, inl}
 use Rattle.std.specs.Io.KnownBytes.{Appends, Consumes, IsAtEnd, Keeps}
@@ -26,7 +26,7 @@ text-none : text_of [] ≡ []
 unfolding text_of
 text-none = refl
 
--- events that stand further on have the same text
+-- shifting the places of events does not change their text
 text-append : (xs ys : List DecodeEvent) (k : ℕ) → text_of (xs ++ shift k ys) ≡ text_of xs ++ text_of ys
 unfolding text_of
 text-append xs ys k =
@@ -40,15 +40,16 @@ text_is : (events : List DecodeEvent) (written : List ℕ) → written ≡ all_c
 unfolding text_of
 text_is events written e = e
 
--- text is of some event
+-- a text that is not empty comes from at least one event
 some_event : (events : List DecodeEvent) → 1 ≤ length (text_of events) → 1 ≤ length events
 unfolding text_of
 some_event [] h = omega arith
 some_event (x ∷ events) h = omega arith
 
--- ---- a piece
+-- ---- one piece
 
--- So much of the piece was decoded, and the text of its events was written, with a malformed sequence among them or none.
+-- `offset` bytes of the piece were decoded and the text of their events was written. `found`: whether one of them is a
+-- malformed sequence.
 pub record TextUnderWay (before : DecoderState) (piece : List ℕ) (last : Bool) (now : DecoderState) (offset : ℕ) (found : Bool)
     (old new : Option (List ℕ)) : Type 0 where
   pub within : offset ≤ length piece
@@ -72,11 +73,11 @@ module _ {before : DecoderState} {piece : List ℕ} {last : Bool} {now : Decoder
     (u : TextUnderWay before piece last now offset found old mid)
     {free : ℕ} {after : DecoderState} {answer : CoderResult} {read : ℕ} {written : List ℕ} {more : Bool}
     (c : ReplacingDecoderCall Utf8 now (drop offset piece) last free after answer read written more) where
-  -- the way to the end of the call
+  -- the progress up to the end of the call
   way_of_call : Progress last before piece (u.passed + c.passed) after (drop (offset + read) piece) (u.events ++ shift u.passed c.out)
   way_of_call = rw (← drop-drop read offset piece) (after_that _ _ _ _ _ _ _ _ _ _ _ u.progress (at_less _ last (end_found-last last more _) _ _ _ _ _ _ c.progress))
 
-  -- a front of the text of the call was written
+  -- if only a front of the text of the call is written, the piece was decoded in part
   pub text_front : {new : Option (List ℕ)} (count : ℕ) → Appends mid new (take count written) → WritesFront before piece last after old new
   text_front count w =
       let first = text_of u.events in
@@ -93,7 +94,7 @@ module _ {before : DecoderState} {piece : List ℕ} {last : Bool} {now : Decoder
         written = Appends-trans _ _ _ _ _ u.written w;
       }
 
-  -- the text of the call was written
+  -- after the text of the call was written, `offset + read` bytes of the piece are done
   pub text_step : {new : Option (List ℕ)} → Appends mid new written → TextUnderWay before piece last after (offset + read) (found || more) old new
   text_step w = record {
     within = let r = c.within in let v = u.within in omega (arith, length-drop offset piece);
@@ -104,7 +105,7 @@ module _ {before : DecoderState} {piece : List ℕ} {last : Bool} {now : Decoder
     written = rw (text-append u.events c.out u.passed, ← text_is c.out written c.text) (Appends-trans _ _ _ _ _ u.written w);
   }
 
-  -- and the piece is read
+  -- after the last call of a piece, all its text is written
   pub text_end : {new : Option (List ℕ)} → Appends mid new written → answer ≡ InputEmpty → WritesPiece before piece last after (found || more) old new
   text_end w e =
       let s = text_step w in
@@ -119,7 +120,7 @@ module _ {before : DecoderState} {piece : List ℕ} {last : Bool} {now : Decoder
         ended = λ l. done.2 l;
       }
 
-  -- a call that does not end the piece gives an event
+  -- each call that fills the output gives an event
   gave_event : 4 ≤ free → answer ≡ OutputFull → 1 ≤ length c.out
   gave_event h e =
       let l = lacks_small Utf8 after (drop read (drop offset piece)) last (free - length written) (c.output_full e) in
@@ -138,7 +139,7 @@ module _ {before : DecoderState} {piece : List ℕ} {last : Bool} {now : Decoder
       let counted = rw (append-nil, append-nil, drop-drop, length-append, length-shift) at all in
       omega arith
 
--- ---- the input
+-- ---- the whole input
 
 -- The bytes read so far were decoded, and the text of their events was written.
 pub record TextSoFar (before now : DecoderState) (found : Bool) (left_old left old new : Option (List ℕ)) : Type 0 where
@@ -201,7 +202,7 @@ module _ {before now : DecoderState} {found : Bool} {left_old left_mid old mid :
           ended = p.ended refl;
         }
 
-    -- what stands where writing fails
+    -- what holds after a failed write
     pub so_far_partly : (last : Bool) → (IsTrue last → IsAtEnd left) → WritesFront now piece last after mid new → WritesPartly before after left_old left old new
     so_far_partly last at_end p =
         let first = text_of s.events in
@@ -222,7 +223,7 @@ module _ {before now : DecoderState} {found : Bool} {left_old left_mid old mid :
           beginning = λ more e. (shift (s.passed + p.passed) (events_of after.grammar (after.held ++ (p.left ++ more))), way.events more (λ l. inl (e l)));
         }
 
--- what stands where reading fails
+-- what holds after a failed read
 pub so_far_beginning : {before now : DecoderState} {found : Bool} {left_old left_mid left old new : Option (List ℕ)}
     → TextSoFar before now found left_old left_mid old new → Keeps left_mid left → WritesBeginning before now left_old left old new
 so_far_beginning s k = record {

@@ -1,4 +1,4 @@
--- The recoding of a whole input under way.
+-- Recoding a whole input: what holds after each piece.
 use Rattle.std.proofs.Common.{◌≡◌, ◌∙◌, ℕ, ◌+◌, ◌-◌, List, [], ◌∷◌, ◌++◌, length, refl, sym, ap, arith, append-nil, length-append, Bool, true, false, IsTrue, Option, inl, append_assoc}
 use Rattle.std.specs.Io.KnownBytes.{Appends, Consumes, IsAtEnd, Keeps}
 use Rattle.legacy_base.specs.declared.results.DecodeEvent.{DecodeEvent}
@@ -15,7 +15,7 @@ use Rattle.legacy_codecs.proofs.RunEvents.{placed-append}
 use Rattle.std.proofs.KnownBytes.{Appends-nil, Appends-trans, Consumes-nil, Consumes-trans, Consumes-kept}
 use Rattle.legacy_streams.proofs.EventLines.{event_lines-append, event_lines-none}
 
--- So many bytes of the input were read and decoded, and the lines of their events were written.
+-- `total` bytes of the input were read and decoded, and the lines of their events were written.
 pub record Whole (before : DecoderState) (total : ℕ) (now : DecoderState) (left_old left old new : Option (List ℕ)) : Type 0 where
   pub bytes : List ℕ
   pub count : length bytes ≡ total
@@ -37,7 +37,7 @@ whole_start before left old = record {
   written = rw event_lines-none (Appends-nil old);
 }
 
--- the places of a later piece's events
+-- the places of a later piece's events in the whole input
 placed-shift : (h passed total held : ℕ) (es : List DecodeEvent) → passed + held ≡ h + total → placed h (shift passed es) ≡ input_events total held es
 unfolding placed input_events
 placed-shift h passed total held [] e = refl
@@ -46,7 +46,7 @@ placed-shift h passed total held (Bad p n ∷ es) e =
     let k : passed + p - h ≡ total + p - held = omega arith in
     ap (λ q. Bad q n ∷ placed h (shift passed es)) k ∙ ap (λ (l : List DecodeEvent). Bad (total + p - held) n ∷ l) (placed-shift h passed total held es e)
 
--- the way through what was read, and then to a place in the next piece
+-- the progress through the bytes read so far, and then into the next piece
 pub way_on : (last : Bool) (piece : List ℕ) {before now after : DecoderState} {bytes : List ℕ} {first passed : ℕ} {seen : List DecodeEvent}
     {unread : List ℕ} {events : List DecodeEvent} → Progress false before bytes first now [] seen → Progress last now piece passed after unread events
     → Progress last before (bytes ++ piece) (first + passed) after unread (seen ++ shift first events)
@@ -54,7 +54,7 @@ way_on last piece s p = after_that _ _ _ _ _ _ _ _ _ _ _ (at_last last _ _ _ _ _
 
 module _ {before now : DecoderState} {total : ℕ} {left_old left_mid old mid : Option (List ℕ)}
     (w : Whole before total now left_old left_mid old mid) where
-  -- the way to a place in the piece
+  -- the progress into the next piece
   joined_progress : (last : Bool) (piece : List ℕ) {after : DecoderState} {passed : ℕ} {unread : List ℕ} {events : List DecodeEvent}
       → Progress last now piece passed after unread events
       → Progress last before (w.bytes ++ piece) (w.passed + passed) after unread (w.events ++ shift w.passed events)
@@ -98,7 +98,7 @@ module _ {before now : DecoderState} {total : ℕ} {left_old left_mid old mid : 
         ended = p.ended refl;
       }
 
-  -- what stands where writing fails
+  -- what holds after a failed write
   pub whole_partly : (last : Bool) (piece : List ℕ) {after : DecoderState} {left new : Option (List ℕ)} → Consumes left_mid left piece
       → (IsTrue last → IsAtEnd left) → RecodesFront now piece last total after mid new → RecodesPartly before after left_old left old new
   whole_partly last piece {after} r at_end p =
@@ -121,7 +121,7 @@ module _ {before now : DecoderState} {total : ℕ} {left_old left_mid old mid : 
         beginning = λ more e. (shift (w.passed + p.passed) (events_of after.grammar (after.held ++ (p.left ++ more))), way.events more (λ l. inl (e l)));
       }
 
--- what stands where reading fails
+-- what holds after a failed read
 pub whole_beginning : {before now : DecoderState} {total : ℕ} {left_old left_mid left old new : Option (List ℕ)}
     → Whole before total now left_old left_mid old new → Keeps left_mid left → RecodesBeginning before now left_old left old new
 whole_beginning w k = record {

@@ -1,5 +1,7 @@
--- What is written of a stream.
+-- What is written for a stream.
 pub mod Lines
 pub mod LineBuffers
 pub mod Recoding
 pub mod Text
+pub mod Utf8Texts
+pub mod Encoding

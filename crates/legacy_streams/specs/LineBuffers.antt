@@ -1,11 +1,11 @@
--- What a line buffer is to its user.
+-- A line buffer as its user sees it.
 use Rattle.std.specs.Prelude.{ℕ, ◌-◌, List, length, take}
 use Rattle.legacy_streams.specs.declared.lines.LineBuffer.{LineBuffer}
 
--- what a line buffer holds
+-- the bytes of the lines in a line buffer
 abbrev pub line_bytes : LineBuffer → List ℕ
 line_bytes buffer = take buffer.filled buffer.bytes
 
--- how many more bytes fit
+-- the number of bytes that still fit
 abbrev pub line_room : LineBuffer → ℕ
 line_room buffer = length buffer.bytes - buffer.filled

@@ -1,14 +1,14 @@
--- The lines that tell events.
+-- The lines for events.
 use Rattle.std.specs.Prelude.{ℕ, zero, suc, ◌+◌, ◌-◌, List, [], ◌∷◌, ◌++◌, true, length, replicate, decimal, codes}
 use Rattle.std.specs.Fmt.{digits}
 use Rattle.legacy_base.specs.declared.results.DecodeEvent.{DecodeEvent}
 use Rattle.legacy_base.specs.declared.results.DecodeEvent.TheVariants.{Scalar, Bad}
 
--- a scalar in upper-case hexadecimal, with zeros in front where it has less than four digits
+-- a scalar in upper-case hexadecimal, padded with zeros to at least four digits
 unfoldable pub hexadecimal : ℕ → List ℕ
 hexadecimal c = let found = digits 16 true c in replicate (4 - length found) 48 ++ found
 
--- the line of an event, as `U+0041`, or `bad 3 1` with the place and the length in decimal
+-- the line of an event: `U+0041`, or `bad 3 1` with place and length in decimal
 unfoldable pub event_line : DecodeEvent → List ℕ
 event_line (Scalar c) = codes "U+" ++ hexadecimal c ++ codes "\n"
 event_line (Bad place length) = codes "bad " ++ decimal place ++ codes " " ++ decimal length ++ codes "\n"
@@ -18,7 +18,7 @@ unfoldable pub event_lines : List DecodeEvent → List ℕ
 event_lines [] = []
 event_lines (event ∷ events) = event_line event ++ event_lines events
 
--- the events of so many malformed sequences of one byte each, which follow each other from a place on
+-- the events of `count` malformed sequences of one byte each, one after another from a place on
 unfoldable pub lone_faults : ℕ → ℕ → List DecodeEvent
 lone_faults place zero = []
 lone_faults place (suc count) = Bad place 1 ∷ lone_faults (place + 1) count

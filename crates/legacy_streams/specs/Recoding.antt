@@ -1,4 +1,4 @@
--- What the engine of the program writes.
+-- What `recode` writes.
 use Rattle.std.specs.Prelude.{◌≡◌, ℕ, List, [], ◌++◌, length, Bool, false, IsTrue, Option}
 use Rattle.std.specs.Io.KnownBytes.{Appends, Consumes, IsAtEnd}
 use Rattle.legacy_base.specs.declared.results.DecodeEvent.{DecodeEvent}
@@ -11,8 +11,8 @@ use Rattle.legacy_streams.specs.Lines.{event_lines}
 
 -- ---- one piece of the input
 
--- The events of what is held back and a piece, with the places that they have in the whole input: `total` bytes of it
--- stand before the piece, and the last of them are those held back. A place before the input is 0.
+-- The events of the held-back bytes and a piece, with their places in the whole input. `total` bytes of the input come
+-- before the piece, and the held-back bytes are the last of them. A place before the input is 0.
 unfoldable pub input_events : ℕ → ℕ → List DecodeEvent → List DecodeEvent
 input_events total held events = placed held (shift total events)
 
@@ -24,7 +24,7 @@ pub record RecodesPiece (before : DecoderState) (piece : List ℕ) (last : Bool)
   pub written : Appends old new (event_lines (input_events total (length before.held) events))
   pub ended : IsTrue last → events_of after.grammar after.held ≡ []
 
--- Some of the piece was decoded, and of the lines of its events a front was written, which may end inside a line.
+-- A part of the piece was decoded. A front of the lines of its events was written, which may end inside a line.
 pub record RecodesFront (before : DecoderState) (piece : List ℕ) (last : Bool) (total : ℕ) (after : DecoderState) (old new : Option (List ℕ)) : Type 0 where
   pub passed : ℕ
   pub left : List ℕ
@@ -37,8 +37,8 @@ pub record RecodesFront (before : DecoderState) (piece : List ℕ) (last : Bool)
 
 -- ---- the whole input
 
--- The input was read to its end, and the lines of all events of what was held back and read were written. No event is
--- left in the decoder.
+-- The input was read to its end. The lines of all events of the held-back and read bytes were written. No event is left
+-- in the decoder.
 pub record RecodesAll (before after : DecoderState) (input_old input_new output_old output_new : Option (List ℕ)) : Type 0 where
   pub bytes : List ℕ
   pub read : Consumes input_old input_new bytes
@@ -46,8 +46,8 @@ pub record RecodesAll (before after : DecoderState) (input_old input_new output_
   pub written : Appends output_old output_new (event_lines (placed (length before.held) (events_of before.grammar (before.held ++ bytes))))
   pub ended : events_of after.grammar after.held ≡ []
 
--- Some bytes of the input were read and decoded, and the lines of these events were written. They are a beginning of all
--- events, whatever else the input holds, and the decoder stands behind those bytes.
+-- Some bytes of the input were read and decoded, and the lines of their events were written. All events begin with
+-- these, whatever the rest of the input is. The decoder has read exactly those bytes.
 pub record RecodesBeginning (before after : DecoderState) (input_old input_new output_old output_new : Option (List ℕ)) : Type 0 where
   pub bytes : List ℕ
   pub read : Consumes input_old input_new bytes
@@ -57,9 +57,9 @@ pub record RecodesBeginning (before after : DecoderState) (input_old input_new o
   pub written : Appends output_old output_new (event_lines (placed (length before.held) events))
   pub beginning : (more : List ℕ) → (rest : List DecodeEvent) × (events_of before.grammar (before.held ++ (bytes ++ more)) ≡ events ++ rest)
 
--- Some bytes of the input were read, and a part of them decoded. These are the events of that part, a beginning of all
--- events, whatever else the input holds where it was not read to its end. Of their lines a front was written, which may
--- end inside a line.
+-- Some bytes of the input were read, and a part of them was decoded. All events begin with the events of that part,
+-- whatever follows if the input was not read to its end. A front of their lines was written, which may end inside a
+-- line.
 pub record RecodesPartly (before after : DecoderState) (input_old input_new output_old output_new : Option (List ℕ)) : Type 0 where
   pub bytes : List ℕ
   pub read : Consumes input_old input_new bytes

@@ -1,4 +1,4 @@
--- What the engine of text writes.
+-- What `recode_text` writes.
 use Rattle.std.specs.Prelude.{◌≡◌, ℕ, List, [], ◌++◌, Bool, false, IsTrue, Option}
 use Rattle.std.specs.Io.KnownBytes.{Appends, Consumes, IsAtEnd}
 use Rattle.legacy_base.specs.declared.results.DecodeEvent.{DecodeEvent}
@@ -14,7 +14,8 @@ text_of events = all_code_units Utf8 (replaced_scalars events)
 
 -- ---- one piece of the input
 
--- The whole piece was decoded, and the text of its events was written, with a malformed sequence among them or none.
+-- The whole piece was decoded, and the text of its events was written. `found`: whether one of them is a malformed
+-- sequence.
 pub record WritesPiece (before : DecoderState) (piece : List ℕ) (last : Bool) (after : DecoderState) (found : Bool) (old new : Option (List ℕ)) : Type 0 where
   pub passed : ℕ
   pub events : List DecodeEvent
@@ -23,7 +24,7 @@ pub record WritesPiece (before : DecoderState) (piece : List ℕ) (last : Bool) 
   pub written : Appends old new (text_of events)
   pub ended : IsTrue last → events_of after.grammar after.held ≡ []
 
--- Some of the piece was decoded, and of the text of its events a front was written, which may end inside a scalar.
+-- A part of the piece was decoded. A front of the text of its events was written, which may end inside a scalar.
 pub record WritesFront (before : DecoderState) (piece : List ℕ) (last : Bool) (after : DecoderState) (old new : Option (List ℕ)) : Type 0 where
   pub passed : ℕ
   pub left : List ℕ
@@ -36,8 +37,8 @@ pub record WritesFront (before : DecoderState) (piece : List ℕ) (last : Bool) 
 
 -- ---- the whole input
 
--- The input was read to its end, and the text of all events of what was held back and read was written, with a
--- malformed sequence among them or none. No event is left in the decoder.
+-- The input was read to its end. The text of all events of the held-back and read bytes was written. `found`: whether
+-- one of them is a malformed sequence. No event is left in the decoder.
 pub record WritesAll (before after : DecoderState) (found : Bool) (input_old input_new output_old output_new : Option (List ℕ)) : Type 0 where
   pub bytes : List ℕ
   pub read : Consumes input_old input_new bytes
@@ -46,8 +47,8 @@ pub record WritesAll (before after : DecoderState) (found : Bool) (input_old inp
   pub written : Appends output_old output_new (text_of (events_of before.grammar (before.held ++ bytes)))
   pub ended : events_of after.grammar after.held ≡ []
 
--- Some bytes of the input were read and decoded, and the text of these events was written. They are a beginning of all
--- events, whatever else the input holds, and the decoder stands behind those bytes.
+-- Some bytes of the input were read and decoded, and the text of their events was written. All events begin with these,
+-- whatever the rest of the input is. The decoder has read exactly those bytes.
 pub record WritesBeginning (before after : DecoderState) (input_old input_new output_old output_new : Option (List ℕ)) : Type 0 where
   pub bytes : List ℕ
   pub read : Consumes input_old input_new bytes
@@ -57,9 +58,9 @@ pub record WritesBeginning (before after : DecoderState) (input_old input_new ou
   pub written : Appends output_old output_new (text_of events)
   pub beginning : (more : List ℕ) → (rest : List DecodeEvent) × (events_of before.grammar (before.held ++ (bytes ++ more)) ≡ events ++ rest)
 
--- Some bytes of the input were read, and a part of them decoded. These are the events of that part, a beginning of all
--- events, whatever else the input holds where it was not read to its end. Of their text a front was written, which may
--- end inside a scalar.
+-- Some bytes of the input were read, and a part of them was decoded. All events begin with the events of that part,
+-- whatever follows if the input was not read to its end. A front of their text was written, which may end inside a
+-- scalar.
 pub record WritesPartly (before after : DecoderState) (input_old input_new output_old output_new : Option (List ℕ)) : Type 0 where
   pub bytes : List ℕ
   pub read : Consumes input_old input_new bytes

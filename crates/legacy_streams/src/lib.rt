@@ -1,7 +1,10 @@
-//! Streams through a decoder: bytes are read a piece at a time, and what they decode to is written, as lines of events
-//! (`recode::recode`) or as text in UTF-8 (`text::recode_text`).
+//! Decodes and encodes streams, piece by piece.
+//!
+//! Bytes are decoded to lines of events (`recode::recode`) or to text in UTF-8 (`text::recode_text`).
+//! Text in UTF-8 is encoded to bytes (`encode::encode_text`).
 #![tactic(auto)]
 
+pub mod encode;
 mod line_parts;
 mod lines;
 mod pieces;

@@ -1,4 +1,4 @@
-//! The two parts of the line of a scalar below U+10000, as numbers whose low byte stands first.
+//! The two parts of the line of a scalar below U+10000, as little-endian numbers.
 
 /// `U+` and the two digits of the high byte.
 #[rattlefmt::skip]
@@ -37,7 +37,7 @@ pub static HEADS: [u64; 256] = [
     0x38462B55, 0x39462B55, 0x41462B55, 0x42462B55, 0x43462B55, 0x44462B55, 0x45462B55, 0x46462B55,
 ];
 
-/// The two digits of the low byte and the line's end, behind four bytes of 0.
+/// The two digits of the low byte and the line feed, after four bytes of 0.
 #[rattlefmt::skip]
 pub static TAILS: [u64; 256] = [
     0x0A303000000000, 0x0A313000000000, 0x0A323000000000, 0x0A333000000000, 0x0A343000000000, 0x0A353000000000,

@@ -1,4 +1,4 @@
-//! The lines that tell events.
+//! The lines for events.
 ghost use Rattle.std.specs.Prelude.{◌≡◌, ℕ, ◌+◌, ◌*◌, ◌-◌, ◌^◌, ◌<◌, ◌≤◌, List, [], ◌∷◌, ◌++◌, length, take, drop, map, decimal, true, OnOk, OnErr};
 ghost use Rattle.std.specs.Fmt.{digit_glyph};
 ghost use Rattle.std.specs.List.{range_with_len};
@@ -11,34 +11,38 @@ use crate::pieces::{rest_of, write_whole};
 use legacy_codecs::{DecodeEvent, Source, Utf16Source};
 use std::io::{self, Write};
 
-/// The most code units of UTF-16 that one call of a decoder gives.
+/// The maximum number of UTF-16 code units that one call of a decoder writes.
 pub const BATCH: usize = 1024;
 
-/// The most bytes of a scalar's line.
+/// The maximum number of bytes of a scalar's line.
 pub const SCALAR_LINE: usize = 9;
 
-/// The bytes of the line of a scalar of one code unit.
+/// The number of bytes of the line of a scalar of one code unit.
 const PLAIN_LINE: usize = 7;
 
-/// The most bytes of a malformed sequence's line.
+/// The maximum number of bytes of a malformed sequence's line.
 pub const BAD_LINE: usize = 46;
 
-/// The most digits of a place and of a length.
+/// The maximum number of decimal digits of a place or a length.
 const DIGITS: usize = 20;
 
-/// The most bytes of the lines of one call of a decoder.
+/// The maximum number of bytes of the lines of one decoder call.
 pub const CALL_LINES: usize = BATCH * SCALAR_LINE + BAD_LINE;
 
-/// The most malformed sequences of one byte each whose lines are made at once.
+/// The maximum number of malformed sequences of one byte each whose lines are made at once.
 pub const LONE_BATCH: usize = 256;
 
-/// The most bytes of the lines that are made between two writes: those of `LONE_BATCH` malformed sequences, and of one call.
+/// The maximum number of bytes of lines made between two writes.
+///
+/// These are the lines of `LONE_BATCH` malformed sequences and of one call.
 pub const TURN_LINES: usize = LONE_BATCH * BAD_LINE + CALL_LINES;
 
-/// The bytes of the array: the lines of a call without a malformed sequence have room in it, with those of a turn more.
+/// The number of bytes of the array.
+///
+/// It has room for the lines of a call without a malformed sequence and for those of one more turn.
 pub const CAPACITY: usize = 28672;
 
-/// The digits of a number in decimal, at the front of an array.
+/// The decimal digits of a number, at the beginning of an array.
 #[derive(Drop)]
 struct Decimal {
     number: usize,
@@ -48,10 +52,10 @@ struct Decimal {
     ghost front: { take count digits ≡ decimal number },
 }
 
-/// Lines that are made in an array, to be written at once.
+/// Lines that are collected in an array and written together.
 ///
-/// Malformed sequences are mostly near one another. So the digits of a place but the last two are kept, and the next
-/// line takes them as they are where its place has the same ones.
+/// Malformed sequences are usually near one another. The buffer keeps the digits of the last place
+/// except its last two. The next line copies them if its place has the same ones.
 #[derive(Drop)]
 pub struct LineBuffer {
     bytes: [u8; CAPACITY],
@@ -60,8 +64,8 @@ pub struct LineBuffer {
     ghost in_range: { filled ≤ length bytes },
 }
 
-/// The entry of a byte in a table of all bytes.
-// Inlined always, so that the table is a constant where its entry is read.
+/// Returns the entry of a byte in a table of all bytes.
+// Always inlined, so that the table is a constant at each use.
 #[inline(always)]
 fn entry(table: &[u64; 256], byte: u16) -> u64
     requires { byte < 256 }
@@ -70,7 +74,7 @@ fn entry(table: &[u64; 256], byte: u16) -> u64
     table[usize::from(byte)]
 }
 
-/// The line of a scalar of one code unit, with one byte of 0 behind it.
+/// Returns the line of a scalar of one code unit, followed by one byte of 0.
 #[inline(always)]
 fn plain_line(unit: u16) -> [u8; 8]
     ensures { take PLAIN_LINE result ≡ event_line (DecodeEvent.Scalar unit) }
@@ -80,7 +84,7 @@ fn plain_line(unit: u16) -> [u8; 8]
     (head + tail).to_le_bytes()
 }
 
-/// Stores a line and the byte behind it from the place `at` on.
+/// Stores a line and the byte after it, from the place `at` on.
 #[inline(always)]
 fn store_line(bytes: &mut [u8], at: usize, line: [u8; 8])
     requires { at + 8 ≤ length bytes.old }
@@ -89,7 +93,7 @@ fn store_line(bytes: &mut [u8], at: usize, line: [u8; 8])
     bytes[at..at + 8].copy_from_slice(&line);
 }
 
-/// The units from the place on.
+/// Returns the units from the place on.
 #[inline]
 fn units_from(units: &[u16], place: usize) -> &[u16]
     requires { place ≤ length units.now }
@@ -98,7 +102,9 @@ fn units_from(units: &[u16], place: usize) -> &[u16]
     &units[place..]
 }
 
-/// Stores the lines of units from the place `at` on, as far as they are no surrogates. Answers how many units that are.
+/// Stores the lines of the units before the first surrogate, from the place `at` on.
+///
+/// Returns the number of these units.
 // The place of a line is a product, so that no line waits for the one before it.
 #[inline]
 fn put_plain(bytes: &mut [u8], at: usize, units: &[u16]) -> usize
@@ -121,7 +127,7 @@ fn put_plain(bytes: &mut [u8], at: usize, units: &[u16]) -> usize
     count
 }
 
-/// The digit of a number below 16: `0` to `9`, and `A` to `F`.
+/// Returns the digit of a number below 16: `0` to `9`, or `A` to `F`.
 #[inline]
 fn hex_digit_of(number: u32) -> u8
     requires { number < 16 }
@@ -134,7 +140,7 @@ fn hex_digit_of(number: u32) -> u8
     }
 }
 
-/// Puts the digits of the number at the end of the array, and answers the place of the first.
+/// Puts the digits of the number at the end of the array, and returns the place of the first.
 #[tactic(auto, using(crate::proofs::EventLines::decimal_lengths))]
 fn put_digits(digits: &mut [u8; DIGITS], number: usize) -> usize
     ensures place { result ≤ DIGITS }
@@ -161,7 +167,7 @@ fn store_digits(bytes: &mut [u8], at: usize, digits: [u8; DIGITS])
     bytes[at..at + DIGITS].copy_from_slice(&digits);
 }
 
-/// The digits, at the front of an array.
+/// Returns an array that begins with the digits.
 fn at_front(digits: &[u8]) -> [u8; DIGITS]
     requires { length digits.now ≤ DIGITS }
     ensures { take (length digits.now) result ≡ digits.now }
@@ -180,9 +186,11 @@ fn store_part(bytes: &mut [u8], at: usize, part: &[u8])
     bytes[at..at + part.len()].copy_from_slice(part);
 }
 
-/// Stores the line of a malformed sequence of one byte from the place `at` on, by the digits of its place but the last two,
-/// which are `rest`. Answers where it ends.
-// No place of the array is read to tell where a part of the line goes: so no line waits for what was stored.
+/// Stores the line of a malformed sequence of one byte from the place `at` on.
+///
+/// The digits of its place are those of `hundreds` and the two of `rest`. Returns the end of the
+/// line.
+// No place is read back from the array, so no line waits for an earlier store.
 #[inline(always)]
 fn put_lone_line(bytes: &mut [u8], at: usize, hundreds: &Decimal, rest: usize) -> usize
     requires room { at + BAD_LINE ≤ length bytes.old }
@@ -201,8 +209,10 @@ fn put_lone_line(bytes: &mut [u8], at: usize, hundreds: &Decimal, rest: usize) -
     end + 5
 }
 
-/// Stores the lines of malformed sequences of one byte each, which follow each other, from the place `start` on, where the
-/// digits of their places but the last two are the same. Those of the first are `rest`. Answers where the lines end.
+/// Stores the lines of consecutive malformed sequences of one byte each, from `start` on.
+///
+/// The digits of their places are those of `hundreds` and two more: `rest` for the first sequence,
+/// and one more for each after it. Returns the end of the lines.
 fn put_lone_lines(
     bytes: &mut [u8],
     start: usize,
@@ -228,7 +238,7 @@ fn put_lone_lines(
 }
 
 impl Decimal {
-    /// The digits of the number.
+    /// Returns the digits of the number.
     fn new(number: usize) -> Decimal
         ensures { result.number ≡ number }
     {
@@ -246,7 +256,7 @@ impl Decimal {
 impl LineBuffer {
     ghost use Rattle.legacy_streams.specs.LineBuffers.{line_bytes, line_room};
 
-    /// No lines.
+    /// Returns an empty buffer.
     pub fn new() -> LineBuffer
         ensures { line_bytes result ≡ [] }
     {
@@ -257,14 +267,16 @@ impl LineBuffer {
         }
     }
 
-    /// The bytes of the lines.
+    /// Returns the bytes of the lines.
     fn bytes(&self) -> &[u8]
         ensures { result.now ≡ line_bytes self.now }
     {
         &self.bytes[..self.filled]
     }
 
-    /// Writes the lines, and then holds none. After an error a front of their bytes was written.
+    /// Writes the lines and empties the buffer.
+    ///
+    /// If an error is returned, a front of their bytes was written.
     pub fn write_to<W: Write>(&mut self, output: &mut W) -> io::Result<()>
         ensures written { OnOk result (Appends
             (W.contents output.old) (W.contents output.new) (line_bytes self.old)) }
@@ -278,8 +290,9 @@ impl LineBuffer {
         Ok(())
     }
 
-    /// Writes the lines where there may not be room behind them for those of one more turn. After an error a front of their
-    /// bytes was written.
+    /// Writes the lines and empties the buffer if the lines of one more turn may not fit.
+    ///
+    /// If an error is returned, a front of their bytes was written.
     #[inline]
     pub fn make_room<W: Write>(&mut self, output: &mut W) -> io::Result<()>
         ensures written { OnOk result ((sent : List ℕ)
@@ -295,7 +308,7 @@ impl LineBuffer {
         self.write_to(output)
     }
 
-    /// Puts the bytes behind the others.
+    /// Appends the bytes.
     #[inline]
     fn push_all(&mut self, bytes: &[u8])
         requires { length bytes.now ≤ line_room self.old }
@@ -307,7 +320,7 @@ impl LineBuffer {
         self.filled = end;
     }
 
-    /// Puts the digits of the number behind the other bytes.
+    /// Appends the decimal digits of the number.
     #[tactic(auto, using(crate::proofs::EventLines::decimal_lengths))]
     fn push_decimal(&mut self, number: usize)
         requires { length (decimal number) ≤ line_room self.old }
@@ -322,7 +335,7 @@ impl LineBuffer {
         self.push_all(&digits[first..]);
     }
 
-    /// Keeps the digits of the number, if they are not kept already.
+    /// Keeps the digits of the number, unless they are already kept.
     #[inline]
     fn keep_hundreds(&mut self, number: usize)
         ensures number { self.new.hundreds.number ≡ number }
@@ -335,8 +348,8 @@ impl LineBuffer {
         self.hundreds = Decimal::new(number);
     }
 
-    /// Puts the kept digits behind the other bytes.
-    // All of the array is stored: its length is known.
+    /// Appends the kept digits.
+    // Stores the whole array, because its length is a constant.
     #[inline]
     fn push_hundreds(&mut self)
         requires { DIGITS ≤ line_room self.old }
@@ -347,7 +360,7 @@ impl LineBuffer {
         self.filled += self.hundreds.count;
     }
 
-    /// Puts the digits of a place behind the other bytes.
+    /// Appends the decimal digits of a place.
     #[inline]
     #[tactic(auto, using(crate::proofs::EventLines::decimal_lengths))]
     fn push_place(&mut self, place: usize)
@@ -364,7 +377,7 @@ impl LineBuffer {
         self.push_all(&[b'0' + (rest / 10) as u8, b'0' + (rest % 10) as u8]);
     }
 
-    /// Puts the line of a scalar behind the others.
+    /// Appends the line of a scalar.
     pub fn push_scalar(&mut self, scalar: char)
         requires { SCALAR_LINE ≤ line_room self.old }
         ensures text { line_bytes self.new ≡ line_bytes self.old
@@ -387,8 +400,7 @@ impl LineBuffer {
         self.push_all(&[b'U', b'+', a, b, d, e, f, g, b'\n']);
     }
 
-    /// Puts the lines of units from the front behind the others, as far as they are no surrogates. Answers how many units
-    /// that are.
+    /// Appends the lines of the units before the first surrogate, and returns their number.
     #[inline]
     fn push_plain(&mut self, units: &[u16]) -> usize
         requires { length units.now * SCALAR_LINE ≤ line_room self.old }
@@ -404,7 +416,7 @@ impl LineBuffer {
         count
     }
 
-    /// Puts the line of the first scalar of units behind the others. Answers how many units it has.
+    /// Appends the line of the first scalar, and returns the number of its code units.
     fn push_first(&mut self, units: &[u16]) -> usize
         requires some { 0 < length units.now }
         requires room { SCALAR_LINE ≤ line_room self.old }
@@ -421,7 +433,7 @@ impl LineBuffer {
         scalar.len_utf16()
     }
 
-    /// Puts the lines of the scalars of code units of UTF-16 behind the others.
+    /// Appends the lines of the scalars of UTF-16 code units.
     pub fn push_units(&mut self, units: &[u16])
         requires { length units.now * SCALAR_LINE ≤ line_room self.old }
         ensures text { line_bytes self.new ≡ line_bytes self.old
@@ -435,7 +447,7 @@ impl LineBuffer {
         }
     }
 
-    /// Puts the line of a malformed sequence behind the others.
+    /// Appends the line of a malformed sequence.
     #[inline]
     #[tactic(auto, using(crate::proofs::EventLines::decimal_lengths))]
     pub fn push_bad(&mut self, place: usize, length_in_bytes: usize)
@@ -451,8 +463,10 @@ impl LineBuffer {
         self.push_all(b"\n");
     }
 
-    /// Puts lines of malformed sequences of one byte each behind the others, of at most `most` that follow each other from a
-    /// place on: all those whose places have the same digits but the last two. Answers how many.
+    /// Appends lines of consecutive malformed sequences of one byte each, the first at `place`.
+    ///
+    /// Appends at most `most`: those whose places have the same digits except the last two. Returns
+    /// their number.
     #[inline]
     fn push_lone_hundred(&mut self, place: usize, most: usize) -> usize
         requires some { 0 < most }
@@ -474,8 +488,7 @@ impl LineBuffer {
         count
     }
 
-    /// Puts the lines of so many malformed sequences of one byte each behind the others, which follow each other from a
-    /// place on.
+    /// Appends the lines of `count` malformed sequences of one byte each, the first at `place`.
     pub fn push_lone(&mut self, place: usize, count: usize)
         requires place { place + count ≤ 2 ^ 64 }
         requires room { count * BAD_LINE ≤ line_room self.old }

@@ -1,4 +1,4 @@
-//! The engine of the program: bytes in, lines of events out.
+//! Decodes a stream of bytes to lines of events.
 ghost use Rattle.std.specs.Prelude.{◌≡◌, ℕ, ◌+◌, ◌*◌, ◌-◌, ◌^◌, ◌<◌, ◌≤◌, List, [], ◌++◌, length, map, slice_index, OnOk, OnErr};
 ghost use Rattle.legacy_text.specs.EncodingForm.{Utf16};
 ghost use Rattle.legacy_text.specs.Texts.{unit_scalars};
@@ -14,19 +14,20 @@ use legacy_codecs::{DecodeEvent, DecoderResult, RawDecoder};
 use std::io::{self, Read, Write};
 use thiserror::Error;
 
-/// Why recoding stopped.
+/// The reason why recoding stopped.
 #[derive(Debug, PartialEq, Eq, Drop, Error)]
 pub enum RecodeError {
-    /// A read gave an error, or no more bytes can be counted in a `usize`.
+    /// A read failed, or the number of bytes exceeds `usize::MAX`.
     #[error("input: cannot be read")]
     Read,
-    /// A write gave an error.
+    /// A write failed.
     #[error("output: cannot be written")]
     Write,
 }
 
-/// Puts the lines of the scalars of the units that a call wrote behind the others, and then that of what it reports.
-/// `read` bytes of the input were read.
+/// Appends the lines of the units that a call wrote, and then the line of what it reports.
+///
+/// `read` bytes of the input were read, this call included.
 #[inline]
 fn push_events(lines: &mut LineBuffer, units: &[u16], answer: DecoderResult, read: usize)
     requires { length units.now * SCALAR_LINE + BAD_LINE ≤ line_room lines.old }
@@ -41,8 +42,10 @@ fn push_events(lines: &mut LineBuffer, units: &[u16], answer: DecoderResult, rea
     lines.push_bad(read.saturating_sub(behind), usize::from(sequence));
 }
 
-/// Makes one call of the decoder on the `unread` bytes, and puts the lines of its events behind the others. `total` bytes
-/// of the input stand before them. Answers what the call answered. What `batch` holds is lost.
+/// Makes one call of the decoder on the `unread` bytes, and appends the lines of its events.
+///
+/// `total` bytes of the input come before them. Returns the call's result and the number of bytes
+/// read. The contents of `batch` are lost.
 fn lines_of_one_call<D: RawDecoder>(
     decoder: &mut D,
     unread: &[u8],
@@ -66,8 +69,10 @@ fn lines_of_one_call<D: RawDecoder>(
     (answer, read)
 }
 
-/// Puts the lines of bytes at the front behind the others, of which the decoder knows that they are malformed each by itself.
-/// `total` bytes of the input stand before them. Answers how many.
+/// Appends the lines of bytes at the beginning that the decoder reports as lone malformed.
+///
+/// Each of them is a malformed sequence by itself. `total` bytes of the input come before them.
+/// Returns their number.
 #[inline]
 fn lines_of_lone<D: RawDecoder>(
     decoder: &D,
@@ -90,8 +95,10 @@ fn lines_of_lone<D: RawDecoder>(
     count
 }
 
-/// Decodes a whole piece, and writes the lines of its events. `total` bytes of the input stand before it. An error is
-/// the writer's. What `batch` holds is lost, and `lines` holds no line at either end.
+/// Decodes a whole piece, and writes the lines of its events.
+///
+/// `total` bytes of the input come before it. Returns the error of a failed write. The contents of
+/// `batch` are lost. `lines` is empty before the call, and after it unless a write fails.
 fn recode_piece<D: RawDecoder, W: Write>(
     decoder: &mut D,
     piece: &[u8],
@@ -125,28 +132,31 @@ fn recode_piece<D: RawDecoder, W: Write>(
     }
 }
 
-/// Reads the input to its end, decodes it, and writes a line for each event: `U+0041` for a scalar, or `bad 3 1` for a
-/// malformed sequence with its place and its length in bytes. A place counts from the first byte that is read here;
-/// one that lies before it, in bytes that the decoder held back, is 0.
+/// Decodes the input to its end, and writes a line for each event.
 ///
-/// The input is read in pieces of up to 4096 bytes, and the lines of a piece are written before the next one is read.
-/// An empty read is the end. What was written before an error stands, and after a failed write it may end inside a line.
-/// The decoder stands behind the bytes that were decoded.
+/// The line is `U+0041` for a scalar, or `bad 3 1` for a malformed sequence with its place and its
+/// length in bytes. A place counts from the first byte read here. A place before it, in bytes that
+/// the decoder held back, is 0.
+///
+/// The input is read in pieces of up to 4096 bytes, and the lines of a piece are written before the
+/// next one is read. An empty read is the end. If an error is returned, the lines written before it
+/// remain. A failed write may end inside a line. The decoder continues after the bytes that were
+/// decoded.
 pub fn recode<D: RawDecoder, R: Read, W: Write>(
     decoder: &mut D,
     input: &mut R,
     output: &mut W,
 ) -> Result<(), RecodeError>
-    // All was read, and the lines of all events of what was held back and read were written.
+    // The whole input was read. The lines of all events of the held-back and read bytes were written.
     ensures ok { OnOk result (RecodesAll (D.state decoder.old) (D.state decoder.new)
         (R.remaining input.old) (R.remaining input.new)
         (W.contents output.old) (W.contents output.new)) }
-    // The lines of a beginning of the events were written.
+    // The lines of the first events were written.
     ensures read { result ≡ Err RecodeError.Read → RecodesBeginning
         (D.state decoder.old) (D.state decoder.new)
         (R.remaining input.old) (R.remaining input.new)
         (W.contents output.old) (W.contents output.new) }
-    // The lines of a beginning of the events were written, and then perhaps a part of the lines of the next ones.
+    // The lines of the first events were written, and perhaps a part of the lines of the next ones.
     ensures write { result ≡ Err RecodeError.Write → RecodesPartly
         (D.state decoder.old) (D.state decoder.new)
         (R.remaining input.old) (R.remaining input.new)

@@ -1,4 +1,4 @@
-//! The engine of the program's text: bytes in, UTF-8 out.
+//! Decodes a stream of bytes to text in UTF-8.
 ghost use Rattle.std.specs.Prelude.{◌≡◌, ◌≤◌, length, ◌||◌, IfOk, OnErr};
 ghost use Rattle.legacy_streams.specs.Text.{WritesPiece, WritesFront, WritesAll, WritesBeginning, WritesPartly};
 
@@ -7,10 +7,10 @@ use crate::recode::RecodeError;
 use legacy_codecs::{CoderResult, RawDecoder, decode_replacing_utf8};
 use std::io::{self, Read, Write};
 
-/// The most bytes of text that are made before they are written: those of a piece, and of what was held back before it.
+/// The maximum number of bytes of text before a write: for a piece and the bytes held back before.
 const TEXT: usize = 3 * PIECE + 32;
 
-/// Whether one of the two is so.
+/// Returns whether at least one of the two is true.
 #[inline]
 fn either(one: bool, other: bool) -> bool
     ensures { result ≡ (one || other) }
@@ -18,8 +18,10 @@ fn either(one: bool, other: bool) -> bool
     one || other
 }
 
-/// Decodes a whole piece, and writes its text. Answers whether U+FFFD stands in it for a malformed sequence. An error
-/// is the writer's. What `text` holds is lost.
+/// Decodes a whole piece, and writes its text.
+///
+/// Returns whether the text contains U+FFFD for a malformed sequence, or the error of a failed
+/// write. The contents of `text` are lost.
 fn write_piece<D: RawDecoder, W: Write>(
     decoder: &mut D,
     piece: &[u8],
@@ -49,27 +51,29 @@ fn write_piece<D: RawDecoder, W: Write>(
     }
 }
 
-/// Reads the input to its end, decodes it, and writes its text as UTF-8, with U+FFFD for each malformed sequence.
-/// Answers whether there was one.
+/// Decodes the input to its end, and writes its text as UTF-8.
 ///
-/// The input is read in pieces of up to 4096 bytes, and the text of a piece is written before the next one is read.
-/// An empty read is the end. What was written before an error stands, and after a failed write it may end inside a
-/// scalar. The decoder stands behind the bytes that were decoded.
+/// Writes U+FFFD for each malformed sequence, and returns whether there was one.
+///
+/// The input is read in pieces of up to 4096 bytes, and the text of a piece is written before the
+/// next one is read. An empty read is the end. If an error is returned, the text written before it
+/// remains. A failed write may end inside a scalar. The decoder continues after the bytes that were
+/// decoded.
 pub fn recode_text<D: RawDecoder, R: Read, W: Write>(
     decoder: &mut D,
     input: &mut R,
     output: &mut W,
 ) -> Result<bool, RecodeError>
-    // All was read, and the text of all events of what was held back and read was written.
+    // The whole input was read. The text of all events of the held-back and read bytes was written.
     ensures ok { IfOk result (λ found. WritesAll (D.state decoder.old) (D.state decoder.new) found
         (R.remaining input.old) (R.remaining input.new)
         (W.contents output.old) (W.contents output.new)) }
-    // The text of a beginning of the events was written.
+    // The text of the first events was written.
     ensures read { result ≡ Err RecodeError.Read → WritesBeginning
         (D.state decoder.old) (D.state decoder.new)
         (R.remaining input.old) (R.remaining input.new)
         (W.contents output.old) (W.contents output.new) }
-    // The text of a beginning of the events was written, and then perhaps a part of the text of the next ones.
+    // The text of the first events was written, and perhaps a part of the text of the next ones.
     ensures write { result ≡ Err RecodeError.Write → WritesPartly
         (D.state decoder.old) (D.state decoder.new)
         (R.remaining input.old) (R.remaining input.new)

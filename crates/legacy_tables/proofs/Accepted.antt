@@ -1,4 +1,4 @@
--- What is known of indexes and single-byte tables that passed their check.
+-- Facts about indexes and single-byte tables that passed their check.
 use Rattle.std.proofs.Common.{◌≡◌, ◌≢◌, ◌∙◌, ℕ, zero, suc, ◌+◌, ◌-◌, ◌≤◌, ◌<◌, List, [], ◌∷◌, length, get_or, add-one, refl}
 use Rattle.std.proofs.Common.{sym, arith, Some, None, Option, true, false, Bool, ◌&&◌, ◌||◌, not, cond, eq-eqb, nat_le, nat_lt, subst, ◌==◌}
 use Rattle.std.proofs.lemmas.Bool.{eqb-true, false≢true}
@@ -21,7 +21,7 @@ use Rattle.legacy_tables.specs.Tables.{index_list, is_narrow_index}
 use Rattle.legacy_tables.specs.TableChecks.{is_narrow_entry, is_entry, must_be_empty, entry_fault, entries_fault, index_fault, katakana_fault, range_order_fault, AreAccepted}
 use Rattle.legacy_tables.specs.TableChecks.{follows_range, next_pointer, has_range_scalars, range_value_fault, rows_fault, table_fault}
 
--- ---- no fault among two, and none at a test
+-- ---- no fault of two parts, and of a test
 
 pub or_none : (a b : Option TableError) → option_or a b ≡ None → (a ≡ None) × (b ≡ None)
 or_none None b e = (refl, e)
@@ -37,7 +37,7 @@ both_true false b e = cc
 
 -- ---- the parts of the check
 
--- an index without a fault is not too long, and its entries have none
+-- an index without a fault is not too long, and its entries have no fault
 pub index_parts : (name : IndexName) (limit : ℕ) (index : List ℕ) → index_fault name limit index ≡ None → (length index ≤ limit) × (entries_fault name 0 index ≡ None)
 index_parts name limit index e = go (nat_lt limit (length index)) refl e
   where
@@ -81,7 +81,7 @@ parts flat e =
       private_use = i.1;
     }
 
--- ---- entries: what 0 is, and what each is that may stand there
+-- ---- entries: 0, and the others that are allowed
 
 -- an entry that is 0, or passes its test
 pub entry_has : (P : ℕ → Type 0) (entry : ℕ) (test : Bool) (fault : TableError) (other : Option TableError) → P 0 → (test ≡ true → P entry) →
@@ -100,7 +100,7 @@ all_entries P name at_zero good place (x ∷ xs) e =
     let h = or_none (entry_fault name place x) _ e in
     All-cons P x xs (entry_has P x (is_entry name x) (BadEntry name place) _ at_zero (good x) h.0) (all_entries P name at_zero good (place + 1) xs h.1)
 
--- of entries without a fault each has none, and so has 0
+-- each of the entries without a fault has none, and 0 has none
 pub entry_at : (name : IndexName) (place : ℕ) (index : List ℕ) → entries_fault name place index ≡ None → (k : ℕ) → entry_fault name (place + k) (get_or index k 0) ≡ None
 unfolding entries_fault
 entry_at name place [] e k = refl
@@ -122,7 +122,7 @@ is_narrow-scalar e h = grind (arith, nat_tests)
 is_wide-scalar : (e : ℕ) → (is_narrow_entry e || is_in_range 0x2_0000 0x2_FFFF e) ≡ true → IsScalar e
 is_wide-scalar e h = grind (arith, nat_tests)
 
--- ---- accepted indexes: their entries are scalars, but for Big5 of the Basic Multilingual Plane
+-- ---- accepted indexes: their entries are scalars, of the Basic Multilingual Plane except in Big5
 
 module _ (flat : FlatIndexes) (accepted : AreAccepted flat) where
   pub big5-scalars : AreScalars flat.big5
@@ -202,7 +202,7 @@ module _ (flat : FlatIndexes) (accepted : AreAccepted flat) where
 
 -- ---- accepted ranges
 
--- a range that follows another starts behind it
+-- a range that follows another starts after it
 next_up : (before r : ℕ × ℕ) → (nat_le r.0 39419 && follows_range (Some before) r) ≡ true → before.0 < r.0
 next_up before r h = ltb-true before.0 r.0 (both_true _ _ (both_true _ _ h).1).0
 
@@ -221,11 +221,11 @@ adjacent place before (r ∷ s ∷ ranges) e (suc k) d h =
 pub rising : (place : ℕ) (before : Option (ℕ × ℕ)) (ranges : List (ℕ × ℕ)) → range_order_fault place before ranges ≡ None → IsNonDecreasingBy (λ r. r.0) ranges
 rising place before ranges e = IsNonDecreasingBy-from_all_adjacent (λ r. r.0) ranges (adjacent place before ranges e)
 
--- a range that follows another begins past all scalars of the one before
+-- a range that follows another begins after all scalars of that one
 next_above : (before r : ℕ × ℕ) → (nat_le r.0 39419 && follows_range (Some before) r) ≡ true → (before.0 < r.0) × (before.1 + (r.0 - before.0) ≤ r.1)
 next_above before r h = let b = both_true _ _ (both_true _ _ h).1 in (ltb-true before.0 r.0 b.0, leb-true _ r.1 b.1)
 
--- so pointers and scalars rise together, where pointers rise by no more
+-- pointers and scalars rise together, and pointers do not rise by more
 climb : (place : ℕ) (before : Option (ℕ × ℕ)) (ranges : List (ℕ × ℕ)) → range_order_fault place before ranges ≡ None →
     AllAdjacentBelow (λ r s. (r.0 < s.0) × (r.1 + (s.0 - r.0) ≤ s.1)) ranges (length ranges)
 unfolding range_order_fault
@@ -242,12 +242,12 @@ pub rising_scalars : (place : ℕ) (before : Option (ℕ × ℕ)) (ranges : List
 rising_scalars place before ranges e =
     IsNonDecreasingBy-from_all_adjacent (λ r. r.1) ranges (λ k d h. let up = climb place before ranges e k d h in let low = up.0 in let high = up.1 in omega arith)
 
--- a range begins past all scalars that one before it gives the pointers up to its own
+-- a range begins after all scalars that the range before it gives to pointers up to its own
 pub rise : (ranges : List (ℕ × ℕ)) → range_order_fault 0 None ranges ≡ None → (i : ℕ) → i + 1 < length ranges →
     ((get_or ranges i (0, 0)).0 < (get_or ranges (i + 1) (0, 0)).0) × ((get_or ranges i (0, 0)).1 + ((get_or ranges (i + 1) (0, 0)).0 - (get_or ranges i (0, 0)).0) ≤ (get_or ranges (i + 1) (0, 0)).1)
 rise ranges e i h = climb 0 None ranges e i (0, 0) h
 
--- each starts at 39419 at the latest
+-- each range starts at 39419 or before
 started_from : (place : ℕ) (before : Option (ℕ × ℕ)) (ranges : List (ℕ × ℕ)) → range_order_fault place before ranges ≡ None → (k : ℕ) → k < length ranges → (get_or ranges k (0, 0)).0 ≤ 39419
 unfolding range_order_fault
 started_from place before [] e k h = absurd (omega arith)
@@ -275,7 +275,7 @@ last-at (r ∷ ranges) p (suc n) h l ahead =
     let below : n < length ranges = omega arith in
     rw (last-at ranges p n below l (λ k m g. ahead (suc k) (omega arith) (omega arith))) refl
 
--- where no range starts at or before p, the first one starts behind it
+-- if no range starts at or before p, the first one starts after it
 next-above : (ranges : List (ℕ × ℕ)) (p : ℕ) → p ≤ 39419 → last_range_scalar ranges p ≡ None → p < next_pointer ranges
 next-above [] p h e = omega arith
 next-above (r ∷ ranges) p h e = go (last_range_scalar ranges p) (nat_le r.0 p) refl e
@@ -291,7 +291,7 @@ in_range-narrow r0 r1 end p h l g = grind (arith, nat_tests)
 in_range-scalar : (r0 r1 end p : ℕ) → has_range_scalars (r0, r1) end ≡ true → r0 ≤ p → p < end → IsScalar (r1 + (p - r0))
 in_range-scalar r0 r1 end p h l g = grind (arith, nat_tests)
 
--- what ranges give is a scalar, and below U+10000
+-- ranges give only scalars below U+10000
 pub last_range-narrow : (place : ℕ) (ranges : List (ℕ × ℕ)) → range_value_fault place ranges ≡ None → (p c : ℕ) → p ≤ 39419 → last_range_scalar ranges p ≡ Some c → IsScalar c × (c < 0x1_0000)
 unfolding range_value_fault
 last_range-narrow place [] e p c h is = cc
@@ -313,7 +313,7 @@ last_range-narrow place (r ∷ ranges) e p c h is =
 
 -- ---- look-ups
 
--- an entry that stands for a scalar is that scalar, which is not 0
+-- the scalar of an entry is the entry, which is not 0
 pub entry_scalar-is : (e c : ℕ) → entry_scalar e ≡ Some c → (c ≢ 0) × (e ≡ c)
 entry_scalar-is e c h = go (e == 0) refl h
   where
@@ -321,7 +321,7 @@ entry_scalar-is e c h = go (e == 0) refl h
     go true f z = cc
     go false f z = let same : e ≡ c = cc in (λ n. let k = eq-eqb e 0 (same ∙ n) in cc, same)
 
--- what all entries of an index are, the scalar of each pointer is
+-- a property of all entries of an index holds for the scalar of each pointer
 pub idx-all : (P : ℕ → Type 0) (index : List ℕ) → All P index → (p c : ℕ) → idx index p ≡ Some c → P c
 idx-all P [] all p c e = cc
 idx-all P (x ∷ xs) all zero c e = subst P (entry_scalar-is x c e).1 (all 0 0 (omega arith))
@@ -330,7 +330,7 @@ idx-all P (x ∷ xs) all (suc p) c e = idx-all P xs (λ k d l. all (suc k) d (om
 wide-scalar : (p : ℕ) → is_in_range 189000 1237575 p ≡ true → IsScalar (0x1_0000 + (p - 189000))
 wide-scalar p h = grind (arith, nat_tests)
 
--- what `range` gives for accepted ranges is a scalar
+-- `range` gives only scalars for accepted ranges
 pub range-scalar : (flat : FlatIndexes) → AreAccepted flat → (p c : ℕ) → range flat.ranges p ≡ Some c → IsScalar c
 unfolding range
 range-scalar flat accepted p c e = go (p == 7457) (is_in_range 189000 1237575 p) (nat_le p 39419) refl refl e

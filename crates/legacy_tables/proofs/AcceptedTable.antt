@@ -1,4 +1,4 @@
--- What is known of single-byte tables that passed their check.
+-- Facts about single-byte tables that passed their check.
 use Rattle.std.proofs.Common.{◌≡◌, ◌≢◌, ◌∙◌, ℕ, zero, suc, ◌+◌, ◌<◌, List, [], ◌∷◌, length, get_or, refl, sym, one-add, arith}
 use Rattle.std.proofs.Common.{Some, None, true, false, Bool, ◌||◌, ◌↔◌, not, cond, eqb, eq-eqb, ◌==◌, position, inl, inr, subst}
 use Rattle.std.proofs.lemmas.Bool.{eqb-true, ne_eqb, cases_lt, lt-ltb}
@@ -18,7 +18,7 @@ or_false : (a b : Bool) → (a || b) ≡ false → (a ≡ false) × (b ≡ false
 or_false true b e = cc
 or_false false b e = (refl, e)
 
--- an accepted entry that is not 0 stands nowhere before
+-- an accepted entry that is not 0 is not among the entries before it
 once : (place : ℕ) (before : List ℕ) (c : ℕ) → byte_entry_fault place before c ≡ None → c ≢ 0 → list_any (λ x. eqb x c) before ≡ false
 once place before c f n = go (is_byte_entry c) (list_any (λ x. eqb x c) before) (rw (ne_eqb c 0 n) at f)
   where
@@ -34,7 +34,7 @@ apart place before (x ∷ xs) zero c f e n = once place before c (subst (λ y. b
 apart place before (x ∷ xs) (suc k) c f e n =
     (or_false (eqb x c) (list_any (λ z. eqb z c) before) (apart (place + 1) (x ∷ before) xs k c (or_none (byte_entry_fault place before x) _ f).1 e n)).1
 
--- so the place of a scalar is its first one
+-- the place of a scalar is its first place
 first_place : (place : ℕ) (before entries : List ℕ) (k c : ℕ) → byte_entries_fault place before entries ≡ None → get_or entries k 0 ≡ c → c ≢ 0 → position_or_len (λ x. x == c) entries ≡ k
 unfolding byte_entries_fault
 first_place place before [] k c f e n = absurd (n (sym e))
@@ -58,7 +58,7 @@ all_bytes P at_zero good place before (x ∷ xs) e =
     All-cons P x xs (entry_has P x (is_byte_entry x) (BadByteEntry place) _ at_zero (good x) h.0) (all_bytes P at_zero good (place + 1) (x ∷ before) xs h.1)
 
 module _ (table : List ℕ) (accepted : IsAcceptedTable table) where
-  -- its entries are scalars of the Basic Multilingual Plane
+  -- the entries of the table are scalars of the Basic Multilingual Plane
   pub table-scalars : AreScalars table
   table-scalars = all_bytes IsScalar refl byte-scalar 0 [] table accepted
 
@@ -68,7 +68,7 @@ module _ (table : List ℕ) (accepted : IsAcceptedTable table) where
   pub within : (place c : ℕ) → get_or table place 0 ≡ c → c ≢ 0 → place < length table
   within place c e n = elim (cases_lt place (length table)) [ inl h ↦ h | inr h ↦ absurd (n (sym e ∙ get_or_past table place 0 h)) ]
 
-  -- the first place of a scalar is the one that holds it
+  -- the first place of a scalar is the place that has it
   pub position-idx : (c : ℕ) → (c ≡ 0 → ⊥) → (place : ℕ) → (position (λ e. e == c) table ≡ Some place) ↔ (idx table place ≡ Some c)
   position-idx c n place = (there, here)
     where

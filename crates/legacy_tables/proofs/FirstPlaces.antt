@@ -1,4 +1,4 @@
--- The first and the last number of a row of numbers that pass a test.
+-- The first and the last number of a range of numbers that passes a test.
 use Rattle.std.proofs.Common.{◌≡◌, ℕ, zero, suc, ◌+◌, ◌≤◌, ◌<◌, Some, None, true, false, Bool, ◌||◌, cond, arith, refl, inl, inr, find, subst}
 use Rattle.std.proofs.lemmas.Bool.{cases_lt}
 use Rattle.std.specs.List.{range_with_len}
@@ -36,7 +36,7 @@ module _ (test : ℕ → Bool) where
         | inr h ↦ let same : k ≡ a = omega arith in rw same q
       ]
 
-  -- what is found passes, and is the first that does
+  -- the number found passes, and is the first that does
   pub record IsFirst (a n p : ℕ) : Type 0 where
     pub within : p < a + n
     pub passes : test p ≡ true
@@ -128,7 +128,7 @@ module _ (test other : ℕ → Bool) where
   last-same zero same = refl
   last-same (suc n) same = rw (same n (omega arith), last-same n (λ k h. same k (omega arith))) refl
 
-  -- where all that pass the one stand before all that pass the other
+  -- if all numbers that pass the one test are before all that pass the other
   pub find-either : (a n : ℕ) → ((j k : ℕ) → test j ≡ true → other k ≡ true → j < k) →
       find (λ k. test k || other k) (range_with_len a n) ≡ option_or (find test (range_with_len a n)) (find other (range_with_len a n))
   find-either a zero apart = refl

@@ -1,4 +1,4 @@
--- Laws of indexes, and of what is made of them.
+-- Laws of indexes and of tables made of them.
 pub mod TableLoops
 pub mod FirstPlaces
 pub mod SearchedBlocks

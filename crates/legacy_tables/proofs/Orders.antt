@@ -1,4 +1,4 @@
--- What an order of pointers is that is in order, and what it answers.
+-- Orders of pointers that passed their check, and look-ups in them.
 use Rattle.std.proofs.Common.{◌≡◌, ◌≢◌, ◌∙◌, ℕ, zero, suc, ◌+◌, ◌≤◌, ◌<◌, List, [], ◌∷◌, length, get_or, slice_index, refl, sym, ap, subst, arith, Some, None, Option, true}
 use Rattle.std.proofs.Common.{false, find, Bool, ◌&&◌, ◌||◌, cond, eq-eqb, ◌==◌, nat_lt, not, inl, inr, drop, drop-cons, add-one}
 use Rattle.std.proofs.lemmas.Bool.{cases_lt, cases_eq, ne_eqb, eqb-true, true≢false}
@@ -32,7 +32,7 @@ or_true false = refl
 less : (a b : ℕ) → suc a < suc b → a < b
 less a b h = omega arith
 
--- ---- the order, as a loop finds it
+-- ---- the order, as a loop reads it
 
 module _ (part : PackedPart) (index order : List ℕ) (place above : ℕ) (all : Option ℕ) (so_far : all ≡ order_fault_from part index place above (drop place order)) where
   pub order-pass : place < length order → is_pointer_in_order part index above (get_or order place 0) ≡ true →
@@ -90,7 +90,7 @@ module _ (part : PackedPart) (index : List ℕ) where
       let t = taken (is_pointer_in_order part index above p) place (order_fault_from part index (place + 1) (slice_index index p) order) e in
       rising_from (place + 1) (slice_index index p) order t.1 i j (less i j h) (less j (length order) l)
 
-  -- the place of a pointer that the order holds
+  -- the place of a pointer that the order contains
   place_of : (order : List ℕ) (q : ℕ) → list_any (λ r. q == r) order ≡ true → (i : ℕ) × (i < length order) × (get_or order i 0 ≡ q)
   place_of [] q h = absurd (true≢false (sym h))
   place_of (p ∷ order) q h = go (place_of order q)
@@ -115,7 +115,7 @@ module _ (part : PackedPart) (index : List ℕ) where
     pub order-mapped : (q : ℕ) → list_any (λ r. q == r) order ≡ true → 0 < slice_index index q
     order-mapped q h = (members 0 0 order none q h).higher
 
--- ---- what an order answers
+-- ---- the pointers that an order gives
 
 -- the first item of a list that passes a test
 find-at : (test : ℕ → Bool) (xs : List ℕ) (n : ℕ) → n < length xs → test (get_or xs n 0) ≡ true → ((k : ℕ) → k < n → test (get_or xs k 0) ≡ false) → find test xs ≡ Some (get_or xs n 0)
@@ -140,7 +140,7 @@ find-held test (x ∷ xs) q e = go (test x) refl e (find-held test xs q)
     go true z f rest = let same : x ≡ q = cc in (rw (eq-eqb q x (sym same)) refl, subst (λ r. test r ≡ true) same z)
     go false z f rest = let later = rest f in (rw later.0 (or_true (q == x)), later.1)
 
--- what a binary search asks
+-- the order that a binary search requires
 pub order-rising : (index order : List ℕ) → RisesBy index order → IsNonDecreasingBy (λ p. slice_index index p) order
 order-rising index order rises = λ i j d h l. elim (cases_lt i j) [
   | inl m ↦
@@ -157,7 +157,7 @@ module _ (index order : List ℕ) (rises : RisesBy index order) (c : ℕ) where
       find-at (λ p. slice_index index p == c) order n h (eq-eqb (slice_index index (slice_index order n)) c is)
       (λ k l. let above = rises.above k n l h in ne_eqb (slice_index index (slice_index order k)) c (λ e. absurd (omega arith)))
 
-  -- where no place has it
+  -- if no place has the scalar
   pub order-absent : (n : ℕ) → ((k : ℕ) → k < n → slice_index index (slice_index order k) < c) → ((k : ℕ) → n ≤ k → k < length order → c ≤ slice_index index (slice_index order k))
       → (n < length order → slice_index index (slice_index order n) ≢ c) → order_pointer index order c ≡ None
   unfolding order_pointer
@@ -172,11 +172,11 @@ module _ (index order : List ℕ) (rises : RisesBy index order) (c : ℕ) where
       ]))
 
 module _ (part : PackedPart) (index order : List ℕ) (none : order_fault part index order ≡ None) where
-  -- an order that is in order rises
+  -- an order without a fault rises
   pub order-rises : RisesBy index order
   order-rises = record { above = rising_from part index 0 0 order none }
 
-  -- and answers by its pointers
+  -- a look-up in it returns its pointers
   pub order-lookup : IsLookup part index order (order_pointer index order)
   unfolding order_pointer
   order-lookup = record {
@@ -194,7 +194,7 @@ held_true false e = cc
 
 -- ---- whether an order lacks the scalar of a pointer
 
--- the first of the scalar's pointers is taken but for Big5's six
+-- the first of the scalar's pointers is used, except for the six scalars of Big5
 first-taken : (part : PackedPart) (index : List ℕ) (c : ℕ) → takes_last part c ≡ false → pointer_of part index c ≡ first_pointer (may_use part) index c
 first-taken parts.Big5Order index c e = rw e refl
 first-taken parts.ShiftJisOrder index c e = refl
@@ -208,7 +208,7 @@ first-taken parts.Jis0212 index c e = refl
 first-taken parts.Gb18030 index c e = refl
 
 module _ (part : PackedPart) (index order : List ℕ) (lookup : ℕ → Option ℕ) (is : IsLookup part index order lookup) where
-  -- the pointer that is taken for a scalar that has one
+  -- the pointer that is used for a scalar that has one
   some_taken : (c p : ℕ) → may_use part p ≡ true → slice_index index p ≡ c → c ≢ 0 → (o : Option ℕ) → pointer_of part index c ≡ o → (s : ℕ) × (pointer_of part index c ≡ Some s)
   some_taken c p u e n None z = absurd ((pointer-taken part index c).missing z p u e n)
   some_taken c p u e n (Some s) z = (s, z)
@@ -272,7 +272,7 @@ module _ (part : PackedPart) (index order : List ℕ) (lookup : ℕ → Option �
                     value s.0 s.1 ∙ shown
               ]
 
-  -- where none is lacking, the look-up answers the pointer that is taken
+  -- if no scalar is missing, the look-up returns the pointer that is used
   pub lookup-taken : ((k : ℕ) → k < length index → is_lacking part index order k ≡ false) → (c : ℕ) → lookup c ≡ pointer_of part index c
   lookup-taken passed c = go (pointer_of part index c) refl
     where
@@ -297,7 +297,7 @@ module _ (part : PackedPart) (index order : List ℕ) (lookup : ℕ → Option �
               let shown = rw (ne_eqb (slice_index index s) 0 mapped, at.0, at.1, z) at pass in
               is.only c s (held_true (list_any (λ r. s == r) order) shown) at.1 ∙ sym z
 
--- by the value of a look-up
+-- by the result of a look-up
 module _ (part : PackedPart) (index order : List ℕ) (lookup : ℕ →
     Option ℕ) (is : IsLookup part index order lookup) (p c : ℕ) (at : c ≡ slice_index index p) (mapped : c ≢ 0) (usable : may_use part p ≡ true) where
   there : slice_index index p ≢ 0
@@ -324,21 +324,21 @@ module _ (part : PackedPart) (index order : List ℕ) (lookup : ℕ →
         | inr h ↦ le-ltb p q h ∙ sym (lacking-earlier part index order lookup is p there usable first_there passed q (ap lookup (sym at) ∙ e) h)
       ]
 
--- an order without a fault answers what is taken
+-- an order without a fault gives the pointers that are used
 pub order-answers : (part : PackedPart) (index order : List ℕ) (lookup : ℕ → Option ℕ) → IsLookup part index order lookup → order_difference part index order ≡ None → (c : ℕ) →
     lookup c ≡ pointer_of part index c
 unfolding order_difference
 order-answers part index order lookup is none =
     lookup-taken part index order lookup is (λ k h. find-none-at (is_lacking part index order) 0 (length index) none k (omega arith) (omega arith))
 
--- so it is an order of the codec's
+-- it is an order of the codec
 pub is-order : (part : PackedPart) (index order : List ℕ) → order_fault part index order ≡ None → order_difference part index order ≡ None → IsOrder part index order
 is-order part index order none all = record {
   rises = order-rises part index order none;
   answers = order-answers part index order (order_pointer index order) (order-lookup part index order none) all;
 }
 
--- also in an index with the same entries
+-- it is also an order for an index with the same entries
 pub order-same : (part : PackedPart) (a b order : List ℕ) → ((p : ℕ) → slice_index a p ≡ slice_index b p) → IsOrder part b order → IsOrder part a order
 unfolding order_pointer
 order-same part a b order same is = record {

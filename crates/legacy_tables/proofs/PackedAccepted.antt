@@ -1,4 +1,4 @@
--- Runs that give what accepted indexes do are accepted indexes too.
+-- Runs with the scalars of accepted indexes are accepted indexes too.
 use Rattle.std.proofs.Common.{◌≡◌, ◌≢◌, ◌∙◌, ℕ, suc, ◌+◌, ◌≤◌, ◌<◌, All, List, [], ◌∷◌, length, get_or, refl, sym, ap, arith, Some, None, Option, false, not, ◌==◌, inl, inr}
 use Rattle.std.proofs.lemmas.Bool.{cases_lt, cases_eq, ne_eqb, true≢false}
 use Rattle.std.proofs.lemmas.List.{get_or_past}
@@ -26,7 +26,7 @@ use Rattle.legacy_tables.proofs.FirstPlaces.{find-none-at}
 use Rattle.legacy_tables.proofs.Orders.{order-same}
 use Rattle.legacy_tables.proofs.PackedRuns.{no_run, run-reach, scalar-none, outside-behind, runs_end-within, runs_list-length, runs_list-entry}
 
--- ---- each entry of scalars is one, and 0 past their end too
+-- ---- each entry is a scalar, also 0 past the end
 
 pub entry-scalar : (xs : List ℕ) → AreScalars xs → (p : ℕ) → IsScalar (get_or xs p 0)
 entry-scalar xs all p = elim (cases_lt p (length xs)) [
@@ -34,7 +34,7 @@ entry-scalar xs all p = elim (cases_lt p (length xs)) [
   | inr h ↦ rw (get_or_past xs p 0 h) refl
 ]
 
--- ---- each entry of narrow ones is below U+10000, and 0 past their end too
+-- ---- each entry of a narrow index is below U+10000, also 0 past the end
 
 pub entry-narrow : (xs : List ℕ) → All (λ c. c < 0x1_0000) xs → (p : ℕ) → get_or xs p 0 < 0x1_0000
 entry-narrow xs all p = elim (cases_lt p (length xs)) [
@@ -42,7 +42,7 @@ entry-narrow xs all p = elim (cases_lt p (length xs)) [
   | inr h ↦ rw (get_or_past xs p 0 h) (omega arith)
 ]
 
--- ---- what runs give is an entry of their list
+-- ---- the scalar that runs give is an entry of their list
 
 pub given-entry : (runs : List Run) (p c : ℕ) → Some c ≡ runs_scalar runs p → get_or (runs_list runs) p 0 ≡ c
 given-entry runs p c is = runs_list-entry runs p ∙ ap (λ o. option_map_or (λ c. c) o 0) (sym is)
@@ -64,7 +64,7 @@ entry-back e = elim (cases_lt e 1) [
   | inr h ↦ rw (ne_eqb e 0 (λ z. omega arith)) refl
 ]
 
--- the number 0 is no scalar of an entry
+-- the number 0 is not the scalar of an entry
 entry-no-zero : (e : ℕ) → entry_scalar e ≢ Some 0
 entry-no-zero e is = elim (cases_eq e 0) [
   | inl z ↦ let f = rw z at is in cc
@@ -97,7 +97,7 @@ module _ (part : PackedPart) (limit : ℕ) (runs : List Run) (index : List ℕ) 
         ap (λ o. option_map_or (λ c. c) o 0) (past_runs p h) ∙ sym (get_or_past index p 0 (omega arith))
   ]
 
-  -- they give no pointer 0: there the index would have none
+  -- the runs give no pointer 0, because the index has no scalar there
   pub no-zero : GiveNoZero runs
   unfolding run_difference
   no-zero p is = elim (cases_lt p limit) [
@@ -134,7 +134,7 @@ runs-accepted part name limit runs index none flat =
     (no_entries_fault name 0 (runs_list runs) (λ k h.
     rw (same-list part limit runs index none flat.0 k) (entry_at name 0 index flat.1 k)))
 
--- ---- all of them
+-- ---- all parts
 
 record RunsParts (flat : FlatIndexes) (packed : Packed) : Type 0 where
   big5 : runs_fault parts.Big5 19782 packed.big5.now flat.big5 ≡ None
@@ -181,7 +181,7 @@ module _ (flat : FlatIndexes) (packed : Packed) (accepted : AreAccepted flat) (n
       same names.Katakana p = refl
       same names.Ranges p = refl
 
-  -- tables of those lists
+  -- the tables of those lists
   pub packed-tables : all_orders_fault flat packed ≡ None → ArePackedTables flat packed (packed_lists flat packed)
   packed-tables ordered = record { no_fault = rw (accepted, none) ordered; given = refl; alike = packed-alike }
 
@@ -197,12 +197,12 @@ module _ (flat : FlatIndexes) (packed : Packed) (accepted : AreAccepted flat) (n
   pub same-gb18030 : (p : ℕ) → get_or (runs_list packed.gb18030.now) p 0 ≡ get_or flat.gb18030 p 0
   same-gb18030 = same-list parts.Gb18030 23940 packed.gb18030.now flat.gb18030 (runs_parts flat packed none).gb18030 (parts flat accepted).gb18030.0
 
--- ---- the lists and the orders that packed tables keep
+-- ---- the lists and orders of packed tables
 
 pub lists-same : (runs : CheckedRuns) (flat : FlatIndexes) (packed : Packed) → AreRunsOf runs packed → lists_of_runs runs flat.katakana flat.ranges flat.gb18030_pua ≡ packed_lists flat packed
 lists-same runs flat packed are = rw (are.big5, are.euc_kr, are.jis0208, are.jis0212, are.gb18030) refl
 
--- orders answer in the lists of runs what they do in the flat indexes
+-- the orders give the same pointers in the lists of runs as in the flat indexes
 pub orders-same : (orders : CheckedOrders) (flat : FlatIndexes) (packed : Packed) (accepted : AreAccepted flat) (none : all_runs_fault flat packed ≡ None) → AnswerPointersOf orders flat →
     AnswerPointersOf orders (packed_lists flat packed)
 orders-same orders flat packed accepted none are = record {
@@ -213,7 +213,7 @@ orders-same orders flat packed accepted none are = record {
   gb18030 = order-same parts.Gb18030Order (runs_list packed.gb18030.now) flat.gb18030 orders.gb18030.now (same-gb18030 flat packed accepted none) are.gb18030;
 }
 
--- runs that give what accepted indexes do give no pointer the number 0
+-- runs with the scalars of accepted indexes give no pointer the number 0
 pub numbers-given : (runs : CheckedRuns) (flat : FlatIndexes) (packed : Packed) → AreRunsOf runs packed → AreAccepted flat → all_runs_fault flat packed ≡ None → AllGiveNoZero runs
 numbers-given runs flat packed are accepted none =
     let r = runs_parts flat packed none in

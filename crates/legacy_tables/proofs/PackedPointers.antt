@@ -1,4 +1,4 @@
--- The pointer that the codec of an order takes, and that it is the same in indexes with the same entries.
+-- The pointer that the codec of an order uses, which is the same in indexes with the same entries.
 use Rattle.std.proofs.Common.{◌≡◌, ◌≢◌, ◌∙◌, ℕ, ◌<◌, List, length, slice_index, refl, sym, arith, Some, None, Option, true, false, Bool, ◌&&◌, cond, eqb, inl, inr}
 use Rattle.std.proofs.lemmas.Bool.{cases_eq, cases_lt, eqb-true}
 use Rattle.std.proofs.lemmas.List.{get_or_past}
@@ -8,7 +8,7 @@ use Rattle.legacy_tables.specs.Pointers.{is_pointer_of, first_pointer, last_poin
 use Rattle.legacy_tables.specs.Packed.{may_use, pointer_of}
 use Rattle.legacy_tables.proofs.Pointers.{IsTaken, first-taken, last-taken, big5-taken, first-zero, last-zero, first-is, first-none, last-is, last-is-none, first-least, last-greatest}
 
--- the pointer that a codec takes
+-- the pointer that a codec uses
 pub pointer-taken : (part : PackedPart) (index : List ℕ) (c : ℕ) → IsTaken (may_use part) index c (pointer_of part index c)
 pointer-taken parts.Big5Order index c = big5-taken index c
 pointer-taken parts.ShiftJisOrder index c = first-taken (may_use parts.ShiftJisOrder) index c
@@ -21,13 +21,13 @@ pointer-taken parts.Jis0208 index c = first-taken (may_use parts.Jis0208) index 
 pointer-taken parts.Jis0212 index c = first-taken (may_use parts.Jis0212) index c
 pointer-taken parts.Gb18030 index c = first-taken (may_use parts.Gb18030) index c
 
--- the same pointer is taken of two indexes with the same entries
+-- the same pointer is used in two indexes with the same entries
 module _ (a b : List ℕ) (same : (p : ℕ) → slice_index a p ≡ slice_index b p) (may : ℕ → Bool) (c : ℕ) where
   both_true : (s t : Bool) → (s && t) ≡ true → (s ≡ true) × (t ≡ true)
   both_true true t e = (refl, e)
   both_true false t e = cc
 
-  -- an entry that is not 0 stands within the index
+  -- an entry that is not 0 is within the index
   within : (p : ℕ) → c ≢ 0 → slice_index b p ≡ c → p < length b
   within p n e = elim (cases_lt p (length b)) [ inl h ↦ h | inr h ↦ absurd (n (sym e ∙ get_or_past b p 0 h)) ]
 

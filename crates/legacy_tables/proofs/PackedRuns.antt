@@ -1,4 +1,4 @@
--- What runs in order are, and what they give each pointer.
+-- Runs in order, and the scalars that they give.
 use Rattle.std.proofs.Common.{◌≡◌, ◌≢◌, ◌∙◌, ℕ, zero, suc, ◌+◌, ◌-◌, ◌≤◌, ◌<◌, List, [], ◌∷◌, length, map, get_or, drop, drop-cons, add-one, refl, sym, ap, arith, Some, None}
 use Rattle.std.proofs.Common.{Option, true, false, Bool, ◌&&◌, cond, nat_le, nat_lt, inl, inr}
 use Rattle.std.proofs.lemmas.Bool.{cases_lt, ne_eqb}
@@ -14,11 +14,11 @@ use Rattle.legacy_tables.specs.Indexes.{idx, entry_scalar}
 use Rattle.legacy_tables.specs.Packed.{differs_at}
 use Rattle.legacy_tables.specs.Runs.{run_at, HasPointer, run_end, run_scalar, runs_scalar, runs_entry, GiveNoZero, runs_end, runs_list, is_run_in_order, run_fault_from, run_fault, AreInOrder, IsFirstBehind}
 
--- a run of no pointers
+-- a run without pointers
 abbrev pub no_run : Run
 no_run = record { pointer = 0; scalar = 0; length = 0 }
 
--- ---- the order of runs, as a loop finds it
+-- ---- the order of runs, as a loop reads it
 
 module _ (limit : ℕ) (runs : List Run) (place before : ℕ) (d : Run) (all : Option ℕ) (so_far : all ≡ run_fault_from place before limit (drop place runs)) where
   pub run-pass : place < length runs → is_run_in_order before limit (get_or runs place d) ≡ true → all ≡ run_fault_from (place + 1) (run_end (get_or runs place d)) limit (drop (place + 1) runs)
@@ -35,7 +35,7 @@ module _ (limit : ℕ) (runs : List Run) (place before : ℕ) (d : Run) (all : O
 
 -- ---- runs in order, one by one
 
--- a run that begins at or behind a pointer
+-- a run that begins at or after a pointer
 record IsBehind (before limit : ℕ) (run : Run) : Type 0 where
   full : 0 < run.length
   behind : before ≤ run.pointer
@@ -95,11 +95,11 @@ are_in_order limit runs e = record {
   rising = rising_ends 0 0 limit runs e;
 }
 
--- and each ends within the limit
+-- each run ends within the limit
 pub run-reach : (limit : ℕ) (runs : List Run) → run_fault limit runs ≡ None → (i : ℕ) (d : Run) → i < length runs → run_end (get_or runs i d) ≤ limit
 run-reach limit runs e i d h = (behind_all 0 0 limit runs e i d h).reach
 
--- ---- their first pointers rise
+-- ---- the first pointers of runs rise
 
 pub starts-rise : {limit : ℕ} (runs : List Run) → AreInOrder limit runs → IsNonDecreasingBy (λ (run : Run). run.pointer) runs
 starts-rise runs ordered = λ i j d h l. elim (cases_lt i j) [
@@ -107,7 +107,7 @@ starts-rise runs ordered = λ i j d h l. elim (cases_lt i j) [
   | inr m ↦ let same : i ≡ j = omega arith in rw same (omega arith)
 ]
 
--- ---- what runs give a pointer
+-- ---- the scalar that runs give a pointer
 
 pub outside-before : (run : Run) (p : ℕ) → p < run.pointer → run_scalar run p ≡ None
 outside-before run p h = rw (lt-leb run.pointer p h) refl
@@ -137,7 +137,7 @@ scalar-some (run ∷ runs) p (suc n) c h is before =
     rw here (scalar-some runs p n c (less n (length runs) h) is (λ k l. before (suc k) (omega arith)))
 
 module _ {limit : ℕ} (runs : List Run) (ordered : AreInOrder limit runs) (p : ℕ) where
-  -- the run that has a pointer gives its scalar
+  -- a run that has the pointer gives its scalar
   pub scalar-had : (n : ℕ) → HasPointer runs n p → runs_scalar runs p ≡ Some ((run_at runs n).scalar + (p - (run_at runs n).pointer))
   scalar-had n has = scalar-some runs p n _ has.within (inside (run_at runs n) p has.from has.before)
       (λ k h.
@@ -145,7 +145,7 @@ module _ {limit : ℕ} (runs : List Run) (ordered : AreInOrder limit runs) (p : 
       let from = has.from in
       outside-behind (run_at runs k) p (omega arith))
 
-  -- no run has a pointer that lies behind the last one that starts at or before it
+  -- no run has a pointer after the last run that starts at or before it
   pub none-has : (n : ℕ) → ((k : ℕ) → n ≤ k → k < length runs → p < (run_at runs k).pointer) → (0 < n → run_end (run_at runs (n - 1)) ≤ p) → n ≤ length runs → runs_scalar runs p ≡ None
   none-has n ahead behind within = scalar-none runs p (λ k l. elim (cases_lt k n) [
     | inl h ↦ outside-behind (run_at runs k) p (up_to k h (behind (omega arith)))
@@ -158,10 +158,10 @@ module _ {limit : ℕ} (runs : List Run) (ordered : AreInOrder limit runs) (p : 
         | inr m ↦ let same : k ≡ n - 1 = omega arith in rw same e
       ]
 
--- ---- the first run that ends behind a pointer
+-- ---- the first run that ends after a pointer
 
 module _ {limit : ℕ} (runs : List Run) (ordered : AreInOrder limit runs) where
-  -- of pointer 0 it is the first run
+  -- for pointer 0 it is the first run
   pub first-behind : IsFirstBehind runs 0 0
   first-behind = record { within = omega arith; ended = λ k h. absurd (omega arith); behind = λ h. let full = ordered.full 0 no_run h in omega arith }
 
@@ -176,11 +176,11 @@ module _ {limit : ℕ} (runs : List Run) (ordered : AreInOrder limit runs) where
       ]
     ])
 
-    -- one from its start on has the scalar that it gives
+    -- a pointer from its start on has the scalar that it gives
     pub scalar-within : (within : n < length runs) → (run_at runs n).pointer ≤ p → runs_scalar runs p ≡ Some ((run_at runs n).scalar + (p - (run_at runs n).pointer))
     scalar-within within from = scalar-had runs ordered p n (record { within = within; from = from; before = first.behind within })
 
--- where neither runs nor an index have a pointer, they do not differ
+-- if neither runs nor an index have a pointer, they do not differ there
 pub same-behind : (runs : List Run) (index : List ℕ) (p : ℕ) → length index ≤ p → runs_scalar runs p ≡ None → differs_at runs index p ≡ false
 same-behind runs index p h e = rw (get_or_past index p 0 h, e) refl
 
@@ -202,7 +202,7 @@ pub runs_list-length : (runs : List Run) → length (runs_list runs) ≡ runs_en
 unfolding runs_list
 runs_list-length runs = length-map-range_with_len (runs_entry runs) 0 (runs_end runs)
 
--- has at each pointer what the runs give it
+-- the flat list has the entry that the runs give each pointer
 pub runs_list-entry : (runs : List Run) (p : ℕ) → get_or (runs_list runs) p 0 ≡ runs_entry runs p
 unfolding runs_list
 runs_list-entry runs p = elim (cases_lt p (runs_end runs)) [
@@ -213,7 +213,7 @@ runs_list-entry runs p = elim (cases_lt p (runs_end runs)) [
       get_or_past (map (runs_entry runs) (range_with_len 0 (runs_end runs))) p 0 past ∙ sym (ap (λ o. option_map_or (λ c. c) o 0) none)
 ]
 
--- it ends where the last run does
+-- the flat list ends with the last run
 pub runs_end-last : {limit : ℕ} (runs : List Run) → AreInOrder limit runs → (n : ℕ) → n + 1 ≡ length runs → run_end (run_at runs n) ≡ length (runs_list runs)
 runs_end-last runs ordered n last =
     let most = end_most runs n (omega arith) in
@@ -226,19 +226,19 @@ runs_end-last runs ordered n last =
       | inr m ↦ let same : k ≡ n = omega arith in rw same (omega arith)
     ]
 
--- where there are none, at 0
+-- the flat list is empty if there are no runs
 pub runs_end-none : (runs : List Run) → length runs ≡ 0 → 0 ≡ length (runs_list runs)
 runs_end-none runs none =
     let least = runs_end-within 0 runs (λ k h. absurd (omega arith)) in
     rw (runs_list-length runs) (omega arith)
 
--- behind it no run has a pointer
+-- no run has a pointer past the flat list
 pub scalar-past_list : (runs : List Run) (p : ℕ) → length (runs_list runs) ≤ p → runs_scalar runs p ≡ None
 scalar-past_list runs p h =
     let past : runs_end runs ≤ p = rw (← runs_list-length runs) h in
     scalar-none runs p (λ k l. let m = end_most runs k l in outside-behind (get_or runs k no_run) p (omega arith))
 
--- where no number is 0, the flat list answers what the runs give
+-- if no number is 0, the flat list has the scalars that the runs give
 pub idx-given : (runs : List Run) → GiveNoZero runs → (p : ℕ) → idx (runs_list runs) p ≡ runs_scalar runs p
 idx-given runs numbered p = rw (runs_list-entry runs p) (go (runs_scalar runs p) (numbered p))
   where

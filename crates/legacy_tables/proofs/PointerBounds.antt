@@ -1,4 +1,4 @@
--- How large a pointer that an encoder takes can be, in accepted indexes.
+-- The greatest pointers that encoders use in accepted indexes.
 use Rattle.std.proofs.Common.{◌≡◌, ℕ, ◌<◌, ◌≤◌, List, refl, arith, Some, None, Option}
 use Rattle.std.specs.Option.{IfSome}
 use borrow.Author.Tests.{ltb-true}
@@ -27,7 +27,7 @@ module _ (flat : FlatIndexes) (accepted : AreAccepted flat) (c : ℕ) where
   pub gb18030-bound : IfSome (gb18030_pointer_of flat.gb18030 c) (λ p. p < 23940)
   gb18030-bound = within_limit (gb18030_pointer_of flat.gb18030 c) _ 23940 (length-gb18030 flat accepted) (taken-within _ flat.gb18030 c _ (first-taken every_pointer flat.gb18030 c))
 
--- these by what the codec may use, and by the last pointer that has a scalar
+-- bounds by the pointers that the codec may use, and by the last pointer that has a scalar
 module _ (c : ℕ) where
   pub euc-jp-bound : (jis0208 : List ℕ) → IfSome (euc_jp_pointer_of jis0208 c) (λ p. p < 8836)
   euc-jp-bound jis0208 = go (euc_jp_pointer_of jis0208 c) (first-taken is_jis0208_pointer jis0208 c)

@@ -1,4 +1,4 @@
--- How a set of pointers grows.
+-- Growing sets of pointers.
 use Rattle.std.proofs.Common.{◌≡◌, ◌≢◌, ℕ, ◌*◌, ◌/◌, ◌%◌, ◌^◌, ◌<◌, ◌==◌, List, length, replicate, slice_index, slice_set, get_or-set_other, get_or-set_same, bit_or, w64, arith, true, inl, inr}
 use Rattle.std.proofs.lemmas.Bool.{cases_eq, cases_lt, eqb-true}
 use Rattle.std.proofs.lemmas.List.{get_or-replicate, get_or_past, length-replicate}
@@ -7,7 +7,7 @@ use Rattle.std.specs.Int.{bit_at}
 use Rattle.std.specs.List.{list_any}
 use Rattle.legacy_tables.specs.PointerSets.{HasOnly, is_in_blocks}
 
--- a set of no pointer
+-- an empty set
 pub none-yet : (count : ℕ) (order : List ℕ) → HasOnly (replicate count 0) order
 none-yet count order = record { only = λ p e. let clear = bit_at-zero (p % 64) in let set : bit_at 0 (p % 64) ≡ 1 = eqb-true _ 1 (rw (zeros (p / 64)) at e) in absurd (omega arith) }
   where
@@ -17,7 +17,7 @@ none-yet count order = record { only = λ p e. let clear = bit_at-zero (p % 64) 
       | inr h ↦ get_or_past (replicate count 0) i 0 (rw (length-replicate {A = ℕ} count 0) h)
     ]
 
--- one pointer of the order more
+-- one more pointer of the order
 pub only-more : (blocks order : List ℕ) (p : ℕ) → HasOnly blocks order → p / 64 < length blocks → list_any (λ r. p == r) order ≡ true
     → HasOnly (slice_set blocks (p / 64) (bit_or (slice_index blocks (p / 64)) (1 * 2 ^ (p % 64) % 2 ^ 64))) order
 only-more blocks order p now within held = record { only = λ q e. go q e }

@@ -1,4 +1,4 @@
--- What the pointer that an encoder takes is: one of the scalar's that may be used, the first or the last of them.
+-- The pointer that an encoder uses: a usable pointer of the scalar, either the first or the last one.
 use Rattle.std.proofs.Common.{◌≡◌, ◌≢◌, ◌∙◌, ℕ, ◌≤◌, ◌<◌, List, length, slice_index, refl, sym, ap, arith, Some, None}
 use Rattle.std.proofs.Common.{Option, true, false, Bool, ◌&&◌, ◌||◌, cond, find, min, nat_le, nat_lt, eqb, eq-eqb, ◌==◌, inl, inr}
 use Rattle.std.proofs.lemmas.Bool.{cases_lt, cases_eq, ne_eqb, eqb-true, true≢false}
@@ -27,7 +27,7 @@ module _ (may : ℕ → Bool) (index : List ℕ) (c : ℕ) where
   hits : (p : ℕ) → may p ≡ true → slice_index index p ≡ c → is_pointer_of may index c p ≡ true
   hits p u e = rw (u, eq-eqb (slice_index index p) c e) refl
 
-  -- where the scalar is not 0, one that stands there stands within the index
+  -- a pointer of a scalar that is not 0 is within the index
   within : (p : ℕ) → c ≢ 0 → slice_index index p ≡ c → p < length index
   within p n e = elim (cases_lt p (length index)) [
     | inl h ↦ h
@@ -65,7 +65,7 @@ module _ (may : ℕ → Bool) (index : List ℕ) (c : ℕ) where
     | inr n ↦ rw (ne_eqb c 0 n) (last-none (is_pointer_of may index c) (length index) all)
   ]
 
-  -- a pointer that is taken is one of the scalar's, and where none is taken there is none
+  -- the pointer used is a usable pointer of the scalar; if none is used, there is none
   pub record IsTaken (o : Option ℕ) : Type 0 where
     pub chosen : (p : ℕ) → o ≡ Some p → (may p ≡ true) × (slice_index index p ≡ c) × (c ≢ 0)
     pub missing : o ≡ None → (p : ℕ) → may p ≡ true → slice_index index p ≡ c → c ≢ 0 → ⊥
@@ -96,7 +96,7 @@ module _ (may : ℕ → Bool) (index : List ℕ) (c : ℕ) where
     })
   ]
 
-  -- the first one is the least
+  -- the first pointer is the least
   pub first-least : (s p : ℕ) → first_pointer may index c ≡ Some s → may p ≡ true → slice_index index p ≡ c → c ≢ 0 → s ≤ p
   unfolding first_pointer
   first-least s p e u is n =
@@ -107,7 +107,7 @@ module _ (may : ℕ → Bool) (index : List ℕ) (c : ℕ) where
         | inr h ↦ h
       ]
 
-  -- and the last one the greatest
+  -- the last pointer is the greatest
   pub last-greatest : (s p : ℕ) → last_pointer may index c ≡ Some s → may p ≡ true → slice_index index p ≡ c → c ≢ 0 → p ≤ s
   unfolding last_pointer
   last-greatest s p e u is n =
@@ -117,7 +117,7 @@ module _ (may : ℕ → Bool) (index : List ℕ) (c : ℕ) where
         | inr h ↦ h
       ]
 
--- only within the index does it matter which may be used
+-- only the usable pointers within the index matter
 module _ (may other : ℕ → Bool) (index : List ℕ) (c : ℕ) where
   pub first-alike : ((k : ℕ) → k < length index → may k ≡ other k) → first_pointer may index c ≡ first_pointer other index c
   unfolding first_pointer
@@ -136,7 +136,7 @@ module _ (may other : ℕ → Bool) (index : List ℕ) (c : ℕ) where
   either_and true false false = refl
   either_and false b t = refl
 
-  -- and of pointers before others they are taken first
+  -- if all of some pointers are before others, they are used first
   pub first-either : ((j k : ℕ) → may j ≡ true → other k ≡ true → j < k) → first_pointer (λ k. may k || other k) index c ≡ option_or (first_pointer may index c) (first_pointer other index c)
   unfolding first_pointer
   first-either apart = go (c == 0)
@@ -154,10 +154,10 @@ module _ (may other : ℕ → Bool) (index : List ℕ) (c : ℕ) where
       go true = refl
       go false = both
 
--- ---- what the look-ups search
+-- ---- the pointers that look-ups search
 
 module _ (may : ℕ → Bool) (index : List ℕ) (c : ℕ) where
-  -- a pointer that is not the scalar's, or may not be used
+  -- a pointer that is not the scalar's or is not usable
   not_hit : (k : ℕ) → (may k ≡ true → slice_index index k ≢ c) → is_pointer_of may index c k ≡ false
   not_hit k n = go (is_pointer_of may index c k) refl
     where
@@ -169,7 +169,7 @@ module _ (start end : ℕ) (index : List ℕ) (c : ℕ) where
   inside : (k : ℕ) → start ≤ k → k < end → (nat_le start k && nat_lt k end) ≡ true
   inside k l h = rw (le-leb start k l, lt-ltb k end h) refl
 
-  -- what a search from one pointer up to another finds
+  -- the first pointer found from one pointer up to another
   pub first-between : c ≢ 0 → end ≤ length index → (p : ℕ) → start ≤ p → p < end → slice_index index p ≡ c → ((k : ℕ) → start ≤ k → k < p → slice_index index k ≢ c) →
       Some p ≡ first_pointer (λ p. nat_le start p && nat_lt p end) index c
   first-between n within p l h e before =
@@ -182,7 +182,7 @@ module _ (start end : ℕ) (index : List ℕ) (c : ℕ) where
       (λ k h. not_hit (λ p. nat_le start p && nat_lt p end) index c k (λ u. let b = both_true _ _ u in all k (leb-true start k b.0) (ltb-true k end b.1))))
 
 module _ (start : ℕ) (index : List ℕ) (c : ℕ) where
-  -- and from the end down to one
+  -- the first pointer found from the end down to another
   pub last-from : c ≢ 0 → (p : ℕ) → start ≤ p → p < length index → slice_index index p ≡ c → ((k : ℕ) → p < k → k < length index → slice_index index k ≢ c) →
       Some p ≡ last_pointer (nat_le start) index c
   last-from n p l h e after = sym (last-is (nat_le start) index c n p h (le-leb start p l) e (λ k m g. not_hit (nat_le start) index c k (λ u. after k m g)))
@@ -213,15 +213,15 @@ module _ (index : List ℕ) (c : ℕ) where
   pub first-of-all : first_pointer (λ p. nat_le 0 p && nat_lt p (length index)) index c ≡ first_pointer every_pointer index c
   first-of-all = first-alike _ _ index c (λ k h. from_on 0 (length index) k h ∙ le-leb 0 k (omega arith))
 
-  -- those from one on
+  -- the pointers from `start` on
   pub first-from : (start : ℕ) → first_pointer (λ p. nat_le start p && nat_lt p (length index)) index c ≡ first_pointer (nat_le start) index c
   first-from start = first-alike _ _ index c (λ k h. from_on start (length index) k h)
 
-  -- those below one
+  -- the pointers below `end`
   pub first-below : (end : ℕ) → first_pointer (λ p. nat_le 0 p && nat_lt p (min (length index) end)) index c ≡ first_pointer (λ p. nat_lt p end) index c
   first-below end = first-alike _ _ index c (λ k h. below_both (length index) end k h)
 
-  -- in Shift_JIS those below 8272, and then those from 8836 on
+  -- in Shift_JIS the pointers below 8272, and then those from 8836 on
   shift_jis_first : first_pointer is_shift_jis_pointer index c ≡ option_or (first_pointer (λ p. nat_lt p 8272) index c) (first_pointer (nat_le 8836) index c)
   shift_jis_first =
       sym (first-alike (λ k. nat_lt k 8272 || nat_le 8836 k) is_shift_jis_pointer index c (λ k h. shift_jis k))
@@ -234,7 +234,7 @@ module _ (index : List ℕ) (c : ℕ) where
       first_pointer (λ p. nat_le 8836 p && nat_lt p (length index)) index c ≡ first_pointer is_shift_jis_pointer index c
   shift-jis-high e = first-from 8836 ∙ sym (shift_jis_first ∙ ap (λ o. option_or o (first_pointer (nat_le 8836) index c)) (sym (first-below 8272) ∙ e))
 
--- none is taken for 0
+-- no pointer is used for 0
 pub big5-zero : (index : List ℕ) (c : ℕ) → c ≡ 0 → big5_pointer_of index c ≡ None
 big5-zero index c e = go (takes_last_big5_pointer c)
   where
@@ -242,7 +242,7 @@ big5-zero index c e = go (takes_last_big5_pointer c)
     go true = last-zero is_big5_pointer index c e
     go false = first-zero is_big5_pointer index c e
 
--- the pointer that Big5 takes
+-- the pointer that Big5 uses
 pub big5-taken : (index : List ℕ) (c : ℕ) → IsTaken is_big5_pointer index c (big5_pointer_of index c)
 big5-taken index c = go (takes_last_big5_pointer c)
   where
@@ -250,7 +250,7 @@ big5-taken index c = go (takes_last_big5_pointer c)
     go true = last-taken is_big5_pointer index c
     go false = first-taken is_big5_pointer index c
 
--- a pointer that is taken lies within the index
+-- the pointer used is within the index
 pub taken-within : (may : ℕ → Bool) (index : List ℕ) (c : ℕ) (o : Option ℕ) → IsTaken may index c o → IfSome o (λ p. p < length index)
 taken-within may index c None t = tt
 taken-within may index c (Some p) t = let is = t.chosen p refl in within may index c p is.2 is.1
@@ -275,7 +275,7 @@ module _ (ranges : List (ℕ × ℕ)) (c : ℕ) where
       go true e = absurd (n (of_is (range ranges p) e))
       go false e = refl
 
-  -- among the pointers below n: the least one of the scalar, and none
+  -- the least pointer of the scalar below n, or none
   least_is : (n p : ℕ) → p < n → range ranges p ≡ Some c → ((k : ℕ) → k < p → range ranges k ≡ Some c → ⊥) → first_range_pointer ranges c n ≡ Some p
   unfolding first_range_pointer
   least_is n p h e before = find-some (is_range_pointer_of ranges c) 0 n p (omega arith) (omega arith) (is_of p e) (λ k l m. not_of k (before k m))
@@ -297,7 +297,7 @@ module _ (ranges : List (ℕ × ℕ)) (c : ℕ) where
   unfolding range_pointer_of
   range-first n p h e before = rw (ne_eqb c 0xE7C7 n) (least_is 1237576 p h e before)
 
-  -- none
+  -- no pointer of the scalar
   pub range-none : c ≢ 0xE7C7 → ((p : ℕ) → range ranges p ≡ Some c → ⊥) → range_pointer_of ranges c ≡ None
   unfolding range_pointer_of
   range-none n all = rw (ne_eqb c 0xE7C7 n) (least_none 1237576 all)
@@ -310,7 +310,7 @@ module _ (ranges : List (ℕ × ℕ)) (c : ℕ) where
   unfolding range
   at_7457 = refl
 
-  -- its scalar is the one that it is taken for
+  -- the scalar of the pointer used is c
   pub range-taken : (p : ℕ) → range_pointer_of ranges c ≡ Some p → (range ranges p ≡ Some c) × (p < 1237576)
   unfolding range_pointer_of
   range-taken p e = elim (cases_eq c 0xE7C7) [
@@ -320,7 +320,7 @@ module _ (ranges : List (ℕ × ℕ)) (c : ℕ) where
     | inr n ↦ least_taken 1237576 p (rw (ne_eqb c 0xE7C7 n) at e)
   ]
 
-  -- and where none is taken it has none
+  -- if no pointer is used, no pointer has the scalar
   pub range-missing : range_pointer_of ranges c ≡ None → (p : ℕ) → p < 1237576 → range ranges p ≡ Some c → ⊥
   unfolding range_pointer_of
   range-missing e p h is = elim (cases_eq c 0xE7C7) [

@@ -1,4 +1,4 @@
--- What is known of private-use rows that passed their check, and what a search of them finds.
+-- Private-use rows that passed their check, and the search in them.
 use Rattle.std.proofs.Common.{◌≡◌, ◌≢◌, ◌⊎◌, inl, inr, ℕ, zero, suc, ◌+◌, ◌≤◌, ◌<◌, List, [], ◌∷◌, length}
 use Rattle.std.proofs.Common.{◌∙◌, ◌&&◌, sym, ap, get_or, add-one, refl, arith, Some, None, Option, true, false, Bool, not, cond, find, eq-eqb, ◌==◌}
 use Rattle.std.proofs.lemmas.Bool.{ne_eqb, cases_lt, true≢false}
@@ -13,7 +13,7 @@ use Rattle.legacy_tables.specs.Indexes.{gb18030_pua_of}
 use Rattle.legacy_tables.specs.TableChecks.{follows_scalar, row_fault, rows_fault}
 use Rattle.legacy_tables.proofs.Accepted.{or_none}
 
--- a row without a fault follows the one before it
+-- a row without a fault follows the row before it
 follows : (place : ℕ) (before : Option ℕ) (r : ℕ × ℕ × ℕ) → row_fault place before r ≡ None → follows_scalar before r.0 ≡ true
 follows place before r e = go (follows_scalar before r.0) _ e
   where
@@ -36,7 +36,7 @@ adjacent place before (r ∷ s ∷ rows) e (suc k) d h =
 pub rows-rising : (rows : List (ℕ × ℕ × ℕ)) → rows_fault 0 None rows ≡ None → IsNonDecreasingBy (λ r. r.0) rows
 rows-rising rows e = IsNonDecreasingBy-from_all_adjacent (λ r. r.0) rows (adjacent 0 None rows e)
 
--- and has a scalar for private use
+-- its scalar is for private use
 private_use : (place : ℕ) (before : Option ℕ) (r : ℕ × ℕ × ℕ) → row_fault place before r ≡ None → is_in_range 0xE000 0xF8FF r.0 ≡ true
 private_use place before r e = go (follows_scalar before r.0) (is_in_range 0xE000 0xF8FF r.0) (not (r.0 == 0xE5E5)) _ e
   where
@@ -63,12 +63,12 @@ module _ (c : ℕ) where
   find_at (r ∷ rows) zero h e other = rw (eq-eqb r.0 c e) refl
   find_at (r ∷ rows) (suc place) h e other = rw (ne_eqb r.0 c (other 0 (omega arith))) (find_at rows place (omega arith) e (λ k m. other (suc k) (omega arith)))
 
-  -- no row has a scalar that is for no private use
+  -- no row has a scalar outside of private use
   pub row-outside : (rows : List (ℕ × ℕ × ℕ)) → rows_fault 0 None rows ≡ None → is_in_range 0xE000 0xF8FF c ≡ false → None ≡ gb18030_pua_of rows c
   row-outside rows none outside =
       rw (find_none rows (λ k h e. true≢false (sym (all_private 0 None rows none k h) ∙ ap (is_in_range 0xE000 0xF8FF) e ∙ outside))) refl
 
-  -- so many rows have a lower scalar, and the others none
+  -- the first `count` rows have lower scalars
   module _ (rows : List (ℕ × ℕ × ℕ)) (count : ℕ) (below : (k : ℕ) → k < count → (get_or rows k (0, 0, 0)).0 < c) where
     pub row-end : length rows ≤ count → None ≡ gb18030_pua_of rows c
     row-end h = rw (find_none rows (λ k l e. let low = below k (omega arith) in absurd (omega arith))) refl

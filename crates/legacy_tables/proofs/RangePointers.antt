@@ -8,8 +8,10 @@ use Rattle.std.specs.Option.{option_or}
 use Rattle.std.specs.Char.{IsScalar}
 use Rattle.std.specs.Int.{is_in_range}
 use borrow.Author.Tests.{leb-true, leb-false, le-leb, lt-leb}
+use Rattle.legacy_tables.specs.declared.tables.ranges.RangePart.{RangePart}
 use Rattle.legacy_tables.specs.Indexes.{range, last_range_scalar}
 use Rattle.legacy_tables.specs.Pointers.{range_pointer_of}
+use Rattle.legacy_tables.specs.RangeParts.{IsRangePart}
 use Rattle.legacy_tables.specs.TableChecks.{next_pointer, range_order_fault, range_value_fault}
 use Rattle.legacy_tables.proofs.Accepted.{rise, rising, rising_scalars, started_by, last-at, last_range-narrow}
 use Rattle.legacy_tables.proofs.Pointers.{range-first, range-none}
@@ -217,3 +219,42 @@ module _ (ranges : List (ℕ × ℕ)) (ordered : range_order_fault 0 None ranges
         sym (range-first ranges c free p (omega arith)
         (gives ranges p c n (omega arith) (last-at ranges p place within (omega arith) (all_ahead ranges ordered place p before) ∙ ap Some scalar))
         (λ k m e. let o = only k e in let same = o.is in absurd (omega arith)))
+
+-- ---- the pointers of a range, taken together
+
+-- a range starts before the next one does, or the pointers end
+pub starts-before : (ranges : List (ℕ × ℕ)) → range_order_fault 0 None ranges ≡ None → (place : ℕ) → place < length ranges → (get_or ranges place (0, 0)).0 < next_pointer (drop (place + 1) ranges)
+starts-before ranges ordered place within = elim (cases_lt (place + 1) (length ranges)) [
+  | inl l ↦ rw (next_is ranges (place + 1) l) (let up = (rise ranges ordered place l).0 in omega arith)
+  | inr l ↦ rw (next_end ranges (place + 1) l) (let last = started_by ranges ordered place within in omega arith)
+]
+
+pub no-part : (ranges : List (ℕ × ℕ)) (part : RangePart) → part.first ≡ 0 → part.count ≡ 0 → part.scalar ≡ 0 → IsRangePart ranges part
+no-part ranges part low none zero_there = record {
+  reach = omega arith;
+  narrow = omega arith;
+  scalars = λ p l h n. absurd (omega arith);
+  given = λ p l h n. absurd (omega arith);
+  pointers = λ c l h n o. absurd (omega arith);
+}
+
+pub whole-range : (ranges : List (ℕ × ℕ)) → range_order_fault 0 None ranges ≡ None → range_value_fault 0 ranges ≡ None → (place : ℕ) → place < length ranges → (part : RangePart)
+    → part.first ≡ (get_or ranges place (0, 0)).0 → part.first + part.count ≡ next_pointer (drop (place + 1) ranges) → part.scalar ≡ (get_or ranges place (0, 0)).1 → IsRangePart ranges part
+whole-range ranges ordered valued place within part first end scalar =
+    let most = ends ranges ordered place in
+    let some = starts-before ranges ordered place within in
+    let last = next_pointer (drop (place + 1) ranges) - 1 in
+    let highest = (last_range-narrow 0 ranges valued last _ (omega arith) (last-at ranges last place within (omega arith) (all_ahead ranges ordered place last (omega arith)))).1 in
+    let is : (p : ℕ) → part.first ≤ p → p < part.first + part.count → p ≢ 7457 → IsInRange ranges ordered place p =
+    λ p l h n. in-range ranges ordered place valued within p (omega arith) (omega arith) n in
+    record {
+      reach = omega arith;
+      narrow = omega arith;
+      scalars = λ p l h n. rw (scalar, first) (is p l h n).scalar;
+      given = λ p l h n. rw (scalar, first) (is p l h n).given;
+      pointers = λ c l h free other.
+          let reached : (get_or ranges place (0, 0)).1 ≤ c = omega arith in
+          let before : (get_or ranges place (0, 0)).0 + (c - (get_or ranges place (0, 0)).1) < next_pointer (drop (place + 1) ranges) = omega arith in
+          let ahead = begun-ahead ranges ordered place c reached before in
+          sym (pointer-found ranges ordered c (omega arith) free place within reached ahead (part.first + (c - part.scalar)) (rw (scalar, first) refl) (omega arith) other);
+    }

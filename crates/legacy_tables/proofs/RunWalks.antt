@@ -1,4 +1,4 @@
--- What a walk over runs meets: the scalars of each run, and between them pointers without scalars.
+-- A walk over runs: the scalars of each run, and pointers without scalars between them.
 use Rattle.std.proofs.Common.{◌≡◌, ◌∙◌, ℕ, ◌+◌, ◌-◌, ◌≤◌, ◌<◌, List, length, get_or, subst, ap, arith, None, inl, inr}
 use Rattle.std.proofs.lemmas.Bool.{cases_lt}
 use Rattle.std.specs.Option.{option_map_or}
@@ -18,12 +18,12 @@ module _ {limit : ℕ} (runs : List Run) (ordered : AreInOrder limit runs) where
         runs_list-entry runs p ∙ ap (λ o. option_map_or (λ (c : ℕ). c) o 0) (scalar-had runs ordered p i has) ∙ is;
   }
 
-  -- and no scalar where no run has the pointer
+  -- it has no scalar at a pointer of no run
   pub no-run : (p : ℕ) → ((i : ℕ) → i < length runs → run_scalar (run_at runs i) p ≡ None) → get_or (runs_list runs) p 0 ≡ 0
   no-run p none = runs_list-entry runs p ∙ ap (λ o. option_map_or (λ (c : ℕ). c) o 0) (scalar-none runs p none)
 
-  -- what goes over pointers without scalars goes from a pointer behind the runs before a place up to any one that is
-  -- not behind the start of the run at it
+  -- steps over pointers without scalars lead from a pointer after the runs before a place up to any pointer that is not
+  -- after the start of the run at that place
   pub runs-gap : (P : ℕ → Type 0) → ((n k : ℕ) → ((p : ℕ) → n ≤ p → p < n + k → get_or (runs_list runs) p 0 ≡ 0) → P n → P (n + k)) → (place n m : ℕ) → n ≤ m
       → ((i : ℕ) → i < place → run_end (run_at runs i) ≤ n) → ((i : ℕ) → place ≤ i → i < length runs → m ≤ (run_at runs i).pointer) → P n → P m
   runs-gap P gap place n m up behind ahead there =
@@ -36,18 +36,18 @@ module _ {limit : ℕ} (runs : List Run) (ordered : AreInOrder limit runs) where
       there)
 
   module _ (place : ℕ) (h : place < length runs) where
-    -- a run begins behind those before it
+    -- a run begins at or after the ends of the runs before it
     pub starts-behind : (i : ℕ) → i < place → run_end (run_at runs i) ≤ (run_at runs place).pointer
     starts-behind i l = ordered.rising i place no_run l h
 
-    -- and ends behind them
+    -- it ends at or after their ends
     pub ends-last : (i : ℕ) → i < place + 1 → run_end (run_at runs i) ≤ run_end (run_at runs place)
     ends-last i l = elim (cases_lt i place) [
       | inl b ↦ let s = ordered.rising i place no_run b h in omega arith
       | inr a ↦ let same : i ≡ place = omega arith in rw same (omega arith)
     ]
 
-    -- no later one begins before it
+    -- no later run begins before it
     pub starts-first : (i : ℕ) → place ≤ i → i < length runs → (run_at runs place).pointer ≤ (run_at runs i).pointer
     starts-first i l w = elim (cases_lt place i) [
       | inl b ↦ let s = ordered.rising place i no_run b w in omega arith

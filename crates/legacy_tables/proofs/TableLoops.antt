@@ -1,4 +1,4 @@
--- What a loop over an index, over ranges or over a single-byte table finds at its next step, and at its end.
+-- Loops over an index, over ranges or over a single-byte table: their next step, and their end.
 use Rattle.std.proofs.Common.{◌≡◌, ◌∙◌, ℕ, ◌+◌, ◌≤◌, ◌<◌, List, [], ◌∷◌, ◌++◌, length, get_or, take, reverse}
 use Rattle.std.proofs.Common.{drop, drop-cons, add-one, refl, sym, Some, None, Option, Bool, ◌&&◌, ◌||◌, cond, eqb, nat_le}
 use Rattle.std.proofs.lemmas.Result.{err_from_is_err_and}
@@ -64,7 +64,7 @@ module _ (rows : List (ℕ × ℕ × ℕ)) (place : ℕ) (before : Option ℕ) w
   unfolding rows_fault
   rows_end h = rw (drop_of_length-le rows h) refl
 
--- ---- the entries of a single-byte table, those before them last first
+-- ---- the entries of a single-byte table, with the entries before them in reverse order
 
 list_any-reverse : (test : ℕ → Bool) (xs : List ℕ) → list_any test (reverse xs) ≡ list_any test xs
 list_any-reverse test xs = sym (list_any-IsPermutation test xs (reverse xs) (IsPermutation-reverse xs))

@@ -1,4 +1,4 @@
--- How flat lists are written from runs.
+-- The lists that are written from runs.
 use Rattle.std.proofs.Common.{◌≡◌, ◌≢◌, ◌∙◌, ℕ, ◌+◌, ◌-◌, ◌≤◌, ◌<◌, List, length, get_or, slice_index, slice_set, length-set, sym, arith, inl, inr, get_or-set_other, get_or-set_same}
 use Rattle.std.proofs.lemmas.Bool.{cases_lt}
 use Rattle.legacy_tables.specs.declared.tables.packed.Run.{Run}
@@ -7,11 +7,11 @@ use Rattle.legacy_tables.specs.Unpacking.{IsUnpackedBelow}
 use Rattle.legacy_tables.proofs.RunWalks.{has-run}
 
 module _ (index : List ℕ) where
-  -- a list of 0
+  -- a list of zeros
   pub none-unpacked : (entries : List ℕ) → ((k : ℕ) → k < length entries → slice_index entries k ≡ 0) → IsUnpackedBelow index 0 entries
   none-unpacked entries all = record { told = λ k h l. absurd (omega arith); none = λ k h l. all k l }
 
-  -- a pointer more
+  -- one more pointer
   pub unpacked-more : (n entry : ℕ) (entries : List ℕ) → IsUnpackedBelow index n entries → n < length entries → entry ≡ slice_index index n → IsUnpackedBelow index (n + 1) (slice_set entries n entry)
   unpacked-more n entry entries so_far within is = record {
     told = λ k h l. elim (cases_lt k n) [
@@ -37,7 +37,7 @@ module _ (index : List ℕ) where
     none = λ p h l. so_far.none p (omega arith) l;
   }
 
--- where no entry of a list is past 16 bits, none of a run is
+-- if no entry of a list is past 16 bits, no number of a run is
 pub run-narrow : {limit : ℕ} (runs : List Run) → AreInOrder limit runs → ((p : ℕ) → slice_index (runs_list runs) p < 0x1_0000) → (i : ℕ) → i < length runs →
     (run_at runs i).scalar + (run_at runs i).length ≤ 0x1_0000
 run-narrow runs ordered narrow i h =

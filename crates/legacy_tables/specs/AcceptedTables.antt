@@ -1,4 +1,4 @@
--- What checked tables are to their user: flat lists, with the fact that they passed the check.
+-- Checked tables: flat lists, with the fact that they passed the check.
 use Rattle.std.specs.Prelude.{◌≡◌, ℕ, List, length, Option, Some, None, is_none, true, refl}
 use Rattle.std.specs.Coded.{Coded, code_by, coded×, coded_ℕ, coded_list, ×_prop}
 use Rattle.std.proofs.Common.{sym, ◌∙◌, ap}
@@ -29,41 +29,41 @@ pub record AcceptedIndexes : Type 0 where
   pub flat : FlatIndexes
   pub accepted : AreAccepted flat
 
--- a single-byte table that passed the check: place p holds the scalar of byte 0x80 + p
+-- a single-byte table that passed the check: entry p is the scalar of byte 0x80 + p
 pub record AcceptedTable : Type 0 where
   pub entries : List ℕ
   pub entry_count : length entries ≡ 128
   pub accepted : IsAcceptedTable entries
 
--- ---- how proofs tell two of these values apart: by their lists alone
+-- ---- equality of these values: they are equal if their lists are equal
 
 module _ {A : Type 0} where
-  -- a test tells none
+  -- a test for None
   abbrev by_test : (o : Option A) → true ≡ is_none o → None ≡ o
   by_test None e = refl
   by_test (Some x) e = absurd (true≢false e)
 
-  -- and tells its proofs apart
+  -- the test keeps its proofs apart
   by_test-ap : (o : Option A) (p : None ≡ o) → by_test o (ap is_none p) ≡ p
   by_test-ap o p = path_j (λ (z : Option A) (q : None ≡ z). by_test z (ap is_none q) ≡ q) refl p
 
-  -- an equation turned twice
+  -- an equation turned round twice
   sym-sym : {x y : Option A} (p : x ≡ y) → sym (sym p) ≡ p
   sym-sym {x} p = path_j (λ (z : Option A) (q : x ≡ z). sym (sym q) ≡ q) (ap sym sym_refl ∙ sym_refl) p
 
-  -- the same the other way round
+  -- an equation from None has one proof
   from_none-prop : (o : Option A) → IsProp (None ≡ o)
   from_none-prop o p q = sym (by_test-ap o p) ∙ ap (by_test o) (Bool-set true (is_none o) (ap is_none p) (ap is_none q)) ∙ by_test-ap o q
 
-  -- that there is no fault has one proof
+  -- the absence of a fault has one proof
   pub none-prop : (o : Option A) → IsProp (o ≡ None)
   none-prop o p q = sym (sym-sym p) ∙ ap sym (from_none-prop o (sym p) (sym q)) ∙ sym-sym q
 
--- a list of numbers is stored as it is
+-- a list of numbers is stored unchanged
 abbrev numbers : Coded (List ℕ)
 numbers = coded_list coded_ℕ
 
--- pairs of numbers, and rows of three
+-- pairs of numbers, and rows of three numbers
 abbrev pairs : Coded (List (ℕ × ℕ))
 pairs = coded_list (coded× coded_ℕ coded_ℕ)
 
@@ -89,7 +89,7 @@ coded_indexes =
     (λ t. record { flat = t.0; accepted = t.1 })
     (λ _. refl)
 
--- what is known of the entries of an accepted table
+-- the facts about the entries of an accepted table
 abbrev Accepted : List ℕ → Type 0
 Accepted entries = (length entries ≡ 128) × IsAcceptedTable entries
 

@@ -1,4 +1,4 @@
--- Tables by how they are kept, and the flat lists that they are seen as.
+-- Tables in either form, flat or packed, as flat lists.
 use Rattle.legacy_tables.specs.declared.tables.KeptTables.{KeptTables}
 use Rattle.legacy_tables.specs.declared.tables.KeptTables.TheVariants.{Flat, Packed}
 use Rattle.legacy_tables.specs.AcceptedTables.{AcceptedIndexes}

@@ -12,4 +12,5 @@ pub mod Orders
 pub mod PointerSets
 pub mod PackedTables
 pub mod Walks
+pub mod RangeParts
 pub mod Unpacking

@@ -1,4 +1,4 @@
--- Orders of pointers by their scalars, and what a look-up in them answers.
+-- Orders: pointers sorted by their scalars, and look-ups in them.
 use Rattle.std.specs.Prelude.{◌≡◌, ℕ, ◌<◌, List, Option, Some, Bool, true, length, find}
 use Rattle.std.specs.Prelude.{false, ◌==◌, slice_index}
 use Rattle.std.specs.List.{list_any}
@@ -12,11 +12,11 @@ pub record RisesBy (index order : List ℕ) : Type 0 where
   pub above : (i j : ℕ) → i < j → j < length order →
       slice_index index (slice_index order i) < slice_index index (slice_index order j)
 
--- the first pointer of an order that has a scalar
+-- the first pointer of an order with the scalar c
 unfoldable pub order_pointer : List ℕ → List ℕ → ℕ → Option ℕ
 order_pointer index order c = find (λ p. slice_index index p == c) order
 
--- a look-up that answers by the pointers of an order
+-- a look-up that returns the pointers of an order
 pub record IsLookup (part : PackedPart) (index order : List ℕ)
     (lookup : ℕ → Option ℕ) : Type 0 where
   pub found : (c q : ℕ) → lookup c ≡ Some q → (list_any (λ r. q == r) order ≡ true)
@@ -26,12 +26,12 @@ pub record IsLookup (part : PackedPart) (index order : List ℕ)
   pub usable : (q : ℕ) → list_any (λ r. q == r) order ≡ true → may_use part q ≡ true
   pub mapped : (q : ℕ) → list_any (λ r. q == r) order ≡ true → 0 < slice_index index q
 
--- the codec takes the last of the scalar's pointers
+-- true if the codec uses the last of the scalar's pointers
 abbrev pub takes_last : PackedPart → ℕ → Bool
 takes_last parts.Big5Order c = takes_last_big5_pointer c
 takes_last _ c = false
 
--- an order answers for each scalar the pointer that the codec takes
+-- for each scalar, an order gives the pointer that the codec uses
 pub record IsOrder (part : PackedPart) (index order : List ℕ) : Type 0 where
   pub rises : RisesBy index order
   pub answers : (c : ℕ) → order_pointer index order c ≡ pointer_of part index c

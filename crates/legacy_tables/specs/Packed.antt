@@ -1,5 +1,5 @@
--- Packed indexes: runs in place of flat indexes, and orders of the pointers that encoders take.
--- Which are accepted beside flat indexes, and the first fault of the others.
+-- Packed indexes: runs instead of flat indexes, and orders of the pointers that encoders use. These definitions say
+-- which are accepted for given flat indexes, and the first fault of others.
 use Rattle.std.specs.Prelude.{◌≡◌, ℕ, ◌+◌, List, [], ◌∷◌, Option, Some, None, Bool, false}
 use Rattle.std.specs.Prelude.{not, ◌&&◌, ◌==◌, nat_lt, if◌then◌else◌, length, option_map}
 use Rattle.std.specs.Prelude.{slice_index, find}
@@ -20,46 +20,45 @@ use Rattle.legacy_tables.specs.Pointers.{every_pointer, is_big5_pointer, is_shif
 use Rattle.legacy_tables.specs.Pointers.{is_jis0208_pointer, big5_pointer_of, first_pointer}
 use Rattle.legacy_tables.specs.Runs.{runs_scalar, runs_list, run_fault}
 
--- a part is in order first, and then gives what the flat index does
+-- the fault of a part: it is out of order, or differs from the flat index
 abbrev pub part_fault : PackedPart → Option ℕ → Option ℕ → Option TableError
 part_fault part order difference =
     option_or (option_map (PackedOrder part) order) (option_map (PackedDiffers part) difference)
 
 -- ---- runs
 
--- the runs give the pointer another answer than the flat index
+-- true if the runs and the flat index give the pointer different scalars
 abbrev pub differs_at : List Run → List ℕ → ℕ → Bool
 differs_at runs index p = not (option_eq (λ x y. x == y) (idx index p) (runs_scalar runs p))
 
--- the least pointer below the limit at which they do
+-- the least such pointer below the limit
 unfoldable pub run_difference : ℕ → List Run → List ℕ → Option ℕ
 run_difference limit runs index = find (differs_at runs index) (range_with_len 0 limit)
 
--- the first fault of a part that is runs
+-- the first fault of a part with runs
 abbrev pub runs_fault : PackedPart → ℕ → List Run → List ℕ → Option TableError
 runs_fault part limit runs index =
     part_fault part (run_fault limit runs) (run_difference limit runs index)
 
 -- ---- orders
 
--- the pointers that the codec of an order may use
+-- true for the pointers that the codec of an order may use
 abbrev pub may_use : PackedPart → ℕ → Bool
 may_use parts.Big5Order p = is_big5_pointer p
 may_use parts.ShiftJisOrder p = is_shift_jis_pointer p
 may_use parts.EucJpOrder p = is_jis0208_pointer p
 may_use _ p = every_pointer p
 
--- the pointer that it takes for a scalar
+-- the pointer that the codec uses for a scalar
 abbrev pub pointer_of : PackedPart → List ℕ → ℕ → Option ℕ
 pointer_of parts.Big5Order index c = big5_pointer_of index c
 pointer_of part index c = first_pointer (may_use part) index c
 
--- the pointer may be used, and its scalar is above the number; an entry 0 is no scalar
+-- the pointer may be used, and its scalar is above `above`; an entry 0 is no scalar
 abbrev pub is_pointer_in_order : PackedPart → List ℕ → ℕ → ℕ → Bool
 is_pointer_in_order part index above p = may_use part p && nat_lt above (slice_index index p)
 
--- the first place, from the place on, of a pointer that is not in order, where the number is the
--- scalar before it
+-- the first place of a pointer that is not in order, counted from `place`; `above` is the scalar before it
 unfoldable pub order_fault_from : PackedPart → List ℕ → ℕ → ℕ → List ℕ → Option ℕ
 order_fault_from part index place above [] = None
 order_fault_from part index place above (p ∷ order) =
@@ -71,13 +70,12 @@ order_fault_from part index place above (p ∷ order) =
 abbrev pub order_fault : PackedPart → List ℕ → List ℕ → Option ℕ
 order_fault part index order = order_fault_from part index 0 0 order
 
--- the order holds the pointer
+-- the order contains the pointer
 abbrev pub holds_pointer : List ℕ → Option ℕ → Bool
 holds_pointer order None = false
 holds_pointer order (Some p) = list_any (λ q. p == q) order
 
--- the pointer may be used and is mapped, and the order does not hold its scalar with the pointer
--- that the codec takes
+-- the pointer may be used and is mapped, but the order lacks the pointer that the codec uses for its scalar
 abbrev pub is_lacking : PackedPart → List ℕ → List ℕ → ℕ → Bool
 is_lacking part index order p =
     if slice_index index p == 0 then false
@@ -88,14 +86,14 @@ unfoldable pub order_difference : PackedPart → List ℕ → List ℕ → Optio
 order_difference part index order =
     find (is_lacking part index order) (range_with_len 0 (length index))
 
--- the first fault of a part that is an order
+-- the first fault of a part with an order
 abbrev pub pointers_fault : PackedPart → List ℕ → List ℕ → Option TableError
 pointers_fault part index order =
     part_fault part (order_fault part index order) (order_difference part index order)
 
 -- ---- all parts
 
--- the first fault of the five parts that are runs
+-- the first fault of the five parts with runs
 unfoldable pub all_runs_fault : FlatIndexes → Packed → Option TableError
 all_runs_fault flat packed =
     option_or (runs_fault parts.Big5 19782 packed.big5.now flat.big5)
@@ -104,7 +102,7 @@ all_runs_fault flat packed =
     (option_or (runs_fault parts.Jis0212 8836 packed.jis0212.now flat.jis0212)
     (runs_fault parts.Gb18030 23940 packed.gb18030.now flat.gb18030))))
 
--- the first fault of the five parts that are orders
+-- the first fault of the five parts with orders
 unfoldable pub all_orders_fault : FlatIndexes → Packed → Option TableError
 all_orders_fault flat packed =
     option_or (pointers_fault parts.Big5Order flat.big5 packed.big5_order.now)
@@ -113,28 +111,27 @@ all_orders_fault flat packed =
     (option_or (pointers_fault parts.EucJpOrder flat.jis0208 packed.euc_jp_order.now)
     (pointers_fault parts.Gb18030Order flat.gb18030 packed.gb18030_order.now))))
 
--- the first fault of indexes and packed indexes: the indexes are checked first, then the ten parts
--- in their order
+-- The first fault of indexes and packed indexes. The indexes are checked first, and then the ten parts in their order.
 abbrev pub packed_fault : FlatIndexes → Packed → Option TableError
 packed_fault flat packed =
     option_or (table_fault flat)
     (option_or (all_runs_fault flat packed) (all_orders_fault flat packed))
 
--- the lists of what runs give, with katakana, ranges and private-use rows as they are
+-- the lists that runs give, with katakana, ranges and private-use rows unchanged
 abbrev pub packed_lists : FlatIndexes → Packed → FlatIndexes
 packed_lists flat packed =
     flat_lists (runs_list packed.big5.now) (runs_list packed.euc_kr.now)
     (runs_list packed.jis0208.now) (runs_list packed.jis0212.now)
     (runs_list packed.gb18030.now) flat.katakana flat.ranges flat.gb18030_pua
 
--- lists that tell no pointer from those of indexes
+-- lists with the same scalar at each pointer
 pub record AnswerAlike (a b : FlatIndexes) : Type 0 where
   pub idx : (name : IndexName) (p : ℕ) → idx (index_list a name) p ≡ idx (index_list b name) p
   pub ranges : a.ranges ≡ b.ranges
   pub gb18030_pua : a.gb18030_pua ≡ b.gb18030_pua
 
--- what tables that were made of packed indexes are: there was no fault, and they are the lists of
--- what the runs give, which answer as the flat indexes do
+-- Tables made of packed indexes. There was no fault, and they are the lists that the runs give, with the same scalars
+-- as the flat indexes.
 pub record ArePackedTables (indexes : FlatIndexes) (packed : Packed)
     (lists : FlatIndexes) : Type 0 where
   pub no_fault : packed_fault indexes packed ≡ None

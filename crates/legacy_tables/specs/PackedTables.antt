@@ -1,4 +1,4 @@
--- The runs and orders that packed tables keep.
+-- The runs and orders of packed tables.
 use Rattle.std.specs.Prelude.{◌≡◌, ℕ, List, Option, true}
 use Rattle.legacy_tables.specs.declared.tables.packed.Packed.{Packed}
 use Rattle.legacy_tables.specs.declared.tables.packed.PackedPart.TheVariants as parts
@@ -12,14 +12,14 @@ use Rattle.legacy_tables.specs.Orders.{takes_last, IsOrder}
 use Rattle.legacy_tables.specs.Runs.{GiveNoZero, runs_list}
 use Rattle.legacy_tables.specs.AcceptedTables.{flat_lists}
 
--- the flat lists that packed tables are seen as
+-- packed tables as flat lists
 abbrev pub lists_of_runs : CheckedRuns → List ℕ → List (ℕ × ℕ) → List (ℕ × ℕ × ℕ) → FlatIndexes
 lists_of_runs runs katakana ranges gb18030_pua =
     flat_lists (runs_list runs.big5.runs.now) (runs_list runs.euc_kr.runs.now)
     (runs_list runs.jis0208.runs.now) (runs_list runs.jis0212.runs.now)
     (runs_list runs.gb18030.runs.now) katakana ranges gb18030_pua
 
--- runs are those of packed indexes
+-- the runs are those of packed indexes
 pub record AreRunsOf (runs : CheckedRuns) (packed : Packed) : Type 0 where
   pub big5 : runs.big5.runs.now ≡ packed.big5.now
   pub euc_kr : runs.euc_kr.runs.now ≡ packed.euc_kr.now
@@ -35,7 +35,7 @@ pub record AllGiveNoZero (runs : CheckedRuns) : Type 0 where
   pub jis0212 : GiveNoZero runs.jis0212.runs.now
   pub gb18030 : GiveNoZero runs.gb18030.runs.now
 
--- orders answer the pointers that the codecs take in flat indexes
+-- the orders give the pointers that the codecs use in flat indexes
 pub record AnswerPointersOf (orders : CheckedOrders) (flat : FlatIndexes) : Type 0 where
   pub big5 : IsOrder parts.Big5Order flat.big5 orders.big5.now
   pub euc_kr : IsOrder parts.EucKrOrder flat.euc_kr orders.euc_kr.now
@@ -43,11 +43,11 @@ pub record AnswerPointersOf (orders : CheckedOrders) (flat : FlatIndexes) : Type
   pub euc_jp : IsOrder parts.EucJpOrder flat.jis0208 orders.euc_jp.now
   pub gb18030 : IsOrder parts.Gb18030Order flat.gb18030 orders.gb18030.now
 
--- what is taken for a scalar, where the codec takes the last of its pointers
+-- `taken` is the pointer used for the scalar c, if the codec uses the last of its pointers
 abbrev pub IsLast : PackedPart → List ℕ → ℕ → Option ℕ → Type 0
 IsLast part index c taken = takes_last part c ≡ true → pointer_of part index c ≡ taken
 
--- the last pointers of an index are those that are taken
+-- the last pointers of an index are the pointers used
 pub record AreLastPointers (part : PackedPart) (index : List ℕ)
     (lasts : LastPointers) : Type 0 where
   pub of_2550 : IsLast part index 0x2550 lasts.of_2550

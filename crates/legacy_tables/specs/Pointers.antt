@@ -1,5 +1,4 @@
--- The stated pointers: which pointer of an index an encoder takes for a scalar (Encoding Standard,
--- "Indexes").
+-- The pointer of an index that an encoder uses for a scalar (Encoding Standard, "Indexes").
 use Rattle.std.specs.Prelude.{ℕ, zero, suc, List, Option, Some, None, Bool, true, false, not, ◌&&◌, ◌||◌, ◌==◌}
 use Rattle.std.specs.Prelude.{nat_le, nat_lt, if◌then◌else◌, length, slice_index, find}
 use Rattle.std.specs.Int.{is_in_range}
@@ -11,7 +10,7 @@ use Rattle.legacy_tables.specs.Indexes.{range}
 abbrev pub every_pointer : ℕ → Bool
 every_pointer p = true
 
--- pointer p may be used, and is that of c
+-- pointer p may be used, and its scalar is c
 abbrev pub is_pointer_of : (ℕ → Bool) → List ℕ → ℕ → ℕ → Bool
 is_pointer_of may_use index c p = may_use p && slice_index index p == c
 
@@ -20,22 +19,22 @@ unfoldable pub last_below : (ℕ → Bool) → ℕ → Option ℕ
 last_below test zero = None
 last_below test (suc n) = if test n then Some n else last_below test n
 
--- "Index pointer": the least pointer of c that may be used; an entry 0 is no scalar
+-- "index pointer": the least usable pointer of c; an entry 0 is no scalar
 unfoldable pub first_pointer : (ℕ → Bool) → List ℕ → ℕ → Option ℕ
 first_pointer may_use index c =
     if c == 0 then None else find (is_pointer_of may_use index c) (range_with_len 0 (length index))
 
--- the greatest one ("index Big5 pointer", for six scalars)
+-- the greatest usable pointer of c ("index Big5 pointer", for six scalars)
 unfoldable pub last_pointer : (ℕ → Bool) → List ℕ → ℕ → Option ℕ
 last_pointer may_use index c =
     if c == 0 then None else last_below (is_pointer_of may_use index c) (length index)
 
--- the pointers of index Big5 from lead A1 on, behind the first rows of Hong Kong's supplement: 5024 is
--- (0xA1 - 0x81) * 157
+-- the pointers of index Big5 from lead A1 on, after the first rows of Hong Kong's supplement: 5024 is (0xA1 - 0x81) *
+-- 157
 abbrev pub is_big5_pointer : ℕ → Bool
 is_big5_pointer p = nat_le 5024 p
 
--- the scalars that take the last of their pointers
+-- the scalars for which the last pointer is used
 abbrev pub takes_last_big5_pointer : ℕ → Bool
 takes_last_big5_pointer c =
     ((c == 0x2550 || c == 0x255E) || (c == 0x2561 || c == 0x256A)) || (c == 0x5341 || c == 0x5345)
@@ -50,7 +49,7 @@ big5_pointer_of index c =
 abbrev pub euc_kr_pointer_of : List ℕ → ℕ → Option ℕ
 euc_kr_pointer_of index c = first_pointer every_pointer index c
 
--- all pointers of jis0208 but the rows that NEC's selection repeats
+-- all pointers of jis0208 except 8272 to 8835
 abbrev pub is_shift_jis_pointer : ℕ → Bool
 is_shift_jis_pointer p = not (is_in_range 8272 8835 p)
 
@@ -58,11 +57,11 @@ is_shift_jis_pointer p = not (is_in_range 8272 8835 p)
 abbrev pub shift_jis_pointer_of : List ℕ → ℕ → Option ℕ
 shift_jis_pointer_of jis0208 c = first_pointer is_shift_jis_pointer jis0208 c
 
--- the pointers of JIS X 0208's 94 rows of 94
+-- the pointers of the 94 rows of 94 of JIS X 0208
 abbrev pub is_jis0208_pointer : ℕ → Bool
 is_jis0208_pointer p = nat_lt p 8836
 
--- the least of these, for EUC-JP and ISO-2022-JP, whose forms reach no other
+-- the least of these, for EUC-JP and ISO-2022-JP, whose sequences reach no other pointer
 abbrev pub euc_jp_pointer_of : List ℕ → ℕ → Option ℕ
 euc_jp_pointer_of jis0208 c = first_pointer is_jis0208_pointer jis0208 c
 
@@ -70,11 +69,11 @@ euc_jp_pointer_of jis0208 c = first_pointer is_jis0208_pointer jis0208 c
 abbrev pub minus_as_hyphen : ℕ → ℕ
 minus_as_hyphen c = if c == 0x2212 then 0xFF0D else c
 
--- the pointer of a scalar in GB18030's forms of two bytes ("index pointer")
+-- the pointer of a scalar in two-byte sequences of gb18030 ("index pointer")
 abbrev pub gb18030_pointer_of : List ℕ → ℕ → Option ℕ
 gb18030_pointer_of index c = first_pointer every_pointer index c
 
--- pointer p of four bytes is that of c
+-- the scalar of pointer p of four bytes is c
 abbrev pub is_range_pointer_of : List (ℕ × ℕ) → ℕ → ℕ → Bool
 is_range_pointer_of ranges c p = option_map_or (λ s. s == c) (range ranges p) false
 
@@ -82,7 +81,7 @@ is_range_pointer_of ranges c p = option_map_or (λ s. s == c) (range ranges p) f
 unfoldable pub first_range_pointer : List (ℕ × ℕ) → ℕ → ℕ → Option ℕ
 first_range_pointer ranges c n = find (is_range_pointer_of ranges c) (range_with_len 0 n)
 
--- "Index gb18030 ranges pointer": the pointer of four bytes whose scalar is c, or none. 1237575 is the last
--- one that has a scalar.
+-- "Index gb18030 ranges pointer": the pointer of four bytes with the scalar c, or none. The last pointer with a scalar
+-- is 1237575.
 unfoldable pub range_pointer_of : List (ℕ × ℕ) → ℕ → Option ℕ
 range_pointer_of ranges c = if c == 0xE7C7 then Some 7457 else first_range_pointer ranges c 1237576

@@ -1,4 +1,4 @@
--- Indexes as runs of pointers, and what they give.
+-- Indexes as runs of pointers, and the scalars that runs give.
 use Rattle.std.specs.Prelude.{◌≢◌, ℕ, ◌+◌, ◌-◌, ◌≤◌, ◌<◌, List, [], ◌∷◌, Option, Some, None, Bool, ◌&&◌}
 use Rattle.std.specs.Prelude.{nat_le, nat_lt, if◌then◌else◌, length, map, max, slice_index_or}
 use Rattle.std.specs.Option.{option_or, option_map_or}
@@ -9,7 +9,7 @@ use Rattle.legacy_tables.specs.declared.tables.packed.Run.{Run}
 abbrev pub run_at : List Run → ℕ → Run
 run_at runs n = slice_index_or runs n (record { pointer = 0; scalar = 0; length = 0 })
 
--- the pointer behind a run
+-- the pointer after a run
 abbrev pub run_end : Run → ℕ
 run_end run = run.pointer + run.length
 
@@ -25,7 +25,7 @@ abbrev pub runs_scalar : List Run → ℕ → Option ℕ
 runs_scalar [] p = None
 runs_scalar (run ∷ runs) p = option_or (run_scalar run p) (runs_scalar runs p)
 
--- the entry that it is in a flat list, where 0 stands for none
+-- the entry of pointer p in the flat list, with 0 for no scalar
 abbrev pub runs_entry : List Run → ℕ → ℕ
 runs_entry runs p = option_map_or (λ c. c) (runs_scalar runs p) 0
 
@@ -33,23 +33,23 @@ runs_entry runs p = option_map_or (λ c. c) (runs_scalar runs p) 0
 abbrev pub GiveNoZero : List Run → Type 0
 GiveNoZero runs = (p : ℕ) → runs_scalar runs p ≢ Some 0
 
--- the pointer behind all runs
+-- the pointer after all runs
 abbrev pub runs_end : List Run → ℕ
 runs_end [] = 0
 runs_end (run ∷ runs) = max (run_end run) (runs_end runs)
 
--- the flat list of what runs give
+-- the flat list that runs give
 unfoldable pub runs_list : List Run → List ℕ
 runs_list runs = map (runs_entry runs) (range_with_len 0 (runs_end runs))
 
--- A run has pointers, begins at or behind the end of the run before it, ends within the limit and
--- with a number up to U+10FFFF.
+-- A run has at least one pointer, begins at or after the end of the run before it, and ends within the limit. Its
+-- numbers are at most U+10FFFF.
 abbrev pub is_run_in_order : ℕ → ℕ → Run → Bool
 is_run_in_order before limit run =
     (nat_lt 0 run.length && nat_le before run.pointer)
     && (nat_le (run_end run) limit && nat_le (run.scalar + run.length) 0x11_0000)
 
--- the first place, from the place on, of a run that is not in order
+-- the first place of a run that is not in order, counted from `place`
 unfoldable pub run_fault_from : ℕ → ℕ → ℕ → List Run → Option ℕ
 run_fault_from place before limit [] = None
 run_fault_from place before limit (run ∷ runs) =
@@ -61,7 +61,7 @@ run_fault_from place before limit (run ∷ runs) =
 abbrev pub run_fault : ℕ → List Run → Option ℕ
 run_fault limit runs = run_fault_from 0 0 limit runs
 
--- runs in order and within a limit, one by one
+-- facts about each of the runs, if they are in order and within a limit
 pub record AreInOrder (limit : ℕ) (runs : List Run) : Type 0 where
   pub full : (i : ℕ) (d : Run) → i < length runs → 0 < (slice_index_or runs i d).length
   pub reach : (i : ℕ) (d : Run) → i < length runs → run_end (slice_index_or runs i d) ≤ limit
@@ -76,7 +76,7 @@ pub record HasPointer (runs : List Run) (n p : ℕ) : Type 0 where
   pub from : (run_at runs n).pointer ≤ p
   pub before : p < run_end (run_at runs n)
 
--- the run at place n is the first that ends behind pointer p, or all runs end at or before p
+-- the run at place n is the first that ends after pointer p, or all runs end at or before p
 pub record IsFirstBehind (runs : List Run) (n p : ℕ) : Type 0 where
   pub within : n ≤ length runs
   pub ended : (k : ℕ) → k < n → run_end (run_at runs k) ≤ p

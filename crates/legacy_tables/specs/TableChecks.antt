@@ -1,4 +1,4 @@
--- Which indexes and single-byte tables are accepted, and the first fault of the others.
+-- The indexes and single-byte tables that are accepted, and the first fault of others.
 use Rattle.std.specs.Prelude.{◌≡◌, ℕ, ◌+◌, ◌-◌, List, [], ◌∷◌, Option, Some, None, Bool, true, false, not, ◌&&◌, ◌||◌, ◌==◌, nat_le, nat_lt, if◌then◌else◌, length}
 use Rattle.std.specs.Option.{option_or}
 use Rattle.std.specs.List.{list_any}
@@ -15,7 +15,7 @@ use Rattle.legacy_tables.specs.Indexes.{FlatIndexes}
 abbrev pub is_narrow_entry : ℕ → Bool
 is_narrow_entry entry = is_in_range 0x80 0xD7FF entry || is_in_range 0xE000 0xFFFF entry
 
--- the entries that an index may hold; in Big5 also scalars of the Supplementary Ideographic Plane
+-- the entries that an index may have; in Big5 also scalars of the Supplementary Ideographic Plane
 abbrev pub is_entry : IndexName → ℕ → Bool
 is_entry names.Big5 entry = is_narrow_entry entry || is_in_range 0x2_0000 0x2_FFFF entry
 is_entry _ entry = is_narrow_entry entry
@@ -26,7 +26,7 @@ must_be_empty names.Big5 p = (p == 1133 || p == 1135) || (p == 1164 || p == 1166
 must_be_empty names.Jis0208 p = is_in_range 8836 10715 p
 must_be_empty _ p = false
 
--- what is wrong with an entry that is not 0
+-- the fault of an entry that is not 0
 abbrev pub entry_fault : IndexName → ℕ → ℕ → Option TableError
 entry_fault name p entry =
     if entry == 0 then None
@@ -39,66 +39,65 @@ unfoldable pub entries_fault : IndexName → ℕ → List ℕ → Option TableEr
 entries_fault name p [] = None
 entries_fault name p (entry ∷ entries) = option_or (entry_fault name p entry) (entries_fault name (p + 1) entries)
 
--- the first fault of an index of at most so many entries
+-- the first fault of an index of at most `limit` entries
 abbrev pub index_fault : IndexName → ℕ → List ℕ → Option TableError
 index_fault name limit index =
     if nat_lt limit (length index) then Some (TooLong name) else entries_fault name 0 index
 
--- the katakana index is empty, or has all 63 entries
+-- the katakana index is empty or has all 63 entries
 abbrev pub katakana_fault : List ℕ → Option TableError
 katakana_fault index =
     if length index == 0 || length index == 63 then entries_fault names.Katakana 0 index else Some KatakanaLength
 
--- ---- ranges: each goes up to the pointer before the next one's, and the last one up to 39419
+-- ---- ranges: each ends before the pointer of the next one, and the last one at 39419
 
--- the pointer behind the range before: of the next range, or 39420
+-- the first pointer after a range, given the ranges after it: that of the next range, or 39420
 abbrev pub next_pointer : List (ℕ × ℕ) → ℕ
 next_pointer [] = 39420
 next_pointer (r ∷ ranges) = r.0
 
--- behind the range before, if there is one, comes the range r: with a higher pointer, and with a higher scalar
--- than any of the range before
+-- the range r has a higher pointer than the range before it, if there is one, and higher scalars than all of that range
 abbrev pub follows_range : Option (ℕ × ℕ) → ℕ × ℕ → Bool
 follows_range None r = true
 follows_range (Some before) r = nat_lt before.0 r.0 && nat_le (before.1 + (r.0 - before.0)) r.1
 
--- the first place, from the place on, of a range that is not in order
+-- the first place of a range that is not in order, counted from `place`
 unfoldable pub range_order_fault : ℕ → Option (ℕ × ℕ) → List (ℕ × ℕ) → Option TableError
 range_order_fault place before [] = None
 range_order_fault place before (r ∷ ranges) =
     if nat_le r.0 39419 && follows_range before r then range_order_fault (place + 1) (Some r) ranges
     else Some (RangeOrder place)
 
--- the range r has no scalar below U+0080, above U+FFFF or among the surrogates, where it ends before the pointer
+-- the range r, which ends before `end`, has no scalar below U+0080, above U+FFFF or among the surrogates
 abbrev pub has_range_scalars : ℕ × ℕ → ℕ → Bool
 has_range_scalars r end =
     nat_le 0x80 r.1
     && (nat_le (r.1 + (end - r.0)) 0xD800 || (nat_le 0xE000 r.1 && nat_le (r.1 + (end - r.0)) 0x1_0000))
 
--- the first place, from the place on, of a range that has others
+-- the first place of a range with other scalars, counted from `place`
 unfoldable pub range_value_fault : ℕ → List (ℕ × ℕ) → Option TableError
 range_value_fault place [] = None
 range_value_fault place (r ∷ ranges) =
     if has_range_scalars r (next_pointer ranges) then range_value_fault (place + 1) ranges
     else Some (RangeValue place)
 
--- ---- private-use rows of GB18030: a scalar, a lead and a trail
+-- ---- private-use rows of gb18030: a scalar, a lead and a trail
 
--- behind the scalar of the row before, if there is one, comes a higher one
+-- the scalar is above that of the row before, if there is one
 abbrev pub follows_scalar : Option ℕ → ℕ → Bool
 follows_scalar None c = true
 follows_scalar (Some before) c = nat_lt before c
 
--- a private-use scalar that a row may have; U+E5E5 has no bytes in GB18030
+-- a private-use scalar that a row may have; U+E5E5 has no bytes in gb18030
 abbrev pub is_row_scalar : ℕ → Bool
 is_row_scalar c = is_in_range 0xE000 0xF8FF c && not (c == 0xE5E5)
 
--- a lead and a trail of a form of two bytes
+-- a lead and a trail of a two-byte sequence
 abbrev pub are_row_bytes : ℕ → ℕ → Bool
 are_row_bytes lead trail =
     is_in_range 0x81 0xFE lead && (is_in_range 0x40 0x7E trail || is_in_range 0x80 0xFE trail)
 
--- what is wrong with a row, where the scalar before it is this one
+-- the fault of a row, given the scalar before it
 abbrev pub row_fault : ℕ → Option ℕ → ℕ × ℕ × ℕ → Option TableError
 row_fault place before r =
     if not (follows_scalar before r.0) then Some (PuaOrder place)
@@ -106,7 +105,7 @@ row_fault place before r =
     else if not (are_row_bytes r.1 r.2) then Some (PuaBytes place)
     else None
 
--- the first fault of rows from the place on, where the scalar before them is this one
+-- the first fault of rows from `place` on, given the scalar before them
 unfoldable pub rows_fault : ℕ → Option ℕ → List (ℕ × ℕ × ℕ) → Option TableError
 rows_fault place before [] = None
 rows_fault place before (r ∷ rows) = option_or (row_fault place before r) (rows_fault (place + 1) (Some r.0) rows)
@@ -132,11 +131,11 @@ AreAccepted flat = table_fault flat ≡ None
 
 -- ---- single-byte tables
 
--- an entry from 0x80 on, no surrogate, and not U+FFFD
+-- an entry of at least 0x80 that is no surrogate and not U+FFFD
 abbrev pub is_byte_entry : ℕ → Bool
 is_byte_entry entry = is_narrow_entry entry && not (entry == 0xFFFD)
 
--- what is wrong with an entry, where these stand before it
+-- the fault of an entry, given the entries before it
 abbrev pub byte_entry_fault : ℕ → List ℕ → ℕ → Option TableError
 byte_entry_fault place before entry =
     if entry == 0 then None
@@ -144,7 +143,7 @@ byte_entry_fault place before entry =
     else if list_any (λ e. e == entry) before then Some (Repeated place)
     else None
 
--- the first fault of entries from the place on, where these stand before them
+-- the first fault of entries from `place` on, given the entries before them
 unfoldable pub byte_entries_fault : ℕ → List ℕ → List ℕ → Option TableError
 byte_entries_fault place before [] = None
 byte_entries_fault place before (entry ∷ entries) =

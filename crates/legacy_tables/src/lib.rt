@@ -7,6 +7,6 @@ mod tables;
 
 pub use single_byte_table::SingleByteTable;
 pub use tables::{
-    DecoderTables, EncoderTables, FlatTables, GB18030_2022_PUA, IndexName, Indexes, KeptTables,
-    Marks, Packed, PackedPart, PackedTables, Run, TableError, Tables,
+    DecoderTables, EncoderTables, FlatTables, GB18030_2022_PUA, IndexName, Indexes, Marks, Packed,
+    PackedPart, RangePart, Ranges, Run, TableError, Tables,
 };

@@ -15,6 +15,7 @@ pub(crate) mod packed_tables;
 pub(crate) mod pointer_set;
 pub(crate) mod pointers;
 pub(crate) mod private_use;
+pub(crate) mod ranges;
 pub(crate) mod runs;
 pub(crate) mod unpacking;
 pub(crate) mod walks;
@@ -23,9 +24,9 @@ pub use decoder_tables::DecoderTables;
 pub use encoder_tables::EncoderTables;
 pub use flat::FlatTables;
 pub use packed::{Packed, PackedPart, Run};
-pub use packed_tables::PackedTables;
+use packed_tables::PackedTables;
 pub use private_use::GB18030_2022_PUA;
-use std::cell::Cell;
+pub use ranges::{RangePart, Ranges};
 use std::fmt;
 use std::marker::Model;
 use thiserror::Error;
@@ -140,7 +141,7 @@ pub struct Indexes<'a> {
 
 /// Indexes that passed the check, by how they are kept.
 #[derive(Drop)]
-pub enum KeptTables<'a> {
+enum KeptTables<'a> {
     /// As flat indexes.
     Flat(FlatTables<'a>),
     /// As runs and orders.
@@ -175,7 +176,6 @@ impl<'a> Tables<'a> {
     ghost use Rattle.legacy_tables.specs.Pointers.{gb18030_pointer_of, range_pointer_of};
     ghost use Rattle.std.specs.Option.{IfSome};
     ghost use Rattle.std.specs.Prelude.{◌<◌, length, true, MatchOption};
-    ghost use Rattle.legacy_tables.specs.KeptTables.{kept_indexes};
     ghost use Rattle.legacy_tables.specs.Packed.{packed_fault, ArePackedTables};
 
     /// The tables of the indexes, or the first fault. The indexes are checked in the order of the
@@ -207,14 +207,6 @@ impl<'a> Tables<'a> {
         Ok(Tables {
             kept: KeptTables::Packed(tables),
         })
-    }
-
-    /// The same tables, by how they are kept.
-    #[inline]
-    pub fn kept(&self) -> &KeptTables<'a>
-        ensures { kept_indexes result.now ≡ self.now }
-    {
-        &self.kept
     }
 
     /// Index Big5 as a flat index, which is written to the start of the room, or `None` exactly where
@@ -377,10 +369,19 @@ impl<'a> DecoderTables for Tables<'a> {
         Tables::range(self, pointer)
     }
 
-    fn range_near(&self, guess: &Cell<usize>, pointer: usize) -> Option<char> {
+    #[inline]
+    fn ranges(&self) -> Ranges<'_> {
         match &self.kept {
-            KeptTables::Flat(tables) => tables.range_near(guess, pointer),
-            KeptTables::Packed(tables) => tables.range_near(guess, pointer),
+            KeptTables::Flat(tables) => tables.ranges(),
+            KeptTables::Packed(tables) => tables.ranges(),
+        }
+    }
+
+    #[inline]
+    fn flat(&self) -> Option<&FlatTables<'_>> {
+        match &self.kept {
+            KeptTables::Flat(tables) => Some(tables),
+            KeptTables::Packed(_) => None,
         }
     }
 }
@@ -414,13 +415,6 @@ impl<'a> EncoderTables for Tables<'a> {
     #[inline]
     fn range_pointer(&self, scalar: char) -> Option<usize> {
         Tables::range_pointer(self, scalar)
-    }
-
-    fn range_pointer_near(&self, guess: &Cell<usize>, scalar: char) -> Option<usize> {
-        match &self.kept {
-            KeptTables::Flat(tables) => tables.range_pointer_near(guess, scalar),
-            KeptTables::Packed(tables) => tables.range_pointer_near(guess, scalar),
-        }
     }
 
     #[inline]

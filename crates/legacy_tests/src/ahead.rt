@@ -1,4 +1,4 @@
-//! Encoders that look the pairs of another one up ahead.
+//! Encoders that cache the pairs of another encoder.
 use crate::encoder_rows::{EncoderRow, TestedEncoder, follow_encoder};
 use legacy_encoders::{CachedEncoder, EncodesPairs};
 use std::process::Abort;
@@ -15,8 +15,9 @@ impl<'a, E: EncodesPairs> TestedEncoder for CachedEncoder<'a, E> {
     }
 }
 
-/// Follows the rows with an encoder that looks the pairs of this one up ahead in this room, if the room is enough,
-/// and answers whether it is.
+/// Follows the rows with an encoder that caches the pairs of this one in the room.
+///
+/// Returns `false` without that if the room does not suffice.
 pub(crate) fn encode_ahead<E: EncodesPairs>(
     rt: &(impl AllocGlobal + Abort),
     encoder: &E,

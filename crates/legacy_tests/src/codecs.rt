@@ -1,5 +1,5 @@
 //! The decoders and encoders of all codecs, and cases of rows that are followed with them.
-// Each decoder and encoder is named here once and not in each test: a call for a named type is dear to prove.
+// Each decoder and encoder is named here once and not in each test, because a call for a named type is slow to prove.
 use crate::encoder_rows::{EncoderRow, follow_encoder};
 use crate::indexes::{Both, Filled, byte_table_of, entries_of, packed_tables_of, tables_of};
 use crate::rows::{Row, follow};
@@ -29,7 +29,7 @@ pub(crate) enum Codec {
 /// What a decoder is made of: tables, or something else.
 pub(crate) enum DecoderOf<'a> {
     Over(Codec),
-    /// Whether the greater byte of a unit comes first.
+    /// Whether the byte order is big-endian.
     Utf16(bool),
     /// The entries of the table, by their places.
     SingleByte(&'a [(usize, u16)]),
@@ -40,7 +40,9 @@ pub(crate) enum DecoderOf<'a> {
 /// What an encoder is made of: tables, or something else.
 pub(crate) enum EncoderOf<'a> {
     Over(Codec),
-    /// The entries of the table, by their places, and the first scalar, the first place and the length of the run.
+    /// The entries of the table by their places, and a run.
+    ///
+    /// The run is its first scalar, its first place and its length.
     SingleByte(&'a [(usize, u16)], (u16, u8, u8)),
     UserDefined,
 }

@@ -1,10 +1,10 @@
-//! What came of a call beside what is wanted of it.
+//! Functions that compare what came of a call with what is wanted.
 use legacy_base::TableError;
 use legacy_codecs::RunError;
 use std::fmt::{Debug, Display};
 use std::process::Abort;
 
-/// Where a row stands: the name of its case, and its place among all rows.
+/// The place of a row: the name of its case, and its index among all rows.
 pub(crate) type Place<'a> = (&'a str, usize);
 
 /// Compares what came of a call, a query or a run with what is wanted.
@@ -21,7 +21,7 @@ pub(crate) fn is_answer<T: Copy + PartialEq + Debug>(
     );
 }
 
-/// Compares the fault of indexes or of a table with what is wanted.
+/// Compares the fault of indexes or of a table with the wanted one.
 pub(crate) fn is_fault(
     rt: &impl Abort,
     place: Place,
@@ -31,7 +31,7 @@ pub(crate) fn is_fault(
     is_answer(rt, place, "the fault", came.as_ref(), wanted.as_ref());
 }
 
-/// Compares why a run was refused, if it was, with what is wanted.
+/// Compares the error of a run, if it was refused, with the wanted one.
 pub(crate) fn is_refusal(
     rt: &impl Abort,
     place: Place,
@@ -42,12 +42,12 @@ pub(crate) fn is_refusal(
     is_answer(rt, place, form, came, wanted);
 }
 
-/// Compares the scalar of a pointer, or of a place, with what is wanted.
+/// Compares the scalar of a pointer, or of a place, with the wanted one.
 pub(crate) fn is_scalar(rt: &impl Abort, place: Place, came: Option<char>, wanted: Option<char>) {
     is_answer(rt, place, "the scalar", came, wanted);
 }
 
-/// Compares the pointer of a scalar, or its place, with what is wanted.
+/// Compares the pointer of a scalar, or its place, with the wanted one.
 pub(crate) fn is_pointer(
     rt: &impl Abort,
     place: Place,
@@ -57,7 +57,7 @@ pub(crate) fn is_pointer(
     is_answer(rt, place, "the pointer", came, wanted);
 }
 
-/// Compares the text that is printed with what is wanted.
+/// Compares the printed text with the wanted one.
 pub(crate) fn prints<T: Display>(
     rt: &(impl AllocGlobal + Abort),
     place: Place,

@@ -1,6 +1,6 @@
 //! Inputs in pieces, and outputs of every small length.
 
-/// The lengths 0 to 4 in turn, 60 times.
+/// Returns the lengths 0 to 4 in turn, 60 times.
 pub(crate) fn small_lengths() -> [usize; 300] {
     let mut lengths = [0usize; 300];
     for at in 0..300 {
@@ -9,10 +9,10 @@ pub(crate) fn small_lengths() -> [usize; 300] {
     lengths
 }
 
-/// At most so many pieces of an input.
+/// The greatest number of pieces of an input.
 const MOST: usize = 160;
 
-/// Pieces of an input, the first 160 of them.
+/// The first 160 pieces of an input.
 #[derive(Drop)]
 pub(crate) struct Pieces<P: Copy> {
     pieces: [P; MOST],
@@ -20,7 +20,7 @@ pub(crate) struct Pieces<P: Copy> {
 }
 
 impl<P: Copy> Pieces<P> {
-    /// No piece yet; the places behind the last piece hold the empty one.
+    /// Returns no pieces; the places after the last piece have the empty one.
     fn none(empty: P) -> Pieces<P> {
         Pieces {
             pieces: [empty; MOST],
@@ -40,7 +40,7 @@ impl<P: Copy> Pieces<P> {
     }
 }
 
-/// The pieces, with an empty one behind each.
+/// Returns the pieces, with an empty one after each.
 pub(crate) fn spaced<P: Copy>(pieces: &[P], empty: P) -> Pieces<P> {
     let mut all = Pieces::none(empty);
     for piece in pieces {
@@ -50,7 +50,7 @@ pub(crate) fn spaced<P: Copy>(pieces: &[P], empty: P) -> Pieces<P> {
     all
 }
 
-/// The bytes, one a piece.
+/// Returns each byte as a piece.
 pub(crate) fn byte_pieces(input: &[u8]) -> Pieces<&[u8]> {
     let mut all = Pieces::none(&input[..0]);
     for piece in input.chunks(1) {
@@ -59,7 +59,7 @@ pub(crate) fn byte_pieces(input: &[u8]) -> Pieces<&[u8]> {
     all
 }
 
-/// The scalars of the text in UTF-8, one a piece.
+/// Returns each scalar of the text as a piece in UTF-8.
 pub(crate) fn text_pieces(text: &str) -> Pieces<&str> {
     let mut all = Pieces::none("");
     let mut start = 0usize;
@@ -71,7 +71,7 @@ pub(crate) fn text_pieces(text: &str) -> Pieces<&str> {
     all
 }
 
-/// The scalars of the text in these code units of UTF-16, one a piece.
+/// Returns each scalar of the text as a piece of these UTF-16 code units.
 pub(crate) fn unit_pieces<'a>(text: &str, units: &'a [u16]) -> Pieces<&'a [u16]> {
     let mut all = Pieces::none(&units[..0]);
     let mut start = 0usize;

@@ -16,7 +16,7 @@ fn a_cursor_goes_over_its_bytes_to_their_end(rt: HostRuntime) {
     assert!(rt; source.consumed() == 2);
 }
 
-/// Puts the scalars whose bytes fit, one after another.
+/// Writes the scalars whose bytes fit, one after another.
 fn put_bytes(dst: &mut Utf8Destination, scalars: &[char]) {
     for scalar in scalars {
         if scalar.len_utf8() <= dst.free() {
@@ -25,7 +25,7 @@ fn put_bytes(dst: &mut Utf8Destination, scalars: &[char]) {
     }
 }
 
-/// Puts the scalars whose code units fit, one after another.
+/// Writes the scalars whose code units fit, one after another.
 fn put_units(dst: &mut Utf16Destination, scalars: &[char]) {
     for scalar in scalars {
         if scalar.len_utf16() <= dst.free() {
@@ -34,12 +34,14 @@ fn put_units(dst: &mut Utf16Destination, scalars: &[char]) {
     }
 }
 
-/// Scalars, how many bytes or code units are written of them, and all of these that were free, each of which was AA
-/// or AAAA.
+/// Scalars, the number of code units written, and the whole output after that.
+///
+/// The output was filled with AA or AAAA.
 type Put<'a, U> = (&'a [char], usize, &'a [U]);
 
-/// Puts the scalars into as many bytes as are wanted, and compares how many were free and are written, and all of
-/// them, with what is wanted.
+/// Writes the scalars into an output as long as the wanted one, and compares the result with that.
+///
+/// It compares the number of free bytes before, the number of written bytes, and all bytes.
 fn put_in_utf8(rt: &impl Abort, at: usize, (scalars, written, wanted): &Put<u8>) {
     let mut bytes = [0xAAu8; 12];
     let mut dst = Utf8Destination::new(&mut bytes[..wanted.len().min(12)]);
@@ -56,7 +58,7 @@ fn put_in_utf8(rt: &impl Abort, at: usize, (scalars, written, wanted): &Put<u8>)
     );
 }
 
-/// The same with code units.
+/// Writes the scalars into code units, and compares the result likewise.
 fn put_in_utf16(rt: &impl Abort, at: usize, (scalars, written, wanted): &Put<u16>) {
     let mut units = [0xAAAAu16; 12];
     let mut dst = Utf16Destination::new(&mut units[..wanted.len().min(12)]);
@@ -73,7 +75,7 @@ fn put_in_utf16(rt: &impl Abort, at: usize, (scalars, written, wanted): &Put<u16
     );
 }
 
-/// Compares how many code units were free and how many are written with what is wanted.
+/// Compares the number of free code units and that of written ones with the wanted ones.
 fn is_put(rt: &impl Abort, at: usize, came: (usize, usize), wanted: (usize, usize)) {
     is_answer(rt, ("code units", at), "free and written", came, wanted);
 }
@@ -86,7 +88,7 @@ const IN_UTF8: &[Put<u8>] = &[
             0x61, 0xC3, 0xA9, 0xEF, 0x9E, 0x80, 0xF0, 0x9F, 0x92, 0xA9, 0xAA, 0xAA,
         ],
     ),
-    // the last bytes are filled with short scalars
+    // Short scalars fill the last bytes.
     (&['a'], 1, &[0x61]),
     (&['\u{E9}'], 2, &[0xC3, 0xA9]),
     (

@@ -1,13 +1,13 @@
-//! The events that are wanted of an encoder, as rows state them.
+//! The wanted events of an encoder, as rows state them.
 use legacy_base::EncodeEvent;
 use legacy_base::EncodeEvent::{Byte, Unmappable};
 
-/// What is wanted of a part of a text.
+/// The wanted events of a part of a text.
 #[derive(Clone, Copy)]
 pub(crate) enum Wanted<'a> {
     /// These bytes.
     Bytes(&'a [u8]),
-    /// The report of a scalar without bytes.
+    /// The report of an unmappable scalar.
     Report(char),
 }
 
@@ -31,7 +31,7 @@ impl Encoded {
     }
 }
 
-/// The events that are wanted.
+/// Returns the wanted events.
 pub(crate) fn events_of(wanted: &[Wanted]) -> Encoded {
     let mut all = Encoded {
         events: [Byte(0); 64],

@@ -1,4 +1,6 @@
-//! Rows: calls, queries and runs of an encoder with what must come of each, and the function that follows them.
+//! Rows of an encoder, and the function that follows them.
+//!
+//! A row is a call, a query or a run, with its wanted result.
 use crate::compared::{Place, is_answer, is_refusal};
 use crate::cuts::{small_lengths, spaced, text_pieces, unit_pieces};
 use crate::encode_events::{Wanted, events_of};
@@ -8,40 +10,46 @@ use legacy_base::{EncodeEvent, EncoderResult, RawEncoder};
 use legacy_codecs::{CoderResult, RunError};
 use std::process::Abort;
 
-/// A call, a query or a run of an encoder, and what must come of it.
+/// A call, a query or a run of an encoder, with its wanted result.
 #[derive(Clone, Copy)]
 pub(crate) enum EncoderRow<'a> {
-    /// An encoder that was just made, and the name of the case that begins with it.
+    /// A new encoder, and the name of the case that begins with it.
     Encoder(&'a str),
-    /// A call from UTF-8: the text, how many bytes are free, whether it is the last, the answer, how many
-    /// bytes of the text are read, and the bytes that are written.
+    /// A call from UTF-8.
+    ///
+    /// It has the text, the number of free bytes, whether it is the last call, the result, the
+    /// number of bytes read, and the written bytes.
     FromUtf8(&'a str, usize, bool, EncoderResult, usize, &'a [u8]),
-    /// A call from UTF-16: the same, but what is read are code units.
+    /// A call from UTF-16: the same, but code units are read.
     FromUtf16(&'a [u16], usize, bool, EncoderResult, usize, &'a [u8]),
-    /// The length for so many bytes of UTF-8.
+    /// The queried length for a number of bytes of UTF-8.
     Utf8Length(usize, Option<usize>),
-    /// The length for so many code units of UTF-16.
+    /// The queried length for a number of UTF-16 code units.
     Utf16Length(usize, Option<usize>),
-    /// Whether the encoder says that it has a pending state.
+    /// The wanted result of the query for a pending state.
     Pending(bool),
-    /// What runs of encoders of their own make of the text, from UTF-8 and from UTF-16: at once with large outputs,
-    /// and with outputs of 0 to 4 bytes whole and in scalars, and so with an empty piece behind each; and that such
-    /// a run with five outputs of 0 makes nothing and ends before the text does.
+    /// The events of runs of new encoders over the text, from UTF-8 and from UTF-16.
+    ///
+    /// One run has large outputs and the whole text. Others have outputs of 0 to 4 bytes and the
+    /// text whole, scalar by scalar, and with an empty piece after each. A run with five outputs of
+    /// 0 writes nothing and ends before the text does.
     Encodes(&'a str, &'a [Wanted<'a>]),
-    /// A run from UTF-8: the pieces, the lengths of the outputs, the events, how many calls it has, and whether it
-    /// is finished.
+    /// A run from UTF-8.
+    ///
+    /// It has the pieces, the lengths of the outputs, the events, the number of calls, and whether
+    /// it is finished.
     RunFromUtf8(&'a [&'a str], &'a [usize], &'a [Wanted<'a>], usize, bool),
-    /// The same from UTF-16.
+    /// A run from UTF-16, likewise.
     RunFromUtf16(&'a [&'a [u16]], &'a [usize], &'a [Wanted<'a>], usize, bool),
-    /// A call from UTF-8 with references: the same as without them, and whether one was written.
+    /// A call from UTF-8 with references: the same as without, and whether a reference was written.
     ReplacedFromUtf8(&'a str, usize, bool, CoderResult, usize, &'a [u8], bool),
     /// A call from UTF-16 with references.
     ReplacedFromUtf16(&'a [u16], usize, bool, CoderResult, usize, &'a [u8], bool),
-    /// Runs over `a` with one output of so many bytes, from UTF-8 and from UTF-16, that are refused, and why.
+    /// Refused runs over `a` with one output of this length, from either form, and their error.
     RefusedRuns(usize, &'a RunError),
 }
 
-/// An encoder, what it is made of, and the query that only one has.
+/// An encoder, what it is made of, and a query that only one encoder has.
 pub(crate) trait TestedEncoder: RawEncoder + Drop {
     /// What the encoder is made of.
     type Of: Copy;
@@ -51,7 +59,7 @@ pub(crate) trait TestedEncoder: RawEncoder + Drop {
     fn pending(&self) -> Option<bool>;
 }
 
-/// Makes a call, and compares what comes of it with what is wanted.
+/// Makes a call, and compares its result with the wanted one.
 fn encodes<T: Text, E: RawEncoder>(
     rt: &impl Abort,
     place: Place,
@@ -65,10 +73,12 @@ fn encodes<T: Text, E: RawEncoder>(
     is_answer(rt, place, T::FORM, came, wanted);
 }
 
-/// What a run must give: the events, how many calls where that is stated, and whether it is finished.
+/// The wanted result of a run.
+///
+/// It is the events, the number of calls if that is stated, and whether the run is finished.
 type Ends<'a> = (&'a [EncodeEvent], Option<usize>, bool);
 
-/// Makes a run, and compares what comes of it with what is wanted.
+/// Makes a run, and compares its result with the wanted one.
 fn goes<T: Text, E: RawEncoder>(
     rt: &(impl AllocGlobal + Abort),
     place: Place,
@@ -85,7 +95,7 @@ fn goes<T: Text, E: RawEncoder>(
     }
 }
 
-/// Makes a run of an encoder of its own, and compares what comes of it.
+/// Makes a run of a new encoder, and compares its result with the wanted one.
 fn runs<T: Text, E: TestedEncoder>(
     rt: &(impl AllocGlobal + Abort),
     place: Place,
@@ -96,7 +106,7 @@ fn runs<T: Text, E: TestedEncoder>(
     goes::<T, E>(rt, place, &mut E::made(rt, of), input, wanted);
 }
 
-/// Makes a run over these pieces with small outputs, and one over these with an empty one behind each.
+/// Makes a run over these pieces with small outputs, and one with an empty piece after each.
 fn encodes_in_both<T: Text, E: TestedEncoder>(
     rt: &(impl AllocGlobal + Abort),
     place: Place,
@@ -115,7 +125,7 @@ fn encodes_in_both<T: Text, E: TestedEncoder>(
     );
 }
 
-/// Makes a run over these pieces with large outputs, and one with none.
+/// Makes a run over these pieces with large outputs, and one with outputs of 0.
 fn encodes_whole<T: Text, E: TestedEncoder>(
     rt: &(impl AllocGlobal + Abort),
     place: Place,
@@ -127,7 +137,7 @@ fn encodes_whole<T: Text, E: TestedEncoder>(
     runs::<T, E>(rt, place, of, (pieces, &[0; 5]), (&[], Some(5), false));
 }
 
-/// Makes the runs over these pieces of a text in UTF-8, and with empty ones.
+/// Makes the runs over these pieces of a text in UTF-8, with and without empty ones.
 fn encodes_utf8_in_both<E: TestedEncoder>(
     rt: &(impl AllocGlobal + Abort),
     place: Place,
@@ -139,7 +149,7 @@ fn encodes_utf8_in_both<E: TestedEncoder>(
     encodes_in_both::<&str, E>(rt, place, of, (pieces, all.as_slice()), wanted);
 }
 
-/// Makes the runs over these pieces of a text in UTF-16, and with empty ones.
+/// Makes the runs over these pieces of a text in UTF-16, with and without empty ones.
 fn encodes_utf16_in_both<E: TestedEncoder>(
     rt: &(impl AllocGlobal + Abort),
     place: Place,
@@ -151,7 +161,7 @@ fn encodes_utf16_in_both<E: TestedEncoder>(
     encodes_in_both::<&[u16], E>(rt, place, of, (pieces, all.as_slice()), wanted);
 }
 
-/// The code units of the text, the first 96 of them, and how many they are.
+/// Returns the first 96 code units of the text, and their number.
 fn units_of(text: &str) -> ([u16; 96], usize) {
     let mut units = [0u16; 96];
     let mut count = 0usize;
@@ -194,7 +204,7 @@ fn encodes_utf16<E: TestedEncoder>(
     encodes_utf16_in_both::<E>(rt, place, of, scalars.as_slice(), wanted);
 }
 
-/// Makes a run that must be refused, and compares the error with the one that is wanted.
+/// Makes a run that must be refused, and compares the error with the wanted one.
 fn refuses<T: Text, E: RawEncoder>(
     rt: &(impl AllocGlobal + Abort),
     place: Place,
@@ -206,7 +216,7 @@ fn refuses<T: Text, E: RawEncoder>(
     is_refusal(rt, place, T::FORM, run.as_ref().err(), Some(wanted));
 }
 
-/// Follows the row of a query: compares the answer with what is wanted.
+/// Follows the row of a query: compares the result with the wanted one.
 fn follow_query<E: TestedEncoder>(rt: &impl Abort, place: Place, encoder: &E, row: &EncoderRow) {
     match row {
         EncoderRow::Utf8Length(bytes, length) => {
@@ -225,7 +235,7 @@ fn follow_query<E: TestedEncoder>(rt: &impl Abort, place: Place, encoder: &E, ro
     }
 }
 
-/// Follows the row of a run: makes it, and compares what comes of it with what is wanted.
+/// Follows the row of a run: makes it, and compares its result with the wanted one.
 fn follow_run<E: RawEncoder>(
     rt: &(impl AllocGlobal + Abort),
     place: Place,
@@ -251,7 +261,7 @@ fn follow_run<E: RawEncoder>(
     }
 }
 
-/// Follows the row of a call: makes it, and compares what comes of it with what is wanted.
+/// Follows the row of a call: makes it, and compares its result with the wanted one.
 fn follow_call<E: RawEncoder>(rt: &impl Abort, place: Place, encoder: &mut E, row: &EncoderRow) {
     match row {
         EncoderRow::FromUtf8(text, room, last, answer, read, bytes) => {

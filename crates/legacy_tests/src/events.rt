@@ -1,10 +1,10 @@
-//! The events that a decoder finds in the whole of an input, however it is cut.
+//! The events that a decoder finds in a whole input, however it is cut.
 use crate::units::Form;
 use legacy_base::DecodeEvent::{Bad, Scalar};
 use legacy_base::DecoderResult::{InputEmpty, Malformed};
 use legacy_base::{DecodeEvent, DecoderResult, RawDecoder};
 
-/// A malformed sequence: the place of its first byte, and how many bytes it has.
+/// A malformed sequence: the place of its first byte, and its length in bytes.
 macro_rules! bad {
     ($place:expr, $length:expr) => {
         legacy_base::DecodeEvent::Bad {
@@ -16,7 +16,7 @@ macro_rules! bad {
 
 pub(crate) use bad;
 
-/// The first events that were found, at most 160 of them.
+/// The first 160 events that were found.
 #[derive(Drop)]
 pub(crate) struct Found {
     events: [DecodeEvent; 160],
@@ -43,7 +43,7 @@ impl Found {
     }
 }
 
-/// The malformed sequence that an answer reports, with so many bytes read.
+/// Returns the malformed sequence that a result reports after `seen` bytes were read.
 fn reported(answer: DecoderResult, seen: usize) -> Option<DecodeEvent> {
     match answer {
         Malformed(length, back) => {
@@ -57,7 +57,7 @@ fn reported(answer: DecoderResult, seen: usize) -> Option<DecodeEvent> {
     }
 }
 
-/// The events of the input in calls of at most so many bytes, with so many code units free.
+/// Returns the events of the input in calls of limited length, each with limited room.
 pub(crate) fn events<F: Form, D: RawDecoder>(
     decoder: &mut D,
     input: &[u8],

@@ -1,4 +1,4 @@
-//! Indexes as rows state them, flat and packed, and the tables that are made of them.
+//! Indexes as rows state them, flat and packed, and the tables made of them.
 use legacy_base::{GB18030_2022_PUA, Indexes, Packed, SingleByteTable, Tables};
 use std::process::Abort;
 
@@ -15,7 +15,7 @@ macro_rules! run {
 
 pub(crate) use run;
 
-/// How many entries an index has, and those that are not 0, by their pointers.
+/// The number of entries of an index, and those that are not 0, by their pointers.
 pub(crate) type Entries<'a, T> = (usize, &'a [(usize, T)]);
 
 /// Flat indexes.
@@ -43,7 +43,7 @@ pub(crate) const NO_ENTRIES: Flat = Flat {
     gb18030_pua: &GB18030_2022_PUA,
 };
 
-/// Flat indexes of which these are stated, and the others are without an entry.
+/// Flat indexes with these entries, of which the others are empty.
 macro_rules! flat {
     ($($index:ident: $entries:expr),*) => {
         crate::indexes::Flat {
@@ -93,7 +93,7 @@ pub(crate) struct Filled {
     katakana: [u16; 63],
 }
 
-/// Puts the entries to their pointers.
+/// Puts each entry at its pointer.
 fn fill<T: Copy>(index: &mut [T], entries: &[(usize, T)]) {
     for (pointer, entry) in entries {
         if *pointer < index.len() {
@@ -102,7 +102,7 @@ fn fill<T: Copy>(index: &mut [T], entries: &[(usize, T)]) {
     }
 }
 
-/// So many entries from the front of an index.
+/// Returns the first `length` entries of an index.
 fn front<T>(index: &[T], length: usize) -> &[T] {
     &index[..length.min(index.len())]
 }
@@ -126,7 +126,7 @@ impl Filled {
         filled
     }
 
-    /// These entries as indexes, with the ranges and the private-use rows that are stated beside them.
+    /// Returns these entries as indexes, with the stated ranges and private-use rows.
     pub(crate) fn indexes<'a>(&'a self, flat: &Flat<'a>) -> Indexes<'a> {
         Indexes {
             big5: front(&self.big5, flat.big5.0),
@@ -141,7 +141,7 @@ impl Filled {
     }
 }
 
-/// Indexes without an entry, and the private-use rows of GB18030-2022.
+/// Returns indexes without an entry, and the private-use rows of GB18030-2022.
 pub(crate) fn no_entries<'a>() -> Indexes<'a> {
     Indexes {
         big5: &[],
@@ -155,7 +155,7 @@ pub(crate) fn no_entries<'a>() -> Indexes<'a> {
     }
 }
 
-/// The entries of a single-byte table: these, by their places, and no others.
+/// Returns the entries of a single-byte table: these, by their places, and no others.
 pub(crate) fn entries_of(some: &[(usize, u16)]) -> [u16; 128] {
     let mut entries = [0u16; 128];
     for (place, entry) in some {
@@ -166,7 +166,7 @@ pub(crate) fn entries_of(some: &[(usize, u16)]) -> [u16; 128] {
     entries
 }
 
-/// Tables of these indexes.
+/// Returns tables of these indexes.
 pub(crate) fn tables_of<'a>(rt: &impl Abort, indexes: &Indexes<'a>) -> Tables<'a> {
     match Tables::new(indexes) {
         Ok(tables) => tables,
@@ -174,7 +174,7 @@ pub(crate) fn tables_of<'a>(rt: &impl Abort, indexes: &Indexes<'a>) -> Tables<'a
     }
 }
 
-/// Tables of these indexes, packed.
+/// Returns packed tables of these indexes.
 pub(crate) fn packed_tables_of<'a>(
     rt: &impl Abort,
     indexes: &Indexes<'a>,
@@ -186,7 +186,7 @@ pub(crate) fn packed_tables_of<'a>(
     }
 }
 
-/// The single-byte table of these entries.
+/// Returns the single-byte table of these entries.
 pub(crate) fn byte_table_of(rt: &impl Abort, entries: &[u16; 128]) -> SingleByteTable {
     match SingleByteTable::new(entries) {
         Ok(table) => table,

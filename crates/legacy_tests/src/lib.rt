@@ -1,9 +1,12 @@
-//! Tests of the libraries by their public calls, in a crate of their own: the tests of a crate are proved
-//! beside all of that crate, and these need none of it.
+//! Tests of the libraries by their public calls.
 //!
-//! Each codec has one file for its decoder and, in its folder, one for its encoder, with rows of calls and what
-//! must come of them. `rows` and `encoder_rows` follow the rows, `codecs` those of each case with its codec over flat
-//! tables and packed ones, and a row that does not hold is printed with what came of it beside what was wanted.
+//! They are a crate of their own: the tests of a crate are proved beside all of that crate, and
+//! these need none of it.
+//!
+//! Each codec has one file for its decoder and, in its folder, one for its encoder, with rows of
+//! calls and their wanted results. `rows` and `encoder_rows` follow the rows. `codecs` follows
+//! those of each case with its codec over flat tables and packed ones. If a row does not hold, its
+//! result is printed beside the wanted one.
 #![tactic(auto)]
 
 #[cfg(test)]

@@ -6,10 +6,10 @@ use legacy_base::TableError::{BadEntry, PackedDiffers, PackedOrder};
 use legacy_base::{Packed, PackedPart, TableError, Tables};
 use std::process::Abort;
 
-/// Indexes and their parts, and the fault of these.
+/// Indexes with their packed parts, and the fault of the parts.
 type Faulty<'a> = (Both<'a>, Option<TableError>);
 
-/// Compares the fault of the indexes and parts of each row with what is wanted.
+/// Compares the fault of the indexes and parts of each row with the wanted one.
 fn have_faults(rt: &impl Abort, case: &str, rows: &[Faulty]) {
     for (at, (both, wanted)) in rows.iter().enumerate() {
         let filled = Filled::of(&both.flat);
@@ -19,7 +19,7 @@ fn have_faults(rt: &impl Abort, case: &str, rows: &[Faulty]) {
     }
 }
 
-/// Index EUC-KR of U+AC02, U+AC03, none and U+AC05, and these runs.
+/// Index EUC-KR with U+AC02, U+AC03, none and U+AC05, and these runs.
 macro_rules! of_euc_kr {
     ($runs:expr) => {
         Both {
@@ -35,22 +35,22 @@ macro_rules! of_euc_kr {
 
 const RUNS: &[Faulty] = &[
     (of_euc_kr!(&[run!(0, 0xAC02, 2), run!(3, 0xAC05, 1)]), None),
-    // a pointer that the index lacks
+    // A pointer that the index lacks.
     (
         of_euc_kr!(&[run!(0, 0xAC02, 4)]),
         Some(PackedDiffers(PackedPart::EucKr, 2)),
     ),
-    // one that the runs lack
+    // A pointer that the runs lack.
     (
         of_euc_kr!(&[run!(0, 0xAC02, 2)]),
         Some(PackedDiffers(PackedPart::EucKr, 3)),
     ),
-    // runs rise
+    // Runs must rise.
     (
         of_euc_kr!(&[run!(1, 0xAC03, 1), run!(0, 0xAC02, 1)]),
         Some(PackedOrder(PackedPart::EucKr, 1)),
     ),
-    // none is empty, passes the last pointer or the last scalar
+    // No run may be empty, or pass the last pointer or the last scalar.
     (
         of_euc_kr!(&[run!(0, 0xAC02, 0)]),
         Some(PackedOrder(PackedPart::EucKr, 0)),
@@ -63,7 +63,7 @@ const RUNS: &[Faulty] = &[
         of_euc_kr!(&[run!(0, 0x10_FFFF, 2)]),
         Some(PackedOrder(PackedPart::EucKr, 0)),
     ),
-    // U+0000 is not none, and no more is the number of a surrogate
+    // U+0000 is not an empty entry, and a surrogate is not a scalar.
     (
         of_euc_kr!(&[run!(0, 0xAC02, 2), run!(2, 0, 1), run!(3, 0xAC05, 1)]),
         Some(PackedDiffers(PackedPart::EucKr, 2)),
@@ -74,7 +74,7 @@ const RUNS: &[Faulty] = &[
     ),
 ];
 
-/// Two parts with a fault each, and an index with a fault beside them.
+/// Two parts with a fault each, and such parts beside an index with a fault.
 const OF_TWO_PARTS: &[Faulty] = &[
     (
         Both {
@@ -121,7 +121,7 @@ macro_rules! of_ff02 {
 
 const ORDERS: &[Faulty] = &[
     (of_ff02!(&[10739], &[8647]), None),
-    // Shift_JIS takes none of NEC's selection
+    // Shift_JIS uses no pointer of NEC's selection.
     (
         of_ff02!(&[8647], &[8647]),
         Some(PackedOrder(PackedPart::ShiftJisOrder, 0)),
@@ -130,14 +130,14 @@ const ORDERS: &[Faulty] = &[
         of_ff02!(&[], &[8647]),
         Some(PackedDiffers(PackedPart::ShiftJisOrder, 10739)),
     ),
-    // EUC-JP takes none past its forms
+    // EUC-JP uses no pointer past its forms.
     (
         of_ff02!(&[10739], &[10739]),
         Some(PackedOrder(PackedPart::EucJpOrder, 0)),
     ),
 ];
 
-/// Big5 takes the last pointer of six scalars.
+/// Big5's encoder uses the last pointer of six scalars.
 const ORDER_OF_BIG5: &[Faulty] = &[(
     Both {
         flat: flat!(big5: (18992, &[(5247, 0x2550), (18991, 0x2550)])),

@@ -1,4 +1,4 @@
-//! Look-ups of the scalars of pointers, and of the pointers and private-use bytes that encoders take.
+//! Look-ups of the scalars of pointers, and of the pointers and bytes that encoders use.
 use crate::compared::{is_pointer, is_scalar};
 use crate::gb18030::encoder::{LAST_RANGE, RANGE_FROM_7457};
 use crate::indexes::{
@@ -19,7 +19,7 @@ enum LookUp {
     Ranges,
 }
 
-/// The pointer that the tables have for the scalar.
+/// Returns the pointer that the tables have for the scalar.
 fn pointer_of(tables: &Tables, look_up: LookUp, scalar: char) -> Option<usize> {
     match look_up {
         LookUp::Big5 => tables.big5_pointer(scalar),
@@ -31,16 +31,16 @@ fn pointer_of(tables: &Tables, look_up: LookUp, scalar: char) -> Option<usize> {
     }
 }
 
-/// A look-up, a scalar, and the pointer that it must have.
+/// A look-up, a scalar, and its wanted pointer.
 type Row = (LookUp, char, Option<usize>);
 
-/// An index, a pointer, and the scalar that it must have there.
+/// An index, a pointer, and its wanted scalar.
 type Pointer = (IndexName, usize, Option<char>);
 
-/// A pointer of four bytes, and the scalar that it must have.
+/// A pointer of four bytes, and its wanted scalar.
 type FourBytes = (usize, Option<char>);
 
-/// Look-ups, and what they must answer.
+/// Look-ups, and their wanted results.
 #[derive(Clone, Copy)]
 enum Wanted<'a> {
     Scalars(&'a [Pointer]),
@@ -48,24 +48,24 @@ enum Wanted<'a> {
     Pointers(&'a [Row]),
 }
 
-/// The name of a case, its indexes, and what look-ups in tables of them must answer.
+/// The name of a case, its indexes, and the wanted results of look-ups in their tables.
 type Case<'a> = (&'a str, &'a Both<'a>, Wanted<'a>);
 
-/// Compares the scalars that the indexes have at pointers with what is wanted.
+/// Compares the scalars that the indexes have at pointers with the wanted ones.
 fn have_scalars(rt: &impl Abort, tables: &Tables, case: &str, rows: &[Pointer]) {
     for (at, (name, pointer, wanted)) in rows.iter().enumerate() {
         is_scalar(rt, (case, at), tables.idx(*name, *pointer), *wanted);
     }
 }
 
-/// Compares the scalars that pointers of four bytes have with what is wanted.
+/// Compares the scalars of pointers of four bytes with the wanted ones.
 fn have_four_bytes(rt: &impl Abort, tables: &Tables, case: &str, rows: &[FourBytes]) {
     for (at, (pointer, wanted)) in rows.iter().enumerate() {
         is_scalar(rt, (case, at), tables.range(*pointer), *wanted);
     }
 }
 
-/// Compares the pointers that scalars have with what is wanted.
+/// Compares the pointers of scalars with the wanted ones.
 fn have_pointers(rt: &impl Abort, tables: &Tables, case: &str, rows: &[Row]) {
     for (at, (look_up, scalar, wanted)) in rows.iter().enumerate() {
         let came = pointer_of(tables, *look_up, *scalar);
@@ -73,7 +73,7 @@ fn have_pointers(rt: &impl Abort, tables: &Tables, case: &str, rows: &[Row]) {
     }
 }
 
-/// Compares what look-ups in these tables answer with what is wanted.
+/// Compares the results of look-ups in these tables with the wanted ones.
 fn answer(rt: &impl Abort, tables: &Tables, case: &str, wanted: Wanted) {
     match wanted {
         Wanted::Scalars(rows) => have_scalars(rt, tables, case, rows),
@@ -104,18 +104,18 @@ fn answer_in_each(rt: &impl Abort, cases: &[Case]) {
 
 const FIRST: &[Row] = &[
     (LookUp::EucKr, '\u{8A70}', Some(23939)),
-    // an entry 0 is no scalar
+    // An entry 0 is no scalar.
     (LookUp::EucKr, '\0', None),
     (LookUp::EucKr, '\u{AC02}', None),
-    // narrow indexes have no scalar of another plane
+    // Narrow indexes have no scalar of another plane.
     (LookUp::EucKr, '\u{18A70}', None),
     (LookUp::Gb18030, '\u{4E02}', Some(1)),
 ];
 
 const OF_BIG5: &[Row] = &[
-    // the last of two
+    // The last of two pointers.
     (LookUp::Big5, '\u{2550}', Some(18991)),
-    // pointers from 5024 on
+    // Only pointers from 5024 on.
     (LookUp::Big5, '\u{3000}', Some(5024)),
     (LookUp::Big5, '\u{3001}', None),
 ];
@@ -135,29 +135,29 @@ const BY_THE_LAST_RANGE: &[Row] = &[
 ];
 
 const AROUND_7457: &[Row] = &[
-    // pointer 7457 is U+E7C7's, whatever the range says
+    // Pointer 7457 belongs to U+E7C7, whatever the range says.
     (LookUp::Ranges, '\u{3000}', None),
     (LookUp::Ranges, '\u{3001}', Some(7458)),
     (LookUp::Ranges, '\u{E7C7}', Some(7457)),
 ];
 
-/// By ranges from pointer 0 and U+0080, and from pointer 200 and U+3000.
+/// Rows over ranges from pointer 0 and U+0080, and from pointer 200 and U+3000.
 const BY_PAGES: &[Row] = &[
-    // the first range ends within a page
+    // The first range ends inside a page.
     (LookUp::Ranges, '\u{100}', Some(128)),
     (LookUp::Ranges, '\u{147}', Some(199)),
     (LookUp::Ranges, '\u{148}', None),
-    // pages that a range fills
+    // Pages that a range fills.
     (LookUp::Ranges, '\u{3000}', Some(200)),
     (LookUp::Ranges, '\u{30FF}', Some(455)),
     (LookUp::Ranges, '\u{31FF}', Some(711)),
-    // one in which pointer 7457 is U+E7C7's
+    // A page in which pointer 7457 belongs to U+E7C7.
     (LookUp::Ranges, '\u{4C58}', Some(7456)),
     (LookUp::Ranges, '\u{4C59}', None),
     (LookUp::Ranges, '\u{4C5A}', Some(7458)),
 ];
 
-/// By a range from pointer 31228 and U+E000.
+/// Rows over a range from pointer 31228 and U+E000.
 const AROUND_E7C7: &[Row] = &[
     (LookUp::Ranges, '\u{E6FF}', Some(33019)),
     (LookUp::Ranges, '\u{E7C6}', Some(33218)),
@@ -170,9 +170,9 @@ const AROUND_E7C7: &[Row] = &[
 const BY_ENTRIES: &[Pointer] = &[
     (Big5, 0, Some('\u{2008A}')),
     (EucKr, 0, Some('\u{AC02}')),
-    // an entry 0
+    // An entry 0.
     (EucKr, 1, None),
-    // past the end
+    // Past the end.
     (EucKr, 2, None),
     (Jis0208, 0, Some('\u{3000}')),
     (Jis0212, 0, Some('\u{4E02}')),
@@ -185,12 +185,12 @@ const BY_RUNS: &[Pointer] = &[
     (Big5, 0, Some('\u{2008A}')),
     (EucKr, 63, Some('\u{AC02}')),
     (EucKr, 64, Some('\u{AC03}')),
-    // behind a run, and past the end
+    // After a run, and past the end.
     (EucKr, 65, None),
     (EucKr, 23940, None),
     (EucKr, 65535, None),
     (EucKr, usize::MAX, None),
-    // before all runs
+    // Before all runs.
     (EucKr, 62, None),
     (Jis0208, 0, Some('\u{3000}')),
     (Jis0212, 0, Some('\u{4E02}')),
@@ -325,7 +325,7 @@ const RANGE_OF_PRIVATE_USE: &Both = &Both {
     packed: NO_PARTS,
 };
 
-/// U+FF02 at a pointer that NEC's selection repeats, and at the one that is written.
+/// U+FF02 at a pointer that NEC's selection repeats, and at the one that Shift_JIS's encoder uses.
 const TWICE_IN_JIS0208: &Both = &Both {
     flat: flat!(jis0208: (10740, &[(8647, 0xFF02), (10739, 0xFF02)])),
     packed: Packed {
@@ -336,7 +336,7 @@ const TWICE_IN_JIS0208: &Both = &Both {
     },
 };
 
-/// U+FF02 at the first alone, which is the index's last.
+/// U+FF02 at the first of these pointers alone, which is the index's last.
 const ONCE_IN_JIS0208: &Both = &Both {
     flat: flat!(jis0208: (8648, &[(8647, 0xFF02)])),
     packed: Packed {
@@ -387,7 +387,7 @@ const OF_JIS0208_AND_RANGES: &[Case] = &[
         ONCE_IN_JIS0208,
         Wanted::Pointers(OF_ONCE_IN_JIS0208),
     ),
-    // a pointer before all ranges has no scalar
+    // A pointer before all ranges has no scalar.
     (
         "the last range",
         LAST_RANGE,

@@ -1,4 +1,4 @@
-//! Calls with replacement: rows of calls with what must come of each, and the functions that follow them.
+//! Calls with replacement: rows of calls with their wanted results, and what follows the rows.
 use crate::codecs::DecoderOf::{Over, Utf16};
 use crate::codecs::{Codec, DecoderCase, decode_each};
 use crate::compared::{Place, is_answer};
@@ -14,7 +14,7 @@ use std::process::Abort;
 
 pub(crate) mod encoders;
 
-/// Makes a call into UTF-8, and compares what comes of it with what is wanted.
+/// Makes a call into UTF-8, and compares its result with the wanted one.
 fn writes_text<D: RawDecoder>(
     rt: &impl Abort,
     place: Place,
@@ -34,7 +34,7 @@ fn writes_text<D: RawDecoder>(
     is_answer(rt, place, Bytes::NAME, came, wanted);
 }
 
-/// Makes a call into UTF-16, and compares what comes of it with what is wanted.
+/// Makes a call into UTF-16, and compares its result with the wanted one.
 fn writes_units<D: RawDecoder>(
     rt: &impl Abort,
     place: Place,
@@ -53,8 +53,9 @@ fn writes_units<D: RawDecoder>(
     is_answer(rt, place, Units::NAME, came, wanted);
 }
 
-/// Writes the text of the input from the front of the slice on, by calls with so many code units free, and
-/// answers how many it has.
+/// Writes the text of the input to the slice, by calls with `room` code units free.
+///
+/// Returns the number of code units of the text.
 fn by_calls<F: Form, D: RawDecoder>(
     decoder: &mut D,
     input: &[u8],
@@ -81,7 +82,7 @@ fn by_calls<F: Form, D: RawDecoder>(
     end
 }
 
-/// Compares the text of the input by calls with so many bytes free with what is wanted.
+/// Compares the text of the input by calls with `room` bytes free with the wanted one.
 fn has_text<D: RawDecoder>(
     rt: &impl Abort,
     place: Place,
@@ -95,7 +96,7 @@ fn has_text<D: RawDecoder>(
     is_answer(rt, place, Bytes::NAME, came, text.as_bytes());
 }
 
-/// Compares the text of the input by calls with so many code units free with what is wanted.
+/// Compares the text of the input by calls with `room` code units free with the wanted one.
 fn has_units<D: RawDecoder>(
     rt: &impl Abort,
     place: Place,
@@ -108,7 +109,7 @@ fn has_units<D: RawDecoder>(
     is_answer(rt, place, Units::NAME, &output[..end.min(96)], units);
 }
 
-/// Follows the row of a text: compares it by calls with small outputs with what is wanted.
+/// Follows the row of a text: compares it by calls with small outputs with the wanted one.
 fn follow_text<D: Tested>(rt: &impl Abort, place: Place, of: D::Of, row: &Row) {
     if let Text(input, text, units) = row {
         for room in 2..16 {
@@ -122,8 +123,9 @@ fn follow_text<D: Tested>(rt: &impl Abort, place: Place, of: D::Of, row: &Row) {
     }
 }
 
-/// Decodes a piece, not the last one, into the length that the decoder answers for it: all of it is read, and
-/// nothing replaced.
+/// Decodes a piece that is not the last one into an output of the queried length.
+///
+/// All of the piece must be read, and nothing replaced.
 fn is_read<D: RawDecoder>(rt: &impl Abort, place: Place, decoder: &mut D, piece: &[u8]) {
     let length = decoder.max_utf16_buffer_length(piece.len()).unwrap_or(0);
     let mut output = [0u16; 96];
@@ -137,7 +139,7 @@ fn is_read<D: RawDecoder>(rt: &impl Abort, place: Place, decoder: &mut D, piece:
     is_answer(rt, place, "a piece", came, (InputEmpty, piece.len(), false));
 }
 
-/// Follows the row of pieces: compares what comes of each with what is wanted.
+/// Follows the row of pieces: compares the result for each with the wanted one.
 fn follow_pieces<D: RawDecoder>(rt: &impl Abort, place: Place, decoder: &mut D, row: &Row) {
     if let Pieces(input, size) = row {
         for piece in input.chunks((*size).max(1)) {
@@ -146,7 +148,7 @@ fn follow_pieces<D: RawDecoder>(rt: &impl Abort, place: Place, decoder: &mut D, 
     }
 }
 
-/// Follows the row of a call: makes it, and compares what comes of it with what is wanted.
+/// Follows the row of a call: makes it, and compares its result with the wanted one.
 fn follow_call<D: RawDecoder>(rt: &impl Abort, place: Place, decoder: &mut D, row: &Row) {
     match row {
         ReplacedToUtf8(source, room, last, answer, read, text, replaced) => {

@@ -1,4 +1,6 @@
-//! Rows: calls, queries and runs of a decoder with what must come of each, and the function that follows them.
+//! Rows of a decoder, and the function that follows them.
+//!
+//! A row is a call, a query or a run, with its wanted result.
 use crate::compared::{Place, is_answer, is_refusal};
 use crate::cuts::{byte_pieces, small_lengths, spaced};
 use crate::events::events;
@@ -8,55 +10,64 @@ use legacy_base::{DecodeEvent, DecoderResult, RawDecoder};
 use legacy_codecs::{CoderResult, RunError};
 use std::process::Abort;
 
-/// A call, a query or a run of a decoder, and what must come of it.
+/// A call, a query or a run of a decoder, with its wanted result.
 #[derive(Clone, Copy)]
 pub(crate) enum Row<'a> {
-    /// A decoder that was just made, and the name of the case that begins with it.
+    /// A new decoder, and the name of the case that begins with it.
     Decoder(&'a str),
-    /// A call into UTF-8: the bytes, how many bytes are free, whether these are the last, the answer,
-    /// how many bytes are read, and the text that is written.
+    /// A call into UTF-8.
+    ///
+    /// It has the bytes, the number of free bytes, whether these bytes are the last, the result,
+    /// the number of bytes read, and the written text.
     ToUtf8(&'a [u8], usize, bool, DecoderResult, usize, &'a str),
-    /// A call into UTF-16: the same, but what is free and what is written are code units.
+    /// A call into UTF-16: the same, but code units are free and written.
     ToUtf16(&'a [u8], usize, bool, DecoderResult, usize, &'a [u16]),
-    /// The length in UTF-16 for so many bytes.
+    /// The queried length in UTF-16 for a number of bytes.
     Utf16Length(usize, Option<usize>),
-    /// The length in UTF-8 for so many bytes.
+    /// The queried length in UTF-8 for a number of bytes.
     Utf8Length(usize, Option<usize>),
-    /// The length in UTF-8 for so many bytes, with nothing written for a malformed sequence.
+    /// The queried length in UTF-8 for a number of bytes, without replacement.
     BareLength(usize, Option<usize>),
-    /// Whether the decoder says that it is in its neutral state.
+    /// The wanted result of the query for the neutral state.
     Neutral(bool),
-    /// How many bytes at the front of these the decoder counts as malformed each by itself.
+    /// The number of first bytes that the decoder counts as malformed by themselves.
     Lone(&'a [u8], usize),
-    /// What the decoder says that it adds to the lengths.
+    /// What the decoder adds to the lengths.
     Additional(usize),
-    /// The events that decoders of their own find in these bytes by calls, at once with large outputs and byte by
-    /// byte with the smallest ones, in UTF-8 and in UTF-16.
+    /// The events that new decoders find in these bytes by calls, in UTF-8 and in UTF-16.
+    ///
+    /// Calls get all bytes with large outputs, or one byte with the smallest output.
     Events(&'a [u8], &'a [DecodeEvent]),
-    /// The events that runs of decoders of their own find in these bytes, in UTF-8 and in UTF-16, with outputs of
-    /// 0 to 4 code units: whole and in bytes, and so with an empty piece behind each; and that such a run with five
-    /// outputs of 0 finds none and ends before the input does.
+    /// The events that runs of new decoders find in these bytes, in UTF-8 and in UTF-16.
+    ///
+    /// Their outputs have 0 to 4 code units. The input comes whole, byte by byte, and with an empty
+    /// piece after each. A run with five outputs of 0 finds none and ends before the input does.
     Cut(&'a [u8], &'a [DecodeEvent]),
-    /// A run into UTF-8: the pieces, the lengths of the outputs, the events, how many calls it has, and whether it
-    /// is finished.
+    /// A run into UTF-8.
+    ///
+    /// It has the pieces, the lengths of the outputs, the events, the number of calls, and whether
+    /// it is finished.
     RunToUtf8(&'a [&'a [u8]], &'a [usize], &'a [DecodeEvent], usize, bool),
-    /// The same into UTF-16.
+    /// A run into UTF-16, likewise.
     RunToUtf16(&'a [&'a [u8]], &'a [usize], &'a [DecodeEvent], usize, bool),
-    /// A call into UTF-8 with replacement: the same as without it, and whether something was replaced.
+    /// A call into UTF-8 with replacement: the same as without, and whether something was replaced.
     ReplacedToUtf8(&'a [u8], usize, bool, CoderResult, usize, &'a str, bool),
     /// A call into UTF-16 with replacement.
     ReplacedToUtf16(&'a [u8], usize, bool, CoderResult, usize, &'a [u16], bool),
-    /// The text that decoders of their own write of the bytes, the last ones, with replacement, call after call with
-    /// outputs of any one length from 4 to 15 bytes, and of 2 to 7 code units.
+    /// The text that new decoders write for the bytes, the last ones, with replacement.
+    ///
+    /// All outputs have one length: from 4 to 15 bytes, or from 2 to 7 code units.
     Text(&'a [u8], &'a str, &'a [u16]),
-    /// The bytes in pieces of so many, none of them the last. Each piece fits into as many code units of
-    /// UTF-16 as the decoder answers for it, and nothing is replaced.
+    /// The bytes in pieces of this length, none of them the last.
+    ///
+    /// Each piece fits into the UTF-16 length that the decoder returns for it, and nothing is
+    /// replaced.
     Pieces(&'a [u8], usize),
-    /// Runs over a piece with one output of so many code units, in UTF-8 and in UTF-16, that are refused, and why.
+    /// Refused runs over a piece with one output of this length, in either form, and their error.
     RefusedRuns(&'a [u8], usize, &'a RunError),
 }
 
-/// What only some decoders tell: whether they are in their neutral state, and what they add to the lengths.
+/// Queries that only some decoders have: for the neutral state, and for the additional bytes.
 #[derive(Drop)]
 pub(crate) struct Told {
     pub(crate) neutral: Option<bool>,
@@ -64,7 +75,7 @@ pub(crate) struct Told {
 }
 
 impl Told {
-    /// What a decoder tells of its neutral state alone.
+    /// Returns the result of the query for the neutral state alone.
     pub(crate) fn of_neutral(is_neutral: bool) -> Told {
         Told {
             neutral: Some(is_neutral),
@@ -73,7 +84,7 @@ impl Told {
     }
 }
 
-/// A decoder, what it is made of, and what only some tell.
+/// A decoder, what it is made of, and the queries that only some have.
 pub(crate) trait Tested: RawDecoder + Drop {
     /// What the decoder is made of.
     type Of: Copy;
@@ -88,10 +99,10 @@ pub(crate) trait Tested: RawDecoder + Drop {
     }
 }
 
-/// The bytes of a call, how many code units are free, and whether these bytes are the last.
+/// The bytes of a call, the number of free code units, and whether these bytes are the last.
 pub(crate) type Call<'a> = (&'a [u8], usize, bool);
 
-/// Makes a call into UTF-8, and compares what comes of it with what is wanted.
+/// Makes a call into UTF-8, and compares its result with the wanted one.
 fn writes_text<D: RawDecoder>(
     rt: &impl Abort,
     place: Place,
@@ -105,7 +116,7 @@ fn writes_text<D: RawDecoder>(
     is_answer(rt, place, Bytes::NAME, came, wanted);
 }
 
-/// Makes a call into UTF-16, and compares what comes of it with what is wanted.
+/// Makes a call into UTF-16, and compares its result with the wanted one.
 fn writes_units<D: RawDecoder>(
     rt: &impl Abort,
     place: Place,
@@ -119,8 +130,7 @@ fn writes_units<D: RawDecoder>(
     is_answer(rt, place, Units::NAME, came, wanted);
 }
 
-/// Finds the events of the input in calls of at most so many bytes, with so many code units free, and
-/// compares them with those that are wanted.
+/// Finds the events in calls of limited length, and compares them with the wanted ones.
 fn finds<F: Form, D: Tested>(
     rt: &impl Abort,
     place: Place,
@@ -133,7 +143,7 @@ fn finds<F: Form, D: Tested>(
     is_answer(rt, place, F::NAME, found.as_slice(), wanted);
 }
 
-/// Finds the events of the input in calls at once and byte by byte, and compares them with those that are wanted.
+/// Finds the events in one call and byte by byte, and compares them with the wanted ones.
 fn finds_by_calls<D: Tested>(
     rt: &impl Abort,
     place: Place,
@@ -147,10 +157,12 @@ fn finds_by_calls<D: Tested>(
     finds::<Units, D>(rt, place, of, input, (1, 2), wanted);
 }
 
-/// What a run must give: the events, how many calls where that is stated, and whether it is finished.
+/// The wanted result of a run.
+///
+/// It is the events, the number of calls if that is stated, and whether the run is finished.
 type Wanted<'a> = (&'a [DecodeEvent], Option<usize>, bool);
 
-/// Makes a run, and compares what comes of it with what is wanted.
+/// Makes a run, and compares its result with the wanted one.
 fn runs<F: Form, D: RawDecoder>(
     rt: &(impl AllocGlobal + Abort),
     place: Place,
@@ -167,7 +179,7 @@ fn runs<F: Form, D: RawDecoder>(
     }
 }
 
-/// Makes a run of a decoder of its own into UTF-8 and another into UTF-16, and compares what comes of them.
+/// Makes a run of a new decoder into UTF-8 and one into UTF-16, and compares their results.
 fn runs_in_both<D: Tested>(
     rt: &(impl AllocGlobal + Abort),
     place: Place,
@@ -179,7 +191,7 @@ fn runs_in_both<D: Tested>(
     runs::<Units, D>(rt, place, &mut D::made(of), input, wanted);
 }
 
-/// Makes runs over these pieces with small outputs, and compares what comes of them.
+/// Makes runs over these pieces with small outputs, and compares their results.
 fn finds_in_pieces<D: Tested>(
     rt: &(impl AllocGlobal + Abort),
     place: Place,
@@ -191,7 +203,7 @@ fn finds_in_pieces<D: Tested>(
     runs_in_both::<D>(rt, place, of, (pieces, &lengths), (wanted, None, true));
 }
 
-/// Makes runs over these pieces, and over these with an empty one behind each.
+/// Makes runs over these pieces, and over these with an empty one after each.
 fn finds_in_both<D: Tested>(
     rt: &(impl AllocGlobal + Abort),
     place: Place,
@@ -204,7 +216,7 @@ fn finds_in_both<D: Tested>(
     finds_in_pieces::<D>(rt, place, of, all.as_slice(), wanted);
 }
 
-/// Makes runs over the input in all cuts, and compares what comes of them.
+/// Makes runs over the input in all cuts, and compares their results.
 fn finds_in_cuts<D: Tested>(
     rt: &(impl AllocGlobal + Abort),
     place: Place,
@@ -219,7 +231,7 @@ fn finds_in_cuts<D: Tested>(
     finds_in_both::<D>(rt, place, of, bytes.as_slice(), wanted);
 }
 
-/// Makes a run that must be refused, and compares the error with the one that is wanted.
+/// Makes a run that must be refused, and compares the error with the wanted one.
 fn refuses<F: Form, D: RawDecoder>(
     rt: &(impl AllocGlobal + Abort),
     place: Place,
@@ -231,7 +243,7 @@ fn refuses<F: Form, D: RawDecoder>(
     is_refusal(rt, place, F::NAME, run.as_ref().err(), Some(wanted));
 }
 
-/// Follows the row of a query: compares the answer with what is wanted.
+/// Follows the row of a query: compares the result with the wanted one.
 fn follow_query<D: Tested>(rt: &impl Abort, place: Place, decoder: &D, row: &Row) {
     match row {
         Row::Utf16Length(bytes, length) => {
@@ -262,7 +274,7 @@ fn follow_query<D: Tested>(rt: &impl Abort, place: Place, decoder: &D, row: &Row
     }
 }
 
-/// Follows the row of events: finds them, and compares them with those that are wanted.
+/// Follows the row of events: finds them, and compares them with the wanted ones.
 fn follow_events<D: Tested>(rt: &(impl AllocGlobal + Abort), place: Place, of: D::Of, row: &Row) {
     match row {
         Row::Events(input, events) => finds_by_calls::<D>(rt, place, of, input, events),
@@ -271,7 +283,7 @@ fn follow_events<D: Tested>(rt: &(impl AllocGlobal + Abort), place: Place, of: D
     }
 }
 
-/// Follows the row of a run: makes it, and compares what comes of it with what is wanted.
+/// Follows the row of a run: makes it, and compares its result with the wanted one.
 fn follow_run<D: RawDecoder>(
     rt: &(impl AllocGlobal + Abort),
     place: Place,
@@ -295,7 +307,7 @@ fn follow_run<D: RawDecoder>(
     }
 }
 
-/// Follows the row of a call: makes it, and compares what comes of it with what is wanted.
+/// Follows the row of a call: makes it, and compares its result with the wanted one.
 fn follow_call<D: RawDecoder>(rt: &impl Abort, place: Place, decoder: &mut D, row: &Row) {
     match row {
         Row::ToUtf8(source, room, last, answer, read, text) => {

@@ -1,4 +1,4 @@
-//! Runs of decoders: one table of cases, whole and in every cut, into outputs of every small length.
+//! Runs of decoders: a table of cases, whole and in every cut, into outputs of every small length.
 mod encoders;
 
 use crate::codecs::DecoderOf::{Over, Replacement, SingleByte, UserDefined, Utf16};
@@ -181,7 +181,9 @@ fn the_errors_print_their_texts(rt: HostRuntime) {
     );
 }
 
-/// Whether a buffer with room for four code units takes so many scalars of 61, 80 and 80, of so many units.
+/// Checks the result and the number of code units of a call into a buffer with room for four.
+///
+/// The scalars are those of the bytes 61, 80 and 80 of x-user-defined.
 fn takes<F: OutputForm>(rt: &impl Abort, answer: (DecoderResult, usize), units: usize) {
     let mut places = ['\0'; 4];
     let mut buffer = ScalarBuffer::<F>::new(&mut places, 4);

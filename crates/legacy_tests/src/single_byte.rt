@@ -56,7 +56,7 @@ const GREEK: &[Row] = &[
     ),
 ];
 
-/// Four letters at the places that ISO-8859-7 has them.
+/// Four letters at their places in ISO-8859-7.
 const LETTERS: &[(usize, u16)] = &[(65, 0x391), (117, 0x3C5), (116, 0x3C4), (124, 0x3CC)];
 
 const CASES: &[DecoderCase] = &[
@@ -69,7 +69,7 @@ fn decodes_ascii_and_the_bytes_that_have_an_entry(rt: HostRuntime) {
     decode_each(&rt, CASES);
 }
 
-/// The entry of byte 85, bytes, and how many of them stand before the first that is another scalar.
+/// The entry of byte 85, bytes, and the number of bytes before the first that is another scalar.
 const FRONTS: &[(u16, &[u8], usize)] = &[
     (0, b"abc", 3),
     (0, b"\x61\x80", 1),
@@ -86,7 +86,7 @@ fn the_front_of_latin_1_ends_at_another_scalar(rt: HostRuntime) {
     }
 }
 
-/// The letters of ISO-8859-7: the bytes C1 to FE are the scalars from U+0391 on, but D2 has none.
+/// Returns letters of ISO-8859-7: the bytes C1 to FE are the scalars from U+0391, but D2 is none.
 fn letters() -> [u16; 128] {
     let mut entries = [0u16; 128];
     let mut scalar = 0x391;
@@ -99,7 +99,7 @@ fn letters() -> [u16; 128] {
     entries
 }
 
-/// What a byte at a place is by these letters.
+/// Returns the event of a byte at a place, by these letters.
 fn event_of(place: usize, byte: u8) -> DecodeEvent {
     if byte < 0x80 {
         return Scalar(char::from(byte));
@@ -112,8 +112,7 @@ fn event_of(place: usize, byte: u8) -> DecodeEvent {
 
 #[test]
 fn decodes_words_of_letters_and_ascii(rt: HostRuntime) {
-    // three words, ASCII, a word that the byte without an entry cuts, ASCII, single letters, and the byte 00 among
-    // letters
+    // Three words, ASCII, a word with a byte that has no entry, ASCII, single letters, and the byte 00 among letters.
     let input =
         b"\xC1\xE8\xDE\xED\xE1 \xEA\xE1\xE9 \xD0\xE5\xE9\xF1\xE1\xE9\xDC\xF2, ab\x7F \xD3\xF5\xED\xD2\xFE\xC1 in 1 2 or 30 steps: \xE1 \xE2 \xE3 a\xE4b\xE5c\xE6d \xF9\xFA\x00\xFB\xFE in the last sixteen";
     let mut events = Found::new();

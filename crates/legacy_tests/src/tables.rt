@@ -1,4 +1,4 @@
-//! The checks of the tables, the words of their faults, and single-byte tables.
+//! The checks of the tables, the texts of their faults, and single-byte tables.
 use crate::compared::{is_fault, is_pointer, is_scalar, prints};
 use crate::indexes::{Filled, Flat, byte_table_of, entries_of, flat};
 use crate::single_byte::encoder::TWO_LETTERS;
@@ -13,7 +13,7 @@ use std::process::Abort;
 /// Indexes, and their fault.
 type Faulty<'a> = (Flat<'a>, Option<TableError>);
 
-/// Compares the fault of the indexes of each row with what is wanted.
+/// Compares the fault of the indexes of each row with the wanted one.
 fn have_faults(rt: &impl Abort, case: &str, rows: &[Faulty]) {
     for (at, (flat, wanted)) in rows.iter().enumerate() {
         let filled = Filled::of(flat);
@@ -24,14 +24,14 @@ fn have_faults(rt: &impl Abort, case: &str, rows: &[Faulty]) {
 
 const ENTRIES_OF_BIG5: &[Faulty] = &[
     (flat!(big5: (0, &[])), None),
-    // the length comes before the entries
+    // The length is checked before the entries.
     (flat!(big5: (19783, &[(0, 0x7F)])), Some(TooLong(Big5))),
     (flat!(big5: (19782, &[(0, 0x80)])), None),
-    // scalars of two planes
+    // Only scalars of two planes are accepted.
     (flat!(big5: (6, &[(5, 0x1_0000)])), Some(BadEntry(Big5, 5))),
     (flat!(big5: (6, &[(5, 0x3_0000)])), Some(BadEntry(Big5, 5))),
     (flat!(big5: (6, &[(5, 0x2_FFFF)])), None),
-    // a bad entry comes before one that must be empty
+    // A bad entry is reported before one that must be empty.
     (
         flat!(big5: (1134, &[(1133, 0x7F)])),
         Some(BadEntry(Big5, 1133)),
@@ -43,7 +43,7 @@ const ENTRIES_OF_BIG5: &[Faulty] = &[
 ];
 
 const ENTRIES_OF_OTHERS: &[Faulty] = &[
-    // each has a greatest length
+    // Each index has a greatest length.
     (flat!(euc_kr: (23941, &[])), Some(TooLong(EucKr))),
     (flat!(euc_kr: (23940, &[])), None),
     (flat!(jis0208: (11281, &[])), Some(TooLong(Jis0208))),
@@ -52,14 +52,14 @@ const ENTRIES_OF_OTHERS: &[Faulty] = &[
     (flat!(jis0212: (8836, &[])), None),
     (flat!(gb18030: (23941, &[])), Some(TooLong(Gb18030))),
     (flat!(gb18030: (23940, &[])), None),
-    // and no surrogate
+    // No entry is a surrogate.
     (flat!(euc_kr: (3, &[(2, 0xD800)])), Some(BadEntry(EucKr, 2))),
-    // index jis0208 has no entry for user-defined characters
+    // Index jis0208 has no entry for user-defined characters.
     (
         flat!(jis0208: (8837, &[(8836, 0x3000)])),
         Some(NotEmpty(Jis0208, 8836)),
     ),
-    // katakana has all its entries or none
+    // Katakana has all its entries or none.
     (flat!(katakana: (62, &[])), Some(KatakanaLength)),
     (flat!(katakana: (63, &[])), None),
 ];
@@ -89,7 +89,7 @@ const PRIVATE_USE: &[Faulty] = &[
         flat!(gb18030_pua: &[(0xE000, 0xA6, 0x7F)]),
         Some(PuaBytes(0)),
     ),
-    // at one place the order comes first, then the scalar
+    // At one place the order is checked first, then the scalar.
     (
         flat!(gb18030_pua: &[(0xE000, 0xA6, 0xD9), (0xDFFF, 0xA6, 0x7F)]),
         Some(PuaOrder(1)),
@@ -220,7 +220,7 @@ fn the_words_of_faults_indexes_and_parts(rt: HostRuntime) {
     }
 }
 
-/// Entries of a single-byte table by their places, and the fault of these alone.
+/// Entries of a single-byte table by their places, and the fault of the table.
 const ENTRIES_OF_BYTES: &[(&[(usize, u16)], Option<TableError>)] = &[
     (&[], None),
     (&[(3, 0x7F)], Some(BadByteEntry(3))),

@@ -1,5 +1,5 @@
 //! UTF-8 and UTF-16: calls and runs of decoders into either.
-// What a call ensures stays behind in these functions: their callers do not state it, and are cheap to prove.
+// What a call ensures stays inside these functions: their callers do not state it, and are fast to prove.
 use crate::events::Found;
 use legacy_base::DecodeEvent::Scalar;
 use legacy_base::{DecoderResult, RawDecoder};
@@ -41,7 +41,7 @@ pub(crate) trait Form {
         lengths: &[usize],
     ) -> Result<DecodeRun, RunError>;
 
-    /// Makes a call with so many code units free, and adds the scalars that it writes to what was found.
+    /// Makes a call with limited room, and adds the scalars that it writes to what was found.
     fn find<D: RawDecoder>(
         decoder: &mut D,
         source: &[u8],

@@ -12,7 +12,7 @@ use legacy_decoders::Utf16Decoder;
 use std::process::Abort;
 
 impl Tested for Utf16Decoder {
-    /// Whether the greater byte of a unit comes first.
+    /// Whether the byte order is big-endian.
     type Of = bool;
 
     fn made(of: bool) -> Utf16Decoder {
@@ -138,7 +138,7 @@ fn decodes_units_in_the_byte_order_that_is_named(rt: HostRuntime) {
     decode_each(&rt, CASES);
 }
 
-/// Looks for the events of these units, and of an odd byte where there is one, in either byte order.
+/// Compares the events of these units, and of an odd byte if there is one, in either byte order.
 fn in_either_order(
     rt: &(impl AllocGlobal + Abort),
     units: &[u16],
@@ -222,7 +222,9 @@ const EVENTS_OF_RUNS: &[DecodeEvent] = &[
     bad!(48, 1),
 ];
 
-/// Units of one, two and three bytes in UTF-8 in turn, a pair at 19 and 20, and a lone surrogate at 39.
+/// Units of one, two and three bytes in UTF-8 in turn.
+///
+/// A surrogate pair is at 19 and 20, and an unpaired surrogate at 39.
 const UNITS: &[u16] = &[
     0x41, 0xE9, 0x4E00, 0x41, 0xE9, 0x4E00, 0x41, 0xE9, 0x4E00, 0x41, 0xE9, 0x4E00, 0x41, 0xE9,
     0x4E00, 0x41, 0xE9, 0x4E00, 0x41, 0xD83D, 0xDCA9, 0x41, 0xE9, 0x4E00, 0x41, 0xE9, 0x4E00, 0x41,

@@ -23,7 +23,7 @@ pub encode_4 : (c : ℕ) → 65536 ≤ c → encode c ≡ (240 + c / 262144) ∷
 unfolding encode
 encode_4 c a = let b : 128 ≤ c = omega arith in let d : 2048 ≤ c = omega arith in rw (le-ltb c 128 b, le-ltb c 2048 d, le-ltb c 65536 a) refl
 
--- a scalar of so many bytes in UTF-8 lies below a power of two
+-- a scalar of two or three bytes in UTF-8 is below a power of two
 pub two_below : (c : ℕ) → unit_count Utf8 c ≡ 2 → c < 2048
 two_below c e = elim (cases_lt c 2048) [
   | inl a ↦ a
@@ -58,19 +58,19 @@ unfolding encode
 length-code_units-bmp Utf16 c h = grind (arith, nat_tests)
 length-code_units-bmp Utf8 c h = grind (arith, nat_tests)
 
--- any scalar fits into the room for any
+-- any scalar fits into the room for any scalar
 pub length-code_units-wide : (form : EncodingForm) (c : ℕ) → length (code_units form c) ≤ wide_room form
 unfolding encode
 length-code_units-wide Utf16 c = grind (arith, nat_tests)
 length-code_units-wide Utf8 c = grind (arith, nat_tests)
 
--- an ASCII scalar takes one unit
+-- an ASCII scalar has one code unit
 pub length-code_units-ascii : (form : EncodingForm) (c : ℕ) → c < 128 → length (code_units form c) ≡ 1
 unfolding encode
 length-code_units-ascii Utf16 c h = grind (arith, nat_tests)
 length-code_units-ascii Utf8 c h = grind (arith, nat_tests)
 
--- ---- more scalars behind
+-- ---- more scalars at the end
 
 pub all_code_units-append : (form : EncodingForm) (xs ys : List ℕ) → all_code_units form (xs ++ ys) ≡ all_code_units form xs ++ all_code_units form ys
 all_code_units-append form xs ys = flat_map-append (code_units form) xs ys

@@ -1,4 +1,4 @@
--- Bits that tell where scalars begin, and the scalars of one and three bytes of UTF-8 between them.
+-- Bits that say where scalars begin, and the scalars of one and three bytes of UTF-8 between them.
 use Rattle.std.proofs.Common.{◌≡◌, ◌↔◌, ◌∙◌, ℕ, zero, suc, ◌+◌, ◌-◌, ◌*◌, ◌/◌, ◌%◌, ◌^◌, ◌≤◌, ◌<◌, List, [], ◌∷◌, ◌++◌, length, get_or, Bool, true, false, cond, leb, map, max}
 use Rattle.std.proofs.Common.{take, drop, replicate, refl, sym, ap, subst, arith, append_assoc, append-nil, length-append, add-zero, slice_set, inl, inr, w8, w32, Fits, bit_and, bit_or}
 use Rattle.std.specs.Int.{bit_at, bit_not, trailing_zeros}
@@ -33,7 +33,7 @@ module _ (n : ℕ) (some : 0 < n) (fits : n < 2 ^ 32) where
   at_lowest : (trailing_zeros w32 n < 32) × (bit_at n (trailing_zeros w32 n) ≡ 1) × ((i : ℕ) → i < trailing_zeros w32 n → bit_at n i ≡ 0)
   at_lowest = bit_at-trailing_zeros w32 n some fits
 
-  -- the number is what stands above its lowest bit, and this bit
+  -- the number is its bits above the lowest one that is set, and that bit
   cut : n ≡ n / 2 ^ (trailing_zeros w32 n + 1) * 2 ^ (trailing_zeros w32 n + 1) + n % 2 ^ (trailing_zeros w32 n + 1)
   cut = omega (arith, pow_pos (T + 1))
 
@@ -54,7 +54,7 @@ module _ (n : ℕ) (some : 0 < n) (fits : n < 2 ^ 32) where
   less_is : n - 1 ≡ n / 2 ^ (trailing_zeros w32 n + 1) * 2 ^ (trailing_zeros w32 n + 1) + (2 ^ trailing_zeros w32 n - 1)
   less_is = omega (arith, cut, low_is, pow_pos T)
 
-  -- without it nothing is left up to it
+  -- without the lowest bit, no bit up to it is set
   pub lowest_gone : (k : ℕ) → k ≤ trailing_zeros w32 n → bit_at (bit_and n (n - 1)) k ≡ 0
   lowest_gone k le = elim (cases_lt k T) [
     | inl l ↦ omega (arith, bit_at_and n (n - 1) k, at_lowest.2 k l)
@@ -65,7 +65,7 @@ module _ (n : ℕ) (some : 0 < n) (fits : n < 2 ^ 32) where
         omega (arith, bit_at_and n (n - 1) k, gone)
   ]
 
-  -- and all above it stays
+  -- all bits above it are unchanged
   pub others_stay : (k : ℕ) → trailing_zeros w32 n < k → bit_at (bit_and n (n - 1)) k ≡ bit_at n k
   others_stay k l =
       let below : 2 ^ T - 1 < 2 ^ (T + 1) = omega (arith, twice, pow_pos T) in
@@ -75,7 +75,7 @@ module _ (n : ℕ) (some : 0 < n) (fits : n < 2 ^ 32) where
 
 -- ---- the bits of starts
 
--- the mask of the lanes that are not below x
+-- the mask of the lanes that are at least x
 abbrev pub mask_from : ℕ → ℕ → List ℕ → ℕ
 mask_from x lanes v = mask_l (map (top 7) (zip2 (λ a b. cond (leb a b) 255 0) (replicate lanes x) v)) % 2 ^ 64
 
@@ -111,7 +111,7 @@ starts_from byte p l r past leads few few_leads is = (
   ]),
 )
 
--- a bit that is not set for a byte from 128 on, or set for one from 192 on
+-- a bit that is not set for a byte of at least 128, or set for one of at least 192
 pub starts_bit : (v : List ℕ) → length v ≡ 32 → (k : ℕ) → k < 32
     → (bit_at (bit_or (bit_not w32 (mask_from 128 32 v)) (mask_from 192 32 v)) k ≡ 1) ↔ IsStart (get_or v k 0)
 starts_bit v long k h =
@@ -140,7 +140,7 @@ lane n bytes k are long h =
     get_or_wider 256 2 65536 n bytes k refl (Each1-from_get_or (λ x. x < 256) bytes 0 (λ i l. are i (omega arith))) h
     ∙ pair (drop (2 * k) bytes) rest ∙ rw (high, low, same) refl
 
--- one lane more of two lists of bytes
+-- one more lane of two lists of bytes
 pub filled : (P : ℕ → ℕ → Type 0) (lows highs : List ℕ) (k low high : ℕ) → k < length lows → k < length highs → ((j : ℕ) → j < k → P j (get_or lows j 0 + 256 * get_or highs j 0))
     → P k (low + 256 * high) → (j : ℕ) → j < k + 1 → P j (get_or (slice_set lows k low) j 0 + 256 * get_or (slice_set highs k high) j 0)
 filled P lows highs k low high a b before here j h = elim (cases_lt j k) [
@@ -152,7 +152,7 @@ filled P lows highs k low high a b before here j h = elim (cases_lt j k) [
 pub sixteenth : (bytes : List ℕ) (place k : ℕ) → k < 16 → get_or (take 16 (drop place bytes)) k 0 ≡ get_or bytes (place + k) 0
 sixteenth bytes place k h = get_or-take 16 (drop place bytes) k 0 h ∙ get_or-drop place bytes k 0
 
--- sixteen bytes with their highest bits turned over
+-- sixteen bytes with inverted highest bits
 pub turned_is : (v : List ℕ) → length v ≡ 16 → (k : ℕ) → k < 16 → get_or (zip2 (λ a b. (a + b) % 256) v (replicate 16 128)) k 0 ≡ (get_or v k 0 + 128) % 256
 turned_is v long k h =
     let count : length (replicate {A = ℕ} 16 128) ≡ 16 = refl in
@@ -164,7 +164,7 @@ tails_is v long k h =
     let count : length (replicate {A = ℕ} 16 63) ≡ 16 = refl in
     get_or-zip2 bit_and v (replicate 16 63) k 0 0 0 (omega (arith, long)) (omega (arith, count)) ∙ ap (λ b. bit_and (get_or v k 0) b) (get_or-replicate 16 k 63 0 h) ∙ and_mask (get_or v k 0) 6
 
--- a unit is made of them
+-- a code unit depends only on these bits
 pub of_tails : (first second third unit : ℕ) → IsUnitOf first (second % 64) (third % 64) unit → IsUnitOf first second third unit
 of_tails first second third unit made lone = elim (made lone) [
   | inl one ↦ inl one
@@ -178,7 +178,7 @@ below_256 v fits i = elim (cases_lt i (length v)) [
   | inr l ↦ omega (arith, get_or_past v i 0 l)
 ]
 
--- the entries of two lists of sixteen in turn, n of each from a on
+-- the interleaved entries of two lists of sixteen, n of each from `a` on
 abbrev pub woven : ℕ → ℕ → List ℕ → List ℕ
 woven zero a xs = []
 woven (suc n) a xs = get_or xs a 0 ∷ get_or xs (a + 16) 0 ∷ woven n (suc a) xs
@@ -229,11 +229,11 @@ module _ (lows highs : List ℕ) (count : length lows ≡ 16) (are_low : (i : �
       let e : 0 + k ≡ k = omega arith in
       subst (λ i. get_or (digits_l 65536 8 (number_l 256 (woven 8 0 (lows ++ highs)))) k 0 ≡ get_or lows i 0 + 256 * get_or highs i 0) e (joined_lane 0 k (omega arith) h)
 
--- what stands up to a place is not changed by two vectors that are stored from it on
+-- two vectors that are stored from a place on change nothing before it
 pub stored_before : (all front back : List ℕ) (at k : ℕ) → k < at → get_or (put_chunk (at + 8) (put_chunk at all front) back) k 0 ≡ get_or all k 0
 stored_before all front back at k h = get_or-put_chunk_below (at + 8) (put_chunk at all front) back k 0 (omega arith) ∙ get_or-put_chunk_below at all front k 0 h
 
--- and they stand there
+-- they are at that place
 pub stored_at : (P : ℕ → ℕ → Type 0) (all front back : List ℕ) (at : ℕ) → length front ≡ 8 → length back ≡ 8 → at + 16 ≤ length all
     → ((k : ℕ) → k < 8 → P k (get_or front k 0)) → ((k : ℕ) → k < 8 → P (8 + k) (get_or back k 0))
     → (k : ℕ) → k < 16 → P k (get_or (put_chunk (at + 8) (put_chunk at all front) back) (at + k) 0)
@@ -247,7 +247,7 @@ stored_at P all front back at long long_back room first others k h = elim (cases
       (subst (λ n. P n (get_or back (k - 8) 0)) same (others (k - 8) (omega arith)))
 ]
 
--- sixteen entries, and sixteen behind them
+-- sixteen entries, and sixteen after them
 pub both_halves : (P : ℕ → ℕ → Type 0) (front all : List ℕ) → ((k : ℕ) → k < 16 → get_or all k 0 ≡ get_or front k 0) → ((k : ℕ) → k < 16 → P k (get_or front (0 + k) 0))
     → ((k : ℕ) → k < 16 → P (16 + k) (get_or all (16 + k) 0)) → (k : ℕ) → k < 32 → P k (get_or all k 0)
 both_halves P front all same first others k h = elim (cases_lt k 16) [
@@ -297,7 +297,7 @@ module _ (text : List ℕ) (place : ℕ) (inside : place < length text) (u : is_
     ]
   ]
 
-  -- and no other byte of it is one
+  -- no other byte of the scalar is such a byte
   pub no_start : (k : ℕ) → 0 < k → k < unit_count Utf8 (get_or (chars (drop place text)) 0 0) → IsStart (get_or text (place + k) 0) → ⊥
   no_start k some_k few start = elim (cases_lt C 128) [
     | inl a ↦ omega (arith, ap length (encode_1 C a))
@@ -337,7 +337,7 @@ module _ (text : List ℕ) (place : ℕ) (inside : place < length text) (u : is_
     ]
   ]
 
-  -- the unit of a place where a scalar begins is this scalar, if it is none of a surrogate's
+  -- the code unit at the beginning of a scalar is this scalar, if it is not a surrogate
   pub unit_is : place + 2 ≤ length text → (unit : ℕ) → IsUnitAt text place unit → IsNoSurrogate unit → unit ≡ get_or (chars (drop place text)) 0 0
   unit_is two unit made lone = elim (made lone) [
     | inl one ↦
@@ -348,7 +348,7 @@ module _ (text : List ℕ) (place : ℕ) (inside : place < length text) (u : is_
         three.2 ∙ m.made
   ]
 
--- the next place at which a scalar begins is that behind the scalar
+-- the next place at which a scalar begins is the one after the scalar
 next_is : (text : List ℕ) (start p q : ℕ) → start + 32 ≤ length text → p < q → q < 32 → is_utf8 (drop (start + p) text) ≡ true → IsStart (get_or text (start + q) 0)
     → ((j : ℕ) → p < j → j < q → IsStart (get_or text (start + j) 0) → ⊥) → start + q ≡ start + p + unit_count Utf8 (get_or (chars (drop (start + p) text)) 0 0)
 next_is text start p q long more few u at_q none =
@@ -373,11 +373,11 @@ next_is text start p q long more few u at_q none =
 one_count : (c : ℕ) → total_unit_count Utf8 (c ∷ []) ≡ unit_count Utf8 c
 one_count c = ap length (append-nil (code_units Utf8 c))
 
--- no units were read yet
+-- no code units were read yet
 units_none : (text : List ℕ) (start : ℕ) → start ≤ length text → is_utf8 (drop start text) ≡ true → ReadsUnits text start [] start
 units_none text start within u = record { is_text = u; within = within; front = λ _. refl; passed = λ _. sym (add-zero start) }
 
--- one unit more
+-- one more code unit
 units_more : (text : List ℕ) (start : ℕ) (units : List ℕ) (place c behind unit : ℕ) → ReadsUnits text start units place → ReadsScalar text place c behind
     → (IsNoSurrogate unit → unit ≡ c) → ReadsUnits text start (units ++ unit ∷ []) behind
 units_more text start units place c behind unit before r is = record {
@@ -400,7 +400,7 @@ units_more text start units place c behind unit before r is = record {
     last : AreLone (units ++ unit ∷ []) → IsNoSurrogate unit
     last lone = subst IsNoSurrogate (get_or-append-add units (unit ∷ []) 0 0) (lone (length units + 0) (omega (arith, long)))
 
--- where units were read up to the lowest bit, and the bits from it on tell where scalars begin
+-- code units were read up to the lowest bit, and the bits from there on say where scalars begin
 pub record StandsBehind (text : List ℕ) (start : ℕ) (units : List ℕ) (bits : ℕ) : Type 0 where
   pub reads : ReadsUnits text start units (start + trailing_zeros w32 bits)
   pub starts : (k : ℕ) → trailing_zeros w32 bits ≤ k → k < 32 → (bit_at bits k ≡ 1) ↔ IsStart (get_or text (start + k) 0)

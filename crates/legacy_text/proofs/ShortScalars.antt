@@ -1,4 +1,4 @@
--- Runs of scalars that were written as a byte each, and the scalars of one and two bytes of UTF-8.
+-- Runs of scalars that were written as one byte each, and the scalars of one and two bytes of UTF-8.
 use Rattle.std.proofs.Common.{◌≡◌, ◌∙◌, ℕ, ◌+◌, ◌-◌, ◌*◌, ◌/◌, ◌%◌, ◌≤◌, ◌<◌, List, [], ◌∷◌, ◌++◌, length, get_or, Bool, true, false, ◌&&◌}
 use Rattle.std.proofs.Common.{take, drop, refl, sym, ap, subst, arith, append_assoc, append-nil, length-append, length-drop, add-zero, inl, inr}
 use Rattle.std.proofs.lemmas.Bool.{cases_lt}
@@ -17,7 +17,7 @@ use Rattle.legacy_text.proofs.UnitCopies.{writes_none}
 
 -- ---- runs
 
--- bytes for scalars, and behind them bytes for the next ones
+-- bytes for scalars, and then bytes for the next ones
 codes_append : (gives : ℕ → ℕ → Type 0) (scalars old mid new : List ℕ) (n m : ℕ) → n ≤ length scalars
     → WritesCodes gives scalars n old mid → WritesCodes gives (drop n scalars) m mid new → WritesCodes gives scalars (n + m) old new
 codes_append gives scalars old mid new n m few a b = record {
@@ -68,7 +68,7 @@ scalars_one gives text place scalar behind byte old new r g e = record {
   });
 }
 
--- scalars, and behind them the next ones
+-- scalars, and then the next ones
 pub scalars_append : (gives : ℕ → ℕ → Type 0) (text : List ℕ) (start n place m behind : ℕ) (old mid new : List ℕ) → WritesScalars gives text start n place old mid
     → WritesScalars gives text place m behind mid new → WritesScalars gives text start (n + m) behind old new
 scalars_append gives text start n place m behind old mid new a b =
@@ -127,7 +127,7 @@ module _ (text : List ℕ) (place : ℕ) (within : place + 2 ≤ length text) (u
   tells : TellsCount (get_or (chars (drop place text)) 0 0) (get_or text place 0)
   tells = utf8_tells text place C u (first_some Left some)
 
-  -- ASCII is itself
+  -- ASCII is its own scalar
   pub reads_ascii : get_or text place 0 < 128 → ReadsScalar text place (get_or text place 0) (place + 1)
   reads_ascii h =
       let one = tells.one h in
@@ -144,7 +144,7 @@ module _ (text : List ℕ) (place : ℕ) (within : place + 2 ≤ length text) (u
         ]
       ]
 
-  -- two bytes hold eleven bits of it
+  -- two bytes contain the eleven bits of a scalar
   pub reads_pair : 128 ≤ get_or text place 0
       → (0x3080 ≤ get_or text place 0 * 64 + get_or text (place + 1) 0) × ReadsScalar text place (get_or text place 0 * 64 + get_or text (place + 1) 0 - 0x3080) (place + 2)
   reads_pair h =

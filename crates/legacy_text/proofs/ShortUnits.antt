@@ -1,4 +1,4 @@
--- Units below 0x800.
+-- Code units below 0x800.
 use Rattle.std.proofs.Common.{◌≡◌, ℕ, zero, suc, ◌+◌, ◌-◌, ◌*◌, ◌/◌, ◌%◌, ◌^◌, ◌<◌, ◌≤◌, Bool, true, false, cond, ltb, leb, eqb, List, [], ◌∷◌, ◌++◌, length, get_or, map, take, replicate, bit_and, refl, sym, ap, ap₂, ◌∙◌, arith, w8, w16, Fits, All}
 use Rattle.std.proofs.lemmas.Bool.{ltb-true, ltb-false, leb-true, eqb-true, agree_below_at}
 use Rattle.std.proofs.lemmas.List.{map-append, length-map, take-take, take-map}
@@ -14,7 +14,7 @@ use Rattle.legacy_text.specs.declared.unit_rows.TheConstants.{SHORT_WRITTEN}
 use Rattle.legacy_text.specs.UnitBytes.{short_bytes, short_lanes, short_pattern, short_places, short_row, AreShort, utf8_bytes}
 use Rattle.legacy_text.proofs.UnitLanes.{of_eight, le_bytes, shuffled, each_below}
 
--- ---- two bytes of each unit
+-- ---- two bytes of each code unit
 
 short_is : (u : ℕ) → u < 65536
     → cond (top 15 (cond (ltb u 128) (2 ^ 16 - 1) 0)) u (((bit_and (u / 2 ^ 6) 31 + 192) % 2 ^ 16 + (bit_and u 63 + 128) % 2 ^ 16 * 2 ^ 8 % 2 ^ 16) % 2 ^ 16) ≡ short_bytes u
@@ -45,7 +45,7 @@ vector_short_lanes =
     ∙ le_bytes (short_bytes a ∷ short_bytes b ∷ short_bytes c ∷ short_bytes d ∷ short_bytes e ∷ short_bytes f ∷ short_bytes g ∷ short_bytes h ∷ [])
     (short_small a sa, (short_small b sb, (short_small c sc, (short_small d sd, (short_small e se, (short_small f sf, (short_small g sg, (short_small h sh, tt)))))))))
 
--- ---- which of them have one
+-- ---- the code units of one byte
 
 pub short_bits_are : (v : List ℕ) → length v ≡ 8
     → mask_l (map (top 15) (zip2 (λ a b. cond (ltb a b) (2 ^ 16 - 1) 0) v (replicate 8 128))) % 2 ^ 64 ≡ short_pattern v
@@ -160,7 +160,7 @@ short_text_of_eight =
     short_text (λ k. get_or (short_lanes (a ∷ b ∷ c ∷ d ∷ e ∷ f ∷ g ∷ h ∷ [])) k 0) 0 (a ∷ b ∷ c ∷ d ∷ e ∷ f ∷ g ∷ h ∷ []) short
     (refl, refl, (refl, refl, (refl, refl, (refl, refl, (refl, refl, (refl, refl, (refl, refl, (refl, refl, tt)))))))))
 
--- ---- a mask in which each bit is set
+-- ---- a mask with all bits set
 
 double : (bits : List Bool) → 2 ^ suc (length bits) ≡ 2 * 2 ^ length bits
 double bits = omega arith

@@ -15,8 +15,8 @@ use Rattle.std.proofs.str.Utf16.{IsPair, lone_unit_char_low, lone_unit_char_high
 use lib.Utf8.{encode, encodes, scalar, scalars}
 use Rattle.std.proofs.lemmas.List.Concat.{flat_map-append}
 use Rattle.legacy_text.specs.EncodingForm.{EncodingForm, Utf8, Utf16, code_units, unit_count, all_code_units}
-use Rattle.legacy_text.specs.declared.text_source.Next.{Next}
-use Rattle.legacy_text.specs.declared.text_source.Next.TheVariants.{End, One, Two, Three, Four}
+use Rattle.legacy_text.specs.declared.text_cursor.Next.{Next}
+use Rattle.legacy_text.specs.declared.text_cursor.Next.TheVariants.{End, One, Two, Three, Four}
 use Rattle.legacy_text.specs.NextScalars.{StandsAt, IsSized, IsNext}
 use Rattle.legacy_text.specs.Texts.{unit_scalars, IsUnitBoundary}
 use Rattle.legacy_text.proofs.CodeUnits.{encode_1, encode_2, encode_3, encode_4, two_above, two_below, three_above, three_below, utf16_1, utf16_2}

@@ -1,4 +1,4 @@
--- What stands behind blocks of code units that were written as bytes.
+-- The bytes written for blocks of code units.
 use Rattle.std.proofs.Common.{◌≡◌, ◌∙◌, ℕ, suc, ◌+◌, ◌-◌, ◌≤◌, ◌<◌, List, [], ◌∷◌, ◌++◌, length, get_or}
 use Rattle.std.proofs.Common.{take, drop, map, refl, sym, ap, subst, arith, append_assoc, append-nil, length-append, length-drop, IsAscii, inl, inr}
 use Rattle.std.proofs.lemmas.Bool.{cases_lt}
@@ -13,12 +13,12 @@ use Rattle.legacy_text.proofs.Texts.{IsFront, front_of, replaced}
 
 -- ---- blocks
 
--- so many units were written, and are no surrogates
+-- the first `count` code units were written, and are no surrogates
 pub record GoesOn (gives : ℕ → ℕ → Type 0) (units : List ℕ) (count : ℕ) (old new : List ℕ) : Type 0 where
   pub lone : (k : ℕ) → k < count → IsNoSurrogate (get_or units k 0)
   pub writes : WritesCodes gives units count old new
 
--- those of a block behind others
+-- the code units of a block after others
 pub block_behind : (gives : ℕ → ℕ → Type 0) (units old new front : List ℕ) (at copied r : ℕ) (block marks : List ℕ)
     → copied + 16 ≤ length units → r ≤ 16 → length block ≡ 16
     → ((k : ℕ) → k < 16 → get_or marks k 0 < 128 → IsNoSurrogate (get_or (take (length units - copied) (drop copied units)) k 0)
@@ -62,7 +62,7 @@ block_behind gives units old new front at copied r block marks within few long c
 pub writes_none : (gives : ℕ → ℕ → Type 0) (units old new : List ℕ) → new ≡ old → WritesCodes gives units 0 old new
 writes_none gives units old new e = record { bytes = []; new_is = e ∙ sym (append-nil old); count = refl; each = λ k h. absurd (omega arith) }
 
--- ---- units that are no surrogates
+-- ---- code units that are not surrogates
 
 -- each of them is its own scalar
 lone_scalars : (front others : List ℕ) → ((k : ℕ) → k < length front → IsNoSurrogate (get_or front k 0)) → unit_scalars (front ++ others) ≡ front ++ unit_scalars others
@@ -80,7 +80,7 @@ lone_scalars (u ∷ front) others lone =
           ∙ ap (λ o. replaced o ∷ unit_scalars (front ++ others)) (lone_unit_char_high u high) ∙ ap (λ l. u ∷ l) rest
     ]
 
--- units are one code unit each
+-- a scalar of 16 bits is one code unit
 narrow_units : (front : List ℕ) → ((k : ℕ) → k < length front → get_or front k 0 < 65536) → total_unit_count Utf16 front ≡ length front
 narrow_units [] b = refl
 narrow_units (u ∷ front) b =

@@ -1,4 +1,4 @@
--- Vectors lane by lane, where a vector is the list of its lanes written out.
+-- Vectors lane by lane: a vector is written out as the list of its lanes.
 use Rattle.std.proofs.Common.{◌≡◌, ℕ, zero, suc, ◌+◌, ◌-◌, ◌*◌, ◌/◌, ◌%◌, ◌^◌, ◌<◌, ◌≤◌, Bool, true, false, cond, ltb, leb, eqb, List, [], ◌∷◌, ◌++◌, length, get_or, map, take, drop, replicate, bit_and, refl, sym, ap, ap₂, ◌∙◌, arith, w8, w16, Fits, ◌&&◌, mod-lt, zero-lt-suc, mul_assoc}
 use Rattle.std.proofs.lemmas.Bool.{ltb-true, ltb-false, leb-true, eqb-true, lt-leb, and_parts, agree_below_at}
 use Rattle.std.proofs.lemmas.List.{map-append, append_assoc, length-take-le, length-drop, take-take, take-append-drop, take-append-le, take-map}
@@ -15,7 +15,7 @@ use Rattle.legacy_text.specs.UnitBytes.{last_byte, front_bytes, lanes, flags, pa
 
 -- ---- eight lanes
 
--- what holds of any eight lanes that fit holds of a vector
+-- a property of any eight lanes that fit is a property of a vector
 pub of_eight : (P : List ℕ → Type 0) → ((a b c d e f g h : ℕ) → a < 65536 → b < 65536 → c < 65536 → d < 65536 → e < 65536 → f < 65536 → g < 65536 → h < 65536
     → P (a ∷ b ∷ c ∷ d ∷ e ∷ f ∷ g ∷ h ∷ [])) → (v : List ℕ) → length v ≡ 8 → Each1 (Fits w16) v → P v
 of_eight P p [] n s = absurd (omega arith)
@@ -30,12 +30,12 @@ of_eight P p (a ∷ b ∷ c ∷ d ∷ e ∷ f ∷ g ∷ h ∷ []) n s =
     p a b c d e f g h s.0.fits s.1.0.fits s.1.1.0.fits s.1.1.1.0.fits s.1.1.1.1.0.fits s.1.1.1.1.1.0.fits s.1.1.1.1.1.1.0.fits s.1.1.1.1.1.1.1.0.fits
 of_eight P p (a ∷ b ∷ c ∷ d ∷ e ∷ f ∷ g ∷ h ∷ i ∷ v) n s = absurd (omega arith)
 
--- and where it is said lane by lane
+-- the same for a property of each lane
 pub each_of_eight : (f g : ℕ → ℕ) → ((u : ℕ) → u < 65536 → f u ≡ g u) → (v : List ℕ) → Each1 (Fits w16) v → map f v ≡ map g v
 each_of_eight f g e [] s = refl
 each_of_eight f g e (u ∷ v) s = ap₂ (λ (x : ℕ) (y : List ℕ). x ∷ y) (e u s.0.fits) (each_of_eight f g e v s.1)
 
--- ---- the bytes of one unit
+-- ---- the bytes of one code unit
 
 pub last_is : (u : ℕ) → u < 65536 → cond (top 15 (cond (ltb u 128) (2 ^ 16 - 1) 0)) u ((bit_and u 63 + 128) % 2 ^ 16) ≡ last_byte u
 last_is u small = go (ltb u 128)
@@ -58,7 +58,7 @@ front_is u small = go (ltb u 2048) (bit_and (u * 2 ^ 2 % 2 ^ 16) 16128) middle
     go true m e = omega arith
     go false m e = omega arith
 
--- which of them are written, and in what order
+-- the bytes that are written, in order
 abbrev pub chosen : Bool → Bool → ℕ → ℕ → ℕ → List ℕ
 chosen one two last first middle = cond one (last ∷ []) (cond two (middle ∷ last ∷ []) (first ∷ middle ∷ last ∷ []))
 
@@ -120,7 +120,7 @@ front_small u small = go (ltb u 2048) refl
     go true e = omega (arith, ltb-true _ _ e)
     go false e = omega arith
 
--- ---- vectors of eight units
+-- ---- vectors of eight code units
 
 pub vector_last : (v : List ℕ) → length v ≡ 8 → Each1 (Fits w16) v
     → sel_l (map (top 15) (zip2 (λ a b. cond (ltb a b) (2 ^ 16 - 1) 0) v (replicate 8 128))) v
@@ -144,7 +144,7 @@ vector_front =
     (λ a b c d e f g h sa sb sc sd se sf sg sh t.
     front_is a sa t ∷ front_is b sb t ∷ front_is c sc t ∷ front_is d sd t ∷ front_is e se t ∷ front_is f sf t ∷ front_is g sg t ∷ front_is h sh t ∷ [])
 
--- ---- the four bytes of each unit
+-- ---- the four bytes of each code unit
 
 pub vector_lanes : (v : List ℕ) → length v ≡ 8 → Each1 (Fits w16) v
     → (digits_l 256 16 (number_l 65536 (pick_l 0 (map last_byte v ++ map front_bytes v) (0 ∷ 8 ∷ 1 ∷ 9 ∷ 2 ∷ 10 ∷ 3 ∷ 11 ∷ []))) ≡ lanes (take 4 v))
@@ -159,9 +159,9 @@ vector_lanes =
           (last_small e se, (front_small e se, (last_small f sf, (front_small f sf, (last_small g sg, (front_small g sg, (last_small h sh, (front_small h sh, tt)))))))),
     ))
 
--- ---- which of them are written, as bits
+-- ---- the bytes that are written, as bits
 
--- a byte past 0x7F in the low half of a unit below 0x80, and one in the high half of a unit below 0x800
+-- a byte past 0x7F in the low half of a code unit below 0x80, and one in the high half of a code unit below 0x800
 abbrev pub marks : ℕ → ℕ
 marks u = (cond (top 15 (cond (ltb u 128) (2 ^ 16 - 1) 0)) 255 0 + cond (top 15 (cond (ltb u 2048) (2 ^ 16 - 1) 0)) 65280 0) % 2 ^ 16
 
@@ -305,7 +305,7 @@ written_places xs r h =
     ap (take (length (places 0 4 r))) (shuffled xs 0 (row r) (omega (arith, row_long r h)) (row_within r h))
     ∙ take-map (λ j. get_or xs j 0) (length (places 0 4 r)) (row r) ∙ ap (map (λ j. get_or xs j 0)) (row_begins r h)
 
--- a vector that is stored at a place: what stands up to within it
+-- a vector that is stored at a place: the contents up to a place within it
 pub stored : (at k : ℕ) (xs block : List ℕ) → length block ≡ 16 → k ≤ 16 → at + 16 ≤ length xs → take (at + k) (put_chunk at xs block) ≡ take at xs ++ take k block
 stored at k xs block long h room =
     let front : length (take at xs) ≡ at = length-take-le at xs (omega arith) in
@@ -317,7 +317,7 @@ stored at k xs block long h room =
 
 -- ---- the bytes that are written are the text
 
--- a list of bytes has those of the lanes of these units from a place on
+-- a list of bytes has those of the lanes of these code units from a place on
 abbrev pub Reads : (ℕ → ℕ) → ℕ → List ℕ → Type 0
 Reads f base [] = Unit {0}
 Reads f base (u ∷ us) = (f base ≡ last_byte u % 256) × (f (base + 2) ≡ front_bytes u % 256) × (f (base + 3) ≡ front_bytes u / 256) × Reads f (base + 4) us
@@ -350,7 +350,7 @@ text_written f base (u ∷ us) small reads =
 pub reads_lanes : (a b c d : ℕ) → Reads (λ k. get_or (lanes (a ∷ b ∷ c ∷ d ∷ [])) k 0) 0 (a ∷ b ∷ c ∷ d ∷ [])
 reads_lanes a b c d = (refl, refl, refl, (refl, refl, refl, (refl, refl, refl, (refl, refl, refl, tt))))
 
--- both halves of eight units
+-- both halves of eight code units
 pub text_of_eight : (v : List ℕ) → length v ≡ 8 → Each1 (Fits w16) v
     → (map (λ k. get_or (lanes (take 4 v)) k 0) (places 0 4 (pattern (take 4 v))) ≡ utf8_bytes (take 4 v))
     × (map (λ k. get_or (lanes (drop 4 v)) k 0) (places 0 4 (pattern (drop 4 v))) ≡ utf8_bytes (drop 4 v))
@@ -365,7 +365,7 @@ text_of_eight =
 pub joined_text : (us : List ℕ) → utf8_bytes (take 4 us) ++ utf8_bytes (drop 4 us) ≡ utf8_bytes us
 joined_text us = sym (flat_map-append encode_utf8 (take 4 us) (drop 4 us)) ∙ ap utf8_bytes (take-append-drop 4 us)
 
--- two stores, one behind the other
+-- two stores, one after the other
 pub both_stored : (old old_front : List ℕ) (front back : List ℕ) (p q : ℕ) (v new : List ℕ) → length v ≡ 8 → Each1 (Fits w16) v
     → front ≡ lanes (take 4 v) → back ≡ lanes (drop 4 v) → p ≡ pattern (take 4 v) → q ≡ pattern (drop 4 v)
     → old_front ≡ old ++ map (λ k. get_or front k 0) (places 0 4 p)
@@ -377,7 +377,7 @@ both_stored old old_front front back p q v new long fits fe be pe qe first secon
     ∙ ap (λ (l : List ℕ). old ++ l)
     (ap₂ (λ (x y : List ℕ). x ++ y) ((λ i. map (λ k. get_or (fe i) k 0) (places 0 4 (pe i))) ∙ t.0) ((λ i. map (λ k. get_or (be i) k 0) (places 0 4 (qe i))) ∙ t.1) ∙ joined_text v)
 
--- eight units more
+-- eight more code units
 pub next_text : (g : ℕ) (old before next units : List ℕ) → before ≡ old ++ utf8_bytes (take (8 * g) units)
     → next ≡ before ++ utf8_bytes (take 8 (drop (8 * g) units)) → next ≡ old ++ utf8_bytes (take (8 * (g + 1)) units)
 next_text g old before next units first second =

@@ -1,4 +1,4 @@
--- Eight units that a destination writes at once, none of them a surrogate.
+-- Eight code units that a destination writes at once, none of them a surrogate.
 use Rattle.std.proofs.Common.{◌≡◌, ◌∙◌, ℕ, zero, suc, ◌+◌, ◌-◌, ◌≤◌, ◌<◌, List, [], ◌∷◌, ◌++◌, length, take, get_or, refl, sym, ap, ap₂, arith, append-nil, length-append, w16, Fits}
 use Rattle.std.proofs.lemmas.List.{length-take-le}
 use Rattle.std.proofs.lemmas.List.{flat_map_more}
@@ -7,7 +7,7 @@ use lib.Lanes.{Each1}
 use Rattle.legacy_text.specs.EncodingForm.{EncodingForm, Utf8, Utf16, code_units, all_code_units, unit_count, total_unit_count}
 use Rattle.legacy_text.proofs.CodeUnits.{utf16_1, length-code_units-bmp, total_unit_count-append}
 
--- what is free after some units were written up to a place
+-- the free code units after some were written up to a place
 pub free-after : (at result : ℕ) (old new units : List ℕ) → length new ≡ length old → at ≤ length old → result ≤ length old
     → take result new ≡ take at old ++ units → length new - result + length units ≡ length old - at
 free-after at result old new units same before after written =
@@ -16,12 +16,12 @@ free-after at result old new units same before after written =
     let c : length (take result new) ≡ length (take at old) + length units = ap length written ∙ length-append (take at old) units in
     omega arith
 
--- units that fit into 16 bits are their own units in UTF-16
+-- code units of 16 bits are their own code units in UTF-16
 pub own-units : (units : List ℕ) → Each1 (Fits w16) units → all_code_units Utf16 units ≡ units
 own-units [] fits = refl
 own-units (u ∷ units) fits = ap₂ (λ (x y : List ℕ). x ++ y) (utf16_1 u fits.0.fits) (own-units units fits.1)
 
--- one unit more
+-- one more code unit
 pub taken-more : (units : List ℕ) (k : ℕ) → k < length units → take (k + 1) units ≡ take k units ++ get_or units k 0 ∷ []
 taken-more units k within = let n : k + 1 ≡ suc k = omega arith in ap (λ m. take m units) n ∙ take-suc units k 0 within
 
@@ -39,7 +39,7 @@ more-units form units k within =
     ap (total_unit_count form) (taken-more units k within) ∙ total_unit_count-append form (take k units) (u ∷ [])
     ∙ ap (λ (l : List ℕ). total_unit_count form (take k units) + length l) (append-nil (code_units form u))
 
--- a unit of 16 bits has three code units at most
+-- a scalar of 16 bits has at most three code units
 pub few-units : (form : EncodingForm) (u : ℕ) → u < 65536 → unit_count form u ≤ 3
 few-units Utf8 u below = length-code_units-bmp Utf8 u below
 few-units Utf16 u below = let e : unit_count Utf16 u ≤ 1 = length-code_units-bmp Utf16 u below in omega arith

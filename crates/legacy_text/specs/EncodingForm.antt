@@ -11,7 +11,7 @@ abbrev pub code_units : EncodingForm → ℕ → List ℕ
 code_units Utf8 c = encode_utf8 c
 code_units Utf16 c = encode_utf16 c
 
--- how many code units a scalar has
+-- the number of code units of a scalar
 abbrev pub unit_count : EncodingForm → ℕ → ℕ
 unit_count form c = length (code_units form c)
 
@@ -19,16 +19,16 @@ unit_count form c = length (code_units form c)
 abbrev pub all_code_units : EncodingForm → List ℕ → List ℕ
 all_code_units form scalars = flat_map (code_units form) scalars
 
--- how many code units scalars have
+-- the number of code units of scalars
 abbrev pub total_unit_count : EncodingForm → List ℕ → ℕ
 total_unit_count form scalars = length (all_code_units form scalars)
 
--- the code units of the longest scalar up to U+FFFF, and of U+FFFD
+-- the number of code units of U+FFFD, and of the longest scalar up to U+FFFF
 abbrev pub bmp_room : EncodingForm → ℕ
 bmp_room Utf8 = 3
 bmp_room Utf16 = 1
 
--- the code units of the longest scalar
+-- the number of code units of the longest scalar
 abbrev pub wide_room : EncodingForm → ℕ
 wide_room Utf8 = 4
 wide_room Utf16 = 2

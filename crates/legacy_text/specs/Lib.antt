@@ -1,4 +1,4 @@
--- What texts are in UTF-8 and UTF-16, and where they are read and written.
+-- Texts in UTF-8 and UTF-16, and their sources and destinations.
 pub mod EncodingForm
 pub mod Texts
 pub mod Cursor

@@ -1,18 +1,18 @@
--- Scalars of one and two bytes of UTF-8 that were written as a byte each.
+-- Scalars of one and two bytes of UTF-8 that were written as one byte each.
 use Rattle.std.specs.Prelude.{◌≡◌, ℕ, ◌+◌, ◌≤◌, List, ◌∷◌, length, take, drop, true}
 use Rattle.std.specs.Str.{chars, is_utf8}
 use Rattle.legacy_text.specs.EncodingForm.{Utf8, unit_count, total_unit_count}
 use Rattle.legacy_text.specs.UnitCodes.{WritesCodes}
 
--- The scalar at a place of a text, and the place behind it.
+-- The scalar at a place of a text, and the place after it.
 pub record ReadsScalar (text : List ℕ) (place scalar behind : ℕ) : Type 0 where
   pub left : chars (drop place text) ≡ scalar ∷ chars (drop behind text)
   pub is_text : is_utf8 (drop behind text) ≡ true
   pub within : behind ≤ length text
   pub passed : behind ≡ place + unit_count Utf8 scalar
 
--- The first n scalars from the one place of a text up to the other were written behind the old bytes, a byte that it may
--- have for each.
+-- The first n scalars between two places of a text were written after the old bytes. Each was written as a byte that it
+-- may have.
 pub record WritesScalars (gives : ℕ → ℕ → Type 0) (text : List ℕ) (start n behind : ℕ) (old new : List ℕ) : Type 0 where
   pub few : n ≤ length (chars (drop start text))
   pub left : chars (drop behind text) ≡ drop n (chars (drop start text))

@@ -1,4 +1,4 @@
--- What the sources over texts have left.
+-- The text that is left in a source.
 use Rattle.std.specs.Prelude.{ℕ, List, drop}
 use Rattle.std.specs.Str.{chars}
 use Rattle.legacy_text.specs.declared.text_source.Utf8Source.{Utf8Source}
@@ -9,7 +9,7 @@ use Rattle.legacy_text.specs.Texts.{unit_scalars}
 abbrev pub utf8_text : Utf8Source → List ℕ
 utf8_text s = s.text.now
 
--- how many of its bytes were passed
+-- the number of its bytes that were passed
 abbrev pub utf8_place : Utf8Source → ℕ
 utf8_place s = s.place
 
@@ -21,7 +21,7 @@ utf8_left s = chars (drop s.place s.text.now)
 abbrev pub utf16_units : Utf16Source → List ℕ
 utf16_units s = s.units.now
 
--- how many of them were passed
+-- the number of code units that were passed
 abbrev pub utf16_place : Utf16Source → ℕ
 utf16_place s = s.place
 

@@ -1,13 +1,12 @@
--- The scalars of a text that is handed to an encoder. Those of UTF-8 are std's `chars`.
+-- The scalars of a text that is passed to an encoder. Those of UTF-8 are std's `chars`.
 use Rattle.std.specs.Prelude.{◌≡◌, ℕ, ◌-◌, ◌<◌, ◌≤◌, List, length, slice_index, false, ◌&&◌}
 use Rattle.std.specs.Char.Utf16.{utf16_lossy_chars, is_high_surrogate, is_low_surrogate}
 
--- "Convert to scalar values": of code units of UTF-16 that are read by themselves, the pairs and the units, and U+FFFD
--- for each unpaired surrogate.
+-- "Convert to scalar values": the scalars of UTF-16 code units, with U+FFFD for each unpaired surrogate
 abbrev pub unit_scalars : List ℕ → List ℕ
 unit_scalars units = utf16_lossy_chars units
 
--- no pair of surrogates is parted at the place
+-- the place does not split a surrogate pair
 abbrev pub IsUnitBoundary : List ℕ → ℕ → Type 0
 IsUnitBoundary units place =
     (place ≤ length units)

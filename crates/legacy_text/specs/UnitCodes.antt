@@ -1,11 +1,11 @@
--- Bytes that are written for code units of UTF-16, one for each.
+-- Bytes that are written for UTF-16 code units, one for each.
 use Rattle.std.specs.Prelude.{◌≡◌, ℕ, ◌<◌, ◌≤◌, List, ◌++◌, length, slice_index}
 
--- a code unit that is no surrogate
+-- a code unit that is not a surrogate
 abbrev pub IsNoSurrogate : ℕ → Type 0
 IsNoSurrogate unit = 0xD800 ≤ unit → 0xE000 ≤ unit
 
--- Behind the old bytes stand new ones: for each of the first n scalars a byte that it may have.
+-- After the old bytes there is one new byte for each of the first n scalars, which it may have.
 pub record WritesCodes (gives : ℕ → ℕ → Type 0) (scalars : List ℕ) (n : ℕ) (old new : List ℕ) : Type 0 where
   pub bytes : List ℕ
   pub new_is : new ≡ old ++ bytes

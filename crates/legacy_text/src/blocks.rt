@@ -37,7 +37,7 @@ fn store_block(dst: &mut [u8], at: usize, block: u8x16) -> usize
 /// How many bytes at the front of a wide block are ASCII.
 #[inline(always)]
 #[tactic(auto, using(crate::proofs::Ascii::wide_count_steps))]
-fn wide_ascii_count(block: u8x64) -> usize
+pub(crate) fn wide_ascii_count(block: u8x64) -> usize
     ensures most { result ≤ 64 }
     ensures ascii { IsAscii (take result block) }
 {

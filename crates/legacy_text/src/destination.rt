@@ -8,7 +8,7 @@ ghost use Rattle.legacy_text.specs.EncodingForm.{all_code_units, total_unit_coun
 ghost use Rattle.legacy_text.specs.UnitBytes.{AreShort};
 ghost use Rattle.legacy_text.specs.EncodingForm.{bmp_room, wide_room};
 
-use crate::blocks::ascii_count;
+use crate::blocks::{ascii_count, wide_ascii_count};
 use crate::eight_units::put_eight_units;
 use crate::short_units::put_short_units;
 use std::simd::prelude::*;
@@ -69,6 +69,23 @@ pub trait Destination {
     {
         let _ = bytes;
         0
+    }
+
+    /// Writes ASCII bytes from the front of the slice, at most so many and at most 64, and returns how
+    /// many. The slice has at least 64 bytes, and as many code units must be free: a destination may store
+    /// all of them, and what follows is written over those that are not counted.
+    #[inline(always)]
+    fn put_front(&mut self, bytes: &[u8], most: usize) -> usize
+        requires block { 64 ≤ length bytes.now }
+        requires room { 64 ≤ room self.old }
+        ensures most { result ≤ most }
+        ensures read { result ≤ 64 }
+        ensures ascii { IsAscii (take result bytes.now) }
+        ensures contents { contents self.new ≡ contents self.old ++ take result bytes.now }
+        ensures room { room self.new + result ≡ room self.old }
+        ensures loan { loan self.new ≡ loan self.old }
+    {
+        self.copy_ascii(&bytes[..most.min(64)])
     }
 
     /// Writes the code units of eight scalar values up to U+FFFF. At least 32 code units must be free.
@@ -180,6 +197,26 @@ impl<'a> Utf8Destination<'a> {
         self.filled = at + count;
         count
     }
+
+    /// Stores a wide block behind what was written, and keeps its ASCII front, but at most so many: answers
+    /// how many.
+    #[inline(always)]
+    #[tactic(auto, using(crate::proofs::Ascii::stored))]
+    fn put_wide_block(&mut self, block: u8x64, most: usize) -> usize
+        requires { 64 ≤ utf8_free self.old }
+        ensures most { result ≤ most }
+        ensures count { result ≤ 64 }
+        ensures ascii { IsAscii (take result block) }
+        ensures written { utf8_written self.new ≡ utf8_written self.old ++ take result block }
+        ensures free { utf8_free self.new + result ≡ utf8_free self.old }
+        ensures loan { utf8_loan self.new ≡ utf8_loan self.old }
+    {
+        let at = self.filled;
+        block.copy_to_slice(&mut self.buffer[at..]);
+        let count = wide_ascii_count(block).min(most);
+        self.filled = at + count;
+        count
+    }
 }
 
 impl Destination for Utf8Destination<'_> {
@@ -253,6 +290,11 @@ impl Destination for Utf8Destination<'_> {
     }
 
     #[inline(always)]
+    fn put_front(&mut self, bytes: &[u8], most: usize) -> usize {
+        self.put_wide_block(u8x64::from_slice(bytes), most)
+    }
+
+    #[inline(always)]
     fn put_eight(&mut self, units: u16x8) {
         self.filled = put_eight_units(self.buffer, self.filled, units);
     }
@@ -312,6 +354,26 @@ impl<'a> Utf16Destination<'a> {
         let at = self.filled;
         block.cast::<u16>().copy_to_slice(&mut self.buffer[at..]);
         let count = ascii_count(block);
+        self.filled = at + count;
+        count
+    }
+
+    /// Stores a wide block behind what was written, and keeps its ASCII front, but at most so many: answers
+    /// how many.
+    #[inline(always)]
+    #[tactic(auto, using(crate::proofs::Ascii::stored))]
+    fn put_wide_block(&mut self, block: u8x64, most: usize) -> usize
+        requires { 64 ≤ utf16_free self.old }
+        ensures most { result ≤ most }
+        ensures count { result ≤ 64 }
+        ensures ascii { IsAscii (take result block) }
+        ensures written { utf16_written self.new ≡ utf16_written self.old ++ take result block }
+        ensures free { utf16_free self.new + result ≡ utf16_free self.old }
+        ensures loan { utf16_loan self.new ≡ utf16_loan self.old }
+    {
+        let at = self.filled;
+        block.cast::<u16>().copy_to_slice(&mut self.buffer[at..]);
+        let count = wide_ascii_count(block).min(most);
         self.filled = at + count;
         count
     }
@@ -379,6 +441,11 @@ impl Destination for Utf16Destination<'_> {
             }
         }
         at
+    }
+
+    #[inline(always)]
+    fn put_front(&mut self, bytes: &[u8], most: usize) -> usize {
+        self.put_wide_block(u8x64::from_slice(bytes), most)
     }
 
     #[inline(always)]

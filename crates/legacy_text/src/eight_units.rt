@@ -1,6 +1,7 @@
-//! Eight code units of UTF-16, none of them a surrogate, as UTF-8 by vectors: four bytes of each unit are made by lanes,
-//! and a shuffle keeps those that its text has.
-// Inlined always is what runs for each vector: a call would pass the vectors through memory.
+//! Writes eight UTF-16 code units, none of them a surrogate, as UTF-8 by vectors.
+//!
+//! Lanes make four bytes of each code unit, and a shuffle keeps those of its text.
+// Functions that run for each vector are always inlined, because a call would pass the vectors through memory.
 ghost use Rattle.std.specs.Prelude.{◌≡◌, ℕ, ◌+◌, ◌<◌, ◌≤◌, ◌++◌, List, length, map, take, drop, get_or};
 ghost use Rattle.std.specs.List.{range_with_len};
 ghost use Rattle.legacy_text.specs.UnitBytes.{last_byte, front_bytes, lanes, pattern, places, utf8_bytes};
@@ -8,7 +9,7 @@ ghost use Rattle.legacy_text.specs.UnitBytes.{last_byte, front_bytes, lanes, pat
 use crate::unit_rows::{COUNTS, WRITTEN};
 use std::simd::prelude::*;
 
-/// The last byte of each unit's text.
+/// Returns the last byte of each code unit's text.
 #[inline(always)]
 fn last_bytes(units: u16x8) -> u16x8
     ensures { result ≡ map last_byte units }
@@ -17,7 +18,7 @@ fn last_bytes(units: u16x8) -> u16x8
     units.simd_lt(u16x8::splat(0x80)).select(units, past)
 }
 
-/// The bytes before the last one of each unit's text.
+/// Returns the bytes before the last one of each code unit's text.
 #[inline(always)]
 fn bytes_before(units: u16x8) -> u16x8
     ensures { result ≡ map front_bytes units }
@@ -29,7 +30,7 @@ fn bytes_before(units: u16x8) -> u16x8
     (units >> u16x8::splat(12)) + u16x8::splat(0xE0) + middle + mark
 }
 
-/// Four bytes of each unit: of the first four units, and of the others.
+/// Returns four bytes of each code unit: of the first four code units, and of the others.
 #[inline(always)]
 fn unit_lanes(units: u16x8) -> (u8x16, u8x16)
     ensures front { result.0 ≡ lanes (take 4 units) }
@@ -39,7 +40,7 @@ fn unit_lanes(units: u16x8) -> (u8x16, u8x16)
     (front.to_le_bytes(), back.to_le_bytes())
 }
 
-/// How many bytes each unit has, two bits a unit: of the first four units, and of the others.
+/// Returns the number of bytes of each code unit, in two bits, for each four code units.
 #[inline(always)]
 fn patterns(units: u16x8) -> (usize, usize)
     ensures front { result.0 ≡ pattern (take 4 units) }
@@ -61,7 +62,7 @@ fn patterns(units: u16x8) -> (usize, usize)
     ((bits % 256) as usize, (bits / 256) as usize)
 }
 
-/// A row of a table of places.
+/// Returns a row of a table of places.
 #[inline(always)]
 pub(crate) fn row_of(rows: &[[u8; 16]; 256], pattern: usize) -> u8x16
     requires { pattern < 256 }
@@ -70,7 +71,7 @@ pub(crate) fn row_of(rows: &[[u8; 16]; 256], pattern: usize) -> u8x16
     u8x16::from_array(rows[pattern])
 }
 
-/// An entry of a table of counts.
+/// Returns an entry of a table of counts.
 #[inline(always)]
 fn count_of(counts: &[u8; 256], pattern: usize) -> usize
     requires { pattern < 256 }
@@ -88,7 +89,9 @@ pub(crate) fn store(dst: &mut [u8], at: usize, block: u8x16)
     block.copy_to_slice(&mut dst[at..]);
 }
 
-/// Stores the text of four units from the place `at` on, with other bytes after it. Returns the place after the text.
+/// Stores the text of four code units from the place `at` on, with other bytes after it.
+///
+/// Returns the place after the text.
 #[inline(always)]
 fn put_four(dst: &mut [u8], at: usize, lanes: u8x16, pattern: usize) -> usize
     requires room { at + 16 ≤ length dst.old }
@@ -101,7 +104,9 @@ fn put_four(dst: &mut [u8], at: usize, lanes: u8x16, pattern: usize) -> usize
     at + count_of(&COUNTS, pattern)
 }
 
-/// Stores the text of eight units from the place `at` on, with other bytes after it. Returns the place after the text.
+/// Stores the text of eight code units from the place `at` on, with other bytes after it.
+///
+/// Returns the place after the text.
 #[inline(always)]
 pub(crate) fn put_eight_units(dst: &mut [u8], at: usize, units: u16x8) -> usize
     requires room { at + 32 ≤ length dst.old }

@@ -1,7 +1,8 @@
-//! Ten scalars of UTF-8 at once and without a branch between them: vectors make what may begin at each of 32 places,
-//! and bits tell where scalars do.
-// In text with spaces no pattern tells where a scalar of one byte comes: so none is looked for. Inlined always is what
-// runs for each turn: a call would pass vectors through memory.
+//! Reads ten scalars of UTF-8 at once, without a branch between them.
+//!
+//! Vectors make the scalar that may begin at each of 32 places. Bits say where scalars begin.
+// In text with spaces, no pattern predicts where a one-byte scalar comes, so the code does not branch on it.
+// Functions that run for each turn are always inlined, because a call would pass vectors through memory.
 ghost use Rattle.std.specs.Prelude.{◌≡◌, ◌↔◌, ℕ, ◌+◌, ◌*◌, ◌%◌, ◌^◌, ◌<◌, ◌≤◌, length, take, drop, true, slice_index, MatchOption, ⊤};
 ghost use Rattle.std.specs.Int.{bit_at, trailing_zeros, w32};
 ghost use Rattle.std.specs.Str.{is_utf8};
@@ -9,8 +10,10 @@ ghost use Rattle.legacy_text.specs.ScalarTurns.{IsStart, IsUnitOf, IsUnitAt, Rea
 
 use std::simd::prelude::*;
 
-/// The low byte and the high one of the scalar of one or three bytes whose bytes these are, the first with its highest
-/// bit turned over, or else of a surrogate.
+/// Returns the low and the high byte of a scalar of one or three bytes, or of a surrogate.
+///
+/// The arguments are the bytes of the scalar, the first one with its highest bit inverted. For other
+/// bytes the result is a surrogate.
 #[inline(always)]
 fn unit_parts(turned: u8, second: u8, third: u8) -> (u8, u8)
     ensures { IsUnitOf ((turned + 128) % 256) second third (result.0 + 256 * result.1) }
@@ -25,8 +28,8 @@ fn unit_parts(turned: u8, second: u8, third: u8) -> (u8, u8)
     }
 }
 
-/// Sixteen bytes from a place on, each with its highest bit turned over.
-// By a vector operation: of bytes that overlap with others and are loaded as they are, the compiler makes single loads.
+/// Returns sixteen bytes from a place on, each with its highest bit inverted.
+// This is a vector operation: the compiler makes single loads of overlapping bytes that are loaded unchanged.
 #[inline(always)]
 fn turned_at(bytes: &[u8], place: usize) -> [u8; 16]
     requires { place + 16 ≤ length bytes.now }
@@ -35,7 +38,7 @@ fn turned_at(bytes: &[u8], place: usize) -> [u8; 16]
     (u8x16::from_slice(&bytes[place..]) + u8x16::splat(0x80)).to_array()
 }
 
-/// What sixteen bytes from a place on hold of a scalar that they go on with: their low six bits.
+/// Returns the low six bits of sixteen bytes from a place on, which continue a scalar.
 #[inline(always)]
 fn tails_at(bytes: &[u8], place: usize) -> [u8; 16]
     requires { place + 16 ≤ length bytes.now }
@@ -44,7 +47,7 @@ fn tails_at(bytes: &[u8], place: usize) -> [u8; 16]
     (u8x16::from_slice(&bytes[place..]) & u8x16::splat(0x3F)).to_array()
 }
 
-/// The low bytes and the high ones of the units of sixteen places.
+/// Returns the low and the high bytes of the code units of sixteen places.
 #[inline(always)]
 fn parts_at(bytes: &[u8], place: usize) -> ([u8; 16], [u8; 16])
     requires { place + 18 ≤ length bytes.now }
@@ -68,7 +71,7 @@ fn parts_at(bytes: &[u8], place: usize) -> ([u8; 16], [u8; 16])
     (lows, highs)
 }
 
-/// The units of sixteen low bytes and as many high ones.
+/// Joins sixteen low bytes and sixteen high bytes into code units.
 #[inline(always)]
 fn joined(lows: u8x16, highs: u8x16) -> (u16x8, u16x8)
     ensures front { length result.0 ≡ 8 }
@@ -82,7 +85,7 @@ fn joined(lows: u8x16, highs: u8x16) -> (u16x8, u16x8)
     (u16x8::from_le_bytes(front), u16x8::from_le_bytes(back))
 }
 
-/// Puts the units of sixteen places at a place of a list.
+/// Puts the code units of sixteen places into a list, from the place `at` on.
 #[inline(always)]
 fn put_units(bytes: &[u8], place: usize, all: &mut [u16], at: usize)
     requires read { place + 18 ≤ length bytes.now }
@@ -96,7 +99,7 @@ fn put_units(bytes: &[u8], place: usize, all: &mut [u16], at: usize)
     back.copy_to_slice(&mut all[at + 8..]);
 }
 
-/// The units of 32 places, and one more entry that says nothing.
+/// Returns the code units of 32 places, and one more entry without meaning.
 #[inline(always)]
 fn units_at(bytes: &[u8], place: usize) -> [u16; 33]
     requires { place + 34 ≤ length bytes.now }
@@ -108,7 +111,7 @@ fn units_at(bytes: &[u8], place: usize) -> [u16; 33]
     all
 }
 
-/// The places among the next 32 at which scalars begin, as bits.
+/// Returns the places among the next 32 at which scalars begin, as bits.
 #[inline(always)]
 fn starts_at(bytes: &[u8], place: usize) -> u32
     requires { place + 32 ≤ length bytes.now }
@@ -120,7 +123,7 @@ fn starts_at(bytes: &[u8], place: usize) -> u32
     !past | leads
 }
 
-/// The bits without the lowest of them.
+/// Returns the bits without the lowest one that is set.
 #[inline(always)]
 fn without_lowest(bits: u32) -> u32
     ensures none { bits ≡ 0 → result ≡ 0 }
@@ -130,8 +133,10 @@ fn without_lowest(bits: u32) -> u32
     bits & bits.wrapping_sub(1)
 }
 
-/// The next ten scalars of a text as units, with a surrogate in place of each that has two or four bytes, and the
-/// place behind them. `None` where the next 34 bytes do not tell.
+/// Returns the next ten scalars of a text as code units, and the place after them.
+///
+/// A scalar of two or four bytes is replaced with a surrogate. Returns `None` if fewer than 34
+/// bytes are left, or if the next 32 do not show where the ten scalars end.
 #[inline(always)]
 pub(crate) fn ten_scalars(bytes: &[u8], start: usize) -> Option<([u16; 10], usize)>
     requires place { start ≤ length bytes.now }

@@ -1,14 +1,18 @@
-//! Scalars of one and two bytes of UTF-8 that have a byte each, eight at a time and without a branch between them.
-// In text whose letters have two bytes no pattern tells where a scalar of one byte comes: so none is looked for.
+//! Encodes scalars of one and two bytes of UTF-8 as one byte each, eight at a time.
+//!
+//! There is no branch between the scalars.
+// In text whose letters have two bytes, no pattern predicts where a one-byte scalar comes, so the code does not branch
+// on it.
 ghost use Rattle.std.specs.Prelude.{◌≡◌, ◌+◌, ◌<◌, ◌≤◌, length, take, drop, true, slice_index, MatchOption, ⊤};
 ghost use Rattle.std.specs.Str.{is_utf8};
 ghost use Rattle.legacy_text.specs.ShortScalars.{ReadsScalar, WritesScalars};
 
 use crate::unit_codes::UnitCodes;
 
-/// The scalar at a place and the number of its bytes, where that is one or two. Where a longer one stands there, or
-/// none begins, it is any number.
-// Both bytes are loaded at once: or the compiler would put a branch ahead of the second.
+/// Returns the scalar at a place and the number of its bytes, if it has one or two.
+///
+/// If the scalar is longer or does not begin at the place, the result has no meaning.
+// Both bytes are loaded at once. Otherwise the compiler puts a branch before the second load.
 #[inline(always)]
 fn short_scalar(bytes: &[u8], place: usize) -> (u16, usize)
     requires { place + 2 ≤ length bytes.now }
@@ -24,8 +28,9 @@ fn short_scalar(bytes: &[u8], place: usize) -> (u16, usize)
     (scalar, 1 + usize::from(first / 0x80))
 }
 
-/// Writes the bytes of eight scalars of at most two bytes from the place `at` on, and answers the place behind the
-/// scalars; `None` where one has no byte or is longer.
+/// Writes one byte for each of eight scalars of at most two bytes, from the place `at` on.
+///
+/// Returns the place after the scalars, or `None` if one of them has no such byte or is longer.
 #[inline(always)]
 fn put_turn<C: UnitCodes>(
     codes: &C,
@@ -56,8 +61,10 @@ fn put_turn<C: UnitCodes>(
     if is_known { Some(place) } else { None }
 }
 
-/// Writes the bytes of scalars of at most two bytes from the place `start` on, by turns of eight and as far as each
-/// has a byte, from the place `at` on. Answers how many, and the place behind them. A turn of ASCII is the last one.
+/// Writes one byte for each scalar of at most two bytes, from the places `start` and `at` on.
+///
+/// It works in turns of eight, as long as each scalar has a byte. A turn of ASCII is the last one.
+/// Returns the number of scalars, and the place after them.
 #[inline]
 pub(crate) fn copy_short_scalars<C: UnitCodes>(
     codes: &C,

@@ -1,6 +1,7 @@
-//! Eight code units below U+0800 as UTF-8 by vectors: two bytes of each unit are made by lanes, and one shuffle keeps
-//! those that its text has.
-// Inlined always is what runs for each vector: a call would pass the vectors through memory.
+//! Writes eight code units below U+0800 as UTF-8 by vectors.
+//!
+//! Lanes make two bytes of each code unit, and one shuffle keeps those of its text.
+// Functions that run for each vector are always inlined, because a call would pass the vectors through memory.
 ghost use Rattle.std.specs.Prelude.{◌≡◌, ◌+◌, ◌<◌, ◌≤◌, ◌++◌, All, length, take, true};
 ghost use Rattle.legacy_text.specs.UnitBytes.{short_lanes, short_pattern, AreShort, utf8_bytes};
 
@@ -8,7 +9,7 @@ use crate::eight_units::{row_of, store};
 use crate::unit_rows::SHORT_WRITTEN;
 use std::simd::prelude::*;
 
-/// Two bytes of each unit.
+/// Returns two bytes of each code unit.
 #[inline(always)]
 fn short_unit_lanes(units: u16x8) -> u8x16
     ensures { result ≡ short_lanes units }
@@ -21,7 +22,7 @@ fn short_unit_lanes(units: u16x8) -> u8x16
         .to_le_bytes()
 }
 
-/// Which units have one byte, one bit a unit.
+/// Returns which code units have one byte, as one bit for each.
 #[inline(always)]
 fn short_bits(units: u16x8) -> usize
     ensures bits { result ≡ short_pattern units }
@@ -30,8 +31,9 @@ fn short_bits(units: u16x8) -> usize
     units.simd_lt(u16x8::splat(0x80)).to_bitmask() as usize
 }
 
-/// Stores the text of eight units below U+0800 from the place `at` on, with other bytes after it. Returns the place
-/// after the text.
+/// Stores the text of eight code units below U+0800 from the place `at` on.
+///
+/// Other bytes may follow it. Returns the place after the text.
 #[inline(always)]
 pub(crate) fn put_short_units(dst: &mut [u8], at: usize, units: u16x8) -> usize
     requires room { at + 16 ≤ length dst.old }
@@ -45,7 +47,7 @@ pub(crate) fn put_short_units(dst: &mut [u8], at: usize, units: u16x8) -> usize
     at + 16 - ones.count_ones() as usize
 }
 
-/// Returns whether each unit is below the bound.
+/// Returns whether each code unit is below the bound.
 #[inline(always)]
 pub fn are_all_below(units: u16x8, bound: u16) -> bool
     ensures { result ≡ true → All (λ u. u < bound) units }

@@ -1,4 +1,4 @@
-//! Where a decoder reads.
+//! The source of a decoder.
 ghost use Rattle.std.specs.Prelude.{◌≡◌, ℕ, ◌+◌, ◌<◌, ◌≤◌, length, drop, slice_get};
 
 use std::marker::Model;
@@ -25,7 +25,7 @@ impl<'a> Model for ByteSource<'a> {
 }
 
 impl<'a> ByteSource<'a> {
-    /// A cursor before the first byte of the slice.
+    /// Returns a cursor before the first byte of the slice.
     pub fn new(bytes: &'a [u8]) -> ByteSource<'a>
         ensures left { result.left ≡ bytes.now }
         ensures consumed { result.consumed ≡ 0 }
@@ -33,14 +33,14 @@ impl<'a> ByteSource<'a> {
         ByteSource { bytes, place: 0 }
     }
 
-    /// The next byte, or `None` at the end of the slice. The cursor stays where it is.
+    /// Returns the next byte, or `None` at the end of the slice. The cursor does not move.
     pub fn peek(&self) -> Option<u8>
         ensures { result ≡ slice_get self.now.left 0 }
     {
         self.bytes.get(self.place).copied()
     }
 
-    /// Goes past the next byte. The end must not be reached: `peek` tells.
+    /// Moves past the next byte. The cursor must not be at the end (`peek` returns `None` there).
     pub fn advance(&mut self)
         requires { 0 < length self.old.left }
         ensures left { self.new.left ≡ drop 1 self.old.left }
@@ -49,7 +49,7 @@ impl<'a> ByteSource<'a> {
         self.place += 1;
     }
 
-    /// How many bytes the cursor has passed.
+    /// Returns the number of bytes that the cursor has passed.
     pub fn consumed(&self) -> usize
         ensures { result ≡ self.now.consumed }
     {

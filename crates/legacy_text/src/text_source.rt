@@ -5,31 +5,17 @@ ghost use Rattle.std.specs.Str.{chars, is_utf8};
 ghost use Rattle.legacy_text.specs.EncodingForm.{EncodingForm, Utf8, Utf16, unit_count, total_unit_count};
 ghost use Rattle.legacy_text.specs.Texts.{unit_scalars};
 ghost use Rattle.legacy_text.specs.NextScalars.{IsSized, IsNext, StandsAt};
-ghost use Rattle.legacy_text.specs.UnitCodes.{WritesCodes};
-ghost use Rattle.legacy_text.specs.UnitTurns.{TakesUnits};
 
 use crate::blocks::{copy_ascii_bytes, copy_ascii_units};
 use crate::scalar_turns::ten_scalars;
 use crate::short_scalars::copy_short_scalars;
+use crate::text_cursor::{Next, ReadingLoop, TextCursor};
 use crate::unit_codes::{UnitCodes, copy_unit_codes};
 
-/// The next scalar of a text, by the number of its code units.
-#[derive(Clone, Copy)]
-pub enum Next {
-    /// The end of the text.
-    End,
-    /// A scalar of one code unit.
-    One(char),
-    /// A scalar of two code units.
-    Two(char),
-    /// A scalar of three code units.
-    Three(char),
-    /// A scalar of four code units.
-    Four(char),
-}
-
-/// A cursor over the scalars of a text in UTF-8 or in UTF-16, one of the two for each type.
-pub trait Source: Copy {
+/// A text in UTF-8 or in UTF-16, one of the two for each type, whose scalars are read one after another.
+///
+/// Whoever writes a source of their own gives `peek`, `advance` and `consumed`.
+pub trait Source {
     /// The encoding form, which is fixed for the type.
     ghost form: { EncodingForm };
 
@@ -39,7 +25,7 @@ pub trait Source: Copy {
     /// How many code units were passed.
     ghost passed: { Self → ℕ };
 
-    /// The next scalar, or `None` at the end. The cursor stays where it is.
+    /// The next scalar, or `None` at the end. The source stays where it is.
     fn peek(&self) -> Option<char>
         ensures { result ≡ slice_get (left self.now) 0 };
 
@@ -50,84 +36,27 @@ pub trait Source: Copy {
         ensures passed { passed self.new
             ≡ passed self.old + unit_count form (slice_index (left self.old) 0) };
 
-    /// How many code units the cursor has passed.
+    /// How many code units the source has passed.
     fn consumed(&self) -> usize
         ensures { result ≡ passed self.now };
 
-    /// The next scalar by the number of its code units. The cursor stays where it is.
-    // Whoever goes past it by that number need not wait for the scalar to know where the next one is.
-    fn front(&self) -> Next
-        ensures { IsNext form (left self.now) result };
-
-    /// Goes past the next scalar, which has so many code units: `front` tells.
-    fn pass(&mut self, count: usize)
-        requires some { 0 < length (left self.old) }
-        requires count { count ≡ unit_count form (slice_index (left self.old) 0) }
-        ensures left { left self.new ≡ drop 1 (left self.old) }
-        ensures passed { passed self.new ≡ passed self.old + count };
-
-    /// Whether ASCII comes next, and goes on for some code units. It is a hint: any answer will do.
-    fn is_in_ascii(&self) -> bool;
-
-    /// Goes past ASCII scalars, as many as it cares to, and writes them as bytes from the place `at` of
-    /// `dst` on. Answers how many: none is an answer too. Behind them `dst` may hold anything.
-    fn copy_ascii(&mut self, dst: &mut [u8], at: usize) -> usize
-        requires { at ≤ length dst.old }
-        ensures read { result ≤ length (left self.old) }
-        ensures left { left self.new ≡ drop result (left self.old) }
-        ensures passed { passed self.new ≡ passed self.old + result }
-        ensures ascii { IsAscii (take result (left self.old)) }
-        ensures fits { at + result ≤ length dst.old }
-        ensures bytes { take (at + result) dst.new
-            ≡ take at dst.old ++ take result (left self.old) };
-
-    /// Whether `copy_codes` may go on by blocks of code units. It is a hint: any answer will do.
+    /// Lets a loop read scalars ahead, as many as it cares to, and write bytes for them from the place `start` of `dst`
+    /// on. Returns where they end: `start` where nothing was read. Behind them `dst` may hold anything.
+    // As provided it lets it read nothing: then each scalar is read by `peek` and `advance`. A source with a fast cursor
+    // gives a copy of it, to which nothing else refers: the compiler keeps its place in a register, and does not store
+    // and load it again behind each byte that is written.
     #[inline(always)]
-    fn has_blocks(&self) -> bool {
-        false
-    }
-
-    /// Whether it may go on by `take_ten` behind this scalar. It is a hint: any answer will do.
-    #[inline(always)]
-    fn has_tens(&self, before: char) -> bool {
-        let _ = before;
-        false
-    }
-
-    /// Goes past the next ten code units of UTF-16, or in UTF-8 past ten scalars, and answers them as units: each
-    /// is a scalar, if none is a surrogate. In UTF-8 one stands in place of each scalar of two or four bytes. `None`
-    /// where not so much is left, and wherever it cares to: then the cursor stays where it is.
-    #[inline(always)]
-    fn take_ten(&mut self) -> Option<[u16; 10]>
-        ensures { MatchOption result (self.new ≡ self.old) (λ units. TakesUnits form (left self.old)
-            (passed self.old) units (left self.new) (passed self.new)) }
+    fn read_by<L: ReadingLoop>(&mut self, reading: &L, dst: &mut [u8], start: usize) -> usize
+        requires { start ≤ length dst.old }
+        ensures keeps { L.keeps reading.now (length dst.old) (left self.old) (take start dst.old)
+            (left self.new) (take result dst.new) }
+        ensures start { start ≤ result }
+        ensures end { result ≤ length dst.old }
+        ensures passed { passed self.new + total_unit_count form (left self.new)
+            ≡ passed self.old + total_unit_count form (left self.old) }
     {
-        let _ = self.consumed();
-        None
-    }
-
-    /// Whether a scalar past ASCII comes next, and `copy_codes` may go on by turns of scalars. It is a
-    /// hint: any answer will do.
-    #[inline(always)]
-    fn has_turns(&self) -> bool {
-        false
-    }
-
-    /// Goes past scalars that have a byte each, as many as it cares to, and writes these from the place
-    /// `at` of `dst` on. Answers how many: none is an answer too. Behind them `dst` may hold anything.
-    #[inline(always)]
-    fn copy_codes<C: UnitCodes>(&mut self, codes: &C, dst: &mut [u8], at: usize) -> usize
-        requires { at ≤ length dst.old }
-        ensures read { result ≤ length (left self.old) }
-        ensures left { left self.new ≡ drop result (left self.old) }
-        ensures passed { passed self.new
-            ≡ passed self.old + total_unit_count form (take result (left self.old)) }
-        ensures fits { at + result ≤ length dst.old }
-        ensures writes { WritesCodes (C.gives codes.now) (left self.old) result (take at dst.old)
-            (take (at + result) dst.new) }
-    {
-        let _ = (self.consumed(), codes.byte_of(0), dst.len());
-        0
+        let _ = (self.consumed(), dst.len());
+        start
     }
 }
 
@@ -262,6 +191,24 @@ impl Source for Utf8Source<'_> {
     fn consumed(&self) -> usize {
         self.place
     }
+
+    #[inline(always)]
+    fn read_by<L: ReadingLoop>(&mut self, reading: &L, dst: &mut [u8], start: usize) -> usize {
+        let mut own = *self;
+        let end = reading.read(&mut own, dst, start);
+        *self = own;
+        end
+    }
+}
+
+impl TextCursor for Utf8Source<'_> {
+    ghost use Rattle.legacy_text.specs.TextSources.{utf8_left, utf8_place};
+
+    ghost form = { Utf8 };
+
+    ghost left = { utf8_left };
+
+    ghost passed = { utf8_place };
 
     #[inline(always)]
     fn front(&self) -> Next {
@@ -413,6 +360,24 @@ impl Source for Utf16Source<'_> {
     fn consumed(&self) -> usize {
         self.place
     }
+
+    #[inline(always)]
+    fn read_by<L: ReadingLoop>(&mut self, reading: &L, dst: &mut [u8], start: usize) -> usize {
+        let mut own = *self;
+        let end = reading.read(&mut own, dst, start);
+        *self = own;
+        end
+    }
+}
+
+impl TextCursor for Utf16Source<'_> {
+    ghost use Rattle.legacy_text.specs.TextSources.{utf16_left, utf16_place};
+
+    ghost form = { Utf16 };
+
+    ghost left = { utf16_left };
+
+    ghost passed = { utf16_place };
 
     #[inline(always)]
     fn front(&self) -> Next {

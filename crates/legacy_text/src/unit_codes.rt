@@ -1,23 +1,24 @@
-//! Code units of UTF-16 that have a byte each, sixteen at a time.
-// Inlined always is what runs for each block: a call would pass the vector through memory.
+//! Encodes UTF-16 code units that have one byte each, sixteen at a time.
+// Functions that run for each block are always inlined, because a call would pass the vector through memory.
 ghost use Rattle.std.specs.Prelude.{◌≡◌, ℕ, ◌+◌, ◌-◌, ◌<◌, ◌≤◌, ◌++◌, length, take, slice_index, IsAscii, true};
 ghost use Rattle.legacy_text.specs.UnitCodes.{IsNoSurrogate, WritesCodes};
 
 use crate::blocks::ascii_count;
 use std::simd::prelude::*;
 
-/// The bytes of code units: a codec in which common scalars have one byte.
+/// The bytes of code units in a codec whose common scalars have one byte.
 pub trait UnitCodes {
     /// The scalar may be written as the byte.
     ghost gives: { Self → ℕ → ℕ → Type 0 };
 
-    /// The byte of a code unit, and whether it has one: without it, the byte says nothing. Any unit may
-    /// have none.
+    /// Returns the byte of a code unit, and whether it has one.
+    ///
+    /// Without one, the byte has no meaning. Any code unit may have none.
     fn byte_of(&self, unit: u16) -> (u8, bool)
         ensures { result.1 ≡ true → IsNoSurrogate unit × gives self.now unit result.0 };
 }
 
-/// ASCII for true, and else not.
+/// Returns an ASCII byte if `is_known` is true, and a byte past ASCII otherwise.
 #[inline(always)]
 fn mark(is_known: bool) -> u8
     ensures { result < 0x80 → is_known ≡ true }
@@ -25,7 +26,9 @@ fn mark(is_known: bool) -> u8
     if is_known { 0 } else { 0xFF }
 }
 
-/// The bytes of sixteen code units, and marks, which are ASCII where the unit has a byte.
+/// Returns the bytes of sixteen code units, and marks.
+///
+/// A mark is ASCII if the code unit has a byte.
 #[inline(always)]
 fn code_block<C: UnitCodes>(codes: &C, units: &[u16]) -> ([u8; 16], [u8; 16])
     requires { 16 ≤ length units.now }
@@ -47,7 +50,7 @@ fn code_block<C: UnitCodes>(codes: &C, units: &[u16]) -> ([u8; 16], [u8; 16])
     (bytes, marks)
 }
 
-/// Stores a block from the place `at` on, and answers how many marks at the front are ASCII.
+/// Stores a block from the place `at` on, and returns the number of ASCII marks at the front.
 #[inline(always)]
 fn store_marked(dst: &mut [u8], at: usize, block: u8x16, marks: u8x16) -> usize
     requires { at + 16 ≤ length dst.old }
@@ -59,8 +62,9 @@ fn store_marked(dst: &mut [u8], at: usize, block: u8x16, marks: u8x16) -> usize
     ascii_count(marks)
 }
 
-/// Writes the bytes of code units from the front, by blocks and as far as they have one, to the place `at`
-/// and on. Answers how many.
+/// Writes the bytes of code units from the front to the place `at` on, and returns their number.
+///
+/// It works in blocks, up to the first code unit without a byte.
 #[inline]
 pub(crate) fn copy_unit_codes<C: UnitCodes>(
     codes: &C,

@@ -1,7 +1,8 @@
-//! Which bytes of the lanes of some units are written, by how many bytes each unit has in UTF-8.
+//! The bytes of lanes that are written, by the number of UTF-8 bytes of each code unit.
 
-/// For each pattern of lengths the places of the bytes that are written, in order, and behind them places that say
-/// nothing.
+/// For each pattern of lengths, the places of the bytes that are written, in order.
+///
+/// The entries after them have no meaning.
 #[rattlefmt::skip]
 pub(crate) static WRITTEN: [[u8; 16]; 256] = [
     [2, 3, 0, 6, 7, 4, 10, 11, 8, 14, 15, 12, 0, 0, 0, 0],
@@ -262,7 +263,7 @@ pub(crate) static WRITTEN: [[u8; 16]; 256] = [
     [0, 4, 8, 12, 0, 0, 0, 0, 0, 0, 0, 0, 0, 0, 0, 0],
 ];
 
-/// How many bytes are written for each pattern of lengths.
+/// The number of bytes that are written for each pattern of lengths.
 #[rattlefmt::skip]
 pub(crate) static COUNTS: [u8; 256] = [
     12, 10, 11, 10, 10, 8, 9, 8, 11, 9, 10, 9, 10, 8, 9, 8, 10, 8, 9, 8, 8, 6, 7, 6, 9, 7, 8, 7, 8,
@@ -276,8 +277,9 @@ pub(crate) static COUNTS: [u8; 256] = [
     4, 7, 5, 6, 5, 6, 4, 5, 4,
 ];
 
-/// For each set of lanes with one byte the places of the bytes that are written of eight lanes of one or two, in order,
-/// and behind them places that say nothing.
+/// For each set of one-byte lanes among eight, the places of the bytes that are written, in order.
+///
+/// The other lanes have two bytes. The entries after the places have no meaning.
 #[rattlefmt::skip]
 pub(crate) static SHORT_WRITTEN: [[u8; 16]; 256] = [
     [0, 1, 2, 3, 4, 5, 6, 7, 8, 9, 10, 11, 12, 13, 14, 15],

@@ -7,9 +7,9 @@ use Rattle.legacy_index_files.specs.declared.index_file.EncoderIndex.TheVariants
 use Rattle.legacy_index_files.specs.declared.index_file.IndexFileError.{IndexFileError}
 use Rattle.legacy_index_files.specs.declared.index_file.IndexFileError.TheVariants as reading
 use Rattle.legacy_index_files.proofs.WellFormed.{well_formed_memory}
-use Rattle.legacy_uses.specs.declared.registry.RegistryError.TheVariants.{File, Sized}
-use Rattle.legacy_uses.specs.declared.sized.SizedError.{SizedError}
-use Rattle.legacy_uses.specs.declared.sized.SizedError.TheVariants.{TooLong, Memory}
+use Rattle.legacy_encodings.specs.declared.registry.RegistryError.TheVariants.{File, Sized}
+use Rattle.legacy_codecs.specs.declared.whole.SizedError.{SizedError}
+use Rattle.legacy_codecs.specs.declared.whole.SizedError.TheVariants.{TooLong, Memory}
 use Rattle.legacy_index_files.specs.declared.index_file.FileIndex.TheVariants.{EucKr}
 use Rattle.legacy_index_files.specs.declared.index_file.FileTable.{FileTable}
 use Rattle.legacy_index_files.specs.declared.index_file.FileTable.TheVariants.{Wide, Narrow, Ranges, Bytes}

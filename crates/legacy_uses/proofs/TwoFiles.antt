@@ -10,12 +10,12 @@ use Rattle.legacy_index_files.specs.declared.encodings.Encoding.TheVariants as e
 use Rattle.legacy_index_files.specs.declared.encodings.TheConstants.{ENCODINGS}
 use Rattle.legacy_index_files.specs.Encodings.{encoding_name}
 use Rattle.legacy_index_files.proofs.EncodingNames.{named}
-use Rattle.legacy_uses.specs.declared.registry.EncodingTable.{EncodingTable}
-use Rattle.legacy_uses.specs.declared.registry.RegistryError.{RegistryError}
-use Rattle.legacy_uses.specs.declared.registry.RegistryError.TheVariants.{Unknown}
+use Rattle.legacy_encodings.specs.declared.registry.EncodingTable.{EncodingTable}
+use Rattle.legacy_encodings.specs.declared.registry.RegistryError.{RegistryError}
+use Rattle.legacy_encodings.specs.declared.registry.RegistryError.TheVariants.{Unknown}
 use Rattle.legacy_uses.specs.IndexData.{IsEucKrFile, IsTextByFile, only_euc_kr}
-use Rattle.legacy_uses.specs.Registries.{decoder_for, IsDecodeError, IsDecoderOf, IsText}
-use Rattle.legacy_uses.specs.WholeTexts.{text_of}
+use Rattle.legacy_encodings.specs.Registries.{decoder_for, IsDecodeError, IsDecoderOf, IsText}
+use Rattle.legacy_codecs.specs.WholeTexts.{text_of}
 
 some_same : {A : Type 0} (a b : A) → Some a ≡ Some b → a ≡ b
 some_same a b e = cc

@@ -12,11 +12,11 @@ use Rattle.legacy_index_files.specs.declared.index_file.FileIndex.TheVariants.{E
 use Rattle.legacy_index_files.specs.declared.index_file.IndexFileError.TheVariants as reading
 use Rattle.legacy_index_files.specs.IndexLine.{lines}
 use Rattle.legacy_index_files.specs.IndexTable.{entries_of, first_malformed, IsIndexOf}
-use Rattle.legacy_uses.specs.declared.registry.RegistryError.{RegistryError}
-use Rattle.legacy_uses.specs.declared.registry.RegistryError.TheVariants.{File, Tables, Sized}
-use Rattle.legacy_uses.specs.declared.sized.SizedError.TheVariants as sized
-use Rattle.legacy_uses.specs.SingleByteFiles.{IsSingleByteFile}
-use Rattle.legacy_uses.specs.WholeTexts.{text_of}
+use Rattle.legacy_encodings.specs.declared.registry.RegistryError.{RegistryError}
+use Rattle.legacy_encodings.specs.declared.registry.RegistryError.TheVariants.{File, Tables, Sized}
+use Rattle.legacy_codecs.specs.declared.whole.SizedError.TheVariants as sized
+use Rattle.legacy_encodings.specs.SingleByteFiles.{IsSingleByteFile}
+use Rattle.legacy_codecs.specs.WholeTexts.{text_of}
 
 -- ---- the file of index EUC-KR
 

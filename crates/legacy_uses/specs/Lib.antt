@@ -1,7 +1,6 @@
 -- What a caller of the codecs wants to know.
-pub mod Coders
+pub mod Beginnings
+pub mod CharacterLists
 pub mod IndexData
-pub mod MalformedSequences
-pub mod Registries
-pub mod SingleByteFiles
-pub mod WholeTexts
+pub mod Mail
+pub mod Transcoding

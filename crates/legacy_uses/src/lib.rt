@@ -1,13 +1,11 @@
-//! Callers of the codecs, each proved by the contracts of the calls that it makes: the pieces of code of
-//! `docs/CALLING.md`.
+//! Callers of the codecs, each the core of a small program, proved by the contracts of the calls that it makes: the code
+//! of `docs/USING.md`.
 #![tactic(auto)]
 
-pub mod ahead;
-pub mod coders;
-pub mod faults;
-pub mod index_data;
-pub mod piece_by_piece;
-pub mod registry;
-pub mod sized;
-pub mod transcode;
-pub mod two_files;
+pub mod beginning;
+pub mod browser;
+pub mod character_list;
+pub mod checker;
+pub mod code_pages;
+pub mod mail;
+pub mod transcoder;

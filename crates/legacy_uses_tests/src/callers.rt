@@ -1,22 +1,21 @@
-//! Each caller once, by EUC-KR with U+AC02 at pointer 0 and no other scalar.
+//! Calls each caller once, for EUC-KR with U+AC02 at pointer 0 and no other scalar.
 use legacy_codecs::{
-    EucKrDecoder, EucKrEncoder, GB18030_2022_PUA, Indexes, PAIR_ROOM, RawDecoder, SingleByteRun,
-    SingleByteTable, Tables, UserDefinedEncoder,
+    CachedEncoder, EucKrDecoder, EucKrEncoder, GB18030_2022_PUA, Indexes, MalformedSequence,
+    PAIR_ROOM, RawDecoder, SingleByteRun, SingleByteTable, Tables, UserDefinedEncoder,
+    decode_piece, decode_whole, encode_whole, malformed_sequences, transcode,
 };
+use legacy_encodings::{Coders, Registry, RegistryError};
 use legacy_index_files::{Encoding, FileIndex};
-use legacy_uses::ahead::encode_long;
-use legacy_uses::faults::{MalformedSequence, malformed_sequences};
-use legacy_uses::index_data::decode_by_file;
-use legacy_uses::piece_by_piece::decode_piece;
-use legacy_uses::registry::{Coders, Registry, RegistryError};
-use legacy_uses::sized::decode_whole;
-use legacy_uses::transcode::transcode;
-use legacy_uses::two_files::{TwoFiles, decode_two};
+use legacy_uses::browser::show_piece;
+use legacy_uses::checker::is_well_formed;
+use legacy_uses::code_pages::{TwoFiles, decode_by_file, decode_two};
+use legacy_uses::mail::faults_of_message;
+use legacy_uses::transcoder::transcode_file;
 use std::alloc::Global;
 use std::process::Abort;
 
-/// The tables of that index.
-fn tables_of<'a>(rt: &impl Abort) -> Tables<'a> {
+/// Returns the tables of that index.
+pub(crate) fn tables_of<'a>(rt: &impl Abort) -> Tables<'a> {
     let indexes = Indexes {
         big5: &[],
         euc_kr: &[0xAC02],
@@ -41,7 +40,7 @@ fn a_whole_input_is_decoded(rt: HostRuntime) {
     assert_eq!(rt; text.as_deref(), Ok("a\u{AC02}\u{FFFD}"));
 }
 
-/// Whether the next piece, in a buffer of the queried length, gives these bytes.
+/// Checks whether the next piece, in a buffer of the queried length, gives these bytes.
 fn piece_gives<D: RawDecoder>(
     alloc: Global,
     decoder: &mut D,
@@ -103,8 +102,8 @@ fn references_stand_for_what_is_lacking(rt: HostRuntime) {
     assert_eq!(rt; bytes.as_deref(), Ok(b"a&#44034;&#65533;b".as_slice()));
 }
 
-/// Room for pairs.
-// Without a clause: none of its entries is to be known.
+/// Returns room for pairs.
+// It has no clause, because no test needs to know its entries.
 fn pair_room(rt: &(impl AllocGlobal + Abort)) -> Vec<u16> {
     match vec![in rt.alloc(); 0xFFFF; PAIR_ROOM] {
         Ok(room) => room,
@@ -115,14 +114,12 @@ fn pair_room(rt: &(impl AllocGlobal + Abort)) -> Vec<u16> {
 #[test]
 fn a_long_text_is_encoded_with_its_pairs_looked_up_ahead(rt: HostRuntime) {
     let tables = tables_of(&rt);
-    let mut encoder = EucKrEncoder::new(&tables);
+    let encoder = EucKrEncoder::new(&tables);
     let mut room = pair_room(&rt);
-    let bytes = encode_long(
-        rt.alloc(),
-        &mut encoder,
-        room.as_mut_slice(),
-        "a\u{AC02}\u{1F4A9}b",
-    );
+    let Some(mut cached) = CachedEncoder::new(&encoder, room.as_mut_slice()) else {
+        panic!(rt; "room");
+    };
+    let bytes = encode_whole(rt.alloc(), &mut cached, "a\u{AC02}\u{1F4A9}b");
     assert_eq!(rt; bytes.as_deref(), Ok(b"a\x81\x41&#128169;b".as_slice()));
 }
 
@@ -146,7 +143,9 @@ fn two_encodings_are_decoded_by_their_files(rt: HostRuntime) {
     assert_eq!(rt; western.as_str(), "a\u{20AC}\u{FFFD}");
 }
 
-/// A registry that read the first line of index EUC-KR, and that of windows-1252: the euro sign at pointer 0.
+/// Returns a registry with the first line of index EUC-KR and with windows-1252.
+///
+/// Of windows-1252 it has the euro sign at pointer 0.
 fn registry_of(alloc: Global) -> Result<Registry, RegistryError> {
     let mut registry = Registry::new(alloc);
     registry
@@ -156,14 +155,14 @@ fn registry_of(alloc: Global) -> Result<Registry, RegistryError> {
     Ok(registry)
 }
 
-/// Whether the bytes are decoded to the text, and the text encoded to the bytes.
+/// Checks whether the bytes are decoded to the text, and the text encoded to the bytes.
 fn goes_both_ways(alloc: Global, coders: &Coders, name: &str, bytes: &[u8], text: &str) -> bool {
     let decoded = coders.decode(alloc, name, bytes);
     let encoded = coders.encode(alloc, name, text);
     decoded.as_deref() == Ok(text) && encoded.as_deref() == Ok(bytes)
 }
 
-/// What decoding by the name answers to no bytes where that is an error.
+/// Returns the error of decoding no bytes by this name, if there is one.
 fn refusal(alloc: Global, coders: &Coders, name: &str) -> Option<RegistryError> {
     coders.decode(alloc, name, b"").err()
 }
@@ -202,7 +201,7 @@ fn a_registry_goes_by_names(rt: HostRuntime) {
 #[test]
 fn the_letters_of_windows_1251_are_its_run(rt: HostRuntime) {
     let mut entries = [0; 128];
-    // In KOI8-R so many lines and boxes follow each other, but not the letters.
+    // In KOI8-R fifteen lines and boxes follow each other, but the letters do not.
     for place in 36..51 {
         entries[place] = 0x2553 + place as u16 - 36;
     }
@@ -214,7 +213,7 @@ fn the_letters_of_windows_1251_are_its_run(rt: HostRuntime) {
     assert!(rt; runs(&entries, 0x0410, 64, 64));
 }
 
-/// Whether this is the run of a table of the entries.
+/// Checks whether this is the run of a table of the entries.
 fn runs(entries: &[u16; 128], scalar: u16, start: u8, count: u8) -> bool {
     match SingleByteTable::new(entries) {
         Ok(table) => {
@@ -229,8 +228,10 @@ fn runs(entries: &[u16; 128], scalar: u16, start: u8, count: u8) -> bool {
     }
 }
 
-/// A registry that read the ideographic full stop, at pointer 2 of index jis0208, and two of 63 half-width katakana: the
-/// full stop, and the corner bracket, which that index lacks.
+/// Returns a registry with few entries of index jis0208 and of the katakana index.
+///
+/// Index jis0208 has the ideographic full stop at pointer 2. Of the 63 half-width katakana two have
+/// an entry: the full stop, and the corner bracket, which index jis0208 lacks.
 fn japanese(alloc: Global) -> Result<Registry, RegistryError> {
     let mut registry = Registry::new(alloc);
     registry
@@ -252,4 +253,36 @@ fn half_width_katakana_are_written_by_their_file(rt: HostRuntime) {
     };
     let bytes = coders.encode(rt.alloc(), "ISO-2022-JP", "\u{FF61}\u{FF62}");
     assert_eq!(rt; bytes.as_deref(), Ok(b"\x1B$B!#\x1B(B&#65378;".as_slice()));
+}
+
+#[test]
+fn a_page_grows_by_its_pieces(rt: HostRuntime) {
+    let tables = tables_of(&rt);
+    let mut decoder = EucKrDecoder::new(&tables);
+    let mut page = Vec::new(rt.alloc());
+    let first = show_piece(&mut decoder, b"a\x81", false, &mut page);
+    assert!(rt; first == Ok(()) && page.as_slice() == b"a".as_slice());
+    let last = show_piece(&mut decoder, b"\x41\xFF", true, &mut page);
+    assert!(rt; last == Ok(()) && page.as_slice() == "a\u{AC02}\u{FFFD}".as_bytes());
+}
+
+/// The places of what is malformed in a message, and whether there is nothing.
+fn places(alloc: Global, coders: &Coders, message: &[u8]) -> Option<(usize, bool)> {
+    let found = faults_of_message(alloc, coders, "EUC-KR", message).ok()?;
+    let is_so = is_well_formed(alloc, coders, "EUC-KR", message).ok()?;
+    Some((found.len(), is_so))
+}
+
+#[test]
+fn messages_are_checked_and_files_transcoded(rt: HostRuntime) {
+    let Ok(registry) = registry_of(rt.alloc()) else {
+        panic!(rt; "registry");
+    };
+    let Ok(coders) = registry.coders() else {
+        panic!(rt; "coders");
+    };
+    assert!(rt; places(rt.alloc(), &coders, b"a\x81\x41") == Some((0, true)));
+    assert!(rt; places(rt.alloc(), &coders, b"a\xFF\x81") == Some((2, false)));
+    let bytes = transcode_file(rt.alloc(), &coders, "windows-1252", "EUC-KR", b"a\x80");
+    assert_eq!(rt; bytes.as_deref(), Ok(b"a&#8364;".as_slice()));
 }

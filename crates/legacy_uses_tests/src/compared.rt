@@ -1,31 +1,31 @@
-//! What came of a call beside what is wanted of it.
-// Each is a function of its own: an `assert!` with a message is proved for each place where it stands.
+//! Functions that compare what came of a call with what is wanted.
+// Each is a function of its own, because an `assert!` with a message is proved again at each place of use.
 use legacy_index_files::IndexFileError;
 use legacy_tables::TableError;
 use std::fmt::{Debug, Display};
 use std::process::Abort;
 
-/// Compares what came of a case with what is wanted.
+/// Compares the result of a case with the wanted one.
 fn is<T: Copy + PartialEq + Debug>(rt: &impl Abort, case: &str, came: T, wanted: T) {
     assert!(rt; came == wanted, "{case}: came {came:?}, wanted {wanted:?}");
 }
 
-/// Asserts what is said of a case.
+/// Asserts a condition of a case.
 pub(crate) fn holds(rt: &impl Abort, case: &str, is_so: bool) {
     assert!(rt; is_so, "{case}");
 }
 
-/// Compares a scalar with the one that is wanted.
+/// Compares a scalar with the wanted one.
 pub(crate) fn is_scalar(rt: &impl Abort, case: &str, came: Option<char>, wanted: Option<char>) {
     is(rt, case, came, wanted);
 }
 
-/// Compares pointers with those that are wanted.
+/// Compares pointers with the wanted ones.
 pub(crate) fn are_pointers(rt: &impl Abort, case: &str, came: &[u16], wanted: &[u16]) {
     is(rt, case, came, wanted);
 }
 
-/// Compares why a file was refused, if it was, with what is wanted.
+/// Compares the error of a file, if it was refused, with the wanted one.
 pub(crate) fn is_refusal(
     rt: &impl Abort,
     case: &str,
@@ -35,7 +35,7 @@ pub(crate) fn is_refusal(
     is(rt, case, came, wanted);
 }
 
-/// Compares the first fault of indexes, if there is one, with what is wanted.
+/// Compares the first fault of indexes, if there is one, with the wanted one.
 pub(crate) fn is_fault(
     rt: &impl Abort,
     case: &str,
@@ -45,7 +45,7 @@ pub(crate) fn is_fault(
     is(rt, case, came, wanted);
 }
 
-/// Compares the text that is printed with what is wanted.
+/// Compares the printed text with the wanted one.
 pub(crate) fn prints<T: Display>(rt: &(impl AllocGlobal + Abort), what: &T, wanted: &str) {
     let came = what.to_string(rt.alloc()).expect(rt, "no memory");
     is(rt, "the text", came.as_str(), wanted);

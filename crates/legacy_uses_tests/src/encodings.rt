@@ -1,18 +1,18 @@
-//! The encodings against rows of the Standard.
+//! Compares the encodings with rows of the Standard.
 use crate::compared::holds;
 use legacy_index_files::{CodecName, ENCODINGS, EncoderIndex, Encoding, FileIndex};
 
-/// The codec of the encoding with this name.
+/// Returns the codec of the encoding with this name.
 fn codec_of(name: &str) -> Option<CodecName> {
     Some(Encoding::by_name(name)?.codec())
 }
 
-/// The name of the file that the encoding with this name has for this index.
+/// Returns the name of the file that the encoding with this name has for this index.
 fn file_name_of(name: &str, index: FileIndex) -> Option<Option<&'static str>> {
     Some(Encoding::by_name(name)?.file_name(index))
 }
 
-/// A name, and the codec of the encoding with it, if there is one.
+/// A name, and the codec of the encoding with that name, if there is one.
 type Name<'a> = (&'a str, Option<CodecName>);
 
 const NAMES: &[Name] = &[
@@ -41,7 +41,7 @@ fn encodings_are_known_by_their_names(rt: HostRuntime) {
     }
 }
 
-/// The name of an encoding, an index, and the name of its file, if the encoding has one of that index.
+/// The name of an encoding, an index, and the name of its file, if the encoding has one for it.
 type File<'a> = (&'a str, FileIndex, Option<&'a str>);
 
 const FILES: &[File] = &[
@@ -70,7 +70,7 @@ fn index_files_have_their_published_names(rt: HostRuntime) {
     holds(&rt, "single-byte encodings", single_byte_count() == 28);
 }
 
-/// How many encodings are single-byte encodings.
+/// Returns the number of single-byte encodings.
 fn single_byte_count() -> usize {
     ENCODINGS
         .iter()
@@ -90,7 +90,7 @@ const ENCODERS: &[Encoders] = &[
     ("UTF-16LE", &[]),
 ];
 
-/// The indexes of the encoder of the encoding with this name.
+/// Returns the indexes of the encoder of the encoding with this name.
 fn encoder_indexes_of(name: &str) -> Option<&'static [EncoderIndex]> {
     Some(Encoding::by_name(name)?.encoder_indexes())
 }

@@ -6,13 +6,13 @@ use std::test::Fail;
 
 const EUC_KR: FileIndex = FileIndex::EucKr;
 
-/// What a file is read as. No test needs to know more of it than it asks.
-// Without clauses: those of `read_index` would be looked through in each statement that follows a call.
+/// Reads a file of an index.
+// It has no clauses: those of `read_index` would be searched in each statement that follows a call.
 fn read(alloc: Global, index: FileIndex, text: &[u8]) -> Result<FileTable, IndexFileError> {
     read_index(alloc, index, text)
 }
 
-/// Whether a file of index EUC-KR gives these values.
+/// Checks whether a file of index EUC-KR gives these values.
 fn gives(alloc: Global, text: &[u8], values: &[u16]) -> bool {
     match read(alloc, EUC_KR, text) {
         Ok(FileTable::Narrow(found)) => found.as_slice() == values,
@@ -20,7 +20,7 @@ fn gives(alloc: Global, text: &[u8], values: &[u16]) -> bool {
     }
 }
 
-/// Asserts that a file's first malformed line is this one.
+/// Asserts the number of a file's first malformed line.
 fn refuses(rt: &impl Abort, alloc: Global, name: FileIndex, text: &[u8], number: usize) {
     let answer = read(alloc, name, text);
     let wanted = IndexFileError::Line(number);
@@ -30,7 +30,7 @@ fn refuses(rt: &impl Abort, alloc: Global, name: FileIndex, text: &[u8], number:
 /// What a file of index EUC-KR shows, the file, and its values.
 type Entries<'a> = (&'a str, &'a [u8], &'a [u16]);
 
-// Rows are constants: those of an array in a test are laid out there one by one.
+// Rows are constants, because those of an array in a test are compiled there one by one.
 const ENTRIES: &[Entries] = &[
     ("comments, empty lines", b"# x\n\n1 0xAC02g\n", &[0, 0xAC02]),
     ("blanks", b" \t\n\r\n \t\r\n\t# 1 0x41\n##\n0 0x41", &[0x41]),
@@ -98,7 +98,7 @@ fn answers_the_first_malformed_line(rt: HostRuntime) {
     }
 }
 
-/// Whether a file of ranges gives these.
+/// Checks whether a file of ranges gives these.
 fn gives_ranges(alloc: Global, text: &[u8], ranges: &[(u16, u16)]) -> bool {
     match read(alloc, FileIndex::Ranges, text) {
         Ok(FileTable::Ranges(found)) => found.as_slice() == ranges,
@@ -129,7 +129,7 @@ fn reads_ranges(rt: HostRuntime) {
     }
 }
 
-/// Whether a file of index Big5 gives these values.
+/// Checks whether a file of index Big5 gives these values.
 fn gives_wide(alloc: Global, text: &[u8], values: &[u32]) -> bool {
     match read(alloc, FileIndex::Big5, text) {
         Ok(FileTable::Wide(found)) => found.as_slice() == values,
@@ -143,7 +143,7 @@ fn reads_wide_values_of_big5_alone(rt: HostRuntime) {
     holds(&rt, "wide values", is_so);
 }
 
-/// Whether a file of a single-byte index gives a first value, a last one, and no other.
+/// Checks whether a file of a single-byte index gives a first value, a last one, and no other.
 fn gives_ends(alloc: Global, text: &[u8], (first, last): (u16, u16)) -> bool {
     match read(alloc, FileIndex::SingleByte, text) {
         Ok(FileTable::Bytes(found)) => {
@@ -165,7 +165,7 @@ fn reads_a_single_byte_index(rt: HostRuntime) {
     holds(&rt, "no entry", gives_ends(rt.alloc(), b"", (0, 0)));
 }
 
-/// An index, its last pointer, and the one past it.
+/// An index, a line with its last pointer, and a line with the pointer after it.
 type Ends<'a> = (FileIndex, &'a [u8], &'a [u8]);
 
 const ENDS: &[Ends] = &[
@@ -187,7 +187,9 @@ fn reads_pointers_below_the_greatest_length(rt: HostRuntime) {
     }
 }
 
-/// A file with an entry for each pointer below 23940, which is seven more.
+/// Returns a file with an entry for each pointer below 23940, and its values.
+///
+/// Each value is its pointer plus seven.
 fn each_pointer(alloc: Global) -> Result<(String, Vec<u16>), AllocError> {
     let mut text = String::new(alloc);
     let mut values = Vec::new(alloc);
@@ -215,7 +217,7 @@ fn shows_its_faults(rt: HostRuntime) {
 
 const NINE: &[u8] = b"0 0x1\n1 0x2\n2 0x3\n3 0x4\n4 0x5\n5 0x6\n6 0x7\n7 0x8\n8 0x9";
 
-/// Whether a table has nine entries, from 1 to 9, or nine ranges.
+/// Checks whether a table has nine entries, from 1 to 9, or nine ranges.
 fn has_nine(table: &FileTable) -> bool {
     match table {
         FileTable::Wide(values) => values.as_slice() == [1, 2, 3, 4, 5, 6, 7, 8, 9].as_slice(),
@@ -225,8 +227,8 @@ fn has_nine(table: &FileTable) -> bool {
     }
 }
 
-// In a run where one allocation is refused, whichever it is, the call that asked for it answers `Memory`,
-// and every other one its table.
+// If any one allocation is refused in a run, the call that asked for it returns `Memory`, and every other call its
+// table.
 #[test]
 fn answers_memory_only_where_a_growth_is_refused(rt: HostRuntime) {
     let mut refused = false;

@@ -1,6 +1,8 @@
-//! Tests of what uses the codecs, by public calls: index files and packing (`legacy_index_files`), recoding and the
-//! program (`legacy_streams`, `legacy_command`), and the callers (`legacy_uses`). They are a crate of their own: the
-//! tests of a crate are proved beside all of that crate, and these need none of it.
+//! Tests of the crates that use the codecs, by their public calls.
+//!
+//! They test index files and packing (`legacy_index_files`), recoding and the program
+//! (`legacy_streams`, `legacy_command`), and the callers (`legacy_uses`). They are a crate of their
+//! own: the tests of a crate are proved beside all of that crate, and these need none of it.
 #![tactic(auto)]
 
 #[cfg(test)]
@@ -8,9 +10,13 @@ mod callers;
 #[cfg(test)]
 mod compared;
 #[cfg(test)]
+mod encoding;
+#[cfg(test)]
 mod encodings;
 #[cfg(test)]
 mod index_file;
+#[cfg(test)]
+mod own_texts;
 #[cfg(test)]
 mod owned_indexes;
 #[cfg(test)]
@@ -21,3 +27,5 @@ mod program;
 mod recoding;
 #[cfg(test)]
 mod streams;
+#[cfg(test)]
+mod words;

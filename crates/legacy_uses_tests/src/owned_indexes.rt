@@ -1,12 +1,12 @@
-//! An owning set of indexes, from the text of a file to what tables give.
+//! An owning set of indexes, from the text of a file to the scalars of tables.
 use crate::compared::{holds, is_fault, is_refusal, is_scalar};
 use legacy_index_files::{FileIndex, IndexFileError, OwnedIndexes};
 use legacy_tables::{IndexName, SingleByteTable, TableError, Tables};
 use std::alloc::Global;
 use std::process::Abort;
 
-// The functions up to the first test have no clauses: those of the calls in them would be looked through in each
-// statement that follows one.
+// The functions up to the first test have no clauses: those of the calls in them would be searched in each statement
+// that follows one.
 
 /// Reads a file into a set.
 fn read(
@@ -18,17 +18,17 @@ fn read(
     owned.read(alloc, index, text)
 }
 
-/// The tables of a set.
+/// Returns the tables of a set.
 fn tables_of(owned: &OwnedIndexes) -> Result<Tables<'_>, TableError> {
     owned.tables()
 }
 
-/// The single-byte table of a set.
+/// Returns the single-byte table of a set.
 fn single_byte_table_of(owned: &OwnedIndexes) -> Result<SingleByteTable, TableError> {
     owned.single_byte_table()
 }
 
-/// The scalar of a pointer.
+/// Returns the scalar of a pointer.
 fn scalar_of(tables: &Tables, index: IndexName, pointer: usize) -> Option<char> {
     tables.idx(index, pointer)
 }
@@ -74,7 +74,7 @@ fn tables_are_borrowed_of_what_files_say(rt: HostRuntime) {
     }
 }
 
-/// What the set reads of a file of index ISO-2022-JP katakana.
+/// Reads a file of index ISO-2022-JP katakana into a set.
 fn read_katakana(
     owned: &mut OwnedIndexes,
     alloc: Global,
@@ -83,7 +83,7 @@ fn read_katakana(
     owned.read_katakana(alloc, text)
 }
 
-/// A file of index ISO-2022-JP katakana, and its refusal.
+/// A file of index ISO-2022-JP katakana, and its error.
 type Katakana<'a> = (&'a [u8], Option<IndexFileError>);
 
 const KATAKANA: &[Katakana] = &[
@@ -103,7 +103,7 @@ fn katakana_are_63_or_none(rt: HostRuntime) {
     }
 }
 
-/// A set with the euro sign at pointer 0 of a single-byte index, as in windows-1252.
+/// Asserts that a set has the euro sign at pointer 0 of a single-byte index, as in windows-1252.
 fn has_the_euro_sign(rt: &impl Abort, owned: &OwnedIndexes) {
     match single_byte_table_of(owned) {
         Ok(table) => is_scalar(rt, "a single-byte index", table.scalar(0), Some('\u{20AC}')),

@@ -1,6 +1,6 @@
 use crate::compared::{are_pointers, holds, is_fault, is_scalar};
 use legacy_index_files::{FileIndex, OwnedIndexes, OwnedPacked, PackedIndexes, pack};
-use legacy_tables::{IndexName, Indexes, KeptTables, Packed, Run, TableError, Tables};
+use legacy_tables::{DecoderTables, IndexName, Indexes, Packed, Run, TableError, Tables};
 use std::alloc::Global;
 use std::process::Abort;
 use std::test::Fail;
@@ -18,25 +18,25 @@ fn no_entries<'a>() -> Indexes<'a> {
     }
 }
 
-// The next three functions have no clauses: those of the calls in them would be looked through in each statement that
-// follows one.
+// The next three functions have no clauses: those of the calls in them would be searched in each statement that follows
+// one.
 
-/// What is packed of indexes.
+/// Packs indexes.
 fn packed_of(rt: &impl Abort, alloc: Global, indexes: &Indexes) -> OwnedPacked {
     pack(alloc, indexes).expect(rt, "no memory")
 }
 
-/// The first fault of indexes with what is packed of them.
+/// Returns the first fault of indexes with these packed parts.
 fn fault_with<'a>(indexes: &Indexes<'a>, packed: &Packed<'a>) -> Option<TableError> {
     Tables::packed_of(indexes, packed).err()
 }
 
-/// The first fault of indexes.
+/// Returns the first fault of indexes.
 fn fault_of<'a>(indexes: &Indexes<'a>) -> Option<TableError> {
     Tables::new(indexes).err()
 }
 
-/// Asserts that packed indexes have no fault of their own beside indexes.
+/// Asserts that packed indexes have no fault of their own beside their indexes.
 fn has_no_own_fault<'a>(rt: &impl Abort, indexes: &Indexes<'a>, packed: &Packed<'a>) {
     let (came, wanted) = (fault_with(indexes, packed), fault_of(indexes));
     is_fault(rt, "packed", came.as_ref(), wanted.as_ref());
@@ -53,21 +53,21 @@ const ROWS: &[Row] = &[
         &[(0, 0xAC02, 2), (3, 0xAC05, 1)],
         &[0, 1, 3],
     ),
-    // no pointer after the last one that is mapped
+    // No pointer is after the last one that has a scalar.
     (&[0, 0xAC02, 0], &[(1, 0xAC02, 1)], &[1]),
-    // scalars that fall, and one that stands twice
+    // Scalars that fall, and one that occurs twice.
     (
         &[0xAC05, 0xAC04, 0xAC05],
         &[(0, 0xAC05, 1), (1, 0xAC04, 2)],
         &[1, 0],
     ),
-    // a scalar again and again
+    // One scalar several times.
     (
         &[0xAC02, 0xAC02, 0xAC02],
         &[(0, 0xAC02, 1), (1, 0xAC02, 1), (2, 0xAC02, 1)],
         &[0],
     ),
-    // no run goes on over the surrogates, or past U+FFFF
+    // No run continues over the surrogates, or past U+FFFF.
     (
         &[0xFFFF, 0xD7FF, 0xE000, 0xE001],
         &[(0, 0xFFFF, 1), (1, 0xD7FF, 1), (2, 0xE000, 2)],
@@ -75,7 +75,7 @@ const ROWS: &[Row] = &[
     ),
 ];
 
-/// Whether these runs were made.
+/// Checks whether these runs were made.
 fn are_runs(came: &[Run], wanted: &[(u16, u32, u16)]) -> bool {
     if came.len() != wanted.len() {
         return false;
@@ -100,16 +100,16 @@ fn runs_and_orders_of_an_index(rt: HostRuntime) {
     }
 }
 
-/// Places of index jis0208 with their scalar values, and the pointers that Shift_JIS and EUC-JP take.
+/// Entries of index jis0208 by their pointers, and the pointers that Shift_JIS and EUC-JP use.
 type Jis<'a> = (&'a [(usize, u16)], &'a [u16], &'a [u16]);
 
 const JIS: &[Jis] = &[
     (&[(8647, 0xFF02), (10739, 0xFF02)], &[10739], &[8647]),
-    // NEC's selection is from 8272 to 8835
+    // NEC's selection is from 8272 to 8835.
     (&[(8271, 0xFF02)], &[8271], &[8271]),
     (&[(8272, 0xFF02)], &[], &[8272]),
     (&[(8835, 0xFF02)], &[], &[8835]),
-    // EUC-JP's forms end before 8836
+    // EUC-JP's forms end before 8836.
     (&[(10716, 0xFF02)], &[10716], &[]),
 ];
 
@@ -133,18 +133,18 @@ fn two_orders_of_jis0208(rt: HostRuntime) {
     }
 }
 
-/// Places of index Big5 with their scalar values, and the pointers that Big5 takes.
+/// Entries of index Big5 by their pointers, and the pointers that Big5 uses.
 type Big5<'a> = (&'a [(usize, u32)], &'a [u16]);
 
 const BIG5: &[Big5] = &[
-    // of six scalars the last one, of others the first
+    // Of six scalars the last pointer, of others the first.
     (&[(5247, 0x2550), (18991, 0x2550)], &[18991]),
     (&[(5247, 0x2551), (18991, 0x2551)], &[5247]),
     (&[(5247, 0x5345), (18991, 0x5345)], &[18991]),
-    // none below 5024
+    // No pointer below 5024.
     (&[(5023, 0x4E00)], &[]),
     (&[(5023, 0x2550), (5024, 0x2550)], &[5024]),
-    // scalars past U+FFFF
+    // Scalars past U+FFFF.
     (
         &[(5024, 0x2_FFFF), (5026, 0x2_008A), (5028, 0x4E00)],
         &[5028, 5026, 5024],
@@ -168,7 +168,7 @@ fn an_order_of_big5(rt: HostRuntime) {
     }
 }
 
-/// Entries of index Big5 that are refused, and are packed all the same.
+/// Entries of index Big5 that are refused but can be packed.
 const REFUSED: &[&[u32]] = &[
     &[0x41],
     &[0xD800, 0xD801],
@@ -189,7 +189,7 @@ fn indexes_that_are_refused_are_packed_too(rt: HostRuntime) {
 
 /// Asserts that tables are packed ones of the entries below.
 fn are_packed_of_three(rt: &impl Abort, tables: &Tables) {
-    let is_packed = matches!(tables.kept(), KeptTables::Packed(_));
+    let is_packed = tables.flat().is_none();
     holds(rt, "packed", is_packed);
     let scalar = tables.idx(IndexName::EucKr, 1);
     is_scalar(rt, "pointer 1", scalar, Some('\u{AC03}'));
@@ -209,8 +209,8 @@ fn an_owning_set_makes_packed_tables(rt: HostRuntime) -> Result<(), Fail> {
     Ok(())
 }
 
-// In a run where one allocation is refused, whichever it is, the call that asked for it answers so, and
-// every other one what it makes.
+// If any one allocation is refused in a run, the call that asked for it returns that error, and every other call what
+// it makes.
 #[test]
 fn answers_memory_only_where_a_growth_is_refused(rt: HostRuntime) {
     let mut refused = false;
@@ -228,4 +228,16 @@ fn answers_memory_only_where_a_growth_is_refused(rt: HostRuntime) {
             }
         }
     }
+}
+
+#[test]
+fn a_run_shows_its_pointer_first(rt: HostRuntime) {
+    let run = Run {
+        pointer: 1,
+        scalar: 0xAC03,
+        length: 2,
+    };
+    let shown = format!(in rt.alloc(); "{run:?}").expect(&rt, "no memory");
+    let wanted = "Run { pointer: 1, scalar: 44035, length: 2 }";
+    holds(&rt, "the run", shown.as_str() == wanted);
 }

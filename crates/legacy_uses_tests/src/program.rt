@@ -1,5 +1,7 @@
 //! The program: its statuses and texts, and what it says where a stream or memory fails, or a word is no text.
+use crate::compared::holds;
 use crate::streams::{BYTES, FailingReader, FailingWriter, TEXT};
+use crate::words::words_in;
 use legacy_command::arguments::{ArgumentsError, arguments, status_of};
 use legacy_command::program::{Fault, run};
 use std::alloc::Global;
@@ -11,7 +13,7 @@ use std::test::Fail;
 
 const USAGE: &[u8] = b"usage: legacy_recode [--text] CODEC [INDEX FILE]...\n";
 
-/// The program's answer.
+/// Runs the program and returns its status.
 fn ran(
     alloc: Global,
     words: &[&str],
@@ -21,20 +23,6 @@ fn ran(
     errors: &mut impl Write,
 ) -> u8 {
     run(alloc, words, files, input, output, errors)
-}
-
-/// The words of a line, of none where it is empty.
-fn words_in(alloc: Global, line: &str) -> Option<Vec<&str>> {
-    let mut words = Vec::new(alloc);
-    if line.is_empty() {
-        return Some(words);
-    }
-    for word in line.split(' ') {
-        let Ok(()) = words.push(word) else {
-            return None;
-        };
-    }
-    Some(words)
 }
 
 /// Whether the program answers this status to the words, the files and the input, and prints these lines and errors.
@@ -57,11 +45,6 @@ fn prints(
     found == status && output.as_slice() == lines && errors.as_slice() == error
 }
 
-/// Asserts what was found of these words.
-fn holds(rt: &impl Abort, line: &str, is_so: bool) {
-    assert!(rt; is_so, "{line}");
-}
-
 // More than are told at once, from a place of one digit to places of four.
 #[test]
 fn tells_each_malformed_byte(rt: HostRuntime) -> Result<(), Fail> {
@@ -75,7 +58,7 @@ fn tells_each_malformed_byte(rt: HostRuntime) -> Result<(), Fail> {
     Ok(())
 }
 
-/// Words, files, an input, and the lines or the text of it.
+/// Words, files, an input, and its lines or its text.
 type Request = (
     &'static str,
     &'static [Option<&'static [u8]>],
@@ -84,7 +67,7 @@ type Request = (
 );
 
 const REQUESTS: &[Request] = &[
-    // without files
+    // Without files.
     ("x-user-defined", &[], BYTES, b"U+0061\nU+F780\nU+F7FF\n"),
     ("replacement", &[], b"AB", b"bad 0 1\n"),
     ("replacement", &[], b"", b""),
@@ -118,7 +101,7 @@ const REQUESTS: &[Request] = &[
         b"aaaaaaaaa\x80a\x80\x81",
         b"U+0061\nU+0061\nU+0061\nU+0061\nU+0061\nU+0061\nU+0061\nU+0061\nU+0061\nbad 9 1\nU+0061\nbad 11 1\nbad 12 1\n",
     ),
-    // with files
+    // With files.
     (
         "euc-kr euc-kr FILE",
         &[Some(b"0 0xAC02\n")],
@@ -155,7 +138,7 @@ const REQUESTS: &[Request] = &[
         b"\xC1\xF4\x80",
         b"U+0391\nU+03C4\nbad 2 1\n",
     ),
-    // to text
+    // To text.
     (
         "--text gb18030",
         &[],
@@ -195,7 +178,7 @@ type Refused = (
 const TWO_FILES: &str = "euc-kr euc-kr KR single-byte SB";
 
 const REFUSED: &[Refused] = &[
-    // What is wrong with the files is told.
+    // The error says what is wrong with the files.
     (TWO_FILES, &[None, None], 1, b"KR: cannot be read\n"),
     (TWO_FILES, &[Some(b""), None], 1, b"SB: cannot be read\n"),
     (TWO_FILES, &[Some(b"# x\n1\n"), None], 1, b"KR: line 2\n"),
@@ -252,7 +235,7 @@ fn refuses_words_and_files(rt: HostRuntime) {
     }
 }
 
-/// Has these words, the first of which is the program's name, and no environment.
+/// An environment with these words, of which the first is the program's name, and nothing else.
 #[derive(Drop)]
 struct Words<'a> {
     words: &'a [&'a [u8]],
@@ -280,12 +263,12 @@ impl Env for Words<'_> {
     }
 }
 
-/// The words behind the first one.
+/// Returns the words after the first one.
 fn taken(alloc: Global, words: &[&[u8]]) -> Result<Vec<String>, ArgumentsError> {
     arguments(&(Words { words }, alloc))
 }
 
-// In a run where one allocation is refused, the call that it hits tells so.
+// If one allocation is refused in a run, the call that asked for it returns that error.
 #[test]
 fn takes_words_that_are_text(rt: HostRuntime) {
     let named: [&[u8]; 3] = [b"legacy_recode", b"big5", b"\xEA\xB0\x82"];
@@ -299,7 +282,7 @@ fn takes_words_that_are_text(rt: HostRuntime) {
     );
 }
 
-// Likewise.
+// If one allocation is refused in a run, the call that asked for it returns that error.
 #[test]
 fn refuses_words_that_are_no_text(rt: HostRuntime) {
     let no_text: [&[u8]; 2] = [b"legacy_recode", b"\xFF"];
@@ -314,7 +297,7 @@ fn refuses_words_that_are_no_text(rt: HostRuntime) {
     assert_eq!(rt; status_of(&ArgumentsError::Memory), 1);
 }
 
-/// Whether the fault prints this text.
+/// Checks whether the fault prints this text.
 fn says(alloc: Global, fault: &impl Display, text: &str) -> bool {
     match format!(in alloc; "{fault}") {
         Ok(found) => found.as_str() == text,
@@ -333,7 +316,9 @@ fn the_faults_print_their_texts(rt: HostRuntime) {
     assert!(rt; says(rt.alloc(), &ArgumentsError::Memory, "memory"));
 }
 
-/// Words; reads; writes, and whether there is a flush; writes of errors; the status, the lines and the error.
+/// Words; numbers of reads, writes and writes of errors; the status, the lines and the error.
+///
+/// With the writes comes whether a flush succeeds.
 type Failure = (
     &'static str,
     usize,
@@ -381,13 +366,15 @@ const FAILURES: &[Failure] = &[
         b"",
         b"input: cannot be read\n",
     ),
-    // A failed line of error changes no status.
+    // If the line of an error cannot be written, the status is the same.
     ("latin", 4, (9, true), 0, 2, b"", b""),
     ("big5 big5 FILE", 4, (9, true), 0, 1, b"", b""),
 ];
 
-/// Whether the program answers this status to the words, reading a byte at a read of so many, writing up to seven bytes
-/// at a write of so many, and prints these lines and errors.
+/// Checks the status and the output of the program for these words, with streams that fail.
+///
+/// It can make `reads` reads of one byte, `writes` writes of up to seven bytes, and `error_writes`
+/// writes of errors.
 fn fails(
     alloc: Global,
     line: &str,
@@ -443,7 +430,9 @@ fn tells_that_a_stream_fails(rt: HostRuntime) {
     }
 }
 
-/// The program's answer to EUC-KR with a file, and what it prints in seven bytes for lines and seven for an error.
+/// Runs the program for EUC-KR with a file, and returns its status and its output.
+///
+/// The lines have room for seven bytes, and so have errors.
 fn ran_without_memory(alloc: Global) -> (u8, [u8; 7], [u8; 7]) {
     let (mut lines, mut line) = ([0u8; 7], [0u8; 7]);
     let mut output: &mut [u8] = &mut lines;
@@ -456,7 +445,7 @@ fn ran_without_memory(alloc: Global) -> (u8, [u8; 7], [u8; 7]) {
     (status, lines, line)
 }
 
-// In a run where one allocation is refused, a call that it hits tells so, and else it prints its lines.
+// If one allocation is refused in a run, the program says so if it asked for it, and otherwise prints its lines.
 #[test]
 fn tells_that_memory_is_refused(rt: HostRuntime) {
     let (status, lines, line) = ran_without_memory(rt.alloc());

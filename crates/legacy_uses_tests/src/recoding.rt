@@ -1,4 +1,4 @@
-//! Recoding: what stands where a read or a write fails, and what the next piece of an input takes on.
+//! Recoding: what is written before a read or a write fails, and what is kept from piece to piece.
 use crate::streams::{BYTES, FailingReader, FailingWriter, TEXT};
 use legacy_codecs::{
     EucKrDecoder, GB18030_2022_PUA, Indexes, RawDecoder, Tables, UserDefinedDecoder, Utf16Decoder,
@@ -7,7 +7,7 @@ use legacy_streams::recode::{RecodeError, recode};
 use legacy_streams::text::recode_text;
 use std::alloc::Global;
 
-/// What recoding answers: to lines as to text without a malformed sequence.
+/// The result of recoding. Recoding to lines returns what text without a malformed sequence does.
 type Recoded = Result<bool, RecodeError>;
 
 /// Recodes to text, or to lines.
@@ -26,7 +26,7 @@ fn recodes(
     }
 }
 
-/// Whether recoding answers this, and these bytes stand then in a writer of so many writes of so many bytes.
+/// Checks the result of recoding, and what it wrote to a writer that fails after `writes` writes.
 fn gives(
     alloc: Global,
     is_text: bool,
@@ -46,8 +46,9 @@ fn gives(
     found == *answer && output.written.as_slice() == bytes
 }
 
-/// Whether recoding the bytes from x-user-defined, read and written by so many bytes so many times, answers this, and
-/// these bytes stand then.
+/// Checks the result of recoding bytes of x-user-defined, and what it wrote.
+///
+/// Reads and writes have a greatest length, and fail after some of them.
 fn user_defined_gives(
     alloc: Global,
     is_text: bool,
@@ -70,11 +71,13 @@ fn user_defined_gives(
     )
 }
 
-/// Bytes at a read, and reads; bytes at a write, and writes; the answer; and what stands then.
+/// Whether the output is text, two pairs of limits, the result, and the output.
+///
+/// The limits are bytes a read, and reads; and bytes a write, and writes.
 type Recoding = (bool, (usize, usize), (usize, usize), Recoded, &'static [u8]);
 
-// A read of all three bytes makes one piece of them, and its lines, or its text, are written at once; a read of each
-// byte makes three pieces.
+// A read of all three bytes makes one piece, whose lines or text are written at once. A read of each byte makes three
+// pieces.
 const RECODINGS: &[Recoding] = &[
     (
         false,
@@ -83,7 +86,7 @@ const RECODINGS: &[Recoding] = &[
         Ok(false),
         b"U+0061\nU+F780\nU+F7FF\n",
     ),
-    // A failed read keeps the lines before it.
+    // After a failed read the lines before it are kept.
     (false, (1, 0), (99, 99), Err(RecodeError::Read), b""),
     (false, (1, 1), (99, 99), Err(RecodeError::Read), b"U+0061\n"),
     (
@@ -107,7 +110,7 @@ const RECODINGS: &[Recoding] = &[
         Ok(false),
         b"U+0061\nU+F780\nU+F7FF\n",
     ),
-    // A failed write keeps the bytes before it: of a line after another, and of all three.
+    // After a failed write the bytes before it are kept: of one line after another, and of all three.
     (false, (1, 4), (7, 0), Err(RecodeError::Write), b""),
     (false, (1, 4), (7, 1), Err(RecodeError::Write), b"U+0061\n"),
     (
@@ -183,7 +186,7 @@ const RECODINGS: &[Recoding] = &[
         Ok(false),
         b"U+0061\nU+F780\nU+F7FF\n",
     ),
-    // A failed read keeps the text before it.
+    // After a failed read the text before it is kept.
     (true, (1, 0), (99, 99), Err(RecodeError::Read), b""),
     (true, (1, 1), (99, 99), Err(RecodeError::Read), b"\x61"),
     (
@@ -195,7 +198,7 @@ const RECODINGS: &[Recoding] = &[
     ),
     (true, (1, 3), (99, 99), Err(RecodeError::Read), TEXT),
     (true, (1, 4), (99, 99), Ok(false), TEXT),
-    // A failed write keeps the text before it: of a scalar after another, and of all three.
+    // After a failed write the text before it is kept: of one scalar after another, and of all three.
     (true, (1, 4), (3, 0), Err(RecodeError::Write), b""),
     (true, (1, 4), (3, 1), Err(RecodeError::Write), b"\x61"),
     (
@@ -263,7 +266,7 @@ fn a_failed_stream_keeps_what_stands_before_it(rt: HostRuntime) {
     );
 }
 
-/// These bytes, so many times.
+/// Returns these bytes, `times` times.
 fn repeated(alloc: Global, bytes: &[u8], times: usize) -> Option<Vec<u8>> {
     let mut all = Vec::new(alloc);
     for _ in 0..times {
@@ -310,7 +313,7 @@ fn tells_of_a_replacement_in_any_piece(rt: HostRuntime) {
     );
 }
 
-/// Tables without an entry.
+/// Returns tables without an entry.
 fn empty_tables<'a>() -> Option<Tables<'a>> {
     let indexes = Indexes {
         big5: &[],
@@ -325,7 +328,7 @@ fn empty_tables<'a>() -> Option<Tables<'a>> {
     Tables::new(&indexes).ok()
 }
 
-/// A decoder that holds a lead back.
+/// Returns a decoder that holds back a lead.
 fn behind_a_lead<'a>(tables: &'a Tables<'a>) -> EucKrDecoder<'a> {
     let mut decoder = EucKrDecoder::new(tables);
     decoder.decode_to_utf8_raw(b"\x81", &mut [0; 4], false);

@@ -1,4 +1,4 @@
-//! Readers and writers that fail, and what they read and must write.
+//! Readers and writers that fail, with an input and the wanted output.
 use std::io::{self, Error, ErrorKind, Read, Write};
 
 /// Three bytes, an input of x-user-defined.
@@ -7,7 +7,7 @@ pub const BYTES: &[u8] = b"\x61\x80\xFF";
 /// The text of those bytes.
 pub const TEXT: &[u8] = b"\x61\xEF\x9E\x80\xEF\x9F\xBF";
 
-/// Gives so many bytes at a read at the most, and an error after so many reads.
+/// A reader that reads at most `most` bytes at once, and fails after `reads` reads.
 #[derive(Drop)]
 pub struct FailingReader<'a> {
     pub bytes: &'a [u8],
@@ -28,7 +28,9 @@ impl Read for FailingReader<'_> {
     }
 }
 
-/// Takes so many bytes of a write at the most, and gives an error after so many writes, or at a flush.
+/// A writer that takes at most `most` bytes at once.
+///
+/// It fails after `writes` writes, and at a flush if `flushes` is not set.
 #[derive(Drop)]
 pub struct FailingWriter {
     pub written: Vec<u8>,

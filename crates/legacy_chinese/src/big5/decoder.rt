@@ -12,10 +12,10 @@ ghost use Rattle.legacy_chinese.specs.Big5Shown.{big5_codec};
 ghost use Rattle.legacy_decoder_engine.proofs.TwoByteMeets.{is_lead-in};
 
 use super::places::{ROWS_OF_157, TRAILS};
-use legacy_base::{DecoderTables, IndexName, Tables};
-use legacy_decoder_engine::common_forms::CommonForm;
+use legacy_base::{DecoderTables, Destination, FlatTables, IndexName, Tables};
+use legacy_decoder_engine::common_forms::{CommonForm, read_common_forms};
 use legacy_decoder_engine::held::Lead;
-use legacy_decoder_engine::lead::{LeadCodec, LeadDecoder};
+use legacy_decoder_engine::lead::{LeadCodec, LeadDecoder, LeadForms, LeadRuns};
 use legacy_decoder_engine::moves::{Fed, Room};
 use legacy_decoder_engine::places::pair_pointer;
 use legacy_decoder_engine::two_byte::{read_first, read_trail};
@@ -25,14 +25,19 @@ pub struct Big5;
 
 /// The decoder of Big5 (Encoding Standard, "Big5 decoder").
 ///
-/// ASCII bytes are themselves. A lead from 81 to FE and a trail from 40 to 7E or from A1 to FE give the
-/// scalar of their pointer in index Big5; the pointers 1133, 1135, 1164 and 1166 give a letter and a
-/// combining mark. Malformed are the bytes 80 and FF where a form begins, a lead at the end of the
-/// input, and a lead with a byte that gives no scalar with it: both of them, or where that byte is ASCII
-/// the lead alone, and the byte is read again.
+/// ASCII bytes are themselves. A lead is 81 to FE, and a trail is 40 to 7E or A1 to FE. They give
+/// the scalar of their pointer in index Big5. The pointers 1133, 1135, 1164 and 1166 give a letter
+/// and a combining mark.
+///
+/// Malformed sequences:
+///
+/// - the bytes 80 and FF at the beginning of a sequence (1 byte);
+/// - a lead at the end of the input (1 byte);
+/// - a lead with a byte that gives no scalar with it (2 bytes); if that byte is ASCII, only the
+///   lead (1 byte), and the ASCII byte is read again.
 pub type Big5Decoder<'a> = LeadDecoder<'a, Big5>;
 
-/// The scalar of two bytes, if they are a lead and a trail whose pointer has an entry.
+/// Returns the scalar of two bytes, or `None` unless they are a lead and a trail with an entry.
 #[inline]
 fn entry_scalar<V: DecoderTables>(tables: &V, lead: u8, trail: u8) -> Option<char>
     ensures value { IfSome result (λ c. (is_lead lead ≡ true)
@@ -43,8 +48,9 @@ fn entry_scalar<V: DecoderTables>(tables: &V, lead: u8, trail: u8) -> Option<cha
     tables.idx(IndexName::Big5, pointer)
 }
 
-/// Reads a trail behind its lead, which have this pointer: four pointers give a letter and a combining
-/// mark, and the others their entry.
+/// Reads a trail that has this pointer with its lead.
+///
+/// Four pointers give a letter and a combining mark, and the others give their entry.
 #[inline]
 fn read_pointer(tables: &Tables<'_>, pointer: usize, trail: u8) -> Fed
     ensures { (lead : ℕ) → Took (trail_step 1 (big5_scalars tables.now.flat.big5 pointer) trail)
@@ -112,5 +118,13 @@ impl LeadCodec for Big5 {
     fn utf8_length(byte_length: usize, held: usize) -> Option<usize> {
         let thrice = byte_length.checked_add(held)?.checked_mul(3)?;
         thrice.checked_add(3)
+    }
+}
+
+impl LeadRuns for Big5 {
+    #[inline(always)]
+    fn read_flat<T: Destination>(tables: &FlatTables<'_>, src: &[u8], dst: &mut T) -> usize {
+        let forms = LeadForms::<Big5, FlatTables<'_>>::new(tables, None);
+        read_common_forms(&forms, src, dst)
     }
 }

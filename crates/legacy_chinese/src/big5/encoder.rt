@@ -14,12 +14,13 @@ use legacy_tables::{Marks, PackedPart};
 
 /// The encoder of Big5 (Encoding Standard, "Big5 encoder").
 ///
-/// ASCII is itself, and a scalar that index Big5 has behind Hong Kong's supplement, from pointer 5024 on,
-/// is the lead and the trail of a pointer there: of the last one for U+2550, U+255E, U+2561, U+256A,
-/// U+5341 and U+5345, and else of the first. All other scalars are unmappable.
+/// ASCII is itself. A scalar of index Big5 from pointer 5024 on is the lead and the trail of a
+/// pointer there. The pointers below 5024 belong to the Hong Kong supplement. For U+2550, U+255E,
+/// U+2561, U+256A, U+5341 and U+5345 it is the last such pointer, and for all others the first. All
+/// other scalars are unmappable.
 pub type Big5Encoder<'a> = PairEncoder<'a, Big5>;
 
-/// The lead and the trail of a scalar by index Big5.
+/// Returns the lead and the trail of a scalar in index Big5, or `None`.
 #[inline(always)]
 fn pair<V: EncoderTables>(tables: &V, c: char) -> Option<(u8, u8)>
     ensures { option_map (λ pair. pair.0 ∷ pair.1 ∷ []) result ≡ option_map big5_bytes

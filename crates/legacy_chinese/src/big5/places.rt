@@ -1,6 +1,6 @@
-//! The places of the leads and the trails of Big5 in its index, whose rows have 157 entries.
+//! The places of the leads and trails of Big5 in its index, whose rows have 157 entries.
 
-/// Those of the leads 81 to FE.
+/// The places of the leads 81 to FE.
 #[rattlefmt::skip]
 pub static ROWS_OF_157: [u16; 256] = [
     65535, 65535, 65535, 65535, 65535, 65535, 65535, 65535, 65535, 65535, 65535, 65535, 65535, 65535, 65535, 65535,
@@ -21,7 +21,7 @@ pub static ROWS_OF_157: [u16; 256] = [
     17427, 17584, 17741, 17898, 18055, 18212, 18369, 18526, 18683, 18840, 18997, 19154, 19311, 19468, 19625, 65535,
 ];
 
-/// Those of the trails 40 to 7E and A1 to FE.
+/// The places of the trails 40 to 7E and A1 to FE.
 #[rattlefmt::skip]
 pub static TRAILS: [u16; 256] = [
     65535, 65535, 65535, 65535, 65535, 65535, 65535, 65535, 65535, 65535, 65535, 65535, 65535, 65535, 65535, 65535,

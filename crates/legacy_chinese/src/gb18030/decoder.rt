@@ -14,9 +14,7 @@ ghost use Rattle.legacy_chinese.specs.Gb18030Held.{held_bytes, is_resting};
 use super::digit::Digit;
 use super::fours::Gb18030Blocks;
 use super::pair_places::TRAILS;
-use legacy_base::{
-    DecoderResult, DecoderTables, Destination, IndexName, KeptTables, RawDecoder, Tables,
-};
+use legacy_base::{DecoderResult, DecoderTables, Destination, IndexName, RawDecoder, Tables};
 use legacy_decoder_engine::common_forms::{CommonBlocks, begins_rare, stands_alone};
 use legacy_decoder_engine::drive::{count_lone, drive_decoder};
 use legacy_decoder_engine::held::Lead;
@@ -305,15 +303,11 @@ impl DecoderMoves for Gb18030Decoder<'_> {
         if !self.in_neutral_state() {
             return 0;
         }
-        match self.tables.kept() {
-            KeptTables::Flat(tables) => {
-                let guess = Cell::new(0);
-                read_blocks(&Gb18030Blocks { tables, guess }, src, dst)
-            }
-            KeptTables::Packed(tables) => {
-                let guess = Cell::new(0);
-                read_blocks(&Gb18030Blocks { tables, guess }, src, dst)
-            }
+        let tables = self.tables;
+        let guess = Cell::new(0);
+        match tables.flat() {
+            Some(tables) => read_blocks(&Gb18030Blocks { tables, guess }, src, dst),
+            None => read_blocks(&Gb18030Blocks { tables, guess }, src, dst),
         }
     }
 

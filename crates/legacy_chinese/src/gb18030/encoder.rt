@@ -3,6 +3,7 @@ ghost use Rattle.std.specs.Prelude.{◌≡◌, ◌≢◌, ℕ, ◌+◌, ◌*◌,
 ghost use Rattle.std.specs.Prelude.{Some, IfSome, option_map};
 ghost use Rattle.legacy_text.specs.EncodingForm.{total_unit_count};
 ghost use Rattle.legacy_tables.specs.Pointers.{range_pointer_of};
+ghost use Rattle.legacy_tables.specs.RangeParts.{IsRangePart};
 ghost use Rattle.legacy_base.specs.Gb18030.{gb18030_pair_code, gb18030_range_bytes, gb18030_code, gbk_code};
 ghost use Rattle.legacy_base.specs.Encoders.{encoder_profile, new_encoder};
 ghost use Rattle.legacy_base.specs.Lengths.{answer, number, ◌⊕◌, ◌⊗◌};
@@ -14,7 +15,7 @@ ghost use Rattle.legacy_chinese.specs.Gb18030Codes.{gb18030_plain};
 
 use super::list::{Gb18030Marks, ask_rows};
 use legacy_base::{
-    EncoderResult, EncoderTables, FlatTables, KeptTables, PackedPart, PackedTables, RawEncoder,
+    DecoderTables, EncoderResult, EncoderTables, FlatTables, PackedPart, RangePart, RawEncoder,
     Source, Tables,
 };
 use legacy_encoder_engine::asked_pairs::ask_pairs;
@@ -24,7 +25,6 @@ use legacy_encoder_engine::moves::EncoderMove;
 use legacy_encoder_engine::plain::PlainEncoder;
 use legacy_encoder_engine::plain_codes::PlainCodes;
 use legacy_encoder_engine::runs::read_runs;
-use std::cell::Cell;
 
 /// The encoder of GB18030 or of GBK (Encoding Standard, "gb18030 encoder").
 ///
@@ -76,7 +76,7 @@ fn pair_of<V: EncoderTables>(tables: &V, c: char) -> Option<(u8, u8)>
 // The look-up of rows asks the same in the same way, so the compiler leaves that out.
 #[inline(always)]
 fn is_private_use(c: char) -> bool
-    ensures { result ≡ false → c ≢ 0xE5E5 }
+    ensures { result ≡ false → (c ≢ 0xE5E5) × (c ≢ 0xE7C7) }
 {
     matches!(u32::from(c), 0xE000..=0xF8FF)
 }
@@ -120,43 +120,66 @@ fn range_bytes_of<V: EncoderTables>(tables: &V, c: char) -> Option<(u8, u8, u8, 
     }
 }
 
-/// The same, where the guess is the place of the last range.
+/// The pointer of a scalar that lies past the pointers that the run keeps, which become those of its range.
+fn far_pointer<V: EncoderTables>(tables: &V, near: &mut RangePart, c: char) -> Option<usize>
+    requires { c ≢ 0xE7C7 }
+    ensures pointer { result ≡ range_pointer_of (V.indexes tables.now).flat.ranges c }
+    ensures within { IfSome result (λ p. p < 1237576) }
+    ensures near { IsRangePart (V.indexes tables.now).flat.ranges near.new }
+{
+    let ranges = tables.ranges();
+    *near = ranges.part_with(c);
+    match ranges.pointer_in(*near, c) {
+        Some(pointer) => Some(pointer),
+        None => tables.range_pointer(c),
+    }
+}
+
+/// The four bytes of a scalar's range pointer, if it has one. The run keeps the pointers of its range.
 #[inline(always)]
 fn near_range_bytes_of<V: EncoderTables>(
     tables: &V,
-    guess: &Cell<usize>,
+    near: &mut RangePart,
     c: char,
 ) -> Option<(u8, u8, u8, u8)>
-    ensures { option_map (λ four. four.0 ∷ four.1 ∷ four.2 ∷ four.3 ∷ []) result
+    requires free { c ≢ 0xE7C7 }
+    requires near { IsRangePart (V.indexes tables.now).flat.ranges near.old }
+    ensures bytes { option_map (λ four. four.0 ∷ four.1 ∷ four.2 ∷ four.3 ∷ []) result
         ≡ option_map gb18030_range_bytes (range_pointer_of (V.indexes tables.now).flat.ranges c) }
+    ensures near { IsRangePart (V.indexes tables.now).flat.ranges near.new }
 {
-    match tables.range_pointer_near(guess, c) {
+    if let Some(pointer) = tables.ranges().pointer_in(*near, c) {
+        return Some(range_bytes(pointer));
+    }
+    match far_pointer(tables, near, c) {
         Some(pointer) => Some(range_bytes(pointer)),
         None => None,
     }
 }
 
 /// The four bytes of a common scalar that has no lead and trail in GB18030, if it has them: the index of these is not
-/// asked. The guess is the place of the last range.
+/// asked. The run keeps the pointers of its range.
 #[inline(always)]
 #[tactic(auto, unfolding(legacy_base::specs::Gb18030::gb18030_code))]
 fn four_past_pairs_of<V: EncoderTables>(
     tables: &V,
-    guess: &Cell<usize>,
+    near: &mut RangePart,
     c: char,
 ) -> Option<(u8, u8, u8, u8)>
     requires past { 0x80 ≤ c }
     requires none { (lead trail : ℕ) → gb18030_code (V.indexes tables.now).flat.gb18030
         (V.indexes tables.now).flat.ranges (V.indexes tables.now).flat.gb18030_pua c
         ≡ Some (lead ∷ trail ∷ []) → lead + trail ≡ 0 }
-    ensures { IfSome result (λ four. gb18030_code (V.indexes tables.now).flat.gb18030
+    requires near { IsRangePart (V.indexes tables.now).flat.ranges near.old }
+    ensures code { IfSome result (λ four. gb18030_code (V.indexes tables.now).flat.gb18030
         (V.indexes tables.now).flat.ranges (V.indexes tables.now).flat.gb18030_pua c
         ≡ Some (four.0 ∷ four.1 ∷ four.2 ∷ four.3 ∷ [])) }
+    ensures near { IsRangePart (V.indexes tables.now).flat.ranges near.new }
 {
     if is_private_use(c) || tables.gb18030_pua_bytes(c).is_some() {
         return None;
     }
-    near_range_bytes_of(tables, guess, c)
+    near_range_bytes_of(tables, near, c)
 }
 
 /// The four bytes of a scalar past ASCII, or the scalar as unmappable.
@@ -280,41 +303,19 @@ impl PlainCodes for Gb18030Encoder<'_> {
 impl PlainEncoder for Gb18030Encoder<'_> {
     #[inline]
     fn read_codes<S: Source>(&self, src: &mut S, dst: &mut [u8], start: usize) -> usize {
-        match self.tables.kept() {
-            KeptTables::Flat(tables) => {
+        match self.tables.flat() {
+            Some(tables) => {
                 read_by::<FlatTables<'_>, S>(tables, self.extended_range, src, dst, start)
             }
-            KeptTables::Packed(tables) => {
-                read_by::<PackedTables<'_>, S>(tables, self.extended_range, src, dst, start)
-            }
+            None => read_by::<Tables<'_>, S>(self.tables, self.extended_range, src, dst, start),
         }
     }
 }
 
-/// The codes of GB18030 or of GBK by the tables as they are kept, alone or beside a list of the pairs. The place of the range
-/// that was used last is a guess for the next form of four bytes.
+/// The codes of GB18030 or of GBK by the tables as they are kept, alone or beside a list of the pairs.
 #[derive(Drop)]
 struct Gb18030Codes<'a, V: EncoderTables, const EXTENDED: bool, const LISTED: bool> {
     tables: &'a V,
-    guess: Cell<usize>,
-}
-
-impl<'a, V: EncoderTables, const EXTENDED: bool, const LISTED: bool> Gb18030Codes<
-    'a,
-    V,
-    EXTENDED,
-    LISTED,
-> {
-    /// The codes by these tables.
-    #[inline(always)]
-    fn new(tables: &'a V) -> Gb18030Codes<'a, V, EXTENDED, LISTED>
-        ensures { result.tables.now ≡ tables.now }
-    {
-        Gb18030Codes {
-            tables,
-            guess: Cell::new(0),
-        }
-    }
 }
 
 impl<V: EncoderTables, const EXTENDED: bool, const LISTED: bool> PlainCodes
@@ -362,19 +363,9 @@ fn read_by<V: EncoderTables, S: Source>(
         ≡ S.passed src.old + total_unit_count S.form (S.left src.old) }
 {
     if extended_range {
-        read_runs(
-            &Gb18030Codes::<V, true, false>::new(tables),
-            src,
-            dst,
-            start,
-        )
+        read_runs(&Gb18030Codes::<V, true, false> { tables }, src, dst, start)
     } else {
-        read_runs(
-            &Gb18030Codes::<V, false, false>::new(tables),
-            src,
-            dst,
-            start,
-        )
+        read_runs(&Gb18030Codes::<V, false, false> { tables }, src, dst, start)
     }
 }
 
@@ -392,11 +383,11 @@ impl<V: EncoderTables, const EXTENDED: bool, const LISTED: bool> PastPairs
     }
 
     #[inline(always)]
-    fn four_past_pairs(&self, c: char) -> Option<(u8, u8, u8, u8)> {
+    fn four_past_pairs(&self, near: &mut RangePart, c: char) -> Option<(u8, u8, u8, u8)> {
         if !EXTENDED {
             return None;
         }
-        four_past_pairs_of(self.tables, &self.guess, c)
+        four_past_pairs_of(self.tables, near, c)
     }
 }
 
@@ -419,7 +410,7 @@ fn read_listed_by<V: EncoderTables, S: Source>(
     ensures passed { S.passed src.new + total_unit_count S.form (S.left src.new)
         ≡ S.passed src.old + total_unit_count S.form (S.left src.old) }
 {
-    let codes = Gb18030Codes::<V, true, true>::new(tables);
+    let codes = Gb18030Codes::<V, true, true> { tables };
     read_runs(&WithPairs::new(&codes, pairs), src, dst, start)
 }
 
@@ -449,13 +440,9 @@ impl EncodesPairs for Gb18030Encoder<'_> {
         if !self.extended_range {
             return read_runs(&WithPairs::new(self, pairs), src, dst, start);
         }
-        match self.tables.kept() {
-            KeptTables::Flat(tables) => {
-                read_listed_by::<FlatTables<'_>, S>(tables, pairs, src, dst, start)
-            }
-            KeptTables::Packed(tables) => {
-                read_listed_by::<PackedTables<'_>, S>(tables, pairs, src, dst, start)
-            }
+        match self.tables.flat() {
+            Some(tables) => read_listed_by::<FlatTables<'_>, S>(tables, pairs, src, dst, start),
+            None => read_listed_by::<Tables<'_>, S>(self.tables, pairs, src, dst, start),
         }
     }
 }

@@ -1,15 +1,15 @@
-//! The entries of a flat index, wide or narrow, read one at a time.
+//! The entries of a flat index, wide or narrow, read one by one.
 ghost use Rattle.std.specs.Prelude.{◌≡◌, ℕ, ◌<◌, ◌≤◌, List, length, slice_index};
 
 /// The entries of a flat index by pointer.
 pub(crate) trait Entries {
     ghost entries: { Self → List ℕ };
 
-    /// How many there are.
+    /// Returns the number of entries.
     fn count(&self) -> usize
         ensures { result ≡ length (entries self.now) };
 
-    /// The entry of a pointer.
+    /// Returns the entry of a pointer.
     fn entry(&self, pointer: usize) -> u32
         requires { pointer < length (entries self.now) }
         ensures { result ≡ slice_index (entries self.now) pointer };
@@ -51,7 +51,7 @@ impl<'a> Entries for Narrow<'a> {
     }
 }
 
-/// The entries below a limit of pointers.
+/// Returns the entries of the pointers below a limit.
 pub(crate) fn below<T>(limit: usize, entries: &[T]) -> &[T]
     ensures few { length result.now ≤ limit }
     ensures all { length entries.now ≤ limit → result.now ≡ entries.now }

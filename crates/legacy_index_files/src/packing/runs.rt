@@ -7,7 +7,7 @@ use super::entries::{Entries, Narrow, Wide, below};
 use legacy_tables::{Indexes, Run};
 use std::alloc::{AllocError, Global};
 
-/// How many pointers from one on have scalar values in a row, among those before the end.
+/// Returns the number of pointers, from the given one to `end`, with consecutive scalar values.
 fn run_length<E: Entries>(index: &E, pointer: usize, end: usize) -> usize
     requires starts { pointer < end }
     requires within { end ≤ length (E.entries index.now) }
@@ -29,7 +29,7 @@ fn run_length<E: Entries>(index: &E, pointer: usize, end: usize) -> usize
     end - pointer
 }
 
-/// The runs of an index, each as long as it can be.
+/// Returns the longest runs of an index.
 fn runs_of<E: Entries>(alloc: Global, limit: usize, index: &E) -> Result<Vec<Run>, AllocError>
     requires small { limit ≤ 23940 }
     requires few { length (E.entries index.now) ≤ limit }
@@ -55,7 +55,7 @@ fn runs_of<E: Entries>(alloc: Global, limit: usize, index: &E) -> Result<Vec<Run
     Ok(runs)
 }
 
-/// The runs of index Big5.
+/// Returns the runs of index Big5.
 fn wide_runs(alloc: Global, limit: usize, entries: &[u32]) -> Result<Vec<Run>, AllocError>
     requires { limit ≤ 23940 }
     ensures index { IfOk result (λ runs. length entries.now ≤ limit →
@@ -68,7 +68,7 @@ fn wide_runs(alloc: Global, limit: usize, entries: &[u32]) -> Result<Vec<Run>, A
     runs_of(alloc, limit, &index)
 }
 
-/// The runs of another index.
+/// Returns the runs of another index.
 fn narrow_runs(alloc: Global, limit: usize, entries: &[u16]) -> Result<Vec<Run>, AllocError>
     requires { limit ≤ 23940 }
     ensures index { IfOk result (λ runs. length entries.now ≤ limit →
@@ -91,7 +91,7 @@ pub(crate) struct AllRuns {
     pub(crate) gb18030: Vec<Run>,
 }
 
-/// The runs of the five indexes, each as long as it can be.
+/// Returns the longest runs of the five indexes.
 pub(crate) fn all_runs(alloc: Global, indexes: &Indexes<'_>) -> Result<AllRuns, AllocError>
     ensures { IfOk result (GiveIndexes (flat_indexes indexes.now)) }
 {

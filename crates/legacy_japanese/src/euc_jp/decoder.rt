@@ -12,28 +12,32 @@ ghost use Rattle.legacy_decoder_engine.specs.Steps.{finish};
 ghost use Rattle.legacy_japanese.specs.EucJpMachine.{euc_jp_step};
 ghost use Rattle.legacy_decoder_engine.specs.Moves.{move_units, room_units};
 ghost use Rattle.legacy_decoder_engine.specs.Feeding.{Took};
+ghost use Rattle.legacy_decoder_engine.specs.LaneRows.{row_place};
 ghost use Rattle.legacy_japanese.specs.EucJpHeld.{held_bytes};
 
 use super::lead::EucJpLead;
 use legacy_base::{
-    DecoderResult, DecoderTables, Destination, IndexName, KeptTables, RawDecoder, Tables,
+    DecoderResult, DecoderTables, Destination, FlatTables, IndexName, RawDecoder, Tables,
 };
 use legacy_decoder_engine::common_forms::{
     CommonBlocks, CommonForm, CommonForms, begins_rare, read_common_forms, stands_alone,
 };
 use legacy_decoder_engine::drive::{count_lone, drive_decoder};
+use legacy_decoder_engine::lanes::{LaneForms, read_lane_forms};
 use legacy_decoder_engine::moves::{DecoderMoves, Fed, Move, Room};
+use legacy_decoder_engine::rows::row_pointers;
 use legacy_decoder_engine::runs::read_one;
 use legacy_decoder_engine::trail::unmapped;
 use legacy_decoder_engine::two_byte::fault_through;
+use std::simd::prelude::*;
 
-/// What is held back: the first bytes of a form.
+/// The held-back bytes: the first bytes of a sequence.
 #[derive(Clone, Copy)]
 pub(crate) enum Held {
     Nothing,
-    /// 8E, which half-width katakana follow.
+    /// 8E, before a byte of half-width katakana.
     Katakana,
-    /// 8F, which a pair of JIS X 0212 follows.
+    /// 8F, before a pair of JIS X 0212.
     Jis0212,
     /// The lead of a pair of JIS X 0208.
     Lead(EucJpLead),
@@ -44,20 +48,24 @@ pub(crate) enum Held {
 /// The decoder of EUC-JP (Encoding Standard, "EUC-JP decoder").
 ///
 /// ASCII bytes are themselves. 8E and a byte A1 to DF are the half-width katakana U+FF61 to U+FF9F.
-/// 8F, a lead A1 to FE and a trail A1 to FE are looked up in index jis0212, and a lead and a trail
-/// alone in index jis0208.
+/// 8F, a lead A1 to FE and a trail A1 to FE are looked up in index jis0212. A lead and a trail
+/// alone are looked up in index jis0208.
 ///
-/// Malformed are: another byte past ASCII (1 byte); 8E, 8F or a lead with a byte that does not go
-/// on or does not map (2 bytes, or the first one alone where the second is ASCII, which is then
-/// read again); 8F, a lead and a byte that does not map (3 bytes, or the first two where the third
-/// is ASCII); the bytes of a form that is cut off by the end of the input (1 or 2 bytes).
+/// Malformed sequences:
+///
+/// - another byte from 80 on (1 byte);
+/// - 8E, 8F or a lead with a byte that does not continue or map (2 bytes); if that byte is ASCII,
+///   only the first one (1 byte), and the ASCII byte is read again;
+/// - 8F, a lead and a byte that does not map (3 bytes); if that byte is ASCII, only the first two
+///   (2 bytes), and the ASCII byte is read again;
+/// - an incomplete sequence at the end of the input (1 or 2 bytes).
 #[derive(Drop)]
 pub struct EucJpDecoder<'a> {
     tables: &'a Tables<'a>,
     held: Held,
 }
 
-/// The scalar of a lead and a trail in the index.
+/// Returns the scalar of a lead and a trail in the index, or `None`.
 #[inline]
 fn pair_scalar<V: DecoderTables>(
     tables: &V,
@@ -76,7 +84,7 @@ fn pair_scalar<V: DecoderTables>(
     tables.idx(name, row + usize::from(trail - 0xA1))
 }
 
-/// What a byte leads to where nothing is held back.
+/// Returns what a byte leads to if nothing is held back.
 #[inline]
 fn read_first(byte: u8) -> (Fed, Held)
     ensures { Took (euc_jp_step [] [] [] byte) [] byte result.0 (held_bytes result.1) }
@@ -96,7 +104,7 @@ fn read_first(byte: u8) -> (Fed, Held)
     (fault_through(1), Held::Nothing)
 }
 
-/// Whether the byte is malformed by itself where a form begins.
+/// Returns whether the byte is malformed by itself at the beginning of a sequence.
 #[inline(always)]
 fn is_fault(byte: u8) -> bool
     ensures { result ≡ true → euc_jp_step [] [] [] byte ≡ finish (malformed 1) }
@@ -104,7 +112,7 @@ fn is_fault(byte: u8) -> bool
     byte >= 0x80 && byte != 0x8E && byte != 0x8F && (byte < 0xA1 || byte > 0xFE)
 }
 
-/// What a byte leads to behind 8E.
+/// Returns what a byte leads to after 8E.
 #[inline]
 fn read_katakana(byte: u8) -> Fed
     ensures { Took (euc_jp_step [] [] (0x8E ∷ []) byte) (0x8E ∷ []) byte result [] }
@@ -118,7 +126,7 @@ fn read_katakana(byte: u8) -> Fed
     }
 }
 
-/// What a byte leads to behind 8F.
+/// Returns what a byte leads to after 8F.
 #[inline]
 fn read_jis0212_lead(byte: u8) -> (Fed, Held)
     ensures { Took (euc_jp_step [] [] (0x8F ∷ []) byte) (0x8F ∷ []) byte
@@ -130,7 +138,7 @@ fn read_jis0212_lead(byte: u8) -> (Fed, Held)
     (unmapped(1, byte), Held::Nothing)
 }
 
-/// What a byte leads to behind a lead.
+/// Returns what a byte leads to after a lead.
 #[inline]
 fn read_jis0208_trail(tables: &Tables, lead: EucJpLead, byte: u8) -> Fed
     ensures { Took (euc_jp_step tables.now.flat.jis0208 [] (lead.byte ∷ []) byte)
@@ -142,7 +150,7 @@ fn read_jis0208_trail(tables: &Tables, lead: EucJpLead, byte: u8) -> Fed
     }
 }
 
-/// What a byte leads to behind 8F and a lead.
+/// Returns what a byte leads to after 8F and a lead.
 #[inline]
 fn read_jis0212_trail(tables: &Tables, lead: EucJpLead, byte: u8) -> Fed
     ensures { Took (euc_jp_step [] tables.now.flat.jis0212 (0x8F ∷ lead.byte ∷ []) byte)
@@ -154,7 +162,7 @@ fn read_jis0212_trail(tables: &Tables, lead: EucJpLead, byte: u8) -> Fed
     }
 }
 
-/// What a byte leads to, and what is held back then.
+/// Returns what a byte leads to, and what is held back after it.
 #[inline]
 fn read(tables: &Tables, held: Held, byte: u8) -> (Fed, Held)
     ensures { Took
@@ -170,7 +178,7 @@ fn read(tables: &Tables, held: Held, byte: u8) -> (Fed, Held)
     }
 }
 
-/// The room that an act needs.
+/// Returns the room that an act needs.
 #[inline]
 fn room_of(held: Held, next: Move) -> Room
     ensures { (jis0208 jis0212 : List ℕ) (form : EncodingForm) →
@@ -183,7 +191,7 @@ fn room_of(held: Held, next: Move) -> Room
     }
 }
 
-/// How many bytes are held back.
+/// Returns the number of held-back bytes.
 #[inline]
 fn held_length(held: Held) -> u8
     ensures { result ≡ length (held_bytes held) }
@@ -199,7 +207,7 @@ impl<'a> EucJpDecoder<'a> {
     ghost use Rattle.legacy_base.specs.Lengths.{answer, weighted};
     ghost use Rattle.legacy_japanese.specs.EucJpDecoder.{euc_jp_state};
 
-    /// A decoder before its first byte, which reads by the tables.
+    /// Returns a new decoder over the tables.
     pub fn new(tables: &'a Tables<'a>) -> EucJpDecoder<'a>
         ensures { euc_jp_state result
             ≡ new_state (euc_jp tables.now.flat.jis0208 tables.now.flat.jis0212) }
@@ -210,7 +218,7 @@ impl<'a> EucJpDecoder<'a> {
         }
     }
 
-    /// Whether no byte is held back.
+    /// Returns whether no byte is held back.
     #[inline]
     pub fn in_neutral_state(&self) -> bool
         ensures { result ≡ is_neutral (euc_jp_state self.now) }
@@ -218,7 +226,7 @@ impl<'a> EucJpDecoder<'a> {
         matches!(self.held, Held::Nothing)
     }
 
-    /// The bytes to come, and one more where bytes are held back, if that is a length.
+    /// Returns the number of bytes, plus one if bytes are held back, or `None` if that overflows.
     fn weighted_length(&self, byte_length: usize) -> Option<usize>
         ensures { result ≡ answer (weighted (euc_jp_state self.now) byte_length) }
     {
@@ -229,7 +237,7 @@ impl<'a> EucJpDecoder<'a> {
     }
 }
 
-/// Whether the byte begins no common form.
+/// Returns whether the byte does not begin a common sequence.
 #[inline(always)]
 fn is_uncommon(byte: u8) -> bool {
     byte >= 0x80 && EucJpLead::new(byte).is_none()
@@ -290,13 +298,14 @@ impl DecoderMoves for EucJpDecoder<'_> {
     #[inline(always)]
     fn read_ahead<T: Destination>(&self, src: &[u8], dst: &mut T) -> usize {
         let held = self.held;
-        match self.tables.kept() {
-            KeptTables::Flat(tables) => read_common_forms(&EucJpForms { tables, held }, src, dst),
-            KeptTables::Packed(tables) => read_common_forms(&EucJpForms { tables, held }, src, dst),
+        let tables = self.tables;
+        match tables.flat() {
+            Some(tables) => read_lane_forms(&EucJpForms { tables, held }, src, dst),
+            None => read_common_forms(&EucJpForms { tables, held }, src, dst),
         }
     }
 
-    // Behind a fault often comes the next one, or a single form and then the next one: neither is a call.
+    // After a malformed byte often comes another, or one sequence and then another. Neither costs a call.
     #[inline(always)]
     fn read_runs<T: Destination>(&mut self, src: &[u8], dst: &mut T) -> usize {
         let forms = EucJpForms {
@@ -313,7 +322,7 @@ impl DecoderMoves for EucJpDecoder<'_> {
     }
 }
 
-/// The common forms of EUC-JP, by its tables as they are kept, where so much is held back.
+/// The common sequences of EUC-JP over one kind of tables, with the held-back bytes.
 #[derive(Drop)]
 struct EucJpForms<'a, V: DecoderTables> {
     tables: &'a V,
@@ -347,6 +356,22 @@ impl<V: DecoderTables> CommonForms for EucJpForms<'_, V> {
             Some(scalar) => CommonForm::Pair(scalar),
             None => CommonForm::Other,
         }
+    }
+}
+
+impl<'b> LaneForms for EucJpForms<'_, FlatTables<'b>> {
+    ghost entries = { λ forms. forms.tables.now.flat.jis0208 };
+
+    ghost pointer = { row_place 0xA1 0x5D 0xA1 0x5D 94 };
+
+    #[inline(always)]
+    fn index(&self) -> &[u16] {
+        self.tables.narrow(IndexName::Jis0208)
+    }
+
+    #[inline(always)]
+    fn pointers(codes: u16x8) -> u16x8 {
+        row_pointers(codes, 0xA1, 0x5D, 0xA1, 0x5D, 94)
     }
 }
 

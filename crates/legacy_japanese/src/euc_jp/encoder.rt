@@ -17,13 +17,13 @@ pub struct EucJp;
 
 /// The encoder of EUC-JP (Encoding Standard, "EUC-JP encoder").
 ///
-/// ASCII is itself, U+00A5 is 5C, U+203E is 7E, and the half-width katakana U+FF61 to U+FF9F are 8E and a
-/// byte A1 to DF. Another scalar that index jis0208 has is the lead and the trail of its first pointer
-/// below 8836, the minus sign U+2212 that of U+FF0D. All other scalars are unmappable: nothing is written
-/// by index jis0212.
+/// ASCII is itself, U+00A5 is 5C and U+203E is 7E. The half-width katakana U+FF61 to U+FF9F are 8E
+/// and a byte A1 to DF. Another scalar of index jis0208 is the lead and the trail of its first
+/// pointer below 8836. The minus sign U+2212 is encoded as U+FF0D. All other scalars are
+/// unmappable: the encoder does not use index jis0212.
 pub type EucJpEncoder<'a> = PairEncoder<'a, EucJp>;
 
-/// The lead and the trail of a scalar by index jis0208.
+/// Returns the lead and the trail of a scalar in index jis0208, or `None`.
 #[inline(always)]
 fn pair<V: EncoderTables>(tables: &V, c: char) -> Option<(u8, u8)>
     ensures { option_map (λ pair. pair.0 ∷ pair.1 ∷ []) result ≡ option_map euc_jp_bytes
@@ -54,7 +54,7 @@ impl PairCodec for EucJp {
 
     ghost pairs = { λ flat. euc_jp_pairs flat.jis0208 flat.jis0212 };
 
-    // Half-width katakana are none of the scalars that are looked up first.
+    // Half-width katakana are not among the scalars that are looked up first.
     #[inline(always)]
     fn goes_past_pairs() -> bool {
         true

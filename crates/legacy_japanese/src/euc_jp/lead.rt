@@ -2,7 +2,7 @@
 ghost use Rattle.std.specs.Prelude.{◌≡◌, ◌≤◌, true, false, MatchOption};
 ghost use Rattle.legacy_base.specs.States.{is_euc_jp_lead};
 
-/// A byte that begins a pair of EUC-JP.
+/// A lead of EUC-JP: A1 to FE.
 #[derive(Clone, Copy)]
 pub struct EucJpLead {
     pub byte: u8,
@@ -11,7 +11,7 @@ pub struct EucJpLead {
 }
 
 impl EucJpLead {
-    /// The byte as a lead, if it is one.
+    /// Returns the byte as a lead, or `None` if it is not one.
     #[inline]
     pub fn new(byte: u8) -> Option<EucJpLead>
         ensures { MatchOption result (is_euc_jp_lead byte ≡ false)

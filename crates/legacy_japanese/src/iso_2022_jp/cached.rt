@@ -13,7 +13,9 @@ ghost use Rattle.legacy_japanese.specs.Iso2022JpPairs.{iso_2022_jp_mark, iso_202
 
 use crate::iso_2022_jp::encoder::{Iso2022JpEncoder, Mode, asked};
 use crate::iso_2022_jp::pairs::{Pairs, read_pairs};
-use legacy_base::{EncoderResult, EncoderTables, PackedPart, RawEncoder, Source, Tables};
+use legacy_base::{
+    EncoderResult, EncoderTables, PackedPart, RawEncoder, ReadingLoop, Source, Tables, TextCursor,
+};
 use legacy_encoder_engine::cached::PAIR_ROOM;
 use legacy_encoder_engine::drive::{drive_encoder, put_two};
 use legacy_encoder_engine::moves::{EncoderMove, EncoderMoves};
@@ -144,7 +146,7 @@ impl ListedPairs<'_, '_> {
     /// from the place `start` on. Answers where they end.
     // By a copy of the cursor, which is left where it is where a turn fails.
     #[inline(always)]
-    fn read_tens<S: Source>(&self, src: &mut S, dst: &mut [u8], start: usize) -> usize
+    fn read_tens<S: TextCursor>(&self, src: &mut S, dst: &mut [u8], start: usize) -> usize
         requires { start ≤ length dst.old }
         ensures keeps { KeepsOn (pairs_state self.now.tables.now) (length dst.old) (S.left src.old)
             (take start dst.old) (S.left src.new) (take result dst.new) }
@@ -166,29 +168,6 @@ impl ListedPairs<'_, '_> {
             at += 20;
         }
         at
-    }
-
-    /// Reads scalars in two-byte mode, up to one that wants an escape or has no pair here, and writes their pairs from
-    /// the place `start` on. Answers where they end.
-    // By a copy of the cursor, as all runs go. A scalar of two-byte mode comes before, as U+3000 is one.
-    #[inline]
-    fn read_listed<S: Source>(&self, src: &mut S, dst: &mut [u8], start: usize) -> usize
-        requires { start ≤ length dst.old }
-        ensures keeps { KeepsOn (pairs_state self.now.tables.now) (length dst.old) (S.left src.old)
-            (take start dst.old) (S.left src.new) (take result dst.new) }
-        ensures start { start ≤ result }
-        ensures end { result ≤ length dst.old }
-        ensures passed { S.passed src.new + total_unit_count S.form (S.left src.new)
-            ≡ S.passed src.old + total_unit_count S.form (S.left src.old) }
-    {
-        let mut own = *src;
-        let mut at = start;
-        if own.has_tens('\u{3000}') {
-            at = self.read_tens(&mut own, dst, at);
-        }
-        let end = read_pairs(self, &mut own, dst, at);
-        *src = own;
-        end
     }
 
     /// What `asked` tells, of a scalar in the list by its entry.
@@ -218,6 +197,22 @@ impl Pairs for ListedPairs<'_, '_> {
         put_two(dst, at, (entry % 256) as u8, (entry / 256) as u8);
         Some(at + 2)
     }
+}
+
+impl ReadingLoop for ListedPairs<'_, '_> {
+    ghost keeps = { λ listed. KeepsOn (pairs_state listed.tables.now) };
+
+    // A scalar of two-byte mode comes before, as U+3000 is one.
+    #[inline(always)]
+    fn read<S: TextCursor>(&self, src: &mut S, dst: &mut [u8], start: usize) -> usize {
+        let mut at = start;
+        if src.has_tens('\u{3000}') {
+            at = self.read_tens(src, dst, at);
+        }
+        read_pairs(self, src, dst, at)
+    }
+
+    ghost stays = { λ _ _ _ _. record { keeps = λ _ _ _ underway. underway } };
 }
 
 /// The encoder of ISO-2022-JP that looks no pair up: it writes what `Iso2022JpEncoder` does, and the pairs of all scalars
@@ -313,7 +308,7 @@ impl EncoderMoves for CachedIso2022JpEncoder<'_, '_> {
         match self.mode {
             Mode::TwoByte => {
                 let listed = self.listed;
-                listed.read_listed(src, dst, at)
+                src.read_by(&listed, dst, at)
             }
             Mode::Ascii | Mode::Roman => self.without().read_ahead(src, dst, at),
         }

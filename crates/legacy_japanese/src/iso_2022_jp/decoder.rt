@@ -14,11 +14,11 @@ use legacy_decoder_engine::moves::{DecoderMoves, Fed, Move, Room};
 
 /// The decoder of ISO-2022-JP (Encoding Standard, "ISO-2022-JP decoder").
 ///
-/// An escape of three bytes switches between ASCII, JIS X 0201 Roman, half-width katakana and the
-/// pairs of JIS X 0208; the mode lasts over calls. An escape byte that begins no valid escape is
-/// malformed, and so is a valid escape that stands directly before another. At most five bytes are
-/// held back: a whole escape, which is kept till a byte that is no part of an escape follows it,
-/// and two bytes.
+/// An escape of three bytes switches to ASCII, JIS X 0201 Roman, half-width katakana or the pairs
+/// of JIS X 0208. The mode lasts over calls. An escape byte that begins no valid escape is
+/// malformed. A valid escape directly before another one is malformed too. The decoder holds back
+/// at most five bytes: a whole escape, and two bytes. It holds back a whole escape until a byte
+/// follows that is not part of an escape.
 #[derive(Drop)]
 pub struct Iso2022JpDecoder<'a> {
     tables: &'a Tables<'a>,
@@ -30,8 +30,9 @@ pub struct Iso2022JpDecoder<'a> {
 impl<'a> Iso2022JpDecoder<'a> {
     ghost use Rattle.legacy_japanese.specs.Iso2022JpDecoder.{iso_2022_jp_state};
 
-    /// A decoder before its first byte: in ASCII mode, with nothing held back. Pairs are looked up
-    /// in index jis0208 of the tables, which stay borrowed.
+    /// Returns a new decoder, in ASCII mode and with nothing held back.
+    ///
+    /// It looks up pairs in index jis0208 of the tables, which it borrows.
     pub fn new(tables: &'a Tables<'a>) -> Iso2022JpDecoder<'a>
         ensures { iso_2022_jp_state result
             ≡ new_state (iso_2022_jp tables.now.flat.jis0208 ascii) }
@@ -43,8 +44,10 @@ impl<'a> Iso2022JpDecoder<'a> {
         }
     }
 
-    /// Whether no byte is held back and the mode is ASCII, as in a new decoder. An escape with
-    /// nothing behind it is held back, so behind an escape to ASCII mode alone the answer is false.
+    /// Returns whether no byte is held back and the mode is ASCII, as in a new decoder.
+    ///
+    /// An escape with nothing after it is held back. The result is therefore false after an escape
+    /// to ASCII mode alone.
     pub fn in_neutral_state(&self) -> bool
         ensures { result ≡ is_neutral (iso_2022_jp_state self.now) }
     {
@@ -114,7 +117,7 @@ impl<'a> DecoderMoves for Iso2022JpDecoder<'a> {
         read
     }
 
-    // An escape that no run follows: byte by byte it takes three turns of the loop.
+    // Holds back an escape that no run follows. Byte by byte it takes three turns of the loop.
     #[inline(always)]
     fn hold_back<T: Destination>(&mut self, src: &[u8], dst: &T) -> usize {
         if !self.held.is_nothing() {

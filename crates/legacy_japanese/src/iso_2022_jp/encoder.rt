@@ -12,8 +12,8 @@ ghost use Rattle.legacy_japanese.specs.Iso2022JpEncoder.{is_same_mode};
 use crate::folds::{is_by_index, minus_as_hyphen};
 use crate::iso_2022_jp::pairs::{Pairs, read_pairs};
 use legacy_base::{
-    EncoderResult, EncoderTables, IndexName, KeptTables, Next, RawEncoder, Source, Tables,
-    UnitCodes,
+    DecoderTables, EncoderResult, EncoderTables, IndexName, Next, RawEncoder, ReadingLoop, Source,
+    Tables, TextCursor, UnitCodes,
 };
 use legacy_encoder_engine::drive::{drive_encoder, put_move, put_two};
 use legacy_encoder_engine::moves::{EncoderMove, EncoderMoves};
@@ -242,9 +242,10 @@ impl EncoderMoves for Iso2022JpEncoder<'_> {
     #[inline]
     fn read_ahead<S: Source>(&self, src: &mut S, dst: &mut [u8], at: usize) -> usize {
         let mode = self.mode;
-        match self.tables.kept() {
-            KeptTables::Flat(tables) => CodesInMode { tables, mode }.read_codes(src, dst, at),
-            KeptTables::Packed(tables) => CodesInMode { tables, mode }.read_codes(src, dst, at),
+        let tables = self.tables;
+        match tables.flat() {
+            Some(tables) => src.read_by(&CodesInMode { tables, mode }, dst, at),
+            None => src.read_by(&CodesInMode { tables, mode }, dst, at),
         }
     }
 }
@@ -379,7 +380,7 @@ impl<V: EncoderTables> CodesInMode<'_, V> {
     /// they end.
     // A scalar is read where any fits, so the last two bytes of the output stay free.
     #[inline(always)]
-    fn copy_blocks<S: Source>(&self, src: &mut S, dst: &mut [u8], start: usize) -> usize
+    fn copy_blocks<S: TextCursor>(&self, src: &mut S, dst: &mut [u8], start: usize) -> usize
         requires start { start ≤ length dst.old }
         requires mode { mode_of self.now.mode ≡ in_ascii }
         ensures keeps { KeepsOn (state_by (V.indexes self.now.tables.now) self.now.mode)
@@ -402,7 +403,7 @@ impl<V: EncoderTables> CodesInMode<'_, V> {
     // By a copy of the cursor, which is left where it is if a control is among what was copied: so little is copied
     // in vain, however many controls there are.
     #[inline(always)]
-    fn copy_piece<S: Source>(&self, src: &mut S, dst: &mut [u8], start: usize) -> usize
+    fn copy_piece<S: TextCursor>(&self, src: &mut S, dst: &mut [u8], start: usize) -> usize
         requires start { start ≤ length dst.old }
         requires mode { mode_of self.now.mode ≡ in_ascii }
         ensures keeps { KeepsOn (state_by (V.indexes self.now.tables.now) self.now.mode)
@@ -431,7 +432,7 @@ impl<V: EncoderTables> CodesInMode<'_, V> {
     // Between pairs most ASCII is that short. All sixteen bytes are tested, also those behind the ASCII: so the test
     // has no loop.
     #[inline(always)]
-    fn copy_block<S: Source>(&self, src: &mut S, dst: &mut [u8], start: usize) -> usize
+    fn copy_block<S: TextCursor>(&self, src: &mut S, dst: &mut [u8], start: usize) -> usize
         requires start { start ≤ length dst.old }
         requires mode { mode_of self.now.mode ≡ in_ascii }
         ensures keeps { KeepsOn (state_by (V.indexes self.now.tables.now) self.now.mode)
@@ -458,7 +459,7 @@ impl<V: EncoderTables> CodesInMode<'_, V> {
     /// Reads ASCII in ASCII mode as it goes by blocks, and writes it from the place `start` on. Answers where it
     /// ends.
     #[inline(always)]
-    fn copy_ascii<S: Source>(&self, src: &mut S, dst: &mut [u8], start: usize) -> usize
+    fn copy_ascii<S: TextCursor>(&self, src: &mut S, dst: &mut [u8], start: usize) -> usize
         requires start { start ≤ length dst.old }
         requires mode { mode_of self.now.mode ≡ in_ascii }
         ensures keeps { KeepsOn (state_by (V.indexes self.now.tables.now) self.now.mode)
@@ -489,7 +490,7 @@ impl<V: EncoderTables> CodesInMode<'_, V> {
     /// Answers where they end.
     // In ASCII mode no others have bytes, and in Roman mode two: so it is a loop of few tests.
     #[inline(always)]
-    fn read_short<S: Source>(&self, src: &mut S, dst: &mut [u8], start: usize) -> usize
+    fn read_short<S: TextCursor>(&self, src: &mut S, dst: &mut [u8], start: usize) -> usize
         requires { start ≤ length dst.old }
         ensures keeps { KeepsOn (state_by (V.indexes self.now.tables.now) self.now.mode)
             (length dst.old) (S.left src.old) (take start dst.old) (S.left src.new)
@@ -514,41 +515,17 @@ impl<V: EncoderTables> CodesInMode<'_, V> {
         }
         end
     }
+}
 
-    /// Reads scalars of the mode, up to one that wants an escape or has no bytes, and writes their bytes from
-    /// the place `start` on. Answers where they end.
-    // By a copy of the cursor, which nothing else refers to: so its place is not stored and loaded again
-    // behind each byte that is written.
-    #[inline]
-    fn read_codes<S: Source>(&self, src: &mut S, dst: &mut [u8], start: usize) -> usize
-        requires { start ≤ length dst.old }
-        ensures keeps { KeepsOn (state_by (V.indexes self.now.tables.now) self.now.mode)
-            (length dst.old) (S.left src.old) (take start dst.old) (S.left src.new)
-            (take result dst.new) }
-        ensures start { start ≤ result }
-        ensures end { result ≤ length dst.old }
-        ensures passed { S.passed src.new + total_unit_count S.form (S.left src.new)
-            ≡ S.passed src.old + total_unit_count S.form (S.left src.old) }
-    {
-        let mut own = *src;
-        let end = self.read_by_mode(&mut own, dst, start);
-        *src = own;
-        end
-    }
+impl<V: EncoderTables> ReadingLoop for CodesInMode<'_, V> {
+    ghost use Rattle.legacy_encoder_engine.specs.UnderWay.{KeepsOn};
+    ghost use Rattle.legacy_japanese.specs.Iso2022JpEncoder.{state_by};
 
-    /// Reads scalars of the mode as it goes by them, up to one that wants an escape or has no bytes, and
-    /// writes their bytes from the place `start` on. Answers where they end.
+    ghost keeps = { λ codes. KeepsOn (state_by (V.indexes codes.tables.now) codes.mode) };
+
+    // Up to a scalar that wants an escape or has no bytes.
     #[inline(always)]
-    fn read_by_mode<S: Source>(&self, src: &mut S, dst: &mut [u8], start: usize) -> usize
-        requires { start ≤ length dst.old }
-        ensures keeps { KeepsOn (state_by (V.indexes self.now.tables.now) self.now.mode)
-            (length dst.old) (S.left src.old) (take start dst.old) (S.left src.new)
-            (take result dst.new) }
-        ensures start { start ≤ result }
-        ensures end { result ≤ length dst.old }
-        ensures passed { S.passed src.new + total_unit_count S.form (S.left src.new)
-            ≡ S.passed src.old + total_unit_count S.form (S.left src.old) }
-    {
+    fn read<S: TextCursor>(&self, src: &mut S, dst: &mut [u8], start: usize) -> usize {
         match self.mode {
             Mode::Ascii => {
                 let end = self.copy_ascii(src, dst, start);
@@ -561,6 +538,8 @@ impl<V: EncoderTables> CodesInMode<'_, V> {
             }
         }
     }
+
+    ghost stays = { λ _ _ _ _. record { keeps = λ _ _ _ underway. underway } };
 }
 
 /// Pairs that are searched for in tables.

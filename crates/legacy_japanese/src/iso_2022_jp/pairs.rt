@@ -5,7 +5,7 @@ ghost use Rattle.legacy_tables.specs.AcceptedTables.{AcceptedIndexes};
 ghost use Rattle.legacy_encoder_engine.specs.UnderWay.{KeepsOn, PutsCode};
 ghost use Rattle.legacy_japanese.specs.Iso2022JpEncoder.{pairs_state};
 
-use legacy_base::{Next, Source};
+use legacy_base::{Next, TextCursor};
 
 /// How the pairs of scalars are found.
 pub trait Pairs {
@@ -24,7 +24,7 @@ pub trait Pairs {
 /// Reads scalars in two-byte mode, up to one that wants an escape or has no pair here, and writes their pairs from
 /// the place `start` on. Answers where they end.
 #[inline(always)]
-pub fn read_pairs<P: Pairs, S: Source>(
+pub fn read_pairs<P: Pairs, S: TextCursor>(
     pairs: &P,
     src: &mut S,
     dst: &mut [u8],

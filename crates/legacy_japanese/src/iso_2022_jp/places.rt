@@ -1,6 +1,6 @@
-//! The places of the two bytes of a pair in index jis0208, in the two-byte mode of ISO-2022-JP.
+//! The places of the bytes of a pair in index jis0208, in two-byte mode of ISO-2022-JP.
 
-/// Those of the leads 21 to 7E, whose rows have 94 entries.
+/// The places of the leads 21 to 7E, whose rows have 94 entries.
 #[rattlefmt::skip]
 pub static LEADS: [u16; 256] = [
     65535, 65535, 65535, 65535, 65535, 65535, 65535, 65535, 65535, 65535, 65535, 65535, 65535, 65535, 65535, 65535,
@@ -21,7 +21,7 @@ pub static LEADS: [u16; 256] = [
     65535, 65535, 65535, 65535, 65535, 65535, 65535, 65535, 65535, 65535, 65535, 65535, 65535, 65535, 65535, 65535,
 ];
 
-/// Those of the trails 21 to 7E.
+/// The places of the trails 21 to 7E.
 #[rattlefmt::skip]
 pub static TRAILS: [u16; 256] = [
     65535, 65535, 65535, 65535, 65535, 65535, 65535, 65535, 65535, 65535, 65535, 65535, 65535, 65535, 65535, 65535,

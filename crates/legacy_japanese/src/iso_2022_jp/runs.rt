@@ -10,7 +10,7 @@ ghost use Rattle.legacy_decoder_engine.specs.Ahead.{ReadsTo, ReadsAhead};
 
 use super::places::{LEADS, TRAILS};
 use super::steps::{DOLLAR, ESCAPE, Escape, Mode, PAREN, Start, completed, entry};
-use legacy_base::{DecoderTables, Destination, KeptTables, Tables};
+use legacy_base::{DecoderTables, Destination, Tables};
 use legacy_decoder_engine::pairs::{Pairs, read_pair, read_pairs};
 use legacy_decoder_engine::places::pair_pointer;
 
@@ -102,9 +102,9 @@ fn read_jis0208<T: Destination>(tables: &Tables, src: &[u8], dst: &mut T) -> usi
     ensures { ReadsAhead T.Destination (run_state tables.now.flat.jis0208 Mode.TwoByte) src.now
         result dst.old dst.new }
 {
-    match tables.kept() {
-        KeptTables::Flat(tables) => read_pairs(&Jis0208Pairs { tables }, src, dst),
-        KeptTables::Packed(tables) => read_pairs(&Jis0208Pairs { tables }, src, dst),
+    match tables.flat() {
+        Some(tables) => read_pairs(&Jis0208Pairs { tables }, src, dst),
+        None => read_pairs(&Jis0208Pairs { tables }, src, dst),
     }
 }
 

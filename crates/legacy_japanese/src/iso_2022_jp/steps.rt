@@ -1,5 +1,6 @@
-//! The steps of an ISO-2022-JP decoder: what each byte, and the end of the input, makes of its mode
-//! and of what it holds back (Encoding Standard, "ISO-2022-JP decoder").
+//! The steps of an ISO-2022-JP decoder (Encoding Standard, "ISO-2022-JP decoder").
+//!
+//! A step gives the mode and the held-back bytes after a byte, or at the end of the input.
 ghost use Rattle.std.specs.Prelude.{◌≡◌, ◌≤◌, ◌↔◌, IfSome, IsTrue, length, true};
 ghost use Rattle.legacy_tables.specs.Indexes.{idx};
 ghost use Rattle.legacy_japanese.specs.Iso2022JpMachine as machine;
@@ -12,7 +13,7 @@ ghost use Rattle.legacy_japanese.specs.Iso2022JpMoves.{fed_of, weight_of, IsNarr
 use legacy_base::{DecoderTables, IndexName, Tables};
 use legacy_decoder_engine::moves::Fed;
 
-/// How the bytes behind an escape are read.
+/// The mode in which bytes are read.
 #[derive(Clone, Copy)]
 pub enum Mode {
     Ascii,
@@ -31,7 +32,7 @@ pub enum Escape {
     ToJis1983,
 }
 
-/// How far an escape has come: nothing, `1B`, `1B 24` or `1B 28`.
+/// The part of an escape that was read: nothing, `1B`, `1B 24` or `1B 28`.
 #[derive(Clone, Copy)]
 pub enum Start {
     Nothing,
@@ -40,9 +41,11 @@ pub enum Start {
     Paren,
 }
 
-/// What is held back: a byte by itself, the start of an escape, or a whole escape and the start of
-/// the next. A byte by itself is a lead in two-byte mode, and else `24` or `28`, to be read in the
-/// mode.
+/// The held-back bytes.
+///
+/// They are a byte alone, the start of an escape, or a whole escape and the start of the next one.
+/// A byte alone is a lead in two-byte mode. In the other modes it is `24` or `28`, to be read in
+/// the mode.
 #[derive(Clone, Copy)]
 pub enum Held {
     Byte(u8),
@@ -50,20 +53,22 @@ pub enum Held {
     Whole(Escape, Start),
 }
 
-/// What a step does that shows.
+/// The visible effect of a step.
 #[derive(Clone, Copy)]
 pub enum Action {
     /// The byte is held back.
     Holds,
     /// The byte completes a scalar.
     Writes(char),
-    /// The byte ends a malformed sequence of so many bytes, or stands behind it and is held back.
+    /// A malformed sequence of this many bytes ends.
+    ///
+    /// The byte is its last one, or comes after it and is held back.
     Reports(u8),
-    /// The first byte that was held back is malformed, and the byte is not read.
+    /// The first held-back byte is malformed, and the byte is not read.
     Leaves,
 }
 
-/// What a step does, and leaves.
+/// The effect of a step, with the mode and the held-back bytes after it.
 #[derive(Clone, Copy)]
 pub struct Outcome {
     pub action: Action,
@@ -79,7 +84,7 @@ pub const DOLLAR: u8 = 0x24;
 pub const PAREN: u8 = 0x28;
 
 impl Escape {
-    /// The mode that the escape switches to.
+    /// Returns the mode that the escape switches to.
     #[inline]
     pub fn mode(self) -> Mode
         ensures { result ≡ machine.mode_of self }
@@ -95,7 +100,7 @@ impl Escape {
 }
 
 impl Start {
-    /// How many bytes it has.
+    /// Returns the number of its bytes.
     #[inline]
     fn count(self) -> u8
         ensures value { result ≡ length (start_bytes self) }
@@ -111,7 +116,7 @@ impl Start {
 }
 
 impl Held {
-    /// Whether nothing is held back.
+    /// Returns whether nothing is held back.
     #[inline]
     pub fn is_nothing(self) -> bool
         ensures { IsTrue result ↔ (self ≡ Begun Nothing) }
@@ -122,7 +127,7 @@ impl Held {
         }
     }
 
-    /// How many bytes it has.
+    /// Returns the number of held-back bytes.
     #[inline]
     pub fn count(self) -> u8
         ensures { result ≡ length (bytes_of self) }
@@ -134,7 +139,9 @@ impl Held {
         }
     }
 
-    /// How many bytes to come it is worth in a length: a whole escape counts as one.
+    /// Returns the number of input bytes that the held-back bytes count as in a length.
+    ///
+    /// A whole escape counts as one.
     pub fn weight(self) -> usize
         ensures { result ≡ weight_of self }
     {
@@ -147,7 +154,7 @@ impl Held {
 }
 
 impl Outcome {
-    /// A move, with what it leaves.
+    /// Returns the outcome with these parts.
     #[inline]
     fn new(action: Action, mode: Mode, held: Held) -> Outcome
         ensures { result ≡ machine.moves action mode held }
@@ -155,7 +162,7 @@ impl Outcome {
         Outcome { action, mode, held }
     }
 
-    /// What the loop is told of the step.
+    /// Returns the step as the loop of all decoders takes it.
     #[inline]
     pub fn fed(self) -> Fed
         ensures { result ≡ fed_of self }
@@ -177,7 +184,9 @@ impl Outcome {
     }
 }
 
-/// The scalar of an ASCII byte that the codec gives one.
+/// Returns the scalar of a byte in ASCII mode, or `None`.
+///
+/// 0E, 0F and the bytes from 80 on have none.
 #[inline]
 fn ascii_scalar(byte: u8) -> Option<char>
     ensures value { result ≡ machine.single Ascii byte }
@@ -190,7 +199,7 @@ fn ascii_scalar(byte: u8) -> Option<char>
     }
 }
 
-/// The scalar of a byte outside two-byte mode.
+/// Returns the scalar of a byte outside two-byte mode, or `None`.
 #[inline]
 fn single_scalar(mode: Mode, byte: u8) -> Option<char>
     ensures value { result ≡ machine.single mode byte }
@@ -218,7 +227,7 @@ fn single_scalar(mode: Mode, byte: u8) -> Option<char>
     }
 }
 
-/// The escape that a byte completes.
+/// Returns the escape that a byte completes, or `None`.
 #[inline]
 pub fn completed(start: Start, byte: u8) -> Option<Escape>
     ensures { result ≡ machine.completes start byte }
@@ -249,7 +258,7 @@ pub fn completed(start: Start, byte: u8) -> Option<Escape>
     }
 }
 
-/// The scalar of a pointer in index jis0208.
+/// Returns the scalar of a pointer in index jis0208, or `None`.
 #[inline]
 pub fn entry<V: DecoderTables>(tables: &V, pointer: usize) -> Option<char>
     ensures value { result ≡ idx (V.indexes tables.now).flat.jis0208 pointer }
@@ -258,7 +267,7 @@ pub fn entry<V: DecoderTables>(tables: &V, pointer: usize) -> Option<char>
     tables.idx(IndexName::Jis0208, pointer)
 }
 
-/// A byte that is no escape byte, in two-byte mode with nothing held back.
+/// Reads a byte that is not the escape byte, in two-byte mode with nothing held back.
 #[inline]
 fn read_lead(byte: u8) -> Outcome
     ensures value { result ≡ machine.read_plain TwoByte byte }
@@ -275,7 +284,7 @@ fn read_lead(byte: u8) -> Outcome
     }
 }
 
-/// What a scalar in the mode leads to, or its lack.
+/// Returns the outcome of a byte with this scalar in the mode; without one it is malformed.
 #[inline]
 fn read_single(mode: Mode, scalar: Option<char>) -> Outcome
     requires { IfSome scalar IsNarrowScalar }
@@ -288,7 +297,7 @@ fn read_single(mode: Mode, scalar: Option<char>) -> Outcome
     }
 }
 
-/// A byte that is no escape byte, with nothing held back.
+/// Reads a byte that is not the escape byte, with nothing held back.
 #[inline]
 fn read_plain(mode: Mode, byte: u8) -> Outcome
     ensures value { result ≡ machine.read_plain mode byte }
@@ -300,7 +309,9 @@ fn read_plain(mode: Mode, byte: u8) -> Outcome
     }
 }
 
-/// A byte behind a lead. An escape byte ends the lead, and is held back itself.
+/// Reads a byte after a lead.
+///
+/// An escape byte ends the lead, and is itself held back.
 #[inline]
 fn read_trail(tables: &Tables, lead: u8, byte: u8) -> Outcome
     requires low { 0x21 ≤ lead }
@@ -325,8 +336,10 @@ fn read_trail(tables: &Tables, lead: u8, byte: u8) -> Outcome
     Outcome::new(action, Mode::TwoByte, Held::Begun(Start::Nothing))
 }
 
-/// A byte behind an escape byte and a second byte: the escape is whole, or the escape byte is
-/// malformed and the second byte is held back by itself.
+/// Reads a byte after an escape byte and a second byte.
+///
+/// Either the escape is whole, or the escape byte is malformed and the second byte is held back
+/// alone.
 #[inline]
 fn read_third(mode: Mode, second: u8, escape: Option<Escape>) -> Outcome
     ensures value { result ≡ machine.read_third mode second escape }
@@ -338,7 +351,7 @@ fn read_third(mode: Mode, second: u8, escape: Option<Escape>) -> Outcome
     }
 }
 
-/// A byte behind less than a whole escape.
+/// Reads a byte after less than a whole escape.
 #[inline(always)]
 fn read_start(mode: Mode, start: Start, byte: u8) -> Outcome
     ensures value { result ≡ machine.read_start mode start byte }
@@ -366,9 +379,10 @@ fn read_start(mode: Mode, start: Start, byte: u8) -> Outcome
     }
 }
 
-/// A byte behind a whole escape, an escape byte and a second byte: the next escape is whole, and
-/// the one before it is malformed, since nothing stands between them; or the escape byte is
-/// malformed.
+/// Reads a byte after a whole escape, an escape byte and a second byte.
+///
+/// Either the next escape is whole, and the one before it is malformed because nothing is between
+/// them. Or the escape byte is malformed and the second byte is held back alone.
 #[inline]
 fn read_next_third(mode: Mode, second: u8, escape: Option<Escape>) -> Outcome
     ensures value { result ≡ machine.read_next_third mode second escape }
@@ -380,7 +394,7 @@ fn read_next_third(mode: Mode, second: u8, escape: Option<Escape>) -> Outcome
     }
 }
 
-/// A byte behind a whole escape, whose mode holds from then on.
+/// Reads a byte after a whole escape, whose mode applies from here on.
 #[inline]
 fn read_whole(mode: Mode, escape: Escape, start: Start, byte: u8) -> Outcome
     ensures value { result ≡ machine.read_whole mode escape start byte }
@@ -409,7 +423,9 @@ fn read_whole(mode: Mode, escape: Escape, start: Start, byte: u8) -> Outcome
     }
 }
 
-/// The next byte, where what is held back rests.
+/// Reads the next byte.
+///
+/// No scalar may be pending.
 #[inline(always)]
 pub fn read(tables: &Tables, mode: Mode, held: Held, byte: u8) -> Outcome
     requires sound { is_held mode held ≡ true }
@@ -424,8 +440,9 @@ pub fn read(tables: &Tables, mode: Mode, held: Held, byte: u8) -> Outcome
     }
 }
 
-/// The scalar that is to be written before anything is read, if there is one: `24` or `28` outside
-/// two-byte mode.
+/// Returns the scalar to write before anything is read, or `None`.
+///
+/// It is that of `24` or `28`, held back outside two-byte mode.
 pub fn pending(mode: Mode, held: Held) -> Option<char>
     ensures value { result ≡ machine.pending mode held }
     ensures narrow { IfSome result IsNarrowScalar }
@@ -437,7 +454,9 @@ pub fn pending(mode: Mode, held: Held) -> Option<char>
     }
 }
 
-/// The end of the input behind the start of an escape: its first byte is malformed.
+/// Returns what the end of the input leaves after the start of an escape.
+///
+/// The first byte of the start is malformed.
 fn finish_start(mode: Mode, start: Start) -> Option<(Mode, Held)>
     ensures { result ≡ machine.finish_start mode start }
 {
@@ -449,7 +468,9 @@ fn finish_start(mode: Mode, start: Start) -> Option<(Mode, Held)>
     }
 }
 
-/// The end of the input: what one malformed byte leaves, or nothing where none is left.
+/// Returns the mode and the held-back bytes after one malformed byte at the end of the input.
+///
+/// Returns `None` if nothing is left to report.
 pub fn finish(mode: Mode, held: Held) -> Option<(Mode, Held)>
     ensures { result ≡ machine.finish mode held }
 {

@@ -11,9 +11,9 @@ ghost use Rattle.legacy_decoder_engine.specs.LeadCodecs.{held_bytes};
 
 use super::lead::ShiftJisLead;
 use super::places::{LEADS, TRAILS};
-use legacy_base::{DecoderTables, IndexName, Tables};
-use legacy_decoder_engine::common_forms::CommonForm;
-use legacy_decoder_engine::lead::{LeadCodec, LeadDecoder};
+use legacy_base::{DecoderTables, Destination, FlatTables, IndexName, Tables};
+use legacy_decoder_engine::common_forms::{CommonForm, read_common_forms};
+use legacy_decoder_engine::lead::{LeadCodec, LeadDecoder, LeadForms, LeadRuns};
 use legacy_decoder_engine::moves::{Fed, Room};
 use legacy_decoder_engine::places::pair_pointer;
 use legacy_decoder_engine::two_byte::{fault_through, read_trail};
@@ -23,15 +23,20 @@ pub struct ShiftJis;
 
 /// The decoder of Shift_JIS (Encoding Standard, "Shift_JIS decoder").
 ///
-/// ASCII bytes and the byte 80 are themselves, and the bytes A1 to DF are the halfwidth katakana
-/// U+FF61 to U+FF9F. A lead from 81 to 9F or from E0 to FC and a trail from 40 to 7E or from 80 to
-/// FC give the scalar of their pointer in index jis0208; the pointers 8836 to 10715 give the
-/// private-use scalars U+E000 to U+E757. Malformed are the bytes A0 and FD to FF where a form
-/// begins, a lead at the end of the input, and a lead with a byte that gives no scalar with it:
-/// both of them, or where that byte is ASCII the lead alone, and the byte is read again.
+/// ASCII bytes and the byte 80 are themselves, and the bytes A1 to DF are the half-width katakana
+/// U+FF61 to U+FF9F. A lead is 81 to 9F or E0 to FC, and a trail is 40 to 7E or 80 to FC. They give
+/// the scalar of their pointer in index jis0208. The pointers 8836 to 10715 give the private-use
+/// scalars U+E000 to U+E757.
+///
+/// Malformed sequences:
+///
+/// - the bytes A0 and FD to FF at the beginning of a sequence (1 byte);
+/// - a lead at the end of the input (1 byte);
+/// - a lead with a byte that gives no scalar with it (2 bytes); if that byte is ASCII, only the
+///   lead (1 byte), and the ASCII byte is read again.
 pub type ShiftJisDecoder<'a> = LeadDecoder<'a, ShiftJis>;
 
-/// Reads the first byte of a form.
+/// Reads the first byte of a sequence.
 #[inline]
 fn first_byte(byte: u8) -> (Fed, Option<ShiftJisLead>)
     ensures { Took (shift_jis_first byte) [] byte result.0 (held_bytes (λ l. l.byte) result.1) }
@@ -48,7 +53,7 @@ fn first_byte(byte: u8) -> (Fed, Option<ShiftJisLead>)
     }
 }
 
-/// The halfwidth katakana of a byte from A1 to DF.
+/// Returns the half-width katakana of a byte from A1 to DF.
 #[inline]
 fn katakana(byte: u8) -> char
     requires low { 0xA1 ≤ byte }
@@ -61,7 +66,7 @@ fn katakana(byte: u8) -> char
     }
 }
 
-/// The scalar of a pointer, if it has one: the pointers 8836 to 10715 are for private use.
+/// Returns the scalar of a pointer, or `None`; the pointers 8836 to 10715 are for private use.
 #[inline]
 fn pointer_scalar<V: DecoderTables>(tables: &V, pointer: usize) -> Option<char>
     ensures { option_to_list result
@@ -73,7 +78,7 @@ fn pointer_scalar<V: DecoderTables>(tables: &V, pointer: usize) -> Option<char>
     tables.idx(IndexName::Jis0208, pointer)
 }
 
-/// The scalar of two bytes, if they are a lead and a trail and give one.
+/// Returns the scalar of two bytes, or `None` if they are not a lead and a trail with a scalar.
 #[inline]
 fn form_scalar<V: DecoderTables>(tables: &V, lead: u8, trail: u8) -> Option<char>
     ensures value { option_to_list result
@@ -85,7 +90,7 @@ fn form_scalar<V: DecoderTables>(tables: &V, lead: u8, trail: u8) -> Option<char
     pointer_scalar(tables, pair_pointer(&LEADS, &TRAILS, lead, trail))
 }
 
-/// The scalar of a lead and a trail, if they give one.
+/// Returns the scalar of a lead and a trail, or `None`.
 #[inline]
 fn pair_scalar(tables: &Tables<'_>, lead: ShiftJisLead, trail: u8) -> Option<char>
     ensures value { option_to_list result
@@ -152,5 +157,13 @@ impl LeadCodec for ShiftJis {
 
     fn utf8_length(byte_length: usize, held: usize) -> Option<usize> {
         byte_length.checked_add(held)?.checked_mul(3)
+    }
+}
+
+impl LeadRuns for ShiftJis {
+    #[inline(always)]
+    fn read_flat<T: Destination>(tables: &FlatTables<'_>, src: &[u8], dst: &mut T) -> usize {
+        let forms = LeadForms::<ShiftJis, FlatTables<'_>>::new(tables, None);
+        read_common_forms(&forms, src, dst)
     }
 }

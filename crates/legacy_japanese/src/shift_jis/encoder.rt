@@ -16,13 +16,13 @@ use legacy_tables::{Marks, PackedPart};
 
 /// The encoder of Shift_JIS (Encoding Standard, "Shift_JIS encoder").
 ///
-/// ASCII and U+0080 are themselves, U+00A5 is 5C, U+203E is 7E, and the half-width katakana U+FF61 to
-/// U+FF9F are the bytes A1 to DF. Another scalar that index jis0208 has is the lead and the trail of its
-/// first pointer there but for 8272 to 8835, the minus sign U+2212 that of U+FF0D. All other scalars are
-/// unmappable.
+/// ASCII and U+0080 are themselves, U+00A5 is 5C and U+203E is 7E. The half-width katakana U+FF61
+/// to U+FF9F are the bytes A1 to DF. Another scalar of index jis0208 is the lead and the trail of
+/// its first pointer there, except the pointers 8272 to 8835. The minus sign U+2212 is encoded as
+/// U+FF0D. All other scalars are unmappable.
 pub type ShiftJisEncoder<'a> = PairEncoder<'a, ShiftJis>;
 
-/// The lead and the trail of a scalar by index jis0208.
+/// Returns the lead and the trail of a scalar in index jis0208, or `None`.
 #[inline(always)]
 fn pair<V: EncoderTables>(tables: &V, c: char) -> Option<(u8, u8)>
     ensures { option_map (λ pair. pair.0 ∷ pair.1 ∷ []) result ≡ option_map shift_jis_bytes
@@ -59,7 +59,7 @@ impl PairCodec for ShiftJis {
 
     ghost pairs = { λ flat. shift_jis_pairs flat.jis0208 };
 
-    // Half-width katakana are none of the scalars that are looked up first.
+    // Half-width katakana are not among the scalars that are looked up first.
     #[inline(always)]
     fn goes_past_pairs() -> bool {
         true

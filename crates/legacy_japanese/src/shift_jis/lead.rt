@@ -1,4 +1,4 @@
-//! What the Shift_JIS decoder holds back between two calls.
+//! A lead that the Shift_JIS decoder holds back between two calls.
 ghost use Rattle.std.specs.Prelude.{◌≡◌, true, false, MatchOption};
 ghost use Rattle.legacy_base.specs.ShiftJis.{is_shift_jis_lead};
 
@@ -10,7 +10,7 @@ pub struct ShiftJisLead {
 }
 
 impl ShiftJisLead {
-    /// The byte as a lead, if it is one.
+    /// Returns the byte as a lead, or `None` if it is not one.
     #[inline]
     pub fn new(byte: u8) -> Option<ShiftJisLead>
         ensures { MatchOption result (is_shift_jis_lead byte ≡ false)

@@ -1,6 +1,6 @@
 //! The places of the leads and trails of Shift_JIS in index jis0208.
 
-/// Those of the leads 81 to 9F and E0 to FC, whose rows have 188 entries.
+/// The places of the leads 81 to 9F and E0 to FC, whose rows have 188 entries.
 #[rattlefmt::skip]
 pub static LEADS: [u16; 256] = [
     65535, 65535, 65535, 65535, 65535, 65535, 65535, 65535, 65535, 65535, 65535, 65535, 65535, 65535, 65535, 65535,
@@ -21,7 +21,7 @@ pub static LEADS: [u16; 256] = [
     8836, 9024, 9212, 9400, 9588, 9776, 9964, 10152, 10340, 10528, 10716, 10904, 11092, 65535, 65535, 65535,
 ];
 
-/// Those of the trails 40 to 7E and 80 to FC.
+/// The places of the trails 40 to 7E and 80 to FC.
 #[rattlefmt::skip]
 pub static TRAILS: [u16; 256] = [
     65535, 65535, 65535, 65535, 65535, 65535, 65535, 65535, 65535, 65535, 65535, 65535, 65535, 65535, 65535, 65535,

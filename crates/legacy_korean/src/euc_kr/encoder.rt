@@ -14,11 +14,11 @@ use legacy_tables::{Marks, PackedPart};
 
 /// The encoder of EUC-KR (Encoding Standard, "EUC-KR encoder").
 ///
-/// ASCII is itself, and a scalar that index EUC-KR has is the lead and the trail of its first pointer.
-/// All other scalars are unmappable.
+/// ASCII is itself. A scalar of index EUC-KR is the lead and the trail of its first pointer. All
+/// other scalars are unmappable.
 pub type EucKrEncoder<'a> = PairEncoder<'a, EucKr>;
 
-/// The lead and the trail of a scalar by index EUC-KR.
+/// Returns the lead and the trail of a scalar in index EUC-KR, or `None`.
 #[inline(always)]
 fn pair<V: EncoderTables>(tables: &V, c: char) -> Option<(u8, u8)>
     ensures { option_map (λ pair. pair.0 ∷ pair.1 ∷ []) result ≡ option_map euc_kr_bytes

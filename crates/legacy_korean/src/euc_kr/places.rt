@@ -1,6 +1,6 @@
 //! The places of the trails of EUC-KR in the rows of its index.
 
-/// Those of the trails 41 to FE.
+/// The places of the trails 41 to FE.
 #[rattlefmt::skip]
 pub static TRAILS: [u16; 256] = [
     65535, 65535, 65535, 65535, 65535, 65535, 65535, 65535, 65535, 65535, 65535, 65535, 65535, 65535, 65535, 65535,

@@ -9,7 +9,7 @@ use legacy_decoder_engine::moves::{DecoderMoves, Fed, Move, Room};
 
 /// The replacement decoder (Encoding Standard, "replacement decoder").
 ///
-/// The first byte is a malformed sequence, and every byte behind it is swallowed. No scalar is ever
+/// The first byte is a malformed sequence, and every later byte is dropped. No scalar is ever
 /// written, and no byte is held back.
 #[derive(Drop)]
 pub struct ReplacementDecoder {
@@ -19,7 +19,7 @@ pub struct ReplacementDecoder {
 impl ReplacementDecoder {
     ghost use Rattle.legacy_miscellaneous.specs.ReplacementDecoder.{replacement_state};
 
-    /// A decoder before its first byte.
+    /// Returns a decoder before its first byte.
     pub fn new() -> ReplacementDecoder
         ensures { replacement_state result ≡ new_state (replacement false) }
     {

@@ -1,6 +1,6 @@
 //! The decoder of x-user-defined.
-// Inlined always is what runs for each form or block: a call would pass vectors through memory, and put the
-// destination's place there from form to form.
+// Code that runs for each form or block is always inlined: a call would pass vectors through memory, and would store
+// the destination's position in memory for each form.
 ghost use Rattle.std.specs.Prelude.{◌≡◌, ◌+◌, ◌-◌, if◌then◌else◌};
 ghost use Rattle.std.specs.Char.{is_ascii};
 ghost use Rattle.legacy_text.specs.EncodingForm.{bmp_room};
@@ -16,7 +16,7 @@ use legacy_decoder_engine::moves::{DecoderMoves, Fed, Move, Room};
 /// The decoder of x-user-defined (Encoding Standard, "x-user-defined decoder").
 ///
 /// ASCII bytes are themselves, and the bytes 80 to FF are the private-use scalars U+F780 to U+F7FF.
-/// No byte is malformed and none is held back.
+/// No byte is malformed, and none is held back.
 #[derive(Drop)]
 pub struct UserDefinedDecoder {
     _made_by_new: (),
@@ -25,7 +25,7 @@ pub struct UserDefinedDecoder {
 impl UserDefinedDecoder {
     ghost use Rattle.legacy_miscellaneous.specs.UserDefinedDecoder.{user_defined_state};
 
-    /// A decoder before its first byte.
+    /// Returns a decoder before its first byte.
     pub fn new() -> UserDefinedDecoder
         ensures { user_defined_state result ≡ new_state user_defined }
     {
@@ -33,8 +33,8 @@ impl UserDefinedDecoder {
     }
 }
 
-/// The scalar of any byte: ASCII is itself, and a byte past it a private-use scalar.
-// Bit 7 is carried into all higher bits, and bit 11 cleared: the compiler makes vectors of it, and no branch.
+/// Returns the scalar of any byte: ASCII for ASCII, and a private-use scalar for any other.
+// Copies bit 7 into all higher bits and clears bit 11: the compiler makes vectors of it, without a branch.
 #[inline(always)]
 fn scalar_of(byte: u8) -> char
     ensures { result ≡ (if is_ascii byte then byte else 0xF780 + (byte - 0x80)) }
@@ -43,8 +43,9 @@ fn scalar_of(byte: u8) -> char
     unsafe { char::from_u32_unchecked(u32::from(unit)) }
 }
 
-/// Reads bytes from the front where each scalar up to U+FFFF is one code unit, as many as leave three
-/// free. Answers how many were read: none is an answer too.
+/// Decodes bytes if a scalar up to U+FFFF is one code unit, and leaves three units free.
+///
+/// Returns the number of bytes read.
 #[inline(always)]
 fn read_units<T: Destination>(src: &[u8], dst: &mut T) -> usize
     requires { bmp_room T.form ≡ 1 }
@@ -101,7 +102,7 @@ impl DecoderMoves for UserDefinedDecoder {
         }
     }
 
-    // Written here, since a provided body is not inlined always.
+    // Provided here because a default method is not always inlined.
     #[inline(always)]
     fn read_runs<T: Destination>(&mut self, src: &[u8], dst: &mut T) -> usize {
         self.read_ahead(src, dst)

@@ -12,8 +12,8 @@ use legacy_encoder_engine::runs::read_runs;
 
 /// The encoder of x-user-defined (Encoding Standard, "x-user-defined encoder").
 ///
-/// ASCII is itself, and the private-use scalars U+F780 to U+F7FF are the bytes 80 to FF. All other scalars
-/// are unmappable.
+/// ASCII is itself, and the private-use scalars U+F780 to U+F7FF are the bytes 80 to FF. All other
+/// scalars are unmappable.
 #[derive(Drop)]
 pub struct UserDefinedEncoder {
     _made_by_new: (),
@@ -22,7 +22,7 @@ pub struct UserDefinedEncoder {
 impl UserDefinedEncoder {
     ghost use Rattle.legacy_miscellaneous.specs.UserDefinedEncoder.{user_defined_encoder_state};
 
-    /// An encoder before its first scalar.
+    /// Returns an encoder before its first scalar.
     pub fn new() -> UserDefinedEncoder
         ensures { user_defined_encoder_state result ≡ new_encoder user_defined }
     {

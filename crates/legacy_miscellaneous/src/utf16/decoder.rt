@@ -12,14 +12,17 @@ use legacy_decoder_engine::drive::drive_decoder;
 use legacy_decoder_engine::moves::{DecoderMoves, Fed, Move, Room};
 use legacy_decoder_engine::runs::read_blocks;
 
-/// The decoder of UTF-16 (Encoding Standard, "shared UTF-16 decoder", "UTF-16BE decoder" and "UTF-16LE
-/// decoder").
+/// The decoder of UTF-16 in either byte order (Encoding Standard, "shared UTF-16 decoder").
 ///
-/// Two bytes are a code unit. A high surrogate (D800 to DBFF) and a low one behind it (DC00 to DFFF) are
-/// one scalar, and any unit that is no surrogate is one. A surrogate that is in no pair is a malformed
-/// sequence of two bytes; at the end of the input an odd byte is one of its own, or of three bytes
-/// together with a high surrogate before it. The unit behind a high surrogate that is in no pair is read
-/// and held back, so that the answer is `Malformed(2, 2)`. A byte order mark is a scalar like any other.
+/// It is also the "UTF-16BE decoder" and the "UTF-16LE decoder" of the Standard. Two bytes are a
+/// code unit. A high surrogate (D800 to DBFF) with a low one after it (DC00 to DFFF) is one scalar.
+/// So is any unit that is not a surrogate. A byte order mark is a scalar like any other.
+///
+/// An unpaired surrogate is a malformed sequence of two bytes. At the end of the input an odd byte
+/// is malformed: alone, or as the third byte of a sequence that begins with a high surrogate.
+///
+/// The unit after an unpaired high surrogate is read and held back, so the result is `Malformed(2,
+/// 2)`.
 #[derive(Drop)]
 pub struct Utf16Decoder {
     big_endian: bool,
@@ -29,8 +32,9 @@ pub struct Utf16Decoder {
 impl Utf16Decoder {
     ghost use Rattle.legacy_miscellaneous.specs.Utf16Decoder.{utf16_state};
 
-    /// A decoder before its first byte. Of the two bytes of a unit the first is the greater where
-    /// `big_endian` is set, and the second otherwise.
+    /// Returns a decoder before its first byte.
+    ///
+    /// If `big_endian` is set, the first byte of a unit is the high one. Otherwise the second is.
     pub fn new(big_endian: bool) -> Utf16Decoder
         ensures { utf16_state result ≡ new_state (utf16 big_endian) }
     {
@@ -40,8 +44,9 @@ impl Utf16Decoder {
         }
     }
 
-    /// One, and the number of bytes that are held back: one for an odd byte, and two for a unit. It is
-    /// what the length queries add to the number of bytes to come.
+    /// Returns 1 plus the number of held-back bytes: 1 for an odd byte, 2 for a unit.
+    ///
+    /// The length queries add it to the number of bytes to come.
     pub fn additional_from_state(&self) -> usize
         ensures { result ≡ additional_from_state (utf16_state self.now) }
     {
@@ -53,7 +58,9 @@ impl Utf16Decoder {
         }
     }
 
-    /// The code units that so many more bytes and those held back make, at most.
+    /// Returns the most code units of `byte_length` more bytes and those held back.
+    ///
+    /// Returns `None` if the number of bytes exceeds `usize::MAX`.
     fn unit_limit(&self, byte_length: usize) -> Option<usize>
         ensures { result ≡ answer (utf16_units (utf16_state self.now) byte_length) }
     {
@@ -125,7 +132,7 @@ impl DecoderMoves for Utf16Decoder {
         }
     }
 
-    // Written here, since a provided body is not inlined always.
+    // Provided here because a default method is not always inlined.
     #[inline(always)]
     fn read_runs<T: Destination>(&mut self, src: &[u8], dst: &mut T) -> usize {
         self.read_ahead(src, dst)

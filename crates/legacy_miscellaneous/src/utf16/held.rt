@@ -9,7 +9,7 @@ pub struct HighSurrogate {
     ghost is_high: { is_high_surrogate unit ≡ true },
 }
 
-/// A byte that is no whole unit yet.
+/// The first byte of a unit.
 #[derive(Clone, Copy)]
 pub struct OddByte {
     pub byte: u8,
@@ -25,13 +25,13 @@ pub struct UnitScalar {
     ghost is_not_low: { is_low_surrogate scalar ≡ false },
 }
 
-/// What was read and is held back.
+/// What is held back.
 #[derive(Clone, Copy)]
 pub enum Held {
     Nothing,
     Odd(OddByte),
     High(HighSurrogate),
     HighOdd(HighSurrogate, OddByte),
-    /// A unit behind an unpaired high surrogate, which is to be written.
+    /// A unit after an unpaired high surrogate. It is written next.
     Pending(UnitScalar),
 }

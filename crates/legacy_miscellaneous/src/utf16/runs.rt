@@ -1,6 +1,6 @@
-//! Blocks of UTF-16 code units that are no surrogates: 64 units at a time, eight at a time, and one by one.
-// Inlined always is what runs for each form or block: a call would pass vectors through memory, and put the
-// destination's place there from form to form.
+//! Blocks of UTF-16 code units without surrogates: by 64, by eight, and one by one.
+// Code that runs for each form or block is always inlined: a call would pass vectors through memory, and would store
+// the destination's position in memory for each form.
 ghost use Rattle.std.specs.Prelude.{◌≡◌, ◌+◌, ◌*◌, ◌<◌, ◌≤◌, ◌++◌, ℕ, length, true, false, slice_index};
 ghost use Rattle.std.specs.Char.{IsScalar};
 ghost use Rattle.legacy_text.specs.EncodingForm.{code_units, unit_count};
@@ -33,7 +33,7 @@ impl Pairs for Units {
     }
 }
 
-/// Returns whether any of the units is a surrogate.
+/// Checks whether any of the units is a surrogate.
 #[inline(always)]
 fn has_surrogate(units: &[u16]) -> bool
     ensures { result ≡ false → (k : ℕ) → k < length units.now → IsScalar (slice_index units.now k) }
@@ -59,7 +59,7 @@ fn put_unit<T: Destination>(dst: &mut T, unit: u16)
     dst.put(unsafe { char::from_u32_unchecked(u32::from(unit)) });
 }
 
-/// Sixteen units at a time, for an output of UTF-16.
+/// Sixteen units at a time, for UTF-16 output.
 #[derive(Drop)]
 struct Sixteens<'a> {
     units: &'a Units,
@@ -89,7 +89,7 @@ impl Blocks for Sixteens<'_> {
     }
 }
 
-/// ASCII by sixteens.
+/// Blocks of ASCII, sixteen units at a time.
 #[derive(Drop)]
 struct AsciiUnits<'a> {
     units: &'a Units,
@@ -98,7 +98,7 @@ struct AsciiUnits<'a> {
 impl Blocks for AsciiUnits<'_> {
     ghost grammar = { λ blocks. utf16 blocks.units.now.big_endian };
 
-    /// Decodes the ASCII at the front of sixteen units.
+    /// Decodes the ASCII at the start of sixteen units.
     #[inline(always)]
     fn read_block<T: Destination>(&self, src: &[u8], dst: &mut T) -> (usize, bool) {
         if src.len() < 32 || dst.free() < 19 {
@@ -111,8 +111,8 @@ impl Blocks for AsciiUnits<'_> {
 }
 
 impl Units {
-    /// Returns the first sixteen units as bytes: a unit below 0100 as it is, and FF for any other.
-    // Of units in a vector the compiler makes two operations of this.
+    /// Returns the first sixteen units as bytes: a unit below 0x100 as it is, and 0xFF for others.
+    // The compiler makes two vector operations of this.
     #[inline(always)]
     fn narrow_block(&self, src: &[u8]) -> [u8; 16]
         requires { 32 ≤ length src.now }
@@ -129,7 +129,7 @@ impl Units {
         block
     }
 
-    /// Returns whether the first 64 units are below the bound.
+    /// Checks whether the first 64 units are below the bound.
     #[inline(always)]
     fn are_below(&self, src: &[u8], bound: u16) -> bool
         requires { 128 ≤ length src.now }
@@ -145,9 +145,9 @@ impl Units {
         are_all_below(greatest, bound)
     }
 
-    /// Decodes up to 64 units, up to the first eight with a surrogate. Returns the number of bytes read.
-    // How long the scalars are in UTF-8 is asked once for all 64: in text with letters past ASCII it is foreseen
-    // better so than for each eight.
+    /// Decodes up to 64 units, up to the first eight with a surrogate. Returns the bytes read.
+    // The length of the scalars in UTF-8 is tested once for all 64 units. In text with letters past ASCII that is
+    // predicted better than a test for each eight.
     #[inline(always)]
     fn read_sixty_four<T: Destination>(&self, src: &[u8], dst: &mut T) -> usize
         requires source { 128 ≤ length src.now }
@@ -164,7 +164,9 @@ impl Units {
         self.read_eights(src, dst, 8)
     }
 
-    /// Decodes this many times eight units, up to the first eight with a surrogate. Returns the number of bytes read.
+    /// Decodes groups of eight units, up to the first group with a surrogate.
+    ///
+    /// Returns the number of bytes read.
     #[inline(always)]
     fn read_eights<T: Destination>(&self, src: &[u8], dst: &mut T, eights: usize) -> usize
         requires source { 16 * eights ≤ length src.now }
@@ -233,7 +235,7 @@ impl Units {
 impl Blocks for Units {
     ghost grammar = { λ units. utf16 units.big_endian };
 
-    /// Decodes units by vectors, or up to eight one by one where no vector can be read.
+    /// Decodes units by vectors, or up to eight one by one if no vector can be read.
     #[inline(always)]
     fn read_block<T: Destination>(&self, src: &[u8], dst: &mut T) -> (usize, bool) {
         let at = self.read_vectors(src, dst);

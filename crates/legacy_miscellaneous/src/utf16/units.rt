@@ -1,4 +1,4 @@
-//! What a decoder of UTF-16 does with a byte.
+//! What a decoder of UTF-16 does with each byte.
 ghost use Rattle.std.specs.Prelude.{◌≡◌, [], ◌∷◌, true, false, Bool};
 ghost use Rattle.std.specs.Char.Utf16.{is_high_surrogate, is_low_surrogate, surrogate_pair_char};
 ghost use Rattle.legacy_base.specs.Grammar.{utf16};
@@ -11,7 +11,7 @@ ghost use Rattle.legacy_miscellaneous.specs.Utf16Decoder.{first_byte, second_byt
 use super::held::{Held, HighSurrogate, OddByte, UnitScalar};
 use legacy_decoder_engine::moves::Fed;
 
-/// The unit of two bytes.
+/// Returns the unit of two bytes.
 #[inline]
 pub fn unit(big_endian: bool, first: u8, second: u8) -> u16
     ensures { result ≡ unit_of big_endian first second }
@@ -37,7 +37,7 @@ fn is_low(unit: u16) -> bool
     unit >= 0xDC00 && unit < 0xE000
 }
 
-/// What the second byte of a unit leads to, where nothing is held back in front of the first.
+/// Returns what the second byte of a unit leads to if no high surrogate is before the unit.
 #[inline]
 fn read_second(big_endian: bool, first: OddByte, byte: u8) -> (Fed, Held)
     ensures { let held = first.byte ∷ [] in Took (utf16_step big_endian held byte) held byte
@@ -60,7 +60,7 @@ fn read_second(big_endian: bool, first: OddByte, byte: u8) -> (Fed, Held)
     }
 }
 
-/// The scalar of a high and a low surrogate.
+/// Returns the scalar of a high and a low surrogate.
 #[inline]
 fn pair(high: HighSurrogate, low: u16) -> char
     requires { is_low_surrogate low ≡ true }
@@ -73,7 +73,7 @@ fn pair(high: HighSurrogate, low: u16) -> char
     }
 }
 
-/// Holds back a unit that is no low surrogate.
+/// Holds back a unit that is not a low surrogate.
 #[inline]
 fn hold_unit(unit: u16) -> Held
     requires { is_low_surrogate unit ≡ false }
@@ -89,7 +89,7 @@ fn hold_unit(unit: u16) -> Held
     }
 }
 
-/// What the second byte of a unit leads to, where a high surrogate stands in front of the first.
+/// Returns what the second byte of a unit leads to if a high surrogate is before the unit.
 #[inline]
 fn read_fourth(big_endian: bool, high: HighSurrogate, third: OddByte, byte: u8) -> (Fed, Held)
     ensures { let held = held_bytes big_endian (Held.HighOdd high third) in Took
@@ -109,7 +109,7 @@ fn read_fourth(big_endian: bool, high: HighSurrogate, third: OddByte, byte: u8) 
     )
 }
 
-/// What a byte leads to, and what is held back then.
+/// Returns what a byte leads to, and what is held back after it.
 #[inline]
 pub fn read_byte(big_endian: bool, held: Held, byte: u8) -> (Fed, Held)
     requires { rests (utf16 big_endian) (held_bytes big_endian held) ≡ true }

@@ -1,12 +1,12 @@
-//! Units by vectors of bytes: a loop that reads them byte by byte would gather them one by one.
-// Inlined always is what runs for each form or block: a call would pass vectors through memory, and put the
-// destination's place there from form to form.
+//! Units read by vectors of bytes. In a loop over bytes the compiler would load them one by one.
+// Code that runs for each form or block is always inlined: a call would pass vectors through memory, and would store
+// the destination's position in memory for each form.
 ghost use Rattle.std.specs.Prelude.{◌≡◌, ◌<◌, ◌≤◌, ℕ, length, true, false, slice_index};
 ghost use Rattle.legacy_miscellaneous.specs.Utf16Decoder.{unit_at, AreBelow};
 
 use std::simd::prelude::*;
 
-/// The first eight units where the second byte of each is the high one.
+/// Returns the first eight units, in little-endian order.
 #[inline(always)]
 fn eight_little(src: &[u8]) -> u16x8
     requires { 16 ≤ length src.now }
@@ -15,7 +15,7 @@ fn eight_little(src: &[u8]) -> u16x8
     u16x8::from_le_bytes(u8x16::from_slice(src))
 }
 
-/// The first eight units where the first byte of each is the high one.
+/// Returns the first eight units, in big-endian order.
 #[inline(always)]
 fn eight_big(src: &[u8]) -> u16x8
     requires { 16 ≤ length src.now }
@@ -27,7 +27,7 @@ fn eight_big(src: &[u8]) -> u16x8
     u16x8::from_le_bytes(swapped)
 }
 
-/// The first sixteen units where the second byte of each is the high one.
+/// Returns the first sixteen units, in little-endian order.
 #[inline(always)]
 fn sixteen_little(src: &[u8]) -> u16x16
     requires { 32 ≤ length src.now }
@@ -36,7 +36,7 @@ fn sixteen_little(src: &[u8]) -> u16x16
     u16x16::from_le_bytes(u8x32::from_slice(src))
 }
 
-/// The first sixteen units where the first byte of each is the high one.
+/// Returns the first sixteen units, in big-endian order.
 #[inline(always)]
 fn sixteen_big(src: &[u8]) -> u16x16
     requires { 32 ≤ length src.now }
@@ -49,7 +49,7 @@ fn sixteen_big(src: &[u8]) -> u16x16
     u16x16::from_le_bytes(swapped)
 }
 
-/// The first eight units.
+/// Returns the first eight units.
 #[inline(always)]
 pub fn eight_units(big_endian: bool, src: &[u8]) -> u16x8
     requires { 16 ≤ length src.now }
@@ -62,7 +62,7 @@ pub fn eight_units(big_endian: bool, src: &[u8]) -> u16x8
     }
 }
 
-/// The first sixteen units.
+/// Returns the first sixteen units.
 #[inline(always)]
 pub fn sixteen_units(big_endian: bool, src: &[u8]) -> u16x16
     requires { 32 ≤ length src.now }
@@ -75,7 +75,7 @@ pub fn sixteen_units(big_endian: bool, src: &[u8]) -> u16x16
     }
 }
 
-/// The greater unit of each lane.
+/// Returns the greater unit of each lane.
 #[inline(always)]
 pub fn greater_units(a: u16x8, b: u16x8) -> u16x8
     ensures { (n : ℕ) → AreBelow n result → AreBelow n a × AreBelow n b }

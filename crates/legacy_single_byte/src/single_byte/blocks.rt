@@ -1,16 +1,15 @@
-//! The blocks of single-byte text: ASCII, and eight bytes at a time if one of them is past it.
+//! The blocks of single-byte text: ASCII with single bytes past it, and eight bytes at a time if many are.
 // Inlined always is what runs for each form or block: a call would pass vectors through memory, and put the
 // destination's place there from form to form.
-ghost use Rattle.std.specs.Prelude.{◌≡◌, ◌≢◌, ◌+◌, ◌<◌, ◌≤◌, ◌++◌, ℕ, All, false, length, slice_index};
+ghost use Rattle.std.specs.Prelude.{◌≡◌, ◌≢◌, ◌+◌, ◌<◌, ◌≤◌, ◌++◌, ℕ, All, true, false, length, take, slice_index};
 ghost use Rattle.std.specs.Char.{IsScalar};
 ghost use Rattle.legacy_text.specs.EncodingForm.{all_code_units, total_unit_count};
-ghost use Rattle.legacy_base.specs.Grammar.{single_byte};
+ghost use Rattle.legacy_base.specs.Grammar.{Grammar, single_byte};
 ghost use Rattle.legacy_base.specs.States.{new_state};
 ghost use Rattle.legacy_decoder_engine.specs.Ahead.{ReadsAhead};
 
 use super::scalars::ByteScalars;
 use legacy_base::Destination;
-use legacy_decoder_engine::runs::{Blocks, read_ascii, read_blocks};
 use legacy_text::are_all_below;
 use std::simd::prelude::*;
 
@@ -54,6 +53,72 @@ fn put_units<T: Destination>(dst: &mut T, units: u16x8)
     }
 }
 
+/// Parts of a text that stand one behind the other.
+trait Parts {
+    /// The grammar.
+    ghost grammar: { Self → Grammar };
+
+    /// Reads the part at the front, or nothing, and at most so many bytes. More stand there, so that whole vectors can be
+    /// loaded. Returns how many bytes were read, and whether another part may stand behind them.
+    fn read_part<T: Destination>(&self, src: &[u8], most: usize, dst: &mut T) -> (usize, bool)
+        requires source { 64 < length src.now }
+        requires room { 70 ≤ T.room dst.old }
+        ensures most { result.0 ≤ most }
+        ensures ahead { ReadsAhead T.Destination (new_state (grammar self.now)) src.now result.0
+            dst.old dst.new }
+        ensures goes_on { result.1 ≡ true → 0 < result.0 };
+}
+
+/// Reads parts from the front, as long as another may stand behind and as more than 64 bytes are left, at most so many
+/// bytes. Returns how many were read: none is an answer too.
+#[inline(always)]
+fn read_parts<P: Parts, T: Destination>(parts: &P, src: &[u8], most: usize, dst: &mut T) -> usize
+    ensures most { result ≤ most }
+    ensures ahead { ReadsAhead T.Destination (new_state (P.grammar parts.now)) src.now result
+        dst.old dst.new }
+{
+    let mut at = 0;
+    while at < most && src.len() - at > 64 && dst.free() >= 70 {
+        let (read, goes_on) = parts.read_part(&src[at..], most - at, dst);
+        at += read;
+        if !goes_on {
+            return at;
+        }
+    }
+    at
+}
+
+/// ASCII, and bytes past it that stand alone.
+// A whole block is stored, and what stands behind its ASCII front is written over it: so no jump hangs on where the next
+// byte past ASCII stands, which no processor foresees.
+#[derive(Drop)]
+struct Fronts<'a> {
+    scalars: &'a ByteScalars<'a>,
+}
+
+impl Parts for Fronts<'_> {
+    ghost grammar = { λ fronts. single_byte fronts.scalars.now.table.now.entries };
+
+    /// Reads the ASCII of the first 64 bytes, and the byte behind it if it stands alone.
+    #[inline(always)]
+    fn read_part<T: Destination>(&self, src: &[u8], most: usize, dst: &mut T) -> (usize, bool) {
+        let count = dst.put_front(src, most);
+        if count == 64 {
+            return (count, true);
+        }
+        if count == most || src[count + 1] >= 0x80 {
+            return (count, false);
+        }
+        match self.scalars.scalar(src[count]) {
+            Some(scalar) => {
+                dst.put(scalar);
+                (count + 1, true)
+            }
+            None => (count, false),
+        }
+    }
+}
+
 /// Eight bytes at a time, whatever they are.
 #[derive(Drop)]
 struct Eights<'a> {
@@ -61,17 +126,20 @@ struct Eights<'a> {
 }
 
 impl Eights<'_> {
-    /// Decodes up to eight bytes one by one, up to one that has no scalar. Returns the number of bytes read.
+    /// Decodes up to so many bytes, eight at the most, one by one, up to one that has no scalar. Returns the number of
+    /// bytes read.
     #[inline(always)]
-    fn read_singly<T: Destination>(&self, src: &[u8], dst: &mut T) -> usize
+    fn read_singly<T: Destination>(&self, src: &[u8], most: usize, dst: &mut T) -> usize
+        requires most { most ≤ 8 }
         requires source { 8 ≤ length src.now }
         requires room { 27 ≤ T.room dst.old }
-        ensures { ReadsAhead T.Destination
+        ensures most { result ≤ most }
+        ensures ahead { ReadsAhead T.Destination
             (new_state (single_byte self.now.scalars.now.table.now.entries)) src.now result
             dst.old dst.new }
     {
         let mut at = 0;
-        while at < 8 {
+        while at < most {
             match self.scalars.scalar(src[at]) {
                 Some(scalar) => dst.put(scalar),
                 None => return at,
@@ -82,37 +150,84 @@ impl Eights<'_> {
     }
 }
 
-impl Blocks for Eights<'_> {
+impl Parts for Eights<'_> {
     ghost grammar = { λ eights. single_byte eights.scalars.now.table.now.entries };
 
     /// Decodes up to a byte that has no scalar, and goes on if one of the next eight bytes is past ASCII.
     // If each scalar is one code unit, eight puts are faster than a vector of entries.
     #[inline(always)]
-    fn read_block<T: Destination>(&self, src: &[u8], dst: &mut T) -> (usize, bool) {
-        if src.len() < 16 || dst.free() < 35 {
-            return (0, false);
+    fn read_part<T: Destination>(&self, src: &[u8], most: usize, dst: &mut T) -> (usize, bool) {
+        if most < 8 {
+            return (self.read_singly(src, most, dst), false);
         }
         if T::narrow() == 1 {
-            let read = self.read_singly(src, dst);
+            let read = self.read_singly(src, 8, dst);
             return (read, read == 8 && has_past_ascii(&src[8..]));
         }
         let units = self.scalars.units(src);
         if has_zero(&units) {
-            return (self.read_singly(src, dst), false);
+            return (self.read_singly(src, 8, dst), false);
         }
         put_units(dst, u16x8::from_array(units));
         (8, has_past_ascii(&src[8..]))
     }
 }
 
-impl Blocks for ByteScalars<'_> {
-    ghost grammar = { λ scalars. single_byte scalars.table.now.entries };
+/// Any text.
+#[derive(Drop)]
+struct Mixed<'a> {
+    scalars: &'a ByteScalars<'a>,
+}
 
-    /// Reads ASCII, and behind it eights with bytes past it.
+impl Parts for Mixed<'_> {
+    ghost grammar = { λ mixed. single_byte mixed.scalars.now.table.now.entries };
+
+    /// Reads ASCII with single bytes past it, and behind it eights with more of them.
     #[inline(always)]
-    fn read_block<T: Destination>(&self, src: &[u8], dst: &mut T) -> (usize, bool) {
-        let at = read_ascii(src, dst);
-        let read = read_blocks(&Eights { scalars: self }, &src[at..], dst);
-        (at + read, read > 0)
+    fn read_part<T: Destination>(&self, src: &[u8], most: usize, dst: &mut T) -> (usize, bool) {
+        let scalars = self.scalars;
+        let front = read_parts(&Fronts { scalars }, src, most, dst);
+        let read = read_parts(&Eights { scalars }, &src[front..], most - front, dst);
+        (front + read, read > 0)
     }
+}
+
+/// Up to 64 bytes, with zeros behind them.
+#[inline(always)]
+fn padded(src: &[u8]) -> [u8; 128]
+    requires { length src.now ≤ 64 }
+    ensures { take (length src.now) result ≡ src.now }
+{
+    let mut padded = [0u8; 128];
+    padded[..src.len()].copy_from_slice(src);
+    padded
+}
+
+/// Whether one of the first two bytes has no scalar. Behind a fault often comes the next one: then no block is begun.
+#[inline(always)]
+fn begins_rare(scalars: &ByteScalars, src: &[u8]) -> bool {
+    if src.len() < 2 {
+        return true;
+    }
+    matches!(scalars.scalar(src[0]), None) || matches!(scalars.scalar(src[1]), None)
+}
+
+/// Decodes text from the front, as far as 70 code units are free, and up to a byte that has no scalar. Returns how many
+/// bytes were read: none is an answer too.
+// The last 64 bytes go by an array, in which as many stand behind them: so short pieces are fast too.
+#[inline(always)]
+pub fn read_text<T: Destination>(scalars: &ByteScalars, src: &[u8], dst: &mut T) -> usize
+    ensures { ReadsAhead T.Destination (new_state (single_byte scalars.now.table.now.entries))
+        src.now result dst.old dst.new }
+{
+    if begins_rare(scalars, src) {
+        return 0;
+    }
+    let mixed = Mixed { scalars };
+    let at = read_parts(&mixed, src, src.len(), dst);
+    let rest = &src[at..];
+    if rest.len() > 64 {
+        return at;
+    }
+    at + read_parts(&mixed, &padded(rest), rest.len(), dst)
 }

@@ -6,12 +6,12 @@ ghost use Rattle.legacy_base.specs.States.{new_state};
 ghost use Rattle.legacy_single_byte.specs.SingleByteMachine.{single_byte_first};
 ghost use Rattle.legacy_decoder_engine.specs.Feeding.{Took};
 
+use super::blocks::read_text;
 use super::scalars::ByteScalars;
 use legacy_base::{DecoderResult, Destination, RawDecoder, SingleByteTable};
 use legacy_decoder_engine::common_forms::{CommonForm, CommonForms, read_common_forms};
 use legacy_decoder_engine::drive::drive_decoder;
 use legacy_decoder_engine::moves::{DecoderMoves, Fed, Move, Room};
-use legacy_decoder_engine::runs::read_blocks;
 use std::simd::prelude::*;
 
 /// The decoder of a single-byte encoding (Encoding Standard, "single-byte decoder").
@@ -139,7 +139,10 @@ impl DecoderMoves for SingleByteDecoder<'_> {
 
     #[inline(always)]
     fn read_ahead<T: Destination>(&self, src: &[u8], dst: &mut T) -> usize {
-        let read = read_blocks(&self.scalars, src, dst);
+        let read = read_text(&self.scalars, src, dst);
+        if read == src.len() {
+            return read;
+        }
         read + read_common_forms(self, &src[read..], dst)
     }
 

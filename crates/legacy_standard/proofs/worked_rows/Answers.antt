@@ -94,7 +94,7 @@ past_rows n past =
       subst (λ o. code_events 0x4E00 (option_map euc_jp_bytes o) ++ [] ≡ Unmappable 0x4E00 ∷ []) (sym (entry_past n past)) refl,
     )
 
--- all pointers of an index with no more entries than the rows have are in the rows
+-- all pointers are in the 94 rows of 94 if the index has at most that many entries
 in_rows : (index : List ℕ) (c : ℕ) → length index ≤ 8836 → index_pointer index c ≡ euc_jp_pointer_of index c
 in_rows index c few = first-alike _ _ index c (λ k h. sym (lt-ltb k 8836 (omega arith)))
 

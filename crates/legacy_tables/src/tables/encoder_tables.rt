@@ -8,11 +8,9 @@ ghost use Rattle.legacy_tables.specs.Pointers.{gb18030_pointer_of, range_pointer
 ghost use Rattle.legacy_tables.specs.Walks.{IsFilled, order_index};
 
 use super::{DecoderTables, Marks, PackedPart};
-use std::cell::Cell;
 
 /// What an encoder looks up in tables, however they are kept: pointers of scalars, and what a
-/// decoder looks up. What runs for each character is generic over this: which way they are kept is
-/// then asked once a run, and not at each look-up.
+/// decoder looks up.
 pub trait EncoderTables: DecoderTables {
     /// The pointer that the Big5 encoder takes for the scalar value, or `None` where index Big5 has
     /// it at no pointer from 5024 on (Encoding Standard, "index Big5 pointer"): the last of these
@@ -53,13 +51,6 @@ pub trait EncoderTables: DecoderTables {
     /// Standard, "index gb18030 ranges pointer"): 7457 for U+E7C7, 189000 to 1237575 for U+10000 to
     /// U+10FFFF, and for others by the last range whose scalars begin at or before it.
     fn range_pointer(&self, scalar: char) -> Option<usize>
-        ensures pointer { result ≡ range_pointer_of (Self.indexes self.now).flat.ranges scalar }
-        ensures within { IfSome result (λ p. p < 1237576) };
-
-    /// Returns what `range_pointer` does. It tries the range at the guessed place before it
-    /// searches, and sets the guess to the place where it found the scalar. The guess may be any
-    /// number.
-    fn range_pointer_near(&self, guess: &Cell<usize>, scalar: char) -> Option<usize>
         ensures pointer { result ≡ range_pointer_of (Self.indexes self.now).flat.ranges scalar }
         ensures within { IfSome result (λ p. p < 1237576) };
 

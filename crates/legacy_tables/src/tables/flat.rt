@@ -9,10 +9,9 @@ use super::private_use::row_bytes;
 use super::unpacking::{copy_narrow, copy_wide};
 use super::walks::walk;
 use super::{
-    DecoderTables, EncoderTables, IndexName, Indexes, Marks, PackedPart, TableError, lookups,
-    pointers,
+    DecoderTables, EncoderTables, IndexName, Indexes, Marks, PackedPart, Ranges, TableError,
+    lookups, pointers,
 };
-use std::cell::Cell;
 use std::marker::Model;
 
 /// Indexes that passed the check, kept as they were handed in. They are seen as these flat lists.
@@ -72,6 +71,20 @@ impl<'a> FlatTables<'a> {
         })
     }
 
+    /// The index of the name, if its entries are 16 bits wide and it is one of pairs. For other names a list of no entries.
+    #[inline]
+    pub fn narrow(&self, name: IndexName) -> &[u16]
+        ensures { is_narrow_index name ≡ true → result.now ≡ index_list self.now.flat name }
+    {
+        match name {
+            IndexName::EucKr => self.euc_kr,
+            IndexName::Jis0208 => self.jis0208,
+            IndexName::Jis0212 => self.jis0212,
+            IndexName::Gb18030 => self.gb18030,
+            _ => &[],
+        }
+    }
+
     /// Index Big5 at the start of the room, or `None` exactly where the room is too short.
     pub(super) fn unpack_big5<'b>(&self, room: &'b mut [u32]) -> Option<&'b [u32]>
         ensures { MatchOption result (length room.old < length self.now.flat.big5)
@@ -122,8 +135,13 @@ impl<'a> DecoderTables for FlatTables<'a> {
     }
 
     #[inline(always)]
-    fn range_near(&self, guess: &Cell<usize>, pointer: usize) -> Option<char> {
-        lookups::range_scalar_near(self.ranges, guess, pointer)
+    fn ranges(&self) -> Ranges<'_> {
+        Ranges::new(self.ranges)
+    }
+
+    #[inline(always)]
+    fn flat(&self) -> Option<&FlatTables<'_>> {
+        Some(self)
     }
 }
 
@@ -157,11 +175,6 @@ impl<'a> EncoderTables for FlatTables<'a> {
     #[inline]
     fn range_pointer(&self, scalar: char) -> Option<usize> {
         pointers::range_pointer(self.ranges, scalar)
-    }
-
-    #[inline(always)]
-    fn range_pointer_near(&self, guess: &Cell<usize>, scalar: char) -> Option<usize> {
-        pointers::range_pointer_near(self.ranges, guess, scalar)
     }
 
     #[inline]

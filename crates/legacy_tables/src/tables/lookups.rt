@@ -7,9 +7,7 @@ ghost use Rattle.legacy_tables.specs.Indexes.{entry_scalar, idx, last_range_scal
 ghost use Rattle.legacy_tables.specs.TableChecks.{range_order_fault, range_value_fault};
 ghost use Rattle.legacy_tables.specs.Runs.{GiveNoZero, runs_list};
 
-use super::checks::end_of;
 use super::runs::Runs;
-use std::cell::Cell;
 
 /// The scalar of an entry, or `None` where it is 0.
 // No test of what the check of the tables has shown: it would be one more branch for each look-up.
@@ -85,7 +83,7 @@ pub(super) fn narrow_run_scalar<const POINTERS: usize>(
 /// How many of the ranges start at or before a pointer: the ranges rise, so these are the first
 /// ones.
 #[inline]
-fn started_count(ranges: &[(u16, u16)], pointer: usize) -> usize
+pub(super) fn started_count(ranges: &[(u16, u16)], pointer: usize) -> usize
     requires { range_order_fault 0 None ranges.now ≡ None }
     ensures within { result ≤ length ranges.now }
     ensures started { (k : ℕ) → k < result → (slice_index_or ranges.now k (0, 0)).0 ≤ pointer }
@@ -131,53 +129,4 @@ pub(super) fn range_scalar(ranges: &[(u16, u16)], pointer: usize) -> Option<char
         return char::from_u32(0x1_0000 + (pointer - 189000) as u32);
     }
     None
-}
-
-/// The scalar of a pointer of four bytes by the range at a place, or `None` if it is not that range's or has none.
-#[inline(always)]
-fn scalar_in_range(ranges: &[(u16, u16)], place: usize, pointer: usize) -> Option<char>
-    requires ordered { range_order_fault 0 None ranges.now ≡ None }
-    requires valued { range_value_fault 0 ranges.now ≡ None }
-    ensures { IfSome result (λ c. range ranges.now pointer ≡ Some c) }
-{
-    if place >= ranges.len() || pointer == 7457 {
-        return None;
-    }
-    let (first, scalar) = ranges[place];
-    if pointer < usize::from(first) || pointer >= usize::from(end_of(ranges, place)) {
-        return None;
-    }
-    let unit = scalar + (pointer - usize::from(first)) as u16;
-    Some(unsafe { char::from_u32_unchecked(u32::from(unit)) })
-}
-
-/// The scalar of a pointer of four bytes, whose range the guess may tell. The guess becomes that range.
-#[inline(always)]
-pub(super) fn range_scalar_near(
-    ranges: &[(u16, u16)],
-    guess: &Cell<usize>,
-    pointer: usize,
-) -> Option<char>
-    requires ordered { range_order_fault 0 None ranges.now ≡ None }
-    requires valued { range_value_fault 0 ranges.now ≡ None }
-    ensures { result ≡ range ranges.now pointer }
-{
-    match scalar_in_range(ranges, guess.get(), pointer) {
-        Some(scalar) => Some(scalar),
-        None => range_scalar_far(ranges, guess, pointer),
-    }
-}
-
-/// The same, where the guess does not tell.
-fn range_scalar_far(ranges: &[(u16, u16)], guess: &Cell<usize>, pointer: usize) -> Option<char>
-    requires ordered { range_order_fault 0 None ranges.now ≡ None }
-    requires valued { range_value_fault 0 ranges.now ≡ None }
-    ensures { result ≡ range ranges.now pointer }
-{
-    let place = started_count(ranges, pointer).saturating_sub(1);
-    guess.set(place);
-    match scalar_in_range(ranges, place, pointer) {
-        Some(scalar) => Some(scalar),
-        None => range_scalar(ranges, pointer),
-    }
 }

@@ -3,14 +3,14 @@
 use std::fmt;
 
 /// Some pointers in a row whose scalar values are in a row too.
-// The scalar comes first, so that a run takes 8 bytes and not 12.
+// Laid out as C does it, so that a caller in C can lend runs.
 #[repr(C)]
 #[derive(Clone, Copy, Debug, PartialEq, Eq)]
 pub struct Run {
-    /// The scalar value of the first pointer; that of the next one is one more, and so on.
-    pub scalar: u32,
     /// The first pointer.
     pub pointer: u16,
+    /// The scalar value of the first pointer; that of the next one is one more, and so on.
+    pub scalar: u32,
     /// How many pointers there are.
     pub length: u16,
 }

@@ -12,17 +12,16 @@ use super::private_use::row_bytes;
 use super::unpacking::{unpack_narrow, unpack_wide};
 use super::walks::walk_runs;
 use super::{
-    DecoderTables, EncoderTables, IndexName, Indexes, Marks, PackedPart, TableError, lookups,
-    pointers,
+    DecoderTables, EncoderTables, IndexName, Indexes, Marks, PackedPart, Ranges, TableError,
+    lookups, pointers,
 };
-use std::cell::Cell;
 use std::marker::Model;
 
 /// Indexes that passed the check, kept as runs and orders. They are seen as the flat lists of what
 /// the runs give.
 // The five flat indexes are not kept: no look-up reads them.
 #[derive(Drop)]
-pub struct PackedTables<'a> {
+pub(super) struct PackedTables<'a> {
     runs: CheckedRuns<'a>,
     orders: CheckedOrders<'a>,
     katakana: &'a [u16],
@@ -125,8 +124,8 @@ impl<'a> DecoderTables for PackedTables<'a> {
     }
 
     #[inline(always)]
-    fn range_near(&self, guess: &Cell<usize>, pointer: usize) -> Option<char> {
-        lookups::range_scalar_near(self.ranges, guess, pointer)
+    fn ranges(&self) -> Ranges<'_> {
+        Ranges::new(self.ranges)
     }
 }
 
@@ -159,11 +158,6 @@ impl<'a> EncoderTables for PackedTables<'a> {
     #[inline]
     fn range_pointer(&self, scalar: char) -> Option<usize> {
         pointers::range_pointer(self.ranges, scalar)
-    }
-
-    #[inline(always)]
-    fn range_pointer_near(&self, guess: &Cell<usize>, scalar: char) -> Option<usize> {
-        pointers::range_pointer_near(self.ranges, guess, scalar)
     }
 
     #[inline]

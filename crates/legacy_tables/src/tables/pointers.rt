@@ -8,7 +8,6 @@ ghost use Rattle.legacy_tables.specs.Pointers.{range_pointer_of};
 ghost use Rattle.legacy_tables.specs.TableChecks.{range_order_fault, range_value_fault};
 
 use super::checks::end_of;
-use std::cell::Cell;
 
 // An index is searched by blocks of 64 bytes, whose entries the library compares as vectors; the
 // place in a block is searched only where the entry is in it.
@@ -236,62 +235,4 @@ pub(super) fn range_pointer(ranges: &[(u16, u16)], scalar: char) -> Option<usize
         return Some(7457);
     }
     pointer_in_ranges(ranges, number)
-}
-
-/// The pointer of four bytes of a scalar by the range at a place, or `None` if that range does not have the scalar.
-#[inline(always)]
-fn pointer_in_range(ranges: &[(u16, u16)], place: usize, scalar: usize) -> Option<usize>
-    requires ordered { range_order_fault 0 None ranges.now ≡ None }
-    requires narrow { scalar < 0x1_0000 }
-    requires free { scalar ≢ 0xE7C7 }
-    ensures { IfSome result (λ p. range_pointer_of ranges.now scalar ≡ Some p) }
-{
-    if place >= ranges.len() {
-        return None;
-    }
-    let (start, lowest) = ranges[place];
-    if scalar < usize::from(lowest) {
-        return None;
-    }
-    let pointer = usize::from(start) + (scalar - usize::from(lowest));
-    if pointer >= usize::from(end_of(ranges, place)) || pointer == 7457 {
-        return None;
-    }
-    Some(pointer)
-}
-
-/// The pointer of four bytes of a scalar, whose range the guess may tell. The guess becomes that range.
-#[inline(always)]
-pub(super) fn range_pointer_near(
-    ranges: &[(u16, u16)],
-    guess: &Cell<usize>,
-    scalar: char,
-) -> Option<usize>
-    requires ordered { range_order_fault 0 None ranges.now ≡ None }
-    requires valued { range_value_fault 0 ranges.now ≡ None }
-    ensures { result ≡ range_pointer_of ranges.now scalar }
-{
-    let number = u32::from(scalar) as usize;
-    if number >= 0x1_0000 || number == 0xE7C7 {
-        return range_pointer(ranges, scalar);
-    }
-    match pointer_in_range(ranges, guess.get(), number) {
-        Some(pointer) => Some(pointer),
-        None => pointer_far(ranges, guess, number),
-    }
-}
-
-/// The same of a scalar of the Basic Multilingual Plane that is not U+E7C7, where the guess does not tell.
-fn pointer_far(ranges: &[(u16, u16)], guess: &Cell<usize>, scalar: usize) -> Option<usize>
-    requires ordered { range_order_fault 0 None ranges.now ≡ None }
-    requires narrow { scalar < 0x1_0000 }
-    requires free { scalar ≢ 0xE7C7 }
-    ensures { result ≡ range_pointer_of ranges.now scalar }
-{
-    let place = ranges_up_to(ranges, scalar).saturating_sub(1);
-    guess.set(place);
-    match pointer_in_range(ranges, place, scalar) {
-        Some(pointer) => Some(pointer),
-        None => pointer_in_ranges(ranges, scalar),
-    }
 }

@@ -48,7 +48,7 @@ const FIRST_POINTERS: &[EncoderRow] = &[
     ),
 ];
 
-/// U+2550 and U+2551 at two pointers each that are written, and U+3001 at one that is not.
+/// U+2550 and U+2551 at two used pointers each, and U+3001 at a pointer that is never used.
 const TWICE: &Both = &Both {
     flat: Flat {
         big5: (
@@ -76,7 +76,7 @@ const TWICE: &Both = &Both {
     },
 };
 
-/// U+3000 at the first pointer that is written, and U+3001 before it.
+/// U+3000 at the first pointer that is used, and U+3001 at the one before.
 const FIRST: &Both = &Both {
     flat: flat!(big5: (5025, &[(5023, 0x3001), (5024, 0x3000)])),
     packed: Packed {

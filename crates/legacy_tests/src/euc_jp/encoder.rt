@@ -44,7 +44,7 @@ const WITH_ENTRIES: &[EncoderRow] = &[
     Encodes("\u{3001}", &[Report('\u{3001}')]),
 ];
 
-/// U+FF0D, U+FF02 at two pointers of which only the first is written, and U+3001 at one that is not.
+/// U+FF0D, U+FF02 at two pointers of which the first is used, and U+3001 at one that never is.
 const ENTRIES: &Both = &Both {
     flat: Flat {
         jis0208: (

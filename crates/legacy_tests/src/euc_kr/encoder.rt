@@ -75,7 +75,7 @@ fn encodes_the_first_pointer_and_the_last(rt: HostRuntime) {
     encode_each(&rt, CASES);
 }
 
-/// The rows with the first sixteen scalars of the standard's index, and no other scalar.
+/// The rows with the first sixteen scalars of the Standard's index, and no other scalar.
 const WORDS: &[EncoderRow] = &[
     Encoder("words with spaces between them"),
     FromUtf8(
@@ -173,7 +173,9 @@ const WORDS: &[EncoderRow] = &[
     ),
 ];
 
-/// Follows the rows of words with pairs looked up ahead in this room, and answers whether it is enough.
+/// Follows the rows of words with pairs cached in this room.
+///
+/// Returns whether the room suffices.
 fn encode_in(rt: &(impl AllocGlobal + Abort), room: &mut [u16]) -> bool {
     let indexes = Indexes {
         euc_kr: &[

@@ -25,7 +25,7 @@ impl<'a> TestedEncoder for Gb18030Encoder<'a> {
     }
 }
 
-/// The rows of gb18030 without entries, but with the private-use rows of the standard.
+/// The rows of gb18030 without entries, but with the private-use rows of the Standard.
 const WITHOUT_ENTRIES: &[EncoderRow] = &[
     Encoder("the scalars from U+10000 on have four bytes without an index"),
     Encodes("\u{10000}", &[Bytes(b"\x90\x30\x81\x30")]),
@@ -70,7 +70,9 @@ const GBK_WITHOUT_ENTRIES: &[EncoderRow] = &[
     Utf16Length(usize::MAX / 2, None),
 ];
 
-/// Follows the rows without entries with pairs looked up ahead in this room, and answers whether it is enough.
+/// Follows the rows without entries with pairs cached in this room.
+///
+/// Returns whether the room suffices.
 fn encode_in(rt: &(impl AllocGlobal + Abort), room: &mut [u16]) -> bool {
     let tables = tables_of(rt, &no_entries());
     let encoder = Gb18030Encoder::new(&tables, true);
@@ -170,7 +172,7 @@ fn encodes_by_the_ranges(rt: HostRuntime) {
     encode_each(&rt, CASES_OF_RANGES);
 }
 
-/// A private-use row of our own.
+/// A private-use row that the Standard does not have.
 const ROW_OF_E000: &Both = &Both {
     flat: flat!(gb18030_pua: &[(0xE000, 0xA6, 0xD9)]),
     packed: NO_PARTS,
@@ -195,7 +197,7 @@ const PRIVATE_USE: &Both = &Both {
     },
 };
 
-/// U+9FB4 in the index, where a private-use row has its bytes.
+/// U+9FB4 in the index, at the pointer whose bytes a private-use row has.
 pub(crate) const ROW_AND_ENTRY: &Both = &Both {
     flat: flat!(gb18030: (23776, &[(23775, 0x9FB4)])),
     packed: Packed {

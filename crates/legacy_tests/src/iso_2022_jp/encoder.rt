@@ -39,8 +39,8 @@ impl<'a, 'b> TestedEncoder for CachedIso2022JpEncoder<'a, 'b> {
     }
 }
 
-/// Follows the rows of a case over packed tables, with an encoder that looks its pairs up ahead in this room.
-// Over flat tables 65,536 scalars would be searched for.
+/// Follows the rows of a case over packed tables, with an encoder that caches pairs in this room.
+// Over flat tables, filling the cache would search the index for 65,536 scalars.
 fn encode_ahead(rt: &(impl AllocGlobal + Abort), room: &mut [u16], (_, both, rows): &EncoderCase) {
     let filled = Filled::of(&both.flat);
     let tables = packed_tables_of(rt, &filled.indexes(&both.flat), &both.packed);
@@ -51,7 +51,7 @@ fn encode_ahead(rt: &(impl AllocGlobal + Abort), room: &mut [u16], (_, both, row
     }
 }
 
-/// Follows the rows of a case over flat tables, over packed ones, and over these with pairs looked up ahead.
+/// Follows the rows of a case over flat tables, over packed ones, and over these with cached pairs.
 fn encode_in_all_ways(rt: &(impl AllocGlobal + Abort), case: &EncoderCase) {
     encode_case(rt, case);
     match vec![in rt.alloc(); 0xFFFF; PAIR_ROOM] {

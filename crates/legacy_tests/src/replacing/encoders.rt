@@ -13,7 +13,7 @@ use legacy_codecs::CoderResult;
 use legacy_codecs::CoderResult::{InputEmpty, OutputFull};
 use std::process::Abort;
 
-/// Makes a call, and compares what comes of it with what is wanted.
+/// Makes a call, and compares its result with the wanted one.
 fn encodes<T: Text, E: RawEncoder>(
     rt: &impl Abort,
     place: Place,
@@ -31,7 +31,7 @@ fn encodes<T: Text, E: RawEncoder>(
     is_answer(rt, place, T::FORM, came, wanted);
 }
 
-/// Follows the row of a call with references: makes it, and compares what comes of it with what is wanted.
+/// Follows the row of a call with references: compares its result with the wanted one.
 pub(crate) fn follow_replacing<E: RawEncoder>(
     rt: &impl Abort,
     place: Place,

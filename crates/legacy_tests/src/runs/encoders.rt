@@ -1,4 +1,4 @@
-//! Runs of encoders: one table of cases, whole and in every cut, into outputs of every small length.
+//! Runs of encoders: a table of cases, whole and in every cut, into outputs of every small length.
 use crate::codecs::EncoderOf::{Over, SingleByte, UserDefined};
 use crate::codecs::{Codec, EncoderCase, encode_each};
 use crate::encode_events::Wanted::{Bytes, Report};
@@ -10,8 +10,9 @@ use crate::single_byte::encoder::TWO_LETTERS;
 use legacy_base::EncoderResult::InputEmpty;
 use legacy_codecs::RunError;
 
-/// The cases, with U+AC02 at pointer 0 of index EUC-KR, the private-use rows of the standard, U+0391 at place 65 of
-/// the single-byte table, and no other scalar in any index.
+/// The cases over tables with U+AC02 at pointer 0 of index EUC-KR, and few other entries.
+///
+/// These are the private-use rows of the Standard, and U+0391 at place 65 of the single-byte table.
 const CASES_OVER_TABLES: &[EncoderCase] = &[
     (
         Over(Codec::Iso2022Jp),
@@ -105,8 +106,9 @@ const CASES_OVER_TABLES: &[EncoderCase] = &[
     ),
 ];
 
-/// The cases, with U+AC02 at pointer 0 of index EUC-KR, the private-use rows of the standard, U+0391 at place 65 of
-/// the single-byte table, and no other scalar in any index.
+/// The cases over tables with U+AC02 at pointer 0 of index EUC-KR, and few other entries.
+///
+/// These are the private-use rows of the Standard, and U+0391 at place 65 of the single-byte table.
 const CASES_OF_OTHERS: &[EncoderCase] = &[
     (
         UserDefined,

@@ -77,7 +77,7 @@ const WITHOUT_ENTRIES: &[EncoderRow] = &[
     Encodes("\u{A0}", &[Report('\u{A0}')]),
 ];
 
-/// U+0391 and U+03C4 at the places that ISO-8859-7 has them.
+/// U+0391 and U+03C4 at their places in ISO-8859-7.
 pub(crate) const TWO_LETTERS: &[(usize, u16)] = &[(65, 0x391), (116, 0x3C4)];
 
 const CASES: &[EncoderCase] = &[
@@ -91,8 +91,9 @@ fn encodes_by_a_run_and_by_places(rt: HostRuntime) {
     encode_each(&rt, CASES);
 }
 
-/// Runs by their first scalar, their first place and their length, and why the table with U+0391 at place 65 alone
-/// refuses them.
+/// Runs by their first scalar, first place and length, and their errors.
+///
+/// The table has only U+0391 at place 65.
 const RUNS: &[((u16, u8, u8), Option<SingleByteRunError>)] = &[
     ((0x391, 31, 1), Some(RunStart)),
     ((0x391, 31, 200), Some(RunStart)),
@@ -103,7 +104,7 @@ const RUNS: &[((u16, u8, u8), Option<SingleByteRunError>)] = &[
     ((0x391, 65, 1), None),
     ((0x391, 128, 0), None),
     ((0x391, 32, 0), None),
-    // place 32 holds 0
+    // Place 32 has the entry 0.
     ((0, 32, 1), None),
 ];
 

@@ -9,7 +9,7 @@ use Rattle.legacy_codecs.proofs.RunSteps.{running_start, running_call, is_run, p
 use Rattle.legacy_codecs.proofs.decode_run.run_calls.Goals as goal
 use Rattle.legacy_codecs.proofs.decode_run.run_calls.Goals.{in-InputEmpty+else-last, in-OutputFull, in-Malformed}
 
--- no events are held at the start
+-- at the start there are no events
 none : {A : Type 0} (v : Vec A Global) → v.items ≡ [] → vec_len v ≡ 0
 none v e = v.ok.0 ∙ ap length e
 

@@ -11,7 +11,7 @@ use Rattle.legacy_codecs.specs.EncodeRuns.EncodeReaches.{begun}
 use Rattle.legacy_codecs.proofs.encode_run.run_calls.Goals as goal
 use Rattle.legacy_codecs.proofs.encode_run.run_calls.Goals.{then-call_once+else-last, else-call_once}
 
--- no events are held at the start
+-- at the start there are no events
 none : {A : Type 0} (v : Vec A Global) → v.items ≡ [] → vec_len v ≡ 0
 none v e = v.ok.0 ∙ ap length e
 
@@ -26,7 +26,7 @@ loop-calls-init g c =
       inside = omega arith;
     }
 
--- the output of a call has the next of the lengths
+-- the length of a call's output is the next of the lengths
 free_is : (lengths output : List ℕ) (calls : ℕ) → calls < length lengths → All (λ n. n ≤ length output) lengths → slice_get lengths calls ≡ Some (length (take (get_or lengths calls 0) output))
 free_is lengths output calls h fits =
     let small = fits calls 0 h in

@@ -53,7 +53,7 @@ calls-preserved g c =
       passed = c.encode_from-answer.ensures.passed ∙ c.calls.invariant.passed;
     }
 
--- where a reference has no room
+-- a reference has no room
 
 pub returns-in-InputEmpty-0₀-clause-call : goal.returns-in-InputEmpty-0₀-clause-call
 returns-in-InputEmpty-0₀-clause-call g c =

@@ -4,7 +4,7 @@ use Rattle.legacy_base.specs.Encoders.{encoded}
 use Rattle.legacy_codecs.proofs.ReferencingCalls.{IsReferencing}
 use Rattle.legacy_codecs.proofs.references.encode_replacing.Given as goal
 
--- the call is under way, and the output holds what was written
+-- the call is in progress, and the output holds what was written
 abbrev pub invariant-calls : goal.invariant-calls
 invariant-calls g l =
     let E = g.E.RawEncoder in

@@ -3,7 +3,7 @@ use Rattle.legacy_text.specs.EncodingForm.{all_code_units, total_unit_count}
 use Rattle.legacy_decoder_engine.proofs.CallUnderWay.{Going}
 use Rattle.legacy_decoder_engine.proofs.drive.drive_decoder.Given as goal
 
--- the call is under way, and the destination holds what was written
+-- the call is in progress, and the destination contains what was written
 abbrev pub invariant-loop-read : goal.invariant-loop-read
 invariant-loop-read g l =
     let T = g.T.Destination in

@@ -3,7 +3,7 @@ use Rattle.legacy_base.specs.States.{new_state}
 use Rattle.legacy_decoder_engine.specs.Ahead.{ReadsAhead}
 use Rattle.legacy_decoder_engine.proofs.runs.read_blocks.Given as goal
 
--- what was read was written
+-- the scalars of the bytes read are written
 abbrev pub invariant-loop-at : goal.invariant-loop-at
 invariant-loop-at g l = ReadsAhead g.T.Destination (new_state (g.B.Blocks.grammar l.blocks)) l.src l.at l.fn.dst l.dst
 

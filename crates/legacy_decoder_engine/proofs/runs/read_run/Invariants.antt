@@ -2,7 +2,7 @@ use Rattle.std.proofs.Common.{◌+◌, ◌*◌, ◌%◌, ◌≤◌, length, take
 use Rattle.legacy_decoder_engine.specs.Ahead.{Writes}
 use Rattle.legacy_decoder_engine.proofs.runs.read_run.Given as goal
 
--- what was read was written, and the turns that are left fit
+-- the scalars of the bytes read are written, and there is room for the turns left
 abbrev pub invariant-loop-left : goal.invariant-loop-left
 invariant-loop-left g l =
     let T = g.T.Destination in

@@ -6,10 +6,10 @@ use Rattle.legacy_encoder_engine.proofs.runs.put_code.Goals as goal
 pub put_move-requires : goal.put_move-requires
 put_move-requires g c =
     let room = ascii_room (g.C.PlainCodes.codec c.args.encoder.now) g.C.PlainCodes.past (g.C.PlainCodes.plain c.args.encoder.now) c.args.c c.if-c-lt128.true in
-    omega (arith, room, c.requires)
+    omega (arith, room, c.requires.room)
 
-pub returns-then-c-lt128 : goal.returns-then-c-lt128
-returns-then-c-lt128 g c =
+pub returns-then-c-lt128-clause-puts : goal.returns-then-c-lt128-clause-puts
+returns-then-c-lt128-clause-puts g c =
     let ascii = plain_ascii (g.C.PlainCodes.codec c.args.encoder.now) g.C.PlainCodes.past (g.C.PlainCodes.plain c.args.encoder.now) in
     record {
       move = One c.args.c;

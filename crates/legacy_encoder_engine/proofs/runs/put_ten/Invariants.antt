@@ -3,7 +3,7 @@ use Rattle.legacy_base.specs.Encoders.{new_encoder}
 use Rattle.legacy_encoder_engine.specs.UnitTurns.{PutsUnits}
 use Rattle.legacy_encoder_engine.proofs.runs.put_ten.Given as goal
 
--- so many were written, where each of them was known
+-- k code units are written, if all of them are known
 abbrev pub invariant-loop-k : goal.invariant-loop-k
 invariant-loop-k g l = (l.k ≤ 10)
     × (l.start + l.k ≤ l.end)

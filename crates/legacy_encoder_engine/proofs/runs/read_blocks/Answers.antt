@@ -7,7 +7,7 @@ use Rattle.legacy_encoder_engine.proofs.runs.read_blocks.Goals as goal
 
 pub returns-clause-keeps : goal.returns-clause-keeps
 returns-clause-keeps g c =
-    let left = g.S.Source.left c.args.src.now in
+    let left = g.S.TextCursor.left c.args.src.now in
     let n = c.copy_ascii.result in
     let e = c.copy_ascii.ensures in
     let codec = g.C.PlainCodes.codec c.args.encoder.now in
@@ -22,8 +22,8 @@ returns-clause-keeps g c =
 
 pub returns-clause-passed : goal.returns-clause-passed
 returns-clause-passed g c =
-    let left = g.S.Source.left c.args.src.now in
+    let left = g.S.TextCursor.left c.args.src.now in
     let n = c.copy_ascii.result in
     let e = c.copy_ascii.ensures in
-    let front = front_units g.S.Source.form left n e.read e.ascii in
+    let front = front_units g.S.TextCursor.form left n e.read e.ascii in
     omega (arith, e.passed, rw (← e.left) at front)

@@ -6,4 +6,4 @@ use Rattle.legacy_encoder_engine.proofs.runs.read_turns.Goals as goal
 pub returns-clause-keeps : goal.returns-clause-keeps
 returns-clause-keeps g c =
     let bytes = take c.args.at c.args.dst.now in
-    rw (add-zero c.args.at) (keeps_none (new_encoder (g.C.PlainCodes.codec c.args.encoder.now)) (length c.args.dst.now) (g.S.Source.left c.args.src.now) bytes)
+    rw (add-zero c.args.at) (keeps_none (new_encoder (g.C.PlainCodes.codec c.args.encoder.now)) (length c.args.dst.now) (g.S.TextCursor.left c.args.src.now) bytes)

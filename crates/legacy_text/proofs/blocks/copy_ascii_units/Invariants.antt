@@ -1,7 +1,7 @@
 use Rattle.std.proofs.Common.{◌≡◌, ◌+◌, ◌-◌, ◌≤◌, ◌++◌, length, take, IsAscii}
 use Rattle.legacy_text.proofs.blocks.copy_ascii_units.Given as goal
 
--- so many were copied, and they are ASCII
+-- the code units passed are copied, and are ASCII
 abbrev pub invariant-loop-copied : goal.invariant-loop-copied
 invariant-loop-copied l = (l.copied ≤ length l.units)
     × (l.copied ≤ l.most)

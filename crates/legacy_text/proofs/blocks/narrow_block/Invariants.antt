@@ -1,7 +1,7 @@
 use Rattle.std.proofs.Common.{◌≡◌, ℕ, ◌-◌, ◌<◌, ◌≤◌, length, get_or}
 use Rattle.legacy_text.proofs.blocks.narrow_block.Given as goal
 
--- what was passed is in the block
+-- the code units passed are in the block
 abbrev pub invariant-loop-k : goal.invariant-loop-k
 invariant-loop-k l = (l.k ≤ 16) × (length l.block ≡ 16) × ((j : ℕ) → j < l.k → get_or l.block j 0 < 0x80 → get_or l.block j 0 ≡ get_or l.units j 0)
 

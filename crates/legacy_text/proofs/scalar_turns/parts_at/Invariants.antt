@@ -2,7 +2,7 @@ use Rattle.std.proofs.Common.{◌≡◌, ℕ, ◌+◌, ◌-◌, ◌*◌, ◌<◌
 use Rattle.legacy_text.specs.ScalarTurns.{IsUnitAt}
 use Rattle.legacy_text.proofs.scalar_turns.parts_at.Given as goal
 
--- what was passed is in the lists
+-- the code units of the places passed are in the lists
 abbrev pub invariant-loop-k : goal.invariant-loop-k
 invariant-loop-k l =
     (l.k ≤ 16) × (length l.lows ≡ 16) × (length l.highs ≡ 16)

@@ -2,7 +2,7 @@ use Rattle.std.proofs.Common.{◌≡◌, ◌-◌, ◌^◌, ◌<◌, ◌≤◌, l
 use Rattle.legacy_text.proofs.ScalarTurns.{StandsBehind}
 use Rattle.legacy_text.proofs.scalar_turns.ten_scalars.Given as goal
 
--- so many were read, unless the bits ended before
+-- k code units are read, unless there are no more bits
 abbrev pub invariant-loop-k : goal.invariant-loop-k
 invariant-loop-k l = (l.k ≤ 10) × (length l.units ≡ 10) × (l.bits < 2 ^ 32) × (0 < l.bits → StandsBehind l.bytes l.start (take l.k l.units) l.bits)
 

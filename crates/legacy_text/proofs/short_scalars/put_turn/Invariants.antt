@@ -2,7 +2,7 @@ use Rattle.std.proofs.Common.{◌≡◌, ◌-◌, ◌+◌, ◌*◌, ◌≤◌, t
 use Rattle.legacy_text.specs.ShortScalars.{WritesScalars}
 use Rattle.legacy_text.proofs.short_scalars.put_turn.Given as goal
 
--- so many were written, where each of them was known
+-- k scalars are written, if each has a byte
 abbrev pub invariant-loop-k : goal.invariant-loop-k
 invariant-loop-k g l = (l.k ≤ 8)
     × (l.place ≤ l.start + 2 * l.k)

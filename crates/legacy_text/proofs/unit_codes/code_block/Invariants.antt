@@ -2,7 +2,7 @@ use Rattle.std.proofs.Common.{◌≡◌, ℕ, ◌-◌, ◌<◌, ◌≤◌, lengt
 use Rattle.legacy_text.specs.UnitCodes.{IsNoSurrogate}
 use Rattle.legacy_text.proofs.unit_codes.code_block.Given as goal
 
--- what was passed is in the blocks
+-- the code units passed are in the blocks
 abbrev pub invariant-loop-k : goal.invariant-loop-k
 invariant-loop-k g l =
     (l.k ≤ 16) × (length l.bytes ≡ 16) × (length l.marks ≡ 16)

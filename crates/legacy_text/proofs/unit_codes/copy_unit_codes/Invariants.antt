@@ -2,7 +2,7 @@ use Rattle.std.proofs.Common.{ℕ, ◌+◌, ◌-◌, ◌<◌, ◌≤◌, length,
 use Rattle.legacy_text.specs.UnitCodes.{IsNoSurrogate, WritesCodes}
 use Rattle.legacy_text.proofs.unit_codes.copy_unit_codes.Given as goal
 
--- so many were written
+-- the code units passed are written
 abbrev pub invariant-loop-copied : goal.invariant-loop-copied
 invariant-loop-copied g l = (l.copied ≤ length l.units)
     × (l.copied ≤ l.most)

@@ -6,11 +6,11 @@ use Rattle.legacy_japanese.proofs.iso_2022_jp.pairs.read_pairs.Goals as goal
 
 pub loop-dst-init : goal.loop-dst-init
 loop-dst-init g c =
-    (keeps_none (pairs_state (g.P.Pairs.indexes c.args.pairs.now)) (length c.args.dst.now) (g.S.Source.left c.args.src.now) (take c.args.start c.args.dst.now), omega arith, omega arith, omega arith, refl)
+    (keeps_none (pairs_state (g.P.Pairs.indexes c.args.pairs.now)) (length c.args.dst.now) (g.S.TextCursor.left c.args.src.now) (take c.args.start c.args.dst.now), omega arith, omega arith, omega arith, refl)
 
 pub loop-dst-preserved-in-One : goal.loop-dst-preserved-in-One
 loop-dst-preserved-in-One g c =
-    let S = g.S.Source in
+    let S = g.S.TextCursor in
     let i = c.loop-dst.invariant in
     let tables = g.P.Pairs.indexes c.args.pairs.now in
     let r = reads_on S.form (pairs_state tables) (length c.args.dst.now) (serves tables.flat.jis0208 tables.flat.katakana)
@@ -21,7 +21,7 @@ loop-dst-preserved-in-One g c =
 
 pub loop-dst-preserved-in-Two : goal.loop-dst-preserved-in-Two
 loop-dst-preserved-in-Two g c =
-    let S = g.S.Source in
+    let S = g.S.TextCursor in
     let i = c.loop-dst.invariant in
     let tables = g.P.Pairs.indexes c.args.pairs.now in
     let r = reads_on S.form (pairs_state tables) (length c.args.dst.now) (serves tables.flat.jis0208 tables.flat.katakana)
@@ -32,7 +32,7 @@ loop-dst-preserved-in-Two g c =
 
 pub loop-dst-preserved : goal.loop-dst-preserved
 loop-dst-preserved g c =
-    let S = g.S.Source in
+    let S = g.S.TextCursor in
     let i = c.loop-dst.invariant in
     let tables = g.P.Pairs.indexes c.args.pairs.now in
     let r = reads_on S.form (pairs_state tables) (length c.args.dst.now) (serves tables.flat.jis0208 tables.flat.katakana)

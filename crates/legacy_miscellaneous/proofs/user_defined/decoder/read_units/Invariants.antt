@@ -3,7 +3,7 @@ use Rattle.legacy_base.specs.Grammar.{user_defined}
 use Rattle.legacy_decoder_engine.specs.Ahead.{Writes}
 use Rattle.legacy_miscellaneous.proofs.user_defined.decoder.read_units.Given as goal
 
--- what was read was written, a unit for each byte
+-- each byte that was read was written as one unit
 abbrev pub invariant-loop-at : goal.invariant-loop-at
 invariant-loop-at g l =
     let T = g.T.Destination in

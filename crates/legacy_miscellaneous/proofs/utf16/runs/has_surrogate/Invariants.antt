@@ -2,7 +2,7 @@ use Rattle.std.proofs.Common.{◌≡◌, ◌-◌, ◌<◌, ◌≤◌, ℕ, false
 use Rattle.std.specs.Char.{IsScalar}
 use Rattle.legacy_miscellaneous.proofs.utf16.runs.has_surrogate.Given as goal
 
--- the units that were passed are scalars, unless one was found that is none
+-- the units before `at` are scalars, unless a surrogate was found
 abbrev pub invariant-loop-at : goal.invariant-loop-at
 invariant-loop-at l = (l.at ≤ length l.units) × (l.found ≡ false → (k : ℕ) → k < l.at → IsScalar (get_or l.units k 0))
 

@@ -1,7 +1,7 @@
 use Rattle.std.proofs.Common.{◌≡◌, ◌≢◌, ℕ, ◌-◌, ◌<◌, ◌≤◌, false, length, get_or}
 use Rattle.legacy_single_byte.proofs.single_byte.blocks.has_zero.Given as goal
 
--- if none was found, none of the units so far is 0
+-- if no 0 was found, none of the units before `at` is 0
 abbrev pub invariant-loop-at : goal.invariant-loop-at
 invariant-loop-at l = record {
   within : l.at ≤ length l.units;

@@ -1,7 +1,7 @@
 use Rattle.std.proofs.Common.{◌≤◌, ◌-◌, length, take, IsAscii}
 use Rattle.legacy_single_byte.proofs.single_byte.decoder.ascii_blocks.Given as goal
 
--- all bytes that were passed are ASCII
+-- the first `count` bytes are ASCII
 abbrev pub invariant-loop-count : goal.invariant-loop-count
 invariant-loop-count l = (l.count ≤ length l.bytes) × IsAscii (take l.count l.bytes)
 

@@ -2,7 +2,7 @@ use Rattle.std.proofs.Common.{◌∙◌, sym, arith}
 use Rattle.legacy_single_byte.proofs.LongestRuns.{grown, begun}
 use Rattle.legacy_single_byte.proofs.single_byte.run.run_to.Goals as goal
 
--- the run begins anew at the place
+-- a new run starts at the place
 pub returns-then-scalar-from : goal.returns-then-scalar-from
 returns-then-scalar-from c =
     let before = c.args.before in
@@ -10,7 +10,7 @@ returns-then-scalar-from c =
     let other = rw (c.from-2.ensures, c.from-3.ensures) at c.if-scalar-from.true in
     begun c.args.table.now.entries before.scalar before.start before.count c.args.place c.requires.before _ here other (omega arith)
 
--- the run goes on
+-- the run continues
 pub returns : goal.returns
 returns c =
     let before = c.args.before in

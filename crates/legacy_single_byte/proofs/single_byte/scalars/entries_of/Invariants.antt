@@ -2,7 +2,7 @@ use Rattle.std.proofs.Common.{◌≡◌, ◌-◌, ◌≤◌, length}
 use Rattle.legacy_single_byte.specs.ByteEntries.{AreByteEntries}
 use Rattle.legacy_single_byte.proofs.single_byte.scalars.entries_of.Given as goal
 
--- the entries of the bytes that were passed are there
+-- the entries of the first bytes are in the list
 abbrev pub invariant-loop-byte : goal.invariant-loop-byte
 invariant-loop-byte l = (l.byte ≤ 256) × (length l.entries ≡ 256) × AreByteEntries l.table.entries l.entries l.byte
 

@@ -3,7 +3,7 @@ use Rattle.legacy_tables.specs.Indexes.{last_range_scalar}
 use Rattle.legacy_tables.proofs.Accepted.{last-none, last-at, last_range-narrow}
 use Rattle.legacy_tables.proofs.tables.lookups.last_range.Goals as goal
 
--- the last of so many ranges that start at or before the pointer
+-- the last of the first ranges that start at or before the pointer
 last : (ranges : List (ℕ × ℕ)) (p n : ℕ) → 0 < n → n ≤ length ranges → ((k : ℕ) → k < n → (get_or ranges k (0, 0)).0 ≤ p) →
     ((k : ℕ) → n ≤ k → k < length ranges → p < (get_or ranges k (0, 0)).0) →
     last_range_scalar ranges p ≡ Some ((get_or ranges (n - 1) (0, 0)).1 + (p - (get_or ranges (n - 1) (0, 0)).0))

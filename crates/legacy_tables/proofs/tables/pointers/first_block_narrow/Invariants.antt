@@ -1,7 +1,7 @@
 use Rattle.std.proofs.Common.{◌≢◌, ◌+◌, ◌*◌, ℕ, ◌<◌, ◌≤◌, slice_index}
 use Rattle.legacy_tables.proofs.tables.pointers.first_block_narrow.Given as goal
 
--- none so far, and so many blocks are left
+-- no entry before the pointer is the searched one, and there is room for the blocks left
 abbrev pub invariant-loop-blocks : goal.invariant-loop-blocks
 invariant-loop-blocks l = record {
   from : l.start ≤ l.pointer;

@@ -1,7 +1,7 @@
 use Rattle.std.proofs.Common.{◌≢◌, ◌-◌, ℕ, ◌<◌, ◌≤◌, slice_index}
 use Rattle.legacy_tables.proofs.tables.pointers.first_narrow.Given as goal
 
--- none so far
+-- no entry before the pointer is the searched one
 abbrev pub invariant-loop-pointer : goal.invariant-loop-pointer
 invariant-loop-pointer l = record {
   from : l.start ≤ l.pointer;

@@ -1,7 +1,7 @@
 use Rattle.std.proofs.Common.{◌≢◌, ◌*◌, ℕ, ◌<◌, ◌≤◌, length, slice_index}
 use Rattle.legacy_tables.proofs.tables.pointers.last_block_wide.Given as goal
 
--- none from there on, and so many blocks are left
+-- no later entry is the searched one, and there are entries for the blocks left
 abbrev pub invariant-loop-blocks : goal.invariant-loop-blocks
 invariant-loop-blocks l = record {
   within : l.behind ≤ length l.index;

@@ -1,7 +1,7 @@
 use Rattle.std.proofs.Common.{◌≢◌, ℕ, ◌<◌, ◌≤◌, length, slice_index}
 use Rattle.legacy_tables.proofs.tables.pointers.last_wide.Given as goal
 
--- none from there on
+-- no later entry is the searched one
 abbrev pub invariant-loop-behind : goal.invariant-loop-behind
 invariant-loop-behind l = record {
   within : l.behind ≤ length l.index;

@@ -2,7 +2,7 @@ use Rattle.std.proofs.Common.{◌≡◌, ◌≤◌, drop}
 use Rattle.legacy_tables.specs.Runs.{run_fault, run_fault_from}
 use Rattle.legacy_tables.proofs.tables.runs.first_out_of_order.Given as goal
 
--- no fault so far
+-- no fault up to here
 abbrev pub invariant-loop-place : goal.invariant-loop-place
 invariant-loop-place l = record {
   small : l.before ≤ l.limit;

@@ -2,7 +2,7 @@ use Rattle.std.proofs.Common.{◌-◌, ◌≡◌, ◌+◌, ◌*◌, ◌≤◌, �
 use Rattle.legacy_text.specs.EncodingForm.{all_code_units, total_unit_count}
 use Rattle.legacy_text.proofs.destination.Destination.put_eight.Given as goal
 
--- so many units were written
+-- the code units passed are written
 abbrev pub invariant-loop-at : goal.invariant-loop-at
 invariant-loop-at g l = record {
   within : l.at ≤ 8;

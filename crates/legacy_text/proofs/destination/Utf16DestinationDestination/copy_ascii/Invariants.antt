@@ -2,7 +2,7 @@ use Rattle.std.proofs.Common.{◌≡◌, ◌+◌, ◌-◌, ◌≤◌, ◌++◌, 
 use Rattle.legacy_text.specs.Destinations.{utf16_written, utf16_free, utf16_loan}
 use Rattle.legacy_text.proofs.destination.Utf16DestinationDestination.copy_ascii.Given as goal
 
--- so many bytes of the slice were written, and they are ASCII
+-- the bytes passed are written, and are ASCII
 abbrev pub invariant-loop-at : goal.invariant-loop-at
 invariant-loop-at l = (l.at ≤ length l.bytes)
     × (utf16_free l.self + l.at ≡ utf16_free l.fn.self)

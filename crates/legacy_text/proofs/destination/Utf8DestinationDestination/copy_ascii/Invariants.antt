@@ -2,7 +2,7 @@ use Rattle.std.proofs.Common.{◌≡◌, ◌+◌, ◌-◌, ◌≤◌, ◌++◌, 
 use Rattle.legacy_text.specs.Destinations.{utf8_written, utf8_free, utf8_loan}
 use Rattle.legacy_text.proofs.destination.Utf8DestinationDestination.copy_ascii.Given as goal
 
--- so many bytes of the slice were written, and they are ASCII
+-- the bytes passed are written, and are ASCII
 abbrev pub invariant-loop-at : goal.invariant-loop-at
 invariant-loop-at l = (l.at ≤ length l.bytes)
     × (utf8_free l.self + l.at ≡ utf8_free l.fn.self)

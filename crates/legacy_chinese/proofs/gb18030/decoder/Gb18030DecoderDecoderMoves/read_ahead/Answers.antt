@@ -1,6 +1,5 @@
-use Rattle.std.proofs.Common.{◌≡◌, ◌∙◌, sym, ap, subst}
+use Rattle.std.proofs.Common.{◌∙◌, sym, subst}
 use Rattle.legacy_tables.specs.AcceptedTables.{AcceptedIndexes}
-use Rattle.legacy_tables.specs.KeptTables.{kept_indexes}
 use Rattle.legacy_base.specs.Grammar.{gb18030}
 use Rattle.legacy_base.specs.States.{new_state}
 use Rattle.legacy_decoder_engine.specs.Ahead.{ReadsAhead}
@@ -13,16 +12,12 @@ use Rattle.legacy_chinese.proofs.gb18030.decoder.Gb18030DecoderDecoderMoves.read
 pub returns-then-not-in_neutral_state : goal.returns-then-not-in_neutral_state
 returns-then-not-in_neutral_state g c = reads_none g.T.Destination (gb18030_state c.args.self.now) c.args.src.now c.args.dst.now
 
-pub returns-in-Flat : goal.returns-in-Flat
-returns-in-Flat g c =
-    let same : c.in-Flat.tables ≡ c.args.self.now.tables.now = sym (ap kept_indexes c.in-Flat.is) ∙ c.kept.ensures in
+pub returns-in-Some : goal.returns-in-Some
+returns-in-Some g c =
     reads_idle (idle c.args.self.now (sym c.in_neutral_state.ensures ∙ c.if-not-in_neutral_state.false))
     (subst (λ (t : AcceptedIndexes). ReadsAhead g.T.Destination (new_state
-    (gb18030 t.flat.gb18030 t.flat.ranges)) c.args.src.now c.read_blocks.result c.args.dst.now c.read_blocks.new.dst) same c.read_blocks.ensures)
+    (gb18030 t.flat.gb18030 t.flat.ranges)) c.args.src.now c.read_blocks.result c.args.dst.now c.read_blocks.new.dst) c.in-Some.ensures c.read_blocks.ensures)
 
-pub returns-in-Packed : goal.returns-in-Packed
-returns-in-Packed g c =
-    let same : c.in-Packed.tables ≡ c.args.self.now.tables.now = sym (ap kept_indexes c.in-Packed.is) ∙ c.kept.ensures in
-    reads_idle (idle c.args.self.now (sym c.in_neutral_state.ensures ∙ c.if-not-in_neutral_state.false))
-    (subst (λ (t : AcceptedIndexes). ReadsAhead g.T.Destination (new_state (gb18030 t.flat.gb18030 t.flat.ranges)) c.args.src.now c.read_blocks-in-Packed.result c.args.dst.now
-    c.read_blocks-in-Packed.new.dst) same c.read_blocks-in-Packed.ensures)
+pub returns-in-None : goal.returns-in-None
+returns-in-None g c =
+    reads_idle (idle c.args.self.now (sym c.in_neutral_state.ensures ∙ c.if-not-in_neutral_state.false)) c.read_blocks-in-None.ensures

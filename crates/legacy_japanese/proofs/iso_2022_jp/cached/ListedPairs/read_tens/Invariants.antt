@@ -7,7 +7,7 @@ use Rattle.legacy_japanese.proofs.iso_2022_jp.cached.ListedPairs.read_tens.Given
 -- what was read was written
 abbrev pub invariant-loop-dst : goal.invariant-loop-dst
 invariant-loop-dst g l =
-    let S = g.S.Source in
+    let S = g.S.TextCursor in
     KeepsOn (pairs_state l.self.tables.now) (length l.fn.dst) (S.left l.fn.src) (take l.start l.fn.dst) (S.left l.src) (take l.at l.dst)
     × (l.start ≤ l.at)
     × (l.at ≤ length l.dst)

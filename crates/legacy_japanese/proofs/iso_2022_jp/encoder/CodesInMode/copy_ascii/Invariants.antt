@@ -7,7 +7,7 @@ use Rattle.legacy_japanese.proofs.iso_2022_jp.encoder.CodesInMode.copy_ascii.Giv
 -- what was read was written
 abbrev pub invariant-loop-end : goal.invariant-loop-end
 invariant-loop-end g l =
-    let S = g.S.Source in
+    let S = g.S.TextCursor in
     KeepsOn (state_by (g.V.DecoderTables.indexes l.self.tables.now) l.self.mode) (length l.fn.dst) (S.left l.fn.src) (take l.start l.fn.dst) (S.left l.src) (take l.end l.dst)
     × (l.start ≤ l.end)
     × (l.end ≤ length l.dst)

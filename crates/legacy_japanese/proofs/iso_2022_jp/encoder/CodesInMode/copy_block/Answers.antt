@@ -12,9 +12,9 @@ returns-then-has_control-clause-keeps g c =
     let dst = c.args.dst.now in
     let limit = c.args.start + 16 in
     let within : limit ≤ length dst = omega (arith, c.if-dst-start-lt18.false) in
-    rw (front_same c.args.start c.copy_ascii-count.result limit dst c.copy_ascii-count.new.dst (take c.copy_ascii-count.result (g.S.Source.left c.args.src.now)) (omega arith) within
+    rw (front_same c.args.start c.copy_ascii-count.result limit dst c.copy_ascii-count.new.dst (take c.copy_ascii-count.result (g.S.TextCursor.left c.args.src.now)) (omega arith) within
     c.copy_ascii-count.auto.dst e.fits e.bytes)
-    (keeps_none (state_by (g.V.DecoderTables.indexes c.args.self.now.tables.now) c.args.self.now.mode) (length dst) (g.S.Source.left c.args.src.now) (take c.args.start dst))
+    (keeps_none (state_by (g.V.DecoderTables.indexes c.args.self.now.tables.now) c.args.self.now.mode) (length dst) (g.S.TextCursor.left c.args.src.now) (take c.args.start dst))
 
 pub returns-clause-keeps : goal.returns-clause-keeps
 returns-clause-keeps g c =
@@ -22,7 +22,7 @@ returns-clause-keeps g c =
     let e = c.copy_ascii-count.ensures in
     let dst = c.args.dst.now in
     let new = c.copy_ascii-count.new.dst in
-    let left = g.S.Source.left c.args.src.now in
+    let left = g.S.TextCursor.left c.args.src.now in
     let n = c.copy_ascii-count.result in
     let limit = c.args.start + 16 in
     let within : limit ≤ length dst = omega (arith, c.if-dst-start-lt18.false) in
@@ -38,7 +38,7 @@ returns-clause-keeps g c =
 
 pub returns-clause-passed : goal.returns-clause-passed
 returns-clause-passed g c =
-    let left = g.S.Source.left c.args.src.now in
+    let left = g.S.TextCursor.left c.args.src.now in
     let e = c.copy_ascii-count.ensures in
-    let front = front_units g.S.Source.form left c.copy_ascii-count.result e.read e.ascii in
+    let front = front_units g.S.TextCursor.form left c.copy_ascii-count.result e.read e.ascii in
     omega (arith, e.passed, rw (← e.left) at front)

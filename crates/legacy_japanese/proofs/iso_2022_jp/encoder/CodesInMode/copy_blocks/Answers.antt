@@ -16,15 +16,15 @@ returns-clause-keeps g c =
     let long = length-take-le c.args.start dst c.requires.start in
     let front = take-append-le (c.args.start + n) c.copy_codes.new.dst (drop limit dst) (omega (arith, within, e.fits, c.copy_codes.auto.dst)) in
     let kept =
-    keeps_own_bytes flat.jis0208 flat.katakana c.args.self.now.mode c.requires.mode (length dst) (g.S.Source.left c.args.src.now) n (take c.args.start dst) (take (c.args.start + n) c.copy_codes.new.dst) e.read
+    keeps_own_bytes flat.jis0208 flat.katakana c.args.self.now.mode c.requires.mode (length dst) (g.S.TextCursor.left c.args.src.now) n (take c.args.start dst) (take (c.args.start + n) c.copy_codes.new.dst) e.read
     (omega (arith, long, within, e.fits, c.if-dst-start-lt2.false)) (rw same at e.writes) in
     rw (front, e.left) kept
 
 pub returns-clause-passed : goal.returns-clause-passed
 returns-clause-passed g c =
     let e = c.copy_codes.ensures in
-    let left = g.S.Source.left c.args.src.now in
+    let left = g.S.TextCursor.left c.args.src.now in
     let n = c.copy_codes.result in
-    let both = total_unit_count-append g.S.Source.form (take n left) (drop n left) in
+    let both = total_unit_count-append g.S.TextCursor.form (take n left) (drop n left) in
     let whole = take-append-drop n left in
     rw e.left (omega (arith, e.passed, rw whole at both))

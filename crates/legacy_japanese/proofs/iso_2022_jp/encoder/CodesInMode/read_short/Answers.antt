@@ -6,11 +6,11 @@ use Rattle.legacy_japanese.proofs.iso_2022_jp.encoder.CodesInMode.read_short.Goa
 
 pub loop-dst-init : goal.loop-dst-init
 loop-dst-init g c =
-    (keeps_none (state_by (g.V.DecoderTables.indexes c.args.self.now.tables.now) c.args.self.now.mode) (length c.args.dst.now) (g.S.Source.left c.args.src.now) (take c.args.start c.args.dst.now), omega arith, omega arith, omega arith, refl)
+    (keeps_none (state_by (g.V.DecoderTables.indexes c.args.self.now.tables.now) c.args.self.now.mode) (length c.args.dst.now) (g.S.TextCursor.left c.args.src.now) (take c.args.start c.args.dst.now), omega arith, omega arith, omega arith, refl)
 
 pub loop-dst-preserved : goal.loop-dst-preserved
 loop-dst-preserved g c =
-    let S = g.S.Source in
+    let S = g.S.TextCursor in
     let i = c.loop-dst.invariant in
     let tables = g.V.DecoderTables.indexes c.args.self.now.tables.now in
     let r = reads_on S.form (state_by tables c.args.self.now.mode) (length c.args.dst.now) (serves tables.flat.jis0208 tables.flat.katakana)

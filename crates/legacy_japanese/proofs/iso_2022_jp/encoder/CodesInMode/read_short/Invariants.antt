@@ -7,7 +7,7 @@ use Rattle.legacy_japanese.proofs.iso_2022_jp.encoder.CodesInMode.read_short.Giv
 -- what was read was written
 abbrev pub invariant-loop-dst : goal.invariant-loop-dst
 invariant-loop-dst g l =
-    let S = g.S.Source in
+    let S = g.S.TextCursor in
     KeepsOn (state_by (g.V.DecoderTables.indexes l.self.tables.now) l.self.mode) (length l.fn.dst) (S.left l.fn.src) (take l.start l.fn.dst) (S.left l.src) (take l.end l.dst)
     × (l.start ≤ l.end)
     × (l.end ≤ length l.dst)
@@ -15,4 +15,4 @@ invariant-loop-dst g l =
     × (S.passed l.src + total_unit_count S.form (S.left l.src) ≡ S.passed l.fn.src + total_unit_count S.form (S.left l.fn.src))
 
 abbrev pub decreases-loop-dst : goal.decreases-loop-dst
-decreases-loop-dst g l = length (g.S.Source.left l.src)
+decreases-loop-dst g l = length (g.S.TextCursor.left l.src)

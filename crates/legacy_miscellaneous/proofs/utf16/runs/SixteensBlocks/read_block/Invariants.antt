@@ -3,7 +3,7 @@ use Rattle.legacy_base.specs.Grammar.{utf16}
 use Rattle.legacy_decoder_engine.specs.Ahead.{Writes}
 use Rattle.legacy_miscellaneous.proofs.utf16.runs.SixteensBlocks.read_block.Given as goal
 
--- the units that were passed are written, each as three code units at the most
+-- the units before `at` are written, each as at most three code units
 abbrev pub invariant-loop-at : goal.invariant-loop-at
 invariant-loop-at g l =
     let T = g.T.Destination in

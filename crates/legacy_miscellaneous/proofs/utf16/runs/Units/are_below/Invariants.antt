@@ -2,7 +2,7 @@ use Rattle.std.proofs.Common.{ℕ, ◌-◌, ◌*◌, ◌≤◌}
 use Rattle.legacy_miscellaneous.specs.Utf16Decoder.{AreBelow, AreUnitsBelow}
 use Rattle.legacy_miscellaneous.proofs.utf16.runs.Units.are_below.Given as goal
 
--- what no lane is past, no unit so far is past
+-- no unit of the groups that were read is greater than that of its lane
 abbrev pub invariant-loop-group : goal.invariant-loop-group
 invariant-loop-group l = record {
   within : l.group ≤ 8;

@@ -3,7 +3,7 @@ use Rattle.legacy_base.specs.Grammar.{utf16}
 use Rattle.legacy_decoder_engine.specs.Ahead.{Writes}
 use Rattle.legacy_miscellaneous.proofs.utf16.runs.Units.read_short_units.Given as goal
 
--- the units so far are written, each as three code units at most
+-- the units of the groups before this one are written, each as at most three code units
 abbrev pub invariant-loop-group : goal.invariant-loop-group
 invariant-loop-group g l = record {
   within : l.group ≤ 8;

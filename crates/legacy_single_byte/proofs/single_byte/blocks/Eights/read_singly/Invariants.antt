@@ -3,13 +3,13 @@ use Rattle.legacy_base.specs.Grammar.{single_byte}
 use Rattle.legacy_decoder_engine.specs.Ahead.{Writes}
 use Rattle.legacy_single_byte.proofs.single_byte.blocks.Eights.read_singly.Given as goal
 
--- the bytes that were passed are written, each as three code units at the most
+-- the bytes read are written, with at most three code units for each
 abbrev pub invariant-loop-at : goal.invariant-loop-at
 invariant-loop-at g l =
     let T = g.T.Destination in
-    (l.at ≤ 8)
+    (l.at ≤ l.most)
     × (T.room l.fn.dst ≤ T.room l.dst + 3 * l.at)
     × Writes T (single_byte l.self.scalars.now.table.now.entries) (take l.at l.src) l.fn.dst l.dst
 
 abbrev pub decreases-loop-at : goal.decreases-loop-at
-decreases-loop-at g l = 8 - l.at
+decreases-loop-at g l = l.most - l.at

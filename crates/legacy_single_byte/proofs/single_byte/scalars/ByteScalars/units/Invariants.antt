@@ -2,7 +2,7 @@ use Rattle.std.proofs.Common.{◌≡◌, ℕ, ◌-◌, ◌<◌, ◌≤◌, lengt
 use Rattle.legacy_single_byte.specs.ByteEntries.{IsByteEntry}
 use Rattle.legacy_single_byte.proofs.single_byte.scalars.ByteScalars.units.Given as goal
 
--- the units of the bytes so far are their entries
+-- the units of the first bytes are their entries
 abbrev pub invariant-loop-at : goal.invariant-loop-at
 invariant-loop-at l = record {
   within : l.at ≤ 8;

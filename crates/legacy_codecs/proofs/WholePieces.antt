@@ -1,0 +1,77 @@
+-- A call with replacement that read its whole source gave the text of it.
+use Rattle.std.proofs.Common.{◌≡◌, ◌∙◌, ℕ, List, [], ◌∷◌, ◌++◌, length, drop, refl, sym, ap, arith, take, ◌≤◌, Bool, true, IsTrue, All, append-nil, inl}
+use Rattle.std.proofs.lemmas.List.{drop_all, take-take, take-append-le}
+use Rattle.std.proofs.lemmas.List.Elements.{All-head, All-tail}
+use Rattle.std.proofs.lemmas.Str.{chars_from_encodes}
+use Rattle.std.specs.Char.{IsScalar}
+use Rattle.std.specs.Str.{chars, IsUtf8}
+use lib.Utf8.{encode, encodes, scalars}
+use Rattle.legacy_text.specs.EncodingForm.{EncodingForm, Utf8, all_code_units}
+use Rattle.legacy_base.specs.Events.{shift}
+use Rattle.legacy_base.specs.Grammar.{events_of}
+use Rattle.legacy_base.specs.States.{DecoderState}
+use Rattle.legacy_text.proofs.CodeUnits.{all_code_units-append}
+use Rattle.legacy_codecs.specs.declared.results.CoderResult.{CoderResult}
+use Rattle.legacy_codecs.specs.declared.results.CoderResult.TheVariants.{InputEmpty}
+use Rattle.legacy_codecs.specs.Replacing.{replaced_scalars, ReplacingDecoderCall}
+use Rattle.legacy_codecs.proofs.Replacements.{end_found-last}
+use Rattle.legacy_codecs.proofs.Replaced.{replaced-append, replaced-shift}
+use Rattle.legacy_codecs.specs.WholeTexts.{text_of, TextGoesOn}
+
+-- ---- scalars in UTF-8
+
+all_scalars : (cs : List ℕ) → All IsScalar cs → scalars cs ≡ true
+all_scalars [] h = refl
+all_scalars (c ∷ cs) h = rw (All-head IsScalar c cs h) (all_scalars cs (All-tail IsScalar c cs h))
+
+encodes_units : (cs : List ℕ) → encodes cs ≡ all_code_units Utf8 cs
+encodes_units [] = refl
+encodes_units (c ∷ cs) = ap (λ l. encode c ++ l) (encodes_units cs)
+
+-- bytes that are those of scalars are UTF-8, and have these as characters
+pub utf8_of : (bytes cs : List ℕ) → All IsScalar cs → bytes ≡ all_code_units Utf8 cs → IsUtf8 bytes × (chars bytes ≡ cs)
+utf8_of bytes cs h e =
+    let spells : encodes cs ≡ bytes = encodes_units cs ∙ sym e in
+    let is : IsUtf8 bytes = (cs, (all_scalars cs h, spells)) in
+    (is, sym (chars_from_encodes cs bytes is spells))
+
+-- ---- a call
+
+-- what was written stands at the front of the buffer
+pub front_of_buffer : (written count : ℕ) (output behind : List ℕ) → written ≤ length output → length output ≡ count → take written (take count (output ++ behind)) ≡ take written output
+front_of_buffer written count output behind h e = take-take written count (output ++ behind) (omega (arith, h, e)) ∙ take-append-le written output behind h
+
+-- nothing is left of a source that was read
+all_read : (source : List ℕ) (read : ℕ) → read ≡ length source → drop read source ≡ []
+all_read source read e = drop_all read source (omega (arith, e))
+
+module _ (form : EncodingForm) (before : DecoderState) (source : List ℕ) (last : Bool) (free : ℕ) (after : DecoderState) (answer : CoderResult) (read : ℕ) (written : List ℕ) (found : Bool)
+    (c : ReplacingDecoderCall form before source last free after answer read written found) (empty : answer ≡ InputEmpty) where
+  scalars_go_on : (later : List ℕ) → (IsTrue last → later ≡ []) → text_of before (source ++ later) ≡ replaced_scalars c.out ++ text_of after later
+  unfolding text_of
+  scalars_go_on later h =
+      let rest = events_of after.grammar (after.held ++ later) in
+      let whole = rw (all_read source read (c.input_empty empty).0) at c.progress.events later (λ l. inl (h (end_found-last last found [] l))) in
+      ap replaced_scalars whole ∙ replaced-append c.out (shift c.passed rest) ∙ ap (λ l. replaced_scalars c.out ++ l) (replaced-shift c.passed rest)
+
+  pub text_goes_on : TextGoesOn form last before source after written
+  text_goes_on later h =
+      let rest = text_of after later in
+      ap (all_code_units form) (scalars_go_on later h) ∙ all_code_units-append form (replaced_scalars c.out) rest ∙ ap (λ l. l ++ all_code_units form rest) (sym c.text)
+
+  -- behind the last piece no text is left
+  pub none_left : IsTrue last → text_of after [] ≡ []
+  unfolding text_of
+  none_left is_last = ap replaced_scalars (ap (events_of after.grammar) (append-nil after.held) ∙ (c.input_empty empty).2 is_last)
+
+  whole_text : IsTrue last → text_of before source ≡ replaced_scalars c.out
+  whole_text is_last =
+      ap (text_of before) (sym (append-nil source)) ∙ scalars_go_on [] (λ _. refl) ∙ ap (λ l. replaced_scalars c.out ++ l) (none_left is_last) ∙ append-nil (replaced_scalars c.out)
+
+-- a last call into UTF-8 that read its whole source wrote the text of it
+pub whole_utf8 : (before : DecoderState) (source : List ℕ) (free : ℕ) (after : DecoderState) (answer : CoderResult) (read : ℕ) (written : List ℕ) (found : Bool) →
+    ReplacingDecoderCall Utf8 before source true free after answer read written found → answer ≡ InputEmpty → IsUtf8 written × (chars written ≡ text_of before source)
+whole_utf8 before source free after answer read written found c empty =
+    let whole = whole_text Utf8 before source true free after answer read written found c empty refl in
+    let utf8 = utf8_of written (replaced_scalars c.out) c.scalar c.text in
+    (utf8.0, utf8.1 ∙ sym whole)

@@ -1,8 +1,0 @@
-use Rattle.std.proofs.lemmas.Result.{on_ok_weaker}
-use Rattle.legacy_command.proofs.program.read_and_decode.Goals as goal
-
-pub returns-clause-recoded : goal.returns-clause-recoded
-returns-clause-recoded g c =
-    on_ok_weaker c.check_and_decode.result
-    (λ recodes. record { tables = c.in_ok-indexes.indexes; holds = c.in_ok-indexes.ensures.texts; recodes = recodes })
-    c.check_and_decode.ensures

@@ -1,0 +1,159 @@
+//! What the program that encodes does with its words, its files and its streams.
+ghost use Rattle.std.specs.Prelude.{◌≡◌, ◌↔◌, ◌≤◌, [], OnOk, None, Some, IsTrue};
+ghost use Rattle.legacy_command.specs.Words.{texts_of, are_indexes, codec_of_words};
+ghost use Rattle.legacy_command.specs.IndexTexts.{contents_of, text_given, AreWellFormed};
+ghost use Rattle.legacy_command.specs.Program.{with_encoder, EncodesInput, EncodesByTables};
+ghost use Rattle.legacy_command.specs.Program.{EncodesByTexts, EncodesByWords};
+
+use crate::given_indexes::read_files;
+use crate::program::{Fault, check};
+use crate::words::codec_in;
+use legacy_codecs::RawEncoder;
+use legacy_encodings::{AnyEncoder, ListedEncoder, has_pairs, pair_room};
+use legacy_index_files::{CodecName, OwnedIndexes};
+use legacy_streams::encode::encode_text;
+use legacy_streams::recode::RecodeError;
+use std::alloc::Global;
+use std::io::{Read, Write};
+
+/// The codec of the program's words, which are without the program's name. `None` if they are not of the form that
+/// `codec_in` takes, or the codec has no encoder.
+pub fn encoder_in(words: &[&str]) -> Option<CodecName>
+    ensures { result ≡ with_encoder (codec_of_words (texts_of words.now)) }
+{
+    match codec_in(words)? {
+        CodecName::Replacement | CodecName::Utf16Be | CodecName::Utf16Le => None,
+        codec => Some(codec),
+    }
+}
+
+/// Encodes the input by the encoder, with its pairs listed ahead in memory of their own.
+fn encode_input<'a, R: Read, W: Write>(
+    alloc: Global,
+    encoder: &mut AnyEncoder,
+    input: &mut R,
+    output: &mut W,
+) -> Result<(), Fault<'a>>
+    ensures { OnOk result (EncodesInput
+        (⟦<AnyEncoder<'static> as RawEncoder>⟧.state encoder.old)
+        (R.remaining input.old) (R.remaining input.new)
+        (W.contents output.old) (W.contents output.new)) }
+{
+    if has_pairs(encoder) {
+        let Ok(mut room) = pair_room(alloc) else {
+            return Err(Fault::Memory);
+        };
+        if let Some(mut listed) = ListedEncoder::new(encoder, room.as_mut_slice()) {
+            return encode_by(&mut listed, input, output);
+        }
+    }
+    encode_by(encoder, input, output)
+}
+
+/// Encodes the input by an encoder of any kind and flushes the output, also if the input cannot be read.
+fn encode_by<'a, E: RawEncoder, R: Read, W: Write>(
+    encoder: &mut E,
+    input: &mut R,
+    output: &mut W,
+) -> Result<(), Fault<'a>>
+    ensures { OnOk result (EncodesInput (E.state encoder.old)
+        (R.remaining input.old) (R.remaining input.new)
+        (W.contents output.old) (W.contents output.new)) }
+{
+    let encoded = encode_text(encoder, input, output);
+    let flushed = output.flush();
+    if let Err(fault) = encoded {
+        return Err(Fault::Recode(fault));
+    }
+    match flushed {
+        Ok(()) => Ok(()),
+        Err(_) => Err(Fault::Recode(RecodeError::Write)),
+    }
+}
+
+/// Checks the indexes, and encodes the input by the codec.
+fn check_and_encode<'a, R: Read, W: Write>(
+    alloc: Global,
+    codec: CodecName,
+    indexes: &OwnedIndexes,
+    input: &mut R,
+    output: &mut W,
+) -> Result<(), Fault<'a>>
+    requires katakana { indexes.now.katakana.items ≡ [] }
+    requires encoder { with_encoder (Some codec) ≡ Some codec }
+    ensures { OnOk result (EncodesByTables codec indexes.now
+        (R.remaining input.old) (R.remaining input.new)
+        (W.contents output.old) (W.contents output.new)) }
+{
+    let checked = check(indexes)?;
+    let Some(mut encoder) = AnyEncoder::new(codec, &checked.tables, Some(&checked.single_byte))
+    else {
+        unreachable!()
+    };
+    encode_input(alloc, &mut encoder, input, output)
+}
+
+/// Reads the files of the indexes that the words name, checks them, and encodes the input by the codec.
+fn read_and_encode<'a, R: Read, W: Write>(
+    alloc: Global,
+    codec: CodecName,
+    indexes: &[&'a str],
+    files: &[Option<&[u8]>],
+    input: &mut R,
+    output: &mut W,
+) -> Result<(), Fault<'a>>
+    requires indexes { IsTrue (are_indexes (texts_of indexes.now)) }
+    requires encoder { with_encoder (Some codec) ≡ Some codec }
+    ensures well_formed { OnOk result
+        (AreWellFormed (texts_of indexes.now) (contents_of files.now)) }
+    ensures encoded { OnOk result (EncodesByTexts codec
+        (text_given (texts_of indexes.now) (contents_of files.now))
+        (R.remaining input.old) (R.remaining input.new)
+        (W.contents output.old) (W.contents output.new)) }
+{
+    let indexes = read_files(alloc, indexes, files)?;
+    check_and_encode(alloc, codec, &indexes, input, output)
+}
+
+/// Runs the program that encodes on its words, which are without its name, and returns its status.
+///
+/// The words are CODEC, one that has an encoder, and then INDEX and FILE any number of times, no INDEX twice. `files` has
+/// the contents of each FILE, in the same order, or `None` if it cannot be read; one that is missing counts as such. The
+/// words are checked first, then the files in their order, then the indexes. Then the input, a text in UTF-8, is encoded:
+/// the output is its bytes, with a decimal numeric character reference for each scalar that the encoding lacks. The output
+/// is flushed at the end.
+///
+/// - 0: each file was read and has no malformed line, and the whole text was written, with references in it or without.
+/// - 2: the words are not of that form; nothing is read.
+/// - 1: a file cannot be read or has a bad line, an index is refused, the input cannot be read, the output cannot be
+///   written or flushed, or memory was refused. What was written before stands.
+///
+/// With 1 and 2 a line on `errors` says why. That it cannot be written does not change the status.
+pub fn run_encode<R: Read, W: Write, E: Write>(
+    alloc: Global,
+    words: &[&str],
+    files: &[Option<&[u8]>],
+    input: &mut R,
+    output: &mut W,
+    errors: &mut E,
+) -> u8
+    ensures statuses { result ≤ 2 }
+    ensures usage { (result ≡ 2) ↔ (with_encoder (codec_of_words (texts_of words.now)) ≡ None) }
+    ensures unread { result ≡ 2 → (input.new ≡ input.old) × (output.new ≡ output.old) }
+    ensures encoded { result ≡ 0 → EncodesByWords (texts_of words.now) (contents_of files.now)
+        (R.remaining input.old) (R.remaining input.new)
+        (W.contents output.old) (W.contents output.new) }
+    ensures silent { result ≡ 0 → errors.new ≡ errors.old }
+{
+    let Some(codec) = encoder_in(words) else {
+        let _ = errors.write_all(b"usage: legacy_encode CODEC [INDEX FILE]...\n");
+        return 2;
+    };
+    match read_and_encode(alloc, codec, &words[1..], files, input, output) {
+        Ok(()) => 0,
+        Err(fault) => {
+            let _ = writeln!(errors, "{fault}");
+            1
+        }
+    }
+}

@@ -1,0 +1,152 @@
+-- Where forms start, and that the forms that are picked there are the front of the block.
+use Rattle.std.proofs.Common.{◌≡◌, ◌∙◌, ℕ, zero, suc, ◌+◌, ◌-◌, ◌/◌, ◌%◌, ◌^◌, ◌<◌, ◌≤◌, ◌==◌, min, List, [], ◌∷◌, ◌++◌, Bool, true, false, cond, ltb, leb, length, map, take, get_or, replicate, w8, bit_and, bit_or, bit_xor, refl, sym, ap, subst, arith, append_assoc, append-nil}
+use Rattle.std.proofs.lemmas.List.{take_more, length-take-le, get_or-map, length-map}
+use Rattle.std.proofs.lemmas.Nat.Bits.{bit_at_lowest, bit_at-suc, bit_at-lt, bit_at_and, bit_at_xor, bit_at_or, bit_at_ones}
+use Rattle.std.proofs.lemmas.Simd.{bit_mask_l, tops_compared, mask_l-mod, get_or-chunk}
+use Rattle.std.proofs.lemmas.Bool.{leb-true, leb-false, ltb-true, ltb-false}
+use Rattle.std.specs.Int.{bit_at}
+use lib.Lanes.{mask_l, zip2, top, chunk}
+use Rattle.legacy_decoder_engine.specs.PickedForms.{places, code_at, forms_of, ArePast, AreStarts, IsFront}
+use Rattle.legacy_decoder_engine.proofs.WrittenRuns.{take_two}
+
+-- bits that were asked are where forms start
+pub asked : (past starts : ℕ) → bit_at starts 0 ≡ 1 → bit_and (bit_xor (starts / 2) (bit_and starts past)) (2 ^ 63 - 1) ≡ 2 ^ 63 - 1 → AreStarts past starts
+asked past starts first all = record {
+  first = first;
+  next = λ i below.
+      let x = bit_xor (starts / 2) (bit_and starts past) in
+      let one : bit_at (2 ^ 63 - 1) i ≡ 1 = bit_at_ones 63 i below in
+      let both : min (bit_at x i) (bit_at (2 ^ 63 - 1) i) ≡ 1 = sym (bit_at_and x (2 ^ 63 - 1) i) ∙ ap (λ n. bit_at n i) all ∙ one in
+      let at : bit_at x i ≡ 1 = let low = bit_at-lt x i in omega (arith, both, one) in
+      ap (λ n. (n + min (bit_at starts i) (bit_at past i)) % 2) (bit_at-suc starts i)
+      ∙ ap (λ n. (bit_at (starts / 2) i + n) % 2) (sym (bit_at_and starts past i))
+      ∙ sym (bit_at_xor (starts / 2) (bit_and starts past) i) ∙ at;
+}
+
+-- the lowest bit is set
+pub lowest_set : (n : ℕ) → bit_at (bit_or n 1) 0 ≡ 1
+lowest_set n = bit_at_or n 1 0 ∙ (let low = bit_at-lt n 0 in let one : bit_at 1 0 ≡ 1 = refl in omega (arith, one))
+
+-- a comparison of one number with each of a list
+all_compared : (t : ℕ → ℕ → Bool) (y n : ℕ) (xs : List ℕ) → length xs ≡ n → zip2 t (replicate n y) xs ≡ map (t y) xs
+all_compared t y zero [] e = refl
+all_compared t y (suc n) [] e = absurd (omega arith)
+all_compared t y zero (x ∷ xs) e = absurd (omega arith)
+all_compared t y (suc n) (x ∷ xs) e = ap (λ (l : List Bool). t y x ∷ l) (all_compared t y n xs (omega arith))
+
+-- the bits of the bytes past ASCII
+pub past_mask : (block : List ℕ) → length block ≡ 64
+    → mask_l (map (top 7) (zip2 (λ a b. cond (leb a b) (2 ^ 8 - 1) 0) (replicate 64 128) block)) % 2 ^ 64 ≡ mask_l (map (λ b. leb 128 b) block)
+past_mask block long =
+    ap (λ ms. mask_l ms % 2 ^ 64) (tops_compared w8 leb (replicate 64 128) block ∙ all_compared leb 128 64 block long)
+    ∙ mask_l-mod (map (λ b. leb 128 b) block) 64 (omega (arith, length-map block (λ b. leb 128 b), long))
+
+-- one of them
+pub past_bits : (block : List ℕ) (i : ℕ) → i < length block → ◌≡◌ {A = ℕ} (bit_at (mask_l (map (λ b. leb 128 b) block)) i) (cond (ltb (get_or block i 0) 128) 0 1)
+past_bits block i h =
+    bit_mask_l (map (λ b. leb 128 b) block) i
+    ∙ ap (λ t. cond t 1 0) (get_or-map (λ b. leb 128 b) block i 0 false h)
+    ∙ go (leb 128 (get_or block i 0)) (ltb (get_or block i 0) 128) refl refl
+  where
+    go : (s t : Bool) → leb 128 (get_or block i 0) ≡ s → ltb (get_or block i 0) 128 ≡ t → ◌≡◌ {A = ℕ} (cond s 1 0) (cond t 0 1)
+    go true true e f = absurd (omega (arith, leb-true _ _ e, ltb-true _ _ f))
+    go true false e f = refl
+    go false true e f = refl
+    go false false e f = absurd (omega (arith, leb-false _ _ e, ltb-false _ _ f))
+
+-- ---- the forms from a place on
+
+one_byte : (block rest : List ℕ) (i : ℕ) → i < length block → take i block ++ (get_or block i 0 ∷ rest) ≡ take (i + 1) block ++ rest
+one_byte block rest i h = sym (append_assoc (take i block) (get_or block i 0 ∷ []) rest) ∙ ap (λ (l : List ℕ). l ++ rest) (sym (take_more block i 0 h))
+
+two_bytes : (block rest : List ℕ) (i : ℕ) → i + 1 < length block → take i block ++ (get_or block i 0 ∷ get_or block (i + 1) 0 ∷ rest) ≡ take (i + 2) block ++ rest
+two_bytes block rest i h = sym (append_assoc (take i block) (get_or block i 0 ∷ get_or block (i + 1) 0 ∷ []) rest) ∙ ap (λ (l : List ℕ). l ++ rest) (sym (take_two block i h))
+
+module _ (block : List ℕ) (past starts : ℕ) (long : 72 ≤ length block) (small : (j : ℕ) → get_or block j 0 < 256) (are_past : ArePast past block) (are : AreStarts past starts) where
+  shifted : (i y : ℕ) → ((k : ℕ) → bit_at y k ≡ bit_at starts (i + k)) → (k : ℕ) → bit_at (y / 2) k ≡ bit_at starts (i + 1 + k)
+  shifted i y bits k = let e : i + suc k ≡ i + 1 + k = omega arith in sym (bit_at-suc y k) ∙ bits (suc k) ∙ ap (bit_at starts) e
+
+  -- behind a byte that starts no form, or is ASCII, one starts
+  starts_next : (i : ℕ) → i < 63 → min (bit_at starts i) (bit_at past i) ≡ 0 → bit_at starts (i + 1) ≡ 1
+  starts_next i below none =
+      let e : suc i ≡ i + 1 = omega arith in
+      let n = are.next i below in
+      let low = bit_at-lt starts (suc i) in
+      let is : bit_at starts (suc i) ≡ 1 = omega (arith, n, none, low) in
+      sym (ap (bit_at starts) e) ∙ is
+
+  -- and behind the first of two none
+  ends_next : (i : ℕ) → i < 63 → bit_at starts i ≡ 1 → bit_at past i ≡ 1 → bit_at starts (i + 1) ≡ 0
+  ends_next i below a b =
+      let e : suc i ≡ i + 1 = omega arith in
+      let n = are.next i below in
+      let low = bit_at-lt starts (suc i) in
+      let is : bit_at starts (suc i) ≡ 0 = omega (arith, n, a, b, low) in
+      sym (ap (bit_at starts) e) ∙ is
+
+  -- a form that starts at byte i, and those behind it
+  first_of : (m i y : ℕ) → i + suc m ≡ 64 → ((k : ℕ) → bit_at y k ≡ bit_at starts (i + k)) → bit_at starts i ≡ 1 → (t : Bool) → ltb (get_or block i 0) 128 ≡ t
+      → ((c : Bool) → (0 < m → bit_at starts (i + 1) ≡ cond c 0 1) → IsFront (take (i + 1 + cond c 1 0) block ++ forms_of (map (code_at block) (places (i + 1) m (y / 2)))) block)
+      → IsFront (take (i + 0) block ++ forms_of (map (code_at block) (places i (suc m) y))) block
+  unfolding places
+  first_of m i y e bits is t is_ascii more =
+      let z : i + 0 ≡ i = omega arith in
+      let low : y % 2 ≡ 1 = sym (bit_at_lowest y) ∙ bits 0 ∙ ap (bit_at starts) z ∙ is in
+      let rest = places (i + 1) m (y / 2) in
+      let first : code_at block i % 256 ≡ get_or block i 0 = omega (arith, small i, small (i + 1)) in
+      let second : code_at block i / 256 ≡ get_or block (i + 1) 0 = omega (arith, small i, small (i + 1)) in
+      let same : take (i + 0) block ++ forms_of (map (code_at block) (cond (y % 2 == 1) (i ∷ rest) rest))
+      ≡ take i block ++ (cond t (get_or block i 0 ∷ []) (get_or block i 0 ∷ get_or block (i + 1) 0 ∷ []) ++ forms_of (map (code_at block) rest)) =
+      (λ s. take (z s) block ++ forms_of (map (code_at block) (cond (low s == 1) (i ∷ rest) rest)))
+      ∙ (λ s. take i block ++ (cond (ltb (first s) 128) (first s ∷ []) (first s ∷ second s ∷ []) ++ forms_of (map (code_at block) rest)))
+      ∙ (λ s. take i block ++ (cond (is_ascii s) (get_or block i 0 ∷ []) (get_or block i 0 ∷ get_or block (i + 1) 0 ∷ []) ++ forms_of (map (code_at block) rest))) in
+      let past : bit_at past i ≡ cond t 0 1 = are_past i (omega arith) ∙ ap (λ s. cond s 0 1) is_ascii in
+      subst (λ l. IsFront l block) (sym same) (go t past more)
+    where
+      go : (t : Bool) → bit_at past i ≡ cond t 0 1
+          → ((c : Bool) → (0 < m → bit_at starts (i + 1) ≡ cond c 0 1) → IsFront (take (i + 1 + cond c 1 0) block ++ forms_of (map (code_at block) (places (i + 1) m (y / 2)))) block)
+          → IsFront (take i block ++ (cond t (get_or block i 0 ∷ []) (get_or block i 0 ∷ get_or block (i + 1) 0 ∷ []) ++ forms_of (map (code_at block) (places (i + 1) m (y / 2))))) block
+      go true p more =
+          let rest = forms_of (map (code_at block) (places (i + 1) m (y / 2))) in
+          let k : i + 1 ≡ i + 1 + 0 = omega arith in
+          subst (λ l. IsFront l block) (sym (one_byte block rest i (omega arith) ∙ ap (λ k. take k block ++ rest) k))
+          (more false (λ h. starts_next i (omega arith) (omega (arith, p))))
+      go false p more =
+          let rest = forms_of (map (code_at block) (places (i + 1) m (y / 2))) in
+          let k : i + 2 ≡ i + 1 + 1 = omega arith in
+          subst (λ l. IsFront l block) (sym (two_bytes block rest i (omega arith) ∙ ap (λ k. take k block ++ rest) k))
+          (more true (λ h. ends_next i (omega arith) is p))
+
+  -- of the forms from byte i on, where c tells whether that byte belongs to the form before
+  fronts : (n i y : ℕ) (c : Bool) → i + n ≡ 64 → ((k : ℕ) → bit_at y k ≡ bit_at starts (i + k)) → (0 < n → bit_at starts i ≡ cond c 0 1)
+      → IsFront (take (i + cond c 1 0) block ++ forms_of (map (code_at block) (places i n y))) block
+  unfolding places
+  fronts zero i y c e bits here =
+      let k : ℕ = i + cond c 1 0 in
+      let l : length (take k block) ≡ k = length-take-le k block (most_of c) in
+      ap (λ bytes. take (length bytes) block) (append-nil (take k block)) ∙ ap (λ m. take m block) l ∙ sym (append-nil (take k block))
+    where
+      most_of : (c : Bool) → i + cond c 1 0 ≤ length block
+      most_of true = omega arith
+      most_of false = omega arith
+  fronts (suc m) i y true e bits here =
+      let z : i + 0 ≡ i = omega arith in
+      let is : bit_at starts i ≡ 0 = here (omega arith) in
+      let low : y % 2 ≡ 0 = sym (bit_at_lowest y) ∙ bits 0 ∙ ap (bit_at starts) z ∙ is in
+      let rest = places (i + 1) m (y / 2) in
+      let k : i + 1 + 0 ≡ i + 1 = omega arith in
+      let same : take (i + 1) block ++ forms_of (map (code_at block) (cond (y % 2 == 1) (i ∷ rest) rest)) ≡ take (i + 1 + 0) block ++ forms_of (map (code_at block) rest) =
+      (λ t. take (sym k t) block ++ forms_of (map (code_at block) (cond (low t == 1) (i ∷ rest) rest))) in
+      subst (λ l. IsFront l block) (sym same)
+      (fronts m (i + 1) (y / 2) false (omega arith) (shifted i y bits) (λ h. starts_next i (omega arith) (omega (arith, is))))
+  fronts (suc m) i y false e bits here =
+      let is : bit_at starts i ≡ 1 = here (omega arith) in
+      first_of m i y e bits is (ltb (get_or block i 0) 128) refl (λ c next. fronts m (i + 1) (y / 2) c (omega arith) (shifted i y bits) next)
+
+  -- the forms at the starts are the front of the block
+  pub picked : IsFront (forms_of (map (code_at block) (places 0 64 starts))) block
+  picked = fronts 64 0 starts false (omega arith) (λ k. let z : k ≡ 0 + k = omega arith in ap (bit_at starts) z) (λ h. are.first)
+
+-- a byte of the block that is loaded
+pub front_chunk : (xs : List ℕ) (i : ℕ) → i < 64 → get_or (chunk 0 64 xs) i 0 ≡ get_or xs i 0
+front_chunk xs i h = let z : 0 + i ≡ i = omega arith in get_or-chunk 0 64 xs i 0 h ∙ ap (λ k. get_or xs k 0) z

@@ -1,0 +1,14 @@
+use Rattle.std.proofs.Common.{◌≡◌, ℕ, ◌-◌, ◌*◌, ◌<◌, ◌≤◌, get_or}
+use Rattle.legacy_decoder_engine.specs.LaneCodes.{kept_of, place_of}
+use Rattle.legacy_decoder_engine.proofs.lanes.split_codes.Given as goal
+
+-- the eights so far are split
+abbrev pub invariant-loop-group : goal.invariant-loop-group
+invariant-loop-group g l = record {
+  within : l.group ≤ l.groups;
+  keeps : (k : ℕ) → k < 8 * l.group → get_or l.kept k 0 ≡ kept_of g.F.LaneForms.pointer l.last (get_or l.codes k 0);
+  finds : (k : ℕ) → k < 8 * l.group → get_or l.places k 0 ≡ place_of g.F.LaneForms.pointer l.last (get_or l.codes k 0);
+}
+
+abbrev pub decreases-loop-group : goal.decreases-loop-group
+decreases-loop-group g l = l.groups - l.group

@@ -1,0 +1,105 @@
+//! The forms of a block of bytes, picked out by shuffles: where they start, and the code of each.
+// Inlined always is what runs for each vector: a call would pass the vectors through memory.
+ghost use Rattle.std.specs.Prelude.{◌≡◌, ℕ, ◌+◌, ◌*◌, ◌<◌, ◌≤◌, ◌++◌, List, IfSome, length, map, take};
+ghost use Rattle.std.specs.List.{range_with_len};
+ghost use Rattle.legacy_decoder_engine.specs.PickedForms.{places, code_at, forms_of, ArePast, AreStarts, IsFront};
+
+use crate::pick_rows::PICKED;
+use std::simd::prelude::*;
+
+/// The bit of every second byte.
+const ODD: u64 = 0xAAAA_AAAA_AAAA_AAAA;
+
+/// The bits of all bytes but the last.
+const ALL_BUT_LAST: u64 = 0x7FFF_FFFF_FFFF_FFFF;
+
+/// Returns the bits of the bytes past ASCII.
+#[inline(always)]
+pub fn past_ascii(block: u8x64) -> u64
+    ensures { ArePast result block }
+{
+    block.simd_ge(u8x64::splat(0x80)).to_bitmask()
+}
+
+/// Returns the bits of the bytes at which forms start, if each byte past ASCII that starts one is the first of two.
+// In a run of bytes past ASCII every second one starts a form: one subtraction carries through all runs at once and tells
+// the parity of each. Whether the bits are right is asked of them themselves, so nothing has to be known of carries.
+#[inline(always)]
+fn form_starts(past: u64) -> Option<u64>
+    ensures { IfSome result (λ starts. AreStarts past starts) }
+{
+    let seconds = (((past << 1) | ODD).wrapping_sub(past)) ^ ODD ^ past;
+    let starts = !seconds | 1;
+    if ((starts >> 1) ^ (starts & past)) & ALL_BUT_LAST == ALL_BUT_LAST {
+        Some(starts)
+    } else {
+        None
+    }
+}
+
+/// Returns a row of a table.
+#[inline(always)]
+fn row_of(rows: &[[u8; 16]; 256], starts: u8) -> u8x16
+    ensures { (rule : ℕ → List ℕ) → rows.now ≡ map rule (range_with_len 0 256) → result ≡ rule starts }
+{
+    u8x16::from_array(rows[usize::from(starts)])
+}
+
+/// Returns the codes of two bytes, the first one low, at those of the first eight places that are starts, and behind them
+/// codes that say nothing.
+#[inline(always)]
+fn codes_at(bytes: u8x16, starts: u8) -> u16x8
+    ensures long { length result ≡ 8 }
+    ensures codes { take (length (places 0 8 starts)) result ≡ map (code_at bytes) (places 0 8 starts) }
+{
+    let row = row_of(&PICKED, starts);
+    u16x8::from_le_bytes(bytes.swizzle_dyn(row))
+}
+
+/// Stores the codes of eight places of a block at a place of a list, with codes behind them that say nothing. Returns the
+/// place behind them.
+#[inline(always)]
+fn put_codes(block: &[u8], from: usize, starts: u8, codes: &mut [u16], at: usize) -> usize
+    requires read { from + 16 ≤ length block.now }
+    requires room { at + 8 ≤ length codes.old }
+    ensures most { result ≤ at + 8 }
+    ensures written { take result codes.new ≡ take at codes.old ++ map (code_at block.now) (places from 8 starts) }
+{
+    let found = codes_at(u8x16::from_slice(&block[from..]), starts);
+    found.copy_to_slice(&mut codes[at..]);
+    at + usize::from(starts).count_ones() as usize
+}
+
+/// Stores the codes at those of the first 64 places of a block that are starts. Returns how many.
+#[inline(always)]
+fn pick(block: &[u8], starts: u64, codes: &mut [u16]) -> usize
+    requires read { 72 ≤ length block.now }
+    requires room { 64 ≤ length codes.old }
+    ensures most { result ≤ 64 }
+    ensures codes { take result codes.new ≡ map (code_at block.now) (places 0 64 starts) }
+{
+    let mut count = 0;
+    let mut left = starts;
+    let mut group = 0;
+    while group < 8 {
+        count = put_codes(block, 8 * group, (left % 256) as u8, codes, count);
+        left /= 256;
+        group += 1;
+    }
+    count
+}
+
+/// Stores the codes of the forms that start in a block of 64 bytes, by the bits of those past ASCII. Returns how many.
+#[inline(always)]
+pub fn pick_forms(block: &[u8], past: u64, codes: &mut [u16]) -> usize
+    requires read { 72 ≤ length block.now }
+    requires past { ArePast past block.now }
+    requires room { 64 ≤ length codes.old }
+    ensures most { result ≤ 64 }
+    ensures front { IsFront (forms_of (take result codes.new)) block.now }
+{
+    match form_starts(past) {
+        Some(starts) => pick(block, starts, codes),
+        None => 0,
+    }
+}

@@ -1,0 +1,15 @@
+-- What a run keeps from one scalar to the next: pointers of four bytes in a row.
+use Rattle.std.specs.Prelude.{ℕ, List, []}
+use Rattle.legacy_tables.specs.declared.tables.ranges.RangePart.{RangePart}
+use Rattle.legacy_tables.specs.RangeParts.{IsRangePart}
+use Rattle.legacy_base.specs.Encoders.{Codec, gb18030, gbk}
+
+-- the ranges that a codec has
+abbrev pub codec_ranges : Codec → List (ℕ × ℕ)
+codec_ranges (gb18030 index ranges pua) = ranges
+codec_ranges (gbk index ranges pua) = ranges
+codec_ranges _ = []
+
+-- what is kept says what they do
+abbrev pub IsNear : Codec → RangePart → Type 0
+IsNear codec near = IsRangePart (codec_ranges codec) near

@@ -1,0 +1,2 @@
+-- What the registry's index files give it.
+pub mod ReadTables

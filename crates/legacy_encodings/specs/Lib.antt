@@ -1,0 +1,5 @@
+-- What a registry of encodings gives by their names.
+pub mod Coders
+pub mod Lists
+pub mod Registries
+pub mod SingleByteFiles

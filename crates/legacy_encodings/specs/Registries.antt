@@ -1,0 +1,111 @@
+-- What a registry of encodings does by their names, over the index data that it owns.
+use Rattle.std.specs.Prelude.{◌≡◌, ◌≢◌, ℕ, List, ◌∷◌, length, Option, Some, None, true, find, option_map, bytes_eq}
+use Rattle.std.specs.Str.{chars}
+use Rattle.legacy_base.specs.States.{DecoderState}
+use Rattle.legacy_base.specs.Encoders.{EncoderState, encoded}
+use Rattle.legacy_base.specs.Lengths.{query_answer, to_utf8}
+use Rattle.legacy_codecs.specs.References.{referenced_bytes}
+use Rattle.legacy_tables.specs.Indexes.{FlatIndexes}
+use Rattle.legacy_index_files.specs.declared.encodings.Encoding.{Encoding}
+use Rattle.legacy_index_files.specs.declared.encodings.CodecName.TheVariants as codec
+use Rattle.legacy_index_files.specs.Encodings.{encoding_name, codec_of}
+use Rattle.legacy_encodings.specs.declared.registry.EncodingTable.{EncodingTable}
+use Rattle.legacy_encodings.specs.declared.registry.RegistryError.{RegistryError}
+use Rattle.legacy_encodings.specs.declared.registry.RegistryError.TheVariants.{Unknown, NoIndex, Sized}
+use Rattle.legacy_codecs.specs.declared.whole.SizedError.TheVariants.{TooLong, Memory}
+use Rattle.legacy_encodings.specs.Coders.{decoder_of, encoder_of}
+use Rattle.legacy_encodings.specs.SingleByteFiles.{IsSingleByteFile}
+use Rattle.legacy_codecs.specs.WholeTexts.{text_of}
+
+-- ---- the tables of single-byte encodings
+
+-- the entries of the first table of an encoding
+abbrev pub entries_of : List EncodingTable → Encoding → Option (List ℕ)
+entries_of tables encoding =
+    option_map (λ t. t.table.entries) (find (λ t. bytes_eq (encoding_name t.encoding) (encoding_name encoding)) tables)
+
+-- in front of the tables stands what the text of an index file says, which passed the check
+pub record IsReadTable (encoding : Encoding) (text : List ℕ) (before after : List EncodingTable) : Type 0 where
+  pub table : EncodingTable
+  pub of : table.encoding ≡ encoding
+  pub of_file : IsSingleByteFile text table.table.entries
+  pub first : after ≡ table ∷ before
+
+-- ---- coders by name
+
+-- no encoding has the name
+abbrev pub HasNoName : List ℕ → Type 0
+HasNoName name = (encoding : Encoding) → ¬ (encoding_name encoding ≡ name)
+
+-- a new decoder of the encoding is in this state; of a single-byte encoding whose table was not read there is none
+abbrev pub decoder_for : FlatIndexes → List EncodingTable → Encoding → Option DecoderState
+decoder_for flat tables encoding = decoder_of (codec_of encoding) flat (entries_of tables encoding)
+
+-- a new decoder of the encoding of the name is in this state
+pub record IsDecoderOf (flat : FlatIndexes) (tables : List EncodingTable) (name : List ℕ) (state : DecoderState) : Type 0 where
+  pub encoding : Encoding
+  pub named : encoding_name encoding ≡ name
+  pub made : decoder_for flat tables encoding ≡ Some state
+
+-- the encoding of the name is a single-byte encoding whose table was not read
+pub record LacksTable (tables : List EncodingTable) (name : List ℕ) : Type 0 where
+  pub encoding : Encoding
+  pub named : encoding_name encoding ≡ name
+  pub single_byte : codec_of encoding ≡ codec.SingleByte
+  pub not_read : entries_of tables encoding ≡ None
+
+-- why there is no coder of the name
+abbrev pub IsNameError : List EncodingTable → List ℕ → RegistryError → Type 0
+IsNameError tables name Unknown = HasNoName name
+IsNameError tables name NoIndex = LacksTable tables name
+IsNameError tables name _ = ⊥
+
+-- The encoding of the name has an encoder, and a new one is in this state; or its output encoding is UTF-8 (Encoding
+-- Standard, "get an output encoding"), and there is none.
+abbrev pub encoder_for : FlatIndexes → List EncodingTable → Encoding → Option EncoderState
+encoder_for flat tables encoding = encoder_of (codec_of encoding) flat (entries_of tables encoding)
+
+pub record IsEncoderOf (flat : FlatIndexes) (tables : List EncodingTable) (name : List ℕ) (output : Option EncoderState) : Type 0 where
+  pub encoding : Encoding
+  pub named : encoding_name encoding ≡ name
+  pub made : encoder_for flat tables encoding ≡ output
+  pub read : codec_of encoding ≡ codec.SingleByte → entries_of tables encoding ≢ None
+
+-- ---- whole inputs and texts
+
+-- the characters of the input by the encoding of the name
+pub record IsText (flat : FlatIndexes) (tables : List EncodingTable) (name input text : List ℕ) : Type 0 where
+  pub state : DecoderState
+  pub decoder : IsDecoderOf flat tables name state
+  pub short : query_answer to_utf8 state (length input) ≢ None
+  pub decodes : text ≡ text_of state input
+
+-- the length query of a new decoder of the name answers none for the input
+pub record IsTooLong (flat : FlatIndexes) (tables : List EncodingTable) (name input : List ℕ) : Type 0 where
+  pub state : DecoderState
+  pub decoder : IsDecoderOf flat tables name state
+  pub too_long : query_answer to_utf8 state (length input) ≡ None
+
+-- why an input was not decoded; memory may be refused wherever there is a decoder and a length
+abbrev pub IsDecodeError : FlatIndexes → List EncodingTable → List ℕ → List ℕ → RegistryError → Type 0
+IsDecodeError flat tables name input (Sized TooLong) = IsTooLong flat tables name input
+IsDecodeError flat tables name input (Sized Memory) =
+    (state : DecoderState) × IsDecoderOf flat tables name state × (query_answer to_utf8 state (length input) ≢ None)
+IsDecodeError flat tables name input error = IsNameError tables name error
+
+-- the bytes of a text in UTF-8 by an encoder up to its end, with references; by none, the text itself
+unfoldable pub bytes_by : Option EncoderState → List ℕ → List ℕ
+bytes_by None text = text
+bytes_by (Some state) text = referenced_bytes (encoded state (chars text) true)
+
+-- the bytes of the text by the encoding of the name
+pub record AreBytes (flat : FlatIndexes) (tables : List EncodingTable) (name text bytes : List ℕ) : Type 0 where
+  pub output : Option EncoderState
+  pub encoder : IsEncoderOf flat tables name output
+  pub encodes : bytes ≡ bytes_by output text
+
+-- why a text was not encoded; memory may be refused wherever there is an encoder, or none is needed
+abbrev pub IsEncodeError : FlatIndexes → List EncodingTable → List ℕ → RegistryError → Type 0
+IsEncodeError flat tables name (Sized TooLong) = ⊥
+IsEncodeError flat tables name (Sized Memory) = (output : Option EncoderState) × IsEncoderOf flat tables name output
+IsEncodeError flat tables name error = IsNameError tables name error

@@ -1,0 +1,24 @@
+-- What the index file of a single-byte encoding says.
+use Rattle.std.specs.Prelude.{◌≡◌, ℕ, List, Some, None}
+use Rattle.legacy_tables.specs.TableChecks.{single_byte_fault, IsAcceptedTable}
+use Rattle.legacy_index_files.specs.declared.index_file.FileIndex.TheVariants.{SingleByte}
+use Rattle.legacy_index_files.specs.declared.index_file.IndexFileError.TheVariants as reading
+use Rattle.legacy_index_files.specs.IndexLine.{lines}
+use Rattle.legacy_index_files.specs.IndexTable.{entries_of, first_malformed, IsSingleByteIndexOf}
+use Rattle.legacy_encodings.specs.declared.registry.RegistryError.{RegistryError}
+use Rattle.legacy_encodings.specs.declared.registry.RegistryError.TheVariants.{File, Tables, Sized}
+use Rattle.legacy_codecs.specs.declared.whole.SizedError.TheVariants as sized
+
+-- no line of the file is malformed, and its lines say these entries
+pub record IsSingleByteFile (file entries : List ℕ) : Type 0 where
+  pub well_formed : first_malformed SingleByte 1 (lines file) ≡ None
+  pub says : IsSingleByteIndexOf (entries_of SingleByte (lines file)) entries
+
+-- What each error says of such a file. Any two of these exclude each other, but for memory, which may be refused wherever the
+-- steps before it went well.
+abbrev pub IsSingleByteFault : List ℕ → RegistryError → Type 0
+IsSingleByteFault file (File (reading.Line n)) = first_malformed SingleByte 1 (lines file) ≡ Some n
+IsSingleByteFault file (File reading.Memory) = first_malformed SingleByte 1 (lines file) ≡ None
+IsSingleByteFault file (Tables fault) = (entries : List ℕ) × IsSingleByteFile file entries × (single_byte_fault entries ≡ Some fault)
+IsSingleByteFault file (Sized sized.Memory) = (entries : List ℕ) × IsSingleByteFile file entries × IsAcceptedTable entries
+IsSingleByteFault file _ = ⊥

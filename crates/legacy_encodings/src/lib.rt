@@ -1,0 +1,12 @@
+//! The Standard's encodings by their names: index data that is read from files and checked once, and coders of an
+//! encoding that is chosen when the program runs. Each coder is itself a `RawDecoder` or a `RawEncoder`, so every call
+//! of `legacy_codecs` takes it.
+#![tactic(auto)]
+
+mod coders;
+mod listed;
+mod registry;
+
+pub use coders::{AnyDecoder, AnyEncoder};
+pub use listed::{ListedEncoder, has_pairs, pair_room};
+pub use registry::{Coders, EncodingTable, Registry, RegistryError};

@@ -1,0 +1,147 @@
+//! Encoders of an encoding that is chosen when the program runs, with its pairs looked up ahead.
+ghost use Rattle.std.specs.Prelude.{◌≡◌, ◌<◌, ◌≤◌, ◌⊎◌, length, false, true, MatchOption};
+ghost use Rattle.legacy_encodings.specs.Lists.{has_pairs};
+
+use crate::coders::AnyEncoder;
+use legacy_codecs::{
+    Big5Encoder, CachedEncoder, CachedIso2022JpEncoder, EncoderResult, EucJpEncoder, EucKrEncoder,
+    Gb18030Encoder, PAIR_ROOM, RawEncoder, ShiftJisEncoder, Source,
+};
+use std::alloc::{AllocError, Global};
+
+/// An encoder of any encoding of pairs that looks no pair up: all of them are listed in room that the user lends.
+#[derive(Drop)]
+pub enum ListedEncoder<'a, 'b> {
+    /// Of GBK and gb18030.
+    Gb18030(CachedEncoder<'b, Gb18030Encoder<'a>>),
+    /// Of Big5.
+    Big5(CachedEncoder<'b, Big5Encoder<'a>>),
+    /// Of EUC-JP.
+    EucJp(CachedEncoder<'b, EucJpEncoder<'a>>),
+    /// Of ISO-2022-JP.
+    Iso2022Jp(CachedIso2022JpEncoder<'a, 'b>),
+    /// Of Shift_JIS.
+    ShiftJis(CachedEncoder<'b, ShiftJisEncoder<'a>>),
+    /// Of EUC-KR.
+    EucKr(CachedEncoder<'b, EucKrEncoder<'a>>),
+}
+
+impl<'a, 'b> RawEncoder for ListedEncoder<'a, 'b> {
+    ghost use Rattle.legacy_encodings.specs.declared.listed.ListedEncoder.TheVariants.{Gb18030, Big5, EucJp, Iso2022Jp, ShiftJis, EucKr};
+
+    ghost state = { elim [
+      | Gb18030 coder ↦ ⟦<CachedEncoder<'static, Gb18030Encoder<'static>> as RawEncoder>⟧.state coder
+      | Big5 coder ↦ ⟦<CachedEncoder<'static, Big5Encoder<'static>> as RawEncoder>⟧.state coder
+      | EucJp coder ↦ ⟦<CachedEncoder<'static, EucJpEncoder<'static>> as RawEncoder>⟧.state coder
+      | Iso2022Jp coder ↦ ⟦<CachedIso2022JpEncoder<'static, 'static> as RawEncoder>⟧.state coder
+      | ShiftJis coder ↦ ⟦<CachedEncoder<'static, ShiftJisEncoder<'static>> as RawEncoder>⟧.state coder
+      | EucKr coder ↦ ⟦<CachedEncoder<'static, EucKrEncoder<'static>> as RawEncoder>⟧.state coder
+    ] };
+
+    fn step<S: Source>(
+        &mut self,
+        src: &mut S,
+        dst: &mut [u8],
+        last: bool,
+    ) -> (EncoderResult, usize) {
+        match self {
+            ListedEncoder::Gb18030(coder) => coder.step(src, dst, last),
+            ListedEncoder::Big5(coder) => coder.step(src, dst, last),
+            ListedEncoder::EucJp(coder) => coder.step(src, dst, last),
+            ListedEncoder::Iso2022Jp(coder) => coder.step(src, dst, last),
+            ListedEncoder::ShiftJis(coder) => coder.step(src, dst, last),
+            ListedEncoder::EucKr(coder) => coder.step(src, dst, last),
+        }
+    }
+
+    fn max_buffer_length_from_utf16_without_replacement(&self, u16_length: usize) -> Option<usize> {
+        match self {
+            ListedEncoder::Gb18030(coder) => coder.max_buffer_length_from_utf16_without_replacement(
+                u16_length,
+            ),
+            ListedEncoder::Big5(coder) => coder.max_buffer_length_from_utf16_without_replacement(
+                u16_length,
+            ),
+            ListedEncoder::EucJp(coder) => coder.max_buffer_length_from_utf16_without_replacement(
+                u16_length,
+            ),
+            ListedEncoder::Iso2022Jp(coder) =>
+                coder.max_buffer_length_from_utf16_without_replacement(u16_length),
+            ListedEncoder::ShiftJis(coder) =>
+                coder.max_buffer_length_from_utf16_without_replacement(u16_length),
+            ListedEncoder::EucKr(coder) => coder.max_buffer_length_from_utf16_without_replacement(
+                u16_length,
+            ),
+        }
+    }
+
+    fn max_buffer_length_from_utf8_without_replacement(&self, byte_length: usize) -> Option<usize> {
+        match self {
+            ListedEncoder::Gb18030(coder) => coder.max_buffer_length_from_utf8_without_replacement(
+                byte_length,
+            ),
+            ListedEncoder::Big5(coder) => coder.max_buffer_length_from_utf8_without_replacement(
+                byte_length,
+            ),
+            ListedEncoder::EucJp(coder) => coder.max_buffer_length_from_utf8_without_replacement(
+                byte_length,
+            ),
+            ListedEncoder::Iso2022Jp(coder) =>
+                coder.max_buffer_length_from_utf8_without_replacement(byte_length),
+            ListedEncoder::ShiftJis(coder) => coder.max_buffer_length_from_utf8_without_replacement(
+                byte_length,
+            ),
+            ListedEncoder::EucKr(coder) => coder.max_buffer_length_from_utf8_without_replacement(
+                byte_length,
+            ),
+        }
+    }
+}
+
+impl<'a, 'b> ListedEncoder<'a, 'b> {
+    /// An encoder that goes on from where this one is and writes what it would. The first `PAIR_ROOM` entries of the
+    /// room are written to. `None` exactly if the room has fewer, or the encoding has no pairs: then it is a single-byte
+    /// encoding or x-user-defined.
+    pub fn new(encoder: &'b AnyEncoder<'a>, room: &'b mut [u16]) -> Option<ListedEncoder<'a, 'b>>
+        ensures { MatchOption result ((length room.old < 65536) ⊎ (has_pairs encoder.now ≡ false))
+            (λ listed. (65536 ≤ length room.old) × (has_pairs encoder.now ≡ true)
+            × (⟦<ListedEncoder<'static, 'static> as RawEncoder>⟧.state listed
+            ≡ ⟦<AnyEncoder<'static> as RawEncoder>⟧.state encoder.now)) }
+    {
+        match encoder {
+            AnyEncoder::Gb18030(coder) => Some(ListedEncoder::Gb18030(CachedEncoder::new(
+                coder, room,
+            )?)),
+            AnyEncoder::Big5(coder) => Some(ListedEncoder::Big5(CachedEncoder::new(coder, room)?)),
+            AnyEncoder::EucJp(coder) => Some(ListedEncoder::EucJp(CachedEncoder::new(
+                coder, room,
+            )?)),
+            AnyEncoder::Iso2022Jp(coder) => Some(ListedEncoder::Iso2022Jp(
+                CachedIso2022JpEncoder::new(coder, room)?,
+            )),
+            AnyEncoder::ShiftJis(coder) => Some(ListedEncoder::ShiftJis(CachedEncoder::new(
+                coder, room,
+            )?)),
+            AnyEncoder::EucKr(coder) => Some(ListedEncoder::EucKr(CachedEncoder::new(
+                coder, room,
+            )?)),
+            AnyEncoder::SingleByte(_) | AnyEncoder::UserDefined(_) => None,
+        }
+    }
+}
+
+/// Checks whether an encoder is of an encoding of pairs, so that `ListedEncoder` takes it.
+pub fn has_pairs(encoder: &AnyEncoder) -> bool
+    ensures { result ≡ has_pairs encoder.now }
+{
+    !matches!(
+        encoder,
+        AnyEncoder::SingleByte(_) | AnyEncoder::UserDefined(_)
+    )
+}
+
+// Without a clause: none of its entries is to be known.
+/// Allocates room for the pairs of a `ListedEncoder`: `PAIR_ROOM` entries, 128 KB.
+pub fn pair_room(alloc: Global) -> Result<Vec<u16>, AllocError> {
+    vec![in alloc; 0; PAIR_ROOM]
+}

@@ -1,0 +1,278 @@
+//! A registry that owns index data, and decodes and encodes by the Standard's name of the encoding.
+ghost use Rattle.std.specs.Prelude.{◌≡◌, ◌↔◌, [], string_bytes, Err, Some, None, true, IfOk, OnErr, MatchResult};
+ghost use Rattle.std.specs.Prelude.{find, bytes_eq};
+ghost use Rattle.std.specs.Option.{option_copied, option_map};
+ghost use Rattle.std.specs.Str.{chars};
+ghost use Rattle.legacy_base.specs.Encoders.{encoded};
+ghost use Rattle.legacy_codecs.specs.References.{referenced_bytes};
+ghost use Rattle.legacy_tables.specs.TableChecks.{table_fault};
+ghost use Rattle.legacy_index_files.specs.Encodings.{encoding_name};
+ghost use Rattle.legacy_index_files.specs.IndexTexts.{no_text};
+ghost use Rattle.legacy_index_files.specs.OwnedIndexes.{owned_lists, HoldsTexts};
+ghost use Rattle.legacy_encodings.specs.SingleByteFiles.{IsSingleByteFault};
+ghost use Rattle.legacy_encodings.specs.Registries.{entries_of, IsReadTable, HasNoName, IsNameError};
+ghost use Rattle.legacy_encodings.specs.Registries.{IsDecoderOf, IsEncoderOf, LacksTable};
+ghost use Rattle.legacy_encodings.specs.Registries.{IsText, IsDecodeError, AreBytes, IsEncodeError, bytes_by};
+
+use crate::coders::{AnyDecoder, AnyEncoder};
+use crate::listed::{ListedEncoder, has_pairs, pair_room};
+use legacy_codecs::{
+    RawDecoder, RawEncoder, SingleByteTable, SizedError, TableError, Tables, decode_whole,
+    encode_whole,
+};
+use legacy_index_files::{CodecName, Encoding, FileIndex, IndexFileError, OwnedIndexes};
+use std::alloc::{AllocError, Global};
+use thiserror::Error;
+
+/// Why the registry did not do what it was asked.
+#[derive(Debug, Drop, PartialEq, Eq, Error)]
+pub enum RegistryError {
+    /// No encoding has the name.
+    #[error("no encoding has this name")]
+    Unknown,
+    /// The index file of the single-byte encoding was not read.
+    #[error("the encoding's index was not read")]
+    NoIndex,
+    /// The index file is malformed, or memory for it was refused.
+    #[error("index file: {0}")]
+    File(IndexFileError),
+    /// The index is refused.
+    #[error("tables: {0}")]
+    Tables(TableError),
+    /// The text would be too long, or memory for it was refused.
+    #[error("{0}")]
+    Sized(SizedError),
+}
+
+impl From<IndexFileError> for RegistryError {
+    ghost use Rattle.legacy_encodings.specs.declared.registry.RegistryError.TheVariants.{File};
+
+    ghost from_gives = { λ fault error. error ≡ File fault };
+
+    fn from(fault: IndexFileError) -> RegistryError {
+        RegistryError::File(fault)
+    }
+}
+
+impl From<TableError> for RegistryError {
+    ghost use Rattle.legacy_encodings.specs.declared.registry.RegistryError.TheVariants.{Tables};
+
+    ghost from_gives = { λ fault error. error ≡ Tables fault };
+
+    fn from(fault: TableError) -> RegistryError {
+        RegistryError::Tables(fault)
+    }
+}
+
+impl From<SizedError> for RegistryError {
+    ghost use Rattle.legacy_encodings.specs.declared.registry.RegistryError.TheVariants.{Sized};
+
+    ghost from_gives = { λ fault error. error ≡ Sized fault };
+
+    fn from(fault: SizedError) -> RegistryError {
+        RegistryError::Sized(fault)
+    }
+}
+
+/// The table of a single-byte encoding.
+#[derive(Drop)]
+pub struct EncodingTable {
+    pub encoding: Encoding,
+    pub table: SingleByteTable,
+}
+
+/// What was read from index files: the indexes of the multi-byte encodings, where an index that was not
+/// read is empty, and the tables of single-byte encodings, the last one that was read first.
+#[derive(Drop)]
+pub struct Registry {
+    pub indexes: OwnedIndexes,
+    pub single_bytes: Vec<EncodingTable>,
+}
+
+/// The coders of all encodings, over the registry's indexes, which were checked once.
+#[derive(Drop)]
+pub struct Coders<'a> {
+    tables: Tables<'a>,
+    single_bytes: &'a [EncodingTable],
+}
+
+impl Registry {
+    /// A registry of which nothing was read yet. It takes no memory.
+    pub fn new(alloc: Global) -> Registry
+        ensures indexes { HoldsTexts no_text result.indexes }
+        ensures katakana { result.indexes.katakana.items ≡ [] }
+        ensures single_bytes { result.single_bytes.items ≡ [] }
+    {
+        Registry {
+            indexes: OwnedIndexes::new(alloc),
+            single_bytes: Vec::new(alloc),
+        }
+    }
+
+    /// Reads the index file of a single-byte encoding. The other indexes stay as they are, and after an
+    /// error the tables too.
+    pub fn read_single_byte(
+        &mut self,
+        alloc: Global,
+        encoding: Encoding,
+        text: &[u8],
+    ) -> Result<(), RegistryError>
+        ensures table { MatchResult result
+            (λ _. IsReadTable encoding text.now self.old.single_bytes.items self.new.single_bytes.items)
+            (λ error. IsSingleByteFault text.now error) }
+        ensures indexes { self.new.indexes ≡ self.old.indexes }
+        ensures unchanged { OnErr result
+            (self.new.single_bytes.items ≡ self.old.single_bytes.items) }
+    {
+        let mut owned = OwnedIndexes::new(alloc);
+        owned.read(alloc, FileIndex::SingleByte, text)?;
+        let table = owned.single_byte_table()?;
+        match self
+            .single_bytes
+            .insert(0, EncodingTable { encoding, table })
+        {
+            Ok(()) => Ok(()),
+            Err(_) => Err(RegistryError::Sized(SizedError::Memory)),
+        }
+    }
+
+    /// The coders over what was read; or the first fault of the indexes.
+    pub fn coders(&self) -> Result<Coders<'_>, TableError>
+        ensures { MatchResult result
+            (λ coders. (coders.tables.flat ≡ owned_lists self.now.indexes)
+            × (coders.single_bytes.now ≡ self.now.single_bytes.items))
+            (λ fault. table_fault (owned_lists self.now.indexes) ≡ Some fault) }
+    {
+        match self.indexes.tables() {
+            Ok(tables) => Ok(Coders {
+                tables,
+                single_bytes: &self.single_bytes,
+            }),
+            Err(fault) => Err(fault),
+        }
+    }
+}
+
+/// The length in bytes from which on a text is encoded with the pairs of its encoding listed ahead.
+const LONG_TEXT: usize = 1024;
+
+/// Encodes a whole text as `encode_whole` does; a long one with the pairs listed ahead, in memory of their own.
+fn encode_with_list(
+    alloc: Global,
+    encoder: &mut AnyEncoder,
+    text: &str,
+) -> Result<Vec<u8>, AllocError>
+    ensures { IfOk result (λ bytes. bytes.items ≡ referenced_bytes
+        (encoded (⟦<AnyEncoder<'static> as RawEncoder>⟧.state encoder.old) (chars text.now) true)) }
+{
+    if text.len() >= LONG_TEXT && has_pairs(encoder) {
+        let mut room = pair_room(alloc)?;
+        if let Some(mut listed) = ListedEncoder::new(encoder, room.as_mut_slice()) {
+            return encode_whole(alloc, &mut listed, text);
+        }
+    }
+    encode_whole(alloc, encoder, text)
+}
+
+/// Encodes a text by an encoder that has just been made, or in UTF-8 if there is none.
+#[tactic(auto, unfolding(crate::specs::Registries::bytes_by))]
+fn encode_by(alloc: Global, encoder: Option<AnyEncoder>, text: &str) -> Result<Vec<u8>, AllocError>
+    ensures { IfOk result (λ bytes. bytes.items ≡ bytes_by
+        (option_map (λ e. ⟦<AnyEncoder<'static> as RawEncoder>⟧.state e) encoder.entry) text.now) }
+{
+    match encoder {
+        Some(mut encoder) => encode_with_list(alloc, &mut encoder, text),
+        None => Vec::from_slice(alloc, text.as_bytes()),
+    }
+}
+
+/// The first of the tables whose encoding has the name.
+fn first_of<'a>(tables: &'a [EncodingTable], name: &str) -> Option<&'a EncodingTable>
+    ensures { option_copied result
+        ≡ find (λ t. bytes_eq (encoding_name t.encoding) name.now) tables.now }
+{
+    tables.iter().find(|entry| entry.encoding.name() == name)
+}
+
+/// The encoding of the name.
+fn encoding_of(name: &str) -> Result<Encoding, RegistryError>
+    ensures { MatchResult result
+        (λ encoding. encoding_name encoding ≡ name.now)
+        (λ error. (error ≡ RegistryError.Unknown) × HasNoName name.now) }
+{
+    Encoding::by_name(name).ok_or(RegistryError::Unknown)
+}
+
+impl Coders<'_> {
+    /// The table of a single-byte encoding, where its index file was read.
+    fn single_byte(&self, encoding: Encoding) -> Option<&SingleByteTable>
+        ensures { option_map (λ table. table.now.entries) result
+            ≡ entries_of self.now.single_bytes.now encoding }
+    {
+        match first_of(self.single_bytes, encoding.name()) {
+            Some(entry) => Some(&entry.table),
+            None => None,
+        }
+    }
+
+    /// A new decoder of the encoding of the name. It borrows the coders, and takes no memory.
+    pub fn decoder(&self, name: &str) -> Result<AnyDecoder<'_>, RegistryError>
+        ensures { MatchResult result
+            (λ decoder. IsDecoderOf self.now.tables.flat self.now.single_bytes.now name.now
+            (⟦<AnyDecoder<'static> as RawDecoder>⟧.state decoder))
+            (λ error. IsNameError self.now.single_bytes.now name.now error) }
+    {
+        let encoding = encoding_of(name)?;
+        let table = self.single_byte(encoding);
+        match AnyDecoder::new(encoding.codec(), &self.tables, table) {
+            Some(decoder) => Ok(decoder),
+            None => Err(RegistryError::NoIndex),
+        }
+    }
+
+    /// A new encoder of the encoding of the name; none where that is replacement or UTF-16, whose output
+    /// encoding is UTF-8 (Encoding Standard, "get an output encoding"). It borrows the coders, and takes
+    /// no memory.
+    pub fn encoder(&self, name: &str) -> Result<Option<AnyEncoder<'_>>, RegistryError>
+        ensures { MatchResult result
+            (λ encoder. IsEncoderOf self.now.tables.flat self.now.single_bytes.now name.now
+            (option_map (λ e. ⟦<AnyEncoder<'static> as RawEncoder>⟧.state e) encoder))
+            (λ error. IsNameError self.now.single_bytes.now name.now error) }
+    {
+        let encoding = encoding_of(name)?;
+        let codec = encoding.codec();
+        let table = self.single_byte(encoding);
+        if codec == CodecName::SingleByte && table.is_none() {
+            return Err(RegistryError::NoIndex);
+        }
+        Ok(AnyEncoder::new(codec, &self.tables, table))
+    }
+
+    /// Decodes an input that is whole in memory by the encoding of the name, with U+FFFD for each
+    /// malformed sequence.
+    pub fn decode(&self, alloc: Global, name: &str, input: &[u8]) -> Result<String, RegistryError>
+        ensures { MatchResult result
+            (λ text. IsText self.now.tables.flat self.now.single_bytes.now name.now input.now
+            (chars (string_bytes text)))
+            (λ error. IsDecodeError self.now.tables.flat self.now.single_bytes.now name.now input.now
+            error) }
+    {
+        let mut decoder = self.decoder(name)?;
+        Ok(decode_whole(alloc, &mut decoder, input)?)
+    }
+
+    /// Encodes a text by the encoding of the name, with a numeric character reference for each character
+    /// that the encoding lacks.
+    pub fn encode(&self, alloc: Global, name: &str, text: &str) -> Result<Vec<u8>, RegistryError>
+        ensures { MatchResult result
+            (λ bytes. AreBytes self.now.tables.flat self.now.single_bytes.now name.now text.now
+            bytes.items)
+            (λ error. IsEncodeError self.now.tables.flat self.now.single_bytes.now name.now error) }
+    {
+        let encoder = self.encoder(name)?;
+        match encode_by(alloc, encoder, text) {
+            Ok(bytes) => Ok(bytes),
+            Err(_) => Err(RegistryError::Sized(SizedError::Memory)),
+        }
+    }
+}

@@ -1,0 +1,54 @@
+use Rattle.std.proofs.Common.{◌≡◌, ◌∙◌, ◌+◌, ◌-◌, ◌++◌, [], length, take, drop, arith, sym, ap, refl}
+use Rattle.std.proofs.lemmas.List.{length-take-le}
+use Rattle.legacy_streams.proofs.EncodingUnderWay.{input_start, input_step, input_partly, input_end, input_end_partly, read_nothing}
+use Rattle.legacy_streams.proofs.encode.encode_text.Goals as goal
+
+pub pieces-init : goal.pieces-init
+pieces-init g c = record { so_far = input_start _ _ _; short = omega arith; long = refl; small = omega arith }
+
+pub returns-in-Ok-clause-ok : goal.returns-in-Ok-clause-ok
+returns-in-Ok-clause-ok g c =
+    let i = c.pieces.invariant in
+    let long = i.long in
+    let short = i.short in
+    let bytes = c.in-Some.ensures.bytes in
+    let len : length (take c.pieces.held c.pieces.buffer) ≡ c.pieces.held = length-take-le c.pieces.held c.pieces.buffer (omega arith) in
+    let none : bytes.0 ≡ [] = read_nothing c.pieces.held c.in-Some.count c.pieces.buffer c.read_after.new.buffer bytes.0 (omega arith) c.if-count-eq0.true bytes.2 in
+    let read = rw none at bytes.1 in
+    input_end i.so_far _ read (bytes.3 c.if-count-eq0.true) _ _ (rw (← len) at c.in-Ok.ensures.text)
+
+pub returns-in-Err-clause-write : goal.returns-in-Err-clause-write
+returns-in-Err-clause-write g c e =
+    let i = c.pieces.invariant in
+    let long = i.long in
+    let short = i.short in
+    let bytes = c.in-Some.ensures.bytes in
+    let len : length (take c.pieces.held c.pieces.buffer) ≡ c.pieces.held = length-take-le c.pieces.held c.pieces.buffer (omega arith) in
+    let none : bytes.0 ≡ [] = read_nothing c.pieces.held c.in-Some.count c.pieces.buffer c.read_after.new.buffer bytes.0 (omega arith) c.if-count-eq0.true bytes.2 in
+    let read = rw none at bytes.1 in
+    input_end_partly i.so_far _ read (bytes.3 c.if-count-eq0.true) _ _ (rw (← len) at c.in-Err.ensures.err)
+
+pub returns-in_default-write_piece-clause-write : goal.returns-in_default-write_piece-clause-write
+returns-in_default-write_piece-clause-write g c e =
+    let i = c.pieces.invariant in
+    let bytes = c.in-Some.ensures.bytes in
+    input_partly i.so_far bytes.0 bytes.1 (rw bytes.2 at c.in_default-write_piece.ensures.err)
+
+pub pieces-preserved : goal.pieces-preserved
+pieces-preserved g c =
+    let i = c.pieces.invariant in
+    let long = i.long in
+    let bytes = c.in-Some.ensures.bytes in
+    let count = c.in-Some.ensures.count in
+    let piece = rw bytes.2 at c.in-Ok-write_piece.ensures.piece in
+    let all = take c.pieces.held c.pieces.buffer ++ bytes.0 in
+    let filled = c.pieces.held + c.in-Some.count in
+    let left = c.in-Ok-write_piece.left in
+    let len : length all ≡ filled = ap length (sym bytes.2) ∙ length-take-le filled c.read_after.new.buffer count.0 in
+    let kept = c.keep_end.ensures ∙ ap (drop (filled - left)) bytes.2 ∙ ap (λ n. drop (n - left) all) (sym len) in
+    record {
+      so_far = input_step i.so_far bytes.0 bytes.1 (take left c.keep_end.new.buffer) piece kept;
+      short = piece.short;
+      long = omega (arith, c.keep_end.auto.buffer, c.read_after.auto.buffer, long);
+      small = count.1;
+    }

@@ -1,0 +1,17 @@
+use Rattle.std.proofs.Common.{◌∙◌, not, is_some, sym, ap}
+use Rattle.std.proofs.lemmas.Str.{utf8_valid_len-IsValidUpTo}
+use Rattle.legacy_streams.proofs.EncodingUnderWay.{no_text, told_of_all, flipped, short_of}
+use Rattle.legacy_streams.proofs.encode.is_cut.Goals as goal
+
+pub returns-in-Ok-clause-none : goal.returns-in-Ok-clause-none
+returns-in-Ok-clause-none c = absurd (no_text c.args.invalid.now c.requires c.in-Ok.ensures.cases.1)
+
+pub returns-in-Err-clause-none : goal.returns-in-Err-clause-none
+returns-in-Err-clause-none c =
+    let told = told_of_all c.args.invalid.now _ c.error_len.result c.requires c.in-Err.ensures.valid_len (c.error_len.ensures ∙ c.in-Err.ensures.fault) in
+    flipped _ _ c.is_none.ensures ∙ ap (λ o. not (is_some o)) told
+
+pub returns-in-Err-clause-short : goal.returns-in-Err-clause-short
+returns-in-Err-clause-short c t =
+    let none = ap is_some (sym c.error_len.ensures) ∙ c.is_none.ensures ∙ ap not t in
+    short_of _ c.args.invalid.now _ c.in-Err.ensures.error_len none (c.in-Err.ensures.valid_len ∙ utf8_valid_len-IsValidUpTo c.args.invalid.now 0 c.requires)

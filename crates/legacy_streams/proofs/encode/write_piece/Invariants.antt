@@ -1,0 +1,10 @@
+use Rattle.std.proofs.Common.{◌-◌, length}
+use Rattle.legacy_streams.proofs.EncodingUnderWay.{PieceUnderWay}
+use Rattle.legacy_streams.proofs.encode.write_piece.Given as goal
+
+abbrev pub invariant-chunks : goal.invariant-chunks
+invariant-chunks g l = PieceUnderWay (g.E.RawEncoder.state l.fn.encoder) l.piece (g.E.RawEncoder.state l.encoder) l.passed
+    (g.W.Write.contents l.fn.output) (g.W.Write.contents l.output)
+
+abbrev pub decreases-chunks : goal.decreases-chunks
+decreases-chunks g l = length l.piece - l.passed

@@ -1,0 +1,99 @@
+-- What the engine that encodes writes.
+use Rattle.std.specs.Prelude.{◌≡◌, ℕ, zero, suc, ◌-◌, ◌<◌, ◌≤◌, List, [], ◌∷◌, ◌++◌, length, drop, Bool, true, false, IsTrue, Option}
+use Rattle.std.specs.Io.KnownBytes.{Appends, Consumes, IsAtEnd}
+use Rattle.legacy_base.specs.declared.results.EncodeEvent.{EncodeEvent}
+use Rattle.legacy_base.specs.Encoders.{EncoderState, encoded, end_bytes}
+use Rattle.legacy_codecs.specs.References.{referenced_bytes}
+use Rattle.legacy_streams.specs.Utf8Texts.{utf8_text}
+
+-- The events of the text and whatever follows, ended or not, are `events`, and then those of what is left. After the last
+-- text nothing follows.
+pub record GoesOn (last : Bool) (before : EncoderState) (text : List ℕ) (events : List EncodeEvent) (after : EncoderState) (left : List ℕ) : Type 0 where
+  pub gives : (more : List ℕ) (ended : Bool) → (IsTrue last → (more ≡ []) × IsTrue ended) →
+      encoded before (text ++ more) ended ≡ events ++ encoded after (left ++ more) ended
+
+-- ---- a text
+
+-- The whole text was encoded, and its bytes and references were written; after the last text the encoder's end too.
+pub record EncodesText (before : EncoderState) (text : List ℕ) (last : Bool) (after : EncoderState) (old new : Option (List ℕ)) : Type 0 where
+  pub events : List EncodeEvent
+  pub goes_on : GoesOn last before text events after []
+  pub written : Appends old new (referenced_bytes events)
+  pub ended : IsTrue last → end_bytes after ≡ []
+
+-- Some of the text was encoded, and of its bytes and references a front was written, which may end inside a sequence.
+pub record EncodesFront (before : EncoderState) (text : List ℕ) (last : Bool) (after : EncoderState) (old new : Option (List ℕ)) : Type 0 where
+  pub events : List EncodeEvent
+  pub left : List ℕ
+  pub goes_on : GoesOn last before text events after left
+  pub sent : List ℕ
+  pub unsent : List ℕ
+  pub bytes : referenced_bytes events ≡ sent ++ unsent
+  pub written : Appends old new sent
+
+-- ---- one piece of the input
+
+-- the text of so many bytes that the end of the input cuts
+abbrev pub end_scalars : ℕ → List ℕ
+end_scalars zero = []
+end_scalars (suc n) = 0xFFFD ∷ []
+
+-- The text of a piece is these scalars, and then that of what is left of it and whatever bytes follow.
+pub record DecodesTo (piece scalars left : List ℕ) : Type 0 where
+  pub text : (more : List ℕ) → utf8_text (piece ++ more) ≡ scalars ++ utf8_text (left ++ more)
+
+-- The piece was encoded but for so many bytes at its end, which are a beginning of one character, and its bytes and
+-- references were written.
+pub record EncodesPiece (before : EncoderState) (piece : List ℕ) (held : ℕ) (after : EncoderState) (old new : Option (List ℕ)) : Type 0 where
+  pub within : held ≤ length piece
+  pub short : held < 4
+  pub scalars : List ℕ
+  pub decodes : DecodesTo piece scalars (drop (length piece - held) piece)
+  pub cut : utf8_text (drop (length piece - held) piece) ≡ end_scalars held
+  pub events : List EncodeEvent
+  pub goes_on : GoesOn false before scalars events after []
+  pub written : Appends old new (referenced_bytes events)
+
+-- Some of the piece was encoded, and of its bytes and references a front was written, which may end inside a sequence.
+pub record EncodesPieceFront (before : EncoderState) (piece : List ℕ) (after : EncoderState) (old new : Option (List ℕ)) : Type 0 where
+  pub scalars : List ℕ
+  pub rest : List ℕ
+  pub decodes : DecodesTo piece scalars rest
+  pub front : EncodesFront before scalars false after old new
+
+-- ---- the whole input
+
+-- The input was read to its end, and the bytes and references of all events of its text were written. The encoder has
+-- nothing left to write.
+pub record EncodesAll (before after : EncoderState) (input_old input_new output_old output_new : Option (List ℕ)) : Type 0 where
+  pub bytes : List ℕ
+  pub read : Consumes input_old input_new bytes
+  pub at_end : IsAtEnd input_new
+  pub written : Appends output_old output_new (referenced_bytes (encoded before (utf8_text bytes) true))
+  pub ended : end_bytes after ≡ []
+
+-- Some bytes of the input were read. All of them but up to three at their end were encoded, and their bytes and references
+-- were written: the events are a beginning of all events, whatever else the input contains, and the encoder stands after
+-- them.
+pub record EncodesBeginning (before after : EncoderState) (input_old input_new output_old output_new : Option (List ℕ)) : Type 0 where
+  pub bytes : List ℕ
+  pub read : Consumes input_old input_new bytes
+  pub held : List ℕ
+  pub short : length held < 4
+  pub scalars : List ℕ
+  pub decodes : DecodesTo bytes scalars held
+  pub events : List EncodeEvent
+  pub goes_on : GoesOn false before scalars events after []
+  pub written : Appends output_old output_new (referenced_bytes events)
+
+-- Some bytes of the input were read, and a part of their text was encoded. The events of that part are a beginning of all
+-- events, whatever else the input contains if it was not read to its end. Of their bytes and references a front was
+-- written, which may end inside a sequence.
+pub record EncodesPartly (before after : EncoderState) (input_old input_new output_old output_new : Option (List ℕ)) : Type 0 where
+  pub bytes : List ℕ
+  pub read : Consumes input_old input_new bytes
+  pub last : Bool
+  pub at_end : IsTrue last → IsAtEnd input_new
+  pub text : List ℕ
+  pub is_text : (more : List ℕ) → (IsTrue last → more ≡ []) → (later : List ℕ) × (utf8_text (bytes ++ more) ≡ text ++ later) × (IsTrue last → later ≡ [])
+  pub front : EncodesFront before text last after output_old output_new

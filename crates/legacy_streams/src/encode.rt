@@ -1,0 +1,208 @@
+//! The engine of the program that encodes: UTF-8 in, an encoding's bytes out.
+ghost use Rattle.std.specs.Prelude.{◌≡◌, ◌≢◌, not, is_some, ℕ, List, ◌+◌, ◌-◌, ◌^◌, ◌<◌, ◌≤◌, ◌⊎◌, ◌++◌, length, take, drop, false, true, IsTrue, None, Err, IfOk, IfSome, IfNone, OnOk, OnErr};
+ghost use Rattle.std.specs.Str.{chars, IsValidUpTo};
+ghost use Rattle.std.specs.Str.Lossy.{utf8_error_len};
+ghost use Rattle.std.specs.Io.KnownBytes.{Consumes, IsAtEnd, Keeps};
+ghost use Rattle.legacy_streams.specs.Encoding.{EncodesText, EncodesFront, EncodesPiece, EncodesPieceFront};
+ghost use Rattle.legacy_streams.specs.Encoding.{EncodesAll, EncodesBeginning, EncodesPartly, end_scalars};
+
+use crate::pieces::{PIECE, read_piece, rest_of, write_whole};
+use crate::recode::RecodeError;
+use legacy_codecs::{CoderResult, RawEncoder, encode_replacing_utf8};
+use std::io::{self, Read, Write};
+
+/// The most bytes of the encoding that are made before they are written.
+const BYTES: usize = 2 * PIECE;
+
+/// The text that stands for a malformed sequence.
+const REPLACEMENT: &str = "\u{FFFD}";
+
+/// Encodes a text and writes its bytes. If `last` is set no text follows, and the encoder's end is written too. An error
+/// is the writer's. What `bytes` contains is lost.
+fn write_text<E: RawEncoder, W: Write>(
+    encoder: &mut E,
+    text: &str,
+    last: bool,
+    bytes: &mut [u8],
+    output: &mut W,
+) -> io::Result<()>
+    requires { 14 ≤ length bytes.old }
+    ensures text { OnOk result (EncodesText
+        (E.state encoder.old) (chars text.now) last (E.state encoder.new)
+        (W.contents output.old) (W.contents output.new)) }
+    ensures err { OnErr result (EncodesFront
+        (E.state encoder.old) (chars text.now) last (E.state encoder.new)
+        (W.contents output.old) (W.contents output.new)) }
+{
+    let mut rest = text;
+    'calls: loop {
+        let (answer, read, written, _) = encode_replacing_utf8(encoder, rest, bytes, last);
+        write_whole(output, &bytes[..written])?;
+        match answer {
+            CoderResult::InputEmpty => return Ok(()),
+            CoderResult::OutputFull => rest = &rest[read..],
+        }
+    }
+}
+
+/// Checks whether bytes with which no character begins are only cut: more bytes may make a character of them.
+fn is_cut(invalid: &[u8]) -> bool
+    requires { IsValidUpTo invalid.now 0 }
+    ensures none { result ≡ not (is_some (utf8_error_len invalid.now)) }
+    ensures short { IsTrue result → length invalid.now < 4 }
+{
+    match str::from_utf8(invalid) {
+        Ok(_) => false,
+        Err(error) => error.error_len().is_none(),
+    }
+}
+
+/// Checks whether the bytes after the text of a chunk are held back: they are the last of the piece, and only cut.
+fn is_held(invalid: &[u8], at_end: bool) -> bool
+    requires { IsTrue at_end → IsValidUpTo invalid.now 0 }
+    ensures held { IsTrue result → IsTrue at_end × (utf8_error_len invalid.now ≡ None) × (length invalid.now < 4) }
+    ensures fault { result ≡ false → (at_end ≡ false) ⊎ (utf8_error_len invalid.now ≢ None) }
+{
+    at_end && is_cut(invalid)
+}
+
+/// Encodes the text of a piece and writes its bytes. Returns the number of bytes at the end of the piece that the end cuts:
+/// they may begin a character, and are not encoded. An error is the writer's. What `bytes` contains is lost.
+fn write_piece<E: RawEncoder, W: Write>(
+    encoder: &mut E,
+    piece: &[u8],
+    bytes: &mut [u8],
+    output: &mut W,
+) -> io::Result<usize>
+    requires { 14 ≤ length bytes.old }
+    ensures piece { IfOk result (λ held. EncodesPiece
+        (E.state encoder.old) piece.now held (E.state encoder.new)
+        (W.contents output.old) (W.contents output.new)) }
+    ensures err { OnErr result (EncodesPieceFront
+        (E.state encoder.old) piece.now (E.state encoder.new)
+        (W.contents output.old) (W.contents output.new)) }
+{
+    let mut passed: usize = 0;
+    'chunks: loop {
+        let rest = rest_of(piece, passed);
+        let Some(chunk) = rest.utf8_chunks().next() else {
+            return Ok(0);
+        };
+        write_text(encoder, chunk.valid(), false, bytes, output)?;
+        passed += chunk.valid().len();
+        let invalid = chunk.invalid();
+        if invalid.is_empty() {
+            return Ok(0);
+        }
+        let end = passed + invalid.len();
+        if is_held(invalid, end == piece.len()) {
+            return Ok(invalid.len());
+        }
+        write_text(encoder, REPLACEMENT, false, bytes, output)?;
+        passed = end;
+    }
+}
+
+/// Reads a piece into the buffer after the bytes that it holds, of no more bytes than can be counted after `total` ones.
+/// Returns the number of bytes read, which is 0 at the end of the input, or `None` if a read fails or no more bytes can be
+/// counted.
+fn read_after<R: Read>(input: &mut R, buffer: &mut [u8], held: usize, total: usize) -> Option<usize>
+    requires { held < length buffer.old }
+    ensures count { IfSome result (λ n. (held + n ≤ length buffer.new) × (total + n < 2 ^ 64)) }
+    ensures bytes { IfSome result (λ n. (piece : List ℕ)
+        × Consumes (R.remaining input.old) (R.remaining input.new) piece
+        × (take (held + n) buffer.new ≡ take held buffer.old ++ piece)
+        × (n ≡ 0 → IsAtEnd (R.remaining input.new))) }
+    ensures kept { IfNone result (Keeps (R.remaining input.old) (R.remaining input.new)) }
+{
+    read_piece(input, &mut buffer[held..], total)
+}
+
+/// The text that is left at the end of the input, where so many bytes are held back: U+FFFD if there are any.
+#[tactic(auto, using(crate::proofs::EncodingUnderWay::end_of_none, crate::proofs::EncodingUnderWay::end_of_some))]
+fn end_text(held: usize) -> &'static str
+    ensures { chars result.now ≡ end_scalars held }
+{
+    if held == 0 {
+        return "";
+    }
+    REPLACEMENT
+}
+
+/// Writes what the end of the input leaves: U+FFFD if it cuts a character, and the encoder's end. An error is the writer's.
+fn write_end<E: RawEncoder, W: Write>(
+    encoder: &mut E,
+    held: usize,
+    bytes: &mut [u8],
+    output: &mut W,
+) -> io::Result<()>
+    requires { 14 ≤ length bytes.old }
+    ensures text { OnOk result (EncodesText
+        (E.state encoder.old) (end_scalars held) true (E.state encoder.new)
+        (W.contents output.old) (W.contents output.new)) }
+    ensures err { OnErr result (EncodesFront
+        (E.state encoder.old) (end_scalars held) true (E.state encoder.new)
+        (W.contents output.old) (W.contents output.new)) }
+{
+    write_text(encoder, end_text(held), true, bytes, output)
+}
+
+/// Moves the last `left` of the first `filled` bytes to the front of the buffer.
+fn keep_end(buffer: &mut [u8], filled: usize, left: usize)
+    requires left { left ≤ filled }
+    requires filled { filled ≤ length buffer.old }
+    ensures { take left buffer.new ≡ drop (filled - left) (take filled buffer.old) }
+{
+    buffer.copy_within(filled - left..filled, 0);
+}
+
+/// Reads a text in UTF-8 to its end, and writes its bytes in the encoding, with a decimal numeric character reference for
+/// each scalar that the encoding lacks, and up to the encoder's end. Each malformed sequence of the input is U+FFFD, by the
+/// Standard's UTF-8 decoder, however the input is cut.
+///
+/// The input is read in pieces of up to 4096 bytes, and what a piece gives is written before the next one is read, but for
+/// up to three bytes that it cuts. An empty read is the end. What was written before an error stands, and after a failed
+/// write it may end inside a sequence of the encoding. The encoder stands after the scalars that were encoded.
+pub fn encode_text<E: RawEncoder, R: Read, W: Write>(
+    encoder: &mut E,
+    input: &mut R,
+    output: &mut W,
+) -> Result<(), RecodeError>
+    // All was read, and the bytes and references of all events of its text were written.
+    ensures ok { OnOk result (EncodesAll (E.state encoder.old) (E.state encoder.new)
+        (R.remaining input.old) (R.remaining input.new)
+        (W.contents output.old) (W.contents output.new)) }
+    // Those of a beginning of the events were written.
+    ensures read { result ≡ Err RecodeError.Read → EncodesBeginning
+        (E.state encoder.old) (E.state encoder.new)
+        (R.remaining input.old) (R.remaining input.new)
+        (W.contents output.old) (W.contents output.new) }
+    // Those of a beginning of the events were written, and then perhaps a part of those of the next ones.
+    ensures write { result ≡ Err RecodeError.Write → EncodesPartly
+        (E.state encoder.old) (E.state encoder.new)
+        (R.remaining input.old) (R.remaining input.new)
+        (W.contents output.old) (W.contents output.new) }
+{
+    let mut buffer = [0u8; PIECE];
+    let mut bytes = [0u8; BYTES];
+    let mut held: usize = 0;
+    let mut total: usize = 0;
+    'pieces: loop {
+        let Some(count) = read_after(input, &mut buffer, held, total) else {
+            return Err(RecodeError::Read);
+        };
+        if count == 0 {
+            return match write_end(encoder, held, &mut bytes, output) {
+                Ok(()) => Ok(()),
+                Err(_) => Err(RecodeError::Write),
+            };
+        }
+        let filled = held + count;
+        let Ok(left) = write_piece(encoder, &buffer[..filled], &mut bytes, output) else {
+            return Err(RecodeError::Write);
+        };
+        keep_end(&mut buffer, filled, left);
+        held = left;
+        total += count;
+    }
+}

@@ -1,0 +1,21 @@
+//! A checker that says whether an input is well formed.
+ghost use Rattle.std.specs.Prelude.{IfOk};
+ghost use Rattle.legacy_uses.specs.Mail.{IsChecked};
+
+use crate::mail::faults_of_message;
+use legacy_encodings::{Coders, RegistryError};
+use std::alloc::Global;
+
+/// Checks whether an input is well formed in the encoding of the name: it has no malformed sequence.
+pub fn is_well_formed(
+    alloc: Global,
+    coders: &Coders,
+    name: &str,
+    input: &[u8],
+) -> Result<bool, RegistryError>
+    ensures { IfOk result (λ is_so. IsChecked
+        coders.now.tables.flat coders.now.single_bytes.now name.now input.now is_so) }
+{
+    let found = faults_of_message(alloc, coders, name, input)?;
+    Ok(found.is_empty())
+}

@@ -1,0 +1,54 @@
+//! The code pages of an old program: index files, and what is decoded by them.
+ghost use Rattle.std.specs.Prelude.{◌≢◌, string_bytes, Err, IfOk, MatchResult};
+ghost use Rattle.std.specs.Str.{chars};
+ghost use Rattle.legacy_uses.specs.IndexData.{IsTextByFile, IsFaultByFile, IsTextBySingleByteFile};
+
+use legacy_codecs::{EucKrDecoder, decode_whole};
+use legacy_encodings::{Registry, RegistryError};
+use legacy_index_files::{Encoding, FileIndex, OwnedIndexes};
+use std::alloc::Global;
+
+/// Decodes an input in EUC-KR by what the text of its index file says.
+pub fn decode_by_file(alloc: Global, file: &[u8], input: &[u8]) -> Result<String, RegistryError>
+    ensures { MatchResult result
+        (λ text. IsTextByFile file.now input.now (chars (string_bytes text)))
+        (λ error. IsFaultByFile file.now input.now error) }
+{
+    let mut owned = OwnedIndexes::new(alloc);
+    owned.read(alloc, FileIndex::EucKr, file)?;
+    let tables = owned.tables()?;
+    let mut decoder = EucKrDecoder::new(&tables);
+    Ok(decode_whole(alloc, &mut decoder, input)?)
+}
+
+/// The index files of two encodings.
+#[derive(Drop)]
+pub struct TwoFiles<'a> {
+    pub euc_kr: &'a [u8],
+    pub windows_1252: &'a [u8],
+}
+
+/// Decodes an input in EUC-KR, and one in windows-1252, by a registry that read the index files of both.
+pub fn decode_two(
+    alloc: Global,
+    files: &TwoFiles,
+    korean: &[u8],
+    western: &[u8],
+) -> Result<(String, String), RegistryError>
+    ensures korean { IfOk result (λ texts.
+        IsTextByFile files.now.euc_kr.now korean.now (chars (string_bytes texts.0))) }
+    ensures western { IfOk result (λ texts.
+        IsTextBySingleByteFile files.now.windows_1252.now western.now (chars (string_bytes texts.1))) }
+    ensures known { result ≢ Err RegistryError.Unknown }
+    ensures read { result ≢ Err RegistryError.NoIndex }
+{
+    let mut registry = Registry::new(alloc);
+    registry
+        .indexes
+        .read(alloc, FileIndex::EucKr, files.euc_kr)?;
+    registry.read_single_byte(alloc, Encoding::Windows1252, files.windows_1252)?;
+    let coders = registry.coders()?;
+    let korean_text = coders.decode(alloc, "EUC-KR", korean)?;
+    let western_text = coders.decode(alloc, "windows-1252", western)?;
+    Ok((korean_text, western_text))
+}

@@ -1,0 +1,21 @@
+//! A mail reader that reports what is malformed in a message.
+ghost use Rattle.std.specs.Prelude.{◌≡◌, IfOk};
+ghost use Rattle.legacy_uses.specs.Mail.{AreMalformedIn};
+
+use legacy_codecs::{MalformedSequence, malformed_sequences};
+use legacy_encodings::{Coders, RegistryError};
+use std::alloc::Global;
+
+/// Finds every malformed sequence of a message in the encoding of the name, with its place.
+pub fn faults_of_message(
+    alloc: Global,
+    coders: &Coders,
+    name: &str,
+    message: &[u8],
+) -> Result<Vec<MalformedSequence>, RegistryError>
+    ensures { IfOk result (λ found. AreMalformedIn
+        coders.now.tables.flat coders.now.single_bytes.now name.now message.now found.items) }
+{
+    let mut decoder = coders.decoder(name)?;
+    Ok(malformed_sequences(alloc, &mut decoder, message)?)
+}

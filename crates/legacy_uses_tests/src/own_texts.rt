@@ -1,0 +1,119 @@
+//! A source and a destination that a user wrote, by EUC-KR with U+AC02 at pointer 0, and by UTF-16.
+use crate::callers::tables_of;
+use legacy_codecs::{
+    DecoderResult, EncoderResult, EucKrDecoder, EucKrEncoder, RawDecoder, Utf16Decoder,
+};
+use legacy_uses::beginning::encode_beginning;
+use legacy_uses::character_list::decode_to_characters;
+use std::process::Abort;
+
+/// Encodes at most so many characters of a text as a last call, into so many bytes, and compares the answer, what was
+/// read and what was written.
+fn beginning_is(
+    rt: &impl Abort,
+    (text, most, free): (&str, usize, usize),
+    wanted: (EncoderResult, usize),
+    bytes: &[u8],
+) {
+    let tables = tables_of(rt);
+    let mut encoder = EucKrEncoder::new(&tables);
+    let mut output = [0xAA; 8];
+    let (answer, read, written) = encode_beginning(
+        &mut encoder,
+        text,
+        most,
+        &mut output[..free.min(8)],
+        true,
+    );
+    assert!(rt; (answer, read) == wanted);
+    assert!(rt; &output[..written.min(8)] == bytes);
+}
+
+#[test]
+fn the_beginning_of_a_text_is_encoded(rt: HostRuntime) {
+    let text = "a\u{AC02}b\u{AC03}";
+    let rt = &rt;
+    beginning_is(rt, (text, 0, 8), (EncoderResult::InputEmpty, 0), b"");
+    beginning_is(rt, (text, 1, 8), (EncoderResult::InputEmpty, 1), b"a");
+    beginning_is(
+        rt,
+        (text, 2, 8),
+        (EncoderResult::InputEmpty, 4),
+        b"a\x81\x41",
+    );
+    beginning_is(
+        rt,
+        (text, 3, 8),
+        (EncoderResult::InputEmpty, 5),
+        b"a\x81\x41b",
+    );
+    let unmappable = EncoderResult::Unmappable('\u{AC03}');
+    beginning_is(rt, (text, 4, 8), (unmappable, 8), b"a\x81\x41b");
+    beginning_is(rt, (text, 9, 8), (unmappable, 8), b"a\x81\x41b");
+    beginning_is(rt, (text, 2, 2), (EncoderResult::OutputFull, 1), b"a");
+}
+
+/// Decodes bytes as a last call into a list with so many places, and compares the answer, what was read and the
+/// characters.
+fn list_is<D: RawDecoder>(
+    rt: &impl Abort,
+    decoder: &mut D,
+    (bytes, free): (&[u8], usize),
+    wanted: (DecoderResult, usize),
+    characters: &[char],
+) {
+    let mut output = ['\u{AAAA}'; 8];
+    let (answer, read, written) = decode_to_characters(
+        decoder,
+        bytes,
+        &mut output[..free.min(8)],
+        true,
+    );
+    assert!(rt; (answer, read) == wanted);
+    assert!(rt; &output[..written.min(8)] == characters);
+}
+
+#[test]
+fn bytes_are_decoded_to_a_list_of_characters(rt: HostRuntime) {
+    let tables = tables_of(&rt);
+    let bytes = b"a\x81\x41\xFFb".as_slice();
+    let malformed = DecoderResult::Malformed(1, 0);
+    let mut decoder = EucKrDecoder::new(&tables);
+    list_is(
+        &rt,
+        &mut decoder,
+        (bytes, 8),
+        (malformed, 4),
+        &['a', '\u{AC02}'],
+    );
+    let rest = (&bytes[4..], 8);
+    list_is(
+        &rt,
+        &mut decoder,
+        rest,
+        (DecoderResult::InputEmpty, 1),
+        &['b'],
+    );
+}
+
+#[test]
+fn a_surrogate_pair_is_one_character_and_two_units(rt: HostRuntime) {
+    let bytes = b"\xD8\x3D\xDC\xA9\x00\x41".as_slice();
+    let text = ['\u{1F4A9}', 'A'];
+    let mut decoder = Utf16Decoder::new(true);
+    list_is(
+        &rt,
+        &mut decoder,
+        (bytes, 4),
+        (DecoderResult::InputEmpty, 6),
+        &text,
+    );
+    let pair = (&bytes[..4], 2);
+    list_is(
+        &rt,
+        &mut decoder,
+        pair,
+        (DecoderResult::InputEmpty, 4),
+        &text[..1],
+    );
+}

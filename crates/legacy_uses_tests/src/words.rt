@@ -1,0 +1,16 @@
+//! The words of a line.
+use std::alloc::Global;
+
+/// The words of a line, of none where it is empty.
+pub(crate) fn words_in(alloc: Global, line: &str) -> Option<Vec<&str>> {
+    let mut words = Vec::new(alloc);
+    if line.is_empty() {
+        return Some(words);
+    }
+    for word in line.split(' ') {
+        let Ok(()) = words.push(word) else {
+            return None;
+        };
+    }
+    Some(words)
+}
