@@ -35,6 +35,9 @@ enum legacy_codec {
  * or the indexes. Nothing has been written then. */
 #define LEGACY_REFUSED SIZE_MAX
 
+/* How many entries of 16 bits an encoder needs to list the pairs of all scalar values below U+10000. */
+#define LEGACY_PAIR_ROOM 0x10000
+
 /* A range of index gb18030 ranges: its first pointer, and the scalar value of that pointer. */
 struct legacy_range {
     uint16_t pointer;
@@ -52,8 +55,8 @@ struct legacy_byte_run {
 
 /* A run of an index: length pointers from the pointer on have the scalar values from scalar on. */
 struct legacy_run {
-    uint32_t scalar;
     uint16_t pointer;
+    uint32_t scalar;
     uint16_t length;
 };
 
@@ -127,10 +130,6 @@ struct legacy_indexes {
     /* whether packed tables are made, of the flat indexes above and what follows; otherwise flat
      * tables are made, and nothing looks at what follows */
     bool is_packed;
-    /* whether the encoders of Big5, EUC-JP, EUC-KR, GBK, gb18030, ISO-2022-JP and Shift_JIS look the
-     * pairs of all scalar values below U+10000 up ahead, as each call begins, in 128 KB of its stack;
-     * no other codec looks at it */
-    bool is_cached;
     struct legacy_packed packed;
 };
 
@@ -193,6 +192,11 @@ size_t legacy_decode_replacing_to_utf16(uint32_t codec, const struct legacy_inde
  *                next place between two characters; or 0: all of them
  * times:         how often the source is encoded, each time to the front of the output and all times
  *                by one encoder; 0: not at all
+ * room:          memory of the caller, which must overlap nothing else, whatever is in it. If it has
+ *                LEGACY_PAIR_ROOM entries or more, the encoders of Big5, EUC-JP, EUC-KR, GBK, gb18030,
+ *                ISO-2022-JP and Shift_JIS list the pairs of all scalar values below U+10000 there as
+ *                each call begins, and then look none up. What it holds behind a call says nothing
+ * room_length:   how many entries it has; 0 is well
  *
  * The answer is how many bytes were written the last time, at most output_length, or LEGACY_REFUSED,
  * also where the source is to be UTF-8 and is not. No pointer may be null, also where the length is
@@ -202,25 +206,29 @@ size_t legacy_decode_replacing_to_utf16(uint32_t codec, const struct legacy_inde
 size_t legacy_encode_from_utf8(uint32_t codec, const struct legacy_indexes *indexes,
                                const uint8_t *source, size_t source_length,
                                uint8_t *output, size_t output_length,
-                               size_t piece, size_t times);
+                               size_t piece, size_t times,
+                               uint16_t *room, size_t room_length);
 
 /* Encodes from UTF-16: a code unit has 16 bits, in the byte order of the machine. An unpaired
  * surrogate counts as U+FFFD. */
 size_t legacy_encode_from_utf16(uint32_t codec, const struct legacy_indexes *indexes,
                                 const uint16_t *source, size_t source_length,
                                 uint8_t *output, size_t output_length,
-                                size_t piece, size_t times);
+                                size_t piece, size_t times,
+                                uint16_t *room, size_t room_length);
 
 /* The same two by calls with replacement. */
 size_t legacy_encode_replacing_from_utf8(uint32_t codec, const struct legacy_indexes *indexes,
                                          const uint8_t *source, size_t source_length,
                                          uint8_t *output, size_t output_length,
-                                         size_t piece, size_t times);
+                                         size_t piece, size_t times,
+                                         uint16_t *room, size_t room_length);
 
 size_t legacy_encode_replacing_from_utf16(uint32_t codec, const struct legacy_indexes *indexes,
                                           const uint16_t *source, size_t source_length,
                                           uint8_t *output, size_t output_length,
-                                          size_t piece, size_t times);
+                                          size_t piece, size_t times,
+                                          uint16_t *room, size_t room_length);
 
 #ifdef __cplusplus
 }

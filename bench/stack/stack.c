@@ -1,7 +1,8 @@
-/* Prints how much stack each function of legacy_codecs.h needs, for each codec, over flat and over packed tables.
+/* Prints how much stack each function of legacy_codecs.h needs, for each codec, over flat and over packed tables, and of
+ * the encoders also with their pairs in room that is lent.
  *
- * A thread runs each call on a stack of its own that was filled with one byte. What the call left of that byte, from the
- * low end on, it did not need. The program fails if a call needs more than LIMIT, apart from the room of the pairs. */
+ * A thread runs each call on a stack of 128 KB of its own that was filled with one byte. What the call left of that byte,
+ * from the low end on, it did not need. The program fails if a call needs more than LIMIT, or if one refuses its tables. */
 #include "../legacy_codecs.h"
 #include <pthread.h>
 #include <stdio.h>
@@ -9,13 +10,15 @@
 #include <string.h>
 #include <sys/mman.h>
 
-enum { STACK = 512 * 1024, GUARD = 4096, MARK = 0xA5, LIMIT = 16 * 1024, ROOM = 128 * 1024 };
+enum { STACK = 128 * 1024, MARK = 0xA5, LIMIT = 16 * 1024 };
 
 /* A call of one of the eight functions. */
 struct call {
     int function;
     uint32_t codec;
     const struct legacy_indexes *indexes;
+    size_t room_length;
+    size_t written;
 };
 
 static const char *const NAMES[8] = {
@@ -30,22 +33,28 @@ static const uint16_t UNITS[] = {'a', 0xA5, 0x3042, 0xAC00, 0x4E9C, 0xD83D, 0xDC
 
 static uint8_t output_bytes[4096];
 static uint16_t output_units[4096];
+static uint16_t room[LEGACY_PAIR_ROOM];
 
 static void *make(void *given) {
-    const struct call *call = given;
+    struct call *call = given;
     uint32_t codec = call->codec;
     const struct legacy_indexes *all = call->indexes;
+    size_t length = call->room_length;
     switch (call->function) {
-    case 0: legacy_decode_to_utf8(codec, all, BYTES, sizeof BYTES, output_bytes, 4096, 3, 1); break;
-    case 1: legacy_decode_to_utf16(codec, all, BYTES, sizeof BYTES, output_units, 4096, 3, 1); break;
-    case 2: legacy_decode_replacing_to_utf8(codec, all, BYTES, sizeof BYTES, output_bytes, 4096, 3, 1); break;
-    case 3: legacy_decode_replacing_to_utf16(codec, all, BYTES, sizeof BYTES, output_units, 4096, 3, 1); break;
-    case 4: legacy_encode_from_utf8(codec, all, TEXT, sizeof TEXT - 1, output_bytes, 4096, 0, 1); break;
-    case 5: legacy_encode_from_utf16(codec, all, UNITS, 10, output_bytes, 4096, 0, 1); break;
-    case 6: legacy_encode_replacing_from_utf8(codec, all, TEXT, sizeof TEXT - 1, output_bytes, 4096, 0, 1); break;
-    case 7: legacy_encode_replacing_from_utf16(codec, all, UNITS, 10, output_bytes, 4096, 0, 1); break;
+    case 0: call->written = legacy_decode_to_utf8(codec, all, BYTES, sizeof BYTES, output_bytes, 4096, 3, 1); break;
+    case 1: call->written = legacy_decode_to_utf16(codec, all, BYTES, sizeof BYTES, output_units, 4096, 3, 1); break;
+    case 2: call->written = legacy_decode_replacing_to_utf8(codec, all, BYTES, sizeof BYTES, output_bytes, 4096, 3, 1); break;
+    case 3: call->written = legacy_decode_replacing_to_utf16(codec, all, BYTES, sizeof BYTES, output_units, 4096, 3, 1); break;
+    case 4: call->written = legacy_encode_from_utf8(codec, all, TEXT, sizeof TEXT - 1, output_bytes, 4096, 0, 1, room, length); break;
+    case 5: call->written = legacy_encode_from_utf16(codec, all, UNITS, 10, output_bytes, 4096, 0, 1, room, length); break;
+    case 6: call->written = legacy_encode_replacing_from_utf8(codec, all, TEXT, sizeof TEXT - 1, output_bytes, 4096, 0, 1, room, length); break;
+    case 7: call->written = legacy_encode_replacing_from_utf16(codec, all, UNITS, 10, output_bytes, 4096, 0, 1, room, length); break;
     }
     return NULL;
+}
+
+static int is_without_encoder(uint32_t codec) {
+    return codec == LEGACY_REPLACEMENT || codec == LEGACY_UTF_16BE || codec == LEGACY_UTF_16LE;
 }
 
 static void *nothing(void *given) { return given; }
@@ -73,7 +82,7 @@ int main(void) {
     static struct legacy_run runs[1];
     struct legacy_indexes indexes = {
         wide, 0, narrow, 0, narrow, 0, narrow, 0, narrow, 0, narrow, 0, ranges, 0, single_byte, 128,
-        {0, 32, 0}, false, false,
+        {0, 32, 0}, false,
         {runs, 0, runs, 0, runs, 0, runs, 0, runs, 0, narrow, 0, narrow, 0, narrow, 0, narrow, 0, narrow, 0}};
     size_t own = used(nothing, NULL);
     int fails = 0;
@@ -82,15 +91,15 @@ int main(void) {
         size_t most[3] = {0, 0, 0};
         for (int kind = 0; kind < (function < 4 ? 2 : 3); kind++)
             for (uint32_t codec = 1; codec <= 12; codec++) {
-                struct call call = {function, codec, &indexes};
+                struct call call = {function, codec, &indexes, kind == 2 ? LEGACY_PAIR_ROOM : 0, 0};
                 size_t bytes;
                 indexes.is_packed = kind == 1;
-                indexes.is_cached = kind == 2;
                 bytes = used(make, &call) - own;
                 if (bytes > most[kind]) most[kind] = bytes;
+                fails |= call.written == LEGACY_REFUSED && !(function >= 4 && is_without_encoder(codec));
             }
         printf("| %s | %zu | %zu | %zu |\n", NAMES[function], most[0], most[1], most[2]);
-        fails |= most[0] > LIMIT || most[1] > LIMIT || most[2] > LIMIT + ROOM;
+        fails |= most[0] > LIMIT || most[1] > LIMIT || most[2] > LIMIT;
     }
     return fails;
 }

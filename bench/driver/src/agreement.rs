@@ -1,5 +1,4 @@
-//! Whether the decoders and the encoders write what encoding_rs writes, in every codec, on text and on bytes and
-//! characters that follow no pattern.
+//! Checks that all codecs write what encoding_rs writes, on real text and on random bytes and characters.
 
 use crate::decoding::{self, ToUtf16, ToUtf8};
 use crate::encoding::{self, From, FromUtf16, FromUtf8};
@@ -7,7 +6,7 @@ use crate::ours::{Calls, Kept, Ours};
 use crate::{corpora, CORPORA, PACKED};
 use encoding_rs::{Encoding, REPLACEMENT};
 
-/// The encodings, by their names.
+/// The names of the encodings.
 const ENCODINGS: [&str; 39] = [
     "IBM866", "ISO-8859-2", "ISO-8859-3", "ISO-8859-4", "ISO-8859-5", "ISO-8859-6", "ISO-8859-7", "ISO-8859-8",
     "ISO-8859-8-I", "ISO-8859-10", "ISO-8859-13", "ISO-8859-14", "ISO-8859-15", "ISO-8859-16", "KOI8-R", "KOI8-U",
@@ -16,10 +15,10 @@ const ENCODINGS: [&str; 39] = [
     "EUC-JP", "ISO-2022-JP", "Shift_JIS", "EUC-KR", "replacement", "UTF-16BE", "UTF-16LE", "x-user-defined",
 ];
 
-/// How many bytes of each kind are compared.
+/// The number of bytes of each kind that are compared.
 const LENGTH: usize = 60_000;
 
-/// Numbers that follow no pattern, the same in each run (Marsaglia's xorshift).
+/// Pseudo-random numbers, the same in each run (Marsaglia's xorshift).
 struct Numbers(u64);
 
 impl Numbers {
@@ -31,7 +30,7 @@ impl Numbers {
     }
 }
 
-/// Any bytes, with escapes of ISO-2022-JP, forms of four bytes of GB18030 and ASCII among them.
+/// Returns random bytes that include escapes of ISO-2022-JP, four-byte sequences of GB18030, and ASCII.
 fn any_bytes() -> Vec<u8> {
     let mut numbers = Numbers(0x9E37_79B9_7F4A_7C15);
     let escapes: [&[u8]; 5] = [b"\x1B$B", b"\x1B(B", b"\x1B(J", b"\x1B(I", b"\x1B$@"];
@@ -53,7 +52,7 @@ fn any_bytes() -> Vec<u8> {
     bytes
 }
 
-/// The beginning of the text of each language.
+/// Returns the start of the text of each language.
 fn texts() -> Result<Vec<(&'static str, String)>, String> {
     CORPORA
         .iter()
@@ -64,7 +63,7 @@ fn texts() -> Result<Vec<(&'static str, String)>, String> {
         .collect()
 }
 
-/// Compares what both write of these bytes to UTF-8 and to UTF-16, by raw calls and by those with replacement.
+/// Compares the outputs of both libraries for these bytes, in UTF-8 and UTF-16, by raw calls and with replacement.
 fn agree(codecs: &[Ours], encoding: &'static Encoding, bytes: &[u8], what: &str) -> Result<(), String> {
     let failed = |error| format!("{what} in {}: {error}", encoding.name());
     for ours in codecs {
@@ -76,7 +75,7 @@ fn agree(codecs: &[Ours], encoding: &'static Encoding, bytes: &[u8], what: &str)
     Ok(())
 }
 
-/// Any code units, with surrogates, ASCII, kana, ideographs, Hangul and characters for private use among them.
+/// Returns random code units that include surrogates, ASCII, kana, ideographs, Hangul and private-use characters.
 fn any_units() -> Vec<u16> {
     let mut numbers = Numbers(0xD1B5_4A32_D192_ED03);
     let blocks: [(u16, u64); 9] = [
@@ -101,10 +100,12 @@ fn any_units() -> Vec<u16> {
     units
 }
 
-/// How much shorter a text is that is encoded over flat tables where there are packed ones: these are searched.
+/// The factor by which a text is shortened if its encoder searches flat tables for each character.
+///
+/// That is so over flat tables of a codec that can have packed ones.
 const FLAT_SHARE: usize = 10;
 
-/// Compares what both write of this text from UTF-8 and from UTF-16, by raw calls and by those with replacement.
+/// Compares the outputs of both libraries for this text, from UTF-8 and UTF-16, by raw calls and with replacement.
 fn agree_back(codecs: &[Ours], encoding: &'static Encoding, units: &[u16], what: &str) -> Result<(), String> {
     let failed = |error| format!("{what} in {}: {error}", encoding.name());
     for (at, ours) in codecs.iter().enumerate() {
@@ -119,7 +120,7 @@ fn agree_back(codecs: &[Ours], encoding: &'static Encoding, units: &[u16], what:
     Ok(())
 }
 
-/// The codec over flat tables, and where it is one of pairs over packed ones, and with its pairs looked up ahead.
+/// Returns the codec over flat tables. A codec of pairs is returned over packed tables and with cached pairs as well.
 fn codecs(encoding: &'static Encoding) -> Vec<Ours> {
     let mut codecs = vec![Ours::new(encoding, Kept::Flat)];
     if PACKED.contains(&encoding.name()) {
@@ -129,7 +130,7 @@ fn codecs(encoding: &'static Encoding) -> Vec<Ours> {
     codecs
 }
 
-/// Compares all codecs, and says how many encodings there were.
+/// Compares all codecs, and prints the number of encodings.
 pub fn report() -> Result<(), String> {
     let texts = texts()?;
     let any = any_bytes();

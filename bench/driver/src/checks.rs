@@ -1,4 +1,4 @@
-//! How long the checks of tables take: of flat indexes, and of packed ones beside them.
+//! Times the checks of tables: of flat indexes, and of packed ones beside them.
 
 use crate::decoding::{ours, ToUtf8};
 use crate::measure::{best_times, Call};
@@ -6,10 +6,10 @@ use crate::ours::{Calls, Kept, Ours};
 use encoding_rs::{Encoding, BIG5, EUC_JP, EUC_KR, GB18030};
 use std::time::Duration;
 
-/// How often the checks are timed at the least.
+/// The least number of times that the checks are timed.
 const TIMES: usize = 100;
 
-/// The times of the checks, flat and packed.
+/// Returns the times of the checks of the flat and of the packed indexes.
 fn times(flat: &Ours, packed: &Ours) -> Option<(Duration, Duration)> {
     let calls: Vec<Option<Call<'_, u8>>> =
         [flat, packed].into_iter().map(|codec| Some(ours::<ToUtf8>(codec, Calls::Raw, &[], 0, 0))).collect();
@@ -24,7 +24,7 @@ fn line(name: &str, flat: &Ours, packed: &Ours) -> Result<(), String> {
     Ok(())
 }
 
-/// The table of the checks: of all indexes together, and of those of some codecs.
+/// Prints the table of the checks: of all indexes together, and of those of some codecs.
 pub fn table() -> Result<(), String> {
     println!("| indexes | microseconds of Tables::new | of Tables::packed_of | ratio of the times |\n|---|---|---|---|");
     line("all of the standard", &Ours::of_all_indexes(Kept::Flat), &Ours::of_all_indexes(Kept::Packed))?;

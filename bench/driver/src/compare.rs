@@ -1,23 +1,25 @@
-//! Two builds of this library in one process: how fast the newer one is beside the older one. Called in turn they meet
-//! the same hour of the machine, which between two runs moves times by more than most changes do.
+//! Compares the speed of two builds of this library in one process.
+//!
+//! The two are called in turn, so both meet the same load of the machine. Between two runs that load moves times by
+//! more than most changes do.
 
 use crate::decoding::{self, Codec, ToUtf16, ToUtf8};
 use crate::encoding::{self, decoded, From, FromUtf16, FromUtf8};
 use crate::loaded::Loaded;
 use crate::measure::{best_times, ratio_cell, speed, speed_cell, without, Call};
 use crate::medians::median;
-use crate::ours::{Export, Ours};
+use crate::ours::{Export, Header, Ours};
 use crate::pieces::Unit;
 use crate::rounds::measured;
 use std::ffi::c_void;
 
-/// The two builds, as shared libraries.
+/// Two builds, as shared libraries.
 pub struct Builds {
     older: Loaded,
     newer: Loaded,
 }
 
-/// The same function in both builds.
+/// The same function of both builds.
 struct Both<R, W> {
     older: Export<R, W>,
     newer: Export<R, W>,
@@ -29,26 +31,31 @@ impl Builds {
         Ok(Builds { older: open(older)?, newer: open(newer)? })
     }
 
-    /// A function of the header, if both builds have it.
+    /// Finds a function of the header, if both builds have it.
     fn find<R, W>(&self, name: &str) -> Option<Both<R, W>> {
         let function = |library: Loaded| Some(unsafe { std::mem::transmute::<*mut c_void, Export<R, W>>(library.find(name)?) });
         Some(Both { older: function(self.older)?, newer: function(self.newer)? })
     }
 }
 
-/// Compares what both write; `None` where the older one refuses the tables.
-fn same_output<R, W: Copy + PartialEq + Default>(both: &Both<R, W>, ours: &Ours, src: &[R], dst: &mut [W]) -> Option<Result<(), String>> {
-    let length = ours.call(both.older, src, dst, 0, 1);
-    let wanted = dst.get(..length)?.to_vec();
+/// Returns the header by which the older build takes the tables, or `None` if it refuses them.
+fn older_header<R, W>(both: &Both<R, W>, ours: &Ours, src: &[R], dst: &mut [W]) -> Option<Header> {
+    [Header::Own, Header::Older].into_iter().find(|header| ours.call(*header, both.older, src, dst, 0, 0) != usize::MAX)
+}
+
+/// Compares the outputs of both.
+fn same_output<R, W: Copy + PartialEq + Default>(header: Header, both: &Both<R, W>, ours: &Ours, src: &[R], dst: &mut [W]) -> Result<(), String> {
+    let length = ours.call(header, both.older, src, dst, 0, 1);
+    let wanted = dst.get(..length).ok_or("the older build refuses the source")?.to_vec();
     dst.fill(W::default());
-    let is_same = ours.call(both.newer, src, dst, 0, 1) == length && dst[..length] == wanted[..];
-    Some(if is_same { Ok(()) } else { Err("the two builds write different things".to_string()) })
+    let is_same = ours.call(Header::Own, both.newer, src, dst, 0, 1) == length && dst[..length] == wanted[..];
+    if is_same { Ok(()) } else { Err("the two builds write different things".to_string()) }
 }
 
 /// The ratios of a line: with 3 MB, with short inputs, and in pieces.
 pub type Ratios = [f64; 3];
 
-/// A line, where both builds can make it.
+/// Prints a line if both builds can make it.
 fn line<R: Unit, W: Copy + PartialEq + Default>(
     name: &str,
     both: Option<Both<R, W>>,
@@ -58,17 +65,19 @@ fn line<R: Unit, W: Copy + PartialEq + Default>(
     times: usize,
 ) -> Result<Option<Ratios>, String> {
     let Some(both) = both else { return Ok(None) };
+    let Some(header) = older_header(&both, ours, sources[1], dst) else { return Ok(None) };
     for src in sources {
-        let Some(compared) = same_output(&both, ours, src, dst) else { return Ok(None) };
-        compared.map_err(|error| format!("{name}: {error}"))?;
+        same_output(header, &both, ours, src, dst).map_err(|error| format!("{name}: {error}"))?;
     }
     let mut ratios = Ratios::default();
     print!("| {name} |");
     for (at, (src, piece, rounds)) in measured(name, sources[0], sources[1]).into_iter().enumerate() {
-        let call = |export: Export<R, W>, rounds: usize| -> Option<Call<'_, W>> {
-            Some(Box::new(move |dst: &mut [W]| ours.call(export, src, dst, piece, rounds)))
+        let call = |header: Header, export: Export<R, W>, rounds: usize| -> Option<Call<'_, W>> {
+            Some(Box::new(move |dst: &mut [W]| ours.call(header, export, src, dst, piece, rounds)))
         };
-        let calls = [call(both.older, rounds), call(both.older, 0), call(both.newer, rounds), call(both.newer, 0)];
+        let older = |rounds: usize| call(header, both.older, rounds);
+        let newer = |rounds: usize| call(Header::Own, both.newer, rounds);
+        let calls = [older(rounds), older(0), newer(rounds), newer(0)];
         let best = best_times(&calls, src, dst, times);
         let bytes = size_of_val(src) * rounds;
         let (older, newer) = (speed(bytes, without(best[0], best[1])), speed(bytes, without(best[2], best[3])));
@@ -84,7 +93,7 @@ pub fn heading() -> String {
     format!("| corpus | encoding | tables | direction | {} |\n|{}", columns.join(" | "), "---|".repeat(13))
 }
 
-/// The lines of a decoder over tables of one kind.
+/// Prints the lines of a decoder over tables of one kind.
 pub fn decoder_lines(builds: &Builds, name: &str, ours: &Ours, long: &[u8], short: &[u8], times: usize) -> Result<Vec<Ratios>, String> {
     let name = |direction: &str| format!("{name} | {direction}");
     let mut narrow = decoding::room::<ToUtf8>(long);
@@ -94,7 +103,7 @@ pub fn decoder_lines(builds: &Builds, name: &str, ours: &Ours, long: &[u8], shor
     Ok([to_utf8, to_utf16].into_iter().flatten().collect())
 }
 
-/// The lines of an encoder, which encodes what the decoder gives.
+/// Prints the lines of an encoder, which encodes the output of the decoder.
 pub fn encoder_lines(builds: &Builds, name: &str, codec: &Codec, ours: &Ours, long: &[u8], short: &[u8], times: usize) -> Result<Vec<Ratios>, String> {
     if codec.encoding.output_encoding() != codec.encoding {
         return Ok(Vec::new());

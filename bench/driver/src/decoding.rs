@@ -7,7 +7,7 @@ use crate::rounds::measured;
 use crate::theirs;
 use encoding_rs::Encoding;
 
-/// An encoding form that is written, with both libraries' calls in it.
+/// An encoding form of the output, with both libraries' calls that write it.
 pub trait Into {
     const NAME: &'static str;
     type Written: Copy + PartialEq + Default;
@@ -50,22 +50,22 @@ impl Into for ToUtf16 {
     }
 }
 
-/// A call of ours.
+/// Returns a call of ours.
 pub fn ours<'a, D: Into>(ours: &'a Ours, calls: Calls, src: &'a [u8], piece: usize, rounds: usize) -> Call<'a, D::Written> {
     Box::new(move |dst: &mut [D::Written]| D::ours(ours, calls, src, dst, piece, rounds))
 }
 
-/// A call of encoding_rs.
+/// Returns a call of encoding_rs.
 pub fn theirs<'a, D: Into>(encoding: &'static Encoding, calls: Calls, src: &'a [u8], piece: usize, rounds: usize) -> Call<'a, D::Written> {
     Box::new(move |dst: &mut [D::Written]| D::theirs(encoding, calls, src, dst, piece, rounds))
 }
 
-/// Room for what a source is decoded to.
+/// Returns room for the decoded source.
 pub fn room<D: Into>(src: &[u8]) -> Vec<D::Written> {
     vec![D::Written::default(); src.len() * 3 + 64]
 }
 
-/// Compares what both write, whole and in pieces.
+/// Compares the outputs of both libraries, whole and in pieces.
 pub fn compare<D: Into>(codec: &Ours, encoding: &'static Encoding, calls: Calls, src: &[u8]) -> Result<(), String> {
     let mut dst = room::<D>(src);
     let wanted = written(&theirs::<D>(encoding, calls, src, 0, 1), &mut dst);
@@ -76,8 +76,9 @@ pub fn compare<D: Into>(codec: &Ours, encoding: &'static Encoding, calls: Calls,
     Ok(())
 }
 
-/// A codec over flat tables, over packed ones where it reads by an index that can be packed, and with its pairs looked
-/// up ahead where it is one of pairs.
+/// A codec over flat tables, and over other ones if it can have them.
+///
+/// Over packed ones if its index can be packed, and with cached pairs if it is a codec of pairs.
 pub struct Codec {
     pub encoding: &'static Encoding,
     pub flat: Ours,
@@ -103,7 +104,7 @@ pub fn heading() -> String {
     format!("| corpus | encoding | decoding | {} |\n|{}", columns.join(" | "), "---|".repeat(columns.len() + 3))
 }
 
-/// The cells of one source.
+/// Returns the cells of one source.
 fn cells<D: Into>(codec: &Codec, src: &[u8], piece: usize, rounds: usize, times: usize) -> String {
     let mut dst = room::<D>(src);
     let calls = [
@@ -135,7 +136,7 @@ fn line<D: Into>(corpus: &str, codec: &Codec, long: &[u8], short: &[u8], times: 
     Ok(())
 }
 
-/// The two lines of a decoder.
+/// Prints the two lines of a decoder.
 pub fn lines(corpus: &str, codec: &Codec, long: &[u8], short: &[u8], times: usize) -> Result<(), String> {
     line::<ToUtf8>(corpus, codec, long, short, times)?;
     line::<ToUtf16>(corpus, codec, long, short, times)

@@ -1,5 +1,6 @@
-//! The encoders' tables: over packed tables, and with pairs looked up ahead, beside encoding_rs with its default tables and
-//! with its fast ones, ICU and iconv.
+//! The encoders' tables: over packed tables and with cached pairs, beside other libraries.
+//!
+//! These are encoding_rs with its default tables and with its fast ones, ICU and iconv.
 
 use crate::decoding::Codec;
 use crate::measure::{best_times, is_same, ratio_cell, speed, speed_cell, without, written, Call};
@@ -14,7 +15,7 @@ use std::collections::HashMap;
 /// encoding_rs with its fast tables.
 pub type FastEncoding = encoding_rs_fast::Encoding;
 
-/// An encoding form that is read, with all libraries' calls from it.
+/// An encoding form of the input, with all libraries' calls that read it.
 pub trait From {
     const NAME: &'static str;
     type Read: Unit;
@@ -84,17 +85,17 @@ impl From for FromUtf16 {
     }
 }
 
-/// A call of ours.
+/// Returns a call of ours.
 pub fn ours<'a, D: From>(ours: &'a Ours, calls: Calls, src: &'a [D::Read], piece: usize, rounds: usize) -> Call<'a, u8> {
     Box::new(move |dst: &mut [u8]| D::ours(ours, calls, src, dst, piece, rounds))
 }
 
-/// A call of encoding_rs with its default tables.
+/// Returns a call of encoding_rs with its default tables.
 pub fn theirs<'a, D: From>(encoding: &'static Encoding, src: &'a [D::Read], piece: usize, rounds: usize) -> Call<'a, u8> {
     Box::new(move |dst: &mut [u8]| D::theirs(encoding, src, dst, piece, rounds))
 }
 
-/// A call of encoding_rs with its fast tables.
+/// Returns a call of encoding_rs with its fast tables.
 pub fn fast<'a, D: From>(encoding: &'static FastEncoding, calls: Calls, src: &'a [D::Read], piece: usize, rounds: usize) -> Call<'a, u8> {
     Box::new(move |dst: &mut [u8]| D::fast(encoding, calls, src, dst, piece, rounds))
 }
@@ -103,17 +104,17 @@ fn peer<'a, D: From>(peer: &'a dyn Peer, src: &'a [D::Read], piece: usize, round
     Box::new(move |dst: &mut [u8]| D::peer(peer, src, dst, piece, rounds))
 }
 
-/// Room for what a text is encoded to: a reference has ten bytes.
+/// Returns room for the encoded text: a reference has at most ten bytes.
 pub fn room<U>(src: &[U]) -> Vec<u8> {
     vec![0; src.len() * 10 + 64]
 }
 
-/// The fast encoding of the same name.
+/// Returns the encoding of the same name with fast tables.
 pub fn fast_encoding(encoding: &'static Encoding) -> Result<&'static FastEncoding, String> {
     FastEncoding::for_label(encoding.name().as_bytes()).ok_or_else(|| format!("no {}", encoding.name()))
 }
 
-/// Compares what ours writes with what encoding_rs writes, whole and in pieces.
+/// Compares our output with that of encoding_rs, whole and in pieces.
 pub fn compare<D: From>(codec: &Ours, encoding: &'static Encoding, calls: Calls, src: &[D::Read]) -> Result<(), String> {
     let mut dst = room(src);
     let wanted = match calls {
@@ -127,7 +128,7 @@ pub fn compare<D: From>(codec: &Ours, encoding: &'static Encoding, calls: Calls,
     Ok(())
 }
 
-/// All that write a line's text.
+/// All encoders that write a line's text.
 struct Writers<'a> {
     codec: &'a Codec,
     ours: &'a Ours,
@@ -142,7 +143,7 @@ impl<'a> Writers<'a> {
         Ok(Writers { codec, ours, fast: fast_encoding(codec.encoding)?, icu: peers::icu(name), iconv: peers::glibc(name) })
     }
 
-    /// The text without the characters for which another library has other bytes: so all write the same.
+    /// Returns the text without the characters for which another library has other bytes, so that all write the same.
     fn alike(&self, text: &str) -> String {
         let mut known: HashMap<char, bool> = HashMap::new();
         let mut is_alike = |c: &char| *known.entry(*c).or_insert_with(|| self.is_alike(*c));
@@ -160,7 +161,7 @@ impl<'a> Writers<'a> {
         })
     }
 
-    /// Compares what all write, and drops the library that writes something else.
+    /// Compares all outputs, and drops a library that writes something else.
     fn compare<D: From>(&mut self, src: &[D::Read]) -> Result<(), String> {
         let encoding = self.codec.encoding;
         compare::<D>(self.ours, encoding, Calls::Raw, src)?;
@@ -178,7 +179,7 @@ impl<'a> Writers<'a> {
         Ok(())
     }
 
-    /// The cells of one source, with those of the default tables or without.
+    /// Returns the cells of one source, with or without those of the default tables.
     fn cells<D: From>(&self, src: &[D::Read], piece: usize, rounds: usize, times: usize, with_default: bool) -> String {
         let calls = [
             with_default.then(|| theirs::<D>(self.codec.encoding, src, piece, rounds)),
@@ -232,13 +233,13 @@ pub fn heading() -> String {
     format!("| corpus | encoding | encoding | {} |\n|{}", columns.join(" | "), "---|".repeat(23))
 }
 
-/// The text of bytes in an encoding, without a character that the end cuts off.
+/// Decodes the bytes, without a character that is cut off at the end.
 pub fn decoded(encoding: &'static Encoding, bytes: &[u8]) -> String {
     let text = encoding.decode_without_bom_handling(bytes).0;
     text.trim_end_matches('\u{FFFD}').to_string()
 }
 
-/// The two lines of an encoder, where there is one: it encodes what the decoder gives.
+/// Prints the two lines of an encoder, if the encoding has one. It encodes the output of the decoder.
 pub fn lines(corpus: &str, codec: &Codec, ours: &Ours, long: &[u8], short: &[u8], times: usize) -> Result<(), String> {
     let encoding = codec.encoding;
     if encoding.output_encoding() != encoding {
@@ -250,7 +251,7 @@ pub fn lines(corpus: &str, codec: &Codec, ours: &Ours, long: &[u8], short: &[u8]
     Writers::new(codec, ours)?.line::<FromUtf16>(corpus, &long, &short, times)
 }
 
-/// The heading of the table of encoders over flat tables.
+/// Returns the heading of the table of encoders over flat tables.
 pub fn flat_heading() -> String {
     format!("| corpus | encoding | encoding | encoding_rs MB/s, short | flat tables | packed tables | ratio of flat tables to encoding_rs |\n|{}", "---|".repeat(7))
 }
@@ -273,7 +274,7 @@ fn flat_line<D: From>(corpus: &str, codec: &Codec, packed: &Ours, text: &str, ti
     Ok(())
 }
 
-/// The two lines of an encoder over flat tables, where it can have packed ones: there it searches.
+/// Prints the two lines of an encoder over flat tables, if the codec can have packed ones. Over flat ones it searches.
 pub fn flat_lines(corpus: &str, codec: &Codec, short: &[u8], times: usize) -> Result<(), String> {
     let Some(packed) = &codec.packed else { return Ok(()) };
     let text = decoded(codec.encoding, short);

@@ -9,21 +9,21 @@ extern "C" {
 
 const RTLD_NOW: c_int = 2;
 
-/// An open library. It is never closed: there are few.
+/// An open library. It is never closed, because there are few.
 #[derive(Clone, Copy)]
 pub struct Loaded {
     library: *mut c_void,
 }
 
 impl Loaded {
-    /// The library of this name or path, if it is there.
+    /// Opens the library of this name or path, if it exists.
     pub fn open(name: &str) -> Option<Loaded> {
         let name = CString::new(name).ok()?;
         let library = unsafe { dlopen(name.as_ptr(), RTLD_NOW) };
         (!library.is_null()).then_some(Loaded { library })
     }
 
-    /// Where its function of this name is, if it has one.
+    /// Returns the address of its function of this name, if it has one.
     pub fn find(self, name: &str) -> Option<*mut c_void> {
         let name = CString::new(name).ok()?;
         let found = unsafe { dlsym(self.library, name.as_ptr()) };

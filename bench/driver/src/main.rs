@@ -1,12 +1,16 @@
-//! Times the decoders and the encoders beside other libraries, and compares what all write; and times the program
-//! `legacy_recode`.
+//! Times the decoders and the encoders beside other libraries, and times the program `legacy_recode`.
 //!
-//! Arguments: words that a line must have, as `ja-text`, `Big5`, or the name of a table (`decode`, `encode`,
-//! `ahead`, `replace`, `flat`, `checks`), or `recode` for the program's table (none: all lines of all are made), and a number:
-//! how many times at the least each call of a codec is timed. Or `agreement`: all codecs are compared and nothing is
-//! timed. Or `compare`, two builds of the library as shared ones, and words and a number as above: they are timed beside
-//! each other. Or `sources`: the packed indexes are printed as source text. Or `medians` and the files of the tables of
-//! several builds, of which one table is made.
+//! It also compares all outputs. Its arguments are one of these:
+//!
+//! - Words and a number. A line is made if it has one of the words: a corpus or an encoding, as `ja-text` or `Big5`.
+//!   The name of a table (`decode`, `encode`, `ahead`, `replace`, `flat`, `checks`) makes that table, and `recode` the
+//!   program's. Without words all lines of all tables are made. The number is how often each call of a codec is timed
+//!   at least.
+//! - `agreement`: compares all codecs and times nothing.
+//! - `compare`, two builds of the library as shared ones, and words and a number as above: times them beside each
+//!   other.
+//! - `sources`: prints the packed indexes as source text.
+//! - `medians` and files with the tables of several builds: makes one table of them.
 
 mod agreement;
 mod checks;
@@ -35,8 +39,7 @@ use encoding_rs::{Encoding, BIG5};
 use ours::{Kept, Ours};
 use std::collections::HashMap;
 
-/// A language's folder, the corpus's name, the least share of letters past ASCII in a line of its text,
-/// and its encodings.
+/// A language's folder, its corpus's name, the least share of letters past ASCII in a line, and its encodings.
 const CORPORA: &[(&str, &str, f64, &[&str])] = &[
     ("ko-KR", "ko", 0.5, &["EUC-KR", "gb18030"]),
     ("ja-JP", "ja", 0.5, &["Shift_JIS", "EUC-JP", "ISO-2022-JP", "UTF-16LE"]),
@@ -46,7 +49,7 @@ const CORPORA: &[(&str, &str, f64, &[&str])] = &[
     ("ru-RU", "ru", 0.5, &["windows-1251"]),
 ];
 
-/// The encodings whose indexes can be packed, and whose encoders can look their pairs up ahead.
+/// The encodings whose indexes can be packed, and whose encoders can cache their pairs.
 const PACKED: &[&str] = &["EUC-KR", "gb18030", "GBK", "Shift_JIS", "EUC-JP", "Big5", "ISO-2022-JP"];
 
 /// The tables of the codecs.
@@ -60,7 +63,7 @@ enum Table {
     Checks,
 }
 
-/// Their names, in the order in which they are made.
+/// The names of the tables, in the order in which they are made.
 const TABLES: [(&str, Table); 6] = [
     ("decode", Table::Decode),
     ("encode", Table::Encode),
@@ -70,7 +73,7 @@ const TABLES: [(&str, Table); 6] = [
     ("checks", Table::Checks),
 ];
 
-/// Which tables and lines are made: all where no word names one.
+/// The tables and lines that are made. If no word names any, all are made.
 struct Wanted {
     tables: Vec<Table>,
     words: Vec<String>,
@@ -92,7 +95,7 @@ impl Wanted {
     }
 }
 
-/// The codecs that were made so far: to find encoding_rs's indexes takes time.
+/// The codecs that are made already, kept because finding encoding_rs's indexes takes time.
 #[derive(Default)]
 struct Codecs {
     made: HashMap<&'static str, Codec>,
@@ -110,7 +113,7 @@ impl Codecs {
     }
 }
 
-/// The lines of one corpus in one encoding in a table.
+/// Prints the lines of one corpus in one encoding in a table.
 fn lines(table: Table, corpus: &str, codec: &Codec, long: &[u8], short: &[u8], times: usize) -> Result<(), String> {
     let is_text = corpus.ends_with("text");
     match table {
@@ -129,7 +132,7 @@ fn lines(table: Table, corpus: &str, codec: &Codec, long: &[u8], short: &[u8], t
     }
 }
 
-/// The heading of a table.
+/// Returns the heading of a table.
 fn heading(table: Table) -> String {
     match table {
         Table::Decode => decoding::heading(),
@@ -140,11 +143,12 @@ fn heading(table: Table) -> String {
     }
 }
 
-/// Hands what each wanted line is of to a function: its corpus, its codec, and the long and the short source.
+/// Calls a function for each wanted line with its corpus, its codec, and the long and the short source.
 fn each_line(wanted: &Wanted, codecs: &mut Codecs, mut make: impl FnMut(&str, &Codec, &[u8], &[u8]) -> Result<(), String>) -> Result<(), String> {
     for (language, name, share, encodings) in CORPORA {
         let pages = corpora::html(language).map_err(|error| format!("{language}: {error}"))?;
-        for (kind, content) in [("text", corpora::text(&pages, *share)), ("html", pages)] {
+        let help = corpora::help(name).map(|content| ("help", content));
+        for (kind, content) in [("text", corpora::text(&pages, *share)), ("html", pages)].into_iter().chain(help) {
             let corpus = format!("{name}-{kind}");
             for label in encodings.iter().filter(|label| wanted.has_line(&[corpus.as_str(), label, name])) {
                 let codec = codecs.codec(label)?;
@@ -157,7 +161,7 @@ fn each_line(wanted: &Wanted, codecs: &mut Codecs, mut make: impl FnMut(&str, &C
     Ok(())
 }
 
-/// A table with the lines that are wanted.
+/// Prints a table with the wanted lines.
 fn table(table: Table, wanted: &Wanted, codecs: &mut Codecs, times: usize) -> Result<(), String> {
     if table == Table::Checks {
         return checks::table();
@@ -170,7 +174,7 @@ fn table(table: Table, wanted: &Wanted, codecs: &mut Codecs, times: usize) -> Re
     Ok(())
 }
 
-/// The codecs' tables.
+/// Prints the tables of the codecs.
 fn tables(words: Vec<String>, times: usize) -> Result<(), String> {
     if !peers::has_icu() {
         eprintln!("missing: ICU (libicuuc.so); its columns stay empty");
@@ -183,11 +187,13 @@ fn tables(words: Vec<String>, times: usize) -> Result<(), String> {
     Ok(())
 }
 
-/// How tables are kept, in the order of the lines of `compare`, and their name there.
+/// The ways to keep tables, in the order of the lines of `compare`, and their names there.
 const KEPT: [(Kept, &str); 3] = [(Kept::Flat, "flat"), (Kept::Packed, "packed"), (Kept::Ahead, "pairs looked up ahead")];
 
-/// The table of two builds beside each other: decoding over flat tables and over packed ones, encoding over packed ones
-/// where the codec can have them, and with pairs looked up ahead.
+/// Prints the table of two builds beside each other.
+///
+/// It has decoding over flat tables and over packed ones. It has encoding over packed ones if the codec can have them,
+/// and with cached pairs.
 fn compared(builds: &Builds, words: Vec<String>, times: usize) -> Result<(), String> {
     let (wanted, mut codecs) = (Wanted::new(words), Codecs::default());
     let mut ratios: [Vec<Ratios>; 3] = Default::default();

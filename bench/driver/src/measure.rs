@@ -1,21 +1,22 @@
-//! How long calls take.
+//! Measures how long calls take.
 
 use crate::pieces::Unit;
 use crate::rest;
 use std::hint::black_box;
 use std::time::Duration;
 
-/// A call that writes to an output, and answers how many code units it wrote.
+/// A call that writes to an output, and returns the number of code units written.
 pub type Call<'a, W> = Box<dyn Fn(&mut [W]) -> usize + 'a>;
 
-/// How long each call of a cell is timed at the least, for each time that it is made at the least: the best of a few
-/// short calls moves from run to run.
+/// The least time that a cell's calls are timed, for each time that they are made at least.
+///
+/// The best of a few short calls differs from run to run.
 const LEAST_TIME: Duration = Duration::from_millis(10);
 
-/// How long it is timed at the most, once it was made twice: some are a hundred times as slow as others.
+/// The most time that they are timed, once they were made twice. Some calls are a hundred times as slow as others.
 const MOST_TIME: Duration = Duration::from_millis(300);
 
-/// The time that this thread has run: what other programs take of the processor does not count.
+/// Returns the processor time of this thread, which leaves out what other programs use.
 pub fn thread_time() -> Duration {
     #[repr(C)]
     struct Timespec {
@@ -32,10 +33,10 @@ pub fn thread_time() -> Duration {
     Duration::new(time.seconds as u64, time.nanoseconds as u32)
 }
 
-/// How many calls of each are wanted that began and ended while the core was at rest.
+/// The wanted number of calls that begin and end while the core is at rest.
 const RESTED: usize = 3;
 
-/// The times of one call so far.
+/// The times of one call.
 #[derive(Clone, Default)]
 struct Times {
     least: Option<Duration>,
@@ -58,14 +59,16 @@ impl Times {
     }
 }
 
-/// How many code units are counted between two calls at the most: that takes a millisecond or less.
+/// The most code units that are counted between two calls, which takes at most a millisecond.
 const COUNTED: usize = 100_000;
 
-/// The best time of each call. They are made in turn, there and back, each so many times at the least if it does not take
-/// too long, some of them while the core is at rest, for which each waits as long as there is patience, and each behind a
-/// count of the letters at the source's front, which is none of them. So all begin with the processor's caches and guesses
-/// as other code leaves them; and a call and the check that is a part of it, which stand beside each other, each begin in
-/// turn behind the other and behind other code.
+/// Returns the best time of each call.
+///
+/// The calls are made in turn, there and back, each at least `times` times unless that takes too long. Some of them run
+/// while the core is at rest: each call waits for that as long as `rest` allows. Before each call the letters at the
+/// start of the source are counted, outside the measured time. So each call begins with caches and branch predictions
+/// as other code leaves them. A call and the check that is part of it are neighbours in the list. So each runs in turn
+/// after the other and after other code.
 pub fn best_times<R: Unit, W>(calls: &[Option<Call<'_, W>>], src: &[R], dst: &mut [W], times: usize) -> Vec<Option<Duration>> {
     let mut all = vec![Times::default(); calls.len()];
     let front = &src[..src.len().min(COUNTED)];
@@ -92,17 +95,17 @@ pub fn best_times<R: Unit, W>(calls: &[Option<Call<'_, W>>], src: &[R], dst: &mu
     }
 }
 
-/// The time of a call without that of a check which is part of it.
+/// Returns the time of a call less that of a check that is part of it.
 pub fn without(time: Option<Duration>, check: Option<Duration>) -> Option<Duration> {
     Some(time?.saturating_sub(check?))
 }
 
-/// Megabytes a second.
+/// Returns megabytes a second.
 pub fn speed(bytes: usize, time: Option<Duration>) -> Option<f64> {
     Some(bytes as f64 / time?.as_secs_f64() / 1e6)
 }
 
-/// A cell with a speed, which is empty where there is none.
+/// Returns a cell with a speed, which is empty if there is none.
 pub fn speed_cell(speed: Option<f64>) -> String {
     match speed {
         Some(speed) if speed < 10.0 => format!(" {speed:.1} |"),
@@ -111,7 +114,7 @@ pub fn speed_cell(speed: Option<f64>) -> String {
     }
 }
 
-/// A cell with how many times a speed is another.
+/// Returns a cell with the ratio of one speed to another.
 pub fn ratio_cell(speed: Option<f64>, other: Option<f64>) -> String {
     match (speed, other) {
         (Some(speed), Some(other)) => format!(" {:.2} |", speed / other),
@@ -119,7 +122,7 @@ pub fn ratio_cell(speed: Option<f64>, other: Option<f64>) -> String {
     }
 }
 
-/// Compares what some calls write with what a call by which they are judged wrote.
+/// Compares the output of a call with the wanted one.
 pub fn is_same<W: Copy + PartialEq + Default>(wanted: &[W], call: &Call<'_, W>, dst: &mut [W]) -> Result<(), String> {
     dst.fill(W::default());
     let written = call(dst);
@@ -130,7 +133,7 @@ pub fn is_same<W: Copy + PartialEq + Default>(wanted: &[W], call: &Call<'_, W>, 
     Ok(())
 }
 
-/// What a call writes.
+/// Returns the output of a call.
 pub fn written<W: Copy + Default>(call: &Call<'_, W>, dst: &mut [W]) -> Vec<W> {
     let length = call(dst);
     dst[..length].to_vec()

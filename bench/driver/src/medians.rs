@@ -1,21 +1,23 @@
-//! The tables of several builds as one: of each number the median, and of each ratio also the least and the greatest.
+//! Makes one table of those of several builds.
+//!
+//! It has the median of each number, and of each ratio also the least and the greatest.
 
 use std::fs;
 
-/// A table: its two lines of heading, and its lines by cells.
+/// A table: the two lines of its heading, and its lines by cells.
 struct Table {
     heading: Vec<String>,
     names: Vec<String>,
     lines: Vec<Vec<String>>,
 }
 
-/// The cells of a line of a table.
+/// Returns the cells of a line of a table.
 fn cells(line: &str) -> Vec<String> {
     let inner = line.strip_prefix('|').and_then(|line| line.strip_suffix('|')).unwrap_or(line);
     inner.split('|').map(|cell| cell.trim().to_string()).collect()
 }
 
-/// The tables of a file, between which stand other lines.
+/// Returns the tables of a file, which may have other lines between them.
 fn parse(text: &str) -> Vec<Table> {
     let mut tables = Vec::new();
     for part in text.split("\n\n") {
@@ -28,13 +30,13 @@ fn parse(text: &str) -> Vec<Table> {
     tables
 }
 
-/// The median of numbers.
+/// Returns the median of numbers.
 pub fn median(numbers: &mut [f64]) -> f64 {
     numbers.sort_by(f64::total_cmp);
     (numbers[(numbers.len() - 1) / 2] + numbers[numbers.len() / 2]) / 2.0
 }
 
-/// A cell of the cells of one column in all builds: what is no number in each of them is the same in all.
+/// Returns one cell for the same cell of all builds. A cell that is not a number must be the same in all of them.
 fn cell(name: &str, same: &[&String]) -> Result<String, String> {
     let numbers: Vec<f64> = same.iter().filter_map(|cell| cell.parse().ok()).collect();
     if numbers.len() < same.len() {

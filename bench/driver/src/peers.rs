@@ -1,5 +1,6 @@
-//! Other libraries that encode: ICU and the C library's iconv. They have other names for the encodings, and other
-//! bytes for some characters.
+//! Encoders of other libraries: ICU and the C library's iconv.
+//!
+//! They have other names for the encodings, and other bytes for some characters.
 
 use crate::loaded::Loaded;
 use crate::pieces::{end_of_piece, Unit};
@@ -8,16 +9,16 @@ use std::ptr::null_mut;
 
 /// An encoder of another library.
 pub trait Peer {
-    /// Encodes a text in UTF-8 so many times in pieces of so many code units (0: in one), and answers how many
-    /// bytes were written the last time; 0 where it fails.
+    /// Encodes a text in UTF-8 `rounds` times, in pieces of `piece` code units (0: in one).
+    ///
+    /// Returns the number of bytes written the last time, or 0 if it fails.
     fn from_utf8(&self, src: &[u8], dst: &mut [u8], piece: usize, rounds: usize) -> usize;
 
-    /// The same from UTF-16.
+    /// Encodes a text in UTF-16 likewise.
     fn from_utf16(&self, src: &[u16], dst: &mut [u8], piece: usize, rounds: usize) -> usize;
 }
 
-/// The names that ICU and iconv have for an encoding of the standard. They are those of the tables that are nearest
-/// to the standard's.
+/// The names that ICU and iconv have for an encoding of the Standard: those of their tables nearest to the Standard's.
 const NAMES: &[(&str, &str, &str)] = &[
     ("EUC-KR", "windows-949-2000", "CP949"),
     ("gb18030", "gb18030", "GB18030"),
@@ -34,13 +35,15 @@ fn names(encoding: &str) -> Option<(&'static str, &'static str)> {
     NAMES.iter().find(|(name, _, _)| *name == encoding).map(|(_, icu, iconv)| (*icu, *iconv))
 }
 
-/// The place in a slice that a pointer points to.
+/// Returns the index in a slice of the item that a pointer points to.
 fn place<T>(slice: &[T], pointer: *const T) -> usize {
     (pointer as usize - slice.as_ptr() as usize) / size_of::<T>()
 }
 
-/// Encodes the pieces of a text by a function that goes on from one place of the text and the output to others, and
-/// that is told where the piece ends and whether it is the last. It stops where the function fails.
+/// Encodes the pieces of a text by a function, and stops if the function fails.
+///
+/// The function takes the position in the text, the end of the piece, the position in the output, and whether the piece
+/// is the last. It returns the new position in the output.
 fn in_pieces<U: Unit>(src: &[U], piece: usize, mut encode: impl FnMut(usize, usize, usize, bool) -> Option<usize>) -> usize {
     let (mut read, mut written) = (0, 0);
     loop {
@@ -57,7 +60,7 @@ fn in_pieces<U: Unit>(src: &[U], piece: usize, mut encode: impl FnMut(usize, usi
 
 // ---- ICU
 
-/// The versions of ICU that are looked for, the newest first. Their functions end in the version.
+/// The versions of ICU to look for, the newest first. The names of their functions end in the version.
 const ICU_VERSIONS: std::ops::Range<u32> = 60..100;
 
 type Open = unsafe extern "C" fn(*const c_char, *mut c_int) -> *mut c_void;
@@ -89,7 +92,7 @@ struct IcuFunctions {
 }
 
 impl IcuFunctions {
-    /// Those of the newest version that is there.
+    /// Loads the functions of the newest version that is installed.
     fn load() -> Option<IcuFunctions> {
         ICU_VERSIONS.rev().find_map(|version| {
             let library = Loaded::open(&format!("libicuuc.so.{version}"))?;
@@ -112,21 +115,21 @@ impl IcuFunctions {
     }
 }
 
-/// A converter of ICU, and one of UTF-8. They are never closed: there are few.
+/// A converter of ICU, and one of UTF-8. They are never closed, because there are few.
 struct Icu {
     functions: IcuFunctions,
     utf8: *mut c_void,
     converter: *mut c_void,
 }
 
-/// The encoder of ICU, if it is there and has the encoding.
+/// Returns the encoder of ICU, if it is installed and has the encoding.
 pub fn icu(encoding: &str) -> Option<Box<dyn Peer>> {
     let functions = IcuFunctions::load()?;
     let (name, _) = names(encoding)?;
     Some(Box::new(Icu { functions, utf8: functions.converter("UTF-8")?, converter: functions.converter(name)? }))
 }
 
-/// Whether ICU is there.
+/// Checks whether ICU is installed.
 pub fn has_icu() -> bool {
     IcuFunctions::load().is_some()
 }
@@ -192,13 +195,13 @@ extern "C" {
     fn iconv(descriptor: *mut c_void, src: *mut *const u8, src_left: *mut usize, dst: *mut *mut u8, dst_left: *mut usize) -> usize;
 }
 
-/// Two conversions of iconv. They are never closed: there are few.
+/// Two conversions of iconv. They are never closed, because there are few.
 struct Iconv {
     utf8: *mut c_void,
     utf16: *mut c_void,
 }
 
-/// The encoder of iconv, if it has the encoding.
+/// Returns the encoder of iconv, if it has the encoding.
 pub fn glibc(encoding: &str) -> Option<Box<dyn Peer>> {
     let (_, name) = names(encoding)?;
     let name = CString::new(name).ok()?;

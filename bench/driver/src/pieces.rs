@@ -1,14 +1,14 @@
-//! Where the pieces of a source end.
+//! The ends of the pieces of a source.
 
 /// The length of a small piece in code units.
 pub const PIECE: usize = 64;
 
 /// A code unit of a text.
 pub trait Unit: Copy + PartialEq + Default {
-    /// Whether the place lies between two characters.
+    /// Checks whether the position is between two characters.
     fn is_between(text: &[Self], place: usize) -> bool;
 
-    /// How many letters and digits the text has, by the standard library.
+    /// Returns the number of letters and digits of the text, by the standard library.
     fn letters(text: &[Self]) -> usize;
 }
 
@@ -33,7 +33,7 @@ impl Unit for u16 {
     }
 }
 
-/// The end of a piece of so many code units, where 0 stands for all that is left.
+/// Returns the end of a piece of `piece` code units, or of all that is left if `piece` is 0.
 pub fn piece_end(read: usize, len: usize, piece: usize) -> usize {
     if piece == 0 {
         len
@@ -42,7 +42,7 @@ pub fn piece_end(read: usize, len: usize, piece: usize) -> usize {
     }
 }
 
-/// The same up to the next place between two characters.
+/// Returns the end of such a piece, moved up to the next position between two characters.
 pub fn end_of_piece<U: Unit>(text: &[U], read: usize, piece: usize) -> usize {
     let mut end = piece_end(read, text.len(), piece);
     while !U::is_between(text, end) {

@@ -1,5 +1,5 @@
-//! Times the program `legacy_recode`: the processor time of whole runs over a long input, and that of `iconv` and of
-//! `uconv` where they do the same.
+//! Times the programs `legacy_recode` and `legacy_encode`: the processor time of whole runs over a long input, and that of
+//! `iconv` and of `uconv` where they do the same.
 
 use crate::{corpora, indexes};
 use encoding_rs::{Encoding, SHIFT_JIS};
@@ -10,13 +10,22 @@ use std::path::Path;
 use std::process::{Command, Output, Stdio};
 use std::time::Duration;
 
-/// The program, as `rt run` leaves it in its crate's folder.
+/// The program, which `rt run` puts in its crate's folder.
 const PROGRAM: &str = concat!(env!("CARGO_MANIFEST_DIR"), "/../../crates/legacy_recode/out/legacy_recode");
+
+/// The program that encodes, as `rt run` leaves it in its crate's folder.
+const ENCODER: &str = concat!(env!("CARGO_MANIFEST_DIR"), "/../../crates/legacy_encode/out/legacy_encode");
+
+/// The text of the corpus in UTF-8, on which the output is compared.
+const TEXT_SHORT: &str = concat!(env!("CARGO_MANIFEST_DIR"), "/../target/encode-short.txt");
+
+/// The text repeated, on which the program is timed.
+const TEXT_LONG: &str = concat!(env!("CARGO_MANIFEST_DIR"), "/../target/encode-long.txt");
 
 /// The index jis0208 as a file.
 const INDEX: &str = concat!(env!("CARGO_MANIFEST_DIR"), "/../target/index-jis0208.txt");
 
-/// The corpus once, on which the output is compared.
+/// The corpus once, for which the output is compared.
 const SHORT: &str = concat!(env!("CARGO_MANIFEST_DIR"), "/../target/recode-short.txt");
 
 /// The corpus repeated, on which the program is timed.
@@ -25,16 +34,16 @@ const LONG: &str = concat!(env!("CARGO_MANIFEST_DIR"), "/../target/recode-long.t
 /// Bytes FF, each of which is malformed in Big5.
 const MALFORMED: &str = concat!(env!("CARGO_MANIFEST_DIR"), "/../target/recode-malformed.txt");
 
-/// How many bytes the long input has at least, and how many malformed ones there are.
+/// The least number of bytes of the long input, and the number of malformed bytes.
 const LEAST: usize = 200_000_000;
 
-/// On how many malformed bytes the output is compared.
+/// The number of malformed bytes for which the output is compared.
 const FEW_MALFORMED: usize = 200_000;
 
-/// How many times each run is timed.
+/// The number of times that each run is timed.
 const TIMES: usize = 8;
 
-/// The words of each run, where FILE stands for the index file. The first is a label of the encoding too.
+/// The words of each run, in which FILE means the index file. The first word is a label of the encoding too.
 const REQUESTS: &[&[&str]] = &[&["shift_jis", "jis0208", "FILE"], &["x-user-defined"]];
 
 /// A run that writes the text of the long input, in Shift_JIS, as UTF-8.
@@ -45,11 +54,25 @@ struct TextRun {
     words: &'static [&'static str],
 }
 
-/// The runs that write text, which are timed in turn. The first is the program's.
+/// The runs that write text, which are timed in turn. The first one is of our program.
 const TEXT_RUNS: &[TextRun] = &[
     TextRun { program: PROGRAM, package: "", words: &["--text", "shift_jis", "jis0208", "FILE"] },
     TextRun { program: "iconv", package: "libc-bin", words: &["-f", "SHIFT_JIS", "-t", "UTF-8"] },
     TextRun { program: "uconv", package: "icu-devtools", words: &["-f", "Shift_JIS", "-t", "UTF-8"] },
+];
+
+/// The runs that write the bytes of the long text in Shift_JIS, which are timed in turn. The first is the program's. The
+/// others' Shift_JIS without Microsoft's rows has no backslash.
+const ENCODE_RUNS: &[TextRun] = &[
+    TextRun { program: ENCODER, package: "", words: &["shift_jis", "jis0208", "FILE"] },
+    TextRun { program: "iconv", package: "libc-bin", words: &["-f", "UTF-8", "-t", "CP932"] },
+    TextRun { program: "uconv", package: "icu-devtools", words: &["-f", "UTF-8", "-t", "windows-31j"] },
+];
+
+/// The runs that write the long input, in Shift_JIS, as EUC-JP, which are timed in turn. The first is both programs.
+const BOTH_WAYS: &[TextRun] = &[
+    TextRun { program: "sh", package: "dash", words: &["-c", "\"$0\" --text shift_jis jis0208 \"$2\" | \"$1\" euc-jp jis0208 \"$2\"", PROGRAM, ENCODER, "FILE"] },
+    TextRun { program: "iconv", package: "libc-bin", words: &["-f", "CP932", "-t", "EUC-JP-MS"] },
 ];
 
 /// How many lines and bytes are written.
@@ -58,7 +81,7 @@ struct Size {
     bytes: usize,
 }
 
-/// The processor time, in the program and in the system for it, of all children that have ended.
+/// Returns the processor time of all children that have ended, in the program and in the system.
 fn children_time() -> Duration {
     #[repr(C)]
     struct Timeval {
@@ -83,7 +106,7 @@ fn children_time() -> Duration {
     duration(&usage.user) + duration(&usage.system)
 }
 
-/// The index jis0208 in the form in which the standard publishes it.
+/// Returns index jis0208 in the form in which the Standard publishes it.
 fn index_text() -> String {
     let mut text = String::new();
     for (pointer, scalar) in indexes::jis0208().into_iter().enumerate().filter(|(_, scalar)| *scalar != 0) {
@@ -92,7 +115,7 @@ fn index_text() -> String {
     text
 }
 
-/// Writes the bytes so many times.
+/// Writes the bytes `repeats` times.
 fn write_repeated(path: &str, bytes: &[u8], repeats: usize) -> io::Result<()> {
     let mut file = File::create(path)?;
     for _ in 0..repeats {
@@ -101,14 +124,17 @@ fn write_repeated(path: &str, bytes: &[u8], repeats: usize) -> io::Result<()> {
     Ok(())
 }
 
-/// Makes the index file and the inputs. Answers the corpus and how often the long input has it.
+/// Makes the index file and the inputs. Returns the corpus and how often the long input has it.
 fn make_files() -> Result<(Vec<u8>, usize), String> {
     let pages = corpora::html("ja-JP").map_err(|error| format!("ja-JP: {error}"))?;
     let corpus = corpora::encode_once(SHIFT_JIS, &pages);
     let repeats = LEAST.div_ceil(corpus.len());
     let malformed = vec![0xFF; FEW_MALFORMED];
     let index = index_text();
-    let files: [(&str, &[u8], usize); 4] = [
+    let text = SHIFT_JIS.decode_without_bom_handling(&corpus).0;
+    let files: [(&str, &[u8], usize); 6] = [
+        (TEXT_SHORT, text.as_bytes(), 1),
+        (TEXT_LONG, text.as_bytes(), LEAST.div_ceil(text.len())),
         (INDEX, index.as_bytes(), 1),
         (SHORT, &corpus, 1),
         (LONG, &corpus, repeats),
@@ -120,7 +146,7 @@ fn make_files() -> Result<(Vec<u8>, usize), String> {
     Ok((corpus, repeats))
 }
 
-/// Runs a program to its end with the input. It has to end with status 0 and to tell no error.
+/// Runs a program to its end with the input. It must end with status 0 and write no error.
 fn run(program: &str, words: &[&str], input: Stdio, output: Stdio) -> Result<Output, String> {
     let words = words.iter().map(|word| if *word == "FILE" { INDEX } else { word });
     let child = Command::new(program).args(words).stdin(input).stdout(output).stderr(Stdio::piped()).spawn();
@@ -131,12 +157,12 @@ fn run(program: &str, words: &[&str], input: Stdio, output: Stdio) -> Result<Out
     Ok(ended)
 }
 
-/// The file, as the input of a program.
+/// Opens the file as the input of a program.
 fn input(path: &str) -> Result<Stdio, String> {
     File::open(path).map(Stdio::from).map_err(|error| format!("{path}: {error}"))
 }
 
-/// The lines of encoding_rs's scalars.
+/// Returns the lines of encoding_rs's scalars.
 fn wanted_lines(encoding: &'static Encoding, src: &[u8]) -> Result<String, String> {
     let decoded = encoding.decode_without_bom_handling_and_without_replacement(src);
     let mut lines = String::new();
@@ -146,7 +172,7 @@ fn wanted_lines(encoding: &'static Encoding, src: &[u8]) -> Result<String, Strin
     Ok(lines)
 }
 
-/// The first difference between what was written and what is wanted.
+/// Checks that an output is the wanted one. The error names the first difference.
 fn compare(written: &[u8], wanted: &[u8]) -> Result<(), String> {
     if written == wanted {
         return Ok(());
@@ -156,7 +182,7 @@ fn compare(written: &[u8], wanted: &[u8]) -> Result<(), String> {
     Err(format!("{} bytes, not {}; first difference in line {line}", written.len(), wanted.len()))
 }
 
-/// Compares what the program writes of the corpus with the lines of encoding_rs's scalars.
+/// Compares what the program writes for the corpus with the lines of encoding_rs's scalars.
 fn compare_lines(words: &[&str], corpus: &[u8]) -> Result<Size, String> {
     let encoding = Encoding::for_label(words[0].as_bytes()).ok_or("no such encoding")?;
     let wanted = wanted_lines(encoding, corpus)?;
@@ -165,14 +191,14 @@ fn compare_lines(words: &[&str], corpus: &[u8]) -> Result<Size, String> {
     Ok(Size { lines: wanted.lines().count(), bytes: wanted.len() })
 }
 
-/// The processor time of one run, whose output is thrown away.
+/// Returns the processor time of one run, whose output is thrown away.
 fn time(program: &str, words: &[&str], path: &str) -> Result<Duration, String> {
     let start = children_time();
     run(program, words, input(path)?, Stdio::null())?;
     Ok(children_time() - start)
 }
 
-/// The least processor time of some runs of the program.
+/// Returns the least processor time of some runs of the program.
 fn best_time(words: &[&str], path: &str) -> Result<Duration, String> {
     let mut least = Duration::MAX;
     for _ in 0..TIMES {
@@ -181,7 +207,7 @@ fn best_time(words: &[&str], path: &str) -> Result<Duration, String> {
     Ok(least)
 }
 
-/// One line of the table.
+/// Prints one line of the table.
 fn line(words: &[&str], corpus: &[u8], repeats: usize) -> Result<(), String> {
     let once = compare_lines(words, corpus)?;
     let seconds = best_time(words, LONG)?.as_secs_f64();
@@ -197,8 +223,9 @@ fn line(words: &[&str], corpus: &[u8], repeats: usize) -> Result<(), String> {
     Ok(())
 }
 
-/// The line of the run over malformed bytes, without an index. What is written of the first ones is compared with what
-/// the form of such lines says.
+/// Prints the line of the run over malformed bytes, without an index.
+///
+/// The output for the first of them is compared with lines made here.
 fn malformed_line() -> Result<(), String> {
     let words = ["big5"];
     let mut first = File::open(MALFORMED).map_err(|error| format!("{MALFORMED}: {error}"))?;
@@ -222,26 +249,35 @@ fn malformed_line() -> Result<(), String> {
     Ok(())
 }
 
-/// The table of the runs that write text. What the program writes of the corpus is compared with what encoding_rs
-/// decodes; the others give some characters otherwise, and are only timed.
-fn text_table(corpus: &[u8], repeats: usize) -> Result<(), String> {
-    let wanted = SHIFT_JIS.decode_without_bom_handling(corpus).0;
-    let written = run(PROGRAM, TEXT_RUNS[0].words, input(SHORT)?, Stdio::piped())?.stdout;
-    compare(&written, wanted.as_bytes())?;
-    let mut least = vec![Duration::MAX; TEXT_RUNS.len()];
+/// The table of runs over a short input and a long one. What the first of them writes of the short input is compared with
+/// what is wanted; the others give some characters otherwise, and are only timed.
+fn runs_table(title: &str, runs: &[TextRun], short: &str, long: &str, wanted: &[u8]) -> Result<(), String> {
+    let written = run(runs[0].program, runs[0].words, input(short)?, Stdio::piped())?.stdout;
+    compare(&written, wanted)?;
+    let length = std::fs::metadata(long).map_err(|error| format!("{long}: {error}"))?.len();
+    let mut least = vec![Duration::MAX; runs.len()];
     for _ in 0..TIMES {
-        for (best, text) in least.iter_mut().zip(TEXT_RUNS) {
-            *best = (*best).min(time(text.program, text.words, LONG)?);
+        for (best, text) in least.iter_mut().zip(runs) {
+            *best = (*best).min(time(text.program, text.words, long)?);
         }
     }
-    println!("\n| to UTF-8 | processor time (s) | input MB/s |\n|---|---|---|");
-    for (best, text) in least.iter().zip(TEXT_RUNS) {
+    println!("\n| {title} | processor time (s) | input MB/s |\n|---|---|---|");
+    for (best, text) in least.iter().zip(runs) {
         let name = text.program.rsplit('/').next().unwrap_or(text.program);
+        let words = if name == "sh" { "legacy_recode --text shift_jis, legacy_encode euc-jp".into() } else { text.words.join(" ") };
         let seconds = best.as_secs_f64();
-        let speed = (corpus.len() * repeats) as f64 / 1e6 / seconds;
-        println!("| {name} {} | {seconds:.2} | {speed:.0} |", text.words.join(" "));
+        println!("| {name} {words} | {seconds:.2} | {:.0} |", length as f64 / 1e6 / seconds);
     }
     Ok(())
+}
+
+/// The tables of the runs that write text, that encode, and that do both.
+fn stream_tables(corpus: &[u8]) -> Result<(), String> {
+    let text = SHIFT_JIS.decode_without_bom_handling(corpus).0;
+    let euc_jp = encoding_rs::EUC_JP.encode(&text).0;
+    runs_table("to UTF-8", TEXT_RUNS, SHORT, LONG, text.as_bytes())?;
+    runs_table("from UTF-8", ENCODE_RUNS, TEXT_SHORT, TEXT_LONG, corpus)?;
+    runs_table("from Shift_JIS to EUC-JP", BOTH_WAYS, SHORT, LONG, &euc_jp)
 }
 
 /// Whether a program can be run.
@@ -249,10 +285,12 @@ fn is_there(program: &str) -> bool {
     Command::new(program).arg("--version").stdout(Stdio::null()).stderr(Stdio::null()).status().is_ok()
 }
 
-/// The tables of the program's runs.
+/// Prints the tables of the program's runs.
 pub fn table() -> Result<(), String> {
-    if !Path::new(PROGRAM).is_file() {
-        return Err(format!("missing: the program {PROGRAM} (rt run in its crate's folder builds it)"));
+    for program in [PROGRAM, ENCODER] {
+        if !Path::new(program).is_file() {
+            return Err(format!("missing: the program {program} (rt run in its crate's folder builds it)"));
+        }
     }
     for TextRun { program, package, .. } in &TEXT_RUNS[1..] {
         if !is_there(program) {
@@ -266,5 +304,5 @@ pub fn table() -> Result<(), String> {
         line(words, &corpus, repeats).map_err(|error| format!("{}: {error}", words.join(" ")))?;
     }
     malformed_line().map_err(|error| format!("big5: {error}"))?;
-    text_table(&corpus, repeats)
+    stream_tables(&corpus)
 }

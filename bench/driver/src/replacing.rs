@@ -1,5 +1,6 @@
-//! The table of calls with replacement: text without faults, beside raw calls, and text with many, beside
-//! encoding_rs's own calls with replacement.
+//! The table of calls with replacement.
+//!
+//! Clean text is timed beside raw calls, and text with many faults beside encoding_rs's calls with replacement.
 
 use crate::decoding::{self, Codec, Into, ToUtf16, ToUtf8};
 use crate::encoding::{self, fast_encoding, From, FromUtf16, FromUtf8};
@@ -9,7 +10,7 @@ use crate::rounds::measured;
 use encoding_rs::{Encoding, BIG5};
 use std::time::Duration;
 
-/// What stands for every other character: no legacy encoding but gb18030 has it.
+/// The replacement of every other character: of the legacy encodings only gb18030 has it.
 const LACKING: char = '\u{1F4A9}';
 
 /// The length of the bytes that are all malformed.
@@ -23,8 +24,10 @@ pub fn heading() -> String {
     format!("| corpus | encoding | calls | {} |\n|{}", columns.join(" | "), "---|".repeat(18))
 }
 
-/// The cells of one source, of the times of encoding_rs, of raw calls, of calls with replacement, and of both
-/// without anything to convert.
+/// Returns the cells of one source.
+///
+/// The times are those of encoding_rs, of raw calls, of calls with replacement, and of both without anything to
+/// convert.
 fn cells(bytes: usize, best: &[Option<Duration>]) -> String {
     let theirs = speed(bytes, best[0]);
     let raw = speed(bytes, without(best[1], best[3]));
@@ -66,7 +69,7 @@ fn encode_line<D: From>(corpus: &str, codec: &Ours, encoding: &'static Encoding,
     Ok(())
 }
 
-/// The lines of text without faults.
+/// Prints the lines of text without faults.
 pub fn lines(corpus: &str, codec: &Codec, long: &[u8], short: &[u8], times: usize) -> Result<(), String> {
     let encoding = codec.encoding;
     decode_line::<ToUtf8>(corpus, &codec.flat, encoding, long, short, times)?;
@@ -80,18 +83,18 @@ pub fn lines(corpus: &str, codec: &Codec, long: &[u8], short: &[u8], times: usiz
     encode_line::<FromUtf16>(corpus, packed, encoding, &long, &short, times)
 }
 
-/// The bytes of every other character, with a malformed byte in place of the others.
+/// Encodes every other character, with a malformed byte in place of the others.
 fn half_malformed(encoding: &'static Encoding, text: &str) -> Vec<u8> {
     let encoded = |c: char| encoding.encode(c.encode_utf8(&mut [0; 4])).0.into_owned();
     text.chars().enumerate().flat_map(|(at, c)| if at % 2 == 0 { encoded(c) } else { vec![0xFF] }).collect()
 }
 
-/// The text with every other character replaced by one that the encoding lacks.
+/// Returns the text with every other character replaced by one that the encoding lacks.
 fn half_lacking(text: &str) -> String {
     text.chars().enumerate().map(|(at, c)| if at % 2 == 0 { c } else { LACKING }).collect()
 }
 
-/// The lines of a text in which every other character is malformed, or lacks bytes.
+/// Prints the lines of a text in which every other character is malformed or unmappable.
 pub fn faulty_lines(corpus: &str, codec: &Codec, long: &[u8], short: &[u8], times: usize) -> Result<(), String> {
     let (encoding, corpus) = (codec.encoding, format!("{corpus}, half of it faults"));
     let (long, short) = (encoding::decoded(encoding, long), encoding::decoded(encoding, short));
@@ -104,7 +107,7 @@ pub fn faulty_lines(corpus: &str, codec: &Codec, long: &[u8], short: &[u8], time
     encode_line::<FromUtf16>(&corpus, packed, encoding, &long, &short, times)
 }
 
-/// The lines of Big5 over bytes FF, each of which is malformed.
+/// Prints the lines of Big5 over bytes FF, each of which is malformed.
 pub fn ff_lines(codec: &Ours, times: usize) -> Result<(), String> {
     let (long, short) = (vec![0xFF; LENGTH], vec![0xFF; LENGTH / 20]);
     decode_line::<ToUtf8>("bytes FF", codec, BIG5, &long, &short, times)?;

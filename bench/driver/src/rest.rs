@@ -1,6 +1,7 @@
-//! Whether the processor's core is at rest. On a shared host another guest may run on the same core. Then what runs at four
-//! instructions in a cycle takes up to twice as long, and what waits for memory hardly longer, so that a ratio of the two
-//! tells of that guest.
+//! Checks whether the processor's core is at rest.
+//!
+//! On a shared host another guest may run on the same core. Then code that runs at four instructions in a cycle takes
+//! up to twice as long, and code that waits for memory hardly longer. A ratio of the two would depend on that guest.
 
 use crate::measure::thread_time;
 use std::cell::RefCell;
@@ -8,17 +9,17 @@ use std::hint::black_box;
 use std::thread::sleep;
 use std::time::{Duration, Instant};
 
-/// How much longer than at its best the loop of additions may take where the core is at rest.
+/// The greatest ratio of the time of the additions to their best time at which the core counts as at rest.
 const REST: f64 = 1.1;
 
-/// How long a call waits for rest, and how long all calls of a build do.
+/// How long a call waits for rest, and how long all calls of a build do together.
 const PATIENCE_OF_CALL: Duration = Duration::from_millis(50);
 const PATIENCE_OF_ALL: Duration = Duration::from_secs(240);
 
-/// How long the core is watched before the first call, so that its best is known.
+/// How long the core is watched before the first call, so that its best time is known.
 const WATCHED: Duration = Duration::from_secs(2);
 
-/// The time of additions of which each waits for the fourth one before it: a processor makes four of them in a cycle.
+/// Times additions, each of which waits for the fourth one before it: a processor makes four of them in a cycle.
 fn additions() -> Duration {
     let start = thread_time();
     let mut sums = [0u64; 4];
@@ -37,14 +38,14 @@ fn additions() -> Duration {
     thread_time() - start
 }
 
-/// What is known of the core: the best time of the additions, and how long was waited for such times.
+/// What is known of the core: the best time of the additions, and the time spent waiting for rest.
 struct Core {
     least: Duration,
     waited: Duration,
 }
 
 impl Core {
-    /// Watches it for a while.
+    /// Watches the core for a while.
     fn new() -> Core {
         let start = Instant::now();
         let mut least = Duration::MAX;
@@ -79,12 +80,12 @@ thread_local! {
     static CORE: RefCell<Core> = RefCell::new(Core::new());
 }
 
-/// Whether the core is at rest.
+/// Checks whether the core is at rest.
 pub fn is_at_rest() -> bool {
     CORE.with_borrow_mut(Core::is_at_rest)
 }
 
-/// Waits until the core is at rest, as far as there is patience, and answers whether it is.
+/// Waits until the core is at rest or the allowed time is over, and returns whether it is at rest.
 pub fn wait() -> bool {
     CORE.with_borrow_mut(Core::wait)
 }

@@ -1,4 +1,4 @@
-//! Packed indexes as source text: constants in Rust and Rattle, for who wants them compiled in.
+//! Prints packed indexes as source text: constants in Rust and Rattle, to be compiled in.
 
 use crate::ours::Run;
 use crate::{indexes, packing};
@@ -12,7 +12,7 @@ impl Debug for Run {
     }
 }
 
-/// A constant of a list, an item a line.
+/// Prints a constant of a list, one item a line.
 fn constant<T: Debug>(name: &str, of: &str, list: &[T]) {
     println!("pub const {name}: [{of}; {}] = [", list.len());
     for item in list {

@@ -1,13 +1,12 @@
-//! encoding_rs, called as the codecs of the static library are: piece by piece, by raw calls or by calls with
-//! replacement.
+//! Calls of encoding_rs in the same way as those of the static library: piece by piece, raw or with replacement.
 
 use crate::pieces::{end_of_piece, piece_end};
 use encoding_rs::{CoderResult, DecoderResult, Encoding};
 
 macro_rules! decode {
     ($name:ident, $unit:ty, $call:ident, $replacement:expr) => {
-        /// Decodes the source so many times, with U+FFFD for each malformed sequence, in pieces of so many
-        /// bytes (0: in one). Answers how many code units were written the last time.
+        /// Decodes the source `rounds` times, with U+FFFD for each malformed sequence, in pieces of `piece` bytes (0:
+        /// in one). Returns the number of code units written the last time.
         pub fn $name(encoding: &'static Encoding, src: &[u8], dst: &mut [$unit], piece: usize, rounds: usize) -> usize {
             let mut written = 0;
             for _ in 0..rounds {
@@ -40,7 +39,7 @@ decode!(to_utf16, u16, decode_to_utf16_without_replacement, [0xFFFDu16]);
 
 macro_rules! decode_replacing {
     ($name:ident, $unit:ty, $call:ident) => {
-        /// The same by calls with replacement.
+        /// Decodes likewise by calls with replacement.
         pub fn $name(encoding: &'static Encoding, src: &[u8], dst: &mut [$unit], piece: usize, rounds: usize) -> usize {
             let mut written = 0;
             for _ in 0..rounds {
@@ -67,21 +66,22 @@ macro_rules! decode_replacing {
 decode_replacing!(replacing_to_utf8, u8, decode_to_utf8);
 decode_replacing!(replacing_to_utf16, u16, decode_to_utf16);
 
-/// The text of these bytes, which were made as a string.
+/// Returns these bytes, which come from a string, as text.
 fn as_text(src: &[u8]) -> &str {
     unsafe { std::str::from_utf8_unchecked(src) }
 }
 
-/// Code units as they are.
+/// Returns the code units unchanged.
 fn as_units(src: &[u16]) -> &[u16] {
     src
 }
 
 macro_rules! encode {
     ($name:ident, $library:ident, $unit:ty, $call:ident, $as_source:ident) => {
-        /// Encodes the text so many times, with a question mark for each character that the encoding lacks, in
-        /// pieces of so many code units and up to the next place between two characters (0: in one). Answers how
-        /// many bytes were written the last time.
+        /// Encodes the text `rounds` times, with a question mark for each unmappable character.
+        ///
+        /// A piece has `piece` code units, up to the next position between two characters (0: in one). Returns the
+        /// number of bytes written the last time.
         pub fn $name(encoding: &'static $library::Encoding, src: &[$unit], dst: &mut [u8], piece: usize, rounds: usize) -> usize {
             let mut written = 0;
             for _ in 0..rounds {
@@ -116,7 +116,7 @@ encode!(fast_from_utf16, encoding_rs_fast, u16, encode_from_utf16_without_replac
 
 macro_rules! encode_replacing {
     ($name:ident, $unit:ty, $call:ident, $as_source:ident) => {
-        /// The same with the fast tables and by calls with replacement, which write references.
+        /// Encodes likewise with the fast tables and by calls with replacement, which write references.
         pub fn $name(encoding: &'static encoding_rs_fast::Encoding, src: &[$unit], dst: &mut [u8], piece: usize, rounds: usize) -> usize {
             let mut written = 0;
             for _ in 0..rounds {

@@ -1,10 +1,13 @@
-//! Calls of the static library over flat and packed tables, and with pairs looked up ahead, into outputs behind which nothing may be written.
+//! Calls of the static library into outputs past which nothing may be written.
+//!
+//! They are made over flat and packed tables, and with cached pairs.
 
 use crate::codec::Codec;
 use crate::ours::{numbers, Calls, Kept, Ours};
 use crate::tables::Tables;
 
-fn number(codec: Codec) -> u32 {
+/// The number that the header gives the codec.
+pub fn number(codec: Codec) -> u32 {
     match codec {
         Codec::SingleByte => numbers::LEGACY_SINGLE_BYTE,
         Codec::Gbk => numbers::LEGACY_GBK,
@@ -21,23 +24,23 @@ fn number(codec: Codec) -> u32 {
     }
 }
 
-/// Which calls a source goes through, how it is handed in, and how much of the output is.
+/// How a source is converted: by which calls, in what pieces, and into how much of the output.
 #[derive(Clone, Copy, Debug)]
 pub struct Cut {
     pub kept: Kept,
     pub calls: Calls,
-    /// How many code units a piece has; 0: all in one.
+    /// The number of code units of a piece; 0: all in one.
     pub piece: usize,
-    /// How many code units of the output are handed in.
+    /// The number of code units of the output that are passed.
     pub room: usize,
 }
 
-/// How many code units lie behind what is handed in of an output, where nothing may be written.
+/// The number of code units after the passed output. Nothing may be written there.
 const GUARD: usize = 8;
 
-/// What a function wrote, or `None` where it refused the tables.
+/// Returns what a function wrote, or `None` if it refused the tables.
 ///
-/// It is an error where it says that it wrote more than there was room for, or wrote behind the output's end.
+/// It is an error if the function reports more than the room, or writes past the end of the output.
 fn called<W: Copy + PartialEq>(room: usize, blank: W, function: impl FnOnce(&mut [W]) -> usize) -> Result<Option<Vec<W>>, String> {
     let mut output = vec![blank; room + GUARD];
     let written = function(&mut output[..room]);
@@ -54,7 +57,7 @@ fn called<W: Copy + PartialEq>(room: usize, blank: W, function: impl FnOnce(&mut
     Ok(Some(output))
 }
 
-/// A codec of the library, over flat tables, over packed ones, and over these with its pairs looked up ahead.
+/// A codec of the library over flat tables, over packed ones, and over packed ones with cached pairs.
 pub struct Library {
     flat: Ours,
     packed: Ours,
@@ -67,7 +70,7 @@ impl Library {
         Library { flat: with(Kept::Flat), packed: with(Kept::Packed), ahead: with(Kept::Ahead) }
     }
 
-    /// The library over packed tables.
+    /// Returns the library over packed tables.
     pub fn packed(&mut self) -> &mut Ours {
         &mut self.packed
     }

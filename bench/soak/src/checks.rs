@@ -57,13 +57,13 @@ impl fmt::Display for Count {
     }
 }
 
-/// How tables are kept, and whether pairs are looked up ahead.
+/// The ways to keep tables, and to cache pairs.
 const KEPT: [Kept; 3] = [Kept::Flat, Kept::Packed, Kept::Ahead];
 
 /// The kinds of calls.
 const CALLS: [Calls; 2] = [Calls::Raw, Calls::Replacing];
 
-/// The codec's functions refuse the tables, kept so.
+/// Checks that the codec's functions refuse the tables if they are kept in these ways.
 pub fn refuses(codec: Codec, library: &Library, kept: &[Kept]) -> Result<(), String> {
     for (kept, calls) in kept.iter().flat_map(|kept| CALLS.map(|calls| (*kept, calls))) {
         let cut = Cut { kept, calls, piece: 0, room: 16 };
@@ -78,13 +78,17 @@ pub fn refuses(codec: Codec, library: &Library, kept: &[Kept]) -> Result<(), Str
     Ok(())
 }
 
-/// How much more room than is left an act may ask for: four bytes of an output in UTF-8 or of an encoder's, two
-/// code units of UTF-16; and a call with replacement ten more bytes, which a reference may have.
-const ROOM_IN_BYTES: usize = 4;
-const ROOM_IN_UNITS: usize = 2;
-const ROOM_WITH_REFERENCE: usize = 14;
+/// The most room that the next write may need.
+///
+/// It is four bytes of UTF-8 or of an encoder's output, and two code units of UTF-16. A call with replacement may need
+/// ten more bytes, for a reference.
+pub const ROOM_IN_BYTES: usize = 4;
+pub const ROOM_IN_UNITS: usize = 2;
+pub const ROOM_WITH_REFERENCE: usize = 14;
 
-/// Cuts to try by these calls: whole, in pieces, and into outputs that are too small; each over tables of some kind.
+/// Returns cuts to try by these calls, each over tables of some kind.
+///
+/// They are the whole source, pieces, and outputs that are too small.
 fn cuts(numbers: &mut Numbers, calls: Calls, source: usize, output: usize) -> Vec<Cut> {
     let ample = output + 16;
     let small = |numbers: &mut Numbers| numbers.below(output + 4);
@@ -101,9 +105,10 @@ fn cuts(numbers: &mut Numbers, calls: Calls, source: usize, output: usize) -> Ve
     cuts.into_iter().map(&mut cut).collect()
 }
 
-/// What was written is all of what is wanted, or a front of it that ends between two characters and behind which
-/// there was no room.
-fn is_front<U: Copy + PartialEq + fmt::Debug>(
+/// Checks that the output is all of the wanted one, or a prefix of it.
+///
+/// A prefix must end between two characters, with no room for more.
+pub fn is_front<U: Copy + PartialEq + fmt::Debug>(
     came: &[U],
     wanted: &[U],
     cut: Cut,
@@ -127,15 +132,17 @@ fn is_front<U: Copy + PartialEq + fmt::Debug>(
     Ok(())
 }
 
-fn is_between_bytes(text: &[u8], place: usize) -> bool {
+/// Whether the place in a text in UTF-8 is between two characters.
+pub fn is_between_bytes(text: &[u8], place: usize) -> bool {
     text.get(place).is_none_or(|byte| byte & 0xC0 != 0x80)
 }
 
-fn is_between_units(units: &[u16], place: usize) -> bool {
+/// Whether the place in a text in UTF-16 is between two characters.
+pub fn is_between_units(units: &[u16], place: usize) -> bool {
     units.get(place).is_none_or(|unit| unit & 0xFC00 != 0xDC00)
 }
 
-/// A codec, its tables, and the encoding of encoding_rs where the tables are its own.
+/// A codec, its tables, and the encoding of encoding_rs if the tables are that encoding's own.
 pub struct Round<'a> {
     library: Library,
     codec: Codec,
@@ -182,7 +189,7 @@ impl<'a> Round<'a> {
         Ok(())
     }
 
-    /// Encodes a text from UTF-8 and from UTF-16 in several cuts, and decodes what came.
+    /// Encodes a text from UTF-8 and from UTF-16 in several cuts, and decodes the result.
     pub fn encodes(&self, numbers: &mut Numbers, count: &mut Count) -> Result<(), String> {
         let units = sources::any_text(numbers, &self.scalars);
         let scalars = sources::text_of(&units);
@@ -215,7 +222,7 @@ impl<'a> Round<'a> {
         Ok(())
     }
 
-    /// What such calls are to write for the scalars, by the model, with which encoding_rs has to agree.
+    /// Returns what such calls must write for the scalars, by the model. encoding_rs must agree with it.
     fn wanted(&self, scalars: &[char], calls: Calls) -> Result<Vec<u8>, String> {
         let wanted = model::encoders::encode(self.codec, self.tables, &self.pointers, scalars, calls);
         if let Some(encoding) = self.theirs {
@@ -227,12 +234,13 @@ impl<'a> Round<'a> {
         Ok(wanted)
     }
 
-    /// What was encoded decodes to one scalar for each of the text's: itself, a question mark where it has no bytes,
-    /// or the scalar that it is written as.
+    /// Checks that the encoded bytes decode to one scalar for each scalar of the text.
+    ///
+    /// It is the scalar itself, a question mark if that is unmappable, or the scalar with whose bytes it is encoded.
     fn decodes_back(&self, scalars: &[char], encoded: &[u8], count: &mut Count) -> Result<(), String> {
         let is_gb18030 = matches!(self.codec, Codec::Gbk | Codec::Gb18030);
         if is_gb18030 && scalars.iter().any(|scalar| model::side_table(*scalar).is_some()) {
-            // A row's bytes are the index's to decode, and it may have nothing there.
+            // The bytes of a row of the side table are decoded by the index, which may have no entry there.
             return Ok(());
         }
         let cut = Cut { kept: Kept::Packed, calls: Calls::Raw, piece: 0, room: scalars.len() * 4 + 16 };
@@ -251,13 +259,13 @@ impl<'a> Round<'a> {
     }
 }
 
-/// Whether some codec writes the scalar with the bytes of another.
-fn is_fold(scalar: char) -> bool {
+/// Checks whether some codec encodes the scalar with the bytes of another.
+pub fn is_fold(scalar: char) -> bool {
     matches!(scalar, '\u{2212}' | '\u{A5}' | '\u{203E}' | '\u{FF61}'..='\u{FF9F}')
 }
 
-/// The text of the bytes by encoding_rs.
-fn decoded_by_theirs(encoding: &'static Encoding, source: &[u8]) -> String {
+/// Decodes the bytes by encoding_rs.
+pub fn decoded_by_theirs(encoding: &'static Encoding, source: &[u8]) -> String {
     let mut decoder = encoding.new_decoder_without_bom_handling();
     let mut text = String::new();
     let mut read = 0;
@@ -273,8 +281,8 @@ fn decoded_by_theirs(encoding: &'static Encoding, source: &[u8]) -> String {
     }
 }
 
-/// The bytes of the text by encoding_rs.
-fn encoded_by_theirs(encoding: &'static Encoding, text: &str, calls: Calls) -> Vec<u8> {
+/// Encodes the text by encoding_rs.
+pub fn encoded_by_theirs(encoding: &'static Encoding, text: &str, calls: Calls) -> Vec<u8> {
     let mut encoder = encoding.new_encoder();
     let mut bytes = Vec::new();
     let mut read = 0;

@@ -1,9 +1,9 @@
-//! The codecs, and the encodings of encoding_rs that stand for them.
+//! The codecs, and the encodings of encoding_rs that each has.
 
 use encoding_rs::Encoding;
 
 /// A codec of the Standard. Both byte orders of UTF-16 are one codec each, and so are GBK and gb18030.
-#[derive(Clone, Copy, Debug, PartialEq, Eq)]
+#[derive(Clone, Copy, Debug, PartialEq, Eq, Hash)]
 pub enum Codec {
     SingleByte,
     Gbk,
@@ -34,7 +34,7 @@ pub const CODECS: [Codec; 12] = [
     Codec::UserDefined,
 ];
 
-/// The single-byte encodings of the Standard, by their names.
+/// The names of the single-byte encodings of the Standard.
 pub const SINGLE_BYTE: [&str; 28] = [
     "IBM866", "ISO-8859-2", "ISO-8859-3", "ISO-8859-4", "ISO-8859-5", "ISO-8859-6", "ISO-8859-7", "ISO-8859-8",
     "ISO-8859-8-I", "ISO-8859-10", "ISO-8859-13", "ISO-8859-14", "ISO-8859-15", "ISO-8859-16", "KOI8-R", "KOI8-U",
@@ -43,7 +43,7 @@ pub const SINGLE_BYTE: [&str; 28] = [
 ];
 
 impl Codec {
-    /// The name of the encoding, where there is one alone.
+    /// Returns the name of the encoding, of a codec that has only one.
     pub fn name(self) -> &'static str {
         match self {
             Codec::SingleByte => "single-byte",
@@ -61,7 +61,7 @@ impl Codec {
         }
     }
 
-    /// Whether it reads by indexes that are handed in.
+    /// Checks whether the codec reads by indexes that are passed to it.
     pub fn has_tables(self) -> bool {
         !matches!(self, Codec::Replacement | Codec::Utf16Be | Codec::Utf16Le | Codec::UserDefined)
     }
@@ -71,7 +71,7 @@ impl Codec {
     }
 }
 
-/// The encoding of encoding_rs of this name.
+/// Returns the encoding of encoding_rs of this name.
 pub fn encoding(name: &str) -> &'static Encoding {
     Encoding::for_label(name.as_bytes()).expect("a name of the Standard")
 }

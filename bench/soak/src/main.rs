@@ -1,42 +1,27 @@
-//! A soak: for so many seconds, tables, bytes and texts of no pattern go through every codec of the static library,
-//! whole, in pieces and into small outputs, over flat and packed tables, by raw calls and calls with replacement, and
-//! what comes of them is compared with a slow model of the Standard, and with encoding_rs where the tables are the
+//! Soaks the static library for some seconds: every codec converts random bytes and texts over random tables.
+//!
+//! Sources are converted whole, in pieces and into small outputs, over flat and packed tables, by raw calls and with
+//! replacement. The results are compared with a slow model of the Standard, and with encoding_rs if the tables are the
 //! Standard's.
 //!
-//! Arguments: the seconds, and a seed (none: the clock's). Each round has a seed of its own, which is printed where
-//! something differs; with it as the seed that round is the first.
+//! Arguments: the seconds, and a seed (none: the clock's). Each round has a seed of its own, which is printed if
+//! something differs. With it as the seed that round is the first.
 
-mod calls;
-mod checks;
-mod codec;
-#[path = "../../driver/src/indexes.rs"]
-mod indexes;
-mod model;
-mod numbers;
-// The bench takes codecs by their encodings.
-#[allow(dead_code)]
-#[path = "../../driver/src/ours.rs"]
-mod ours;
-#[path = "../../driver/src/packing.rs"]
-mod packing;
-mod sources;
-mod tables;
-
-use calls::Library;
-use checks::{Count, Round};
-use codec::{Codec, CODECS};
-use numbers::Numbers;
-use ours::Kept;
+use soak::calls::Library;
+use soak::checks::{self, Count, Round};
+use soak::codec::{self, Codec, CODECS};
+use soak::numbers::Numbers;
+use soak::ours::Kept;
+use soak::tables::{self, Standard, Tables};
 use std::time::{Duration, Instant, SystemTime};
-use tables::{Standard, Tables};
 
-/// How tables are kept.
+/// The ways to keep tables.
 const KEPT: [Kept; 2] = [Kept::Flat, Kept::Packed];
 
-/// How many sources of each direction a round has over its tables.
+/// The number of sources of each direction that a round has over its tables.
 const SOURCES: usize = 6;
 
-/// The round of a pack that is not that of its indexes.
+/// Checks that a pack is refused if it is not that of its indexes.
 fn spoiled_pack(codec: Codec, tables: &Tables, numbers: &mut Numbers, count: &mut Count) -> Result<(), String> {
     let mut library = Library::new(codec, tables);
     let fault = library.packed().packed.as_mut().and_then(|packed| tables::spoil_packed(packed, numbers));
@@ -45,7 +30,7 @@ fn spoiled_pack(codec: Codec, tables: &Tables, numbers: &mut Numbers, count: &mu
     checks::refuses(codec, &library, &[Kept::Packed]).map_err(|error| format!("{codec:?} over {fault}: {error}"))
 }
 
-/// One round: tables, and sources for the decoder and the encoder over them.
+/// Makes one round: tables, and sources for the decoder and the encoder over them.
 fn round(standard: &Standard, codec: Codec, seed: u64, count: &mut Count) -> Result<(), String> {
     let mut numbers = Numbers::new(seed);
     let is_odd = codec.has_tables() && numbers.once_in(2);
@@ -73,7 +58,7 @@ fn round(standard: &Standard, codec: Codec, seed: u64, count: &mut Count) -> Res
     Ok(())
 }
 
-/// The seed of the round behind the one of this seed.
+/// Returns the seed of the round after the one of this seed.
 fn seed_behind(seed: u64) -> u64 {
     Numbers::new(seed ^ 0x5DEE_CE66).next()
 }

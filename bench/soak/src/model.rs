@@ -1,5 +1,6 @@
-//! The decoders and the encoders as the Standard describes them, a byte or a scalar at a time, over tables of any
-//! kind. They are slow and share no code with the library.
+//! The decoders and the encoders as the Standard describes them, one byte or scalar at a time, over any tables.
+//!
+//! They are slow and share no code with the library.
 
 use crate::codec::Codec;
 use crate::tables::Tables;
@@ -11,7 +12,7 @@ pub mod encoders;
 /// U+FFFD, which is written for a malformed sequence.
 const REPLACEMENT: char = '\u{FFFD}';
 
-/// The rows that the Standard's encoder of gb18030 has beside the index ("gb18030 encoder").
+/// The rows of the side table of the Standard's encoder ("gb18030 encoder").
 const SIDE_TABLE: [(char, [u8; 2]); 18] = [
     ('\u{E78D}', [0xA6, 0xD9]),
     ('\u{E78E}', [0xA6, 0xDA]),
@@ -33,18 +34,18 @@ const SIDE_TABLE: [(char, [u8; 2]); 18] = [
     ('\u{E864}', [0xFE, 0xA0]),
 ];
 
-/// The bytes that the side table has for the scalar.
+/// Returns the bytes of the scalar in the side table.
 pub fn side_table(scalar: char) -> Option<[u8; 2]> {
     SIDE_TABLE.iter().find(|(of, _)| *of == scalar).map(|(_, bytes)| *bytes)
 }
 
-/// The scalar of a pointer in an index ("index code point").
+/// Returns the scalar of a pointer in an index ("index code point").
 fn scalar_at<T: Copy + Into<u32>>(index: &[T], pointer: usize) -> Option<char> {
     let entry: u32 = (*index.get(pointer)?).into();
     if entry == 0 { None } else { char::from_u32(entry) }
 }
 
-/// The scalar of a pointer of four bytes ("index gb18030 ranges code point").
+/// Returns the scalar of a four-byte pointer ("index gb18030 ranges code point").
 fn range_scalar(tables: &Tables, pointer: usize) -> Option<char> {
     match pointer {
         39_420..=188_999 | 1_237_576.. => None,
@@ -57,10 +58,10 @@ fn range_scalar(tables: &Tables, pointer: usize) -> Option<char> {
     }
 }
 
-/// The pointers that an encoder writes, by their scalars.
+/// The pointers that an encoder uses, by their scalars.
 pub type Pointers = HashMap<char, usize>;
 
-/// The first pointer of each scalar in an index, of those pointers that are written.
+/// Returns the first pointer of each scalar in an index, of those pointers that the encoder uses.
 fn first_pointers<T: Copy + Into<u32>>(index: &[T], is_written: impl Fn(usize) -> bool) -> Pointers {
     let mut pointers = Pointers::new();
     for pointer in (0..index.len()).filter(|pointer| is_written(*pointer)) {
@@ -71,7 +72,7 @@ fn first_pointers<T: Copy + Into<u32>>(index: &[T], is_written: impl Fn(usize) -
     pointers
 }
 
-/// The pointers of Big5 ("index Big5 pointer"): the first, but the last for six scalars.
+/// Returns the pointers of Big5 ("index Big5 pointer"): the first of each scalar, but the last for six scalars.
 fn big5_pointers(index: &[u32]) -> Pointers {
     let mut pointers = first_pointers(index, |pointer| pointer >= (0xA1 - 0x81) * 157);
     for scalar in ['\u{2550}', '\u{255E}', '\u{2561}', '\u{256A}', '\u{5341}', '\u{5345}'] {
@@ -82,7 +83,7 @@ fn big5_pointers(index: &[u32]) -> Pointers {
     pointers
 }
 
-/// The pointers of four bytes ("index gb18030 ranges pointer").
+/// Returns the pointer of four bytes ("index gb18030 ranges pointer").
 fn range_pointer(tables: &Tables, scalar: char) -> Option<usize> {
     let number = scalar as usize;
     if number >= 0x1_0000 {
@@ -96,7 +97,7 @@ fn range_pointer(tables: &Tables, scalar: char) -> Option<usize> {
     (range_scalar(tables, pointer) == Some(scalar)).then_some(pointer)
 }
 
-/// The pointers that the codec's encoder writes.
+/// Returns the pointers that the codec's encoder uses.
 pub fn pointers(codec: Codec, tables: &Tables) -> Pointers {
     match codec {
         Codec::Big5 => big5_pointers(&tables.big5),

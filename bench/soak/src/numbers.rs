@@ -1,4 +1,4 @@
-//! Numbers that follow no pattern and that a seed repeats (the generator splitmix64).
+//! Pseudo-random numbers that a seed repeats (the generator splitmix64).
 
 pub struct Numbers(u64);
 
@@ -15,17 +15,17 @@ impl Numbers {
         mixed ^ (mixed >> 31)
     }
 
-    /// A number below the bound, which is not 0.
+    /// Returns a number below the bound, which is not 0.
     pub fn below(&mut self, bound: usize) -> usize {
         (self.next() % bound as u64) as usize
     }
 
-    /// A number from the first to the last.
+    /// Returns a number from the first to the last.
     pub fn within(&mut self, first: usize, last: usize) -> usize {
         first + self.below(last - first + 1)
     }
 
-    /// True once in so many times.
+    /// Returns true once in `times` times.
     pub fn once_in(&mut self, times: usize) -> bool {
         self.below(times) == 0
     }
@@ -34,12 +34,12 @@ impl Numbers {
         self.below(256) as u8
     }
 
-    /// One of these.
+    /// Returns one of these.
     pub fn of<T: Copy>(&mut self, some: &[T]) -> T {
         some[self.below(some.len())]
     }
 
-    /// A length: mostly short, seldom up to the bound.
+    /// Returns a length: mostly short, seldom up to the bound.
     pub fn length(&mut self, bound: usize) -> usize {
         match self.below(4) {
             0 => self.below(8),

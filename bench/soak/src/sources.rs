@@ -1,4 +1,4 @@
-//! Sources: bytes and texts, as hostile and as common as they come.
+//! Sources: bytes and texts, both hostile and common ones.
 
 use crate::codec::Codec;
 use crate::model::{self, Pointers};
@@ -6,15 +6,15 @@ use crate::numbers::Numbers;
 use crate::ours::Calls;
 use crate::tables::Tables;
 
-/// The greatest length of a text in code units: over flat tables an encoder searches for each character.
+/// The greatest length of a text in code units. Over flat tables an encoder searches for each character.
 const LONGEST: usize = 600;
 
-/// The most parts that bytes of no pattern have.
+/// The most parts that random bytes have.
 const PARTS: usize = 400;
 
 const ESCAPES: [&[u8]; 8] = [b"\x1B$B", b"\x1B(B", b"\x1B(J", b"\x1B(I", b"\x1B$@", b"\x1B", b"\x1B$", b"\x1B("];
 
-/// Bytes that mean something to some codec, more often than they would by chance.
+/// Adds bytes that mean something to some codec, more often than random ones would.
 fn part(numbers: &mut Numbers, bytes: &mut Vec<u8>) {
     match numbers.below(9) {
         0 => bytes.extend(numbers.of(&ESCAPES)),
@@ -36,7 +36,7 @@ fn part(numbers: &mut Numbers, bytes: &mut Vec<u8>) {
     }
 }
 
-/// Bytes of no pattern.
+/// Returns random bytes.
 pub fn any_bytes(numbers: &mut Numbers) -> Vec<u8> {
     let mut bytes = Vec::new();
     for _ in 0..numbers.length(PARTS) {
@@ -45,7 +45,7 @@ pub fn any_bytes(numbers: &mut Numbers) -> Vec<u8> {
     bytes
 }
 
-/// Units of UTF-16 for a text: mostly scalars that the codec has, others, ASCII, pairs and lone surrogates.
+/// Returns UTF-16 code units of a text: mostly scalars that the codec has, others, ASCII, pairs and lone surrogates.
 pub fn any_text(numbers: &mut Numbers, scalars: &[char]) -> Vec<u16> {
     let blocks: [(usize, usize); 10] = [
         (0x0000, 0x80),
@@ -79,12 +79,12 @@ pub fn any_text(numbers: &mut Numbers, scalars: &[char]) -> Vec<u16> {
     units
 }
 
-/// The text that the units are, with U+FFFD for each unpaired surrogate.
+/// Returns the text of the units, with U+FFFD for each unpaired surrogate.
 pub fn text_of(units: &[u16]) -> Vec<char> {
     char::decode_utf16(units.iter().copied()).map(|unit| unit.unwrap_or('\u{FFFD}')).collect()
 }
 
-/// Bytes for a decoder: of no pattern, or a text of the codec, whole or with some bytes changed.
+/// Returns bytes for a decoder: random ones, or a text of the codec, whole or with some bytes changed.
 pub fn bytes(codec: Codec, tables: &Tables, pointers: &Pointers, scalars: &[char], numbers: &mut Numbers) -> Vec<u8> {
     if numbers.once_in(3) {
         return any_bytes(numbers);

@@ -1,4 +1,4 @@
-//! Tables: those of the Standard, as encoding_rs has them, odd ones, and ill ones, which must be refused.
+//! Tables: those of the Standard, as encoding_rs has them, odd ones, and invalid ones, which must be refused.
 
 use crate::codec::{encoding, Codec, SINGLE_BYTE};
 use crate::indexes;
@@ -6,10 +6,10 @@ use crate::numbers::Numbers;
 use crate::ours::{ByteRun, Packed, Range, Run};
 use std::collections::HashSet;
 
-/// Indexes that a codec reads by.
+/// The indexes that a codec reads.
 pub use crate::ours::Indexes as Tables;
 
-/// Tables without an entry.
+/// Returns tables without an entry.
 fn none() -> Tables {
     Tables { single_byte: vec![0; 128], ..Tables::default() }
 }
@@ -18,6 +18,12 @@ fn none() -> Tables {
 pub struct Standard {
     all: Tables,
     single_byte: Vec<Vec<u16>>,
+}
+
+impl Default for Standard {
+    fn default() -> Standard {
+        Standard::new()
+    }
 }
 
 impl Standard {
@@ -37,13 +43,18 @@ impl Standard {
         }
     }
 
-    /// The Standard's tables that the codec reads by, and the name of the encoding.
+    /// Returns the Standard's tables that the codec reads, and the name of the encoding.
     pub fn tables(&self, codec: Codec, numbers: &mut Numbers) -> (Tables, &'static str) {
+        let which = if codec == Codec::SingleByte { numbers.below(SINGLE_BYTE.len()) } else { 0 };
+        self.tables_of(codec, which, numbers)
+    }
+
+    /// The same, of the single-byte encoding of this number.
+    pub fn tables_of(&self, codec: Codec, which: usize, numbers: &mut Numbers) -> (Tables, &'static str) {
         let none = none();
         let all = &self.all;
         let tables = match codec {
             Codec::SingleByte => {
-                let which = numbers.below(SINGLE_BYTE.len());
                 let mut tables = Tables { single_byte: self.single_byte[which].clone(), ..none };
                 tables.single_byte_run = any_run(&tables.single_byte, numbers);
                 return (tables, SINGLE_BYTE[which]);
@@ -60,7 +71,7 @@ impl Standard {
     }
 }
 
-/// A run that the entries have: from a place on, and as long as it may be, or shorter.
+/// Returns a run of the entries: from some position on, as long as it may be, or shorter.
 fn any_run(entries: &[u16], numbers: &mut Numbers) -> ByteRun {
     let start = numbers.within(32, 127);
     let first = entries[start];
@@ -70,7 +81,7 @@ fn any_run(entries: &[u16], numbers: &mut Numbers) -> ByteRun {
     ByteRun { scalar: first, start: start as u8, length: length as u8 }
 }
 
-/// A scalar up to U+FFFF that an index may have, but U+FFFD, by which malformed sequences are told.
+/// Returns a scalar up to U+FFFF that an index may have, but never U+FFFD, which marks malformed sequences.
 fn narrow(numbers: &mut Numbers) -> u16 {
     let first = numbers.of(&[0x80, 0x80, 0x2010, 0x2200, 0x2540, 0x3000, 0x4E00, 0xAC00, 0xE000, 0xFEC0]);
     match first + numbers.below(0x140) as u16 {
@@ -79,7 +90,7 @@ fn narrow(numbers: &mut Numbers) -> u16 {
     }
 }
 
-/// Entries of an index: so many at the most, of which a few are not 0, or most.
+/// Returns at most `most` entries of an index, of which a few or most are not 0.
 fn entries<T: Default + Clone>(numbers: &mut Numbers, most: usize, mut any: impl FnMut(&mut Numbers) -> T) -> Vec<T> {
     let length = match numbers.below(4) {
         0 => numbers.below(300),
@@ -102,7 +113,7 @@ fn entries<T: Default + Clone>(numbers: &mut Numbers, most: usize, mut any: impl
     entries
 }
 
-/// Ranges by rising pointers and scalars.
+/// Returns ranges by rising pointers and scalars.
 fn ranges(numbers: &mut Numbers) -> Vec<Range> {
     let mut ranges: Vec<Range> = Vec::new();
     let (mut pointer, mut scalar) = (numbers.of(&[0, 0, 7, 7000, 39000]), numbers.of(&[0x80, 0x80, 0x452, 0x2E81]));
@@ -119,7 +130,7 @@ fn ranges(numbers: &mut Numbers) -> Vec<Range> {
     ranges
 }
 
-/// Single-byte entries, none of them twice.
+/// Returns single-byte entries, of which no two are the same.
 fn single_byte(numbers: &mut Numbers) -> Vec<u16> {
     let mut seen = HashSet::new();
     let mut next = narrow(numbers);
@@ -133,7 +144,7 @@ fn single_byte(numbers: &mut Numbers) -> Vec<u16> {
         .collect()
 }
 
-/// The scalars for which Big5 writes the last pointer.
+/// The scalars for which Big5's encoder uses the last pointer.
 const LAST_IN_BIG5: [u32; 6] = [0x2550, 0x255E, 0x2561, 0x256A, 0x5341, 0x5345];
 
 fn wide(numbers: &mut Numbers) -> u32 {
@@ -144,7 +155,7 @@ fn wide(numbers: &mut Numbers) -> u32 {
     }
 }
 
-/// Tables that are accepted, and that no encoding has.
+/// Returns tables that are accepted, and that no encoding has.
 pub fn odd(codec: Codec, numbers: &mut Numbers) -> Tables {
     let none = none();
     let mut tables = match codec {
@@ -172,7 +183,7 @@ pub fn odd(codec: Codec, numbers: &mut Numbers) -> Tables {
     tables
 }
 
-/// Spoils an index, whichever the codec reads by: the tables must be refused then.
+/// Spoils one of the indexes that the codec reads. The tables must be refused after that.
 pub fn spoil(tables: &mut Tables, numbers: &mut Numbers) -> &'static str {
     let bad = numbers.of(&[0x7F, 0x01, 0xD800, 0xDFFF]);
     let mut spoil_narrow = |entries: &mut Vec<u16>, most: usize| {
@@ -203,7 +214,7 @@ pub fn spoil(tables: &mut Tables, numbers: &mut Numbers) -> &'static str {
     "an index that breaks a rule of its own"
 }
 
-/// Spoils runs or an order of accepted indexes: they must be refused then. `None` where they are empty.
+/// Spoils runs or an order of accepted indexes, which must be refused after that. Returns `None` if they are empty.
 pub fn spoil_packed(packed: &mut Packed, numbers: &mut Numbers) -> Option<&'static str> {
     let Packed { big5, euc_kr, jis0208, jis0212, gb18030, .. } = packed;
     let mut runs: Vec<&mut Vec<Run>> = vec![big5, euc_kr, jis0208, jis0212, gb18030];

@@ -1,10 +1,10 @@
-//! The decoders of the Standard: each is a handler of one byte, or of the end, that may put bytes back.
+//! The decoders of the Standard: each is a handler of one byte, or of the end, that may restore bytes.
 
 use super::{range_scalar, scalar_at, REPLACEMENT};
 use crate::codec::Codec;
 use crate::tables::Tables;
 
-/// What a handler answers.
+/// What a handler returns.
 enum Answer {
     Continue,
     Scalar(char),
@@ -15,11 +15,11 @@ enum Answer {
 
 use Answer::{Continue, Error, Finished, Scalar, Two};
 
-/// The bytes to come, the first of them last, to which a handler may put bytes back.
+/// The bytes to come, in reverse order, to which a handler may restore bytes.
 struct Input(Vec<u8>);
 
 impl Input {
-    /// Puts these bytes back, so that the first of them is read next.
+    /// Restores these bytes, so that the first of them is read next.
     fn restore(&mut self, bytes: &[u8]) {
         self.0.extend(bytes.iter().rev());
     }
@@ -30,8 +30,8 @@ trait Handler {
     fn handle(&mut self, tables: &Tables, input: &mut Input, byte: Option<u8>) -> Answer;
 }
 
-/// All that a handler gives for the bytes, with U+FFFD for each error.
-fn run(mut handler: impl Handler, tables: &Tables, bytes: &[u8]) -> Vec<char> {
+/// Returns all that a handler gives for the bytes, with U+FFFD for each error.
+fn run(handler: &mut dyn Handler, tables: &Tables, bytes: &[u8]) -> Vec<char> {
     let mut input = Input(Vec::new());
     input.restore(bytes);
     let mut text = Vec::new();
@@ -47,7 +47,7 @@ fn run(mut handler: impl Handler, tables: &Tables, bytes: &[u8]) -> Vec<char> {
     }
 }
 
-/// What a scalar that may be missing is, behind a byte that goes back where it is ASCII.
+/// Returns the scalar, or an error if there is none. After an error the byte is restored if it is ASCII.
 fn found(scalar: Option<char>, input: &mut Input, byte: u8) -> Answer {
     if let Some(scalar) = scalar {
         return Scalar(scalar);
@@ -58,7 +58,7 @@ fn found(scalar: Option<char>, input: &mut Input, byte: u8) -> Answer {
     Error
 }
 
-/// A decoder that holds a lead byte back, or none.
+/// The lead byte that a decoder holds back, or none.
 #[derive(Default)]
 struct Lead(Option<u8>);
 
@@ -265,7 +265,7 @@ impl Iso2022Jp {
         Iso2022Jp { state: State::Ascii, output_state: State::Ascii, lead: 0, output: false }
     }
 
-    /// A byte in a mode of single bytes, or in the mode of two bytes where a lead is due.
+    /// Handles a byte in a single-byte mode, or a byte where a lead is expected in the two-byte mode.
     fn single(&mut self, byte: u8) -> Answer {
         if byte == 0x1B {
             self.state = State::EscapeStart;
@@ -396,20 +396,41 @@ impl Handler for Bytes {
     }
 }
 
+/// The decoder of replacement, and whether it has reported its error.
+struct Replacement(bool);
+
+impl Handler for Replacement {
+    fn handle(&mut self, _tables: &Tables, _input: &mut Input, byte: Option<u8>) -> Answer {
+        if byte.is_none() || self.0 {
+            return Finished;
+        }
+        self.0 = true;
+        Error
+    }
+}
+
+/// The codec's handler before its first byte.
+fn handler(codec: Codec) -> Box<dyn Handler> {
+    match codec {
+        Codec::SingleByte | Codec::UserDefined => Box::new(Bytes(codec)),
+        Codec::Gbk | Codec::Gb18030 => Box::new(Gb18030::default()),
+        Codec::Big5 => Box::new(Big5(Lead::default())),
+        Codec::EucJp => Box::new(EucJp::default()),
+        Codec::Iso2022Jp => Box::new(Iso2022Jp::new()),
+        Codec::ShiftJis => Box::new(ShiftJis(Lead::default())),
+        Codec::EucKr => Box::new(EucKr(Lead::default())),
+        Codec::Replacement => Box::new(Replacement(false)),
+        Codec::Utf16Be | Codec::Utf16Le => Box::new(Utf16 { big_endian: codec == Codec::Utf16Be, ..Utf16::default() }),
+    }
+}
+
 /// The text of the bytes, with U+FFFD for each malformed sequence.
 pub fn decode(codec: Codec, tables: &Tables, bytes: &[u8]) -> Vec<char> {
-    match codec {
-        Codec::SingleByte | Codec::UserDefined => run(Bytes(codec), tables, bytes),
-        Codec::Gbk | Codec::Gb18030 => run(Gb18030::default(), tables, bytes),
-        Codec::Big5 => run(Big5(Lead::default()), tables, bytes),
-        Codec::EucJp => run(EucJp::default(), tables, bytes),
-        Codec::Iso2022Jp => run(Iso2022Jp::new(), tables, bytes),
-        Codec::ShiftJis => run(ShiftJis(Lead::default()), tables, bytes),
-        Codec::EucKr => run(EucKr(Lead::default()), tables, bytes),
-        Codec::Replacement => vec![REPLACEMENT; bytes.len().min(1)],
-        Codec::Utf16Be | Codec::Utf16Le => {
-            let big_endian = codec == Codec::Utf16Be;
-            run(Utf16 { big_endian, ..Utf16::default() }, tables, bytes)
-        }
-    }
+    decode_last(codec, tables, bytes, 1)
+}
+
+/// The text that one decoder gives for the bytes, of which it has read all before, the last of so many times.
+pub fn decode_last(codec: Codec, tables: &Tables, bytes: &[u8], times: usize) -> Vec<char> {
+    let mut handler = handler(codec);
+    (0..times).map(|_| run(handler.as_mut(), tables, bytes)).last().unwrap_or_default()
 }

@@ -1,11 +1,11 @@
-//! The encoders of the Standard, with a question mark or a reference for each scalar that the codec does not have.
+//! The encoders of the Standard, with a question mark or a reference for each unmappable scalar.
 
 use super::{range_pointer, side_table, Pointers};
 use crate::codec::Codec;
 use crate::ours::Calls;
 use crate::tables::Tables;
 
-/// What is written for a scalar that the codec does not have.
+/// Returns what is written for an unmappable scalar.
 fn stand_in(calls: Calls, scalar: char) -> Vec<u8> {
     match calls {
         Calls::Raw => vec![0x3F],
@@ -13,17 +13,19 @@ fn stand_in(calls: Calls, scalar: char) -> Vec<u8> {
     }
 }
 
-/// A pair: the lead and the trail of a pointer in rows of so many, with the gaps that the codec has in its trails.
+/// Returns the lead and the trail of a pointer.
+///
+/// A row has `row` pointers, the first lead is `lead`, and `trail` adds the gaps of the codec's trails.
 fn pair(pointer: usize, row: usize, lead: usize, trail: impl Fn(usize) -> usize) -> Vec<u8> {
     vec![(pointer / row + lead) as u8, trail(pointer % row) as u8]
 }
 
-/// What the Japanese encoders look up for the minus sign: the full-width hyphen-minus.
+/// Returns the scalar that the Japanese encoders look up: for the minus sign the full-width hyphen-minus.
 fn folded(scalar: char) -> char {
     if scalar == '\u{2212}' { '\u{FF0D}' } else { scalar }
 }
 
-/// The place of a half-width katakana among them.
+/// Returns the position of a half-width katakana among them.
 fn half_width(scalar: char) -> Option<usize> {
     ('\u{FF61}'..='\u{FF9F}').contains(&scalar).then(|| scalar as usize - 0xFF61)
 }
@@ -71,7 +73,7 @@ fn gb18030(tables: &Tables, pointers: &Pointers, is_gbk: bool, scalar: char) -> 
     Some(digits.iter().map(|(times, count, first)| (pointer / times % count + first) as u8).collect())
 }
 
-/// The bytes of a scalar past ASCII in a codec without modes.
+/// Returns the bytes of a scalar past ASCII in a codec without modes.
 fn code(codec: Codec, tables: &Tables, pointers: &Pointers, scalar: char) -> Option<Vec<u8>> {
     let pointer = || pointers.get(&scalar).copied();
     match codec {
@@ -94,7 +96,7 @@ enum Mode {
     Jis0208,
 }
 
-/// ISO-2022-JP's encoder: what it wrote, and its mode.
+/// ISO-2022-JP's encoder: its output and its mode.
 struct Iso2022Jp<'a> {
     tables: &'a Tables,
     pointers: &'a Pointers,
@@ -115,7 +117,7 @@ impl Iso2022Jp<'_> {
         }
     }
 
-    /// The pointer of a scalar past ASCII, by way of the katakana index where it is a half-width katakana.
+    /// Returns the pointer of a scalar past ASCII. A half-width katakana goes through the katakana index.
     fn pointer(&self, scalar: char) -> Option<usize> {
         let looked_up = match half_width(scalar) {
             Some(place) => char::from_u32(u32::from(*self.tables.katakana.get(place)?))?,
@@ -124,7 +126,7 @@ impl Iso2022Jp<'_> {
         self.pointers.get(&looked_up).copied()
     }
 
-    /// A scalar without bytes: a reference is written in the mode that stands, but not in that of two bytes.
+    /// Handles an unmappable scalar: the replacement is written in the current mode, but never in two-byte mode.
     fn replace(&mut self, scalar: char) {
         if self.mode == Mode::Jis0208 {
             self.switch(Mode::Ascii);
@@ -157,8 +159,7 @@ impl Iso2022Jp<'_> {
     }
 }
 
-/// The bytes of the text, with a question mark for each scalar that the codec does not have, or a reference by calls
-/// with replacement.
+/// Encodes the text, with a question mark for each unmappable scalar, or a reference by calls with replacement.
 pub fn encode(codec: Codec, tables: &Tables, pointers: &Pointers, text: &[char], calls: Calls) -> Vec<u8> {
     if codec == Codec::Iso2022Jp {
         let mut encoder = Iso2022Jp { tables, pointers, calls, bytes: Vec::new(), mode: Mode::Ascii };
