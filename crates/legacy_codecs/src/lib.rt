@@ -1,8 +1,8 @@
 //! The legacy codecs of the WHATWG Encoding Standard, under one name.
 //!
-//! The crate has what a user of the codecs names. It adds calls that replace what is malformed or
-//! unmappable, calls for whole inputs and texts, and runs that return events. What only the codecs'
-//! own loops use, and how tables are kept, is public in the crates below alone.
+//! The crate names every public item of `legacy_base`, `legacy_decoders` and `legacy_encoders` but
+//! their modules `laws`. It adds calls that replace what is malformed or unmappable, calls for whole
+//! inputs and texts, and runs that return events.
 #![tactic(auto)]
 
 mod decode_run;

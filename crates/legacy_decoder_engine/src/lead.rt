@@ -20,7 +20,8 @@ use crate::common_forms::{
 use crate::drive::{count_lone, drive_decoder};
 use crate::moves::{DecoderMoves, Fed, Move, Room};
 use crate::runs::read_one;
-use legacy_base::{DecoderResult, DecoderTables, Destination, FlatTables, RawDecoder, Tables};
+use legacy_base::{DecoderResult, Destination, RawDecoder, Tables};
+use legacy_tables::{DecoderTables, FlatTables};
 
 /// A codec whose forms have one byte, or a lead and a trail: all that its decoder does not share.
 pub trait LeadCodec {

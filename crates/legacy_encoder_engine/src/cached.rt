@@ -14,7 +14,8 @@ use crate::pairs::{FillsPairs, PairCodec, PairEncoder};
 use crate::plain::PlainEncoder;
 use crate::plain_codes::PlainCodes;
 use crate::runs::read_runs;
-use legacy_base::{EncoderResult, RangePart, RawEncoder, Source};
+use legacy_base::{EncoderResult, RawEncoder, Source};
+use legacy_tables::RangePart;
 use std::alloc::AllocError;
 
 /// The room that the pairs of a codec take, in entries of 16 bits: one for each scalar below U+10000.

@@ -12,9 +12,8 @@ use crate::moves::EncoderMove;
 use crate::plain::PlainEncoder;
 use crate::plain_codes::PlainCodes;
 use crate::runs::read_runs;
-use legacy_base::{
-    DecoderTables, EncoderResult, EncoderTables, FlatTables, RawEncoder, Source, Tables,
-};
+use legacy_base::{EncoderResult, RawEncoder, Source, Tables};
+use legacy_tables::{DecoderTables, EncoderTables, FlatTables};
 use std::marker::PhantomData;
 
 /// A codec of ASCII and pairs: all that its encoder does not share.

@@ -8,7 +8,7 @@ ghost use Rattle.legacy_encoder_engine.specs.PlainCodecs.{IsPlainCodec, HasByte}
 ghost use Rattle.legacy_encoder_engine.specs.UnitTurns.{HasUnitCode};
 
 use crate::moves::EncoderMove;
-use legacy_base::RangePart;
+use legacy_tables::RangePart;
 
 /// The codes of a codec without modes: all that its encoder does not share. ASCII is itself.
 pub trait PlainCodes {

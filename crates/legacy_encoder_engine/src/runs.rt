@@ -12,7 +12,9 @@ use crate::drive::{put_four, put_move, put_two};
 use crate::moves::EncoderMove;
 use crate::plain_codes::PlainCodes;
 use crate::units::Units;
-use legacy_base::{Next, RangePart, ReadingLoop, Source, TextCursor};
+use legacy_base::{ReadingLoop, Source};
+use legacy_tables::RangePart;
+use legacy_text::{Next, TextCursor};
 
 /// Whether the scalar is read, and has bytes.
 #[inline(always)]

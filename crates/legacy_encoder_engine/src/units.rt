@@ -2,7 +2,7 @@
 ghost use Rattle.legacy_encoder_engine.specs.PlainCodecs.{HasByte};
 
 use crate::plain_codes::PlainCodes;
-use legacy_base::UnitCodes;
+use legacy_text::UnitCodes;
 
 /// The code units that have one byte each in a codec.
 #[derive(Drop)]

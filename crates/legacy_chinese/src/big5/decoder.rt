@@ -12,13 +12,14 @@ ghost use Rattle.legacy_chinese.specs.Big5Shown.{big5_codec};
 ghost use Rattle.legacy_decoder_engine.proofs.TwoByteMeets.{is_lead-in};
 
 use super::places::{ROWS_OF_157, TRAILS};
-use legacy_base::{DecoderTables, Destination, FlatTables, IndexName, Tables};
+use legacy_base::{Destination, IndexName, Tables};
 use legacy_decoder_engine::common_forms::{CommonForm, read_common_forms};
 use legacy_decoder_engine::held::Lead;
 use legacy_decoder_engine::lead::{LeadCodec, LeadDecoder, LeadForms, LeadRuns};
 use legacy_decoder_engine::moves::{Fed, Room};
 use legacy_decoder_engine::places::pair_pointer;
 use legacy_decoder_engine::two_byte::{read_first, read_trail};
+use legacy_tables::{DecoderTables, FlatTables};
 
 /// The codec of Big5.
 pub struct Big5;

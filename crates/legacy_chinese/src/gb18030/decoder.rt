@@ -14,7 +14,7 @@ ghost use Rattle.legacy_chinese.specs.Gb18030Held.{held_bytes, is_resting};
 use super::digit::Digit;
 use super::fours::Gb18030Blocks;
 use super::pair_places::TRAILS;
-use legacy_base::{DecoderResult, DecoderTables, Destination, IndexName, RawDecoder, Tables};
+use legacy_base::{DecoderResult, Destination, IndexName, RawDecoder, Tables};
 use legacy_decoder_engine::common_forms::{CommonBlocks, begins_rare, stands_alone};
 use legacy_decoder_engine::drive::{count_lone, drive_decoder};
 use legacy_decoder_engine::held::Lead;
@@ -23,6 +23,7 @@ use legacy_decoder_engine::places::{ROWS_OF_190, pair_pointer};
 use legacy_decoder_engine::runs::{read_blocks, read_one};
 use legacy_decoder_engine::trail::unmapped;
 use legacy_decoder_engine::two_byte::fault_through;
+use legacy_tables::DecoderTables;
 use std::cell::Cell;
 
 /// What is held back: the first bytes of a form, or a digit of a broken form and what came behind it.

@@ -14,10 +14,7 @@ ghost use Rattle.legacy_chinese.specs.Gb18030Codec.{gb18030_codec};
 ghost use Rattle.legacy_chinese.specs.Gb18030Codes.{gb18030_plain};
 
 use super::list::{Gb18030Marks, ask_rows};
-use legacy_base::{
-    DecoderTables, EncoderResult, EncoderTables, FlatTables, PackedPart, RangePart, RawEncoder,
-    Source, Tables,
-};
+use legacy_base::{EncoderResult, PackedPart, RawEncoder, Source, Tables};
 use legacy_encoder_engine::asked_pairs::ask_pairs;
 use legacy_encoder_engine::cached::{EncodesPairs, PastPairs, WithPairs};
 use legacy_encoder_engine::drive::drive_encoder;
@@ -25,6 +22,7 @@ use legacy_encoder_engine::moves::EncoderMove;
 use legacy_encoder_engine::plain::PlainEncoder;
 use legacy_encoder_engine::plain_codes::PlainCodes;
 use legacy_encoder_engine::runs::read_runs;
+use legacy_tables::{DecoderTables, EncoderTables, FlatTables, RangePart};
 
 /// The encoder of GB18030 or of GBK (Encoding Standard, "gb18030 encoder").
 ///

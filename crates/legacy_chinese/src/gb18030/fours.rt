@@ -10,9 +10,10 @@ ghost use Rattle.legacy_decoder_engine.specs.Ahead.{Runs};
 
 use super::decoder::{form_scalar, is_uncommon};
 use super::four_places::four_pointer;
-use legacy_base::{DecoderTables, Destination, RangePart};
+use legacy_base::Destination;
 use legacy_decoder_engine::common_forms::{CommonBlocks, CommonForm, CommonForms, begins_rare};
 use legacy_decoder_engine::runs::{Blocks, Forms, read_blocks, read_run};
+use legacy_tables::{DecoderTables, RangePart};
 use std::cell::Cell;
 
 /// The scalar of a pointer that is none of those that the run keeps, which become those of its range. The guess is the

@@ -16,9 +16,7 @@ ghost use Rattle.legacy_decoder_engine.specs.LaneRows.{row_place};
 ghost use Rattle.legacy_japanese.specs.EucJpHeld.{held_bytes};
 
 use super::lead::EucJpLead;
-use legacy_base::{
-    DecoderResult, DecoderTables, Destination, FlatTables, IndexName, RawDecoder, Tables,
-};
+use legacy_base::{DecoderResult, Destination, IndexName, RawDecoder, Tables};
 use legacy_decoder_engine::common_forms::{
     CommonBlocks, CommonForm, CommonForms, begins_rare, read_common_forms, stands_alone,
 };
@@ -29,6 +27,7 @@ use legacy_decoder_engine::rows::row_pointers;
 use legacy_decoder_engine::runs::read_one;
 use legacy_decoder_engine::trail::unmapped;
 use legacy_decoder_engine::two_byte::fault_through;
+use legacy_tables::{DecoderTables, FlatTables};
 use std::simd::prelude::*;
 
 /// The held-back bytes: the first bytes of a sequence.

@@ -7,10 +7,9 @@ ghost use Rattle.legacy_japanese.specs.EucJpCodes.{euc_jp_pairs, euc_jp_mark, eu
 
 use crate::asked_scalars::ask_others;
 use crate::folds::{is_by_index, minus_as_hyphen};
-use legacy_base::EncoderTables;
 use legacy_encoder_engine::moves::EncoderMove;
 use legacy_encoder_engine::pairs::{FillsPairs, PairCodec, PairCodes, PairEncoder};
-use legacy_tables::{Marks, PackedPart};
+use legacy_tables::{EncoderTables, Marks, PackedPart};
 
 /// The codec of EUC-JP.
 pub struct EucJp;

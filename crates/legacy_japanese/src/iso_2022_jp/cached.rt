@@ -13,13 +13,12 @@ ghost use Rattle.legacy_japanese.specs.Iso2022JpPairs.{iso_2022_jp_mark, iso_202
 
 use crate::iso_2022_jp::encoder::{Iso2022JpEncoder, Mode, asked};
 use crate::iso_2022_jp::pairs::{Pairs, read_pairs};
-use legacy_base::{
-    EncoderResult, EncoderTables, PackedPart, RawEncoder, ReadingLoop, Source, Tables, TextCursor,
-};
+use legacy_base::{EncoderResult, PackedPart, RawEncoder, ReadingLoop, Source, Tables};
 use legacy_encoder_engine::cached::PAIR_ROOM;
 use legacy_encoder_engine::drive::{drive_encoder, put_two};
 use legacy_encoder_engine::moves::{EncoderMove, EncoderMoves};
-use legacy_tables::Marks;
+use legacy_tables::{EncoderTables, Marks};
+use legacy_text::TextCursor;
 
 /// The entry of a scalar: the lead of its pair in the low byte and the trail in the high one, and 0 where it has none.
 fn pair_entry(tables: &Tables, c: char) -> u16

@@ -11,13 +11,12 @@ ghost use Rattle.legacy_japanese.specs.Iso2022JpEncoder.{is_same_mode};
 
 use crate::folds::{is_by_index, minus_as_hyphen};
 use crate::iso_2022_jp::pairs::{Pairs, read_pairs};
-use legacy_base::{
-    DecoderTables, EncoderResult, EncoderTables, IndexName, Next, RawEncoder, ReadingLoop, Source,
-    Tables, TextCursor, UnitCodes,
-};
+use legacy_base::{EncoderResult, IndexName, RawEncoder, ReadingLoop, Source, Tables};
 use legacy_encoder_engine::drive::{drive_encoder, put_move, put_two};
 use legacy_encoder_engine::moves::{EncoderMove, EncoderMoves};
 use legacy_encoder_engine::runs::has_bytes;
+use legacy_tables::{DecoderTables, EncoderTables};
+use legacy_text::{Next, TextCursor, UnitCodes};
 
 /// How the bytes are read that come behind those written so far.
 #[derive(Clone, Copy)]

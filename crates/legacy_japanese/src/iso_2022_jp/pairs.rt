@@ -5,7 +5,7 @@ ghost use Rattle.legacy_tables.specs.AcceptedTables.{AcceptedIndexes};
 ghost use Rattle.legacy_encoder_engine.specs.UnderWay.{KeepsOn, PutsCode};
 ghost use Rattle.legacy_japanese.specs.Iso2022JpEncoder.{pairs_state};
 
-use legacy_base::{Next, TextCursor};
+use legacy_text::{Next, TextCursor};
 
 /// How the pairs of scalars are found.
 pub trait Pairs {

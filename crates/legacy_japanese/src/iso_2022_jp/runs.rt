@@ -10,9 +10,10 @@ ghost use Rattle.legacy_decoder_engine.specs.Ahead.{ReadsTo, ReadsAhead};
 
 use super::places::{LEADS, TRAILS};
 use super::steps::{DOLLAR, ESCAPE, Escape, Mode, PAREN, Start, completed, entry};
-use legacy_base::{DecoderTables, Destination, Tables};
+use legacy_base::{Destination, Tables};
 use legacy_decoder_engine::pairs::{Pairs, read_pair, read_pairs};
 use legacy_decoder_engine::places::pair_pointer;
+use legacy_tables::DecoderTables;
 
 /// The pairs of two-byte mode.
 #[derive(Drop)]

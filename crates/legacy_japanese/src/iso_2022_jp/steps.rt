@@ -10,8 +10,9 @@ ghost use Rattle.legacy_japanese.specs.declared.iso_2022_jp.steps.Start.TheVaria
 ghost use Rattle.legacy_japanese.specs.declared.iso_2022_jp.steps.Held.TheVariants.{Begun};
 ghost use Rattle.legacy_japanese.specs.Iso2022JpMoves.{fed_of, weight_of, IsNarrow, IsNarrowScalar};
 
-use legacy_base::{DecoderTables, IndexName, Tables};
+use legacy_base::{IndexName, Tables};
 use legacy_decoder_engine::moves::Fed;
+use legacy_tables::DecoderTables;
 
 /// The mode in which bytes are read.
 #[derive(Clone, Copy)]

@@ -11,12 +11,13 @@ ghost use Rattle.legacy_decoder_engine.specs.LeadCodecs.{held_bytes};
 
 use super::lead::ShiftJisLead;
 use super::places::{LEADS, TRAILS};
-use legacy_base::{DecoderTables, Destination, FlatTables, IndexName, Tables};
+use legacy_base::{Destination, IndexName, Tables};
 use legacy_decoder_engine::common_forms::{CommonForm, read_common_forms};
 use legacy_decoder_engine::lead::{LeadCodec, LeadDecoder, LeadForms, LeadRuns};
 use legacy_decoder_engine::moves::{Fed, Room};
 use legacy_decoder_engine::places::pair_pointer;
 use legacy_decoder_engine::two_byte::{fault_through, read_trail};
+use legacy_tables::{DecoderTables, FlatTables};
 
 /// The codec of Shift_JIS.
 pub struct ShiftJis;

@@ -6,11 +6,10 @@ ghost use Rattle.legacy_tables.specs.Pointers.{euc_kr_pointer_of};
 ghost use Rattle.legacy_korean.specs.EucKrCodes.{euc_kr_pairs, euc_kr_mark, euc_kr_mark-some};
 
 use super::decoder::EucKr;
-use legacy_base::EncoderTables;
 use legacy_encoder_engine::asked_pairs::ask_pairs;
 use legacy_encoder_engine::moves::EncoderMove;
 use legacy_encoder_engine::pairs::{FillsPairs, PairCodec, PairCodes, PairEncoder};
-use legacy_tables::{Marks, PackedPart};
+use legacy_tables::{EncoderTables, Marks, PackedPart};
 
 /// The encoder of EUC-KR (Encoding Standard, "EUC-KR encoder").
 ///
