@@ -3,10 +3,10 @@
  * inject TARGET ACTION [NUMBER] -- PROGRAM [WORD..]
  *
  * TARGET: 0 for the standard input, 1 for the standard output, 2 for the standard error, or the path of a file that is
- * read. ACTION: `count` does nothing; `error E` has the call of the NUMBER fail with the errno E, as has `zero` answer 0
- * without moving a byte; `one` has every call move one byte at most; `interrupt` has every other call fail with EINTR.
- * NUMBER counts from 1. The number of calls is written to the file that the variable INJECT_COUNT names. The answer is
- * the program's status, or 128 and the number of the signal that ended it. */
+ * read. ACTION: `count` does nothing. `error E` makes the call of the NUMBER fail with the errno E. `zero` makes it
+ * return 0 without moving a byte. `one` lets every call move at most one byte. `interrupt` makes every other call fail
+ * with EINTR. NUMBER counts from 1. The number of calls is written to the file that the variable INJECT_COUNT names.
+ * The status is the program's, or 128 and the number of the signal that ended it. */
 #define _GNU_SOURCE
 #include <errno.h>
 #include <fcntl.h>
@@ -31,7 +31,7 @@ struct plan {
 
 static long calls;
 
-/* What the plan does to a call that a process is about to make, by its registers: an answer in place of the call, or 1. */
+/* Applies the plan to a call that a process is about to make. Returns the result of the call, or 1 to make it. */
 static long answer_of(const struct plan *plan) {
     calls++;
     switch (plan->action) {
@@ -42,7 +42,7 @@ static long answer_of(const struct plan *plan) {
     }
 }
 
-/* Whether the descriptor of a process is the target. */
+/* Returns whether the descriptor of a process is the target. */
 static int is_target(const struct plan *plan, pid_t process, unsigned long descriptor) {
     char link[64], path[PATH_MAX];
     ssize_t length;
@@ -54,7 +54,7 @@ static int is_target(const struct plan *plan, pid_t process, unsigned long descr
     return strcmp(path, plan->target) == 0;
 }
 
-/* Whether the call moves bytes of the target. Other calls than read and write that could do so end everything. */
+/* Returns whether the call moves bytes of the target. Another call than read and write that could do so ends all. */
 static int moves(const struct plan *plan, pid_t process, const struct user_regs_struct *registers) {
     int writes = strcmp(plan->target, "1") == 0 || strcmp(plan->target, "2") == 0;
     switch (registers->orig_rax) {
@@ -71,7 +71,7 @@ static int moves(const struct plan *plan, pid_t process, const struct user_regs_
     }
 }
 
-/* Interferes with a call: `held` keeps the answer from the call's beginning to its end. */
+/* Interferes with a call: `held` keeps the result from the call's beginning to its end. */
 static void at_call(const struct plan *plan, pid_t process, int begins, long *held) {
     struct user_regs_struct registers;
     if (ptrace(PTRACE_GETREGS, process, NULL, &registers)) return;
@@ -109,7 +109,7 @@ static int follow(const struct plan *plan, pid_t process) {
     }
 }
 
-/* The plan of the words, of which it takes so many. */
+/* Reads the plan from the words, and returns the number of words that it took. */
 static int plan_of(char **words, struct plan *plan) {
     static const char *const ACTIONS[] = {"count", "error", "zero", "one", "interrupt"};
     int taken = 3;

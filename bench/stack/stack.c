@@ -59,7 +59,7 @@ static int is_without_encoder(uint32_t codec) {
 
 static void *nothing(void *given) { return given; }
 
-/* How many bytes of its stack a thread uses that runs the function. */
+/* Returns the number of bytes of stack of a thread that runs the function. */
 static size_t used(void *(*function)(void *), void *given) {
     uint8_t *low = mmap(NULL, STACK, PROT_READ | PROT_WRITE, MAP_PRIVATE | MAP_ANONYMOUS, -1, 0);
     pthread_attr_t attributes;

@@ -75,7 +75,7 @@ const BOTH_WAYS: &[TextRun] = &[
     TextRun { program: "iconv", package: "libc-bin", words: &["-f", "CP932", "-t", "EUC-JP-MS"] },
 ];
 
-/// How many lines and bytes are written.
+/// The number of lines and bytes that are written.
 struct Size {
     lines: usize,
     bytes: usize,
@@ -280,7 +280,7 @@ fn stream_tables(corpus: &[u8]) -> Result<(), String> {
     runs_table("from Shift_JIS to EUC-JP", BOTH_WAYS, SHORT, LONG, &euc_jp)
 }
 
-/// Whether a program can be run.
+/// Checks whether a program can be run.
 fn is_there(program: &str) -> bool {
     Command::new(program).arg("--version").stdout(Stdio::null()).stderr(Stdio::null()).status().is_ok()
 }

@@ -2,13 +2,13 @@
 
 use crate::pieces::PIECE;
 
-/// How many times a measured call converts long pages with tags.
+/// The number of times that a measured call converts long pages with tags.
 ///
 /// A call of ours first checks the tables and caches pairs, which takes longer than one conversion of such pages. That
 /// time is subtracted, and with one conversion its noise would be most of the rest.
 const PAGE_ROUNDS: usize = 4;
 
-/// How many times a measured call converts a short source, so that it takes as long as one on a long source.
+/// The number of times that a measured call converts a short source, so that it takes as long as a long one.
 const SHORT_ROUNDS: usize = 16;
 
 /// Returns the sources of a corpus's line: the long one, the short one, and the long one in small pieces.

@@ -28,7 +28,7 @@ fn forms(codec: Codec) -> Vec<&'static [u8]> {
     }
 }
 
-/// What fills a source before and after a form.
+/// Returns what fills a source before and after a form.
 fn fills(codec: Codec) -> Vec<&'static [u8]> {
     match codec {
         Codec::Gbk | Codec::Gb18030 => vec![b"a", b"\xC4\xE3", b"\x81\x30\x81\x30"],
@@ -53,10 +53,10 @@ const TEXT_FILLS: [&[u16]; 5] = [&[0x61], &[0x4E00], &[0xD55C], &[0x3042], &[0x4
 /// The longest of these sources in units.
 const LONGEST: usize = 200;
 
-/// How far from a multiple of 64 a form begins.
+/// The greatest distance of a form's beginning from a multiple of 64.
 const AROUND: usize = 5;
 
-/// A form at a place among what fills the source, which has so many units.
+/// Returns a source of `length` units: a form at a place, among what fills the rest.
 fn source<T: Copy>(fill: &[T], form: &[T], place: usize, length: usize) -> Vec<T> {
     let mut units: Vec<T> = fill.iter().copied().cycle().take(place).collect();
     units.extend(form);
@@ -64,13 +64,13 @@ fn source<T: Copy>(fill: &[T], form: &[T], place: usize, length: usize) -> Vec<T
     units
 }
 
-/// Places near multiples of 64, and lengths near them and after the form.
+/// Returns places near multiples of 64, and lengths near them and after the form.
 fn places() -> impl Iterator<Item = (usize, usize)> {
     let near = |block: usize| block * 64 - AROUND..block * 64 + AROUND - 2;
     (1..=3).flat_map(near).flat_map(|place| [place + 3, place.next_multiple_of(64), LONGEST].map(|length| (place, length)))
 }
 
-/// A plan over the Standard's tables that nothing cuts.
+/// Returns a plan over the Standard's tables that nothing cuts.
 fn whole(codec: Codec, encodes: bool, source: Vec<u8>) -> Plan {
     Plan {
         codec,
@@ -95,7 +95,7 @@ fn whole(codec: Codec, encodes: bool, source: Vec<u8>) -> Plan {
     }
 }
 
-/// The ways in which a source goes through.
+/// Returns the ways in which a source is converted.
 fn ways(plan: &Plan, number: usize) -> Vec<Plan> {
     let mut plans = Vec::new();
     for is_wide in [false, true] {
@@ -115,7 +115,7 @@ fn ways(plan: &Plan, number: usize) -> Vec<Plan> {
     plans
 }
 
-/// All plans of a codec.
+/// Returns all plans of a codec.
 pub fn plans(codec: Codec) -> Vec<Plan> {
     let mut plans = Vec::new();
     for (place, length) in places() {
@@ -133,7 +133,7 @@ pub fn plans(codec: Codec) -> Vec<Plan> {
     plans
 }
 
-/// The plans of all codecs.
+/// Returns the plans of all codecs.
 pub fn all() -> impl Iterator<Item = Plan> {
     CODECS.into_iter().flat_map(plans)
 }

@@ -22,11 +22,11 @@ use std::collections::HashMap;
 thread_local! {
     /// The tables of each choice.
     static MADE: RefCell<HashMap<usize, &'static Made<'static>>> = RefCell::new(HashMap::new());
-    /// Room for the pairs that are looked up ahead.
+    /// Room for the list of pairs.
     static PAIRS: RefCell<Vec<u16>> = RefCell::new(vec![0xA5A5; PAIR_ROOM]);
 }
 
-/// The tables of a choice, made once.
+/// Returns the tables of a choice, which are made once.
 fn kept(prepared: &Prepared) -> Result<&'static Made<'static>, String> {
     let key = prepared as *const Prepared as usize;
     if let Some(made) = MADE.with_borrow(|made| made.get(&key).copied()) {
@@ -41,7 +41,7 @@ fn kept(prepared: &Prepared) -> Result<&'static Made<'static>, String> {
     Ok(made)
 }
 
-/// The table of a single-byte codec, if it is accepted.
+/// Returns the table of a single-byte codec, if it is accepted.
 fn single_byte(prepared: &Prepared) -> Result<Option<SingleByteTable>, String> {
     let Ok(entries) = <&[u16; 128]>::try_from(prepared.tables.single_byte.as_slice()) else { return Ok(None) };
     let wanted = crate::faults::single_byte_fault(entries);
@@ -95,7 +95,7 @@ impl Job<'_> {
         }
     }
 
-    /// By an encoder of pairs, which are looked up ahead if the plan asks for that.
+    /// Encodes by an encoder of pairs, with a list of them if the plan asks for that.
     fn encodes_pairs<E: EncodesPairs>(&mut self, mut encoder: E) -> Result<(), String> {
         if self.plan.kept != Kept::Ahead {
             return encoding::tried(self, &mut encoder);
@@ -104,7 +104,7 @@ impl Job<'_> {
             if CachedEncoder::new(&encoder, &mut room[1..]).is_some() {
                 return Err("it took too small a room".to_string());
             }
-            // The room has what another encoder left there.
+            // The room has the list of another encoder.
             let mut cached = CachedEncoder::new(&encoder, room).ok_or("it refused the room")?;
             encoding::tried(self, &mut cached)
         })

@@ -15,10 +15,10 @@ pub struct Rooms {
     pub output: Room,
 }
 
-/// What a function gave: `None` if it refused.
+/// The output of a function, or `None` if it refused.
 type Came<U> = Option<Vec<U>>;
 
-/// The cut that the plan stands for, into an output of so many units.
+/// Returns the cut of the plan, into an output of `room` units.
 fn cut_of(plan: &Plan, room: usize) -> Cut {
     let kept = match plan.kept {
         Kept::Flat => ours::Kept::Flat,
@@ -28,7 +28,7 @@ fn cut_of(plan: &Plan, room: usize) -> Cut {
     Cut { kept, calls: plan.calls, piece: plan.piece, room }
 }
 
-/// How many units an output has for which so many are wanted.
+/// Returns the length of the output in units, for `wanted` units.
 fn room_of(plan: &Plan, wanted: usize) -> usize {
     match plan.room {
         255 => wanted + 16,
@@ -37,7 +37,7 @@ fn room_of(plan: &Plan, wanted: usize) -> usize {
     }
 }
 
-/// What was written, if the function keeps to the output and was right to refuse or to take the source.
+/// Returns what was written, if the function stayed inside the output and was right to refuse or take the source.
 fn taken<U: Copy>(output: &[U], written: usize, refuses: Option<String>) -> Result<Came<U>, String> {
     match (written, refuses) {
         (usize::MAX, Some(_)) => Ok(None),
@@ -92,7 +92,7 @@ fn decodes(plan: &Plan, prepared: &Prepared, rooms: &mut Rooms) -> Result<(), St
     compared(plan, came, wanted.as_bytes(), (room, ROOM_IN_BYTES), checks::is_between_bytes)
 }
 
-/// Why an encoder is to refuse.
+/// Returns why an encoder must refuse, or `None`.
 fn encoder_fault(plan: &Plan, prepared: &Prepared, is_text: bool) -> Option<String> {
     if !plan.codec.has_encoder() {
         return Some("a codec without an encoder".to_string());

@@ -1,16 +1,17 @@
-//! Which tables are accepted, and the first fault of the others, as the library is to tell it: written from the
-//! documentation of its tables, without its code.
+//! Which tables are accepted, and the first fault that the library must return for others.
+//!
+//! This was written from the documentation of its tables, without its code.
 
 use soak::ours::{ByteRun, Packed, Range, Run};
 use soak::tables::Tables;
 use std::collections::BTreeMap;
 
-/// A scalar past ASCII, and none past U+FFFF.
+/// Checks whether an entry is past ASCII and at most U+FFFF.
 fn is_narrow(entry: u32) -> bool {
     (0x80..=0xFFFF).contains(&entry) && !(0xD800..=0xDFFF).contains(&entry)
 }
 
-/// The first fault of an index of this name and at most so many entries.
+/// Returns the first fault of an index of this name and at most `most` entries.
 fn index_fault<T: Copy + Into<u32>>(name: &str, most: usize, index: &[T]) -> Option<String> {
     if index.len() > most {
         return Some(format!("TooLong({name})"));
@@ -63,7 +64,7 @@ fn ranges_fault(ranges: &[Range]) -> Option<String> {
     None
 }
 
-/// The first fault of flat indexes.
+/// Returns the first fault of flat indexes.
 pub fn flat_fault(tables: &Tables) -> Option<String> {
     index_fault("Big5", 19_782, &tables.big5)
         .or_else(|| index_fault("EucKr", 23_940, &tables.euc_kr))
@@ -74,12 +75,12 @@ pub fn flat_fault(tables: &Tables) -> Option<String> {
         .or_else(|| ranges_fault(&tables.ranges))
 }
 
-/// The flat index as numbers.
+/// Returns the flat index as numbers.
 fn numbers<T: Copy + Into<u32>>(index: &[T]) -> Vec<u32> {
     index.iter().map(|entry| (*entry).into()).collect()
 }
 
-/// The first fault of runs of at most so many pointers beside a flat index.
+/// Returns the first fault of runs of at most `most` pointers beside a flat index.
 fn runs_fault<T: Copy + Into<u32>>(part: &str, most: usize, runs: &[Run], index: &[T]) -> Option<String> {
     let mut end = 0;
     for (at, run) in runs.iter().enumerate() {
@@ -105,10 +106,10 @@ fn runs_fault<T: Copy + Into<u32>>(part: &str, most: usize, runs: &[Run], index:
     (0..most).find(differs).map(|pointer| format!("PackedDiffers({part}, {pointer})"))
 }
 
-/// The scalars of which Big5's encoder takes the last pointer.
+/// The scalars for which Big5's encoder uses the last pointer.
 const LAST_OF_BIG5: [u32; 6] = [0x2550, 0x255E, 0x2561, 0x256A, 0x5341, 0x5345];
 
-/// Whether the encoder of an order may take the pointer.
+/// Checks whether the encoder of an order may use the pointer.
 fn may_use(part: &str, pointer: usize) -> bool {
     match part {
         "Big5Order" => pointer >= 5024,
@@ -118,7 +119,7 @@ fn may_use(part: &str, pointer: usize) -> bool {
     }
 }
 
-/// The first fault of an order beside a flat index.
+/// Returns the first fault of an order beside a flat index.
 fn order_fault<T: Copy + Into<u32>>(part: &str, order: &[u16], index: &[T]) -> Option<String> {
     let flat = numbers(index);
     let mut above = 0;
@@ -146,7 +147,7 @@ fn order_fault<T: Copy + Into<u32>>(part: &str, order: &[u16], index: &[T]) -> O
     lacking.map(|(pointer, _)| format!("PackedDiffers({part}, {pointer})"))
 }
 
-/// The first fault of packed indexes beside flat ones, which have none.
+/// Returns the first fault of packed indexes beside flat ones, which have none.
 fn parts_fault(tables: &Tables, packed: &Packed) -> Option<String> {
     runs_fault("Big5", 19_782, &packed.big5, &tables.big5)
         .or_else(|| runs_fault("EucKr", 23_940, &packed.euc_kr, &tables.euc_kr))
@@ -160,12 +161,12 @@ fn parts_fault(tables: &Tables, packed: &Packed) -> Option<String> {
         .or_else(|| order_fault("Gb18030Order", &packed.gb18030_order, &tables.gb18030))
 }
 
-/// The first fault of packed tables: of the flat indexes, and then of the parts.
+/// Returns the first fault of packed tables: of the flat indexes, and then of the parts.
 pub fn packed_fault(tables: &Tables, packed: &Packed) -> Option<String> {
     flat_fault(tables).or_else(|| parts_fault(tables, packed))
 }
 
-/// The first fault of the entries of a single-byte encoding, of which there are 128.
+/// Returns the first fault of the 128 entries of a single-byte encoding.
 pub fn single_byte_fault(entries: &[u16]) -> Option<String> {
     entries.iter().enumerate().find_map(|(at, entry)| match *entry {
         0 => None,
@@ -176,7 +177,7 @@ pub fn single_byte_fault(entries: &[u16]) -> Option<String> {
     })
 }
 
-/// The first fault of the run of a single-byte encoder.
+/// Returns the first fault of the run of a single-byte encoder.
 pub fn run_fault(entries: &[u16], run: ByteRun) -> Option<String> {
     let (start, length) = (usize::from(run.start), usize::from(run.length));
     if start < 32 {

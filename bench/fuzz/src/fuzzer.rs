@@ -8,11 +8,11 @@ thread_local! {
     static BENCH: RefCell<Bench> = RefCell::new(Bench::new());
 }
 
-/// Tries an input; libFuzzer takes what aborts for a finding.
+/// Tries an input. An abort is a finding for libFuzzer.
 ///
 /// # Safety
 ///
-/// `input` must point to so many bytes.
+/// `input` must point to `length` bytes.
 #[no_mangle]
 pub unsafe extern "C" fn LLVMFuzzerTestOneInput(input: *const u8, length: usize) -> i32 {
     let input = if length == 0 { &[] } else { std::slice::from_raw_parts(input, length) };

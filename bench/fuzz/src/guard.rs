@@ -1,4 +1,4 @@
-//! Memory between two pages that nothing may touch: a read or a write outside of a slice ends the process.
+//! Memory between two pages that nothing may touch: an access outside a slice ends the process.
 
 use std::alloc::{GlobalAlloc, Layout, System};
 use std::ffi::c_void;
@@ -7,7 +7,7 @@ use std::sync::atomic::{AtomicU8, AtomicUsize, Ordering};
 
 const PAGE: usize = 4096;
 
-/// How much of the address space is kept for guarded memory. Nothing of it is used twice.
+/// The part of the address space that is kept for guarded memory. No address is used twice.
 const SPACE: usize = 1 << 38;
 
 const NO_ACCESS: i32 = 0;
@@ -22,21 +22,21 @@ extern "C" {
     fn madvise(at: *mut c_void, length: usize, advice: i32) -> i32;
 }
 
-/// Which side of a slice is at a page that nothing may touch.
+/// The side of a slice that is at a page that nothing may touch.
 #[derive(Clone, Copy, Debug, PartialEq, Eq)]
 pub enum Side {
     End,
     Start,
 }
 
-/// The space's first address, and how much of it is taken.
+/// The space's first address, and the number of bytes that are taken.
 static FIRST: AtomicUsize = AtomicUsize::new(0);
 static TAKEN: AtomicUsize = AtomicUsize::new(0);
 
-/// Which side of each allocation is guarded: 0 for none.
+/// The guarded side of each allocation, or 0 for none.
 static GUARDED: AtomicU8 = AtomicU8::new(0);
 
-/// The first address of the space.
+/// Returns the first address of the space.
 fn first() -> usize {
     let known = FIRST.load(Ordering::Relaxed);
     if known != 0 {
@@ -48,7 +48,7 @@ fn first() -> usize {
     space
 }
 
-/// Pages for so many bytes, with one that nothing may touch before them and one after; `None` if no addresses are left.
+/// Returns pages for these bytes, between two that nothing may touch, or `None` if no addresses are left.
 fn pages(bytes: usize) -> Option<usize> {
     let length = bytes.div_ceil(PAGE).max(1) * PAGE;
     let place = TAKEN.fetch_add(length + PAGE, Ordering::Relaxed);
@@ -60,7 +60,7 @@ fn pages(bytes: usize) -> Option<usize> {
     (!failed).then_some(start)
 }
 
-/// The address of so many bytes in pages from an address on.
+/// Returns the address of these bytes in pages from an address on.
 fn address(start: usize, bytes: usize, side: Side) -> usize {
     match side {
         Side::Start => start,
@@ -97,7 +97,7 @@ unsafe impl GlobalAlloc for Guards {
     }
 }
 
-/// What the function gives, whose allocations are guarded.
+/// Returns the function's result. Its allocations are guarded.
 pub fn with_guards<T>(side: Side, function: impl FnOnce() -> T) -> T {
     let before = GUARDED.swap(if side == Side::End { 1 } else { 2 }, Ordering::Relaxed);
     let made = function();
@@ -112,13 +112,13 @@ pub struct Room {
 }
 
 impl Room {
-    /// Room for so many bytes.
+    /// Returns room for these bytes.
     pub fn new(bytes: usize) -> Room {
         let length = bytes.next_multiple_of(PAGE);
         Room { start: pages(length).expect("addresses are left"), length }
     }
 
-    /// The slice of so many items, one side of which is at a page that nothing may touch, as it is.
+    /// Returns the slice of `count` items with its old contents, one side of which is at a page that nothing may touch.
     pub fn written<T: Copy>(&mut self, count: usize, side: Side) -> &mut [T] {
         let bytes = count * size_of::<T>();
         assert!(bytes <= self.length, "the room is too small");
@@ -129,14 +129,14 @@ impl Room {
         unsafe { std::slice::from_raw_parts_mut(at as *mut T, count) }
     }
 
-    /// The same slice, blank.
+    /// Returns the same slice with blank items.
     pub fn slice<T: Copy>(&mut self, count: usize, blank: T, side: Side) -> &mut [T] {
         let slice = self.written(count, side);
         slice.fill(blank);
         slice
     }
 
-    /// A copy of the items, one side of which is at a page that nothing may touch.
+    /// Returns a copy of the items, one side of which is at a page that nothing may touch.
     pub fn copy<T: Copy + Default>(&mut self, items: &[T], side: Side) -> &[T] {
         let slice = self.written(items.len(), side);
         slice.copy_from_slice(items);

@@ -1,5 +1,6 @@
-//! The fuzzer: an input says which codec, tables, cuts and calls, and has the source; what comes is compared with the
-//! soak's model of the Standard and with encoding_rs.
+//! The fuzzer: an input chooses the codec, tables, cuts and calls, and has the source.
+//!
+//! The results are compared with the soak's model of the Standard and with encoding_rs.
 
 #[cfg(feature = "plain")]
 pub mod direct;
@@ -32,7 +33,7 @@ pub const LONGEST: usize = 4096;
 pub struct Bench {
     shelf: Shelf,
     rooms: Rooms,
-    /// How many inputs were tried by functions of the header, and by direct calls.
+    /// The number of inputs that were tried by functions of the header, and by direct calls.
     pub exported: u64,
     pub direct: u64,
 }
@@ -43,7 +44,7 @@ impl Bench {
         Bench { shelf: Shelf::new(), rooms, exported: 0, direct: 0 }
     }
 
-    /// Tries an input, and says what differs.
+    /// Tries an input, and returns what differs.
     pub fn tries(&mut self, input: &[u8]) -> Result<(), String> {
         match Plan::of(input) {
             Some(plan) if plan.source.len() <= LONGEST => self.follows(&plan).map_err(|error| format!("{error}\n{plan:02X?}")),
@@ -51,7 +52,7 @@ impl Bench {
         }
     }
 
-    /// Tries what a plan asks for.
+    /// Tries a plan, and returns what differs.
     pub fn follows(&mut self, plan: &Plan) -> Result<(), String> {
         match &plan.patches {
             None => {

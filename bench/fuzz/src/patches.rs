@@ -1,4 +1,4 @@
-//! Changes of tables: each is a kind, a place and a value. Whether the tables are accepted then is for `faults` to say.
+//! Changes of tables: each is a kind, a place and a value. `faults` says whether the tables are then accepted.
 
 use soak::ours::{ByteRun, Packed, Range, Run};
 use soak::tables::Tables;
@@ -12,7 +12,7 @@ pub struct Patch {
     high: u8,
 }
 
-/// How many entries the indexes have that are changed, so that a change is soon made and checked.
+/// The length of the indexes that are changed, so that a change is made and checked quickly.
 const SHORT: usize = 400;
 
 impl Patch {

@@ -1,4 +1,4 @@
-//! What an input of the fuzzer asks for: some bytes that say how, and then the source.
+//! The plan of an input of the fuzzer: some bytes that choose, and then the source.
 
 use crate::guard::Side;
 use crate::patches::Patch;
@@ -12,7 +12,7 @@ pub enum Kept {
     Packed,
     /// Flat indexes that are written from packed ones into lent memory.
     Unpacked,
-    /// Packed, and encoders of pairs look these up ahead.
+    /// Packed, and encoders of pairs list them.
     Ahead,
 }
 
@@ -25,10 +25,10 @@ pub enum Choice {
     Odd(u8),
 }
 
-/// How many bytes come before the patches and the source.
+/// The number of bytes before the patches and the source.
 pub const HEAD: usize = 15;
 
-/// How many bytes a patch has.
+/// The number of bytes of a patch.
 pub const PATCH: usize = 6;
 
 /// The flags of the head's second byte.
@@ -42,7 +42,7 @@ pub mod flags {
     pub const IS_PATCHED: u8 = 128;
 }
 
-/// The flags of the head's sixth byte, behind the number of times.
+/// The flags of the head's sixth byte, after the number of times.
 pub mod ways {
     pub const QUERIES: u8 = 4;
     pub const AGAIN: u8 = 8;
@@ -51,45 +51,45 @@ pub mod ways {
     pub const EXPORTED: u8 = 64;
 }
 
-/// What an input asks for.
+/// The plan of an input.
 #[derive(Clone, Debug)]
 pub struct Plan {
     pub codec: Codec,
-    /// Whether a text is encoded; else bytes are decoded.
+    /// Whether a text is encoded. Otherwise bytes are decoded.
     pub encodes: bool,
-    /// Whether the text is UTF-16; else it is UTF-8.
+    /// Whether the text is UTF-16. Otherwise it is UTF-8.
     pub is_wide: bool,
     pub calls: Calls,
     pub kept: Kept,
-    /// Which side of the slices is at a page that nothing may touch.
+    /// The side of the slices that is at a page that nothing may touch.
     pub side: Side,
     pub choice: Choice,
-    /// How tables are changed; `None` if they are not.
+    /// The changes of tables, or `None` if they are not changed.
     pub patches: Option<Vec<Patch>>,
-    /// For functions of the header: the length of a piece, 0 for all.
+    /// The length of a piece for functions of the header, or 0 for all.
     pub piece: usize,
-    /// For them: the length of the output, from 200 on near the length of what is to be written.
+    /// The length of the output for them. From 200 on it is near the length of the right output.
     pub room: u8,
-    /// For them: how often.
+    /// The number of times for them.
     pub times: usize,
     /// Whether outputs have the lengths that queries give.
     pub queries: bool,
     /// Whether the source is converted a second time by the same decoder or encoder.
     pub again: bool,
-    /// Whether a text is made of units of UTF-16, and may have lone surrogates.
+    /// Whether a text is made of UTF-16 code units, and may have unpaired surrogates.
     pub by_units: bool,
-    /// Whether a text in UTF-8 may be none.
+    /// Whether a text in UTF-8 may be malformed.
     pub any_utf8: bool,
     /// Whether the functions of the header are called.
     pub is_exported: bool,
-    /// The lengths of pieces and of outputs, in turn; 255 is all, and a length that is ample.
+    /// The lengths of pieces and of outputs, in turn. 255 stands for all, and for an ample length.
     pub cuts: [u8; 4],
     pub outs: [u8; 4],
     pub source: Vec<u8>,
 }
 
 impl Plan {
-    /// The plan of an input, or `None` if it is too short.
+    /// Returns the plan of an input, or `None` if it is too short.
     pub fn of(input: &[u8]) -> Option<Plan> {
         let (head, rest) = input.split_at_checked(HEAD)?;
         let has = |flag: u8| head[1] & flag != 0;
@@ -120,7 +120,7 @@ impl Plan {
         })
     }
 
-    /// The units of the text to encode.
+    /// Returns the code units of the text to encode.
     pub fn units(&self) -> Vec<u16> {
         if self.by_units {
             return self.source.chunks_exact(2).map(|pair| u16::from_le_bytes([pair[0], pair[1]])).collect();

@@ -31,7 +31,7 @@ pub struct Prepared {
 }
 
 impl Prepared {
-    /// The codec over these tables, which are in guarded memory if a side is given.
+    /// Returns the codec over these tables, which are in guarded memory if a side is given.
     fn new(codec: Codec, tables: Tables, theirs: Option<&'static Encoding>, side: Option<Side>) -> Prepared {
         let with = |kept| match (Ours::with(number(codec), tables.clone(), kept), side) {
             (ours, Some(side)) => guarded(ours, side),
@@ -50,7 +50,7 @@ impl Prepared {
         }
     }
 
-    /// The tables as functions of the header take them.
+    /// Returns the tables as functions of the header take them.
     pub fn ours(&self, kept: Kept) -> &Ours {
         match kept {
             Kept::Flat => &self.flat,
@@ -59,12 +59,12 @@ impl Prepared {
         }
     }
 
-    /// What packed tables are made of.
+    /// Returns the parts of packed tables.
     pub fn packed(&self) -> &Packed {
         self.packed.packed.as_ref().expect("packed tables have it")
     }
 
-    /// The first fault of the tables, kept so.
+    /// Returns the first fault of the tables, if they are kept in this way.
     pub fn fault(&self, kept: Kept) -> Option<String> {
         match kept {
             Kept::Flat => self.flat_fault.get_or_init(|| faults::flat_fault(&self.tables)).clone(),
@@ -72,7 +72,7 @@ impl Prepared {
         }
     }
 
-    /// The first fault of the tables of a single-byte codec.
+    /// Returns the first fault of the tables of a single-byte codec.
     pub fn single_byte_fault(&self, encodes: bool) -> Option<String> {
         let entries = &self.tables.single_byte;
         if self.codec != Codec::SingleByte {
@@ -85,7 +85,7 @@ impl Prepared {
         faults::single_byte_fault(entries).or_else(|| if encodes { of_run() } else { None })
     }
 
-    /// Changed tables.
+    /// Returns changed tables.
     fn patched(&self, patches: &[Patch], side: Side) -> Prepared {
         let mut tables = shortened(&self.tables);
         patches.iter().for_each(|patch| patch.change(&mut tables));
@@ -100,13 +100,13 @@ impl Prepared {
     }
 }
 
-/// The same tables in guarded memory.
+/// Returns the same tables in guarded memory.
 fn guarded(mut ours: Ours, side: Side) -> Ours {
     (ours.indexes, ours.packed) = with_guards(side, || (ours.indexes.clone(), ours.packed.clone()));
     ours
 }
 
-/// All tables that were asked for so far.
+/// All tables that were made for a plan.
 pub struct Shelf {
     standard: Standard,
     made: HashMap<(Codec, Choice, bool), &'static Prepared>,
@@ -117,7 +117,7 @@ impl Shelf {
         Shelf { standard: Standard::new(), made: HashMap::new() }
     }
 
-    /// The tables of a plan, without its patches.
+    /// Returns the tables of a plan, without its patches.
     pub fn unpatched(&mut self, plan: &Plan) -> &'static Prepared {
         let choice = match plan.choice {
             Choice::Standard(_) if plan.codec != Codec::SingleByte => Choice::Standard(0),
@@ -138,7 +138,7 @@ impl Shelf {
         self.made.entry((codec, choice, side == Side::Start)).or_insert_with(make)
     }
 
-    /// The changed tables of a plan.
+    /// Returns the changed tables of a plan.
     pub fn patched(&mut self, plan: &Plan, patches: &[Patch]) -> Prepared {
         self.unpatched(plan).patched(patches, plan.side)
     }

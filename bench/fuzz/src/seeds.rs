@@ -10,10 +10,10 @@ use soak::tables::Standard;
 /// The longest source of a seed.
 const LONGEST: usize = 160;
 
-/// How many seeds a codec has in each direction.
+/// The number of seeds of a codec in each direction.
 const COUNT: usize = 24;
 
-/// A head of no pattern, of one codec and one direction.
+/// Returns a random head for one codec and one direction.
 fn head(codec: usize, encodes: bool, numbers: &mut Numbers) -> Vec<u8> {
     let mut head: Vec<u8> = (0..HEAD).map(|_| numbers.byte()).collect();
     head[0] = codec as u8;
@@ -29,7 +29,7 @@ fn head(codec: usize, encodes: bool, numbers: &mut Numbers) -> Vec<u8> {
     head
 }
 
-/// All seeds.
+/// Returns all seeds.
 pub fn all() -> Vec<Vec<u8>> {
     let mut numbers = Numbers::new(47);
     let standard = Standard::new();

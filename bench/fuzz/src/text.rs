@@ -1,4 +1,4 @@
-//! What is to be written, by the model, with which encoding_rs has to agree over the Standard's tables.
+//! The output that the model wants. encoding_rs must agree with it over the Standard's tables.
 
 use crate::plan::Plan;
 use crate::prepared::Prepared;
@@ -6,12 +6,12 @@ use soak::checks::{decoded_by_theirs, encoded_by_theirs};
 use soak::codec::Codec;
 use soak::model;
 
-/// Whether the codec's decoder begins anew after a last call: it keeps no mode, and no mark of an error.
+/// Checks whether the codec's decoder begins anew after a last call: it keeps no mode, and no mark of an error.
 fn begins_anew(codec: Codec) -> bool {
     !matches!(codec, Codec::Iso2022Jp | Codec::Replacement)
 }
 
-/// The text of the source, and the text of the last of so many times by one decoder.
+/// Returns the text of the source, and its text the last of `times` times by one decoder.
 fn texts(plan: &Plan, prepared: &Prepared, times: usize) -> (Vec<char>, Vec<char>) {
     let once = model::decoders::decode(plan.codec, &prepared.tables, &plan.source);
     if times < 2 || begins_anew(plan.codec) {
@@ -20,7 +20,7 @@ fn texts(plan: &Plan, prepared: &Prepared, times: usize) -> (Vec<char>, Vec<char
     (once, model::decoders::decode_last(plan.codec, &prepared.tables, &plan.source, times))
 }
 
-/// The text of the plan's source, and that of the last of so many times.
+/// Returns the text of the plan's source, and its text the last of `times` times by one decoder.
 pub fn decoded(plan: &Plan, prepared: &Prepared, times: usize) -> Result<(String, String), String> {
     let (once, last) = texts(plan, prepared, times);
     let once: String = once.into_iter().collect();
@@ -33,7 +33,7 @@ pub fn decoded(plan: &Plan, prepared: &Prepared, times: usize) -> Result<(String
     Ok((once, last.into_iter().collect()))
 }
 
-/// The bytes of these scalars.
+/// Returns the bytes of these scalars.
 pub fn encoded(plan: &Plan, prepared: &Prepared, scalars: &[char]) -> Result<Vec<u8>, String> {
     let wanted = model::encoders::encode(plan.codec, &prepared.tables, &prepared.pointers, scalars, plan.calls);
     if let Some(encoding) = prepared.theirs {

@@ -132,12 +132,12 @@ pub fn is_front<U: Copy + PartialEq + fmt::Debug>(
     Ok(())
 }
 
-/// Whether the place in a text in UTF-8 is between two characters.
+/// Checks whether the place in a text in UTF-8 is between two characters.
 pub fn is_between_bytes(text: &[u8], place: usize) -> bool {
     text.get(place).is_none_or(|byte| byte & 0xC0 != 0x80)
 }
 
-/// Whether the place in a text in UTF-16 is between two characters.
+/// Checks whether the place in a text in UTF-16 is between two characters.
 pub fn is_between_units(units: &[u16], place: usize) -> bool {
     units.get(place).is_none_or(|unit| unit & 0xFC00 != 0xDC00)
 }

@@ -119,7 +119,7 @@ fn ranges(numbers: &mut Numbers) -> Vec<Range> {
     let (mut pointer, mut scalar) = (numbers.of(&[0, 0, 7, 7000, 39000]), numbers.of(&[0x80, 0x80, 0x452, 0x2E81]));
     for _ in 0..numbers.below(200) {
         let length = numbers.length(3000).max(1);
-        // The last pointer is 39419, and a range holds no surrogate: no range reaches past U+D7FF.
+        // The last pointer is 39419, and a range contains no surrogate: no range reaches past U+D7FF.
         if pointer > 39_419 || scalar + 39_420 - pointer > 0xD800 {
             break;
         }

@@ -44,7 +44,18 @@ pub trait RawDecoder {
     /// Decodes with `step` into a slice of UTF-8 bytes.
     ///
     /// Returns the result, the number of bytes read and the number of bytes written to the
-    /// beginning of `dst`.
+    /// beginning of `dst`. The body of a loop over an input in memory:
+    ///
+    /// ```text
+    /// let (result, read, written) = decoder.decode_to_utf8_raw(input, &mut output, true);
+    /// text.extend_from_slice(&output[..written])?;
+    /// input = &input[read..];
+    /// match result {
+    ///     DecoderResult::InputEmpty => break,
+    ///     DecoderResult::OutputFull => continue,
+    ///     DecoderResult::Malformed(length, back) => report(length, back),
+    /// }
+    /// ```
     fn decode_to_utf8_raw(
         &mut self,
         src: &[u8],

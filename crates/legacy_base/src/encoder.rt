@@ -40,8 +40,19 @@ pub trait RawEncoder {
 
     /// Encodes a text in UTF-8 with `step`.
     ///
-    /// Returns the result, the number of bytes read and the number of bytes written. Reading stops
-    /// between two characters.
+    /// Returns the result, the number of bytes read and the number of bytes written to the
+    /// beginning of `dst`. Reading stops between two characters. The body of a loop over a text:
+    ///
+    /// ```text
+    /// let (result, read, written) = encoder.encode_from_utf8_raw(text, &mut output, true);
+    /// bytes.extend_from_slice(&output[..written])?;
+    /// text = &text[read..];
+    /// match result {
+    ///     EncoderResult::InputEmpty => break,
+    ///     EncoderResult::OutputFull => continue,
+    ///     EncoderResult::Unmappable(scalar) => report(scalar),
+    /// }
+    /// ```
     fn encode_from_utf8_raw(
         &mut self,
         src: &str,
@@ -61,8 +72,8 @@ pub trait RawEncoder {
 
     /// Encodes UTF-16 code units with `step`, with U+FFFD for each unpaired surrogate.
     ///
-    /// Returns the result, the number of code units read and the number of bytes written. Reading
-    /// does not stop inside a surrogate pair.
+    /// Returns the result, the number of code units read and the number of bytes written to the
+    /// beginning of `dst`. Reading does not stop inside a surrogate pair.
     fn encode_from_utf16_raw(
         &mut self,
         src: &[u16],

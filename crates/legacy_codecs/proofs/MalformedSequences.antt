@@ -32,7 +32,7 @@ unfolding malformed_of
 malformed-scalars held k [] more = refl
 malformed-scalars held k (c ∷ cs) more = malformed-scalars held k cs more
 
--- So much of the input is unread, and these were found.
+-- The rest of the input is unread, and these sequences were found.
 pub record Finds (before : DecoderState) (input : List ℕ) (room_free : ℕ) (now : DecoderState) (rest : List ℕ) (read : ℕ) (found : List MalformedSequence) : Type 0 where
   pub passed : ℕ
   pub out : List DecodeEvent

@@ -37,7 +37,7 @@ utf8_of bytes cs h e =
 
 -- ---- a call
 
--- what was written stands at the front of the buffer
+-- what was written is at the front of the buffer
 pub front_of_buffer : (written count : ℕ) (output behind : List ℕ) → written ≤ length output → length output ≡ count → take written (take count (output ++ behind)) ≡ take written output
 front_of_buffer written count output behind h e = take-take written count (output ++ behind) (omega (arith, h, e)) ∙ take-append-le written output behind h
 
@@ -59,7 +59,7 @@ module _ (form : EncodingForm) (before : DecoderState) (source : List ℕ) (last
       let rest = text_of after later in
       ap (all_code_units form) (scalars_go_on later h) ∙ all_code_units-append form (replaced_scalars c.out) rest ∙ ap (λ l. l ++ all_code_units form rest) (sym c.text)
 
-  -- behind the last piece no text is left
+  -- after the last piece no text is left
   pub none_left : IsTrue last → text_of after [] ≡ []
   unfolding text_of
   none_left is_last = ap replaced_scalars (ap (events_of after.grammar) (append-nil after.held) ∙ (c.input_empty empty).2 is_last)

@@ -1,11 +1,11 @@
--- The malformed sequences of an input, in the words of who reports them.
+-- The malformed sequences of an input, with the places that a caller counts.
 use Rattle.std.specs.Prelude.{ℕ, ◌-◌, List, [], ◌∷◌}
 use Rattle.legacy_base.specs.declared.results.DecodeEvent.{DecodeEvent}
 use Rattle.legacy_base.specs.declared.results.DecodeEvent.TheVariants.{Scalar, Bad}
 use Rattle.legacy_codecs.specs.declared.faults.MalformedSequence.{MalformedSequence}
 
--- The malformed sequences among events, in their order. A place is counted from the first byte behind the `held` ones that a
--- decoder held back, and is 0 where the sequence begins among those.
+-- The malformed sequences among events, in their order. A place is counted from the first byte after the `held` ones
+-- that a decoder held back, and is 0 if the sequence begins among those.
 unfoldable pub malformed_of : ℕ → List DecodeEvent → List MalformedSequence
 malformed_of held [] = []
 malformed_of held (Scalar c ∷ events) = malformed_of held events

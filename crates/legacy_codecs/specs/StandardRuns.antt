@@ -14,8 +14,8 @@ use Rattle.legacy_codecs.specs.EncodeRuns.{FinishedEncodeRun}
 
 -- ---- the events of one run
 
--- If the decoder was new and the run is finished, its events are what the handler of the Standard's decoder gives for all
--- pieces together.
+-- If the decoder was new and the run is finished, its events are what the handler of the Standard's decoder gives for
+-- all pieces together.
 abbrev pub RunIsDecodedByHandler : DecoderState → List (List ℕ) → Bool → List DecodeEvent → Type 0
 RunIsDecodedByHandler before pieces finished answered =
     (decoder : Decoder) → before ≡ new_state (grammar_of decoder) → IsTrue finished → AreBytes (joined pieces) →

@@ -1,12 +1,12 @@
--- The whole text that a decoder gives, in the words of its caller.
+-- The text that a decoder gives for a whole input.
 use Rattle.std.specs.Prelude.{◌≡◌, ℕ, List, [], ◌++◌, Bool, IsTrue}
 use Rattle.legacy_text.specs.EncodingForm.{EncodingForm, all_code_units}
 use Rattle.legacy_base.specs.Grammar.{events_of}
 use Rattle.legacy_base.specs.States.{DecoderState}
 use Rattle.legacy_codecs.specs.Replacing.{replaced_scalars}
 
--- The characters that a decoder gives the bytes, and those that it held back before them, where no more come: with U+FFFD
--- for each malformed sequence.
+-- The text of the bytes that a decoder held back and of these, which are the last ones: its characters, with U+FFFD for
+-- each malformed sequence.
 unfoldable pub text_of : DecoderState → List ℕ → List ℕ
 text_of state bytes = replaced_scalars (events_of state.grammar (state.held ++ bytes))
 
@@ -14,8 +14,8 @@ text_of state bytes = replaced_scalars (events_of state.grammar (state.held ++ b
 abbrev pub units_of : EncodingForm → DecoderState → List ℕ → List ℕ
 units_of form state bytes = all_code_units form (text_of state bytes)
 
--- What was written for a piece, and then the text of whatever bytes come later, is the text of the piece and those bytes.
--- Behind the last piece no bytes come.
+-- What was written for a piece, and then the text of any later bytes, is the text of the piece and those bytes. No
+-- bytes come after the last piece.
 abbrev pub TextGoesOn : EncodingForm → Bool → DecoderState → List ℕ → DecoderState → List ℕ → Type 0
 TextGoesOn form last before piece after written =
     (later : List ℕ) → (IsTrue last → later ≡ []) →

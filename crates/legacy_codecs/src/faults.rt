@@ -8,16 +8,16 @@ use crate::whole::SizedError;
 use legacy_base::{DecoderResult, RawDecoder};
 use std::alloc::Global;
 
-/// Bytes of an input that are no character.
+/// A malformed sequence of an input.
 #[derive(Clone, Copy, Debug, PartialEq, Eq)]
 pub struct MalformedSequence {
-    /// How many bytes of the input stand before it; 0 where it began in bytes that the decoder held back.
+    /// The number of bytes of the input before it, or 0 if it began in held-back bytes.
     pub place: usize,
-    /// How many bytes it has.
+    /// The number of its bytes, 1 to 4.
     pub length: usize,
 }
 
-/// The sequence of so many bytes that ends `back` bytes before the end of the `read` bytes.
+/// Returns the sequence of `length` bytes before the last `back` of the `read` bytes.
 fn sequence_at(read: usize, length: u8, back: u8) -> MalformedSequence
     ensures place { result.place ≡ read - (length + back) }
     ensures length { result.length ≡ length }
@@ -29,7 +29,7 @@ fn sequence_at(read: usize, length: u8, back: u8) -> MalformedSequence
     }
 }
 
-/// What follows so many bytes.
+/// Returns the bytes after the first `count`.
 fn behind(bytes: &[u8], count: usize) -> &[u8]
     requires { count ≤ length bytes.now }
     ensures { result.now ≡ drop count bytes.now }
@@ -37,7 +37,18 @@ fn behind(bytes: &[u8], count: usize) -> &[u8]
     &bytes[count..]
 }
 
-/// Finds every malformed sequence of an input that is whole in memory. Its text is not kept.
+/// Finds every malformed sequence of a whole input, in order.
+///
+/// The sequences are those of the bytes that the decoder held back and all of `input`, whose end is
+/// the end of the input. A place counts bytes of `input` from 0. The text is not kept.
+///
+/// - `TooLong`: exactly if `max_utf8_buffer_length_without_replacement` returns `None` for the
+///   length of `input`.
+/// - `Memory`: an allocation failed.
+///
+/// After an error take a new decoder.
+///
+/// `docs/USING.md` has an example, `faults_of_message`.
 pub fn malformed_sequences<D: RawDecoder>(
     alloc: Global,
     decoder: &mut D,

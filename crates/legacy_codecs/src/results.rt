@@ -3,7 +3,7 @@
 /// The result of a call with replacement.
 #[derive(Clone, Copy, Debug, PartialEq, Eq)]
 pub enum CoderResult {
-    /// The whole input was read, and all that it gave so far was written.
+    /// The whole input was read, and its output was written.
     InputEmpty,
     /// The output lacks room for the next act of the decoder or encoder.
     ///

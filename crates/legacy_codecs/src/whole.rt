@@ -1,4 +1,4 @@
-//! Whole inputs and whole texts in memory of their own, and pieces of an input.
+//! Calls for whole inputs and whole texts, which allocate their output, and for pieces of an input.
 ghost use Rattle.std.specs.Prelude.{◌≡◌, ◌↔◌, ℕ, ◌≤◌, [], length, take, string_bytes, IfOk, OnErr, Err, Some, None, IsTrue, true};
 ghost use Rattle.std.specs.Str.{chars};
 ghost use Rattle.legacy_text.specs.EncodingForm.{Utf8};
@@ -14,13 +14,13 @@ use legacy_base::{RawDecoder, RawEncoder};
 use std::alloc::{AllocError, Global};
 use thiserror::Error;
 
-/// Why a result was not made.
+/// Why a call for a whole input returned no result.
 #[derive(Clone, Copy, Debug, PartialEq, Eq, Error)]
 pub enum SizedError {
-    /// The length of the buffer would be above `usize::MAX`.
+    /// The length of the buffer exceeds `usize::MAX`.
     #[error("input is too long")]
     TooLong,
-    /// Memory was refused.
+    /// Allocation failed.
     #[error("memory")]
     Memory,
 }
@@ -35,8 +35,16 @@ impl From<AllocError> for SizedError {
     }
 }
 
-/// Decodes an input that is whole in memory, and answers its text, with U+FFFD for each malformed sequence.
-/// After an error the decoder is as it was.
+/// Decodes a whole input and returns its text, with U+FFFD for each malformed sequence.
+///
+/// The result has the characters of the bytes that the decoder held back and of all of `input`,
+/// whose end is the end of the input (Encoding Standard, error mode "replacement"). Take a new
+/// decoder for the next input.
+///
+/// - `TooLong`: exactly if `max_utf8_buffer_length` returns `None` for the length of `input`.
+/// - `Memory`: the allocation of that many bytes failed.
+///
+/// After either error the decoder is unchanged. `docs/USING.md` has an example, `decode_by_file`.
 pub fn decode_whole<D: RawDecoder>(
     alloc: Global,
     decoder: &mut D,
@@ -59,12 +67,14 @@ pub fn decode_whole<D: RawDecoder>(
     Ok(String::from_utf8(text).unwrap())
 }
 
-/// Decodes the next piece of an input into UTF-8 at the front of `output`, with U+FFFD for each malformed
-/// sequence, and answers how many bytes it wrote. `last` says that no piece comes behind this one; then
-/// nothing is left to write.
+/// Decodes the next piece of an input to UTF-8, with U+FFFD for each malformed sequence.
 ///
-/// The output is as long as `max_utf8_buffer_length` answers for the piece, or longer. So the whole piece is
-/// read: nothing of it has to be handed in again, and only the decoder knows of a sequence that it cut.
+/// Returns the number of bytes written to the beginning of `output`. The whole piece is read: pass
+/// the next piece in the next call. If the piece ends inside a sequence, the decoder holds its
+/// bytes back. Set `last` for the final piece and for no other. After it nothing is left to write.
+///
+/// `output` must be at least as long as the result of `max_utf8_buffer_length` for the length of
+/// `piece`, queried after the previous piece. `docs/USING.md` has an example, `show_piece`.
 pub fn decode_piece<D: RawDecoder>(
     decoder: &mut D,
     piece: &[u8],
@@ -83,8 +93,18 @@ pub fn decode_piece<D: RawDecoder>(
     written
 }
 
-/// Encodes a whole text up to its end, with a numeric character reference for each character that the
-/// encoding lacks, by calls with a small output.
+/// Encodes a whole text, with a numeric character reference for each unmappable character.
+///
+/// The result has the bytes of all of `text` and of its end, for ISO-2022-JP with the escape back
+/// to ASCII. A reference is written as `&#128169;` (Encoding Standard, error mode "html").
+///
+/// If an allocation fails, the result is `AllocError`. The encoder may then have read a part of the
+/// text: take a new one.
+///
+/// ```text
+/// let mut encoder = EucKrEncoder::new(&tables);
+/// let bytes = encode_whole(alloc, &mut encoder, text)?;
+/// ```
 pub fn encode_whole<E: RawEncoder>(
     alloc: Global,
     encoder: &mut E,
@@ -106,8 +126,15 @@ pub fn encode_whole<E: RawEncoder>(
     }
 }
 
-/// Recodes an input from any encoding to any other: U+FFFD stands for each malformed sequence, and then a
-/// numeric character reference for each character that the new encoding lacks.
+/// Decodes a whole input by one coder and encodes its text by another.
+///
+/// A malformed sequence becomes U+FFFD, as in `decode_whole`. Each character that the new encoding
+/// lacks becomes a numeric character reference, as in `encode_whole`; U+FFFD may be one of them.
+///
+/// - `TooLong`: exactly if `max_utf8_buffer_length` returns `None` for the length of `input`.
+/// - `Memory`: an allocation failed.
+///
+/// After an error take new coders.
 pub fn transcode<D: RawDecoder, E: RawEncoder>(
     alloc: Global,
     decoder: &mut D,

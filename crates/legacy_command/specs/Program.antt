@@ -1,4 +1,4 @@
--- What the program does.
+-- What the programs do.
 use Rattle.std.specs.Prelude.{◌≡◌, ℕ, List, [], drop, Bool, Option, Some, None}
 use Rattle.legacy_base.specs.States.{DecoderState}
 use Rattle.legacy_base.specs.Encoders.{EncoderState}
@@ -20,7 +20,8 @@ use Rattle.legacy_streams.specs.Recoding.{RecodesAll}
 use Rattle.legacy_streams.specs.Text.{WritesAll}
 use Rattle.legacy_streams.specs.Encoding.{EncodesAll}
 
--- The input was read to its end, and the lines of all its events were written, or its text, from a decoder in this state.
+-- The input was read to its end, and the lines of all its events, or its text, were written, from a decoder in this
+-- state.
 abbrev pub RecodesInput : OutputKind → DecoderState → Option (List ℕ) → Option (List ℕ) → Option (List ℕ) → Option (List ℕ) → Type 0
 RecodesInput Lines before input_old input_new output_old output_new =
     (after : DecoderState) × RecodesAll before after input_old input_new output_old output_new
@@ -33,8 +34,8 @@ flat_of tables =
     flat_lists tables.big5.items tables.euc_kr.items tables.jis0208.items tables.jis0212.items tables.gb18030.items [] tables.ranges.items
     GB18030_2022_PUA
 
--- All indexes passed the check, those too that the codec does not use, and the input was recoded by a new decoder of the
--- codec over them.
+-- All indexes passed the check, also those that the codec does not use, and the input was recoded by a new decoder of
+-- the codec over them.
 pub record RecodesByTables (kind : OutputKind) (codec : CodecName) (tables : OwnedIndexes) (input_old input_new output_old output_new : Option (List ℕ)) : Type 0 where
   pub accepted : AreAccepted (flat_of tables)
   pub accepted_table : IsAcceptedTable tables.single_byte
@@ -70,8 +71,8 @@ with_encoder (Some name) = Some name
 abbrev pub EncodesInput : EncoderState → Option (List ℕ) → Option (List ℕ) → Option (List ℕ) → Option (List ℕ) → Type 0
 EncodesInput before input_old input_new output_old output_new = (after : EncoderState) × EncodesAll before after input_old input_new output_old output_new
 
--- All indexes passed the check, those too that the codec does not use, and the input was encoded by a new encoder of the
--- codec over them.
+-- All indexes passed the check, also those that the codec does not use, and the input was encoded by a new encoder of
+-- the codec over them.
 pub record EncodesByTables (codec : CodecName) (tables : OwnedIndexes) (input_old input_new output_old output_new : Option (List ℕ)) : Type 0 where
   pub accepted : AreAccepted (flat_of tables)
   pub accepted_table : IsAcceptedTable tables.single_byte
@@ -85,8 +86,8 @@ pub record EncodesByTexts (codec : CodecName) (texts : FileIndex → List ℕ) (
   pub holds : HoldsTexts texts tables
   pub encodes : EncodesByTables codec tables input_old input_new output_old output_new
 
--- The same by the codec and the index files that the program's words name. Each of these could be read and has no malformed
--- line.
+-- The same by the codec and the index files that the program's words name. Each of these could be read and has no
+-- malformed line.
 pub record EncodesByWords (words : List (List ℕ)) (files : List (Option (List ℕ))) (input_old input_new output_old output_new : Option (List ℕ)) : Type 0 where
   pub codec : CodecName
   pub named : with_encoder (codec_of_words words) ≡ Some codec

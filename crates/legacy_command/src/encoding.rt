@@ -1,4 +1,4 @@
-//! What the program that encodes does with its words, its files and its streams.
+//! Runs the program that encodes, by its words, files and streams.
 ghost use Rattle.std.specs.Prelude.{◌≡◌, ◌↔◌, ◌≤◌, [], OnOk, None, Some, IsTrue};
 ghost use Rattle.legacy_command.specs.Words.{texts_of, are_indexes, codec_of_words};
 ghost use Rattle.legacy_command.specs.IndexTexts.{contents_of, text_given, AreWellFormed};
@@ -16,8 +16,9 @@ use legacy_streams::recode::RecodeError;
 use std::alloc::Global;
 use std::io::{Read, Write};
 
-/// The codec of the program's words, which are without the program's name. `None` if they are not of the form that
-/// `codec_in` takes, or the codec has no encoder.
+/// Returns the codec that the words name, without the program's name.
+///
+/// Returns `None` if `codec_in` does not take the words or the codec has no encoder.
 pub fn encoder_in(words: &[&str]) -> Option<CodecName>
     ensures { result ≡ with_encoder (codec_of_words (texts_of words.now)) }
 {
@@ -27,7 +28,7 @@ pub fn encoder_in(words: &[&str]) -> Option<CodecName>
     }
 }
 
-/// Encodes the input by the encoder, with its pairs listed ahead in memory of their own.
+/// Encodes the input by the encoder, with a list of its pairs in memory of its own.
 fn encode_input<'a, R: Read, W: Write>(
     alloc: Global,
     encoder: &mut AnyEncoder,
@@ -50,7 +51,7 @@ fn encode_input<'a, R: Read, W: Write>(
     encode_by(encoder, input, output)
 }
 
-/// Encodes the input by an encoder of any kind and flushes the output, also if the input cannot be read.
+/// Encodes the input by an encoder and flushes the output, also if the input cannot be read.
 fn encode_by<'a, E: RawEncoder, R: Read, W: Write>(
     encoder: &mut E,
     input: &mut R,
@@ -115,20 +116,25 @@ fn read_and_encode<'a, R: Read, W: Write>(
     check_and_encode(alloc, codec, &indexes, input, output)
 }
 
-/// Runs the program that encodes on its words, which are without its name, and returns its status.
+/// Runs the program that encodes on its words, without its name, and returns its status.
 ///
-/// The words are CODEC, one that has an encoder, and then INDEX and FILE any number of times, no INDEX twice. `files` has
-/// the contents of each FILE, in the same order, or `None` if it cannot be read; one that is missing counts as such. The
-/// words are checked first, then the files in their order, then the indexes. Then the input, a text in UTF-8, is encoded:
-/// the output is its bytes, with a decimal numeric character reference for each scalar that the encoding lacks. The output
-/// is flushed at the end.
+/// The words are CODEC, one that has an encoder, and then INDEX and FILE any number of times, no
+/// INDEX twice. `files` has the contents of each FILE, in the same order, or `None` if it cannot be
+/// read. A missing entry counts as `None`.
 ///
-/// - 0: each file was read and has no malformed line, and the whole text was written, with references in it or without.
-/// - 2: the words are not of that form; nothing is read.
-/// - 1: a file cannot be read or has a bad line, an index is refused, the input cannot be read, the output cannot be
-///   written or flushed, or memory was refused. What was written before stands.
+/// The program checks the words first, then the files in their order, then the indexes. Then it
+/// encodes the input, a text in UTF-8: the output is its bytes, with a decimal numeric character
+/// reference for each scalar that the encoding lacks. The output is flushed at the end.
 ///
-/// With 1 and 2 a line on `errors` says why. That it cannot be written does not change the status.
+/// - 0: each file was read and has no malformed line, and the whole text was written. References do
+///   not change the status.
+/// - 2: the words do not have that form; nothing is read.
+/// - 1: a file cannot be read or has a malformed line; an index is refused; the input cannot be
+///   read; the output cannot be written or flushed; or allocation failed. What was written before
+///   remains.
+///
+/// With 1 and 2 a line on `errors` gives the reason. If it cannot be written, the status is the
+/// same.
 pub fn run_encode<R: Read, W: Write, E: Write>(
     alloc: Global,
     words: &[&str],

@@ -14,7 +14,7 @@ use std::alloc::Global;
 /// The words are INDEX and FILE any number of times. `files` has the contents of each FILE, in the
 /// same order, or `None` if it cannot be read. A missing entry counts as `None`.
 ///
-/// Returns an error if a file cannot be read or has a bad line, or if allocation fails.
+/// Returns an error if a file cannot be read or has a malformed line, or if allocation fails.
 pub fn read_files<'a>(
     alloc: Global,
     words: &[&'a str],

@@ -1,9 +1,10 @@
-//! What a program's `main` hands to it: its words as texts, and the contents of the files that they name.
+//! What a program's `main` passes on: its words as texts, and the contents of the files that they
+//! name.
 use std::alloc::{Alloc, AllocError, Allocator, Global};
 use std::fs::{self, Files};
 use std::io::{self, ErrorKind};
 
-/// The words as texts.
+/// Returns the words as texts.
 pub fn words_of<'a, A: Allocator>(
     alloc: Global,
     arguments: &'a [String<A>],
@@ -15,7 +16,7 @@ pub fn words_of<'a, A: Allocator>(
     Ok(words)
 }
 
-/// The bytes of the file, or `None` if it cannot be read. An error is that memory was refused.
+/// Returns the bytes of the file, or `None` if it cannot be read, or an error if allocation fails.
 fn contents<R: Files + Alloc>(rt: &R, path: &str) -> io::Result<Option<Vec<u8, R::A>>> {
     match fs::read(rt, path) {
         Ok(bytes) => Ok(Some(bytes)),
@@ -24,8 +25,9 @@ fn contents<R: Files + Alloc>(rt: &R, path: &str) -> io::Result<Option<Vec<u8, R
     }
 }
 
-/// The contents of each FILE among the words, which are CODEC, and then INDEX and FILE any number of times, in their
-/// order. An error is that memory was refused.
+/// Returns the contents of each FILE among the words in order, or an error if allocation fails.
+///
+/// The words are CODEC, and then INDEX and FILE any number of times.
 pub fn files_of<R: Files + Alloc>(
     rt: &R,
     alloc: Global,
@@ -40,7 +42,7 @@ pub fn files_of<R: Files + Alloc>(
     Ok(files)
 }
 
-/// The files as slices.
+/// Returns the files as slices.
 pub fn slices_of<'a, A: Allocator>(
     alloc: Global,
     files: &'a [Option<Vec<u8, A>>],

@@ -1,4 +1,4 @@
-//! The command lines of the programs: their words, the index files that they name, and what is done with their streams.
+//! The command lines of the programs: words, index files, and the work on their streams.
 #![tactic(auto)]
 
 pub mod arguments;

@@ -1,4 +1,4 @@
-//! What the programs do with their words, their files and their streams.
+//! Runs the program that decodes, by its words, files and streams.
 ghost use Rattle.std.specs.Prelude.{◌≡◌, ◌↔◌, ◌≤◌, [], IfOk, OnOk, None, Some, IsTrue};
 ghost use Rattle.legacy_command.specs.Words.{texts_of, are_indexes, plain_words, codec_of_words};
 ghost use Rattle.legacy_command.specs.IndexTexts.{contents_of, text_given, AreWellFormed};
@@ -85,7 +85,7 @@ pub(crate) struct CheckedIndexes<'a> {
     pub(crate) single_byte: SingleByteTable,
 }
 
-/// Checks the indexes, of which none is the katakana index.
+/// Checks the indexes. None of them is the katakana index.
 pub(crate) fn check<'a, 'b>(indexes: &'a OwnedIndexes) -> Result<CheckedIndexes<'a>, Fault<'b>>
     requires { indexes.now.katakana.items ≡ [] }
     ensures { IfOk result (λ checked. (checked.tables.flat ≡ flat_of indexes.now)
@@ -163,8 +163,9 @@ fn read_and_recode<'a, R: Read, W: Write>(
 /// - 0: each file was read and has no malformed line, and all events or the whole text were
 ///   written. Malformed sequences in the input do not change the status.
 /// - 2: the words do not have that form; nothing is read.
-/// - 1: a file cannot be read or has a bad line; an index is refused; the input cannot be read; the
-///   output cannot be written or flushed; or allocation failed. What was written before remains.
+/// - 1: a file cannot be read or has a malformed line; an index is refused; the input cannot be
+///   read; the output cannot be written or flushed; or allocation failed. What was written before
+///   remains.
 ///
 /// With 1 and 2 a line on `errors` gives the reason. If it cannot be written, the status is the
 /// same.

@@ -45,7 +45,7 @@ pub fn request<'a, 'b>(words: &'a [&'b str]) -> &'a [&'b str]
     words
 }
 
-/// The codec that a word names.
+/// Returns the codec that a word names, or `None`.
 fn codec_of(word: &str) -> Option<CodecName>
     ensures { result ≡ codec_named word.now }
 {
@@ -115,9 +115,10 @@ fn is_indexes(words: &[&str]) -> bool
     }
 }
 
-/// The codec of the program's words, which are without the program's name and without `--text`. `None` where they are
-/// not a word of a codec, and then INDEX and FILE any number of times, each a word of an index that stands once and any
-/// word.
+/// Returns the codec that the words name, without the program's name and without `--text`.
+///
+/// Returns `None` unless the words are a codec, and then INDEX and FILE any number of times with no
+/// INDEX twice.
 pub fn codec_in(words: &[&str]) -> Option<CodecName>
     ensures { result ≡ codec_of_words (texts_of words.now) }
 {

@@ -1,5 +1,7 @@
-//! `legacy_encode CODEC [INDEX FILE]...` reads a text in UTF-8 from standard input and writes its bytes in a legacy encoding
-//! of the WHATWG Encoding Standard, with a decimal numeric character reference for each scalar that the encoding lacks.
+//! `legacy_encode CODEC [INDEX FILE]...` encodes standard input, a text in UTF-8.
+//!
+//! It writes the bytes of a legacy encoding of the WHATWG Encoding Standard, with a decimal numeric
+//! character reference for each scalar that the encoding lacks.
 #![tactic(auto)]
 
 use legacy_command::arguments::{ArgumentsError, arguments, status_of};
@@ -9,8 +11,9 @@ use std::alloc::Global;
 use std::io::{self, Write};
 use std::process::ExitCode;
 
-/// Returns the contents of each FILE among the words, in their order. Reads no file if the words are not of the program's
-/// form. An error is that memory was refused.
+/// Returns the contents of each FILE among the words, in order, or an error if allocation fails.
+///
+/// Reads no file if the words do not have the program's form.
 fn files_named(
     rt: &HostRuntime,
     alloc: Global,

@@ -48,7 +48,7 @@ module _ (codec : Codec) (part : PackedPart) (mark : ℕ → ℕ) (index : List 
             whole = λ s h z. absurd (by.some p (sym there ∙ z));
           }
 
--- each scalar is past ASCII, for the walk, or in ASCII, where its code is asked for
+-- each scalar is past ASCII, for the walk, or in ASCII, whose codes are looked up
 pub past-or-ascii : (c : ℕ) → or_between (nat_le 0x80) 0 0x80 c ≡ true
 past-or-ascii c = elim (cases_lt c 0x80) [
   | inl l ↦ rw (lt-leb 0x80 c l, le-leb 0 c (omega arith), lt-ltb c 0x80 l) refl

@@ -1,4 +1,4 @@
--- What a run keeps from one scalar to the next: pointers of four bytes in a row.
+-- The range that a run of an encoder keeps from one scalar to the next.
 use Rattle.std.specs.Prelude.{ℕ, List, []}
 use Rattle.legacy_tables.specs.declared.tables.ranges.RangePart.{RangePart}
 use Rattle.legacy_tables.specs.RangeParts.{IsRangePart}
@@ -10,6 +10,6 @@ codec_ranges (gb18030 index ranges pua) = ranges
 codec_ranges (gbk index ranges pua) = ranges
 codec_ranges _ = []
 
--- what is kept says what they do
+-- the range that is kept is a part of them
 abbrev pub IsNear : Codec → RangePart → Type 0
 IsNear codec near = IsRangePart (codec_ranges codec) near

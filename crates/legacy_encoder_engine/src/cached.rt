@@ -1,4 +1,4 @@
-//! Encoders that look no pair up: those of all scalars below U+10000 are listed once, ahead, in room that the user
+//! Encoders that read pairs from a list of all scalars below U+10000, in memory that the user
 //! lends.
 ghost use Rattle.std.specs.Prelude.{◌≡◌, ◌+◌, ◌<◌, ◌≤◌, [], ◌∷◌, length, take, Some, IfSome, MatchOption};
 ghost use Rattle.legacy_text.specs.EncodingForm.{total_unit_count};
@@ -18,12 +18,12 @@ use legacy_base::{EncoderResult, RawEncoder, Source};
 use legacy_tables::RangePart;
 use std::alloc::AllocError;
 
-/// The room that the pairs of a codec take, in entries of 16 bits: one for each scalar below U+10000.
+/// The length of the list of a codec's pairs in 16-bit entries: one for each scalar below U+10000.
 pub const PAIR_ROOM: usize = 0x1_0000;
 
 /// The codes of scalars past ASCII that have no lead and trail.
 pub trait PastPairs: PlainCodes {
-    /// The bytes of such a scalar, or the scalar itself as unmappable.
+    /// Returns the bytes of such a scalar, or the scalar itself as unmappable.
     #[inline(always)]
     fn code_past_pairs(&self, c: char) -> EncoderMove
         requires past { 0x80 ≤ c }
@@ -33,8 +33,9 @@ pub trait PastPairs: PlainCodes {
         self.code_of(c)
     }
 
-    /// The four bytes of such a scalar whose code these are. Any scalar may have none here: `code_past_pairs` has all
-    /// codes. What the run keeps may change.
+    /// Returns the four bytes of such a scalar.
+    ///
+    /// The result may be `None` for any scalar: `code_past_pairs` has all codes. `near` may change.
     #[inline(always)]
     fn four_past_pairs(&self, near: &mut RangePart, c: char) -> Option<(u8, u8, u8, u8)>
         requires past { 0x80 ≤ c }
@@ -50,7 +51,7 @@ pub trait PastPairs: PlainCodes {
     }
 }
 
-/// Codes of which the pairs stand in a list.
+/// The codes of a codec, with its pairs in a list.
 #[derive(Drop)]
 pub struct WithPairs<'a, C: PastPairs> {
     codes: &'a C,
@@ -59,7 +60,7 @@ pub struct WithPairs<'a, C: PastPairs> {
 }
 
 impl<'a, C: PastPairs> WithPairs<'a, C> {
-    /// These codes with the pairs of this list.
+    /// Returns these codes with the pairs of this list.
     #[inline(always)]
     pub fn new(codes: &'a C, pairs: &'a [u16]) -> WithPairs<'a, C>
         requires { AreAllPairsOf (C.codec codes.now) pairs.now }
@@ -81,7 +82,7 @@ impl<'a, C: PastPairs> PlainCodes for WithPairs<'a, C> {
         self.codes.past_room()
     }
 
-    // A scalar that the list has no pair for is not looked for in the index of pairs again.
+    // A scalar without a pair in the list has none in the index, which is not searched again.
     #[inline(always)]
     fn code_of(&self, c: char) -> EncoderMove {
         let code = c as usize;
@@ -130,9 +131,9 @@ impl<'a, C: PastPairs> PlainCodes for WithPairs<'a, C> {
     }
 }
 
-/// An encoder most of whose codes past ASCII are pairs, so that they are worth being looked up ahead.
+/// An encoder whose codes past ASCII are mostly pairs, so that a list of them is worth its memory.
 pub trait EncodesPairs: PlainEncoder + PastPairs + RawEncoder + Sized {
-    /// `read_codes` by the pairs of a list.
+    /// Reads ahead as `read_codes` does, by the pairs of a list.
     #[inline]
     fn read_with<S: Source>(
         &self,
@@ -158,7 +159,7 @@ pub trait EncodesPairs: PlainEncoder + PastPairs + RawEncoder + Sized {
         requires { length pairs.old ≡ 65536 }
         ensures { AreAllPairsOf (Self.codec self.now) pairs.new };
 
-    /// As an encoder it is nothing but its codec.
+    /// The encoder's state is that of a new encoder of its codec.
     ghost same: { (encoder : Self) → Self.state encoder ≡ new_encoder (Self.codec encoder) };
 }
 
@@ -175,12 +176,12 @@ impl<'a, C: FillsPairs> EncodesPairs for PairEncoder<'a, C> {
     }
 }
 
-/// An encoder that writes what another one does, and looks no pair up: those of all scalars below U+10000 stand in room
-/// that the user lends.
+/// An encoder that writes what another encoder writes, and reads each pair from a list.
 ///
-/// To be made it walks once over the codec's index, flat or packed. Then a pair is one load, whatever tables the other
-/// encoder has. It has no modes, so one after another any number of texts are encoded
-/// by it; and it is two references, so that copies of it encode texts beside each other.
+/// The list has the pairs of all scalars below U+10000, in memory that the user lends. `new` makes
+/// it in one walk over the codec's index, flat or packed. Each pair is then one load, whatever
+/// tables the other encoder has. The encoder has no modes: it can encode any number of texts, one
+/// after another.
 #[derive(Drop)]
 pub struct CachedEncoder<'a, E: EncodesPairs> {
     encoder: &'a E,
@@ -189,8 +190,10 @@ pub struct CachedEncoder<'a, E: EncodesPairs> {
 }
 
 impl<'a, E: EncodesPairs> CachedEncoder<'a, E> {
-    /// An encoder that writes what this one does, or `None` exactly where the room is below `PAIR_ROOM` entries. The
-    /// room's first `PAIR_ROOM` entries are written to, whatever is in them.
+    /// Returns an encoder that writes what `encoder` writes.
+    ///
+    /// The result is `None` exactly if `room` is shorter than `PAIR_ROOM` entries. Otherwise its
+    /// first `PAIR_ROOM` entries are overwritten, whatever they are.
     pub fn new(encoder: &'a E, room: &'a mut [u16]) -> Option<CachedEncoder<'a, E>>
         ensures { MatchOption result (length room.old < 65536)
             (λ cached. (65536 ≤ length room.old)

@@ -1,4 +1,4 @@
-//! The one encoder of the codecs of ASCII and pairs: no code has more than two bytes.
+//! The encoder of the codecs of ASCII and pairs, whose codes have at most two bytes.
 ghost use Rattle.std.specs.Prelude.{◌≡◌, ◌≤◌, [], ◌∷◌, Some, IfSome, length};
 ghost use Rattle.legacy_encoder_engine.specs.CachedPairs.{AreAllPairsOf};
 ghost use Rattle.legacy_tables.specs.Indexes.{FlatIndexes};
@@ -16,35 +16,38 @@ use legacy_base::{EncoderResult, RawEncoder, Source, Tables};
 use legacy_tables::{DecoderTables, EncoderTables, FlatTables};
 use std::marker::PhantomData;
 
-/// A codec of ASCII and pairs: all that its encoder does not share.
+/// A codec of ASCII and pairs: the parts in which these codecs differ.
 pub trait PairCodec {
     /// The codec, by the flat indexes.
     ghost codec: { FlatIndexes → Codec };
 
-    /// What is shown of it.
+    /// It is such a codec for all indexes.
     ghost pairs: { (flat : FlatIndexes) → IsPairCodec (codec flat) };
 
-    /// The lead and the trail of a scalar past ASCII whose code these are. Any scalar may have none here:
-    /// `code_of` has all codes.
+    /// Returns the lead and the trail of a scalar past ASCII.
+    ///
+    /// The result may be `None` for any scalar: `code_of` has all codes.
     fn pair_of<V: EncoderTables>(tables: &V, c: char) -> Option<(u8, u8)>
         requires { 0x80 ≤ c }
         ensures { IfSome result (λ pair. (encoder_profile (codec (V.indexes tables.now).flat)).code c
             ≡ Some (pair.0 ∷ pair.1 ∷ [])) };
 
-    /// Whether scalars past ASCII that have no pair here are common: then their codes are made where pairs are.
-    /// It is a hint: any answer will do.
+    /// Checks whether the fast loop makes the codes of scalars past ASCII without a pair here.
+    ///
+    /// It does if they are common. It is a hint: any result is right.
     #[inline(always)]
     fn goes_past_pairs() -> bool {
         false
     }
 
-    /// The bytes of a scalar, or the scalar itself as unmappable.
+    /// Returns the bytes of a scalar, or the scalar itself as unmappable.
     fn code_of<V: EncoderTables>(tables: &V, c: char) -> EncoderMove
         ensures { IsCode ((encoder_profile (codec (V.indexes tables.now).flat)).code c) c result };
 }
 
 /// A codec of ASCII and pairs that can list the codes of all scalars below U+10000.
-// A trait of its own: `ask_pairs` is generic over the codec, and a method of `PairCodec` cannot call it.
+// `ask_pairs` is generic over the codec, and a method of `PairCodec` cannot call it: hence this
+// trait.
 pub trait FillsPairs: PairCodec {
     /// Fills a list with the codes of all scalars below U+10000.
     fn fill<V: EncoderTables>(tables: &V, entries: &mut [u16])
@@ -52,7 +55,7 @@ pub trait FillsPairs: PairCodec {
         ensures { AreAllPairsOf (Self.codec (V.indexes tables.now).flat) entries.new };
 }
 
-/// The encoder of such a codec. It writes by an index of the tables.
+/// The encoder of a codec of ASCII and pairs, by an index of the tables.
 #[derive(Drop)]
 pub struct PairEncoder<'a, C: PairCodec> {
     pub(crate) tables: &'a Tables<'a>,
@@ -60,7 +63,7 @@ pub struct PairEncoder<'a, C: PairCodec> {
 }
 
 impl<'a, C: PairCodec> PairEncoder<'a, C> {
-    /// An encoder before its first scalar, which writes by the codec's index of the tables.
+    /// Returns an encoder before its first scalar, which writes by the codec's index of the tables.
     pub fn new(tables: &'a Tables<'a>) -> PairEncoder<'a, C>
         ensures { pair_encoder_state C.codec result.tables.now ≡ new_encoder
             (C.codec tables.now.flat) }
@@ -119,7 +122,7 @@ impl<'a, C: PairCodec> PlainEncoder for PairEncoder<'a, C> {
     }
 }
 
-/// The codes of such a codec, by its tables as they are kept.
+/// The codes of a codec of ASCII and pairs, by one kind of tables.
 #[derive(Drop)]
 pub struct PairCodes<'a, C: PairCodec, V: EncoderTables> {
     tables: &'a V,
@@ -127,7 +130,7 @@ pub struct PairCodes<'a, C: PairCodec, V: EncoderTables> {
 }
 
 impl<'a, C: PairCodec, V: EncoderTables> PairCodes<'a, C, V> {
-    /// The codes by these tables.
+    /// Returns the codes by these tables.
     #[inline]
     pub fn new(tables: &'a V) -> PairCodes<'a, C, V>
         ensures { result.tables.now ≡ tables.now }
@@ -168,14 +171,14 @@ impl<'a, C: PairCodec, V: EncoderTables> PlainCodes for PairCodes<'a, C, V> {
     }
 }
 
-/// Twice the number of code units: each is worth a pair.
+/// Returns twice the number of code units: each may need a pair.
 fn length_from_utf16(u16_length: usize) -> Option<usize>
     ensures { result ≡ answer (number 2 ⊗ number u16_length) }
 {
     u16_length.checked_mul(2)
 }
 
-/// One byte more than the text has: a scalar of two bytes or more may be a pair.
+/// Returns one more than the number of bytes: a scalar of two bytes or more may need a pair.
 fn length_from_utf8(byte_length: usize) -> Option<usize>
     ensures { result ≡ answer (number byte_length ⊕ number 1) }
 {

@@ -1,4 +1,4 @@
-//! The codecs without modes: the code of each scalar stands by itself.
+//! The codecs without modes: the code of a scalar does not depend on others.
 ghost use Rattle.std.specs.Prelude.{◌≡◌, ◌≤◌, ℕ, [], ◌∷◌, true, Some, IfSome};
 ghost use Rattle.legacy_text.specs.UnitCodes.{IsNoSurrogate};
 ghost use Rattle.legacy_base.specs.Encoders.{Codec, encoder_profile};
@@ -10,27 +10,30 @@ ghost use Rattle.legacy_encoder_engine.specs.UnitTurns.{HasUnitCode};
 use crate::moves::EncoderMove;
 use legacy_tables::RangePart;
 
-/// The codes of a codec without modes: all that its encoder does not share. ASCII is itself.
+/// The codes of a codec without modes: the parts in which these codecs differ. ASCII is itself.
 pub trait PlainCodes {
     /// The codec with its lists.
     ghost codec: { Self → Codec };
 
-    /// The free bytes that a scalar past ASCII needs, mapped or not.
+    /// The number of free bytes that a scalar past ASCII needs, mapped or not.
     ghost past: { ℕ };
 
-    /// What is shown of the codec.
+    /// It is a codec without modes.
     ghost plain: { (encoder : Self) → IsPlainCodec (codec encoder) past };
 
-    /// The free bytes that a scalar past ASCII needs, mapped or not. ASCII needs one.
+    /// Returns the number of free bytes that a scalar past ASCII needs, mapped or not.
+    ///
+    /// ASCII needs one.
     fn past_room(&self) -> usize
         ensures { result ≡ past };
 
-    /// The bytes of a scalar, or the scalar itself as unmappable.
+    /// Returns the bytes of a scalar, or the scalar itself as unmappable.
     fn code_of(&self, c: char) -> EncoderMove
         ensures { IsCode ((encoder_profile (codec self.now)).code c) c result };
 
-    /// The lead and the trail of a scalar past ASCII whose code these are. Any scalar may have none here:
-    /// `code_of` has all codes.
+    /// Returns the lead and the trail of a scalar past ASCII.
+    ///
+    /// The result may be `None` for any scalar: `code_of` has all codes.
     #[inline(always)]
     fn pair_of(&self, c: char) -> Option<(u8, u8)>
         requires { 0x80 ≤ c }
@@ -41,8 +44,9 @@ pub trait PlainCodes {
         None
     }
 
-    /// The four bytes of a scalar past ASCII whose code these are. Any scalar may have none here: `code_of` has all
-    /// codes. It is asked behind `pair_of`. What the run keeps may change.
+    /// Returns the four bytes of a scalar past ASCII. It is called after `pair_of`.
+    ///
+    /// The result may be `None` for any scalar: `code_of` has all codes. `near` may change.
     #[inline(always)]
     fn four_of(&self, near: &mut RangePart, c: char) -> Option<(u8, u8, u8, u8)>
         requires past { 0x80 ≤ c }
@@ -56,22 +60,24 @@ pub trait PlainCodes {
         None
     }
 
-    /// Whether scalars past ASCII that have no pair and no four bytes here are common: then their codes are made where
-    /// pairs are.
-    /// It is a hint: any answer will do.
+    /// Checks whether the fast loop also makes codes other than pairs and four bytes.
+    ///
+    /// It does if such scalars past ASCII are common. It is a hint: any result is right.
     #[inline(always)]
     fn goes_past_pairs(&self) -> bool {
         false
     }
 
-    /// Whether code units of UTF-16 are worth `unit_code`. It is a hint: any answer will do.
+    /// Checks whether `unit_code` is worth calling for UTF-16. It is a hint: any result is right.
     #[inline(always)]
     fn goes_by_turns(&self) -> bool {
         false
     }
 
-    /// The bytes of a code unit of UTF-16 as one number, the first in the low byte, and whether it has them: one
-    /// where it is ASCII, and else two. Any unit may have none, and is then read as a scalar.
+    /// Returns the bytes of a UTF-16 code unit as one number, and whether it has them.
+    ///
+    /// The first byte is the low one. ASCII has one byte, other code units have two. Any code unit
+    /// may have none, and is then read as a scalar.
     #[inline(always)]
     fn unit_code(&self, unit: u16) -> (u16, bool)
         ensures { result.1 ≡ true →
@@ -81,14 +87,16 @@ pub trait PlainCodes {
         (0, false)
     }
 
-    /// Whether runs of code units of UTF-16 are worth `byte_of`. It is a hint: any answer will do.
+    /// Checks whether `byte_of` is worth calling for UTF-16. It is a hint: any result is right.
     #[inline(always)]
     fn goes_by_units(&self) -> bool {
         false
     }
 
-    /// The byte of a code unit of UTF-16, and whether it has one: then all scalars of the codec need the
-    /// room of one byte. Any unit may have none, and is then read as a scalar.
+    /// Returns the byte of a UTF-16 code unit, and whether it has one.
+    ///
+    /// If one has, each scalar of the codec needs one byte. Any code unit may have none, and is
+    /// then read as a scalar.
     #[inline(always)]
     fn byte_of(&self, unit: u16) -> (u8, bool)
         ensures { result.1 ≡ true →

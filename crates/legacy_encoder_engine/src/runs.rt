@@ -1,5 +1,7 @@
-//! The loops that read ahead of the moves, for codecs without modes: ASCII by blocks, and scalars one after
-//! another. All that is rare is left to the moves: scalars that have no bytes, and small outputs.
+//! The loops of codecs without modes that read ahead of the moves: ASCII by blocks, and single
+//! scalars.
+//!
+//! They leave scalars without bytes and small outputs to the moves.
 ghost use Rattle.std.specs.Prelude.{◌≡◌, ℕ, ◌+◌, ◌/◌, ◌%◌, ◌<◌, ◌≤◌, [], ◌∷◌, ◌++◌, true, false, length, take, MatchOption};
 ghost use Rattle.legacy_text.specs.EncodingForm.{total_unit_count};
 ghost use Rattle.legacy_base.specs.Encoders.{new_encoder, scalar_room};
@@ -16,7 +18,7 @@ use legacy_base::{ReadingLoop, Source};
 use legacy_tables::RangePart;
 use legacy_text::{Next, TextCursor};
 
-/// Whether the scalar is read, and has bytes.
+/// Checks whether the move reads the scalar and writes bytes for it.
 #[inline(always)]
 pub fn has_bytes(step: EncoderMove) -> bool
     ensures { result ≡ true → (is_escape step ≡ false) × (move_report step ≡ []) }
@@ -27,10 +29,11 @@ pub fn has_bytes(step: EncoderMove) -> bool
     }
 }
 
-/// Writes the bytes of a scalar past ASCII that is next, and answers where they end; `None` where it has none,
-/// or has neither a pair nor four bytes here and is left to the moves.
-// Where no more than these is written here, the loop has no call and nothing of what is rare, and each of its
-// values stays in a register. Neither is made a move, which the compiler would pack into one number and unpack.
+/// Writes the bytes of the next scalar, which is past ASCII, and returns the place after them.
+///
+/// The result is `None` if the scalar has no bytes, or only a code that is left to the moves.
+// The loop writes pairs and four bytes by itself. So it has no call, and its values stay in registers.
+// It makes no move of them, which the compiler would pack into one number and unpack.
 #[inline(always)]
 fn put_past_ascii<C: PlainCodes>(
     encoder: &C,
@@ -65,8 +68,9 @@ fn put_past_ascii<C: PlainCodes>(
     Some(put_move(dst, at, step))
 }
 
-/// Writes the bytes of a scalar that is next, and answers where they end; `None` where it has none, or is past
-/// ASCII and left to the moves.
+/// Writes the bytes of the next scalar, and returns the place after them.
+///
+/// The result is `None` if the scalar has no bytes, or is past ASCII and left to the moves.
 #[inline(always)]
 fn put_code<C: PlainCodes>(
     encoder: &C,
@@ -88,16 +92,16 @@ fn put_code<C: PlainCodes>(
     put_past_ascii(encoder, near, dst, at, c)
 }
 
-/// Whether what comes next, of which this is the first scalar, is perhaps read by blocks. It is a hint: any
-/// answer will do.
-// The scalar is asked about first: whoever writes it asks the same, and a pair then asks nothing else here.
+/// Checks whether the text from this scalar on can perhaps be read by blocks.
+///
+/// It is a hint: any result is right.
+// The scalar is tested first: its caller makes the same test, and a pair then needs no other.
 #[inline(always)]
 fn may_go_by_blocks<C: PlainCodes, S: TextCursor>(encoder: &C, src: &S, c: char) -> bool {
     (encoder.goes_by_units() && src.has_blocks()) || ((c as u32) < 0x80 && src.is_in_ascii())
 }
 
-/// Reads scalars that have a byte each, and writes their bytes from the place `at` on. Answers how many: none is
-/// an answer too.
+/// Writes the bytes of scalars with one byte each, from the place `at` on, and returns how many.
 #[inline(always)]
 fn read_byte_codes<C: PlainCodes, S: TextCursor>(
     encoder: &C,
@@ -116,9 +120,10 @@ fn read_byte_codes<C: PlainCodes, S: TextCursor>(
     src.copy_codes(&Units { encoder }, dst, at)
 }
 
-/// Reads by blocks code units that have a byte each, or where the encoder does not go by these ASCII, and
-/// writes their bytes from the place `at` on. Answers how many: none is an answer too.
-// Code units that have a byte go on over ASCII: a choice between the two would follow no pattern.
+/// Reads blocks of ASCII, or of code units with one byte each if the encoder has such.
+///
+/// Writes their bytes from the place `at` on, and returns their number.
+// Code units with one byte include ASCII: no pattern would predict a choice between the two.
 #[inline(always)]
 fn read_blocks<C: PlainCodes, S: TextCursor>(
     encoder: &C,
@@ -140,8 +145,9 @@ fn read_blocks<C: PlainCodes, S: TextCursor>(
     src.copy_ascii(dst, at)
 }
 
-/// Reads by turns scalars that have a byte each, where `goes_on` and they seem to go on, and writes their
-/// bytes from the place `at` on. Answers how many: none is an answer too.
+/// Reads turns of scalars with one byte each, if `goes_on` is set and the source has turns.
+///
+/// Writes their bytes from the place `at` on, and returns their number.
 #[inline(always)]
 fn read_turns<C: PlainCodes, S: TextCursor>(
     encoder: &C,
@@ -164,8 +170,8 @@ fn read_turns<C: PlainCodes, S: TextCursor>(
     0
 }
 
-/// Writes the bytes of a code unit from a place on, one where it is ASCII and else two, and answers where they end.
-// Both bytes are stored: so there is no branch.
+/// Writes one byte for an ASCII code unit and two for another, and returns the place after them.
+// Both bytes are always stored, without a branch.
 #[inline(always)]
 fn put_unit(dst: &mut [u8], at: usize, unit: u16, both: u16) -> usize
     requires { at + 2 ≤ length dst.old }
@@ -179,8 +185,10 @@ fn put_unit(dst: &mut [u8], at: usize, unit: u16, both: u16) -> usize
     at + count
 }
 
-/// Writes the bytes of ten code units from a place on, and answers where they end; `None` where one has none here.
-// Without a branch between them: in text with spaces no pattern tells where a scalar of one byte comes.
+/// Writes the bytes of ten code units from the place `start` on, and returns the place after them.
+///
+/// The result is `None` if a code unit has no bytes here.
+// There is no branch between them: in text with spaces no pattern predicts one-byte scalars.
 #[inline(always)]
 fn put_ten<C: PlainCodes>(
     encoder: &C,
@@ -207,9 +215,10 @@ fn put_ten<C: PlainCodes>(
     if is_known { Some(end) } else { None }
 }
 
-/// Reads scalars as code units of UTF-16 by turns of ten, up to one in which a unit has no bytes here, and writes
-/// their bytes from the place `start` on. Answers where they end. A turn of ASCII is the last one.
-// By a copy of the cursor, which is left where it is where a turn fails.
+/// Reads scalars as UTF-16 code units by turns of ten, and returns the place after their bytes.
+///
+/// It stops before a turn in which a code unit has no bytes, and after a turn of ASCII.
+// A turn reads by a copy of the cursor, which is dropped if the turn fails.
 #[inline(always)]
 fn read_tens<C: PlainCodes, S: TextCursor>(
     encoder: &C,
@@ -248,10 +257,11 @@ fn read_tens<C: PlainCodes, S: TextCursor>(
     at
 }
 
-/// Reads scalars up to where blocks seem to go on or to one that has no bytes, and writes their bytes
-/// from the place `start` on, while `widest` bytes are free. Answers where they end.
-// For each number of code units it goes on by itself: so the place of the next scalar is known before
-// the scalar is.
+/// Reads single scalars while `widest` bytes are free, and returns the place after their bytes.
+///
+/// The bytes begin at `start`. It stops before a block, and before a scalar without bytes.
+// Each number of code units has a case of its own. So the place of the next scalar is known before
+// this one is.
 #[inline(always)]
 fn read_scalars<C: PlainCodes, S: TextCursor>(
     encoder: &C,
@@ -316,8 +326,7 @@ fn read_scalars<C: PlainCodes, S: TextCursor>(
     at
 }
 
-/// The scalars that have bytes in a codec, as they are read ahead: blocks, and runs of other scalars, while any scalar
-/// fits.
+/// The scalars that have bytes in a codec, read by blocks and one by one while any scalar fits.
 #[derive(Drop)]
 struct Runs<'a, C> {
     encoder: &'a C,
@@ -326,7 +335,8 @@ struct Runs<'a, C> {
 impl<C: PlainCodes> ReadingLoop for Runs<'_, C> {
     ghost keeps = { λ runs. KeepsOn (new_encoder (C.codec runs.encoder.now)) };
 
-    // What takes the cursor is inlined always: the compiler keeps its place in a register.
+    // Functions that take the cursor are always inlined: the compiler keeps its place in a
+    // register.
     #[inline(always)]
     fn read<S: TextCursor>(&self, src: &mut S, dst: &mut [u8], start: usize) -> usize {
         let encoder = self.encoder;
@@ -346,8 +356,9 @@ impl<C: PlainCodes> ReadingLoop for Runs<'_, C> {
     ghost stays = { λ _ _ _ _. record { keeps = λ _ _ _ underway. underway } };
 }
 
-/// Reads blocks and runs of other scalars from the front of what the source has left, and writes
-/// their bytes from the place `start` of `dst` on while any scalar fits. Returns where they end.
+/// Reads blocks and single scalars from the front of the source while any scalar fits.
+///
+/// Writes their bytes from the place `start` of `dst` on, and returns the place after them.
 #[inline]
 pub fn read_runs<C: PlainCodes, S: Source>(
     encoder: &C,

@@ -14,7 +14,7 @@ use Rattle.legacy_index_files.proofs.WellFormed.{well_formed_ok, well_formed_mem
 use Rattle.legacy_encodings.specs.declared.registry.RegistryError.TheVariants.{File}
 use Rattle.legacy_encodings.specs.SingleByteFiles.{IsSingleByteFile, IsSingleByteFault}
 
--- the set holds what the file of the single-byte index says
+-- the set has what the file of the single-byte index says
 read_values : (text : List ℕ) (before after : OwnedIndexes) → HoldsFile SingleByte text before after →
     IsSingleByteIndexOf (entries_of SingleByte (lines text)) after.single_byte
 read_values text before after read = go read.table read.is_table read.place

@@ -10,7 +10,7 @@ use Rattle.legacy_tables.specs.Indexes.{FlatIndexes}
 use Rattle.legacy_index_files.specs.declared.encodings.CodecName.{CodecName}
 use Rattle.legacy_index_files.specs.declared.encodings.CodecName.TheVariants as codec
 
--- a decoder; none of a single-byte encoding without entries
+-- a decoder, or none for a single-byte encoding without entries
 abbrev pub decoder_of : CodecName → FlatIndexes → Option (List ℕ) → Option DecoderState
 decoder_of codec.SingleByte flat entries = option_map (λ e. new_state (single_byte e)) entries
 decoder_of codec.Gbk flat entries = Some (new_state (gb18030 flat.gb18030 flat.ranges))
@@ -25,7 +25,7 @@ decoder_of codec.Utf16Be flat entries = Some (new_state (utf16 true))
 decoder_of codec.Utf16Le flat entries = Some (new_state (utf16 false))
 decoder_of codec.UserDefined flat entries = Some (new_state user_defined)
 
--- an encoder; none of a single-byte encoding without entries, and none where the output encoding is UTF-8
+-- an encoder, or none for a single-byte encoding without entries and if the output encoding is UTF-8
 abbrev pub encoder_of : CodecName → FlatIndexes → Option (List ℕ) → Option EncoderState
 encoder_of codec.SingleByte flat entries = option_map (λ e. new_encoder (encoders.single_byte e)) entries
 encoder_of codec.Gbk flat entries = Some (new_encoder (encoders.gbk flat.gb18030 flat.ranges flat.gb18030_pua))

@@ -24,7 +24,7 @@ abbrev pub entries_of : List EncodingTable → Encoding → Option (List ℕ)
 entries_of tables encoding =
     option_map (λ t. t.table.entries) (find (λ t. bytes_eq (encoding_name t.encoding) (encoding_name encoding)) tables)
 
--- in front of the tables stands what the text of an index file says, which passed the check
+-- The table that the text of an index file gives passed the check, and comes before the other tables.
 pub record IsReadTable (encoding : Encoding) (text : List ℕ) (before after : List EncodingTable) : Type 0 where
   pub table : EncodingTable
   pub of : table.encoding ≡ encoding
@@ -37,7 +37,7 @@ pub record IsReadTable (encoding : Encoding) (text : List ℕ) (before after : L
 abbrev pub HasNoName : List ℕ → Type 0
 HasNoName name = (encoding : Encoding) → ¬ (encoding_name encoding ≡ name)
 
--- a new decoder of the encoding is in this state; of a single-byte encoding whose table was not read there is none
+-- a new decoder of the encoding is in this state; a single-byte encoding whose table was not read has none
 abbrev pub decoder_for : FlatIndexes → List EncodingTable → Encoding → Option DecoderState
 decoder_for flat tables encoding = decoder_of (codec_of encoding) flat (entries_of tables encoding)
 
@@ -54,7 +54,7 @@ pub record LacksTable (tables : List EncodingTable) (name : List ℕ) : Type 0 w
   pub single_byte : codec_of encoding ≡ codec.SingleByte
   pub not_read : entries_of tables encoding ≡ None
 
--- why there is no coder of the name
+-- the error if there is no coder of the name
 abbrev pub IsNameError : List EncodingTable → List ℕ → RegistryError → Type 0
 IsNameError tables name Unknown = HasNoName name
 IsNameError tables name NoIndex = LacksTable tables name
@@ -80,20 +80,20 @@ pub record IsText (flat : FlatIndexes) (tables : List EncodingTable) (name input
   pub short : query_answer to_utf8 state (length input) ≢ None
   pub decodes : text ≡ text_of state input
 
--- the length query of a new decoder of the name answers none for the input
+-- the length query of a new decoder of the name returns `None` for the input
 pub record IsTooLong (flat : FlatIndexes) (tables : List EncodingTable) (name input : List ℕ) : Type 0 where
   pub state : DecoderState
   pub decoder : IsDecoderOf flat tables name state
   pub too_long : query_answer to_utf8 state (length input) ≡ None
 
--- why an input was not decoded; memory may be refused wherever there is a decoder and a length
+-- the error if an input was not decoded; an allocation can fail if there is a decoder and a length
 abbrev pub IsDecodeError : FlatIndexes → List EncodingTable → List ℕ → List ℕ → RegistryError → Type 0
 IsDecodeError flat tables name input (Sized TooLong) = IsTooLong flat tables name input
 IsDecodeError flat tables name input (Sized Memory) =
     (state : DecoderState) × IsDecoderOf flat tables name state × (query_answer to_utf8 state (length input) ≢ None)
 IsDecodeError flat tables name input error = IsNameError tables name error
 
--- the bytes of a text in UTF-8 by an encoder up to its end, with references; by none, the text itself
+-- the bytes of a text by an encoder up to its end, with references, or in UTF-8 if there is none
 unfoldable pub bytes_by : Option EncoderState → List ℕ → List ℕ
 bytes_by None text = text
 bytes_by (Some state) text = referenced_bytes (encoded state (chars text) true)
@@ -104,7 +104,7 @@ pub record AreBytes (flat : FlatIndexes) (tables : List EncodingTable) (name tex
   pub encoder : IsEncoderOf flat tables name output
   pub encodes : bytes ≡ bytes_by output text
 
--- why a text was not encoded; memory may be refused wherever there is an encoder, or none is needed
+-- the error if a text was not encoded; an allocation can fail if there is an encoder or none is needed
 abbrev pub IsEncodeError : FlatIndexes → List EncodingTable → List ℕ → RegistryError → Type 0
 IsEncodeError flat tables name (Sized TooLong) = ⊥
 IsEncodeError flat tables name (Sized Memory) = (output : Option EncoderState) × IsEncoderOf flat tables name output

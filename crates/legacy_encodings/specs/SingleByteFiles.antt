@@ -14,8 +14,8 @@ pub record IsSingleByteFile (file entries : List ℕ) : Type 0 where
   pub well_formed : first_malformed SingleByte 1 (lines file) ≡ None
   pub says : IsSingleByteIndexOf (entries_of SingleByte (lines file)) entries
 
--- What each error says of such a file. Any two of these exclude each other, but for memory, which may be refused wherever the
--- steps before it went well.
+-- The condition of each error for such a file. Any two exclude each other, except a failed allocation, which is
+-- possible if the steps before it succeeded.
 abbrev pub IsSingleByteFault : List ℕ → RegistryError → Type 0
 IsSingleByteFault file (File (reading.Line n)) = first_malformed SingleByte 1 (lines file) ≡ Some n
 IsSingleByteFault file (File reading.Memory) = first_malformed SingleByte 1 (lines file) ≡ None

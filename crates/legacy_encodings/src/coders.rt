@@ -262,8 +262,10 @@ impl<'a> RawEncoder for AnyEncoder<'a> {
 }
 
 impl<'a> AnyDecoder<'a> {
-    /// A decoder of the codec before its first byte. `None` exactly for a single-byte encoding without its
-    /// table; other codecs take no such table.
+    /// Returns a decoder of the codec before its first byte.
+    ///
+    /// The result is `None` exactly if the codec is single-byte and `single_byte` is `None`. Other
+    /// codecs do not use it.
     pub fn new(
         codec: CodecName,
         tables: &'a Tables<'a>,
@@ -295,8 +297,10 @@ impl<'a> AnyDecoder<'a> {
 }
 
 impl<'a> AnyEncoder<'a> {
-    /// An encoder of the codec before its first scalar. `None` exactly for replacement and UTF-16, which
-    /// have none, and for a single-byte encoding without its table.
+    /// Returns an encoder of the codec before its first scalar.
+    ///
+    /// The result is `None` exactly if the codec is replacement or UTF-16, which have no encoder,
+    /// or is single-byte and `single_byte` is `None`.
     pub fn new(
         codec: CodecName,
         tables: &'a Tables<'a>,

@@ -1,6 +1,8 @@
-//! The Standard's encodings by their names: index data that is read from files and checked once, and coders of an
-//! encoding that is chosen when the program runs. Each coder is itself a `RawDecoder` or a `RawEncoder`, so every call
-//! of `legacy_codecs` takes it.
+//! The Standard's encodings by name: index data that is read from files and checked once, and
+//! coders.
+//!
+//! The encoding is chosen when the program runs. Each coder is itself a `RawDecoder` or a
+//! `RawEncoder`, so every call of `legacy_codecs` takes it.
 #![tactic(auto)]
 
 mod coders;

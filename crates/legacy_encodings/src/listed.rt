@@ -1,4 +1,4 @@
-//! Encoders of an encoding that is chosen when the program runs, with its pairs looked up ahead.
+//! Encoders of an encoding that is chosen when the program runs, with a list of its pairs.
 ghost use Rattle.std.specs.Prelude.{◌≡◌, ◌<◌, ◌≤◌, ◌⊎◌, length, false, true, MatchOption};
 ghost use Rattle.legacy_encodings.specs.Lists.{has_pairs};
 
@@ -9,7 +9,7 @@ use legacy_codecs::{
 };
 use std::alloc::{AllocError, Global};
 
-/// An encoder of any encoding of pairs that looks no pair up: all of them are listed in room that the user lends.
+/// An encoder of any encoding of pairs, with a list of its pairs in memory that the user lends.
 #[derive(Drop)]
 pub enum ListedEncoder<'a, 'b> {
     /// Of GBK and gb18030.
@@ -99,9 +99,11 @@ impl<'a, 'b> RawEncoder for ListedEncoder<'a, 'b> {
 }
 
 impl<'a, 'b> ListedEncoder<'a, 'b> {
-    /// An encoder that goes on from where this one is and writes what it would. The first `PAIR_ROOM` entries of the
-    /// room are written to. `None` exactly if the room has fewer, or the encoding has no pairs: then it is a single-byte
-    /// encoding or x-user-defined.
+    /// Returns an encoder that continues from `encoder` and writes what it would write.
+    ///
+    /// The result is `None` exactly if `room` is shorter than `PAIR_ROOM` entries or the encoding
+    /// has no pairs: it is single-byte or x-user-defined. Otherwise the first `PAIR_ROOM` entries
+    /// are overwritten.
     pub fn new(encoder: &'b AnyEncoder<'a>, room: &'b mut [u16]) -> Option<ListedEncoder<'a, 'b>>
         ensures { MatchOption result ((length room.old < 65536) ⊎ (has_pairs encoder.now ≡ false))
             (λ listed. (65536 ≤ length room.old) × (has_pairs encoder.now ≡ true)
@@ -140,7 +142,7 @@ pub fn has_pairs(encoder: &AnyEncoder) -> bool
     )
 }
 
-// Without a clause: none of its entries is to be known.
+// There is no clause: its entries may be any.
 /// Allocates room for the pairs of a `ListedEncoder`: `PAIR_ROOM` entries, 128 KB.
 pub fn pair_room(alloc: Global) -> Result<Vec<u16>, AllocError> {
     vec![in alloc; 0; PAIR_ROOM]

@@ -24,7 +24,7 @@ use legacy_index_files::{CodecName, Encoding, FileIndex, IndexFileError, OwnedIn
 use std::alloc::{AllocError, Global};
 use thiserror::Error;
 
-/// Why the registry did not do what it was asked.
+/// Why the registry returned no result.
 #[derive(Debug, Drop, PartialEq, Eq, Error)]
 pub enum RegistryError {
     /// No encoding has the name.
@@ -33,13 +33,13 @@ pub enum RegistryError {
     /// The index file of the single-byte encoding was not read.
     #[error("the encoding's index was not read")]
     NoIndex,
-    /// The index file is malformed, or memory for it was refused.
+    /// The index file is malformed, or an allocation failed.
     #[error("index file: {0}")]
     File(IndexFileError),
     /// The index is refused.
     #[error("tables: {0}")]
     Tables(TableError),
-    /// The text would be too long, or memory for it was refused.
+    /// The length of the text's buffer exceeds `usize::MAX`, or an allocation failed.
     #[error("{0}")]
     Sized(SizedError),
 }
@@ -81,15 +81,16 @@ pub struct EncodingTable {
     pub table: SingleByteTable,
 }
 
-/// What was read from index files: the indexes of the multi-byte encodings, where an index that was not
-/// read is empty, and the tables of single-byte encodings, the last one that was read first.
+/// Index data that was read from files, for multi-byte and single-byte encodings.
+///
+/// An index that was not read is empty. The single-byte table that was read last comes first.
 #[derive(Drop)]
 pub struct Registry {
     pub indexes: OwnedIndexes,
     pub single_bytes: Vec<EncodingTable>,
 }
 
-/// The coders of all encodings, over the registry's indexes, which were checked once.
+/// The coders of all encodings, over the registry's indexes, which are checked once.
 #[derive(Drop)]
 pub struct Coders<'a> {
     tables: Tables<'a>,
@@ -97,7 +98,7 @@ pub struct Coders<'a> {
 }
 
 impl Registry {
-    /// A registry of which nothing was read yet. It takes no memory.
+    /// Returns a registry without index data. It allocates nothing.
     pub fn new(alloc: Global) -> Registry
         ensures indexes { HoldsTexts no_text result.indexes }
         ensures katakana { result.indexes.katakana.items ≡ [] }
@@ -109,8 +110,9 @@ impl Registry {
         }
     }
 
-    /// Reads the index file of a single-byte encoding. The other indexes stay as they are, and after an
-    /// error the tables too.
+    /// Reads the index file of a single-byte encoding, and adds its table.
+    ///
+    /// The indexes are unchanged, and after an error the tables too.
     pub fn read_single_byte(
         &mut self,
         alloc: Global,
@@ -136,7 +138,7 @@ impl Registry {
         }
     }
 
-    /// The coders over what was read; or the first fault of the indexes.
+    /// Checks the indexes once, and returns the coders over the registry's data or the first fault.
     pub fn coders(&self) -> Result<Coders<'_>, TableError>
         ensures { MatchResult result
             (λ coders. (coders.tables.flat ≡ owned_lists self.now.indexes)
@@ -153,10 +155,10 @@ impl Registry {
     }
 }
 
-/// The length in bytes from which on a text is encoded with the pairs of its encoding listed ahead.
+/// The length in bytes of the shortest text that is encoded with a list of the encoder's pairs.
 const LONG_TEXT: usize = 1024;
 
-/// Encodes a whole text as `encode_whole` does; a long one with the pairs listed ahead, in memory of their own.
+/// Encodes a whole text as `encode_whole` does. For a long text it makes a list of the pairs first.
 fn encode_with_list(
     alloc: Global,
     encoder: &mut AnyEncoder,
@@ -174,7 +176,7 @@ fn encode_with_list(
     encode_whole(alloc, encoder, text)
 }
 
-/// Encodes a text by an encoder that has just been made, or in UTF-8 if there is none.
+/// Encodes a text by a new encoder, or in UTF-8 if there is none.
 #[tactic(auto, unfolding(crate::specs::Registries::bytes_by))]
 fn encode_by(alloc: Global, encoder: Option<AnyEncoder>, text: &str) -> Result<Vec<u8>, AllocError>
     ensures { IfOk result (λ bytes. bytes.items ≡ bytes_by
@@ -186,7 +188,7 @@ fn encode_by(alloc: Global, encoder: Option<AnyEncoder>, text: &str) -> Result<V
     }
 }
 
-/// The first of the tables whose encoding has the name.
+/// Returns the first of the tables whose encoding has the name.
 fn first_of<'a>(tables: &'a [EncodingTable], name: &str) -> Option<&'a EncodingTable>
     ensures { option_copied result
         ≡ find (λ t. bytes_eq (encoding_name t.encoding) name.now) tables.now }
@@ -194,7 +196,7 @@ fn first_of<'a>(tables: &'a [EncodingTable], name: &str) -> Option<&'a EncodingT
     tables.iter().find(|entry| entry.encoding.name() == name)
 }
 
-/// The encoding of the name.
+/// Returns the encoding of the name, or `Unknown`.
 fn encoding_of(name: &str) -> Result<Encoding, RegistryError>
     ensures { MatchResult result
         (λ encoding. encoding_name encoding ≡ name.now)
@@ -204,7 +206,7 @@ fn encoding_of(name: &str) -> Result<Encoding, RegistryError>
 }
 
 impl Coders<'_> {
-    /// The table of a single-byte encoding, where its index file was read.
+    /// Returns the table of a single-byte encoding, if its index file was read.
     fn single_byte(&self, encoding: Encoding) -> Option<&SingleByteTable>
         ensures { option_map (λ table. table.now.entries) result
             ≡ entries_of self.now.single_bytes.now encoding }
@@ -215,7 +217,10 @@ impl Coders<'_> {
         }
     }
 
-    /// A new decoder of the encoding of the name. It borrows the coders, and takes no memory.
+    /// Returns a new decoder of the encoding of the name.
+    ///
+    /// It borrows the coders, and allocates nothing. The result is `Unknown` if no encoding has the
+    /// name, and `NoIndex` if the index file of the single-byte encoding was not read.
     pub fn decoder(&self, name: &str) -> Result<AnyDecoder<'_>, RegistryError>
         ensures { MatchResult result
             (λ decoder. IsDecoderOf self.now.tables.flat self.now.single_bytes.now name.now
@@ -230,9 +235,10 @@ impl Coders<'_> {
         }
     }
 
-    /// A new encoder of the encoding of the name; none where that is replacement or UTF-16, whose output
-    /// encoding is UTF-8 (Encoding Standard, "get an output encoding"). It borrows the coders, and takes
-    /// no memory.
+    /// Returns a new encoder of the encoding of the name, or `None` for replacement and UTF-16.
+    ///
+    /// The output encoding of these is UTF-8 (Encoding Standard, "get an output encoding"). The
+    /// encoder borrows the coders, and allocates nothing. The errors are those of `decoder`.
     pub fn encoder(&self, name: &str) -> Result<Option<AnyEncoder<'_>>, RegistryError>
         ensures { MatchResult result
             (λ encoder. IsEncoderOf self.now.tables.flat self.now.single_bytes.now name.now
@@ -248,8 +254,9 @@ impl Coders<'_> {
         Ok(AnyEncoder::new(codec, &self.tables, table))
     }
 
-    /// Decodes an input that is whole in memory by the encoding of the name, with U+FFFD for each
-    /// malformed sequence.
+    /// Decodes a whole input by the encoding of the name, with U+FFFD for each malformed sequence.
+    ///
+    /// The errors are those of `decoder` and `decode_whole`.
     pub fn decode(&self, alloc: Global, name: &str, input: &[u8]) -> Result<String, RegistryError>
         ensures { MatchResult result
             (λ text. IsText self.now.tables.flat self.now.single_bytes.now name.now input.now
@@ -261,8 +268,10 @@ impl Coders<'_> {
         Ok(decode_whole(alloc, &mut decoder, input)?)
     }
 
-    /// Encodes a text by the encoding of the name, with a numeric character reference for each character
-    /// that the encoding lacks.
+    /// Encodes a text by the encoding of the name, with a reference for each unmappable character.
+    ///
+    /// Replacement and UTF-16 encode as UTF-8. The errors are those of `encoder`, and a failed
+    /// allocation.
     pub fn encode(&self, alloc: Global, name: &str, text: &str) -> Result<Vec<u8>, RegistryError>
         ensures { MatchResult result
             (λ bytes. AreBytes self.now.tables.flat self.now.single_bytes.now name.now text.now

@@ -1,4 +1,4 @@
--- What of a caller's indexes is taken.
+-- Which indexes of a caller are accepted.
 use Rattle.std.specs.Prelude.{◌≡◌, ◌≤◌, ℕ, List, Bool, length, map, None, true, false}
 use Rattle.legacy_tables.specs.Indexes.{FlatIndexes}
 use Rattle.legacy_tables.specs.AcceptedTables.{flat_lists}
@@ -18,13 +18,13 @@ use Rattle.legacy_exports.specs.declared.indexes.PackedSlices.{PackedSlices}
 abbrev pub range_pair : IndexRange → ℕ × ℕ
 range_pair range = (range.pointer, range.scalar)
 
--- the handed-in indexes of pointers, with these pairs as ranges and the private-use rows of GB18030-2022
+-- the caller's indexes of pointers, with these pairs as ranges and the private-use rows of GB18030-2022
 abbrev pub indexes_with : IndexSlices → List (ℕ × ℕ) → FlatIndexes
 indexes_with slices ranges =
     flat_lists slices.big5.now slices.euc_kr.now slices.jis0208.now slices.jis0212.now slices.gb18030.now slices.katakana.now ranges
     GB18030_2022_PUA
 
--- the handed-in runs and orders
+-- the caller's runs and orders
 abbrev pub packed_with : PackedSlices → Packed
 packed_with slices = record {
   big5 = slices.big5;
@@ -39,21 +39,21 @@ packed_with slices = record {
   gb18030_order = slices.gb18030_order;
 }
 
--- flat indexes are accepted, with the runs and orders where the tables are to be packed
+-- flat indexes are accepted, with the runs and orders if the tables are to be packed
 abbrev pub AreTakenParts : Bool → FlatIndexes → Packed → Type 0
 AreTakenParts false flat packed = AreAccepted flat
 AreTakenParts true flat packed = packed_fault flat packed ≡ None
 
--- the handed-in indexes are accepted with these pairs as ranges
+-- the caller's indexes are accepted with these pairs as ranges
 abbrev pub AreTakenIndexes : IndexSlices → List (ℕ × ℕ) → Type 0
 AreTakenIndexes slices ranges = AreTakenParts slices.is_packed (indexes_with slices ranges) (packed_with slices.packed)
 
--- tables are seen as the flat indexes, or as what the runs and orders give
+-- tables have the flat indexes, or what the runs and orders give
 abbrev pub AreTablesOfParts : Bool → FlatIndexes → Packed → FlatIndexes → Type 0
 AreTablesOfParts false flat packed lists = lists ≡ flat
 AreTablesOfParts true flat packed lists = ArePackedTables flat packed lists
 
--- tables are seen as the handed-in indexes with these pairs as ranges
+-- tables have the caller's indexes with these pairs as ranges
 abbrev pub AreTablesOf : IndexSlices → List (ℕ × ℕ) → FlatIndexes → Type 0
 AreTablesOf slices ranges lists = AreTablesOfParts slices.is_packed (indexes_with slices ranges) (packed_with slices.packed) lists
 
@@ -61,7 +61,7 @@ AreTablesOf slices ranges lists = AreTablesOfParts slices.is_packed (indexes_wit
 abbrev pub IsTakenTable : List ℕ → Type 0
 IsTakenTable entries = (length entries ≡ 128) × IsAcceptedTable entries
 
--- the indexes are accepted, that of a single-byte encoding where the codec is one, and the ranges are not too many
+-- the indexes are accepted, with that of a single-byte encoding if the codec is one, and there are not too many ranges
 abbrev pub AreTaken : Codec → IndexSlices → Type 0
 AreTaken codec slices =
     (length slices.ranges.now ≤ 256)
@@ -82,18 +82,18 @@ AreTakenToEncode codec slices =
     × (codec ≡ SingleByte → IsTakenRun slices)
     × (has_encoder codec ≡ true)
 
--- a codec with an encoder has the number, and the indexes are taken for it
+-- a codec with an encoder has the number, and the indexes are accepted for it
 abbrev pub IsTakenToEncode : ℕ → IndexSlices → Type 0
 IsTakenToEncode number slices = (codec : Codec) × (number_of codec ≡ number) × AreTakenToEncode codec slices
 
--- no codec with an encoder has the number, or the indexes are not taken for it
+-- no codec with an encoder has the number, or the indexes are not accepted for it
 abbrev pub IsRefusedToEncode : ℕ → IndexSlices → Type 0
 IsRefusedToEncode number slices = IsTakenToEncode number slices → ⊥
 
--- a codec has the number, and the indexes are taken for it
+-- a codec has the number, and the indexes are accepted for it
 abbrev pub IsTaken : ℕ → IndexSlices → Type 0
 IsTaken number slices = (codec : Codec) × (number_of codec ≡ number) × AreTaken codec slices
 
--- no codec has the number, or the indexes are not taken for it
+-- no codec has the number, or the indexes are not accepted for it
 abbrev pub IsRefused : ℕ → IndexSlices → Type 0
 IsRefused number slices = IsTaken number slices → ⊥

@@ -121,7 +121,7 @@ fn encode_modes<C: Calls, T: Text>(
     }
 }
 
-/// The same by pairs that are looked up ahead, or `None` if the room is too short for them.
+/// Encodes with listed pairs, or returns `None` if the room is too short for them.
 #[inline(never)]
 fn encode_modes_ahead<C: Calls, T: Text>(
     encoder: &Iso2022JpEncoder,

@@ -1,13 +1,17 @@
-//! The codecs as eight functions that a program in another language can call, so that it can time them: to UTF-8
-//! and to UTF-16, and from either, of a codec by its number; four by raw calls, and four by calls with
-//! replacement. `bench/legacy_codecs.h` declares them.
+//! Eight functions that a program in another language can call, to time the codecs.
 //!
-//! Each converts the whole source so many times in pieces of so many code units (0: in one piece), and answers
-//! how many code units it wrote to the output the last time. One decoder or encoder converts all of them: it goes
-//! on from one time to the next. For a malformed sequence U+FFFD is written, and for a scalar that the encoding
-//! does not have a question mark, or a reference by the calls with replacement; it stops where the output is full.
-//! Where no codec has the number, or the indexes are refused, nothing is written and the answer is `usize::MAX`.
-//! Encoders of pairs list these in room that the caller lends, if it is long enough.
+//! They decode to UTF-8 and UTF-16, and encode from both, by the number of a codec. Four make raw
+//! calls, and four make calls with replacement. `bench/legacy_codecs.h` declares them.
+//!
+//! Each converts the whole source `times` times, in pieces of `piece` code units (0: in one piece).
+//! It returns the number of code units written to the output the last time. One decoder or encoder
+//! makes all conversions: it continues from one time to the next. A malformed sequence becomes
+//! U+FFFD. An unmappable scalar becomes a question mark, or a reference in calls with replacement.
+//! The conversion stops if the output is full. Encoders of pairs list them in room that the caller
+//! lends, if it is long enough.
+//!
+//! If no codec has the number or the indexes are refused, nothing is written and `usize::MAX` is
+//! returned.
 #![tactic(auto)]
 
 ghost use Rattle.std.specs.Prelude.{◌≡◌, ◌≤◌, ◌⊎◌, length, IsUtf8};
@@ -74,7 +78,9 @@ pub extern "C" fn legacy_decode_to_utf16(
     decode_by_number(codec, indexes, reading, output)
 }
 
-/// Encodes the source, a text in UTF-8, by the codec of this number. A source that is no UTF-8 is refused.
+/// Encodes the source, a text in UTF-8, by the codec of this number.
+///
+/// If the source is not UTF-8, nothing is written and `usize::MAX` is returned.
 #[unsafe(no_mangle)]
 pub extern "C" fn legacy_encode_from_utf8(
     codec: u32,
@@ -102,7 +108,9 @@ pub extern "C" fn legacy_encode_from_utf8(
     encode_by_number(codec, indexes, reading, output, room)
 }
 
-/// Encodes the source, a text in UTF-16, by the codec of this number. An unpaired surrogate counts as U+FFFD.
+/// Encodes the source, a text in UTF-16, by the codec of this number.
+///
+/// An unpaired surrogate counts as U+FFFD.
 #[unsafe(no_mangle)]
 pub extern "C" fn legacy_encode_from_utf16(
     codec: u32,
@@ -172,7 +180,9 @@ pub extern "C" fn legacy_decode_replacing_to_utf16(
     decode_by_number(codec, indexes, reading, output)
 }
 
-/// Encodes the source, a text in UTF-8, by the codec of this number, by calls with replacement. A source that is no UTF-8 is refused.
+/// Encodes the source, a text in UTF-8, by the codec of this number, by calls with replacement.
+///
+/// If the source is not UTF-8, nothing is written and `usize::MAX` is returned.
 #[unsafe(no_mangle)]
 pub extern "C" fn legacy_encode_replacing_from_utf8(
     codec: u32,
@@ -200,7 +210,9 @@ pub extern "C" fn legacy_encode_replacing_from_utf8(
     encode_by_number(codec, indexes, reading, output, room)
 }
 
-/// Encodes the source, a text in UTF-16, by the codec of this number, by calls with replacement. An unpaired surrogate counts as U+FFFD.
+/// Encodes the source, a text in UTF-16, by the codec of this number, by calls with replacement.
+///
+/// An unpaired surrogate counts as U+FFFD.
 #[unsafe(no_mangle)]
 pub extern "C" fn legacy_encode_replacing_from_utf16(
     codec: u32,

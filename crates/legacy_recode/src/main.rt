@@ -1,5 +1,7 @@
-//! `legacy_recode [--text] CODEC [INDEX FILE]...` decodes standard input by a legacy codec of the WHATWG Encoding
-//! Standard, and prints a line for each scalar and each malformed sequence, or with `--text` the text in UTF-8.
+//! `legacy_recode [--text] CODEC [INDEX FILE]...` decodes standard input by a legacy codec.
+//!
+//! The codecs are those of the WHATWG Encoding Standard. It prints a line for each scalar and each
+//! malformed sequence, or with `--text` the text in UTF-8.
 #![tactic(auto)]
 
 use legacy_command::arguments::{ArgumentsError, arguments, status_of};
@@ -10,8 +12,9 @@ use std::alloc::Global;
 use std::io::{self, Write};
 use std::process::ExitCode;
 
-/// Returns the contents of each FILE among the words, in their order. Reads no file if the words are not of the program's
-/// form. An error is that memory was refused.
+/// Returns the contents of each FILE among the words, in order, or an error if allocation fails.
+///
+/// Reads no file if the words do not have the program's form.
 fn files_named(
     rt: &HostRuntime,
     alloc: Global,

@@ -78,7 +78,7 @@ module _ (table : AcceptedTable) where
         front_runs b e byte h found
   ]
 
-  -- ---- ASCII, and a byte behind it
+  -- ---- ASCII, and a byte after it
 
   module _ {D : Type 0} (T : Ghosts D) (source : List ℕ) (r : ℕ) (old mid : D) (few : r ≤ 64) (long : 64 < length source) (ascii : IsAscii (take r source)) (enough : 70 ≤ T.room old)
       (contents : T.contents mid ≡ T.contents old ++ take r source) (room : T.room mid + r ≡ T.room old) (loan : T.loan mid ≡ T.loan old) where
@@ -129,7 +129,7 @@ module _ (table : AcceptedTable) where
         (record { scalars = units; runs = subst (λ l. Runs (single_byte table.entries) (take 8 source) l) all run; written = contents; room = room; loan = loan })
         (omega (arith, few, room)) (omega arith)
 
--- what was read of bytes with others behind them
+-- what was read of bytes with others after them
 pub reads_padded : {D : Type 0} {T : Ghosts D} {state : DecoderState} {source padded : List ℕ} {r : ℕ} {old new : D} → r ≤ length source → take (length source) padded ≡ source
     → ReadsAhead T state padded r old new → ReadsAhead T state source r old new
 reads_padded {D} {T} {state} {source} {padded} {r} {old} {new} within front reads = record {
@@ -143,7 +143,7 @@ reads_padded {D} {T} {state} {source} {padded} {r} {old} {new} within front read
   had = reads.had;
 }
 
--- one more entry of a list, of which something is said at each place so far
+-- one more entry of a list, with a fact about each earlier place
 pub set_more : (P : ℕ → ℕ → Type 0) (entries : List ℕ) (at e : ℕ) → at < length entries → ((k : ℕ) → k < at → P k (get_or entries k 0)) → P at e
     → (k : ℕ) → k < at + 1 → P k (get_or (set entries at e) k 0)
 set_more P entries at e here before is k h = elim (cases_lt k at) [

@@ -12,7 +12,7 @@ use Rattle.legacy_tables.proofs.RangePointers.{wide-pointer, pointer-before, poi
 use Rattle.legacy_standard.specs.IndexPointers.{offset_pointer, ranges_pointer}
 use Rattle.legacy_standard.specs.EncoderLaw.{AreAcceptedRanges}
 
--- where no range begins at or before c, all lie past it
+-- if no range begins at or before c, all begin after it
 none_ahead : (ranges : List (ℕ × ℕ)) (c : ℕ) → offset_pointer ranges c ≡ None → (k : ℕ) → k < length ranges → c < (get_or ranges k (0, 0)).1
 none_ahead [] c e k h = absurd (omega arith)
 none_ahead (r ∷ ranges) c e k h = go (offset_pointer ranges c) (nat_le r.1 c) refl refl e (none_ahead ranges c) k h

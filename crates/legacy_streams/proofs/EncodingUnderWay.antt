@@ -51,7 +51,7 @@ goes_join {before = before} {after = after} {first = first} {second = second} {l
 
 -- ---- a text
 
--- The text is encoded but for this rest, and its bytes and references were written.
+-- The text is encoded except for this rest, and its bytes and references were written.
 pub record TextUnderWay (before : EncoderState) (text : List ℕ) (last : Bool) (now : EncoderState) (rest : List ℕ) (old new : Option (List ℕ)) : Type 0 where
   pub events : List EncodeEvent
   pub goes_on : GoesOn last before text events now rest
@@ -235,7 +235,7 @@ module _ {before : EncoderState} {piece : List ℕ} {now : EncoderState} {passed
             written = written_join _ _ _ u.events (t.events ++ f.events) u.written (written_join _ _ _ t.events f.events t.written f.written);
           }
 
-  -- what is told of the chunk by the library, and by the loop
+  -- what the library says of the chunk, and what the loop does
   module _ (first : (length valid ≡ utf8_valid_len (drop passed piece)) × (length invalid ≡ utf8_invalid_len (drop (utf8_valid_len (drop passed piece)) (drop passed piece)))) where
     nothing_later : passed + length valid + length invalid ≡ length piece → later ≡ []
     nothing_later e = let l = lengths in none later (omega arith)
@@ -282,7 +282,8 @@ piece_end {piece = piece} {passed = passed} u none =
 
 -- ---- the input
 
--- The bytes read so far were encoded but for those that are held, and their bytes and references were written.
+-- The bytes that were read were encoded, except for those that are held back, and their bytes and references were
+-- written.
 pub record InputUnderWay (before now : EncoderState) (held : List ℕ) (left_old left old new : Option (List ℕ)) : Type 0 where
   pub bytes : List ℕ
   pub read : Consumes left_old left bytes
@@ -308,7 +309,7 @@ input_start before left old = record {
 }
 
 module _ {before now : EncoderState} {held : List ℕ} {left_old left old mid : Option (List ℕ)} (u : InputUnderWay before now held left_old left old mid) where
-  -- what stands where reading fails
+  -- what holds if reading fails
   pub input_beginning : {left_new : Option (List ℕ)} → Keeps left left_new → EncodesBeginning before now left_old left_new old mid
   input_beginning k = record {
     bytes = u.bytes;
@@ -348,7 +349,7 @@ module _ {before now : EncoderState} {held : List ℕ} {left_old left old mid : 
           written = written_join _ _ _ u.events p.events u.written p.written;
         }
 
-    -- what stands where writing a piece fails
+    -- what holds if writing a piece fails
     pub input_partly : {after : EncoderState} {new : Option (List ℕ)} → EncodesPieceFront now (held ++ piece) after mid new → EncodesPartly before after left_old left_new old new
     input_partly p = record {
       bytes = u.bytes ++ piece;
@@ -385,7 +386,7 @@ module _ {before now : EncoderState} {held : List ℕ} {left_old left old mid : 
           ended = t.ended refl;
         }
 
-    -- what stands where writing the end fails
+    -- what holds if writing the end fails
     pub input_end_partly : IsAtEnd left_new → (after : EncoderState) (new : Option (List ℕ)) → EncodesFront now (end_scalars (length held)) true after mid new → EncodesPartly before after left_old left_new old new
     input_end_partly at_end after new f =
         let text = u.scalars ++ end_scalars (length held) in
@@ -407,11 +408,11 @@ text_of_held invalid valid e = text_of_cut invalid valid e ∙ one (length inval
     one zero h = absurd (omega arith)
     one (suc n) h = refl
 
--- no text begins bytes with which no character begins
+-- no character begins with these bytes, so no text does
 pub no_text : (bs : List ℕ) → IsValidUpTo bs 0 → IsUtf8 bs → ⊥
 no_text bs valid u = valid.longest (length bs) valid.short (subst IsUtf8 (sym (take_all (length bs) bs (omega arith))) u)
 
--- what is told of the bytes after the longest text is told of all of them if that is empty
+-- a fact about the bytes after the longest text is one about all bytes if that text is empty
 pub told_of_all : (bs : List ℕ) (n : ℕ) (o : Option ℕ) → IsValidUpTo bs 0 → n ≡ utf8_valid_len bs → o ≡ utf8_error_len (drop n bs) → o ≡ utf8_error_len bs
 told_of_all bs n o valid e t = t ∙ ap (λ k. utf8_error_len (drop k bs)) (e ∙ utf8_valid_len-IsValidUpTo bs 0 valid)
 
@@ -467,7 +468,7 @@ read_nothing held count old new (x ∷ piece) h z e =
     let total = ap length e ∙ length-append (take held old) (x ∷ piece) in
     absurd (omega (arith, front, total, length-take (held + count) new))
 
--- nothing has no text
+-- an empty input has no text
 pub end_of_none_text : (invalid : List ℕ) → length invalid ≡ 0 → utf8_text invalid ≡ end_scalars 0
 end_of_none_text [] e = text_of_none
 end_of_none_text (x ∷ invalid) e = absurd (omega arith)

@@ -141,7 +141,7 @@ module _ {before : DecoderState} {piece : List ℕ} {last : Bool} {now : Decoder
 
 -- ---- the whole input
 
--- The bytes read so far were decoded, and the text of their events was written.
+-- The bytes that were read were decoded, and the text of their events was written.
 pub record TextSoFar (before now : DecoderState) (found : Bool) (left_old left old new : Option (List ℕ)) : Type 0 where
   pub bytes : List ℕ
   pub read : Consumes left_old left bytes

@@ -155,7 +155,7 @@ fronts_four a b d e (suc (suc zero)) h k l some less = cut_two a b h k
 fronts_four a b d e (suc (suc (suc zero))) h k l some less = cut_three a b d h k l
 fronts_four a b d e (suc (suc (suc (suc n)))) h k l some less = absurd (omega arith)
 
--- what a character begins with is cut and no fault
+-- the beginning of a character is cut, and is not malformed
 module _ (c n : ℕ) (some : 0 < n) where
   cut_of_two : 128 ≤ c → c < 2048 → n < 2 → utf8_error_len (take n ((192 + c / 64) ∷ (128 + c % 64) ∷ [])) ≡ None
   cut_of_two low high less = fronts_two (192 + c / 64) (128 + c % 64) n (grind (arith, nat_tests)) some less
@@ -178,7 +178,7 @@ module _ (c n : ℕ) (some : 0 < n) where
       let third : is_in_range 0x80 0xBF e ≡ true = grind (arith, nat_tests) in
       fronts_four b d e (128 + c % 64) n first second third some less
 
--- what a character begins with is cut, and no fault
+-- the beginning of a character is cut, and is not malformed
 cut_character : (c n : ℕ) → scalar c ≡ true → 0 < n → n < length (encode_utf8 c) → utf8_error_len (take n (encode_utf8 c)) ≡ None
 unfolding encode_utf8
 cut_character c n is some less =
@@ -211,7 +211,7 @@ cut_character c n is some less =
     (cases_lt c 2048))
     (cases_lt c 128)
 
--- a fault stays one, whatever follows
+-- a malformed sequence remains one, whatever follows
 module _ (more : List ℕ) (k : ℕ) where
   longer_one : (a : ℕ) (x : Bool) → is_in_range 0xC2 0xF4 a ≡ x → utf8_error_len (a ∷ []) ≡ Some k → utf8_error_len (a ∷ more) ≡ Some k
   unfolding utf8_error_len
@@ -271,7 +271,7 @@ error_len_longer (a ∷ b ∷ []) more k e = longer_two more k a b _ _ refl refl
 error_len_longer (a ∷ b ∷ d ∷ []) more k e = longer_three more k a b d _ _ _ refl refl refl e
 error_len_longer (a ∷ b ∷ d ∷ c ∷ bad) more k e = same_past_three a b d c (bad ++ more) bad ∙ e
 
--- no text begins what a fault begins
+-- no text begins with a malformed sequence
 faulty_longer : (bad more : List ℕ) (k : ℕ) → IsValidUpTo bad 0 → utf8_error_len bad ≡ Some k → IsValidUpTo (bad ++ more) 0
 faulty_longer bad more k valid e =
     let some = valid.short in
@@ -307,7 +307,7 @@ faulty_longer bad more k valid e =
         valid.longest width pos (subst IsUtf8 (sym front) (IsUtf8-encode c both.0)))
         (cases_lt (length bad) width)
 
--- behind the longest text no text begins
+-- no text begins after the longest text
 pub behind_text : (bs : List ℕ) (n : ℕ) → IsValidUpTo bs n → IsValidUpTo (drop n bs) 0
 behind_text bs n valid =
     let short = valid.short in
@@ -325,7 +325,7 @@ invalid_of_some bs k e = ap (λ o. unwrap_or o (length bs)) e
 invalid_of_none : (bs : List ℕ) → utf8_error_len bs ≡ None → utf8_invalid_len bs ≡ length bs
 invalid_of_none bs e = ap (λ o. unwrap_or o (length bs)) e
 
--- bytes that begin with a fault, or that the end cuts
+-- bytes that begin with a malformed sequence, or that the end cuts
 lossy_past_none : (bs : List ℕ) → IsValidUpTo bs 0 → utf8_lossy bs ≡ replacement_bytes ++ utf8_lossy (drop (utf8_invalid_len bs) bs)
 lossy_past_none bs valid =
     let len = utf8_valid_len-IsValidUpTo bs 0 valid in
@@ -356,7 +356,7 @@ pub text_of_none : utf8_text [] ≡ []
 unfolding utf8_text
 text_of_none = ap chars (utf8_lossy_empty [] refl) ∙ chars-nil
 
--- ---- a chunk: the longest text at the front, and the bytes behind it that are malformed together
+-- ---- a chunk: the longest text at the front, and the bytes after it that are malformed together
 
 module _ (rest valid invalid after : List ℕ) (utf8 : IsUtf8 valid) (parts : rest ≡ valid ++ (invalid ++ after))
     (valid_len : length valid ≡ utf8_valid_len rest) (invalid_len : length invalid ≡ utf8_invalid_len (drop (utf8_valid_len rest) rest)) (some : 0 < length invalid) where
@@ -370,7 +370,7 @@ module _ (rest valid invalid after : List ℕ) (utf8 : IsUtf8 valid) (parts : re
       (λ v. subst (λ l. IsValidUpTo l 0) back (behind_text rest (utf8_valid_len rest) v))
       (utf8_cases rest)
 
-  -- it is no fault yet if the end cuts it
+  -- it is not malformed yet if the end cuts it
   pub cut_chunk : (more : List ℕ) → utf8_text (rest ++ more) ≡ chars valid ++ utf8_text ((invalid ++ after) ++ more)
   cut_chunk more = ap (λ l. utf8_text (l ++ more)) parts ∙ ap utf8_text (append_assoc valid (invalid ++ after) more) ∙ text_past valid ((invalid ++ after) ++ more) utf8
 

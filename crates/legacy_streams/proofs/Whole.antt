@@ -46,7 +46,7 @@ placed-shift h passed total held (Bad p n ∷ es) e =
     let k : passed + p - h ≡ total + p - held = omega arith in
     ap (λ q. Bad q n ∷ placed h (shift passed es)) k ∙ ap (λ (l : List DecodeEvent). Bad (total + p - held) n ∷ l) (placed-shift h passed total held es e)
 
--- the progress through the bytes read so far, and then into the next piece
+-- the progress through the bytes that were read, and then into the next piece
 pub way_on : (last : Bool) (piece : List ℕ) {before now after : DecoderState} {bytes : List ℕ} {first passed : ℕ} {seen : List DecodeEvent}
     {unread : List ℕ} {events : List DecodeEvent} → Progress false before bytes first now [] seen → Progress last now piece passed after unread events
     → Progress last before (bytes ++ piece) (first + passed) after unread (seen ++ shift first events)

@@ -1,4 +1,4 @@
--- What the engine that encodes writes.
+-- What `encode_text` writes.
 use Rattle.std.specs.Prelude.{◌≡◌, ℕ, zero, suc, ◌-◌, ◌<◌, ◌≤◌, List, [], ◌∷◌, ◌++◌, length, drop, Bool, true, false, IsTrue, Option}
 use Rattle.std.specs.Io.KnownBytes.{Appends, Consumes, IsAtEnd}
 use Rattle.legacy_base.specs.declared.results.EncodeEvent.{EncodeEvent}
@@ -6,8 +6,8 @@ use Rattle.legacy_base.specs.Encoders.{EncoderState, encoded, end_bytes}
 use Rattle.legacy_codecs.specs.References.{referenced_bytes}
 use Rattle.legacy_streams.specs.Utf8Texts.{utf8_text}
 
--- The events of the text and whatever follows, ended or not, are `events`, and then those of what is left. After the last
--- text nothing follows.
+-- The events of the text and whatever follows, ended or not, are `events`, and then those of what is left. After the
+-- last text nothing follows.
 pub record GoesOn (last : Bool) (before : EncoderState) (text : List ℕ) (events : List EncodeEvent) (after : EncoderState) (left : List ℕ) : Type 0 where
   pub gives : (more : List ℕ) (ended : Bool) → (IsTrue last → (more ≡ []) × IsTrue ended) →
       encoded before (text ++ more) ended ≡ events ++ encoded after (left ++ more) ended
@@ -33,7 +33,7 @@ pub record EncodesFront (before : EncoderState) (text : List ℕ) (last : Bool) 
 
 -- ---- one piece of the input
 
--- the text of so many bytes that the end of the input cuts
+-- the text of a number of bytes that the end of the input cuts: U+FFFD if there are any
 abbrev pub end_scalars : ℕ → List ℕ
 end_scalars zero = []
 end_scalars (suc n) = 0xFFFD ∷ []
@@ -42,7 +42,7 @@ end_scalars (suc n) = 0xFFFD ∷ []
 pub record DecodesTo (piece scalars left : List ℕ) : Type 0 where
   pub text : (more : List ℕ) → utf8_text (piece ++ more) ≡ scalars ++ utf8_text (left ++ more)
 
--- The piece was encoded but for so many bytes at its end, which are a beginning of one character, and its bytes and
+-- The piece was encoded except for its last `held` bytes, which are a beginning of one character, and its bytes and
 -- references were written.
 pub record EncodesPiece (before : EncoderState) (piece : List ℕ) (held : ℕ) (after : EncoderState) (old new : Option (List ℕ)) : Type 0 where
   pub within : held ≤ length piece
@@ -72,9 +72,9 @@ pub record EncodesAll (before after : EncoderState) (input_old input_new output_
   pub written : Appends output_old output_new (referenced_bytes (encoded before (utf8_text bytes) true))
   pub ended : end_bytes after ≡ []
 
--- Some bytes of the input were read. All of them but up to three at their end were encoded, and their bytes and references
--- were written: the events are a beginning of all events, whatever else the input contains, and the encoder stands after
--- them.
+-- Some bytes of the input were read. All of them except up to three at their end were encoded, and their bytes and
+-- references were written: the events are a beginning of all events, whatever else the input contains, and the encoder
+-- continues after them.
 pub record EncodesBeginning (before after : EncoderState) (input_old input_new output_old output_new : Option (List ℕ)) : Type 0 where
   pub bytes : List ℕ
   pub read : Consumes input_old input_new bytes
@@ -86,8 +86,8 @@ pub record EncodesBeginning (before after : EncoderState) (input_old input_new o
   pub goes_on : GoesOn false before scalars events after []
   pub written : Appends output_old output_new (referenced_bytes events)
 
--- Some bytes of the input were read, and a part of their text was encoded. The events of that part are a beginning of all
--- events, whatever else the input contains if it was not read to its end. Of their bytes and references a front was
+-- Some bytes of the input were read, and a part of their text was encoded. The events of that part are a beginning of
+-- all events, whatever else the input contains if it was not read to its end. Of their bytes and references a front was
 -- written, which may end inside a sequence.
 pub record EncodesPartly (before after : EncoderState) (input_old input_new output_old output_new : Option (List ℕ)) : Type 0 where
   pub bytes : List ℕ

@@ -1,4 +1,4 @@
-//! The engine of the program that encodes: UTF-8 in, an encoding's bytes out.
+//! Encodes a stream of text in UTF-8 to bytes of an encoding.
 ghost use Rattle.std.specs.Prelude.{◌≡◌, ◌≢◌, not, is_some, ℕ, List, ◌+◌, ◌-◌, ◌^◌, ◌<◌, ◌≤◌, ◌⊎◌, ◌++◌, length, take, drop, false, true, IsTrue, None, Err, IfOk, IfSome, IfNone, OnOk, OnErr};
 ghost use Rattle.std.specs.Str.{chars, IsValidUpTo};
 ghost use Rattle.std.specs.Str.Lossy.{utf8_error_len};
@@ -11,14 +11,15 @@ use crate::recode::RecodeError;
 use legacy_codecs::{CoderResult, RawEncoder, encode_replacing_utf8};
 use std::io::{self, Read, Write};
 
-/// The most bytes of the encoding that are made before they are written.
+/// The maximum number of bytes that are made before a write.
 const BYTES: usize = 2 * PIECE;
 
-/// The text that stands for a malformed sequence.
+/// The text that replaces a malformed sequence.
 const REPLACEMENT: &str = "\u{FFFD}";
 
-/// Encodes a text and writes its bytes. If `last` is set no text follows, and the encoder's end is written too. An error
-/// is the writer's. What `bytes` contains is lost.
+/// Encodes a text and writes its bytes, and the encoder's end if `last` is set.
+///
+/// Returns the error of a failed write. The contents of `bytes` are lost.
 fn write_text<E: RawEncoder, W: Write>(
     encoder: &mut E,
     text: &str,
@@ -45,7 +46,7 @@ fn write_text<E: RawEncoder, W: Write>(
     }
 }
 
-/// Checks whether bytes with which no character begins are only cut: more bytes may make a character of them.
+/// Checks whether more bytes could complete a character that these bytes begin.
 fn is_cut(invalid: &[u8]) -> bool
     requires { IsValidUpTo invalid.now 0 }
     ensures none { result ≡ not (is_some (utf8_error_len invalid.now)) }
@@ -57,7 +58,7 @@ fn is_cut(invalid: &[u8]) -> bool
     }
 }
 
-/// Checks whether the bytes after the text of a chunk are held back: they are the last of the piece, and only cut.
+/// Checks whether the bytes after a chunk's text are held back: they end the piece, and are cut.
 fn is_held(invalid: &[u8], at_end: bool) -> bool
     requires { IsTrue at_end → IsValidUpTo invalid.now 0 }
     ensures held { IsTrue result → IsTrue at_end × (utf8_error_len invalid.now ≡ None) × (length invalid.now < 4) }
@@ -66,8 +67,10 @@ fn is_held(invalid: &[u8], at_end: bool) -> bool
     at_end && is_cut(invalid)
 }
 
-/// Encodes the text of a piece and writes its bytes. Returns the number of bytes at the end of the piece that the end cuts:
-/// they may begin a character, and are not encoded. An error is the writer's. What `bytes` contains is lost.
+/// Encodes the text of a piece and writes its bytes.
+///
+/// Returns the number of bytes at the end of the piece that may begin a character, and are not
+/// encoded, or the error of a failed write. The contents of `bytes` are lost.
 fn write_piece<E: RawEncoder, W: Write>(
     encoder: &mut E,
     piece: &[u8],
@@ -103,9 +106,11 @@ fn write_piece<E: RawEncoder, W: Write>(
     }
 }
 
-/// Reads a piece into the buffer after the bytes that it holds, of no more bytes than can be counted after `total` ones.
-/// Returns the number of bytes read, which is 0 at the end of the input, or `None` if a read fails or no more bytes can be
-/// counted.
+/// Reads a piece into the buffer, after the `held` bytes at its front.
+///
+/// Returns the number of bytes read, which is 0 at the end of the input. With the `total` bytes
+/// before the piece it does not exceed `usize::MAX`. Returns `None` if a read fails or `total` is
+/// `usize::MAX`.
 fn read_after<R: Read>(input: &mut R, buffer: &mut [u8], held: usize, total: usize) -> Option<usize>
     requires { held < length buffer.old }
     ensures count { IfSome result (λ n. (held + n ≤ length buffer.new) × (total + n < 2 ^ 64)) }
@@ -118,7 +123,7 @@ fn read_after<R: Read>(input: &mut R, buffer: &mut [u8], held: usize, total: usi
     read_piece(input, &mut buffer[held..], total)
 }
 
-/// The text that is left at the end of the input, where so many bytes are held back: U+FFFD if there are any.
+/// Returns the text left at the end of the input: U+FFFD if bytes are held back, else none.
 #[tactic(auto, using(crate::proofs::EncodingUnderWay::end_of_none, crate::proofs::EncodingUnderWay::end_of_some))]
 fn end_text(held: usize) -> &'static str
     ensures { chars result.now ≡ end_scalars held }
@@ -129,7 +134,9 @@ fn end_text(held: usize) -> &'static str
     REPLACEMENT
 }
 
-/// Writes what the end of the input leaves: U+FFFD if it cuts a character, and the encoder's end. An error is the writer's.
+/// Writes U+FFFD if the end of the input cuts a character, and the encoder's end.
+///
+/// Returns the error of a failed write.
 fn write_end<E: RawEncoder, W: Write>(
     encoder: &mut E,
     held: usize,
@@ -156,28 +163,32 @@ fn keep_end(buffer: &mut [u8], filled: usize, left: usize)
     buffer.copy_within(filled - left..filled, 0);
 }
 
-/// Reads a text in UTF-8 to its end, and writes its bytes in the encoding, with a decimal numeric character reference for
-/// each scalar that the encoding lacks, and up to the encoder's end. Each malformed sequence of the input is U+FFFD, by the
-/// Standard's UTF-8 decoder, however the input is cut.
+/// Encodes the input, a text in UTF-8, to its end, and writes its bytes.
 ///
-/// The input is read in pieces of up to 4096 bytes, and what a piece gives is written before the next one is read, but for
-/// up to three bytes that it cuts. An empty read is the end. What was written before an error stands, and after a failed
-/// write it may end inside a sequence of the encoding. The encoder stands after the scalars that were encoded.
+/// Writes a decimal numeric character reference for each scalar that the encoding lacks. Each
+/// malformed sequence of the input is U+FFFD, by the Standard's UTF-8 decoder, however the input is
+/// split.
+///
+/// The input is read in pieces of up to 4096 bytes. The bytes of a piece are written before the
+/// next one is read, except for up to three bytes at its end that begin a character. An empty read
+/// is the end. If an error is returned, the bytes written before it remain. A failed write may end
+/// inside a sequence of the encoding. The encoder continues after the scalars that were encoded.
 pub fn encode_text<E: RawEncoder, R: Read, W: Write>(
     encoder: &mut E,
     input: &mut R,
     output: &mut W,
 ) -> Result<(), RecodeError>
-    // All was read, and the bytes and references of all events of its text were written.
+    // The whole input was read. The bytes and references of all events of its text were written.
     ensures ok { OnOk result (EncodesAll (E.state encoder.old) (E.state encoder.new)
         (R.remaining input.old) (R.remaining input.new)
         (W.contents output.old) (W.contents output.new)) }
-    // Those of a beginning of the events were written.
+    // The bytes and references of the first events were written.
     ensures read { result ≡ Err RecodeError.Read → EncodesBeginning
         (E.state encoder.old) (E.state encoder.new)
         (R.remaining input.old) (R.remaining input.new)
         (W.contents output.old) (W.contents output.new) }
-    // Those of a beginning of the events were written, and then perhaps a part of those of the next ones.
+    // The bytes and references of the first events were written, and perhaps a part of those of the
+    // next ones.
     ensures write { result ≡ Err RecodeError.Write → EncodesPartly
         (E.state encoder.old) (E.state encoder.new)
         (R.remaining input.old) (R.remaining input.new)

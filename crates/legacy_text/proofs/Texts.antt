@@ -54,12 +54,12 @@ utf8_step text place c p u e =
 pub utf8_inside : (text : List ℕ) (place c : ℕ) → place ≤ length text → is_utf8 (drop place text) ≡ true → Some c ≡ slice_get (chars (drop place text)) 0 → place < length text
 utf8_inside text place c p u e = let some = (len_utf8_bounds c).0 in omega (arith, some, (utf8_step text place c p u e).within)
 
--- its bytes stand there
+-- its bytes are there
 pub utf8_bytes : (text : List ℕ) (place c : ℕ) → is_utf8 (drop place text) ≡ true → Some c ≡ slice_get (chars (drop place text)) 0
     → drop place text ≡ encode c ++ encodes (drop 1 (chars (drop place text)))
 utf8_bytes text place c u e = sym (encodes-chars (drop place text) (IsUtf8-from_is_utf8 (drop place text) u)) ∙ ap encodes (first_cons (chars (drop place text)) c e)
 
--- the first byte of the scalar c in UTF-8 tells how many it has
+-- the first byte of the scalar c in UTF-8 gives its number of bytes
 pub record TellsCount (c first : ℕ) : Type 0 where
   pub one : first < 0x80 → unit_count Utf8 c ≡ 1
   pub two : 0x80 ≤ first → first < 0xE0 → unit_count Utf8 c ≡ 2
@@ -258,7 +258,7 @@ drop_of_append : (xs ys : List ℕ) → drop (length xs) (xs ++ ys) ≡ ys
 drop_of_append [] ys = refl
 drop_of_append (x ∷ xs) ys = drop_of_append xs ys
 
--- the scalars taken off a text end at a place between two of them, and those left are those of what stands there
+-- the scalars taken off a text end at a place between two of them, and those left are those from the place on
 pub record CutAt (text taken left : List ℕ) (place : ℕ) : Type 0 where
   pub left_is : chars (drop place text) ≡ left
   pub boundary : IsCharBoundary text place
@@ -358,7 +358,7 @@ utf16_cut (u ∷ v ∷ list) (c ∷ taken) left b e = elim (pair_or_not u v) [
       cut_lone u (v ∷ list) left _ _ p (ap (λ l. length (l ++ all_code_units Utf16 taken)) (utf16_1 c narrow)) (utf16_cut (v ∷ list) taken left (λ i. b (suc i)) rest)
 ]
 
--- what a call left of a text that was handed to it whole
+-- what a call left of a whole text
 pub utf8_read : (text taken left : List ℕ) (read : ℕ) → IsUtf8 text → chars text ≡ taken ++ left → read + length (all_code_units Utf8 left) ≡ 0 + length (all_code_units Utf8 (chars text))
     → CutAt text taken left read
 utf8_read text taken left read u e p = utf8_cut text taken left read u e (passed_is Utf8 (chars text) taken left read e p)
@@ -377,7 +377,7 @@ unit_boundary list left place h = (
 
 -- ---- a front that is ASCII
 
--- what stands behind ASCII in a text is a text
+-- what comes after ASCII in a text is a text
 ascii_past : (xs ys : List ℕ) → IsAscii xs → IsUtf8 (xs ++ ys) → IsUtf8 ys
 ascii_past [] ys a u = u
 ascii_past (x ∷ xs) ys a u =
@@ -392,7 +392,7 @@ unit_scalars-ascii (x ∷ xs) ys a =
     ∙ ap (λ o. replaced o ∷ unit_scalars (xs ++ ys)) (lone_unit_char_low x (omega arith))
     ∙ ap (λ l. x ∷ l) (unit_scalars-ascii xs ys (λ i. a (suc i)))
 
--- So many scalars at the front of those that are left are these, and behind them are the others.
+-- The first n of the scalars that are left are these, and the others come after them.
 pub record IsFront (all front others : List ℕ) (n : ℕ) : Type 0 where
   pub within : n ≤ length all
   pub others_is : others ≡ drop n all

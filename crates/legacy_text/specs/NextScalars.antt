@@ -12,11 +12,11 @@ IsSized form c (Two d) = (d ≡ c) × (unit_count form c ≡ 2)
 IsSized form c (Three d) = (d ≡ c) × (unit_count form c ≡ 3)
 IsSized form c (Four d) = (d ≡ c) × (unit_count form c ≡ 4)
 
--- the scalar c is the first one left, and has so many code units
+-- the scalar c is the first one left, and has n code units
 abbrev pub IsFirst : EncodingForm → List ℕ → ℕ → ℕ → Type 0
 IsFirst form left c n = (left ≡ c ∷ drop 1 left) × (unit_count form c ≡ n)
 
--- it is the first scalar left, or the end where none is
+-- it is the first scalar left, or the end if none is left
 abbrev pub IsNext : EncodingForm → List ℕ → Next → Type 0
 IsNext form left End = left ≡ []
 IsNext form left (One c) = IsFirst form left c 1
@@ -24,7 +24,7 @@ IsNext form left (Two c) = IsFirst form left c 2
 IsNext form left (Three c) = IsFirst form left c 3
 IsNext form left (Four c) = IsFirst form left c 4
 
--- the bytes of the scalar c in UTF-8 stand at the place, before others
+-- the bytes of the scalar c in UTF-8 are at the place, before others
 pub record StandsAt (bytes : List ℕ) (place c : ℕ) : Type 0 where
   pub rest : List ℕ
   pub is : drop place bytes ≡ code_units Utf8 c ++ rest

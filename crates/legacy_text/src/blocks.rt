@@ -1,11 +1,11 @@
-//! Blocks of ASCII: how long a block's ASCII front is, and copies that stop behind it.
-// Inlined always is what runs for each block: a call would pass the vector through memory.
+//! Blocks of ASCII: the length of a block's ASCII front, and copies that stop after it.
+// Functions that run for each block are always inlined, because a call would pass the vector through memory.
 ghost use Rattle.std.specs.Prelude.{◌≡◌, ℕ, ◌+◌, ◌-◌, ◌<◌, ◌≤◌, ◌++◌, length, take, slice_index, IsAscii};
 ghost use Rattle.legacy_text.specs.Blocks.{block_bytes};
 
 use std::simd::prelude::*;
 
-/// How many bytes at the front of a block are ASCII.
+/// Returns the number of ASCII bytes at the front of a block.
 #[inline(always)]
 #[tactic(auto, using(crate::proofs::Ascii::count_steps))]
 pub(crate) fn ascii_count(block: u8x16) -> usize
@@ -17,12 +17,12 @@ pub(crate) fn ascii_count(block: u8x16) -> usize
     if past == 0 {
         return 16;
     }
-    // `min` changes nothing, but tells the compiler that the count is below 16: without it the loop
-    // over blocks waits for the count of each.
+    // `min` changes nothing, but shows the compiler that the count is below 16. Without it the loop
+    // over blocks would wait for the count of each.
     (past.trailing_zeros() as usize).min(15)
 }
 
-/// Stores a block from the place `at` on, and answers how many bytes at its front are ASCII.
+/// Stores a block from the place `at` on, and returns the number of ASCII bytes at its front.
 #[inline(always)]
 fn store_block(dst: &mut [u8], at: usize, block: u8x16) -> usize
     requires { at + 16 ≤ length dst.old }
@@ -34,7 +34,7 @@ fn store_block(dst: &mut [u8], at: usize, block: u8x16) -> usize
     ascii_count(block)
 }
 
-/// How many bytes at the front of a wide block are ASCII.
+/// Returns the number of ASCII bytes at the front of a wide block.
 #[inline(always)]
 #[tactic(auto, using(crate::proofs::Ascii::wide_count_steps))]
 pub(crate) fn wide_ascii_count(block: u8x64) -> usize
@@ -48,7 +48,7 @@ pub(crate) fn wide_ascii_count(block: u8x64) -> usize
     (past.trailing_zeros() as usize).min(63)
 }
 
-/// Stores a wide block from the place `at` on, and answers how many bytes at its front are ASCII.
+/// Stores a wide block from the place `at` on, and returns the number of ASCII bytes at its front.
 #[inline(always)]
 fn store_wide_block(dst: &mut [u8], at: usize, block: u8x64) -> usize
     requires { at + 64 ≤ length dst.old }
@@ -60,7 +60,7 @@ fn store_wide_block(dst: &mut [u8], at: usize, block: u8x64) -> usize
     wide_ascii_count(block)
 }
 
-/// How many bytes a block has.
+/// Returns the number of bytes of a block.
 #[inline(always)]
 fn block_width(is_wide: bool) -> usize
     ensures width { result ≡ block_bytes is_wide }
@@ -69,8 +69,9 @@ fn block_width(is_wide: bool) -> usize
     if is_wide { 64 } else { 16 }
 }
 
-/// Stores a block of the front of these bytes from the place `at` on, and answers how many bytes at its
-/// front are ASCII.
+/// Stores a block of the front of these bytes from the place `at` on.
+///
+/// Returns the number of ASCII bytes at the block's front.
 #[inline(always)]
 fn store_front(bytes: &[u8], dst: &mut [u8], at: usize, is_wide: bool) -> usize
     requires block { block_bytes is_wide ≤ length bytes.now }
@@ -86,8 +87,9 @@ fn store_front(bytes: &[u8], dst: &mut [u8], at: usize, is_wide: bool) -> usize
     }
 }
 
-/// Copies bytes from the front, by blocks of one width and as far as they are ASCII, to the place `at` and
-/// on. Answers how many, and whether all blocks were ASCII.
+/// Copies ASCII bytes from the front to the place `at` on, by blocks of one width.
+///
+/// Returns their number, and whether all blocks were ASCII.
 #[inline(always)]
 fn copy_blocks(bytes: &[u8], dst: &mut [u8], at: usize, is_wide: bool) -> (usize, bool)
     requires { at ≤ length dst.old }
@@ -109,10 +111,9 @@ fn copy_blocks(bytes: &[u8], dst: &mut [u8], at: usize, is_wide: bool) -> (usize
     (copied, true)
 }
 
-/// Copies bytes from the front, by blocks and as far as they are ASCII, to the place `at` and on.
-/// Answers how many.
-// By wide blocks first: in text with a letter past ASCII in each line or so, whether the next 64 bytes have
-// one is foreseen better than whether the next 16 have.
+/// Copies ASCII bytes from the front to the place `at` on, by blocks, and returns their number.
+// Wide blocks come first: in text with a letter past ASCII in most lines, it is easier to predict whether
+// the next 64 bytes have one than whether the next 16 have.
 #[inline]
 pub(crate) fn copy_ascii_bytes(bytes: &[u8], dst: &mut [u8], at: usize) -> usize
     requires { at ≤ length dst.old }
@@ -129,7 +130,7 @@ pub(crate) fn copy_ascii_bytes(bytes: &[u8], dst: &mut [u8], at: usize) -> usize
     front + rest
 }
 
-/// Sixteen units as bytes: what is below 0x80 is itself, and all else is past ASCII.
+/// Returns sixteen code units as bytes: ASCII unchanged, and a byte past ASCII for any other.
 #[inline(always)]
 fn narrow_block(units: &[u16]) -> [u8; 16]
     requires { 16 ≤ length units.now }
@@ -146,8 +147,9 @@ fn narrow_block(units: &[u16]) -> [u8; 16]
     block
 }
 
-/// Copies units from the front, by blocks and as far as they are ASCII, as bytes to the place `at` and
-/// on. Answers how many.
+/// Copies ASCII code units from the front as bytes to the place `at` on, by blocks.
+///
+/// Returns their number.
 #[inline]
 pub(crate) fn copy_ascii_units(units: &[u16], dst: &mut [u8], at: usize) -> usize
     requires { at ≤ length dst.old }

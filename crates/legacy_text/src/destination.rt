@@ -1,4 +1,4 @@
-//! Where a decoder writes.
+//! The outputs of a decoder.
 ghost use Rattle.std.specs.Prelude.{◌≡◌, ℕ, ◌+◌, ◌-◌, ◌<◌, ◌≤◌, List, [], ◌∷◌, ◌++◌, length, take};
 ghost use Rattle.std.specs.Prelude.{slice_index, IsAscii, encode_utf8, All};
 ghost use Rattle.std.specs.Char.{IsScalar};
@@ -13,15 +13,18 @@ use crate::eight_units::put_eight_units;
 use crate::short_units::put_short_units;
 use std::simd::prelude::*;
 
-/// An output of UTF-8 bytes or of UTF-16 code units, one of the two for each type.
+/// An output of UTF-8 bytes or UTF-16 code units, to which a decoder writes scalars.
+///
+/// Each type has one of the two forms. Your own destination needs the two constants, `free`,
+/// `written`, `put`, `narrow` and `wide`. `docs/USING.md` names an example, `CharacterList`.
 pub trait Destination {
-    /// The encoding form, which is fixed for the type.
+    /// The encoding form of the type.
     ghost form: { EncodingForm };
 
-    /// The code units that were written so far.
+    /// The code units that were written.
     ghost contents: { Self → List ℕ };
 
-    /// How many more code units fit.
+    /// The number of free code units.
     ghost room: { Self → ℕ };
 
     /// The caller's buffer that is lent, by the name of its loan.
@@ -33,33 +36,34 @@ pub trait Destination {
     /// The code units of the longest scalar: 4 in UTF-8, 2 in UTF-16.
     const WIDE_ROOM: usize;
 
-    /// How many more code units fit.
+    /// Returns the number of free code units.
     fn free(&self) -> usize
         ensures { result ≡ room self.now };
 
-    /// `BMP_ROOM`, with what a generic caller knows of it.
+    /// Returns `BMP_ROOM`, with a clause on its value: a constant cannot have one.
     fn narrow() -> usize
         ensures { result ≡ bmp_room form };
 
-    /// `WIDE_ROOM`, with what a generic caller knows of it.
+    /// Returns `WIDE_ROOM`, with a clause on its value: a constant cannot have one.
     fn wide() -> usize
         ensures { result ≡ wide_room form };
 
-    /// How many code units were written so far.
+    /// Returns the number of code units that were written.
     fn written(&self) -> usize
         ensures { result ≡ length (contents self.now) };
 
-    /// Writes the code units of the scalar behind those written so far. They must fit: `free`
-    /// tells.
+    /// Writes the code units of the scalar after those that were written.
+    ///
+    /// They must fit into the free ones: 1 to 4 in UTF-8, 1 or 2 in UTF-16.
     fn put(&mut self, c: char)
         requires { unit_count form c ≤ room self.old }
         ensures contents { contents self.new ≡ contents self.old ++ code_units form c }
         ensures room { room self.new + unit_count form c ≡ room self.old }
         ensures loan { loan self.new ≡ loan self.old };
 
-    /// Writes ASCII bytes from the front of the slice, as many as it cares to, and answers how
-    /// many: none, or whole blocks and then a part of one. A destination without blocks writes
-    /// none.
+    /// Writes any number of ASCII bytes from the front of the slice, and returns the number.
+    ///
+    /// It writes whole blocks, and then a part of one. As provided it writes none.
     fn copy_ascii(&mut self, bytes: &[u8]) -> usize
         ensures read { result ≤ length bytes.now }
         ensures ascii { IsAscii (take result bytes.now) }
@@ -71,9 +75,11 @@ pub trait Destination {
         0
     }
 
-    /// Writes ASCII bytes from the front of the slice, at most so many and at most 64, and returns how
-    /// many. The slice has at least 64 bytes, and as many code units must be free: a destination may store
-    /// all of them, and what follows is written over those that are not counted.
+    /// Writes at most `most` ASCII bytes from the front of the slice, and returns the number.
+    ///
+    /// The number is at most 64. The slice must have at least 64 bytes, and as many code units must
+    /// be free: a destination may store all of them, and later output overwrites those that do not
+    /// count.
     #[inline(always)]
     fn put_front(&mut self, bytes: &[u8], most: usize) -> usize
         requires block { 64 ≤ length bytes.now }
@@ -119,7 +125,7 @@ pub trait Destination {
     }
 }
 
-/// UTF-8 into a slice of bytes, from its front on.
+/// A destination that writes UTF-8 to a slice of bytes, from its beginning on.
 #[derive(Drop)]
 pub struct Utf8Destination<'a> {
     buffer: &'a mut [u8],
@@ -131,7 +137,7 @@ impl<'a> Utf8Destination<'a> {
     ghost use Rattle.legacy_text.specs.Destinations.{utf8_written, utf8_free, utf8_loan};
     ghost use Rattle.legacy_text.specs.Destinations.{utf8_buffer};
 
-    /// A destination that has written nothing and has the whole slice free.
+    /// Returns a destination that has written nothing, with the whole slice free.
     pub fn new(buffer: &'a mut [u8]) -> Utf8Destination<'a>
         ensures loan { utf8_loan result ≡ buffer.entry.ghost_name }
         ensures written { utf8_written result ≡ [] }
@@ -155,9 +161,9 @@ impl<'a> Utf8Destination<'a> {
         self.filled = at + 1;
     }
 
-    /// Writes the one or two bytes of a scalar below U+0800. The last byte is stored behind a lead,
-    /// or over it where there is none: which of them it is follows no pattern in text, and so is no
-    /// branch.
+    /// Writes the one or two bytes of a scalar below U+0800.
+    // The last byte is stored after a lead, or over it if there is none. So there is no branch, which no
+    // pattern in text would predict.
     #[inline]
     #[tactic(auto, using(crate::proofs::CodeUnits::encoding))]
     fn push_short(&mut self, code: u32)
@@ -178,9 +184,8 @@ impl<'a> Utf8Destination<'a> {
         self.push(last as u8);
     }
 
-    /// Stores a block behind what was written, and keeps its ASCII front: answers that front's
-    /// length.
-    // Inlined always, as `ascii_count` is.
+    /// Stores a block after what was written, keeps its ASCII front, and returns its length.
+    // It is always inlined, as `ascii_count` is.
     #[inline(always)]
     #[tactic(auto, using(crate::proofs::Ascii::stored))]
     fn put_block(&mut self, block: u8x16) -> usize
@@ -198,8 +203,9 @@ impl<'a> Utf8Destination<'a> {
         count
     }
 
-    /// Stores a wide block behind what was written, and keeps its ASCII front, but at most so many: answers
-    /// how many.
+    /// Stores a wide block after what was written, and keeps at most `most` of its ASCII front.
+    ///
+    /// Returns the number of bytes kept.
     #[inline(always)]
     #[tactic(auto, using(crate::proofs::Ascii::stored))]
     fn put_wide_block(&mut self, block: u8x64, most: usize) -> usize
@@ -305,7 +311,7 @@ impl Destination for Utf8Destination<'_> {
     }
 }
 
-/// UTF-16 into a slice of code units, from its front on.
+/// A destination that writes UTF-16 to a slice of code units, from its beginning on.
 #[derive(Drop)]
 pub struct Utf16Destination<'a> {
     buffer: &'a mut [u16],
@@ -317,7 +323,7 @@ impl<'a> Utf16Destination<'a> {
     ghost use Rattle.legacy_text.specs.Destinations.{utf16_written, utf16_free, utf16_loan};
     ghost use Rattle.legacy_text.specs.Destinations.{utf16_buffer};
 
-    /// A destination that has written nothing and has the whole slice free.
+    /// Returns a destination that has written nothing, with the whole slice free.
     pub fn new(buffer: &'a mut [u16]) -> Utf16Destination<'a>
         ensures loan { utf16_loan result ≡ buffer.entry.ghost_name }
         ensures written { utf16_written result ≡ [] }
@@ -339,9 +345,8 @@ impl<'a> Utf16Destination<'a> {
         self.filled = at + 1;
     }
 
-    /// Stores a block behind what was written, and keeps its ASCII front: answers that front's
-    /// length.
-    // Inlined always, as `ascii_count` is.
+    /// Stores a block after what was written, keeps its ASCII front, and returns its length.
+    // It is always inlined, as `ascii_count` is.
     #[inline(always)]
     fn put_block(&mut self, block: u8x16) -> usize
         requires { 16 ≤ utf16_free self.old }
@@ -358,8 +363,9 @@ impl<'a> Utf16Destination<'a> {
         count
     }
 
-    /// Stores a wide block behind what was written, and keeps its ASCII front, but at most so many: answers
-    /// how many.
+    /// Stores a wide block after what was written, and keeps at most `most` of its ASCII front.
+    ///
+    /// Returns the number of bytes kept.
     #[inline(always)]
     #[tactic(auto, using(crate::proofs::Ascii::stored))]
     fn put_wide_block(&mut self, block: u8x64, most: usize) -> usize

@@ -1,5 +1,6 @@
-//! Where decoders and encoders read and write: a cursor over bytes, texts in UTF-8 and UTF-16, taken a scalar at
-//! a time and by runs, and destinations in both forms.
+//! The inputs and outputs of decoders and encoders: byte cursors, text sources and destinations.
+//!
+//! A source is UTF-8 or UTF-16, and is read one scalar at a time or by runs.
 #![tactic(auto)]
 
 mod blocks;

@@ -1,4 +1,4 @@
-//! Where an encoder reads.
+//! The sources of an encoder.
 ghost use Rattle.std.specs.Prelude.{◌≡◌, ℕ, ◌+◌, ◌-◌, ◌^◌, ◌<◌, ◌≤◌, List, [], ◌∷◌, ◌++◌, length, take, drop, true, slice_get, slice_index, IsAscii, MatchOption};
 ghost use Rattle.std.specs.Char.{IsScalar};
 ghost use Rattle.std.specs.Str.{chars, is_utf8};
@@ -12,39 +12,42 @@ use crate::short_scalars::copy_short_scalars;
 use crate::text_cursor::{Next, ReadingLoop, TextCursor};
 use crate::unit_codes::{UnitCodes, copy_unit_codes};
 
-/// A text in UTF-8 or in UTF-16, one of the two for each type, whose scalars are read one after another.
+/// A text in UTF-8 or UTF-16 whose scalars an encoder reads one after another.
 ///
-/// Whoever writes a source of their own gives `peek`, `advance` and `consumed`.
+/// Each type has one of the two forms. Your own source needs `peek`, `advance` and `consumed`. It
+/// may read from anything, and returns scalar values. `docs/USING.md` has an example, `Beginning`.
 pub trait Source {
-    /// The encoding form, which is fixed for the type.
+    /// The encoding form of the type.
     ghost form: { EncodingForm };
 
     /// The scalars that are left.
     ghost left: { Self → List ℕ };
 
-    /// How many code units were passed.
+    /// The number of code units that were passed.
     ghost passed: { Self → ℕ };
 
-    /// The next scalar, or `None` at the end. The source stays where it is.
+    /// Returns the next scalar, or `None` at the end. The source does not move.
     fn peek(&self) -> Option<char>
         ensures { result ≡ slice_get (left self.now) 0 };
 
-    /// Goes past the next scalar. The end must not be reached: `peek` tells.
+    /// Moves past the next scalar. The source must not be at the end (`peek` returns `None` there).
     fn advance(&mut self)
         requires { 0 < length (left self.old) }
         ensures left { left self.new ≡ drop 1 (left self.old) }
         ensures passed { passed self.new
             ≡ passed self.old + unit_count form (slice_index (left self.old) 0) };
 
-    /// How many code units the source has passed.
+    /// Returns the number of code units that the source has passed.
     fn consumed(&self) -> usize
         ensures { result ≡ passed self.now };
 
-    /// Lets a loop read scalars ahead, as many as it cares to, and write bytes for them from the place `start` of `dst`
-    /// on. Returns where they end: `start` where nothing was read. Behind them `dst` may hold anything.
-    // As provided it lets it read nothing: then each scalar is read by `peek` and `advance`. A source with a fast cursor
-    // gives a copy of it, to which nothing else refers: the compiler keeps its place in a register, and does not store
-    // and load it again behind each byte that is written.
+    /// Lends a cursor to a loop that reads any number of scalars ahead and writes bytes for them.
+    ///
+    /// The bytes are written to `dst` from the place `start` on. Returns the place after them,
+    /// which is `start` if nothing was read. The bytes of `dst` after it may change.
+    // As provided it reads nothing, and `peek` and `advance` read each scalar. A source with a fast cursor
+    // lends a copy of it, to which nothing else refers: so the compiler keeps the cursor's place in a
+    // register, and does not store and load it again after each byte.
     #[inline(always)]
     fn read_by<L: ReadingLoop>(&mut self, reading: &L, dst: &mut [u8], start: usize) -> usize
         requires { start ≤ length dst.old }
@@ -60,7 +63,7 @@ pub trait Source {
     }
 }
 
-/// The scalars of a text in UTF-8.
+/// A source of the scalars of a text in UTF-8.
 #[derive(Clone, Copy)]
 pub struct Utf8Source<'a> {
     text: &'a str,
@@ -69,7 +72,7 @@ pub struct Utf8Source<'a> {
     ghost is_text: { is_utf8 (drop place text.now) ≡ true },
 }
 
-/// The scalar at a place of a text, or `None` at its end.
+/// Returns the scalar at a place of a text, or `None` at its end.
 #[inline]
 fn scalar_at(text: &str, place: usize) -> Option<char>
     requires in_range { place ≤ length text.now }
@@ -79,7 +82,7 @@ fn scalar_at(text: &str, place: usize) -> Option<char>
     text[place..].chars().next()
 }
 
-/// A place so many bytes further on in a text.
+/// Returns the place `count` bytes after another one.
 #[inline(always)]
 fn place_behind(text: &str, place: usize, count: usize) -> usize
     requires { place + count ≤ length text.now }
@@ -88,8 +91,9 @@ fn place_behind(text: &str, place: usize, count: usize) -> usize
     text.len() - (text.len() - place - count)
 }
 
-/// Whether the next four bytes are ASCII.
-// Two would do in French text: but Russian has two ASCII bytes behind many words, and a block gains nothing there.
+/// Checks whether the next four bytes are ASCII.
+// Two would be enough for French text. But Russian has two ASCII bytes after many words, and a block
+// gains nothing there.
 #[inline(always)]
 fn is_before_ascii(bytes: &[u8], place: usize) -> bool
     requires { place ≤ length bytes.now }
@@ -106,8 +110,8 @@ fn is_before_ascii(bytes: &[u8], place: usize) -> bool
     u32::from_le_bytes(next) & 0x8080_8080 == 0
 }
 
-/// The scalar of a number that is one.
-// No test of what is known already: it would be one more branch for each scalar.
+/// Returns the scalar of a number, which must be one.
+// There is no test of what is already known: it would be one more branch for each scalar.
 #[inline(always)]
 fn scalar_of(number: u32) -> char
     requires { IsScalar number }
@@ -116,10 +120,10 @@ fn scalar_of(number: u32) -> char
     unsafe { char::from_u32_unchecked(number) }
 }
 
-/// A scalar whose bytes stand at a place, by their number, which the first of them tells.
-// The scalar would tell it too. But that byte was tested as the scalar was read, so no test is left here. Of two
-// and of three bytes the scalar is made here: so the compiler knows that it lies below U+0800 or U+10000, and what it
-// is divided by 64, by which it is looked up.
+/// Returns a scalar whose bytes are at a place, by their number, which the first byte gives.
+// That byte was tested when the scalar was read, so no test is left here. Scalars of two and of three
+// bytes are made here: so the compiler knows that they are below U+0800 or U+10000, and their quotient by
+// 64, by which they are looked up.
 #[inline(always)]
 fn by_bytes(bytes: &[u8], place: usize, c: char) -> Next
     requires within { place < length bytes.now }
@@ -141,7 +145,7 @@ fn by_bytes(bytes: &[u8], place: usize, c: char) -> Next
     }
 }
 
-/// The scalar at a place of a text, by the number of its bytes.
+/// Returns the scalar at a place of a text, by the number of its bytes.
 #[inline(always)]
 fn next_at(text: &str, place: usize) -> Next
     requires in_range { place ≤ length text.now }
@@ -157,7 +161,7 @@ fn next_at(text: &str, place: usize) -> Next
 impl<'a> Utf8Source<'a> {
     ghost use Rattle.legacy_text.specs.TextSources.{utf8_text, utf8_place};
 
-    /// A cursor before the first scalar of the text.
+    /// Returns a source before the first scalar of the text.
     pub fn new(text: &'a str) -> Utf8Source<'a>
         ensures text { utf8_text result ≡ text.now }
         ensures place { utf8_place result ≡ 0 }
@@ -258,7 +262,7 @@ impl TextCursor for Utf8Source<'_> {
     }
 }
 
-/// The scalars of code units of UTF-16, where each unpaired surrogate stands for U+FFFD.
+/// A source of the scalars of UTF-16 code units, with U+FFFD for each unpaired surrogate.
 #[derive(Clone, Copy)]
 pub struct Utf16Source<'a> {
     units: &'a [u16],
@@ -267,7 +271,7 @@ pub struct Utf16Source<'a> {
     ghost in_range: { place ≤ length units.now },
 }
 
-/// The scalar at a place of units, or `None` at their end.
+/// Returns the scalar at a place of the code units, or `None` at their end.
 #[inline]
 fn unit_scalar_at(units: &[u16], place: usize) -> Option<char>
     requires { place ≤ length units.now }
@@ -290,7 +294,7 @@ fn unit_scalar_at(units: &[u16], place: usize) -> Option<char>
     Some(scalar_of(0x1_0000 + (high - 0xD800) * 0x400 + (low - 0xDC00)))
 }
 
-/// Ten code units from a place on.
+/// Returns ten code units from a place on.
 #[inline(always)]
 fn ten_at(units: &[u16], place: usize) -> [u16; 10]
     requires { place + 10 ≤ length units.now }
@@ -310,7 +314,7 @@ fn ten_at(units: &[u16], place: usize) -> [u16; 10]
     ]
 }
 
-/// A scalar by the number of its code units in UTF-16.
+/// Returns a scalar by the number of its code units in UTF-16.
 #[inline(always)]
 #[tactic(auto, using(crate::proofs::CodeUnits::encoding_utf16))]
 fn in_utf16(c: char) -> Next
@@ -326,7 +330,7 @@ fn in_utf16(c: char) -> Next
 impl<'a> Utf16Source<'a> {
     ghost use Rattle.legacy_text.specs.TextSources.{utf16_units, utf16_place};
 
-    /// A cursor before the first scalar of the units.
+    /// Returns a source before the first scalar of the code units.
     pub fn new(units: &'a [u16]) -> Utf16Source<'a>
         ensures units { utf16_units result ≡ units.now }
         ensures place { utf16_place result ≡ 0 }

@@ -1,9 +1,9 @@
--- A page that has grown by what was written behind its text.
+-- A page that has grown by what was written after its text.
 use Rattle.std.proofs.Common.{◌≡◌, ◌∙◌, ℕ, ◌+◌, ◌≤◌, List, ◌++◌, length, take, ap, arith}
 use Rattle.std.proofs.lemmas.List.{length-append, take-append-le, take-take, take_all}
 use Rattle.std.proofs.Math.Seq.{take-append-add, take-append_seam}
 
--- in front of what it grew by stands the page as it was
+-- the page is unchanged before what it grew by
 pub grown_front : (page grown behind : List ℕ) (start end : ℕ) → start ≡ length page → start ≤ end → grown ≡ take end page ++ behind → take start grown ≡ page
 grown_front page grown behind start end is h e =
     ap (λ n. take n grown) is

@@ -1,4 +1,4 @@
--- What a list of characters, as a destination, holds.
+-- The contents of a list of characters as a destination.
 use Rattle.std.specs.Prelude.{ℕ, List, take}
 use Rattle.std.specs.Borrow.{GName}
 use Rattle.legacy_text.specs.EncodingForm.{Utf16, all_code_units}
@@ -8,18 +8,18 @@ use Rattle.legacy_uses.specs.declared.character_list.CharacterList.{CharacterLis
 abbrev pub listed_scalars : CharacterList → List ℕ
 listed_scalars d = take d.count d.characters.now
 
--- how many they are
+-- their number
 abbrev pub listed_count : CharacterList → ℕ
 listed_count d = d.count
 
--- the code units that they have in UTF-16
+-- their code units in UTF-16
 abbrev pub listed_units : CharacterList → List ℕ
 listed_units d = all_code_units Utf16 (listed_scalars d)
 
--- how many more code units fit
+-- the number of free code units
 abbrev pub listed_room : CharacterList → ℕ
 listed_room d = d.room
 
--- the slice that is lent, by the name of its loan
+-- the name of the loan of the slice
 abbrev pub listed_loan : CharacterList → GName
 listed_loan d = d.characters.ghost_name

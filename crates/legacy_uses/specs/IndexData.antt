@@ -41,14 +41,14 @@ pub record IsTextByFile (file input text : List ℕ) : Type 0 where
   pub short : query_answer to_utf8 (new_state (euc_kr index)) (length input) ≢ None
   pub decodes : text ≡ text_of (new_state (euc_kr index)) input
 
--- the length query of a new decoder of EUC-KR, by the index that a file says, answers none for the input
+-- the length query of a new decoder of EUC-KR, by the index of a file, returns `None` for the input
 pub record IsTooLongByFile (file input : List ℕ) : Type 0 where
   pub index : List ℕ
   pub is_index : IsEucKrIndex file index
   pub too_long : query_answer to_utf8 (new_state (euc_kr index)) (length input) ≡ None
 
--- What each error says of the file and the input. Any two of these exclude each other, but for memory, which may be refused
--- wherever the steps before it went well.
+-- The condition of each error for the file and the input. Any two exclude each other, except a failed allocation, which
+-- is possible if the steps before it succeeded.
 abbrev pub IsFaultByFile : List ℕ → List ℕ → RegistryError → Type 0
 IsFaultByFile file input (File (reading.Line n)) = first_malformed EucKr 1 (lines file) ≡ Some n
 IsFaultByFile file input (File reading.Memory) = first_malformed EucKr 1 (lines file) ≡ None

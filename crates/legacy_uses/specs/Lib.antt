@@ -1,4 +1,4 @@
--- What a caller of the codecs wants to know.
+-- What a caller of the codecs needs to know.
 pub mod Beginnings
 pub mod CharacterLists
 pub mod IndexData

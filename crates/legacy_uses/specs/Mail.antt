@@ -14,7 +14,7 @@ pub record AreMalformedIn (flat : FlatIndexes) (tables : List EncodingTable) (na
   pub decoder : IsDecoderOf flat tables name state
   pub found_is : found ≡ malformed_of (length state.held) (events_of state.grammar (state.held ++ message))
 
--- the answer is whether the message has no malformed sequence
+-- `is_so` is whether the message has no malformed sequence
 pub record IsChecked (flat : FlatIndexes) (tables : List EncodingTable) (name message : List ℕ) (is_so : Bool) : Type 0 where
   pub found : List MalformedSequence
   pub are_found : AreMalformedIn flat tables name message found

@@ -1,4 +1,4 @@
--- What a transcoder of files gives.
+-- The result of a transcoder of files.
 use Rattle.std.specs.Prelude.{ℕ, List}
 use Rattle.std.specs.Str.{chars}
 use Rattle.legacy_tables.specs.Indexes.{FlatIndexes}

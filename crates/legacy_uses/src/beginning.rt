@@ -1,4 +1,4 @@
-//! A source of a user's own, of no more than the members that `Source` asks for: the beginning of another source.
+//! A user's own source with the members that `Source` requires: the beginning of another one.
 ghost use Rattle.std.specs.Prelude.{◌≡◌, ℕ, ◌+◌, ◌≤◌, List, length, take};
 ghost use Rattle.std.specs.Str.{chars};
 ghost use Rattle.legacy_text.specs.EncodingForm.{Utf8, total_unit_count};
@@ -6,7 +6,7 @@ ghost use Rattle.legacy_base.specs.EncoderCalls.{EncoderCall};
 
 use legacy_codecs::{EncoderResult, RawEncoder, Source, Utf8Source};
 
-/// The beginning of a text: a source that gives at most so many characters of another one, and goes past them there.
+/// A source of at most `most` characters of another source, which it moves past them.
 #[derive(Drop)]
 pub struct Beginning<'a, S: Source> {
     source: &'a mut S,
@@ -16,7 +16,7 @@ pub struct Beginning<'a, S: Source> {
 impl<'a, S: Source> Beginning<'a, S> {
     ghost use Rattle.legacy_uses.specs.Beginnings.{beginning_most, beginning_of};
 
-    /// At most so many of the characters that the source has left.
+    /// Returns a source of at most `most` of the characters that `source` has left.
     pub fn new(source: &'a mut S, most: usize) -> Beginning<'a, S>
         ensures most { beginning_most result ≡ most }
         ensures source { beginning_of result ≡ source.old }
@@ -51,12 +51,11 @@ impl<S: Source> Source for Beginning<'_, S> {
     }
 }
 
-/// Encodes at most so many characters from the front of a text, by an encoder that knows nothing of that bound. Returns
-/// how the call ended, how many bytes of the text were read, and how many bytes were written, which stand at the front of
-/// `dst`.
+/// Encodes at most `most` characters from the front of a text, by an encoder without such a limit.
 ///
-/// To the encoder those characters are the whole source: `InputEmpty` says that all of them were read, and with `last`
-/// the end is written behind them.
+/// Returns how the call ended, the number of bytes of the text read, and the number of bytes
+/// written to the beginning of `dst`. The encoder sees those characters as the whole source:
+/// `InputEmpty` means that all of them were read, and with `last` the end is written after them.
 pub fn encode_beginning<E: RawEncoder>(
     encoder: &mut E,
     text: &str,

@@ -5,8 +5,10 @@ ghost use Rattle.legacy_codecs.specs.WholeTexts.{text_of, TextGoesOn};
 
 use legacy_codecs::{RawDecoder, SizedError, decode_piece};
 
-/// Decodes the next piece of a page, with U+FFFD for each malformed sequence, and appends its text in UTF-8 to the page.
-/// `last` says that no piece follows. After an error the page is as it was, and so is the decoder.
+/// Decodes the next piece of a page, and appends its text in UTF-8 to the page.
+///
+/// Each malformed sequence becomes U+FFFD. Set `last` if no piece follows. After an error the page and
+/// the decoder are unchanged.
 pub fn show_piece<D: RawDecoder>(
     decoder: &mut D,
     piece: &[u8],

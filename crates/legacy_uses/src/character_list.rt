@@ -1,4 +1,4 @@
-//! A destination of a user's own, of no more than the members that `Destination` asks for: a list of characters.
+//! A user's own destination with the members that `Destination` requires: a list of characters.
 ghost use Rattle.std.specs.Prelude.{◌≡◌, ◌+◌, ◌^◌, ◌<◌, ◌≤◌, [], length, take, All};
 ghost use Rattle.std.specs.Char.{IsScalar};
 ghost use Rattle.legacy_text.specs.EncodingForm.{Utf16, unit_count, total_unit_count};
@@ -6,7 +6,7 @@ ghost use Rattle.legacy_base.specs.Calls.{DecoderCall};
 
 use legacy_codecs::{DecoderResult, Destination, RawDecoder};
 
-/// How many code units of UTF-16 a character has.
+/// Returns the number of UTF-16 code units of a character.
 fn length_of(c: char) -> usize
     ensures value { result ≡ unit_count Utf16 c }
     ensures some { 1 ≤ result }
@@ -14,8 +14,7 @@ fn length_of(c: char) -> usize
     c.len_utf16()
 }
 
-/// A text as a list of characters: a destination that keeps each character as it is, in a lent slice. To a decoder it
-/// is an output in UTF-16.
+/// A destination that keeps each character in a lent slice. To a decoder it is an output in UTF-16.
 #[derive(Drop)]
 pub struct CharacterList<'a> {
     characters: &'a mut [char],
@@ -31,7 +30,7 @@ pub struct CharacterList<'a> {
 impl<'a> CharacterList<'a> {
     ghost use Rattle.legacy_uses.specs.CharacterLists.{listed_count, listed_loan, listed_room, listed_scalars};
 
-    /// A list without characters, with room for as many code units of UTF-16 as the slice has places.
+    /// Returns an empty list with room for as many UTF-16 code units as the slice has places.
     pub fn new(characters: &'a mut [char]) -> CharacterList<'a>
         ensures loan { listed_loan result ≡ characters.entry.ghost_name }
         ensures kept { listed_scalars result ≡ [] }
@@ -46,15 +45,16 @@ impl<'a> CharacterList<'a> {
         }
     }
 
-    /// How many characters were written. They stand at the front of the slice.
+    /// Returns the number of characters written to the beginning of the slice.
     pub fn count(&self) -> usize
         ensures { result ≡ listed_count self.now }
     {
         self.count
     }
 
-    /// Decodes bytes from the front of `src` into the list, which has no characters yet. Returns how the call ended, and how
-    /// many bytes were read.
+    /// Decodes bytes from the front of `src` into the list, which is empty.
+    ///
+    /// Returns how the call ended, and the number of bytes read.
     fn decode<D: RawDecoder>(
         &mut self,
         decoder: &mut D,
@@ -114,9 +114,10 @@ impl Destination for CharacterList<'_> {
     }
 }
 
-/// Decodes bytes from the front of `src` into a list of characters, with room for as many code units of UTF-16 as the
-/// slice has places. Returns how the call ended, how many bytes were read, and how many characters were written, which
-/// stand at the front of the slice.
+/// Decodes bytes from the front of `src` into a slice of characters.
+///
+/// The slice has room for as many UTF-16 code units as it has places. Returns how the call ended,
+/// the number of bytes read, and the number of characters written to the beginning of the slice.
 pub fn decode_to_characters<D: RawDecoder>(
     decoder: &mut D,
     src: &[u8],

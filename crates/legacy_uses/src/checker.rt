@@ -1,4 +1,4 @@
-//! A checker that says whether an input is well formed.
+//! A checker that returns whether an input is well formed.
 ghost use Rattle.std.specs.Prelude.{IfOk};
 ghost use Rattle.legacy_uses.specs.Mail.{IsChecked};
 
@@ -6,7 +6,7 @@ use crate::mail::faults_of_message;
 use legacy_encodings::{Coders, RegistryError};
 use std::alloc::Global;
 
-/// Checks whether an input is well formed in the encoding of the name: it has no malformed sequence.
+/// Checks whether an input has no malformed sequence in the encoding of the name.
 pub fn is_well_formed(
     alloc: Global,
     coders: &Coders,

@@ -1,4 +1,4 @@
-//! The code pages of an old program: index files, and what is decoded by them.
+//! The code pages of an old program: index files, and decoding by them.
 ghost use Rattle.std.specs.Prelude.{◌≢◌, string_bytes, Err, IfOk, MatchResult};
 ghost use Rattle.std.specs.Str.{chars};
 ghost use Rattle.legacy_uses.specs.IndexData.{IsTextByFile, IsFaultByFile, IsTextBySingleByteFile};
@@ -28,7 +28,7 @@ pub struct TwoFiles<'a> {
     pub windows_1252: &'a [u8],
 }
 
-/// Decodes an input in EUC-KR, and one in windows-1252, by a registry that read the index files of both.
+/// Decodes an input in EUC-KR and one in windows-1252, by a registry of both index files.
 pub fn decode_two(
     alloc: Global,
     files: &TwoFiles,

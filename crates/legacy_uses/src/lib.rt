@@ -1,5 +1,6 @@
-//! Callers of the codecs, each the core of a small program, proved by the contracts of the calls that it makes: the code
-//! of `docs/USING.md`.
+//! Callers of the codecs: the code of `docs/USING.md`.
+//!
+//! Each is the core of a small program, proved by the contracts of the calls that it makes.
 #![tactic(auto)]
 
 pub mod beginning;

@@ -1,4 +1,4 @@
-//! A mail reader that reports what is malformed in a message.
+//! A mail reader that reports the malformed sequences of a message.
 ghost use Rattle.std.specs.Prelude.{◌≡◌, IfOk};
 ghost use Rattle.legacy_uses.specs.Mail.{AreMalformedIn};
 

@@ -5,8 +5,10 @@ ghost use Rattle.legacy_uses.specs.Transcoding.{IsTranscoded};
 use legacy_encodings::{Coders, RegistryError};
 use std::alloc::Global;
 
-/// Transcodes a file from the encoding of one name to that of another: U+FFFD stands for each malformed sequence, and
-/// then a numeric character reference for each character that the new encoding lacks.
+/// Transcodes a file from the encoding of one name to that of another.
+///
+/// Each malformed sequence becomes U+FFFD. Each character that the new encoding lacks becomes a numeric
+/// character reference.
 pub fn transcode_file(
     alloc: Global,
     coders: &Coders,

@@ -1,4 +1,5 @@
-//! Calls of decoders: each answer by its own rule, and all together beside the model, encoding_rs and a run in one call.
+//! Calls of decoders. Each result is checked by its own rule, and all together against the model, encoding_rs and one
+//! call.
 
 use super::Job;
 use crate::exported::Rooms;
@@ -15,7 +16,7 @@ trait Unit: Copy + PartialEq + Debug + 'static {
     const BLANK: Self;
     /// U+FFFD.
     const MARK: &'static [Self];
-    /// The most units of one act.
+    /// The maximum number of units of one act.
     const MOST: usize;
     fn raw<D: RawDecoder>(decoder: &mut D, source: &[u8], output: &mut [Self], last: bool) -> (DecoderResult, usize, usize);
     fn replacing<D: RawDecoder>(decoder: &mut D, source: &[u8], output: &mut [Self], last: bool) -> (CoderResult, usize, usize, bool);
@@ -82,7 +83,7 @@ impl Unit for u16 {
 /// A place and a length of a malformed sequence.
 type Bad = (usize, usize);
 
-/// How pieces and outputs are cut.
+/// How pieces and outputs are split.
 #[derive(Clone, Copy)]
 struct Cuts {
     calls: Calls,
@@ -99,20 +100,20 @@ impl Cuts {
         Cuts { calls, pieces: cuts, outs, queries, is_end_apart: plan.piece % 2 == 1 }
     }
 
-    /// All in one call.
+    /// Returns all in one call.
     fn whole() -> Cuts {
         Cuts { calls: Calls::Raw, pieces: [255; 4], outs: [255; 4], queries: false, is_end_apart: false }
     }
 }
 
-/// A run over a source, under way.
+/// A run over a source.
 struct Run<'a, U> {
     source: &'a [u8],
     cuts: Cuts,
     read: usize,
     end: usize,
     turn: usize,
-    /// How many calls in a row did nothing.
+    /// The number of calls in a row that did nothing.
     idle: usize,
     is_ending: bool,
     units: Vec<U>,
@@ -127,7 +128,7 @@ impl<'a, U: Unit> Run<'a, U> {
         run
     }
 
-    /// Goes on to the next piece, or to the end.
+    /// Moves to the next piece, or to the end.
     fn next_piece(&mut self) {
         if self.end == self.source.len() && self.turn > 0 {
             self.is_ending = true;
@@ -141,7 +142,7 @@ impl<'a, U: Unit> Run<'a, U> {
         }
     }
 
-    /// The length of the next output.
+    /// Returns the length of the next output.
     fn room<D: RawDecoder>(&self, decoder: &D) -> Result<usize, String> {
         let length = self.end - self.read;
         if self.cuts.queries {
@@ -151,7 +152,7 @@ impl<'a, U: Unit> Run<'a, U> {
         Ok(if out == 255 || self.idle > 4 { length * 3 + 16 } else { usize::from(out) })
     }
 
-    /// What must hold of a call that read and wrote so much.
+    /// Checks the numbers that a call returned.
     fn is_counted(&self, (read, written): (usize, usize), output: &[U]) -> Result<(), String> {
         if read > self.end - self.read || written > output.len() {
             return Err(format!("a call says that it read {read} of {} and wrote {written} into {}", self.end - self.read, output.len()));
@@ -162,14 +163,14 @@ impl<'a, U: Unit> Run<'a, U> {
         Ok(())
     }
 
-    /// Takes what a call read and wrote.
+    /// Adds what a call read and wrote.
     fn takes(&mut self, (read, written): (usize, usize), output: &[U]) {
         self.read += read;
         self.units.extend(&output[..written]);
         self.idle = if read == 0 && written == 0 { self.idle + 1 } else { 0 };
     }
 
-    /// `InputEmpty`: whether the run is at its end.
+    /// Handles `InputEmpty`, and returns whether the run is at its end.
     fn is_read(&mut self) -> Result<bool, String> {
         if self.read != self.end {
             return Err(format!("input empty, and {} of {} bytes are read", self.read, self.end));
@@ -181,7 +182,7 @@ impl<'a, U: Unit> Run<'a, U> {
         Ok(false)
     }
 
-    /// `OutputFull`.
+    /// Handles `OutputFull`.
     fn is_full(&self, free: usize) -> Result<(), String> {
         if free >= U::MOST {
             return Err(format!("output full with {free} units free"));
@@ -195,7 +196,7 @@ impl<'a, U: Unit> Run<'a, U> {
         Ok(())
     }
 
-    /// `Malformed`.
+    /// Handles `Malformed`.
     fn is_malformed(&mut self, length: u8, back: u8, free: usize) -> Result<(), String> {
         let (length, back) = (usize::from(length), usize::from(back));
         if !(1..=4).contains(&length) || back > 3 || length + back > self.read {
@@ -217,7 +218,7 @@ impl<'a, U: Unit> Run<'a, U> {
         if count > piece.len() {
             return Err(format!("{count} of {} bytes are malformed by themselves", piece.len()));
         }
-        // The last one is left, so that the last slice is not empty by this.
+        // The last byte is left, so that this does not make the last slice empty.
         for byte in &piece[..count.saturating_sub(1)] {
             let mut output = [U::BLANK; 8];
             let answer = U::raw(decoder, &[*byte], &mut output, false);
@@ -230,7 +231,7 @@ impl<'a, U: Unit> Run<'a, U> {
         Ok(())
     }
 
-    /// A call: whether the run is at its end.
+    /// Makes a call, and returns whether the run is at its end.
     fn call<D: RawDecoder>(&mut self, decoder: &mut D, plan: &Plan, rooms: &mut Rooms) -> Result<bool, String> {
         if self.cuts.queries && self.cuts.calls == Calls::Raw {
             self.skips_lone(decoder)?;
@@ -258,14 +259,14 @@ impl<'a, U: Unit> Run<'a, U> {
         }
     }
 
-    /// All calls of a run.
+    /// Makes all calls of a run.
     fn all<D: RawDecoder>(mut self, decoder: &mut D, plan: &Plan, rooms: &mut Rooms) -> Result<Run<'a, U>, String> {
         while !self.call(decoder, plan, rooms)? {}
         Ok(self)
     }
 }
 
-/// The malformed sequences that encoding_rs finds.
+/// Returns the malformed sequences that encoding_rs finds.
 fn bad_by_theirs(encoding: &'static Encoding, source: &[u8]) -> Vec<Bad> {
     let mut decoder = encoding.new_decoder_without_bom_handling();
     let mut output = vec![0; source.len() * 2 + 64];

@@ -1,4 +1,4 @@
-//! Calls of encoders: each answer by its own rule, and all together beside the model and encoding_rs.
+//! Calls of encoders. Each result is checked by its own rule, and all together against the model and encoding_rs.
 
 use super::Job;
 use crate::exported::Rooms;
@@ -31,7 +31,7 @@ impl Piece {
         }
     }
 
-    /// Whether the place is between two characters.
+    /// Checks whether the place is between two characters.
     fn is_between(&self, place: usize) -> bool {
         match self {
             Piece::Utf8(text) => text.is_char_boundary(place),
@@ -43,7 +43,7 @@ impl Piece {
     }
 }
 
-/// The pieces of a text in UTF-8, which end between two characters.
+/// Returns the pieces of a text in UTF-8, which end between two characters.
 fn utf8_pieces(mut text: &str, lengths: [u8; 4]) -> Vec<Piece> {
     let mut pieces = Vec::new();
     for turn in 0.. {
@@ -61,7 +61,7 @@ fn utf8_pieces(mut text: &str, lengths: [u8; 4]) -> Vec<Piece> {
     pieces
 }
 
-/// The pieces of a text in UTF-16, which may end within a pair of surrogates.
+/// Returns the pieces of a text in UTF-16, which may end inside a surrogate pair.
 fn utf16_pieces(mut units: &[u16], lengths: [u8; 4]) -> Vec<Piece> {
     let mut pieces = Vec::new();
     for turn in 0.. {
@@ -84,7 +84,7 @@ struct Cuts {
     queries: bool,
 }
 
-/// What a call gave, of either kind.
+/// The result of a call of either kind.
 struct Answer {
     result: EncoderResult,
     read: usize,
@@ -92,7 +92,7 @@ struct Answer {
     replaced: bool,
 }
 
-/// A call with replacement as a raw one that meets nothing unmappable.
+/// Returns a call with replacement as a raw one without unmappable scalars.
 fn replacing(call: (CoderResult, usize, usize, bool)) -> Answer {
     let result = match call.0 {
         CoderResult::InputEmpty => EncoderResult::InputEmpty,
@@ -105,7 +105,7 @@ fn raw(call: (EncoderResult, usize, usize)) -> Answer {
     Answer { result: call.0, read: call.1, written: call.2, replaced: false }
 }
 
-/// A run over pieces, under way.
+/// A run over pieces.
 struct Run {
     cuts: Cuts,
     turn: usize,
@@ -120,7 +120,7 @@ impl Run {
         Run { cuts, turn: 0, idle: 0, bytes: Vec::new(), unmappable: Vec::new(), replaced: false }
     }
 
-    /// The length of the next output, for so much of a piece.
+    /// Returns the length of the next output, for `length` units of a piece.
     fn room<E: RawEncoder>(&self, encoder: &E, piece: &Piece, length: usize) -> Result<usize, String> {
         if self.cuts.queries {
             let answer = match piece {
@@ -155,7 +155,7 @@ impl Run {
         }
     }
 
-    /// Whether `OutputFull` was rightly answered.
+    /// Checks whether `OutputFull` was right.
     fn is_full(&self, free: usize, replaced: bool) -> Result<(), String> {
         let most = if self.cuts.calls == Calls::Raw { ROOM_IN_BYTES } else { ROOM_WITH_REFERENCE };
         if free >= most {
@@ -170,7 +170,7 @@ impl Run {
         Ok(())
     }
 
-    /// All calls of a piece.
+    /// Makes all calls of a piece.
     fn piece<E: RawEncoder>(&mut self, encoder: &mut E, piece: &Piece, last: bool, plan: &Plan, rooms: &mut Rooms) -> Result<(), String> {
         let mut read = 0;
         loop {
@@ -198,7 +198,7 @@ impl Run {
         }
     }
 
-    /// All calls of all pieces.
+    /// Makes all calls of all pieces.
     fn all<E: RawEncoder>(mut self, encoder: &mut E, pieces: &[Piece], plan: &Plan, rooms: &mut Rooms) -> Result<Run, String> {
         let is_end_apart = plan.piece % 2 == 1;
         for (at, piece) in pieces.iter().enumerate() {
@@ -212,7 +212,7 @@ impl Run {
     }
 }
 
-/// The scalars for which encoding_rs has no bytes.
+/// Returns the scalars for which encoding_rs has no bytes.
 fn unmappable_by_theirs(encoding: &'static Encoding, text: &str) -> Vec<char> {
     let mut encoder = encoding.new_encoder();
     let mut output = vec![0; text.len() * 8 + 64];

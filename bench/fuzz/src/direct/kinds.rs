@@ -1,11 +1,11 @@
-//! The library's tables in each way in which they are kept, and whether it takes and refuses what it is to.
+//! The library's tables in each way in which they are kept, and whether it takes and refuses the right ones.
 
 use crate::plan::Kept;
 use crate::prepared::Prepared;
 use legacy_codecs::{IndexName, Indexes, Packed, Run, TableError, Tables, GB18030_2022_PUA};
 use soak::ours;
 
-/// What the library takes in a form of its own.
+/// The tables in the library's own form.
 pub struct Parts {
     ranges: Vec<(u16, u16)>,
     big5: Vec<Run>,
@@ -33,7 +33,7 @@ impl Parts {
     }
 }
 
-/// Tables that are accepted, in each way.
+/// Accepted tables, in each way.
 pub struct Made<'a> {
     flat: Tables<'a>,
     packed: Tables<'a>,
@@ -57,14 +57,14 @@ pub struct Lent {
     narrow: [Vec<u16>; 4],
 }
 
-/// What tables are made of.
+/// The parts of tables.
 pub struct Kinds<'a> {
     prepared: &'a Prepared,
     indexes: Indexes<'a>,
     packed: Packed<'a>,
 }
 
-/// The tables that were made, `None` if they were rightly refused.
+/// Returns the tables that were made, or `None` if they were rightly refused.
 fn judged<'a>(came: Result<Tables<'a>, TableError>, wanted: Option<String>) -> Result<Option<Tables<'a>>, String> {
     match (came, wanted) {
         (Ok(tables), None) => Ok(Some(tables)),
@@ -74,7 +74,7 @@ fn judged<'a>(came: Result<Tables<'a>, TableError>, wanted: Option<String>) -> R
     }
 }
 
-/// The entries that the library wrote, which are the flat ones but for zeros at the end.
+/// Checks whether the entries that the library wrote are the flat ones, except for zeros at the end.
 fn is_unpacked<T: Copy + Default + PartialEq>(came: &[T], flat: &[T]) -> bool {
     flat.starts_with(came) && flat[came.len()..].iter().all(|entry| *entry == T::default())
 }
@@ -108,7 +108,7 @@ impl<'a> Kinds<'a> {
         Kinds { prepared, indexes, packed }
     }
 
-    /// Tables of one kind, `None` if they are rightly refused. Unpacked ones are packed here.
+    /// Returns tables of one kind, or `None` if they are rightly refused. Unpacked ones are packed here.
     pub fn tables(&self, kept: Kept) -> Result<Option<Tables<'a>>, String> {
         let flat = judged(Tables::new(&self.indexes), self.prepared.fault(Kept::Flat))?;
         if kept == Kept::Flat {
@@ -117,7 +117,7 @@ impl<'a> Kinds<'a> {
         judged(Tables::packed_of(&self.indexes, &self.packed), self.prepared.fault(Kept::Packed))
     }
 
-    /// Tables of each kind.
+    /// Returns tables of each kind.
     pub fn made(&self, lent: &'a mut Lent) -> Result<Made<'a>, String> {
         let none = || "the tables were refused".to_string();
         let flat = self.tables(Kept::Flat)?.ok_or_else(none)?;
@@ -126,7 +126,7 @@ impl<'a> Kinds<'a> {
         Ok(Made { flat, packed, unpacked })
     }
 
-    /// Flat tables of what the library writes from packed ones into lent memory of just enough entries.
+    /// Returns flat tables, which the library writes from packed ones into lent memory of just enough entries.
     fn unpacked(&self, packed: &Tables, lent: &'a mut Lent) -> Result<Tables<'a>, String> {
         let too_small = || "a room was too small".to_string();
         let flat = &self.indexes;

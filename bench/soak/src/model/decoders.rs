@@ -424,12 +424,12 @@ fn handler(codec: Codec) -> Box<dyn Handler> {
     }
 }
 
-/// The text of the bytes, with U+FFFD for each malformed sequence.
+/// Returns the text of the bytes, with U+FFFD for each malformed sequence.
 pub fn decode(codec: Codec, tables: &Tables, bytes: &[u8]) -> Vec<char> {
     decode_last(codec, tables, bytes, 1)
 }
 
-/// The text that one decoder gives for the bytes, of which it has read all before, the last of so many times.
+/// Returns the text of the bytes that one decoder gives the last of `times` times that it reads them.
 pub fn decode_last(codec: Codec, tables: &Tables, bytes: &[u8], times: usize) -> Vec<char> {
     let mut handler = handler(codec);
     (0..times).map(|_| run(handler.as_mut(), tables, bytes)).last().unwrap_or_default()

@@ -14,7 +14,7 @@ use legacy_tables::{EncoderTables, Marks, PackedPart};
 /// The encoder of Big5 (Encoding Standard, "Big5 encoder").
 ///
 /// ASCII is itself. A scalar of index Big5 from pointer 5024 on is the lead and the trail of a
-/// pointer there. The pointers below 5024 belong to the Hong Kong supplement. For U+2550, U+255E,
+/// pointer there; the pointers below 5024 belong to the Hong Kong supplement. For U+2550, U+255E,
 /// U+2561, U+256A, U+5341 and U+5345 it is the last such pointer, and for all others the first. All
 /// other scalars are unmappable.
 pub type Big5Encoder<'a> = PairEncoder<'a, Big5>;
@@ -34,7 +34,7 @@ fn pair<V: EncoderTables>(tables: &V, c: char) -> Option<(u8, u8)>
     }
 }
 
-/// The lead and the trail of a pointer as one number.
+/// The lead and the trail of a pointer, as one number.
 struct Big5Marks;
 
 impl Marks for Big5Marks {

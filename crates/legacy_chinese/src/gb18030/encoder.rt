@@ -26,9 +26,10 @@ use legacy_tables::{DecoderTables, EncoderTables, FlatTables, RangePart};
 
 /// The encoder of GB18030 or of GBK (Encoding Standard, "gb18030 encoder").
 ///
-/// ASCII is itself. A scalar of a private-use row is the row's lead and trail, and one that index gb18030
-/// has the lead and the trail of its first pointer. In GB18030 any other scalar that has a range pointer
-/// is its four bytes; in GBK it is unmappable, and U+20AC is 80. U+E5E5 is unmappable in both.
+/// ASCII is itself. A scalar of a private-use row is the row's lead and trail, and a scalar of
+/// index gb18030 is the lead and the trail of its first pointer. In GB18030 any other scalar with a
+/// range pointer is its four bytes. In GBK these are unmappable, and U+20AC is 80. U+E5E5 is
+/// unmappable in both.
 #[derive(Drop)]
 pub struct Gb18030Encoder<'a> {
     tables: &'a Tables<'a>,
@@ -38,8 +39,9 @@ pub struct Gb18030Encoder<'a> {
 impl<'a> Gb18030Encoder<'a> {
     ghost use Rattle.legacy_chinese.specs.Gb18030Encoder.{gb18030_encoder_state};
 
-    /// An encoder before its first scalar, which writes by index gb18030, the ranges and the private-use
-    /// rows of the tables: of GB18030 where `extended_range` is set, and else of GBK.
+    /// Returns an encoder before its first scalar, of GB18030 if `extended_range` is set or of GBK.
+    ///
+    /// It writes by index gb18030, the ranges and the private-use rows of the tables.
     pub fn new(tables: &'a Tables<'a>, extended_range: bool) -> Gb18030Encoder<'a>
         ensures { gb18030_encoder_state result
             ≡ new_encoder (gb18030_codec tables.now.flat extended_range) }
@@ -51,7 +53,7 @@ impl<'a> Gb18030Encoder<'a> {
     }
 }
 
-/// The lead and the trail of a scalar past ASCII, if it has them.
+/// Returns the lead and the trail of a scalar past ASCII, if it has them.
 #[inline(always)]
 fn pair_of<V: EncoderTables>(tables: &V, c: char) -> Option<(u8, u8)>
     ensures { option_map (λ pair. pair.0 ∷ pair.1 ∷ []) result
@@ -70,8 +72,8 @@ fn pair_of<V: EncoderTables>(tables: &V, c: char) -> Option<(u8, u8)>
     }
 }
 
-/// Whether a scalar is for private use, of which the rows are.
-// The look-up of rows asks the same in the same way, so the compiler leaves that out.
+/// Checks whether a scalar is for private use, as those of the rows are.
+// The look-up of rows makes the same test, so the compiler leaves out one of them.
 #[inline(always)]
 fn is_private_use(c: char) -> bool
     ensures { result ≡ false → (c ≢ 0xE5E5) × (c ≢ 0xE7C7) }
@@ -79,8 +81,8 @@ fn is_private_use(c: char) -> bool
     matches!(u32::from(c), 0xE000..=0xF8FF)
 }
 
-/// A lead and a digit, the lead in the low byte, of a number of both.
-// By one quotient: the digit is what is left of ten times it.
+/// Returns the lead and the digit of a number, with the lead in the low byte.
+// One quotient is enough: the digit is the rest after ten times it.
 #[inline(always)]
 fn lead_and_digit(number: u32) -> u32
     requires { number < 1260 }
@@ -89,8 +91,8 @@ fn lead_and_digit(number: u32) -> u32
     256 * number - 2559 * (number / 10) + 0x3081
 }
 
-/// The four bytes of a range pointer.
-// As one number: so they are one store.
+/// Returns the four bytes of a range pointer.
+// They are made as one number, so that one store writes them.
 #[inline(always)]
 fn range_bytes(pointer: usize) -> (u8, u8, u8, u8)
     requires { pointer < 1237576 }
@@ -106,7 +108,7 @@ fn range_bytes(pointer: usize) -> (u8, u8, u8, u8)
     )
 }
 
-/// The four bytes of a scalar's range pointer, if it has one.
+/// Returns the four bytes of a scalar's range pointer, if it has one.
 #[inline(always)]
 fn range_bytes_of<V: EncoderTables>(tables: &V, c: char) -> Option<(u8, u8, u8, u8)>
     ensures { option_map (λ four. four.0 ∷ four.1 ∷ four.2 ∷ four.3 ∷ []) result
@@ -118,7 +120,7 @@ fn range_bytes_of<V: EncoderTables>(tables: &V, c: char) -> Option<(u8, u8, u8, 
     }
 }
 
-/// The pointer of a scalar that lies past the pointers that the run keeps, which become those of its range.
+/// Returns the pointer of a scalar outside the range of `near`, and sets `near` to its range.
 fn far_pointer<V: EncoderTables>(tables: &V, near: &mut RangePart, c: char) -> Option<usize>
     requires { c ≢ 0xE7C7 }
     ensures pointer { result ≡ range_pointer_of (V.indexes tables.now).flat.ranges c }
@@ -133,7 +135,7 @@ fn far_pointer<V: EncoderTables>(tables: &V, near: &mut RangePart, c: char) -> O
     }
 }
 
-/// The four bytes of a scalar's range pointer, if it has one. The run keeps the pointers of its range.
+/// Returns the four bytes of a scalar's range pointer, if any, and keeps its range in `near`.
 #[inline(always)]
 fn near_range_bytes_of<V: EncoderTables>(
     tables: &V,
@@ -155,8 +157,9 @@ fn near_range_bytes_of<V: EncoderTables>(
     }
 }
 
-/// The four bytes of a common scalar that has no lead and trail in GB18030, if it has them: the index of these is not
-/// asked. The run keeps the pointers of its range.
+/// Returns the four bytes of a scalar that has no lead and trail in index gb18030.
+///
+/// The index is not searched. The result may be `None` for any scalar. `near` keeps the range.
 #[inline(always)]
 #[tactic(auto, unfolding(legacy_base::specs::Gb18030::gb18030_code))]
 fn four_past_pairs_of<V: EncoderTables>(
@@ -180,7 +183,7 @@ fn four_past_pairs_of<V: EncoderTables>(
     near_range_bytes_of(tables, near, c)
 }
 
-/// The four bytes of a scalar past ASCII, or the scalar as unmappable.
+/// Returns the four bytes of a scalar past ASCII, or the scalar as unmappable.
 #[inline(always)]
 fn four_or_unmappable<V: EncoderTables>(tables: &V, c: char) -> EncoderMove
     ensures { IsCode (option_map gb18030_range_bytes
@@ -192,7 +195,7 @@ fn four_or_unmappable<V: EncoderTables>(tables: &V, c: char) -> EncoderMove
     }
 }
 
-/// What a scalar leads to in GB18030.
+/// Returns what GB18030 writes for a scalar.
 #[inline(always)]
 #[tactic(auto, unfolding(legacy_base::specs::Gb18030::gb18030_code))]
 fn gb18030_code_of<V: EncoderTables>(tables: &V, c: char) -> EncoderMove
@@ -212,7 +215,7 @@ fn gb18030_code_of<V: EncoderTables>(tables: &V, c: char) -> EncoderMove
     }
 }
 
-/// What a scalar past ASCII leads to in GB18030, where it has no lead and trail: the index of these is not asked.
+/// Returns what GB18030 writes for a scalar past ASCII without a lead and trail in the index.
 #[inline(always)]
 #[tactic(auto, unfolding(legacy_base::specs::Gb18030::gb18030_code))]
 fn past_pairs_of<V: EncoderTables>(tables: &V, c: char) -> EncoderMove
@@ -232,7 +235,7 @@ fn past_pairs_of<V: EncoderTables>(tables: &V, c: char) -> EncoderMove
     }
 }
 
-/// What a scalar leads to in GBK.
+/// Returns what GBK writes for a scalar.
 #[inline(always)]
 #[tactic(auto, unfolding(legacy_base::specs::Gb18030::gbk_code))]
 fn gbk_code_of<V: EncoderTables>(tables: &V, c: char) -> EncoderMove
@@ -255,7 +258,7 @@ fn gbk_code_of<V: EncoderTables>(tables: &V, c: char) -> EncoderMove
     }
 }
 
-/// What a scalar leads to in GB18030 or in GBK.
+/// Returns what GB18030 or GBK writes for a scalar.
 #[inline(always)]
 fn any_code_of<V: EncoderTables>(tables: &V, extended_range: bool, c: char) -> EncoderMove
     ensures { IsCode ((encoder_profile (gb18030_codec (V.indexes tables.now).flat
@@ -268,7 +271,7 @@ fn any_code_of<V: EncoderTables>(tables: &V, extended_range: bool, c: char) -> E
     }
 }
 
-/// Two bytes and as many times more as there are code units.
+/// Returns two more than twice the length.
 fn two_and_twice(length: usize) -> Option<usize>
     ensures { result ≡ answer (number 2 ⊕ number 2 ⊗ number length) }
 {
@@ -310,7 +313,7 @@ impl PlainEncoder for Gb18030Encoder<'_> {
     }
 }
 
-/// The codes of GB18030 or of GBK by the tables as they are kept, alone or beside a list of the pairs.
+/// The codes of GB18030 or of GBK by one kind of tables, alone or beside a list of the pairs.
 #[derive(Drop)]
 struct Gb18030Codes<'a, V: EncoderTables, const EXTENDED: bool, const LISTED: bool> {
     tables: &'a V,
@@ -334,15 +337,15 @@ impl<V: EncoderTables, const EXTENDED: bool, const LISTED: bool> PlainCodes
         any_code_of(self.tables, EXTENDED, c)
     }
 
-    // With a list, `four_past_pairs` has the forms of four bytes, and what is left is rare.
+    // With a list, `four_past_pairs` has the codes of four bytes, and other codes are rare.
     #[inline(always)]
     fn goes_past_pairs(&self) -> bool {
         !LISTED
     }
 }
 
-/// Reads ahead in GB18030 or in GBK, by the tables as they are kept. Answers where the bytes end.
-// Neither loop has anything of the other: four bytes beside two would be told apart at each character.
+/// Reads ahead in GB18030 or GBK by one kind of tables, and returns the place after the bytes.
+// Each has its own loop. One loop for both would test for four bytes at each character.
 #[inline(always)]
 fn read_by<V: EncoderTables, S: Source>(
     tables: &V,
@@ -389,7 +392,7 @@ impl<V: EncoderTables, const EXTENDED: bool, const LISTED: bool> PastPairs
     }
 }
 
-/// Reads ahead in GB18030 by the pairs of a list, and by the tables as they are kept. Answers where the bytes end.
+/// Reads ahead in GB18030 by the pairs of a list, and returns the place after the bytes.
 #[inline(always)]
 fn read_listed_by<V: EncoderTables, S: Source>(
     tables: &V,
@@ -426,7 +429,7 @@ impl EncodesPairs for Gb18030Encoder<'_> {
         ask_rows(self, self.tables.gb18030_rows(), pairs);
     }
 
-    // The forms of four bytes are made by the tables as they are kept. GBK has none.
+    // The tables give the codes of four bytes. GBK has none.
     #[inline]
     fn read_with<S: Source>(
         &self,

@@ -1,5 +1,6 @@
-//! The list of the pairs of GB18030 and of GBK: by a walk over the index, and by single look-ups of the scalars that
-//! have another code than their pointer's.
+//! The list of the pairs of GB18030 and GBK: a walk over the index, and look-ups of other scalars.
+//!
+//! The look-ups are of the scalars that have another code than that of their pointer.
 ghost use Rattle.std.specs.Prelude.{◌≡◌, ℕ, Bool, length};
 ghost use Rattle.legacy_encoder_engine.specs.CachedPairs.{AreRightWhere};
 ghost use Rattle.legacy_chinese.specs.Gb18030List.{gb18030_mark, gb18030_mark-some, or_in_rows};
@@ -8,7 +9,7 @@ use legacy_encoder_engine::asked_pairs::ask_pairs;
 use legacy_encoder_engine::plain_codes::PlainCodes;
 use legacy_tables::Marks;
 
-/// The lead and the trail of a pointer as one number.
+/// The lead and the trail of a pointer, as one number.
 pub(super) struct Gb18030Marks;
 
 impl Marks for Gb18030Marks {
@@ -23,7 +24,7 @@ impl Marks for Gb18030Marks {
     ghost some = { gb18030_mark-some };
 }
 
-/// Looks up the codes of the scalars of private-use rows.
+/// Looks up the codes of the scalars of private-use rows, and writes their entries.
 pub(super) fn ask_rows<C: PlainCodes>(codes: &C, rows: &[(u16, u8, u8)], pairs: &mut [u16])
     requires { length pairs.old ≡ 65536 }
     ensures { (done : ℕ → Bool) → AreRightWhere (C.codec codes.now) done pairs.old →

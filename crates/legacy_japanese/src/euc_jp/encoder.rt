@@ -34,7 +34,7 @@ fn pair<V: EncoderTables>(tables: &V, c: char) -> Option<(u8, u8)>
     }
 }
 
-/// The lead and the trail of a pointer as one number.
+/// The lead and the trail of a pointer, as one number.
 struct EucJpMarks;
 
 impl Marks for EucJpMarks {

@@ -1,5 +1,4 @@
-//! The encoder of ISO-2022-JP that looks no pair up: those of all scalars below U+10000 are listed once, ahead, in room
-//! that the user lends.
+//! The encoder of ISO-2022-JP that reads pairs from a list, in memory that the user lends.
 ghost use Rattle.std.specs.Prelude.{◌≡◌, ◌≢◌, ℕ, ◌+◌, ◌<◌, ◌≤◌, Bool, length, take, true};
 ghost use Rattle.std.specs.Prelude.{MatchOption};
 ghost use Rattle.legacy_text.specs.EncodingForm.{total_unit_count};
@@ -20,7 +19,7 @@ use legacy_encoder_engine::moves::{EncoderMove, EncoderMoves};
 use legacy_tables::{EncoderTables, Marks};
 use legacy_text::TextCursor;
 
-/// The entry of a scalar: the lead of its pair in the low byte and the trail in the high one, and 0 where it has none.
+/// Returns the pair of a scalar as one number, with the lead in the low byte, or 0 if it has none.
 fn pair_entry(tables: &Tables, c: char) -> u16
     ensures right { IsPairEntry (iso_2022_jp tables.now.flat.jis0208 tables.now.flat.katakana) c
         result }
@@ -34,7 +33,7 @@ fn pair_entry(tables: &Tables, c: char) -> u16
     }
 }
 
-/// The entry of a number: that of the scalar, and 0 if it is none.
+/// Returns the entry of the scalar of a number, or 0 if it is not a scalar value.
 fn entry_of(tables: &Tables, code: u32) -> u16
     ensures { IsListedEntry tables.now.flat.jis0208 tables.now.flat.katakana code result }
 {
@@ -44,7 +43,7 @@ fn entry_of(tables: &Tables, code: u32) -> u16
     }
 }
 
-/// Looks up the pairs of the scalars from `first` up to `end`, and writes their entries.
+/// Looks up the pairs of the scalars from `first` to before `end`, and writes their entries.
 fn list_between(tables: &Tables, pairs: &mut [u16], first: u32, end: u32)
     requires all { length pairs.old ≡ 65536 }
     requires rising { first ≤ end }
@@ -61,7 +60,7 @@ fn list_between(tables: &Tables, pairs: &mut [u16], first: u32, end: u32)
     }
 }
 
-/// The lead and the trail of a pointer as one number.
+/// The lead and the trail of a pointer, as one number.
 struct Iso2022JpMarks;
 
 impl Marks for Iso2022JpMarks {
@@ -75,8 +74,10 @@ impl Marks for Iso2022JpMarks {
     ghost some = { iso_2022_jp_mark-some };
 }
 
-/// Lists the pairs of all scalars below U+10000: by a walk over index jis0208, and by single look-ups of the scalars that
-/// have another pair than their pointer's.
+/// Lists the pairs of all scalars below U+10000.
+///
+/// It walks over index jis0208, and looks up the scalars that have another pair than their
+/// pointer's.
 fn list_pairs(tables: &Tables, pairs: &mut [u16])
     requires { length pairs.old ≡ 65536 }
     ensures { ListsPairs tables.now.flat.jis0208 tables.now.flat.katakana pairs.new }
@@ -98,7 +99,7 @@ pub struct ListedPairs<'a, 'b> {
 }
 
 impl ListedPairs<'_, '_> {
-    /// The pair of a scalar as one number, the lead in the low byte; 0 where it has none here.
+    /// Returns the listed pair of a scalar as one number, the lead in the low byte, or 0.
     #[inline(always)]
     fn entry_of(&self, c: char) -> u16
         ensures { result ≢ 0 → IsPairOf self.now.tables.now.flat.jis0208
@@ -111,7 +112,7 @@ impl ListedPairs<'_, '_> {
         self.pairs[code]
     }
 
-    /// The pair of a code unit of UTF-16 as one number, and whether it has one here.
+    /// Returns the pair of a UTF-16 code unit as one number, and whether it has one here.
     #[inline(always)]
     fn unit_pair(&self, unit: u16) -> (u16, bool)
         ensures { result.1 ≡ true → IsPairOf self.now.tables.now.flat.jis0208
@@ -121,8 +122,8 @@ impl ListedPairs<'_, '_> {
         (entry, entry != 0)
     }
 
-    /// Writes the pairs of ten code units from a place on. Answers whether each has one here.
-    // Without a branch between them: nothing is kept where one has none.
+    /// Writes the pairs of ten code units from the place `start` on, and checks that each has one.
+    // There is no branch between them: the caller drops all ten if one has no pair.
     #[inline(always)]
     fn put_ten(&self, dst: &mut [u8], start: usize, units: [u16; 10]) -> bool
         requires { start + 24 ≤ length dst.old }
@@ -141,9 +142,10 @@ impl ListedPairs<'_, '_> {
         is_known
     }
 
-    /// Reads code units of UTF-16 by turns of ten, up to one in which a unit has no pair here, and writes their pairs
-    /// from the place `start` on. Answers where they end.
-    // By a copy of the cursor, which is left where it is where a turn fails.
+    /// Reads UTF-16 code units by turns of ten, and returns the place after their pairs.
+    ///
+    /// The pairs begin at `start`. It stops before a turn in which a code unit has no pair here.
+    // A turn reads by a copy of the cursor, which is dropped if the turn fails.
     #[inline(always)]
     fn read_tens<S: TextCursor>(&self, src: &mut S, dst: &mut [u8], start: usize) -> usize
         requires { start ≤ length dst.old }
@@ -169,7 +171,7 @@ impl ListedPairs<'_, '_> {
         at
     }
 
-    /// What `asked` tells, of a scalar in the list by its entry.
+    /// Returns what the function `asked` returns, by the list if the scalar has a pair in it.
     #[inline]
     fn asked(&self, mode: Mode, c: char) -> (Mode, EncoderMove)
         ensures { Asks self.now.tables.now.flat.jis0208 self.now.tables.now.flat.katakana
@@ -201,7 +203,7 @@ impl Pairs for ListedPairs<'_, '_> {
 impl ReadingLoop for ListedPairs<'_, '_> {
     ghost keeps = { λ listed. KeepsOn (pairs_state listed.tables.now) };
 
-    // A scalar of two-byte mode comes before, as U+3000 is one.
+    // The scalar before is one of two-byte mode, as U+3000 is.
     #[inline(always)]
     fn read<S: TextCursor>(&self, src: &mut S, dst: &mut [u8], start: usize) -> usize {
         let mut at = start;
@@ -214,13 +216,12 @@ impl ReadingLoop for ListedPairs<'_, '_> {
     ghost stays = { λ _ _ _ _. record { keeps = λ _ _ _ underway. underway } };
 }
 
-/// The encoder of ISO-2022-JP that looks no pair up: it writes what `Iso2022JpEncoder` does, and the pairs of all scalars
-/// below U+10000 stand in room that the user lends.
+/// The encoder of ISO-2022-JP with a list of pairs: it writes what `Iso2022JpEncoder` writes.
 ///
-/// To be made it walks once over index jis0208, flat or packed. Then a pair is one load, whatever tables the other
-/// encoder has. It has a mode of its own, which changes as that of the other one does:
-/// behind the last call of a text it is ASCII again, so one after another any number of texts are encoded by it. Copies
-/// of it, each with its mode, encode texts beside each other.
+/// The list has the pairs of all scalars below U+10000, in memory that the user lends. `new` makes
+/// it in one walk over index jis0208, flat or packed. Each pair is then one load, whatever tables
+/// the other encoder has. The encoder has its own mode, which is ASCII after the last call of a
+/// text: it can encode any number of texts, one after another. Each copy has its own mode.
 #[derive(Clone, Copy)]
 pub struct CachedIso2022JpEncoder<'a, 'b> {
     listed: ListedPairs<'a, 'b>,
@@ -230,9 +231,10 @@ pub struct CachedIso2022JpEncoder<'a, 'b> {
 impl<'a, 'b> CachedIso2022JpEncoder<'a, 'b> {
     ghost use Rattle.legacy_japanese.specs.Iso2022JpCached.{cached_state};
 
-    /// An encoder that goes on from where this one is and writes what it would, or `None` exactly where the room is
-    /// below `PAIR_ROOM` entries. The room's first `PAIR_ROOM` entries are written to, whatever is in them. This one
-    /// stays as it is.
+    /// Returns an encoder that continues in the mode of `encoder` and writes what it would write.
+    ///
+    /// The result is `None` exactly if `room` is shorter than `PAIR_ROOM` entries. Otherwise its
+    /// first `PAIR_ROOM` entries are overwritten, whatever they are. `encoder` is unchanged.
     pub fn new(
         encoder: &Iso2022JpEncoder<'a>,
         room: &'b mut [u16],
@@ -251,7 +253,7 @@ impl<'a, 'b> CachedIso2022JpEncoder<'a, 'b> {
         Some(CachedIso2022JpEncoder { listed, mode })
     }
 
-    /// The encoder without the list, in the same mode.
+    /// Returns the encoder without the list, in the same mode.
     #[inline(always)]
     fn without(&self) -> Iso2022JpEncoder<'a>
         ensures { iso_2022_jp_encoder_state result ≡ cached_state self.now }
@@ -260,8 +262,9 @@ impl<'a, 'b> CachedIso2022JpEncoder<'a, 'b> {
         Iso2022JpEncoder { tables, mode }
     }
 
-    /// Whether the mode is not ASCII, so that the end of the text still writes an escape of three bytes. Nothing
-    /// changes.
+    /// Checks whether the end of the text would write an escape, because the mode is not ASCII.
+    ///
+    /// The escape has three bytes. Nothing changes.
     pub fn has_pending_state(&self) -> bool
         ensures { result ≡ is_pending (cached_state self.now) }
     {
@@ -301,7 +304,7 @@ impl EncoderMoves for CachedIso2022JpEncoder<'_, '_> {
         self.mode = Mode::Ascii;
     }
 
-    // The list is copied, so that nothing else refers to where it is told.
+    // The list is copied, so that nothing else refers to it.
     #[inline]
     fn read_ahead<S: Source>(&self, src: &mut S, dst: &mut [u8], at: usize) -> usize {
         match self.mode {

@@ -18,7 +18,7 @@ use legacy_encoder_engine::runs::has_bytes;
 use legacy_tables::{DecoderTables, EncoderTables};
 use legacy_text::{Next, TextCursor, UnitCodes};
 
-/// How the bytes are read that come behind those written so far.
+/// The mode of the encoder: how the next bytes are read.
 #[derive(Clone, Copy)]
 pub enum Mode {
     Ascii,
@@ -27,7 +27,7 @@ pub enum Mode {
 }
 
 impl Mode {
-    /// Whether the modes are the same.
+    /// Checks whether the modes are the same.
     #[inline]
     pub fn is(self, other: Mode) -> bool
         ensures { result ≡ is_same_mode self other }
@@ -40,7 +40,7 @@ impl Mode {
         }
     }
 
-    /// The mode of a scalar that is the same in ASCII mode and in Roman mode, or has no bytes.
+    /// Returns the mode after a scalar that is in both ASCII and Roman mode, or has no bytes.
     #[inline]
     fn settled(self) -> Mode
         ensures { mode_of result ≡ roman_or_ascii (mode_of self) }
@@ -51,7 +51,7 @@ impl Mode {
         }
     }
 
-    /// The escape to the mode.
+    /// Returns the escape to the mode.
     #[inline]
     pub fn escape(self) -> EncoderMove
         ensures { result ≡ escape_move self }
@@ -64,8 +64,10 @@ impl Mode {
     }
 }
 
-/// What is looked up in index jis0208 for a scalar past ASCII: the entry of index katakana for a
-/// half-width letter, the full-width hyphen-minus for the minus sign, and else the scalar itself.
+/// Returns the scalar that is looked up in index jis0208 for a scalar past ASCII.
+///
+/// For half-width katakana it is the entry of index katakana, and for the minus sign U+2212 it is
+/// U+FF0D. Any other scalar is looked up unchanged.
 #[inline]
 fn folded<V: EncoderTables>(tables: &V, c: char) -> Option<char>
     ensures { result ≡ iso_2022_jp_fold (V.indexes tables.now).flat.katakana c }
@@ -77,7 +79,7 @@ fn folded<V: EncoderTables>(tables: &V, c: char) -> Option<char>
     Some(minus_as_hyphen(c))
 }
 
-/// The pointer of a scalar that is looked up as it is.
+/// Returns the pointer of a scalar that is looked up unchanged.
 #[inline(always)]
 fn own_pointer<V: EncoderTables>(tables: &V, c: char) -> Option<usize>
     requires { (0x2213 ≤ c) × (c < 0xFF61) }
@@ -88,7 +90,7 @@ fn own_pointer<V: EncoderTables>(tables: &V, c: char) -> Option<usize>
     tables.euc_jp_pointer(c)
 }
 
-/// The pointer of a scalar past ASCII, or `None` where it has no pair.
+/// Returns the pointer of a scalar past ASCII, or `None` if it has no pair.
 #[inline]
 fn pointer<V: EncoderTables>(tables: &V, c: char) -> Option<usize>
     ensures value { result ≡ iso_2022_jp_pointer_of (V.indexes tables.now).flat.jis0208
@@ -104,7 +106,7 @@ fn pointer<V: EncoderTables>(tables: &V, c: char) -> Option<usize>
     }
 }
 
-/// Whether the scalar is a control that would switch modes, which has no bytes.
+/// Checks whether the scalar is a control that would switch modes, which has no bytes.
 #[inline]
 fn is_control(scalar: u32) -> bool
     ensures { result ≡ is_mode_control scalar }
@@ -112,7 +114,7 @@ fn is_control(scalar: u32) -> bool
     scalar == 0x0E || scalar == 0x0F || scalar == 0x1B
 }
 
-/// Whether the byte is another scalar in Roman mode.
+/// Checks whether the byte is another scalar in Roman mode.
 #[inline]
 fn is_special(scalar: u32) -> bool
     ensures { result ≡ (scalar == 0x5C || scalar == 0x7E) }
@@ -120,7 +122,7 @@ fn is_special(scalar: u32) -> bool
     scalar == 0x5C || scalar == 0x7E
 }
 
-/// Whether a scalar is past ASCII and has no byte in Roman mode.
+/// Checks whether a scalar is past ASCII and has no byte in Roman mode.
 #[inline(always)]
 fn is_looked_up(c: char) -> bool
     ensures { result ≡ true → (0x80 ≤ c) × (c ≢ 0xA5) × (c ≢ 0x203E) }
@@ -132,7 +134,7 @@ fn is_looked_up(c: char) -> bool
     !(scalar < 0x80 || scalar == 0xA5 || scalar == 0x203E)
 }
 
-/// The mode that a scalar asks for where it comes in a mode, and the move that reads it there.
+/// Returns the mode that a scalar needs after this one, and the move that reads it there.
 #[inline]
 pub fn asked<V: EncoderTables>(tables: &V, mode: Mode, c: char) -> (Mode, EncoderMove)
     ensures { Asks (V.indexes tables.now).flat.jis0208 (V.indexes tables.now).flat.katakana
@@ -166,12 +168,12 @@ pub fn asked<V: EncoderTables>(tables: &V, mode: Mode, c: char) -> (Mode, Encode
 
 /// The encoder of ISO-2022-JP (Encoding Standard, "ISO-2022-JP encoder").
 ///
-/// An escape of three bytes switches between ASCII, JIS X 0201 Roman and the pairs of JIS X 0208;
-/// the mode lasts over calls, and the end of the last call goes back to ASCII mode. An escape is an
-/// act of its own: a full output may end behind one, with the scalar that it is for unread. A scalar
-/// that has no bytes is reported in Roman mode where that is the mode, and else in ASCII mode,
-/// behind an escape to it from two-byte mode. U+000E, U+000F and U+001B have no bytes, and are
-/// reported as U+FFFD. The minus sign U+2212 is written as U+FF0D.
+/// An escape of three bytes switches between ASCII, JIS X 0201 Roman and the pairs of JIS X 0208.
+/// The mode lasts over calls, and the end of the last call returns to ASCII mode. An escape is an
+/// act of its own: `OutputFull` may come after it, with its scalar unread. A scalar without bytes
+/// is reported in Roman mode or in ASCII mode, in two-byte mode after an escape to ASCII. U+000E,
+/// U+000F and U+001B have no bytes, and are reported as U+FFFD. The minus sign U+2212 is written as
+/// U+FF0D.
 #[derive(Drop)]
 pub struct Iso2022JpEncoder<'a> {
     pub(crate) tables: &'a Tables<'a>,
@@ -181,9 +183,10 @@ pub struct Iso2022JpEncoder<'a> {
 impl<'a> Iso2022JpEncoder<'a> {
     ghost use Rattle.legacy_japanese.specs.Iso2022JpEncoder.{iso_2022_jp_encoder_state};
 
-    /// An encoder before its first scalar, in ASCII mode. Scalars are looked up in index jis0208 of
-    /// the tables, the half-width katakana U+FF61 to U+FF9F by their entries in index katakana. The
-    /// tables stay borrowed.
+    /// Returns an encoder before its first scalar, in ASCII mode.
+    ///
+    /// It looks scalars up in index jis0208 of the tables, and the half-width katakana U+FF61 to
+    /// U+FF9F by their entries in index katakana.
     pub fn new(tables: &'a Tables<'a>) -> Iso2022JpEncoder<'a>
         ensures { iso_2022_jp_encoder_state result
             ≡ new_encoder (iso_2022_jp tables.now.flat.jis0208 tables.now.flat.katakana) }
@@ -194,8 +197,9 @@ impl<'a> Iso2022JpEncoder<'a> {
         }
     }
 
-    /// Whether the mode is not ASCII, so that the end of the text still writes an escape of three
-    /// bytes. Nothing changes.
+    /// Checks whether the end of the text would write an escape, because the mode is not ASCII.
+    ///
+    /// The escape has three bytes. Nothing changes.
     pub fn has_pending_state(&self) -> bool
         ensures { result ≡ is_pending (iso_2022_jp_encoder_state self.now) }
     {
@@ -249,7 +253,7 @@ impl EncoderMoves for Iso2022JpEncoder<'_> {
     }
 }
 
-/// What reads a scalar in ASCII mode, if it has its bytes there.
+/// Returns the move that reads a scalar in ASCII mode, if it has its bytes there.
 #[inline(always)]
 fn ascii_code(c: char) -> Option<EncoderMove>
     ensures { (jis0208 katakana : List ℕ) →
@@ -262,7 +266,7 @@ fn ascii_code(c: char) -> Option<EncoderMove>
     Some(EncoderMove::One(scalar as u8))
 }
 
-/// What reads a scalar in Roman mode, if it has its bytes there.
+/// Returns the move that reads a scalar in Roman mode, if it has its bytes there.
 #[inline]
 fn roman_code<V: EncoderTables>(tables: &V, c: char) -> Option<EncoderMove>
     ensures { IfSome result (λ own. ReadsThere (V.indexes tables.now).flat.jis0208
@@ -278,7 +282,7 @@ fn roman_code<V: EncoderTables>(tables: &V, c: char) -> Option<EncoderMove>
     Some(own)
 }
 
-/// Writes the lead and the trail of a pointer from a place on.
+/// Writes the lead and the trail of a pointer from the place `at` on.
 #[inline(always)]
 fn put_pointer(dst: &mut [u8], at: usize, pointer: usize)
     requires room { at + 2 ≤ length dst.old }
@@ -294,7 +298,7 @@ fn put_pointer(dst: &mut [u8], at: usize, pointer: usize)
     );
 }
 
-/// Whether one of the bytes is a control that would switch modes.
+/// Checks whether one of the bytes is a control that would switch modes.
 #[inline(always)]
 fn has_control(bytes: &[u8]) -> bool
     ensures { result ≡ false → (k : ℕ) → k < length bytes.now →
@@ -309,7 +313,7 @@ fn has_control(bytes: &[u8]) -> bool
     found
 }
 
-/// Whether both tests hold, of which both are made.
+/// Checks whether both tests hold. Both are made, without a branch.
 #[inline(always)]
 fn both(first: bool, second: bool) -> bool
     ensures { result ≡ true → (first ≡ true) × (second ≡ true) }
@@ -317,7 +321,7 @@ fn both(first: bool, second: bool) -> bool
     first & second
 }
 
-/// The code units that are written as themselves in ASCII mode.
+/// The code units that are written unchanged in ASCII mode.
 #[derive(Drop)]
 struct AsciiUnits;
 
@@ -326,7 +330,7 @@ impl UnitCodes for AsciiUnits {
 
     ghost gives = { λ _. IsOwnByte };
 
-    // Without a branch: sixteen units are tested at once.
+    // There is no branch, so that sixteen code units are tested at once.
     #[inline(always)]
     fn byte_of(&self, unit: u16) -> (u8, bool) {
         let is_known = both(unit < 0x80, !is_control(u32::from(unit)));
@@ -334,7 +338,7 @@ impl UnitCodes for AsciiUnits {
     }
 }
 
-/// The codes of a mode, by the tables as they are kept.
+/// The codes of a mode, by one kind of tables.
 #[derive(Drop)]
 struct CodesInMode<'a, V: EncoderTables> {
     tables: &'a V,
@@ -347,7 +351,7 @@ impl<V: EncoderTables> CodesInMode<'_, V> {
     ghost use Rattle.legacy_encoder_engine.specs.UnderWay.{KeepsOn, PutsCode};
     ghost use Rattle.legacy_japanese.specs.Iso2022JpEncoder.{ReadsThere, mode_of, state_by};
 
-    /// What reads a scalar in the mode, if that is one of single bytes and it has its byte there.
+    /// Returns the move that reads a scalar in a mode of single bytes, if it has its byte there.
     #[inline(always)]
     fn code_of(&self, c: char) -> Option<EncoderMove>
         ensures { IfSome result (λ own. ReadsThere (V.indexes self.now.tables.now).flat.jis0208
@@ -360,8 +364,9 @@ impl<V: EncoderTables> CodesInMode<'_, V> {
         }
     }
 
-    /// Writes the byte of a scalar that is next, and answers where it ends; `None` where the scalar has none, wants
-    /// an escape or has two.
+    /// Writes the byte of the next scalar, and returns the place after it.
+    ///
+    /// The result is `None` if the scalar has no bytes or two, or needs an escape.
     #[inline(always)]
     fn put_here(&self, dst: &mut [u8], at: usize, c: char) -> Option<usize>
         requires { at + 3 ≤ length dst.old }
@@ -375,9 +380,10 @@ impl<V: EncoderTables> CodesInMode<'_, V> {
         }
     }
 
-    /// Reads code units in ASCII mode by blocks, and writes their bytes from the place `start` on. Answers where
-    /// they end.
-    // A scalar is read where any fits, so the last two bytes of the output stay free.
+    /// Reads blocks of code units in ASCII mode, and returns the place after their bytes.
+    ///
+    /// The bytes begin at `start`.
+    // A scalar is only read if any would fit, so the last two bytes of the output stay free.
     #[inline(always)]
     fn copy_blocks<S: TextCursor>(&self, src: &mut S, dst: &mut [u8], start: usize) -> usize
         requires start { start ≤ length dst.old }
@@ -397,10 +403,11 @@ impl<V: EncoderTables> CodesInMode<'_, V> {
         start + src.copy_codes(&AsciiUnits, &mut dst[..limit], start)
     }
 
-    /// Reads at most 256 bytes of ASCII, where none is a control, and writes them from the place `start` on. Answers
-    /// where they end.
-    // By a copy of the cursor, which is left where it is if a control is among what was copied: so little is copied
-    // in vain, however many controls there are.
+    /// Reads at most 256 bytes of ASCII without a control, and returns the place after them.
+    ///
+    /// They are written from the place `start` on.
+    // It reads by a copy of the cursor, which is dropped if a control was copied. So little is copied
+    // without use, however many controls there are.
     #[inline(always)]
     fn copy_piece<S: TextCursor>(&self, src: &mut S, dst: &mut [u8], start: usize) -> usize
         requires start { start ≤ length dst.old }
@@ -426,10 +433,11 @@ impl<V: EncoderTables> CodesInMode<'_, V> {
         start + count
     }
 
-    /// Reads ASCII up to the end of one block of sixteen bytes, where none of these is a control, and writes it from
-    /// the place `start` on. Answers where it ends.
-    // Between pairs most ASCII is that short. All sixteen bytes are tested, also those behind the ASCII: so the test
-    // has no loop.
+    /// Reads ASCII up to the end of one block of sixteen bytes, and returns the place after it.
+    ///
+    /// It is written from the place `start` on. A block with a control is not read.
+    // Most ASCII between pairs is that short. All sixteen bytes are tested, also those after the ASCII, so
+    // that the test has no loop.
     #[inline(always)]
     fn copy_block<S: TextCursor>(&self, src: &mut S, dst: &mut [u8], start: usize) -> usize
         requires start { start ≤ length dst.old }
@@ -455,8 +463,9 @@ impl<V: EncoderTables> CodesInMode<'_, V> {
         start + count
     }
 
-    /// Reads ASCII in ASCII mode as it goes by blocks, and writes it from the place `start` on. Answers where it
-    /// ends.
+    /// Reads ASCII in ASCII mode as the source's blocks allow, and returns the place after it.
+    ///
+    /// It is written from the place `start` on.
     #[inline(always)]
     fn copy_ascii<S: TextCursor>(&self, src: &mut S, dst: &mut [u8], start: usize) -> usize
         requires start { start ≤ length dst.old }
@@ -485,9 +494,10 @@ impl<V: EncoderTables> CodesInMode<'_, V> {
         }
     }
 
-    /// Reads scalars of one code unit that have a byte in the mode, and writes these from the place `start` on.
-    /// Answers where they end.
-    // In ASCII mode no others have bytes, and in Roman mode two: so it is a loop of few tests.
+    /// Reads scalars of one code unit with a byte in the mode, and returns where their bytes end.
+    ///
+    /// They are written from the place `start` on.
+    // No other scalars have bytes in ASCII mode, and two have in Roman mode: so the loop has few tests.
     #[inline(always)]
     fn read_short<S: TextCursor>(&self, src: &mut S, dst: &mut [u8], start: usize) -> usize
         requires { start ≤ length dst.old }
@@ -522,7 +532,7 @@ impl<V: EncoderTables> ReadingLoop for CodesInMode<'_, V> {
 
     ghost keeps = { λ codes. KeepsOn (state_by (V.indexes codes.tables.now) codes.mode) };
 
-    // Up to a scalar that wants an escape or has no bytes.
+    // It stops before a scalar that needs an escape or has no bytes.
     #[inline(always)]
     fn read<S: TextCursor>(&self, src: &mut S, dst: &mut [u8], start: usize) -> usize {
         match self.mode {
@@ -541,7 +551,7 @@ impl<V: EncoderTables> ReadingLoop for CodesInMode<'_, V> {
     ghost stays = { λ _ _ _ _. record { keeps = λ _ _ _ underway. underway } };
 }
 
-/// Pairs that are searched for in tables.
+/// The pairs, which are searched for in tables.
 #[derive(Drop)]
 struct SearchedPairs<'a, V: EncoderTables> {
     tables: &'a V,
@@ -550,8 +560,8 @@ struct SearchedPairs<'a, V: EncoderTables> {
 impl<V: EncoderTables> Pairs for SearchedPairs<'_, V> {
     ghost indexes = { λ p. V.indexes p.tables.now };
 
-    // What is looked up as it is comes first, by a way of its own: where two ways met, the compiler would no longer
-    // know how great a pointer can be.
+    // Scalars that are looked up unchanged have a way of their own. If two ways met, the compiler
+    // would not know the bound of the pointer.
     #[inline(always)]
     fn put_pair(&self, dst: &mut [u8], at: usize, c: char) -> Option<usize> {
         if is_by_index(c) {

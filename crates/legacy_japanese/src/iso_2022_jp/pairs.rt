@@ -1,4 +1,4 @@
-//! The loop of ISO-2022-JP's encoder in two-byte mode, over pairs that are found in any way.
+//! The loop of ISO-2022-JP's encoder in two-byte mode, for any way of finding pairs.
 ghost use Rattle.std.specs.Prelude.{◌≡◌, ◌+◌, ◌≤◌, length, take, MatchOption};
 ghost use Rattle.legacy_text.specs.EncodingForm.{total_unit_count};
 ghost use Rattle.legacy_tables.specs.AcceptedTables.{AcceptedIndexes};
@@ -7,13 +7,15 @@ ghost use Rattle.legacy_japanese.specs.Iso2022JpEncoder.{pairs_state};
 
 use legacy_text::{Next, TextCursor};
 
-/// How the pairs of scalars are found.
+/// A way of finding the pairs of scalars.
 pub trait Pairs {
-    /// The tables that say which pair a scalar has.
+    /// The tables by which a scalar has a pair.
     ghost indexes: { Self → AcceptedIndexes };
 
-    /// Writes the pair of a scalar that is next in two-byte mode, and answers where it ends; `None` where the
-    /// scalar has none here, or wants an escape. Any scalar may have none here: it is left to the moves.
+    /// Writes the pair of the next scalar in two-byte mode, and returns the place after it.
+    ///
+    /// The result is `None` if the scalar has no pair here or needs an escape. It may be `None` for
+    /// any scalar, which is then left to the moves.
     fn put_pair(&self, dst: &mut [u8], at: usize, c: char) -> Option<usize>
         requires { at + 3 ≤ length dst.old }
         ensures { MatchOption result (take at dst.new ≡ take at dst.old)
@@ -21,8 +23,9 @@ pub trait Pairs {
             (take end dst.new) end) };
 }
 
-/// Reads scalars in two-byte mode, up to one that wants an escape or has no pair here, and writes their pairs from
-/// the place `start` on. Answers where they end.
+/// Reads scalars in two-byte mode, and returns the place after their pairs, which begin at `start`.
+///
+/// It stops before a scalar that needs an escape or has no pair here.
 #[inline(always)]
 pub fn read_pairs<P: Pairs, S: TextCursor>(
     pairs: &P,

@@ -37,7 +37,7 @@ fn pair<V: EncoderTables>(tables: &V, c: char) -> Option<(u8, u8)>
     }
 }
 
-/// The lead and the trail of a pointer as one number.
+/// The lead and the trail of a pointer, as one number.
 struct ShiftJisMarks;
 
 impl Marks for ShiftJisMarks {

@@ -1,6 +1,6 @@
-//! The blocks of single-byte text: ASCII with single bytes past it, and eight bytes at a time if many are.
-// Inlined always is what runs for each form or block: a call would pass vectors through memory, and put the
-// destination's place there from form to form.
+//! Decodes blocks of single-byte text: ASCII with single bytes past it, or eight bytes at a time.
+// Functions that run for each block are always inlined. A call would pass vectors through memory,
+// and keep the destination's place there.
 ghost use Rattle.std.specs.Prelude.{◌≡◌, ◌≢◌, ◌+◌, ◌<◌, ◌≤◌, ◌++◌, ℕ, All, true, false, length, take, slice_index};
 ghost use Rattle.std.specs.Char.{IsScalar};
 ghost use Rattle.legacy_text.specs.EncodingForm.{all_code_units, total_unit_count};
@@ -13,7 +13,7 @@ use legacy_base::Destination;
 use legacy_text::are_all_below;
 use std::simd::prelude::*;
 
-/// Whether one of the first eight bytes is past ASCII.
+/// Checks whether one of the first eight bytes is past ASCII.
 #[inline(always)]
 fn has_past_ascii(src: &[u8]) -> bool
     requires { 8 ≤ length src.now }
@@ -53,13 +53,15 @@ fn put_units<T: Destination>(dst: &mut T, units: u16x8)
     }
 }
 
-/// Parts of a text that stand one behind the other.
+/// A kind of part that a text consists of, one after another.
 trait Parts {
     /// The grammar.
     ghost grammar: { Self → Grammar };
 
-    /// Reads the part at the front, or nothing, and at most so many bytes. More stand there, so that whole vectors can be
-    /// loaded. Returns how many bytes were read, and whether another part may stand behind them.
+    /// Reads the part at the front, or nothing, and at most `most` bytes.
+    ///
+    /// `src` is longer than 64 bytes, so that whole vectors can be loaded. Returns the number of
+    /// bytes read, and whether another part may follow.
     fn read_part<T: Destination>(&self, src: &[u8], most: usize, dst: &mut T) -> (usize, bool)
         requires source { 64 < length src.now }
         requires room { 70 ≤ T.room dst.old }
@@ -69,8 +71,9 @@ trait Parts {
         ensures goes_on { result.1 ≡ true → 0 < result.0 };
 }
 
-/// Reads parts from the front, as long as another may stand behind and as more than 64 bytes are left, at most so many
-/// bytes. Returns how many were read: none is an answer too.
+/// Reads parts from the front, at most `most` bytes, and returns the number of bytes read.
+///
+/// It ends at a part that no other may follow, or if at most 64 bytes are left.
 #[inline(always)]
 fn read_parts<P: Parts, T: Destination>(parts: &P, src: &[u8], most: usize, dst: &mut T) -> usize
     ensures most { result ≤ most }
@@ -88,9 +91,9 @@ fn read_parts<P: Parts, T: Destination>(parts: &P, src: &[u8], most: usize, dst:
     at
 }
 
-/// ASCII, and bytes past it that stand alone.
-// A whole block is stored, and what stands behind its ASCII front is written over it: so no jump hangs on where the next
-// byte past ASCII stands, which no processor foresees.
+/// ASCII, and bytes past it without another one beside them.
+// A whole block is stored, and the output after its ASCII front is overwritten. So no branch depends
+// on the place of the next byte past ASCII, which no processor predicts.
 #[derive(Drop)]
 struct Fronts<'a> {
     scalars: &'a ByteScalars<'a>,
@@ -99,7 +102,7 @@ struct Fronts<'a> {
 impl Parts for Fronts<'_> {
     ghost grammar = { λ fronts. single_byte fronts.scalars.now.table.now.entries };
 
-    /// Reads the ASCII of the first 64 bytes, and the byte behind it if it stands alone.
+    /// Reads the ASCII of the first 64 bytes, and the byte after it if the next one is ASCII.
     #[inline(always)]
     fn read_part<T: Destination>(&self, src: &[u8], most: usize, dst: &mut T) -> (usize, bool) {
         let count = dst.put_front(src, most);
@@ -119,15 +122,16 @@ impl Parts for Fronts<'_> {
     }
 }
 
-/// Eight bytes at a time, whatever they are.
+/// Eight bytes at a time, of any kind.
 #[derive(Drop)]
 struct Eights<'a> {
     scalars: &'a ByteScalars<'a>,
 }
 
 impl Eights<'_> {
-    /// Decodes up to so many bytes, eight at the most, one by one, up to one that has no scalar. Returns the number of
-    /// bytes read.
+    /// Decodes at most `most` bytes one by one, and returns the number of bytes read.
+    ///
+    /// It stops before a byte that has no scalar. `most` is at most 8.
     #[inline(always)]
     fn read_singly<T: Destination>(&self, src: &[u8], most: usize, dst: &mut T) -> usize
         requires most { most ≤ 8 }
@@ -153,7 +157,9 @@ impl Eights<'_> {
 impl Parts for Eights<'_> {
     ghost grammar = { λ eights. single_byte eights.scalars.now.table.now.entries };
 
-    /// Decodes up to a byte that has no scalar, and goes on if one of the next eight bytes is past ASCII.
+    /// Decodes up to a byte that has no scalar.
+    ///
+    /// Another part may follow if one of the next eight bytes is past ASCII.
     // If each scalar is one code unit, eight puts are faster than a vector of entries.
     #[inline(always)]
     fn read_part<T: Destination>(&self, src: &[u8], most: usize, dst: &mut T) -> (usize, bool) {
@@ -182,7 +188,7 @@ struct Mixed<'a> {
 impl Parts for Mixed<'_> {
     ghost grammar = { λ mixed. single_byte mixed.scalars.now.table.now.entries };
 
-    /// Reads ASCII with single bytes past it, and behind it eights with more of them.
+    /// Reads ASCII with single bytes past it, and then eights with more of them.
     #[inline(always)]
     fn read_part<T: Destination>(&self, src: &[u8], most: usize, dst: &mut T) -> (usize, bool) {
         let scalars = self.scalars;
@@ -192,7 +198,7 @@ impl Parts for Mixed<'_> {
     }
 }
 
-/// Up to 64 bytes, with zeros behind them.
+/// Returns at most 64 bytes, with zeros after them.
 #[inline(always)]
 fn padded(src: &[u8]) -> [u8; 128]
     requires { length src.now ≤ 64 }
@@ -203,7 +209,7 @@ fn padded(src: &[u8]) -> [u8; 128]
     padded
 }
 
-/// Whether one of the first two bytes has no scalar. Behind a fault often comes the next one: then no block is begun.
+/// Checks whether one of the first two bytes has no scalar. Such bytes are often followed by more.
 #[inline(always)]
 fn begins_rare(scalars: &ByteScalars, src: &[u8]) -> bool {
     if src.len() < 2 {
@@ -212,9 +218,10 @@ fn begins_rare(scalars: &ByteScalars, src: &[u8]) -> bool {
     matches!(scalars.scalar(src[0]), None) || matches!(scalars.scalar(src[1]), None)
 }
 
-/// Decodes text from the front, as far as 70 code units are free, and up to a byte that has no scalar. Returns how many
-/// bytes were read: none is an answer too.
-// The last 64 bytes go by an array, in which as many stand behind them: so short pieces are fast too.
+/// Decodes text from the front, and returns the number of bytes read.
+///
+/// It stops before a byte that has no scalar, and if fewer than 70 code units are free.
+// The last 64 bytes are copied into an array with as many bytes after them: this makes short pieces fast.
 #[inline(always)]
 pub fn read_text<T: Destination>(scalars: &ByteScalars, src: &[u8], dst: &mut T) -> usize
     ensures { ReadsAhead T.Destination (new_state (single_byte scalars.now.table.now.entries))

@@ -16,14 +16,14 @@ use std::simd::prelude::*;
 
 /// The decoder of a single-byte encoding (Encoding Standard, "single-byte decoder").
 ///
-/// ASCII bytes are themselves, and byte 0x80 + `p` is the scalar at place `p` of the table. A byte that
-/// has none is a malformed sequence. No byte is held back.
+/// An ASCII byte decodes to itself, and byte 0x80 + `p` to the scalar at place `p` of the table. A
+/// byte without a scalar is a malformed sequence. No byte is held back.
 #[derive(Drop)]
 pub struct SingleByteDecoder<'a> {
     scalars: ByteScalars<'a>,
 }
 
-/// What a byte leads to.
+/// Returns what a byte decodes to.
 #[inline]
 fn read_byte(table: &SingleByteTable, byte: u8) -> Fed
     ensures { Took (single_byte_first table.now.entries byte) [] byte result [] }
@@ -41,7 +41,7 @@ fn read_byte(table: &SingleByteTable, byte: u8) -> Fed
     }
 }
 
-/// Whether the byte decodes to the scalar of the same number.
+/// Checks whether the byte decodes to the scalar of the same number.
 #[inline]
 fn is_latin1(table: &SingleByteTable, byte: u8) -> bool
     ensures { result ≡ is_latin1_byte table.now.entries byte }
@@ -49,7 +49,7 @@ fn is_latin1(table: &SingleByteTable, byte: u8) -> bool
     byte < 0x80 || table.scalar(usize::from(byte - 0x80)) == Some(char::from(byte))
 }
 
-/// How many bytes at the front are in whole blocks of 16 ASCII bytes.
+/// Returns the number of bytes at the front that are in whole blocks of 16 ASCII bytes.
 #[inline]
 fn ascii_blocks(bytes: &[u8]) -> usize
     ensures within { result ≤ length bytes.now }
@@ -71,7 +71,7 @@ fn ascii_blocks(bytes: &[u8]) -> usize
 impl<'a> SingleByteDecoder<'a> {
     ghost use Rattle.legacy_single_byte.specs.SingleByteDecoder.{single_byte_entries, single_byte_state};
 
-    /// A decoder before its first byte, which reads the bytes from 0x80 on by the table.
+    /// Returns a decoder before its first byte, which reads bytes from 0x80 on by the table.
     pub fn new(table: &'a SingleByteTable) -> SingleByteDecoder<'a>
         ensures state { single_byte_state result ≡ new_state (single_byte table.now.entries) }
         ensures entries { single_byte_entries result ≡ table.now.entries }
@@ -81,9 +81,10 @@ impl<'a> SingleByteDecoder<'a> {
         }
     }
 
-    /// How many bytes stand at the front of `bytes` that each decode to the scalar of the same number, as
-    /// all bytes do in Latin-1: `bytes.len()` where all of them do. ASCII bytes always do. The decoder is
-    /// unchanged.
+    /// Returns the number of bytes at the front of `bytes` that decode as in Latin-1.
+    ///
+    /// Each of them decodes to the scalar of the same number, as every ASCII byte does. The result
+    /// is `bytes.len()` if all bytes do. The decoder is unchanged.
     pub fn latin1_byte_compatible_up_to(&self, bytes: &[u8]) -> usize
         ensures { result ≡ length (latin1_front (single_byte_entries self.now) bytes.now) }
     {
@@ -146,7 +147,7 @@ impl DecoderMoves for SingleByteDecoder<'_> {
         read + read_common_forms(self, &src[read..], dst)
     }
 
-    // Written here, since a provided body is not inlined always.
+    // A provided body would not always be inlined.
     #[inline(always)]
     fn read_runs<T: Destination>(&mut self, src: &[u8], dst: &mut T) -> usize {
         self.read_ahead(src, dst)

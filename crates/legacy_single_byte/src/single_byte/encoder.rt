@@ -14,9 +14,9 @@ use legacy_encoder_engine::runs::read_runs;
 
 /// The encoder of a single-byte encoding (Encoding Standard, "single-byte encoder").
 ///
-/// ASCII is itself, and a scalar that the table holds at place `p` is byte 0x80 + `p`. All other scalars
-/// are unmappable. Of the table a run is known, in which the scalars follow each other: most scalars of
-/// a text are in it, and are not looked for.
+/// An ASCII scalar is encoded as itself, and the scalar at place `p` of the table as byte 0x80 +
+/// `p`. All other scalars are unmappable. The encoder knows a run of the table in which the scalars
+/// are consecutive: it does not search for these.
 #[derive(Drop)]
 pub struct SingleByteEncoder<'a> {
     table: &'a SingleByteTable,
@@ -28,7 +28,7 @@ pub struct SingleByteEncoder<'a> {
     ghost is_run: { IsRun table.now.entries run_bmp_offset run_byte_offset run_length },
 }
 
-/// The place of a scalar past ASCII, if the table has it.
+/// Returns the place of a scalar past ASCII, if it is in the table.
 fn place_of(table: &SingleByteTable, c: char) -> Option<usize>
     requires { 0x80 ≤ c }
     ensures value { result ≡ position (λ entry. entry == c) table.now.entries }
@@ -37,7 +37,7 @@ fn place_of(table: &SingleByteTable, c: char) -> Option<usize>
     table.place(c)
 }
 
-/// The unit where it is ASCII, and else the byte.
+/// Returns the code unit if it is ASCII, and the byte otherwise.
 #[inline(always)]
 fn ascii_or(unit: u16, byte: u8) -> u8
     ensures ascii { unit < 0x80 → result ≡ unit }
@@ -46,7 +46,7 @@ fn ascii_or(unit: u16, byte: u8) -> u8
     if unit < 0x80 { unit as u8 } else { byte }
 }
 
-/// Whether one of two tests holds, of which both are made.
+/// Checks whether one of two tests holds. Both are made, without a branch.
 #[inline(always)]
 fn either(first: bool, second: bool) -> bool
     ensures some { result ≡ true → first ≡ false → second ≡ true }
@@ -58,10 +58,15 @@ fn either(first: bool, second: bool) -> bool
 impl<'a> SingleByteEncoder<'a> {
     ghost use Rattle.legacy_single_byte.specs.SingleByteEncoder.{single_byte_encoder_state};
 
-    /// An encoder before its first scalar, which writes by the table. Of the table the places from
-    /// `run_byte_offset` on, `run_length` of them, hold the scalars from `run_bmp_offset` upwards; or
-    /// the first fault: the run starts before place 32, it ends past 128, or a place holds another value,
-    /// of which the first is told. It takes no memory.
+    /// Returns an encoder before its first scalar, which writes by the table and knows this run.
+    ///
+    /// The `run_length` places from `run_byte_offset` on must contain the scalars from
+    /// `run_bmp_offset` upwards. Otherwise the result is the first fault of these:
+    ///
+    /// - `RunStart`: the run starts before place 32.
+    /// - `RunPastEnd`: the run ends past place 128.
+    /// - `RunMismatch(place)`: the table has another value at the place, which is the first such
+    ///   one.
     pub fn new(
         table: &'a SingleByteTable,
         run_bmp_offset: u16,
@@ -84,8 +89,9 @@ impl<'a> SingleByteEncoder<'a> {
         })
     }
 
-    /// An encoder before its first scalar, which writes by the table. Its run is a longest one of the
-    /// table's letters, as `SingleByteRun::longest` finds it. It takes no memory.
+    /// Returns an encoder before its first scalar, which writes by the table.
+    ///
+    /// Its run is the one that `SingleByteRun::longest` finds. It allocates nothing.
     pub fn with_longest_run(table: &'a SingleByteTable) -> SingleByteEncoder<'a>
         ensures state { single_byte_encoder_state result
             ≡ new_encoder (single_byte table.now.entries) }
@@ -101,8 +107,8 @@ impl<'a> SingleByteEncoder<'a> {
         }
     }
 
-    /// The same encoder as a value of its own.
-    // Behind a byte that is stored through a reference, the compiler loads again what it knows of the run through another.
+    /// Returns the same encoder as a value of its own.
+    // Through a reference the compiler would load the run again after each byte that is stored.
     #[inline(always)]
     fn copied(&self) -> SingleByteEncoder<'a>
         ensures { result.table.now ≡ self.now.table.now }
@@ -115,7 +121,7 @@ impl<'a> SingleByteEncoder<'a> {
         }
     }
 
-    /// How far a scalar is behind the first of the run: past the run's end where it stands before it.
+    /// Returns the place of a scalar in the run, or a number past the run's end if it is not in it.
     #[inline(always)]
     fn run_place(&self, code: u32) -> u32
         ensures { result < self.now.run_length → (self.now.run_bmp_offset ≤ code)
@@ -125,8 +131,8 @@ impl<'a> SingleByteEncoder<'a> {
         if code >= first { code - first } else { 0xFFFF }
     }
 
-    /// How far a code unit is behind the first of the run: past the run's end where it stands before it.
-    // Without a test: no run goes past U+FFFF, so what wraps around is past the run's end.
+    /// Returns the place of a code unit in the run, or a number past the run's end.
+    // There is no test: no run goes past U+FFFF, so a difference that wraps around is past the run's end.
     #[inline(always)]
     fn unit_place(&self, unit: u16) -> u16
         ensures { result < self.now.run_length → (self.now.run_bmp_offset ≤ unit)
@@ -135,7 +141,7 @@ impl<'a> SingleByteEncoder<'a> {
         unit.wrapping_sub(self.run_bmp_offset)
     }
 
-    /// The byte of a place of the run; past its end, any byte.
+    /// Returns the byte of a place in the run, or any byte if the place is past its end.
     #[inline(always)]
     fn run_byte(&self, place: u16) -> u8
         ensures { place < self.now.run_length → result ≡ 0x80 + (self.now.run_byte_offset + place) }
@@ -144,7 +150,7 @@ impl<'a> SingleByteEncoder<'a> {
         (place.wrapping_add(first) % 0x100) as u8
     }
 
-    /// The byte of a scalar that is ASCII, or at this place of the run.
+    /// Returns the byte of a scalar that is ASCII, or at this place of the run.
     #[inline(always)]
     fn byte_at(&self, code: u32, place: u32) -> u8
         requires { 128 ≤ code → place < self.now.run_length }
@@ -171,7 +177,7 @@ impl PlainCodes for SingleByteEncoder<'_> {
         1
     }
 
-    // One test for ASCII and the run: which of them a scalar is follows no pattern in text.
+    // One test covers ASCII and the run: no pattern predicts which of them the next scalar is in.
     #[inline(always)]
     #[tactic(auto, unfolding(legacy_base::specs::SingleByte::single_byte_code))]
     fn code_of(&self, c: char) -> EncoderMove {
@@ -202,7 +208,7 @@ impl PlainCodes for SingleByteEncoder<'_> {
         true
     }
 
-    // Without a branch: the compiler makes vectors of it.
+    // There is no branch, so that the compiler makes vectors of it.
     #[inline(always)]
     fn byte_of(&self, unit: u16) -> (u8, bool) {
         let place = self.unit_place(unit);

@@ -1,4 +1,4 @@
-//! The runs of single-byte tables, in which the scalars follow each other: their check, and the longest one.
+//! The runs of consecutive scalars in single-byte tables: their check, and the longest one.
 ghost use Rattle.std.specs.Prelude.{◌≡◌, ℕ, ◌+◌, ◌<◌, ◌≤◌, MatchResult, Some, None, slice_index};
 ghost use Rattle.legacy_single_byte.specs.SingleByteRun.{IsRun, first_mismatch, single_byte_run_fault};
 ghost use Rattle.legacy_single_byte.specs.LongestRun.{LongestUpTo, LongestToThe};
@@ -6,14 +6,14 @@ ghost use Rattle.legacy_single_byte.specs.LongestRun.{LongestUpTo, LongestToThe}
 use legacy_base::SingleByteTable;
 use thiserror::Error;
 
-/// A run of a single-byte table, as its encoder takes one.
+/// A run of a single-byte table: places whose scalar values are consecutive.
 #[derive(Clone, Copy, Debug, PartialEq, Eq)]
 pub struct SingleByteRun {
-    /// The scalar value at the first place; the next place holds the next scalar value, and so on.
+    /// The scalar value at the first place. The next place has the next scalar value, and so on.
     pub scalar: u16,
-    /// The first place.
+    /// The first place, counted from 0 for byte 0x80.
     pub start: u8,
-    /// How many places it has.
+    /// The number of places.
     pub count: u8,
 }
 
@@ -26,12 +26,12 @@ pub enum SingleByteRunError {
     /// The run ends past place 128.
     #[error("run passes 128")]
     RunPastEnd,
-    /// The table holds another value at the place than the run says.
+    /// The table has another value at the place than the run.
     #[error("run differs at {0}")]
     RunMismatch(usize),
 }
 
-/// The entry at a place: 0 where there is no scalar.
+/// Returns the entry at a place, or 0 if it has no scalar.
 fn entry(table: &SingleByteTable, place: usize) -> usize
     ensures { result ≡ slice_index table.now.entries place }
 {
@@ -41,7 +41,7 @@ fn entry(table: &SingleByteTable, place: usize) -> usize
     }
 }
 
-/// How far behind `start` the table first holds another value than the scalars from `scalar` upwards.
+/// Returns how far after `start` the table first differs from the scalars from `scalar` upwards.
 fn first_mismatch(
     table: &SingleByteTable,
     scalar: usize,
@@ -55,7 +55,7 @@ fn first_mismatch(
     (0..count).find(|k| entry(table, start + *k) != scalar + *k)
 }
 
-/// Checks that so many places from `start` on hold the scalars from `scalar` upwards.
+/// Checks that `count` places from `start` on contain the scalars from `scalar` upwards.
 pub(super) fn check_run(
     table: &SingleByteTable,
     scalar: u16,
@@ -83,11 +83,12 @@ pub(super) fn check_run(
     }
 }
 
-/// The bound of the runs that are looked for: the letters of the single-byte encodings lie below it, and
-/// above it lines and boxes, which are rare in text, and of which KOI8-R has a longer run.
+/// The end of the scalar values among which runs are sought.
+// The letters of the single-byte encodings are below it. Above it are lines and boxes, which are rare
+// in text, and of which KOI8-R has a longer run.
 const LETTERS_END: usize = 0x2000;
 
-/// The longest run of letters that ends with the place, where this is the longest that ends before it.
+/// Returns the longest run of letters that ends with the place, given the one that ends before it.
 fn run_to(table: &SingleByteTable, before: SingleByteRun, place: u8) -> SingleByteRun
     requires place { place < 128 }
     requires before { LongestToThe table.now.entries before.scalar before.start before.count place }
@@ -116,10 +117,10 @@ fn run_to(table: &SingleByteTable, before: SingleByteRun, place: u8) -> SingleBy
 }
 
 impl SingleByteRun {
-    /// The longest run of the table that its encoder takes and whose scalar values lie below U+2000, or
-    /// one of the longest. `SingleByteEncoder::new` never refuses it.
+    /// Returns a longest run of the table among its scalar values below U+2000.
     ///
-    /// Letters lie below U+2000 in all single-byte encodings of the Standard. It is found in 96 steps.
+    /// `SingleByteEncoder::new` never refuses it. All letters of the Standard's single-byte
+    /// encodings are below U+2000. The search takes 96 steps.
     pub fn longest(table: &SingleByteTable) -> SingleByteRun
         ensures accepted { single_byte_run_fault table.now.entries
             result.scalar result.start result.count ≡ None }

@@ -1,7 +1,7 @@
-//! The scalars of all bytes by a single-byte table, ASCII too: one load for any byte, and no branch on what
-//! kind of byte it is. In text with letters past ASCII such a branch follows no pattern.
-// Inlined always is what runs for each form or block: a call would pass vectors through memory, and put the
-// destination's place there from form to form.
+//! The scalars of all bytes by a single-byte table: one load for each byte, ASCII or not.
+// There is no branch between ASCII and other bytes: in text with letters past ASCII none is predicted.
+// Functions that run for each block are always inlined. A call would pass vectors through memory,
+// and keep the destination's place there.
 ghost use Rattle.std.specs.Prelude.{◌≡◌, ◌<◌, ◌≤◌, ℕ, length, slice_index, IfSome};
 ghost use Rattle.legacy_base.specs.Grammar.{single_byte};
 ghost use Rattle.legacy_decoder_engine.specs.Ahead.{IsSingle};
@@ -9,7 +9,7 @@ ghost use Rattle.legacy_single_byte.specs.ByteEntries.{IsByteEntry, AreByteEntri
 
 use legacy_base::SingleByteTable;
 
-/// A checked table, and the entry of each byte: its scalar, or 0 where it has none.
+/// A checked table, and the entry of each byte: its scalar, or 0 if it has none.
 #[derive(Drop)]
 pub struct ByteScalars<'a> {
     pub table: &'a SingleByteTable,
@@ -18,7 +18,7 @@ pub struct ByteScalars<'a> {
     ghost same: { AreByteEntries table.now.entries entries 256 },
 }
 
-/// The entry of a byte.
+/// Returns the entry of a byte.
 fn entry_of(table: &SingleByteTable, byte: usize) -> u16
     requires { byte < 0x100 }
     ensures { IsByteEntry table.now.entries byte result }
@@ -32,7 +32,7 @@ fn entry_of(table: &SingleByteTable, byte: usize) -> u16
     }
 }
 
-/// The entries of all bytes.
+/// Returns the entries of all bytes.
 fn entries_of(table: &SingleByteTable) -> [u16; 256]
     ensures count { length result ≡ 256 }
     ensures same { AreByteEntries table.now.entries result 256 }
@@ -47,7 +47,7 @@ fn entries_of(table: &SingleByteTable) -> [u16; 256]
 }
 
 impl<'a> ByteScalars<'a> {
-    /// The scalars of all bytes by the table.
+    /// Returns the scalars of all bytes by the table.
     pub fn new(table: &'a SingleByteTable) -> ByteScalars<'a>
         ensures { result.table.now ≡ table.now }
     {
@@ -57,7 +57,7 @@ impl<'a> ByteScalars<'a> {
         }
     }
 
-    /// The scalar of a byte, or `None` where it has none. It is `None` for the byte 00 too, which is rare.
+    /// Returns the scalar of a byte, or `None` if it has none, and for the byte 00.
     #[inline(always)]
     pub fn scalar(&self, byte: u8) -> Option<char>
         ensures { IfSome result (λ c. IsSingle (single_byte self.now.table.now.entries) byte c) }

@@ -2,7 +2,7 @@ use Rattle.std.proofs.Common.{◌≤◌, ◌-◌, ℕ, Bool}
 use Rattle.legacy_encoder_engine.specs.CachedPairs.{AreRightWhere, or_between}
 use Rattle.legacy_encoder_engine.proofs.asked_pairs.ask_pairs.Given as goal
 
--- the entries of the scalars so far are right, and the earlier ones still are
+-- the entries of the scalars that were passed are right, and the earlier ones still are
 abbrev pub invariant-loop-code : goal.invariant-loop-code
 invariant-loop-code g l = record {
   to : l.code ≤ l.end;

@@ -14,7 +14,7 @@ returns-in_err-table-clause-table c =
     let file = single_byte_file c.args.text.now _ c.in_ok-read.ensures.line _ _ c.in_ok-read.ensures.table _ refl in
     rw (p.1, p.2) (c.read.new.self.single_byte, file, c.in_err-table.ensures)
 
--- the table of the file stands in front of the others
+-- the table of the file comes first
 pub returns-in-Ok-clause-table : goal.returns-in-Ok-clause-table
 returns-in-Ok-clause-table c =
     let file = single_byte_file c.args.text.now _ c.in_ok-read.ensures.line _ _ c.in_ok-read.ensures.table _ refl in

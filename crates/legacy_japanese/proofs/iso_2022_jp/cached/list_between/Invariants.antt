@@ -3,7 +3,7 @@ use Rattle.legacy_encoder_engine.specs.CachedPairs.{or_between}
 use Rattle.legacy_japanese.specs.Iso2022JpPairs.{AreListedWhere}
 use Rattle.legacy_japanese.proofs.iso_2022_jp.cached.list_between.Given as goal
 
--- those so far are right, and those that were
+-- the entries that were passed are right, and the earlier ones still are
 abbrev pub invariant-loop-code : goal.invariant-loop-code
 invariant-loop-code l = record {
   to : l.code ≤ l.end;

@@ -2,7 +2,7 @@ use Rattle.std.proofs.Common.{◌≡◌, ◌-◌, ◌<◌, ◌≤◌, ℕ, lengt
 use Rattle.legacy_base.specs.Iso2022Jp.{is_mode_control}
 use Rattle.legacy_japanese.proofs.iso_2022_jp.encoder.has_control.Given as goal
 
--- no control so far, if none was found
+-- no control was passed, if none was found
 abbrev pub invariant-loop-at : goal.invariant-loop-at
 invariant-loop-at l = (l.found ≡ false → (k : ℕ) → k < l.at → is_mode_control (slice_index l.bytes k) ≡ false) × (l.at ≤ length l.bytes)
 

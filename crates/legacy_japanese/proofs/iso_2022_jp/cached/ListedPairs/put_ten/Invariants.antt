@@ -3,7 +3,7 @@ use Rattle.legacy_encoder_engine.specs.UnitTurns.{PutsUnits}
 use Rattle.legacy_japanese.specs.Iso2022JpEncoder.{pairs_state}
 use Rattle.legacy_japanese.proofs.iso_2022_jp.cached.ListedPairs.put_ten.Given as goal
 
--- so many were written, where each of them was known
+-- the pairs of the code units that were passed were written, if each of them has one
 abbrev pub invariant-loop-k : goal.invariant-loop-k
 invariant-loop-k l = (l.k ≤ 10)
     × (take l.start l.dst ≡ take l.start l.fn.dst)
