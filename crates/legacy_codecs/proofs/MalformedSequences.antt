@@ -13,7 +13,7 @@ use Rattle.legacy_base.specs.Lengths.{to_utf8_without_replacement, room}
 use Rattle.legacy_base.specs.Calls.{Progress, DecoderCall, may_report_end, out_events}
 use Rattle.legacy_base.proofs.Progress.{stay, at_less, after_that}
 use Rattle.legacy_codecs.proofs.Replaced.{length-shift}
-use Rattle.legacy_codecs.specs.declared.faults.MalformedSequence.{MalformedSequence}
+use Rattle.legacy_codecs.specs.declared.malformed.MalformedSequence.{MalformedSequence}
 use Rattle.legacy_codecs.specs.MalformedSequences.{malformed_of}
 
 -- a sequence is its place and its length

@@ -2,7 +2,7 @@
 use Rattle.std.specs.Prelude.{ℕ, ◌-◌, List, [], ◌∷◌}
 use Rattle.legacy_base.specs.declared.results.DecodeEvent.{DecodeEvent}
 use Rattle.legacy_base.specs.declared.results.DecodeEvent.TheVariants.{Scalar, Bad}
-use Rattle.legacy_codecs.specs.declared.faults.MalformedSequence.{MalformedSequence}
+use Rattle.legacy_codecs.specs.declared.malformed.MalformedSequence.{MalformedSequence}
 
 -- The malformed sequences among events, in their order. A place is counted from the first byte after the `held` ones
 -- that a decoder held back, and is 0 if the sequence begins among those.

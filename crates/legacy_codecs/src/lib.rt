@@ -7,8 +7,8 @@
 
 mod decode_run;
 mod encode_run;
-mod faults;
 pub mod laws;
+mod malformed;
 mod references;
 mod replacing;
 mod results;
@@ -19,7 +19,6 @@ mod whole;
 
 pub use decode_run::{DecodeRun, decode_run_utf8, decode_run_utf16};
 pub use encode_run::{EncodeRun, encode_run_utf8, encode_run_utf16};
-pub use faults::{MalformedSequence, malformed_sequences};
 pub use legacy_base::{
     ByteSource, DecodeEvent, DecoderResult, Destination, EncodeEvent, EncoderResult,
     GB18030_2022_PUA, IndexName, Indexes, Packed, PackedPart, RawDecoder, RawEncoder, ReadingLoop,
@@ -35,6 +34,7 @@ pub use legacy_encoders::{
     Gb18030Encoder, Iso2022JpEncoder, PAIR_ROOM, ShiftJisEncoder, SingleByteEncoder, SingleByteRun,
     SingleByteRunError, UserDefinedEncoder,
 };
+pub use malformed::{MalformedSequence, malformed_sequences};
 pub use references::{encode_replacing_utf8, encode_replacing_utf16};
 pub use replacing::{decode_replacing_utf8, decode_replacing_utf16};
 pub use results::CoderResult;

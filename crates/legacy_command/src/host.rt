@@ -1,11 +1,24 @@
-//! What a program's `main` passes on: its words as texts, and the contents of the files that they
-//! name.
+//! The programs on a host: their words as texts, the contents of the files that these name, and the streams.
+use crate::arguments::{ArgumentsError, arguments, status_of};
+use crate::encoding::{encoder_in, run_encode};
+use crate::program::run;
+use crate::words::{codec_in, request};
 use std::alloc::{Alloc, AllocError, Allocator, Global};
+use std::env::Env;
 use std::fs::{self, Files};
-use std::io::{self, ErrorKind};
+use std::io::{self, ErrorKind, Read, Write};
+
+/// One of the two programs.
+#[derive(Clone, Copy)]
+pub enum Program {
+    /// `legacy_recode`.
+    Recode,
+    /// `legacy_encode`.
+    Encode,
+}
 
 /// Returns the words as texts.
-pub fn words_of<'a, A: Allocator>(
+fn words_of<'a, A: Allocator>(
     alloc: Global,
     arguments: &'a [String<A>],
 ) -> Result<Vec<&'a str>, AllocError> {
@@ -28,7 +41,7 @@ fn contents<R: Files + Alloc>(rt: &R, path: &str) -> io::Result<Option<Vec<u8, R
 /// Returns the contents of each FILE among the words in order, or an error if allocation fails.
 ///
 /// The words are CODEC, and then INDEX and FILE any number of times.
-pub fn files_of<R: Files + Alloc>(
+fn files_of<R: Files + Alloc>(
     rt: &R,
     alloc: Global,
     words: &[&str],
@@ -43,7 +56,7 @@ pub fn files_of<R: Files + Alloc>(
 }
 
 /// Returns the files as slices.
-pub fn slices_of<'a, A: Allocator>(
+fn slices_of<'a, A: Allocator>(
     alloc: Global,
     files: &'a [Option<Vec<u8, A>>],
 ) -> Result<Vec<Option<&'a [u8]>>, AllocError> {
@@ -56,4 +69,67 @@ pub fn slices_of<'a, A: Allocator>(
         slices.push(slice)?;
     }
     Ok(slices)
+}
+
+/// Returns the contents of each FILE among the words, in their order. Reads no file if the words are not of the program's
+/// form. An error is that memory was refused.
+fn files_named<R: Files + Alloc>(
+    rt: &R,
+    alloc: Global,
+    program: Program,
+    words: &[&str],
+) -> io::Result<Vec<Option<Vec<u8, R::A>>>> {
+    let (plain, codec) = match program {
+        Program::Recode => (request(words), codec_in(request(words))),
+        Program::Encode => (words, encoder_in(words)),
+    };
+    if codec.is_some() {
+        return files_of(rt, alloc, plain);
+    }
+    Ok(Vec::new(alloc))
+}
+
+/// Runs the program if its words can be had. All that can fail before it runs is then memory.
+fn status<R: Env + Files + Alloc>(
+    rt: &R,
+    alloc: Global,
+    program: Program,
+    input: &mut impl Read,
+    output: &mut impl Write,
+    errors: &mut impl Write,
+) -> Result<u8, ArgumentsError> {
+    let arguments = arguments(rt)?;
+    let Ok(words) = words_of(alloc, arguments.as_slice()) else {
+        return Err(ArgumentsError::Memory);
+    };
+    let words = words.as_slice();
+    let Ok(files) = files_named(rt, alloc, program, words) else {
+        return Err(ArgumentsError::Memory);
+    };
+    let Ok(texts) = slices_of(alloc, files.as_slice()) else {
+        return Err(ArgumentsError::Memory);
+    };
+    let texts = texts.as_slice();
+    Ok(match program {
+        Program::Recode => run(alloc, words, texts, input, output, errors),
+        Program::Encode => run_encode(alloc, words, texts, input, output, errors),
+    })
+}
+
+/// Runs the program on the host, and returns its exit status.
+pub fn exit_status<R: Env + Files + Alloc>(
+    rt: &R,
+    alloc: Global,
+    program: Program,
+    input: &mut impl Read,
+    output: &mut impl Write,
+    errors: &mut impl Write,
+) -> u8 {
+    match status(rt, alloc, program, input, output, errors) {
+        Ok(status) => status,
+        Err(error) => {
+            let _ = writeln!(errors, "{error}");
+            status_of(&error)
+        }
+    }
 }

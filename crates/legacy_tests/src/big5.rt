@@ -1,30 +1,16 @@
 //! Big5.
-mod encoder;
+pub(crate) mod encoder;
 
-use crate::codecs::DecoderOf::Over;
-use crate::codecs::{Codec, DecoderCase, decode_each};
+use crate::codecs::DecoderCase;
 use crate::events::bad;
-use crate::indexes::{Both, EMPTY, NO_PARTS, flat, run};
+use crate::indexes::{EMPTY, Flat, flat};
+use crate::rows::Row;
 use crate::rows::Row::{
     BareLength, Decoder, Events, Lone, Neutral, ToUtf8, ToUtf16, Utf8Length, Utf16Length,
 };
-use crate::rows::{Row, Tested, Told};
 use legacy_base::DecodeEvent::Scalar;
 use legacy_base::DecoderResult::{InputEmpty, Malformed, OutputFull};
-use legacy_base::{Packed, Tables};
-use legacy_decoders::Big5Decoder;
-
-impl<'a> Tested for Big5Decoder<'a> {
-    type Of = &'a Tables<'a>;
-
-    fn made(of: &'a Tables<'a>) -> Big5Decoder<'a> {
-        Big5Decoder::new(of)
-    }
-
-    fn told(&self) -> Told {
-        Told::of_neutral(self.in_neutral_state())
-    }
-}
+use legacy_index_files::CodecName;
 
 const WITHOUT_ENTRIES: &[Row] = &[
     Decoder("pointers 1133, 1135, 1164 and 1166 are a letter and a mark"),
@@ -107,21 +93,9 @@ const THE_LAST_POINTER: &[Row] = &[
 ];
 
 /// U+2910D at the last pointer, 19780.
-const LAST: &Both = &Both {
-    flat: flat!(big5: (19781, &[(19780, 0x2_910D)])),
-    packed: Packed {
-        big5: &[run!(19780, 0x2910D, 1)],
-        big5_order: &[19780],
-        ..NO_PARTS
-    },
-};
+const LAST: &Flat = &flat!(big5: (19781, &[(19780, 0x2_910D)]));
 
-const CASES: &[DecoderCase] = &[
-    (Over(Codec::Big5), EMPTY, WITHOUT_ENTRIES),
-    (Over(Codec::Big5), LAST, THE_LAST_POINTER),
+pub(crate) const CASES: &[DecoderCase] = &[
+    (CodecName::Big5, EMPTY, WITHOUT_ENTRIES),
+    (CodecName::Big5, LAST, THE_LAST_POINTER),
 ];
-
-#[test]
-fn decodes_with_an_empty_index_and_at_the_last_pointer(rt: HostRuntime) {
-    decode_each(&rt, CASES);
-}

@@ -1,6 +1,7 @@
 //! Rows of an encoder, and the function that follows them.
 //!
 //! A row is a call, a query or a run, with its wanted result.
+use crate::codecs::Over;
 use crate::compared::{Place, is_answer, is_refusal};
 use crate::cuts::{small_lengths, spaced, text_pieces, unit_pieces};
 use crate::encode_events::{Wanted, events_of};
@@ -8,6 +9,7 @@ use crate::replacing::encoders::follow_replacing;
 use crate::texts::Text;
 use legacy_base::{EncodeEvent, EncoderResult, RawEncoder};
 use legacy_codecs::{CoderResult, RunError};
+use legacy_encodings::AnyEncoder;
 use std::process::Abort;
 
 /// A call, a query or a run of an encoder, with its wanted result.
@@ -57,6 +59,21 @@ pub(crate) trait TestedEncoder: RawEncoder + Drop {
     fn made(rt: &impl Abort, of: Self::Of) -> Self;
 
     fn pending(&self) -> Option<bool>;
+}
+
+impl<'a> TestedEncoder for AnyEncoder<'a> {
+    type Of = Over<'a>;
+
+    fn made(rt: &impl Abort, of: Over<'a>) -> AnyEncoder<'a> {
+        of.encoder(rt)
+    }
+
+    fn pending(&self) -> Option<bool> {
+        match self {
+            AnyEncoder::Iso2022Jp(encoder) => Some(encoder.has_pending_state()),
+            _ => None,
+        }
+    }
 }
 
 /// Makes a call, and compares its result with the wanted one.

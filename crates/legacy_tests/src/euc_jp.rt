@@ -1,30 +1,16 @@
 //! EUC-JP.
-mod encoder;
+pub(crate) mod encoder;
 
-use crate::codecs::DecoderOf::Over;
-use crate::codecs::{Codec, DecoderCase, decode_each};
+use crate::codecs::DecoderCase;
 use crate::events::bad;
-use crate::indexes::{Both, EMPTY, Flat, NO_ENTRIES, NO_PARTS, run};
+use crate::indexes::{EMPTY, Flat, flat};
+use crate::rows::Row;
 use crate::rows::Row::{
     BareLength, Decoder, Events, Neutral, ToUtf8, ToUtf16, Utf8Length, Utf16Length,
 };
-use crate::rows::{Row, Tested, Told};
 use legacy_base::DecodeEvent::Scalar;
 use legacy_base::DecoderResult::{InputEmpty, Malformed, OutputFull};
-use legacy_base::{Packed, Tables};
-use legacy_decoders::EucJpDecoder;
-
-impl<'a> Tested for EucJpDecoder<'a> {
-    type Of = &'a Tables<'a>;
-
-    fn made(of: &'a Tables<'a>) -> EucJpDecoder<'a> {
-        EucJpDecoder::new(of)
-    }
-
-    fn told(&self) -> Told {
-        Told::of_neutral(self.in_neutral_state())
-    }
-}
+use legacy_index_files::CodecName;
 
 const WITHOUT_ENTRIES: &[Row] = &[
     Decoder("an ASCII byte behind 8F and a lead is read again"),
@@ -100,27 +86,10 @@ const PAIRS: &[Row] = &[
 ];
 
 /// U+3000 and U+FF0D in index jis0208, and U+02D8 in index jis0212.
-const ENTRIES: &Both = &Both {
-    flat: Flat {
-        jis0208: (109, &[(0, 0x3000), (60, 0xFF0D)]),
-        jis0212: (109, &[(108, 0x02D8)]),
-        ..NO_ENTRIES
-    },
-    packed: Packed {
-        jis0208: &[run!(0, 0x3000, 1), run!(60, 0xFF0D, 1)],
-        jis0212: &[run!(108, 0x2D8, 1)],
-        shift_jis_order: &[0, 60],
-        euc_jp_order: &[0, 60],
-        ..NO_PARTS
-    },
-};
+const ENTRIES: &Flat =
+    &flat!(jis0208: (109, &[(0, 0x3000), (60, 0xFF0D)]), jis0212: (109, &[(108, 0x02D8)]));
 
-const CASES: &[DecoderCase] = &[
-    (Over(Codec::EucJp), EMPTY, WITHOUT_ENTRIES),
-    (Over(Codec::EucJp), ENTRIES, PAIRS),
+pub(crate) const CASES: &[DecoderCase] = &[
+    (CodecName::EucJp, EMPTY, WITHOUT_ENTRIES),
+    (CodecName::EucJp, ENTRIES, PAIRS),
 ];
-
-#[test]
-fn decodes_pairs_by_jis0208_and_behind_8f_by_jis0212(rt: HostRuntime) {
-    decode_each(&rt, CASES);
-}

@@ -1,30 +1,16 @@
 //! EUC-KR.
-mod encoder;
+pub(crate) mod encoder;
 
-use crate::codecs::DecoderOf::Over;
-use crate::codecs::{Codec, DecoderCase, decode_each};
+use crate::codecs::DecoderCase;
 use crate::events::bad;
-use crate::indexes::{Both, NO_PARTS, flat, run};
+use crate::indexes::{Flat, flat};
+use crate::rows::Row;
 use crate::rows::Row::{
     BareLength, Decoder, Events, Neutral, ToUtf8, ToUtf16, Utf8Length, Utf16Length,
 };
-use crate::rows::{Row, Tested, Told};
 use legacy_base::DecodeEvent::Scalar;
 use legacy_base::DecoderResult::{InputEmpty, Malformed, OutputFull};
-use legacy_base::{Packed, Tables};
-use legacy_decoders::EucKrDecoder;
-
-impl<'a> Tested for EucKrDecoder<'a> {
-    type Of = &'a Tables<'a>;
-
-    fn made(of: &'a Tables<'a>) -> EucKrDecoder<'a> {
-        EucKrDecoder::new(of)
-    }
-
-    fn told(&self) -> Told {
-        Told::of_neutral(self.in_neutral_state())
-    }
-}
+use legacy_index_files::CodecName;
 
 /// The rows with U+AC02 at pointer 0, and no other scalar.
 const ROWS: &[Row] = &[
@@ -72,18 +58,6 @@ const ROWS: &[Row] = &[
 ];
 
 /// U+AC02 at pointer 0, and no other entry.
-pub(crate) const ONE_ENTRY: &Both = &Both {
-    flat: flat!(euc_kr: (1, &[(0, 0xAC02)])),
-    packed: Packed {
-        euc_kr: &[run!(0, 0xAC02, 1)],
-        euc_kr_order: &[0],
-        ..NO_PARTS
-    },
-};
+pub(crate) const ONE_ENTRY: &Flat = &flat!(euc_kr: (1, &[(0, 0xAC02)]));
 
-const CASES: &[DecoderCase] = &[(Over(Codec::EucKr), ONE_ENTRY, ROWS)];
-
-#[test]
-fn decodes_with_one_entry(rt: HostRuntime) {
-    decode_each(&rt, CASES);
-}
+pub(crate) const CASES: &[DecoderCase] = &[(CodecName::EucKr, ONE_ENTRY, ROWS)];

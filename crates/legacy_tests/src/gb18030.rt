@@ -1,31 +1,17 @@
 //! gb18030.
 pub(crate) mod encoder;
 
-use crate::codecs::DecoderOf::Over;
-use crate::codecs::{Codec, DecoderCase, decode_each};
+use crate::codecs::DecoderCase;
 use crate::events::bad;
 use crate::gb18030::encoder::ROW_AND_ENTRY;
-use crate::indexes::{Both, EMPTY, Flat, NO_ENTRIES, NO_PARTS, flat, run};
+use crate::indexes::{EMPTY, Flat, flat};
+use crate::rows::Row;
 use crate::rows::Row::{
     BareLength, Decoder, Events, Neutral, ToUtf8, ToUtf16, Utf8Length, Utf16Length,
 };
-use crate::rows::{Row, Tested, Told};
 use legacy_base::DecodeEvent::Scalar;
 use legacy_base::DecoderResult::{InputEmpty, Malformed, OutputFull};
-use legacy_base::{Packed, Tables};
-use legacy_decoders::Gb18030Decoder;
-
-impl<'a> Tested for Gb18030Decoder<'a> {
-    type Of = &'a Tables<'a>;
-
-    fn made(of: &'a Tables<'a>) -> Gb18030Decoder<'a> {
-        Gb18030Decoder::new(of)
-    }
-
-    fn told(&self) -> Told {
-        Told::of_neutral(self.in_neutral_state())
-    }
-}
+use legacy_index_files::CodecName;
 
 const PUT_BACK: &[Row] = &[
     Decoder("a bad fourth byte gives the second and third back"),
@@ -61,13 +47,6 @@ const PUT_BACK: &[Row] = &[
     ToUtf16(b"", 2, false, InputEmpty, 0, &[0x39]),
     Neutral(true),
 ];
-
-const BROKEN_CASES: &[DecoderCase] = &[(Over(Codec::Gb18030), EMPTY, PUT_BACK)];
-
-#[test]
-fn decodes_again_what_was_put_back(rt: HostRuntime) {
-    decode_each(&rt, BROKEN_CASES);
-}
 
 const WITHOUT_ENTRIES: &[Row] = &[
     Decoder("pointer 1237575 is the last scalar"),
@@ -144,13 +123,6 @@ const WITHOUT_ENTRIES: &[Row] = &[
     Events(b"\x80\x81", &[Scalar('\u{20AC}'), bad!(1, 1)]),
 ];
 
-const EMPTY_CASES: &[DecoderCase] = &[(Over(Codec::Gb18030), EMPTY, WITHOUT_ENTRIES)];
-
-#[test]
-fn decodes_with_empty_indexes(rt: HostRuntime) {
-    decode_each(&rt, EMPTY_CASES);
-}
-
 const PAIRS: &[Row] = &[
     Decoder("trails are 40 to 7E and 80 to FE, and 80 alone is U+20AC"),
     ToUtf16(
@@ -192,36 +164,10 @@ const RANGES: &[Row] = &[
 ];
 
 /// Scalars at pointers whose trails are on both sides of 7F.
-const BESIDE_7F: &Both = &Both {
-    flat: Flat {
-        gb18030: (
-            192,
-            &[
-                (0, 0x4E02),
-                (62, 0x4E79),
-                (63, 0x4E85),
-                (189, 0x4F22),
-                (190, 0x4F23),
-            ],
-        ),
-        ..NO_ENTRIES
-    },
-    packed: Packed {
-        gb18030: &[
-            run!(0, 0x4E02, 1),
-            run!(62, 0x4E79, 1),
-            run!(63, 0x4E85, 1),
-            run!(189, 0x4F22, 2),
-        ],
-        gb18030_order: &[0, 62, 63, 189, 190],
-        ..NO_PARTS
-    },
-};
+const BESIDE_7F: &Flat =
+    &flat!(gb18030: (192, &[(0, 0x4E02), (62, 0x4E79), (63, 0x4E85), (189, 0x4F22), (190, 0x4F23)]));
 
-const TWO_RANGES: &Both = &Both {
-    flat: flat!(ranges: &[(0, 0x0080), (36, 0x00A5)]),
-    packed: NO_PARTS,
-};
+const TWO_RANGES: &Flat = &flat!(ranges: &[(0, 0x0080), (36, 0x00A5)]);
 
 /// The rows with U+9FB4 at pointer 23775.
 const DECODED: &[Row] = &[
@@ -229,13 +175,10 @@ const DECODED: &[Row] = &[
     ToUtf8(b"\xFE\x59", 16, true, InputEmpty, 2, "\u{9FB4}"),
 ];
 
-const CASES: &[DecoderCase] = &[
-    (Over(Codec::Gb18030), BESIDE_7F, PAIRS),
-    (Over(Codec::Gb18030), TWO_RANGES, RANGES),
-    (Over(Codec::Gb18030), ROW_AND_ENTRY, DECODED),
+pub(crate) const CASES: &[DecoderCase] = &[
+    (CodecName::Gb18030, EMPTY, PUT_BACK),
+    (CodecName::Gb18030, EMPTY, WITHOUT_ENTRIES),
+    (CodecName::Gb18030, BESIDE_7F, PAIRS),
+    (CodecName::Gb18030, TWO_RANGES, RANGES),
+    (CodecName::Gb18030, ROW_AND_ENTRY, DECODED),
 ];
-
-#[test]
-fn decodes_pairs_by_the_index_and_four_bytes_by_the_ranges(rt: HostRuntime) {
-    decode_each(&rt, CASES);
-}

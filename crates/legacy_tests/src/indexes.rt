@@ -1,24 +1,12 @@
-//! Indexes as rows state them, flat and packed, and the tables made of them.
+//! Indexes as rows state them, and the tables made of them.
 use legacy_base::{GB18030_2022_PUA, Indexes, Packed, SingleByteTable, Tables};
+use legacy_index_files::{OwnedPacked, pack};
 use std::process::Abort;
-
-/// A run of packed indexes: its first pointer, the scalar of that pointer, and its length.
-macro_rules! run {
-    ($pointer:expr, $scalar:expr, $length:expr) => {
-        legacy_base::Run {
-            pointer: $pointer,
-            scalar: $scalar,
-            length: $length,
-        }
-    };
-}
-
-pub(crate) use run;
 
 /// The number of entries of an index, and those that are not 0, by their pointers.
 pub(crate) type Entries<'a, T> = (usize, &'a [(usize, T)]);
 
-/// Flat indexes.
+/// Indexes, and the table of a single-byte encoding.
 #[derive(Drop)]
 pub(crate) struct Flat<'a> {
     pub(crate) big5: Entries<'a, u32>,
@@ -29,6 +17,10 @@ pub(crate) struct Flat<'a> {
     pub(crate) katakana: Entries<'a, u16>,
     pub(crate) ranges: &'a [(u16, u16)],
     pub(crate) gb18030_pua: &'a [(u16, u8, u8)],
+    /// The entries of the single-byte table, by their places.
+    pub(crate) single_byte: &'a [(usize, u16)],
+    /// The run of the single-byte encoder: its first scalar, its first place and its length.
+    pub(crate) run: (u16, u8, u8),
 }
 
 /// Indexes without an entry, and the private-use rows of GB18030-2022.
@@ -41,7 +33,12 @@ pub(crate) const NO_ENTRIES: Flat = Flat {
     katakana: (0, &[]),
     ranges: &[],
     gb18030_pua: &GB18030_2022_PUA,
+    single_byte: &[],
+    run: (0, 32, 0),
 };
+
+/// No entries.
+pub(crate) const EMPTY: &Flat = &NO_ENTRIES;
 
 /// Flat indexes with these entries, of which the others are empty.
 macro_rules! flat {
@@ -54,33 +51,6 @@ macro_rules! flat {
 }
 
 pub(crate) use flat;
-
-/// Packed indexes without a run and without a pointer.
-pub(crate) const NO_PARTS: Packed = Packed {
-    big5: &[],
-    euc_kr: &[],
-    jis0208: &[],
-    jis0212: &[],
-    gb18030: &[],
-    big5_order: &[],
-    euc_kr_order: &[],
-    shift_jis_order: &[],
-    euc_jp_order: &[],
-    gb18030_order: &[],
-};
-
-/// Indexes flat, and the same ones packed.
-#[derive(Drop)]
-pub(crate) struct Both<'a> {
-    pub(crate) flat: Flat<'a>,
-    pub(crate) packed: Packed<'a>,
-}
-
-/// No entries, flat and packed.
-pub(crate) const EMPTY: &Both = &Both {
-    flat: NO_ENTRIES,
-    packed: NO_PARTS,
-};
 
 /// The entries of flat indexes by their pointers, with room for one more than an index may have.
 #[derive(Drop)]
@@ -172,6 +142,11 @@ pub(crate) fn tables_of<'a>(rt: &impl Abort, indexes: &Indexes<'a>) -> Tables<'a
         Ok(tables) => tables,
         Err(fault) => panic!(rt; "{fault}"),
     }
+}
+
+/// Packs indexes.
+pub(crate) fn packed_of(rt: &(impl AllocGlobal + Abort), indexes: &Indexes) -> OwnedPacked {
+    pack(rt.alloc(), indexes).expect(rt, "no memory")
 }
 
 /// Returns packed tables of these indexes.

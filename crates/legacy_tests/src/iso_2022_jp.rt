@@ -1,30 +1,16 @@
 //! ISO-2022-JP.
 pub(crate) mod encoder;
 
-use crate::codecs::DecoderOf::Over;
-use crate::codecs::{Codec, DecoderCase, decode_each};
+use crate::codecs::DecoderCase;
 use crate::events::bad;
-use crate::indexes::{Both, EMPTY, Flat, NO_ENTRIES, NO_PARTS, run};
+use crate::indexes::{EMPTY, Flat, flat};
+use crate::rows::Row;
 use crate::rows::Row::{
     BareLength, Decoder, Events, Neutral, ToUtf8, ToUtf16, Utf8Length, Utf16Length,
 };
-use crate::rows::{Row, Tested, Told};
 use legacy_base::DecodeEvent::Scalar;
 use legacy_base::DecoderResult::{InputEmpty, Malformed, OutputFull};
-use legacy_base::{Packed, Tables};
-use legacy_decoders::Iso2022JpDecoder;
-
-impl<'a> Tested for Iso2022JpDecoder<'a> {
-    type Of = &'a Tables<'a>;
-
-    fn made(of: &'a Tables<'a>) -> Iso2022JpDecoder<'a> {
-        Iso2022JpDecoder::new(of)
-    }
-
-    fn told(&self) -> Told {
-        Told::of_neutral(self.in_neutral_state())
-    }
-}
+use legacy_index_files::CodecName;
 
 const WITHOUT_ENTRIES: &[Row] = &[
     Decoder("an escape directly behind an escape makes the first one malformed"),
@@ -138,13 +124,6 @@ const WITHOUT_ENTRIES: &[Row] = &[
     ToUtf16(b"\x1B", 1, true, Malformed(1, 0), 1, &[]),
 ];
 
-const EMPTY_CASES: &[DecoderCase] = &[(Over(Codec::Iso2022Jp), EMPTY, WITHOUT_ENTRIES)];
-
-#[test]
-fn decodes_with_an_empty_index(rt: HostRuntime) {
-    decode_each(&rt, EMPTY_CASES);
-}
-
 /// The rows with pointers 0, 95, 671 and 4861 of index jis0208.
 const PAIRS: &[Row] = &[
     Decoder("in two-byte mode the byte behind a lone 1B is a lead"),
@@ -253,30 +232,10 @@ const PAIRS: &[Row] = &[
 ];
 
 /// Scalars at pointers 0, 95, 671 and 4861 of index jis0208.
-const ENTRIES: &Both = &Both {
-    flat: Flat {
-        jis0208: (
-            4862,
-            &[(0, 0x3000), (95, 0x2225), (671, 0x250F), (4861, 0x58FA)],
-        ),
-        ..NO_ENTRIES
-    },
-    packed: Packed {
-        jis0208: &[
-            run!(0, 0x3000, 1),
-            run!(95, 0x2225, 1),
-            run!(671, 0x250F, 1),
-            run!(4861, 0x58FA, 1),
-        ],
-        shift_jis_order: &[95, 671, 0, 4861],
-        euc_jp_order: &[95, 671, 0, 4861],
-        ..NO_PARTS
-    },
-};
+const ENTRIES: &Flat =
+    &flat!(jis0208: (4862, &[(0, 0x3000), (95, 0x2225), (671, 0x250F), (4861, 0x58FA)]));
 
-const CASES: &[DecoderCase] = &[(Over(Codec::Iso2022Jp), ENTRIES, PAIRS)];
-
-#[test]
-fn decodes_pairs_between_escapes(rt: HostRuntime) {
-    decode_each(&rt, CASES);
-}
+pub(crate) const CASES: &[DecoderCase] = &[
+    (CodecName::Iso2022Jp, EMPTY, WITHOUT_ENTRIES),
+    (CodecName::Iso2022Jp, ENTRIES, PAIRS),
+];

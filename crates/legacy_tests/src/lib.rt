@@ -5,8 +5,8 @@
 //!
 //! Each codec has one file for its decoder and, in its folder, one for its encoder, with rows of
 //! calls and their wanted results. `rows` and `encoder_rows` follow the rows. `codecs` follows
-//! those of each case with its codec over flat tables and packed ones. If a row does not hold, its
-//! result is printed beside the wanted one.
+//! those of each case with its codec over flat tables and packed ones, and `each_codec` all cases.
+//! If a row does not hold, its result is printed beside the wanted one.
 #![tactic(auto)]
 
 #[cfg(test)]
@@ -21,6 +21,8 @@ mod compared;
 mod cuts;
 #[cfg(test)]
 mod destinations;
+#[cfg(test)]
+mod each_codec;
 #[cfg(test)]
 mod encode_events;
 #[cfg(test)]

@@ -1,11 +1,9 @@
 //! Look-ups of the scalars of pointers, and of the pointers and bytes that encoders use.
 use crate::compared::{is_pointer, is_scalar};
 use crate::gb18030::encoder::{LAST_RANGE, RANGE_FROM_7457};
-use crate::indexes::{
-    Both, Filled, Flat, NO_ENTRIES, NO_PARTS, flat, no_entries, packed_tables_of, run, tables_of,
-};
+use crate::indexes::{Filled, Flat, flat, no_entries, packed_of, packed_tables_of, tables_of};
 use legacy_base::IndexName::{Big5, EucKr, Gb18030, Jis0208, Jis0212, Katakana};
-use legacy_base::{IndexName, Packed, Tables};
+use legacy_base::{IndexName, Tables};
 use std::process::Abort;
 
 /// A look-up of a pointer.
@@ -49,7 +47,7 @@ enum Wanted<'a> {
 }
 
 /// The name of a case, its indexes, and the wanted results of look-ups in their tables.
-type Case<'a> = (&'a str, &'a Both<'a>, Wanted<'a>);
+type Case<'a> = (&'a str, &'a Flat<'a>, Wanted<'a>);
 
 /// Compares the scalars that the indexes have at pointers with the wanted ones.
 fn have_scalars(rt: &impl Abort, tables: &Tables, case: &str, rows: &[Pointer]) {
@@ -82,23 +80,15 @@ fn answer(rt: &impl Abort, tables: &Tables, case: &str, wanted: Wanted) {
     }
 }
 
-/// Looks up in flat tables of the indexes, and in packed ones.
-fn answer_in_both(rt: &impl Abort, (case, both, wanted): &Case) {
-    let filled = Filled::of(&both.flat);
-    let indexes = filled.indexes(&both.flat);
-    answer(rt, &tables_of(rt, &indexes), case, *wanted);
-    answer(
-        rt,
-        &packed_tables_of(rt, &indexes, &both.packed),
-        case,
-        *wanted,
-    );
-}
-
-/// Looks up in the tables of each case.
-fn answer_in_each(rt: &impl Abort, cases: &[Case]) {
-    for case in cases {
-        answer_in_both(rt, case);
+/// Looks up in flat tables of the indexes of each case, and in packed ones.
+fn answer_in_each(rt: &(impl AllocGlobal + Abort), cases: &[Case]) {
+    for (case, flat, wanted) in cases {
+        let filled = Filled::of(flat);
+        let indexes = filled.indexes(flat);
+        answer(rt, &tables_of(rt, &indexes), case, *wanted);
+        let packed = packed_of(rt, &indexes);
+        let tables = packed_tables_of(rt, &indexes, &packed.packed());
+        answer(rt, &tables, case, *wanted);
     }
 }
 
@@ -214,137 +204,31 @@ const OF_FOUR_BYTES: &[(usize, Option<char>)] = &[
     (1237576, None),
 ];
 
-const ENTRIES: &Both = &Both {
-    flat: Flat {
-        big5: (1, &[(0, 0x2_008A)]),
-        euc_kr: (2, &[(0, 0xAC02)]),
-        jis0208: (1, &[(0, 0x3000)]),
-        jis0212: (1, &[(0, 0x4E02)]),
-        gb18030: (2, &[(0, 0x4E02), (1, 0x4E04)]),
-        gb18030_pua: &[],
-        ..NO_ENTRIES
-    },
-    packed: Packed {
-        big5: &[run!(0, 0x2_008A, 1)],
-        euc_kr: &[run!(0, 0xAC02, 1)],
-        jis0208: &[run!(0, 0x3000, 1)],
-        jis0212: &[run!(0, 0x4E02, 1)],
-        gb18030: &[run!(0, 0x4E02, 1), run!(1, 0x4E04, 1)],
-        euc_kr_order: &[0],
-        shift_jis_order: &[0],
-        euc_jp_order: &[0],
-        gb18030_order: &[0, 1],
-        ..NO_PARTS
-    },
-};
+const ENTRIES: &Flat =
+    &flat!(big5: (1, &[(0, 0x2_008A)]), euc_kr: (2, &[(0, 0xAC02)]), jis0208: (1, &[(0, 0x3000)]), jis0212: (1, &[(0, 0x4E02)]), gb18030: (2, &[(0, 0x4E02), (1, 0x4E04)]), gb18030_pua: &[]);
 
-const RUNS: &Both = &Both {
-    flat: Flat {
-        big5: (1, &[(0, 0x2_008A)]),
-        euc_kr: (66, &[(63, 0xAC02), (64, 0xAC03)]),
-        jis0208: (1, &[(0, 0x3000)]),
-        jis0212: (1, &[(0, 0x4E02)]),
-        gb18030: (2, &[(0, 0x4E02), (1, 0x4E04)]),
-        ..NO_ENTRIES
-    },
-    packed: Packed {
-        big5: &[run!(0, 0x2_008A, 1)],
-        euc_kr: &[run!(63, 0xAC02, 2)],
-        jis0208: &[run!(0, 0x3000, 1)],
-        jis0212: &[run!(0, 0x4E02, 1)],
-        gb18030: &[run!(0, 0x4E02, 1), run!(1, 0x4E04, 1)],
-        euc_kr_order: &[63, 64],
-        shift_jis_order: &[0],
-        euc_jp_order: &[0],
-        gb18030_order: &[0, 1],
-        ..NO_PARTS
-    },
-};
+const RUNS: &Flat =
+    &flat!(big5: (1, &[(0, 0x2_008A)]), euc_kr: (66, &[(63, 0xAC02), (64, 0xAC03)]), jis0208: (1, &[(0, 0x3000)]), jis0212: (1, &[(0, 0x4E02)]), gb18030: (2, &[(0, 0x4E02), (1, 0x4E04)]));
 
-const THREE_RANGES: &Both = &Both {
-    flat: flat!(ranges: &[(0, 0x80), (36, 0xA5), (38, 0xA9)]),
-    packed: NO_PARTS,
-};
+const THREE_RANGES: &Flat = &flat!(ranges: &[(0, 0x80), (36, 0xA5), (38, 0xA9)]);
 
-const FIRST_POINTERS: &Both = &Both {
-    flat: Flat {
-        euc_kr: (23940, &[(23939, 0x8A70)]),
-        gb18030: (3, &[(1, 0x4E02), (2, 0x4E02)]),
-        ..NO_ENTRIES
-    },
-    packed: Packed {
-        euc_kr: &[run!(23939, 0x8A70, 1)],
-        gb18030: &[run!(1, 0x4E02, 1), run!(2, 0x4E02, 1)],
-        euc_kr_order: &[23939],
-        gb18030_order: &[1],
-        ..NO_PARTS
-    },
-};
+const FIRST_POINTERS: &Flat =
+    &flat!(euc_kr: (23940, &[(23939, 0x8A70)]), gb18030: (3, &[(1, 0x4E02), (2, 0x4E02)]));
 
-const BIG5: &Both = &Both {
-    flat: Flat {
-        big5: (
-            18992,
-            &[
-                (5023, 0x3001),
-                (5024, 0x3000),
-                (5247, 0x2550),
-                (18991, 0x2550),
-            ],
-        ),
-        ..NO_ENTRIES
-    },
-    packed: Packed {
-        big5: &[
-            run!(5023, 0x3001, 1),
-            run!(5024, 0x3000, 1),
-            run!(5247, 0x2550, 1),
-            run!(18991, 0x2550, 1),
-        ],
-        big5_order: &[18991, 5024],
-        ..NO_PARTS
-    },
-};
+const BIG5: &Flat =
+    &flat!(big5: (18992, &[(5023, 0x3001), (5024, 0x3000), (5247, 0x2550), (18991, 0x2550)]));
 
-const TWICE_IN_BIG5: &Both = &Both {
-    flat: flat!(big5: (18992, &[(5247, 0x2550), (18991, 0x2550)])),
-    packed: Packed {
-        big5: &[run!(5247, 0x2550, 1), run!(18991, 0x2550, 1)],
-        big5_order: &[18991],
-        ..NO_PARTS
-    },
-};
+const TWICE_IN_BIG5: &Flat = &flat!(big5: (18992, &[(5247, 0x2550), (18991, 0x2550)]));
 
-const TWO_RANGES: &Both = &Both {
-    flat: flat!(ranges: &[(0, 0x80), (200, 0x3000)]),
-    packed: NO_PARTS,
-};
+const TWO_RANGES: &Flat = &flat!(ranges: &[(0, 0x80), (200, 0x3000)]);
 
-const RANGE_OF_PRIVATE_USE: &Both = &Both {
-    flat: flat!(ranges: &[(31228, 0xE000)]),
-    packed: NO_PARTS,
-};
+const RANGE_OF_PRIVATE_USE: &Flat = &flat!(ranges: &[(31228, 0xE000)]);
 
 /// U+FF02 at a pointer that NEC's selection repeats, and at the one that Shift_JIS's encoder uses.
-const TWICE_IN_JIS0208: &Both = &Both {
-    flat: flat!(jis0208: (10740, &[(8647, 0xFF02), (10739, 0xFF02)])),
-    packed: Packed {
-        jis0208: &[run!(8647, 0xFF02, 1), run!(10739, 0xFF02, 1)],
-        shift_jis_order: &[10739],
-        euc_jp_order: &[8647],
-        ..NO_PARTS
-    },
-};
+const TWICE_IN_JIS0208: &Flat = &flat!(jis0208: (10740, &[(8647, 0xFF02), (10739, 0xFF02)]));
 
 /// U+FF02 at the first of these pointers alone, which is the index's last.
-const ONCE_IN_JIS0208: &Both = &Both {
-    flat: flat!(jis0208: (8648, &[(8647, 0xFF02)])),
-    packed: Packed {
-        jis0208: &[run!(8647, 0xFF02, 1)],
-        euc_jp_order: &[8647],
-        ..NO_PARTS
-    },
-};
+const ONCE_IN_JIS0208: &Flat = &flat!(jis0208: (8648, &[(8647, 0xFF02)]));
 
 const SCALARS: &[Case] = &[
     ("entries", ENTRIES, Wanted::Scalars(BY_ENTRIES)),

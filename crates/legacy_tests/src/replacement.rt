@@ -1,20 +1,11 @@
 //! The replacement codec.
-use crate::codecs::DecoderOf::Replacement;
-use crate::codecs::{DecoderCase, decode_each};
+use crate::codecs::DecoderCase;
 use crate::events::bad;
 use crate::indexes::EMPTY;
+use crate::rows::Row;
 use crate::rows::Row::{BareLength, Decoder, Events, ToUtf8, ToUtf16, Utf8Length, Utf16Length};
-use crate::rows::{Row, Tested};
 use legacy_base::DecoderResult::{InputEmpty, Malformed, OutputFull};
-use legacy_decoders::ReplacementDecoder;
-
-impl Tested for ReplacementDecoder {
-    type Of = ();
-
-    fn made(_of: ()) -> ReplacementDecoder {
-        ReplacementDecoder::new()
-    }
-}
+use legacy_index_files::CodecName;
 
 const ROWS: &[Row] = &[
     Decoder("empty input gives nothing"),
@@ -38,9 +29,4 @@ const ROWS: &[Row] = &[
     BareLength(usize::MAX, Some(3)),
 ];
 
-const CASES: &[DecoderCase] = &[(Replacement, EMPTY, ROWS)];
-
-#[test]
-fn decodes_the_first_byte_as_malformed_and_swallows_the_rest(rt: HostRuntime) {
-    decode_each(&rt, CASES);
-}
+pub(crate) const CASES: &[DecoderCase] = &[(CodecName::Replacement, EMPTY, ROWS)];

@@ -1,56 +1,32 @@
 //! Calls with replacement: rows of calls with their wanted results, and what follows the rows.
-use crate::codecs::DecoderOf::{Over, Utf16};
-use crate::codecs::{Codec, DecoderCase, decode_each};
+use crate::codecs::{DecoderCase, Over, follow_each};
 use crate::compared::{Place, is_answer};
 use crate::indexes::EMPTY;
 use crate::iso_2022_jp::encoder::ONE_PAIR;
 use crate::rows::Row::{Decoder, Pieces, ReplacedToUtf8, ReplacedToUtf16, Text, Utf16Length};
-use crate::rows::{Call, Row, Tested};
+use crate::rows::{Call, Row};
 use crate::units::{Bytes, Form, Units};
 use legacy_base::RawDecoder;
 use legacy_codecs::CoderResult;
 use legacy_codecs::CoderResult::InputEmpty;
+use legacy_encodings::AnyDecoder;
+use legacy_index_files::CodecName;
 use std::process::Abort;
 
 pub(crate) mod encoders;
 
-/// Makes a call into UTF-8, and compares its result with the wanted one.
-fn writes_text<D: RawDecoder>(
+/// Makes a call, and compares its result with the wanted one.
+fn writes<F: Form, D: RawDecoder>(
     rt: &impl Abort,
     place: Place,
     decoder: &mut D,
     (source, room, last): Call,
-    (answer, read, text, replaced): (CoderResult, usize, &str, bool),
+    wanted: (CoderResult, usize, &[F::Unit], bool),
 ) {
-    let mut output = [0u8; 96];
-    let (result, seen, written, told) = Bytes::replacing(
-        decoder,
-        source,
-        &mut output[..room.min(96)],
-        last,
-    );
-    let came = (result, seen, &output[..written.min(96)], told);
-    let wanted = (answer, read, text.as_bytes(), replaced);
-    is_answer(rt, place, Bytes::NAME, came, wanted);
-}
-
-/// Makes a call into UTF-16, and compares its result with the wanted one.
-fn writes_units<D: RawDecoder>(
-    rt: &impl Abort,
-    place: Place,
-    decoder: &mut D,
-    (source, room, last): Call,
-    wanted: (CoderResult, usize, &[u16], bool),
-) {
-    let mut output = [0u16; 96];
-    let (result, seen, written, told) = Units::replacing(
-        decoder,
-        source,
-        &mut output[..room.min(96)],
-        last,
-    );
-    let came = (result, seen, &output[..written.min(96)], told);
-    is_answer(rt, place, Units::NAME, came, wanted);
+    let mut output = [F::ZERO; 96];
+    let call = F::replacing(decoder, source, &mut output[..room.min(96)], last);
+    let came = (call.0, call.1, &output[..call.2.min(96)], call.3);
+    is_answer(rt, place, F::NAME, came, wanted);
 }
 
 /// Writes the text of the input to the slice, by calls with `room` code units free.
@@ -82,42 +58,29 @@ fn by_calls<F: Form, D: RawDecoder>(
     end
 }
 
-/// Compares the text of the input by calls with `room` bytes free with the wanted one.
-fn has_text<D: RawDecoder>(
-    rt: &impl Abort,
-    place: Place,
-    decoder: &mut D,
-    (input, room): (&[u8], usize),
-    text: &str,
-) {
-    let mut output = [0u8; 96];
-    let end = by_calls::<Bytes, D>(decoder, input, room, &mut output);
-    let came = &output[..end.min(96)];
-    is_answer(rt, place, Bytes::NAME, came, text.as_bytes());
-}
-
 /// Compares the text of the input by calls with `room` code units free with the wanted one.
-fn has_units<D: RawDecoder>(
+fn has_text<F: Form, D: RawDecoder>(
     rt: &impl Abort,
     place: Place,
     decoder: &mut D,
     (input, room): (&[u8], usize),
-    units: &[u16],
+    text: &[F::Unit],
 ) {
-    let mut output = [0u16; 96];
-    let end = by_calls::<Units, D>(decoder, input, room, &mut output);
-    is_answer(rt, place, Units::NAME, &output[..end.min(96)], units);
+    let mut output = [F::ZERO; 96];
+    let end = by_calls::<F, D>(decoder, input, room, &mut output);
+    is_answer(rt, place, F::NAME, &output[..end.min(96)], text);
 }
 
 /// Follows the row of a text: compares it by calls with small outputs with the wanted one.
-fn follow_text<D: Tested>(rt: &impl Abort, place: Place, of: D::Of, row: &Row) {
+fn follow_text(rt: &impl Abort, place: Place, of: Over, row: &Row) {
     if let Text(input, text, units) = row {
         for room in 2..16 {
             if room >= 4 {
-                has_text(rt, place, &mut D::made(of), (input, room), text);
+                let text = text.as_bytes();
+                has_text::<Bytes, AnyDecoder>(rt, place, &mut of.decoder(rt), (input, room), text);
             }
             if room < 8 {
-                has_units(rt, place, &mut D::made(of), (input, room), units);
+                has_text::<Units, AnyDecoder>(rt, place, &mut of.decoder(rt), (input, room), units);
             }
         }
     }
@@ -152,28 +115,28 @@ fn follow_pieces<D: RawDecoder>(rt: &impl Abort, place: Place, decoder: &mut D, 
 fn follow_call<D: RawDecoder>(rt: &impl Abort, place: Place, decoder: &mut D, row: &Row) {
     match row {
         ReplacedToUtf8(source, room, last, answer, read, text, replaced) => {
-            let wanted = (*answer, *read, *text, *replaced);
-            writes_text(rt, place, decoder, (source, *room, *last), wanted);
+            let wanted = (*answer, *read, text.as_bytes(), *replaced);
+            writes::<Bytes, D>(rt, place, decoder, (source, *room, *last), wanted);
         }
         ReplacedToUtf16(source, room, last, answer, read, units, replaced) => {
             let wanted = (*answer, *read, *units, *replaced);
-            writes_units(rt, place, decoder, (source, *room, *last), wanted);
+            writes::<Units, D>(rt, place, decoder, (source, *room, *last), wanted);
         }
         _ => {}
     }
 }
 
 /// Follows a row of calls with replacement, in one of these three ways.
-pub(crate) fn follow_replacing<D: Tested>(
+pub(crate) fn follow_replacing(
     rt: &impl Abort,
     place: Place,
-    of: D::Of,
-    decoder: &mut D,
+    of: Over,
+    decoder: &mut AnyDecoder,
     row: &Row,
 ) {
     follow_call(rt, place, decoder, row);
     follow_pieces(rt, place, decoder, row);
-    follow_text::<D>(rt, place, of, row);
+    follow_text(rt, place, of, row);
 }
 
 const ESCAPES: &[Row] = &[
@@ -277,15 +240,10 @@ const FOUR_BYTES: &[Row] = &[
     ),
 ];
 
-const CASES: &[DecoderCase] = &[
-    (Over(Codec::Iso2022Jp), EMPTY, ESCAPES),
-    (Over(Codec::Iso2022Jp), ONE_PAIR, PAIRS),
-    (Utf16(false), EMPTY, LITTLE_ENDIAN),
-    (Utf16(true), EMPTY, BIG_ENDIAN),
-    (Over(Codec::Gb18030), EMPTY, FOUR_BYTES),
+pub(crate) const CASES: &[DecoderCase] = &[
+    (CodecName::Iso2022Jp, EMPTY, ESCAPES),
+    (CodecName::Iso2022Jp, ONE_PAIR, PAIRS),
+    (CodecName::Utf16Le, EMPTY, LITTLE_ENDIAN),
+    (CodecName::Utf16Be, EMPTY, BIG_ENDIAN),
+    (CodecName::Gb18030, EMPTY, FOUR_BYTES),
 ];
-
-#[test]
-fn what_is_malformed_is_replaced(rt: HostRuntime) {
-    decode_each(&rt, CASES);
-}

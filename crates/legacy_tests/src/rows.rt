@@ -1,6 +1,7 @@
 //! Rows of a decoder, and the function that follows them.
 //!
 //! A row is a call, a query or a run, with its wanted result.
+use crate::codecs::Over;
 use crate::compared::{Place, is_answer, is_refusal};
 use crate::cuts::{byte_pieces, small_lengths, spaced};
 use crate::events::events;
@@ -8,6 +9,7 @@ use crate::replacing::follow_replacing;
 use crate::units::{Bytes, Form, Units};
 use legacy_base::{DecodeEvent, DecoderResult, RawDecoder};
 use legacy_codecs::{CoderResult, RunError};
+use legacy_encodings::AnyDecoder;
 use std::process::Abort;
 
 /// A call, a query or a run of a decoder, with its wanted result.
@@ -67,94 +69,63 @@ pub(crate) enum Row<'a> {
     RefusedRuns(&'a [u8], usize, &'a RunError),
 }
 
-/// Queries that only some decoders have: for the neutral state, and for the additional bytes.
-#[derive(Drop)]
-pub(crate) struct Told {
-    pub(crate) neutral: Option<bool>,
-    pub(crate) additional: Option<usize>,
-}
-
-impl Told {
-    /// Returns the result of the query for the neutral state alone.
-    pub(crate) fn of_neutral(is_neutral: bool) -> Told {
-        Told {
-            neutral: Some(is_neutral),
-            additional: None,
-        }
+/// Returns whether the decoder is in its neutral state, if it has that query.
+fn neutral(decoder: &AnyDecoder) -> Option<bool> {
+    match decoder {
+        AnyDecoder::Gb18030(decoder) => Some(decoder.in_neutral_state()),
+        AnyDecoder::Big5(decoder) => Some(decoder.in_neutral_state()),
+        AnyDecoder::EucJp(decoder) => Some(decoder.in_neutral_state()),
+        AnyDecoder::Iso2022Jp(decoder) => Some(decoder.in_neutral_state()),
+        AnyDecoder::ShiftJis(decoder) => Some(decoder.in_neutral_state()),
+        AnyDecoder::EucKr(decoder) => Some(decoder.in_neutral_state()),
+        _ => None,
     }
 }
 
-/// A decoder, what it is made of, and the queries that only some have.
-pub(crate) trait Tested: RawDecoder + Drop {
-    /// What the decoder is made of.
-    type Of: Copy;
-
-    fn made(of: Self::Of) -> Self;
-
-    fn told(&self) -> Told {
-        Told {
-            neutral: None,
-            additional: None,
-        }
+/// Returns what the decoder adds to the lengths, if it has that query.
+fn additional(decoder: &AnyDecoder) -> Option<usize> {
+    match decoder {
+        AnyDecoder::Utf16(decoder) => Some(decoder.additional_from_state()),
+        _ => None,
     }
 }
 
 /// The bytes of a call, the number of free code units, and whether these bytes are the last.
 pub(crate) type Call<'a> = (&'a [u8], usize, bool);
 
-/// Makes a call into UTF-8, and compares its result with the wanted one.
-fn writes_text<D: RawDecoder>(
+/// Makes a call, and compares its result with the wanted one.
+fn writes<F: Form, D: RawDecoder>(
     rt: &impl Abort,
     place: Place,
     decoder: &mut D,
     (source, room, last): Call,
-    wanted: (DecoderResult, usize, &[u8]),
+    wanted: (DecoderResult, usize, &[F::Unit]),
 ) {
-    let mut output = [0u8; 96];
-    let (answer, read, written) = Bytes::call(decoder, source, &mut output[..room.min(96)], last);
+    let mut output = [F::ZERO; 96];
+    let (answer, read, written) = F::call(decoder, source, &mut output[..room.min(96)], last);
     let came = (answer, read, &output[..written.min(96)]);
-    is_answer(rt, place, Bytes::NAME, came, wanted);
-}
-
-/// Makes a call into UTF-16, and compares its result with the wanted one.
-fn writes_units<D: RawDecoder>(
-    rt: &impl Abort,
-    place: Place,
-    decoder: &mut D,
-    (source, room, last): Call,
-    wanted: (DecoderResult, usize, &[u16]),
-) {
-    let mut output = [0u16; 96];
-    let (answer, read, written) = Units::call(decoder, source, &mut output[..room.min(96)], last);
-    let came = (answer, read, &output[..written.min(96)]);
-    is_answer(rt, place, Units::NAME, came, wanted);
+    is_answer(rt, place, F::NAME, came, wanted);
 }
 
 /// Finds the events in calls of limited length, and compares them with the wanted ones.
-fn finds<F: Form, D: Tested>(
+fn finds<F: Form>(
     rt: &impl Abort,
     place: Place,
-    of: D::Of,
+    of: Over,
     input: &[u8],
     (piece, room): (usize, usize),
     wanted: &[DecodeEvent],
 ) {
-    let found = events::<F, D>(&mut D::made(of), input, piece, room);
+    let found = events::<F, AnyDecoder>(&mut of.decoder(rt), input, piece, room);
     is_answer(rt, place, F::NAME, found.as_slice(), wanted);
 }
 
 /// Finds the events in one call and byte by byte, and compares them with the wanted ones.
-fn finds_by_calls<D: Tested>(
-    rt: &impl Abort,
-    place: Place,
-    of: D::Of,
-    input: &[u8],
-    wanted: &[DecodeEvent],
-) {
-    finds::<Bytes, D>(rt, place, of, input, (input.len(), 48), wanted);
-    finds::<Units, D>(rt, place, of, input, (input.len(), 96), wanted);
-    finds::<Bytes, D>(rt, place, of, input, (1, 4), wanted);
-    finds::<Units, D>(rt, place, of, input, (1, 2), wanted);
+fn finds_by_calls(rt: &impl Abort, place: Place, of: Over, input: &[u8], wanted: &[DecodeEvent]) {
+    finds::<Bytes>(rt, place, of, input, (input.len(), 48), wanted);
+    finds::<Units>(rt, place, of, input, (input.len(), 96), wanted);
+    finds::<Bytes>(rt, place, of, input, (1, 4), wanted);
+    finds::<Units>(rt, place, of, input, (1, 2), wanted);
 }
 
 /// The wanted result of a run.
@@ -180,55 +151,55 @@ fn runs<F: Form, D: RawDecoder>(
 }
 
 /// Makes a run of a new decoder into UTF-8 and one into UTF-16, and compares their results.
-fn runs_in_both<D: Tested>(
+fn runs_in_both(
     rt: &(impl AllocGlobal + Abort),
     place: Place,
-    of: D::Of,
+    of: Over,
     input: (&[&[u8]], &[usize]),
     wanted: Wanted,
 ) {
-    runs::<Bytes, D>(rt, place, &mut D::made(of), input, wanted);
-    runs::<Units, D>(rt, place, &mut D::made(of), input, wanted);
+    runs::<Bytes, AnyDecoder>(rt, place, &mut of.decoder(rt), input, wanted);
+    runs::<Units, AnyDecoder>(rt, place, &mut of.decoder(rt), input, wanted);
 }
 
 /// Makes runs over these pieces with small outputs, and compares their results.
-fn finds_in_pieces<D: Tested>(
+fn finds_in_pieces(
     rt: &(impl AllocGlobal + Abort),
     place: Place,
-    of: D::Of,
+    of: Over,
     pieces: &[&[u8]],
     wanted: &[DecodeEvent],
 ) {
     let lengths = small_lengths();
-    runs_in_both::<D>(rt, place, of, (pieces, &lengths), (wanted, None, true));
+    runs_in_both(rt, place, of, (pieces, &lengths), (wanted, None, true));
 }
 
 /// Makes runs over these pieces, and over these with an empty one after each.
-fn finds_in_both<D: Tested>(
+fn finds_in_both(
     rt: &(impl AllocGlobal + Abort),
     place: Place,
-    of: D::Of,
+    of: Over,
     pieces: &[&[u8]],
     wanted: &[DecodeEvent],
 ) {
-    finds_in_pieces::<D>(rt, place, of, pieces, wanted);
+    finds_in_pieces(rt, place, of, pieces, wanted);
     let all = spaced(pieces, b"");
-    finds_in_pieces::<D>(rt, place, of, all.as_slice(), wanted);
+    finds_in_pieces(rt, place, of, all.as_slice(), wanted);
 }
 
 /// Makes runs over the input in all cuts, and compares their results.
-fn finds_in_cuts<D: Tested>(
+fn finds_in_cuts(
     rt: &(impl AllocGlobal + Abort),
     place: Place,
-    of: D::Of,
+    of: Over,
     input: &[u8],
     wanted: &[DecodeEvent],
 ) {
     let whole = [input];
-    finds_in_both::<D>(rt, place, of, &whole, wanted);
-    runs_in_both::<D>(rt, place, of, (&whole, &[0; 5]), (&[], Some(5), false));
+    finds_in_both(rt, place, of, &whole, wanted);
+    runs_in_both(rt, place, of, (&whole, &[0; 5]), (&[], Some(5), false));
     let bytes = byte_pieces(input);
-    finds_in_both::<D>(rt, place, of, bytes.as_slice(), wanted);
+    finds_in_both(rt, place, of, bytes.as_slice(), wanted);
 }
 
 /// Makes a run that must be refused, and compares the error with the wanted one.
@@ -244,7 +215,7 @@ fn refuses<F: Form, D: RawDecoder>(
 }
 
 /// Follows the row of a query: compares the result with the wanted one.
-fn follow_query<D: Tested>(rt: &impl Abort, place: Place, decoder: &D, row: &Row) {
+fn follow_query<D: RawDecoder>(rt: &impl Abort, place: Place, decoder: &D, row: &Row) {
     match row {
         Row::Utf16Length(bytes, length) => {
             let came = decoder.max_utf16_buffer_length(*bytes);
@@ -258,16 +229,23 @@ fn follow_query<D: Tested>(rt: &impl Abort, place: Place, decoder: &D, row: &Row
             let came = decoder.max_utf8_buffer_length_without_replacement(*bytes);
             is_answer(rt, place, "the length without U+FFFD", came, *length);
         }
-        Row::Neutral(is_neutral) => {
-            let came = decoder.told().neutral;
-            is_answer(rt, place, "in_neutral_state", came, Some(*is_neutral));
-        }
         Row::Lone(bytes, count) => {
             let came = decoder.lone_malformed(bytes);
             is_answer(rt, place, "lone_malformed", came, *count);
         }
+        _ => {}
+    }
+}
+
+/// Follows the row of a query that only some decoders have.
+fn follow_own_query(rt: &impl Abort, place: Place, decoder: &AnyDecoder, row: &Row) {
+    match row {
+        Row::Neutral(is_neutral) => {
+            let came = neutral(decoder);
+            is_answer(rt, place, "in_neutral_state", came, Some(*is_neutral));
+        }
         Row::Additional(more) => {
-            let came = decoder.told().additional;
+            let came = additional(decoder);
             is_answer(rt, place, "additional_from_state", came, Some(*more));
         }
         _ => {}
@@ -275,10 +253,10 @@ fn follow_query<D: Tested>(rt: &impl Abort, place: Place, decoder: &D, row: &Row
 }
 
 /// Follows the row of events: finds them, and compares them with the wanted ones.
-fn follow_events<D: Tested>(rt: &(impl AllocGlobal + Abort), place: Place, of: D::Of, row: &Row) {
+fn follow_events(rt: &(impl AllocGlobal + Abort), place: Place, of: Over, row: &Row) {
     match row {
-        Row::Events(input, events) => finds_by_calls::<D>(rt, place, of, input, events),
-        Row::Cut(input, events) => finds_in_cuts::<D>(rt, place, of, input, events),
+        Row::Events(input, events) => finds_by_calls(rt, place, of, input, events),
+        Row::Cut(input, events) => finds_in_cuts(rt, place, of, input, events),
         _ => {}
     }
 }
@@ -312,39 +290,40 @@ fn follow_call<D: RawDecoder>(rt: &impl Abort, place: Place, decoder: &mut D, ro
     match row {
         Row::ToUtf8(source, room, last, answer, read, text) => {
             let wanted = (*answer, *read, text.as_bytes());
-            writes_text(rt, place, decoder, (source, *room, *last), wanted);
+            writes::<Bytes, D>(rt, place, decoder, (source, *room, *last), wanted);
         }
         Row::ToUtf16(source, room, last, answer, read, units) => {
             let wanted = (*answer, *read, *units);
-            writes_units(rt, place, decoder, (source, *room, *last), wanted);
+            writes::<Units, D>(rt, place, decoder, (source, *room, *last), wanted);
         }
         _ => {}
     }
 }
 
-/// Follows one row, in one of these five ways.
-fn follow_row<D: Tested>(
+/// Follows one row, in one of these six ways.
+fn follow_row(
     rt: &(impl AllocGlobal + Abort),
     place: Place,
-    of: D::Of,
-    decoder: &mut D,
+    of: Over,
+    decoder: &mut AnyDecoder,
     row: &Row,
 ) {
     follow_call(rt, place, decoder, row);
     follow_run(rt, place, decoder, row);
     follow_query(rt, place, decoder, row);
-    follow_events::<D>(rt, place, of, row);
-    follow_replacing::<D>(rt, place, of, decoder, row);
+    follow_own_query(rt, place, decoder, row);
+    follow_events(rt, place, of, row);
+    follow_replacing(rt, place, of, decoder, row);
 }
 
 /// Follows the rows in turn.
-pub(crate) fn follow<D: Tested>(rt: &(impl AllocGlobal + Abort), of: D::Of, rows: &[Row]) {
+pub(crate) fn follow(rt: &(impl AllocGlobal + Abort), of: Over, rows: &[Row]) {
     let mut case = "";
-    let mut decoder = D::made(of);
+    let mut decoder = of.decoder(rt);
     for (at, row) in rows.iter().enumerate() {
         if let Row::Decoder(name) = row {
             case = name;
-            decoder = D::made(of);
+            decoder = of.decoder(rt);
         }
         follow_row(rt, (case, at), of, &mut decoder, row);
     }

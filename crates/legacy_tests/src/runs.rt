@@ -1,8 +1,7 @@
 //! Runs of decoders: a table of cases, whole and in every cut, into outputs of every small length.
-mod encoders;
+pub(crate) mod encoders;
 
-use crate::codecs::DecoderOf::{Over, Replacement, SingleByte, UserDefined, Utf16};
-use crate::codecs::{Codec, DecoderCase, decode_each};
+use crate::codecs::DecoderCase;
 use crate::compared::prints;
 use crate::euc_kr::ONE_ENTRY;
 use crate::events::bad;
@@ -12,12 +11,13 @@ use legacy_base::DecoderResult::{InputEmpty, OutputFull};
 use legacy_base::{DecoderResult, Destination, RawDecoder};
 use legacy_codecs::{OutputForm, RunError, ScalarBuffer, Utf8Form, Utf16Form};
 use legacy_decoders::UserDefinedDecoder;
+use legacy_index_files::CodecName;
 use std::process::Abort;
 
 /// The cases, with U+AC02 at pointer 0 of index EUC-KR, and no other scalar in any index.
-const CASES_OVER_TABLES: &[DecoderCase] = &[
+pub(crate) const CASES_OVER_TABLES: &[DecoderCase] = &[
     (
-        Over(Codec::Big5),
+        CodecName::Big5,
         ONE_ENTRY,
         &[
             Decoder("a pair of two scalars, and a lead that the end cuts off"),
@@ -35,7 +35,7 @@ const CASES_OVER_TABLES: &[DecoderCase] = &[
         ],
     ),
     (
-        Over(Codec::EucKr),
+        CodecName::EucKr,
         ONE_ENTRY,
         &[
             Decoder("a pair, and a lead that the end cuts off"),
@@ -43,7 +43,7 @@ const CASES_OVER_TABLES: &[DecoderCase] = &[
         ],
     ),
     (
-        Over(Codec::ShiftJis),
+        CodecName::ShiftJis,
         ONE_ENTRY,
         &[
             Decoder("a single byte, and a lead behind a lead"),
@@ -54,7 +54,7 @@ const CASES_OVER_TABLES: &[DecoderCase] = &[
         ],
     ),
     (
-        Over(Codec::EucJp),
+        CodecName::EucJp,
         ONE_ENTRY,
         &[
             Decoder("an ASCII byte behind 8F and a lead, and an 8F that the end cuts off"),
@@ -62,7 +62,7 @@ const CASES_OVER_TABLES: &[DecoderCase] = &[
         ],
     ),
     (
-        Over(Codec::Gb18030),
+        CodecName::Gb18030,
         ONE_ENTRY,
         &[
             Decoder("two broken forms of four bytes, of which the end cuts off the second"),
@@ -79,7 +79,7 @@ const CASES_OVER_TABLES: &[DecoderCase] = &[
         ],
     ),
     (
-        Over(Codec::Iso2022Jp),
+        CodecName::Iso2022Jp,
         ONE_ENTRY,
         &[
             Decoder("two escapes, the yen sign, and a lead before an escape that the end cuts off"),
@@ -98,9 +98,9 @@ const CASES_OVER_TABLES: &[DecoderCase] = &[
 ];
 
 /// The cases, with U+AC02 at pointer 0 of index EUC-KR, and no other scalar in any index.
-const CASES_OF_OTHERS: &[DecoderCase] = &[
+pub(crate) const CASES_OF_OTHERS: &[DecoderCase] = &[
     (
-        Utf16(false),
+        CodecName::Utf16Le,
         ONE_ENTRY,
         &[
             Decoder("an unpaired high surrogate, and one with an odd byte at the end"),
@@ -119,7 +119,7 @@ const CASES_OF_OTHERS: &[DecoderCase] = &[
         ],
     ),
     (
-        SingleByte(&[]),
+        CodecName::SingleByte,
         ONE_ENTRY,
         &[
             Decoder("a byte without an entry"),
@@ -127,7 +127,7 @@ const CASES_OF_OTHERS: &[DecoderCase] = &[
         ],
     ),
     (
-        UserDefined,
+        CodecName::UserDefined,
         ONE_ENTRY,
         &[
             Decoder("the last byte of ASCII, and the first past it"),
@@ -151,7 +151,7 @@ const CASES_OF_OTHERS: &[DecoderCase] = &[
         ],
     ),
     (
-        Replacement,
+        CodecName::Replacement,
         ONE_ENTRY,
         &[
             Decoder("the first byte, and the rest"),
@@ -159,16 +159,6 @@ const CASES_OF_OTHERS: &[DecoderCase] = &[
         ],
     ),
 ];
-
-#[test]
-fn runs_over_tables_give_the_same_events_in_every_cut(rt: HostRuntime) {
-    decode_each(&rt, CASES_OVER_TABLES);
-}
-
-#[test]
-fn runs_of_the_other_decoders_do_so_too(rt: HostRuntime) {
-    decode_each(&rt, CASES_OF_OTHERS);
-}
 
 #[test]
 fn the_errors_print_their_texts(rt: HostRuntime) {

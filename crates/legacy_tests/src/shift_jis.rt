@@ -1,28 +1,14 @@
 //! Shift_JIS.
-mod encoder;
+pub(crate) mod encoder;
 
-use crate::codecs::DecoderOf::Over;
-use crate::codecs::{Codec, DecoderCase, decode_each};
+use crate::codecs::DecoderCase;
 use crate::events::bad;
 use crate::indexes::EMPTY;
+use crate::rows::Row;
 use crate::rows::Row::{BareLength, Decoder, Events, Neutral, ToUtf8, Utf8Length, Utf16Length};
-use crate::rows::{Row, Tested, Told};
 use legacy_base::DecodeEvent::Scalar;
 use legacy_base::DecoderResult::{InputEmpty, Malformed, OutputFull};
-use legacy_base::Tables;
-use legacy_decoders::ShiftJisDecoder;
-
-impl<'a> Tested for ShiftJisDecoder<'a> {
-    type Of = &'a Tables<'a>;
-
-    fn made(of: &'a Tables<'a>) -> ShiftJisDecoder<'a> {
-        ShiftJisDecoder::new(of)
-    }
-
-    fn told(&self) -> Told {
-        Told::of_neutral(self.in_neutral_state())
-    }
-}
+use legacy_index_files::CodecName;
 
 const WITHOUT_ENTRIES: &[Row] = &[
     Decoder("pointers 8836 to 10715 are U+E000 to U+E757"),
@@ -70,9 +56,4 @@ const WITHOUT_ENTRIES: &[Row] = &[
     Utf16Length(usize::MAX, None),
 ];
 
-const CASES: &[DecoderCase] = &[(Over(Codec::ShiftJis), EMPTY, WITHOUT_ENTRIES)];
-
-#[test]
-fn decodes_with_an_empty_index(rt: HostRuntime) {
-    decode_each(&rt, CASES);
-}
+pub(crate) const CASES: &[DecoderCase] = &[(CodecName::ShiftJis, EMPTY, WITHOUT_ENTRIES)];

@@ -1,25 +1,17 @@
 //! The single-byte codecs.
 pub(crate) mod encoder;
 
-use crate::codecs::DecoderOf::SingleByte;
-use crate::codecs::{DecoderCase, decode_each};
+use crate::codecs::{DecoderCase, follow_each};
 use crate::compared::is_answer;
 use crate::events::{Found, bad};
-use crate::indexes::{EMPTY, byte_table_of, entries_of};
+use crate::indexes::{EMPTY, Flat, byte_table_of, entries_of, flat};
+use crate::rows::Row;
 use crate::rows::Row::{BareLength, Decoder, Events, ToUtf8, Utf8Length, Utf16Length};
-use crate::rows::{Row, Tested, follow};
+use legacy_base::DecodeEvent;
 use legacy_base::DecodeEvent::{Bad, Scalar};
 use legacy_base::DecoderResult::{InputEmpty, Malformed, OutputFull};
-use legacy_base::{DecodeEvent, SingleByteTable};
 use legacy_decoders::SingleByteDecoder;
-
-impl<'a> Tested for SingleByteDecoder<'a> {
-    type Of = &'a SingleByteTable;
-
-    fn made(of: &'a SingleByteTable) -> SingleByteDecoder<'a> {
-        SingleByteDecoder::new(of)
-    }
-}
+use legacy_index_files::CodecName;
 
 const WITHOUT_ENTRIES: &[Row] = &[
     Decoder("an ASCII byte needs one byte, any other three"),
@@ -57,17 +49,13 @@ const GREEK: &[Row] = &[
 ];
 
 /// Four letters at their places in ISO-8859-7.
-const LETTERS: &[(usize, u16)] = &[(65, 0x391), (117, 0x3C5), (116, 0x3C4), (124, 0x3CC)];
+const LETTERS: &Flat =
+    &flat!(single_byte: &[(65, 0x391), (117, 0x3C5), (116, 0x3C4), (124, 0x3CC)]);
 
-const CASES: &[DecoderCase] = &[
-    (SingleByte(&[]), EMPTY, WITHOUT_ENTRIES),
-    (SingleByte(LETTERS), EMPTY, GREEK),
+pub(crate) const CASES: &[DecoderCase] = &[
+    (CodecName::SingleByte, EMPTY, WITHOUT_ENTRIES),
+    (CodecName::SingleByte, LETTERS, GREEK),
 ];
-
-#[test]
-fn decodes_ascii_and_the_bytes_that_have_an_entry(rt: HostRuntime) {
-    decode_each(&rt, CASES);
-}
 
 /// The entry of byte 85, bytes, and the number of bytes before the first that is another scalar.
 const FRONTS: &[(u16, &[u8], usize)] = &[
@@ -86,17 +74,15 @@ fn the_front_of_latin_1_ends_at_another_scalar(rt: HostRuntime) {
     }
 }
 
-/// Returns letters of ISO-8859-7: the bytes C1 to FE are the scalars from U+0391, but D2 is none.
-fn letters() -> [u16; 128] {
-    let mut entries = [0u16; 128];
+/// Returns letters of ISO-8859-7 and their places: the bytes C1 to FE are the scalars from U+0391, but D2 is none.
+fn letters() -> [(usize, u16); 62] {
+    let mut letters = [(0usize, 0u16); 62];
     let mut scalar = 0x391;
-    for place in 65..127 {
-        if place != 82 {
-            entries[place] = scalar;
-        }
+    for at in 0..62 {
+        letters[at] = (65 + at, if at == 17 { 0 } else { scalar });
         scalar = scalar.saturating_add(1);
     }
-    entries
+    letters
 }
 
 /// Returns the event of a byte at a place, by these letters.
@@ -119,7 +105,10 @@ fn decodes_words_of_letters_and_ascii(rt: HostRuntime) {
     for (place, byte) in input.iter().enumerate() {
         events.push(event_of(place, *byte));
     }
-    let table = byte_table_of(&rt, &letters());
+    let letters = letters();
     let rows = [Events(input, events.as_slice())];
-    follow::<SingleByteDecoder>(&rt, &table, &rows);
+    follow_each(
+        &rt,
+        &[(CodecName::SingleByte, &flat!(single_byte: &letters), &rows)],
+    );
 }

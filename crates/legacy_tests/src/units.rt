@@ -17,6 +17,8 @@ pub(crate) trait Form {
 
     const NAME: &'static str;
 
+    const ZERO: Self::Unit;
+
     /// Makes a call.
     fn call<D: RawDecoder>(
         decoder: &mut D,
@@ -41,14 +43,8 @@ pub(crate) trait Form {
         lengths: &[usize],
     ) -> Result<DecodeRun, RunError>;
 
-    /// Makes a call with limited room, and adds the scalars that it writes to what was found.
-    fn find<D: RawDecoder>(
-        decoder: &mut D,
-        source: &[u8],
-        room: usize,
-        last: bool,
-        found: &mut Found,
-    ) -> (DecoderResult, usize);
+    /// Adds the scalars of the code units to what was found.
+    fn push_scalars(units: &[Self::Unit], found: &mut Found);
 }
 
 /// UTF-8, in bytes.
@@ -61,6 +57,8 @@ impl Form for Bytes {
     type Unit = u8;
 
     const NAME: &'static str = "into UTF-8";
+
+    const ZERO: u8 = 0;
 
     fn call<D: RawDecoder>(
         decoder: &mut D,
@@ -89,26 +87,12 @@ impl Form for Bytes {
         decode_run_utf8(alloc, decoder, pieces, lengths)
     }
 
-    fn find<D: RawDecoder>(
-        decoder: &mut D,
-        source: &[u8],
-        room: usize,
-        last: bool,
-        found: &mut Found,
-    ) -> (DecoderResult, usize) {
-        let mut output = [0u8; 48];
-        let (answer, read, written) = Bytes::call(
-            decoder,
-            source,
-            &mut output[..room.min(48)],
-            last,
-        );
-        if let Ok(text) = str::from_utf8(&output[..written.min(48)]) {
+    fn push_scalars(units: &[u8], found: &mut Found) {
+        if let Ok(text) = str::from_utf8(units) {
             for scalar in text.chars() {
                 found.push(Scalar(scalar));
             }
         }
-        (answer, read)
     }
 }
 
@@ -116,6 +100,8 @@ impl Form for Units {
     type Unit = u16;
 
     const NAME: &'static str = "into UTF-16";
+
+    const ZERO: u16 = 0;
 
     fn call<D: RawDecoder>(
         decoder: &mut D,
@@ -144,25 +130,11 @@ impl Form for Units {
         decode_run_utf16(alloc, decoder, pieces, lengths)
     }
 
-    fn find<D: RawDecoder>(
-        decoder: &mut D,
-        source: &[u8],
-        room: usize,
-        last: bool,
-        found: &mut Found,
-    ) -> (DecoderResult, usize) {
-        let mut output = [0u16; 96];
-        let (answer, read, written) = Units::call(
-            decoder,
-            source,
-            &mut output[..room.min(96)],
-            last,
-        );
-        for unit in char::decode_utf16(output[..written.min(96)].iter().copied()) {
+    fn push_scalars(units: &[u16], found: &mut Found) {
+        for unit in char::decode_utf16(units.iter().copied()) {
             if let Ok(scalar) = unit {
                 found.push(Scalar(scalar));
             }
         }
-        (answer, read)
     }
 }

@@ -1,22 +1,13 @@
 //! x-user-defined.
-mod encoder;
+pub(crate) mod encoder;
 
-use crate::codecs::DecoderOf::UserDefined;
-use crate::codecs::{DecoderCase, decode_each};
+use crate::codecs::DecoderCase;
 use crate::indexes::EMPTY;
+use crate::rows::Row;
 use crate::rows::Row::{BareLength, Decoder, Events, ToUtf8, ToUtf16, Utf8Length, Utf16Length};
-use crate::rows::{Row, Tested};
 use legacy_base::DecodeEvent::Scalar;
 use legacy_base::DecoderResult::{InputEmpty, OutputFull};
-use legacy_decoders::UserDefinedDecoder;
-
-impl Tested for UserDefinedDecoder {
-    type Of = ();
-
-    fn made(_of: ()) -> UserDefinedDecoder {
-        UserDefinedDecoder::new()
-    }
-}
+use legacy_index_files::CodecName;
 
 const ROWS: &[Row] = &[
     Decoder("80 to FF are U+F780 to U+F7FF"),
@@ -99,9 +90,4 @@ const ROWS: &[Row] = &[
     ),
 ];
 
-const CASES: &[DecoderCase] = &[(UserDefined, EMPTY, ROWS)];
-
-#[test]
-fn decodes_bytes_past_ascii_as_private_use_scalars(rt: HostRuntime) {
-    decode_each(&rt, CASES);
-}
+pub(crate) const CASES: &[DecoderCase] = &[(CodecName::UserDefined, EMPTY, ROWS)];

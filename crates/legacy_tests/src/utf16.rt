@@ -1,31 +1,14 @@
 //! UTF-16.
-use crate::codecs::DecoderOf::Utf16;
-use crate::codecs::{DecoderCase, decode_each};
-use crate::events::bad;
+use crate::codecs::{DecoderCase, follow_each};
+use crate::events::{Found, bad};
 use crate::indexes::EMPTY;
+use crate::rows::Row;
 use crate::rows::Row::{Additional, BareLength, Decoder, Events, ToUtf8, ToUtf16, Utf16Length};
-use crate::rows::{Row, Tested, Told, follow};
 use legacy_base::DecodeEvent;
 use legacy_base::DecodeEvent::Scalar;
 use legacy_base::DecoderResult::{InputEmpty, Malformed, OutputFull};
-use legacy_decoders::Utf16Decoder;
+use legacy_index_files::CodecName;
 use std::process::Abort;
-
-impl Tested for Utf16Decoder {
-    /// Whether the byte order is big-endian.
-    type Of = bool;
-
-    fn made(of: bool) -> Utf16Decoder {
-        Utf16Decoder::new(of)
-    }
-
-    fn told(&self) -> Told {
-        Told {
-            neutral: None,
-            additional: Some(self.additional_from_state()),
-        }
-    }
-}
 
 const LITTLE_ENDIAN: &[Row] = &[
     Decoder("the unit behind a lone high surrogate is held back"),
@@ -128,15 +111,10 @@ const BIG_ENDIAN: &[Row] = &[
     Utf16Length(usize::MAX, None),
 ];
 
-const CASES: &[DecoderCase] = &[
-    (Utf16(false), EMPTY, LITTLE_ENDIAN),
-    (Utf16(true), EMPTY, BIG_ENDIAN),
+pub(crate) const CASES: &[DecoderCase] = &[
+    (CodecName::Utf16Le, EMPTY, LITTLE_ENDIAN),
+    (CodecName::Utf16Be, EMPTY, BIG_ENDIAN),
 ];
-
-#[test]
-fn decodes_units_in_the_byte_order_that_is_named(rt: HostRuntime) {
-    decode_each(&rt, CASES);
-}
 
 /// Compares the events of these units, and of an odd byte if there is one, in either byte order.
 fn in_either_order(
@@ -156,7 +134,12 @@ fn in_either_order(
             bytes.extend_from_slice(&pair).expect(rt, "no memory");
         }
         bytes.extend_from_slice(odd).expect(rt, "no memory");
-        follow::<Utf16Decoder>(rt, big_endian, &[Events(&bytes, events)]);
+        let codec = if big_endian {
+            CodecName::Utf16Be
+        } else {
+            CodecName::Utf16Le
+        };
+        follow_each(rt, &[(codec, EMPTY, &[Events(&bytes, events)])]);
     }
 }
 
@@ -195,33 +178,6 @@ const RUNS: &[u16] = &[
     0xDFFF, 0x43, 0x4E00, 0x43, 0x4E00, 0xD800, 0x44, 0x44, 0x2603, 0x44, 0x2603,
 ];
 
-const EVENTS_OF_RUNS: &[DecodeEvent] = &[
-    Scalar('A'),
-    Scalar('\u{2603}'),
-    Scalar('\u{E4}'),
-    Scalar('A'),
-    Scalar('\u{D7FF}'),
-    Scalar('\u{E000}'),
-    Scalar('\u{FFFF}'),
-    Scalar('\u{1F4A9}'),
-    Scalar('B'),
-    Scalar('\u{2603}'),
-    Scalar('B'),
-    Scalar('\u{2603}'),
-    bad!(26, 2),
-    Scalar('C'),
-    Scalar('\u{4E00}'),
-    Scalar('C'),
-    Scalar('\u{4E00}'),
-    bad!(36, 2),
-    Scalar('D'),
-    Scalar('D'),
-    Scalar('\u{2603}'),
-    Scalar('D'),
-    Scalar('\u{2603}'),
-    bad!(48, 1),
-];
-
 /// Units of one, two and three bytes in UTF-8 in turn.
 ///
 /// A surrogate pair is at 19 and 20, and an unpaired surrogate at 39.
@@ -231,50 +187,29 @@ const UNITS: &[u16] = &[
     0xE9, 0x4E00, 0x41, 0xE9, 0x4E00, 0x41, 0xE9, 0x4E00, 0x41, 0xE9, 0x4E00, 0xD83D,
 ];
 
-const EVENTS_OF_UNITS: &[DecodeEvent] = &[
-    Scalar('A'),
-    Scalar('\u{E9}'),
-    Scalar('\u{4E00}'),
-    Scalar('A'),
-    Scalar('\u{E9}'),
-    Scalar('\u{4E00}'),
-    Scalar('A'),
-    Scalar('\u{E9}'),
-    Scalar('\u{4E00}'),
-    Scalar('A'),
-    Scalar('\u{E9}'),
-    Scalar('\u{4E00}'),
-    Scalar('A'),
-    Scalar('\u{E9}'),
-    Scalar('\u{4E00}'),
-    Scalar('A'),
-    Scalar('\u{E9}'),
-    Scalar('\u{4E00}'),
-    Scalar('A'),
-    Scalar('\u{1F4A9}'),
-    Scalar('A'),
-    Scalar('\u{E9}'),
-    Scalar('\u{4E00}'),
-    Scalar('A'),
-    Scalar('\u{E9}'),
-    Scalar('\u{4E00}'),
-    Scalar('A'),
-    Scalar('\u{E9}'),
-    Scalar('\u{4E00}'),
-    Scalar('A'),
-    Scalar('\u{E9}'),
-    Scalar('\u{4E00}'),
-    Scalar('A'),
-    Scalar('\u{E9}'),
-    Scalar('\u{4E00}'),
-    Scalar('A'),
-    Scalar('\u{E9}'),
-    Scalar('\u{4E00}'),
-    bad!(78, 2),
-];
+/// Returns the scalars of the units, and the places of unpaired surrogates, by Rust's own decoder.
+fn events_of(units: &[u16]) -> Found {
+    let mut found = Found::new();
+    let mut place = 0usize;
+    for unit in char::decode_utf16(units.iter().copied()) {
+        match unit {
+            Ok(scalar) => {
+                found.push(Scalar(scalar));
+                place = place.saturating_add(2 * scalar.len_utf16());
+            }
+            Err(_) => {
+                found.push(bad!(place, 2));
+                place = place.saturating_add(2);
+            }
+        }
+    }
+    found
+}
 
 #[test]
 fn decodes_units_of_any_length_in_either_order(rt: HostRuntime) {
-    in_either_order(&rt, RUNS, b"\x41", EVENTS_OF_RUNS);
-    in_either_order(&rt, UNITS, b"", EVENTS_OF_UNITS);
+    let mut events = events_of(RUNS);
+    events.push(bad!(48, 1));
+    in_either_order(&rt, RUNS, b"\x41", events.as_slice());
+    in_either_order(&rt, UNITS, b"", events_of(UNITS).as_slice());
 }

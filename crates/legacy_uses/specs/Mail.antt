@@ -3,7 +3,7 @@ use Rattle.std.specs.Prelude.{◌≡◌, ℕ, List, ◌++◌, length, Bool, ◌=
 use Rattle.legacy_base.specs.Grammar.{events_of}
 use Rattle.legacy_base.specs.States.{DecoderState}
 use Rattle.legacy_tables.specs.Indexes.{FlatIndexes}
-use Rattle.legacy_codecs.specs.declared.faults.MalformedSequence.{MalformedSequence}
+use Rattle.legacy_codecs.specs.declared.malformed.MalformedSequence.{MalformedSequence}
 use Rattle.legacy_codecs.specs.MalformedSequences.{malformed_of}
 use Rattle.legacy_encodings.specs.declared.registry.EncodingTable.{EncodingTable}
 use Rattle.legacy_encodings.specs.Registries.{IsDecoderOf}

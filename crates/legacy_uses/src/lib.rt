@@ -3,9 +3,7 @@
 //! Each is the core of a small program, proved by the contracts of the calls that it makes.
 #![tactic(auto)]
 
-pub mod beginning;
 pub mod browser;
-pub mod character_list;
 pub mod checker;
 pub mod code_pages;
 pub mod mail;

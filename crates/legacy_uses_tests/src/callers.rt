@@ -1,8 +1,9 @@
 //! Calls each caller once, for EUC-KR with U+AC02 at pointer 0 and no other scalar.
+use crate::packing::no_entries;
 use legacy_codecs::{
-    CachedEncoder, EucKrDecoder, EucKrEncoder, GB18030_2022_PUA, Indexes, MalformedSequence,
-    PAIR_ROOM, RawDecoder, SingleByteRun, SingleByteTable, Tables, UserDefinedEncoder,
-    decode_piece, decode_whole, encode_whole, malformed_sequences, transcode,
+    CachedEncoder, EucKrDecoder, EucKrEncoder, MalformedSequence, PAIR_ROOM, RawDecoder,
+    SingleByteRun, SingleByteTable, Tables, UserDefinedEncoder, decode_piece, decode_whole,
+    encode_whole, malformed_sequences, transcode,
 };
 use legacy_encodings::{Coders, Registry, RegistryError};
 use legacy_index_files::{Encoding, FileIndex};
@@ -16,16 +17,8 @@ use std::process::Abort;
 
 /// Returns the tables of that index.
 pub(crate) fn tables_of<'a>(rt: &impl Abort) -> Tables<'a> {
-    let indexes = Indexes {
-        big5: &[],
-        euc_kr: &[0xAC02],
-        jis0208: &[],
-        jis0212: &[],
-        gb18030: &[],
-        katakana: &[],
-        ranges: &[],
-        gb18030_pua: &GB18030_2022_PUA,
-    };
+    let mut indexes = no_entries();
+    indexes.euc_kr = &[0xAC02];
     match Tables::new(&indexes) {
         Ok(tables) => tables,
         Err(fault) => panic!(rt; "{fault}"),

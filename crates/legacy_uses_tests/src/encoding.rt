@@ -1,59 +1,11 @@
 //! The program that encodes: its statuses and bytes, how it takes an input that is cut or malformed, and what it says if
 //! a stream or memory fails.
-use crate::compared::holds;
-use crate::streams::{FailingReader, FailingWriter};
-use crate::words::words_in;
-use legacy_command::encoding::run_encode;
-use std::alloc::Global;
-use std::io::{Read, Write};
+use crate::programs::{
+    Failure, Refused, Request, UNREAD, UNWRITTEN, answers, fails, lacks_memory, refuses,
+};
+use legacy_command::host::Program;
 
 const USAGE: &[u8] = b"usage: legacy_encode CODEC [INDEX FILE]...\n";
-
-/// The program's answer.
-fn ran(
-    alloc: Global,
-    words: &[&str],
-    files: &[Option<&[u8]>],
-    input: &mut impl Read,
-    output: &mut impl Write,
-    errors: &mut impl Write,
-) -> u8 {
-    run_encode(alloc, words, files, input, output, errors)
-}
-
-/// Whether the program returns this status for the words, the files and an input of which a read gives so many bytes, and
-/// writes these bytes and errors.
-fn writes(
-    alloc: Global,
-    line: &str,
-    files: &[Option<&[u8]>],
-    (input, most): (&[u8], usize),
-    status: u8,
-    bytes: &[u8],
-    error: &[u8],
-) -> bool {
-    let Some(words) = words_in(alloc, line) else {
-        return false;
-    };
-    let words = words.as_slice();
-    let mut input = FailingReader {
-        bytes: input,
-        most,
-        reads: 99,
-    };
-    let mut output = Vec::new(alloc);
-    let mut errors = Vec::new(alloc);
-    let found = ran(alloc, words, files, &mut input, &mut output, &mut errors);
-    found == status && output.as_slice() == bytes && errors.as_slice() == error
-}
-
-/// Words, files, an input, and its bytes.
-type Request = (
-    &'static str,
-    &'static [Option<&'static [u8]>],
-    &'static [u8],
-    &'static [u8],
-);
 
 const REQUESTS: &[Request] = &[
     // without files
@@ -151,24 +103,10 @@ const REQUESTS: &[Request] = &[
     ),
 ];
 
-// A read of one, two or three bytes cuts each character at each of its places.
 #[test]
 fn encodes_as_the_words_ask_however_the_input_is_cut(rt: HostRuntime) {
-    for (line, files, input, bytes) in REQUESTS {
-        for most in [1, 2, 3, 99] {
-            let is_so = writes(rt.alloc(), *line, *files, (*input, most), 0, *bytes, b"");
-            holds(&rt, *line, is_so);
-        }
-    }
+    answers(&rt, Program::Encode, REQUESTS);
 }
-
-/// Words that are refused, or whose files are; the files; the status and the error.
-type Refused = (
-    &'static str,
-    &'static [Option<&'static [u8]>],
-    u8,
-    &'static [u8],
-);
 
 const REFUSED: &[Refused] = &[
     // Words that are no request are refused, and codecs without an encoder.
@@ -192,92 +130,38 @@ const REFUSED: &[Refused] = &[
 
 #[test]
 fn refuses_words_and_files_to_encode_by(rt: HostRuntime) {
-    for (line, files, status, error) in REFUSED {
-        let is_so = writes(rt.alloc(), *line, *files, (b"A", 99), *status, b"", *error);
-        holds(&rt, *line, is_so);
-    }
+    refuses(&rt, Program::Encode, REFUSED);
 }
 
-/// Reads; writes, and whether there is a flush; the status, the bytes and the error.
-type Failure = (usize, (usize, bool), u8, &'static [u8], &'static [u8]);
+const WORD: &str = "x-user-defined";
 
 // The text is read by one byte at a time, and a write takes up to three bytes.
 const FAILURES: &[Failure] = &[
-    (9, (9, true), 0, b"a\x80&#165;", b""),
+    (WORD, 9, (9, true), 99, 0, b"a\x80&#165;", b""),
     // A failed read keeps what comes before it, without the end of what it cuts.
-    (0, (9, true), 1, b"", b"input: cannot be read\n"),
-    (1, (9, true), 1, b"a", b"input: cannot be read\n"),
-    (3, (9, true), 1, b"a", b"input: cannot be read\n"),
-    (4, (9, true), 1, b"a\x80", b"input: cannot be read\n"),
-    (6, (9, true), 1, b"a\x80&#165;", b"input: cannot be read\n"),
+    (WORD, 0, (9, true), 99, 1, b"", UNREAD),
+    (WORD, 1, (9, true), 99, 1, b"a", UNREAD),
+    (WORD, 3, (9, true), 99, 1, b"a", UNREAD),
+    (WORD, 4, (9, true), 99, 1, b"a\x80", UNREAD),
+    (WORD, 6, (9, true), 99, 1, b"a\x80&#165;", UNREAD),
     // A failed write keeps the bytes before it.
-    (9, (0, true), 1, b"", b"output: cannot be written\n"),
-    (9, (1, true), 1, b"a", b"output: cannot be written\n"),
-    (9, (3, true), 1, b"a\x80&#1", b"output: cannot be written\n"),
-    (
-        9,
-        (9, false),
-        1,
-        b"a\x80&#165;",
-        b"output: cannot be written\n",
-    ),
+    (WORD, 9, (0, true), 99, 1, b"", UNWRITTEN),
+    (WORD, 9, (1, true), 99, 1, b"a", UNWRITTEN),
+    (WORD, 9, (3, true), 99, 1, b"a\x80&#1", UNWRITTEN),
+    (WORD, 9, (9, false), 99, 1, b"a\x80&#165;", UNWRITTEN),
 ];
-
-/// Whether the program returns this status for a text, reading a byte at a read of so many, writing up to three bytes at a
-/// write of so many, and writes these bytes and errors.
-fn fails(
-    alloc: Global,
-    reads: usize,
-    (writes, flushes): (usize, bool),
-    status: u8,
-    bytes: &[u8],
-    error: &[u8],
-) -> bool {
-    let mut input = FailingReader {
-        bytes: b"a\xEF\x9E\x80\xC2\xA5",
-        most: 1,
-        reads,
-    };
-    let mut output = FailingWriter {
-        written: Vec::new(alloc),
-        most: 3,
-        writes,
-        flushes,
-    };
-    let mut errors = Vec::new(alloc);
-    let words = ["x-user-defined"];
-    let found = ran(alloc, &words, &[], &mut input, &mut output, &mut errors);
-    found == status && output.written.as_slice() == bytes && errors.as_slice() == error
-}
 
 #[test]
 fn tells_that_a_stream_fails_while_it_encodes(rt: HostRuntime) {
-    for (reads, output, status, bytes, error) in FAILURES {
-        let is_so = fails(rt.alloc(), *reads, *output, *status, *bytes, *error);
-        holds(&rt, "x-user-defined", is_so);
-    }
+    fails(
+        &rt,
+        Program::Encode,
+        (b"a\xEF\x9E\x80\xC2\xA5", 3),
+        FAILURES,
+    );
 }
 
-/// The program's answer to EUC-KR with a file, and what it writes in two bytes of output and seven for an error.
-fn ran_without_memory(alloc: Global) -> (u8, [u8; 2], [u8; 7]) {
-    let (mut bytes, mut line) = ([0u8; 2], [0u8; 7]);
-    let mut output: &mut [u8] = &mut bytes;
-    let mut errors: &mut [u8] = &mut line;
-    let mut input: &[u8] = b"\xEA\xB0\x82";
-    let words = ["euc-kr", "euc-kr", "FILE"];
-    let file: &[u8] = b"0 0xAC02\n";
-    let files = [Some(file)];
-    let status = ran(alloc, &words, &files, &mut input, &mut output, &mut errors);
-    (status, bytes, line)
-}
-
-// In a run where one allocation is refused, a call that it hits tells so, and else it writes its bytes.
 #[test]
 fn tells_that_memory_is_refused_to_an_encoder(rt: HostRuntime) {
-    let (status, bytes, line) = ran_without_memory(rt.alloc());
-    if status == 0 {
-        assert!(rt; bytes.as_slice() == b"\x81\x41".as_slice());
-    } else {
-        assert!(rt; status == 1 && line.as_slice() == b"memory\n".as_slice());
-    }
+    lacks_memory(&rt, Program::Encode, b"\xEA\xB0\x82", b"\x81\x41");
 }

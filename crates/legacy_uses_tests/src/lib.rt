@@ -3,10 +3,14 @@
 //! They test index files and packing (`legacy_index_files`), recoding and the program
 //! (`legacy_streams`, `legacy_command`), and the callers (`legacy_uses`). They are a crate of their
 //! own: the tests of a crate are proved beside all of that crate, and these need none of it.
+//!
+//! The crate also has a source and a destination as a user writes them, proved.
 #![tactic(auto)]
 
+pub mod beginning;
 #[cfg(test)]
 mod callers;
+pub mod character_list;
 #[cfg(test)]
 mod compared;
 #[cfg(test)]
@@ -23,6 +27,8 @@ mod owned_indexes;
 mod packing;
 #[cfg(test)]
 mod program;
+#[cfg(test)]
+mod programs;
 #[cfg(test)]
 mod recoding;
 #[cfg(test)]

@@ -1,10 +1,10 @@
 //! A source and a destination that a user wrote, by EUC-KR with U+AC02 at pointer 0, and by UTF-16.
+use crate::beginning::encode_beginning;
 use crate::callers::tables_of;
+use crate::character_list::decode_to_characters;
 use legacy_codecs::{
     DecoderResult, EncoderResult, EucKrDecoder, EucKrEncoder, RawDecoder, Utf16Decoder,
 };
-use legacy_uses::beginning::encode_beginning;
-use legacy_uses::character_list::decode_to_characters;
 use std::process::Abort;
 
 /// Encodes at most so many characters of a text as a last call, into so many bytes, and compares the answer, what was

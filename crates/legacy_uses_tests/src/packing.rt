@@ -5,7 +5,8 @@ use std::alloc::Global;
 use std::process::Abort;
 use std::test::Fail;
 
-fn no_entries<'a>() -> Indexes<'a> {
+/// Returns indexes without an entry.
+pub(crate) fn no_entries<'a>() -> Indexes<'a> {
     Indexes {
         big5: &[],
         euc_kr: &[],

@@ -1,49 +1,18 @@
 //! The program: its statuses and texts, and what it says where a stream or memory fails, or a word is no text.
-use crate::compared::holds;
-use crate::streams::{BYTES, FailingReader, FailingWriter, TEXT};
-use crate::words::words_in;
+use crate::programs::{
+    Failure, Refused, Request, UNREAD, UNWRITTEN, answers, fails, lacks_memory, refuses,
+};
+use crate::streams::{BYTES, TEXT};
 use legacy_command::arguments::{ArgumentsError, arguments, status_of};
-use legacy_command::program::{Fault, run};
+use legacy_command::host::Program;
+use legacy_command::program::Fault;
 use std::alloc::Global;
 use std::env::{Env, FillError};
 use std::fmt::Display;
-use std::io::{Read, Write};
-use std::process::Abort;
+use std::io::Write;
 use std::test::Fail;
 
 const USAGE: &[u8] = b"usage: legacy_recode [--text] CODEC [INDEX FILE]...\n";
-
-/// Runs the program and returns its status.
-fn ran(
-    alloc: Global,
-    words: &[&str],
-    files: &[Option<&[u8]>],
-    input: &mut impl Read,
-    output: &mut impl Write,
-    errors: &mut impl Write,
-) -> u8 {
-    run(alloc, words, files, input, output, errors)
-}
-
-/// Whether the program answers this status to the words, the files and the input, and prints these lines and errors.
-fn prints(
-    alloc: Global,
-    line: &str,
-    files: &[Option<&[u8]>],
-    mut input: &[u8],
-    status: u8,
-    lines: &[u8],
-    error: &[u8],
-) -> bool {
-    let Some(words) = words_in(alloc, line) else {
-        return false;
-    };
-    let words = words.as_slice();
-    let mut output = Vec::new(alloc);
-    let mut errors = Vec::new(alloc);
-    let found = ran(alloc, words, files, &mut input, &mut output, &mut errors);
-    found == status && output.as_slice() == lines && errors.as_slice() == error
-}
 
 // More than are told at once, from a place of one digit to places of four.
 #[test]
@@ -53,18 +22,13 @@ fn tells_each_malformed_byte(rt: HostRuntime) -> Result<(), Fail> {
     for place in 0..1200 {
         writeln!(lines, "bad {place} 1")?;
     }
-    let is_so = prints(rt.alloc(), "big5", &[], &bytes, 0, lines.as_slice(), b"");
-    holds(&rt, "big5", is_so);
+    answers(
+        &rt,
+        Program::Recode,
+        &[("big5", &[], &bytes, lines.as_slice())],
+    );
     Ok(())
 }
-
-/// Words, files, an input, and its lines or its text.
-type Request = (
-    &'static str,
-    &'static [Option<&'static [u8]>],
-    &'static [u8],
-    &'static [u8],
-);
 
 const REQUESTS: &[Request] = &[
     // Without files.
@@ -158,22 +122,8 @@ const REQUESTS: &[Request] = &[
 
 #[test]
 fn recodes_as_the_words_ask(rt: HostRuntime) {
-    for (line, files, input, lines) in REQUESTS {
-        holds(
-            &rt,
-            *line,
-            prints(rt.alloc(), *line, *files, *input, 0, *lines, b""),
-        );
-    }
+    answers(&rt, Program::Recode, REQUESTS);
 }
-
-/// Words that are refused, or whose files are; the files; the status and the error.
-type Refused = (
-    &'static str,
-    &'static [Option<&'static [u8]>],
-    u8,
-    &'static [u8],
-);
 
 const TWO_FILES: &str = "euc-kr euc-kr KR single-byte SB";
 
@@ -226,13 +176,7 @@ const REFUSED: &[Refused] = &[
 
 #[test]
 fn refuses_words_and_files(rt: HostRuntime) {
-    for (line, files, status, error) in REFUSED {
-        holds(
-            &rt,
-            *line,
-            prints(rt.alloc(), *line, *files, b"A", *status, b"", *error),
-        );
-    }
+    refuses(&rt, Program::Recode, REFUSED);
 }
 
 /// An environment with these words, of which the first is the program's name, and nothing else.
@@ -316,19 +260,6 @@ fn the_faults_print_their_texts(rt: HostRuntime) {
     assert!(rt; says(rt.alloc(), &ArgumentsError::Memory, "memory"));
 }
 
-/// Words; numbers of reads, writes and writes of errors; the status, the lines and the error.
-///
-/// With the writes comes whether a flush succeeds.
-type Failure = (
-    &'static str,
-    usize,
-    (usize, bool),
-    usize,
-    u8,
-    &'static [u8],
-    &'static [u8],
-);
-
 const FAILURES: &[Failure] = &[
     (
         "x-user-defined",
@@ -337,17 +268,9 @@ const FAILURES: &[Failure] = &[
         99,
         1,
         b"U+0061\nU+F780\n",
-        b"input: cannot be read\n",
+        UNREAD,
     ),
-    (
-        "x-user-defined",
-        4,
-        (0, true),
-        99,
-        1,
-        b"",
-        b"output: cannot be written\n",
-    ),
+    ("x-user-defined", 4, (0, true), 99, 1, b"", UNWRITTEN),
     (
         "x-user-defined",
         4,
@@ -355,103 +278,20 @@ const FAILURES: &[Failure] = &[
         99,
         1,
         b"U+0061\nU+F780\nU+F7FF\n",
-        b"output: cannot be written\n",
+        UNWRITTEN,
     ),
-    (
-        "x-user-defined",
-        0,
-        (6, false),
-        99,
-        1,
-        b"",
-        b"input: cannot be read\n",
-    ),
+    ("x-user-defined", 0, (6, false), 99, 1, b"", UNREAD),
     // If the line of an error cannot be written, the status is the same.
     ("latin", 4, (9, true), 0, 2, b"", b""),
     ("big5 big5 FILE", 4, (9, true), 0, 1, b"", b""),
 ];
 
-/// Checks the status and the output of the program for these words, with streams that fail.
-///
-/// It can make `reads` reads of one byte, `writes` writes of up to seven bytes, and `error_writes`
-/// writes of errors.
-fn fails(
-    alloc: Global,
-    line: &str,
-    reads: usize,
-    (writes, flushes): (usize, bool),
-    error_writes: usize,
-    status: u8,
-    lines: &[u8],
-    error: &[u8],
-) -> bool {
-    let Some(words) = words_in(alloc, line) else {
-        return false;
-    };
-    let words = words.as_slice();
-    let mut input = FailingReader {
-        bytes: BYTES,
-        most: 1,
-        reads,
-    };
-    let mut output = FailingWriter {
-        written: Vec::new(alloc),
-        most: 7,
-        writes,
-        flushes,
-    };
-    let mut errors = FailingWriter {
-        written: Vec::new(alloc),
-        most: 7,
-        writes: error_writes,
-        flushes: true,
-    };
-    let found = ran(alloc, words, &[], &mut input, &mut output, &mut errors);
-    found == status && output.written.as_slice() == lines && errors.written.as_slice() == error
-}
-
 #[test]
 fn tells_that_a_stream_fails(rt: HostRuntime) {
-    for (line, reads, output, errors, status, lines, error) in FAILURES {
-        holds(
-            &rt,
-            *line,
-            fails(
-                rt.alloc(),
-                *line,
-                *reads,
-                *output,
-                *errors,
-                *status,
-                *lines,
-                *error,
-            ),
-        );
-    }
+    fails(&rt, Program::Recode, (BYTES, 7), FAILURES);
 }
 
-/// Runs the program for EUC-KR with a file, and returns its status and its output.
-///
-/// The lines have room for seven bytes, and so have errors.
-fn ran_without_memory(alloc: Global) -> (u8, [u8; 7], [u8; 7]) {
-    let (mut lines, mut line) = ([0u8; 7], [0u8; 7]);
-    let mut output: &mut [u8] = &mut lines;
-    let mut errors: &mut [u8] = &mut line;
-    let mut input: &[u8] = b"\x81\x41";
-    let words = ["euc-kr", "euc-kr", "FILE"];
-    let file: &[u8] = b"0 0xAC02\n";
-    let files = [Some(file)];
-    let status = ran(alloc, &words, &files, &mut input, &mut output, &mut errors);
-    (status, lines, line)
-}
-
-// If one allocation is refused in a run, the program says so if it asked for it, and otherwise prints its lines.
 #[test]
 fn tells_that_memory_is_refused(rt: HostRuntime) {
-    let (status, lines, line) = ran_without_memory(rt.alloc());
-    if status == 0 {
-        assert!(rt; lines.as_slice() == b"U+AC02\n".as_slice());
-    } else {
-        assert!(rt; status == 1 && line.as_slice() == b"memory\n".as_slice());
-    }
+    lacks_memory(&rt, Program::Recode, b"\x81\x41", b"U+AC02\n");
 }

@@ -1,8 +1,7 @@
 //! Recoding: what is written before a read or a write fails, and what is kept from piece to piece.
+use crate::packing::no_entries;
 use crate::streams::{BYTES, FailingReader, FailingWriter, TEXT};
-use legacy_codecs::{
-    EucKrDecoder, GB18030_2022_PUA, Indexes, RawDecoder, Tables, UserDefinedDecoder, Utf16Decoder,
-};
+use legacy_codecs::{EucKrDecoder, RawDecoder, Tables, UserDefinedDecoder, Utf16Decoder};
 use legacy_streams::recode::{RecodeError, recode};
 use legacy_streams::text::recode_text;
 use std::alloc::Global;
@@ -76,172 +75,61 @@ fn user_defined_gives(
 /// The limits are bytes a read, and reads; and bytes a write, and writes.
 type Recoding = (bool, (usize, usize), (usize, usize), Recoded, &'static [u8]);
 
+const READ: Recoded = Err(RecodeError::Read);
+
+const WRITE: Recoded = Err(RecodeError::Write);
+
+const CLEAN: Recoded = Ok(false);
+
+/// The lines of the three bytes.
+const LINES: &[u8] = b"U+0061\nU+F780\nU+F7FF\n";
+
 // A read of all three bytes makes one piece, whose lines or text are written at once. A read of each byte makes three
 // pieces.
 const RECODINGS: &[Recoding] = &[
-    (
-        false,
-        (9, 9),
-        (99, 99),
-        Ok(false),
-        b"U+0061\nU+F780\nU+F7FF\n",
-    ),
+    (false, (9, 9), (99, 99), CLEAN, LINES),
     // After a failed read the lines before it are kept.
-    (false, (1, 0), (99, 99), Err(RecodeError::Read), b""),
-    (false, (1, 1), (99, 99), Err(RecodeError::Read), b"U+0061\n"),
-    (
-        false,
-        (1, 2),
-        (99, 99),
-        Err(RecodeError::Read),
-        b"U+0061\nU+F780\n",
-    ),
-    (
-        false,
-        (1, 3),
-        (99, 99),
-        Err(RecodeError::Read),
-        b"U+0061\nU+F780\nU+F7FF\n",
-    ),
-    (
-        false,
-        (1, 4),
-        (99, 99),
-        Ok(false),
-        b"U+0061\nU+F780\nU+F7FF\n",
-    ),
+    (false, (1, 0), (99, 99), READ, b""),
+    (false, (1, 1), (99, 99), READ, b"U+0061\n"),
+    (false, (1, 2), (99, 99), READ, b"U+0061\nU+F780\n"),
+    (false, (1, 3), (99, 99), READ, LINES),
+    (false, (1, 4), (99, 99), CLEAN, LINES),
     // After a failed write the bytes before it are kept: of one line after another, and of all three.
-    (false, (1, 4), (7, 0), Err(RecodeError::Write), b""),
-    (false, (1, 4), (7, 1), Err(RecodeError::Write), b"U+0061\n"),
-    (
-        false,
-        (1, 4),
-        (7, 2),
-        Err(RecodeError::Write),
-        b"U+0061\nU+F780\n",
-    ),
-    (
-        false,
-        (1, 4),
-        (7, 3),
-        Ok(false),
-        b"U+0061\nU+F780\nU+F7FF\n",
-    ),
-    (false, (1, 4), (4, 1), Err(RecodeError::Write), b"U+00"),
-    (false, (1, 4), (4, 2), Err(RecodeError::Write), b"U+0061\n"),
-    (
-        false,
-        (1, 4),
-        (4, 3),
-        Err(RecodeError::Write),
-        b"U+0061\nU+F7",
-    ),
-    (
-        false,
-        (1, 4),
-        (4, 4),
-        Err(RecodeError::Write),
-        b"U+0061\nU+F780\n",
-    ),
-    (
-        false,
-        (1, 4),
-        (4, 5),
-        Err(RecodeError::Write),
-        b"U+0061\nU+F780\nU+F7",
-    ),
-    (
-        false,
-        (1, 4),
-        (4, 6),
-        Ok(false),
-        b"U+0061\nU+F780\nU+F7FF\n",
-    ),
-    (false, (1, 4), (0, 9), Err(RecodeError::Write), b""),
-    (
-        false,
-        (9, 9),
-        (10, 1),
-        Err(RecodeError::Write),
-        b"U+0061\nU+F",
-    ),
-    (
-        false,
-        (9, 9),
-        (10, 2),
-        Err(RecodeError::Write),
-        b"U+0061\nU+F780\nU+F7FF",
-    ),
-    (
-        false,
-        (9, 9),
-        (10, 3),
-        Ok(false),
-        b"U+0061\nU+F780\nU+F7FF\n",
-    ),
-    (
-        false,
-        (9, 9),
-        (21, 1),
-        Ok(false),
-        b"U+0061\nU+F780\nU+F7FF\n",
-    ),
+    (false, (1, 4), (7, 0), WRITE, b""),
+    (false, (1, 4), (7, 1), WRITE, b"U+0061\n"),
+    (false, (1, 4), (7, 2), WRITE, b"U+0061\nU+F780\n"),
+    (false, (1, 4), (7, 3), CLEAN, LINES),
+    (false, (1, 4), (4, 1), WRITE, b"U+00"),
+    (false, (1, 4), (4, 2), WRITE, b"U+0061\n"),
+    (false, (1, 4), (4, 3), WRITE, b"U+0061\nU+F7"),
+    (false, (1, 4), (4, 4), WRITE, b"U+0061\nU+F780\n"),
+    (false, (1, 4), (4, 5), WRITE, b"U+0061\nU+F780\nU+F7"),
+    (false, (1, 4), (4, 6), CLEAN, LINES),
+    (false, (1, 4), (0, 9), WRITE, b""),
+    (false, (9, 9), (10, 1), WRITE, b"U+0061\nU+F"),
+    (false, (9, 9), (10, 2), WRITE, b"U+0061\nU+F780\nU+F7FF"),
+    (false, (9, 9), (10, 3), CLEAN, LINES),
+    (false, (9, 9), (21, 1), CLEAN, LINES),
     // After a failed read the text before it is kept.
-    (true, (1, 0), (99, 99), Err(RecodeError::Read), b""),
-    (true, (1, 1), (99, 99), Err(RecodeError::Read), b"\x61"),
-    (
-        true,
-        (1, 2),
-        (99, 99),
-        Err(RecodeError::Read),
-        b"\x61\xEF\x9E\x80",
-    ),
-    (true, (1, 3), (99, 99), Err(RecodeError::Read), TEXT),
-    (true, (1, 4), (99, 99), Ok(false), TEXT),
+    (true, (1, 0), (99, 99), READ, b""),
+    (true, (1, 1), (99, 99), READ, b"\x61"),
+    (true, (1, 2), (99, 99), READ, b"\x61\xEF\x9E\x80"),
+    (true, (1, 3), (99, 99), READ, TEXT),
+    (true, (1, 4), (99, 99), CLEAN, TEXT),
     // After a failed write the text before it is kept: of one scalar after another, and of all three.
-    (true, (1, 4), (3, 0), Err(RecodeError::Write), b""),
-    (true, (1, 4), (3, 1), Err(RecodeError::Write), b"\x61"),
-    (
-        true,
-        (1, 4),
-        (3, 2),
-        Err(RecodeError::Write),
-        b"\x61\xEF\x9E\x80",
-    ),
-    (true, (1, 4), (3, 3), Ok(false), TEXT),
-    (
-        true,
-        (1, 4),
-        (2, 2),
-        Err(RecodeError::Write),
-        b"\x61\xEF\x9E",
-    ),
-    (
-        true,
-        (1, 4),
-        (2, 3),
-        Err(RecodeError::Write),
-        b"\x61\xEF\x9E\x80",
-    ),
-    (
-        true,
-        (1, 4),
-        (2, 4),
-        Err(RecodeError::Write),
-        b"\x61\xEF\x9E\x80\xEF\x9F",
-    ),
-    (true, (1, 4), (2, 5), Ok(false), TEXT),
-    (true, (9, 9), (7, 0), Err(RecodeError::Write), b""),
-    (true, (9, 9), (7, 1), Ok(false), TEXT),
-    (
-        true,
-        (9, 9),
-        (4, 1),
-        Err(RecodeError::Write),
-        b"\x61\xEF\x9E\x80",
-    ),
-    (true, (9, 9), (4, 2), Ok(false), TEXT),
-    (true, (9, 9), (0, 9), Err(RecodeError::Write), b""),
+    (true, (1, 4), (3, 0), WRITE, b""),
+    (true, (1, 4), (3, 1), WRITE, b"\x61"),
+    (true, (1, 4), (3, 2), WRITE, b"\x61\xEF\x9E\x80"),
+    (true, (1, 4), (3, 3), CLEAN, TEXT),
+    (true, (1, 4), (2, 2), WRITE, b"\x61\xEF\x9E"),
+    (true, (1, 4), (2, 3), WRITE, b"\x61\xEF\x9E\x80"),
+    (true, (1, 4), (2, 4), WRITE, b"\x61\xEF\x9E\x80\xEF\x9F"),
+    (true, (1, 4), (2, 5), CLEAN, TEXT),
+    (true, (9, 9), (7, 0), WRITE, b""),
+    (true, (9, 9), (7, 1), CLEAN, TEXT),
+    (true, (9, 9), (4, 1), WRITE, b"\x61\xEF\x9E\x80"),
+    (true, (9, 9), (4, 2), CLEAN, TEXT),
+    (true, (9, 9), (0, 9), WRITE, b""),
 ];
 
 #[test]
@@ -313,21 +201,6 @@ fn tells_of_a_replacement_in_any_piece(rt: HostRuntime) {
     );
 }
 
-/// Returns tables without an entry.
-fn empty_tables<'a>() -> Option<Tables<'a>> {
-    let indexes = Indexes {
-        big5: &[],
-        euc_kr: &[],
-        jis0208: &[],
-        jis0212: &[],
-        gb18030: &[],
-        katakana: &[],
-        ranges: &[],
-        gb18030_pua: &GB18030_2022_PUA,
-    };
-    Tables::new(&indexes).ok()
-}
-
 /// Returns a decoder that holds back a lead.
 fn behind_a_lead<'a>(tables: &'a Tables<'a>) -> EucKrDecoder<'a> {
     let mut decoder = EucKrDecoder::new(tables);
@@ -337,7 +210,7 @@ fn behind_a_lead<'a>(tables: &'a Tables<'a>) -> EucKrDecoder<'a> {
 
 #[test]
 fn places_count_behind_what_was_held_back(rt: HostRuntime) {
-    let Some(tables) = empty_tables() else {
+    let Ok(tables) = Tables::new(&no_entries()) else {
         assert!(rt; false);
         return;
     };

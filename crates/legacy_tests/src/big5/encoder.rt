@@ -1,26 +1,11 @@
 //! The encoder of Big5.
-use crate::codecs::EncoderOf::Over;
-use crate::codecs::{Codec, EncoderCase, encode_each};
+use crate::codecs::EncoderCase;
 use crate::encode_events::Wanted::{Bytes, Report};
+use crate::encoder_rows::EncoderRow;
 use crate::encoder_rows::EncoderRow::{Encoder, Encodes, FromUtf8, Utf8Length, Utf16Length};
-use crate::encoder_rows::{EncoderRow, TestedEncoder};
-use crate::indexes::{Both, EMPTY, Flat, NO_ENTRIES, NO_PARTS, flat, run};
+use crate::indexes::{EMPTY, Flat, flat};
 use legacy_base::EncoderResult::{OutputFull, Unmappable};
-use legacy_base::{Packed, Tables};
-use legacy_encoders::Big5Encoder;
-use std::process::Abort;
-
-impl<'a> TestedEncoder for Big5Encoder<'a> {
-    type Of = &'a Tables<'a>;
-
-    fn made(_rt: &impl Abort, of: &'a Tables<'a>) -> Big5Encoder<'a> {
-        Big5Encoder::new(of)
-    }
-
-    fn pending(&self) -> Option<bool> {
-        None
-    }
-}
+use legacy_index_files::CodecName;
 
 const WITHOUT_ENTRIES: &[EncoderRow] = &[
     Encoder("without entries only ASCII has bytes"),
@@ -49,50 +34,14 @@ const FIRST_POINTERS: &[EncoderRow] = &[
 ];
 
 /// U+2550 and U+2551 at two used pointers each, and U+3001 at a pointer that is never used.
-const TWICE: &Both = &Both {
-    flat: Flat {
-        big5: (
-            18992,
-            &[
-                (5023, 0x3001),
-                (5024, 0x2551),
-                (5247, 0x2550),
-                (18990, 0x2551),
-                (18991, 0x2550),
-            ],
-        ),
-        ..NO_ENTRIES
-    },
-    packed: Packed {
-        big5: &[
-            run!(5023, 0x3001, 1),
-            run!(5024, 0x2551, 1),
-            run!(5247, 0x2550, 1),
-            run!(18990, 0x2551, 1),
-            run!(18991, 0x2550, 1),
-        ],
-        big5_order: &[18991, 5024],
-        ..NO_PARTS
-    },
-};
+const TWICE: &Flat =
+    &flat!(big5: (18992, &[(5023, 0x3001), (5024, 0x2551), (5247, 0x2550), (18990, 0x2551), (18991, 0x2550)]));
 
 /// U+3000 at the first pointer that is used, and U+3001 at the one before.
-const FIRST: &Both = &Both {
-    flat: flat!(big5: (5025, &[(5023, 0x3001), (5024, 0x3000)])),
-    packed: Packed {
-        big5: &[run!(5023, 0x3001, 1), run!(5024, 0x3000, 1)],
-        big5_order: &[5024],
-        ..NO_PARTS
-    },
-};
+const FIRST: &Flat = &flat!(big5: (5025, &[(5023, 0x3001), (5024, 0x3000)]));
 
-const CASES: &[EncoderCase] = &[
-    (Over(Codec::Big5), EMPTY, WITHOUT_ENTRIES),
-    (Over(Codec::Big5), TWICE, WITH_ENTRIES),
-    (Over(Codec::Big5), FIRST, FIRST_POINTERS),
+pub(crate) const CASES: &[EncoderCase] = &[
+    (CodecName::Big5, EMPTY, WITHOUT_ENTRIES),
+    (CodecName::Big5, TWICE, WITH_ENTRIES),
+    (CodecName::Big5, FIRST, FIRST_POINTERS),
 ];
-
-#[test]
-fn encodes_by_the_pointers_that_are_written(rt: HostRuntime) {
-    encode_each(&rt, CASES);
-}

@@ -1,26 +1,11 @@
 //! The encoder of EUC-JP.
-use crate::codecs::EncoderOf::Over;
-use crate::codecs::{Codec, EncoderCase, encode_each};
+use crate::codecs::EncoderCase;
 use crate::encode_events::Wanted::{Bytes, Report};
+use crate::encoder_rows::EncoderRow;
 use crate::encoder_rows::EncoderRow::{Encoder, Encodes, FromUtf8, Utf8Length, Utf16Length};
-use crate::encoder_rows::{EncoderRow, TestedEncoder};
-use crate::indexes::{Both, EMPTY, Flat, NO_ENTRIES, NO_PARTS, run};
+use crate::indexes::{EMPTY, Flat, flat};
 use legacy_base::EncoderResult::{InputEmpty, OutputFull};
-use legacy_base::{Packed, Tables};
-use legacy_encoders::EucJpEncoder;
-use std::process::Abort;
-
-impl<'a> TestedEncoder for EucJpEncoder<'a> {
-    type Of = &'a Tables<'a>;
-
-    fn made(_rt: &impl Abort, of: &'a Tables<'a>) -> EucJpEncoder<'a> {
-        EucJpEncoder::new(of)
-    }
-
-    fn pending(&self) -> Option<bool> {
-        None
-    }
-}
+use legacy_index_files::CodecName;
 
 const WITHOUT_ENTRIES: &[EncoderRow] = &[
     Encoder("half-width katakana have two bytes, the yen sign and the overline one"),
@@ -45,38 +30,10 @@ const WITH_ENTRIES: &[EncoderRow] = &[
 ];
 
 /// U+FF0D, U+FF02 at two pointers of which the first is used, and U+3001 at one that never is.
-const ENTRIES: &Both = &Both {
-    flat: Flat {
-        jis0208: (
-            10740,
-            &[
-                (60, 0xFF0D),
-                (8647, 0xFF02),
-                (10738, 0x3001),
-                (10739, 0xFF02),
-            ],
-        ),
-        ..NO_ENTRIES
-    },
-    packed: Packed {
-        jis0208: &[
-            run!(60, 0xFF0D, 1),
-            run!(8647, 0xFF02, 1),
-            run!(10738, 0x3001, 1),
-            run!(10739, 0xFF02, 1),
-        ],
-        shift_jis_order: &[10738, 10739, 60],
-        euc_jp_order: &[8647, 60],
-        ..NO_PARTS
-    },
-};
+const ENTRIES: &Flat =
+    &flat!(jis0208: (10740, &[(60, 0xFF0D), (8647, 0xFF02), (10738, 0x3001), (10739, 0xFF02)]));
 
-const CASES: &[EncoderCase] = &[
-    (Over(Codec::EucJp), EMPTY, WITHOUT_ENTRIES),
-    (Over(Codec::EucJp), ENTRIES, WITH_ENTRIES),
+pub(crate) const CASES: &[EncoderCase] = &[
+    (CodecName::EucJp, EMPTY, WITHOUT_ENTRIES),
+    (CodecName::EucJp, ENTRIES, WITH_ENTRIES),
 ];
-
-#[test]
-fn encodes_by_the_pointers_that_are_written(rt: HostRuntime) {
-    encode_each(&rt, CASES);
-}

@@ -1,30 +1,18 @@
 //! The encoder of EUC-KR.
 use crate::ahead::encode_ahead;
-use crate::codecs::EncoderOf::Over;
-use crate::codecs::{Codec, EncoderCase, encode_each};
+use crate::codecs::EncoderCase;
 use crate::encode_events::Wanted::{Bytes, Report};
+use crate::encoder_rows::EncoderRow;
 use crate::encoder_rows::EncoderRow::{
     Encoder, Encodes, FromUtf8, FromUtf16, Utf8Length, Utf16Length,
 };
-use crate::encoder_rows::{EncoderRow, TestedEncoder};
 use crate::euc_kr::ONE_ENTRY;
-use crate::indexes::{Both, NO_PARTS, flat, no_entries, run, tables_of};
+use crate::indexes::{Flat, flat, no_entries, tables_of};
 use legacy_base::EncoderResult::{InputEmpty, OutputFull, Unmappable};
-use legacy_base::{Indexes, Packed, Tables};
+use legacy_base::Indexes;
 use legacy_encoders::{EucKrEncoder, PAIR_ROOM};
+use legacy_index_files::CodecName;
 use std::process::Abort;
-
-impl<'a> TestedEncoder for EucKrEncoder<'a> {
-    type Of = &'a Tables<'a>;
-
-    fn made(_rt: &impl Abort, of: &'a Tables<'a>) -> EucKrEncoder<'a> {
-        EucKrEncoder::new(of)
-    }
-
-    fn pending(&self) -> Option<bool> {
-        None
-    }
-}
 
 /// The rows with U+AC02 at pointer 0, and no other scalar.
 const ROWS: &[EncoderRow] = &[
@@ -56,24 +44,12 @@ const LAST: &[EncoderRow] = &[
 ];
 
 /// U+8A70 at the last pointer, 23939.
-const LAST_ENTRY: &Both = &Both {
-    flat: flat!(euc_kr: (23940, &[(23939, 0x8A70)])),
-    packed: Packed {
-        euc_kr: &[run!(23939, 0x8A70, 1)],
-        euc_kr_order: &[23939],
-        ..NO_PARTS
-    },
-};
+const LAST_ENTRY: &Flat = &flat!(euc_kr: (23940, &[(23939, 0x8A70)]));
 
-const CASES: &[EncoderCase] = &[
-    (Over(Codec::EucKr), ONE_ENTRY, ROWS),
-    (Over(Codec::EucKr), LAST_ENTRY, LAST),
+pub(crate) const CASES: &[EncoderCase] = &[
+    (CodecName::EucKr, ONE_ENTRY, ROWS),
+    (CodecName::EucKr, LAST_ENTRY, LAST),
 ];
-
-#[test]
-fn encodes_the_first_pointer_and_the_last(rt: HostRuntime) {
-    encode_each(&rt, CASES);
-}
 
 /// The rows with the first sixteen scalars of the Standard's index, and no other scalar.
 const WORDS: &[EncoderRow] = &[

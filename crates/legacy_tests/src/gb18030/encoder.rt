@@ -1,29 +1,16 @@
 //! The encoders of gb18030 and GBK.
 use crate::ahead::encode_ahead;
-use crate::codecs::EncoderOf::Over;
-use crate::codecs::{Codec, EncoderCase, encode_each};
+use crate::codecs::EncoderCase;
 use crate::encode_events::Wanted::{Bytes, Report};
+use crate::encoder_rows::EncoderRow;
 use crate::encoder_rows::EncoderRow::{
     Encoder, Encodes, FromUtf8, FromUtf16, Utf8Length, Utf16Length,
 };
-use crate::encoder_rows::{EncoderRow, TestedEncoder};
-use crate::indexes::{Both, EMPTY, Flat, NO_ENTRIES, NO_PARTS, flat, no_entries, run, tables_of};
+use crate::indexes::{EMPTY, Flat, flat, no_entries, tables_of};
 use legacy_base::EncoderResult::{InputEmpty, OutputFull, Unmappable};
-use legacy_base::{Packed, Tables};
 use legacy_encoders::{Gb18030Encoder, PAIR_ROOM};
+use legacy_index_files::CodecName;
 use std::process::Abort;
-
-impl<'a> TestedEncoder for Gb18030Encoder<'a> {
-    type Of = (&'a Tables<'a>, bool);
-
-    fn made(_rt: &impl Abort, (tables, extended): (&'a Tables<'a>, bool)) -> Gb18030Encoder<'a> {
-        Gb18030Encoder::new(tables, extended)
-    }
-
-    fn pending(&self) -> Option<bool> {
-        None
-    }
-}
 
 /// The rows of gb18030 without entries, but with the private-use rows of the Standard.
 const WITHOUT_ENTRIES: &[EncoderRow] = &[
@@ -92,16 +79,6 @@ fn takes_no_room_that_is_too_small(rt: HostRuntime) {
     assert!(rt; !encode_in(&rt, &mut [0; 8]));
 }
 
-const EMPTY_CASES: &[EncoderCase] = &[
-    (Over(Codec::Gb18030), EMPTY, WITHOUT_ENTRIES),
-    (Over(Codec::Gbk), EMPTY, GBK_WITHOUT_ENTRIES),
-];
-
-#[test]
-fn encodes_without_entries(rt: HostRuntime) {
-    encode_each(&rt, EMPTY_CASES);
-}
-
 const WITH_RANGE: &[EncoderRow] = &[
     Encoder("an unpaired surrogate is U+FFFD, which the range has"),
     FromUtf16(&[0xDC00], 16, true, InputEmpty, 1, b"\x84\x31\xA4\x37"),
@@ -150,72 +127,31 @@ const BOTH: &[EncoderRow] = &[
 ];
 
 /// The range of the last pointers.
-pub(crate) const LAST_RANGE: &Both = &Both {
-    flat: flat!(ranges: &[(39394, 0xFFE6)]),
-    packed: NO_PARTS,
-};
+pub(crate) const LAST_RANGE: &Flat = &flat!(ranges: &[(39394, 0xFFE6)]);
 
 /// A range from pointer 7457 on.
-pub(crate) const RANGE_FROM_7457: &Both = &Both {
-    flat: flat!(ranges: &[(7457, 0x3000)]),
-    packed: NO_PARTS,
-};
-
-const CASES_OF_RANGES: &[EncoderCase] = &[
-    (Over(Codec::Gb18030), LAST_RANGE, WITH_RANGE),
-    (Over(Codec::Gbk), LAST_RANGE, GBK_WITH_RANGE),
-    (Over(Codec::Gb18030), RANGE_FROM_7457, BESIDE_7457),
-];
-
-#[test]
-fn encodes_by_the_ranges(rt: HostRuntime) {
-    encode_each(&rt, CASES_OF_RANGES);
-}
+pub(crate) const RANGE_FROM_7457: &Flat = &flat!(ranges: &[(7457, 0x3000)]);
 
 /// A private-use row that the Standard does not have.
-const ROW_OF_E000: &Both = &Both {
-    flat: flat!(gb18030_pua: &[(0xE000, 0xA6, 0xD9)]),
-    packed: NO_PARTS,
-};
+const ROW_OF_E000: &Flat = &flat!(gb18030_pua: &[(0xE000, 0xA6, 0xD9)]);
 
-const WITHOUT_ROWS: &Both = &Both {
-    flat: flat!(gb18030_pua: &[]),
-    packed: NO_PARTS,
-};
+const WITHOUT_ROWS: &Flat = &flat!(gb18030_pua: &[]);
 
 /// U+E81E in the index, without private-use rows.
-const PRIVATE_USE: &Both = &Both {
-    flat: Flat {
-        gb18030: (23776, &[(23775, 0xE81E)]),
-        gb18030_pua: &[],
-        ..NO_ENTRIES
-    },
-    packed: Packed {
-        gb18030: &[run!(23775, 0xE81E, 1)],
-        gb18030_order: &[23775],
-        ..NO_PARTS
-    },
-};
+const PRIVATE_USE: &Flat = &flat!(gb18030: (23776, &[(23775, 0xE81E)]), gb18030_pua: &[]);
 
 /// U+9FB4 in the index, at the pointer whose bytes a private-use row has.
-pub(crate) const ROW_AND_ENTRY: &Both = &Both {
-    flat: flat!(gb18030: (23776, &[(23775, 0x9FB4)])),
-    packed: Packed {
-        gb18030: &[run!(23775, 0x9FB4, 1)],
-        gb18030_order: &[23775],
-        ..NO_PARTS
-    },
-};
+pub(crate) const ROW_AND_ENTRY: &Flat = &flat!(gb18030: (23776, &[(23775, 0x9FB4)]));
 
-const CASES_OF_ROWS: &[EncoderCase] = &[
-    (Over(Codec::Gb18030), ROW_OF_E000, OTHER_ROW),
-    (Over(Codec::Gbk), ROW_OF_E000, OTHER_ROW),
-    (Over(Codec::Gb18030), WITHOUT_ROWS, NO_ROWS),
-    (Over(Codec::Gb18030), PRIVATE_USE, IN_THE_INDEX),
-    (Over(Codec::Gb18030), ROW_AND_ENTRY, BOTH),
+pub(crate) const CASES: &[EncoderCase] = &[
+    (CodecName::Gb18030, EMPTY, WITHOUT_ENTRIES),
+    (CodecName::Gbk, EMPTY, GBK_WITHOUT_ENTRIES),
+    (CodecName::Gb18030, LAST_RANGE, WITH_RANGE),
+    (CodecName::Gbk, LAST_RANGE, GBK_WITH_RANGE),
+    (CodecName::Gb18030, RANGE_FROM_7457, BESIDE_7457),
+    (CodecName::Gb18030, ROW_OF_E000, OTHER_ROW),
+    (CodecName::Gbk, ROW_OF_E000, OTHER_ROW),
+    (CodecName::Gb18030, WITHOUT_ROWS, NO_ROWS),
+    (CodecName::Gb18030, PRIVATE_USE, IN_THE_INDEX),
+    (CodecName::Gb18030, ROW_AND_ENTRY, BOTH),
 ];
-
-#[test]
-fn encodes_by_private_use_rows_before_the_index(rt: HostRuntime) {
-    encode_each(&rt, CASES_OF_ROWS);
-}

@@ -1,31 +1,17 @@
 //! The encoder of ISO-2022-JP.
-use crate::codecs::EncoderOf::Over;
-use crate::codecs::{Codec, EncoderCase, encode_case};
+use crate::codecs::{EncoderCase, follow_each};
 use crate::encode_events::Wanted::{Bytes, Report};
 use crate::encoder_rows::EncoderRow::{
     Encoder, Encodes, FromUtf8, FromUtf16, Pending, Utf8Length, Utf16Length,
 };
 use crate::encoder_rows::{EncoderRow, TestedEncoder, follow_encoder};
 use crate::indexes::{
-    Both, EMPTY, Filled, Flat, NO_ENTRIES, NO_PARTS, flat, no_entries, packed_tables_of, run,
-    tables_of,
+    EMPTY, Filled, Flat, flat, no_entries, packed_of, packed_tables_of, tables_of,
 };
 use legacy_base::EncoderResult::{InputEmpty, OutputFull, Unmappable};
-use legacy_base::{Packed, Tables};
 use legacy_encoders::{CachedIso2022JpEncoder, Iso2022JpEncoder, PAIR_ROOM};
+use legacy_index_files::CodecName;
 use std::process::Abort;
-
-impl<'a> TestedEncoder for Iso2022JpEncoder<'a> {
-    type Of = &'a Tables<'a>;
-
-    fn made(_rt: &impl Abort, of: &'a Tables<'a>) -> Iso2022JpEncoder<'a> {
-        Iso2022JpEncoder::new(of)
-    }
-
-    fn pending(&self) -> Option<bool> {
-        Some(self.has_pending_state())
-    }
-}
 
 impl<'a, 'b> TestedEncoder for CachedIso2022JpEncoder<'a, 'b> {
     type Of = CachedIso2022JpEncoder<'a, 'b>;
@@ -41,9 +27,11 @@ impl<'a, 'b> TestedEncoder for CachedIso2022JpEncoder<'a, 'b> {
 
 /// Follows the rows of a case over packed tables, with an encoder that caches pairs in this room.
 // Over flat tables, filling the cache would search the index for 65,536 scalars.
-fn encode_ahead(rt: &(impl AllocGlobal + Abort), room: &mut [u16], (_, both, rows): &EncoderCase) {
-    let filled = Filled::of(&both.flat);
-    let tables = packed_tables_of(rt, &filled.indexes(&both.flat), &both.packed);
+fn encode_ahead(rt: &(impl AllocGlobal + Abort), room: &mut [u16], (_, flat, rows): &EncoderCase) {
+    let filled = Filled::of(flat);
+    let indexes = filled.indexes(flat);
+    let packed = packed_of(rt, &indexes);
+    let tables = packed_tables_of(rt, &indexes, &packed.packed());
     let encoder = Iso2022JpEncoder::new(&tables);
     match CachedIso2022JpEncoder::new(&encoder, room) {
         Some(cached) => follow_encoder::<CachedIso2022JpEncoder>(rt, cached, rows),
@@ -52,10 +40,10 @@ fn encode_ahead(rt: &(impl AllocGlobal + Abort), room: &mut [u16], (_, both, row
 }
 
 /// Follows the rows of a case over flat tables, over packed ones, and over these with cached pairs.
-fn encode_in_all_ways(rt: &(impl AllocGlobal + Abort), case: &EncoderCase) {
-    encode_case(rt, case);
+fn encode_in_all_ways(rt: &(impl AllocGlobal + Abort), case: EncoderCase) {
+    follow_each(rt, &[case]);
     match vec![in rt.alloc(); 0xFFFF; PAIR_ROOM] {
-        Ok(mut room) => encode_ahead(rt, room.as_mut_slice(), case),
+        Ok(mut room) => encode_ahead(rt, room.as_mut_slice(), &case),
         Err(_) => panic!(rt; "memory"),
     }
 }
@@ -121,11 +109,9 @@ const WITHOUT_ENTRIES: &[EncoderRow] = &[
     Utf8Length(usize::MAX / 3, None),
 ];
 
-const EMPTY_CASE: &EncoderCase = &(Over(Codec::Iso2022Jp), EMPTY, WITHOUT_ENTRIES);
-
 #[test]
 fn encodes_without_entries(rt: HostRuntime) {
-    encode_in_all_ways(&rt, EMPTY_CASE);
+    encode_in_all_ways(&rt, (CodecName::Iso2022Jp, EMPTY, WITHOUT_ENTRIES));
 }
 
 /// The rows with U+58FA at pointer 4861.
@@ -192,21 +178,11 @@ const PAIRS: &[EncoderRow] = &[
 ];
 
 /// U+58FA at pointer 4861 of index jis0208.
-pub(crate) const ONE_PAIR: &Both = &Both {
-    flat: flat!(jis0208: (4862, &[(4861, 0x58FA)])),
-    packed: Packed {
-        jis0208: &[run!(4861, 0x58FA, 1)],
-        shift_jis_order: &[4861],
-        euc_jp_order: &[4861],
-        ..NO_PARTS
-    },
-};
-
-const PAIRS_CASE: &EncoderCase = &(Over(Codec::Iso2022Jp), ONE_PAIR, PAIRS);
+pub(crate) const ONE_PAIR: &Flat = &flat!(jis0208: (4862, &[(4861, 0x58FA)]));
 
 #[test]
 fn encodes_pairs(rt: HostRuntime) {
-    encode_in_all_ways(&rt, PAIRS_CASE);
+    encode_in_all_ways(&rt, (CodecName::Iso2022Jp, ONE_PAIR, PAIRS));
 }
 
 const KATAKANA: &[EncoderRow] = &[
@@ -229,23 +205,10 @@ const KATAKANA: &[EncoderRow] = &[
 ];
 
 /// U+3002 and U+300C in the katakana index, of which index jis0208 has only the first.
-const TWO_KATAKANA: &Both = &Both {
-    flat: Flat {
-        jis0208: (3, &[(2, 0x3002)]),
-        katakana: (63, &[(0, 0x3002), (1, 0x300C)]),
-        ..NO_ENTRIES
-    },
-    packed: Packed {
-        jis0208: &[run!(2, 0x3002, 1)],
-        shift_jis_order: &[2],
-        euc_jp_order: &[2],
-        ..NO_PARTS
-    },
-};
-
-const KATAKANA_CASE: &EncoderCase = &(Over(Codec::Iso2022Jp), TWO_KATAKANA, KATAKANA);
+const TWO_KATAKANA: &Flat =
+    &flat!(jis0208: (3, &[(2, 0x3002)]), katakana: (63, &[(0, 0x3002), (1, 0x300C)]));
 
 #[test]
 fn encodes_katakana(rt: HostRuntime) {
-    encode_in_all_ways(&rt, KATAKANA_CASE);
+    encode_in_all_ways(&rt, (CodecName::Iso2022Jp, TWO_KATAKANA, KATAKANA));
 }

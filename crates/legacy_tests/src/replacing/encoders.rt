@@ -1,16 +1,16 @@
 //! Calls with replacement of encoders.
-use crate::codecs::EncoderOf::{Over, SingleByte, UserDefined};
-use crate::codecs::{Codec, EncoderCase, encode_each};
+use crate::codecs::EncoderCase;
 use crate::compared::{Place, is_answer};
 use crate::encoder_rows::EncoderRow;
 use crate::encoder_rows::EncoderRow::{Encoder, ReplacedFromUtf8, ReplacedFromUtf16};
 use crate::indexes::EMPTY;
 use crate::iso_2022_jp::encoder::ONE_PAIR;
-use crate::single_byte::encoder::TWO_LETTERS;
+use crate::single_byte::encoder::WITH_RUN;
 use crate::texts::Text;
 use legacy_base::RawEncoder;
 use legacy_codecs::CoderResult;
 use legacy_codecs::CoderResult::{InputEmpty, OutputFull};
+use legacy_index_files::CodecName;
 use std::process::Abort;
 
 /// Makes a call, and compares its result with the wanted one.
@@ -152,14 +152,9 @@ const MODES: &[EncoderRow] = &[
     ),
 ];
 
-const CASES: &[EncoderCase] = &[
-    (SingleByte(TWO_LETTERS, (0x391, 65, 1)), EMPTY, GREEK),
-    (Over(Codec::EucKr), EMPTY, SURROGATES),
-    (UserDefined, EMPTY, OUTSIDE),
-    (Over(Codec::Iso2022Jp), ONE_PAIR, MODES),
+pub(crate) const CASES: &[EncoderCase] = &[
+    (CodecName::SingleByte, WITH_RUN, GREEK),
+    (CodecName::EucKr, EMPTY, SURROGATES),
+    (CodecName::UserDefined, EMPTY, OUTSIDE),
+    (CodecName::Iso2022Jp, ONE_PAIR, MODES),
 ];
-
-#[test]
-fn what_has_no_bytes_is_written_as_a_reference(rt: HostRuntime) {
-    encode_each(&rt, CASES);
-}

@@ -1,21 +1,21 @@
 //! Runs of encoders: a table of cases, whole and in every cut, into outputs of every small length.
-use crate::codecs::EncoderOf::{Over, SingleByte, UserDefined};
-use crate::codecs::{Codec, EncoderCase, encode_each};
+use crate::codecs::EncoderCase;
 use crate::encode_events::Wanted::{Bytes, Report};
 use crate::encoder_rows::EncoderRow::{
     Encoder, Encodes, FromUtf8, Pending, RefusedRuns, RunFromUtf8, RunFromUtf16,
 };
 use crate::euc_kr::ONE_ENTRY;
-use crate::single_byte::encoder::TWO_LETTERS;
+use crate::single_byte::encoder::WITH_RUN;
 use legacy_base::EncoderResult::InputEmpty;
 use legacy_codecs::RunError;
+use legacy_index_files::CodecName;
 
 /// The cases over tables with U+AC02 at pointer 0 of index EUC-KR, and few other entries.
 ///
 /// These are the private-use rows of the Standard, and U+0391 at place 65 of the single-byte table.
-const CASES_OVER_TABLES: &[EncoderCase] = &[
+pub(crate) const CASES_OVER_TABLES: &[EncoderCase] = &[
     (
-        Over(Codec::Iso2022Jp),
+        CodecName::Iso2022Jp,
         ONE_ENTRY,
         &[
             Encoder("ASCII, the yen sign, and a reverse solidus"),
@@ -49,7 +49,7 @@ const CASES_OVER_TABLES: &[EncoderCase] = &[
         ],
     ),
     (
-        Over(Codec::Gb18030),
+        CodecName::Gb18030,
         ONE_ENTRY,
         &[
             Encoder("a private-use row, and a scalar past U+FFFF"),
@@ -73,7 +73,7 @@ const CASES_OVER_TABLES: &[EncoderCase] = &[
         ],
     ),
     (
-        Over(Codec::EucJp),
+        CodecName::EucJp,
         ONE_ENTRY,
         &[
             Encoder("a half-width katakana, and the overline"),
@@ -81,7 +81,7 @@ const CASES_OVER_TABLES: &[EncoderCase] = &[
         ],
     ),
     (
-        Over(Codec::ShiftJis),
+        CodecName::ShiftJis,
         ONE_ENTRY,
         &[
             Encoder("a control, and a half-width katakana"),
@@ -89,7 +89,7 @@ const CASES_OVER_TABLES: &[EncoderCase] = &[
         ],
     ),
     (
-        Over(Codec::Big5),
+        CodecName::Big5,
         ONE_ENTRY,
         &[
             Encoder("a scalar that the index lacks"),
@@ -97,7 +97,7 @@ const CASES_OVER_TABLES: &[EncoderCase] = &[
         ],
     ),
     (
-        Over(Codec::EucKr),
+        CodecName::EucKr,
         ONE_ENTRY,
         &[
             Encoder("a scalar of the index"),
@@ -109,9 +109,9 @@ const CASES_OVER_TABLES: &[EncoderCase] = &[
 /// The cases over tables with U+AC02 at pointer 0 of index EUC-KR, and few other entries.
 ///
 /// These are the private-use rows of the Standard, and U+0391 at place 65 of the single-byte table.
-const CASES_OF_OTHERS: &[EncoderCase] = &[
+pub(crate) const CASES_OF_OTHERS: &[EncoderCase] = &[
     (
-        UserDefined,
+        CodecName::UserDefined,
         ONE_ENTRY,
         &[
             Encoder("a byte past ASCII, and a scalar that has none"),
@@ -141,21 +141,11 @@ const CASES_OF_OTHERS: &[EncoderCase] = &[
         ],
     ),
     (
-        SingleByte(TWO_LETTERS, (0x391, 65, 1)),
-        ONE_ENTRY,
+        CodecName::SingleByte,
+        WITH_RUN,
         &[
             Encoder("a scalar of the table"),
             Encodes("\u{391}", &[Bytes(b"\xC1")]),
         ],
     ),
 ];
-
-#[test]
-fn runs_of_encoders_over_tables_give_the_same_events_in_every_cut(rt: HostRuntime) {
-    encode_each(&rt, CASES_OVER_TABLES);
-}
-
-#[test]
-fn runs_of_the_other_encoders_do_so_too(rt: HostRuntime) {
-    encode_each(&rt, CASES_OF_OTHERS);
-}

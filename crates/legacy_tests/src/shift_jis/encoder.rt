@@ -1,26 +1,11 @@
 //! The encoder of Shift_JIS.
-use crate::codecs::EncoderOf::Over;
-use crate::codecs::{Codec, EncoderCase, encode_each};
+use crate::codecs::EncoderCase;
 use crate::encode_events::Wanted::{Bytes, Report};
+use crate::encoder_rows::EncoderRow;
 use crate::encoder_rows::EncoderRow::{Encoder, Encodes, FromUtf8, Utf8Length, Utf16Length};
-use crate::encoder_rows::{EncoderRow, TestedEncoder};
-use crate::indexes::{Both, EMPTY, NO_PARTS, flat, run};
+use crate::indexes::{EMPTY, Flat, flat};
 use legacy_base::EncoderResult::{InputEmpty, OutputFull};
-use legacy_base::{Packed, Tables};
-use legacy_encoders::ShiftJisEncoder;
-use std::process::Abort;
-
-impl<'a> TestedEncoder for ShiftJisEncoder<'a> {
-    type Of = &'a Tables<'a>;
-
-    fn made(_rt: &impl Abort, of: &'a Tables<'a>) -> ShiftJisEncoder<'a> {
-        ShiftJisEncoder::new(of)
-    }
-
-    fn pending(&self) -> Option<bool> {
-        None
-    }
-}
+use legacy_index_files::CodecName;
 
 const WITHOUT_ENTRIES: &[EncoderRow] = &[
     Encoder("U+0080, the yen sign, the overline and half-width katakana are one byte"),
@@ -50,44 +35,15 @@ const ONLY_THERE: &[EncoderRow] = &[
     Encodes("\u{FF02}", &[Report('\u{FF02}')]),
 ];
 
-const ONE_POINTER: &Both = &Both {
-    flat: flat!(jis0208: (11280, &[(60, 0xFF0D)])),
-    packed: Packed {
-        jis0208: &[run!(60, 0xFF0D, 1)],
-        shift_jis_order: &[60],
-        euc_jp_order: &[60],
-        ..NO_PARTS
-    },
-};
+const ONE_POINTER: &Flat = &flat!(jis0208: (11280, &[(60, 0xFF0D)]));
 
-const TWO_POINTERS: &Both = &Both {
-    flat: flat!(jis0208: (11280, &[(8647, 0xFF02), (10739, 0xFF02)])),
-    packed: Packed {
-        jis0208: &[run!(8647, 0xFF02, 1), run!(10739, 0xFF02, 1)],
-        shift_jis_order: &[10739],
-        euc_jp_order: &[8647],
-        ..NO_PARTS
-    },
-};
+const TWO_POINTERS: &Flat = &flat!(jis0208: (11280, &[(8647, 0xFF02), (10739, 0xFF02)]));
 
-const A_DUPLICATE: &Both = &Both {
-    flat: flat!(jis0208: (11280, &[(8647, 0xFF02)])),
-    packed: Packed {
-        jis0208: &[run!(8647, 0xFF02, 1)],
-        shift_jis_order: &[],
-        euc_jp_order: &[8647],
-        ..NO_PARTS
-    },
-};
+const A_DUPLICATE: &Flat = &flat!(jis0208: (11280, &[(8647, 0xFF02)]));
 
-const CASES: &[EncoderCase] = &[
-    (Over(Codec::ShiftJis), EMPTY, WITHOUT_ENTRIES),
-    (Over(Codec::ShiftJis), ONE_POINTER, MINUS),
-    (Over(Codec::ShiftJis), TWO_POINTERS, DUPLICATE),
-    (Over(Codec::ShiftJis), A_DUPLICATE, ONLY_THERE),
+pub(crate) const CASES: &[EncoderCase] = &[
+    (CodecName::ShiftJis, EMPTY, WITHOUT_ENTRIES),
+    (CodecName::ShiftJis, ONE_POINTER, MINUS),
+    (CodecName::ShiftJis, TWO_POINTERS, DUPLICATE),
+    (CodecName::ShiftJis, A_DUPLICATE, ONLY_THERE),
 ];
-
-#[test]
-fn encodes_by_the_pointers_that_are_written(rt: HostRuntime) {
-    encode_each(&rt, CASES);
-}

@@ -1,34 +1,16 @@
 //! The encoders of the single-byte codecs.
-use crate::codecs::EncoderOf::SingleByte;
-use crate::codecs::{EncoderCase, encode_each};
+use crate::codecs::EncoderCase;
 use crate::compared::{is_answer, prints};
 use crate::encode_events::Wanted::{Bytes, Report};
+use crate::encoder_rows::EncoderRow;
 use crate::encoder_rows::EncoderRow::{
     Encoder, Encodes, FromUtf8, FromUtf16, Utf8Length, Utf16Length,
 };
-use crate::encoder_rows::{EncoderRow, TestedEncoder};
-use crate::indexes::{EMPTY, byte_table_of, entries_of};
+use crate::indexes::{Flat, byte_table_of, entries_of, flat};
 use legacy_base::EncoderResult::{InputEmpty, OutputFull, Unmappable};
-use legacy_base::SingleByteTable;
 use legacy_encoders::SingleByteRunError::{RunMismatch, RunPastEnd, RunStart};
 use legacy_encoders::{SingleByteEncoder, SingleByteRunError};
-use std::process::Abort;
-
-impl<'a> TestedEncoder for SingleByteEncoder<'a> {
-    type Of = (&'a SingleByteTable, u16, u8, u8);
-
-    fn made(rt: &impl Abort, of: (&'a SingleByteTable, u16, u8, u8)) -> SingleByteEncoder<'a> {
-        let (table, scalar, start, count) = of;
-        match SingleByteEncoder::new(table, scalar, start, count) {
-            Ok(encoder) => encoder,
-            Err(fault) => panic!(rt; "{fault}"),
-        }
-    }
-
-    fn pending(&self) -> Option<bool> {
-        None
-    }
-}
+use legacy_index_files::CodecName;
 
 const GREEK: &[EncoderRow] = &[
     Encoder("a scalar is the byte of its place, and a pair of surrogates is one scalar"),
@@ -80,16 +62,22 @@ const WITHOUT_ENTRIES: &[EncoderRow] = &[
 /// U+0391 and U+03C4 at their places in ISO-8859-7.
 pub(crate) const TWO_LETTERS: &[(usize, u16)] = &[(65, 0x391), (116, 0x3C4)];
 
-const CASES: &[EncoderCase] = &[
-    (SingleByte(TWO_LETTERS, (0x391, 65, 1)), EMPTY, GREEK),
-    (SingleByte(TWO_LETTERS, (0, 32, 0)), EMPTY, GREEK),
-    (SingleByte(&[], (0, 32, 1)), EMPTY, WITHOUT_ENTRIES),
-];
+/// The same, with a run of the first letter.
+pub(crate) const WITH_RUN: &Flat = &flat!(single_byte: TWO_LETTERS, run: (0x391, 65, 1));
 
-#[test]
-fn encodes_by_a_run_and_by_places(rt: HostRuntime) {
-    encode_each(&rt, CASES);
-}
+pub(crate) const CASES: &[EncoderCase] = &[
+    (CodecName::SingleByte, WITH_RUN, GREEK),
+    (
+        CodecName::SingleByte,
+        &flat!(single_byte: TWO_LETTERS),
+        GREEK,
+    ),
+    (
+        CodecName::SingleByte,
+        &flat!(run: (0, 32, 1)),
+        WITHOUT_ENTRIES,
+    ),
+];
 
 /// Runs by their first scalar, first place and length, and their errors.
 ///

@@ -1,27 +1,13 @@
 //! The encoder of x-user-defined.
-use crate::codecs::EncoderOf::UserDefined;
-use crate::codecs::{EncoderCase, encode_each};
+use crate::codecs::EncoderCase;
 use crate::encode_events::Wanted::{Bytes, Report};
+use crate::encoder_rows::EncoderRow;
 use crate::encoder_rows::EncoderRow::{
     Encoder, Encodes, FromUtf8, FromUtf16, Utf8Length, Utf16Length,
 };
-use crate::encoder_rows::{EncoderRow, TestedEncoder};
 use crate::indexes::EMPTY;
 use legacy_base::EncoderResult::{InputEmpty, OutputFull, Unmappable};
-use legacy_encoders::UserDefinedEncoder;
-use std::process::Abort;
-
-impl TestedEncoder for UserDefinedEncoder {
-    type Of = ();
-
-    fn made(_rt: &impl Abort, _of: ()) -> UserDefinedEncoder {
-        UserDefinedEncoder::new()
-    }
-
-    fn pending(&self) -> Option<bool> {
-        None
-    }
-}
+use legacy_index_files::CodecName;
 
 const ROWS: &[EncoderRow] = &[
     Encoder("U+F780 to U+F7FF are 80 to FF, and no other scalar past ASCII has a byte"),
@@ -61,9 +47,4 @@ const ROWS: &[EncoderRow] = &[
     Utf16Length(usize::MAX, Some(usize::MAX)),
 ];
 
-const CASES: &[EncoderCase] = &[(UserDefined, EMPTY, ROWS)];
-
-#[test]
-fn encodes(rt: HostRuntime) {
-    encode_each(&rt, CASES);
-}
+pub(crate) const CASES: &[EncoderCase] = &[(CodecName::UserDefined, EMPTY, ROWS)];

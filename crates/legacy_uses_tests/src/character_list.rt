@@ -28,7 +28,7 @@ pub struct CharacterList<'a> {
 }
 
 impl<'a> CharacterList<'a> {
-    ghost use Rattle.legacy_uses.specs.CharacterLists.{listed_count, listed_loan, listed_room, listed_scalars};
+    ghost use Rattle.legacy_uses_tests.specs.CharacterLists.{listed_count, listed_loan, listed_room, listed_scalars};
 
     /// Returns an empty list with room for as many UTF-16 code units as the slice has places.
     pub fn new(characters: &'a mut [char]) -> CharacterList<'a>
@@ -71,7 +71,7 @@ impl<'a> CharacterList<'a> {
 }
 
 impl Destination for CharacterList<'_> {
-    ghost use Rattle.legacy_uses.specs.CharacterLists.{listed_units, listed_room, listed_loan};
+    ghost use Rattle.legacy_uses_tests.specs.CharacterLists.{listed_units, listed_room, listed_loan};
 
     ghost form = { Utf16 };
 

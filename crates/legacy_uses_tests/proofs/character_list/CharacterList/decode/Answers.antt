@@ -1,7 +1,7 @@
 use Rattle.std.proofs.Common.{◌∙◌, ◌++◌, ap}
 use Rattle.legacy_text.specs.EncodingForm.{Utf16, all_code_units}
 use Rattle.legacy_base.proofs.SameUnits.{all_units_same}
-use Rattle.legacy_uses.proofs.character_list.CharacterList.decode.Goals as goal
+use Rattle.legacy_uses_tests.proofs.character_list.CharacterList.decode.Goals as goal
 
 pub returns-clause-call : goal.returns-clause-call
 returns-clause-call g c =

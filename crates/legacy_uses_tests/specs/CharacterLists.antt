@@ -2,7 +2,7 @@
 use Rattle.std.specs.Prelude.{ℕ, List, take}
 use Rattle.std.specs.Borrow.{GName}
 use Rattle.legacy_text.specs.EncodingForm.{Utf16, all_code_units}
-use Rattle.legacy_uses.specs.declared.character_list.CharacterList.{CharacterList}
+use Rattle.legacy_uses_tests.specs.declared.character_list.CharacterList.{CharacterList}
 
 -- the scalars that were kept
 abbrev pub listed_scalars : CharacterList → List ℕ

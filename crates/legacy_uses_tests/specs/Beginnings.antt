@@ -1,6 +1,6 @@
 -- The source of a beginning, and its limit.
 use Rattle.std.specs.Prelude.{ℕ}
-use Rattle.legacy_uses.specs.declared.beginning.Beginning.{Beginning}
+use Rattle.legacy_uses_tests.specs.declared.beginning.Beginning.{Beginning}
 
 -- the source in its present state
 abbrev pub beginning_of : {S : Type 0} → Beginning S → S

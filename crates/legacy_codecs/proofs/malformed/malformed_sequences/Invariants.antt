@@ -2,7 +2,7 @@ use Rattle.std.proofs.Common.{◌++◌, length}
 use Rattle.std.specs.Prelude.{vec_len}
 use Rattle.legacy_base.specs.Grammar.{events_of}
 use Rattle.legacy_codecs.proofs.MalformedSequences.{Finds}
-use Rattle.legacy_codecs.proofs.faults.malformed_sequences.Given as goal
+use Rattle.legacy_codecs.proofs.malformed.malformed_sequences.Given as goal
 
 abbrev pub invariant-calls : goal.invariant-calls
 invariant-calls g l = Finds (g.D.RawDecoder.state l.fn.decoder) l.fn.input (vec_len l.text) (g.D.RawDecoder.state l.decoder) l.rest l.read l.found.items
