@@ -7,7 +7,7 @@ use crate::{corpora, CORPORA, PACKED};
 use encoding_rs::{Encoding, REPLACEMENT};
 
 /// The names of the encodings.
-const ENCODINGS: [&str; 39] = [
+pub const ENCODINGS: [&str; 39] = [
     "IBM866", "ISO-8859-2", "ISO-8859-3", "ISO-8859-4", "ISO-8859-5", "ISO-8859-6", "ISO-8859-7", "ISO-8859-8",
     "ISO-8859-8-I", "ISO-8859-10", "ISO-8859-13", "ISO-8859-14", "ISO-8859-15", "ISO-8859-16", "KOI8-R", "KOI8-U",
     "macintosh", "windows-874", "windows-1250", "windows-1251", "windows-1252", "windows-1253", "windows-1254",

@@ -7,6 +7,7 @@
 //!   program's. Without words all lines of all tables are made. The number is how often each call of a codec is timed
 //!   at least.
 //! - `agreement`: compares all codecs and times nothing.
+//! - `files`: compares what both programs write for files, and times nothing.
 //! - `compare`, two builds of the library as shared ones, and words and a number as above: times them beside each
 //!   other.
 //! - `sources`: prints the packed indexes as source text.
@@ -18,6 +19,7 @@ mod compare;
 mod corpora;
 mod decoding;
 mod encoding;
+mod files;
 mod indexes;
 mod loaded;
 mod measure;
@@ -228,6 +230,7 @@ fn main() -> Result<(), String> {
     match arguments.first().map(String::as_str) {
         Some("medians") => return medians::tables(arguments.into_iter().skip(1)),
         Some("agreement") => return agreement::report(),
+        Some("files") => return files::report(),
         Some("sources") => {
             sources::print();
             return Ok(());

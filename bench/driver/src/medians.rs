@@ -1,6 +1,7 @@
 //! Makes one table of those of several builds.
 //!
-//! It has the median of each number, and of each ratio also the least and the greatest.
+//! It has the median of each number, and of each ratio also the least and the greatest. Below a table of speeds is a
+//! chart of it.
 
 use std::fs;
 
@@ -51,18 +52,39 @@ fn cell(name: &str, same: &[&String]) -> Result<String, String> {
     Ok(if median < 10.0 { format!("{median:.1}") } else { format!("{median:.0}") })
 }
 
-/// Prints the medians of one table in all builds.
+/// Prints a chart of a table of speeds: for each text our bar and that of encoding_rs, for the first source.
+fn chart(names: &[String], lines: &[Vec<String>]) {
+    let place = |start: &str| names.iter().position(|name| name.starts_with(start));
+    let theirs = place("its fast tables").or(place("encoding_rs MB/s"));
+    let (Some(theirs), Some(ours)) = (theirs, place("ours").or(place("flat tables"))) else { return };
+    let speed = |line: &[String], column: usize| line[column].parse::<f64>().unwrap_or(0.0);
+    let texts: Vec<&Vec<String>> = lines.iter().filter(|line| line[0].ends_with("-text")).collect();
+    let most = texts.iter().map(|line| speed(line, ours).max(speed(line, theirs))).fold(1.0, f64::max);
+    println!("\n```text\nMB/s, 3 MB in one call: ours, and encoding_rs's below it");
+    for line in texts {
+        for (name, column) in [(line[..3].join(" "), ours), (String::new(), theirs)] {
+            let speed = speed(line, column);
+            println!("{name:36} {} {speed:.0}", "#".repeat((speed / most * 60.0).round() as usize));
+        }
+    }
+    println!("```");
+}
+
+/// Prints the medians of one table in all builds, and its chart.
 fn print(builds: &[&Table]) -> Result<(), String> {
     println!("{}", builds[0].heading.join("\n"));
+    let mut lines = Vec::new();
     for (at, line) in builds[0].lines.iter().enumerate() {
-        let mut text = String::from("|");
+        let mut cells = Vec::new();
         for column in 0..line.len() {
             let same: Option<Vec<&String>> = builds.iter().map(|build| build.lines.get(at)?.get(column)).collect();
             let name = builds[0].names.get(column).map_or("", String::as_str);
-            text += &format!(" {} |", cell(name, &same.ok_or("a table is shorter")?)?);
+            cells.push(cell(name, &same.ok_or("a table is shorter")?)?);
         }
-        println!("{text}");
+        println!("| {} |", cells.join(" | "));
+        lines.push(cells);
     }
+    chart(&builds[0].names, &lines);
     println!();
     Ok(())
 }

@@ -8,13 +8,13 @@ use std::fs::File;
 use std::io::{self, Read as _, Write as _};
 use std::path::Path;
 use std::process::{Command, Output, Stdio};
-use std::time::Duration;
+use std::time::{Duration, Instant};
 
-/// The program, which `rt run` puts in its crate's folder.
-const PROGRAM: &str = concat!(env!("CARGO_MANIFEST_DIR"), "/../../crates/legacy_recode/out/legacy_recode");
+/// The program that decodes.
+pub const PROGRAM: &str = "legacy_recode";
 
-/// The program that encodes, as `rt run` leaves it in its crate's folder.
-const ENCODER: &str = concat!(env!("CARGO_MANIFEST_DIR"), "/../../crates/legacy_encode/out/legacy_encode");
+/// The program that encodes.
+pub const ENCODER: &str = "legacy_encode";
 
 /// The text of the corpus in UTF-8, on which the output is compared.
 const TEXT_SHORT: &str = concat!(env!("CARGO_MANIFEST_DIR"), "/../target/encode-short.txt");
@@ -106,17 +106,17 @@ fn children_time() -> Duration {
     duration(&usage.user) + duration(&usage.system)
 }
 
-/// Returns index jis0208 in the form in which the Standard publishes it.
-fn index_text() -> String {
+/// Returns an index in the form in which the Standard publishes it.
+pub fn index_text<T: Into<u32>>(index: Vec<T>) -> String {
     let mut text = String::new();
-    for (pointer, scalar) in indexes::jis0208().into_iter().enumerate().filter(|(_, scalar)| *scalar != 0) {
+    for (pointer, scalar) in index.into_iter().map(T::into).enumerate().filter(|(_, scalar)| *scalar != 0) {
         writeln!(text, "{pointer}\t0x{scalar:04X}").expect("a string takes all");
     }
     text
 }
 
 /// Writes the bytes `repeats` times.
-fn write_repeated(path: &str, bytes: &[u8], repeats: usize) -> io::Result<()> {
+pub fn write_repeated(path: &str, bytes: &[u8], repeats: usize) -> io::Result<()> {
     let mut file = File::create(path)?;
     for _ in 0..repeats {
         file.write_all(bytes)?;
@@ -127,10 +127,10 @@ fn write_repeated(path: &str, bytes: &[u8], repeats: usize) -> io::Result<()> {
 /// Makes the index file and the inputs. Returns the corpus and how often the long input has it.
 fn make_files() -> Result<(Vec<u8>, usize), String> {
     let pages = corpora::html("ja-JP").map_err(|error| format!("ja-JP: {error}"))?;
-    let corpus = corpora::encode_once(SHIFT_JIS, &pages);
+    let corpus = corpora::encode_once(SHIFT_JIS, &corpora::text(&pages, 0.5));
     let repeats = LEAST.div_ceil(corpus.len());
     let malformed = vec![0xFF; FEW_MALFORMED];
-    let index = index_text();
+    let index = index_text(indexes::jis0208());
     let text = SHIFT_JIS.decode_without_bom_handling(&corpus).0;
     let files: [(&str, &[u8], usize); 6] = [
         (TEXT_SHORT, text.as_bytes(), 1),
@@ -146,10 +146,28 @@ fn make_files() -> Result<(Vec<u8>, usize), String> {
     Ok((corpus, repeats))
 }
 
+/// Returns a word of a command as it is passed: the path of a program of ours, or of the index file for `FILE`.
+///
+/// The programs are in the folder BENCH_PROGRAMS, or where `rt run` puts them.
+fn passed(word: &str) -> String {
+    match (word, std::env::var("BENCH_PROGRAMS")) {
+        ("FILE", _) => INDEX.to_string(),
+        (PROGRAM | ENCODER, Ok(folder)) => format!("{folder}/{word}"),
+        (PROGRAM | ENCODER, Err(_)) => format!("{}/../../crates/{word}/out/{word}", env!("CARGO_MANIFEST_DIR")),
+        _ => word.to_string(),
+    }
+}
+
+/// Checks that both programs are there.
+pub fn find_programs() -> Result<(), String> {
+    let missing = [PROGRAM, ENCODER].map(passed).into_iter().find(|path| !Path::new(path).is_file());
+    missing.map_or(Ok(()), |path| Err(format!("missing: the program {path} (rt run in its crate's folder builds it)")))
+}
+
 /// Runs a program to its end with the input. It must end with status 0 and write no error.
-fn run(program: &str, words: &[&str], input: Stdio, output: Stdio) -> Result<Output, String> {
-    let words = words.iter().map(|word| if *word == "FILE" { INDEX } else { word });
-    let child = Command::new(program).args(words).stdin(input).stdout(output).stderr(Stdio::piped()).spawn();
+pub fn run(program: &str, words: &[&str], input: Stdio, output: Stdio) -> Result<Output, String> {
+    let words = words.iter().map(|word| passed(word));
+    let child = Command::new(passed(program)).args(words).stdin(input).stdout(output).stderr(Stdio::piped()).spawn();
     let ended = child.and_then(|child| child.wait_with_output()).map_err(|error| format!("{program}: {error}"))?;
     if !ended.status.success() || !ended.stderr.is_empty() {
         return Err(format!("{program}: {}: {}", ended.status, String::from_utf8_lossy(&ended.stderr)));
@@ -158,7 +176,7 @@ fn run(program: &str, words: &[&str], input: Stdio, output: Stdio) -> Result<Out
 }
 
 /// Opens the file as the input of a program.
-fn input(path: &str) -> Result<Stdio, String> {
+pub fn input(path: &str) -> Result<Stdio, String> {
     File::open(path).map(Stdio::from).map_err(|error| format!("{path}: {error}"))
 }
 
@@ -173,7 +191,7 @@ fn wanted_lines(encoding: &'static Encoding, src: &[u8]) -> Result<String, Strin
 }
 
 /// Checks that an output is the wanted one. The error names the first difference.
-fn compare(written: &[u8], wanted: &[u8]) -> Result<(), String> {
+pub fn compare(written: &[u8], wanted: &[u8]) -> Result<(), String> {
     if written == wanted {
         return Ok(());
     }
@@ -255,18 +273,20 @@ fn runs_table(title: &str, runs: &[TextRun], short: &str, long: &str, wanted: &[
     let written = run(runs[0].program, runs[0].words, input(short)?, Stdio::piped())?.stdout;
     compare(&written, wanted)?;
     let length = std::fs::metadata(long).map_err(|error| format!("{long}: {error}"))?.len();
-    let mut least = vec![Duration::MAX; runs.len()];
+    let mut least = vec![(Duration::MAX, Duration::MAX); runs.len()];
     for _ in 0..TIMES {
-        for (best, text) in least.iter_mut().zip(runs) {
-            *best = (*best).min(time(text.program, text.words, long)?);
+        for ((used, passed), text) in least.iter_mut().zip(runs) {
+            let start = Instant::now();
+            *used = (*used).min(time(text.program, text.words, long)?);
+            *passed = (*passed).min(start.elapsed());
         }
     }
-    println!("\n| {title} | processor time (s) | input MB/s |\n|---|---|---|");
-    for (best, text) in least.iter().zip(runs) {
-        let name = text.program.rsplit('/').next().unwrap_or(text.program);
-        let words = if name == "sh" { "legacy_recode --text shift_jis, legacy_encode euc-jp".into() } else { text.words.join(" ") };
-        let seconds = best.as_secs_f64();
-        println!("| {name} {words} | {seconds:.2} | {:.0} |", length as f64 / 1e6 / seconds);
+    println!("\n| {title} | processor time (s) | time (s) | input MB/s of processor time |\n|---|---|---|---|");
+    for ((used, passed), text) in least.iter().zip(runs) {
+        let command = format!("{} {}", text.program, text.words.join(" "));
+        let name = if text.program == "sh" { "legacy_recode --text shift_jis \\| legacy_encode euc-jp" } else { &command };
+        let seconds = used.as_secs_f64();
+        println!("| {name} | {seconds:.2} | {:.2} | {:.0} |", passed.as_secs_f64(), length as f64 / 1e6 / seconds);
     }
     Ok(())
 }
@@ -287,11 +307,7 @@ fn is_there(program: &str) -> bool {
 
 /// Prints the tables of the program's runs.
 pub fn table() -> Result<(), String> {
-    for program in [PROGRAM, ENCODER] {
-        if !Path::new(program).is_file() {
-            return Err(format!("missing: the program {program} (rt run in its crate's folder builds it)"));
-        }
-    }
+    find_programs()?;
     for TextRun { program, package, .. } in &TEXT_RUNS[1..] {
         if !is_there(program) {
             return Err(format!("missing: the program {program} (apt-get install {package})"));

@@ -111,6 +111,8 @@ struct Run<'a, U> {
     source: &'a [u8],
     cuts: Cuts,
     read: usize,
+    /// The most bytes that the decoder may hold back from a run before.
+    held: usize,
     end: usize,
     turn: usize,
     /// The number of calls in a row that did nothing.
@@ -123,7 +125,7 @@ struct Run<'a, U> {
 
 impl<'a, U: Unit> Run<'a, U> {
     fn new(source: &'a [u8], cuts: Cuts) -> Run<'a, U> {
-        let mut run = Run { source, cuts, read: 0, end: 0, turn: 0, idle: 0, is_ending: false, units: Vec::new(), bad: Vec::new(), replaced: false };
+        let mut run = Run { source, cuts, read: 0, held: 0, end: 0, turn: 0, idle: 0, is_ending: false, units: Vec::new(), bad: Vec::new(), replaced: false };
         run.next_piece();
         run
     }
@@ -199,13 +201,13 @@ impl<'a, U: Unit> Run<'a, U> {
     /// Handles `Malformed`.
     fn is_malformed(&mut self, length: u8, back: u8, free: usize) -> Result<(), String> {
         let (length, back) = (usize::from(length), usize::from(back));
-        if !(1..=4).contains(&length) || back > 3 || length + back > self.read {
+        if !(1..=4).contains(&length) || back > 3 || length + back > self.read + self.held {
             return Err(format!("malformed {length} {back} after {} bytes", self.read));
         }
         if free < U::MARK.len() {
             return Err(format!("malformed with {free} units free"));
         }
-        self.bad.push((self.read - back - length, length));
+        self.bad.push((self.read.saturating_sub(back + length), length));
         self.units.extend(U::MARK);
         self.idle = 0;
         Ok(())
@@ -310,7 +312,8 @@ fn tried_as<U: Unit, D: RawDecoder>(job: &mut Job, make: &impl Fn() -> D) -> Res
         return Err(format!("replaced: {}, malformed are {:?}", cut.replaced, whole.bad));
     }
     if plan.again {
-        let second = Run::<U>::new(&plan.source, Cuts::of(plan)).all(&mut decoder, plan, rooms)?;
+        // ISO-2022-JP holds back an escape at the end, and it is malformed before another one.
+        let second = Run::<U> { held: 3, ..Run::new(&plan.source, Cuts::of(plan)) }.all(&mut decoder, plan, rooms)?;
         if second.units != U::of(&again) {
             return Err(format!("a second time came {:02X?}, wanted {again:?}", second.units));
         }
