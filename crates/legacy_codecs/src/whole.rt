@@ -131,6 +131,9 @@ pub fn encode_whole<E: RawEncoder>(
 /// A malformed sequence becomes U+FFFD, as in `decode_whole`. Each character that the new encoding
 /// lacks becomes a numeric character reference, as in `encode_whole`; U+FFFD may be one of them.
 ///
+/// It makes no list of pairs. For a long input pass an encoder that has one, such as
+/// `CachedEncoder`.
+///
 /// - `TooLong`: exactly if `max_utf8_buffer_length` returns `None` for the length of `input`.
 /// - `Memory`: an allocation failed.
 ///

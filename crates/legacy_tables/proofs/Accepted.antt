@@ -17,6 +17,7 @@ use Rattle.legacy_tables.specs.declared.tables.TableError.{TableError}
 use Rattle.legacy_tables.specs.declared.tables.TableError.TheVariants.{TooLong, BadEntry, NotEmpty, KatakanaLength, RangeOrder, RangeValue}
 use Rattle.legacy_tables.specs.Indexes.{FlatIndexes, entry_scalar, idx, range, last_range_scalar}
 use Rattle.legacy_tables.specs.Unicode.{AreScalars}
+use Rattle.legacy_tables.proofs.FirstPlaces.{both_true, taken}
 use Rattle.legacy_tables.specs.Tables.{index_list, is_narrow_index}
 use Rattle.legacy_tables.specs.TableChecks.{is_narrow_entry, is_entry, must_be_empty, entry_fault, entries_fault, index_fault, katakana_fault, range_order_fault, AreAccepted}
 use Rattle.legacy_tables.specs.TableChecks.{follows_range, next_pointer, has_range_scalars, range_value_fault, rows_fault, table_fault}
@@ -26,14 +27,6 @@ use Rattle.legacy_tables.specs.TableChecks.{follows_range, next_pointer, has_ran
 pub or_none : (a b : Option TableError) → option_or a b ≡ None → (a ≡ None) × (b ≡ None)
 or_none None b e = (refl, e)
 or_none (Some x) b e = cc
-
-taken : (t : Bool) (fault : TableError) (a : Option TableError) → cond t a (Some fault) ≡ None → (t ≡ true) × (a ≡ None)
-taken true fault a e = (refl, e)
-taken false fault a e = cc
-
-pub both_true : (a b : Bool) → (a && b) ≡ true → (a ≡ true) × (b ≡ true)
-both_true true b e = (refl, e)
-both_true false b e = cc
 
 -- ---- the parts of the check
 

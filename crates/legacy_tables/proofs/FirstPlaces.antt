@@ -1,9 +1,39 @@
 -- The first and the last number of a range of numbers that passes a test.
-use Rattle.std.proofs.Common.{◌≡◌, ℕ, zero, suc, ◌+◌, ◌≤◌, ◌<◌, Some, None, true, false, Bool, ◌||◌, cond, arith, refl, inl, inr, find, subst}
+use Rattle.std.proofs.Common.{◌≡◌, ℕ, zero, suc, ◌+◌, ◌≤◌, ◌<◌, List, [], ◌∷◌, length, get_or, Option, Some, None, true, false, Bool, ◌&&◌, ◌||◌, cond, arith, refl, inl, inr, find, subst}
 use Rattle.std.proofs.lemmas.Bool.{cases_lt}
 use Rattle.std.specs.List.{range_with_len}
 use Rattle.std.specs.Option.{option_or}
 use Rattle.legacy_tables.specs.Pointers.{last_below}
+
+pub both_true : (a b : Bool) → (a && b) ≡ true → (a ≡ true) × (b ≡ true)
+both_true true b e = (refl, e)
+both_true false b e = cc
+
+-- a check without a fault has passed its test
+pub taken : {A : Type 0} (t : Bool) (fault : A) (a : Option A) → cond t a (Some fault) ≡ None → (t ≡ true) × (a ≡ None)
+taken true fault a e = (refl, e)
+taken false fault a e = cc
+
+pub less : (a b : ℕ) → suc a < suc b → a < b
+less a b h = omega arith
+
+-- ---- the first item of a list that passes a test
+
+module _ {A : Type 0} (test : A → Bool) (d : A) where
+  pub find-at : (xs : List A) (n : ℕ) → n < length xs → test (get_or xs n d) ≡ true → ((k : ℕ) → k < n → test (get_or xs k d) ≡ false) → find test xs ≡ Some (get_or xs n d)
+  find-at [] n h is before = absurd (omega arith)
+  find-at (x ∷ xs) zero h is before = let here : test x ≡ true = is in rw here refl
+  find-at (x ∷ xs) (suc n) h is before =
+      let here : test x ≡ false = before 0 (omega arith) in
+      rw here (find-at xs n (less n (length xs) h) is (λ k l. before (suc k) (omega arith)))
+
+  pub find-absent : (xs : List A) → ((k : ℕ) → k < length xs → test (get_or xs k d) ≡ false) → find test xs ≡ None
+  find-absent [] all = refl
+  find-absent (x ∷ xs) all =
+      let here : test x ≡ false = all 0 (omega arith) in
+      rw here (find-absent xs (λ k l. all (suc k) (omega arith)))
+
+-- ---- the first number of a range that passes a test
 
 module _ (test : ℕ → Bool) where
   pub find-some : (a n p : ℕ) → a ≤ p → p < a + n → test p ≡ true → ((k : ℕ) → a ≤ k → k < p → test k ≡ false) → find test (range_with_len a n) ≡ Some p
@@ -104,29 +134,12 @@ module _ (test : ℕ → Bool) where
       go true q z later = let same : n ≡ p = cc in (omega arith, subst (λ k. test k ≡ true) same q)
       go false q z later = let l = later z in let h = l.0 in (omega arith, l.1)
 
-  pub last-after : (n p : ℕ) → last_below test n ≡ Some p → (k : ℕ) → p < k → k < n → test k ≡ false
-  unfolding last_below
-  last-after zero p e k h l = absurd (omega arith)
-  last-after (suc n) p e k h l = go (test n) refl e (λ z. last-after n p z k h)
-    where
-      go : (t : Bool) → test n ≡ t → cond t (Some n) (last_below test n) ≡ Some p → (last_below test n ≡ Some p → k < n → test k ≡ false) → test k ≡ false
-      go true q z later = let same : n ≡ p = cc in absurd (omega arith)
-      go false q z later = elim (cases_lt k n) [
-        | inl m ↦ later z m
-        | inr m ↦ let same : k ≡ n = omega arith in rw same q
-      ]
-
 -- ---- two tests
 
 module _ (test other : ℕ → Bool) where
   pub find-same : (a n : ℕ) → ((k : ℕ) → a ≤ k → k < a + n → test k ≡ other k) → find test (range_with_len a n) ≡ find other (range_with_len a n)
   find-same a zero same = refl
   find-same a (suc n) same = rw (same a (omega arith) (omega arith), find-same (a + 1) n (λ k l m. same k (omega arith) (omega arith))) refl
-
-  pub last-same : (n : ℕ) → ((k : ℕ) → k < n → test k ≡ other k) → last_below test n ≡ last_below other n
-  unfolding last_below
-  last-same zero same = refl
-  last-same (suc n) same = rw (same n (omega arith), last-same n (λ k h. same k (omega arith))) refl
 
   -- if all numbers that pass the one test are before all that pass the other
   pub find-either : (a n : ℕ) → ((j k : ℕ) → test j ≡ true → other k ≡ true → j < k) →

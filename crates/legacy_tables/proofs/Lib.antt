@@ -15,4 +15,3 @@ pub mod PointerSets
 pub mod AcceptedTable
 pub mod RunWalks
 pub mod Walks
-pub mod Unpacking

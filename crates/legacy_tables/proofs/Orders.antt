@@ -1,6 +1,7 @@
 -- Orders of pointers that passed their check, and look-ups in them.
 use Rattle.std.proofs.Common.{◌≡◌, ◌≢◌, ◌∙◌, ℕ, zero, suc, ◌+◌, ◌≤◌, ◌<◌, List, [], ◌∷◌, length, get_or, slice_index, refl, sym, ap, subst, arith, Some, None, Option, true}
-use Rattle.std.proofs.Common.{false, find, Bool, ◌&&◌, ◌||◌, cond, eq-eqb, ◌==◌, nat_lt, not, inl, inr, drop, drop-cons, add-one}
+use Rattle.std.proofs.Common.{false, find, Bool, cond, eq-eqb, ◌==◌, nat_lt, not, inl, inr, drop, drop-cons, add-one}
+use Rattle.std.proofs.Math.Bool.{or-true}
 use Rattle.std.proofs.lemmas.Bool.{cases_lt, cases_eq, ne_eqb, eqb-true, true≢false}
 use Rattle.std.proofs.lemmas.List.{get_or_past, get_or_default}
 use Rattle.std.proofs.lemmas.List.Folds.{list_any_at}
@@ -9,28 +10,12 @@ use Rattle.std.specs.List.{list_any}
 use Rattle.std.specs.List.Sorted.{IsNonDecreasingBy}
 use borrow.Author.Tests.{ltb-true, lt-ltb, le-ltb}
 use Rattle.legacy_tables.specs.declared.tables.packed.PackedPart.{PackedPart}
-use Rattle.legacy_tables.specs.declared.tables.packed.PackedPart.TheVariants as parts
 use Rattle.legacy_tables.specs.Pointers.{first_pointer}
-use Rattle.legacy_tables.specs.Orders.{IsLookup, IsOrder, RisesBy, order_pointer, takes_last}
-use Rattle.legacy_tables.specs.Packed.{may_use, pointer_of, is_pointer_in_order, order_fault_from, order_fault, is_lacking, order_difference}
-use Rattle.legacy_tables.proofs.FirstPlaces.{find-none-at}
+use Rattle.legacy_tables.specs.Orders.{IsLookup, IsOrder, RisesBy, order_pointer}
+use Rattle.legacy_tables.specs.Packed.{may_use, pointer_of, takes_last, is_pointer_in_order, order_fault_from, order_fault, is_lacking, order_difference}
+use Rattle.legacy_tables.proofs.FirstPlaces.{both_true, taken, less, find-at, find-absent, find-none-at}
 use Rattle.legacy_tables.proofs.Pointers.{first-least}
 use Rattle.legacy_tables.proofs.PackedPointers.{pointer-taken, pointer-same}
-
-both_true : (a b : Bool) → (a && b) ≡ true → (a ≡ true) × (b ≡ true)
-both_true true b e = (refl, e)
-both_true false b e = cc
-
-taken : (t : Bool) (place : ℕ) (a : Option ℕ) → cond t a (Some place) ≡ None → (t ≡ true) × (a ≡ None)
-taken true place a e = (refl, e)
-taken false place a e = cc
-
-or_true : (a : Bool) → (a || true) ≡ true
-or_true true = refl
-or_true false = refl
-
-less : (a b : ℕ) → suc a < suc b → a < b
-less a b h = omega arith
 
 -- ---- the order, as a loop reads it
 
@@ -117,20 +102,6 @@ module _ (part : PackedPart) (index : List ℕ) where
 
 -- ---- the pointers that an order gives
 
--- the first item of a list that passes a test
-find-at : (test : ℕ → Bool) (xs : List ℕ) (n : ℕ) → n < length xs → test (get_or xs n 0) ≡ true → ((k : ℕ) → k < n → test (get_or xs k 0) ≡ false) → find test xs ≡ Some (get_or xs n 0)
-find-at test [] n h is before = absurd (omega arith)
-find-at test (x ∷ xs) zero h is before = let here : test x ≡ true = is in rw here refl
-find-at test (x ∷ xs) (suc n) h is before =
-    let here : test x ≡ false = before 0 (omega arith) in
-    rw here (find-at test xs n (less n (length xs) h) is (λ k l. before (suc k) (omega arith)))
-
-find-absent : (test : ℕ → Bool) (xs : List ℕ) → ((k : ℕ) → k < length xs → test (get_or xs k 0) ≡ false) → find test xs ≡ None
-find-absent test [] all = refl
-find-absent test (x ∷ xs) all =
-    let here : test x ≡ false = all 0 (omega arith) in
-    rw here (find-absent test xs (λ k l. all (suc k) (omega arith)))
-
 find-held : (test : ℕ → Bool) (xs : List ℕ) (q : ℕ) → find test xs ≡ Some q → (list_any (λ r. q == r) xs ≡ true) × (test q ≡ true)
 find-held test [] q e = cc
 find-held test (x ∷ xs) q e = go (test x) refl e (find-held test xs q)
@@ -138,7 +109,7 @@ find-held test (x ∷ xs) q e = go (test x) refl e (find-held test xs q)
     go : (t : Bool) → test x ≡ t → cond t (Some x) (find test xs) ≡ Some q → (find test xs ≡ Some q → (list_any (λ r. q == r) xs ≡ true) × (test q ≡ true)) →
         (list_any (λ r. q == r) (x ∷ xs) ≡ true) × (test q ≡ true)
     go true z f rest = let same : x ≡ q = cc in (rw (eq-eqb q x (sym same)) refl, subst (λ r. test r ≡ true) same z)
-    go false z f rest = let later = rest f in (rw later.0 (or_true (q == x)), later.1)
+    go false z f rest = let later = rest f in (rw later.0 (or-true (q == x)), later.1)
 
 -- the order that a binary search requires
 pub order-rising : (index order : List ℕ) → RisesBy index order → IsNonDecreasingBy (λ p. slice_index index p) order
@@ -154,7 +125,7 @@ module _ (index order : List ℕ) (rises : RisesBy index order) (c : ℕ) where
   pub order-at : (n : ℕ) → n < length order → slice_index index (slice_index order n) ≡ c → order_pointer index order c ≡ Some (slice_index order n)
   unfolding order_pointer
   order-at n h is =
-      find-at (λ p. slice_index index p == c) order n h (eq-eqb (slice_index index (slice_index order n)) c is)
+      find-at (λ p. slice_index index p == c) 0 order n h (eq-eqb (slice_index index (slice_index order n)) c is)
       (λ k l. let above = rises.above k n l h in ne_eqb (slice_index index (slice_index order k)) c (λ e. absurd (omega arith)))
 
   -- if no place has the scalar
@@ -162,7 +133,7 @@ module _ (index order : List ℕ) (rises : RisesBy index order) (c : ℕ) where
       → (n < length order → slice_index index (slice_index order n) ≢ c) → order_pointer index order c ≡ None
   unfolding order_pointer
   order-absent n below from other =
-      find-absent (λ p. slice_index index p == c) order
+      find-absent (λ p. slice_index index p == c) 0 order
       (λ k h. ne_eqb (slice_index index (slice_index order k)) c (λ e. elim (cases_lt k n) [
         | inl l ↦ let b = below k l in absurd (omega arith)
         | inr l ↦ elim (cases_lt n k) [
@@ -196,16 +167,7 @@ held_true false e = cc
 
 -- the first of the scalar's pointers is used, except for the six scalars of Big5
 first-taken : (part : PackedPart) (index : List ℕ) (c : ℕ) → takes_last part c ≡ false → pointer_of part index c ≡ first_pointer (may_use part) index c
-first-taken parts.Big5Order index c e = rw e refl
-first-taken parts.ShiftJisOrder index c e = refl
-first-taken parts.EucJpOrder index c e = refl
-first-taken parts.EucKrOrder index c e = refl
-first-taken parts.Gb18030Order index c e = refl
-first-taken parts.Big5 index c e = refl
-first-taken parts.EucKr index c e = refl
-first-taken parts.Jis0208 index c e = refl
-first-taken parts.Jis0212 index c e = refl
-first-taken parts.Gb18030 index c e = refl
+first-taken part index c e = rw e refl
 
 module _ (part : PackedPart) (index order : List ℕ) (lookup : ℕ → Option ℕ) (is : IsLookup part index order lookup) where
   -- the pointer that is used for a scalar that has one
@@ -343,7 +305,7 @@ pub order-same : (part : PackedPart) (a b order : List ℕ) → ((p : ℕ) → s
 unfolding order_pointer
 order-same part a b order same is = record {
   rises = record { above = λ i j h l. rw (same (slice_index order i), same (slice_index order j)) (is.rises.above i j h l) };
-  answers = λ c. find-alike c order ∙ is.answers c ∙ sym (pointer-same part a b same c);
+  answers = λ c. find-alike c order ∙ is.answers c ∙ sym (pointer-same part c a b same);
 }
   where
     find-alike : (c : ℕ) (xs : List ℕ) → find (λ p. slice_index a p == c) xs ≡ find (λ p. slice_index b p == c) xs

@@ -1,5 +1,5 @@
 -- Runs with the scalars of accepted indexes are accepted indexes too.
-use Rattle.std.proofs.Common.{◌≡◌, ◌≢◌, ◌∙◌, ℕ, suc, ◌+◌, ◌≤◌, ◌<◌, All, List, [], ◌∷◌, length, get_or, refl, sym, ap, arith, Some, None, Option, false, not, ◌==◌, inl, inr}
+use Rattle.std.proofs.Common.{◌≡◌, ◌∙◌, ℕ, suc, ◌+◌, ◌≤◌, ◌<◌, All, List, [], ◌∷◌, length, get_or, refl, sym, ap, arith, Some, None, Option, false, not, ◌==◌, inl, inr}
 use Rattle.std.proofs.lemmas.Bool.{cases_lt, cases_eq, ne_eqb, true≢false}
 use Rattle.std.proofs.lemmas.List.{get_or_past}
 use Rattle.std.proofs.lemmas.List.Elements.{All-get_or}
@@ -15,11 +15,11 @@ use Rattle.legacy_tables.specs.declared.tables.packed.PackedPart.TheVariants as 
 use Rattle.legacy_tables.specs.Unicode.{AreScalars}
 use Rattle.legacy_tables.specs.Indexes.{FlatIndexes, idx, entry_scalar}
 use Rattle.legacy_tables.specs.TableChecks.{entry_fault, entries_fault, index_fault, table_fault, AreAccepted}
-use Rattle.legacy_tables.specs.Runs.{runs_scalar, runs_entry, GiveNoZero, runs_list, run_fault}
+use Rattle.legacy_tables.specs.Runs.{runs_scalar, runs_entry, runs_list, run_fault}
 use Rattle.legacy_tables.specs.Tables.{index_list}
 use Rattle.legacy_tables.specs.Packed.{part_fault, differs_at, run_difference, runs_fault, all_runs_fault, all_orders_fault, packed_lists, AnswerAlike, ArePackedTables}
 use Rattle.legacy_tables.proofs.Accepted.{parts, or_none, entry_at}
-use Rattle.legacy_tables.specs.PackedTables.{lists_of_runs, AreRunsOf, AllGiveNoZero, AnswerPointersOf}
+use Rattle.legacy_tables.specs.PackedTables.{lists_of_runs, AreRunsOf, AnswerPointersOf}
 use Rattle.legacy_tables.specs.declared.tables.packed_checks.CheckedRuns.{CheckedRuns}
 use Rattle.legacy_tables.specs.declared.tables.order_checks.CheckedOrders.{CheckedOrders}
 use Rattle.legacy_tables.proofs.FirstPlaces.{find-none-at}
@@ -42,11 +42,6 @@ entry-narrow xs all p = elim (cases_lt p (length xs)) [
   | inr h ↦ rw (get_or_past xs p 0 h) (omega arith)
 ]
 
--- ---- the scalar that runs give is an entry of their list
-
-pub given-entry : (runs : List Run) (p c : ℕ) → Some c ≡ runs_scalar runs p → get_or (runs_list runs) p 0 ≡ c
-given-entry runs p c is = runs_list-entry runs p ∙ ap (λ o. option_map_or (λ c. c) o 0) (sym is)
-
 -- ---- one index
 
 same_options : (a b : Option ℕ) → not (option_eq (λ x y. x == y) a b) ≡ false → a ≡ b
@@ -63,16 +58,6 @@ entry-back e = elim (cases_lt e 1) [
   | inl h ↦ let z : e ≡ 0 = omega arith in rw z refl
   | inr h ↦ rw (ne_eqb e 0 (λ z. omega arith)) refl
 ]
-
--- the number 0 is not the scalar of an entry
-entry-no-zero : (e : ℕ) → entry_scalar e ≢ Some 0
-entry-no-zero e is = elim (cases_eq e 0) [
-  | inl z ↦ let f = rw z at is in cc
-  | inr other ↦ let f = rw (ne_eqb e 0 other) at is in other (same_numbers f)
-]
-  where
-    same_numbers : {a b : ℕ} → Some a ≡ Some b → a ≡ b
-    same_numbers f = cc
 
 part-none : (part : PackedPart) (a b : Option ℕ) → part_fault part a b ≡ None → (a ≡ None) × (b ≡ None)
 part-none part None None e = (refl, refl)
@@ -95,16 +80,6 @@ module _ (part : PackedPart) (limit : ℕ) (runs : List Run) (index : List ℕ) 
         ap (λ o. option_map_or (λ c. c) o 0) (sym (same_options (idx index p) (runs_scalar runs p) alike)) ∙ entry-back (get_or index p 0)
     | inr h ↦
         ap (λ o. option_map_or (λ c. c) o 0) (past_runs p h) ∙ sym (get_or_past index p 0 (omega arith))
-  ]
-
-  -- the runs give no pointer 0, because the index has no scalar there
-  pub no-zero : GiveNoZero runs
-  unfolding run_difference
-  no-zero p is = elim (cases_lt p limit) [
-    | inl h ↦
-        let alike = find-none-at (differs_at runs index) 0 limit (part-none part (run_fault limit runs) (run_difference limit runs index) none).1 p (omega arith) (omega arith) in
-        entry-no-zero (get_or index p 0) (same_options (idx index p) (runs_scalar runs p) alike ∙ is)
-    | inr h ↦ let none = past_runs p h in let e = rw none at is in cc
   ]
 
   pub same-list : (p : ℕ) → get_or (runs_list runs) p 0 ≡ get_or index p 0
@@ -212,15 +187,3 @@ orders-same orders flat packed accepted none are = record {
   euc_jp = order-same parts.EucJpOrder (runs_list packed.jis0208.now) flat.jis0208 orders.euc_jp.now (same-jis0208 flat packed accepted none) are.euc_jp;
   gb18030 = order-same parts.Gb18030Order (runs_list packed.gb18030.now) flat.gb18030 orders.gb18030.now (same-gb18030 flat packed accepted none) are.gb18030;
 }
-
--- runs with the scalars of accepted indexes give no pointer the number 0
-pub numbers-given : (runs : CheckedRuns) (flat : FlatIndexes) (packed : Packed) → AreRunsOf runs packed → AreAccepted flat → all_runs_fault flat packed ≡ None → AllGiveNoZero runs
-numbers-given runs flat packed are accepted none =
-    let r = runs_parts flat packed none in
-    let p = parts flat accepted in record {
-      big5 = rw are.big5 (no-zero parts.Big5 19782 packed.big5.now flat.big5 r.big5 p.big5.0);
-      euc_kr = rw are.euc_kr (no-zero parts.EucKr 23940 packed.euc_kr.now flat.euc_kr r.euc_kr p.euc_kr.0);
-      jis0208 = rw are.jis0208 (no-zero parts.Jis0208 11280 packed.jis0208.now flat.jis0208 r.jis0208 p.jis0208.0);
-      jis0212 = rw are.jis0212 (no-zero parts.Jis0212 8836 packed.jis0212.now flat.jis0212 r.jis0212 p.jis0212.0);
-      gb18030 = rw are.gb18030 (no-zero parts.Gb18030 23940 packed.gb18030.now flat.gb18030 r.gb18030 p.gb18030.0);
-    }

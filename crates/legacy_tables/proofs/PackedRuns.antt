@@ -1,7 +1,7 @@
 -- Runs in order, and the scalars that they give.
-use Rattle.std.proofs.Common.{◌≡◌, ◌≢◌, ◌∙◌, ℕ, zero, suc, ◌+◌, ◌-◌, ◌≤◌, ◌<◌, List, [], ◌∷◌, length, map, get_or, drop, drop-cons, add-one, refl, sym, ap, arith, Some, None}
+use Rattle.std.proofs.Common.{◌≡◌, ◌∙◌, ℕ, zero, suc, ◌+◌, ◌-◌, ◌≤◌, ◌<◌, List, [], ◌∷◌, length, map, get_or, drop, drop-cons, add-one, refl, sym, ap, arith, Some, None}
 use Rattle.std.proofs.Common.{Option, true, false, Bool, ◌&&◌, cond, nat_le, nat_lt, inl, inr}
-use Rattle.std.proofs.lemmas.Bool.{cases_lt, ne_eqb}
+use Rattle.std.proofs.lemmas.Bool.{cases_lt}
 use Rattle.std.proofs.lemmas.List.{get_or_past}
 use Rattle.std.proofs.lemmas.List.FromFn.{get_or-map-range_with_len, length-map-range_with_len}
 use Rattle.std.proofs.Math.ListN.{drop_of_length-le}
@@ -10,9 +10,9 @@ use Rattle.std.specs.List.Sorted.{IsNonDecreasingBy}
 use Rattle.std.specs.Option.{option_map_or}
 use borrow.Author.Tests.{ltb-true, leb-true, le-leb, lt-leb, lt-ltb, le-ltb}
 use Rattle.legacy_tables.specs.declared.tables.packed.Run.{Run}
-use Rattle.legacy_tables.specs.Indexes.{idx, entry_scalar}
 use Rattle.legacy_tables.specs.Packed.{differs_at}
-use Rattle.legacy_tables.specs.Runs.{run_at, HasPointer, run_end, run_scalar, runs_scalar, runs_entry, GiveNoZero, runs_end, runs_list, is_run_in_order, run_fault_from, run_fault, AreInOrder, IsFirstBehind}
+use Rattle.legacy_tables.proofs.FirstPlaces.{both_true, taken, less}
+use Rattle.legacy_tables.specs.Runs.{run_at, HasPointer, run_end, run_scalar, runs_scalar, runs_entry, runs_end, runs_list, is_run_in_order, run_fault_from, run_fault, AreInOrder, IsFirstBehind}
 
 -- a run without pointers
 abbrev pub no_run : Run
@@ -42,14 +42,6 @@ record IsBehind (before limit : ℕ) (run : Run) : Type 0 where
   reach : run_end run ≤ limit
   scalars : run.scalar + run.length ≤ 0x11_0000
 
-both_true : (a b : Bool) → (a && b) ≡ true → (a ≡ true) × (b ≡ true)
-both_true true b e = (refl, e)
-both_true false b e = cc
-
-taken : (t : Bool) (place : ℕ) (a : Option ℕ) → cond t a (Some place) ≡ None → (t ≡ true) × (a ≡ None)
-taken true place a e = (refl, e)
-taken false place a e = cc
-
 in_order-behind : (before limit : ℕ) (run : Run) → is_run_in_order before limit run ≡ true → IsBehind before limit run
 in_order-behind before limit run e =
     let a = both_true _ _ e in
@@ -59,9 +51,6 @@ in_order-behind before limit run e =
 
 pub in_order-reach : (before limit : ℕ) (run : Run) → is_run_in_order before limit run ≡ true → run_end run ≤ limit
 in_order-reach before limit run e = (in_order-behind before limit run e).reach
-
-less : (a b : ℕ) → suc a < suc b → a < b
-less a b h = omega arith
 
 behind_all : (place before limit : ℕ) (runs : List Run) → run_fault_from place before limit runs ≡ None → (i : ℕ) (d : Run) → i < length runs → IsBehind before limit (get_or runs i d)
 unfolding run_fault_from
@@ -237,11 +226,3 @@ pub scalar-past_list : (runs : List Run) (p : ℕ) → length (runs_list runs) �
 scalar-past_list runs p h =
     let past : runs_end runs ≤ p = rw (← runs_list-length runs) h in
     scalar-none runs p (λ k l. let m = end_most runs k l in outside-behind (get_or runs k no_run) p (omega arith))
-
--- if no number is 0, the flat list has the scalars that the runs give
-pub idx-given : (runs : List Run) → GiveNoZero runs → (p : ℕ) → idx (runs_list runs) p ≡ runs_scalar runs p
-idx-given runs numbered p = rw (runs_list-entry runs p) (go (runs_scalar runs p) (numbered p))
-  where
-    go : (found : Option ℕ) → found ≢ Some 0 → entry_scalar (option_map_or (λ c. c) found 0) ≡ found
-    go None other = refl
-    go (Some c) other = rw (ne_eqb c 0 (λ e. other (ap Some e))) refl

@@ -1,6 +1,7 @@
 -- The pointer that an encoder uses: a usable pointer of the scalar, either the first or the last one.
 use Rattle.std.proofs.Common.{◌≡◌, ◌≢◌, ◌∙◌, ℕ, ◌≤◌, ◌<◌, List, length, slice_index, refl, sym, ap, arith, Some, None}
 use Rattle.std.proofs.Common.{Option, true, false, Bool, ◌&&◌, ◌||◌, cond, find, min, nat_le, nat_lt, eqb, eq-eqb, ◌==◌, inl, inr}
+use Rattle.std.proofs.Math.Bool.{and-true, or-true}
 use Rattle.std.proofs.lemmas.Bool.{cases_lt, cases_eq, ne_eqb, eqb-true, true≢false}
 use Rattle.std.proofs.lemmas.List.{get_or_past}
 use Rattle.std.specs.Option.{IfSome, option_map_or, option_or}
@@ -9,19 +10,7 @@ use borrow.Author.Tests.{ltb-true, leb-true, lt-ltb, le-ltb, le-leb, lt-leb}
 use Rattle.legacy_tables.specs.Indexes.{range}
 use Rattle.legacy_tables.specs.Pointers.{every_pointer, is_shift_jis_pointer, is_pointer_of, first_pointer, last_pointer}
 use Rattle.legacy_tables.specs.Pointers.{big5_pointer_of, takes_last_big5_pointer, is_big5_pointer, is_range_pointer_of, first_range_pointer, range_pointer_of}
-use Rattle.legacy_tables.proofs.FirstPlaces.{find-some, find-none, find-none-at, find-first, last-some, last-none, last-none-at, last-passes, last-after, find-same, find-either, last-same}
-
-both_true : (a b : Bool) → (a && b) ≡ true → (a ≡ true) × (b ≡ true)
-both_true true b e = (refl, e)
-both_true false b e = cc
-
-and_true : (a : Bool) → (a && true) ≡ a
-and_true true = refl
-and_true false = refl
-
-or_true : (a : Bool) → (a || true) ≡ true
-or_true true = refl
-or_true false = refl
+use Rattle.legacy_tables.proofs.FirstPlaces.{both_true, find-some, find-none, find-none-at, find-first, last-some, last-none, last-none-at, last-passes, find-same, find-either}
 
 module _ (may : ℕ → Bool) (index : List ℕ) (c : ℕ) where
   hits : (p : ℕ) → may p ≡ true → slice_index index p ≡ c → is_pointer_of may index c p ≡ true
@@ -107,27 +96,12 @@ module _ (may : ℕ → Bool) (index : List ℕ) (c : ℕ) where
         | inr h ↦ h
       ]
 
-  -- the last pointer is the greatest
-  pub last-greatest : (s p : ℕ) → last_pointer may index c ≡ Some s → may p ≡ true → slice_index index p ≡ c → c ≢ 0 → p ≤ s
-  unfolding last_pointer
-  last-greatest s p e u is n =
-      let z = rw (ne_eqb c 0 n) at e in
-      elim (cases_lt s p) [
-        | inl h ↦ absurd (true≢false (sym (hits p u is) ∙ last-after (is_pointer_of may index c) (length index) s z p h (within p n is)))
-        | inr h ↦ h
-      ]
-
 -- only the usable pointers within the index matter
 module _ (may other : ℕ → Bool) (index : List ℕ) (c : ℕ) where
   pub first-alike : ((k : ℕ) → k < length index → may k ≡ other k) → first_pointer may index c ≡ first_pointer other index c
   unfolding first_pointer
   first-alike same =
       ap (cond (c == 0) None) (find-same (is_pointer_of may index c) (is_pointer_of other index c) 0 (length index) (λ k l m. ap (λ b. b && slice_index index k == c) (same k (omega arith))))
-
-  pub last-alike : ((k : ℕ) → k < length index → may k ≡ other k) → last_pointer may index c ≡ last_pointer other index c
-  unfolding last_pointer
-  last-alike same =
-      ap (cond (c == 0) None) (last-same (is_pointer_of may index c) (is_pointer_of other index c) (length index) (λ k m. ap (λ b. b && slice_index index k == c) (same k m)))
 
   either_and : (a b t : Bool) → ((a || b) && t) ≡ (a && t || b && t)
   either_and true true true = refl
@@ -197,14 +171,14 @@ below_both a b k h = elim (cases_lt k b) [
 ]
 
 from_on : (start a k : ℕ) → k < a → (nat_le start k && nat_lt k a) ≡ nat_le start k
-from_on start a k h = rw (lt-ltb k a h) (and_true (nat_le start k))
+from_on start a k h = rw (lt-ltb k a h) (and-true (nat_le start k))
 
 shift_jis : (k : ℕ) → (nat_lt k 8272 || nat_le 8836 k) ≡ is_shift_jis_pointer k
 shift_jis k = elim (cases_lt k 8272) [
   | inl l ↦ rw (lt-ltb k 8272 l, lt-leb 8272 k l) refl
   | inr l ↦ elim (cases_lt k 8836) [
     | inl m ↦ rw (le-ltb k 8272 l, lt-leb 8836 k m, le-leb 8272 k l, le-leb k 8835 (omega arith)) refl
-    | inr m ↦ rw (le-leb 8836 k m, le-leb 8272 k l, lt-leb k 8835 (omega arith)) (or_true (nat_lt k 8272))
+    | inr m ↦ rw (le-leb 8836 k m, le-leb 8272 k l, lt-leb k 8835 (omega arith)) (or-true (nat_lt k 8272))
   ]
 ]
 
@@ -233,14 +207,6 @@ module _ (index : List ℕ) (c : ℕ) where
   pub shift-jis-high : first_pointer (λ p. nat_le 0 p && nat_lt p (min (length index) 8272)) index c ≡ None →
       first_pointer (λ p. nat_le 8836 p && nat_lt p (length index)) index c ≡ first_pointer is_shift_jis_pointer index c
   shift-jis-high e = first-from 8836 ∙ sym (shift_jis_first ∙ ap (λ o. option_or o (first_pointer (nat_le 8836) index c)) (sym (first-below 8272) ∙ e))
-
--- no pointer is used for 0
-pub big5-zero : (index : List ℕ) (c : ℕ) → c ≡ 0 → big5_pointer_of index c ≡ None
-big5-zero index c e = go (takes_last_big5_pointer c)
-  where
-    go : (t : Bool) → cond t (last_pointer is_big5_pointer index c) (first_pointer is_big5_pointer index c) ≡ None
-    go true = last-zero is_big5_pointer index c e
-    go false = first-zero is_big5_pointer index c e
 
 -- the pointer that Big5 uses
 pub big5-taken : (index : List ℕ) (c : ℕ) → IsTaken is_big5_pointer index c (big5_pointer_of index c)
@@ -288,10 +254,6 @@ module _ (ranges : List (ℕ × ℕ)) (c : ℕ) where
   unfolding first_range_pointer
   least_taken n p e = let f = find-first (is_range_pointer_of ranges c) 0 n p e in (of_is (range ranges p) f.passes, let w = f.within in omega arith)
 
-  least_missing : (n : ℕ) → first_range_pointer ranges c n ≡ None → (p : ℕ) → p < n → range ranges p ≡ Some c → ⊥
-  unfolding first_range_pointer
-  least_missing n e p h is = true≢false (sym (is_of p is) ∙ find-none-at (is_range_pointer_of ranges c) 0 n e p (omega arith) (omega arith))
-
   -- the least pointer of the scalar
   pub range-first : c ≢ 0xE7C7 → (p : ℕ) → p < 1237576 → range ranges p ≡ Some c → ((k : ℕ) → k < p → range ranges k ≡ Some c → ⊥) → range_pointer_of ranges c ≡ Some p
   unfolding range_pointer_of
@@ -318,12 +280,4 @@ module _ (ranges : List (ℕ × ℕ)) (c : ℕ) where
         let same : 7457 ≡ p = some_is 7457 p (rw (eq-eqb c 0xE7C7 is) at e) in
         rw (is, ← same) (at_7457, omega arith)
     | inr n ↦ least_taken 1237576 p (rw (ne_eqb c 0xE7C7 n) at e)
-  ]
-
-  -- if no pointer is used, no pointer has the scalar
-  pub range-missing : range_pointer_of ranges c ≡ None → (p : ℕ) → p < 1237576 → range ranges p ≡ Some c → ⊥
-  unfolding range_pointer_of
-  range-missing e p h is = elim (cases_eq c 0xE7C7) [
-    | inl same ↦ let z = rw (eq-eqb c 0xE7C7 same) at e in cc
-    | inr n ↦ least_missing 1237576 (rw (ne_eqb c 0xE7C7 n) at e) p h is
   ]

@@ -1,6 +1,6 @@
 -- Private-use rows that passed their check, and the search in them.
 use Rattle.std.proofs.Common.{◌≡◌, ◌≢◌, ◌⊎◌, inl, inr, ℕ, zero, suc, ◌+◌, ◌≤◌, ◌<◌, List, [], ◌∷◌, length}
-use Rattle.std.proofs.Common.{◌∙◌, ◌&&◌, sym, ap, get_or, add-one, refl, arith, Some, None, Option, true, false, Bool, not, cond, find, eq-eqb, ◌==◌}
+use Rattle.std.proofs.Common.{◌∙◌, ◌&&◌, sym, ap, get_or, add-one, refl, arith, Some, None, Option, true, false, Bool, not, cond, eq-eqb, ◌==◌}
 use Rattle.std.proofs.lemmas.Bool.{ne_eqb, cases_lt, true≢false}
 use Rattle.std.specs.Int.{is_in_range}
 use Rattle.std.proofs.lemmas.List.Sorted.{IsNonDecreasingBy-from_all_adjacent}
@@ -12,6 +12,7 @@ use Rattle.legacy_tables.specs.declared.tables.TableError.TheVariants.{PuaOrder,
 use Rattle.legacy_tables.specs.Indexes.{gb18030_pua_of}
 use Rattle.legacy_tables.specs.TableChecks.{follows_scalar, row_fault, rows_fault}
 use Rattle.legacy_tables.proofs.Accepted.{or_none}
+use Rattle.legacy_tables.proofs.FirstPlaces.{find-at, find-absent}
 
 -- a row without a fault follows the row before it
 follows : (place : ℕ) (before : Option ℕ) (r : ℕ × ℕ × ℕ) → row_fault place before r ≡ None → follows_scalar before r.0 ≡ true
@@ -53,29 +54,19 @@ all_private place before (r ∷ rows) e zero h = private_use place before r (or_
 all_private place before (r ∷ rows) e (suc k) h = all_private (place + 1) (Some r.0) rows (or_none (row_fault place before r) _ e).1 k (omega arith)
 
 module _ (c : ℕ) where
-  find_none : (rows : List (ℕ × ℕ × ℕ)) → ((k : ℕ) → k < length rows → (get_or rows k (0, 0, 0)).0 ≢ c) → find (λ r. r.0 == c) rows ≡ None
-  find_none [] other = refl
-  find_none (r ∷ rows) other = rw (ne_eqb r.0 c (other 0 (omega arith)), find_none rows (λ k h. other (suc k) (omega arith))) refl
-
-  find_at : (rows : List (ℕ × ℕ × ℕ)) (place : ℕ) → place < length rows → (get_or rows place (0, 0, 0)).0 ≡ c → ((k : ℕ) → k < place → (get_or rows k (0, 0, 0)).0 ≢ c) →
-      find (λ r. r.0 == c) rows ≡ Some (get_or rows place (0, 0, 0))
-  find_at [] place h e other = absurd (omega arith)
-  find_at (r ∷ rows) zero h e other = rw (eq-eqb r.0 c e) refl
-  find_at (r ∷ rows) (suc place) h e other = rw (ne_eqb r.0 c (other 0 (omega arith))) (find_at rows place (omega arith) e (λ k m. other (suc k) (omega arith)))
-
   -- no row has a scalar outside of private use
   pub row-outside : (rows : List (ℕ × ℕ × ℕ)) → rows_fault 0 None rows ≡ None → is_in_range 0xE000 0xF8FF c ≡ false → None ≡ gb18030_pua_of rows c
   row-outside rows none outside =
-      rw (find_none rows (λ k h e. true≢false (sym (all_private 0 None rows none k h) ∙ ap (is_in_range 0xE000 0xF8FF) e ∙ outside))) refl
+      rw (find-absent (λ r. r.0 == c) (0, 0, 0) rows (λ k h. ne_eqb _ c (λ e. true≢false (sym (all_private 0 None rows none k h) ∙ ap (is_in_range 0xE000 0xF8FF) e ∙ outside)))) refl
 
   -- the first `count` rows have lower scalars
   module _ (rows : List (ℕ × ℕ × ℕ)) (count : ℕ) (below : (k : ℕ) → k < count → (get_or rows k (0, 0, 0)).0 < c) where
     pub row-end : length rows ≤ count → None ≡ gb18030_pua_of rows c
-    row-end h = rw (find_none rows (λ k l e. let low = below k (omega arith) in absurd (omega arith))) refl
+    row-end h = rw (find-absent (λ r. r.0 == c) (0, 0, 0) rows (λ k l. ne_eqb _ c (λ e. let low = below k (omega arith) in absurd (omega arith)))) refl
 
     pub row-other : rows_fault 0 None rows ≡ None → (ahead : (k : ℕ) → count ≤ k → k < length rows → c ≤ (get_or rows k (0, 0, 0)).0) → count < length rows
         → (get_or rows count (0, 0, 0)).0 ≢ c → None ≡ gb18030_pua_of rows c
-    row-other rises ahead h n = rw (find_none rows (λ k l e. elsewhere k l e (cases_lt k count))) refl
+    row-other rises ahead h n = rw (find-absent (λ r. r.0 == c) (0, 0, 0) rows (λ k l. ne_eqb _ c (λ e. elsewhere k l e (cases_lt k count)))) refl
       where
         elsewhere : (k : ℕ) → k < length rows → (get_or rows k (0, 0, 0)).0 ≡ c → (k < count) ⊎ (count ≤ k) → ⊥
         elsewhere k l e (inl m) = let low = below k m in absurd (omega arith)
@@ -85,4 +76,4 @@ module _ (c : ℕ) where
             n (omega arith)
 
     pub row-found : count < length rows → (get_or rows count (0, 0, 0)).0 ≡ c → Some ((get_or rows count (0, 0, 0)).1, (get_or rows count (0, 0, 0)).2) ≡ gb18030_pua_of rows c
-    row-found h e = rw (find_at rows count h e (λ k m same. let low = below k m in absurd (omega arith))) refl
+    row-found h e = rw (find-at (λ r. r.0 == c) (0, 0, 0) rows count h (eq-eqb _ c e) (λ k m. ne_eqb _ c (λ same. let low = below k m in absurd (omega arith)))) refl

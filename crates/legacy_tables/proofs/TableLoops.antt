@@ -25,6 +25,8 @@ module _ (name : IndexName) (index : List ℕ) (p : ℕ) where
   unfolding entries_fault
   entries_end h = rw (drop_of_length-le index h) refl
 
+pub ruleset fault_steps = (err_from_is_err_and)
+
 pub ruleset entries_steps = (entries_next, entries_end, err_from_is_err_and, le-ltb)
 
 -- ---- the order of ranges, and their scalars

@@ -13,4 +13,3 @@ pub mod PointerSets
 pub mod PackedTables
 pub mod Walks
 pub mod RangeParts
-pub mod Unpacking

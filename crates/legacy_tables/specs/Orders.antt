@@ -1,10 +1,8 @@
 -- Orders: pointers sorted by their scalars, and look-ups in them.
-use Rattle.std.specs.Prelude.{◌≡◌, ℕ, ◌<◌, List, Option, Some, Bool, true, length, find}
-use Rattle.std.specs.Prelude.{false, ◌==◌, slice_index}
+use Rattle.std.specs.Prelude.{◌≡◌, ℕ, ◌<◌, List, Option, Some, true, length, find}
+use Rattle.std.specs.Prelude.{◌==◌, slice_index}
 use Rattle.std.specs.List.{list_any}
 use Rattle.legacy_tables.specs.declared.tables.packed.PackedPart.{PackedPart}
-use Rattle.legacy_tables.specs.declared.tables.packed.PackedPart.TheVariants as parts
-use Rattle.legacy_tables.specs.Pointers.{takes_last_big5_pointer}
 use Rattle.legacy_tables.specs.Packed.{may_use, pointer_of}
 
 -- the scalar of each pointer of an order is above those before it
@@ -25,11 +23,6 @@ pub record IsLookup (part : PackedPart) (index order : List ℕ)
       lookup c ≡ Some q
   pub usable : (q : ℕ) → list_any (λ r. q == r) order ≡ true → may_use part q ≡ true
   pub mapped : (q : ℕ) → list_any (λ r. q == r) order ≡ true → 0 < slice_index index q
-
--- true if the codec uses the last of the scalar's pointers
-abbrev pub takes_last : PackedPart → ℕ → Bool
-takes_last parts.Big5Order c = takes_last_big5_pointer c
-takes_last _ c = false
 
 -- for each scalar, an order gives the pointer that the codec uses
 pub record IsOrder (part : PackedPart) (index order : List ℕ) : Type 0 where

@@ -17,7 +17,7 @@ use Rattle.legacy_tables.specs.AcceptedTables.{flat_lists}
 use Rattle.legacy_tables.specs.TableChecks.{table_fault}
 use Rattle.legacy_tables.specs.Tables.{index_list}
 use Rattle.legacy_tables.specs.Pointers.{every_pointer, is_big5_pointer, is_shift_jis_pointer}
-use Rattle.legacy_tables.specs.Pointers.{is_jis0208_pointer, big5_pointer_of, first_pointer}
+use Rattle.legacy_tables.specs.Pointers.{is_jis0208_pointer, first_pointer, last_pointer, takes_last_big5_pointer}
 use Rattle.legacy_tables.specs.Runs.{runs_scalar, runs_list, run_fault}
 
 -- the fault of a part: it is out of order, or differs from the flat index
@@ -49,10 +49,16 @@ may_use parts.ShiftJisOrder p = is_shift_jis_pointer p
 may_use parts.EucJpOrder p = is_jis0208_pointer p
 may_use _ p = every_pointer p
 
+-- true if the codec uses the last of the scalar's pointers
+abbrev pub takes_last : PackedPart → ℕ → Bool
+takes_last parts.Big5Order c = takes_last_big5_pointer c
+takes_last _ c = false
+
 -- the pointer that the codec uses for a scalar
 abbrev pub pointer_of : PackedPart → List ℕ → ℕ → Option ℕ
-pointer_of parts.Big5Order index c = big5_pointer_of index c
-pointer_of part index c = first_pointer (may_use part) index c
+pointer_of part index c =
+    if takes_last part c then last_pointer (may_use part) index c
+    else first_pointer (may_use part) index c
 
 -- the pointer may be used, and its scalar is above `above`; an entry 0 is no scalar
 abbrev pub is_pointer_in_order : PackedPart → List ℕ → ℕ → ℕ → Bool

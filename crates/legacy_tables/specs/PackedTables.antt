@@ -7,9 +7,9 @@ use Rattle.legacy_tables.specs.declared.tables.order_checks.CheckedOrders.{Check
 use Rattle.legacy_tables.specs.declared.tables.order_checks.LastPointers.{LastPointers}
 use Rattle.legacy_tables.specs.declared.tables.packed.PackedPart.{PackedPart}
 use Rattle.legacy_tables.specs.Indexes.{FlatIndexes}
-use Rattle.legacy_tables.specs.Packed.{pointer_of}
-use Rattle.legacy_tables.specs.Orders.{takes_last, IsOrder}
-use Rattle.legacy_tables.specs.Runs.{GiveNoZero, runs_list}
+use Rattle.legacy_tables.specs.Packed.{pointer_of, takes_last}
+use Rattle.legacy_tables.specs.Orders.{IsOrder}
+use Rattle.legacy_tables.specs.Runs.{runs_list}
 use Rattle.legacy_tables.specs.AcceptedTables.{flat_lists}
 
 -- packed tables as flat lists
@@ -26,14 +26,6 @@ pub record AreRunsOf (runs : CheckedRuns) (packed : Packed) : Type 0 where
   pub jis0208 : runs.jis0208.runs.now ≡ packed.jis0208.now
   pub jis0212 : runs.jis0212.runs.now ≡ packed.jis0212.now
   pub gb18030 : runs.gb18030.runs.now ≡ packed.gb18030.now
-
--- none of the five gives a pointer the number 0
-pub record AllGiveNoZero (runs : CheckedRuns) : Type 0 where
-  pub big5 : GiveNoZero runs.big5.runs.now
-  pub euc_kr : GiveNoZero runs.euc_kr.runs.now
-  pub jis0208 : GiveNoZero runs.jis0208.runs.now
-  pub jis0212 : GiveNoZero runs.jis0212.runs.now
-  pub gb18030 : GiveNoZero runs.gb18030.runs.now
 
 -- the orders give the pointers that the codecs use in flat indexes
 pub record AnswerPointersOf (orders : CheckedOrders) (flat : FlatIndexes) : Type 0 where

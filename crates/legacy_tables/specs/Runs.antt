@@ -1,6 +1,7 @@
 -- Indexes as runs of pointers, and the scalars that runs give.
-use Rattle.std.specs.Prelude.{◌≢◌, ℕ, ◌+◌, ◌-◌, ◌≤◌, ◌<◌, List, [], ◌∷◌, Option, Some, None, Bool, ◌&&◌}
+use Rattle.std.specs.Prelude.{ℕ, ◌+◌, ◌-◌, ◌≤◌, ◌<◌, List, [], ◌∷◌, Option, Some, None, Bool, ◌&&◌}
 use Rattle.std.specs.Prelude.{nat_le, nat_lt, if◌then◌else◌, length, map, max, slice_index_or}
+use Rattle.std.proofs.Common.{arith}
 use Rattle.std.specs.Option.{option_or, option_map_or}
 use Rattle.std.specs.List.{range_with_len}
 use Rattle.legacy_tables.specs.declared.tables.packed.Run.{Run}
@@ -28,10 +29,6 @@ runs_scalar (run ∷ runs) p = option_or (run_scalar run p) (runs_scalar runs p)
 -- the entry of pointer p in the flat list, with 0 for no scalar
 abbrev pub runs_entry : List Run → ℕ → ℕ
 runs_entry runs p = option_map_or (λ c. c) (runs_scalar runs p) 0
-
--- no pointer is given the number 0
-abbrev pub GiveNoZero : List Run → Type 0
-GiveNoZero runs = (p : ℕ) → runs_scalar runs p ≢ Some 0
 
 -- the pointer after all runs
 abbrev pub runs_end : List Run → ℕ
@@ -81,3 +78,12 @@ pub record IsFirstBehind (runs : List Run) (n p : ℕ) : Type 0 where
   pub within : n ≤ length runs
   pub ended : (k : ℕ) → k < n → run_end (run_at runs k) ≤ p
   pub behind : n < length runs → p < run_end (run_at runs n)
+
+-- pointer p is at or after the ends of the runs before place n, and at or before the starts of the others
+pub record IsBetween (runs : List Run) (n p : ℕ) : Type 0 where
+  pub ended : (k : ℕ) → k < n → k < length runs → run_end (run_at runs k) ≤ p
+  pub ahead : (k : ℕ) → n ≤ k → k < length runs → p ≤ (run_at runs k).pointer
+
+-- pointer 0 is before all runs
+pub between-first : (runs : List Run) → IsBetween runs 0 0
+between-first runs = record { ended = λ k h. absurd (omega arith); ahead = λ k h l. omega arith }

@@ -7,7 +7,7 @@ ghost use Rattle.legacy_tables.specs.Indexes.{idx};
 
 use crate::tables::TableError;
 use crate::tables::checks::is_narrow;
-use crate::tables::lookups::narrow_entry;
+use crate::tables::lookups::scalar_in;
 use std::marker::Model;
 
 /// The scalars of the bytes from 0x80 on, checked (Encoding Standard, "single-byte indexes"). It is
@@ -37,7 +37,7 @@ impl Model for SingleByteTable {
 fn is_allowed(entry: u16) -> bool
     ensures { result ≡ is_byte_entry entry }
 {
-    entry != 0xFFFD && is_narrow(u32::from(entry))
+    entry != 0xFFFD && is_narrow(usize::from(entry))
 }
 
 /// Whether the entry is one of these.
@@ -102,7 +102,8 @@ impl SingleByteTable {
     pub fn scalar(&self, place: usize) -> Option<char>
         ensures { result ≡ idx self.now.entries place }
     {
-        narrow_entry(&self.entries, place)
+        let entries: &[u16] = &self.entries;
+        scalar_in(&entries, place)
     }
 
     /// The place that holds the scalar value, or `None` where none does (Encoding Standard, "index

@@ -30,6 +30,7 @@ pub use ranges::{RangePart, Ranges};
 use std::fmt;
 use std::marker::Model;
 use thiserror::Error;
+use unpacking::{unpack_narrow, unpack_wide};
 pub use walks::Marks;
 
 /// The names of the indexes (Encoding Standard, "Indexes").
@@ -113,7 +114,7 @@ pub enum TableError {
 
 /// Flat indexes, not checked yet. In each of the first six, entry `p` is the scalar value of
 /// pointer `p`, and 0 where the pointer has none; pointers past the end have none either.
-#[derive(Drop)]
+#[derive(Clone, Copy)]
 pub struct Indexes<'a> {
     /// Index Big5, of at most 19782 entries. Pointers 1133, 1135, 1164 and 1166 stay 0: the decoder
     /// gives a letter and a combining mark for each.
@@ -217,7 +218,7 @@ impl<'a> Tables<'a> {
             (λ flat. flat.now ≡ self.now.flat.big5) }
     {
         match &self.kept {
-            KeptTables::Flat(tables) => tables.unpack_big5(room),
+            KeptTables::Flat(tables) => unpack_wide(&tables.big5(), room),
             KeptTables::Packed(tables) => tables.unpack_big5(room),
         }
     }
@@ -230,7 +231,7 @@ impl<'a> Tables<'a> {
             (λ flat. flat.now ≡ index_list self.now.flat name) }
     {
         match &self.kept {
-            KeptTables::Flat(tables) => tables.unpack_narrow(name, room),
+            KeptTables::Flat(tables) => unpack_narrow(&tables.narrow(name), room),
             KeptTables::Packed(tables) => tables.unpack_narrow(name, room),
         }
     }

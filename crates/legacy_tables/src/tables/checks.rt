@@ -1,7 +1,6 @@
 //! The checks of indexes. Each answers the first fault that it finds.
 ghost use Rattle.std.specs.Prelude.{◌≡◌, ℕ, ◌+◌, ◌<◌, length, drop};
 ghost use Rattle.std.specs.Prelude.{MatchResult, Some, None, nat_le, ◌&&◌};
-ghost use Rattle.legacy_tables.specs.declared.tables.IndexName.TheVariants as names;
 ghost use Rattle.legacy_tables.specs.TableChecks.{is_narrow_entry, is_entry, must_be_empty};
 ghost use Rattle.legacy_tables.specs.TableChecks.{entry_fault, index_fault, katakana_fault};
 ghost use Rattle.legacy_tables.specs.TableChecks.{entries_fault, follows_range, range_order_fault};
@@ -9,6 +8,7 @@ ghost use Rattle.legacy_tables.specs.TableChecks.{next_pointer, has_range_scalar
 ghost use Rattle.legacy_tables.specs.TableChecks.{table_fault};
 ghost use Rattle.legacy_tables.specs.Tables.{flat_indexes};
 
+use super::numbers::Numbers;
 use super::private_use::check_rows;
 use super::{IndexName, Indexes, TableError};
 
@@ -16,14 +16,14 @@ use super::{IndexName, Indexes, TableError};
 const LAST_RANGE_POINTER: u16 = 39419;
 
 /// Whether the entry is a scalar of the Basic Multilingual Plane past ASCII.
-pub(crate) fn is_narrow(entry: u32) -> bool
+pub(crate) fn is_narrow(entry: usize) -> bool
     ensures { result ≡ is_narrow_entry entry }
 {
     matches!(entry, 0x80..=0xD7FF | 0xE000..=0xFFFF)
 }
 
 /// Whether the index may hold the entry.
-fn is_allowed(name: IndexName, entry: u32) -> bool
+fn is_allowed(name: IndexName, entry: usize) -> bool
     ensures { result ≡ is_entry name entry }
 {
     match name {
@@ -44,7 +44,7 @@ fn stays_empty(name: IndexName, pointer: usize) -> bool
 }
 
 /// Checks the entry of a pointer.
-fn check_entry(name: IndexName, pointer: usize, entry: u32) -> Result<(), TableError>
+fn check_entry(name: IndexName, pointer: usize, entry: usize) -> Result<(), TableError>
     ensures { MatchResult result
         (λ _. entry_fault name pointer entry ≡ None)
         (λ fault. entry_fault name pointer entry ≡ Some fault) }
@@ -61,39 +61,24 @@ fn check_entry(name: IndexName, pointer: usize, entry: u32) -> Result<(), TableE
     Ok(())
 }
 
-/// Checks the length and the entries of index Big5.
+/// Checks the entries of an index.
 #[tactic(auto, using(crate::proofs::TableLoops::entries_steps))]
-pub(super) fn check_big5(index: &[u32]) -> Result<(), TableError>
-    ensures { let found = index_fault names.Big5 19782 index.now in
+fn check_entries<N: Numbers>(name: IndexName, index: &N) -> Result<(), TableError>
+    ensures { let found = entries_fault name 0 (N.numbers index.now) in
         MatchResult result (λ _. found ≡ None) (λ fault. found ≡ Some fault) }
 {
-    if index.len() > 19782 {
-        return Err(TableError::TooLong(IndexName::Big5));
-    }
-    for (pointer, entry) in index.iter().enumerate() {
-        check_entry(IndexName::Big5, pointer, *entry)?;
-    }
-    Ok(())
-}
-
-/// Checks the entries of any other index.
-#[tactic(auto, using(crate::proofs::TableLoops::entries_steps))]
-fn check_entries(name: IndexName, index: &[u16]) -> Result<(), TableError>
-    ensures { let found = entries_fault name 0 index.now in
-        MatchResult result (λ _. found ≡ None) (λ fault. found ≡ Some fault) }
-{
-    for (pointer, entry) in index.iter().enumerate() {
-        check_entry(name, pointer, u32::from(*entry))?;
+    for pointer in 0..index.count() {
+        check_entry(name, pointer, index.number(pointer))?;
     }
     Ok(())
 }
 
 /// Checks the length and the entries of an index of at most so many.
-pub(super) fn check_index(name: IndexName, limit: usize, index: &[u16]) -> Result<(), TableError>
-    ensures { let found = index_fault name limit index.now in
+fn check_index<N: Numbers>(name: IndexName, limit: usize, index: &N) -> Result<(), TableError>
+    ensures { let found = index_fault name limit (N.numbers index.now) in
         MatchResult result (λ _. found ≡ None) (λ fault. found ≡ Some fault) }
 {
-    if index.len() > limit {
+    if index.count() > limit {
         return Err(TableError::TooLong(name));
     }
     check_entries(name, index)
@@ -107,7 +92,7 @@ pub(super) fn check_katakana(index: &[u16]) -> Result<(), TableError>
     if index.len() != 0 && index.len() != 63 {
         return Err(TableError::KatakanaLength);
     }
-    check_entries(IndexName::Katakana, index)
+    check_entries(IndexName::Katakana, &index)
 }
 
 /// Whether the range may stand behind the one before it, and does not start past the last pointer.
@@ -180,11 +165,11 @@ pub(super) fn check_indexes(indexes: &Indexes<'_>) -> Result<(), TableError>
     ensures { let found = table_fault (flat_indexes indexes.now) in
         MatchResult result (λ _. found ≡ None) (λ fault. found ≡ Some fault) }
 {
-    check_big5(indexes.big5)?;
-    check_index(IndexName::EucKr, 23940, indexes.euc_kr)?;
-    check_index(IndexName::Jis0208, 11280, indexes.jis0208)?;
-    check_index(IndexName::Jis0212, 8836, indexes.jis0212)?;
-    check_index(IndexName::Gb18030, 23940, indexes.gb18030)?;
+    check_index(IndexName::Big5, 19782, &indexes.big5)?;
+    check_index(IndexName::EucKr, 23940, &indexes.euc_kr)?;
+    check_index(IndexName::Jis0208, 11280, &indexes.jis0208)?;
+    check_index(IndexName::Jis0212, 8836, &indexes.jis0212)?;
+    check_index(IndexName::Gb18030, 23940, &indexes.gb18030)?;
     check_katakana(indexes.katakana)?;
     check_range_order(indexes.ranges)?;
     check_range_scalars(indexes.ranges)?;

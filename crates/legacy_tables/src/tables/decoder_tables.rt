@@ -12,15 +12,11 @@ pub trait DecoderTables {
     /// The flat lists that they are seen as.
     ghost indexes: { Self → AcceptedIndexes };
 
-    /// The scalar value of the pointer in the index of the name, or `None` where it has none: where
-    /// the entry is 0, and past the index's end (Encoding Standard, "index code point"). `None` for
-    /// `Ranges`, whose pointers `range` looks up.
+    /// Returns what `Tables::idx` does.
     fn idx(&self, name: IndexName, pointer: usize) -> Option<char>
         ensures { result ≡ idx (index_list (indexes self.now).flat name) pointer };
 
-    /// The scalar value of a pointer of four bytes, or `None` where it has none (Encoding Standard,
-    /// "index gb18030 ranges code point"): 7457 gives U+E7C7, 189000 to 1237575 give U+10000 to
-    /// U+10FFFF, pointers up to 39419 go by the last range that starts at or before them.
+    /// Returns what `Tables::range` does.
     fn range(&self, pointer: usize) -> Option<char>
         ensures { result ≡ range (indexes self.now).flat.ranges pointer };
 

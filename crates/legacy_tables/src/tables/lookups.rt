@@ -1,83 +1,24 @@
 //! Look-ups in checked indexes.
-ghost use Rattle.std.specs.Prelude.{◌≡◌, ℕ, ◌<◌, ◌≤◌, Some, None, IfSome, length};
-ghost use Rattle.std.specs.Prelude.{slice_index, slice_index_or};
-ghost use Rattle.std.specs.Char.{IsScalar};
+ghost use Rattle.std.specs.Prelude.{◌≡◌, ℕ, ◌<◌, ◌≤◌, None, length};
+ghost use Rattle.std.specs.Prelude.{slice_index_or};
 ghost use Rattle.legacy_tables.specs.Unicode.{AreScalars};
-ghost use Rattle.legacy_tables.specs.Indexes.{entry_scalar, idx, last_range_scalar, range};
+ghost use Rattle.legacy_tables.specs.Indexes.{idx, last_range_scalar, range};
 ghost use Rattle.legacy_tables.specs.TableChecks.{range_order_fault, range_value_fault};
-ghost use Rattle.legacy_tables.specs.Runs.{GiveNoZero, runs_list};
 
-use super::runs::Runs;
+use super::numbers::{Numbers, number_at};
 
-/// The scalar of an entry, or `None` where it is 0.
+/// The scalar of a pointer in an index.
 // No test of what the check of the tables has shown: it would be one more branch for each look-up.
 #[inline]
-fn scalar_of(entry: u32) -> Option<char>
-    requires { IsScalar entry }
-    ensures { result ≡ entry_scalar entry }
+pub(crate) fn scalar_in<N: Numbers>(index: &N, pointer: usize) -> Option<char>
+    requires { AreScalars (N.numbers index.now) }
+    ensures { result ≡ idx (N.numbers index.now) pointer }
 {
+    let entry = number_at(index, pointer);
     if entry == 0 {
-        None
-    } else {
-        Some(unsafe { char::from_u32_unchecked(entry) })
+        return None;
     }
-}
-
-/// The scalar of a pointer in an index of wide entries.
-#[inline]
-pub(super) fn wide_entry(index: &[u32], pointer: usize) -> Option<char>
-    requires { AreScalars index.now }
-    ensures { result ≡ idx index.now pointer }
-{
-    if pointer < index.len() {
-        scalar_of(index[pointer])
-    } else {
-        None
-    }
-}
-
-/// The scalar of a pointer in an index of narrow entries.
-#[inline]
-pub(crate) fn narrow_entry(index: &[u16], pointer: usize) -> Option<char>
-    requires { AreScalars index.now }
-    ensures { result ≡ idx index.now pointer }
-{
-    if pointer < index.len() {
-        scalar_of(u32::from(index[pointer]))
-    } else {
-        None
-    }
-}
-
-/// The scalar of a pointer in an index that is kept as runs.
-// A number that runs give is no entry 0, so it is not compared with one.
-#[inline]
-pub(super) fn run_scalar<const POINTERS: usize>(
-    runs: &Runs<'_, POINTERS>,
-    pointer: usize,
-) -> Option<char>
-    requires scalars { AreScalars (runs_list runs.now.runs.now) }
-    requires numbered { GiveNoZero runs.now.runs.now }
-    ensures { result ≡ idx (runs_list runs.now.runs.now) pointer }
-{
-    let scalar = runs.scalar(pointer)?;
-    Some(unsafe { char::from_u32_unchecked(scalar) })
-}
-
-/// The scalar of a pointer in an index of narrow entries that is kept as runs.
-// It is made as a number of 16 bits, as that of a range is.
-#[inline]
-pub(super) fn narrow_run_scalar<const POINTERS: usize>(
-    runs: &Runs<'_, POINTERS>,
-    pointer: usize,
-) -> Option<char>
-    requires scalars { AreScalars (runs_list runs.now.runs.now) }
-    requires numbered { GiveNoZero runs.now.runs.now }
-    requires narrow { (p : ℕ) → slice_index (runs_list runs.now.runs.now) p < 0x1_0000 }
-    ensures { result ≡ idx (runs_list runs.now.runs.now) pointer }
-{
-    let scalar = runs.scalar(pointer)?;
-    Some(unsafe { char::from_u32_unchecked(u32::from(scalar as u16)) })
+    Some(unsafe { char::from_u32_unchecked(entry as u32) })
 }
 
 /// How many of the ranges start at or before a pointer: the ranges rise, so these are the first

@@ -1,9 +1,15 @@
 //! Lists of numbers, whatever holds them.
-ghost use Rattle.std.specs.Prelude.{◌≡◌, ℕ, ◌<◌, List, length, slice_index};
+ghost use Rattle.std.specs.Prelude.{◌≡◌, ◌≢◌, ℕ, ◌+◌, ◌<◌, ◌≤◌, List, true, length, slice_index};
 
 /// A list of numbers, read one at a time.
 pub(super) trait Numbers {
     ghost numbers: { Self → List ℕ };
+
+    /// When a walk that has come to a number has come to a place.
+    ghost is_at: { Self → ℕ → ℕ → Type 0 } = { λ _ _ _. Unit {0} };
+
+    /// A walk begins at place 0.
+    ghost begins: { (s : Self) → is_at s 0 0 };
 
     /// How many there are.
     fn count(&self) -> usize
@@ -13,41 +19,108 @@ pub(super) trait Numbers {
     fn number(&self, at: usize) -> usize
         requires { at < length (numbers self.now) }
         ensures { result ≡ slice_index (numbers self.now) at };
+
+    /// The next numbers in a row, from where a walk has come to: where they start, the first of them,
+    /// how many there are, and the walk's next place. The numbers before them are 0.
+    fn row(&self, place: usize, at: usize) -> (usize, usize, usize, usize)
+        requires within { at < length (numbers self.now) }
+        requires place { is_at self.now place at }
+        ensures from { at ≤ result.0 }
+        ensures gap { (k : ℕ) → at ≤ k → k < result.0 → slice_index (numbers self.now) k ≡ 0 }
+        ensures some { 0 < result.2 }
+        ensures within { result.0 + result.2 ≤ length (numbers self.now) }
+        ensures small { result.1 + result.2 ≤ 0x1_0000_0000 }
+        ensures numbers { (k : ℕ) → k < result.2 →
+            slice_index (numbers self.now) (result.0 + k) ≡ result.1 + k }
+        ensures place { is_at self.now result.3 (result.0 + result.2) };
 }
 
-/// The entries of a flat index of wide entries.
-#[derive(Drop)]
-pub(super) struct Wide<'a> {
-    pub(super) entries: &'a [u32],
+/// A list that is searched by blocks of 32 numbers, which the library compares as vectors.
+pub(super) trait Blocks: Numbers {
+    /// Checks whether a block lacks a number.
+    fn lacks(&self, from: usize, number: usize) -> bool
+        requires { from + 32 ≤ length (Self.numbers self.now) }
+        ensures { result ≡ true → (k : ℕ) → from ≤ k → k < from + 32 →
+            slice_index (Self.numbers self.now) k ≢ number };
 }
 
-impl<'a> Numbers for Wide<'a> {
-    ghost numbers = { λ s. s.entries.now };
+/// A flat index of wide entries.
+impl<'a> Numbers for &'a [u32] {
+    ghost numbers = { λ s. s.now };
+
+    ghost begins = { λ _. tt };
 
     fn count(&self) -> usize {
-        self.entries.len()
+        self.len()
     }
 
     fn number(&self, at: usize) -> usize {
-        self.entries[at] as usize
+        self[at] as usize
+    }
+
+    #[inline(always)]
+    fn row(&self, place: usize, at: usize) -> (usize, usize, usize, usize) {
+        (at, self[at] as usize, 1, place)
     }
 }
 
-/// The entries of a flat index of narrow entries.
-#[derive(Drop)]
-pub(super) struct Narrow<'a> {
-    pub(super) entries: &'a [u16],
+/// Whether none of the 32 entries from a pointer on is the number.
+#[inline(always)]
+fn is_past_wide(index: &[u32], from: usize, number: usize) -> bool
+    requires { from + 32 ≤ length index.now }
+    ensures { result ≡ true → (k : ℕ) → from ≤ k → k < from + 32 →
+        slice_index index.now k ≢ number }
+{
+    if number > 0xFFFF_FFFF {
+        return true;
+    }
+    !index[from..from + 32].contains(&(number as u32))
 }
 
-impl<'a> Numbers for Narrow<'a> {
-    ghost numbers = { λ s. s.entries.now };
+impl<'a> Blocks for &'a [u32] {
+    #[inline(always)]
+    fn lacks(&self, from: usize, number: usize) -> bool {
+        is_past_wide(self, from, number)
+    }
+}
+
+/// A flat index of narrow entries.
+impl<'a> Numbers for &'a [u16] {
+    ghost numbers = { λ s. s.now };
+
+    ghost begins = { λ _. tt };
 
     fn count(&self) -> usize {
-        self.entries.len()
+        self.len()
     }
 
     fn number(&self, at: usize) -> usize {
-        usize::from(self.entries[at])
+        usize::from(self[at])
+    }
+
+    #[inline(always)]
+    fn row(&self, place: usize, at: usize) -> (usize, usize, usize, usize) {
+        (at, usize::from(self[at]), 1, place)
+    }
+}
+
+/// Whether none of the 32 entries from a pointer on is the number.
+#[inline(always)]
+fn is_past_narrow(index: &[u16], from: usize, number: usize) -> bool
+    requires { from + 32 ≤ length index.now }
+    ensures { result ≡ true → (k : ℕ) → from ≤ k → k < from + 32 →
+        slice_index index.now k ≢ number }
+{
+    if number > 0xFFFF {
+        return true;
+    }
+    !index[from..from + 32].contains(&(number as u16))
+}
+
+impl<'a> Blocks for &'a [u16] {
+    #[inline(always)]
+    fn lacks(&self, from: usize, number: usize) -> bool {
+        is_past_narrow(self, from, number)
     }
 }
 

@@ -2,20 +2,19 @@
 ghost use Rattle.std.specs.Prelude.{◌≡◌, ◌≢◌, ℕ, ◌+◌, ◌≤◌, ◌<◌, List, length, slice_index};
 ghost use Rattle.std.specs.Prelude.{MatchResult, Some, None, true, false};
 ghost use Rattle.legacy_tables.specs.declared.tables.packed.PackedPart.{PackedPart};
-ghost use Rattle.legacy_tables.specs.Pointers.{is_big5_pointer, last_pointer};
 ghost use Rattle.legacy_tables.specs.Packed.{is_pointer_in_order, order_fault, is_lacking};
 ghost use Rattle.legacy_tables.specs.Packed.{order_difference, pointers_fault, pointer_of};
-ghost use Rattle.legacy_tables.specs.Packed.{all_orders_fault, may_use};
+ghost use Rattle.legacy_tables.specs.Packed.{all_orders_fault, may_use, takes_last};
 ghost use Rattle.legacy_tables.specs.PackedTables.{AnswerPointersOf, AreLastPointers};
 ghost use Rattle.legacy_tables.specs.Tables.{flat_indexes};
 ghost use Rattle.legacy_tables.specs.PointerSets.{HasOnly};
-ghost use Rattle.legacy_tables.specs.Orders.{IsLookup, IsOrder, RisesBy, order_pointer, takes_last};
+ghost use Rattle.legacy_tables.specs.Orders.{IsLookup, IsOrder, RisesBy, order_pointer};
 
-use super::numbers::{Narrow, Numbers, Wide, number_at};
+use super::numbers::{Blocks, Numbers, number_at};
 use super::order::pointer_in_order;
 use super::packed::{Packed, PackedPart};
 use super::pointer_set::PointerSet;
-use super::pointers::takes_last;
+use super::pointers::{last_from, takes_last};
 use super::{Indexes, TableError};
 
 /// Whether the codec of an order may use the pointer.
@@ -74,35 +73,19 @@ pub(super) struct LastPointers {
     of_5345: Option<usize>,
 }
 
-/// The last pointer from 5024 on that has the entry.
-fn last_entry<N: Numbers>(index: &N, entry: usize) -> Option<usize>
-    requires { entry ≢ 0 }
-    ensures { result ≡ last_pointer is_big5_pointer (N.numbers index.now) entry }
-{
-    let mut behind = index.count();
-    while behind > 5024 {
-        behind -= 1;
-        if index.number(behind) == entry {
-            return Some(behind);
-        }
-    }
-    None
-}
-
 /// The last pointer of a scalar that Big5's encoder may use. The other encoders take no last ones.
-fn last_taken<N: Numbers>(part: PackedPart, index: &N, scalar: usize) -> Option<usize>
-    requires { scalar ≢ 0 }
+fn last_taken<N: Blocks>(part: PackedPart, index: &N, scalar: usize) -> Option<usize>
     ensures { takes_last part scalar ≡ true →
         pointer_of part (N.numbers index.now) scalar ≡ result }
 {
     match part {
-        PackedPart::Big5Order => last_entry(index, scalar),
+        PackedPart::Big5Order => last_from(index, 5024, scalar),
         _ => None,
     }
 }
 
 /// The last pointers of an index.
-fn last_pointers<N: Numbers>(part: PackedPart, index: &N) -> LastPointers
+fn last_pointers<N: Blocks>(part: PackedPart, index: &N) -> LastPointers
     ensures { AreLastPointers part (N.numbers index.now) result }
 {
     LastPointers {
@@ -205,7 +188,7 @@ fn lacks<N: Numbers>(
 }
 
 /// The least pointer whose scalar the order lacks.
-fn first_difference<N: Numbers>(part: PackedPart, index: &N, order: &[u16]) -> Option<usize>
+fn first_difference<N: Blocks>(part: PackedPart, index: &N, order: &[u16]) -> Option<usize>
     requires rises { RisesBy (N.numbers index.now) order.now }
     requires lookup { IsLookup part (N.numbers index.now) order.now
         (order_pointer (N.numbers index.now) order.now) }
@@ -222,7 +205,7 @@ fn first_difference<N: Numbers>(part: PackedPart, index: &N, order: &[u16]) -> O
 }
 
 /// Checks that an order is in order and has all scalars with the pointers that the codec takes.
-fn check_order<N: Numbers>(part: PackedPart, order: &[u16], index: &N) -> Result<(), TableError>
+fn check_order<N: Blocks>(part: PackedPart, order: &[u16], index: &N) -> Result<(), TableError>
     ensures { let found = pointers_fault part (N.numbers index.now) order.now in
         MatchResult result
         (λ _. IsOrder part (N.numbers index.now) order.now × (found ≡ None))
@@ -248,6 +231,7 @@ pub(super) struct CheckedOrders<'a> {
 }
 
 /// The orders of the five codecs, in order and with the pointers that the codecs take.
+#[tactic(auto, using(crate::proofs::TableLoops::fault_steps), unfolding(crate::specs::Packed::all_orders_fault))]
 pub(super) fn all_orders_of<'a>(
     indexes: &Indexes<'_>,
     packed: &Packed<'a>,
@@ -257,23 +241,23 @@ pub(super) fn all_orders_of<'a>(
         (λ o. AnswerPointersOf o (flat_indexes indexes.now) × (found ≡ None))
         (λ fault. found ≡ Some fault) }
 {
-    let wide = Wide {
-        entries: indexes.big5,
-    };
-    check_order(PackedPart::Big5Order, packed.big5_order, &wide)?;
-    let narrow = Narrow {
-        entries: indexes.euc_kr,
-    };
-    check_order(PackedPart::EucKrOrder, packed.euc_kr_order, &narrow)?;
-    let narrow = Narrow {
-        entries: indexes.jis0208,
-    };
-    check_order(PackedPart::ShiftJisOrder, packed.shift_jis_order, &narrow)?;
-    check_order(PackedPart::EucJpOrder, packed.euc_jp_order, &narrow)?;
-    let narrow = Narrow {
-        entries: indexes.gb18030,
-    };
-    check_order(PackedPart::Gb18030Order, packed.gb18030_order, &narrow)?;
+    check_order(PackedPart::Big5Order, packed.big5_order, &indexes.big5)?;
+    check_order(PackedPart::EucKrOrder, packed.euc_kr_order, &indexes.euc_kr)?;
+    check_order(
+        PackedPart::ShiftJisOrder,
+        packed.shift_jis_order,
+        &indexes.jis0208,
+    )?;
+    check_order(
+        PackedPart::EucJpOrder,
+        packed.euc_jp_order,
+        &indexes.jis0208,
+    )?;
+    check_order(
+        PackedPart::Gb18030Order,
+        packed.gb18030_order,
+        &indexes.gb18030,
+    )?;
     Ok(CheckedOrders {
         big5: packed.big5_order,
         euc_kr: packed.euc_kr_order,

@@ -7,7 +7,7 @@ ghost use Rattle.legacy_tables.specs.Packed.{run_difference, runs_fault, all_run
 ghost use Rattle.legacy_tables.specs.PackedTables.{AreRunsOf};
 ghost use Rattle.legacy_tables.specs.Tables.{flat_indexes};
 
-use super::numbers::{Narrow, Numbers, Wide};
+use super::numbers::Numbers;
 use super::packed::{Packed, PackedPart, Run};
 use super::runs::{Runs, first_out_of_order};
 use super::{Indexes, TableError};
@@ -86,7 +86,7 @@ pub(super) struct CheckedRuns<'a> {
 }
 
 /// The runs of the five indexes, in order and giving what the flat indexes do.
-#[tactic(auto, unfolding(crate::specs::Packed::all_runs_fault))]
+#[tactic(auto, using(crate::proofs::TableLoops::fault_steps), unfolding(crate::specs::Packed::all_runs_fault))]
 pub(super) fn all_runs_of<'a>(
     indexes: &Indexes<'_>,
     packed: &Packed<'a>,
@@ -96,26 +96,11 @@ pub(super) fn all_runs_of<'a>(
         (λ r. AreRunsOf r packed.now × (found ≡ None))
         (λ fault. found ≡ Some fault) }
 {
-    let wide = Wide {
-        entries: indexes.big5,
-    };
-    let big5 = runs_of(PackedPart::Big5, packed.big5, &wide)?;
-    let narrow = Narrow {
-        entries: indexes.euc_kr,
-    };
-    let euc_kr = runs_of(PackedPart::EucKr, packed.euc_kr, &narrow)?;
-    let narrow = Narrow {
-        entries: indexes.jis0208,
-    };
-    let jis0208 = runs_of(PackedPart::Jis0208, packed.jis0208, &narrow)?;
-    let narrow = Narrow {
-        entries: indexes.jis0212,
-    };
-    let jis0212 = runs_of(PackedPart::Jis0212, packed.jis0212, &narrow)?;
-    let narrow = Narrow {
-        entries: indexes.gb18030,
-    };
-    let gb18030 = runs_of(PackedPart::Gb18030, packed.gb18030, &narrow)?;
+    let big5 = runs_of(PackedPart::Big5, packed.big5, &indexes.big5)?;
+    let euc_kr = runs_of(PackedPart::EucKr, packed.euc_kr, &indexes.euc_kr)?;
+    let jis0208 = runs_of(PackedPart::Jis0208, packed.jis0208, &indexes.jis0208)?;
+    let jis0212 = runs_of(PackedPart::Jis0212, packed.jis0212, &indexes.jis0212)?;
+    let gb18030 = runs_of(PackedPart::Gb18030, packed.gb18030, &indexes.gb18030)?;
     Ok(CheckedRuns {
         big5,
         euc_kr,

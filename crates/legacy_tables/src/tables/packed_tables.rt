@@ -1,7 +1,7 @@
 //! Tables that are kept as runs and orders.
 ghost use Rattle.std.specs.Prelude.{◌≡◌, MatchResult, Some};
 ghost use Rattle.legacy_tables.specs.TableChecks.{AreAccepted};
-ghost use Rattle.legacy_tables.specs.PackedTables.{lists_of_runs, AllGiveNoZero, AnswerPointersOf};
+ghost use Rattle.legacy_tables.specs.PackedTables.{lists_of_runs, AnswerPointersOf};
 
 use super::checks::check_indexes;
 use super::order::pointer_in_order;
@@ -10,7 +10,7 @@ use super::packed::Packed;
 use super::packed_checks::{CheckedRuns, all_runs_of};
 use super::private_use::row_bytes;
 use super::unpacking::{unpack_narrow, unpack_wide};
-use super::walks::walk_runs;
+use super::walks::walk;
 use super::{
     DecoderTables, EncoderTables, IndexName, Indexes, Marks, PackedPart, Ranges, TableError,
     lookups, pointers,
@@ -28,7 +28,6 @@ pub(super) struct PackedTables<'a> {
     ranges: &'a [(u16, u16)],
     gb18030_pua: &'a [(u16, u8, u8)],
     ghost accepted: { AreAccepted (lists_of_runs runs katakana.now ranges.now gb18030_pua.now) },
-    ghost numbered: { AllGiveNoZero runs },
     ghost ordered: { AnswerPointersOf orders
         (lists_of_runs runs katakana.now ranges.now gb18030_pua.now) },
 }
@@ -53,7 +52,7 @@ impl<'a> PackedTables<'a> {
     ghost use Rattle.std.specs.Prelude.{◌<◌, length, true, MatchOption};
     ghost use Rattle.legacy_tables.specs.Packed.{packed_fault, ArePackedTables};
 
-    /// The tables of packed indexes that give what the flat indexes do, or the first fault.
+    /// Returns what `Tables::packed_of` does.
     pub(super) fn new(
         indexes: &Indexes<'a>,
         packed: &Packed<'a>,
@@ -74,7 +73,7 @@ impl<'a> PackedTables<'a> {
         })
     }
 
-    /// Index Big5 at the start of the room, or `None` exactly where the room is too short.
+    /// Returns what `Tables::unpack_big5` does.
     pub(super) fn unpack_big5<'b>(&self, room: &'b mut [u32]) -> Option<&'b [u32]>
         ensures { MatchOption result (length room.old < length self.now.flat.big5)
             (λ flat. flat.now ≡ self.now.flat.big5) }
@@ -82,8 +81,7 @@ impl<'a> PackedTables<'a> {
         unpack_wide(&self.runs.big5, room)
     }
 
-    /// An index of narrow entries at the start of the room, or `None` exactly where the room is too
-    /// short.
+    /// Returns what `Tables::unpack` does.
     pub(super) fn unpack_narrow<'b>(
         &self,
         name: IndexName,
@@ -109,12 +107,12 @@ impl<'a> DecoderTables for PackedTables<'a> {
     #[inline]
     fn idx(&self, name: IndexName, pointer: usize) -> Option<char> {
         match name {
-            IndexName::Big5 => lookups::run_scalar(&self.runs.big5, pointer),
-            IndexName::EucKr => lookups::narrow_run_scalar(&self.runs.euc_kr, pointer),
-            IndexName::Jis0208 => lookups::narrow_run_scalar(&self.runs.jis0208, pointer),
-            IndexName::Jis0212 => lookups::narrow_run_scalar(&self.runs.jis0212, pointer),
-            IndexName::Gb18030 => lookups::narrow_run_scalar(&self.runs.gb18030, pointer),
-            IndexName::Katakana => lookups::narrow_entry(self.katakana, pointer),
+            IndexName::Big5 => lookups::scalar_in(&self.runs.big5, pointer),
+            IndexName::EucKr => lookups::scalar_in(&self.runs.euc_kr, pointer),
+            IndexName::Jis0208 => lookups::scalar_in(&self.runs.jis0208, pointer),
+            IndexName::Jis0212 => lookups::scalar_in(&self.runs.jis0212, pointer),
+            IndexName::Gb18030 => lookups::scalar_in(&self.runs.gb18030, pointer),
+            IndexName::Katakana => lookups::scalar_in(&self.katakana, pointer),
             IndexName::Ranges => None,
         }
     }
@@ -175,17 +173,17 @@ impl<'a> EncoderTables for PackedTables<'a> {
     fn fill<M: Marks>(&self, part: PackedPart, marks: &M, entries: &mut [u16]) {
         match part {
             PackedPart::Big5 | PackedPart::Big5Order => {
-                walk_runs(part, marks, &self.runs.big5, entries)
+                walk(part, marks, &self.runs.big5, entries)
             }
             PackedPart::EucKr | PackedPart::EucKrOrder => {
-                walk_runs(part, marks, &self.runs.euc_kr, entries)
+                walk(part, marks, &self.runs.euc_kr, entries)
             }
             PackedPart::Jis0208 | PackedPart::ShiftJisOrder | PackedPart::EucJpOrder => {
-                walk_runs(part, marks, &self.runs.jis0208, entries)
+                walk(part, marks, &self.runs.jis0208, entries)
             }
-            PackedPart::Jis0212 => walk_runs(part, marks, &self.runs.jis0212, entries),
+            PackedPart::Jis0212 => walk(part, marks, &self.runs.jis0212, entries),
             PackedPart::Gb18030 | PackedPart::Gb18030Order => {
-                walk_runs(part, marks, &self.runs.gb18030, entries)
+                walk(part, marks, &self.runs.gb18030, entries)
             }
         }
     }

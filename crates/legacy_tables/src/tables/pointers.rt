@@ -8,44 +8,37 @@ ghost use Rattle.legacy_tables.specs.Pointers.{range_pointer_of};
 ghost use Rattle.legacy_tables.specs.TableChecks.{range_order_fault, range_value_fault};
 
 use super::checks::end_of;
-
-// An index is searched by blocks of 64 bytes, whose entries the library compares as vectors; the
-// place in a block is searched only where the entry is in it.
-
-/// Whether none of the 16 entries from a pointer on is the entry.
-#[inline(always)]
-fn is_past_wide(index: &[u32], from: usize, entry: u32) -> bool
-    requires { from + 16 ≤ length index.now }
-    ensures { result ≡ true → (k : ℕ) → from ≤ k → k < from + 16 → slice_index index.now k ≢ entry }
-{
-    !index[from..from + 16].contains(&entry)
-}
+use super::numbers::Blocks;
 
 /// A pointer from `start` on such that none before it, from `start` on, has the entry: that of the
 /// first block that has it, or behind the last whole block before `end`.
-fn first_block_wide(index: &[u32], start: usize, end: usize, entry: u32) -> usize
-    requires { end ≤ length index.now }
+fn first_block<N: Blocks>(index: &N, start: usize, end: usize, entry: usize) -> usize
+    requires { end ≤ length (N.numbers index.now) }
     ensures from { start ≤ result }
-    ensures none { (k : ℕ) → start ≤ k → k < result → slice_index index.now k ≢ entry }
+    ensures none { (k : ℕ) → start ≤ k → k < result → slice_index (N.numbers index.now) k ≢ entry }
 {
     let mut pointer = start;
-    let mut blocks = end.saturating_sub(start) / 16;
-    while blocks > 0 && is_past_wide(index, pointer, entry) {
-        pointer += 16;
+    let mut blocks = end.saturating_sub(start) / 32;
+    while blocks > 0 && index.lacks(pointer, entry) {
+        pointer += 32;
         blocks -= 1;
     }
     pointer
 }
 
-/// The first pointer from `start` on and before `end` that has the entry.
-fn first_wide(index: &[u32], start: usize, end: usize, entry: u32) -> Option<usize>
-    requires within { end ≤ length index.now }
-    requires some { entry ≢ 0 }
-    ensures { result ≡ first_pointer (λ p. nat_le start p && nat_lt p end) index.now entry }
+/// The first pointer from `start` on and before `end` that has the scalar.
+fn first_between<N: Blocks>(index: &N, start: usize, end: usize, scalar: char) -> Option<usize>
+    requires { end ≤ length (N.numbers index.now) }
+    ensures { result
+        ≡ first_pointer (λ p. nat_le start p && nat_lt p end) (N.numbers index.now) scalar }
 {
-    let mut pointer = first_block_wide(index, start, end, entry);
+    let entry = scalar as usize;
+    if entry == 0 {
+        return None;
+    }
+    let mut pointer = first_block(index, start, end, entry);
     while pointer < end {
-        if index[pointer] == entry {
+        if index.number(pointer) == entry {
             return Some(pointer);
         }
         pointer += 1;
@@ -55,28 +48,31 @@ fn first_wide(index: &[u32], start: usize, end: usize, entry: u32) -> Option<usi
 
 /// The pointer behind the last block, counted from the index's end, that has the entry, or behind
 /// less than a block from `start` on: no pointer from there on has it.
-fn last_block_wide(index: &[u32], start: usize, entry: u32) -> usize
-    ensures within { result ≤ length index.now }
-    ensures none { (k : ℕ) → result ≤ k → k < length index.now → slice_index index.now k ≢ entry }
+fn last_block<N: Blocks>(index: &N, start: usize, entry: usize) -> usize
+    ensures within { result ≤ length (N.numbers index.now) }
+    ensures none { (k : ℕ) → result ≤ k → k < length (N.numbers index.now) →
+        slice_index (N.numbers index.now) k ≢ entry }
 {
-    let mut behind = index.len();
-    let mut blocks = index.len().saturating_sub(start) / 16;
-    while blocks > 0 && is_past_wide(index, behind - 16, entry) {
-        behind -= 16;
+    let mut behind = index.count();
+    let mut blocks = behind.saturating_sub(start) / 32;
+    while blocks > 0 && index.lacks(behind - 32, entry) {
+        behind -= 32;
         blocks -= 1;
     }
     behind
 }
 
 /// The last pointer from `start` on that has the entry.
-fn last_wide(index: &[u32], start: usize, entry: u32) -> Option<usize>
-    requires { entry ≢ 0 }
-    ensures { result ≡ last_pointer (nat_le start) index.now entry }
+pub(super) fn last_from<N: Blocks>(index: &N, start: usize, entry: usize) -> Option<usize>
+    ensures { result ≡ last_pointer (nat_le start) (N.numbers index.now) entry }
 {
-    let mut behind = last_block_wide(index, start, entry);
+    if entry == 0 {
+        return None;
+    }
+    let mut behind = last_block(index, start, entry);
     while behind > start {
         behind -= 1;
-        if index[behind] == entry {
+        if index.number(behind) == entry {
             return Some(behind);
         }
     }
@@ -94,87 +90,27 @@ pub(super) fn takes_last(scalar: usize) -> bool
 pub(super) fn big5_pointer(index: &[u32], scalar: char) -> Option<usize>
     ensures { result ≡ big5_pointer_of index.now scalar }
 {
-    let entry = u32::from(scalar);
-    if entry == 0 {
-        return None;
-    }
-    if takes_last(entry as usize) {
-        last_wide(index, 5024, entry)
+    if takes_last(scalar as usize) {
+        last_from(&index, 5024, scalar as usize)
     } else {
-        first_wide(index, 5024, index.len(), entry)
+        first_between(&index, 5024, index.len(), scalar)
     }
-}
-
-/// Whether none of the 32 entries from a pointer on is the entry.
-#[inline(always)]
-fn is_past_narrow(index: &[u16], from: usize, entry: u16) -> bool
-    requires { from + 32 ≤ length index.now }
-    ensures { result ≡ true → (k : ℕ) → from ≤ k → k < from + 32 → slice_index index.now k ≢ entry }
-{
-    !index[from..from + 32].contains(&entry)
-}
-
-/// A pointer from `start` on such that none before it, from `start` on, has the entry: that of the
-/// first block that has it, or behind the last whole block before `end`.
-fn first_block_narrow(index: &[u16], start: usize, end: usize, entry: u16) -> usize
-    requires { end ≤ length index.now }
-    ensures from { start ≤ result }
-    ensures none { (k : ℕ) → start ≤ k → k < result → slice_index index.now k ≢ entry }
-{
-    let mut pointer = start;
-    let mut blocks = end.saturating_sub(start) / 32;
-    while blocks > 0 && is_past_narrow(index, pointer, entry) {
-        pointer += 32;
-        blocks -= 1;
-    }
-    pointer
-}
-
-/// The first pointer from `start` on and before `end` that has the entry.
-fn first_narrow(index: &[u16], start: usize, end: usize, entry: u16) -> Option<usize>
-    requires within { end ≤ length index.now }
-    requires some { entry ≢ 0 }
-    ensures { result ≡ first_pointer (λ p. nat_le start p && nat_lt p end) index.now entry }
-{
-    let mut pointer = first_block_narrow(index, start, end, entry);
-    while pointer < end {
-        if index[pointer] == entry {
-            return Some(pointer);
-        }
-        pointer += 1;
-    }
-    None
-}
-
-/// The first pointer from `start` on and before `end` that has the scalar.
-fn first_between(index: &[u16], start: usize, end: usize, scalar: char) -> Option<usize>
-    requires { end ≤ length index.now }
-    ensures { result ≡ first_pointer (λ p. nat_le start p && nat_lt p end) index.now scalar }
-{
-    let entry = u32::from(scalar);
-    if entry == 0 {
-        return None;
-    }
-    if entry > 0xFFFF {
-        return None;
-    }
-    first_narrow(index, start, end, entry as u16)
 }
 
 /// The first pointer of a scalar.
 pub(super) fn first(index: &[u16], scalar: char) -> Option<usize>
     ensures { result ≡ first_pointer every_pointer index.now scalar }
 {
-    first_between(index, 0, index.len(), scalar)
+    first_between(&index, 0, index.len(), scalar)
 }
 
 /// The pointer of a scalar in Shift_JIS.
 pub(super) fn shift_jis_pointer(jis0208: &[u16], scalar: char) -> Option<usize>
     ensures { result ≡ shift_jis_pointer_of jis0208.now scalar }
 {
-    match first_between(jis0208, 0, jis0208.len().min(8272), scalar) {
+    match first_between(&jis0208, 0, jis0208.len().min(8272), scalar) {
         Some(pointer) => Some(pointer),
-        None => first_between(jis0208, 8836, jis0208.len(), scalar),
+        None => first_between(&jis0208, 8836, jis0208.len(), scalar),
     }
 }
 
@@ -182,7 +118,7 @@ pub(super) fn shift_jis_pointer(jis0208: &[u16], scalar: char) -> Option<usize>
 pub(super) fn euc_jp_pointer(jis0208: &[u16], scalar: char) -> Option<usize>
     ensures { result ≡ euc_jp_pointer_of jis0208.now scalar }
 {
-    first_between(jis0208, 0, jis0208.len().min(8836), scalar)
+    first_between(&jis0208, 0, jis0208.len().min(8836), scalar)
 }
 
 /// How many of the ranges have a first scalar at or before the scalar: the ranges rise, so these

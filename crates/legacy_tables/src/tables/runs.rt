@@ -2,6 +2,7 @@
 ghost use Rattle.std.specs.Prelude.{◌≡◌, ℕ, ◌+◌, ◌<◌, ◌≤◌, None, length};
 ghost use Rattle.legacy_tables.specs.Runs.{runs_scalar, runs_list, run_fault};
 ghost use Rattle.legacy_tables.specs.Runs.{is_run_in_order, AreInOrder, IsFirstBehind, run_at};
+ghost use Rattle.legacy_tables.specs.Runs.{IsBetween, between-first};
 
 use super::numbers::Numbers;
 use super::packed::Run;
@@ -127,6 +128,10 @@ impl<'a, const POINTERS: usize> Runs<'a, POINTERS> {
 impl<'a, const POINTERS: usize> Numbers for Runs<'a, POINTERS> {
     ghost numbers = { λ r. runs_list r.runs.now };
 
+    ghost is_at = { λ r place pointer. IsBetween r.runs.now place pointer };
+
+    ghost begins = { λ r. between-first r.runs.now };
+
     #[inline(always)]
     fn count(&self) -> usize {
         self.end()
@@ -138,5 +143,16 @@ impl<'a, const POINTERS: usize> Numbers for Runs<'a, POINTERS> {
             Some(scalar) => scalar as usize,
             None => 0,
         }
+    }
+
+    #[inline(always)]
+    fn row(&self, place: usize, _at: usize) -> (usize, usize, usize, usize) {
+        let run = &self.runs[place];
+        (
+            usize::from(run.pointer),
+            run.scalar as usize,
+            usize::from(run.length),
+            place + 1,
+        )
     }
 }

@@ -1,123 +1,102 @@
-//! Flat indexes that are written from runs into memory that the user lends.
-ghost use Rattle.std.specs.Prelude.{◌≡◌, ℕ, ◌+◌, ◌<◌, ◌≤◌, List, length, slice_index, MatchOption};
-ghost use Rattle.legacy_tables.specs.Runs.{run_end, runs_list};
-ghost use Rattle.legacy_tables.specs.Unpacking.{IsUnpackedBelow};
-ghost use Rattle.legacy_tables.specs.Walks.{HasRun};
+//! Flat indexes that are written into memory that the user lends.
+ghost use Rattle.std.specs.Prelude.{◌≡◌, ℕ, ◌+◌, ◌<◌, ◌≤◌, length, slice_index, MatchOption};
 
-use super::packed::Run;
-use super::runs::Runs;
+use super::numbers::Numbers;
 
-/// Writes the scalars of a run at its pointers.
+/// Writes numbers in a row.
 #[inline(always)]
-fn write_narrow_run(run: Run, entries: &mut [u16])
-    requires within { run_end run ≤ length entries.old }
-    requires narrow { run.scalar + run.length ≤ 0x1_0000 }
-    ensures { (index : List ℕ) → HasRun index run →
-        IsUnpackedBelow index run.pointer entries.old →
-        IsUnpackedBelow index (run_end run) entries.new }
+fn write_narrow_row(entries: &mut [u16], row: (usize, usize), pointer: usize)
+    requires within { pointer + row.1 ≤ length entries.old }
+    requires narrow { row.0 + row.1 ≤ 0x1_0000 }
+    ensures row { (k : ℕ) → k < row.1 → slice_index entries.new (pointer + k) ≡ row.0 + k }
+    ensures before { (k : ℕ) → k < pointer → slice_index entries.new k ≡ slice_index entries.old k }
+    ensures after { (k : ℕ) → pointer + row.1 ≤ k →
+        slice_index entries.new k ≡ slice_index entries.old k }
 {
-    let pointer = usize::from(run.pointer);
-    for at in 0..usize::from(run.length) {
-        entries[pointer + at] = (run.scalar + at as u32) as u16;
+    for at in 0..row.1 {
+        entries[pointer + at] = row.0 as u16 + at as u16;
     }
 }
 
-/// Writes what runs give each pointer.
-fn write_narrow_runs<const POINTERS: usize>(runs: &Runs<'_, POINTERS>, entries: &mut [u16])
-    requires all { length entries.old ≡ length (runs_list runs.now.runs.now) }
-    requires narrow { (p : ℕ) → slice_index (runs_list runs.now.runs.now) p < 0x1_0000 }
-    ensures { entries.new ≡ runs_list runs.now.runs.now }
+/// Writes the numbers of a list.
+fn write_narrow<N: Numbers>(index: &N, entries: &mut [u16])
+    requires all { length entries.old ≡ length (N.numbers index.now) }
+    requires narrow { (p : ℕ) → slice_index (N.numbers index.now) p < 0x1_0000 }
+    ensures { entries.new ≡ N.numbers index.now }
 {
     entries.fill(0);
-    for run in runs.runs {
-        write_narrow_run(*run, entries);
+    let mut place = 0;
+    let mut pointer = 0;
+    let end = index.count();
+    while pointer < end {
+        let (start, first, count, next) = index.row(place, pointer);
+        write_narrow_row(entries, (first, count), start);
+        pointer = start + count;
+        place = next;
     }
 }
 
-/// The flat index of runs with scalars below U+10000, at the start of the room, or `None` exactly
-/// where the room is too short.
-pub(super) fn unpack_narrow<'b, const POINTERS: usize>(
-    runs: &Runs<'_, POINTERS>,
-    room: &'b mut [u16],
-) -> Option<&'b [u16]>
-    requires { (p : ℕ) → slice_index (runs_list runs.now.runs.now) p < 0x1_0000 }
+/// Writes an index of narrow entries to the start of the room, or returns `None` exactly if the room
+/// is too short.
+pub(super) fn unpack_narrow<'b, N: Numbers>(index: &N, room: &'b mut [u16]) -> Option<&'b [u16]>
+    requires { (p : ℕ) → slice_index (N.numbers index.now) p < 0x1_0000 }
     ensures { MatchOption result
-        (length room.old < length (runs_list runs.now.runs.now))
-        (λ flat. flat.now ≡ runs_list runs.now.runs.now) }
+        (length room.old < length (N.numbers index.now))
+        (λ flat. flat.now ≡ N.numbers index.now) }
 {
-    let end = runs.end();
-    if room.len() < end {
+    let count = index.count();
+    if room.len() < count {
         return None;
     }
-    let entries = &mut room[..end];
-    write_narrow_runs(runs, entries);
+    let entries = &mut room[..count];
+    write_narrow(index, entries);
     Some(entries)
 }
 
-/// Writes the scalars of a run at its pointers.
+/// Writes numbers in a row.
 #[inline(always)]
-fn write_wide_run(run: Run, entries: &mut [u32])
-    requires within { run_end run ≤ length entries.old }
-    requires scalars { run.scalar + run.length ≤ 0x11_0000 }
-    ensures { (index : List ℕ) → HasRun index run →
-        IsUnpackedBelow index run.pointer entries.old →
-        IsUnpackedBelow index (run_end run) entries.new }
+fn write_wide_row(entries: &mut [u32], row: (usize, usize), pointer: usize)
+    requires within { pointer + row.1 ≤ length entries.old }
+    requires wide { row.0 + row.1 ≤ 0x1_0000_0000 }
+    ensures row { (k : ℕ) → k < row.1 → slice_index entries.new (pointer + k) ≡ row.0 + k }
+    ensures before { (k : ℕ) → k < pointer → slice_index entries.new k ≡ slice_index entries.old k }
+    ensures after { (k : ℕ) → pointer + row.1 ≤ k →
+        slice_index entries.new k ≡ slice_index entries.old k }
 {
-    let pointer = usize::from(run.pointer);
-    for at in 0..usize::from(run.length) {
-        entries[pointer + at] = run.scalar + at as u32;
+    for at in 0..row.1 {
+        entries[pointer + at] = row.0 as u32 + at as u32;
     }
 }
 
-/// Writes what runs give each pointer.
-fn write_wide_runs<const POINTERS: usize>(runs: &Runs<'_, POINTERS>, entries: &mut [u32])
-    requires { length entries.old ≡ length (runs_list runs.now.runs.now) }
-    ensures { entries.new ≡ runs_list runs.now.runs.now }
+/// Writes the numbers of a list.
+fn write_wide<N: Numbers>(index: &N, entries: &mut [u32])
+    requires { length entries.old ≡ length (N.numbers index.now) }
+    ensures { entries.new ≡ N.numbers index.now }
 {
     entries.fill(0);
-    for run in runs.runs {
-        write_wide_run(*run, entries);
+    let mut place = 0;
+    let mut pointer = 0;
+    let end = index.count();
+    while pointer < end {
+        let (start, first, count, next) = index.row(place, pointer);
+        write_wide_row(entries, (first, count), start);
+        pointer = start + count;
+        place = next;
     }
 }
 
-/// The flat index of runs, at the start of the room, or `None` exactly where the room is too short.
-pub(super) fn unpack_wide<'b, const POINTERS: usize>(
-    runs: &Runs<'_, POINTERS>,
-    room: &'b mut [u32],
-) -> Option<&'b [u32]>
+/// Writes an index of wide entries to the start of the room, or returns `None` exactly if the room is
+/// too short.
+pub(super) fn unpack_wide<'b, N: Numbers>(index: &N, room: &'b mut [u32]) -> Option<&'b [u32]>
     ensures { MatchOption result
-        (length room.old < length (runs_list runs.now.runs.now))
-        (λ flat. flat.now ≡ runs_list runs.now.runs.now) }
+        (length room.old < length (N.numbers index.now))
+        (λ flat. flat.now ≡ N.numbers index.now) }
 {
-    let end = runs.end();
-    if room.len() < end {
+    let count = index.count();
+    if room.len() < count {
         return None;
     }
-    let entries = &mut room[..end];
-    write_wide_runs(runs, entries);
-    Some(entries)
-}
-
-/// The same index at the start of the room, or `None` exactly where the room is too short.
-pub(super) fn copy_narrow<'b>(index: &[u16], room: &'b mut [u16]) -> Option<&'b [u16]>
-    ensures { MatchOption result (length room.old < length index.now) (λ flat. flat.now ≡ index.now) }
-{
-    if room.len() < index.len() {
-        return None;
-    }
-    let entries = &mut room[..index.len()];
-    entries.copy_from_slice(index);
-    Some(entries)
-}
-
-/// The same index at the start of the room, or `None` exactly where the room is too short.
-pub(super) fn copy_wide<'b>(index: &[u32], room: &'b mut [u32]) -> Option<&'b [u32]>
-    ensures { MatchOption result (length room.old < length index.now) (λ flat. flat.now ≡ index.now) }
-{
-    if room.len() < index.len() {
-        return None;
-    }
-    let entries = &mut room[..index.len()];
-    entries.copy_from_slice(index);
+    let entries = &mut room[..count];
+    write_wide(index, entries);
     Some(entries)
 }

@@ -1,16 +1,13 @@
 //! Walks over the pointers of an index, which fill a list of entries by scalars: what each scalar's
 //! pointer is then takes one pass over the index, and no search.
-ghost use Rattle.std.specs.Prelude.{◌≡◌, ◌≢◌, ℕ, ◌==◌, ◌<◌, ◌≤◌, List, length, slice_index};
-ghost use Rattle.legacy_tables.specs.Orders.{takes_last};
-ghost use Rattle.legacy_tables.specs.Packed.{may_use};
-ghost use Rattle.legacy_tables.specs.Runs.{run_end, runs_list};
+ghost use Rattle.std.specs.Prelude.{◌≡◌, ◌≢◌, ℕ, ◌==◌, ◌+◌, ◌<◌, ◌≤◌, List, length, slice_index};
+ghost use Rattle.legacy_tables.specs.Packed.{may_use, takes_last};
 ghost use Rattle.legacy_tables.specs.Walks.{is_preferred, marked_then};
-ghost use Rattle.legacy_tables.specs.Walks.{IsFilledBelow, IsFilled, HasRun};
+ghost use Rattle.legacy_tables.specs.Walks.{IsFilledBelow, IsFilled};
 
 use super::numbers::Numbers;
 use super::order_checks::{is_usable, takes_last_of};
-use super::packed::{PackedPart, Run};
-use super::runs::Runs;
+use super::packed::PackedPart;
 
 /// What stands in a list for a pointer: a number that is not 0.
 pub trait Marks {
@@ -51,6 +48,27 @@ fn take_pointer<M: Marks>(
     }
 }
 
+/// Takes pointers in a row whose scalars are in a row too.
+#[inline(always)]
+fn take_row<M: Marks>(
+    part: PackedPart,
+    marks: &M,
+    entries: &mut [u16],
+    row: (usize, usize),
+    pointer: usize,
+)
+    requires within { pointer + row.1 ≤ 23940 }
+    requires small { row.0 + row.1 ≤ 0x1_0000_0000 }
+    ensures { (index : List ℕ) →
+        ((k : ℕ) → k < row.1 → slice_index index (pointer + k) ≡ row.0 + k) →
+        IsFilledBelow part M.mark index pointer entries.old →
+        IsFilledBelow part M.mark index (pointer + row.1) entries.new }
+{
+    for at in 0..row.1 {
+        take_pointer(part, marks, entries, row.0 + at, pointer + at);
+    }
+}
+
 /// Fills a list by the pointers of an index.
 #[inline(always)]
 pub(super) fn walk<N: Numbers, M: Marks>(
@@ -63,39 +81,13 @@ pub(super) fn walk<N: Numbers, M: Marks>(
     ensures { IsFilled part M.mark (N.numbers index.now) entries.new }
 {
     entries.fill(0);
-    for pointer in 0..index.count() {
-        take_pointer(part, marks, entries, index.number(pointer), pointer);
-    }
-}
-
-/// Goes on by the pointers of a run.
-#[inline(always)]
-fn walk_run<M: Marks>(part: PackedPart, marks: &M, run: Run, entries: &mut [u16])
-    requires reach { run_end run ≤ 23940 }
-    ensures { (index : List ℕ) → HasRun index run →
-        IsFilledBelow part M.mark index run.pointer entries.old →
-        IsFilledBelow part M.mark index (run_end run) entries.new }
-{
-    let scalar = run.scalar as usize;
-    let pointer = usize::from(run.pointer);
-    for at in 0..usize::from(run.length) {
-        take_pointer(part, marks, entries, scalar + at, pointer + at);
-    }
-}
-
-/// Fills a list by the pointers of runs.
-#[inline(always)]
-pub(super) fn walk_runs<M: Marks, const POINTERS: usize>(
-    part: PackedPart,
-    marks: &M,
-    runs: &Runs<'_, POINTERS>,
-    entries: &mut [u16],
-)
-    requires { POINTERS ≤ 23940 }
-    ensures { IsFilled part M.mark (runs_list runs.now.runs.now) entries.new }
-{
-    entries.fill(0);
-    for run in runs.runs {
-        walk_run(part, marks, *run, entries);
+    let mut place = 0;
+    let mut pointer = 0;
+    let end = index.count();
+    while pointer < end {
+        let (start, first, count, next) = index.row(place, pointer);
+        take_row(part, marks, entries, (first, count), start);
+        pointer = start + count;
+        place = next;
     }
 }

@@ -1,5 +1,4 @@
-use Rattle.std.proofs.Common.{◌≡◌, ◌+◌, ◌<◌, ◌≤◌, drop, length, arith}
-use Rattle.legacy_tables.specs.TableChecks.{next_pointer}
+use Rattle.std.proofs.Common.{◌<◌, length, arith}
 use Rattle.legacy_tables.proofs.RangePointers.{no-part, whole-range, starts-before}
 use Rattle.legacy_tables.proofs.tables.ranges.Ranges.part_at.Goals as goal
 

@@ -1,4 +1,4 @@
-use Rattle.std.proofs.Common.{◌≡◌, ◌≢◌, ◌+◌, ◌-◌, ◌<◌, ◌≤◌, arith}
+use Rattle.std.proofs.Common.{◌≡◌, ◌≢◌, ◌+◌, ◌-◌, arith}
 use Rattle.legacy_tables.proofs.tables.ranges.Ranges.pointer_in.Goals as goal
 
 pub returns : goal.returns

@@ -1,4 +1,4 @@
-use Rattle.std.proofs.Common.{◌≡◌, ◌+◌, ◌-◌, ◌<◌, ◌≤◌, arith}
+use Rattle.std.proofs.Common.{◌≡◌, ◌-◌, arith}
 use Rattle.legacy_tables.proofs.tables.ranges.Ranges.scalar_in.Goals as goal
 
 pub overflow_cast-unit : goal.overflow_cast-unit

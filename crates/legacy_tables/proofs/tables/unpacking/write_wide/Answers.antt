@@ -1,0 +1,39 @@
+use Rattle.std.proofs.Common.{◌≡◌, ◌∙◌, ◌+◌, ◌-◌, length, arith, rules, inl, inr, sym}
+use Rattle.std.proofs.lemmas.Bool.{cases_lt}
+use Rattle.std.proofs.lemmas.List.{ext_get_or}
+use Rattle.legacy_tables.proofs.tables.unpacking.write_wide.Goals as goal
+
+pub loop-pointer-init : goal.loop-pointer-init
+loop-pointer-init g c = record { within = omega arith; written = λ k h. absurd (omega arith); none = λ k l h. search rules; at = g.N.Numbers.begins c.args.index.now }
+
+pub write_wide_row-requires-clause-within : goal.write_wide_row-requires-clause-within
+write_wide_row-requires-clause-within g c =
+    let all : length c.loop-pointer.entries ≡ length (g.N.Numbers.numbers c.args.index.now) = c.loop-pointer.auto.entries ∙ c.fill.ensures.len ∙ c.requires in
+    rw all c.row-start.ensures.within
+
+pub loop-pointer-preserved : goal.loop-pointer-preserved
+loop-pointer-preserved g c =
+    let row = c.row-start.ensures in
+    let from = row.from in
+    let done = c.write_wide_row.ensures in
+    record {
+      within = row.within;
+      written = λ k h. elim (cases_lt k c.row-start.result.0) [
+        | inl l ↦ done.before k l ∙ elim (cases_lt k c.loop-pointer.pointer) [
+          | inl m ↦ c.loop-pointer.invariant.written k m
+          | inr m ↦ c.loop-pointer.invariant.none k m (search (rules, arith)) ∙ sym (row.gap k m l)
+        ]
+        | inr l ↦
+            let same : c.row-start.result.0 + (k - c.row-start.result.0) ≡ k = omega arith in
+            let at = done.row (k - c.row-start.result.0) (omega arith) ∙ sym (row.numbers (k - c.row-start.result.0) (omega arith)) in
+            rw same at at
+      ];
+      none = λ k l h. done.after k l ∙ c.loop-pointer.invariant.none k (omega arith) (search (rules, arith));
+      at = row.place;
+    }
+
+pub returns : goal.returns
+returns g c =
+    let within = c.loop-pointer.invariant.within in
+    let all : length c.loop-pointer.entries ≡ length (g.N.Numbers.numbers c.args.index.now) = c.loop-pointer.auto.entries ∙ c.fill.ensures.len ∙ c.requires in
+    ext_get_or 0 c.loop-pointer.entries (g.N.Numbers.numbers c.args.index.now) all (λ i h. c.loop-pointer.invariant.written i (omega (arith, all)))
