@@ -1,6 +1,6 @@
 //! Single calls over more than 2^32 code units, and queries at the greatest lengths: both have to go on as at small ones.
 //!
-//! A source is a block again and again, by mappings of the same memory, and then something malformed or unmappable. So is
+//! Words are names of codecs, for these alone. A source is a block again and again, by mappings of the same memory, and then something malformed or unmappable. So is
 //! an output. The indexes have one scalar at all pointers.
 
 use legacy_codecs::*;
@@ -73,10 +73,31 @@ fn check<T: PartialEq + Debug>(name: &str, came: T, wanted: T) {
     println!("| {name} | {came:?} |");
 }
 
+/// Whether the codec is one of the words, or there is no word.
+fn is_wanted(name: &str) -> bool {
+    let mut words = std::env::args().skip(1).peekable();
+    words.peek().is_none() || words.any(|word| word == name)
+}
+
+/// What is tried of the codecs.
+#[derive(Clone, Copy, PartialEq)]
+enum Part {
+    Queries,
+    Calls,
+}
+
 /// A decoder's block, what it gives of it in UTF-8 and in UTF-16, and a malformed sequence.
 struct Bytes(&'static [u8], [usize; 2], &'static [u8]);
 
-fn decode<D: RawDecoder>(name: &str, make: impl Fn() -> D, Bytes(block, units, end): Bytes) {
+fn decode<D: RawDecoder>(part: Part, name: &str, make: impl Fn() -> D, Bytes(block, units, end): Bytes) {
+    if !is_wanted(name) {
+        return;
+    }
+    if part == Part::Queries {
+        limits(&format!("{name}, UTF-16"), |length| make().max_utf16_buffer_length(length));
+        limits(&format!("{name}, bare UTF-8"), |length| make().max_utf8_buffer_length_without_replacement(length));
+        return limits(&format!("{name}, UTF-8"), |length| make().max_utf8_buffer_length(length));
+    }
     let (source, count) = Mapped::source(block, end);
     let room = |units: usize| count * units / SEGMENT + 2;
     let malformed = |written| match end {
@@ -87,15 +108,19 @@ fn decode<D: RawDecoder>(name: &str, make: impl Fn() -> D, Bytes(block, units, e
     check(&format!("{name} to UTF-8"), make().decode_to_utf8_raw(source.units, output.units, true), malformed(count * units[0]));
     let output = Mapped::<u16>::new(room(units[1] * 2));
     check(&format!("{name} to UTF-16"), make().decode_to_utf16_raw(source.units, output.units, true), malformed(count * units[1]));
-    for (form, query) in [D::max_utf16_buffer_length, D::max_utf8_buffer_length_without_replacement, D::max_utf8_buffer_length].iter().enumerate() {
-        limits(&format!("{name}, query {form}"), |length| query(&make(), length));
-    }
 }
 
 /// An encoder's block, the number of bytes that it gives, and what is unmappable.
 struct Text(&'static str, usize, &'static str);
 
-fn encode<E: RawEncoder>(name: &str, make: impl Fn() -> E, Text(block, bytes, end): Text) {
+fn encode<E: RawEncoder>(part: Part, name: &str, make: impl Fn() -> E, Text(block, bytes, end): Text) {
+    if !is_wanted(name) {
+        return;
+    }
+    if part == Part::Queries {
+        limits(&format!("{name}, from UTF-16"), |length| make().max_buffer_length_from_utf16_without_replacement(length));
+        return limits(&format!("{name}, from UTF-8"), |length| make().max_buffer_length_from_utf8_without_replacement(length));
+    }
     let answer = |read, written| (end.chars().next().map_or(EncoderResult::InputEmpty, EncoderResult::Unmappable), read, written);
     let (source, count) = Mapped::source(block.as_bytes(), end.as_bytes());
     let output = Mapped::<u8>::new(count * bytes / SEGMENT + 2);
@@ -104,56 +129,61 @@ fn encode<E: RawEncoder>(name: &str, make: impl Fn() -> E, Text(block, bytes, en
     let units = |text: &str| text.encode_utf16().collect::<Vec<u16>>();
     let (source, count) = Mapped::source(&units(block), &units(end));
     check(&format!("{name} from UTF-16"), make().encode_from_utf16_raw(source.units, output.units, true), answer(source.units.len(), count * bytes));
-    for (form, query) in [E::max_buffer_length_from_utf16_without_replacement, E::max_buffer_length_from_utf8_without_replacement].iter().enumerate() {
-        limits(&format!("{name}, query {form}"), |length| query(&make(), length));
-    }
 }
 
-/// Checks that a query goes on to the greatest lengths as it does to 2520, and is `None` exactly past `usize::MAX`.
+/// The greatest length that meets the test, which holds up to some length.
+fn greatest(meets: impl Fn(usize) -> bool) -> usize {
+    (0..64).rev().fold(0, |so_far, bit| if meets(so_far | 1 << bit) { so_far | 1 << bit } else { so_far })
+}
+
+/// Checks that a query goes on to the greatest lengths as it does to 2520.
+///
+/// It prints the greatest length with an answer, and the greatest for which the number would be below 2^64. The first may
+/// be less, since a query is `None` if a step of its formula exceeds `usize::MAX`.
 fn limits(name: &str, query: impl Fn(usize) -> Option<usize>) {
     const PERIOD: usize = 2520;
     let small = |length: usize| query(length).expect("a small length has an answer") as u128;
     let step = small(2 * PERIOD) - small(PERIOD);
-    // The first period may begin otherwise.
     let wanted = |length: usize| {
         let (periods, rest) = (length / PERIOD, length % PERIOD);
         let bound = if periods == 0 { small(length) } else { small(PERIOD + rest) + step * (periods as u128 - 1) };
         usize::try_from(bound).ok()
     };
-    let greatest = (0..64).rev().fold(0usize, |so_far, bit| if wanted(so_far | 1 << bit).is_some() { so_far | 1 << bit } else { so_far });
+    let (last, bound) = (greatest(|length| query(length).is_some()), greatest(|length| wanted(length).is_some()));
     let near = |place: usize| (0..2 * PERIOD).flat_map(move |by| [place.saturating_sub(by), place.saturating_add(by)]);
-    for length in [PERIOD, 1 << 32, usize::MAX / 2, usize::MAX / 3, greatest, usize::MAX].into_iter().flat_map(near) {
-        assert!(query(length) == wanted(length), "{name}: {length}: {:?}, not {:?}", query(length), wanted(length));
+    for length in [PERIOD, 1 << 32, usize::MAX / 2, usize::MAX / 3, last, bound, usize::MAX].into_iter().flat_map(near) {
+        let wanted = wanted(length).filter(|_| length <= last);
+        assert!(query(length) == wanted, "{name}: {length}: {:?}, not {wanted:?}", query(length));
     }
-    println!("| {name} | {:?} of {greatest} |", query(greatest));
+    println!("| {name} | {:?} for {last}, of {bound} |", query(last));
 }
 
 const EVEN: &[u8] = b"ab\xb0\xa1\xb0\xa1\xb0\xa1\xb0\xa1\xb0\xa1\xb0\xa1\xb0\xa1";
 
-fn decoders(tables: &Tables, table: &SingleByteTable) {
+fn decoders(part: Part, tables: &Tables, table: &SingleByteTable) {
     let pairs = || Bytes(EVEN, [23, 9], b"\xff");
-    decode("EUC-KR", || EucKrDecoder::new(tables), pairs());
-    decode("EUC-JP", || EucJpDecoder::new(tables), pairs());
-    decode("Big5", || Big5Decoder::new(tables), pairs());
-    decode("gb18030", || Gb18030Decoder::new(tables), pairs());
-    decode("Shift_JIS", || ShiftJisDecoder::new(tables), Bytes(EVEN, [44, 16], b"\xff"));
-    decode("ISO-2022-JP", || Iso2022JpDecoder::new(tables), Bytes(b"abababababababab", [16, 16], b"\xff"));
-    decode("single-byte", || SingleByteDecoder::new(table), Bytes(EVEN, [30, 16], b"\xff"));
-    decode("x-user-defined", UserDefinedDecoder::new, Bytes(EVEN, [44, 16], b""));
-    decode("UTF-16LE", || Utf16Decoder::new(false), Bytes(EVEN, [24, 8], b"\x00\xdc"));
-    decode("UTF-16BE", || Utf16Decoder::new(true), Bytes(EVEN, [24, 8], b"\xdc\x00"));
+    decode(part, "EUC-KR", || EucKrDecoder::new(tables), pairs());
+    decode(part, "EUC-JP", || EucJpDecoder::new(tables), pairs());
+    decode(part, "Big5", || Big5Decoder::new(tables), pairs());
+    decode(part, "gb18030", || Gb18030Decoder::new(tables), pairs());
+    decode(part, "Shift_JIS", || ShiftJisDecoder::new(tables), Bytes(EVEN, [44, 16], b"\xff"));
+    decode(part, "ISO-2022-JP", || Iso2022JpDecoder::new(tables), Bytes(b"abababababababab", [16, 16], b"\xff"));
+    decode(part, "single-byte", || SingleByteDecoder::new(table), Bytes(EVEN, [30, 16], b"\xff"));
+    decode(part, "x-user-defined", UserDefinedDecoder::new, Bytes(EVEN, [44, 16], b""));
+    decode(part, "UTF-16LE", || Utf16Decoder::new(false), Bytes(EVEN, [24, 8], b"\x00\xdc"));
+    decode(part, "UTF-16BE", || Utf16Decoder::new(true), Bytes(EVEN, [24, 8], b"\xdc\x00"));
 }
 
-fn encoders(tables: &Tables, table: &SingleByteTable) {
+fn encoders(part: Part, tables: &Tables, table: &SingleByteTable) {
     let text = || Text("ab\u{3042}\u{3042}\u{3042}\u{3042}\u{3042}\u{3042}\u{3042}\u{3042}\u{3042}\u{3042}", 22, "\u{1F4A9}");
-    encode("EUC-KR", || EucKrEncoder::new(tables), text());
-    encode("EUC-JP", || EucJpEncoder::new(tables), text());
-    encode("Big5", || Big5Encoder::new(tables), text());
-    encode("GBK", || Gb18030Encoder::new(tables, false), text());
-    encode("Shift_JIS", || ShiftJisEncoder::new(tables), text());
-    encode("ISO-2022-JP", || Iso2022JpEncoder::new(tables), Text("abababababababab", 16, "\u{1F4A9}"));
-    encode("single-byte", || SingleByteEncoder::with_longest_run(table), Text("ab\u{e9}", 3, "\u{1F4A9}"));
-    encode("x-user-defined", UserDefinedEncoder::new, Text("abababababababab", 16, "\u{1F4A9}"));
+    encode(part, "EUC-KR", || EucKrEncoder::new(tables), text());
+    encode(part, "EUC-JP", || EucJpEncoder::new(tables), text());
+    encode(part, "Big5", || Big5Encoder::new(tables), text());
+    encode(part, "GBK", || Gb18030Encoder::new(tables, false), text());
+    encode(part, "Shift_JIS", || ShiftJisEncoder::new(tables), text());
+    encode(part, "ISO-2022-JP", || Iso2022JpEncoder::new(tables), Text("abababababababab", 16, "\u{1F4A9}"));
+    encode(part, "single-byte", || SingleByteEncoder::with_longest_run(table), Text("ab\u{e9}", 3, "\u{1F4A9}"));
+    encode(part, "x-user-defined", UserDefinedEncoder::new, Text("abababababababab", 16, "\u{1F4A9}"));
 }
 
 fn main() {
@@ -177,6 +207,8 @@ fn main() {
     (entries[0xB0 - 0x80], entries[0xA1 - 0x80]) = (0xE9, 0xE8);
     let table = SingleByteTable::new(&entries).expect("the table is accepted");
     println!("| what | came |\n|---|---|");
-    decoders(&tables, &table);
-    encoders(&tables, &table);
+    for part in [Part::Queries, Part::Calls] {
+        decoders(part, &tables, &table);
+        encoders(part, &tables, &table);
+    }
 }

@@ -1,15 +1,23 @@
 -- The entry of index Big5 at the sum of a lead's place and a trail's place.
-use Rattle.std.proofs.Common.{◌≡◌, ◌∙◌, ℕ, ◌+◌, ◌-◌, ◌*◌, ◌≤◌, List, [], ◌∷◌, length, cond, refl, sym, ap, arith, Bool, true, false, ◌||◌, ◌==◌, Option, Some, None, IfSome}
+use Rattle.std.proofs.Common.{◌≡◌, ◌≢◌, ◌∙◌, ℕ, ◌+◌, ◌-◌, ◌*◌, ◌≤◌, List, [], ◌∷◌, length, cond, refl, sym, ap, arith, Bool, true, false, ◌||◌, ◌==◌, Some, None}
 use Rattle.std.specs.Int.{is_in_range}
 use Rattle.std.specs.Prelude.{option_to_list}
 use Rattle.std.specs.Option.{option_map_or}
 use Rattle.std.proofs.lemmas.Bool.{ne_eqb}
 use Rattle.legacy_tables.specs.declared.tables.IndexName.TheVariants as names
-use Rattle.legacy_tables.specs.Indexes.{FlatIndexes, idx}
-use Rattle.legacy_tables.specs.TableChecks.{AreAccepted, must_be_empty}
+use Rattle.legacy_tables.specs.Indexes.{entry_scalar, idx}
+use Rattle.legacy_tables.specs.TableChecks.{must_be_empty}
+use Rattle.legacy_tables.specs.AcceptedTables.{AcceptedIndexes}
+use Rattle.legacy_tables.specs.Unicode.{IsByte}
 use Rattle.legacy_tables.proofs.Accepted.{length-big5, big5-used}
 use Rattle.legacy_base.specs.Big5.{big5_scalars}
 use Rattle.legacy_base.specs.States.{is_lead}
+use Rattle.legacy_base.specs.Grammar.{big5}
+use Rattle.legacy_decoder_engine.specs.Ahead.{Runs}
+use Rattle.legacy_decoder_engine.specs.LeadMachines.{lead_first}
+use Rattle.legacy_decoder_engine.proofs.LeadHeld.{pair}
+use Rattle.legacy_chinese.specs.Big5Shown.{big5_codec}
+use Rattle.legacy_chinese.proofs.EntryScalars.{scalar_at}
 use Rattle.legacy_chinese.specs.Big5Machine.{big5_pair_scalars}
 use Rattle.legacy_chinese.specs.Big5Places.{big5_lead_place, big5_trail_place}
 use Rattle.legacy_chinese.specs.declared.big5.places.TheConstants.{ROWS_OF_157, TRAILS}
@@ -55,12 +63,18 @@ big5_at index short lead trail =
     ∙ ap (λ l. cond (is_lead lead) l [])
     (by_range (big5_scalars index) (is_in_range 0x40 0x7E trail) (is_in_range 0xA1 0xFE trail) ((lead - 0x81) * 157 + (trail - 0x40)) ((lead - 0x81) * 157 + (trail - 0x62)))
 
+-- an entry that is not 0 is a scalar
+pub some_entry : (e : ℕ) → e ≢ 0 → Some e ≡ entry_scalar e
+some_entry e some = rw (ne_eqb e 0 some) refl
+
 -- an entry at the sum of the places is the scalar of the lead and the trail
-pub big5_found : (flat : FlatIndexes) → AreAccepted flat → (lead trail : ℕ) (o : Option ℕ) → o ≡ idx flat.big5 (big5_lead_place lead + big5_trail_place trail) →
-    IfSome o (λ c. (is_lead lead ≡ true) × (big5_pair_scalars flat.big5 lead trail ≡ c ∷ []))
-big5_found flat accepted lead trail None e = tt
-big5_found flat accepted lead trail (Some c) e =
+pub big5_runs : (tables : AcceptedIndexes) (lead trail c : ℕ) → IsByte lead → IsByte trail → Some c ≡ idx tables.flat.big5 (big5_lead_place lead + big5_trail_place trail) →
+    Runs (big5 tables.flat.big5) (lead ∷ trail ∷ []) (c ∷ [])
+big5_runs tables lead trail c byte byte' e =
+    let index = tables.flat.big5 in
     let p = big5_lead_place lead + big5_trail_place trail in
-    let short : length flat.big5 ≤ 65535 = let most = length-big5 flat accepted in omega arith in
-    let used = big5-used flat accepted p c e in
-    found (is_lead lead) (big5_pair_scalars flat.big5 lead trail) c (ap option_to_list e ∙ sym (entry_is flat.big5 p used) ∙ big5_at flat.big5 short lead trail)
+    let short : length index ≤ 65535 = let most = length-big5 tables.flat tables.accepted in omega arith in
+    let used = big5-used tables.flat tables.accepted p c e in
+    let both = found (is_lead lead) (big5_pair_scalars index lead trail) c (ap option_to_list e ∙ sym (entry_is index p used) ∙ big5_at index short lead trail) in
+    let scalar = scalar_at tables names.Big5 p c (ap option_to_list (sym e)) in
+    pair (λ flat. big5 flat.big5) is_lead (lead_first is_lead) (λ flat. big5_pair_scalars flat.big5) big5_codec tables lead trail c byte byte' scalar both.0 both.1

@@ -1,5 +1,5 @@
 -- The gb18030 decoder holds back only what its machine may hold back, and its moves are the machine's.
-use Rattle.std.proofs.Common.{◌≡◌, ◌≢◌, ◌∙◌, ℕ, ◌+◌, ◌-◌, ◌*◌, ◌^◌, ◌<◌, ◌≤◌, List, [], ◌∷◌, length, Bool, true, false, refl, sym, ap, arith, Option, Some, None, cond, ◌==◌}
+use Rattle.std.proofs.Common.{◌≡◌, ◌≢◌, ◌∙◌, ℕ, ◌+◌, ◌/◌, ◌%◌, ◌^◌, ◌<◌, ◌≤◌, List, [], ◌∷◌, length, get_or, Bool, true, false, refl, sym, ap, arith, Option, Some, None, ◌==◌}
 use Rattle.std.proofs.lemmas.Bool.Decides.{nat_tests}
 use Rattle.std.proofs.lemmas.List.Elements.{All-nil, All-cons}
 use Rattle.std.specs.Prelude.{option_to_list, IfSome}
@@ -7,13 +7,14 @@ use Rattle.std.specs.Int.{is_in_range}
 use Rattle.std.specs.Char.{IsScalar, is_ascii, is_ascii_digit}
 use Rattle.legacy_tables.specs.Unicode.{IsByte, AreBytes}
 use Rattle.legacy_base.specs.Calls.{IsLoneFault}
+use Rattle.legacy_tables.specs.declared.tables.IndexName.TheVariants as names
 use Rattle.legacy_tables.specs.Indexes.{idx, range}
 use Rattle.legacy_tables.specs.AcceptedTables.{AcceptedIndexes}
 use Rattle.legacy_base.specs.Gb18030.{gb18030_scalars, gb18030_range_pointer}
 use Rattle.legacy_base.specs.States.{is_lead}
 use Rattle.legacy_base.specs.Grammar.{Grammar, gb18030, events_of}
 use Rattle.legacy_base.specs.States.{gb18030_may_hold, is_neutral, rests}
-use Rattle.legacy_tables.proofs.Accepted.{gb18030-below, range-scalar}
+use Rattle.legacy_tables.proofs.Accepted.{gb18030-below, gb18030-scalars, length-gb18030, range-scalar}
 use Rattle.legacy_chinese.specs.declared.gb18030.decoder.Gb18030Decoder.{Gb18030Decoder}
 use Rattle.legacy_chinese.specs.declared.gb18030.decoder.Held.{Held}
 use Rattle.legacy_chinese.specs.declared.gb18030.decoder.Held.TheVariants.{Nothing, First, Second, Third, Digit, DigitLead}
@@ -21,9 +22,8 @@ use Rattle.legacy_decoder_engine.specs.declared.held.Lead.{Lead}
 use Rattle.legacy_chinese.specs.declared.gb18030.digit.Digit.{Digit as HeldDigit}
 use Rattle.legacy_decoder_engine.specs.declared.moves.Fed.{Fed}
 use Rattle.legacy_decoder_engine.specs.Moves.{IsCovered, Feeds, Releases, Reports}
-use Rattle.legacy_decoder_engine.specs.Costs.{IsNarrowIndex}
 use Rattle.legacy_base.specs.States.{state_of}
-use Rattle.legacy_decoder_engine.specs.Ahead.{Runs, HasAscii, IsIdle}
+use Rattle.legacy_decoder_engine.specs.Ahead.{Runs, HasAscii, IsIdle, IsPair}
 use Rattle.legacy_decoder_engine.specs.Feeding.{Took}
 use Rattle.legacy_chinese.specs.Gb18030Decoder.{gb18030_state}
 use Rattle.legacy_chinese.specs.Gb18030Machine.{gb18030_step, gb18030_machine}
@@ -32,6 +32,12 @@ use Rattle.legacy_decoder_engine.proofs.Feeding as moves
 use Rattle.legacy_decoder_engine.proofs.LeadHeld.{neutral_empty}
 use Rattle.legacy_decoder_engine.proofs.RunForms.{pair_runs, four_runs, has_ascii, ascii_is}
 use Rattle.legacy_decoder_engine.proofs.Widths.{idx_below}
+use Rattle.legacy_decoder_engine.proofs.LanePlaces.{entry_is}
+use Rattle.legacy_decoder_engine.proofs.PairPlaces.{found}
+use Rattle.legacy_decoder_engine.specs.Places.{lead_place}
+use Rattle.legacy_chinese.specs.Gb18030Places.{gb18030_place, gb18030_trail_place}
+use Rattle.legacy_chinese.proofs.Gb18030Places.{gb18030_entry}
+use Rattle.legacy_chinese.proofs.EntryScalars.{scalar_at}
 use Rattle.legacy_decoder_engine.specs.Shown.{IsShown}
 use Rattle.legacy_chinese.proofs.Gb18030Shown.{gb18030_shown}
 
@@ -86,18 +92,12 @@ trail_not_digit index lead trail c e = go (is_ascii_digit trail) refl
         let nothing : gb18030_scalars index lead trail ≡ [] = rw (none.0, none.1) refl in
         cc
 
-pair_below : (index : List ℕ) (lead trail c : ℕ) → IsNarrowIndex index → gb18030_scalars index lead trail ≡ c ∷ [] → c < 0x1_0000
-pair_below index lead trail c narrow e = go (is_in_range 0x40 0x7E trail) (is_in_range 0x80 0xFE trail) e
-  where
-    go : (low high : Bool) →
-        cond low (option_to_list (idx index ((lead - 0x81) * 190 + (trail - 0x40)))) (cond high (option_to_list (idx index ((lead - 0x81) * 190 + (trail - 0x41)))) []) ≡ c ∷ [] → c < 0x1_0000
-    go true high e = idx_below index _ c narrow e
-    go false true e = idx_below index _ c narrow e
-    go false false e = cc
-
 bytes-some : (held : Held) → (held ≡ Nothing → ⊥) → held_bytes held ≢ []
 bytes-some Nothing n = absurd (n refl)
 bytes-some _ n = λ e. cc
+
+short : (tables : AcceptedIndexes) → length tables.flat.gb18030 ≤ 65535
+short tables = let most = length-gb18030 tables.flat tables.accepted in omega arith
 
 module _ (tables : AcceptedIndexes) where
   abbrev g : Grammar
@@ -151,16 +151,27 @@ module _ (tables : AcceptedIndexes) where
   pub ascii : HasAscii g
   ascii = has_ascii shown (λ b. refl) (λ b h. let a = ascii_is b h in rw a refl)
 
-  -- a pair that gives one scalar
-  pub pair : (lead trail c : ℕ) → IsByte lead → IsByte trail → IsScalar c → is_lead lead ≡ true → gb18030_scalars tables.flat.gb18030 lead trail ≡ c ∷ [] →
-      (c < 0x1_0000) × Runs g (lead ∷ trail ∷ []) (c ∷ [])
-  pair lead trail c byte byte' scalar is e =
-      let other = lead_other lead is in
-      let trail_other = trail_not_digit tables.flat.gb18030 lead trail c e in (
-        pair_below tables.flat.gb18030 lead trail c (gb18030-below tables.flat tables.accepted) e,
-        pair_runs shown lead trail c byte byte' scalar (rw is refl) (rw other.2 refl) refl refl
-            (rw (other.0, other.1, is) refl) (rw (trail_other, e) refl),
+  -- a pair whose entry at the sum of the places is a scalar
+  pub pair_at : (lead trail c : ℕ) → IsByte lead → IsByte trail → option_to_list (idx tables.flat.gb18030 (lead_place lead + gb18030_trail_place trail)) ≡ c ∷ [] → IsPair g lead trail c
+  pair_at lead trail c byte byte' e =
+      let index = tables.flat.gb18030 in
+      let place = lead_place lead + gb18030_trail_place trail in
+      let both = found (is_lead lead) (gb18030_scalars index lead trail) c (sym e ∙ gb18030_entry index (short tables) lead trail) in
+      let other = lead_other lead both.0 in
+      let trail_other = trail_not_digit index lead trail c both.1 in (
+        idx_below index place c (gb18030-below tables.flat tables.accepted) e,
+        pair_runs shown lead trail c byte byte' (scalar_at tables names.Gb18030 place c e) (rw both.0 refl) (rw other.2 refl) refl refl
+            (rw (other.0, other.1, both.0) refl) (rw (trail_other, both.1) refl),
       )
+
+  -- the same of a code of two bytes
+  pub lane_pair : (code : ℕ) → code < 0x1_0000 → gb18030_place code < length tables.flat.gb18030 → get_or tables.flat.gb18030 (gb18030_place code) 0 ≢ 0 →
+      IsScalar (get_or tables.flat.gb18030 (gb18030_place code) 0) × IsPair g (code % 0x100) (code / 0x100) (get_or tables.flat.gb18030 (gb18030_place code) 0)
+  lane_pair code small within some =
+      let index = tables.flat.gb18030 in
+      let at : gb18030_place code ≡ lead_place (code % 256) + gb18030_trail_place (code / 256) = omega (arith, within, short tables) in
+      let scalar : IsScalar (get_or index (gb18030_place code) 0) = gb18030-scalars tables.flat tables.accepted (gb18030_place code) 0 within in
+      (scalar, pair_at (code % 256) (code / 256) (get_or index (gb18030_place code) 0) (omega arith) (omega arith) (ap (λ p. option_to_list (idx index p)) (sym at) ∙ entry_is (get_or index (gb18030_place code) 0) some))
 
   -- four bytes that give a scalar
   pub four : (a b c d x : ℕ) → 0x81 ≤ a → a ≤ 0xFE → 0x30 ≤ b → b ≤ 0x39 → 0x81 ≤ c → c ≤ 0xFE → 0x30 ≤ d → d ≤ 0x39 → Some x ≡ range tables.flat.ranges (gb18030_range_pointer a b c d) →

@@ -5,6 +5,7 @@ pub mod Gb18030Settles
 pub mod Gb18030Shown
 pub mod Gb18030Held
 pub mod FourPlaces
+pub mod EntryScalars
 pub mod Big5Places
 pub mod Gb18030Places
 pub mod Gb18030Pairs

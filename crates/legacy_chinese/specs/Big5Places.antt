@@ -1,6 +1,6 @@
 -- The places of the leads and trails of Big5 in its index, whose rows have 157 entries. The pointer of a pair is their
 -- sum.
-use Rattle.std.specs.Prelude.{ℕ, ◌-◌, ◌*◌, if◌then◌else◌}
+use Rattle.std.specs.Prelude.{ℕ, ◌+◌, ◌-◌, ◌*◌, ◌/◌, ◌%◌, min, if◌then◌else◌}
 use Rattle.std.specs.Int.{is_in_range}
 use Rattle.legacy_base.specs.States.{is_lead}
 
@@ -14,3 +14,7 @@ big5_trail_place trail =
     if is_in_range 0x40 0x7E trail then trail - 0x40
     else if is_in_range 0xA1 0xFE trail then trail - 0x62
     else 65535
+
+-- the pointer of a code, the lead low; a number past the end of the index if it is no lead and trail
+abbrev pub big5_place : ℕ → ℕ
+big5_place code = min (big5_lead_place (code % 0x100) + big5_trail_place (code / 0x100)) 65535

@@ -1,4 +1,4 @@
--- What the command line means, and what the program does with it.
+-- The meaning of the command line, and the work of the programs.
 pub mod Words
 pub mod IndexTexts
 pub mod Program

@@ -1,4 +1,4 @@
--- What the programs do.
+-- The work of the programs.
 use Rattle.std.specs.Prelude.{◌≡◌, ℕ, List, [], drop, Bool, Option, Some, None}
 use Rattle.legacy_base.specs.States.{DecoderState}
 use Rattle.legacy_base.specs.Encoders.{EncoderState}

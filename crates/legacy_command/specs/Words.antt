@@ -17,7 +17,7 @@ abbrev pub wants_text : List (List ℕ) → Bool
 wants_text [] = false
 wants_text (word ∷ words) = bytes_eq word (codes "--text")
 
--- what the program is to write
+-- the kind of output
 abbrev pub output_kind : List (List ℕ) → OutputKind
 output_kind words = if wants_text words then Text else Lines
 

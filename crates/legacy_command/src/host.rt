@@ -1,4 +1,5 @@
-//! The programs on a host: their words as texts, the contents of the files that these name, and the streams.
+//! The programs on a host: their words as texts, the contents of the files that these name, and the
+//! streams.
 use crate::arguments::{ArgumentsError, arguments, status_of};
 use crate::encoding::{encoder_in, run_encode};
 use crate::program::run;
@@ -71,8 +72,9 @@ fn slices_of<'a, A: Allocator>(
     Ok(slices)
 }
 
-/// Returns the contents of each FILE among the words, in their order. Reads no file if the words are not of the program's
-/// form. An error is that memory was refused.
+/// Returns the contents of each FILE among the words, in order, or an error if allocation fails.
+///
+/// Reads no file if the words do not have the program's form.
 fn files_named<R: Files + Alloc>(
     rt: &R,
     alloc: Global,
@@ -89,7 +91,7 @@ fn files_named<R: Files + Alloc>(
     Ok(Vec::new(alloc))
 }
 
-/// Runs the program if its words can be had. All that can fail before it runs is then memory.
+/// Runs the program, if its words are available and allocation succeeds.
 fn status<R: Env + Files + Alloc>(
     rt: &R,
     alloc: Global,

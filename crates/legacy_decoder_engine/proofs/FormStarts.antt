@@ -1,4 +1,4 @@
--- Where forms start, and that the forms that are picked there are the front of the block.
+-- The forms that are picked at their starts are the front of the block.
 use Rattle.std.proofs.Common.{◌≡◌, ◌∙◌, ℕ, zero, suc, ◌+◌, ◌-◌, ◌/◌, ◌%◌, ◌^◌, ◌<◌, ◌≤◌, ◌==◌, min, List, [], ◌∷◌, ◌++◌, Bool, true, false, cond, ltb, leb, length, map, take, get_or, replicate, w8, bit_and, bit_or, bit_xor, refl, sym, ap, subst, arith, append_assoc, append-nil}
 use Rattle.std.proofs.lemmas.List.{take_more, length-take-le, get_or-map, length-map}
 use Rattle.std.proofs.lemmas.Nat.Bits.{bit_at_lowest, bit_at-suc, bit_at-lt, bit_at_and, bit_at_xor, bit_at_or, bit_at_ones}
@@ -9,7 +9,7 @@ use lib.Lanes.{mask_l, zip2, top, chunk}
 use Rattle.legacy_decoder_engine.specs.PickedForms.{places, code_at, forms_of, ArePast, AreStarts, IsFront}
 use Rattle.legacy_decoder_engine.proofs.WrittenRuns.{take_two}
 
--- bits that were asked are where forms start
+-- bits that pass the check are the starts of forms
 pub asked : (past starts : ℕ) → bit_at starts 0 ≡ 1 → bit_and (bit_xor (starts / 2) (bit_and starts past)) (2 ^ 63 - 1) ≡ 2 ^ 63 - 1 → AreStarts past starts
 asked past starts first all = record {
   first = first;
@@ -41,7 +41,7 @@ past_mask block long =
     ap (λ ms. mask_l ms % 2 ^ 64) (tops_compared w8 leb (replicate 64 128) block ∙ all_compared leb 128 64 block long)
     ∙ mask_l-mod (map (λ b. leb 128 b) block) 64 (omega (arith, length-map block (λ b. leb 128 b), long))
 
--- one of them
+-- the bit of one byte
 pub past_bits : (block : List ℕ) (i : ℕ) → i < length block → ◌≡◌ {A = ℕ} (bit_at (mask_l (map (λ b. leb 128 b) block)) i) (cond (ltb (get_or block i 0) 128) 0 1)
 past_bits block i h =
     bit_mask_l (map (λ b. leb 128 b) block) i
@@ -66,7 +66,7 @@ module _ (block : List ℕ) (past starts : ℕ) (long : 72 ≤ length block) (sm
   shifted : (i y : ℕ) → ((k : ℕ) → bit_at y k ≡ bit_at starts (i + k)) → (k : ℕ) → bit_at (y / 2) k ≡ bit_at starts (i + 1 + k)
   shifted i y bits k = let e : i + suc k ≡ i + 1 + k = omega arith in sym (bit_at-suc y k) ∙ bits (suc k) ∙ ap (bit_at starts) e
 
-  -- behind a byte that starts no form, or is ASCII, one starts
+  -- a form starts after a byte that starts no form or is ASCII
   starts_next : (i : ℕ) → i < 63 → min (bit_at starts i) (bit_at past i) ≡ 0 → bit_at starts (i + 1) ≡ 1
   starts_next i below none =
       let e : suc i ≡ i + 1 = omega arith in
@@ -75,7 +75,7 @@ module _ (block : List ℕ) (past starts : ℕ) (long : 72 ≤ length block) (sm
       let is : bit_at starts (suc i) ≡ 1 = omega (arith, n, none, low) in
       sym (ap (bit_at starts) e) ∙ is
 
-  -- and behind the first of two none
+  -- no form starts after the first byte of two
   ends_next : (i : ℕ) → i < 63 → bit_at starts i ≡ 1 → bit_at past i ≡ 1 → bit_at starts (i + 1) ≡ 0
   ends_next i below a b =
       let e : suc i ≡ i + 1 = omega arith in
@@ -84,7 +84,7 @@ module _ (block : List ℕ) (past starts : ℕ) (long : 72 ≤ length block) (sm
       let is : bit_at starts (suc i) ≡ 0 = omega (arith, n, a, b, low) in
       sym (ap (bit_at starts) e) ∙ is
 
-  -- a form that starts at byte i, and those behind it
+  -- a form that starts at byte i, and those after it
   first_of : (m i y : ℕ) → i + suc m ≡ 64 → ((k : ℕ) → bit_at y k ≡ bit_at starts (i + k)) → bit_at starts i ≡ 1 → (t : Bool) → ltb (get_or block i 0) 128 ≡ t
       → ((c : Bool) → (0 < m → bit_at starts (i + 1) ≡ cond c 0 1) → IsFront (take (i + 1 + cond c 1 0) block ++ forms_of (map (code_at block) (places (i + 1) m (y / 2)))) block)
       → IsFront (take (i + 0) block ++ forms_of (map (code_at block) (places i (suc m) y))) block
@@ -117,7 +117,7 @@ module _ (block : List ℕ) (past starts : ℕ) (long : 72 ≤ length block) (sm
           subst (λ l. IsFront l block) (sym (two_bytes block rest i (omega arith) ∙ ap (λ k. take k block ++ rest) k))
           (more true (λ h. ends_next i (omega arith) is p))
 
-  -- of the forms from byte i on, where c tells whether that byte belongs to the form before
+  -- the forms from byte i on; c is true if that byte belongs to the form before it
   fronts : (n i y : ℕ) (c : Bool) → i + n ≡ 64 → ((k : ℕ) → bit_at y k ≡ bit_at starts (i + k)) → (0 < n → bit_at starts i ≡ cond c 0 1)
       → IsFront (take (i + cond c 1 0) block ++ forms_of (map (code_at block) (places i n y))) block
   unfolding places

@@ -1,5 +1,5 @@
 -- Runs that are read one after another.
-use Rattle.std.proofs.Common.{◌≡◌, ◌∙◌, ℕ, ◌+◌, ◌-◌, ◌≤◌, List, ◌++◌, length, take, drop, refl, sym, ap, subst, arith, inl, inr}
+use Rattle.std.proofs.Common.{◌≡◌, ◌∙◌, ℕ, ◌+◌, ◌-◌, ◌<◌, ◌≤◌, List, ◌++◌, length, take, drop, refl, sym, ap, subst, arith, inl, inr}
 use Rattle.std.proofs.lemmas.Bool.{cases_lt}
 use Rattle.std.proofs.lemmas.List.{take-take, length-take, length-drop}
 use Rattle.std.proofs.Math.Seq.{take-add}
@@ -59,16 +59,22 @@ pub reads_idle : {D : Type 0} {T : Ghosts D} {state : DecoderState} {source : Li
     → ReadsAhead T state source r old new
 reads_idle {D} {T} {state} {source} {old} {new} {r} idle reads = subst (λ s. ReadsAhead T s source r old new) (sym (with_empty state idle.empty)) reads
 
--- the bytes read and the scalars written, with the room left
-pub reads_written : {D : Type 0} {T : Ghosts D} {g : Grammar} {source : List ℕ} {old new : D} {r : ℕ} → r ≤ length source → Writes T g (take r source) old new → 3 ≤ T.room new → 4 ≤ T.room old
+-- the bytes read and the scalars written, with the room left if there are any
+pub reads_front : {D : Type 0} {T : Ghosts D} {g : Grammar} {source : List ℕ} {old new : D} {r : ℕ} → r ≤ length source → Writes T g (take r source) old new → (0 < r → 3 ≤ T.room new)
+    → (0 < r → 4 ≤ T.room old)
     → ReadsAhead T (new_state g) source r old new
-reads_written {D} {T} {g} within writes slack had = record {
+reads_front {D} {T} {g} within writes slack had = record {
   within = within;
   idle = λ h. refl;
   empties = λ h. refl;
   stays = λ e. refl;
   rooms = same_rooms g;
   writes = writes;
-  slack = λ h. slack;
-  had = λ h. had;
+  slack = slack;
+  had = had;
 }
+
+-- the same with the room left
+pub reads_written : {D : Type 0} {T : Ghosts D} {g : Grammar} {source : List ℕ} {old new : D} {r : ℕ} → r ≤ length source → Writes T g (take r source) old new → 3 ≤ T.room new → 4 ≤ T.room old
+    → ReadsAhead T (new_state g) source r old new
+reads_written within writes slack had = reads_front within writes (λ h. slack) (λ h. had)

@@ -1,4 +1,4 @@
--- The places of eight codes lane by lane, and what stands there.
+-- The places of eight codes lane by lane, and the entries at them.
 use Rattle.std.proofs.Common.{◌≡◌, ◌≢◌, ◌∙◌, ℕ, ◌+◌, ◌-◌, ◌*◌, ◌/◌, ◌%◌, ◌^◌, ◌<◌, ◌≤◌, ◌&&◌, ◌==◌, Bool, true, false, cond, leb, List, [], ◌∷◌, length, get_or, map, replicate, bit_and, refl, sym, ap, ap₂, arith, w16, Fits, Option, Some, None, option_to_list}
 use Rattle.std.proofs.Math.Nat.{mul-le-mul_right}
 use Rattle.std.proofs.lemmas.Bool.{leb-true, leb-false, eqb-true}
@@ -23,16 +23,16 @@ use Rattle.legacy_decoder_engine.proofs.LeadHeld.{pair}
 use Rattle.legacy_decoder_engine.proofs.PairPlaces.{found}
 use Rattle.legacy_decoder_engine.proofs.PlainShown.{found_at, scalars_below}
 
-abbrev mask_if : Bool → ℕ
+abbrev pub mask_if : Bool → ℕ
 mask_if t = cond t (2 ^ 16 - 1) 0
 
-abbrev less : ℕ → ℕ → ℕ
+abbrev pub less : ℕ → ℕ → ℕ
 less a b = (a + (2 ^ 16 - b)) % 2 ^ 16
 
 -- ---- one lane
 
--- one comparison tells whether a byte is in a range
-in_range : (first most x : ℕ) → x < 256 → first + most < 256 → leb (less x first) most ≡ is_in_range first (first + most) x
+-- one comparison tests whether a byte is in a range
+pub in_range : (first most x : ℕ) → x < 256 → first + most < 256 → leb (less x first) most ≡ is_in_range first (first + most) x
 in_range first most x small room = go (leb (less x first) most) (leb first x) (leb x (first + most)) refl refl refl
   where
     go : (s t u : Bool) → leb (less x first) most ≡ s → leb first x ≡ t → leb x (first + most) ≡ u → s ≡ (t && u)
@@ -43,8 +43,8 @@ in_range first most x small room = go (leb (less x first) most) (leb first x) (l
     go false true false e f g = refl
     go false false u e f g = refl
 
--- and if it is, how far from the first one
-offset : (first most x : ℕ) → x < 256 → first + most < 256 → is_in_range first (first + most) x ≡ true → (less x first ≡ x - first) × (x - first ≤ most)
+-- the distance of such a byte from the first one
+pub offset : (first most x : ℕ) → x < 256 → first + most < 256 → is_in_range first (first + most) x ≡ true → (less x first ≡ x - first) × (x - first ≤ most)
 offset first most x small room e =
     let n = leb-true _ _ (in_range first most x small room ∙ e) in
     (omega (arith, n), omega (arith, n))
@@ -89,7 +89,7 @@ module _ (lead leads trail trails width : ℕ) (lead_room : lead + leads < 256) 
       (λ a b c d e f g h sa sb sc sd se sf sg sh t.
       lane_is a sa t ∷ lane_is b sb t ∷ lane_is c sc t ∷ lane_is d sd t ∷ lane_is e se t ∷ lane_is f sf t ∷ lane_is g sg t ∷ lane_is h sh t ∷ [])
 
--- ---- what stands at a place
+-- ---- the entry at a place
 
 -- the place of a lead and a trail is their pointer
 pub place_is : (l t : Bool) (p : ℕ) → IsPointer (cond l (cond t (Some p) None) None) (cond (l && t) p 65535)

@@ -1,8 +1,8 @@
--- Eight codes to units, lane by lane, and that the units are those of their forms.
-use Rattle.std.proofs.Common.{◌≡◌, ◌≢◌, ◌∙◌, ℕ, zero, suc, ◌+◌, ◌-◌, ◌*◌, ◌/◌, ◌%◌, ◌^◌, ◌<◌, ◌≤◌, ◌||◌, min, Bool, true, false, cond, ltb, leb, List, [], ◌∷◌, ◌++◌, length, get_or, map, take, drop, replicate, bit_and, bit_or, refl, sym, ap, ap₂, subst, arith, w16, Fits, length-append, ◌⊎◌, inl, inr}
+-- The units of eight codes, lane by lane, are the scalars of their forms.
+use Rattle.std.proofs.Common.{◌≡◌, ◌≢◌, ◌∙◌, ℕ, suc, ◌+◌, ◌-◌, ◌*◌, ◌/◌, ◌%◌, ◌^◌, ◌<◌, ◌≤◌, ◌||◌, min, Bool, true, false, cond, ltb, leb, List, [], ◌∷◌, ◌++◌, length, get_or, map, take, drop, replicate, bit_and, bit_or, refl, sym, ap, subst, arith, w16, Fits, length-append, ◌⊎◌, inl, inr}
 use Rattle.std.proofs.lemmas.Bool.{ltb-true, ltb-false, leb-true, cases_lt}
 use Rattle.std.proofs.lemmas.Nat.{and_mask}
-use Rattle.std.proofs.lemmas.List.{take-take, take-append-drop, length-take-le, length-drop, length-map, get_or-take, get_or-drop, get_or-map}
+use Rattle.std.proofs.lemmas.List.{flat_map_more, take_more, take-take, take-append-drop, length-take-le, length-drop, length-map, get_or-take, get_or-drop, get_or-map}
 use Rattle.std.proofs.lemmas.List.Sums.{sum_by-cons}
 use Rattle.std.proofs.lemmas.Grind.{flat_map-append}
 use Rattle.std.proofs.Math.Seq.{take-append_seam, take-add}
@@ -13,8 +13,8 @@ use Rattle.std.specs.Int.RustNames.{count_ones}
 use lib.Lanes.{Each1, zip2, sel_l, top, mask_l, chunk, put_chunk}
 use Rattle.legacy_text.proofs.UnitLanes.{of_eight}
 use Rattle.legacy_base.specs.Grammar.{Grammar}
-use Rattle.legacy_decoder_engine.specs.Ahead.{HasAscii, IsPair, Runs}
-use Rattle.legacy_decoder_engine.specs.LaneCodes.{kept_of, place_of, unit_at}
+use Rattle.legacy_decoder_engine.specs.Ahead.{HasAscii, Runs}
+use Rattle.legacy_decoder_engine.specs.LaneCodes.{kept_of, place_of, unit_at, ArePairs, IsLane, IsForm}
 use Rattle.legacy_decoder_engine.specs.PickedForms.{form_of, forms_of, IsFront}
 use Rattle.legacy_decoder_engine.proofs.WrittenRuns.{runs_none, runs_more}
 
@@ -68,121 +68,90 @@ chosen_at ks es m n k h =
     ∙ get_or-sel_l (zip2 ltb ks (replicate 8 128)) ks es k 0 (omega (arith, long)) (omega (arith, m)) (omega (arith, n))
     ∙ ap (λ t. cond t (get_or ks k 0) (get_or es k 0)) (get_or-zip2 ltb ks (replicate 8 128) k 0 0 false (omega (arith, m)) h ∙ ap (ltb (get_or ks k 0)) (get_or-replicate 8 k 128 0 h))
 
+-- a unit has at most 16 bits if both values that it is chosen from have
+pub unit_small : (kept entry : ℕ) → kept < 65536 → entry < 65536 → unit_at kept entry < 65536
+unit_small kept entry low low' = go (ltb kept 128)
+  where
+    go : (t : Bool) → cond t kept entry < 65536
+    go true = low
+    go false = low'
+
+-- an entry of the first n entries from a place on
+pub get_from : (at n : ℕ) (xs : List ℕ) (k : ℕ) → k < n → get_or (take n (drop at xs)) k 0 ≡ get_or xs (at + k) 0
+get_from at n xs k h = get_or-take n (drop at xs) k 0 h ∙ get_or-drop at xs k 0
+
+-- what is kept of a code, and the place of its entry
+pub lane_is : (pointer : ℕ → ℕ) (last code : ℕ) → IsLane pointer code (kept_of pointer last code) (place_of pointer last code)
+lane_is pointer last code = go (ltb (code % 256) 128) (leb (pointer code) last) refl refl
+  where
+    go : (s t : Bool) → ltb (code % 256) 128 ≡ s → leb (pointer code) last ≡ t → IsLane pointer code (cond (s || t) (code % 256) 0) (min (pointer code) last)
+    go true true e f = record { first = λ some. refl; place_is = λ h. absurd (omega (arith, h, ltb-true _ _ e)) }
+    go true false e f = record { first = λ some. refl; place_is = λ h. absurd (omega (arith, h, ltb-true _ _ e)) }
+    go false true e f = record { first = λ some. refl; place_is = λ h. omega (arith, leb-true _ _ f) }
+    go false false e f = record { first = λ some. absurd (some refl); place_is = λ h. absurd (omega (arith, h)) }
+
 -- ---- the units of forms
 
-module _ (g : Grammar) (ascii : HasAscii g) (index : List ℕ) (pointer : ℕ → ℕ) (last : ℕ)
-    (pairs : (code : ℕ) → code < 65536 → 128 ≤ code % 256 → pointer code < length index → get_or index (pointer code) 0 ≢ 0
-    → IsScalar (get_or index (pointer code) 0) × IsPair g (code % 256) (code / 256) (get_or index (pointer code) 0))
-    (within : last < length index) where
-  -- what a lane that is not 0 says of its code
-  pub record IsGood (code unit : ℕ) : Type 0 where
-    pub small : code < 65536
-    pub is : unit ≡ unit_at (kept_of pointer last code) (get_or index (place_of pointer last code) 0)
-    pub some : unit ≢ 0
-
-  pub record IsForm (code unit : ℕ) : Type 0 where
-    pub scalar : IsScalar unit
-    pub narrow : unit < 65536
-    pub runs : Runs g (form_of code) (unit ∷ [])
-    pub counted : length (form_of code) + cond (ltb (kept_of pointer last code) 128) 1 0 ≡ 2
-
-  is_form : (code unit : ℕ) → IsGood code unit → IsForm code unit
-  is_form code unit good = go (ltb (code % 256) 128) (leb (pointer code) last) refl refl good.is
+module _ (g : Grammar) (ascii : HasAscii g) (entries : List ℕ) (pointer : ℕ → ℕ) (pairs : ArePairs g entries pointer) where
+  pub is_form : (code kept place entry unit : ℕ) → code < 65536 → unit < 65536 → IsLane pointer code kept place → place < length entries → (entry ≢ 0 → entry ≡ get_or entries place 0)
+      → unit ≡ unit_at kept entry → unit ≢ 0 → IsForm g code kept unit
+  is_form code kept place entry unit small narrow lane within looked_up is some = go (ltb kept 128) refl is
     where
-      go : (s t : Bool) → ltb (code % 256) 128 ≡ s → leb (pointer code) last ≡ t
-          → unit ≡ cond (ltb (cond (s || t) (code % 256) 0) 128) (cond (s || t) (code % 256) 0) (get_or index (min (pointer code) last) 0) → IsForm code unit
-      go true t e f is =
-          let low : code % 256 < 128 = ltb-true _ _ e in
-          let same : unit ≡ code % 256 = is ∙ ap (λ s. cond s (code % 256) (get_or index (min (pointer code) last) 0)) e in
+      go : (t : Bool) → ltb kept 128 ≡ t → unit ≡ cond t kept entry → IsForm g code kept unit
+      go true e is =
+          let first : kept ≡ code % 256 = lane.first (λ z. some (is ∙ z)) in
+          let low : code % 256 < 128 = omega (arith, ltb-true _ _ e, first) in
+          let same : unit ≡ code % 256 = is ∙ first in
+          let t : ltb (code % 256) 128 ≡ true = ap (λ k. ltb k 128) (sym first) ∙ e in
           record {
             scalar = subst IsScalar (sym same) ((ascii (code % 256) low).scalar 0 0 (omega arith));
-            narrow = omega (arith, same);
-            runs = rw e (subst (λ u. Runs g (code % 256 ∷ []) (u ∷ [])) (sym same) (ascii (code % 256) low));
-            counted = rw e (rw e refl);
+            runs = rw t (subst (λ u. Runs g (code % 256 ∷ []) (u ∷ [])) (sym same) (ascii (code % 256) low));
+            counted = rw t (rw e refl);
           }
-      go false true e f is =
-          let high : 128 ≤ code % 256 = ltb-false _ _ e in
-          let most : pointer code ≤ last = leb-true _ _ f in
-          let at : min (pointer code) last ≡ pointer code = omega arith in
-          let same : unit ≡ get_or index (pointer code) 0 =
-          is ∙ ap (λ s. cond s (code % 256) (get_or index (min (pointer code) last) 0)) e ∙ ap (λ p. get_or index p 0) at in
-          let pair = pairs code good.small high (omega arith) (λ z. good.some (same ∙ z)) in
+      go false e is =
+          let high : 128 ≤ kept = ltb-false _ _ e in
+          let first : kept ≡ code % 256 = lane.first (λ z. omega (arith, high, z)) in
+          let at : place ≡ pointer code = lane.place_is high in
+          let same : unit ≡ get_or entries (pointer code) 0 = is ∙ looked_up (λ z. some (is ∙ z)) ∙ ap (λ p. get_or entries p 0) at in
+          let t : ltb (code % 256) 128 ≡ false = ap (λ k. ltb k 128) (sym first) ∙ e in
+          let pair = pairs code small (omega (arith, high, first)) (omega (arith, within, at)) (omega (arith, narrow, same)) (λ z. some (same ∙ z)) in
           record {
             scalar = subst IsScalar (sym same) pair.0;
-            narrow = subst (λ u. u < 65536) (sym same) pair.1.0;
-            runs = rw e (subst (λ u. Runs g (code % 256 ∷ code / 256 ∷ []) (u ∷ [])) (sym same) pair.1.1);
-            counted = rw (e, f) (rw e refl);
+            runs = rw t (subst (λ u. Runs g (code % 256 ∷ code / 256 ∷ []) (u ∷ [])) (sym same) pair.1.1);
+            counted = rw t (rw e refl);
           }
-      go false false e f is = absurd (good.some is)
 
-  -- ---- of lists
+module _ (g : Grammar) where
+  pub forms_all : (cs ks us : List ℕ) → length cs ≡ length us → length ks ≡ length us → ((k : ℕ) → k < length us → IsForm g (get_or cs k 0) (get_or ks k 0) (get_or us k 0))
+      → Runs g (forms_of cs) us × (length (forms_of cs) + count_by (λ k. ltb k 128) ks ≡ 2 * length cs)
+  forms_all [] [] [] e f each = (runs_none g, refl)
+  forms_all (c ∷ cs) us [] e f each = absurd (omega arith)
+  forms_all [] (k ∷ ks) [] e f each = absurd (omega arith)
+  forms_all [] ks (u ∷ us) e f each = absurd (omega arith)
+  forms_all (c ∷ cs) [] (u ∷ us) e f each = absurd (omega arith)
+  forms_all (c ∷ cs) (k ∷ ks) (u ∷ us) e f each =
+      let one = each 0 (omega arith) in
+      let more = forms_all cs ks us (omega arith) (omega arith) (λ i h. each (suc i) (omega arith)) in
+      let n = sum_by-cons (λ k. cond (ltb k 128) 1 0) k ks in (
+        runs_more g (form_of c) (forms_of cs) (u ∷ []) us one.runs more.0,
+        omega (arith, length-append (form_of c) (forms_of cs), n, one.counted, more.1),
+      )
 
-  abbrev pub AreGood : List ℕ → List ℕ → Type 0
-  AreGood [] [] = Unit {0}
-  AreGood [] (u ∷ us) = ⊥
-  AreGood (c ∷ cs) [] = ⊥
-  AreGood (c ∷ cs) (u ∷ us) = IsGood c u × AreGood cs us
+  -- eight codes at a place, of which no unit is 0
+  pub eight_forms : (codes kept units : List ℕ) (at : ℕ) → at + 8 ≤ length codes → length kept ≡ 8 → length units ≡ 8
+      → ((k : ℕ) → k < 8 → get_or units k 0 ≢ 0 → IsForm g (get_or codes (at + k) 0) (get_or kept k 0) (get_or units k 0)) → ((k : ℕ) → k < 8 → get_or units k 0 ≢ 0)
+      → Runs g (forms_of (take 8 (drop at codes))) units × (length (forms_of (take 8 (drop at codes))) + count_by (λ k. ltb k 128) kept ≡ 16)
+  eight_forms codes kept units at room n m forms some =
+      let long : length (take 8 (drop at codes)) ≡ 8 = length-take-le 8 (drop at codes) (omega (arith, length-drop at codes)) in
+      let both = forms_all (take 8 (drop at codes)) kept units (long ∙ sym m) (n ∙ sym m) (λ k h. lane k (omega (arith, h, m))) in
+      (both.0, both.1 ∙ ap (λ m. 2 * m) long)
+    where
+      lane : (k : ℕ) → k < 8 → IsForm g (get_or (take 8 (drop at codes)) k 0) (get_or kept k 0) (get_or units k 0)
+      lane k h = rw (get_from at 8 codes k h) (forms k h (some k h))
 
-  pub all_good : (cs us : List ℕ) → length cs ≡ length us → ((k : ℕ) → k < length cs → IsGood (get_or cs k 0) (get_or us k 0)) → AreGood cs us
-  all_good [] [] e each = tt
-  all_good [] (u ∷ us) e each = absurd (omega arith)
-  all_good (c ∷ cs) [] e each = absurd (omega arith)
-  all_good (c ∷ cs) (u ∷ us) e each = (each 0 (omega arith), all_good cs us (omega arith) (λ k h. each (suc k) (omega arith)))
-
-  pub runs_all : (cs us : List ℕ) → AreGood cs us → Runs g (forms_of cs) us
-  runs_all [] [] good = runs_none g
-  runs_all [] (u ∷ us) good = absurd good
-  runs_all (c ∷ cs) [] good = absurd good
-  runs_all (c ∷ cs) (u ∷ us) good = runs_more g (form_of c) (forms_of cs) (u ∷ []) us (is_form c u good.0).runs (runs_all cs us good.1)
-
-  pub narrow_all : (cs us : List ℕ) → AreGood cs us → (k : ℕ) → k < length us → get_or us k 0 < 65536
-  narrow_all [] [] good k h = absurd (omega arith)
-  narrow_all [] (u ∷ us) good k h = absurd good
-  narrow_all (c ∷ cs) [] good k h = absurd good
-  narrow_all (c ∷ cs) (u ∷ us) good zero h = (is_form c u good.0).narrow
-  narrow_all (c ∷ cs) (u ∷ us) good (suc k) h = narrow_all cs us good.1 k (omega arith)
-
-  pub counted_all : (cs us ks : List ℕ) → AreGood cs us → length ks ≡ length cs → ((k : ℕ) → k < length cs → get_or ks k 0 ≡ kept_of pointer last (get_or cs k 0))
-      → length (forms_of cs) + count_by (λ k. ltb k 128) ks ≡ 2 * length cs
-  counted_all [] [] [] good e each = refl
-  counted_all [] [] (k ∷ ks) good e each = absurd (omega arith)
-  counted_all [] (u ∷ us) ks good e each = absurd good
-  counted_all (c ∷ cs) [] ks good e each = absurd good
-  counted_all (c ∷ cs) (u ∷ us) [] good e each = absurd (omega arith)
-  counted_all (c ∷ cs) (u ∷ us) (k ∷ ks) good e each =
-      let is : k ≡ kept_of pointer last c = each 0 (omega arith) in
-      let n = sum_by-cons (λ k. cond (ltb k 128) 1 0) k ks in
-      let one : length (form_of c) + cond (ltb k 128) 1 0 ≡ 2 = ap (λ j. length (form_of c) + cond (ltb j 128) 1 0) is ∙ (is_form c u good.0).counted in
-      omega (arith, length-append (form_of c) (forms_of cs), n, one, counted_all cs us ks good.1 (omega arith) (λ i h. each (suc i) (omega arith)))
-
-  -- ---- eight codes at a place
-
-  module _ (codes keeps finds units entries : List ℕ) (at : ℕ) (room : at + 8 ≤ length codes) (long : length units ≡ 8) (small : (k : ℕ) → get_or codes k 0 < 65536)
-      (kept : (k : ℕ) → k < at + 8 → get_or keeps k 0 ≡ kept_of pointer last (get_or codes k 0)) (found : (k : ℕ) → k < at + 8 → get_or finds k 0 ≡ place_of pointer last (get_or codes k 0))
-      (looked_up : (k : ℕ) → k < 8 → get_or entries k 0 ≡ get_or index (get_or finds (at + k) 0) 0)
-      (lanes : (k : ℕ) → k < 8 → get_or units k 0 ≡ unit_at (get_or (chunk at 8 keeps) k 0) (get_or entries k 0)) (some : (k : ℕ) → k < length units → get_or units k 0 ≢ 0) where
-    eight_long : length (take 8 (drop at codes)) ≡ 8
-    eight_long = length-take-le 8 (drop at codes) (omega (arith, length-drop at codes))
-
-    code_of : (k : ℕ) → k < 8 → get_or (take 8 (drop at codes)) k 0 ≡ get_or codes (at + k) 0
-    code_of k h = get_or-take 8 (drop at codes) k 0 h ∙ get_or-drop at codes k 0
-
-    pub eight_good : AreGood (take 8 (drop at codes)) units
-    eight_good = all_good (take 8 (drop at codes)) units (eight_long ∙ sym long) (λ k h. lane k (omega (arith, h, eight_long)))
-      where
-        lane : (k : ℕ) → k < 8 → IsGood (get_or (take 8 (drop at codes)) k 0) (get_or units k 0)
-        lane k h =
-            let code = get_or codes (at + k) 0 in
-            let keep : get_or (chunk at 8 keeps) k 0 ≡ kept_of pointer last code = get_or-chunk at 8 keeps k 0 h ∙ kept (at + k) (omega arith) in
-            let entry : get_or entries k 0 ≡ get_or index (place_of pointer last code) 0 = looked_up k h ∙ ap (λ p. get_or index p 0) (found (at + k) (omega arith)) in
-            subst (λ c. IsGood c (get_or units k 0)) (sym (code_of k h))
-            (record { small = small (at + k); is = lanes k h ∙ ap₂ unit_at keep entry; some = some k (omega (arith, h, long)) })
-
-    pub eight_counted : at + 8 ≤ length keeps → length (forms_of (take 8 (drop at codes))) + count_by (λ k. ltb k 128) (chunk at 8 keeps) ≡ 16
-    eight_counted kept_room =
-        counted_all (take 8 (drop at codes)) units (chunk at 8 keeps) eight_good (length-chunk at 8 keeps kept_room ∙ sym eight_long)
-        (λ k h. get_or-chunk at 8 keeps k 0 (omega (arith, h, eight_long)) ∙ kept (at + k) (omega (arith, h, eight_long)) ∙ ap (kept_of pointer last) (sym (code_of k (omega (arith, h, eight_long)))))
-        ∙ ap (λ n. 2 * n) eight_long
+-- one form more
+pub form_more : (count : ℕ) (codes : List ℕ) → count < length codes → forms_of (take count codes) ++ form_of (get_or codes count 0) ≡ forms_of (take (count + 1) codes)
+form_more count codes within = flat_map_more form_of [] (take count codes) (get_or codes count 0) ∙ ap forms_of (sym (take_more codes count 0 within))
 
 -- ---- the front of a block
 
@@ -194,18 +163,11 @@ front_of xs ys block front =
 forms_split : (n : ℕ) (codes : List ℕ) → forms_of (take n codes) ++ forms_of (drop n codes) ≡ forms_of codes
 forms_split n codes = sym (flat_map-append form_of (take n codes) (drop n codes)) ∙ ap forms_of (take-append-drop n codes)
 
--- fewer forms are a front of the block too
+-- fewer forms are also a front of the block
 pub front_part : (n count : ℕ) (codes block : List ℕ) → n ≤ count → IsFront (forms_of (take count codes)) block → IsFront (forms_of (take n codes)) block
 front_part n count codes block most front =
     subst (λ xs. IsFront (forms_of xs) block) (take-take n count codes most)
     (front_of (forms_of (take n (take count codes))) (forms_of (drop n (take count codes))) block (subst (λ l. IsFront l block) (sym (forms_split n (take count codes))) front))
-
--- eight codes more
-pub forms_more : (group : ℕ) (codes : List ℕ) → forms_of (take (8 * group) codes) ++ forms_of (take 8 (drop (8 * group) codes)) ≡ forms_of (take (8 * (group + 1)) codes)
-forms_more group codes =
-    let n : 8 * group + 8 ≡ 8 * (group + 1) = omega arith in
-    sym (flat_map-append form_of (take (8 * group) codes) (take 8 (drop (8 * group) codes)))
-    ∙ ap forms_of (sym (take-add (8 * group) 8 codes)) ∙ ap (λ k. forms_of (take k codes)) n
 
 -- ---- how many lanes are ASCII
 
@@ -224,9 +186,9 @@ ascii_lanes ks long = (
   omega (arith, count_most (λ k. ltb k 128) ks, long),
 )
 
--- ---- eights that are stored
+-- ---- groups of eight that are stored
 
--- eight more of which each is a function of what stands there
+-- eight more entries, each a function of the code at its place
 pub next_eight_stored : (f : ℕ → ℕ) (group : ℕ) (codes old found : List ℕ) → found ≡ map f (chunk (8 * group) 8 codes) → 8 * (group + 1) ≤ length codes → 8 * (group + 1) ≤ length old
     → ((k : ℕ) → k < 8 * group → get_or old k 0 ≡ f (get_or codes k 0)) → (k : ℕ) → k < 8 * (group + 1) → get_or (put_chunk (8 * group) old found) k 0 ≡ f (get_or codes k 0)
 next_eight_stored f group codes old found is room room' before k h = go (cases_lt k (8 * group))
@@ -242,3 +204,7 @@ next_eight_stored f group codes old found is room room' before k h = go (cases_l
         ∙ get_or-put_chunk_at (8 * group) old found j 0 (omega (arith, long)) (omega (arith, long))
         ∙ ap (λ (l : List ℕ). get_or l j 0) is ∙ get_or-map f (chunk (8 * group) 8 codes) j 0 0 (omega (arith, eight))
         ∙ ap f (get_or-chunk (8 * group) 8 codes j 0 (omega arith) ∙ ap (λ n. get_or codes n 0) e)
+
+-- the codes before a place, and the first ones from there on
+pub forms_at : (at few : ℕ) (codes : List ℕ) → forms_of (take at codes) ++ forms_of (take few (drop at codes)) ≡ forms_of (take (at + few) codes)
+forms_at at few codes = sym (flat_map-append form_of (take at codes) (take few (drop at codes))) ∙ ap forms_of (sym (take-add at few codes))

@@ -16,7 +16,7 @@ use Rattle.legacy_decoder_engine.specs.Shown.{IsShown}
 use Rattle.legacy_decoder_engine.specs.Feeding.{Took, fed_of}
 use Rattle.legacy_decoder_engine.specs.declared.moves.Fed.TheVariants.{One}
 use Rattle.legacy_base.specs.Fronts.{malformed}
-use Rattle.legacy_decoder_engine.specs.Ahead.{Runs, HasAscii}
+use Rattle.legacy_decoder_engine.specs.Ahead.{Runs, HasAscii, IsIdle}
 use Rattle.legacy_decoder_engine.specs.LeadCodecs.{IsLeadCodec, held_bytes, lead_state}
 use Rattle.legacy_decoder_engine.proofs.Feeding as feeding
 use Rattle.legacy_decoder_engine.proofs.RunForms.{has_ascii, pair_runs, ascii_is}
@@ -25,11 +25,6 @@ use Rattle.legacy_decoder_engine.proofs.RunForms.{has_ascii, pair_runs, ascii_is
 pub neutral_empty : (bytes : List ℕ) → (is_empty bytes && true) ≡ true → bytes ≡ []
 neutral_empty [] e = refl
 neutral_empty (b ∷ bytes) e = cc
-
--- no bytes are held back without a lead
-pub none_bytes : {L : Type 0} (byte : L → ℕ) (held : Option L) → held ≡ None → held_bytes byte held ≡ []
-none_bytes byte None e = refl
-none_bytes byte (Some lead) e = cc
 
 module _ {L : Type 0} (grammar : FlatIndexes → Grammar) (is_lead_byte : ℕ → Bool) (first : ℕ → Step) (scalars : FlatIndexes → ℕ → ℕ → List ℕ) (is : IsLeadCodec grammar is_lead_byte first scalars)
     (byte : L → ℕ) (leads : (lead : L) → is_lead_byte (byte lead) ≡ true) (tables : AcceptedIndexes) where
@@ -83,6 +78,10 @@ module _ {L : Type 0} (grammar : FlatIndexes → Grammar) (is_lead_byte : ℕ �
 
   pub ascii : HasAscii (grammar tables.flat)
   ascii = has_ascii shown (λ b. refl) (λ b h. is.ascii_first b (ascii_is b h))
+
+  -- a decoder without a lead
+  pub idle : (held : Option L) → is_some held ≡ false → IsIdle (lead_state grammar byte tables held)
+  idle held e = record { empty = none_held held e; ascii = ascii }
 
 -- a pair that gives one scalar
 module _ (grammar : FlatIndexes → Grammar) (is_lead_byte : ℕ → Bool) (first : ℕ → Step) (scalars : FlatIndexes → ℕ → ℕ → List ℕ) (is : IsLeadCodec grammar is_lead_byte first scalars)

@@ -22,3 +22,4 @@ pub mod Picking
 pub mod LaneUnits
 pub mod LanePlaces
 pub mod FormStarts
+pub mod SplitLanes

@@ -172,7 +172,7 @@ split_places b (suc k) m x =
     go true e = ap (λ (l : List ℕ). b ∷ l) e
     go false e = e
 
--- one turn of the loop: eight places more
+-- one turn of the loop: eight more places
 pub next_eight : (f : ℕ → ℕ) (g x count count_next : ℕ) (codes_before codes_after : List ℕ) (all : List ℕ) → g < 8
     → all ≡ take count codes_before ++ map f (places (8 * g) (64 - 8 * g) x)
     → take count_next codes_after ≡ take count codes_before ++ map f (places (8 * g) 8 (x % 256))
@@ -187,7 +187,7 @@ next_eight f g x count count_next before after all h e s =
     ∙ ap (λ (l : List ℕ). l ++ map f (places (8 * (g + 1)) m (x / 256)))
     (ap (λ (l : List ℕ). take count before ++ map f l) (sym (low_places (8 * g) 8 x)) ∙ sym s)
 
--- and behind the last turn there are none
+-- after the last turn no places are left
 pub no_more : (f : ℕ → ℕ) (g x : ℕ) (before : List ℕ) → g ≡ 8 → before ++ map f (places (8 * g) (64 - 8 * g) x) ≡ before
 unfolding places
 no_more f g x before e = ap (λ k. before ++ map f (places (8 * k) (64 - 8 * k) x)) e ∙ append-nil before

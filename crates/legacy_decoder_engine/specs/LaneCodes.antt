@@ -1,14 +1,35 @@
 -- Eight codes looked up at once: what is kept of each, the place where its entry is looked up, and its unit.
-use Rattle.std.specs.Prelude.{ℕ, ◌%◌, ◌||◌, cond, ltb, leb, min}
+use Rattle.std.specs.Prelude.{◌≡◌, ◌≢◌, ℕ, List, [], ◌∷◌, ◌+◌, ◌<◌, ◌≤◌, ◌/◌, ◌%◌, ◌||◌, cond, ltb, leb, min, length, get_or}
+use Rattle.std.specs.Char.{IsScalar}
+use Rattle.legacy_base.specs.Grammar.{Grammar}
+use Rattle.legacy_decoder_engine.specs.Ahead.{IsPair, Runs}
+use Rattle.legacy_decoder_engine.specs.PickedForms.{form_of}
 
--- of a code its first byte if that is ASCII, or if its pointer is at most the last one; otherwise 0
+-- the first byte of a code if it is ASCII or the pointer is at most `last`, and otherwise 0
 abbrev pub kept_of : (ℕ → ℕ) → ℕ → ℕ → ℕ
 kept_of pointer last code = cond (ltb (code % 256) 128 || leb (pointer code) last) (code % 256) 0
 
--- the pointer, or the last one if it is past that
+-- the pointer of a code, or `last` if that is less
 abbrev pub place_of : (ℕ → ℕ) → ℕ → ℕ → ℕ
 place_of pointer last code = min (pointer code) last
 
--- what is kept if it is ASCII, and else the entry
+-- what is kept if it is ASCII, and otherwise the entry
 abbrev pub unit_at : ℕ → ℕ → ℕ
 unit_at kept entry = cond (ltb kept 128) kept entry
+
+-- an entry from U+0001 to U+FFFF is the scalar of each code with its pointer whose first byte is past ASCII
+abbrev pub ArePairs : Grammar → List ℕ → (ℕ → ℕ) → Type 0
+ArePairs grammar entries pointer = (code : ℕ) → code < 0x1_0000 → 0x80 ≤ code % 0x100 → pointer code < length entries →
+    get_or entries (pointer code) 0 < 0x1_0000 → get_or entries (pointer code) 0 ≢ 0 →
+    IsScalar (get_or entries (pointer code) 0) × IsPair grammar (code % 0x100) (code / 0x100) (get_or entries (pointer code) 0)
+
+-- What is kept of a code is its first byte or 0. If it is past ASCII, the place is the code's pointer.
+pub record IsLane (pointer : ℕ → ℕ) (code kept place : ℕ) : Type 0 where
+  pub first : kept ≢ 0 → kept ≡ code % 256
+  pub place_is : 128 ≤ kept → place ≡ pointer code
+
+-- A unit is the scalar of the form that a code begins with. What is kept of the code gives the form's length.
+pub record IsForm (grammar : Grammar) (code kept unit : ℕ) : Type 0 where
+  pub scalar : IsScalar unit
+  pub runs : Runs grammar (form_of code) (unit ∷ [])
+  pub counted : length (form_of code) + cond (ltb kept 128) 1 0 ≡ 2

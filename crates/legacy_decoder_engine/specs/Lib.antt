@@ -1,6 +1,7 @@
--- How the decoders work inside: nothing here has to be believed. What they promise is said by legacy_base.
+-- The internal definitions of the decoders. The promises of the decoders are in legacy_base and do not depend on these.
 pub mod Moves
 pub mod Ahead
+pub mod SplitRows
 pub mod Steps
 pub mod Costs
 pub mod Feeding

@@ -1,4 +1,4 @@
--- The forms of a block of bytes, picked out by where they start.
+-- The forms of a block of bytes, picked out by the places where they start.
 use Rattle.std.specs.Prelude.{◌≡◌, ℕ, zero, suc, ◌+◌, ◌*◌, ◌/◌, ◌%◌, ◌<◌, List, [], ◌∷◌, ◌++◌, ◌==◌, cond, ltb, min, length, take, replicate, get_or, flat_map}
 use Rattle.std.specs.Int.{bit_at}
 
@@ -7,12 +7,12 @@ unfoldable pub places : ℕ → ℕ → ℕ → List ℕ
 places base zero bits = []
 places base (suc n) bits = cond (bits % 2 == 1) (base ∷ places (base + 1) n (bits / 2)) (places (base + 1) n (bits / 2))
 
--- each place and the one behind it
+-- each place and the one after it
 abbrev pub pairs : List ℕ → List ℕ
 pairs [] = []
 pairs (p ∷ ps) = p ∷ (p + 1) ∷ pairs ps
 
--- a row of the table: the places, and place 0 as often as it takes to make them eight
+-- a row of the table: the places, filled up to eight with place 0, each with the one after it
 unfoldable pub row : ℕ → List ℕ
 row bits = pairs (take 8 (places 0 8 bits ++ replicate 8 0))
 
@@ -20,7 +20,7 @@ row bits = pairs (take 8 (places 0 8 bits ++ replicate 8 0))
 abbrev pub code_at : List ℕ → ℕ → ℕ
 code_at bytes p = get_or bytes p 0 + 256 * get_or bytes (p + 1) 0
 
--- the bytes of the form that a code begins with: an ASCII byte alone, and any other byte with the one behind it
+-- the bytes of the form that a code begins with: an ASCII byte alone, and any other byte with the one after it
 abbrev pub form_of : ℕ → List ℕ
 form_of code = cond (ltb (code % 256) 128) (code % 256 ∷ []) (code % 256 ∷ code / 256 ∷ [])
 
@@ -32,11 +32,11 @@ forms_of codes = flat_map form_of codes
 abbrev pub ArePast : ℕ → List ℕ → Type 0
 ArePast past block = (i : ℕ) → i < 64 → bit_at past i ≡ cond (ltb (get_or block i 0) 128) 0 1
 
--- A form starts at the first byte, and at every other one but behind a byte past ASCII that starts a form.
+-- A form starts at the first byte, and at every other byte except after a byte past ASCII that starts a form.
 pub record AreStarts (past starts : ℕ) : Type 0 where
   pub first : bit_at starts 0 ≡ 1
   pub next : (i : ℕ) → i < 63 → (bit_at starts (suc i) + min (bit_at starts i) (bit_at past i)) % 2 ≡ 1
 
--- the bytes stand at the front of a block
+-- the bytes are at the front of a block
 abbrev pub IsFront : List ℕ → List ℕ → Type 0
 IsFront bytes block = take (length bytes) block ≡ bytes

@@ -7,7 +7,7 @@ ghost use Rattle.legacy_decoder_engine.specs.Ahead.{HasAscii, IsIdle, IsCommonFo
 use crate::runs::{Blocks, Forms, read_ascii, read_blocks, read_run};
 use legacy_base::Destination;
 
-/// What stands at the front of the input, where its first byte is past ASCII.
+/// What is at the front of the input.
 #[derive(Clone, Copy)]
 pub enum CommonForm {
     /// A scalar of one byte.
@@ -18,26 +18,26 @@ pub enum CommonForm {
     Other,
 }
 
-/// The common forms of a codec in which nothing is held back between two forms. A codec tells them by
-/// `front`, or for all bytes alike by `form`.
+/// The common forms of a codec in which nothing is held back between two forms.
+/// A codec defines `front` for bytes past ASCII, or `form` for all bytes alike.
 pub trait CommonForms {
     /// The grammar, and the bytes that are held back.
     ghost state: { Self → DecoderState };
 
-    /// Whether nothing is held back, and each ASCII byte is its own scalar.
+    /// Returns true only if nothing is held back, and each ASCII byte is its own scalar.
     fn is_idle(&self) -> bool
         ensures { result ≡ true → IsIdle (state self.now) };
 
-    /// Whether a byte begins no common form, as far as that is seen at once: no is an answer too. Where it
-    /// is so no run is begun.
+    /// Returns whether a quick test shows that the byte begins no common form. No run is begun at such a byte.
+    /// It may return false for a byte that begins none.
     #[inline(always)]
     fn is_rare(&self, byte: u8) -> bool {
         let _ = byte;
         false
     }
 
-    /// What stands at the front of the input, by a byte past ASCII and the byte behind it: a scalar up
-    /// to U+FFFF, or `Other` for whatever is rare. The machine reads that.
+    /// Returns what is at the front of the input, given a byte past ASCII and the byte after it.
+    /// It is a scalar up to U+FFFF, or `Other` for a rare form, which the machine reads.
     #[inline(always)]
     fn front(&self, lead: u8, trail: u8) -> CommonForm
         requires { 0x80 ≤ lead }
@@ -47,7 +47,7 @@ pub trait CommonForms {
         CommonForm::Other
     }
 
-    /// The same by any byte and the byte behind it.
+    /// Returns what is at the front of the input, given any byte and the byte after it.
     #[inline(always)]
     fn form(&self, first: u8, second: u8) -> CommonForm
         requires { HasAscii (state self.now).grammar }
@@ -61,14 +61,14 @@ pub trait CommonForms {
     }
 }
 
-/// Whether the byte at the front begins no common form, as far as that is seen at once.
+/// Returns whether a quick test shows that the byte at the front begins no common form.
 #[inline(always)]
 pub fn begins_rare<D: CommonForms>(decoder: &D, src: &[u8]) -> bool {
     !src.is_empty() && decoder.is_rare(src[0])
 }
 
-/// Whether nothing is held back, and a rare byte stands behind the form at the front, if this is a byte of
-/// ASCII or a form of two bytes.
+/// Returns true only if nothing is held back and a rare byte follows the form at the front.
+/// It takes that form to be one ASCII byte or two bytes, and returns false if the input has fewer than three bytes.
 #[inline(always)]
 pub fn stands_alone<D: CommonForms>(decoder: &D, src: &[u8]) -> bool
     ensures { result ≡ true → IsIdle (D.state decoder.now) }
@@ -105,7 +105,7 @@ impl<D: CommonForms> Forms for CommonBlocks<'_, D> {
         (bytes / 2).min(units / 3)
     }
 
-    /// Stops at two ASCII bytes in a row too.
+    /// Reads the forms, and also stops at two ASCII bytes in a row.
     #[inline(always)]
     fn read_forms<T: Destination>(&self, src: &[u8], dst: &mut T, most: usize) -> usize {
         let mut at = 0;
@@ -138,7 +138,7 @@ impl<D: CommonForms> Blocks for CommonBlocks<'_, D> {
 
     ghost ready = { λ blocks. HasAscii (D.state blocks.decoder.now).grammar };
 
-    // Behind a fault often comes the next one: for a single byte that is rare no block is begun.
+    // Malformed sequences often follow one another. No block is begun at a rare byte.
     #[inline(always)]
     fn read_block<T: Destination>(&self, src: &[u8], dst: &mut T) -> (usize, bool) {
         if begins_rare(self.decoder, src) {
@@ -150,9 +150,8 @@ impl<D: CommonForms> Blocks for CommonBlocks<'_, D> {
     }
 }
 
-/// Reads common forms and ASCII from the front of `src` and writes their scalars to `dst`, where nothing is
-/// held back and as far as three code units more than they need are free. Answers how many bytes were read:
-/// none is an answer too.
+/// Reads common forms and ASCII from the front of `src`, and writes their scalars to `dst`.
+/// Returns the number of bytes read, which is 0 if bytes are held back. If it reads any, three code units stay free.
 #[inline(always)]
 pub fn read_common_forms<D: CommonForms, T: Destination>(
     decoder: &D,

@@ -1,13 +1,13 @@
-//! Blocks of bytes of which many are past ASCII: their forms are picked out, and looked up eight at a time.
-// Inlined always is what runs for each block: a call would pass vectors through memory, and put the destination's place
-// there from block to block.
-ghost use Rattle.std.specs.Prelude.{◌≡◌, ◌≢◌, ◌∷◌, [], ℕ, ◌+◌, ◌-◌, ◌*◌, ◌<◌, ◌≤◌, List, false, true, length, map, take, get_or, count_by, ltb, ◌/◌, ◌%◌};
+//! Blocks with many bytes past ASCII: their forms are picked out, and looked up eight at a time.
+// The functions that run for each block are always inlined: a call would pass vectors through memory, and would store
+// the destination's place there for each block.
+ghost use Rattle.std.specs.Prelude.{◌≡◌, ◌≢◌, ℕ, ◌+◌, ◌*◌, ◌<◌, ◌≤◌, List, false, true, length, map, take, get_or, count_by, cond, ltb};
 ghost use Rattle.std.specs.Char.{IsScalar};
 ghost use Rattle.legacy_base.specs.Grammar.{Grammar};
 ghost use Rattle.legacy_base.specs.States.{DecoderState, new_state};
-ghost use Rattle.legacy_decoder_engine.specs.Ahead.{HasAscii, IsPair, ReadsAhead, Writes};
-ghost use Rattle.legacy_decoder_engine.specs.LaneCodes.{kept_of, place_of, unit_at};
-ghost use Rattle.legacy_decoder_engine.specs.PickedForms.{forms_of, ArePast, IsFront};
+ghost use Rattle.legacy_decoder_engine.specs.Ahead.{HasAscii, ReadsAhead, Writes};
+ghost use Rattle.legacy_decoder_engine.specs.LaneCodes.{kept_of, place_of, unit_at, ArePairs, IsLane, IsForm};
+ghost use Rattle.legacy_decoder_engine.specs.PickedForms.{forms_of};
 
 use crate::common_forms::{CommonBlocks, CommonForms, begins_rare};
 use crate::picks::{past_ascii, pick_forms};
@@ -15,34 +15,40 @@ use crate::runs::{Blocks, read_ascii, read_blocks, read_run};
 use legacy_base::Destination;
 use std::simd::prelude::*;
 
-/// Common forms of which the pairs have entries in one flat index of scalars up to U+FFFF, so that eight pairs at once are
-/// looked up.
+/// Common forms whose pairs have entries in one flat index, so that eight pairs are looked up at once.
 pub trait LaneForms: CommonForms {
     /// The index.
     ghost entries: { Self → List ℕ };
 
-    /// Where the entry of a code of two bytes, the first one low, is in the index, or a number past its end.
+    /// The place in the index of a code of two bytes, the first one low, or a number past the end of the index.
     ghost pointer: { ℕ → ℕ };
 
-    /// Returns the index. An entry that is not 0 is the scalar of its pair.
-    fn index(&self) -> &[u16]
-        ensures same { result.now ≡ entries self.now }
-        ensures pairs { (code : ℕ) → code < 0x1_0000 → 0x80 ≤ code % 0x100 →
-            pointer code < length (entries self.now) →
-            get_or (entries self.now) (pointer code) 0 ≢ 0 →
-            IsScalar (get_or (entries self.now) (pointer code) 0)
-            × IsPair (Self.state self.now).grammar (code % 0x100) (code / 0x100)
-            (get_or (entries self.now) (pointer code) 0) };
+    /// Returns the number of entries of the index. An entry from U+0001 to U+FFFF is the scalar of its pair.
+    fn entry_count(&self) -> usize
+        ensures count { result ≡ length (entries self.now) }
+        ensures pairs { ArePairs (Self.state self.now).grammar (entries self.now) pointer };
+
+    /// Returns the entries at eight places, with 0 for an entry past U+FFFF.
+    fn entries_at(&self, places: &[u16]) -> u16x8
+        requires eight { 8 ≤ length places.now }
+        requires within { (k : ℕ) → k < 8 →
+            get_or places.now k 0 < length (entries self.now) }
+        ensures { (k : ℕ) → k < 8 → get_or result k 0 ≢ 0 →
+            get_or result k 0 ≡ get_or (entries self.now) (get_or places.now k 0) 0 };
 
     /// Returns the pointers of eight codes.
     fn pointers(codes: u16x8) -> u16x8
         ensures { result ≡ map pointer codes };
+
+    /// Returns whether a quick test shows forms of one byte past ASCII in a block. Such a block is read form by form.
+    #[inline(always)]
+    fn has_singles(block: u8x64) -> bool {
+        let _ = block;
+        false
+    }
 }
 
-/// So many bytes of 64 past ASCII are many.
-const MANY: u32 = 24;
-
-/// Returns what is kept of eight codes, and their places in an index that ends at a place.
+/// Returns what is kept of eight codes, and their places in an index whose last place is `last`.
 #[inline(always)]
 fn kept_and_places<F: LaneForms>(codes: u16x8, last: u16) -> (u16x8, u16x8)
     ensures kept { result.0 ≡ map (kept_of F.pointer last) codes }
@@ -55,8 +61,15 @@ fn kept_and_places<F: LaneForms>(codes: u16x8, last: u16) -> (u16x8, u16x8)
     (known.select(first, u16x8::splat(0)), found.simd_min(end))
 }
 
-/// Stores what is kept of so many eights of codes, and their places.
-// A loop before that of the look-ups: a place that is taken out of a vector costs more than one that is loaded.
+/// What is kept of each code of a block, and the place of its entry.
+#[derive(Drop)]
+struct Lanes {
+    kept: [u16; 64],
+    places: [u16; 64],
+}
+
+/// Stores what is kept of the codes in the first `groups` groups of eight, and the places of their entries.
+// This loop runs before the loop of the look-ups: to take a place out of a vector costs more than to load it.
 #[inline(always)]
 fn split_codes<F: LaneForms>(
     codes: &[u16],
@@ -68,8 +81,9 @@ fn split_codes<F: LaneForms>(
     requires codes { 8 * groups ≤ length codes.now }
     requires kept { 8 * groups ≤ length kept.old }
     requires places { 8 * groups ≤ length places.old }
-    ensures keeps { (k : ℕ) → k < 8 * groups → get_or kept.new k 0 ≡ kept_of F.pointer last (get_or codes.now k 0) }
-    ensures finds { (k : ℕ) → k < 8 * groups → get_or places.new k 0 ≡ place_of F.pointer last (get_or codes.now k 0) }
+    ensures lanes { (k : ℕ) → k < 8 * groups →
+        IsLane F.pointer (get_or codes.now k 0) (get_or kept.new k 0) (get_or places.new k 0) }
+    ensures within { (k : ℕ) → k < 8 * groups → get_or places.new k 0 ≤ last }
 {
     let mut group = 0;
     while group < groups {
@@ -81,9 +95,9 @@ fn split_codes<F: LaneForms>(
     }
 }
 
-/// Returns the entries at eight places.
+/// Returns the entries at eight places of an index of scalars up to U+FFFF.
 #[inline(always)]
-fn entries_at(index: &[u16], places: &[u16]) -> u16x8
+pub fn narrow_entries(index: &[u16], places: &[u16]) -> u16x8
     requires eight { 8 ≤ length places.now }
     requires within { (k : ℕ) → k < 8 → get_or places.now k 0 < length index.now }
     ensures { (k : ℕ) → k < 8 → get_or result k 0 ≡ get_or index.now (get_or places.now k 0) 0 }
@@ -100,15 +114,17 @@ fn entries_at(index: &[u16], places: &[u16]) -> u16x8
     ])
 }
 
-/// Returns what is kept where it is ASCII, and else the entries.
+/// Returns what is kept if it is ASCII, and otherwise the entry, for each of eight codes.
 #[inline(always)]
 fn chosen(kept: u16x8, entries: u16x8) -> u16x8
-    ensures { (k : ℕ) → k < 8 → get_or result k 0 ≡ unit_at (get_or kept k 0) (get_or entries k 0) }
+    ensures lanes { (k : ℕ) → k < 8 →
+        get_or result k 0 ≡ unit_at (get_or kept k 0) (get_or entries k 0) }
+    ensures small { (k : ℕ) → k < 8 → get_or result k 0 < 0x1_0000 }
 {
     kept.simd_lt(u16x8::splat(0x80)).select(kept, entries)
 }
 
-/// Returns how many bytes the forms of eight codes have of which this is kept.
+/// Returns the number of bytes of the forms of eight codes, given what is kept of each.
 #[inline(always)]
 fn byte_count(kept: u16x8) -> usize
     ensures { result + count_by (λ k. ltb k 128) kept ≡ 16 }
@@ -130,125 +146,245 @@ fn has_zero(units: &[u16]) -> bool
     found
 }
 
-/// Writes so many eights of codes, up to the first eight of which one is rare. Returns how many eights, and how many bytes
-/// their forms have.
+/// Returns what is kept of eight codes from a place on, and their units, with 0 for a rare code.
+#[inline(always)]
+fn units_at<F: LaneForms>(forms: &F, codes: &[u16], lanes: &Lanes, at: usize) -> (u16x8, u16x8)
+    requires ascii { HasAscii (F.state forms.now).grammar }
+    requires pairs { ArePairs (F.state forms.now).grammar (F.entries forms.now) F.pointer }
+    requires eight { at + 8 ≤ 64 }
+    requires lanes { (k : ℕ) → k < 8 → IsLane F.pointer (get_or codes.now (at + k) 0)
+        (get_or lanes.now.kept (at + k) 0) (get_or lanes.now.places (at + k) 0) }
+    requires within { (k : ℕ) → k < 8 →
+        get_or lanes.now.places (at + k) 0 < length (F.entries forms.now) }
+    ensures small { (k : ℕ) → k < 8 → get_or result.1 k 0 < 0x1_0000 }
+    ensures forms { (k : ℕ) → k < 8 → get_or result.1 k 0 ≢ 0 →
+        IsForm (F.state forms.now).grammar (get_or codes.now (at + k) 0) (get_or result.0 k 0)
+        (get_or result.1 k 0) }
+{
+    let _ = codes.len();
+    let kept = u16x8::from_slice(&lanes.kept[at..]);
+    (kept, chosen(kept, forms.entries_at(&lanes.places[at..])))
+}
+
+/// Returns the number of bytes of a form, given what is kept of its code.
+#[inline(always)]
+fn form_length(kept: u16) -> usize
+    ensures { result + cond (ltb kept 128) 1 0 ≡ 2 }
+{
+    if kept < 0x80 { 1 } else { 2 }
+}
+
+/// Writes the first `most` of eight units one by one, up to one that is 0 or whose form ends past `limit` bytes.
+/// Returns the number of units written, and the number of bytes of their forms.
+#[inline(always)]
+fn put_few<T: Destination>(
+    units: &[u16],
+    kept: &[u16],
+    most: usize,
+    limit: usize,
+    dst: &mut T,
+) -> (usize, usize)
+    requires most { most ≤ 8 }
+    requires units { 8 ≤ length units.now }
+    requires kept { 8 ≤ length kept.now }
+    requires scalars { (k : ℕ) → k < 8 → get_or units.now k 0 ≢ 0 →
+        IsScalar (get_or units.now k 0) }
+    requires room { 24 ≤ T.room dst.old }
+    ensures most { result.0 ≤ most }
+    ensures limit { result.1 ≤ limit }
+    ensures writes { (grammar : Grammar) (codes : List ℕ) → 8 ≤ length codes →
+        ((k : ℕ) → k < 8 → get_or units.now k 0 ≢ 0 →
+        IsForm grammar (get_or codes k 0) (get_or kept.now k 0) (get_or units.now k 0)) →
+        (result.1 ≡ length (forms_of (take result.0 codes)))
+        × Writes T.Destination grammar (forms_of (take result.0 codes)) dst.old dst.new }
+    ensures slack { T.room dst.old ≤ T.room dst.new + 24 }
+{
+    let mut count = 0;
+    let mut bytes = 0;
+    while count < most && units[count] != 0 {
+        let long = form_length(kept[count]);
+        if bytes + long > limit {
+            return (count, bytes);
+        }
+        dst.put(unsafe { char::from_u32_unchecked(u32::from(units[count])) });
+        bytes += long;
+        count += 1;
+    }
+    (count, bytes)
+}
+
+/// Writes the first `most` codes, up to one that is rare or whose form ends past `limit` bytes.
+/// Stops before a group of eight if fewer than 32 code units are free.
+/// Returns the number of codes written, and the number of bytes of their forms.
 #[inline(always)]
 fn put_codes<F: LaneForms, T: Destination>(
     forms: &F,
     codes: &[u16],
-    kept: &mut [u16],
-    places: &mut [u16],
-    groups: usize,
+    lanes: &mut Lanes,
+    most: usize,
+    limit: usize,
     dst: &mut T,
 ) -> (usize, usize)
     requires ascii { HasAscii (F.state forms.now).grammar }
-    requires codes { 8 * groups ≤ length codes.now }
-    requires kept { 8 * groups ≤ length kept.old }
-    requires places { 8 * groups ≤ length places.old }
-    requires room { 24 * groups + 11 ≤ T.room dst.old }
-    ensures within { result.0 ≤ groups }
-    ensures bytes { result.1 ≡ length (forms_of (take (8 * result.0) codes.now)) }
+    requires most { most ≤ 64 }
+    requires codes { 64 ≤ length codes.now }
+    ensures most { result.0 ≤ most }
+    ensures limit { result.1 ≤ limit }
+    ensures bytes { result.1 ≡ length (forms_of (take result.0 codes.now)) }
     ensures writes { Writes T.Destination (F.state forms.now).grammar
-        (forms_of (take (8 * result.0) codes.now)) dst.old dst.new }
-    ensures slack { T.room dst.old ≤ T.room dst.new + 24 * result.0 }
+        (forms_of (take result.0 codes.now)) dst.old dst.new }
+    ensures slack { 0 < result.1 → 3 ≤ T.room dst.new }
+    ensures had { 0 < result.1 → 4 ≤ T.room dst.old }
 {
-    let index = forms.index();
-    let count = index.len();
-    if count == 0 {
+    let entries = forms.entry_count();
+    if entries == 0 || dst.free() < 32 {
         return (0, 0);
     }
-    let last = (count - 1).min(0xFFFF) as u16;
-    split_codes::<F>(codes, kept, places, groups, last);
+    let last = (entries - 1).min(0xFFFF) as u16;
+    let groups = (most + 7) / 8;
+    split_codes::<F>(codes, &mut lanes.kept, &mut lanes.places, groups, last);
     let mut bytes = 0;
     let mut group = 0;
-    while group < groups {
+    while 8 * group < most && dst.free() >= 32 {
         let at = 8 * group;
-        let first = u16x8::from_slice(&kept[at..]);
-        let units = chosen(first, entries_at(index, &places[at..]));
-        if has_zero(&units.to_array()) {
-            return (group, bytes);
+        let (kept, units) = units_at(forms, codes, lanes, at);
+        let long = byte_count(kept);
+        if at + 8 > most || bytes + long > limit || has_zero(&units.to_array()) {
+            let left = (most - at).min(8);
+            let (few, more) = put_few(
+                &units.to_array(),
+                &kept.to_array(),
+                left,
+                limit - bytes,
+                dst,
+            );
+            return (at + few, bytes + more);
         }
         dst.put_eight(units);
-        bytes += byte_count(first);
+        bytes += long;
         group += 1;
     }
-    (group, bytes)
+    (8 * group, bytes)
 }
 
-/// Reads the eights of forms at the front of a block, up to the first eight of which one is rare. Returns how many bytes
-/// were read, and whether all were.
+/// Returns the number of codes of a block to read: all if the input ends soon, and otherwise whole groups of eight.
 #[inline(always)]
-fn read_many<F: LaneForms, T: Destination>(
+fn codes_read(count: usize, limit: usize) -> usize
+    ensures { result ≤ count }
+{
+    if limit < 72 { count } else { count / 8 * 8 }
+}
+
+/// Reads the forms at the front of a block with many bytes past ASCII.
+/// Stops at a form that is rare or ends past `limit` bytes.
+/// Returns the number of bytes read, and whether another block may follow.
+#[inline(always)]
+fn read_block<F: LaneForms, T: Destination>(
     forms: &F,
     block: &[u8],
-    past: u64,
+    limit: usize,
     codes: &mut [u16],
-    kept: &mut [u16],
-    places: &mut [u16],
+    lanes: &mut Lanes,
     dst: &mut T,
 ) -> (usize, bool)
     requires ascii { HasAscii (F.state forms.now).grammar }
     requires block { 72 ≤ length block.now }
-    requires past { ArePast past block.now }
     requires codes { 64 ≤ length codes.old }
-    requires kept { 64 ≤ length kept.old }
-    requires places { 64 ≤ length places.old }
-    requires room { 203 ≤ T.room dst.old }
-    ensures ahead { ReadsAhead T.Destination (new_state (F.state forms.now).grammar) block.now
-        result.0 dst.old dst.new }
-    ensures goes_on { result.1 ≡ true → 0 < result.0 }
+    ensures limit { result.0 ≤ limit }
+    ensures writes { Writes T.Destination (F.state forms.now).grammar (take result.0 block.now)
+        dst.old dst.new }
+    ensures slack { 0 < result.0 → 3 ≤ T.room dst.new }
+    ensures had { 0 < result.0 → 4 ≤ T.room dst.old }
 {
-    let groups = pick_forms(block, past, codes) / 8;
-    let (done, read) = put_codes(forms, codes, kept, places, groups, dst);
-    (read, read > 0 && done == groups)
+    let bytes = u8x64::from_slice(block);
+    let past = past_ascii(bytes);
+    if 8 * past.count_ones() as usize <= 3 * limit.min(64) {
+        return (0, false);
+    }
+    if F::has_singles(bytes) {
+        return (0, false);
+    }
+    let count = pick_forms(block, past, codes);
+    let most = codes_read(count, limit);
+    let (done, read) = put_codes(forms, codes, lanes, most, limit, dst);
+    (read, done == most)
 }
 
-/// Returns whether a block of which many bytes are past ASCII is at the front, with eight bytes behind it.
+/// Returns at most 64 bytes with zeros after them.
 #[inline(always)]
-fn begins_many(src: &[u8]) -> bool {
-    src.len() >= 72 && past_ascii(u8x64::from_slice(src)).count_ones() >= MANY
+fn padded(src: &[u8]) -> [u8; 72]
+    requires { length src.now ≤ 64 }
+    ensures { take (length src.now) result ≡ src.now }
+{
+    let mut padded = [0u8; 72];
+    padded[..src.len()].copy_from_slice(src);
+    padded
 }
 
-/// Reads blocks of which many bytes are past ASCII from the front. Returns how many bytes were read: none is an answer too.
+/// Reads a block at the front. It copies the last bytes of the input to an array with zeros after them.
+#[inline(always)]
+fn read_front<F: LaneForms, T: Destination>(
+    forms: &F,
+    src: &[u8],
+    codes: &mut [u16],
+    lanes: &mut Lanes,
+    dst: &mut T,
+) -> (usize, bool)
+    requires codes { 64 ≤ length codes.old }
+    requires ascii { HasAscii (F.state forms.now).grammar }
+    ensures { ReadsAhead T.Destination (new_state (F.state forms.now).grammar) src.now
+        result.0 dst.old dst.new }
+{
+    if src.len() >= 72 {
+        return read_block(forms, src, src.len(), codes, lanes, dst);
+    }
+    let most = src.len().min(64);
+    read_block(forms, &padded(&src[..most]), most, codes, lanes, dst)
+}
+
+/// Returns whether many of the first 64 bytes are past ASCII, or of the first 16 if there are fewer than 64.
+/// Returns false if there are fewer than 16 bytes, or if the 64 have forms of one byte past ASCII.
+#[inline(always)]
+fn begins_many<F: LaneForms>(src: &[u8]) -> bool {
+    if src.len() >= 64 {
+        let block = u8x64::from_slice(src);
+        return past_ascii(block).count_ones() > 24 && !F::has_singles(block);
+    }
+    if src.len() < 16 {
+        return false;
+    }
+    let past = u8x16::from_slice(src).simd_ge(u8x16::splat(0x80));
+    past.to_bitmask().count_ones() > 6
+}
+
+/// Reads blocks with many bytes past ASCII from the front, and returns the number of bytes read, which may be 0.
 #[inline(always)]
 fn read_lanes<F: LaneForms, T: Destination>(forms: &F, src: &[u8], dst: &mut T) -> usize
     requires { HasAscii (F.state forms.now).grammar }
     ensures { ReadsAhead T.Destination (new_state (F.state forms.now).grammar) src.now result dst.old dst.new }
 {
-    if !begins_many(src) {
+    if !begins_many::<F>(src) {
         return 0;
     }
-    let mut codes = [0u16; 72];
-    let mut kept = [0u16; 64];
-    let mut places = [0u16; 64];
+    let mut codes = [0; 72];
+    let mut lanes = Lanes {
+        kept: [0; 64],
+        places: [0; 64],
+    };
     let mut at = 0;
-    while src.len() - at >= 72 && dst.free() >= 203 {
-        let block = &src[at..];
-        let past = past_ascii(u8x64::from_slice(block));
-        if past.count_ones() < MANY {
-            return at;
-        }
-        let (read, is_whole) = read_many(
-            forms,
-            block,
-            past,
-            &mut codes,
-            &mut kept,
-            &mut places,
-            dst,
-        );
+    loop {
+        let (read, is_whole) = read_front(forms, &src[at..], &mut codes, &mut lanes, dst);
         at += read;
-        if !is_whole {
+        if read == 0 || !is_whole {
             return at;
         }
     }
-    at
 }
 
-/// The common forms of a decoder whose pairs are looked up eight at a time where many stand together.
+/// The common forms of a decoder whose pairs are looked up eight at a time if many follow one another.
 #[derive(Drop)]
-struct LaneBlocks<'a, F: LaneForms> {
-    forms: &'a F,
+pub struct LaneBlocks<'a, F: LaneForms> {
+    pub forms: &'a F,
 }
 
 impl<F: LaneForms> Blocks for LaneBlocks<'_, F> {
@@ -256,7 +392,7 @@ impl<F: LaneForms> Blocks for LaneBlocks<'_, F> {
 
     ghost ready = { λ blocks. HasAscii (F.state blocks.forms.now).grammar };
 
-    // Behind a fault often comes the next one: for a single byte that is rare no block is begun.
+    // Malformed sequences often follow one another. No block is begun at a rare byte.
     #[inline(always)]
     fn read_block<T: Destination>(&self, src: &[u8], dst: &mut T) -> (usize, bool) {
         if begins_rare(self.forms, src) {
@@ -269,19 +405,19 @@ impl<F: LaneForms> Blocks for LaneBlocks<'_, F> {
     }
 }
 
-/// Reads common forms from the front of the next 64 bytes one by one. Returns how many bytes were read: none is an answer
-/// too.
+/// Reads common forms from the front of the next 256 bytes one by one.
+/// Returns the number of bytes read, which may be 0.
 #[inline(always)]
 fn read_few<F: LaneForms, T: Destination>(forms: &F, src: &[u8], dst: &mut T) -> usize
     requires { HasAscii (F.state forms.now).grammar }
     ensures { ReadsAhead T.Destination (new_state (F.state forms.now).grammar) src.now result dst.old dst.new }
 {
-    let part = src.len().min(64);
+    let part = src.len().min(256);
     read_run(&CommonBlocks { decoder: forms }, &src[..part], dst)
 }
 
-/// Reads common forms and ASCII from the front of `src` and writes their scalars to `dst`, where nothing is held back and
-/// as far as three code units more than they need are free. Returns how many bytes were read: none is an answer too.
+/// Reads common forms and ASCII from the front of `src`, and writes their scalars to `dst`.
+/// Returns the number of bytes read, which is 0 if bytes are held back. If it reads any, three code units stay free.
 #[inline(always)]
 pub fn read_lane_forms<F: LaneForms, T: Destination>(forms: &F, src: &[u8], dst: &mut T) -> usize
     ensures { ReadsAhead T.Destination (F.state forms.now) src.now result dst.old dst.new }

@@ -14,21 +14,20 @@ ghost use Rattle.legacy_decoder_engine.specs.Ahead.{IsCommonForm, ReadsAhead};
 ghost use Rattle.legacy_decoder_engine.specs.Feeding.{Took};
 ghost use Rattle.legacy_decoder_engine.specs.LeadCodecs.{IsLeadCodec, held_bytes, lead_state};
 
-use crate::common_forms::{
-    CommonBlocks, CommonForm, CommonForms, begins_rare, read_common_forms, stands_alone,
-};
+use crate::common_forms::{CommonBlocks, CommonForm, CommonForms, begins_rare, stands_alone};
 use crate::drive::{count_lone, drive_decoder};
 use crate::moves::{DecoderMoves, Fed, Move, Room};
-use crate::runs::read_one;
+use crate::runs::{read_ascii, read_one};
 use legacy_base::{DecoderResult, Destination, RawDecoder, Tables};
 use legacy_tables::{DecoderTables, FlatTables};
+use std::marker::PhantomData;
 
-/// A codec whose forms have one byte, or a lead and a trail: all that its decoder does not share.
+/// A codec whose forms have one byte, or a lead and a trail: the parts that it does not share with the others.
 pub trait LeadCodec {
-    /// A byte that begins a form of two and is held back.
+    /// A byte that begins a form of two bytes and is held back.
     type Lead: Copy;
 
-    /// The grammar, by the flat indexes.
+    /// The grammar, given the flat indexes.
     ghost grammar: { FlatIndexes → Grammar };
 
     /// Which bytes are leads.
@@ -47,36 +46,36 @@ pub trait LeadCodec {
     fn read_first(byte: u8) -> (Fed, Option<Self::Lead>)
         ensures { Took (first byte) [] byte result.0 (held_bytes byte_of result.1) };
 
-    /// Reads the byte behind a lead.
+    /// Reads the byte after a lead.
     fn read_pair(tables: &Tables<'_>, lead: Self::Lead, trail: u8) -> Fed
         ensures { Took (trail_step 1 (scalars tables.now.flat (byte_of lead) trail) trail)
             (byte_of lead ∷ []) trail result [] };
 
-    /// What stands at the front of the input, by a byte past ASCII and the byte behind it.
-    fn front<V: DecoderTables>(tables: &V, lead: u8, trail: u8) -> CommonForm
+    /// Returns what is at the front of the input over flat tables, given a byte past ASCII and the byte after it.
+    fn front(tables: &FlatTables<'_>, lead: u8, trail: u8) -> CommonForm
         requires { 0x80 ≤ lead }
-        ensures { IsCommonForm (grammar (V.indexes tables.now).flat) lead trail result };
+        ensures { IsCommonForm (grammar tables.now.flat) lead trail result };
 
-    /// The room of every act but reading ASCII with nothing held back.
+    /// Returns the room of every act except reading ASCII with nothing held back.
     fn room() -> Room
         ensures reads { (form : EncodingForm) (flat : FlatIndexes) →
             room_units form result ≡ full_room_in form (grammar flat) }
         ensures writes { (form : EncodingForm) (flat : FlatIndexes) →
             room_units form result ≡ release_room_in form (grammar flat) };
 
-    /// `max_utf16_buffer_length`, where so many bytes are held back.
+    /// Returns `max_utf16_buffer_length` if `held` bytes are held back.
     fn utf16_length(byte_length: usize, held: usize) -> Option<usize>
         ensures { (flat : FlatIndexes) (units : Formula) →
             result ≡ answer (utf16_formula (grammar flat) (number byte_length)
             (number byte_length ⊕ number held) units) };
 
-    /// `max_utf8_buffer_length_without_replacement`, where so many bytes are held back.
+    /// Returns `max_utf8_buffer_length_without_replacement` if `held` bytes are held back.
     fn utf8_length_without_replacement(byte_length: usize, held: usize) -> Option<usize>
         ensures { (flat : FlatIndexes) (units : Formula) →
             result ≡ answer (utf8_without_replacement_formula (grammar flat) (number byte_length)
             (number byte_length ⊕ number held) units) };
 
-    /// `max_utf8_buffer_length`, where so many bytes are held back.
+    /// Returns `max_utf8_buffer_length` if `held` bytes are held back.
     fn utf8_length(byte_length: usize, held: usize) -> Option<usize>
         ensures { (flat : FlatIndexes) (units : Formula) →
             result ≡ answer (utf8_formula (grammar flat) (number byte_length)
@@ -87,17 +86,17 @@ pub trait LeadCodec {
     ghost leads: { (lead : Self.Lead) → is_lead (byte_of lead) ≡ true };
 }
 
-/// How the decoder of such a codec reads ahead over flat tables.
+/// A codec whose decoder reads ahead over flat tables.
 pub trait LeadRuns: LeadCodec {
-    /// Reads common forms and ASCII from the front of `src`, where nothing is held back, and writes their scalars to
-    /// `dst`, as far as three code units more than they need are free. Answers how many bytes were read: none is an answer
-    /// too.
+    /// Reads common forms and ASCII from the front of `src`, and writes their scalars to `dst`.
+    /// Nothing is held back before it. Returns the number of bytes read, which may be 0.
+    /// If it reads any, three code units stay free.
     fn read_flat<T: Destination>(tables: &FlatTables<'_>, src: &[u8], dst: &mut T) -> usize
         ensures { ReadsAhead T.Destination (new_state (Self.grammar tables.now.flat)) src.now result
             dst.old dst.new };
 }
 
-/// Whether the byte is malformed by itself where a form begins.
+/// Returns true only if the byte is malformed by itself at the beginning of a form.
 #[inline(always)]
 fn is_fault<C: LeadCodec>(byte: u8) -> bool
     ensures { result ≡ true → C.first byte ≡ finish (malformed 1) }
@@ -112,7 +111,7 @@ fn is_fault<C: LeadCodec>(byte: u8) -> bool
     )
 }
 
-/// The decoder of such a codec. It holds back a lead, or nothing.
+/// The decoder of a `LeadCodec`. It holds back a lead, or nothing.
 #[derive(Drop)]
 pub struct LeadDecoder<'a, C: LeadCodec> {
     tables: &'a Tables<'a>,
@@ -120,7 +119,7 @@ pub struct LeadDecoder<'a, C: LeadCodec> {
 }
 
 impl<'a, C: LeadCodec> LeadDecoder<'a, C> {
-    /// A decoder before its first byte, which reads by the codec's index of the tables.
+    /// Returns a decoder before its first byte, which uses the codec's index of the tables.
     pub fn new(tables: &'a Tables<'a>) -> LeadDecoder<'a, C>
         ensures { lead_state C.grammar C.byte_of result.tables.now result.held ≡ new_state
             (C.grammar tables.now.flat) }
@@ -128,7 +127,7 @@ impl<'a, C: LeadCodec> LeadDecoder<'a, C> {
         LeadDecoder { tables, held: None }
     }
 
-    /// Whether no lead is held back.
+    /// Returns whether no lead is held back.
     pub fn in_neutral_state(&self) -> bool
         ensures { result ≡ is_neutral
             (lead_state C.grammar C.byte_of self.now.tables.now self.now.held) }
@@ -136,7 +135,7 @@ impl<'a, C: LeadCodec> LeadDecoder<'a, C> {
         self.held.is_none()
     }
 
-    /// How many bytes are held back.
+    /// Returns the number of held-back bytes.
     #[inline]
     fn held_count(&self) -> usize
         ensures { result ≡ length (held_bytes C.byte_of self.now.held) }
@@ -206,63 +205,71 @@ impl<'a, C: LeadRuns> DecoderMoves for LeadDecoder<'a, C> {
         }
     }
 
+    // Over packed tables only ASCII is read ahead.
     #[inline(always)]
     fn read_ahead<T: Destination>(&self, src: &[u8], dst: &mut T) -> usize {
+        if self.held.is_some() {
+            return 0;
+        }
         match self.tables.flat() {
-            Some(tables) => {
-                if self.held.is_some() {
-                    return 0;
-                }
-                C::read_flat(tables, src, dst)
-            }
-            None => {
-                read_common_forms(
-                    &LeadForms::<C, Tables<'a>>::new(self.tables, self.held),
-                    src,
-                    dst,
-                )
-            }
+            Some(tables) => read_lead_forms::<C, T>(tables, src, dst),
+            None => read_ascii(src, dst),
         }
     }
 
-    // Behind a fault often comes the next one, or a single form and then the next one: neither is a call.
     #[inline(always)]
     fn read_runs<T: Destination>(&mut self, src: &[u8], dst: &mut T) -> usize {
-        let forms = LeadForms::<C, Tables<'a>>::new(self.tables, self.held);
-        if begins_rare(&forms, src) {
-            return 0;
-        }
-        if stands_alone(&forms, src) {
-            return read_one(&CommonBlocks { decoder: &forms }, src, dst);
-        }
         self.read_ahead(src, dst)
     }
 }
 
-/// The common forms of such a codec, by its tables as they are kept, where so much is held back.
-#[derive(Drop)]
-pub struct LeadForms<'a, C: LeadCodec, V: DecoderTables> {
-    pub(crate) tables: &'a V,
-    held: Option<C::Lead>,
+/// Reads as `read_flat` does, but nothing at a rare byte, and only one form if a rare byte follows it.
+// Malformed sequences often follow one another, or have a single form between them. Neither case costs a call.
+#[inline(always)]
+fn read_lead_forms<C: LeadRuns, T: Destination>(
+    tables: &FlatTables<'_>,
+    src: &[u8],
+    dst: &mut T,
+) -> usize
+    ensures { ReadsAhead T.Destination (new_state (C.grammar tables.now.flat)) src.now result
+        dst.old dst.new }
+{
+    let forms = LeadForms::<C>::new(tables);
+    if begins_rare(&forms, src) {
+        return 0;
+    }
+    if stands_alone(&forms, src) {
+        return read_one(&CommonBlocks { decoder: &forms }, src, dst);
+    }
+    C::read_flat(tables, src, dst)
 }
 
-impl<'a, C: LeadCodec, V: DecoderTables> LeadForms<'a, C, V> {
-    /// The common forms by these tables, where so much is held back.
+/// The common forms of a `LeadCodec` over flat tables, with nothing held back.
+#[derive(Drop)]
+pub struct LeadForms<'a, 'b, C: LeadCodec> {
+    pub(crate) tables: &'a FlatTables<'b>,
+    codec: PhantomData<C>,
+}
+
+impl<'a, 'b, C: LeadCodec> LeadForms<'a, 'b, C> {
+    /// Returns the common forms over these tables.
     #[inline]
-    pub fn new(tables: &'a V, held: Option<C::Lead>) -> LeadForms<'a, C, V>
-        ensures { lead_state C.grammar C.byte_of (V.indexes result.tables.now) result.held
-            ≡ lead_state C.grammar C.byte_of (V.indexes tables.now) held }
+    pub fn new(tables: &'a FlatTables<'b>) -> LeadForms<'a, 'b, C>
+        ensures { result.tables.now ≡ tables.now }
     {
-        LeadForms { tables, held }
+        LeadForms {
+            tables,
+            codec: PhantomData,
+        }
     }
 }
 
-impl<'a, C: LeadCodec, V: DecoderTables> CommonForms for LeadForms<'a, C, V> {
-    ghost state = { λ f. lead_state C.grammar C.byte_of (V.indexes f.tables.now) f.held };
+impl<C: LeadCodec> CommonForms for LeadForms<'_, '_, C> {
+    ghost state = { λ f. new_state (C.grammar f.tables.now.flat) };
 
     #[inline]
     fn is_idle(&self) -> bool {
-        matches!(self.held, None)
+        true
     }
 
     #[inline(always)]

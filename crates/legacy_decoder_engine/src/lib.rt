@@ -1,6 +1,6 @@
-//! What all decoders of the legacy encodings share: the small moves that a decoder is made of, the one
-//! loop that makes calls of them, the loops that read runs of common forms ahead of it, and the one decoder
-//! of the codecs whose forms have a lead and a trail.
+//! The shared parts of all legacy decoders: the small moves of a decoder, the one loop that makes calls of them, the
+//! loops that read runs of common forms ahead of it, and the one decoder of the codecs whose forms have a lead and a
+//! trail.
 #![tactic(auto)]
 
 pub mod common_forms;
@@ -16,5 +16,6 @@ pub mod places;
 pub mod plain;
 pub mod rows;
 pub mod runs;
+pub mod split_rows;
 pub mod trail;
 pub mod two_byte;

@@ -1,7 +1,6 @@
-//! Which bytes of sixteen are picked, by which of the first eight begin a form.
+//! The bytes that are picked of sixteen, given which of the first eight begin a form.
 
-/// For each set of places the byte at each of them and the byte behind it, in order, and behind them places that say
-/// nothing.
+/// For each set of places, each of them and the place after it, in order, and then places without meaning.
 #[rattlefmt::skip]
 pub static PICKED: [[u8; 16]; 256] = [
     [0, 1, 0, 1, 0, 1, 0, 1, 0, 1, 0, 1, 0, 1, 0, 1],

@@ -1,5 +1,5 @@
 //! The forms of a block of bytes, picked out by shuffles: where they start, and the code of each.
-// Inlined always is what runs for each vector: a call would pass the vectors through memory.
+// The functions that run for each vector are always inlined: a call would pass the vectors through memory.
 ghost use Rattle.std.specs.Prelude.{◌≡◌, ℕ, ◌+◌, ◌*◌, ◌<◌, ◌≤◌, ◌++◌, List, IfSome, length, map, take};
 ghost use Rattle.std.specs.List.{range_with_len};
 ghost use Rattle.legacy_decoder_engine.specs.PickedForms.{places, code_at, forms_of, ArePast, AreStarts, IsFront};
@@ -22,8 +22,8 @@ pub fn past_ascii(block: u8x64) -> u64
 }
 
 /// Returns the bits of the bytes at which forms start, if each byte past ASCII that starts one is the first of two.
-// In a run of bytes past ASCII every second one starts a form: one subtraction carries through all runs at once and tells
-// the parity of each. Whether the bits are right is asked of them themselves, so nothing has to be known of carries.
+// In a run of bytes past ASCII every second one starts a form: one subtraction carries through all runs at once, and
+// gives the parity of each. The bits are checked after it, so the proof needs no facts about carries.
 #[inline(always)]
 fn form_starts(past: u64) -> Option<u64>
     ensures { IfSome result (λ starts. AreStarts past starts) }
@@ -45,8 +45,8 @@ fn row_of(rows: &[[u8; 16]; 256], starts: u8) -> u8x16
     u8x16::from_array(rows[usize::from(starts)])
 }
 
-/// Returns the codes of two bytes, the first one low, at those of the first eight places that are starts, and behind them
-/// codes that say nothing.
+/// Returns the codes of two bytes, the first one low, at those of the first eight places that are starts.
+/// Codes without meaning fill the rest of the eight.
 #[inline(always)]
 fn codes_at(bytes: u8x16, starts: u8) -> u16x8
     ensures long { length result ≡ 8 }
@@ -56,8 +56,8 @@ fn codes_at(bytes: u8x16, starts: u8) -> u16x8
     u16x8::from_le_bytes(bytes.swizzle_dyn(row))
 }
 
-/// Stores the codes of eight places of a block at a place of a list, with codes behind them that say nothing. Returns the
-/// place behind them.
+/// Stores the codes at those of eight places of a block that are starts, from place `at` of a list on.
+/// Codes without meaning fill the rest of the eight. Returns the place after the codes at starts.
 #[inline(always)]
 fn put_codes(block: &[u8], from: usize, starts: u8, codes: &mut [u16], at: usize) -> usize
     requires read { from + 16 ≤ length block.now }
@@ -70,7 +70,7 @@ fn put_codes(block: &[u8], from: usize, starts: u8, codes: &mut [u16], at: usize
     at + usize::from(starts).count_ones() as usize
 }
 
-/// Stores the codes at those of the first 64 places of a block that are starts. Returns how many.
+/// Stores the codes at those of the first 64 places of a block that are starts, and returns their number.
 #[inline(always)]
 fn pick(block: &[u8], starts: u64, codes: &mut [u16]) -> usize
     requires read { 72 ≤ length block.now }
@@ -89,7 +89,8 @@ fn pick(block: &[u8], starts: u64, codes: &mut [u16]) -> usize
     count
 }
 
-/// Stores the codes of the forms that start in a block of 64 bytes, by the bits of those past ASCII. Returns how many.
+/// Stores the codes of the forms that start in a block of 64 bytes, given the bits of the bytes past ASCII.
+/// Returns their number, which is 0 if the starts were not found.
 #[inline(always)]
 pub fn pick_forms(block: &[u8], past: u64, codes: &mut [u16]) -> usize
     requires read { 72 ≤ length block.now }

@@ -1,7 +1,7 @@
 //! Places of the two bytes of a pair in its index: the sum of the places is the pointer.
 //!
 //! A byte that is no lead or trail has a place past the end of every index. One test of the pointer
-//! therefore tests both bytes, and the range of the trail makes no branch.
+//! therefore tests both bytes, and the range of the trail needs no branch.
 ghost use Rattle.std.specs.Prelude.{◌≡◌, ℕ, ◌+◌};
 ghost use Rattle.legacy_decoder_engine.specs.Places.{IsTableOf};
 

@@ -1,5 +1,5 @@
-//! The plain codecs of leads and trails: ASCII bytes are themselves, a lead and a trail give the scalar of
-//! their pointer in one index, and there are no other forms.
+//! The plain codecs with leads and trails: ASCII bytes are themselves, a lead and a trail give the scalar of their
+//! pointer in one index, and there are no other forms.
 ghost use Rattle.std.specs.Prelude.{◌≡◌, ℕ, ◌<◌, ◌/◌, ◌%◌, map, [], Bool, true, Option, None, option_to_list, IfSome, if◌then◌else◌, ⊤};
 ghost use Rattle.std.specs.Char.{IsScalar};
 ghost use Rattle.legacy_tables.specs.declared.tables.IndexName.{IndexName};
@@ -11,7 +11,7 @@ ghost use Rattle.legacy_decoder_engine.specs.LeadMachines.{lead_first};
 ghost use Rattle.legacy_decoder_engine.specs.Places.{IsPointer};
 
 use crate::common_forms::CommonForm;
-use crate::lanes::{LaneForms, read_lane_forms};
+use crate::lanes::{LaneForms, narrow_entries, read_lane_forms};
 use crate::lead::{LeadCodec, LeadForms, LeadRuns};
 use crate::moves::{Fed, Room};
 use crate::two_byte::{read_first, read_trail};
@@ -21,7 +21,7 @@ use std::alloc::AllocError;
 use std::marker::PhantomData;
 use std::simd::prelude::*;
 
-/// A plain codec of leads and trails: all that it does not share with the others.
+/// A plain codec with leads and trails: the parts that it does not share with the others.
 pub trait PlainCodec {
     /// Which bytes are leads.
     ghost leads: { ℕ → Bool };
@@ -32,22 +32,22 @@ pub trait PlainCodec {
     /// The index.
     ghost INDEX: { IndexName };
 
-    /// The name of the index, one of pairs without a scalar past U+FFFF.
+    /// The name of the index, which has no scalar past U+FFFF.
     const INDEX: IndexName;
 
-    /// Whether the byte is a lead.
+    /// Returns whether the byte is a lead.
     fn is_lead(byte: u8) -> bool
         ensures { result ≡ leads byte };
 
-    /// The pointer of two bytes, or a number past the end of every index, 65535 or more, where they are no lead
-    /// and trail.
+    /// Returns the pointer of a lead and a trail.
+    /// For other bytes, returns a number past the end of every index, which is at least 65535.
     fn pointer(lead: u8, trail: u8) -> usize
         ensures { IsPointer (if leads lead then pointers lead trail else None) result };
 
-    /// The place of a code, its first byte low, in the index, or a number past its end.
+    /// The place in the index of a code, its first byte low, or a number past the end of the index.
     ghost place: { ℕ → ℕ };
 
-    /// The places of eight codes.
+    /// Returns the places of eight codes.
     fn places(codes: u16x8) -> u16x8
         ensures { result ≡ map place codes };
 
@@ -56,7 +56,7 @@ pub trait PlainCodec {
 
     ghost narrow: { is_narrow_index INDEX ≡ true };
 
-    // The lemma `plain_codec` (`proofs/PlainShown`) gives it, where leads are past ASCII.
+    // The lemma `plain_codec` (`proofs/PlainShown`) proves this if leads are past ASCII.
     ghost codec: { IsLeadCodec (λ flat. plain leads pointers (index_list flat INDEX)) leads
         (lead_first leads) (λ flat. pair_scalars pointers (index_list flat INDEX)) };
 }
@@ -81,7 +81,7 @@ impl<C: PlainCodec> Clone for PlainLead<C> {
 impl<C: PlainCodec> Copy for PlainLead<C> {}
 
 impl<C: PlainCodec> PlainLead<C> {
-    /// The byte as a lead, if it is one.
+    /// Returns the byte as a lead, or `None` if it is not one.
     #[inline]
     fn new(byte: u8) -> Option<PlainLead<C>>
         ensures { IsLeadOf C.leads (λ lead. lead.byte) byte result }
@@ -96,7 +96,7 @@ impl<C: PlainCodec> PlainLead<C> {
     }
 }
 
-/// The scalar of two bytes, if they are a lead and a trail and give one.
+/// Returns the scalar of two bytes, or `None` if they are not a lead and a trail or give none.
 #[inline]
 fn form_scalar<C: PlainCodec, V: DecoderTables>(tables: &V, lead: u8, trail: u8) -> Option<char>
     ensures value { option_to_list result ≡ (if C.leads lead
@@ -107,7 +107,7 @@ fn form_scalar<C: PlainCodec, V: DecoderTables>(tables: &V, lead: u8, trail: u8)
     tables.idx(C::INDEX, C::pointer(lead, trail))
 }
 
-/// The scalar of a lead and a trail, if they give one.
+/// Returns the scalar of a lead and a trail, or `None` if they give none.
 #[inline]
 fn pair_scalar<C: PlainCodec>(tables: &Tables<'_>, lead: PlainLead<C>, trail: u8) -> Option<char>
     ensures value { option_to_list result
@@ -117,14 +117,19 @@ fn pair_scalar<C: PlainCodec>(tables: &Tables<'_>, lead: PlainLead<C>, trail: u8
     form_scalar::<C, Tables<'_>>(tables, lead.byte, trail)
 }
 
-impl<'a, 'b, C: PlainCodec> LaneForms for LeadForms<'a, Plain<C>, FlatTables<'b>> {
+impl<C: PlainCodec> LaneForms for LeadForms<'_, '_, Plain<C>> {
     ghost entries = { λ forms. index_list forms.tables.now.flat C.INDEX };
 
     ghost pointer = { C.place };
 
     #[inline(always)]
-    fn index(&self) -> &[u16] {
-        self.tables.narrow(C::INDEX)
+    fn entry_count(&self) -> usize {
+        self.tables.narrow(C::INDEX).len()
+    }
+
+    #[inline(always)]
+    fn entries_at(&self, places: &[u16]) -> u16x8 {
+        narrow_entries(self.tables.narrow(C::INDEX), places)
     }
 
     #[inline(always)]
@@ -133,7 +138,7 @@ impl<'a, 'b, C: PlainCodec> LaneForms for LeadForms<'a, Plain<C>, FlatTables<'b>
     }
 }
 
-/// A plain codec as what its decoder asks for.
+/// A plain codec as a `LeadCodec`.
 pub struct Plain<C: PlainCodec> {
     codec: PhantomData<C>,
 }
@@ -166,8 +171,8 @@ impl<C: PlainCodec> LeadCodec for Plain<C> {
     }
 
     #[inline]
-    fn front<V: DecoderTables>(tables: &V, lead: u8, trail: u8) -> CommonForm {
-        match form_scalar::<C, V>(tables, lead, trail) {
+    fn front(tables: &FlatTables<'_>, lead: u8, trail: u8) -> CommonForm {
+        match form_scalar::<C, FlatTables<'_>>(tables, lead, trail) {
             Some(scalar) => CommonForm::Pair(scalar),
             None => CommonForm::Other,
         }
@@ -196,7 +201,6 @@ impl<C: PlainCodec> LeadCodec for Plain<C> {
 impl<C: PlainCodec> LeadRuns for Plain<C> {
     #[inline(always)]
     fn read_flat<T: Destination>(tables: &FlatTables<'_>, src: &[u8], dst: &mut T) -> usize {
-        let forms = LeadForms::<Plain<C>, FlatTables<'_>>::new(tables, None);
-        read_lane_forms(&forms, src, dst)
+        read_lane_forms(&LeadForms::<Plain<C>>::new(tables), src, dst)
     }
 }

@@ -1,12 +1,12 @@
-//! The pointers of eight codes by lanes, in an index whose rows are those of the leads.
-// Inlined always: a call would pass the vectors through memory.
+//! The pointers of eight codes by lanes, in an index with one row for each lead.
+// Always inlined: a call would pass the vectors through memory.
 ghost use Rattle.std.specs.Prelude.{◌≡◌, ◌+◌, ◌*◌, ◌<◌, map};
 ghost use Rattle.legacy_decoder_engine.specs.LaneRows.{row_place};
 
 use std::simd::prelude::*;
 
-/// Returns the pointers of eight codes, the lead low, where the leads follow the first one, so many of them, and the trails
-/// as well, and a row has so many entries; 65535 where the bytes are no lead and trail.
+/// Returns the pointers of eight codes, the lead low, in an index whose rows have `width` entries.
+/// Leads are `lead` to `lead + leads`, and trails are `trail` to `trail + trails`. Other codes have pointer 65535.
 #[inline(always)]
 pub fn row_pointers(
     codes: u16x8,

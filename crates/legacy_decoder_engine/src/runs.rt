@@ -1,6 +1,6 @@
-//! The two loops that read ahead of the machine: forms four at a time, and blocks one behind the other.
-// Inlined always is what runs for each form or block, and what leads from a decoder's call to it: a call would pass
-// vectors through memory, and put the destination's place there from form to form.
+//! The two loops that read ahead of the machine: forms four at a time, and blocks one after another.
+// The functions that run for each form or block are always inlined, and so are all between them and a decoder's call:
+// a call would pass vectors through memory, and would store the destination's place there for each form.
 ghost use Rattle.std.specs.Prelude.{◌≡◌, ℕ, ◌+◌, ◌*◌, ◌<◌, ◌≤◌, length, take, true};
 ghost use Rattle.legacy_base.specs.Grammar.{Grammar};
 ghost use Rattle.legacy_base.specs.States.{DecoderState, new_state};
@@ -8,31 +8,31 @@ ghost use Rattle.legacy_decoder_engine.specs.Ahead.{HasAscii, Writes, ReadsAhead
 
 use legacy_base::Destination;
 
-/// Forms that stand one behind the other, where nothing is held back between two of them.
+/// Forms that follow one another, with nothing held back between two of them.
 pub trait Forms {
     /// The grammar.
     ghost grammar: { Self → Grammar };
 
-    /// What a run asks of the grammar.
+    /// What a run requires of the grammar.
     ghost ready: { Self → Type 0 } = { λ _. Unit {0} };
 
-    /// The bytes of a form, at the most.
+    /// The largest number of bytes of a form.
     ghost most_bytes: { ℕ };
 
-    /// The code units of a form's scalar, at the most.
+    /// The largest number of code units of a form's scalar.
     ghost most_units: { ℕ };
 
-    /// The bytes of four forms, at the least: where fewer were read the run is at its end.
+    /// The smallest number of bytes of four forms. The run ends if fewer were read.
     const FOUR_AT_LEAST: usize;
 
-    /// How many forms surely stand in so many bytes and fit into so many code units.
+    /// Returns a number of forms that have at most `bytes` bytes and at most `units` code units.
     fn fitting(&self, bytes: usize, units: usize) -> usize
         ensures bytes { most_bytes * result ≤ bytes }
         ensures units { most_units * result ≤ units }
         ensures few { result ≤ units };
 
-    /// Reads at most so many forms, which surely fit, and stops at what is rare. Answers how many bytes
-    /// were read.
+    /// Reads at most `most` forms, up to a rare one, and returns the number of bytes read.
+    /// The input has bytes for `most` forms, and the output has room for them and three more code units.
     fn read_forms<T: Destination>(&self, src: &[u8], dst: &mut T, most: usize) -> usize
         requires ready { ready self.now }
         requires source { most_bytes * most ≤ length src.now }
@@ -43,10 +43,10 @@ pub trait Forms {
         ensures slack { T.room dst.old ≤ T.room dst.new + most_units * most };
 }
 
-/// Reads a run of forms from the front: as many as surely fit with three code units more, up to one that
-/// is rare. Answers how many bytes were read: none is an answer too.
-// Four at a time: of so many the compiler makes code without a loop, in which each place has its own
-// branches, and so its own history of them.
+/// Reads a run of forms from the front, up to a rare one, and returns the number of bytes read, which may be 0.
+/// If it reads any, three code units stay free.
+// Four at a time: the compiler unrolls a loop of that size, so each place has its own branches, and the processor
+// predicts each of them by its own history.
 #[inline(always)]
 pub fn read_run<F: Forms, T: Destination>(forms: &F, src: &[u8], dst: &mut T) -> usize
     requires { F.ready forms.now }
@@ -70,8 +70,8 @@ pub fn read_run<F: Forms, T: Destination>(forms: &F, src: &[u8], dst: &mut T) ->
     at + forms.read_forms(&src[at..], dst, turns % 4)
 }
 
-/// Reads the form at the front, if it is none that is rare, where it surely fits with three code units more.
-/// Answers how many bytes were read: none is an answer too.
+/// Reads the form at the front, and returns the number of bytes read.
+/// Returns 0 if the form is rare, if the input may be too short for it, or if three code units may not stay free.
 #[inline(always)]
 pub fn read_one<F: Forms, T: Destination>(forms: &F, src: &[u8], dst: &mut T) -> usize
     requires { F.ready forms.now }
@@ -85,17 +85,17 @@ pub fn read_one<F: Forms, T: Destination>(forms: &F, src: &[u8], dst: &mut T) ->
     forms.read_forms(src, dst, 1)
 }
 
-/// Blocks that stand one behind the other, where nothing is held back between two of them: so many bytes or
-/// forms that room is tested for once.
+/// Blocks that follow one another, with nothing held back between two of them.
+/// A block is a number of bytes or forms for which room is tested once.
 pub trait Blocks {
     /// The grammar.
     ghost grammar: { Self → Grammar };
 
-    /// What a block asks of the grammar.
+    /// What a block requires of the grammar.
     ghost ready: { Self → Type 0 } = { λ _. Unit {0} };
 
-    /// Reads the block at the front, or a part of it, or nothing. Answers how many bytes were read, and
-    /// whether another block may stand behind them.
+    /// Reads the block at the front, a part of it, or nothing.
+    /// Returns the number of bytes read, and whether another block may follow.
     fn read_block<T: Destination>(&self, src: &[u8], dst: &mut T) -> (usize, bool)
         requires { ready self.now }
         ensures ahead { ReadsAhead T.Destination (new_state (grammar self.now)) src.now result.0
@@ -103,8 +103,7 @@ pub trait Blocks {
         ensures goes_on { result.1 ≡ true → 0 < result.0 };
 }
 
-/// Reads blocks from the front, as long as another may stand behind. Answers how many bytes were read: none
-/// is an answer too.
+/// Reads blocks from the front while another may follow, and returns the number of bytes read, which may be 0.
 #[inline(always)]
 pub fn read_blocks<B: Blocks, T: Destination>(blocks: &B, src: &[u8], dst: &mut T) -> usize
     requires { B.ready blocks.now }
@@ -121,9 +120,9 @@ pub fn read_blocks<B: Blocks, T: Destination>(blocks: &B, src: &[u8], dst: &mut 
     }
 }
 
-/// Reads ASCII from the front by blocks, as much as leaves three code units free. Answers how many bytes
-/// were read: none is an answer too.
-// Behind a fault often stands no ASCII: no block is begun there.
+/// Reads ASCII from the front by blocks, and returns the number of bytes read, which may be 0.
+/// If it reads any, three code units stay free.
+// The byte after a malformed sequence is often past ASCII. No block is begun there.
 #[inline(always)]
 pub fn read_ascii<T: Destination>(src: &[u8], dst: &mut T) -> usize
     ensures read { result ≤ length src.now }

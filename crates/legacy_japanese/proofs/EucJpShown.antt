@@ -59,7 +59,7 @@ most [] b narrow = cond (is_ascii b) 1 narrow
 most (a ∷ held) b narrow = narrow
 
 module _ (jis0208 jis0212 : List ℕ) where
-  -- what is proved of each step
+  -- the facts that are proved of each step
   record Shows (held : List ℕ) (b : ℕ) (s : Step) : Type 0 where
     fits : Fits (euc_jp_front jis0208 jis0212) euc_jp_may_hold held b s
     settles : Settles (euc_jp jis0208 jis0212) held b s

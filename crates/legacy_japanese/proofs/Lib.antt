@@ -17,6 +17,7 @@ pub mod Iso2022JpWalk
 pub mod Iso2022JpPieces
 pub mod ShiftJisRuns
 pub mod ShiftJisPlaces
+pub mod ShiftJisLanes
 pub mod Jis0208Places
 pub mod AskedScalars
 pub mod ShiftJisWalk

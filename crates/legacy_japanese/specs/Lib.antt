@@ -12,6 +12,7 @@ pub mod Iso2022JpPairs
 pub mod Iso2022JpCached
 pub mod Jis0208Places
 pub mod ShiftJisCodes
+pub mod ShiftJisLanes
 pub mod ShiftJisMachine
 pub mod ShiftJisPlaces
 pub mod ShiftJisShown

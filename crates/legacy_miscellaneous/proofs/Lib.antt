@@ -1,4 +1,4 @@
--- How each decoder takes the steps of its machine, and each machine keeps to its grammar.
+-- Each decoder takes the steps of its machine, and each machine keeps to its grammar.
 pub mod ReplacementMeets
 pub mod ReplacementShown
 pub mod ReplacementSteps

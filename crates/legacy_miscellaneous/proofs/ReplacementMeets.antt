@@ -1,4 +1,4 @@
--- The machine of the replacement decoder does what its grammar says.
+-- The machine of the replacement decoder keeps to its grammar.
 use Rattle.std.proofs.Common.{◌≡◌, ℕ, List, [], ◌∷◌, Bool, true, false, cond, refl, arith}
 use Rattle.std.proofs.lemmas.Bool.{false≢true}
 use Rattle.legacy_base.specs.Fronts.{reads, malformed}

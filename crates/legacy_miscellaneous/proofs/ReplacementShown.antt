@@ -1,4 +1,4 @@
--- What is shown of the replacement decoder.
+-- The steps of the replacement decoder agree with its grammar.
 use Rattle.std.proofs.Common.{◌≡◌, ◌≤◌, ◌+◌, ℕ, List, [], ◌∷◌, length, Bool, true, false, refl, ◌⊎◌, inl, inr, arith}
 use Rattle.std.proofs.lemmas.Bool.{false≢true}
 use Rattle.legacy_base.specs.Grammar.{replacement}

@@ -1,4 +1,4 @@
--- The machine of the x-user-defined decoder does what its grammar says.
+-- The machine of the x-user-defined decoder keeps to its grammar.
 use Rattle.std.proofs.Common.{◌≡◌, ℕ, List, [], ◌∷◌, true, refl, arith}
 use Rattle.std.proofs.lemmas.Bool.{false≢true}
 use Rattle.std.specs.Char.{is_ascii}

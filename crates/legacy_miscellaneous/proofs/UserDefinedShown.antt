@@ -1,4 +1,4 @@
--- What is shown of x-user-defined.
+-- The steps of x-user-defined agree with its grammar.
 use Rattle.std.proofs.Common.{◌≡◌, ℕ, ◌+◌, ◌-◌, ◌<◌, ◌≤◌, List, [], ◌∷◌, true, refl, inl, ◌&&◌, arith}
 use Rattle.std.proofs.lemmas.Bool.{false≢true, ltb-true}
 use Rattle.std.specs.Char.{is_ascii}

@@ -1,4 +1,4 @@
--- What a UTF-16 decoder holds back is what its machine allows.
+-- The UTF-16 decoders hold back only what their machine may hold back.
 use Rattle.std.proofs.Common.{◌≡◌, ◌≢◌, ℕ, ◌<◌, List, [], ◌∷◌, length, Bool, true, false, refl, arith, Some}
 use Rattle.std.proofs.lemmas.Bool.Decides.{nat_tests}
 use Rattle.std.proofs.lemmas.List.Elements.{All-nil, All-cons}
@@ -81,7 +81,7 @@ module _ (be : Bool) where
   pub reports : (h : Held) → rests (utf16 be) (held_bytes be h) ≡ true → held_bytes be h ≢ [] → Reports (state_of (utf16 be) (held_bytes be h)) (state_of (utf16 be) []) (length (held_bytes be h)) 0
   reports h r some = moves.reports_all (utf16_shown be) (held_bytes be h) (may h) (bytes h) r some
 
-  -- there is something to report exactly if something is held back
+  -- there is something to report exactly if bytes are held back
   pub ends_none : events_of (utf16 be) [] ≡ []
   ends_none = moves.ends_none (utf16_shown be) [] refl (All-nil IsByte) refl refl
 

@@ -1,4 +1,4 @@
--- The machine of UTF-16 does what its grammar says.
+-- The machine of UTF-16 keeps to its grammar.
 use Rattle.std.proofs.Common.{◌≡◌, ℕ, ◌≤◌, ◌<◌, List, [], ◌∷◌, length, Bool, true, false, cond, Some, None, refl, ◌∙◌, ◌||◌, ◌&&◌, arith}
 use Rattle.std.proofs.lemmas.Bool.{false≢true, not-true, not_from_false, and_left, or_left}
 use Rattle.std.proofs.lemmas.Bool.Decides.{nat_tests}

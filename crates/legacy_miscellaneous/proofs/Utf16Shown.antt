@@ -1,4 +1,4 @@
--- What is shown of UTF-16.
+-- The steps of UTF-16 agree with its grammar.
 use Rattle.std.proofs.Common.{◌≡◌, ℕ, ◌+◌, ◌*◌, ◌<◌, ◌≤◌, List, [], ◌∷◌, length, get_or, Bool, true, false, cond, Some, None, refl, inl, arith}
 use Rattle.std.proofs.lemmas.Bool.{false≢true}
 use Rattle.std.specs.Char.Utf16.{is_high_surrogate, is_low_surrogate, surrogate_pair_char}
@@ -22,7 +22,7 @@ use Rattle.legacy_decoder_engine.proofs.SettledSteps.{write_test}
 use Rattle.legacy_decoder_engine.proofs.Widths.{width_of}
 use Rattle.legacy_decoder_engine.proofs.RoomMoves.{no_short_room, cond_most}
 
--- What a step writes: at most `narrow` for each two bytes by which input and held-back bytes become fewer.
+-- A step writes at most `narrow` code units for each two bytes by which the input and the held-back bytes decrease.
 record Halved (len : ℕ → ℕ) (narrow wide : ℕ) (held : List ℕ) (b : ℕ) (s : Step) : Type 0 where
   pairs : ℕ
   fits : step_units len narrow s ≤ wide

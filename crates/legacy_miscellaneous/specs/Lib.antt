@@ -1,4 +1,4 @@
--- How the codecs work inside. Nothing here has to be believed: legacy_base says what they promise.
+-- The internal definitions of the codecs. The promises of the codecs are in legacy_base and do not depend on these.
 pub mod ReplacementDecoder
 pub mod ReplacementMachine
 pub mod UserDefinedCodes

@@ -1,4 +1,4 @@
--- What is shown of the codes of x-user-defined.
+-- The bytes of the codes of x-user-defined.
 use Rattle.std.proofs.Common.{ℕ, ◌≤◌, refl, arith}
 use Rattle.std.proofs.lemmas.Bool.{lt-ltb}
 use Rattle.std.specs.Int.{is_in_range}

@@ -1,8 +1,8 @@
--- The state of the x-user-defined decoder between two calls: it holds nothing back.
+-- The state of the x-user-defined decoder between two calls, with nothing held back.
 use Rattle.legacy_base.specs.Grammar.{user_defined}
 use Rattle.legacy_base.specs.States.{DecoderState, new_state}
 use Rattle.legacy_miscellaneous.specs.declared.user_defined.decoder.UserDefinedDecoder.{UserDefinedDecoder}
 
--- the state in the contracts of its calls
+-- the state that the laws of its calls use
 abbrev pub user_defined_state : UserDefinedDecoder → DecoderState
 user_defined_state decoder = new_state user_defined

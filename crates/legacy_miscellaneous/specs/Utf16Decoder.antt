@@ -23,7 +23,7 @@ held_bytes big_endian (High high) = first_byte big_endian high.unit ∷ second_b
 held_bytes big_endian (HighOdd high odd) = first_byte big_endian high.unit ∷ second_byte big_endian high.unit ∷ odd.byte ∷ []
 held_bytes big_endian (Pending pending) = first_byte big_endian pending.scalar ∷ second_byte big_endian pending.scalar ∷ []
 
--- the state in the contracts of its calls
+-- the state that the laws of its calls use
 abbrev pub utf16_state : Utf16Decoder → DecoderState
 utf16_state decoder = record { grammar = utf16 decoder.big_endian; held = held_bytes decoder.big_endian decoder.held }
 

@@ -1,4 +1,4 @@
--- UTF-16 as fronts of a list of bytes. `utf16_events` goes by units, and both give the same events.
+-- UTF-16 as fronts of a list of bytes. They give the same events as `utf16_events`, which reads units.
 use Rattle.std.specs.Prelude.{ℕ, List, [], ◌∷◌, Bool, ◌&&◌, ◌||◌, if◌then◌else◌}
 use Rattle.std.specs.Char.Utf16.{is_high_surrogate, is_low_surrogate, surrogate_pair_char}
 use Rattle.legacy_base.specs.Fronts.{Front, reads, malformed}

@@ -20,7 +20,8 @@ less a b h = omega arith
 -- ---- the first item of a list that passes a test
 
 module _ {A : Type 0} (test : A → Bool) (d : A) where
-  pub find-at : (xs : List A) (n : ℕ) → n < length xs → test (get_or xs n d) ≡ true → ((k : ℕ) → k < n → test (get_or xs k d) ≡ false) → find test xs ≡ Some (get_or xs n d)
+  pub find-at : (xs : List A) (n : ℕ) → n < length xs → test (get_or xs n d) ≡ true → ((k : ℕ) → k < n → test (get_or xs k d) ≡ false) →
+      find test xs ≡ Some (get_or xs n d)
   find-at [] n h is before = absurd (omega arith)
   find-at (x ∷ xs) zero h is before = let here : test x ≡ true = is in rw here refl
   find-at (x ∷ xs) (suc n) h is before =

@@ -57,7 +57,8 @@ module _ (c : ℕ) where
   -- no row has a scalar outside of private use
   pub row-outside : (rows : List (ℕ × ℕ × ℕ)) → rows_fault 0 None rows ≡ None → is_in_range 0xE000 0xF8FF c ≡ false → None ≡ gb18030_pua_of rows c
   row-outside rows none outside =
-      rw (find-absent (λ r. r.0 == c) (0, 0, 0) rows (λ k h. ne_eqb _ c (λ e. true≢false (sym (all_private 0 None rows none k h) ∙ ap (is_in_range 0xE000 0xF8FF) e ∙ outside)))) refl
+      rw (find-absent (λ r. r.0 == c) (0, 0, 0) rows (λ k h. ne_eqb _ c (λ e.
+      true≢false (sym (all_private 0 None rows none k h) ∙ ap (is_in_range 0xE000 0xF8FF) e ∙ outside)))) refl
 
   -- the first `count` rows have lower scalars
   module _ (rows : List (ℕ × ℕ × ℕ)) (count : ℕ) (below : (k : ℕ) → k < count → (get_or rows k (0, 0, 0)).0 < c) where
@@ -76,4 +77,5 @@ module _ (c : ℕ) where
             n (omega arith)
 
     pub row-found : count < length rows → (get_or rows count (0, 0, 0)).0 ≡ c → Some ((get_or rows count (0, 0, 0)).1, (get_or rows count (0, 0, 0)).2) ≡ gb18030_pua_of rows c
-    row-found h e = rw (find-at (λ r. r.0 == c) (0, 0, 0) rows count h (eq-eqb _ c e) (λ k m. ne_eqb _ c (λ same. let low = below k m in absurd (omega arith)))) refl
+    row-found h e =
+        rw (find-at (λ r. r.0 == c) (0, 0, 0) rows count h (eq-eqb _ c e) (λ k m. ne_eqb _ c (λ same. let low = below k m in absurd (omega arith)))) refl

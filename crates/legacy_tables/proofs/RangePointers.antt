@@ -1,4 +1,5 @@
--- Which pointer of four bytes has a scalar: ranges in order give each scalar of the Basic Multilingual Plane one pointer at the most.
+-- The pointer of four bytes that has a scalar. Ranges in order give each scalar of the Basic Multilingual Plane at most
+-- one pointer.
 use Rattle.std.proofs.Common.{◌≡◌, ◌≢◌, ◌∙◌, ℕ, zero, suc, ◌+◌, ◌-◌, ◌≤◌, ◌<◌, List, [], ◌∷◌, length, get_or, drop}
 use Rattle.std.proofs.Common.{drop-cons, refl, sym, ap, subst, arith, Some, None, Option, true, false, Bool, cond, nat_le, inl, inr, ◌==◌}
 use Rattle.std.proofs.lemmas.Bool.{cases_lt, ne_eqb}
@@ -29,7 +30,7 @@ none-ahead (r ∷ ranges) p e k h = go (last_range_scalar ranges p) (nat_le r.0 
     go None false q s z later zero h = leb-false r.0 p s
     go None false q s z later (suc k) h = later q k (omega arith)
 
--- the range of a place is the last that starts at or before p, and gives it the scalar c
+-- the range at a place is the last that starts at or before p, and gives it the scalar c
 record IsGiven (ranges : List (ℕ × ℕ)) (p c place : ℕ) : Type 0 where
   within : place < length ranges
   started : (get_or ranges place (0, 0)).0 ≤ p
@@ -60,10 +61,10 @@ given (r ∷ ranges) p c e = go (last_range_scalar ranges p) (nat_le r.0 p) refl
         first_ahead zero m h = absurd (omega arith)
         first_ahead (suc k) m h = none-ahead ranges p q k (omega arith)
 
--- ---- what `range` gives
+-- ---- the results of `range`
 
 module _ (ranges : List (ℕ × ℕ)) where
-  -- a scalar of the Basic Multilingual Plane but U+E7C7 is given by a range
+  -- if a pointer has a scalar of the Basic Multilingual Plane other than U+E7C7, a range gives it
   narrow_given : (p c : ℕ) → range ranges p ≡ Some c → c < 0x1_0000 → c ≢ 0xE7C7 → (p ≢ 7457) × (p ≤ 39419) × (last_range_scalar ranges p ≡ Some c)
   unfolding range
   narrow_given p c e h n = go (p == 7457) (is_in_range 189000 1237575 p) (nat_le p 39419) refl refl e
@@ -102,7 +103,7 @@ module _ (ranges : List (ℕ × ℕ)) where
       go false false true q s z = let narrow = (last_range-narrow 0 ranges valued p c (leb-true p 39419 s) z).1 in absurd (omega arith)
       go false false false q s z = cc
 
-  -- ---- what the look-up answers
+  -- ---- the results of the look-up
 
   pub wide-pointer : range_value_fault 0 ranges ≡ None → (c : ℕ) → 0x1_0000 ≤ c → c < 0x11_0000 → Some (189000 + (c - 0x1_0000)) ≡ range_pointer_of ranges c
   wide-pointer valued c l h =
@@ -129,7 +130,7 @@ module _ (ranges : List (ℕ × ℕ)) (ordered : range_order_fault 0 None ranges
       let up = rising 0 None ranges ordered (place + 1) k (0, 0) (omega arith) h in
       omega arith
 
-  -- what the range gives a pointer of its own
+  -- the scalar that the range gives one of its pointers
   pub record IsInRange (p : ℕ) : Type 0 where
     pub scalar : IsScalar ((get_or ranges place (0, 0)).1 + (p - (get_or ranges place (0, 0)).0))
     pub narrow : (get_or ranges place (0, 0)).1 + (p - (get_or ranges place (0, 0)).0) < 0x1_0000
@@ -154,7 +155,7 @@ module _ (ranges : List (ℕ × ℕ)) (ordered : range_order_fault 0 None ranges
       omega arith
 
 module _ (ranges : List (ℕ × ℕ)) (ordered : range_order_fault 0 None ranges ≡ None) (c : ℕ) (narrow : c < 0x1_0000) (free : c ≢ 0xE7C7) where
-  -- the scalar lies before all ranges
+  -- the scalar is before those of all ranges
   pub pointer-before : ((k : ℕ) → k < length ranges → c < (get_or ranges k (0, 0)).1) → None ≡ range_pointer_of ranges c
   pointer-before ahead = sym (range-none ranges c free (λ p e. refuted p (given ranges p c (narrow_given ranges p c e narrow free).2)))
     where
@@ -180,7 +181,7 @@ module _ (ranges : List (ℕ × ℕ)) (ordered : range_order_fault 0 None ranges
       ]
     ]
 
-    -- a pointer that has the scalar is this one, and lies before the next range
+    -- a pointer that has the scalar is this one, and is before the next range
     record IsOnly (q : ℕ) : Type 0 where
       is : q ≡ (get_or ranges place (0, 0)).0 + (c - (get_or ranges place (0, 0)).1)
       before : q < next_pointer (drop (place + 1) ranges)
@@ -203,7 +204,7 @@ module _ (ranges : List (ℕ × ℕ)) (ordered : range_order_fault 0 None ranges
           other = n.0;
         }
 
-    -- that pointer lies past the range, or is U+E7C7's
+    -- that pointer is past the range, or is that of U+E7C7
     pub pointer-past : (p : ℕ) → p ≡ (get_or ranges place (0, 0)).0 + (c - (get_or ranges place (0, 0)).1) → next_pointer (drop (place + 1) ranges) ≤ p → None ≡ range_pointer_of ranges c
     pointer-past p is past =
         sym (range-none ranges c free (λ q e. let o = only q e in let same = o.is in let before = o.before in absurd (omega arith)))

@@ -1,11 +1,11 @@
--- Pointers of four bytes in a row, as a range gives them scalars.
+-- Consecutive pointers of four bytes, with the scalars that a range gives them.
 use Rattle.std.specs.Prelude.{◌≡◌, ◌≢◌, ℕ, ◌+◌, ◌-◌, ◌≤◌, ◌<◌, List, Some}
 use Rattle.std.specs.Char.{IsScalar}
 use Rattle.legacy_tables.specs.declared.tables.ranges.RangePart.{RangePart}
 use Rattle.legacy_tables.specs.Indexes.{range}
 use Rattle.legacy_tables.specs.Pointers.{range_pointer_of}
 
--- all these pointers but 7457 have scalars in a row, and those scalars but U+E7C7 have these pointers
+-- these pointers except 7457 have consecutive scalars, and these scalars except U+E7C7 have these pointers
 pub record IsRangePart (ranges : List (ℕ × ℕ)) (part : RangePart) : Type 0 where
   pub reach : part.first + part.count ≤ 39420
   pub narrow : part.scalar + part.count ≤ 0x1_0000

@@ -1,5 +1,6 @@
-//! The indexes of the WHATWG Encoding Standard, as flat lists and packed, and tables that are made of them once
-//! they are checked: what a pointer stands for, and which pointer a scalar has.
+//! The indexes of the WHATWG Encoding Standard, flat or packed, and the tables made of checked indexes.
+//!
+//! Tables return the scalar value of a pointer, and the pointer of a scalar value.
 #![tactic(auto)]
 
 mod single_byte_table;

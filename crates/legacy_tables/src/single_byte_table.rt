@@ -10,8 +10,9 @@ use crate::tables::checks::is_narrow;
 use crate::tables::lookups::scalar_in;
 use std::marker::Model;
 
-/// The scalars of the bytes from 0x80 on, checked (Encoding Standard, "single-byte indexes"). It is
-/// seen as its 128 entries: place `p` belongs to byte 0x80 + `p`, and an entry 0 is no scalar.
+/// A checked table of the scalar values of the bytes from 0x80 on (Encoding Standard, "single-byte indexes").
+///
+/// Its value is its 128 entries. Entry `p` is the scalar value of byte 0x80 + `p`, or 0 if the byte has none.
 #[derive(Drop)]
 pub struct SingleByteTable {
     entries: [u16; 128],
@@ -33,21 +34,21 @@ impl Model for SingleByteTable {
     } };
 }
 
-/// Whether the entry is a scalar from U+0080 to U+FFFF, but not U+FFFD.
+/// Checks whether the entry is a scalar from U+0080 to U+FFFF, but not U+FFFD.
 fn is_allowed(entry: u16) -> bool
     ensures { result ≡ is_byte_entry entry }
 {
     entry != 0xFFFD && is_narrow(usize::from(entry))
 }
 
-/// Whether the entry is one of these.
+/// Checks whether the entry is one of the earlier ones.
 fn stands_among(earlier: &[u16], entry: u16) -> bool
     ensures { result ≡ list_any (λ e. e == entry) earlier.now }
 {
     earlier.iter().any(|e| *e == entry)
 }
 
-/// Checks the entry of a place, where these stand before it.
+/// Checks the entry at a place, given the entries before it.
 fn check_entry(place: usize, before: &[u16], entry: u16) -> Result<(), TableError>
     ensures { let found = byte_entry_fault place before.now entry in
         MatchResult result (λ _. found ≡ None) (λ fault. found ≡ Some fault) }
@@ -76,7 +77,7 @@ fn check_entries(entries: &[u16]) -> Result<(), TableError>
     Ok(())
 }
 
-/// The first place of an entry.
+/// Returns the first place of an entry.
 fn place_of(entries: &[u16], code: u32) -> Option<usize>
     ensures { result ≡ position (λ e. e == code) entries.now }
 {
@@ -84,9 +85,10 @@ fn place_of(entries: &[u16], code: u32) -> Option<usize>
 }
 
 impl SingleByteTable {
-    /// The table of 128 entries, or the first fault by rising places: an entry that is not 0 and
-    /// lies below 0x80, is a surrogate or is 0xFFFD; or one that is not 0 and stands at an earlier
-    /// place too. It takes no memory.
+    /// Returns the table of 128 entries, or the first fault by rising places.
+    ///
+    /// An entry that is not 0 is a fault if it is below 0x80, a surrogate or 0xFFFD, or if an earlier entry is
+    /// equal to it. No memory is allocated.
     pub fn new(entries: &[u16; 128]) -> Result<SingleByteTable, TableError>
         ensures { MatchResult result
             (λ table. table.entries ≡ entries.now)
@@ -96,7 +98,9 @@ impl SingleByteTable {
         Ok(SingleByteTable { entries: *entries })
     }
 
-    /// The scalar value of byte 0x80 + `place`, or `None` where it has none, and from place 128 on.
+    /// Returns the scalar value of byte 0x80 + `place`.
+    ///
+    /// Returns `None` if the byte has none, or if the place is at least 128.
     #[inline]
     #[tactic(auto, using(crate::proofs::AcceptedTable::accepted_table))]
     pub fn scalar(&self, place: usize) -> Option<char>
@@ -106,8 +110,9 @@ impl SingleByteTable {
         scalar_in(&entries, place)
     }
 
-    /// The place that holds the scalar value, or `None` where none does (Encoding Standard, "index
-    /// pointer"). At most one place does. No place holds U+0000.
+    /// Returns the only place of the scalar value, or `None` (Encoding Standard, "index pointer").
+    ///
+    /// U+0000 has no place.
     pub fn place(&self, c: char) -> Option<usize>
         ensures { (place : ℕ) → (result ≡ Some place) ↔ (idx self.now.entries place ≡ Some c) }
     {

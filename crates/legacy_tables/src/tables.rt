@@ -1,4 +1,4 @@
-//! Indexes, and tables that are made of them once they are checked.
+//! Indexes, and the tables made of checked indexes.
 ghost use Rattle.std.specs.Prelude.{◌≡◌, MatchResult, Some};
 
 pub(crate) mod checks;
@@ -52,7 +52,7 @@ pub enum IndexName {
     Ranges,
 }
 
-/// The index's word in messages.
+/// Writes the name of the index for messages.
 impl fmt::Display for IndexName {
     fn fmt<W: fmt::Write>(&self, f: &mut fmt::Formatter<W>) -> fmt::Result {
         f.write_str(match self {
@@ -67,13 +67,13 @@ impl fmt::Display for IndexName {
     }
 }
 
-/// Why indexes or a single-byte table are refused.
+/// The reason why indexes or a single-byte table are refused.
 #[derive(Debug, Drop, PartialEq, Eq, Error)]
 pub enum TableError {
     /// The index has more entries than pointers.
     #[error("index {0} is too long")]
     TooLong(IndexName),
-    /// The entry is not 0 and no scalar that the index may hold.
+    /// The entry is not 0, and is not a scalar that the index may contain.
     #[error("index {0} has a bad entry at {1}")]
     BadEntry(IndexName, usize),
     /// The entry is not 0, though the decoder does not look it up.
@@ -82,47 +82,53 @@ pub enum TableError {
     /// The katakana index has neither 0 nor 63 entries.
     #[error("index katakana must have 0 or 63 entries")]
     KatakanaLength,
-    /// The range at the place starts past the last pointer, or too low behind the range before.
+    /// The range at the place starts past the last pointer, or too low for the range before it.
     #[error("ranges are out of order at {0}")]
     RangeOrder(usize),
     /// The range at the place has a scalar below U+0080, past U+FFFF, or a surrogate.
     #[error("range {0} has a bad scalar")]
     RangeValue(usize),
-    /// The scalar of the private-use row at the place is not above the one of the row before.
+    /// The scalar of the private-use row at the place is not above that of the row before.
     #[error("private-use row {0} is out of order")]
     PuaOrder(usize),
-    /// The scalar of the private-use row at the place is none of U+E000 to U+F8FF, or is U+E5E5.
+    /// The scalar of the private-use row at the place is outside U+E000 to U+F8FF, or is U+E5E5.
     #[error("private-use row {0} has a bad scalar")]
     PuaScalar(usize),
-    /// The bytes of the private-use row at the place are no lead and trail of GB18030: the lead is
-    /// none of 81 to FE, or the trail none of 40 to 7E and 80 to FE.
+    /// The bytes of the private-use row at the place are no lead and trail of GB18030.
+    ///
+    /// The lead is outside 81 to FE, or the trail is outside 40 to 7E and 80 to FE.
     #[error("private-use row {0} has bad bytes")]
     PuaBytes(usize),
     /// The run or the pointer at the place of the packed part is not in order.
     #[error("packed {0} is out of order at {1}")]
     PackedOrder(PackedPart, usize),
-    /// The packed part gives the pointer another answer than the flat index does.
+    /// The packed part and the flat index give different results for the pointer.
     #[error("packed {0} differs at {1}")]
     PackedDiffers(PackedPart, usize),
-    /// The entry at the place is not 0 and no scalar that a single-byte table may hold.
+    /// The entry at the place is not 0, and is not a scalar that a single-byte table may contain.
     #[error("single-byte entry {0} is bad")]
     BadByteEntry(usize),
-    /// The entry at the place is not 0 and stands at an earlier place too.
+    /// The entry at the place is not 0, and is equal to an earlier entry.
     #[error("single-byte entry {0} is repeated")]
     Repeated(usize),
 }
 
-/// Flat indexes, not checked yet. In each of the first six, entry `p` is the scalar value of
-/// pointer `p`, and 0 where the pointer has none; pointers past the end have none either.
+/// Flat indexes, not checked yet.
+///
+/// In each of the first six, entry `p` is the scalar value of pointer `p`, or 0 if the pointer has none. Pointers past
+/// the end have none.
 #[derive(Clone, Copy)]
 pub struct Indexes<'a> {
-    /// Index Big5, of at most 19782 entries. Pointers 1133, 1135, 1164 and 1166 stay 0: the decoder
-    /// gives a letter and a combining mark for each.
+    /// Index Big5, of at most 19782 entries.
+    ///
+    /// The entries of pointers 1133, 1135, 1164 and 1166 must be 0, because the decoder returns a letter and a
+    /// combining mark for each.
     pub big5: &'a [u32],
     /// Index EUC-KR, of at most 23940 entries.
     pub euc_kr: &'a [u16],
-    /// Index jis0208, of at most 11280 entries. Pointers 8836 to 10715 stay 0: in Shift_JIS they
-    /// are U+E000 to U+E757.
+    /// Index jis0208, of at most 11280 entries.
+    ///
+    /// The entries of pointers 8836 to 10715 must be 0, because they are U+E000 to U+E757 in Shift_JIS.
     pub jis0208: &'a [u16],
     /// Index jis0212, of at most 8836 entries.
     pub jis0212: &'a [u16],
@@ -130,27 +136,31 @@ pub struct Indexes<'a> {
     pub gb18030: &'a [u16],
     /// Index ISO-2022-JP katakana, of 63 entries or none.
     pub katakana: &'a [u16],
-    /// Index gb18030 ranges, by rising pointers. `(p, s)` gives pointer `p` the scalar value `s`,
-    /// `p + 1` the scalar `s + 1`, and so on, up to the pointer before the next range's, or up to
-    /// 39419. The range from 189000 on is none of them: it is always there.
+    /// Index gb18030 ranges, by rising pointers.
+    ///
+    /// `(p, s)` gives pointer `p` the scalar value `s`, `p + 1` the scalar value `s + 1`, and so on, up to the
+    /// pointer before the next range, or up to 39419. The list omits the range from 189000 on, which tables always
+    /// have.
     pub ranges: &'a [(u16, u16)],
-    /// The private-use rows of GB18030's encoder, by rising scalars. `(s, lead, trail)` gives the
-    /// scalar value `s` these two bytes. `GB18030_2022_PUA` are the standard's. No decoder reads
-    /// them.
+    /// The private-use rows of GB18030's encoder, by rising scalars.
+    ///
+    /// `(s, lead, trail)` gives the scalar value `s` these two bytes. `GB18030_2022_PUA` has the Standard's rows. No
+    /// decoder reads them.
     pub gb18030_pua: &'a [(u16, u8, u8)],
 }
 
-/// Indexes that passed the check, by how they are kept.
+/// Indexes that passed the check, in either form.
 #[derive(Drop)]
 enum KeptTables<'a> {
-    /// As flat indexes.
+    /// Flat indexes.
     Flat(FlatTables<'a>),
-    /// As runs and orders.
+    /// Runs and orders.
     Packed(PackedTables<'a>),
 }
 
-/// Indexes that passed the check. They are seen as flat lists, whichever way they are kept: those
-/// that were handed in, or what the runs give.
+/// Indexes that passed the check.
+///
+/// In either form, their value is flat lists: those that the caller passed, or those that the runs give.
 #[derive(Drop)]
 pub struct Tables<'a> {
     kept: KeptTables<'a>,
@@ -179,11 +189,15 @@ impl<'a> Tables<'a> {
     ghost use Rattle.std.specs.Prelude.{◌<◌, length, true, MatchOption};
     ghost use Rattle.legacy_tables.specs.Packed.{packed_fault, ArePackedTables};
 
-    /// The tables of the indexes, or the first fault. The indexes are checked in the order of the
-    /// fields: the length first, then the entries by rising pointers; of the ranges the order
-    /// first; of the private-use rows, which come last, all of a row at once: its order, its
-    /// scalar, its bytes. Empty indexes are accepted. It takes no memory, and the slices stay
-    /// borrowed.
+    /// Returns the tables of the indexes, or the first fault.
+    ///
+    /// The indexes are checked in the order of the fields:
+    ///
+    /// - of each index, first the length, then the entries by rising pointers;
+    /// - of the ranges, first their order, then their scalars;
+    /// - of the private-use rows, one row after the other: its order, its scalar and its bytes.
+    ///
+    /// Empty indexes are accepted. No memory is allocated, and the slices stay borrowed.
     pub fn new(indexes: &Indexes<'a>) -> Result<Tables<'a>, TableError>
         ensures { MatchResult result
             (λ tables. tables.flat ≡ flat_indexes indexes.now)
@@ -195,10 +209,10 @@ impl<'a> Tables<'a> {
         })
     }
 
-    /// The tables of packed indexes that give what the flat indexes do, or the first fault. The
-    /// indexes are checked first, as `new` does it; then the ten parts of the packed ones in the
-    /// order of their fields, of each part the order first. It takes no memory, and all slices stay
-    /// borrowed.
+    /// Returns the tables of packed indexes that agree with the flat indexes, or the first fault.
+    ///
+    /// The flat indexes are checked first, as by `new`. Then the ten packed parts are checked in the order of their
+    /// fields, each first for its order. No memory is allocated, and all slices stay borrowed.
     pub fn packed_of(indexes: &Indexes<'a>, packed: &Packed<'a>) -> Result<Tables<'a>, TableError>
         ensures { MatchResult result
             (λ tables. ArePackedTables (flat_indexes indexes.now) packed.now tables.flat)
@@ -210,21 +224,24 @@ impl<'a> Tables<'a> {
         })
     }
 
-    /// Index Big5 as a flat index, which is written to the start of the room, or `None` exactly where
-    /// the room is shorter than the index. Tables that are made of flat indexes look a pointer up
+    /// Writes index Big5 as a flat index to the start of the room, and returns it.
+    ///
+    /// Returns `None` exactly if the room is shorter than the index. Tables made of flat indexes look pointers up
     /// without a search.
     pub fn unpack_big5<'b>(&self, room: &'b mut [u32]) -> Option<&'b [u32]>
         ensures { MatchOption result (length room.old < length self.now.flat.big5)
             (λ flat. flat.now ≡ self.now.flat.big5) }
     {
         match &self.kept {
-            KeptTables::Flat(tables) => unpack_wide(&tables.big5(), room),
+            KeptTables::Flat(tables) => unpack_wide(&tables.wide(), room),
             KeptTables::Packed(tables) => tables.unpack_big5(room),
         }
     }
 
-    /// The index of the name, `EucKr`, `Jis0208`, `Jis0212` or `Gb18030`, as a flat index, which is
-    /// written to the start of the room, or `None` exactly where the room is shorter than the index.
+    /// Writes the named index as a flat index to the start of the room, and returns it.
+    ///
+    /// The name is `EucKr`, `Jis0208`, `Jis0212` or `Gb18030`. Returns `None` exactly if the room is shorter than
+    /// the index.
     pub fn unpack<'b>(&self, name: IndexName, room: &'b mut [u16]) -> Option<&'b [u16]>
         requires { is_narrow_index name ≡ true }
         ensures { MatchOption result (length room.old < length (index_list self.now.flat name))
@@ -236,8 +253,9 @@ impl<'a> Tables<'a> {
         }
     }
 
-    /// The scalar value of the pointer in the index of the name, or `None` where it has none: where
-    /// the entry is 0, and past the index's end (Encoding Standard, "index code point"). `None` for
+    /// Returns the scalar value of a pointer in the named index (Encoding Standard, "index code point").
+    ///
+    /// Returns `None` if the entry is 0, or if the pointer is past the index's end. Always returns `None` for
     /// `Ranges`, whose pointers `range` looks up.
     #[inline]
     pub fn idx(&self, name: IndexName, pointer: usize) -> Option<char>
@@ -249,9 +267,10 @@ impl<'a> Tables<'a> {
         }
     }
 
-    /// The scalar value of a pointer of four bytes, or `None` where it has none (Encoding Standard,
-    /// "index gb18030 ranges code point"): 7457 gives U+E7C7, 189000 to 1237575 give U+10000 to
-    /// U+10FFFF, pointers up to 39419 go by the last range that starts at or before them.
+    /// Returns the scalar value of a pointer of four bytes, or `None` if it has none.
+    ///
+    /// 7457 gives U+E7C7, and 189000 to 1237575 give U+10000 to U+10FFFF. The other pointers up to 39419 use the
+    /// last range that starts at or before them (Encoding Standard, "index gb18030 ranges code point").
     pub fn range(&self, pointer: usize) -> Option<char>
         ensures { result ≡ range self.now.flat.ranges pointer }
     {
@@ -261,10 +280,11 @@ impl<'a> Tables<'a> {
         }
     }
 
-    /// The pointer that the Big5 encoder takes for the scalar value, or `None` where index Big5 has
-    /// it at no pointer from 5024 on (Encoding Standard, "index Big5 pointer"): the last of these
-    /// for U+2550, U+255E, U+2561, U+256A, U+5341 and U+5345, and else the first. Flat tables
-    /// search the index from there on.
+    /// Returns the pointer that the Big5 encoder uses for the scalar value, or `None`.
+    ///
+    /// It is at least 5024. For U+2550, U+255E, U+2561, U+256A, U+5341 and U+5345 it is the last such pointer, and
+    /// for other scalar values the first one (Encoding Standard, "index Big5 pointer"). Returns `None` if there is no
+    /// such pointer. Flat tables search the index from 5024 on.
     #[inline]
     pub fn big5_pointer(&self, scalar: char) -> Option<usize>
         ensures pointer { result ≡ big5_pointer_of self.now.flat.big5 scalar }
@@ -276,8 +296,9 @@ impl<'a> Tables<'a> {
         }
     }
 
-    /// The first pointer of the scalar value in index EUC-KR, or `None` where it has none (Encoding
-    /// Standard, "index pointer"). Flat tables search the index.
+    /// Returns the first pointer of the scalar value in index EUC-KR, or `None` if it has none.
+    ///
+    /// Flat tables search the index (Encoding Standard, "index pointer").
     #[inline]
     pub fn euc_kr_pointer(&self, scalar: char) -> Option<usize>
         ensures pointer { result ≡ euc_kr_pointer_of self.now.flat.euc_kr scalar }
@@ -289,9 +310,10 @@ impl<'a> Tables<'a> {
         }
     }
 
-    /// The pointer that the Shift_JIS encoder takes for the scalar value: the first one in index
-    /// jis0208 that is not one of 8272 to 8835, or `None` where there is none (Encoding Standard,
-    /// "index Shift_JIS pointer"). Flat tables search the index.
+    /// Returns the pointer that the Shift_JIS encoder uses for the scalar value, or `None`.
+    ///
+    /// It is the first pointer in index jis0208 outside 8272 to 8835 (Encoding Standard, "index Shift_JIS pointer").
+    /// Returns `None` if there is no such pointer. Flat tables search the index.
     #[inline]
     pub fn shift_jis_pointer(&self, scalar: char) -> Option<usize>
         ensures pointer { result ≡ shift_jis_pointer_of self.now.flat.jis0208 scalar }
@@ -303,9 +325,11 @@ impl<'a> Tables<'a> {
         }
     }
 
-    /// The pointer that the EUC-JP and ISO-2022-JP encoders take for the scalar value: the first
-    /// one in index jis0208, or `None` where there is none below 8836, where their forms end
-    /// (Encoding Standard, "index pointer"). Flat tables search the index.
+    /// Returns the pointer that the EUC-JP and ISO-2022-JP encoders use for the scalar value, or `None`.
+    ///
+    /// It is the first pointer in index jis0208 (Encoding Standard, "index pointer"). Returns `None` if there is no
+    /// pointer below 8836, because the sequences of these encodings reach no other pointer. Flat tables search the
+    /// index.
     #[inline]
     pub fn euc_jp_pointer(&self, scalar: char) -> Option<usize>
         ensures pointer { result ≡ euc_jp_pointer_of self.now.flat.jis0208 scalar }
@@ -317,8 +341,9 @@ impl<'a> Tables<'a> {
         }
     }
 
-    /// The first pointer of the scalar value in index gb18030, or `None` where it has none
-    /// (Encoding Standard, "index pointer"). Flat tables search the index.
+    /// Returns the first pointer of the scalar value in index gb18030, or `None` if it has none.
+    ///
+    /// Flat tables search the index (Encoding Standard, "index pointer").
     #[inline]
     pub fn gb18030_pointer(&self, scalar: char) -> Option<usize>
         ensures pointer { result ≡ gb18030_pointer_of self.now.flat.gb18030 scalar }
@@ -330,10 +355,11 @@ impl<'a> Tables<'a> {
         }
     }
 
-    /// The pointer of four bytes that has the scalar value, or `None` where none has (Encoding
-    /// Standard, "index gb18030 ranges pointer"): 7457 for U+E7C7, 189000 to 1237575 for U+10000 to
-    /// U+10FFFF, and for others by the last range whose scalars begin at or before it, which a
-    /// binary search finds.
+    /// Returns the pointer of four bytes that has the scalar value, or `None` if there is none.
+    ///
+    /// It is 7457 for U+E7C7, and 189000 to 1237575 for U+10000 to U+10FFFF. For other scalar values a binary search
+    /// finds the last range whose scalars begin at or before the scalar value (Encoding Standard, "index gb18030
+    /// ranges pointer").
     #[inline]
     pub fn range_pointer(&self, scalar: char) -> Option<usize>
         ensures pointer { result ≡ range_pointer_of self.now.flat.ranges scalar }
@@ -345,8 +371,10 @@ impl<'a> Tables<'a> {
         }
     }
 
-    /// The lead and the trail that a private-use row gives the scalar value, or `None` where no row
-    /// has it (Encoding Standard, "gb18030 encoder"). It is a binary search.
+    /// Returns the lead and the trail that a private-use row gives the scalar value.
+    ///
+    /// Returns `None` if no row has the scalar value (Encoding Standard, "gb18030 encoder"). The rows are searched
+    /// by a binary search.
     #[inline]
     pub fn gb18030_pua_bytes(&self, scalar: char) -> Option<(u8, u8)>
         ensures { result ≡ gb18030_pua_of self.now.flat.gb18030_pua scalar }

@@ -1,4 +1,4 @@
-//! Functions that compare what came of a call with what is wanted.
+//! Functions that compare the result of a call with the wanted one.
 use legacy_base::TableError;
 use legacy_codecs::RunError;
 use std::fmt::{Debug, Display};
@@ -7,7 +7,7 @@ use std::process::Abort;
 /// The place of a row: the name of its case, and its index among all rows.
 pub(crate) type Place<'a> = (&'a str, usize);
 
-/// Compares what came of a call, a query or a run with what is wanted.
+/// Compares the result of a call, a query or a run with the wanted one.
 pub(crate) fn is_answer<T: Copy + PartialEq + Debug>(
     rt: &impl Abort,
     (case, row): Place,

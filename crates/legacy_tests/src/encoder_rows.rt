@@ -51,9 +51,9 @@ pub(crate) enum EncoderRow<'a> {
     RefusedRuns(usize, &'a RunError),
 }
 
-/// An encoder, what it is made of, and a query that only one encoder has.
+/// An encoder, the data that it is made of, and a query that only one encoder has.
 pub(crate) trait TestedEncoder: RawEncoder + Drop {
-    /// What the encoder is made of.
+    /// The data that the encoder is made of.
     type Of: Copy;
 
     fn made(rt: &impl Abort, of: Self::Of) -> Self;

@@ -57,26 +57,25 @@ fn reported(answer: DecoderResult, seen: usize) -> Option<DecodeEvent> {
     }
 }
 
-/// Makes a call with limited room, and adds the scalars that it writes to what was found.
+/// Makes a call, and adds the scalars that it writes to what was found.
 fn find<F: Form, D: RawDecoder>(
     decoder: &mut D,
     source: &[u8],
-    room: usize,
+    output: &mut [F::Unit],
     last: bool,
     found: &mut Found,
 ) -> (DecoderResult, usize) {
-    let mut output = [F::ZERO; 96];
-    let (answer, read, written) = F::call(decoder, source, &mut output[..room.min(96)], last);
-    F::push_scalars(&output[..written.min(96)], found);
+    let (answer, read, written) = F::call(decoder, source, output, last);
+    F::push_scalars(&output[..written.min(output.len())], found);
     (answer, read)
 }
 
-/// Returns the events of the input in calls of limited length, each with limited room.
+/// Returns the events of the input in calls of limited length, each into the output.
 pub(crate) fn events<F: Form, D: RawDecoder>(
     decoder: &mut D,
     input: &[u8],
     piece: usize,
-    room: usize,
+    output: &mut [F::Unit],
 ) -> Found {
     let mut found = Found::new();
     let mut seen = 0usize;
@@ -84,7 +83,7 @@ pub(crate) fn events<F: Form, D: RawDecoder>(
     for _call in 0..1000 {
         let source = input.get(seen..end).unwrap_or(&[]);
         let last = end == input.len();
-        let (answer, read) = find::<F, D>(decoder, source, room, last, &mut found);
+        let (answer, read) = find::<F, D>(decoder, source, output, last, &mut found);
         seen = seen.saturating_add(read);
         if let Some(event) = reported(answer, seen) {
             found.push(event);

@@ -1,7 +1,7 @@
 //! Tests of the libraries by their public calls.
 //!
-//! They are a crate of their own: the tests of a crate are proved beside all of that crate, and
-//! these need none of it.
+//! They are in their own crate: the tests of a crate are proved beside all of that crate, and
+//! these do not need it.
 //!
 //! Each codec has one file for its decoder and, in its folder, one for its encoder, with rows of
 //! calls and their wanted results. `rows` and `encoder_rows` follow the rows. `codecs` follows

@@ -1,4 +1,4 @@
-//! Calls with replacement: rows of calls with their wanted results, and what follows the rows.
+//! Calls with replacement: rows of calls with their wanted results, and the functions that follow them.
 use crate::codecs::{DecoderCase, Over, follow_each};
 use crate::compared::{Place, is_answer};
 use crate::indexes::EMPTY;
@@ -20,12 +20,11 @@ fn writes<F: Form, D: RawDecoder>(
     rt: &impl Abort,
     place: Place,
     decoder: &mut D,
-    (source, room, last): Call,
+    (source, output, last): Call<F::Unit>,
     wanted: (CoderResult, usize, &[F::Unit], bool),
 ) {
-    let mut output = [F::ZERO; 96];
-    let call = F::replacing(decoder, source, &mut output[..room.min(96)], last);
-    let came = (call.0, call.1, &output[..call.2.min(96)], call.3);
+    let call = F::replacing(decoder, source, output, last);
+    let came = (call.0, call.1, &output[..call.2.min(output.len())], call.3);
     is_answer(rt, place, F::NAME, came, wanted);
 }
 
@@ -58,29 +57,37 @@ fn by_calls<F: Form, D: RawDecoder>(
     end
 }
 
-/// Compares the text of the input by calls with `room` code units free with the wanted one.
+/// Decodes the input by calls with `room` code units free, and compares its text with the wanted one.
 fn has_text<F: Form, D: RawDecoder>(
     rt: &impl Abort,
     place: Place,
     decoder: &mut D,
-    (input, room): (&[u8], usize),
+    (input, room, output): (&[u8], usize, &mut [F::Unit]),
     text: &[F::Unit],
 ) {
-    let mut output = [F::ZERO; 96];
-    let end = by_calls::<F, D>(decoder, input, room, &mut output);
-    is_answer(rt, place, F::NAME, &output[..end.min(96)], text);
+    let end = by_calls::<F, D>(decoder, input, room, output);
+    is_answer(rt, place, F::NAME, &output[..end.min(output.len())], text);
 }
 
-/// Follows the row of a text: compares it by calls with small outputs with the wanted one.
+/// Follows the row of a text: makes calls with small outputs, and compares their text with the wanted one.
 fn follow_text(rt: &impl Abort, place: Place, of: Over, row: &Row) {
     if let Text(input, text, units) = row {
         for room in 2..16 {
             if room >= 4 {
-                let text = text.as_bytes();
-                has_text::<Bytes, AnyDecoder>(rt, place, &mut of.decoder(rt), (input, room), text);
+                let mut output = [0u8; 96];
+                let calls = (*input, room, &mut output[..]);
+                has_text::<Bytes, AnyDecoder>(
+                    rt,
+                    place,
+                    &mut of.decoder(rt),
+                    calls,
+                    text.as_bytes(),
+                );
             }
             if room < 8 {
-                has_text::<Units, AnyDecoder>(rt, place, &mut of.decoder(rt), (input, room), units);
+                let mut output = [0u16; 96];
+                let calls = (*input, room, &mut output[..]);
+                has_text::<Units, AnyDecoder>(rt, place, &mut of.decoder(rt), calls, units);
             }
         }
     }
@@ -115,12 +122,16 @@ fn follow_pieces<D: RawDecoder>(rt: &impl Abort, place: Place, decoder: &mut D, 
 fn follow_call<D: RawDecoder>(rt: &impl Abort, place: Place, decoder: &mut D, row: &Row) {
     match row {
         ReplacedToUtf8(source, room, last, answer, read, text, replaced) => {
+            let mut output = [0u8; 96];
+            let call = (*source, &mut output[..(*room).min(96)], *last);
             let wanted = (*answer, *read, text.as_bytes(), *replaced);
-            writes::<Bytes, D>(rt, place, decoder, (source, *room, *last), wanted);
+            writes::<Bytes, D>(rt, place, decoder, call, wanted);
         }
         ReplacedToUtf16(source, room, last, answer, read, units, replaced) => {
+            let mut output = [0u16; 96];
+            let call = (*source, &mut output[..(*room).min(96)], *last);
             let wanted = (*answer, *read, *units, *replaced);
-            writes::<Units, D>(rt, place, decoder, (source, *room, *last), wanted);
+            writes::<Units, D>(rt, place, decoder, call, wanted);
         }
         _ => {}
     }

@@ -34,7 +34,7 @@ pub(crate) enum Row<'a> {
     Neutral(bool),
     /// The number of first bytes that the decoder counts as malformed by themselves.
     Lone(&'a [u8], usize),
-    /// What the decoder adds to the lengths.
+    /// The number that the decoder adds to the lengths.
     Additional(usize),
     /// The events that new decoders find in these bytes by calls, in UTF-8 and in UTF-16.
     ///
@@ -82,7 +82,7 @@ fn neutral(decoder: &AnyDecoder) -> Option<bool> {
     }
 }
 
-/// Returns what the decoder adds to the lengths, if it has that query.
+/// Returns the number that the decoder adds to the lengths, if it has that query.
 fn additional(decoder: &AnyDecoder) -> Option<usize> {
     match decoder {
         AnyDecoder::Utf16(decoder) => Some(decoder.additional_from_state()),
@@ -90,20 +90,19 @@ fn additional(decoder: &AnyDecoder) -> Option<usize> {
     }
 }
 
-/// The bytes of a call, the number of free code units, and whether these bytes are the last.
-pub(crate) type Call<'a> = (&'a [u8], usize, bool);
+/// The bytes of a call, its output, and whether these bytes are the last.
+pub(crate) type Call<'a, U> = (&'a [u8], &'a mut [U], bool);
 
 /// Makes a call, and compares its result with the wanted one.
 fn writes<F: Form, D: RawDecoder>(
     rt: &impl Abort,
     place: Place,
     decoder: &mut D,
-    (source, room, last): Call,
+    (source, output, last): Call<F::Unit>,
     wanted: (DecoderResult, usize, &[F::Unit]),
 ) {
-    let mut output = [F::ZERO; 96];
-    let (answer, read, written) = F::call(decoder, source, &mut output[..room.min(96)], last);
-    let came = (answer, read, &output[..written.min(96)]);
+    let (answer, read, written) = F::call(decoder, source, output, last);
+    let came = (answer, read, &output[..written.min(output.len())]);
     is_answer(rt, place, F::NAME, came, wanted);
 }
 
@@ -112,20 +111,21 @@ fn finds<F: Form>(
     rt: &impl Abort,
     place: Place,
     of: Over,
-    input: &[u8],
-    (piece, room): (usize, usize),
+    (input, piece): (&[u8], usize),
+    output: &mut [F::Unit],
     wanted: &[DecodeEvent],
 ) {
-    let found = events::<F, AnyDecoder>(&mut of.decoder(rt), input, piece, room);
+    let found = events::<F, AnyDecoder>(&mut of.decoder(rt), input, piece, output);
     is_answer(rt, place, F::NAME, found.as_slice(), wanted);
 }
 
 /// Finds the events in one call and byte by byte, and compares them with the wanted ones.
 fn finds_by_calls(rt: &impl Abort, place: Place, of: Over, input: &[u8], wanted: &[DecodeEvent]) {
-    finds::<Bytes>(rt, place, of, input, (input.len(), 48), wanted);
-    finds::<Units>(rt, place, of, input, (input.len(), 96), wanted);
-    finds::<Bytes>(rt, place, of, input, (1, 4), wanted);
-    finds::<Units>(rt, place, of, input, (1, 2), wanted);
+    let whole = (input, input.len());
+    finds::<Bytes>(rt, place, of, whole, &mut [0; 48], wanted);
+    finds::<Units>(rt, place, of, whole, &mut [0; 96], wanted);
+    finds::<Bytes>(rt, place, of, (input, 1), &mut [0; 4], wanted);
+    finds::<Units>(rt, place, of, (input, 1), &mut [0; 2], wanted);
 }
 
 /// The wanted result of a run.
@@ -289,12 +289,16 @@ fn follow_run<D: RawDecoder>(
 fn follow_call<D: RawDecoder>(rt: &impl Abort, place: Place, decoder: &mut D, row: &Row) {
     match row {
         Row::ToUtf8(source, room, last, answer, read, text) => {
+            let mut output = [0u8; 96];
+            let call = (*source, &mut output[..(*room).min(96)], *last);
             let wanted = (*answer, *read, text.as_bytes());
-            writes::<Bytes, D>(rt, place, decoder, (source, *room, *last), wanted);
+            writes::<Bytes, D>(rt, place, decoder, call, wanted);
         }
         Row::ToUtf16(source, room, last, answer, read, units) => {
+            let mut output = [0u16; 96];
+            let call = (*source, &mut output[..(*room).min(96)], *last);
             let wanted = (*answer, *read, *units);
-            writes::<Units, D>(rt, place, decoder, (source, *room, *last), wanted);
+            writes::<Units, D>(rt, place, decoder, call, wanted);
         }
         _ => {}
     }

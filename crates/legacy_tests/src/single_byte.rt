@@ -74,7 +74,9 @@ fn the_front_of_latin_1_ends_at_another_scalar(rt: HostRuntime) {
     }
 }
 
-/// Returns letters of ISO-8859-7 and their places: the bytes C1 to FE are the scalars from U+0391, but D2 is none.
+/// Returns letters of ISO-8859-7 and their places.
+///
+/// The bytes C1 to FE are the scalars from U+0391 on, but D2 has no scalar.
 fn letters() -> [(usize, u16); 62] {
     let mut letters = [(0usize, 0u16); 62];
     let mut scalar = 0x391;

@@ -1,5 +1,5 @@
 //! Texts in UTF-8 and in UTF-16: calls and runs of encoders from either.
-// What a call ensures stays inside these functions: their callers do not state it, and are fast to prove.
+// The promises of a call stay inside these functions: their callers do not state them, and are fast to prove.
 use legacy_base::{EncoderResult, RawEncoder};
 use legacy_codecs::{
     CoderResult, EncodeRun, RunError, encode_replacing_utf8, encode_replacing_utf16,

@@ -1,5 +1,5 @@
 //! UTF-8 and UTF-16: calls and runs of decoders into either.
-// What a call ensures stays inside these functions: their callers do not state it, and are fast to prove.
+// The promises of a call stay inside these functions: their callers do not state them, and are fast to prove.
 use crate::events::Found;
 use legacy_base::DecodeEvent::Scalar;
 use legacy_base::{DecoderResult, RawDecoder};
@@ -16,8 +16,6 @@ pub(crate) trait Form {
     type Unit: Copy + PartialEq + Debug;
 
     const NAME: &'static str;
-
-    const ZERO: Self::Unit;
 
     /// Makes a call.
     fn call<D: RawDecoder>(
@@ -57,8 +55,6 @@ impl Form for Bytes {
     type Unit = u8;
 
     const NAME: &'static str = "into UTF-8";
-
-    const ZERO: u8 = 0;
 
     fn call<D: RawDecoder>(
         decoder: &mut D,
@@ -100,8 +96,6 @@ impl Form for Units {
     type Unit = u16;
 
     const NAME: &'static str = "into UTF-16";
-
-    const ZERO: u16 = 0;
 
     fn call<D: RawDecoder>(
         decoder: &mut D,

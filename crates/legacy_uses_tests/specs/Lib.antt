@@ -1,3 +1,3 @@
--- What a source and a destination of a user hold.
+-- The contents of a user's own source and destination.
 pub mod Beginnings
 pub mod CharacterLists

@@ -138,7 +138,7 @@ fn two_encodings_are_decoded_by_their_files(rt: HostRuntime) {
 
 /// Returns a registry with the first line of index EUC-KR and with windows-1252.
 ///
-/// Of windows-1252 it has the euro sign at pointer 0.
+/// The table of windows-1252 has the euro sign at pointer 0.
 fn registry_of(alloc: Global) -> Result<Registry, RegistryError> {
     let mut registry = Registry::new(alloc);
     registry
@@ -259,7 +259,7 @@ fn a_page_grows_by_its_pieces(rt: HostRuntime) {
     assert!(rt; last == Ok(()) && page.as_slice() == "a\u{AC02}\u{FFFD}".as_bytes());
 }
 
-/// The places of what is malformed in a message, and whether there is nothing.
+/// Returns the number of malformed sequences in a message, and whether it is well-formed.
 fn places(alloc: Global, coders: &Coders, message: &[u8]) -> Option<(usize, bool)> {
     let found = faults_of_message(alloc, coders, "EUC-KR", message).ok()?;
     let is_so = is_well_formed(alloc, coders, "EUC-KR", message).ok()?;

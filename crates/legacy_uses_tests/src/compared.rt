@@ -1,4 +1,4 @@
-//! Functions that compare what came of a call with what is wanted.
+//! Functions that compare the result of a call with the wanted one.
 // Each is a function of its own, because an `assert!` with a message is proved again at each place of use.
 use legacy_index_files::IndexFileError;
 use legacy_tables::TableError;

@@ -1,5 +1,5 @@
-//! The program that encodes: its statuses and bytes, how it takes an input that is cut or malformed, and what it says if
-//! a stream or memory fails.
+//! The program that encodes: its statuses and bytes, also for an input that is cut or malformed, and its errors if a
+//! stream or memory fails.
 use crate::programs::{
     Failure, Refused, Request, UNREAD, UNWRITTEN, answers, fails, lacks_memory, refuses,
 };
@@ -61,8 +61,8 @@ const REQUESTS: &[Request] = &[
         b"\xE5\xA3\xBA\xC2\xA5A\xF0\x9F\x92\xA9",
         b"\x1B$BTd\x1B(J\\A&#128169;\x1B(B",
     ),
-    // A malformed sequence is U+FFFD: a byte that goes on nothing, overlong forms, a surrogate, and what is above the
-    // last scalar, by each of their bytes; a beginning of a character, by all of it.
+    // A malformed sequence is U+FFFD. Each byte counts alone if it continues nothing, or is in an overlong form, a
+    // surrogate or a number past the last scalar. A beginning of a character counts once.
     ("x-user-defined", &[], b"x\x80y", b"x&#65533;y"),
     ("x-user-defined", &[], b"\xC0\xAF", b"&#65533;&#65533;"),
     (
@@ -91,7 +91,7 @@ const REQUESTS: &[Request] = &[
         b"\xF0\x9F\xE3\x81\x82",
         b"&#65533;&#12354;",
     ),
-    // So is what the end of the input cuts.
+    // So is a beginning of a character at the end of the input.
     ("x-user-defined", &[], b"a\xC2", b"a&#65533;"),
     ("x-user-defined", &[], b"a\xE3\x81", b"a&#65533;"),
     ("x-user-defined", &[], b"a\xF0\x9F\x92", b"a&#65533;"),
@@ -109,7 +109,7 @@ fn encodes_as_the_words_ask_however_the_input_is_cut(rt: HostRuntime) {
 }
 
 const REFUSED: &[Refused] = &[
-    // Words that are no request are refused, and codecs without an encoder.
+    // Words that do not have the program's form are refused, and codecs without an encoder.
     ("", &[], 2, USAGE),
     ("latin", &[], 2, USAGE),
     ("--text big5", &[], 2, USAGE),
@@ -117,7 +117,7 @@ const REFUSED: &[Refused] = &[
     ("replacement", &[], 2, USAGE),
     ("utf-16le", &[], 2, USAGE),
     ("utf-16be", &[], 2, USAGE),
-    // What is wrong with the files is told.
+    // The error says what is wrong with the files.
     ("big5 big5 FILE", &[None], 1, b"FILE: cannot be read\n"),
     ("big5 big5 FILE", &[Some(b"1\n")], 1, b"FILE: line 1\n"),
     (
@@ -135,16 +135,16 @@ fn refuses_words_and_files_to_encode_by(rt: HostRuntime) {
 
 const WORD: &str = "x-user-defined";
 
-// The text is read by one byte at a time, and a write takes up to three bytes.
+// The text is read one byte at a time, and a write takes at most three bytes.
 const FAILURES: &[Failure] = &[
     (WORD, 9, (9, true), 99, 0, b"a\x80&#165;", b""),
-    // A failed read keeps what comes before it, without the end of what it cuts.
+    // After a failed read the characters before it are kept, but not one that it cuts.
     (WORD, 0, (9, true), 99, 1, b"", UNREAD),
     (WORD, 1, (9, true), 99, 1, b"a", UNREAD),
     (WORD, 3, (9, true), 99, 1, b"a", UNREAD),
     (WORD, 4, (9, true), 99, 1, b"a\x80", UNREAD),
     (WORD, 6, (9, true), 99, 1, b"a\x80&#165;", UNREAD),
-    // A failed write keeps the bytes before it.
+    // After a failed write the bytes before it are kept.
     (WORD, 9, (0, true), 99, 1, b"", UNWRITTEN),
     (WORD, 9, (1, true), 99, 1, b"a", UNWRITTEN),
     (WORD, 9, (3, true), 99, 1, b"a\x80&#1", UNWRITTEN),

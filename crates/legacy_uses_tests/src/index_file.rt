@@ -7,7 +7,7 @@ use std::test::Fail;
 const EUC_KR: FileIndex = FileIndex::EucKr;
 
 /// Reads a file of an index.
-// It has no clauses: those of `read_index` would be searched in each statement that follows a call.
+// It has no clauses: the prover would search those of `read_index` at each statement after a call.
 fn read(alloc: Global, index: FileIndex, text: &[u8]) -> Result<FileTable, IndexFileError> {
     read_index(alloc, index, text)
 }
@@ -27,7 +27,7 @@ fn refuses(rt: &impl Abort, alloc: Global, name: FileIndex, text: &[u8], number:
     is_refusal(rt, "a malformed line", answer.as_ref().err(), Some(&wanted));
 }
 
-/// What a file of index EUC-KR shows, the file, and its values.
+/// The name of a case, a file of index EUC-KR, and its values.
 type Entries<'a> = (&'a str, &'a [u8], &'a [u16]);
 
 // Rows are constants, because those of an array in a test are compiled there one by one.
@@ -106,7 +106,7 @@ fn gives_ranges(alloc: Global, text: &[u8], ranges: &[(u16, u16)]) -> bool {
     }
 }
 
-/// What a file of ranges shows, the file, and its ranges.
+/// The name of a case, a file of ranges, and its ranges.
 type Ranges<'a> = (&'a str, &'a [u8], &'a [(u16, u16)]);
 
 const RANGES: &[Ranges] = &[
@@ -227,7 +227,7 @@ fn has_nine(table: &FileTable) -> bool {
     }
 }
 
-// If any one allocation is refused in a run, the call that asked for it returns `Memory`, and every other call its
+// If one allocation is refused in a run, the call that asked for it returns `Memory`. Every other call returns its
 // table.
 #[test]
 fn answers_memory_only_where_a_growth_is_refused(rt: HostRuntime) {

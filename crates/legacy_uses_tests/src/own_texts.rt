@@ -1,4 +1,4 @@
-//! A source and a destination that a user wrote, by EUC-KR with U+AC02 at pointer 0, and by UTF-16.
+//! Tests of a user's own source and destination, with EUC-KR (U+AC02 at pointer 0) and with UTF-16.
 use crate::beginning::encode_beginning;
 use crate::callers::tables_of;
 use crate::character_list::decode_to_characters;
@@ -7,8 +7,9 @@ use legacy_codecs::{
 };
 use std::process::Abort;
 
-/// Encodes at most so many characters of a text as a last call, into so many bytes, and compares the answer, what was
-/// read and what was written.
+/// Encodes at most `most` characters of a text into `free` bytes, as a last call.
+///
+/// Compares the result, the number of bytes read and the written bytes with the wanted ones.
 fn beginning_is(
     rt: &impl Abort,
     (text, most, free): (&str, usize, usize),
@@ -53,8 +54,9 @@ fn the_beginning_of_a_text_is_encoded(rt: HostRuntime) {
     beginning_is(rt, (text, 2, 2), (EncoderResult::OutputFull, 1), b"a");
 }
 
-/// Decodes bytes as a last call into a list with so many places, and compares the answer, what was read and the
-/// characters.
+/// Decodes bytes into a list with this number of places, as a last call.
+///
+/// Compares the result, the number of bytes read and the characters with the wanted ones.
 fn list_is<D: RawDecoder>(
     rt: &impl Abort,
     decoder: &mut D,

@@ -5,8 +5,8 @@ use legacy_tables::{IndexName, SingleByteTable, TableError, Tables};
 use std::alloc::Global;
 use std::process::Abort;
 
-// The functions up to the first test have no clauses: those of the calls in them would be searched in each statement
-// that follows one.
+// The functions up to the first test have no clauses: the prover would search the clauses of their calls at each later
+// statement.
 
 /// Reads a file into a set.
 fn read(

@@ -19,8 +19,7 @@ pub(crate) fn no_entries<'a>() -> Indexes<'a> {
     }
 }
 
-// The next three functions have no clauses: those of the calls in them would be searched in each statement that follows
-// one.
+// The next three functions have no clauses: the prover would search the clauses of their calls at each later statement.
 
 /// Packs indexes.
 fn packed_of(rt: &impl Abort, alloc: Global, indexes: &Indexes) -> OwnedPacked {
@@ -98,6 +97,41 @@ fn runs_and_orders_of_an_index(rt: HostRuntime) {
         has_no_own_fault(&rt, &indexes, &made.packed());
         holds(&rt, "the runs of EUC-KR", are_runs(&made.euc_kr, *runs));
         are_pointers(&rt, "EUC-KR", &made.euc_kr_order, *order);
+    }
+}
+
+/// Returns the entries up to the last run: packed, an index ends with its last scalar.
+fn packed_entries<'a>(entries: &'a [u16], runs: &[(u16, u32, u16)]) -> &'a [u16] {
+    let end = match runs.last() {
+        Some((pointer, _, length)) => usize::from(*pointer) + usize::from(*length),
+        None => 0,
+    };
+    entries.get(..end).unwrap_or(&[])
+}
+
+/// Asserts that packed tables write these entries of index EUC-KR into room, and refuse less room.
+fn unpacks<'a>(rt: &impl Abort, indexes: &Indexes<'a>, packed: &Packed<'a>, entries: &[u16]) {
+    let tables = Tables::packed_of(indexes, packed).expect(rt, "refused");
+    let mut room = [0xFFFF; 8];
+    let came = tables.unpack(IndexName::EucKr, &mut room);
+    are_pointers(rt, "unpacked", came.unwrap_or(&[1]), entries);
+    let less = entries.len().saturating_sub(1).min(8);
+    let refused = tables.unpack(IndexName::EucKr, &mut room[..less]).is_none();
+    holds(rt, "too little room", refused == (less < entries.len()));
+}
+
+#[test]
+fn an_unpacked_index_is_the_index(rt: HostRuntime) {
+    for (entries, runs, _) in ROWS {
+        let mut indexes = no_entries();
+        indexes.euc_kr = entries;
+        let made = packed_of(&rt, rt.alloc(), &indexes);
+        unpacks(
+            &rt,
+            &indexes,
+            &made.packed(),
+            packed_entries(*entries, *runs),
+        );
     }
 }
 
@@ -210,8 +244,8 @@ fn an_owning_set_makes_packed_tables(rt: HostRuntime) -> Result<(), Fail> {
     Ok(())
 }
 
-// If any one allocation is refused in a run, the call that asked for it returns that error, and every other call what
-// it makes.
+// If one allocation is refused in a run, the call that asked for it returns that error. Every other call returns its
+// result.
 #[test]
 fn answers_memory_only_where_a_growth_is_refused(rt: HostRuntime) {
     let mut refused = false;

@@ -1,4 +1,4 @@
-//! The program: its statuses and texts, and what it says where a stream or memory fails, or a word is no text.
+//! The program: its statuses and texts, and its errors if a stream or memory fails or a word is not UTF-8 text.
 use crate::programs::{
     Failure, Refused, Request, UNREAD, UNWRITTEN, answers, fails, lacks_memory, refuses,
 };
@@ -14,7 +14,7 @@ use std::test::Fail;
 
 const USAGE: &[u8] = b"usage: legacy_recode [--text] CODEC [INDEX FILE]...\n";
 
-// More than are told at once, from a place of one digit to places of four.
+// These are more lines than are written at once, and their places have one to four digits.
 #[test]
 fn tells_each_malformed_byte(rt: HostRuntime) -> Result<(), Fail> {
     let bytes = [0xFF; 1200];
@@ -157,7 +157,7 @@ const REFUSED: &[Refused] = &[
         1,
         b"tables: ranges are out of order at 1\n",
     ),
-    // Words that are no request are refused.
+    // Words that do not have the program's form are refused.
     ("", &[], 2, USAGE),
     ("--text", &[], 2, USAGE),
     ("--text latin", &[], 2, USAGE),

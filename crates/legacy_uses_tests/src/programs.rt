@@ -1,4 +1,4 @@
-//! Runs of the two programs: what each is given, and what it has to return and write.
+//! Runs of the two programs: their words, files and streams, and the wanted status and output.
 use crate::compared::holds;
 use crate::streams::{FailingReader, FailingWriter};
 use crate::words::words_in;
@@ -16,18 +16,18 @@ pub(crate) const UNWRITTEN: &[u8] = b"output: cannot be written\n";
 /// Words, files, an input, and what is written.
 pub(crate) type Request<'a> = (&'a str, &'a [Option<&'a [u8]>], &'a [u8], &'a [u8]);
 
-/// Words that are refused, or whose files are; the files; the status and the error.
+/// Refused words, or words with refused files; the files; the status and the error.
 pub(crate) type Refused<'a> = (&'a str, &'a [Option<&'a [u8]>], u8, &'a [u8]);
 
 /// Words; numbers of reads of one byte, of writes, and of writes of errors; the status, the output and the error.
 ///
-/// With the writes comes whether a flush succeeds.
+/// The number of writes has a flag beside it: whether a flush succeeds.
 pub(crate) type Failure<'a> = (&'a str, usize, (usize, bool), usize, u8, &'a [u8], &'a [u8]);
 
 /// The words as a line, the contents of the files, and the input.
 type Given<'a> = (&'a str, &'a [Option<&'a [u8]>], &'a [u8]);
 
-/// How the streams of a run fail.
+/// The limits after which the streams of a run fail.
 #[derive(Clone, Copy)]
 struct Streams {
     /// The greatest number of bytes of a read, and the number of reads.
@@ -126,7 +126,9 @@ pub(crate) fn refuses(rt: &(impl AllocGlobal + Abort), program: Program, refused
     }
 }
 
-/// Asserts what the program returns and writes if streams fail, for an input and at most so many bytes a write.
+/// Asserts what the program returns and writes if streams fail.
+///
+/// A write takes at most `most` bytes of the output.
 pub(crate) fn fails(
     rt: &(impl AllocGlobal + Abort),
     program: Program,

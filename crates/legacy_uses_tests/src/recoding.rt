@@ -1,4 +1,4 @@
-//! Recoding: what is written before a read or a write fails, and what is kept from piece to piece.
+//! Recoding: the output before a read or a write fails, and the state from piece to piece.
 use crate::packing::no_entries;
 use crate::streams::{BYTES, FailingReader, FailingWriter, TEXT};
 use legacy_codecs::{EucKrDecoder, RawDecoder, Tables, UserDefinedDecoder, Utf16Decoder};
@@ -70,7 +70,7 @@ fn user_defined_gives(
     )
 }
 
-/// Whether the output is text, two pairs of limits, the result, and the output.
+/// A flag for text output, two pairs of limits, the result, and the output.
 ///
 /// The limits are bytes a read, and reads; and bytes a write, and writes.
 type Recoding = (bool, (usize, usize), (usize, usize), Recoded, &'static [u8]);

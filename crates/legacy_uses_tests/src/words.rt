@@ -1,7 +1,7 @@
 //! The words of a line.
 use std::alloc::Global;
 
-/// The words of a line, of none where it is empty.
+/// Returns the words of a line, or `None` if allocation fails. An empty line has no words.
 pub(crate) fn words_in(alloc: Global, line: &str) -> Option<Vec<&str>> {
     let mut words = Vec::new(alloc);
     if line.is_empty() {

@@ -1,9 +1,9 @@
 //! The decoder of Big5.
-ghost use Rattle.std.specs.Prelude.{◌≡◌, ℕ, [], ◌∷◌, true, IfSome};
-ghost use Rattle.std.specs.Char.{IsScalar};
+ghost use Rattle.std.specs.Prelude.{◌≡◌, ◌≢◌, ℕ, ◌<◌, ◌≤◌, [], ◌∷◌, length, get_or};
 ghost use Rattle.legacy_base.specs.Big5.{big5_scalars};
 ghost use Rattle.legacy_base.specs.Grammar.{big5};
-ghost use Rattle.legacy_base.specs.States.{is_lead};
+ghost use Rattle.legacy_base.specs.States.{is_lead, new_state};
+ghost use Rattle.legacy_chinese.specs.Big5Places.{big5_place};
 ghost use Rattle.legacy_decoder_engine.specs.Steps.{trail_step};
 ghost use Rattle.legacy_decoder_engine.specs.LeadMachines.{lead_first};
 ghost use Rattle.legacy_chinese.specs.Big5Machine.{big5_pair_scalars};
@@ -13,13 +13,16 @@ ghost use Rattle.legacy_decoder_engine.proofs.TwoByteMeets.{is_lead-in};
 
 use super::places::{ROWS_OF_157, TRAILS};
 use legacy_base::{Destination, IndexName, Tables};
-use legacy_decoder_engine::common_forms::{CommonForm, read_common_forms};
+use legacy_decoder_engine::common_forms::{CommonForm, CommonForms};
 use legacy_decoder_engine::held::Lead;
-use legacy_decoder_engine::lead::{LeadCodec, LeadDecoder, LeadForms, LeadRuns};
+use legacy_decoder_engine::lanes::{LaneForms, read_lane_forms};
+use legacy_decoder_engine::lead::{LeadCodec, LeadDecoder, LeadRuns};
 use legacy_decoder_engine::moves::{Fed, Room};
 use legacy_decoder_engine::places::pair_pointer;
+use legacy_decoder_engine::split_rows::{lead_places, place_sums, trail_places};
 use legacy_decoder_engine::two_byte::{read_first, read_trail};
 use legacy_tables::{DecoderTables, FlatTables};
+use std::simd::prelude::*;
 
 /// The codec of Big5.
 pub struct Big5;
@@ -37,17 +40,6 @@ pub struct Big5;
 /// - a lead with a byte that gives no scalar with it (2 bytes); if that byte is ASCII, only the
 ///   lead (1 byte), and the ASCII byte is read again.
 pub type Big5Decoder<'a> = LeadDecoder<'a, Big5>;
-
-/// Returns the scalar of two bytes, or `None` unless they are a lead and a trail with an entry.
-#[inline]
-fn entry_scalar<V: DecoderTables>(tables: &V, lead: u8, trail: u8) -> Option<char>
-    ensures value { IfSome result (λ c. (is_lead lead ≡ true)
-        × (big5_pair_scalars (V.indexes tables.now).flat.big5 lead trail ≡ c ∷ [])) }
-    ensures scalar { IfSome result IsScalar }
-{
-    let pointer = pair_pointer(&ROWS_OF_157, &TRAILS, lead, trail);
-    tables.idx(IndexName::Big5, pointer)
-}
 
 /// Reads a trail that has this pointer with its lead.
 ///
@@ -95,8 +87,9 @@ impl LeadCodec for Big5 {
     }
 
     #[inline]
-    fn front<V: DecoderTables>(tables: &V, lead: u8, trail: u8) -> CommonForm {
-        match entry_scalar(tables, lead, trail) {
+    fn front(tables: &FlatTables<'_>, lead: u8, trail: u8) -> CommonForm {
+        let pointer = pair_pointer(&ROWS_OF_157, &TRAILS, lead, trail);
+        match tables.idx(IndexName::Big5, pointer) {
             Some(scalar) if scalar <= '\u{FFFF}' => CommonForm::Pair(scalar),
             _ => CommonForm::Other,
         }
@@ -122,10 +115,90 @@ impl LeadCodec for Big5 {
     }
 }
 
+/// Returns the entries at eight places, or only zeros if one of them is past U+FFFF.
+#[inline(always)]
+fn narrowed_entries(index: &[u32], places: &[u16]) -> u16x8
+    requires eight { 8 ≤ length places.now }
+    requires within { (k : ℕ) → k < 8 → get_or places.now k 0 < length index.now }
+    ensures { (k : ℕ) → k < 8 → get_or result k 0 ≢ 0 →
+        get_or result k 0 ≡ get_or index.now (get_or places.now k 0) 0 }
+{
+    let a = index[usize::from(places[0])];
+    let b = index[usize::from(places[1])];
+    let c = index[usize::from(places[2])];
+    let d = index[usize::from(places[3])];
+    let e = index[usize::from(places[4])];
+    let f = index[usize::from(places[5])];
+    let g = index[usize::from(places[6])];
+    let h = index[usize::from(places[7])];
+    if a >= 0x1_0000
+        || b >= 0x1_0000
+        || c >= 0x1_0000
+        || d >= 0x1_0000
+        || e >= 0x1_0000
+        || f >= 0x1_0000
+        || g >= 0x1_0000
+        || h >= 0x1_0000
+    {
+        return u16x8::splat(0);
+    }
+    u16x8::from_array([
+        a as u16, b as u16, c as u16, d as u16, e as u16, f as u16, g as u16, h as u16,
+    ])
+}
+
+/// The common forms of Big5 over flat tables, if nothing is held back.
+#[derive(Drop)]
+struct Big5Forms<'a, 'b> {
+    tables: &'a FlatTables<'b>,
+}
+
+impl CommonForms for Big5Forms<'_, '_> {
+    ghost state = { λ forms. new_state (big5 forms.tables.now.flat.big5) };
+
+    #[inline]
+    fn is_idle(&self) -> bool {
+        true
+    }
+
+    #[inline(always)]
+    fn is_rare(&self, byte: u8) -> bool {
+        byte >= 0x80 && Lead::new(byte).is_none()
+    }
+
+    #[inline]
+    fn front(&self, lead: u8, trail: u8) -> CommonForm {
+        Big5::front(self.tables, lead, trail)
+    }
+}
+
+impl LaneForms for Big5Forms<'_, '_> {
+    ghost entries = { λ forms. forms.tables.now.flat.big5 };
+
+    ghost pointer = { big5_place };
+
+    #[inline(always)]
+    fn entry_count(&self) -> usize {
+        self.tables.wide().len()
+    }
+
+    #[inline(always)]
+    fn entries_at(&self, places: &[u16]) -> u16x8 {
+        narrowed_entries(self.tables.wide(), places)
+    }
+
+    #[inline(always)]
+    fn pointers(codes: u16x8) -> u16x8 {
+        place_sums(
+            lead_places(codes, 0x81, 0x7D, 157),
+            trail_places(codes, 0xA1, 0xFE),
+        )
+    }
+}
+
 impl LeadRuns for Big5 {
     #[inline(always)]
     fn read_flat<T: Destination>(tables: &FlatTables<'_>, src: &[u8], dst: &mut T) -> usize {
-        let forms = LeadForms::<Big5, FlatTables<'_>>::new(tables, None);
-        read_common_forms(&forms, src, dst)
+        read_lane_forms(&Big5Forms { tables }, src, dst)
     }
 }

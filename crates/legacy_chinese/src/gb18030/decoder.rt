@@ -1,10 +1,10 @@
 //! The decoder of GB18030 and GBK.
-ghost use Rattle.std.specs.Prelude.{◌≡◌, ℕ, List, ◌∷◌, [], true, length, option_to_list, IfSome, if◌then◌else◌};
+ghost use Rattle.std.specs.Prelude.{◌≡◌, ℕ, List, ◌∷◌, [], true, length, option_to_list, IfSome};
 ghost use Rattle.std.specs.Char.{IsScalar};
 ghost use Rattle.legacy_text.specs.EncodingForm.{EncodingForm};
 ghost use Rattle.legacy_base.specs.Gb18030.{gb18030_scalars};
 ghost use Rattle.legacy_base.specs.Grammar.{gb18030};
-ghost use Rattle.legacy_base.specs.States.{is_lead, is_neutral, new_state};
+ghost use Rattle.legacy_base.specs.States.{is_neutral, new_state};
 ghost use Rattle.legacy_chinese.specs.Gb18030Machine.{gb18030_step};
 ghost use Rattle.legacy_base.specs.States.{state_of};
 ghost use Rattle.legacy_decoder_engine.specs.Moves.{move_units, room_units};
@@ -12,30 +12,28 @@ ghost use Rattle.legacy_decoder_engine.specs.Feeding.{Took};
 ghost use Rattle.legacy_chinese.specs.Gb18030Held.{held_bytes, is_resting};
 
 use super::digit::Digit;
-use super::fours::Gb18030Blocks;
+use super::fours::read_flat;
 use super::pair_places::TRAILS;
 use legacy_base::{DecoderResult, Destination, IndexName, RawDecoder, Tables};
-use legacy_decoder_engine::common_forms::{CommonBlocks, begins_rare, stands_alone};
 use legacy_decoder_engine::drive::{count_lone, drive_decoder};
 use legacy_decoder_engine::held::Lead;
 use legacy_decoder_engine::moves::{DecoderMoves, Fed, Move, Room};
 use legacy_decoder_engine::places::{ROWS_OF_190, pair_pointer};
-use legacy_decoder_engine::runs::{read_blocks, read_one};
+use legacy_decoder_engine::runs::read_ascii;
 use legacy_decoder_engine::trail::unmapped;
 use legacy_decoder_engine::two_byte::fault_through;
 use legacy_tables::DecoderTables;
-use std::cell::Cell;
 
-/// What is held back: the first bytes of a form, or a digit of a broken form and what came behind it.
+/// The held-back bytes: the first bytes of a sequence, or the bytes after a malformed lead.
 #[derive(Clone, Copy)]
 pub(crate) enum Held {
     Nothing,
     First(Lead),
     Second(Lead, Digit),
     Third(Lead, Digit, Lead),
-    /// The digit is to be written.
+    /// A digit after a malformed lead. It is written next.
     Digit(Digit),
-    /// The digit is to be written, and the lead begins a form.
+    /// The same, and a lead after it, which begins a sequence.
     DigitLead(Digit, Lead),
 }
 
@@ -45,40 +43,33 @@ pub(crate) enum Held {
 /// looked up in index gb18030. A lead, a digit 30 to 39, a lead and a digit are looked up in index
 /// gb18030 ranges.
 ///
-/// Malformed are: the byte FF (1 byte); a lead and a byte that do not map (2 bytes, and 1 where the
-/// second byte is ASCII, which is then read again); four bytes that do not map (4 bytes); a lead
-/// whose digit has no lead behind it, or whose digit and lead have no digit behind them (1 byte: the
-/// digit is then a scalar of its own, and the lead behind it begins a form); the bytes of a form that
-/// is cut off by the end of the input (1 to 3 bytes).
+/// Malformed sequences:
+///
+/// - the byte FF at the beginning of a sequence (1 byte);
+/// - a lead with a byte that does not continue or map (2 bytes); if that byte is ASCII, only the
+///   lead (1 byte), and the ASCII byte is read again;
+/// - a lead whose digit is followed by a byte that is not a lead, or by a lead and a byte that is
+///   not a digit (1 byte); the digit is then a scalar, and the next sequence begins after it;
+/// - four bytes that do not map (4 bytes);
+/// - an incomplete sequence at the end of the input (1 to 3 bytes).
 #[derive(Drop)]
 pub struct Gb18030Decoder<'a> {
     pub(crate) tables: &'a Tables<'a>,
     held: Held,
 }
 
-/// The scalar of two bytes, if they are a lead and a trail and give one.
-#[inline]
-pub(super) fn form_scalar<V: DecoderTables>(tables: &V, lead: u8, trail: u8) -> Option<char>
-    ensures value { option_to_list result ≡ (if is_lead lead
-        then gb18030_scalars (V.indexes tables.now).flat.gb18030 lead trail
-        else []) }
-    ensures scalar { IfSome result IsScalar }
-{
-    let pointer = pair_pointer(&ROWS_OF_190, &TRAILS, lead, trail);
-    tables.idx(IndexName::Gb18030, pointer)
-}
-
-/// The scalar of a lead and a trail.
+/// Returns the scalar of a lead and a trail, or `None` if they have no entry.
 #[inline]
 fn pair_scalar(tables: &Tables, lead: Lead, trail: u8) -> Option<char>
     ensures value { option_to_list result ≡ gb18030_scalars tables.now.flat.gb18030 lead.byte
         trail }
     ensures scalar { IfSome result IsScalar }
 {
-    form_scalar(tables, lead.byte, trail)
+    let pointer = pair_pointer(&ROWS_OF_190, &TRAILS, lead.byte, trail);
+    tables.idx(IndexName::Gb18030, pointer)
 }
 
-/// What a byte leads to where nothing is held back.
+/// Returns what a byte leads to if nothing is held back.
 #[inline]
 fn read_first(byte: u8) -> (Fed, Held)
     ensures { Took (gb18030_step [] [] [] byte) [] byte result.0 (held_bytes result.1) }
@@ -95,7 +86,7 @@ fn read_first(byte: u8) -> (Fed, Held)
     (fault_through(1), Held::Nothing)
 }
 
-/// What a byte leads to behind a lead.
+/// Returns what a byte leads to after a lead.
 #[inline]
 fn read_second(tables: &Tables, first: Lead, byte: u8) -> (Fed, Held)
     ensures { Took (gb18030_step tables.now.flat.gb18030 [] (first.byte ∷ []) byte)
@@ -111,7 +102,7 @@ fn read_second(tables: &Tables, first: Lead, byte: u8) -> (Fed, Held)
     (fed, Held::Nothing)
 }
 
-/// What a byte leads to behind a lead and a digit.
+/// Returns what a byte leads to after a lead and a digit.
 #[inline]
 fn read_third(first: Lead, second: Digit, byte: u8) -> (Fed, Held)
     ensures { Took (gb18030_step [] [] (first.byte ∷ second.byte ∷ []) byte)
@@ -130,7 +121,7 @@ fn read_third(first: Lead, second: Digit, byte: u8) -> (Fed, Held)
     )
 }
 
-/// What a byte leads to behind a lead, a digit and a lead.
+/// Returns what a byte leads to after a lead, a digit and a lead.
 #[inline]
 fn read_fourth(tables: &Tables, first: Lead, second: Digit, third: Lead, byte: u8) -> (Fed, Held)
     ensures { Took (gb18030_step [] tables.now.flat.ranges
@@ -158,7 +149,7 @@ fn read_fourth(tables: &Tables, first: Lead, second: Digit, third: Lead, byte: u
     (fed, Held::Nothing)
 }
 
-/// What a byte leads to, and what is held back then.
+/// Returns what a byte leads to, and what is held back after it.
 #[inline]
 fn read(tables: &Tables, held: Held, byte: u8) -> (Fed, Held)
     requires { is_resting held ≡ true }
@@ -175,7 +166,7 @@ fn read(tables: &Tables, held: Held, byte: u8) -> (Fed, Held)
     }
 }
 
-/// The room that an act needs.
+/// Returns the room that an act needs.
 #[inline]
 fn room_of(held: Held, next: Move) -> Room
     ensures { (index : List ℕ) (ranges : List (ℕ × ℕ)) (form : EncodingForm) →
@@ -188,7 +179,7 @@ fn room_of(held: Held, next: Move) -> Room
     }
 }
 
-/// How many bytes are held back.
+/// Returns the number of held-back bytes.
 #[inline]
 fn held_length(held: Held) -> u8
     ensures { result ≡ length (held_bytes held) }
@@ -205,7 +196,7 @@ impl<'a> Gb18030Decoder<'a> {
     ghost use Rattle.legacy_base.specs.Lengths.{answer, weighted};
     ghost use Rattle.legacy_chinese.specs.Gb18030Decoder.{gb18030_state};
 
-    /// A decoder before its first byte, which reads by the tables.
+    /// Returns a new decoder over the tables.
     pub fn new(tables: &'a Tables<'a>) -> Gb18030Decoder<'a>
         ensures { gb18030_state result ≡ new_state
             (gb18030 tables.now.flat.gb18030 tables.now.flat.ranges) }
@@ -216,7 +207,7 @@ impl<'a> Gb18030Decoder<'a> {
         }
     }
 
-    /// Whether no byte is held back.
+    /// Returns whether no byte is held back.
     #[inline]
     pub fn in_neutral_state(&self) -> bool
         ensures { result ≡ is_neutral (gb18030_state self.now) }
@@ -224,18 +215,12 @@ impl<'a> Gb18030Decoder<'a> {
         matches!(self.held, Held::Nothing)
     }
 
-    /// The bytes to come and those that are held back, if that is a length.
+    /// Returns the number of bytes plus that of held-back bytes, or `None` if that overflows.
     fn weighted_length(&self, byte_length: usize) -> Option<usize>
         ensures { result ≡ answer (weighted (gb18030_state self.now) byte_length) }
     {
         byte_length.checked_add(usize::from(held_length(self.held)))
     }
-}
-
-/// Whether the byte begins no common form.
-#[inline(always)]
-pub(super) fn is_uncommon(byte: u8) -> bool {
-    byte >= 0x80 && Lead::new(byte).is_none()
 }
 
 impl DecoderMoves for Gb18030Decoder<'_> {
@@ -299,35 +284,20 @@ impl DecoderMoves for Gb18030Decoder<'_> {
         }
     }
 
+    // Over packed tables only ASCII is read ahead.
     #[inline(always)]
     fn read_ahead<T: Destination>(&self, src: &[u8], dst: &mut T) -> usize {
         if !self.in_neutral_state() {
             return 0;
         }
-        let tables = self.tables;
-        let guess = Cell::new(0);
-        match tables.flat() {
-            Some(tables) => read_blocks(&Gb18030Blocks { tables, guess }, src, dst),
-            None => read_blocks(&Gb18030Blocks { tables, guess }, src, dst),
+        match self.tables.flat() {
+            Some(tables) => read_flat(tables, src, dst),
+            None => read_ascii(src, dst),
         }
     }
 
-    // Behind a fault often comes the next one, or a single form and then the next one: neither is a call.
     #[inline(always)]
     fn read_runs<T: Destination>(&mut self, src: &[u8], dst: &mut T) -> usize {
-        let forms = Gb18030Blocks {
-            tables: self.tables,
-            guess: Cell::new(0),
-        };
-        if begins_rare(&forms, src) {
-            return 0;
-        }
-        if !self.in_neutral_state() {
-            return 0;
-        }
-        if stands_alone(&forms, src) {
-            return read_one(&CommonBlocks { decoder: &forms }, src, dst);
-        }
         self.read_ahead(src, dst)
     }
 }

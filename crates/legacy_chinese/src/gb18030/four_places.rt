@@ -1,5 +1,6 @@
-//! The pointer of four bytes of GB18030: a place for each of them, of which it is the sum. A byte that cannot
-//! stand there has a place past all pointers, so what tests the pointer tests all four bytes.
+//! The pointer of four bytes of GB18030, which is the sum of a place for each of them.
+//!
+//! A byte that is not allowed there has a place past all pointers. So one test of the pointer tests all four bytes.
 ghost use Rattle.std.specs.Prelude.{◌≡◌, ◌+◌};
 ghost use Rattle.legacy_chinese.specs.FourPlaces.{first_place, second_place, third_place, fourth_place};
 
@@ -147,7 +148,7 @@ static FOURTHS: [u32; 256] = [
     2000000, 2000000, 2000000, 2000000, 2000000, 2000000, 2000000, 2000000,
 ];
 
-/// The pointer of four bytes, or a number past all pointers where they are no form.
+/// Returns the pointer of four bytes, or a number past all pointers if one of them is not allowed there.
 #[inline]
 pub fn four_pointer(first: u8, second: u8, third: u8, fourth: u8) -> usize
     ensures { result ≡ first_place first + second_place second + third_place third + fourth_place

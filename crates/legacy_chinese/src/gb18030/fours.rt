@@ -1,93 +1,85 @@
-//! The blocks of GB18030: forms of four bytes, with ASCII bytes between them, beside the common forms.
-// Inlined always is what runs for each form or block: a call would pass vectors through memory, and put the
-// destination's place there from form to form.
+//! Decodes blocks of GB18030: sequences of four bytes with ASCII bytes between them, and common sequences.
+// Functions that run for each sequence or block are always inlined. A call would pass vectors through memory, and keep
+// the destination's place there.
 ghost use Rattle.std.specs.Prelude.{◌≡◌, ◌<◌, [], ◌∷◌, IfSome};
 ghost use Rattle.legacy_tables.specs.Indexes.{range};
 ghost use Rattle.legacy_tables.specs.RangeParts.{IsRangePart};
 ghost use Rattle.legacy_base.specs.Grammar.{gb18030};
 ghost use Rattle.legacy_base.specs.States.{new_state};
-ghost use Rattle.legacy_decoder_engine.specs.Ahead.{Runs};
+ghost use Rattle.legacy_decoder_engine.specs.Ahead.{ReadsAhead, Runs};
+ghost use Rattle.legacy_chinese.specs.Gb18030Places.{gb18030_place};
 
-use super::decoder::{form_scalar, is_uncommon};
 use super::four_places::four_pointer;
-use legacy_base::Destination;
-use legacy_decoder_engine::common_forms::{CommonBlocks, CommonForm, CommonForms, begins_rare};
-use legacy_decoder_engine::runs::{Blocks, Forms, read_blocks, read_run};
-use legacy_tables::{DecoderTables, RangePart};
+use super::pair_places::TRAILS;
+use legacy_base::{Destination, IndexName};
+use legacy_decoder_engine::common_forms::{
+    CommonBlocks, CommonForm, CommonForms, begins_rare, stands_alone,
+};
+use legacy_decoder_engine::held::Lead;
+use legacy_decoder_engine::lanes::{LaneBlocks, LaneForms, narrow_entries};
+use legacy_decoder_engine::places::{ROWS_OF_190, pair_pointer};
+use legacy_decoder_engine::runs::{Blocks, Forms, read_ascii, read_blocks, read_one, read_run};
+use legacy_decoder_engine::split_rows::{lead_places, place_sums, trail_places};
+use legacy_tables::{DecoderTables, FlatTables, RangePart};
 use std::cell::Cell;
+use std::simd::prelude::*;
 
-/// The scalar of a pointer that is none of those that the run keeps, which become those of its range. The guess is the
-/// place of the last range, and becomes that of this one.
-fn far_scalar<V: DecoderTables>(
-    tables: &V,
-    guess: &Cell<usize>,
-    part: &mut RangePart,
-    pointer: usize,
-) -> Option<char>
+/// Returns the scalar of a pointer outside the range in `part`.
+///
+/// `part` becomes the range of the pointer, and the guess becomes the place of this range.
+fn far_scalar(blocks: &Gb18030Blocks<'_, '_>, part: &mut RangePart, pointer: usize) -> Option<char>
     requires { pointer < 0x1_0000_0000 }
-    ensures scalar { result ≡ range (V.indexes tables.now).flat.ranges pointer }
-    ensures part { IsRangePart (V.indexes tables.now).flat.ranges part.new }
+    ensures scalar { result ≡ range blocks.now.tables.now.flat.ranges pointer }
+    ensures part { IsRangePart blocks.now.tables.now.flat.ranges part.new }
 {
-    let ranges = tables.ranges();
+    let ranges = blocks.tables.ranges();
     let place = ranges.place_of(pointer);
-    guess.set(place);
+    blocks.guess.set(place);
     *part = ranges.part_at(place);
     match ranges.scalar_in(*part, pointer) {
         Some(scalar) => Some(scalar),
-        None => tables.range(pointer),
+        None => blocks.tables.range(pointer),
     }
 }
 
-/// The scalar of a pointer. The run keeps the pointers of its range.
+/// Returns the scalar of a pointer, and keeps its range in `part`.
 #[inline(always)]
-fn near_scalar<V: DecoderTables>(
-    tables: &V,
-    guess: &Cell<usize>,
-    part: &mut RangePart,
-    pointer: usize,
-) -> Option<char>
-    requires part { IsRangePart (V.indexes tables.now).flat.ranges part.old }
+fn near_scalar(blocks: &Gb18030Blocks<'_, '_>, part: &mut RangePart, pointer: usize) -> Option<char>
+    requires part { IsRangePart blocks.now.tables.now.flat.ranges part.old }
     requires small { pointer < 0x1_0000_0000 }
-    ensures scalar { result ≡ range (V.indexes tables.now).flat.ranges pointer }
-    ensures part { IsRangePart (V.indexes tables.now).flat.ranges part.new }
+    ensures scalar { result ≡ range blocks.now.tables.now.flat.ranges pointer }
+    ensures part { IsRangePart blocks.now.tables.now.flat.ranges part.new }
 {
-    match tables.ranges().scalar_in(*part, pointer) {
+    match blocks.tables.ranges().scalar_in(*part, pointer) {
         Some(scalar) => Some(scalar),
-        None => far_scalar(tables, guess, part, pointer),
+        None => far_scalar(blocks, part, pointer),
     }
 }
 
-/// The scalar of four bytes, if they are a form that has one. The run keeps the pointers of its range.
+/// Returns the scalar of four bytes, or `None` if they have none, and keeps its range in `part`.
 #[inline(always)]
-fn four_scalar<V: DecoderTables>(
-    tables: &V,
-    guess: &Cell<usize>,
+fn four_scalar(
+    blocks: &Gb18030Blocks<'_, '_>,
     part: &mut RangePart,
     first: u8,
     second: u8,
     third: u8,
     fourth: u8,
 ) -> Option<char>
-    requires { IsRangePart (V.indexes tables.now).flat.ranges part.old }
-    ensures scalar { let flat = (V.indexes tables.now).flat in
+    requires { IsRangePart blocks.now.tables.now.flat.ranges part.old }
+    ensures scalar { let flat = blocks.now.tables.now.flat in
         IfSome result (λ c. Runs (gb18030 flat.gb18030 flat.ranges)
         (first ∷ second ∷ third ∷ fourth ∷ []) (c ∷ [])) }
-    ensures part { IsRangePart (V.indexes tables.now).flat.ranges part.new }
+    ensures part { IsRangePart blocks.now.tables.now.flat.ranges part.new }
 {
     let pointer = four_pointer(first, second, third, fourth);
-    near_scalar(tables, guess, part, pointer)
+    near_scalar(blocks, part, pointer)
 }
 
-/// Forms of four bytes, and ASCII bytes.
-#[derive(Drop)]
-struct FourByteForms<'a, V: DecoderTables> {
-    tables: &'a V,
-    guess: &'a Cell<usize>,
-}
-
-impl<V: DecoderTables> Forms for FourByteForms<'_, V> {
-    ghost grammar = { λ forms. gb18030 (V.indexes forms.tables.now).flat.gb18030
-        (V.indexes forms.tables.now).flat.ranges };
+/// Sequences of four bytes, and ASCII bytes.
+impl Forms for Gb18030Blocks<'_, '_> {
+    ghost grammar = { λ blocks. gb18030 blocks.tables.now.flat.gb18030
+        blocks.tables.now.flat.ranges };
 
     ghost most_bytes = { 4 };
 
@@ -100,7 +92,7 @@ impl<V: DecoderTables> Forms for FourByteForms<'_, V> {
         (bytes / 4).min(units / 4)
     }
 
-    /// Stops at two ASCII bytes in a row too.
+    /// Reads at most `most` sequences. It also stops at two ASCII bytes in a row.
     #[inline(always)]
     fn read_forms<T: Destination>(&self, src: &[u8], dst: &mut T, most: usize) -> usize {
         let mut part = self.tables.ranges().part_at(self.guess.get());
@@ -117,15 +109,7 @@ impl<V: DecoderTables> Forms for FourByteForms<'_, V> {
                 }
             } else {
                 let (third, fourth) = (src[at + 2], src[at + 3]);
-                match four_scalar(
-                    self.tables,
-                    self.guess,
-                    &mut part,
-                    byte,
-                    next,
-                    third,
-                    fourth,
-                ) {
+                match four_scalar(self, &mut part, byte, next, third, fourth) {
                     Some(scalar) => dst.put(scalar),
                     None => return at,
                 }
@@ -137,17 +121,18 @@ impl<V: DecoderTables> Forms for FourByteForms<'_, V> {
     }
 }
 
-/// The blocks of GB18030 by its tables as they are kept, where nothing is held back. The place of the range that was used
-/// last is a guess for the next form of four bytes.
+/// The blocks of GB18030 over flat tables, if nothing is held back.
+///
+/// The place of the last range that was used is the guess for the next sequence of four bytes.
 #[derive(Drop)]
-pub(super) struct Gb18030Blocks<'a, V: DecoderTables> {
-    pub(super) tables: &'a V,
-    pub(super) guess: Cell<usize>,
+struct Gb18030Blocks<'a, 'b> {
+    tables: &'a FlatTables<'b>,
+    guess: Cell<usize>,
 }
 
-impl<V: DecoderTables> CommonForms for Gb18030Blocks<'_, V> {
-    ghost state = { λ blocks. new_state (gb18030 (V.indexes blocks.tables.now).flat.gb18030
-        (V.indexes blocks.tables.now).flat.ranges) };
+impl CommonForms for Gb18030Blocks<'_, '_> {
+    ghost state = { λ blocks. new_state (gb18030 blocks.tables.now.flat.gb18030
+        blocks.tables.now.flat.ranges) };
 
     #[inline]
     fn is_idle(&self) -> bool {
@@ -156,37 +141,95 @@ impl<V: DecoderTables> CommonForms for Gb18030Blocks<'_, V> {
 
     #[inline(always)]
     fn is_rare(&self, byte: u8) -> bool {
-        is_uncommon(byte)
+        byte >= 0x80 && Lead::new(byte).is_none()
     }
 
     #[inline]
     fn front(&self, lead: u8, trail: u8) -> CommonForm {
-        match form_scalar(self.tables, lead, trail) {
+        let pointer = pair_pointer(&ROWS_OF_190, &TRAILS, lead, trail);
+        match self.tables.idx(IndexName::Gb18030, pointer) {
             Some(scalar) => CommonForm::Pair(scalar),
             None => CommonForm::Other,
         }
     }
 }
 
-impl<V: DecoderTables> Blocks for Gb18030Blocks<'_, V> {
-    ghost grammar = { λ blocks. gb18030 (V.indexes blocks.tables.now).flat.gb18030
-        (V.indexes blocks.tables.now).flat.ranges };
+impl LaneForms for Gb18030Blocks<'_, '_> {
+    ghost entries = { λ blocks. blocks.tables.now.flat.gb18030 };
 
-    /// Reads common forms, and behind them a run of forms of four bytes.
+    ghost pointer = { gb18030_place };
+
+    #[inline(always)]
+    fn entry_count(&self) -> usize {
+        self.tables.narrow(IndexName::Gb18030).len()
+    }
+
+    #[inline(always)]
+    fn entries_at(&self, places: &[u16]) -> u16x8 {
+        narrow_entries(self.tables.narrow(IndexName::Gb18030), places)
+    }
+
+    #[inline(always)]
+    fn pointers(codes: u16x8) -> u16x8 {
+        place_sums(
+            lead_places(codes, 0x81, 0x7D, 190),
+            trail_places(codes, 0x80, 0xFE),
+        )
+    }
+}
+
+/// Returns whether a byte past ASCII and a digit are at the front, as in a sequence of four bytes.
+#[inline(always)]
+fn begins_four(src: &[u8]) -> bool {
+    src.len() >= 2 && src[0] >= 0x80 && src[1] >= 0x30 && src[1] <= 0x39
+}
+
+impl Gb18030Blocks<'_, '_> {
+    /// Reads a run of sequences of four bytes, or a block of common sequences.
+    #[inline(always)]
+    fn read_forms_ahead<T: Destination>(&self, src: &[u8], dst: &mut T) -> usize
+        ensures { ReadsAhead T.Destination (new_state (gb18030 self.now.tables.now.flat.gb18030
+            self.now.tables.now.flat.ranges)) src.now result dst.old dst.new }
+    {
+        if begins_four(src) {
+            return read_run(self, src, dst);
+        }
+        LaneBlocks { forms: self }.read_block(src, dst).0
+    }
+}
+
+impl Blocks for Gb18030Blocks<'_, '_> {
+    ghost grammar = { λ blocks. gb18030 blocks.tables.now.flat.gb18030
+        blocks.tables.now.flat.ranges };
+
+    // A sequence of four bytes is tested for first, because a block of lanes cannot read it.
     #[inline(always)]
     fn read_block<T: Destination>(&self, src: &[u8], dst: &mut T) -> (usize, bool) {
-        let at = read_blocks(&CommonBlocks { decoder: self }, src, dst);
-        if begins_rare(self, &src[at..]) {
-            return (at, false);
-        }
-        let read = read_run(
-            &FourByteForms {
-                tables: self.tables,
-                guess: &self.guess,
-            },
-            &src[at..],
-            dst,
-        );
-        (at + read, read > 0)
+        let front = read_ascii(src, dst);
+        let read = self.read_forms_ahead(&src[front..], dst);
+        (front + read, read > 0)
     }
+}
+
+/// Reads ASCII, common sequences and sequences of four bytes from the front of `src`, if nothing is held back.
+///
+/// It reads while three code units more than a sequence needs are free.
+/// Returns the number of bytes read, which may be 0.
+// After a malformed byte often comes another, or one sequence and then another. Neither costs a call.
+#[inline(always)]
+pub(super) fn read_flat<T: Destination>(tables: &FlatTables<'_>, src: &[u8], dst: &mut T) -> usize
+    ensures { ReadsAhead T.Destination (new_state (gb18030 tables.now.flat.gb18030
+        tables.now.flat.ranges)) src.now result dst.old dst.new }
+{
+    let blocks = Gb18030Blocks {
+        tables,
+        guess: Cell::new(0),
+    };
+    if begins_rare(&blocks, src) {
+        return 0;
+    }
+    if stands_alone(&blocks, src) {
+        return read_one(&CommonBlocks { decoder: &blocks }, src, dst);
+    }
+    read_blocks(&blocks, src, dst)
 }

@@ -1,6 +1,6 @@
 //! The places of the trails of GB18030 in the rows of its index.
 
-/// Those of the trails 40 to 7E and 80 to FE.
+/// The places of the trails 40 to 7E and 80 to FE.
 #[rattlefmt::skip]
 pub static TRAILS: [u16; 256] = [
     65535, 65535, 65535, 65535, 65535, 65535, 65535, 65535, 65535, 65535, 65535, 65535, 65535, 65535, 65535, 65535,

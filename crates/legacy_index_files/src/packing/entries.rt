@@ -15,39 +15,29 @@ pub(crate) trait Entries {
         ensures { result ≡ slice_index (entries self.now) pointer };
 }
 
-/// The entries of an index with scalars past U+FFFF.
-#[derive(Drop)]
-pub(crate) struct Wide<'a> {
-    pub(crate) entries: &'a [u32],
-}
-
-impl<'a> Entries for Wide<'a> {
-    ghost entries = { λ s. s.entries.now };
+/// An index with scalars past U+FFFF.
+impl<'a> Entries for &'a [u32] {
+    ghost entries = { λ s. s.now };
 
     fn count(&self) -> usize {
-        self.entries.len()
+        self.len()
     }
 
     fn entry(&self, pointer: usize) -> u32 {
-        self.entries[pointer]
+        self[pointer]
     }
 }
 
-/// The entries of the other indexes.
-#[derive(Drop)]
-pub(crate) struct Narrow<'a> {
-    pub(crate) entries: &'a [u16],
-}
-
-impl<'a> Entries for Narrow<'a> {
-    ghost entries = { λ s. s.entries.now };
+/// Another index.
+impl<'a> Entries for &'a [u16] {
+    ghost entries = { λ s. s.now };
 
     fn count(&self) -> usize {
-        self.entries.len()
+        self.len()
     }
 
     fn entry(&self, pointer: usize) -> u32 {
-        u32::from(self.entries[pointer])
+        u32::from(self[pointer])
     }
 }
 

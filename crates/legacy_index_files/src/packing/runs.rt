@@ -3,7 +3,7 @@ ghost use Rattle.std.specs.Prelude.{◌≡◌, ◌≢◌, ℕ, ◌+◌, ◌<◌,
 ghost use Rattle.legacy_tables.specs.Tables.{flat_indexes};
 ghost use Rattle.legacy_index_files.specs.Packing.{GivesIndex, AreLongest, GiveIndexes};
 
-use super::entries::{Entries, Narrow, Wide, below};
+use super::entries::{Entries, below};
 use legacy_tables::{Indexes, Run};
 use std::alloc::{AllocError, Global};
 
@@ -62,10 +62,7 @@ fn wide_runs(alloc: Global, limit: usize, entries: &[u32]) -> Result<Vec<Run>, A
         GivesIndex limit entries.now runs.items) }
     ensures longest { IfOk result (λ runs. AreLongest runs.items) }
 {
-    let index = Wide {
-        entries: below(limit, entries),
-    };
-    runs_of(alloc, limit, &index)
+    runs_of(alloc, limit, &below(limit, entries))
 }
 
 /// Returns the runs of another index.
@@ -75,10 +72,7 @@ fn narrow_runs(alloc: Global, limit: usize, entries: &[u16]) -> Result<Vec<Run>,
         GivesIndex limit entries.now runs.items) }
     ensures longest { IfOk result (λ runs. AreLongest runs.items) }
 {
-    let index = Narrow {
-        entries: below(limit, entries),
-    };
-    runs_of(alloc, limit, &index)
+    runs_of(alloc, limit, &below(limit, entries))
 }
 
 /// The runs of the five indexes.

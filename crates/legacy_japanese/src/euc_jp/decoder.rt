@@ -12,19 +12,20 @@ ghost use Rattle.legacy_decoder_engine.specs.Steps.{finish};
 ghost use Rattle.legacy_japanese.specs.EucJpMachine.{euc_jp_step};
 ghost use Rattle.legacy_decoder_engine.specs.Moves.{move_units, room_units};
 ghost use Rattle.legacy_decoder_engine.specs.Feeding.{Took};
+ghost use Rattle.legacy_decoder_engine.specs.Ahead.{ReadsAhead};
 ghost use Rattle.legacy_decoder_engine.specs.LaneRows.{row_place};
 ghost use Rattle.legacy_japanese.specs.EucJpHeld.{held_bytes};
 
 use super::lead::EucJpLead;
 use legacy_base::{DecoderResult, Destination, IndexName, RawDecoder, Tables};
 use legacy_decoder_engine::common_forms::{
-    CommonBlocks, CommonForm, CommonForms, begins_rare, read_common_forms, stands_alone,
+    CommonBlocks, CommonForm, CommonForms, begins_rare, stands_alone,
 };
 use legacy_decoder_engine::drive::{count_lone, drive_decoder};
-use legacy_decoder_engine::lanes::{LaneForms, read_lane_forms};
+use legacy_decoder_engine::lanes::{LaneForms, narrow_entries, read_lane_forms};
 use legacy_decoder_engine::moves::{DecoderMoves, Fed, Move, Room};
 use legacy_decoder_engine::rows::row_pointers;
-use legacy_decoder_engine::runs::read_one;
+use legacy_decoder_engine::runs::{read_ascii, read_one};
 use legacy_decoder_engine::trail::unmapped;
 use legacy_decoder_engine::two_byte::fault_through;
 use legacy_tables::{DecoderTables, FlatTables};
@@ -236,12 +237,6 @@ impl<'a> EucJpDecoder<'a> {
     }
 }
 
-/// Returns whether the byte does not begin a common sequence.
-#[inline(always)]
-fn is_uncommon(byte: u8) -> bool {
-    byte >= 0x80 && EucJpLead::new(byte).is_none()
-}
-
 impl DecoderMoves for EucJpDecoder<'_> {
     ghost use Rattle.legacy_japanese.specs.EucJpDecoder.{euc_jp_state};
 
@@ -294,58 +289,65 @@ impl DecoderMoves for EucJpDecoder<'_> {
         }
     }
 
+    // Over packed tables only ASCII is read ahead.
     #[inline(always)]
     fn read_ahead<T: Destination>(&self, src: &[u8], dst: &mut T) -> usize {
-        let held = self.held;
-        let tables = self.tables;
-        match tables.flat() {
-            Some(tables) => read_lane_forms(&EucJpForms { tables, held }, src, dst),
-            None => read_common_forms(&EucJpForms { tables, held }, src, dst),
+        match self.held {
+            Held::Nothing => match self.tables.flat() {
+                Some(tables) => read_flat(tables, src, dst),
+                None => read_ascii(src, dst),
+            },
+            _ => 0,
         }
     }
 
-    // After a malformed byte often comes another, or one sequence and then another. Neither costs a call.
     #[inline(always)]
     fn read_runs<T: Destination>(&mut self, src: &[u8], dst: &mut T) -> usize {
-        let forms = EucJpForms {
-            tables: self.tables,
-            held: self.held,
-        };
-        if begins_rare(&forms, src) {
-            return 0;
-        }
-        if stands_alone(&forms, src) {
-            return read_one(&CommonBlocks { decoder: &forms }, src, dst);
-        }
         self.read_ahead(src, dst)
     }
 }
 
-/// The common sequences of EUC-JP over one kind of tables, with the held-back bytes.
-#[derive(Drop)]
-struct EucJpForms<'a, V: DecoderTables> {
-    tables: &'a V,
-    held: Held,
+/// Decodes common sequences and ASCII from the front of `src` to `dst`, if nothing is held back.
+///
+/// Returns the number of bytes read.
+// After a malformed byte often comes another, or one sequence and then another. Neither costs a call.
+#[inline(always)]
+fn read_flat<T: Destination>(tables: &FlatTables<'_>, src: &[u8], dst: &mut T) -> usize
+    ensures { ReadsAhead T.Destination
+        (new_state (euc_jp tables.now.flat.jis0208 tables.now.flat.jis0212)) src.now result
+        dst.old dst.new }
+{
+    let forms = EucJpForms { tables };
+    if begins_rare(&forms, src) {
+        return 0;
+    }
+    if stands_alone(&forms, src) {
+        return read_one(&CommonBlocks { decoder: &forms }, src, dst);
+    }
+    read_lane_forms(&forms, src, dst)
 }
 
-impl<V: DecoderTables> CommonForms for EucJpForms<'_, V> {
-    ghost state = { λ forms. state_of (euc_jp (V.indexes forms.tables.now).flat.jis0208
-        (V.indexes forms.tables.now).flat.jis0212) (held_bytes forms.held) };
+/// The common sequences of EUC-JP over flat tables, if nothing is held back.
+#[derive(Drop)]
+struct EucJpForms<'a, 'b> {
+    tables: &'a FlatTables<'b>,
+}
 
-    #[inline]
+impl CommonForms for EucJpForms<'_, '_> {
+    ghost state = { λ forms. new_state (euc_jp forms.tables.now.flat.jis0208
+        forms.tables.now.flat.jis0212) };
+
+    #[inline(always)]
     fn is_idle(&self) -> bool {
-        match self.held {
-            Held::Nothing => true,
-            _ => false,
-        }
+        true
     }
 
     #[inline(always)]
     fn is_rare(&self, byte: u8) -> bool {
-        is_uncommon(byte)
+        byte >= 0x80 && EucJpLead::new(byte).is_none()
     }
 
-    #[inline]
+    #[inline(always)]
     #[tactic(auto, using(crate::proofs::EucJpHeld::pair))]
     fn front(&self, lead: u8, trail: u8) -> CommonForm {
         let Some(lead) = EucJpLead::new(lead) else {
@@ -358,14 +360,19 @@ impl<V: DecoderTables> CommonForms for EucJpForms<'_, V> {
     }
 }
 
-impl<'b> LaneForms for EucJpForms<'_, FlatTables<'b>> {
+impl LaneForms for EucJpForms<'_, '_> {
     ghost entries = { λ forms. forms.tables.now.flat.jis0208 };
 
     ghost pointer = { row_place 0xA1 0x5D 0xA1 0x5D 94 };
 
     #[inline(always)]
-    fn index(&self) -> &[u16] {
-        self.tables.narrow(IndexName::Jis0208)
+    fn entry_count(&self) -> usize {
+        self.tables.narrow(IndexName::Jis0208).len()
+    }
+
+    #[inline(always)]
+    fn entries_at(&self, places: &[u16]) -> u16x8 {
+        narrow_entries(self.tables.narrow(IndexName::Jis0208), places)
     }
 
     #[inline(always)]

@@ -90,7 +90,7 @@ fn list_pairs(tables: &Tables, pairs: &mut [u16])
     list_between(tables, pairs, 0xFF61, 0xFFA0);
 }
 
-/// The pairs by these tables, in a list.
+/// A list of the pairs by these tables.
 #[derive(Clone, Copy)]
 pub struct ListedPairs<'a, 'b> {
     tables: &'a Tables<'a>,
@@ -203,7 +203,7 @@ impl Pairs for ListedPairs<'_, '_> {
 impl ReadingLoop for ListedPairs<'_, '_> {
     ghost keeps = { λ listed. KeepsOn (pairs_state listed.tables.now) };
 
-    // The scalar before is one of two-byte mode, as U+3000 is.
+    // The last scalar was in two-byte mode, as U+3000 is.
     #[inline(always)]
     fn read<S: TextCursor>(&self, src: &mut S, dst: &mut [u8], start: usize) -> usize {
         let mut at = start;

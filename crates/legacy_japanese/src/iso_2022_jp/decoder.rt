@@ -15,7 +15,7 @@ use legacy_decoder_engine::moves::{DecoderMoves, Fed, Move, Room};
 /// The decoder of ISO-2022-JP (Encoding Standard, "ISO-2022-JP decoder").
 ///
 /// An escape of three bytes switches to ASCII, JIS X 0201 Roman, half-width katakana or the pairs
-/// of JIS X 0208. The mode lasts over calls. An escape byte that begins no valid escape is
+/// of JIS X 0208. The mode is kept between calls. An escape byte that begins no valid escape is
 /// malformed. A valid escape directly before another one is malformed too. The decoder holds back
 /// at most five bytes: a whole escape, and two bytes. It holds back a whole escape until a byte
 /// follows that is not part of an escape.

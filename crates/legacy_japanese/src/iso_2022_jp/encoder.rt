@@ -169,11 +169,12 @@ pub fn asked<V: EncoderTables>(tables: &V, mode: Mode, c: char) -> (Mode, Encode
 /// The encoder of ISO-2022-JP (Encoding Standard, "ISO-2022-JP encoder").
 ///
 /// An escape of three bytes switches between ASCII, JIS X 0201 Roman and the pairs of JIS X 0208.
-/// The mode lasts over calls, and the end of the last call returns to ASCII mode. An escape is an
-/// act of its own: `OutputFull` may come after it, with its scalar unread. A scalar without bytes
-/// is reported in Roman mode or in ASCII mode, in two-byte mode after an escape to ASCII. U+000E,
-/// U+000F and U+001B have no bytes, and are reported as U+FFFD. The minus sign U+2212 is written as
-/// U+FF0D.
+/// The mode is kept between calls, and the end of the last call returns to ASCII mode. `OutputFull`
+/// may come between an escape and its scalar, which is then unread. A scalar without bytes is
+/// reported in ASCII or Roman mode. In two-byte mode an escape to ASCII comes before the report.
+///
+/// U+000E, U+000F and U+001B have no bytes, and are reported as U+FFFD. The minus sign U+2212 is
+/// written as U+FF0D.
 #[derive(Drop)]
 pub struct Iso2022JpEncoder<'a> {
     pub(crate) tables: &'a Tables<'a>,

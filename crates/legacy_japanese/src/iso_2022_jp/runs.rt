@@ -1,28 +1,27 @@
 //! The runs of ISO-2022-JP: plain ASCII in ASCII mode, pairs of index jis0208 in two-byte mode, and the
 //! escapes between them.
-// Inlined always is what runs for each form or block, and what leads from a decoder's call to it: a call would pass
-// vectors through memory, and put the destination's place there from form to form.
+// Functions that run for each sequence or block are always inlined, and so are their callers. A call would pass vectors
+// through memory, and keep the destination's place there.
 ghost use Rattle.std.specs.Prelude.{◌≡◌, ℕ, ◌+◌, ◌<◌, ◌≤◌, List, All, IfSome, length, take, true};
 ghost use Rattle.legacy_japanese.specs.Iso2022JpRuns.{IsPlain, run_state, pairs_grammar};
 ghost use Rattle.legacy_japanese.specs.Iso2022JpRuns.{HasEscape};
-ghost use Rattle.legacy_japanese.specs.declared.iso_2022_jp.steps.Mode.TheVariants.{TwoByte};
 ghost use Rattle.legacy_decoder_engine.specs.Ahead.{ReadsTo, ReadsAhead};
 
 use super::places::{LEADS, TRAILS};
 use super::steps::{DOLLAR, ESCAPE, Escape, Mode, PAREN, Start, completed, entry};
 use legacy_base::{Destination, Tables};
-use legacy_decoder_engine::pairs::{Pairs, read_pair, read_pairs};
+use legacy_decoder_engine::pairs::{Pairs, read_pairs};
 use legacy_decoder_engine::places::pair_pointer;
-use legacy_tables::DecoderTables;
+use legacy_tables::{DecoderTables, FlatTables};
 
 /// The pairs of two-byte mode.
 #[derive(Drop)]
-struct Jis0208Pairs<'a, V: DecoderTables> {
-    tables: &'a V,
+struct Jis0208Pairs<'a, 'b> {
+    tables: &'a FlatTables<'b>,
 }
 
-impl<V: DecoderTables> Pairs for Jis0208Pairs<'_, V> {
-    ghost grammar = { λ pairs. pairs_grammar (V.indexes pairs.tables.now).flat.jis0208 };
+impl Pairs for Jis0208Pairs<'_, '_> {
+    ghost grammar = { λ pairs. pairs_grammar pairs.tables.now.flat.jis0208 };
 
     #[inline(always)]
     fn scalar(&self, first: u8, second: u8) -> Option<char> {
@@ -30,7 +29,7 @@ impl<V: DecoderTables> Pairs for Jis0208Pairs<'_, V> {
     }
 }
 
-/// Whether the byte is its own scalar in ASCII mode, and begins no escape.
+/// Checks whether the byte is plain: its own scalar in ASCII mode, and not the escape byte.
 #[inline]
 fn is_plain(byte: u8) -> bool
     ensures { result ≡ true → IsPlain byte }
@@ -38,7 +37,7 @@ fn is_plain(byte: u8) -> bool
     byte < 0x80 && byte != 0x0E && byte != 0x0F && byte != 0x1B
 }
 
-/// Whether the first sixteen bytes are all such.
+/// Checks whether the first sixteen bytes are all plain.
 // No byte ends the loop early, so the compiler tests them at once.
 #[inline(always)]
 fn are_plain(src: &[u8]) -> bool
@@ -54,7 +53,7 @@ fn are_plain(src: &[u8]) -> bool
     hold
 }
 
-/// How many bytes at the front are in blocks of sixteen such bytes.
+/// Returns the number of bytes at the front that are in blocks of sixteen plain bytes.
 #[inline]
 fn plain_blocks(src: &[u8]) -> usize
     ensures within { result ≤ length src.now }
@@ -67,7 +66,7 @@ fn plain_blocks(src: &[u8]) -> usize
     at
 }
 
-/// How many such bytes are at the front.
+/// Returns the number of plain bytes at the front.
 #[inline]
 fn plain_count(src: &[u8]) -> usize
     ensures within { result ≤ length src.now }
@@ -80,8 +79,9 @@ fn plain_count(src: &[u8]) -> usize
     at
 }
 
-/// Reads such bytes from the front, in ASCII mode, as many as leave three code units free. Answers how
-/// many were read: none is an answer too.
+/// Reads plain bytes from the front in ASCII mode, and leaves three code units free.
+///
+/// Returns the number of bytes read, which may be 0.
 #[inline(always)]
 fn read_plain<T: Destination>(src: &[u8], dst: &mut T) -> usize
     ensures { (jis0208 : List ℕ)
@@ -97,38 +97,28 @@ fn read_plain<T: Destination>(src: &[u8], dst: &mut T) -> usize
     count
 }
 
-/// Reads a run of pairs from the front. Answers how many bytes were read: none is an answer too.
+/// Reads a run of the mode from the front. Returns the number of bytes read, which may be 0.
 #[inline(always)]
-fn read_jis0208<T: Destination>(tables: &Tables, src: &[u8], dst: &mut T) -> usize
-    ensures { ReadsAhead T.Destination (run_state tables.now.flat.jis0208 Mode.TwoByte) src.now
-        result dst.old dst.new }
-{
-    match tables.flat() {
-        Some(tables) => read_pairs(&Jis0208Pairs { tables }, src, dst),
-        None => read_pairs(&Jis0208Pairs { tables }, src, dst),
-    }
-}
-
-/// Reads a run of the mode from the front. Answers how many bytes were read: none is an answer too.
-#[inline(always)]
-fn read_mode<T: Destination>(tables: &Tables, mode: Mode, src: &[u8], dst: &mut T) -> usize
+fn read_mode<T: Destination>(tables: &FlatTables<'_>, mode: Mode, src: &[u8], dst: &mut T) -> usize
     ensures { ReadsAhead T.Destination (run_state tables.now.flat.jis0208 mode) src.now result
         dst.old dst.new }
 {
     match mode {
         Mode::Ascii => read_plain(src, dst),
-        Mode::TwoByte => read_jis0208(tables, src, dst),
+        Mode::TwoByte => read_pairs(&Jis0208Pairs { tables }, src, dst),
         Mode::Roman | Mode::Katakana => 0,
     }
 }
 
-/// Whether a byte that is malformed in every mode stands behind the one at the front.
+/// Checks whether the second byte is malformed in every mode.
 #[inline(always)]
 fn is_byte_alone(src: &[u8]) -> bool {
     src.len() > 1 && src[1] >= 0x80
 }
 
-/// Whether a run of the mode may begin at the front: no is an answer too.
+/// Checks whether a run of the mode may begin at the front.
+///
+/// It is a guess from the first two bytes, and may be wrong either way.
 #[inline(always)]
 fn may_begin(mode: Mode, src: &[u8]) -> bool {
     if src.is_empty() {
@@ -141,34 +131,31 @@ fn may_begin(mode: Mode, src: &[u8]) -> bool {
     }
 }
 
-/// Whether an escape byte stands behind two bytes at the front, in two-byte mode.
+/// Reads a run of the mode from the front, if one may begin there. Returns the number of bytes read, which may be 0.
 #[inline(always)]
-fn is_pair_alone(mode: Mode, src: &[u8]) -> bool
-    ensures { result ≡ true → mode ≡ TwoByte }
-{
-    match mode {
-        Mode::TwoByte => src.len() > 2 && src[2] == ESCAPE,
-        _ => false,
-    }
-}
-
-/// Reads a run of the mode from the front, and makes no call where none begins, or where it is a single pair.
-/// Answers how many bytes were read: none is an answer too.
-#[inline(always)]
-fn read_begun<T: Destination>(tables: &Tables, mode: Mode, src: &[u8], dst: &mut T) -> usize
+fn read_begun<T: Destination>(tables: &FlatTables<'_>, mode: Mode, src: &[u8], dst: &mut T) -> usize
     ensures { ReadsAhead T.Destination (run_state tables.now.flat.jis0208 mode) src.now result
         dst.old dst.new }
 {
     if !may_begin(mode, src) {
         return 0;
     }
-    if is_pair_alone(mode, src) {
-        return read_pair(&Jis0208Pairs { tables }, src, dst);
-    }
     read_mode(tables, mode, src, dst)
 }
 
-/// The valid escape at the front, where a byte that is no escape byte stands behind it.
+/// Reads a run from the front if the mode is ASCII. Returns the number of bytes read, which may be 0.
+#[inline(always)]
+fn read_ascii_mode<T: Destination>(mode: Mode, src: &[u8], dst: &mut T) -> usize
+    ensures { (jis0208 : List ℕ)
+        → ReadsAhead T.Destination (run_state jis0208 mode) src.now result dst.old dst.new }
+{
+    match mode {
+        Mode::Ascii => read_plain(src, dst),
+        _ => 0,
+    }
+}
+
+/// Returns the valid escape at the front, if a byte follows that is not the escape byte.
 #[inline]
 pub fn escape_at(src: &[u8]) -> Option<Escape>
     ensures { IfSome result (λ escape. HasEscape escape src.now) }
@@ -185,11 +172,12 @@ pub fn escape_at(src: &[u8]) -> Option<Escape>
     }
 }
 
-/// Reads a run of the mode from the front, and on behind each escape that a run of its mode follows.
-/// Answers the mode at the end, and how many bytes were read.
+/// Reads a run of the mode from the front, and then each escape that has a run of its mode after it.
+///
+/// Returns the mode at the end, and the number of bytes read.
 #[inline(always)]
-pub fn read_modes<T: Destination>(
-    tables: &Tables,
+fn read_flat<T: Destination>(
+    tables: &FlatTables<'_>,
     first: Mode,
     src: &[u8],
     dst: &mut T,
@@ -209,4 +197,23 @@ pub fn read_modes<T: Destination>(
         at += 3 + read;
     }
     (mode, at)
+}
+
+/// Reads runs and escapes as `read_flat` does, or over packed tables a run of ASCII.
+///
+/// Returns the mode at the end, and the number of bytes read.
+#[inline(always)]
+pub fn read_modes<T: Destination>(
+    tables: &Tables,
+    first: Mode,
+    src: &[u8],
+    dst: &mut T,
+) -> (Mode, usize)
+    ensures { ReadsTo T.Destination (run_state tables.now.flat.jis0208 first)
+        (run_state tables.now.flat.jis0208 result.0) src.now result.1 dst.old dst.new }
+{
+    match tables.flat() {
+        Some(tables) => read_flat(tables, first, src, dst),
+        None => (first, read_ascii_mode(first, src, dst)),
+    }
 }

@@ -1,6 +1,6 @@
 //! The decoder of x-user-defined.
-// Code that runs for each form or block is always inlined: a call would pass vectors through memory, and would store
-// the destination's position in memory for each form.
+// Functions that run for each block are always inlined. A call would pass vectors through memory, and
+// keep the destination's place there.
 ghost use Rattle.std.specs.Prelude.{◌≡◌, ◌+◌, ◌-◌, if◌then◌else◌};
 ghost use Rattle.std.specs.Char.{is_ascii};
 ghost use Rattle.legacy_text.specs.EncodingForm.{bmp_room};

@@ -1,4 +1,4 @@
-//! What a decoder of UTF-16 holds back.
+//! The held-back bytes of the UTF-16 decoders.
 ghost use Rattle.std.specs.Prelude.{◌≡◌, ◌<◌, true, false};
 ghost use Rattle.std.specs.Char.Utf16.{is_high_surrogate, is_low_surrogate};
 
@@ -25,7 +25,7 @@ pub struct UnitScalar {
     ghost is_not_low: { is_low_surrogate scalar ≡ false },
 }
 
-/// What is held back.
+/// The held-back bytes.
 #[derive(Clone, Copy)]
 pub enum Held {
     Nothing,

@@ -1,6 +1,6 @@
 //! Blocks of UTF-16 code units without surrogates: by 64, by eight, and one by one.
-// Code that runs for each form or block is always inlined: a call would pass vectors through memory, and would store
-// the destination's position in memory for each form.
+// Functions that run for each block are always inlined. A call would pass vectors through memory, and
+// keep the destination's place there.
 ghost use Rattle.std.specs.Prelude.{◌≡◌, ◌+◌, ◌*◌, ◌<◌, ◌≤◌, ◌++◌, ℕ, length, true, false, slice_index};
 ghost use Rattle.std.specs.Char.{IsScalar};
 ghost use Rattle.legacy_text.specs.EncodingForm.{code_units, unit_count};

@@ -1,4 +1,4 @@
-//! What a decoder of UTF-16 does with each byte.
+//! The steps of the UTF-16 decoders, byte by byte.
 ghost use Rattle.std.specs.Prelude.{◌≡◌, [], ◌∷◌, true, false, Bool};
 ghost use Rattle.std.specs.Char.Utf16.{is_high_surrogate, is_low_surrogate, surrogate_pair_char};
 ghost use Rattle.legacy_base.specs.Grammar.{utf16};

@@ -1,6 +1,6 @@
 //! Units read by vectors of bytes. In a loop over bytes the compiler would load them one by one.
-// Code that runs for each form or block is always inlined: a call would pass vectors through memory, and would store
-// the destination's position in memory for each form.
+// Functions that run for each block are always inlined. A call would pass vectors through memory, and
+// keep the destination's place there.
 ghost use Rattle.std.specs.Prelude.{◌≡◌, ◌<◌, ◌≤◌, ℕ, length, true, false, slice_index};
 ghost use Rattle.legacy_miscellaneous.specs.Utf16Decoder.{unit_at, AreBelow};
 

@@ -1,4 +1,4 @@
-//! The checks of indexes. Each answers the first fault that it finds.
+//! The checks of indexes. Each returns the first fault that it finds.
 ghost use Rattle.std.specs.Prelude.{◌≡◌, ℕ, ◌+◌, ◌<◌, length, drop};
 ghost use Rattle.std.specs.Prelude.{MatchResult, Some, None, nat_le, ◌&&◌};
 ghost use Rattle.legacy_tables.specs.TableChecks.{is_narrow_entry, is_entry, must_be_empty};
@@ -12,17 +12,17 @@ use super::numbers::Numbers;
 use super::private_use::check_rows;
 use super::{IndexName, Indexes, TableError};
 
-/// The last pointer that ranges reach.
+/// The greatest pointer of the ranges.
 const LAST_RANGE_POINTER: u16 = 39419;
 
-/// Whether the entry is a scalar of the Basic Multilingual Plane past ASCII.
+/// Checks whether the entry is a scalar of the Basic Multilingual Plane past ASCII.
 pub(crate) fn is_narrow(entry: usize) -> bool
     ensures { result ≡ is_narrow_entry entry }
 {
     matches!(entry, 0x80..=0xD7FF | 0xE000..=0xFFFF)
 }
 
-/// Whether the index may hold the entry.
+/// Checks whether the index may contain the entry.
 fn is_allowed(name: IndexName, entry: usize) -> bool
     ensures { result ≡ is_entry name entry }
 {
@@ -32,7 +32,7 @@ fn is_allowed(name: IndexName, entry: usize) -> bool
     }
 }
 
-/// Whether the decoder of the index does not look the pointer up.
+/// Checks whether the entry of the pointer must be 0, because the decoder does not look it up.
 fn stays_empty(name: IndexName, pointer: usize) -> bool
     ensures { result ≡ must_be_empty name pointer }
 {
@@ -73,7 +73,7 @@ fn check_entries<N: Numbers>(name: IndexName, index: &N) -> Result<(), TableErro
     Ok(())
 }
 
-/// Checks the length and the entries of an index of at most so many.
+/// Checks the length of an index, which is at most `limit`, and its entries.
 fn check_index<N: Numbers>(name: IndexName, limit: usize, index: &N) -> Result<(), TableError>
     ensures { let found = index_fault name limit (N.numbers index.now) in
         MatchResult result (λ _. found ≡ None) (λ fault. found ≡ Some fault) }
@@ -95,7 +95,7 @@ pub(super) fn check_katakana(index: &[u16]) -> Result<(), TableError>
     check_entries(IndexName::Katakana, &index)
 }
 
-/// Whether the range may stand behind the one before it, and does not start past the last pointer.
+/// Checks whether the range may follow the one before it, and does not start past the last pointer.
 fn is_in_order(before: Option<(u16, u16)>, range: (u16, u16)) -> bool
     ensures { result ≡ (nat_le range.0 39419 && follows_range before range) }
 {
@@ -111,7 +111,7 @@ fn is_in_order(before: Option<(u16, u16)>, range: (u16, u16)) -> bool
     }
 }
 
-/// Checks that pointers and scalars rise from range to range, and where the last one starts.
+/// Checks that pointers and scalars rise from range to range, and that no range starts past the last pointer.
 pub(super) fn check_range_order(ranges: &[(u16, u16)]) -> Result<(), TableError>
     ensures { let found = range_order_fault 0 None ranges.now in
         MatchResult result (λ _. found ≡ None) (λ fault. found ≡ Some fault) }
@@ -126,7 +126,7 @@ pub(super) fn check_range_order(ranges: &[(u16, u16)]) -> Result<(), TableError>
     Ok(())
 }
 
-/// Whether the range that ends before a pointer has scalars from U+0080 to U+FFFF alone.
+/// Checks whether the range, which ends before `end`, has only scalars from U+0080 to U+FFFF.
 fn has_scalars(range: (u16, u16), end: u16) -> bool
     ensures { result ≡ has_range_scalars range end }
 {
@@ -134,7 +134,7 @@ fn has_scalars(range: (u16, u16), end: u16) -> bool
     range.1 >= 0x80 && (past <= 0xD800 || (range.1 >= 0xE000 && past <= 0x1_0000))
 }
 
-/// The pointer at which the range of a place ends: the next one's, or the one past the last.
+/// Returns the pointer after the range at a place: that of the next range, or the one past the last pointer.
 pub(super) fn end_of(ranges: &[(u16, u16)], place: usize) -> u16
     requires { place < length ranges.now }
     ensures { result ≡ next_pointer (drop (place + 1) ranges.now) }
@@ -159,7 +159,7 @@ pub(super) fn check_range_scalars(ranges: &[(u16, u16)]) -> Result<(), TableErro
     Ok(())
 }
 
-/// Checks indexes in the order of the fields, and answers the first fault.
+/// Checks indexes in the order of the fields, and returns the first fault.
 #[tactic(auto, unfolding(crate::specs::TableChecks::table_fault))]
 pub(super) fn check_indexes(indexes: &Indexes<'_>) -> Result<(), TableError>
     ensures { let found = table_fault (flat_indexes indexes.now) in

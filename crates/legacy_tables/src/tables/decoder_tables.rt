@@ -1,4 +1,4 @@
-//! Tables as a decoder reads them.
+//! The look-ups of decoders in tables.
 ghost use Rattle.std.specs.Prelude.{◌≡◌, IfSome};
 ghost use Rattle.legacy_tables.specs.AcceptedTables.{AcceptedIndexes};
 ghost use Rattle.legacy_tables.specs.Indexes.{idx, range};
@@ -6,10 +6,10 @@ ghost use Rattle.legacy_tables.specs.Tables.{index_list};
 
 use super::{FlatTables, IndexName, Ranges};
 
-/// What a decoder looks up in tables, however they are kept. What runs for each form is generic
-/// over this, so that over flat tables no look-up asks how they are kept.
+/// The look-ups of a decoder in tables, flat or packed.
+// Code that runs for each sequence is generic over this, so that a look-up in flat tables does not test their form.
 pub trait DecoderTables {
-    /// The flat lists that they are seen as.
+    /// The flat lists that are the value of the tables.
     ghost indexes: { Self → AcceptedIndexes };
 
     /// Returns what `Tables::idx` does.
@@ -20,12 +20,12 @@ pub trait DecoderTables {
     fn range(&self, pointer: usize) -> Option<char>
         ensures { result ≡ range (indexes self.now).flat.ranges pointer };
 
-    /// The ranges.
+    /// Returns the ranges.
     fn ranges(&self) -> Ranges<'_>
         ensures { result.list.now ≡ (indexes self.now).flat.ranges };
 
-    /// The same tables, if flat indexes can be read without a search, and else `None`. What runs for
-    /// each form asks this once a run.
+    /// Returns the same tables if they look pointers up in flat indexes, without a search, or else `None`.
+    // Code that runs for each sequence calls this once in a run of sequences.
     #[inline(always)]
     fn flat(&self) -> Option<&FlatTables<'_>>
         ensures { IfSome result (λ flat. flat.now ≡ indexes self.now) }

@@ -1,4 +1,4 @@
-//! Tables as an encoder reads them.
+//! The look-ups of encoders in tables.
 ghost use Rattle.std.specs.Prelude.{◌≡◌, ◌<◌};
 ghost use Rattle.std.specs.Option.{IfSome};
 ghost use Rattle.legacy_tables.specs.Indexes.{gb18030_pua_of};
@@ -9,8 +9,7 @@ ghost use Rattle.legacy_tables.specs.Walks.{IsFilled, order_index};
 
 use super::{DecoderTables, Marks, PackedPart};
 
-/// What an encoder looks up in tables, however they are kept: pointers of scalars, and what a
-/// decoder looks up.
+/// The look-ups of an encoder in tables, flat or packed: pointers of scalars, and the look-ups of a decoder.
 pub trait EncoderTables: DecoderTables {
     /// Returns what `Tables::big5_pointer` does.
     fn big5_pointer(&self, scalar: char) -> Option<usize>
@@ -48,14 +47,14 @@ pub trait EncoderTables: DecoderTables {
     fn gb18030_pua_bytes(&self, scalar: char) -> Option<(u8, u8)>
         ensures { result ≡ gb18030_pua_of (Self.indexes self.now).flat.gb18030_pua scalar };
 
-    /// The private-use rows of GB18030's encoder: a scalar value, a lead and a trail each.
+    /// Returns the private-use rows of GB18030's encoder: a scalar value, a lead and a trail each.
     fn gb18030_rows(&self) -> &[(u16, u8, u8)]
         ensures { result.now ≡ (Self.indexes self.now).flat.gb18030_pua };
 
-    /// Fills a list with an entry for each scalar value: with the mark of the pointer that the codec
-    /// of an order takes for the scalar value, or with 0 if it takes none. This is one walk over the
-    /// index. A part that is no order is as the order of a codec that takes the first pointer of its
-    /// index.
+    /// Fills a list with an entry for each scalar value, in one walk over the index.
+    ///
+    /// The entry is the mark of the pointer that the order's codec uses for the scalar value, or 0 if it uses none.
+    /// If the part is no order, the entry is the mark of the first pointer in the part's index.
     fn fill<M: Marks>(&self, part: PackedPart, marks: &M, entries: &mut [u16])
         ensures { IsFilled part M.mark (order_index (Self.indexes self.now).flat part) entries.new };
 }

@@ -1,4 +1,4 @@
-//! Tables that are kept as flat indexes.
+//! Tables in the form of flat indexes.
 ghost use Rattle.std.specs.Prelude.{◌≡◌, MatchResult, Some};
 ghost use Rattle.legacy_tables.specs.Tables.{flat_indexes};
 ghost use Rattle.legacy_tables.specs.TableChecks.{AreAccepted};
@@ -12,7 +12,7 @@ use super::{
 };
 use std::marker::Model;
 
-/// Indexes that passed the check, kept as they were handed in. They are seen as these flat lists.
+/// Indexes that passed the check, in the form of the flat lists that the caller passed.
 #[derive(Drop)]
 pub struct FlatTables<'a> {
     given: Indexes<'a>,
@@ -45,8 +45,9 @@ impl<'a> FlatTables<'a> {
         Ok(FlatTables { given: *indexes })
     }
 
-    /// Returns the index of the name, if its entries are 16 bits wide and it is one of pairs. For other
-    /// names it returns a list of no entries.
+    /// Returns the index of the name, if it is one of pairs with entries of 16 bits.
+    ///
+    /// For other names it returns an empty list.
     #[inline]
     pub fn narrow(&self, name: IndexName) -> &[u16]
         ensures { is_narrow_index name ≡ true → result.now ≡ index_list self.now.flat name }
@@ -60,9 +61,9 @@ impl<'a> FlatTables<'a> {
         }
     }
 
-    /// Index Big5.
+    /// Returns index Big5, whose entries are 32 bits wide.
     #[inline]
-    pub(super) fn big5(&self) -> &[u32]
+    pub fn wide(&self) -> &[u32]
         ensures { result.now ≡ self.now.flat.big5 }
     {
         self.given.big5
@@ -100,7 +101,7 @@ impl<'a> DecoderTables for FlatTables<'a> {
     }
 }
 
-// Each search is a call of its own: what runs over packed tables has none of it.
+// Each search is a separate call, so that code for packed tables does not contain it.
 impl<'a> EncoderTables for FlatTables<'a> {
     #[inline(never)]
     fn big5_pointer(&self, scalar: char) -> Option<usize> {
@@ -142,7 +143,7 @@ impl<'a> EncoderTables for FlatTables<'a> {
         self.given.gb18030_pua
     }
 
-    // Inlined, so that a walk has no part of another codec.
+    // Inlined, so that a walk contains no code of another codec.
     #[inline(always)]
     fn fill<M: Marks>(&self, part: PackedPart, marks: &M, entries: &mut [u16]) {
         match part {

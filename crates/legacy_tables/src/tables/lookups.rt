@@ -7,8 +7,8 @@ ghost use Rattle.legacy_tables.specs.TableChecks.{range_order_fault, range_value
 
 use super::numbers::{Numbers, number_at};
 
-/// The scalar of a pointer in an index.
-// No test of what the check of the tables has shown: it would be one more branch for each look-up.
+/// Returns the scalar of a pointer in an index.
+// The check of the tables has shown that entries are scalars. To test it again would be a branch in each look-up.
 #[inline]
 pub(crate) fn scalar_in<N: Numbers>(index: &N, pointer: usize) -> Option<char>
     requires { AreScalars (N.numbers index.now) }
@@ -21,8 +21,7 @@ pub(crate) fn scalar_in<N: Numbers>(index: &N, pointer: usize) -> Option<char>
     Some(unsafe { char::from_u32_unchecked(entry as u32) })
 }
 
-/// How many of the ranges start at or before a pointer: the ranges rise, so these are the first
-/// ones.
+/// Returns the number of ranges that start at or before a pointer. Ranges rise, so these are the first ones.
 #[inline]
 pub(super) fn started_count(ranges: &[(u16, u16)], pointer: usize) -> usize
     requires { range_order_fault 0 None ranges.now ≡ None }
@@ -34,8 +33,8 @@ pub(super) fn started_count(ranges: &[(u16, u16)], pointer: usize) -> usize
     ranges.partition_point(|range| usize::from(range.0) <= pointer)
 }
 
-/// The scalar of a pointer by the last range that starts at or before it.
-// It is made as a number of 16 bits: then whoever writes it need not ask whether it is past U+FFFF.
+/// Returns the scalar that the last range that starts at or before a pointer gives it.
+// It is computed in 16 bits, so that the code that writes it needs no test for scalars past U+FFFF.
 #[inline]
 fn last_range(ranges: &[(u16, u16)], pointer: usize) -> Option<char>
     requires reached { pointer ≤ 39419 }
@@ -52,7 +51,7 @@ fn last_range(ranges: &[(u16, u16)], pointer: usize) -> Option<char>
     Some(unsafe { char::from_u32_unchecked(u32::from(unit)) })
 }
 
-/// The scalar of a pointer of four bytes.
+/// Returns the scalar of a pointer of four bytes.
 #[inline]
 #[tactic(auto, unfolding(crate::specs::Indexes::range))]
 pub(super) fn range_scalar(ranges: &[(u16, u16)], pointer: usize) -> Option<char>

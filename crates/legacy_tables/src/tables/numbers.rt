@@ -1,27 +1,29 @@
-//! Lists of numbers, whatever holds them.
+//! Lists of numbers in any form.
 ghost use Rattle.std.specs.Prelude.{◌≡◌, ◌≢◌, ℕ, ◌+◌, ◌<◌, ◌≤◌, List, true, length, slice_index};
 
 /// A list of numbers, read one at a time.
 pub(super) trait Numbers {
     ghost numbers: { Self → List ℕ };
 
-    /// When a walk that has come to a number has come to a place.
+    /// Says when a walk that has reached position `at` (the second number) is at a place (the first number).
     ghost is_at: { Self → ℕ → ℕ → Type 0 } = { λ _ _ _. Unit {0} };
 
     /// A walk begins at place 0.
     ghost begins: { (s : Self) → is_at s 0 0 };
 
-    /// How many there are.
+    /// Returns the length of the list.
     fn count(&self) -> usize
         ensures { result ≡ length (numbers self.now) };
 
-    /// The number at a place.
+    /// Returns the number at a position.
     fn number(&self, at: usize) -> usize
         requires { at < length (numbers self.now) }
         ensures { result ≡ slice_index (numbers self.now) at };
 
-    /// The next numbers in a row, from where a walk has come to: where they start, the first of them,
-    /// how many there are, and the walk's next place. The numbers before them are 0.
+    /// Returns the next consecutive numbers of a walk that has reached position `at`.
+    ///
+    /// The four results are their position, the first of them, how many there are, and the walk's next place. The
+    /// numbers from `at` up to their position are 0.
     fn row(&self, place: usize, at: usize) -> (usize, usize, usize, usize)
         requires within { at < length (numbers self.now) }
         requires place { is_at self.now place at }
@@ -64,7 +66,7 @@ impl<'a> Numbers for &'a [u32] {
     }
 }
 
-/// Whether none of the 32 entries from a pointer on is the number.
+/// Checks whether none of the 32 entries from a pointer on is the number.
 #[inline(always)]
 fn is_past_wide(index: &[u32], from: usize, number: usize) -> bool
     requires { from + 32 ≤ length index.now }
@@ -74,7 +76,11 @@ fn is_past_wide(index: &[u32], from: usize, number: usize) -> bool
     if number > 0xFFFF_FFFF {
         return true;
     }
-    !index[from..from + 32].contains(&(number as u32))
+    // The library compares 16 entries as vectors.
+    if index[from..from + 16].contains(&(number as u32)) {
+        return false;
+    }
+    !index[from + 16..from + 32].contains(&(number as u32))
 }
 
 impl<'a> Blocks for &'a [u32] {
@@ -104,7 +110,7 @@ impl<'a> Numbers for &'a [u16] {
     }
 }
 
-/// Whether none of the 32 entries from a pointer on is the number.
+/// Checks whether none of the 32 entries from a pointer on is the number.
 #[inline(always)]
 fn is_past_narrow(index: &[u16], from: usize, number: usize) -> bool
     requires { from + 32 ≤ length index.now }
@@ -124,7 +130,7 @@ impl<'a> Blocks for &'a [u16] {
     }
 }
 
-/// The number at a place, and 0 past the end.
+/// Returns the number at a position, or 0 past the end.
 #[inline]
 pub(super) fn number_at<N: Numbers>(list: &N, at: usize) -> usize
     ensures { result ≡ slice_index (N.numbers list.now) at }

@@ -1,11 +1,12 @@
-//! Orders of pointers by their scalar values, and the look-up of a scalar in them: a binary search,
-//! with a look-up in the index at each step.
+//! Orders of pointers by their scalar values, and the look-up of a scalar in them.
+//!
+//! The look-up is a binary search, with a look-up in the index at each step.
 ghost use Rattle.std.specs.Prelude.{◌≡◌, ℕ, ◌<◌, ◌≤◌, length, slice_index};
 ghost use Rattle.legacy_tables.specs.Orders.{RisesBy, order_pointer};
 
 use super::numbers::{Numbers, number_at};
 
-/// How many of an order's pointers have scalars below one.
+/// Returns the number of pointers in an order whose scalars are below the given one.
 #[inline]
 fn count_below<N: Numbers>(index: &N, order: &[u16], scalar: usize) -> usize
     requires { RisesBy (N.numbers index.now) order.now }
@@ -18,7 +19,7 @@ fn count_below<N: Numbers>(index: &N, order: &[u16], scalar: usize) -> usize
     order.partition_point(|pointer| number_at(index, usize::from(*pointer)) < scalar)
 }
 
-/// The pointer that an order has for a scalar value.
+/// Returns the pointer that an order has for a scalar value.
 #[inline]
 pub(super) fn pointer_in_order<N: Numbers>(index: &N, order: &[u16], scalar: usize) -> Option<usize>
     requires { RisesBy (N.numbers index.now) order.now }

@@ -1,4 +1,4 @@
-//! The checks of orders beside the flat indexes.
+//! The checks of orders against the flat indexes.
 ghost use Rattle.std.specs.Prelude.{◌≡◌, ◌≢◌, ℕ, ◌+◌, ◌≤◌, ◌<◌, List, length, slice_index};
 ghost use Rattle.std.specs.Prelude.{MatchResult, Some, None, true, false};
 ghost use Rattle.legacy_tables.specs.declared.tables.packed.PackedPart.{PackedPart};
@@ -17,7 +17,7 @@ use super::pointer_set::PointerSet;
 use super::pointers::{last_from, takes_last};
 use super::{Indexes, TableError};
 
-/// Whether the codec of an order may use the pointer.
+/// Checks whether the codec of an order may use the pointer.
 pub(super) fn is_usable(part: PackedPart, pointer: usize) -> bool
     ensures { result ≡ may_use part pointer }
 {
@@ -29,7 +29,7 @@ pub(super) fn is_usable(part: PackedPart, pointer: usize) -> bool
     }
 }
 
-/// Whether the codec of an order takes the last of the scalar's pointers.
+/// Checks whether the codec of an order uses the last of the scalar's pointers.
 pub(super) fn takes_last_of(part: PackedPart, scalar: usize) -> bool
     ensures { result ≡ takes_last part scalar }
 {
@@ -39,14 +39,14 @@ pub(super) fn takes_last_of(part: PackedPart, scalar: usize) -> bool
     }
 }
 
-/// Whether the codec may use the pointer, and its scalar is above another.
+/// Checks whether the codec may use the pointer, and its scalar is above `above`.
 fn is_in_order<N: Numbers>(part: PackedPart, index: &N, above: usize, pointer: usize) -> bool
     ensures { result ≡ is_pointer_in_order part (N.numbers index.now) above pointer }
 {
     is_usable(part, pointer) && number_at(index, pointer) > above
 }
 
-/// The first place of a pointer that is not in order.
+/// Returns the first place of a pointer that is not in order.
 fn first_out_of_order<N: Numbers>(part: PackedPart, index: &N, order: &[u16]) -> Option<usize>
     ensures { result ≡ order_fault part (N.numbers index.now) order.now }
 {
@@ -60,9 +60,9 @@ fn first_out_of_order<N: Numbers>(part: PackedPart, index: &N, order: &[u16]) ->
     None
 }
 
-/// The pointers that Big5 takes for the six scalars of which it takes the last. They are found
-/// once: a search for each pointer of theirs would take the square of the index's length, where all
-/// its entries are one of them.
+/// The pointers of the six scalars for which Big5 uses the last pointer.
+// They are found once. With a search at each of their pointers, the time would be quadratic if all entries of the index
+// were one of these scalars.
 #[derive(Drop)]
 pub(super) struct LastPointers {
     of_2550: Option<usize>,
@@ -73,7 +73,7 @@ pub(super) struct LastPointers {
     of_5345: Option<usize>,
 }
 
-/// The last pointer of a scalar that Big5's encoder may use. The other encoders take no last ones.
+/// Returns the last pointer of a scalar that Big5's encoder may use, or `None` for other encoders.
 fn last_taken<N: Blocks>(part: PackedPart, index: &N, scalar: usize) -> Option<usize>
     ensures { takes_last part scalar ≡ true →
         pointer_of part (N.numbers index.now) scalar ≡ result }
@@ -84,7 +84,7 @@ fn last_taken<N: Blocks>(part: PackedPart, index: &N, scalar: usize) -> Option<u
     }
 }
 
-/// The last pointers of an index.
+/// Returns the last pointers of the six scalars in an index.
 fn last_pointers<N: Blocks>(part: PackedPart, index: &N) -> LastPointers
     ensures { AreLastPointers part (N.numbers index.now) result }
 {
@@ -98,7 +98,7 @@ fn last_pointers<N: Blocks>(part: PackedPart, index: &N) -> LastPointers
     }
 }
 
-/// The one of these that is taken for a scalar.
+/// Returns the last pointer of a scalar, if it is one of the six.
 fn last_of(lasts: &LastPointers, scalar: usize) -> Option<usize>
     ensures { (part : PackedPart) (index : List ℕ) → AreLastPointers part index lasts.now →
         takes_last part scalar ≡ true → pointer_of part index scalar ≡ result }
@@ -114,7 +114,7 @@ fn last_of(lasts: &LastPointers, scalar: usize) -> Option<usize>
     }
 }
 
-/// Whether what is taken is another pointer than one, or none.
+/// Checks whether `taken` is `None`, or another pointer than `pointer`.
 fn is_other(taken: Option<usize>, pointer: usize) -> bool
     ensures same { result ≡ false → taken ≡ Some pointer }
     ensures other { result ≡ true → taken ≡ Some pointer → ⊥ }
@@ -125,8 +125,8 @@ fn is_other(taken: Option<usize>, pointer: usize) -> bool
     }
 }
 
-/// The pointer that an order has for the scalar of a pointer: that one, if it is in the order.
-// A search is left to the pointers that are not in it: few, as no codec takes them.
+/// Returns the pointer that an order has for the scalar of a pointer.
+// A pointer in the order needs no search. Only few pointers are not in it: those that the codec does not use.
 #[inline(always)]
 fn held_pointer<N: Numbers>(
     part: PackedPart,
@@ -148,9 +148,8 @@ fn held_pointer<N: Numbers>(
     pointer_in_order(index, order, number_at(index, pointer))
 }
 
-/// Whether the order lacks the scalar of a pointer, where it lacks none of the pointers before. But
-/// for Big5's six scalars the first pointer is taken: so the order has another one than it should
-/// where it has a later one.
+/// Checks whether the order lacks the scalar of a pointer, if it lacks that of no earlier pointer.
+// Except for Big5's six scalars, the codec uses the first pointer. So the order is wrong if its pointer is a later one.
 fn lacks<N: Numbers>(
     part: PackedPart,
     index: &N,
@@ -187,7 +186,7 @@ fn lacks<N: Numbers>(
     }
 }
 
-/// The least pointer whose scalar the order lacks.
+/// Returns the least pointer whose scalar the order lacks.
 fn first_difference<N: Blocks>(part: PackedPart, index: &N, order: &[u16]) -> Option<usize>
     requires rises { RisesBy (N.numbers index.now) order.now }
     requires lookup { IsLookup part (N.numbers index.now) order.now
@@ -204,7 +203,7 @@ fn first_difference<N: Blocks>(part: PackedPart, index: &N, order: &[u16]) -> Op
     None
 }
 
-/// Checks that an order is in order and has all scalars with the pointers that the codec takes.
+/// Checks that an order is in order, and has the pointer that the codec uses for each scalar.
 fn check_order<N: Blocks>(part: PackedPart, order: &[u16], index: &N) -> Result<(), TableError>
     ensures { let found = pointers_fault part (N.numbers index.now) order.now in
         MatchResult result
@@ -230,7 +229,7 @@ pub(super) struct CheckedOrders<'a> {
     pub(super) gb18030: &'a [u16],
 }
 
-/// The orders of the five codecs, in order and with the pointers that the codecs take.
+/// Returns the orders of the five codecs, or the first fault of an order.
 #[tactic(auto, using(crate::proofs::TableLoops::fault_steps), unfolding(crate::specs::Packed::all_orders_fault))]
 pub(super) fn all_orders_of<'a>(
     indexes: &Indexes<'_>,

@@ -2,21 +2,23 @@
 
 use std::fmt;
 
-/// Some pointers in a row whose scalar values are in a row too.
-// Laid out as C does it, so that a caller in C can lend runs.
+/// Consecutive pointers with consecutive scalar values.
+// It has the layout of C, so that a caller in C can lend runs.
 #[repr(C)]
 #[derive(Clone, Copy, Debug, PartialEq, Eq)]
 pub struct Run {
     /// The first pointer.
     pub pointer: u16,
-    /// The scalar value of the first pointer; that of the next one is one more, and so on.
+    /// The scalar value of the first pointer. The next pointer has the next scalar value, and so on.
     pub scalar: u32,
-    /// How many pointers there are.
+    /// The number of pointers.
     pub length: u16,
 }
 
-/// Indexes as runs, and for each codec the pointers that its encoder takes, in the order of their
-/// scalar values. They are not checked yet.
+/// Packed indexes, not checked yet.
+///
+/// They are the runs of the indexes and, for each codec, the pointers that its encoder uses, in the order of their
+/// scalar values.
 #[derive(Drop)]
 pub struct Packed<'a> {
     /// Index Big5.
@@ -29,18 +31,18 @@ pub struct Packed<'a> {
     pub jis0212: &'a [Run],
     /// Index gb18030.
     pub gb18030: &'a [Run],
-    /// The pointers of Big5's encoder: 5024 and above, of each scalar the first, and of U+2550,
-    /// U+255E, U+2561, U+256A, U+5341 and U+5345 the last.
+    /// The pointers of Big5's encoder, which are at least 5024.
+    ///
+    /// They are the last pointers of U+2550, U+255E, U+2561, U+256A, U+5341 and U+5345, and the first pointers of
+    /// the other scalars.
     pub big5_order: &'a [u16],
-    /// The pointers of EUC-KR's encoder: of each scalar the first.
+    /// The pointers of EUC-KR's encoder: the first one of each scalar.
     pub euc_kr_order: &'a [u16],
-    /// The pointers of Shift_JIS's encoder: of each scalar the first in jis0208 outside 8272 to
-    /// 8835.
+    /// The pointers of Shift_JIS's encoder: the first one of each scalar in jis0208 outside 8272 to 8835.
     pub shift_jis_order: &'a [u16],
-    /// The pointers of the encoders of EUC-JP and ISO-2022-JP: of each scalar the first in jis0208
-    /// below 8836.
+    /// The pointers of EUC-JP's and ISO-2022-JP's encoders: the first one of each scalar in jis0208 below 8836.
     pub euc_jp_order: &'a [u16],
-    /// The pointers of GB18030's encoder: of each scalar the first.
+    /// The pointers of GB18030's encoder: the first one of each scalar.
     pub gb18030_order: &'a [u16],
 }
 
@@ -70,8 +72,8 @@ pub enum PackedPart {
 }
 
 impl PackedPart {
-    /// The part's word in messages.
-    // Apart from where it is written: there each word would be a way of its own through the call.
+    /// Returns the name of the part for messages.
+    // In `fmt`, each name would be a separate path through the call.
     fn word(self) -> &'static str {
         match self {
             PackedPart::Big5 => "big5",
@@ -88,7 +90,7 @@ impl PackedPart {
     }
 }
 
-/// The part's word in messages.
+/// Writes the name of the part for messages.
 impl fmt::Display for PackedPart {
     fn fmt<W: fmt::Write>(&self, f: &mut fmt::Formatter<W>) -> fmt::Result {
         f.write_str(self.word())

@@ -1,4 +1,4 @@
-//! The checks of packed indexes beside the flat ones. Each answers the first fault that it finds.
+//! The checks of packed indexes against the flat ones. Each returns the first fault that it finds.
 ghost use Rattle.std.specs.Prelude.{◌≡◌, ◌≤◌, ◌==◌, not, MatchResult};
 ghost use Rattle.std.specs.Prelude.{Some, None};
 ghost use Rattle.std.specs.Option.{option_eq};
@@ -12,7 +12,7 @@ use super::packed::{Packed, PackedPart, Run};
 use super::runs::{Runs, first_out_of_order};
 use super::{Indexes, TableError};
 
-/// The number that a flat index has for a pointer.
+/// Returns the number that a flat index has for a pointer.
 fn flat_scalar<N: Numbers>(index: &N, pointer: usize) -> Option<usize>
     ensures { result ≡ idx (N.numbers index.now) pointer }
 {
@@ -23,7 +23,7 @@ fn flat_scalar<N: Numbers>(index: &N, pointer: usize) -> Option<usize>
     if entry == 0 { None } else { Some(entry) }
 }
 
-/// Whether a flat index and runs give a pointer different scalars.
+/// Checks whether a flat index and runs give a pointer different scalars.
 fn differ(entry: Option<usize>, scalar: Option<u32>) -> bool
     ensures { result ≡ not (option_eq (λ x y. x == y) entry scalar) }
 {
@@ -34,7 +34,7 @@ fn differ(entry: Option<usize>, scalar: Option<u32>) -> bool
     }
 }
 
-/// The least pointer below the limit for which the runs give another scalar than the flat index.
+/// Returns the least pointer below the limit for which the runs and the flat index give different scalars.
 fn first_difference<N: Numbers, const POINTERS: usize>(
     limit: usize,
     runs: &Runs<'_, POINTERS>,
@@ -53,7 +53,7 @@ fn first_difference<N: Numbers, const POINTERS: usize>(
     None
 }
 
-/// Runs that are in order and give what the flat index does.
+/// Returns the runs, or their first fault: they are out of order, or differ from the flat index.
 pub(super) fn runs_of<'a, N: Numbers, const POINTERS: usize>(
     part: PackedPart,
     runs: &'a [Run],
@@ -85,7 +85,7 @@ pub(super) struct CheckedRuns<'a> {
     pub(super) gb18030: Runs<'a, 23940>,
 }
 
-/// The runs of the five indexes, in order and giving what the flat indexes do.
+/// Returns the runs of the five indexes, or their first fault.
 #[tactic(auto, using(crate::proofs::TableLoops::fault_steps), unfolding(crate::specs::Packed::all_runs_fault))]
 pub(super) fn all_runs_of<'a>(
     indexes: &Indexes<'_>,

@@ -1,4 +1,4 @@
-//! Tables that are kept as runs and orders.
+//! Tables in the form of runs and orders.
 ghost use Rattle.std.specs.Prelude.{◌≡◌, MatchResult, Some};
 ghost use Rattle.legacy_tables.specs.TableChecks.{AreAccepted};
 ghost use Rattle.legacy_tables.specs.PackedTables.{lists_of_runs, AnswerPointersOf};
@@ -17,9 +17,10 @@ use super::{
 };
 use std::marker::Model;
 
-/// Indexes that passed the check, kept as runs and orders. They are seen as the flat lists of what
-/// the runs give.
-// The five flat indexes are not kept: no look-up reads them.
+/// Indexes that passed the check, in the form of runs and orders.
+///
+/// Their value is the flat lists that the runs give.
+// The five flat indexes are not kept, because no look-up reads them.
 #[derive(Drop)]
 pub(super) struct PackedTables<'a> {
     runs: CheckedRuns<'a>,
@@ -168,7 +169,7 @@ impl<'a> EncoderTables for PackedTables<'a> {
         self.gb18030_pua
     }
 
-    // Inlined, so that a walk has no part of another codec.
+    // Inlined, so that a walk contains no code of another codec.
     #[inline(always)]
     fn fill<M: Marks>(&self, part: PackedPart, marks: &M, entries: &mut [u16]) {
         match part {

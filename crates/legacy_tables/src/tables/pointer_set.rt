@@ -2,7 +2,7 @@
 ghost use Rattle.std.specs.Prelude.{◌≡◌, true};
 ghost use Rattle.legacy_tables.specs.PointerSets.{HasOnly, is_in_blocks};
 
-/// A set of pointers below 24,000, with a bit for each. No index has as many.
+/// A set of pointers below 24,000, with a bit for each. Each index has fewer pointers.
 #[derive(Drop)]
 pub(super) struct PointerSet {
     blocks: [u64; 375],

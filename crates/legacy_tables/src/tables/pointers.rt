@@ -1,4 +1,4 @@
-//! Look-ups of the pointer that an encoder takes for a scalar.
+//! Look-ups of the pointer that an encoder uses for a scalar.
 ghost use Rattle.std.specs.Prelude.{◌≡◌, ◌≢◌, ℕ, ◌+◌, ◌<◌, ◌≤◌, ◌&&◌, nat_le, nat_lt, length};
 ghost use Rattle.std.specs.Prelude.{Some, None, IfSome, true, slice_index, slice_index_or};
 ghost use Rattle.legacy_tables.specs.Pointers.{every_pointer, first_pointer, last_pointer};
@@ -10,8 +10,10 @@ ghost use Rattle.legacy_tables.specs.TableChecks.{range_order_fault, range_value
 use super::checks::end_of;
 use super::numbers::Blocks;
 
-/// A pointer from `start` on such that none before it, from `start` on, has the entry: that of the
-/// first block that has it, or behind the last whole block before `end`.
+/// Returns the start of the first block from `start` on that has the entry.
+///
+/// If no whole block before `end` has it, it returns the end of the last such block. No pointer from `start` up to the
+/// result has the entry.
 fn first_block<N: Blocks>(index: &N, start: usize, end: usize, entry: usize) -> usize
     requires { end ≤ length (N.numbers index.now) }
     ensures from { start ≤ result }
@@ -26,7 +28,7 @@ fn first_block<N: Blocks>(index: &N, start: usize, end: usize, entry: usize) -> 
     pointer
 }
 
-/// The first pointer from `start` on and before `end` that has the scalar.
+/// Returns the first pointer from `start` on and before `end` that has the scalar.
 fn first_between<N: Blocks>(index: &N, start: usize, end: usize, scalar: char) -> Option<usize>
     requires { end ≤ length (N.numbers index.now) }
     ensures { result
@@ -46,8 +48,10 @@ fn first_between<N: Blocks>(index: &N, start: usize, end: usize, scalar: char) -
     None
 }
 
-/// The pointer behind the last block, counted from the index's end, that has the entry, or behind
-/// less than a block from `start` on: no pointer from there on has it.
+/// Returns the pointer after the last block that has the entry. Blocks are counted from the index's end.
+///
+/// If no whole block from `start` on has it, the result is less than a block after `start`. No pointer from the result
+/// on has the entry.
 fn last_block<N: Blocks>(index: &N, start: usize, entry: usize) -> usize
     ensures within { result ≤ length (N.numbers index.now) }
     ensures none { (k : ℕ) → result ≤ k → k < length (N.numbers index.now) →
@@ -62,7 +66,7 @@ fn last_block<N: Blocks>(index: &N, start: usize, entry: usize) -> usize
     behind
 }
 
-/// The last pointer from `start` on that has the entry.
+/// Returns the last pointer from `start` on that has the entry.
 pub(super) fn last_from<N: Blocks>(index: &N, start: usize, entry: usize) -> Option<usize>
     ensures { result ≡ last_pointer (nat_le start) (N.numbers index.now) entry }
 {
@@ -79,14 +83,14 @@ pub(super) fn last_from<N: Blocks>(index: &N, start: usize, entry: usize) -> Opt
     None
 }
 
-/// Whether Big5 takes the last of the scalar's pointers.
+/// Checks whether Big5 uses the last of the scalar's pointers.
 pub(super) fn takes_last(scalar: usize) -> bool
     ensures { result ≡ takes_last_big5_pointer scalar }
 {
     matches!(scalar, 0x2550 | 0x255E | 0x2561 | 0x256A | 0x5341 | 0x5345)
 }
 
-/// The pointer of a scalar in Big5.
+/// Returns the pointer that Big5's encoder uses for a scalar.
 pub(super) fn big5_pointer(index: &[u32], scalar: char) -> Option<usize>
     ensures { result ≡ big5_pointer_of index.now scalar }
 {
@@ -97,14 +101,14 @@ pub(super) fn big5_pointer(index: &[u32], scalar: char) -> Option<usize>
     }
 }
 
-/// The first pointer of a scalar.
+/// Returns the first pointer of a scalar.
 pub(super) fn first(index: &[u16], scalar: char) -> Option<usize>
     ensures { result ≡ first_pointer every_pointer index.now scalar }
 {
     first_between(&index, 0, index.len(), scalar)
 }
 
-/// The pointer of a scalar in Shift_JIS.
+/// Returns the pointer that Shift_JIS's encoder uses for a scalar.
 pub(super) fn shift_jis_pointer(jis0208: &[u16], scalar: char) -> Option<usize>
     ensures { result ≡ shift_jis_pointer_of jis0208.now scalar }
 {
@@ -114,15 +118,14 @@ pub(super) fn shift_jis_pointer(jis0208: &[u16], scalar: char) -> Option<usize>
     }
 }
 
-/// The pointer of a scalar in EUC-JP and in ISO-2022-JP.
+/// Returns the pointer that the encoders of EUC-JP and ISO-2022-JP use for a scalar.
 pub(super) fn euc_jp_pointer(jis0208: &[u16], scalar: char) -> Option<usize>
     ensures { result ≡ euc_jp_pointer_of jis0208.now scalar }
 {
     first_between(&jis0208, 0, jis0208.len().min(8836), scalar)
 }
 
-/// How many of the ranges have a first scalar at or before the scalar: the ranges rise, so these
-/// are the first ones.
+/// Returns the number of ranges whose first scalar is at most `scalar`. Ranges rise, so these are the first ones.
 pub(super) fn ranges_up_to(ranges: &[(u16, u16)], scalar: usize) -> usize
     requires { range_order_fault 0 None ranges.now ≡ None }
     ensures within { result ≤ length ranges.now }
@@ -133,7 +136,7 @@ pub(super) fn ranges_up_to(ranges: &[(u16, u16)], scalar: usize) -> usize
     ranges.partition_point(|range| usize::from(range.1) <= scalar)
 }
 
-/// The pointer of four bytes of a scalar of the Basic Multilingual Plane that is not U+E7C7.
+/// Returns the pointer of four bytes of a scalar of the Basic Multilingual Plane other than U+E7C7.
 #[inline]
 fn pointer_in_ranges(ranges: &[(u16, u16)], scalar: usize) -> Option<usize>
     requires ordered { range_order_fault 0 None ranges.now ≡ None }
@@ -156,7 +159,7 @@ fn pointer_in_ranges(ranges: &[(u16, u16)], scalar: usize) -> Option<usize>
     Some(pointer)
 }
 
-/// The pointer of four bytes of a scalar.
+/// Returns the pointer of four bytes of a scalar.
 #[inline]
 pub(super) fn range_pointer(ranges: &[(u16, u16)], scalar: char) -> Option<usize>
     requires ordered { range_order_fault 0 None ranges.now ≡ None }

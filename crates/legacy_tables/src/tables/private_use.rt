@@ -1,4 +1,4 @@
-//! Private-use rows of GB18030: their check, and the look-up in them.
+//! The check of GB18030's private-use rows, and the look-up in them.
 ghost use Rattle.std.specs.Prelude.{◌≡◌, ℕ, ◌<◌, ◌≤◌, length, slice_index_or};
 ghost use Rattle.std.specs.Prelude.{MatchResult, Some, None};
 ghost use Rattle.std.specs.Int.{is_in_range};
@@ -8,9 +8,9 @@ ghost use Rattle.legacy_tables.specs.TableChecks.{row_fault, rows_fault};
 
 use super::TableError;
 
-/// The private-use rows of GB18030-2022 (Encoding Standard, "gb18030 encoder"): each scalar value
-/// with its lead and its trail. GB18030-2022 gives these pairs of bytes to other scalars, which its
-/// index has; the private-use scalars that had them before keep them in the encoder.
+/// The private-use rows of GB18030-2022: scalar value, lead and trail (Encoding Standard, "gb18030 encoder").
+///
+/// In index gb18030 these pairs of bytes belong to other scalars. The encoder also uses them for private-use scalars.
 pub const GB18030_2022_PUA: [(u16, u8, u8); 18] = [
     (0xE78D, 0xA6, 0xD9),
     (0xE78E, 0xA6, 0xDA),
@@ -32,7 +32,7 @@ pub const GB18030_2022_PUA: [(u16, u8, u8); 18] = [
     (0xE864, 0xFE, 0xA0),
 ];
 
-/// Whether the scalar is above the one before it.
+/// Checks whether the scalar is above the one before it.
 fn follows(before: Option<u16>, scalar: u16) -> bool
     ensures { result ≡ follows_scalar before scalar }
 {
@@ -42,21 +42,21 @@ fn follows(before: Option<u16>, scalar: u16) -> bool
     }
 }
 
-/// Whether a row may have the scalar.
+/// Checks whether a row may have the scalar.
 fn is_allowed(scalar: u16) -> bool
     ensures { result ≡ is_row_scalar scalar }
 {
     matches!(scalar, 0xE000..=0xF8FF) && scalar != 0xE5E5
 }
 
-/// Whether the bytes are a lead and a trail.
+/// Checks whether the bytes are a lead and a trail.
 fn are_lead_and_trail(lead: u8, trail: u8) -> bool
     ensures { result ≡ are_row_bytes lead trail }
 {
     matches!(lead, 0x81..=0xFE) && matches!(trail, 0x40..=0x7E | 0x80..=0xFE)
 }
 
-/// What is wrong with the row of a place, where the scalar before it is this one.
+/// Returns the fault of the row at a place, given the scalar before it.
 fn fault_of(place: usize, before: Option<u16>, row: (u16, u8, u8)) -> Option<TableError>
     ensures { result ≡ row_fault place before row }
 {
@@ -87,7 +87,7 @@ pub(super) fn check_rows(rows: &[(u16, u8, u8)]) -> Result<(), TableError>
     Ok(())
 }
 
-/// How many of the rows have a lower scalar: the scalars rise, so these are the first ones.
+/// Returns the number of rows with a lower scalar. The scalars rise, so these are the first rows.
 fn rows_below(rows: &[(u16, u8, u8)], scalar: u32) -> usize
     requires { rows_fault 0 None rows.now ≡ None }
     ensures within { result ≤ length rows.now }
@@ -98,7 +98,7 @@ fn rows_below(rows: &[(u16, u8, u8)], scalar: u32) -> usize
     rows.partition_point(|row| u32::from(row.0) < scalar)
 }
 
-/// Whether a row may have the scalar, by its block.
+/// Checks whether the scalar is in the block of private use.
 #[inline(always)]
 fn is_private_use(scalar: char) -> bool
     ensures { result ≡ is_in_range 0xE000 0xF8FF scalar }
@@ -106,8 +106,8 @@ fn is_private_use(scalar: char) -> bool
     matches!(u32::from(scalar), 0xE000..=0xF8FF)
 }
 
-/// The lead and the trail of the row that has the scalar.
-// Most scalars are for no private use: for these nothing is searched.
+/// Returns the lead and the trail of the row that has the scalar.
+// Most scalars are not for private use, and need no search.
 #[inline]
 pub(super) fn row_bytes(rows: &[(u16, u8, u8)], scalar: char) -> Option<(u8, u8)>
     requires { rows_fault 0 None rows.now ≡ None }
@@ -119,7 +119,7 @@ pub(super) fn row_bytes(rows: &[(u16, u8, u8)], scalar: char) -> Option<(u8, u8)
     searched_bytes(rows, scalar)
 }
 
-/// The same, by a search of the rows.
+/// Returns the same as `row_bytes`, by a search of the rows.
 fn searched_bytes(rows: &[(u16, u8, u8)], scalar: char) -> Option<(u8, u8)>
     requires { rows_fault 0 None rows.now ≡ None }
     ensures { result ≡ gb18030_pua_of rows.now scalar }

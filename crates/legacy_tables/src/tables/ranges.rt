@@ -1,4 +1,4 @@
-//! The ranges of gb18030, and what a run of forms of four bytes keeps of the last one that it used.
+//! The ranges of gb18030, and the pointers of one range, which a run of four-byte sequences keeps.
 ghost use Rattle.std.specs.Prelude.{◌≡◌, ◌≢◌, ℕ, ◌+◌, ◌<◌, ◌≤◌, None, IfSome};
 ghost use Rattle.legacy_tables.specs.Indexes.{range};
 ghost use Rattle.legacy_tables.specs.Pointers.{range_pointer_of};
@@ -9,8 +9,9 @@ use super::checks::end_of;
 use super::lookups::started_count;
 use super::pointers::ranges_up_to;
 
-/// Pointers of four bytes in a row, and the scalar value of the first: those of the next ones are in a row too. Pointer
-/// 7457 has its own scalar value, U+E7C7.
+/// Consecutive pointers of four bytes with consecutive scalar values.
+///
+/// Pointer 7457 is an exception: its scalar value is U+E7C7.
 #[derive(Clone, Copy)]
 pub struct RangePart {
     first: u32,
@@ -19,7 +20,7 @@ pub struct RangePart {
 }
 
 impl RangePart {
-    /// No pointers.
+    /// Returns a part without pointers.
     #[inline(always)]
     pub fn none() -> RangePart
         ensures first { result.first ≡ 0 }
@@ -34,8 +35,8 @@ impl RangePart {
     }
 }
 
-/// How far a number lies past the first of so many in a row, or `None` if it is none of them.
-// By one test.
+/// Returns the offset of a number among `count` consecutive numbers from `first` on, or `None` if it is not among them.
+// One comparison tests both bounds.
 #[inline(always)]
 fn offset(first: u32, number: u32, count: u32) -> Option<u32>
     requires { first + count ≤ 0x1_0000_0000 }
@@ -54,7 +55,7 @@ pub struct Ranges<'a> {
 }
 
 impl<'a> Ranges<'a> {
-    /// Ranges that passed the check.
+    /// Makes the ranges of a list that passed the check.
     #[inline(always)]
     pub(super) fn new(list: &'a [(u16, u16)]) -> Ranges<'a>
         requires ordered { range_order_fault 0 None list.now ≡ None }
@@ -64,7 +65,7 @@ impl<'a> Ranges<'a> {
         Ranges { list }
     }
 
-    /// The pointers of the range at a place, or none past the last one.
+    /// Returns the pointers of the range at a place, or no pointers past the last range.
     #[inline(always)]
     pub fn part_at(&self, place: usize) -> RangePart
         ensures { IsRangePart self.now.list.now result }
@@ -81,13 +82,15 @@ impl<'a> Ranges<'a> {
         }
     }
 
-    /// The place of the last range that starts at or before a pointer.
+    /// Returns the place of the last range that starts at or before a pointer, or 0 if there is none.
     #[inline]
     pub fn place_of(&self, pointer: usize) -> usize {
         started_count(self.list, pointer).saturating_sub(1)
     }
 
-    /// The pointers of the last range whose scalar values begin at or before one.
+    /// Returns the pointers of the last range whose scalar values begin at or before the given one.
+    ///
+    /// If there is no such range, it returns the pointers of the first range.
     #[inline]
     pub fn part_with(&self, scalar: char) -> RangePart
         ensures { IsRangePart self.now.list.now result }
@@ -95,7 +98,7 @@ impl<'a> Ranges<'a> {
         self.part_at(ranges_up_to(self.list, u32::from(scalar) as usize).saturating_sub(1))
     }
 
-    /// The scalar value of a pointer, if these are its pointers.
+    /// Returns the scalar value of a pointer, or `None` if the part does not have it or it is 7457.
     #[inline(always)]
     pub fn scalar_in(&self, part: RangePart, pointer: usize) -> Option<char>
         requires part { IsRangePart self.now.list.now part }
@@ -110,7 +113,7 @@ impl<'a> Ranges<'a> {
         Some(unsafe { char::from_u32_unchecked(u32::from(unit)) })
     }
 
-    /// The pointer of a scalar value that is not U+E7C7, if it is one of these.
+    /// Returns the pointer of a scalar value other than U+E7C7, or `None` if no pointer of the part has it.
     #[inline(always)]
     pub fn pointer_in(&self, part: RangePart, scalar: char) -> Option<usize>
         requires part { IsRangePart self.now.list.now part }

@@ -14,7 +14,9 @@ pub(crate) struct Runs<'a, const POINTERS: usize> {
     ghost ordered: { AreInOrder POINTERS runs.now },
 }
 
-/// Whether a run has pointers, begins behind the run before it, and ends within the limit.
+/// Checks whether a run is in order.
+///
+/// It has pointers, begins at or after `before`, ends within the limit, and has no number past U+10FFFF.
 fn is_in_order(before: usize, limit: usize, run: Run) -> bool
     requires { before ≤ 65536 }
     ensures { result ≡ is_run_in_order before limit run }
@@ -25,7 +27,7 @@ fn is_in_order(before: usize, limit: usize, run: Run) -> bool
         && u64::from(run.scalar) + u64::from(run.length) <= 0x11_0000
 }
 
-/// The first place of a run that is not in order.
+/// Returns the first place of a run that is not in order.
 pub(super) fn first_out_of_order(limit: usize, runs: &[Run]) -> Option<usize>
     requires { limit ≤ 65536 }
     ensures { result ≡ run_fault limit runs.now }
@@ -40,7 +42,7 @@ pub(super) fn first_out_of_order(limit: usize, runs: &[Run]) -> Option<usize>
     None
 }
 
-/// How many of the runs start at or before a pointer: they rise, so these are the first ones.
+/// Returns the number of runs that start at or before a pointer. Runs rise, so these are the first ones.
 #[inline]
 fn started_count<const POINTERS: usize>(runs: &[Run], pointer: usize) -> usize
     requires { AreInOrder POINTERS runs.now }
@@ -53,7 +55,7 @@ fn started_count<const POINTERS: usize>(runs: &[Run], pointer: usize) -> usize
 }
 
 impl<'a, const POINTERS: usize> Runs<'a, POINTERS> {
-    /// Runs that are in order.
+    /// Makes the runs of a list that is in order.
     pub(super) fn new(runs: &'a [Run]) -> Runs<'a, POINTERS>
         requires { run_fault POINTERS runs.now ≡ None }
         ensures { result.runs.now ≡ runs.now }
@@ -61,7 +63,7 @@ impl<'a, const POINTERS: usize> Runs<'a, POINTERS> {
         Runs { runs }
     }
 
-    /// The pointer behind all that the runs have.
+    /// Returns the pointer after all runs.
     #[inline(always)]
     pub(super) fn end(&self) -> usize
         ensures { result ≡ length (runs_list self.now.runs.now) }
@@ -74,7 +76,7 @@ impl<'a, const POINTERS: usize> Runs<'a, POINTERS> {
         usize::from(run.pointer) + usize::from(run.length)
     }
 
-    /// The number that the runs give a pointer, by the first run that ends behind it.
+    /// Returns the number that the runs give a pointer, given the place of the first run that ends after it.
     #[inline(always)]
     pub(super) fn scalar_at(&self, place: usize, pointer: usize) -> Option<u32>
         requires { IsFirstBehind self.now.runs.now place pointer }
@@ -90,7 +92,7 @@ impl<'a, const POINTERS: usize> Runs<'a, POINTERS> {
         Some(run.scalar + (pointer - usize::from(run.pointer)) as u32)
     }
 
-    /// The place of the first run that ends behind the next pointer, from that of a pointer.
+    /// Returns the place of the first run that ends after the next pointer, given that of the pointer.
     #[inline(always)]
     pub(super) fn next_place(&self, place: usize, pointer: usize) -> usize
         requires { IsFirstBehind self.now.runs.now place pointer }
@@ -107,7 +109,7 @@ impl<'a, const POINTERS: usize> Runs<'a, POINTERS> {
         }
     }
 
-    /// The number that the runs give a pointer.
+    /// Returns the number that the runs give a pointer.
     #[inline(always)]
     pub(super) fn scalar(&self, pointer: usize) -> Option<u32>
         ensures { result ≡ runs_scalar self.now.runs.now pointer }

@@ -1,9 +1,9 @@
-//! Flat indexes that are written into memory that the user lends.
+//! Writes flat indexes into memory that the caller lends.
 ghost use Rattle.std.specs.Prelude.{◌≡◌, ℕ, ◌+◌, ◌<◌, ◌≤◌, length, slice_index, MatchOption};
 
 use super::numbers::Numbers;
 
-/// Writes numbers in a row.
+/// Writes consecutive numbers.
 #[inline(always)]
 fn write_narrow_row(entries: &mut [u16], row: (usize, usize), pointer: usize)
     requires within { pointer + row.1 ≤ length entries.old }
@@ -36,8 +36,9 @@ fn write_narrow<N: Numbers>(index: &N, entries: &mut [u16])
     }
 }
 
-/// Writes an index of narrow entries to the start of the room, or returns `None` exactly if the room
-/// is too short.
+/// Writes an index of narrow entries to the start of the room, and returns it.
+///
+/// Returns `None` exactly if the room is too short.
 pub(super) fn unpack_narrow<'b, N: Numbers>(index: &N, room: &'b mut [u16]) -> Option<&'b [u16]>
     requires { (p : ℕ) → slice_index (N.numbers index.now) p < 0x1_0000 }
     ensures { MatchOption result
@@ -53,7 +54,7 @@ pub(super) fn unpack_narrow<'b, N: Numbers>(index: &N, room: &'b mut [u16]) -> O
     Some(entries)
 }
 
-/// Writes numbers in a row.
+/// Writes consecutive numbers.
 #[inline(always)]
 fn write_wide_row(entries: &mut [u32], row: (usize, usize), pointer: usize)
     requires within { pointer + row.1 ≤ length entries.old }
@@ -85,8 +86,9 @@ fn write_wide<N: Numbers>(index: &N, entries: &mut [u32])
     }
 }
 
-/// Writes an index of wide entries to the start of the room, or returns `None` exactly if the room is
-/// too short.
+/// Writes an index of wide entries to the start of the room, and returns it.
+///
+/// Returns `None` exactly if the room is too short.
 pub(super) fn unpack_wide<'b, N: Numbers>(index: &N, room: &'b mut [u32]) -> Option<&'b [u32]>
     ensures { MatchOption result
         (length room.old < length (N.numbers index.now))

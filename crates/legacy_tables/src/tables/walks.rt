@@ -1,5 +1,6 @@
-//! Walks over the pointers of an index, which fill a list of entries by scalars: what each scalar's
-//! pointer is then takes one pass over the index, and no search.
+//! Walks over the pointers of an index, which fill a list of entries by scalar.
+//!
+//! One pass over the index finds the pointers of all scalars, without a search.
 ghost use Rattle.std.specs.Prelude.{◌≡◌, ◌≢◌, ℕ, ◌==◌, ◌+◌, ◌<◌, ◌≤◌, List, length, slice_index};
 ghost use Rattle.legacy_tables.specs.Packed.{may_use, takes_last};
 ghost use Rattle.legacy_tables.specs.Walks.{is_preferred, marked_then};
@@ -9,20 +10,20 @@ use super::numbers::Numbers;
 use super::order_checks::{is_usable, takes_last_of};
 use super::packed::PackedPart;
 
-/// What stands in a list for a pointer: a number that is not 0.
+/// Marks of pointers. A mark is a number other than 0, which a list contains for the pointer.
 pub trait Marks {
     ghost mark: { ℕ → ℕ };
 
-    /// What stands for the pointer.
+    /// Returns the mark of the pointer.
     fn mark(&self, pointer: usize) -> u16
         requires { pointer < 23940 }
         ensures { result ≡ mark pointer };
 
-    /// None is 0.
+    /// No mark is 0.
     ghost some: { (p : ℕ) → mark p ≢ 0 };
 }
 
-/// Whether the codec takes the pointer for its scalar, where it takes one of those before it or none.
+/// Checks whether the codec prefers the pointer to the earlier ones of its scalar. With `free` it uses none of these.
 #[inline(always)]
 fn is_taken(part: PackedPart, scalar: usize, free: bool, pointer: usize) -> bool
     ensures { result ≡ is_preferred part scalar free pointer }
@@ -30,7 +31,7 @@ fn is_taken(part: PackedPart, scalar: usize, free: bool, pointer: usize) -> bool
     scalar != 0 && is_usable(part, pointer) && (free || takes_last_of(part, scalar))
 }
 
-/// Takes a pointer behind those before it, where its codec takes it.
+/// Writes the mark of a pointer into the list if the codec prefers it to the earlier ones.
 #[inline(always)]
 fn take_pointer<M: Marks>(
     part: PackedPart,
@@ -48,7 +49,7 @@ fn take_pointer<M: Marks>(
     }
 }
 
-/// Takes pointers in a row whose scalars are in a row too.
+/// Writes the marks of consecutive pointers with consecutive scalars, each as `take_pointer` does.
 #[inline(always)]
 fn take_row<M: Marks>(
     part: PackedPart,
@@ -69,7 +70,7 @@ fn take_row<M: Marks>(
     }
 }
 
-/// Fills a list by the pointers of an index.
+/// Fills a list with the marks of the pointers that the codec uses in an index.
 #[inline(always)]
 pub(super) fn walk<N: Numbers, M: Marks>(
     part: PackedPart,

@@ -1,87 +1,76 @@
-use Rattle.std.proofs.Common.{◌≡◌, ℕ, ◌+◌, ◌*◌, ◌<◌, ◌≤◌, ◌∙◌, List, length, take, drop, get_or, ap, ap₂, sym, refl, subst, arith, length-append}
-use Rattle.std.proofs.lemmas.List.{get_or-drop}
+use Rattle.std.proofs.Common.{◌≡◌, ◌+◌, ◌*◌, ◌∙◌, length, take, drop, get_or, ap, sym, refl, subst, arith, length-append}
+use Rattle.std.proofs.lemmas.List.{get_or-drop, length-drop}
 use Rattle.legacy_decoder_engine.specs.Ahead.{Writes}
-use Rattle.legacy_decoder_engine.specs.LaneCodes.{kept_of, place_of}
+use Rattle.legacy_decoder_engine.specs.LaneCodes.{IsForm}
 use Rattle.legacy_decoder_engine.specs.PickedForms.{forms_of}
-use Rattle.legacy_decoder_engine.proofs.LaneUnits.{eight_good, eight_counted, runs_all, narrow_all, forms_more}
-use Rattle.legacy_decoder_engine.proofs.WrittenRuns.{writes_none, writes_then, all_short, rest_of}
+use Rattle.legacy_decoder_engine.proofs.LaneUnits.{eight_forms, forms_at}
+use Rattle.legacy_decoder_engine.proofs.WrittenRuns.{writes_none, writes_then, all_short}
 use Rattle.legacy_decoder_engine.proofs.lanes.put_codes.Goals as goal
 
-pub returns-then-count-eq0-clause-writes : goal.returns-then-count-eq0-clause-writes
-returns-then-count-eq0-clause-writes g c = writes_none g.T.Destination (g.F.CommonForms.state c.args.forms.now).grammar c.args.dst.now
+pub returns-then-entries-eq0-clause-writes : goal.returns-then-entries-eq0-clause-writes
+returns-then-entries-eq0-clause-writes g c = writes_none g.T.Destination (g.F.CommonForms.state c.args.forms.now).grammar c.args.dst.now
 
 pub loop-group-init : goal.loop-group-init
 loop-group-init g c = record {
   within = omega arith;
+  limit = omega arith;
+  few = omega arith;
   bytes = refl;
-  most = omega arith;
   room = omega arith;
   writes = writes_none g.T.Destination (g.F.CommonForms.state c.args.forms.now).grammar c.args.dst.now;
 }
 
+pub put_few-few-requires-clause-scalars : goal.put_few-few-requires-clause-scalars
+put_few-few-requires-clause-scalars g c k h some = (c.units_at.ensures.forms k h some).scalar
+
 pub put_eight-requires-clause-scalars : goal.put_eight-requires-clause-scalars
 put_eight-requires-clause-scalars g c =
-    let T = g.T.Destination in
-    let l = c.loop-group in
-    let i = l.invariant in
-    let forms = c.args.forms.now in
-    let grammar = (g.F.CommonForms.state forms).grammar in
-    let index = g.F.LaneForms.entries forms in
-    let pointer = g.F.LaneForms.pointer in
+    let eight = c.units_at in
+    let long : length eight.result.1 ≡ 8 = omega (arith, eight.type_inv) in
+    (eight_forms (g.F.CommonForms.state c.args.forms.now).grammar c.args.codes.now eight.result.0 eight.result.1 (8 * c.loop-group.group) (omega (arith, c.if-at-most.false, c.requires.most, c.requires.codes))
+    (omega (arith, eight.type_inv)) long eight.ensures.forms (λ k h. c.has_zero.ensures c.if-has_zero.false k (omega (arith, h, long)))).0.scalar
+
+pub returns-then-at-most-clause-bytes : goal.returns-then-at-most-clause-bytes
+returns-then-at-most-clause-bytes g c =
     let codes = c.args.codes.now in
-    let keeps = c.split_codes.new.kept in
-    let finds = c.split_codes.new.places in
-    let units = c.chosen-units.result in
-    let at = 8 * l.group in
-    let long : length units ≡ 8 = omega (arith, c.chosen-units.type_inv) in
-    let room : at + 8 ≤ length codes = omega (arith, c.loop-group-test.true, c.requires.codes) in
-    let last = c.min-last.result in
-    let within : last < length index = omega (arith, c.min-last.ensures, ap length c.index-index.ensures.same, c.if-count-eq0.false) in
-    let small : (k : ℕ) → get_or codes k 0 < 65536 = λ k. let f = c.type_inv.codes k in omega arith in
-    let kept : (k : ℕ) → k < at + 8 → get_or keeps k 0 ≡ kept_of pointer last (get_or codes k 0) = λ k h. c.split_codes.ensures.keeps k (omega (arith, h, c.loop-group-test.true)) in
-    let found : (k : ℕ) → k < at + 8 → get_or finds k 0 ≡ place_of pointer last (get_or codes k 0) = λ k h. c.split_codes.ensures.finds k (omega (arith, h, c.loop-group-test.true)) in
-    let looked_up : (k : ℕ) → k < 8 → get_or c.entries_at.result k 0 ≡ get_or index (get_or finds (at + k) 0) 0 =
-    λ k h. c.entries_at.ensures k h ∙ ap₂ (λ (xs : List ℕ) (p : ℕ). get_or xs p 0) c.index-index.ensures.same (ap (λ (xs : List ℕ). get_or xs k 0) (rest_of finds at) ∙ get_or-drop at finds k 0) in
-    let some = c.has_zero.ensures c.if-has_zero.false in
-    let good = eight_good grammar c.requires.ascii index pointer last c.index-index.ensures.pairs within codes keeps finds units c.entries_at.result at room long small kept found looked_up c.chosen-units.ensures some in
-    (runs_all grammar c.requires.ascii index pointer last c.index-index.ensures.pairs within (take 8 (drop at codes)) units good).scalar
+    let at = 8 * c.loop-group.group in
+    let few =
+    c.put_few-few.ensures.writes (g.F.CommonForms.state c.args.forms.now).grammar (drop at codes) (omega (arith, c.loop-group-test.true, c.requires.most, c.requires.codes, length-drop at codes))
+    (λ k h some. subst (λ code. IsForm (g.F.CommonForms.state c.args.forms.now).grammar code (get_or c.units_at.result.0 k 0) (get_or c.units_at.result.1 k 0)) (sym (get_or-drop at codes k 0)) (c.units_at.ensures.forms k h some)) in
+    let count = c.put_few-few.result.0 in
+    omega (arith, few.0, ap length (forms_at at count codes), c.loop-group.invariant.bytes, length-append (forms_of (take at codes)) (forms_of (take count (drop at codes))))
+
+pub returns-then-at-most-clause-writes : goal.returns-then-at-most-clause-writes
+returns-then-at-most-clause-writes g c =
+    let codes = c.args.codes.now in
+    let at = 8 * c.loop-group.group in
+    let few =
+    c.put_few-few.ensures.writes (g.F.CommonForms.state c.args.forms.now).grammar (drop at codes) (omega (arith, c.loop-group-test.true, c.requires.most, c.requires.codes, length-drop at codes))
+    (λ k h some. subst (λ code. IsForm (g.F.CommonForms.state c.args.forms.now).grammar code (get_or c.units_at.result.0 k 0) (get_or c.units_at.result.1 k 0)) (sym (get_or-drop at codes k 0)) (c.units_at.ensures.forms k h some)) in
+    subst (λ bytes. Writes g.T.Destination (g.F.CommonForms.state c.args.forms.now).grammar bytes c.args.dst.now c.put_few-few.new.dst) (forms_at at c.put_few-few.result.0 codes)
+    (writes_then g.T.Destination c.loop-group.invariant.writes few.1)
 
 pub loop-group-preserved : goal.loop-group-preserved
 loop-group-preserved g c =
-    let T = g.T.Destination in
-    let l = c.loop-group in
-    let i = l.invariant in
-    let forms = c.args.forms.now in
-    let grammar = (g.F.CommonForms.state forms).grammar in
-    let index = g.F.LaneForms.entries forms in
-    let pointer = g.F.LaneForms.pointer in
+    let grammar = (g.F.CommonForms.state c.args.forms.now).grammar in
     let codes = c.args.codes.now in
-    let keeps = c.split_codes.new.kept in
-    let finds = c.split_codes.new.places in
-    let units = c.chosen-units.result in
-    let at = 8 * l.group in
-    let long : length units ≡ 8 = omega (arith, c.chosen-units.type_inv) in
-    let room : at + 8 ≤ length codes = omega (arith, c.loop-group-test.true, c.requires.codes) in
-    let last = c.min-last.result in
-    let within : last < length index = omega (arith, c.min-last.ensures, ap length c.index-index.ensures.same, c.if-count-eq0.false) in
-    let small : (k : ℕ) → get_or codes k 0 < 65536 = λ k. let f = c.type_inv.codes k in omega arith in
-    let kept : (k : ℕ) → k < at + 8 → get_or keeps k 0 ≡ kept_of pointer last (get_or codes k 0) = λ k h. c.split_codes.ensures.keeps k (omega (arith, h, c.loop-group-test.true)) in
-    let found : (k : ℕ) → k < at + 8 → get_or finds k 0 ≡ place_of pointer last (get_or codes k 0) = λ k h. c.split_codes.ensures.finds k (omega (arith, h, c.loop-group-test.true)) in
-    let looked_up : (k : ℕ) → k < 8 → get_or c.entries_at.result k 0 ≡ get_or index (get_or finds (at + k) 0) 0 =
-    λ k h. c.entries_at.ensures k h ∙ ap₂ (λ (xs : List ℕ) (p : ℕ). get_or xs p 0) c.index-index.ensures.same (ap (λ (xs : List ℕ). get_or xs k 0) (rest_of finds at) ∙ get_or-drop at finds k 0) in
-    let some = c.has_zero.ensures c.if-has_zero.false in
-    let good = eight_good grammar c.requires.ascii index pointer last c.index-index.ensures.pairs within codes keeps finds units c.entries_at.result at room long small kept found looked_up c.chosen-units.ensures some in
-    let counted = eight_counted grammar c.requires.ascii index pointer last c.index-index.ensures.pairs within codes keeps finds units c.entries_at.result at room long small kept found looked_up c.chosen-units.ensures some
-    (omega (arith, c.loop-group-test.true, c.requires.kept, c.split_codes.auto.kept)) in
-    let runs = runs_all grammar c.requires.ascii index pointer last c.index-index.ensures.pairs within (take 8 (drop at codes)) units good in
+    let at = 8 * c.loop-group.group in
+    let kept = c.units_at.result.0 in
+    let units = c.units_at.result.1 in
+    let i = c.loop-group.invariant in
     let e = c.put_eight.ensures in
-    let more = ap length (sym (forms_more l.group codes)) ∙ length-append (forms_of (take at codes)) (forms_of (take 8 (drop at codes))) in
-    let few = all_short T.form units (narrow_all grammar c.requires.ascii index pointer last c.index-index.ensures.pairs within (take 8 (drop at codes)) units good) in
+    let long : length units ≡ 8 = omega (arith, c.units_at.type_inv) in
+    let eight = eight_forms grammar codes kept units at (omega (arith, c.if-at-most.false, c.requires.most, c.requires.codes)) (omega (arith, c.units_at.type_inv)) long c.units_at.ensures.forms
+    (λ k h. c.has_zero.ensures c.if-has_zero.false k (omega (arith, h, long))) in
+    let next : at + 8 ≡ 8 * (c.loop-group.group + 1) = omega arith in
+    let more = forms_at at 8 codes ∙ ap (λ n. forms_of (take n codes)) next in
+    let few = all_short g.T.Destination.form units (λ k h. c.units_at.ensures.small k (omega (arith, h, long))) in
     record {
-      within = omega (arith, c.loop-group-test.true);
-      bytes = omega (arith, i.bytes, more, counted, c.byte_count-bytes.ensures);
-      most = omega (arith, i.most, c.byte_count-bytes.ensures);
-      room = omega (arith, i.room, e.room, few, long);
-      writes = subst (λ bytes. Writes T grammar bytes c.args.dst.now c.put_eight.new.self) (forms_more l.group codes)
-          (writes_then T i.writes (record { scalars = units; runs = runs; written = e.contents; room = e.room; loan = e.loan }));
+      within = omega (arith, c.if-at-most.false);
+      limit = omega (arith, c.if-bytes-long.false);
+      few = omega (arith, i.few, c.byte_count-long.ensures);
+      bytes = omega (arith, i.bytes, ap length more, eight.1, c.byte_count-long.ensures, length-append (forms_of (take at codes)) (forms_of (take 8 (drop at codes))));
+      room = omega (arith, c.if-free-ge32.true, c.free-in-loop-group.ensures, e.room, few, long);
+      writes = subst (λ bytes. Writes g.T.Destination grammar bytes c.args.dst.now c.put_eight.new.self) more
+          (writes_then g.T.Destination i.writes (record { scalars = units; runs = eight.0; written = e.contents; room = e.room; loan = e.loan }));
     }

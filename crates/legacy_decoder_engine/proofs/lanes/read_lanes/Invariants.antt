@@ -3,9 +3,9 @@ use Rattle.legacy_base.specs.States.{new_state}
 use Rattle.legacy_decoder_engine.specs.Ahead.{ReadsAhead}
 use Rattle.legacy_decoder_engine.proofs.lanes.read_lanes.Given as goal
 
--- what was read was written
-abbrev pub invariant-loop-at : goal.invariant-loop-at
-invariant-loop-at g l = ReadsAhead g.T.Destination (new_state (g.F.CommonForms.state l.forms).grammar) l.src l.at l.fn.dst l.dst
+-- the scalars of the bytes read are written
+abbrev pub invariant-loop-codes : goal.invariant-loop-codes
+invariant-loop-codes g l = ReadsAhead g.T.Destination (new_state (g.F.CommonForms.state l.forms).grammar) l.src l.at l.fn.dst l.dst
 
-abbrev pub decreases-loop-at : goal.decreases-loop-at
-decreases-loop-at g l = length l.src - l.at
+abbrev pub decreases-loop-codes : goal.decreases-loop-codes
+decreases-loop-codes g l = length l.src - l.at

@@ -2,7 +2,7 @@ use Rattle.std.proofs.Common.{◌≡◌, ℕ, ◌-◌, ◌*◌, ◌<◌, ◌≤�
 use Rattle.legacy_decoder_engine.specs.LaneCodes.{kept_of, place_of}
 use Rattle.legacy_decoder_engine.proofs.lanes.split_codes.Given as goal
 
--- the eights so far are split
+-- the groups of eight so far are split
 abbrev pub invariant-loop-group : goal.invariant-loop-group
 invariant-loop-group g l = record {
   within : l.group ≤ l.groups;

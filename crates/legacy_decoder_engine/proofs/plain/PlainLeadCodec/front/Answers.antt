@@ -11,7 +11,7 @@ use Rattle.legacy_decoder_engine.proofs.plain.PlainLeadCodec.front.Goals as goal
 
 pub returns-in-Some : goal.returns-in-Some
 returns-in-Some g c =
-    let tables = g.V.DecoderTables.indexes c.args.tables.now in
+    let tables = c.args.tables.now in
     let codec = g.C.PlainCodec in
     let index = index_list tables.flat codec.INDEX in
     let byte : c.args.lead < 2 ^ 8 = omega arith in

@@ -2,7 +2,7 @@ use Rattle.std.proofs.Common.{◌≡◌, ◌-◌, ◌≤◌, All, true, take}
 use Rattle.legacy_japanese.specs.Iso2022JpRuns.{IsPlain}
 use Rattle.legacy_japanese.proofs.iso_2022_jp.runs.are_plain.Given as goal
 
--- what was passed is plain, where it still holds
+-- the bytes before `at` are plain if `hold` is true
 abbrev pub invariant-loop-at : goal.invariant-loop-at
 invariant-loop-at l = (l.at ≤ 16) × (l.hold ≡ true → All IsPlain (take l.at l.src))
 

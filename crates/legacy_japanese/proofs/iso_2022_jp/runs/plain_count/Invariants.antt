@@ -2,7 +2,7 @@ use Rattle.std.proofs.Common.{◌-◌, ◌≤◌, All, length, take}
 use Rattle.legacy_japanese.specs.Iso2022JpRuns.{IsPlain}
 use Rattle.legacy_japanese.proofs.iso_2022_jp.runs.plain_count.Given as goal
 
--- what was passed is plain
+-- the bytes before `at` are plain
 abbrev pub invariant-loop-at : goal.invariant-loop-at
 invariant-loop-at l = (l.at ≤ length l.src) × All IsPlain (take l.at l.src)
 

@@ -4,6 +4,3 @@ use Rattle.legacy_japanese.proofs.iso_2022_jp.runs.read_begun.Goals as goal
 
 pub returns-then-not-may_begin : goal.returns-then-not-may_begin
 returns-then-not-may_begin g c = reads_none g.T.Destination (run_state c.args.tables.now.flat.jis0208 c.args.mode) c.args.src.now c.args.dst.now
-
-pub returns-then-is_pair_alone : goal.returns-then-is_pair_alone
-returns-then-is_pair_alone g c = rw (c.is_pair_alone.ensures c.if-is_pair_alone.true) c.read_pair.ensures

@@ -4,11 +4,13 @@ use Rattle.std.proofs.lemmas.List.{ext_get_or}
 use Rattle.legacy_tables.proofs.tables.unpacking.write_wide.Goals as goal
 
 pub loop-pointer-init : goal.loop-pointer-init
-loop-pointer-init g c = record { within = omega arith; written = λ k h. absurd (omega arith); none = λ k l h. search rules; at = g.N.Numbers.begins c.args.index.now }
+loop-pointer-init g c =
+    record { within = omega arith; written = λ k h. absurd (omega arith); none = λ k l h. search rules; at = g.N.Numbers.begins c.args.index.now }
 
 pub write_wide_row-requires-clause-within : goal.write_wide_row-requires-clause-within
 write_wide_row-requires-clause-within g c =
-    let all : length c.loop-pointer.entries ≡ length (g.N.Numbers.numbers c.args.index.now) = c.loop-pointer.auto.entries ∙ c.fill.ensures.len ∙ c.requires in
+    let all : length c.loop-pointer.entries ≡ length (g.N.Numbers.numbers c.args.index.now) =
+    c.loop-pointer.auto.entries ∙ c.fill.ensures.len ∙ c.requires in
     rw all c.row-start.ensures.within
 
 pub loop-pointer-preserved : goal.loop-pointer-preserved
@@ -35,5 +37,6 @@ loop-pointer-preserved g c =
 pub returns : goal.returns
 returns g c =
     let within = c.loop-pointer.invariant.within in
-    let all : length c.loop-pointer.entries ≡ length (g.N.Numbers.numbers c.args.index.now) = c.loop-pointer.auto.entries ∙ c.fill.ensures.len ∙ c.requires in
+    let all : length c.loop-pointer.entries ≡ length (g.N.Numbers.numbers c.args.index.now) =
+    c.loop-pointer.auto.entries ∙ c.fill.ensures.len ∙ c.requires in
     ext_get_or 0 c.loop-pointer.entries (g.N.Numbers.numbers c.args.index.now) all (λ i h. c.loop-pointer.invariant.written i (omega (arith, all)))

@@ -14,7 +14,8 @@ loop-at-preserved g c = λ index has filled.
     let next : c.args.pointer + (at + 1) ≡ (c.args.pointer + at) + 1 = omega arith in
     let within : at < c.args.row.1 = search rules in
     subst (λ n. IsFilledBelow c.args.part g.M.Marks.mark index n c.take_pointer.new.entries) (sym next)
-    (filled-more c.args.part g.M.Marks.mark g.met.M.Marks.some index (c.args.pointer + at) (c.args.row.0 + at) (c.args.pointer + at) c.loop-at.entries c.take_pointer.new.entries
+    (filled-more c.args.part g.M.Marks.mark g.met.M.Marks.some index (c.args.pointer + at) (c.args.row.0 + at) (c.args.pointer + at)
+    c.loop-at.entries c.take_pointer.new.entries
     (c.loop-at.invariant index has filled) c.take_pointer.auto.entries (sym (has at within)) refl (search rules))
 
 pub returns : goal.returns

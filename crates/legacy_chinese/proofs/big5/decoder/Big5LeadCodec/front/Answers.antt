@@ -1,19 +1,13 @@
-use Rattle.std.proofs.Common.{◌<◌, ◌^◌, arith}
-use Rattle.legacy_base.specs.States.{is_lead}
-use Rattle.legacy_base.specs.Grammar.{big5}
-use Rattle.legacy_decoder_engine.specs.LeadMachines.{lead_first}
-use Rattle.legacy_chinese.specs.Big5Machine.{big5_pair_scalars}
-use Rattle.legacy_chinese.specs.Big5Shown.{big5_codec}
-use Rattle.legacy_decoder_engine.proofs.LeadHeld.{pair}
+use Rattle.std.proofs.Common.{◌∙◌, ◌<◌, ◌^◌, ap, arith}
+use Rattle.legacy_tables.specs.Indexes.{idx}
+use Rattle.legacy_chinese.specs.Big5Places.{big5_lead_place, big5_trail_place}
+use Rattle.legacy_chinese.proofs.Big5Places.{big5_rows_are, big5_runs, big5_trails_are}
 use Rattle.legacy_chinese.proofs.big5.decoder.Big5LeadCodec.front.Goals as goal
 
 pub returns-in-Some : goal.returns-in-Some
-returns-in-Some g c =
-    let tables = g.V.DecoderTables.indexes c.args.tables.now in
-    let flat = tables.flat in
+returns-in-Some c =
+    let tables = c.args.tables.now in
     let byte : c.args.lead < 2 ^ 8 = omega arith in
-    let byte' : c.args.trail < 2 ^ 8 = omega arith in (
-      omega arith,
-      pair (λ flat. big5 flat.big5) is_lead (lead_first is_lead) (λ flat. big5_pair_scalars flat.big5) big5_codec tables c.args.lead c.args.trail c.in-Some.scalar byte byte' c.in-Some.ensures.scalar
-          c.in-Some.ensures.value.0 c.in-Some.ensures.value.1,
-    )
+    let byte' : c.args.trail < 2 ^ 8 = omega arith in
+    let place = c.pair_pointer-pointer.ensures big5_lead_place big5_trail_place big5_rows_are big5_trails_are in
+    (omega arith, big5_runs tables c.args.lead c.args.trail c.in-Some.scalar byte byte' (c.in-Some.ensures ∙ ap (idx tables.flat.big5) place))

@@ -6,7 +6,7 @@ use Rattle.legacy_decoder_engine.specs.Ahead.{ReadsAhead}
 use Rattle.legacy_decoder_engine.proofs.JoinedRuns.{reads_idle}
 use Rattle.legacy_decoder_engine.proofs.WrittenRuns.{reads_none}
 use Rattle.legacy_chinese.specs.Gb18030Decoder.{gb18030_state}
-use Rattle.legacy_chinese.proofs.Gb18030Held.{idle}
+use Rattle.legacy_chinese.proofs.Gb18030Held.{ascii, idle}
 use Rattle.legacy_chinese.proofs.gb18030.decoder.Gb18030DecoderDecoderMoves.read_ahead.Goals as goal
 
 pub returns-then-not-in_neutral_state : goal.returns-then-not-in_neutral_state
@@ -16,8 +16,10 @@ pub returns-in-Some : goal.returns-in-Some
 returns-in-Some g c =
     reads_idle (idle c.args.self.now (sym c.in_neutral_state.ensures ∙ c.if-not-in_neutral_state.false))
     (subst (λ (t : AcceptedIndexes). ReadsAhead g.T.Destination (new_state
-    (gb18030 t.flat.gb18030 t.flat.ranges)) c.args.src.now c.read_blocks.result c.args.dst.now c.read_blocks.new.dst) c.in-Some.ensures c.read_blocks.ensures)
+    (gb18030 t.flat.gb18030 t.flat.ranges)) c.args.src.now c.read_flat.result c.args.dst.now c.read_flat.new.dst) c.in-Some.ensures c.read_flat.ensures)
 
 pub returns-in-None : goal.returns-in-None
 returns-in-None g c =
-    reads_idle (idle c.args.self.now (sym c.in_neutral_state.ensures ∙ c.if-not-in_neutral_state.false)) c.read_blocks-in-None.ensures
+    let tables = c.args.self.now.tables.now in
+    reads_idle (idle c.args.self.now (sym c.in_neutral_state.ensures ∙ c.if-not-in_neutral_state.false))
+    (c.read_ascii.ensures.ahead (gb18030 tables.flat.gb18030 tables.flat.ranges) (ascii tables))

@@ -3,4 +3,4 @@ use Rattle.legacy_chinese.proofs.Gb18030Held.{ascii}
 use Rattle.legacy_chinese.proofs.gb18030.fours.Gb18030BlocksCommonForms.is_idle.Goals as goal
 
 pub returns : goal.returns
-returns g c e = record { empty = refl; ascii = ascii (g.V.DecoderTables.indexes c.args.self.now.tables.now) }
+returns c e = record { empty = refl; ascii = ascii c.args.self.now.tables.now }

@@ -6,8 +6,8 @@ use Rattle.legacy_japanese.proofs.Iso2022JpRuns.{placed_scalar}
 use Rattle.legacy_japanese.proofs.iso_2022_jp.runs.Jis0208PairsPairs.scalar.Goals as goal
 
 pub returns : goal.returns
-returns g c =
-    let tables = g.V.DecoderTables.indexes c.args.self.now.tables.now in
+returns c =
+    let tables = c.args.self.now.tables.now in
     let short : length tables.flat.jis0208 ≤ 65535 = let most = length-jis0208 tables.flat tables.accepted in omega arith in
     placed_scalar tables.flat.jis0208 short c.args.first c.args.second c.entry.result
     (rw (c.pair_pointer.ensures jis_lead_place jis_trail_place jis_leads_are jis_trails_are) at c.entry.ensures.value) c.entry.ensures.narrow

@@ -4,9 +4,10 @@ use Rattle.legacy_tables.proofs.tables.packed_tables.PackedTables.new.Goals as g
 
 pub invariant_of-result : goal.invariant_of-result
 invariant_of-result c =
-    let same = lists-same c.in_ok-runs.runs (flat_indexes c.args.indexes.now) c.args.packed.now c.in_ok-runs.ensures.0 in (
-      rw same (packed-accepted (flat_indexes c.args.indexes.now) c.args.packed.now c.in_ok-check_indexes.ensures c.in_ok-runs.ensures.1),
-      (rw same (orders-same c.in_ok-orders.orders (flat_indexes c.args.indexes.now) c.args.packed.now c.in_ok-check_indexes.ensures c.in_ok-runs.ensures.1 c.in_ok-orders.ensures.0), tt),
+    let flat = flat_indexes c.args.indexes.now in
+    let same = lists-same c.in_ok-runs.runs flat c.args.packed.now c.in_ok-runs.ensures.0 in (
+      rw same (packed-accepted flat c.args.packed.now c.in_ok-check_indexes.ensures c.in_ok-runs.ensures.1),
+      (rw same (orders-same c.in_ok-orders.orders flat c.args.packed.now c.in_ok-check_indexes.ensures c.in_ok-runs.ensures.1 c.in_ok-orders.ensures.0), tt),
     )
 
 pub returns : goal.returns

@@ -7,10 +7,14 @@ pub bounds-self-place : goal.bounds-self-place
 bounds-self-place g c = row-there c.args.self.now.runs.now c.args.self.now.ordered c.args.place c.args._at c.requires.place c.requires.within
 
 pub offset_bounds-self-place : goal.offset_bounds-self-place
-offset_bounds-self-place g c = let there = row-there c.args.self.now.runs.now c.args.self.now.ordered c.args.place c.args._at c.requires.place c.requires.within in search (rules, arith)
+offset_bounds-self-place g c =
+    let there = row-there c.args.self.now.runs.now c.args.self.now.ordered c.args.place c.args._at c.requires.place c.requires.within in
+    search (rules, arith)
 
 pub overflow_add-result : goal.overflow_add-result
-overflow_add-result g c = let there = row-there c.args.self.now.runs.now c.args.self.now.ordered c.args.place c.args._at c.requires.place c.requires.within in search (rules, arith)
+overflow_add-result g c =
+    let there = row-there c.args.self.now.runs.now c.args.self.now.ordered c.args.place c.args._at c.requires.place c.requires.within in
+    search (rules, arith)
 
 pub returns : goal.returns
 returns g c =
