@@ -34,11 +34,6 @@ pub units-total : (form : EncodingForm) (cs : List ℕ) → units (unit_count fo
 units-total form [] = refl
 units-total form (c ∷ cs) = let e = units-total form cs in omega (arith, length-append (code_units form c) (all_code_units form cs))
 
--- the length query of an encoding form
-query_of : EncodingForm → LengthQuery
-query_of Utf8 = to_utf8
-query_of Utf16 = to_utf16
-
 fits_form : (form : EncodingForm) {g : Grammar} {m : DecoderMachine} → IsShown g m → (held : List ℕ) (b : ℕ) → may_hold g held ≡ true → rests g held ≡ true → AreBytes held → IsByte b →
     step_units (unit_count form) (bmp_room form) (m.step held b) ≤ read_room form (state_of g held) b
 fits_form Utf8 shown held b m r bytes byte = (shown.rooms to_utf8).step_fits held b m r bytes byte

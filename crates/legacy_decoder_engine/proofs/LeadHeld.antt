@@ -26,6 +26,18 @@ pub neutral_empty : (bytes : List ℕ) → (is_empty bytes && true) ≡ true →
 neutral_empty [] e = refl
 neutral_empty (b ∷ bytes) e = cc
 
+-- ASCII, and a pair that gives one scalar
+module _ (grammar : FlatIndexes → Grammar) (is_lead_byte : ℕ → Bool) (first : ℕ → Step) (scalars : FlatIndexes → ℕ → ℕ → List ℕ) (is : IsLeadCodec grammar is_lead_byte first scalars)
+    (tables : AcceptedIndexes) where
+  pub ascii : HasAscii (grammar tables.flat)
+  ascii = has_ascii (is.shown tables.flat tables.accepted) (λ b. refl) (λ b h. is.ascii_first b (ascii_is b h))
+
+  pub pair : (lead trail c : ℕ) → IsByte lead → IsByte trail → IsScalar c → is_lead_byte lead ≡ true → scalars tables.flat lead trail ≡ c ∷ [] → Runs (grammar tables.flat) (lead ∷ trail ∷ []) (c ∷ [])
+  pair lead trail c is_byte is_byte' scalar is_lead e =
+      pair_runs (is.shown tables.flat tables.accepted) lead trail c is_byte is_byte' scalar
+      (is.may_is tables.flat (lead ∷ []) ∙ is_lead) (is.rests_is tables.flat (lead ∷ []))
+      refl refl (is.lead_first lead is_lead) (rw e refl)
+
 module _ {L : Type 0} (grammar : FlatIndexes → Grammar) (is_lead_byte : ℕ → Bool) (first : ℕ → Step) (scalars : FlatIndexes → ℕ → ℕ → List ℕ) (is : IsLeadCodec grammar is_lead_byte first scalars)
     (byte : L → ℕ) (leads : (lead : L) → is_lead_byte (byte lead) ≡ true) (tables : AcceptedIndexes) where
   abbrev g : Grammar
@@ -74,30 +86,6 @@ module _ {L : Type 0} (grammar : FlatIndexes → Grammar) (is_lead_byte : ℕ �
   pub lone : (b : ℕ) → first b ≡ finish (malformed 1) → IsLoneFault (lead_state grammar byte tables None) b
   lone b e = feeding.lone shown b e refl
 
-  -- ---- runs
-
-  pub ascii : HasAscii (grammar tables.flat)
-  ascii = has_ascii shown (λ b. refl) (λ b h. is.ascii_first b (ascii_is b h))
-
   -- a decoder without a lead
   pub idle : (held : Option L) → is_some held ≡ false → IsIdle (lead_state grammar byte tables held)
-  idle held e = record { empty = none_held held e; ascii = ascii }
-
--- a pair that gives one scalar
-module _ (grammar : FlatIndexes → Grammar) (is_lead_byte : ℕ → Bool) (first : ℕ → Step) (scalars : FlatIndexes → ℕ → ℕ → List ℕ) (is : IsLeadCodec grammar is_lead_byte first scalars)
-    (tables : AcceptedIndexes) where
-  pub pair : (lead trail c : ℕ) → IsByte lead → IsByte trail → IsScalar c → is_lead_byte lead ≡ true → scalars tables.flat lead trail ≡ c ∷ [] → Runs (grammar tables.flat) (lead ∷ trail ∷ []) (c ∷ [])
-  pair lead trail c is_byte is_byte' scalar is_lead e =
-      pair_runs (is.shown tables.flat tables.accepted) lead trail c is_byte is_byte' scalar
-      (is.may_is tables.flat (lead ∷ []) ∙ is_lead) (is.rests_is tables.flat (lead ∷ []))
-      refl refl (is.lead_first lead is_lead) (rw e refl)
-
--- a trail that gives one scalar
-pub one_scalar : (scalars : List ℕ) (trail c : ℕ) (held : List ℕ) → One c ≡ fed_of (trail_step 1 scalars trail) held trail → scalars ≡ c ∷ []
-one_scalar [] trail c held e = go (is_ascii trail) e
-  where
-    go : (t : Bool) → One c ≡ fed_of (cond t (leave 1) (finish (malformed 2))) held trail → [] ≡ c ∷ []
-    go true e = cc
-    go false e = cc
-one_scalar (d ∷ []) trail c held e = let same : c ≡ d = cc in rw same refl
-one_scalar (d ∷ d' ∷ scalars) trail c held e = cc
+  idle held e = record { empty = none_held held e; ascii = ascii grammar is_lead_byte first scalars is tables }

@@ -3,42 +3,60 @@
 // the destination's place there for each block.
 ghost use Rattle.std.specs.Prelude.{◌≡◌, ◌≢◌, ℕ, ◌+◌, ◌*◌, ◌<◌, ◌≤◌, List, false, true, length, map, take, get_or, count_by, cond, ltb};
 ghost use Rattle.std.specs.Char.{IsScalar};
+ghost use Rattle.legacy_tables.specs.AcceptedTables.{AcceptedIndexes};
+ghost use Rattle.legacy_tables.specs.Indexes.{FlatIndexes};
 ghost use Rattle.legacy_base.specs.Grammar.{Grammar};
-ghost use Rattle.legacy_base.specs.States.{DecoderState, new_state};
-ghost use Rattle.legacy_decoder_engine.specs.Ahead.{HasAscii, ReadsAhead, Writes};
+ghost use Rattle.legacy_base.specs.States.{new_state};
+ghost use Rattle.legacy_decoder_engine.specs.Ahead.{HasAscii, IsCommonForm, ReadsAhead, Writes};
 ghost use Rattle.legacy_decoder_engine.specs.LaneCodes.{kept_of, place_of, unit_at, ArePairs, IsLane, IsForm};
 ghost use Rattle.legacy_decoder_engine.specs.PickedForms.{forms_of};
 
-use crate::common_forms::{CommonBlocks, CommonForms, begins_rare};
+use crate::common_forms::{CommonForm, CommonForms, FormsInTurn, read_forms};
 use crate::picks::{past_ascii, pick_forms};
-use crate::runs::{Blocks, read_ascii, read_blocks, read_run};
+use crate::runs::{Blocks, read_ascii, read_blocks, read_one};
 use legacy_base::Destination;
+use legacy_tables::FlatTables;
+use std::marker::PhantomData;
 use std::simd::prelude::*;
 
-/// Common forms whose pairs have entries in one flat index, so that eight pairs are looked up at once.
-pub trait LaneForms: CommonForms {
+/// A codec with ASCII and pairs whose scalars are entries of one index, so that eight pairs are looked up at once.
+pub trait LaneCodec {
+    /// The grammar, given the flat indexes.
+    ghost grammar: { FlatIndexes → Grammar };
+
     /// The index.
-    ghost entries: { Self → List ℕ };
+    ghost entries: { FlatIndexes → List ℕ };
 
     /// The place in the index of a code of two bytes, the first one low, or a number past the end of the index.
-    ghost pointer: { ℕ → ℕ };
+    ghost place: { ℕ → ℕ };
+
+    /// Returns whether a quick test shows that the byte begins no common form. An ASCII byte is its own scalar.
+    // No block is begun at such a byte.
+    fn is_rare(byte: u8) -> bool
+        ensures { (tables : AcceptedIndexes) → HasAscii (grammar tables.flat) };
+
+    /// Returns what is at the front of the input, given a byte past ASCII and the byte after it.
+    /// It is a scalar up to U+FFFF, or `Other` for a rare form, which the machine reads.
+    fn front(tables: &FlatTables<'_>, lead: u8, trail: u8) -> CommonForm
+        requires { 0x80 ≤ lead }
+        ensures { IsCommonForm (grammar tables.now.flat) lead trail result };
 
     /// Returns the number of entries of the index. An entry from U+0001 to U+FFFF is the scalar of its pair.
-    fn entry_count(&self) -> usize
-        ensures count { result ≡ length (entries self.now) }
-        ensures pairs { ArePairs (Self.state self.now).grammar (entries self.now) pointer };
+    fn entry_count(tables: &FlatTables<'_>) -> usize
+        ensures count { result ≡ length (entries tables.now.flat) }
+        ensures pairs { ArePairs (grammar tables.now.flat) (entries tables.now.flat) place };
 
     /// Returns the entries at eight places, with 0 for an entry past U+FFFF.
-    fn entries_at(&self, places: &[u16]) -> u16x8
+    fn entries_at(tables: &FlatTables<'_>, places: &[u16]) -> u16x8
         requires eight { 8 ≤ length places.now }
         requires within { (k : ℕ) → k < 8 →
-            get_or places.now k 0 < length (entries self.now) }
+            get_or places.now k 0 < length (entries tables.now.flat) }
         ensures { (k : ℕ) → k < 8 → get_or result k 0 ≢ 0 →
-            get_or result k 0 ≡ get_or (entries self.now) (get_or places.now k 0) 0 };
+            get_or result k 0 ≡ get_or (entries tables.now.flat) (get_or places.now k 0) 0 };
 
-    /// Returns the pointers of eight codes.
-    fn pointers(codes: u16x8) -> u16x8
-        ensures { result ≡ map pointer codes };
+    /// Returns the places of eight codes.
+    fn places(codes: u16x8) -> u16x8
+        ensures { result ≡ map place codes };
 
     /// Returns whether a quick test shows forms of one byte past ASCII in a block. Such a block is read form by form.
     #[inline(always)]
@@ -50,12 +68,12 @@ pub trait LaneForms: CommonForms {
 
 /// Returns what is kept of eight codes, and their places in an index whose last place is `last`.
 #[inline(always)]
-fn kept_and_places<F: LaneForms>(codes: u16x8, last: u16) -> (u16x8, u16x8)
-    ensures kept { result.0 ≡ map (kept_of F.pointer last) codes }
-    ensures places { result.1 ≡ map (place_of F.pointer last) codes }
+fn kept_and_places<C: LaneCodec>(codes: u16x8, last: u16) -> (u16x8, u16x8)
+    ensures kept { result.0 ≡ map (kept_of C.place last) codes }
+    ensures places { result.1 ≡ map (place_of C.place last) codes }
 {
     let first = codes & u16x8::splat(0xFF);
-    let found = F::pointers(codes);
+    let found = C::places(codes);
     let end = u16x8::splat(last);
     let known = first.simd_lt(u16x8::splat(0x80)) | found.simd_le(end);
     (known.select(first, u16x8::splat(0)), found.simd_min(end))
@@ -71,7 +89,7 @@ struct Lanes {
 /// Stores what is kept of the codes in the first `groups` groups of eight, and the places of their entries.
 // This loop runs before the loop of the look-ups: to take a place out of a vector costs more than to load it.
 #[inline(always)]
-fn split_codes<F: LaneForms>(
+fn split_codes<C: LaneCodec>(
     codes: &[u16],
     kept: &mut [u16],
     places: &mut [u16],
@@ -82,13 +100,13 @@ fn split_codes<F: LaneForms>(
     requires kept { 8 * groups ≤ length kept.old }
     requires places { 8 * groups ≤ length places.old }
     ensures lanes { (k : ℕ) → k < 8 * groups →
-        IsLane F.pointer (get_or codes.now k 0) (get_or kept.new k 0) (get_or places.new k 0) }
+        IsLane C.place (get_or codes.now k 0) (get_or kept.new k 0) (get_or places.new k 0) }
     ensures within { (k : ℕ) → k < 8 * groups → get_or places.new k 0 ≤ last }
 {
     let mut group = 0;
     while group < groups {
         let at = 8 * group;
-        let (first, found) = kept_and_places::<F>(u16x8::from_slice(&codes[at..]), last);
+        let (first, found) = kept_and_places::<C>(u16x8::from_slice(&codes[at..]), last);
         first.copy_to_slice(&mut kept[at..]);
         found.copy_to_slice(&mut places[at..]);
         group += 1;
@@ -148,22 +166,30 @@ fn has_zero(units: &[u16]) -> bool
 
 /// Returns what is kept of eight codes from a place on, and their units, with 0 for a rare code.
 #[inline(always)]
-fn units_at<F: LaneForms>(forms: &F, codes: &[u16], lanes: &Lanes, at: usize) -> (u16x8, u16x8)
-    requires ascii { HasAscii (F.state forms.now).grammar }
-    requires pairs { ArePairs (F.state forms.now).grammar (F.entries forms.now) F.pointer }
+fn units_at<C: LaneCodec>(
+    tables: &FlatTables<'_>,
+    codes: &[u16],
+    lanes: &Lanes,
+    at: usize,
+) -> (u16x8, u16x8)
+    requires ascii { HasAscii (C.grammar tables.now.flat) }
+    requires pairs { ArePairs (C.grammar tables.now.flat) (C.entries tables.now.flat) C.place }
     requires eight { at + 8 ≤ 64 }
-    requires lanes { (k : ℕ) → k < 8 → IsLane F.pointer (get_or codes.now (at + k) 0)
+    requires lanes { (k : ℕ) → k < 8 → IsLane C.place (get_or codes.now (at + k) 0)
         (get_or lanes.now.kept (at + k) 0) (get_or lanes.now.places (at + k) 0) }
     requires within { (k : ℕ) → k < 8 →
-        get_or lanes.now.places (at + k) 0 < length (F.entries forms.now) }
+        get_or lanes.now.places (at + k) 0 < length (C.entries tables.now.flat) }
     ensures small { (k : ℕ) → k < 8 → get_or result.1 k 0 < 0x1_0000 }
     ensures forms { (k : ℕ) → k < 8 → get_or result.1 k 0 ≢ 0 →
-        IsForm (F.state forms.now).grammar (get_or codes.now (at + k) 0) (get_or result.0 k 0)
+        IsForm (C.grammar tables.now.flat) (get_or codes.now (at + k) 0) (get_or result.0 k 0)
         (get_or result.1 k 0) }
 {
     let _ = codes.len();
     let kept = u16x8::from_slice(&lanes.kept[at..]);
-    (kept, chosen(kept, forms.entries_at(&lanes.places[at..])))
+    (
+        kept,
+        chosen(kept, C::entries_at(tables, &lanes.places[at..])),
+    )
 }
 
 /// Returns the number of bytes of a form, given what is kept of its code.
@@ -217,37 +243,37 @@ fn put_few<T: Destination>(
 /// Stops before a group of eight if fewer than 32 code units are free.
 /// Returns the number of codes written, and the number of bytes of their forms.
 #[inline(always)]
-fn put_codes<F: LaneForms, T: Destination>(
-    forms: &F,
+fn put_codes<C: LaneCodec, T: Destination>(
+    tables: &FlatTables<'_>,
     codes: &[u16],
     lanes: &mut Lanes,
     most: usize,
     limit: usize,
     dst: &mut T,
 ) -> (usize, usize)
-    requires ascii { HasAscii (F.state forms.now).grammar }
+    requires ascii { HasAscii (C.grammar tables.now.flat) }
     requires most { most ≤ 64 }
     requires codes { 64 ≤ length codes.now }
     ensures most { result.0 ≤ most }
     ensures limit { result.1 ≤ limit }
     ensures bytes { result.1 ≡ length (forms_of (take result.0 codes.now)) }
-    ensures writes { Writes T.Destination (F.state forms.now).grammar
+    ensures writes { Writes T.Destination (C.grammar tables.now.flat)
         (forms_of (take result.0 codes.now)) dst.old dst.new }
     ensures slack { 0 < result.1 → 3 ≤ T.room dst.new }
     ensures had { 0 < result.1 → 4 ≤ T.room dst.old }
 {
-    let entries = forms.entry_count();
+    let entries = C::entry_count(tables);
     if entries == 0 || dst.free() < 32 {
         return (0, 0);
     }
     let last = (entries - 1).min(0xFFFF) as u16;
     let groups = (most + 7) / 8;
-    split_codes::<F>(codes, &mut lanes.kept, &mut lanes.places, groups, last);
+    split_codes::<C>(codes, &mut lanes.kept, &mut lanes.places, groups, last);
     let mut bytes = 0;
     let mut group = 0;
     while 8 * group < most && dst.free() >= 32 {
         let at = 8 * group;
-        let (kept, units) = units_at(forms, codes, lanes, at);
+        let (kept, units) = units_at::<C>(tables, codes, lanes, at);
         let long = byte_count(kept);
         if at + 8 > most || bytes + long > limit || has_zero(&units.to_array()) {
             let left = (most - at).min(8);
@@ -279,19 +305,19 @@ fn codes_read(count: usize, limit: usize) -> usize
 /// Stops at a form that is rare or ends past `limit` bytes.
 /// Returns the number of bytes read, and whether another block may follow.
 #[inline(always)]
-fn read_block<F: LaneForms, T: Destination>(
-    forms: &F,
+fn read_block<C: LaneCodec, T: Destination>(
+    tables: &FlatTables<'_>,
     block: &[u8],
     limit: usize,
     codes: &mut [u16],
     lanes: &mut Lanes,
     dst: &mut T,
 ) -> (usize, bool)
-    requires ascii { HasAscii (F.state forms.now).grammar }
+    requires ascii { HasAscii (C.grammar tables.now.flat) }
     requires block { 72 ≤ length block.now }
     requires codes { 64 ≤ length codes.old }
     ensures limit { result.0 ≤ limit }
-    ensures writes { Writes T.Destination (F.state forms.now).grammar (take result.0 block.now)
+    ensures writes { Writes T.Destination (C.grammar tables.now.flat) (take result.0 block.now)
         dst.old dst.new }
     ensures slack { 0 < result.0 → 3 ≤ T.room dst.new }
     ensures had { 0 < result.0 → 4 ≤ T.room dst.old }
@@ -301,12 +327,12 @@ fn read_block<F: LaneForms, T: Destination>(
     if 8 * past.count_ones() as usize <= 3 * limit.min(64) {
         return (0, false);
     }
-    if F::has_singles(bytes) {
+    if C::has_singles(bytes) {
         return (0, false);
     }
     let count = pick_forms(block, past, codes);
     let most = codes_read(count, limit);
-    let (done, read) = put_codes(forms, codes, lanes, most, limit, dst);
+    let (done, read) = put_codes::<C, T>(tables, codes, lanes, most, limit, dst);
     (read, done == most)
 }
 
@@ -323,32 +349,32 @@ fn padded(src: &[u8]) -> [u8; 72]
 
 /// Reads a block at the front. It copies the last bytes of the input to an array with zeros after them.
 #[inline(always)]
-fn read_front<F: LaneForms, T: Destination>(
-    forms: &F,
+fn read_front<C: LaneCodec, T: Destination>(
+    tables: &FlatTables<'_>,
     src: &[u8],
     codes: &mut [u16],
     lanes: &mut Lanes,
     dst: &mut T,
 ) -> (usize, bool)
     requires codes { 64 ≤ length codes.old }
-    requires ascii { HasAscii (F.state forms.now).grammar }
-    ensures { ReadsAhead T.Destination (new_state (F.state forms.now).grammar) src.now
+    requires ascii { HasAscii (C.grammar tables.now.flat) }
+    ensures { ReadsAhead T.Destination (new_state (C.grammar tables.now.flat)) src.now
         result.0 dst.old dst.new }
 {
     if src.len() >= 72 {
-        return read_block(forms, src, src.len(), codes, lanes, dst);
+        return read_block::<C, T>(tables, src, src.len(), codes, lanes, dst);
     }
     let most = src.len().min(64);
-    read_block(forms, &padded(&src[..most]), most, codes, lanes, dst)
+    read_block::<C, T>(tables, &padded(&src[..most]), most, codes, lanes, dst)
 }
 
 /// Returns whether many of the first 64 bytes are past ASCII, or of the first 16 if there are fewer than 64.
 /// Returns false if there are fewer than 16 bytes, or if the 64 have forms of one byte past ASCII.
 #[inline(always)]
-fn begins_many<F: LaneForms>(src: &[u8]) -> bool {
+fn begins_many<C: LaneCodec>(src: &[u8]) -> bool {
     if src.len() >= 64 {
         let block = u8x64::from_slice(src);
-        return past_ascii(block).count_ones() > 24 && !F::has_singles(block);
+        return past_ascii(block).count_ones() > 24 && !C::has_singles(block);
     }
     if src.len() < 16 {
         return false;
@@ -359,11 +385,15 @@ fn begins_many<F: LaneForms>(src: &[u8]) -> bool {
 
 /// Reads blocks with many bytes past ASCII from the front, and returns the number of bytes read, which may be 0.
 #[inline(always)]
-fn read_lanes<F: LaneForms, T: Destination>(forms: &F, src: &[u8], dst: &mut T) -> usize
-    requires { HasAscii (F.state forms.now).grammar }
-    ensures { ReadsAhead T.Destination (new_state (F.state forms.now).grammar) src.now result dst.old dst.new }
+fn read_lanes<C: LaneCodec, T: Destination>(
+    tables: &FlatTables<'_>,
+    src: &[u8],
+    dst: &mut T,
+) -> usize
+    requires { HasAscii (C.grammar tables.now.flat) }
+    ensures { ReadsAhead T.Destination (new_state (C.grammar tables.now.flat)) src.now result dst.old dst.new }
 {
-    if !begins_many::<F>(src) {
+    if !begins_many::<C>(src) {
         return 0;
     }
     let mut codes = [0; 72];
@@ -373,7 +403,7 @@ fn read_lanes<F: LaneForms, T: Destination>(forms: &F, src: &[u8], dst: &mut T) 
     };
     let mut at = 0;
     loop {
-        let (read, is_whole) = read_front(forms, &src[at..], &mut codes, &mut lanes, dst);
+        let (read, is_whole) = read_front::<C, T>(tables, &src[at..], &mut codes, &mut lanes, dst);
         at += read;
         if read == 0 || !is_whole {
             return at;
@@ -381,50 +411,98 @@ fn read_lanes<F: LaneForms, T: Destination>(forms: &F, src: &[u8], dst: &mut T) 
     }
 }
 
-/// The common forms of a decoder whose pairs are looked up eight at a time if many follow one another.
-#[derive(Drop)]
-pub struct LaneBlocks<'a, F: LaneForms> {
-    pub forms: &'a F,
+/// Returns whether no common form begins at the front: there is no byte, or a quick test shows it.
+#[inline(always)]
+fn begins_rare<C: LaneCodec>(src: &[u8]) -> bool
+    ensures { result ≡ false → (tables : AcceptedIndexes) → HasAscii (C.grammar tables.flat) }
+{
+    if src.is_empty() {
+        return true;
+    }
+    C::is_rare(src[0])
 }
 
-impl<F: LaneForms> Blocks for LaneBlocks<'_, F> {
-    ghost grammar = { λ blocks. (F.state blocks.forms.now).grammar };
+/// Returns whether a rare byte follows the form at the front, which is taken to be one ASCII byte or two bytes.
+/// Returns false if there are fewer than three bytes.
+#[inline(always)]
+fn stands_alone<C: LaneCodec>(src: &[u8]) -> bool {
+    if src.len() < 3 {
+        return false;
+    }
+    C::is_rare(if src[0] < 0x80 { src[1] } else { src[2] })
+}
 
-    ghost ready = { λ blocks. HasAscii (F.state blocks.forms.now).grammar };
+/// The common forms of a codec over flat tables, if nothing is held back.
+#[derive(Drop)]
+pub struct LaneForms<'a, 'b, C: LaneCodec> {
+    tables: &'a FlatTables<'b>,
+    codec: PhantomData<C>,
+}
+
+impl<'a, 'b, C: LaneCodec> LaneForms<'a, 'b, C> {
+    /// Returns the common forms over these tables.
+    #[inline(always)]
+    pub fn new(tables: &'a FlatTables<'b>) -> LaneForms<'a, 'b, C>
+        ensures { result.tables.now ≡ tables.now }
+    {
+        LaneForms {
+            tables,
+            codec: PhantomData,
+        }
+    }
+}
+
+impl<C: LaneCodec> CommonForms for LaneForms<'_, '_, C> {
+    ghost grammar = { λ forms. C.grammar forms.tables.now.flat };
+
+    ghost ready = { λ forms. HasAscii (C.grammar forms.tables.now.flat) };
+
+    #[inline(always)]
+    fn form(&self, first: u8, second: u8) -> CommonForm {
+        if first < 0x80 {
+            CommonForm::Single(char::from(first))
+        } else {
+            C::front(self.tables, first, second)
+        }
+    }
+}
+
+/// ASCII, then blocks with many bytes past ASCII, and then forms of at most 256 bytes one by one.
+impl<C: LaneCodec> Blocks for LaneForms<'_, '_, C> {
+    ghost grammar = { λ forms. C.grammar forms.tables.now.flat };
 
     // Malformed sequences often follow one another. No block is begun at a rare byte.
     #[inline(always)]
     fn read_block<T: Destination>(&self, src: &[u8], dst: &mut T) -> (usize, bool) {
-        if begins_rare(self.forms, src) {
+        if begins_rare::<C>(src) {
             return (0, false);
         }
         let front = read_ascii(src, dst);
-        let at = front + read_lanes(self.forms, &src[front..], dst);
-        let few = read_few(self.forms, &src[at..], dst);
+        let at = front + read_lanes::<C, T>(self.tables, &src[front..], dst);
+        let few = read_forms(self, &src[at..], 256, dst);
         (at + few, few > 0)
     }
 }
 
-/// Reads common forms from the front of the next 256 bytes one by one.
-/// Returns the number of bytes read, which may be 0.
+/// Reads blocks of a codec from the front, but nothing at a rare byte, and one form if a rare byte follows it.
+/// Returns the number of bytes read, which may be 0. If it reads any, three code units stay free.
+// Malformed sequences often follow one another, or have a single form between them. Neither costs a call.
 #[inline(always)]
-fn read_few<F: LaneForms, T: Destination>(forms: &F, src: &[u8], dst: &mut T) -> usize
-    requires { HasAscii (F.state forms.now).grammar }
-    ensures { ReadsAhead T.Destination (new_state (F.state forms.now).grammar) src.now result dst.old dst.new }
+pub fn read_common<C: LaneCodec, B: Blocks, T: Destination>(
+    forms: &LaneForms<'_, '_, C>,
+    blocks: &B,
+    src: &[u8],
+    dst: &mut T,
+) -> usize
+    requires { B.grammar blocks.now ≡ C.grammar forms.now.tables.now.flat }
+    ensures { ReadsAhead T.Destination (new_state (C.grammar forms.now.tables.now.flat)) src.now result
+        dst.old dst.new }
 {
-    let part = src.len().min(256);
-    read_run(&CommonBlocks { decoder: forms }, &src[..part], dst)
-}
-
-/// Reads common forms and ASCII from the front of `src`, and writes their scalars to `dst`.
-/// Returns the number of bytes read, which is 0 if bytes are held back. If it reads any, three code units stay free.
-#[inline(always)]
-pub fn read_lane_forms<F: LaneForms, T: Destination>(forms: &F, src: &[u8], dst: &mut T) -> usize
-    ensures { ReadsAhead T.Destination (F.state forms.now) src.now result dst.old dst.new }
-{
-    if forms.is_idle() {
-        read_blocks(&LaneBlocks { forms }, src, dst)
-    } else {
-        0
+    if begins_rare::<C>(src) {
+        return 0;
     }
+    if stands_alone::<C>(src) {
+        return read_one(&FormsInTurn { forms }, src, dst);
+    }
+    read_blocks(blocks, src, dst)
 }

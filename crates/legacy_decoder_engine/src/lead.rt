@@ -1,8 +1,7 @@
 //! The one decoder of the codecs whose forms have one byte, or a lead and a trail.
-ghost use Rattle.std.specs.Prelude.{◌≡◌, ◌≤◌, ℕ, List, [], ◌∷◌, Bool, true, length};
+ghost use Rattle.std.specs.Prelude.{◌≡◌, ℕ, List, [], ◌∷◌, Bool, true, length};
 ghost use Rattle.legacy_tables.specs.Indexes.{FlatIndexes};
 ghost use Rattle.legacy_text.specs.EncodingForm.{EncodingForm};
-ghost use Rattle.legacy_base.specs.Grammar.{Grammar};
 ghost use Rattle.legacy_base.specs.States.{is_neutral, new_state};
 ghost use Rattle.legacy_base.specs.Acts.{full_room_in, release_room_in};
 ghost use Rattle.legacy_base.specs.Formulas.{Formula, number, ◌⊕◌};
@@ -10,25 +9,20 @@ ghost use Rattle.legacy_base.specs.Lengths.{answer, utf16_formula, utf8_formula,
 ghost use Rattle.legacy_base.specs.Fronts.{malformed};
 ghost use Rattle.legacy_decoder_engine.specs.Steps.{Step, finish, trail_step};
 ghost use Rattle.legacy_decoder_engine.specs.Moves.{room_units};
-ghost use Rattle.legacy_decoder_engine.specs.Ahead.{IsCommonForm, ReadsAhead};
 ghost use Rattle.legacy_decoder_engine.specs.Feeding.{Took};
 ghost use Rattle.legacy_decoder_engine.specs.LeadCodecs.{IsLeadCodec, held_bytes, lead_state};
 
-use crate::common_forms::{CommonBlocks, CommonForm, CommonForms, begins_rare, stands_alone};
 use crate::drive::{count_lone, drive_decoder};
+use crate::lanes::{LaneCodec, LaneForms, read_common};
 use crate::moves::{DecoderMoves, Fed, Move, Room};
-use crate::runs::{read_ascii, read_one};
+use crate::runs::read_ascii;
 use legacy_base::{DecoderResult, Destination, RawDecoder, Tables};
-use legacy_tables::{DecoderTables, FlatTables};
-use std::marker::PhantomData;
+use legacy_tables::DecoderTables;
 
 /// A codec whose forms have one byte, or a lead and a trail: the parts that it does not share with the others.
-pub trait LeadCodec {
+pub trait LeadCodec: LaneCodec {
     /// A byte that begins a form of two bytes and is held back.
     type Lead: Copy;
-
-    /// The grammar, given the flat indexes.
-    ghost grammar: { FlatIndexes → Grammar };
 
     /// Which bytes are leads.
     ghost is_lead: { ℕ → Bool };
@@ -51,49 +45,34 @@ pub trait LeadCodec {
         ensures { Took (trail_step 1 (scalars tables.now.flat (byte_of lead) trail) trail)
             (byte_of lead ∷ []) trail result [] };
 
-    /// Returns what is at the front of the input over flat tables, given a byte past ASCII and the byte after it.
-    fn front(tables: &FlatTables<'_>, lead: u8, trail: u8) -> CommonForm
-        requires { 0x80 ≤ lead }
-        ensures { IsCommonForm (grammar tables.now.flat) lead trail result };
-
     /// Returns the room of every act except reading ASCII with nothing held back.
     fn room() -> Room
         ensures reads { (form : EncodingForm) (flat : FlatIndexes) →
-            room_units form result ≡ full_room_in form (grammar flat) }
+            room_units form result ≡ full_room_in form (Self.grammar flat) }
         ensures writes { (form : EncodingForm) (flat : FlatIndexes) →
-            room_units form result ≡ release_room_in form (grammar flat) };
+            room_units form result ≡ release_room_in form (Self.grammar flat) };
 
     /// Returns `max_utf16_buffer_length` if `held` bytes are held back.
     fn utf16_length(byte_length: usize, held: usize) -> Option<usize>
         ensures { (flat : FlatIndexes) (units : Formula) →
-            result ≡ answer (utf16_formula (grammar flat) (number byte_length)
+            result ≡ answer (utf16_formula (Self.grammar flat) (number byte_length)
             (number byte_length ⊕ number held) units) };
 
     /// Returns `max_utf8_buffer_length_without_replacement` if `held` bytes are held back.
     fn utf8_length_without_replacement(byte_length: usize, held: usize) -> Option<usize>
         ensures { (flat : FlatIndexes) (units : Formula) →
-            result ≡ answer (utf8_without_replacement_formula (grammar flat) (number byte_length)
+            result ≡ answer (utf8_without_replacement_formula (Self.grammar flat) (number byte_length)
             (number byte_length ⊕ number held) units) };
 
     /// Returns `max_utf8_buffer_length` if `held` bytes are held back.
     fn utf8_length(byte_length: usize, held: usize) -> Option<usize>
         ensures { (flat : FlatIndexes) (units : Formula) →
-            result ≡ answer (utf8_formula (grammar flat) (number byte_length)
+            result ≡ answer (utf8_formula (Self.grammar flat) (number byte_length)
             (number byte_length ⊕ number held) units) };
 
-    ghost codec: { IsLeadCodec grammar is_lead first scalars };
+    ghost codec: { IsLeadCodec Self.grammar is_lead first scalars };
 
     ghost leads: { (lead : Self.Lead) → is_lead (byte_of lead) ≡ true };
-}
-
-/// A codec whose decoder reads ahead over flat tables.
-pub trait LeadRuns: LeadCodec {
-    /// Reads common forms and ASCII from the front of `src`, and writes their scalars to `dst`.
-    /// Nothing is held back before it. Returns the number of bytes read, which may be 0.
-    /// If it reads any, three code units stay free.
-    fn read_flat<T: Destination>(tables: &FlatTables<'_>, src: &[u8], dst: &mut T) -> usize
-        ensures { ReadsAhead T.Destination (new_state (Self.grammar tables.now.flat)) src.now result
-            dst.old dst.new };
 }
 
 /// Returns true only if the byte is malformed by itself at the beginning of a form.
@@ -144,7 +123,7 @@ impl<'a, C: LeadCodec> LeadDecoder<'a, C> {
     }
 }
 
-impl<'a, C: LeadRuns> DecoderMoves for LeadDecoder<'a, C> {
+impl<'a, C: LeadCodec> DecoderMoves for LeadDecoder<'a, C> {
     ghost state = { λ d. lead_state C.grammar C.byte_of d.tables.now d.held };
 
     #[inline]
@@ -212,7 +191,10 @@ impl<'a, C: LeadRuns> DecoderMoves for LeadDecoder<'a, C> {
             return 0;
         }
         match self.tables.flat() {
-            Some(tables) => read_lead_forms::<C, T>(tables, src, dst),
+            Some(tables) => {
+                let forms = LaneForms::<C>::new(tables);
+                read_common(&forms, &forms, src, dst)
+            }
             None => read_ascii(src, dst),
         }
     }
@@ -223,67 +205,7 @@ impl<'a, C: LeadRuns> DecoderMoves for LeadDecoder<'a, C> {
     }
 }
 
-/// Reads as `read_flat` does, but nothing at a rare byte, and only one form if a rare byte follows it.
-// Malformed sequences often follow one another, or have a single form between them. Neither case costs a call.
-#[inline(always)]
-fn read_lead_forms<C: LeadRuns, T: Destination>(
-    tables: &FlatTables<'_>,
-    src: &[u8],
-    dst: &mut T,
-) -> usize
-    ensures { ReadsAhead T.Destination (new_state (C.grammar tables.now.flat)) src.now result
-        dst.old dst.new }
-{
-    let forms = LeadForms::<C>::new(tables);
-    if begins_rare(&forms, src) {
-        return 0;
-    }
-    if stands_alone(&forms, src) {
-        return read_one(&CommonBlocks { decoder: &forms }, src, dst);
-    }
-    C::read_flat(tables, src, dst)
-}
-
-/// The common forms of a `LeadCodec` over flat tables, with nothing held back.
-#[derive(Drop)]
-pub struct LeadForms<'a, 'b, C: LeadCodec> {
-    pub(crate) tables: &'a FlatTables<'b>,
-    codec: PhantomData<C>,
-}
-
-impl<'a, 'b, C: LeadCodec> LeadForms<'a, 'b, C> {
-    /// Returns the common forms over these tables.
-    #[inline]
-    pub fn new(tables: &'a FlatTables<'b>) -> LeadForms<'a, 'b, C>
-        ensures { result.tables.now ≡ tables.now }
-    {
-        LeadForms {
-            tables,
-            codec: PhantomData,
-        }
-    }
-}
-
-impl<C: LeadCodec> CommonForms for LeadForms<'_, '_, C> {
-    ghost state = { λ f. new_state (C.grammar f.tables.now.flat) };
-
-    #[inline]
-    fn is_idle(&self) -> bool {
-        true
-    }
-
-    #[inline(always)]
-    fn is_rare(&self, byte: u8) -> bool {
-        is_fault::<C>(byte)
-    }
-
-    #[inline]
-    fn front(&self, lead: u8, trail: u8) -> CommonForm {
-        C::front(self.tables, lead, trail)
-    }
-}
-
-impl<'a, C: LeadRuns> RawDecoder for LeadDecoder<'a, C> {
+impl<'a, C: LeadCodec> RawDecoder for LeadDecoder<'a, C> {
     ghost state = { λ d. lead_state C.grammar C.byte_of d.tables.now d.held };
 
     #[inline(always)]

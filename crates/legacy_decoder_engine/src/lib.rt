@@ -9,7 +9,6 @@ pub mod held;
 pub mod lanes;
 pub mod lead;
 pub mod moves;
-pub mod pairs;
 mod pick_rows;
 mod picks;
 pub mod places;

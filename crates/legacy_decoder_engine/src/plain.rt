@@ -11,11 +11,11 @@ ghost use Rattle.legacy_decoder_engine.specs.LeadMachines.{lead_first};
 ghost use Rattle.legacy_decoder_engine.specs.Places.{IsPointer};
 
 use crate::common_forms::CommonForm;
-use crate::lanes::{LaneForms, narrow_entries, read_lane_forms};
-use crate::lead::{LeadCodec, LeadForms, LeadRuns};
+use crate::lanes::{LaneCodec, narrow_entries};
+use crate::lead::LeadCodec;
 use crate::moves::{Fed, Room};
 use crate::two_byte::{read_first, read_trail};
-use legacy_base::{Destination, IndexName, Tables};
+use legacy_base::{IndexName, Tables};
 use legacy_tables::{DecoderTables, FlatTables};
 use std::alloc::AllocError;
 use std::marker::PhantomData;
@@ -117,36 +117,49 @@ fn pair_scalar<C: PlainCodec>(tables: &Tables<'_>, lead: PlainLead<C>, trail: u8
     form_scalar::<C, Tables<'_>>(tables, lead.byte, trail)
 }
 
-impl<C: PlainCodec> LaneForms for LeadForms<'_, '_, Plain<C>> {
-    ghost entries = { λ forms. index_list forms.tables.now.flat C.INDEX };
-
-    ghost pointer = { C.place };
-
-    #[inline(always)]
-    fn entry_count(&self) -> usize {
-        self.tables.narrow(C::INDEX).len()
-    }
-
-    #[inline(always)]
-    fn entries_at(&self, places: &[u16]) -> u16x8 {
-        narrow_entries(self.tables.narrow(C::INDEX), places)
-    }
-
-    #[inline(always)]
-    fn pointers(codes: u16x8) -> u16x8 {
-        C::places(codes)
-    }
-}
-
 /// A plain codec as a `LeadCodec`.
 pub struct Plain<C: PlainCodec> {
     codec: PhantomData<C>,
 }
 
+impl<C: PlainCodec> LaneCodec for Plain<C> {
+    ghost grammar = { λ flat. plain C.leads C.pointers (index_list flat C.INDEX) };
+
+    ghost entries = { λ flat. index_list flat C.INDEX };
+
+    ghost place = { C.place };
+
+    #[inline(always)]
+    fn is_rare(byte: u8) -> bool {
+        byte >= 0x80 && !C::is_lead(byte)
+    }
+
+    #[inline]
+    fn front(tables: &FlatTables<'_>, lead: u8, trail: u8) -> CommonForm {
+        match form_scalar::<C, FlatTables<'_>>(tables, lead, trail) {
+            Some(scalar) => CommonForm::Pair(scalar),
+            None => CommonForm::Other,
+        }
+    }
+
+    #[inline(always)]
+    fn entry_count(tables: &FlatTables<'_>) -> usize {
+        tables.narrow(C::INDEX).len()
+    }
+
+    #[inline(always)]
+    fn entries_at(tables: &FlatTables<'_>, places: &[u16]) -> u16x8 {
+        narrow_entries(tables.narrow(C::INDEX), places)
+    }
+
+    #[inline(always)]
+    fn places(codes: u16x8) -> u16x8 {
+        C::places(codes)
+    }
+}
+
 impl<C: PlainCodec> LeadCodec for Plain<C> {
     type Lead = PlainLead<C>;
-
-    ghost grammar = { λ flat. plain C.leads C.pointers (index_list flat C.INDEX) };
 
     ghost is_lead = { C.leads };
 
@@ -171,14 +184,6 @@ impl<C: PlainCodec> LeadCodec for Plain<C> {
     }
 
     #[inline]
-    fn front(tables: &FlatTables<'_>, lead: u8, trail: u8) -> CommonForm {
-        match form_scalar::<C, FlatTables<'_>>(tables, lead, trail) {
-            Some(scalar) => CommonForm::Pair(scalar),
-            None => CommonForm::Other,
-        }
-    }
-
-    #[inline]
     fn room() -> Room {
         Room::Narrow
     }
@@ -195,12 +200,5 @@ impl<C: PlainCodec> LeadCodec for Plain<C> {
 
     fn utf8_length(byte_length: usize, held: usize) -> Option<usize> {
         byte_length.checked_add(held)?.checked_mul(3)
-    }
-}
-
-impl<C: PlainCodec> LeadRuns for Plain<C> {
-    #[inline(always)]
-    fn read_flat<T: Destination>(tables: &FlatTables<'_>, src: &[u8], dst: &mut T) -> usize {
-        read_lane_forms(&LeadForms::<Plain<C>>::new(tables), src, dst)
     }
 }

@@ -91,13 +91,9 @@ pub trait Blocks {
     /// The grammar.
     ghost grammar: { Self → Grammar };
 
-    /// What a block requires of the grammar.
-    ghost ready: { Self → Type 0 } = { λ _. Unit {0} };
-
     /// Reads the block at the front, a part of it, or nothing.
     /// Returns the number of bytes read, and whether another block may follow.
     fn read_block<T: Destination>(&self, src: &[u8], dst: &mut T) -> (usize, bool)
-        requires { ready self.now }
         ensures ahead { ReadsAhead T.Destination (new_state (grammar self.now)) src.now result.0
             dst.old dst.new }
         ensures goes_on { result.1 ≡ true → 0 < result.0 };
@@ -106,7 +102,6 @@ pub trait Blocks {
 /// Reads blocks from the front while another may follow, and returns the number of bytes read, which may be 0.
 #[inline(always)]
 pub fn read_blocks<B: Blocks, T: Destination>(blocks: &B, src: &[u8], dst: &mut T) -> usize
-    requires { B.ready blocks.now }
     ensures { ReadsAhead T.Destination (new_state (B.grammar blocks.now)) src.now result
         dst.old dst.new }
 {

@@ -16,7 +16,6 @@ use Rattle.legacy_decoder_engine.specs.Ahead.{HasAscii, IsPair}
 use Rattle.legacy_decoder_engine.specs.SplitRows.{lead_place_of, trail_place_of}
 use Rattle.legacy_decoder_engine.proofs.LanePlaces.{entry_is}
 use Rattle.legacy_decoder_engine.proofs.LeadHeld as held
-use Rattle.legacy_japanese.specs.declared.shift_jis.lead.ShiftJisLead.{ShiftJisLead}
 use Rattle.legacy_japanese.specs.ShiftJisLanes.{shift_jis_place}
 use Rattle.legacy_japanese.specs.ShiftJisMachine.{shift_jis_first, shift_jis_pair_scalars}
 use Rattle.legacy_japanese.specs.ShiftJisPlaces.{shift_jis_lead_place, shift_jis_trail_place}
@@ -86,9 +85,7 @@ module _ (tables : AcceptedIndexes) where
   index = tables.flat.jis0208
 
   pub ascii : HasAscii (shift_jis tables.flat.jis0208)
-  ascii =
-      held.ascii (λ flat. shift_jis flat.jis0208) is_shift_jis_lead shift_jis_first (λ flat. shift_jis_pair_scalars flat.jis0208) shift_jis_codec
-      (λ (lead : ShiftJisLead). lead.byte) (λ lead. lead.lead) tables
+  ascii = held.ascii (λ flat. shift_jis flat.jis0208) is_shift_jis_lead shift_jis_first (λ flat. shift_jis_pair_scalars flat.jis0208) shift_jis_codec tables
 
   pub lane_pair : (code : ℕ) → code < 0x1_0000 → shift_jis_place code < length tables.flat.jis0208 → get_or tables.flat.jis0208 (shift_jis_place code) 0 ≢ 0
       → IsScalar (get_or tables.flat.jis0208 (shift_jis_place code) 0) × IsPair (shift_jis tables.flat.jis0208) (code % 0x100) (code / 0x100) (get_or tables.flat.jis0208 (shift_jis_place code) 0)

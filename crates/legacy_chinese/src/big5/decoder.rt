@@ -2,7 +2,7 @@
 ghost use Rattle.std.specs.Prelude.{◌≡◌, ◌≢◌, ℕ, ◌<◌, ◌≤◌, [], ◌∷◌, length, get_or};
 ghost use Rattle.legacy_base.specs.Big5.{big5_scalars};
 ghost use Rattle.legacy_base.specs.Grammar.{big5};
-ghost use Rattle.legacy_base.specs.States.{is_lead, new_state};
+ghost use Rattle.legacy_base.specs.States.{is_lead};
 ghost use Rattle.legacy_chinese.specs.Big5Places.{big5_place};
 ghost use Rattle.legacy_decoder_engine.specs.Steps.{trail_step};
 ghost use Rattle.legacy_decoder_engine.specs.LeadMachines.{lead_first};
@@ -12,11 +12,11 @@ ghost use Rattle.legacy_chinese.specs.Big5Shown.{big5_codec};
 ghost use Rattle.legacy_decoder_engine.proofs.TwoByteMeets.{is_lead-in};
 
 use super::places::{ROWS_OF_157, TRAILS};
-use legacy_base::{Destination, IndexName, Tables};
-use legacy_decoder_engine::common_forms::{CommonForm, CommonForms};
+use legacy_base::{IndexName, Tables};
+use legacy_decoder_engine::common_forms::CommonForm;
 use legacy_decoder_engine::held::Lead;
-use legacy_decoder_engine::lanes::{LaneForms, read_lane_forms};
-use legacy_decoder_engine::lead::{LeadCodec, LeadDecoder, LeadRuns};
+use legacy_decoder_engine::lanes::LaneCodec;
+use legacy_decoder_engine::lead::{LeadCodec, LeadDecoder};
 use legacy_decoder_engine::moves::{Fed, Room};
 use legacy_decoder_engine::places::pair_pointer;
 use legacy_decoder_engine::split_rows::{lead_places, place_sums, trail_places};
@@ -58,10 +58,48 @@ fn read_pointer(tables: &Tables<'_>, pointer: usize, trail: u8) -> Fed
     }
 }
 
+impl LaneCodec for Big5 {
+    ghost grammar = { λ flat. big5 flat.big5 };
+
+    ghost entries = { λ flat. flat.big5 };
+
+    ghost place = { big5_place };
+
+    #[inline(always)]
+    fn is_rare(byte: u8) -> bool {
+        byte >= 0x80 && Lead::new(byte).is_none()
+    }
+
+    #[inline]
+    fn front(tables: &FlatTables<'_>, lead: u8, trail: u8) -> CommonForm {
+        let pointer = pair_pointer(&ROWS_OF_157, &TRAILS, lead, trail);
+        match tables.idx(IndexName::Big5, pointer) {
+            Some(scalar) if scalar <= '\u{FFFF}' => CommonForm::Pair(scalar),
+            _ => CommonForm::Other,
+        }
+    }
+
+    #[inline(always)]
+    fn entry_count(tables: &FlatTables<'_>) -> usize {
+        tables.wide().len()
+    }
+
+    #[inline(always)]
+    fn entries_at(tables: &FlatTables<'_>, places: &[u16]) -> u16x8 {
+        narrowed_entries(tables.wide(), places)
+    }
+
+    #[inline(always)]
+    fn places(codes: u16x8) -> u16x8 {
+        place_sums(
+            lead_places(codes, 0x81, 0x7D, 157),
+            trail_places(codes, 0xA1, 0xFE),
+        )
+    }
+}
+
 impl LeadCodec for Big5 {
     type Lead = Lead;
-
-    ghost grammar = { λ flat. big5 flat.big5 };
 
     ghost is_lead = { is_lead };
 
@@ -84,15 +122,6 @@ impl LeadCodec for Big5 {
     fn read_pair(tables: &Tables<'_>, lead: Lead, trail: u8) -> Fed {
         let pointer = pair_pointer(&ROWS_OF_157, &TRAILS, lead.byte, trail);
         read_pointer(tables, pointer, trail)
-    }
-
-    #[inline]
-    fn front(tables: &FlatTables<'_>, lead: u8, trail: u8) -> CommonForm {
-        let pointer = pair_pointer(&ROWS_OF_157, &TRAILS, lead, trail);
-        match tables.idx(IndexName::Big5, pointer) {
-            Some(scalar) if scalar <= '\u{FFFF}' => CommonForm::Pair(scalar),
-            _ => CommonForm::Other,
-        }
     }
 
     #[inline]
@@ -145,60 +174,4 @@ fn narrowed_entries(index: &[u32], places: &[u16]) -> u16x8
     u16x8::from_array([
         a as u16, b as u16, c as u16, d as u16, e as u16, f as u16, g as u16, h as u16,
     ])
-}
-
-/// The common forms of Big5 over flat tables, if nothing is held back.
-#[derive(Drop)]
-struct Big5Forms<'a, 'b> {
-    tables: &'a FlatTables<'b>,
-}
-
-impl CommonForms for Big5Forms<'_, '_> {
-    ghost state = { λ forms. new_state (big5 forms.tables.now.flat.big5) };
-
-    #[inline]
-    fn is_idle(&self) -> bool {
-        true
-    }
-
-    #[inline(always)]
-    fn is_rare(&self, byte: u8) -> bool {
-        byte >= 0x80 && Lead::new(byte).is_none()
-    }
-
-    #[inline]
-    fn front(&self, lead: u8, trail: u8) -> CommonForm {
-        Big5::front(self.tables, lead, trail)
-    }
-}
-
-impl LaneForms for Big5Forms<'_, '_> {
-    ghost entries = { λ forms. forms.tables.now.flat.big5 };
-
-    ghost pointer = { big5_place };
-
-    #[inline(always)]
-    fn entry_count(&self) -> usize {
-        self.tables.wide().len()
-    }
-
-    #[inline(always)]
-    fn entries_at(&self, places: &[u16]) -> u16x8 {
-        narrowed_entries(self.tables.wide(), places)
-    }
-
-    #[inline(always)]
-    fn pointers(codes: u16x8) -> u16x8 {
-        place_sums(
-            lead_places(codes, 0x81, 0x7D, 157),
-            trail_places(codes, 0xA1, 0xFE),
-        )
-    }
-}
-
-impl LeadRuns for Big5 {
-    #[inline(always)]
-    fn read_flat<T: Destination>(tables: &FlatTables<'_>, src: &[u8], dst: &mut T) -> usize {
-        read_lane_forms(&Big5Forms { tables }, src, dst)
-    }
 }

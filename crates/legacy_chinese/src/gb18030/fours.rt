@@ -12,13 +12,11 @@ ghost use Rattle.legacy_chinese.specs.Gb18030Places.{gb18030_place};
 use super::four_places::four_pointer;
 use super::pair_places::TRAILS;
 use legacy_base::{Destination, IndexName};
-use legacy_decoder_engine::common_forms::{
-    CommonBlocks, CommonForm, CommonForms, begins_rare, stands_alone,
-};
+use legacy_decoder_engine::common_forms::CommonForm;
 use legacy_decoder_engine::held::Lead;
-use legacy_decoder_engine::lanes::{LaneBlocks, LaneForms, narrow_entries};
+use legacy_decoder_engine::lanes::{LaneCodec, LaneForms, narrow_entries, read_common};
 use legacy_decoder_engine::places::{ROWS_OF_190, pair_pointer};
-use legacy_decoder_engine::runs::{Blocks, Forms, read_ascii, read_blocks, read_one, read_run};
+use legacy_decoder_engine::runs::{Blocks, Forms, read_ascii, read_run};
 use legacy_decoder_engine::split_rows::{lead_places, place_sums, trail_places};
 use legacy_tables::{DecoderTables, FlatTables, RangePart};
 use std::cell::Cell;
@@ -130,47 +128,42 @@ struct Gb18030Blocks<'a, 'b> {
     guess: Cell<usize>,
 }
 
-impl CommonForms for Gb18030Blocks<'_, '_> {
-    ghost state = { λ blocks. new_state (gb18030 blocks.tables.now.flat.gb18030
-        blocks.tables.now.flat.ranges) };
+/// What is read ahead besides sequences of four bytes: ASCII and pairs.
+struct Gb18030;
 
-    #[inline]
-    fn is_idle(&self) -> bool {
-        true
-    }
+impl LaneCodec for Gb18030 {
+    ghost grammar = { λ flat. gb18030 flat.gb18030 flat.ranges };
+
+    ghost entries = { λ flat. flat.gb18030 };
+
+    ghost place = { gb18030_place };
 
     #[inline(always)]
-    fn is_rare(&self, byte: u8) -> bool {
+    fn is_rare(byte: u8) -> bool {
         byte >= 0x80 && Lead::new(byte).is_none()
     }
 
     #[inline]
-    fn front(&self, lead: u8, trail: u8) -> CommonForm {
+    fn front(tables: &FlatTables<'_>, lead: u8, trail: u8) -> CommonForm {
         let pointer = pair_pointer(&ROWS_OF_190, &TRAILS, lead, trail);
-        match self.tables.idx(IndexName::Gb18030, pointer) {
+        match tables.idx(IndexName::Gb18030, pointer) {
             Some(scalar) => CommonForm::Pair(scalar),
             None => CommonForm::Other,
         }
     }
-}
-
-impl LaneForms for Gb18030Blocks<'_, '_> {
-    ghost entries = { λ blocks. blocks.tables.now.flat.gb18030 };
-
-    ghost pointer = { gb18030_place };
 
     #[inline(always)]
-    fn entry_count(&self) -> usize {
-        self.tables.narrow(IndexName::Gb18030).len()
+    fn entry_count(tables: &FlatTables<'_>) -> usize {
+        tables.narrow(IndexName::Gb18030).len()
     }
 
     #[inline(always)]
-    fn entries_at(&self, places: &[u16]) -> u16x8 {
-        narrow_entries(self.tables.narrow(IndexName::Gb18030), places)
+    fn entries_at(tables: &FlatTables<'_>, places: &[u16]) -> u16x8 {
+        narrow_entries(tables.narrow(IndexName::Gb18030), places)
     }
 
     #[inline(always)]
-    fn pointers(codes: u16x8) -> u16x8 {
+    fn places(codes: u16x8) -> u16x8 {
         place_sums(
             lead_places(codes, 0x81, 0x7D, 190),
             trail_places(codes, 0x80, 0xFE),
@@ -194,7 +187,9 @@ impl Gb18030Blocks<'_, '_> {
         if begins_four(src) {
             return read_run(self, src, dst);
         }
-        LaneBlocks { forms: self }.read_block(src, dst).0
+        LaneForms::<Gb18030>::new(self.tables)
+            .read_block(src, dst)
+            .0
     }
 }
 
@@ -215,7 +210,6 @@ impl Blocks for Gb18030Blocks<'_, '_> {
 ///
 /// It reads while three code units more than a sequence needs are free.
 /// Returns the number of bytes read, which may be 0.
-// After a malformed byte often comes another, or one sequence and then another. Neither costs a call.
 #[inline(always)]
 pub(super) fn read_flat<T: Destination>(tables: &FlatTables<'_>, src: &[u8], dst: &mut T) -> usize
     ensures { ReadsAhead T.Destination (new_state (gb18030 tables.now.flat.gb18030
@@ -225,11 +219,5 @@ pub(super) fn read_flat<T: Destination>(tables: &FlatTables<'_>, src: &[u8], dst
         tables,
         guess: Cell::new(0),
     };
-    if begins_rare(&blocks, src) {
-        return 0;
-    }
-    if stands_alone(&blocks, src) {
-        return read_one(&CommonBlocks { decoder: &blocks }, src, dst);
-    }
-    read_blocks(&blocks, src, dst)
+    read_common(&LaneForms::<Gb18030>::new(tables), &blocks, src, dst)
 }

@@ -12,20 +12,17 @@ ghost use Rattle.legacy_decoder_engine.specs.Steps.{finish};
 ghost use Rattle.legacy_japanese.specs.EucJpMachine.{euc_jp_step};
 ghost use Rattle.legacy_decoder_engine.specs.Moves.{move_units, room_units};
 ghost use Rattle.legacy_decoder_engine.specs.Feeding.{Took};
-ghost use Rattle.legacy_decoder_engine.specs.Ahead.{ReadsAhead};
 ghost use Rattle.legacy_decoder_engine.specs.LaneRows.{row_place};
 ghost use Rattle.legacy_japanese.specs.EucJpHeld.{held_bytes};
 
 use super::lead::EucJpLead;
 use legacy_base::{DecoderResult, Destination, IndexName, RawDecoder, Tables};
-use legacy_decoder_engine::common_forms::{
-    CommonBlocks, CommonForm, CommonForms, begins_rare, stands_alone,
-};
+use legacy_decoder_engine::common_forms::CommonForm;
 use legacy_decoder_engine::drive::{count_lone, drive_decoder};
-use legacy_decoder_engine::lanes::{LaneForms, narrow_entries, read_lane_forms};
+use legacy_decoder_engine::lanes::{LaneCodec, LaneForms, narrow_entries, read_common};
 use legacy_decoder_engine::moves::{DecoderMoves, Fed, Move, Room};
 use legacy_decoder_engine::rows::row_pointers;
-use legacy_decoder_engine::runs::{read_ascii, read_one};
+use legacy_decoder_engine::runs::read_ascii;
 use legacy_decoder_engine::trail::unmapped;
 use legacy_decoder_engine::two_byte::fault_through;
 use legacy_tables::{DecoderTables, FlatTables};
@@ -294,7 +291,10 @@ impl DecoderMoves for EucJpDecoder<'_> {
     fn read_ahead<T: Destination>(&self, src: &[u8], dst: &mut T) -> usize {
         match self.held {
             Held::Nothing => match self.tables.flat() {
-                Some(tables) => read_flat(tables, src, dst),
+                Some(tables) => {
+                    let forms = LaneForms::<EucJp>::new(tables);
+                    read_common(&forms, &forms, src, dst)
+                }
                 None => read_ascii(src, dst),
             },
             _ => 0,
@@ -307,76 +307,45 @@ impl DecoderMoves for EucJpDecoder<'_> {
     }
 }
 
-/// Decodes common sequences and ASCII from the front of `src` to `dst`, if nothing is held back.
-///
-/// Returns the number of bytes read.
-// After a malformed byte often comes another, or one sequence and then another. Neither costs a call.
-#[inline(always)]
-fn read_flat<T: Destination>(tables: &FlatTables<'_>, src: &[u8], dst: &mut T) -> usize
-    ensures { ReadsAhead T.Destination
-        (new_state (euc_jp tables.now.flat.jis0208 tables.now.flat.jis0212)) src.now result
-        dst.old dst.new }
-{
-    let forms = EucJpForms { tables };
-    if begins_rare(&forms, src) {
-        return 0;
-    }
-    if stands_alone(&forms, src) {
-        return read_one(&CommonBlocks { decoder: &forms }, src, dst);
-    }
-    read_lane_forms(&forms, src, dst)
-}
+/// What EUC-JP reads ahead: ASCII and the pairs of JIS X 0208.
+struct EucJp;
 
-/// The common sequences of EUC-JP over flat tables, if nothing is held back.
-#[derive(Drop)]
-struct EucJpForms<'a, 'b> {
-    tables: &'a FlatTables<'b>,
-}
+impl LaneCodec for EucJp {
+    ghost grammar = { λ flat. euc_jp flat.jis0208 flat.jis0212 };
 
-impl CommonForms for EucJpForms<'_, '_> {
-    ghost state = { λ forms. new_state (euc_jp forms.tables.now.flat.jis0208
-        forms.tables.now.flat.jis0212) };
+    ghost entries = { λ flat. flat.jis0208 };
+
+    ghost place = { row_place 0xA1 0x5D 0xA1 0x5D 94 };
 
     #[inline(always)]
-    fn is_idle(&self) -> bool {
-        true
-    }
-
-    #[inline(always)]
-    fn is_rare(&self, byte: u8) -> bool {
+    fn is_rare(byte: u8) -> bool {
         byte >= 0x80 && EucJpLead::new(byte).is_none()
     }
 
     #[inline(always)]
     #[tactic(auto, using(crate::proofs::EucJpHeld::pair))]
-    fn front(&self, lead: u8, trail: u8) -> CommonForm {
+    fn front(tables: &FlatTables<'_>, lead: u8, trail: u8) -> CommonForm {
         let Some(lead) = EucJpLead::new(lead) else {
             return CommonForm::Other;
         };
-        match pair_scalar(self.tables, IndexName::Jis0208, lead, trail) {
+        match pair_scalar(tables, IndexName::Jis0208, lead, trail) {
             Some(scalar) => CommonForm::Pair(scalar),
             None => CommonForm::Other,
         }
     }
-}
-
-impl LaneForms for EucJpForms<'_, '_> {
-    ghost entries = { λ forms. forms.tables.now.flat.jis0208 };
-
-    ghost pointer = { row_place 0xA1 0x5D 0xA1 0x5D 94 };
 
     #[inline(always)]
-    fn entry_count(&self) -> usize {
-        self.tables.narrow(IndexName::Jis0208).len()
+    fn entry_count(tables: &FlatTables<'_>) -> usize {
+        tables.narrow(IndexName::Jis0208).len()
     }
 
     #[inline(always)]
-    fn entries_at(&self, places: &[u16]) -> u16x8 {
-        narrow_entries(self.tables.narrow(IndexName::Jis0208), places)
+    fn entries_at(tables: &FlatTables<'_>, places: &[u16]) -> u16x8 {
+        narrow_entries(tables.narrow(IndexName::Jis0208), places)
     }
 
     #[inline(always)]
-    fn pointers(codes: u16x8) -> u16x8 {
+    fn places(codes: u16x8) -> u16x8 {
         row_pointers(codes, 0xA1, 0x5D, 0xA1, 0x5D, 94)
     }
 }

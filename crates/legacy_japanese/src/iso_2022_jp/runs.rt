@@ -10,7 +10,7 @@ ghost use Rattle.legacy_decoder_engine.specs.Ahead.{ReadsTo, ReadsAhead};
 use super::places::{LEADS, TRAILS};
 use super::steps::{DOLLAR, ESCAPE, Escape, Mode, PAREN, Start, completed, entry};
 use legacy_base::{Destination, Tables};
-use legacy_decoder_engine::pairs::{Pairs, read_pairs};
+use legacy_decoder_engine::common_forms::{CommonForm, CommonForms, read_forms};
 use legacy_decoder_engine::places::pair_pointer;
 use legacy_tables::{DecoderTables, FlatTables};
 
@@ -20,12 +20,15 @@ struct Jis0208Pairs<'a, 'b> {
     tables: &'a FlatTables<'b>,
 }
 
-impl Pairs for Jis0208Pairs<'_, '_> {
+impl CommonForms for Jis0208Pairs<'_, '_> {
     ghost grammar = { λ pairs. pairs_grammar pairs.tables.now.flat.jis0208 };
 
     #[inline(always)]
-    fn scalar(&self, first: u8, second: u8) -> Option<char> {
-        entry(self.tables, pair_pointer(&LEADS, &TRAILS, first, second))
+    fn form(&self, first: u8, second: u8) -> CommonForm {
+        match entry(self.tables, pair_pointer(&LEADS, &TRAILS, first, second)) {
+            Some(scalar) => CommonForm::Pair(scalar),
+            None => CommonForm::Other,
+        }
     }
 }
 
@@ -105,7 +108,7 @@ fn read_mode<T: Destination>(tables: &FlatTables<'_>, mode: Mode, src: &[u8], ds
 {
     match mode {
         Mode::Ascii => read_plain(src, dst),
-        Mode::TwoByte => read_pairs(&Jis0208Pairs { tables }, src, dst),
+        Mode::TwoByte => read_forms(&Jis0208Pairs { tables }, src, src.len(), dst),
         Mode::Roman | Mode::Katakana => 0,
     }
 }

@@ -8,15 +8,14 @@ ghost use Rattle.legacy_japanese.specs.ShiftJisMachine.{shift_jis_first, shift_j
 ghost use Rattle.legacy_decoder_engine.specs.Feeding.{Took};
 ghost use Rattle.legacy_japanese.specs.ShiftJisShown.{shift_jis_codec};
 ghost use Rattle.legacy_decoder_engine.specs.LeadCodecs.{held_bytes};
-ghost use Rattle.legacy_base.specs.States.{new_state};
 ghost use Rattle.legacy_japanese.specs.ShiftJisLanes.{shift_jis_place};
 
 use super::lead::ShiftJisLead;
 use super::places::{LEADS, TRAILS};
-use legacy_base::{Destination, IndexName, Tables};
-use legacy_decoder_engine::common_forms::{CommonForm, CommonForms};
-use legacy_decoder_engine::lanes::{LaneForms, narrow_entries, read_lane_forms};
-use legacy_decoder_engine::lead::{LeadCodec, LeadDecoder, LeadRuns};
+use legacy_base::{IndexName, Tables};
+use legacy_decoder_engine::common_forms::CommonForm;
+use legacy_decoder_engine::lanes::{LaneCodec, narrow_entries};
+use legacy_decoder_engine::lead::{LeadCodec, LeadDecoder};
 use legacy_decoder_engine::moves::{Fed, Room};
 use legacy_decoder_engine::places::pair_pointer;
 use legacy_decoder_engine::split_rows::{lead_places, place_sums, trail_places};
@@ -106,10 +105,63 @@ fn pair_scalar(tables: &Tables<'_>, lead: ShiftJisLead, trail: u8) -> Option<cha
     form_scalar(tables, lead.byte, trail)
 }
 
+impl LaneCodec for ShiftJis {
+    ghost grammar = { λ flat. shift_jis flat.jis0208 };
+
+    ghost entries = { λ flat. flat.jis0208 };
+
+    ghost place = { shift_jis_place };
+
+    #[inline(always)]
+    fn is_rare(byte: u8) -> bool {
+        byte == 0xA0 || byte >= 0xFD
+    }
+
+    #[inline]
+    #[tactic(auto, using(crate::proofs::ShiftJisRuns::pair_form))]
+    fn front(tables: &FlatTables<'_>, lead: u8, trail: u8) -> CommonForm {
+        match form_scalar(tables, lead, trail) {
+            Some(scalar) => CommonForm::Pair(scalar),
+            None => {
+                if lead >= 0xA1 && lead <= 0xDF {
+                    CommonForm::Single(katakana(lead))
+                } else {
+                    CommonForm::Other
+                }
+            }
+        }
+    }
+
+    #[inline(always)]
+    fn entry_count(tables: &FlatTables<'_>) -> usize {
+        tables.narrow(IndexName::Jis0208).len()
+    }
+
+    #[inline(always)]
+    fn entries_at(tables: &FlatTables<'_>, places: &[u16]) -> u16x8 {
+        narrow_entries(tables.narrow(IndexName::Jis0208), places)
+    }
+
+    // The leads 81 to 9F and E0 to EF are 21 to 4F with two bits changed.
+    #[inline(always)]
+    fn places(codes: u16x8) -> u16x8 {
+        place_sums(
+            lead_places(codes ^ u16x8::splat(0xA0), 0x21, 0x2E, 188),
+            trail_places(codes, 0x80, 0xFC),
+        )
+    }
+
+    // Two bytes of half-width katakana in a row are not both parts of pairs.
+    #[inline(always)]
+    fn has_singles(block: u8x64) -> bool {
+        let katakana = (block - u8x64::splat(0xA1)).simd_le(u8x64::splat(0x3E));
+        let bits = katakana.to_bitmask();
+        bits & (bits >> 1) != 0
+    }
+}
+
 impl LeadCodec for ShiftJis {
     type Lead = ShiftJisLead;
-
-    ghost grammar = { λ flat. shift_jis flat.jis0208 };
 
     ghost is_lead = { is_shift_jis_lead };
 
@@ -134,21 +186,6 @@ impl LeadCodec for ShiftJis {
     }
 
     #[inline]
-    #[tactic(auto, using(crate::proofs::ShiftJisRuns::pair_form))]
-    fn front(tables: &FlatTables<'_>, lead: u8, trail: u8) -> CommonForm {
-        match form_scalar(tables, lead, trail) {
-            Some(scalar) => CommonForm::Pair(scalar),
-            None => {
-                if lead >= 0xA1 && lead <= 0xDF {
-                    CommonForm::Single(katakana(lead))
-                } else {
-                    CommonForm::Other
-                }
-            }
-        }
-    }
-
-    #[inline]
     fn room() -> Room {
         Room::Narrow
     }
@@ -163,70 +200,5 @@ impl LeadCodec for ShiftJis {
 
     fn utf8_length(byte_length: usize, held: usize) -> Option<usize> {
         byte_length.checked_add(held)?.checked_mul(3)
-    }
-}
-
-impl LeadRuns for ShiftJis {
-    #[inline(always)]
-    fn read_flat<T: Destination>(tables: &FlatTables<'_>, src: &[u8], dst: &mut T) -> usize {
-        read_lane_forms(&ShiftJisForms { tables }, src, dst)
-    }
-}
-
-/// The common sequences of Shift_JIS over flat tables, if nothing is held back.
-#[derive(Drop)]
-struct ShiftJisForms<'a, 'b> {
-    tables: &'a FlatTables<'b>,
-}
-
-impl CommonForms for ShiftJisForms<'_, '_> {
-    ghost state = { λ forms. new_state (shift_jis forms.tables.now.flat.jis0208) };
-
-    #[inline(always)]
-    fn is_idle(&self) -> bool {
-        true
-    }
-
-    #[inline(always)]
-    fn is_rare(&self, byte: u8) -> bool {
-        byte == 0xA0 || byte >= 0xFD
-    }
-
-    #[inline(always)]
-    fn front(&self, lead: u8, trail: u8) -> CommonForm {
-        ShiftJis::front(self.tables, lead, trail)
-    }
-}
-
-impl LaneForms for ShiftJisForms<'_, '_> {
-    ghost entries = { λ forms. forms.tables.now.flat.jis0208 };
-
-    ghost pointer = { shift_jis_place };
-
-    #[inline(always)]
-    fn entry_count(&self) -> usize {
-        self.tables.narrow(IndexName::Jis0208).len()
-    }
-
-    #[inline(always)]
-    fn entries_at(&self, places: &[u16]) -> u16x8 {
-        narrow_entries(self.tables.narrow(IndexName::Jis0208), places)
-    }
-
-    // The leads 81 to 9F and E0 to EF are 21 to 4F with two bits changed.
-    #[inline(always)]
-    fn pointers(codes: u16x8) -> u16x8 {
-        place_sums(
-            lead_places(codes ^ u16x8::splat(0xA0), 0x21, 0x2E, 188),
-            trail_places(codes, 0x80, 0xFC),
-        )
-    }
-
-    // Two bytes of half-width katakana in a row are not both parts of pairs.
-    #[inline(always)]
-    fn has_singles(block: u8x64) -> bool {
-        let katakana = (block - u8x64::splat(0xA1)).simd_le(u8x64::splat(0x3E));
-        let bits = katakana.to_bitmask();
-        bits & (bits >> 1) != 0
     }
 }

@@ -3,15 +3,14 @@
 // keep the destination's place there.
 ghost use Rattle.std.specs.Prelude.{◌≡◌, ◌+◌, ◌-◌, if◌then◌else◌};
 ghost use Rattle.std.specs.Char.{is_ascii};
-ghost use Rattle.legacy_text.specs.EncodingForm.{bmp_room};
 ghost use Rattle.legacy_base.specs.Grammar.{user_defined};
 ghost use Rattle.legacy_base.specs.States.{new_state};
 ghost use Rattle.legacy_decoder_engine.specs.Ahead.{ReadsAhead};
 
 use legacy_base::{DecoderResult, Destination, RawDecoder};
-use legacy_decoder_engine::common_forms::{CommonForm, CommonForms, read_common_forms};
 use legacy_decoder_engine::drive::drive_decoder;
 use legacy_decoder_engine::moves::{DecoderMoves, Fed, Move, Room};
+use legacy_decoder_engine::runs::{Blocks, read_ascii, read_blocks};
 
 /// The decoder of x-user-defined (Encoding Standard, "x-user-defined decoder").
 ///
@@ -43,21 +42,36 @@ fn scalar_of(byte: u8) -> char
     unsafe { char::from_u32_unchecked(u32::from(unit)) }
 }
 
-/// Decodes bytes if a scalar up to U+FFFF is one code unit, and leaves three units free.
+/// Decodes at most `most` bytes from the front, and leaves three code units free.
 ///
-/// Returns the number of bytes read.
+/// Returns the number of bytes read, which may be 0.
 #[inline(always)]
-fn read_units<T: Destination>(src: &[u8], dst: &mut T) -> usize
-    requires { bmp_room T.form ≡ 1 }
+fn read_bytes<T: Destination>(src: &[u8], most: usize, dst: &mut T) -> usize
     ensures { ReadsAhead T.Destination (new_state user_defined) src.now result dst.old dst.new }
 {
-    let count = src.len().min(dst.free().saturating_sub(3));
+    let room = dst.free().saturating_sub(3) / T::narrow();
+    let count = src.len().min(most).min(room);
     let mut at = 0;
     while at < count {
         dst.put(scalar_of(src[at]));
         at += 1;
     }
     count
+}
+
+/// Blocks of ASCII, each with sixteen bytes of any kind after it.
+#[derive(Drop)]
+struct Mixed;
+
+impl Blocks for Mixed {
+    ghost grammar = { λ _. user_defined };
+
+    #[inline(always)]
+    fn read_block<T: Destination>(&self, src: &[u8], dst: &mut T) -> (usize, bool) {
+        let front = read_ascii(src, dst);
+        let read = read_bytes(&src[front..], 16, dst);
+        (front + read, read > 0)
+    }
 }
 
 impl DecoderMoves for UserDefinedDecoder {
@@ -96,9 +110,9 @@ impl DecoderMoves for UserDefinedDecoder {
     #[inline(always)]
     fn read_ahead<T: Destination>(&self, src: &[u8], dst: &mut T) -> usize {
         if T::narrow() == 1 {
-            read_units(src, dst)
+            read_bytes(src, src.len(), dst)
         } else {
-            read_common_forms(self, src, dst)
+            read_blocks(&Mixed, src, dst)
         }
     }
 
@@ -106,22 +120,6 @@ impl DecoderMoves for UserDefinedDecoder {
     #[inline(always)]
     fn read_runs<T: Destination>(&mut self, src: &[u8], dst: &mut T) -> usize {
         self.read_ahead(src, dst)
-    }
-}
-
-impl CommonForms for UserDefinedDecoder {
-    ghost use Rattle.legacy_miscellaneous.specs.UserDefinedDecoder.{user_defined_state};
-
-    ghost state = { user_defined_state };
-
-    #[inline]
-    fn is_idle(&self) -> bool {
-        true
-    }
-
-    #[inline]
-    fn front(&self, lead: u8, _trail: u8) -> CommonForm {
-        CommonForm::Single(scalar_of(lead))
     }
 }
 

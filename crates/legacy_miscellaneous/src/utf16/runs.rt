@@ -12,7 +12,7 @@ ghost use Rattle.legacy_miscellaneous.specs.Utf16Decoder.{HasAsciiUnits, AreUnit
 use super::units::unit;
 use super::vectors::{eight_units, greater_units, sixteen_units};
 use legacy_base::Destination;
-use legacy_decoder_engine::pairs::{Pairs, read_pairs};
+use legacy_decoder_engine::common_forms::{CommonForm, CommonForms, read_forms};
 use legacy_decoder_engine::runs::{Blocks, read_blocks};
 use legacy_text::are_all_below;
 
@@ -22,14 +22,17 @@ pub struct Units {
     pub big_endian: bool,
 }
 
-impl Pairs for Units {
+impl CommonForms for Units {
     ghost use Rattle.legacy_miscellaneous.specs.Utf16Decoder.{units_grammar};
 
     ghost grammar = { units_grammar };
 
     #[inline(always)]
-    fn scalar(&self, first: u8, second: u8) -> Option<char> {
-        char::from_u32(u32::from(unit(self.big_endian, first, second)))
+    fn form(&self, first: u8, second: u8) -> CommonForm {
+        match char::from_u32(u32::from(unit(self.big_endian, first, second))) {
+            Some(scalar) => CommonForm::Pair(scalar),
+            None => CommonForm::Other,
+        }
     }
 }
 
@@ -204,16 +207,6 @@ impl Units {
         128
     }
 
-    /// Decodes up to eight units one by one, up to a surrogate. Returns the number of bytes read.
-    #[inline(always)]
-    fn read_some<T: Destination>(&self, src: &[u8], dst: &mut T) -> usize
-        ensures { ReadsAhead T.Destination (new_state (utf16 self.now.big_endian)) src.now result
-            dst.old dst.new }
-    {
-        let part = src.len().min(16);
-        read_pairs(self, &src[..part], dst)
-    }
-
     /// Decodes up to 64 units by vectors. Returns the number of bytes read.
     #[inline(always)]
     fn read_vectors<T: Destination>(&self, src: &[u8], dst: &mut T) -> usize
@@ -242,7 +235,7 @@ impl Blocks for Units {
         if at > 0 {
             return (at, true);
         }
-        let read = self.read_some(&src[at..], dst);
+        let read = read_forms(self, &src[at..], 16, dst);
         (at + read, read > 0)
     }
 }

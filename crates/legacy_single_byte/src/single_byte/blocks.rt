@@ -1,7 +1,7 @@
 //! Decodes blocks of single-byte text: ASCII with single bytes past it, or eight bytes at a time.
 // Functions that run for each block are always inlined. A call would pass vectors through memory,
 // and keep the destination's place there.
-ghost use Rattle.std.specs.Prelude.{◌≡◌, ◌≢◌, ◌+◌, ◌<◌, ◌≤◌, ◌++◌, ℕ, All, true, false, length, take, slice_index};
+ghost use Rattle.std.specs.Prelude.{◌≡◌, ◌≢◌, ◌+◌, ◌*◌, ◌<◌, ◌≤◌, ◌++◌, ℕ, All, true, false, length, take, slice_index};
 ghost use Rattle.std.specs.Char.{IsScalar};
 ghost use Rattle.legacy_text.specs.EncodingForm.{all_code_units, total_unit_count};
 ghost use Rattle.legacy_base.specs.Grammar.{Grammar, single_byte};
@@ -129,14 +129,11 @@ struct Eights<'a> {
 }
 
 impl Eights<'_> {
-    /// Decodes at most `most` bytes one by one, and returns the number of bytes read.
-    ///
-    /// It stops before a byte that has no scalar. `most` is at most 8.
+    /// Decodes at most `most` bytes one by one, up to one that has no scalar. Returns the number of bytes read.
     #[inline(always)]
     fn read_singly<T: Destination>(&self, src: &[u8], most: usize, dst: &mut T) -> usize
-        requires most { most ≤ 8 }
-        requires source { 8 ≤ length src.now }
-        requires room { 27 ≤ T.room dst.old }
+        requires source { most ≤ length src.now }
+        requires room { 0 < most → 3 * most + 3 ≤ T.room dst.old }
         ensures most { result ≤ most }
         ensures ahead { ReadsAhead T.Destination
             (new_state (single_byte self.now.scalars.now.table.now.entries)) src.now result
@@ -218,10 +215,32 @@ fn begins_rare(scalars: &ByteScalars, src: &[u8]) -> bool {
     matches!(scalars.scalar(src[0]), None) || matches!(scalars.scalar(src[1]), None)
 }
 
+/// Decodes bytes one by one from the front, up to one that has no scalar. Returns the number of bytes read.
+#[inline(always)]
+fn read_few<T: Destination>(scalars: &ByteScalars, src: &[u8], dst: &mut T) -> usize
+    ensures { ReadsAhead T.Destination (new_state (single_byte scalars.now.table.now.entries))
+        src.now result dst.old dst.new }
+{
+    let most = src.len().min(dst.free().saturating_sub(3) / 3);
+    Eights { scalars }.read_singly(src, most, dst)
+}
+
+/// Decodes the last 64 bytes of an input by parts, and nothing if there are more. Returns the number of bytes read.
+// They are copied into an array with as many bytes after them: this makes short pieces fast.
+#[inline(always)]
+fn read_last<T: Destination>(scalars: &ByteScalars, src: &[u8], dst: &mut T) -> usize
+    ensures { ReadsAhead T.Destination (new_state (single_byte scalars.now.table.now.entries))
+        src.now result dst.old dst.new }
+{
+    if src.len() > 64 {
+        return 0;
+    }
+    read_parts(&Mixed { scalars }, &padded(src), src.len(), dst)
+}
+
 /// Decodes text from the front, and returns the number of bytes read.
 ///
-/// It stops before a byte that has no scalar, and if fewer than 70 code units are free.
-// The last 64 bytes are copied into an array with as many bytes after them: this makes short pieces fast.
+/// It stops before a byte that has no scalar, and if few code units are free.
 #[inline(always)]
 pub fn read_text<T: Destination>(scalars: &ByteScalars, src: &[u8], dst: &mut T) -> usize
     ensures { ReadsAhead T.Destination (new_state (single_byte scalars.now.table.now.entries))
@@ -230,11 +249,7 @@ pub fn read_text<T: Destination>(scalars: &ByteScalars, src: &[u8], dst: &mut T)
     if begins_rare(scalars, src) {
         return 0;
     }
-    let mixed = Mixed { scalars };
-    let at = read_parts(&mixed, src, src.len(), dst);
-    let rest = &src[at..];
-    if rest.len() > 64 {
-        return at;
-    }
-    at + read_parts(&mixed, &padded(rest), rest.len(), dst)
+    let at = read_parts(&Mixed { scalars }, src, src.len(), dst);
+    let end = at + read_last(scalars, &src[at..], dst);
+    end + read_few(scalars, &src[end..], dst)
 }

@@ -9,7 +9,6 @@ ghost use Rattle.legacy_decoder_engine.specs.Feeding.{Took};
 use super::blocks::read_text;
 use super::scalars::ByteScalars;
 use legacy_base::{DecoderResult, Destination, RawDecoder, SingleByteTable};
-use legacy_decoder_engine::common_forms::{CommonForm, CommonForms, read_common_forms};
 use legacy_decoder_engine::drive::drive_decoder;
 use legacy_decoder_engine::moves::{DecoderMoves, Fed, Move, Room};
 use std::simd::prelude::*;
@@ -140,36 +139,13 @@ impl DecoderMoves for SingleByteDecoder<'_> {
 
     #[inline(always)]
     fn read_ahead<T: Destination>(&self, src: &[u8], dst: &mut T) -> usize {
-        let read = read_text(&self.scalars, src, dst);
-        if read == src.len() {
-            return read;
-        }
-        read + read_common_forms(self, &src[read..], dst)
+        read_text(&self.scalars, src, dst)
     }
 
     // A provided body would not always be inlined.
     #[inline(always)]
     fn read_runs<T: Destination>(&mut self, src: &[u8], dst: &mut T) -> usize {
         self.read_ahead(src, dst)
-    }
-}
-
-impl CommonForms for SingleByteDecoder<'_> {
-    ghost use Rattle.legacy_single_byte.specs.SingleByteDecoder.{single_byte_state};
-
-    ghost state = { single_byte_state };
-
-    #[inline]
-    fn is_idle(&self) -> bool {
-        true
-    }
-
-    #[inline(always)]
-    fn form(&self, first: u8, _second: u8) -> CommonForm {
-        match self.scalars.scalar(first) {
-            Some(scalar) => CommonForm::Single(scalar),
-            None => CommonForm::Other,
-        }
     }
 }
 

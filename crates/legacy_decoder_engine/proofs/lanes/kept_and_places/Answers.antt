@@ -4,10 +4,10 @@ use Rattle.legacy_decoder_engine.proofs.lanes.kept_and_places.Goals as goal
 
 pub returns-clause-kept : goal.returns-clause-kept
 returns-clause-kept g c =
-    let pointer = g.F.LaneForms.pointer in
-    ap (vector_kept pointer c.args.last c.args.codes) c.pointers-found.ensures ∙ kept_are pointer c.args.last c.args.codes c.fits-codes.0 c.fits-codes.1
+    let pointer = g.C.LaneCodec.place in
+    ap (vector_kept pointer c.args.last c.args.codes) c.places-found.ensures ∙ kept_are pointer c.args.last c.args.codes c.fits-codes.0 c.fits-codes.1
 
 pub returns-clause-places : goal.returns-clause-places
 returns-clause-places g c =
-    let pointer = g.F.LaneForms.pointer in
-    ap (vector_place pointer c.args.last) c.pointers-found.ensures ∙ places_are pointer c.args.last c.args.codes c.fits-codes.0 c.fits-codes.1
+    let pointer = g.C.LaneCodec.place in
+    ap (vector_place pointer c.args.last) c.places-found.ensures ∙ places_are pointer c.args.last c.args.codes c.fits-codes.0 c.fits-codes.1

@@ -8,7 +8,7 @@ use Rattle.legacy_decoder_engine.proofs.WrittenRuns.{writes_none, writes_then, a
 use Rattle.legacy_decoder_engine.proofs.lanes.put_codes.Goals as goal
 
 pub returns-then-entries-eq0-clause-writes : goal.returns-then-entries-eq0-clause-writes
-returns-then-entries-eq0-clause-writes g c = writes_none g.T.Destination (g.F.CommonForms.state c.args.forms.now).grammar c.args.dst.now
+returns-then-entries-eq0-clause-writes g c = writes_none g.T.Destination (g.C.LaneCodec.grammar c.args.tables.now.flat) c.args.dst.now
 
 pub loop-group-init : goal.loop-group-init
 loop-group-init g c = record {
@@ -17,7 +17,7 @@ loop-group-init g c = record {
   few = omega arith;
   bytes = refl;
   room = omega arith;
-  writes = writes_none g.T.Destination (g.F.CommonForms.state c.args.forms.now).grammar c.args.dst.now;
+  writes = writes_none g.T.Destination (g.C.LaneCodec.grammar c.args.tables.now.flat) c.args.dst.now;
 }
 
 pub put_few-few-requires-clause-scalars : goal.put_few-few-requires-clause-scalars
@@ -27,7 +27,7 @@ pub put_eight-requires-clause-scalars : goal.put_eight-requires-clause-scalars
 put_eight-requires-clause-scalars g c =
     let eight = c.units_at in
     let long : length eight.result.1 ≡ 8 = omega (arith, eight.type_inv) in
-    (eight_forms (g.F.CommonForms.state c.args.forms.now).grammar c.args.codes.now eight.result.0 eight.result.1 (8 * c.loop-group.group) (omega (arith, c.if-at-most.false, c.requires.most, c.requires.codes))
+    (eight_forms (g.C.LaneCodec.grammar c.args.tables.now.flat) c.args.codes.now eight.result.0 eight.result.1 (8 * c.loop-group.group) (omega (arith, c.if-at-most.false, c.requires.most, c.requires.codes))
     (omega (arith, eight.type_inv)) long eight.ensures.forms (λ k h. c.has_zero.ensures c.if-has_zero.false k (omega (arith, h, long)))).0.scalar
 
 pub returns-then-at-most-clause-bytes : goal.returns-then-at-most-clause-bytes
@@ -35,8 +35,8 @@ returns-then-at-most-clause-bytes g c =
     let codes = c.args.codes.now in
     let at = 8 * c.loop-group.group in
     let few =
-    c.put_few-few.ensures.writes (g.F.CommonForms.state c.args.forms.now).grammar (drop at codes) (omega (arith, c.loop-group-test.true, c.requires.most, c.requires.codes, length-drop at codes))
-    (λ k h some. subst (λ code. IsForm (g.F.CommonForms.state c.args.forms.now).grammar code (get_or c.units_at.result.0 k 0) (get_or c.units_at.result.1 k 0)) (sym (get_or-drop at codes k 0)) (c.units_at.ensures.forms k h some)) in
+    c.put_few-few.ensures.writes (g.C.LaneCodec.grammar c.args.tables.now.flat) (drop at codes) (omega (arith, c.loop-group-test.true, c.requires.most, c.requires.codes, length-drop at codes))
+    (λ k h some. subst (λ code. IsForm (g.C.LaneCodec.grammar c.args.tables.now.flat) code (get_or c.units_at.result.0 k 0) (get_or c.units_at.result.1 k 0)) (sym (get_or-drop at codes k 0)) (c.units_at.ensures.forms k h some)) in
     let count = c.put_few-few.result.0 in
     omega (arith, few.0, ap length (forms_at at count codes), c.loop-group.invariant.bytes, length-append (forms_of (take at codes)) (forms_of (take count (drop at codes))))
 
@@ -45,14 +45,14 @@ returns-then-at-most-clause-writes g c =
     let codes = c.args.codes.now in
     let at = 8 * c.loop-group.group in
     let few =
-    c.put_few-few.ensures.writes (g.F.CommonForms.state c.args.forms.now).grammar (drop at codes) (omega (arith, c.loop-group-test.true, c.requires.most, c.requires.codes, length-drop at codes))
-    (λ k h some. subst (λ code. IsForm (g.F.CommonForms.state c.args.forms.now).grammar code (get_or c.units_at.result.0 k 0) (get_or c.units_at.result.1 k 0)) (sym (get_or-drop at codes k 0)) (c.units_at.ensures.forms k h some)) in
-    subst (λ bytes. Writes g.T.Destination (g.F.CommonForms.state c.args.forms.now).grammar bytes c.args.dst.now c.put_few-few.new.dst) (forms_at at c.put_few-few.result.0 codes)
+    c.put_few-few.ensures.writes (g.C.LaneCodec.grammar c.args.tables.now.flat) (drop at codes) (omega (arith, c.loop-group-test.true, c.requires.most, c.requires.codes, length-drop at codes))
+    (λ k h some. subst (λ code. IsForm (g.C.LaneCodec.grammar c.args.tables.now.flat) code (get_or c.units_at.result.0 k 0) (get_or c.units_at.result.1 k 0)) (sym (get_or-drop at codes k 0)) (c.units_at.ensures.forms k h some)) in
+    subst (λ bytes. Writes g.T.Destination (g.C.LaneCodec.grammar c.args.tables.now.flat) bytes c.args.dst.now c.put_few-few.new.dst) (forms_at at c.put_few-few.result.0 codes)
     (writes_then g.T.Destination c.loop-group.invariant.writes few.1)
 
 pub loop-group-preserved : goal.loop-group-preserved
 loop-group-preserved g c =
-    let grammar = (g.F.CommonForms.state c.args.forms.now).grammar in
+    let grammar = (g.C.LaneCodec.grammar c.args.tables.now.flat) in
     let codes = c.args.codes.now in
     let at = 8 * c.loop-group.group in
     let kept = c.units_at.result.0 in

@@ -11,7 +11,7 @@ invariant-loop-group g l = record {
   few : l.bytes ≤ 16 * l.group;
   bytes : l.bytes ≡ length (forms_of (take (8 * l.group) l.codes));
   room : 8 ≤ g.T.Destination.room l.dst;
-  writes : Writes g.T.Destination (g.F.CommonForms.state l.forms).grammar (forms_of (take (8 * l.group) l.codes)) l.fn.dst l.dst;
+  writes : Writes g.T.Destination (g.C.LaneCodec.grammar l.tables.flat) (forms_of (take (8 * l.group) l.codes)) l.fn.dst l.dst;
 }
 
 abbrev pub decreases-loop-group : goal.decreases-loop-group

@@ -6,10 +6,10 @@ use Rattle.legacy_decoder_engine.proofs.WrittenRuns.{reads_none}
 use Rattle.legacy_decoder_engine.proofs.lanes.read_lanes.Goals as goal
 
 pub returns-then-not-begins_many : goal.returns-then-not-begins_many
-returns-then-not-begins_many g c = reads_none g.T.Destination (new_state (g.F.CommonForms.state c.args.forms.now).grammar) c.args.src.now c.args.dst.now
+returns-then-not-begins_many g c = reads_none g.T.Destination (new_state (g.C.LaneCodec.grammar c.args.tables.now.flat)) c.args.src.now c.args.dst.now
 
 pub loop-codes-init : goal.loop-codes-init
-loop-codes-init g c = reads_none g.T.Destination (new_state (g.F.CommonForms.state c.args.forms.now).grammar) c.args.src.now c.args.dst.now
+loop-codes-init g c = reads_none g.T.Destination (new_state (g.C.LaneCodec.grammar c.args.tables.now.flat)) c.args.src.now c.args.dst.now
 
 pub loop-codes-smaller : goal.loop-codes-smaller
 loop-codes-smaller g c =

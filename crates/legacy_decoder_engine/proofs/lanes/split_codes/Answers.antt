@@ -7,7 +7,7 @@ pub loop-group-preserved : goal.loop-group-preserved
 loop-group-preserved g c =
     let l = c.loop-group in
     let codes = c.args.codes.now in
-    let pointer = g.F.LaneForms.pointer in
+    let pointer = g.C.LaneCodec.place in
     let e = c.kept_and_places.ensures in
     record {
       within = omega (arith, c.loop-group-test.true);
@@ -21,7 +21,7 @@ pub returns-clause-lanes : goal.returns-clause-lanes
 returns-clause-lanes g c k h =
     let i = c.loop-group.invariant in
     let below : k < 8 * c.loop-group.group = omega (arith, h, c.loop-group-test.false) in
-    rw (i.keeps k below, i.finds k below) (lane_is g.F.LaneForms.pointer c.args.last (get_or c.args.codes.now k 0))
+    rw (i.keeps k below, i.finds k below) (lane_is g.C.LaneCodec.place c.args.last (get_or c.args.codes.now k 0))
 
 pub returns-clause-within : goal.returns-clause-within
 returns-clause-within g c k h =

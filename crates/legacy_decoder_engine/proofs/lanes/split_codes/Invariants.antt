@@ -6,8 +6,8 @@ use Rattle.legacy_decoder_engine.proofs.lanes.split_codes.Given as goal
 abbrev pub invariant-loop-group : goal.invariant-loop-group
 invariant-loop-group g l = record {
   within : l.group ≤ l.groups;
-  keeps : (k : ℕ) → k < 8 * l.group → get_or l.kept k 0 ≡ kept_of g.F.LaneForms.pointer l.last (get_or l.codes k 0);
-  finds : (k : ℕ) → k < 8 * l.group → get_or l.places k 0 ≡ place_of g.F.LaneForms.pointer l.last (get_or l.codes k 0);
+  keeps : (k : ℕ) → k < 8 * l.group → get_or l.kept k 0 ≡ kept_of g.C.LaneCodec.place l.last (get_or l.codes k 0);
+  finds : (k : ℕ) → k < 8 * l.group → get_or l.places k 0 ≡ place_of g.C.LaneCodec.place l.last (get_or l.codes k 0);
 }
 
 abbrev pub decreases-loop-group : goal.decreases-loop-group

@@ -7,10 +7,10 @@ use Rattle.legacy_decoder_engine.proofs.lead.LeadDecoderDecoderMoves.read_ahead.
 
 pub returns-then-is_some : goal.returns-then-is_some
 returns-then-is_some g c =
-    reads_none g.T.Destination (lead_state g.C.LeadCodec.grammar g.C.LeadCodec.byte_of c.args.self.now.tables.now c.args.self.now.held) c.args.src.now c.args.dst.now
+    reads_none g.T.Destination (lead_state g.C.LaneCodec.grammar g.C.LeadCodec.byte_of c.args.self.now.tables.now c.args.self.now.held) c.args.src.now c.args.dst.now
 
 pub returns-in-None : goal.returns-in-None
 returns-in-None g c =
-    let is = idle g.C.LeadCodec.grammar g.C.LeadCodec.is_lead g.C.LeadCodec.first g.C.LeadCodec.scalars g.met.C.LeadCodec.codec g.C.LeadCodec.byte_of g.met.C.LeadCodec.leads
+    let is = idle g.C.LaneCodec.grammar g.C.LeadCodec.is_lead g.C.LeadCodec.first g.C.LeadCodec.scalars g.met.C.LeadCodec.codec g.C.LeadCodec.byte_of g.met.C.LeadCodec.leads
     c.args.self.now.tables.now c.args.self.now.held (sym c.is_some.ensures ∙ c.if-is_some.false) in
     reads_idle is (c.read_ascii.ensures.ahead _ is.ascii)

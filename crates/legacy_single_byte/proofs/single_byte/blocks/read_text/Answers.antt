@@ -2,11 +2,10 @@ use Rattle.legacy_base.specs.Grammar.{single_byte}
 use Rattle.legacy_base.specs.States.{new_state}
 use Rattle.legacy_decoder_engine.proofs.JoinedRuns.{reads_more}
 use Rattle.legacy_decoder_engine.proofs.WrittenRuns.{reads_none}
-use Rattle.legacy_single_byte.proofs.SingleByteRuns.{reads_padded}
 use Rattle.legacy_single_byte.proofs.single_byte.blocks.read_text.Goals as goal
 
 pub returns-then-begins_rare : goal.returns-then-begins_rare
 returns-then-begins_rare g c = reads_none g.T.Destination (new_state (single_byte c.args.scalars.now.table.now.entries)) c.args.src.now c.args.dst.now
 
 pub returns : goal.returns
-returns g c = reads_more c.read_parts-at.ensures.ahead (reads_padded c.read_parts.ensures.most c.padded.ensures c.read_parts.ensures.ahead)
+returns g c = reads_more (reads_more c.read_parts-at.ensures.ahead c.read_last.ensures) c.read_few.ensures

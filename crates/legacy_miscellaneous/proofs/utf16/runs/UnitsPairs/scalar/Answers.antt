@@ -1,9 +1,0 @@
-use Rattle.std.proofs.Common.{◌<◌, ◌^◌, ◌∙◌, arith}
-use Rattle.legacy_miscellaneous.proofs.Utf16Runs.{unit_scalar}
-use Rattle.legacy_miscellaneous.proofs.utf16.runs.UnitsPairs.scalar.Goals as goal
-
-pub returns : goal.returns
-returns c =
-    let byte : c.args.first < 2 ^ 8 = omega arith in
-    let byte' : c.args.second < 2 ^ 8 = omega arith in
-    unit_scalar c.args.self.now.big_endian c.args.first c.args.second c.from.result byte byte' (c.from.ensures ∙ c.unit.ensures) c.from_u32.result c.from_u32.ensures.value
