@@ -88,6 +88,10 @@ all_short form (c ∷ cs) small =
 pub three_fit : (form : EncodingForm) (c room : ℕ) → c < 65536 → 3 ≤ room → length (code_units form c) ≤ room
 three_fit form c room h k = let s = short form c h in omega arith
 
+-- a scalar up to U+FFFF is one code unit if the encoding form has a room of one for it
+pub one_unit : (form : EncodingForm) (c : ℕ) → bmp_room form ≡ 1 → c < 65536 → length (code_units form c) ≡ 1
+one_unit form c room h = let most = length-code_units-bmp form c h in let least = some_unit form c in omega arith
+
 pub take_two : (src : List ℕ) (at : ℕ) → at + 1 < length src → take (at + 2) src ≡ take at src ++ get_or src at 0 ∷ get_or src (at + 1) 0 ∷ []
 take_two src at h =
     let e : at + 2 ≡ at + 1 + 1 = omega arith in

@@ -26,6 +26,9 @@ pub trait CommonForms {
     /// What a form requires of the grammar.
     ghost ready: { Self → Type 0 } = { λ _. Unit {0} };
 
+    /// The smallest number of bytes of four forms.
+    const FOUR_AT_LEAST: usize = 4;
+
     /// Returns what is at the front of the input, given a byte and the byte after it.
     /// It is a scalar up to U+FFFF, or `Other` for a rare form, which the machine reads.
     fn form(&self, first: u8, second: u8) -> CommonForm
@@ -48,7 +51,7 @@ impl<F: CommonForms> Forms for FormsInTurn<'_, F> {
 
     ghost most_units = { 3 };
 
-    const FOUR_AT_LEAST: usize = 4;
+    const FOUR_AT_LEAST: usize = F::FOUR_AT_LEAST;
 
     #[inline(always)]
     fn fitting(&self, bytes: usize, units: usize) -> usize {

@@ -411,15 +411,12 @@ fn read_lanes<C: LaneCodec, T: Destination>(
     }
 }
 
-/// Returns whether no common form begins at the front: there is no byte, or a quick test shows it.
+/// Returns whether a quick test shows that the byte at the front begins no common form, if there is one.
 #[inline(always)]
 fn begins_rare<C: LaneCodec>(src: &[u8]) -> bool
-    ensures { result ≡ false → (tables : AcceptedIndexes) → HasAscii (C.grammar tables.flat) }
+    ensures { (tables : AcceptedIndexes) → HasAscii (C.grammar tables.flat) }
 {
-    if src.is_empty() {
-        return true;
-    }
-    C::is_rare(src[0])
+    C::is_rare(if src.is_empty() { 0 } else { src[0] })
 }
 
 /// Returns whether a rare byte follows the form at the front, which is taken to be one ASCII byte or two bytes.

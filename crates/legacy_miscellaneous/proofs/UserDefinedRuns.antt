@@ -1,9 +1,8 @@
 -- The runs of x-user-defined.
-use Rattle.std.proofs.Common.{◌≡◌, ◌∙◌, Bool, true, false, cond, ℕ, zero, suc, ◌+◌, ◌-◌, ◌*◌, ◌/◌, ◌%◌, ◌<◌, ◌≤◌, ◌^◌, [], ◌∷◌, map, get_or, bit_and, bit_xor, refl, sym, ap, subst, arith}
+use Rattle.std.proofs.Common.{◌≡◌, ◌∙◌, Bool, true, false, cond, ℕ, ◌+◌, ◌-◌, ◌%◌, ◌<◌, ◌^◌, [], ◌∷◌, map, get_or, bit_and, bit_xor, refl, sym, ap, subst, arith}
 use Rattle.std.proofs.lemmas.List.FromFn.{get_or-map-range_with_len}
 use Rattle.std.specs.List.{range_with_len}
 use Rattle.std.proofs.lemmas.Bool.Decides.{nat_tests}
-use Rattle.std.proofs.Math.Nat.{mul-suc, mul-le-mul_left, mul-div-le}
 use Rattle.std.specs.Char.{IsScalar, is_ascii}
 use Rattle.legacy_base.specs.Grammar.{user_defined}
 use Rattle.legacy_base.specs.Fronts.{reads}
@@ -64,14 +63,3 @@ bits_scalar b h = subst IsScalar (sym (bits_are b h)) (range_scalar (is_ascii b)
 
 pub bits_is : (b c : ℕ) → b < 256 → c ≡ bit_and ((bit_xor b 128 + 65408) % 65536) 63487 → scalar_is b c
 bits_is b c h e = e ∙ bits_are b h
-
--- ---- the room of bytes that are written with at most m code units each
-
-pub turn_fits : (m at count free : ℕ) → 1 ≤ m → at < count → count ≤ (free - 3) / m → m * at + m + 3 ≤ free
-turn_fits m at count free some below few =
-    let next : suc at ≤ (free - 3) / m = omega (arith, below, few) in
-    omega (arith, some, mul-le-mul_left m next, mul-suc m at, mul-div-le (free - 3) m)
-
-pub run_fits : (m count free : ℕ) → 1 ≤ m → 0 < count → count ≤ (free - 3) / m → m * count + 3 ≤ free
-run_fits m zero free some h few = elim h [ ]
-run_fits m (suc at) free some h few = omega (arith, turn_fits m at (suc at) free some (omega arith) few, mul-suc m at)

@@ -23,6 +23,8 @@ struct Jis0208Pairs<'a, 'b> {
 impl CommonForms for Jis0208Pairs<'_, '_> {
     ghost grammar = { λ pairs. pairs_grammar pairs.tables.now.flat.jis0208 };
 
+    const FOUR_AT_LEAST: usize = 8;
+
     #[inline(always)]
     fn form(&self, first: u8, second: u8) -> CommonForm {
         match entry(self.tables, pair_pointer(&LEADS, &TRAILS, first, second)) {

@@ -117,7 +117,7 @@ impl LaneCodec for ShiftJis {
         byte == 0xA0 || byte >= 0xFD
     }
 
-    #[inline]
+    #[inline(always)]
     #[tactic(auto, using(crate::proofs::ShiftJisRuns::pair_form))]
     fn front(tables: &FlatTables<'_>, lead: u8, trail: u8) -> CommonForm {
         match form_scalar(tables, lead, trail) {

@@ -3,11 +3,13 @@
 // keep the destination's place there.
 ghost use Rattle.std.specs.Prelude.{◌≡◌, ◌+◌, ◌-◌, if◌then◌else◌};
 ghost use Rattle.std.specs.Char.{is_ascii};
+ghost use Rattle.legacy_text.specs.EncodingForm.{bmp_room};
 ghost use Rattle.legacy_base.specs.Grammar.{user_defined};
 ghost use Rattle.legacy_base.specs.States.{new_state};
 ghost use Rattle.legacy_decoder_engine.specs.Ahead.{ReadsAhead};
 
 use legacy_base::{DecoderResult, Destination, RawDecoder};
+use legacy_decoder_engine::common_forms::{CommonForm, CommonForms, read_forms};
 use legacy_decoder_engine::drive::drive_decoder;
 use legacy_decoder_engine::moves::{DecoderMoves, Fed, Move, Room};
 use legacy_decoder_engine::runs::{Blocks, read_ascii, read_blocks};
@@ -42,36 +44,21 @@ fn scalar_of(byte: u8) -> char
     unsafe { char::from_u32_unchecked(u32::from(unit)) }
 }
 
-/// Decodes at most `most` bytes from the front, and leaves three code units free.
+/// Decodes bytes if a scalar up to U+FFFF is one code unit, and leaves three units free.
 ///
-/// Returns the number of bytes read, which may be 0.
+/// Returns the number of bytes read.
 #[inline(always)]
-fn read_bytes<T: Destination>(src: &[u8], most: usize, dst: &mut T) -> usize
+fn read_units<T: Destination>(src: &[u8], dst: &mut T) -> usize
+    requires { bmp_room T.form ≡ 1 }
     ensures { ReadsAhead T.Destination (new_state user_defined) src.now result dst.old dst.new }
 {
-    let room = dst.free().saturating_sub(3) / T::narrow();
-    let count = src.len().min(most).min(room);
+    let count = src.len().min(dst.free().saturating_sub(3));
     let mut at = 0;
     while at < count {
         dst.put(scalar_of(src[at]));
         at += 1;
     }
     count
-}
-
-/// Blocks of ASCII, each with sixteen bytes of any kind after it.
-#[derive(Drop)]
-struct Mixed;
-
-impl Blocks for Mixed {
-    ghost grammar = { λ _. user_defined };
-
-    #[inline(always)]
-    fn read_block<T: Destination>(&self, src: &[u8], dst: &mut T) -> (usize, bool) {
-        let front = read_ascii(src, dst);
-        let read = read_bytes(&src[front..], 16, dst);
-        (front + read, read > 0)
-    }
 }
 
 impl DecoderMoves for UserDefinedDecoder {
@@ -110,9 +97,9 @@ impl DecoderMoves for UserDefinedDecoder {
     #[inline(always)]
     fn read_ahead<T: Destination>(&self, src: &[u8], dst: &mut T) -> usize {
         if T::narrow() == 1 {
-            read_bytes(src, src.len(), dst)
+            read_units(src, dst)
         } else {
-            read_blocks(&Mixed, src, dst)
+            read_blocks(self, src, dst)
         }
     }
 
@@ -120,6 +107,31 @@ impl DecoderMoves for UserDefinedDecoder {
     #[inline(always)]
     fn read_runs<T: Destination>(&mut self, src: &[u8], dst: &mut T) -> usize {
         self.read_ahead(src, dst)
+    }
+}
+
+impl CommonForms for UserDefinedDecoder {
+    ghost grammar = { λ _. user_defined };
+
+    #[inline(always)]
+    fn form(&self, first: u8, _second: u8) -> CommonForm {
+        if first < 0x80 {
+            CommonForm::Single(char::from(first))
+        } else {
+            CommonForm::Single(scalar_of(first))
+        }
+    }
+}
+
+/// ASCII, and then bytes one by one up to two ASCII bytes in a row.
+impl Blocks for UserDefinedDecoder {
+    ghost grammar = { λ _. user_defined };
+
+    #[inline(always)]
+    fn read_block<T: Destination>(&self, src: &[u8], dst: &mut T) -> (usize, bool) {
+        let front = read_ascii(src, dst);
+        let read = read_forms(self, &src[front..], src.len(), dst);
+        (front + read, read > 0)
     }
 }
 

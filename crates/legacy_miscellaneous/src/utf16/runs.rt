@@ -27,6 +27,8 @@ impl CommonForms for Units {
 
     ghost grammar = { units_grammar };
 
+    const FOUR_AT_LEAST: usize = 8;
+
     #[inline(always)]
     fn form(&self, first: u8, second: u8) -> CommonForm {
         match char::from_u32(u32::from(unit(self.big_endian, first, second))) {

@@ -8,7 +8,7 @@ pub returns-then-begins_rare : goal.returns-then-begins_rare
 returns-then-begins_rare g c = reads_none g.T.Destination (new_state (g.C.LaneCodec.grammar c.args.forms.now.tables.now.flat)) c.args.src.now c.args.dst.now
 
 pub read_one-requires : goal.read_one-requires
-read_one-requires g c = c.begins_rare.ensures c.if-begins_rare.false c.args.forms.now.tables.now
+read_one-requires g c = c.begins_rare.ensures c.args.forms.now.tables.now
 
 pub returns : goal.returns
 returns g c = subst (λ grammar. ReadsAhead g.T.Destination (new_state grammar) c.args.src.now c.read_blocks.result c.args.dst.now c.read_blocks.new.dst) c.requires c.read_blocks.ensures

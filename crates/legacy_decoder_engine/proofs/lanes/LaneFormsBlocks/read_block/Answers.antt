@@ -7,12 +7,12 @@ pub returns-then-begins_rare-clause-ahead : goal.returns-then-begins_rare-clause
 returns-then-begins_rare-clause-ahead g c = reads_none g.T.Destination (new_state (g.C.LaneCodec.grammar c.args.self.now.tables.now.flat)) c.args.src.now c.args.dst.now
 
 pub read_lanes-requires : goal.read_lanes-requires
-read_lanes-requires g c = c.begins_rare.ensures c.if-begins_rare.false c.args.self.now.tables.now
+read_lanes-requires g c = c.begins_rare.ensures c.args.self.now.tables.now
 
 pub read_forms-few-requires : goal.read_forms-few-requires
-read_forms-few-requires g c = c.begins_rare.ensures c.if-begins_rare.false c.args.self.now.tables.now
+read_forms-few-requires g c = c.begins_rare.ensures c.args.self.now.tables.now
 
 pub returns-clause-ahead : goal.returns-clause-ahead
 returns-clause-ahead g c =
-    let ascii = c.begins_rare.ensures c.if-begins_rare.false c.args.self.now.tables.now in
+    let ascii = c.begins_rare.ensures c.args.self.now.tables.now in
     reads_more (reads_more (c.read_ascii-front.ensures.ahead _ ascii) c.read_lanes.ensures) c.read_forms-few.ensures
