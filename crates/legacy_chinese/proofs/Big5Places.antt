@@ -14,7 +14,6 @@ use Rattle.legacy_base.specs.Big5.{big5_scalars}
 use Rattle.legacy_base.specs.States.{is_lead}
 use Rattle.legacy_base.specs.Grammar.{big5}
 use Rattle.legacy_decoder_engine.specs.Ahead.{HasAscii, Runs}
-use Rattle.legacy_decoder_engine.specs.LeadMachines.{lead_first}
 use Rattle.legacy_decoder_engine.proofs.LeadHeld.{ascii, pair}
 use Rattle.legacy_chinese.specs.Big5Shown.{big5_codec}
 use Rattle.legacy_chinese.proofs.EntryScalars.{scalar_at}
@@ -68,7 +67,7 @@ pub some_entry : (e : ℕ) → e ≢ 0 → Some e ≡ entry_scalar e
 some_entry e some = rw (ne_eqb e 0 some) refl
 
 pub big5_ascii : (tables : AcceptedIndexes) → HasAscii (big5 tables.flat.big5)
-big5_ascii = ascii (λ flat. big5 flat.big5) is_lead (lead_first is_lead) (λ flat. big5_pair_scalars flat.big5) big5_codec
+big5_ascii = ascii big5_codec
 
 -- an entry at the sum of the places is the scalar of the lead and the trail
 pub big5_runs : (tables : AcceptedIndexes) (lead trail c : ℕ) → IsByte lead → IsByte trail → Some c ≡ idx tables.flat.big5 (big5_lead_place lead + big5_trail_place trail) →
@@ -80,4 +79,4 @@ big5_runs tables lead trail c byte byte' e =
     let used = big5-used tables.flat tables.accepted p c e in
     let both = found (is_lead lead) (big5_pair_scalars index lead trail) c (ap option_to_list e ∙ sym (entry_is index p used) ∙ big5_at index short lead trail) in
     let scalar = scalar_at tables names.Big5 p c (ap option_to_list (sym e)) in
-    pair (λ flat. big5 flat.big5) is_lead (lead_first is_lead) (λ flat. big5_pair_scalars flat.big5) big5_codec tables lead trail c byte byte' scalar both.0 both.1
+    pair big5_codec tables lead trail c byte byte' scalar both.0 both.1

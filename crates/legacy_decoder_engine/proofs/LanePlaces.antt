@@ -120,7 +120,6 @@ module _ (leads : ℕ → Bool) (pointers : ℕ → ℕ → Option ℕ) (name : 
         scalar,
         (
           scalars_below index n.0 (pointers (code % 256) (code / 256)) c both.1,
-          pair (λ flat. plain leads pointers (index_list flat name)) leads (lead_first leads) (λ flat. pair_scalars pointers (index_list flat name)) codec tables
-              (code % 256) (code / 256) c (omega arith) (omega arith) scalar both.0 both.1,
+          pair codec tables (code % 256) (code / 256) c (omega arith) (omega arith) scalar both.0 both.1,
         ),
       )

@@ -1,7 +1,7 @@
 -- The moves of a decoder with leads, by the lead that it holds back.
-use Rattle.std.proofs.Common.{◌≡◌, ◌≢◌, ◌∙◌, ℕ, List, [], ◌∷◌, Bool, Option, Some, None, is_some, ◌&&◌, true, false, cond, refl}
+use Rattle.std.proofs.Common.{◌≡◌, ◌≢◌, ◌∙◌, ℕ, List, [], ◌∷◌, Bool, Option, Some, None, is_some, ◌&&◌, true, false, refl}
 use Rattle.std.proofs.lemmas.List.Elements.{All-nil, All-cons}
-use Rattle.std.specs.Char.{IsScalar, is_ascii}
+use Rattle.std.specs.Char.{IsScalar}
 use Rattle.legacy_tables.specs.Unicode.{IsByte, AreBytes}
 use Rattle.legacy_tables.specs.AcceptedTables.{AcceptedIndexes}
 use Rattle.legacy_tables.specs.Indexes.{FlatIndexes}
@@ -9,12 +9,11 @@ use Rattle.legacy_base.specs.Grammar.{Grammar, events_of}
 use Rattle.legacy_base.specs.States.{may_hold, single_lead_may_hold, is_empty}
 use Rattle.legacy_base.specs.Calls.{IsLoneFault}
 use Rattle.legacy_decoder_engine.specs.declared.moves.Fed.{Fed}
-use Rattle.legacy_decoder_engine.specs.Steps.{Step, finish, leave, trail_step}
+use Rattle.legacy_decoder_engine.specs.Steps.{Step, finish}
 use Rattle.legacy_decoder_engine.specs.Moves.{IsCovered, Feeds, Reports}
 use Rattle.legacy_decoder_engine.specs.LeadMachines.{two_byte_step, two_byte_machine}
 use Rattle.legacy_decoder_engine.specs.Shown.{IsShown}
-use Rattle.legacy_decoder_engine.specs.Feeding.{Took, fed_of}
-use Rattle.legacy_decoder_engine.specs.declared.moves.Fed.TheVariants.{One}
+use Rattle.legacy_decoder_engine.specs.Feeding.{Took}
 use Rattle.legacy_base.specs.Fronts.{malformed}
 use Rattle.legacy_decoder_engine.specs.Ahead.{Runs, HasAscii, IsIdle}
 use Rattle.legacy_decoder_engine.specs.LeadCodecs.{IsLeadCodec, held_bytes, lead_state}
@@ -27,19 +26,20 @@ neutral_empty [] e = refl
 neutral_empty (b ∷ bytes) e = cc
 
 -- ASCII, and a pair that gives one scalar
-module _ (grammar : FlatIndexes → Grammar) (is_lead_byte : ℕ → Bool) (first : ℕ → Step) (scalars : FlatIndexes → ℕ → ℕ → List ℕ) (is : IsLeadCodec grammar is_lead_byte first scalars)
-    (tables : AcceptedIndexes) where
+module _ {grammar : FlatIndexes → Grammar} {is_lead_byte : ℕ → Bool} {first : ℕ → Step} {scalars : FlatIndexes → ℕ → ℕ → List ℕ}
+    (is : IsLeadCodec grammar is_lead_byte first scalars) (tables : AcceptedIndexes) where
   pub ascii : HasAscii (grammar tables.flat)
   ascii = has_ascii (is.shown tables.flat tables.accepted) (λ b. refl) (λ b h. is.ascii_first b (ascii_is b h))
 
-  pub pair : (lead trail c : ℕ) → IsByte lead → IsByte trail → IsScalar c → is_lead_byte lead ≡ true → scalars tables.flat lead trail ≡ c ∷ [] → Runs (grammar tables.flat) (lead ∷ trail ∷ []) (c ∷ [])
+  pub pair : (lead trail c : ℕ) → IsByte lead → IsByte trail → IsScalar c → is_lead_byte lead ≡ true → scalars tables.flat lead trail ≡ c ∷ []
+      → Runs (grammar tables.flat) (lead ∷ trail ∷ []) (c ∷ [])
   pair lead trail c is_byte is_byte' scalar is_lead e =
       pair_runs (is.shown tables.flat tables.accepted) lead trail c is_byte is_byte' scalar
       (is.may_is tables.flat (lead ∷ []) ∙ is_lead) (is.rests_is tables.flat (lead ∷ []))
       refl refl (is.lead_first lead is_lead) (rw e refl)
 
-module _ {L : Type 0} (grammar : FlatIndexes → Grammar) (is_lead_byte : ℕ → Bool) (first : ℕ → Step) (scalars : FlatIndexes → ℕ → ℕ → List ℕ) (is : IsLeadCodec grammar is_lead_byte first scalars)
-    (byte : L → ℕ) (leads : (lead : L) → is_lead_byte (byte lead) ≡ true) (tables : AcceptedIndexes) where
+module _ {L : Type 0} {grammar : FlatIndexes → Grammar} {is_lead_byte : ℕ → Bool} {first : ℕ → Step} {scalars : FlatIndexes → ℕ → ℕ → List ℕ}
+    (is : IsLeadCodec grammar is_lead_byte first scalars) {byte : L → ℕ} (leads : (lead : L) → is_lead_byte (byte lead) ≡ true) (tables : AcceptedIndexes) where
   abbrev g : Grammar
   g = grammar tables.flat
 
@@ -88,4 +88,4 @@ module _ {L : Type 0} (grammar : FlatIndexes → Grammar) (is_lead_byte : ℕ �
 
   -- a decoder without a lead
   pub idle : (held : Option L) → is_some held ≡ false → IsIdle (lead_state grammar byte tables held)
-  idle held e = record { empty = none_held held e; ascii = ascii grammar is_lead_byte first scalars is tables }
+  idle held e = record { empty = none_held held e; ascii = ascii is tables }

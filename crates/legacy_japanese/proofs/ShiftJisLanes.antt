@@ -1,6 +1,6 @@
 -- Eight codes of Shift_JIS, lane by lane, and the pairs of those that have an entry.
-use Rattle.std.proofs.Common.{◌≡◌, ◌≢◌, ◌∙◌, ℕ, ◌+◌, ◌-◌, ◌*◌, ◌/◌, ◌%◌, ◌^◌, ◌<◌, ◌≤◌, ◌||◌, ◌&&◌, ◌==◌, min, Bool, true, false, cond, leb, List, [], ◌∷◌, length, get_or, map, replicate, refl, sym, ap, arith, w16, Fits}
-use Rattle.std.proofs.lemmas.Bool.{agree_below_at, eqb-true, leb-true, leb-false, and_parts, or_parts}
+use Rattle.std.proofs.Common.{◌≡◌, ◌≢◌, ◌∙◌, ℕ, ◌+◌, ◌-◌, ◌*◌, ◌/◌, ◌%◌, ◌<◌, ◌≤◌, ◌||◌, ◌&&◌, ◌==◌, min, Bool, true, false, cond, leb, List, [], ◌∷◌, length, get_or, map, replicate, refl, sym, ap, arith, w16, Fits}
+use Rattle.std.proofs.lemmas.Bool.{agree_below_at, eqb-true, leb-true, and_parts}
 use Rattle.std.proofs.lemmas.Nat.{xor_mod}
 use Rattle.std.specs.Char.{IsScalar}
 use Rattle.std.specs.Int.{is_in_range}
@@ -8,7 +8,6 @@ use Rattle.std.specs.Int.Bits.{bit_xor}
 use lib.Lanes.{Each1, zip2}
 use Rattle.legacy_text.proofs.UnitLanes.{of_eight}
 use Rattle.legacy_tables.specs.AcceptedTables.{AcceptedIndexes}
-use Rattle.legacy_tables.specs.Indexes.{idx}
 use Rattle.legacy_tables.proofs.Accepted.{jis0208-scalars, length-jis0208}
 use Rattle.legacy_base.specs.Grammar.{shift_jis}
 use Rattle.legacy_base.specs.ShiftJis.{is_shift_jis_lead, shift_jis_scalars}
@@ -17,7 +16,7 @@ use Rattle.legacy_decoder_engine.specs.SplitRows.{lead_place_of, trail_place_of}
 use Rattle.legacy_decoder_engine.proofs.LanePlaces.{entry_is}
 use Rattle.legacy_decoder_engine.proofs.LeadHeld as held
 use Rattle.legacy_japanese.specs.ShiftJisLanes.{shift_jis_place}
-use Rattle.legacy_japanese.specs.ShiftJisMachine.{shift_jis_first, shift_jis_pair_scalars}
+use Rattle.legacy_japanese.specs.ShiftJisMachine.{shift_jis_pair_scalars}
 use Rattle.legacy_japanese.specs.ShiftJisPlaces.{shift_jis_lead_place, shift_jis_trail_place}
 use Rattle.legacy_japanese.specs.ShiftJisShown.{shift_jis_codec}
 use Rattle.legacy_japanese.proofs.ShiftJisPlaces.{shift_jis_entry}
@@ -85,7 +84,7 @@ module _ (tables : AcceptedIndexes) where
   index = tables.flat.jis0208
 
   pub ascii : HasAscii (shift_jis tables.flat.jis0208)
-  ascii = held.ascii (λ flat. shift_jis flat.jis0208) is_shift_jis_lead shift_jis_first (λ flat. shift_jis_pair_scalars flat.jis0208) shift_jis_codec tables
+  ascii = held.ascii shift_jis_codec tables
 
   pub lane_pair : (code : ℕ) → code < 0x1_0000 → shift_jis_place code < length tables.flat.jis0208 → get_or tables.flat.jis0208 (shift_jis_place code) 0 ≢ 0
       → IsScalar (get_or tables.flat.jis0208 (shift_jis_place code) 0) × IsPair (shift_jis tables.flat.jis0208) (code % 0x100) (code / 0x100) (get_or tables.flat.jis0208 (shift_jis_place code) 0)

@@ -10,7 +10,7 @@ use Rattle.legacy_base.specs.ShiftJis.{is_shift_jis_lead, shift_jis_pointer, shi
 use Rattle.legacy_tables.proofs.Accepted.{jis0208-below}
 use Rattle.legacy_decoder_engine.specs.{Ahead.Runs, Costs.IsNarrowIndex}
 use Rattle.legacy_decoder_engine.proofs.{LeadHeld.pair, PairPlaces.found, RunForms.single_runs, Widths.idx_below}
-use Rattle.legacy_japanese.specs.ShiftJisMachine.{shift_jis_first, shift_jis_pair_scalars}
+use Rattle.legacy_japanese.specs.ShiftJisMachine.{shift_jis_pair_scalars}
 use Rattle.legacy_japanese.specs.ShiftJisShown.{shift_jis_codec}
 
 private_use_below : (p c : ℕ) → is_in_range 8836 10715 p ≡ true → (0xE000 + (p - 8836)) ∷ [] ≡ c ∷ [] → c < 0x1_0000
@@ -35,7 +35,7 @@ module _ (tables : AcceptedIndexes) where
   pair_form lead trail c byte byte' scalar e =
       let both = found (is_shift_jis_lead lead) (shift_jis_pair_scalars tables.flat.jis0208 lead trail) c e in (
         scalar_below tables.flat.jis0208 (shift_jis_pointer lead trail) c (jis0208-below tables.flat tables.accepted) both.1,
-        pair (λ flat. shift_jis flat.jis0208) is_shift_jis_lead shift_jis_first (λ flat. shift_jis_pair_scalars flat.jis0208) shift_jis_codec tables lead trail c
+        pair shift_jis_codec tables lead trail c
             byte byte' scalar both.0 both.1,
       )
 

@@ -1,5 +1,5 @@
 -- The steps of the ISO-2022-JP decoder, as the decoders' loop sees them.
-use Rattle.std.specs.Prelude.{ℕ, ◌+◌, ◌-◌, ◌<◌, List, [], ◌∷◌, Bool, true, false, Option, Some, None, length}
+use Rattle.std.specs.Prelude.{ℕ, ◌+◌, ◌-◌, ◌<◌, List, [], ◌∷◌, Bool, true, false, length}
 use Rattle.std.specs.Char.{IsScalar}
 use Rattle.legacy_base.specs.declared.results.DecodeEvent.{DecodeEvent}
 use Rattle.legacy_base.specs.declared.results.DecodeEvent.TheVariants.{Scalar, Bad}
@@ -48,11 +48,6 @@ fed_by Leaves back = Fault 1 back true
 -- what the loop gets from a step
 abbrev pub fed_of : Outcome → Fed
 fed_of o = fed_by o.action (length (bytes_of o.held))
-
--- what the loop gets at the end of the input: one malformed byte, and the number of bytes still held back
-abbrev pub report_of : Option (Mode × Held) → Option (ℕ × ℕ)
-report_of None = None
-report_of (Some o) = Some (1, length (bytes_of o.1))
 
 -- the number of input bytes that the held-back bytes count as in a length; a whole escape counts as one
 abbrev pub weight_of : Held → ℕ

@@ -13,7 +13,7 @@ use Rattle.legacy_tables.specs.AcceptedTables.{AcceptedTable}
 use Rattle.legacy_base.specs.Grammar.{single_byte}
 use Rattle.legacy_tables.proofs.AcceptedTable.{table-below, table-scalars}
 use Rattle.legacy_decoder_engine.specs.Ahead.{Runs, IsSingle, HasAscii, Writes, ReadsAhead}
-use Rattle.legacy_single_byte.specs.ByteEntries.{IsByteEntry, AreByteEntries}
+use Rattle.legacy_single_byte.specs.ByteEntries.{IsByteEntry}
 use Rattle.legacy_decoder_engine.proofs.RunForms.{single_runs, has_ascii, ascii_is, past_ascii}
 use Rattle.legacy_decoder_engine.proofs.JoinedRuns.{reads_written}
 use Rattle.legacy_decoder_engine.proofs.WrittenRuns.{all_short, short, runs_none, runs_more, writes_ascii, writes_one}
@@ -152,6 +152,3 @@ set_more P entries at e here before is k h = elim (cases_lt k at) [
       let same : k ≡ at = omega arith in
       subst (λ n. P n (get_or (set entries at e) n 0)) (sym same) (subst (P at) (sym (get_or-set_same entries at e 0 here)) is)
 ]
-
-pub entries_more : (table entries : List ℕ) (at e : ℕ) → at < length entries → AreByteEntries table entries at → IsByteEntry table at e → AreByteEntries table (set entries at e) (at + 1)
-entries_more table entries at e here before is = set_more (IsByteEntry table) entries at e here before is

@@ -3,5 +3,4 @@ use Rattle.legacy_decoder_engine.proofs.lead.LeadDecoderDecoderMoves.is_lone.Goa
 
 pub returns-in-None : goal.returns-in-None
 returns-in-None g c t =
-    rw c.in-None.is (lone g.C.LaneCodec.grammar g.C.LeadCodec.is_lead g.C.LeadCodec.first g.C.LeadCodec.scalars g.met.C.LeadCodec.codec g.C.LeadCodec.byte_of g.met.C.LeadCodec.leads
-    c.args.self.now.tables.now c.args.byte (c.is_fault.ensures t))
+    rw c.in-None.is (lone g.met.C.LeadCodec.codec g.met.C.LeadCodec.leads c.args.self.now.tables.now c.args.byte (c.is_fault.ensures t))

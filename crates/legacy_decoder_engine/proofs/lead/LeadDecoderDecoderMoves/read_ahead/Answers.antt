@@ -11,6 +11,5 @@ returns-then-is_some g c =
 
 pub returns-in-None : goal.returns-in-None
 returns-in-None g c =
-    let is = idle g.C.LaneCodec.grammar g.C.LeadCodec.is_lead g.C.LeadCodec.first g.C.LeadCodec.scalars g.met.C.LeadCodec.codec g.C.LeadCodec.byte_of g.met.C.LeadCodec.leads
-    c.args.self.now.tables.now c.args.self.now.held (sym c.is_some.ensures ∙ c.if-is_some.false) in
+    let is = idle g.met.C.LeadCodec.codec g.met.C.LeadCodec.leads c.args.self.now.tables.now c.args.self.now.held (sym c.is_some.ensures ∙ c.if-is_some.false) in
     reads_idle is (c.read_ascii.ensures.ahead _ is.ascii)

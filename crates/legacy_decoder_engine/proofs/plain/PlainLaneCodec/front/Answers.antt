@@ -1,9 +1,7 @@
 use Rattle.std.proofs.Common.{◌<◌, ◌^◌, arith}
 use Rattle.legacy_tables.specs.Tables.{index_list}
 use Rattle.legacy_base.specs.LeadForms.{pair_scalars}
-use Rattle.legacy_base.specs.Grammar.{plain}
 use Rattle.legacy_tables.proofs.Accepted.{narrow_index}
-use Rattle.legacy_decoder_engine.specs.LeadMachines.{lead_first}
 use Rattle.legacy_decoder_engine.proofs.PairPlaces.{found}
 use Rattle.legacy_decoder_engine.proofs.PlainShown.{scalars_below}
 use Rattle.legacy_decoder_engine.proofs.LeadHeld.{pair}
@@ -18,6 +16,5 @@ returns-in-Some g c =
     let byte' : c.args.trail < 2 ^ 8 = omega arith in
     let both = found (codec.leads c.args.lead) (pair_scalars codec.pointers index c.args.lead c.args.trail) c.in-Some.scalar c.in-Some.ensures.value in (
       scalars_below index (narrow_index tables.flat tables.accepted codec.INDEX g.met.C.PlainCodec.narrow).0 (codec.pointers c.args.lead c.args.trail) c.in-Some.scalar both.1,
-      pair (λ flat. plain codec.leads codec.pointers (index_list flat codec.INDEX)) codec.leads (lead_first codec.leads) (λ flat. pair_scalars codec.pointers (index_list flat codec.INDEX))
-          g.met.C.PlainCodec.codec tables c.args.lead c.args.trail c.in-Some.scalar byte byte' c.in-Some.ensures.scalar both.0 both.1,
+      pair g.met.C.PlainCodec.codec tables c.args.lead c.args.trail c.in-Some.scalar byte byte' c.in-Some.ensures.scalar both.0 both.1,
     )
