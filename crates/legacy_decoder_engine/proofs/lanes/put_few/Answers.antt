@@ -21,7 +21,8 @@ pub put-requires : goal.put-requires
 put-requires g c =
     let i = c.loop-count.invariant in
     let u = c.from_u32_unchecked.ensures ∙ c.from.ensures in
-    three_fit g.T.Destination.form c.from_u32_unchecked.result _ (narrow c.args.units.now c.loop-count.count c.from_u32_unchecked.result c.type_inv.units u) (omega (arith, i.room, c.requires.room, c.requires.most, c.loop-count-test.true))
+    three_fit g.T.Destination.form c.from_u32_unchecked.result _ (narrow c.args.units.now c.loop-count.count c.from_u32_unchecked.result c.type_inv.units u)
+    (omega (arith, i.room, c.requires.room, c.requires.most, c.loop-count-test.true))
 
 pub loop-count-preserved : goal.loop-count-preserved
 loop-count-preserved g c =
@@ -41,8 +42,18 @@ loop-count-preserved g c =
           let before = i.writes grammar codes long forms in
           let form = forms l.count (omega (arith, below, c.requires.most)) c.if-units-count-ne0.true in
           let more = form_more l.count codes (omega (arith, below, c.requires.most, long)) in (
-            omega (arith, before.0, form.counted, c.form_length-long.ensures, ap length more, length-append (forms_of (take l.count codes)) (form_of (get_or codes l.count 0))),
+            omega (
+              arith,
+              before.0,
+              form.counted,
+              c.form_length-long.ensures,
+              ap length more,
+              length-append (forms_of (take l.count codes))
+                  (form_of (get_or codes l.count 0)),
+            ),
             subst (λ bytes. Writes T grammar bytes c.args.dst.now c.put.new.self) more
-                (writes_then T before.1 (writes_put T (form_of (get_or codes l.count 0)) c.from_u32_unchecked.result (subst (λ x. Runs grammar (form_of (get_or codes l.count 0)) (x ∷ [])) (sym u) form.runs) e.contents e.room e.loan)),
+                (writes_then T before.1
+                (writes_put T (form_of (get_or codes l.count 0)) c.from_u32_unchecked.result
+                (subst (λ x. Runs grammar (form_of (get_or codes l.count 0)) (x ∷ [])) (sym u) form.runs) e.contents e.room e.loan)),
           );
     }

@@ -12,7 +12,8 @@ pub returns-then-has_singles-clause-writes : goal.returns-then-has_singles-claus
 returns-then-has_singles-clause-writes g c = writes_none g.T.Destination (g.C.LaneCodec.grammar c.args.tables.now.flat) c.args.dst.now
 
 pub pick_forms-count-requires-clause-past : goal.pick_forms-count-requires-clause-past
-pick_forms-count-requires-clause-past g c i h = c.past_ascii-past.ensures i h ∙ ap (λ (b : ℕ). cond {A = ℕ} (ltb b 128) 0 1) (front_chunk c.args.block.now i h)
+pick_forms-count-requires-clause-past g c i h =
+    c.past_ascii-past.ensures i h ∙ ap (λ (b : ℕ). cond {A = ℕ} (ltb b 128) 0 1) (front_chunk c.args.block.now i h)
 
 pub returns-clause-writes : goal.returns-clause-writes
 returns-clause-writes g c =

@@ -11,4 +11,6 @@ pub read_one-requires : goal.read_one-requires
 read_one-requires g c = c.begins_rare.ensures c.args.forms.now.tables.now
 
 pub returns : goal.returns
-returns g c = subst (λ grammar. ReadsAhead g.T.Destination (new_state grammar) c.args.src.now c.read_blocks.result c.args.dst.now c.read_blocks.new.dst) c.requires c.read_blocks.ensures
+returns g c =
+    subst (λ grammar. ReadsAhead g.T.Destination (new_state grammar) c.args.src.now c.read_blocks.result c.args.dst.now c.read_blocks.new.dst)
+    c.requires c.read_blocks.ensures

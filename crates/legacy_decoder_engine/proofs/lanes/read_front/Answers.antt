@@ -17,5 +17,8 @@ returns g c =
     let within : most ≤ length src = omega (arith, c.min-most.ensures) in
     let long : length part ≡ most = length-take-le most src within in
     let same : take r c.padded.result ≡ take r src =
-    sym (take-take r most c.padded.result e.limit) ∙ ap (take r) (ap (λ n. take n c.padded.result) (sym long) ∙ c.padded.ensures) ∙ take-take r most src e.limit in
-    reads_front (omega (arith, e.limit, within)) (subst (λ bytes. Writes g.T.Destination (g.C.LaneCodec.grammar c.args.tables.now.flat) bytes c.args.dst.now c.read_block-2.new.dst) same e.writes) e.slack e.had
+    sym (take-take r most c.padded.result e.limit) ∙ ap (take r)
+    (ap (λ n. take n c.padded.result) (sym long) ∙ c.padded.ensures) ∙ take-take r most src e.limit in
+    reads_front (omega (arith, e.limit, within))
+    (subst (λ bytes. Writes g.T.Destination (g.C.LaneCodec.grammar c.args.tables.now.flat) bytes c.args.dst.now c.read_block-2.new.dst) same e.writes)
+    e.slack e.had

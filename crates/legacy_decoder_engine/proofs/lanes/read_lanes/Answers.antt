@@ -14,7 +14,14 @@ loop-codes-init g c = reads_none g.T.Destination (new_state (g.C.LaneCodec.gramm
 pub loop-codes-smaller : goal.loop-codes-smaller
 loop-codes-smaller g c =
     let at = c.loop-codes.at in
-    omega (arith, c.if-read-eq0.false, c.read_front-read.ensures.within, length-take (length c.args.src.now - at) (drop at c.args.src.now), length-drop at c.args.src.now)
+    omega (
+      arith,
+      c.if-read-eq0.false,
+      c.read_front-read.ensures.within,
+      length-take (length c.args.src.now - at)
+          (drop at c.args.src.now),
+      length-drop at c.args.src.now,
+    )
 
 pub loop-codes-preserved : goal.loop-codes-preserved
 loop-codes-preserved g c = reads_more c.loop-codes.invariant c.read_front-read.ensures

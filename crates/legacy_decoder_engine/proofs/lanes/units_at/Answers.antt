@@ -19,6 +19,7 @@ returns-clause-forms g c k h some =
     let room : k < 64 - at = omega (arith, h, c.requires.eight) in
     let kept = get_or-take 8 _ k 0 h ∙ get_from at (64 - at) lanes.kept k room in
     let place = get_from at (64 - at) lanes.places k room in
-    is_form (g.C.LaneCodec.grammar c.args.tables.now.flat) c.requires.ascii entries g.C.LaneCodec.place c.requires.pairs code _ (get_or lanes.places (at + k) 0) (get_or c.entries_at.result k 0) (get_or c.chosen.result k 0) small
+    is_form (g.C.LaneCodec.grammar c.args.tables.now.flat) c.requires.ascii entries g.C.LaneCodec.place c.requires.pairs code _
+    (get_or lanes.places (at + k) 0) (get_or c.entries_at.result k 0) (get_or c.chosen.result k 0) small
     (c.chosen.ensures.small k h) (subst (λ n. IsLane g.C.LaneCodec.place code n (get_or lanes.places (at + k) 0)) (sym kept) (c.requires.lanes k h))
     (c.requires.within k h) (λ z. c.entries_at.ensures k h z ∙ ap (λ p. get_or entries p 0) place) (c.chosen.ensures.lanes k h) some

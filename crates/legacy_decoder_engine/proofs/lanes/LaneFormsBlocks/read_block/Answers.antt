@@ -4,7 +4,8 @@ use Rattle.legacy_decoder_engine.proofs.WrittenRuns.{reads_none}
 use Rattle.legacy_decoder_engine.proofs.lanes.LaneFormsBlocks.read_block.Goals as goal
 
 pub returns-then-begins_rare-clause-ahead : goal.returns-then-begins_rare-clause-ahead
-returns-then-begins_rare-clause-ahead g c = reads_none g.T.Destination (new_state (g.C.LaneCodec.grammar c.args.self.now.tables.now.flat)) c.args.src.now c.args.dst.now
+returns-then-begins_rare-clause-ahead g c =
+    reads_none g.T.Destination (new_state (g.C.LaneCodec.grammar c.args.self.now.tables.now.flat)) c.args.src.now c.args.dst.now
 
 pub read_lanes-requires : goal.read_lanes-requires
 read_lanes-requires g c = c.begins_rare.ensures c.args.self.now.tables.now

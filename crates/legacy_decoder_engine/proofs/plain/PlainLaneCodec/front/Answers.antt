@@ -15,6 +15,7 @@ returns-in-Some g c =
     let byte : c.args.lead < 2 ^ 8 = omega arith in
     let byte' : c.args.trail < 2 ^ 8 = omega arith in
     let both = found (codec.leads c.args.lead) (pair_scalars codec.pointers index c.args.lead c.args.trail) c.in-Some.scalar c.in-Some.ensures.value in (
-      scalars_below index (narrow_index tables.flat tables.accepted codec.INDEX g.met.C.PlainCodec.narrow).0 (codec.pointers c.args.lead c.args.trail) c.in-Some.scalar both.1,
+      scalars_below index (narrow_index tables.flat tables.accepted codec.INDEX g.met.C.PlainCodec.narrow).0
+          (codec.pointers c.args.lead c.args.trail) c.in-Some.scalar both.1,
       pair g.met.C.PlainCodec.codec tables c.args.lead c.args.trail c.in-Some.scalar byte byte' c.in-Some.ensures.scalar both.0 both.1,
     )

@@ -5,4 +5,6 @@ use Rattle.legacy_chinese.proofs.gb18030.fours.Gb18030LaneCodec.places.Goals as 
 
 pub returns : goal.returns
 unfolding lead_place gb18030_trail_place
-returns c = c.place_sums.ensures (λ code. lead_place (code % 256)) (λ code. gb18030_trail_place (code / 256)) c.args.codes c.lead_places.ensures c.trail_places.ensures
+returns c =
+    c.place_sums.ensures (λ code. lead_place (code % 256)) (λ code. gb18030_trail_place (code / 256)) c.args.codes c.lead_places.ensures
+    c.trail_places.ensures

@@ -6,4 +6,5 @@ pub returns-in-Some : goal.returns-in-Some
 returns-in-Some c =
     let byte : c.args.first < 2 ^ 8 = omega arith in
     let byte' : c.args.second < 2 ^ 8 = omega arith in
-    unit_scalar c.args.self.now.big_endian c.args.first c.args.second c.from.result byte byte' (c.from.ensures ∙ c.unit.ensures) (Some c.in-Some.scalar) c.in-Some.ensures.value
+    unit_scalar c.args.self.now.big_endian c.args.first c.args.second c.from.result byte byte' (c.from.ensures ∙ c.unit.ensures)
+    (Some c.in-Some.scalar) c.in-Some.ensures.value
