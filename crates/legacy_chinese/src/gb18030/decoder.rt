@@ -23,6 +23,7 @@ use legacy_decoder_engine::runs::read_ascii;
 use legacy_decoder_engine::trail::unmapped;
 use legacy_decoder_engine::two_byte::fault_through;
 use legacy_tables::DecoderTables;
+use std::cell::Cell;
 
 /// The held-back bytes: the first bytes of a sequence, or the bytes after a malformed lead.
 #[derive(Clone, Copy)]
@@ -56,6 +57,8 @@ pub(crate) enum Held {
 pub struct Gb18030Decoder<'a> {
     pub(crate) tables: &'a Tables<'a>,
     held: Held,
+    /// The place of the last range that was used. The next sequence of four bytes tries it first.
+    guess: Cell<usize>,
 }
 
 /// Returns the scalar of a lead and a trail, or `None` if they have no entry.
@@ -204,6 +207,7 @@ impl<'a> Gb18030Decoder<'a> {
         Gb18030Decoder {
             tables,
             held: Held::Nothing,
+            guess: Cell::new(0),
         }
     }
 
@@ -291,7 +295,7 @@ impl DecoderMoves for Gb18030Decoder<'_> {
             return 0;
         }
         match self.tables.flat() {
-            Some(tables) => read_flat(tables, src, dst),
+            Some(tables) => read_flat(tables, &self.guess, src, dst),
             None => read_ascii(src, dst),
         }
     }

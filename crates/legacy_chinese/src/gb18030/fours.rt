@@ -125,7 +125,7 @@ impl Forms for Gb18030Blocks<'_, '_> {
 #[derive(Drop)]
 struct Gb18030Blocks<'a, 'b> {
     tables: &'a FlatTables<'b>,
-    guess: Cell<usize>,
+    guess: &'a Cell<usize>,
 }
 
 /// What is read ahead besides sequences of four bytes: ASCII and pairs.
@@ -208,16 +208,18 @@ impl Blocks for Gb18030Blocks<'_, '_> {
 
 /// Reads ASCII, common sequences and sequences of four bytes from the front of `src`, if nothing is held back.
 ///
-/// It reads while three code units more than a sequence needs are free.
-/// Returns the number of bytes read, which may be 0.
+/// It reads while three code units more than a sequence needs are free. It tries the range at the place `guess` first,
+/// and leaves there the place of the last range used. Returns the number of bytes read, which may be 0.
 #[inline(always)]
-pub(super) fn read_flat<T: Destination>(tables: &FlatTables<'_>, src: &[u8], dst: &mut T) -> usize
+pub(super) fn read_flat<T: Destination>(
+    tables: &FlatTables<'_>,
+    guess: &Cell<usize>,
+    src: &[u8],
+    dst: &mut T,
+) -> usize
     ensures { ReadsAhead T.Destination (new_state (gb18030 tables.now.flat.gb18030
         tables.now.flat.ranges)) src.now result dst.old dst.new }
 {
-    let blocks = Gb18030Blocks {
-        tables,
-        guess: Cell::new(0),
-    };
+    let blocks = Gb18030Blocks { tables, guess };
     read_common(&LaneForms::<Gb18030>::new(tables), &blocks, src, dst)
 }
