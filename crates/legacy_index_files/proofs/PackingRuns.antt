@@ -5,13 +5,14 @@ use Rattle.std.proofs.lemmas.List.{get_or_past, get_or_append_left, get_or_push,
 use Rattle.std.proofs.Common.{eq-eqb}
 use Rattle.std.specs.Option.{option_or, option_eq}
 use borrow.Author.Tests.{le-leb, lt-ltb}
+use Rattle.legacy_tables.specs.declared.tables.packed.PackedPart.{PackedPart}
 use Rattle.legacy_tables.specs.declared.tables.packed.Run.{Run}
 use Rattle.legacy_tables.specs.Indexes.{idx}
 use Rattle.legacy_tables.specs.Runs.{run_end, run_scalar, runs_scalar, is_run_in_order, run_fault_from, run_fault}
-use Rattle.legacy_tables.specs.Packed.{differs_at, run_difference}
+use Rattle.legacy_tables.specs.Packed.{differs_at, run_difference, runs_fault}
 use Rattle.legacy_tables.proofs.FirstPlaces.{find-none}
 use Rattle.legacy_tables.proofs.PackedRuns.{outside-before, outside-behind}
-use Rattle.legacy_index_files.specs.Packing.{AreBelow, GivesIndex, AreLongest}
+use Rattle.legacy_index_files.specs.Packing.{AreBelow, AreLongest}
 
 -- ---- one more run
 
@@ -54,37 +55,30 @@ inside run p h l = rw (le-leb run.pointer p h, lt-ltb p (run_end run) l) refl
 
 -- ---- the longest runs of the pointers below p
 
--- The runs end at p or earlier. If the last one ends at p, the pointer p does not continue it.
-pub record AreLongestBelow (p : ℕ) (index : List ℕ) (runs : List Run) : Type 0 where
+-- The runs end at p or earlier. If the last one ends at p, before `end`, the pointer p does not continue it.
+pub record AreLongestBelow (end p : ℕ) (index : List ℕ) (runs : List Run) : Type 0 where
   pub longest : AreLongest runs
   pub reach : (i : ℕ) (d : Run) → i < length runs → run_end (get_or runs i d) ≤ p
-  pub stops : (i : ℕ) (d : Run) → i + 1 ≡ length runs → run_end (get_or runs i d) ≡ p → p < length index →
+  pub stops : (i : ℕ) (d : Run) → i + 1 ≡ length runs → run_end (get_or runs i d) ≡ p → p < end →
       (get_or runs i d).scalar + (get_or runs i d).length ≢ get_or index p 0
 
-pub none-longest : (index : List ℕ) → AreLongestBelow 0 index []
-none-longest index = record {
+pub none-longest : (end : ℕ) (index : List ℕ) → AreLongestBelow end 0 index []
+none-longest end index = record {
   longest = record { ends = λ i d h. absurd (omega arith) };
   reach = λ i d h. absurd (omega arith);
   stops = λ i d h. absurd (omega arith);
 }
 
-module _ (p : ℕ) (index : List ℕ) (runs : List Run) (so_far : AreLongestBelow p index runs) where
-  pub longest-skipped : AreLongestBelow (p + 1) index runs
-  longest-skipped = record {
-    longest = so_far.longest;
-    reach = λ i d h. let l = so_far.reach i d h in omega arith;
-    stops = λ i d h e. let l = so_far.reach i d (omega arith) in absurd (omega arith);
-  }
-
-  module _ (run : Run) (starts : run.pointer ≡ p) (scalar : run.scalar ≡ get_or index p 0) (within : p + run.length ≤ length index) (some : 0 < run.length)
-      (longest : p + run.length < length index → get_or index (p + run.length) 0 ≢ get_or index p 0 + run.length) where
+module _ (end p : ℕ) (index : List ℕ) (runs : List Run) (so_far : AreLongestBelow end p index runs) where
+  module _ (run : Run) (starts : run.pointer ≡ p) (scalar : run.scalar ≡ get_or index p 0) (within : p + run.length ≤ end) (some : 0 < run.length)
+      (longest : p + run.length < end → get_or index (p + run.length) 0 ≢ get_or index p 0 + run.length) where
     before : (i : ℕ) (d : Run) → i < length runs → get_or (runs ++ run ∷ []) i d ≡ get_or runs i d
     before i d h = get_or_append_left runs (run ∷ []) d i h
 
     last : (i : ℕ) (d : Run) → length runs ≡ i → get_or (runs ++ run ∷ []) i d ≡ run
     last i d e = get_or_push runs run d i e
 
-    pub longest-added : AreLongestBelow (p + run.length) index (runs ++ run ∷ [])
+    pub longest-added : AreLongestBelow end (p + run.length) index (runs ++ run ∷ [])
     longest-added = record {
       longest = record {
         ends = λ i d h. let more = length_push runs run in elim (cases_lt (i + 1) (length runs)) [
@@ -115,20 +109,6 @@ unfolding run_fault_from end_from
 no-runs limit index = record { ordered = λ b. refl; ends = omega arith; gives = λ k h. absurd (omega arith); nothing_more = λ k h. refl }
 
 module _ (limit p : ℕ) (index : List ℕ) (runs : List Run) (so_far : AreRunsBelow limit p index runs) where
-  entry_none : (k : ℕ) → get_or index k 0 ≡ 0 → idx index k ≡ None
-  entry_none k e = rw e refl
-
-  pub pointer-skipped : get_or index p 0 ≡ 0 → AreRunsBelow limit (p + 1) index runs
-  pointer-skipped e = record {
-    ordered = so_far.ordered;
-    ends = let h = so_far.ends in omega arith;
-    gives = λ k h. elim (cases_lt k p) [
-      | inl l ↦ so_far.gives k l
-      | inr l ↦ let same : k ≡ p = omega arith in rw same (so_far.nothing_more p (omega arith) ∙ sym (entry_none p e))
-    ];
-    nothing_more = λ k h. so_far.nothing_more k (omega arith);
-  }
-
   module _ (run : Run) (starts : run.pointer ≡ p) (scalar : run.scalar ≡ get_or index p 0) (mapped : get_or index p 0 ≢ 0) (some : 0 < run.length) (reach : p + run.length ≤ limit)
       (row : (k : ℕ) → k < run.length → get_or index (p + k) 0 ≡ get_or index p 0 + k) where
     in_order : AreBelow 0x11_0000 index → is_run_in_order (end_from 0 runs) limit run ≡ true
@@ -175,9 +155,6 @@ module _ (limit p : ℕ) (index : List ℕ) (runs : List Run) (so_far : AreRunsB
     | inr h ↦ rw (so_far.nothing_more k h, get_or_past index k 0 (omega arith)) refl
   ]
 
-  pub runs-made : length index ≤ p → GivesIndex limit index runs
+  pub runs-made : length index ≤ p → AreBelow 0x11_0000 index → (part : PackedPart) → runs_fault part limit runs index ≡ None
   unfolding run_difference
-  runs-made all = record {
-    accepted = λ below part.
-        rw (so_far.ordered below, find-none (differs_at runs index) 0 limit (λ k l h. no_difference all k)) refl;
-  }
+  runs-made all below part = rw (so_far.ordered below, find-none (differs_at runs index) 0 limit (λ k l h. no_difference all k)) refl

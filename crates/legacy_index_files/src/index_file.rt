@@ -126,8 +126,5 @@ pub fn read_katakana(alloc: Global, text: &[u8]) -> Result<Vec<u16>, IndexFileEr
         Ok(length) => length,
         Err(line) => return Err(IndexFileError::Line(line)),
     };
-    match read_narrow(alloc, EncoderIndex::Katakana, length, text) {
-        Ok(values) => Ok(values),
-        Err(_) => Err(IndexFileError::Memory),
-    }
+    read_narrow(alloc, EncoderIndex::Katakana, length, text).map_err(|_| IndexFileError::Memory)
 }

@@ -8,8 +8,8 @@ pub(crate) mod orders;
 pub(crate) mod runs;
 
 use legacy_tables::{Indexes, Packed, Run};
-use orders::all_orders;
-use runs::all_runs;
+use orders::add_orders;
+use runs::packed_runs;
 use std::alloc::{AllocError, Global};
 
 /// Packed indexes with their memory, one field for each part of `legacy_tables::Packed`.
@@ -71,22 +71,11 @@ impl OwnedPacked {
 ///
 /// The time is near linear. Runs need one pass over each index. An order needs one pass over its
 /// index and one over all scalar values up to U+FFFF (U+2FFFF for Big5). While an order is made, a
-/// table has 4 bytes for each of these scalar values.
+/// list has 2 bytes for each of these scalar values.
 pub fn pack(alloc: Global, indexes: &Indexes<'_>) -> Result<OwnedPacked, AllocError>
     ensures { IfOk result (IsPackOf (flat_indexes indexes.now)) }
 {
-    let runs = all_runs(alloc, indexes)?;
-    let orders = all_orders(alloc, indexes)?;
-    Ok(OwnedPacked {
-        big5: runs.big5,
-        euc_kr: runs.euc_kr,
-        jis0208: runs.jis0208,
-        jis0212: runs.jis0212,
-        gb18030: runs.gb18030,
-        big5_order: orders.big5,
-        euc_kr_order: orders.euc_kr,
-        shift_jis_order: orders.shift_jis,
-        euc_jp_order: orders.euc_jp,
-        gb18030_order: orders.gb18030,
-    })
+    let mut packed = packed_runs(alloc, indexes)?;
+    add_orders(alloc, indexes, &mut packed)?;
+    Ok(packed)
 }

@@ -15,7 +15,10 @@ use Rattle.legacy_tables.specs.declared.tables.IndexName.{IndexName}
 use Rattle.legacy_tables.specs.declared.tables.IndexName.TheVariants as names
 use Rattle.legacy_tables.specs.declared.tables.TableError.{TableError}
 use Rattle.legacy_tables.specs.declared.tables.TableError.TheVariants.{TooLong, BadEntry, NotEmpty, KatakanaLength, RangeOrder, RangeValue}
+use Rattle.legacy_tables.specs.declared.tables.packed.PackedPart.{PackedPart}
+use Rattle.legacy_tables.specs.declared.tables.packed.PackedPart.TheVariants as packed
 use Rattle.legacy_tables.specs.Indexes.{FlatIndexes, entry_scalar, idx, range, last_range_scalar}
+use Rattle.legacy_tables.specs.Walks.{order_index}
 use Rattle.legacy_tables.specs.Unicode.{AreScalars}
 use Rattle.legacy_tables.proofs.FirstPlaces.{both_true, taken}
 use Rattle.legacy_tables.specs.Tables.{index_list, is_narrow_index}
@@ -73,6 +76,19 @@ parts flat e =
       valued = i.0;
       private_use = i.1;
     }
+
+-- no index of pairs is longer than 23940 entries
+pub order_index-short : (flat : FlatIndexes) → AreAccepted flat → (part : PackedPart) → length (order_index flat part) ≤ 23940
+order_index-short flat accepted packed.Big5 = let short = (parts flat accepted).big5.0 in omega arith
+order_index-short flat accepted packed.EucKr = let short = (parts flat accepted).euc_kr.0 in omega arith
+order_index-short flat accepted packed.Jis0208 = let short = (parts flat accepted).jis0208.0 in omega arith
+order_index-short flat accepted packed.Jis0212 = let short = (parts flat accepted).jis0212.0 in omega arith
+order_index-short flat accepted packed.Gb18030 = let short = (parts flat accepted).gb18030.0 in omega arith
+order_index-short flat accepted packed.Big5Order = let short = (parts flat accepted).big5.0 in omega arith
+order_index-short flat accepted packed.EucKrOrder = let short = (parts flat accepted).euc_kr.0 in omega arith
+order_index-short flat accepted packed.ShiftJisOrder = let short = (parts flat accepted).jis0208.0 in omega arith
+order_index-short flat accepted packed.EucJpOrder = let short = (parts flat accepted).jis0208.0 in omega arith
+order_index-short flat accepted packed.Gb18030Order = let short = (parts flat accepted).gb18030.0 in omega arith
 
 -- ---- entries: 0, and the others that are allowed
 

@@ -32,6 +32,7 @@ use std::marker::Model;
 use thiserror::Error;
 use unpacking::{unpack_narrow, unpack_wide};
 pub use walks::Marks;
+use walks::{shortened, walk};
 
 /// The names of the indexes (Encoding Standard, "Indexes").
 #[derive(Clone, Copy, Debug, PartialEq, Eq)]
@@ -149,6 +150,39 @@ pub struct Indexes<'a> {
     pub gb18030_pua: &'a [(u16, u8, u8)],
 }
 
+impl Indexes<'_> {
+    ghost use Rattle.legacy_tables.specs.Tables.{flat_indexes};
+    ghost use Rattle.legacy_tables.specs.Walks.{IsFilled, order_index};
+    ghost use Rattle.std.specs.Prelude.{◌≤◌, length};
+
+    /// Fills a list with an entry for each scalar value, in one walk over an index of at most 23940 entries.
+    ///
+    /// The entry is the mark of the pointer that the order's codec uses for the scalar value, or 0 if it uses none.
+    /// If the part is no order, the entry is the mark of the first pointer in the part's index.
+    // Inlined, so that a walk contains no code of another codec.
+    #[inline(always)]
+    pub fn fill<M: Marks>(&self, part: PackedPart, marks: &M, entries: &mut [u16])
+        ensures { let index = order_index (flat_indexes self.now) part in
+            length index ≤ 23940 → IsFilled part M.mark index entries.new }
+    {
+        match part {
+            PackedPart::Big5 | PackedPart::Big5Order => {
+                walk(part, marks, &shortened(self.big5), entries)
+            }
+            PackedPart::EucKr | PackedPart::EucKrOrder => {
+                walk(part, marks, &shortened(self.euc_kr), entries)
+            }
+            PackedPart::Jis0208 | PackedPart::ShiftJisOrder | PackedPart::EucJpOrder => {
+                walk(part, marks, &shortened(self.jis0208), entries)
+            }
+            PackedPart::Jis0212 => walk(part, marks, &shortened(self.jis0212), entries),
+            PackedPart::Gb18030 | PackedPart::Gb18030Order => {
+                walk(part, marks, &shortened(self.gb18030), entries)
+            }
+        }
+    }
+}
+
 /// Indexes that passed the check, in either form.
 #[derive(Drop)]
 enum KeptTables<'a> {
@@ -164,6 +198,16 @@ enum KeptTables<'a> {
 #[derive(Drop)]
 pub struct Tables<'a> {
     kept: KeptTables<'a>,
+}
+
+/// Evaluates an expression with the tables in the form in which they are kept.
+macro_rules! match_kept {
+    ($tables:expr, $kept:ident => $value:expr) => {
+        match &$tables.kept {
+            KeptTables::Flat($kept) => $value,
+            KeptTables::Packed($kept) => $value,
+        }
+    };
 }
 
 impl<'a> Model for Tables<'a> {
@@ -261,10 +305,7 @@ impl<'a> Tables<'a> {
     pub fn idx(&self, name: IndexName, pointer: usize) -> Option<char>
         ensures { result ≡ idx (index_list self.now.flat name) pointer }
     {
-        match &self.kept {
-            KeptTables::Flat(tables) => tables.idx(name, pointer),
-            KeptTables::Packed(tables) => tables.idx(name, pointer),
-        }
+        match_kept!(self, tables => tables.idx(name, pointer))
     }
 
     /// Returns the scalar value of a pointer of four bytes, or `None` if it has none.
@@ -274,10 +315,7 @@ impl<'a> Tables<'a> {
     pub fn range(&self, pointer: usize) -> Option<char>
         ensures { result ≡ range self.now.flat.ranges pointer }
     {
-        match &self.kept {
-            KeptTables::Flat(tables) => tables.range(pointer),
-            KeptTables::Packed(tables) => tables.range(pointer),
-        }
+        self.ranges().scalar(pointer)
     }
 
     /// Returns the pointer that the Big5 encoder uses for the scalar value, or `None`.
@@ -290,10 +328,7 @@ impl<'a> Tables<'a> {
         ensures pointer { result ≡ big5_pointer_of self.now.flat.big5 scalar }
         ensures within { IfSome result (λ p. p < 19782) }
     {
-        match &self.kept {
-            KeptTables::Flat(tables) => tables.big5_pointer(scalar),
-            KeptTables::Packed(tables) => tables.big5_pointer(scalar),
-        }
+        match_kept!(self, tables => tables.big5_pointer(scalar))
     }
 
     /// Returns the first pointer of the scalar value in index EUC-KR, or `None` if it has none.
@@ -304,10 +339,7 @@ impl<'a> Tables<'a> {
         ensures pointer { result ≡ euc_kr_pointer_of self.now.flat.euc_kr scalar }
         ensures within { IfSome result (λ p. p < 23940) }
     {
-        match &self.kept {
-            KeptTables::Flat(tables) => tables.euc_kr_pointer(scalar),
-            KeptTables::Packed(tables) => tables.euc_kr_pointer(scalar),
-        }
+        match_kept!(self, tables => tables.euc_kr_pointer(scalar))
     }
 
     /// Returns the pointer that the Shift_JIS encoder uses for the scalar value, or `None`.
@@ -319,10 +351,7 @@ impl<'a> Tables<'a> {
         ensures pointer { result ≡ shift_jis_pointer_of self.now.flat.jis0208 scalar }
         ensures within { IfSome result (λ p. p < 11280) }
     {
-        match &self.kept {
-            KeptTables::Flat(tables) => tables.shift_jis_pointer(scalar),
-            KeptTables::Packed(tables) => tables.shift_jis_pointer(scalar),
-        }
+        match_kept!(self, tables => tables.shift_jis_pointer(scalar))
     }
 
     /// Returns the pointer that the EUC-JP and ISO-2022-JP encoders use for the scalar value, or `None`.
@@ -335,10 +364,7 @@ impl<'a> Tables<'a> {
         ensures pointer { result ≡ euc_jp_pointer_of self.now.flat.jis0208 scalar }
         ensures within { IfSome result (λ p. p < 8836) }
     {
-        match &self.kept {
-            KeptTables::Flat(tables) => tables.euc_jp_pointer(scalar),
-            KeptTables::Packed(tables) => tables.euc_jp_pointer(scalar),
-        }
+        match_kept!(self, tables => tables.euc_jp_pointer(scalar))
     }
 
     /// Returns the first pointer of the scalar value in index gb18030, or `None` if it has none.
@@ -349,10 +375,7 @@ impl<'a> Tables<'a> {
         ensures pointer { result ≡ gb18030_pointer_of self.now.flat.gb18030 scalar }
         ensures within { IfSome result (λ p. p < 23940) }
     {
-        match &self.kept {
-            KeptTables::Flat(tables) => tables.gb18030_pointer(scalar),
-            KeptTables::Packed(tables) => tables.gb18030_pointer(scalar),
-        }
+        match_kept!(self, tables => tables.gb18030_pointer(scalar))
     }
 
     /// Returns the pointer of four bytes that has the scalar value, or `None` if there is none.
@@ -365,10 +388,7 @@ impl<'a> Tables<'a> {
         ensures pointer { result ≡ range_pointer_of self.now.flat.ranges scalar }
         ensures within { IfSome result (λ p. p < 1237576) }
     {
-        match &self.kept {
-            KeptTables::Flat(tables) => tables.range_pointer(scalar),
-            KeptTables::Packed(tables) => tables.range_pointer(scalar),
-        }
+        self.ranges().pointer(scalar)
     }
 
     /// Returns the lead and the trail that a private-use row gives the scalar value.
@@ -379,10 +399,7 @@ impl<'a> Tables<'a> {
     pub fn gb18030_pua_bytes(&self, scalar: char) -> Option<(u8, u8)>
         ensures { result ≡ gb18030_pua_of self.now.flat.gb18030_pua scalar }
     {
-        match &self.kept {
-            KeptTables::Flat(tables) => tables.gb18030_pua_bytes(scalar),
-            KeptTables::Packed(tables) => tables.gb18030_pua_bytes(scalar),
-        }
+        match_kept!(self, tables => tables.gb18030_pua_bytes(scalar))
     }
 }
 
@@ -394,16 +411,9 @@ impl<'a> DecoderTables for Tables<'a> {
         Tables::idx(self, name, pointer)
     }
 
-    fn range(&self, pointer: usize) -> Option<char> {
-        Tables::range(self, pointer)
-    }
-
     #[inline]
     fn ranges(&self) -> Ranges<'_> {
-        match &self.kept {
-            KeptTables::Flat(tables) => tables.ranges(),
-            KeptTables::Packed(tables) => tables.ranges(),
-        }
+        match_kept!(self, tables => tables.ranges())
     }
 
     #[inline]
@@ -442,27 +452,16 @@ impl<'a> EncoderTables for Tables<'a> {
     }
 
     #[inline]
-    fn range_pointer(&self, scalar: char) -> Option<usize> {
-        Tables::range_pointer(self, scalar)
-    }
-
-    #[inline]
     fn gb18030_pua_bytes(&self, scalar: char) -> Option<(u8, u8)> {
         Tables::gb18030_pua_bytes(self, scalar)
     }
 
     fn gb18030_rows(&self) -> &[(u16, u8, u8)] {
-        match &self.kept {
-            KeptTables::Flat(tables) => tables.gb18030_rows(),
-            KeptTables::Packed(tables) => tables.gb18030_rows(),
-        }
+        match_kept!(self, tables => tables.gb18030_rows())
     }
 
     #[inline(always)]
     fn fill<M: Marks>(&self, part: PackedPart, marks: &M, entries: &mut [u16]) {
-        match &self.kept {
-            KeptTables::Flat(tables) => tables.fill(part, marks, entries),
-            KeptTables::Packed(tables) => tables.fill(part, marks, entries),
-        }
+        match_kept!(self, tables => tables.fill(part, marks, entries))
     }
 }

@@ -114,7 +114,7 @@ fn range_bytes_of<V: EncoderTables>(tables: &V, c: char) -> Option<(u8, u8, u8, 
     ensures { option_map (λ four. four.0 ∷ four.1 ∷ four.2 ∷ four.3 ∷ []) result
         ≡ option_map gb18030_range_bytes (range_pointer_of (V.indexes tables.now).flat.ranges c) }
 {
-    match tables.range_pointer(c) {
+    match tables.ranges().pointer(c) {
         Some(pointer) => Some(range_bytes(pointer)),
         None => None,
     }
@@ -131,7 +131,7 @@ fn far_pointer<V: EncoderTables>(tables: &V, near: &mut RangePart, c: char) -> O
     *near = ranges.part_with(c);
     match ranges.pointer_in(*near, c) {
         Some(pointer) => Some(pointer),
-        None => tables.range_pointer(c),
+        None => ranges.pointer(c),
     }
 }
 

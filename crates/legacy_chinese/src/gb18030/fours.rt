@@ -36,7 +36,7 @@ fn far_scalar(blocks: &Gb18030Blocks<'_, '_>, part: &mut RangePart, pointer: usi
     *part = ranges.part_at(place);
     match ranges.scalar_in(*part, pointer) {
         Some(scalar) => Some(scalar),
-        None => blocks.tables.range(pointer),
+        None => ranges.scalar(pointer),
     }
 }
 

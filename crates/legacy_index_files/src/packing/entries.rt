@@ -1,5 +1,5 @@
 //! The entries of a flat index, wide or narrow, read one by one.
-ghost use Rattle.std.specs.Prelude.{◌≡◌, ℕ, ◌<◌, ◌≤◌, List, length, slice_index};
+ghost use Rattle.std.specs.Prelude.{◌≡◌, ℕ, ◌<◌, List, length, slice_index};
 
 /// The entries of a flat index by pointer.
 pub(crate) trait Entries {
@@ -38,17 +38,5 @@ impl<'a> Entries for &'a [u16] {
 
     fn entry(&self, pointer: usize) -> u32 {
         u32::from(self[pointer])
-    }
-}
-
-/// Returns the entries of the pointers below a limit.
-pub(crate) fn below<T>(limit: usize, entries: &[T]) -> &[T]
-    ensures few { length result.now ≤ limit }
-    ensures all { length entries.now ≤ limit → result.now ≡ entries.now }
-{
-    if entries.len() > limit {
-        &entries[..limit]
-    } else {
-        entries
     }
 }

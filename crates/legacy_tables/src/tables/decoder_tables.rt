@@ -1,7 +1,7 @@
 //! The look-ups of decoders in tables.
 ghost use Rattle.std.specs.Prelude.{◌≡◌, IfSome};
 ghost use Rattle.legacy_tables.specs.AcceptedTables.{AcceptedIndexes};
-ghost use Rattle.legacy_tables.specs.Indexes.{idx, range};
+ghost use Rattle.legacy_tables.specs.Indexes.{idx};
 ghost use Rattle.legacy_tables.specs.Tables.{index_list};
 
 use super::{FlatTables, IndexName, Ranges};
@@ -15,10 +15,6 @@ pub trait DecoderTables {
     /// Returns what `Tables::idx` does.
     fn idx(&self, name: IndexName, pointer: usize) -> Option<char>
         ensures { result ≡ idx (index_list (indexes self.now).flat name) pointer };
-
-    /// Returns what `Tables::range` does.
-    fn range(&self, pointer: usize) -> Option<char>
-        ensures { result ≡ range (indexes self.now).flat.ranges pointer };
 
     /// Returns the ranges.
     fn ranges(&self) -> Ranges<'_>

@@ -4,7 +4,7 @@ ghost use Rattle.std.specs.Option.{IfSome};
 ghost use Rattle.legacy_tables.specs.Indexes.{gb18030_pua_of};
 ghost use Rattle.legacy_tables.specs.Pointers.{big5_pointer_of, euc_kr_pointer_of};
 ghost use Rattle.legacy_tables.specs.Pointers.{shift_jis_pointer_of, euc_jp_pointer_of};
-ghost use Rattle.legacy_tables.specs.Pointers.{gb18030_pointer_of, range_pointer_of};
+ghost use Rattle.legacy_tables.specs.Pointers.{gb18030_pointer_of};
 ghost use Rattle.legacy_tables.specs.Walks.{IsFilled, order_index};
 
 use super::{DecoderTables, Marks, PackedPart};
@@ -37,11 +37,6 @@ pub trait EncoderTables: DecoderTables {
         ensures pointer { result
             ≡ gb18030_pointer_of (Self.indexes self.now).flat.gb18030 scalar }
         ensures within { IfSome result (λ p. p < 23940) };
-
-    /// Returns what `Tables::range_pointer` does.
-    fn range_pointer(&self, scalar: char) -> Option<usize>
-        ensures pointer { result ≡ range_pointer_of (Self.indexes self.now).flat.ranges scalar }
-        ensures within { IfSome result (λ p. p < 1237576) };
 
     /// Returns what `Tables::gb18030_pua_bytes` does.
     fn gb18030_pua_bytes(&self, scalar: char) -> Option<(u8, u8)>

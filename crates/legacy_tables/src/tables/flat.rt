@@ -5,7 +5,6 @@ ghost use Rattle.legacy_tables.specs.TableChecks.{AreAccepted};
 
 use super::checks::check_indexes;
 use super::private_use::row_bytes;
-use super::walks::walk;
 use super::{
     DecoderTables, EncoderTables, IndexName, Indexes, Marks, PackedPart, Ranges, TableError,
     lookups, pointers,
@@ -86,10 +85,6 @@ impl<'a> DecoderTables for FlatTables<'a> {
         }
     }
 
-    fn range(&self, pointer: usize) -> Option<char> {
-        lookups::range_scalar(self.given.ranges, pointer)
-    }
-
     #[inline(always)]
     fn ranges(&self) -> Ranges<'_> {
         Ranges::new(self.given.ranges)
@@ -129,11 +124,6 @@ impl<'a> EncoderTables for FlatTables<'a> {
     }
 
     #[inline]
-    fn range_pointer(&self, scalar: char) -> Option<usize> {
-        pointers::range_pointer(self.given.ranges, scalar)
-    }
-
-    #[inline]
     fn gb18030_pua_bytes(&self, scalar: char) -> Option<(u8, u8)> {
         row_bytes(self.given.gb18030_pua, scalar)
     }
@@ -146,20 +136,6 @@ impl<'a> EncoderTables for FlatTables<'a> {
     // Inlined, so that a walk contains no code of another codec.
     #[inline(always)]
     fn fill<M: Marks>(&self, part: PackedPart, marks: &M, entries: &mut [u16]) {
-        match part {
-            PackedPart::Big5 | PackedPart::Big5Order => {
-                walk(part, marks, &self.given.big5, entries)
-            }
-            PackedPart::EucKr | PackedPart::EucKrOrder => {
-                walk(part, marks, &self.given.euc_kr, entries)
-            }
-            PackedPart::Jis0208 | PackedPart::ShiftJisOrder | PackedPart::EucJpOrder => {
-                walk(part, marks, &self.given.jis0208, entries)
-            }
-            PackedPart::Jis0212 => walk(part, marks, &self.given.jis0212, entries),
-            PackedPart::Gb18030 | PackedPart::Gb18030Order => {
-                walk(part, marks, &self.given.gb18030, entries)
-            }
-        }
+        self.given.fill(part, marks, entries)
     }
 }

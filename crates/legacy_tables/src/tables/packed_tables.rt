@@ -13,7 +13,7 @@ use super::unpacking::{unpack_narrow, unpack_wide};
 use super::walks::walk;
 use super::{
     DecoderTables, EncoderTables, IndexName, Indexes, Marks, PackedPart, Ranges, TableError,
-    lookups, pointers,
+    lookups,
 };
 use std::marker::Model;
 
@@ -118,10 +118,6 @@ impl<'a> DecoderTables for PackedTables<'a> {
         }
     }
 
-    fn range(&self, pointer: usize) -> Option<char> {
-        lookups::range_scalar(self.ranges, pointer)
-    }
-
     #[inline(always)]
     fn ranges(&self) -> Ranges<'_> {
         Ranges::new(self.ranges)
@@ -152,11 +148,6 @@ impl<'a> EncoderTables for PackedTables<'a> {
     #[inline]
     fn gb18030_pointer(&self, scalar: char) -> Option<usize> {
         pointer_in_order(&self.runs.gb18030, self.orders.gb18030, scalar as usize)
-    }
-
-    #[inline]
-    fn range_pointer(&self, scalar: char) -> Option<usize> {
-        pointers::range_pointer(self.ranges, scalar)
     }
 
     #[inline]

@@ -6,8 +6,8 @@ ghost use Rattle.legacy_tables.specs.RangeParts.{IsRangePart};
 ghost use Rattle.legacy_tables.specs.TableChecks.{range_order_fault, range_value_fault};
 
 use super::checks::end_of;
-use super::lookups::started_count;
-use super::pointers::ranges_up_to;
+use super::lookups::{range_scalar, started_count};
+use super::pointers::{range_pointer, ranges_up_to};
 
 /// Consecutive pointers of four bytes with consecutive scalar values.
 ///
@@ -63,6 +63,23 @@ impl<'a> Ranges<'a> {
         ensures { result.list.now ≡ list.now }
     {
         Ranges { list }
+    }
+
+    /// Returns what `Tables::range` does.
+    #[inline]
+    pub fn scalar(&self, pointer: usize) -> Option<char>
+        ensures { result ≡ range self.now.list.now pointer }
+    {
+        range_scalar(self.list, pointer)
+    }
+
+    /// Returns what `Tables::range_pointer` does.
+    #[inline]
+    pub fn pointer(&self, scalar: char) -> Option<usize>
+        ensures pointer { result ≡ range_pointer_of self.now.list.now scalar }
+        ensures within { IfSome result (λ p. p < 1237576) }
+    {
+        range_pointer(self.list, scalar)
     }
 
     /// Returns the pointers of the range at a place, or no pointers past the last range.

@@ -70,6 +70,15 @@ fn take_row<M: Marks>(
     }
 }
 
+/// Returns the entries of the pointers below 23940.
+#[inline(always)]
+pub(super) fn shortened<T>(index: &[T]) -> &[T]
+    ensures few { length result.now ≤ 23940 }
+    ensures all { length index.now ≤ 23940 → result.now ≡ index.now }
+{
+    &index[..index.len().min(23940)]
+}
+
 /// Fills a list with the marks of the pointers that the codec uses in an index.
 #[inline(always)]
 pub(super) fn walk<N: Numbers, M: Marks>(

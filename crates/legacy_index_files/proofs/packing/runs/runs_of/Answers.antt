@@ -6,7 +6,7 @@ use Rattle.legacy_index_files.proofs.packing.runs.runs_of.Goals as goal
 pub loop-pointer-init : goal.loop-pointer-init
 loop-pointer-init g c = record {
   within = omega arith;
-  longest = rw c.new-runs.ensures.items (none-longest (g.E.Entries.entries c.args.index.now));
+  longest = rw c.new-runs.ensures.items (none-longest _ (g.E.Entries.entries c.args.index.now));
   runs = rw c.new-runs.ensures.items (no-runs c.args.limit (g.E.Entries.entries c.args.index.now));
 }
 
@@ -18,13 +18,18 @@ loop-pointer-preserved g c =
     record {
       within = omega arith;
       longest = rw c.in_ok-push.ensures.items
-          (longest-added c.loop-pointer.pointer index c.loop-pointer.runs.items c.loop-pointer.invariant.longest run
+          (longest-added _ c.loop-pointer.pointer index c.loop-pointer.runs.items c.loop-pointer.invariant.longest run
           refl c.entry-scalar.ensures (omega arith) c.run_length-length.ensures.some
           (λ l. c.run_length-length.ensures.longest (omega arith)));
       runs = rw c.in_ok-push.ensures.items
           (run-added c.args.limit c.loop-pointer.pointer index c.loop-pointer.runs.items c.loop-pointer.invariant.runs run
-          refl c.entry-scalar.ensures (λ z. c.if-scalar-eq0.false (c.entry-scalar.ensures ∙ z)) c.run_length-length.ensures.some (omega arith) c.run_length-length.ensures.row);
+          refl c.entry-scalar.ensures (λ z. c.if-scalar-eq0.false (c.entry-scalar.ensures ∙ z)) c.run_length-length.ensures.some (omega arith)
+          c.run_length-length.ensures.row);
     }
 
-pub returns-clause-index : goal.returns-clause-index
-returns-clause-index g c = runs-made c.args.limit c.loop-pointer.pointer (g.E.Entries.entries c.args.index.now) c.loop-pointer.runs.items c.loop-pointer.invariant.runs (omega arith)
+pub returns : goal.returns
+returns g c = record {
+  accepted = λ short. let loop = c.loop-pointer in
+      runs-made c.args.limit loop.pointer (g.E.Entries.entries c.args.index.now) loop.runs.items loop.invariant.runs (omega arith);
+  longest = c.loop-pointer.invariant.longest.longest;
+}

@@ -1,18 +1,10 @@
-use Rattle.std.proofs.Common.{arith}
-use Rattle.legacy_tables.proofs.Accepted.{parts}
+use Rattle.std.proofs.Common.{subst}
+use Rattle.legacy_tables.specs.AcceptedTables.{AcceptedIndexes}
+use Rattle.legacy_tables.specs.Walks.{IsFilled, order_index}
+use Rattle.legacy_tables.proofs.Accepted.{order_index-short}
 use Rattle.legacy_tables.proofs.tables.flat.FlatTablesEncoderTables.fill.Goals as goal
 
-pub walk-requires : goal.walk-requires
-walk-requires g c = let short = (parts _ c.self.inside.accepted).big5.0 in omega arith
-
-pub walk-requires-in-EucKr : goal.walk-requires-in-EucKr
-walk-requires-in-EucKr g c = let short = (parts _ c.self.inside.accepted).euc_kr.0 in omega arith
-
-pub walk-requires-in-Jis0208 : goal.walk-requires-in-Jis0208
-walk-requires-in-Jis0208 g c = let short = (parts _ c.self.inside.accepted).jis0208.0 in omega arith
-
-pub walk-requires-in-Jis0212 : goal.walk-requires-in-Jis0212
-walk-requires-in-Jis0212 g c = let short = (parts _ c.self.inside.accepted).jis0212.0 in omega arith
-
-pub walk-requires-in-Gb18030 : goal.walk-requires-in-Gb18030
-walk-requires-in-Gb18030 g c = let short = (parts _ c.self.inside.accepted).gb18030.0 in omega arith
+pub returns : goal.returns
+returns g c =
+    subst (λ (view : AcceptedIndexes). IsFilled c.args.part g.M.Marks.mark (order_index view.flat c.args.part) c.fill.new.entries) c.self.view_is
+    (c.fill.ensures (order_index-short _ c.self.inside.accepted c.args.part))
