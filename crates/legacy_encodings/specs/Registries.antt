@@ -1,5 +1,5 @@
 -- What a registry of encodings does by their names, over the index data that it owns.
-use Rattle.std.specs.Prelude.{◌≡◌, ◌≢◌, ℕ, List, ◌∷◌, length, Option, Some, None, true, find, option_map, bytes_eq}
+use Rattle.std.specs.Prelude.{◌≡◌, ◌≢◌, ◌⊎◌, ℕ, List, ◌∷◌, length, Option, Some, None, true, find, option_map, bytes_eq}
 use Rattle.std.specs.Str.{chars}
 use Rattle.legacy_base.specs.States.{DecoderState}
 use Rattle.legacy_base.specs.Encoders.{EncoderState, encoded}
@@ -109,3 +109,14 @@ abbrev pub IsEncodeError : FlatIndexes → List EncodingTable → List ℕ → R
 IsEncodeError flat tables name (Sized TooLong) = ⊥
 IsEncodeError flat tables name (Sized Memory) = (output : Option EncoderState) × IsEncoderOf flat tables name output
 IsEncodeError flat tables name error = IsNameError tables name error
+
+-- the bytes are a text in the encoding of the second name, whose characters are those of the input in that of the first
+pub record IsTranscoded (flat : FlatIndexes) (tables : List EncodingTable) (from to input bytes : List ℕ) : Type 0 where
+  pub text : List ℕ
+  pub decoded : IsText flat tables from input (chars text)
+  pub encoded : AreBytes flat tables to text bytes
+
+-- the error if an input was not transcoded: it was not decoded, or its text was not encoded
+abbrev pub IsTranscodeError : FlatIndexes → List EncodingTable → List ℕ → List ℕ → List ℕ → RegistryError → Type 0
+IsTranscodeError flat tables from to input error =
+    IsDecodeError flat tables from input error ⊎ ((text : List ℕ) × IsText flat tables from input text × IsEncodeError flat tables to error)

@@ -13,6 +13,7 @@ ghost use Rattle.legacy_encodings.specs.SingleByteFiles.{IsSingleByteFault};
 ghost use Rattle.legacy_encodings.specs.Registries.{entries_of, IsReadTable, HasNoName, IsNameError};
 ghost use Rattle.legacy_encodings.specs.Registries.{IsDecoderOf, IsEncoderOf, LacksTable};
 ghost use Rattle.legacy_encodings.specs.Registries.{IsText, IsDecodeError, AreBytes, IsEncodeError, bytes_by};
+ghost use Rattle.legacy_encodings.specs.Registries.{IsTranscoded, IsTranscodeError};
 
 use crate::coders::{AnyDecoder, AnyEncoder};
 use crate::listed::{ListedEncoder, has_pairs, pair_room};
@@ -270,8 +271,9 @@ impl Coders<'_> {
 
     /// Encodes a text by the encoding of the name, with a reference for each unmappable character.
     ///
-    /// Replacement and UTF-16 encode as UTF-8. The errors are those of `encoder`, and a failed
-    /// allocation.
+    /// Replacement and UTF-16 encode as UTF-8. A text of 1024 bytes or more is encoded with a list
+    /// of the encoding's pairs, which is made for it. The errors are those of `encoder`, and a
+    /// failed allocation of the bytes or of the list. To encode many texts, keep a `ListedEncoder`.
     pub fn encode(&self, alloc: Global, name: &str, text: &str) -> Result<Vec<u8>, RegistryError>
         ensures { MatchResult result
             (λ bytes. AreBytes self.now.tables.flat self.now.single_bytes.now name.now text.now
@@ -283,5 +285,27 @@ impl Coders<'_> {
             Ok(bytes) => Ok(bytes),
             Err(_) => Err(RegistryError::Sized(SizedError::Memory)),
         }
+    }
+
+    /// Decodes an input by the encoding of one name, and encodes its text by that of another.
+    ///
+    /// A malformed sequence becomes U+FFFD, and each character that the new encoding lacks becomes
+    /// a reference. The text is encoded as by `encode`, a long one with a list of the new encoding's
+    /// pairs. The errors are those of `decode` for `from`, and then those of `encode` for `to`.
+    pub fn transcode(
+        &self,
+        alloc: Global,
+        from: &str,
+        to: &str,
+        input: &[u8],
+    ) -> Result<Vec<u8>, RegistryError>
+        ensures { MatchResult result
+            (λ bytes. IsTranscoded self.now.tables.flat self.now.single_bytes.now from.now to.now
+            input.now bytes.items)
+            (λ error. IsTranscodeError self.now.tables.flat self.now.single_bytes.now from.now
+            to.now input.now error) }
+    {
+        let text = self.decode(alloc, from, input)?;
+        self.encode(alloc, to, text.as_str())
     }
 }

@@ -266,6 +266,20 @@ fn places(alloc: Global, coders: &Coders, message: &[u8]) -> Option<(usize, bool
     Some((found.len(), is_so))
 }
 
+/// Checks whether the input gives these bytes by both ways to transcode by names.
+fn transcodes(
+    alloc: Global,
+    coders: &Coders,
+    from: &str,
+    to: &str,
+    input: &[u8],
+    wanted: &[u8],
+) -> bool {
+    let file = transcode_file(alloc, coders, from, to, input);
+    let bytes = coders.transcode(alloc, from, to, input);
+    file.as_deref() == Ok(wanted) && bytes.as_deref() == Ok(wanted)
+}
+
 #[test]
 fn messages_are_checked_and_files_transcoded(rt: HostRuntime) {
     let Ok(registry) = registry_of(rt.alloc()) else {
@@ -276,6 +290,25 @@ fn messages_are_checked_and_files_transcoded(rt: HostRuntime) {
     };
     assert!(rt; places(rt.alloc(), &coders, b"a\x81\x41") == Some((0, true)));
     assert!(rt; places(rt.alloc(), &coders, b"a\xFF\x81") == Some((2, false)));
-    let bytes = transcode_file(rt.alloc(), &coders, "windows-1252", "EUC-KR", b"a\x80");
-    assert_eq!(rt; bytes.as_deref(), Ok(b"a&#8364;".as_slice()));
+    let rows: [(&str, &str, &[u8], &[u8]); 3] = [
+        ("windows-1252", "EUC-KR", b"a\x80", b"a&#8364;"),
+        (
+            "EUC-KR",
+            "x-user-defined",
+            b"\x81\x41\xFF",
+            b"&#44034;&#65533;",
+        ),
+        (
+            "x-user-defined",
+            "UTF-16LE",
+            b"a\x80",
+            "a\u{F780}".as_bytes(),
+        ),
+    ];
+    for (from, to, bytes, wanted) in rows {
+        assert!(rt;
+            transcodes(rt.alloc(), &coders, from, to, bytes, wanted),
+            "{from} {to}"
+        );
+    }
 }
