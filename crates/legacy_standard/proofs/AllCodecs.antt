@@ -9,7 +9,8 @@ use Rattle.legacy_standard.proofs.Iso2022JpHandled.{iso_2022_jp_handled}
 use Rattle.legacy_standard.specs.DecoderLaw as decoders
 use Rattle.legacy_standard.specs.DecoderLaw.{AreDecodedByHandlers}
 use Rattle.legacy_standard.proofs.Iso2022JpEncoded.{iso_2022_jp_encoded}
-use Rattle.legacy_standard.proofs.PlainEncoded.{single_byte_encoded, user_defined_encoded, euc_kr_encoded, big5_encoded, shift_jis_encoded, euc_jp_encoded, gb18030_encoded, gbk_encoded}
+use Rattle.legacy_standard.proofs.PlainEncoded.{single_byte_encoded, user_defined_encoded, euc_kr_encoded, big5_encoded, shift_jis_encoded, euc_jp_encoded}
+use Rattle.legacy_standard.proofs.PlainEncoded.{gb18030_encoded, gbk_encoded}
 use Rattle.legacy_standard.specs.EncoderLaw.{AreEncodedByHandlers}
 use Rattle.legacy_base.specs.Encoders as codecs
 

@@ -1,11 +1,12 @@
 -- The EUC-JP decoder's handler gives the events of its grammar.
-use Rattle.std.proofs.Common.{◌≡◌, ℕ, zero, suc, ◌+◌, ◌-◌, ◌*◌, Bool, cond, List, [], ◌∷◌, None, refl, true, false, arith}
+use Rattle.std.proofs.Common.{◌≡◌, ℕ, zero, suc, ◌+◌, ◌-◌, ◌*◌, Bool, cond, List, [], ◌∷◌, Some, None, refl, true, false, arith}
 use Rattle.std.specs.Prelude.{option_to_list, ◌==◌, ◌&&◌}
 use Rattle.std.specs.Int.{is_in_range}
 use Rattle.std.specs.Char.{is_ascii}
-use Rattle.std.proofs.lemmas.Bool.{cond_both, eqb-true}
+use Rattle.std.proofs.lemmas.Bool.{eqb-true}
 use Rattle.std.proofs.lemmas.Bool.Decides.{nat_tests}
 use Rattle.legacy_base.specs.declared.results.DecodeEvent.{DecodeEvent}
+use Rattle.legacy_base.specs.Fronts.{Front}
 use Rattle.legacy_base.specs.EucJp.{is_euc_jp_lead, euc_jp_scalars, euc_jp_katakana, euc_jp_third, euc_jp_second, euc_jp_pair, euc_jp_front}
 use Rattle.legacy_base.specs.Grammar.{euc_jp, events_of}
 use Rattle.legacy_base.proofs.FrontLaws.{euc_jp_front-of}
@@ -15,7 +16,7 @@ use Rattle.legacy_standard.specs.Queue.{return_or_error}
 use Rattle.legacy_standard.specs.Processing.{process}
 use Rattle.legacy_standard.specs.EucJp.{euc_jp_state, euc_jp_initial, euc_jp_handler}
 use Rattle.legacy_standard.proofs.Turns.{goes_on, error_at_end}
-use Rattle.legacy_standard.proofs.Fronts.{Reads, whole, one, bad_one, returns_scalars, scalars-of, trailing, third_trailing, lead_alone, pair}
+use Rattle.legacy_standard.proofs.Fronts.{Reads, whole, by_test, one, bad_one, returns_scalars, scalars-of, trailing, third_trailing, lead_alone, pair}
 use Rattle.legacy_standard.proofs.OneResult.{Runs, IsDecodedBy}
 
 lead-some : (b : ℕ) → is_euc_jp_lead b ≡ true → (b == 0) ≡ false
@@ -28,64 +29,61 @@ lead-not_8f : (b : ℕ) → is_euc_jp_lead b ≡ true → (b == 0x8F) ≡ false
 lead-not_8f b h = grind (arith, nat_tests)
 
 module _ (jis0208 jis0212 : List ℕ) where
+  abbrev Has : List ℕ → Front → Type 0
+  Has = Reads (euc_jp_handler jis0208 jis0212) euc_jp_initial
+
   -- the scalar of a lead and a trail in an index is the handler's code point
   code-is : (index : List ℕ) (lead t : ℕ) → is_euc_jp_lead lead ≡ true →
       return_or_error (cond (is_in_range 0xA1 0xFE lead && is_in_range 0xA1 0xFE t) (idx index ((lead - 0xA1) * 94 + (t - 0xA1))) None) t euc_jp_initial
-      ≡ returns_scalars (euc_jp_handler jis0208 jis0212) euc_jp_initial (euc_jp_scalars index lead t) t
-  code-is index lead t l = rw l (by_test (is_in_range 0xA1 0xFE t))
+      ≡ returns_scalars euc_jp_initial (euc_jp_scalars index lead t) t
+  code-is index lead t l = rw l (by_trail (is_in_range 0xA1 0xFE t))
     where
-      by_test : (s : Bool) → return_or_error (cond s (idx index ((lead - 0xA1) * 94 + (t - 0xA1))) None) t euc_jp_initial
-          ≡ returns_scalars (euc_jp_handler jis0208 jis0212) euc_jp_initial (cond s (option_to_list (idx index ((lead - 0xA1) * 94 + (t - 0xA1)))) []) t
-      by_test true = scalars-of (euc_jp_handler jis0208 jis0212) euc_jp_initial (idx index ((lead - 0xA1) * 94 + (t - 0xA1))) t
-      by_test false = refl
+      by_trail : (s : Bool) → return_or_error (cond s (idx index ((lead - 0xA1) * 94 + (t - 0xA1))) None) t euc_jp_initial
+          ≡ returns_scalars euc_jp_initial (cond s (option_to_list (idx index ((lead - 0xA1) * 94 + (t - 0xA1)))) []) t
+      by_trail true = scalars-of euc_jp_initial (idx index ((lead - 0xA1) * 94 + (t - 0xA1))) t
+      by_trail false = refl
 
   -- at the end of the queue the jis0212 flag does not matter
   flag_at_end : (place : ℕ) (es : List DecodeEvent) → Runs (euc_jp_handler jis0208 jis0212) euc_jp_initial place 0 [] es →
       Runs (euc_jp_handler jis0208 jis0212) (euc_jp_state true 0) place 0 [] es
   unfolding process euc_jp_handler
-  flag_at_end place es (zero, h) = (zero, h)
-  flag_at_end place es (suc n, h) = (suc n, h)
+  flag_at_end place es h = record { turns = h.turns; run = same h.turns h.run }
+    where
+      same : (n : ℕ) → process (euc_jp_handler jis0208 jis0212) n euc_jp_initial place 0 [] ≡ Some es →
+          process (euc_jp_handler jis0208 jis0212) n (euc_jp_state true 0) place 0 [] ≡ Some es
+      same zero e = e
+      same (suc n) e = e
 
-  katakana-reads : (rest : List ℕ) → Reads (euc_jp_handler jis0208 jis0212) euc_jp_initial (0x8E ∷ rest) (euc_jp_katakana rest)
+  katakana-reads : (rest : List ℕ) → Has (0x8E ∷ rest) (euc_jp_katakana rest)
   unfolding euc_jp_katakana euc_jp_handler
-  katakana-reads [] = lead_alone (euc_jp_handler jis0208 jis0212) euc_jp_initial 0x8E (euc_jp_state false 0x8E) refl refl
+  katakana-reads [] = lead_alone refl refl
   katakana-reads (t ∷ rest) =
-      cond_both (is_katakana_byte t) _ _ (Reads (euc_jp_handler jis0208 jis0212) euc_jp_initial (0x8E ∷ t ∷ rest))
-      (λ h. trailing (euc_jp_handler jis0208 jis0212) euc_jp_initial 0x8E (euc_jp_state false 0x8E) refl t rest (katakana_of t ∷ []) (rw h refl))
-      (λ h. trailing (euc_jp_handler jis0208 jis0212) euc_jp_initial 0x8E (euc_jp_state false 0x8E) refl t rest [] (rw h refl))
+      by_test (is_katakana_byte t) _ _ (λ h. trailing refl (katakana_of t ∷ []) (rw h refl)) (λ h. trailing refl [] (rw h refl))
 
-  third-reads : (t : ℕ) (rest : List ℕ) → is_euc_jp_lead t ≡ true → Reads (euc_jp_handler jis0208 jis0212) euc_jp_initial (0x8F ∷ t ∷ rest) (euc_jp_third jis0212 t rest)
+  third-reads : (t : ℕ) (rest : List ℕ) → is_euc_jp_lead t ≡ true → Has (0x8F ∷ t ∷ rest) (euc_jp_third jis0212 t rest)
   unfolding euc_jp_third euc_jp_handler
   third-reads t [] l =
       let some = lead-some t l in
-      λ place es h.
-      goes_on (euc_jp_handler jis0208 jis0212) euc_jp_initial (euc_jp_state false 0x8F) place 0 0x8F (t ∷ []) _ refl
-      (goes_on (euc_jp_handler jis0208 jis0212) (euc_jp_state false 0x8F) (euc_jp_state true t) place 1 t [] _ (rw l refl)
-      (error_at_end (euc_jp_handler jis0208 jis0212) (euc_jp_state true t) (euc_jp_state true 0) place 2 es (rw some refl) (flag_at_end (place + 2) es h)))
+      record { go = λ place es h. goes_on refl (goes_on (rw l refl) (error_at_end {s = euc_jp_state true t} (rw some refl) (flag_at_end (place + 2) es h))) }
   third-reads t (u ∷ rest) l =
-      third_trailing (euc_jp_handler jis0208 jis0212) euc_jp_initial 0x8F t (euc_jp_state false 0x8F) (euc_jp_state true t) refl (rw l refl) u rest (euc_jp_scalars jis0212 t u)
+      third_trailing refl {r = euc_jp_state true t} (rw l refl) (euc_jp_scalars jis0212 t u)
       (rw (lead-not_8e t l, lead-not_8f t l, lead-some t l) (code-is jis0212 t u l))
 
-  second-reads : (rest : List ℕ) → Reads (euc_jp_handler jis0208 jis0212) euc_jp_initial (0x8F ∷ rest) (euc_jp_second jis0212 rest)
+  second-reads : (rest : List ℕ) → Has (0x8F ∷ rest) (euc_jp_second jis0212 rest)
   unfolding euc_jp_second euc_jp_handler
-  second-reads [] = lead_alone (euc_jp_handler jis0208 jis0212) euc_jp_initial 0x8F (euc_jp_state false 0x8F) refl refl
-  second-reads (t ∷ rest) =
-      cond_both (is_euc_jp_lead t) _ _ (Reads (euc_jp_handler jis0208 jis0212) euc_jp_initial (0x8F ∷ t ∷ rest)) (third-reads t rest)
-      (λ h. trailing (euc_jp_handler jis0208 jis0212) euc_jp_initial 0x8F (euc_jp_state false 0x8F) refl t rest [] (rw h refl))
+  second-reads [] = lead_alone refl refl
+  second-reads (t ∷ rest) = by_test (is_euc_jp_lead t) _ _ (third-reads t rest) (λ h. trailing refl [] (rw h refl))
 
-  euc_jp-reads : (b : ℕ) (rest : List ℕ) → Reads (euc_jp_handler jis0208 jis0212) euc_jp_initial (b ∷ rest) (euc_jp_front jis0208 jis0212 b rest)
+  euc_jp-reads : (b : ℕ) (rest : List ℕ) → Has (b ∷ rest) (euc_jp_front jis0208 jis0212 b rest)
   unfolding euc_jp_front euc_jp_pair euc_jp_handler
   euc_jp-reads b rest =
-      cond_both (is_ascii b) _ _ (Reads (euc_jp_handler jis0208 jis0212) euc_jp_initial (b ∷ rest)) (λ h. one (euc_jp_handler jis0208 jis0212) euc_jp_initial b b rest (rw h refl))
-      (λ h. cond_both (b == 0x8E) _ _ (Reads (euc_jp_handler jis0208 jis0212) euc_jp_initial (b ∷ rest)) (λ k. let is = eqb-true b 0x8E k in rw is (katakana-reads rest))
-      (λ k. cond_both (b == 0x8F) _ _ (Reads (euc_jp_handler jis0208 jis0212) euc_jp_initial (b ∷ rest)) (λ f. let is = eqb-true b 0x8F f in rw is (second-reads rest))
-      (λ f. cond_both (is_euc_jp_lead b) _ _ (Reads (euc_jp_handler jis0208 jis0212) euc_jp_initial (b ∷ rest))
+      by_test (is_ascii b) _ _ (λ h. one (rw h refl)) (λ h. by_test (b == 0x8E) _ _ (λ k. let is = eqb-true b 0x8E k in rw is (katakana-reads rest))
+      (λ k. by_test (b == 0x8F) _ _ (λ f. let is = eqb-true b 0x8F f in rw is (second-reads rest)) (λ f. by_test (is_euc_jp_lead b) _ _
       (λ l. let some = lead-some b l in
-      pair (euc_jp_handler jis0208 jis0212) euc_jp_initial b (euc_jp_state false b) (rw (h, k, f, l) refl) (euc_jp_scalars jis0208 b) (rw some refl)
-      (λ t. rw (k, f, some) (code-is jis0208 b t l)) rest)
-      (λ l. bad_one (euc_jp_handler jis0208 jis0212) euc_jp_initial b rest (rw (h, k, f, l) refl)))))
+      pair {s = euc_jp_state false b} (rw (h, k, f, l) refl) (euc_jp_scalars jis0208 b) (rw some refl) (λ t. rw (k, f, some) (code-is jis0208 b t l)) rest)
+      (λ l. bad_one (rw (h, k, f, l) refl)))))
 
   pub euc_jp_handled : IsDecodedBy (euc_jp jis0208 jis0212) (euc_jp_handler jis0208 jis0212) euc_jp_initial
   unfolding events_of euc_jp_handler
   euc_jp_handled bytes all =
-      whole (euc_jp_handler jis0208 jis0212) euc_jp_initial (euc_jp_front jis0208 jis0212) (euc_jp_front-of jis0208 jis0212 (λ p. absurd p) (λ p. absurd p)) refl euc_jp-reads bytes
+      whole (euc_jp_front jis0208 jis0212) (euc_jp_front-of jis0208 jis0212 (λ p. absurd p) (λ p. absurd p)) euc_jp-reads refl bytes

@@ -4,7 +4,6 @@ use Rattle.std.specs.Prelude.{option_to_list, ◌==◌, ◌||◌, nat_lt}
 use Rattle.std.specs.Int.{is_in_range}
 use Rattle.std.specs.Char.{is_ascii, is_ascii_digit}
 use Rattle.std.specs.Option.{option_and_then}
-use Rattle.std.proofs.lemmas.Bool.{cond_both}
 use Rattle.std.proofs.lemmas.Bool.Decides.{nat_tests}
 use Rattle.legacy_base.specs.declared.results.DecodeEvent.{DecodeEvent}
 use Rattle.legacy_base.specs.Fronts.{Front, malformed, reads_or}
@@ -17,7 +16,7 @@ use Rattle.legacy_standard.specs.Queue.{Item, byte, end_of_queue, Handled, retur
 use Rattle.legacy_standard.specs.Gb18030.{Gb18030, gb18030_state, gb18030_initial, gb18030_handler}
 use Rattle.legacy_standard.proofs.LeadHandled.{lead-some}
 use Rattle.legacy_standard.proofs.Turns.{goes_on, gives, error_at, error_at_end}
-use Rattle.legacy_standard.proofs.Fronts.{Reads, whole, one, bad_one, returns_scalars, scalars-of, trailing, lead_alone}
+use Rattle.legacy_standard.proofs.Fronts.{Reads, whole, by_test, one, bad_one, returns_scalars, scalars-of, trailing, lead_alone}
 use Rattle.legacy_standard.proofs.OneResult.{Runs, IsDecodedBy}
 
 digit-some : (b : ℕ) → is_ascii_digit b ≡ true → (b == 0) ≡ false
@@ -63,7 +62,8 @@ module _ (index : List ℕ) (ranges : List (ℕ × ℕ)) where
   unfolding gb18030_handler
   no_third b s t d l = rw (digit-some s d, l) refl
 
-  no_fourth : (b s t u : ℕ) → is_lead t ≡ true → is_ascii_digit u ≡ false → handler (gb18030_state b s t) (byte u) ≡ restores (s ∷ t ∷ u ∷ []) error gb18030_initial
+  no_fourth : (b s t u : ℕ) → is_lead t ≡ true → is_ascii_digit u ≡ false →
+      handler (gb18030_state b s t) (byte u) ≡ restores (s ∷ t ∷ u ∷ []) error gb18030_initial
   unfolding gb18030_handler
   no_fourth b s t u l d = rw (lead-some t l, d) refl
 
@@ -87,67 +87,53 @@ module _ (index : List ℕ) (ranges : List (ℕ × ℕ)) where
     -- the byte after three bytes
     fourth-reads : (s t : ℕ) (rest : List ℕ) → is_ascii_digit s ≡ true → is_lead t ≡ true → Has (b ∷ s ∷ t ∷ rest) (gb18030_fourth ranges b s t rest)
     unfolding gb18030_fourth
-    fourth-reads s t [] d m = λ place es after.
-        goes_on handler gb18030_initial (gb18030_state b 0 0) place 0 b (s ∷ t ∷ []) _ (leads b h k l)
-        (goes_on handler (gb18030_state b 0 0) (gb18030_state b s 0) place 1 s (t ∷ []) _ (seconds b s l d)
-        (goes_on handler (gb18030_state b s 0) (gb18030_state b s t) place 2 t [] _ (thirds b s t d m)
-        (error_at_end handler (gb18030_state b s t) gb18030_initial place 3 es (end_more b s t l) after)))
-    fourth-reads s t (u ∷ rest) d m =
-        cond_both (is_ascii_digit u) _ _ (Has (b ∷ s ∷ t ∷ u ∷ rest)) (λ e. by_code (range ranges (gb18030_range_pointer b s t u)) (fourths b s t u m e))
-        (λ e place es after. reach place _ (error_at handler (gb18030_state b s t) gb18030_initial place 3 u (s ∷ t ∷ u ∷ []) rest es (no_fourth b s t u m e) after))
+    fourth-reads s t [] d m = record {
+      go = λ place es after. goes_on (leads b h k l) (goes_on (seconds b s l d) (goes_on (thirds b s t d m) (error_at_end (end_more b s t l) after)));
+    }
+    fourth-reads s t (u ∷ rest) d m = by_test (is_ascii_digit u) _ _
+        (λ e. by_code (range ranges (gb18030_range_pointer b s t u)) (fourths b s t u m e))
+        (λ e. record { go = λ place es after. reach (error_at (s ∷ t ∷ u ∷ []) (no_fourth b s t u m e) after) })
       where
-        reach : (place : ℕ) (es : List DecodeEvent) → Runs handler (gb18030_state b s t) place 3 (u ∷ rest) es → Runs handler gb18030_initial place 0 (b ∷ s ∷ t ∷ u ∷ rest) es
-        reach place es at =
-            goes_on handler gb18030_initial (gb18030_state b 0 0) place 0 b (s ∷ t ∷ u ∷ rest) es (leads b h k l)
-            (goes_on handler (gb18030_state b 0 0) (gb18030_state b s 0) place 1 s (t ∷ u ∷ rest) es (seconds b s l d)
-            (goes_on handler (gb18030_state b s 0) (gb18030_state b s t) place 2 t (u ∷ rest) es (thirds b s t d m) at))
+        reach : {place : ℕ} {es : List DecodeEvent} → Runs handler (gb18030_state b s t) place 3 (u ∷ rest) es →
+            Runs handler gb18030_initial place 0 (b ∷ s ∷ t ∷ u ∷ rest) es
+        reach at = goes_on (leads b h k l) (goes_on (seconds b s l d) (goes_on (thirds b s t d m) at))
 
         by_code : (o : Option ℕ) → handler (gb18030_state b s t) (byte u) ≡ returns (code_point_or_error o) gb18030_initial →
             Has (b ∷ s ∷ t ∷ u ∷ rest) (reads_or 4 (option_to_list o) (malformed 4))
-        by_code None e = λ place es after. reach place _ (error_at handler (gb18030_state b s t) gb18030_initial place 3 u [] rest es e after)
-        by_code (Some c) e = λ place es after. reach place _ (gives handler (gb18030_state b s t) gb18030_initial place 3 u (c ∷ []) rest es e after)
+        by_code None e = record { go = λ place es after. reach (error_at [] e after) }
+        by_code (Some c) e = record { go = λ place es after. reach (gives (c ∷ []) e after) }
 
     -- the byte after two bytes
     third-reads : (s : ℕ) (rest : List ℕ) → is_ascii_digit s ≡ true → Has (b ∷ s ∷ rest) (gb18030_third ranges b s rest)
     unfolding gb18030_third
-    third-reads s [] d = λ place es after.
-        goes_on handler gb18030_initial (gb18030_state b 0 0) place 0 b (s ∷ []) _ (leads b h k l)
-        (goes_on handler (gb18030_state b 0 0) (gb18030_state b s 0) place 1 s [] _ (seconds b s l d)
-        (error_at_end handler (gb18030_state b s 0) gb18030_initial place 2 es (end_more b s 0 l) after))
-    third-reads s (t ∷ rest) d =
-        cond_both (is_lead t) _ _ (Has (b ∷ s ∷ t ∷ rest)) (λ m. fourth-reads s t rest d m)
-        (λ m place es after.
-        goes_on handler gb18030_initial (gb18030_state b 0 0) place 0 b (s ∷ t ∷ rest) _ (leads b h k l)
-        (goes_on handler (gb18030_state b 0 0) (gb18030_state b s 0) place 1 s (t ∷ rest) _ (seconds b s l d)
-        (error_at handler (gb18030_state b s 0) gb18030_initial place 2 t (s ∷ t ∷ []) rest es (no_third b s t d m) after)))
+    third-reads s [] d = record { go = λ place es after. goes_on (leads b h k l) (goes_on (seconds b s l d) (error_at_end (end_more b s 0 l) after)) }
+    third-reads s (t ∷ rest) d = by_test (is_lead t) _ _ (fourth-reads s t rest d) (λ m. record {
+      go = λ place es after. goes_on (leads b h k l) (goes_on (seconds b s l d) (error_at (s ∷ t ∷ []) (no_third b s t d m) after));
+    })
 
     -- a second byte that is no digit
-    pair-does : (t : ℕ) → is_ascii_digit t ≡ false →
-        handler (gb18030_state b 0 0) (byte t) ≡ returns_scalars handler gb18030_initial (gb18030_scalars index b t) t
+    pair-does : (t : ℕ) → is_ascii_digit t ≡ false → handler (gb18030_state b 0 0) (byte t) ≡ returns_scalars gb18030_initial (gb18030_scalars index b t) t
     unfolding gb18030_handler
-    pair-does t d = rw (lead-some b l, d, pair-code index ((b - 0x81) * 190) t) (by_tests (is_in_range 0x40 0x7E t) (is_in_range 0x80 0xFE t))
+    pair-does t d = rw (lead-some b l, d, pair-code index ((b - 0x81) * 190) t) (by_tests _ _ (is_in_range 0x40 0x7E t) (is_in_range 0x80 0xFE t))
       where
-        by_tests : (s u : Bool) →
-            return_or_error (cond s (idx index ((b - 0x81) * 190 + (t - 0x40))) (cond u (idx index ((b - 0x81) * 190 + (t - 0x41))) None)) t gb18030_initial
-            ≡ returns_scalars handler gb18030_initial (cond s (option_to_list (idx index ((b - 0x81) * 190 + (t - 0x40)))) (cond u (option_to_list (idx index ((b - 0x81) * 190 + (t - 0x41)))) [])) t
-        by_tests true u = scalars-of handler gb18030_initial (idx index ((b - 0x81) * 190 + (t - 0x40))) t
-        by_tests false true = scalars-of handler gb18030_initial (idx index ((b - 0x81) * 190 + (t - 0x41))) t
-        by_tests false false = refl
+        by_tests : (x y : Option ℕ) (s u : Bool) → return_or_error (cond s x (cond u y None)) t gb18030_initial
+            ≡ returns_scalars gb18030_initial (cond s (option_to_list x) (cond u (option_to_list y) [])) t
+        by_tests x y true u = scalars-of gb18030_initial x t
+        by_tests x y false true = scalars-of gb18030_initial y t
+        by_tests x y false false = refl
 
     second-reads : (rest : List ℕ) → Has (b ∷ rest) (gb18030_second index ranges b rest)
     unfolding gb18030_second
-    second-reads [] = lead_alone handler gb18030_initial b (gb18030_state b 0 0) (leads b h k l) (end_one b l)
-    second-reads (t ∷ rest) =
-        cond_both (is_ascii_digit t) _ _ (Has (b ∷ t ∷ rest)) (λ d. third-reads t rest d)
-        (λ d. trailing handler gb18030_initial b (gb18030_state b 0 0) (leads b h k l) t rest (gb18030_scalars index b t) (pair-does t d))
+    second-reads [] = lead_alone (leads b h k l) (end_one b l)
+    second-reads (t ∷ rest) = by_test (is_ascii_digit t) _ _ (third-reads t rest) (λ d. trailing (leads b h k l) (gb18030_scalars index b t) (pair-does t d))
 
   gb18030-reads : (b : ℕ) (rest : List ℕ) → Has (b ∷ rest) (gb18030_front index ranges b rest)
   unfolding gb18030_front gb18030_handler
   gb18030-reads b rest =
-      cond_both (is_ascii b) _ _ (Has (b ∷ rest)) (λ h. one handler gb18030_initial b b rest (rw h refl))
-      (λ h. cond_both (b == 0x80) _ _ (Has (b ∷ rest)) (λ k. one handler gb18030_initial b 0x20AC rest (rw (h, k) refl))
-      (λ k. cond_both (is_lead b) _ _ (Has (b ∷ rest)) (λ l. second-reads b h k l rest) (λ l. bad_one handler gb18030_initial b rest (rw (h, k, l) refl))))
+      by_test (is_ascii b) _ _ (λ h. one (rw h refl)) (λ h. by_test (b == 0x80) _ _ (λ k. one (rw (h, k) refl))
+      (λ k. by_test (is_lead b) _ _ (λ l. second-reads b h k l rest) (λ l. bad_one (rw (h, k, l) refl))))
 
   pub gb18030_handled : IsDecodedBy (gb18030 index ranges) (gb18030_handler index ranges) gb18030_initial
   unfolding events_of gb18030_handler
-  gb18030_handled bytes all = whole handler gb18030_initial (gb18030_front index ranges) (gb18030_front-of index ranges (λ p. absurd p) (λ p c e q. absurd q)) refl gb18030-reads bytes
+  gb18030_handled bytes all =
+      whole (gb18030_front index ranges) (gb18030_front-of index ranges (λ p. absurd p) (λ p c e q. absurd q)) gb18030-reads refl bytes

@@ -1,18 +1,19 @@
 -- The ISO-2022-JP encoder's handler gives the events of its definition.
-use Rattle.std.proofs.Common.{◌≡◌, ◌∙◌, ℕ, ◌+◌, ◌/◌, ◌%◌, Bool, List, [], ◌∷◌, Option, Some, None, refl, sym, ap, subst, true, false, arith}
+use Rattle.std.proofs.Common.{◌≡◌, ◌∙◌, ℕ, ◌+◌, ◌/◌, ◌%◌, Bool, cond, List, [], ◌∷◌, Option, Some, None, refl, sym, ap, subst, true, false, arith}
 use Rattle.std.specs.Prelude.{is_some, ◌==◌, ◌||◌, not}
 use Rattle.std.specs.Int.{is_in_range}
 use Rattle.std.specs.Char.{is_ascii}
-use Rattle.std.proofs.lemmas.Bool.{false≢true, true≢false, eqb-true, eqb-false}
+use Rattle.std.proofs.lemmas.Bool.{false≢true, eqb-true, eqb-false}
 use Rattle.std.proofs.lemmas.Bool.Decides.{nat_tests}
 use Rattle.std.proofs.lemmas.Option.{none-some}
 use Rattle.legacy_base.specs.declared.results.EncodeEvent.{EncodeEvent}
 use Rattle.legacy_base.specs.EncoderProfile.{EncoderMode, in_ascii, in_roman, in_two_byte}
-use Rattle.legacy_base.specs.Iso2022Jp.{is_mode_control, iso_2022_jp_pointer_of, iso_2022_jp_code, iso_2022_jp_reported, roman_or_ascii, escape_to}
+use Rattle.legacy_base.specs.Iso2022Jp.{is_mode_control, iso_2022_jp_pointer_of, iso_2022_jp_reported, roman_or_ascii, escape_to}
 use Rattle.legacy_base.specs.Encoders as codecs
-use Rattle.legacy_base.proofs.Iso2022JpEncoding.{text_events, text_events-here, text_events-escape, text_events-end, mode_for, IsWritten, at_control, at_special, at_neutral, at_yen, at_overline, at_pair, at_none}
+use Rattle.legacy_base.proofs.Iso2022JpEncoding.{text_events, text_events-here, text_events-escape, text_events-end, IsWritten, at_control}
+use Rattle.legacy_base.proofs.Iso2022JpEncoding.{at_special, at_neutral, at_yen, at_overline, at_pair, at_none}
 use Rattle.legacy_tables.specs.Pointers.{euc_jp_pointer_of}
-use Rattle.legacy_standard.specs.TextQueue.{TextItem, scalar, TextOutcome, TextHandled, bytes, error_with, returns, restores}
+use Rattle.legacy_standard.specs.TextQueue.{TextItem, scalar, TextHandled, bytes, error_with, returns, restores}
 use Rattle.legacy_standard.specs.Iso2022JpEncoder.{EncoderState, ascii, roman, jis0208, set_scalar, at_pointer, at_set, iso_2022_jp_encodes}
 use Rattle.legacy_standard.specs.EncoderLaw.{HasRows, HasFolds}
 use Rattle.legacy_standard.proofs.TextTurns.{IsEncodedBy, Writes, steady, ends, end_bytes, gives_bytes, gives_error, gives_escape}
@@ -23,14 +24,27 @@ state_of in_ascii = ascii
 state_of in_roman = roman
 state_of in_two_byte = jis0208
 
-abbrev escape_outcome : EncoderMode → TextOutcome
-escape_outcome mode = bytes (escape_to mode)
-
 abbrev same_mode : EncoderMode → EncoderMode → Bool
 same_mode in_ascii in_ascii = true
 same_mode in_roman in_roman = true
 same_mode in_two_byte in_two_byte = true
 same_mode _ _ = false
+
+same-mode : (a b : EncoderMode) → same_mode a b ≡ true → a ≡ b
+same-mode in_ascii in_ascii e = refl
+same-mode in_roman in_roman e = refl
+same-mode in_two_byte in_two_byte e = refl
+same-mode in_ascii in_roman e = cc
+same-mode in_ascii in_two_byte e = cc
+same-mode in_roman in_ascii e = cc
+same-mode in_roman in_two_byte e = cc
+same-mode in_two_byte in_ascii e = cc
+same-mode in_two_byte in_roman e = cc
+
+other-mode : (a b : EncoderMode) → same_mode a b ≡ false → a ≡ b → ⊥
+other-mode in_ascii b e is = let f = rw (← is) at e in cc
+other-mode in_roman b e is = let f = rw (← is) at e in cc
+other-mode in_two_byte b e is = let f = rw (← is) at e in cc
 
 module _ (index katakana_index : List ℕ) where
   abbrev handler : EncoderState → TextItem → TextHandled EncoderState
@@ -42,116 +56,104 @@ module _ (index katakana_index : List ℕ) where
   abbrev Gives : EncoderMode → List ℕ → Type 0
   Gives mode text = Writes handler (state_of mode) text (events mode text)
 
-  -- a scalar with a code that is written in the current mode
-  here_bytes : (mode : EncoderMode) (c d : ℕ) (bs more : List ℕ) → mode_for index katakana_index mode c ≡ mode → iso_2022_jp_code index katakana_index c ≡ Some bs →
-      handler (state_of mode) (scalar d) ≡ returns (bytes bs) (state_of mode) → Gives mode more → Writes handler (state_of mode) (d ∷ more) (events mode (c ∷ more))
-  here_bytes mode c d bs more stays code does h =
-      rw (text_events-here index katakana_index mode c stays more true, code)
-      (gives_bytes handler (state_of mode) (state_of mode) d bs more (events mode more) does h)
-
-  -- an unmappable scalar that leaves the mode unchanged
-  here_error : (mode : EncoderMode) (c : ℕ) (more : List ℕ) → mode_for index katakana_index mode c ≡ mode → iso_2022_jp_code index katakana_index c ≡ None →
-      handler (state_of mode) (scalar c) ≡ returns (error_with (iso_2022_jp_reported c)) (state_of mode) → Gives mode more → Gives mode (c ∷ more)
-  here_error mode c more stays code does h =
-      rw (text_events-here index katakana_index mode c stays more true, code)
-      (gives_error handler (state_of mode) (state_of mode) c (iso_2022_jp_reported c) more (events mode more) does h)
-
-  -- a scalar that is written in another mode
-  escapes : (mode new : EncoderMode) (c d : ℕ) (more : List ℕ) → mode_for index katakana_index mode c ≡ new → (mode ≡ new → ⊥) →
-      handler (state_of mode) (scalar c) ≡ restores d (escape_outcome new) (state_of new) → Writes handler (state_of new) (d ∷ more) (events new (c ∷ more)) →
-      Gives mode (c ∷ more)
-  escapes mode new c d more asks other does h =
-      rw (text_events-escape index katakana_index mode new c asks other more true)
-      (gives_escape handler (state_of mode) (state_of new) c d (escape_to new) more (events new (c ∷ more)) does h)
-
   abbrev Goes : List ℕ → Type 0
   Goes more = (mode : EncoderMode) → Gives mode more
 
-  -- ---- control characters
+  -- the handler's result for the scalar c in its mode, by its code
+  abbrev here : EncoderMode → ℕ → Option (List ℕ) → TextHandled EncoderState
+  here mode c None = returns (error_with (iso_2022_jp_reported c)) (state_of mode)
+  here mode c (Some bs) = returns (bytes bs) (state_of mode)
 
-  control_ascii : (c : ℕ) (more : List ℕ) → is_mode_control c ≡ true → Goes more → Gives in_ascii (c ∷ more)
+  -- the handler's result in any mode: in another mode it writes an escape, and goes on with the scalar d
+  abbrev acts : EncoderMode → EncoderMode → ℕ → ℕ → Option (List ℕ) → TextHandled EncoderState
+  acts mode home c d o = cond (same_mode mode home) (here mode c o) (restores d (bytes (escape_to home)) (state_of home))
+
+  -- the scalar c, or d in its place, in the mode of c
+  at_home : (mode : EncoderMode) (c d : ℕ) (more : List ℕ) (o : Option (List ℕ)) → IsWritten index katakana_index mode c mode o →
+      handler (state_of mode) (scalar d) ≡ here mode c o → Gives mode more → Writes handler (state_of mode) (d ∷ more) (events mode (c ∷ more))
+  at_home mode c d more None w does h = rw (text_events-here index katakana_index mode c w.mode_is more true, w.code_is) (gives_error does h)
+  at_home mode c d more (Some bs) w does h = rw (text_events-here index katakana_index mode c w.mode_is more true, w.code_is) (gives_bytes bs does h)
+
+  -- a scalar in any mode
+  module _ (c d : ℕ) (more : List ℕ) (home : EncoderMode → EncoderMode) (o : Option (List ℕ)) (twice : (mode : EncoderMode) → home (home mode) ≡ home mode)
+      (written : (mode : EncoderMode) → IsWritten index katakana_index mode c (home mode) o)
+      (does : (mode : EncoderMode) → handler (state_of mode) (scalar c) ≡ acts mode (home mode) c d o)
+      (again : (mode : EncoderMode) → handler (state_of (home mode)) (scalar d) ≡ here (home mode) c o) (goes : Goes more) where
+    goes_on : (mode : EncoderMode) → Gives mode (c ∷ more)
+    goes_on mode = by_mode (same_mode mode (home mode)) refl
+      where
+        by_mode : (t : Bool) → same_mode mode (home mode) ≡ t → Gives mode (c ∷ more)
+        by_mode true e =
+            let is = same-mode mode (home mode) e in
+            at_home mode c c more o (subst (λ m. IsWritten index katakana_index mode c m o) (sym is) (written mode)) (does mode ∙ rw e refl) (goes mode)
+        by_mode false e =
+            rw (text_events-escape index katakana_index mode (home mode) c (written mode).mode_is (other-mode mode (home mode) e) more true)
+            (gives_escape (escape_to (home mode)) (does mode ∙ rw e refl)
+            (at_home (home mode) c d more o (subst (λ m. IsWritten index katakana_index (home mode) c m o) (twice mode) (written (home mode)))
+            (again mode) (goes (home mode))))
+
+  roman_or_ascii-twice : (mode : EncoderMode) → roman_or_ascii (roman_or_ascii mode) ≡ roman_or_ascii mode
+  roman_or_ascii-twice in_ascii = refl
+  roman_or_ascii-twice in_roman = refl
+  roman_or_ascii-twice in_two_byte = refl
+
+  control : (c : ℕ) (more : List ℕ) → is_mode_control c ≡ true → Goes more → Goes (c ∷ more)
   unfolding iso_2022_jp_encodes
-  control_ascii c more k goes =
-      let w = at_control index katakana_index in_ascii c k in
-      here_error in_ascii c more (w.mode_is) (w.code_is) (rw k refl) (goes in_ascii)
+  control c more k = goes_on c c more roman_or_ascii None roman_or_ascii-twice (λ mode. at_control index katakana_index mode c k) does again
+    where
+      does : (mode : EncoderMode) → handler (state_of mode) (scalar c) ≡ acts mode (roman_or_ascii mode) c c None
+      does in_ascii = rw k refl
+      does in_roman = rw k refl
+      does in_two_byte = let a : is_ascii c ≡ true = grind (arith, nat_tests) in rw a refl
 
-  control : (c : ℕ) (more : List ℕ) → is_mode_control c ≡ true → Goes more → (mode : EncoderMode) → Gives mode (c ∷ more)
+      again : (mode : EncoderMode) → handler (state_of (roman_or_ascii mode)) (scalar c) ≡ here (roman_or_ascii mode) c None
+      again in_ascii = rw k refl
+      again in_roman = rw k refl
+      again in_two_byte = rw k refl
+
+  special : (c : ℕ) (more : List ℕ) → is_mode_control c ≡ false → is_ascii c ≡ true → (c == 0x5C || c == 0x7E) ≡ true → Goes more → Goes (c ∷ more)
   unfolding iso_2022_jp_encodes
-  control c more k goes in_ascii = control_ascii c more k goes
-  control c more k goes in_roman =
-      let w = at_control index katakana_index in_roman c k in
-      here_error in_roman c more (w.mode_is) (w.code_is) (rw k refl) (goes in_roman)
-  control c more k goes in_two_byte =
-      let w = at_control index katakana_index in_two_byte c k in
-      let a : is_ascii c ≡ true = grind (arith, nat_tests) in
-      escapes in_two_byte in_ascii c c more (w.mode_is) (λ e. true≢false (ap (same_mode in_two_byte) e)) (rw a refl) (control_ascii c more k goes)
+  special c more k a s =
+      goes_on c c more (λ mode. in_ascii) (Some (c ∷ [])) (λ mode. refl) (λ mode. at_special index katakana_index mode c k a s) does (λ mode. rw (k, a) refl)
+    where
+      does : (mode : EncoderMode) → handler (state_of mode) (scalar c) ≡ acts mode in_ascii c c (Some (c ∷ []))
+      does in_ascii = rw (k, a) refl
+      does in_roman = let yen : (c == 0xA5 || c == 0x203E) ≡ false = grind (arith, nat_tests) in rw (k, a, s, yen) refl
+      does in_two_byte = rw a refl
 
-  -- ---- ASCII
-
-  special_ascii : (c : ℕ) (more : List ℕ) → is_mode_control c ≡ false → is_ascii c ≡ true → (c == 0x5C || c == 0x7E) ≡ true → Goes more → Gives in_ascii (c ∷ more)
+  neutral : (c : ℕ) (more : List ℕ) → is_mode_control c ≡ false → is_ascii c ≡ true → (c == 0x5C || c == 0x7E) ≡ false → Goes more → Goes (c ∷ more)
   unfolding iso_2022_jp_encodes
-  special_ascii c more k a s goes =
-      let w = at_special index katakana_index in_ascii c k a s in
-      here_bytes in_ascii c c (c ∷ []) more (w.mode_is) (w.code_is) (rw (k, a) refl) (goes in_ascii)
+  neutral c more k a s =
+      goes_on c c more roman_or_ascii (Some (c ∷ [])) roman_or_ascii-twice (λ mode. at_neutral index katakana_index mode c k a s) does again
+    where
+      does : (mode : EncoderMode) → handler (state_of mode) (scalar c) ≡ acts mode (roman_or_ascii mode) c c (Some (c ∷ []))
+      does in_ascii = rw (k, a) refl
+      does in_roman = rw (k, a, s) refl
+      does in_two_byte = rw a refl
 
-  special : (c : ℕ) (more : List ℕ) → is_mode_control c ≡ false → is_ascii c ≡ true → (c == 0x5C || c == 0x7E) ≡ true → Goes more → (mode : EncoderMode) → Gives mode (c ∷ more)
+      again : (mode : EncoderMode) → handler (state_of (roman_or_ascii mode)) (scalar c) ≡ here (roman_or_ascii mode) c (Some (c ∷ []))
+      again in_ascii = rw (k, a) refl
+      again in_roman = rw (k, a, s) refl
+      again in_two_byte = rw (k, a) refl
+
+  -- the yen sign and the overline
+  yen : (more : List ℕ) → Goes more → Goes (0xA5 ∷ more)
   unfolding iso_2022_jp_encodes
-  special c more k a s goes in_ascii = special_ascii c more k a s goes
-  special c more k a s goes in_roman =
-      let w = at_special index katakana_index in_roman c k a s in
-      let yen : (c == 0xA5 || c == 0x203E) ≡ false = grind (arith, nat_tests) in
-      escapes in_roman in_ascii c c more (w.mode_is) (λ e. true≢false (ap (same_mode in_roman) e)) (rw (k, a, s, yen) refl) (special_ascii c more k a s goes)
-  special c more k a s goes in_two_byte =
-      let w = at_special index katakana_index in_two_byte c k a s in
-      escapes in_two_byte in_ascii c c more (w.mode_is) (λ e. true≢false (ap (same_mode in_two_byte) e)) (rw a refl) (special_ascii c more k a s goes)
+  yen more = goes_on 0xA5 0xA5 more (λ mode. in_roman) _ (λ mode. refl) (λ mode. at_yen index katakana_index mode 0xA5 refl) does (λ mode. refl)
+    where
+      does : (mode : EncoderMode) → handler (state_of mode) (scalar 0xA5) ≡ acts mode in_roman 0xA5 0xA5 (Some (0x5C ∷ []))
+      does in_ascii = refl
+      does in_roman = refl
+      does in_two_byte = refl
 
-  neutral_ascii : (c : ℕ) (more : List ℕ) → is_mode_control c ≡ false → is_ascii c ≡ true → (c == 0x5C || c == 0x7E) ≡ false → Goes more → Gives in_ascii (c ∷ more)
+  overline : (more : List ℕ) → Goes more → Goes (0x203E ∷ more)
   unfolding iso_2022_jp_encodes
-  neutral_ascii c more k a s goes =
-      let w = at_neutral index katakana_index in_ascii c k a s in
-      here_bytes in_ascii c c (c ∷ []) more (w.mode_is) (w.code_is) (rw (k, a) refl) (goes in_ascii)
-
-  neutral : (c : ℕ) (more : List ℕ) → is_mode_control c ≡ false → is_ascii c ≡ true → (c == 0x5C || c == 0x7E) ≡ false → Goes more → (mode : EncoderMode) → Gives mode (c ∷ more)
-  unfolding iso_2022_jp_encodes
-  neutral c more k a s goes in_ascii = neutral_ascii c more k a s goes
-  neutral c more k a s goes in_roman =
-      let w = at_neutral index katakana_index in_roman c k a s in
-      here_bytes in_roman c c (c ∷ []) more (w.mode_is) (w.code_is) (rw (k, a, s) refl) (goes in_roman)
-  neutral c more k a s goes in_two_byte =
-      let w = at_neutral index katakana_index in_two_byte c k a s in
-      escapes in_two_byte in_ascii c c more (w.mode_is) (λ e. true≢false (ap (same_mode in_two_byte) e)) (rw a refl) (neutral_ascii c more k a s goes)
-
-  -- ---- the yen sign and the overline
-
-  yen_roman : (more : List ℕ) → Goes more → Gives in_roman (0xA5 ∷ more)
-  unfolding iso_2022_jp_encodes
-  yen_roman more goes =
-      let w = at_yen index katakana_index in_roman 0xA5 refl in here_bytes in_roman 0xA5 0xA5 (0x5C ∷ []) more (w.mode_is) (w.code_is) refl (goes in_roman)
-
-  yen : (more : List ℕ) → Goes more → (mode : EncoderMode) → Gives mode (0xA5 ∷ more)
-  unfolding iso_2022_jp_encodes
-  yen more goes in_ascii =
-      let w = at_yen index katakana_index in_ascii 0xA5 refl in
-      escapes in_ascii in_roman 0xA5 0xA5 more (w.mode_is) (λ e. true≢false (ap (same_mode in_ascii) e)) refl (yen_roman more goes)
-  yen more goes in_roman = yen_roman more goes
-  yen more goes in_two_byte =
-      let w = at_yen index katakana_index in_two_byte 0xA5 refl in
-      escapes in_two_byte in_roman 0xA5 0xA5 more (w.mode_is) (λ e. true≢false (ap (same_mode in_two_byte) e)) refl (yen_roman more goes)
-
-  overline_roman : (more : List ℕ) → Goes more → Gives in_roman (0x203E ∷ more)
-  unfolding iso_2022_jp_encodes
-  overline_roman more goes =
-      let w = at_overline index katakana_index in_roman 0x203E refl in here_bytes in_roman 0x203E 0x203E (0x7E ∷ []) more (w.mode_is) (w.code_is) refl (goes in_roman)
-
-  overline : (more : List ℕ) → Goes more → (mode : EncoderMode) → Gives mode (0x203E ∷ more)
-  unfolding iso_2022_jp_encodes
-  overline more goes in_ascii =
-      let w = at_overline index katakana_index in_ascii 0x203E refl in
-      escapes in_ascii in_roman 0x203E 0x203E more (w.mode_is) (λ e. true≢false (ap (same_mode in_ascii) e)) refl (overline_roman more goes)
-  overline more goes in_roman = overline_roman more goes
-  overline more goes in_two_byte =
-      let w = at_overline index katakana_index in_two_byte 0x203E refl in
-      escapes in_two_byte in_roman 0x203E 0x203E more (w.mode_is) (λ e. true≢false (ap (same_mode in_two_byte) e)) refl (overline_roman more goes)
+  overline more = goes_on 0x203E 0x203E more (λ mode. in_roman) _ (λ mode. refl) (λ mode. at_overline index katakana_index mode 0x203E refl) does (λ mode. refl)
+    where
+      does : (mode : EncoderMode) → handler (state_of mode) (scalar 0x203E) ≡ acts mode in_roman 0x203E 0x203E (Some (0x7E ∷ []))
+      does in_ascii = refl
+      does in_roman = refl
+      does in_two_byte = refl
 
   -- ---- scalars that are looked up
 
@@ -237,6 +239,12 @@ module _ (index katakana_index : List ℕ) where
         by_tests false false m r = looked_other c p m r
 
     module _ (c : ℕ) (more : List ℕ) (p : Past c) (goes : Goes more) where
+      no_yen : c ≡ 0xA5 → ⊥
+      no_yen = eqb-false c 0xA5 p.past_yen
+
+      no_overline : c ≡ 0x203E → ⊥
+      no_overline = eqb-false c 0x203E p.past_overline
+
       -- the result of the handler for c and for the scalar that replaces it
       does : (l : Looked c) (o : Option ℕ) → euc_jp_pointer_of index l.set ≡ o → (mode : EncoderMode) →
           handler (state_of mode) (scalar c) ≡ at_pointer (state_of mode) o (l.set)
@@ -246,55 +254,41 @@ module _ (index katakana_index : List ℕ) where
           handler (state_of mode) (scalar (l.set)) ≡ at_pointer (state_of mode) o (l.set)
       does_again l o e mode = past (l.set) (l.again) mode ∙ rw (l.set_again, rows.first (l.set), e) refl
 
-      pair-is : (l : Looked c) (q : ℕ) → euc_jp_pointer_of index l.set ≡ Some q → (mode : EncoderMode) →
-          IsWritten index katakana_index mode c in_two_byte (Some ((q / 94 + 0x21) ∷ (q % 94 + 0x21) ∷ []))
-      pair-is l q e mode =
-          at_pair index katakana_index mode c q (p.past_control) (p.past_ascii) (eqb-false c 0xA5 (p.past_yen)) (eqb-false c 0x203E (p.past_overline)) (l.pointer_is ∙ e)
-
-      pair_again : (l : Looked c) (q : ℕ) → euc_jp_pointer_of index l.set ≡ Some q → Writes handler jis0208 (l.set ∷ more) (events in_two_byte (c ∷ more))
-      pair_again l q e =
-          let w = pair-is l q e in_two_byte in
-          here_bytes in_two_byte c (l.set) _ more (w.mode_is) (w.code_is) (does_again l (Some q) e in_two_byte) (goes in_two_byte)
-
-      pair : (l : Looked c) (q : ℕ) → euc_jp_pointer_of index l.set ≡ Some q → (mode : EncoderMode) → Gives mode (c ∷ more)
-      pair l q e in_ascii =
-          let w = pair-is l q e in_ascii in
-          escapes in_ascii in_two_byte c (l.set) more (w.mode_is) (λ f. true≢false (ap (same_mode in_ascii) f)) (does l (Some q) e in_ascii) (pair_again l q e)
-      pair l q e in_roman =
-          let w = pair-is l q e in_roman in
-          escapes in_roman in_two_byte c (l.set) more (w.mode_is) (λ f. true≢false (ap (same_mode in_roman) f)) (does l (Some q) e in_roman) (pair_again l q e)
-      pair l q e in_two_byte =
-          let w = pair-is l q e in_two_byte in
-          here_bytes in_two_byte c c _ more (w.mode_is) (w.code_is) (does l (Some q) e in_two_byte) (goes in_two_byte)
-
-      none-is : (l : Looked c) → euc_jp_pointer_of index l.set ≡ None → (mode : EncoderMode) → IsWritten index katakana_index mode c (roman_or_ascii mode) None
-      none-is l e mode =
-          at_none index katakana_index mode c (p.past_control) (p.past_ascii) (eqb-false c 0xA5 (p.past_yen)) (eqb-false c 0x203E (p.past_overline)) (l.pointer_is ∙ e)
-
-      does_none : (l : Looked c) → euc_jp_pointer_of index l.set ≡ None → (mode : EncoderMode) → handler (state_of mode) (scalar c) ≡ at_pointer (state_of mode) None c
-      does_none l e mode = does l None e mode ∙ ap (at_pointer (state_of mode) None) (l.same e)
-
-      reported : iso_2022_jp_reported c ≡ c
-      reported = rw (p.past_control) refl
-
-      none_ascii : (l : Looked c) → euc_jp_pointer_of index l.set ≡ None → Gives in_ascii (c ∷ more)
-      none_ascii l e =
-          let w = none-is l e in_ascii in here_error in_ascii c more (w.mode_is) (w.code_is) (rw reported (does_none l e in_ascii)) (goes in_ascii)
-
-      none : (l : Looked c) → euc_jp_pointer_of index l.set ≡ None → (mode : EncoderMode) → Gives mode (c ∷ more)
-      none l e in_ascii = none_ascii l e
-      none l e in_roman =
-          let w = none-is l e in_roman in here_error in_roman c more (w.mode_is) (w.code_is) (rw reported (does_none l e in_roman)) (goes in_roman)
-      none l e in_two_byte =
-          let w = none-is l e in_two_byte in
-          escapes in_two_byte in_ascii c c more (w.mode_is) (λ f. true≢false (ap (same_mode in_two_byte) f)) (does_none l e in_two_byte) (none_ascii l e)
-
-      any_past : (mode : EncoderMode) → Gives mode (c ∷ more)
-      any_past mode = let l = looked c p in by_pointer l (euc_jp_pointer_of index l.set) refl
+      pair : (l : Looked c) (q : ℕ) → euc_jp_pointer_of index l.set ≡ Some q → Goes (c ∷ more)
+      pair l q e = goes_on c (l.set) more (λ mode. in_two_byte) (Some ((q / 94 + 0x21) ∷ (q % 94 + 0x21) ∷ [])) (λ mode. refl)
+          (λ mode. at_pair index katakana_index mode c q p.past_control p.past_ascii no_yen no_overline (l.pointer_is ∙ e))
+          (λ mode. does l (Some q) e mode ∙ escapes mode) (λ mode. does_again l (Some q) e in_two_byte) goes
         where
-          by_pointer : (l : Looked c) (o : Option ℕ) → euc_jp_pointer_of index l.set ≡ o → Gives mode (c ∷ more)
-          by_pointer l (Some q) e = pair l q e mode
-          by_pointer l None e = none l e mode
+          escapes : (mode : EncoderMode) →
+              at_pointer (state_of mode) (Some q) (l.set) ≡ acts mode in_two_byte c (l.set) (Some ((q / 94 + 0x21) ∷ (q % 94 + 0x21) ∷ []))
+          escapes in_ascii = refl
+          escapes in_roman = refl
+          escapes in_two_byte = refl
+
+      none : (l : Looked c) → euc_jp_pointer_of index l.set ≡ None → Goes (c ∷ more)
+      none l e = goes_on c c more roman_or_ascii None roman_or_ascii-twice
+          (λ mode. at_none index katakana_index mode c p.past_control p.past_ascii no_yen no_overline (l.pointer_is ∙ e))
+          (λ mode. does_none mode ∙ escapes mode) (λ mode. does_none (roman_or_ascii mode) ∙ stays mode) goes
+        where
+          does_none : (mode : EncoderMode) → handler (state_of mode) (scalar c) ≡ at_pointer (state_of mode) None c
+          does_none mode = does l None e mode ∙ ap (at_pointer (state_of mode) None) (l.same e)
+
+          escapes : (mode : EncoderMode) → at_pointer (state_of mode) None c ≡ acts mode (roman_or_ascii mode) c c None
+          escapes in_ascii = rw p.past_control refl
+          escapes in_roman = rw p.past_control refl
+          escapes in_two_byte = refl
+
+          stays : (mode : EncoderMode) → at_pointer (state_of (roman_or_ascii mode)) None c ≡ here (roman_or_ascii mode) c None
+          stays in_ascii = rw p.past_control refl
+          stays in_roman = rw p.past_control refl
+          stays in_two_byte = rw p.past_control refl
+
+      any_past : Goes (c ∷ more)
+      any_past = let l = looked c p in by_pointer l (euc_jp_pointer_of index l.set) refl
+        where
+          by_pointer : (l : Looked c) (o : Option ℕ) → euc_jp_pointer_of index l.set ≡ o → Goes (c ∷ more)
+          by_pointer l (Some q) e = pair l q e
+          by_pointer l None e = none l e
 
     -- ---- any scalar, and any text
 
@@ -323,13 +317,13 @@ module _ (index katakana_index : List ℕ) where
 
     nothing : (mode : EncoderMode) → Gives mode []
     unfolding iso_2022_jp_encodes
-    nothing in_ascii = rw (text_events-end index katakana_index in_ascii) (ends handler ascii ascii refl)
-    nothing in_roman = rw (text_events-end index katakana_index in_roman) (end_bytes handler roman ascii (escape_to in_ascii) [] refl (ends handler ascii ascii refl))
-    nothing in_two_byte = rw (text_events-end index katakana_index in_two_byte) (end_bytes handler jis0208 ascii (escape_to in_ascii) [] refl (ends handler ascii ascii refl))
+    nothing in_ascii = rw (text_events-end index katakana_index in_ascii) (ends refl)
+    nothing in_roman = rw (text_events-end index katakana_index in_roman) (end_bytes (escape_to in_ascii) refl (ends refl))
+    nothing in_two_byte = rw (text_events-end index katakana_index in_two_byte) (end_bytes (escape_to in_ascii) refl (ends refl))
 
     all_texts : (text : List ℕ) → Goes text
     all_texts [] = nothing
     all_texts (c ∷ more) = any c more (all_texts more)
 
     pub iso_2022_jp_encoded : IsEncodedBy (codecs.iso_2022_jp index katakana_index) handler ascii
-    iso_2022_jp_encoded text all = steady handler ascii text _ (all_texts text in_ascii)
+    iso_2022_jp_encoded text all = steady (all_texts text in_ascii)

@@ -5,7 +5,6 @@ use Rattle.std.specs.Prelude.{option_to_list, ◌==◌, ◌||◌, nat_lt}
 use Rattle.std.specs.Int.{is_in_range}
 use Rattle.std.specs.Char.{is_ascii}
 use Rattle.std.specs.Option.{option_map_or, option_and_then}
-use Rattle.std.proofs.lemmas.Bool.{cond_both}
 use Rattle.std.proofs.lemmas.Bool.Decides.{nat_tests}
 use Rattle.legacy_base.specs.LeadForms.{lead_front, lead_pair, pair_scalars, pointer_scalars}
 use Rattle.legacy_base.specs.EucKr.{euc_kr, euc_kr_pointer}
@@ -15,12 +14,12 @@ use Rattle.legacy_base.specs.ShiftJis.{shift_jis_front, shift_jis_pair, shift_ji
 use Rattle.legacy_base.specs.Grammar.{big5, shift_jis, events_of}
 use Rattle.legacy_base.proofs.FrontLaws.{lead_front-of, big5_front-of, shift_jis_front-of}
 use Rattle.legacy_tables.specs.Indexes.{idx}
-use Rattle.legacy_tables.specs.Unicode.{is_katakana_byte, katakana_of}
+use Rattle.legacy_tables.specs.Unicode.{is_katakana_byte}
 use Rattle.legacy_standard.specs.Queue.{returns, code_point, code_points, return_or_error}
 use Rattle.legacy_standard.specs.EucKr.{euc_kr_handler}
 use Rattle.legacy_standard.specs.Big5.{big5_handler, big5_pointer_returns}
 use Rattle.legacy_standard.specs.ShiftJis.{shift_jis_handler, shift_jis_pointer_returns}
-use Rattle.legacy_standard.proofs.Fronts.{Reads, whole, one, bad_one, returns_scalars, scalars-of, pair}
+use Rattle.legacy_standard.proofs.Fronts.{Reads, whole, by_test, one, bad_one, returns_scalars, scalars-of, pair}
 use Rattle.legacy_standard.proofs.OneResult.{IsDecodedBy}
 
 -- ---- EUC-KR
@@ -30,24 +29,22 @@ lead-some b h = grind (arith, nat_tests)
 
 module _ (index : List ℕ) where
   euc_kr-returns : (pointer : Option ℕ) (t : ℕ) →
-      return_or_error {State = ℕ} (option_and_then (idx index) pointer) t 0 ≡ returns_scalars (euc_kr_handler index) 0 (pointer_scalars index pointer) t
+      return_or_error {State = ℕ} (option_and_then (idx index) pointer) t 0 ≡ returns_scalars 0 (pointer_scalars index pointer) t
   euc_kr-returns None t = refl
-  euc_kr-returns (Some p) t = scalars-of (euc_kr_handler index) 0 (idx index p) t
+  euc_kr-returns (Some p) t = scalars-of 0 (idx index p) t
 
   euc_kr-reads : (b : ℕ) (rest : List ℕ) → Reads (euc_kr_handler index) 0 (b ∷ rest) (lead_front is_lead euc_kr_pointer index b rest)
   unfolding lead_front lead_pair euc_kr_handler
   euc_kr-reads b rest =
-      cond_both (is_ascii b) _ _ (Reads (euc_kr_handler index) 0 (b ∷ rest)) (λ h. one (euc_kr_handler index) 0 b b rest (rw h refl))
-      (λ h. cond_both (is_lead b) _ _ (Reads (euc_kr_handler index) 0 (b ∷ rest))
+      by_test (is_ascii b) _ _ (λ h. one (rw h refl)) (λ h. by_test (is_lead b) _ _
       (λ l. let some = lead-some b l in
-      pair (euc_kr_handler index) 0 b b (rw (h, l) refl) (pair_scalars euc_kr_pointer index b) (rw some refl)
-      (λ t. rw some (euc_kr-returns (euc_kr_pointer b t) t)) rest)
-      (λ l. bad_one (euc_kr_handler index) 0 b rest (rw (h, l) refl)))
+      pair {s = b} (rw (h, l) refl) (pair_scalars euc_kr_pointer index b) (rw some refl) (λ t. rw some (euc_kr-returns (euc_kr_pointer b t) t)) rest)
+      (λ l. bad_one (rw (h, l) refl)))
 
   pub euc_kr_handled : IsDecodedBy (euc_kr index) (euc_kr_handler index) 0
   unfolding events_of euc_kr_handler
   euc_kr_handled bytes all =
-      whole (euc_kr_handler index) 0 (lead_front is_lead euc_kr_pointer index) (lead_front-of index (λ p. absurd p) is_lead euc_kr_pointer) refl euc_kr-reads bytes
+      whole (lead_front is_lead euc_kr_pointer index) (lead_front-of index (λ p. absurd p) is_lead euc_kr_pointer) euc_kr-reads refl bytes
 
 -- ---- Big5
 
@@ -59,34 +56,33 @@ big5-pointer n t = grind (arith, nat_tests)
 
 module _ (index : List ℕ) where
   big5-returns : (pointer : Option ℕ) (t : ℕ) →
-      big5_pointer_returns index pointer t ≡ returns_scalars (big5_handler index) 0 (option_map_or (big5_scalars index) pointer []) t
+      big5_pointer_returns index pointer t ≡ returns_scalars 0 (option_map_or (big5_scalars index) pointer []) t
   big5-returns None t = refl
   big5-returns (Some p) t = by_tests (p == 1133) (p == 1135) (p == 1164) (p == 1166)
     where
       by_tests : (s u v w : Bool) →
           cond s (returns {State = ℕ} (code_points (0xCA ∷ 0x304 ∷ [])) 0) (cond u (returns (code_points (0xCA ∷ 0x30C ∷ [])) 0)
           (cond v (returns (code_points (0xEA ∷ 0x304 ∷ [])) 0) (cond w (returns (code_points (0xEA ∷ 0x30C ∷ [])) 0) (return_or_error (idx index p) t 0))))
-          ≡ returns_scalars (big5_handler index) 0 (cond s (0xCA ∷ 0x304 ∷ []) (cond u (0xCA ∷ 0x30C ∷ [])
+          ≡ returns_scalars 0 (cond s (0xCA ∷ 0x304 ∷ []) (cond u (0xCA ∷ 0x30C ∷ [])
           (cond v (0xEA ∷ 0x304 ∷ []) (cond w (0xEA ∷ 0x30C ∷ []) (option_to_list (idx index p)))))) t
       by_tests true u v w = refl
       by_tests false true v w = refl
       by_tests false false true w = refl
       by_tests false false false true = refl
-      by_tests false false false false = scalars-of (big5_handler index) 0 (idx index p) t
+      by_tests false false false false = scalars-of 0 (idx index p) t
 
   big5-reads : (b : ℕ) (rest : List ℕ) → Reads (big5_handler index) 0 (b ∷ rest) (big5_front index b rest)
   unfolding big5_front big5_pair big5_handler
   big5-reads b rest =
-      cond_both (is_ascii b) _ _ (Reads (big5_handler index) 0 (b ∷ rest)) (λ h. one (big5_handler index) 0 b b rest (rw h refl))
-      (λ h. cond_both (is_lead b) _ _ (Reads (big5_handler index) 0 (b ∷ rest))
+      by_test (is_ascii b) _ _ (λ h. one (rw h refl)) (λ h. by_test (is_lead b) _ _
       (λ l. let some = lead-some b l in
-      pair (big5_handler index) 0 b b (rw (h, l) refl) (λ t. option_map_or (big5_scalars index) (big5_pointer b t) []) (rw some refl)
+      pair {s = b} (rw (h, l) refl) (λ t. option_map_or (big5_scalars index) (big5_pointer b t) []) (rw some refl)
       (λ t. rw (some, big5-pointer ((b - 0x81) * 157) t) (big5-returns (big5_pointer b t) t)) rest)
-      (λ l. bad_one (big5_handler index) 0 b rest (rw (h, l) refl)))
+      (λ l. bad_one (rw (h, l) refl)))
 
   pub big5_handled : IsDecodedBy (big5 index) (big5_handler index) 0
   unfolding events_of big5_handler
-  big5_handled bytes all = whole (big5_handler index) 0 (big5_front index) (big5_front-of index (λ p. absurd p)) refl big5-reads bytes
+  big5_handled bytes all = whole (big5_front index) (big5_front-of index (λ p. absurd p)) big5-reads refl bytes
 
 -- ---- Shift_JIS
 
@@ -107,27 +103,26 @@ shift_jis-some b h = grind (arith, nat_tests)
 
 module _ (jis0208 : List ℕ) where
   shift_jis-returns : (pointer : Option ℕ) (t : ℕ) →
-      shift_jis_pointer_returns jis0208 pointer t ≡ returns_scalars (shift_jis_handler jis0208) 0 (option_map_or (shift_jis_scalars jis0208) pointer []) t
+      shift_jis_pointer_returns jis0208 pointer t ≡ returns_scalars 0 (option_map_or (shift_jis_scalars jis0208) pointer []) t
   shift_jis-returns None t = refl
   shift_jis-returns (Some p) t = by_test (is_in_range 8836 10715 p)
     where
       by_test : (s : Bool) → cond s (returns {State = ℕ} (code_point (0xE000 + (p - 8836))) 0) (return_or_error (idx jis0208 p) t 0)
-          ≡ returns_scalars (shift_jis_handler jis0208) 0 (cond s ((0xE000 + (p - 8836)) ∷ []) (option_to_list (idx jis0208 p))) t
+          ≡ returns_scalars 0 (cond s ((0xE000 + (p - 8836)) ∷ []) (option_to_list (idx jis0208 p))) t
       by_test true = refl
-      by_test false = scalars-of (shift_jis_handler jis0208) 0 (idx jis0208 p) t
+      by_test false = scalars-of 0 (idx jis0208 p) t
 
   shift_jis-reads : (b : ℕ) (rest : List ℕ) → Reads (shift_jis_handler jis0208) 0 (b ∷ rest) (shift_jis_front jis0208 b rest)
   unfolding shift_jis_front shift_jis_pair shift_jis_handler
   shift_jis-reads b rest =
-      cond_both (is_ascii b || b == 0x80) _ _ (Reads (shift_jis_handler jis0208) 0 (b ∷ rest)) (λ h. one (shift_jis_handler jis0208) 0 b b rest (rw h refl))
-      (λ h. cond_both (is_katakana_byte b) _ _ (Reads (shift_jis_handler jis0208) 0 (b ∷ rest)) (λ k. one (shift_jis_handler jis0208) 0 b (katakana_of b) rest (rw (h, k) refl))
-      (λ k. cond_both (is_shift_jis_lead b) _ _ (Reads (shift_jis_handler jis0208) 0 (b ∷ rest))
+      by_test (is_ascii b || b == 0x80) _ _ (λ h. one (rw h refl))
+      (λ h. by_test (is_katakana_byte b) _ _ (λ k. one (rw (h, k) refl))
+      (λ k. by_test (is_shift_jis_lead b) _ _
       (λ l. let some = shift_jis-some b l in
-      pair (shift_jis_handler jis0208) 0 b b (rw (h, k, l) refl) (λ t. option_map_or (shift_jis_scalars jis0208) (shift_jis_pointer b t) []) (rw some refl)
+      pair {s = b} (rw (h, k, l) refl) (λ t. option_map_or (shift_jis_scalars jis0208) (shift_jis_pointer b t) []) (rw some refl)
       (λ t. rw (some, shift_jis-pointer b t l) (shift_jis-returns (shift_jis_pointer b t) t)) rest)
-      (λ l. bad_one (shift_jis_handler jis0208) 0 b rest (rw (h, k, l) refl))))
+      (λ l. bad_one (rw (h, k, l) refl))))
 
   pub shift_jis_handled : IsDecodedBy (shift_jis jis0208) (shift_jis_handler jis0208) 0
   unfolding events_of shift_jis_handler
-  shift_jis_handled bytes all =
-      whole (shift_jis_handler jis0208) 0 (shift_jis_front jis0208) (shift_jis_front-of jis0208 (λ p. absurd p)) refl shift_jis-reads bytes
+  shift_jis_handled bytes all = whole (shift_jis_front jis0208) (shift_jis_front-of jis0208 (λ p. absurd p)) shift_jis-reads refl bytes

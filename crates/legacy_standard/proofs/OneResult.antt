@@ -9,11 +9,11 @@ use Rattle.legacy_base.specs.Grammar.{Grammar, events_of}
 use Rattle.legacy_tables.specs.Unicode.{AreBytes}
 
 -- the first result is none, or both are the same
-abbrev pub Agrees : Option (List DecodeEvent) → Option (List DecodeEvent) → Type 0
+abbrev pub Agrees : {E : Type 0} → Option (List E) → Option (List E) → Type 0
 Agrees None x = Unit {0}
 Agrees (Some events) x = x ≡ Some events
 
-agrees-map : (f : List DecodeEvent → List DecodeEvent) (x y : Option (List DecodeEvent)) → Agrees x y → Agrees (option_map f x) (option_map f y)
+pub agrees-map : {E : Type 0} (f : List E → List E) (x y : Option (List E)) → Agrees x y → Agrees (option_map f x) (option_map f y)
 agrees-map f None y h = tt
 agrees-map f (Some events) y h = rw h refl
 
@@ -37,16 +37,22 @@ module _ {S : Type 0} (handler : S → Item → Handled S) where
       agrees-act (process handler m) (process handler n) (agrees m n (omega arith)) (a.outcome) (a.state) place (size - length a.restored) (a.restored)
   agrees (suc m) (suc n) h s place size (b ∷ rest) =
       let a = handler s (byte b) in
-      agrees-act (process handler m) (process handler n) (agrees m n (omega arith)) (a.outcome) (a.state) place (size + 1 - length a.restored) (a.restored ++ rest)
+      agrees-act (process handler m) (process handler n) (agrees m n (omega arith)) (a.outcome) (a.state) place (size + 1 - length a.restored)
+      (a.restored ++ rest)
 
   -- within some number of turns the events are these
-  abbrev pub Runs : S → ℕ → ℕ → List ℕ → List DecodeEvent → Type 0
-  Runs s place size queue events = (turns : ℕ) × (process handler turns s place size queue ≡ Some events)
+  pub record Runs (s : S) (place size : ℕ) (queue : List ℕ) (events : List DecodeEvent) : Type 0 where
+    pub turns : ℕ
+    pub run : process handler turns s place size queue ≡ Some events
 
-  -- and they are the same with more turns
-  pub steady : (s : S) (place size : ℕ) (queue : List ℕ) (events : List DecodeEvent) → Runs s place size queue events → Processes handler s place size queue events
-  steady s place size queue events (n, h) =
-      (n, λ more. let same : Agrees (process handler n s place size queue) (process handler (n + more) s place size queue) = agrees n (n + more) (omega arith) s place size queue in rw h at same)
+-- and they are the same with more turns
+pub steady : {S : Type 0} {handler : S → Item → Handled S} {s : S} {place size : ℕ} {queue : List ℕ} {events : List DecodeEvent} →
+    Runs handler s place size queue events → Processes handler s place size queue events
+steady {handler = handler} {s} {place} {size} {queue} {events} r = (r.turns, λ more. same (r.turns) (r.turns + more) r.run (omega arith))
+  where
+    same : (m n : ℕ) → process handler m s place size queue ≡ Some events → m ≤ n → process handler n s place size queue ≡ Some events
+    same m n e h =
+        let a : Agrees (process handler m s place size queue) (process handler n s place size queue) = agrees handler m n h s place size queue in rw e at a
 
 -- the handler gives the events of the grammar for every list of bytes
 abbrev pub IsDecodedBy : {State : Type 0} → Grammar → (State → Item → Handled State) → State → Type 0

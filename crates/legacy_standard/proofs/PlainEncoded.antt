@@ -1,5 +1,6 @@
 -- The handlers of the encoders without a state give the events of their definitions.
-use Rattle.std.proofs.Common.{◌≡◌, ◌≢◌, ◌∙◌, ◌≤◌, ◌<◌, length, inl, inr, sym, ℕ, ◌+◌, ◌-◌, ◌%◌, Bool, cond, List, [], ◌∷◌, ◌++◌, Option, Some, None, refl, true, false, arith}
+use Rattle.std.proofs.Common.{◌≡◌, ◌≢◌, ◌∙◌, ◌≤◌, ◌<◌, length, inl, inr, sym, ℕ, ◌+◌, ◌-◌, ◌%◌, Bool, cond, List, [], ◌∷◌, ◌++◌, Option, Some, None, refl}
+use Rattle.std.proofs.Common.{true, false, arith}
 use Rattle.std.specs.Prelude.{option_map, is_some, ◌==◌, ◌||◌, position}
 use Rattle.std.specs.Option.{option_or}
 use Rattle.std.specs.Int.{is_in_range}
@@ -43,28 +44,25 @@ abbrev by_code : ℕ → Option (List ℕ) → TextOutcome
 by_code c None = error_with c
 by_code c (Some bs) = bytes bs
 
-by_code-cond : (c : ℕ) (t : Bool) (a b : Option (List ℕ)) → cond t (by_code c a) (by_code c b) ≡ by_code c (cond t a b)
-by_code-cond c true a b = refl
-by_code-cond c false a b = refl
-
 -- if both cases of a test give the results of their codes, so does the test
-either : (c : ℕ) (t : Bool) (x y : TextOutcome) (a b : Option (List ℕ)) → (t ≡ true → x ≡ by_code c a) → (t ≡ false → y ≡ by_code c b) → cond t x y ≡ by_code c (cond t a b)
+either : (c : ℕ) (t : Bool) (x y : TextOutcome) (a b : Option (List ℕ)) → (t ≡ true → x ≡ by_code c a) → (t ≡ false → y ≡ by_code c b) →
+    cond t x y ≡ by_code c (cond t a b)
 either c true x y a b p q = p refl
 either c false x y a b p q = q refl
 
 module _ (outcome : ℕ → TextOutcome) (code : ℕ → Option (List ℕ)) (is : (c : ℕ) → IsScalar c → outcome c ≡ by_code c (code c)) where
   writes : (text : List ℕ) → AreScalars text → Writes (by_scalar outcome) tt text (plain_events code text)
   unfolding plain_events
-  writes [] all = ends (by_scalar outcome) tt tt refl
+  writes [] all = ends refl
   writes (c ∷ text) all = by_case (code c) (is c (All-head IsScalar c text all)) (writes text (All-tail IsScalar c text all))
     where
       by_case : (o : Option (List ℕ)) → outcome c ≡ by_code c o → Writes (by_scalar outcome) tt text (plain_events code text) →
           Writes (by_scalar outcome) tt (c ∷ text) (code_events c o ++ plain_events code text)
-      by_case None e h = gives_error (by_scalar outcome) tt tt c c text _ (rw e refl) h
-      by_case (Some bs) e h = gives_bytes (by_scalar outcome) tt tt c bs text _ (rw e refl) h
+      by_case None e h = gives_error {t = tt} (rw e refl) h
+      by_case (Some bs) e h = gives_bytes {t = tt} bs (rw e refl) h
 
   plain_of_scalars : (text : List ℕ) → AreScalars text → Encodes (by_scalar outcome) tt text (plain_events code text)
-  plain_of_scalars text all = steady (by_scalar outcome) tt text _ (writes text all)
+  plain_of_scalars text all = steady (writes text all)
 
 plain : (outcome : ℕ → TextOutcome) (code : ℕ → Option (List ℕ)) → ((c : ℕ) → outcome c ≡ by_code c (code c)) →
     (text : List ℕ) → AreScalars text → Encodes (by_scalar outcome) tt text (plain_events code text)
@@ -83,18 +81,22 @@ pointer-position table c some = by_pointer (index_pointer table c) refl
     taken : IsTaken every_pointer table c (index_pointer table c)
     taken = first-taken every_pointer table c
 
-    place-is : (i : ℕ) → i ≤ length table → ((k : ℕ) → k < i → slice_index table k ≡ c → ⊥) → (i < length table → slice_index table i ≡ c) → position_or_len (λ entry. entry == c) table ≡ i
+    place-is : (i : ℕ) → i ≤ length table → ((k : ℕ) → k < i → slice_index table k ≡ c → ⊥) → (i < length table → slice_index table i ≡ c) →
+        position_or_len (λ entry. entry == c) table ≡ i
     place-is i few before here =
-        position_or_len_is (λ entry. entry == c) table i 0 few (λ k h. ne_eqb (slice_index table k) c (before k h)) (λ h. eq-eqb (slice_index table i) c (here h))
+        position_or_len_is (λ entry. entry == c) table i 0 few (λ k h. ne_eqb (slice_index table k) c (before k h))
+        (λ h. eq-eqb (slice_index table i) c (here h))
 
     by_pointer : (o : Option ℕ) → index_pointer table c ≡ o → o ≡ position (λ entry. entry == c) table
     by_pointer None e =
-        let last : position_or_len (λ entry. entry == c) table ≡ length table = place-is (length table) (omega arith) (λ k h is. taken.missing e k refl is some) (λ h. absurd (omega arith)) in
+        let last : position_or_len (λ entry. entry == c) table ≡ length table =
+        place-is (length table) (omega arith) (λ k h is. taken.missing e k refl is some) (λ h. absurd (omega arith)) in
         rw (last, le-ltb (length table) (length table) (omega arith)) refl
     by_pointer (Some s) e = elim (cases_lt s (length table)) [
       | inl h ↦
           let found : position_or_len (λ entry. entry == c) table ≡ s =
-          place-is s (omega arith) (λ k l is. let least = first-least every_pointer table c s k e refl is some in absurd (omega arith)) (λ l. (taken.chosen s e).1) in
+          place-is s (omega arith) (λ k l is. let least = first-least every_pointer table c s k e refl is some in absurd (omega arith))
+          (λ l. (taken.chosen s e).1) in
           rw (found, lt-ltb s (length table) h) refl
       | inr h ↦ absurd (some (sym (taken.chosen s e).1 ∙ get_or_past table s 0 h))
     ]
@@ -155,7 +157,8 @@ at_some at bytes_of is c d None h = absurd (false≢true h)
 at_some at bytes_of is c d (Some p) h = is (Some p) d
 
 minus-is : (at : Option ℕ → ℕ → TextOutcome) (bytes_of : ℕ → List ℕ) → ((o : Option ℕ) (c : ℕ) → at o c ≡ by_code c (option_map bytes_of o)) →
-    (pointer : ℕ → Option ℕ) → is_some (pointer 0xFF0D) ≡ true → (c : ℕ) → at (pointer (minus_set c)) (minus_set c) ≡ by_code c (option_map bytes_of (pointer (minus_set c)))
+    (pointer : ℕ → Option ℕ) → is_some (pointer 0xFF0D) ≡ true → (c : ℕ) →
+    at (pointer (minus_set c)) (minus_set c) ≡ by_code c (option_map bytes_of (pointer (minus_set c)))
 minus-is at bytes_of is pointer hyphen c =
     cond_both (c == 0x2212) 0xFF0D c (λ d. at (pointer d) d ≡ by_code c (option_map bytes_of (pointer d)))
     (λ h. at_some at bytes_of is c 0xFF0D (pointer 0xFF0D) hyphen) (λ h. is (pointer c) c)
@@ -169,13 +172,16 @@ shift_jis_at-is : (o : Option ℕ) (c : ℕ) → shift_jis_at o c ≡ by_code c 
 shift_jis_at-is None c = refl
 shift_jis_at-is (Some p) c = refl
 
-shift_jis-is : (jis0208 : List ℕ) → is_some (shift_jis_pointer_of jis0208 0xFF0D) ≡ true → (c : ℕ) → shift_jis_encodes jis0208 c ≡ by_code c (shift_jis_code jis0208 c)
+shift_jis-is : (jis0208 : List ℕ) → is_some (shift_jis_pointer_of jis0208 0xFF0D) ≡ true → (c : ℕ) →
+    shift_jis_encodes jis0208 c ≡ by_code c (shift_jis_code jis0208 c)
 unfolding shift_jis_encodes shift_jis_code
 shift_jis-is jis0208 hyphen c =
     either c (is_ascii c || c == 0x80) _ _ _ _ (λ h. refl) (λ h. either c (c == 0xA5) _ _ _ _ (λ k. refl) (λ k. either c (c == 0x203E) _ _ _ _ (λ l. refl)
-    (λ l. either c (is_katakana_scalar c) _ _ _ _ (λ m. rw (katakana_back c) refl) (λ m. minus-is shift_jis_at shift_jis_bytes shift_jis_at-is (shift_jis_pointer_of jis0208) hyphen c))))
+    (λ l. either c (is_katakana_scalar c) _ _ _ _ (λ m. rw (katakana_back c) refl)
+    (λ m. minus-is shift_jis_at shift_jis_bytes shift_jis_at-is (shift_jis_pointer_of jis0208) hyphen c))))
 
-pub shift_jis_encoded : (jis0208 : List ℕ) → is_some (shift_jis_pointer_of jis0208 0xFF0D) ≡ true → IsEncodedBy (codecs.shift_jis jis0208) (by_scalar (shift_jis_encodes jis0208)) tt
+pub shift_jis_encoded : (jis0208 : List ℕ) → is_some (shift_jis_pointer_of jis0208 0xFF0D) ≡ true →
+    IsEncodedBy (codecs.shift_jis jis0208) (by_scalar (shift_jis_encodes jis0208)) tt
 shift_jis_encoded jis0208 hyphen = plain (shift_jis_encodes jis0208) (shift_jis_code jis0208) (shift_jis-is jis0208 hyphen)
 
 -- ---- EUC-JP
@@ -207,7 +213,8 @@ module _ (index : List ℕ) (ranges : List (ℕ × ℕ)) (pua : List (ℕ × ℕ
   row-is : (c : ℕ) (row : Option (ℕ × ℕ)) (pointer : Option ℕ) → index_pointer index c ≡ pointer →
       (row ≡ None → pointer ≡ None → ranges_pointer ranges c ≡ range_pointer_of ranges c) →
       gb18030_row false index ranges row c
-      ≡ by_code c (option_or (option_or (option_map (λ r. r.0 ∷ r.1 ∷ []) row) (option_map gb18030_pair_bytes pointer)) (option_map gb18030_range_bytes (range_pointer_of ranges c)))
+      ≡ by_code c (option_or (option_or (option_map (λ r. r.0 ∷ r.1 ∷ []) row) (option_map gb18030_pair_bytes pointer))
+      (option_map gb18030_range_bytes (range_pointer_of ranges c)))
   row-is c (Some r) pointer e ranged = refl
   row-is c None (Some p) e ranged = rw e refl
   row-is c None None e ranged = rw (e, ranged refl refl) (range_at-is (range_pointer_of ranges c) c)
@@ -218,7 +225,8 @@ module _ (index : List ℕ) (ranges : List (ℕ × ℕ)) (pua : List (ℕ × ℕ
   gbk_row-is c None (Some p) e = rw e refl
   gbk_row-is c None None e = rw e refl
 
-  gb18030-is : AreAcceptedRanges ranges → HasRangePointers index ranges pua → (c : ℕ) → IsScalar c → gb18030_encodes false index ranges pua c ≡ by_code c (gb18030_code index ranges pua c)
+  gb18030-is : AreAcceptedRanges ranges → HasRangePointers index ranges pua → (c : ℕ) → IsScalar c →
+      gb18030_encodes false index ranges pua c ≡ by_code c (gb18030_code index ranges pua c)
   unfolding gb18030_encodes gb18030_code
   gb18030-is accepted ranged c s =
       either c (is_ascii c) _ _ _ _ (λ h. refl) (λ h. either c (c == 0xE5E5) _ _ _ _ (λ k. refl)
@@ -230,7 +238,8 @@ module _ (index : List ℕ) (ranges : List (ℕ × ℕ)) (pua : List (ℕ × ℕ
       either c (is_ascii c) _ _ _ _ (λ h. refl) (λ h. either c (c == 0xE5E5) _ _ _ _ (λ k. refl) (λ k. either c (c == 0x20AC) _ _ _ _ (λ l. refl)
       (λ l. gbk_row-is c (gb18030_pua_of pua c) (index_pointer index c) refl)))
 
-  pub gb18030_encoded : AreAcceptedRanges ranges → HasRangePointers index ranges pua → IsEncodedBy (codecs.gb18030 index ranges pua) (by_scalar (gb18030_encodes false index ranges pua)) tt
+  pub gb18030_encoded : AreAcceptedRanges ranges → HasRangePointers index ranges pua →
+      IsEncodedBy (codecs.gb18030 index ranges pua) (by_scalar (gb18030_encodes false index ranges pua)) tt
   gb18030_encoded accepted ranged = plain_of_scalars (gb18030_encodes false index ranges pua) (gb18030_code index ranges pua) (gb18030-is accepted ranged)
 
   pub gbk_encoded : IsEncodedBy (codecs.gbk index ranges pua) (by_scalar (gb18030_encodes true index ranges pua)) tt

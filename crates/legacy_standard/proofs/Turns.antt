@@ -6,33 +6,33 @@ use Rattle.legacy_standard.specs.Queue.{Item, byte, end_of_queue, Handled, conti
 use Rattle.legacy_standard.specs.Processing.{process}
 use Rattle.legacy_standard.proofs.OneResult.{Runs}
 
-module _ {S : Type 0} (handler : S → Item → Handled S) where
+module _ {S : Type 0} {handler : S → Item → Handled S} where
   -- at the end of the queue the handler has finished
-  pub at_end : (s t : S) (place size : ℕ) → handler s end_of_queue ≡ returns finished t → Runs handler s place size [] []
+  pub at_end : {s t : S} {place size : ℕ} → handler s end_of_queue ≡ returns finished t → Runs handler s place size [] []
   unfolding process
-  at_end s t place size e = (1, rw e refl)
+  at_end e = record { turns = 1; run = rw e refl }
 
   -- at the end of the queue the handler returns error
-  pub error_at_end : (s t : S) (place size : ℕ) (es : List DecodeEvent) → handler s end_of_queue ≡ returns error t →
+  pub error_at_end : {s t : S} {place size : ℕ} {es : List DecodeEvent} → handler s end_of_queue ≡ returns error t →
       Runs handler t (place + (size - 0)) 0 [] es → Runs handler s place size [] (Bad place (size - 0) ∷ es)
   unfolding process
-  error_at_end s t place size es e (n, h) = (suc n, rw (e, h) refl)
+  error_at_end e h = record { turns = suc h.turns; run = rw (e, h.run) refl }
 
   -- the handler reads the byte and continues
-  pub goes_on : (s t : S) (place size b : ℕ) (rest : List ℕ) (es : List DecodeEvent) → handler s (byte b) ≡ returns continue t →
+  pub goes_on : {s t : S} {place size b : ℕ} {rest : List ℕ} {es : List DecodeEvent} → handler s (byte b) ≡ returns continue t →
       Runs handler t place (size + 1 - 0) rest es → Runs handler s place size (b ∷ rest) es
   unfolding process
-  goes_on s t place size b rest es e (n, h) = (suc n, rw e h)
+  goes_on e h = record { turns = suc h.turns; run = rw e h.run }
 
   -- the handler returns error: the malformed sequence consists of the bytes read but not restored
-  pub error_at : (s t : S) (place size b : ℕ) (bytes rest : List ℕ) (es : List DecodeEvent) → handler s (byte b) ≡ restores bytes error t →
-      Runs handler t (place + (size + 1 - length bytes)) 0 (bytes ++ rest) es →
+  pub error_at : {s t : S} {place size b : ℕ} (bytes : List ℕ) {rest : List ℕ} {es : List DecodeEvent} →
+      handler s (byte b) ≡ restores bytes error t → Runs handler t (place + (size + 1 - length bytes)) 0 (bytes ++ rest) es →
       Runs handler s place size (b ∷ rest) (Bad place (size + 1 - length bytes) ∷ es)
   unfolding process
-  error_at s t place size b bytes rest es e (n, h) = (suc n, rw (e, h) refl)
+  error_at bytes e h = record { turns = suc h.turns; run = rw (e, h.run) refl }
 
   -- the handler returns code points
-  pub gives : (s t : S) (place size b : ℕ) (cs rest : List ℕ) (es : List DecodeEvent) → handler s (byte b) ≡ returns (code_points cs) t →
+  pub gives : {s t : S} {place size b : ℕ} (cs : List ℕ) {rest : List ℕ} {es : List DecodeEvent} → handler s (byte b) ≡ returns (code_points cs) t →
       Runs handler t (place + (size + 1 - 0)) 0 rest es → Runs handler s place size (b ∷ rest) (map Scalar cs ++ es)
   unfolding process
-  gives s t place size b cs rest es e (n, h) = (suc n, rw (e, h) refl)
+  gives cs e h = record { turns = suc h.turns; run = rw (e, h.run) refl }

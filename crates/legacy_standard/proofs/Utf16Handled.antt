@@ -4,7 +4,6 @@ use Rattle.std.specs.Prelude.{◌&&◌}
 use Rattle.std.specs.Char.Utf16.{is_high_surrogate, is_low_surrogate, surrogate_pair_char}
 use Rattle.std.proofs.lemmas.Bool.{cond_both, and_from, and_left, and_right}
 use Rattle.std.proofs.lemmas.List.Elements.{All-head, All-tail}
-use Rattle.std.proofs.lemmas.Bool.Decides.{nat_tests}
 use Rattle.legacy_base.specs.declared.results.DecodeEvent.{DecodeEvent}
 use Rattle.legacy_base.specs.declared.results.DecodeEvent.TheVariants.{Scalar, Bad}
 use Rattle.legacy_base.specs.Utf16.{unit_of, units_of, has_odd_byte, lone_unit_events, units_events, utf16_events}
@@ -25,9 +24,6 @@ bytes-back false a b p q =
     let high : (b * 0x100 + a) / 0x100 ≡ b = omega arith in
     let low : (b * 0x100 + a) % 0x100 ≡ a = omega arith in
     rw (high, low) refl
-
-not_both : (u : ℕ) → is_low_surrogate u ≡ true → is_high_surrogate u ≡ false
-not_both u h = grind (arith, nat_tests)
 
 module _ (is_utf16be : Bool) where
   abbrev handler : Utf16 → Item → Handled Utf16
@@ -100,76 +96,62 @@ module _ (is_utf16be : Bool) where
       rw (lone-events i (unit a b) (units_of is_utf16be rest) (has_odd_byte rest) h, h)
       (cond_both (is_low_surrogate (unit a b)) (Bad (2 * i) 2 ∷ []) (Scalar (unit a b) ∷ [])
       (λ es. Runs handler utf16_initial (2 * i) 0 (a ∷ b ∷ rest) (es ++ events (i + 1) rest))
-      (λ l. goes_on handler utf16_initial (utf16_state (Some a) None) (2 * i) 0 a (b ∷ rest) _ (first a None)
-      (error_at handler (utf16_state (Some a) None) utf16_initial (2 * i) 1 b [] rest _ (rw (second a b None, h, l) refl) (rw (next i) after)))
-      (λ l. goes_on handler utf16_initial (utf16_state (Some a) None) (2 * i) 0 a (b ∷ rest) _ (first a None)
-      (gives handler (utf16_state (Some a) None) utf16_initial (2 * i) 1 b (unit a b ∷ []) rest _ (rw (second a b None, h, l) refl) (rw (next i) after))))
+      (λ l. goes_on (first a None) (error_at {t = utf16_initial} [] (rw (second a b None, h, l) refl) (rw (next i) after)))
+      (λ l. goes_on (first a None) (gives {t = utf16_initial} (unit a b ∷ []) (rw (second a b None, h, l) refl) (rw (next i) after))))
 
   -- the handler's steps for a high surrogate
-  over_high : (place a b : ℕ) (rest : List ℕ) (es : List DecodeEvent) → is_high_surrogate (unit a b) ≡ true →
+  over_high : {place a b : ℕ} {rest : List ℕ} {es : List DecodeEvent} → is_high_surrogate (unit a b) ≡ true →
       Runs handler (utf16_state None (Some (unit a b))) place 2 rest es → Runs handler utf16_initial place 0 (a ∷ b ∷ rest) es
-  over_high place a b rest es h after =
-      goes_on handler utf16_initial (utf16_state (Some a) None) place 0 a (b ∷ rest) es (first a None)
-      (goes_on handler (utf16_state (Some a) None) (utf16_state None (Some (unit a b))) place 1 b rest es (rw (second a b None, h) refl) after)
+  over_high {a = a} {b = b} h after = goes_on (first a None) (goes_on (rw (second a b None, h) refl) after)
 
   nothing : (i : ℕ) → Gives i []
   unfolding units_of has_odd_byte units_events
-  nothing i = at_end handler utf16_initial utf16_initial (2 * i) 0 ends
+  nothing i = at_end ends
 
   odd_byte : (i a : ℕ) → Gives i (a ∷ [])
   unfolding units_of has_odd_byte units_events
-  odd_byte i a =
-      goes_on handler utf16_initial (utf16_state (Some a) None) (2 * i) 0 a [] _ (first a None)
-      (error_at_end handler (utf16_state (Some a) None) utf16_initial (2 * i) 1 [] (end_odd a None) (at_end handler utf16_initial utf16_initial (2 * i + 1) 0 ends))
+  odd_byte i a = goes_on (first a None) (error_at_end (end_odd a None) (at_end ends))
 
   high_alone : (i a b : ℕ) → is_high_surrogate (unit a b) ≡ true → Gives i (a ∷ b ∷ [])
   unfolding units_of has_odd_byte units_events
-  high_alone i a b h =
-      rw h (over_high (2 * i) a b [] _ h
-      (error_at_end handler (utf16_state None (Some (unit a b))) utf16_initial (2 * i) 2 [] (end_high (unit a b)) (at_end handler utf16_initial utf16_initial (2 * i + 2) 0 ends)))
+  high_alone i a b h = rw h (over_high h (error_at_end (end_high (unit a b)) (at_end ends)))
 
   high_odd : (i a b c : ℕ) → is_high_surrogate (unit a b) ≡ true → Gives i (a ∷ b ∷ c ∷ [])
   unfolding units_of has_odd_byte units_events
-  high_odd i a b c h =
-      rw h (over_high (2 * i) a b (c ∷ []) _ h
-      (goes_on handler (utf16_state None (Some (unit a b))) (utf16_state (Some c) (Some (unit a b))) (2 * i) 2 c [] _ (first c (Some (unit a b)))
-      (error_at_end handler (utf16_state (Some c) (Some (unit a b))) utf16_initial (2 * i) 3 [] (end_odd c (Some (unit a b))) (at_end handler utf16_initial utf16_initial (2 * i + 3) 0 ends))))
+  high_odd i a b c h = rw h (over_high h (goes_on (first c (Some (unit a b))) (error_at_end (end_odd c (Some (unit a b))) (at_end ends))))
 
-  high_more : (i a b c d : ℕ) (rest : List ℕ) → IsByte c → IsByte d → is_high_surrogate (unit a b) ≡ true → Gives (i + 2) rest → Gives (i + 1) (c ∷ d ∷ rest) →
-      Gives i (a ∷ b ∷ c ∷ d ∷ rest)
+  high_more : (i a b c d : ℕ) (rest : List ℕ) → IsByte c → IsByte d → is_high_surrogate (unit a b) ≡ true → Gives (i + 2) rest →
+      Gives (i + 1) (c ∷ d ∷ rest) → Gives i (a ∷ b ∷ c ∷ d ∷ rest)
   unfolding units_of has_odd_byte
-  high_more i a b c d rest p q h after other =
-      over_high (2 * i) a b (c ∷ d ∷ rest) _ h
-      (goes_on handler (utf16_state None (Some (unit a b))) (utf16_state (Some c) (Some (unit a b))) (2 * i) 2 c (d ∷ rest) _ (first c (Some (unit a b)))
-      (by_low (is_low_surrogate (unit c d)) refl))
+  high_more i a b c d rest p q h after other = over_high h (goes_on (first c (Some (unit a b))) (by_low (is_low_surrogate (unit c d)) refl))
     where
-      by_low : (t : Bool) → is_low_surrogate (unit c d) ≡ t →
-          Runs handler (utf16_state (Some c) (Some (unit a b))) (2 * i) 3 (d ∷ rest) (units_events i (unit a b ∷ unit c d ∷ units_of is_utf16be rest) (has_odd_byte rest))
+      by_low : (t : Bool) → is_low_surrogate (unit c d) ≡ t → Runs handler (utf16_state (Some c) (Some (unit a b))) (2 * i) 3 (d ∷ rest)
+          (units_events i (unit a b ∷ unit c d ∷ units_of is_utf16be rest) (has_odd_byte rest))
       by_low true l =
           rw (pair-events i (unit a b) (unit c d) (units_of is_utf16be rest) (has_odd_byte rest) h l)
-          (gives handler (utf16_state (Some c) (Some (unit a b))) utf16_initial (2 * i) 3 d (surrogate_pair_char (unit a b) (unit c d) ∷ []) rest _
-          (rw (second c d (Some (unit a b)), l) refl) (rw (over_next i) after))
+          (gives {t = utf16_initial} (surrogate_pair_char (unit a b) (unit c d) ∷ []) (rw (second c d (Some (unit a b)), l) refl) (rw (over_next i) after))
       by_low false l =
           rw (high-events i (unit a b) (unit c d) (units_of is_utf16be rest) (has_odd_byte rest) h l)
-          (error_at handler (utf16_state (Some c) (Some (unit a b))) utf16_initial (2 * i) 3 d (c ∷ d ∷ []) rest _
-          (rw (second c d (Some (unit a b)), l, bytes-back is_utf16be c d p q) refl) (rw (next i) other))
+          (error_at {t = utf16_initial} (c ∷ d ∷ []) (rw (second c d (Some (unit a b)), l, bytes-back is_utf16be c d p q) refl) (rw (next i) other))
+
+  -- by the first code unit's kind
+  by_high : (i a b : ℕ) (rest : List ℕ) → (is_high_surrogate (unit a b) ≡ true → Gives i (a ∷ b ∷ rest)) → Gives (i + 1) rest → Gives i (a ∷ b ∷ rest)
+  by_high i a b rest high after =
+      cond_both (is_high_surrogate (unit a b)) true false (λ s. Gives i (a ∷ b ∷ rest)) high (λ f. lone i a b rest f after)
 
   below : (n i : ℕ) (bytes : List ℕ) → AreBytes bytes → length bytes ≤ n → Gives i bytes
   below n i [] all h = nothing i
   below n i (a ∷ []) all h = odd_byte i a
   below zero i (a ∷ b ∷ rest) all h = absurd (omega arith)
-  below (suc n) i (a ∷ b ∷ []) all h =
-      cond_both (is_high_surrogate (unit a b)) true false (λ s. Gives i (a ∷ b ∷ [])) (λ t. high_alone i a b t) (λ f. lone i a b [] f (nothing (i + 1)))
-  below (suc n) i (a ∷ b ∷ c ∷ []) all h =
-      cond_both (is_high_surrogate (unit a b)) true false (λ s. Gives i (a ∷ b ∷ c ∷ [])) (λ t. high_odd i a b c t) (λ f. lone i a b (c ∷ []) f (odd_byte (i + 1) c))
+  below (suc n) i (a ∷ b ∷ []) all h = by_high i a b [] (high_alone i a b) (nothing (i + 1))
+  below (suc n) i (a ∷ b ∷ c ∷ []) all h = by_high i a b (c ∷ []) (high_odd i a b c) (odd_byte (i + 1) c)
   below (suc n) i (a ∷ b ∷ c ∷ d ∷ rest) all h =
       let behind_b : AreBytes (c ∷ d ∷ rest) = All-tail IsByte b (c ∷ d ∷ rest) (All-tail IsByte a (b ∷ c ∷ d ∷ rest) all) in
       let behind_c : AreBytes (d ∷ rest) = All-tail IsByte c (d ∷ rest) behind_b in
       let after : Gives (i + 2) rest = below n (i + 2) rest (All-tail IsByte d rest behind_c) (omega arith) in
       let other : Gives (i + 1) (c ∷ d ∷ rest) = below n (i + 1) (c ∷ d ∷ rest) behind_b (omega arith) in
-      cond_both (is_high_surrogate (unit a b)) true false (λ s. Gives i (a ∷ b ∷ c ∷ d ∷ rest))
-      (λ t. high_more i a b c d rest (All-head IsByte c (d ∷ rest) behind_b) (All-head IsByte d rest behind_c) t after other) (λ f. lone i a b (c ∷ d ∷ rest) f other)
+      by_high i a b (c ∷ d ∷ rest) (λ t. high_more i a b c d rest (All-head IsByte c (d ∷ rest) behind_b) (All-head IsByte d rest behind_c) t after other) other
 
   pub utf16_handled : IsDecodedBy (utf16 is_utf16be) (utf16_handler is_utf16be) utf16_initial
   unfolding events_of utf16_events
-  utf16_handled bytes all = steady handler utf16_initial 0 0 bytes _ (below (length bytes) 0 bytes all (omega arith))
+  utf16_handled bytes all = steady (below (length bytes) 0 bytes all (omega arith))

@@ -1,4 +1,5 @@
-use Rattle.std.proofs.Common.{◌≡◌, ◌∙◌, ℕ, ◌+◌, ◌-◌, ◌/◌, ◌%◌, ◌≤◌, ◌<◌, Bool, true, false, List, [], ◌∷◌, ◌++◌, length, Some, None, nat_lt, inl, inr, refl, sym, ap, subst, arith}
+use Rattle.std.proofs.Common.{◌≡◌, ◌∙◌, ℕ, ◌+◌, ◌-◌, ◌/◌, ◌%◌, ◌≤◌, ◌<◌, Bool, true, false, List, [], ◌∷◌, ◌++◌, length, Some, None, nat_lt, inl, inr, refl}
+use Rattle.std.proofs.Common.{sym, ap, subst, arith}
 use Rattle.std.specs.Prelude.{replicate, slice_index, option_map, ◌&&◌}
 use Rattle.std.specs.Int.{is_in_range}
 use Rattle.std.proofs.lemmas.List.{get_or-replicate, get_or-append_right, length-replicate, length-append}
@@ -52,7 +53,8 @@ past_ranges : encoded (new_encoder (codecs.gb18030 [] ((0, 0x80) ∷ []) [])) (0
 unfolding plain_events gb18030_code first_pointer range_order_fault
 past_ranges =
     let none : None ≡ range_pointer_of ((0, 0x80) ∷ []) 0x9A7C =
-    pointer-past ((0, 0x80) ∷ []) refl 0x9A7C (omega arith) (λ e. absurd (omega arith)) 0 (omega arith) (omega arith) (λ k l h. absurd (omega arith)) 39420 refl (omega arith) in
+    pointer-past ((0, 0x80) ∷ []) refl 0x9A7C (omega arith) (λ e. absurd (omega arith)) 0 (omega arith) (omega arith) (λ k l h. absurd (omega arith)) 39420 refl
+    (omega arith) in
     rw (← none) refl
 
 -- an index with one entry
@@ -90,7 +92,8 @@ unfolding text_queue.process euc_jp_encodes plain_events euc_jp_code
 past_rows n past =
     let index = entry_at n 0x4E00 in
     let handled : List EncodeEvent = Byte (n / 94 + 0xA1) ∷ Byte (n % 94 + 0xA1) ∷ [] in (
-      subst (λ o. text_queue.act_on (text_queue.process (by_scalar (euc_jp_encodes index)) 19) (euc_jp_at o 0x4E00) tt [] ≡ Some handled) (sym (entry_pointer n)) refl,
+      subst (λ o. text_queue.act_on (text_queue.process (by_scalar (euc_jp_encodes index)) 19) (euc_jp_at o 0x4E00) tt [] ≡ Some handled)
+          (sym (entry_pointer n)) refl,
       subst (λ o. code_events 0x4E00 (option_map euc_jp_bytes o) ++ [] ≡ Unmappable 0x4E00 ∷ []) (sym (entry_past n past)) refl,
     )
 
@@ -110,7 +113,8 @@ fold c h =
     }
 
 pub returns-clause-bytes : goal.returns-clause-bytes
-unfolding process single_byte_handler user_defined_handler replacement_handler euc_kr_handler big5_handler shift_jis_handler euc_jp_handler gb18030_handler utf16_handler iso_2022_jp_handler range mode_after part_mode
+unfolding process single_byte_handler user_defined_handler replacement_handler euc_kr_handler big5_handler shift_jis_handler euc_jp_handler gb18030_handler
+    utf16_handler iso_2022_jp_handler range mode_after part_mode
 returns-clause-bytes c = record {
   single_byte = refl;
   user_defined = refl;
@@ -131,7 +135,8 @@ returns-clause-bytes c = record {
 }
 
 pub returns-clause-texts : goal.returns-clause-texts
-unfolding text_queue.process single_byte_encodes user_defined_encodes euc_kr_encodes big5_encodes shift_jis_encodes euc_jp_encodes gb18030_encodes iso_2022_jp_encodes ranges_pointer first_pointer last_pointer
+unfolding text_queue.process single_byte_encodes user_defined_encodes euc_kr_encodes big5_encodes shift_jis_encodes euc_jp_encodes gb18030_encodes
+    iso_2022_jp_encodes ranges_pointer first_pointer last_pointer
 returns-clause-texts c = record {
   single_byte = refl;
   user_defined = refl;
@@ -145,7 +150,8 @@ returns-clause-texts c = record {
 }
 
 pub returns-clause-without_pointers : goal.returns-clause-without_pointers
-unfolding text_queue.process shift_jis_encodes euc_jp_encodes gb18030_encodes ranges_pointer iso_2022_jp_encodes first_pointer plain_events shift_jis_code euc_jp_code iso_2022_jp_code settled_mode mode_behind iso_2022_jp_text_events
+unfolding text_queue.process shift_jis_encodes euc_jp_encodes gb18030_encodes ranges_pointer iso_2022_jp_encodes first_pointer plain_events
+    shift_jis_code euc_jp_code iso_2022_jp_code settled_mode mode_behind iso_2022_jp_text_events
 returns-clause-without_pointers c = record {
   shift_jis = (refl, refl);
   euc_jp = (refl, refl);
