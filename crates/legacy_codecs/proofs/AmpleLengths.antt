@@ -20,7 +20,8 @@ use Rattle.legacy_codecs.proofs.Replaced.{length-shift}
 use Rattle.legacy_codecs.proofs.RunEvents.{behind, events_ahead, place_before-ahead, Reaches-events}
 
 -- a call's report adds its events after those of its scalars
-out-some : (seen : ℕ) (scalars : List ℕ) (answer : DecoderResult) → length (out_events seen scalars answer) ≡ length scalars + length (reported_events seen answer)
+out-some : (seen : ℕ) (scalars : List ℕ) (answer : DecoderResult) →
+    length (out_events seen scalars answer) ≡ length scalars + length (reported_events seen answer)
 out-some seen scalars answer =
     let event : ℕ → DecodeEvent = λ x. Scalar x in
     length-append (map event scalars) (reported_events seen answer) ∙ ap (λ n. n + length (reported_events seen answer)) (length-map scalars event)
@@ -31,8 +32,8 @@ some_scalar form [] h = omega arith
 some_scalar form (c ∷ cs) h = omega arith
 
 -- a call that does not end the run gives an event or goes on to the next piece
-progresses : (form : EncodingForm) (p : RunPlace DecoderState) (free : ℕ) (after : DecoderState) (answer : DecoderResult) (read : ℕ) (scalars : List ℕ) → wide_room form ≤ free →
-    DecoderCall form p.state p.piece (is_none p.later) free after answer read scalars → ends_run p (is_input_empty answer) ≡ false →
+progresses : (form : EncodingForm) (p : RunPlace DecoderState) (free : ℕ) (after : DecoderState) (answer : DecoderResult) (read : ℕ) (scalars : List ℕ) →
+    wide_room form ≤ free → DecoderCall form p.state p.piece (is_none p.later) free after answer read scalars → ends_run p (is_input_empty answer) ≡ false →
     1 + length (behind p after answer read).later ≤ length (out_events (length p.state.held + read) scalars answer) + length p.later
 progresses form p free after InputEmpty read scalars w c e = let l = later_less after p.later e in omega arith
 progresses form p free after OutputFull read scalars w c e =
@@ -45,8 +46,10 @@ progresses form p free after (Malformed a b) read scalars w c e =
     omega arith
 
 -- so there are at most as many calls as events and pieces
-calls-few : {form : EncodingForm} {from : RunPlace DecoderState} {lengths : List ℕ} {calls : ℕ} {events : List DecodeEvent} {passed : ℕ} {finished : Bool} {p : RunPlace DecoderState} →
-    Reaches form from lengths calls events passed finished p → All (λ n. wide_room form ≤ n) lengths → finished ≡ false → calls + length p.later ≤ length events + length from.later
+calls-few : {form : EncodingForm} {from : RunPlace DecoderState} {lengths : List ℕ} {calls : ℕ} {events : List DecodeEvent} {passed : ℕ} {finished : Bool}
+    {p : RunPlace DecoderState} →
+    Reaches form from lengths calls events passed finished p → All (λ n. wide_room form ≤ n) lengths → finished ≡ false →
+    calls + length p.later ≤ length events + length from.later
 calls-few begun w h = omega arith
 calls-few {form = form} {from = from} {lengths = lengths} (called calls events passed p r free e after answer read scalars c) w h =
     let before = calls-few r w refl in
@@ -59,7 +62,8 @@ calls-few {form = form} {from = from} {lengths = lengths} (called calls events p
     let same = length-shift passed out in
     omega arith
 
-pub is_finished : {form : EncodingForm} (before : DecoderState) (pieces : List (List ℕ)) {lengths : List ℕ} {calls : ℕ} {finished : Bool} {items : List DecodeEvent} {after : DecoderState} →
+pub is_finished : {form : EncodingForm} (before : DecoderState)
+    (pieces : List (List ℕ)) {lengths : List ℕ} {calls : ℕ} {finished : Bool} {items : List DecodeEvent} {after : DecoderState} →
     IsRun form (place_before before pieces) lengths calls finished items after → HasAmpleLengths form before pieces lengths → IsTrue finished
 is_finished before pieces {finished = true} r h = refl
 is_finished before pieces {finished = false} r h =

@@ -36,7 +36,8 @@ progresses p free after (Unmappable d) left bytes w c e = let out = out-length b
 
 -- so there are at most as many calls as events and pieces
 calls-few : {from : RunPlace EncoderState} {lengths : List ℕ} {calls : ℕ} {events : List EncodeEvent} {finished : Bool} {p : RunPlace EncoderState} →
-    EncodeReaches from lengths calls events finished p → All (λ n. 4 ≤ n) lengths → finished ≡ false → calls + length p.later ≤ length events + length from.later
+    EncodeReaches from lengths calls events finished p → All (λ n. 4 ≤ n) lengths → finished ≡ false →
+    calls + length p.later ≤ length events + length from.later
 calls-few begun w h = omega arith
 calls-few {lengths = lengths} (called calls events p r free e after answer left bytes c) w h =
     let before = calls-few r w refl in
@@ -47,7 +48,8 @@ calls-few {lengths = lengths} (called calls events p r free e after answer left 
     let both = length-append events (map Byte bytes ++ reported answer) in
     omega arith
 
-pub encode_is_finished : (before : EncoderState) (pieces : List (List ℕ)) {lengths : List ℕ} {calls : ℕ} {finished : Bool} {items : List EncodeEvent} {after : EncoderState} →
+pub encode_is_finished : (before : EncoderState) (pieces : List (List ℕ)) {lengths : List ℕ} {calls : ℕ} {finished : Bool} {items : List EncodeEvent}
+    {after : EncoderState} →
     IsEncodeRun (place_before before pieces) lengths calls finished items after → HasAmpleOutputs before pieces lengths → IsTrue finished
 encode_is_finished before pieces {finished = true} r h = refl
 encode_is_finished before pieces {finished = false} {items = items} r h =

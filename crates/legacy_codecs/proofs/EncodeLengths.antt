@@ -32,8 +32,8 @@ module _ {form : EncodingForm} {before : EncoderState} {units free : ℕ} {after
       let low' = rw (rest, all) at low in
       omega arith
 
-fills-room : {form : EncodingForm} {from : EncoderState} {units free : ℕ} {s : EncoderState} {to_come room : ℕ} → EncodeFills form from units free s to_come room →
-    encoder_room form from units ≤ free → encoder_room form s to_come ≤ room
+fills-room : {form : EncodingForm} {from : EncoderState} {units free : ℕ} {s : EncoderState} {to_come room : ℕ} →
+    EncodeFills form from units free s to_come room → encoder_room form from units ≤ free → encoder_room form s to_come ≤ room
 fills-room begun h = h
 fills-room (called before to_come room f after answer read bytes n e) h = next-lowers n (fills-room f h) e
 

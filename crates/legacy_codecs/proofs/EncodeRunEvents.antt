@@ -15,7 +15,8 @@ use Rattle.legacy_codecs.specs.EncodeRuns.EncodeReaches.{begun, called}
 use Rattle.legacy_codecs.proofs.Places.{last_empty, place_before-state}
 
 -- one more call, with its inputs and outputs given by equations
-pub reaches_call : {from : RunPlace EncoderState} {lengths : List ℕ} {calls : ℕ} {items items' : List EncodeEvent} {p p' : RunPlace EncoderState} {free : ℕ} {after : EncoderState}
+pub reaches_call : {from : RunPlace EncoderState} {lengths : List ℕ} {calls : ℕ} {items items' : List EncodeEvent} {p p' : RunPlace EncoderState} {free : ℕ}
+    {after : EncoderState}
     {last finished empty : Bool} {answer : EncoderResult} {left bytes : List ℕ} →
     EncodeReaches from lengths calls items false p → slice_get lengths calls ≡ Some free → EncoderCall p.state p.piece last free after answer left bytes →
     last ≡ is_none p.later → empty ≡ is_input_empty answer → items' ≡ items ++ (map Byte bytes ++ reported answer) →
@@ -39,8 +40,8 @@ place_behind-encoded p after (Unmappable c) left h = refl
 
 module _ {from : RunPlace EncoderState} {lengths : List ℕ} where
   -- the events up to a place, and then those of what is ahead, are all events
-  pub reaches-encoded : {calls : ℕ} {events : List EncodeEvent} {finished : Bool} {p : RunPlace EncoderState} → EncodeReaches from lengths calls events finished p →
-      encoded_ahead from ≡ events ++ encoded_ahead p
+  pub reaches-encoded : {calls : ℕ} {events : List EncodeEvent} {finished : Bool} {p : RunPlace EncoderState} →
+      EncodeReaches from lengths calls events finished p → encoded_ahead from ≡ events ++ encoded_ahead p
   reaches-encoded begun = refl
   reaches-encoded (called calls events p r free e after answer left bytes c) =
       let one = c.events (joined p.later) true (λ l. inl (ap joined (last_empty p.later (told_end-last (is_none p.later) answer l)), refl)) in
@@ -51,8 +52,8 @@ module _ {from : RunPlace EncoderState} {lengths : List ℕ} where
       ∙ sym (append_assoc events (map Byte bytes ++ reported answer) next)
 
   -- a finished run is past all pieces, and the end has nothing left to write
-  pub reaches-finished : {calls : ℕ} {events : List EncodeEvent} {finished : Bool} {p : RunPlace EncoderState} → EncodeReaches from lengths calls events finished p →
-      finished ≡ true → (p ≡ place_before p.state []) × HasNoEnd p.state
+  pub reaches-finished : {calls : ℕ} {events : List EncodeEvent} {finished : Bool} {p : RunPlace EncoderState} →
+      EncodeReaches from lengths calls events finished p → finished ≡ true → (p ≡ place_before p.state []) × HasNoEnd p.state
   reaches-finished begun h = absurd (false≢true h)
   reaches-finished (called calls events p r free e after InputEmpty left bytes c) h =
       let end : place_before after p.later ≡ place_before after [] = ap (place_before after) (last_empty p.later h) in
@@ -62,7 +63,8 @@ module _ {from : RunPlace EncoderState} {lengths : List ℕ} where
   reaches-finished (called calls events p r free e after (Unmappable d) left bytes c) h = absurd (false≢true h)
 
 -- the events of a run are a prefix of all events
-pub is_encode_beginning : (before : EncoderState) (pieces : List (List ℕ)) {lengths : List ℕ} {calls : ℕ} {finished : Bool} {items : List EncodeEvent} {after : EncoderState} →
+pub is_encode_beginning : (before : EncoderState) (pieces : List (List ℕ)) {lengths : List ℕ} {calls : ℕ} {finished : Bool} {items : List EncodeEvent}
+    {after : EncoderState} →
     IsEncodeRun (place_before before pieces) lengths calls finished items after → IsEncodeBeginning before pieces finished items
 is_encode_beginning before pieces r = record {
   rest = encoded_ahead r.place;
@@ -78,7 +80,8 @@ pub no_end_left : {from : RunPlace EncoderState} {lengths : List ℕ} {calls : �
 no_end_left r h = subst HasNoEnd r.state (reaches-finished r.reaches h).1
 
 -- a finished run gives all events
-pub finished_encodes : {before : EncoderState} {scalars : List ℕ} {answered : List EncodeEvent} → FinishedEncodeRun before scalars answered → encoded before scalars true ≡ answered
+pub finished_encodes : {before : EncoderState} {scalars : List ℕ} {answered : List EncodeEvent} → FinishedEncodeRun before scalars answered →
+    encoded before scalars true ≡ answered
 finished_encodes {before = before} {answered = answered} f =
     let b = is_encode_beginning _ _ f.run in
     ap (λ l. encoded before l true) (sym f.same) ∙ b.whole ∙ ap (λ l. answered ++ l) (b.all refl) ∙ append-nil answered

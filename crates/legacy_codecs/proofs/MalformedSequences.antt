@@ -1,5 +1,6 @@
 -- The search for malformed sequences under way.
-use Rattle.std.proofs.Common.{◌≡◌, ◌∙◌, ℕ, ◌+◌, ◌-◌, ◌≤◌, ◌<◌, List, [], ◌∷◌, ◌++◌, length, drop, map, refl, sym, ap, ap₂, arith, append-nil, add-zero, length-append, length-drop, true, inl}
+use Rattle.std.proofs.Common.{◌≡◌, ◌∙◌, ℕ, ◌+◌, ◌-◌, ◌≤◌, List, [], ◌∷◌, ◌++◌, length, drop, map, refl, sym, ap, ap₂, arith, append-nil, add-zero}
+use Rattle.std.proofs.Common.{length-drop, true, inl}
 use Rattle.std.proofs.lemmas.List.{drop_all}
 use Rattle.legacy_base.specs.declared.results.DecodeEvent.{DecodeEvent}
 use Rattle.legacy_base.specs.declared.results.DecodeEvent.TheVariants.{Scalar, Bad}
@@ -12,7 +13,6 @@ use Rattle.legacy_base.specs.States.{DecoderState}
 use Rattle.legacy_base.specs.Lengths.{to_utf8_without_replacement, room}
 use Rattle.legacy_base.specs.Calls.{Progress, DecoderCall, may_report_end, out_events}
 use Rattle.legacy_base.proofs.Progress.{stay, at_less, after_that}
-use Rattle.legacy_codecs.proofs.Replaced.{length-shift}
 use Rattle.legacy_codecs.specs.declared.malformed.MalformedSequence.{MalformedSequence}
 use Rattle.legacy_codecs.specs.MalformedSequences.{malformed_of}
 
@@ -27,13 +27,15 @@ malformed-append held (Scalar c ∷ xs) ys = malformed-append held xs ys
 malformed-append held (Bad place n ∷ xs) ys = ap (λ (l : List MalformedSequence). record { place = place - held; length = n } ∷ l) (malformed-append held xs ys)
 
 -- scalars are none, and have no place
-malformed-scalars : (held k : ℕ) (cs : List ℕ) (more : List DecodeEvent) → malformed_of held (shift k (map Scalar cs ++ more)) ≡ malformed_of held (shift k more)
+malformed-scalars : (held k : ℕ) (cs : List ℕ) (more : List DecodeEvent) →
+    malformed_of held (shift k (map Scalar cs ++ more)) ≡ malformed_of held (shift k more)
 unfolding malformed_of
 malformed-scalars held k [] more = refl
 malformed-scalars held k (c ∷ cs) more = malformed-scalars held k cs more
 
 -- The rest of the input is unread, and these sequences were found.
-pub record Finds (before : DecoderState) (input : List ℕ) (room_free : ℕ) (now : DecoderState) (rest : List ℕ) (read : ℕ) (found : List MalformedSequence) : Type 0 where
+pub record Finds (before : DecoderState) (input : List ℕ) (room_free : ℕ) (now : DecoderState) (rest : List ℕ) (read : ℕ)
+    (found : List MalformedSequence) : Type 0 where
   pub passed : ℕ
   pub out : List DecodeEvent
   pub progress : Progress true before input passed now rest out
@@ -41,31 +43,37 @@ pub record Finds (before : DecoderState) (input : List ℕ) (room_free : ℕ) (n
   pub found_is : found ≡ malformed_of (length before.held) out
   pub fits : room to_utf8_without_replacement now (length rest) ≤ room_free
 
-pub finds_start : (before : DecoderState) (input : List ℕ) (free : ℕ) → room to_utf8_without_replacement before (length input) ≤ free → Finds before input free before input 0 []
+pub finds_start : (before : DecoderState) (input : List ℕ) (free : ℕ) → room to_utf8_without_replacement before (length input) ≤ free →
+    Finds before input free before input 0 []
 unfolding malformed_of
 finds_start before input free h = record { passed = 0; out = []; progress = stay true before input; counts = omega arith; found_is = refl; fits = h }
 
-module _ (before : DecoderState) (input : List ℕ) (free : ℕ) (now : DecoderState) (rest : List ℕ) (read : ℕ) (found : List MalformedSequence) (f : Finds before input free now rest read found)
-    (after : DecoderState) (count : ℕ) (scalars : List ℕ) where
-  progress_after : (answer : DecoderResult) (c : DecoderCall Utf8 now rest true free after answer count scalars) →
+module _ {before : DecoderState} {input : List ℕ} {free : ℕ} {now : DecoderState} {rest : List ℕ} {read : ℕ} {found : List MalformedSequence}
+    (f : Finds before input free now rest read found) {after : DecoderState} {count : ℕ} {scalars : List ℕ} where
+  progress_after : {answer : DecoderResult} (c : DecoderCall Utf8 now rest true free after answer count scalars) →
       Progress true before input (f.passed + c.passed) after (drop count rest) (f.out ++ shift f.passed (out_events (length now.held + count) scalars answer))
-  progress_after answer c = after_that true before input f.passed now rest f.out c.passed after (drop count rest) (out_events (length now.held + count) scalars answer) f.progress
-      (at_less (may_report_end true answer (drop count rest)) true (λ l. refl) now rest c.passed after (drop count rest) (out_events (length now.held + count) scalars answer) c.progress)
+  progress_after {answer} c =
+      after_that true before input f.passed now rest f.out c.passed after (drop count rest) (out_events (length now.held + count) scalars answer) f.progress
+      (at_less (may_report_end true answer (drop count rest)) true (λ l. refl) now rest c.passed after (drop count rest)
+      (out_events (length now.held + count) scalars answer) c.progress)
 
   -- the place of a malformed sequence
-  place_is : (a b : ℕ) → DecoderCall Utf8 now rest true free after (Malformed a b) count scalars → f.passed + (length now.held + count - b - a) - length before.held ≡ read + count - (a + b)
-  place_is a b c = let counts = f.progress.counts in let sum = f.counts in let within = c.fault.within in omega arith
+  place_is : {a b : ℕ} → DecoderCall Utf8 now rest true free after (Malformed a b) count scalars →
+      f.passed + (length now.held + count - b - a) - length before.held ≡ read + count - (a + b)
+  place_is c = let counts = f.progress.counts in let sum = f.counts in let within = c.fault.within in omega arith
 
   -- what a call that reports it adds
-  added : (a b : ℕ) → DecoderCall Utf8 now rest true free after (Malformed a b) count scalars → malformed_of (length before.held) (shift f.passed (out_events (length now.held + count) scalars (Malformed a b))) ≡ record { place = read + count - (a + b); length = a } ∷ []
+  added : {a b : ℕ} → DecoderCall Utf8 now rest true free after (Malformed a b) count scalars →
+      malformed_of (length before.held) (shift f.passed (out_events (length now.held + count) scalars (Malformed a b)))
+      ≡ record { place = read + count - (a + b); length = a } ∷ []
   unfolding malformed_of
-  added a b c =
+  added {a} {b} c =
       let bad : List DecodeEvent = Bad (length now.held + count - b - a) a ∷ [] in
-      malformed-scalars (length before.held) f.passed scalars bad ∙ ap (λ (p : ℕ). record { place = p; length = a } ∷ []) (place_is a b c)
+      malformed-scalars (length before.held) f.passed scalars bad ∙ ap (λ (p : ℕ). record { place = p; length = a } ∷ []) (place_is c)
 
-  pub finds_step : (a b : ℕ) → DecoderCall Utf8 now rest true free after (Malformed a b) count scalars →
+  pub finds_step : {a b : ℕ} → DecoderCall Utf8 now rest true free after (Malformed a b) count scalars →
       Finds before input free after (drop count rest) (read + count) (found ++ record { place = read + count - (a + b); length = a } ∷ [])
-  finds_step a b c =
+  finds_step {a} {b} c =
       let lower = c.lowers to_utf8_without_replacement refl 0 (λ _. refl) in
       let lowered = rw (add-zero (length (drop count rest)), add-zero (length rest)) at lower in
       let within = c.within in
@@ -74,27 +82,17 @@ module _ (before : DecoderState) (input : List ℕ) (free : ℕ) (now : DecoderS
       record {
         passed = f.passed + c.passed;
         out = f.out ++ shift f.passed (out_events (length now.held + count) scalars (Malformed a b));
-        progress = progress_after (Malformed a b) c;
+        progress = progress_after c;
         counts = omega (arith, length-drop count rest);
-        found_is = ap (λ (l : List MalformedSequence). l ++ record { place = read + count - (a + b); length = a } ∷ []) f.found_is ∙ ap (λ l. malformed_of (length before.held) f.out ++ l) (sym (added a b c))
+        found_is =
+            ap (λ (l : List MalformedSequence). l ++ record { place = read + count - (a + b); length = a } ∷ []) f.found_is
+            ∙ ap (λ l. malformed_of (length before.held) f.out ++ l) (sym (added c))
             ∙ sym (malformed-append (length before.held) f.out (shift f.passed (out_events (length now.held + count) scalars (Malformed a b))));
         fits = omega (arith, lowered, had);
       }
 
-  pub finds_less : (a b : ℕ) → DecoderCall Utf8 now rest true free after (Malformed a b) count scalars →
-      length (events_of after.grammar (after.held ++ drop count rest)) < length (events_of now.grammar (now.held ++ rest))
-  finds_less a b c =
-      let event : ℕ → DecodeEvent = λ x. Scalar x in
-      let bad : List DecodeEvent = Bad (length now.held + count - b - a) a ∷ [] in
-      let e = c.progress.events [] (λ _. inl refl) in
-      let x : length (events_of now.grammar (now.held ++ (rest ++ [])))
-      ≡ length (map event scalars ++ bad) + length (events_of after.grammar (after.held ++ (drop count rest ++ []))) =
-      ap length e ∙ length-append (map event scalars ++ bad) _ ∙ ap (λ n. length (map event scalars ++ bad) + n) (length-shift c.passed _) in
-      let y = rw (append-nil rest, append-nil (drop count rest)) at x in
-      let s = length-append (map event scalars) bad in
-      omega (arith, y, s)
-
-  pub finds_end : DecoderCall Utf8 now rest true free after InputEmpty count scalars → found ≡ malformed_of (length before.held) (events_of before.grammar (before.held ++ input))
+  pub finds_end : DecoderCall Utf8 now rest true free after InputEmpty count scalars →
+      found ≡ malformed_of (length before.held) (events_of before.grammar (before.held ++ input))
   unfolding malformed_of
   finds_end c =
       let done = c.input_empty refl in
@@ -102,19 +100,21 @@ module _ (before : DecoderState) (input : List ℕ) (free : ℕ) (now : DecoderS
       let nothing : drop count rest ≡ [] = drop_all count rest (omega (arith, done.0)) in
       let none : events_of after.grammar (after.held ++ (drop count rest ++ [])) ≡ [] =
       ap (λ l. events_of after.grammar (after.held ++ (l ++ []))) nothing ∙ ap (events_of after.grammar) (append-nil after.held) ∙ done.2 refl in
-      let whole = (progress_after InputEmpty c).events [] (λ _. inl refl) in
+      let whole = (progress_after c).events [] (λ _. inl refl) in
       let all : events_of before.grammar (before.held ++ input) ≡ out =
-      ap (λ l. events_of before.grammar (before.held ++ l)) (sym (append-nil input)) ∙ whole ∙ ap (λ l. out ++ shift (f.passed + c.passed) l) none ∙ append-nil out in
+      ap (λ l. events_of before.grammar (before.held ++ l)) (sym (append-nil input)) ∙ whole ∙ ap (λ l. out ++ shift (f.passed + c.passed) l) none
+      ∙ append-nil out in
       f.found_is ∙ sym (ap (malformed_of (length before.held)) all
       ∙ malformed-append (length before.held) f.out (shift f.passed (out_events (length now.held + count) scalars InputEmpty))
-      ∙ ap (λ l. malformed_of (length before.held) f.out ++ l) (malformed-scalars (length before.held) f.passed scalars []) ∙ append-nil (malformed_of (length before.held) f.out))
+      ∙ ap (λ l. malformed_of (length before.held) f.out ++ l) (malformed-scalars (length before.held) f.passed scalars [])
+      ∙ append-nil (malformed_of (length before.held) f.out))
 
   pub never_full : DecoderCall Utf8 now rest true free after OutputFull count scalars → ⊥
   never_full c = c.suffices to_utf8_without_replacement refl f.fits refl
 
   -- a call that reports none is the last
-  pub finds_stop : (answer : DecoderResult) → DecoderCall Utf8 now rest true free after answer count scalars → ((a b : ℕ) → answer ≡ Malformed a b → ⊥) →
+  pub finds_stop : {answer : DecoderResult} → DecoderCall Utf8 now rest true free after answer count scalars → ((a b : ℕ) → answer ≡ Malformed a b → ⊥) →
       found ≡ malformed_of (length before.held) (events_of before.grammar (before.held ++ input))
-  finds_stop InputEmpty c n = finds_end c
-  finds_stop OutputFull c n = absurd (never_full c)
-  finds_stop (Malformed a b) c n = absurd (n a b refl)
+  finds_stop {answer = InputEmpty} c n = finds_end c
+  finds_stop {answer = OutputFull} c n = absurd (never_full c)
+  finds_stop {answer = Malformed a b} c n = absurd (n a b refl)

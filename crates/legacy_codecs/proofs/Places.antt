@@ -23,7 +23,8 @@ module _ {State : Type 0} where
   place_behind-state p after false unread = refl
 
   -- before the first piece all pieces are unread
-  pub pieces-length : (s : State) (pieces : List (List ℕ)) → length (place_before s pieces).piece + sum_by length (place_before s pieces).later ≡ sum_by length pieces
+  pub pieces-length : (s : State) (pieces : List (List ℕ)) →
+      length (place_before s pieces).piece + sum_by length (place_before s pieces).later ≡ sum_by length pieces
   pieces-length s [] = refl
   pieces-length s (p ∷ ps) = sym (sum_by-cons length p ps)
 
@@ -51,11 +52,13 @@ module _ {State : Type 0} where
   place_at-first s [] h = absurd (omega arith)
   place_at-first s (p ∷ ps) h = refl
 
-  pub place_at-begin : (s : State) (pieces : List (List ℕ)) → record { state = s; piece = slice_index_or pieces 0 []; later = drop 1 pieces } ≡ place_before s pieces
+  pub place_at-begin : (s : State) (pieces : List (List ℕ)) →
+      record { state = s; piece = slice_index_or pieces 0 []; later = drop 1 pieces } ≡ place_before s pieces
   place_at-begin s [] = refl
   place_at-begin s (p ∷ ps) = refl
 
-  pub place_at-next : (pieces : List (List ℕ)) (s : State) (index : ℕ) → index + 1 < length pieces → place_at pieces s (index + 1) 0 ≡ place_before s (drop (index + 1) pieces)
+  pub place_at-next : (pieces : List (List ℕ)) (s : State) (index : ℕ) → index + 1 < length pieces →
+      place_at pieces s (index + 1) 0 ≡ place_before s (drop (index + 1) pieces)
   place_at-next pieces s index h = rw (drop-cons pieces (index + 1) [] h, add-one (index + 1)) refl
 
 -- the test for the last piece, by the number of pieces
@@ -84,5 +87,6 @@ not_last pieces index e = elim (cases_lt (index + 1) (length pieces)) [
 ]
 
 -- the room for a call and for all calls after it
-pub room_step : (xs : List ℕ) (i : ℕ) → i < length xs → sum (drop i xs) + length (drop i xs) ≡ get_or xs i 0 + 1 + (sum (drop (i + 1) xs) + length (drop (i + 1) xs))
+pub room_step : (xs : List ℕ) (i : ℕ) → i < length xs →
+    sum (drop i xs) + length (drop i xs) ≡ get_or xs i 0 + 1 + (sum (drop (i + 1) xs) + length (drop (i + 1) xs))
 room_step xs i h = grind (arith, common_steps)

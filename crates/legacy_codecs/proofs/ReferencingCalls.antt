@@ -3,6 +3,7 @@ use Rattle.std.proofs.Common.{◌≡◌, ◌∙◌, ℕ, ◌+◌, ◌-◌, ◌�
 use Rattle.std.proofs.Common.{append-nil, length-append, Bool, true, false, ◌||◌, IsTrue, Some, inl, inr}
 use Rattle.std.specs.Prelude.{is_some}
 use Rattle.std.proofs.lemmas.Bool.{true≢false}
+use Rattle.std.proofs.Math.Bool.{or-false, or-true}
 use Rattle.std.proofs.Math.Nat.{sub-zero}
 use Rattle.legacy_base.specs.declared.results.EncodeEvent.{EncodeEvent}
 use Rattle.legacy_base.specs.declared.results.EncodeEvent.TheVariants.{Byte}
@@ -15,7 +16,8 @@ use Rattle.legacy_base.specs.EncoderCalls.{EncoderCall, EncoderLacksRoom, tells_
 use Rattle.legacy_base.proofs.Beginnings.{begins_later}
 use Rattle.legacy_base.proofs.EncoderLaws.{end-encoded, encoder_need-small}
 use Rattle.legacy_codecs.specs.declared.results.CoderResult.TheVariants as coder
-use Rattle.legacy_codecs.specs.References.{reference, reference_room, referenced_bytes, has_unmappable, Gives, KeepsReserve, LacksReferenceRoom, ReplacingEncoderCall}
+use Rattle.legacy_codecs.specs.References.{reference, reference_room, referenced_bytes, has_unmappable, Gives, KeepsReserve, LacksReferenceRoom}
+use Rattle.legacy_codecs.specs.References.{ReplacingEncoderCall}
 use Rattle.legacy_codecs.proofs.ReferenceTexts.{referenced-append, referenced-of_bytes, has_unmappable-append, has_unmappable-of_bytes}
 
 -- ---- what one call adds
@@ -37,31 +39,26 @@ referenced-reported InputEmpty = refl
 referenced-reported OutputFull = refl
 referenced-reported (Unmappable c) = append-nil (reference c)
 
-or_none : (b : Bool) → (b || false) ≡ b
-or_none true = refl
-or_none false = refl
-
-or_some : (b : Bool) → (b || true) ≡ true
-or_some true = refl
-or_some false = refl
-
 found-reported : (found : Bool) (answer : EncoderResult) → (found || has_unmappable (reported answer)) ≡ found_after found answer
-found-reported found InputEmpty = or_none found
-found-reported found OutputFull = or_none found
-found-reported found (Unmappable c) = or_some found
+found-reported found InputEmpty = or-false found
+found-reported found OutputFull = or-false found
+found-reported found (Unmappable c) = or-true found
 
 -- the events of a call
 abbrev pub out_events : List ℕ → EncoderResult → List EncodeEvent
 out_events bytes answer = map Byte bytes ++ reported answer
 
-referenced-call : (out : List EncodeEvent) (bytes : List ℕ) (answer : EncoderResult) → referenced_bytes (out ++ out_events bytes answer) ≡ referenced_bytes out ++ (bytes ++ reported_bytes answer)
+referenced-call : (out : List EncodeEvent) (bytes : List ℕ) (answer : EncoderResult) →
+    referenced_bytes (out ++ out_events bytes answer) ≡ referenced_bytes out ++ (bytes ++ reported_bytes answer)
 referenced-call out bytes answer =
     let byte : ℕ → EncodeEvent = λ b. Byte b in
     let one : referenced_bytes (out_events bytes answer) ≡ bytes ++ reported_bytes answer =
-    referenced-append (map byte bytes) (reported answer) ∙ ap (λ l. l ++ referenced_bytes (reported answer)) (referenced-of_bytes bytes) ∙ ap (λ l. bytes ++ l) (referenced-reported answer) in
+    referenced-append (map byte bytes) (reported answer) ∙ ap (λ l. l ++ referenced_bytes (reported answer)) (referenced-of_bytes bytes)
+    ∙ ap (λ l. bytes ++ l) (referenced-reported answer) in
     referenced-append out (out_events bytes answer) ∙ ap (λ l. referenced_bytes out ++ l) one
 
-found-call : (out : List EncodeEvent) (bytes : List ℕ) (answer : EncoderResult) → found_after (has_unmappable out) answer ≡ has_unmappable (out ++ out_events bytes answer)
+found-call : (out : List EncodeEvent) (bytes : List ℕ) (answer : EncoderResult) →
+    found_after (has_unmappable out) answer ≡ has_unmappable (out ++ out_events bytes answer)
 found-call out bytes answer =
     let byte : ℕ → EncodeEvent = λ b. Byte b in
     let one : has_unmappable (out_events bytes answer) ≡ has_unmappable (reported answer) =
@@ -69,19 +66,24 @@ found-call out bytes answer =
     sym (has_unmappable-append out (out_events bytes answer) ∙ ap (λ b. has_unmappable out || b) one ∙ found-reported (has_unmappable out) answer)
 
 -- a call with no text reports no unmappable scalar
-pub nothing_reported : (before : EncoderState) (last : Bool) (free : ℕ) (after : EncoderState) (c : ℕ) (left bytes : List ℕ) → EncoderCall before [] last free after (Unmappable c) left bytes → ⊥
-nothing_reported before last free after c left bytes call =
+pub nothing_reported : {before : EncoderState} {last : Bool} {free : ℕ} {after : EncoderState} {c : ℕ} {left bytes : List ℕ} →
+    EncoderCall before [] last free after (Unmappable c) left bytes → ⊥
+nothing_reported {before} {after = after} {c} {left} {bytes} call =
     let byte : ℕ → EncodeEvent = λ b. Byte b in
     let rest = encoded after (left ++ []) true in
-    let e : map byte (end_bytes before) ≡ map byte bytes ++ (event.Unmappable c ∷ rest) = sym (end-encoded before) ∙ call.events [] true (λ _. inl (refl, refl)) in
-    let none : has_unmappable (map byte bytes ++ (event.Unmappable c ∷ rest)) ≡ false = ap has_unmappable (sym e) ∙ has_unmappable-of_bytes (end_bytes before) in
-    let some : has_unmappable (map byte bytes ++ (event.Unmappable c ∷ rest)) ≡ true = has_unmappable-append (map byte bytes) (event.Unmappable c ∷ rest) ∙ or_some (has_unmappable (map byte bytes)) in
+    let e : map byte (end_bytes before) ≡ map byte bytes ++ (event.Unmappable c ∷ rest) =
+    sym (end-encoded before) ∙ call.events [] true (λ _. inl (refl, refl)) in
+    let none : has_unmappable (map byte bytes ++ (event.Unmappable c ∷ rest)) ≡ false =
+    ap has_unmappable (sym e) ∙ has_unmappable-of_bytes (end_bytes before) in
+    let some : has_unmappable (map byte bytes ++ (event.Unmappable c ∷ rest)) ≡ true =
+    has_unmappable-append (map byte bytes) (event.Unmappable c ∷ rest) ∙ or-true (has_unmappable (map byte bytes)) in
     true≢false (sym some ∙ none)
 
 -- ---- the room of a reference
 
 -- the reserve is kept by bytes that leave it free, and then by the events after them
-reserve-bytes : (free : ℕ) (bytes : List ℕ) (events : List EncodeEvent) → length bytes ≤ free - reference_room → KeepsReserve (free - length bytes) events → KeepsReserve free (map Byte bytes ++ events)
+reserve-bytes : (free : ℕ) (bytes : List ℕ) (events : List EncodeEvent) → length bytes ≤ free - reference_room → KeepsReserve (free - length bytes) events →
+    KeepsReserve free (map Byte bytes ++ events)
 unfolding KeepsReserve
 reserve-bytes free [] events fits kept = rw sub-zero at kept
 reserve-bytes free (b ∷ bytes) events fits kept =
@@ -89,7 +91,8 @@ reserve-bytes free (b ∷ bytes) events fits kept =
     (omega (arith, fits), reserve-bytes (free - 1) bytes events (omega (arith, fits)) (rw less kept))
 
 -- the reserve is kept by two lists of events, one after the other
-reserve-append : (free : ℕ) (xs ys : List EncodeEvent) → KeepsReserve free xs → KeepsReserve (free - length (referenced_bytes xs)) ys → KeepsReserve free (xs ++ ys)
+reserve-append : (free : ℕ) (xs ys : List EncodeEvent) → KeepsReserve free xs → KeepsReserve (free - length (referenced_bytes xs)) ys →
+    KeepsReserve free (xs ++ ys)
 unfolding KeepsReserve
 reserve-append free [] ys a b = rw sub-zero at b
 reserve-append free (Byte c ∷ xs) ys a b =
@@ -103,7 +106,8 @@ reserve-append free (event.Unmappable c ∷ xs) ys a b =
 -- ---- calls in progress
 
 -- The scalars that are left, the bytes that were written, and whether an unmappable scalar was found.
-pub record IsReferencing (before : EncoderState) (source : List ℕ) (last : Bool) (free : ℕ) (now : EncoderState) (left bytes : List ℕ) (found : Bool) : Type 0 where
+pub record IsReferencing (before : EncoderState) (source : List ℕ) (last : Bool) (free : ℕ) (now : EncoderState) (left bytes : List ℕ)
+    (found : Bool) : Type 0 where
   pub taken : List ℕ
   pub cut : source ≡ taken ++ left
   pub fits : length bytes ≤ free
@@ -134,7 +138,8 @@ referencing_start before source last free = record {
 
 -- if nothing was done, what lacked room still lacks it
 still_lacks : (before now : EncoderState) (source left bytes : List ℕ) (last : Bool) (free room : ℕ) → now ≡ before → left ≡ source → bytes ≡ [] →
-    room ≡ free - length bytes - reference_room → 0 < encoder_need before source last → LacksReferenceRoom before source last free → EncoderLacksRoom now left last room
+    room ≡ free - length bytes - reference_room → 0 < encoder_need before source last → LacksReferenceRoom before source last free →
+    EncoderLacksRoom now left last room
 still_lacks before now source left bytes last free room e f g h some lacks =
     let need : encoder_need now left last ≡ encoder_need before source last = rw (e, f) refl in
     let none : length bytes ≡ 0 = ap length g in
@@ -171,10 +176,12 @@ module _ {before : EncoderState} {source : List ℕ} {last : Bool} {free : ℕ} 
     cut_after : (answer : EncoderResult) (c : EncoderCall now left last room after answer rest written) → source ≡ (u.taken ++ c.taken) ++ rest
     cut_after answer c = u.cut ∙ ap (λ l. u.taken ++ l) c.cut ∙ sym (append_assoc u.taken c.taken rest)
 
-    gives_after : (answer : EncoderResult) → EncoderCall now left last room after answer rest written → Gives (tells_end last answer) before source after rest (out_after written answer)
+    gives_after : (answer : EncoderResult) → EncoderCall now left last room after answer rest written →
+        Gives (tells_end last answer) before source after rest (out_after written answer)
     gives_after answer c more ended h =
         let behind = encoded after (rest ++ more) ended in
-        let first : encoded before (source ++ more) ended ≡ u.out ++ encoded now (left ++ more) ended = u.gives more ended (λ l. let no : false ≡ true = l in cc) in
+        let first : encoded before (source ++ more) ended ≡ u.out ++ encoded now (left ++ more) ended =
+        u.gives more ended (λ l. let no : false ≡ true = l in cc) in
         first
         ∙ ap (λ l. u.out ++ l) (c.events more ended (λ l. elim (h l) [
           | inl e ↦ inl e
@@ -196,7 +203,8 @@ module _ {before : EncoderState} {source : List ℕ} {last : Bool} {free : ℕ} 
     -- ---- an unmappable scalar
 
     pub referencing_step : (c : ℕ) → length (bytes ++ (written ++ reference c)) ≤ free → length bytes + length written + reference_room ≤ free →
-        EncoderCall now left last room after (Unmappable c) rest written → IsReferencing before source last free after rest (bytes ++ (written ++ reference c)) true
+        EncoderCall now left last room after (Unmappable c) rest written →
+        IsReferencing before source last free after rest (bytes ++ (written ++ reference c)) true
     unfolding KeepsReserve
     referencing_step c fits spare call =
         let x = Unmappable c in
@@ -258,7 +266,8 @@ module _ {before : EncoderState} {source : List ℕ} {last : Bool} {free : ℕ} 
           never e = cc
 
     -- with a queried length free, the room is lacking only after an unmappable scalar
-    found_if_full : (found : Bool) → (found ≡ false → (now ≡ before) × (left ≡ source) × (bytes ≡ [])) → EncoderCall now left last room after OutputFull rest written →
+    found_if_full : (found : Bool) → (found ≡ false → (now ≡ before) × (left ≡ source) × (bytes ≡ [])) →
+        EncoderCall now left last room after OutputFull rest written →
         (form : EncodingForm) (n k : ℕ) → total_unit_count form source ≤ n → encoder_answer form before n ≡ Some k → k + reference_room ≤ free → IsTrue found
     found_if_full true same c form n k h e f = refl
     found_if_full false same c form n k h e f =
@@ -296,48 +305,24 @@ module _ {before : EncoderState} {source : List ℕ} {last : Bool} {free : ℕ} 
 
   -- ---- no room for a reference
 
-  -- scalars are left
-  pub referencing_stops : free < length bytes + reference_room → 0 < length left → ReplacingEncoderCall before source last free now coder.OutputFull left bytes found
-  referencing_stops none some = record {
-    taken = u.taken;
-    cut = u.cut;
-    fits = u.fits;
-    out = u.out;
-    gives = u.gives;
-    text = u.text;
-    reserve = u.reserve;
-    found_is = u.found_is;
-    input_empty = λ e. absurd (no_end e);
-    output_full = λ _. omega arith;
-    few = λ _. omega arith;
-    full_at_once = λ need l. let f = u.unfound need l in let n = u.untouched f in (refl, n.1, n.2, f, n.0);
-    enough = λ form n k h e f _. found_if_short found u.untouched k f;
-  } where
-    no_end : coder.OutputFull ≡ coder.InputEmpty → ⊥
-    no_end e = cc
-
-    found_if_short : (found : Bool) → (found ≡ false → (now ≡ before) × (left ≡ source) × (bytes ≡ [])) → (k : ℕ) → k + reference_room ≤ free → IsTrue found
-    found_if_short true same k f = refl
-    found_if_short false same k f = let s = same refl in let e : length bytes ≡ 0 = ap length s.2 in absurd (omega arith)
-
   same_bytes : (written : List ℕ) → length written ≤ 0 → bytes ++ written ≡ bytes
   same_bytes written h = ap (λ l. bytes ++ l) (none_written written h) ∙ append-nil bytes
 
   -- no scalar is left, and a call without room shows whether the end has something to write
   module _ (none : free < length bytes + reference_room) {after : EncoderState} {rest written : List ℕ} where
-    pub referencing_done : EncoderCall now left last 0 after InputEmpty rest written → ReplacingEncoderCall before source last free after coder.InputEmpty rest bytes found
+    pub referencing_done : EncoderCall now left last 0 after InputEmpty rest written →
+        ReplacingEncoderCall before source last free after coder.InputEmpty rest bytes found
     referencing_done c =
-        subst (λ l. ReplacingEncoderCall before source last free after coder.InputEmpty rest l found) (same_bytes written c.fits) (referencing_end (omega arith) c)
+        subst (λ l. ReplacingEncoderCall before source last free after coder.InputEmpty rest l found) (same_bytes written c.fits)
+        (referencing_end (omega arith) c)
 
-    pub referencing_pending : EncoderCall now left last 0 after OutputFull rest written → ReplacingEncoderCall before source last free after coder.OutputFull rest bytes found
+    pub referencing_pending : EncoderCall now left last 0 after OutputFull rest written →
+        ReplacingEncoderCall before source last free after coder.OutputFull rest bytes found
     referencing_pending c =
-        subst (λ l. ReplacingEncoderCall before source last free after coder.OutputFull rest l found) (same_bytes written c.fits) (referencing_full (omega arith) c)
+        subst (λ l. ReplacingEncoderCall before source last free after coder.OutputFull rest l found) (same_bytes written c.fits)
+        (referencing_full (omega arith) c)
 
 -- the list of scalars is at its end
 pub nothing_left : (xs : List ℕ) → is_some (slice_get xs 0) ≡ false → xs ≡ []
 nothing_left [] e = refl
 nothing_left (x ∷ xs) e = absurd (true≢false e)
-
-pub something_left : (xs : List ℕ) → is_some (slice_get xs 0) ≡ true → 0 < length xs
-something_left [] e = absurd (true≢false (sym e))
-something_left (x ∷ xs) e = omega arith

@@ -1,10 +1,16 @@
 -- Laws of the text of events, and of places.
-use Rattle.std.proofs.Common.{◌≡◌, ℕ, suc, List, [], ◌∷◌, ◌++◌, length, map, refl, ap, false, ◌||◌}
+use Rattle.std.proofs.Common.{◌≡◌, ◌∙◌, ℕ, suc, ◌+◌, ◌-◌, ◌<◌, List, [], ◌∷◌, ◌++◌, length, drop, map, refl, ap, arith, append-nil, length-append, Bool, false}
+use Rattle.std.proofs.Common.{◌||◌, inl}
 use Rattle.std.proofs.lemmas.List.{map-append}
 use Rattle.std.proofs.lemmas.List.Folds.{list_any-append}
 use Rattle.legacy_base.specs.declared.results.DecodeEvent.{DecodeEvent}
 use Rattle.legacy_base.specs.declared.results.DecodeEvent.TheVariants.{Scalar, Bad}
+use Rattle.legacy_base.specs.declared.results.DecoderResult.TheVariants.{Malformed}
+use Rattle.legacy_text.specs.EncodingForm.{EncodingForm}
 use Rattle.legacy_base.specs.Events.{shift}
+use Rattle.legacy_base.specs.Grammar.{events_of}
+use Rattle.legacy_base.specs.States.{DecoderState}
+use Rattle.legacy_base.specs.Calls.{DecoderCall}
 use Rattle.legacy_codecs.specs.Replacing.{replaced_scalar, replaced_scalars, is_bad, has_bad}
 
 pub replaced-append : (xs ys : List DecodeEvent) → replaced_scalars (xs ++ ys) ≡ replaced_scalars xs ++ replaced_scalars ys
@@ -38,3 +44,16 @@ has_bad-of_scalars (c ∷ cs) = has_bad-of_scalars cs
 pub length-shift : (k : ℕ) (es : List DecodeEvent) → length (shift k es) ≡ length es
 length-shift k [] = refl
 length-shift k (e ∷ es) = ap suc (length-shift k es)
+
+-- after a call that reports a malformed sequence fewer events are left
+pub fault_less : {form : EncodingForm} {now : DecoderState} {rest : List ℕ} {last : Bool} {free : ℕ} {after : DecoderState} {a b count : ℕ} {scalars : List ℕ} →
+    DecoderCall form now rest last free after (Malformed a b) count scalars →
+    length (events_of after.grammar (after.held ++ drop count rest)) < length (events_of now.grammar (now.held ++ rest))
+fault_less {now = now} {rest} {after = after} {a} {b} {count} {scalars} c =
+    let event : ℕ → DecodeEvent = λ x. Scalar x in
+    let bad : List DecodeEvent = Bad (length now.held + count - b - a) a ∷ [] in
+    let x : length (events_of now.grammar (now.held ++ (rest ++ [])))
+    ≡ length (map event scalars ++ bad) + length (events_of after.grammar (after.held ++ (drop count rest ++ []))) =
+    ap length (c.progress.events [] (λ _. inl refl)) ∙ length-append (map event scalars ++ bad) _
+    ∙ ap (λ n. length (map event scalars ++ bad) + n) (length-shift c.passed _) in
+    omega (arith, rw (append-nil, append-nil) at x, length-append (map event scalars) bad)

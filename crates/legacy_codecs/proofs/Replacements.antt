@@ -1,12 +1,13 @@
 -- A call with replacement, in progress.
 use Rattle.std.proofs.Common.{◌≡◌, ◌∙◌, ℕ, ◌+◌, ◌-◌, ◌≤◌, ◌<◌, List, [], ◌∷◌, ◌++◌, length, drop, map, refl, sym, ap, arith, append_assoc}
-use Rattle.std.proofs.Common.{append-nil, length-append, length-drop, add-zero, Bool, true, false, ◌||◌, IsTrue, All, cond, nat_eq, inl}
+use Rattle.std.proofs.Common.{append-nil, length-append, length-drop, add-zero, Bool, true, false, ◌||◌, IsTrue, All, cond, nat_eq}
 use Rattle.std.specs.Char.{IsScalar}
+use Rattle.std.proofs.Math.Bool.{or-false, or-true}
 use Rattle.std.proofs.lemmas.List.{drop-drop}
 use Rattle.std.proofs.Math.Seq.{drop-nil}
 use Rattle.std.proofs.lemmas.List.Elements.{All-append, All-nil, All-cons}
 use Rattle.legacy_base.specs.declared.results.DecodeEvent.{DecodeEvent}
-use Rattle.legacy_base.specs.declared.results.DecodeEvent.TheVariants.{Scalar, Bad}
+use Rattle.legacy_base.specs.declared.results.DecodeEvent.TheVariants.{Scalar}
 use Rattle.legacy_base.specs.declared.results.DecoderResult.{DecoderResult}
 use Rattle.legacy_base.specs.declared.results.DecoderResult.TheVariants.{InputEmpty, OutputFull, Malformed}
 use Rattle.legacy_text.specs.EncodingForm.{EncodingForm, Utf8, Utf16, code_units, all_code_units, total_unit_count, bmp_room, wide_room}
@@ -23,7 +24,7 @@ use Rattle.legacy_base.proofs.Progress.{stay, at_less, after_that}
 use Rattle.legacy_text.proofs.CodeUnits.{all_code_units-append}
 use Rattle.legacy_codecs.specs.declared.results.CoderResult.TheVariants as coder
 use Rattle.legacy_codecs.specs.Replacing.{replaced_scalars, has_bad, replacing_query, may_replace_end, ReplacingDecoderCall}
-use Rattle.legacy_codecs.proofs.Replaced.{replaced-append, replaced-shift, replaced-of_scalars, has_bad-append, has_bad-shift, has_bad-of_scalars, length-shift}
+use Rattle.legacy_codecs.proofs.Replaced.{replaced-append, replaced-shift, replaced-of_scalars, has_bad-append, has_bad-shift, has_bad-of_scalars, fault_less}
 
 -- ---- what one call adds
 
@@ -51,25 +52,19 @@ replaced-call k seen cs answer =
     replaced-shift k (out_events seen cs answer) ∙ replaced-append (map event cs) (reported_events seen answer)
     ∙ ap (λ l. l ++ replaced_scalars (reported_events seen answer)) (replaced-of_scalars cs) ∙ ap (λ l. cs ++ l) (replaced-reported seen answer)
 
-or_none : (b : Bool) → (b || false) ≡ b
-or_none true = refl
-or_none false = refl
-
-or_some : (b : Bool) → (b || true) ≡ true
-or_some true = refl
-or_some false = refl
-
 found-reported : (found : Bool) (seen : ℕ) (answer : DecoderResult) → (found || has_bad (reported_events seen answer)) ≡ found_after found answer
-found-reported found seen InputEmpty = or_none found
-found-reported found seen OutputFull = or_none found
-found-reported found seen (Malformed a b) = or_some found
+found-reported found seen InputEmpty = or-false found
+found-reported found seen OutputFull = or-false found
+found-reported found seen (Malformed a b) = or-true found
 
-found-call : (events : List DecodeEvent) (k seen : ℕ) (cs : List ℕ) (answer : DecoderResult) → found_after (has_bad events) answer ≡ has_bad (events ++ shift k (out_events seen cs answer))
+found-call : (events : List DecodeEvent) (k seen : ℕ) (cs : List ℕ) (answer : DecoderResult) →
+    found_after (has_bad events) answer ≡ has_bad (events ++ shift k (out_events seen cs answer))
 found-call events k seen cs answer =
     let event : ℕ → DecodeEvent = λ x. Scalar x in
     let out = out_events seen cs answer in
     let reported = reported_events seen answer in
-    let one : has_bad (shift k out) ≡ has_bad reported = has_bad-shift k out ∙ has_bad-append (map event cs) reported ∙ ap (λ b. b || has_bad reported) (has_bad-of_scalars cs) in
+    let one : has_bad (shift k out) ≡ has_bad reported =
+    has_bad-shift k out ∙ has_bad-append (map event cs) reported ∙ ap (λ b. b || has_bad reported) (has_bad-of_scalars cs) in
     sym (has_bad-append events (shift k out) ∙ ap (λ b. has_bad events || b) one ∙ found-reported (has_bad events) seen answer)
 
 -- ---- the room for U+FFFD
@@ -105,9 +100,10 @@ fault_least : (form : EncodingForm) (g : Grammar) (b : Bool) → bmp_room form �
 fault_least form g true = writing_least form (profile g).rooms
 fault_least form g false = reading_least form (profile g).rooms
 
-pub replacement_fits : (form : EncodingForm) (before : DecoderState) (source : List ℕ) (last : Bool) (free : ℕ) (after : DecoderState) (a b read : ℕ) (scalars : List ℕ) →
+pub replacement_fits : {form : EncodingForm} {before : DecoderState} {source : List ℕ} {last : Bool} {free : ℕ} {after : DecoderState} {a b read : ℕ}
+    {scalars : List ℕ} →
     DecoderCall form before source last free after (Malformed a b) read scalars → total_unit_count form scalars + length (code_units form 0xFFFD) ≤ free
-replacement_fits form before source last free after a b read scalars c =
+replacement_fits {form} {before} {read = read} c =
     let least = fault_least form before.grammar (nat_eq read 0) in
     let had = c.room_at_fault tt in
     let fits = c.fits in
@@ -121,7 +117,8 @@ replacement_fits form before source last free after a b read scalars c =
 -- ---- calls in progress
 
 -- The bytes that were read, the code units that were written, and whether a malformed sequence was found.
-pub record IsReplacing (form : EncodingForm) (before : DecoderState) (source : List ℕ) (last : Bool) (free : ℕ) (now : DecoderState) (read : ℕ) (written : List ℕ) (found : Bool) : Type 0 where
+pub record IsReplacing (form : EncodingForm) (before : DecoderState) (source : List ℕ) (last : Bool) (free : ℕ) (now : DecoderState) (read : ℕ)
+    (written : List ℕ) (found : Bool) : Type 0 where
   pub within : read ≤ length source
   pub fits : length written ≤ free
   pub passed : ℕ
@@ -131,9 +128,11 @@ pub record IsReplacing (form : EncodingForm) (before : DecoderState) (source : L
   pub text : written ≡ all_code_units form (replaced_scalars out)
   pub found_is : found ≡ has_bad out
   pub untouched : LacksRoom form before source last free → (read ≡ 0) × (written ≡ []) × (found ≡ false) × (now ≡ before)
-  pub lowers : (more : ℕ) → (IsTrue last → more ≡ 0) → room (replacing_query form) now (length (drop read source) + more) + length written ≤ room (replacing_query form) before (length source + more)
+  pub lowers : (more : ℕ) → (IsTrue last → more ≡ 0) →
+      room (replacing_query form) now (length (drop read source) + more) + length written ≤ room (replacing_query form) before (length source + more)
 
-pub replacing_start : (form : EncodingForm) (before : DecoderState) (source : List ℕ) (last : Bool) (free : ℕ) → IsReplacing form before source last free before 0 [] false
+pub replacing_start : (form : EncodingForm) (before : DecoderState) (source : List ℕ) (last : Bool) (free : ℕ) →
+    IsReplacing form before source last free before 0 [] false
 replacing_start form before source last free = record {
   within = omega arith;
   fits = omega arith;
@@ -148,7 +147,8 @@ replacing_start form before source last free = record {
 }
 
 -- if the end of the input may be replaced before a call, it may be after it
-still_found : (last found : Bool) (answer : DecoderResult) (count : ℕ) (left : List ℕ) → IsTrue (may_replace_end last found left) → IsTrue (may_replace_end last (found_after found answer) (drop count left))
+still_found : (last found : Bool) (answer : DecoderResult) (count : ℕ) (left : List ℕ) → IsTrue (may_replace_end last found left) →
+    IsTrue (may_replace_end last (found_after found answer) (drop count left))
 still_found last false answer count left h = cc
 still_found false true answer count left h = cc
 still_found true true answer count (b ∷ left) h = cc
@@ -164,210 +164,200 @@ end_found-last true found left h = refl
 end_found-last false true left h = cc
 end_found-last false false left h = cc
 
-found_now : (last found : Bool) (answer : DecoderResult) (left : List ℕ) → IsTrue (may_report_end last answer left) → IsTrue (may_replace_end last (found_after found answer) left)
+found_now : (last found : Bool) (answer : DecoderResult) (left : List ℕ) → IsTrue (may_report_end last answer left) →
+    IsTrue (may_replace_end last (found_after found answer) left)
 found_now last found InputEmpty left h = cc
 found_now last found OutputFull left h = cc
 found_now last found (Malformed a b) left h = h
 
--- if nothing was done, the next act still lacks its room
-still_lacks : (form : EncodingForm) (before now : DecoderState) (source : List ℕ) (last : Bool) (read free left : ℕ) → now ≡ before → read ≡ 0 → left ≡ free → LacksRoom form before source last free →
-    LacksRoom form now (drop read source) last left
-still_lacks form before now source last read free left e f g h = rw (e, f, g) h
+module _ {form : EncodingForm} {before : DecoderState} {source : List ℕ} {last : Bool} {free : ℕ} {now : DecoderState} {read : ℕ} {written : List ℕ}
+    {found : Bool} (u : IsReplacing form before source last free now read written found) where
+  -- the output and the events after a call that read `count` bytes
+  abbrev units : List ℕ → DecoderResult → List ℕ
+  units scalars answer = written ++ all_code_units form (scalars ++ reported_scalars answer)
 
-module _ (form : EncodingForm) (before : DecoderState) (source : List ℕ) (last : Bool) (free : ℕ) (now : DecoderState) (read : ℕ) (written : List ℕ) (found : Bool)
-    (u : IsReplacing form before source last free now read written found) (left : ℕ) (left_is : left + length written ≡ free)
-    (after : DecoderState) (count : ℕ) (scalars : List ℕ) where
-  -- the output after the call
-  abbrev units : DecoderResult → List ℕ
-  units answer = written ++ all_code_units form (scalars ++ reported_scalars answer)
+  abbrev out_after : ℕ → List ℕ → DecoderResult → List DecodeEvent
+  out_after count scalars answer = u.out ++ shift u.passed (out_events (length now.held + count) scalars answer)
 
-  -- the events after the call
-  abbrev out_after : DecoderResult → List DecodeEvent
-  out_after answer = u.out ++ shift u.passed (out_events (length now.held + count) scalars answer)
-
-  progress_after : (answer : DecoderResult) (c : DecoderCall form now (drop read source) last left after answer count scalars) →
-      Progress (may_replace_end last (found_after found answer) (drop (read + count) source)) before source (u.passed + c.passed) after (drop (read + count) source) (out_after answer)
-  progress_after answer c =
-      let d = drop-drop count read source in
-      let unread = drop count (drop read source) in
-      let out = out_events (length now.held + count) scalars answer in
-      let ended = may_replace_end last (found_after found answer) unread in
-      let first = at_less _ ended (still_found last found answer count (drop read source)) before source u.passed now (drop read source) u.out u.progress in
-      let second = at_less _ ended (found_now last found answer unread) now (drop read source) c.passed after unread out c.progress in
-      rw (← d) (after_that ended before source u.passed now (drop read source) u.out c.passed after unread out first second)
-
-  replaced_after : (answer : DecoderResult) → replaced_scalars (out_after answer) ≡ replaced_scalars u.out ++ (scalars ++ reported_scalars answer)
-  replaced_after answer =
+  replaced_after : (count : ℕ) (scalars : List ℕ) (answer : DecoderResult) →
+      replaced_scalars (out_after count scalars answer) ≡ replaced_scalars u.out ++ (scalars ++ reported_scalars answer)
+  replaced_after count scalars answer =
       let out = out_events (length now.held + count) scalars answer in
       replaced-append u.out (shift u.passed out) ∙ ap (λ l. replaced_scalars u.out ++ l) (replaced-call u.passed (length now.held + count) scalars answer)
 
-  scalar_after : (answer : DecoderResult) → All IsScalar scalars → All IsScalar (replaced_scalars (out_after answer))
-  scalar_after answer h =
-      let added = All-append IsScalar scalars (reported_scalars answer) h (reported answer) in
-      rw (replaced_after answer) (All-append IsScalar (replaced_scalars u.out) (scalars ++ reported_scalars answer) u.scalar added) where
-        reported : (answer : DecoderResult) → All IsScalar (reported_scalars answer)
-        reported InputEmpty = All-nil IsScalar
-        reported OutputFull = All-nil IsScalar
-        reported (Malformed a b) = All-cons IsScalar 0xFFFD [] refl (All-nil IsScalar)
-
-  text_after : (answer : DecoderResult) → units answer ≡ all_code_units form (replaced_scalars (out_after answer))
-  text_after answer = rw (replaced_after answer, all_code_units-append form (replaced_scalars u.out) (scalars ++ reported_scalars answer), ← u.text) refl
+  text_after : (count : ℕ) (scalars : List ℕ) (answer : DecoderResult) →
+      units scalars answer ≡ all_code_units form (replaced_scalars (out_after count scalars answer))
+  text_after count scalars answer =
+      rw (replaced_after count scalars answer, all_code_units-append form (replaced_scalars u.out) (scalars ++ reported_scalars answer), ← u.text) refl
 
   -- a result that reports nothing adds no code units
-  units_at : (answer : DecoderResult) → reported_scalars answer ≡ [] → units answer ≡ written ++ all_code_units form scalars
-  units_at answer e = ap (λ l. written ++ all_code_units form (scalars ++ l)) e ∙ ap (λ l. written ++ all_code_units form l) (append-nil scalars)
+  end_text : (count : ℕ) (scalars : List ℕ) (answer : DecoderResult) → reported_scalars answer ≡ [] →
+      written ++ all_code_units form scalars ≡ all_code_units form (replaced_scalars (out_after count scalars answer))
+  end_text count scalars answer e =
+      ap (λ l. written ++ all_code_units form l) (sym (ap (λ l. scalars ++ l) e ∙ append-nil scalars)) ∙ text_after count scalars answer
 
-  within_after : (answer : DecoderResult) → DecoderCall form now (drop read source) last left after answer count scalars → read + count ≤ length source
-  within_after answer c = let w = c.within in let v = u.within in omega (arith, length-drop read source)
-
-  lowers_after : (answer : DecoderResult) → DecoderCall form now (drop read source) last left after answer count scalars → (more : ℕ) → (IsTrue last → more ≡ 0) →
-      room (replacing_query form) after (length (drop (read + count) source) + more) + (total_unit_count form scalars + answer_units (replacing_query form) answer) + length written
-      ≤ room (replacing_query form) before (length source + more)
-  lowers_after answer c more h =
-      let one = u.lowers more h in
-      let two = c.lowers (replacing_query form) (query_form-is form) more h in
-      let three = rw (drop-drop count read source) at two in
-      omega (arith, one, three)
+  found_is_after : (count : ℕ) (scalars : List ℕ) (answer : DecoderResult) → found_after found answer ≡ has_bad (out_after count scalars answer)
+  found_is_after count scalars answer = ap (λ b. found_after b answer) u.found_is ∙ found-call u.out u.passed (length now.held + count) scalars answer
 
   -- the law of the room at the end of the source
   lowers_here : room (replacing_query form) now (length (drop read source)) + length written ≤ room (replacing_query form) before (length source)
   lowers_here = let h = u.lowers 0 (λ _. refl) in rw (add-zero (length (drop read source)), add-zero (length source)) at h
 
-  -- ---- a malformed sequence
+  long : (scalars : List ℕ) → length (written ++ all_code_units form scalars) ≡ length written + total_unit_count form scalars
+  long scalars = length-append written (all_code_units form scalars)
 
-  pub replacing_step : (a b : ℕ) → DecoderCall form now (drop read source) last left after (Malformed a b) count scalars →
-      IsReplacing form before source last free after (read + count) (written ++ (all_code_units form scalars ++ code_units form 0xFFFD)) true
-  replacing_step a b c =
-      let x = Malformed a b in
-      let fffd = code_units form 0xFFFD in
-      let fits = replacement_fits form now (drop read source) last left after a b count scalars c in
-      let one : all_code_units form (0xFFFD ∷ []) ≡ fffd = append-nil fffd in
-      let same : written ++ (all_code_units form scalars ++ fffd) ≡ units x = rw (all_code_units-append form scalars (0xFFFD ∷ []), one) refl in
-      let long : length (written ++ (all_code_units form scalars ++ fffd)) ≡ length written + (total_unit_count form scalars + length fffd) =
-      length-append written (all_code_units form scalars ++ fffd) ∙ ap (λ n. length written + n) (length-append (all_code_units form scalars) fffd) in
-      let counted = counted_units form in
-      let count_is = replacement_count form in
-      record {
-        within = within_after x c;
-        fits = omega (arith, left_is, fits, long);
-        passed = u.passed + c.passed;
-        out = out_after x;
-        progress = progress_after x c;
-        scalar = scalar_after x c.scalar;
-        text = same ∙ text_after x;
-        found_is = found-call u.out u.passed (length now.held + count) scalars x;
-        untouched = λ h.
-            let n = u.untouched h in
-            let none : length written ≡ 0 = ap length n.1 in
-            let full = c.full_at_once (still_lacks form before now source last read free left n.3 n.0 (omega (arith, left_is, none)) h) in
-            absurd (never (full.0));
-        lowers = λ more h. let low = lowers_after x c more h in omega (arith, low, long, counted, count_is);
-      } where
-        never : {a b : ℕ} → Malformed a b ≡ OutputFull → ⊥
-        never e = cc
+  -- a call with the room that is left
+  module _ {left : ℕ} {after : DecoderState} {count : ℕ} {scalars : List ℕ} {answer : DecoderResult}
+      (c : DecoderCall form now (drop read source) last left after answer count scalars) where
+    progress_after : Progress (may_replace_end last (found_after found answer) (drop (read + count) source)) before source (u.passed + c.passed) after
+        (drop (read + count) source)
+        (out_after count scalars answer)
+    progress_after =
+        let d = drop-drop count read source in
+        let unread = drop count (drop read source) in
+        let out = out_events (length now.held + count) scalars answer in
+        let ended = may_replace_end last (found_after found answer) unread in
+        let first = at_less _ ended (still_found last found answer count (drop read source)) before source u.passed now (drop read source) u.out u.progress in
+        let second = at_less _ ended (found_now last found answer unread) now (drop read source) c.passed after unread out c.progress in
+        rw (← d) (after_that ended before source u.passed now (drop read source) u.out c.passed after unread out first second)
 
-  pub replacing_less : (a b : ℕ) → DecoderCall form now (drop read source) last left after (Malformed a b) count scalars →
-      length (events_of after.grammar (after.held ++ drop (read + count) source)) < length (events_of now.grammar (now.held ++ drop read source))
-  replacing_less a b c =
-      let event : ℕ → DecodeEvent = λ x. Scalar x in
-      let bad : List DecodeEvent = Bad (length now.held + count - b - a) a ∷ [] in
-      let e = c.progress.events [] (λ _. inl refl) in
-      let x : length (events_of now.grammar (now.held ++ (drop read source ++ [])))
-      ≡ length (map event scalars ++ bad) + length (events_of after.grammar (after.held ++ (drop count (drop read source) ++ []))) =
-      ap length e ∙ length-append (map event scalars ++ bad) _ ∙ ap (λ n. length (map event scalars ++ bad) + n) (length-shift c.passed _) in
-      let y = rw (append-nil, append-nil, drop-drop) at x in
-      let s = length-append (map event scalars) bad in
-      omega (arith, y, s)
+    scalar_after : All IsScalar (replaced_scalars (out_after count scalars answer))
+    scalar_after =
+        let added = All-append IsScalar scalars (reported_scalars answer) c.scalar (reported answer) in
+        rw (replaced_after count scalars answer) (All-append IsScalar (replaced_scalars u.out) (scalars ++ reported_scalars answer) u.scalar added) where
+          reported : (answer : DecoderResult) → All IsScalar (reported_scalars answer)
+          reported InputEmpty = All-nil IsScalar
+          reported OutputFull = All-nil IsScalar
+          reported (Malformed a b) = All-cons IsScalar 0xFFFD [] refl (All-nil IsScalar)
 
-  -- ---- the ends
+    within_after : read + count ≤ length source
+    within_after = let w = c.within in let v = u.within in omega (arith, length-drop read source)
 
-  end_room : OutputFull ≡ OutputFull → DecoderCall form now (drop read source) last left after OutputFull count scalars → room (replacing_query form) before (length source) ≤ free → ⊥
-  end_room e c h = c.suffices (replacing_query form) (query_form-is form) (let low = lowers_here in omega (arith, low, left_is)) e
+    lowers_after : (more : ℕ) → (IsTrue last → more ≡ 0) → room (replacing_query form) after (length (drop (read + count) source) + more) +
+        (total_unit_count form scalars + answer_units (replacing_query form) answer) + length written
+        ≤ room (replacing_query form) before (length source + more)
+    lowers_after more h =
+        let one = u.lowers more h in
+        let two = rw (drop-drop count read source) at (c.lowers (replacing_query form) (query_form-is form) more h) in
+        omega (arith, one, two)
 
-  pub replacing_full : DecoderCall form now (drop read source) last left after OutputFull count scalars →
-      ReplacingDecoderCall form before source last free after coder.OutputFull (read + count) (written ++ all_code_units form scalars) found
-  replacing_full c =
-      let x = OutputFull in
-      let same = units_at x refl in
-      let long : length (written ++ all_code_units form scalars) ≡ length written + total_unit_count form scalars = length-append written (all_code_units form scalars) in
-      let fits = c.fits in
-      let lacks = c.output_full refl in
-      let left_now : left - total_unit_count form scalars ≡ free - length (written ++ all_code_units form scalars) = omega (arith, left_is, long, fits) in
-      record {
-        within = within_after x c;
-        fits = omega (arith, left_is, fits, long);
-        passed = u.passed + c.passed;
-        out = out_after x;
-        progress = progress_after x c;
-        allowed = c.allowed;
-        scalar = scalar_after x c.scalar;
-        text = sym same ∙ text_after x;
-        found_is = u.found_is ∙ found-call u.out u.passed (length now.held + count) scalars x;
-        input_empty = λ e. absurd (no_end e);
-        output_full = λ _. rw (drop-drop count read source, left_now) at lacks;
-        full_at_once = λ h.
-            let n = u.untouched h in
-            let none : length written ≡ 0 = ap length n.1 in
-            let full = c.full_at_once (still_lacks form before now source last read free left n.3 n.0 (omega (arith, left_is, none)) h) in
-            (refl, nothing_read n.0 full.1, nothing_written n.1 full.2, n.2, full.3 ∙ n.3);
-        lowers = λ more h. let low = lowers_after x c more h in omega (arith, low, long);
-        suffices = λ h. absurd (end_room refl c h);
-        enough = λ n k h e f. absurd (end_room refl c (let r = room-answer (replacing_query form) before (length source) n k h e in omega (arith, r)));
-      } where
-        no_end : coder.OutputFull ≡ coder.InputEmpty → ⊥
-        no_end e = cc
+    -- if the room was lacking as the calls began, this call returns OutputFull and nothing is done
+    full_so : left + length written ≡ free → LacksRoom form before source last free →
+        (answer ≡ OutputFull) × (read + count ≡ 0) × (written ++ all_code_units form scalars ≡ []) × (found ≡ false) × (after ≡ before)
+    full_so left_is h =
+        let n = u.untouched h in
+        let same : left ≡ free = omega (arith, left_is, ap length n.1) in
+        let full = c.full_at_once (rw (n.3, n.0, same) h) in
+        (full.0, nothing_read n.0 full.1, nothing_written n.1 full.2, n.2, full.3 ∙ n.3) where
+          nothing_read : read ≡ 0 → count ≡ 0 → read + count ≡ 0
+          nothing_read e f = omega arith
 
-        nothing_read : read ≡ 0 → count ≡ 0 → read + count ≡ 0
-        nothing_read e f = omega arith
+          nothing_written : written ≡ [] → scalars ≡ [] → written ++ all_code_units form scalars ≡ []
+          nothing_written e f = rw (e, f) refl
 
-        nothing_written : written ≡ [] → scalars ≡ [] → written ++ all_code_units form scalars ≡ []
-        nothing_written e f = rw (e, f) refl
+  module _ {left : ℕ} (left_is : left + length written ≡ free) {after : DecoderState} {count : ℕ} {scalars : List ℕ} where
+    -- ---- a malformed sequence
 
-  pub replacing_end : DecoderCall form now (drop read source) last left after InputEmpty count scalars →
-      ReplacingDecoderCall form before source last free after coder.InputEmpty (read + count) (written ++ all_code_units form scalars) found
-  replacing_end c =
-      let x = InputEmpty in
-      let same = units_at x refl in
-      let long : length (written ++ all_code_units form scalars) ≡ length written + total_unit_count form scalars = length-append written (all_code_units form scalars) in
-      let fits = c.fits in
-      let done = c.input_empty refl in
-      record {
-        within = within_after x c;
-        fits = omega (arith, left_is, fits, long);
-        passed = u.passed + c.passed;
-        out = out_after x;
-        progress = progress_after x c;
-        allowed = c.allowed;
-        scalar = scalar_after x c.scalar;
-        text = sym same ∙ text_after x;
-        found_is = u.found_is ∙ found-call u.out u.passed (length now.held + count) scalars x;
-        input_empty = λ _. (let d = done.0 in let v = u.within in omega (arith, d, v, length-drop read source), done.1, done.2);
-        output_full = λ e. absurd (no_full e);
-        full_at_once = λ h.
-            let n = u.untouched h in
-            let none : length written ≡ 0 = ap length n.1 in
-            let full = c.full_at_once (still_lacks form before now source last read free left n.3 n.0 (omega (arith, left_is, none)) h) in
-            absurd (never full.0);
-        lowers = λ more h. let low = lowers_after x c more h in omega (arith, low, long);
-        suffices = λ _. refl;
-        enough = λ n k h e f. refl;
-      } where
-        no_full : coder.InputEmpty ≡ coder.OutputFull → ⊥
-        no_full e = cc
+    pub replacing_step : {a b : ℕ} → DecoderCall form now (drop read source) last left after (Malformed a b) count scalars →
+        IsReplacing form before source last free after (read + count) (written ++ (all_code_units form scalars ++ code_units form 0xFFFD)) true
+    replacing_step {a} {b} c =
+        let x = Malformed a b in
+        let fffd = code_units form 0xFFFD in
+        let fits = replacement_fits c in
+        let one : all_code_units form (0xFFFD ∷ []) ≡ fffd = append-nil fffd in
+        let same : written ++ (all_code_units form scalars ++ fffd) ≡ units scalars x = rw (all_code_units-append form scalars (0xFFFD ∷ []), one) refl in
+        let all =
+        length-append written (all_code_units form scalars ++ fffd) ∙ ap (λ n. length written + n) (length-append (all_code_units form scalars) fffd) in
+        let counted = counted_units form in
+        let count_is = replacement_count form in
+        record {
+          within = within_after c;
+          fits = omega (arith, left_is, fits, all);
+          passed = u.passed + c.passed;
+          out = out_after count scalars x;
+          progress = progress_after c;
+          scalar = scalar_after c;
+          text = same ∙ text_after count scalars x;
+          found_is = found_is_after count scalars x;
+          untouched = λ h. absurd (never (full_so c left_is h).0);
+          lowers = λ more h. let low = lowers_after c more h in omega (arith, low, all, counted, count_is);
+        } where
+          never : {a b : ℕ} → Malformed a b ≡ OutputFull → ⊥
+          never e = cc
 
-        never : InputEmpty ≡ OutputFull → ⊥
-        never e = cc
+    -- ---- the ends
+
+    end_room : OutputFull ≡ OutputFull → DecoderCall form now (drop read source) last left after OutputFull count scalars →
+        room (replacing_query form) before (length source) ≤ free → ⊥
+    end_room e c h = c.suffices (replacing_query form) (query_form-is form) (let low = lowers_here in omega (arith, low, left_is)) e
+
+    pub replacing_full : DecoderCall form now (drop read source) last left after OutputFull count scalars →
+        ReplacingDecoderCall form before source last free after coder.OutputFull (read + count) (written ++ all_code_units form scalars) found
+    replacing_full c =
+        let fits = c.fits in
+        let all = long scalars in
+        let left_now : left - total_unit_count form scalars ≡ free - length (written ++ all_code_units form scalars) = omega (arith, left_is, all, fits) in
+        record {
+          within = within_after c;
+          fits = omega (arith, left_is, fits, all);
+          passed = u.passed + c.passed;
+          out = out_after count scalars OutputFull;
+          progress = progress_after c;
+          allowed = c.allowed;
+          scalar = scalar_after c;
+          text = end_text count scalars OutputFull refl;
+          found_is = found_is_after count scalars OutputFull;
+          input_empty = λ e. absurd (no_end e);
+          output_full = λ _. rw (drop-drop count read source, left_now) at (c.output_full refl);
+          full_at_once = λ h. let full = full_so c left_is h in (refl, full.1, full.2, full.3, full.4);
+          lowers = λ more h. let low = lowers_after c more h in omega (arith, low, all);
+          suffices = λ h. absurd (end_room refl c h);
+          enough = λ n k h e f. absurd (end_room refl c (let r = room-answer (replacing_query form) before (length source) n k h e in omega (arith, r)));
+        } where
+          no_end : coder.OutputFull ≡ coder.InputEmpty → ⊥
+          no_end e = cc
+
+    pub replacing_end : DecoderCall form now (drop read source) last left after InputEmpty count scalars →
+        ReplacingDecoderCall form before source last free after coder.InputEmpty (read + count) (written ++ all_code_units form scalars) found
+    replacing_end c =
+        let fits = c.fits in
+        let all = long scalars in
+        let done = c.input_empty refl in
+        record {
+          within = within_after c;
+          fits = omega (arith, left_is, fits, all);
+          passed = u.passed + c.passed;
+          out = out_after count scalars InputEmpty;
+          progress = progress_after c;
+          allowed = c.allowed;
+          scalar = scalar_after c;
+          text = end_text count scalars InputEmpty refl;
+          found_is = found_is_after count scalars InputEmpty;
+          input_empty = λ _. (let d = done.0 in let v = u.within in omega (arith, d, v, length-drop read source), done.1, done.2);
+          output_full = λ e. absurd (no_full e);
+          full_at_once = λ h. absurd (never (full_so c left_is h).0);
+          lowers = λ more h. let low = lowers_after c more h in omega (arith, low, all);
+          suffices = λ _. refl;
+          enough = λ n k h e f. refl;
+        } where
+          no_full : coder.InputEmpty ≡ coder.OutputFull → ⊥
+          no_full e = cc
+
+          never : InputEmpty ≡ OutputFull → ⊥
+          never e = cc
 
 -- ---- the same, by the contents of the destination
 
 -- Calls in progress: the destination held `old` with `free` code units free, and now holds `new` with `left` free.
-pub record Replaces (form : EncodingForm) (before : DecoderState) (source : List ℕ) (last : Bool) (free : ℕ) (now : DecoderState) (read : ℕ) (found : Bool) (old new : List ℕ) (left : ℕ) : Type 0 where
+pub record Replaces (form : EncodingForm) (before : DecoderState) (source : List ℕ) (last : Bool) (free : ℕ) (now : DecoderState) (read : ℕ) (found : Bool)
+    (old new : List ℕ) (left : ℕ) : Type 0 where
   pub written : List ℕ
   pub state : IsReplacing form before source last free now read written found
   pub contents : new ≡ old ++ written
   pub room : left + length written ≡ free
 
-pub replaces_start : (form : EncodingForm) (before : DecoderState) (source : List ℕ) (last : Bool) (free : ℕ) (old : List ℕ) → Replaces form before source last free before 0 false old old free
+pub replaces_start : (form : EncodingForm) (before : DecoderState) (source : List ℕ) (last : Bool) (free : ℕ) (old : List ℕ) →
+    Replaces form before source last free before 0 false old old free
 replaces_start form before source last free old = record {
   written = [];
   state = replacing_start form before source last free;
@@ -375,52 +365,47 @@ replaces_start form before source last free old = record {
   room = omega arith;
 }
 
-module _ (form : EncodingForm) (before : DecoderState) (source : List ℕ) (last : Bool) (free : ℕ) (now : DecoderState) (read : ℕ) (found : Bool) (old mid : List ℕ) (left : ℕ)
-    (r : Replaces form before source last free now read found old mid left) (after : DecoderState) (count : ℕ) (scalars : List ℕ)
-    (stepped : List ℕ) (stepped_is : stepped ≡ mid ++ all_code_units form scalars) where
-  -- the contents after the call
-  contents_now : stepped ≡ old ++ (r.written ++ all_code_units form scalars)
-  contents_now = stepped_is ∙ ap (λ l. l ++ all_code_units form scalars) r.contents ∙ append_assoc old r.written (all_code_units form scalars)
+module _ {form : EncodingForm} {before : DecoderState} {source : List ℕ} {last : Bool} {free : ℕ} {now : DecoderState} {read : ℕ} {found : Bool}
+    {old mid : List ℕ} {left : ℕ} (r : Replaces form before source last free now read found old mid left) where
+  -- the contents and the room after a call that wrote these scalars
+  module _ (scalars : List ℕ) {stepped : List ℕ} (stepped_is : stepped ≡ mid ++ all_code_units form scalars) where
+    contents_now : stepped ≡ old ++ (r.written ++ all_code_units form scalars)
+    contents_now = stepped_is ∙ ap (λ l. l ++ all_code_units form scalars) r.contents ∙ append_assoc old r.written (all_code_units form scalars)
 
-  -- the room after the call
-  room_now : (left_now : ℕ) → left_now + length stepped ≡ left + length mid → left_now + total_unit_count form scalars ≡ left
-  room_now left_now e =
-      let long : length stepped ≡ length mid + total_unit_count form scalars = ap length stepped_is ∙ length-append mid (all_code_units form scalars) in
-      omega arith
+    room_now : (left_now : ℕ) → left_now + length stepped ≡ left + length mid → left_now + total_unit_count form scalars ≡ left
+    room_now left_now e = omega (arith, ap length stepped_is, length-append mid (all_code_units form scalars))
 
-  pub replaces_end : DecoderCall form now (drop read source) last left after InputEmpty count scalars →
-      (written : List ℕ) × ReplacingDecoderCall form before source last free after coder.InputEmpty (read + count) written found × (stepped ≡ old ++ written)
-  replaces_end c = (r.written ++ all_code_units form scalars, replacing_end form before source last free now read r.written found r.state left r.room after count scalars c, contents_now)
+  module _ {after : DecoderState} {count : ℕ} {scalars stepped : List ℕ} (stepped_is : stepped ≡ mid ++ all_code_units form scalars) where
+    pub replaces_end : DecoderCall form now (drop read source) last left after InputEmpty count scalars →
+        (written : List ℕ) × ReplacingDecoderCall form before source last free after coder.InputEmpty (read + count) written found × (stepped ≡ old ++ written)
+    replaces_end c = (r.written ++ all_code_units form scalars, replacing_end r.state r.room c, contents_now scalars stepped_is)
 
-  pub replaces_full : DecoderCall form now (drop read source) last left after OutputFull count scalars →
-      (written : List ℕ) × ReplacingDecoderCall form before source last free after coder.OutputFull (read + count) written found × (stepped ≡ old ++ written)
-  replaces_full c = (r.written ++ all_code_units form scalars, replacing_full form before source last free now read r.written found r.state left r.room after count scalars c, contents_now)
+    pub replaces_full : DecoderCall form now (drop read source) last left after OutputFull count scalars →
+        (written : List ℕ) × ReplacingDecoderCall form before source last free after coder.OutputFull (read + count) written found × (stepped ≡ old ++ written)
+    replaces_full c = (r.written ++ all_code_units form scalars, replacing_full r.state r.room c, contents_now scalars stepped_is)
 
-  -- a malformed sequence, and U+FFFD after it
-  pub replaces_step : (a b : ℕ) → DecoderCall form now (drop read source) last left after (Malformed a b) count scalars →
-      (left_now left_put : ℕ) → left_now + length stepped ≡ left + length mid → left_put + length (code_units form 0xFFFD) ≡ left_now →
-      (put : List ℕ) → put ≡ stepped ++ code_units form 0xFFFD → Replaces form before source last free after (read + count) true old put left_put
-  replaces_step a b c left_now left_put e f put put_is =
-      let fffd = code_units form 0xFFFD in
-      let units = all_code_units form scalars in
-      let room = room_now left_now e in
-      let had = r.room in
-      let long : length (r.written ++ (units ++ fffd)) ≡ length r.written + (length units + length fffd) =
-      length-append r.written (units ++ fffd) ∙ ap (λ n. length r.written + n) (length-append units fffd) in
-      record {
-        written = r.written ++ (units ++ fffd);
-        state = replacing_step form before source last free now read r.written found r.state left r.room after count scalars a b c;
-        contents = put_is ∙ ap (λ l. l ++ fffd) contents_now ∙ append_assoc old (r.written ++ units) fffd ∙ ap (λ l. old ++ l) (append_assoc r.written units fffd);
-        room = omega arith;
-      }
+    -- a malformed sequence, and U+FFFD after it
+    module _ {a b : ℕ} (c : DecoderCall form now (drop read source) last left after (Malformed a b) count scalars) where
+      pub replaces_step : {left_now left_put : ℕ} → left_now + length stepped ≡ left + length mid → left_put + length (code_units form 0xFFFD) ≡ left_now →
+          {put : List ℕ} → put ≡ stepped ++ code_units form 0xFFFD → Replaces form before source last free after (read + count) true old put left_put
+      replaces_step {left_now} e f put_is =
+          let fffd = code_units form 0xFFFD in
+          let units = all_code_units form scalars in
+          let room = room_now scalars stepped_is left_now e in
+          let had = r.room in
+          let long = length-append r.written (units ++ fffd) ∙ ap (λ n. length r.written + n) (length-append units fffd) in
+          record {
+            written = r.written ++ (units ++ fffd);
+            state = replacing_step r.state r.room c;
+            contents =
+                put_is ∙ ap (λ l. l ++ fffd) (contents_now scalars stepped_is) ∙ append_assoc old (r.written ++ units) fffd
+                ∙ ap (λ l. old ++ l) (append_assoc r.written units fffd);
+            room = omega arith;
+          }
 
-  pub replaces_fits : (a b : ℕ) → DecoderCall form now (drop read source) last left after (Malformed a b) count scalars →
-      (left_now : ℕ) → left_now + length stepped ≡ left + length mid → length (code_units form 0xFFFD) ≤ left_now
-  replaces_fits a b c left_now e =
-      let room = room_now left_now e in
-      let fits = replacement_fits form now (drop read source) last left after a b count scalars c in
-      omega arith
+      pub replaces_fits : (left_now : ℕ) → left_now + length stepped ≡ left + length mid → length (code_units form 0xFFFD) ≤ left_now
+      replaces_fits left_now e = omega (arith, room_now scalars stepped_is left_now e, replacement_fits c)
 
-  pub replaces_less : (a b : ℕ) → DecoderCall form now (drop read source) last left after (Malformed a b) count scalars →
-      length (events_of after.grammar (after.held ++ drop (read + count) source)) < length (events_of now.grammar (now.held ++ drop read source))
-  replaces_less a b c = replacing_less form before source last free now read r.written found r.state left r.room after count scalars a b c
+      pub replaces_less : length (events_of after.grammar (after.held ++ drop (read + count) source)) < length
+          (events_of now.grammar (now.held ++ drop read source))
+      replaces_less = rw (← drop-drop count read source) (fault_less c)

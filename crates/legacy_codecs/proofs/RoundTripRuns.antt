@@ -46,7 +46,8 @@ in_place (gb18030 index ranges pua) text bytes t = tt
 in_place (gbk index ranges pua) text bytes t = tt
 in_place (iso_2022_jp jis0208 katakana_index) text bytes t = escapes_are_in_place jis0208 katakana_index text bytes t
 
-pub run_comes_back : (before : EncoderState) (pieces : List (List ℕ)) {lengths : List ℕ} {calls : ℕ} {finished : Bool} {items : List EncodeEvent} {after : EncoderState} →
+pub run_comes_back : (before : EncoderState) (pieces : List (List ℕ)) {lengths : List ℕ} {calls : ℕ} {finished : Bool} {items : List EncodeEvent}
+    {after : EncoderState} →
     IsEncodeRun (place_before before pieces) lengths calls finished items after → RunComesBack before pieces finished items
 run_comes_back before pieces {items = items} r codec accepted new done =
     let text = joined pieces in

@@ -1,5 +1,6 @@
 -- What the calls of a run give together.
-use Rattle.std.proofs.Common.{◌≡◌, ◌∙◌, ℕ, ◌+◌, List, [], ◌∷◌, ◌++◌, length, drop, map, refl, sym, ap, arith, append_assoc, append-nil, subst, Bool, true, IsTrue, inl}
+use Rattle.std.proofs.Common.{◌≡◌, ◌∙◌, ℕ, ◌+◌, List, [], ◌∷◌, ◌++◌, length, drop, map, refl, sym, ap, arith, append_assoc, append-nil, subst, Bool, true}
+use Rattle.std.proofs.Common.{IsTrue, inl}
 use Rattle.std.proofs.lemmas.Bool.{false≢true}
 use Rattle.std.proofs.Math.ListN.{drop_of_length-le}
 use Rattle.legacy_base.specs.declared.results.DecodeEvent.{DecodeEvent}
@@ -59,8 +60,8 @@ place_behind-ahead p after (Malformed a b) read h = refl
 
 module _ {form : EncodingForm} {from : RunPlace DecoderState} {lengths : List ℕ} where
   -- the events up to a place, and then those of what is ahead, are all events
-  pub Reaches-events : {calls : ℕ} {events : List DecodeEvent} {passed : ℕ} {finished : Bool} {p : RunPlace DecoderState} → Reaches form from lengths calls events passed finished p →
-      events_ahead from ≡ events ++ shift passed (events_ahead p)
+  pub Reaches-events : {calls : ℕ} {events : List DecodeEvent} {passed : ℕ} {finished : Bool} {p : RunPlace DecoderState} →
+      Reaches form from lengths calls events passed finished p → events_ahead from ≡ events ++ shift passed (events_ahead p)
   Reaches-events begun = sym (shift-zero (events_ahead from))
   Reaches-events (called calls events passed p r free e after answer read scalars c) =
       let out = out_events (length p.state.held + read) scalars answer in
@@ -72,12 +73,13 @@ module _ {form : EncodingForm} {from : RunPlace DecoderState} {lengths : List �
       ∙ ap (λ (s : DecoderState). events_of s.grammar (ahead next)) (sym (place_behind-state p after (is_input_empty answer) (drop read p.piece))) in
       Reaches-events r
       ∙ ap (λ l. events ++ shift passed l) (one ∙ ap (λ l. out ++ shift c.passed l) two)
-      ∙ ap (λ l. events ++ l) (shift-append passed out (shift c.passed (events_ahead next)) ∙ ap (λ l. shift passed out ++ l) (shift-shift passed c.passed (events_ahead next)))
+      ∙ ap (λ l. events ++ l) (shift-append passed out (shift c.passed (events_ahead next)))
+      ∙ ap (λ l. events ++ (shift passed out ++ l)) (shift-shift passed c.passed (events_ahead next))
       ∙ sym (append_assoc events (shift passed out) (shift (passed + c.passed) (events_ahead next)))
 
   -- a finished run is past all pieces, and nothing is left
-  pub Reaches-finished : {calls : ℕ} {events : List DecodeEvent} {passed : ℕ} {finished : Bool} {p : RunPlace DecoderState} → Reaches form from lengths calls events passed finished p →
-      finished ≡ true → (p ≡ place_before p.state []) × HasNoneLeft p.state
+  pub Reaches-finished : {calls : ℕ} {events : List DecodeEvent} {passed : ℕ} {finished : Bool} {p : RunPlace DecoderState} →
+      Reaches form from lengths calls events passed finished p → finished ≡ true → (p ≡ place_before p.state []) × HasNoneLeft p.state
   Reaches-finished begun h = absurd (false≢true h)
   Reaches-finished (called calls events passed p r free e after InputEmpty read scalars c) h =
       let end : place_before after p.later ≡ place_before after [] = ap (place_before after) (last_empty p.later h) in
@@ -87,7 +89,8 @@ module _ {form : EncodingForm} {from : RunPlace DecoderState} {lengths : List �
   Reaches-finished (called calls events passed p r free e after (Malformed a b) read scalars c) h = absurd (false≢true h)
 
 -- the events of a run are a prefix of all events
-pub is_beginning : {form : EncodingForm} {before : DecoderState} {pieces : List (List ℕ)} {lengths : List ℕ} {calls : ℕ} {finished : Bool} {items : List DecodeEvent} {after : DecoderState} →
+pub is_beginning : {form : EncodingForm} {before : DecoderState} {pieces : List (List ℕ)} {lengths : List ℕ} {calls : ℕ} {finished : Bool}
+    {items : List DecodeEvent} {after : DecoderState} →
     IsRun form (place_before before pieces) lengths calls finished items after → IsBeginning before pieces finished items
 unfolding placed
 is_beginning {before = before} {pieces = pieces} {items = items} r =
@@ -96,7 +99,9 @@ is_beginning {before = before} {pieces = pieces} {items = items} r =
     let given_is : items ≡ placed h r.events = r.placed_is ∙ ap (λ (s : DecoderState). placed (length s.held) r.events) (place_before-state before pieces) in
     record {
       rest = placed h left;
-      whole = ap (placed h) (sym (place_before-ahead before pieces) ∙ Reaches-events r.reaches) ∙ placed-append h r.events left ∙ ap (λ l. l ++ placed h left) (sym given_is);
+      whole =
+          ap (placed h) (sym (place_before-ahead before pieces) ∙ Reaches-events r.reaches) ∙ placed-append h r.events left
+          ∙ ap (λ l. l ++ placed h left) (sym given_is);
       all = λ e.
           let done = Reaches-finished r.reaches e in
           let none : events_ahead r.place ≡ [] = ap events_ahead done.0 ∙ ap (events_of r.place.state.grammar) (append-nil r.place.state.held) ∙ done.1 in
@@ -104,7 +109,8 @@ is_beginning {before = before} {pieces = pieces} {items = items} r =
     }
 
 -- a finished run leaves nothing
-pub none_left : {form : EncodingForm} {from : RunPlace DecoderState} {lengths : List ℕ} {calls : ℕ} {finished : Bool} {items : List DecodeEvent} {after : DecoderState} →
+pub none_left : {form : EncodingForm} {from : RunPlace DecoderState} {lengths : List ℕ} {calls : ℕ} {finished : Bool} {items : List DecodeEvent}
+    {after : DecoderState} →
     IsRun form from lengths calls finished items after → IsTrue finished → HasNoneLeft after
 none_left r h = subst HasNoneLeft r.state (Reaches-finished r.reaches h).1
 
@@ -113,7 +119,8 @@ pub finished_gives : {before : DecoderState} {bytes : List ℕ} {answered : List
     placed (length before.held) (events_of before.grammar (before.held ++ bytes)) ≡ answered
 finished_gives {before = before} {answered = answered} f =
     let b = is_beginning f.run in
-    ap (λ l. placed (length before.held) (events_of before.grammar (before.held ++ l))) (sym f.same) ∙ b.whole ∙ ap (λ l. answered ++ l) (b.all refl) ∙ append-nil answered
+    ap (λ l. placed (length before.held) (events_of before.grammar (before.held ++ l))) (sym f.same) ∙ b.whole ∙ ap (λ l. answered ++ l) (b.all refl)
+    ∙ append-nil answered
 
 pub cuts_do_not_matter : CutsDoNotMatter
 cuts_do_not_matter before bytes one other f g = sym (finished_gives f) ∙ finished_gives g

@@ -39,8 +39,8 @@ reported_behind total OutputFull = []
 reported_behind total (Malformed a b) = Bad (total - (a + b)) a ∷ []
 
 -- it is the report of the law of a call, with places counted from the first byte of the run
-reported-placed : (h passed held total read : ℕ) (after : DecoderState) (answer : DecoderResult) → HoldsBack (held + read) after answer → passed + held ≡ h + total →
-    placed h (shift passed (reported_events (held + read) answer)) ≡ reported_behind (total + read) answer
+reported-placed : (h passed held total read : ℕ) (after : DecoderState) (answer : DecoderResult) → HoldsBack (held + read) after answer →
+    passed + held ≡ h + total → placed h (shift passed (reported_events (held + read) answer)) ≡ reported_behind (total + read) answer
 unfolding placed
 reported-placed h passed held total read after InputEmpty f e = refl
 reported-placed h passed held total read after OutputFull f e = refl
@@ -50,7 +50,8 @@ reported-placed h passed held total read after (Malformed a b) f e =
     ap (λ n. Bad n a ∷ []) place
 
 -- after a call at most as many bytes are unread as before it
-place_behind-bytes : (p : RunPlace DecoderState) (after : DecoderState) (answer : DecoderResult) (read : ℕ) → read ≤ length p.piece → (answer ≡ InputEmpty → read ≡ length p.piece) →
+place_behind-bytes : (p : RunPlace DecoderState) (after : DecoderState) (answer : DecoderResult) (read : ℕ) → read ≤ length p.piece →
+    (answer ≡ InputEmpty → read ≡ length p.piece) →
     read + (length (behind p after answer read).piece + sum_by length (behind p after answer read).later) ≤ length p.piece + sum_by length p.later
 place_behind-bytes p after InputEmpty read w all = let e = all refl in let b = pieces-length after p.later in omega arith
 place_behind-bytes p after OutputFull read w all = omega (arith, length-drop read p.piece)
@@ -93,21 +94,27 @@ module _ {form : EncodingForm} {from : RunPlace DecoderState} {lengths : List �
   }
 
 -- one more call, with its inputs and outputs given by equations
-pub running_call : {form : EncodingForm} {from : RunPlace DecoderState} {lengths : List ℕ} {calls : ℕ} {items items' : List DecodeEvent} {total : ℕ} {p p' : RunPlace DecoderState}
+pub running_call : {form : EncodingForm} {from : RunPlace DecoderState} {lengths : List ℕ} {calls : ℕ} {items items' : List DecodeEvent} {total : ℕ}
+    {p p' : RunPlace DecoderState}
     {free : ℕ} {after : DecoderState}
     {unread : List ℕ} {last finished : Bool} {given_back answer : DecoderResult} {read : ℕ} {scalars : List ℕ} →
-    Running form from lengths calls items total false p → slice_get lengths calls ≡ Some free → DecoderCall form p.state unread last free after given_back read scalars →
+    Running form from lengths calls items total false p → slice_get lengths calls ≡ Some free →
+    DecoderCall form p.state unread last free after given_back read scalars →
     unread ≡ p.piece → last ≡ is_none p.later → given_back ≡ answer →
-    items' ≡ (items ++ map Scalar scalars) ++ reported_behind (total + read) answer → finished ≡ ends_run p (is_input_empty answer) → p' ≡ behind p after answer read →
+    items' ≡ (items ++ map Scalar scalars) ++ reported_behind (total + read) answer → finished ≡ ends_run p (is_input_empty answer) →
+    p' ≡ behind p after answer read →
     Running form from lengths (calls + 1) items' (total + read) finished p'
 running_call r given c u l a i f q = let c' = rw (u, l, a) at c in rw (i, f, q) (call_behind r given c')
 
-pub is_run : {form : EncodingForm} {from : RunPlace DecoderState} {lengths : List ℕ} {calls : ℕ} {items : List DecodeEvent} {total : ℕ} {finished : Bool} {p : RunPlace DecoderState}
+pub is_run : {form : EncodingForm} {from : RunPlace DecoderState} {lengths : List ℕ} {calls : ℕ} {items : List DecodeEvent} {total : ℕ} {finished : Bool}
+    {p : RunPlace DecoderState}
     {after : DecoderState} →
-    Running form from lengths calls items total finished p → p.state ≡ after → calls ≤ length lengths → (finished ≡ false → calls ≡ length lengths) → IsRun form from lengths calls finished items after
-is_run r state few all = record { events = r.events; passed = r.passed; place = _; reaches = r.reaches; state = state; placed_is = r.items_are; few = few; all = all }
+    Running form from lengths calls items total finished p → p.state ≡ after → calls ≤ length lengths → (finished ≡ false → calls ≡ length lengths) →
+    IsRun form from lengths calls finished items after
+is_run r state few all =
+    record { events = r.events; passed = r.passed; place = _; reaches = r.reaches; state = state; placed_is = r.items_are; few = few; all = all }
 
 -- the place of a run after a call in the piece at an index
-pub place_at-more : (pieces : List (List ℕ)) (s : DecoderState) (index offset read : ℕ) →
-    place_at pieces s index (offset + read) ≡ record { state = s; piece = drop read (drop offset (slice_index_or pieces index [])); later = drop (index + 1) pieces }
+pub place_at-more : (pieces : List (List ℕ)) (s : DecoderState) (index offset read : ℕ) → place_at pieces s index (offset + read)
+    ≡ record { state = s; piece = drop read (drop offset (slice_index_or pieces index [])); later = drop (index + 1) pieces }
 place_at-more pieces s index offset read = rw (drop-drop read offset (slice_index_or pieces index [])) refl

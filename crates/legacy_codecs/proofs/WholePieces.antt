@@ -38,14 +38,16 @@ utf8_of bytes cs h e =
 -- ---- a call
 
 -- what was written is at the front of the buffer
-pub front_of_buffer : (written count : ℕ) (output behind : List ℕ) → written ≤ length output → length output ≡ count → take written (take count (output ++ behind)) ≡ take written output
+pub front_of_buffer : (written count : ℕ) (output behind : List ℕ) → written ≤ length output → length output ≡ count →
+    take written (take count (output ++ behind)) ≡ take written output
 front_of_buffer written count output behind h e = take-take written count (output ++ behind) (omega (arith, h, e)) ∙ take-append-le written output behind h
 
 -- nothing is left of a source that was read
 all_read : (source : List ℕ) (read : ℕ) → read ≡ length source → drop read source ≡ []
 all_read source read e = drop_all read source (omega (arith, e))
 
-module _ (form : EncodingForm) (before : DecoderState) (source : List ℕ) (last : Bool) (free : ℕ) (after : DecoderState) (answer : CoderResult) (read : ℕ) (written : List ℕ) (found : Bool)
+module _ {form : EncodingForm} {before : DecoderState} {source : List ℕ} {last : Bool} {free : ℕ} {after : DecoderState} {answer : CoderResult} {read : ℕ}
+    {written : List ℕ} {found : Bool}
     (c : ReplacingDecoderCall form before source last free after answer read written found) (empty : answer ≡ InputEmpty) where
   scalars_go_on : (later : List ℕ) → (IsTrue last → later ≡ []) → text_of before (source ++ later) ≡ replaced_scalars c.out ++ text_of after later
   unfolding text_of
@@ -57,7 +59,8 @@ module _ (form : EncodingForm) (before : DecoderState) (source : List ℕ) (last
   pub text_goes_on : TextGoesOn form last before source after written
   text_goes_on later h =
       let rest = text_of after later in
-      ap (all_code_units form) (scalars_go_on later h) ∙ all_code_units-append form (replaced_scalars c.out) rest ∙ ap (λ l. l ++ all_code_units form rest) (sym c.text)
+      ap (all_code_units form) (scalars_go_on later h) ∙ all_code_units-append form (replaced_scalars c.out) rest
+      ∙ ap (λ l. l ++ all_code_units form rest) (sym c.text)
 
   -- after the last piece no text is left
   pub none_left : IsTrue last → text_of after [] ≡ []
@@ -66,12 +69,13 @@ module _ (form : EncodingForm) (before : DecoderState) (source : List ℕ) (last
 
   whole_text : IsTrue last → text_of before source ≡ replaced_scalars c.out
   whole_text is_last =
-      ap (text_of before) (sym (append-nil source)) ∙ scalars_go_on [] (λ _. refl) ∙ ap (λ l. replaced_scalars c.out ++ l) (none_left is_last) ∙ append-nil (replaced_scalars c.out)
+      ap (text_of before) (sym (append-nil source)) ∙ scalars_go_on [] (λ _. refl) ∙ ap (λ l. replaced_scalars c.out ++ l) (none_left is_last)
+      ∙ append-nil (replaced_scalars c.out)
 
 -- a last call into UTF-8 that read its whole source wrote the text of it
-pub whole_utf8 : (before : DecoderState) (source : List ℕ) (free : ℕ) (after : DecoderState) (answer : CoderResult) (read : ℕ) (written : List ℕ) (found : Bool) →
-    ReplacingDecoderCall Utf8 before source true free after answer read written found → answer ≡ InputEmpty → IsUtf8 written × (chars written ≡ text_of before source)
-whole_utf8 before source free after answer read written found c empty =
-    let whole = whole_text Utf8 before source true free after answer read written found c empty refl in
-    let utf8 = utf8_of written (replaced_scalars c.out) c.scalar c.text in
-    (utf8.0, utf8.1 ∙ sym whole)
+pub whole_utf8 : {before : DecoderState} {source : List ℕ} {free : ℕ} {after : DecoderState} {answer : CoderResult} {read : ℕ} {written : List ℕ}
+    {found : Bool} →
+    ReplacingDecoderCall Utf8 before source true free after answer read written found → answer ≡ InputEmpty →
+    IsUtf8 written × (chars written ≡ text_of before source)
+whole_utf8 {written = written} c empty =
+    let utf8 = utf8_of written (replaced_scalars c.out) c.scalar c.text in (utf8.0, utf8.1 ∙ sym (whole_text c empty refl))

@@ -1,5 +1,6 @@
 -- Calls of an encoder with references, over a whole text.
-use Rattle.std.proofs.Common.{◌≡◌, ◌∙◌, ℕ, ◌≤◌, ◌<◌, List, [], ◌++◌, length, refl, sym, ap, arith, append-nil, append_assoc, length-append, Bool, true, false, IsTrue, map, inl}
+use Rattle.std.proofs.Common.{◌≡◌, ◌∙◌, ℕ, ◌≤◌, ◌<◌, List, [], ◌++◌, length, refl, sym, ap, arith, append-nil, append_assoc, length-append, Bool, true, false}
+use Rattle.std.proofs.Common.{IsTrue, map, inl}
 use Rattle.std.proofs.lemmas.Grind.{flat_map-append}
 use Rattle.legacy_base.specs.declared.results.EncodeEvent.TheVariants.{Byte}
 use Rattle.legacy_base.specs.Encoders.{EncoderState, encoded}
@@ -20,16 +21,18 @@ module _ {last : Bool} (before : EncoderState) (source : List ℕ) (free : ℕ) 
   bytes_go_on =
       let gives : encoded before (source ++ []) last ≡ c.out ++ encoded after (left ++ []) last = c.gives [] last (λ w. inl (refl, wrote_last last answer w)) in
       let all = rw (append-nil source, append-nil left) at gives in
-      ap referenced_bytes all ∙ flat_map-append event_bytes c.out (encoded after left last) ∙ ap (λ l. l ++ referenced_bytes (encoded after left last)) (sym c.text)
+      ap referenced_bytes all ∙ flat_map-append event_bytes c.out (encoded after left last)
+      ∙ ap (λ l. l ++ referenced_bytes (encoded after left last)) (sym c.text)
 
   -- a full output that was long enough has some
-  pub bytes_less : 14 ≤ free → answer ≡ OutputFull → length (referenced_bytes (encoded after left last)) < length (referenced_bytes (encoded before source last))
+  pub bytes_less : 14 ≤ free → answer ≡ OutputFull →
+      length (referenced_bytes (encoded after left last)) < length (referenced_bytes (encoded before source last))
   bytes_less is e =
       let few = c.few e in
       let all = ap length bytes_go_on ∙ length-append bytes (referenced_bytes (encoded after left last)) in
       omega (arith, is, few, all)
 
-module _ (before : EncoderState) (source : List ℕ) (free : ℕ) (after : EncoderState) (answer : CoderResult) (left bytes : List ℕ) (found : Bool)
+module _ {before : EncoderState} {source : List ℕ} {free : ℕ} {after : EncoderState} {answer : CoderResult} {left bytes : List ℕ} {found : Bool}
     (c : ReplacingEncoderCall before source true free after answer left bytes found) where
   -- after the end nothing is left to write
   pub bytes_end : answer ≡ InputEmpty → referenced_bytes (encoded after left true) ≡ []
@@ -38,7 +41,8 @@ module _ (before : EncoderState) (source : List ℕ) (free : ℕ) (after : Encod
       ap (λ l. referenced_bytes (encoded after l true)) done.0 ∙ ap referenced_bytes (end-encoded after) ∙ ap (λ l. referenced_bytes (map Byte l)) (done.1 refl)
 
   -- what is done, with what was written now
-  pub bytes_after : (done now whole : List ℕ) → done ++ referenced_bytes (encoded before source true) ≡ whole → now ≡ done ++ bytes → now ++ referenced_bytes (encoded after left true) ≡ whole
-  bytes_after done now whole h e =
+  pub bytes_after : (done : List ℕ) {now whole : List ℕ} → done ++ referenced_bytes (encoded before source true) ≡ whole → now ≡ done ++ bytes →
+      now ++ referenced_bytes (encoded after left true) ≡ whole
+  bytes_after done h e =
       let rest = referenced_bytes (encoded after left true) in
-      ap (λ l. l ++ rest) e ∙ append_assoc done bytes rest ∙ ap (λ l. done ++ l) (sym (bytes_go_on before source free after answer left bytes found c)) ∙ h
+      ap (λ l. l ++ rest) e ∙ append_assoc done bytes rest ∙ ap (λ l. done ++ l) (sym (bytes_go_on _ _ _ _ _ _ _ _ c)) ∙ h

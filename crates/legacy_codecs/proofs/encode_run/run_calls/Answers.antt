@@ -27,14 +27,16 @@ loop-calls-init g c =
     }
 
 -- the length of a call's output is the next of the lengths
-free_is : (lengths output : List ℕ) (calls : ℕ) → calls < length lengths → All (λ n. n ≤ length output) lengths → slice_get lengths calls ≡ Some (length (take (get_or lengths calls 0) output))
+free_is : (lengths output : List ℕ) (calls : ℕ) → calls < length lengths → All (λ n. n ≤ length output) lengths →
+    slice_get lengths calls ≡ Some (length (take (get_or lengths calls 0) output))
 free_is lengths output calls h fits =
     let small = fits calls 0 h in
     let same : length (take (get_or lengths calls 0) output) ≡ get_or lengths calls 0 = omega (arith, length-take (get_or lengths calls 0) output) in
     rw same (slice_get-get_or lengths calls 0 h)
 
 -- the scalars of the piece at an index
-piece_is : {A : Type 0} (f : A → List ℕ) (pieces : List A) (index : ℕ) (piece : A) → index < length pieces → piece ≡ get_or pieces index piece → get_or (map f pieces) index [] ≡ f piece
+piece_is : {A : Type 0} (f : A → List ℕ) (pieces : List A) (index : ℕ) (piece : A) → index < length pieces → piece ≡ get_or pieces index piece →
+    get_or (map f pieces) index [] ≡ f piece
 piece_is f pieces index piece h e = get_or-map f pieces index piece [] h ∙ ap f (sym e)
 
 pub returns-then-last : goal.returns-then-last
@@ -81,14 +83,17 @@ loop-calls-preserved g c =
     let behind = length-drop next c.loop-calls.output in
     let kept = c.call_once.auto.output in
     let both = length-append c.call_once.new.output (drop next c.loop-calls.output) in
-    let output : All (λ n. n ≤ length (c.call_once.new.output ++ drop next c.loop-calls.output)) c.args.lengths.now = λ k d h. let b = i.output k d h in omega arith in
+    let output : All (λ n. n ≤ length (c.call_once.new.output ++ drop next c.loop-calls.output)) c.args.lengths.now =
+    λ k d h. let b = i.output k d h in omega arith in
     elim c.if-call_once.branch [
       | then-call_once+else-last w ↦
           let goes = sym w.if-last.false ∙ last in
           let more = not_last texts index (sym goes) in
           let same : length texts ≡ length pieces = simp length-map in
           let emptied = sym w.if-call_once.true ∙ call.3 in
-          let left = w.cursor-unread-then-call_once.ensures ∙ sym (piece_is g.T.Text.scalars pieces (index + 1) _ (omega (arith, more, same)) w.index-pieces-index.is) in
+          let left =
+          w.cursor-unread-then-call_once.ensures
+          ∙ sym (piece_is g.T.Text.scalars pieces (index + 1) _ (omega (arith, more, same)) w.index-pieces-index.is) in
           rw (w.index-is, w.unread-is, left) record {
             reaches = reaches_call i.reaches given call.2 last emptied call.4 goes (place_at-next texts after index more);
             room = omega arith;

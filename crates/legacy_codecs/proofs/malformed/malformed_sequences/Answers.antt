@@ -2,33 +2,36 @@ use Rattle.std.proofs.Common.{◌∙◌, ◌++◌, ◌∷◌, [], length, arith,
 use Rattle.legacy_codecs.specs.declared.malformed.MalformedSequence.{MalformedSequence}
 use Rattle.legacy_base.specs.Lengths.{to_utf8_without_replacement}
 use Rattle.legacy_base.proofs.Enough.{room-answer}
-use Rattle.legacy_codecs.proofs.MalformedSequences.{finds_start, finds_step, finds_less, finds_stop, sequence_is}
+use Rattle.legacy_codecs.proofs.MalformedSequences.{finds_start, finds_step, finds_stop, sequence_is}
+use Rattle.legacy_codecs.proofs.Replaced.{fault_less}
 use Rattle.legacy_codecs.proofs.malformed.malformed_sequences.Goals as goal
 
 pub calls-init : goal.calls-init
 calls-init g c =
     let before = g.D.RawDecoder.state c.args.decoder.now in
     let n = length c.args.input.now in
-    let fits = room-answer to_utf8_without_replacement before n n c.in-Some.room (omega arith) (sym c.max_utf8_buffer_length_without_replacement.ensures ∙ c.in-Some.is) in
+    let fits =
+    room-answer to_utf8_without_replacement before n n c.in-Some.room (omega arith)
+    (sym c.max_utf8_buffer_length_without_replacement.ensures ∙ c.in-Some.is) in
     rw (c.new-found.ensures.items, c.in-Ok.ensures.len) (finds_start before c.args.input.now c.in-Some.room fits)
 
 pub returns-in_default-answer-clause-found : goal.returns-in_default-answer-clause-found
 returns-in_default-answer-clause-found g c =
     let call = c.decode_to_utf8_raw-answer.ensures.call in
     let free = rw c.as_mut_slice.ensures.len at call.1 in
-    finds_stop _ _ _ _ _ _ _ c.calls.invariant _ _ call.0 _ free c.in_default-answer.not-Malformed
+    finds_stop c.calls.invariant free c.in_default-answer.not-Malformed
 
 pub calls-smaller : goal.calls-smaller
 calls-smaller g c =
     let call = c.decode_to_utf8_raw-answer.ensures.call in
     let one = rw (c.as_mut_slice.ensures.len, c.in-Malformed.is) at call.1 in
-    rw c.behind-rest.ensures (finds_less _ _ _ _ _ _ _ c.calls.invariant _ _ call.0 c.in-Malformed.length c.in-Malformed.back one)
+    rw c.behind-rest.ensures (fault_less one)
 
 pub calls-preserved : goal.calls-preserved
 calls-preserved g c =
     let call = c.decode_to_utf8_raw-answer.ensures.call in
     let one = rw (c.as_mut_slice.ensures.len, c.in-Malformed.is) at call.1 in
-    let step = finds_step _ _ _ _ _ _ _ c.calls.invariant _ _ call.0 c.in-Malformed.length c.in-Malformed.back one in
+    let step = finds_step c.calls.invariant one in
     let sequence = sequence_is c.sequence_at.result _ _ c.sequence_at.ensures.place c.sequence_at.ensures.length in
     let items = c.in-Ok-push.ensures.items ∙ ap (λ (s : MalformedSequence). c.calls.found.items ++ s ∷ []) sequence in
     rw (c.behind-rest.ensures, items) step

@@ -8,7 +8,8 @@ returns-clause-call g c =
     let s = c.step-answer in
     let w = s.ensures.written in
     let part = length c.args.dst.now - 10 - c.args.at in
-    let free : length (take part (drop c.args.at c.args.dst.now)) ≡ part = length-take-le part (drop c.args.at c.args.dst.now) (omega (arith, length-drop c.args.at c.args.dst.now)) in
+    let free : length (take part (drop c.args.at c.args.dst.now)) ≡ part =
+    length-take-le part (drop c.args.at c.args.dst.now) (omega (arith, length-drop c.args.at c.args.dst.now)) in
     let long = length-take-le s.result.1 s.new.dst w in (
       take s.result.1 s.new.dst,
       rw free at s.ensures.call,

@@ -66,7 +66,8 @@ returns-in-OutputFull-0₀ g c =
     let long = length-take-le c.calls.written c.calls.dst c.calls.invariant.within in
     let none = nothing_left (g.S.Source.left c.calls.src) (sym (ap is_some c.peek.ensures) ∙ sym c.is_some.ensures ∙ c.if-is_some.false) in
     let step = rw none at c.step.ensures.call in
-    let full = elim c.in-OutputFull-0₀.is as (λ _. c.step.result.0 ≡ OutputFull) [ inl e ↦ e | inr w ↦ absurd (nothing_reported _ _ _ _ w.0 _ _ (rw w.1 at step)) ] in
+    let full =
+    elim c.in-OutputFull-0₀.is as (λ _. c.step.result.0 ≡ OutputFull) [ inl e ↦ e | inr w ↦ absurd (nothing_reported (rw w.1 at step)) ] in
     let one = rw full at c.step.ensures.call in
     record {
       call = referencing_pending c.calls.invariant.calls (omega (arith, long, c.calls.auto.dst)) one;

@@ -10,7 +10,8 @@ invariant-calls g l =
     let E = g.E.RawEncoder in
     let S = g.S.Source in
     record {
-      calls : IsReferencing (E.state l.fn.encoder) (S.left l.fn.src) l.last (length l.fn.dst) (E.state l.encoder) (S.left l.src) (take l.written l.dst) l.replaced;
+      calls : IsReferencing (E.state l.fn.encoder) (S.left l.fn.src) l.last (length l.fn.dst) (E.state l.encoder) (S.left l.src)
+          (take l.written l.dst) l.replaced;
       within : l.written ≤ length l.dst;
       passed : S.passed l.src + total_unit_count S.form (S.left l.src) ≡ S.passed l.fn.src + total_unit_count S.form (S.left l.fn.src);
     }

@@ -4,7 +4,9 @@ use Rattle.legacy_codecs.proofs.replacing.decode_replacing.Goals as goal
 
 pub calls-init : goal.calls-init
 calls-init g c = record {
-  replaces = replaces_start g.T.Destination.form (g.D.RawDecoder.state c.args.decoder.now) c.args.src.now c.args.last (g.T.Destination.room c.args.dst.now) (g.T.Destination.contents c.args.dst.now);
+  replaces =
+      replaces_start g.T.Destination.form (g.D.RawDecoder.state c.args.decoder.now) c.args.src.now c.args.last (g.T.Destination.room c.args.dst.now)
+      (g.T.Destination.contents c.args.dst.now);
   loan = refl;
 }
 
@@ -12,32 +14,32 @@ pub returns-in-InputEmpty-clause-call : goal.returns-in-InputEmpty-clause-call
 returns-in-InputEmpty-clause-call g c =
     let call = c.step-answer.ensures.call in
     let one = rw (c.rest_of.ensures, c.in-InputEmpty.is) at call.1 in
-    replaces_end _ _ _ _ _ _ _ _ _ _ _ c.calls.invariant.replaces _ _ call.0 _ call.2 one
+    replaces_end c.calls.invariant.replaces call.2 one
 
 pub returns-in-OutputFull-clause-call : goal.returns-in-OutputFull-clause-call
 returns-in-OutputFull-clause-call g c =
     let call = c.step-answer.ensures.call in
     let one = rw (c.rest_of.ensures, c.in-OutputFull.is) at call.1 in
-    replaces_full _ _ _ _ _ _ _ _ _ _ _ c.calls.invariant.replaces _ _ call.0 _ call.2 one
+    replaces_full c.calls.invariant.replaces call.2 one
 
 pub put_replacement-requires : goal.put_replacement-requires
 put_replacement-requires g c =
     let call = c.step-answer.ensures.call in
     let one = rw (c.rest_of.ensures, c.in-Malformed.is) at call.1 in
-    replaces_fits _ _ _ _ _ _ _ _ _ _ _ c.calls.invariant.replaces _ _ call.0 _ call.2 c.in-Malformed.field-0 c.in-Malformed.field-1 one _ c.step-answer.ensures.room
+    replaces_fits c.calls.invariant.replaces call.2 one _ c.step-answer.ensures.room
 
 pub calls-smaller : goal.calls-smaller
 calls-smaller g c =
     let call = c.step-answer.ensures.call in
     let one = rw (c.rest_of.ensures, c.in-Malformed.is) at call.1 in
-    replaces_less _ _ _ _ _ _ _ _ _ _ _ c.calls.invariant.replaces _ _ call.0 _ call.2 c.in-Malformed.field-0 c.in-Malformed.field-1 one
+    replaces_less c.calls.invariant.replaces call.2 one
 
 pub calls-preserved : goal.calls-preserved
 calls-preserved g c =
     let call = c.step-answer.ensures.call in
     let one = rw (c.rest_of.ensures, c.in-Malformed.is) at call.1 in
     record {
-      replaces = replaces_step _ _ _ _ _ _ _ _ _ _ _ c.calls.invariant.replaces _ _ call.0 _ call.2 c.in-Malformed.field-0 c.in-Malformed.field-1 one
-          _ _ c.step-answer.ensures.room c.put_replacement.ensures.room _ c.put_replacement.ensures.contents;
+      replaces =
+          replaces_step c.calls.invariant.replaces call.2 one c.step-answer.ensures.room c.put_replacement.ensures.room c.put_replacement.ensures.contents;
       loan = c.put_replacement.ensures.loan ∙ c.step-answer.ensures.loan ∙ c.calls.invariant.loan;
     }

@@ -8,7 +8,7 @@ unwrap-requires g c =
     let call = c.decode_replacing_utf8-written.ensures.call in
     let room : c.in-Some.length ≤ length c.as_mut_slice.result.now = omega (arith, c.as_mut_slice.ensures.len, c.in-Ok.ensures.len) in
     let empty = call.enough (length c.args.input.now) c.in-Some.length (omega arith) (sym c.max_utf8_buffer_length.ensures ∙ c.in-Some.is) room in
-    let whole = whole_utf8 _ _ _ _ _ _ _ _ call empty in
+    let whole = whole_utf8 call empty in
     let items : c.truncate.new.self.items ≡ take c.decode_replacing_utf8-written.result.2 c.decode_replacing_utf8-written.new.dst =
     c.truncate.ensures.items ∙ front_of_buffer _ _ _ _ c.decode_replacing_utf8-written.ensures.written (omega (arith, c.as_mut_slice.ensures.len)) in
     c.from_utf8.ensures.succeeds (subst IsUtf8 (sym items) whole.0)
@@ -18,7 +18,7 @@ returns-clause-text g c =
     let call = c.decode_replacing_utf8-written.ensures.call in
     let room : c.in-Some.length ≤ length c.as_mut_slice.result.now = omega (arith, c.as_mut_slice.ensures.len, c.in-Ok.ensures.len) in
     let empty = call.enough (length c.args.input.now) c.in-Some.length (omega arith) (sym c.max_utf8_buffer_length.ensures ∙ c.in-Some.is) room in
-    let whole = whole_utf8 _ _ _ _ _ _ _ _ call empty in
+    let whole = whole_utf8 call empty in
     let items : c.truncate.new.self.items ≡ take c.decode_replacing_utf8-written.result.2 c.decode_replacing_utf8-written.new.dst =
     c.truncate.ensures.items ∙ front_of_buffer _ _ _ _ c.decode_replacing_utf8-written.ensures.written (omega (arith, c.as_mut_slice.ensures.len)) in
     let same = rw c.unwrap.ensures at c.from_utf8.ensures.ok in

@@ -5,8 +5,8 @@ use Rattle.legacy_codecs.proofs.whole.encode_whole.Goals as goal
 pub returns-in-InputEmpty : goal.returns-in-InputEmpty
 returns-in-InputEmpty g c =
     let call = c.encode_replacing_utf8-answer.ensures.call in
-    let all = bytes_after _ _ _ _ _ _ _ _ call c.calls.bytes.items c.extend_from_slice.new.self.items _ c.calls.invariant.1 c.in_ok-extend_from_slice.ensures.items in
-    let none = bytes_end _ _ _ _ _ _ _ _ call c.in-InputEmpty.is in
+    let all = bytes_after call _ c.calls.invariant.1 c.in_ok-extend_from_slice.ensures.items in
+    let none = bytes_end call c.in-InputEmpty.is in
     sym (append-nil c.extend_from_slice.new.self.items) ∙ ap (λ l. c.extend_from_slice.new.self.items ++ l) (sym none) ∙ all
 
 pub calls-smaller : goal.calls-smaller
@@ -17,4 +17,4 @@ calls-smaller g c =
 pub calls-preserved : goal.calls-preserved
 calls-preserved g c =
     let call = rw (← c.range_from-rest.ensures.value) at c.encode_replacing_utf8-answer.ensures.call in
-    (c.range_from-rest.utf8, bytes_after _ _ _ _ _ _ _ _ call c.calls.bytes.items c.extend_from_slice.new.self.items _ c.calls.invariant.1 c.in_ok-extend_from_slice.ensures.items, omega (arith, c.calls.invariant.2))
+    (c.range_from-rest.utf8, bytes_after call _ c.calls.invariant.1 c.in_ok-extend_from_slice.ensures.items, omega (arith, c.calls.invariant.2))
