@@ -1,16 +1,21 @@
 -- Bits that say where scalars begin, and the scalars of one and three bytes of UTF-8 between them.
-use Rattle.std.proofs.Common.{◌≡◌, ◌↔◌, ◌∙◌, ℕ, zero, suc, ◌+◌, ◌-◌, ◌*◌, ◌/◌, ◌%◌, ◌^◌, ◌≤◌, ◌<◌, List, [], ◌∷◌, ◌++◌, length, get_or, Bool, true, false, cond, leb, map, max}
-use Rattle.std.proofs.Common.{take, drop, replicate, refl, sym, ap, subst, arith, append_assoc, append-nil, length-append, add-zero, slice_set, inl, inr, w8, w32, Fits, bit_and, bit_or}
+use Rattle.std.proofs.Common.{◌≡◌, ◌↔◌, ◌∙◌, ℕ, zero, suc, ◌+◌, ◌-◌, ◌*◌, ◌/◌, ◌%◌, ◌^◌, ◌≤◌, ◌<◌, List, [], ◌∷◌, ◌++◌, length, get_or, true, false}
+use Rattle.std.proofs.Common.{cond, leb, map, max}
+use Rattle.std.proofs.Common.{take, drop, replicate, refl, sym, ap, subst, arith, append_assoc, append-nil, length-append, add-zero, slice_set, inl, inr, w8}
+use Rattle.std.proofs.Common.{w32, Fits, bit_and, bit_or}
 use Rattle.std.specs.Int.{bit_at, bit_not, trailing_zeros}
-use Rattle.std.specs.Simd.Lanes.{zip2, mask_l, top, number_l, digits_l, put_chunk, Each1}
+use Rattle.std.specs.Simd.Lanes.{zip2, mask_l, number_l, digits_l, put_chunk, Each1}
 use Rattle.std.specs.Str.{chars, is_utf8}
 use Rattle.std.proofs.Math.ListN.{get_or-map}
 use Rattle.std.proofs.Math.Nat.{mod-lt, pow-suc}
-use Rattle.std.proofs.lemmas.Bool.{cases_lt, leb-true, leb-false}
-use Rattle.std.proofs.lemmas.List.{get_or-set_same, get_or-set_other, get_or_past, length-drop, get_or_append_left, get_or-append-add, get_or-drop, get_or-take, length-map}
+use Rattle.std.proofs.lemmas.Bool.{cases_lt}
+use Rattle.std.proofs.lemmas.List.{get_or-set_same, get_or-set_other, get_or_past, length-drop, get_or_append_left, get_or-append-add, get_or-drop}
+use Rattle.std.proofs.lemmas.List.{get_or-take, length-map}
 use Rattle.std.proofs.lemmas.Nat.{pow_pos, and_mask}
-use Rattle.std.proofs.lemmas.Nat.Bits.{bit_at-trailing_zeros, bit_at-pow_same, bit_at-pow_other, bit_at_and, bit_at_or, bit_at_not, bit_at_ones_above, bit_at_cat_low, bit_at_cat_high, same_from_bits_below, bit_at-lt}
-use Rattle.std.proofs.lemmas.Simd.{bit_mask_l, tops_compared, mask_l-mod, mask_l-lt, get_or_wider, Each1-from_get_or, Each1-get_or, below_from_Fits, get_or-put_chunk_below, get_or-put_chunk_at, length-put_chunk, get_or-zip2, get_or-replicate}
+use Rattle.std.proofs.lemmas.Nat.Bits.{bit_at-trailing_zeros, bit_at-pow_same, bit_at-pow_other, bit_at_and, bit_at_or, bit_at_not, bit_at_ones_above}
+use Rattle.std.proofs.lemmas.Nat.Bits.{bit_at_cat_low, bit_at_cat_high, same_from_bits_below, bit_at-lt}
+use Rattle.std.proofs.lemmas.Simd.{bit_mask_l, mask_l-lt, get_or_wider, Each1-from_get_or, Each1-get_or, below_from_Fits}
+use Rattle.std.proofs.lemmas.Simd.{get_or-put_chunk_below, get_or-put_chunk_at, length-put_chunk, get_or-zip2, get_or-replicate}
 use Rattle.std.proofs.lemmas.Str.{length-encode, len_utf8_bounds}
 use lib.Utf8.{encode}
 use Rattle.legacy_text.specs.EncodingForm.{Utf8, code_units, unit_count, total_unit_count}
@@ -19,7 +24,7 @@ use Rattle.legacy_text.specs.ShortScalars.{ReadsScalar}
 use Rattle.legacy_text.specs.ScalarTurns.{IsStart, IsUnitOf, IsUnitAt, ReadsUnits}
 use Rattle.legacy_text.specs.UnitCodes.{IsNoSurrogate}
 use Rattle.legacy_text.specs.UnitTurns.{AreLone}
-use Rattle.legacy_text.proofs.Ascii.{splat_zip2}
+use Rattle.legacy_text.proofs.Ascii.{mask_from, mask_from-is, bit_tells}
 use Rattle.legacy_text.proofs.CodeUnits.{encode_1, encode_2, encode_3, encode_4, total_unit_count-append}
 use Rattle.legacy_text.proofs.Texts.{made_of_three, first_some, first_cons, utf8_pass, utf8_stands}
 use Rattle.legacy_text.proofs.ShortScalars.{some_left, reads_ascii}
@@ -42,7 +47,8 @@ module _ (n : ℕ) (some : 0 < n) (fits : n < 2 ^ 32) where
 
   low_bits : (i : ℕ) → i < trailing_zeros w32 n + 1 → bit_at (n % 2 ^ (trailing_zeros w32 n + 1)) i ≡ bit_at (2 ^ trailing_zeros w32 n) i
   low_bits i h =
-      let here : bit_at (n % 2 ^ (T + 1)) i ≡ bit_at n i = sym (bit_at_cat_low (n / 2 ^ (T + 1)) (T + 1) (n % 2 ^ (T + 1)) i h) ∙ ap (λ m. bit_at m i) (sym cut) in
+      let here : bit_at (n % 2 ^ (T + 1)) i ≡ bit_at n i =
+      sym (bit_at_cat_low (n / 2 ^ (T + 1)) (T + 1) (n % 2 ^ (T + 1)) i h) ∙ ap (λ m. bit_at m i) (sym cut) in
       elim (cases_lt i T) [
         | inl l ↦ here ∙ at_lowest.2 i l ∙ sym (bit_at-pow_other T i (omega arith))
         | inr l ↦ let e : i ≡ T = omega arith in here ∙ rw e (at_lowest.1 ∙ sym (bit_at-pow_same T))
@@ -69,20 +75,13 @@ module _ (n : ℕ) (some : 0 < n) (fits : n < 2 ^ 32) where
   pub others_stay : (k : ℕ) → trailing_zeros w32 n < k → bit_at (bit_and n (n - 1)) k ≡ bit_at n k
   others_stay k l =
       let below : 2 ^ T - 1 < 2 ^ (T + 1) = omega (arith, twice, pow_pos T) in
-      let less : bit_at (n - 1) k ≡ bit_at (n / 2 ^ (T + 1)) (k - (T + 1)) = ap (λ m. bit_at m k) less_is ∙ bit_at_cat_high (n / 2 ^ (T + 1)) (T + 1) (2 ^ T - 1) k below (omega arith) in
-      let all : bit_at n k ≡ bit_at (n / 2 ^ (T + 1)) (k - (T + 1)) = ap (λ m. bit_at m k) cut ∙ bit_at_cat_high (n / 2 ^ (T + 1)) (T + 1) (n % 2 ^ (T + 1)) k (mod-lt n (pow_pos (T + 1))) (omega arith) in
+      let less : bit_at (n - 1) k ≡ bit_at (n / 2 ^ (T + 1)) (k - (T + 1)) =
+      ap (λ m. bit_at m k) less_is ∙ bit_at_cat_high (n / 2 ^ (T + 1)) (T + 1) (2 ^ T - 1) k below (omega arith) in
+      let all : bit_at n k ≡ bit_at (n / 2 ^ (T + 1)) (k - (T + 1)) =
+      ap (λ m. bit_at m k) cut ∙ bit_at_cat_high (n / 2 ^ (T + 1)) (T + 1) (n % 2 ^ (T + 1)) k (mod-lt n (pow_pos (T + 1))) (omega arith) in
       omega (arith, bit_at_and n (n - 1) k, less, all)
 
 -- ---- the bits of starts
-
--- the mask of the lanes that are at least x
-abbrev pub mask_from : ℕ → ℕ → List ℕ → ℕ
-mask_from x lanes v = mask_l (map (top 7) (zip2 (λ a b. cond (leb a b) 255 0) (replicate lanes x) v)) % 2 ^ 64
-
-mask_from-is : (x lanes : ℕ) (v : List ℕ) → lanes ≤ 64 → length v ≡ lanes → mask_from x lanes v ≡ mask_l (map (leb x) v)
-mask_from-is x lanes v few long =
-    ap (λ ms. mask_l ms % 2 ^ 64) (tops_compared w8 leb (replicate lanes x) v ∙ ap (λ m. zip2 leb (replicate m x) v) (sym long) ∙ splat_zip2 leb x v)
-    ∙ mask_l-mod (map (leb x) v) 64 (omega (arith, length-map v (leb x)))
 
 pub mask_from-lt : (x : ℕ) (v : List ℕ) → length v ≡ 32 → mask_from x 32 v < 2 ^ 32
 mask_from-lt x v long =
@@ -90,13 +89,10 @@ mask_from-lt x v long =
     let count : length (map (leb x) v) ≡ 32 = length-map v (leb x) ∙ long in
     rw (mask_from-is x 32 v (omega arith) long) (subst (λ n. mask_l (map (leb x) v) < 2 ^ n) count below)
 
-bit_tells : (x y : ℕ) (b : Bool) → leb x y ≡ b → (cond {A = ℕ} b 1 0 ≡ 1) ↔ (x ≤ y)
-bit_tells x y true e = (λ h. leb-true x y e, λ h. refl)
-bit_tells x y false e = (λ h. absurd (omega arith), λ h. omega (arith, leb-false x y e))
-
 mask_bit : (x : ℕ) → leb x 0 ≡ false → (v : List ℕ) → length v ≡ 32 → (k : ℕ) → (bit_at (mask_from x 32 v) k ≡ 1) ↔ (x ≤ get_or v k 0)
 mask_bit x some v long k =
-    let lane : get_or (map (leb x) v) k false ≡ leb x (get_or v k 0) = subst (λ d. get_or (map (leb x) v) k d ≡ leb x (get_or v k 0)) some (get_or-map (leb x) v k 0) in
+    let lane : get_or (map (leb x) v) k false ≡ leb x (get_or v k 0) =
+    subst (λ d. get_or (map (leb x) v) k d ≡ leb x (get_or v k 0)) some (get_or-map (leb x) v k 0) in
     let e : bit_at (mask_from x 32 v) k ≡ cond (leb x (get_or v k 0)) 1 0 =
     ap (λ m. bit_at m k) (mask_from-is x 32 v (omega arith) long) ∙ bit_mask_l (map (leb x) v) k ∙ ap (λ b. cond b 1 0) lane in
     let t = bit_tells x (get_or v k 0) _ refl in
@@ -117,7 +113,8 @@ pub starts_bit : (v : List ℕ) → length v ≡ 32 → (k : ℕ) → k < 32
 starts_bit v long k h =
     let none = bit_at_not w32 (mask_from 128 32 v) k (mask_from-lt 128 v long) h in
     let either = bit_at_or (bit_not w32 (mask_from 128 32 v)) (mask_from 192 32 v) k in
-    starts_from (get_or v k 0) (bit_at (mask_from 128 32 v) k) (bit_at (mask_from 192 32 v) k) (bit_at (bit_or (bit_not w32 (mask_from 128 32 v)) (mask_from 192 32 v)) k)
+    starts_from (get_or v k 0) (bit_at (mask_from 128 32 v) k) (bit_at (mask_from 192 32 v) k)
+    (bit_at (bit_or (bit_not w32 (mask_from 128 32 v)) (mask_from 192 32 v)) k)
     (mask_bit 128 refl v long k) (mask_bit 192 refl v long k) (bit_at-lt (mask_from 128 32 v) k) (bit_at-lt (mask_from 192 32 v) k)
     (either ∙ ap (λ n. max n (bit_at (mask_from 192 32 v) k)) none)
 
@@ -141,7 +138,8 @@ lane n bytes k are long h =
     ∙ pair (drop (2 * k) bytes) rest ∙ rw (high, low, same) refl
 
 -- one more lane of two lists of bytes
-pub filled : (P : ℕ → ℕ → Type 0) (lows highs : List ℕ) (k low high : ℕ) → k < length lows → k < length highs → ((j : ℕ) → j < k → P j (get_or lows j 0 + 256 * get_or highs j 0))
+pub filled : (P : ℕ → ℕ → Type 0) (lows highs : List ℕ) (k low high : ℕ) → k < length lows → k < length highs →
+    ((j : ℕ) → j < k → P j (get_or lows j 0 + 256 * get_or highs j 0))
     → P k (low + 256 * high) → (j : ℕ) → j < k + 1 → P j (get_or (slice_set lows k low) j 0 + 256 * get_or (slice_set highs k high) j 0)
 filled P lows highs k low high a b before here j h = elim (cases_lt j k) [
   | inl l ↦ rw (get_or-set_other lows k j low 0 (omega arith), get_or-set_other highs k j high 0 (omega arith)) (before j l)
@@ -156,13 +154,15 @@ sixteenth bytes place k h = get_or-take 16 (drop place bytes) k 0 h ∙ get_or-d
 pub turned_is : (v : List ℕ) → length v ≡ 16 → (k : ℕ) → k < 16 → get_or (zip2 (λ a b. (a + b) % 256) v (replicate 16 128)) k 0 ≡ (get_or v k 0 + 128) % 256
 turned_is v long k h =
     let count : length (replicate {A = ℕ} 16 128) ≡ 16 = refl in
-    get_or-zip2 (λ a b. (a + b) % 256) v (replicate 16 128) k 0 0 0 (omega (arith, long)) (omega (arith, count)) ∙ ap (λ b. (get_or v k 0 + b) % 256) (get_or-replicate 16 k 128 0 h)
+    get_or-zip2 (λ a b. (a + b) % 256) v (replicate 16 128) k 0 0 0 (omega (arith, long)) (omega (arith, count))
+    ∙ ap (λ b. (get_or v k 0 + b) % 256) (get_or-replicate 16 k 128 0 h)
 
 -- the low six bits of sixteen bytes
 pub tails_is : (v : List ℕ) → length v ≡ 16 → (k : ℕ) → k < 16 → get_or (zip2 bit_and v (replicate 16 63)) k 0 ≡ get_or v k 0 % 64
 tails_is v long k h =
     let count : length (replicate {A = ℕ} 16 63) ≡ 16 = refl in
-    get_or-zip2 bit_and v (replicate 16 63) k 0 0 0 (omega (arith, long)) (omega (arith, count)) ∙ ap (λ b. bit_and (get_or v k 0) b) (get_or-replicate 16 k 63 0 h) ∙ and_mask (get_or v k 0) 6
+    get_or-zip2 bit_and v (replicate 16 63) k 0 0 0 (omega (arith, long)) (omega (arith, count))
+    ∙ ap (λ b. bit_and (get_or v k 0) b) (get_or-replicate 16 k 63 0 h) ∙ and_mask (get_or v k 0) 6
 
 -- a code unit depends only on these bits
 pub of_tails : (first second third unit : ℕ) → IsUnitOf first (second % 64) (third % 64) unit → IsUnitOf first second third unit
@@ -227,11 +227,13 @@ module _ (lows highs : List ℕ) (count : length lows ≡ 16) (are_low : (i : �
   pub joined_front : (k : ℕ) → k < 8 → get_or (digits_l 65536 8 (number_l 256 (woven 8 0 (lows ++ highs)))) k 0 ≡ get_or lows k 0 + 256 * get_or highs k 0
   joined_front k h =
       let e : 0 + k ≡ k = omega arith in
-      subst (λ i. get_or (digits_l 65536 8 (number_l 256 (woven 8 0 (lows ++ highs)))) k 0 ≡ get_or lows i 0 + 256 * get_or highs i 0) e (joined_lane 0 k (omega arith) h)
+      subst (λ i. get_or (digits_l 65536 8 (number_l 256 (woven 8 0 (lows ++ highs)))) k 0 ≡ get_or lows i 0 + 256 * get_or highs i 0) e
+      (joined_lane 0 k (omega arith) h)
 
 -- two vectors that are stored from a place on change nothing before it
 pub stored_before : (all front back : List ℕ) (at k : ℕ) → k < at → get_or (put_chunk (at + 8) (put_chunk at all front) back) k 0 ≡ get_or all k 0
-stored_before all front back at k h = get_or-put_chunk_below (at + 8) (put_chunk at all front) back k 0 (omega arith) ∙ get_or-put_chunk_below at all front k 0 h
+stored_before all front back at k h =
+    get_or-put_chunk_below (at + 8) (put_chunk at all front) back k 0 (omega arith) ∙ get_or-put_chunk_below at all front k 0 h
 
 -- they are at that place
 pub stored_at : (P : ℕ → ℕ → Type 0) (all front back : List ℕ) (at : ℕ) → length front ≡ 8 → length back ≡ 8 → at + 16 ≤ length all
@@ -239,17 +241,24 @@ pub stored_at : (P : ℕ → ℕ → Type 0) (all front back : List ℕ) (at : �
     → (k : ℕ) → k < 16 → P k (get_or (put_chunk (at + 8) (put_chunk at all front) back) (at + k) 0)
 stored_at P all front back at long long_back room first others k h = elim (cases_lt k 8) [
   | inl l ↦
-      rw (get_or-put_chunk_below (at + 8) (put_chunk at all front) back (at + k) 0 (omega arith), get_or-put_chunk_at at all front k 0 (omega (arith, long)) (omega (arith, long))) (first k l)
+      rw (
+        get_or-put_chunk_below (at + 8) (put_chunk at all front) back (at + k) 0 (omega arith),
+        get_or-put_chunk_at at all front k 0 (omega (arith, long)) (omega (arith, long)),
+      ) (first k l)
   | inr l ↦
       let place : at + k ≡ at + 8 + (k - 8) = omega arith in
       let same : 8 + (k - 8) ≡ k = omega arith in
-      rw (place, get_or-put_chunk_at (at + 8) (put_chunk at all front) back (k - 8) 0 (omega (arith, long_back)) (omega (arith, long_back, length-put_chunk at all front)))
+      rw (
+        place,
+        get_or-put_chunk_at (at + 8) (put_chunk at all front) back (k - 8) 0 (omega (arith, long_back))
+            (omega (arith, long_back, length-put_chunk at all front)),
+      )
       (subst (λ n. P n (get_or back (k - 8) 0)) same (others (k - 8) (omega arith)))
 ]
 
 -- sixteen entries, and sixteen after them
-pub both_halves : (P : ℕ → ℕ → Type 0) (front all : List ℕ) → ((k : ℕ) → k < 16 → get_or all k 0 ≡ get_or front k 0) → ((k : ℕ) → k < 16 → P k (get_or front (0 + k) 0))
-    → ((k : ℕ) → k < 16 → P (16 + k) (get_or all (16 + k) 0)) → (k : ℕ) → k < 32 → P k (get_or all k 0)
+pub both_halves : (P : ℕ → ℕ → Type 0) (front all : List ℕ) → ((k : ℕ) → k < 16 → get_or all k 0 ≡ get_or front k 0) →
+    ((k : ℕ) → k < 16 → P k (get_or front (0 + k) 0)) → ((k : ℕ) → k < 16 → P (16 + k) (get_or all (16 + k) 0)) → (k : ℕ) → k < 32 → P k (get_or all k 0)
 both_halves P front all same first others k h = elim (cases_lt k 16) [
   | inl l ↦ let e : 0 + k ≡ k = omega arith in rw (same k l) (subst (λ i. P k (get_or front i 0)) e (first k l))
   | inr l ↦ let e : 16 + (k - 16) ≡ k = omega arith in subst (λ i. P i (get_or all i 0)) e (others (k - 16) (omega arith))
@@ -257,8 +266,27 @@ both_halves P front all same first others k h = elim (cases_lt k 16) [
 
 -- ---- scalars
 
-goes_on : (x : ℕ) → 128 ≤ x → x < 192 → IsStart x → ⊥
-goes_on x low high start = omega (arith, start low)
+-- bytes that are not the first of a scalar
+abbrev AreTails : List ℕ → Type 0
+AreTails [] = Unit {0}
+AreTails (x ∷ xs) = (128 ≤ x) × (x < 192) × AreTails xs
+
+tail_at : (xs : List ℕ) → AreTails xs → (k : ℕ) → k < length xs → (128 ≤ get_or xs k 0) × (get_or xs k 0 < 192)
+tail_at [] t k h = absurd (omega arith)
+tail_at (x ∷ xs) t zero h = (t.0, t.1)
+tail_at (x ∷ xs) t (suc k) h = tail_at xs t.2 k (omega arith)
+
+encode_tails : (c : ℕ) → AreTails (drop 1 (encode c))
+encode_tails c = elim (cases_lt c 128) [
+  | inl a ↦ rw (encode_1 c a) tt
+  | inr a ↦ elim (cases_lt c 2048) [
+    | inl b ↦ rw (encode_2 c a b) (omega arith, omega arith, tt)
+    | inr b ↦ elim (cases_lt c 65536) [
+      | inl d ↦ rw (encode_3 c b d) (omega arith, omega arith, (omega arith, omega arith, tt))
+      | inr d ↦ rw (encode_4 c d) (omega arith, omega arith, (omega arith, omega arith, (omega arith, omega arith, tt)))
+    ]
+  ]
+]
 
 module _ (text : List ℕ) (place : ℕ) (inside : place < length text) (u : is_utf8 (drop place text) ≡ true) where
   abbrev C : ℕ
@@ -276,7 +304,12 @@ module _ (text : List ℕ) (place : ℕ) (inside : place < length text) (u : is_
   pub reads_here : ReadsScalar text place (get_or (chars (drop place text)) 0 0) (place + unit_count Utf8 (get_or (chars (drop place text)) 0 0))
   reads_here =
       let p = utf8_pass text place (unit_count Utf8 C) (omega arith) u some refl in
-      record { left = first_cons (chars (drop place text)) C (first_some (chars (drop place text)) some) ∙ ap (λ l. C ∷ l) (sym p.2); is_text = p.1; within = p.0; passed = refl }
+      record {
+        left = first_cons (chars (drop place text)) C (first_some (chars (drop place text)) some) ∙ ap (λ l. C ∷ l) (sym p.2);
+        is_text = p.1;
+        within = p.0;
+        passed = refl;
+      }
 
   pub some_units : 0 < unit_count Utf8 (get_or (chars (drop place text)) 0 0)
   some_units = let l = (len_utf8_bounds C).0 in omega (arith, length-encode C, l)
@@ -299,43 +332,12 @@ module _ (text : List ℕ) (place : ℕ) (inside : place < length text) (u : is_
 
   -- no other byte of the scalar is such a byte
   pub no_start : (k : ℕ) → 0 < k → k < unit_count Utf8 (get_or (chars (drop place text)) 0 0) → IsStart (get_or text (place + k) 0) → ⊥
-  no_start k some_k few start = elim (cases_lt C 128) [
-    | inl a ↦ omega (arith, ap length (encode_1 C a))
-    | inr a ↦ elim (cases_lt C 2048) [
-      | inl b ↦
-          let one : k ≡ 1 = omega (arith, ap length (encode_2 C a b)) in
-          let is : get_or text (place + k) 0 ≡ 128 + C % 64 = byte_at k ∙ rw one (ap (λ l. get_or (l ++ stands.rest) 1 0) (encode_2 C a b)) in
-          goes_on (get_or text (place + k) 0) (omega (arith, is)) (omega (arith, is)) start
-      | inr b ↦ elim (cases_lt C 65536) [
-        | inl d ↦ elim (cases_lt k 2) [
-          | inl l ↦
-              let one : k ≡ 1 = omega arith in
-              let is : get_or text (place + k) 0 ≡ 128 + C / 64 % 64 = byte_at k ∙ rw one (ap (λ l. get_or (l ++ stands.rest) 1 0) (encode_3 C b d)) in
-              goes_on (get_or text (place + k) 0) (omega (arith, is)) (omega (arith, is)) start
-          | inr l ↦
-              let two : k ≡ 2 = omega (arith, ap length (encode_3 C b d)) in
-              let is : get_or text (place + k) 0 ≡ 128 + C % 64 = byte_at k ∙ rw two (ap (λ l. get_or (l ++ stands.rest) 2 0) (encode_3 C b d)) in
-              goes_on (get_or text (place + k) 0) (omega (arith, is)) (omega (arith, is)) start
-        ]
-        | inr d ↦ elim (cases_lt k 2) [
-          | inl l ↦
-              let one : k ≡ 1 = omega arith in
-              let is : get_or text (place + k) 0 ≡ 128 + C / 4096 % 64 = byte_at k ∙ rw one (ap (λ l. get_or (l ++ stands.rest) 1 0) (encode_4 C d)) in
-              goes_on (get_or text (place + k) 0) (omega (arith, is)) (omega (arith, is)) start
-          | inr l ↦ elim (cases_lt k 3) [
-            | inl m ↦
-                let two : k ≡ 2 = omega arith in
-                let is : get_or text (place + k) 0 ≡ 128 + C / 64 % 64 = byte_at k ∙ rw two (ap (λ l. get_or (l ++ stands.rest) 2 0) (encode_4 C d)) in
-                goes_on (get_or text (place + k) 0) (omega (arith, is)) (omega (arith, is)) start
-            | inr m ↦
-                let three : k ≡ 3 = omega (arith, ap length (encode_4 C d)) in
-                let is : get_or text (place + k) 0 ≡ 128 + C % 64 = byte_at k ∙ rw three (ap (λ l. get_or (l ++ stands.rest) 3 0) (encode_4 C d)) in
-                goes_on (get_or text (place + k) 0) (omega (arith, is)) (omega (arith, is)) start
-          ]
-        ]
-      ]
-    ]
-  ]
+  no_start k some_k few start =
+      let after : 1 + (k - 1) ≡ k = omega arith in
+      let tail = tail_at (drop 1 (encode C)) (encode_tails C) (k - 1) (omega (arith, length-drop 1 (encode C))) in
+      let is : get_or text (place + k) 0 ≡ get_or (drop 1 (encode C)) (k - 1) 0 =
+      byte_at k ∙ get_or_append_left (encode C) stands.rest 0 k few ∙ sym (get_or-drop 1 (encode C) (k - 1) 0 ∙ ap (λ n. get_or (encode C) n 0) after) in
+      omega (arith, is, tail, start (omega (arith, is, tail)))
 
   -- the code unit at the beginning of a scalar is this scalar, if it is not a surrogate
   pub unit_is : place + 2 ≤ length text → (unit : ℕ) → IsUnitAt text place unit → IsNoSurrogate unit → unit ≡ get_or (chars (drop place text)) 0 0
@@ -344,12 +346,13 @@ module _ (text : List ℕ) (place : ℕ) (inside : place < length text) (u : is_
         let r = reads_ascii text place two u (omega (arith, one.0)) one.0 in
         one.1 ∙ sym (ap (λ l. get_or l 0 0) r.left)
     | inr three ↦
-        let m = made_of_three text place C stands three.0 three.1 in
+        let m = made_of_three stands three.0 three.1 in
         three.2 ∙ m.made
   ]
 
 -- the next place at which a scalar begins is the one after the scalar
-next_is : (text : List ℕ) (start p q : ℕ) → start + 32 ≤ length text → p < q → q < 32 → is_utf8 (drop (start + p) text) ≡ true → IsStart (get_or text (start + q) 0)
+next_is : (text : List ℕ) (start p q : ℕ) → start + 32 ≤ length text → p < q → q < 32 → is_utf8 (drop (start + p) text) ≡ true →
+    IsStart (get_or text (start + q) 0)
     → ((j : ℕ) → p < j → j < q → IsStart (get_or text (start + j) 0) → ⊥) → start + q ≡ start + p + unit_count Utf8 (get_or (chars (drop (start + p) text)) 0 0)
 next_is text start p q long more few u at_q none =
     let inside : start + p < length text = omega arith in
@@ -416,9 +419,10 @@ stands_first text start bits long u starts fits some =
     ] in
     record { reads = rw (zero_is, add-zero start) (units_none text start (omega arith) u); starts = λ k _ l. starts k l }
 
-pub stands_more : (text : List ℕ) (start : ℕ) (units : List ℕ) (bits rest unit : ℕ) → start + 34 ≤ length text → 0 < bits → bits < 2 ^ 32 → 0 < rest → rest < 2 ^ 32
-    → ((k : ℕ) → k ≤ trailing_zeros w32 bits → bit_at rest k ≡ 0) → ((k : ℕ) → trailing_zeros w32 bits < k → bit_at rest k ≡ bit_at bits k)
-    → ((k : ℕ) → k < 32 → k ≡ trailing_zeros w32 bits → IsUnitAt text (start + k) unit) → StandsBehind text start units bits → StandsBehind text start (units ++ unit ∷ []) rest
+pub stands_more : (text : List ℕ) (start : ℕ) (units : List ℕ) (bits rest unit : ℕ) → start + 34 ≤ length text → 0 < bits → bits < 2 ^ 32 → 0 < rest →
+    rest < 2 ^ 32 → ((k : ℕ) → k ≤ trailing_zeros w32 bits → bit_at rest k ≡ 0) → ((k : ℕ) → trailing_zeros w32 bits < k → bit_at rest k ≡ bit_at bits k)
+    → ((k : ℕ) → k < 32 → k ≡ trailing_zeros w32 bits → IsUnitAt text (start + k) unit) → StandsBehind text start units bits →
+    StandsBehind text start (units ++ unit ∷ []) rest
 stands_more text start units bits rest unit long some fits some_rest fits_rest gone others made s =
     let p = trailing_zeros w32 bits in
     let q = trailing_zeros w32 rest in
@@ -433,7 +437,10 @@ stands_more text start units bits rest unit long some fits some_rest fits_rest g
     let place = next_is text start p q (omega (arith, long)) more next.0 s.reads.is_text begins
     (λ j l m start_j. omega (arith, others j l, next.2 j m, (s.starts j (omega (arith, l)) (omega (arith, m, next.0))).1 start_j)) in
     record {
-      reads = rw place (units_more text start units (start + p) (get_or (chars (drop (start + p) text)) 0 0) (start + p + unit_count Utf8 (get_or (chars (drop (start + p) text)) 0 0)) unit s.reads
-          (reads_here text (start + p) inside s.reads.is_text) (unit_is text (start + p) inside s.reads.is_text (omega (arith, at.0, long)) unit (made p at.0 refl)));
+      reads =
+          rw place (units_more text start units (start + p) (get_or (chars (drop (start + p) text)) 0 0)
+          (start + p + unit_count Utf8 (get_or (chars (drop (start + p) text)) 0 0)) unit s.reads
+          (reads_here text (start + p) inside s.reads.is_text)
+          (unit_is text (start + p) inside s.reads.is_text (omega (arith, at.0, long)) unit (made p at.0 refl)));
       starts = λ k l h. rw (others k (omega (arith, more, l))) (s.starts k (omega (arith, more, l)) h);
     }

@@ -69,8 +69,8 @@ scalars_one gives text place scalar behind byte old new r g e = record {
 }
 
 -- scalars, and then the next ones
-pub scalars_append : (gives : ℕ → ℕ → Type 0) (text : List ℕ) (start n place m behind : ℕ) (old mid new : List ℕ) → WritesScalars gives text start n place old mid
-    → WritesScalars gives text place m behind mid new → WritesScalars gives text start (n + m) behind old new
+pub scalars_append : (gives : ℕ → ℕ → Type 0) (text : List ℕ) (start n place m behind : ℕ) (old mid new : List ℕ) →
+    WritesScalars gives text start n place old mid → WritesScalars gives text place m behind mid new → WritesScalars gives text start (n + m) behind old new
 scalars_append gives text start n place m behind old mid new a b =
     let all = chars (drop start text) in
     let few : m ≤ length (drop n all) = rw (← a.left) b.few in
@@ -133,7 +133,8 @@ module _ (text : List ℕ) (place : ℕ) (within : place + 2 ≤ length text) (u
       let one = tells.one h in
       elim (cases_lt C 128) as (λ _. ReadsScalar text place (get_or text place 0) (place + 1)) [
         | inl a ↦
-            let same : get_or text place 0 ≡ C = ap (λ n. get_or text n 0) (sym (add-zero place)) ∙ byte_at 0 ∙ ap (λ l. get_or (l ++ encodes (drop 1 Left)) 0 0) (encode_1 C a) in
+            let same : get_or text place 0 ≡ C =
+            ap (λ n. get_or text n 0) (sym (add-zero place)) ∙ byte_at 0 ∙ ap (λ l. get_or (l ++ encodes (drop 1 Left)) 0 0) (encode_1 C a) in
             rw same (reads 1 (sym one))
         | inr a ↦ elim (cases_lt C 2048) [
           | inl b ↦ absurd (omega (arith, one, ap length (encode_2 C a b)))
@@ -146,14 +147,16 @@ module _ (text : List ℕ) (place : ℕ) (within : place + 2 ≤ length text) (u
 
   -- two bytes contain the eleven bits of a scalar
   pub reads_pair : 128 ≤ get_or text place 0
-      → (0x3080 ≤ get_or text place 0 * 64 + get_or text (place + 1) 0) × ReadsScalar text place (get_or text place 0 * 64 + get_or text (place + 1) 0 - 0x3080) (place + 2)
+      → (0x3080 ≤ get_or text place 0 * 64 + get_or text (place + 1) 0) × ReadsScalar text place (get_or text place 0 * 64 + get_or text (place + 1) 0 - 0x3080)
+      (place + 2)
   reads_pair h =
       let two = tells.two h short in
       elim (cases_lt C 128) [
         | inl a ↦ absurd (omega (arith, two, ap length (encode_1 C a)))
         | inr a ↦ elim (cases_lt C 2048) [
           | inl b ↦
-              let first : get_or text place 0 ≡ 192 + C / 64 = ap (λ n. get_or text n 0) (sym (add-zero place)) ∙ byte_at 0 ∙ ap (λ l. get_or (l ++ encodes (drop 1 Left)) 0 0) (encode_2 C a b) in
+              let first : get_or text place 0 ≡ 192 + C / 64 =
+              ap (λ n. get_or text n 0) (sym (add-zero place)) ∙ byte_at 0 ∙ ap (λ l. get_or (l ++ encodes (drop 1 Left)) 0 0) (encode_2 C a b) in
               let second : get_or text (place + 1) 0 ≡ 128 + C % 64 = byte_at 1 ∙ ap (λ l. get_or (l ++ encodes (drop 1 Left)) 1 0) (encode_2 C a b) in
               let same : get_or text place 0 * 64 + get_or text (place + 1) 0 - 0x3080 ≡ C = rw (first, second) (omega arith) in
               (rw (first, second) (omega arith), rw same (reads 2 (sym two)))

@@ -1,5 +1,6 @@
 -- Code units below 0x800.
-use Rattle.std.proofs.Common.{◌≡◌, ℕ, zero, suc, ◌+◌, ◌-◌, ◌*◌, ◌/◌, ◌%◌, ◌^◌, ◌<◌, ◌≤◌, Bool, true, false, cond, ltb, leb, eqb, List, [], ◌∷◌, ◌++◌, length, get_or, map, take, replicate, bit_and, refl, sym, ap, ap₂, ◌∙◌, arith, w8, w16, Fits, All}
+use Rattle.std.proofs.Common.{◌≡◌, ℕ, zero, suc, ◌+◌, ◌-◌, ◌*◌, ◌/◌, ◌%◌, ◌^◌, ◌<◌, ◌≤◌, Bool, true, false, cond, ltb, leb, eqb, List, [], ◌∷◌, ◌++◌, length}
+use Rattle.std.proofs.Common.{get_or, map, take, replicate, bit_and, refl, sym, ap, ap₂, ◌∙◌, arith, w8, w16, Fits, All}
 use Rattle.std.proofs.lemmas.Bool.{ltb-true, ltb-false, leb-true, eqb-true, agree_below_at}
 use Rattle.std.proofs.lemmas.List.{map-append, length-map, take-take, take-map}
 use Rattle.std.proofs.lemmas.List.Elements.{All-from_get_or}
@@ -17,10 +18,12 @@ use Rattle.legacy_text.proofs.UnitLanes.{of_eight, le_bytes, shuffled, each_belo
 -- ---- two bytes of each code unit
 
 short_is : (u : ℕ) → u < 65536
-    → cond (top 15 (cond (ltb u 128) (2 ^ 16 - 1) 0)) u (((bit_and (u / 2 ^ 6) 31 + 192) % 2 ^ 16 + (bit_and u 63 + 128) % 2 ^ 16 * 2 ^ 8 % 2 ^ 16) % 2 ^ 16) ≡ short_bytes u
+    → cond (top 15 (cond (ltb u 128) (2 ^ 16 - 1) 0)) u (((bit_and (u / 2 ^ 6) 31 + 192) % 2 ^ 16 + (bit_and u 63 + 128) % 2 ^ 16 * 2 ^ 8 % 2 ^ 16) % 2 ^ 16)
+    ≡ short_bytes u
 short_is u small = go (ltb u 128)
   where
-    go : (t : Bool) → cond (top 15 (cond t (2 ^ 16 - 1) 0)) u (((bit_and (u / 2 ^ 6) 31 + 192) % 2 ^ 16 + (bit_and u 63 + 128) % 2 ^ 16 * 2 ^ 8 % 2 ^ 16) % 2 ^ 16)
+    go : (t : Bool) →
+        cond (top 15 (cond t (2 ^ 16 - 1) 0)) u (((bit_and (u / 2 ^ 6) 31 + 192) % 2 ^ 16 + (bit_and u 63 + 128) % 2 ^ 16 * 2 ^ 8 % 2 ^ 16) % 2 ^ 16)
         ≡ cond t u (192 + u / 64 % 32 + 256 * (128 + u % 64))
     go true = refl
     go false = omega (arith, and_mask u 6, and_mask (u / 2 ^ 6) 5)
@@ -35,15 +38,28 @@ short_small u small = go (ltb u 128)
 abbrev vector_short : List ℕ → List ℕ
 vector_short v =
     sel_l (map (top 15) (zip2 (λ a b. cond (ltb a b) (2 ^ 16 - 1) 0) v (replicate 8 128))) v
-    (zip2 (λ a b. (a + b) % 2 ^ 16) (zip2 (λ a b. (a + b) % 2 ^ 16) (zip2 bit_and (zip2 (λ a b. a / 2 ^ b) v (replicate 8 6)) (replicate 8 31)) (replicate 8 192))
+    (zip2 (λ a b. (a + b) % 2 ^ 16) (zip2 (λ a b. (a + b) % 2 ^ 16) (zip2 bit_and (zip2 (λ a b. a / 2 ^ b) v (replicate 8 6)) (replicate 8 31))
+    (replicate 8 192))
     (zip2 (λ a b. a * 2 ^ b % 2 ^ 16) (zip2 (λ a b. (a + b) % 2 ^ 16) (zip2 bit_and v (replicate 8 63)) (replicate 8 128)) (replicate 8 8)))
 
 pub vector_short_lanes : (v : List ℕ) → length v ≡ 8 → Each1 (Fits w16) v → digits_l 256 16 (number_l 65536 (vector_short v)) ≡ short_lanes v
 vector_short_lanes =
     of_eight (λ v. digits_l 256 16 (number_l 65536 (vector_short v)) ≡ short_lanes v) (λ a b c d e f g h sa sb sc sd se sf sg sh.
-    (λ t. digits_l 256 16 (number_l 65536 (short_is a sa t ∷ short_is b sb t ∷ short_is c sc t ∷ short_is d sd t ∷ short_is e se t ∷ short_is f sf t ∷ short_is g sg t ∷ short_is h sh t ∷ [])))
-    ∙ le_bytes (short_bytes a ∷ short_bytes b ∷ short_bytes c ∷ short_bytes d ∷ short_bytes e ∷ short_bytes f ∷ short_bytes g ∷ short_bytes h ∷ [])
-    (short_small a sa, (short_small b sb, (short_small c sc, (short_small d sd, (short_small e se, (short_small f sf, (short_small g sg, (short_small h sh, tt)))))))))
+    (λ t. digits_l 256 16 (number_l 65536 (short_is a sa t ∷ short_is b sb t ∷ short_is c sc t ∷ short_is d sd t
+    ∷ short_is e se t ∷ short_is f sf t ∷ short_is g sg t ∷ short_is h sh t ∷ [])))
+    ∙ le_bytes (short_bytes a ∷ short_bytes b ∷ short_bytes c ∷ short_bytes d ∷ short_bytes e ∷ short_bytes f ∷ short_bytes g ∷ short_bytes h ∷ []) (
+      short_small a sa,
+      (
+        short_small b sb,
+        (
+          short_small c sc,
+          (
+            short_small d sd,
+            (short_small e se, (short_small f sf, (short_small g sg, (short_small h sh, tt)))),
+          ),
+        ),
+      ),
+    ))
 
 -- ---- the code units of one byte
 
@@ -97,7 +113,8 @@ short_counted at r h = omega (arith, eqb-true _ _ (short_count r h), leb-true _ 
 pub short_places_most : (r : ℕ) → r < 256 → length (short_places 0 8 r) ≤ 16
 short_places_most r h = leb-true _ _ (short_most r h)
 
-pub short_written : (xs : List ℕ) (r : ℕ) → r < 256 → take (length (short_places 0 8 r)) (swz_l w8 16 xs 0 (short_row r)) ≡ map (λ j. get_or xs j 0) (short_places 0 8 r)
+pub short_written : (xs : List ℕ) (r : ℕ) → r < 256 →
+    take (length (short_places 0 8 r)) (swz_l w8 16 xs 0 (short_row r)) ≡ map (λ j. get_or xs j 0) (short_places 0 8 r)
 unfolding short_row
 short_written xs r h =
     let n = length (short_places 0 8 r) in
@@ -123,8 +140,9 @@ short_unit : (u a b : ℕ) → u < 2048 → a ≡ short_bytes u % 256 → b ≡ 
 unfolding encode_utf8
 short_unit u a b small p q = go (ltb u 128) (ltb u 2048) refl refl p q
   where
-    go : (s t : Bool) → ltb u 128 ≡ s → ltb u 2048 ≡ t → a ≡ cond s u (192 + u / 64 % 32 + 256 * (128 + u % 64)) % 256 → b ≡ cond s u (192 + u / 64 % 32 + 256 * (128 + u % 64)) / 256
-        → cond s (a ∷ []) (a ∷ b ∷ []) ≡ cond s (u ∷ []) (cond t ((192 + u / 64) ∷ (128 + u % 64) ∷ []) (cond (ltb u 65536) ((224 + u / 4096) ∷ (128 + u / 64 % 64) ∷ (128 + u % 64) ∷ [])
+    go : (s t : Bool) → ltb u 128 ≡ s → ltb u 2048 ≡ t → a ≡ cond s u (192 + u / 64 % 32 + 256 * (128 + u % 64)) % 256 →
+        b ≡ cond s u (192 + u / 64 % 32 + 256 * (128 + u % 64)) / 256 → cond s (a ∷ []) (a ∷ b ∷ [])
+        ≡ cond s (u ∷ []) (cond t ((192 + u / 64) ∷ (128 + u % 64) ∷ []) (cond (ltb u 65536) ((224 + u / 4096) ∷ (128 + u / 64 % 64) ∷ (128 + u % 64) ∷ [])
         ((240 + u / 262144) ∷ (128 + u / 4096 % 64) ∷ (128 + u / 64 % 64) ∷ (128 + u % 64) ∷ [])))
     go true t e f p q =
         let low : u < 128 = ltb-true _ _ e in
@@ -136,7 +154,8 @@ short_unit u a b small p q = go (ltb u 128) (ltb u 2048) refl refl p q
         rw (x, y) refl
     go false false e f p q = absurd (omega (arith, ltb-false _ _ f))
 
-short_text : (f : ℕ → ℕ) (base : ℕ) (us : List ℕ) → All (λ u. u < 2048) us → ReadsShort f base us → map f (short_places base (length us) (short_pattern us)) ≡ utf8_bytes us
+short_text : (f : ℕ → ℕ) (base : ℕ) (us : List ℕ) → All (λ u. u < 2048) us → ReadsShort f base us →
+    map f (short_places base (length us) (short_pattern us)) ≡ utf8_bytes us
 unfolding short_places short_pattern
 short_text f base [] small reads = refl
 short_text f base (u ∷ us) small reads =
@@ -154,9 +173,11 @@ short_text f base (u ∷ us) small reads =
     chosen true = refl
     chosen false = refl
 
-pub short_text_of_eight : (v : List ℕ) → length v ≡ 8 → Each1 (Fits w16) v → AreShort v → map (λ k. get_or (short_lanes v) k 0) (short_places 0 8 (short_pattern v)) ≡ utf8_bytes v
+pub short_text_of_eight : (v : List ℕ) → length v ≡ 8 → Each1 (Fits w16) v → AreShort v →
+    map (λ k. get_or (short_lanes v) k 0) (short_places 0 8 (short_pattern v)) ≡ utf8_bytes v
 short_text_of_eight =
-    of_eight (λ v. AreShort v → map (λ k. get_or (short_lanes v) k 0) (short_places 0 8 (short_pattern v)) ≡ utf8_bytes v) (λ a b c d e f g h sa sb sc sd se sf sg sh short.
+    of_eight (λ v. AreShort v → map (λ k. get_or (short_lanes v) k 0) (short_places 0 8 (short_pattern v)) ≡ utf8_bytes v)
+    (λ a b c d e f g h sa sb sc sd se sf sg sh short.
     short_text (λ k. get_or (short_lanes (a ∷ b ∷ c ∷ d ∷ e ∷ f ∷ g ∷ h ∷ [])) k 0) 0 (a ∷ b ∷ c ∷ d ∷ e ∷ f ∷ g ∷ h ∷ []) short
     (refl, refl, (refl, refl, (refl, refl, (refl, refl, (refl, refl, (refl, refl, (refl, refl, (refl, refl, tt)))))))))
 
@@ -175,7 +196,8 @@ pub units_below : (n : ℕ) (xs : List ℕ) → length xs ≡ 8
     → eqb (mask_l (map (top 15) (zip2 (λ a b. cond (ltb a b) (2 ^ 16 - 1) 0) xs (replicate 8 n))) % 2 ^ 64) 255 ≡ true → All (λ x. x < n) xs
 units_below n xs long whole = All-from_get_or (λ x. x < n) xs 0 (λ k h.
     let bits : List Bool = map (λ x. ltb x n) xs in
-    let same : mask_l (map (top 15) (zip2 (λ a b. cond (ltb a b) (2 ^ 16 - 1) 0) xs (replicate 8 n))) % 2 ^ 64 ≡ mask_l bits = bitmask_splat w16 ltb xs 8 n long (omega arith) in
+    let same : mask_l (map (top 15) (zip2 (λ a b. cond (ltb a b) (2 ^ 16 - 1) 0) xs (replicate 8 n))) % 2 ^ 64 ≡ mask_l bits =
+    bitmask_splat w16 ltb xs 8 n long (omega arith) in
     let many : length bits ≡ 8 = length-map xs (λ x. ltb x n) ∙ long in
     let power : 2 ^ length bits ≡ 2 ^ 8 = ap (λ m. 2 ^ m) many in
     let set = all_set bits (omega (arith, eqb-true _ _ whole, same, power)) k (omega arith) in

@@ -1,6 +1,7 @@
 -- The scalars of texts, one by one from the front, and the places between them.
 use Rattle.std.proofs.Common.{◌≡◌, ◌∙◌, ℕ, zero, suc, ◌+◌, ◌-◌, ◌≤◌, ◌<◌, List, [], ◌∷◌, ◌++◌, length, take, drop, get_or, refl, sym, ◌*◌, ◌/◌, ◌%◌, add-zero}
-use Rattle.std.proofs.Common.{ap, subst, arith, length-append, length-drop, Some, None, Option, true, false, Bool, ◌⊎◌, inl, inr, ◌&&◌, map, slice_get, lit<, IsAscii}
+use Rattle.std.proofs.Common.{ap, subst, arith, length-append, length-drop, Some, None, Option, true, false, Bool, ◌⊎◌, inl, inr, ◌&&◌, map, slice_get, lit<}
+use Rattle.std.proofs.Common.{IsAscii}
 use Rattle.std.proofs.lemmas.Bool.{cases_lt, lt-ltb, le-ltb, le-leb, lt-leb}
 use Rattle.std.proofs.lemmas.List.{drop-drop, take-append-drop, length-take-le, take_all, get_or-drop}
 use Rattle.std.proofs.Math.Seq.{take-append_seam}
@@ -9,9 +10,12 @@ use Rattle.std.specs.Char.{len_utf8}
 use Rattle.std.specs.Char.Utf16.{lone_unit_char, surrogate_pair_char, is_high_surrogate, is_low_surrogate}
 use Rattle.std.specs.Option.{unwrap_or}
 use lib.ListN.{get_or-eq_default}
-use Rattle.std.proofs.lemmas.Str.{IsUtf8-from_is_utf8, is_utf8-from_IsUtf8, encodes-chars, chars_past_char, IsUtf8-past_char, drop_past_char, length-encode, utf16_chars-nil, len_utf8_bounds}
-use Rattle.std.proofs.lemmas.Str.{utf16_chars_lone, utf16_chars_pair, encodes-append, scalars-chars, chars-encodes, IsCharBoundary-at_seam, chars-append, chars-IsAscii, IsUtf8-from_ascii}
-use Rattle.std.proofs.str.Utf16.{IsPair, lone_unit_char_low, lone_unit_char_high, lone_unit_char_surrogate, utf16_chars-drop_lone, utf16_chars-drop_pair, utf16_chars-drop_all}
+use Rattle.std.proofs.lemmas.Str.{IsUtf8-from_is_utf8, is_utf8-from_IsUtf8, encodes-chars, chars_past_char, IsUtf8-past_char, drop_past_char, length-encode}
+use Rattle.std.proofs.lemmas.Str.{utf16_chars-nil, len_utf8_bounds}
+use Rattle.std.proofs.lemmas.Str.{utf16_chars_lone, utf16_chars_pair, encodes-append, scalars-chars, chars-encodes, IsCharBoundary-at_seam, chars-append}
+use Rattle.std.proofs.lemmas.Str.{chars-IsAscii, IsUtf8-from_ascii}
+use Rattle.std.proofs.str.Utf16.{IsPair, lone_unit_char_low, lone_unit_char_high, lone_unit_char_surrogate, utf16_chars-drop_lone, utf16_chars-drop_pair}
+use Rattle.std.proofs.str.Utf16.{utf16_chars-drop_all}
 use lib.Utf8.{encode, encodes, scalar, scalars}
 use Rattle.std.proofs.lemmas.List.Concat.{flat_map-append}
 use Rattle.legacy_text.specs.EncodingForm.{EncodingForm, Utf8, Utf16, code_units, unit_count, all_code_units}
@@ -34,7 +38,8 @@ pub record Utf8Step (text : List ℕ) (place c : ℕ) : Type 0 where
   pub behind : chars (drop (place + len_utf8 c) text) ≡ drop 1 (chars (drop place text))
   pub first : get_or (chars (drop place text)) 0 0 ≡ c
 
-pub utf8_step : (text : List ℕ) (place c : ℕ) → place ≤ length text → is_utf8 (drop place text) ≡ true → Some c ≡ slice_get (chars (drop place text)) 0 → Utf8Step text place c
+pub utf8_step : (text : List ℕ) (place c : ℕ) → place ≤ length text → is_utf8 (drop place text) ≡ true → Some c ≡ slice_get (chars (drop place text)) 0 →
+    Utf8Step text place c
 utf8_step text place c p u e =
     let bs = drop place text in
     let is = IsUtf8-from_is_utf8 bs u in
@@ -51,13 +56,15 @@ utf8_step text place c p u e =
     }
 
 -- the place is not the end
-pub utf8_inside : (text : List ℕ) (place c : ℕ) → place ≤ length text → is_utf8 (drop place text) ≡ true → Some c ≡ slice_get (chars (drop place text)) 0 → place < length text
+pub utf8_inside : (text : List ℕ) (place c : ℕ) → place ≤ length text → is_utf8 (drop place text) ≡ true → Some c ≡ slice_get (chars (drop place text)) 0 →
+    place < length text
 utf8_inside text place c p u e = let some = (len_utf8_bounds c).0 in omega (arith, some, (utf8_step text place c p u e).within)
 
 -- its bytes are there
 pub utf8_bytes : (text : List ℕ) (place c : ℕ) → is_utf8 (drop place text) ≡ true → Some c ≡ slice_get (chars (drop place text)) 0
     → drop place text ≡ encode c ++ encodes (drop 1 (chars (drop place text)))
-utf8_bytes text place c u e = sym (encodes-chars (drop place text) (IsUtf8-from_is_utf8 (drop place text) u)) ∙ ap encodes (first_cons (chars (drop place text)) c e)
+utf8_bytes text place c u e =
+    sym (encodes-chars (drop place text) (IsUtf8-from_is_utf8 (drop place text) u)) ∙ ap encodes (first_cons (chars (drop place text)) c e)
 
 -- the first byte of the scalar c in UTF-8 gives its number of bytes
 pub record TellsCount (c first : ℕ) : Type 0 where
@@ -70,23 +77,28 @@ first_tells : (c first : ℕ) (rest : List ℕ) → get_or (encode c ++ rest) 0 
 first_tells c first rest h = elim (cases_lt c 128) [
   | inl a ↦
       let e : c ≡ first = sym (ap (λ l. get_or (l ++ rest) 0 0) (encode_1 c a)) ∙ h in
-      record { one = λ x. ap length (encode_1 c a); two = λ x y. absurd (omega arith); three = λ x y. absurd (omega arith); four = λ x. absurd (omega arith) }
+      let n = ap length (encode_1 c a) in
+      record { one = λ x. n; two = λ x y. omega (arith, n); three = λ x y. omega (arith, n); four = λ x. omega (arith, n) }
   | inr a ↦ elim (cases_lt c 2048) [
     | inl b ↦
         let e : 192 + c / 64 ≡ first = sym (ap (λ l. get_or (l ++ rest) 0 0) (encode_2 c a b)) ∙ h in
-        record { one = λ x. absurd (omega arith); two = λ x y. ap length (encode_2 c a b); three = λ x y. absurd (omega arith); four = λ x. absurd (omega arith) }
+        let n = ap length (encode_2 c a b) in
+        record { one = λ x. omega (arith, n); two = λ x y. n; three = λ x y. omega (arith, n); four = λ x. omega (arith, n) }
     | inr b ↦ elim (cases_lt c 65536) [
       | inl d ↦
           let e : 224 + c / 4096 ≡ first = sym (ap (λ l. get_or (l ++ rest) 0 0) (encode_3 c b d)) ∙ h in
-          record { one = λ x. absurd (omega arith); two = λ x y. absurd (omega arith); three = λ x y. ap length (encode_3 c b d); four = λ x. absurd (omega arith) }
+          let n = ap length (encode_3 c b d) in
+          record { one = λ x. omega (arith, n); two = λ x y. omega (arith, n); three = λ x y. n; four = λ x. omega (arith, n) }
       | inr d ↦
           let e : 240 + c / 262144 ≡ first = sym (ap (λ l. get_or (l ++ rest) 0 0) (encode_4 c d)) ∙ h in
-          record { one = λ x. absurd (omega arith); two = λ x y. absurd (omega arith); three = λ x y. absurd (omega arith); four = λ x. ap length (encode_4 c d) }
+          let n = ap length (encode_4 c d) in
+          record { one = λ x. omega (arith, n); two = λ x y. omega (arith, n); three = λ x y. omega (arith, n); four = λ x. n }
     ]
   ]
 ]
 
-pub utf8_tells : (text : List ℕ) (place c : ℕ) → is_utf8 (drop place text) ≡ true → Some c ≡ slice_get (chars (drop place text)) 0 → TellsCount c (get_or text place 0)
+pub utf8_tells : (text : List ℕ) (place c : ℕ) → is_utf8 (drop place text) ≡ true → Some c ≡ slice_get (chars (drop place text)) 0 →
+    TellsCount c (get_or text place 0)
 utf8_tells text place c u e =
     first_tells c (get_or text place 0) (encodes (drop 1 (chars (drop place text))))
     (ap (λ l. get_or l 0 0) (sym (utf8_bytes text place c u e)) ∙ get_or-drop place text 0 0 ∙ ap (λ n. get_or text n 0) (add-zero place))
@@ -109,24 +121,25 @@ stands_within text place c s =
     let long = length-encode c in
     omega (arith, some, long, ap length s.is, length-append (encode c) s.rest, length-drop place text)
 
-pub stands_one : (text : List ℕ) (place c : ℕ) → StandsAt text place c → get_or text place 0 < 0x80 → unit_count Utf8 c ≡ 1
-stands_one text place c s h = (stands_tells text place c s).one h
+pub stands_one : {text : List ℕ} {place c : ℕ} → StandsAt text place c → get_or text place 0 < 0x80 → unit_count Utf8 c ≡ 1
+stands_one {text} {place} {c} s h = (stands_tells text place c s).one h
 
-pub stands_four : (text : List ℕ) (place c : ℕ) → StandsAt text place c → 0xF0 ≤ get_or text place 0 → unit_count Utf8 c ≡ 4
-stands_four text place c s h = (stands_tells text place c s).four h
+pub stands_four : {text : List ℕ} {place c : ℕ} → StandsAt text place c → 0xF0 ≤ get_or text place 0 → unit_count Utf8 c ≡ 4
+stands_four {text} {place} {c} s h = (stands_tells text place c s).four h
 
 pub record MadeOfTwo (text : List ℕ) (place c : ℕ) : Type 0 where
   pub within : place + 2 ≤ length text
   pub count : unit_count Utf8 c ≡ 2
   pub made : get_or text place 0 % 0x20 * 0x40 + get_or text (place + 1) 0 % 0x40 ≡ c
 
-pub made_of_two : (text : List ℕ) (place c : ℕ) → StandsAt text place c → 0x80 ≤ get_or text place 0 → get_or text place 0 < 0xE0 → MadeOfTwo text place c
-made_of_two text place c s low high =
+pub made_of_two : {text : List ℕ} {place c : ℕ} → StandsAt text place c → 0x80 ≤ get_or text place 0 → get_or text place 0 < 0xE0 → MadeOfTwo text place c
+made_of_two {text} {place} {c} s low high =
     let count = (stands_tells text place c s).two low high in
     let below = two_below c count in
     let above = two_above c count in
     let bytes = encode_2 c above below in
-    let first : get_or text place 0 ≡ 192 + c / 64 = ap (λ n. get_or text n 0) (sym (add-zero place)) ∙ stands_byte text place c s 0 ∙ ap (λ l. get_or (l ++ s.rest) 0 0) bytes in
+    let first : get_or text place 0 ≡ 192 + c / 64 =
+    ap (λ n. get_or text n 0) (sym (add-zero place)) ∙ stands_byte text place c s 0 ∙ ap (λ l. get_or (l ++ s.rest) 0 0) bytes in
     let second : get_or text (place + 1) 0 ≡ 128 + c % 64 = stands_byte text place c s 1 ∙ ap (λ l. get_or (l ++ s.rest) 1 0) bytes in
     record { within = omega (arith, count, stands_within text place c s); count = count; made = rw (first, second) (omega arith) }
 
@@ -135,13 +148,14 @@ pub record MadeOfThree (text : List ℕ) (place c : ℕ) : Type 0 where
   pub count : unit_count Utf8 c ≡ 3
   pub made : get_or text place 0 % 0x10 * 0x1000 + get_or text (place + 1) 0 % 0x40 * 0x40 + get_or text (place + 2) 0 % 0x40 ≡ c
 
-pub made_of_three : (text : List ℕ) (place c : ℕ) → StandsAt text place c → 0xE0 ≤ get_or text place 0 → get_or text place 0 < 0xF0 → MadeOfThree text place c
-made_of_three text place c s low high =
+pub made_of_three : {text : List ℕ} {place c : ℕ} → StandsAt text place c → 0xE0 ≤ get_or text place 0 → get_or text place 0 < 0xF0 → MadeOfThree text place c
+made_of_three {text} {place} {c} s low high =
     let count = (stands_tells text place c s).three low high in
     let below = three_below c count in
     let above = three_above c count in
     let bytes = encode_3 c above below in
-    let first : get_or text place 0 ≡ 224 + c / 4096 = ap (λ n. get_or text n 0) (sym (add-zero place)) ∙ stands_byte text place c s 0 ∙ ap (λ l. get_or (l ++ s.rest) 0 0) bytes in
+    let first : get_or text place 0 ≡ 224 + c / 4096 =
+    ap (λ n. get_or text n 0) (sym (add-zero place)) ∙ stands_byte text place c s 0 ∙ ap (λ l. get_or (l ++ s.rest) 0 0) bytes in
     let second : get_or text (place + 1) 0 ≡ 128 + c / 64 % 64 = stands_byte text place c s 1 ∙ ap (λ l. get_or (l ++ s.rest) 1 0) bytes in
     let third : get_or text (place + 2) 0 ≡ 128 + c % 64 = stands_byte text place c s 2 ∙ ap (λ l. get_or (l ++ s.rest) 2 0) bytes in
     record { within = omega (arith, count, stands_within text place c s); count = count; made = rw (first, second, third) (omega arith) }
@@ -163,10 +177,12 @@ pub scalars_end : (units : List ℕ) (at : ℕ) → length units ≤ at → unit
 scalars_end units at h = ap (map replaced) (utf16_chars-drop_all units at h)
 
 -- the unit at the place, as a scalar
-pub first_low : (units : List ℕ) (at : ℕ) → at < length units → get_or units at 0 < 0xD800 → Some (get_or units at 0) ≡ slice_get (unit_scalars (drop at units)) 0
+pub first_low : (units : List ℕ) (at : ℕ) → at < length units → get_or units at 0 < 0xD800 →
+    Some (get_or units at 0) ≡ slice_get (unit_scalars (drop at units)) 0
 first_low units at h l = let e = scalars_lone units at h (λ p. omega (arith, p.0)) in rw (e, lone_unit_char_low (get_or units at 0) l) refl
 
-pub first_high : (units : List ℕ) (at : ℕ) → at < length units → 0xE000 ≤ get_or units at 0 → Some (get_or units at 0) ≡ slice_get (unit_scalars (drop at units)) 0
+pub first_high : (units : List ℕ) (at : ℕ) → at < length units → 0xE000 ≤ get_or units at 0 →
+    Some (get_or units at 0) ≡ slice_get (unit_scalars (drop at units)) 0
 first_high units at h l = let e = scalars_lone units at h (λ p. omega (arith, p.1)) in rw (e, lone_unit_char_high (get_or units at 0) l) refl
 
 pub first_unpaired : (units : List ℕ) (at : ℕ) → at < length units → 0xD800 ≤ get_or units at 0 → get_or units at 0 < 0xE000 →
@@ -208,26 +224,39 @@ lone_bound u h = elim (cases_lt u 0xD800) [
   ]
 ]
 
-pub utf16_step : (list : List ℕ) (place c n : ℕ) → ((i : ℕ) → get_or list i 0 < 65536) → place < length list → Some c ≡ slice_get (unit_scalars (drop place list)) 0 →
-    (c < 65536 → n ≡ 1) → (65536 ≤ c → n ≡ 2) → Utf16Step list place c n
+pub utf16_step : (list : List ℕ) (place c n : ℕ) → ((i : ℕ) → get_or list i 0 < 65536) → place < length list →
+    Some c ≡ slice_get (unit_scalars (drop place list)) 0 → (c < 65536 → n ≡ 1) → (65536 ≤ c → n ≡ 2) → Utf16Step list place c n
 utf16_step list place c n bound h e short long =
     let u = get_or list place 0 in
     let v = get_or list (place + 1) 0 in
     elim (pair_or_not u v) [
       | inl p ↦
           let within : place + 1 < length list =
-          elim (cases_lt (place + 1) (length list)) as (λ _. place + 1 < length list) [ inl a ↦ a | inr a ↦ let z = get_or-eq_default list 0 {n = place + 1} a in omega (arith, p.2) ] in
+          elim (cases_lt (place + 1) (length list)) as (λ _. place + 1 < length list) [
+            | inl a ↦ a
+            | inr a ↦ let z = get_or-eq_default list 0 {n = place + 1} a in omega (arith, p.2)
+          ] in
           let all = scalars_pair list place within p in
           let is : c ≡ surrogate_pair_char u v = let f : Some c ≡ Some (surrogate_pair_char u v) = e ∙ ap (λ l. slice_get l 0) all in cc in
           let two : n ≡ 2 = long (omega (arith, p.2)) in
           let wide : 65536 ≤ c = omega (arith, p.2) in
-          record { width = two ∙ sym (ap length (utf16_2 c wide)); within = omega arith; behind = rw two (sym (ap (drop 1) all)); first = ap (λ l. get_or l 0 0) all ∙ sym is }
+          record {
+            width = two ∙ sym (ap length (utf16_2 c wide));
+            within = omega arith;
+            behind = rw two (sym (ap (drop 1) all));
+            first = ap (λ l. get_or l 0 0) all ∙ sym is;
+          }
       | inr p ↦
           let all = scalars_lone list place h p in
           let is : c ≡ replaced (lone_unit_char u) = let f : Some c ≡ Some (replaced (lone_unit_char u)) = e ∙ ap (λ l. slice_get l 0) all in cc in
           let narrow : c < 65536 = rw is (lone_bound u (bound place)) in
           let one : n ≡ 1 = short narrow in
-          record { width = one ∙ sym (ap length (utf16_1 c narrow)); within = omega arith; behind = rw one (sym (ap (drop 1) all)); first = ap (λ l. get_or l 0 0) all ∙ sym is }
+          record {
+            width = one ∙ sym (ap length (utf16_1 c narrow));
+            within = omega arith;
+            behind = rw one (sym (ap (drop 1) all));
+            first = ap (λ l. get_or l 0 0) all ∙ sym is;
+          }
     ]
 
 -- there is a scalar only before the end
@@ -239,7 +268,8 @@ some_within units place c e = elim (cases_lt place (length units)) [
 
 -- ---- what was taken off the front of a text
 
-total_unit_count-split : (form : EncodingForm) (xs ys : List ℕ) → length (all_code_units form (xs ++ ys)) ≡ length (all_code_units form xs) + length (all_code_units form ys)
+total_unit_count-split : (form : EncodingForm) (xs ys : List ℕ) →
+    length (all_code_units form (xs ++ ys)) ≡ length (all_code_units form xs) + length (all_code_units form ys)
 total_unit_count-split form xs ys = ap length (flat_map-append (code_units form) xs ys) ∙ length-append (all_code_units form xs) (all_code_units form ys)
 
 encodes-code_units : (cs : List ℕ) → encodes cs ≡ all_code_units Utf8 cs
@@ -263,7 +293,8 @@ pub record CutAt (text taken left : List ℕ) (place : ℕ) : Type 0 where
   pub left_is : chars (drop place text) ≡ left
   pub boundary : IsCharBoundary text place
 
-pub utf8_cut : (text taken left : List ℕ) (place : ℕ) → IsUtf8 text → chars text ≡ taken ++ left → place ≡ length (all_code_units Utf8 taken) → CutAt text taken left place
+pub utf8_cut : (text taken left : List ℕ) (place : ℕ) → IsUtf8 text → chars text ≡ taken ++ left → place ≡ length (all_code_units Utf8 taken) →
+    CutAt text taken left place
 utf8_cut text taken left place u e p =
     let all : text ≡ encodes taken ++ encodes left = sym (encodes-chars text u) ∙ ap encodes e ∙ encodes-append taken left in
     let good : scalars left ≡ true = scalars-right taken left (ap scalars (sym e) ∙ scalars-chars text u) in
@@ -275,8 +306,8 @@ utf8_cut text taken left place u e p =
     }
 
 -- how many units were passed
-pub passed_is : (form : EncodingForm) (all taken left : List ℕ) (place : ℕ) → all ≡ taken ++ left → place + length (all_code_units form left) ≡ 0 + length (all_code_units form all)
-    → place ≡ length (all_code_units form taken)
+pub passed_is : (form : EncodingForm) (all taken left : List ℕ) (place : ℕ) → all ≡ taken ++ left →
+    place + length (all_code_units form left) ≡ 0 + length (all_code_units form all) → place ≡ length (all_code_units form taken)
 passed_is form all taken left place e p = omega (arith, total_unit_count-split form taken left, ap (λ l. length (all_code_units form l)) e)
 
 high_test : (u v : ℕ) → 0xDC00 ≤ u → (is_high_surrogate u && is_low_surrogate v) ≡ false
@@ -355,17 +386,19 @@ utf16_cut (u ∷ v ∷ list) (c ∷ taken) left b e = elim (pair_or_not u v) [
       let is : c ≡ replaced (lone_unit_char u) = cc in
       let rest : unit_scalars (v ∷ list) ≡ taken ++ left = cc in
       let narrow : c < 65536 = rw is (lone_bound u (b 0)) in
-      cut_lone u (v ∷ list) left _ _ p (ap (λ l. length (l ++ all_code_units Utf16 taken)) (utf16_1 c narrow)) (utf16_cut (v ∷ list) taken left (λ i. b (suc i)) rest)
+      cut_lone u (v ∷ list) left _ _ p (ap (λ l. length (l ++ all_code_units Utf16 taken)) (utf16_1 c narrow))
+      (utf16_cut (v ∷ list) taken left (λ i. b (suc i)) rest)
 ]
 
 -- what a call left of a whole text
-pub utf8_read : (text taken left : List ℕ) (read : ℕ) → IsUtf8 text → chars text ≡ taken ++ left → read + length (all_code_units Utf8 left) ≡ 0 + length (all_code_units Utf8 (chars text))
-    → CutAt text taken left read
+pub utf8_read : (text taken left : List ℕ) (read : ℕ) → IsUtf8 text → chars text ≡ taken ++ left →
+    read + length (all_code_units Utf8 left) ≡ 0 + length (all_code_units Utf8 (chars text)) → CutAt text taken left read
 utf8_read text taken left read u e p = utf8_cut text taken left read u e (passed_is Utf8 (chars text) taken left read e p)
 
 pub utf16_read : (list taken left : List ℕ) (read : ℕ) → Bounded list → unit_scalars list ≡ taken ++ left
     → read + length (all_code_units Utf16 left) ≡ 0 + length (all_code_units Utf16 (unit_scalars list)) → CutUnits list left read
-utf16_read list taken left read b e p = subst (CutUnits list left) (sym (passed_is Utf16 (unit_scalars list) taken left read e p)) (utf16_cut list taken left b e)
+utf16_read list taken left read b e p =
+    subst (CutUnits list left) (sym (passed_is Utf16 (unit_scalars list) taken left read e p)) (utf16_cut list taken left b e)
 
 pub unit_boundary : (list left : List ℕ) (place : ℕ) → CutUnits list left place → IsUnitBoundary list place
 unit_boundary list left place h = (
@@ -416,7 +449,8 @@ pub record AsciiAt (list : List ℕ) (place n : ℕ) : Type 0 where
 pub ascii_at : (list : List ℕ) (place n : ℕ) → place ≤ length list → n ≤ length (take (length list - place) (drop place list))
     → IsAscii (take n (take (length list - place) (drop place list))) → AsciiAt list place n
 ascii_at list place n h within ascii =
-    let whole : take (length list - place) (drop place list) ≡ drop place list = take_all (length list - place) (drop place list) (omega (arith, length-drop place list)) in
+    let whole : take (length list - place) (drop place list) ≡ drop place list =
+    take_all (length list - place) (drop place list) (omega (arith, length-drop place list)) in
     let few : n ≤ length (drop place list) = rw whole at within in
     record {
       within = few;
@@ -433,12 +467,14 @@ module _ (list : List ℕ) (place n : ℕ) (within : n ≤ length (drop place li
   parts = sym (take-append-drop n Rest) ∙ ap (λ l. take n Rest ++ l) (drop-drop n place list)
 
   pub utf8_ascii-text : is_utf8 Rest ≡ true → is_utf8 (drop (place + n) list) ≡ true
-  utf8_ascii-text u = is_utf8-from_IsUtf8 (drop (place + n) list) (ascii_past (take n Rest) (drop (place + n) list) ascii (subst IsUtf8 parts (IsUtf8-from_is_utf8 Rest u)))
+  utf8_ascii-text u =
+      is_utf8-from_IsUtf8 (drop (place + n) list) (ascii_past (take n Rest) (drop (place + n) list) ascii (subst IsUtf8 parts (IsUtf8-from_is_utf8 Rest u)))
 
   pub utf8_ascii : IsFront (chars Rest) (take n Rest) (chars (drop (place + n) list)) n
   utf8_ascii =
       front_of (chars Rest) (take n Rest) (chars (drop (place + n) list)) n (length-take-le n Rest within)
-      (ap chars parts ∙ chars-append (take n Rest) (drop (place + n) list) (IsUtf8-from_ascii (take n Rest) ascii) ∙ ap (λ l. l ++ chars (drop (place + n) list)) (chars-IsAscii (take n Rest) ascii))
+      (ap chars parts ∙ chars-append (take n Rest) (drop (place + n) list) (IsUtf8-from_ascii (take n Rest) ascii)
+      ∙ ap (λ l. l ++ chars (drop (place + n) list)) (chars-IsAscii (take n Rest) ascii))
 
   pub utf16_ascii : IsFront (unit_scalars Rest) (take n Rest) (unit_scalars (drop (place + n) list)) n
   utf16_ascii =

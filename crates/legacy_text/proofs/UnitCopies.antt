@@ -46,17 +46,20 @@ block_behind gives units old new front at copied r block marks within few long c
     behind : (k : ℕ) → k < copied + r → copied ≤ k → IsNoSurrogate (get_or units k 0) × gives (get_or units k 0) (get_or block (k - copied) 0)
     behind k h l =
         let j = k - copied in
-        let whole : take (length units - copied) (drop copied units) ≡ drop copied units = take_all (length units - copied) (drop copied units) (omega (arith, length-drop copied units)) in
+        let whole : take (length units - copied) (drop copied units) ≡ drop copied units =
+        take_all (length units - copied) (drop copied units) (omega (arith, length-drop copied units)) in
         let index : copied + (k - copied) ≡ k = omega arith in
         let same : get_or (take (length units - copied) (drop copied units)) (k - copied) 0 ≡ get_or units k 0 =
         ap (λ l. get_or l (k - copied) 0) whole ∙ get_or-drop copied units (k - copied) 0 ∙ ap (λ n. get_or units n 0) index in
-        let marked : get_or marks (k - copied) 0 < 128 = let a = ascii (k - copied) in let t = get_or-take r marks (k - copied) 0 (omega arith) in omega arith in
+        let marked : get_or marks (k - copied) 0 < 128 =
+        let a = ascii (k - copied) in let t = get_or-take r marks (k - copied) 0 (omega arith) in omega arith in
         subst (λ u. IsNoSurrogate u × gives u (get_or block (k - copied) 0)) same (codes (k - copied) (omega arith) marked)
 
     byte : (k : ℕ) → k < copied + r → copied ≤ k → get_or (writes.bytes ++ take r block) k 0 ≡ get_or block (k - copied) 0
     byte k h l =
         let index : k ≡ length writes.bytes + (k - copied) = omega (arith, writes.count) in
-        ap (λ n. get_or (writes.bytes ++ take r block) n 0) index ∙ get_or-append-add writes.bytes (take r block) (k - copied) 0 ∙ get_or-take r block (k - copied) 0 (omega arith)
+        ap (λ n. get_or (writes.bytes ++ take r block) n 0) index ∙ get_or-append-add writes.bytes (take r block) (k - copied) 0
+        ∙ get_or-take r block (k - copied) 0 (omega arith)
 
 -- nothing was written yet
 pub writes_none : (gives : ℕ → ℕ → Type 0) (units old new : List ℕ) → new ≡ old → WritesCodes gives units 0 old new
@@ -65,7 +68,8 @@ writes_none gives units old new e = record { bytes = []; new_is = e ∙ sym (app
 -- ---- code units that are not surrogates
 
 -- each of them is its own scalar
-lone_scalars : (front others : List ℕ) → ((k : ℕ) → k < length front → IsNoSurrogate (get_or front k 0)) → unit_scalars (front ++ others) ≡ front ++ unit_scalars others
+lone_scalars : (front others : List ℕ) → ((k : ℕ) → k < length front → IsNoSurrogate (get_or front k 0)) →
+    unit_scalars (front ++ others) ≡ front ++ unit_scalars others
 lone_scalars [] others lone = refl
 lone_scalars (u ∷ front) others lone =
     let first : 55296 ≤ u → 57344 ≤ u = lone 0 (omega arith) in
@@ -89,7 +93,8 @@ narrow_units (u ∷ front) b =
     omega (arith, length-append (code_units Utf16 u) (all_code_units Utf16 front))
 
 module _ (gives : ℕ → ℕ → Type 0) (list : List ℕ) (place n : ℕ) (start : place ≤ length list) (bound : (k : ℕ) → get_or list k 0 < 65536)
-    (within : n ≤ length (take (length list - place) (drop place list))) (lone : (k : ℕ) → k < n → IsNoSurrogate (get_or (take (length list - place) (drop place list)) k 0)) where
+    (within : n ≤ length (take (length list - place) (drop place list)))
+    (lone : (k : ℕ) → k < n → IsNoSurrogate (get_or (take (length list - place) (drop place list)) k 0)) where
   abbrev Rest : List ℕ
   Rest = drop place list
 

@@ -1,8 +1,9 @@
 -- Vectors lane by lane: a vector is written out as the list of its lanes.
-use Rattle.std.proofs.Common.{◌≡◌, ℕ, zero, suc, ◌+◌, ◌-◌, ◌*◌, ◌/◌, ◌%◌, ◌^◌, ◌<◌, ◌≤◌, Bool, true, false, cond, ltb, leb, eqb, List, [], ◌∷◌, ◌++◌, length, get_or, map, take, drop, replicate, bit_and, refl, sym, ap, ap₂, ◌∙◌, arith, w8, w16, Fits, ◌&&◌, mod-lt, zero-lt-suc, mul_assoc}
+use Rattle.std.proofs.Common.{◌≡◌, ℕ, zero, suc, ◌+◌, ◌-◌, ◌*◌, ◌/◌, ◌%◌, ◌^◌, ◌<◌, ◌≤◌, Bool, true, false, cond, ltb, leb, eqb, List, [], ◌∷◌, ◌++◌, length}
+use Rattle.std.proofs.Common.{get_or, map, take, drop, replicate, bit_and, refl, sym, ap, ap₂, ◌∙◌, arith, w8, w16, Fits, ◌&&◌, mod-lt, zero-lt-suc, mul_assoc}
 use Rattle.std.proofs.lemmas.Bool.{ltb-true, ltb-false, leb-true, eqb-true, lt-leb, and_parts, agree_below_at}
 use Rattle.std.proofs.lemmas.List.{map-append, append_assoc, length-take-le, length-drop, take-take, take-append-drop, take-append-le, take-map}
-use Rattle.std.proofs.Math.Seq.{take-append_seam, take-append-add, take-add}
+use Rattle.std.proofs.Math.Seq.{take-append_seam, take-append-add}
 use Rattle.std.proofs.lemmas.Nat.{and_mask}
 use Rattle.std.proofs.lemmas.Nat.Bits.{and_high}
 use Rattle.std.proofs.lemmas.Simd.{mask_l-lt, mask_l-mod, swz_l, put_chunk_is}
@@ -30,11 +31,6 @@ of_eight P p (a ∷ b ∷ c ∷ d ∷ e ∷ f ∷ g ∷ h ∷ []) n s =
     p a b c d e f g h s.0.fits s.1.0.fits s.1.1.0.fits s.1.1.1.0.fits s.1.1.1.1.0.fits s.1.1.1.1.1.0.fits s.1.1.1.1.1.1.0.fits s.1.1.1.1.1.1.1.0.fits
 of_eight P p (a ∷ b ∷ c ∷ d ∷ e ∷ f ∷ g ∷ h ∷ i ∷ v) n s = absurd (omega arith)
 
--- the same for a property of each lane
-pub each_of_eight : (f g : ℕ → ℕ) → ((u : ℕ) → u < 65536 → f u ≡ g u) → (v : List ℕ) → Each1 (Fits w16) v → map f v ≡ map g v
-each_of_eight f g e [] s = refl
-each_of_eight f g e (u ∷ v) s = ap₂ (λ (x : ℕ) (y : List ℕ). x ∷ y) (e u s.0.fits) (each_of_eight f g e v s.1)
-
 -- ---- the bytes of one code unit
 
 pub last_is : (u : ℕ) → u < 65536 → cond (top 15 (cond (ltb u 128) (2 ^ 16 - 1) 0)) u ((bit_and u 63 + 128) % 2 ^ 16) ≡ last_byte u
@@ -45,7 +41,8 @@ last_is u small = go (ltb u 128)
     go false = omega (arith, and_mask u 6)
 
 pub front_is : (u : ℕ) → u < 65536
-    → (((u / 2 ^ 12 + 224) % 2 ^ 16 + bit_and (u * 2 ^ 2 % 2 ^ 16) 16128) % 2 ^ 16 + cond (top 15 (cond (ltb u 2048) (2 ^ 16 - 1) 0)) 49152 32768) % 2 ^ 16 ≡ front_bytes u
+    → (((u / 2 ^ 12 + 224) % 2 ^ 16 + bit_and (u * 2 ^ 2 % 2 ^ 16) 16128) % 2 ^ 16 + cond (top 15 (cond (ltb u 2048) (2 ^ 16 - 1) 0)) 49152 32768) % 2 ^ 16
+    ≡ front_bytes u
 front_is u small = go (ltb u 2048) (bit_and (u * 2 ^ 2 % 2 ^ 16) 16128) middle
   where
     middle : bit_and (u * 2 ^ 2 % 2 ^ 16) 16128 ≡ 256 * (u / 64 % 64)
@@ -54,7 +51,8 @@ front_is u small = go (ltb u 2048) (bit_and (u * 2 ^ 2 % 2 ^ 16) 16128) middle
         omega (arith, e)
 
     go : (t : Bool) (m : ℕ) → m ≡ 256 * (u / 64 % 64)
-        → (((u / 2 ^ 12 + 224) % 2 ^ 16 + m) % 2 ^ 16 + cond (top 15 (cond t (2 ^ 16 - 1) 0)) 49152 32768) % 2 ^ 16 ≡ 224 + u / 4096 + 256 * (u / 64 % 64) + cond t 49152 32768
+        → (((u / 2 ^ 12 + 224) % 2 ^ 16 + m) % 2 ^ 16 + cond (top 15 (cond t (2 ^ 16 - 1) 0)) 49152 32768) % 2 ^ 16
+        ≡ 224 + u / 4096 + 256 * (u / 64 % 64) + cond t 49152 32768
     go true m e = omega arith
     go false m e = omega arith
 
@@ -67,7 +65,8 @@ unfolding encode_utf8
 unit_is u small = go (ltb u 128) (ltb u 2048) (ltb u 65536) refl refl refl
   where
     go : (s t r : Bool) → ltb u 128 ≡ s → ltb u 2048 ≡ t → ltb u 65536 ≡ r
-        → chosen s t (cond s u (128 + u % 64) % 256) ((224 + u / 4096 + 256 * (u / 64 % 64) + cond t 49152 32768) % 256) ((224 + u / 4096 + 256 * (u / 64 % 64) + cond t 49152 32768) / 256)
+        → chosen s t (cond s u (128 + u % 64) % 256) ((224 + u / 4096 + 256 * (u / 64 % 64) + cond t 49152 32768) % 256)
+        ((224 + u / 4096 + 256 * (u / 64 % 64) + cond t 49152 32768) / 256)
         ≡ cond s (u ∷ []) (cond t ((192 + u / 64) ∷ (128 + u % 64) ∷ []) (cond r ((224 + u / 4096) ∷ (128 + u / 64 % 64) ∷ (128 + u % 64) ∷ [])
         ((240 + u / 262144) ∷ (128 + u / 4096 % 64) ∷ (128 + u / 64 % 64) ∷ (128 + u % 64) ∷ [])))
     go true t r e f g =
@@ -122,8 +121,7 @@ front_small u small = go (ltb u 2048) refl
 
 -- ---- vectors of eight code units
 
-pub vector_last : (v : List ℕ) → length v ≡ 8 → Each1 (Fits w16) v
-    → sel_l (map (top 15) (zip2 (λ a b. cond (ltb a b) (2 ^ 16 - 1) 0) v (replicate 8 128))) v
+pub vector_last : (v : List ℕ) → length v ≡ 8 → Each1 (Fits w16) v → sel_l (map (top 15) (zip2 (λ a b. cond (ltb a b) (2 ^ 16 - 1) 0) v (replicate 8 128))) v
     (zip2 (λ a b. (a + b) % 2 ^ 16) (zip2 bit_and v (replicate 8 63)) (replicate 8 128)) ≡ map last_byte v
 vector_last =
     of_eight (λ v. sel_l (map (top 15) (zip2 (λ a b. cond (ltb a b) (2 ^ 16 - 1) 0) v (replicate 8 128))) v
@@ -131,8 +129,7 @@ vector_last =
     (λ a b c d e f g h sa sb sc sd se sf sg sh t.
     last_is a sa t ∷ last_is b sb t ∷ last_is c sc t ∷ last_is d sd t ∷ last_is e se t ∷ last_is f sf t ∷ last_is g sg t ∷ last_is h sh t ∷ [])
 
-pub vector_front : (v : List ℕ) → length v ≡ 8 → Each1 (Fits w16) v
-    → zip2 (λ a b. (a + b) % 2 ^ 16)
+pub vector_front : (v : List ℕ) → length v ≡ 8 → Each1 (Fits w16) v → zip2 (λ a b. (a + b) % 2 ^ 16)
     (zip2 (λ a b. (a + b) % 2 ^ 16) (zip2 (λ a b. (a + b) % 2 ^ 16) (zip2 (λ a b. a / 2 ^ b) v (replicate 8 12)) (replicate 8 224))
     (zip2 bit_and (zip2 (λ a b. a * 2 ^ b % 2 ^ 16) v (replicate 8 2)) (replicate 8 16128)))
     (sel_l (map (top 15) (zip2 (λ a b. cond (ltb a b) (2 ^ 16 - 1) 0) v (replicate 8 2048))) (replicate 8 49152) (replicate 8 32768)) ≡ map front_bytes v
@@ -150,13 +147,48 @@ pub vector_lanes : (v : List ℕ) → length v ≡ 8 → Each1 (Fits w16) v
     → (digits_l 256 16 (number_l 65536 (pick_l 0 (map last_byte v ++ map front_bytes v) (0 ∷ 8 ∷ 1 ∷ 9 ∷ 2 ∷ 10 ∷ 3 ∷ 11 ∷ []))) ≡ lanes (take 4 v))
     × (digits_l 256 16 (number_l 65536 (pick_l 0 (map last_byte v ++ map front_bytes v) (4 ∷ 12 ∷ 5 ∷ 13 ∷ 6 ∷ 14 ∷ 7 ∷ 15 ∷ []))) ≡ lanes (drop 4 v))
 vector_lanes =
-    of_eight (λ v. (digits_l 256 16 (number_l 65536 (pick_l 0 (map last_byte v ++ map front_bytes v) (0 ∷ 8 ∷ 1 ∷ 9 ∷ 2 ∷ 10 ∷ 3 ∷ 11 ∷ []))) ≡ lanes (take 4 v))
+    of_eight (λ v. (digits_l 256 16 (number_l 65536 (pick_l 0 (map last_byte v ++ map front_bytes v) (0 ∷ 8 ∷ 1 ∷ 9 ∷ 2 ∷ 10 ∷ 3 ∷ 11 ∷ []))) ≡ lanes
+    (take 4 v))
     × (digits_l 256 16 (number_l 65536 (pick_l 0 (map last_byte v ++ map front_bytes v) (4 ∷ 12 ∷ 5 ∷ 13 ∷ 6 ∷ 14 ∷ 7 ∷ 15 ∷ []))) ≡ lanes (drop 4 v)))
     (λ a b c d e f g h sa sb sc sd se sf sg sh. (
-      le_bytes (last_byte a ∷ front_bytes a ∷ last_byte b ∷ front_bytes b ∷ last_byte c ∷ front_bytes c ∷ last_byte d ∷ front_bytes d ∷ [])
-          (last_small a sa, (front_small a sa, (last_small b sb, (front_small b sb, (last_small c sc, (front_small c sc, (last_small d sd, (front_small d sd, tt)))))))),
-      le_bytes (last_byte e ∷ front_bytes e ∷ last_byte f ∷ front_bytes f ∷ last_byte g ∷ front_bytes g ∷ last_byte h ∷ front_bytes h ∷ [])
-          (last_small e se, (front_small e se, (last_small f sf, (front_small f sf, (last_small g sg, (front_small g sg, (last_small h sh, (front_small h sh, tt)))))))),
+      le_bytes (last_byte a ∷ front_bytes a ∷ last_byte b ∷ front_bytes b ∷ last_byte c ∷ front_bytes c ∷ last_byte d ∷ front_bytes d ∷ []) (
+        last_small a sa,
+        (
+          front_small a sa,
+          (
+            last_small b sb,
+            (
+              front_small b sb,
+              (
+                last_small c sc,
+                (
+                  front_small c sc,
+                  (last_small d sd, (front_small d sd, tt)),
+                ),
+              ),
+            ),
+          ),
+        ),
+      ),
+      le_bytes (last_byte e ∷ front_bytes e ∷ last_byte f ∷ front_bytes f ∷ last_byte g ∷ front_bytes g ∷ last_byte h ∷ front_bytes h ∷ []) (
+        last_small e se,
+        (
+          front_small e se,
+          (
+            last_small f sf,
+            (
+              front_small f sf,
+              (
+                last_small g sg,
+                (
+                  front_small g sg,
+                  (last_small h sh, (front_small h sh, tt)),
+                ),
+              ),
+            ),
+          ),
+        ),
+      ),
     ))
 
 -- ---- the bytes that are written, as bits
@@ -306,7 +338,8 @@ written_places xs r h =
     ∙ take-map (λ j. get_or xs j 0) (length (places 0 4 r)) (row r) ∙ ap (map (λ j. get_or xs j 0)) (row_begins r h)
 
 -- a vector that is stored at a place: the contents up to a place within it
-pub stored : (at k : ℕ) (xs block : List ℕ) → length block ≡ 16 → k ≤ 16 → at + 16 ≤ length xs → take (at + k) (put_chunk at xs block) ≡ take at xs ++ take k block
+pub stored : (at k : ℕ) (xs block : List ℕ) → length block ≡ 16 → k ≤ 16 → at + 16 ≤ length xs →
+    take (at + k) (put_chunk at xs block) ≡ take at xs ++ take k block
 stored at k xs block long h room =
     let front : length (take at xs) ≡ at = length-take-le at xs (omega arith) in
     let place : at + k ≡ length (take at xs) + k = omega arith in
@@ -334,7 +367,8 @@ lane_chosen f base true false = refl
 lane_chosen f base false true = refl
 lane_chosen f base false false = refl
 
-pub text_written : (f : ℕ → ℕ) (base : ℕ) (us : List ℕ) → Each1 (λ u. u < 65536) us → Reads f base us → map f (places base (length us) (pattern us)) ≡ utf8_bytes us
+pub text_written : (f : ℕ → ℕ) (base : ℕ) (us : List ℕ) → Each1 (λ u. u < 65536) us → Reads f base us →
+    map f (places base (length us) (pattern us)) ≡ utf8_bytes us
 unfolding places pattern
 text_written f base [] small reads = refl
 text_written f base (u ∷ us) small reads =
@@ -368,22 +402,11 @@ joined_text us = sym (flat_map-append encode_utf8 (take 4 us) (drop 4 us)) ∙ a
 -- two stores, one after the other
 pub both_stored : (old old_front : List ℕ) (front back : List ℕ) (p q : ℕ) (v new : List ℕ) → length v ≡ 8 → Each1 (Fits w16) v
     → front ≡ lanes (take 4 v) → back ≡ lanes (drop 4 v) → p ≡ pattern (take 4 v) → q ≡ pattern (drop 4 v)
-    → old_front ≡ old ++ map (λ k. get_or front k 0) (places 0 4 p)
-    → new ≡ old_front ++ map (λ k. get_or back k 0) (places 0 4 q) → new ≡ old ++ utf8_bytes v
+    → old_front ≡ old ++ map (λ k. get_or front k 0) (places 0 4 p) → new ≡ old_front ++ map (λ k. get_or back k 0) (places 0 4 q) → new ≡ old ++ utf8_bytes v
 both_stored old old_front front back p q v new long fits fe be pe qe first second =
     let t = text_of_eight v long fits in
     second ∙ ap (λ (l : List ℕ). l ++ map (λ k. get_or back k 0) (places 0 4 q)) first
     ∙ append_assoc old (map (λ k. get_or front k 0) (places 0 4 p)) (map (λ k. get_or back k 0) (places 0 4 q))
     ∙ ap (λ (l : List ℕ). old ++ l)
-    (ap₂ (λ (x y : List ℕ). x ++ y) ((λ i. map (λ k. get_or (fe i) k 0) (places 0 4 (pe i))) ∙ t.0) ((λ i. map (λ k. get_or (be i) k 0) (places 0 4 (qe i))) ∙ t.1) ∙ joined_text v)
-
--- eight more code units
-pub next_text : (g : ℕ) (old before next units : List ℕ) → before ≡ old ++ utf8_bytes (take (8 * g) units)
-    → next ≡ before ++ utf8_bytes (take 8 (drop (8 * g) units)) → next ≡ old ++ utf8_bytes (take (8 * (g + 1)) units)
-next_text g old before next units first second =
-    let a = 8 * g in
-    let n : a + 8 ≡ 8 * (g + 1) = omega arith in
-    second ∙ ap (λ (l : List ℕ). l ++ utf8_bytes (take 8 (drop a units))) first
-    ∙ append_assoc old (utf8_bytes (take a units)) (utf8_bytes (take 8 (drop a units)))
-    ∙ ap (λ (l : List ℕ). old ++ l)
-    (sym (flat_map-append encode_utf8 (take a units) (take 8 (drop a units))) ∙ ap utf8_bytes (sym (take-add a 8 units)) ∙ ap (λ k. utf8_bytes (take k units)) n)
+    (ap₂ (λ (x y : List ℕ). x ++ y) ((λ i. map (λ k. get_or (fe i) k 0) (places 0 4 (pe i))) ∙ t.0)
+    ((λ i. map (λ k. get_or (be i) k 0) (places 0 4 (qe i))) ∙ t.1) ∙ joined_text v)

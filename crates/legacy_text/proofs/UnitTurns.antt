@@ -8,7 +8,8 @@ use Rattle.legacy_text.specs.UnitCodes.{IsNoSurrogate}
 use Rattle.legacy_text.specs.UnitTurns.{AreLone, TakesUnits}
 use Rattle.legacy_text.proofs.UnitCopies.{lone_front, lone_count}
 
-module _ (list : List ℕ) (place n : ℕ) (fits : place + n ≤ length list) (bound : (k : ℕ) → get_or list k 0 < 65536) (units : List ℕ) (is : units ≡ take n (drop place list)) where
+module _ (list : List ℕ) (place n : ℕ) (fits : place + n ≤ length list) (bound : (k : ℕ) → get_or list k 0 < 65536) (units : List ℕ)
+    (is : units ≡ take n (drop place list)) where
   long : n ≤ length (drop place list)
   long = omega (arith, length-drop place list)
 
@@ -20,7 +21,8 @@ module _ (list : List ℕ) (place n : ℕ) (fits : place + n ≤ length list) (b
 
   lone_here : AreLone units → (k : ℕ) → k < n → IsNoSurrogate (get_or (take (length list - place) (drop place list)) k 0)
   lone_here lone k h =
-      subst IsNoSurrogate (ap (λ l. get_or l k 0) is ∙ get_or-take n (drop place list) k 0 h ∙ ap (λ l. get_or l k 0) (sym whole)) (lone k (omega (arith, count)))
+      subst IsNoSurrogate (ap (λ l. get_or l k 0) is ∙ get_or-take n (drop place list) k 0 h ∙ ap (λ l. get_or l k 0) (sym whole))
+      (lone k (omega (arith, count)))
 
   pub takes_units : TakesUnits Utf16 (unit_scalars (drop place list)) place units (unit_scalars (drop (place + n) list)) (place + n)
   takes_units = record {
@@ -29,6 +31,7 @@ module _ (list : List ℕ) (place n : ℕ) (fits : place + n ≤ length list) (b
         rw (is, f.front_is, f.others_is) (sym (take-append-drop n (unit_scalars (drop place list))));
     passed_is = λ lone.
         let f = lone_front (λ a b. ⊤) list place n (omega arith) bound (rw whole long) (lone_here lone) in
-        ap (λ m. place + m) (sym (ap (total_unit_count Utf16) (is ∙ f.front_is) ∙ lone_count (λ a b. ⊤) list place n (omega arith) bound (rw whole long) (lone_here lone)));
+        ap (λ m. place + m) (sym (ap (total_unit_count Utf16) (is ∙ f.front_is) ∙ lone_count (λ a b. ⊤) list place n (omega arith) bound (rw whole long)
+        (lone_here lone)));
     all_passed = λ e. omega (arith, count);
   }

@@ -5,10 +5,12 @@ use Rattle.legacy_text.proofs.eight_units.unit_lanes.Goals as goal
 
 pub returns-clause-front : goal.returns-clause-front
 returns-clause-front c =
-    ap₂ (λ (l f : List ℕ). digits_l 256 16 (number_l 65536 (pick_l 0 (l ++ f) (0 ∷ 8 ∷ 1 ∷ 9 ∷ 2 ∷ 10 ∷ 3 ∷ 11 ∷ [])))) c.last_bytes.ensures c.bytes_before.ensures
+    ap₂ (λ (l f : List ℕ). digits_l 256 16 (number_l 65536 (pick_l 0 (l ++ f)
+    (0 ∷ 8 ∷ 1 ∷ 9 ∷ 2 ∷ 10 ∷ 3 ∷ 11 ∷ [])))) c.last_bytes.ensures c.bytes_before.ensures
     ∙ (vector_lanes c.args.units c.fits-units.0 c.fits-units.1).0
 
 pub returns-clause-back : goal.returns-clause-back
 returns-clause-back c =
-    ap₂ (λ (l f : List ℕ). digits_l 256 16 (number_l 65536 (pick_l 0 (l ++ f) (4 ∷ 12 ∷ 5 ∷ 13 ∷ 6 ∷ 14 ∷ 7 ∷ 15 ∷ [])))) c.last_bytes.ensures c.bytes_before.ensures
+    ap₂ (λ (l f : List ℕ). digits_l 256 16 (number_l 65536 (pick_l 0 (l ++ f)
+    (4 ∷ 12 ∷ 5 ∷ 13 ∷ 6 ∷ 14 ∷ 7 ∷ 15 ∷ [])))) c.last_bytes.ensures c.bytes_before.ensures
     ∙ (vector_lanes c.args.units c.fits-units.0 c.fits-units.1).1

@@ -16,8 +16,10 @@ loop-k-preserved c =
     let fits = c.type_inv.bytes (place + k) in
     let byte : get_or bytes (place + k) 0 < 256 = omega arith in
     let first_is : (get_or c.turned_at-firsts.result k 0 + 128) % 256 ≡ get_or bytes (place + k) 0 = omega (arith, c.turned_at-firsts.ensures k within, byte) in
-    let second_is : get_or c.tails_at-seconds.result k 0 ≡ get_or bytes (place + k + 1) 0 % 64 = c.tails_at-seconds.ensures k within ∙ ap (λ n. get_or bytes n 0 % 64) second in
-    let third_is : get_or c.tails_at-thirds.result k 0 ≡ get_or bytes (place + k + 2) 0 % 64 = c.tails_at-thirds.ensures k within ∙ ap (λ n. get_or bytes n 0 % 64) third in
+    let second_is : get_or c.tails_at-seconds.result k 0 ≡ get_or bytes (place + k + 1) 0 % 64 =
+    c.tails_at-seconds.ensures k within ∙ ap (λ n. get_or bytes n 0 % 64) second in
+    let third_is : get_or c.tails_at-thirds.result k 0 ≡ get_or bytes (place + k + 2) 0 % 64 =
+    c.tails_at-thirds.ensures k within ∙ ap (λ n. get_or bytes n 0 % 64) third in
     let r = c.unit_parts-low.result in
     let here : IsUnitAt bytes (place + k) (r.0 + 256 * r.1) =
     of_tails (get_or bytes (place + k) 0) (get_or bytes (place + k + 1) 0) (get_or bytes (place + k + 2) 0) (r.0 + 256 * r.1)
@@ -25,5 +27,6 @@ loop-k-preserved c =
       omega (arith, within),
       length-set c.loop-k.lows k r.0 ∙ i.1,
       length-set c.loop-k.highs k r.1 ∙ i.2,
-      filled (λ j unit. IsUnitAt bytes (place + j) unit) c.loop-k.lows c.loop-k.highs k r.0 r.1 (omega (arith, i.1, within)) (omega (arith, i.2, within)) i.3 here,
+      filled (λ j unit. IsUnitAt bytes (place + j) unit) c.loop-k.lows c.loop-k.highs k r.0 r.1 (omega (arith, i.1, within))
+          (omega (arith, i.2, within)) i.3 here,
     )

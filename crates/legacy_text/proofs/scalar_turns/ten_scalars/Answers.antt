@@ -11,7 +11,8 @@ loop-k-init c = (
   omega arith,
   refl,
   c.starts_at-bits.type_inv,
-  (λ some. stands_first c.args.bytes.now c.args.start c.starts_at-bits.result (omega (arith, c.if-bytes-start-lt34.false, c.requires.place)) c.requires.text c.starts_at-bits.ensures
+  (λ some. stands_first c.args.bytes.now c.args.start c.starts_at-bits.result
+      (omega (arith, c.if-bytes-start-lt34.false, c.requires.place)) c.requires.text c.starts_at-bits.ensures
       c.starts_at-bits.type_inv some),
 )
 
@@ -32,7 +33,8 @@ loop-k-preserved c =
             | inr l ↦ let none : bits ≡ 0 = omega arith in absurd (omega (arith, e.none none, some_rest))
           ] in
           rw (take_more_set c.loop-k.units k unit within)
-          (stands_more c.args.bytes.now c.args.start (take k c.loop-k.units) bits c.without_lowest-bits.result unit (omega (arith, c.if-bytes-start-lt34.false, c.requires.place))
+          (stands_more c.args.bytes.now c.args.start (take k c.loop-k.units) bits c.without_lowest-bits.result unit
+          (omega (arith, c.if-bytes-start-lt34.false, c.requires.place))
           some i.2 some_rest c.without_lowest-bits.type_inv (e.lowest some) (e.others some)
           (λ j h here. rw here (c.units_at-all.ensures (trailing_zeros w32 bits) (rw here at h))) (i.3 some))),
     )

@@ -10,4 +10,5 @@ returns c =
     let bytes = c.args.bytes.now in
     let place = c.args.place in
     both_halves (λ k unit. IsUnitAt bytes (place + k) unit) front all c.put_units-2.ensures.before c.put_units.ensures.units
-    (λ k h. let e : place + 16 + k ≡ place + (16 + k) = omega arith in subst (λ n. IsUnitAt bytes n (get_or all (16 + k) 0)) e (c.put_units-2.ensures.units k h))
+    (λ k h. let e : place + 16 + k ≡ place + (16 + k) = omega arith in subst (λ n. IsUnitAt bytes n (get_or all (16 + k) 0)) e
+    (c.put_units-2.ensures.units k h))

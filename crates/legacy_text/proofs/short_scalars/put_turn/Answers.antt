@@ -9,7 +9,8 @@ loop-k-init g c = (
   omega arith,
   omega arith,
   refl,
-  (λ e. scalars_none _ c.args.bytes.now c.args.start _ _ (omega (arith, c.requires.read)) c.requires.text (ap (λ n. take n c.args.dst.now) (add-zero c.args.at))),
+  (λ e. scalars_none _ c.args.bytes.now c.args.start _ _ (omega (arith, c.requires.read)) c.requires.text
+      (ap (λ n. take n c.args.dst.now) (add-zero c.args.at))),
 )
 
 pub bounds-bytes-place : goal.bounds-bytes-place

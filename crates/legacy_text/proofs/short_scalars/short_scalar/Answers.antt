@@ -17,6 +17,7 @@ returns-clause-scalar c = λ u short.
           let pair = reads_pair c.args.bytes.now c.args.place c.requires u short (omega (arith, low, w.if-first-lt128.false)) in
           let two : 1 + c.from.result ≡ 2 = omega (arith, c.from.ensures, low, short, w.if-first-lt128.false) in
           let bound : second < 256 = let fits = c.type_inv.bytes (c.args.place + 1) in omega arith in
-          let is : c.if-first-lt128.scalar ≡ first * 64 + second - 0x3080 = omega (arith, w.scalar-is, low, c.from_le_bytes-both.ensures, pair.0, bound, short) in
+          let is : c.if-first-lt128.scalar ≡ first * 64 + second - 0x3080 =
+          omega (arith, w.scalar-is, low, c.from_le_bytes-both.ensures, pair.0, bound, short) in
           rw (two, is) pair.1
     ]

@@ -9,7 +9,8 @@ pub returns-in-Some : goal.returns-in-Some
 returns-in-Some c = is_next Utf8 _ c.in-Some.c c.by_bytes.result (first_cons _ c.in-Some.c c.in-Some.ensures) c.by_bytes.ensures
 
 pub by_bytes-requires-clause-within : goal.by_bytes-requires-clause-within
-by_bytes-requires-clause-within c = rw c.as_bytes.ensures.value (utf8_inside c.args.text.now c.args.place c.in-Some.c c.requires.in_range c.requires.is_text c.in-Some.ensures)
+by_bytes-requires-clause-within c =
+    rw c.as_bytes.ensures.value (utf8_inside c.args.text.now c.args.place c.in-Some.c c.requires.in_range c.requires.is_text c.in-Some.ensures)
 
 pub by_bytes-requires-clause-stands : goal.by_bytes-requires-clause-stands
 by_bytes-requires-clause-stands c = rw c.as_bytes.ensures.value (utf8_stands c.args.text.now c.args.place c.in-Some.c c.requires.is_text c.in-Some.ensures)

@@ -4,8 +4,10 @@ use Rattle.std.specs.Char.Utf16.{surrogate_pair_char}
 use lib.ListN.{get_or-eq_default}
 use Rattle.legacy_text.proofs.Texts.{first_none, first_unpaired, first_low, first_high, first_pair}
 use Rattle.legacy_text.proofs.text_source.unit_scalar_at.Goals as goal
-use Rattle.legacy_text.proofs.text_source.unit_scalar_at.Goals.{then-high-lt55296-via-then-high-lt55296, then-high-lt55296-via-else-high-lt55296+then-high-ge57344}
-use Rattle.legacy_text.proofs.text_source.unit_scalar_at.Goals.{then-high-ge56320-via-then-high-ge56320, then-high-ge56320-via-else-high-ge56320+then-units-place-lt2}
+use Rattle.legacy_text.proofs.text_source.unit_scalar_at.Goals.{then-high-lt55296-via-then-high-lt55296}
+use Rattle.legacy_text.proofs.text_source.unit_scalar_at.Goals.{then-high-lt55296-via-else-high-lt55296+then-high-ge57344}
+use Rattle.legacy_text.proofs.text_source.unit_scalar_at.Goals.{then-high-ge56320-via-then-high-ge56320}
+use Rattle.legacy_text.proofs.text_source.unit_scalar_at.Goals.{then-high-ge56320-via-else-high-ge56320+then-units-place-lt2}
 
 pub returns-then-place-units : goal.returns-then-place-units
 returns-then-place-units c = sym (first_none c.args.units.now c.args.place (omega arith))
@@ -20,7 +22,8 @@ returns-then-high-lt55296 c =
     let made : c.scalar_of.result ≡ get_or xs at 0 = c.scalar_of.ensures ∙ sym value in
     elim c.then-high-lt55296.branch [
       | then-high-lt55296-via-then-high-lt55296 w ↦ let low : get_or xs at 0 < 55296 = omega arith in ap Some made ∙ first_low xs at within low
-      | then-high-lt55296-via-else-high-lt55296+then-high-ge57344 w ↦ let high : 57344 ≤ get_or xs at 0 = omega arith in ap Some made ∙ first_high xs at within high
+      | then-high-lt55296-via-else-high-lt55296+then-high-ge57344 w ↦ let high : 57344 ≤ get_or xs at 0 =
+          omega arith in ap Some made ∙ first_high xs at within high
     ]
 
 pub returns-then-high-ge56320 : goal.returns-then-high-ge56320

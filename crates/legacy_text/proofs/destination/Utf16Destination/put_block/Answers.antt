@@ -5,4 +5,5 @@ use Rattle.legacy_text.proofs.destination.Utf16Destination.put_block.Goals as go
 
 pub returns-clause-written : goal.returns-clause-written
 returns-clause-written c =
-    simp map-id (stored _ _ c.args.self.now.buffer.now c.args.block (omega (arith, c.fits-block.0, c.requires)) (omega (arith, c.fits-block.0, c.ascii_count-count.ensures.most)))
+    simp map-id (stored _ _ c.args.self.now.buffer.now c.args.block (omega (arith, c.fits-block.0, c.requires))
+    (omega (arith, c.fits-block.0, c.ascii_count-count.ensures.most)))

@@ -8,7 +8,8 @@ pub returns-clause-contents : goal.returns-clause-contents
 returns-clause-contents c =
     let buffer = c.args.self.now.buffer.now in
     stored c.args.self.now.filled 8 buffer c.args.units (omega (arith, c.fits-units.0, c.requires.room)) (omega (arith, c.fits-units.0))
-    ∙ ap (λ (l : List ℕ). take c.args.self.now.filled buffer ++ l) (take_all 8 c.args.units (omega (arith, c.fits-units.0)) ∙ sym (own-units c.args.units c.fits-units.1))
+    ∙ ap (λ (l : List ℕ). take c.args.self.now.filled buffer ++ l)
+    (take_all 8 c.args.units (omega (arith, c.fits-units.0)) ∙ sym (own-units c.args.units c.fits-units.1))
 
 pub returns-clause-room : goal.returns-clause-room
 returns-clause-room c =

@@ -5,4 +5,5 @@ use Rattle.legacy_text.proofs.destination.Utf8DestinationDestination.put_eight.G
 pub returns-clause-room : goal.returns-clause-room
 returns-clause-room c =
     let put = c.put_eight_units-self in
-    free-after c.args.self.now.filled put.result c.args.self.now.buffer.now put.new.dst _ put.auto.dst (omega arith) (omega (arith, put.ensures.most, c.requires.room)) put.ensures.written
+    free-after c.args.self.now.filled put.result c.args.self.now.buffer.now put.new.dst _ put.auto.dst (omega arith)
+    (omega (arith, put.ensures.most, c.requires.room)) put.ensures.written

@@ -10,14 +10,11 @@ invariant_of-self c =
     let step = utf8_step s.text.now s.place c.in-Some.c s.in_range s.is_text c.in-Some.ensures in
     record { in_range = rw c.len_utf8.ensures.value step.within; is_text = rw c.len_utf8.ensures.value step.is_text }
 
-pub returns-in-Some-clause-left : goal.returns-in-Some-clause-left
-returns-in-Some-clause-left c =
+pub returns-in-Some : goal.returns-in-Some
+returns-in-Some c =
     let s = c.args.self.now in
     let step = utf8_step s.text.now s.place c.in-Some.c s.in_range s.is_text c.in-Some.ensures in
-    ap (λ n. chars (drop (s.place + n) s.text.now)) c.len_utf8.ensures.value ∙ step.behind
-
-pub returns-in-Some-clause-passed : goal.returns-in-Some-clause-passed
-returns-in-Some-clause-passed c =
-    let s = c.args.self.now in
-    let step = utf8_step s.text.now s.place c.in-Some.c s.in_range s.is_text c.in-Some.ensures in
-    ap (λ n. s.place + n) c.len_utf8.ensures.len ∙ ap (λ x. s.place + unit_count Utf8 x) (sym step.first)
+    record {
+      left = ap (λ n. chars (drop (s.place + n) s.text.now)) c.len_utf8.ensures.value ∙ step.behind;
+      passed = ap (λ n. s.place + n) c.len_utf8.ensures.len ∙ ap (λ x. s.place + unit_count Utf8 x) (sym step.first);
+    }
