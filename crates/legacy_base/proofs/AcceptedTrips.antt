@@ -1,11 +1,13 @@
 -- Facts about accepted indexes for round trips. The jis0208 entries that Shift_JIS decodes to private use are empty.
 -- Each private-use row has a private-use scalar, a lead and a trail.
-use Rattle.std.proofs.Common.{◌≡◌, ℕ, zero, suc, ◌+◌, List, [], ◌∷◌, Bool, true, false, cond, not, ◌==◌, Option, Some, None, slice_index, refl, ap, arith, find, option_map, eqb-true}
+use Rattle.std.proofs.Common.{◌≡◌, ℕ, zero, suc, ◌+◌, List, [], ◌∷◌, Bool, true, false, cond, not, ◌==◌, Option, Some, None, slice_index, refl, ap, arith}
+use Rattle.std.proofs.Common.{find, option_map, eqb-true}
 use Rattle.legacy_tables.specs.declared.tables.IndexName.{IndexName}
 use Rattle.legacy_tables.specs.declared.tables.IndexName.TheVariants as names
 use Rattle.legacy_tables.specs.declared.tables.TableError.TheVariants.{BadEntry, NotEmpty, PuaOrder, PuaScalar, PuaBytes}
 use Rattle.legacy_tables.specs.Indexes.{FlatIndexes, gb18030_pua_of}
-use Rattle.legacy_tables.specs.TableChecks.{AreAccepted, is_entry, must_be_empty, entry_fault, entries_fault, follows_scalar, is_row_scalar, are_row_bytes, row_fault, rows_fault}
+use Rattle.legacy_tables.specs.TableChecks.{AreAccepted, is_entry, must_be_empty, entry_fault, entries_fault, follows_scalar, is_row_scalar, are_row_bytes}
+use Rattle.legacy_tables.specs.TableChecks.{row_fault, rows_fault}
 use Rattle.legacy_tables.proofs.Accepted.{or_none, parts}
 use Rattle.legacy_base.proofs.TwoByteTrips.{PrivateUseIsEmpty}
 use Rattle.legacy_base.proofs.Gb18030Trip.{AreGoodRows}
@@ -48,7 +50,9 @@ private_use-empty flat accepted = record {
 good_row : (place : ℕ) (before : Option ℕ) (r : ℕ × ℕ × ℕ) → row_fault place before r ≡ None → (is_row_scalar r.0 ≡ true) × (are_row_bytes r.1 r.2 ≡ true)
 good_row place before r h = by_tests (follows_scalar before r.0) (is_row_scalar r.0) (are_row_bytes r.1 r.2) h
   where
-    by_tests : (t u v : Bool) → cond (not t) (Some (PuaOrder place)) (cond (not u) (Some (PuaScalar place)) (cond (not v) (Some (PuaBytes place)) None)) ≡ None → (u ≡ true) × (v ≡ true)
+    by_tests : (t u v : Bool) →
+        cond (not t) (Some (PuaOrder place)) (cond (not u) (Some (PuaScalar place)) (cond (not v) (Some (PuaBytes place)) None)) ≡ None →
+        (u ≡ true) × (v ≡ true)
     by_tests true true true h = (refl, refl)
     by_tests true true false h = cc
     by_tests true false v h = cc

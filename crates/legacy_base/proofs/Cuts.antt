@@ -48,8 +48,8 @@ cut_at front p b rest f e pos = rw e (ap (λ (es : List DecodeEvent). front_even
         rw (← q) (cut-skip front n (p + 1) rest)
 
 -- the events of the first front, and then those of the bytes after it
-pub cut-front : (front : ℕ → List ℕ → Front) (b : ℕ) (rest : List ℕ) → 0 < front_length (front b rest) →
-    cut front 0 0 (b ∷ rest) ≡ front_events 0 (front b rest) ++ shift (front_length (front b rest)) (cut front 0 0 (drop (front_length (front b rest)) (b ∷ rest)))
+pub cut-front : (front : ℕ → List ℕ → Front) (b : ℕ) (rest : List ℕ) → 0 < front_length (front b rest) → cut front 0 0 (b ∷ rest)
+    ≡ front_events 0 (front b rest) ++ shift (front_length (front b rest)) (cut front 0 0 (drop (front_length (front b rest)) (b ∷ rest)))
 cut-front front b rest pos =
     let n = front_length (front b rest) in
     rw (cut_at front 0 b rest (front b rest) refl pos, zero-add n, cut_from_zero front 0 n (drop n (b ∷ rest))) refl

@@ -7,7 +7,8 @@ use Rattle.legacy_base.specs.Formulas.{Formula, number, Term, to_come, weighed, 
 use Rattle.legacy_base.specs.Grammar.{Grammar, profile}
 use Rattle.legacy_base.specs.States.{DecoderState}
 use Rattle.legacy_base.specs.Acts.{has_reported}
-use Rattle.legacy_base.specs.Lengths.{value, has_lengths, answer, LengthQuery, to_utf16, to_utf8, to_utf8_without_replacement, weighted, utf16_units, state_formula, query_answer, room}
+use Rattle.legacy_base.specs.Lengths.{value, has_lengths, answer, LengthQuery, to_utf16, to_utf8, to_utf8_without_replacement, weighted, utf16_units}
+use Rattle.legacy_base.specs.Lengths.{state_formula, query_answer, room}
 
 -- the result is the value of the formula
 pub answer-value : (f : Formula) (k : ℕ) → answer f ≡ Some k → value f ≡ k
@@ -21,7 +22,8 @@ module _ (n n' m m' u u' : Formula) (hn : value n ≤ value n') (hm : value m �
   value-rises paired = hu
   value-rises (constant k) = omega arith
   value-rises (a ⊞ b) = let x = value-rises a in let y = value-rises b in omega arith
-  value-rises (a ⊠ b) = mul-le (value (formula a n m u)) (value (formula b n m u)) (value (formula a n' m' u')) (value (formula b n' m' u')) (value-rises a) (value-rises b)
+  value-rises (a ⊠ b) =
+      mul-le (value (formula a n m u)) (value (formula b n m u)) (value (formula a n' m' u')) (value (formula b n' m' u')) (value-rises a) (value-rises b)
   value-rises (halved a) = let x = value-rises a in omega arith
 
 -- each formula is monotonic in the number of bytes
@@ -31,8 +33,10 @@ rises query g held m n h = by_query query where
   state : DecoderState
   state = record { grammar = g; held = held }
 
-  by_term : (t : Term) → value (formula t (number m) (weighted state m) (utf16_units state m)) ≤ value (formula t (number n) (weighted state n) (utf16_units state n))
-  by_term t = value-rises (number m) (number n) (weighted state m) (weighted state n) (utf16_units state m) (utf16_units state n) h (omega arith) (omega arith) t
+  by_term : (t : Term) →
+      value (formula t (number m) (weighted state m) (utf16_units state m)) ≤ value (formula t (number n) (weighted state n) (utf16_units state n))
+  by_term t =
+      value-rises (number m) (number n) (weighted state m) (weighted state n) (utf16_units state m) (utf16_units state n) h (omega arith) (omega arith) t
 
   by_query : (q : LengthQuery) → value (state_formula q state m) ≤ value (state_formula q state n)
   by_query to_utf16 = by_term (profile g).utf16_length

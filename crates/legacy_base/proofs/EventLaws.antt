@@ -1,6 +1,7 @@
 -- Each malformed sequence in the events of a list lies inside the list and has one to four bytes. Each scalar is a
 -- Unicode scalar value.
-use Rattle.std.proofs.Common.{◌≡◌, ℕ, zero, suc, ◌+◌, ◌≤◌, List, [], ◌∷◌, ◌++◌, length, drop, map, Bool, true, false, cond, Option, Some, None, refl, arith, length-drop, All}
+use Rattle.std.proofs.Common.{◌≡◌, ℕ, zero, suc, ◌+◌, ◌≤◌, List, [], ◌∷◌, ◌++◌, length, drop, map, Bool, true, false, cond, Option, Some, None, refl, arith}
+use Rattle.std.proofs.Common.{length-drop, All}
 use Rattle.std.specs.Prelude.{◌==◌, is_some}
 use Rattle.std.specs.Char.{IsScalar}
 use Rattle.std.proofs.lemmas.Bool.{eqb-true, cond_both}
@@ -32,7 +33,8 @@ module _ (Q : Type 0) where
   further : (k size whole : ℕ) → k + size ≤ whole → (events : List DecodeEvent) → AreOf size events → AreOf whole (shift k events)
   further k size whole h [] a = none_of whole
   further k size whole h (x ∷ events) a =
-      All-cons (IsEventOf whole Q) (shift_event k x) (shift k events) (one x (All-head (IsEventOf size Q) x events a)) (further k size whole h events (All-tail (IsEventOf size Q) x events a))
+      All-cons (IsEventOf whole Q) (shift_event k x) (shift k events) (one x (All-head (IsEventOf size Q) x events a))
+      (further k size whole h events (All-tail (IsEventOf size Q) x events a))
     where
       one : (x : DecodeEvent) → IsEventOf size Q x → IsEventOf whole Q (shift_event k x)
       one (Scalar c) i = i
@@ -41,7 +43,8 @@ module _ (Q : Type 0) where
   scalars_of : (size : ℕ) (scalars : List ℕ) → (Q → AreScalars scalars) → AreOf size (map Scalar scalars)
   scalars_of size [] h = none_of size
   scalars_of size (c ∷ scalars) h =
-      All-cons (IsEventOf size Q) (Scalar c) (map Scalar scalars) (λ q. All-head IsScalar c scalars (h q)) (scalars_of size scalars (λ q. All-tail IsScalar c scalars (h q)))
+      All-cons (IsEventOf size Q) (Scalar c) (map Scalar scalars) (λ q. All-head IsScalar c scalars (h q))
+      (scalars_of size scalars (λ q. All-tail IsScalar c scalars (h q)))
 
   front_of : (size : ℕ) (f : Front) → IsFrontOf size Q f → AreOf size (front_events 0 f)
   front_of size (reads n scalars) i = scalars_of size scalars i.scalars
@@ -86,7 +89,8 @@ module _ (Q : Type 0) where
 
     module _ (n : ℕ) (below : (mode : Mode) (bytes : List ℕ) → length bytes ≤ n → AreOf (length bytes) (iso_2022_jp_events jis0208 mode bytes)) where
       -- an escape byte that begins no valid escape
-      lone_of : (mode : Mode) (rest : List ℕ) → length rest ≤ n → part_mode (esc ∷ rest) ≡ None → AreOf (length (esc ∷ rest)) (iso_2022_jp_events jis0208 mode (esc ∷ rest))
+      lone_of : (mode : Mode) (rest : List ℕ) → length rest ≤ n → part_mode (esc ∷ rest) ≡ None →
+          AreOf (length (esc ∷ rest)) (iso_2022_jp_events jis0208 mode (esc ∷ rest))
       lone_of mode rest h none =
           rw (step_no_escape jis0208 mode rest none)
           (front_and (length (esc ∷ rest)) (malformed 1) (length rest) (iso_2022_jp_events jis0208 mode rest)
@@ -114,16 +118,16 @@ module _ (Q : Type 0) where
 
       -- a byte of a body
       module _ (mode : Mode) (b : ℕ) (plain : (b == esc) ≡ false) where
-        one_of : (rest : List ℕ) (f : Front) → length rest ≤ n → iso_2022_jp_front jis0208 mode b (first_part rest) ≡ f → IsFrontOf (suc (length (first_part rest))) Q f → front_length f ≡ 1
-            → AreOf (length (b ∷ rest)) (iso_2022_jp_events jis0208 mode (b ∷ rest))
+        one_of : (rest : List ℕ) (f : Front) → length rest ≤ n → iso_2022_jp_front jis0208 mode b (first_part rest) ≡ f →
+            IsFrontOf (suc (length (first_part rest))) Q f → front_length f ≡ 1 → AreOf (length (b ∷ rest)) (iso_2022_jp_events jis0208 mode (b ∷ rest))
         one_of rest f h is i one =
             let shorter = first_shorter rest in
             let all = front_and (length (b ∷ rest)) f (length rest) (iso_2022_jp_events jis0208 mode rest)
             (wider (suc (length (first_part rest))) (length (b ∷ rest)) f (omega arith) i) (omega (arith, one)) (below mode rest h) in
             rw (step_one jis0208 mode b rest f plain is one) (rw one at all)
 
-        two_of : (rest : List ℕ) (f : Front) → length rest ≤ n → iso_2022_jp_front jis0208 mode b (first_part rest) ≡ f → IsFrontOf (suc (length (first_part rest))) Q f → front_length f ≡ 2
-            → AreOf (length (b ∷ rest)) (iso_2022_jp_events jis0208 mode (b ∷ rest))
+        two_of : (rest : List ℕ) (f : Front) → length rest ≤ n → iso_2022_jp_front jis0208 mode b (first_part rest) ≡ f →
+            IsFrontOf (suc (length (first_part rest))) Q f → front_length f ≡ 2 → AreOf (length (b ∷ rest)) (iso_2022_jp_events jis0208 mode (b ∷ rest))
         two_of [] f h is i two = let within = i.within in absurd (omega (arith, within, two))
         two_of (t ∷ rest) f h is i two = by_test (t == esc) refl
           where
@@ -134,7 +138,8 @@ module _ (Q : Type 0) where
                 let i' = rw e at i in
                 let shorter = first_shorter rest in
                 let all = front_and (length (b ∷ t ∷ rest)) f (length rest) (iso_2022_jp_events jis0208 mode rest)
-                (wider (suc (suc (length (first_part rest)))) (length (b ∷ t ∷ rest)) f (omega arith) i') (omega (arith, two)) (below mode rest (omega arith)) in
+                (wider (suc (suc (length (first_part rest)))) (length (b ∷ t ∷ rest)) f (omega arith) i') (omega (arith, two))
+                (below mode rest (omega arith)) in
                 rw (step_two jis0208 mode b t rest f plain e is' two) (rw two at all)
 
         body_of : (rest : List ℕ) → length rest ≤ n → AreOf (length (b ∷ rest)) (iso_2022_jp_events jis0208 mode (b ∷ rest))
@@ -157,8 +162,8 @@ module _ (Q : Type 0) where
     iso_within zero mode (b ∷ bytes) h = absurd (omega arith)
     iso_within (suc n) mode (b ∷ bytes) h = by_test (iso_within n) (b == esc) refl
       where
-        by_test : ((mode : Mode) (bytes : List ℕ) → length bytes ≤ n → AreOf (length bytes) (iso_2022_jp_events jis0208 mode bytes)) → (e : Bool) → (b == esc) ≡ e
-            → AreOf (length (b ∷ bytes)) (iso_2022_jp_events jis0208 mode (b ∷ bytes))
+        by_test : ((mode : Mode) (bytes : List ℕ) → length bytes ≤ n → AreOf (length bytes) (iso_2022_jp_events jis0208 mode bytes)) → (e : Bool) →
+            (b == esc) ≡ e → AreOf (length (b ∷ bytes)) (iso_2022_jp_events jis0208 mode (b ∷ bytes))
         by_test below true e = rw (eqb-true b esc e) (escape_of n below mode bytes (omega arith))
         by_test below false e = body_of n below mode b e bytes (omega arith)
 

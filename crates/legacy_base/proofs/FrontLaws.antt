@@ -1,6 +1,7 @@
 -- Each front of each codec has one to four bytes of its list, so every list has events. A front gives one or two
 -- scalars, or is malformed.
-use Rattle.std.proofs.Common.{◌≡◌, ℕ, suc, ◌+◌, ◌-◌, ◌*◌, ◌≤◌, ◌<◌, List, [], ◌∷◌, Bool, true, false, not, cond, length, ◌||◌, ◌==◌, Option, Some, None, option_to_list, refl, arith}
+use Rattle.std.proofs.Common.{◌≡◌, ℕ, suc, ◌+◌, ◌-◌, ◌*◌, ◌≤◌, ◌<◌, List, [], ◌∷◌, Bool, true, false, not, cond, length, ◌||◌, ◌==◌, Option, Some, None}
+use Rattle.std.proofs.Common.{option_to_list, refl, arith}
 use Rattle.std.specs.Option.{option_map_or}
 use Rattle.std.specs.Int.{is_in_range}
 use Rattle.std.specs.Char.{IsScalar, is_ascii, is_ascii_digit}
@@ -103,7 +104,8 @@ module _ {P : Type 0} where
   byte rest c h = front_of-reads_or _ 1 (c ∷ []) (malformed 1) (omega arith) (omega arith) (omega arith) (give-one c h) (bad rest)
 
   -- an ASCII byte is its own scalar
-  ascii_or : (b : ℕ) (rest : List ℕ) (other : Front) → IsFrontOf (suc (length rest)) P other → IsFrontOf (suc (length rest)) P (cond (is_ascii b) (reads 1 (b ∷ [])) other)
+  ascii_or : (b : ℕ) (rest : List ℕ) (other : Front) → IsFrontOf (suc (length rest)) P other →
+      IsFrontOf (suc (length rest)) P (cond (is_ascii b) (reads 1 (b ∷ [])) other)
   ascii_or b rest other h = front_of-cond _ (is_ascii b) _ _ (λ e. byte rest b (λ _. is_ascii-scalar b e)) h
 
   -- a lead, with or without a trail
@@ -125,14 +127,16 @@ module _ {P : Type 0} (index : List ℕ) (checked : P → AreScalars index) wher
   big5-gives : (p : ℕ) → MayGive P (big5_scalars index p)
   big5-gives p =
       give-cond (p == 1133) _ _ (λ _. give-two 0xCA 0x304 refl refl) (give-cond (p == 1135) _ _ (λ _. give-two 0xCA 0x30C refl refl)
-      (give-cond (p == 1164) _ _ (λ _. give-two 0xEA 0x304 refl refl) (give-cond (p == 1166) _ _ (λ _. give-two 0xEA 0x30C refl refl) (give-idx index checked p))))
+      (give-cond (p == 1164) _ _ (λ _. give-two 0xEA 0x304 refl refl)
+      (give-cond (p == 1166) _ _ (λ _. give-two 0xEA 0x30C refl refl) (give-idx index checked p))))
 
   pub big5_front-of : (b : ℕ) (rest : List ℕ) → IsFrontOf (suc (length rest)) P (big5_front index b rest)
   unfolding big5_front big5_pair
   big5_front-of b rest =
       ascii_or b rest _ (front_of-cond _ (is_lead b) _ _ (λ _. pair _ rest (λ t. give-pointer (big5_scalars index) (big5_pointer b t) big5-gives)) (bad rest))
 
-  pub lead_front-of : (is_lead_byte : ℕ → Bool) (pointers : ℕ → ℕ → Option ℕ) (b : ℕ) (rest : List ℕ) → IsFrontOf (suc (length rest)) P (lead_front is_lead_byte pointers index b rest)
+  pub lead_front-of : (is_lead_byte : ℕ → Bool) (pointers : ℕ → ℕ → Option ℕ) (b : ℕ) (rest : List ℕ) →
+      IsFrontOf (suc (length rest)) P (lead_front is_lead_byte pointers index b rest)
   unfolding lead_front lead_pair
   lead_front-of is_lead_byte pointers b rest =
       ascii_or b rest _ (front_of-cond _ (is_lead_byte b) _ _ (λ _. pair _ rest (λ t. give-pointer _ (pointers b t) (give-idx index checked))) (bad rest))
@@ -145,7 +149,8 @@ module _ {P : Type 0} (index : List ℕ) (checked : P → AreScalars index) wher
   shift_jis_front-of b rest =
       front_of-cond _ (is_ascii b || b == 0x80) _ _ (λ e. byte rest b (λ _. shift_jis-single b e))
       (front_of-cond _ (is_katakana_byte b) _ _ (λ e. byte rest _ (λ _. katakana-scalar b e))
-      (front_of-cond _ (is_shift_jis_lead b) _ _ (λ _. pair _ rest (λ t. give-pointer (shift_jis_scalars index) (shift_jis_pointer b t) shift_jis-gives)) (bad rest)))
+      (front_of-cond _ (is_shift_jis_lead b) _ _ (λ _. pair _ rest (λ t. give-pointer (shift_jis_scalars index) (shift_jis_pointer b t) shift_jis-gives))
+      (bad rest)))
 
   euc_jp-gives : (lead t : ℕ) → MayGive P (euc_jp_scalars index lead t)
   euc_jp-gives lead t = give-cond (is_euc_jp_lead t) _ _ (λ _. give-idx index checked _) give-none
@@ -162,7 +167,8 @@ module _ {P : Type 0} (jis0208 jis0212 : List ℕ) (checked : P → AreScalars j
   unfolding euc_jp_katakana
   euc_jp_katakana-of [] = bad []
   euc_jp_katakana-of (t ∷ rest) =
-      let other : IsFrontOf (suc (suc (length rest))) P (trail_rule 1 t) = front_of-trail_rule (suc (suc (length rest))) 1 t (omega arith) (omega arith) (omega arith) in
+      let other : IsFrontOf (suc (suc (length rest))) P (trail_rule 1 t) =
+      front_of-trail_rule (suc (suc (length rest))) 1 t (omega arith) (omega arith) (omega arith) in
       front_of-cond _ (is_katakana_byte t) _ _
       (λ e. front_of-reads_or _ 2 (katakana_of t ∷ []) _ (omega arith) (omega arith) (omega arith) (give-one _ (λ _. katakana-scalar t e)) other) other
 
@@ -174,12 +180,14 @@ module _ {P : Type 0} (jis0208 jis0212 : List ℕ) (checked : P → AreScalars j
       (front_of-cond _ (b == 0x8F) _ _ (λ _. euc_jp_second-of jis0212 checked_too rest)
       (front_of-cond _ (is_euc_jp_lead b) _ _ (λ _. pair _ rest (euc_jp-gives jis0208 checked b)) (bad rest))))
 
-module _ {P : Type 0} (index : List ℕ) (ranges : List (ℕ × ℕ)) (checked : P → AreScalars index) (ranged : (p c : ℕ) → range ranges p ≡ Some c → P → IsScalar c) where
+module _ {P : Type 0} (index : List ℕ) (ranges : List (ℕ × ℕ)) (checked : P → AreScalars index)
+    (ranged : (p c : ℕ) → range ranges p ≡ Some c → P → IsScalar c) where
   gb18030_third-of : (first second : ℕ) (rest : List ℕ) → IsFrontOf (suc (suc (length rest))) P (gb18030_third ranges first second rest)
   unfolding gb18030_third gb18030_fourth
   gb18030_third-of first second [] = front_of-malformed _ 2 (omega arith) (omega arith) (omega arith)
   gb18030_third-of first second (third ∷ []) =
-      front_of-cond _ (is_lead third) _ _ (λ _. front_of-malformed _ 3 (omega arith) (omega arith) (omega arith)) (front_of-malformed _ 1 (omega arith) (omega arith) (omega arith))
+      front_of-cond _ (is_lead third) _ _ (λ _. front_of-malformed _ 3 (omega arith) (omega arith) (omega arith))
+      (front_of-malformed _ 1 (omega arith) (omega arith) (omega arith))
   gb18030_third-of first second (third ∷ fourth ∷ rest) =
       let p = gb18030_range_pointer first second third fourth in
       let other : IsFrontOf (suc (suc (suc (suc (length rest))))) P (malformed 1) = front_of-malformed _ 1 (omega arith) (omega arith) (omega arith) in
@@ -231,7 +239,8 @@ module _ {P : Type 0} (jis0208 : List ℕ) (checked : P → AreScalars jis0208) 
   iso_2022_jp_front-of two_byte b (t ∷ rest) =
       let two : IsFrontOf (suc (suc (length rest))) P (malformed 2) = front_of-malformed _ 2 (omega arith) (omega arith) (omega arith) in
       front_of-cond _ (not (is_in_range 0x21 0x7E b)) _ _ (λ _. bad (t ∷ rest))
-      (front_of-cond _ (is_in_range 0x21 0x7E t) _ _ (λ _. front_of-reads_or _ 2 _ _ (omega arith) (omega arith) (omega arith) (give-idx jis0208 checked _) two) two)
+      (front_of-cond _ (is_in_range 0x21 0x7E t) _ _ (λ _. front_of-reads_or _ 2 _ _ (omega arith) (omega arith) (omega arith)
+      (give-idx jis0208 checked _) two) two)
 
 -- both fronts have at most two bytes
 short_cond : (t : Bool) (f g : Front) → front_length f ≤ 2 → front_length g ≤ 2 → front_length (cond t f g) ≤ 2
@@ -244,13 +253,15 @@ short_pair (Some c) = omega arith
 
 pub iso_2022_jp_front-short : (jis0208 : List ℕ) (mode : Mode) (b : ℕ) (rest : List ℕ) → front_length (iso_2022_jp_front jis0208 mode b rest) ≤ 2
 unfolding iso_2022_jp_front
-iso_2022_jp_front-short jis0208 ascii b rest = short_cond ((b == 0x0E || b == 0x0F) || not (is_ascii b)) (malformed 1) (reads 1 (b ∷ [])) (omega arith) (omega arith)
+iso_2022_jp_front-short jis0208 ascii b rest =
+    short_cond ((b == 0x0E || b == 0x0F) || not (is_ascii b)) (malformed 1) (reads 1 (b ∷ [])) (omega arith) (omega arith)
 iso_2022_jp_front-short jis0208 roman b rest =
     let plain : Front = reads 1 (b ∷ []) in
     let overline : Front = cond (b == 0x7E) (reads 1 (0x203E ∷ [])) plain in
     short_cond ((b == 0x0E || b == 0x0F) || not (is_ascii b)) (malformed 1) (cond (b == 0x5C) (reads 1 (0xA5 ∷ [])) overline) (omega arith)
     (short_cond (b == 0x5C) (reads 1 (0xA5 ∷ [])) overline (omega arith) (short_cond (b == 0x7E) (reads 1 (0x203E ∷ [])) plain (omega arith) (omega arith)))
-iso_2022_jp_front-short jis0208 katakana b rest = short_cond (is_in_range 0x21 0x5F b) (reads 1 ((0xFF61 + (b - 0x21)) ∷ [])) (malformed 1) (omega arith) (omega arith)
+iso_2022_jp_front-short jis0208 katakana b rest =
+    short_cond (is_in_range 0x21 0x5F b) (reads 1 ((0xFF61 + (b - 0x21)) ∷ [])) (malformed 1) (omega arith) (omega arith)
 iso_2022_jp_front-short jis0208 two_byte b [] = omega arith
 iso_2022_jp_front-short jis0208 two_byte b (t ∷ rest) =
     let entry = idx jis0208 ((b - 0x21) * 94 + (t - 0x21)) in

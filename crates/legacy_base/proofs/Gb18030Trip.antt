@@ -1,7 +1,8 @@
 -- The codes of GB18030 and GBK decode to their scalars. The codes of private-use rows decode to the scalars of the
 -- rows' bytes.
 use Rattle.std.proofs.Common.{◌≡◌, ℕ, ◌+◌, ◌-◌, ◌*◌, ◌/◌, ◌%◌, ◌<◌, ◌≤◌, List, [], ◌∷◌, length, get_or, Bool, true}
-use Rattle.std.proofs.Common.{false, cond, not, ◌||◌, ◌==◌, nat_lt, Option, Some, None, option_map, option_to_list, refl, sym, ◌∙◌, arith, if◌then◌else◌, eqb-true}
+use Rattle.std.proofs.Common.{false, cond, not, ◌||◌, ◌==◌, nat_lt, Option, Some, None, option_map, option_to_list, refl, sym, ◌∙◌, arith, if◌then◌else◌}
+use Rattle.std.proofs.Common.{eqb-true}
 use Rattle.std.proofs.lemmas.Bool.{false≢true}
 use Rattle.std.proofs.lemmas.Bool.Decides.{nat_tests}
 use Rattle.std.proofs.Math.Nat.{div-add-mod}
@@ -55,7 +56,8 @@ pair_decodes : (index : List ℕ) (ranges : List (ℕ × ℕ)) (c : ℕ) (bytes 
     → option_map gb18030_pair_bytes (gb18030_pointer_of index c) ≡ Some bytes → Decodes (gb18030_front index ranges) bytes c
 pair_decodes index ranges c bytes short h =
     let m = mapped gb18030_pair_bytes (gb18030_pointer_of index c) bytes h in
-    two_bytes (gb18030_front index ranges) _ _ c bytes m.2 (λ more. pair_back index ranges m.0 c more short (leads_back every_pointer index c _ (first-taken every_pointer index c) m.0 m.1))
+    two_bytes (gb18030_front index ranges) _ _ c bytes m.2 (λ more. pair_back index ranges m.0 c more short
+    (leads_back every_pointer index c _ (first-taken every_pointer index c) m.0 m.1))
 
 -- ---- four-byte codes
 
@@ -103,17 +105,19 @@ pair_has index lead trail c h = by_tests (is_in_range 0x40 0x7E trail) (is_in_ra
     alone None h = cc
     alone (Some s) h = refl
 
-    by_tests : (t u : Bool)
-        → is_empty (cond t (option_to_list (idx index ((lead - 0x81) * 190 + (trail - 0x40)))) (cond u (option_to_list (idx index ((lead - 0x81) * 190 + (trail - 0x41)))) [])) ≡ false
-        → cond t (option_to_list (idx index ((lead - 0x81) * 190 + (trail - 0x40)))) (cond u (option_to_list (idx index ((lead - 0x81) * 190 + (trail - 0x41)))) [])
-        ≡ get_or (cond t (option_to_list (idx index ((lead - 0x81) * 190 + (trail - 0x40)))) (cond u (option_to_list (idx index ((lead - 0x81) * 190 + (trail - 0x41)))) [])) 0 c ∷ []
+    by_tests : (t u : Bool) → is_empty (cond t (option_to_list (idx index ((lead - 0x81) * 190 + (trail - 0x40))))
+        (cond u (option_to_list (idx index ((lead - 0x81) * 190 + (trail - 0x41)))) [])) ≡ false
+        → cond t (option_to_list (idx index ((lead - 0x81) * 190 + (trail - 0x40))))
+        (cond u (option_to_list (idx index ((lead - 0x81) * 190 + (trail - 0x41)))) [])
+        ≡ get_or (cond t (option_to_list (idx index ((lead - 0x81) * 190 + (trail - 0x40))))
+        (cond u (option_to_list (idx index ((lead - 0x81) * 190 + (trail - 0x41)))) [])) 0 c ∷ []
     by_tests true u h = alone _ h
     by_tests false true h = alone _ h
     by_tests false false h = cc
 
 -- a row whose bytes have a scalar decodes to it
-row_back : (index : List ℕ) (ranges : List (ℕ × ℕ)) (lead trail c : ℕ) (more : List ℕ) → are_row_bytes lead trail ≡ true → gb18030_scalars index lead trail ≡ c ∷ []
-    → gb18030_front index ranges lead (trail ∷ more) ≡ reads 2 (c ∷ [])
+row_back : (index : List ℕ) (ranges : List (ℕ × ℕ)) (lead trail c : ℕ) (more : List ℕ) → are_row_bytes lead trail ≡ true →
+    gb18030_scalars index lead trail ≡ c ∷ [] → gb18030_front index ranges lead (trail ∷ more) ≡ reads 2 (c ∷ [])
 unfolding gb18030_front gb18030_second
 row_back index ranges lead trail c more bytes gives =
     let lead_ascii : is_ascii lead ≡ false = grind (arith, nat_tests) in
@@ -143,8 +147,7 @@ no_private_use_fold index pua c h = by_row (gb18030_pua_of pua c) h
             by_test true e h = eqb-true s c e
             by_test false e h = cc
 
-    by_row : (o : Option (ℕ × ℕ))
-        → option_map_or (λ row. not (list_any (λ s. s == c) (gb18030_scalars index row.0 row.1))) o false ≡ false
+    by_row : (o : Option (ℕ × ℕ)) → option_map_or (λ row. not (list_any (λ s. s == c) (gb18030_scalars index row.0 row.1))) o false ≡ false
         → (option_map_or (λ row. get_or (gb18030_scalars index row.0 row.1) 0 c) o c ≡ c)
         × (option_map_or (λ row. is_empty (gb18030_scalars index row.0 row.1)) o false ≡ false)
     by_row None h = (refl, refl)
@@ -161,7 +164,8 @@ module _ (index : List ℕ) (ranges : List (ℕ × ℕ)) (pua : List (ℕ × ℕ
       by_row None e = refl
       by_row (Some row) e = absurd (false≢true (sym h ∙ (rows.each c row.0 row.1 e).0))
 
-  ascii_decodes : (c : ℕ) (bytes : List ℕ) → is_ascii c ≡ true → Some (c ∷ []) ≡ Some bytes → Decodes (gb18030_front index ranges) bytes (private_use_scalar index pua c)
+  ascii_decodes : (c : ℕ) (bytes : List ℕ) → is_ascii c ≡ true → Some (c ∷ []) ≡ Some bytes →
+      Decodes (gb18030_front index ranges) bytes (private_use_scalar index pua c)
   unfolding gb18030_front
   ascii_decodes c bytes e h =
       let plain : is_row_scalar c ≡ false = grind (arith, nat_tests) in
@@ -172,7 +176,8 @@ module _ (index : List ℕ) (ranges : List (ℕ × ℕ)) (pua : List (ℕ × ℕ
       → Decodes (gb18030_front index ranges) bytes (get_or (gb18030_scalars index lead trail) 0 c)
   row_decodes c lead trail bytes e kept h =
       let s = get_or (gb18030_scalars index lead trail) 0 c in
-      two_bytes (gb18030_front index ranges) lead trail s bytes (cc) (λ more. row_back index ranges lead trail s more (rows.each c lead trail e).1 (pair_has index lead trail c kept))
+      two_bytes (gb18030_front index ranges) lead trail s bytes (cc)
+      (λ more. row_back index ranges lead trail s more (rows.each c lead trail e).1 (pair_has index lead trail c kept))
 
   -- the code comes from the rows, then from the index, then from `other`
   pair_or : (c : ℕ) (bytes : List ℕ) (other : Option (List ℕ)) → has_lost_row index pua c ≡ false
@@ -185,8 +190,7 @@ module _ (index : List ℕ) (ranges : List (ℕ × ℕ)) (pua : List (ℕ × ℕ
       by_index None is h = else_by h
       by_index (Some pair) is h = pair_decodes index ranges c bytes short (is ∙ h)
 
-      by_row : (o : Option (ℕ × ℕ)) → gb18030_pua_of pua c ≡ o
-          → option_map_or (λ row. is_empty (gb18030_scalars index row.0 row.1)) o false ≡ false
+      by_row : (o : Option (ℕ × ℕ)) → gb18030_pua_of pua c ≡ o → option_map_or (λ row. is_empty (gb18030_scalars index row.0 row.1)) o false ≡ false
           → option_or (option_or (option_map (λ row. row.0 ∷ row.1 ∷ []) o) (option_map gb18030_pair_bytes (gb18030_pointer_of index c))) other ≡ Some bytes
           → Decodes (gb18030_front index ranges) bytes (option_map_or (λ row. get_or (gb18030_scalars index row.0 row.1) 0 c) o c)
       by_row None is kept h = by_index (option_map gb18030_pair_bytes (gb18030_pointer_of index c)) refl h
@@ -198,7 +202,8 @@ module _ (index : List ℕ) (ranges : List (ℕ × ℕ)) (pua : List (ℕ × ℕ
   gb18030-decodes c bytes kept h = by_tests (is_ascii c) (c == 0xE5E5) refl h
     where
       by_tests : (t u : Bool) → is_ascii c ≡ t
-          → cond t (Some (c ∷ [])) (cond u None (option_or (gb18030_pair_code pua index c) (option_map gb18030_range_bytes (range_pointer_of ranges c)))) ≡ Some bytes
+          → cond t (Some (c ∷ [])) (cond u None (option_or (gb18030_pair_code pua index c) (option_map gb18030_range_bytes (range_pointer_of ranges c))))
+          ≡ Some bytes
           → Decodes (gb18030_front index ranges) bytes (private_use_scalar index pua c)
       by_tests true u e h = ascii_decodes c bytes e h
       by_tests false true e h = cc

@@ -13,13 +13,16 @@ use Rattle.legacy_tables.specs.Tables.{index_list}
 use Rattle.legacy_tables.proofs.Accepted.{index-scalars, big5-scalars, jis0208-scalars, jis0212-scalars, gb18030-scalars, range-scalar}
 use Rattle.legacy_tables.proofs.AcceptedTable.{table-scalars}
 use Rattle.legacy_base.proofs.Cuts.{cut-front}
-use Rattle.legacy_base.proofs.FrontLaws.{single_byte_front-of, user_defined_front-of, lead_front-of, big5_front-of, shift_jis_front-of, euc_jp_front-of, gb18030_front-of}
+use Rattle.legacy_base.proofs.FrontLaws.{single_byte_front-of, user_defined_front-of, lead_front-of, big5_front-of, shift_jis_front-of, euc_jp_front-of}
+use Rattle.legacy_base.proofs.FrontLaws.{gb18030_front-of}
 
 read_by : (grammar : Grammar) (accepted : Type 0) (front : ℕ → List ℕ → Front) → ((bytes : List ℕ) → events_of grammar bytes ≡ cut front 0 0 bytes) →
     ((b : ℕ) (rest : List ℕ) → IsFrontOf (length (b ∷ rest)) (accepted × IsByte b) (front b rest)) → IsReadByFronts grammar accepted front
 read_by grammar accepted front is has b rest =
-    let n = front_length (front b rest) in
-    (has b rest, is (b ∷ rest) ∙ cut-front front b rest ((has b rest).some) ∙ ap (λ es. front_events 0 (front b rest) ++ shift n es) (sym (is (drop n (b ∷ rest)))))
+    let n = front_length (front b rest) in (
+      has b rest,
+      is (b ∷ rest) ∙ cut-front front b rest ((has b rest).some) ∙ ap (λ es. front_events 0 (front b rest) ++ shift n es) (sym (is (drop n (b ∷ rest)))),
+    )
 
 pub read_by_fronts : AreReadByFronts
 unfolding events_of
@@ -37,7 +40,8 @@ read_by_fronts = record {
 }
 
 pub none_of_nothing : HasNoneOfNothing
-unfolding events_of cut replacement_events utf16_events units_of has_odd_byte units_events iso_2022_jp_events parts_of part_mode escape_length escape_events part_events parts_events
+unfolding events_of cut replacement_events utf16_events units_of has_odd_byte units_events iso_2022_jp_events
+    parts_of part_mode escape_length escape_events part_events parts_events
 none_of_nothing (replacement true) = refl
 none_of_nothing _ = refl
 

@@ -9,8 +9,10 @@ use Rattle.legacy_base.specs.declared.results.EncodeEvent.{EncodeEvent}
 use Rattle.legacy_base.specs.declared.results.EncodeEvent.TheVariants.{Byte}
 use Rattle.legacy_base.specs.EncodeEvents.{code_events, code_length}
 use Rattle.legacy_base.specs.EncoderProfile.{EncoderMode, in_ascii, in_roman, in_two_byte}
-use Rattle.legacy_base.specs.Iso2022Jp.{is_mode_control, iso_2022_jp_pointer_of, iso_2022_jp_pair, iso_2022_jp_code, iso_2022_jp_reported, is_roman_scalar, is_pair}
-use Rattle.legacy_base.specs.Iso2022Jp.{is_two_byte_scalar, keeps_mode, roman_or_ascii, settled_mode, mode_behind, escape_to, escape_between, iso_2022_jp_text_events}
+use Rattle.legacy_base.specs.Iso2022Jp.{is_mode_control, iso_2022_jp_pointer_of, iso_2022_jp_pair, iso_2022_jp_code, iso_2022_jp_reported, is_roman_scalar}
+use Rattle.legacy_base.specs.Iso2022Jp.{is_pair}
+use Rattle.legacy_base.specs.Iso2022Jp.{is_two_byte_scalar, keeps_mode, roman_or_ascii, settled_mode, mode_behind, escape_to, escape_between}
+use Rattle.legacy_base.specs.Iso2022Jp.{iso_2022_jp_text_events}
 
 -- ---- the rules for the code of a scalar c
 
@@ -69,8 +71,7 @@ mode_by-twice false false romans mode = refl
 
 module _ (jis0208 katakana_index : List ℕ) where
   -- a scalar written as a pair determines the mode, and is not a scalar of Roman mode
-  pair_settles : (c : ℕ) → is_two_byte_scalar jis0208 katakana_index c ≡ true
-      → (keeps_mode jis0208 katakana_index c ≡ false) × (is_roman_scalar c ≡ false)
+  pair_settles : (c : ℕ) → is_two_byte_scalar jis0208 katakana_index c ≡ true → (keeps_mode jis0208 katakana_index c ≡ false) × (is_roman_scalar c ≡ false)
   unfolding iso_2022_jp_code
   pair_settles c h =
       pair_settles_by c (is_mode_control c) (is_ascii c) (eqb c 0xA5) (eqb c 0x203E) (eqb c 0x5C || eqb c 0x7E)
@@ -81,7 +82,8 @@ module _ (jis0208 katakana_index : List ℕ) where
   unfolding settled_mode
   settled_mode-settled mode [] = roman_or_ascii-twice mode
   settled_mode-settled mode (c ∷ before) =
-      settled_twice (keeps_mode jis0208 katakana_index c) (is_roman_scalar c) (settled_mode jis0208 katakana_index mode before) (settled_mode-settled mode before)
+      settled_twice (keeps_mode jis0208 katakana_index c) (is_roman_scalar c) (settled_mode jis0208 katakana_index mode before)
+      (settled_mode-settled mode before)
 
   settled_mode-behind : (mode : EncoderMode) (before : List ℕ)
       → settled_mode jis0208 katakana_index mode before ≡ roman_or_ascii (mode_behind jis0208 katakana_index mode before)
@@ -89,22 +91,19 @@ module _ (jis0208 katakana_index : List ℕ) where
   settled_mode-behind mode [] = refl
   settled_mode-behind mode (c ∷ before) = go (is_two_byte_scalar jis0208 katakana_index c) refl
     where
-      go : (t : Bool) → is_two_byte_scalar jis0208 katakana_index c ≡ t
-          → settled_mode jis0208 katakana_index mode (c ∷ before)
+      go : (t : Bool) → is_two_byte_scalar jis0208 katakana_index c ≡ t → settled_mode jis0208 katakana_index mode (c ∷ before)
           ≡ roman_or_ascii (cond t in_two_byte (settled_mode jis0208 katakana_index mode (c ∷ before)))
       go true h = let settles = pair_settles c h in rw (settles.0, settles.1) refl
       go false h = sym (settled_mode-settled mode (c ∷ before))
 
   -- the mode after two parts is the mode after the second, begun in the mode after the first
-  settled_mode-append : (mode : EncoderMode) (second first : List ℕ)
-      → settled_mode jis0208 katakana_index mode (second ++ first)
+  settled_mode-append : (mode : EncoderMode) (second first : List ℕ) → settled_mode jis0208 katakana_index mode (second ++ first)
       ≡ settled_mode jis0208 katakana_index (mode_behind jis0208 katakana_index mode first) second
   unfolding settled_mode
   settled_mode-append mode [] first = settled_mode-behind mode first
   settled_mode-append mode (c ∷ second) first = rw (settled_mode-append mode second first) refl
 
-  pub mode_behind-append : (mode : EncoderMode) (second first : List ℕ)
-      → mode_behind jis0208 katakana_index mode (second ++ first)
+  pub mode_behind-append : (mode : EncoderMode) (second first : List ℕ) → mode_behind jis0208 katakana_index mode (second ++ first)
       ≡ mode_behind jis0208 katakana_index (mode_behind jis0208 katakana_index mode first) second
   unfolding mode_behind
   mode_behind-append mode [] first = refl
@@ -151,12 +150,12 @@ module _ (jis0208 katakana_index : List ℕ) where
   mode_behind-nothing mode = refl
 
   -- the events of a scalar, and then those of the rest in the mode after it
-  pub text_events-scalar : (mode : EncoderMode) (c : ℕ) (more : List ℕ) (ended : Bool)
-      → text_events mode (c ∷ more) ended
+  pub text_events-scalar : (mode : EncoderMode) (c : ℕ) (more : List ℕ) (ended : Bool) → text_events mode (c ∷ more) ended
       ≡ map Byte (escape_between mode (mode_for mode c)) ++ (own_events c ++ text_events (mode_for mode c) more ended)
   unfolding iso_2022_jp_text_events
   text_events-scalar mode c more ended =
-      ap (λ m. (map Byte (escape_between m (mode_for mode c)) ++ own_events c) ++ iso_2022_jp_text_events jis0208 katakana_index mode (c ∷ []) more ended) (mode_behind-nothing mode)
+      ap (λ m. (map Byte (escape_between m (mode_for mode c)) ++ own_events c) ++ iso_2022_jp_text_events jis0208 katakana_index mode (c ∷ []) more ended)
+      (mode_behind-nothing mode)
       ∙ append_assoc (map Byte (escape_between mode (mode_for mode c))) (own_events c) (iso_2022_jp_text_events jis0208 katakana_index mode (c ∷ []) more ended)
       ∙ ap (λ l. map Byte (escape_between mode (mode_for mode c)) ++ (own_events c ++ l)) (text_events-behind mode [] (c ∷ []) more ended)
 
@@ -239,16 +238,14 @@ module _ (jis0208 katakana_index : List ℕ) where
   code-looked_up c f a y o = rw (f, a, ne_eqb c 0xA5 y, ne_eqb c 0x203E o) refl
 
   pub at_pair : (mode : EncoderMode) (c p : ℕ) → is_mode_control c ≡ false → is_ascii c ≡ false → (c ≡ 0xA5 → ⊥) → (c ≡ 0x203E → ⊥)
-      → iso_2022_jp_pointer_of jis0208 katakana_index c ≡ Some p
-      → IsWritten mode c in_two_byte (Some ((p / 94 + 0x21) ∷ (p % 94 + 0x21) ∷ []))
+      → iso_2022_jp_pointer_of jis0208 katakana_index c ≡ Some p → IsWritten mode c in_two_byte (Some ((p / 94 + 0x21) ∷ (p % 94 + 0x21) ∷ []))
   at_pair mode c p f a y o e = let k = code-looked_up c f a y o ∙ ap (option_map iso_2022_jp_pair) e in record {
     mode_is = mode_for-by mode c ∙ rw k refl;
     code_is = k;
   }
 
   pub at_none : (mode : EncoderMode) (c : ℕ) → is_mode_control c ≡ false → is_ascii c ≡ false → (c ≡ 0xA5 → ⊥) → (c ≡ 0x203E → ⊥)
-      → iso_2022_jp_pointer_of jis0208 katakana_index c ≡ None
-      → IsWritten mode c (roman_or_ascii mode) None
+      → iso_2022_jp_pointer_of jis0208 katakana_index c ≡ None → IsWritten mode c (roman_or_ascii mode) None
   at_none mode c f a y o e = let k = code-looked_up c f a y o ∙ ap (option_map iso_2022_jp_pair) e in record {
     mode_is = mode_for-by mode c ∙ rw (k, a) refl;
     code_is = k;

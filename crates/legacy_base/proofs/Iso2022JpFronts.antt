@@ -1,6 +1,7 @@
 -- One equation for each kind of front: the events of a list are those of its first front, and then those of the rest.
 -- With these a list is read from first to last, although the definition cuts it at escapes before any mode is known.
-use Rattle.std.proofs.Common.{◌≡◌, ℕ, suc, ◌+◌, Bool, true, false, cond, Option, Some, None, List, [], ◌∷◌, ◌++◌, length, refl, sym, ap, zero-add, one-add, append_assoc, subst, arith}
+use Rattle.std.proofs.Common.{◌≡◌, ℕ, suc, ◌+◌, Bool, true, false, cond, Option, Some, None, List, [], ◌∷◌, ◌++◌, length, refl, sym, ap, zero-add, one-add}
+use Rattle.std.proofs.Common.{append_assoc, subst, arith}
 use Rattle.std.specs.Prelude.{◌==◌, ◌&&◌, is_some}
 use Rattle.std.proofs.lemmas.Bool.{eqb-true, ne_eqb, cond_both}
 use Rattle.std.proofs.lemmas.Bool.Decides.{nat_tests}
@@ -19,10 +20,8 @@ unfolding iso_2022_jp_events parts_of parts_events part_events escape_events esc
 step_end jis0208 mode = refl
 
 -- a front of one byte
-pub step_one : (jis0208 : List ℕ) (mode : Mode) (b : ℕ) (more : List ℕ) (f : Front)
-    → (b == esc) ≡ false
-    → iso_2022_jp_front jis0208 mode b (first_part more) ≡ f
-    → front_length f ≡ 1
+pub step_one : (jis0208 : List ℕ) (mode : Mode) (b : ℕ) (more : List ℕ) (f : Front) → (b == esc) ≡ false
+    → iso_2022_jp_front jis0208 mode b (first_part more) ≡ f → front_length f ≡ 1
     → iso_2022_jp_events jis0208 mode (b ∷ more) ≡ front_events 0 f ++ shift 1 (iso_2022_jp_events jis0208 mode more)
 unfolding cut
 step_one jis0208 mode b more f plain is one =
@@ -30,11 +29,8 @@ step_one jis0208 mode b more f plain is one =
     (rw (cut_from_zero (iso_2022_jp_front jis0208 mode) 0 1 (first_part more), shift-append, shift-shift, append_assoc, one-add))
 
 -- a front of two bytes
-pub step_two : (jis0208 : List ℕ) (mode : Mode) (b t : ℕ) (more : List ℕ) (f : Front)
-    → (b == esc) ≡ false
-    → (t == esc) ≡ false
-    → iso_2022_jp_front jis0208 mode b (t ∷ first_part more) ≡ f
-    → front_length f ≡ 2
+pub step_two : (jis0208 : List ℕ) (mode : Mode) (b t : ℕ) (more : List ℕ) (f : Front) → (b == esc) ≡ false → (t == esc) ≡ false
+    → iso_2022_jp_front jis0208 mode b (t ∷ first_part more) ≡ f → front_length f ≡ 2
     → iso_2022_jp_events jis0208 mode (b ∷ t ∷ more) ≡ front_events 0 f ++ shift 2 (iso_2022_jp_events jis0208 mode more)
 unfolding cut
 step_two jis0208 mode b t more f plain plain_t is two =
@@ -58,17 +54,16 @@ part_mode-first [] = refl
 part_mode-first (a ∷ []) = cond_both (a == esc) [] (a ∷ []) (λ l. part_mode (esc ∷ l) ≡ None) (λ _. refl) (λ _. refl)
 part_mode-first (a ∷ b ∷ more) =
     cond_both (a == esc) [] (a ∷ first_part (b ∷ more)) (λ l. part_mode (esc ∷ l) ≡ escape_mode a b) (λ h. rw (eqb-true a esc h))
-    (λ _. cond_both (b == esc) [] (b ∷ first_part more) (λ l. part_mode (esc ∷ a ∷ l) ≡ escape_mode a b) (λ k. rw (eqb-true b esc k) (sym (no_third a))) (λ _. refl))
+    (λ _. cond_both (b == esc) [] (b ∷ first_part more) (λ l. part_mode (esc ∷ a ∷ l) ≡ escape_mode a b) (λ k. rw (eqb-true b esc k) (sym (no_third a)))
+    (λ _. refl))
 
 -- the test for a valid escape directly before another one, by the bytes after the first
-bare-first : (a b : ℕ) (more : List ℕ)
-    → (length (esc ∷ a ∷ b ∷ first_part more) == 3 && begins_valid (later_parts more)) ≡ is_some (part_mode more)
+bare-first : (a b : ℕ) (more : List ℕ) → (length (esc ∷ a ∷ b ∷ first_part more) == 3 && begins_valid (later_parts more)) ≡ is_some (part_mode more)
 unfolding part_mode
 bare-first a b [] = refl
 bare-first a b (x ∷ rest) = by_test (x == esc) refl
   where
-    by_test : (t : Bool) → (x == esc) ≡ t
-        → (length (esc ∷ a ∷ b ∷ cond t [] (x ∷ first_part rest)) == 3
+    by_test : (t : Bool) → (x == esc) ≡ t → (length (esc ∷ a ∷ b ∷ cond t [] (x ∷ first_part rest)) == 3
         && begins_valid (cond t ((x ∷ first_part rest) ∷ later_parts rest) (later_parts rest)))
         ≡ is_some (part_mode (x ∷ rest))
     by_test true h =
@@ -77,12 +72,18 @@ bare-first a b (x ∷ rest) = by_test (x == esc) refl
     by_test false h = rw (no_escape x rest h, ne_eqb (suc (suc (suc (suc (length (first_part rest)))))) 3 (λ e. omega arith))
 
 -- an escape byte that begins no valid escape: the bytes after it are read in the old mode
-pub step_no_escape : (jis0208 : List ℕ) (mode : Mode) (rest : List ℕ)
-    → part_mode (esc ∷ rest) ≡ None
+pub step_no_escape : (jis0208 : List ℕ) (mode : Mode) (rest : List ℕ) → part_mode (esc ∷ rest) ≡ None
     → iso_2022_jp_events jis0208 mode (esc ∷ rest) ≡ Bad 0 1 ∷ shift 1 (iso_2022_jp_events jis0208 mode rest)
 unfolding parts_events part_events escape_events escape_length cut
 step_no_escape jis0208 mode rest none =
-    rw (events-by_parts jis0208 mode (esc ∷ rest), events-by_parts jis0208 mode rest, shift-zero, part_mode-first rest, none, zero-add (suc (length (first_part rest))))
+    rw (
+      events-by_parts jis0208 mode (esc ∷ rest),
+      events-by_parts jis0208 mode rest,
+      shift-zero,
+      part_mode-first rest,
+      none,
+      zero-add (suc (length (first_part rest))),
+    )
     (rw (parts_events-at jis0208 mode (suc (length (first_part rest))) (later_parts rest), cut_from_zero (iso_2022_jp_front jis0208 mode) 0 1 (first_part rest))
     (rw (shift-append, shift-shift, one-add)))
 
@@ -91,8 +92,7 @@ unfolding part_mode
 escape_ahead a b mode body h = h
 
 -- a valid escape: the bytes after it are read in its mode
-pub step_escape : (jis0208 : List ℕ) (mode new_mode : Mode) (a b : ℕ) (more : List ℕ)
-    → escape_mode a b ≡ Some new_mode
+pub step_escape : (jis0208 : List ℕ) (mode new_mode : Mode) (a b : ℕ) (more : List ℕ) → escape_mode a b ≡ Some new_mode
     → iso_2022_jp_events jis0208 mode (esc ∷ a ∷ b ∷ more)
     ≡ cond (is_some (part_mode more)) (Bad 0 3 ∷ []) [] ++ shift 3 (iso_2022_jp_events jis0208 new_mode more)
 unfolding parts_events part_events escape_events escape_length cut

@@ -6,7 +6,8 @@ use Rattle.std.proofs.lemmas.Bool.{cond_both}
 use Rattle.legacy_base.specs.declared.results.DecodeEvent.TheVariants.{Bad}
 use Rattle.legacy_base.specs.Events.{shift}
 use Rattle.legacy_base.specs.Fronts.{cut}
-use Rattle.legacy_base.specs.Iso2022Jp.{Mode, esc, parts_of, part_mode, escape_length, begins_valid, iso_2022_jp_front, escape_events, part_events, parts_events, iso_2022_jp_events}
+use Rattle.legacy_base.specs.Iso2022Jp.{Mode, esc, parts_of, part_mode, escape_length, begins_valid, iso_2022_jp_front, escape_events, part_events}
+use Rattle.legacy_base.specs.Iso2022Jp.{parts_events, iso_2022_jp_events}
 use Rattle.legacy_base.proofs.Shifts.{shift-append}
 use Rattle.legacy_base.proofs.Cuts.{cut-place}
 
@@ -42,12 +43,12 @@ first_plain : (place : ℕ) (bytes : List ℕ) (next : List (List ℕ)) →
 unfolding part_mode escape_length escape_events
 first_plain place [] next = (refl, refl, refl)
 first_plain place (b ∷ bytes) next =
-    cond_both (b == esc) [] (b ∷ first_part bytes) (λ l. (part_mode l ≡ None) × (escape_length l ≡ 0) × (escape_events place l next ≡ [])) (λ _. (refl, refl, refl))
+    cond_both (b == esc) [] (b ∷ first_part bytes) (λ l. (part_mode l ≡ None) × (escape_length l ≡ 0) × (escape_events place l next ≡ []))
+    (λ _. (refl, refl, refl))
     (λ h. let none = no_escape b (first_part bytes) h in (none, rw (none, h), rw (none, h)))
 
 -- the first part is all body, in the mode in which the list begins
-first_events : (jis0208 : List ℕ) (mode : Mode) (place : ℕ) (bytes : List ℕ) (next : List (List ℕ))
-    → parts_events jis0208 mode place (first_part bytes ∷ next)
+first_events : (jis0208 : List ℕ) (mode : Mode) (place : ℕ) (bytes : List ℕ) (next : List (List ℕ)) → parts_events jis0208 mode place (first_part bytes ∷ next)
     ≡ cut (iso_2022_jp_front jis0208 mode) 0 place (first_part bytes)
     ++ parts_events jis0208 mode (place + length (first_part bytes)) next
 unfolding parts_events part_events
@@ -55,14 +56,12 @@ first_events jis0208 mode place bytes next =
     let plain = first_plain place bytes next in rw (plain.0, plain.2, plain.1, add-zero)
 
 -- the events of parts that begin k places later are shifted by k
-escape_events-shift : (k place : ℕ) (part : List ℕ) (next : List (List ℕ))
-    → escape_events (k + place) part next ≡ shift k (escape_events place part next)
+escape_events-shift : (k place : ℕ) (part : List ℕ) (next : List (List ℕ)) → escape_events (k + place) part next ≡ shift k (escape_events place part next)
 unfolding escape_events
 escape_events-shift k place [] next = refl
 escape_events-shift k place (b ∷ part) next = by_tests (is_some (part_mode (b ∷ part))) (b == esc) (length (b ∷ part) == 3 && begins_valid next)
   where
-    by_tests : (valid escapes bare : Bool) →
-        cond valid (cond bare (Bad (k + place) 3 ∷ []) []) (cond escapes (Bad (k + place) 1 ∷ []) [])
+    by_tests : (valid escapes bare : Bool) → cond valid (cond bare (Bad (k + place) 3 ∷ []) []) (cond escapes (Bad (k + place) 1 ∷ []) [])
         ≡ shift k (cond valid (cond bare (Bad place 3 ∷ []) []) (cond escapes (Bad place 1 ∷ []) []))
     by_tests true _ true = refl
     by_tests false true _ = refl
@@ -72,7 +71,12 @@ part_events-shift : (jis0208 : List ℕ) (mode : Mode) (k place : ℕ) (part : L
     → part_events jis0208 mode (k + place) part next ≡ shift k (part_events jis0208 mode place part next)
 unfolding part_events
 part_events-shift jis0208 mode k place part next =
-    rw (shift-append, add_assoc, escape_events-shift k place part next, cut-place (iso_2022_jp_front jis0208 mode) 0 k (place + escape_length part) (drop (escape_length part) part))
+    rw (
+      shift-append,
+      add_assoc,
+      escape_events-shift k place part next,
+      cut-place (iso_2022_jp_front jis0208 mode) 0 k (place + escape_length part) (drop (escape_length part) part),
+    )
 
 pub parts_events-shift : (jis0208 : List ℕ) (mode : Mode) (k place : ℕ) (parts : List (List ℕ))
     → parts_events jis0208 mode (k + place) parts ≡ shift k (parts_events jis0208 mode place parts)
@@ -87,10 +91,14 @@ pub parts_events-at : (jis0208 : List ℕ) (mode : Mode) (place : ℕ) (parts : 
 parts_events-at jis0208 mode place parts = rw (← (parts_events-shift jis0208 mode place 0 parts), add-zero)
 
 -- the events of a list: those of its first part in the given mode, and then those of the later parts
-pub events-by_parts : (jis0208 : List ℕ) (mode : Mode) (bytes : List ℕ)
-    → iso_2022_jp_events jis0208 mode bytes
+pub events-by_parts : (jis0208 : List ℕ) (mode : Mode) (bytes : List ℕ) → iso_2022_jp_events jis0208 mode bytes
     ≡ cut (iso_2022_jp_front jis0208 mode) 0 0 (first_part bytes)
     ++ shift (length (first_part bytes)) (parts_events jis0208 mode 0 (later_parts bytes))
 unfolding iso_2022_jp_events
 events-by_parts jis0208 mode bytes =
-    rw (parts_of-is bytes, first_events jis0208 mode 0 bytes (later_parts bytes), zero-add, parts_events-at jis0208 mode (length (first_part bytes)) (later_parts bytes))
+    rw (
+      parts_of-is bytes,
+      first_events jis0208 mode 0 bytes (later_parts bytes),
+      zero-add,
+      parts_events-at jis0208 mode (length (first_part bytes)) (later_parts bytes),
+    )

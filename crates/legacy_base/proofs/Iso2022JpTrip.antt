@@ -1,7 +1,8 @@
 -- The output of an ISO-2022-JP encoder decodes to its text. The escapes give no events, and each code is read in the
 -- mode in which it was written.
 use Rattle.std.proofs.Common.{◌≡◌, ℕ, ◌+◌, ◌-◌, ◌*◌, ◌/◌, ◌%◌, ◌<◌, List, [], ◌∷◌, ◌++◌, map, length, Bool, true, false}
-use Rattle.std.proofs.Common.{cond, ◌||◌, ◌&&◌, ◌==◌, Option, Some, None, is_some, option_and_then, inl, inr, refl, sym, ap, ◌∙◌, append_assoc, length-append, arith}
+use Rattle.std.proofs.Common.{cond, ◌||◌, ◌&&◌, ◌==◌, Option, Some, None, is_some, option_and_then, inl, inr, refl, sym, ap, ◌∙◌, append_assoc, length-append}
+use Rattle.std.proofs.Common.{arith}
 use Rattle.std.proofs.lemmas.Bool.{or_parts, cases_eq, true≢false}
 use Rattle.std.proofs.lemmas.Bool.Decides.{nat_tests}
 use Rattle.std.proofs.Math.Nat.{div-add-mod}
@@ -10,6 +11,7 @@ use Rattle.std.specs.Int.{is_in_range}
 use Rattle.std.specs.Char.{is_ascii}
 use Rattle.legacy_base.specs.declared.results.DecodeEvent.{DecodeEvent}
 use Rattle.legacy_base.specs.declared.results.DecodeEvent.TheVariants.{Scalar, Bad}
+use Rattle.legacy_base.specs.declared.results.EncodeEvent.{EncodeEvent}
 use Rattle.legacy_base.specs.declared.results.EncodeEvent.TheVariants.{Byte}
 use Rattle.legacy_base.specs.Events.{shift}
 use Rattle.legacy_base.specs.EncodeEvents.{code_events}
@@ -17,7 +19,8 @@ use Rattle.legacy_base.specs.Fronts.{reads}
 use Rattle.legacy_tables.specs.Pointers.{is_jis0208_pointer, euc_jp_pointer_of}
 use Rattle.legacy_base.specs.EncoderProfile.{EncoderMode, in_ascii, in_roman, in_two_byte}
 use Rattle.legacy_base.specs.Iso2022Jp.{Mode, ascii, roman, two_byte, esc, escape_mode, part_mode, iso_2022_jp_front, iso_2022_jp_events, is_whole_escape}
-use Rattle.legacy_base.specs.Iso2022Jp.{is_mode_control, iso_2022_jp_fold, iso_2022_jp_pointer_of, iso_2022_jp_pair, iso_2022_jp_code, iso_2022_jp_reported, is_neutral_scalar, is_roman_scalar, roman_or_ascii, escape_between}
+use Rattle.legacy_base.specs.Iso2022Jp.{is_mode_control, iso_2022_jp_fold, iso_2022_jp_pointer_of, iso_2022_jp_pair, iso_2022_jp_code, iso_2022_jp_reported}
+use Rattle.legacy_base.specs.Iso2022Jp.{is_neutral_scalar, is_roman_scalar, roman_or_ascii, escape_between}
 use Rattle.legacy_base.specs.Encoders.{iso_2022_jp}
 use Rattle.legacy_base.specs.RoundTrips.{is_fold, read_as, bytes_of, holds_adjacent_escapes}
 use Rattle.legacy_base.proofs.Shifts.{shift-zero, shift-append, shift-shift, shift-scalars}
@@ -53,6 +56,20 @@ escape_begins (e ∷ a ∷ b ∷ bytes) = by_test (e == esc)
     by_test true = refl
     by_test false = refl
 
+-- A property of the bytes between two modes, which are none or one escape.
+between : (P : EncoderMode → EncoderMode → List ℕ → Type 0) → ((mode : EncoderMode) → P mode mode [])
+    → ((old new : EncoderMode) (a b : ℕ) → escape_mode a b ≡ Some (read_in new) → (a == esc) ≡ false → (b == esc) ≡ false → P old new (esc ∷ a ∷ b ∷ []))
+    → (old new : EncoderMode) → P old new (escape_between old new)
+between P none some in_ascii in_ascii = none in_ascii
+between P none some in_roman in_roman = none in_roman
+between P none some in_two_byte in_two_byte = none in_two_byte
+between P none some in_ascii in_roman = some in_ascii in_roman 0x28 0x4A refl refl refl
+between P none some in_ascii in_two_byte = some in_ascii in_two_byte 0x24 0x42 refl refl refl
+between P none some in_roman in_ascii = some in_roman in_ascii 0x28 0x42 refl refl refl
+between P none some in_roman in_two_byte = some in_roman in_two_byte 0x24 0x42 refl refl refl
+between P none some in_two_byte in_ascii = some in_two_byte in_ascii 0x28 0x42 refl refl refl
+between P none some in_two_byte in_roman = some in_two_byte in_roman 0x28 0x4A refl refl refl
+
 module _ (jis0208 : List ℕ) where
   escape_alone : (old new : Mode) (a b : ℕ) (rest : List ℕ) → escape_mode a b ≡ Some new → is_whole_escape rest ≡ false
       → iso_2022_jp_events jis0208 old (esc ∷ a ∷ b ∷ rest) ≡ shift 3 (iso_2022_jp_events jis0208 new rest)
@@ -64,15 +81,10 @@ module _ (jis0208 : List ℕ) where
   escape_read : (old new : EncoderMode) (rest : List ℕ) → is_whole_escape rest ≡ false
       → iso_2022_jp_events jis0208 (read_in old) (escape_between old new ++ rest)
       ≡ shift (length (escape_between old new)) (iso_2022_jp_events jis0208 (read_in new) rest)
-  escape_read in_ascii in_ascii rest h = sym (shift-zero (iso_2022_jp_events jis0208 ascii rest))
-  escape_read in_roman in_roman rest h = sym (shift-zero (iso_2022_jp_events jis0208 roman rest))
-  escape_read in_two_byte in_two_byte rest h = sym (shift-zero (iso_2022_jp_events jis0208 two_byte rest))
-  escape_read in_ascii in_roman rest h = escape_alone ascii roman 0x28 0x4A rest refl h
-  escape_read in_ascii in_two_byte rest h = escape_alone ascii two_byte 0x24 0x42 rest refl h
-  escape_read in_roman in_ascii rest h = escape_alone roman ascii 0x28 0x42 rest refl h
-  escape_read in_roman in_two_byte rest h = escape_alone roman two_byte 0x24 0x42 rest refl h
-  escape_read in_two_byte in_ascii rest h = escape_alone two_byte ascii 0x28 0x42 rest refl h
-  escape_read in_two_byte in_roman rest h = escape_alone two_byte roman 0x28 0x4A rest refl h
+  escape_read old new rest h =
+      between (λ old new e. iso_2022_jp_events jis0208 (read_in old) (e ++ rest) ≡ shift (length e) (iso_2022_jp_events jis0208 (read_in new) rest))
+      (λ mode. sym (shift-zero (iso_2022_jp_events jis0208 (read_in mode) rest)))
+      (λ old new a b valid pa pb. escape_alone (read_in old) (read_in new) a b rest valid h) old new
 
   -- ---- the codes
 
@@ -133,22 +145,28 @@ adjacent-escape a b rest ha hb h =
     by_test true = refl
     by_test false = refl
 
-escape_adjacent : (old new : EncoderMode) (rest : List ℕ) → is_whole_escape rest ≡ false → holds_adjacent_escapes (escape_between old new ++ rest) ≡ holds_adjacent_escapes rest
-escape_adjacent in_ascii in_ascii rest h = refl
-escape_adjacent in_roman in_roman rest h = refl
-escape_adjacent in_two_byte in_two_byte rest h = refl
-escape_adjacent in_ascii in_roman rest h = adjacent-escape 0x28 0x4A rest refl refl h
-escape_adjacent in_ascii in_two_byte rest h = adjacent-escape 0x24 0x42 rest refl refl h
-escape_adjacent in_roman in_ascii rest h = adjacent-escape 0x28 0x42 rest refl refl h
-escape_adjacent in_roman in_two_byte rest h = adjacent-escape 0x24 0x42 rest refl refl h
-escape_adjacent in_two_byte in_ascii rest h = adjacent-escape 0x28 0x42 rest refl refl h
-escape_adjacent in_two_byte in_roman rest h = adjacent-escape 0x28 0x4A rest refl refl h
+escape_adjacent : (old new : EncoderMode) (rest : List ℕ) → is_whole_escape rest ≡ false →
+    holds_adjacent_escapes (escape_between old new ++ rest) ≡ holds_adjacent_escapes rest
+escape_adjacent old new rest h =
+    between (λ old new e. holds_adjacent_escapes (e ++ rest) ≡ holds_adjacent_escapes rest) (λ mode. refl)
+    (λ old new a b valid pa pb. adjacent-escape a b rest pa pb h) old new
 
 module _ (jis0208 katakana_index : List ℕ) where
+  abbrev code : ℕ → Option (List ℕ)
+  code = iso_2022_jp_code jis0208 katakana_index
+
+  abbrev mode_of : EncoderMode → ℕ → EncoderMode
+  mode_of = mode_for jis0208 katakana_index
+
+  -- the events of a text from a mode
+  abbrev sent : EncoderMode → List ℕ → List EncodeEvent
+  sent mode text = text_events jis0208 katakana_index mode text true
+
   -- bytes in a mode that decode to c, and neither begin with an escape nor contain one
   record OwnRead (mode : EncoderMode) (c : ℕ) (bytes : List ℕ) : Type 0 where
     plain : (more : List ℕ) → is_whole_escape (bytes ++ more) ≡ false
-    gives : (more : List ℕ) → iso_2022_jp_events jis0208 (read_in mode) (bytes ++ more) ≡ Scalar c ∷ shift (length bytes) (iso_2022_jp_events jis0208 (read_in mode) more)
+    gives : (more : List ℕ) →
+        iso_2022_jp_events jis0208 (read_in mode) (bytes ++ more) ≡ Scalar c ∷ shift (length bytes) (iso_2022_jp_events jis0208 (read_in mode) more)
     quiet : (more : List ℕ) → holds_adjacent_escapes (bytes ++ more) ≡ holds_adjacent_escapes more
 
   own_byte : (mode : EncoderMode) (c b : ℕ) → (b == esc) ≡ false
@@ -164,28 +182,32 @@ module _ (jis0208 katakana_index : List ℕ) where
       let q = is_pair_of jis0208 p c back in
       record {
         plain = λ more. plain_start (p / 94 + 0x21) ((p % 94 + 0x21) ∷ more) q.first_plain;
-        gives = λ more. step_two jis0208 two_byte (p / 94 + 0x21) (p % 94 + 0x21) more (reads 2 (c ∷ [])) q.first_plain q.second_plain (q.front (first_part more)) refl;
+        gives =
+            λ more. step_two jis0208 two_byte (p / 94 + 0x21) (p % 94 + 0x21) more (reads 2 (c ∷ [])) q.first_plain q.second_plain
+            (q.front (first_part more)) refl;
         quiet = λ more. adjacent-plain (p / 94 + 0x21) ((p % 94 + 0x21) ∷ more) q.first_plain ∙ adjacent-plain (p % 94 + 0x21) more q.second_plain;
       }
 
-  own_neutral : (mode : EncoderMode) (c : ℕ) → is_ascii c ≡ true → is_mode_control c ≡ false → (c == 0x5C || c == 0x7E) ≡ false → OwnRead (roman_or_ascii mode) c (c ∷ [])
+  own_neutral : (mode : EncoderMode) (c : ℕ) → is_ascii c ≡ true → is_mode_control c ≡ false → (c == 0x5C || c == 0x7E) ≡ false →
+      OwnRead (roman_or_ascii mode) c (c ∷ [])
   own_neutral mode c a m o = by_mode mode (or_parts (c == 0x0E || c == 0x0F) (c == esc) m) (or_parts (c == 0x5C) (c == 0x7E) o)
     where
-      by_mode : (mode : EncoderMode) → ((c == 0x0E || c == 0x0F) ≡ false) × ((c == esc) ≡ false) → ((c == 0x5C) ≡ false) × ((c == 0x7E) ≡ false) → OwnRead (roman_or_ascii mode) c (c ∷ [])
+      by_mode : (mode : EncoderMode) → ((c == 0x0E || c == 0x0F) ≡ false) × ((c == esc) ≡ false) → ((c == 0x5C) ≡ false) × ((c == 0x7E) ≡ false) →
+          OwnRead (roman_or_ascii mode) c (c ∷ [])
       by_mode in_ascii p q = own_byte in_ascii c c p.1 (λ rest. front-ascii jis0208 c rest a p.0)
       by_mode in_two_byte p q = own_byte in_ascii c c p.1 (λ rest. front-ascii jis0208 c rest a p.0)
       by_mode in_roman p q = own_byte in_roman c c p.1 (λ rest. front-roman jis0208 c rest a p.0 q.0 q.1)
 
   -- a scalar with a known mode and code
   own_written : (mode new : EncoderMode) (c scalar : ℕ) (own bytes : List ℕ) → IsWritten jis0208 katakana_index mode c new (Some own)
-      → iso_2022_jp_code jis0208 katakana_index c ≡ Some bytes → OwnRead new scalar own → OwnRead (mode_for jis0208 katakana_index mode c) scalar bytes
+      → code c ≡ Some bytes → OwnRead new scalar own → OwnRead (mode_of mode c) scalar bytes
   own_written mode new c scalar own bytes w is o = let same = same_code (sym w.code_is ∙ is) in rw (w.mode_is, ← same) o
     where
       same_code : Some own ≡ Some bytes → own ≡ bytes
       same_code h = cc
 
   -- a scalar known to have no code
-  no_code : (mode new : EncoderMode) (c : ℕ) (bytes : List ℕ) → IsWritten jis0208 katakana_index mode c new None → iso_2022_jp_code jis0208 katakana_index c ≡ Some bytes → ⊥
+  no_code : (mode new : EncoderMode) (c : ℕ) (bytes : List ℕ) → IsWritten jis0208 katakana_index mode c new None → code c ≡ Some bytes → ⊥
   no_code mode new c bytes w is = let none = sym w.code_is ∙ is in cc
 
   -- the scalar that is looked up for c, and its pointer
@@ -215,40 +237,43 @@ module _ (jis0208 katakana_index : List ℕ) where
   ascii_stands c h = let plain : is_fold (iso_2022_jp jis0208 katakana_index) c ≡ false = grind (arith, nat_tests) in no_fold c plain
 
   -- the code of a scalar decodes to `own_scalar`, in the scalar's mode
-  own_read : (mode : EncoderMode) (c : ℕ) (bytes : List ℕ)
-      → iso_2022_jp_code jis0208 katakana_index c ≡ Some bytes → OwnRead (mode_for jis0208 katakana_index mode c) (own_scalar c) bytes
+  own_read : (mode : EncoderMode) (c : ℕ) (bytes : List ℕ) → code c ≡ Some bytes → OwnRead (mode_of mode c) (own_scalar c) bytes
   own_read mode c bytes is = by_tests (is_mode_control c) (is_ascii c) (c == 0x5C || c == 0x7E) refl refl refl
     where
       by_pointer : (o : Option ℕ) → is_mode_control c ≡ false → is_ascii c ≡ false → (c ≡ 0xA5 → ⊥) → (c ≡ 0x203E → ⊥)
-          → iso_2022_jp_pointer_of jis0208 katakana_index c ≡ o → OwnRead (mode_for jis0208 katakana_index mode c) (own_scalar c) bytes
+          → iso_2022_jp_pointer_of jis0208 katakana_index c ≡ o → OwnRead (mode_of mode c) (own_scalar c) bytes
       by_pointer None m a y v e = absurd (no_code mode _ c bytes (at_none jis0208 katakana_index mode c m a y v e) is)
       by_pointer (Some p) m a y v e =
           let found = looked_up c p e in
           let back = leads_back is_jis0208_pointer jis0208 found.scalar _ (first-taken is_jis0208_pointer jis0208 found.scalar) p found.pointer in
-          own_written mode in_two_byte c (own_scalar c) _ bytes (at_pair jis0208 katakana_index mode c p m a y v e) is (rw found.fold (own_pair p found.scalar back))
+          own_written mode in_two_byte c (own_scalar c) _ bytes (at_pair jis0208 katakana_index mode c p m a y v e) is
+          (rw found.fold (own_pair p found.scalar back))
 
-      past_ascii : is_mode_control c ≡ false → is_ascii c ≡ false → OwnRead (mode_for jis0208 katakana_index mode c) (own_scalar c) bytes
+      past_ascii : is_mode_control c ≡ false → is_ascii c ≡ false → OwnRead (mode_of mode c) (own_scalar c) bytes
       past_ascii m a = elim (cases_eq c 0xA5) [
-        | inl e ↦ own_written mode in_roman c (own_scalar c) _ bytes (at_yen jis0208 katakana_index mode c e) is (rw e (own_byte in_roman 0xA5 0x5C refl (λ rest. front-yen jis0208 rest)))
+        | inl e ↦ own_written mode in_roman c (own_scalar c) _ bytes (at_yen jis0208 katakana_index mode c e) is
+            (rw e (own_byte in_roman 0xA5 0x5C refl (λ rest. front-yen jis0208 rest)))
         | inr y ↦ elim (cases_eq c 0x203E) [
-          | inl e ↦ own_written mode in_roman c (own_scalar c) _ bytes (at_overline jis0208 katakana_index mode c e) is (rw e (own_byte in_roman 0x203E 0x7E refl (λ rest. front-overline jis0208 rest)))
+          | inl e ↦ own_written mode in_roman c (own_scalar c) _ bytes (at_overline jis0208 katakana_index mode c e) is
+              (rw e (own_byte in_roman 0x203E 0x7E refl (λ rest. front-overline jis0208 rest)))
           | inr v ↦ by_pointer (iso_2022_jp_pointer_of jis0208 katakana_index c) m a y v refl
         ]
       ]
 
       by_tests : (control ascii_byte special : Bool) → is_mode_control c ≡ control → is_ascii c ≡ ascii_byte → (c == 0x5C || c == 0x7E) ≡ special
-          → OwnRead (mode_for jis0208 katakana_index mode c) (own_scalar c) bytes
+          → OwnRead (mode_of mode c) (own_scalar c) bytes
       by_tests true ascii_byte special m a s = absurd (no_code mode _ c bytes (at_control jis0208 katakana_index mode c m) is)
       by_tests false true true m a s =
           let p = or_parts (c == 0x0E || c == 0x0F) (c == esc) m in
           own_written mode in_ascii c (own_scalar c) _ bytes (at_special jis0208 katakana_index mode c m a s) is
           (rw (ascii_stands c a) (own_byte in_ascii c c p.1 (λ rest. front-ascii jis0208 c rest a p.0)))
       by_tests false true false m a s =
-          own_written mode (roman_or_ascii mode) c (own_scalar c) _ bytes (at_neutral jis0208 katakana_index mode c m a s) is (rw (ascii_stands c a) (own_neutral mode c a m s))
+          own_written mode (roman_or_ascii mode) c (own_scalar c) _ bytes (at_neutral jis0208 katakana_index mode c m a s) is
+          (rw (ascii_stands c a) (own_neutral mode c a m s))
       by_tests false false special m a s = past_ascii m a
 
   -- the mode for a scalar without a code
-  pub none_keeps : (mode : EncoderMode) (c : ℕ) → iso_2022_jp_code jis0208 katakana_index c ≡ None → mode_for jis0208 katakana_index mode c ≡ roman_or_ascii mode
+  pub none_keeps : (mode : EncoderMode) (c : ℕ) → code c ≡ None → mode_of mode c ≡ roman_or_ascii mode
   none_keeps mode c none = mode_for-by jis0208 katakana_index mode c ∙ rw none (kept (is_neutral_scalar c))
     where
       kept : (t : Bool) → cond (t || true) (roman_or_ascii mode) (cond (is_roman_scalar c) in_roman in_ascii) ≡ roman_or_ascii mode
@@ -259,7 +284,7 @@ module _ (jis0208 katakana_index : List ℕ) where
 
   -- the scalars of a text that have a code
   abbrev pub coded_here : List ℕ → List ℕ
-  coded_here text = coded (iso_2022_jp_code jis0208 katakana_index) text
+  coded_here text = coded (code) text
 
   -- the scalars that the text decodes to
   abbrev pub text_back : List ℕ → List ℕ
@@ -267,27 +292,25 @@ module _ (jis0208 katakana_index : List ℕ) where
 
   -- the bytes of a text that begins in the given mode
   abbrev pub text_bytes : EncoderMode → List ℕ → List ℕ
-  text_bytes mode text = bytes_of (text_events jis0208 katakana_index mode text true)
+  text_bytes mode text = bytes_of (sent mode text)
 
   -- a scalar's escape, its own bytes and the bytes after it, by its code
   abbrev pub scalar_bytes : EncoderMode → EncoderMode → Option (List ℕ) → List ℕ → List ℕ
   scalar_bytes mode new None behind = escape_between mode new ++ behind
   scalar_bytes mode new (Some own) behind = escape_between mode new ++ (own ++ behind)
 
-  pub text_bytes-scalar : (mode : EncoderMode) (c : ℕ) (text : List ℕ)
-      → text_bytes mode (c ∷ text)
-      ≡ scalar_bytes mode (mode_for jis0208 katakana_index mode c) (iso_2022_jp_code jis0208 katakana_index c) (text_bytes (mode_for jis0208 katakana_index mode c) text)
+  pub text_bytes-scalar : (mode : EncoderMode) (c : ℕ) (text : List ℕ) → text_bytes mode (c ∷ text)
+      ≡ scalar_bytes mode (mode_of mode c) (code c) (text_bytes (mode_of mode c) text)
   text_bytes-scalar mode c text =
-      let new = mode_for jis0208 katakana_index mode c in
+      let new = mode_of mode c in
       ap bytes_of (text_events-scalar jis0208 katakana_index mode c text true)
-      ∙ bytes_of-behind (escape_between mode new) (own_events jis0208 katakana_index c ++ text_events jis0208 katakana_index new text true)
-      ∙ by_code new (iso_2022_jp_code jis0208 katakana_index c)
+      ∙ bytes_of-behind (escape_between mode new) (own_events jis0208 katakana_index c ++ sent new text)
+      ∙ by_code new (code c)
     where
-      by_code : (new : EncoderMode) (o : Option (List ℕ))
-          → escape_between mode new ++ bytes_of (code_events (iso_2022_jp_reported c) o ++ text_events jis0208 katakana_index new text true)
+      by_code : (new : EncoderMode) (o : Option (List ℕ)) → escape_between mode new ++ bytes_of (code_events (iso_2022_jp_reported c) o ++ sent new text)
           ≡ scalar_bytes mode new o (text_bytes new text)
-      by_code new None = ap (λ l. escape_between mode new ++ l) (bytes_of-unmappable (iso_2022_jp_reported c) (text_events jis0208 katakana_index new text true))
-      by_code new (Some own) = ap (λ l. escape_between mode new ++ l) (bytes_of-behind own (text_events jis0208 katakana_index new text true))
+      by_code new None = ap (λ l. escape_between mode new ++ l) (bytes_of-unmappable (iso_2022_jp_reported c) (sent new text))
+      by_code new (Some own) = ap (λ l. escape_between mode new ++ l) (bytes_of-behind own (sent new text))
 
   pub text_bytes-end : (mode : EncoderMode) → text_bytes mode [] ≡ escape_between mode in_ascii
   text_bytes-end mode = ap bytes_of (text_events-end jis0208 katakana_index mode) ∙ bytes_of-bytes (escape_between mode in_ascii)
@@ -295,18 +318,11 @@ module _ (jis0208 katakana_index : List ℕ) where
   -- ---- lists that begin with a valid escape, and lists that do not
 
   -- if appending `more` makes no valid escape at the beginning of `bytes`, nor does it after an escape before them
-  begins_with_none : (old new : EncoderMode) (bytes more : List ℕ)
-      → (is_whole_escape bytes ≡ false → is_whole_escape (bytes ++ more) ≡ false)
+  begins_with_none : (old new : EncoderMode) (bytes more : List ℕ) → (is_whole_escape bytes ≡ false → is_whole_escape (bytes ++ more) ≡ false)
       → is_whole_escape (escape_between old new ++ bytes) ≡ false → is_whole_escape ((escape_between old new ++ bytes) ++ more) ≡ false
-  begins_with_none in_ascii in_ascii bytes more here h = here h
-  begins_with_none in_roman in_roman bytes more here h = here h
-  begins_with_none in_two_byte in_two_byte bytes more here h = here h
-  begins_with_none in_ascii in_roman bytes more here h = absurd (true≢false h)
-  begins_with_none in_ascii in_two_byte bytes more here h = absurd (true≢false h)
-  begins_with_none in_roman in_ascii bytes more here h = absurd (true≢false h)
-  begins_with_none in_roman in_two_byte bytes more here h = absurd (true≢false h)
-  begins_with_none in_two_byte in_ascii bytes more here h = absurd (true≢false h)
-  begins_with_none in_two_byte in_roman bytes more here h = absurd (true≢false h)
+  begins_with_none old new bytes more here =
+      between (λ old new e. is_whole_escape (e ++ bytes) ≡ false → is_whole_escape ((e ++ bytes) ++ more) ≡ false) (λ mode. here)
+      (λ old new a b valid pa pb h. absurd (true≢false (rw valid at h))) old new
 
   end_begins : (mode : EncoderMode) (more : List ℕ) → is_whole_escape more ≡ false
       → is_whole_escape (escape_between mode in_ascii) ≡ false → is_whole_escape (escape_between mode in_ascii ++ more) ≡ false
@@ -319,16 +335,16 @@ module _ (jis0208 katakana_index : List ℕ) where
   text_begins mode [] more plain h =
       rw (text_bytes-end mode) (end_begins mode more plain (rw (text_bytes-end mode) at h))
   text_begins mode (c ∷ text) more plain h =
-      let new = mode_for jis0208 katakana_index mode c in
-      rw (text_bytes-scalar mode c text) (by_code (iso_2022_jp_code jis0208 katakana_index c) refl (text_begins new text more plain) (rw (text_bytes-scalar mode c text) at h))
+      let new = mode_of mode c in
+      rw (text_bytes-scalar mode c text) (by_code (code c) refl (text_begins new text more plain) (rw (text_bytes-scalar mode c text) at h))
     where
-      by_code : (o : Option (List ℕ)) → iso_2022_jp_code jis0208 katakana_index c ≡ o
-          → (is_whole_escape (text_bytes (mode_for jis0208 katakana_index mode c) text) ≡ false → is_whole_escape (text_bytes (mode_for jis0208 katakana_index mode c) text ++ more) ≡ false)
-          → is_whole_escape (scalar_bytes mode (mode_for jis0208 katakana_index mode c) o (text_bytes (mode_for jis0208 katakana_index mode c) text)) ≡ false
-          → is_whole_escape (scalar_bytes mode (mode_for jis0208 katakana_index mode c) o (text_bytes (mode_for jis0208 katakana_index mode c) text) ++ more) ≡ false
+      by_code : (o : Option (List ℕ)) → code c ≡ o
+          → (is_whole_escape (text_bytes (mode_of mode c) text) ≡ false → is_whole_escape (text_bytes (mode_of mode c) text ++ more) ≡ false)
+          → is_whole_escape (scalar_bytes mode (mode_of mode c) o (text_bytes (mode_of mode c) text)) ≡ false
+          → is_whole_escape (scalar_bytes mode (mode_of mode c) o (text_bytes (mode_of mode c) text) ++ more) ≡ false
       by_code None e later h = begins_with_none mode _ _ more later h
       by_code (Some own) e later h =
-          let behind = text_bytes (mode_for jis0208 katakana_index mode c) text in
+          let behind = text_bytes (mode_of mode c) text in
           begins_with_none mode _ (own ++ behind) more (λ _. rw (append_assoc own behind more) ((own_read mode c own e).plain (behind ++ more))) h
 
   -- ---- no two adjacent escapes
@@ -340,17 +356,12 @@ module _ (jis0208 katakana_index : List ℕ) where
   apart_behind (b ∷ front) bytes h = apart_behind front bytes (or_parts _ (holds_adjacent_escapes (front ++ bytes)) h).1
 
   -- no second escape follows an escape
-  pub escape_apart : (old new : EncoderMode) (bytes : List ℕ) → (old ≡ new → ⊥) → holds_adjacent_escapes (escape_between old new ++ bytes) ≡ false → is_whole_escape bytes ≡ false
+  pub escape_apart : (old new : EncoderMode) (bytes : List ℕ) → (old ≡ new → ⊥) → holds_adjacent_escapes (escape_between old new ++ bytes) ≡ false →
+      is_whole_escape bytes ≡ false
   unfolding holds_adjacent_escapes
-  escape_apart in_ascii in_ascii bytes n h = absurd (n refl)
-  escape_apart in_roman in_roman bytes n h = absurd (n refl)
-  escape_apart in_two_byte in_two_byte bytes n h = absurd (n refl)
-  escape_apart in_ascii in_roman bytes n h = (or_parts (is_whole_escape bytes) _ h).0
-  escape_apart in_ascii in_two_byte bytes n h = (or_parts (is_whole_escape bytes) _ h).0
-  escape_apart in_roman in_ascii bytes n h = (or_parts (is_whole_escape bytes) _ h).0
-  escape_apart in_roman in_two_byte bytes n h = (or_parts (is_whole_escape bytes) _ h).0
-  escape_apart in_two_byte in_ascii bytes n h = (or_parts (is_whole_escape bytes) _ h).0
-  escape_apart in_two_byte in_roman bytes n h = (or_parts (is_whole_escape bytes) _ h).0
+  escape_apart old new bytes =
+      between (λ old new e. (old ≡ new → ⊥) → holds_adjacent_escapes (e ++ bytes) ≡ false → is_whole_escape bytes ≡ false) (λ mode n h. absurd (n refl))
+      (λ old new a b valid pa pb n h. (or_parts (is_whole_escape bytes) _ (rw valid at h)).0) old new
 
   -- ---- decoding
 
@@ -388,8 +399,7 @@ module _ (jis0208 katakana_index : List ℕ) where
       escape_then mode new (c ∷ back) (own ++ behind) more (rw (append_assoc own behind more) (o.plain all)) joined
 
   -- a scalar without a code
-  text_read-none : (mode : EncoderMode) (back behind more : List ℕ)
-      → (is_whole_escape behind ≡ false → is_whole_escape (behind ++ more) ≡ false)
+  text_read-none : (mode : EncoderMode) (back behind more : List ℕ) → (is_whole_escape behind ≡ false → is_whole_escape (behind ++ more) ≡ false)
       → holds_adjacent_escapes (escape_between mode (roman_or_ascii mode) ++ behind) ≡ false
       → IsTextRead (roman_or_ascii mode) back behind more → IsTextRead mode back (escape_between mode (roman_or_ascii mode) ++ behind) more
   text_read-none in_ascii back behind more begins h read = read
@@ -401,24 +411,23 @@ module _ (jis0208 katakana_index : List ℕ) where
       → holds_adjacent_escapes (text_bytes mode text) ≡ false → IsTextRead mode (text_back text) (text_bytes mode text) more
   text_read mode [] more plain h = rw (text_bytes-end mode) (escape_read jis0208 mode in_ascii more plain)
   text_read mode (c ∷ text) more plain h =
-      let new = mode_for jis0208 katakana_index mode c in
+      let new = mode_of mode c in
       rw (text_bytes-scalar mode c text)
-      (by_code (iso_2022_jp_code jis0208 katakana_index c) refl (text_read new text more plain) (rw (text_bytes-scalar mode c text) at h))
+      (by_code (code c) refl (text_read new text more plain) (rw (text_bytes-scalar mode c text) at h))
     where
-      by_code : (o : Option (List ℕ)) → iso_2022_jp_code jis0208 katakana_index c ≡ o
-          → (holds_adjacent_escapes (text_bytes (mode_for jis0208 katakana_index mode c) text) ≡ false
-          → IsTextRead (mode_for jis0208 katakana_index mode c) (text_back text) (text_bytes (mode_for jis0208 katakana_index mode c) text) more)
-          → holds_adjacent_escapes (scalar_bytes mode (mode_for jis0208 katakana_index mode c) o (text_bytes (mode_for jis0208 katakana_index mode c) text)) ≡ false
+      by_code : (o : Option (List ℕ)) → code c ≡ o → (holds_adjacent_escapes (text_bytes (mode_of mode c) text) ≡ false
+          → IsTextRead (mode_of mode c) (text_back text) (text_bytes (mode_of mode c) text) more)
+          → holds_adjacent_escapes (scalar_bytes mode (mode_of mode c) o (text_bytes (mode_of mode c) text)) ≡ false
           → IsTextRead mode (map own_scalar (cond (is_some o) (c ∷ coded_here text) (coded_here text)))
-          (scalar_bytes mode (mode_for jis0208 katakana_index mode c) o (text_bytes (mode_for jis0208 katakana_index mode c) text)) more
+          (scalar_bytes mode (mode_of mode c) o (text_bytes (mode_of mode c) text)) more
       by_code None e later h =
           let new_is = none_keeps mode c e in
-          let behind = text_bytes (mode_for jis0208 katakana_index mode c) text in
-          let read = later (apart_behind (escape_between mode (mode_for jis0208 katakana_index mode c)) behind h) in
-          let begins = text_begins (mode_for jis0208 katakana_index mode c) text more plain in
+          let behind = text_bytes (mode_of mode c) text in
+          let read = later (apart_behind (escape_between mode (mode_of mode c)) behind h) in
+          let begins = text_begins (mode_of mode c) text more plain in
           rw new_is (text_read-none mode (text_back text) _ more (rw new_is at begins) (rw new_is at h) (rw new_is at read))
       by_code (Some own) e later h =
-          let new = mode_for jis0208 katakana_index mode c in
+          let new = mode_of mode c in
           let behind = text_bytes new text in
           let read = later (apart_behind own behind (apart_behind (escape_between mode new) (own ++ behind) h)) in
           text_read-scalar mode new (own_scalar c) own (text_back text) behind more (own_read mode c own e) read
@@ -436,15 +445,17 @@ module _ (jis0208 katakana_index : List ℕ) where
   apart-end in_roman = refl
   apart-end in_two_byte = refl
 
-  pub text_apart : (mode : EncoderMode) (text bytes : List ℕ) → text_events jis0208 katakana_index mode text true ≡ map Byte bytes → IsApart text bytes
+  pub text_apart : (mode : EncoderMode) (text bytes : List ℕ) → sent mode text ≡ map Byte bytes → IsApart text bytes
   text_apart mode [] bytes e =
       let same = same_byte_lists (escape_between mode in_ascii) bytes (sym (text_events-end jis0208 katakana_index mode) ∙ e) in
       record { coded_all = refl; apart = rw (← same) (apart-end mode) }
   text_apart mode (c ∷ text) bytes e =
-      let new = mode_for jis0208 katakana_index mode c in
-      let later = text_events jis0208 katakana_index new text true in
-      let escape = begins_with (escape_between mode new) bytes (own_events jis0208 katakana_index c ++ later) (sym (text_events-scalar jis0208 katakana_index mode c text true) ∙ e) in
-      let here = has_code _ (iso_2022_jp_code jis0208 katakana_index c) escape.rest later escape.behind in
+      let new = mode_of mode c in
+      let later = sent new text in
+      let escape =
+      begins_with (escape_between mode new) bytes (own_events jis0208 katakana_index c ++ later)
+      (sym (text_events-scalar jis0208 katakana_index mode c text true) ∙ e) in
+      let here = has_code _ (code c) escape.rest later escape.behind in
       let t = here.begins in
       let own = own_read mode c here.own here.code_is in
       let rest = text_apart new text t.rest t.behind in

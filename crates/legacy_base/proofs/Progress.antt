@@ -1,5 +1,6 @@
 -- How `Progress` of two consecutive steps combines into one.
-use Rattle.std.proofs.Common.{◌≡◌, ◌∙◌, ℕ, ◌+◌, ◌≤◌, List, [], ◌++◌, length, drop, refl, sym, ap, arith, append_assoc, length-append, Bool, true, false, IsTrue, inl, inr}
+use Rattle.std.proofs.Common.{◌≡◌, ◌∙◌, ℕ, ◌+◌, ◌≤◌, List, [], ◌++◌, length, drop, refl, sym, ap, arith, append_assoc, length-append, Bool, true, false}
+use Rattle.std.proofs.Common.{IsTrue, inl, inr}
 use Rattle.std.proofs.lemmas.List.{drop-drop, drop-append-le}
 use Rattle.legacy_base.specs.declared.results.DecodeEvent.{DecodeEvent}
 use Rattle.legacy_base.specs.declared.results.DecoderResult.{DecoderResult}
@@ -7,7 +8,6 @@ use Rattle.legacy_base.specs.declared.results.DecoderResult.TheVariants.{InputEm
 use Rattle.legacy_base.specs.Events.{shift}
 use Rattle.legacy_base.specs.Grammar.{events_of}
 use Rattle.legacy_base.specs.States.{DecoderState}
-use Rattle.legacy_base.specs.Profile.{is_empty}
 use Rattle.legacy_base.specs.Beginnings.{BeginsWith}
 use Rattle.legacy_base.specs.Calls.{Progress, may_report_end}
 use Rattle.legacy_base.proofs.Beginnings.{begins_sooner, begins_later, begins_back}
@@ -21,11 +21,13 @@ pub stay : (ended : Bool) (s : DecoderState) (source : List ℕ) → Progress en
 stay ended s source = record { counts = omega arith; rest = refl; events = λ more h. sym (shift-zero _) }
 
 -- if `a` implies `b`, progress with the exception `a` implies progress with the exception `b`
-pub at_less : (a b : Bool) → (IsTrue a → IsTrue b) → (s : DecoderState) (xs : List ℕ) (n : ℕ) (t : DecoderState) (ys : List ℕ) (out : List DecodeEvent) → Progress a s xs n t ys out → Progress b s xs n t ys out
+pub at_less : (a b : Bool) → (IsTrue a → IsTrue b) → (s : DecoderState) (xs : List ℕ) (n : ℕ) (t : DecoderState) (ys : List ℕ) (out : List DecodeEvent) →
+    Progress a s xs n t ys out → Progress b s xs n t ys out
 at_less a b i s xs n t ys out h = record { counts = h.counts; rest = h.rest; events = λ more e. h.events more (λ l. e (i l)) }
 
 -- progress without the exception implies progress with it
-pub at_last : (ended : Bool) (s : DecoderState) (xs : List ℕ) (n : ℕ) (t : DecoderState) (ys : List ℕ) (out : List DecodeEvent) → Progress false s xs n t ys out → Progress ended s xs n t ys out
+pub at_last : (ended : Bool) (s : DecoderState) (xs : List ℕ) (n : ℕ) (t : DecoderState) (ys : List ℕ) (out : List DecodeEvent) →
+    Progress false s xs n t ys out → Progress ended s xs n t ys out
 at_last ended s xs n t ys out h = at_less false ended no_end s xs n t ys out h
 
 -- a report at the end is made on a last call, with nothing unread
@@ -34,12 +36,6 @@ end_report-last last InputEmpty left h = cc
 end_report-last last OutputFull left h = cc
 end_report-last true (Malformed a b) left h = refl
 end_report-last false (Malformed a b) left h = cc
-
-pub end_report-empty : (last : Bool) (answer : DecoderResult) (left : List ℕ) → IsTrue (may_report_end last answer left) → IsTrue (is_empty left)
-end_report-empty last InputEmpty left h = cc
-end_report-empty last OutputFull left h = cc
-end_report-empty true (Malformed a b) left h = h
-end_report-empty false (Malformed a b) left h = cc
 
 -- the same progress if more source follows
 pub behind : (s : DecoderState) (xs : List ℕ) (n : ℕ) (t : DecoderState) (ys : List ℕ) (out : List DecodeEvent) (zs : List ℕ) →
@@ -59,7 +55,8 @@ behind_first : (m : ℕ) (one two items : List DecodeEvent) → BeginsWith (one 
 behind_first m one two items b = begins_back m two items (begins_later one (shift m two) (shift m items) b)
 
 -- one step after another
-pub after_that : (ended : Bool) (s : DecoderState) (xs : List ℕ) (m : ℕ) (t : DecoderState) (ys : List ℕ) (one : List DecodeEvent) (n : ℕ) (u : DecoderState) (zs : List ℕ) (two : List DecodeEvent) →
+pub after_that : (ended : Bool) (s : DecoderState) (xs : List ℕ) (m : ℕ) (t : DecoderState) (ys : List ℕ) (one : List DecodeEvent) (n : ℕ) (u : DecoderState)
+    (zs : List ℕ) (two : List DecodeEvent) →
     Progress ended s xs m t ys one → Progress ended t ys n u zs two → Progress ended s xs (m + n) u zs (one ++ shift m two)
 after_that ended s xs m t ys one n u zs two a b = record {
   counts = omega (arith, a.counts, b.counts);

@@ -4,6 +4,7 @@ use Rattle.std.proofs.Common.{Bool, true, false, cond, ◌==◌, Option, Some, N
 use Rattle.std.proofs.lemmas.Bool.{true≢false}
 use Rattle.std.proofs.lemmas.List.{map-append}
 use Rattle.std.specs.Char.{is_ascii}
+use Rattle.legacy_base.specs.declared.results.EncodeEvent.{EncodeEvent}
 use Rattle.legacy_base.specs.declared.results.EncodeEvent.TheVariants.{Byte}
 use Rattle.legacy_base.specs.EncodeEvents.{code_events, plain_events}
 use Rattle.legacy_base.specs.EncoderProfile.{EncoderMode, in_ascii, in_roman, in_two_byte}
@@ -14,14 +15,17 @@ use Rattle.legacy_base.specs.EucKr.{euc_kr_code}
 use Rattle.legacy_base.specs.ShiftJis.{shift_jis_code}
 use Rattle.legacy_base.specs.EucJp.{euc_jp_code}
 use Rattle.legacy_base.specs.Gb18030.{gb18030_code, gbk_code}
-use Rattle.legacy_base.specs.Iso2022Jp.{is_mode_control, is_pair, keeps_mode, is_roman_scalar, is_two_byte_scalar, iso_2022_jp_code, iso_2022_jp_pair, iso_2022_jp_pointer_of}
+use Rattle.legacy_base.specs.Iso2022Jp.{is_mode_control, is_pair, keeps_mode, is_roman_scalar, is_two_byte_scalar, iso_2022_jp_code, iso_2022_jp_pair}
+use Rattle.legacy_base.specs.Iso2022Jp.{iso_2022_jp_pointer_of}
 use Rattle.legacy_base.specs.Iso2022Jp.{is_whole_escape, roman_or_ascii, escape_to, escape_between}
 use Rattle.legacy_base.specs.Encoders.{Codec, single_byte, user_defined, big5, euc_kr, shift_jis, euc_jp, gb18030, gbk, iso_2022_jp, new_encoder, encoded}
-use Rattle.legacy_base.specs.RoundTrips.{japanese_scalar, private_use_scalar, read_as, read_back, bytes_of, written, holds_adjacent_escapes, IsSound, KeepsCodes, HasSameCode, ReencodesAnyText}
+use Rattle.legacy_base.specs.RoundTrips.{japanese_scalar, private_use_scalar, read_as, read_back, bytes_of, written, holds_adjacent_escapes, IsSound}
+use Rattle.legacy_base.specs.RoundTrips.{KeepsCodes, HasSameCode, ReencodesAnyText}
 use Rattle.legacy_base.proofs.Trips.{coded, bytes_of-nothing, bytes_of-behind, bytes_of-unmappable}
 use Rattle.legacy_base.proofs.TwoByteTrips.{no_japanese_fold}
 use Rattle.legacy_base.proofs.Iso2022JpEncoding.{mode_by, mode_for, mode_for-by, text_events, text_events-scalar, text_events-escape, text_events-end}
-use Rattle.legacy_base.proofs.Iso2022JpTrip.{own_scalar, ascii_stands, none_keeps, coded_here, text_back, text_bytes, scalar_bytes, text_bytes-scalar, text_bytes-end, apart_behind, escape_apart}
+use Rattle.legacy_base.proofs.Iso2022JpTrip.{own_scalar, ascii_stands, none_keeps, coded_here, text_back, text_bytes, scalar_bytes, text_bytes-scalar}
+use Rattle.legacy_base.proofs.Iso2022JpTrip.{text_bytes-end, apart_behind, escape_apart}
 use Rattle.legacy_base.proofs.RoundTrips.{same_scalars, encodes_well_formed}
 
 -- a property of all scalars of a text holds for the first one and for the rest
@@ -33,8 +37,7 @@ others_of P c text all = λ k d h. all (suc k) d (omega arith)
 
 -- ---- codecs without modes
 
-plain-again : (code : ℕ → Option (List ℕ)) (read : ℕ → ℕ) (text : List ℕ)
-    → All (λ c. (bytes : List ℕ) → code c ≡ Some bytes → code (read c) ≡ Some bytes) text
+plain-again : (code : ℕ → Option (List ℕ)) (read : ℕ → ℕ) (text : List ℕ) → All (λ c. (bytes : List ℕ) → code c ≡ Some bytes → code (read c) ≡ Some bytes) text
     → plain_events code (map read (coded code text)) ≡ map Byte (bytes_of (plain_events code text))
 unfolding plain_events
 plain-again code read [] same = rw bytes_of-nothing refl
@@ -44,32 +47,31 @@ plain-again code read (c ∷ text) same =
   where
     by_code : (o : Option (List ℕ)) → code c ≡ o → ((bytes : List ℕ) → code c ≡ Some bytes → code (read c) ≡ Some bytes)
         → plain_events code (map read (coded code text)) ≡ map Byte (bytes_of (plain_events code text))
-        → plain_events code (map read (cond (is_some o) (c ∷ coded code text) (coded code text))) ≡ map Byte (bytes_of (code_events c o ++ plain_events code text))
+        → plain_events code (map read (cond (is_some o) (c ∷ coded code text) (coded code text)))
+        ≡ map Byte (bytes_of (code_events c o ++ plain_events code text))
     by_code None e here later = rw (bytes_of-unmappable c (plain_events code text)) later
     by_code (Some own) e here later =
         rw (here own e, bytes_of-behind own (plain_events code text), map-append Byte own (bytes_of (plain_events code text)))
         (ap (λ l. map Byte own ++ l) later)
 
 -- the scalar that a fold decodes to has the code of the fold
+folded-same : (code : ℕ → Option (List ℕ)) → code 0x5C ≡ code 0xA5 → code 0x7E ≡ code 0x203E → code 0xFF0D ≡ code 0x2212 → (c : ℕ) →
+    code (japanese_scalar c) ≡ code c
+folded-same code yen overline minus c = by_tests (c == 0xA5) (c == 0x203E) (c == 0x2212) refl refl refl
+  where
+    by_tests : (y o m : Bool) → (c == 0xA5) ≡ y → (c == 0x203E) ≡ o → (c == 0x2212) ≡ m → code (japanese_scalar c) ≡ code c
+    by_tests true o m e f g = rw (eqb-true c 0xA5 e) yen
+    by_tests false true m e f g = rw (eqb-true c 0x203E f) overline
+    by_tests false false true e f g = rw (eqb-true c 0x2212 g) minus
+    by_tests false false false e f g = ap code (no_japanese_fold c (rw (e, f, g) refl))
+
 shift_jis-same : (jis0208 : List ℕ) (c : ℕ) → shift_jis_code jis0208 (japanese_scalar c) ≡ shift_jis_code jis0208 c
 unfolding shift_jis_code
-shift_jis-same jis0208 c = by_tests (c == 0xA5) (c == 0x203E) (c == 0x2212) refl refl refl
-  where
-    by_tests : (y o m : Bool) → (c == 0xA5) ≡ y → (c == 0x203E) ≡ o → (c == 0x2212) ≡ m → shift_jis_code jis0208 (japanese_scalar c) ≡ shift_jis_code jis0208 c
-    by_tests true o m e f g = rw (eqb-true c 0xA5 e) refl
-    by_tests false true m e f g = rw (eqb-true c 0x203E f) refl
-    by_tests false false true e f g = rw (eqb-true c 0x2212 g) refl
-    by_tests false false false e f g = ap (shift_jis_code jis0208) (no_japanese_fold c (rw (e, f, g) refl))
+shift_jis-same jis0208 = folded-same (shift_jis_code jis0208) refl refl refl
 
 euc_jp-same : (jis0208 : List ℕ) (c : ℕ) → euc_jp_code jis0208 (japanese_scalar c) ≡ euc_jp_code jis0208 c
 unfolding euc_jp_code
-euc_jp-same jis0208 c = by_tests (c == 0xA5) (c == 0x203E) (c == 0x2212) refl refl refl
-  where
-    by_tests : (y o m : Bool) → (c == 0xA5) ≡ y → (c == 0x203E) ≡ o → (c == 0x2212) ≡ m → euc_jp_code jis0208 (japanese_scalar c) ≡ euc_jp_code jis0208 c
-    by_tests true o m e f g = rw (eqb-true c 0xA5 e) refl
-    by_tests false true m e f g = rw (eqb-true c 0x203E f) refl
-    by_tests false false true e f g = rw (eqb-true c 0x2212 g) refl
-    by_tests false false false e f g = ap (euc_jp_code jis0208) (no_japanese_fold c (rw (e, f, g) refl))
+euc_jp-same jis0208 = folded-same (euc_jp_code jis0208) refl refl refl
 
 -- ---- ISO-2022-JP
 
@@ -81,21 +83,47 @@ back_to_ascii false false true h = cc
 back_to_ascii false false false h = refl
 
 module _ (jis0208 katakana_index : List ℕ) where
+  abbrev code : ℕ → Option (List ℕ)
+  code = iso_2022_jp_code jis0208 katakana_index
+
+  abbrev mode_of : EncoderMode → ℕ → EncoderMode
+  mode_of = mode_for jis0208 katakana_index
+
+  -- the scalar that c decodes to, and the text that a text decodes to
+  abbrev own_of : ℕ → ℕ
+  own_of = own_scalar jis0208 katakana_index
+
+  abbrev back : List ℕ → List ℕ
+  back = text_back jis0208 katakana_index
+
+  abbrev coded_of : List ℕ → List ℕ
+  coded_of = coded_here jis0208 katakana_index
+
+  -- the events and the bytes of a text from a mode
+  abbrev sent : EncoderMode → List ℕ → List EncodeEvent
+  sent mode text = text_events jis0208 katakana_index mode text true
+
+  abbrev bytes_from : EncoderMode → List ℕ → List ℕ
+  bytes_from = text_bytes jis0208 katakana_index
+
+  abbrev bytes_at : EncoderMode → EncoderMode → Option (List ℕ) → List ℕ → List ℕ
+  bytes_at = scalar_bytes jis0208 katakana_index
+
   abbrev SameHere : ℕ → Type 0
   SameHere c = HasSameCode (iso_2022_jp jis0208 katakana_index) c
 
   -- a scalar with a code of one byte decodes to itself
-  single_stands : (c : ℕ) (own : List ℕ) → iso_2022_jp_code jis0208 katakana_index c ≡ Some own → is_pair (Some own) ≡ false → own_scalar jis0208 katakana_index c ≡ c
+  single_stands : (c : ℕ) (own : List ℕ) → code c ≡ Some own → is_pair (Some own) ≡ false → own_of c ≡ c
   unfolding iso_2022_jp_code
   single_stands c own h single = by_tests (is_mode_control c) (is_ascii c) (c == 0xA5) (c == 0x203E) refl refl refl h
     where
-      by_pointer : (p : Option ℕ) → option_map iso_2022_jp_pair p ≡ Some own → own_scalar jis0208 katakana_index c ≡ c
+      by_pointer : (p : Option ℕ) → option_map iso_2022_jp_pair p ≡ Some own → own_of c ≡ c
       by_pointer None h = cc
       by_pointer (Some p) h = let own_is : own ≡ iso_2022_jp_pair p = cc in absurd (true≢false (rw own_is at single))
 
-      by_tests : (m a y o : Bool) → is_ascii c ≡ a → (c == 0xA5) ≡ y → (c == 0x203E) ≡ o
-          → cond m None (cond a (Some (c ∷ [])) (cond y (Some (0x5C ∷ [])) (cond o (Some (0x7E ∷ [])) (option_map iso_2022_jp_pair (iso_2022_jp_pointer_of jis0208 katakana_index c))))) ≡ Some own
-          → own_scalar jis0208 katakana_index c ≡ c
+      by_tests : (m a y o : Bool) → is_ascii c ≡ a → (c == 0xA5) ≡ y → (c == 0x203E) ≡ o → cond m None (cond a (Some (c ∷ [])) (cond y (Some (0x5C ∷ []))
+          (cond o (Some (0x7E ∷ [])) (option_map iso_2022_jp_pair (iso_2022_jp_pointer_of jis0208 katakana_index c))))) ≡ Some own
+          → own_of c ≡ c
       by_tests true a y o e f g h = cc
       by_tests false true y o e f g h = ascii_stands jis0208 katakana_index c e
       by_tests false false true o e f g h = rw (eqb-true c 0xA5 f) refl
@@ -103,92 +131,86 @@ module _ (jis0208 katakana_index : List ℕ) where
       by_tests false false false false e f g h = by_pointer (iso_2022_jp_pointer_of jis0208 katakana_index c) h
 
   -- the scalar that c decodes to is written in the same mode and with the same code as c
-  same_mode : (mode : EncoderMode) (c : ℕ) (own : List ℕ) → iso_2022_jp_code jis0208 katakana_index c ≡ Some own
-      → iso_2022_jp_code jis0208 katakana_index (own_scalar jis0208 katakana_index c) ≡ Some own
-      → mode_for jis0208 katakana_index mode (own_scalar jis0208 katakana_index c) ≡ mode_for jis0208 katakana_index mode c
+  same_mode : (mode : EncoderMode) (c : ℕ) (own : List ℕ) → code c ≡ Some own → code (own_of c) ≡ Some own → mode_of mode (own_of c) ≡ mode_of mode c
   same_mode mode c own e again = by_pair (is_pair (Some own)) refl
     where
-      two_byte : (s : ℕ) → iso_2022_jp_code jis0208 katakana_index s ≡ Some own → is_pair (Some own) ≡ true → mode_for jis0208 katakana_index mode s ≡ in_two_byte
+      two_byte : (s : ℕ) → code s ≡ Some own → is_pair (Some own) ≡ true → mode_of mode s ≡ in_two_byte
       two_byte s is pair =
           let two : is_two_byte_scalar jis0208 katakana_index s ≡ true = ap is_pair is ∙ pair in
           mode_for-by jis0208 katakana_index mode s ∙ ap (λ t. mode_by t (keeps_mode jis0208 katakana_index s) (is_roman_scalar s) mode) two
 
-      by_pair : (t : Bool) → is_pair (Some own) ≡ t → mode_for jis0208 katakana_index mode (own_scalar jis0208 katakana_index c) ≡ mode_for jis0208 katakana_index mode c
-      by_pair true pair = two_byte (own_scalar jis0208 katakana_index c) again pair ∙ sym (two_byte c e pair)
-      by_pair false single = ap (mode_for jis0208 katakana_index mode) (single_stands c own e single)
+      by_pair : (t : Bool) → is_pair (Some own) ≡ t → mode_of mode (own_of c) ≡ mode_of mode c
+      by_pair true pair = two_byte (own_of c) again pair ∙ sym (two_byte c e pair)
+      by_pair false single = ap (mode_of mode) (single_stands c own e single)
 
   -- The bytes of a text from two-byte mode are the escape to ASCII mode and its bytes from that mode. This holds if the
   -- latter do not begin with an escape.
-  late_escape : (text : List ℕ) → All SameHere text → is_whole_escape (text_bytes jis0208 katakana_index in_ascii text) ≡ false
-      → text_events jis0208 katakana_index in_two_byte (text_back jis0208 katakana_index text) true
-      ≡ map Byte (escape_to in_ascii) ++ text_events jis0208 katakana_index in_ascii (text_back jis0208 katakana_index text) true
+  late_escape : (text : List ℕ) → All SameHere text → is_whole_escape (bytes_from in_ascii text) ≡ false → sent in_two_byte (back text)
+      ≡ map Byte (escape_to in_ascii) ++ sent in_ascii (back text)
   late_escape [] same h =
       rw (text_events-end jis0208 katakana_index in_two_byte, text_events-end jis0208 katakana_index in_ascii) refl
   late_escape (c ∷ text) same h =
-      by_code (iso_2022_jp_code jis0208 katakana_index c) refl (mode_for jis0208 katakana_index in_ascii c) refl (first_of SameHere c text same)
+      by_code (code c) refl (mode_of in_ascii c) refl (first_of SameHere c text same)
       (late_escape text (others_of SameHere c text same))
       (rw (text_bytes-scalar jis0208 katakana_index in_ascii c text) at h)
     where
-      by_code : (o : Option (List ℕ)) → iso_2022_jp_code jis0208 katakana_index c ≡ o
-          → (new : EncoderMode) → mode_for jis0208 katakana_index in_ascii c ≡ new → SameHere c
-          → (is_whole_escape (text_bytes jis0208 katakana_index in_ascii text) ≡ false
-          → text_events jis0208 katakana_index in_two_byte (text_back jis0208 katakana_index text) true
-          ≡ map Byte (escape_to in_ascii) ++ text_events jis0208 katakana_index in_ascii (text_back jis0208 katakana_index text) true)
-          → is_whole_escape (scalar_bytes jis0208 katakana_index in_ascii new o (text_bytes jis0208 katakana_index new text)) ≡ false
-          → text_events jis0208 katakana_index in_two_byte (map (own_scalar jis0208 katakana_index) (cond (is_some o) (c ∷ coded_here jis0208 katakana_index text) (coded_here jis0208 katakana_index text))) true
+      by_code : (o : Option (List ℕ)) → code c ≡ o → (new : EncoderMode) → mode_of in_ascii c ≡ new → SameHere c
+          → (is_whole_escape (bytes_from in_ascii text) ≡ false → sent in_two_byte (back text)
+          ≡ map Byte (escape_to in_ascii) ++ sent in_ascii (back text))
+          → is_whole_escape (bytes_at in_ascii new o (bytes_from new text)) ≡ false
+          → sent in_two_byte (map (own_of) (cond (is_some o) (c ∷ coded_of text) (coded_of text)))
           ≡ map Byte (escape_to in_ascii)
-          ++ text_events jis0208 katakana_index in_ascii (map (own_scalar jis0208 katakana_index) (cond (is_some o) (c ∷ coded_here jis0208 katakana_index text) (coded_here jis0208 katakana_index text))) true
+          ++ sent in_ascii (map (own_of) (cond (is_some o) (c ∷ coded_of text) (coded_of text)))
       by_code None e new n here later h =
           let new_is : new ≡ in_ascii = sym n ∙ none_keeps jis0208 katakana_index in_ascii c e in
           later (rw new_is at h)
       by_code (Some own) e in_roman n here later h = absurd (true≢false h)
       by_code (Some own) e in_two_byte n here later h = absurd (true≢false h)
       by_code (Some own) e in_ascii n here later h =
-          let s = own_scalar jis0208 katakana_index c in
-          let stays : mode_for jis0208 katakana_index in_ascii s ≡ in_ascii = same_mode in_ascii c own e (here own e) ∙ n in
-          let goes : mode_for jis0208 katakana_index in_two_byte s ≡ in_ascii =
+          let s = own_of c in
+          let stays : mode_of in_ascii s ≡ in_ascii = same_mode in_ascii c own e (here own e) ∙ n in
+          let goes : mode_of in_two_byte s ≡ in_ascii =
           mode_for-by jis0208 katakana_index in_two_byte s
-          ∙ back_to_ascii (is_two_byte_scalar jis0208 katakana_index s) (keeps_mode jis0208 katakana_index s) (is_roman_scalar s) (sym (mode_for-by jis0208 katakana_index in_ascii s) ∙ stays) in
-          text_events-escape jis0208 katakana_index in_two_byte in_ascii s goes (λ z. cc) (text_back jis0208 katakana_index text) true
+          ∙ back_to_ascii (is_two_byte_scalar jis0208 katakana_index s) (keeps_mode jis0208 katakana_index s) (is_roman_scalar s)
+          (sym (mode_for-by jis0208 katakana_index in_ascii s) ∙ stays) in
+          text_events-escape jis0208 katakana_index in_two_byte in_ascii s goes (λ z. cc) (back text) true
 
-  iso_2022_jp-again : (mode : EncoderMode) (text : List ℕ) → All SameHere text → holds_adjacent_escapes (text_bytes jis0208 katakana_index mode text) ≡ false
-      → text_events jis0208 katakana_index mode (text_back jis0208 katakana_index text) true ≡ map Byte (text_bytes jis0208 katakana_index mode text)
+  iso_2022_jp-again : (mode : EncoderMode) (text : List ℕ) → All SameHere text → holds_adjacent_escapes (bytes_from mode text) ≡ false
+      → sent mode (back text) ≡ map Byte (bytes_from mode text)
   iso_2022_jp-again mode [] same h = rw (text_bytes-end jis0208 katakana_index mode) (text_events-end jis0208 katakana_index mode)
   iso_2022_jp-again mode (c ∷ text) same h =
       let others = others_of SameHere c text same in
       rw (text_bytes-scalar jis0208 katakana_index mode c text)
-      (by_code (iso_2022_jp_code jis0208 katakana_index c) refl (mode_for jis0208 katakana_index mode c) refl (first_of SameHere c text same) others
-      (iso_2022_jp-again (mode_for jis0208 katakana_index mode c) text others)
+      (by_code (code c) refl (mode_of mode c) refl (first_of SameHere c text same) others
+      (iso_2022_jp-again (mode_of mode c) text others)
       (rw (text_bytes-scalar jis0208 katakana_index mode c text) at h))
     where
-      by_code : (o : Option (List ℕ)) → iso_2022_jp_code jis0208 katakana_index c ≡ o
-          → (new : EncoderMode) → mode_for jis0208 katakana_index mode c ≡ new → SameHere c → All SameHere text
-          → (holds_adjacent_escapes (text_bytes jis0208 katakana_index new text) ≡ false
-          → text_events jis0208 katakana_index new (text_back jis0208 katakana_index text) true ≡ map Byte (text_bytes jis0208 katakana_index new text))
-          → holds_adjacent_escapes (scalar_bytes jis0208 katakana_index mode new o (text_bytes jis0208 katakana_index new text)) ≡ false
-          → text_events jis0208 katakana_index mode (map (own_scalar jis0208 katakana_index) (cond (is_some o) (c ∷ coded_here jis0208 katakana_index text) (coded_here jis0208 katakana_index text))) true
-          ≡ map Byte (scalar_bytes jis0208 katakana_index mode new o (text_bytes jis0208 katakana_index new text))
+      by_code : (o : Option (List ℕ)) → code c ≡ o → (new : EncoderMode) → mode_of mode c ≡ new → SameHere c → All SameHere text
+          → (holds_adjacent_escapes (bytes_from new text) ≡ false → sent new (back text) ≡ map Byte (bytes_from new text))
+          → holds_adjacent_escapes (bytes_at mode new o (bytes_from new text)) ≡ false
+          → sent mode (map (own_of) (cond (is_some o) (c ∷ coded_of text) (coded_of text)))
+          ≡ map Byte (bytes_at mode new o (bytes_from new text))
       by_code None e new n here others later h =
           let new_is = sym n ∙ none_keeps jis0208 katakana_index mode c e in
-          let read = later (apart_behind jis0208 katakana_index (escape_between mode new) (text_bytes jis0208 katakana_index new text) h) in
+          let read = later (apart_behind jis0208 katakana_index (escape_between mode new) (bytes_from new text) h) in
           rw new_is (by_mode mode (rw new_is at h) (rw new_is at read))
         where
-          by_mode : (mode : EncoderMode) → holds_adjacent_escapes (escape_between mode (roman_or_ascii mode) ++ text_bytes jis0208 katakana_index (roman_or_ascii mode) text) ≡ false
-              → text_events jis0208 katakana_index (roman_or_ascii mode) (text_back jis0208 katakana_index text) true ≡ map Byte (text_bytes jis0208 katakana_index (roman_or_ascii mode) text)
-              → text_events jis0208 katakana_index mode (text_back jis0208 katakana_index text) true ≡ map Byte (escape_between mode (roman_or_ascii mode) ++ text_bytes jis0208 katakana_index (roman_or_ascii mode) text)
+          by_mode : (mode : EncoderMode) → holds_adjacent_escapes (escape_between mode (roman_or_ascii mode) ++ bytes_from (roman_or_ascii mode) text) ≡ false
+              → sent (roman_or_ascii mode) (back text) ≡ map Byte (bytes_from (roman_or_ascii mode) text)
+              → sent mode (back text) ≡ map Byte (escape_between mode (roman_or_ascii mode) ++ bytes_from (roman_or_ascii mode) text)
           by_mode in_ascii h read = read
           by_mode in_roman h read = read
           by_mode in_two_byte h read =
-              late_escape text others (escape_apart jis0208 katakana_index in_two_byte in_ascii (text_bytes jis0208 katakana_index in_ascii text) (λ z. cc) h)
+              late_escape text others (escape_apart jis0208 katakana_index in_two_byte in_ascii (bytes_from in_ascii text) (λ z. cc) h)
               ∙ ap (λ l. map Byte (escape_to in_ascii) ++ l) read
-              ∙ sym (map-append Byte (escape_to in_ascii) (text_bytes jis0208 katakana_index in_ascii text))
+              ∙ sym (map-append Byte (escape_to in_ascii) (bytes_from in_ascii text))
       by_code (Some own) e new n here others later h =
-          let s = own_scalar jis0208 katakana_index c in
-          let behind = text_bytes jis0208 katakana_index new text in
+          let s = own_of c in
+          let behind = bytes_from new text in
           let again = here own e in
           let mode_is = same_mode mode c own e again ∙ n in
           let read = later (apart_behind jis0208 katakana_index own behind (apart_behind jis0208 katakana_index (escape_between mode new) (own ++ behind) h)) in
-          text_events-scalar jis0208 katakana_index mode s (text_back jis0208 katakana_index text) true
+          text_events-scalar jis0208 katakana_index mode s (back text) true
           ∙ rw (mode_is, again, read, map-append Byte (escape_between mode new) (own ++ behind), map-append Byte own behind) refl
 
 -- ---- all codecs
@@ -197,8 +219,10 @@ same_of : (codec : Codec) (text : List ℕ) → ((c : ℕ) → HasSameCode codec
 same_of codec text each k d h = each _
 
 -- the text that the bytes decode to is encoded as the same bytes
-again : (codec : Codec) (text : List ℕ) → IsSound codec text → KeepsCodes codec text → encoded (new_encoder codec) (read_back codec text) true ≡ map Byte (written codec text)
-again (single_byte table) text sound keeps = plain-again (single_byte_code table) (read_as (single_byte table)) text (same_of (single_byte table) text (λ c bytes e. e))
+again : (codec : Codec) (text : List ℕ) → IsSound codec text → KeepsCodes codec text →
+    encoded (new_encoder codec) (read_back codec text) true ≡ map Byte (written codec text)
+again (single_byte table) text sound keeps =
+    plain-again (single_byte_code table) (read_as (single_byte table)) text (same_of (single_byte table) text (λ c bytes e. e))
 again user_defined text sound keeps = plain-again user_defined_code (read_as user_defined) text (same_of user_defined text (λ c bytes e. e))
 again (big5 index) text sound keeps = plain-again (big5_code index) (read_as (big5 index)) text (same_of (big5 index) text (λ c bytes e. e))
 again (euc_kr index) text sound keeps = plain-again (euc_kr_code index) (read_as (euc_kr index)) text (same_of (euc_kr index) text (λ c bytes e. e))

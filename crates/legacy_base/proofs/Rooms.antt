@@ -10,7 +10,8 @@ use Rattle.legacy_text.specs.EncodingForm.{EncodingForm, Utf8, Utf16, code_units
 use Rattle.legacy_base.specs.Profile.{Rooms, narrow_acts, wide_reads}
 use Rattle.legacy_base.specs.Grammar.{Grammar, profile, events_of}
 use Rattle.legacy_base.specs.States.{DecoderState, rests, is_empty}
-use Rattle.legacy_base.specs.Acts.{Act, writes, takes, act_at_end, act_room, act_at_rest, room_of_act, reading_room, writing_room, has_reported, has_short_ascii}
+use Rattle.legacy_base.specs.Acts.{Act, writes, takes, act_at_end, act_room, act_at_rest, room_of_act, reading_room, writing_room, has_reported}
+use Rattle.legacy_base.specs.Acts.{has_short_ascii}
 use Rattle.legacy_base.specs.Acts.{has_marks, is_mark_behind, room_needed, LacksRoom, full_room_in, release_room_in, HadRoom, HadRoomReleased, HadRooms}
 
 -- ---- the room before each scalar
@@ -52,34 +53,41 @@ module _ (form : EncodingForm) where
 
   pub HadRooms-none : (s : DecoderState) (free : ℕ) → HadRooms form s free []
   unfolding HadRoom HadRoomReleased
-  HadRooms-none s free = elim (rests s.grammar s.held) as (λ r. MatchBool r (HadRoom form s.grammar None free []) (HadRoomReleased form s.grammar free [])) [ true ↦ tt | false ↦ tt ]
+  HadRooms-none s free =
+      elim (rests s.grammar s.held) as (λ r. MatchBool r (HadRoom form s.grammar None free [])
+      (HadRoomReleased form s.grammar free [])) [ true ↦ tt | false ↦ tt ]
 
-  pub HadRooms-released : (s : DecoderState) (free c : ℕ) → rests s.grammar s.held ≡ false → release_room_in form s.grammar ≤ free → HadRooms form s free (c ∷ [])
+  pub HadRooms-released : (s : DecoderState) (free c : ℕ) → rests s.grammar s.held ≡ false → release_room_in form s.grammar ≤ free →
+      HadRooms form s free (c ∷ [])
   unfolding HadRoom HadRoomReleased
   HadRooms-released s free c r h = let one : HadRoomReleased form s.grammar free (c ∷ []) = (h, tt) in rw r one
 
 -- ---- the next act
 
-pub room_needed-release : (form : EncodingForm) (s : DecoderState) (source : List ℕ) (last : Bool) → rests s.grammar s.held ≡ false → room_needed form s source last ≡ release_room_in form s.grammar
+pub room_needed-release : (form : EncodingForm) (s : DecoderState) (source : List ℕ) (last : Bool) → rests s.grammar s.held ≡ false →
+    room_needed form s source last ≡ release_room_in form s.grammar
 room_needed-release form s source last e = rw e refl
 
 pub room_needed-read : (form : EncodingForm) (s : DecoderState) (x : ℕ) (xs : List ℕ) (last : Bool) → rests s.grammar s.held ≡ true →
     room_needed form s (x ∷ xs) last ≡ act_room (bmp_room form) (wide_room form) s (takes x)
 room_needed-read form s x xs last e = rw e refl
 
-pub room_needed-report : (form : EncodingForm) (s : DecoderState) → rests s.grammar s.held ≡ true → events_of s.grammar s.held ≢ [] → room_needed form s [] true ≡ release_room_in form s.grammar
+pub room_needed-report : (form : EncodingForm) (s : DecoderState) → rests s.grammar s.held ≡ true → events_of s.grammar s.held ≢ [] →
+    room_needed form s [] true ≡ release_room_in form s.grammar
 room_needed-report form s e f = rw e (by_events (events_of s.grammar s.held) f) where
   by_events : (es : List DecodeEvent) → es ≢ [] → room_of_act (bmp_room form) (wide_room form) s (act_at_end es true) ≡ release_room_in form s.grammar
   by_events [] f = absurd (f refl)
   by_events (x ∷ es) f = refl
 
-pub room_needed-none : (form : EncodingForm) (s : DecoderState) (last : Bool) → rests s.grammar s.held ≡ true → (IsTrue last → events_of s.grammar s.held ≡ []) → room_needed form s [] last ≡ 0
+pub room_needed-none : (form : EncodingForm) (s : DecoderState) (last : Bool) → rests s.grammar s.held ≡ true →
+    (IsTrue last → events_of s.grammar s.held ≡ []) → room_needed form s [] last ≡ 0
 room_needed-none form s last e f = rw e (by_last last f) where
   ended : (es : List DecodeEvent) → room_of_act (bmp_room form) (wide_room form) s (act_at_end es false) ≡ 0
   ended [] = refl
   ended (x ∷ es) = refl
 
-  by_last : (l : Bool) → (IsTrue l → events_of s.grammar s.held ≡ []) → room_of_act (bmp_room form) (wide_room form) s (act_at_end (events_of s.grammar s.held) l) ≡ 0
+  by_last : (l : Bool) → (IsTrue l → events_of s.grammar s.held ≡ []) →
+      room_of_act (bmp_room form) (wide_room form) s (act_at_end (events_of s.grammar s.held) l) ≡ 0
   by_last false f = ended (events_of s.grammar s.held)
   by_last true f = rw (f refl) refl
 
@@ -107,7 +115,8 @@ act_most form s (takes b) =
     (λ _. cond_both ((is_ascii b && is_empty s.held) && has_short_ascii s.grammar) 1 _ (λ n. n ≤ wide_room form) (λ _. some) (λ _. full_most form s.grammar))
 act_most form s _ = let a = release-full form s.grammar in let b = full_most form s.grammar in omega arith
 
-pub lacks_small : (form : EncodingForm) (s : DecoderState) (source : List ℕ) (last : Bool) (free : ℕ) → LacksRoom form s source last free → free < wide_room form
+pub lacks_small : (form : EncodingForm) (s : DecoderState) (source : List ℕ) (last : Bool) (free : ℕ) → LacksRoom form s source last free →
+    free < wide_room form
 lacks_small form s source last free l = let m = any_most (rests s.grammar s.held) source in omega arith where
   option_most : (o : Option Act) → room_of_act (bmp_room form) (wide_room form) s o ≤ wide_room form
   option_most None = omega arith

@@ -20,10 +20,12 @@ use Rattle.legacy_base.specs.Iso2022Jp.{ascii}
 use Rattle.legacy_base.specs.Grammar.{events_of}
 use Rattle.legacy_base.specs.Encoders.{Codec, single_byte, user_defined, big5, euc_kr, shift_jis, euc_jp, gb18030, gbk, iso_2022_jp, new_encoder, code, encoded}
 use Rattle.legacy_base.specs.RoundTrips.{grammar_of, is_fold, is_private_use_fold, IsEncodedAs, RoundTrips, ReencodesToTheSame, EscapesAreInPlace}
-use Rattle.legacy_base.specs.RoundTrips.{japanese_scalar, private_use_scalar, read_as, read_back, bytes_of, written, has_lost_row, IsSound, EncodesWellFormed, EscapesStayApart}
+use Rattle.legacy_base.specs.RoundTrips.{japanese_scalar, private_use_scalar, read_as, read_back, bytes_of, written, has_lost_row, IsSound, EncodesWellFormed}
+use Rattle.legacy_base.specs.RoundTrips.{EscapesStayApart}
 use Rattle.legacy_tables.proofs.Accepted.{parts, length-euc_kr, length-jis0208, length-gb18030}
 use Rattle.legacy_base.proofs.Trips.{bytes_of-bytes, plain-read, plain-coded, none_lost}
-use Rattle.legacy_base.proofs.TwoByteTrips.{single_byte-decodes, user_defined-decodes, big5-decodes, euc_kr-decodes, shift_jis-decodes, euc_jp-decodes, no_japanese_fold}
+use Rattle.legacy_base.proofs.TwoByteTrips.{single_byte-decodes, user_defined-decodes, big5-decodes, euc_kr-decodes, shift_jis-decodes, euc_jp-decodes}
+use Rattle.legacy_base.proofs.TwoByteTrips.{no_japanese_fold}
 use Rattle.legacy_base.proofs.Gb18030Trip.{gb18030-decodes, gbk-decodes, no_private_use_fold}
 use Rattle.legacy_base.proofs.Iso2022JpFronts.{step_end}
 use Rattle.legacy_base.proofs.Iso2022JpTrip.{no_fold, text_bytes, text_read, text_apart}
@@ -36,7 +38,8 @@ IsWellFormed codec = (text : List ℕ) → IsSound codec text → events_of (gra
 single_byte-read : (table : List ℕ) → IsWellFormed (single_byte table)
 unfolding events_of
 single_byte-read table text _ =
-    plain-read (single_byte_front table) (single_byte_code table) (read_as (single_byte table)) (λ c. false) (λ c b _ h. single_byte-decodes table c b h) text (none_lost text)
+    plain-read (single_byte_front table) (single_byte_code table) (read_as (single_byte table)) (λ c. false) (λ c b _ h. single_byte-decodes table c b h) text
+    (none_lost text)
 
 user_defined-read : IsWellFormed user_defined
 unfolding events_of
@@ -47,7 +50,8 @@ module _ (flat : FlatIndexes) (accepted : AreAccepted flat) where
   big5-read : IsWellFormed (big5 flat.big5)
   unfolding events_of
   big5-read text _ =
-      plain-read (big5_front flat.big5) (big5_code flat.big5) (read_as (big5 flat.big5)) (λ c. false) (λ c b _ h. big5-decodes flat.big5 c b (parts flat accepted).big5.0 h) text (none_lost text)
+      plain-read (big5_front flat.big5) (big5_code flat.big5) (read_as (big5 flat.big5)) (λ c. false)
+      (λ c b _ h. big5-decodes flat.big5 c b (parts flat accepted).big5.0 h) text (none_lost text)
 
   euc_kr-read : IsWellFormed (euc_kr flat.euc_kr)
   unfolding events_of
@@ -72,7 +76,8 @@ module _ (flat : FlatIndexes) (accepted : AreAccepted flat) where
   gb18030-read text sound =
       plain-read (gb18030_front flat.gb18030 flat.ranges) (gb18030_code flat.gb18030 flat.ranges flat.gb18030_pua)
       (private_use_scalar flat.gb18030 flat.gb18030_pua) (has_lost_row flat.gb18030 flat.gb18030_pua)
-      (λ c b kept h. gb18030-decodes flat.gb18030 flat.ranges flat.gb18030_pua (length-gb18030 flat accepted) (are_good_rows flat accepted) c b kept h) text sound
+      (λ c b kept h. gb18030-decodes flat.gb18030 flat.ranges flat.gb18030_pua (length-gb18030 flat accepted)
+      (are_good_rows flat accepted) c b kept h) text sound
 
   gbk-read : IsWellFormed (gbk flat.gb18030 flat.ranges flat.gb18030_pua)
   unfolding events_of
@@ -139,7 +144,8 @@ reads_itself : (codec : Codec) (text bytes : List ℕ) → IsEncodedAs codec tex
 reads_itself codec text bytes t = ap (map (read_as codec)) (coded_all codec text bytes t.whole) ∙ all_stand codec text t.unfolded
 
 -- no scalar has a row whose bytes have no scalar
-none_has_lost_row : (index : List ℕ) (pua : List (ℕ × ℕ × ℕ)) (text : List ℕ) → list_any (is_private_use_fold index pua) text ≡ false → list_any (has_lost_row index pua) text ≡ false
+none_has_lost_row : (index : List ℕ) (pua : List (ℕ × ℕ × ℕ)) (text : List ℕ) → list_any (is_private_use_fold index pua) text ≡ false →
+    list_any (has_lost_row index pua) text ≡ false
 none_has_lost_row index pua [] none = refl
 none_has_lost_row index pua (c ∷ text) none =
     let folds = or_parts (is_private_use_fold index pua c) (list_any (is_private_use_fold index pua) text) none in

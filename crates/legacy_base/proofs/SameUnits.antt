@@ -25,7 +25,8 @@ some_unit Utf16 c = grind (arith, nat_tests)
 some_unit Utf8 c = grind (arith, nat_tests)
 
 none_same : (form : EncodingForm) (c : ℕ) (r : List ℕ) → [] ≡ code_units form c ++ r → ⊥
-none_same form c r e = let n = some_unit form c in let l : length {A = ℕ} [] ≡ length (code_units form c ++ r) = ap length e in omega (arith, length-append (code_units form c) r)
+none_same form c r e =
+    let n = some_unit form c in let l : length {A = ℕ} [] ≡ length (code_units form c ++ r) = ap length e in omega (arith, length-append (code_units form c) r)
 
 pub all_units_same : (form : EncodingForm) (xs ys : List ℕ) → All IsScalar xs → All IsScalar ys → all_code_units form xs ≡ all_code_units form ys → xs ≡ ys
 all_units_same form [] [] p q e = refl
@@ -39,4 +40,5 @@ all_units_same form (x ∷ xs) (y ∷ ys) p q e =
 -- a text has at least as many code units as scalars
 pub length-le-all_code_units : (form : EncodingForm) (cs : List ℕ) → length cs ≤ length (all_code_units form cs)
 length-le-all_code_units form [] = omega arith
-length-le-all_code_units form (c ∷ cs) = omega (arith, length-le-all_code_units form cs, some_unit form c, length-append (code_units form c) (all_code_units form cs))
+length-le-all_code_units form (c ∷ cs) =
+    omega (arith, length-le-all_code_units form cs, some_unit form c, length-append (code_units form c) (all_code_units form cs))

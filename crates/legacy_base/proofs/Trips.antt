@@ -1,5 +1,6 @@
 -- Codes that decode to one scalar whatever bytes follow, and texts of such codes.
-use Rattle.std.proofs.Common.{◌≡◌, ℕ, suc, ◌<◌, List, [], ◌∷◌, ◌++◌, drop, length, map, filter, Option, Some, None, is_some, Bool, false, cond, refl, sym, ◌∙◌, ap, ap₂, arith}
+use Rattle.std.proofs.Common.{◌≡◌, ℕ, suc, ◌<◌, List, [], ◌∷◌, ◌++◌, drop, length, map, filter, Option, Some, None, is_some, Bool, false, cond, refl, sym, ◌∙◌}
+use Rattle.std.proofs.Common.{ap, ap₂, arith}
 use Rattle.std.proofs.lemmas.Bool.{or_parts}
 use Rattle.std.specs.List.{list_any}
 use Rattle.legacy_base.specs.declared.results.DecodeEvent.{DecodeEvent}
@@ -69,7 +70,8 @@ pub record HasCode (c : ℕ) (code : Option (List ℕ)) (bytes : List ℕ) (even
   pub code_is : code ≡ Some own
   pub begins : BeginsWith own bytes events
 
-pub has_code : (c : ℕ) (code : Option (List ℕ)) (bytes : List ℕ) (events : List EncodeEvent) → code_events c code ++ events ≡ map Byte bytes → HasCode c code bytes events
+pub has_code : (c : ℕ) (code : Option (List ℕ)) (bytes : List ℕ) (events : List EncodeEvent) → code_events c code ++ events ≡ map Byte bytes →
+    HasCode c code bytes events
 has_code c None [] events e = cc
 has_code c None (b ∷ bytes) events e = cc
 has_code c (Some own) bytes events e = record { own = own; code_is = refl; begins = begins_with own bytes events e }
@@ -103,8 +105,7 @@ coded code text = filter (λ c. is_some (code c)) text
 
 -- the events of the bytes of a text, if each code decodes to one scalar
 pub plain-read : (front : ℕ → List ℕ → Front) (code : ℕ → Option (List ℕ)) (read : ℕ → ℕ) (lost : ℕ → Bool)
-    → ((c : ℕ) (bytes : List ℕ) → lost c ≡ false → code c ≡ Some bytes → Decodes front bytes (read c))
-    → (text : List ℕ) → list_any lost text ≡ false
+    → ((c : ℕ) (bytes : List ℕ) → lost c ≡ false → code c ≡ Some bytes → Decodes front bytes (read c)) → (text : List ℕ) → list_any lost text ≡ false
     → cut front 0 0 (bytes_of (plain_events code text)) ≡ map Scalar (map read (coded code text))
 unfolding plain_events
 plain-read front code read lost each [] none = rw bytes_of-nothing (cut-nil front)
@@ -112,9 +113,9 @@ plain-read front code read lost each (c ∷ text) none =
     let kept = or_parts (lost c) (list_any lost text) none in
     by_code (code c) refl kept.0 (plain-read front code read lost each text kept.1)
   where
-    by_code : (o : Option (List ℕ)) → code c ≡ o → lost c ≡ false
-        → cut front 0 0 (bytes_of (plain_events code text)) ≡ map Scalar (map read (coded code text))
-        → cut front 0 0 (bytes_of (code_events c o ++ plain_events code text)) ≡ map Scalar (map read (cond (is_some o) (c ∷ coded code text) (coded code text)))
+    by_code : (o : Option (List ℕ)) → code c ≡ o → lost c ≡ false → cut front 0 0 (bytes_of (plain_events code text)) ≡ map Scalar (map read (coded code text))
+        → cut front 0 0 (bytes_of (code_events c o ++ plain_events code text))
+        ≡ map Scalar (map read (cond (is_some o) (c ∷ coded code text) (coded code text)))
     by_code None e kept later = rw (bytes_of-unmappable c (plain_events code text)) later
     by_code (Some own) e kept later =
         rw (bytes_of-behind own (plain_events code text))

@@ -1,7 +1,8 @@
 -- The codes of Big5, EUC-KR, Shift_JIS, EUC-JP, the single-byte codecs and x-user-defined decode to their scalars. The
 -- codes of folds decode to other scalars (`read_as`).
 use Rattle.std.proofs.Common.{◌≡◌, ◌≢◌, ℕ, ◌+◌, ◌-◌, ◌*◌, ◌/◌, ◌%◌, ◌<◌, ◌≤◌, List, [], ◌∷◌, length, Bool, true, false}
-use Rattle.std.proofs.Common.{cond, ◌||◌, ◌==◌, nat_lt, nat_le, Option, Some, None, option_map, option_to_list, position, get_or, refl, sym, ap, ◌∙◌, arith, if◌then◌else◌}
+use Rattle.std.proofs.Common.{cond, ◌||◌, ◌==◌, nat_lt, nat_le, Option, Some, None, option_map, option_to_list, position, get_or, refl, sym, ap, ◌∙◌, arith}
+use Rattle.std.proofs.Common.{if◌then◌else◌}
 use Rattle.std.proofs.lemmas.Bool.{and_parts, or_parts, leb-true, ne_eqb, eqb-true, true≢false}
 use Rattle.std.proofs.lemmas.Bool.Decides.{nat_tests}
 use Rattle.std.proofs.lemmas.List.Quantifiers.{position-Some}
@@ -19,7 +20,8 @@ use Rattle.legacy_base.specs.UserDefined.{user_defined_front, user_defined_code}
 use Rattle.legacy_base.specs.Big5.{big5_pointer, big5_scalars, big5_pair, big5_front, big5_bytes, big5_code}
 use Rattle.legacy_base.specs.LeadForms.{lead_front, lead_pair}
 use Rattle.legacy_base.specs.EucKr.{euc_kr_pointer, euc_kr_bytes, euc_kr_code}
-use Rattle.legacy_base.specs.ShiftJis.{is_shift_jis_lead, shift_jis_lead_part, shift_jis_pointer, shift_jis_scalars, shift_jis_pair, shift_jis_front, shift_jis_bytes, shift_jis_code}
+use Rattle.legacy_base.specs.ShiftJis.{is_shift_jis_lead, shift_jis_lead_part, shift_jis_pointer, shift_jis_scalars, shift_jis_pair, shift_jis_front}
+use Rattle.legacy_base.specs.ShiftJis.{shift_jis_bytes, shift_jis_code}
 use Rattle.legacy_base.specs.EucJp.{euc_jp_katakana, euc_jp_pair, euc_jp_front, euc_jp_bytes, euc_jp_code}
 use Rattle.legacy_base.specs.RoundTrips.{is_japanese_fold, japanese_scalar}
 use Rattle.legacy_tables.proofs.Pointers.{first-taken, big5-taken}
@@ -32,11 +34,13 @@ mapped f None bytes h = cc
 mapped f (Some p) bytes h = (p, refl, (let same : f p ≡ bytes = cc in sym same))
 
 -- one byte that is a front by itself
-pub one_byte : (front : ℕ → List ℕ → Front) (b c : ℕ) (bytes : List ℕ) → bytes ≡ b ∷ [] → ((more : List ℕ) → front b more ≡ reads 1 (c ∷ [])) → Decodes front bytes c
+pub one_byte : (front : ℕ → List ℕ → Front) (b c : ℕ) (bytes : List ℕ) → bytes ≡ b ∷ [] → ((more : List ℕ) → front b more ≡ reads 1 (c ∷ [])) →
+    Decodes front bytes c
 one_byte front b c bytes is h = rw is (record { some = omega arith; gives = h })
 
 -- two bytes that are a front by themselves
-pub two_bytes : (front : ℕ → List ℕ → Front) (a b c : ℕ) (bytes : List ℕ) → bytes ≡ a ∷ b ∷ [] → ((more : List ℕ) → front a (b ∷ more) ≡ reads 2 (c ∷ [])) → Decodes front bytes c
+pub two_bytes : (front : ℕ → List ℕ → Front) (a b c : ℕ) (bytes : List ℕ) → bytes ≡ a ∷ b ∷ [] → ((more : List ℕ) → front a (b ∷ more) ≡ reads 2 (c ∷ [])) →
+    Decodes front bytes c
 two_bytes front a b c bytes is h = rw is (record { some = omega arith; gives = h })
 
 same_bytes : (b : ℕ) (bytes : List ℕ) → Some (b ∷ []) ≡ Some bytes → bytes ≡ b ∷ []
@@ -75,16 +79,17 @@ big5_pair_back index p c more short back =
     let pointer = big5_back (p / 157) (p % 157) column (nat_lt (p % 157) 0x3F) refl in
     rw (lead_ascii, lead, pointer, p_is, big5_scalar index p c from back.has) refl
 
-pub big5-decodes : (index : List ℕ) (c : ℕ) (bytes : List ℕ) → length index ≤ 19782
-    → big5_code index c ≡ Some bytes → Decodes (big5_front index) bytes c
+pub big5-decodes : (index : List ℕ) (c : ℕ) (bytes : List ℕ) → length index ≤ 19782 → big5_code index c ≡ Some bytes → Decodes (big5_front index) bytes c
 unfolding big5_code big5_front
 big5-decodes index c bytes short h = by_test (is_ascii c) refl h
   where
-    by_test : (t : Bool) → is_ascii c ≡ t → cond t (Some (c ∷ [])) (option_map big5_bytes (big5_pointer_of index c)) ≡ Some bytes → Decodes (big5_front index) bytes c
+    by_test : (t : Bool) → is_ascii c ≡ t → cond t (Some (c ∷ [])) (option_map big5_bytes (big5_pointer_of index c)) ≡ Some bytes →
+        Decodes (big5_front index) bytes c
     by_test true e h = one_byte (big5_front index) c c bytes (same_bytes c bytes h) (λ more. rw e refl)
     by_test false e h =
         let m = mapped big5_bytes (big5_pointer_of index c) bytes h in
-        two_bytes (big5_front index) _ _ c bytes m.2 (λ more. big5_pair_back index m.0 c more short (leads_back is_big5_pointer index c _ (big5-taken index c) m.0 m.1))
+        two_bytes (big5_front index) _ _ c bytes m.2 (λ more. big5_pair_back index m.0 c more short
+        (leads_back is_big5_pointer index c _ (big5-taken index c) m.0 m.1))
 
 -- ---- EUC-KR
 
@@ -107,7 +112,8 @@ pub euc_kr-decodes : (index : List ℕ) (c : ℕ) (bytes : List ℕ) → length 
 unfolding euc_kr_code lead_front
 euc_kr-decodes index c bytes short h = by_test (is_ascii c) refl h
   where
-    by_test : (t : Bool) → is_ascii c ≡ t → cond t (Some (c ∷ [])) (option_map euc_kr_bytes (euc_kr_pointer_of index c)) ≡ Some bytes → Decodes (lead_front is_lead euc_kr_pointer index) bytes c
+    by_test : (t : Bool) → is_ascii c ≡ t → cond t (Some (c ∷ [])) (option_map euc_kr_bytes (euc_kr_pointer_of index c)) ≡ Some bytes →
+        Decodes (lead_front is_lead euc_kr_pointer index) bytes c
     by_test true e h = one_byte (lead_front is_lead euc_kr_pointer index) c c bytes (same_bytes c bytes h) (λ more. rw e refl)
     by_test false e h =
         let m = mapped euc_kr_bytes (euc_kr_pointer_of index c) bytes h in
@@ -117,8 +123,7 @@ euc_kr-decodes index c bytes short h = by_test (is_ascii c) refl h
 -- ---- Shift_JIS
 
 -- the lead of a row is a lead, and its number is the row
-shift_jis_lead_back : (q : ℕ) → q < 60 → (t : Bool) → nat_lt q 0x1F ≡ t
-    → ((is_ascii (q + cond t 0x81 0xC1) || (q + cond t 0x81 0xC1) == 0x80) ≡ false)
+shift_jis_lead_back : (q : ℕ) → q < 60 → (t : Bool) → nat_lt q 0x1F ≡ t → ((is_ascii (q + cond t 0x81 0xC1) || (q + cond t 0x81 0xC1) == 0x80) ≡ false)
     × (is_in_range 0xA1 0xDF (q + cond t 0x81 0xC1) ≡ false)
     × (is_shift_jis_lead (q + cond t 0x81 0xC1) ≡ true)
     × (shift_jis_lead_part (q + cond t 0x81 0xC1) ≡ q)
@@ -151,8 +156,10 @@ shift_jis_scalar jis0208 p c empty has = by_test (is_in_range 8836 10715 p) refl
     by_test true e = let none = empty.empty p e in cc
     by_test false e = rw has refl
 
-shift_jis_pair_back : (jis0208 : List ℕ) (p c : ℕ) (more : List ℕ) → length jis0208 ≤ 11280 → PrivateUseIsEmpty jis0208 → LeadsBack is_shift_jis_pointer jis0208 c p
-    → shift_jis_front jis0208 (p / 188 + (if nat_lt (p / 188) 0x1F then 0x81 else 0xC1)) ((p % 188 + (if nat_lt (p % 188) 0x3F then 0x40 else 0x41)) ∷ more) ≡ reads 2 (c ∷ [])
+shift_jis_pair_back : (jis0208 : List ℕ) (p c : ℕ) (more : List ℕ) → length jis0208 ≤ 11280 → PrivateUseIsEmpty jis0208 →
+    LeadsBack is_shift_jis_pointer jis0208 c p
+    → shift_jis_front jis0208 (p / 188 + (if nat_lt (p / 188) 0x1F then 0x81 else 0xC1)) ((p % 188 + (if nat_lt (p % 188) 0x3F then 0x40 else 0x41)) ∷ more)
+    ≡ reads 2 (c ∷ [])
 unfolding shift_jis_front shift_jis_pair
 shift_jis_pair_back jis0208 p c more short empty back =
     let p_is : 188 * (p / 188) + p % 188 ≡ p = div-add-mod p 188 in
@@ -261,7 +268,8 @@ pub single_byte-decodes : (table : List ℕ) (c : ℕ) (bytes : List ℕ) → si
 unfolding single_byte_code single_byte_front
 single_byte-decodes table c bytes h = by_test (is_ascii c) refl h
   where
-    by_test : (t : Bool) → is_ascii c ≡ t → cond t (Some (c ∷ [])) (option_map (λ place. (0x80 + place) ∷ []) (position (λ entry. entry == c) table)) ≡ Some bytes
+    by_test : (t : Bool) → is_ascii c ≡ t →
+        cond t (Some (c ∷ [])) (option_map (λ place. (0x80 + place) ∷ []) (position (λ entry. entry == c) table)) ≡ Some bytes
         → Decodes (single_byte_front table) bytes c
     by_test true e h = one_byte (single_byte_front table) c c bytes (same_bytes c bytes h) (λ more. rw e refl)
     by_test false e h =

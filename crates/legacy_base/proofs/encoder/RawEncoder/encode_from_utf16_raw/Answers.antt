@@ -13,4 +13,5 @@ pub returns-clause-boundary : goal.returns-clause-boundary
 returns-clause-boundary g c =
     let call = rw (c.new-source.ensures.units, c.new-source.ensures.place) at c.step-answer.ensures.call in
     let passed = rw (c.new-source.ensures.units, c.new-source.ensures.place) at c.step-answer.ensures.passed in
-    rw c.consumed-read.ensures (unit_boundary _ _ _ (utf16_read c.args.src.now call.taken _ c.step-answer.new.src.place (λ i. let f = c.type_inv.src i in omega arith) call.cut passed))
+    rw c.consumed-read.ensures (unit_boundary _ _ _ (utf16_read c.args.src.now call.taken _ c.step-answer.new.src.place
+    (λ i. let f = c.type_inv.src i in omega arith) call.cut passed))
