@@ -99,21 +99,17 @@ pub record AreGoodRows (pua : List (ℕ × ℕ × ℕ)) : Type 0 where
 -- if a lead and a trail have a scalar, they decode to it
 pub pair_has : (index : List ℕ) (lead trail c : ℕ) → is_empty (gb18030_scalars index lead trail) ≡ false
     → gb18030_scalars index lead trail ≡ get_or (gb18030_scalars index lead trail) 0 c ∷ []
-pair_has index lead trail c h = by_tests (is_in_range 0x40 0x7E trail) (is_in_range 0x80 0xFE trail) h
+pair_has index lead trail c h = by_tests _ _ (is_in_range 0x40 0x7E trail) (is_in_range 0x80 0xFE trail) h
   where
     alone : (o : Option ℕ) → is_empty (option_to_list o) ≡ false → option_to_list o ≡ get_or (option_to_list o) 0 c ∷ []
     alone None h = cc
     alone (Some s) h = refl
 
-    by_tests : (t u : Bool) → is_empty (cond t (option_to_list (idx index ((lead - 0x81) * 190 + (trail - 0x40))))
-        (cond u (option_to_list (idx index ((lead - 0x81) * 190 + (trail - 0x41)))) [])) ≡ false
-        → cond t (option_to_list (idx index ((lead - 0x81) * 190 + (trail - 0x40))))
-        (cond u (option_to_list (idx index ((lead - 0x81) * 190 + (trail - 0x41)))) [])
-        ≡ get_or (cond t (option_to_list (idx index ((lead - 0x81) * 190 + (trail - 0x40))))
-        (cond u (option_to_list (idx index ((lead - 0x81) * 190 + (trail - 0x41)))) [])) 0 c ∷ []
-    by_tests true u h = alone _ h
-    by_tests false true h = alone _ h
-    by_tests false false h = cc
+    by_tests : (x y : Option ℕ) (t u : Bool) → is_empty (cond t (option_to_list x) (cond u (option_to_list y) [])) ≡ false
+        → cond t (option_to_list x) (cond u (option_to_list y) []) ≡ get_or (cond t (option_to_list x) (cond u (option_to_list y) [])) 0 c ∷ []
+    by_tests x y true u h = alone x h
+    by_tests x y false true h = alone y h
+    by_tests x y false false h = cc
 
 -- a row whose bytes have a scalar decodes to it
 row_back : (index : List ℕ) (ranges : List (ℕ × ℕ)) (lead trail c : ℕ) (more : List ℕ) → are_row_bytes lead trail ≡ true →
@@ -138,14 +134,11 @@ no_private_use_fold index pua c h = by_row (gb18030_pua_of pua c) h
     same : (lead trail : ℕ) → not (list_any (λ s. s == c) (gb18030_scalars index lead trail)) ≡ false → get_or (gb18030_scalars index lead trail) 0 c ≡ c
     same lead trail h =
         let one = pair_has index lead trail c (first_is (gb18030_scalars index lead trail) h) in
-        only (get_or (gb18030_scalars index lead trail) 0 c) (rw one at h)
+        only (get_or (gb18030_scalars index lead trail) 0 c) _ refl (rw one at h)
       where
-        only : (s : ℕ) → not (list_any (λ s. s == c) (s ∷ [])) ≡ false → s ≡ c
-        only s h = by_test (s == c) refl h
-          where
-            by_test : (t : Bool) → (s == c) ≡ t → not (t || false) ≡ false → s ≡ c
-            by_test true e h = eqb-true s c e
-            by_test false e h = cc
+        only : (s : ℕ) (t : Bool) → (s == c) ≡ t → not (t || false) ≡ false → s ≡ c
+        only s true e h = eqb-true s c e
+        only s false e h = cc
 
     by_row : (o : Option (ℕ × ℕ)) → option_map_or (λ row. not (list_any (λ s. s == c) (gb18030_scalars index row.0 row.1))) o false ≡ false
         → (option_map_or (λ row. get_or (gb18030_scalars index row.0 row.1) 0 c) o c ≡ c)

@@ -46,6 +46,17 @@ two_bytes front a b c bytes is h = rw is (record { some = omega arith; gives = h
 same_bytes : (b : ℕ) (bytes : List ℕ) → Some (b ∷ []) ≡ Some bytes → bytes ≡ b ∷ []
 same_bytes b bytes h = cc
 
+-- a code that is the byte of an ASCII scalar, or is made of a pointer
+ascii_or_mapped : (front : ℕ → List ℕ → Front) (c : ℕ) (bytes : List ℕ) (made : ℕ → List ℕ) (pointer : Option ℕ)
+    → (is_ascii c ≡ true → (more : List ℕ) → front c more ≡ reads 1 (c ∷ []))
+    → (is_ascii c ≡ false → (p : ℕ) → pointer ≡ Some p → bytes ≡ made p → Decodes front bytes c)
+    → cond (is_ascii c) (Some (c ∷ [])) (option_map made pointer) ≡ Some bytes → Decodes front bytes c
+ascii_or_mapped front c bytes made pointer one mapping = by_test (is_ascii c) refl
+  where
+    by_test : (t : Bool) → is_ascii c ≡ t → cond t (Some (c ∷ [])) (option_map made pointer) ≡ Some bytes → Decodes front bytes c
+    by_test true e h = one_byte front c c bytes (same_bytes c bytes h) (one e)
+    by_test false e h = let m = mapped made pointer bytes h in mapping e m.0 m.1 m.2
+
 -- ---- Big5
 
 big5_back : (q r : ℕ) → r < 157 → (t : Bool) → nat_lt r 0x3F ≡ t → big5_pointer (q + 0x81) (r + cond t 0x40 0x62) ≡ Some (157 * q + r)
@@ -81,15 +92,10 @@ big5_pair_back index p c more short back =
 
 pub big5-decodes : (index : List ℕ) (c : ℕ) (bytes : List ℕ) → length index ≤ 19782 → big5_code index c ≡ Some bytes → Decodes (big5_front index) bytes c
 unfolding big5_code big5_front
-big5-decodes index c bytes short h = by_test (is_ascii c) refl h
-  where
-    by_test : (t : Bool) → is_ascii c ≡ t → cond t (Some (c ∷ [])) (option_map big5_bytes (big5_pointer_of index c)) ≡ Some bytes →
-        Decodes (big5_front index) bytes c
-    by_test true e h = one_byte (big5_front index) c c bytes (same_bytes c bytes h) (λ more. rw e refl)
-    by_test false e h =
-        let m = mapped big5_bytes (big5_pointer_of index c) bytes h in
-        two_bytes (big5_front index) _ _ c bytes m.2 (λ more. big5_pair_back index m.0 c more short
-        (leads_back is_big5_pointer index c _ (big5-taken index c) m.0 m.1))
+big5-decodes index c bytes short =
+    ascii_or_mapped (big5_front index) c bytes big5_bytes (big5_pointer_of index c) (λ e more. rw e refl)
+    (λ e p has is. two_bytes (big5_front index) _ _ c bytes is (λ more. big5_pair_back index p c more short
+    (leads_back is_big5_pointer index c _ (big5-taken index c) p has)))
 
 -- ---- EUC-KR
 
@@ -110,15 +116,10 @@ euc_kr_pair_back index p c more short back =
 pub euc_kr-decodes : (index : List ℕ) (c : ℕ) (bytes : List ℕ) → length index ≤ 23940
     → euc_kr_code index c ≡ Some bytes → Decodes (lead_front is_lead euc_kr_pointer index) bytes c
 unfolding euc_kr_code lead_front
-euc_kr-decodes index c bytes short h = by_test (is_ascii c) refl h
-  where
-    by_test : (t : Bool) → is_ascii c ≡ t → cond t (Some (c ∷ [])) (option_map euc_kr_bytes (euc_kr_pointer_of index c)) ≡ Some bytes →
-        Decodes (lead_front is_lead euc_kr_pointer index) bytes c
-    by_test true e h = one_byte (lead_front is_lead euc_kr_pointer index) c c bytes (same_bytes c bytes h) (λ more. rw e refl)
-    by_test false e h =
-        let m = mapped euc_kr_bytes (euc_kr_pointer_of index c) bytes h in
-        let back = leads_back every_pointer index c _ (first-taken every_pointer index c) m.0 m.1 in
-        two_bytes (lead_front is_lead euc_kr_pointer index) _ _ c bytes m.2 (λ more. euc_kr_pair_back index m.0 c more short back)
+euc_kr-decodes index c bytes short =
+    ascii_or_mapped (lead_front is_lead euc_kr_pointer index) c bytes euc_kr_bytes (euc_kr_pointer_of index c) (λ e more. rw e refl)
+    (λ e p has is. two_bytes (lead_front is_lead euc_kr_pointer index) _ _ c bytes is (λ more. euc_kr_pair_back index p c more short
+    (leads_back every_pointer index c _ (first-taken every_pointer index c) p has)))
 
 -- ---- Shift_JIS
 
@@ -266,19 +267,14 @@ place_back table c place n e =
 
 pub single_byte-decodes : (table : List ℕ) (c : ℕ) (bytes : List ℕ) → single_byte_code table c ≡ Some bytes → Decodes (single_byte_front table) bytes c
 unfolding single_byte_code single_byte_front
-single_byte-decodes table c bytes h = by_test (is_ascii c) refl h
-  where
-    by_test : (t : Bool) → is_ascii c ≡ t →
-        cond t (Some (c ∷ [])) (option_map (λ place. (0x80 + place) ∷ []) (position (λ entry. entry == c) table)) ≡ Some bytes
-        → Decodes (single_byte_front table) bytes c
-    by_test true e h = one_byte (single_byte_front table) c c bytes (same_bytes c bytes h) (λ more. rw e refl)
-    by_test false e h =
-        let m = mapped (λ place. (0x80 + place) ∷ []) (position (λ entry. entry == c) table) bytes h in
-        let n : c ≢ 0 = λ z. let t : is_ascii c ≡ true = rw z refl in true≢false (sym t ∙ e) in
-        let has = place_back table c m.0 n m.1 in
-        let a : is_ascii (0x80 + m.0) ≡ false = grind (arith, nat_tests) in
-        let place : 0x80 + m.0 - 0x80 ≡ m.0 = omega arith in
-        one_byte (single_byte_front table) (0x80 + m.0) c bytes m.2 (λ more. rw (a, place, has) refl)
+single_byte-decodes table c bytes =
+    ascii_or_mapped (single_byte_front table) c bytes (λ place. (0x80 + place) ∷ []) (position (λ entry. entry == c) table) (λ e more. rw e refl)
+    (λ e p found is.
+    let n : c ≢ 0 = λ z. let t : is_ascii c ≡ true = rw z refl in true≢false (sym t ∙ e) in
+    let has = place_back table c p n found in
+    let a : is_ascii (0x80 + p) ≡ false = grind (arith, nat_tests) in
+    let place : 0x80 + p - 0x80 ≡ p = omega arith in
+    one_byte (single_byte_front table) (0x80 + p) c bytes is (λ more. rw (a, place, has) refl))
 
 pub user_defined-decodes : (c : ℕ) (bytes : List ℕ) → user_defined_code c ≡ Some bytes → Decodes user_defined_front bytes c
 unfolding user_defined_code user_defined_front
