@@ -1,8 +1,8 @@
 -- The moves of an encoder make a call.
-use Rattle.std.proofs.Common.{◌≡◌, ◌∙◌, ℕ, suc, ◌+◌, ◌-◌, ◌≤◌, ◌<◌, List, [], ◌∷◌, ◌++◌, length, get_or, take, drop, map, refl, sym}
-use Rattle.std.proofs.Common.{ap, subst, arith, append_assoc, append-nil, length-append, length-take, length-drop, add-zero, inl, inr, Bool, true, false, IsTrue, Some, None, slice_get, not, IsAscii, ◌⊎◌}
+use Rattle.std.proofs.Common.{◌≡◌, ◌∙◌, ℕ, ◌+◌, ◌-◌, ◌≤◌, ◌<◌, List, [], ◌∷◌, ◌++◌, length, get_or, take, drop, map, refl, sym}
+use Rattle.std.proofs.Common.{ap, subst, arith, append_assoc, append-nil, length-append, length-take, add-zero, inl, inr, Bool, true, false, IsTrue, Some, None, slice_get, not, ◌⊎◌}
 use Rattle.std.proofs.lemmas.Bool.{cases_lt}
-use Rattle.std.proofs.lemmas.List.{take-append-le, get_or_append_left, take-append-drop, length-take-le}
+use Rattle.std.proofs.lemmas.List.{take-append-le, get_or_append_left}
 use Rattle.std.proofs.Math.Nat.{sub-zero}
 use Rattle.std.proofs.Math.Seq.{take-append_seam}
 use Rattle.legacy_base.specs.declared.results.EncodeEvent.{EncodeEvent}
@@ -16,14 +16,12 @@ use Rattle.legacy_base.specs.Profile.{is_empty}
 use Rattle.legacy_base.specs.EncoderProfile.{EncoderMode, in_ascii, in_roman, in_two_byte}
 use Rattle.legacy_base.specs.Encoders.{EncoderState, encoder_profile, code, encoded, end_bytes, is_pending, scalar_room, encoder_need, encoder_formula, encoder_answer, encoder_room}
 use Rattle.legacy_base.specs.EncoderCalls.{EncoderCall, EncoderLacksRoom, bytes_before}
-use Rattle.legacy_text.proofs.CodeUnits.{length-code_units-ascii}
 use Rattle.legacy_base.proofs.Enough.{answer-value}
 use Rattle.legacy_base.proofs.Beginnings.{begins_later}
-use Rattle.legacy_text.proofs.CodeUnits.{total_unit_count-append}
 use Rattle.legacy_encoder_engine.specs.declared.moves.EncoderMove.{EncoderMove}
 use Rattle.legacy_encoder_engine.specs.declared.moves.EncoderMove.TheVariants as moves
 use Rattle.legacy_encoder_engine.specs.Moves.{Moves, Finishes, move_bytes, move_report, unread_scalar, is_escape, differs, wants_escape, state_for}
-use Rattle.legacy_encoder_engine.specs.UnderWay.{LowersEscaped, Underway, KeepsOn, HasAscii, PutsCode}
+use Rattle.legacy_encoder_engine.specs.UnderWay.{LowersEscaped, Underway}
 use Rattle.legacy_encoder_engine.specs.Serves.{Serves}
 
 -- ---- small laws
@@ -463,84 +461,3 @@ front_length n xs h = omega (arith, length-take n xs)
 pub first_units : (form : EncodingForm) (left : List ℕ) (c : ℕ) → left ≡ c ∷ drop 1 left → total_unit_count form left ≡ unit_count form (get_or left 0 0) + total_unit_count form (drop 1 left)
 first_units form [] c e = cc
 first_units form (x ∷ xs) c e = length-append (code_units form x) (all_code_units form xs)
-
--- ---- reading ahead
-
-module _ (state : EncoderState) (free : ℕ) where
-  pub keeps_none : (left bytes : List ℕ) → KeepsOn state free left bytes left bytes
-  keeps_none left bytes = record { keeps = λ before source last u. u }
-
-  pub keeps_then : (left bytes left' bytes' left'' bytes'' : List ℕ) → KeepsOn state free left bytes left' bytes' → KeepsOn state free left' bytes' left'' bytes''
-      → KeepsOn state free left bytes left'' bytes''
-  keeps_then left bytes left' bytes' left'' bytes'' first second = record { keeps = λ before source last u. second.keeps before source last (first.keeps before source last u) }
-
-  module _ (serves : Serves (encoder_profile state.codec)) where
-    pub keeps_move : (left bytes : List ℕ) (c : ℕ) (rest : List ℕ) (move : EncoderMove) → left ≡ c ∷ rest → Moves state c state move → is_escape move ≡ false → move_report move ≡ []
-        → scalar_room state c ≤ free - length bytes →
-        KeepsOn state free left bytes rest (bytes ++ move_bytes move)
-    keeps_move left bytes c rest move at f plain silent room = record {
-      keeps = λ before source last u. underway_read before source last free state left bytes u serves c rest at state move f room plain silent;
-    }
-
-    -- ASCII scalars at the beginning are written as themselves
-    pub keeps_ascii : HasAscii state → (front left bytes rest : List ℕ) → IsAscii front → left ≡ front ++ rest → length bytes + length front ≤ free
-        → KeepsOn state free left bytes rest (bytes ++ front)
-    keeps_ascii has [] left bytes rest plain at fits = rw (append-nil bytes, at) (keeps_none rest bytes)
-    keeps_ascii has (c ∷ front) left bytes rest plain at fits =
-        let low : c < 128 = plain 0 in
-        let one : scalar_room state c ≤ 1 = has.room c low in
-        let long : length (bytes ++ c ∷ []) ≡ length bytes + 1 = length-append bytes (c ∷ []) in
-        let first = keeps_move left bytes c (front ++ rest) (moves.One c) at (has.moves c low) refl refl (omega arith) in
-        let others = keeps_ascii has front (front ++ rest) (bytes ++ c ∷ []) rest (λ i. plain (suc i)) refl (omega arith) in
-        subst (λ l. KeepsOn state free left bytes rest l) (append_assoc bytes (c ∷ []) front)
-        (keeps_then left bytes (front ++ rest) (bytes ++ c ∷ []) rest ((bytes ++ c ∷ []) ++ front) first others)
-
--- ASCII scalars have one code unit each
-ascii_units : (form : EncodingForm) (front : List ℕ) → IsAscii front → total_unit_count form front ≡ length front
-ascii_units form [] a = refl
-ascii_units form (c ∷ front) a =
-    let one : length (code_units form c) ≡ 1 = length-code_units-ascii form c (a 0) in
-    let others = ascii_units form front (λ i. a (suc i)) in
-    omega (arith, length-append (code_units form c) (all_code_units form front))
-
--- the code units of a text that begins with n ASCII scalars
-pub front_units : (form : EncodingForm) (left : List ℕ) (n : ℕ) → n ≤ length left → IsAscii (take n left) → total_unit_count form left ≡ n + total_unit_count form (drop n left)
-front_units form left n h a =
-    let parts : left ≡ take n left ++ drop n left = sym (take-append-drop n left) in
-    let both = total_unit_count-append form (take n left) (drop n left) in
-    let units = ascii_units form (take n left) a in
-    let long = length-take-le n left h in
-    omega (arith, ap (total_unit_count form) parts)
-
--- the next scalar exists, with its number of code units
-pub first_count : (form : EncodingForm) (left : List ℕ) (c n : ℕ) → left ≡ c ∷ drop 1 left → unit_count form c ≡ n → (0 < length left) × (n ≡ unit_count form (get_or left 0 0))
-first_count form [] c n e u = cc
-first_count form (x ∷ xs) c n e u = let same : x ≡ c = cc in (omega arith, sym u ∙ ap (unit_count form) (sym same))
-
--- Reading ahead, with one more scalar. It relates the scalars left, the bytes written, the end of these bytes and the
--- code units passed, before and after.
-pub record ReadsOn (form : EncodingForm) (state : EncoderState) (free : ℕ) (left bytes : List ℕ) (start passed : ℕ) (left' bytes' : List ℕ) (end passed' : ℕ) : Type 0 where
-  pub keeps : KeepsOn state free left bytes left' bytes'
-  pub start_is : start ≤ end
-  pub end_is : end ≤ free
-  pub fewer : length left' < length left
-  pub passed_is : passed' + total_unit_count form left' ≡ passed + total_unit_count form left
-
-pub reads_on : (form : EncodingForm) (state : EncoderState) (free : ℕ) (serves : Serves (encoder_profile state.codec)) (left bytes : List ℕ) (start passed : ℕ) (left' bytes' : List ℕ) (at passed' : ℕ)
-    → KeepsOn state free left bytes left' bytes' → start ≤ at → length left' ≤ length left → passed' + total_unit_count form left' ≡ passed + total_unit_count form left
-    → length bytes' ≡ at → (c n : ℕ) → left' ≡ c ∷ drop 1 left' → unit_count form c ≡ n → at + scalar_room state c ≤ free
-    → (left'' bytes'' : List ℕ) (end passed'' : ℕ) → PutsCode state c bytes' at bytes'' end → left'' ≡ drop 1 left' → passed'' ≡ passed' + n
-    → ReadsOn form state free left bytes start passed left'' bytes'' end passed''
-reads_on form state free serves left bytes start passed left' bytes' at passed' keeps s f p long c n is units room left'' bytes'' end passed'' put next now =
-    let one = keeps_move state free serves left' bytes' c (drop 1 left') put.move is put.moves put.reads put.silent (omega arith) in
-    let first = first_units form left' c is in
-    let count = (first_count form left' c n is units).1 in
-    let shorter : length (drop 1 left') < length left' = omega (arith, length-drop 1 left', ap length is) in
-    let fits = put.moves.fits in
-    record {
-      keeps = rw (put.bytes, next) (keeps_then state free left bytes left' bytes' (drop 1 left') (bytes' ++ move_bytes put.move) keeps one);
-      start_is = omega (arith, put.ends);
-      end_is = omega (arith, put.ends);
-      fewer = rw next (omega arith);
-      passed_is = rw next (omega arith);
-    }

@@ -1,5 +1,6 @@
 -- The lemmas that the proofs of the loops use.
 pub mod CallUnderWay
+pub mod ReadingAhead
 pub mod PlainServes
 pub mod PairAnswers
 pub mod CachedPairs

@@ -1,8 +1,7 @@
 -- The codecs without modes: their rooms are enough for their scalars, and each move writes the code of its scalar.
-use Rattle.std.proofs.Common.{zero, suc, take, drop, get_or, append-nil, append_assoc, length-append, ◌≡◌, ◌∙◌, ℕ, ◌+◌, ◌-◌, ◌≤◌, ◌<◌, List, [], ◌∷◌}
+use Rattle.std.proofs.Common.{◌/◌, ◌%◌, ◌≡◌, ◌∙◌, ℕ, ◌+◌, ◌-◌, ◌≤◌, ◌<◌, List, [], ◌∷◌}
 use Rattle.std.proofs.Common.{◌++◌, length, not, refl, sym, ap, subst, arith, Bool, true, false, Some, None, Option, cond, option_map, ltb, inl, inr}
 use Rattle.std.proofs.lemmas.Bool.{cases_lt, lt-ltb, le-ltb}
-use Rattle.std.proofs.lemmas.List.{take-append-drop, length-take-le, get_or-take}
 use Rattle.std.specs.Option.{option_or}
 use Rattle.legacy_base.specs.declared.results.EncodeEvent.TheVariants as events
 use Rattle.legacy_text.specs.EncodingForm.{EncodingForm, Utf8, Utf16, unit_count}
@@ -15,11 +14,12 @@ use Rattle.legacy_text.proofs.CodeUnits.{encode_2, encode_3, encode_4}
 use Rattle.legacy_base.proofs.SameUnits.{some_unit}
 use Rattle.legacy_encoder_engine.specs.declared.moves.EncoderMove.{EncoderMove}
 use Rattle.legacy_encoder_engine.specs.declared.moves.EncoderMove.TheVariants.{One, Two, Four, Escape, Unmappable}
-use Rattle.legacy_encoder_engine.specs.Moves.{differs, Moves, IsCode, wants_escape, state_for}
+use Rattle.legacy_encoder_engine.specs.Moves.{differs, Moves, IsCode, is_escape, move_bytes, move_report, wants_escape, state_for}
 use Rattle.legacy_encoder_engine.specs.Serves.{mode_room, Serves}
-use Rattle.legacy_encoder_engine.specs.UnderWay.{HasAscii, KeepsOn}
-use Rattle.legacy_encoder_engine.proofs.CallUnderWay.{keeps_none, keeps_then, keeps_move}
-use Rattle.legacy_text.specs.UnitCodes.{WritesCodes}
+use Rattle.legacy_encoder_engine.specs.UnderWay.{PutsCode, ReadsByte}
+use Rattle.legacy_encoder_engine.specs.UnitTurns.{HasUnitCode, ReadsUnit}
+use Rattle.legacy_encoder_engine.proofs.ReadingAhead.{IsSame}
+use Rattle.legacy_text.specs.UnitCodes.{IsNoSurrogate}
 use Rattle.legacy_encoder_engine.specs.PlainCodecs.{HasPlainLengths, IsPlainCodec, HasByte}
 
 differs-same : (m : EncoderMode) → differs m m ≡ false
@@ -104,10 +104,6 @@ acts : (code : ℕ → Option (List ℕ)) (past : ℕ) (from_utf8 from_utf16 : F
 unfolding plain_events
 acts code past from_utf8 from_utf16 = record { law = λ c more ended. refl; mode = λ c. refl; room = λ c. refl; never_ends = refl }
 
-no_items : (xs : List ℕ) → length xs ≡ 0 → xs ≡ []
-no_items [] e = refl
-no_items (x ∷ xs) e = absurd (omega arith)
-
 module _ (codec : Codec) (past : ℕ) (p : IsPlainCodec codec past) where
   abbrev S : EncoderState
   S = new_encoder codec
@@ -178,38 +174,41 @@ module _ (codec : Codec) (past : ℕ) (p : IsPlainCodec codec past) where
     goes = stays c;
   }
 
-  pub plain_ascii : HasAscii S
-  plain_ascii = record {
-    room = λ c h. let e = ascii_room c h in omega arith;
-    moves = λ c h. plain_moves c (One c) (code_is c ∙ p.ascii c h);
+  pub plain_code : (c : ℕ) → c < 128 → code S c ≡ Some (c ∷ [])
+  plain_code c low = code_is c ∙ p.ascii c low
+
+  pub plain_ascii : (c byte : ℕ) → IsSame c byte → ReadsByte S 0 c byte
+  plain_ascii c byte is = record {
+    fits = let e = ascii_room c is.1 in omega arith;
+    moves = plain_moves c (One byte) (rw is.0 (plain_code c is.1));
   }
 
-  -- scalars with codes of one byte each are written as these bytes
-  bytes_on : (free : ℕ) → past ≡ 1 → (front bytes left old rest : List ℕ) → length bytes ≡ length front
-      → ((k : ℕ) → k < length front → code S (get_or front k 0) ≡ Some (get_or bytes k 0 ∷ []))
-      → left ≡ front ++ rest → length old + length front ≤ free → KeepsOn S free left old rest (old ++ bytes)
-  bytes_on free one [] [] left old rest same codes at fits = rw (append-nil old, at) (keeps_none S free rest old)
-  bytes_on free one [] (b ∷ bytes) left old rest same codes at fits = absurd (omega arith)
-  bytes_on free one (c ∷ front) [] left old rest same codes at fits = absurd (omega arith)
-  bytes_on free one (c ∷ front) (b ∷ bytes) left old rest same codes at fits =
-      let room = widest_room c in
-      let long : length (old ++ b ∷ []) ≡ length old + 1 = length-append old (b ∷ []) in
-      let first = keeps_move S free plain_serves left old c (front ++ rest) (One b) at (plain_moves c (One b) (codes 0 (omega arith))) refl refl (omega arith) in
-      let others = bytes_on free one front bytes (front ++ rest) (old ++ b ∷ []) rest (omega arith) (λ k h. codes (suc k) (omega arith)) refl (omega arith) in
-      subst (λ l. KeepsOn S free left old rest l) (append_assoc old (b ∷ []) bytes)
-      (keeps_then S free left old (front ++ rest) (old ++ b ∷ []) rest ((old ++ b ∷ []) ++ bytes) first others)
+  pub plain_byte : (c byte : ℕ) → HasByte codec past c byte → ReadsByte S 0 c byte
+  plain_byte c byte is = record { fits = let room = widest_room c in omega (arith, is.0); moves = plain_moves c (One byte) is.1 }
 
-  pub keeps_codes : (free : ℕ) (left : List ℕ) (n : ℕ) (old new : List ℕ) → n ≤ length left → length old + n ≤ free → WritesCodes (HasByte codec past) left n old new
-      → KeepsOn S free left old (drop n left) new
-  keeps_codes free left zero old new within fits w =
-      let none : w.bytes ≡ [] = no_items w.bytes w.count in
-      rw (w.new_is, none, append-nil old) (keeps_none S free left old)
-  keeps_codes free left (suc m) old new within fits w =
-      let long = length-take-le (suc m) left within in
-      rw w.new_is
-      (bytes_on free (w.each 0 (omega arith)).0 (take (suc m) left) w.bytes left old (drop (suc m) left) (w.count ∙ sym long)
-      (λ k h. let below : k < suc m = omega (arith, h, long) in ap (code S) (get_or-take (suc m) left k 0 below) ∙ (w.each k below).1)
-      (sym (take-append-drop (suc m) left)) (omega (arith, long)))
+  -- the bytes of a code unit
+  module _ (c both : ℕ) (lone : IsNoSurrogate c) (own : HasUnitCode codec c both) where
+    pub plain_one : c < 128 → ReadsUnit S c both 1
+    plain_one l = record { lone = lone; move = One (both % 256); moves = plain_moves c (One (both % 256)) (own.ascii l); reads = refl; silent = refl; bytes = refl }
+
+    pub plain_two : 128 ≤ c → ReadsUnit S c both 2
+    plain_two l = record {
+      lone = lone;
+      move = Two (both % 256) (both / 256);
+      moves = plain_moves c (Two (both % 256) (both / 256)) (own.past l);
+      reads = refl;
+      silent = refl;
+      bytes = refl;
+    }
+
+  -- a code that was written
+  pub plain_puts : (c : ℕ) (move : EncoderMove) → IsCode (code S c) c move → is_escape move ≡ false → move_report move ≡ [] → (old new : List ℕ) (at end : ℕ) → new ≡ old ++ move_bytes move
+      → end ≡ at + length (move_bytes move) → PutsCode S c old at new end
+  plain_puts c move is reads silent old new at end bytes ends = record { move = move; moves = plain_moves c move is; reads = reads; silent = silent; bytes = bytes; ends = ends }
+
+  -- the bytes of a code fit
+  pub plain_fits : (c : ℕ) (move : EncoderMove) → IsCode (code S c) c move → length (move_bytes move) ≤ past
+  plain_fits c move is = let room = widest_room c in let moves = plain_moves c move is in omega (arith, moves.fits)
 
   -- the end of a text writes no bytes
   pub never_pending : is_pending S ≡ false

@@ -1,6 +1,8 @@
 -- An encoder call that is under way.
-use Rattle.std.specs.Prelude.{◌≡◌, ℕ, ◌+◌, ◌<◌, ◌≤◌, List, [], ◌∷◌, ◌++◌, length, map, take, slice_index, Bool, false, ◌⊎◌}
+use Rattle.std.specs.Prelude.{◌≡◌, ℕ, suc, ◌+◌, ◌<◌, ◌≤◌, List, [], ◌∷◌, ◌++◌, length, map, take, slice_index, Bool, false, ◌⊎◌}
 use Rattle.legacy_base.specs.declared.results.EncodeEvent.TheVariants.{Byte}
+use Rattle.legacy_text.specs.declared.text_cursor.TextCursor as cursors
+use Rattle.legacy_text.specs.declared.text_source.Source as sources
 use Rattle.legacy_text.specs.EncodingForm.{EncodingForm, total_unit_count}
 use Rattle.legacy_base.specs.EncodeEvents.{code_length}
 use Rattle.legacy_base.specs.Encoders.{EncoderState, code, encoded, scalar_room, encoder_room}
@@ -42,10 +44,29 @@ pub record Underway (before : EncoderState) (source : List ℕ) (last : Bool) (f
 pub record KeepsOn (state : EncoderState) (free : ℕ) (left_before bytes_before left_after bytes_after : List ℕ) : Type 0 where
   pub keeps : (before : EncoderState) (source : List ℕ) (last : Bool) → Underway before source last free state left_before bytes_before → Underway before source last free state left_after bytes_after
 
--- each ASCII scalar is its own byte and needs one byte of room
-pub record HasAscii (state : EncoderState) : Type 0 where
-  pub room : (c : ℕ) → c < 0x80 → scalar_room state c ≤ 1
-  pub moves : (c : ℕ) → c < 0x80 → Moves state c state (One c)
+-- A loop reads ahead in this state, with `free` bytes of output in all. It relates the scalars left, the code units
+-- passed, the bytes written and the end of these bytes, before and after.
+pub record Encodes (state : EncoderState) (form : EncodingForm) (free : ℕ) (left : List ℕ) (passed : ℕ) (bytes : List ℕ) (at : ℕ)
+    (left' : List ℕ) (passed' : ℕ) (bytes' : List ℕ) (at' : ℕ) : Type 0 where
+  pub keeps : KeepsOn state free left bytes left' bytes'
+  pub start : at ≤ at'
+  pub end : at' ≤ free
+  pub units : passed' + total_unit_count form left' ≡ passed + total_unit_count form left
+
+-- a cursor is read ahead, and the bytes are written to the output from the place `at` on
+abbrev pub EncodesBy : {C : Type 0} → cursors.Ghosts C → EncoderState → C → List ℕ → ℕ → C → List ℕ → ℕ → Type 0
+EncodesBy S state src dst at src' dst' at' =
+    Encodes state S.form (length dst) (S.left src) (S.passed src) (take at dst) at (S.left src') (S.passed src') (take at' dst') at'
+
+-- the same for a source
+abbrev pub EncodesFrom : {C : Type 0} → sources.Ghosts C → EncoderState → C → List ℕ → ℕ → C → List ℕ → ℕ → Type 0
+EncodesFrom S state src dst at src' dst' at' =
+    Encodes state S.form (length dst) (S.left src) (S.passed src) (take at dst) at (S.left src') (S.passed src') (take at' dst') at'
+
+-- the scalar c is read in this state, with this byte
+pub record ReadsByte (state : EncoderState) (room c byte : ℕ) : Type 0 where
+  pub fits : scalar_room state c ≤ suc room
+  pub moves : Moves state c state (One byte)
 
 -- The bytes of the scalar c are appended to earlier bytes, which end at `at`, and end at `end`. The state is unchanged.
 pub record PutsCode (state : EncoderState) (c : ℕ) (old : List ℕ) (at : ℕ) (new : List ℕ) (end : ℕ) : Type 0 where

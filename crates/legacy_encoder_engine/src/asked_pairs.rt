@@ -1,49 +1,68 @@
 //! Entries of scalars whose codes are looked up ahead, one by one.
 ghost use Rattle.std.specs.Prelude.{◌≡◌, ◌≤◌, ℕ, Bool, length};
-ghost use Rattle.legacy_encoder_engine.specs.CachedPairs.{IsNoPair, IsPairEntry};
-ghost use Rattle.legacy_encoder_engine.specs.CachedPairs.{IsRightEntry, AreRightWhere, or_between};
+ghost use Rattle.std.specs.Char.{IsScalar};
+ghost use Rattle.legacy_encoder_engine.specs.CachedPairs.{AreWhere, IsRightEntry, or_between};
 
 use crate::moves::EncoderMove;
 use crate::plain_codes::PlainCodes;
 
-/// Returns the entry of a scalar, or 0 if its code is of another kind.
-///
-/// The entry of an ASCII scalar is its byte. Past ASCII it has the lead in the low byte and the
-/// trail in the high byte.
-fn pair_entry<C: PlainCodes>(encoder: &C, c: char) -> u16
-    ensures code { IsPairEntry (C.codec encoder.now) c result }
-    ensures none { 0x80 ≤ c → result ≡ 0 → IsNoPair (C.codec encoder.now) c }
-{
-    match encoder.code_of(c) {
-        EncoderMove::One(byte) if (c as u32) < 0x80 => u16::from(byte),
-        EncoderMove::Two(lead, trail) if (c as u32) >= 0x80 => {
-            u16::from(lead) + 256 * u16::from(trail)
-        }
-        _ => 0,
-    }
+/// The entries of a list of pairs, one for each scalar below U+10000.
+pub trait PairEntries {
+    /// The property of the entry of a scalar.
+    ghost right: { Self → ℕ → ℕ → Type 0 };
+
+    /// Returns the entry of a scalar.
+    fn pair_entry(&self, c: char) -> u16
+        ensures { right self.now c result };
+
+    /// A number that is not a scalar value has the entry 0.
+    ghost others: { (entries : Self) → (code : ℕ) → (IsScalar code → ⊥) → right entries code 0 };
 }
 
-/// Returns the entry of a number, or 0 if it is not a scalar value.
-fn entry_of<C: PlainCodes>(encoder: &C, code: u32) -> u16
-    ensures { IsRightEntry (C.codec encoder.now) code result }
+// The entry of an ASCII scalar is its byte. Past ASCII it has the lead in the low byte and the trail
+// in the high byte.
+impl<C: PlainCodes> PairEntries for C {
+    ghost use Rattle.std.proofs.Common.{refl};
+
+    ghost right = { λ codes. IsRightEntry (C.codec codes) };
+
+    fn pair_entry(&self, c: char) -> u16 {
+        match self.code_of(c) {
+            EncoderMove::One(byte) if (c as u32) < 0x80 => u16::from(byte),
+            EncoderMove::Two(lead, trail) if (c as u32) >= 0x80 => {
+                u16::from(lead) + 256 * u16::from(trail)
+            }
+            _ => 0,
+        }
+    }
+
+    ghost others = { λ _ _ never. record {
+      told = λ n. absurd (n refl);
+      whole = λ scalar. absurd (never scalar);
+    } };
+}
+
+/// Returns the entry of a number, which is 0 if it is not a scalar value.
+fn entry_at<E: PairEntries>(entries: &E, code: u32) -> u16
+    ensures { E.right entries.now code result }
 {
     match char::from_u32(code) {
-        Some(c) => pair_entry(encoder, c),
+        Some(c) => entries.pair_entry(c),
         None => 0,
     }
 }
 
-/// Looks up the codes of the scalars from `first` to before `end`, and writes their entries.
-pub fn ask_pairs<C: PlainCodes>(encoder: &C, pairs: &mut [u16], first: u32, end: u32)
+/// Looks up the entries of the scalars from `first` to before `end`, and writes them.
+pub fn ask_pairs<E: PairEntries>(entries: &E, pairs: &mut [u16], first: u32, end: u32)
     requires all { length pairs.old ≡ 65536 }
     requires rising { first ≤ end }
     requires within { end ≤ 65536 }
-    ensures { (done : ℕ → Bool) → AreRightWhere (C.codec encoder.now) done pairs.old →
-        AreRightWhere (C.codec encoder.now) (or_between done first end) pairs.new }
+    ensures { (done : ℕ → Bool) → AreWhere (E.right entries.now) done pairs.old →
+        AreWhere (E.right entries.now) (or_between done first end) pairs.new }
 {
     let mut code = first;
     while code < end {
-        pairs[code as usize] = entry_of(encoder, code);
+        pairs[code as usize] = entry_at(entries, code);
         code += 1;
     }
 }

@@ -1,12 +1,11 @@
 //! Encoders that read pairs from a list of all scalars below U+10000, in memory that the user
 //! lends.
-ghost use Rattle.std.specs.Prelude.{◌≡◌, ◌+◌, ◌<◌, ◌≤◌, [], ◌∷◌, length, take, Some, IfSome, MatchOption};
-ghost use Rattle.legacy_text.specs.EncodingForm.{total_unit_count};
+ghost use Rattle.std.specs.Prelude.{◌≡◌, ◌<◌, ◌≤◌, [], ◌∷◌, length, Some, IfSome, MatchOption};
 ghost use Rattle.legacy_base.specs.Encoders.{encoder_profile, new_encoder};
 ghost use Rattle.legacy_encoder_engine.specs.CachedPairs.{AreAllPairsOf, IsNoPair};
 ghost use Rattle.legacy_encoder_engine.specs.Moves.{IsCode};
 ghost use Rattle.legacy_encoder_engine.specs.Near.{IsNear};
-ghost use Rattle.legacy_encoder_engine.specs.UnderWay.{KeepsOn};
+ghost use Rattle.legacy_encoder_engine.specs.UnderWay.{EncodesFrom};
 
 use crate::drive::drive_encoder;
 use crate::moves::EncoderMove;
@@ -144,12 +143,8 @@ pub trait EncodesPairs: PlainEncoder + PastPairs + RawEncoder + Sized {
     ) -> usize
         requires pairs { AreAllPairsOf (Self.codec self.now) pairs.now }
         requires start { start ≤ length dst.old }
-        ensures keeps { KeepsOn (new_encoder (Self.codec self.now)) (length dst.old)
-            (S.left src.old) (take start dst.old) (S.left src.new) (take result dst.new) }
-        ensures start { start ≤ result }
-        ensures end { result ≤ length dst.old }
-        ensures passed { S.passed src.new + total_unit_count S.form (S.left src.new)
-            ≡ S.passed src.old + total_unit_count S.form (S.left src.old) }
+        ensures { EncodesFrom S.Source (new_encoder (Self.codec self.now)) src.old dst.old start
+            src.new dst.new result }
     {
         read_runs(&WithPairs::new(self, pairs), src, dst, start)
     }

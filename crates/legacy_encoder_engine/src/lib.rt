@@ -5,6 +5,7 @@
 //! That of the codecs with pairs is part of it.
 #![tactic(auto)]
 
+pub mod ahead_codes;
 pub mod asked_pairs;
 pub mod cached;
 pub mod drive;

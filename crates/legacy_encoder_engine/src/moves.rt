@@ -1,10 +1,9 @@
 //! The small moves of each encoder, and the runs that it reads ahead of them.
-ghost use Rattle.std.specs.Prelude.{◌≡◌, ◌+◌, ◌≤◌, length, take, true};
-ghost use Rattle.legacy_text.specs.EncodingForm.{total_unit_count};
+ghost use Rattle.std.specs.Prelude.{◌≡◌, ◌≤◌, [], length, true, false};
 ghost use Rattle.legacy_base.specs.Encoders.{EncoderState, encoder_profile, is_pending, scalar_room};
-ghost use Rattle.legacy_encoder_engine.specs.Moves.{Moves, Finishes};
+ghost use Rattle.legacy_encoder_engine.specs.Moves.{Moves, Finishes, is_escape, move_report};
 ghost use Rattle.legacy_encoder_engine.specs.Serves.{Serves};
-ghost use Rattle.legacy_encoder_engine.specs.UnderWay.{KeepsOn};
+ghost use Rattle.legacy_encoder_engine.specs.UnderWay.{EncodesFrom};
 
 use legacy_base::Source;
 
@@ -21,6 +20,19 @@ pub enum EncoderMove {
     Escape(u8, u8),
     /// It reads the scalar, which has no bytes, and reports this one.
     Unmappable(char),
+}
+
+impl EncoderMove {
+    /// Checks whether the move reads the scalar and writes bytes for it.
+    #[inline(always)]
+    pub fn has_bytes(self) -> bool
+        ensures { result ≡ true → (is_escape self ≡ false) × (move_report self ≡ []) }
+    {
+        match self {
+            EncoderMove::One(_) | EncoderMove::Two(_, _) | EncoderMove::Four(_, _, _, _) => true,
+            EncoderMove::Escape(_, _) | EncoderMove::Unmappable(_) => false,
+        }
+    }
 }
 
 /// The moves of an encoder, of which `drive_encoder` makes its calls.
@@ -58,12 +70,7 @@ pub trait EncoderMoves {
     #[inline]
     fn read_ahead<S: Source>(&self, src: &mut S, dst: &mut [u8], at: usize) -> usize
         requires { at ≤ length dst.old }
-        ensures keeps { KeepsOn (state self.now) (length dst.old) (S.left src.old) (take at dst.old)
-            (S.left src.new) (take result dst.new) }
-        ensures start { at ≤ result }
-        ensures end { result ≤ length dst.old }
-        ensures passed { S.passed src.new + total_unit_count S.form (S.left src.new)
-            ≡ S.passed src.old + total_unit_count S.form (S.left src.old) }
+        ensures { EncodesFrom S.Source (state self.now) src.old dst.old at src.new dst.new result }
     {
         let _ = (src.peek(), dst.len());
         at

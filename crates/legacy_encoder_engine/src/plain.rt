@@ -1,12 +1,16 @@
 //! The encoder of the codecs without modes: each `PlainCodes` makes the moves of its codes.
-ghost use Rattle.std.specs.Prelude.{◌≡◌, ◌+◌, ◌≤◌, length, take};
-ghost use Rattle.legacy_text.specs.EncodingForm.{total_unit_count};
+ghost use Rattle.std.specs.Prelude.{◌≤◌, length};
 ghost use Rattle.legacy_base.specs.Encoders.{new_encoder};
-ghost use Rattle.legacy_encoder_engine.specs.UnderWay.{KeepsOn};
+ghost use Rattle.legacy_encoder_engine.specs.UnderWay.{EncodesFrom};
 
+use crate::ahead_codes::AheadCodes;
+use crate::drive::{put_four, put_move, put_two};
 use crate::moves::{EncoderMove, EncoderMoves};
 use crate::plain_codes::PlainCodes;
+use crate::units::Units;
 use legacy_base::Source;
+use legacy_tables::RangePart;
+use legacy_text::TextCursor;
 
 /// An encoder of a codec without modes, with its own way to read ahead.
 ///
@@ -18,12 +22,8 @@ pub trait PlainEncoder: PlainCodes {
     // Most encoders do it by `read_runs`. An encoder with tables chooses here, once, by the form of its tables.
     fn read_codes<S: Source>(&self, src: &mut S, dst: &mut [u8], start: usize) -> usize
         requires { start ≤ length dst.old }
-        ensures keeps { KeepsOn (new_encoder (Self.codec self.now)) (length dst.old)
-            (S.left src.old) (take start dst.old) (S.left src.new) (take result dst.new) }
-        ensures start { start ≤ result }
-        ensures end { result ≤ length dst.old }
-        ensures passed { S.passed src.new + total_unit_count S.form (S.left src.new)
-            ≡ S.passed src.old + total_unit_count S.form (S.left src.old) };
+        ensures { EncodesFrom S.Source (new_encoder (Self.codec self.now)) src.old dst.old start
+            src.new dst.new result };
 }
 
 impl<C: PlainEncoder> EncoderMoves for C {
@@ -53,5 +53,91 @@ impl<C: PlainEncoder> EncoderMoves for C {
     #[inline]
     fn read_ahead<S: Source>(&self, src: &mut S, dst: &mut [u8], at: usize) -> usize {
         self.read_codes(src, dst, at)
+    }
+}
+
+impl<C: PlainCodes> AheadCodes for C {
+    ghost state = { λ codes. new_encoder (C.codec codes) };
+
+    ghost room = { C.past };
+
+    #[inline(always)]
+    fn widest(&self) -> usize {
+        self.past_room()
+    }
+
+    #[inline(always)]
+    fn put_code(&self, near: &mut RangePart, dst: &mut [u8], at: usize, c: char) -> Option<usize> {
+        if (c as u32) < 0x80 {
+            return Some(put_move(dst, at, EncoderMove::One(c as u8)));
+        }
+        self.put_past_ascii(near, dst, at, c)
+    }
+
+    // It writes pairs and four bytes by itself. So it has no call, and its values stay in registers.
+    // It makes no move of them, which the compiler would pack into one number and unpack.
+    #[inline(always)]
+    fn put_past_ascii(
+        &self,
+        near: &mut RangePart,
+        dst: &mut [u8],
+        at: usize,
+        c: char,
+    ) -> Option<usize> {
+        if let Some((lead, trail)) = self.pair_of(c) {
+            put_two(dst, at, lead, trail);
+            return Some(at + 2);
+        }
+        if let Some(four) = self.four_of(near, c) {
+            put_four(dst, at, four);
+            return Some(at + 4);
+        }
+        if !self.goes_past_pairs() {
+            return None;
+        }
+        let step = self.code_of(c);
+        if !step.has_bytes() {
+            return None;
+        }
+        Some(put_move(dst, at, step))
+    }
+
+    // Code units with one byte include ASCII: no pattern would predict a choice between the two.
+    #[inline(always)]
+    fn read_blocks<S: TextCursor>(&self, src: &mut S, dst: &mut [u8], at: usize) -> usize {
+        if self.goes_by_units() && src.has_blocks() {
+            return at + src.copy_codes(&Units { encoder: self }, dst, at);
+        }
+        at + src.copy_ascii(dst, at)
+    }
+
+    #[inline(always)]
+    fn has_blocks(&self) -> bool {
+        true
+    }
+
+    // The scalar is tested first: its caller makes the same test, and a pair then needs no other.
+    #[inline(always)]
+    fn may_go_by_blocks<S: TextCursor>(&self, src: &S, c: char) -> bool {
+        (self.goes_by_units() && src.has_blocks()) || ((c as u32) < 0x80 && src.is_in_ascii())
+    }
+
+    #[inline(always)]
+    fn read_turns<S: TextCursor>(&self, src: &mut S, dst: &mut [u8], at: usize) -> usize {
+        if self.goes_by_units() && src.has_turns() {
+            return at + src.copy_codes(&Units { encoder: self }, dst, at);
+        }
+        at
+    }
+
+    #[inline(always)]
+    fn has_tens(&self) -> bool {
+        self.goes_by_turns()
+    }
+
+    #[inline(always)]
+    fn unit_bytes(&self, unit: u16) -> (u16, usize, bool) {
+        let (both, has_code) = self.unit_code(unit);
+        (both, if unit < 0x80 { 1 } else { 2 }, has_code)
     }
 }

@@ -1,7 +1,6 @@
 -- The moves of the ISO-2022-JP encoder.
-use Rattle.std.proofs.Common.{◌≡◌, ◌∙◌, ℕ, suc, ◌+◌, ◌≤◌, ◌<◌, take, drop, get_or, append-nil, append_assoc, length-append, subst, ◌/◌, ◌%◌, List, [], ◌∷◌, ◌++◌, length, refl, sym, ap, arith, Bool, true, false, IsTrue, ◌||◌, not, Option, Some, None, eqb, option_map, map, ◌⊎◌, inl, inr}
-use Rattle.std.proofs.lemmas.Bool.{ne_eqb, lt-ltb, cond_both, false≢true}
-use Rattle.std.proofs.lemmas.List.{take-append-drop, length-take-le, get_or-take}
+use Rattle.std.proofs.Common.{◌≡◌, ◌∙◌, ℕ, ◌+◌, subst, ◌/◌, ◌%◌, List, [], ◌∷◌, ◌++◌, length, refl, sym, ap, arith, Bool, true, false, IsTrue, ◌||◌, not, Option, Some, None, eqb, option_map, map, ◌⊎◌, inl, inr}
+use Rattle.std.proofs.lemmas.Bool.{lt-ltb, cond_both, false≢true}
 use Rattle.std.specs.Char.{is_ascii}
 use Rattle.legacy_base.specs.declared.results.EncodeEvent.{EncodeEvent}
 use Rattle.legacy_base.specs.declared.results.EncodeEvent.TheVariants as events
@@ -14,15 +13,13 @@ use Rattle.legacy_base.specs.Iso2022Jp.{is_mode_control, iso_2022_jp_code, iso_2
 use Rattle.legacy_base.proofs.Iso2022JpEncoding.{text_events, text_events-here, text_events-escape, text_events-end, text_events-open, mode_for, mode_for-twice, code-short}
 use Rattle.legacy_base.proofs.Iso2022JpEncoding.{at_control, at_special, at_neutral, at_yen, at_overline, at_pair, at_none}
 use Rattle.legacy_encoder_engine.specs.Moves.{Moves, Finishes, IsCode, differs}
-use Rattle.legacy_text.specs.UnitCodes.{WritesCodes}
 use Rattle.legacy_encoder_engine.specs.Serves.{Serves}
-use Rattle.legacy_encoder_engine.specs.UnderWay.{KeepsOn}
-use Rattle.legacy_encoder_engine.proofs.CallUnderWay.{keeps_none, keeps_then, keeps_move}
+use Rattle.legacy_encoder_engine.specs.UnderWay.{ReadsByte}
 use Rattle.legacy_encoder_engine.specs.declared.moves.EncoderMove.{EncoderMove}
 use Rattle.legacy_encoder_engine.specs.declared.moves.EncoderMove.TheVariants.{One, Two, Four, Escape, Unmappable}
 use Rattle.legacy_japanese.specs.declared.iso_2022_jp.encoder.Mode.{Mode}
 use Rattle.legacy_japanese.specs.declared.iso_2022_jp.encoder.Mode.TheVariants as modes
-use Rattle.legacy_japanese.specs.Iso2022JpEncoder.{mode_of, state_in, is_same_mode, escape_move, Asks, ReadsThere, IsOwnByte}
+use Rattle.legacy_japanese.specs.Iso2022JpEncoder.{mode_of, state_in, is_same_mode, escape_move, Asks, IsOwnByte}
 use Rattle.legacy_japanese.proofs.Iso2022JpEncoderRooms.{scalar_low, scalar_enough, escape_low, escape_enough, end_enough, formula_rises}
 
 -- ---- modes
@@ -274,51 +271,17 @@ module _ (jis0208 katakana_index : List ℕ) where
 
   -- ---- the scalars that are encoded in the current mode
 
-  module _ (c : ℕ) where
-    special_or_not : (t : Bool) → is_mode_control c ≡ false → is_ascii c ≡ true → (eqb c 0x5C || eqb c 0x7E) ≡ t → ReadsThere jis0208 katakana_index in_ascii c (One c)
-    special_or_not true f a e = let w = asks_special modes.Ascii c f a e in record { mode_is = w.mode_is; code_is = w.code_is; reads = refl; silent = refl }
-    special_or_not false f a e = let w = asks_neutral modes.Ascii c modes.Ascii f a e refl in record { mode_is = w.mode_is; code_is = w.code_is; reads = refl; silent = refl }
+  module _ (c : ℕ) (f : is_mode_control c ≡ false) (a : is_ascii c ≡ true) where
+    special_or_not : (t : Bool) → (eqb c 0x5C || eqb c 0x7E) ≡ t → Asks jis0208 katakana_index modes.Ascii c modes.Ascii (One c)
+    special_or_not true e = asks_special modes.Ascii c f a e
+    special_or_not false e = asks_neutral modes.Ascii c modes.Ascii f a e refl
 
-    pub reads_ascii : is_mode_control c ≡ false → is_ascii c ≡ true → ReadsThere jis0208 katakana_index in_ascii c (One c)
-    reads_ascii f a = special_or_not (eqb c 0x5C || eqb c 0x7E) f a refl
-
-    pub reads_pair : is_mode_control c ≡ false → is_ascii c ≡ false → (c ≡ 0xA5 → ⊥) → (c ≡ 0x203E → ⊥) → (p : ℕ) → iso_2022_jp_pointer_of jis0208 katakana_index c ≡ Some p
-        → ReadsThere jis0208 katakana_index in_two_byte c (Two (p / 94 + 0x21) (p % 94 + 0x21))
-    reads_pair f a y o p e = let w = asks_pair modes.TwoByte c f a y o p e in record { mode_is = w.mode_is; code_is = w.code_is; reads = refl; silent = refl }
+    asks_ascii : Asks jis0208 katakana_index modes.Ascii c modes.Ascii (One c)
+    asks_ascii = special_or_not (eqb c 0x5C || eqb c 0x7E) refl
 
   -- ---- ASCII in ASCII mode
 
-  abbrev in_ascii_state : EncoderState
-  in_ascii_state = state_in jis0208 katakana_index modes.Ascii
-
-  own_byte : (c byte : ℕ) → IsOwnByte c byte → Moves in_ascii_state c in_ascii_state (One byte)
+  pub own_byte : (c byte : ℕ) → IsOwnByte c byte → ReadsByte (state_in jis0208 katakana_index modes.Ascii) 2 c byte
   own_byte c byte is =
-      let there = reads_ascii c is.2 (lt-ltb c 128 is.1) in
-      rw is.0 (reads modes.Ascii c there.mode_is (One c) there.code_is)
-
-  bytes_on : (free : ℕ) (front bytes left old rest : List ℕ) → length bytes ≡ length front → ((k : ℕ) → k < length front → IsOwnByte (get_or front k 0) (get_or bytes k 0))
-      → left ≡ front ++ rest → length old + length front + 2 ≤ free → KeepsOn in_ascii_state free left old rest (old ++ bytes)
-  bytes_on free [] [] left old rest same own at fits = rw (append-nil old, at) (keeps_none in_ascii_state free rest old)
-  bytes_on free [] (b ∷ bytes) left old rest same own at fits = absurd (omega arith)
-  bytes_on free (c ∷ front) [] left old rest same own at fits = absurd (omega arith)
-  bytes_on free (c ∷ front) (b ∷ bytes) left old rest same own at fits =
-      let long : length (old ++ b ∷ []) ≡ length old + 1 = length-append old (b ∷ []) in
-      let first = keeps_move in_ascii_state free serves left old c (front ++ rest) (One b) at (own_byte c b (own 0 (omega arith))) refl refl (omega arith) in
-      let others = bytes_on free front bytes (front ++ rest) (old ++ b ∷ []) rest (omega arith) (λ k h. own (suc k) (omega arith)) refl (omega arith) in
-      subst (λ l. KeepsOn in_ascii_state free left old rest l) (append_assoc old (b ∷ []) bytes)
-      (keeps_then in_ascii_state free left old (front ++ rest) (old ++ b ∷ []) rest ((old ++ b ∷ []) ++ bytes) first others)
-
-  pub keeps_own_bytes : (mode : Mode) → mode_of mode ≡ in_ascii → (free : ℕ) (left : List ℕ) (n : ℕ) (old new : List ℕ) → n ≤ length left → length old + n + 2 ≤ free
-      → WritesCodes IsOwnByte left n old new → KeepsOn (state_in jis0208 katakana_index mode) free left old (drop n left) new
-  keeps_own_bytes modes.Roman is free left n old new within fits w = cc
-  keeps_own_bytes modes.TwoByte is free left n old new within fits w = cc
-  keeps_own_bytes modes.Ascii is free left n old new within fits w =
-      let long = length-take-le n left within in
-      rw w.new_is
-      (bytes_on free (take n left) w.bytes left old (drop n left) (w.count ∙ sym long)
-      (λ k h. let below : k < n = omega (arith, h, long) in subst (λ c. IsOwnByte c (get_or w.bytes k 0)) (sym (get_or-take n left k 0 below)) (w.each k below))
-      (sym (take-append-drop n left)) (omega (arith, long)))
-
--- no scalar from U+0080 on is a control
-pub control_past : (c : ℕ) → 128 ≤ c → is_mode_control c ≡ false
-control_past c h = rw (ne_eqb c 0x0E (λ e. omega arith), ne_eqb c 0x0F (λ e. omega arith), ne_eqb c 0x1B (λ e. omega arith)) refl
+      let there = asks_ascii c is.2 (lt-ltb c 128 is.1) in
+      record { fits = omega arith; moves = rw is.0 (reads modes.Ascii c there.mode_is (One c) there.code_is) }

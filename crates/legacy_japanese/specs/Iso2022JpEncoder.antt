@@ -4,7 +4,7 @@ use Rattle.legacy_tables.specs.AcceptedTables.{AcceptedIndexes}
 use Rattle.legacy_base.specs.EncoderProfile.{EncoderMode, in_ascii, in_roman, in_two_byte}
 use Rattle.legacy_base.specs.Encoders.{EncoderState, iso_2022_jp}
 use Rattle.legacy_base.specs.Iso2022Jp.{iso_2022_jp_code, iso_2022_jp_reported, is_mode_control, mode_behind}
-use Rattle.legacy_encoder_engine.specs.Moves.{IsCode, is_escape, move_report}
+use Rattle.legacy_encoder_engine.specs.Moves.{IsCode}
 use Rattle.legacy_encoder_engine.specs.declared.moves.EncoderMove.{EncoderMove}
 use Rattle.legacy_encoder_engine.specs.declared.moves.EncoderMove.TheVariants as moves
 use Rattle.legacy_japanese.specs.declared.iso_2022_jp.encoder.Mode.{Mode}
@@ -24,6 +24,10 @@ state_in jis0208 katakana_index mode = record { codec = iso_2022_jp jis0208 kata
 -- the codec with these tables, in a mode
 abbrev pub state_by : AcceptedIndexes → Mode → EncoderState
 state_by tables mode = state_in tables.flat.jis0208 tables.flat.katakana mode
+
+-- the codec with these tables, in ASCII mode
+abbrev pub ascii_state : AcceptedIndexes → EncoderState
+ascii_state tables = state_by tables Ascii
 
 -- the codec with these tables, in two-byte mode
 abbrev pub pairs_state : AcceptedIndexes → EncoderState
@@ -52,13 +56,6 @@ escape_move TwoByte = moves.Escape 0x24 0x42
 pub record Asks (jis0208 katakana_index : List ℕ) (mode : Mode) (c : ℕ) (new : Mode) (move : EncoderMove) : Type 0 where
   pub mode_is : mode_behind jis0208 katakana_index (mode_of mode) (c ∷ []) ≡ mode_of new
   pub code_is : IsCode (iso_2022_jp_code jis0208 katakana_index c) (iso_2022_jp_reported c) move
-
--- In `mode` the scalar c needs no escape, and is encoded by `move`, which writes its bytes.
-pub record ReadsThere (jis0208 katakana_index : List ℕ) (mode : EncoderMode) (c : ℕ) (move : EncoderMove) : Type 0 where
-  pub mode_is : mode_behind jis0208 katakana_index mode (c ∷ []) ≡ mode
-  pub code_is : IsCode (iso_2022_jp_code jis0208 katakana_index c) (iso_2022_jp_reported c) move
-  pub reads : is_escape move ≡ false
-  pub silent : move_report move ≡ []
 
 -- in ASCII mode the scalar c is written as this byte, which is c
 abbrev pub IsOwnByte : ℕ → ℕ → Type 0

@@ -1,7 +1,6 @@
 //! The encoder of GB18030 and GBK.
-ghost use Rattle.std.specs.Prelude.{◌≡◌, ◌≢◌, ℕ, ◌+◌, ◌*◌, ◌/◌, ◌%◌, ◌<◌, ◌≤◌, [], ◌∷◌, length, take, true, false};
+ghost use Rattle.std.specs.Prelude.{◌≡◌, ◌≢◌, ℕ, ◌+◌, ◌*◌, ◌/◌, ◌%◌, ◌<◌, ◌≤◌, [], ◌∷◌, length, true, false};
 ghost use Rattle.std.specs.Prelude.{Some, IfSome, option_map};
-ghost use Rattle.legacy_text.specs.EncodingForm.{total_unit_count};
 ghost use Rattle.legacy_tables.specs.Pointers.{range_pointer_of};
 ghost use Rattle.legacy_tables.specs.RangeParts.{IsRangePart};
 ghost use Rattle.legacy_base.specs.Gb18030.{gb18030_pair_code, gb18030_range_bytes, gb18030_code, gbk_code};
@@ -9,7 +8,7 @@ ghost use Rattle.legacy_base.specs.Encoders.{encoder_profile, new_encoder};
 ghost use Rattle.legacy_base.specs.Lengths.{answer, number, ◌⊕◌, ◌⊗◌};
 ghost use Rattle.legacy_encoder_engine.specs.CachedPairs.{AreAllPairsOf};
 ghost use Rattle.legacy_encoder_engine.specs.Moves.{IsCode};
-ghost use Rattle.legacy_encoder_engine.specs.UnderWay.{KeepsOn};
+ghost use Rattle.legacy_encoder_engine.specs.UnderWay.{EncodesFrom};
 ghost use Rattle.legacy_chinese.specs.Gb18030Codec.{gb18030_codec};
 ghost use Rattle.legacy_chinese.specs.Gb18030Codes.{gb18030_plain};
 
@@ -355,13 +354,8 @@ fn read_by<V: EncoderTables, S: Source>(
     start: usize,
 ) -> usize
     requires { start ≤ length dst.old }
-    ensures keeps { KeepsOn (new_encoder (gb18030_codec (V.indexes tables.now).flat extended_range))
-        (length dst.old) (S.left src.old) (take start dst.old) (S.left src.new)
-        (take result dst.new) }
-    ensures start { start ≤ result }
-    ensures end { result ≤ length dst.old }
-    ensures passed { S.passed src.new + total_unit_count S.form (S.left src.new)
-        ≡ S.passed src.old + total_unit_count S.form (S.left src.old) }
+    ensures { EncodesFrom S.Source (new_encoder (gb18030_codec (V.indexes tables.now).flat extended_range))
+        src.old dst.old start src.new dst.new result }
 {
     if extended_range {
         read_runs(&Gb18030Codes::<V, true, false> { tables }, src, dst, start)
@@ -403,13 +397,8 @@ fn read_listed_by<V: EncoderTables, S: Source>(
 ) -> usize
     requires pairs { AreAllPairsOf (gb18030_codec (V.indexes tables.now).flat true) pairs.now }
     requires start { start ≤ length dst.old }
-    ensures keeps { KeepsOn (new_encoder (gb18030_codec (V.indexes tables.now).flat true))
-        (length dst.old) (S.left src.old) (take start dst.old) (S.left src.new)
-        (take result dst.new) }
-    ensures start { start ≤ result }
-    ensures end { result ≤ length dst.old }
-    ensures passed { S.passed src.new + total_unit_count S.form (S.left src.new)
-        ≡ S.passed src.old + total_unit_count S.form (S.left src.old) }
+    ensures { EncodesFrom S.Source (new_encoder (gb18030_codec (V.indexes tables.now).flat true))
+        src.old dst.old start src.new dst.new result }
 {
     let codes = Gb18030Codes::<V, true, true> { tables };
     read_runs(&WithPairs::new(&codes, pairs), src, dst, start)

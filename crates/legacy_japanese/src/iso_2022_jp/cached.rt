@@ -1,63 +1,37 @@
 //! The encoder of ISO-2022-JP that reads pairs from a list, in memory that the user lends.
-ghost use Rattle.std.specs.Prelude.{◌≡◌, ◌≢◌, ℕ, ◌+◌, ◌<◌, ◌≤◌, Bool, length, take, true};
-ghost use Rattle.std.specs.Prelude.{MatchOption};
-ghost use Rattle.legacy_text.specs.EncodingForm.{total_unit_count};
-ghost use Rattle.legacy_base.specs.Encoders.{iso_2022_jp, is_pending};
-ghost use Rattle.legacy_encoder_engine.specs.CachedPairs.{IsPairEntry, or_between};
-ghost use Rattle.legacy_encoder_engine.specs.UnderWay.{KeepsOn};
-ghost use Rattle.legacy_encoder_engine.specs.UnitTurns.{PutsUnits};
+ghost use Rattle.std.specs.Prelude.{◌≡◌, ◌≢◌, ◌<◌, ◌≤◌, length, true, MatchOption};
+ghost use Rattle.legacy_base.specs.Encoders.{is_pending};
 ghost use Rattle.legacy_japanese.specs.Iso2022JpEncoder.{Asks, iso_2022_jp_encoder_state, pairs_state};
-ghost use Rattle.legacy_japanese.specs.Iso2022JpPairs.{AreListedWhere, IsListedEntry, IsPairOf, ListsPairs};
+ghost use Rattle.legacy_japanese.specs.Iso2022JpPairs.{IsListedEntry, IsPairOf, ListsPairs};
 ghost use Rattle.legacy_japanese.specs.Iso2022JpPairs.{iso_2022_jp_mark, iso_2022_jp_mark-some};
 
-use crate::iso_2022_jp::encoder::{Iso2022JpEncoder, Mode, asked};
-use crate::iso_2022_jp::pairs::{Pairs, read_pairs};
-use legacy_base::{EncoderResult, PackedPart, RawEncoder, ReadingLoop, Source, Tables};
+use crate::iso_2022_jp::encoder::{Iso2022JpEncoder, Mode, asked, go_to};
+use legacy_base::{EncoderResult, PackedPart, RawEncoder, Source, Tables};
+use legacy_encoder_engine::ahead_codes::AheadCodes;
+use legacy_encoder_engine::asked_pairs::{PairEntries, ask_pairs};
 use legacy_encoder_engine::cached::PAIR_ROOM;
 use legacy_encoder_engine::drive::{drive_encoder, put_two};
 use legacy_encoder_engine::moves::{EncoderMove, EncoderMoves};
-use legacy_tables::{EncoderTables, Marks};
-use legacy_text::TextCursor;
+use legacy_encoder_engine::runs::read_runs;
+use legacy_tables::{EncoderTables, Marks, RangePart};
 
-/// Returns the pair of a scalar as one number, with the lead in the low byte, or 0 if it has none.
-fn pair_entry(tables: &Tables, c: char) -> u16
-    ensures right { IsPairEntry (iso_2022_jp tables.now.flat.jis0208 tables.now.flat.katakana) c
-        result }
-    ensures past { c < 0x80 → result ≡ 0 }
-{
-    match asked(tables, Mode::TwoByte, c) {
-        (_, EncoderMove::Two(lead, trail)) if (c as u32) >= 0x80 => {
-            u16::from(lead) + 256 * u16::from(trail)
+// The entries of a list of pairs, each looked up in the tables.
+impl PairEntries for Iso2022JpEncoder<'_> {
+    ghost use Rattle.std.proofs.Common.{refl};
+
+    ghost right = { λ encoder. IsListedEntry encoder.tables.now.flat.jis0208
+        encoder.tables.now.flat.katakana };
+
+    fn pair_entry(&self, c: char) -> u16 {
+        match asked(self.tables, Mode::TwoByte, c) {
+            (_, EncoderMove::Two(lead, trail)) if (c as u32) >= 0x80 => {
+                u16::from(lead) + 256 * u16::from(trail)
+            }
+            _ => 0,
         }
-        _ => 0,
     }
-}
 
-/// Returns the entry of the scalar of a number, or 0 if it is not a scalar value.
-fn entry_of(tables: &Tables, code: u32) -> u16
-    ensures { IsListedEntry tables.now.flat.jis0208 tables.now.flat.katakana code result }
-{
-    match char::from_u32(code) {
-        Some(c) => pair_entry(tables, c),
-        None => 0,
-    }
-}
-
-/// Looks up the pairs of the scalars from `first` to before `end`, and writes their entries.
-fn list_between(tables: &Tables, pairs: &mut [u16], first: u32, end: u32)
-    requires all { length pairs.old ≡ 65536 }
-    requires rising { first ≤ end }
-    requires within { end ≤ 65536 }
-    ensures { (done : ℕ → Bool) →
-        AreListedWhere tables.now.flat.jis0208 tables.now.flat.katakana done pairs.old →
-        AreListedWhere tables.now.flat.jis0208 tables.now.flat.katakana
-        (or_between done first end) pairs.new }
-{
-    let mut code = first;
-    while code < end {
-        pairs[code as usize] = entry_of(tables, code);
-        code += 1;
-    }
+    ghost others = { λ _ _ _. record { told = λ n. absurd (n refl); past = λ _. refl } };
 }
 
 /// The lead and the trail of a pointer, as one number.
@@ -78,16 +52,19 @@ impl Marks for Iso2022JpMarks {
 ///
 /// It walks over index jis0208, and looks up the scalars that have another pair than their
 /// pointer's.
-fn list_pairs(tables: &Tables, pairs: &mut [u16])
+fn list_pairs(encoder: &Iso2022JpEncoder<'_>, pairs: &mut [u16])
     requires { length pairs.old ≡ 65536 }
-    ensures { ListsPairs tables.now.flat.jis0208 tables.now.flat.katakana pairs.new }
+    ensures { ListsPairs encoder.now.tables.now.flat.jis0208 encoder.now.tables.now.flat.katakana
+        pairs.new }
 {
-    tables.fill(PackedPart::EucJpOrder, &Iso2022JpMarks, pairs);
-    list_between(tables, pairs, 0, 0x81);
-    list_between(tables, pairs, 0xA5, 0xA6);
-    list_between(tables, pairs, 0x203E, 0x203F);
-    list_between(tables, pairs, 0x2212, 0x2213);
-    list_between(tables, pairs, 0xFF61, 0xFFA0);
+    encoder
+        .tables
+        .fill(PackedPart::EucJpOrder, &Iso2022JpMarks, pairs);
+    ask_pairs(encoder, pairs, 0, 0x81);
+    ask_pairs(encoder, pairs, 0xA5, 0xA6);
+    ask_pairs(encoder, pairs, 0x203E, 0x203F);
+    ask_pairs(encoder, pairs, 0x2212, 0x2213);
+    ask_pairs(encoder, pairs, 0xFF61, 0xFFA0);
 }
 
 /// A list of the pairs by these tables.
@@ -122,55 +99,6 @@ impl ListedPairs<'_, '_> {
         (entry, entry != 0)
     }
 
-    /// Writes the pairs of ten code units from the place `start` on, and checks that each has one.
-    // There is no branch between them: the caller drops all ten if one has no pair.
-    #[inline(always)]
-    fn put_ten(&self, dst: &mut [u8], start: usize, units: [u16; 10]) -> bool
-        requires { start + 24 ≤ length dst.old }
-        ensures before { take start dst.new ≡ take start dst.old }
-        ensures puts { result ≡ true → PutsUnits (pairs_state self.now.tables.now) (length dst.old)
-            units (take start dst.old) (take (start + 20) dst.new) }
-    {
-        let mut is_known = true;
-        let mut k = 0;
-        while k < 10 {
-            let (both, has_pair) = self.unit_pair(units[k]);
-            is_known = is_known & has_pair;
-            put_two(dst, start + 2 * k, (both % 256) as u8, (both / 256) as u8);
-            k += 1;
-        }
-        is_known
-    }
-
-    /// Reads UTF-16 code units by turns of ten, and returns the place after their pairs.
-    ///
-    /// The pairs begin at `start`. It stops before a turn in which a code unit has no pair here.
-    // A turn reads by a copy of the cursor, which is dropped if the turn fails.
-    #[inline(always)]
-    fn read_tens<S: TextCursor>(&self, src: &mut S, dst: &mut [u8], start: usize) -> usize
-        requires { start ≤ length dst.old }
-        ensures keeps { KeepsOn (pairs_state self.now.tables.now) (length dst.old) (S.left src.old)
-            (take start dst.old) (S.left src.new) (take result dst.new) }
-        ensures start { start ≤ result }
-        ensures end { result ≤ length dst.old }
-        ensures passed { S.passed src.new + total_unit_count S.form (S.left src.new)
-            ≡ S.passed src.old + total_unit_count S.form (S.left src.old) }
-    {
-        let mut at = start;
-        while dst.len() - at >= 24 {
-            let mut ahead = *src;
-            let Some(units) = ahead.take_ten() else {
-                return at;
-            };
-            if !self.put_ten(dst, at, units) {
-                return at;
-            }
-            *src = ahead;
-            at += 20;
-        }
-        at
-    }
-
     /// Returns what the function `asked` returns, by the list if the scalar has a pair in it.
     #[inline]
     fn asked(&self, mode: Mode, c: char) -> (Mode, EncoderMove)
@@ -186,11 +114,19 @@ impl ListedPairs<'_, '_> {
     }
 }
 
-impl Pairs for ListedPairs<'_, '_> {
-    ghost indexes = { λ p. p.tables.now };
+impl AheadCodes for ListedPairs<'_, '_> {
+    ghost state = { λ listed. pairs_state listed.tables.now };
+
+    ghost room = { 3 };
 
     #[inline(always)]
-    fn put_pair(&self, dst: &mut [u8], at: usize, c: char) -> Option<usize> {
+    #[tactic(auto, using(crate::proofs::Iso2022JpEncoderMoves::serves))]
+    fn widest(&self) -> usize {
+        3
+    }
+
+    #[inline(always)]
+    fn put_code(&self, _near: &mut RangePart, dst: &mut [u8], at: usize, c: char) -> Option<usize> {
         let entry = self.entry_of(c);
         if entry == 0 {
             return None;
@@ -198,22 +134,17 @@ impl Pairs for ListedPairs<'_, '_> {
         put_two(dst, at, (entry % 256) as u8, (entry / 256) as u8);
         Some(at + 2)
     }
-}
 
-impl ReadingLoop for ListedPairs<'_, '_> {
-    ghost keeps = { λ listed. KeepsOn (pairs_state listed.tables.now) };
-
-    // The last scalar was in two-byte mode, as U+3000 is.
     #[inline(always)]
-    fn read<S: TextCursor>(&self, src: &mut S, dst: &mut [u8], start: usize) -> usize {
-        let mut at = start;
-        if src.has_tens('\u{3000}') {
-            at = self.read_tens(src, dst, at);
-        }
-        read_pairs(self, src, dst, at)
+    fn has_tens(&self) -> bool {
+        true
     }
 
-    ghost stays = { λ _ _ _ _. record { keeps = λ _ _ _ underway. underway } };
+    #[inline(always)]
+    fn unit_bytes(&self, unit: u16) -> (u16, usize, bool) {
+        let (both, has_pair) = self.unit_pair(unit);
+        (both, 2, has_pair)
+    }
 }
 
 /// The encoder of ISO-2022-JP with a list of pairs: it writes what `Iso2022JpEncoder` writes.
@@ -248,7 +179,7 @@ impl<'a, 'b> CachedIso2022JpEncoder<'a, 'b> {
         }
         let (tables, mode) = (encoder.tables, encoder.mode);
         let pairs = &mut room[..PAIR_ROOM];
-        list_pairs(tables, pairs);
+        list_pairs(encoder, pairs);
         let listed = ListedPairs { tables, pairs };
         Some(CachedIso2022JpEncoder { listed, mode })
     }
@@ -286,11 +217,7 @@ impl EncoderMoves for CachedIso2022JpEncoder<'_, '_> {
     #[inline]
     fn next(&mut self, c: char) -> EncoderMove {
         let (mode, own) = self.listed.asked(self.mode, c);
-        if self.mode.is(mode) {
-            return own;
-        }
-        self.mode = mode;
-        mode.escape()
+        go_to(&mut self.mode, mode, own)
     }
 
     #[inline]
@@ -310,7 +237,7 @@ impl EncoderMoves for CachedIso2022JpEncoder<'_, '_> {
         match self.mode {
             Mode::TwoByte => {
                 let listed = self.listed;
-                src.read_by(&listed, dst, at)
+                read_runs(&listed, src, dst, at)
             }
             Mode::Ascii | Mode::Roman => self.without().read_ahead(src, dst, at),
         }

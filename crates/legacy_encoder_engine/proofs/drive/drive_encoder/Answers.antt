@@ -42,7 +42,7 @@ loop-c-preserved g c =
         arith,
         c.advance-in-loop-c.ensures.passed,
         first_units g.S.Source.form (g.S.Source.left a.new.src) c.in-Some.c cons,
-        a.ensures.passed,
+        a.ensures.units,
         c.loop-c.invariant.2,
       )),
     )
@@ -68,7 +68,7 @@ loop-c-preserved-in-Escape g c =
       rw c.put_move-written.ensures.bytes
           (underway_escape _ _ _ _ _ _ _ under c.room.ensures.serves c.in-Some.c _ cons _ c.next-step.result c.next-step.ensures (omega arith) (ap is_escape c.in-Escape.is)),
       omega arith,
-      omega (arith, a.ensures.passed, c.loop-c.invariant.2),
+      omega (arith, a.ensures.units, c.loop-c.invariant.2),
     )
 
 pub returns-then-dst-written-lt3-clause-call : goal.returns-then-dst-written-lt3-clause-call

@@ -1,5 +1,4 @@
 use Rattle.std.proofs.Common.{◌≡◌, ◌-◌, ◌+◌, ◌*◌, ◌≤◌, length, take, true}
-use Rattle.legacy_base.specs.Encoders.{new_encoder}
 use Rattle.legacy_encoder_engine.specs.UnitTurns.{PutsUnits}
 use Rattle.legacy_encoder_engine.proofs.runs.put_ten.Given as goal
 
@@ -9,7 +8,7 @@ invariant-loop-k g l = (l.k ≤ 10)
     × (l.start + l.k ≤ l.end)
     × (l.end ≤ l.start + 2 * l.k)
     × (take l.start l.dst ≡ take l.start l.fn.dst)
-    × (l.is_known ≡ true → PutsUnits (new_encoder (g.C.PlainCodes.codec l.encoder)) (length l.fn.dst) (take l.k l.units) (take l.start l.fn.dst) (take l.end l.dst))
+    × (l.is_known ≡ true → PutsUnits (g.C.AheadCodes.state l.codes) (length l.fn.dst) (take l.k l.units) (take l.start l.fn.dst) (take l.end l.dst))
 
 abbrev pub decreases-loop-k : goal.decreases-loop-k
 decreases-loop-k g l = 10 - l.k

@@ -1,19 +1,12 @@
-use Rattle.std.proofs.Common.{◌≡◌, ◌+◌, ◌≤◌, length, take}
-use Rattle.legacy_text.specs.EncodingForm.{total_unit_count}
-use Rattle.legacy_base.specs.Encoders.{new_encoder}
+use Rattle.std.proofs.Common.{◌-◌, length}
 use Rattle.legacy_encoder_engine.specs.Near.{IsNear}
-use Rattle.legacy_encoder_engine.specs.UnderWay.{KeepsOn}
+use Rattle.legacy_encoder_engine.specs.UnderWay.{EncodesBy}
 use Rattle.legacy_encoder_engine.proofs.runs.RunsReadingLoop.read.Given as goal
 
 -- the codes of the scalars read are written
 abbrev pub invariant-loop-at : goal.invariant-loop-at
-invariant-loop-at g l =
-    let S = g.S.TextCursor in
-    KeepsOn (new_encoder (g.C.PlainCodes.codec l.self.encoder.now)) (length l.fn.dst) (S.left l.fn.src) (take l.start l.fn.dst) (S.left l.src) (take l.at l.dst)
-    × (l.start ≤ l.at)
-    × (l.at ≤ length l.dst)
-    × (S.passed l.src + total_unit_count S.form (S.left l.src) ≡ S.passed l.fn.src + total_unit_count S.form (S.left l.fn.src))
-    × IsNear (g.C.PlainCodes.codec l.self.encoder.now) l.near
+invariant-loop-at g l = EncodesBy g.S.TextCursor (g.C.AheadCodes.state l.self.codes.now) l.fn.src l.fn.dst l.start l.src l.dst l.at
+    × IsNear (g.C.AheadCodes.state l.self.codes.now).codec l.near
 
 abbrev pub decreases-loop-at : goal.decreases-loop-at
-decreases-loop-at g l = length (g.S.TextCursor.left l.src)
+decreases-loop-at g l = length l.dst - l.at

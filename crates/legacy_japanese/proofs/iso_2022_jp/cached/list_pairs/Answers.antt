@@ -5,7 +5,7 @@ use Rattle.legacy_japanese.proofs.iso_2022_jp.cached.list_pairs.Goals as goal
 
 pub returns : goal.returns
 returns c =
-    let tables = c.args.tables.now in
+    let tables = c.args.encoder.now.tables.now in
     let walked = walked-listed tables.flat tables.accepted c.fill.new.entries (c.fill.auto.entries ∙ c.requires) c.fill.ensures in
-    all-listed tables.flat.jis0208 tables.flat.katakana c.list_between-5.new.pairs
-    (c.list_between-5.ensures _ (c.list_between-4.ensures _ (c.list_between-3.ensures _ (c.list_between-2.ensures _ (c.list_between.ensures goes_by_pointer walked)))))
+    all-listed tables.flat.jis0208 tables.flat.katakana c.ask_pairs-5.new.pairs
+    (c.ask_pairs-5.ensures _ (c.ask_pairs-4.ensures _ (c.ask_pairs-3.ensures _ (c.ask_pairs-2.ensures _ (c.ask_pairs.ensures goes_by_pointer walked)))))

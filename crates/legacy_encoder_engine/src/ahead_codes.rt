@@ -1,0 +1,111 @@
+//! The codes that an encoder reads ahead of its moves.
+ghost use Rattle.std.specs.Prelude.{◌≡◌, ℕ, ◌+◌, ◌≤◌, true, length, take, MatchOption};
+ghost use Rattle.legacy_base.specs.Encoders.{EncoderState, encoder_profile, scalar_room};
+ghost use Rattle.legacy_encoder_engine.specs.Near.{IsNear};
+ghost use Rattle.legacy_encoder_engine.specs.Serves.{Serves};
+ghost use Rattle.legacy_encoder_engine.specs.UnderWay.{EncodesBy, PutsCode};
+ghost use Rattle.legacy_encoder_engine.specs.UnitTurns.{ReadsUnit};
+
+use legacy_tables::RangePart;
+use legacy_text::TextCursor;
+
+/// The codes of common scalars in one state of an encoder, which they leave unchanged.
+///
+/// `read_runs` reads scalars by them, and leaves all others to the moves.
+pub trait AheadCodes {
+    /// The codec with its lists, and the mode of the encoder.
+    ghost state: { Self → EncoderState };
+
+    /// The number of free bytes that is enough for each scalar.
+    ghost room: { ℕ };
+
+    /// Returns the number of free bytes that is enough for each scalar.
+    fn widest(&self) -> usize
+        ensures is { result ≡ room }
+        ensures fits { (c : ℕ) → scalar_room (state self.now) c ≤ room }
+        ensures serves { Serves (encoder_profile (state self.now).codec) };
+
+    /// Writes the bytes of the next scalar, and returns the place after them.
+    ///
+    /// The result is `None` if the scalar is left to the moves. `near` may change.
+    fn put_code(&self, near: &mut RangePart, dst: &mut [u8], at: usize, c: char) -> Option<usize>
+        requires room { at + room ≤ length dst.old }
+        requires near { IsNear (state self.now).codec near.old }
+        ensures puts { MatchOption result (take at dst.new ≡ take at dst.old)
+            (λ end. PutsCode (state self.now) c (take at dst.old) at (take end dst.new) end) }
+        ensures near { IsNear (state self.now).codec near.new };
+
+    /// Does what `put_code` does, for a scalar past ASCII.
+    #[inline(always)]
+    fn put_past_ascii(
+        &self,
+        near: &mut RangePart,
+        dst: &mut [u8],
+        at: usize,
+        c: char,
+    ) -> Option<usize>
+        requires room { at + room ≤ length dst.old }
+        requires past { 0x80 ≤ c }
+        requires near { IsNear (state self.now).codec near.old }
+        ensures puts { MatchOption result (take at dst.new ≡ take at dst.old)
+            (λ end. PutsCode (state self.now) c (take at dst.old) at (take end dst.new) end) }
+        ensures near { IsNear (state self.now).codec near.new }
+    {
+        self.put_code(near, dst, at, c)
+    }
+
+    /// Reads blocks of scalars with one byte each, and returns the place after their bytes.
+    #[inline(always)]
+    #[tactic(auto, using(crate::proofs::ReadingAhead::encodes_none))]
+    fn read_blocks<S: TextCursor>(&self, src: &mut S, dst: &mut [u8], at: usize) -> usize
+        requires { at ≤ length dst.old }
+        ensures { EncodesBy S.TextCursor (state self.now) src.old dst.old at src.new dst.new result }
+    {
+        let _ = (src.is_in_ascii(), dst.len());
+        at
+    }
+
+    /// Checks whether blocks may come after single scalars. It is a hint: any result is right.
+    #[inline(always)]
+    fn has_blocks(&self) -> bool {
+        false
+    }
+
+    /// Checks whether the text from this scalar on can perhaps be read by blocks.
+    ///
+    /// It is a hint: any result is right.
+    #[inline(always)]
+    fn may_go_by_blocks<S: TextCursor>(&self, src: &S, c: char) -> bool {
+        let _ = (src.is_in_ascii(), c);
+        false
+    }
+
+    /// Reads turns of scalars with one byte each, and returns the place after their bytes.
+    #[inline(always)]
+    #[tactic(auto, using(crate::proofs::ReadingAhead::encodes_none))]
+    fn read_turns<S: TextCursor>(&self, src: &mut S, dst: &mut [u8], at: usize) -> usize
+        requires { at ≤ length dst.old }
+        ensures { EncodesBy S.TextCursor (state self.now) src.old dst.old at src.new dst.new result }
+    {
+        let _ = (src.is_in_ascii(), dst.len());
+        at
+    }
+
+    /// Checks whether turns of ten scalars are worth trying. It is a hint: any result is right.
+    #[inline(always)]
+    fn has_tens(&self) -> bool {
+        false
+    }
+
+    /// Returns the bytes of a code unit as one number, how many they are, and whether it has them.
+    ///
+    /// The first byte is the low one. Any code unit may have none, and is then read as a scalar.
+    #[inline(always)]
+    fn unit_bytes(&self, unit: u16) -> (u16, usize, bool)
+        ensures count { (1 ≤ result.1) × (result.1 ≤ 2) }
+        ensures code { result.2 ≡ true → ReadsUnit (state self.now) unit result.0 result.1 }
+    {
+        let _ = unit;
+        (0, 1, false)
+    }
+}

@@ -1,0 +1,154 @@
+//! The codes of ISO-2022-JP's encoder in ASCII mode, which it copies by blocks.
+ghost use Rattle.std.specs.Prelude.{◌≡◌, ◌+◌, ◌<◌, ◌≤◌, ℕ, length, slice_index, true, false};
+ghost use Rattle.legacy_base.specs.Iso2022Jp.{is_mode_control};
+ghost use Rattle.legacy_encoder_engine.specs.UnderWay.{EncodesBy};
+ghost use Rattle.legacy_japanese.specs.Iso2022JpEncoder.{IsOwnByte, ascii_state};
+
+use legacy_base::Tables;
+use legacy_encoder_engine::ahead_codes::AheadCodes;
+use legacy_encoder_engine::drive::put_move;
+use legacy_encoder_engine::moves::EncoderMove;
+use legacy_tables::RangePart;
+use legacy_text::{TextCursor, UnitCodes};
+
+/// Checks whether the scalar is a control that would switch modes, which has no bytes.
+#[inline]
+pub fn is_control(scalar: u32) -> bool
+    ensures { result ≡ is_mode_control scalar }
+{
+    scalar == 0x0E || scalar == 0x0F || scalar == 0x1B
+}
+
+/// Checks whether one of the bytes is a control that would switch modes.
+#[inline(always)]
+fn has_control(bytes: &[u8]) -> bool
+    ensures { result ≡ false → (k : ℕ) → k < length bytes.now →
+        is_mode_control (slice_index bytes.now k) ≡ false }
+{
+    let mut found = false;
+    let mut at = 0;
+    while at < bytes.len() {
+        found = found | is_control(u32::from(bytes[at]));
+        at += 1;
+    }
+    found
+}
+
+/// The code units that are written unchanged in ASCII mode.
+#[derive(Drop)]
+struct AsciiUnits;
+
+impl UnitCodes for AsciiUnits {
+    ghost gives = { λ _. IsOwnByte };
+
+    // There is no branch, so that sixteen code units are tested at once.
+    #[inline(always)]
+    fn byte_of(&self, unit: u16) -> (u8, bool) {
+        let is_known = (unit < 0x80) & !is_control(u32::from(unit));
+        ((unit % 0x100) as u8, is_known)
+    }
+}
+
+/// Returns the end of the bytes to test: all of them, or those before `end`.
+#[inline(always)]
+fn tested_end(all: bool, limit: usize, end: usize) -> usize
+    requires { end ≤ limit }
+    ensures from { end ≤ result }
+    ensures to { result ≤ limit }
+{
+    if all { limit } else { end }
+}
+
+/// The codes of ASCII mode, with the tables of the encoder.
+#[derive(Drop)]
+pub struct AsciiCodes<'a> {
+    pub tables: &'a Tables<'a>,
+}
+
+impl AsciiCodes<'_> {
+    /// Reads blocks of code units, and returns the place after their bytes.
+    // A scalar is only read if any would fit, so the last two bytes of the output stay free.
+    #[inline(always)]
+    fn copy_units<S: TextCursor>(&self, src: &mut S, dst: &mut [u8], start: usize) -> usize
+        requires { start + 2 ≤ length dst.old }
+        ensures { EncodesBy S.TextCursor (ascii_state self.now.tables.now) src.old
+            dst.old start src.new dst.new result }
+    {
+        let limit = dst.len() - 2;
+        start + src.copy_codes(&AsciiUnits, &mut dst[..limit], start)
+    }
+
+    /// Reads ASCII up to the place `limit` of the output, and returns the place after it.
+    ///
+    /// It is written from the place `start` on. If a control is found in it, nothing is read.
+    // It reads by a copy of the cursor, which is dropped if a control was copied. With `all` the bytes after
+    // the ASCII are tested too: if their number is known, the test has no loop.
+    #[inline(always)]
+    fn copy_piece<S: TextCursor>(
+        &self,
+        src: &mut S,
+        dst: &mut [u8],
+        start: usize,
+        limit: usize,
+        all: bool,
+    ) -> usize
+        requires from { start ≤ limit }
+        requires to { limit + 2 ≤ length dst.old }
+        ensures { EncodesBy S.TextCursor (ascii_state self.now.tables.now) src.old
+            dst.old start src.new dst.new result }
+    {
+        let mut own = *src;
+        let count = own.copy_ascii(&mut dst[..limit], start);
+        let tested = tested_end(all, limit, start + count);
+        if has_control(&dst[start..tested]) {
+            return start;
+        }
+        *src = own;
+        start + count
+    }
+}
+
+impl AheadCodes for AsciiCodes<'_> {
+    ghost state = { λ codes. ascii_state codes.tables.now };
+
+    ghost room = { 3 };
+
+    #[inline(always)]
+    #[tactic(auto, using(crate::proofs::Iso2022JpEncoderMoves::serves))]
+    fn widest(&self) -> usize {
+        3
+    }
+
+    #[inline(always)]
+    fn put_code(&self, _near: &mut RangePart, dst: &mut [u8], at: usize, c: char) -> Option<usize> {
+        let scalar = c as u32;
+        if scalar >= 0x80 || is_control(scalar) {
+            return None;
+        }
+        Some(put_move(dst, at, EncoderMove::One(scalar as u8)))
+    }
+
+    // Most ASCII between pairs is shorter than sixteen bytes. Later pieces have 256 bytes: so little is copied
+    // without use, however many controls there are.
+    #[inline(always)]
+    fn read_blocks<S: TextCursor>(&self, src: &mut S, dst: &mut [u8], at: usize) -> usize {
+        if dst.len() - at < 18 {
+            return at;
+        }
+        if src.has_blocks() {
+            return self.copy_units(src, dst, at);
+        }
+        let mut end = self.copy_piece(src, dst, at, at + 16, true);
+        if end - at < 16 {
+            return end;
+        }
+        while dst.len() - end >= 258 {
+            let behind = self.copy_piece(src, dst, end, end + 256, false);
+            if behind - end < 256 {
+                return behind;
+            }
+            end = behind;
+        }
+        end
+    }
+}
