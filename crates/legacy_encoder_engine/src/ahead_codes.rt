@@ -91,7 +91,13 @@ pub trait AheadCodes {
         at
     }
 
-    /// Checks whether turns of ten scalars are worth trying. It is a hint: any result is right.
+    /// Checks whether turns of ten scalars are tried first. It is a hint: any result is right.
+    #[inline(always)]
+    fn begins_by_tens(&self) -> bool {
+        false
+    }
+
+    /// Checks whether they are tried after a single scalar. It is a hint: any result is right.
     #[inline(always)]
     fn has_tens(&self) -> bool {
         false

@@ -96,7 +96,7 @@ fn read_first_tens<C: AheadCodes, S: TextCursor>(
     ensures { EncodesBy S.TextCursor (C.state codes.now) src.old dst.old start src.new dst.new
         result }
 {
-    if codes.has_tens() && src.has_tens('\u{3000}') {
+    if codes.begins_by_tens() && src.has_tens('\u{3000}') {
         return read_tens(codes, src, dst, start);
     }
     start
@@ -198,7 +198,7 @@ impl<C: AheadCodes> ReadingLoop for Runs<'_, C> {
 /// Reads blocks and single scalars from the front of the source while any scalar fits.
 ///
 /// Writes their bytes from the place `start` of `dst` on, and returns the place after them.
-#[inline]
+#[inline(always)]
 pub fn read_runs<C: AheadCodes, S: Source>(
     codes: &C,
     src: &mut S,

@@ -136,7 +136,7 @@ impl AheadCodes for ListedPairs<'_, '_> {
     }
 
     #[inline(always)]
-    fn has_tens(&self) -> bool {
+    fn begins_by_tens(&self) -> bool {
         true
     }
 
