@@ -34,6 +34,29 @@ fn has_control(bytes: &[u8]) -> bool
     found
 }
 
+/// Does what `has_control` does.
+// A function of its own: inlined into a long one its loop would not be compiled to vectors.
+#[inline(never)]
+fn has_control_in_many(bytes: &[u8]) -> bool
+    ensures { result ≡ false → (k : ℕ) → k < length bytes.now →
+        is_mode_control (slice_index bytes.now k) ≡ false }
+{
+    has_control(bytes)
+}
+
+/// Does what `has_control` does, without a loop for a block of sixteen bytes.
+#[inline(always)]
+fn has_any_control(bytes: &[u8]) -> bool
+    ensures { result ≡ false → (k : ℕ) → k < length bytes.now →
+        is_mode_control (slice_index bytes.now k) ≡ false }
+{
+    if bytes.len() == 16 {
+        has_control(bytes)
+    } else {
+        has_control_in_many(bytes)
+    }
+}
+
 /// The code units that are written unchanged in ASCII mode.
 #[derive(Drop)]
 struct AsciiUnits;
@@ -100,7 +123,7 @@ impl AsciiCodes<'_> {
         let mut own = *src;
         let count = own.copy_ascii(&mut dst[..limit], start);
         let tested = tested_end(all, limit, start + count);
-        if has_control(&dst[start..tested]) {
+        if has_any_control(&dst[start..tested]) {
             return start;
         }
         *src = own;

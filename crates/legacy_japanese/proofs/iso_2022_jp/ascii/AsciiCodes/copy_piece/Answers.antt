@@ -5,8 +5,8 @@ use Rattle.legacy_japanese.proofs.Iso2022JpEncoderMoves.{serves, own_byte}
 use Rattle.legacy_japanese.proofs.Iso2022JpPieces.{piece_behind, front_same, piece_is, front_without, own_bytes}
 use Rattle.legacy_japanese.proofs.iso_2022_jp.ascii.AsciiCodes.copy_piece.Goals as goal
 
-pub returns-then-has_control : goal.returns-then-has_control
-returns-then-has_control g c =
+pub returns-then-has_any_control : goal.returns-then-has_any_control
+returns-then-has_any_control g c =
     let e = c.copy_ascii-count.ensures in
     let dst = c.args.dst.now in
     let within : c.args.limit ≤ length dst = omega (arith, c.requires.to) in
@@ -29,7 +29,7 @@ returns g c =
     let within : limit ≤ length dst = omega (arith, c.requires.to) in
     let inside : length (take limit dst) ≡ limit = length-take-le limit dst within in
     let is = piece_is start n limit dst new (take n left) c.requires.from within c.copy_ascii-count.auto.dst e.fits e.bytes in
-    let none = rw is at (front_without (start + n - start) (tested - start) (drop start (new ++ drop limit dst)) (omega (arith, more.from)) (c.has_control.ensures c.if-has_control.false)) in
+    let none = rw is at (front_without (start + n - start) (tested - start) (drop start (new ++ drop limit dst)) (omega (arith, more.from)) (c.has_any_control.ensures c.if-has_any_control.false)) in
     let long = length-take-le start dst (omega (arith, c.requires.from, within)) in
     let units = e.passed ∙ ap (λ k. g.S.TextCursor.passed c.args.src.now + k) (sym (ascii_count form left n e.read e.ascii)) in
     rw (piece_behind start n limit dst new (take n left) c.requires.from within c.copy_ascii-count.auto.dst e.fits e.bytes)
