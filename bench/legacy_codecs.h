@@ -42,15 +42,6 @@ struct legacy_range {
     uint16_t scalar;
 };
 
-/* A run of a single-byte encoding: length places from start on have the scalar values from scalar
- * upwards. Place 0 is byte 80. The encoder finds these without a search. start is at least 32, and
- * length may be 0. */
-struct legacy_byte_run {
-    uint16_t scalar;
-    uint8_t start;
-    uint8_t length;
-};
-
 /* A run of an index: length pointers from the pointer on have the scalar values from scalar on. */
 struct legacy_run {
     uint16_t pointer;
@@ -122,9 +113,6 @@ struct legacy_indexes {
      * refuses any other number of them. No other codec reads it */
     const uint16_t *single_byte;
     size_t single_byte_length;
-    /* the run of the single-byte encoding's encoder, which refuses a run that the index does not
-     * have. No decoder reads it */
-    struct legacy_byte_run single_byte_run;
     /* whether packed tables are made, from the flat indexes above and the parts below. Otherwise flat
      * tables are made, and the parts are not read */
     bool is_packed;

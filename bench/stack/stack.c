@@ -82,7 +82,7 @@ int main(void) {
     static struct legacy_run runs[1];
     struct legacy_indexes indexes = {
         wide, 0, narrow, 0, narrow, 0, narrow, 0, narrow, 0, narrow, 0, ranges, 0, single_byte, 128,
-        {0, 32, 0}, false,
+        false,
         {runs, 0, runs, 0, runs, 0, runs, 0, runs, 0, narrow, 0, narrow, 0, narrow, 0, narrow, 0, narrow, 0}};
     size_t own = used(nothing, NULL);
     int fails = 0;

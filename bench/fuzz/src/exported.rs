@@ -69,7 +69,7 @@ fn compared<U: Copy + PartialEq + Debug>(
 
 /// Decodes the source.
 fn decodes(plan: &Plan, prepared: &Prepared, rooms: &mut Rooms) -> Result<(), String> {
-    let fault = prepared.fault(plan.kept).or_else(|| prepared.single_byte_fault(false));
+    let fault = prepared.fault(plan.kept).or_else(|| prepared.single_byte_fault());
     let (once, wanted) = match fault {
         Some(_) => (String::new(), String::new()),
         None => text::decoded(plan, prepared, plan.times)?,
@@ -100,7 +100,7 @@ fn encoder_fault(plan: &Plan, prepared: &Prepared, is_text: bool) -> Option<Stri
     if !is_text {
         return Some("a source that is no UTF-8".to_string());
     }
-    prepared.fault(plan.kept).or_else(|| prepared.single_byte_fault(true))
+    prepared.fault(plan.kept).or_else(|| prepared.single_byte_fault())
 }
 
 /// Encodes the source.

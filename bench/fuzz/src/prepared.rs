@@ -73,7 +73,7 @@ impl Prepared {
     }
 
     /// Returns the first fault of the tables of a single-byte codec.
-    pub fn single_byte_fault(&self, encodes: bool) -> Option<String> {
+    pub fn single_byte_fault(&self) -> Option<String> {
         let entries = &self.tables.single_byte;
         if self.codec != Codec::SingleByte {
             return None;
@@ -81,8 +81,7 @@ impl Prepared {
         if entries.len() != 128 {
             return Some("the length".to_string());
         }
-        let of_run = || faults::run_fault(entries, self.tables.single_byte_run);
-        faults::single_byte_fault(entries).or_else(|| if encodes { of_run() } else { None })
+        faults::single_byte_fault(entries)
     }
 
     /// Returns changed tables.

@@ -1,13 +1,13 @@
 -- The work of the programs.
-use Rattle.std.specs.Prelude.{◌≡◌, ℕ, List, [], drop, Bool, Option, Some, None}
+use Rattle.std.specs.Prelude.{◌≡◌, ℕ, List, [], drop, Bool, Option, Some, None, if◌then◌else◌}
 use Rattle.legacy_base.specs.States.{DecoderState}
 use Rattle.legacy_base.specs.Encoders.{EncoderState}
 use Rattle.legacy_tables.specs.Indexes.{FlatIndexes}
 use Rattle.legacy_tables.specs.AcceptedTables.{flat_lists}
 use Rattle.legacy_tables.specs.declared.tables.private_use.TheConstants.{GB18030_2022_PUA}
 use Rattle.legacy_tables.specs.TableChecks.{AreAccepted, IsAcceptedTable}
-use Rattle.legacy_index_files.specs.declared.encodings.CodecName.{CodecName}
-use Rattle.legacy_index_files.specs.declared.encodings.CodecName.TheVariants as codec
+use Rattle.legacy_index_files.specs.declared.codec.Codec.{Codec}
+use Rattle.legacy_index_files.specs.Encodings.{has_encoder}
 use Rattle.legacy_encodings.specs.Coders.{decoder_of, encoder_of}
 use Rattle.legacy_index_files.specs.declared.index_file.FileIndex.{FileIndex}
 use Rattle.legacy_index_files.specs.declared.owned_indexes.OwnedIndexes.{OwnedIndexes}
@@ -36,7 +36,7 @@ flat_of tables =
 
 -- All indexes passed the check, also those that the codec does not use, and the input was recoded by a new decoder of
 -- the codec over them.
-pub record RecodesByTables (kind : OutputKind) (codec : CodecName) (tables : OwnedIndexes) (input_old input_new output_old output_new : Option (List ℕ)) : Type 0 where
+pub record RecodesByTables (kind : OutputKind) (codec : Codec) (tables : OwnedIndexes) (input_old input_new output_old output_new : Option (List ℕ)) : Type 0 where
   pub accepted : AreAccepted (flat_of tables)
   pub accepted_table : IsAcceptedTable tables.single_byte
   pub before : DecoderState
@@ -44,7 +44,7 @@ pub record RecodesByTables (kind : OutputKind) (codec : CodecName) (tables : Own
   pub recodes : RecodesInput kind before input_old input_new output_old output_new
 
 -- The same over the indexes of these texts.
-pub record RecodesByTexts (kind : OutputKind) (codec : CodecName) (texts : FileIndex → List ℕ) (input_old input_new output_old output_new : Option (List ℕ)) : Type 0 where
+pub record RecodesByTexts (kind : OutputKind) (codec : Codec) (texts : FileIndex → List ℕ) (input_old input_new output_old output_new : Option (List ℕ)) : Type 0 where
   pub tables : OwnedIndexes
   pub holds : HoldsTexts texts tables
   pub recodes : RecodesByTables kind codec tables input_old input_new output_old output_new
@@ -52,7 +52,7 @@ pub record RecodesByTexts (kind : OutputKind) (codec : CodecName) (texts : FileI
 -- The input was recoded by the codec and the index files that the command line names. Each of these files could be read
 -- and has no malformed line.
 pub record RecodesByWords (words : List (List ℕ)) (files : List (Option (List ℕ))) (input_old input_new output_old output_new : Option (List ℕ)) : Type 0 where
-  pub codec : CodecName
+  pub codec : Codec
   pub named : codec_of_words (plain_words words) ≡ Some codec
   pub well_formed : AreWellFormed (drop 1 (plain_words words)) files
   pub recodes : RecodesByTexts (output_kind words) codec (text_given (drop 1 (plain_words words)) files) input_old input_new output_old output_new
@@ -60,12 +60,9 @@ pub record RecodesByWords (words : List (List ℕ)) (files : List (Option (List 
 -- ---- encoding
 
 -- the codec of words that are CODEC, one that has an encoder, and then INDEX and FILE any number of times
-abbrev pub with_encoder : Option CodecName → Option CodecName
+abbrev pub with_encoder : Option Codec → Option Codec
 with_encoder None = None
-with_encoder (Some codec.Replacement) = None
-with_encoder (Some codec.Utf16Be) = None
-with_encoder (Some codec.Utf16Le) = None
-with_encoder (Some name) = Some name
+with_encoder (Some codec) = if has_encoder codec then Some codec else None
 
 -- The input was read to its end, and the bytes and references of its text were written, from an encoder in this state.
 abbrev pub EncodesInput : EncoderState → Option (List ℕ) → Option (List ℕ) → Option (List ℕ) → Option (List ℕ) → Type 0
@@ -73,7 +70,7 @@ EncodesInput before input_old input_new output_old output_new = (after : Encoder
 
 -- All indexes passed the check, also those that the codec does not use, and the input was encoded by a new encoder of
 -- the codec over them.
-pub record EncodesByTables (codec : CodecName) (tables : OwnedIndexes) (input_old input_new output_old output_new : Option (List ℕ)) : Type 0 where
+pub record EncodesByTables (codec : Codec) (tables : OwnedIndexes) (input_old input_new output_old output_new : Option (List ℕ)) : Type 0 where
   pub accepted : AreAccepted (flat_of tables)
   pub accepted_table : IsAcceptedTable tables.single_byte
   pub before : EncoderState
@@ -81,7 +78,7 @@ pub record EncodesByTables (codec : CodecName) (tables : OwnedIndexes) (input_ol
   pub encodes : EncodesInput before input_old input_new output_old output_new
 
 -- The same over the indexes of these texts.
-pub record EncodesByTexts (codec : CodecName) (texts : FileIndex → List ℕ) (input_old input_new output_old output_new : Option (List ℕ)) : Type 0 where
+pub record EncodesByTexts (codec : Codec) (texts : FileIndex → List ℕ) (input_old input_new output_old output_new : Option (List ℕ)) : Type 0 where
   pub tables : OwnedIndexes
   pub holds : HoldsTexts texts tables
   pub encodes : EncodesByTables codec tables input_old input_new output_old output_new
@@ -89,7 +86,7 @@ pub record EncodesByTexts (codec : CodecName) (texts : FileIndex → List ℕ) (
 -- The same by the codec and the index files that the program's words name. Each of these could be read and has no
 -- malformed line.
 pub record EncodesByWords (words : List (List ℕ)) (files : List (Option (List ℕ))) (input_old input_new output_old output_new : Option (List ℕ)) : Type 0 where
-  pub codec : CodecName
+  pub codec : Codec
   pub named : with_encoder (codec_of_words words) ≡ Some codec
   pub well_formed : AreWellFormed (drop 1 words) files
   pub encodes : EncodesByTexts codec (text_given (drop 1 words) files) input_old input_new output_old output_new

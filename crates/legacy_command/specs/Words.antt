@@ -3,8 +3,8 @@ use Rattle.std.specs.Prelude.{ℕ, List, [], ◌∷◌, drop, map, Option, Some,
 use Rattle.std.specs.Borrow.{Bor}
 use Rattle.legacy_index_files.specs.declared.index_file.FileIndex.{FileIndex}
 use Rattle.legacy_index_files.specs.declared.index_file.FileIndex.TheVariants as index
-use Rattle.legacy_index_files.specs.declared.encodings.CodecName.{CodecName}
-use Rattle.legacy_index_files.specs.declared.encodings.CodecName.TheVariants as codec
+use Rattle.legacy_index_files.specs.declared.codec.Codec.{Codec}
+use Rattle.legacy_index_files.specs.declared.codec.Codec.TheVariants as codec
 use Rattle.legacy_command.specs.declared.words.OutputKind.{OutputKind}
 use Rattle.legacy_command.specs.declared.words.OutputKind.TheVariants.{Lines, Text}
 
@@ -31,7 +31,7 @@ meaning [] word = None
 meaning (entry ∷ entries) word = if bytes_eq word entry.0 then Some entry.1 else meaning entries word
 
 -- the codec that a word names
-abbrev pub codec_named : List ℕ → Option CodecName
+abbrev pub codec_named : List ℕ → Option Codec
 codec_named = meaning (
     (codes "x-user-defined", codec.UserDefined)
     ∷ (codes "replacement", codec.Replacement)
@@ -76,6 +76,6 @@ are_indexes (word ∷ []) = false
 are_indexes (name ∷ file ∷ words) = is_some (index_named name) && not (stands_among name words) && are_indexes words
 
 -- the codec of words that are CODEC, and then INDEX and FILE any number of times
-abbrev pub codec_of_words : List (List ℕ) → Option CodecName
+abbrev pub codec_of_words : List (List ℕ) → Option Codec
 codec_of_words [] = None
 codec_of_words (word ∷ words) = if are_indexes words then codec_named word else None

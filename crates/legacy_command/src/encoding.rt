@@ -10,7 +10,7 @@ use crate::program::{Fault, check};
 use crate::words::codec_in;
 use legacy_codecs::RawEncoder;
 use legacy_encodings::{AnyEncoder, ListedEncoder, has_pairs, pair_room};
-use legacy_index_files::{CodecName, OwnedIndexes};
+use legacy_index_files::{Codec, OwnedIndexes};
 use legacy_streams::encode::encode_text;
 use legacy_streams::recode::RecodeError;
 use std::alloc::Global;
@@ -19,13 +19,14 @@ use std::io::{Read, Write};
 /// Returns the codec that the words name, without the program's name.
 ///
 /// Returns `None` if `codec_in` does not take the words or the codec has no encoder.
-pub fn encoder_in(words: &[&str]) -> Option<CodecName>
+pub fn encoder_in(words: &[&str]) -> Option<Codec>
     ensures { result ≡ with_encoder (codec_of_words (texts_of words.now)) }
 {
-    match codec_in(words)? {
-        CodecName::Replacement | CodecName::Utf16Be | CodecName::Utf16Le => None,
-        codec => Some(codec),
+    let codec = codec_in(words)?;
+    if codec.has_encoder() {
+        return Some(codec);
     }
+    None
 }
 
 /// Encodes the input by the encoder, with a list of its pairs in memory of its own.
@@ -75,7 +76,7 @@ fn encode_by<'a, E: RawEncoder, R: Read, W: Write>(
 /// Checks the indexes, and encodes the input by the codec.
 fn check_and_encode<'a, R: Read, W: Write>(
     alloc: Global,
-    codec: CodecName,
+    codec: Codec,
     indexes: &OwnedIndexes,
     input: &mut R,
     output: &mut W,
@@ -97,7 +98,7 @@ fn check_and_encode<'a, R: Read, W: Write>(
 /// Reads the files of the indexes that the words name, checks them, and encodes the input by the codec.
 fn read_and_encode<'a, R: Read, W: Write>(
     alloc: Global,
-    codec: CodecName,
+    codec: Codec,
     indexes: &[&'a str],
     files: &[Option<&[u8]>],
     input: &mut R,

@@ -9,7 +9,7 @@ use crate::given_indexes::read_files;
 use crate::words::{OutputKind, codec_in, output_asked, request};
 use legacy_codecs::{RawDecoder, SingleByteTable, TableError, Tables};
 use legacy_encodings::AnyDecoder;
-use legacy_index_files::{CodecName, OwnedIndexes};
+use legacy_index_files::{Codec, OwnedIndexes};
 use legacy_streams::recode::{RecodeError, recode};
 use legacy_streams::text::recode_text;
 use std::alloc::Global;
@@ -107,7 +107,7 @@ pub(crate) fn check<'a, 'b>(indexes: &'a OwnedIndexes) -> Result<CheckedIndexes<
 /// Checks the indexes, and recodes the input by the codec.
 fn check_and_recode<'a, R: Read, W: Write>(
     kind: OutputKind,
-    codec: CodecName,
+    codec: Codec,
     indexes: &OwnedIndexes,
     input: &mut R,
     output: &mut W,
@@ -132,7 +132,7 @@ fn check_and_recode<'a, R: Read, W: Write>(
 fn read_and_recode<'a, R: Read, W: Write>(
     alloc: Global,
     kind: OutputKind,
-    codec: CodecName,
+    codec: Codec,
     indexes: &[&'a str],
     files: &[Option<&[u8]>],
     input: &mut R,

@@ -3,7 +3,7 @@ ghost use Rattle.std.specs.Prelude.{◌≡◌, length};
 ghost use Rattle.legacy_command.specs.Words.{texts_of, wants_text, output_kind, plain_words, codec_named};
 ghost use Rattle.legacy_command.specs.Words.{index_named, first_index_named, stands_among, are_indexes, codec_of_words};
 
-use legacy_index_files::{CodecName, FileIndex};
+use legacy_index_files::{Codec, FileIndex};
 
 /// The kind of output.
 #[derive(Clone, Copy, Debug, PartialEq, Eq)]
@@ -46,22 +46,22 @@ pub fn request<'a, 'b>(words: &'a [&'b str]) -> &'a [&'b str]
 }
 
 /// Returns the codec that a word names, or `None`.
-fn codec_of(word: &str) -> Option<CodecName>
+fn codec_of(word: &str) -> Option<Codec>
     ensures { result ≡ codec_named word.now }
 {
     match word {
-        "x-user-defined" => Some(CodecName::UserDefined),
-        "replacement" => Some(CodecName::Replacement),
-        "single-byte" => Some(CodecName::SingleByte),
-        "utf-16le" => Some(CodecName::Utf16Le),
-        "utf-16be" => Some(CodecName::Utf16Be),
-        "big5" => Some(CodecName::Big5),
-        "euc-kr" => Some(CodecName::EucKr),
-        "shift_jis" => Some(CodecName::ShiftJis),
-        "euc-jp" => Some(CodecName::EucJp),
-        "gb18030" => Some(CodecName::Gb18030),
-        "gbk" => Some(CodecName::Gbk),
-        "iso-2022-jp" => Some(CodecName::Iso2022Jp),
+        "x-user-defined" => Some(Codec::UserDefined),
+        "replacement" => Some(Codec::Replacement),
+        "single-byte" => Some(Codec::SingleByte),
+        "utf-16le" => Some(Codec::Utf16Le),
+        "utf-16be" => Some(Codec::Utf16Be),
+        "big5" => Some(Codec::Big5),
+        "euc-kr" => Some(Codec::EucKr),
+        "shift_jis" => Some(Codec::ShiftJis),
+        "euc-jp" => Some(Codec::EucJp),
+        "gb18030" => Some(Codec::Gb18030),
+        "gbk" => Some(Codec::Gbk),
+        "iso-2022-jp" => Some(Codec::Iso2022Jp),
         _ => None,
     }
 }
@@ -119,7 +119,7 @@ fn is_indexes(words: &[&str]) -> bool
 ///
 /// Returns `None` unless the words are a codec, and then INDEX and FILE any number of times with no
 /// INDEX twice.
-pub fn codec_in(words: &[&str]) -> Option<CodecName>
+pub fn codec_in(words: &[&str]) -> Option<Codec>
     ensures { result ≡ codec_of_words (texts_of words.now) }
 {
     let [codec, indexes @ ..] = words else {

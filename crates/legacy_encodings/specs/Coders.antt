@@ -7,11 +7,11 @@ use Rattle.legacy_base.specs.States.{DecoderState, new_state}
 use Rattle.legacy_base.specs.Encoders.{EncoderState, new_encoder}
 use Rattle.legacy_base.specs.Encoders as encoders
 use Rattle.legacy_tables.specs.Indexes.{FlatIndexes}
-use Rattle.legacy_index_files.specs.declared.encodings.CodecName.{CodecName}
-use Rattle.legacy_index_files.specs.declared.encodings.CodecName.TheVariants as codec
+use Rattle.legacy_index_files.specs.declared.codec.Codec.{Codec}
+use Rattle.legacy_index_files.specs.declared.codec.Codec.TheVariants as codec
 
 -- a decoder, or none for a single-byte encoding without entries
-abbrev pub decoder_of : CodecName → FlatIndexes → Option (List ℕ) → Option DecoderState
+abbrev pub decoder_of : Codec → FlatIndexes → Option (List ℕ) → Option DecoderState
 decoder_of codec.SingleByte flat entries = option_map (λ e. new_state (single_byte e)) entries
 decoder_of codec.Gbk flat entries = Some (new_state (gb18030 flat.gb18030 flat.ranges))
 decoder_of codec.Gb18030 flat entries = Some (new_state (gb18030 flat.gb18030 flat.ranges))
@@ -26,7 +26,7 @@ decoder_of codec.Utf16Le flat entries = Some (new_state (utf16 false))
 decoder_of codec.UserDefined flat entries = Some (new_state user_defined)
 
 -- an encoder, or none for a single-byte encoding without entries and if the output encoding is UTF-8
-abbrev pub encoder_of : CodecName → FlatIndexes → Option (List ℕ) → Option EncoderState
+abbrev pub encoder_of : Codec → FlatIndexes → Option (List ℕ) → Option EncoderState
 encoder_of codec.SingleByte flat entries = option_map (λ e. new_encoder (encoders.single_byte e)) entries
 encoder_of codec.Gbk flat entries = Some (new_encoder (encoders.gbk flat.gb18030 flat.ranges flat.gb18030_pua))
 encoder_of codec.Gb18030 flat entries = Some (new_encoder (encoders.gb18030 flat.gb18030 flat.ranges flat.gb18030_pua))

@@ -7,7 +7,7 @@ use Rattle.legacy_base.specs.Lengths.{query_answer, to_utf8}
 use Rattle.legacy_codecs.specs.References.{referenced_bytes}
 use Rattle.legacy_tables.specs.Indexes.{FlatIndexes}
 use Rattle.legacy_index_files.specs.declared.encodings.Encoding.{Encoding}
-use Rattle.legacy_index_files.specs.declared.encodings.CodecName.TheVariants as codec
+use Rattle.legacy_index_files.specs.declared.codec.Codec.TheVariants as codec
 use Rattle.legacy_index_files.specs.Encodings.{encoding_name, codec_of}
 use Rattle.legacy_encodings.specs.declared.registry.EncodingTable.{EncodingTable}
 use Rattle.legacy_encodings.specs.declared.registry.RegistryError.{RegistryError}

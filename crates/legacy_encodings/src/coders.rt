@@ -3,6 +3,7 @@ ghost use Rattle.std.specs.Prelude.{◌≡◌};
 ghost use Rattle.std.specs.Option.{option_map};
 ghost use Rattle.legacy_encodings.specs.Coders.{decoder_of, encoder_of};
 
+use crate::tasks::{DecoderTask, EncoderTask};
 use legacy_codecs::{
     Big5Decoder, Big5Encoder, DecoderResult, Destination, EncoderResult, EucJpDecoder,
     EucJpEncoder, EucKrDecoder, EucKrEncoder, Gb18030Decoder, Gb18030Encoder, Iso2022JpDecoder,
@@ -10,7 +11,7 @@ use legacy_codecs::{
     SingleByteDecoder, SingleByteEncoder, SingleByteTable, Source, Tables, UserDefinedDecoder,
     UserDefinedEncoder, Utf16Decoder,
 };
-use legacy_index_files::CodecName;
+use legacy_index_files::Codec;
 
 /// A decoder of any encoding.
 #[derive(Drop)]
@@ -37,6 +38,24 @@ pub enum AnyDecoder<'a> {
     UserDefined(UserDefinedDecoder),
 }
 
+/// Evaluates an expression with the decoder that an `AnyDecoder` has.
+macro_rules! match_decoder {
+    ($any:expr, $coder:ident => $value:expr) => {
+        match $any {
+            AnyDecoder::SingleByte($coder) => $value,
+            AnyDecoder::Gb18030($coder) => $value,
+            AnyDecoder::Big5($coder) => $value,
+            AnyDecoder::EucJp($coder) => $value,
+            AnyDecoder::Iso2022Jp($coder) => $value,
+            AnyDecoder::ShiftJis($coder) => $value,
+            AnyDecoder::EucKr($coder) => $value,
+            AnyDecoder::Replacement($coder) => $value,
+            AnyDecoder::Utf16($coder) => $value,
+            AnyDecoder::UserDefined($coder) => $value,
+        }
+    };
+}
+
 impl<'a> RawDecoder for AnyDecoder<'a> {
     ghost use Rattle.legacy_encodings.specs.declared.coders.AnyDecoder.TheVariants.{SingleByte, Gb18030, Big5, EucJp, Iso2022Jp, ShiftJis, EucKr, Replacement, Utf16, UserDefined};
 
@@ -59,94 +78,23 @@ impl<'a> RawDecoder for AnyDecoder<'a> {
         dst: &mut T,
         last: bool,
     ) -> (DecoderResult, usize) {
-        match self {
-            AnyDecoder::SingleByte(coder) => coder.step(src, dst, last),
-            AnyDecoder::Gb18030(coder) => coder.step(src, dst, last),
-            AnyDecoder::Big5(coder) => coder.step(src, dst, last),
-            AnyDecoder::EucJp(coder) => coder.step(src, dst, last),
-            AnyDecoder::Iso2022Jp(coder) => coder.step(src, dst, last),
-            AnyDecoder::ShiftJis(coder) => coder.step(src, dst, last),
-            AnyDecoder::EucKr(coder) => coder.step(src, dst, last),
-            AnyDecoder::Replacement(coder) => coder.step(src, dst, last),
-            AnyDecoder::Utf16(coder) => coder.step(src, dst, last),
-            AnyDecoder::UserDefined(coder) => coder.step(src, dst, last),
-        }
+        match_decoder!(self, coder => coder.step(src, dst, last))
     }
 
     fn lone_malformed(&self, src: &[u8]) -> usize {
-        match self {
-            AnyDecoder::Gb18030(coder) => coder.lone_malformed(src),
-            AnyDecoder::Big5(coder) => coder.lone_malformed(src),
-            AnyDecoder::EucJp(coder) => coder.lone_malformed(src),
-            AnyDecoder::ShiftJis(coder) => coder.lone_malformed(src),
-            AnyDecoder::EucKr(coder) => coder.lone_malformed(src),
-            _ => 0,
-        }
+        match_decoder!(self, coder => coder.lone_malformed(src))
     }
 
     fn max_utf16_buffer_length(&self, byte_length: usize) -> Option<usize> {
-        match self {
-            AnyDecoder::SingleByte(coder) => coder.max_utf16_buffer_length(byte_length),
-            AnyDecoder::Gb18030(coder) => coder.max_utf16_buffer_length(byte_length),
-            AnyDecoder::Big5(coder) => coder.max_utf16_buffer_length(byte_length),
-            AnyDecoder::EucJp(coder) => coder.max_utf16_buffer_length(byte_length),
-            AnyDecoder::Iso2022Jp(coder) => coder.max_utf16_buffer_length(byte_length),
-            AnyDecoder::ShiftJis(coder) => coder.max_utf16_buffer_length(byte_length),
-            AnyDecoder::EucKr(coder) => coder.max_utf16_buffer_length(byte_length),
-            AnyDecoder::Replacement(coder) => coder.max_utf16_buffer_length(byte_length),
-            AnyDecoder::Utf16(coder) => coder.max_utf16_buffer_length(byte_length),
-            AnyDecoder::UserDefined(coder) => coder.max_utf16_buffer_length(byte_length),
-        }
+        match_decoder!(self, coder => coder.max_utf16_buffer_length(byte_length))
     }
 
     fn max_utf8_buffer_length_without_replacement(&self, byte_length: usize) -> Option<usize> {
-        match self {
-            AnyDecoder::SingleByte(coder) => coder.max_utf8_buffer_length_without_replacement(
-                byte_length,
-            ),
-            AnyDecoder::Gb18030(coder) => coder.max_utf8_buffer_length_without_replacement(
-                byte_length,
-            ),
-            AnyDecoder::Big5(coder) => coder.max_utf8_buffer_length_without_replacement(
-                byte_length,
-            ),
-            AnyDecoder::EucJp(coder) => coder.max_utf8_buffer_length_without_replacement(
-                byte_length,
-            ),
-            AnyDecoder::Iso2022Jp(coder) => coder.max_utf8_buffer_length_without_replacement(
-                byte_length,
-            ),
-            AnyDecoder::ShiftJis(coder) => coder.max_utf8_buffer_length_without_replacement(
-                byte_length,
-            ),
-            AnyDecoder::EucKr(coder) => coder.max_utf8_buffer_length_without_replacement(
-                byte_length,
-            ),
-            AnyDecoder::Replacement(coder) => coder.max_utf8_buffer_length_without_replacement(
-                byte_length,
-            ),
-            AnyDecoder::Utf16(coder) => coder.max_utf8_buffer_length_without_replacement(
-                byte_length,
-            ),
-            AnyDecoder::UserDefined(coder) => coder.max_utf8_buffer_length_without_replacement(
-                byte_length,
-            ),
-        }
+        match_decoder!(self, coder => coder.max_utf8_buffer_length_without_replacement(byte_length))
     }
 
     fn max_utf8_buffer_length(&self, byte_length: usize) -> Option<usize> {
-        match self {
-            AnyDecoder::SingleByte(coder) => coder.max_utf8_buffer_length(byte_length),
-            AnyDecoder::Gb18030(coder) => coder.max_utf8_buffer_length(byte_length),
-            AnyDecoder::Big5(coder) => coder.max_utf8_buffer_length(byte_length),
-            AnyDecoder::EucJp(coder) => coder.max_utf8_buffer_length(byte_length),
-            AnyDecoder::Iso2022Jp(coder) => coder.max_utf8_buffer_length(byte_length),
-            AnyDecoder::ShiftJis(coder) => coder.max_utf8_buffer_length(byte_length),
-            AnyDecoder::EucKr(coder) => coder.max_utf8_buffer_length(byte_length),
-            AnyDecoder::Replacement(coder) => coder.max_utf8_buffer_length(byte_length),
-            AnyDecoder::Utf16(coder) => coder.max_utf8_buffer_length(byte_length),
-            AnyDecoder::UserDefined(coder) => coder.max_utf8_buffer_length(byte_length),
-        }
+        match_decoder!(self, coder => coder.max_utf8_buffer_length(byte_length))
     }
 }
 
@@ -171,6 +119,22 @@ pub enum AnyEncoder<'a> {
     UserDefined(UserDefinedEncoder),
 }
 
+/// Evaluates an expression with the encoder that an `AnyEncoder` has.
+macro_rules! match_encoder {
+    ($any:expr, $coder:ident => $value:expr) => {
+        match $any {
+            AnyEncoder::SingleByte($coder) => $value,
+            AnyEncoder::Gb18030($coder) => $value,
+            AnyEncoder::Big5($coder) => $value,
+            AnyEncoder::EucJp($coder) => $value,
+            AnyEncoder::Iso2022Jp($coder) => $value,
+            AnyEncoder::ShiftJis($coder) => $value,
+            AnyEncoder::EucKr($coder) => $value,
+            AnyEncoder::UserDefined($coder) => $value,
+        }
+    };
+}
+
 impl<'a> RawEncoder for AnyEncoder<'a> {
     ghost use Rattle.legacy_encodings.specs.declared.coders.AnyEncoder.TheVariants.{SingleByte, Gb18030, Big5, EucJp, Iso2022Jp, ShiftJis, EucKr, UserDefined};
 
@@ -191,73 +155,15 @@ impl<'a> RawEncoder for AnyEncoder<'a> {
         dst: &mut [u8],
         last: bool,
     ) -> (EncoderResult, usize) {
-        match self {
-            AnyEncoder::SingleByte(coder) => coder.step(src, dst, last),
-            AnyEncoder::Gb18030(coder) => coder.step(src, dst, last),
-            AnyEncoder::Big5(coder) => coder.step(src, dst, last),
-            AnyEncoder::EucJp(coder) => coder.step(src, dst, last),
-            AnyEncoder::Iso2022Jp(coder) => coder.step(src, dst, last),
-            AnyEncoder::ShiftJis(coder) => coder.step(src, dst, last),
-            AnyEncoder::EucKr(coder) => coder.step(src, dst, last),
-            AnyEncoder::UserDefined(coder) => coder.step(src, dst, last),
-        }
+        match_encoder!(self, coder => coder.step(src, dst, last))
     }
 
     fn max_buffer_length_from_utf16_without_replacement(&self, u16_length: usize) -> Option<usize> {
-        match self {
-            AnyEncoder::SingleByte(coder) => coder.max_buffer_length_from_utf16_without_replacement(
-                u16_length,
-            ),
-            AnyEncoder::Gb18030(coder) => coder.max_buffer_length_from_utf16_without_replacement(
-                u16_length,
-            ),
-            AnyEncoder::Big5(coder) => coder.max_buffer_length_from_utf16_without_replacement(
-                u16_length,
-            ),
-            AnyEncoder::EucJp(coder) => coder.max_buffer_length_from_utf16_without_replacement(
-                u16_length,
-            ),
-            AnyEncoder::Iso2022Jp(coder) => coder.max_buffer_length_from_utf16_without_replacement(
-                u16_length,
-            ),
-            AnyEncoder::ShiftJis(coder) => coder.max_buffer_length_from_utf16_without_replacement(
-                u16_length,
-            ),
-            AnyEncoder::EucKr(coder) => coder.max_buffer_length_from_utf16_without_replacement(
-                u16_length,
-            ),
-            AnyEncoder::UserDefined(coder) =>
-                coder.max_buffer_length_from_utf16_without_replacement(u16_length),
-        }
+        match_encoder!(self, coder => coder.max_buffer_length_from_utf16_without_replacement(u16_length))
     }
 
     fn max_buffer_length_from_utf8_without_replacement(&self, byte_length: usize) -> Option<usize> {
-        match self {
-            AnyEncoder::SingleByte(coder) => coder.max_buffer_length_from_utf8_without_replacement(
-                byte_length,
-            ),
-            AnyEncoder::Gb18030(coder) => coder.max_buffer_length_from_utf8_without_replacement(
-                byte_length,
-            ),
-            AnyEncoder::Big5(coder) => coder.max_buffer_length_from_utf8_without_replacement(
-                byte_length,
-            ),
-            AnyEncoder::EucJp(coder) => coder.max_buffer_length_from_utf8_without_replacement(
-                byte_length,
-            ),
-            AnyEncoder::Iso2022Jp(coder) => coder.max_buffer_length_from_utf8_without_replacement(
-                byte_length,
-            ),
-            AnyEncoder::ShiftJis(coder) => coder.max_buffer_length_from_utf8_without_replacement(
-                byte_length,
-            ),
-            AnyEncoder::EucKr(coder) => coder.max_buffer_length_from_utf8_without_replacement(
-                byte_length,
-            ),
-            AnyEncoder::UserDefined(coder) => coder.max_buffer_length_from_utf8_without_replacement(
-                byte_length,
-            ),
-        }
+        match_encoder!(self, coder => coder.max_buffer_length_from_utf8_without_replacement(byte_length))
     }
 }
 
@@ -267,7 +173,7 @@ impl<'a> AnyDecoder<'a> {
     /// The result is `None` exactly if the codec is single-byte and `single_byte` is `None`. Other
     /// codecs do not use it.
     pub fn new(
-        codec: CodecName,
+        codec: Codec,
         tables: &'a Tables<'a>,
         single_byte: Option<&'a SingleByteTable>,
     ) -> Option<AnyDecoder<'a>>
@@ -275,24 +181,33 @@ impl<'a> AnyDecoder<'a> {
             ≡ decoder_of codec tables.now.flat (option_map (λ table. table.now.entries) single_byte.entry) }
     {
         let decoder = match codec {
-            CodecName::SingleByte => {
+            Codec::SingleByte => {
                 let Some(table) = single_byte else {
                     return None;
                 };
                 AnyDecoder::SingleByte(SingleByteDecoder::new(table))
             }
-            CodecName::Gbk | CodecName::Gb18030 => AnyDecoder::Gb18030(Gb18030Decoder::new(tables)),
-            CodecName::Big5 => AnyDecoder::Big5(Big5Decoder::new(tables)),
-            CodecName::EucJp => AnyDecoder::EucJp(EucJpDecoder::new(tables)),
-            CodecName::Iso2022Jp => AnyDecoder::Iso2022Jp(Iso2022JpDecoder::new(tables)),
-            CodecName::ShiftJis => AnyDecoder::ShiftJis(ShiftJisDecoder::new(tables)),
-            CodecName::EucKr => AnyDecoder::EucKr(EucKrDecoder::new(tables)),
-            CodecName::Replacement => AnyDecoder::Replacement(ReplacementDecoder::new()),
-            CodecName::Utf16Be => AnyDecoder::Utf16(Utf16Decoder::new(true)),
-            CodecName::Utf16Le => AnyDecoder::Utf16(Utf16Decoder::new(false)),
-            CodecName::UserDefined => AnyDecoder::UserDefined(UserDefinedDecoder::new()),
+            Codec::Gbk | Codec::Gb18030 => AnyDecoder::Gb18030(Gb18030Decoder::new(tables)),
+            Codec::Big5 => AnyDecoder::Big5(Big5Decoder::new(tables)),
+            Codec::EucJp => AnyDecoder::EucJp(EucJpDecoder::new(tables)),
+            Codec::Iso2022Jp => AnyDecoder::Iso2022Jp(Iso2022JpDecoder::new(tables)),
+            Codec::ShiftJis => AnyDecoder::ShiftJis(ShiftJisDecoder::new(tables)),
+            Codec::EucKr => AnyDecoder::EucKr(EucKrDecoder::new(tables)),
+            Codec::Replacement => AnyDecoder::Replacement(ReplacementDecoder::new()),
+            Codec::Utf16Be => AnyDecoder::Utf16(Utf16Decoder::new(true)),
+            Codec::Utf16Le => AnyDecoder::Utf16(Utf16Decoder::new(false)),
+            Codec::UserDefined => AnyDecoder::UserDefined(UserDefinedDecoder::new()),
         };
         Some(decoder)
+    }
+
+    /// Does a task with the decoder of the encoding, whose type the task's code is compiled for.
+    #[inline(always)]
+    pub fn lend<U, T: DecoderTask<U>>(&mut self, task: &T, output: &mut [U]) -> usize
+        ensures { T.gives task.now (⟦<AnyDecoder<'static> as RawDecoder>⟧.state self.old)
+            (⟦<AnyDecoder<'static> as RawDecoder>⟧.state self.new) output.old output.new result }
+    {
+        match_decoder!(self, coder => task.run(coder, output))
     }
 }
 
@@ -302,7 +217,7 @@ impl<'a> AnyEncoder<'a> {
     /// The result is `None` exactly if the codec is replacement or UTF-16, which have no encoder,
     /// or is single-byte and `single_byte` is `None`.
     pub fn new(
-        codec: CodecName,
+        codec: Codec,
         tables: &'a Tables<'a>,
         single_byte: Option<&'a SingleByteTable>,
     ) -> Option<AnyEncoder<'a>>
@@ -310,22 +225,31 @@ impl<'a> AnyEncoder<'a> {
             ≡ encoder_of codec tables.now.flat (option_map (λ table. table.now.entries) single_byte.entry) }
     {
         let encoder = match codec {
-            CodecName::SingleByte => {
+            Codec::SingleByte => {
                 let Some(table) = single_byte else {
                     return None;
                 };
                 AnyEncoder::SingleByte(SingleByteEncoder::with_longest_run(table))
             }
-            CodecName::Gbk => AnyEncoder::Gb18030(Gb18030Encoder::new(tables, false)),
-            CodecName::Gb18030 => AnyEncoder::Gb18030(Gb18030Encoder::new(tables, true)),
-            CodecName::Big5 => AnyEncoder::Big5(Big5Encoder::new(tables)),
-            CodecName::EucJp => AnyEncoder::EucJp(EucJpEncoder::new(tables)),
-            CodecName::Iso2022Jp => AnyEncoder::Iso2022Jp(Iso2022JpEncoder::new(tables)),
-            CodecName::ShiftJis => AnyEncoder::ShiftJis(ShiftJisEncoder::new(tables)),
-            CodecName::EucKr => AnyEncoder::EucKr(EucKrEncoder::new(tables)),
-            CodecName::UserDefined => AnyEncoder::UserDefined(UserDefinedEncoder::new()),
-            CodecName::Replacement | CodecName::Utf16Be | CodecName::Utf16Le => return None,
+            Codec::Gbk => AnyEncoder::Gb18030(Gb18030Encoder::new(tables, false)),
+            Codec::Gb18030 => AnyEncoder::Gb18030(Gb18030Encoder::new(tables, true)),
+            Codec::Big5 => AnyEncoder::Big5(Big5Encoder::new(tables)),
+            Codec::EucJp => AnyEncoder::EucJp(EucJpEncoder::new(tables)),
+            Codec::Iso2022Jp => AnyEncoder::Iso2022Jp(Iso2022JpEncoder::new(tables)),
+            Codec::ShiftJis => AnyEncoder::ShiftJis(ShiftJisEncoder::new(tables)),
+            Codec::EucKr => AnyEncoder::EucKr(EucKrEncoder::new(tables)),
+            Codec::UserDefined => AnyEncoder::UserDefined(UserDefinedEncoder::new()),
+            Codec::Replacement | Codec::Utf16Be | Codec::Utf16Le => return None,
         };
         Some(encoder)
+    }
+
+    /// Does a task with the encoder of the encoding, whose type the task's code is compiled for.
+    #[inline(always)]
+    pub fn lend<T: EncoderTask>(&mut self, task: &T, output: &mut [u8]) -> usize
+        ensures { T.gives task.now (⟦<AnyEncoder<'static> as RawEncoder>⟧.state self.old)
+            (⟦<AnyEncoder<'static> as RawEncoder>⟧.state self.new) output.old output.new result }
+    {
+        match_encoder!(self, coder => task.run(coder, output))
     }
 }

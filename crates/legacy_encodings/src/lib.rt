@@ -8,7 +8,11 @@
 mod coders;
 mod listed;
 mod registry;
+mod room;
+mod tasks;
 
 pub use coders::{AnyDecoder, AnyEncoder};
-pub use listed::{ListedEncoder, has_pairs, pair_room};
+pub use listed::{ListedEncoder, has_pairs};
 pub use registry::{Coders, EncodingTable, Registry, RegistryError};
+pub use room::pair_room;
+pub use tasks::{DecoderTask, EncoderTask};

@@ -3,11 +3,11 @@ ghost use Rattle.std.specs.Prelude.{◌≡◌, ◌<◌, ◌≤◌, ◌⊎◌, le
 ghost use Rattle.legacy_encodings.specs.Lists.{has_pairs};
 
 use crate::coders::AnyEncoder;
+use crate::tasks::EncoderTask;
 use legacy_codecs::{
     Big5Encoder, CachedEncoder, CachedIso2022JpEncoder, EncoderResult, EucJpEncoder, EucKrEncoder,
-    Gb18030Encoder, PAIR_ROOM, RawEncoder, ShiftJisEncoder, Source,
+    Gb18030Encoder, RawEncoder, ShiftJisEncoder, Source,
 };
-use std::alloc::{AllocError, Global};
 
 /// An encoder of any encoding of pairs, with a list of its pairs in memory that the user lends.
 #[derive(Drop)]
@@ -24,6 +24,20 @@ pub enum ListedEncoder<'a, 'b> {
     ShiftJis(CachedEncoder<'b, ShiftJisEncoder<'a>>),
     /// Of EUC-KR.
     EucKr(CachedEncoder<'b, EucKrEncoder<'a>>),
+}
+
+/// Evaluates an expression with the encoder that a `ListedEncoder` has.
+macro_rules! match_listed {
+    ($any:expr, $coder:ident => $value:expr) => {
+        match $any {
+            ListedEncoder::Gb18030($coder) => $value,
+            ListedEncoder::Big5($coder) => $value,
+            ListedEncoder::EucJp($coder) => $value,
+            ListedEncoder::Iso2022Jp($coder) => $value,
+            ListedEncoder::ShiftJis($coder) => $value,
+            ListedEncoder::EucKr($coder) => $value,
+        }
+    };
 }
 
 impl<'a, 'b> RawEncoder for ListedEncoder<'a, 'b> {
@@ -44,57 +58,15 @@ impl<'a, 'b> RawEncoder for ListedEncoder<'a, 'b> {
         dst: &mut [u8],
         last: bool,
     ) -> (EncoderResult, usize) {
-        match self {
-            ListedEncoder::Gb18030(coder) => coder.step(src, dst, last),
-            ListedEncoder::Big5(coder) => coder.step(src, dst, last),
-            ListedEncoder::EucJp(coder) => coder.step(src, dst, last),
-            ListedEncoder::Iso2022Jp(coder) => coder.step(src, dst, last),
-            ListedEncoder::ShiftJis(coder) => coder.step(src, dst, last),
-            ListedEncoder::EucKr(coder) => coder.step(src, dst, last),
-        }
+        match_listed!(self, coder => coder.step(src, dst, last))
     }
 
     fn max_buffer_length_from_utf16_without_replacement(&self, u16_length: usize) -> Option<usize> {
-        match self {
-            ListedEncoder::Gb18030(coder) => coder.max_buffer_length_from_utf16_without_replacement(
-                u16_length,
-            ),
-            ListedEncoder::Big5(coder) => coder.max_buffer_length_from_utf16_without_replacement(
-                u16_length,
-            ),
-            ListedEncoder::EucJp(coder) => coder.max_buffer_length_from_utf16_without_replacement(
-                u16_length,
-            ),
-            ListedEncoder::Iso2022Jp(coder) =>
-                coder.max_buffer_length_from_utf16_without_replacement(u16_length),
-            ListedEncoder::ShiftJis(coder) =>
-                coder.max_buffer_length_from_utf16_without_replacement(u16_length),
-            ListedEncoder::EucKr(coder) => coder.max_buffer_length_from_utf16_without_replacement(
-                u16_length,
-            ),
-        }
+        match_listed!(self, coder => coder.max_buffer_length_from_utf16_without_replacement(u16_length))
     }
 
     fn max_buffer_length_from_utf8_without_replacement(&self, byte_length: usize) -> Option<usize> {
-        match self {
-            ListedEncoder::Gb18030(coder) => coder.max_buffer_length_from_utf8_without_replacement(
-                byte_length,
-            ),
-            ListedEncoder::Big5(coder) => coder.max_buffer_length_from_utf8_without_replacement(
-                byte_length,
-            ),
-            ListedEncoder::EucJp(coder) => coder.max_buffer_length_from_utf8_without_replacement(
-                byte_length,
-            ),
-            ListedEncoder::Iso2022Jp(coder) =>
-                coder.max_buffer_length_from_utf8_without_replacement(byte_length),
-            ListedEncoder::ShiftJis(coder) => coder.max_buffer_length_from_utf8_without_replacement(
-                byte_length,
-            ),
-            ListedEncoder::EucKr(coder) => coder.max_buffer_length_from_utf8_without_replacement(
-                byte_length,
-            ),
-        }
+        match_listed!(self, coder => coder.max_buffer_length_from_utf8_without_replacement(byte_length))
     }
 }
 
@@ -130,6 +102,15 @@ impl<'a, 'b> ListedEncoder<'a, 'b> {
             AnyEncoder::SingleByte(_) | AnyEncoder::UserDefined(_) => None,
         }
     }
+
+    /// Does a task with the encoder of the encoding, whose type the task's code is compiled for.
+    #[inline(always)]
+    pub fn lend<T: EncoderTask>(&mut self, task: &T, output: &mut [u8]) -> usize
+        ensures { T.gives task.now (⟦<ListedEncoder<'static, 'static> as RawEncoder>⟧.state self.old)
+            (⟦<ListedEncoder<'static, 'static> as RawEncoder>⟧.state self.new) output.old output.new result }
+    {
+        match_listed!(self, coder => task.run(coder, output))
+    }
 }
 
 /// Checks whether an encoder is of an encoding of pairs, so that `ListedEncoder` takes it.
@@ -140,10 +121,4 @@ pub fn has_pairs(encoder: &AnyEncoder) -> bool
         encoder,
         AnyEncoder::SingleByte(_) | AnyEncoder::UserDefined(_)
     )
-}
-
-// There is no clause: its entries may be any.
-/// Allocates room for the pairs of a `ListedEncoder`: `PAIR_ROOM` entries, 128 KB.
-pub fn pair_room(alloc: Global) -> Result<Vec<u16>, AllocError> {
-    vec![in alloc; 0; PAIR_ROOM]
 }

@@ -16,12 +16,13 @@ ghost use Rattle.legacy_encodings.specs.Registries.{IsText, IsDecodeError, AreBy
 ghost use Rattle.legacy_encodings.specs.Registries.{IsTranscoded, IsTranscodeError};
 
 use crate::coders::{AnyDecoder, AnyEncoder};
-use crate::listed::{ListedEncoder, has_pairs, pair_room};
+use crate::listed::{ListedEncoder, has_pairs};
+use crate::room::pair_room;
 use legacy_codecs::{
     RawDecoder, RawEncoder, SingleByteTable, SizedError, TableError, Tables, decode_whole,
     encode_whole,
 };
-use legacy_index_files::{CodecName, Encoding, FileIndex, IndexFileError, OwnedIndexes};
+use legacy_index_files::{Codec, Encoding, FileIndex, IndexFileError, OwnedIndexes};
 use std::alloc::{AllocError, Global};
 use thiserror::Error;
 
@@ -249,7 +250,7 @@ impl Coders<'_> {
         let encoding = encoding_of(name)?;
         let codec = encoding.codec();
         let table = self.single_byte(encoding);
-        if codec == CodecName::SingleByte && table.is_none() {
+        if codec == Codec::SingleByte && table.is_none() {
             return Err(RegistryError::NoIndex);
         }
         Ok(AnyEncoder::new(codec, &self.tables, table))

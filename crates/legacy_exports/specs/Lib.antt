@@ -1,2 +1,2 @@
-pub mod Codecs
+pub mod Numbers
 pub mod Taken

@@ -6,10 +6,10 @@ use Rattle.legacy_tables.specs.declared.tables.packed.Packed.{Packed}
 use Rattle.legacy_tables.specs.declared.tables.private_use.TheConstants.{GB18030_2022_PUA}
 use Rattle.legacy_tables.specs.Packed.{packed_fault, ArePackedTables}
 use Rattle.legacy_tables.specs.TableChecks.{AreAccepted, IsAcceptedTable}
-use Rattle.legacy_single_byte.specs.SingleByteRun.{single_byte_run_fault}
-use Rattle.legacy_exports.specs.declared.codec.Codec.{Codec}
-use Rattle.legacy_exports.specs.declared.codec.Codec.TheVariants.{SingleByte}
-use Rattle.legacy_exports.specs.Codecs.{number_of, has_encoder}
+use Rattle.legacy_index_files.specs.declared.codec.Codec.{Codec}
+use Rattle.legacy_index_files.specs.declared.codec.Codec.TheVariants.{SingleByte}
+use Rattle.legacy_index_files.specs.Encodings.{has_encoder}
+use Rattle.legacy_exports.specs.Numbers.{number_of}
 use Rattle.legacy_exports.specs.declared.indexes.IndexRange.{IndexRange}
 use Rattle.legacy_exports.specs.declared.indexes.IndexSlices.{IndexSlices}
 use Rattle.legacy_exports.specs.declared.indexes.PackedSlices.{PackedSlices}
@@ -68,19 +68,9 @@ AreTaken codec slices =
     × AreTakenIndexes slices (map range_pair slices.ranges.now)
     × (codec ≡ SingleByte → IsTakenTable slices.single_byte.now)
 
--- the index and the run of a single-byte encoding are accepted
-abbrev pub IsTakenRun : IndexSlices → Type 0
-IsTakenRun slices =
-    IsTakenTable slices.single_byte.now
-    × (single_byte_run_fault slices.single_byte.now slices.single_byte_run.scalar slices.single_byte_run.start slices.single_byte_run.length ≡ None)
-
 -- the codec has an encoder, and the indexes are accepted for it
 abbrev pub AreTakenToEncode : Codec → IndexSlices → Type 0
-AreTakenToEncode codec slices =
-    (length slices.ranges.now ≤ 256)
-    × AreTakenIndexes slices (map range_pair slices.ranges.now)
-    × (codec ≡ SingleByte → IsTakenRun slices)
-    × (has_encoder codec ≡ true)
+AreTakenToEncode codec slices = AreTaken codec slices × (has_encoder codec ≡ true)
 
 -- a codec with an encoder has the number, and the indexes are accepted for it
 abbrev pub IsTakenToEncode : ℕ → IndexSlices → Type 0

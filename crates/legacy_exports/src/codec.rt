@@ -1,35 +1,8 @@
-//! The codecs by their numbers.
+//! The numbers of the codecs.
 ghost use Rattle.std.specs.Prelude.{◌≡◌, ◌≢◌, MatchOption};
-ghost use Rattle.legacy_exports.specs.Codecs.{number_of};
+ghost use Rattle.legacy_exports.specs.Numbers.{number_of};
 
-/// A codec of the Encoding Standard, in the Standard's order.
-#[derive(Clone, Copy)]
-pub enum Codec {
-    /// A single-byte encoding, by its table.
-    SingleByte,
-    /// GBK.
-    Gbk,
-    /// gb18030.
-    Gb18030,
-    /// Big5.
-    Big5,
-    /// EUC-JP.
-    EucJp,
-    /// ISO-2022-JP.
-    Iso2022Jp,
-    /// Shift_JIS.
-    ShiftJis,
-    /// EUC-KR.
-    EucKr,
-    /// replacement.
-    Replacement,
-    /// UTF-16BE.
-    Utf16Be,
-    /// UTF-16LE.
-    Utf16Le,
-    /// x-user-defined.
-    UserDefined,
-}
+use legacy_index_files::Codec;
 
 /// Returns the codec of this number, or `None` if no codec has it.
 ///

@@ -3,17 +3,24 @@ ghost use Rattle.std.specs.Prelude.{◌≡◌, ◌≤◌, ◌⊎◌, ◌↔◌, 
 ghost use Rattle.legacy_exports.specs.Taken.{AreTaken, IsRefused, IsTaken};
 
 use crate::calls::Calls;
-use crate::codec::{Codec, codec_of_number};
+use crate::codec::codec_of_number;
 use crate::indexes::{IndexSlices, RANGE_LIMIT, range_pairs, single_byte_table, tables_with};
 use crate::pieces::{Reading, decode_times};
 use crate::unit::CodeUnit;
-use legacy_decoders::{
-    Big5Decoder, EucJpDecoder, EucKrDecoder, Gb18030Decoder, Iso2022JpDecoder, ReplacementDecoder,
-    ShiftJisDecoder, SingleByteDecoder, UserDefinedDecoder, Utf16Decoder,
-};
+use legacy_base::RawDecoder;
+use legacy_encodings::{AnyDecoder, DecoderTask};
+use legacy_index_files::Codec;
 
-// The loop of `decode_times` is inlined here, so a decoder's loop is compiled together with its tables. Then it does
-// not read from memory where they are.
+impl<C: Calls, U: CodeUnit> DecoderTask<U> for Reading<C, &[u8]> {
+    ghost gives = { λ reading before after old new written. written ≤ length new };
+
+    // The loop of `decode_times` is inlined here, so a decoder's loop is compiled together with it.
+    #[inline(always)]
+    fn run<D: RawDecoder>(&self, decoder: &mut D, output: &mut [U]) -> usize {
+        decode_times(decoder, self, output)
+    }
+}
+
 /// Decodes by the codec's decoder as `decode_times` does.
 ///
 /// Returns `None` if the indexes are refused.
@@ -31,32 +38,10 @@ pub fn decode<C: Calls, U: CodeUnit>(
         return None;
     }
     let pairs = range_pairs(indexes.ranges);
-    let Some(tables) = tables_with(indexes, &pairs[..range_count]) else {
-        return None;
-    };
-    let written = match codec {
-        Codec::SingleByte => {
-            let Some(table) = single_byte_table(indexes.single_byte) else {
-                return None;
-            };
-            decode_times(&mut SingleByteDecoder::new(&table), reading, output)
-        }
-        Codec::Gbk | Codec::Gb18030 => {
-            decode_times(&mut Gb18030Decoder::new(&tables), reading, output)
-        }
-        Codec::Big5 => decode_times(&mut Big5Decoder::new(&tables), reading, output),
-        Codec::EucJp => decode_times(&mut EucJpDecoder::new(&tables), reading, output),
-        Codec::Iso2022Jp => decode_times(&mut Iso2022JpDecoder::new(&tables), reading, output),
-        Codec::ShiftJis => decode_times(&mut ShiftJisDecoder::new(&tables), reading, output),
-        Codec::EucKr => decode_times(&mut EucKrDecoder::new(&tables), reading, output),
-        Codec::Replacement => decode_times(&mut ReplacementDecoder::new(), reading, output),
-        Codec::Utf16Be | Codec::Utf16Le => {
-            let big_endian = matches!(codec, Codec::Utf16Be);
-            decode_times(&mut Utf16Decoder::new(big_endian), reading, output)
-        }
-        Codec::UserDefined => decode_times(&mut UserDefinedDecoder::new(), reading, output),
-    };
-    Some(written)
+    let tables = tables_with(indexes, &pairs[..range_count])?;
+    let table = single_byte_table(indexes.single_byte);
+    let mut decoder = AnyDecoder::new(codec, &tables, table.as_ref())?;
+    Some(decoder.lend(&reading, output))
 }
 
 /// Decodes by the codec of this number as `decode` does.

@@ -1,17 +1,15 @@
 //! The encoder of a codec.
 ghost use Rattle.std.specs.Prelude.{◌≡◌, ◌≤◌, ◌⊎◌, ◌↔◌, length, IfSome, IsSome};
-ghost use Rattle.legacy_exports.specs.Taken.{AreTakenToEncode, IsRefusedToEncode, IsTakenRun, IsTakenToEncode};
+ghost use Rattle.legacy_exports.specs.Taken.{AreTakenToEncode, IsRefusedToEncode, IsTakenToEncode};
 
 use crate::calls::{CallEnd, Calls};
-use crate::codec::{Codec, codec_of_number};
+use crate::codec::codec_of_number;
 use crate::indexes::{IndexSlices, RANGE_LIMIT, range_pairs, single_byte_table, tables_with};
 use crate::pieces::Reading;
 use crate::texts::Text;
 use legacy_base::RawEncoder;
-use legacy_encoders::{
-    Big5Encoder, CachedEncoder, CachedIso2022JpEncoder, EncodesPairs, EucJpEncoder, EucKrEncoder,
-    Gb18030Encoder, Iso2022JpEncoder, ShiftJisEncoder, SingleByteEncoder, UserDefinedEncoder,
-};
+use legacy_encodings::{AnyEncoder, EncoderTask, ListedEncoder};
+use legacy_index_files::Codec;
 
 /// Encodes the text in pieces by calls of a kind, and returns the number of bytes written.
 ///
@@ -56,7 +54,7 @@ fn encode_once<C: Calls, T: Text, E: RawEncoder>(
 #[inline(always)]
 fn encode_times<C: Calls, T: Text, E: RawEncoder>(
     encoder: &mut E,
-    reading: Reading<C, T>,
+    reading: &Reading<C, T>,
     output: &mut [u8],
 ) -> usize
     ensures { result ≤ length output.new }
@@ -74,68 +72,16 @@ fn encode_times<C: Calls, T: Text, E: RawEncoder>(
     written
 }
 
-/// Encodes as `encode_times` does, by an encoder of pairs. The pairs are cached if the room is long enough.
-// An encoder with its pairs is made in a function of its own, and its loop is inlined there.
-#[inline(always)]
-fn encode_pairs<C: Calls, T: Text, E: EncodesPairs + Drop>(
-    mut encoder: E,
-    room: &mut [u16],
-    reading: Reading<C, T>,
-    output: &mut [u8],
-) -> usize
-    ensures { result ≤ length output.new }
-{
-    match encode_ahead(&encoder, room, reading, output) {
-        Some(written) => written,
-        None => encode_times(&mut encoder, reading, output),
+impl<C: Calls, T: Text> EncoderTask for Reading<C, T> {
+    ghost gives = { λ reading before after old new written. written ≤ length new };
+
+    // The loop of `encode_times` is inlined here, as that of the decoders is.
+    #[inline(always)]
+    fn run<E: RawEncoder>(&self, encoder: &mut E, output: &mut [u8]) -> usize {
+        encode_times(encoder, self, output)
     }
 }
 
-/// Encodes with cached pairs, or returns `None` if the room is too short for them.
-#[inline(never)]
-fn encode_ahead<C: Calls, T: Text, E: EncodesPairs>(
-    encoder: &E,
-    room: &mut [u16],
-    reading: Reading<C, T>,
-    output: &mut [u8],
-) -> Option<usize>
-    ensures { IfSome result (λ written. written ≤ length output.new) }
-{
-    let mut cached = CachedEncoder::new(encoder, room)?;
-    Some(encode_times(&mut cached, reading, output))
-}
-
-/// Encodes as `encode_times` does, by ISO-2022-JP's encoder. The pairs are cached if the room is long enough.
-#[inline(always)]
-fn encode_modes<C: Calls, T: Text>(
-    mut encoder: Iso2022JpEncoder,
-    room: &mut [u16],
-    reading: Reading<C, T>,
-    output: &mut [u8],
-) -> usize
-    ensures { result ≤ length output.new }
-{
-    match encode_modes_ahead(&encoder, room, reading, output) {
-        Some(written) => written,
-        None => encode_times(&mut encoder, reading, output),
-    }
-}
-
-/// Encodes with listed pairs, or returns `None` if the room is too short for them.
-#[inline(never)]
-fn encode_modes_ahead<C: Calls, T: Text>(
-    encoder: &Iso2022JpEncoder,
-    room: &mut [u16],
-    reading: Reading<C, T>,
-    output: &mut [u8],
-) -> Option<usize>
-    ensures { IfSome result (λ written. written ≤ length output.new) }
-{
-    let mut cached = CachedIso2022JpEncoder::new(encoder, room)?;
-    Some(encode_times(&mut cached, reading, output))
-}
-
-// The loop of `encode_times` is inlined here, as that of the decoders is.
 /// Encodes by the codec's encoder as `encode_times` does.
 ///
 /// Returns `None` if the codec has no encoder or the indexes are refused. An encoder of pairs caches
@@ -155,41 +101,13 @@ pub fn encode<C: Calls, T: Text>(
         return None;
     }
     let pairs = range_pairs(indexes.ranges);
-    let Some(tables) = tables_with(indexes, &pairs[..range_count]) else {
-        return None;
-    };
-    let written = match codec {
-        Codec::SingleByte => return encode_single_byte(indexes, reading, output),
-        Codec::Gbk => encode_pairs(Gb18030Encoder::new(&tables, false), room, reading, output),
-        Codec::Gb18030 => encode_pairs(Gb18030Encoder::new(&tables, true), room, reading, output),
-        Codec::Big5 => encode_pairs(Big5Encoder::new(&tables), room, reading, output),
-        Codec::EucJp => encode_pairs(EucJpEncoder::new(&tables), room, reading, output),
-        Codec::Iso2022Jp => encode_modes(Iso2022JpEncoder::new(&tables), room, reading, output),
-        Codec::ShiftJis => encode_pairs(ShiftJisEncoder::new(&tables), room, reading, output),
-        Codec::EucKr => encode_pairs(EucKrEncoder::new(&tables), room, reading, output),
-        Codec::UserDefined => encode_times(&mut UserDefinedEncoder::new(), reading, output),
-        Codec::Replacement | Codec::Utf16Be | Codec::Utf16Le => return None,
-    };
-    Some(written)
-}
-
-/// Encodes by the encoder of the single-byte encoding whose index is passed.
-///
-/// Returns `None` if its index or its run is refused.
-fn encode_single_byte<C: Calls, T: Text>(
-    indexes: &IndexSlices,
-    reading: Reading<C, T>,
-    output: &mut [u8],
-) -> Option<usize>
-    ensures units { IfSome result (λ written. written ≤ length output.new) }
-    ensures taken { IsSome result ↔ IsTakenRun indexes.now }
-{
-    let table = single_byte_table(indexes.single_byte)?;
-    let run = &indexes.single_byte_run;
-    match SingleByteEncoder::new(&table, run.scalar, run.start, run.length) {
-        Ok(mut encoder) => Some(encode_times(&mut encoder, reading, output)),
-        Err(_) => None,
+    let tables = tables_with(indexes, &pairs[..range_count])?;
+    let table = single_byte_table(indexes.single_byte);
+    let mut encoder = AnyEncoder::new(codec, &tables, table.as_ref())?;
+    if let Some(mut listed) = ListedEncoder::new(&encoder, room) {
+        return Some(listed.lend(&reading, output));
     }
+    Some(encoder.lend(&reading, output))
 }
 
 /// Encodes by the codec of this number as `encode` does.

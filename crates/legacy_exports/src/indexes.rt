@@ -15,19 +15,6 @@ pub struct IndexRange {
     pub scalar: u16,
 }
 
-/// A run of a single-byte encoding: `length` places from `start` on have successive scalars.
-///
-/// The first of them is `scalar`. The encoder finds these scalars without a search.
-#[repr(C)]
-pub struct ByteRun {
-    /// The first scalar.
-    pub scalar: u16,
-    /// The first place, from 32 on.
-    pub start: u8,
-    /// The number of places, which may be 0.
-    pub length: u8,
-}
-
 /// Packed indexes that are not checked yet: the parts of `Packed`.
 ///
 /// They are runs, and the pointers that encoders use in the order of their scalars.
@@ -76,8 +63,6 @@ pub struct IndexSlices<'a> {
     pub ranges: &'a [IndexRange],
     /// The index of a single-byte encoding: the scalars of the bytes from 0x80.
     pub single_byte: &'a [u16],
-    /// The run that the encoder of the single-byte encoding uses.
-    pub single_byte_run: ByteRun,
     /// Whether the tables are packed ones.
     pub is_packed: bool,
     /// The parts of packed tables. Flat tables do not read them.

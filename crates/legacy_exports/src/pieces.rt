@@ -73,7 +73,7 @@ fn decode_once<C: Calls, U: CodeUnit, D: RawDecoder>(
 #[inline(always)]
 pub fn decode_times<C: Calls, U: CodeUnit, D: RawDecoder>(
     decoder: &mut D,
-    reading: Reading<C, &[u8]>,
+    reading: &Reading<C, &[u8]>,
     output: &mut [U],
 ) -> usize
     ensures { result ≤ length output.new }

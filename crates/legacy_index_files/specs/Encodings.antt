@@ -1,14 +1,14 @@
 -- The encodings of the Standard that this crate lists: their names ("Names and labels"), codecs and index files
 -- ("Indexes").
-use Rattle.std.specs.Prelude.{ℕ, List, [], ◌∷◌, Option, Some, None, codes, map}
+use Rattle.std.specs.Prelude.{ℕ, List, [], ◌∷◌, Option, Some, None, codes, map, Bool, true, false}
 use Rattle.legacy_index_files.specs.declared.index_file.FileIndex.{FileIndex}
 use Rattle.legacy_index_files.specs.declared.index_file.FileIndex.TheVariants as index
 use Rattle.legacy_index_files.specs.declared.index_file.EncoderIndex.{EncoderIndex}
 use Rattle.legacy_index_files.specs.declared.index_file.EncoderIndex.TheVariants.{Of, Katakana}
 use Rattle.legacy_index_files.specs.declared.encodings.Encoding.{Encoding}
 use Rattle.legacy_index_files.specs.declared.encodings.Encoding.TheVariants as encoding
-use Rattle.legacy_index_files.specs.declared.encodings.CodecName.{CodecName}
-use Rattle.legacy_index_files.specs.declared.encodings.CodecName.TheVariants as codec
+use Rattle.legacy_index_files.specs.declared.codec.Codec.{Codec}
+use Rattle.legacy_index_files.specs.declared.codec.Codec.TheVariants as codec
 
 -- the name of an encoding
 abbrev pub encoding_name : Encoding → List ℕ
@@ -53,7 +53,7 @@ encoding_name encoding.Utf16Le = codes "UTF-16LE"
 encoding_name encoding.UserDefined = codes "x-user-defined"
 
 -- the codec of an encoding
-abbrev pub codec_of : Encoding → CodecName
+abbrev pub codec_of : Encoding → Codec
 codec_of encoding.Gbk = codec.Gbk
 codec_of encoding.Gb18030 = codec.Gb18030
 codec_of encoding.Big5 = codec.Big5
@@ -67,8 +67,15 @@ codec_of encoding.Utf16Le = codec.Utf16Le
 codec_of encoding.UserDefined = codec.UserDefined
 codec_of _ = codec.SingleByte
 
+-- the codecs whose output encoding is not UTF-8 ("get an output encoding")
+abbrev pub has_encoder : Codec → Bool
+has_encoder codec.Replacement = false
+has_encoder codec.Utf16Be = false
+has_encoder codec.Utf16Le = false
+has_encoder _ = true
+
 -- the indexes that a codec's decoder uses
-abbrev pub indexes_of : CodecName → List FileIndex
+abbrev pub indexes_of : Codec → List FileIndex
 indexes_of codec.SingleByte = index.SingleByte ∷ []
 indexes_of codec.Gbk = index.Gb18030 ∷ index.Ranges ∷ []
 indexes_of codec.Gb18030 = index.Gb18030 ∷ index.Ranges ∷ []
@@ -83,7 +90,7 @@ indexes_of codec.Utf16Le = []
 indexes_of codec.UserDefined = []
 
 -- the indexes that a codec's encoder uses: those of its decoder, and for ISO-2022-JP the katakana index
-abbrev pub encoder_indexes_of : CodecName → List EncoderIndex
+abbrev pub encoder_indexes_of : Codec → List EncoderIndex
 encoder_indexes_of codec.Iso2022Jp = Of index.Jis0208 ∷ Katakana ∷ []
 encoder_indexes_of codec = map Of (indexes_of codec)
 

@@ -5,6 +5,7 @@ ghost use Rattle.legacy_index_files.specs.Encodings.{encoding_name, codec_of, in
 ghost use Rattle.legacy_index_files.specs.Encodings.{encoder_indexes_of};
 ghost use Rattle.legacy_index_files.specs.Encodings.{single_byte_file, file_name_of};
 
+use crate::codec::Codec;
 use crate::index_file::{EncoderIndex, FileIndex};
 
 /// An encoding of the Standard ("Names and labels"), except UTF-8.
@@ -133,35 +134,6 @@ pub const ENCODINGS: [Encoding; 39] = [
     Encoding::UserDefined,
 ];
 
-/// A codec, which decodes and encodes an encoding.
-#[derive(Clone, Copy, Debug, PartialEq, Eq)]
-pub enum CodecName {
-    /// `SingleByteDecoder` and `SingleByteEncoder`, with the encoding's own table.
-    SingleByte,
-    /// `Gb18030Decoder`, and `Gb18030Encoder` without four-byte sequences.
-    Gbk,
-    /// `Gb18030Decoder`, and `Gb18030Encoder` with four-byte sequences.
-    Gb18030,
-    /// `Big5Decoder` and `Big5Encoder`.
-    Big5,
-    /// `EucJpDecoder` and `EucJpEncoder`.
-    EucJp,
-    /// `Iso2022JpDecoder` and `Iso2022JpEncoder`.
-    Iso2022Jp,
-    /// `ShiftJisDecoder` and `ShiftJisEncoder`.
-    ShiftJis,
-    /// `EucKrDecoder` and `EucKrEncoder`.
-    EucKr,
-    /// `ReplacementDecoder`. Its output encoding is UTF-8.
-    Replacement,
-    /// `Utf16Decoder` in big-endian byte order. Its output encoding is UTF-8.
-    Utf16Be,
-    /// `Utf16Decoder` in little-endian byte order. Its output encoding is UTF-8.
-    Utf16Le,
-    /// `UserDefinedDecoder` and `UserDefinedEncoder`.
-    UserDefined,
-}
-
 /// Returns the first encoding with this name.
 fn first_named(name: &str) -> Option<Encoding>
     ensures { result ≡ find (λ e. bytes_eq (encoding_name e) name.now) ENCODINGS }
@@ -232,22 +204,22 @@ impl Encoding {
     }
 
     /// Returns the encoding's codec.
-    pub fn codec(self) -> CodecName
+    pub fn codec(self) -> Codec
         ensures { result ≡ codec_of self }
     {
         match self {
-            Encoding::Gbk => CodecName::Gbk,
-            Encoding::Gb18030 => CodecName::Gb18030,
-            Encoding::Big5 => CodecName::Big5,
-            Encoding::EucJp => CodecName::EucJp,
-            Encoding::Iso2022Jp => CodecName::Iso2022Jp,
-            Encoding::ShiftJis => CodecName::ShiftJis,
-            Encoding::EucKr => CodecName::EucKr,
-            Encoding::Replacement => CodecName::Replacement,
-            Encoding::Utf16Be => CodecName::Utf16Be,
-            Encoding::Utf16Le => CodecName::Utf16Le,
-            Encoding::UserDefined => CodecName::UserDefined,
-            _ => CodecName::SingleByte,
+            Encoding::Gbk => Codec::Gbk,
+            Encoding::Gb18030 => Codec::Gb18030,
+            Encoding::Big5 => Codec::Big5,
+            Encoding::EucJp => Codec::EucJp,
+            Encoding::Iso2022Jp => Codec::Iso2022Jp,
+            Encoding::ShiftJis => Codec::ShiftJis,
+            Encoding::EucKr => Codec::EucKr,
+            Encoding::Replacement => Codec::Replacement,
+            Encoding::Utf16Be => Codec::Utf16Be,
+            Encoding::Utf16Le => Codec::Utf16Le,
+            Encoding::UserDefined => Codec::UserDefined,
+            _ => Codec::SingleByte,
         }
     }
 
@@ -258,16 +230,13 @@ impl Encoding {
         ensures { result.now ≡ indexes_of (codec_of self) }
     {
         match self.codec() {
-            CodecName::SingleByte => &[FileIndex::SingleByte],
-            CodecName::Gbk | CodecName::Gb18030 => &[FileIndex::Gb18030, FileIndex::Ranges],
-            CodecName::Big5 => &[FileIndex::Big5],
-            CodecName::EucJp => &[FileIndex::Jis0208, FileIndex::Jis0212],
-            CodecName::Iso2022Jp | CodecName::ShiftJis => &[FileIndex::Jis0208],
-            CodecName::EucKr => &[FileIndex::EucKr],
-            CodecName::Replacement
-            | CodecName::Utf16Be
-            | CodecName::Utf16Le
-            | CodecName::UserDefined => &[],
+            Codec::SingleByte => &[FileIndex::SingleByte],
+            Codec::Gbk | Codec::Gb18030 => &[FileIndex::Gb18030, FileIndex::Ranges],
+            Codec::Big5 => &[FileIndex::Big5],
+            Codec::EucJp => &[FileIndex::Jis0208, FileIndex::Jis0212],
+            Codec::Iso2022Jp | Codec::ShiftJis => &[FileIndex::Jis0208],
+            Codec::EucKr => &[FileIndex::EucKr],
+            Codec::Replacement | Codec::Utf16Be | Codec::Utf16Le | Codec::UserDefined => &[],
         }
     }
 
@@ -279,29 +248,24 @@ impl Encoding {
         ensures { result.now ≡ encoder_indexes_of (codec_of self) }
     {
         match self.codec() {
-            CodecName::SingleByte => &[EncoderIndex::Of(FileIndex::SingleByte)],
-            CodecName::Gbk | CodecName::Gb18030 => {
+            Codec::SingleByte => &[EncoderIndex::Of(FileIndex::SingleByte)],
+            Codec::Gbk | Codec::Gb18030 => {
                 &[
                     EncoderIndex::Of(FileIndex::Gb18030),
                     EncoderIndex::Of(FileIndex::Ranges),
                 ]
             }
-            CodecName::Big5 => &[EncoderIndex::Of(FileIndex::Big5)],
-            CodecName::EucJp => {
+            Codec::Big5 => &[EncoderIndex::Of(FileIndex::Big5)],
+            Codec::EucJp => {
                 &[
                     EncoderIndex::Of(FileIndex::Jis0208),
                     EncoderIndex::Of(FileIndex::Jis0212),
                 ]
             }
-            CodecName::Iso2022Jp => {
-                &[EncoderIndex::Of(FileIndex::Jis0208), EncoderIndex::Katakana]
-            }
-            CodecName::ShiftJis => &[EncoderIndex::Of(FileIndex::Jis0208)],
-            CodecName::EucKr => &[EncoderIndex::Of(FileIndex::EucKr)],
-            CodecName::Replacement
-            | CodecName::Utf16Be
-            | CodecName::Utf16Le
-            | CodecName::UserDefined => &[],
+            Codec::Iso2022Jp => { &[EncoderIndex::Of(FileIndex::Jis0208), EncoderIndex::Katakana] }
+            Codec::ShiftJis => &[EncoderIndex::Of(FileIndex::Jis0208)],
+            Codec::EucKr => &[EncoderIndex::Of(FileIndex::EucKr)],
+            Codec::Replacement | Codec::Utf16Be | Codec::Utf16Le | Codec::UserDefined => &[],
         }
     }
 

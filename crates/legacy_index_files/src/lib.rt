@@ -6,6 +6,7 @@
 //! - A list of the Standard's encodings has the name, the codec and the index files of each.
 #![tactic(auto)]
 
+mod codec;
 mod encodings;
 mod index_file;
 mod index_line;
@@ -14,7 +15,8 @@ mod owned_indexes;
 mod packed_indexes;
 mod packing;
 
-pub use encodings::{CodecName, ENCODINGS, Encoding};
+pub use codec::Codec;
+pub use encodings::{ENCODINGS, Encoding};
 pub use index_file::{
     EncoderIndex, FileIndex, FileTable, IndexFileError, KATAKANA_FILE, read_index, read_katakana,
 };

@@ -10,7 +10,7 @@ use crate::rows::Row::{
 };
 use legacy_base::DecodeEvent::Scalar;
 use legacy_base::DecoderResult::{InputEmpty, Malformed, OutputFull};
-use legacy_index_files::CodecName;
+use legacy_index_files::Codec;
 
 const WITHOUT_ENTRIES: &[Row] = &[
     Decoder("pointers 1133, 1135, 1164 and 1166 are a letter and a mark"),
@@ -96,6 +96,6 @@ const THE_LAST_POINTER: &[Row] = &[
 const LAST: &Flat = &flat!(big5: (19781, &[(19780, 0x2_910D)]));
 
 pub(crate) const CASES: &[DecoderCase] = &[
-    (CodecName::Big5, EMPTY, WITHOUT_ENTRIES),
-    (CodecName::Big5, LAST, THE_LAST_POINTER),
+    (Codec::Big5, EMPTY, WITHOUT_ENTRIES),
+    (Codec::Big5, LAST, THE_LAST_POINTER),
 ];

@@ -6,13 +6,13 @@ use crate::indexes::{
 use crate::rows::{Row, follow};
 use legacy_codecs::{SingleByteEncoder, SingleByteTable, Tables};
 use legacy_encodings::{AnyDecoder, AnyEncoder};
-use legacy_index_files::CodecName;
+use legacy_index_files::Codec;
 use std::process::Abort;
 
 /// A codec over tables, with the run of a single-byte encoder: its first scalar, its first place and its length.
 #[derive(Clone, Copy)]
 pub(crate) struct Over<'a> {
-    codec: CodecName,
+    codec: Codec,
     tables: &'a Tables<'a>,
     single_byte: &'a SingleByteTable,
     run: (u16, u8, u8),
@@ -36,7 +36,7 @@ impl<'a> Over<'a> {
     }
 
     pub(crate) fn encoder(self, rt: &impl Abort) -> AnyEncoder<'a> {
-        if self.codec == CodecName::SingleByte {
+        if self.codec == Codec::SingleByte {
             return self.single_byte_encoder(rt);
         }
         match AnyEncoder::new(self.codec, self.tables, None) {
@@ -65,7 +65,7 @@ impl Followed for EncoderRow<'_> {
 }
 
 /// A codec, the indexes of its tables, and rows.
-pub(crate) type Case<'a, R> = (CodecName, &'a Flat<'a>, &'a [R]);
+pub(crate) type Case<'a, R> = (Codec, &'a Flat<'a>, &'a [R]);
 
 /// A case with rows of a decoder.
 pub(crate) type DecoderCase<'a> = Case<'a, Row<'a>>;

@@ -10,7 +10,7 @@ use crate::rows::Row::{
 };
 use legacy_base::DecodeEvent::Scalar;
 use legacy_base::DecoderResult::{InputEmpty, Malformed, OutputFull};
-use legacy_index_files::CodecName;
+use legacy_index_files::Codec;
 
 const WITHOUT_ENTRIES: &[Row] = &[
     Decoder("an ASCII byte behind 8F and a lead is read again"),
@@ -90,6 +90,6 @@ const ENTRIES: &Flat =
     &flat!(jis0208: (109, &[(0, 0x3000), (60, 0xFF0D)]), jis0212: (109, &[(108, 0x02D8)]));
 
 pub(crate) const CASES: &[DecoderCase] = &[
-    (CodecName::EucJp, EMPTY, WITHOUT_ENTRIES),
-    (CodecName::EucJp, ENTRIES, PAIRS),
+    (Codec::EucJp, EMPTY, WITHOUT_ENTRIES),
+    (Codec::EucJp, ENTRIES, PAIRS),
 ];

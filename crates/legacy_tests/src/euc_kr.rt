@@ -10,7 +10,7 @@ use crate::rows::Row::{
 };
 use legacy_base::DecodeEvent::Scalar;
 use legacy_base::DecoderResult::{InputEmpty, Malformed, OutputFull};
-use legacy_index_files::CodecName;
+use legacy_index_files::Codec;
 
 /// The rows with U+AC02 at pointer 0, and no other scalar.
 const ROWS: &[Row] = &[
@@ -60,4 +60,4 @@ const ROWS: &[Row] = &[
 /// U+AC02 at pointer 0, and no other entry.
 pub(crate) const ONE_ENTRY: &Flat = &flat!(euc_kr: (1, &[(0, 0xAC02)]));
 
-pub(crate) const CASES: &[DecoderCase] = &[(CodecName::EucKr, ONE_ENTRY, ROWS)];
+pub(crate) const CASES: &[DecoderCase] = &[(Codec::EucKr, ONE_ENTRY, ROWS)];

@@ -11,7 +11,7 @@ use crate::rows::Row::{
 };
 use legacy_base::DecodeEvent::Scalar;
 use legacy_base::DecoderResult::{InputEmpty, Malformed, OutputFull};
-use legacy_index_files::CodecName;
+use legacy_index_files::Codec;
 
 const PUT_BACK: &[Row] = &[
     Decoder("a bad fourth byte gives the second and third back"),
@@ -176,9 +176,9 @@ const DECODED: &[Row] = &[
 ];
 
 pub(crate) const CASES: &[DecoderCase] = &[
-    (CodecName::Gb18030, EMPTY, PUT_BACK),
-    (CodecName::Gb18030, EMPTY, WITHOUT_ENTRIES),
-    (CodecName::Gb18030, BESIDE_7F, PAIRS),
-    (CodecName::Gb18030, TWO_RANGES, RANGES),
-    (CodecName::Gb18030, ROW_AND_ENTRY, DECODED),
+    (Codec::Gb18030, EMPTY, PUT_BACK),
+    (Codec::Gb18030, EMPTY, WITHOUT_ENTRIES),
+    (Codec::Gb18030, BESIDE_7F, PAIRS),
+    (Codec::Gb18030, TWO_RANGES, RANGES),
+    (Codec::Gb18030, ROW_AND_ENTRY, DECODED),
 ];

@@ -10,7 +10,7 @@ use crate::rows::Row::{
 };
 use legacy_base::DecodeEvent::Scalar;
 use legacy_base::DecoderResult::{InputEmpty, Malformed, OutputFull};
-use legacy_index_files::CodecName;
+use legacy_index_files::Codec;
 
 const WITHOUT_ENTRIES: &[Row] = &[
     Decoder("an escape directly behind an escape makes the first one malformed"),
@@ -236,6 +236,6 @@ const ENTRIES: &Flat =
     &flat!(jis0208: (4862, &[(0, 0x3000), (95, 0x2225), (671, 0x250F), (4861, 0x58FA)]));
 
 pub(crate) const CASES: &[DecoderCase] = &[
-    (CodecName::Iso2022Jp, EMPTY, WITHOUT_ENTRIES),
-    (CodecName::Iso2022Jp, ENTRIES, PAIRS),
+    (Codec::Iso2022Jp, EMPTY, WITHOUT_ENTRIES),
+    (Codec::Iso2022Jp, ENTRIES, PAIRS),
 ];

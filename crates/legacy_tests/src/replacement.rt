@@ -5,7 +5,7 @@ use crate::indexes::EMPTY;
 use crate::rows::Row;
 use crate::rows::Row::{BareLength, Decoder, Events, ToUtf8, ToUtf16, Utf8Length, Utf16Length};
 use legacy_base::DecoderResult::{InputEmpty, Malformed, OutputFull};
-use legacy_index_files::CodecName;
+use legacy_index_files::Codec;
 
 const ROWS: &[Row] = &[
     Decoder("empty input gives nothing"),
@@ -29,4 +29,4 @@ const ROWS: &[Row] = &[
     BareLength(usize::MAX, Some(3)),
 ];
 
-pub(crate) const CASES: &[DecoderCase] = &[(CodecName::Replacement, EMPTY, ROWS)];
+pub(crate) const CASES: &[DecoderCase] = &[(Codec::Replacement, EMPTY, ROWS)];

@@ -10,7 +10,7 @@ use legacy_base::RawDecoder;
 use legacy_codecs::CoderResult;
 use legacy_codecs::CoderResult::InputEmpty;
 use legacy_encodings::AnyDecoder;
-use legacy_index_files::CodecName;
+use legacy_index_files::Codec;
 use std::process::Abort;
 
 pub(crate) mod encoders;
@@ -252,9 +252,9 @@ const FOUR_BYTES: &[Row] = &[
 ];
 
 pub(crate) const CASES: &[DecoderCase] = &[
-    (CodecName::Iso2022Jp, EMPTY, ESCAPES),
-    (CodecName::Iso2022Jp, ONE_PAIR, PAIRS),
-    (CodecName::Utf16Le, EMPTY, LITTLE_ENDIAN),
-    (CodecName::Utf16Be, EMPTY, BIG_ENDIAN),
-    (CodecName::Gb18030, EMPTY, FOUR_BYTES),
+    (Codec::Iso2022Jp, EMPTY, ESCAPES),
+    (Codec::Iso2022Jp, ONE_PAIR, PAIRS),
+    (Codec::Utf16Le, EMPTY, LITTLE_ENDIAN),
+    (Codec::Utf16Be, EMPTY, BIG_ENDIAN),
+    (Codec::Gb18030, EMPTY, FOUR_BYTES),
 ];

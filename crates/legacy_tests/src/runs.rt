@@ -11,13 +11,13 @@ use legacy_base::DecoderResult::{InputEmpty, OutputFull};
 use legacy_base::{DecoderResult, Destination, RawDecoder};
 use legacy_codecs::{OutputForm, RunError, ScalarBuffer, Utf8Form, Utf16Form};
 use legacy_decoders::UserDefinedDecoder;
-use legacy_index_files::CodecName;
+use legacy_index_files::Codec;
 use std::process::Abort;
 
 /// The cases, with U+AC02 at pointer 0 of index EUC-KR, and no other scalar in any index.
 pub(crate) const CASES_OVER_TABLES: &[DecoderCase] = &[
     (
-        CodecName::Big5,
+        Codec::Big5,
         ONE_ENTRY,
         &[
             Decoder("a pair of two scalars, and a lead that the end cuts off"),
@@ -35,7 +35,7 @@ pub(crate) const CASES_OVER_TABLES: &[DecoderCase] = &[
         ],
     ),
     (
-        CodecName::EucKr,
+        Codec::EucKr,
         ONE_ENTRY,
         &[
             Decoder("a pair, and a lead that the end cuts off"),
@@ -43,7 +43,7 @@ pub(crate) const CASES_OVER_TABLES: &[DecoderCase] = &[
         ],
     ),
     (
-        CodecName::ShiftJis,
+        Codec::ShiftJis,
         ONE_ENTRY,
         &[
             Decoder("a single byte, and a lead behind a lead"),
@@ -54,7 +54,7 @@ pub(crate) const CASES_OVER_TABLES: &[DecoderCase] = &[
         ],
     ),
     (
-        CodecName::EucJp,
+        Codec::EucJp,
         ONE_ENTRY,
         &[
             Decoder("an ASCII byte behind 8F and a lead, and an 8F that the end cuts off"),
@@ -62,7 +62,7 @@ pub(crate) const CASES_OVER_TABLES: &[DecoderCase] = &[
         ],
     ),
     (
-        CodecName::Gb18030,
+        Codec::Gb18030,
         ONE_ENTRY,
         &[
             Decoder("two broken forms of four bytes, of which the end cuts off the second"),
@@ -79,7 +79,7 @@ pub(crate) const CASES_OVER_TABLES: &[DecoderCase] = &[
         ],
     ),
     (
-        CodecName::Iso2022Jp,
+        Codec::Iso2022Jp,
         ONE_ENTRY,
         &[
             Decoder("two escapes, the yen sign, and a lead before an escape that the end cuts off"),
@@ -100,7 +100,7 @@ pub(crate) const CASES_OVER_TABLES: &[DecoderCase] = &[
 /// The cases, with U+AC02 at pointer 0 of index EUC-KR, and no other scalar in any index.
 pub(crate) const CASES_OF_OTHERS: &[DecoderCase] = &[
     (
-        CodecName::Utf16Le,
+        Codec::Utf16Le,
         ONE_ENTRY,
         &[
             Decoder("an unpaired high surrogate, and one with an odd byte at the end"),
@@ -119,7 +119,7 @@ pub(crate) const CASES_OF_OTHERS: &[DecoderCase] = &[
         ],
     ),
     (
-        CodecName::SingleByte,
+        Codec::SingleByte,
         ONE_ENTRY,
         &[
             Decoder("a byte without an entry"),
@@ -127,7 +127,7 @@ pub(crate) const CASES_OF_OTHERS: &[DecoderCase] = &[
         ],
     ),
     (
-        CodecName::UserDefined,
+        Codec::UserDefined,
         ONE_ENTRY,
         &[
             Decoder("the last byte of ASCII, and the first past it"),
@@ -151,7 +151,7 @@ pub(crate) const CASES_OF_OTHERS: &[DecoderCase] = &[
         ],
     ),
     (
-        CodecName::Replacement,
+        Codec::Replacement,
         ONE_ENTRY,
         &[
             Decoder("the first byte, and the rest"),

@@ -8,7 +8,7 @@ use crate::rows::Row;
 use crate::rows::Row::{BareLength, Decoder, Events, Neutral, ToUtf8, Utf8Length, Utf16Length};
 use legacy_base::DecodeEvent::Scalar;
 use legacy_base::DecoderResult::{InputEmpty, Malformed, OutputFull};
-use legacy_index_files::CodecName;
+use legacy_index_files::Codec;
 
 const WITHOUT_ENTRIES: &[Row] = &[
     Decoder("pointers 8836 to 10715 are U+E000 to U+E757"),
@@ -56,4 +56,4 @@ const WITHOUT_ENTRIES: &[Row] = &[
     Utf16Length(usize::MAX, None),
 ];
 
-pub(crate) const CASES: &[DecoderCase] = &[(CodecName::ShiftJis, EMPTY, WITHOUT_ENTRIES)];
+pub(crate) const CASES: &[DecoderCase] = &[(Codec::ShiftJis, EMPTY, WITHOUT_ENTRIES)];

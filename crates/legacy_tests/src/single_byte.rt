@@ -11,7 +11,7 @@ use legacy_base::DecodeEvent;
 use legacy_base::DecodeEvent::{Bad, Scalar};
 use legacy_base::DecoderResult::{InputEmpty, Malformed, OutputFull};
 use legacy_decoders::SingleByteDecoder;
-use legacy_index_files::CodecName;
+use legacy_index_files::Codec;
 
 const WITHOUT_ENTRIES: &[Row] = &[
     Decoder("an ASCII byte needs one byte, any other three"),
@@ -53,8 +53,8 @@ const LETTERS: &Flat =
     &flat!(single_byte: &[(65, 0x391), (117, 0x3C5), (116, 0x3C4), (124, 0x3CC)]);
 
 pub(crate) const CASES: &[DecoderCase] = &[
-    (CodecName::SingleByte, EMPTY, WITHOUT_ENTRIES),
-    (CodecName::SingleByte, LETTERS, GREEK),
+    (Codec::SingleByte, EMPTY, WITHOUT_ENTRIES),
+    (Codec::SingleByte, LETTERS, GREEK),
 ];
 
 /// The entry of byte 85, bytes, and the number of bytes before the first that is another scalar.
@@ -111,6 +111,6 @@ fn decodes_words_of_letters_and_ascii(rt: HostRuntime) {
     let rows = [Events(input, events.as_slice())];
     follow_each(
         &rt,
-        &[(CodecName::SingleByte, &flat!(single_byte: &letters), &rows)],
+        &[(Codec::SingleByte, &flat!(single_byte: &letters), &rows)],
     );
 }

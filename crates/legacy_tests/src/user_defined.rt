@@ -7,7 +7,7 @@ use crate::rows::Row;
 use crate::rows::Row::{BareLength, Decoder, Events, ToUtf8, ToUtf16, Utf8Length, Utf16Length};
 use legacy_base::DecodeEvent::Scalar;
 use legacy_base::DecoderResult::{InputEmpty, OutputFull};
-use legacy_index_files::CodecName;
+use legacy_index_files::Codec;
 
 const ROWS: &[Row] = &[
     Decoder("80 to FF are U+F780 to U+F7FF"),
@@ -90,4 +90,4 @@ const ROWS: &[Row] = &[
     ),
 ];
 
-pub(crate) const CASES: &[DecoderCase] = &[(CodecName::UserDefined, EMPTY, ROWS)];
+pub(crate) const CASES: &[DecoderCase] = &[(Codec::UserDefined, EMPTY, ROWS)];

@@ -7,7 +7,7 @@ use crate::rows::Row::{Additional, BareLength, Decoder, Events, ToUtf8, ToUtf16,
 use legacy_base::DecodeEvent;
 use legacy_base::DecodeEvent::Scalar;
 use legacy_base::DecoderResult::{InputEmpty, Malformed, OutputFull};
-use legacy_index_files::CodecName;
+use legacy_index_files::Codec;
 use std::process::Abort;
 
 const LITTLE_ENDIAN: &[Row] = &[
@@ -112,8 +112,8 @@ const BIG_ENDIAN: &[Row] = &[
 ];
 
 pub(crate) const CASES: &[DecoderCase] = &[
-    (CodecName::Utf16Le, EMPTY, LITTLE_ENDIAN),
-    (CodecName::Utf16Be, EMPTY, BIG_ENDIAN),
+    (Codec::Utf16Le, EMPTY, LITTLE_ENDIAN),
+    (Codec::Utf16Be, EMPTY, BIG_ENDIAN),
 ];
 
 /// Compares the events of these units, and of an odd byte if there is one, in either byte order.
@@ -135,9 +135,9 @@ fn in_either_order(
         }
         bytes.extend_from_slice(odd).expect(rt, "no memory");
         let codec = if big_endian {
-            CodecName::Utf16Be
+            Codec::Utf16Be
         } else {
-            CodecName::Utf16Le
+            Codec::Utf16Le
         };
         follow_each(rt, &[(codec, EMPTY, &[Events(&bytes, events)])]);
     }

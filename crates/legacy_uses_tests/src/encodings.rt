@@ -1,9 +1,9 @@
 //! Compares the encodings with rows of the Standard.
 use crate::compared::holds;
-use legacy_index_files::{CodecName, ENCODINGS, EncoderIndex, Encoding, FileIndex};
+use legacy_index_files::{Codec, ENCODINGS, EncoderIndex, Encoding, FileIndex};
 
 /// Returns the codec of the encoding with this name.
-fn codec_of(name: &str) -> Option<CodecName> {
+fn codec_of(name: &str) -> Option<Codec> {
     Some(Encoding::by_name(name)?.codec())
 }
 
@@ -13,23 +13,23 @@ fn file_name_of(name: &str, index: FileIndex) -> Option<Option<&'static str>> {
 }
 
 /// A name, and the codec of the encoding with that name, if there is one.
-type Name<'a> = (&'a str, Option<CodecName>);
+type Name<'a> = (&'a str, Option<Codec>);
 
 const NAMES: &[Name] = &[
-    ("IBM866", Some(CodecName::SingleByte)),
-    ("ISO-8859-8-I", Some(CodecName::SingleByte)),
-    ("x-mac-cyrillic", Some(CodecName::SingleByte)),
-    ("GBK", Some(CodecName::Gbk)),
-    ("gb18030", Some(CodecName::Gb18030)),
-    ("Big5", Some(CodecName::Big5)),
-    ("EUC-JP", Some(CodecName::EucJp)),
-    ("ISO-2022-JP", Some(CodecName::Iso2022Jp)),
-    ("Shift_JIS", Some(CodecName::ShiftJis)),
-    ("EUC-KR", Some(CodecName::EucKr)),
-    ("replacement", Some(CodecName::Replacement)),
-    ("UTF-16BE", Some(CodecName::Utf16Be)),
-    ("UTF-16LE", Some(CodecName::Utf16Le)),
-    ("x-user-defined", Some(CodecName::UserDefined)),
+    ("IBM866", Some(Codec::SingleByte)),
+    ("ISO-8859-8-I", Some(Codec::SingleByte)),
+    ("x-mac-cyrillic", Some(Codec::SingleByte)),
+    ("GBK", Some(Codec::Gbk)),
+    ("gb18030", Some(Codec::Gb18030)),
+    ("Big5", Some(Codec::Big5)),
+    ("EUC-JP", Some(Codec::EucJp)),
+    ("ISO-2022-JP", Some(Codec::Iso2022Jp)),
+    ("Shift_JIS", Some(Codec::ShiftJis)),
+    ("EUC-KR", Some(Codec::EucKr)),
+    ("replacement", Some(Codec::Replacement)),
+    ("UTF-16BE", Some(Codec::Utf16Be)),
+    ("UTF-16LE", Some(Codec::Utf16Le)),
+    ("x-user-defined", Some(Codec::UserDefined)),
     ("windows-1259", None),
     ("gbk", None),
 ];
@@ -74,7 +74,7 @@ fn index_files_have_their_published_names(rt: HostRuntime) {
 fn single_byte_count() -> usize {
     ENCODINGS
         .iter()
-        .filter(|encoding| encoding.codec() == CodecName::SingleByte)
+        .filter(|encoding| encoding.codec() == Codec::SingleByte)
         .count()
 }
 

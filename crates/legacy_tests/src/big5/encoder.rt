@@ -5,7 +5,7 @@ use crate::encoder_rows::EncoderRow;
 use crate::encoder_rows::EncoderRow::{Encoder, Encodes, FromUtf8, Utf8Length, Utf16Length};
 use crate::indexes::{EMPTY, Flat, flat};
 use legacy_base::EncoderResult::{OutputFull, Unmappable};
-use legacy_index_files::CodecName;
+use legacy_index_files::Codec;
 
 const WITHOUT_ENTRIES: &[EncoderRow] = &[
     Encoder("without entries only ASCII has bytes"),
@@ -41,7 +41,7 @@ const TWICE: &Flat =
 const FIRST: &Flat = &flat!(big5: (5025, &[(5023, 0x3001), (5024, 0x3000)]));
 
 pub(crate) const CASES: &[EncoderCase] = &[
-    (CodecName::Big5, EMPTY, WITHOUT_ENTRIES),
-    (CodecName::Big5, TWICE, WITH_ENTRIES),
-    (CodecName::Big5, FIRST, FIRST_POINTERS),
+    (Codec::Big5, EMPTY, WITHOUT_ENTRIES),
+    (Codec::Big5, TWICE, WITH_ENTRIES),
+    (Codec::Big5, FIRST, FIRST_POINTERS),
 ];

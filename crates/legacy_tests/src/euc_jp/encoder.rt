@@ -5,7 +5,7 @@ use crate::encoder_rows::EncoderRow;
 use crate::encoder_rows::EncoderRow::{Encoder, Encodes, FromUtf8, Utf8Length, Utf16Length};
 use crate::indexes::{EMPTY, Flat, flat};
 use legacy_base::EncoderResult::{InputEmpty, OutputFull};
-use legacy_index_files::CodecName;
+use legacy_index_files::Codec;
 
 const WITHOUT_ENTRIES: &[EncoderRow] = &[
     Encoder("half-width katakana have two bytes, the yen sign and the overline one"),
@@ -34,6 +34,6 @@ const ENTRIES: &Flat =
     &flat!(jis0208: (10740, &[(60, 0xFF0D), (8647, 0xFF02), (10738, 0x3001), (10739, 0xFF02)]));
 
 pub(crate) const CASES: &[EncoderCase] = &[
-    (CodecName::EucJp, EMPTY, WITHOUT_ENTRIES),
-    (CodecName::EucJp, ENTRIES, WITH_ENTRIES),
+    (Codec::EucJp, EMPTY, WITHOUT_ENTRIES),
+    (Codec::EucJp, ENTRIES, WITH_ENTRIES),
 ];

@@ -11,7 +11,7 @@ use crate::indexes::{Flat, flat, no_entries, tables_of};
 use legacy_base::EncoderResult::{InputEmpty, OutputFull, Unmappable};
 use legacy_base::Indexes;
 use legacy_encoders::{EucKrEncoder, PAIR_ROOM};
-use legacy_index_files::CodecName;
+use legacy_index_files::Codec;
 use std::process::Abort;
 
 /// The rows with U+AC02 at pointer 0, and no other scalar.
@@ -47,8 +47,8 @@ const LAST: &[EncoderRow] = &[
 const LAST_ENTRY: &Flat = &flat!(euc_kr: (23940, &[(23939, 0x8A70)]));
 
 pub(crate) const CASES: &[EncoderCase] = &[
-    (CodecName::EucKr, ONE_ENTRY, ROWS),
-    (CodecName::EucKr, LAST_ENTRY, LAST),
+    (Codec::EucKr, ONE_ENTRY, ROWS),
+    (Codec::EucKr, LAST_ENTRY, LAST),
 ];
 
 /// The rows with the first sixteen scalars of the Standard's index, and no other scalar.

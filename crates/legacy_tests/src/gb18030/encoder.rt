@@ -9,7 +9,7 @@ use crate::encoder_rows::EncoderRow::{
 use crate::indexes::{EMPTY, Flat, flat, no_entries, tables_of};
 use legacy_base::EncoderResult::{InputEmpty, OutputFull, Unmappable};
 use legacy_encoders::{Gb18030Encoder, PAIR_ROOM};
-use legacy_index_files::CodecName;
+use legacy_index_files::Codec;
 use std::process::Abort;
 
 /// The rows of gb18030 without entries, but with the private-use rows of the Standard.
@@ -144,14 +144,14 @@ const PRIVATE_USE: &Flat = &flat!(gb18030: (23776, &[(23775, 0xE81E)]), gb18030_
 pub(crate) const ROW_AND_ENTRY: &Flat = &flat!(gb18030: (23776, &[(23775, 0x9FB4)]));
 
 pub(crate) const CASES: &[EncoderCase] = &[
-    (CodecName::Gb18030, EMPTY, WITHOUT_ENTRIES),
-    (CodecName::Gbk, EMPTY, GBK_WITHOUT_ENTRIES),
-    (CodecName::Gb18030, LAST_RANGE, WITH_RANGE),
-    (CodecName::Gbk, LAST_RANGE, GBK_WITH_RANGE),
-    (CodecName::Gb18030, RANGE_FROM_7457, BESIDE_7457),
-    (CodecName::Gb18030, ROW_OF_E000, OTHER_ROW),
-    (CodecName::Gbk, ROW_OF_E000, OTHER_ROW),
-    (CodecName::Gb18030, WITHOUT_ROWS, NO_ROWS),
-    (CodecName::Gb18030, PRIVATE_USE, IN_THE_INDEX),
-    (CodecName::Gb18030, ROW_AND_ENTRY, BOTH),
+    (Codec::Gb18030, EMPTY, WITHOUT_ENTRIES),
+    (Codec::Gbk, EMPTY, GBK_WITHOUT_ENTRIES),
+    (Codec::Gb18030, LAST_RANGE, WITH_RANGE),
+    (Codec::Gbk, LAST_RANGE, GBK_WITH_RANGE),
+    (Codec::Gb18030, RANGE_FROM_7457, BESIDE_7457),
+    (Codec::Gb18030, ROW_OF_E000, OTHER_ROW),
+    (Codec::Gbk, ROW_OF_E000, OTHER_ROW),
+    (Codec::Gb18030, WITHOUT_ROWS, NO_ROWS),
+    (Codec::Gb18030, PRIVATE_USE, IN_THE_INDEX),
+    (Codec::Gb18030, ROW_AND_ENTRY, BOTH),
 ];

@@ -10,7 +10,7 @@ use crate::indexes::{
 };
 use legacy_base::EncoderResult::{InputEmpty, OutputFull, Unmappable};
 use legacy_encoders::{CachedIso2022JpEncoder, Iso2022JpEncoder, PAIR_ROOM};
-use legacy_index_files::CodecName;
+use legacy_index_files::Codec;
 use std::process::Abort;
 
 impl<'a, 'b> TestedEncoder for CachedIso2022JpEncoder<'a, 'b> {
@@ -111,7 +111,7 @@ const WITHOUT_ENTRIES: &[EncoderRow] = &[
 
 #[test]
 fn encodes_without_entries(rt: HostRuntime) {
-    encode_in_all_ways(&rt, (CodecName::Iso2022Jp, EMPTY, WITHOUT_ENTRIES));
+    encode_in_all_ways(&rt, (Codec::Iso2022Jp, EMPTY, WITHOUT_ENTRIES));
 }
 
 /// The rows with U+58FA at pointer 4861.
@@ -182,7 +182,7 @@ pub(crate) const ONE_PAIR: &Flat = &flat!(jis0208: (4862, &[(4861, 0x58FA)]));
 
 #[test]
 fn encodes_pairs(rt: HostRuntime) {
-    encode_in_all_ways(&rt, (CodecName::Iso2022Jp, ONE_PAIR, PAIRS));
+    encode_in_all_ways(&rt, (Codec::Iso2022Jp, ONE_PAIR, PAIRS));
 }
 
 const KATAKANA: &[EncoderRow] = &[
@@ -210,5 +210,5 @@ const TWO_KATAKANA: &Flat =
 
 #[test]
 fn encodes_katakana(rt: HostRuntime) {
-    encode_in_all_ways(&rt, (CodecName::Iso2022Jp, TWO_KATAKANA, KATAKANA));
+    encode_in_all_ways(&rt, (Codec::Iso2022Jp, TWO_KATAKANA, KATAKANA));
 }

@@ -10,7 +10,7 @@ use crate::texts::Text;
 use legacy_base::RawEncoder;
 use legacy_codecs::CoderResult;
 use legacy_codecs::CoderResult::{InputEmpty, OutputFull};
-use legacy_index_files::CodecName;
+use legacy_index_files::Codec;
 use std::process::Abort;
 
 /// Makes a call, and compares its result with the wanted one.
@@ -153,8 +153,8 @@ const MODES: &[EncoderRow] = &[
 ];
 
 pub(crate) const CASES: &[EncoderCase] = &[
-    (CodecName::SingleByte, WITH_RUN, GREEK),
-    (CodecName::EucKr, EMPTY, SURROGATES),
-    (CodecName::UserDefined, EMPTY, OUTSIDE),
-    (CodecName::Iso2022Jp, ONE_PAIR, MODES),
+    (Codec::SingleByte, WITH_RUN, GREEK),
+    (Codec::EucKr, EMPTY, SURROGATES),
+    (Codec::UserDefined, EMPTY, OUTSIDE),
+    (Codec::Iso2022Jp, ONE_PAIR, MODES),
 ];

@@ -8,14 +8,14 @@ use crate::euc_kr::ONE_ENTRY;
 use crate::single_byte::encoder::WITH_RUN;
 use legacy_base::EncoderResult::InputEmpty;
 use legacy_codecs::RunError;
-use legacy_index_files::CodecName;
+use legacy_index_files::Codec;
 
 /// The cases over tables with U+AC02 at pointer 0 of index EUC-KR, and few other entries.
 ///
 /// These are the private-use rows of the Standard, and U+0391 at place 65 of the single-byte table.
 pub(crate) const CASES_OVER_TABLES: &[EncoderCase] = &[
     (
-        CodecName::Iso2022Jp,
+        Codec::Iso2022Jp,
         ONE_ENTRY,
         &[
             Encoder("ASCII, the yen sign, and a reverse solidus"),
@@ -49,7 +49,7 @@ pub(crate) const CASES_OVER_TABLES: &[EncoderCase] = &[
         ],
     ),
     (
-        CodecName::Gb18030,
+        Codec::Gb18030,
         ONE_ENTRY,
         &[
             Encoder("a private-use row, and a scalar past U+FFFF"),
@@ -73,7 +73,7 @@ pub(crate) const CASES_OVER_TABLES: &[EncoderCase] = &[
         ],
     ),
     (
-        CodecName::EucJp,
+        Codec::EucJp,
         ONE_ENTRY,
         &[
             Encoder("a half-width katakana, and the overline"),
@@ -81,7 +81,7 @@ pub(crate) const CASES_OVER_TABLES: &[EncoderCase] = &[
         ],
     ),
     (
-        CodecName::ShiftJis,
+        Codec::ShiftJis,
         ONE_ENTRY,
         &[
             Encoder("a control, and a half-width katakana"),
@@ -89,7 +89,7 @@ pub(crate) const CASES_OVER_TABLES: &[EncoderCase] = &[
         ],
     ),
     (
-        CodecName::Big5,
+        Codec::Big5,
         ONE_ENTRY,
         &[
             Encoder("a scalar that the index lacks"),
@@ -97,7 +97,7 @@ pub(crate) const CASES_OVER_TABLES: &[EncoderCase] = &[
         ],
     ),
     (
-        CodecName::EucKr,
+        Codec::EucKr,
         ONE_ENTRY,
         &[
             Encoder("a scalar of the index"),
@@ -111,7 +111,7 @@ pub(crate) const CASES_OVER_TABLES: &[EncoderCase] = &[
 /// These are the private-use rows of the Standard, and U+0391 at place 65 of the single-byte table.
 pub(crate) const CASES_OF_OTHERS: &[EncoderCase] = &[
     (
-        CodecName::UserDefined,
+        Codec::UserDefined,
         ONE_ENTRY,
         &[
             Encoder("a byte past ASCII, and a scalar that has none"),
@@ -141,7 +141,7 @@ pub(crate) const CASES_OF_OTHERS: &[EncoderCase] = &[
         ],
     ),
     (
-        CodecName::SingleByte,
+        Codec::SingleByte,
         WITH_RUN,
         &[
             Encoder("a scalar of the table"),

@@ -5,7 +5,7 @@ use crate::encoder_rows::EncoderRow;
 use crate::encoder_rows::EncoderRow::{Encoder, Encodes, FromUtf8, Utf8Length, Utf16Length};
 use crate::indexes::{EMPTY, Flat, flat};
 use legacy_base::EncoderResult::{InputEmpty, OutputFull};
-use legacy_index_files::CodecName;
+use legacy_index_files::Codec;
 
 const WITHOUT_ENTRIES: &[EncoderRow] = &[
     Encoder("U+0080, the yen sign, the overline and half-width katakana are one byte"),
@@ -42,8 +42,8 @@ const TWO_POINTERS: &Flat = &flat!(jis0208: (11280, &[(8647, 0xFF02), (10739, 0x
 const A_DUPLICATE: &Flat = &flat!(jis0208: (11280, &[(8647, 0xFF02)]));
 
 pub(crate) const CASES: &[EncoderCase] = &[
-    (CodecName::ShiftJis, EMPTY, WITHOUT_ENTRIES),
-    (CodecName::ShiftJis, ONE_POINTER, MINUS),
-    (CodecName::ShiftJis, TWO_POINTERS, DUPLICATE),
-    (CodecName::ShiftJis, A_DUPLICATE, ONLY_THERE),
+    (Codec::ShiftJis, EMPTY, WITHOUT_ENTRIES),
+    (Codec::ShiftJis, ONE_POINTER, MINUS),
+    (Codec::ShiftJis, TWO_POINTERS, DUPLICATE),
+    (Codec::ShiftJis, A_DUPLICATE, ONLY_THERE),
 ];

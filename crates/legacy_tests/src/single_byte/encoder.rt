@@ -10,7 +10,7 @@ use crate::indexes::{Flat, byte_table_of, entries_of, flat};
 use legacy_base::EncoderResult::{InputEmpty, OutputFull, Unmappable};
 use legacy_encoders::SingleByteRunError::{RunMismatch, RunPastEnd, RunStart};
 use legacy_encoders::{SingleByteEncoder, SingleByteRunError};
-use legacy_index_files::CodecName;
+use legacy_index_files::Codec;
 
 const GREEK: &[EncoderRow] = &[
     Encoder("a scalar is the byte of its place, and a pair of surrogates is one scalar"),
@@ -66,17 +66,9 @@ pub(crate) const TWO_LETTERS: &[(usize, u16)] = &[(65, 0x391), (116, 0x3C4)];
 pub(crate) const WITH_RUN: &Flat = &flat!(single_byte: TWO_LETTERS, run: (0x391, 65, 1));
 
 pub(crate) const CASES: &[EncoderCase] = &[
-    (CodecName::SingleByte, WITH_RUN, GREEK),
-    (
-        CodecName::SingleByte,
-        &flat!(single_byte: TWO_LETTERS),
-        GREEK,
-    ),
-    (
-        CodecName::SingleByte,
-        &flat!(run: (0, 32, 1)),
-        WITHOUT_ENTRIES,
-    ),
+    (Codec::SingleByte, WITH_RUN, GREEK),
+    (Codec::SingleByte, &flat!(single_byte: TWO_LETTERS), GREEK),
+    (Codec::SingleByte, &flat!(run: (0, 32, 1)), WITHOUT_ENTRIES),
 ];
 
 /// Runs by their first scalar, first place and length, and their errors.

@@ -7,7 +7,7 @@ use crate::encoder_rows::EncoderRow::{
 };
 use crate::indexes::EMPTY;
 use legacy_base::EncoderResult::{InputEmpty, OutputFull, Unmappable};
-use legacy_index_files::CodecName;
+use legacy_index_files::Codec;
 
 const ROWS: &[EncoderRow] = &[
     Encoder("U+F780 to U+F7FF are 80 to FF, and no other scalar past ASCII has a byte"),
@@ -47,4 +47,4 @@ const ROWS: &[EncoderRow] = &[
     Utf16Length(usize::MAX, Some(usize::MAX)),
 ];
 
-pub(crate) const CASES: &[EncoderCase] = &[(CodecName::UserDefined, EMPTY, ROWS)];
+pub(crate) const CASES: &[EncoderCase] = &[(Codec::UserDefined, EMPTY, ROWS)];

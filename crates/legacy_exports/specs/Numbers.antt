@@ -1,7 +1,7 @@
 -- The codecs' numbers.
-use Rattle.std.specs.Prelude.{ℕ, Bool, true, false}
-use Rattle.legacy_exports.specs.declared.codec.Codec.{Codec}
-use Rattle.legacy_exports.specs.declared.codec.Codec.TheVariants as codecs
+use Rattle.std.specs.Prelude.{ℕ}
+use Rattle.legacy_index_files.specs.declared.codec.Codec.{Codec}
+use Rattle.legacy_index_files.specs.declared.codec.Codec.TheVariants as codecs
 
 -- the number that names a codec to a caller in another language
 abbrev pub number_of : Codec → ℕ
@@ -17,10 +17,3 @@ number_of codecs.Replacement = 9
 number_of codecs.Utf16Be = 10
 number_of codecs.Utf16Le = 11
 number_of codecs.UserDefined = 12
-
--- the codecs whose output encoding is not UTF-8 ("get an output encoding")
-abbrev pub has_encoder : Codec → Bool
-has_encoder codecs.Replacement = false
-has_encoder codecs.Utf16Be = false
-has_encoder codecs.Utf16Le = false
-has_encoder _ = true

@@ -1,0 +1,12 @@
+//! Room for lists of pairs.
+ghost use Rattle.std.specs.Prelude.{◌≡◌, length, IfOk};
+
+use legacy_codecs::PAIR_ROOM;
+use std::alloc::{AllocError, Global};
+
+/// Allocates room for the pairs of a `ListedEncoder`: `PAIR_ROOM` entries, 128 KB.
+pub fn pair_room(alloc: Global) -> Result<Vec<u16>, AllocError>
+    ensures { IfOk result (λ room. length room.items ≡ 65536) }
+{
+    vec![in alloc; 0; PAIR_ROOM]
+}
