@@ -1,5 +1,10 @@
 //! The programs on a host: their words as texts, the contents of the files that these name, and the
 //! streams.
+ghost use Rattle.std.specs.Prelude.{◌≡◌, ◌≤◌, map, string_bytes, IfOk};
+ghost use Rattle.std.specs.Option.{option_map};
+ghost use Rattle.legacy_command.specs.Words.{texts_of};
+ghost use Rattle.legacy_command.specs.IndexTexts.{contents_of};
+
 use crate::arguments::{ArgumentsError, arguments, status_of};
 use crate::encoding::{encoder_in, run_encode};
 use crate::program::run;
@@ -22,9 +27,12 @@ pub enum Program {
 fn words_of<'a, A: Allocator>(
     alloc: Global,
     arguments: &'a [String<A>],
-) -> Result<Vec<&'a str>, AllocError> {
+) -> Result<Vec<&'a str>, AllocError>
+    ensures { IfOk result (λ words. texts_of words.items
+        ≡ map (λ argument. string_bytes argument) arguments.now) }
+{
     let mut words = Vec::with_capacity(alloc, arguments.len())?;
-    for argument in arguments {
+    'words: for argument in arguments {
         words.push(argument.as_str())?;
     }
     Ok(words)
@@ -60,9 +68,12 @@ fn files_of<R: Files + Alloc>(
 fn slices_of<'a, A: Allocator>(
     alloc: Global,
     files: &'a [Option<Vec<u8, A>>],
-) -> Result<Vec<Option<&'a [u8]>>, AllocError> {
+) -> Result<Vec<Option<&'a [u8]>>, AllocError>
+    ensures { IfOk result (λ slices. contents_of slices.items
+        ≡ map (option_map (λ bytes. bytes.items)) files.now) }
+{
     let mut slices = Vec::with_capacity(alloc, files.len())?;
-    for file in files {
+    'files: for file in files {
         let slice = match file {
             Some(bytes) => Some(bytes.as_slice()),
             None => None,
@@ -99,7 +110,9 @@ fn status<R: Env + Files + Alloc>(
     input: &mut impl Read,
     output: &mut impl Write,
     errors: &mut impl Write,
-) -> Result<u8, ArgumentsError> {
+) -> Result<u8, ArgumentsError>
+    ensures { IfOk result (λ status. status ≤ 2) }
+{
     let arguments = arguments(rt)?;
     let Ok(words) = words_of(alloc, arguments.as_slice()) else {
         return Err(ArgumentsError::Memory);
