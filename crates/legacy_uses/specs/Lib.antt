@@ -1,4 +1,3 @@
 -- What a caller of the codecs needs to know.
 pub mod IndexData
 pub mod Mail
-pub mod Transcoding

@@ -1,6 +1,6 @@
 //! A transcoder of files.
-ghost use Rattle.std.specs.Prelude.{◌≡◌, IfOk};
-ghost use Rattle.legacy_uses.specs.Transcoding.{IsTranscoded};
+ghost use Rattle.std.specs.Prelude.{◌≡◌, MatchResult};
+ghost use Rattle.legacy_encodings.specs.Registries.{IsTranscoded, IsTranscodeError};
 
 use legacy_encodings::{Coders, RegistryError};
 use std::alloc::Global;
@@ -16,9 +16,11 @@ pub fn transcode_file(
     to: &str,
     file: &[u8],
 ) -> Result<Vec<u8>, RegistryError>
-    ensures { IfOk result (λ bytes. IsTranscoded coders.now.tables.flat
-        coders.now.single_bytes.now from.now to.now file.now bytes.items) }
+    ensures { MatchResult result
+        (λ bytes. IsTranscoded coders.now.tables.flat coders.now.single_bytes.now from.now to.now
+        file.now bytes.items)
+        (λ error. IsTranscodeError coders.now.tables.flat coders.now.single_bytes.now from.now to.now
+        file.now error) }
 {
-    let text = coders.decode(alloc, from, file)?;
-    coders.encode(alloc, to, text.as_str())
+    coders.transcode(alloc, from, to, file)
 }
