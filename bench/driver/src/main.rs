@@ -2,7 +2,8 @@
 //!
 //! It also compares all outputs. Its arguments are one of these:
 //!
-//! - Words and a number. A line is made if it has one of the words: a corpus or an encoding, as `ja-text` or `Big5`.
+//! - Words and a number. A line is made if it has one of the words: a corpus, a language, a kind of text or an encoding,
+//!   as `ja-text`, `ja`, `text` or `Big5`.
 //!   The name of a table (`decode`, `encode`, `ahead`, `replace`, `flat`, `checks`) makes that table, and `recode` the
 //!   program's. Without words all lines of all tables are made. The number is how often each call of a codec is timed
 //!   at least.
@@ -152,7 +153,7 @@ fn each_line(wanted: &Wanted, codecs: &mut Codecs, mut make: impl FnMut(&str, &C
         let help = corpora::help(name).map(|content| ("help", content));
         for (kind, content) in [("text", corpora::text(&pages, *share)), ("html", pages)].into_iter().chain(help) {
             let corpus = format!("{name}-{kind}");
-            for label in encodings.iter().filter(|label| wanted.has_line(&[corpus.as_str(), label, name])) {
+            for label in encodings.iter().filter(|label| wanted.has_line(&[corpus.as_str(), label, name, kind])) {
                 let codec = codecs.codec(label)?;
                 let long = corpora::encode_long(codec.encoding, &content);
                 let short = corpora::encode_short(codec.encoding, &content);
