@@ -104,6 +104,8 @@ pub enum TableError {
     #[error("packed {0} is out of order at {1}")]
     PackedOrder(PackedPart, usize),
     /// The packed part and the flat index give different results for the pointer.
+    ///
+    /// A run may contain U+0000 or the number of a surrogate, which no flat index gives.
     #[error("packed {0} differs at {1}")]
     PackedDiffers(PackedPart, usize),
     /// The entry at the place is not 0, and is not a scalar that a single-byte table may contain.
