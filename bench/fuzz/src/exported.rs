@@ -48,11 +48,12 @@ fn taken<U: Copy>(output: &[U], written: usize, refuses: Option<String>) -> Resu
     }
 }
 
-/// Compares what a function wrote with what is wanted.
+/// Compares what a function wrote the last time with what is wanted. No time needs more than `most` units.
 fn compared<U: Copy + PartialEq + Debug>(
     plan: &Plan,
     came: Came<U>,
     wanted: &[U],
+    most: usize,
     (room, least): (usize, usize),
     is_between: impl Fn(&[U], usize) -> bool,
 ) -> Result<(), String> {
@@ -60,8 +61,8 @@ fn compared<U: Copy + PartialEq + Debug>(
     if plan.times == 0 {
         return if came.is_empty() { Ok(()) } else { Err("it wrote without being asked to".to_string()) };
     }
-    if plan.times > 1 && room < wanted.len() + 16 {
-        // What a call left in the decoder comes before the next text.
+    if plan.times > 1 && room < most + 16 {
+        // A text for which the output is too short is left half read, and the next one begins in that state.
         return Ok(());
     }
     checks::is_front(&came, wanted, cut_of(plan, room), least, is_between)
@@ -83,13 +84,13 @@ fn decodes(plan: &Plan, prepared: &Prepared, rooms: &mut Rooms) -> Result<(), St
         let output = rooms.output.slice(room, 0xAAAA_u16, plan.side);
         let written = ours.to_utf16(plan.calls, source, output, plan.piece, plan.times);
         let came = taken(output, written, fault)?;
-        return compared(plan, came, &units, (room, ROOM_IN_UNITS), checks::is_between_units);
+        return compared(plan, came, &units, longest, (room, ROOM_IN_UNITS), checks::is_between_units);
     }
     let room = room_of(plan, longest);
     let output = rooms.output.slice(room, 0xAA_u8, plan.side);
     let written = ours.to_utf8(plan.calls, source, output, plan.piece, plan.times);
     let came = taken(output, written, fault)?;
-    compared(plan, came, wanted.as_bytes(), (room, ROOM_IN_BYTES), checks::is_between_bytes)
+    compared(plan, came, wanted.as_bytes(), longest, (room, ROOM_IN_BYTES), checks::is_between_bytes)
 }
 
 /// Returns why an encoder must refuse, or `None`.
@@ -124,7 +125,7 @@ fn encodes(plan: &Plan, prepared: &Prepared, rooms: &mut Rooms) -> Result<(), St
         ours.from_utf8(plan.calls, rooms.source.copy(&bytes, plan.side), output, plan.piece, plan.times)
     };
     let least = if plan.calls == Calls::Raw { ROOM_IN_BYTES } else { ROOM_WITH_REFERENCE };
-    compared(plan, taken(output, written, fault)?, &wanted, (room, least), |_, _| true)
+    compared(plan, taken(output, written, fault)?, &wanted, wanted.len(), (room, least), |_, _| true)
 }
 
 /// Calls the function of the header that the plan asks for.
