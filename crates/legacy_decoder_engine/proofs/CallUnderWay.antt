@@ -1,33 +1,90 @@
 -- The moves of a decoder make a call.
-use Rattle.std.proofs.Common.{◌≡◌, ◌≢◌, ◌∙◌, ℕ, zero, suc, ◌+◌, ◌-◌, ◌≤◌, ◌<◌, List, [], ◌∷◌, ◌++◌, length, map, get_or, take, drop, refl, sym, ap, subst, arith, length-append, length-drop, drop-cons}
-use Rattle.std.proofs.Common.{add-zero, add-one, append-nil, Bool, true, false, IsTrue, Some, None, Option, ◌⊎◌, inl, inr, All}
-use Rattle.std.proofs.lemmas.List.{map-append}
+use Rattle.std.proofs.Common.{◌≡◌, ◌≢◌, ◌∙◌, ℕ, zero, suc, ◌+◌, ◌-◌, ◌≤◌, ◌<◌, List, [], ◌∷◌, ◌++◌, length, map, get_or, take, drop, refl, sym, ap, subst, arith}
+use Rattle.std.proofs.Common.{add-zero, add-one, append-nil, drop-cons, drop_of_length-le, length-append, length-drop, Bool, true, false, IsTrue, Some, None, Option, ◌⊎◌, inl, inr, All}
+use Rattle.std.proofs.lemmas.List.{map-append, drop-drop}
 use Rattle.std.proofs.lemmas.List.Elements.{All-append, All-nil, All-cons}
 use Rattle.std.proofs.Math.Nat.{sub-zero}
-use Rattle.std.proofs.lemmas.Bool.{true≢false, ne_eqb}
-use Rattle.std.proofs.Math.ListN.{drop_of_length-le}
+use Rattle.std.proofs.lemmas.Bool.{true≢false, ne_eqb, cases_lt}
 use Rattle.std.specs.Char.{IsScalar}
+use Rattle.legacy_text.specs.EncodingForm.{EncodingForm, unit_count, total_unit_count}
+use Rattle.legacy_text.proofs.CodeUnits.{total_unit_count-append}
 use Rattle.legacy_base.specs.declared.results.DecodeEvent.TheVariants.{Scalar, Bad}
 use Rattle.legacy_base.specs.declared.results.DecoderResult.{DecoderResult}
 use Rattle.legacy_base.specs.declared.results.DecoderResult.TheVariants.{InputEmpty, OutputFull, Malformed}
-use Rattle.legacy_text.specs.EncodingForm.{EncodingForm, unit_count, total_unit_count}
-use Rattle.legacy_base.specs.Events.{shift}
-use Rattle.legacy_base.specs.Grammar.{Grammar, events_of}
-use Rattle.legacy_base.specs.States.{DecoderState, may_hold, rests}
-use Rattle.legacy_base.specs.Acts.{room_needed, LacksRoom, HadRoom, HadRooms, fault_room, full_room_in, release_room_in}
-use Rattle.legacy_base.specs.Lengths.{LengthQuery, query_form, room}
-use Rattle.legacy_base.specs.Calls.{Progress, DecoderCall, IsFault, out_events, reported_events, may_report_end}
-use Rattle.legacy_base.proofs.Shifts.{shift-scalars}
-use Rattle.legacy_base.proofs.Progress.{stay, at_last, behind, after_that}
-use Rattle.legacy_text.proofs.CodeUnits.{total_unit_count-append}
+use Rattle.legacy_base.specs.{Events.shift, Grammar.Grammar, Grammar.events_of, States.DecoderState, States.may_hold, States.rests}
+use Rattle.legacy_base.specs.Acts.{LacksRoom, HadRoom, HadRooms, fault_room, full_room_in, release_room_in}
+use Rattle.legacy_base.specs.Lengths.{LengthQuery, query_form, replacement_units, room}
+use Rattle.legacy_base.specs.Calls.{Progress, DecoderCall, IsFault, IsMalformed, HoldsBack, out_events, reported_events, may_report_end}
+use Rattle.legacy_base.proofs.{Enough.room-answer, Shifts.shift-scalars, Progress.stay, Progress.at_last, Progress.behind, Progress.after_that}
 use Rattle.legacy_base.proofs.Rooms.{HadRooms-append, HadRooms-none, HadRooms-released, room_needed-release, room_needed-read, room_needed-report, room_needed-none}
-use Rattle.legacy_base.proofs.Enough.{room-answer}
 use Rattle.legacy_decoder_engine.specs.declared.moves.Fed.{Fed}
 use Rattle.legacy_decoder_engine.specs.declared.moves.Fed.TheVariants.{Nothing, One, Two, Fault}
-use Rattle.legacy_decoder_engine.specs.Moves.{SameRooms, Feeds, Releases, Reports, Finishes, IsCovered, read_room, fed_scalars, fed_fault, fed_units, unread_byte, FedHolds, IsFaulty, HoldsBytes}
+use Rattle.legacy_decoder_engine.specs.Moves.{SameRooms, Feeds, Releases, Reports, Finishes, IsCovered, HoldsBytes, IsFaulty}
+use Rattle.legacy_decoder_engine.specs.Moves.{read_room, fed_scalars, fed_units, unread_byte}
+
+pub same_rooms : (g : Grammar) → SameRooms g g
+same_rooms g = record { full = λ form. refl; report = λ form. refl; wants = λ p c. refl }
+
+pub both_rooms : (g h k : Grammar) → SameRooms g h → SameRooms h k → SameRooms g k
+both_rooms g h k a b = record {
+  full = λ form. b.full form ∙ a.full form;
+  report = λ form. b.report form ∙ a.report form;
+  wants = λ p c. b.wants p c ∙ a.wants p c;
+}
+
+-- no bytes are held back
+pub holds_none : (form : EncodingForm) (free : ℕ) (state : DecoderState) → HoldsBytes form free state [] state
+unfolding HoldsBytes
+holds_none form free state = refl
+
+front_nil : (xs ys : List ℕ) → xs ++ ys ≡ [] → xs ≡ []
+front_nil [] ys e = refl
+front_nil (x ∷ xs) ys e = cc
+
+-- the next byte
+next_byte : (source : List ℕ) (read : ℕ) → read < length source → drop read source ≡ get_or source read 0 ∷ drop (read + 1) source
+next_byte source read h = drop-cons source read 0 h ∙ rw add-one refl
+
+gave : (fed : Fed) → (fed_scalars fed ≡ []) ⊎ (fed_scalars fed ≢ [])
+gave Nothing = inl refl
+gave (One c) = inr (λ e. cc)
+gave (Two c d) = inr (λ e. cc)
+gave (Fault a b u) = inl refl
+
+-- ---- rooms
+
+module _ (form : EncodingForm) (g : Grammar) where
+  pub HadRoom-same : (h : Grammar) (previous : Option ℕ) (free : ℕ) (cs : List ℕ) → SameRooms g h → HadRoom form h previous free cs → HadRoom form g previous free cs
+  unfolding HadRoom
+  HadRoom-same h previous free [] s a = tt
+  HadRoom-same h previous free (c ∷ cs) s a =
+      (λ w. rw (← s.full form) (a.0 (rw (s.wants previous c) w)), HadRoom-same h (Some c) (free - unit_count form c) cs s a.1)
+
+  fault_room_at : (read n : ℕ) → (read ≡ 0 → release_room_in form g ≤ n) → (0 < read → full_room_in form g ≤ n) → fault_room form g read ≤ n
+  fault_room_at zero n a b = a refl
+  fault_room_at (suc r) n a b = let z : suc r ≡ 0 → ⊥ = λ e. omega arith in rw (ne_eqb (suc r) 0 z) (b (omega arith))
+
+  fault_room_of : (read n : ℕ) → fault_room form g read ≤ n → (read ≡ 0 → release_room_in form g ≤ n) × (0 < read → full_room_in form g ≤ n)
+  fault_room_of zero n h = (λ e. h, λ p. absurd (omega arith))
+  fault_room_of (suc r) n h = let z : suc r ≡ 0 → ⊥ = λ e. omega arith in (λ e. absurd (z e), λ p. rw (ne_eqb (suc r) 0 z) at h)
+
+-- ---- what is reported, if `p` more bytes were done with before
+
+shift-reported : (p seen more : ℕ) (after : DecoderState) (answer : DecoderResult) → p + seen ≡ more → HoldsBack seen after answer
+    → (shift p (reported_events seen answer) ≡ reported_events more answer) × HoldsBack more after answer
+shift-reported p seen more after (Malformed a b) e f =
+    let w = f.within in
+    let place : p + (seen - b - a) ≡ more - b - a = omega arith in
+    (ap (λ q. Bad q a ∷ []) place, record { some = f.some; few = f.few; near = f.near; held = f.held; within = omega arith })
+shift-reported p seen more after answer e f = (refl, tt)
+
+-- a sequence that is reported without a byte was held back
+malformed-held : (answer : DecoderResult) (seen : ℕ) (held : List ℕ) (after : DecoderState) → length held ≡ seen → IsMalformed answer → HoldsBack seen after answer → held ≢ []
+malformed-held (Malformed a b) seen held after e m f z = omega (arith, f.within, f.some, e, ap length z)
+malformed-held answer seen held after e m f z = absurd m
 
 -- A call in progress: the decoder is in the state `now`, has read `read` bytes and has written the scalars.
-pub record Going (form : EncodingForm) (before : DecoderState) (source : List ℕ) (last : Bool) (free : ℕ) (now : DecoderState) (read : ℕ) (scalars : List ℕ) : Type 0 where
+pub record Going (form : EncodingForm) (last : Bool) (before : DecoderState) (source : List ℕ) (free : ℕ) (now : DecoderState) (read : ℕ) (scalars : List ℕ) : Type 0 where
   pub within : read ≤ length source
   pub passed : ℕ
   pub progress : Progress false before source passed now (drop read source) (map Scalar scalars)
@@ -43,52 +100,97 @@ pub record Going (form : EncodingForm) (before : DecoderState) (source : List �
   pub lowers : (query : LengthQuery) → query_form query ≡ form → (more : ℕ) →
       room query now (length (drop read source) + more) + total_unit_count form scalars ≤ room query before (length source + more)
 
-pub front_nil : (xs ys : List ℕ) → xs ++ ys ≡ [] → xs ≡ []
-front_nil [] ys e = refl
-front_nil (x ∷ xs) ys e = cc
+module _ {form : EncodingForm} {last : Bool} where
+  -- ---- what follows on a call in progress
 
-fault_room_at : (form : EncodingForm) (g : Grammar) (read n : ℕ) → (read ≡ 0 → release_room_in form g ≤ n) → (0 < read → full_room_in form g ≤ n) → fault_room form g read ≤ n
-fault_room_at form g zero n a b = a refl
-fault_room_at form g (suc r) n a b = let z : suc r ≡ 0 → ⊥ = λ e. omega arith in rw (ne_eqb (suc r) 0 z) (b (omega arith))
+  module _ {before : DecoderState} {source : List ℕ} {free : ℕ} {now : DecoderState} {read : ℕ} {scalars : List ℕ}
+      (a : Going form last before source free now read scalars) {left : ℕ} (room_is : left + total_unit_count form scalars ≡ free) where
+    left_is : left ≡ free - total_unit_count form scalars
+    left_is = omega arith
 
-pub HadRoom-same : (form : EncodingForm) (g h : Grammar) (previous : Option ℕ) (free : ℕ) (cs : List ℕ) → SameRooms g h → HadRoom form h previous free cs → HadRoom form g previous free cs
-unfolding HadRoom
-HadRoom-same form g h previous free [] s a = tt
-HadRoom-same form g h previous free (c ∷ cs) s a =
-    (λ w. rw (← s.full form) (a.0 (rw (s.wants previous c) w)), HadRoom-same form g h (Some c) (free - unit_count form c) cs s a.1)
+    -- an output without room for the first act still lacks room
+    still : LacksRoom form before source last free → LacksRoom form now (drop read source) last left
+    still l = let e = a.once l in rw (left_is, e.0, e.1, e.2, sub-zero free) l
 
-pub same_rooms : (g : Grammar) → SameRooms g g
-same_rooms g = record { full = λ form. refl; report = λ form. refl; wants = λ p c. refl }
+    -- a call goes on
+    pub going_then : {next : DecoderState} {n : ℕ} {ds : List ℕ} → Going form last now (drop read source) left next n ds → 0 < n
+        → Going form last before source free next (read + n) (scalars ++ ds)
+    going_then {next} {n} {ds} b some =
+        let units = total_unit_count-append form scalars ds in
+        record {
+          within = omega (arith, a.within, b.within, length-drop read source);
+          passed = a.passed + b.passed;
+          progress = rw (← drop-drop n read source, map-append Scalar scalars ds, ← shift-scalars a.passed ds)
+              (after_that false before source a.passed now (drop read source) _ b.passed next (drop n (drop read source)) _ a.progress b.progress);
+          resting = b.resting;
+          allowed = b.allowed;
+          rooms = both_rooms before.grammar now.grammar next.grammar a.rooms b.rooms;
+          held = λ h ne. omega (arith, b.held some ne, a.rooms.full form, units);
+          had = HadRooms-append form before free scalars ds a.released a.had
+              (HadRoom-same form before.grammar now.grammar None (free - total_unit_count form scalars) ds a.rooms
+              (subst (λ n. HadRoom form now.grammar None n ds) left_is (rw a.resting at b.had)));
+          released = λ e z. a.released e (front_nil scalars ds z);
+          fits = omega (arith, b.fits, units);
+          scalar = All-append IsScalar scalars ds a.scalar b.scalar;
+          once = λ l. absurd (omega (arith, some, (b.once (still l)).0));
+          lowers = λ query q more. rw (← drop-drop n read source) (omega (arith, a.lowers query q more, b.lowers query q more, units));
+        }
 
-pub both_rooms : (g h k : Grammar) → SameRooms g h → SameRooms h k → SameRooms g k
-both_rooms g h k a b = record { full = λ form. b.full form ∙ a.full form; report = λ form. b.report form ∙ a.report form; wants = λ p c. b.wants p c ∙ a.wants p c }
+    -- a call goes on with the act that ends it
+    pub call_then : {next : DecoderState} {answer : DecoderResult} {n : ℕ} → DecoderCall form now (drop read source) last left next answer n []
+        → IsMalformed answer ⊎ (next ≡ now) → DecoderCall form before source last free next answer (read + n) scalars
+    call_then {next} {answer} {n} c kind =
+        let counts = a.progress.counts in
+        let seen : a.passed + (length now.held + n) ≡ length before.held + (read + n) = omega (arith, counts, length-drop read source, a.within) in
+        let reported = shift-reported a.passed (length now.held + n) (length before.held + (read + n)) next answer seen c.fault in
+        let full = a.rooms.full form in
+        let was_held : n ≤ 0 → IsMalformed answer → now.held ≢ [] = λ z m. malformed-held answer (length now.held + n) now.held next (omega arith) m c.fault in
+        let suffices : (query : LengthQuery) → query_form query ≡ form → room query before (length source) ≤ free → answer ≢ OutputFull =
+            λ query q enough. 
+                let k = a.lowers query q 0 in
+                let x : length (drop read source) + 0 ≡ length (drop read source) = omega arith in
+                let y : length source + 0 ≡ length source = omega arith in
+                let k' = rw (x, y) at k in
+                c.suffices query q (omega arith) in
+        record {
+          within = omega (arith, a.within, c.within, length-drop read source);
+          fits = a.fits;
+          scalar = a.scalar;
+          passed = a.passed + c.passed;
+          progress = rw (← drop-drop n read source, ← reported.0)
+              (after_that (may_report_end last answer (drop n (drop read source))) before source a.passed now (drop read source) _ c.passed next _ _
+              (at_last _ before source a.passed now (drop read source) _ a.progress) c.progress);
+          allowed = c.allowed;
+          fault = reported.1;
+          input_empty = λ e. let i = c.input_empty e in (omega (arith, i.0, a.within, length-drop read source), i.1, i.2);
+          output_full = λ e. rw (← drop-drop n read source) (omega (arith, c.output_full e));
+          full_at_once = λ l. let e = a.once l in let f = c.full_at_once (still l) in (f.0, omega (arith, e.0, f.1), e.1, f.3 ∙ e.2);
+          room_at_fault = λ m.
+              let r = fault_room_of form now.grammar n _ (c.room_at_fault m) in
+              fault_room_at form before.grammar (read + n) _ (λ z. omega (arith, r.0 (omega arith), a.rooms.report form)) (λ p. elim (cases_lt 0 n) [
+                | inl q ↦ omega (arith, r.1 q, full)
+                | inr z ↦ a.held (omega arith) (was_held z m)
+              ]);
+          room_held = λ p ne. elim (cases_lt 0 n) [
+            | inl q ↦ omega (arith, c.room_held q ne, full)
+            | inr z ↦ a.held (omega arith) (elim kind [ inl m ↦ was_held z m | inr e ↦ λ none. ne (ap DecoderState.held e ∙ none) ])
+          ];
+          had_room = a.had;
+          lowers = λ query q more z. rw (← drop-drop n read source) (omega (arith, a.lowers query q more, c.lowers query q more z));
+          suffices = suffices;
+          enough = λ query q n k le answered most. suffices query q (omega (arith, room-answer query before (length source) n k le answered));
+        }
 
-sound-out : (p : ℕ) (fed : Fed) → (IsFaulty fed → ⊥) → map Scalar (fed_scalars fed) ++ fed_fault p fed ≡ map Scalar (fed_scalars fed)
-sound-out p (Fault a b u) h = absurd (h tt)
-sound-out p fed h = refl
+    -- the same if that act reads nothing
+    pub call_here : {next : DecoderState} {answer : DecoderResult} → DecoderCall form now (drop read source) last left next answer 0 []
+        → IsMalformed answer ⊎ (next ≡ now) → DecoderCall form before source last free next answer read scalars
+    call_here {next} {answer} c kind = subst (λ k. DecoderCall form before source last free next answer k scalars) (add-zero read) (call_then c kind)
 
-sound-left : (byte : ℕ) (fed : Fed) → (IsFaulty fed → ⊥) → unread_byte byte fed ≡ []
-sound-left byte (Fault a b u) h = absurd (h tt)
-sound-left byte fed h = refl
+  -- ---- the moves
 
-sound-units : (query : LengthQuery) (fed : Fed) → (IsFaulty fed → ⊥) → fed_units query fed ≡ 0
-sound-units query (Fault a b u) h = absurd (h tt)
-sound-units query fed h = refl
-
-sound-rests : (p : ℕ) (next : DecoderState) (fed : Fed) → (IsFaulty fed → ⊥) → FedHolds p next fed → rests next.grammar next.held ≡ true
-sound-rests p next (Fault a b u) h f = absurd (h tt)
-sound-rests p next fed h f = f
-
-gave : (fed : Fed) → (fed_scalars fed ≡ []) ⊎ (fed_scalars fed ≢ [])
-gave Nothing = inl refl
-gave (One c) = inr (λ e. cc)
-gave (Two c d) = inr (λ e. cc)
-gave (Fault a b u) = inl refl
-
-module _ (form : EncodingForm) (before : DecoderState) (source : List ℕ) (last : Bool) (free : ℕ) where
-  pub going_start : rests before.grammar before.held ≡ true → may_hold before.grammar before.held ≡ true → Going form before source last free before 0 []
-  unfolding HadRoom
-  going_start r m = record {
+  pub going_start : {before : DecoderState} {source : List ℕ} {free : ℕ} → rests before.grammar before.held ≡ true → may_hold before.grammar before.held ≡ true
+      → Going form last before source free before 0 []
+  going_start {before} {source} {free} r m = record {
     within = omega arith;
     passed = 0;
     progress = stay false before source;
@@ -104,9 +206,9 @@ module _ (form : EncodingForm) (before : DecoderState) (source : List ℕ) (last
     lowers = λ query e more. omega arith;
   }
 
-  pub going_release : (now : DecoderState) (c : ℕ) → rests before.grammar before.held ≡ false → release_room_in form before.grammar ≤ free → Releases before now c →
-      Going form before source last free now 0 (c ∷ [])
-  going_release now c r enough h = record {
+  pub going_release : {before : DecoderState} {source : List ℕ} {free : ℕ} {now : DecoderState} {c : ℕ} → rests before.grammar before.held ≡ false
+      → release_room_in form before.grammar ≤ free → Releases before now c → Going form last before source free now 0 (c ∷ [])
+  going_release {before} {source} {free} {now} {c} r enough h = record {
     within = omega arith;
     passed = h.passed;
     progress = behind before [] h.passed now [] (Scalar c ∷ []) source h.progress;
@@ -122,301 +224,194 @@ module _ (form : EncodingForm) (before : DecoderState) (source : List ℕ) (last
     lowers = λ query e more. let l = h.lowers query (length source + more) in let l' = rw e at l in simp length-append (omega arith);
   }
 
-  module _ (now : DecoderState) (read : ℕ) (scalars : List ℕ) (going : Going form before source last free now read scalars) where
-    -- an output without room for the first act still lacks room
-    still : LacksRoom form before source last free → LacksRoom form now (drop read source) last (free - total_unit_count form scalars)
-    still l = let e = going.once l in rw (e.0, e.1, e.2, sub-zero free) l
+  -- a byte is read
+  fed_going : {before : DecoderState} {byte : ℕ} {rest : List ℕ} {free : ℕ} {next : DecoderState} (fed : Fed) → rests before.grammar before.held ≡ true
+      → Feeds before byte next fed → (IsFaulty fed → ⊥) → read_room form before byte ≤ free → Going form last before (byte ∷ rest) free next 1 (fed_scalars fed)
+  fed_going (Fault a b unread) r f sound enough = absurd (sound tt)
+  fed_going {before} {byte} {rest} {free} {next} fed r f sound enough = record {
+    within = omega arith;
+    passed = f.passed;
+    progress = behind before (byte ∷ []) f.passed next [] (map Scalar (fed_scalars fed)) rest f.progress;
+    resting = f.holds;
+    allowed = f.allowed;
+    rooms = f.rooms;
+    held = λ a ne. elim (gave fed) [
+      | inl z ↦ omega (arith, f.full form (inr ne), enough, ap (total_unit_count form) z)
+      | inr z ↦ absurd (ne (f.empties z))
+    ];
+    had = rw r (f.had form free enough);
+    released = λ e. absurd (true≢false (sym r ∙ e));
+    fits = omega (arith, f.fits form, enough);
+    scalar = f.scalar;
+    once = λ l. absurd (omega (arith, enough, room_needed-read form before byte rest last r));
+    lowers = λ query q more.
+        let l = f.lowers query (length rest + more) in
+        let z : (length rest + more) + length (unread_byte byte fed) ≡ length rest + more = omega arith in
+        let l' = subst (λ k. room query next k + (total_unit_count (query_form query) (fed_scalars fed) + fed_units query fed) ≤ room query before (length rest + more + 1)) z l in
+        let e : length (byte ∷ rest) + more ≡ length rest + more + 1 = omega arith in
+        rw e (omega (arith, l', ap (λ f. total_unit_count f (fed_scalars fed)) q));
+  }
 
-    -- an output of the length that a query returns has enough room
-    covered_full : IsCovered now → LacksRoom form now (drop read source) last (free - total_unit_count form scalars) →
-        (query : LengthQuery) → query_form query ≡ form → room query before (length source) ≤ free → ⊥
-    covered_full c l query e enough =
-        let k = going.lowers query e 0 in
-        let n = c.covers query (drop read source) last in
-        let n' = rw e at n in
-        let a : length (drop read source) + 0 ≡ length (drop read source) = omega arith in
-        let b : length source + 0 ≡ length source = omega arith in
-        let k' = rw (a, b) at k in
-        omega arith
+  module _ {before : DecoderState} {source : List ℕ} {free : ℕ} {now : DecoderState} {read : ℕ} {scalars : List ℕ}
+      (a : Going form last before source free now read scalars) {left : ℕ} (room_is : left + total_unit_count form scalars ≡ free) where
+    pub going_feed : {next : DecoderState} (fed : Fed) → read < length source → Feeds now (get_or source read 0) next fed → (IsFaulty fed → ⊥)
+        → read_room form now (get_or source read 0) ≤ left → Going form last before source free next (read + 1) (scalars ++ fed_scalars fed)
+    going_feed fed h f sound enough = going_then a room_is (rw (next_byte source read h) (fed_going fed a.resting f sound enough)) (omega arith)
 
-    pub call_full : IsCovered now → LacksRoom form now (drop read source) last (free - total_unit_count form scalars) → DecoderCall form before source last free now OutputFull read scalars
-    call_full c l = record {
-      within = going.within;
-      fits = going.fits;
-      scalar = going.scalar;
-      passed = going.passed;
-      progress = rw append-nil going.progress;
-      allowed = going.allowed;
-      fault = tt;
-      input_empty = λ e. cc;
-      output_full = λ e. l;
-      full_at_once = λ e. let o = going.once e in (refl, o.0, o.1, o.2);
-      room_at_fault = λ e. absurd e;
-      room_held = going.held;
-      had_room = going.had;
-      lowers = λ query e more z. let k = going.lowers query e more in omega arith;
-      suffices = λ query e enough x. covered_full c l query e enough;
-      enough = λ query e n k le answered most x. covered_full c l query e (let r = room-answer query before (length source) n k le answered in omega arith);
-    }
+  -- bytes are held back
+  pub held_going : {before : DecoderState} {source : List ℕ} {free : ℕ} {now : DecoderState} {read : ℕ} {scalars : List ℕ} {next : DecoderState}
+      → Going form last before source free now read scalars → (left : ℕ) → left + total_unit_count form scalars ≡ free → (n : ℕ) → n ≤ length (drop read source)
+      → HoldsBytes form left now (take n (drop read source)) next → Going form last before source free next (read + n) scalars
+  unfolding HoldsBytes
+  held_going {before} {source} {free} {now} {read} {scalars} a left room_is zero within holds = rw (holds, add-zero read) a
+  held_going {before} {source} {free} {now} {read} {scalars} {next} a left room_is (suc n) within holds =
+      let some : read < length source = omega (arith, within, length-drop read source) in
+      let cut : take (suc n) (drop read source) ≡ get_or source read 0 ∷ take n (drop (read + 1) source) = ap (take (suc n)) (next_byte source read some) in
+      let h = subst (λ l. HoldsBytes form left now l next) cut holds in
+      let step = subst (λ cs. Going form last before source free h.0 (read + 1) cs) (append-nil scalars) (going_feed a room_is Nothing some h.1 (λ x. x) h.2) in
+      let place : read + 1 + n ≡ read + suc n = omega arith in
+      subst (λ k. Going form last before source free next k scalars) place
+      (held_going {now = h.0} step left room_is n (omega (arith, within, length-drop read source, length-drop (read + 1) source)) h.3)
 
-    -- the act has room, so the first act did not lack room
-    not_once : {n : ℕ} → room_needed form now (drop read source) last ≡ n → n ≤ free - total_unit_count form scalars → LacksRoom form before source last free → ⊥
-    not_once {n} e h l = let s = still l in omega arith
+  -- ---- the acts that end a call
 
-    -- the next byte
-    next_byte : (byte : ℕ) → read < length source → get_or source read 0 ≡ byte → drop read source ≡ byte ∷ drop (read + 1) source
-    next_byte byte h e = drop-cons source read 0 h ∙ rw (e, add-one) refl
-
-    needs_byte : (byte : ℕ) → read < length source → get_or source read 0 ≡ byte → room_needed form now (drop read source) last ≡ read_room form now byte
-    needs_byte byte h e = rw (next_byte byte h e) (room_needed-read form now byte (drop (read + 1) source) last going.resting)
-
-    -- the progress after a byte was read
-    joined : (byte : ℕ) (next : DecoderState) (fed : Fed) → read < length source → get_or source read 0 ≡ byte → (f : Feeds now byte next fed) →
-        Progress false before source (going.passed + f.passed) next (unread_byte byte fed ++ drop (read + 1) source)
-        (map Scalar scalars ++ shift going.passed (map Scalar (fed_scalars fed) ++ fed_fault f.passed fed))
-    joined byte next fed h e f =
-        after_that false before source going.passed now (drop read source) (map Scalar scalars) f.passed next (unread_byte byte fed ++ drop (read + 1) source)
-        (map Scalar (fed_scalars fed) ++ fed_fault f.passed fed)
-        going.progress
-        (subst (λ l. Progress false now l f.passed next (unread_byte byte fed ++ drop (read + 1) source) (map Scalar (fed_scalars fed) ++ fed_fault f.passed fed)) (sym (next_byte byte h e))
-        (behind now (byte ∷ []) f.passed next (unread_byte byte fed) (map Scalar (fed_scalars fed) ++ fed_fault f.passed fed) (drop (read + 1) source) f.progress))
-
-    -- the room still needed after a byte
-    lowered : (byte : ℕ) (next : DecoderState) (fed : Fed) → read < length source → get_or source read 0 ≡ byte → Feeds now byte next fed → (query : LengthQuery) → query_form query ≡ form →
-        (more : ℕ) →
-        room query next ((length (drop (read + 1) source) + more) + length (unread_byte byte fed)) + (total_unit_count form (fed_scalars fed) + fed_units query fed) + total_unit_count form scalars ≤
-        room query before (length source + more)
-    lowered byte next fed h e f query q more =
-        let k = going.lowers query q more in
-        let l = f.lowers query (length (drop (read + 1) source) + more) in
-        let l' = rw q at l in
-        let a : length (drop read source) + more ≡ (length (drop (read + 1) source) + more) + 1 = omega (arith, ap length (next_byte byte h e)) in
-        let k' = rw a at k in
-        omega arith
-
-    pub going_feed : (byte : ℕ) (next : DecoderState) (fed : Fed) → read < length source → get_or source read 0 ≡ byte → Feeds now byte next fed → (IsFaulty fed → ⊥) →
-        read_room form now byte ≤ free - total_unit_count form scalars → Going form before source last free next (read + 1) (scalars ++ fed_scalars fed)
-    going_feed byte next fed h e f sound enough = record {
-      within = omega arith;
-      passed = going.passed + f.passed;
-      progress =
-          let j = joined byte next fed h e f in
-          let k = rw (sound-left byte fed sound, sound-out f.passed fed sound, shift-scalars going.passed (fed_scalars fed)) at j in
-          rw (map-append Scalar scalars (fed_scalars fed)) k;
-      resting = sound-rests f.passed next fed sound f.holds;
-      allowed = f.allowed;
-      rooms = both_rooms before.grammar now.grammar next.grammar going.rooms f.rooms;
-      held = λ a ne. elim (gave fed) [
-        | inl z ↦
-            let w = f.full form (inr ne) in
-            let r = going.rooms.full form in
-            let l : total_unit_count form (scalars ++ fed_scalars fed) ≡ total_unit_count form scalars =
-            ap (λ cs. total_unit_count form (scalars ++ cs)) z ∙ ap (λ cs. total_unit_count form cs) (append-nil scalars) in
-            omega arith
-        | inr z ↦ absurd (ne (f.empties z))
-      ];
-      had = HadRooms-append form before free scalars (fed_scalars fed) going.released going.had
-          (HadRoom-same form before.grammar now.grammar None (free - total_unit_count form scalars) (fed_scalars fed) going.rooms (f.had form (free - total_unit_count form scalars) enough));
-      released = λ e z. going.released e (front_nil scalars (fed_scalars fed) z);
-      fits = let l = f.fits form in let g = going.fits in omega (arith, total_unit_count-append form scalars (fed_scalars fed));
-      scalar = All-append IsScalar scalars (fed_scalars fed) going.scalar f.scalar;
-      once = λ l. absurd (not_once (needs_byte byte h e) enough l);
-      lowers = λ query q more.
-          let l = lowered byte next fed h e f query q more in
-          let l' = rw (sound-left byte fed sound, sound-units query fed sound) at l in
-          let z : (length (drop (read + 1) source) + more) + length {A = ℕ} [] ≡ length (drop (read + 1) source) + more = omega arith in
-          let l'' = rw z at l' in
-          omega (arith, total_unit_count-append form scalars (fed_scalars fed));
-    }
-
-    -- a malformed sequence that was reported, with `now_read` bytes read and `gone` bytes done with
-    ended : (next : DecoderState) (a b now_read gone : ℕ) → now_read ≤ length source → IsFault (gone + length next.held) next a b →
-        going.passed + gone + (length next.held + length (drop now_read source)) ≡ length before.held + length source →
-        (map Scalar scalars ++ shift going.passed (Bad (gone - a) a ∷ []) ≡ map Scalar scalars ++ reported_events (length before.held + now_read) (Malformed a b)) × IsFault
-        (length before.held + now_read) next a b
-    ended next a b now_read gone h f counts =
-        let d = length-drop now_read source in
-        let w = f.within in
-        let k = f.held in
-        let e : going.passed + (gone - a) ≡ length before.held + now_read - b - a = omega arith in
-        (ap (λ p. map Scalar scalars ++ Bad p a ∷ []) e, record { some = f.some; few = f.few; near = f.near; held = f.held; within = omega arith })
-
-    -- a malformed sequence at a byte
-    call_fault : (byte : ℕ) (next : DecoderState) (a b : ℕ) (unread : Bool) (now_read : ℕ) → read < length source → get_or source read 0 ≡ byte → Feeds now byte next (Fault a b unread) →
-        read_room form now byte ≤ free - total_unit_count form scalars → now_read ≤ length source → drop now_read source ≡ unread_byte byte (Fault a b unread) ++ drop (read + 1) source →
-        DecoderCall form before source last free next (Malformed a b) now_read scalars
-    call_fault byte next a b unread now_read h e f enough within left_is =
-        let j = joined byte next (Fault a b unread) h e f in
-        let t : Progress false before source (going.passed + f.passed) next (drop now_read source) (map Scalar scalars ++ shift going.passed (Bad (f.passed - a) a ∷ [])) = rw left_is j in
-        let end = ended next a b now_read f.passed within f.holds t.counts in
-        let r = going.rooms.full form in
-        let w = f.full form (inl tt) in
+  module _ {s : DecoderState} {free : ℕ} where
+    -- the next act lacks its room
+    call_full : {source : List ℕ} → may_hold s.grammar s.held ≡ true → IsCovered s → LacksRoom form s source last free → DecoderCall form s source last free s OutputFull 0 []
+    call_full {source} m c l =
+        let full : (query : LengthQuery) → query_form query ≡ form → room query s (length source) ≤ free → ⊥ =
+            λ query q enough. let n = c.covers query source last in let n' = rw q at n in omega arith in
         record {
-          within = within;
-          fits = going.fits;
-          scalar = going.scalar;
-          passed = going.passed + f.passed;
-          progress = at_last (may_report_end last (Malformed a b) (drop now_read source)) before source (going.passed + f.passed) next (drop now_read source) (out_events (length before.held + now_read) scalars (Malformed a b))
-              (subst (λ o. Progress false before source (going.passed + f.passed) next (drop now_read source) o) end.0 t);
-          allowed = f.allowed;
-          fault = end.1;
+          within = omega arith;
+          fits = omega arith;
+          scalar = All-nil IsScalar;
+          passed = 0;
+          progress = stay false s source;
+          allowed = m;
+          fault = tt;
           input_empty = λ x. cc;
-          output_full = λ x. cc;
-          full_at_once = λ l. absurd (not_once (needs_byte byte h e) enough l);
-          room_at_fault = λ x. fault_room_at form before.grammar now_read (free - total_unit_count form scalars) (λ z. let q = f.report form in let q' = going.rooms.report form in omega arith)
-              (λ z. omega arith);
-          room_held = λ x y. omega arith;
-          had_room = going.had;
-          lowers = λ query q more z.
-              let l = lowered byte next (Fault a b unread) h e f query q more in
-              let c : length (drop now_read source) + more ≡ (length (drop (read + 1) source) + more) + length (unread_byte byte (Fault a b unread)) =
-              omega (arith, ap length left_is, length-append (unread_byte byte (Fault a b unread)) (drop (read + 1) source)) in
-              rw c (omega arith);
-          suffices = λ query q le x. cc;
-          enough = λ query q n k le answered most x. cc;
+          output_full = λ x. rw sub-zero l;
+          full_at_once = λ x. (refl, refl, refl, refl);
+          room_at_fault = λ x. absurd x;
+          room_held = λ a. absurd (omega arith);
+          had_room = HadRooms-none form s free;
+          lowers = λ query q more z. omega arith;
+          suffices = λ query q enough x. full query q enough;
+          enough = λ query q n k le answered most x. full query q (omega (arith, room-answer query s (length source) n k le answered));
         }
-
-    pub call_fault_read : (byte : ℕ) (next : DecoderState) (a b : ℕ) → read < length source → get_or source read 0 ≡ byte → Feeds now byte next (Fault a b false) →
-        read_room form now byte ≤ free - total_unit_count form scalars → DecoderCall form before source last free next (Malformed a b) (read + 1) scalars
-    call_fault_read byte next a b h e f enough = call_fault byte next a b false (read + 1) h e f enough (omega arith) refl
-
-    pub call_fault_unread : (byte : ℕ) (next : DecoderState) (a b : ℕ) → read < length source → get_or source read 0 ≡ byte → Feeds now byte next (Fault a b true) →
-        read_room form now byte ≤ free - total_unit_count form scalars → DecoderCall form before source last free next (Malformed a b) read scalars
-    call_fault_unread byte next a b h e f enough = call_fault byte next a b true read h e f enough going.within (next_byte byte h e)
-
-    -- the next byte lacks its room
-    pub call_full_read : IsCovered now → (byte : ℕ) → read < length source → get_or source read 0 ≡ byte → free - total_unit_count form scalars < read_room form now byte →
-        DecoderCall form before source last free now OutputFull read scalars
-    call_full_read c byte h e lacks = call_full c (rw (needs_byte byte h e) lacks)
 
     -- all bytes are read, and there is nothing to report
-    pub call_done : read ≡ length source → (IsTrue last → events_of now.grammar now.held ≡ []) → DecoderCall form before source last free now InputEmpty read scalars
-    call_done all none =
-        let nothing_left : drop read source ≡ [] = drop_of_length-le source (omega arith) in
+    call_done : rests s.grammar s.held ≡ true → may_hold s.grammar s.held ≡ true → (IsTrue last → events_of s.grammar s.held ≡ [])
+        → DecoderCall form s [] last free s InputEmpty 0 []
+    call_done r m none = record {
+      within = omega arith;
+      fits = omega arith;
+      scalar = All-nil IsScalar;
+      passed = 0;
+      progress = stay false s [];
+      allowed = m;
+      fault = tt;
+      input_empty = λ e. (refl, r, none);
+      output_full = λ e. cc;
+      full_at_once = λ l. absurd (omega (arith, room_needed-none form s last r none));
+      room_at_fault = λ x. absurd x;
+      room_held = λ a. absurd (omega arith);
+      had_room = HadRooms-none form s free;
+      lowers = λ query q more z. omega arith;
+      suffices = λ query q le x. cc;
+      enough = λ query q n k le answered most x. cc;
+    }
+
+    -- a malformed sequence is reported, after `n` more bytes
+    call_fault : {source : List ℕ} {next : DecoderState} {a b : ℕ} (n passed : ℕ) → n ≤ length source → may_hold next.grammar next.held ≡ true
+        → IsFault (passed + length next.held) next a b
+        → Progress (may_report_end last (Malformed a b) (drop n source)) s source passed next (drop n source) (Bad (passed - a) a ∷ [])
+        → (LacksRoom form s source last free → ⊥) → fault_room form s.grammar n ≤ free → (0 < n → full_room_in form s.grammar ≤ free)
+        → ((query : LengthQuery) → query_form query ≡ form → (more : ℕ) → (IsTrue last → more ≡ 0)
+        → room query next (length (drop n source) + more) + replacement_units query ≤ room query s (length source + more))
+        → DecoderCall form s source last free next (Malformed a b) n []
+    call_fault {source} {next} {a} {b} n passed within allowed f progress had fault full lowers =
+        let all = progress.counts in
+        let seen : passed + length next.held ≡ length s.held + n = omega (arith, all, length-drop n source, within) in
+        let place : passed - a ≡ length s.held + n - b - a = omega (arith, seen, f.held) in
         record {
-          within = going.within;
-          fits = going.fits;
-          scalar = going.scalar;
-          passed = going.passed;
-          progress = rw append-nil going.progress;
-          allowed = going.allowed;
-          fault = tt;
-          input_empty = λ e. (all, going.resting, none);
-          output_full = λ e. cc;
-          full_at_once = λ l. let s = still l in let s' = rw nothing_left at s in let z = room_needed-none form now last going.resting none in absurd (omega arith);
-          room_at_fault = λ e. absurd e;
-          room_held = going.held;
-          had_room = going.had;
-          lowers = λ query e more z. let k = going.lowers query e more in omega arith;
-          suffices = λ query q le x. cc;
-          enough = λ query q n k le answered most x. cc;
-        }
-
-    needs_report : read ≡ length source → last ≡ true → events_of now.grammar now.held ≢ [] → room_needed form now (drop read source) last ≡ release_room_in form now.grammar
-    needs_report all end some =
-        let nothing_left : drop read source ≡ [] = drop_of_length-le source (omega arith) in
-        rw (nothing_left, end) (room_needed-report form now going.resting some)
-
-    -- the report at the end of input lacks its room
-    pub call_full_report : IsCovered now → read ≡ length source → last ≡ true → events_of now.grammar now.held ≢ [] → free - total_unit_count form scalars < release_room_in form now.grammar →
-        DecoderCall form before source last free now OutputFull read scalars
-    call_full_report c all end some lacks = call_full c (rw (needs_report all end some) lacks)
-
-    -- the held-back bytes are reported at the end of input
-    pub call_report : (next : DecoderState) (a b : ℕ) → read ≡ length source → last ≡ true → events_of now.grammar now.held ≢ [] → release_room_in form now.grammar ≤
-        free - total_unit_count form scalars → Reports now next a b →
-        DecoderCall form before source last free next (Malformed a b) read scalars
-    call_report next a b all end some enough f =
-        let nothing_left : drop read source ≡ [] = drop_of_length-le source (omega arith) in
-        let t : Progress true before source (going.passed + f.passed) next (drop read source) (map Scalar scalars ++ shift going.passed (Bad (f.passed - a) a ∷ [])) =
-        after_that true before source going.passed now (drop read source) (map Scalar scalars) f.passed next (drop read source) (Bad (f.passed - a) a ∷ [])
-        (at_last true before source going.passed now (drop read source) (map Scalar scalars) going.progress)
-        (rw nothing_left f.progress) in
-        let at_end : true ≡ may_report_end last (Malformed a b) (drop read source) = rw (nothing_left, end) refl in
-        let end' = ended next a b read f.passed going.within f.holds t.counts in
-        let r = going.rooms.full form in
-        record {
-          within = going.within;
-          fits = going.fits;
-          scalar = going.scalar;
-          passed = going.passed + f.passed;
-          progress = subst (λ e. Progress e before source (going.passed + f.passed) next (drop read source) (out_events (length before.held + read) scalars (Malformed a b))) at_end
-              (subst (λ o. Progress true before source (going.passed + f.passed) next (drop read source) o) end'.0 t);
-          allowed = f.allowed;
-          fault = end'.1;
+          within = within;
+          fits = omega arith;
+          scalar = All-nil IsScalar;
+          passed = passed;
+          progress = rw (← place) progress;
+          allowed = allowed;
+          fault = rw (← seen) f;
           input_empty = λ x. cc;
           output_full = λ x. cc;
-          full_at_once = λ l. absurd (not_once (needs_report all end some) enough l);
-          room_at_fault = λ x. fault_room_at form before.grammar read (free - total_unit_count form scalars) (λ z. let q' = going.rooms.report form in omega arith) (λ z. going.held z f.holding);
-          room_held = λ x y. going.held x f.holding;
-          had_room = going.had;
-          lowers = λ query q more z.
-              let k = going.lowers query q more in
-              let l = f.lowers query in
-              let zero_more = z end in
-              let c : length (drop read source) + more ≡ 0 = omega (arith, ap length nothing_left) in
-              let k' = rw c at k in
-              rw c (omega arith);
+          full_at_once = λ l. absurd (had l);
+          room_at_fault = λ x. rw sub-zero fault;
+          room_held = λ p ne. rw sub-zero (full p);
+          had_room = HadRooms-none form s free;
+          lowers = λ query q more z. omega (arith, lowers query q more z);
           suffices = λ query q le x. cc;
           enough = λ query q n k le answered most x. cc;
         }
 
+    -- a byte reveals a malformed sequence
+    call_fed : {byte : ℕ} {rest : List ℕ} {next : DecoderState} {a b : ℕ} (unread : Bool) (n : ℕ) → rests s.grammar s.held ≡ true → Feeds s byte next (Fault a b unread)
+        → read_room form s byte ≤ free → n ≤ length (byte ∷ rest) → drop n (byte ∷ rest) ≡ unread_byte byte (Fault a b unread) ++ rest
+        → DecoderCall form s (byte ∷ rest) last free next (Malformed a b) n []
+    call_fed {byte} {rest} {next} {a} {b} unread n r f enough within left_is =
+        let full = f.full form (inl tt) in
+        call_fault n f.passed within f.allowed f.holds
+        (at_last _ s (byte ∷ rest) f.passed next (drop n (byte ∷ rest)) _ (rw left_is (behind s (byte ∷ []) f.passed next (unread_byte byte (Fault a b unread)) _ rest f.progress)))
+        (λ l. omega (arith, enough, room_needed-read form s byte rest last r))
+        (fault_room_at form s.grammar n free (λ z. omega (arith, f.report form, full, enough)) (λ p. omega (arith, full, enough)))
+        (λ p. omega (arith, full, enough))
+        (λ query q more z.
+            let l = f.lowers query (length rest + more) in
+            let c : length (drop n (byte ∷ rest)) + more ≡ (length rest + more) + length (unread_byte byte (Fault a b unread)) =
+                omega (arith, ap length left_is, length-append (unread_byte byte (Fault a b unread)) rest) in
+            let e : length (byte ∷ rest) + more ≡ length rest + more + 1 = omega arith in
+            rw (c, e) (omega arith))
+
+    -- the held-back bytes are reported at the end of input
+    call_report : {next : DecoderState} {a b : ℕ} → last ≡ true → rests s.grammar s.held ≡ true → events_of s.grammar s.held ≢ [] → release_room_in form s.grammar ≤ free
+        → Reports s next a b → DecoderCall form s [] last free next (Malformed a b) 0 []
+    call_report {next} {a} {b} end r some enough f =
+        call_fault 0 f.passed (omega arith) f.allowed f.holds (rw end f.progress) (λ l. let e = room_needed-report form s r some in omega (arith, rw end at l)) enough
+        (λ p. absurd (omega arith)) (λ query q more z. let none = z end in rw none (f.lowers query))
+
     -- the call ends after its input
-    pub call_finish : (next : DecoderState) (answer : DecoderResult) (left : ℕ) → read ≡ length source → left + total_unit_count form scalars ≡ free → Finishes form now last left next answer →
-        DecoderCall form before source last free next answer read scalars
-    call_finish next InputEmpty left all e f = rw f.0 (call_done all f.1)
-    call_finish next OutputFull left all e f = rw f.0 (call_full_report f.4 all f.1 f.2 (omega (arith, f.3)))
-    call_finish next (Malformed a b) left all e f = call_report next a b all f.0 f.1 (omega (arith, f.2)) f.3
+    call_finish : {next : DecoderState} (answer : DecoderResult) → rests s.grammar s.held ≡ true → may_hold s.grammar s.held ≡ true → Finishes form s last free next answer
+        → DecoderCall form s [] last free next answer 0 [] × (IsMalformed answer ⊎ (next ≡ s))
+    call_finish InputEmpty r m f = (rw f.0 (call_done r m f.1), inr f.0)
+    call_finish OutputFull r m f = (rw f.0 (call_full m f.4 (rw f.1 (let e = room_needed-report form s r f.2 in omega (arith, f.3)))), inr f.0)
+    call_finish (Malformed a b) r m f = (call_report f.0 r f.1 f.2 f.3, inl tt)
 
-  -- the held-back scalar lacks its room
-  pub call_full_release : IsCovered before → may_hold before.grammar before.held ≡ true → rests before.grammar before.held ≡ false → free < release_room_in form before.grammar →
-      DecoderCall form before source last free before OutputFull 0 []
-  unfolding HadRoom
-  call_full_release c m r lacks =
-      let e = room_needed-release form before source last r in
-      let l : LacksRoom form before source last free = omega arith in
-      let full : (query : LengthQuery) → query_form query ≡ form → room query before (length source) ≤ free → ⊥ =
-      λ query q enough. let n = c.covers query source last in let n' = rw q at n in omega arith in
-      record {
-        within = omega arith;
-        fits = omega arith;
-        scalar = All-nil IsScalar;
-        passed = 0;
-        progress = stay false before source;
-        allowed = m;
-        fault = tt;
-        input_empty = λ x. cc;
-        output_full = λ x. rw sub-zero l;
-        full_at_once = λ x. (refl, refl, refl, refl);
-        room_at_fault = λ x. absurd x;
-        room_held = λ a. absurd (omega arith);
-        had_room = HadRooms-none form before free;
-        lowers = λ query q more z. omega arith;
-        suffices = λ query q enough x. full query q enough;
-        enough = λ query q n k le answered most x. full query q (let r' = room-answer query before (length source) n k le answered in omega arith);
-      }
+    -- the held-back scalar lacks its room
+    pub call_full_release : {source : List ℕ} → IsCovered s → may_hold s.grammar s.held ≡ true → rests s.grammar s.held ≡ false → free < release_room_in form s.grammar
+        → DecoderCall form s source last free s OutputFull 0 []
+    call_full_release {source} c m r lacks = call_full m c (omega (arith, lacks, room_needed-release form s source last r))
 
--- no bytes are held back
-pub holds_none : (form : EncodingForm) (free : ℕ) (state : DecoderState) → HoldsBytes form free state [] state
-unfolding HoldsBytes
-holds_none form free state = refl
+  -- ---- the acts that end a call in progress
 
--- a call in progress whose decoder holds bytes back
-pub held_going : (form : EncodingForm) (before : DecoderState) (source : List ℕ) (last : Bool) (free : ℕ) (now : DecoderState) (read : ℕ) (scalars : List ℕ)
-    → Going form before source last free now read scalars → (left : ℕ) → left + total_unit_count form scalars ≡ free → (next : DecoderState) (n : ℕ) → n ≤ length (drop read source)
-    → HoldsBytes form left now (take n (drop read source)) next → Going form before source last free next (read + n) scalars
-unfolding HoldsBytes
-held_going form before source last free now read scalars going left e next zero within holds =
-    subst (λ s. Going form before source last free s (read + 0) scalars) (sym holds) (subst (λ k. Going form before source last free now k scalars) (sym (add-zero read)) going)
-held_going form before source last free now read scalars going left e next (suc n) within holds =
-    let some : read < length source = omega (arith, within, length-drop read source) in
-    let byte : ℕ = get_or source read 0 in
-    let front : drop read source ≡ byte ∷ drop (read + 1) source = drop-cons source read 0 some ∙ rw add-one refl in
-    let cut : take (suc n) (drop read source) ≡ byte ∷ take n (drop (read + 1) source) = ap (λ l. take (suc n) l) front in
-    let h : HoldsBytes form left now (byte ∷ take n (drop (read + 1) source)) next = subst (λ l. HoldsBytes form left now l next) cut holds in
-    let enough : read_room form now byte ≤ free - total_unit_count form scalars = omega (arith, h.2, e) in
-    let step : Going form before source last free h.0 (read + 1) (scalars ++ []) = going_feed form before source last free now read scalars going byte h.0 Nothing some refl h.1 (λ x. x) enough in
-    let mid : Going form before source last free h.0 (read + 1) scalars = subst (λ cs. Going form before source last free h.0 (read + 1) cs) (append-nil scalars) step in
-    let shorter : n ≤ length (drop (read + 1) source) = omega (arith, within, length-drop read source, length-drop (read + 1) source) in
-    let place : read + 1 + n ≡ read + suc n = omega arith in
-    subst (λ k. Going form before source last free next k scalars) place (held_going form before source last free h.0 (read + 1) scalars mid left e next n shorter h.3)
+  module _ {before : DecoderState} {source : List ℕ} {free : ℕ} {now : DecoderState} {read : ℕ} {scalars : List ℕ}
+      (a : Going form last before source free now read scalars) (left : ℕ) (room_is : left + total_unit_count form scalars ≡ free) where
+    -- the next byte lacks its room
+    pub call_lacks : read < length source → IsCovered now → left < read_room form now (get_or source read 0) → DecoderCall form before source last free now OutputFull read scalars
+    call_lacks h c lacks =
+        let needs = room_needed-read form now (get_or source read 0) (drop (read + 1) source) last a.resting in
+        call_here a room_is (call_full a.allowed c (rw (next_byte source read h) (omega (arith, lacks, needs)))) (inr refl)
+
+    -- the next byte reveals a malformed sequence, and is read or not
+    module _ {next : DecoderState} {x y : ℕ} (h : read < length source) (enough : read_room form now (get_or source read 0) ≤ left) where
+      pub call_read : Feeds now (get_or source read 0) next (Fault x y false) → DecoderCall form before source last free next (Malformed x y) (read + 1) scalars
+      call_read f = call_then a room_is (rw (next_byte source read h) (call_fed false 1 a.resting f enough (omega arith) refl)) (inl tt)
+
+      pub call_unread : Feeds now (get_or source read 0) next (Fault x y true) → DecoderCall form before source last free next (Malformed x y) read scalars
+      call_unread f = call_here a room_is (rw (next_byte source read h) (call_fed true 0 a.resting f enough (omega arith) refl)) (inl tt)
+
+    -- all bytes are read
+    pub call_end : {next : DecoderState} {answer : DecoderResult} → read ≡ length source → Finishes form now last left next answer
+        → DecoderCall form before source last free next answer read scalars
+    call_end {next} {answer} all f =
+        let nothing_left : drop read source ≡ [] = drop_of_length-le source (omega arith) in
+        let end = call_finish answer a.resting a.allowed f in
+        call_here a room_is (rw nothing_left end.0) end.1

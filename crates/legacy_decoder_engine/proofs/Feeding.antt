@@ -1,6 +1,6 @@
 -- A machine that agrees with its grammar and keeps its rooms makes the moves that the loop requires.
 use Rattle.std.proofs.Common.{◌≡◌, ◌≢◌, ◌∙◌, ℕ, suc, zero-add, add-zero, ◌+◌, ◌-◌, ◌≤◌, List, [], ◌∷◌, ◌++◌, length, drop, refl, sym, ap, subst, arith, append-nil, length-append, length-drop}
-use Rattle.std.proofs.Common.{drop_of_length-le, Bool, true, false, not, ◌&&◌, ◌||◌, IsTrue, Option, Some, None, inl, inr, All}
+use Rattle.std.proofs.Common.{drop_of_length-le, Bool, true, false, not, ◌&&◌, ◌||◌, ◌⊎◌, map, IsTrue, Option, Some, None, inl, inr, All}
 use Rattle.std.proofs.lemmas.List.{drop-append-le, nil_from_length}
 use Rattle.std.proofs.lemmas.List.Elements.{All-nil, All-cons}
 use Rattle.std.proofs.lemmas.Bool.{false≢true}
@@ -8,6 +8,8 @@ use Rattle.std.specs.Char.{IsScalar, is_ascii}
 use Rattle.legacy_text.specs.EncodingForm.{EncodingForm, Utf8, Utf16, code_units, unit_count, all_code_units, total_unit_count, bmp_room, wide_room}
 use Rattle.legacy_tables.specs.Unicode.{IsByte, AreBytes}
 use Rattle.legacy_base.specs.Fronts.{reads, malformed}
+use Rattle.legacy_base.specs.Events.{shift}
+use Rattle.legacy_base.specs.declared.results.DecodeEvent.TheVariants.{Scalar, Bad}
 use Rattle.legacy_base.specs.Grammar.{Grammar, events_of}
 use Rattle.legacy_base.specs.States.{DecoderState, rests, may_hold}
 use Rattle.legacy_base.specs.Calls.{IsLoneFault}
@@ -16,7 +18,7 @@ use Rattle.legacy_base.specs.Lengths.{LengthQuery, to_utf16, to_utf8, query_form
 use Rattle.legacy_decoder_engine.specs.declared.moves.Fed.{Fed}
 use Rattle.legacy_decoder_engine.specs.declared.moves.Fed.TheVariants.{Nothing, One, Two, Fault}
 use Rattle.legacy_decoder_engine.specs.Moves.{IsCovered, read_room, fed_scalars, fed_fault, fed_units, unread_byte, FedHolds, IsFaulty, Feeds, Releases, Reports}
-use Rattle.legacy_decoder_engine.specs.Steps.{Step, hold, finish, leave, step_held, StepMeets, PendingMeets, end_events, DecoderMachine}
+use Rattle.legacy_decoder_engine.specs.Steps.{Step, hold, finish, leave, step_held, step_length, step_unread, step_events, StepMeets, PendingMeets, end_events, DecoderMachine}
 use Rattle.legacy_decoder_engine.specs.Costs.{units, step_units, step_left}
 use Rattle.legacy_base.specs.States.{state_of}
 use Rattle.legacy_decoder_engine.specs.Settling.{IsOneOrMarked, Settles}
@@ -47,15 +49,9 @@ writes_form Utf16 shown held n c m r bytes e = let w = (shown.rooms to_utf16).wr
 
 -- ---- what a step is
 
--- a sequence gives no scalar, one scalar, or a letter and its mark
-sound_form : (g : Grammar) (cs : List ℕ) → IsOneOrMarked (has_marks g) cs →
-    (fed_scalars (fed_form cs) ≡ cs) × (fed_fault 0 (fed_form cs) ≡ []) × ((query : LengthQuery) → fed_units query (fed_form cs) ≡ 0) × ((byte : ℕ) → unread_byte byte (fed_form cs) ≡ [])
-sound_form g (c ∷ d ∷ e ∷ cs) h = absurd h
-sound_form g cs h = (refl, refl, λ q. refl, λ b. refl)
-
-form_fault : (passed : ℕ) (cs : List ℕ) → fed_fault passed (fed_form cs) ≡ []
-form_fault passed (c ∷ d ∷ cs) = refl
-form_fault passed cs = refl
+fed_scalars_are : (marks : Bool) (cs : List ℕ) → IsOneOrMarked marks cs → fed_scalars (fed_form cs) ≡ cs
+fed_scalars_are marks (c ∷ d ∷ e ∷ cs) h = absurd h
+fed_scalars_are marks cs h = refl
 
 form_sound : (cs : List ℕ) → IsFaulty (fed_form cs) → ⊥
 form_sound (c ∷ d ∷ cs) f = f
@@ -111,21 +107,14 @@ module _ {g : Grammar} {m : DecoderMachine} (shown : IsShown g m) (held : List �
   }
 
   module _ (b : ℕ) (byte : IsByte b) (resting : rests g held ≡ true) where
-    to : Grammar
+    abbrev to : Grammar
     to = m.to held b
 
-    -- the step at the byte, with the facts about it
-    record Known (s : Step) : Type 0 where
-      pub is : m.step held b ≡ s
-      pub meets : StepMeets g held b s (m.to held b)
-      pub settles : Settles (m.to held b) held b s
+    meets : (s : Step) → m.step held b ≡ s → StepMeets g held b s to
+    meets s e = subst (λ s. StepMeets g held b s to) e (shown.meets.steps held b may resting)
 
-    known : Known (m.step held b)
-    known = record {
-      is = refl;
-      meets = shown.meets.steps held b may resting;
-      settles = shown.settles held b may resting;
-    }
+    settled : (s : Step) → m.step held b ≡ s → Settles to held b s
+    settled s e = subst (λ s. Settles to held b s) e (shown.settles held b may resting)
 
     fits_step : (form : EncodingForm) (s : Step) → m.step held b ≡ s → step_units (unit_count form) (bmp_room form) s ≤ read_room form (state_of g held) b
     fits_step form s e = rw (← e) (fits_form form shown held b may resting bytes byte)
@@ -141,154 +130,79 @@ module _ {g : Grammar} {m : DecoderMachine} (shown : IsShown g m) (held : List �
       | inr h ↦ absurd (ne (sym e ∙ h.1))
     ]
 
-    hold_feeds : Known hold → Feeds (state_of g held) b (state_of (m.to held b) (held ++ b ∷ [])) Nothing
+    had_form : (form : EncodingForm) (free n : ℕ) (cs : List ℕ) → m.step held b ≡ finish (reads n cs) → read_room form (state_of g held) b ≤ free → HadRoom form g None free cs
     unfolding HadRoom
-    hold_feeds k = record {
-      passed = 0;
-      progress = record {
-        counts = let c = k.meets.counts in omega arith;
-        rest = sym (append-nil (held ++ b ∷ []));
-        events = λ more l. k.meets.goes_on more;
-      };
-      holds = k.settles;
-      allowed = k.meets.allowed;
-      rooms = shown.same_rooms held b;
-      empties = λ n. absurd (n refl);
-      report = λ form. release-full form g;
-      full = λ form x. elim (shown.swallows) [
-        | inl r ↦ usual_step form hold (k.is) (λ z. cc) r
-        | inr r ↦ let z = sym (k.is) ∙ r held b in absurd (let y : hold ≡ finish (reads 1 []) → ⊥ = λ w. cc in y z)
-      ];
-      fits = λ form. omega arith;
-      had = λ form free l. tt;
-      scalar = λ i d l. absurd (omega arith);
-      lowers = λ query n. pays_step query n hold (k.is);
-    }
-
-    fault_feeds : (n : ℕ) → Known (finish (malformed n)) → Feeds (state_of g held) b (state_of (m.to held b) (drop n (held ++ b ∷ []))) (Fault n (length (drop n (held ++ b ∷ []))) false)
-    unfolding HadRoom
-    fault_feeds n k =
-        let zero_place : n - n ≡ 0 = omega arith in
-        record {
-          passed = n;
-          progress = record {
-            counts = let c = k.meets.counts in omega arith;
-            rest = sym (append-nil (drop n (held ++ b ∷ [])));
-            events = λ more l. rw zero_place (k.meets.goes_on more);
-          };
-          holds = record { some = k.meets.fault.0; few = k.meets.fault.1; near = k.meets.few; held = refl; within = omega arith };
-          allowed = k.meets.allowed;
-          rooms = shown.same_rooms held b;
-          empties = λ e. absurd (e refl);
-          report = λ form. release-full form g;
-          full = λ form x. elim (shown.swallows) [
-            | inl r ↦ usual_step form (finish (malformed n)) (k.is) (λ z. cc) r
-            | inr r ↦ let z = sym (k.is) ∙ r held b in absurd (let y : finish (malformed n) ≡ finish (reads 1 []) → ⊥ = λ w. cc in y z)
-          ];
-          fits = λ form. omega arith;
-          had = λ form free l. tt;
-          scalar = λ i d l. absurd (omega arith);
-          lowers = λ query m. rw (zero-add (replacement_units query)) (pays_step query m (finish (malformed n)) (k.is));
-        }
-
-    leave_feeds : (n : ℕ) → Known (leave n) → Feeds (state_of g held) b (state_of (m.to held b) (drop n held)) (Fault n (length (drop n held)) true)
-    unfolding HadRoom
-    leave_feeds n k =
-        let zero_place : n - n ≡ 0 = omega arith in
-        let c = k.meets.counts in
-        let within : n ≤ length held = omega (arith, length-drop n held) in
-        record {
-          passed = n;
-          progress = record {
-            counts = omega arith;
-            rest = drop-append-le n held (b ∷ []) within;
-            events = λ more l. rw zero_place (k.meets.goes_on more);
-          };
-          holds = record { some = k.meets.fault.0; few = k.meets.fault.1; near = k.meets.few; held = refl; within = omega arith };
-          allowed = k.meets.allowed;
-          rooms = shown.same_rooms held b;
-          empties = λ e. absurd (e refl);
-          report = λ form. release-full form g;
-          full = λ form x. elim (shown.swallows) [
-            | inl r ↦ usual_step form (leave n) (k.is) (λ z. cc) r
-            | inr r ↦ let z = sym (k.is) ∙ r held b in absurd (let y : leave n ≡ finish (reads 1 []) → ⊥ = λ w. cc in y z)
-          ];
-          fits = λ form. omega arith;
-          had = λ form free l. tt;
-          scalar = λ i d l. absurd (omega arith);
-          lowers = λ query m. rw (zero-add (replacement_units query)) (pays_step query m (leave n) (k.is));
-        }
-
-    -- the scalars of a sequence are those that the step returns
-    scalars_are : (cs : List ℕ) → IsOneOrMarked (has_marks (m.to held b)) cs → fed_scalars (fed_form cs) ≡ cs
-    scalars_are cs one = (sound_form (m.to held b) cs one).0
-
-    marks_to : has_marks (m.to held b) ≡ has_marks g
-    marks_to = shown.same_marks held b
-
-    full_form : (n : ℕ) (cs : List ℕ) → Known (finish (reads n cs)) → (form : EncodingForm) → drop n (held ++ b ∷ []) ≢ [] → full_room_in form g ≤ read_room form (state_of g held) b
-    full_form n cs k form ne = absurd (ne (all_dropped n held b (k.settles.0)))
-
-    had_form : (form : EncodingForm) (free n : ℕ) (cs : List ℕ) → Known (finish (reads n cs)) → read_room form (state_of g held) b ≤ free → HadRoom form g None free cs
-    unfolding HadRoom
-    had_form form free n cs k le = elim (shown.swallows) [
-      | inr r ↦
-          let z = sym (k.is) ∙ r held b in
-          let e : cs ≡ [] = reads_same n 1 cs [] z in
-          rw e tt
+    had_form form free n cs e le = elim (shown.swallows) [
+      | inr r ↦ rw (reads_same n 1 cs [] (sym e ∙ r held b)) tt
       | inl r ↦ elim (short_or_usual (bmp_room form) (wide_room form) g m shown held b r) [
-        | inl h ↦ had_usual form g free cs (subst (λ m. IsOneOrMarked m cs) marks_to (k.settles.1)) (let h' : full_room_in form g ≤ read_room form (state_of g held) b = h in omega arith)
-        | inr h ↦
-            let z = sym (k.is) ∙ h.1 in
-            let e : cs ≡ b ∷ [] = reads_same n 1 cs (b ∷ []) z in
-            rw e (had_short form g free b (h.0))
+        | inl h ↦ had_usual form g free cs (subst (λ m. IsOneOrMarked m cs) (shown.same_marks held b) (settled _ e).1) (omega (arith, h, le))
+        | inr h ↦ rw (reads_same n 1 cs (b ∷ []) (sym e ∙ h.1)) (had_short form g free b h.0)
       ]
     ]
 
-    reads_feeds : (n : ℕ) (cs : List ℕ) → Known (finish (reads n cs)) → All IsScalar (fed_scalars (fed_form cs)) →
-        Feeds (state_of g held) b (state_of (m.to held b) (drop n (held ++ b ∷ []))) (fed_form cs)
-    reads_feeds n cs k scalar =
-        let same = scalars_are cs (k.settles.1) in
-        let sound = sound_form (m.to held b) cs (k.settles.1) in
-        let nothing = all_dropped n held b (k.settles.0) in
-        record {
-          passed = n;
-          progress = rw (form_fault n cs, append-nil, same) (record {
-            counts = let c = k.meets.counts in rw (sound.3 b) (omega arith);
-            rest = rw (sound.3 b) (sym (append-nil (drop n (held ++ b ∷ []))));
-            events = λ more l. rw (sound.3 b) (k.meets.goes_on more);
-          });
-          holds = form_holds n (state_of (m.to held b) (drop n (held ++ b ∷ []))) cs (rw nothing (rests-none (m.to held b)));
-          allowed = k.meets.allowed;
-          rooms = shown.same_rooms held b;
-          empties = λ e. nothing;
-          report = λ form. release-full form g;
-          full = λ form x. elim x [
-            | inl f ↦ absurd (form_sound cs f)
-            | inr ne ↦ full_form n cs k form ne
-          ];
-          fits = λ form. rw (same, ← units-total form cs) (fits_step form (finish (reads n cs)) (k.is));
-          had = λ form free le. rw same (had_form form free n cs k le);
-          scalar = scalar;
-          lowers = λ query m.
-              let p = pays_step query m (finish (reads n cs)) (k.is) in
-              let p' = rw (units-total (query_form query) cs) at p in
-              rw (same, sound.2 query, sound.3 b, add-zero (total_unit_count (query_form query) cs)) p';
-        }
+    -- the bytes and the events after a step
+    rest_is : (s : Step) → m.step held b ≡ s → drop (step_length s) (held ++ b ∷ []) ≡ step_held s held b ++ step_unread s b []
+    rest_is (leave n) e = drop-append-le n held (b ∷ []) (omega (arith, (meets _ e).counts, length-drop n held))
+    rest_is s e = sym (append-nil (step_held s held b))
+
+    out_is : (s : Step) → Settles to held b s → step_events s ≡ map Scalar (fed_scalars (fed_of s held b)) ++ fed_fault (step_length s) (fed_of s held b)
+    out_is (finish (malformed n)) h = let z : 0 ≡ n - n = omega arith in ap (λ p. Bad p n ∷ []) z
+    out_is (leave n) h = let z : 0 ≡ n - n = omega arith in ap (λ p. Bad p n ∷ []) z
+    out_is (finish (reads n (c ∷ d ∷ e ∷ cs))) h = absurd h.1
+    out_is s h = refl
+
+    holds_is : (s : Step) → m.step held b ≡ s → FedHolds (step_length s) (state_of to (step_held s held b)) (fed_of s held b)
+    holds_is hold e = settled hold e
+    holds_is (finish (reads n cs)) e = form_holds n (state_of to (drop n (held ++ b ∷ []))) cs (rw (all_dropped n held b (settled _ e).0) (rests-none to))
+    holds_is s e = let k = meets s e in record { some = k.fault.0; few = k.fault.1; near = k.few; held = refl; within = omega arith }
+
+    empties_is : (s : Step) → Settles to held b s → fed_scalars (fed_of s held b) ≢ [] → step_held s held b ≡ []
+    empties_is (finish (reads n cs)) h ne = all_dropped n held b h.0
+    empties_is s h ne = absurd (ne refl)
+
+    full_is : (form : EncodingForm) (s : Step) → m.step held b ≡ s → IsFaulty (fed_of s held b) ⊎ (step_held s held b ≢ []) → full_room_in form g ≤ read_room form (state_of g held) b
+    full_is form (finish (reads n cs)) e x = elim x [
+      | inl f ↦ absurd (form_sound cs f)
+      | inr ne ↦ absurd (ne (all_dropped n held b (settled _ e).0))
+    ]
+    full_is form s e x = elim (shown.swallows) [
+      | inl r ↦ usual_step form s e (λ z. cc) r
+      | inr r ↦ absurd (let z : s ≡ finish (reads 1 []) = sym e ∙ r held b in cc)
+    ]
+
+    had_is : (form : EncodingForm) (free : ℕ) (s : Step) → m.step held b ≡ s → read_room form (state_of g held) b ≤ free → HadRoom form g None free (fed_scalars (fed_of s held b))
+    unfolding HadRoom
+    had_is form free (finish (reads n cs)) e le = rw (fed_scalars_are (has_marks to) cs (settled _ e).1) (had_form form free n cs e le)
+    had_is form free s e le = tt
 
     -- any step at the byte is a move
-    step_feeds : (s : Step) → Known s → All IsScalar (fed_scalars (fed_of s held b)) → Feeds (state_of g held) b (state_of (m.to held b) (step_held s held b)) (fed_of s held b)
-    step_feeds hold k scalar = hold_feeds k
-    step_feeds (finish (reads n cs)) k scalar = reads_feeds n cs k scalar
-    step_feeds (finish (malformed n)) k scalar = fault_feeds n k
-    step_feeds (leave n) k scalar = leave_feeds n k
+    step_feeds : (s : Step) → m.step held b ≡ s → All IsScalar (fed_scalars (fed_of s held b)) → Feeds (state_of g held) b (state_of to (step_held s held b)) (fed_of s held b)
+    step_feeds (finish (reads n (c ∷ d ∷ x ∷ cs))) e scalar = absurd (settled _ e).1
+    step_feeds s e scalar = record {
+      passed = step_length s;
+      progress = record {
+        counts = omega (arith, (meets s e).counts);
+        rest = rest_is s e;
+        events = λ more l. (meets s e).goes_on more ∙ ap (λ es. es ++ shift (step_length s) (events_of to (step_held s held b ++ step_unread s b more))) (out_is s (settled s e));
+      };
+      holds = holds_is s e;
+      allowed = (meets s e).allowed;
+      rooms = shown.same_rooms held b;
+      empties = empties_is s (settled s e);
+      report = λ form. release-full form g;
+      full = λ form. full_is form s e;
+      fits = λ form. omega (arith, fits_step form s e, units-total form (fed_scalars (fed_of s held b)));
+      had = λ form free. had_is form free s e;
+      scalar = scalar;
+      lowers = λ query n. omega (arith, pays_step query n s e, units-total (query_form query) (fed_scalars (fed_of s held b)));
+    }
 
     -- a decoder that took the step has made the move
     pub feeds : (fed : Fed) (kept : List ℕ) → Took (m.step held b) held b fed kept → Feeds (state_of g held) b (state_of (m.to held b) kept) fed
     feeds fed kept took =
         let scalar : All IsScalar (fed_scalars fed) = has_scalars fed took.scalar in
         let scalar' = rw (took.answer) at scalar in
-        rw (took.answer, took.holds) (step_feeds (m.step held b) known scalar')
+        rw (took.answer, took.holds) (step_feeds (m.step held b) refl scalar')
 
   -- the held-back scalar is written
   pub releases : (n c : ℕ) → rests g held ≡ false → m.pending held ≡ Some (n, c) → IsScalar c → Releases (state_of g held) (state_of g (drop n held)) c

@@ -3,25 +3,11 @@ use Rattle.std.proofs.Common.{◌≡◌, ◌≢◌, ◌∙◌, ℕ, ◌+◌, ◌
 use Rattle.std.proofs.Math.Nat.{mul-le-mul_right}
 use Rattle.std.proofs.lemmas.Bool.{leb-true, leb-false, eqb-true}
 use Rattle.std.proofs.lemmas.Nat.{and_mask}
-use Rattle.std.specs.Char.{IsScalar}
 use Rattle.std.specs.Int.{is_in_range}
 use lib.Lanes.{Each1, zip2, sel_l, top}
-use Rattle.legacy_tables.specs.declared.tables.IndexName.{IndexName}
-use Rattle.legacy_tables.specs.AcceptedTables.{AcceptedIndexes}
 use Rattle.legacy_tables.specs.Indexes.{entry_scalar}
-use Rattle.legacy_tables.specs.Tables.{index_list, is_narrow_index}
-use Rattle.legacy_tables.proofs.Accepted.{narrow_index, index-scalars}
 use Rattle.legacy_text.proofs.UnitLanes.{of_eight}
-use Rattle.legacy_base.specs.LeadForms.{pair_scalars}
-use Rattle.legacy_base.specs.Grammar.{plain}
-use Rattle.legacy_decoder_engine.specs.Ahead.{IsPair}
 use Rattle.legacy_decoder_engine.specs.LaneRows.{row_place}
-use Rattle.legacy_decoder_engine.specs.LeadCodecs.{IsLeadCodec}
-use Rattle.legacy_decoder_engine.specs.LeadMachines.{lead_first}
-use Rattle.legacy_decoder_engine.specs.Places.{IsPointer}
-use Rattle.legacy_decoder_engine.proofs.LeadHeld.{pair}
-use Rattle.legacy_decoder_engine.proofs.PairPlaces.{found}
-use Rattle.legacy_decoder_engine.proofs.PlainShown.{found_at, scalars_below}
 
 abbrev pub mask_if : Bool → ℕ
 mask_if t = cond t (2 ^ 16 - 1) 0
@@ -89,14 +75,6 @@ module _ (lead leads trail trails width : ℕ) (lead_room : lead + leads < 256) 
       (λ a b c d e f g h sa sb sc sd se sf sg sh t.
       lane_is a sa t ∷ lane_is b sb t ∷ lane_is c sc t ∷ lane_is d sd t ∷ lane_is e se t ∷ lane_is f sf t ∷ lane_is g sg t ∷ lane_is h sh t ∷ [])
 
--- ---- the entry at a place
-
--- the place of a lead and a trail is their pointer
-pub place_is : (l t : Bool) (p : ℕ) → IsPointer (cond l (cond t (Some p) None) None) (cond (l && t) p 65535)
-place_is true true p = refl
-place_is true false p = omega arith
-place_is false t p = omega arith
-
 -- an entry that is not 0 is a scalar
 pub entry_is : (e : ℕ) → e ≢ 0 → option_to_list (entry_scalar e) ≡ e ∷ []
 entry_is e some = go (e == 0) refl
@@ -104,22 +82,3 @@ entry_is e some = go (e == 0) refl
     go : (t : Bool) → (e == 0) ≡ t → option_to_list (cond t None (Some e)) ≡ e ∷ []
     go true z = absurd (some (eqb-true e 0 z))
     go false z = refl
-
-module _ (leads : ℕ → Bool) (pointers : ℕ → ℕ → Option ℕ) (name : IndexName) (narrow : is_narrow_index name ≡ true)
-    (codec : IsLeadCodec (λ flat. plain leads pointers (index_list flat name)) leads (lead_first leads) (λ flat. pair_scalars pointers (index_list flat name))) (tables : AcceptedIndexes) where
-  pub plain_pair : (code place : ℕ) → code < 65536 → IsPointer (cond (leads (code % 256)) (pointers (code % 256) (code / 256)) None) place → place < length (index_list tables.flat name)
-      → get_or (index_list tables.flat name) place 0 ≢ 0
-      → IsScalar (get_or (index_list tables.flat name) place 0) × IsPair (plain leads pointers (index_list tables.flat name)) (code % 256) (code / 256) (get_or (index_list tables.flat name) place 0)
-  plain_pair code place small is within some =
-      let index = index_list tables.flat name in
-      let c = get_or index place 0 in
-      let n = narrow_index tables.flat tables.accepted name narrow in
-      let scalar : IsScalar c = index-scalars tables.flat tables.accepted name place 0 within in
-      let both = found (leads (code % 256)) (pair_scalars pointers index (code % 256) (code / 256)) c
-      (sym (entry_is c some) ∙ found_at index n.1 (leads (code % 256)) (pointers (code % 256) (code / 256)) place is) in (
-        scalar,
-        (
-          scalars_below index n.0 (pointers (code % 256) (code / 256)) c both.1,
-          pair codec tables (code % 256) (code / 256) c (omega arith) (omega arith) scalar both.0 both.1,
-        ),
-      )

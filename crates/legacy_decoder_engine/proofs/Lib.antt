@@ -16,7 +16,6 @@ pub mod SettledSteps
 pub mod TwoByteCosts
 pub mod TwoByteMeets
 pub mod TwoByteShown
-pub mod PlainShown
 pub mod Turns
 pub mod Picking
 pub mod LaneUnits

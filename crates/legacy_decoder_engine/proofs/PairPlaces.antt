@@ -4,7 +4,7 @@ use Rattle.std.proofs.lemmas.List.{get_or_past}
 use Rattle.std.proofs.lemmas.List.FromFn.{get_or-map-range_with_len}
 use Rattle.std.specs.Prelude.{option_to_list}
 use Rattle.legacy_tables.specs.Indexes.{idx, entry_scalar}
-use Rattle.legacy_decoder_engine.specs.Places.{IsTableOf, IsPointer, lead_place}
+use Rattle.legacy_decoder_engine.specs.Places.{IsTableOf, lead_place}
 use Rattle.legacy_decoder_engine.specs.declared.places.TheConstants.{ROWS_OF_190}
 
 pub read : (table : List ℕ) (place : ℕ → ℕ) → IsTableOf place table → (b : ℕ) → b < 256 → get_or table b 0 ≡ place b
@@ -36,9 +36,3 @@ pair_entry scalars none true false false base low high = none (base + 65535) (om
 pair_entry scalars none false true b base low high = none (65535 + low) (omega arith)
 pair_entry scalars none false false true base low high = none (65535 + high) (omega arith)
 pair_entry scalars none false false false base low high = none (65535 + 65535) (omega arith)
-
--- the pointer with one trail range, by whether the bytes are a lead and a trail
-pub pointer_at : (l t : Bool) (base low : ℕ) → IsPointer (cond l (cond t (Some (base + low)) None) None) (cond l base 65535 + cond t low 65535)
-pointer_at true true base low = refl
-pointer_at true false base low = omega arith
-pointer_at false t base low = omega arith

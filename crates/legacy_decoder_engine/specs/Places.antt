@@ -8,11 +8,6 @@ use Rattle.legacy_base.specs.States.{is_lead}
 abbrev pub IsTableOf : (ℕ → ℕ) → List ℕ → Type 0
 IsTableOf place table = table ≡ map place (range_with_len 0 256)
 
--- the pointer; without one, a number past the end of every index
-abbrev pub IsPointer : Option ℕ → ℕ → Type 0
-IsPointer None place = 65535 ≤ place
-IsPointer (Some pointer) place = place ≡ pointer
-
 -- the place of a lead from 81 to FE, in an index whose rows have 190 entries
 unfoldable pub lead_place : ℕ → ℕ
 lead_place lead = if is_lead lead then (lead - 0x81) * 190 else 65535

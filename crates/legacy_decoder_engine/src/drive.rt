@@ -1,18 +1,21 @@
 //! The loop of all decoders, over the small moves that each decoder makes.
-ghost use Rattle.std.specs.Prelude.{◌≡◌, ℕ, ◌+◌, ◌<◌, ◌≤◌, ◌↔◌, ◌++◌, length, slice_index, IsTrue, true};
+ghost use Rattle.std.specs.Prelude.{◌≡◌, ℕ, ◌+◌, ◌<◌, ◌≤◌, ◌++◌, length, slice_index, true, false};
 ghost use Rattle.legacy_text.specs.EncodingForm.{all_code_units, total_unit_count};
 ghost use Rattle.legacy_base.specs.States.{rests};
 ghost use Rattle.legacy_base.specs.Calls.{IsDecoderCall, IsLoneFault};
-ghost use Rattle.legacy_decoder_engine.specs.Moves.{room_units, fed_scalars, Finishes};
+ghost use Rattle.legacy_decoder_engine.specs.Moves.{move_units, fed_scalars, Finishes, IsCovered};
 
 use crate::moves::{DecoderMoves, Fed, Move, Room};
 use legacy_base::{DecoderResult, Destination};
 
+/// Returns whether the output has the room for an act.
 #[inline(always)]
-fn has_room<T: Destination>(dst: &T, room: Room) -> bool
-    ensures { IsTrue result ↔ (room_units T.form room ≤ T.room dst.now) }
+fn has_room<D: DecoderMoves, T: Destination>(decoder: &D, dst: &T, next: Move) -> bool
+    ensures some { result ≡ true → move_units T.form (D.state decoder.now) next ≤ T.room dst.now }
+    ensures none { result ≡ false → T.room dst.now < move_units T.form (D.state decoder.now) next }
+    ensures covered { IsCovered (D.state decoder.now) }
 {
-    match room {
+    match decoder.room(next) {
         Room::Nothing => true,
         Room::Unit => dst.free() >= 1,
         Room::Narrow => dst.free() >= T::narrow(),
@@ -48,7 +51,7 @@ fn finish<D: DecoderMoves, T: Destination>(decoder: &mut D, dst: &T, last: bool)
     if !last || !decoder.has_rest() {
         return DecoderResult::InputEmpty;
     }
-    if !has_room(dst, decoder.room(Move::Report)) {
+    if !has_room(decoder, dst, Move::Report) {
         return DecoderResult::OutputFull;
     }
     match decoder.report() {
@@ -79,7 +82,7 @@ pub fn drive_decoder<D: DecoderMoves, T: Destination>(
     ensures loan { T.loan dst.new ≡ T.loan dst.old }
 {
     if !decoder.rests() {
-        if !has_room(dst, decoder.room(Move::Release)) {
+        if !has_room(decoder, dst, Move::Release) {
             return (DecoderResult::OutputFull, 0);
         }
         let Some(scalar) = decoder.release() else {
@@ -95,7 +98,7 @@ pub fn drive_decoder<D: DecoderMoves, T: Destination>(
             break;
         }
         let byte = src[read];
-        if !has_room(dst, decoder.room(Move::Read(byte))) {
+        if !has_room(decoder, dst, Move::Read(byte)) {
             return (DecoderResult::OutputFull, read);
         }
         let fed = decoder.feed(byte);

@@ -12,7 +12,6 @@ pub mod moves;
 mod pick_rows;
 mod picks;
 pub mod places;
-pub mod plain;
 pub mod rows;
 pub mod runs;
 pub mod split_rows;

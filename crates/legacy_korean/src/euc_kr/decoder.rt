@@ -1,20 +1,25 @@
 //! The decoder of EUC-KR.
-ghost use Rattle.std.proofs.Common.{refl, ◌+◌, ◌-◌, ◌*◌, ◌/◌, ◌%◌};
-ghost use Rattle.std.specs.Int.{is_in_range};
-ghost use Rattle.legacy_tables.specs.declared.tables.IndexName.TheVariants.{EucKr};
+ghost use Rattle.std.specs.Prelude.{◌≡◌, [], option_to_list, IfSome, if◌then◌else◌};
+ghost use Rattle.std.specs.Char.{IsScalar};
 ghost use Rattle.legacy_base.specs.Profile.{is_lead};
-ghost use Rattle.legacy_base.specs.EucKr.{euc_kr_pointer};
-ghost use Rattle.legacy_decoder_engine.proofs.TwoByteMeets.{is_lead-past};
+ghost use Rattle.legacy_base.specs.LeadForms.{pair_scalars};
+ghost use Rattle.legacy_base.specs.EucKr.{euc_kr, euc_kr_pointer};
 ghost use Rattle.legacy_decoder_engine.specs.LaneRows.{row_place};
-ghost use Rattle.legacy_decoder_engine.proofs.LanePlaces.{place_is};
-ghost use Rattle.legacy_decoder_engine.proofs.PlainShown.{plain_codec};
+ghost use Rattle.legacy_decoder_engine.specs.LeadMachines.{lead_first};
+ghost use Rattle.legacy_decoder_engine.proofs.TwoByteMeets.{is_lead-in};
+ghost use Rattle.legacy_korean.specs.EucKrShown.{euc_kr_codec};
 
 use super::places::TRAILS;
-use legacy_base::IndexName;
-use legacy_decoder_engine::lead::LeadDecoder;
+use legacy_base::{IndexName, Tables};
+use legacy_decoder_engine::common_forms::CommonForm;
+use legacy_decoder_engine::held::Lead;
+use legacy_decoder_engine::lanes::{LaneCodec, narrow_entries};
+use legacy_decoder_engine::lead::{LeadCodec, LeadDecoder};
+use legacy_decoder_engine::moves::{Fed, Room};
 use legacy_decoder_engine::places::{ROWS_OF_190, pair_pointer};
-use legacy_decoder_engine::plain::{Plain, PlainCodec};
 use legacy_decoder_engine::rows::row_pointers;
+use legacy_decoder_engine::two_byte::{read_first, read_trail};
+use legacy_tables::{DecoderTables, FlatTables};
 use std::simd::prelude::*;
 
 /// The codec of EUC-KR.
@@ -31,38 +36,96 @@ pub struct EucKr;
 /// - a lead at the end of the input (1 byte);
 /// - a lead with a byte that gives no scalar with it (2 bytes); if that byte is ASCII, only the
 ///   lead (1 byte), and the ASCII byte is read again.
-pub type EucKrDecoder<'a> = LeadDecoder<'a, Plain<EucKr>>;
+pub type EucKrDecoder<'a> = LeadDecoder<'a, EucKr>;
 
-impl PlainCodec for EucKr {
-    ghost leads = { is_lead };
+/// Returns the scalar of two bytes, or `None` if they are not a lead and a trail with a scalar.
+#[inline]
+fn form_scalar<V: DecoderTables>(tables: &V, lead: u8, trail: u8) -> Option<char>
+    ensures value { option_to_list result ≡ (if is_lead lead
+        then pair_scalars euc_kr_pointer (V.indexes tables.now).flat.euc_kr lead trail
+        else []) }
+    ensures scalar { IfSome result IsScalar }
+{
+    tables.idx(IndexName::EucKr, pair_pointer(&ROWS_OF_190, &TRAILS, lead, trail))
+}
 
-    ghost pointers = { euc_kr_pointer };
+impl LaneCodec for EucKr {
+    ghost grammar = { λ flat. euc_kr flat.euc_kr };
 
-    ghost INDEX = { EucKr };
+    ghost entries = { λ flat. flat.euc_kr };
 
-    const INDEX: IndexName = IndexName::EucKr;
+    ghost place = { row_place 0x81 0x7D 0x41 0xBD 190 };
+
+    #[inline(always)]
+    fn is_rare(byte: u8) -> bool {
+        byte >= 0x80 && Lead::new(byte).is_none()
+    }
 
     #[inline]
-    fn is_lead(byte: u8) -> bool {
-        byte >= 0x81 && byte <= 0xFE
+    fn front(tables: &FlatTables<'_>, lead: u8, trail: u8) -> CommonForm {
+        match form_scalar(tables, lead, trail) {
+            Some(scalar) => CommonForm::Pair(scalar),
+            None => CommonForm::Other,
+        }
     }
 
     #[inline(always)]
-    fn pointer(lead: u8, trail: u8) -> usize {
-        pair_pointer(&ROWS_OF_190, &TRAILS, lead, trail)
+    fn entry_count(tables: &FlatTables<'_>) -> usize {
+        tables.narrow(IndexName::EucKr).len()
     }
 
-    ghost place = { row_place 0x81 0x7D 0x41 0xBD 190 };
+    #[inline(always)]
+    fn entries_at(tables: &FlatTables<'_>, places: &[u16]) -> u16x8 {
+        narrow_entries(tables.narrow(IndexName::EucKr), places)
+    }
 
     #[inline(always)]
     fn places(codes: u16x8) -> u16x8 {
         row_pointers(codes, 0x81, 0x7D, 0x41, 0xBD, 190)
     }
+}
 
-    ghost is_place = { λ code small. place_is (is_lead (code % 0x100)) (is_in_range 0x41 0xFE (code / 0x100))
-        ((code % 0x100 - 0x81) * 190 + (code / 0x100 - 0x41)) };
+impl LeadCodec for EucKr {
+    type Lead = Lead;
 
-    ghost narrow = { refl };
+    ghost is_lead = { is_lead };
 
-    ghost codec = { plain_codec is_lead euc_kr_pointer EucKr is_lead-past refl };
+    ghost byte_of = { λ lead. lead.byte };
+
+    ghost first = { lead_first is_lead };
+
+    ghost scalars = { λ flat. pair_scalars euc_kr_pointer flat.euc_kr };
+
+    ghost codec = { euc_kr_codec };
+
+    ghost leads = { λ lead. is_lead-in lead.byte lead.low lead.high };
+
+    #[inline]
+    fn read_first(byte: u8) -> (Fed, Option<Lead>) {
+        read_first(byte, Lead::new(byte))
+    }
+
+    #[inline]
+    fn read_pair(tables: &Tables<'_>, lead: Lead, trail: u8) -> Fed {
+        read_trail(form_scalar(tables, lead.byte, trail), trail)
+    }
+
+    #[inline]
+    fn room() -> Room {
+        Room::Narrow
+    }
+
+    fn utf16_length(byte_length: usize, held: usize) -> Option<usize> {
+        byte_length.checked_add(held)
+    }
+
+    fn utf8_length_without_replacement(byte_length: usize, held: usize) -> Option<usize> {
+        let weighted = byte_length.checked_add(held)?;
+        let half = weighted.checked_add(1)? / 2;
+        weighted.checked_add(half)?.checked_add(2)
+    }
+
+    fn utf8_length(byte_length: usize, held: usize) -> Option<usize> {
+        byte_length.checked_add(held)?.checked_mul(3)
+    }
 }

@@ -1,0 +1,44 @@
+-- The steps of EUC-KR agree with its grammar.
+use Rattle.std.proofs.Common.{ℕ, ◌≤◌, List, [], ◌∷◌, Option, Some, None, false, refl, arith}
+use Rattle.legacy_tables.specs.declared.tables.IndexName.TheVariants.{EucKr}
+use Rattle.legacy_tables.proofs.Accepted.{narrow_index}
+use Rattle.legacy_base.specs.{EucKr.euc_kr, EucKr.euc_kr_pointer, LeadForms.lead_front, LeadForms.lead_pair, LeadForms.pair_scalars, LeadForms.pointer_scalars}
+use Rattle.legacy_base.specs.{Lengths.to_utf16, Profile.is_lead}
+use Rattle.legacy_decoder_engine.specs.{Costs.units, Costs.IsWidth, Costs.IsNarrowIndex, LeadCodecs.IsLeadCodec, LeadMachines.lead_first}
+use Rattle.legacy_decoder_engine.specs.Settling.{IsOneOrMarked}
+use Rattle.legacy_decoder_engine.proofs.{SettledSteps.one_option, Widths.narrow_idx_units, TwoByteShown.HasTwoByteRooms, TwoByteShown.lead_codec}
+use Rattle.legacy_decoder_engine.proofs.TwoByteMeets.{IsTwoByte, is_lead-past, lead_byte_below, lead_first_is, lead_front_is}
+
+one : (index : List ℕ) (pointer : Option ℕ) → IsOneOrMarked false (pointer_scalars index pointer)
+one index None = tt
+one index (Some p) = one_option false _
+
+scalar_units : (len : ℕ → ℕ) (narrow wide : ℕ) → IsWidth len narrow wide → (index : List ℕ) → IsNarrowIndex index
+    → (pointer : Option ℕ) → units len (pointer_scalars index pointer) ≤ narrow
+scalar_units len narrow wide w index below None = omega arith
+scalar_units len narrow wide w index below (Some p) = narrow_idx_units len narrow wide w index p below
+
+is : (index : List ℕ) → IsTwoByte (euc_kr index) (lead_front is_lead euc_kr_pointer index) is_lead (lead_first is_lead) (pair_scalars euc_kr_pointer index)
+unfolding lead_front lead_pair
+is index = record {
+  profile_is = refl;
+  front_is = λ b. elim [
+    | [] ↦ lead_front_is is_lead (pair_scalars euc_kr_pointer index b) [] _ b refl
+    | t ∷ rest ↦ lead_front_is is_lead (pair_scalars euc_kr_pointer index b) (t ∷ rest) _ b refl
+  ];
+  pair_one = λ lead t. one index (euc_kr_pointer lead t);
+}
+
+rooms : (index : List ℕ) → IsNarrowIndex index → HasTwoByteRooms (euc_kr index) (pair_scalars euc_kr_pointer index) 3
+rooms index below = record {
+  pair_units = λ len narrow wide w lead b. scalar_units len narrow wide w index below (euc_kr_pointer lead b);
+  is_paid = λ len narrow wide w. w.most;
+  falls = elim [ to_utf16 ↦ λ held held' n n' u h. omega arith | _ ↦ λ held held' n n' u h. omega arith ];
+  reads = elim [ to_utf16 ↦ λ held. omega arith | _ ↦ λ held. omega arith ];
+  holds = elim [ to_utf16 ↦ λ b held. omega arith | _ ↦ λ b held. omega arith ];
+}
+
+pub euc_kr_codec : IsLeadCodec (λ flat. euc_kr flat.euc_kr) is_lead (lead_first is_lead) (λ flat. pair_scalars euc_kr_pointer flat.euc_kr)
+euc_kr_codec = lead_codec (λ flat. euc_kr flat.euc_kr) (λ flat. lead_front is_lead euc_kr_pointer flat.euc_kr) is_lead (lead_first is_lead)
+    (λ flat. pair_scalars euc_kr_pointer flat.euc_kr) (λ flat. is flat.euc_kr) 3 (lead_first_is is_lead is_lead-past 3 (omega arith))
+    (λ flat accepted. rooms flat.euc_kr (narrow_index flat accepted EucKr refl).0) (lead_byte_below is_lead is_lead-past)
