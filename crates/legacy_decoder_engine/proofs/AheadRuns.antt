@@ -1,26 +1,24 @@
 -- A run of common sequences within a call in progress.
-use Rattle.std.proofs.Common.{◌≡◌, ◌∙◌, ℕ, suc, ◌+◌, ◌-◌, ◌≤◌, ◌<◌, List, [], ◌∷◌, ◌++◌, length, map, take, drop, refl, sym, ap, subst, arith}
-use Rattle.std.proofs.Common.{add-zero, append_assoc, append-nil, true, length-append, length-drop, Bool, Some, None, Option, inl, inr}
-use Rattle.std.proofs.lemmas.List.{length-map, take-append-drop, length-take-le}
-use Rattle.std.proofs.lemmas.Bool.{cases_lt, true≢false}
-use Rattle.legacy_text.specs.declared.destination.Destination.{Ghosts}
+use Rattle.std.proofs.Common.{◌≡◌, ◌∙◌, ℕ, suc, ◌+◌, ◌-◌, ◌≤◌, ◌<◌, List, [], ◌∷◌, ◌++◌, length, map, take, drop, refl, sym, ap, subst, arith, add-zero}
+use Rattle.std.proofs.Common.{append_assoc, append-nil, true, length-append, length-drop, Bool, Some, None, Option, inl, inr}
+use Rattle.std.proofs.{lemmas.List.length-map, lemmas.List.take-append-drop, lemmas.List.length-take-le, lemmas.Bool.cases_lt, lemmas.Bool.true≢false}
 use Rattle.legacy_text.specs.EncodingForm.{EncodingForm, Utf8, Utf16, code_units, unit_count, all_code_units, total_unit_count, wide_room}
+use Rattle.legacy_text.specs.declared.destination.Destination.{Ghosts}
 use Rattle.legacy_text.proofs.CodeUnits.{all_code_units-append, total_unit_count-append}
-use Rattle.legacy_base.specs.declared.results.DecodeEvent.{DecodeEvent}
-use Rattle.legacy_base.specs.declared.results.DecodeEvent.TheVariants.{Scalar}
-use Rattle.legacy_base.specs.{Acts.LacksRoom, Acts.HadRoom, Calls.Progress, Events.shift, Grammar.Grammar, Grammar.events_of, Lengths.room}
 use Rattle.legacy_base.specs.States.{DecoderState, new_state, rests, may_hold}
+use Rattle.legacy_base.specs.{declared.results.DecodeEvent.DecodeEvent, declared.results.DecodeEvent.TheVariants.Scalar, Acts.LacksRoom, Acts.HadRoom}
+use Rattle.legacy_base.specs.{Calls.Progress, Events.shift, Grammar.Grammar, Grammar.events_of, Lengths.room}
 use Rattle.legacy_base.proofs.{GrammarLaws.rests-none, GrammarLaws.may_none, Rooms.lacks_small, Rooms.full_most, SameUnits.some_unit}
 use Rattle.legacy_decoder_engine.specs.{Ahead.RunsTo, Ahead.Runs, Ahead.ReadsTo, Moves.HoldsBytes}
-use Rattle.legacy_decoder_engine.proofs.CallUnderWay.{Going, going_then, held_going}
-use Rattle.legacy_decoder_engine.proofs.WrittenRuns.{rest_of}
+use Rattle.legacy_decoder_engine.proofs.{CallUnderWay.Going, CallUnderWay.going_then, CallUnderWay.held_going, WrittenRuns.rest_of}
 
 wide_most : (form : EncodingForm) → wide_room form ≤ 4
 wide_most Utf8 = omega arith
 wide_most Utf16 = omega arith
 
 -- scalars that leave three free code units were written with the full room of any act
-ample : (form : EncodingForm) (g : Grammar) (previous : Option ℕ) (free : ℕ) (cs : List ℕ) → total_unit_count form cs + 3 ≤ free → HadRoom form g previous free cs
+ample : (form : EncodingForm) (g : Grammar) (previous : Option ℕ) (free : ℕ) (cs : List ℕ) → total_unit_count form cs + 3 ≤ free
+    → HadRoom form g previous free cs
 unfolding HadRoom
 ample form g previous free [] h = tt
 ample form g previous free (c ∷ cs) h =
@@ -63,7 +61,8 @@ written T first old new scalars ds e f =
     ∙ ap (λ l. T.contents first ++ l) (sym (all_code_units-append T.form scalars ds))
 
 module _ {D : Type 0} {T : Ghosts D} where
-  pub reads_nothing : {before after : DecoderState} {source : List ℕ} {old new : D} {r : ℕ} → (reads : ReadsTo T before after source r old new) → r ≡ 0 → reads.writes.scalars ≡ []
+  pub reads_nothing : {before after : DecoderState} {source : List ℕ} {old new : D} {r : ℕ} → (reads : ReadsTo T before after source r old new) → r ≡ 0
+      → reads.writes.scalars ≡ []
   reads_nothing {before} {after} {source} {old} {new} {r} reads e =
       let ds : List ℕ = reads.writes.scalars in
       let none : RunsTo before.grammar after.grammar [] ds = subst (λ n. RunsTo before.grammar after.grammar (take n source) ds) e reads.writes.runs in
@@ -104,7 +103,8 @@ module _ {D : Type 0} {T : Ghosts D} where
         once = λ l. absurd (omega (arith, reads.had some, lacks_small T.form s source last (T.room old) l, wide_most T.form));
         lowers = λ query q more.
             let l = runs.lowers query (length (drop r source) + more) in
-            let count : length (drop r source) + more + length (take r source) ≡ length source + more = omega (arith, long, reads.within, length-drop r source) in
+            let count : length (drop r source) + more + length (take r source) ≡ length source + more =
+            omega (arith, long, reads.within, length-drop r source) in
             let l' = rw (q, count) at l in
             rw (with_empty next none', with_empty s none) l';
       }

@@ -1,26 +1,27 @@
 -- The moves of a decoder make a call.
-use Rattle.std.proofs.Common.{◌≡◌, ◌≢◌, ◌∙◌, ℕ, zero, suc, ◌+◌, ◌-◌, ◌≤◌, ◌<◌, List, [], ◌∷◌, ◌++◌, length, map, get_or, take, drop, refl, sym, ap, subst, arith}
-use Rattle.std.proofs.Common.{add-zero, add-one, append-nil, drop-cons, drop_of_length-le, length-append, length-drop, Bool, true, false, IsTrue, Some, None, Option, ◌⊎◌, inl, inr, All}
-use Rattle.std.proofs.lemmas.List.{map-append, drop-drop}
-use Rattle.std.proofs.lemmas.List.Elements.{All-append, All-nil, All-cons}
-use Rattle.std.proofs.Math.Nat.{sub-zero}
-use Rattle.std.proofs.lemmas.Bool.{true≢false, ne_eqb, cases_lt}
+use Rattle.std.proofs.Common.{◌≡◌, ◌≢◌, ◌∙◌, ℕ, zero, suc, ◌+◌, ◌-◌, ◌≤◌, ◌<◌, List, [], ◌∷◌, ◌++◌, length, map, get_or, take, drop, refl, sym, ap, subst}
+use Rattle.std.proofs.Common.{arith, add-zero, add-one, append-nil, drop-cons, drop_of_length-le, length-append, length-drop, Bool, true, false, IsTrue, Some}
+use Rattle.std.proofs.Common.{None, Option, ◌⊎◌, inl, inr, All}
+use Rattle.std.proofs.{lemmas.List.map-append, lemmas.List.drop-drop, lemmas.List.Elements.All-append, lemmas.List.Elements.All-nil}
+use Rattle.std.proofs.{lemmas.List.Elements.All-cons, Math.Nat.sub-zero, lemmas.Bool.true≢false, lemmas.Bool.ne_eqb, lemmas.Bool.cases_lt}
 use Rattle.std.specs.Char.{IsScalar}
 use Rattle.legacy_text.specs.EncodingForm.{EncodingForm, unit_count, total_unit_count}
 use Rattle.legacy_text.proofs.CodeUnits.{total_unit_count-append}
-use Rattle.legacy_base.specs.declared.results.DecodeEvent.TheVariants.{Scalar, Bad}
-use Rattle.legacy_base.specs.declared.results.DecoderResult.{DecoderResult}
 use Rattle.legacy_base.specs.declared.results.DecoderResult.TheVariants.{InputEmpty, OutputFull, Malformed}
-use Rattle.legacy_base.specs.{Events.shift, Grammar.Grammar, Grammar.events_of, States.DecoderState, States.may_hold, States.rests}
+use Rattle.legacy_base.specs.States.{DecoderState, may_hold, rests}
 use Rattle.legacy_base.specs.Acts.{LacksRoom, HadRoom, HadRooms, fault_room, full_room_in, release_room_in}
 use Rattle.legacy_base.specs.Lengths.{LengthQuery, query_form, replacement_units, room}
 use Rattle.legacy_base.specs.Calls.{Progress, DecoderCall, IsFault, IsMalformed, HoldsBack, out_events, reported_events, may_report_end}
-use Rattle.legacy_base.proofs.{Enough.room-answer, Shifts.shift-scalars, Progress.stay, Progress.at_last, Progress.behind, Progress.after_that}
-use Rattle.legacy_base.proofs.Rooms.{HadRooms-append, HadRooms-none, HadRooms-released, room_needed-release, room_needed-read, room_needed-report, room_needed-none}
-use Rattle.legacy_decoder_engine.specs.declared.moves.Fed.{Fed}
+use Rattle.legacy_base.specs.{declared.results.DecodeEvent.TheVariants.Scalar, declared.results.DecodeEvent.TheVariants.Bad}
+use Rattle.legacy_base.specs.{declared.results.DecoderResult.DecoderResult, Events.shift, Grammar.Grammar, Grammar.events_of}
+use Rattle.legacy_base.proofs.Progress.{stay, at_last, behind, after_that}
+use Rattle.legacy_base.proofs.Rooms.{HadRooms-append, HadRooms-none, HadRooms-released, room_needed-release, room_needed-read, room_needed-report}
+use Rattle.legacy_base.proofs.Rooms.{room_needed-none}
+use Rattle.legacy_base.proofs.{Enough.room-answer, Shifts.shift-scalars}
 use Rattle.legacy_decoder_engine.specs.declared.moves.Fed.TheVariants.{Nothing, One, Two, Fault}
-use Rattle.legacy_decoder_engine.specs.Moves.{SameRooms, Feeds, Releases, Reports, Finishes, IsCovered, HoldsBytes, IsFaulty}
-use Rattle.legacy_decoder_engine.specs.Moves.{read_room, fed_scalars, fed_units, unread_byte}
+use Rattle.legacy_decoder_engine.specs.Moves.{SameRooms, Feeds, Releases, Reports, Finishes, IsCovered, HoldsBytes, IsFaulty, read_room, fed_scalars, fed_units}
+use Rattle.legacy_decoder_engine.specs.Moves.{unread_byte}
+use Rattle.legacy_decoder_engine.specs.declared.moves.Fed.{Fed}
 
 pub same_rooms : (g : Grammar) → SameRooms g g
 same_rooms g = record { full = λ form. refl; report = λ form. refl; wants = λ p c. refl }
@@ -54,7 +55,8 @@ gave (Fault a b u) = inl refl
 -- ---- rooms
 
 module _ (form : EncodingForm) (g : Grammar) where
-  pub HadRoom-same : (h : Grammar) (previous : Option ℕ) (free : ℕ) (cs : List ℕ) → SameRooms g h → HadRoom form h previous free cs → HadRoom form g previous free cs
+  pub HadRoom-same : (h : Grammar) (previous : Option ℕ) (free : ℕ) (cs : List ℕ) → SameRooms g h → HadRoom form h previous free cs
+      → HadRoom form g previous free cs
   unfolding HadRoom
   HadRoom-same h previous free [] s a = tt
   HadRoom-same h previous free (c ∷ cs) s a =
@@ -79,12 +81,14 @@ shift-reported p seen more after (Malformed a b) e f =
 shift-reported p seen more after answer e f = (refl, tt)
 
 -- a sequence that is reported without a byte was held back
-malformed-held : (answer : DecoderResult) (seen : ℕ) (held : List ℕ) (after : DecoderState) → length held ≡ seen → IsMalformed answer → HoldsBack seen after answer → held ≢ []
+malformed-held : (answer : DecoderResult) (seen : ℕ) (held : List ℕ) (after : DecoderState) → length held ≡ seen → IsMalformed answer
+    → HoldsBack seen after answer → held ≢ []
 malformed-held (Malformed a b) seen held after e m f z = omega (arith, f.within, f.some, e, ap length z)
 malformed-held answer seen held after e m f z = absurd m
 
 -- A call in progress: the decoder is in the state `now`, has read `read` bytes and has written the scalars.
-pub record Going (form : EncodingForm) (last : Bool) (before : DecoderState) (source : List ℕ) (free : ℕ) (now : DecoderState) (read : ℕ) (scalars : List ℕ) : Type 0 where
+pub record Going (form : EncodingForm) (last : Bool) (before : DecoderState) (source : List ℕ) (free : ℕ) (now : DecoderState) (read : ℕ)
+    (scalars : List ℕ) : Type 0 where
   pub within : read ≤ length source
   pub passed : ℕ
   pub progress : Progress false before source passed now (drop read source) (map Scalar scalars)
@@ -146,12 +150,12 @@ module _ {form : EncodingForm} {last : Bool} where
         let full = a.rooms.full form in
         let was_held : n ≤ 0 → IsMalformed answer → now.held ≢ [] = λ z m. malformed-held answer (length now.held + n) now.held next (omega arith) m c.fault in
         let suffices : (query : LengthQuery) → query_form query ≡ form → room query before (length source) ≤ free → answer ≢ OutputFull =
-            λ query q enough. 
-                let k = a.lowers query q 0 in
-                let x : length (drop read source) + 0 ≡ length (drop read source) = omega arith in
-                let y : length source + 0 ≡ length source = omega arith in
-                let k' = rw (x, y) at k in
-                c.suffices query q (omega arith) in
+        λ query q enough.
+        let k = a.lowers query q 0 in
+        let x : length (drop read source) + 0 ≡ length (drop read source) = omega arith in
+        let y : length source + 0 ≡ length source = omega arith in
+        let k' = rw (x, y) at k in
+        c.suffices query q (omega arith) in
         record {
           within = omega (arith, a.within, c.within, length-drop read source);
           fits = a.fits;
@@ -247,7 +251,9 @@ module _ {form : EncodingForm} {last : Bool} where
     lowers = λ query q more.
         let l = f.lowers query (length rest + more) in
         let z : (length rest + more) + length (unread_byte byte fed) ≡ length rest + more = omega arith in
-        let l' = subst (λ k. room query next k + (total_unit_count (query_form query) (fed_scalars fed) + fed_units query fed) ≤ room query before (length rest + more + 1)) z l in
+        let l' = subst
+        (λ k. room query next k + (total_unit_count (query_form query) (fed_scalars fed) + fed_units query fed) ≤ room query before
+        (length rest + more + 1)) z l in
         let e : length (byte ∷ rest) + more ≡ length rest + more + 1 = omega arith in
         rw e (omega (arith, l', ap (λ f. total_unit_count f (fed_scalars fed)) q));
   }
@@ -276,11 +282,15 @@ module _ {form : EncodingForm} {last : Bool} where
   -- ---- the acts that end a call
 
   module _ {s : DecoderState} {free : ℕ} where
-    -- the next act lacks its room
-    call_full : {source : List ℕ} → may_hold s.grammar s.held ≡ true → IsCovered s → LacksRoom form s source last free → DecoderCall form s source last free s OutputFull 0 []
-    call_full {source} m c l =
-        let full : (query : LengthQuery) → query_form query ≡ form → room query s (length source) ≤ free → ⊥ =
-            λ query q enough. let n = c.covers query source last in let n' = rw q at n in omega arith in
+    -- nothing is done
+    call_none : {source : List ℕ} (answer : DecoderResult) → (IsMalformed answer → ⊥) → may_hold s.grammar s.held ≡ true
+        → (answer ≡ InputEmpty → (0 ≡ length source) × (rests s.grammar s.held ≡ true) × (IsTrue last → events_of s.grammar s.held ≡ []))
+        → (answer ≡ OutputFull → LacksRoom form s source last free × IsCovered s) → (LacksRoom form s source last free → answer ≡ OutputFull)
+        → DecoderCall form s source last free s answer 0 []
+    call_none (Malformed a b) sound m done full lacks = absurd (sound tt)
+    call_none {source} answer sound m done full lacks =
+        let never : (query : LengthQuery) → query_form query ≡ form → room query s (length source) ≤ free → answer ≡ OutputFull → ⊥ =
+        λ query q enough e. let f = full e in let n = f.1.covers query source last in let n' = rw q at n in omega (arith, f.0) in
         record {
           within = omega arith;
           fits = omega arith;
@@ -289,38 +299,26 @@ module _ {form : EncodingForm} {last : Bool} where
           progress = stay false s source;
           allowed = m;
           fault = tt;
-          input_empty = λ x. cc;
-          output_full = λ x. rw sub-zero l;
-          full_at_once = λ x. (refl, refl, refl, refl);
-          room_at_fault = λ x. absurd x;
+          input_empty = done;
+          output_full = λ e. rw sub-zero (full e).0;
+          full_at_once = λ l. (lacks l, refl, refl, refl);
+          room_at_fault = λ x. absurd (sound x);
           room_held = λ a. absurd (omega arith);
           had_room = HadRooms-none form s free;
           lowers = λ query q more z. omega arith;
-          suffices = λ query q enough x. full query q enough;
-          enough = λ query q n k le answered most x. full query q (omega (arith, room-answer query s (length source) n k le answered));
+          suffices = never;
+          enough = λ query q n k le answered most. never query q (omega (arith, room-answer query s (length source) n k le answered));
         }
+
+    -- the next act lacks its room
+    call_full : {source : List ℕ} → may_hold s.grammar s.held ≡ true → IsCovered s → LacksRoom form s source last free
+        → DecoderCall form s source last free s OutputFull 0 []
+    call_full m c l = call_none OutputFull (λ x. x) m (λ e. cc) (λ e. (l, c)) (λ l. refl)
 
     -- all bytes are read, and there is nothing to report
     call_done : rests s.grammar s.held ≡ true → may_hold s.grammar s.held ≡ true → (IsTrue last → events_of s.grammar s.held ≡ [])
         → DecoderCall form s [] last free s InputEmpty 0 []
-    call_done r m none = record {
-      within = omega arith;
-      fits = omega arith;
-      scalar = All-nil IsScalar;
-      passed = 0;
-      progress = stay false s [];
-      allowed = m;
-      fault = tt;
-      input_empty = λ e. (refl, r, none);
-      output_full = λ e. cc;
-      full_at_once = λ l. absurd (omega (arith, room_needed-none form s last r none));
-      room_at_fault = λ x. absurd x;
-      room_held = λ a. absurd (omega arith);
-      had_room = HadRooms-none form s free;
-      lowers = λ query q more z. omega arith;
-      suffices = λ query q le x. cc;
-      enough = λ query q n k le answered most x. cc;
-    }
+    call_done r m none = call_none InputEmpty (λ x. x) m (λ e. (refl, r, none)) (λ e. cc) (λ l. absurd (omega (arith, room_needed-none form s last r none)))
 
     -- a malformed sequence is reported, after `n` more bytes
     call_fault : {source : List ℕ} {next : DecoderState} {a b : ℕ} (n passed : ℕ) → n ≤ length source → may_hold next.grammar next.held ≡ true
@@ -354,39 +352,45 @@ module _ {form : EncodingForm} {last : Bool} where
         }
 
     -- a byte reveals a malformed sequence
-    call_fed : {byte : ℕ} {rest : List ℕ} {next : DecoderState} {a b : ℕ} (unread : Bool) (n : ℕ) → rests s.grammar s.held ≡ true → Feeds s byte next (Fault a b unread)
+    call_fed : {byte : ℕ} {rest : List ℕ} {next : DecoderState} {a b : ℕ} (unread : Bool) (n : ℕ) → rests s.grammar s.held ≡ true
+        → Feeds s byte next (Fault a b unread)
         → read_room form s byte ≤ free → n ≤ length (byte ∷ rest) → drop n (byte ∷ rest) ≡ unread_byte byte (Fault a b unread) ++ rest
         → DecoderCall form s (byte ∷ rest) last free next (Malformed a b) n []
     call_fed {byte} {rest} {next} {a} {b} unread n r f enough within left_is =
         let full = f.full form (inl tt) in
         call_fault n f.passed within f.allowed f.holds
-        (at_last _ s (byte ∷ rest) f.passed next (drop n (byte ∷ rest)) _ (rw left_is (behind s (byte ∷ []) f.passed next (unread_byte byte (Fault a b unread)) _ rest f.progress)))
+        (at_last _ s (byte ∷ rest) f.passed next (drop n (byte ∷ rest)) _
+        (rw left_is (behind s (byte ∷ []) f.passed next (unread_byte byte (Fault a b unread)) _ rest f.progress)))
         (λ l. omega (arith, enough, room_needed-read form s byte rest last r))
         (fault_room_at form s.grammar n free (λ z. omega (arith, f.report form, full, enough)) (λ p. omega (arith, full, enough)))
         (λ p. omega (arith, full, enough))
         (λ query q more z.
-            let l = f.lowers query (length rest + more) in
-            let c : length (drop n (byte ∷ rest)) + more ≡ (length rest + more) + length (unread_byte byte (Fault a b unread)) =
-                omega (arith, ap length left_is, length-append (unread_byte byte (Fault a b unread)) rest) in
-            let e : length (byte ∷ rest) + more ≡ length rest + more + 1 = omega arith in
-            rw (c, e) (omega arith))
+        let l = f.lowers query (length rest + more) in
+        let c : length (drop n (byte ∷ rest)) + more ≡ (length rest + more) + length (unread_byte byte (Fault a b unread)) =
+        omega (arith, ap length left_is, length-append (unread_byte byte (Fault a b unread)) rest) in
+        let e : length (byte ∷ rest) + more ≡ length rest + more + 1 = omega arith in
+        rw (c, e) (omega arith))
 
     -- the held-back bytes are reported at the end of input
-    call_report : {next : DecoderState} {a b : ℕ} → last ≡ true → rests s.grammar s.held ≡ true → events_of s.grammar s.held ≢ [] → release_room_in form s.grammar ≤ free
+    call_report : {next : DecoderState} {a b : ℕ} → last ≡ true → rests s.grammar s.held ≡ true → events_of s.grammar s.held ≢ []
+        → release_room_in form s.grammar ≤ free
         → Reports s next a b → DecoderCall form s [] last free next (Malformed a b) 0 []
     call_report {next} {a} {b} end r some enough f =
-        call_fault 0 f.passed (omega arith) f.allowed f.holds (rw end f.progress) (λ l. let e = room_needed-report form s r some in omega (arith, rw end at l)) enough
+        call_fault 0 f.passed (omega arith) f.allowed f.holds (rw end f.progress)
+        (λ l. let e = room_needed-report form s r some in omega (arith, rw end at l)) enough
         (λ p. absurd (omega arith)) (λ query q more z. let none = z end in rw none (f.lowers query))
 
     -- the call ends after its input
-    call_finish : {next : DecoderState} (answer : DecoderResult) → rests s.grammar s.held ≡ true → may_hold s.grammar s.held ≡ true → Finishes form s last free next answer
+    call_finish : {next : DecoderState} (answer : DecoderResult) → rests s.grammar s.held ≡ true → may_hold s.grammar s.held ≡ true
+        → Finishes form s last free next answer
         → DecoderCall form s [] last free next answer 0 [] × (IsMalformed answer ⊎ (next ≡ s))
     call_finish InputEmpty r m f = (rw f.0 (call_done r m f.1), inr f.0)
     call_finish OutputFull r m f = (rw f.0 (call_full m f.4 (rw f.1 (let e = room_needed-report form s r f.2 in omega (arith, f.3)))), inr f.0)
     call_finish (Malformed a b) r m f = (call_report f.0 r f.1 f.2 f.3, inl tt)
 
     -- the held-back scalar lacks its room
-    pub call_full_release : {source : List ℕ} → IsCovered s → may_hold s.grammar s.held ≡ true → rests s.grammar s.held ≡ false → free < release_room_in form s.grammar
+    pub call_full_release : {source : List ℕ} → IsCovered s → may_hold s.grammar s.held ≡ true → rests s.grammar s.held ≡ false
+        → free < release_room_in form s.grammar
         → DecoderCall form s source last free s OutputFull 0 []
     call_full_release {source} c m r lacks = call_full m c (omega (arith, lacks, room_needed-release form s source last r))
 
@@ -395,7 +399,8 @@ module _ {form : EncodingForm} {last : Bool} where
   module _ {before : DecoderState} {source : List ℕ} {free : ℕ} {now : DecoderState} {read : ℕ} {scalars : List ℕ}
       (a : Going form last before source free now read scalars) (left : ℕ) (room_is : left + total_unit_count form scalars ≡ free) where
     -- the next byte lacks its room
-    pub call_lacks : read < length source → IsCovered now → left < read_room form now (get_or source read 0) → DecoderCall form before source last free now OutputFull read scalars
+    pub call_lacks : read < length source → IsCovered now → left < read_room form now (get_or source read 0)
+        → DecoderCall form before source last free now OutputFull read scalars
     call_lacks h c lacks =
         let needs = room_needed-read form now (get_or source read 0) (drop (read + 1) source) last a.resting in
         call_here a room_is (call_full a.allowed c (rw (next_byte source read h) (omega (arith, lacks, needs)))) (inr refl)

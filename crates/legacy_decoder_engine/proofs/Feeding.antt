@@ -1,32 +1,26 @@
 -- A machine that agrees with its grammar and keeps its rooms makes the moves that the loop requires.
-use Rattle.std.proofs.Common.{◌≡◌, ◌≢◌, ◌∙◌, ℕ, suc, zero-add, add-zero, ◌+◌, ◌-◌, ◌≤◌, List, [], ◌∷◌, ◌++◌, length, drop, refl, sym, ap, subst, arith, append-nil, length-append, length-drop}
-use Rattle.std.proofs.Common.{drop_of_length-le, Bool, true, false, not, ◌&&◌, ◌||◌, ◌⊎◌, map, IsTrue, Option, Some, None, inl, inr, All}
-use Rattle.std.proofs.lemmas.List.{drop-append-le, nil_from_length}
-use Rattle.std.proofs.lemmas.List.Elements.{All-nil, All-cons}
-use Rattle.std.proofs.lemmas.Bool.{false≢true}
+use Rattle.std.proofs.Common.{◌≡◌, ◌≢◌, ◌∙◌, ℕ, suc, zero-add, add-zero, ◌+◌, ◌-◌, ◌≤◌, List, [], ◌∷◌, ◌++◌, length, drop, refl, sym, ap, subst, arith}
+use Rattle.std.proofs.Common.{append-nil, length-append, length-drop, drop_of_length-le, Bool, true, false, cond, not, ◌&&◌, ◌||◌, ◌⊎◌, map, IsTrue, Option}
+use Rattle.std.proofs.Common.{Some, None, inl, inr, All}
+use Rattle.std.proofs.{lemmas.List.drop-append-le, lemmas.List.nil_from_length, lemmas.List.Elements.All-nil, lemmas.List.Elements.All-cons}
+use Rattle.std.proofs.lemmas.Bool.Decides.{nat_tests}
 use Rattle.std.specs.Char.{IsScalar, is_ascii}
 use Rattle.legacy_text.specs.EncodingForm.{EncodingForm, Utf8, Utf16, code_units, unit_count, all_code_units, total_unit_count, bmp_room, wide_room}
 use Rattle.legacy_tables.specs.Unicode.{IsByte, AreBytes}
-use Rattle.legacy_base.specs.Fronts.{reads, malformed}
-use Rattle.legacy_base.specs.Events.{shift}
-use Rattle.legacy_base.specs.declared.results.DecodeEvent.TheVariants.{Scalar, Bad}
-use Rattle.legacy_base.specs.Grammar.{Grammar, events_of}
-use Rattle.legacy_base.specs.States.{DecoderState, rests, may_hold}
-use Rattle.legacy_base.specs.Calls.{IsLoneFault}
-use Rattle.legacy_base.specs.Acts.{has_short_ascii, has_reported, has_marks, is_mark_behind, full_room_in, release_room_in, HadRoom}
+use Rattle.legacy_base.specs.States.{DecoderState, rests, may_hold, state_of}
+use Rattle.legacy_base.specs.Acts.{act_room, takes, full_room, has_short_ascii, has_reported, has_marks, is_mark_behind, full_room_in, release_room_in, HadRoom}
 use Rattle.legacy_base.specs.Lengths.{LengthQuery, to_utf16, to_utf8, query_form, replacement_units, room}
-use Rattle.legacy_decoder_engine.specs.declared.moves.Fed.{Fed}
+use Rattle.legacy_base.specs.{Fronts.reads, Fronts.malformed, Events.shift, declared.results.DecodeEvent.TheVariants.Scalar}
+use Rattle.legacy_base.specs.{declared.results.DecodeEvent.TheVariants.Bad, Grammar.Grammar, Grammar.events_of, Calls.IsLoneFault}
 use Rattle.legacy_decoder_engine.specs.declared.moves.Fed.TheVariants.{Nothing, One, Two, Fault}
-use Rattle.legacy_decoder_engine.specs.Moves.{IsCovered, read_room, fed_scalars, fed_fault, fed_units, unread_byte, FedHolds, IsFaulty, Feeds, Releases, Reports}
-use Rattle.legacy_decoder_engine.specs.Steps.{Step, hold, finish, leave, step_held, step_length, step_unread, step_events, StepMeets, PendingMeets, end_events, DecoderMachine}
+use Rattle.legacy_decoder_engine.specs.Moves.{IsCovered, read_room, fed_scalars, fed_fault, fed_units, unread_byte, FedHolds, IsFaulty, Feeds, Releases}
+use Rattle.legacy_decoder_engine.specs.Moves.{Reports}
+use Rattle.legacy_decoder_engine.specs.Steps.{Step, hold, finish, leave, step_held, step_length, step_unread, step_events, StepMeets, PendingMeets, end_events}
+use Rattle.legacy_decoder_engine.specs.Steps.{DecoderMachine}
 use Rattle.legacy_decoder_engine.specs.Costs.{units, step_units, step_left}
-use Rattle.legacy_base.specs.States.{state_of}
-use Rattle.legacy_decoder_engine.specs.Settling.{IsOneOrMarked, Settles}
 use Rattle.legacy_decoder_engine.specs.Feeding.{fed_form, fed_of, HasScalars, Took}
-use Rattle.legacy_base.proofs.Rooms.{release-full}
-use Rattle.legacy_base.proofs.GrammarLaws.{may_none, rests-none}
-use Rattle.legacy_decoder_engine.specs.Shown.{IsShown}
-use Rattle.legacy_decoder_engine.proofs.ShortRooms.{short_or_usual}
+use Rattle.legacy_decoder_engine.specs.{declared.moves.Fed.Fed, Settling.IsOneOrMarked, Settling.Settles, Shown.IsShown}
+use Rattle.legacy_base.proofs.{Rooms.release-full, GrammarLaws.may_none, GrammarLaws.rests-none}
 use Rattle.legacy_decoder_engine.proofs.RoomMoves.{all_needs}
 
 -- ---- rooms of all three queries
@@ -36,7 +30,8 @@ pub units-total : (form : EncodingForm) (cs : List ℕ) → units (unit_count fo
 units-total form [] = refl
 units-total form (c ∷ cs) = let e = units-total form cs in omega (arith, length-append (code_units form c) (all_code_units form cs))
 
-fits_form : (form : EncodingForm) {g : Grammar} {m : DecoderMachine} → IsShown g m → (held : List ℕ) (b : ℕ) → may_hold g held ≡ true → rests g held ≡ true → AreBytes held → IsByte b →
+fits_form : (form : EncodingForm) {g : Grammar} {m : DecoderMachine} → IsShown g m → (held : List ℕ) (b : ℕ) → may_hold g held ≡ true → rests g held ≡ true
+    → AreBytes held → IsByte b →
     step_units (unit_count form) (bmp_room form) (m.step held b) ≤ read_room form (state_of g held) b
 fits_form Utf8 shown held b m r bytes byte = (shown.rooms to_utf8).step_fits held b m r bytes byte
 fits_form Utf16 shown held b m r bytes byte = (shown.rooms to_utf16).step_fits held b m r bytes byte
@@ -63,22 +58,37 @@ form_holds passed after cs h = h
 
 -- ---- the room that the scalars of a step had
 
+-- a byte needs less than the full room only if it is ASCII and nothing is held back; then it is its own scalar
+module _ (narrow wide : ℕ) {g : Grammar} {m : DecoderMachine} (shown : IsShown g m) (b : ℕ) (unreported : has_reported g ≡ false) where
+  abbrev IsShort : List ℕ → Type 0
+  IsShort held = ((has_short_ascii g && is_ascii b) ≡ true) × (m.step held b ≡ finish (reads 1 (b ∷ [])))
+
+  by_tests : (a s : Bool) → is_ascii b ≡ a → has_short_ascii g ≡ s
+      → (full_room narrow wide g ≤ cond ((a && true) && s) 1 (full_room narrow wide g)) ⊎ IsShort []
+  by_tests true true e f = inr (rw (e, f) refl, shown.ascii_first f b e)
+  by_tests true false e f = inl (omega arith)
+  by_tests false s e f = inl (omega arith)
+
+  short_or_usual : (held : List ℕ) → (full_room narrow wide g ≤ act_room narrow wide (state_of g held) (takes b)) ⊎ IsShort held
+  short_or_usual [] = rw unreported (by_tests (is_ascii b) (has_short_ascii g) refl refl)
+  short_or_usual (x ∷ held) = inl (rw unreported (grind (arith, nat_tests)))
+
 -- an ASCII scalar needs no more room if ASCII needs one code unit
 short_wants : (short marks mark : Bool) (want : ℕ) (free : ℕ) → short ≡ true → IsTrue (not (short || (marks && mark))) → want ≤ free
-short_wants true marks mark want free e w = absurd (false≢true w)
-short_wants false marks mark want free e w = absurd (false≢true e)
+short_wants short marks mark want free e w = grind (arith, nat_tests)
 
 mark_wants : (short : Bool) (both : Bool) (want free : ℕ) → both ≡ true → IsTrue (not (short || both)) → want ≤ free
-mark_wants true true want free e w = absurd (false≢true w)
-mark_wants false true want free e w = absurd (false≢true w)
-mark_wants short false want free e w = absurd (false≢true e)
+mark_wants short both want free e w = grind (arith, nat_tests)
 
-had_usual : (form : EncodingForm) (g : Grammar) (free : ℕ) (cs : List ℕ) → IsOneOrMarked (has_marks g) cs → full_room_in form g ≤ free → HadRoom form g None free cs
+had_usual : (form : EncodingForm) (g : Grammar) (free : ℕ) (cs : List ℕ) → IsOneOrMarked (has_marks g) cs → full_room_in form g ≤ free
+    → HadRoom form g None free cs
 unfolding HadRoom
 had_usual form g free [] h full = tt
 had_usual form g free (c ∷ []) h full = (λ w. full, tt)
-had_usual form g free (c ∷ d ∷ []) h full =
-    (λ w. full, (λ w. mark_wants (has_short_ascii g && is_ascii d) (has_marks g && is_mark_behind (Some c) d) (full_room_in form g) (free - unit_count form c) h w, tt))
+had_usual form g free (c ∷ d ∷ []) h full = (
+  λ w. full,
+  (λ w. mark_wants (has_short_ascii g && is_ascii d) (has_marks g && is_mark_behind (Some c) d) (full_room_in form g) (free - unit_count form c) h w, tt),
+)
 had_usual form g free (c ∷ d ∷ e ∷ cs) h full = absurd h
 
 had_short : (form : EncodingForm) (g : Grammar) (free b : ℕ) → (has_short_ascii g && is_ascii b) ≡ true → HadRoom form g None free (b ∷ [])
@@ -94,7 +104,7 @@ has_scalars (Fault sequence back unread) h = All-nil IsScalar
 reads_same : (m n : ℕ) (xs ys : List ℕ) → finish (reads m xs) ≡ finish (reads n ys) → xs ≡ ys
 reads_same m n xs ys e = cc
 
-all_dropped : (n : ℕ) (held : List ℕ) (b : ℕ) → n ≡ suc (length held) → drop n (held ++ b ∷ []) ≡ []
+pub all_dropped : (n : ℕ) (held : List ℕ) (b : ℕ) → n ≡ suc (length held) → drop n (held ++ b ∷ []) ≡ []
 all_dropped n held b e = drop_of_length-le (held ++ b ∷ []) (omega (arith, length-append held (b ∷ [])))
 
 module _ {g : Grammar} {m : DecoderMachine} (shown : IsShown g m) (held : List ℕ) (may : may_hold g held ≡ true) (bytes : AreBytes held) where
@@ -120,21 +130,24 @@ module _ {g : Grammar} {m : DecoderMachine} (shown : IsShown g m) (held : List �
     fits_step form s e = rw (← e) (fits_form form shown held b may resting bytes byte)
 
     pays_step : (query : LengthQuery) (n : ℕ) (s : Step) → m.step held b ≡ s →
-        room query (state_of (m.to held b) (step_held s held b)) (n + step_left s) + step_units (unit_count (query_form query)) (replacement_units query) s ≤ room query (state_of g held) (n + 1)
+        room query (state_of (m.to held b) (step_held s held b)) (n + step_left s) + step_units (unit_count (query_form query))
+        (replacement_units query) s ≤ room query (state_of g held) (n + 1)
     pays_step query n s e = rw (← e) ((shown.rooms query).step_pays held b n may resting bytes byte)
 
     -- there was full room before a step, unless the byte is its own scalar
-    usual_step : (form : EncodingForm) (s : Step) → m.step held b ≡ s → (s ≡ finish (reads 1 (b ∷ [])) → ⊥) → has_reported g ≡ false → full_room_in form g ≤ read_room form (state_of g held) b
-    usual_step form s e ne reported = elim (short_or_usual (bmp_room form) (wide_room form) g m shown held b reported) [
+    usual_step : (form : EncodingForm) (s : Step) → m.step held b ≡ s → (s ≡ finish (reads 1 (b ∷ [])) → ⊥) → has_reported g ≡ false
+        → full_room_in form g ≤ read_room form (state_of g held) b
+    usual_step form s e ne reported = elim (short_or_usual (bmp_room form) (wide_room form) shown b reported held) [
       | inl h ↦ h
       | inr h ↦ absurd (ne (sym e ∙ h.1))
     ]
 
-    had_form : (form : EncodingForm) (free n : ℕ) (cs : List ℕ) → m.step held b ≡ finish (reads n cs) → read_room form (state_of g held) b ≤ free → HadRoom form g None free cs
+    had_form : (form : EncodingForm) (free n : ℕ) (cs : List ℕ) → m.step held b ≡ finish (reads n cs) → read_room form (state_of g held) b ≤ free
+        → HadRoom form g None free cs
     unfolding HadRoom
     had_form form free n cs e le = elim (shown.swallows) [
       | inr r ↦ rw (reads_same n 1 cs [] (sym e ∙ r held b)) tt
-      | inl r ↦ elim (short_or_usual (bmp_room form) (wide_room form) g m shown held b r) [
+      | inl r ↦ elim (short_or_usual (bmp_room form) (wide_room form) shown b r held) [
         | inl h ↦ had_usual form g free cs (subst (λ m. IsOneOrMarked m cs) (shown.same_marks held b) (settled _ e).1) (omega (arith, h, le))
         | inr h ↦ rw (reads_same n 1 cs (b ∷ []) (sym e ∙ h.1)) (had_short form g free b h.0)
       ]
@@ -160,7 +173,8 @@ module _ {g : Grammar} {m : DecoderMachine} (shown : IsShown g m) (held : List �
     empties_is (finish (reads n cs)) h ne = all_dropped n held b h.0
     empties_is s h ne = absurd (ne refl)
 
-    full_is : (form : EncodingForm) (s : Step) → m.step held b ≡ s → IsFaulty (fed_of s held b) ⊎ (step_held s held b ≢ []) → full_room_in form g ≤ read_room form (state_of g held) b
+    full_is : (form : EncodingForm) (s : Step) → m.step held b ≡ s → IsFaulty (fed_of s held b) ⊎ (step_held s held b ≢ [])
+        → full_room_in form g ≤ read_room form (state_of g held) b
     full_is form (finish (reads n cs)) e x = elim x [
       | inl f ↦ absurd (form_sound cs f)
       | inr ne ↦ absurd (ne (all_dropped n held b (settled _ e).0))
@@ -170,20 +184,23 @@ module _ {g : Grammar} {m : DecoderMachine} (shown : IsShown g m) (held : List �
       | inr r ↦ absurd (let z : s ≡ finish (reads 1 []) = sym e ∙ r held b in cc)
     ]
 
-    had_is : (form : EncodingForm) (free : ℕ) (s : Step) → m.step held b ≡ s → read_room form (state_of g held) b ≤ free → HadRoom form g None free (fed_scalars (fed_of s held b))
+    had_is : (form : EncodingForm) (free : ℕ) (s : Step) → m.step held b ≡ s → read_room form (state_of g held) b ≤ free
+        → HadRoom form g None free (fed_scalars (fed_of s held b))
     unfolding HadRoom
     had_is form free (finish (reads n cs)) e le = rw (fed_scalars_are (has_marks to) cs (settled _ e).1) (had_form form free n cs e le)
     had_is form free s e le = tt
 
     -- any step at the byte is a move
-    step_feeds : (s : Step) → m.step held b ≡ s → All IsScalar (fed_scalars (fed_of s held b)) → Feeds (state_of g held) b (state_of to (step_held s held b)) (fed_of s held b)
+    step_feeds : (s : Step) → m.step held b ≡ s → All IsScalar (fed_scalars (fed_of s held b))
+        → Feeds (state_of g held) b (state_of to (step_held s held b)) (fed_of s held b)
     step_feeds (finish (reads n (c ∷ d ∷ x ∷ cs))) e scalar = absurd (settled _ e).1
     step_feeds s e scalar = record {
       passed = step_length s;
       progress = record {
         counts = omega (arith, (meets s e).counts);
         rest = rest_is s e;
-        events = λ more l. (meets s e).goes_on more ∙ ap (λ es. es ++ shift (step_length s) (events_of to (step_held s held b ++ step_unread s b more))) (out_is s (settled s e));
+        events = λ more l. (meets s e).goes_on more
+            ∙ ap (λ es. es ++ shift (step_length s) (events_of to (step_held s held b ++ step_unread s b more))) (out_is s (settled s e));
       };
       holds = holds_is s e;
       allowed = (meets s e).allowed;
@@ -240,9 +257,11 @@ module _ {g : Grammar} {m : DecoderMachine} (shown : IsShown g m) (held : List �
           holding = λ z. cc;
           progress = record {
             counts = omega arith;
-            rest = ap (drop (length (x ∷ xs))) (append-nil (x ∷ xs)) ∙ (let le : length (x ∷ xs) ≤ length (x ∷ xs) = omega arith in drop_of_length-le (x ∷ xs) le);
+            rest = ap (drop (length (x ∷ xs))) (append-nil (x ∷ xs))
+                ∙ (let le : length (x ∷ xs) ≤ length (x ∷ xs) = omega arith in drop_of_length-le (x ∷ xs) le);
             events = λ more l. elim (l refl) [
-              | inl z ↦ ap (λ q. events_of g ((x ∷ xs) ++ q)) z ∙ ap (events_of g) (append-nil (x ∷ xs)) ∙ shown.meets.ends (x ∷ xs) m r' ∙ rw (zero_place, z, none) refl
+              | inl z ↦ ap (λ q. events_of g ((x ∷ xs) ++ q)) z ∙ ap (events_of g) (append-nil (x ∷ xs)) ∙ shown.meets.ends (x ∷ xs) m r'
+                  ∙ rw (zero_place, z, none) refl
               | inr b ↦ let b' = rw zero_place at b in rw zero_place (shown.meets.reports (x ∷ xs) more m r' (omega arith) b')
             ];
           };

@@ -1,9 +1,10 @@
 -- The forms that are picked at their starts are the front of the block.
-use Rattle.std.proofs.Common.{◌≡◌, ◌∙◌, ℕ, zero, suc, ◌+◌, ◌-◌, ◌/◌, ◌%◌, ◌^◌, ◌<◌, ◌≤◌, ◌==◌, min, List, [], ◌∷◌, ◌++◌, Bool, true, false, cond, ltb, leb, length, map, take, get_or, replicate, w8, bit_and, bit_or, bit_xor, refl, sym, ap, subst, arith, append_assoc, append-nil}
+use Rattle.std.proofs.Common.{◌≡◌, ◌∙◌, ℕ, zero, suc, ◌+◌, ◌-◌, ◌/◌, ◌%◌, ◌^◌, ◌<◌, ◌≤◌, ◌==◌, min, List, [], ◌∷◌, ◌++◌, Bool, true, false, cond, ltb, leb}
+use Rattle.std.proofs.Common.{length, map, take, get_or, replicate, w8, bit_and, bit_or, bit_xor, refl, sym, ap, subst, arith, append_assoc, append-nil}
 use Rattle.std.proofs.lemmas.List.{take_more, length-take-le, get_or-map, length-map}
 use Rattle.std.proofs.lemmas.Nat.Bits.{bit_at_lowest, bit_at-suc, bit_at-lt, bit_at_and, bit_at_xor, bit_at_or, bit_at_ones}
 use Rattle.std.proofs.lemmas.Simd.{bit_mask_l, tops_compared, mask_l-mod, get_or-chunk}
-use Rattle.std.proofs.lemmas.Bool.{leb-true, leb-false, ltb-true, ltb-false}
+use Rattle.std.proofs.lemmas.Bool.Decides.{nat_tests}
 use Rattle.std.specs.Int.{bit_at}
 use lib.Lanes.{mask_l, zip2, top, chunk}
 use Rattle.legacy_decoder_engine.specs.PickedForms.{places, code_at, forms_of, ArePast, AreStarts, IsFront}
@@ -42,27 +43,25 @@ past_mask block long =
     ∙ mask_l-mod (map (λ b. leb 128 b) block) 64 (omega (arith, length-map block (λ b. leb 128 b), long))
 
 -- the bit of one byte
-pub past_bits : (block : List ℕ) (i : ℕ) → i < length block → ◌≡◌ {A = ℕ} (bit_at (mask_l (map (λ b. leb 128 b) block)) i) (cond (ltb (get_or block i 0) 128) 0 1)
+pub past_bits : (block : List ℕ) (i : ℕ) → i < length block
+    → ◌≡◌ {A = ℕ} (bit_at (mask_l (map (λ b. leb 128 b) block)) i) (cond (ltb (get_or block i 0) 128) 0 1)
 past_bits block i h =
     bit_mask_l (map (λ b. leb 128 b) block) i
     ∙ ap (λ t. cond t 1 0) (get_or-map (λ b. leb 128 b) block i 0 false h)
-    ∙ go (leb 128 (get_or block i 0)) (ltb (get_or block i 0) 128) refl refl
-  where
-    go : (s t : Bool) → leb 128 (get_or block i 0) ≡ s → ltb (get_or block i 0) 128 ≡ t → ◌≡◌ {A = ℕ} (cond s 1 0) (cond t 0 1)
-    go true true e f = absurd (omega (arith, leb-true _ _ e, ltb-true _ _ f))
-    go true false e f = refl
-    go false true e f = refl
-    go false false e f = absurd (omega (arith, leb-false _ _ e, ltb-false _ _ f))
+    ∙ grind (arith, nat_tests)
 
 -- ---- the forms from a place on
 
 one_byte : (block rest : List ℕ) (i : ℕ) → i < length block → take i block ++ (get_or block i 0 ∷ rest) ≡ take (i + 1) block ++ rest
 one_byte block rest i h = sym (append_assoc (take i block) (get_or block i 0 ∷ []) rest) ∙ ap (λ (l : List ℕ). l ++ rest) (sym (take_more block i 0 h))
 
-two_bytes : (block rest : List ℕ) (i : ℕ) → i + 1 < length block → take i block ++ (get_or block i 0 ∷ get_or block (i + 1) 0 ∷ rest) ≡ take (i + 2) block ++ rest
-two_bytes block rest i h = sym (append_assoc (take i block) (get_or block i 0 ∷ get_or block (i + 1) 0 ∷ []) rest) ∙ ap (λ (l : List ℕ). l ++ rest) (sym (take_two block i h))
+two_bytes : (block rest : List ℕ) (i : ℕ) → i + 1 < length block
+    → take i block ++ (get_or block i 0 ∷ get_or block (i + 1) 0 ∷ rest) ≡ take (i + 2) block ++ rest
+two_bytes block rest i h = sym (append_assoc (take i block) (get_or block i 0 ∷ get_or block (i + 1) 0 ∷ []) rest)
+    ∙ ap (λ (l : List ℕ). l ++ rest) (sym (take_two block i h))
 
-module _ (block : List ℕ) (past starts : ℕ) (long : 72 ≤ length block) (small : (j : ℕ) → get_or block j 0 < 256) (are_past : ArePast past block) (are : AreStarts past starts) where
+module _ (block : List ℕ) (past starts : ℕ) (long : 72 ≤ length block) (small : (j : ℕ) → get_or block j 0 < 256) (are_past : ArePast past block)
+    (are : AreStarts past starts) where
   shifted : (i y : ℕ) → ((k : ℕ) → bit_at y k ≡ bit_at starts (i + k)) → (k : ℕ) → bit_at (y / 2) k ≡ bit_at starts (i + 1 + k)
   shifted i y bits k = let e : i + suc k ≡ i + 1 + k = omega arith in sym (bit_at-suc y k) ∙ bits (suc k) ∙ ap (bit_at starts) e
 
@@ -86,7 +85,8 @@ module _ (block : List ℕ) (past starts : ℕ) (long : 72 ≤ length block) (sm
 
   -- a form that starts at byte i, and those after it
   first_of : (m i y : ℕ) → i + suc m ≡ 64 → ((k : ℕ) → bit_at y k ≡ bit_at starts (i + k)) → bit_at starts i ≡ 1 → (t : Bool) → ltb (get_or block i 0) 128 ≡ t
-      → ((c : Bool) → (0 < m → bit_at starts (i + 1) ≡ cond c 0 1) → IsFront (take (i + 1 + cond c 1 0) block ++ forms_of (map (code_at block) (places (i + 1) m (y / 2)))) block)
+      → ((c : Bool) → (0 < m → bit_at starts (i + 1) ≡ cond c 0 1)
+      → IsFront (take (i + 1 + cond c 1 0) block ++ forms_of (map (code_at block) (places (i + 1) m (y / 2)))) block)
       → IsFront (take (i + 0) block ++ forms_of (map (code_at block) (places i (suc m) y))) block
   unfolding places
   first_of m i y e bits is t is_ascii more =
@@ -99,13 +99,18 @@ module _ (block : List ℕ) (past starts : ℕ) (long : 72 ≤ length block) (sm
       ≡ take i block ++ (cond t (get_or block i 0 ∷ []) (get_or block i 0 ∷ get_or block (i + 1) 0 ∷ []) ++ forms_of (map (code_at block) rest)) =
       (λ s. take (z s) block ++ forms_of (map (code_at block) (cond (low s == 1) (i ∷ rest) rest)))
       ∙ (λ s. take i block ++ (cond (ltb (first s) 128) (first s ∷ []) (first s ∷ second s ∷ []) ++ forms_of (map (code_at block) rest)))
-      ∙ (λ s. take i block ++ (cond (is_ascii s) (get_or block i 0 ∷ []) (get_or block i 0 ∷ get_or block (i + 1) 0 ∷ []) ++ forms_of (map (code_at block) rest))) in
+      ∙ (λ s. take i block ++
+      (cond (is_ascii s) (get_or block i 0 ∷ []) (get_or block i 0 ∷ get_or block (i + 1) 0 ∷ []) ++ forms_of (map (code_at block) rest))) in
       let past : bit_at past i ≡ cond t 0 1 = are_past i (omega arith) ∙ ap (λ s. cond s 0 1) is_ascii in
       subst (λ l. IsFront l block) (sym same) (go t past more)
     where
       go : (t : Bool) → bit_at past i ≡ cond t 0 1
-          → ((c : Bool) → (0 < m → bit_at starts (i + 1) ≡ cond c 0 1) → IsFront (take (i + 1 + cond c 1 0) block ++ forms_of (map (code_at block) (places (i + 1) m (y / 2)))) block)
-          → IsFront (take i block ++ (cond t (get_or block i 0 ∷ []) (get_or block i 0 ∷ get_or block (i + 1) 0 ∷ []) ++ forms_of (map (code_at block) (places (i + 1) m (y / 2))))) block
+          → ((c : Bool) → (0 < m → bit_at starts (i + 1) ≡ cond c 0 1)
+          → IsFront (take (i + 1 + cond c 1 0) block ++ forms_of (map (code_at block) (places (i + 1) m (y / 2)))) block)
+          → IsFront
+          (take i block ++
+          (cond t (get_or block i 0 ∷ []) (get_or block i 0 ∷ get_or block (i + 1) 0 ∷ []) ++ forms_of
+          (map (code_at block) (places (i + 1) m (y / 2))))) block
       go true p more =
           let rest = forms_of (map (code_at block) (places (i + 1) m (y / 2))) in
           let k : i + 1 ≡ i + 1 + 0 = omega arith in
@@ -123,19 +128,16 @@ module _ (block : List ℕ) (past starts : ℕ) (long : 72 ≤ length block) (sm
   unfolding places
   fronts zero i y c e bits here =
       let k : ℕ = i + cond c 1 0 in
-      let l : length (take k block) ≡ k = length-take-le k block (most_of c) in
+      let l : length (take k block) ≡ k = length-take-le k block (grind (arith, nat_tests)) in
       ap (λ bytes. take (length bytes) block) (append-nil (take k block)) ∙ ap (λ m. take m block) l ∙ sym (append-nil (take k block))
-    where
-      most_of : (c : Bool) → i + cond c 1 0 ≤ length block
-      most_of true = omega arith
-      most_of false = omega arith
   fronts (suc m) i y true e bits here =
       let z : i + 0 ≡ i = omega arith in
       let is : bit_at starts i ≡ 0 = here (omega arith) in
       let low : y % 2 ≡ 0 = sym (bit_at_lowest y) ∙ bits 0 ∙ ap (bit_at starts) z ∙ is in
       let rest = places (i + 1) m (y / 2) in
       let k : i + 1 + 0 ≡ i + 1 = omega arith in
-      let same : take (i + 1) block ++ forms_of (map (code_at block) (cond (y % 2 == 1) (i ∷ rest) rest)) ≡ take (i + 1 + 0) block ++ forms_of (map (code_at block) rest) =
+      let same : take (i + 1) block ++ forms_of (map (code_at block) (cond (y % 2 == 1) (i ∷ rest) rest)) ≡ take (i + 1 + 0) block ++ forms_of
+      (map (code_at block) rest) =
       (λ t. take (sym k t) block ++ forms_of (map (code_at block) (cond (low t == 1) (i ∷ rest) rest))) in
       subst (λ l. IsFront l block) (sym same)
       (fronts m (i + 1) (y / 2) false (omega arith) (shifted i y bits) (λ h. starts_next i (omega arith) (omega (arith, is))))

@@ -1,19 +1,13 @@
 -- The front of a list gives the move of a decoder, for every continuation.
-use Rattle.std.proofs.Common.{◌≡◌, ℕ, suc, ◌+◌, ◌<◌, ◌≤◌, List, [], ◌∷◌, ◌++◌, drop, length, Bool, true, false, cond, ◌-◌, refl, sym, ap, ◌∙◌, append_assoc, length-append, length-drop}
-use Rattle.std.proofs.Common.{drop_of_length-le, le_refl, arith, subst}
-use Rattle.std.proofs.Math.Seq.{drop-length, drop-append_seam}
+use Rattle.std.proofs.Common.{◌≡◌, ℕ, suc, ◌+◌, ◌<◌, ◌≤◌, List, [], ◌∷◌, ◌++◌, drop, length, Bool, true, false, cond, ◌-◌, refl, sym, ap, ◌∙◌, append_assoc}
+use Rattle.std.proofs.Common.{length-append, length-drop, drop_of_length-le, le_refl, arith, subst}
+use Rattle.std.proofs.{Math.Seq.drop-length, Math.Seq.drop-append_seam, lemmas.List.drop-append-le}
 use Rattle.std.specs.Char.{is_ascii}
-use Rattle.std.proofs.lemmas.List.{drop-append-le}
-use Rattle.legacy_base.specs.declared.results.DecodeEvent.TheVariants.{Bad}
-use Rattle.legacy_base.specs.Beginnings.{BeginsWith}
-use Rattle.legacy_base.specs.Events.{shift}
 use Rattle.legacy_base.specs.Fronts.{Front, reads, malformed, front_length, front_events, reads_or, trail_rule, cut}
 use Rattle.legacy_base.specs.Grammar.{Grammar, events_of}
-use Rattle.legacy_base.specs.States.{may_hold}
+use Rattle.legacy_base.specs.{declared.results.DecodeEvent.TheVariants.Bad, Beginnings.BeginsWith, Events.shift, States.may_hold}
 use Rattle.legacy_decoder_engine.specs.Steps.{Step, hold, finish, leave, HasFaultLength, StepMeets, WriteMeets, end_events, ReportMeets, trail_step}
-use Rattle.legacy_base.proofs.Shifts.{shift-zero}
-use Rattle.legacy_base.proofs.Cuts.{cut-nil, cut-front}
-use Rattle.legacy_base.proofs.Beginnings.{no_sooner}
+use Rattle.legacy_base.proofs.{Shifts.shift-zero, Cuts.cut-nil, Cuts.cut-front, Beginnings.no_sooner}
 
 -- the list begins with the front
 abbrev pub HasFront : (ℕ → List ℕ → Front) → List ℕ → Front → Type 0
@@ -21,7 +15,8 @@ HasFront front [] f = ⊥
 HasFront front (b ∷ rest) f = front b rest ≡ f
 
 -- the events of the front, and then those of the bytes after it
-pub front_move : (front : ℕ → List ℕ → Front) (bytes behind : List ℕ) (f : Front) → HasFront front bytes f → 0 < front_length f → drop (front_length f) bytes ≡ behind →
+pub front_move : (front : ℕ → List ℕ → Front) (bytes behind : List ℕ) (f : Front) → HasFront front bytes f → 0 < front_length f
+    → drop (front_length f) bytes ≡ behind →
     cut front 0 0 bytes ≡ front_events 0 f ++ shift (front_length f) (cut front 0 0 behind)
 front_move front [] behind f h pos e = absurd h
 front_move front (b ∷ rest) behind f h pos e = rw (← e, ← h) (cut-front front b rest (rw h pos))
@@ -46,10 +41,12 @@ some_trail_rule n t some = go (is_ascii t)
     go false = omega arith
 
 -- if the events of a list begin with a malformed sequence of n bytes, its front is that sequence
-front_reported : (front : ℕ → List ℕ → Front) (b : ℕ) (rest : List ℕ) (n : ℕ) (f : Front) → front b rest ≡ f → 0 < front_length f → BeginsWith (cut front 0 0 (b ∷ rest)) (Bad 0 n ∷ []) →
+front_reported : (front : ℕ → List ℕ → Front) (b : ℕ) (rest : List ℕ) (n : ℕ) (f : Front) → front b rest ≡ f → 0 < front_length f
+    → BeginsWith (cut front 0 0 (b ∷ rest)) (Bad 0 n ∷ []) →
     f ≡ malformed n
 front_reported front b rest n (reads k []) e some g =
-    let all : shift k (cut front 0 0 (drop k (b ∷ rest))) ≡ Bad 0 n ∷ g.0 = sym (front_move front (b ∷ rest) (drop k (b ∷ rest)) (reads k []) e some refl) ∙ g.1 in
+    let all : shift k (cut front 0 0 (drop k (b ∷ rest))) ≡ Bad 0 n ∷ g.0 =
+    sym (front_move front (b ∷ rest) (drop k (b ∷ rest)) (reads k []) e some refl) ∙ g.1 in
     absurd (no_sooner k 0 n (cut front 0 0 (drop k (b ∷ rest))) g.0 some all)
 front_reported front b rest n (reads k (c ∷ scalars)) e some g =
     let all = sym (front_move front (b ∷ rest) (drop k (b ∷ rest)) (reads k (c ∷ scalars)) e some refl) ∙ g.1 in cc
@@ -85,7 +82,8 @@ module _ (g : Grammar) (front : ℕ → List ℕ → Front) (ev_is : (bytes : Li
       events_of g bytes ≡ front_events 0 f ++ shift (front_length f) (events_of g behind)
   ev_front bytes behind f h pos e = rw (ev_is bytes, ev_is behind) (front_move front bytes behind f h pos e)
 
-  pub fits_meets : (may : List ℕ → Bool) → ((held : List ℕ) → may_hold g held ≡ may held) → (held : List ℕ) (b : ℕ) (s : Step) → length held ≤ 3 → Fits front may held b s → StepMeets g held b s g
+  pub fits_meets : (may : List ℕ → Bool) → ((held : List ℕ) → may_hold g held ≡ may held) → (held : List ℕ) (b : ℕ) (s : Step) → length held ≤ 3
+      → Fits front may held b s → StepMeets g held b s g
   fits_meets may may_is held b hold few fits =
       let l : length (held ++ b ∷ []) ≡ length held + 1 = length-append held (b ∷ []) in record {
         goes_on = λ more. rw (append_assoc, shift-zero);
@@ -97,7 +95,8 @@ module _ (g : Grammar) (front : ℕ → List ℕ → Front) (ev_is : (bytes : Li
   fits_meets may may_is held b (finish f) few fits =
       let l : length (held ++ b ∷ []) ≡ suc (length held) = omega (arith, length-append held (b ∷ [])) in
       let within : front_length f ≤ length (held ++ b ∷ []) = rw l (fits.2) in
-      let d : length (drop (front_length f) (held ++ b ∷ [])) ≡ length (held ++ b ∷ []) - front_length f = length-drop (front_length f) (held ++ b ∷ []) in record {
+      let d : length (drop (front_length f) (held ++ b ∷ [])) ≡ length (held ++ b ∷ []) - front_length f =
+      length-drop (front_length f) (held ++ b ∷ []) in record {
         goes_on = λ more. ev_front (held ++ b ∷ more) _ f (fits.0 more) (fits.1)
             (ap (drop (front_length f)) (sym (append_assoc held (b ∷ []) more)) ∙ drop-append-le (front_length f) (held ++ b ∷ []) more within);
         counts = omega arith;
@@ -115,7 +114,8 @@ module _ (g : Grammar) (front : ℕ → List ℕ → Front) (ev_is : (bytes : Li
       }
 
   -- the held-back scalar is written whatever bytes follow
-  pub write_meets : (held : List ℕ) (n c : ℕ) → ((more : List ℕ) → HasFront front (held ++ more) (reads n (c ∷ []))) → 0 < n → n ≤ length held → may_hold g (drop n held) ≡ true → WriteMeets g held n c
+  pub write_meets : (held : List ℕ) (n c : ℕ) → ((more : List ℕ) → HasFront front (held ++ more) (reads n (c ∷ []))) → 0 < n → n ≤ length held
+      → may_hold g (drop n held) ≡ true → WriteMeets g held n c
   write_meets held n c has pos le may =
       let d : length (drop n held) ≡ length held - n = length-drop n held in record {
         goes_on = λ more. ev_front (held ++ more) _ (reads n (c ∷ [])) (has more) pos (drop-append-le n held more le);
@@ -135,5 +135,6 @@ module _ (g : Grammar) (front : ℕ → List ℕ → Front) (ev_is : (bytes : Li
   report_meets [] more some pos g = absurd (omega arith)
   report_meets (b ∷ held) more some pos g =
       let n = length (b ∷ held) in
-      let is = front_reported front b (held ++ more) n (front b (held ++ more)) refl (some b (held ++ more) refl) (subst (λ l. BeginsWith l (Bad 0 n ∷ [])) (ev_is (b ∷ (held ++ more))) g) in
+      let is = front_reported front b (held ++ more) n (front b (held ++ more)) refl (some b (held ++ more) refl)
+      (subst (λ l. BeginsWith l (Bad 0 n ∷ [])) (ev_is (b ∷ (held ++ more))) g) in
       ev_front (b ∷ (held ++ more)) more (malformed n) is (omega arith) (drop-append_seam (b ∷ held) more)

@@ -1,20 +1,16 @@
 -- Runs that are read one after another.
 use Rattle.std.proofs.Common.{◌≡◌, ◌∙◌, ℕ, ◌+◌, ◌-◌, ◌<◌, ◌≤◌, List, ◌++◌, length, take, drop, refl, sym, ap, subst, arith, inl, inr}
-use Rattle.std.proofs.lemmas.Bool.{cases_lt}
-use Rattle.std.proofs.lemmas.List.{take-take, length-take, length-drop}
-use Rattle.std.proofs.Math.Seq.{take-add}
-use Rattle.legacy_text.specs.declared.destination.Destination.{Ghosts}
-use Rattle.legacy_text.specs.EncodingForm.{total_unit_count}
-use Rattle.legacy_base.specs.Grammar.{Grammar}
-use Rattle.legacy_base.specs.States.{DecoderState, new_state}
+use Rattle.std.proofs.{lemmas.Bool.cases_lt, lemmas.List.take-take, lemmas.List.length-take, lemmas.List.length-drop, Math.Seq.take-add}
+use Rattle.legacy_text.specs.{declared.destination.Destination.Ghosts, EncodingForm.total_unit_count}
+use Rattle.legacy_base.specs.{Grammar.Grammar, States.DecoderState, States.new_state}
 use Rattle.legacy_decoder_engine.specs.Ahead.{IsIdle, Writes, WritesTo, ReadsTo, ReadsAhead}
-use Rattle.legacy_decoder_engine.proofs.AheadRuns.{reads_nothing, with_empty}
-use Rattle.legacy_decoder_engine.proofs.CallUnderWay.{same_rooms, both_rooms}
+use Rattle.legacy_decoder_engine.proofs.{AheadRuns.reads_nothing, AheadRuns.with_empty, CallUnderWay.same_rooms, CallUnderWay.both_rooms}
 use Rattle.legacy_decoder_engine.proofs.WrittenRuns.{writes_then}
 
 module _ {D : Type 0} {T : Ghosts D} {source : List ℕ} {old mid new : D} {r s : ℕ} where
   -- a run, and then a run after it
-  pub reads_then : {first next last : DecoderState} → ReadsTo T first next source r old mid → ReadsTo T next last (take (length source - r) (drop r source)) s mid new
+  pub reads_then : {first next last : DecoderState} → ReadsTo T first next source r old mid
+      → ReadsTo T next last (take (length source - r) (drop r source)) s mid new
       → ReadsTo T first last source (r + s) old new
   reads_then {first} {next} {last} a b =
       let n : ℕ = length source - r in
@@ -51,16 +47,19 @@ module _ {D : Type 0} {T : Ghosts D} {source : List ℕ} {old mid new : D} {r s 
       }
 
   -- the same in one state
-  pub reads_more : {state : DecoderState} → ReadsAhead T state source r old mid → ReadsAhead T state (take (length source - r) (drop r source)) s mid new → ReadsAhead T state source (r + s) old new
+  pub reads_more : {state : DecoderState} → ReadsAhead T state source r old mid → ReadsAhead T state (take (length source - r) (drop r source)) s mid new
+      → ReadsAhead T state source (r + s) old new
   reads_more a b = reads_then a b
 
 -- a decoder that holds nothing back reads as a new one
-pub reads_idle : {D : Type 0} {T : Ghosts D} {state : DecoderState} {source : List ℕ} {old new : D} {r : ℕ} → IsIdle state → ReadsAhead T (new_state state.grammar) source r old new
+pub reads_idle : {D : Type 0} {T : Ghosts D} {state : DecoderState} {source : List ℕ} {old new : D} {r : ℕ} → IsIdle state
+    → ReadsAhead T (new_state state.grammar) source r old new
     → ReadsAhead T state source r old new
 reads_idle {D} {T} {state} {source} {old} {new} {r} idle reads = subst (λ s. ReadsAhead T s source r old new) (sym (with_empty state idle.empty)) reads
 
 -- the bytes read and the scalars written, with the room left if there are any
-pub reads_front : {D : Type 0} {T : Ghosts D} {g : Grammar} {source : List ℕ} {old new : D} {r : ℕ} → r ≤ length source → Writes T g (take r source) old new → (0 < r → 3 ≤ T.room new)
+pub reads_front : {D : Type 0} {T : Ghosts D} {g : Grammar} {source : List ℕ} {old new : D} {r : ℕ} → r ≤ length source → Writes T g (take r source) old new
+    → (0 < r → 3 ≤ T.room new)
     → (0 < r → 4 ≤ T.room old)
     → ReadsAhead T (new_state g) source r old new
 reads_front {D} {T} {g} within writes slack had = record {
@@ -75,6 +74,7 @@ reads_front {D} {T} {g} within writes slack had = record {
 }
 
 -- the same with the room left
-pub reads_written : {D : Type 0} {T : Ghosts D} {g : Grammar} {source : List ℕ} {old new : D} {r : ℕ} → r ≤ length source → Writes T g (take r source) old new → 3 ≤ T.room new → 4 ≤ T.room old
+pub reads_written : {D : Type 0} {T : Ghosts D} {g : Grammar} {source : List ℕ} {old new : D} {r : ℕ} → r ≤ length source → Writes T g (take r source) old new
+    → 3 ≤ T.room new → 4 ≤ T.room old
     → ReadsAhead T (new_state g) source r old new
 reads_written within writes slack had = reads_front within writes (λ h. slack) (λ h. had)

@@ -1,50 +1,37 @@
 -- The units of eight codes, lane by lane, are the scalars of their forms.
-use Rattle.std.proofs.Common.{◌≡◌, ◌≢◌, ◌∙◌, ℕ, suc, ◌+◌, ◌-◌, ◌*◌, ◌/◌, ◌%◌, ◌^◌, ◌<◌, ◌≤◌, ◌||◌, min, Bool, true, false, cond, ltb, leb, List, [], ◌∷◌, ◌++◌, length, get_or, map, take, drop, replicate, bit_and, bit_or, refl, sym, ap, subst, arith, w16, Fits, length-append, ◌⊎◌, inl, inr}
-use Rattle.std.proofs.lemmas.Bool.{ltb-true, ltb-false, leb-true, cases_lt}
-use Rattle.std.proofs.lemmas.Nat.{and_mask}
-use Rattle.std.proofs.lemmas.List.{flat_map_more, take_more, take-take, take-append-drop, length-take-le, length-drop, length-map, get_or-take, get_or-drop, get_or-map}
-use Rattle.std.proofs.lemmas.List.Sums.{sum_by-cons}
-use Rattle.std.proofs.lemmas.Grind.{flat_map-append}
-use Rattle.std.proofs.Math.Seq.{take-append_seam, take-add}
-use Rattle.std.proofs.lemmas.Simd.{tops_compared, length-zip2, get_or-zip2, get_or-sel_l, get_or-replicate, bitmask_splat, ones-mask_l, length-chunk, get_or-chunk, get_or-put_chunk_below, get_or-put_chunk_at}
-use Rattle.std.specs.Char.{IsScalar}
-use Rattle.std.specs.List.{count_by}
-use Rattle.std.specs.Int.RustNames.{count_ones}
+use Rattle.std.proofs.Common.{◌≡◌, ◌≢◌, ◌∙◌, ℕ, suc, ◌+◌, ◌-◌, ◌*◌, ◌/◌, ◌%◌, ◌^◌, ◌<◌, ◌≤◌, ◌||◌, min, Bool, true, false, cond, ltb, leb, List, [], ◌∷◌, ◌++◌}
+use Rattle.std.proofs.Common.{length, get_or, map, take, drop, replicate, bit_and, bit_or, refl, sym, ap, subst, arith, w16, Fits, length-append, ◌⊎◌, inl, inr}
+use Rattle.std.proofs.lemmas.List.{flat_map_more, take_more, take-take, take-append-drop, length-take-le, length-drop, length-map, get_or-take, get_or-drop}
+use Rattle.std.proofs.lemmas.List.{get_or-map}
+use Rattle.std.proofs.lemmas.Simd.{tops_compared, length-zip2, get_or-zip2, get_or-sel_l, get_or-replicate, bitmask_splat, ones-mask_l, length-chunk}
+use Rattle.std.proofs.lemmas.Simd.{get_or-chunk, get_or-put_chunk_below, get_or-put_chunk_at}
+use Rattle.std.proofs.{lemmas.Bool.ltb-true, lemmas.Bool.ltb-false, lemmas.Bool.cases_lt, lemmas.Bool.Decides.nat_tests, lemmas.Nat.and_mask}
+use Rattle.std.proofs.{lemmas.List.Sums.sum_by-cons, lemmas.Grind.flat_map-append, Math.Seq.take-append_seam, Math.Seq.take-add}
+use Rattle.std.specs.{Char.IsScalar, List.count_by, Int.RustNames.count_ones}
 use lib.Lanes.{Each1, zip2, sel_l, top, mask_l, chunk, put_chunk}
 use Rattle.legacy_text.proofs.UnitLanes.{of_eight}
 use Rattle.legacy_base.specs.Grammar.{Grammar}
-use Rattle.legacy_decoder_engine.specs.Ahead.{HasAscii, Runs}
 use Rattle.legacy_decoder_engine.specs.LaneCodes.{kept_of, place_of, unit_at, ArePairs, IsLane, IsForm}
-use Rattle.legacy_decoder_engine.specs.PickedForms.{form_of, forms_of, IsFront}
-use Rattle.legacy_decoder_engine.proofs.WrittenRuns.{runs_none, runs_more}
+use Rattle.legacy_decoder_engine.specs.{Ahead.HasAscii, Ahead.Runs, PickedForms.form_of, PickedForms.forms_of, PickedForms.IsFront}
+use Rattle.legacy_decoder_engine.proofs.{LanePlaces.mask_if, WrittenRuns.runs_none, WrittenRuns.runs_more}
 
 -- ---- one lane
 
-abbrev mask_if : Bool → ℕ
-mask_if t = cond t (2 ^ 16 - 1) 0
-
 module _ (pointer : ℕ → ℕ) (last : ℕ) where
-  kept_is : (c : ℕ) → c < 65536 → cond (top 15 (bit_or (mask_if (ltb (bit_and c 255) 128)) (mask_if (leb (pointer c) last)))) (bit_and c 255) 0 ≡ kept_of pointer last c
-  kept_is c small = ap (λ l. cond (top 15 (bit_or (mask_if (ltb l 128)) (mask_if (leb (pointer c) last)))) l 0) (and_mask c 8) ∙ go (ltb (c % 256) 128) (leb (pointer c) last)
-    where
-      go : (s t : Bool) → cond (top 15 (bit_or (mask_if s) (mask_if t))) (c % 256) 0 ≡ cond (s || t) (c % 256) 0
-      go true true = refl
-      go true false = refl
-      go false true = refl
-      go false false = refl
+  kept_is : (c : ℕ) → c < 65536
+      → cond (top 15 (bit_or (mask_if (ltb (bit_and c 255) 128)) (mask_if (leb (pointer c) last)))) (bit_and c 255) 0 ≡ kept_of pointer last c
+  kept_is c small = let low = and_mask c 8 in rw low (grind (arith, nat_tests))
 
   least : (a : ℕ) → cond (top 15 (mask_if (ltb a last))) a last ≡ min a last
-  least a = go (ltb a last) refl
-    where
-      go : (t : Bool) → ltb a last ≡ t → cond (top 15 (mask_if t)) a last ≡ min a last
-      go true e = omega (arith, ltb-true _ _ e)
-      go false e = omega (arith, ltb-false _ _ e)
+  least a = grind (arith, nat_tests)
 
   -- ---- eight
 
   abbrev pub vector_kept : List ℕ → List ℕ → List ℕ
   vector_kept v ps =
-      sel_l (map (top 15) (zip2 bit_or (zip2 (λ a b. mask_if (ltb a b)) (zip2 bit_and v (replicate 8 255)) (replicate 8 128)) (zip2 (λ a b. mask_if (leb a b)) ps (replicate 8 last))))
+      sel_l (map (top 15)
+      (zip2 bit_or (zip2 (λ a b. mask_if (ltb a b)) (zip2 bit_and v (replicate 8 255)) (replicate 8 128))
+      (zip2 (λ a b. mask_if (leb a b)) ps (replicate 8 last))))
       (zip2 bit_and v (replicate 8 255)) (replicate 8 0)
 
   pub kept_are : (v : List ℕ) → length v ≡ 8 → Each1 (Fits w16) v → vector_kept v (map pointer v) ≡ map (kept_of pointer last) v
@@ -58,7 +45,8 @@ module _ (pointer : ℕ → ℕ) (last : ℕ) where
   pub places_are : (v : List ℕ) → length v ≡ 8 → Each1 (Fits w16) v → vector_place (map pointer v) ≡ map (place_of pointer last) v
   places_are =
       of_eight (λ v. vector_place (map pointer v) ≡ map (place_of pointer last) v) (λ a b c d e f g h sa sb sc sd se sf sg sh t.
-      least (pointer a) t ∷ least (pointer b) t ∷ least (pointer c) t ∷ least (pointer d) t ∷ least (pointer e) t ∷ least (pointer f) t ∷ least (pointer g) t ∷ least (pointer h) t ∷ [])
+      least (pointer a) t ∷ least (pointer b) t ∷ least (pointer c) t ∷ least (pointer d) t ∷ least (pointer e) t ∷ least (pointer f) t ∷ least
+      (pointer g) t ∷ least (pointer h) t ∷ [])
 
 pub chosen_at : (ks es : List ℕ) → length ks ≡ 8 → length es ≡ 8 → (k : ℕ) → k < 8
     → get_or (sel_l (map (top 15) (zip2 (λ a b. mask_if (ltb a b)) ks (replicate 8 128))) ks es) k 0 ≡ unit_at (get_or ks k 0) (get_or es k 0)
@@ -66,15 +54,12 @@ chosen_at ks es m n k h =
     let long : length (zip2 ltb ks (replicate 8 128)) ≡ 8 = length-zip2 ltb ks (replicate 8 128) m ∙ m in
     ap (λ ms. get_or (sel_l ms ks es) k 0) (tops_compared w16 ltb ks (replicate 8 128))
     ∙ get_or-sel_l (zip2 ltb ks (replicate 8 128)) ks es k 0 (omega (arith, long)) (omega (arith, m)) (omega (arith, n))
-    ∙ ap (λ t. cond t (get_or ks k 0) (get_or es k 0)) (get_or-zip2 ltb ks (replicate 8 128) k 0 0 false (omega (arith, m)) h ∙ ap (ltb (get_or ks k 0)) (get_or-replicate 8 k 128 0 h))
+    ∙ ap (λ t. cond t (get_or ks k 0) (get_or es k 0))
+    (get_or-zip2 ltb ks (replicate 8 128) k 0 0 false (omega (arith, m)) h ∙ ap (ltb (get_or ks k 0)) (get_or-replicate 8 k 128 0 h))
 
 -- a unit has at most 16 bits if both values that it is chosen from have
 pub unit_small : (kept entry : ℕ) → kept < 65536 → entry < 65536 → unit_at kept entry < 65536
-unit_small kept entry low low' = go (ltb kept 128)
-  where
-    go : (t : Bool) → cond t kept entry < 65536
-    go true = low
-    go false = low'
+unit_small kept entry low low' = grind (arith, nat_tests)
 
 -- an entry of the first n entries from a place on
 pub get_from : (at n : ℕ) (xs : List ℕ) (k : ℕ) → k < n → get_or (take n (drop at xs)) k 0 ≡ get_or xs (at + k) 0
@@ -82,18 +67,13 @@ get_from at n xs k h = get_or-take n (drop at xs) k 0 h ∙ get_or-drop at xs k 
 
 -- what is kept of a code, and the place of its entry
 pub lane_is : (pointer : ℕ → ℕ) (last code : ℕ) → IsLane pointer code (kept_of pointer last code) (place_of pointer last code)
-lane_is pointer last code = go (ltb (code % 256) 128) (leb (pointer code) last) refl refl
-  where
-    go : (s t : Bool) → ltb (code % 256) 128 ≡ s → leb (pointer code) last ≡ t → IsLane pointer code (cond (s || t) (code % 256) 0) (min (pointer code) last)
-    go true true e f = record { first = λ some. refl; place_is = λ h. absurd (omega (arith, h, ltb-true _ _ e)) }
-    go true false e f = record { first = λ some. refl; place_is = λ h. absurd (omega (arith, h, ltb-true _ _ e)) }
-    go false true e f = record { first = λ some. refl; place_is = λ h. omega (arith, leb-true _ _ f) }
-    go false false e f = record { first = λ some. absurd (some refl); place_is = λ h. absurd (omega (arith, h)) }
+lane_is pointer last code = record { first = λ some. grind (arith, nat_tests); place_is = λ h. grind (arith, nat_tests) }
 
 -- ---- the units of forms
 
 module _ (g : Grammar) (ascii : HasAscii g) (entries : List ℕ) (pointer : ℕ → ℕ) (pairs : ArePairs g entries pointer) where
-  pub is_form : (code kept place entry unit : ℕ) → code < 65536 → unit < 65536 → IsLane pointer code kept place → place < length entries → (entry ≢ 0 → entry ≡ get_or entries place 0)
+  pub is_form : (code kept place entry unit : ℕ) → code < 65536 → unit < 65536 → IsLane pointer code kept place → place < length entries
+      → (entry ≢ 0 → entry ≡ get_or entries place 0)
       → unit ≡ unit_at kept entry → unit ≢ 0 → IsForm g code kept unit
   is_form code kept place entry unit small narrow lane within looked_up is some = go (ltb kept 128) refl is
     where
@@ -122,7 +102,8 @@ module _ (g : Grammar) (ascii : HasAscii g) (entries : List ℕ) (pointer : ℕ 
           }
 
 module _ (g : Grammar) where
-  pub forms_all : (cs ks us : List ℕ) → length cs ≡ length us → length ks ≡ length us → ((k : ℕ) → k < length us → IsForm g (get_or cs k 0) (get_or ks k 0) (get_or us k 0))
+  pub forms_all : (cs ks us : List ℕ) → length cs ≡ length us → length ks ≡ length us
+      → ((k : ℕ) → k < length us → IsForm g (get_or cs k 0) (get_or ks k 0) (get_or us k 0))
       → Runs g (forms_of cs) us × (length (forms_of cs) + count_by (λ k. ltb k 128) ks ≡ 2 * length cs)
   forms_all [] [] [] e f each = (runs_none g, refl)
   forms_all (c ∷ cs) us [] e f each = absurd (omega arith)
@@ -139,7 +120,8 @@ module _ (g : Grammar) where
 
   -- eight codes at a place, of which no unit is 0
   pub eight_forms : (codes kept units : List ℕ) (at : ℕ) → at + 8 ≤ length codes → length kept ≡ 8 → length units ≡ 8
-      → ((k : ℕ) → k < 8 → get_or units k 0 ≢ 0 → IsForm g (get_or codes (at + k) 0) (get_or kept k 0) (get_or units k 0)) → ((k : ℕ) → k < 8 → get_or units k 0 ≢ 0)
+      → ((k : ℕ) → k < 8 → get_or units k 0 ≢ 0 → IsForm g (get_or codes (at + k) 0) (get_or kept k 0) (get_or units k 0))
+      → ((k : ℕ) → k < 8 → get_or units k 0 ≢ 0)
       → Runs g (forms_of (take 8 (drop at codes))) units × (length (forms_of (take 8 (drop at codes))) + count_by (λ k. ltb k 128) kept ≡ 16)
   eight_forms codes kept units at room n m forms some =
       let long : length (take 8 (drop at codes)) ≡ 8 = length-take-le 8 (drop at codes) (omega (arith, length-drop at codes)) in
@@ -150,7 +132,8 @@ module _ (g : Grammar) where
       lane k h = rw (get_from at 8 codes k h) (forms k h (some k h))
 
 -- one form more
-pub form_more : (count : ℕ) (codes : List ℕ) → count < length codes → forms_of (take count codes) ++ form_of (get_or codes count 0) ≡ forms_of (take (count + 1) codes)
+pub form_more : (count : ℕ) (codes : List ℕ) → count < length codes
+    → forms_of (take count codes) ++ form_of (get_or codes count 0) ≡ forms_of (take (count + 1) codes)
 form_more count codes within = flat_map_more form_of [] (take count codes) (get_or codes count 0) ∙ ap forms_of (sym (take_more codes count 0 within))
 
 -- ---- the front of a block
@@ -167,20 +150,18 @@ forms_split n codes = sym (flat_map-append form_of (take n codes) (drop n codes)
 pub front_part : (n count : ℕ) (codes block : List ℕ) → n ≤ count → IsFront (forms_of (take count codes)) block → IsFront (forms_of (take n codes)) block
 front_part n count codes block most front =
     subst (λ xs. IsFront (forms_of xs) block) (take-take n count codes most)
-    (front_of (forms_of (take n (take count codes))) (forms_of (drop n (take count codes))) block (subst (λ l. IsFront l block) (sym (forms_split n (take count codes))) front))
+    (front_of (forms_of (take n (take count codes))) (forms_of (drop n (take count codes))) block
+    (subst (λ l. IsFront l block) (sym (forms_split n (take count codes))) front))
 
 -- ---- how many lanes are ASCII
 
 count_most : (p : ℕ → Bool) (xs : List ℕ) → count_by p xs ≤ length xs
 count_most p [] = omega arith
-count_most p (x ∷ xs) = let n = sum_by-cons (λ y. cond (p y) 1 0) x xs in go (p x) (omega (arith, n)) (count_most p xs)
-  where
-    go : (t : Bool) → count_by p (x ∷ xs) ≡ cond t 1 0 + count_by p xs → count_by p xs ≤ length xs → count_by p (x ∷ xs) ≤ suc (length xs)
-    go true e most = omega arith
-    go false e most = omega arith
+count_most p (x ∷ xs) = let n = sum_by-cons (λ y. cond (p y) 1 0) x xs in let most = count_most p xs in grind (arith, nat_tests)
 
 pub ascii_lanes : (ks : List ℕ) → length ks ≡ 8
-    → (count_ones (mask_l (map (top 15) (zip2 (λ a b. mask_if (ltb a b)) ks (replicate 8 128))) % 2 ^ 64) ≡ count_by (λ k. ltb k 128) ks) × (count_by (λ k. ltb k 128) ks ≤ 8)
+    → (count_ones (mask_l (map (top 15) (zip2 (λ a b. mask_if (ltb a b)) ks (replicate 8 128))) % 2 ^ 64) ≡ count_by (λ k. ltb k 128) ks)
+    × (count_by (λ k. ltb k 128) ks ≤ 8)
 ascii_lanes ks long = (
   ap count_ones (bitmask_splat w16 ltb ks 8 128 long (omega arith)) ∙ ones-mask_l (λ k. ltb k 128) ks,
   omega (arith, count_most (λ k. ltb k 128) ks, long),
@@ -189,8 +170,10 @@ ascii_lanes ks long = (
 -- ---- groups of eight that are stored
 
 -- eight more entries, each a function of the code at its place
-pub next_eight_stored : (f : ℕ → ℕ) (group : ℕ) (codes old found : List ℕ) → found ≡ map f (chunk (8 * group) 8 codes) → 8 * (group + 1) ≤ length codes → 8 * (group + 1) ≤ length old
-    → ((k : ℕ) → k < 8 * group → get_or old k 0 ≡ f (get_or codes k 0)) → (k : ℕ) → k < 8 * (group + 1) → get_or (put_chunk (8 * group) old found) k 0 ≡ f (get_or codes k 0)
+pub next_eight_stored : (f : ℕ → ℕ) (group : ℕ) (codes old found : List ℕ) → found ≡ map f (chunk (8 * group) 8 codes) → 8 * (group + 1) ≤ length codes
+    → 8 * (group + 1) ≤ length old
+    → ((k : ℕ) → k < 8 * group → get_or old k 0 ≡ f (get_or codes k 0)) → (k : ℕ) → k < 8 * (group + 1)
+    → get_or (put_chunk (8 * group) old found) k 0 ≡ f (get_or codes k 0)
 next_eight_stored f group codes old found is room room' before k h = go (cases_lt k (8 * group))
   where
     go : (k < 8 * group) ⊎ (8 * group ≤ k) → get_or (put_chunk (8 * group) old found) k 0 ≡ f (get_or codes k 0)

@@ -2,23 +2,14 @@
 use Rattle.std.proofs.Common.{◌≡◌, ◌≢◌, ◌∙◌, ℕ, List, [], ◌∷◌, Bool, Option, Some, None, is_some, ◌&&◌, true, false, refl}
 use Rattle.std.proofs.lemmas.List.Elements.{All-nil, All-cons}
 use Rattle.std.specs.Char.{IsScalar}
-use Rattle.legacy_tables.specs.Unicode.{IsByte, AreBytes}
-use Rattle.legacy_tables.specs.AcceptedTables.{AcceptedIndexes}
-use Rattle.legacy_tables.specs.Indexes.{FlatIndexes}
-use Rattle.legacy_base.specs.Grammar.{Grammar, events_of}
+use Rattle.legacy_tables.specs.{Unicode.IsByte, Unicode.AreBytes, AcceptedTables.AcceptedIndexes, Indexes.FlatIndexes}
 use Rattle.legacy_base.specs.States.{may_hold, single_lead_may_hold, is_empty}
-use Rattle.legacy_base.specs.Calls.{IsLoneFault}
-use Rattle.legacy_decoder_engine.specs.declared.moves.Fed.{Fed}
-use Rattle.legacy_decoder_engine.specs.Steps.{Step, finish}
-use Rattle.legacy_decoder_engine.specs.Moves.{IsCovered, Feeds, Reports}
-use Rattle.legacy_decoder_engine.specs.LeadMachines.{two_byte_step, two_byte_machine}
-use Rattle.legacy_decoder_engine.specs.Shown.{IsShown}
-use Rattle.legacy_decoder_engine.specs.Feeding.{Took}
-use Rattle.legacy_base.specs.Fronts.{malformed}
-use Rattle.legacy_decoder_engine.specs.Ahead.{Runs, HasAscii, IsIdle}
-use Rattle.legacy_decoder_engine.specs.LeadCodecs.{IsLeadCodec, held_bytes, lead_state}
-use Rattle.legacy_decoder_engine.proofs.Feeding as feeding
+use Rattle.legacy_base.specs.{Grammar.Grammar, Grammar.events_of, Calls.IsLoneFault, Fronts.malformed}
+use Rattle.legacy_decoder_engine.specs.{declared.moves.Fed.Fed, Steps.Step, Steps.finish, Moves.IsCovered, Moves.Feeds, Moves.Reports}
+use Rattle.legacy_decoder_engine.specs.{LeadMachines.two_byte_step, LeadMachines.two_byte_machine, Shown.IsShown, Feeding.Took, Ahead.Runs, Ahead.HasAscii}
+use Rattle.legacy_decoder_engine.specs.{Ahead.IsIdle, LeadCodecs.IsLeadCodec, LeadCodecs.held_bytes, LeadCodecs.lead_state}
 use Rattle.legacy_decoder_engine.proofs.RunForms.{has_ascii, pair_runs, ascii_is}
+use Rattle.legacy_decoder_engine.proofs.Feeding as feeding
 
 -- a neutral decoder holds nothing back
 pub neutral_empty : (bytes : List ℕ) → (is_empty bytes && true) ≡ true → bytes ≡ []
@@ -69,19 +60,25 @@ module _ {L : Type 0} {grammar : FlatIndexes → Grammar} {is_lead_byte : ℕ �
   covered held = feeding.covered shown (held_bytes byte held) (may held) (are_bytes held)
 
   pub feeds : (held : Option L) (b : ℕ) → IsByte b →
-      (fed : Fed) (kept : Option L) → Took (two_byte_step first (scalars tables.flat) (held_bytes byte held) b) (held_bytes byte held) b fed (held_bytes byte kept) →
+      (fed : Fed) (kept : Option L)
+      → Took (two_byte_step first (scalars tables.flat) (held_bytes byte held) b) (held_bytes byte held) b fed (held_bytes byte kept) →
       Feeds (lead_state grammar byte tables held) b (lead_state grammar byte tables kept) fed
   feeds held b is_byte fed kept took =
-      feeding.feeds shown (held_bytes byte held) (may held) (are_bytes held) b is_byte (is.rests_is tables.flat (held_bytes byte held)) fed (held_bytes byte kept) took
+      feeding.feeds shown (held_bytes byte held) (may held) (are_bytes held) b is_byte (is.rests_is tables.flat (held_bytes byte held)) fed
+      (held_bytes byte kept) took
 
   pub ends_none : (held : Option L) → is_some held ≡ false → events_of (grammar tables.flat) (held_bytes byte held) ≡ []
-  ends_none held e = feeding.ends_none shown (held_bytes byte held) (may held) (are_bytes held) (is.rests_is tables.flat (held_bytes byte held)) (none_held held e)
+  ends_none held e =
+      feeding.ends_none shown (held_bytes byte held) (may held) (are_bytes held) (is.rests_is tables.flat (held_bytes byte held)) (none_held held e)
 
   pub ends_some : (held : Option L) → is_some held ≡ true → events_of (grammar tables.flat) (held_bytes byte held) ≢ []
-  ends_some held e = feeding.ends_some shown (held_bytes byte held) (may held) (are_bytes held) (is.rests_is tables.flat (held_bytes byte held)) (some_held held e)
+  ends_some held e =
+      feeding.ends_some shown (held_bytes byte held) (may held) (are_bytes held) (is.rests_is tables.flat (held_bytes byte held)) (some_held held e)
 
   pub reports : (lead : L) → Reports (lead_state grammar byte tables (Some lead)) (lead_state grammar byte tables None) 1 0
-  reports lead = feeding.reports_all shown (held_bytes byte (Some lead)) (may (Some lead)) (are_bytes (Some lead)) (is.rests_is tables.flat (held_bytes byte (Some lead))) (some_held (Some lead) refl)
+  reports lead =
+      feeding.reports_all shown (held_bytes byte (Some lead)) (may (Some lead)) (are_bytes (Some lead)) (is.rests_is tables.flat (held_bytes byte (Some lead)))
+      (some_held (Some lead) refl)
 
   pub lone : (b : ℕ) → first b ≡ finish (malformed 1) → IsLoneFault (lead_state grammar byte tables None) b
   lone b e = feeding.lone shown b e refl

@@ -1,7 +1,6 @@
 -- How the moves of each machine follow from its grammar, and calls from the moves.
 pub mod CallUnderWay
 pub mod AheadRuns
-pub mod ShortRooms
 pub mod Feeding
 pub mod FrontMoves
 pub mod WrittenRuns
@@ -21,4 +20,3 @@ pub mod Picking
 pub mod LaneUnits
 pub mod LanePlaces
 pub mod FormStarts
-pub mod SplitLanes

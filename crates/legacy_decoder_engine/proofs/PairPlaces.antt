@@ -1,11 +1,9 @@
 -- The entries of a table of places, and the entry of an index at the sum of the places of a lead and a trail.
 use Rattle.std.proofs.Common.{◌≡◌, ◌∙◌, ℕ, ◌+◌, ◌≤◌, ◌<◌, List, [], ◌∷◌, length, get_or, Bool, true, false, cond, Some, None, refl, sym, ap, arith}
-use Rattle.std.proofs.lemmas.List.{get_or_past}
-use Rattle.std.proofs.lemmas.List.FromFn.{get_or-map-range_with_len}
+use Rattle.std.proofs.{lemmas.Bool.Decides.nat_tests, lemmas.List.get_or_past, lemmas.List.FromFn.get_or-map-range_with_len}
 use Rattle.std.specs.Prelude.{option_to_list}
 use Rattle.legacy_tables.specs.Indexes.{idx, entry_scalar}
-use Rattle.legacy_decoder_engine.specs.Places.{IsTableOf, lead_place}
-use Rattle.legacy_decoder_engine.specs.declared.places.TheConstants.{ROWS_OF_190}
+use Rattle.legacy_decoder_engine.specs.{Places.IsTableOf, Places.lead_place, declared.places.TheConstants.ROWS_OF_190}
 
 pub read : (table : List ℕ) (place : ℕ → ℕ) → IsTableOf place table → (b : ℕ) → b < 256 → get_or table b 0 ≡ place b
 read table place is b h = ap (λ t. get_or t b 0) is ∙ get_or-map-range_with_len place 0 256 b b 0 h (omega arith)
@@ -24,15 +22,9 @@ none_past index short p h = ap option_to_list (idx_past index p (omega arith))
 
 -- a scalar is found only after a lead
 pub found : (t : Bool) (scalars : List ℕ) (c : ℕ) → c ∷ [] ≡ cond t scalars [] → (t ≡ true) × (scalars ≡ c ∷ [])
-found true scalars c e = (refl, sym e)
-found false scalars c e = cc
+found t scalars c e = (grind (arith, nat_tests), grind (arith, nat_tests))
 
 -- the entry at the sum of the places, by whether there is a lead and by the range of the other byte
 pub pair_entry : (scalars : ℕ → List ℕ) → ((p : ℕ) → 65535 ≤ p → scalars p ≡ []) → (l a b : Bool) (base low high : ℕ) →
     scalars (cond l base 65535 + cond a low (cond b high 65535)) ≡ cond l (cond a (scalars (base + low)) (cond b (scalars (base + high)) [])) []
-pair_entry scalars none true true b base low high = refl
-pair_entry scalars none true false true base low high = refl
-pair_entry scalars none true false false base low high = none (base + 65535) (omega arith)
-pair_entry scalars none false true b base low high = none (65535 + low) (omega arith)
-pair_entry scalars none false false true base low high = none (65535 + high) (omega arith)
-pair_entry scalars none false false false base low high = none (65535 + 65535) (omega arith)
+pair_entry scalars none l a b base low high = grind (arith, nat_tests)

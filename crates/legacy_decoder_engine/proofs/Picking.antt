@@ -1,37 +1,20 @@
 -- Codes of two bytes at places, by a shuffle from a table.
-use Rattle.std.proofs.Common.{◌≡◌, ℕ, zero, suc, ◌+◌, ◌*◌, ◌/◌, ◌%◌, ◌<◌, ◌≤◌, Bool, true, false, cond, leb, eqb, List, [], ◌∷◌, ◌++◌, length, get_or, map, take, replicate, refl, sym, ap, ap₂, ◌∙◌, arith, w8, Fits, ◌-◌, ◌^◌, ◌==◌, drop}
+use Rattle.std.proofs.Common.{◌≡◌, ℕ, zero, suc, ◌+◌, ◌*◌, ◌/◌, ◌%◌, ◌<◌, ◌≤◌, Bool, true, false, cond, leb, eqb, List, [], ◌∷◌, ◌++◌, length, get_or, map}
+use Rattle.std.proofs.Common.{take, replicate, refl, sym, ap, ap₂, ◌∙◌, arith, w8, Fits, ◌-◌, ◌^◌, ◌==◌, drop, inl, inr}
 use Rattle.std.proofs.lemmas.Bool.{ltb-true, leb-true, eqb-true, lt-leb, and_parts, agree_below_at, cases_lt}
-use Rattle.std.proofs.Common.{inl, inr}
 use Rattle.std.proofs.lemmas.List.{take-take, take-map, get_or_past, length-take-le, take-append-le, map-append, append_assoc, append-nil}
-use Rattle.std.proofs.Math.Seq.{take-append_seam, take-append-add}
 use Rattle.std.proofs.lemmas.Simd.{swz_l, Each1-get_or, below_from_Fits, get_or-chunk, put_chunk_is}
-use Rattle.std.specs.List.{range_with_len}
-use Rattle.std.specs.Int.RustNames.{count_ones}
+use Rattle.std.proofs.{lemmas.Bool.Decides.nat_tests, lemmas.Grind.common_steps, Math.Seq.take-append_seam, Math.Seq.take-append-add}
+use Rattle.std.specs.{List.range_with_len, Int.RustNames.count_ones}
 use lib.Lanes.{Each1, number_l, digits_l, all_below, chunk, put_chunk}
 use lib.Pow.{field, mod-mod-pow, shr-shr}
-use Rattle.legacy_decoder_engine.specs.declared.pick_rows.TheConstants.{PICKED}
 use Rattle.legacy_decoder_engine.specs.PickedForms.{places, pairs, row, code_at}
+use Rattle.legacy_decoder_engine.specs.declared.pick_rows.TheConstants.{PICKED}
 
 abbrev pub eight_places : ℕ → List ℕ
 eight_places x = take 8 (places 0 8 x ++ replicate 8 0)
 
 -- ---- the table
-
-rows_within : (x : ℕ) → x < 256 → all_below 16 (row x) ≡ true
-unfolding row places
-rows_within x h = agree_below_at (λ n. all_below 16 (row n)) (λ _. true) 256 x refl h
-
-rows_long : (x : ℕ) → x < 256 → eqb (length (row x)) 16 ≡ true
-unfolding row places
-rows_long x h = agree_below_at (λ n. eqb (length (row n)) 16) (λ _. true) 256 x refl h
-
-all_eight : (x : ℕ) → x < 256 → eqb (length (eight_places x)) 8 ≡ true
-unfolding places
-all_eight x h = agree_below_at (λ n. eqb (length (eight_places n)) 8) (λ _. true) 256 x refl h
-
-all_most : (x : ℕ) → x < 256 → leb (length (places 0 8 x)) 8 ≡ true
-unfolding places
-all_most x h = agree_below_at (λ n. leb (length (places 0 8 n)) 8) (λ _. true) 256 x refl h
 
 pub rows_are : PICKED ≡ map row (range_with_len 0 256)
 unfolding row places
@@ -42,16 +25,20 @@ each_below n [] e = tt
 each_below n (j ∷ js) e = let p = and_parts _ _ e in (ltb-true _ _ p.0, each_below n js p.1)
 
 pub row_within : (x : ℕ) → x < 256 → Each1 (λ j. j < 16) (row x)
-row_within x h = each_below 16 (row x) (rows_within x h)
+unfolding row places
+row_within x h = each_below 16 (row x) (agree_below_at (λ n. all_below 16 (row n)) (λ _. true) 256 x refl h)
 
 pub row_long : (x : ℕ) → x < 256 → length (row x) ≡ 16
-row_long x h = eqb-true _ _ (rows_long x h)
+unfolding row places
+row_long x h = eqb-true (length (row x)) 16 (agree_below_at (λ n. eqb (length (row n)) 16) (λ _. true) 256 x refl h)
 
 eight_long : (x : ℕ) → x < 256 → length (eight_places x) ≡ 8
-eight_long x h = eqb-true _ _ (all_eight x h)
+unfolding places
+eight_long x h = eqb-true (length (eight_places x)) 8 (agree_below_at (λ n. eqb (length (eight_places n)) 8) (λ _. true) 256 x refl h)
 
-pub places_most : (x : ℕ) → x < 256 → length (places 0 8 x) ≤ 8
-places_most x h = leb-true _ _ (all_most x h)
+places_most : (x : ℕ) → x < 256 → length (places 0 8 x) ≤ 8
+unfolding places
+places_most x h = leb-true (length (places 0 8 x)) 8 (agree_below_at (λ n. leb (length (places 0 8 n)) 8) (λ _. true) 256 x refl h)
 
 -- ---- a shuffle of sixteen bytes by places within them
 
@@ -65,7 +52,8 @@ shuffled xs i (j ∷ js) room s =
 
 -- ---- two bytes as one lane
 
-codes : (xs : List ℕ) (small : (j : ℕ) → get_or xs j 0 < 256) (ps : List ℕ) → digits_l 65536 (length ps) (number_l 256 (map (λ j. get_or xs j 0) (pairs ps))) ≡ map (code_at xs) ps
+codes : (xs : List ℕ) (small : (j : ℕ) → get_or xs j 0 < 256) (ps : List ℕ)
+    → digits_l 65536 (length ps) (number_l 256 (map (λ j. get_or xs j 0) (pairs ps))) ≡ map (code_at xs) ps
 codes xs small [] = refl
 codes xs small (p ∷ ps) =
     let n = number_l 256 (map (λ j. get_or xs j 0) (pairs ps)) in
@@ -81,7 +69,8 @@ below_256 v fits i = elim (cases_lt i (length v)) [
   | inr l ↦ omega (arith, get_or_past v i 0 l)
 ]
 
-all_codes : (xs : List ℕ) → Each1 (Fits w8) xs → (x : ℕ) → x < 256 → digits_l 65536 8 (number_l 256 (swz_l w8 16 xs 0 (row x))) ≡ map (code_at xs) (eight_places x)
+all_codes : (xs : List ℕ) → Each1 (Fits w8) xs → (x : ℕ) → x < 256
+    → digits_l 65536 8 (number_l 256 (swz_l w8 16 xs 0 (row x))) ≡ map (code_at xs) (eight_places x)
 unfolding row
 all_codes xs fits x h =
     ap (λ l. digits_l 65536 8 (number_l 256 l)) (shuffled xs 0 (row x) (omega (arith, row_long x h)) (row_within x h))
@@ -97,12 +86,9 @@ codes_picked xs fits x h =
 
 -- ---- eight places of a block
 
-all_counted : (x : ℕ) → x < 256 → eqb (count_ones x) (length (places 0 8 x)) ≡ true
+counted : (x : ℕ) → x < 256 → count_ones x ≡ length (places 0 8 x)
 unfolding places count_ones
-all_counted x h = agree_below_at (λ n. eqb (count_ones n) (length (places 0 8 n))) (λ _. true) 256 x refl h
-
-pub counted : (x : ℕ) → x < 256 → count_ones x ≡ length (places 0 8 x)
-counted x h = eqb-true _ _ (all_counted x h)
+counted x h = eqb-true (count_ones x) (length (places 0 8 x)) (agree_below_at (λ n. eqb (count_ones n) (length (places 0 8 n))) (λ _. true) 256 x refl h)
 
 moved : (bs : List ℕ) (from base n x : ℕ) → base + n < 16 → map (code_at (chunk from 16 bs)) (places base n x) ≡ map (code_at bs) (places (from + base) n x)
 unfolding places
@@ -110,18 +96,12 @@ moved bs from base zero x h = refl
 moved bs from base (suc n) x h =
     let place : from + (base + 1) ≡ from + base + 1 = omega arith in
     let first : get_or (chunk from 16 bs) base 0 ≡ get_or bs (from + base) 0 = get_or-chunk from 16 bs base 0 (omega arith) in
-    let second : get_or (chunk from 16 bs) (base + 1) 0 ≡ get_or bs (from + base + 1) 0 = get_or-chunk from 16 bs (base + 1) 0 (omega arith) ∙ ap (λ k. get_or bs k 0) place in
+    let second : get_or (chunk from 16 bs) (base + 1) 0 ≡ get_or bs (from + base + 1) 0 =
+    get_or-chunk from 16 bs (base + 1) 0 (omega arith) ∙ ap (λ k. get_or bs k 0) place in
     let here : code_at (chunk from 16 bs) base ≡ code_at bs (from + base) = ap₂ (λ x y. x + 256 * y) first second in
     let rest : map (code_at (chunk from 16 bs)) (places (base + 1) n (x / 2)) ≡ map (code_at bs) (places (from + base + 1) n (x / 2)) =
     moved bs from (base + 1) n (x / 2) (omega arith) ∙ ap (λ k. map (code_at bs) (places k n (x / 2))) place in
-    go (x % 2 == 1) here rest
-  where
-    go : (t : Bool) → code_at (chunk from 16 bs) base ≡ code_at bs (from + base)
-        → map (code_at (chunk from 16 bs)) (places (base + 1) n (x / 2)) ≡ map (code_at bs) (places (from + base + 1) n (x / 2))
-        → map (code_at (chunk from 16 bs)) (cond t (base ∷ places (base + 1) n (x / 2)) (places (base + 1) n (x / 2)))
-        ≡ map (code_at bs) (cond t ((from + base) ∷ places (from + base + 1) n (x / 2)) (places (from + base + 1) n (x / 2)))
-    go true e r = ap₂ (λ (y : ℕ) (l : List ℕ). y ∷ l) e r
-    go false e r = r
+    grind (arith, nat_tests, common_steps)
 
 -- codes that are stored at a place of a list
 pub codes_stored : (block : List ℕ) (from x : ℕ) (all found : List ℕ) (at : ℕ) → x < 256 → length found ≡ 8 → at + 8 ≤ length all
@@ -137,7 +117,8 @@ codes_stored block from x all found at small long room e =
     ∙ ap (λ k. take k (take at all ++ (found ++ behind))) place
     ∙ take-append-add (take at all) (found ++ behind) n
     ∙ ap (λ (l : List ℕ). take at all ++ l)
-    (take-append-le n found behind (omega (arith, places_most x small)) ∙ e ∙ moved block from 0 8 x (omega arith) ∙ ap (λ k. map (code_at block) (places k 8 x)) zero_in)
+    (take-append-le n found behind (omega (arith, places_most x small)) ∙ e ∙ moved block from 0 8 x (omega arith)
+    ∙ ap (λ k. map (code_at block) (places k 8 x)) zero_in)
 
 -- ---- places of a word eight by eight
 
@@ -164,13 +145,7 @@ split_places b (suc k) m x =
     let j : 1 + k ≡ suc k = omega arith in
     let q : x / 2 / 2 ^ k ≡ x / 2 ^ suc k = shr-shr x 1 k ∙ ap (λ i. x / 2 ^ i) j in
     let rest = split_places (b + 1) k m (x / 2) ∙ (λ t. places (b + 1) k (x / 2) ++ places (p t) m (q t)) in
-    ap (λ i. places b i x) n ∙ go (x % 2 == 1) rest
-  where
-    go : (t : Bool) → places (b + 1) (k + m) (x / 2) ≡ places (b + 1) k (x / 2) ++ places (b + suc k) m (x / 2 ^ suc k)
-        → cond t (b ∷ places (b + 1) (k + m) (x / 2)) (places (b + 1) (k + m) (x / 2))
-        ≡ cond t (b ∷ places (b + 1) k (x / 2)) (places (b + 1) k (x / 2)) ++ places (b + suc k) m (x / 2 ^ suc k)
-    go true e = ap (λ (l : List ℕ). b ∷ l) e
-    go false e = e
+    ap (λ i. places b i x) n ∙ rw rest (grind (arith, nat_tests, common_steps))
 
 -- one turn of the loop: eight more places
 pub next_eight : (f : ℕ → ℕ) (g x count count_next : ℕ) (codes_before codes_after : List ℕ) (all : List ℕ) → g < 8
@@ -181,7 +156,8 @@ next_eight f g x count count_next before after all h e s =
     let m = 64 - 8 * (g + 1) in
     let n : 64 - 8 * g ≡ 8 + m = omega arith in
     let p : 8 * g + 8 ≡ 8 * (g + 1) = omega arith in
-    e ∙ ap (λ (l : List ℕ). take count before ++ map f l) (ap (λ k. places (8 * g) k x) n ∙ split_places (8 * g) 8 m x ∙ ap (λ k. places (8 * g) 8 x ++ places k m (x / 256)) p)
+    e ∙ ap (λ (l : List ℕ). take count before ++ map f l)
+    (ap (λ k. places (8 * g) k x) n ∙ split_places (8 * g) 8 m x ∙ ap (λ k. places (8 * g) 8 x ++ places k m (x / 256)) p)
     ∙ ap (λ (l : List ℕ). take count before ++ l) (map-append f (places (8 * g) 8 x) (places (8 * (g + 1)) m (x / 256)))
     ∙ sym (append_assoc (take count before) (map f (places (8 * g) 8 x)) (map f (places (8 * (g + 1)) m (x / 256))))
     ∙ ap (λ (l : List ℕ). l ++ map f (places (8 * (g + 1)) m (x / 256)))

@@ -1,40 +1,34 @@
 -- From the code units that a decoder's steps write to the lengths that its queries return.
 use Rattle.std.proofs.Common.{◌≡◌, ℕ, ◌+◌, ◌*◌, ◌<◌, ◌≤◌, List, [], ◌∷◌, length, Bool, true, false, cond, Some, refl, sym, ◌∙◌, ◌&&◌, mul-add, arith}
-use Rattle.std.proofs.lemmas.Bool.{false≢true}
+use Rattle.std.proofs.{lemmas.Bool.false≢true, lemmas.Bool.Decides.nat_tests, Math.Nat.mul-le-mul_left}
 use Rattle.legacy_tables.specs.Unicode.{IsByte, AreBytes}
 use Rattle.legacy_base.specs.Grammar.{Grammar, profile}
-use Rattle.legacy_base.specs.States.{DecoderState, may_hold, rests, is_empty}
-use Rattle.legacy_base.specs.Acts.{takes, writes, reports, act_at_end, act_at_rest, act_room, room_of_act, need, has_reported, has_short_ascii, full_room, reading_room}
-use Rattle.legacy_base.specs.Acts.{full_room_in, release_room_in}
-use Rattle.legacy_text.specs.EncodingForm.{unit_count, bmp_room, wide_room}
+use Rattle.legacy_base.specs.States.{DecoderState, may_hold, rests, is_empty, state_of}
+use Rattle.legacy_base.specs.Acts.{takes, writes, reports, act_at_end, act_at_rest, act_room, room_of_act, need, has_reported, has_short_ascii, full_room}
+use Rattle.legacy_base.specs.Acts.{reading_room, full_room_in, release_room_in}
 use Rattle.legacy_base.specs.Lengths.{LengthQuery, to_utf16, to_utf8, to_utf8_without_replacement, query_form, replacement_units, room}
 use Rattle.legacy_base.specs.Profile.{Rooms, narrow_acts, wide_reads, wide_acts}
+use Rattle.legacy_text.specs.EncodingForm.{unit_count, bmp_room, wide_room}
 use Rattle.legacy_base.proofs.Enough.{room-rises}
-use Rattle.std.proofs.Math.Nat.{mul-le-mul_left}
 use Rattle.std.specs.Char.{is_ascii}
 use Rattle.legacy_decoder_engine.specs.Steps.{Step, step_held, end_events, DecoderMachine, Meets}
 use Rattle.legacy_decoder_engine.specs.Costs.{step_units, step_left, IsWidth, Cost, WritePays}
-use Rattle.legacy_base.specs.States.{state_of}
 use Rattle.legacy_decoder_engine.specs.Shown.{KeepsRooms}
 use Rattle.legacy_decoder_engine.proofs.Widths.{width_of}
 
 -- ---- tests
 
 pub first_room : (t : Bool) (x y : ℕ) → cond ((t && true) && true) x y ≡ cond t x y
-first_room true x y = refl
-first_room false x y = refl
+first_room t x y = grind (arith, nat_tests)
 
 pub held_room_is : (t u : Bool) (x y : ℕ) → cond ((t && false) && u) x y ≡ y
-held_room_is true u x y = refl
-held_room_is false u x y = refl
+held_room_is t u x y = grind (arith, nat_tests)
 
 pub no_short_room : (t : Bool) (x y : ℕ) → cond (t && false) x y ≡ y
-no_short_room true x y = refl
-no_short_room false x y = refl
+no_short_room t x y = grind (arith, nat_tests)
 
 pub cond_most : (t : Bool) (x y z : ℕ) → x ≤ z → y ≤ z → cond t x y ≤ z
-cond_most true x y z h k = h
-cond_most false x y z h k = k
+cond_most t x y z h k = grind (arith, nat_tests)
 
 -- ---- the next act
 
@@ -55,11 +49,13 @@ all_needs narrow wide room g m meets empty held may take write unread last = go 
     some_held [] r = absurd (false≢true (sym r ∙ empty))
     some_held (b ∷ held') r = omega arith
 
-    at_rest : rests g held ≡ true → (unread : List ℕ) → room_of_act narrow wide (state_of g held) (act_at_rest (state_of g held) unread last) ≤ room (length unread)
+    at_rest : rests g held ≡ true → (unread : List ℕ)
+        → room_of_act narrow wide (state_of g held) (act_at_rest (state_of g held) unread last) ≤ room (length unread)
     at_rest r (b ∷ unread) = take b (length (b ∷ unread)) (omega arith)
     at_rest r [] = rw (meets.ends held may r) (at_end held (λ h. write 0 h) last)
 
-    go : (t : Bool) → rests g held ≡ t → room_of_act narrow wide (state_of g held) (cond t (act_at_rest (state_of g held) unread last) (Some writes)) ≤ room (length unread)
+    go : (t : Bool) → rests g held ≡ t
+        → room_of_act narrow wide (state_of g held) (cond t (act_at_rest (state_of g held) unread last) (Some writes)) ≤ room (length unread)
     go true r = at_rest r unread
     go false r = write (length unread) (some_held held r)
 
@@ -67,7 +63,8 @@ all_needs narrow wide room g m meets empty held may take write unread last = go 
 
 -- each byte less lowers the room by at least half of `slope`
 abbrev pub Falls : (DecoderState → ℕ → ℕ) → Grammar → (List ℕ → ℕ) → ℕ → Type 0
-Falls room g wt slope = (held held' : List ℕ) (n n' u : ℕ) → 2 * u + slope * (n' + wt held') ≤ slope * (n + wt held) → room (state_of g held') n' + u ≤ room (state_of g held) n
+Falls room g wt slope = (held held' : List ℕ) (n n' u : ℕ) → 2 * u + slope * (n' + wt held') ≤ slope * (n + wt held)
+    → room (state_of g held') n' + u ≤ room (state_of g held) n
 
 -- the same with n more bytes on both sides
 more_bytes : (slope x y n u : ℕ) → 2 * u + slope * x ≤ slope * y → 2 * u + slope * (n + x) ≤ slope * (n + y)
@@ -88,7 +85,8 @@ sloped_pays room g wt slope sloped held held' left n u h =
 -- the code units that a codec's steps write, in either encoding form
 pub record HasCosts (g : Grammar) (m : DecoderMachine) (wt : List ℕ → ℕ) (slope : ℕ) : Type 0 where
   pub to_is : (held : List ℕ) (b : ℕ) → m.to held b ≡ g
-  pub cost : (len : ℕ → ℕ) (narrow wide : ℕ) → IsWidth len narrow wide → (held : List ℕ) (b : ℕ) → may_hold g held ≡ true → rests g held ≡ true → AreBytes held → IsByte b →
+  pub cost : (len : ℕ → ℕ) (narrow wide : ℕ) → IsWidth len narrow wide → (held : List ℕ) (b : ℕ) → may_hold g held ≡ true → rests g held ≡ true
+      → AreBytes held → IsByte b →
       Cost len narrow (act_room narrow wide (state_of g held) (takes b)) wt slope held b (m.step held b)
 
 -- twice the code units by which each byte less lowers the room
@@ -106,24 +104,30 @@ pub record IsSloped (g : Grammar) (m : DecoderMachine) (wt : List ℕ → ℕ) (
   pub writes : (query : LengthQuery) (held : List ℕ) → may_hold g held ≡ true → rests g held ≡ false → AreBytes held →
       WritePays (unit_count (query_form query)) (bmp_room (query_form query)) (wide_room (query_form query)) (room query) g held (m.pending held)
   pub reads : (query : LengthQuery) (held : List ℕ) → full_room_in (query_form query) g ≤ room query (state_of g held) 1
-  pub holds : (query : LengthQuery) (b : ℕ) (held : List ℕ) → may_hold g (b ∷ held) ≡ true → release_room_in (query_form query) g ≤ room query (state_of g (b ∷ held)) 0
+  pub holds : (query : LengthQuery) (b : ℕ) (held : List ℕ) → may_hold g (b ∷ held) ≡ true
+      → release_room_in (query_form query) g ≤ room query (state_of g (b ∷ held)) 0
 
 -- the amount by which a step lowers the room
-paid_of : (query : LengthQuery) (wt : List ℕ → ℕ) (paid at_most : ℕ) (held : List ℕ) (b : ℕ) (s : Step) → Cost (unit_count (query_form query)) (bmp_room (query_form query)) at_most wt paid held b s →
-    2 * step_units (unit_count (query_form query)) (replacement_units query) s + query_slope paid query * (wt (step_held s held b) + step_left s) ≤ query_slope paid query * (wt held + 1)
+paid_of : (query : LengthQuery) (wt : List ℕ → ℕ) (paid at_most : ℕ) (held : List ℕ) (b : ℕ) (s : Step)
+    → Cost (unit_count (query_form query)) (bmp_room (query_form query)) at_most wt paid held b s →
+    2 * step_units (unit_count (query_form query)) (replacement_units query) s + query_slope paid query *
+    (wt (step_held s held b) + step_left s) ≤ query_slope paid query * (wt held + 1)
 paid_of to_utf16 wt paid at_most held b s c = let p = c.pays in omega arith
 paid_of to_utf8 wt paid at_most held b s c = let p = c.pays in omega arith
 paid_of to_utf8_without_replacement wt paid at_most held b s c = c.pays_without
 
 -- a byte pays for a malformed sequence
-fault_paid : (query : LengthQuery) (paid x y : ℕ) → x + 1 ≤ y → 2 * replacement_units query + query_slope paid query * (0 + x) ≤ query_slope paid query * (0 + y)
+fault_paid : (query : LengthQuery) (paid x y : ℕ) → x + 1 ≤ y
+    → 2 * replacement_units query + query_slope paid query * (0 + x) ≤ query_slope paid query * (0 + y)
 fault_paid to_utf16 paid x y h = omega arith
 fault_paid to_utf8 paid x y h = omega arith
-fault_paid to_utf8_without_replacement paid x y h = let le : 0 + x ≤ 0 + y = omega arith in let m : paid * (0 + x) ≤ paid * (0 + y) = mul-le-mul_left paid le in omega arith
+fault_paid to_utf8_without_replacement paid x y h = let le : 0 + x ≤ 0 + y = omega arith in
+    let m : paid * (0 + x) ≤ paid * (0 + y) = mul-le-mul_left paid le in omega arith
 
 -- ---- the room of an act, in any codec
 
-read_most : (narrow wide : ℕ) → 1 ≤ narrow → narrow ≤ wide → (g : Grammar) (held : List ℕ) (b : ℕ) → act_room narrow wide (state_of g held) (takes b) ≤ full_room narrow wide g
+read_most : (narrow wide : ℕ) → 1 ≤ narrow → narrow ≤ wide → (g : Grammar) (held : List ℕ) (b : ℕ)
+    → act_room narrow wide (state_of g held) (takes b) ≤ full_room narrow wide g
 read_most narrow wide some rises g held b = by_tests (has_reported g) ((is_ascii b && is_empty held) && has_short_ascii g)
   where
     by_rooms : (r : Rooms) → 1 ≤ reading_room narrow wide r
@@ -148,18 +152,21 @@ narrow_read narrow wide rises g = by_rooms (profile g).rooms
     by_rooms wide_acts = (rises, omega arith)
 
 -- the rooms of a codec that fall by slopes
-module _ (g : Grammar) (m : DecoderMachine) (wt : List ℕ → ℕ) (paid : ℕ) (meets : Meets g m) (costs : HasCosts g m wt paid) (is : IsSloped g m wt paid) (query : LengthQuery) where
+module _ (g : Grammar) (m : DecoderMachine) (wt : List ℕ → ℕ) (paid : ℕ) (meets : Meets g m) (costs : HasCosts g m wt paid) (is : IsSloped g m wt paid)
+    (query : LengthQuery) where
   w : IsWidth (unit_count (query_form query)) (bmp_room (query_form query)) (wide_room (query_form query))
   w = width_of (query_form query)
 
-  takes_covered : (held : List ℕ) (b n : ℕ) → 0 < n → act_room (bmp_room (query_form query)) (wide_room (query_form query)) (state_of g held) (takes b) ≤ room query (state_of g held) n
+  takes_covered : (held : List ℕ) (b n : ℕ) → 0 < n
+      → act_room (bmp_room (query_form query)) (wide_room (query_form query)) (state_of g held) (takes b) ≤ room query (state_of g held) n
   takes_covered held b n p =
       let most = read_most (bmp_room (query_form query)) (wide_room (query_form query)) w.some w.rises g held b in
       let least = is.reads query held in
       let rises : room query (state_of g held) 1 ≤ room query (state_of g held) n = room-rises query (state_of g held) 1 n (omega arith) in
       omega arith
 
-  holds_covered : (held : List ℕ) → may_hold g held ≡ true → (n : ℕ) → 0 < length held → act_room (bmp_room (query_form query)) (wide_room (query_form query)) (state_of g held) writes ≤
+  holds_covered : (held : List ℕ) → may_hold g held ≡ true → (n : ℕ) → 0 < length held
+      → act_room (bmp_room (query_form query)) (wide_room (query_form query)) (state_of g held) writes ≤
       room query (state_of g held) n
   holds_covered [] h n p = absurd (omega arith)
   holds_covered (b ∷ held) h n p =
@@ -169,7 +176,9 @@ module _ (g : Grammar) (m : DecoderMachine) (wt : List ℕ → ℕ) (paid : ℕ)
 
   pub sloped_rooms : KeepsRooms query g m
   sloped_rooms = record {
-    step_fits = λ held b h r bytes byte. (costs.cost (unit_count (query_form query)) (bmp_room (query_form query)) (wide_room (query_form query)) w held b h r bytes byte).fits;
+    step_fits =
+        λ held b h r bytes byte.
+        (costs.cost (unit_count (query_form query)) (bmp_room (query_form query)) (wide_room (query_form query)) w held b h r bytes byte).fits;
     step_pays = λ held b n h r bytes byte. rw (costs.to_is held b)
         (sloped_pays (room query) g wt (query_slope paid query) (is.falls query) held (step_held (m.step held b) held b) (step_left (m.step held b)) n
         (step_units (unit_count (query_form query)) (replacement_units query) (m.step held b))

@@ -1,21 +1,15 @@
 -- The sequences of a machine as runs, which a loop may read ahead.
-use Rattle.std.proofs.Common.{rules, ◌≡◌, ℕ, ◌+◌, ◌≤◌, ◌<◌, List, [], ◌∷◌, arith, true, false}
-use Rattle.std.proofs.lemmas.List.Elements.{All-nil, All-cons}
-use Rattle.std.proofs.lemmas.Bool.Decides.{nat_tests}
+use Rattle.std.proofs.Common.{rules, ◌≡◌, ◌∙◌, ℕ, suc, ◌+◌, ◌≤◌, ◌<◌, List, [], ◌∷◌, ◌++◌, length, append_assoc, length-append, ap, refl, sym, arith, true}
+use Rattle.std.proofs.Common.{false}
+use Rattle.std.proofs.{lemmas.List.Elements.All-nil, lemmas.List.Elements.All-cons, lemmas.List.Elements.All-append, lemmas.Bool.Decides.nat_tests}
 use Rattle.std.specs.Char.{IsScalar, is_ascii}
 use Rattle.legacy_tables.specs.Unicode.{IsByte, AreBytes}
 use Rattle.legacy_text.specs.EncodingForm.{unit_count, total_unit_count}
-use Rattle.legacy_base.specs.Fronts.{reads}
-use Rattle.legacy_base.specs.Grammar.{Grammar}
-use Rattle.legacy_base.specs.States.{rests, may_hold}
-use Rattle.legacy_base.specs.Lengths.{LengthQuery, query_form}
-use Rattle.legacy_decoder_engine.specs.Ahead.{Runs, HasAscii}
-use Rattle.legacy_decoder_engine.specs.Steps.{hold, finish, DecoderMachine}
+use Rattle.legacy_base.specs.{declared.results.DecodeEvent.TheVariants.Scalar, Events.shift, Fronts.reads, Grammar.Grammar, Grammar.events_of, States.rests}
+use Rattle.legacy_base.specs.{States.may_hold, States.state_of, Lengths.LengthQuery, Lengths.query_form, Lengths.room}
 use Rattle.legacy_base.proofs.GrammarLaws.{may_none, rests-none}
-use Rattle.legacy_decoder_engine.proofs.Feeding.{units-total}
-use Rattle.legacy_decoder_engine.specs.Shown.{IsShown}
-
--- ---- which bytes are ASCII
+use Rattle.legacy_decoder_engine.specs.{Ahead.Runs, Ahead.HasAscii, Shown.IsShown, Steps.hold, Steps.finish, Steps.DecoderMachine}
+use Rattle.legacy_decoder_engine.proofs.Feeding.{units-total, all_dropped}
 
 pub ascii_is : (b : ℕ) → b < 0x80 → is_ascii b ≡ true
 ascii_is b h = grind (arith, nat_tests)
@@ -23,54 +17,64 @@ ascii_is b h = grind (arith, nat_tests)
 pub past_ascii : (b : ℕ) → 0x80 ≤ b → is_ascii b ≡ false
 past_ascii b h = grind (arith, nat_tests)
 
--- ---- the sequences
+-- after the held-back bytes, the machine holds back each byte but the last, which completes a sequence of the scalar
+abbrev Leads : Grammar → DecoderMachine → List ℕ → ℕ → List ℕ → ℕ → Type 0
+Leads g m held b [] c = IsByte b × (m.to held b ≡ g) × (m.step held b ≡ finish (reads (suc (length held)) (c ∷ [])))
+Leads g m held b (next ∷ rest) c =
+    IsByte b × (m.to held b ≡ g) × (m.step held b ≡ hold) × (may_hold g (held ++ b ∷ []) ≡ true) × (rests g (held ++ b ∷ []) ≡ true)
+    × Leads g m (held ++ b ∷ []) next rest c
 
 module _ {g : Grammar} {m : DecoderMachine} (shown : IsShown g m) where
-  one_byte : (b : ℕ) → IsByte b → AreBytes (b ∷ [])
-  one_byte b h = All-cons IsByte b [] h (All-nil IsByte)
+  leads_events : (held : List ℕ) (b : ℕ) (rest : List ℕ) (c : ℕ) → may_hold g held ≡ true → rests g held ≡ true → Leads g m held b rest c
+      → (more : List ℕ) → events_of g (held ++ (b ∷ rest ++ more)) ≡ Scalar c ∷ shift (length held + length (b ∷ rest)) (events_of g more)
+  leads_events held b [] c may resting l more =
+      let all = (shown.meets.steps held b may resting).goes_on more in
+      let all' = rw (l.1, l.2, all_dropped (suc (length held)) held b refl) at all in
+      let n : suc (length held) ≡ length held + length (b ∷ []) = omega arith in
+      all' ∙ ap (λ n. Scalar c ∷ shift n (events_of g more)) n
+  leads_events held b (next ∷ rest) c may resting l more =
+      let n : length (held ++ b ∷ []) + length (next ∷ rest) ≡ length held + length (b ∷ next ∷ rest) = omega (arith, length-append held (b ∷ [])) in
+      ap (events_of g) (sym (append_assoc held (b ∷ []) (next ∷ rest ++ more))) ∙ leads_events (held ++ b ∷ []) next rest c l.3 l.4 l.5 more
+      ∙ ap (λ n. Scalar c ∷ shift n (events_of g more)) n
 
-  -- the code units of one scalar
-  one_total : (query : LengthQuery) (c : ℕ) → unit_count (query_form query) c + 0 ≡ total_unit_count (query_form query) (c ∷ [])
-  one_total query c = units-total (query_form query) (c ∷ [])
+  leads_lowers : (held : List ℕ) (b : ℕ) (rest : List ℕ) (c : ℕ) → may_hold g held ≡ true → rests g held ≡ true → AreBytes held → Leads g m held b rest c
+      → (query : LengthQuery) (n : ℕ)
+      → room query (state_of g []) n + total_unit_count (query_form query) (c ∷ []) ≤ room query (state_of g held) (n + length (b ∷ rest))
+  leads_lowers held b [] c may resting bytes l query n =
+      let p = (shown.rooms query).step_pays held b n may resting bytes l.0 in
+      let p' = rw (l.1, l.2, all_dropped (suc (length held)) held b refl) at p in
+      let z : n + 0 ≡ n = omega arith in
+      let p'' = rw z at p' in
+      omega (arith, p'', units-total (query_form query) (c ∷ []))
+  leads_lowers held b (next ∷ rest) c may resting bytes l query n =
+      let p = (shown.rooms query).step_pays held b (n + length (next ∷ rest)) may resting bytes l.0 in
+      let p' = rw (l.1, l.2) at p in
+      let z : n + length (next ∷ rest) + 0 ≡ n + length (next ∷ rest) = omega arith in
+      let p'' = rw z at p' in
+      let e : n + length (b ∷ next ∷ rest) ≡ n + length (next ∷ rest) + 1 = omega arith in
+      let more =
+      leads_lowers (held ++ b ∷ []) next rest c l.3 l.4 (All-append IsByte held (b ∷ []) bytes (All-cons IsByte b [] l.0 (All-nil IsByte))) l.5 query n in
+      rw e (omega (arith, p'', more))
+
+  runs : (b : ℕ) (rest : List ℕ) (c : ℕ) → IsScalar c → Leads g m [] b rest c → Runs g (b ∷ rest) (c ∷ [])
+  runs b rest c scalar l = record {
+    events = λ more.
+        let n : length {A = ℕ} [] + length (b ∷ rest) ≡ length (b ∷ rest) = omega arith in
+        leads_events [] b rest c (may_none g) (rests-none g) l more ∙ ap (λ n. Scalar c ∷ shift n (events_of g more)) n;
+    scalar = All-cons IsScalar c [] scalar (All-nil IsScalar);
+    lowers = λ query n. leads_lowers [] b rest c (may_none g) (rests-none g) (All-nil IsByte) l query n;
+  }
 
   -- a byte that gives one scalar
   pub single_runs : (b c : ℕ) → IsByte b → IsScalar c → m.to [] b ≡ g → m.step [] b ≡ finish (reads 1 (c ∷ [])) → Runs g (b ∷ []) (c ∷ [])
-  single_runs b c byte scalar to_is is =
-      let meets = shown.meets.steps [] b (may_none g) (rests-none g) in
-      let meets' = rw (to_is, is) at meets in
-      record {
-        events = λ more. meets'.goes_on more;
-        scalar = All-cons IsScalar c [] scalar (All-nil IsScalar);
-        lowers = λ query n.
-            let p = (shown.rooms query).step_pays [] b n (may_none g) (rests-none g) (All-nil IsByte) byte in
-            let p' = rw (to_is, is) at p in
-            let z : n + 0 ≡ n = omega arith in
-            let p'' = rw z at p' in
-            rw (← one_total query c) p'';
-      }
+  single_runs b c byte scalar to_is is = runs b [] c scalar (byte, to_is, is)
 
   -- a lead and a trail that give one scalar
   pub pair_runs : (lead trail c : ℕ) → IsByte lead → IsByte trail → IsScalar c → may_hold g (lead ∷ []) ≡ true → rests g (lead ∷ []) ≡ true →
       m.to [] lead ≡ g → m.to (lead ∷ []) trail ≡ g →
       m.step [] lead ≡ hold → m.step (lead ∷ []) trail ≡ finish (reads 2 (c ∷ [])) → Runs g (lead ∷ trail ∷ []) (c ∷ [])
   pair_runs lead trail c byte byte' scalar may resting to_first to_second first second =
-      let meets = shown.meets.steps (lead ∷ []) trail may resting in
-      let meets' = rw (to_second, second) at meets in
-      record {
-        events = λ more. meets'.goes_on more;
-        scalar = All-cons IsScalar c [] scalar (All-nil IsScalar);
-        lowers = λ query n.
-            let p = (shown.rooms query).step_pays [] lead (n + 1) (may_none g) (rests-none g) (All-nil IsByte) byte in
-            let p' = rw (to_first, first) at p in
-            let q = (shown.rooms query).step_pays (lead ∷ []) trail n may resting (one_byte lead byte) byte' in
-            let q' = rw (to_second, second) at q in
-            let z : n + 0 ≡ n = omega arith in
-            let z' : (n + 1) + 0 ≡ n + 1 = omega arith in
-            let e : n + 2 ≡ (n + 1) + 1 = omega arith in
-            let p'' = rw z' at p' in
-            let q'' = rw z at q' in
-            rw (← one_total query c, e) (omega arith);
-      }
+      runs lead (trail ∷ []) c scalar (byte, to_first, first, may, resting, (byte', to_second, second))
 
   -- four bytes that give one scalar
   pub four_runs : (a b c d x : ℕ) → IsByte a → IsByte b → IsByte c → IsByte d → IsScalar x →
@@ -80,32 +84,8 @@ module _ {g : Grammar} {m : DecoderMachine} (shown : IsShown g m) where
       m.step [] a ≡ hold → m.step (a ∷ []) b ≡ hold → m.step (a ∷ b ∷ []) c ≡ hold → m.step (a ∷ b ∷ c ∷ []) d ≡ finish (reads 4 (x ∷ [])) →
       Runs g (a ∷ b ∷ c ∷ d ∷ []) (x ∷ [])
   four_runs a b c d x byte_a byte_b byte_c byte_d scalar may_a may_b may_c rest_a rest_b rest_c to_same first second third fourth =
-      let meets = shown.meets.steps (a ∷ b ∷ c ∷ []) d may_c rest_c in
-      let meets' = rw (to_same (a ∷ b ∷ c ∷ []) d, fourth) at meets in
-      record {
-        events = λ more. meets'.goes_on more;
-        scalar = All-cons IsScalar x [] scalar (All-nil IsScalar);
-        lowers = λ query n.
-            let rooms = shown.rooms query in
-            let p = rooms.step_pays [] a (n + 1 + 1 + 1) (may_none g) (rests-none g) (All-nil IsByte) byte_a in
-            let p' = rw (to_same [] a, first) at p in
-            let q = rooms.step_pays (a ∷ []) b (n + 1 + 1) may_a rest_a (one_byte a byte_a) byte_b in
-            let q' = rw (to_same (a ∷ []) b, second) at q in
-            let r = rooms.step_pays (a ∷ b ∷ []) c (n + 1) may_b rest_b (All-cons IsByte a (b ∷ []) byte_a (one_byte b byte_b)) byte_c in
-            let r' = rw (to_same (a ∷ b ∷ []) c, third) at r in
-            let s = rooms.step_pays (a ∷ b ∷ c ∷ []) d n may_c rest_c (All-cons IsByte a (b ∷ c ∷ []) byte_a (All-cons IsByte b (c ∷ []) byte_b (one_byte c byte_c))) byte_d in
-            let s' = rw (to_same (a ∷ b ∷ c ∷ []) d, fourth) at s in
-            let z0 : n + 0 ≡ n = omega arith in
-            let z1 : (n + 1) + 0 ≡ n + 1 = omega arith in
-            let z2 : (n + 1 + 1) + 0 ≡ n + 1 + 1 = omega arith in
-            let z3 : (n + 1 + 1 + 1) + 0 ≡ n + 1 + 1 + 1 = omega arith in
-            let e : n + 4 ≡ (n + 1 + 1 + 1) + 1 = omega arith in
-            let p'' = rw z3 at p' in
-            let q'' = rw z2 at q' in
-            let r'' = rw z1 at r' in
-            let s'' = rw z0 at s' in
-            rw (← one_total query x, e) (omega arith);
-      }
+      let last : Leads g m (a ∷ b ∷ []) c (d ∷ []) x = (byte_c, to_same (a ∷ b ∷ []) c, third, may_c, rest_c, (byte_d, to_same (a ∷ b ∷ c ∷ []) d, fourth)) in
+      runs a (b ∷ c ∷ d ∷ []) x scalar (byte_a, to_same [] a, first, may_a, rest_a, (byte_b, to_same (a ∷ []) b, second, may_b, rest_b, last))
 
   -- each ASCII byte is its own scalar if that is so in the machine
   pub has_ascii : ((b : ℕ) → m.to [] b ≡ g) → ((b : ℕ) → b < 0x80 → m.step [] b ≡ finish (reads 1 (b ∷ []))) → HasAscii g

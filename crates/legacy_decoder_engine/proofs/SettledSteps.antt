@@ -1,14 +1,12 @@
 -- The states after steps.
 use Rattle.std.proofs.Common.{◌≡◌, ℕ, suc, ◌+◌, List, [], ◌∷◌, length, Bool, true, false, cond, Option, Some, None, refl, option_to_list, arith}
 use Rattle.std.specs.Char.{is_ascii}
-use Rattle.legacy_base.specs.Fronts.{malformed, reads_or}
-use Rattle.legacy_base.specs.Grammar.{Grammar}
-use Rattle.legacy_base.specs.Acts.{has_marks}
+use Rattle.legacy_base.specs.{Fronts.malformed, Fronts.reads_or, Grammar.Grammar, Acts.has_marks}
 use Rattle.legacy_decoder_engine.specs.Steps.{Step, finish, leave, trail_step}
-use Rattle.legacy_decoder_engine.specs.Settling.{IsOneOrMarked, Settles}
-use Rattle.legacy_decoder_engine.specs.Shown.{WriteSettles}
+use Rattle.legacy_decoder_engine.specs.{Settling.IsOneOrMarked, Settling.Settles, Shown.WriteSettles}
 
-pub settles_test : (g : Grammar) (held : List ℕ) (b : ℕ) (t : Bool) (s₁ s₂ : Step) → (t ≡ true → Settles g held b s₁) → (t ≡ false → Settles g held b s₂) → Settles g held b (cond t s₁ s₂)
+pub settles_test : (g : Grammar) (held : List ℕ) (b : ℕ) (t : Bool) (s₁ s₂ : Step) → (t ≡ true → Settles g held b s₁) → (t ≡ false → Settles g held b s₂)
+    → Settles g held b (cond t s₁ s₂)
 settles_test g held b true s₁ s₂ f₁ f₂ = f₁ refl
 settles_test g held b false s₁ s₂ f₁ f₂ = f₂ refl
 
@@ -28,12 +26,14 @@ pub trail_settles : (g : Grammar) (held : List ℕ) (b : ℕ) (cs : List ℕ) �
 trail_settles g held b (c ∷ cs) one = (omega arith, one)
 trail_settles g held b [] one = settles_test g held b (is_ascii b) (leave (length held)) (finish (malformed (length held + 1))) (λ a. tt) (λ a. tt)
 
-pub or_settles : (g : Grammar) (held : List ℕ) (b : ℕ) (cs : List ℕ) → IsOneOrMarked (has_marks g) cs → Settles g held b (finish (reads_or (suc (length held)) cs (malformed (suc (length held)))))
+pub or_settles : (g : Grammar) (held : List ℕ) (b : ℕ) (cs : List ℕ) → IsOneOrMarked (has_marks g) cs
+    → Settles g held b (finish (reads_or (suc (length held)) cs (malformed (suc (length held)))))
 or_settles g held b [] one = tt
 or_settles g held b (c ∷ cs) one = (refl, one)
 
 -- ---- the state after a held-back scalar was written
 
-pub write_test : (g : Grammar) (held : List ℕ) (t : Bool) (p q : Option (ℕ × ℕ)) → (t ≡ true → WriteSettles g held p) → (t ≡ false → WriteSettles g held q) → WriteSettles g held (cond t p q)
+pub write_test : (g : Grammar) (held : List ℕ) (t : Bool) (p q : Option (ℕ × ℕ)) → (t ≡ true → WriteSettles g held p) → (t ≡ false → WriteSettles g held q)
+    → WriteSettles g held (cond t p q)
 write_test g held true p q f₁ f₂ = f₁ refl
 write_test g held false p q f₁ f₂ = f₂ refl

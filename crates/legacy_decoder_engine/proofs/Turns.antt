@@ -1,15 +1,15 @@
 -- The turns of a loop that takes four at a time.
-use Rattle.std.proofs.Common.{◌≡◌, ◌∙◌, ℕ, ◌+◌, ◌-◌, ◌*◌, ◌/◌, ◌%◌, ◌<◌, ◌≤◌, ap, arith}
-use Rattle.std.proofs.Math.Nat.{mul-add}
+use Rattle.std.proofs.Common.{◌≡◌, ℕ, ◌+◌, ◌-◌, ◌*◌, ◌/◌, ◌%◌, ◌<◌, ◌≤◌, refl, arith}
+use Rattle.std.proofs.lemmas.Bool.Decides.{nat_tests}
 
 -- all turns, before the first
 pub all_turns : (size turns : ℕ) → size * (4 * (turns / 4) + turns % 4) ≡ size * turns
-all_turns size turns = let e : 4 * (turns / 4) + turns % 4 ≡ turns = omega arith in ap (λ n. size * n) e
+all_turns size turns = let e : 4 * (turns / 4) + turns % 4 ≡ turns = omega arith in rw e refl
 
 -- four turns, and the rest
 pub four_turns : (size left rest : ℕ) → 0 < left → size * (4 * left + rest) ≡ size * 4 + size * (4 * (left - 1) + rest)
-four_turns size left rest h = let e : 4 * left + rest ≡ 4 + (4 * (left - 1) + rest) = omega arith in ap (λ n. size * n) e ∙ mul-add size 4 (4 * (left - 1) + rest)
+four_turns size left rest h = let e : 4 * left + rest ≡ 4 + (4 * (left - 1) + rest) = omega arith in rw e (grind (arith, nat_tests))
 
 -- the rest alone
 pub last_turns : (size left rest : ℕ) → left ≤ 0 → size * (4 * left + rest) ≡ size * rest
-last_turns size left rest h = let e : 4 * left + rest ≡ rest = omega arith in ap (λ n. size * n) e
+last_turns size left rest h = let e : 4 * left + rest ≡ rest = omega arith in rw e refl

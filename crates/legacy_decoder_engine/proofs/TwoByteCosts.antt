@@ -1,7 +1,6 @@
 -- The code units that the steps write in codecs with sequences of one and two bytes.
 use Rattle.std.proofs.Common.{◌≡◌, ℕ, ◌*◌, ◌≤◌, List, [], ◌∷◌, length, Bool, true, false, cond, refl, arith}
-use Rattle.std.proofs.lemmas.Bool.{ltb-true}
-use Rattle.std.proofs.lemmas.Bool.Decides.{nat_tests}
+use Rattle.std.proofs.{lemmas.Bool.ltb-true, lemmas.Bool.Decides.nat_tests}
 use Rattle.std.specs.Char.{is_ascii}
 use Rattle.legacy_base.specs.Fronts.{malformed}
 use Rattle.legacy_tables.specs.Unicode.{is_katakana_byte}
@@ -11,7 +10,8 @@ use Rattle.legacy_decoder_engine.proofs.TwoByteMeets.{IsFirst, ascii, other, lea
 
 -- a step that depends on a test
 pub cost_test : (len : ℕ → ℕ) (narrow at_most : ℕ) (wt : List ℕ → ℕ) (slope : ℕ) (held : List ℕ) (b : ℕ) (t : Bool) (s₁ s₂ : Step) →
-    (t ≡ true → Cost len narrow at_most wt slope held b s₁) → (t ≡ false → Cost len narrow at_most wt slope held b s₂) → Cost len narrow at_most wt slope held b (cond t s₁ s₂)
+    (t ≡ true → Cost len narrow at_most wt slope held b s₁) → (t ≡ false → Cost len narrow at_most wt slope held b s₂)
+    → Cost len narrow at_most wt slope held b (cond t s₁ s₂)
 cost_test len narrow at_most wt slope held b true s₁ s₂ f₁ f₂ = f₁ refl
 cost_test len narrow at_most wt slope held b false s₁ s₂ f₁ f₂ = f₂ refl
 
@@ -29,9 +29,11 @@ module _ (len : ℕ → ℕ) (narrow wide : ℕ) (w : IsWidth len narrow wide) w
       (λ a. record { fits = n; pays = omega arith; pays_without = omega arith })
 
   -- the step at the first byte
-  pub first_cost : (is_lead_byte : ℕ → Bool) (paid at_most b : ℕ) (s : Step) → narrow ≤ at_most → IsFirst is_lead_byte paid b s → Cost len narrow (cond (is_ascii b) 1 at_most) length paid [] b s
+  pub first_cost : (is_lead_byte : ℕ → Bool) (paid at_most b : ℕ) (s : Step) → narrow ≤ at_most → IsFirst is_lead_byte paid b s
+      → Cost len narrow (cond (is_ascii b) 1 at_most) length paid [] b s
   first_cost is_lead_byte paid at_most b s n (ascii e a l p) =
-      let one : len b ≡ 1 = w.ascii b (ltb-true b 0x80 a) in let some = w.some in rw e (record { fits = rw a (omega arith); pays = omega arith; pays_without = omega arith })
+      let one : len b ≡ 1 =
+      w.ascii b (ltb-true b 0x80 a) in let some = w.some in rw e (record { fits = rw a (omega arith); pays = omega arith; pays_without = omega arith })
   first_cost is_lead_byte paid at_most b s n (other c e a l below p) =
       let fits = w.bmp c below in let most = w.most in rw e (record { fits = rw a (omega arith); pays = omega arith; pays_without = omega arith })
   first_cost is_lead_byte paid at_most b s n (leads e a l) = rw e (record { fits = omega arith; pays = omega arith; pays_without = omega arith })

@@ -1,18 +1,13 @@
 -- The machines of codecs with sequences of one and two bytes agree with their grammars.
 use Rattle.std.proofs.Common.{◌≡◌, ◌∙◌, ℕ, ◌<◌, ◌≤◌, List, [], ◌∷◌, length, Bool, true, false, cond, refl, ap, arith}
-use Rattle.std.proofs.lemmas.Bool.{false≢true}
-use Rattle.std.proofs.lemmas.Bool.Decides.{nat_tests}
-use Rattle.std.specs.Int.{is_in_range}
-use Rattle.std.specs.Char.{is_ascii}
+use Rattle.std.proofs.{lemmas.Bool.false≢true, lemmas.Bool.Decides.nat_tests}
+use Rattle.std.specs.{Int.is_in_range, Char.is_ascii}
 use Rattle.legacy_base.specs.Fronts.{Front, reads, malformed, reads_or, trail_rule, front_length, cut}
-use Rattle.legacy_base.specs.Profile.{Profile, always_rests}
-use Rattle.legacy_base.specs.Grammar.{Grammar, profile, events_of}
 use Rattle.legacy_base.specs.States.{is_lead, single_lead_may_hold, may_hold, rests}
-use Rattle.legacy_base.specs.Acts.{has_marks}
+use Rattle.legacy_base.specs.{Profile.Profile, Profile.always_rests, Grammar.Grammar, Grammar.profile, Grammar.events_of, Acts.has_marks}
 use Rattle.legacy_decoder_engine.specs.Steps.{Step, hold, finish, end_events, ReportMeets, Meets}
 use Rattle.legacy_decoder_engine.specs.LeadMachines.{two_byte_step, two_byte_machine, lead_first}
-use Rattle.legacy_decoder_engine.specs.LeadCodecs.{IsPastAscii}
-use Rattle.legacy_decoder_engine.specs.Settling.{IsOneOrMarked, Settles}
+use Rattle.legacy_decoder_engine.specs.{LeadCodecs.IsPastAscii, Settling.IsOneOrMarked, Settling.Settles}
 use Rattle.legacy_base.proofs.Cuts.{cut-nil}
 use Rattle.legacy_decoder_engine.proofs.FrontMoves.{Fits, fits_trail, fits_meets, end_meets, report_meets, some_reads_or, some_trail_rule}
 
@@ -55,24 +50,13 @@ pub record IsTwoByte (g : Grammar) (front : ℕ → List ℕ → Front) (is_lead
 
 module _ (is_lead_byte : ℕ → Bool) (paid : ℕ) (first : ℕ → Step) (firsts : (b : ℕ) → IsFirst is_lead_byte paid b (first b)) where
   pub ascii_first : (b : ℕ) → is_ascii b ≡ true → first b ≡ finish (reads 1 (b ∷ []))
-  ascii_first b a = by (firsts b)
-    where
-      by : IsFirst is_lead_byte paid b (first b) → first b ≡ finish (reads 1 (b ∷ []))
-      by (ascii e a' n p) = e
-      by (other c e a' n q p) = cc
-      by (leads e a' l) = cc
-      by (fails e a' n) = cc
+  ascii_first b a = elim (firsts b) [ ascii e a' n p ↦ e | other c e a' n q p ↦ cc | leads e a' l ↦ cc | fails e a' n ↦ cc ]
 
   pub lead_holds : (b : ℕ) → is_lead_byte b ≡ true → first b ≡ hold
-  lead_holds b l = by (firsts b)
-    where
-      by : IsFirst is_lead_byte paid b (first b) → first b ≡ hold
-      by (ascii e a n p) = cc
-      by (other c e a n q p) = cc
-      by (leads e a l') = e
-      by (fails e a n) = cc
+  lead_holds b l = elim (firsts b) [ ascii e a n p ↦ cc | other c e a n q p ↦ cc | leads e a l' ↦ e | fails e a n ↦ cc ]
 
-module _ (g : Grammar) (front : ℕ → List ℕ → Front) (is_lead_byte : ℕ → Bool) (first : ℕ → Step) (scalars : ℕ → ℕ → List ℕ) (is : IsTwoByte g front is_lead_byte first scalars)
+module _ (g : Grammar) (front : ℕ → List ℕ → Front) (is_lead_byte : ℕ → Bool) (first : ℕ → Step) (scalars : ℕ → ℕ → List ℕ)
+    (is : IsTwoByte g front is_lead_byte first scalars)
     (paid : ℕ) (firsts : (b : ℕ) → IsFirst is_lead_byte paid b (first b)) where
   pub may_is : (held : List ℕ) → may_hold g held ≡ single_lead_may_hold is_lead_byte held
   may_is held = ap (λ p. p.may_hold held) is.profile_is
@@ -87,25 +71,22 @@ module _ (g : Grammar) (front : ℕ → List ℕ → Front) (is_lead_byte : ℕ 
   -- ---- the first byte
 
   first_fits : (b : ℕ) → Fits front (single_lead_may_hold is_lead_byte) [] b (first b)
-  first_fits b = by (firsts b)
-    where
-      at : (f : Front) → first b ≡ finish f → (more : List ℕ) → front b more ≡ f
-      at f e more = is.front_is b more ∙ ap (step_front (scalars b) more) e
-
-      by : IsFirst is_lead_byte paid b (first b) → Fits front (single_lead_may_hold is_lead_byte) [] b (first b)
-      by (ascii e a n p) = rw e (at (reads 1 (b ∷ [])) e, omega arith, omega arith, refl)
-      by (other c e a n q p) = rw e (at (reads 1 (c ∷ [])) e, omega arith, omega arith, refl)
-      by (leads e a l) = rw e (omega arith, l)
-      by (fails e a n) = rw e (at (malformed 1) e, omega arith, omega arith, refl)
+  first_fits b =
+      let at : (f : Front) → first b ≡ finish f → (more : List ℕ) → front b more ≡ f = λ f e more. is.front_is b more ∙ ap (step_front (scalars b) more) e in
+      elim (firsts b) [
+        | ascii e a n p ↦ rw e (at (reads 1 (b ∷ [])) e, omega arith, omega arith, refl)
+        | other c e a n q p ↦ rw e (at (reads 1 (c ∷ [])) e, omega arith, omega arith, refl)
+        | leads e a l ↦ rw e (omega arith, l)
+        | fails e a n ↦ rw e (at (malformed 1) e, omega arith, omega arith, refl)
+      ]
 
   pub first_settles : (b : ℕ) → Settles g [] b (first b)
-  first_settles b = by (firsts b)
-    where
-      by : IsFirst is_lead_byte paid b (first b) → Settles g [] b (first b)
-      by (ascii e a n p) = rw e (refl, tt)
-      by (other c e a n q p) = rw e (refl, tt)
-      by (leads e a l) = rw e (rests_is (b ∷ []))
-      by (fails e a n) = rw e tt
+  first_settles b = elim (firsts b) [
+    | ascii e a n p ↦ rw e (refl, tt)
+    | other c e a n q p ↦ rw e (refl, tt)
+    | leads e a l ↦ rw e (rests_is (b ∷ []))
+    | fails e a n ↦ rw e tt
+  ]
 
   -- ---- all steps
 
@@ -114,7 +95,8 @@ module _ (g : Grammar) (front : ℕ → List ℕ → Front) (is_lead_byte : ℕ 
   few_held (b ∷ []) h = omega arith
   few_held (b ∷ c ∷ held) h = absurd (false≢true h)
 
-  step_fits : (held : List ℕ) (b : ℕ) → single_lead_may_hold is_lead_byte held ≡ true → Fits front (single_lead_may_hold is_lead_byte) held b (two_byte_step first scalars held b)
+  step_fits : (held : List ℕ) (b : ℕ) → single_lead_may_hold is_lead_byte held ≡ true
+      → Fits front (single_lead_may_hold is_lead_byte) held b (two_byte_step first scalars held b)
   step_fits [] b h = first_fits b
   step_fits (lead ∷ []) b h =
       fits_trail front (single_lead_may_hold is_lead_byte) (lead ∷ []) (scalars lead b) b refl (omega arith)
@@ -142,7 +124,8 @@ module _ (g : Grammar) (front : ℕ → List ℕ → Front) (is_lead_byte : ℕ 
   pub two_byte_meets : Meets g (two_byte_machine g first scalars)
   two_byte_meets = record {
     writes = λ held h. rests_is held;
-    steps = λ held b h r. fits_meets g front ev_is (single_lead_may_hold is_lead_byte) may_is held b (two_byte_step first scalars held b) (few_held held (rw (may_is held) at h))
+    steps = λ held b h r. fits_meets g front ev_is (single_lead_may_hold is_lead_byte) may_is held b (two_byte_step first scalars held b)
+        (few_held held (rw (may_is held) at h))
         (step_fits held b (rw (may_is held) at h));
     ends = λ held h r. all_ends held (rw (may_is held) at h);
     reports = λ held more h r. all_reports held more (rw (may_is held) at h);
@@ -168,11 +151,7 @@ module _ (is_lead_byte : ℕ → Bool) (are_leads : (b : ℕ) → is_lead_byte b
   lead_byte_below b h = (are_leads b h).1
 
   ascii_no_lead : (b : ℕ) → is_ascii b ≡ true → is_lead_byte b ≡ false
-  ascii_no_lead b a = by (is_lead_byte b) refl
-    where
-      by : (t : Bool) → is_lead_byte b ≡ t → t ≡ false
-      by true e = let past = (are_leads b e).0 in absurd (grind (arith, nat_tests))
-      by false e = refl
+  ascii_no_lead b a = let past : is_lead_byte b ≡ true → 0x80 ≤ b = λ e. (are_leads b e).0 in grind (arith, nat_tests)
 
   pub lead_first_is : (paid : ℕ) → 2 ≤ paid → (b : ℕ) → IsFirst is_lead_byte paid b (lead_first is_lead_byte b)
   lead_first_is paid enough b =
@@ -182,7 +161,8 @@ module _ (is_lead_byte : ℕ → Bool) (are_leads : (b : ℕ) → is_lead_byte b
 pub lead_front_is : (is_lead_byte : ℕ → Bool) (scalars : ℕ → List ℕ) (rest : List ℕ) (pair : Front) (b : ℕ) → pair ≡ step_front scalars rest hold →
     cond (is_ascii b) (reads 1 (b ∷ [])) (cond (is_lead_byte b) pair (malformed 1)) ≡ step_front scalars rest (lead_first is_lead_byte b)
 lead_front_is is_lead_byte scalars rest pair b e =
-    front_test scalars rest (is_ascii b) _ _ (finish (reads 1 (b ∷ []))) _ refl (front_test scalars rest (is_lead_byte b) _ _ hold (finish (malformed 1)) e refl)
+    front_test scalars rest (is_ascii b) _ _ (finish (reads 1 (b ∷ []))) _ refl
+    (front_test scalars rest (is_lead_byte b) _ _ hold (finish (malformed 1)) e refl)
 
 pub range-past : (low high : ℕ) → 0x80 ≤ low → high < 0x100 → (b : ℕ) → is_in_range low high b ≡ true → IsPastAscii b
 range-past low high from to b h = (grind (arith, nat_tests), grind (arith, nat_tests))

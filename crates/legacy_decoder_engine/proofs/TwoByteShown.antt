@@ -2,25 +2,15 @@
 use Rattle.std.proofs.Common.{◌≡◌, ℕ, ◌<◌, ◌≤◌, List, [], ◌∷◌, length, Bool, true, false, refl, inl, ap, arith}
 use Rattle.std.proofs.lemmas.Bool.{false≢true}
 use Rattle.std.specs.Char.{is_ascii}
-use Rattle.legacy_base.specs.Fronts.{Front}
-use Rattle.legacy_base.specs.Grammar.{Grammar}
-use Rattle.legacy_tables.specs.Indexes.{FlatIndexes}
-use Rattle.legacy_tables.specs.TableChecks.{AreAccepted}
-use Rattle.legacy_base.specs.States.{single_lead_may_hold, may_hold}
 use Rattle.legacy_base.specs.Acts.{act_room, takes, full_room, full_room_in, release_room_in, has_short_ascii, has_reported}
-use Rattle.legacy_base.specs.Lengths.{LengthQuery, query_form, room}
-use Rattle.legacy_decoder_engine.specs.Steps.{Step}
-use Rattle.legacy_decoder_engine.specs.LeadMachines.{two_byte_step, two_byte_machine}
-use Rattle.legacy_decoder_engine.specs.Costs.{units, IsWidth, Cost}
-use Rattle.legacy_base.specs.States.{state_of}
-use Rattle.legacy_decoder_engine.specs.Settling.{Settles}
-use Rattle.legacy_decoder_engine.proofs.CallUnderWay.{same_rooms}
-use Rattle.legacy_decoder_engine.specs.Shown.{IsShown}
-use Rattle.legacy_decoder_engine.specs.LeadCodecs.{IsLeadCodec}
+use Rattle.legacy_base.specs.{Fronts.Front, Grammar.Grammar, States.single_lead_may_hold, States.may_hold, States.state_of, Lengths.LengthQuery}
+use Rattle.legacy_base.specs.{Lengths.query_form, Lengths.room}
+use Rattle.legacy_tables.specs.{Indexes.FlatIndexes, TableChecks.AreAccepted}
+use Rattle.legacy_decoder_engine.specs.{Steps.Step, LeadMachines.two_byte_step, LeadMachines.two_byte_machine, Costs.units, Costs.IsWidth, Costs.Cost}
+use Rattle.legacy_decoder_engine.specs.{Settling.Settles, Shown.IsShown, LeadCodecs.IsLeadCodec}
 use Rattle.legacy_decoder_engine.proofs.TwoByteMeets.{IsFirst, IsTwoByte, may_is, rests_is, ascii_first, lead_holds, first_settles, two_byte_meets}
-use Rattle.legacy_decoder_engine.proofs.TwoByteCosts.{first_cost, trail_cost}
 use Rattle.legacy_decoder_engine.proofs.RoomMoves.{first_room, held_room_is, narrow_read, Falls, query_slope, HasCosts, IsSloped, sloped_rooms}
-use Rattle.legacy_decoder_engine.proofs.SettledSteps.{trail_settles}
+use Rattle.legacy_decoder_engine.proofs.{CallUnderWay.same_rooms, TwoByteCosts.first_cost, TwoByteCosts.trail_cost, SettledSteps.trail_settles}
 
 -- The rooms of such a codec. A pair fits into the full room. For each two bytes, `paid` code units are enough. The
 -- rooms of the three queries fall by their slopes, and cover a byte and a lead.
@@ -31,7 +21,8 @@ pub record HasTwoByteRooms (g : Grammar) (scalars : ℕ → ℕ → List ℕ) (p
   pub reads : (query : LengthQuery) (held : List ℕ) → full_room_in (query_form query) g ≤ room query (state_of g held) 1
   pub holds : (query : LengthQuery) (b : ℕ) (held : List ℕ) → release_room_in (query_form query) g ≤ room query (state_of g (b ∷ held)) 0
 
-module _ (g : Grammar) (front : ℕ → List ℕ → Front) (is_lead_byte : ℕ → Bool) (first : ℕ → Step) (scalars : ℕ → ℕ → List ℕ) (is : IsTwoByte g front is_lead_byte first scalars)
+module _ (g : Grammar) (front : ℕ → List ℕ → Front) (is_lead_byte : ℕ → Bool) (first : ℕ → Step) (scalars : ℕ → ℕ → List ℕ)
+    (is : IsTwoByte g front is_lead_byte first scalars)
     (paid : ℕ) (firsts : (b : ℕ) → IsFirst is_lead_byte paid b (first b)) where
   pub short_ascii : has_short_ascii g ≡ true
   short_ascii = ap (λ p. p.short_ascii) is.profile_is
@@ -61,7 +52,8 @@ module _ (g : Grammar) (front : ℕ → List ℕ → Front) (is_lead_byte : ℕ 
           let some = w.some in
           let twice = w.twice in
           rw (unreported, short_ascii, held_room_is (is_ascii b) true 1 (full_room narrow wide g))
-          (trail_cost len narrow wide w (full_room narrow wide g) paid lead b (scalars lead b) (has_rooms.pair_units len narrow wide w lead b) (between.0) (omega arith)
+          (trail_cost len narrow wide w (full_room narrow wide g) paid lead b (scalars lead b) (has_rooms.pair_units len narrow wide w lead b) (between.0)
+          (omega arith)
           (has_rooms.is_paid len narrow wide w))
       cost len narrow wide w (lead ∷ c ∷ held) b h = absurd (false≢true h)
 
@@ -89,9 +81,12 @@ module _ (g : Grammar) (front : ℕ → List ℕ → Front) (is_lead_byte : ℕ 
       }
 
 -- the facts that the decoder requires, for a codec that has them for each index
-module _ (grammar : FlatIndexes → Grammar) (front : FlatIndexes → ℕ → List ℕ → Front) (is_lead_byte : ℕ → Bool) (first : ℕ → Step) (scalars : FlatIndexes → ℕ → ℕ → List ℕ)
-    (is : (flat : FlatIndexes) → IsTwoByte (grammar flat) (front flat) is_lead_byte first (scalars flat)) (paid : ℕ) (firsts : (b : ℕ) → IsFirst is_lead_byte paid b (first b)) where
-  pub lead_codec : ((flat : FlatIndexes) → AreAccepted flat → HasTwoByteRooms (grammar flat) (scalars flat) paid) → ((b : ℕ) → is_lead_byte b ≡ true → b < 0x100) →
+module _ (grammar : FlatIndexes → Grammar) (front : FlatIndexes → ℕ → List ℕ → Front) (is_lead_byte : ℕ → Bool) (first : ℕ → Step)
+    (scalars : FlatIndexes → ℕ → ℕ → List ℕ)
+    (is : (flat : FlatIndexes) → IsTwoByte (grammar flat) (front flat) is_lead_byte first (scalars flat)) (paid : ℕ)
+    (firsts : (b : ℕ) → IsFirst is_lead_byte paid b (first b)) where
+  pub lead_codec : ((flat : FlatIndexes) → AreAccepted flat → HasTwoByteRooms (grammar flat) (scalars flat) paid)
+      → ((b : ℕ) → is_lead_byte b ≡ true → b < 0x100) →
       IsLeadCodec grammar is_lead_byte first scalars
   lead_codec rooms bytes = record {
     shown = λ flat accepted. two_byte_shown (grammar flat) (front flat) is_lead_byte first (scalars flat) (is flat) paid firsts (rooms flat accepted);

@@ -1,8 +1,7 @@
 -- The code units of scalars in UTF-8 and UTF-16, and the scalars of indexes.
-use Rattle.std.proofs.Common.{◌≡◌, [], ◌∷◌, ℕ, ◌+◌, ◌<◌, ◌≤◌, List, length, get_or, Bool, true, false, cond, Option, Some, None, arith, ◌==◌, option_to_list, ⊎_elim}
-use Rattle.std.proofs.lemmas.Bool.{cases_lt}
-use Rattle.std.proofs.lemmas.List.Elements.{All-get_or}
-use Rattle.std.proofs.lemmas.List.{get_or_past}
+use Rattle.std.proofs.Common.{◌≡◌, [], ◌∷◌, ℕ, ◌+◌, ◌<◌, ◌≤◌, List, length, get_or, Bool, true, false, cond, Option, Some, None, arith, ◌==◌, option_to_list}
+use Rattle.std.proofs.Common.{⊎_elim}
+use Rattle.std.proofs.{lemmas.Bool.cases_lt, lemmas.Bool.Decides.nat_tests, lemmas.List.Elements.All-get_or, lemmas.List.get_or_past}
 use Rattle.legacy_text.specs.EncodingForm.{EncodingForm, Utf8, Utf16, unit_count, bmp_room, wide_room}
 use Rattle.legacy_tables.specs.Indexes.{entry_scalar, idx}
 use Rattle.legacy_text.proofs.CodeUnits.{encode_2, length-code_units-ascii, length-code_units-bmp, length-code_units-wide}
@@ -35,16 +34,13 @@ width_of Utf16 = record {
 
 -- an entry of a narrow index is below U+10000
 pub narrow_entry : (index : List ℕ) (p : ℕ) → IsNarrowIndex index → get_or index p 0 < 0x1_0000
-narrow_entry index p h = ⊎_elim (λ l. All-get_or (λ c. c < 0x1_0000) index p 0 l h) (λ l. rw (get_or_past index p 0 l) (omega arith)) (cases_lt p (length index))
+narrow_entry index p h =
+    ⊎_elim (λ l. All-get_or (λ c. c < 0x1_0000) index p 0 l h) (λ l. rw (get_or_past index p 0 l) (omega arith)) (cases_lt p (length index))
 
 module _ (len : ℕ → ℕ) (narrow wide : ℕ) (w : IsWidth len narrow wide) where
   -- an entry of an index is one scalar or none
   entry_units : (entry n : ℕ) → len entry ≤ n → units len (option_to_list (entry_scalar entry)) ≤ n
-  entry_units entry n h = go (entry == 0)
-    where
-      go : (t : Bool) → units len (option_to_list (cond t None (Some entry))) ≤ n
-      go true = omega arith
-      go false = omega arith
+  entry_units entry n h = grind (arith, nat_tests)
 
   pub idx_units : (index : List ℕ) (p : ℕ) → units len (option_to_list (idx index p)) ≤ wide
   idx_units index p = entry_units (get_or index p 0) wide (w.every (get_or index p 0))
@@ -59,11 +55,7 @@ module _ (len : ℕ → ℕ) (narrow wide : ℕ) (w : IsWidth len narrow wide) w
 -- ---- entries
 
 entry_below : (entry c : ℕ) → entry < 0x1_0000 → option_to_list (entry_scalar entry) ≡ c ∷ [] → c < 0x1_0000
-entry_below entry c h e = go (entry == 0) e
-  where
-    go : (t : Bool) → option_to_list (cond t None (Some entry)) ≡ c ∷ [] → c < 0x1_0000
-    go true e = cc
-    go false e = let same : entry ≡ c = cc in omega arith
+entry_below entry c h e = grind (arith, nat_tests)
 
 pub idx_below : (index : List ℕ) (p c : ℕ) → IsNarrowIndex index → option_to_list (idx index p) ≡ c ∷ [] → c < 0x1_0000
 idx_below index p c narrow e = entry_below (get_or index p 0) c (narrow_entry index p narrow) e

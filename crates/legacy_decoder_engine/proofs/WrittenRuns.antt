@@ -1,22 +1,16 @@
 -- Laws of runs of bytes and of the scalars written for them.
-use Rattle.std.proofs.Common.{add-zero, ◌≡◌, ◌∙◌, ℕ, zero, suc, ◌+◌, ◌-◌, ◌*◌, ◌≤◌, ◌<◌, List, [], ◌∷◌, ◌++◌, length, map, take, drop, get_or, refl, sym, ap, subst, arith, append_assoc, append-nil}
-use Rattle.std.proofs.Common.{length-append, IsAscii}
-use Rattle.std.proofs.lemmas.List.{map-append}
-use Rattle.std.proofs.lemmas.List.{take_more, take_all, length-drop}
-use Rattle.std.proofs.lemmas.List.Elements.{All-append, All-nil}
-use Rattle.std.proofs.Math.Seq.{take-add}
+use Rattle.std.proofs.Common.{add-zero, ◌≡◌, ◌∙◌, ℕ, zero, suc, ◌+◌, ◌-◌, ◌*◌, ◌≤◌, ◌<◌, List, [], ◌∷◌, ◌++◌, length, map, take, drop, get_or, refl, sym, ap}
+use Rattle.std.proofs.Common.{subst, arith, append_assoc, append-nil, length-append, IsAscii}
+use Rattle.std.proofs.lemmas.List.{map-append, take_more, take_all, length-drop}
+use Rattle.std.proofs.{lemmas.List.Elements.All-append, lemmas.List.Elements.All-nil, Math.Seq.take-add}
 use Rattle.std.specs.Char.{IsScalar}
-use Rattle.legacy_text.specs.declared.destination.Destination.{Ghosts}
-use Rattle.legacy_base.specs.declared.results.DecodeEvent.TheVariants.{Scalar}
 use Rattle.legacy_text.specs.EncodingForm.{EncodingForm, Utf8, Utf16, code_units, all_code_units, bmp_room, total_unit_count}
-use Rattle.legacy_base.specs.Events.{shift}
-use Rattle.legacy_base.specs.Lengths.{query_form}
-use Rattle.legacy_base.specs.States.{DecoderState}
+use Rattle.legacy_text.specs.declared.destination.Destination.{Ghosts}
 use Rattle.legacy_base.specs.Grammar.{Grammar, events_of}
+use Rattle.legacy_base.specs.{declared.results.DecodeEvent.TheVariants.Scalar, Events.shift, Lengths.query_form, States.DecoderState}
 use Rattle.legacy_base.proofs.Shifts.{shift-append, shift-zero, shift-shift, shift-scalars}
-use Rattle.legacy_text.proofs.CodeUnits.{all_code_units-append, total_unit_count-append}
 use Rattle.legacy_base.proofs.SameUnits.{some_unit}
-use Rattle.legacy_text.proofs.CodeUnits.{encode_1, utf16_1, length-code_units-bmp, length-code_units-wide}
+use Rattle.legacy_text.proofs.CodeUnits.{all_code_units-append, total_unit_count-append, encode_1, utf16_1, length-code_units-bmp, length-code_units-wide}
 use Rattle.legacy_decoder_engine.specs.Ahead.{HasAscii, RunsTo, Runs, WritesTo, Writes, ReadsAhead}
 use Rattle.legacy_decoder_engine.proofs.CallUnderWay.{same_rooms}
 
@@ -64,7 +58,8 @@ code_units_ascii Utf16 c h = utf16_1 c (omega arith)
 -- the code units of ASCII bytes are the bytes
 pub all_code_units_ascii : (form : EncodingForm) (xs : List ℕ) → IsAscii xs → all_code_units form xs ≡ xs
 all_code_units_ascii form [] h = refl
-all_code_units_ascii form (x ∷ xs) h = ap (λ l. l ++ all_code_units form xs) (code_units_ascii form x (h 0)) ∙ ap (λ l. x ∷ l) (all_code_units_ascii form xs (λ i. h (suc i)))
+all_code_units_ascii form (x ∷ xs) h = ap (λ l. l ++ all_code_units form xs) (code_units_ascii form x (h 0))
+    ∙ ap (λ l. x ∷ l) (all_code_units_ascii form xs (λ i. h (suc i)))
 
 -- any scalar fits into four code units
 pub four_fit : (form : EncodingForm) (c room : ℕ) → 4 ≤ room → length (code_units form c) ≤ room
@@ -136,14 +131,16 @@ module _ {D : Type 0} (T : Ghosts D) where
       scalars = a.scalars ++ b.scalars;
       runs = runs_then g h k xs ys a.scalars b.scalars a.runs b.runs;
       written = b.written ∙ ap (λ l. l ++ all_code_units T.form b.scalars) a.written
-          ∙ append_assoc (T.contents x) (all_code_units T.form a.scalars) (all_code_units T.form b.scalars) ∙ ap (λ l. T.contents x ++ l) (sym (all_code_units-append T.form a.scalars b.scalars));
+          ∙ append_assoc (T.contents x) (all_code_units T.form a.scalars) (all_code_units T.form b.scalars)
+          ∙ ap (λ l. T.contents x ++ l) (sym (all_code_units-append T.form a.scalars b.scalars));
       room = omega (arith, total_unit_count-append T.form a.scalars b.scalars, a.room, b.room);
       loan = b.loan ∙ a.loan;
     }
 
   module _ {g : Grammar} {y z : D} where
     -- a sequence whose scalar was put
-    pub writes_put : (bytes : List ℕ) (c : ℕ) → Runs g bytes (c ∷ []) → T.contents z ≡ T.contents y ++ code_units T.form c → T.room z + length (code_units T.form c) ≡ T.room y → T.loan z ≡ T.loan y
+    pub writes_put : (bytes : List ℕ) (c : ℕ) → Runs g bytes (c ∷ []) → T.contents z ≡ T.contents y ++ code_units T.form c
+        → T.room z + length (code_units T.form c) ≡ T.room y → T.loan z ≡ T.loan y
         → Writes T g bytes y z
     writes_put bytes c run contents room loan =
         let one : all_code_units T.form (c ∷ []) ≡ code_units T.form c = append-nil (code_units T.form c) in
@@ -152,26 +149,34 @@ module _ {D : Type 0} (T : Ghosts D) where
   module _ {g : Grammar} {x y z : D} where
     module _ (src : List ℕ) (at c : ℕ) where
       -- the next byte
-      pub writes_one : at < length src → Writes T g (take at src) x y → Runs g (get_or src at 0 ∷ []) (c ∷ []) → T.contents z ≡ T.contents y ++ code_units T.form c
+      pub writes_one : at < length src → Writes T g (take at src) x y → Runs g (get_or src at 0 ∷ []) (c ∷ [])
+          → T.contents z ≡ T.contents y ++ code_units T.form c
           → T.room z + length (code_units T.form c) ≡ T.room y → T.loan z ≡ T.loan y → Writes T g (take (at + 1) src) x z
-      writes_one h a run contents room loan = subst (λ l. Writes T g l x z) (sym (take_more src at 0 h)) (writes_then a (writes_put (get_or src at 0 ∷ []) c run contents room loan))
+      writes_one h a run contents room loan =
+          subst (λ l. Writes T g l x z) (sym (take_more src at 0 h)) (writes_then a (writes_put (get_or src at 0 ∷ []) c run contents room loan))
 
       -- the next pair of bytes
-      pub writes_two : at + 1 < length src → Writes T g (take at src) x y → Runs g (get_or src at 0 ∷ get_or src (at + 1) 0 ∷ []) (c ∷ []) → T.contents z ≡ T.contents y ++ code_units T.form c
+      pub writes_two : at + 1 < length src → Writes T g (take at src) x y → Runs g (get_or src at 0 ∷ get_or src (at + 1) 0 ∷ []) (c ∷ [])
+          → T.contents z ≡ T.contents y ++ code_units T.form c
           → T.room z + length (code_units T.form c) ≡ T.room y → T.loan z ≡ T.loan y → Writes T g (take (at + 2) src) x z
       writes_two h a run contents room loan =
-          subst (λ l. Writes T g l x z) (sym (take_two src at h)) (writes_then a (writes_put (get_or src at 0 ∷ get_or src (at + 1) 0 ∷ []) c run contents room loan))
+          subst (λ l. Writes T g l x z) (sym (take_two src at h))
+          (writes_then a (writes_put (get_or src at 0 ∷ get_or src (at + 1) 0 ∷ []) c run contents room loan))
 
       -- the next four-byte sequence
-      pub writes_four : at + 3 < length src → Writes T g (take at src) x y → Runs g (get_or src at 0 ∷ get_or src (at + 1) 0 ∷ get_or src (at + 2) 0 ∷ get_or src (at + 3) 0 ∷ []) (c ∷ [])
-          → T.contents z ≡ T.contents y ++ code_units T.form c → T.room z + length (code_units T.form c) ≡ T.room y → T.loan z ≡ T.loan y → Writes T g (take (at + 4) src) x z
+      pub writes_four : at + 3 < length src → Writes T g (take at src) x y
+          → Runs g (get_or src at 0 ∷ get_or src (at + 1) 0 ∷ get_or src (at + 2) 0 ∷ get_or src (at + 3) 0 ∷ []) (c ∷ [])
+          → T.contents z ≡ T.contents y ++ code_units T.form c → T.room z + length (code_units T.form c) ≡ T.room y → T.loan z ≡ T.loan y
+          → Writes T g (take (at + 4) src) x z
       writes_four h a run contents room loan =
           subst (λ l. Writes T g l x z) (sym (take_four src at h))
           (writes_then a (writes_put (get_or src at 0 ∷ get_or src (at + 1) 0 ∷ get_or src (at + 2) 0 ∷ get_or src (at + 3) 0 ∷ []) c run contents room loan))
 
     -- a run after the bytes that were read
-    pub writes_run : (src : List ℕ) (at r : ℕ) → Writes T g (take at src) x y → Writes T g (take r (take (length src - at) (drop at src))) y z → Writes T g (take (at + r) src) x z
-    writes_run src at r a b = subst (λ l. Writes T g l x z) (sym (take-add at r src)) (writes_then a (subst (λ l. Writes T g (take r l) y z) (rest_of src at) b))
+    pub writes_run : (src : List ℕ) (at r : ℕ) → Writes T g (take at src) x y → Writes T g (take r (take (length src - at) (drop at src))) y z
+        → Writes T g (take (at + r) src) x z
+    writes_run src at r a b =
+        subst (λ l. Writes T g l x z) (sym (take-add at r src)) (writes_then a (subst (λ l. Writes T g (take r l) y z) (rest_of src at) b))
 
   -- ASCII bytes that were copied
   pub writes_ascii : (g : Grammar) (old new : D) (bytes : List ℕ) → HasAscii g → IsAscii bytes → T.contents new ≡ T.contents old ++ bytes

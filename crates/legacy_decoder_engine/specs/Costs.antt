@@ -1,10 +1,8 @@
 -- The code units that a move of a decoder writes, and their bounds.
 use Rattle.std.specs.Prelude.{ℕ, ◌+◌, ◌*◌, ◌<◌, ◌≤◌, ◌≡◌, List, [], ◌∷◌, true, false, drop, length, All, Option, Some, None}
 use Rattle.legacy_tables.specs.Unicode.{IsByte, AreBytes}
-use Rattle.legacy_base.specs.Fronts.{reads, malformed}
-use Rattle.legacy_base.specs.Grammar.{Grammar}
 use Rattle.legacy_base.specs.States.{DecoderState, state_of, may_hold, rests}
-use Rattle.legacy_base.specs.Acts.{takes, writes, act_room}
+use Rattle.legacy_base.specs.{Fronts.reads, Fronts.malformed, Grammar.Grammar, Acts.takes, Acts.writes, Acts.act_room}
 use Rattle.legacy_decoder_engine.specs.Steps.{Step, hold, finish, leave, step_held, DecoderMachine}
 
 -- the number of code units of scalars
@@ -62,8 +60,11 @@ pub record RoomMeets (len : ℕ → ℕ) (narrow wide fault : ℕ) (room : Decod
   pub step_fits : (held : List ℕ) (b : ℕ) → may_hold g held ≡ true → rests g held ≡ true → AreBytes held → IsByte b →
       step_units len narrow (m.step held b) ≤ act_room narrow wide (state_of g held) (takes b)
   pub step_pays : (held : List ℕ) (b n : ℕ) → may_hold g held ≡ true → rests g held ≡ true → AreBytes held → IsByte b →
-      room (state_of (m.to held b) (step_held (m.step held b) held b)) (n + step_left (m.step held b)) + step_units len fault (m.step held b) ≤ room (state_of g held) (n + 1)
+      room (state_of (m.to held b) (step_held (m.step held b) held b)) (n + step_left (m.step held b)) + step_units len fault (m.step held b) ≤ room
+      (state_of g held) (n + 1)
   pub write_pays : (held : List ℕ) → may_hold g held ≡ true → rests g held ≡ false → AreBytes held → WritePays len narrow wide room g held (m.pending held)
-  pub report_pays : (b : ℕ) (held : List ℕ) → may_hold g (b ∷ held) ≡ true → rests g (b ∷ held) ≡ true → room (state_of g []) 0 + fault ≤ room (state_of g (b ∷ held)) 0
+  pub report_pays : (b : ℕ) (held : List ℕ) → may_hold g (b ∷ held) ≡ true → rests g (b ∷ held) ≡ true
+      → room (state_of g []) 0 + fault ≤ room (state_of g (b ∷ held)) 0
   pub reads_covered : (held : List ℕ) (b n : ℕ) → may_hold g held ≡ true → 0 < n → act_room narrow wide (state_of g held) (takes b) ≤ room (state_of g held) n
-  pub holds_covered : (held : List ℕ) (n : ℕ) → may_hold g held ≡ true → 0 < length held → act_room narrow wide (state_of g held) writes ≤ room (state_of g held) n
+  pub holds_covered : (held : List ℕ) (n : ℕ) → may_hold g held ≡ true → 0 < length held
+      → act_room narrow wide (state_of g held) writes ≤ room (state_of g held) n

@@ -1,17 +1,10 @@
 -- The codecs whose sequences are one byte, or a lead and a trail: what their common decoder requires of each.
 use Rattle.std.specs.Prelude.{◌≡◌, ℕ, ◌<◌, ◌≤◌, List, [], ◌∷◌, Bool, true, false, length, Option, Some, None, MatchOption}
 use Rattle.std.specs.Char.{is_ascii}
-use Rattle.legacy_base.specs.Fronts.{reads}
-use Rattle.legacy_tables.specs.Indexes.{FlatIndexes}
-use Rattle.legacy_tables.specs.TableChecks.{AreAccepted}
-use Rattle.legacy_tables.specs.AcceptedTables.{AcceptedIndexes}
-use Rattle.legacy_base.specs.Grammar.{Grammar}
 use Rattle.legacy_base.specs.States.{DecoderState, single_lead_may_hold, may_hold, rests, begins_in_ascii}
-use Rattle.legacy_base.specs.Acts.{has_short_ascii, has_reported}
-use Rattle.legacy_base.specs.Lengths.{weight}
-use Rattle.legacy_decoder_engine.specs.Steps.{Step, hold, finish}
-use Rattle.legacy_decoder_engine.specs.LeadMachines.{two_byte_machine}
-use Rattle.legacy_decoder_engine.specs.Shown.{IsShown}
+use Rattle.legacy_base.specs.{Fronts.reads, Grammar.Grammar, Acts.has_short_ascii, Acts.has_reported, Lengths.weight}
+use Rattle.legacy_tables.specs.{Indexes.FlatIndexes, TableChecks.AreAccepted, AcceptedTables.AcceptedIndexes}
+use Rattle.legacy_decoder_engine.specs.{Steps.Step, Steps.hold, Steps.finish, LeadMachines.two_byte_machine, Shown.IsShown}
 
 -- a byte past ASCII
 abbrev pub IsPastAscii : ℕ → Type 0

@@ -1,23 +1,20 @@
 -- The small moves of a decoder, which make up its calls. A move is the same in both encoding forms.
-use Rattle.std.specs.Prelude.{◌≡◌, ◌≢◌, ℕ, ◌+◌, ◌-◌, ◌<◌, ◌≤◌, List, [], ◌∷◌, ◌++◌, length, map, true, false, IsTrue, Bool, Option, None, ◌⊎◌, All, if◌then◌else◌}
+use Rattle.std.specs.Prelude.{◌≡◌, ◌≢◌, ℕ, ◌+◌, ◌-◌, ◌<◌, ◌≤◌, List, [], ◌∷◌, ◌++◌, length, map, true, false, IsTrue, Bool, Option, None, ◌⊎◌, All}
+use Rattle.std.specs.Prelude.{if◌then◌else◌}
 use Rattle.std.specs.Char.{IsScalar}
-use Rattle.legacy_base.specs.declared.results.DecodeEvent.{DecodeEvent}
-use Rattle.legacy_base.specs.declared.results.DecodeEvent.TheVariants.{Scalar, Bad}
-use Rattle.legacy_base.specs.declared.results.DecoderResult.{DecoderResult}
 use Rattle.legacy_base.specs.declared.results.DecoderResult.TheVariants.{InputEmpty, OutputFull, Malformed}
-use Rattle.legacy_text.specs.EncodingForm.{EncodingForm, unit_count, total_unit_count, bmp_room, wide_room}
-use Rattle.legacy_base.specs.Grammar.{Grammar, events_of}
 use Rattle.legacy_base.specs.States.{DecoderState, may_hold, rests}
-use Rattle.legacy_base.specs.Acts as acts
 use Rattle.legacy_base.specs.Acts.{act_room, full_room_in, release_room_in, room_needed, wants_full_room, HadRoom}
 use Rattle.legacy_base.specs.Lengths.{LengthQuery, query_form, replacement_units, room}
-use Rattle.legacy_base.specs.Calls.{Progress, IsFault}
-use Rattle.legacy_decoder_engine.specs.declared.moves.Room.{Room}
-use Rattle.legacy_decoder_engine.specs.declared.moves.Room.TheVariants.{Nothing as NoRoom, Unit as OneUnit, Narrow, Wide}
-use Rattle.legacy_decoder_engine.specs.declared.moves.Move.{Move}
+use Rattle.legacy_base.specs.{declared.results.DecodeEvent.DecodeEvent, declared.results.DecodeEvent.TheVariants.Scalar}
+use Rattle.legacy_base.specs.{declared.results.DecodeEvent.TheVariants.Bad, declared.results.DecoderResult.DecoderResult, Grammar.Grammar, Grammar.events_of}
+use Rattle.legacy_base.specs.{Calls.Progress, Calls.IsFault}
+use Rattle.legacy_text.specs.EncodingForm.{EncodingForm, unit_count, total_unit_count, bmp_room, wide_room}
 use Rattle.legacy_decoder_engine.specs.declared.moves.Move.TheVariants.{Release, Read, Report}
-use Rattle.legacy_decoder_engine.specs.declared.moves.Fed.{Fed}
 use Rattle.legacy_decoder_engine.specs.declared.moves.Fed.TheVariants.{Nothing, One, Two, Fault}
+use Rattle.legacy_decoder_engine.specs.{declared.moves.Room.Room, declared.moves.Move.Move, declared.moves.Fed.Fed}
+use Rattle.legacy_base.specs.Acts as acts
+use Rattle.legacy_decoder_engine.specs.declared.moves.Room.TheVariants.{Nothing as NoRoom, Unit as OneUnit, Narrow, Wide}
 
 -- the number of code units of an amount of room
 abbrev pub room_units : EncodingForm → Room → ℕ
@@ -110,7 +107,8 @@ pub record Feeds (before : DecoderState) (byte : ℕ) (after : DecoderState) (fe
   pub scalar : All IsScalar (fed_scalars fed)
   -- the room still needed falls by what is written
   pub lowers : (query : LengthQuery) (n : ℕ) →
-      room query after (n + length (unread_byte byte fed)) + (total_unit_count (query_form query) (fed_scalars fed) + fed_units query fed) ≤ room query before (n + 1)
+      room query after (n + length (unread_byte byte fed)) +
+      (total_unit_count (query_form query) (fed_scalars fed) + fed_units query fed) ≤ room query before (n + 1)
 
 -- bytes that were read one after another, each with its room, and are held back
 unfoldable pub HoldsBytes : EncodingForm → ℕ → DecoderState → List ℕ → DecoderState → Type 0

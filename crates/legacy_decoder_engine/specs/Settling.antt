@@ -1,9 +1,6 @@
 -- The states after the steps of a decoder.
 use Rattle.std.specs.Prelude.{ℕ, suc, ◌≡◌, List, [], ◌∷◌, ◌++◌, Bool, true, ◌&&◌, length, Some}
-use Rattle.legacy_base.specs.Fronts.{reads, malformed}
-use Rattle.legacy_base.specs.Grammar.{Grammar}
-use Rattle.legacy_base.specs.States.{rests}
-use Rattle.legacy_base.specs.Acts.{has_marks, is_mark_behind}
+use Rattle.legacy_base.specs.{Fronts.reads, Fronts.malformed, Grammar.Grammar, States.rests, Acts.has_marks, Acts.is_mark_behind}
 use Rattle.legacy_decoder_engine.specs.Steps.{Step, hold, finish, leave}
 
 -- at most one scalar, or a letter and its mark

@@ -2,19 +2,14 @@
 use Rattle.std.specs.Prelude.{◌≡◌, ℕ, List, [], ◌∷◌, true, false, Option, Some, None, drop, ◌⊎◌}
 use Rattle.std.specs.Char.{is_ascii}
 use Rattle.legacy_text.specs.EncodingForm.{unit_count, bmp_room, wide_room}
-use Rattle.legacy_base.specs.Fronts.{reads}
-use Rattle.legacy_base.specs.Grammar.{Grammar}
-use Rattle.legacy_base.specs.States.{may_hold, rests}
-use Rattle.legacy_base.specs.Acts.{has_short_ascii, has_reported, has_marks}
 use Rattle.legacy_base.specs.Lengths.{LengthQuery, query_form, replacement_units, room}
-use Rattle.legacy_decoder_engine.specs.Steps.{finish, DecoderMachine, Meets}
-use Rattle.legacy_decoder_engine.specs.Moves.{SameRooms}
-use Rattle.legacy_decoder_engine.specs.Costs.{RoomMeets}
-use Rattle.legacy_decoder_engine.specs.Settling.{Settles}
+use Rattle.legacy_base.specs.{Fronts.reads, Grammar.Grammar, States.may_hold, States.rests, Acts.has_short_ascii, Acts.has_reported, Acts.has_marks}
+use Rattle.legacy_decoder_engine.specs.{Steps.finish, Steps.DecoderMachine, Steps.Meets, Moves.SameRooms, Costs.RoomMeets, Settling.Settles}
 
 -- the rooms of one query are kept
 abbrev pub KeepsRooms : LengthQuery → Grammar → DecoderMachine → Type 0
-KeepsRooms query g m = RoomMeets (unit_count (query_form query)) (bmp_room (query_form query)) (wide_room (query_form query)) (replacement_units query) (room query) g m
+KeepsRooms query g m =
+    RoomMeets (unit_count (query_form query)) (bmp_room (query_form query)) (wide_room (query_form query)) (replacement_units query) (room query) g m
 
 -- after a held-back scalar is written, no other one is to be written
 abbrev pub WriteSettles : Grammar → List ℕ → Option (ℕ × ℕ) → Type 0

@@ -1,13 +1,10 @@
 -- The next step of a decoder, and its agreement with the grammar.
 use Rattle.std.specs.Prelude.{ℕ, ◌+◌, ◌≤◌, ◌<◌, ◌≡◌, List, [], ◌∷◌, ◌++◌, true, false, drop, length, Option, Some, None, if◌then◌else◌}
 use Rattle.std.specs.Char.{is_ascii}
-use Rattle.legacy_base.specs.declared.results.DecodeEvent.{DecodeEvent}
-use Rattle.legacy_base.specs.declared.results.DecodeEvent.TheVariants.{Scalar, Bad}
-use Rattle.legacy_base.specs.Beginnings.{BeginsWith}
-use Rattle.legacy_base.specs.Events.{shift}
 use Rattle.legacy_base.specs.Fronts.{Front, reads, malformed, front_length, front_events}
-use Rattle.legacy_base.specs.Grammar.{Grammar, events_of}
-use Rattle.legacy_base.specs.States.{may_hold, rests}
+use Rattle.legacy_base.specs.{declared.results.DecodeEvent.DecodeEvent, declared.results.DecodeEvent.TheVariants.Scalar}
+use Rattle.legacy_base.specs.{declared.results.DecodeEvent.TheVariants.Bad, Beginnings.BeginsWith, Events.shift, Grammar.Grammar, Grammar.events_of}
+use Rattle.legacy_base.specs.{States.may_hold, States.rests}
 
 -- what a decoder does with the next byte if no held-back scalar is to be written
 pub data Step : Type 0 where
@@ -64,7 +61,8 @@ StepFault (leave n) = IsFaultLength n
 
 -- the law of one step, for every continuation
 pub record StepMeets (g : Grammar) (held : List ℕ) (b : ℕ) (s : Step) (to : Grammar) : Type 0 where
-  pub goes_on : (more : List ℕ) → events_of g (held ++ b ∷ more) ≡ step_events s ++ shift (step_length s) (events_of to (step_held s held b ++ step_unread s b more))
+  pub goes_on : (more : List ℕ)
+      → events_of g (held ++ b ∷ more) ≡ step_events s ++ shift (step_length s) (events_of to (step_held s held b ++ step_unread s b more))
   pub counts : step_length s + length (step_held s held b) ≡ length held + step_read s
   pub fault : StepFault s
   pub few : length (step_held s held b) ≤ 3

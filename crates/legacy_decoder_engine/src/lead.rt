@@ -161,11 +161,13 @@ impl<'a, C: LeadCodec> DecoderMoves for LeadDecoder<'a, C> {
     }
 
     #[inline]
+    #[tactic(auto, using(crate::proofs::LeadHeld::ends_none, crate::proofs::LeadHeld::ends_some))]
     fn has_rest(&self) -> bool {
         self.held.is_some()
     }
 
     #[inline]
+    #[tactic(auto, using(crate::proofs::LeadHeld::ends_none, crate::proofs::LeadHeld::reports))]
     fn report(&mut self) -> Option<(u8, u8)> {
         match self.held {
             Some(_) => {

@@ -138,6 +138,7 @@ pub trait DecoderMoves {
     /// The result may be any part of them. They are read as by `feed`, one after another; each
     /// gives nothing and has its room.
     #[inline(always)]
+    #[tactic(auto, using(crate::proofs::CallUnderWay::holds_none))]
     fn hold_back<T: Destination>(&mut self, src: &[u8], dst: &T) -> usize
         ensures within { result ≤ length src.now }
         ensures holds { HoldsBytes T.form (T.room dst.now) (state self.old) (take result src.now)

@@ -6,6 +6,7 @@ ghost use Rattle.legacy_decoder_engine.specs.Feeding.{Took};
 ghost use Rattle.legacy_decoder_engine.specs.LeadCodecs.{IsLeadOf, held_bytes};
 
 use crate::moves::Fed;
+use crate::trail::unmapped;
 
 /// Returns a malformed sequence that ends with the byte, with nothing held back after it.
 #[inline]
@@ -47,11 +48,6 @@ pub fn read_trail(scalar: Option<char>, trail: u8) -> Fed
 {
     match scalar {
         Some(scalar) => Fed::One(scalar),
-        None if trail < 0x80 => Fed::Fault {
-            length: 1,
-            back: 0,
-            unread: true,
-        },
-        None => fault_through(2),
+        None => unmapped(1, trail),
     }
 }

@@ -1,6 +1,6 @@
 -- The entry of index EUC-KR at the place of a lead and a trail.
 use Rattle.std.proofs.Common.{◌≡◌, ◌≢◌, ◌∙◌, ℕ, ◌+◌, ◌-◌, ◌*◌, ◌/◌, ◌%◌, ◌<◌, ◌≤◌, ◌&&◌, List, [], ◌∷◌, Bool, true, false, cond}
-use Rattle.std.proofs.Common.{Option, Some, None, length, get_or, option_to_list, refl, sym, arith}
+use Rattle.std.proofs.Common.{Option, Some, None, if◌then◌else◌, length, get_or, option_to_list, refl, sym, arith}
 use Rattle.std.specs.{Char.IsScalar, Int.is_in_range}
 use Rattle.legacy_tables.specs.declared.tables.IndexName.TheVariants.{EucKr}
 use Rattle.legacy_tables.specs.{AcceptedTables.AcceptedIndexes, Indexes.idx, Unicode.IsByte}

@@ -2,9 +2,7 @@ use Rattle.std.proofs.Common.{ℕ, Bool, ◌≡◌, ◌∙◌, ◌<◌, ◌+◌,
 use Rattle.legacy_text.specs.EncodingForm.{code_units, total_unit_count}
 use Rattle.legacy_text.proofs.CodeUnits.{total_unit_count-append}
 use Rattle.legacy_base.specs.Calls.{DecoderCall}
-use Rattle.legacy_decoder_engine.specs.declared.moves.Fed.{Fed}
-use Rattle.legacy_decoder_engine.specs.declared.moves.Fed.TheVariants.{Fault}
-use Rattle.legacy_decoder_engine.specs.Moves.{fed_scalars, IsFaulty}
+use Rattle.legacy_decoder_engine.specs.{declared.moves.Fed.Fed, declared.moves.Fed.TheVariants.Fault, Moves.fed_scalars, Moves.IsFaulty}
 use Rattle.legacy_decoder_engine.proofs.CallUnderWay.{going_start, going_release, going_feed, call_full_release, call_lacks, call_read, call_unread, call_end}
 use Rattle.legacy_decoder_engine.proofs.AheadRuns.{front_going, written}
 use Rattle.legacy_decoder_engine.proofs.drive.drive_decoder.Goals as goal

@@ -1,10 +1,7 @@
 use Rattle.std.proofs.Common.{◌≡◌, ◌+◌, ◌*◌, ◌∙◌, length, take, drop, get_or, ap, sym, refl, subst, arith, length-append}
 use Rattle.std.proofs.lemmas.List.{get_or-drop, length-drop}
-use Rattle.legacy_decoder_engine.specs.Ahead.{Writes}
-use Rattle.legacy_decoder_engine.specs.LaneCodes.{IsForm}
-use Rattle.legacy_decoder_engine.specs.PickedForms.{forms_of}
-use Rattle.legacy_decoder_engine.proofs.LaneUnits.{eight_forms, forms_at}
-use Rattle.legacy_decoder_engine.proofs.WrittenRuns.{writes_none, writes_then, all_short}
+use Rattle.legacy_decoder_engine.specs.{Ahead.Writes, LaneCodes.IsForm, PickedForms.forms_of}
+use Rattle.legacy_decoder_engine.proofs.{LaneUnits.eight_forms, LaneUnits.forms_at, WrittenRuns.writes_none, WrittenRuns.writes_then, WrittenRuns.all_short}
 use Rattle.legacy_decoder_engine.proofs.lanes.put_codes.Goals as goal
 
 pub returns-then-entries-eq0-clause-writes : goal.returns-then-entries-eq0-clause-writes

@@ -1,8 +1,7 @@
 use Rattle.std.proofs.Common.{◌≡◌, ℕ, ◌∙◌, ◌<◌, List, [], ◌∷◌, w16, Fits, length, take, get_or, ap, sym, refl, subst, arith, length-append}
-use Rattle.legacy_decoder_engine.specs.Ahead.{Runs, Writes}
-use Rattle.legacy_decoder_engine.specs.PickedForms.{form_of, forms_of}
-use Rattle.legacy_decoder_engine.proofs.LaneUnits.{form_more}
+use Rattle.legacy_decoder_engine.specs.{Ahead.Runs, Ahead.Writes, PickedForms.form_of, PickedForms.forms_of}
 use Rattle.legacy_decoder_engine.proofs.WrittenRuns.{writes_none, writes_put, writes_then, short, three_fit}
+use Rattle.legacy_decoder_engine.proofs.LaneUnits.{form_more}
 use Rattle.legacy_decoder_engine.proofs.lanes.put_few.Goals as goal
 
 narrow : (units : List ℕ) (count c : ℕ) → ((k : ℕ) → Fits w16 (get_or units k 0)) → c ≡ get_or units count 0 → c < 65536

@@ -1,8 +1,6 @@
 use Rattle.std.proofs.Common.{◌≡◌, ◌≢◌, ℕ, ◌+◌, ◌-◌, ◌*◌, ◌<◌, ◌≤◌, List, length, take, get_or}
 use Rattle.legacy_base.specs.Grammar.{Grammar}
-use Rattle.legacy_decoder_engine.specs.Ahead.{Writes}
-use Rattle.legacy_decoder_engine.specs.LaneCodes.{IsForm}
-use Rattle.legacy_decoder_engine.specs.PickedForms.{forms_of}
+use Rattle.legacy_decoder_engine.specs.{Ahead.Writes, LaneCodes.IsForm, PickedForms.forms_of}
 use Rattle.legacy_decoder_engine.proofs.lanes.put_few.Given as goal
 
 -- the units so far are written, each as at most three code units

@@ -1,8 +1,6 @@
 use Rattle.std.proofs.Common.{ℕ, ◌∙◌, cond, ltb, take, ap, sym, subst, arith}
 use Rattle.legacy_decoder_engine.specs.Ahead.{Writes}
-use Rattle.legacy_decoder_engine.proofs.FormStarts.{front_chunk}
-use Rattle.legacy_decoder_engine.proofs.LaneUnits.{front_part}
-use Rattle.legacy_decoder_engine.proofs.WrittenRuns.{writes_none}
+use Rattle.legacy_decoder_engine.proofs.{FormStarts.front_chunk, LaneUnits.front_part, WrittenRuns.writes_none}
 use Rattle.legacy_decoder_engine.proofs.lanes.read_block.Goals as goal
 
 pub returns-then-past-min-clause-writes : goal.returns-then-past-min-clause-writes

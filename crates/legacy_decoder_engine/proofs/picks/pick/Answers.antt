@@ -10,7 +10,8 @@ loop-group-preserved c =
     record {
       within = omega arith;
       counted = omega (arith, c.put_codes-count.ensures.most, i.counted);
-      picked = next_eight (code_at c.args.block.now) l.group l.left l.count c.put_codes-count.result l.codes c.put_codes-count.new.codes _ (omega arith) i.picked c.put_codes-count.ensures.written;
+      picked = next_eight (code_at c.args.block.now) l.group l.left l.count c.put_codes-count.result l.codes c.put_codes-count.new.codes _
+          (omega arith) i.picked c.put_codes-count.ensures.written;
     }
 
 pub returns-clause-codes : goal.returns-clause-codes

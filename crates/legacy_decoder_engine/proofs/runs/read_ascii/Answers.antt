@@ -1,9 +1,8 @@
 use Rattle.std.proofs.Common.{take, refl, arith, subst}
 use Rattle.std.proofs.lemmas.List.{length-take, length-take-le, take-take}
 use Rattle.legacy_decoder_engine.specs.Ahead.{Writes}
-use Rattle.legacy_decoder_engine.proofs.CallUnderWay.{same_rooms}
+use Rattle.legacy_decoder_engine.proofs.{CallUnderWay.same_rooms, WrittenRuns.writes_ascii, WrittenRuns.reads_none}
 use Rattle.legacy_base.specs.States.{new_state}
-use Rattle.legacy_decoder_engine.proofs.WrittenRuns.{writes_ascii, reads_none}
 use Rattle.legacy_decoder_engine.proofs.runs.read_ascii.Goals as goal
 
 pub returns-then-src-ge128-clause-ahead : goal.returns-then-src-ge128-clause-ahead
@@ -22,8 +21,10 @@ returns-clause-ahead g c grammar law =
       empties = λ h. refl;
       stays = λ z. refl;
       rooms = same_rooms grammar;
-      writes = subst (λ bytes. Writes T grammar bytes c.args.dst.now c.copy_ascii.new.self) (take-take c.copy_ascii.result c.min-most.result src (omega (arith, e.read, l)))
-          (writes_ascii T grammar c.args.dst.now c.copy_ascii.new.self (take c.copy_ascii.result (take c.min-most.result src)) law e.ascii e.contents (omega (arith, long, e.room)) e.loan);
+      writes = subst (λ bytes. Writes T grammar bytes c.args.dst.now c.copy_ascii.new.self)
+          (take-take c.copy_ascii.result c.min-most.result src (omega (arith, e.read, l)))
+          (writes_ascii T grammar c.args.dst.now c.copy_ascii.new.self (take c.copy_ascii.result (take c.min-most.result src)) law e.ascii e.contents
+          (omega (arith, long, e.room)) e.loan);
       slack = λ h. omega (arith, e.read, l, e.room, c.min-most.ensures, c.saturating_sub.ensures, c.free.ensures);
       had = λ h. omega (arith, e.read, l, e.room, c.min-most.ensures, c.saturating_sub.ensures, c.free.ensures);
     }

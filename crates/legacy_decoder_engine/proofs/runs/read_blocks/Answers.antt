@@ -1,6 +1,5 @@
 use Rattle.legacy_base.specs.States.{new_state}
-use Rattle.legacy_decoder_engine.proofs.JoinedRuns.{reads_more}
-use Rattle.legacy_decoder_engine.proofs.WrittenRuns.{reads_none}
+use Rattle.legacy_decoder_engine.proofs.{JoinedRuns.reads_more, WrittenRuns.reads_none}
 use Rattle.legacy_decoder_engine.proofs.runs.read_blocks.Goals as goal
 
 pub loop-at-init : goal.loop-at-init

@@ -1,8 +1,6 @@
-use Rattle.std.proofs.Common.{◌<◌, arith}
-use Rattle.std.proofs.Math.Nat.{le-mul_of_pos_right}
+use Rattle.std.proofs.{Common.◌<◌, Common.arith, Math.Nat.le-mul_of_pos_right}
 use Rattle.legacy_base.specs.States.{new_state}
-use Rattle.legacy_decoder_engine.proofs.JoinedRuns.{reads_written}
-use Rattle.legacy_decoder_engine.proofs.WrittenRuns.{reads_none}
+use Rattle.legacy_decoder_engine.proofs.{JoinedRuns.reads_written, WrittenRuns.reads_none}
 use Rattle.legacy_decoder_engine.proofs.runs.read_one.Goals as goal
 
 pub returns-then-turns-eq0 : goal.returns-then-turns-eq0
@@ -26,5 +24,6 @@ returns g c =
     let some : 0 < c.fitting-turns.result = omega (arith, c.if-turns-eq0.false) in
     let bytes = le-mul_of_pos_right g.F.Forms.most_bytes some in
     let units = le-mul_of_pos_right g.F.Forms.most_units some in
-    reads_written (omega (arith, e.bytes, f.read, bytes)) f.writes (omega (arith, e.units, e.few, f.slack, units, c.saturating_sub.ensures, c.free.ensures, some))
+    reads_written (omega (arith, e.bytes, f.read, bytes)) f.writes
+    (omega (arith, e.units, e.few, f.slack, units, c.saturating_sub.ensures, c.free.ensures, some))
     (omega (arith, e.few, c.saturating_sub.ensures, c.free.ensures, some))

@@ -1,8 +1,7 @@
 use Rattle.std.proofs.Common.{◌%◌, arith}
 use Rattle.legacy_base.specs.States.{new_state}
-use Rattle.legacy_decoder_engine.proofs.JoinedRuns.{reads_written}
-use Rattle.legacy_decoder_engine.proofs.Turns.{all_turns, four_turns, last_turns}
-use Rattle.legacy_decoder_engine.proofs.WrittenRuns.{writes_none, writes_run, reads_none}
+use Rattle.legacy_decoder_engine.proofs.{JoinedRuns.reads_written, Turns.all_turns, Turns.four_turns, Turns.last_turns, WrittenRuns.writes_none}
+use Rattle.legacy_decoder_engine.proofs.{WrittenRuns.writes_run, WrittenRuns.reads_none}
 use Rattle.legacy_decoder_engine.proofs.runs.read_run.Goals as goal
 
 pub returns-then-turns-eq0 : goal.returns-then-turns-eq0
@@ -18,10 +17,12 @@ loop-left-init g c =
     )
 
 pub read_forms-read-requires-clause-source : goal.read_forms-read-requires-clause-source
-read_forms-read-requires-clause-source g c = omega (arith, c.loop-left.invariant.0, four_turns g.F.Forms.most_bytes c.loop-left.left (c.fitting-turns.result % 4) c.loop-left-test.true)
+read_forms-read-requires-clause-source g c =
+    omega (arith, c.loop-left.invariant.0, four_turns g.F.Forms.most_bytes c.loop-left.left (c.fitting-turns.result % 4) c.loop-left-test.true)
 
 pub read_forms-read-requires-clause-room : goal.read_forms-read-requires-clause-room
-read_forms-read-requires-clause-room g c = omega (arith, c.loop-left.invariant.1, four_turns g.F.Forms.most_units c.loop-left.left (c.fitting-turns.result % 4) c.loop-left-test.true)
+read_forms-read-requires-clause-room g c =
+    omega (arith, c.loop-left.invariant.1, four_turns g.F.Forms.most_units c.loop-left.left (c.fitting-turns.result % 4) c.loop-left-test.true)
 
 pub loop-left-preserved : goal.loop-left-preserved
 loop-left-preserved g c =
@@ -46,10 +47,12 @@ returns-then-read-FOUR_AT_LEAST g c =
     (omega (arith, c.fitting-turns.ensures.few, c.saturating_sub.ensures, c.free.ensures, c.if-turns-eq0.false))
 
 pub read_forms-requires-clause-source : goal.read_forms-requires-clause-source
-read_forms-requires-clause-source g c = omega (arith, c.loop-left.invariant.0, last_turns g.F.Forms.most_bytes c.loop-left.left (c.fitting-turns.result % 4) c.loop-left-test.false)
+read_forms-requires-clause-source g c =
+    omega (arith, c.loop-left.invariant.0, last_turns g.F.Forms.most_bytes c.loop-left.left (c.fitting-turns.result % 4) c.loop-left-test.false)
 
 pub read_forms-requires-clause-room : goal.read_forms-requires-clause-room
-read_forms-requires-clause-room g c = omega (arith, c.loop-left.invariant.1, last_turns g.F.Forms.most_units c.loop-left.left (c.fitting-turns.result % 4) c.loop-left-test.false)
+read_forms-requires-clause-room g c =
+    omega (arith, c.loop-left.invariant.1, last_turns g.F.Forms.most_units c.loop-left.left (c.fitting-turns.result % 4) c.loop-left-test.false)
 
 pub returns : goal.returns
 returns g c =

@@ -1,4 +1,4 @@
-use Rattle.legacy_decoder_engine.proofs.SplitLanes.{sums_are}
+use Rattle.legacy_decoder_engine.proofs.LanePlaces.{sums_are}
 use Rattle.legacy_decoder_engine.proofs.split_rows.place_sums.Goals as goal
 
 pub returns : goal.returns

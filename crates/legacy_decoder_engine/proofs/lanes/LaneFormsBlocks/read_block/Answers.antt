@@ -1,6 +1,5 @@
 use Rattle.legacy_base.specs.States.{new_state}
-use Rattle.legacy_decoder_engine.proofs.JoinedRuns.{reads_more}
-use Rattle.legacy_decoder_engine.proofs.WrittenRuns.{reads_none}
+use Rattle.legacy_decoder_engine.proofs.{JoinedRuns.reads_more, WrittenRuns.reads_none}
 use Rattle.legacy_decoder_engine.proofs.lanes.LaneFormsBlocks.read_block.Goals as goal
 
 pub returns-then-begins_rare-clause-ahead : goal.returns-then-begins_rare-clause-ahead

@@ -5,7 +5,9 @@ use Rattle.legacy_decoder_engine.proofs.lead.LeadDecoderDecoderMoves.feed.Goals 
 pub returns-in-Some : goal.returns-in-Some
 returns-in-Some g c =
     let byte : c.args.byte < 2 ^ 8 = omega arith in
-    rw c.in-Some.is (feeds g.met.C.LeadCodec.codec g.met.C.LeadCodec.leads c.args.self.now.tables.now (Some c.in-Some.lead) c.args.byte byte c.read_pair.result None c.read_pair.ensures)
+    rw c.in-Some.is
+    (feeds g.met.C.LeadCodec.codec g.met.C.LeadCodec.leads c.args.self.now.tables.now
+    (Some c.in-Some.lead) c.args.byte byte c.read_pair.result None c.read_pair.ensures)
 
 pub returns-in-None : goal.returns-in-None
 returns-in-None g c =

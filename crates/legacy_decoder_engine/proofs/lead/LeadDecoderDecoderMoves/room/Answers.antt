@@ -1,6 +1,4 @@
-use Rattle.std.proofs.Common.{arith}
-use Rattle.std.proofs.Common.{inl, inr}
-use Rattle.std.proofs.lemmas.Grind.{common_steps}
+use Rattle.std.proofs.{Common.arith, Common.inl, Common.inr, lemmas.Grind.common_steps}
 use Rattle.legacy_decoder_engine.proofs.LeadHeld.{covered}
 use Rattle.legacy_decoder_engine.proofs.lead.LeadDecoderDecoderMoves.room.Goals as goal
 
