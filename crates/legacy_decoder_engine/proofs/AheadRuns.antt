@@ -1,7 +1,8 @@
 -- A run of common sequences within a call in progress.
 use Rattle.std.proofs.Common.{◌≡◌, ◌∙◌, ℕ, suc, ◌+◌, ◌-◌, ◌≤◌, ◌<◌, List, [], ◌∷◌, ◌++◌, length, map, take, drop, refl, sym, ap, subst, arith, add-zero}
 use Rattle.std.proofs.Common.{append_assoc, append-nil, true, length-append, length-drop, Bool, Some, None, Option, inl, inr}
-use Rattle.std.proofs.{lemmas.List.length-map, lemmas.List.take-append-drop, lemmas.List.length-take-le, lemmas.Bool.cases_lt, lemmas.Bool.true≢false}
+use Rattle.std.proofs.lemmas.List.{length-map, take-append-drop, length-take-le, nil_from_length}
+use Rattle.std.proofs.lemmas.Bool.{cases_lt, true≢false}
 use Rattle.legacy_text.specs.EncodingForm.{EncodingForm, Utf8, Utf16, code_units, unit_count, all_code_units, total_unit_count, wide_room}
 use Rattle.legacy_text.specs.declared.destination.Destination.{Ghosts}
 use Rattle.legacy_text.proofs.CodeUnits.{all_code_units-append, total_unit_count-append}
@@ -36,14 +37,10 @@ length-shift : (k : ℕ) (es : List DecodeEvent) → length (shift k es) ≡ len
 length-shift k [] = refl
 length-shift k (x ∷ es) = ap suc (length-shift k es)
 
-no_length : (cs : List ℕ) → length cs ≡ 0 → cs ≡ []
-no_length [] e = refl
-no_length (c ∷ cs) e = absurd (omega arith)
-
 runs_nothing : (g : Grammar) (cs : List ℕ) → Runs g [] cs → cs ≡ []
 runs_nothing g cs h =
     let e : length (events_of g []) ≡ length (map Scalar cs ++ shift 0 (events_of g [])) = ap length (h.events []) in
-    no_length cs (omega (arith, e, length-append (map Scalar cs) (shift 0 (events_of g [])), length-map cs Scalar, length-shift 0 (events_of g [])))
+    nil_from_length cs (omega (arith, e, length-append (map Scalar cs) (shift 0 (events_of g [])), length-map cs Scalar, length-shift 0 (events_of g [])))
 
 -- a call is in progress, and the destination contains what was written
 abbrev pub IsUnderWay : {D : Type 0} → Ghosts D → Bool → DecoderState → List ℕ → D → DecoderState → ℕ → D → Type 0

@@ -3,7 +3,7 @@ use Rattle.std.proofs.Common.{◌≡◌, ◌≢◌, ◌∙◌, ℕ, zero, suc, �
 use Rattle.std.proofs.Common.{arith, add-zero, add-one, append-nil, drop-cons, drop_of_length-le, length-append, length-drop, Bool, true, false, IsTrue, Some}
 use Rattle.std.proofs.Common.{None, Option, ◌⊎◌, inl, inr, All}
 use Rattle.std.proofs.{lemmas.List.map-append, lemmas.List.drop-drop, lemmas.List.Elements.All-append, lemmas.List.Elements.All-nil}
-use Rattle.std.proofs.{lemmas.List.Elements.All-cons, Math.Nat.sub-zero, lemmas.Bool.true≢false, lemmas.Bool.ne_eqb, lemmas.Bool.cases_lt}
+use Rattle.std.proofs.{lemmas.List.Elements.All-cons, Math.Nat.sub-zero, lemmas.Bool.true≢false, lemmas.Bool.cases_lt, lemmas.Bool.Decides.nat_tests}
 use Rattle.std.specs.Char.{IsScalar}
 use Rattle.legacy_text.specs.EncodingForm.{EncodingForm, unit_count, total_unit_count}
 use Rattle.legacy_text.proofs.CodeUnits.{total_unit_count-append}
@@ -47,10 +47,9 @@ next_byte : (source : List ℕ) (read : ℕ) → read < length source → drop r
 next_byte source read h = drop-cons source read 0 h ∙ rw add-one refl
 
 gave : (fed : Fed) → (fed_scalars fed ≡ []) ⊎ (fed_scalars fed ≢ [])
-gave Nothing = inl refl
 gave (One c) = inr (λ e. cc)
 gave (Two c d) = inr (λ e. cc)
-gave (Fault a b u) = inl refl
+gave fed = inl refl
 
 -- ---- rooms
 
@@ -63,12 +62,10 @@ module _ (form : EncodingForm) (g : Grammar) where
       (λ w. rw (← s.full form) (a.0 (rw (s.wants previous c) w)), HadRoom-same h (Some c) (free - unit_count form c) cs s a.1)
 
   fault_room_at : (read n : ℕ) → (read ≡ 0 → release_room_in form g ≤ n) → (0 < read → full_room_in form g ≤ n) → fault_room form g read ≤ n
-  fault_room_at zero n a b = a refl
-  fault_room_at (suc r) n a b = let z : suc r ≡ 0 → ⊥ = λ e. omega arith in rw (ne_eqb (suc r) 0 z) (b (omega arith))
+  fault_room_at read n a b = grind (arith, nat_tests)
 
   fault_room_of : (read n : ℕ) → fault_room form g read ≤ n → (read ≡ 0 → release_room_in form g ≤ n) × (0 < read → full_room_in form g ≤ n)
-  fault_room_of zero n h = (λ e. h, λ p. absurd (omega arith))
-  fault_room_of (suc r) n h = let z : suc r ≡ 0 → ⊥ = λ e. omega arith in (λ e. absurd (z e), λ p. rw (ne_eqb (suc r) 0 z) at h)
+  fault_room_of read n h = (λ z. grind (arith, nat_tests), λ p. grind (arith, nat_tests))
 
 -- ---- what is reported, if `p` more bytes were done with before
 

@@ -3,7 +3,7 @@ use Rattle.std.proofs.Common.{◌≡◌, ◌≢◌, ◌∙◌, ℕ, suc, zero-ad
 use Rattle.std.proofs.Common.{append-nil, length-append, length-drop, drop_of_length-le, Bool, true, false, cond, not, ◌&&◌, ◌||◌, ◌⊎◌, map, IsTrue, Option}
 use Rattle.std.proofs.Common.{Some, None, inl, inr, All}
 use Rattle.std.proofs.{lemmas.List.drop-append-le, lemmas.List.nil_from_length, lemmas.List.Elements.All-nil, lemmas.List.Elements.All-cons}
-use Rattle.std.proofs.lemmas.Bool.Decides.{nat_tests}
+use Rattle.std.proofs.{lemmas.Bool.Decides.nat_tests, Math.Seq.drop-length}
 use Rattle.std.specs.Char.{IsScalar, is_ascii}
 use Rattle.legacy_text.specs.EncodingForm.{EncodingForm, Utf8, Utf16, code_units, unit_count, all_code_units, total_unit_count, bmp_room, wide_room}
 use Rattle.legacy_tables.specs.Unicode.{IsByte, AreBytes}
@@ -96,10 +96,9 @@ unfolding HadRoom
 had_short form g free b h = (λ w. short_wants (has_short_ascii g && is_ascii b) (has_marks g) false (full_room_in form g) free h w, tt)
 
 has_scalars : (fed : Fed) → HasScalars fed → All IsScalar (fed_scalars fed)
-has_scalars Nothing h = All-nil IsScalar
 has_scalars (One c) h = All-cons IsScalar c [] h (All-nil IsScalar)
 has_scalars (Two c d) h = All-cons IsScalar c (d ∷ []) h.0 (All-cons IsScalar d [] h.1 (All-nil IsScalar))
-has_scalars (Fault sequence back unread) h = All-nil IsScalar
+has_scalars fed h = All-nil IsScalar
 
 reads_same : (m n : ℕ) (xs ys : List ℕ) → finish (reads m xs) ≡ finish (reads n ys) → xs ≡ ys
 reads_same m n xs ys e = cc
@@ -245,10 +244,10 @@ module _ {g : Grammar} {m : DecoderMachine} (shown : IsShown g m) (held : List �
 
   -- at the end of input all held-back bytes are reported
   pub reports_all : rests g held ≡ true → held ≢ [] → Reports (state_of g held) (state_of g []) (length held) 0
-  reports_all r some = by_held held may r some refl where
-    by_held : (l : List ℕ) → may_hold g l ≡ true → rests g l ≡ true → l ≢ [] → l ≡ held → Reports (state_of g l) (state_of g []) (length l) 0
-    by_held [] m r' n e = absurd (n refl)
-    by_held (x ∷ xs) m r' n e =
+  reports_all r some = by_held held may r some where
+    by_held : (l : List ℕ) → may_hold g l ≡ true → rests g l ≡ true → l ≢ [] → Reports (state_of g l) (state_of g []) (length l) 0
+    by_held [] m r' n = absurd (n refl)
+    by_held (x ∷ xs) m r' n =
         let few = shown.meets.few (x ∷ xs) m in
         let zero_place : length (x ∷ xs) - length (x ∷ xs) ≡ 0 = omega arith in
         let none : events_of g [] ≡ [] = shown.meets.ends [] (may_none g) (rests-none g) in
@@ -257,8 +256,7 @@ module _ {g : Grammar} {m : DecoderMachine} (shown : IsShown g m) (held : List �
           holding = λ z. cc;
           progress = record {
             counts = omega arith;
-            rest = ap (drop (length (x ∷ xs))) (append-nil (x ∷ xs))
-                ∙ (let le : length (x ∷ xs) ≤ length (x ∷ xs) = omega arith in drop_of_length-le (x ∷ xs) le);
+            rest = ap (drop (length (x ∷ xs))) (append-nil (x ∷ xs)) ∙ drop-length (x ∷ xs);
             events = λ more l. elim (l refl) [
               | inl z ↦ ap (λ q. events_of g ((x ∷ xs) ++ q)) z ∙ ap (events_of g) (append-nil (x ∷ xs)) ∙ shown.meets.ends (x ∷ xs) m r'
                   ∙ rw (zero_place, z, none) refl

@@ -8,6 +8,7 @@ use Rattle.std.proofs.lemmas.Bool.Decides.{nat_tests}
 use Rattle.std.specs.Int.{bit_at}
 use lib.Lanes.{mask_l, zip2, top, chunk}
 use Rattle.legacy_decoder_engine.specs.PickedForms.{places, code_at, forms_of, ArePast, AreStarts, IsFront}
+use Rattle.legacy_text.proofs.Ascii.{splat_zip2}
 use Rattle.legacy_decoder_engine.proofs.WrittenRuns.{take_two}
 
 -- bits that pass the check are the starts of forms
@@ -28,18 +29,12 @@ asked past starts first all = record {
 pub lowest_set : (n : ℕ) → bit_at (bit_or n 1) 0 ≡ 1
 lowest_set n = bit_at_or n 1 0 ∙ (let low = bit_at-lt n 0 in let one : bit_at 1 0 ≡ 1 = refl in omega (arith, one))
 
--- a comparison of one number with each of a list
-all_compared : (t : ℕ → ℕ → Bool) (y n : ℕ) (xs : List ℕ) → length xs ≡ n → zip2 t (replicate n y) xs ≡ map (t y) xs
-all_compared t y zero [] e = refl
-all_compared t y (suc n) [] e = absurd (omega arith)
-all_compared t y zero (x ∷ xs) e = absurd (omega arith)
-all_compared t y (suc n) (x ∷ xs) e = ap (λ (l : List Bool). t y x ∷ l) (all_compared t y n xs (omega arith))
-
 -- the bits of the bytes past ASCII
 pub past_mask : (block : List ℕ) → length block ≡ 64
     → mask_l (map (top 7) (zip2 (λ a b. cond (leb a b) (2 ^ 8 - 1) 0) (replicate 64 128) block)) % 2 ^ 64 ≡ mask_l (map (λ b. leb 128 b) block)
 past_mask block long =
-    ap (λ ms. mask_l ms % 2 ^ 64) (tops_compared w8 leb (replicate 64 128) block ∙ all_compared leb 128 64 block long)
+    ap (λ ms. mask_l ms % 2 ^ 64)
+    (tops_compared w8 leb (replicate 64 128) block ∙ ap (λ n. zip2 leb (replicate n 128) block) (sym long) ∙ splat_zip2 leb 128 block)
     ∙ mask_l-mod (map (λ b. leb 128 b) block) 64 (omega (arith, length-map block (λ b. leb 128 b), long))
 
 -- the bit of one byte

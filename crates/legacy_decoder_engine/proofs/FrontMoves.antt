@@ -2,6 +2,7 @@
 use Rattle.std.proofs.Common.{◌≡◌, ℕ, suc, ◌+◌, ◌<◌, ◌≤◌, List, [], ◌∷◌, ◌++◌, drop, length, Bool, true, false, cond, ◌-◌, refl, sym, ap, ◌∙◌, append_assoc}
 use Rattle.std.proofs.Common.{length-append, length-drop, drop_of_length-le, le_refl, arith, subst}
 use Rattle.std.proofs.{Math.Seq.drop-length, Math.Seq.drop-append_seam, lemmas.List.drop-append-le}
+use Rattle.std.proofs.lemmas.Bool.{cond_both}
 use Rattle.std.specs.Char.{is_ascii}
 use Rattle.legacy_base.specs.Fronts.{Front, reads, malformed, front_length, front_events, reads_or, trail_rule, cut}
 use Rattle.legacy_base.specs.Grammar.{Grammar, events_of}
@@ -34,11 +35,8 @@ some_reads_or n [] other some h = h
 some_reads_or n (c ∷ scalars) other some h = some
 
 pub some_trail_rule : (n t : ℕ) → 0 < n → 0 < front_length (trail_rule n t)
-some_trail_rule n t some = go (is_ascii t)
-  where
-    go : (a : Bool) → 0 < front_length (cond a (malformed n) (malformed (n + 1)))
-    go true = some
-    go false = omega arith
+some_trail_rule n t some =
+    cond_both (is_ascii t) (malformed n) (malformed (n + 1)) (λ f. 0 < front_length f) (λ _. some) (λ _. omega arith)
 
 -- if the events of a list begin with a malformed sequence of n bytes, its front is that sequence
 front_reported : (front : ℕ → List ℕ → Front) (b : ℕ) (rest : List ℕ) (n : ℕ) (f : Front) → front b rest ≡ f → 0 < front_length f

@@ -5,8 +5,9 @@ use Rattle.std.proofs.lemmas.List.{flat_map_more, take_more, take-take, take-app
 use Rattle.std.proofs.lemmas.List.{get_or-map}
 use Rattle.std.proofs.lemmas.Simd.{tops_compared, length-zip2, get_or-zip2, get_or-sel_l, get_or-replicate, bitmask_splat, ones-mask_l, length-chunk}
 use Rattle.std.proofs.lemmas.Simd.{get_or-chunk, get_or-put_chunk_below, get_or-put_chunk_at}
-use Rattle.std.proofs.{lemmas.Bool.ltb-true, lemmas.Bool.ltb-false, lemmas.Bool.cases_lt, lemmas.Bool.Decides.nat_tests, lemmas.Nat.and_mask}
-use Rattle.std.proofs.{lemmas.List.Sums.sum_by-cons, lemmas.Grind.flat_map-append, Math.Seq.take-append_seam, Math.Seq.take-add}
+use Rattle.std.proofs.lemmas.Bool.{ltb-true, ltb-false, cases_lt}
+use Rattle.std.proofs.{lemmas.Bool.Decides.nat_tests, lemmas.Nat.and_mask, lemmas.List.Sums.sum_by-cons, lemmas.List.Sums.count_by-le-length}
+use Rattle.std.proofs.{lemmas.Grind.flat_map-append, Math.Seq.take-append_seam, Math.Seq.take-add}
 use Rattle.std.specs.{Char.IsScalar, List.count_by, Int.RustNames.count_ones}
 use lib.Lanes.{Each1, zip2, sel_l, top, mask_l, chunk, put_chunk}
 use Rattle.legacy_text.proofs.UnitLanes.{of_eight}
@@ -155,16 +156,12 @@ front_part n count codes block most front =
 
 -- ---- how many lanes are ASCII
 
-count_most : (p : ℕ → Bool) (xs : List ℕ) → count_by p xs ≤ length xs
-count_most p [] = omega arith
-count_most p (x ∷ xs) = let n = sum_by-cons (λ y. cond (p y) 1 0) x xs in let most = count_most p xs in grind (arith, nat_tests)
-
 pub ascii_lanes : (ks : List ℕ) → length ks ≡ 8
     → (count_ones (mask_l (map (top 15) (zip2 (λ a b. mask_if (ltb a b)) ks (replicate 8 128))) % 2 ^ 64) ≡ count_by (λ k. ltb k 128) ks)
     × (count_by (λ k. ltb k 128) ks ≤ 8)
 ascii_lanes ks long = (
   ap count_ones (bitmask_splat w16 ltb ks 8 128 long (omega arith)) ∙ ones-mask_l (λ k. ltb k 128) ks,
-  omega (arith, count_most (λ k. ltb k 128) ks, long),
+  omega (arith, count_by-le-length (λ k. ltb k 128) ks, long),
 )
 
 -- ---- groups of eight that are stored

@@ -1,6 +1,6 @@
 -- From the code units that a decoder's steps write to the lengths that its queries return.
 use Rattle.std.proofs.Common.{◌≡◌, ℕ, ◌+◌, ◌*◌, ◌<◌, ◌≤◌, List, [], ◌∷◌, length, Bool, true, false, cond, Some, refl, sym, ◌∙◌, ◌&&◌, mul-add, arith}
-use Rattle.std.proofs.{lemmas.Bool.false≢true, lemmas.Bool.Decides.nat_tests, Math.Nat.mul-le-mul_left}
+use Rattle.std.proofs.{lemmas.Bool.false≢true, lemmas.Bool.cond_both, lemmas.Bool.Decides.nat_tests, Math.Nat.mul-le-mul_left}
 use Rattle.legacy_tables.specs.Unicode.{IsByte, AreBytes}
 use Rattle.legacy_base.specs.Grammar.{Grammar, profile}
 use Rattle.legacy_base.specs.States.{DecoderState, may_hold, rests, is_empty, state_of}
@@ -37,7 +37,9 @@ pub all_needs : (narrow wide : ℕ) (room : ℕ → ℕ) (g : Grammar) (m : Deco
     ((b n : ℕ) → 0 < n → act_room narrow wide (state_of g held) (takes b) ≤ room n) →
     ((n : ℕ) → 0 < length held → act_room narrow wide (state_of g held) writes ≤ room n) →
     (unread : List ℕ) (last : Bool) → need narrow wide (state_of g held) unread last ≤ room (length unread)
-all_needs narrow wide room g m meets empty held may take write unread last = go (rests g held) refl
+all_needs narrow wide room g m meets empty held may take write unread last =
+    cond_both (rests g held) (act_at_rest (state_of g held) unread last) (Some writes)
+    (λ act. room_of_act narrow wide (state_of g held) act ≤ room (length unread)) (λ r. at_rest r unread) (λ r. write (length unread) (some_held held r))
   where
     at_end : (held' : List ℕ) → (0 < length held' → act_room narrow wide (state_of g held) reports ≤ room 0) →
         (last : Bool) → room_of_act narrow wide (state_of g held) (act_at_end (end_events held') last) ≤ room 0
@@ -53,11 +55,6 @@ all_needs narrow wide room g m meets empty held may take write unread last = go 
         → room_of_act narrow wide (state_of g held) (act_at_rest (state_of g held) unread last) ≤ room (length unread)
     at_rest r (b ∷ unread) = take b (length (b ∷ unread)) (omega arith)
     at_rest r [] = rw (meets.ends held may r) (at_end held (λ h. write 0 h) last)
-
-    go : (t : Bool) → rests g held ≡ t
-        → room_of_act narrow wide (state_of g held) (cond t (act_at_rest (state_of g held) unread last) (Some writes)) ≤ room (length unread)
-    go true r = at_rest r unread
-    go false r = write (length unread) (some_held held r)
 
 -- ---- rooms that fall by a slope for each byte, or for each two
 
@@ -126,30 +123,17 @@ fault_paid to_utf8_without_replacement paid x y h = let le : 0 + x ≤ 0 + y = o
 
 -- ---- the room of an act, in any codec
 
+pub narrow_read : (narrow wide : ℕ) → narrow ≤ wide → (g : Grammar) → (narrow ≤ full_room narrow wide g) × (full_room narrow wide g ≤ wide)
+narrow_read narrow wide rises g =
+    elim (profile g).rooms as (λ r. (narrow ≤ reading_room narrow wide r) × (reading_room narrow wide r ≤ wide))
+    [ narrow_acts ↦ (omega arith, rises) | wide_reads ↦ (rises, omega arith) | wide_acts ↦ (rises, omega arith) ]
+
 read_most : (narrow wide : ℕ) → 1 ≤ narrow → narrow ≤ wide → (g : Grammar) (held : List ℕ) (b : ℕ)
     → act_room narrow wide (state_of g held) (takes b) ≤ full_room narrow wide g
-read_most narrow wide some rises g held b = by_tests (has_reported g) ((is_ascii b && is_empty held) && has_short_ascii g)
-  where
-    by_rooms : (r : Rooms) → 1 ≤ reading_room narrow wide r
-    by_rooms narrow_acts = some
-    by_rooms wide_reads = omega arith
-    by_rooms wide_acts = omega arith
-
-    one : 1 ≤ full_room narrow wide g
-    one = by_rooms (profile g).rooms
-
-    by_tests : (t u : Bool) → cond t 0 (cond u 1 (full_room narrow wide g)) ≤ full_room narrow wide g
-    by_tests true u = omega arith
-    by_tests false true = one
-    by_tests false false = omega arith
-
-pub narrow_read : (narrow wide : ℕ) → narrow ≤ wide → (g : Grammar) → (narrow ≤ full_room narrow wide g) × (full_room narrow wide g ≤ wide)
-narrow_read narrow wide rises g = by_rooms (profile g).rooms
-  where
-    by_rooms : (r : Rooms) → (narrow ≤ reading_room narrow wide r) × (reading_room narrow wide r ≤ wide)
-    by_rooms narrow_acts = (omega arith, rises)
-    by_rooms wide_reads = (rises, omega arith)
-    by_rooms wide_acts = (rises, omega arith)
+read_most narrow wide some rises g held b =
+    let least = (narrow_read narrow wide rises g).0 in
+    cond_both (has_reported g) 0 _ (λ n. n ≤ full_room narrow wide g) (λ _. omega arith)
+    (λ _. cond_both ((is_ascii b && is_empty held) && has_short_ascii g) 1 _ (λ n. n ≤ full_room narrow wide g) (λ _. omega arith) (λ _. omega arith))
 
 -- the rooms of a codec that fall by slopes
 module _ (g : Grammar) (m : DecoderMachine) (wt : List ℕ → ℕ) (paid : ℕ) (meets : Meets g m) (costs : HasCosts g m wt paid) (is : IsSloped g m wt paid)

@@ -144,7 +144,13 @@ module _ {D : Type 0} (T : Ghosts D) where
         → Writes T g bytes y z
     writes_put bytes c run contents room loan =
         let one : all_code_units T.form (c ∷ []) ≡ code_units T.form c = append-nil (code_units T.form c) in
-        record { scalars = c ∷ []; runs = run; written = contents ∙ ap (λ l. T.contents y ++ l) (sym one); room = ap (λ l. T.room z + length l) one ∙ room; loan = loan }
+        record {
+          scalars = c ∷ [];
+          runs = run;
+          written = contents ∙ ap (λ l. T.contents y ++ l) (sym one);
+          room = ap (λ l. T.room z + length l) one ∙ room;
+          loan = loan;
+        }
 
   module _ {g : Grammar} {x y z : D} where
     module _ (src : List ℕ) (at c : ℕ) where
@@ -184,4 +190,10 @@ module _ {D : Type 0} (T : Ghosts D) where
       → Writes T g bytes old new
   writes_ascii g old new bytes law ascii contents room loan =
       let same = all_code_units_ascii T.form bytes ascii in
-      record { scalars = bytes; runs = runs_ascii g law bytes ascii; written = contents ∙ ap (λ l. T.contents old ++ l) (sym same); room = ap (λ l. T.room new + length l) same ∙ room; loan = loan }
+      record {
+        scalars = bytes;
+        runs = runs_ascii g law bytes ascii;
+        written = contents ∙ ap (λ l. T.contents old ++ l) (sym same);
+        room = ap (λ l. T.room new + length l) same ∙ room;
+        loan = loan;
+      }

@@ -19,9 +19,8 @@ step_units len fault (leave n) = fault
 
 -- 1 if the byte is still to be read, and 0 if it was read
 abbrev pub step_left : Step → ℕ
-step_left hold = 0
-step_left (finish f) = 0
 step_left (leave n) = 1
+step_left s = 0
 
 -- The common properties of the code units of UTF-8 and UTF-16. `narrow` is the number of code units of U+FFFD, and of
 -- the longest scalar up to U+FFFF. `wide` is that of the longest scalar.

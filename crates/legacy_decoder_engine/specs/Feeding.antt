@@ -21,10 +21,9 @@ fed_of (leave n) held b = Fault n (length (drop n held)) true
 
 -- the scalars of a result are Unicode scalar values
 abbrev pub HasScalars : Fed → Type 0
-HasScalars Nothing = Unit {0}
 HasScalars (One c) = IsScalar c
 HasScalars (Two c d) = IsScalar c × IsScalar d
-HasScalars (Fault sequence back unread) = Unit {0}
+HasScalars fed = Unit {0}
 
 -- a decoder took a step at a byte: its result is `fed`, and it now holds back `kept`
 pub record Took (step : Step) (held : List ℕ) (b : ℕ) (fed : Fed) (kept : List ℕ) : Type 0 where

@@ -29,9 +29,8 @@ read_room form state byte = act_room (bmp_room form) (wide_room form) state (act
 
 -- the room that an act needs
 abbrev pub move_units : EncodingForm → DecoderState → Move → ℕ
-move_units form state Release = release_room_in form state.grammar
 move_units form state (Read byte) = read_room form state byte
-move_units form state Report = release_room_in form state.grammar
+move_units form state next = release_room_in form state.grammar
 
 -- the room of a length query is enough for the next act
 pub record IsCovered (state : DecoderState) : Type 0 where
@@ -41,46 +40,35 @@ pub record IsCovered (state : DecoderState) : Type 0 where
 
 -- the scalars that a byte gives
 abbrev pub fed_scalars : Fed → List ℕ
-fed_scalars Nothing = []
 fed_scalars (One c) = c ∷ []
 fed_scalars (Two c d) = c ∷ d ∷ []
-fed_scalars (Fault sequence back unread) = []
+fed_scalars fed = []
 
 -- the malformed sequence that a byte reveals; it ends the bytes that are done with
 abbrev pub fed_fault : ℕ → Fed → List DecodeEvent
-fed_fault passed Nothing = []
-fed_fault passed (One c) = []
-fed_fault passed (Two c d) = []
 fed_fault passed (Fault sequence back unread) = Bad (passed - sequence) sequence ∷ []
+fed_fault passed fed = []
 
 -- the code units that a length query sets aside for that sequence
 abbrev pub fed_units : LengthQuery → Fed → ℕ
-fed_units query Nothing = 0
-fed_units query (One c) = 0
-fed_units query (Two c d) = 0
 fed_units query (Fault sequence back unread) = replacement_units query
+fed_units query fed = 0
 
 -- the byte, if it is not read
 abbrev pub unread_byte : ℕ → Fed → List ℕ
-unread_byte byte Nothing = []
-unread_byte byte (One c) = []
-unread_byte byte (Two c d) = []
 unread_byte byte (Fault sequence back unread) = if unread then byte ∷ [] else []
+unread_byte byte fed = []
 
 -- After a malformed sequence, the sequence is among the bytes seen and ends before the held-back bytes. Otherwise no
 -- held-back scalar is to be written.
 abbrev pub FedHolds : ℕ → DecoderState → Fed → Type 0
-FedHolds passed after Nothing = IsTrue (rests after.grammar after.held)
-FedHolds passed after (One c) = IsTrue (rests after.grammar after.held)
-FedHolds passed after (Two c d) = IsTrue (rests after.grammar after.held)
 FedHolds passed after (Fault sequence back unread) = IsFault (passed + length after.held) after sequence back
+FedHolds passed after fed = IsTrue (rests after.grammar after.held)
 
 -- a byte reveals a malformed sequence
 abbrev pub IsFaulty : Fed → Type 0
-IsFaulty Nothing = ⊥
-IsFaulty (One c) = ⊥
-IsFaulty (Two c d) = ⊥
 IsFaulty (Fault sequence back unread) = Unit {0}
+IsFaulty fed = ⊥
 
 -- two grammars need the same room for the same scalars
 pub record SameRooms (before after : Grammar) : Type 0 where

@@ -35,15 +35,13 @@ step_held (leave n) held b = drop n held
 
 -- the number of bytes read
 abbrev pub step_read : Step → ℕ
-step_read hold = 1
-step_read (finish f) = 1
 step_read (leave n) = 0
+step_read s = 1
 
 -- the unread bytes after the step, if `more` is after the byte
 abbrev pub step_unread : Step → ℕ → List ℕ → List ℕ
-step_unread hold b more = more
-step_unread (finish f) b more = more
 step_unread (leave n) b more = b ∷ more
+step_unread s b more = more
 
 -- the length of a malformed sequence
 abbrev pub IsFaultLength : ℕ → Type 0

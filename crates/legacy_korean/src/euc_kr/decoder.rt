@@ -61,7 +61,7 @@ impl LaneCodec for EucKr {
         byte >= 0x80 && Lead::new(byte).is_none()
     }
 
-    #[inline]
+    #[inline(always)]
     fn front(tables: &FlatTables<'_>, lead: u8, trail: u8) -> CommonForm {
         match form_scalar(tables, lead, trail) {
             Some(scalar) => CommonForm::Pair(scalar),

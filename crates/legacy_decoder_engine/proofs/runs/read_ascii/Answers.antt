@@ -1,7 +1,6 @@
-use Rattle.std.proofs.Common.{take, refl, arith, subst}
-use Rattle.std.proofs.lemmas.List.{length-take, length-take-le, take-take}
+use Rattle.std.proofs.{Common.take, Common.arith, Common.subst, lemmas.List.length-take, lemmas.List.length-take-le, lemmas.List.take-take}
 use Rattle.legacy_decoder_engine.specs.Ahead.{Writes}
-use Rattle.legacy_decoder_engine.proofs.{CallUnderWay.same_rooms, WrittenRuns.writes_ascii, WrittenRuns.reads_none}
+use Rattle.legacy_decoder_engine.proofs.{JoinedRuns.reads_front, WrittenRuns.writes_ascii, WrittenRuns.reads_none}
 use Rattle.legacy_base.specs.States.{new_state}
 use Rattle.legacy_decoder_engine.proofs.runs.read_ascii.Goals as goal
 
@@ -15,16 +14,10 @@ returns-clause-ahead g c grammar law =
     let e = c.copy_ascii.ensures in
     let l = length-take c.min-most.result src in
     let long = length-take-le c.copy_ascii.result (take c.min-most.result src) e.read in
-    record {
-      within = omega (arith, e.read, l);
-      idle = λ h. refl;
-      empties = λ h. refl;
-      stays = λ z. refl;
-      rooms = same_rooms grammar;
-      writes = subst (λ bytes. Writes T grammar bytes c.args.dst.now c.copy_ascii.new.self)
-          (take-take c.copy_ascii.result c.min-most.result src (omega (arith, e.read, l)))
-          (writes_ascii T grammar c.args.dst.now c.copy_ascii.new.self (take c.copy_ascii.result (take c.min-most.result src)) law e.ascii e.contents
-          (omega (arith, long, e.room)) e.loan);
-      slack = λ h. omega (arith, e.read, l, e.room, c.min-most.ensures, c.saturating_sub.ensures, c.free.ensures);
-      had = λ h. omega (arith, e.read, l, e.room, c.min-most.ensures, c.saturating_sub.ensures, c.free.ensures);
-    }
+    reads_front (omega (arith, e.read, l))
+    (subst (λ bytes. Writes T grammar bytes c.args.dst.now c.copy_ascii.new.self)
+    (take-take c.copy_ascii.result c.min-most.result src (omega (arith, e.read, l)))
+    (writes_ascii T grammar c.args.dst.now c.copy_ascii.new.self (take c.copy_ascii.result (take c.min-most.result src)) law e.ascii e.contents
+    (omega (arith, long, e.room)) e.loan))
+    (λ h. omega (arith, e.read, l, e.room, c.min-most.ensures, c.saturating_sub.ensures, c.free.ensures))
+    (λ h. omega (arith, e.read, l, e.room, c.min-most.ensures, c.saturating_sub.ensures, c.free.ensures))
