@@ -11,7 +11,7 @@ use Rattle.legacy_base.specs.declared.results.DecoderResult.TheVariants.{InputEm
 use Rattle.legacy_base.specs.States.{DecoderState, may_hold, rests}
 use Rattle.legacy_base.specs.Acts.{LacksRoom, HadRoom, HadRooms, fault_room, full_room_in, release_room_in}
 use Rattle.legacy_base.specs.Lengths.{LengthQuery, query_form, replacement_units, room}
-use Rattle.legacy_base.specs.Calls.{Progress, DecoderCall, IsFault, IsMalformed, HoldsBack, out_events, reported_events, may_report_end}
+use Rattle.legacy_base.specs.Calls.{Progress, DecoderCall, IsFault, IsMalformed, HoldsBack, reported_events, may_report_end}
 use Rattle.legacy_base.specs.{declared.results.DecodeEvent.TheVariants.Scalar, declared.results.DecodeEvent.TheVariants.Bad}
 use Rattle.legacy_base.specs.{declared.results.DecoderResult.DecoderResult, Events.shift, Grammar.Grammar, Grammar.events_of}
 use Rattle.legacy_base.proofs.Progress.{stay, at_last, behind, after_that}

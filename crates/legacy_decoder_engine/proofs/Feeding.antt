@@ -1,7 +1,6 @@
 -- A machine that agrees with its grammar and keeps its rooms makes the moves that the loop requires.
-use Rattle.std.proofs.Common.{◌≡◌, ◌≢◌, ◌∙◌, ℕ, suc, zero-add, add-zero, ◌+◌, ◌-◌, ◌≤◌, List, [], ◌∷◌, ◌++◌, length, drop, refl, sym, ap, subst, arith}
-use Rattle.std.proofs.Common.{append-nil, length-append, length-drop, drop_of_length-le, Bool, true, false, cond, not, ◌&&◌, ◌||◌, ◌⊎◌, map, IsTrue, Option}
-use Rattle.std.proofs.Common.{Some, None, inl, inr, All}
+use Rattle.std.proofs.Common.{◌≡◌, ◌≢◌, ◌∙◌, ℕ, suc, ◌+◌, ◌-◌, ◌≤◌, List, [], ◌∷◌, ◌++◌, length, drop, refl, sym, ap, subst, arith, append-nil, length-append}
+use Rattle.std.proofs.Common.{length-drop, drop_of_length-le, Bool, true, false, cond, not, ◌&&◌, ◌||◌, ◌⊎◌, map, IsTrue, Option, Some, None, inl, inr, All}
 use Rattle.std.proofs.{lemmas.List.drop-append-le, lemmas.List.nil_from_length, lemmas.List.Elements.All-nil, lemmas.List.Elements.All-cons}
 use Rattle.std.proofs.{lemmas.Bool.Decides.nat_tests, Math.Seq.drop-length}
 use Rattle.std.specs.Char.{IsScalar, is_ascii}
@@ -12,13 +11,11 @@ use Rattle.legacy_base.specs.Acts.{act_room, takes, full_room, has_short_ascii, 
 use Rattle.legacy_base.specs.Lengths.{LengthQuery, to_utf16, to_utf8, query_form, replacement_units, room}
 use Rattle.legacy_base.specs.{Fronts.reads, Fronts.malformed, Events.shift, declared.results.DecodeEvent.TheVariants.Scalar}
 use Rattle.legacy_base.specs.{declared.results.DecodeEvent.TheVariants.Bad, Grammar.Grammar, Grammar.events_of, Calls.IsLoneFault}
-use Rattle.legacy_decoder_engine.specs.declared.moves.Fed.TheVariants.{Nothing, One, Two, Fault}
-use Rattle.legacy_decoder_engine.specs.Moves.{IsCovered, read_room, fed_scalars, fed_fault, fed_units, unread_byte, FedHolds, IsFaulty, Feeds, Releases}
-use Rattle.legacy_decoder_engine.specs.Moves.{Reports}
+use Rattle.legacy_decoder_engine.specs.Moves.{IsCovered, read_room, fed_scalars, fed_fault, FedHolds, IsFaulty, Feeds, Releases, Reports}
 use Rattle.legacy_decoder_engine.specs.Steps.{Step, hold, finish, leave, step_held, step_length, step_unread, step_events, StepMeets, PendingMeets, end_events}
 use Rattle.legacy_decoder_engine.specs.Steps.{DecoderMachine}
-use Rattle.legacy_decoder_engine.specs.Costs.{units, step_units, step_left}
 use Rattle.legacy_decoder_engine.specs.Feeding.{fed_form, fed_of, HasScalars, Took}
+use Rattle.legacy_decoder_engine.specs.{declared.moves.Fed.TheVariants.One, declared.moves.Fed.TheVariants.Two, Costs.units, Costs.step_units, Costs.step_left}
 use Rattle.legacy_decoder_engine.specs.{declared.moves.Fed.Fed, Settling.IsOneOrMarked, Settling.Settles, Shown.IsShown}
 use Rattle.legacy_base.proofs.{Rooms.release-full, GrammarLaws.may_none, GrammarLaws.rests-none}
 use Rattle.legacy_decoder_engine.proofs.RoomMoves.{all_needs}

@@ -1,8 +1,7 @@
 -- The front of a list gives the move of a decoder, for every continuation.
 use Rattle.std.proofs.Common.{◌≡◌, ℕ, suc, ◌+◌, ◌<◌, ◌≤◌, List, [], ◌∷◌, ◌++◌, drop, length, Bool, true, false, cond, ◌-◌, refl, sym, ap, ◌∙◌, append_assoc}
 use Rattle.std.proofs.Common.{length-append, length-drop, drop_of_length-le, le_refl, arith, subst}
-use Rattle.std.proofs.{Math.Seq.drop-length, Math.Seq.drop-append_seam, lemmas.List.drop-append-le}
-use Rattle.std.proofs.lemmas.Bool.{cond_both}
+use Rattle.std.proofs.{Math.Seq.drop-length, Math.Seq.drop-append_seam, lemmas.List.drop-append-le, lemmas.Bool.cond_both}
 use Rattle.std.specs.Char.{is_ascii}
 use Rattle.legacy_base.specs.Fronts.{Front, reads, malformed, front_length, front_events, reads_or, trail_rule, cut}
 use Rattle.legacy_base.specs.Grammar.{Grammar, events_of}

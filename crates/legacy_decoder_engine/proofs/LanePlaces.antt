@@ -1,6 +1,6 @@
 -- The places of eight codes lane by lane, and the entries at them.
-use Rattle.std.proofs.Common.{◌≡◌, ◌≢◌, ℕ, ◌+◌, ◌-◌, ◌*◌, ◌/◌, ◌%◌, ◌^◌, ◌<◌, ◌≤◌, ◌==◌, min, Bool, cond, leb, ltb, List, [], ◌∷◌, length, map, replicate}
-use Rattle.std.proofs.Common.{bit_and, refl, ap₂, subst, arith, w16, Fits, Option, Some, None, option_to_list}
+use Rattle.std.proofs.Common.{◌≡◌, ◌≢◌, ℕ, ◌+◌, ◌-◌, ◌*◌, ◌/◌, ◌%◌, ◌^◌, ◌<◌, ◌≤◌, min, Bool, cond, leb, ltb, List, [], ◌∷◌, length, map, replicate, bit_and}
+use Rattle.std.proofs.Common.{refl, ap₂, subst, arith, w16, Fits, option_to_list}
 use Rattle.std.proofs.{Math.Nat.mul-le-mul_right, lemmas.Bool.Decides.nat_tests, lemmas.Nat.and_mask}
 use lib.Lanes.{Each1, zip2, sel_l, top}
 use Rattle.legacy_tables.specs.Indexes.{entry_scalar}

@@ -1,5 +1,5 @@
 -- The entries of a table of places, and the entry of an index at the sum of the places of a lead and a trail.
-use Rattle.std.proofs.Common.{◌≡◌, ◌∙◌, ℕ, ◌+◌, ◌≤◌, ◌<◌, List, [], ◌∷◌, length, get_or, Bool, true, false, cond, Some, None, refl, sym, ap, arith}
+use Rattle.std.proofs.Common.{◌≡◌, ◌∙◌, ℕ, ◌+◌, ◌≤◌, ◌<◌, List, [], ◌∷◌, length, get_or, Bool, true, cond, None, refl, ap, arith}
 use Rattle.std.proofs.{lemmas.Bool.Decides.nat_tests, lemmas.List.get_or_past, lemmas.List.FromFn.get_or-map-range_with_len}
 use Rattle.std.specs.Prelude.{option_to_list}
 use Rattle.legacy_tables.specs.Indexes.{idx, entry_scalar}

@@ -1,6 +1,6 @@
 -- Codes of two bytes at places, by a shuffle from a table.
-use Rattle.std.proofs.Common.{◌≡◌, ℕ, zero, suc, ◌+◌, ◌*◌, ◌/◌, ◌%◌, ◌<◌, ◌≤◌, Bool, true, false, cond, leb, eqb, List, [], ◌∷◌, ◌++◌, length, get_or, map}
-use Rattle.std.proofs.Common.{take, replicate, refl, sym, ap, ap₂, ◌∙◌, arith, w8, Fits, ◌-◌, ◌^◌, ◌==◌, drop, inl, inr}
+use Rattle.std.proofs.Common.{◌≡◌, ℕ, zero, suc, ◌+◌, ◌*◌, ◌/◌, ◌%◌, ◌<◌, ◌≤◌, true, false, cond, leb, eqb, List, [], ◌∷◌, ◌++◌, length, get_or, map, take}
+use Rattle.std.proofs.Common.{replicate, refl, sym, ap, ap₂, ◌∙◌, arith, w8, Fits, ◌-◌, ◌^◌, ◌==◌, drop, inl, inr}
 use Rattle.std.proofs.lemmas.Bool.{ltb-true, leb-true, eqb-true, lt-leb, and_parts, agree_below_at, cases_lt}
 use Rattle.std.proofs.lemmas.List.{take-take, take-map, get_or_past, length-take-le, take-append-le, map-append, append_assoc, append-nil}
 use Rattle.std.proofs.lemmas.Simd.{swz_l, Each1-get_or, below_from_Fits, get_or-chunk, put_chunk_is}

@@ -4,7 +4,7 @@ use Rattle.std.proofs.Common.{false}
 use Rattle.std.proofs.{lemmas.List.Elements.All-nil, lemmas.List.Elements.All-cons, lemmas.List.Elements.All-append, lemmas.Bool.Decides.nat_tests}
 use Rattle.std.specs.Char.{IsScalar, is_ascii}
 use Rattle.legacy_tables.specs.Unicode.{IsByte, AreBytes}
-use Rattle.legacy_text.specs.EncodingForm.{unit_count, total_unit_count}
+use Rattle.legacy_text.specs.EncodingForm.{total_unit_count}
 use Rattle.legacy_base.specs.{declared.results.DecodeEvent.TheVariants.Scalar, Events.shift, Fronts.reads, Grammar.Grammar, Grammar.events_of, States.rests}
 use Rattle.legacy_base.specs.{States.may_hold, States.state_of, Lengths.LengthQuery, Lengths.query_form, Lengths.room}
 use Rattle.legacy_base.proofs.GrammarLaws.{may_none, rests-none}

@@ -1,6 +1,5 @@
 -- The code units of scalars in UTF-8 and UTF-16, and the scalars of indexes.
-use Rattle.std.proofs.Common.{◌≡◌, [], ◌∷◌, ℕ, ◌+◌, ◌<◌, ◌≤◌, List, length, get_or, Bool, true, false, cond, Option, Some, None, arith, ◌==◌, option_to_list}
-use Rattle.std.proofs.Common.{⊎_elim}
+use Rattle.std.proofs.Common.{◌≡◌, [], ◌∷◌, ℕ, ◌+◌, ◌<◌, ◌≤◌, List, length, get_or, Option, Some, None, arith, option_to_list, ⊎_elim}
 use Rattle.std.proofs.{lemmas.Bool.cases_lt, lemmas.Bool.Decides.nat_tests, lemmas.List.Elements.All-get_or, lemmas.List.get_or_past}
 use Rattle.legacy_text.specs.EncodingForm.{EncodingForm, Utf8, Utf16, unit_count, bmp_room, wide_room}
 use Rattle.legacy_tables.specs.Indexes.{entry_scalar, idx}

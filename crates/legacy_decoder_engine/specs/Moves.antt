@@ -10,9 +10,8 @@ use Rattle.legacy_base.specs.{declared.results.DecodeEvent.DecodeEvent, declared
 use Rattle.legacy_base.specs.{declared.results.DecodeEvent.TheVariants.Bad, declared.results.DecoderResult.DecoderResult, Grammar.Grammar, Grammar.events_of}
 use Rattle.legacy_base.specs.{Calls.Progress, Calls.IsFault}
 use Rattle.legacy_text.specs.EncodingForm.{EncodingForm, unit_count, total_unit_count, bmp_room, wide_room}
-use Rattle.legacy_decoder_engine.specs.declared.moves.Move.TheVariants.{Release, Read, Report}
 use Rattle.legacy_decoder_engine.specs.declared.moves.Fed.TheVariants.{Nothing, One, Two, Fault}
-use Rattle.legacy_decoder_engine.specs.{declared.moves.Room.Room, declared.moves.Move.Move, declared.moves.Fed.Fed}
+use Rattle.legacy_decoder_engine.specs.{declared.moves.Move.TheVariants.Read, declared.moves.Room.Room, declared.moves.Move.Move, declared.moves.Fed.Fed}
 use Rattle.legacy_base.specs.Acts as acts
 use Rattle.legacy_decoder_engine.specs.declared.moves.Room.TheVariants.{Nothing as NoRoom, Unit as OneUnit, Narrow, Wide}
 

@@ -1,7 +1,7 @@
 -- The states after the steps of a decoder.
 use Rattle.std.specs.Prelude.{ℕ, suc, ◌≡◌, List, [], ◌∷◌, ◌++◌, Bool, true, ◌&&◌, length, Some}
-use Rattle.legacy_base.specs.{Fronts.reads, Fronts.malformed, Grammar.Grammar, States.rests, Acts.has_marks, Acts.is_mark_behind}
-use Rattle.legacy_decoder_engine.specs.Steps.{Step, hold, finish, leave}
+use Rattle.legacy_base.specs.{Fronts.reads, Grammar.Grammar, States.rests, Acts.has_marks, Acts.is_mark_behind}
+use Rattle.legacy_decoder_engine.specs.Steps.{Step, hold, finish}
 
 -- at most one scalar, or a letter and its mark
 abbrev pub IsOneOrMarked : Bool → List ℕ → Type 0

@@ -37,7 +37,8 @@ module _ (tables : AcceptedIndexes) where
   narrow = narrow_index tables.flat tables.accepted EucKr refl
 
   pub euc_kr_entry : (lead trail : ℕ)
-      → option_to_list (idx tables.flat.euc_kr (lead_place lead + euc_kr_trail_place trail)) ≡ cond (is_lead lead) (pair_scalars euc_kr_pointer tables.flat.euc_kr lead trail) []
+      → option_to_list (idx tables.flat.euc_kr (lead_place lead + euc_kr_trail_place trail))
+      ≡ cond (is_lead lead) (pair_scalars euc_kr_pointer tables.flat.euc_kr lead trail) []
   unfolding lead_place euc_kr_trail_place
   euc_kr_entry lead trail = at_sum tables.flat.euc_kr narrow.1 (is_lead lead) (is_in_range 0x41 0xFE trail) ((lead - 0x81) * 190) (trail - 0x41)
 
@@ -46,7 +47,8 @@ module _ (tables : AcceptedIndexes) where
   below (Some p) c e = idx_below tables.flat.euc_kr p c narrow.0 e
 
   -- a lead and a trail
-  pub pair_form : (lead trail c : ℕ) → IsByte lead → IsByte trail → IsScalar c → c ∷ [] ≡ cond (is_lead lead) (pair_scalars euc_kr_pointer tables.flat.euc_kr lead trail) []
+  pub pair_form : (lead trail c : ℕ) → IsByte lead → IsByte trail → IsScalar c
+      → c ∷ [] ≡ cond (is_lead lead) (pair_scalars euc_kr_pointer tables.flat.euc_kr lead trail) []
       → IsPair (euc_kr tables.flat.euc_kr) lead trail c
   pair_form lead trail c byte byte' scalar e =
       let both = found (is_lead lead) (pair_scalars euc_kr_pointer tables.flat.euc_kr lead trail) c e in
@@ -57,5 +59,6 @@ module _ (tables : AcceptedIndexes) where
       let index = tables.flat.euc_kr in
       let p = row_place 0x81 0x7D 0x41 0xBD 190 code in
       let scalar : IsScalar (get_or index p 0) = index-scalars tables.flat tables.accepted EucKr p 0 within in
-      let entry = at_code index narrow.1 (is_lead (code % 0x100)) (is_in_range 0x41 0xFE (code / 0x100)) ((code % 0x100 - 0x81) * 190 + (code / 0x100 - 0x41)) in
+      let entry =
+      at_code index narrow.1 (is_lead (code % 0x100)) (is_in_range 0x41 0xFE (code / 0x100)) ((code % 0x100 - 0x81) * 190 + (code / 0x100 - 0x41)) in
       (scalar, pair_form (code % 0x100) (code / 0x100) (get_or index p 0) (omega arith) (omega arith) scalar (sym (entry_is (get_or index p 0) some) ∙ entry))

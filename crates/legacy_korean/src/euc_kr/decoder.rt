@@ -46,7 +46,10 @@ fn form_scalar<V: DecoderTables>(tables: &V, lead: u8, trail: u8) -> Option<char
         else []) }
     ensures scalar { IfSome result IsScalar }
 {
-    tables.idx(IndexName::EucKr, pair_pointer(&ROWS_OF_190, &TRAILS, lead, trail))
+    tables.idx(
+        IndexName::EucKr,
+        pair_pointer(&ROWS_OF_190, &TRAILS, lead, trail),
+    )
 }
 
 impl LaneCodec for EucKr {
@@ -61,7 +64,7 @@ impl LaneCodec for EucKr {
         byte >= 0x80 && Lead::new(byte).is_none()
     }
 
-    #[inline(always)]
+    #[inline]
     fn front(tables: &FlatTables<'_>, lead: u8, trail: u8) -> CommonForm {
         match form_scalar(tables, lead, trail) {
             Some(scalar) => CommonForm::Pair(scalar),

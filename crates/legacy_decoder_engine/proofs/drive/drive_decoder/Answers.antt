@@ -1,5 +1,5 @@
-use Rattle.std.proofs.Common.{ℕ, Bool, ◌≡◌, ◌∙◌, ◌<◌, ◌+◌, ◌++◌, [], ◌∷◌, length, arith, refl, sym, ap, subst, append-nil, add-zero, length-append}
-use Rattle.legacy_text.specs.EncodingForm.{code_units, total_unit_count}
+use Rattle.std.proofs.Common.{ℕ, Bool, ◌≡◌, ◌∙◌, ◌++◌, [], ◌∷◌, arith, refl, sym, ap, subst, append-nil, add-zero, length-append}
+use Rattle.legacy_text.specs.EncodingForm.{code_units}
 use Rattle.legacy_text.proofs.CodeUnits.{total_unit_count-append}
 use Rattle.legacy_base.specs.Calls.{DecoderCall}
 use Rattle.legacy_decoder_engine.specs.{declared.moves.Fed.Fed, declared.moves.Fed.TheVariants.Fault, Moves.fed_scalars, Moves.IsFaulty}
