@@ -1,6 +1,7 @@
 -- Runs with the scalars of accepted indexes are accepted indexes too.
 use Rattle.std.proofs.Common.{◌≡◌, ◌∙◌, ℕ, suc, ◌+◌, ◌≤◌, ◌<◌, All, List, [], ◌∷◌, length, get_or, refl, sym, ap, arith, Some, None, Option, false, not, ◌==◌, inl, inr}
 use Rattle.std.proofs.lemmas.Bool.{cases_lt, cases_eq, ne_eqb, true≢false}
+use Rattle.std.proofs.lemmas.Bool.Decides.{nat_tests}
 use Rattle.std.proofs.lemmas.List.{get_or_past}
 use Rattle.std.proofs.lemmas.List.Elements.{All-get_or}
 use Rattle.std.specs.Char.{IsScalar}
@@ -33,6 +34,9 @@ entry-scalar xs all p = elim (cases_lt p (length xs)) [
   | inl h ↦ All-get_or IsScalar xs p 0 h all
   | inr h ↦ rw (get_or_past xs p 0 h) refl
 ]
+
+pub entry-wide : (xs : List ℕ) → AreScalars xs → (p : ℕ) → get_or xs p 0 < 0x1_0000_0000
+entry-wide xs all p = let is = entry-scalar xs all p in grind (arith, nat_tests)
 
 -- ---- each entry of a narrow index is below U+10000, also 0 past the end
 

@@ -30,7 +30,7 @@ pub use ranges::{RangePart, Ranges};
 use std::fmt;
 use std::marker::Model;
 use thiserror::Error;
-use unpacking::{unpack_narrow, unpack_wide};
+use unpacking::unpack;
 pub use walks::Marks;
 use walks::{shortened, walk};
 
@@ -279,7 +279,7 @@ impl<'a> Tables<'a> {
             (λ flat. flat.now ≡ self.now.flat.big5) }
     {
         match &self.kept {
-            KeptTables::Flat(tables) => unpack_wide(&tables.wide(), room),
+            KeptTables::Flat(tables) => unpack(&tables.wide(), room),
             KeptTables::Packed(tables) => tables.unpack_big5(room),
         }
     }
@@ -294,7 +294,7 @@ impl<'a> Tables<'a> {
             (λ flat. flat.now ≡ index_list self.now.flat name) }
     {
         match &self.kept {
-            KeptTables::Flat(tables) => unpack_narrow(&tables.narrow(name), room),
+            KeptTables::Flat(tables) => unpack(&tables.narrow(name), room),
             KeptTables::Packed(tables) => tables.unpack_narrow(name, room),
         }
     }

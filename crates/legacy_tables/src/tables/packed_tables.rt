@@ -9,7 +9,7 @@ use super::order_checks::{CheckedOrders, all_orders_of};
 use super::packed::Packed;
 use super::packed_checks::{CheckedRuns, all_runs_of};
 use super::private_use::row_bytes;
-use super::unpacking::{unpack_narrow, unpack_wide};
+use super::unpacking::unpack;
 use super::walks::walk;
 use super::{
     DecoderTables, EncoderTables, IndexName, Indexes, Marks, PackedPart, Ranges, TableError,
@@ -79,7 +79,7 @@ impl<'a> PackedTables<'a> {
         ensures { MatchOption result (length room.old < length self.now.flat.big5)
             (λ flat. flat.now ≡ self.now.flat.big5) }
     {
-        unpack_wide(&self.runs.big5, room)
+        unpack(&self.runs.big5, room)
     }
 
     /// Returns what `Tables::unpack` does.
@@ -93,10 +93,10 @@ impl<'a> PackedTables<'a> {
             (λ flat. flat.now ≡ index_list self.now.flat name) }
     {
         match name {
-            IndexName::EucKr => unpack_narrow(&self.runs.euc_kr, room),
-            IndexName::Jis0208 => unpack_narrow(&self.runs.jis0208, room),
-            IndexName::Jis0212 => unpack_narrow(&self.runs.jis0212, room),
-            IndexName::Gb18030 => unpack_narrow(&self.runs.gb18030, room),
+            IndexName::EucKr => unpack(&self.runs.euc_kr, room),
+            IndexName::Jis0208 => unpack(&self.runs.jis0208, room),
+            IndexName::Jis0212 => unpack(&self.runs.jis0212, room),
+            IndexName::Gb18030 => unpack(&self.runs.gb18030, room),
             _ => None,
         }
     }

@@ -2,5 +2,5 @@ use Rattle.legacy_tables.proofs.Accepted.{narrow_index}
 use Rattle.legacy_tables.proofs.PackedAccepted.{entry-narrow}
 use Rattle.legacy_tables.proofs.tables.Tables.unpack.Goals as goal
 
-pub unpack_narrow-requires : goal.unpack_narrow-requires
-unpack_narrow-requires c = rw (c.narrow.ensures c.requires) (entry-narrow _ (narrow_index _ c.in-Flat.tables.accepted c.args.name c.requires).0)
+pub unpack-requires : goal.unpack-requires
+unpack-requires c = rw (c.narrow.ensures c.requires) (entry-narrow _ (narrow_index _ c.in-Flat.tables.accepted c.args.name c.requires).0)
