@@ -1,63 +1,33 @@
--- Filling a list of codes one by one.
-use Rattle.std.proofs.Common.{◌⊎◌, nat_le, nat_lt, refl, Bool, true, false, ◌||◌, ◌&&◌, ◌≡◌, ◌≢◌, ◌∙◌, ℕ, ◌+◌, ◌<◌, List, slice_set, length-set, arith, inl, inr, get_or-set_other, get_or-set_same}
-use Rattle.std.proofs.lemmas.Bool.{cases_lt, cases_eq}
-use borrow.Author.Tests.{ltb-true, leb-true, lt-ltb}
+-- A list of codes after one of its ranges was looked up.
+use Rattle.std.proofs.Common.{◌≡◌, ℕ, ◌+◌, ◌<◌, ◌≤◌, List, length, slice_index, false, ◌==◌, arith, inl, inr}
+use Rattle.std.proofs.lemmas.Bool.{cases_lt, ne_eqb}
 use Rattle.legacy_base.specs.Encoders.{Codec}
-use Rattle.legacy_encoder_engine.specs.CachedPairs.{AreAllPairsOf, AreWhere, AreRightWhere, or_between}
+use Rattle.legacy_encoder_engine.specs.CachedPairs.{AreAllPairsOf, IsOutside, IsRightEntry}
 
-or_cases : (a b : Bool) → (a || b) ≡ true → (a ≡ true) ⊎ (b ≡ true)
-or_cases true b e = inl refl
-or_cases false b e = inr e
+-- a scalar outside one scalar is another
+pub outside-one : (first c : ℕ) → IsOutside first (first + 1) c → (c == first) ≡ false
+outside-one first c (inl l) = ne_eqb c first (λ e. omega arith)
+outside-one first c (inr h) = ne_eqb c first (λ e. omega arith)
 
-or_left : (a b : Bool) → a ≡ true → (a || b) ≡ true
-or_left a b e = rw e refl
+pub outside-first : (end c : ℕ) → IsOutside 0 end c → end ≤ c
+outside-first end c (inl l) = absurd (omega arith)
+outside-first end c (inr h) = h
 
-or_right : (a b : Bool) → b ≡ true → (a || b) ≡ true
-or_right true b e = refl
-or_right false b e = e
-
-both_true : (a b : Bool) → (a && b) ≡ true → (a ≡ true) × (b ≡ true)
-both_true true b e = (refl, e)
-both_true false b e = cc
-
-below_other : (c code : ℕ) → c < code + 1 → c ≢ code → c < code
-below_other c code h n = elim (cases_lt c code) [
-  | inl l ↦ l
-  | inr l ↦ absurd (n (omega arith))
+-- an entry has the property after a range was looked up, if it had it before or is in the range
+pub asked : (Is : ℕ → ℕ → Type 0) (old new : List ℕ) (first end c : ℕ) → ((k : ℕ) → first ≤ k → k < end → Is k (slice_index new k))
+    → ((k : ℕ) → IsOutside first end k → slice_index new k ≡ slice_index old k) → (IsOutside first end c → Is c (slice_index old c)) → Is c (slice_index new c)
+asked Is old new first end c inside outside before = elim (cases_lt c first) [
+  | inl l ↦ rw (outside c (inl l)) (before (inl l))
+  | inr f ↦ elim (cases_lt c end) [
+    | inl l ↦ inside c f l
+    | inr h ↦ rw (outside c (inr h)) (before (inr h))
+  ]
 ]
 
-module _ (Is : ℕ → ℕ → Type 0) (done : ℕ → Bool) (first : ℕ) where
-  -- before the first scalar of a range
-  pub none-asked : (pairs : List ℕ) → AreWhere Is done pairs → AreWhere Is (or_between done first first) pairs
-  none-asked pairs now = record {
-    all = now.all;
-    right = λ c h e. elim (or_cases (done c) _ e) [
-      | inl d ↦ now.right c h d
-      | inr b ↦ let p = both_true (nat_le first c) (nat_lt c first) b in let low = leb-true first c p.0 in let high = ltb-true c first p.1 in absurd (omega arith)
-    ];
-  }
-
-  -- after one more scalar
-  pub asked-more : (code : ℕ) (pairs : List ℕ) → AreWhere Is (or_between done first code) pairs → code < 65536 → (entry : ℕ) → Is code entry
-      → AreWhere Is (or_between done first (code + 1)) (slice_set pairs code entry)
-  asked-more code pairs now within entry is = record {
-    all = length-set pairs code entry ∙ now.all;
-    right = λ c h e. elim (cases_eq c code) [
-      | inl same ↦ let all = now.all in rw (same, get_or-set_same pairs code entry 0 (omega arith)) is
-      | inr other ↦ rw (get_or-set_other pairs code c entry 0 other) (now.right c h (elim (or_cases (done c) _ e) [
-        | inl d ↦ or_left (done c) _ d
-        | inr b ↦
-            let p = both_true (nat_le first c) (nat_lt c (code + 1)) b in
-            let high = ltb-true c (code + 1) p.1 in
-            let below : c < code = below_other c code high other in
-            or_right (done c) _ (rw (p.0, lt-ltb c code below) refl)
-      ]))
-    ];
-  }
-
--- if each scalar passes the test, all entries are right
-pub all-right : (codec : Codec) (done : ℕ → Bool) (pairs : List ℕ) → AreRightWhere codec done pairs → ((c : ℕ) → c < 65536 → done c ≡ true) → AreAllPairsOf codec pairs
-all-right codec done pairs now all = record {
-  right = record { all = now.all; told = λ c h. (now.right c h (all c h)).told };
-  whole = λ c h. (now.right c h (all c h)).whole;
+-- a list of right entries has all pairs
+pub all-right : (codec : Codec) (pairs : List ℕ) → length pairs ≡ 65536
+    → ((c : ℕ) → c < 65536 → IsRightEntry codec c (slice_index pairs c)) → AreAllPairsOf codec pairs
+all-right codec pairs all right = record {
+  right = record { all = all; told = λ c h. (right c h).told };
+  whole = λ c h. (right c h).whole;
 }

@@ -1,9 +1,9 @@
 -- The list of codes after a walk over an index.
-use Rattle.std.proofs.Common.{◌≡◌, ◌≢◌, ◌∙◌, ℕ, ◌≤◌, List, length, slice_index, Option, Some, None, true, Bool, ap, sym, refl, subst, arith, nat_le, inl, inr}
-use Rattle.std.proofs.lemmas.Bool.{cases_lt}
+use Rattle.std.proofs.Common.{◌≡◌, ◌≢◌, ◌∙◌, ℕ, ◌+◌, ◌*◌, ◌/◌, ◌%◌, ◌<◌, ◌≤◌, List, [], ◌∷◌, length, slice_index}
+use Rattle.std.proofs.Common.{Option, Some, None, option_map, ap, sym, refl, subst, arith}
 use Rattle.std.proofs.lemmas.Bool.Decides.{nat_tests}
-use borrow.Author.Tests.{le-leb, lt-leb, lt-ltb}
 use Rattle.std.specs.Char.{IsScalar}
+use Rattle.std.specs.Option.{IfSome}
 use Rattle.legacy_tables.specs.declared.tables.packed.PackedPart.{PackedPart}
 use Rattle.legacy_tables.specs.Packed.{pointer_of}
 use Rattle.legacy_tables.specs.Unicode.{AreScalars}
@@ -11,46 +11,58 @@ use Rattle.legacy_tables.specs.Walks.{marked, IsFilled}
 use Rattle.legacy_tables.proofs.PackedAccepted.{entry-scalar}
 use Rattle.legacy_tables.proofs.PackedPointers.{pointer-taken}
 use Rattle.legacy_text.specs.UnitCodes.{IsNoSurrogate}
-use Rattle.legacy_base.specs.Encoders.{Codec}
-use Rattle.legacy_encoder_engine.specs.UnitTurns.{HasUnitCode}
-use Rattle.legacy_encoder_engine.specs.CachedPairs.{IsNoPair, IsRightEntry, AreRightWhere, or_between}
+use Rattle.legacy_base.specs.Encoders.{Codec, encoder_profile}
+use Rattle.legacy_encoder_engine.specs.UnitTurns.{two_bytes}
+use Rattle.legacy_encoder_engine.specs.CachedPairs.{IsNoPair, IsRightEntry}
 
 -- a scalar value is not a surrogate
 no-surrogate : (c : ℕ) → IsScalar c → IsNoSurrogate c
 no-surrogate c scalar high = grind (arith, nat_tests)
 
-module _ (codec : Codec) (part : PackedPart) (mark : ℕ → ℕ) (index : List ℕ) (done : ℕ → Bool) where
-  -- the codes of the scalars that pass the test are those of their pointers
+-- a lead and a trail are the bytes of their number
+pub halves : (lead trail : ℕ) → lead < 256 → lead ∷ trail ∷ [] ≡ two_bytes (lead + 256 * trail)
+halves lead trail h =
+    let low : lead ≡ (lead + 256 * trail) % 256 = omega arith in
+    let high : trail ≡ (lead + 256 * trail) / 256 = omega arith in
+    ap (λ (l : ℕ). l ∷ trail ∷ []) low ∙ ap (λ (t : ℕ). (lead + 256 * trail) % 256 ∷ t ∷ []) high
+
+module _ (codec : Codec) (part : PackedPart) (mark : ℕ → ℕ) (index : List ℕ) (Done : ℕ → Type 0) where
+  -- the codes of the scalars with the property are those of their pointers
   pub record GoesByPointers : Type 0 where
     pub scalars : AreScalars index
     pub some : (p : ℕ) → mark p ≢ 0
-    pub coded : (c p : ℕ) → done c ≡ true → pointer_of part index c ≡ Some p → HasUnitCode codec c (mark p)
-    pub uncoded : (c : ℕ) → done c ≡ true → 0x80 ≤ c → pointer_of part index c ≡ None → IsNoPair codec c
+    pub past : (c : ℕ) → Done c → 0x80 ≤ c
+    pub coded : (c p : ℕ) → Done c → pointer_of part index c ≡ Some p → (encoder_profile codec).code c ≡ Some (two_bytes (mark p))
+    pub uncoded : (c : ℕ) → Done c → pointer_of part index c ≡ None → IsNoPair codec c
+
+  -- as in a codec that writes the pair of a pointer
+  pub by-pairs : (bytes : ℕ → List ℕ) (n : ℕ) → AreScalars index → ((p : ℕ) → mark p ≢ 0) → ((c : ℕ) → Done c → 0x80 ≤ c)
+      → ((c : ℕ) → IfSome (pointer_of part index c) (λ p. p < n)) → ((p : ℕ) → p < n → bytes p ≡ two_bytes (mark p))
+      → ((c : ℕ) → Done c → (encoder_profile codec).code c ≡ option_map bytes (pointer_of part index c)) → GoesByPointers
+  by-pairs bytes n scalars some past bound same code = record {
+    scalars = scalars;
+    some = some;
+    past = past;
+    coded = λ c p d e. code c d ∙ ap (option_map bytes) e ∙ ap Some (same p (subst (λ o. IfSome o (λ q. q < n)) e (bound c)));
+    uncoded = λ c d e lead trail is. let f = sym is ∙ code c d ∙ ap (option_map bytes) e in cc;
+  }
 
   -- then the entries of these scalars are right
-  pub walked-right : GoesByPointers → (entries : List ℕ) → length entries ≡ 65536 → IsFilled part mark index entries → AreRightWhere codec done entries
-  walked-right by entries all filled = record {
-    all = all;
-    right = λ c h d. go c d (slice_index entries c) (pointer_of part index c) (filled.each c (omega arith)) refl;
-  }
+  pub walked-right : GoesByPointers → (entries : List ℕ) → length entries ≡ 65536 → IsFilled part mark index entries
+      → (c : ℕ) → c < 65536 → Done c → IsRightEntry codec c (slice_index entries c)
+  walked-right by entries all filled c h d = go (slice_index entries c) (pointer_of part index c) (filled.each c (omega arith)) refl
     where
-      is_lone : (c p : ℕ) → pointer_of part index c ≡ Some p → IsScalar c
-      is_lone c p e = let t = (pointer-taken part index c).chosen p e in subst IsScalar t.1 (entry-scalar index by.scalars p)
+      is_lone : (p : ℕ) → pointer_of part index c ≡ Some p → IsNoSurrogate c
+      is_lone p e = let t = (pointer-taken part index c).chosen p e in no-surrogate c (subst IsScalar t.1 (entry-scalar index by.scalars p))
 
-      go : (c : ℕ) → done c ≡ true → (entry : ℕ) (o : Option ℕ) → entry ≡ marked mark (pointer_of part index c) → pointer_of part index c ≡ o → IsRightEntry codec c entry
-      go c d entry None is e =
+      go : (entry : ℕ) (o : Option ℕ) → entry ≡ marked mark (pointer_of part index c) → pointer_of part index c ≡ o → IsRightEntry codec c entry
+      go entry None is e =
           let zero : entry ≡ 0 = is ∙ ap (marked mark) e in
-          record { told = λ n. absurd (n zero); whole = λ s h z. by.uncoded c d h e }
-      go c d entry (Some p) is e =
+          record { told = λ n. absurd (n zero); whole = λ s high z. by.uncoded c d e }
+      go entry (Some p) is e =
           let there : entry ≡ mark p = is ∙ ap (marked mark) e in
+          let past = by.past c d in
           record {
-            told = λ n. (no-surrogate c (is_lone c p e), rw there (by.coded c p d e));
-            whole = λ s h z. absurd (by.some p (sym there ∙ z));
+            told = λ n. (is_lone p e, record { ascii = λ low. absurd (omega arith); past = λ high. rw there (by.coded c p d e) });
+            whole = λ s high z. absurd (by.some p (sym there ∙ z));
           }
-
--- each scalar is past ASCII, for the walk, or in ASCII, whose codes are looked up
-pub past-or-ascii : (c : ℕ) → or_between (nat_le 0x80) 0 0x80 c ≡ true
-past-or-ascii c = elim (cases_lt c 0x80) [
-  | inl l ↦ rw (lt-leb 0x80 c l, le-leb 0 c (omega arith), lt-ltb c 0x80 l) refl
-  | inr h ↦ rw (le-leb 0x80 c h) refl
-]

@@ -1,6 +1,6 @@
 -- The codes of a codec's scalars below U+10000 as a list of entries. An entry has the lead in its low byte and the
 -- trail in its high byte, or the byte of an ASCII scalar.
-use Rattle.std.specs.Prelude.{◌≡◌, ◌≢◌, ℕ, ◌+◌, ◌<◌, ◌≤◌, List, [], ◌∷◌, Some, length, slice_index, Bool, true, ◌||◌, ◌&&◌, nat_le, nat_lt}
+use Rattle.std.specs.Prelude.{◌≡◌, ◌≢◌, ℕ, ◌+◌, ◌<◌, ◌≤◌, List, [], ◌∷◌, Some, length, slice_index, ◌⊎◌}
 use Rattle.std.specs.Char.{IsScalar}
 use Rattle.legacy_text.specs.UnitCodes.{IsNoSurrogate}
 use Rattle.legacy_base.specs.Encoders.{Codec, encoder_profile}
@@ -29,15 +29,6 @@ pub record IsRightEntry (codec : Codec) (c entry : ℕ) : Type 0 where
   pub told : IsPairEntry codec c entry
   pub whole : IsScalar c → 0x80 ≤ c → entry ≡ 0 → IsNoPair codec c
 
--- the entry of each scalar that passes the test has the property
-pub record AreWhere (Is : ℕ → ℕ → Type 0) (done : ℕ → Bool) (pairs : List ℕ) : Type 0 where
-  pub all : length pairs ≡ 65536
-  pub right : (c : ℕ) → c < 65536 → done c ≡ true → Is c (slice_index pairs c)
-
--- the entries of the scalars that pass the test are right, and no pair is missing
-abbrev pub AreRightWhere : Codec → (ℕ → Bool) → List ℕ → Type 0
-AreRightWhere codec done pairs = AreWhere (IsRightEntry codec) done pairs
-
--- the scalar passes the test, or is in the range from `first` to before `end`
-abbrev pub or_between : (ℕ → Bool) → ℕ → ℕ → ℕ → Bool
-or_between done first end c = done c || (nat_le first c && nat_lt c end)
+-- the scalar is not in the range from `first` to before `end`
+abbrev pub IsOutside : ℕ → ℕ → ℕ → Type 0
+IsOutside first end c = (c < first) ⊎ (end ≤ c)

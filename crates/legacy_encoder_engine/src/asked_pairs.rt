@@ -1,7 +1,7 @@
 //! Entries of scalars whose codes are looked up ahead, one by one.
-ghost use Rattle.std.specs.Prelude.{◌≡◌, ◌≤◌, ℕ, Bool, length};
+ghost use Rattle.std.specs.Prelude.{◌≡◌, ◌<◌, ◌≤◌, ℕ, length, slice_index};
 ghost use Rattle.std.specs.Char.{IsScalar};
-ghost use Rattle.legacy_encoder_engine.specs.CachedPairs.{AreWhere, IsRightEntry, or_between};
+ghost use Rattle.legacy_encoder_engine.specs.CachedPairs.{IsOutside, IsRightEntry};
 
 use crate::moves::EncoderMove;
 use crate::plain_codes::PlainCodes;
@@ -54,11 +54,12 @@ fn entry_at<E: PairEntries>(entries: &E, code: u32) -> u16
 
 /// Looks up the entries of the scalars from `first` to before `end`, and writes them.
 pub fn ask_pairs<E: PairEntries>(entries: &E, pairs: &mut [u16], first: u32, end: u32)
-    requires all { length pairs.old ≡ 65536 }
     requires rising { first ≤ end }
-    requires within { end ≤ 65536 }
-    ensures { (done : ℕ → Bool) → AreWhere (E.right entries.now) done pairs.old →
-        AreWhere (E.right entries.now) (or_between done first end) pairs.new }
+    requires within { end ≤ length pairs.old }
+    ensures inside { (c : ℕ) → first ≤ c → c < end →
+        E.right entries.now c (slice_index pairs.new c) }
+    ensures outside { (c : ℕ) → IsOutside first end c →
+        slice_index pairs.new c ≡ slice_index pairs.old c }
 {
     let mut code = first;
     while code < end {

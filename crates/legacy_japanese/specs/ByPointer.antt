@@ -1,8 +1,11 @@
--- The scalars whose codes in Shift_JIS and in EUC-JP are those of their own pointers in jis0208.
-use Rattle.std.specs.Prelude.{ℕ, Bool, not, ◌&&◌, ◌||◌, ◌==◌, nat_le}
-use Rattle.legacy_tables.specs.Unicode.{is_katakana_scalar}
+-- The scalars whose codes in Shift_JIS, EUC-JP and ISO-2022-JP are those of their own pointers in jis0208.
+use Rattle.std.specs.Prelude.{ℕ}
+use Rattle.legacy_encoder_engine.specs.CachedPairs.{IsOutside}
 
 -- all scalars except ASCII, U+0080, the yen sign, the overline, the minus sign and the half-width katakana
-abbrev pub goes_by_pointer : ℕ → Bool
-goes_by_pointer c =
-    nat_le 0x81 c && not ((c == 0xA5 || c == 0x203E) || (c == 0x2212 || is_katakana_scalar c))
+pub record GoesByPointer (c : ℕ) : Type 0 where
+  pub ascii : IsOutside 0 0x81 c
+  pub yen : IsOutside 0xA5 0xA6 c
+  pub overline : IsOutside 0x203E 0x203F c
+  pub minus : IsOutside 0x2212 0x2213 c
+  pub katakana : IsOutside 0xFF61 0xFFA0 c

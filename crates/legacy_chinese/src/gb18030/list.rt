@@ -1,12 +1,10 @@
 //! The list of the pairs of GB18030 and GBK: a walk over the index, and look-ups of other scalars.
 //!
 //! The look-ups are of the scalars that have another code than that of their pointer.
-ghost use Rattle.std.specs.Prelude.{◌≡◌, ℕ, Bool, length};
-ghost use Rattle.legacy_encoder_engine.specs.CachedPairs.{AreRightWhere};
-ghost use Rattle.legacy_chinese.specs.Gb18030List.{gb18030_mark, gb18030_mark-some, or_in_rows};
+ghost use Rattle.std.specs.Prelude.{◌≡◌, ℕ, length, slice_index, true, false};
+ghost use Rattle.legacy_chinese.specs.Gb18030List.{gb18030_mark, gb18030_mark-some, is_in_rows};
 
-use legacy_encoder_engine::asked_pairs::ask_pairs;
-use legacy_encoder_engine::plain_codes::PlainCodes;
+use legacy_encoder_engine::asked_pairs::{PairEntries, ask_pairs};
 use legacy_tables::Marks;
 
 /// The lead and the trail of a pointer, as one number.
@@ -24,14 +22,16 @@ impl Marks for Gb18030Marks {
     ghost some = { gb18030_mark-some };
 }
 
-/// Looks up the codes of the scalars of private-use rows, and writes their entries.
-pub(super) fn ask_rows<C: PlainCodes>(codes: &C, rows: &[(u16, u8, u8)], pairs: &mut [u16])
+/// Looks up the entries of the scalars of private-use rows, and writes them.
+pub(super) fn ask_rows<E: PairEntries>(entries: &E, rows: &[(u16, u8, u8)], pairs: &mut [u16])
     requires { length pairs.old ≡ 65536 }
-    ensures { (done : ℕ → Bool) → AreRightWhere (C.codec codes.now) done pairs.old →
-        AreRightWhere (C.codec codes.now) (or_in_rows done rows.now) pairs.new }
+    ensures inside { (c : ℕ) → is_in_rows rows.now c ≡ true →
+        E.right entries.now c (slice_index pairs.new c) }
+    ensures outside { (c : ℕ) → is_in_rows rows.now c ≡ false →
+        slice_index pairs.new c ≡ slice_index pairs.old c }
 {
     for row in rows {
         let scalar = u32::from(row.0);
-        ask_pairs(codes, pairs, scalar, scalar + 1);
+        ask_pairs(entries, pairs, scalar, scalar + 1);
     }
 }

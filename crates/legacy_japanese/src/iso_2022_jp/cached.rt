@@ -5,10 +5,11 @@ ghost use Rattle.legacy_japanese.specs.Iso2022JpEncoder.{Asks, iso_2022_jp_encod
 ghost use Rattle.legacy_japanese.specs.Iso2022JpPairs.{IsListedEntry, IsPairOf, ListsPairs};
 ghost use Rattle.legacy_japanese.specs.Iso2022JpPairs.{iso_2022_jp_mark, iso_2022_jp_mark-some};
 
+use crate::asked_scalars::ask_others;
 use crate::iso_2022_jp::encoder::{Iso2022JpEncoder, Mode, asked, go_to};
 use legacy_base::{EncoderResult, PackedPart, RawEncoder, Source, Tables};
 use legacy_encoder_engine::ahead_codes::AheadCodes;
-use legacy_encoder_engine::asked_pairs::{PairEntries, ask_pairs};
+use legacy_encoder_engine::asked_pairs::PairEntries;
 use legacy_encoder_engine::cached::PAIR_ROOM;
 use legacy_encoder_engine::drive::{drive_encoder, put_two};
 use legacy_encoder_engine::moves::{EncoderMove, EncoderMoves};
@@ -24,14 +25,12 @@ impl PairEntries for Iso2022JpEncoder<'_> {
 
     fn pair_entry(&self, c: char) -> u16 {
         match asked(self.tables, Mode::TwoByte, c) {
-            (_, EncoderMove::Two(lead, trail)) if (c as u32) >= 0x80 => {
-                u16::from(lead) + 256 * u16::from(trail)
-            }
+            (_, EncoderMove::Two(lead, trail)) => u16::from(lead) + 256 * u16::from(trail),
             _ => 0,
         }
     }
 
-    ghost others = { λ _ _ _. record { told = λ n. absurd (n refl); past = λ _. refl } };
+    ghost others = { λ _ _ _ n. absurd (n refl) };
 }
 
 /// The lead and the trail of a pointer, as one number.
@@ -60,11 +59,7 @@ fn list_pairs(encoder: &Iso2022JpEncoder<'_>, pairs: &mut [u16])
     encoder
         .tables
         .fill(PackedPart::EucJpOrder, &Iso2022JpMarks, pairs);
-    ask_pairs(encoder, pairs, 0, 0x81);
-    ask_pairs(encoder, pairs, 0xA5, 0xA6);
-    ask_pairs(encoder, pairs, 0x203E, 0x203F);
-    ask_pairs(encoder, pairs, 0x2212, 0x2213);
-    ask_pairs(encoder, pairs, 0xFF61, 0xFFA0);
+    ask_others(encoder, pairs);
 }
 
 /// A list of the pairs by these tables.

@@ -1,12 +1,14 @@
-use Rattle.std.proofs.Common.{◌≤◌, ◌-◌, ℕ, Bool}
-use Rattle.legacy_encoder_engine.specs.CachedPairs.{AreWhere, or_between}
+use Rattle.std.proofs.Common.{◌≡◌, ◌<◌, ◌≤◌, ◌-◌, ℕ, slice_index}
+use Rattle.legacy_encoder_engine.specs.CachedPairs.{IsOutside}
 use Rattle.legacy_encoder_engine.proofs.asked_pairs.ask_pairs.Given as goal
 
--- the entries of the scalars that were passed are right, and the earlier ones still are
+-- the entries of the scalars that were passed are right, and the others are unchanged
 abbrev pub invariant-loop-code : goal.invariant-loop-code
 invariant-loop-code g l = record {
+  from : l.first ≤ l.code;
   to : l.code ≤ l.end;
-  right : (done : ℕ → Bool) → AreWhere (g.E.PairEntries.right l.entries) done l.fn.pairs → AreWhere (g.E.PairEntries.right l.entries) (or_between done l.first l.code) l.pairs;
+  inside : (c : ℕ) → l.first ≤ c → c < l.code → g.E.PairEntries.right l.entries c (slice_index l.pairs c);
+  outside : (c : ℕ) → IsOutside l.first l.code c → slice_index l.pairs c ≡ slice_index l.fn.pairs c;
 }
 
 abbrev pub decreases-loop-code : goal.decreases-loop-code

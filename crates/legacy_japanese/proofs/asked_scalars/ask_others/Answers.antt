@@ -1,9 +1,12 @@
-use Rattle.legacy_encoder_engine.proofs.CachedPairs.{all-right}
-use Rattle.legacy_japanese.specs.ByPointer.{goes_by_pointer}
-use Rattle.legacy_japanese.proofs.AskedScalars.{asked, all-asked}
+use Rattle.legacy_encoder_engine.proofs.CachedPairs.{asked}
 use Rattle.legacy_japanese.proofs.asked_scalars.ask_others.Goals as goal
 
 pub returns : goal.returns
-returns g c = λ now.
-    all-right (g.C.PlainCodes.codec c.args.codes.now) asked c.ask_pairs-5.new.pairs
-    (c.ask_pairs-5.ensures _ (c.ask_pairs-4.ensures _ (c.ask_pairs-3.ensures _ (c.ask_pairs-2.ensures _ (c.ask_pairs.ensures goes_by_pointer now))))) (λ k h. all-asked k)
+returns g c = λ now k h.
+    let right = g.E.PairEntries.right c.args.entries.now in
+    asked right _ _ 0xFF61 0xFFA0 k c.ask_pairs-5.ensures.inside c.ask_pairs-5.ensures.outside (λ katakana.
+    asked right _ _ 0x2212 0x2213 k c.ask_pairs-4.ensures.inside c.ask_pairs-4.ensures.outside (λ minus.
+    asked right _ _ 0x203E 0x203F k c.ask_pairs-3.ensures.inside c.ask_pairs-3.ensures.outside (λ overline.
+    asked right _ _ 0xA5 0xA6 k c.ask_pairs-2.ensures.inside c.ask_pairs-2.ensures.outside (λ yen.
+    asked right _ _ 0 0x81 k c.ask_pairs.ensures.inside c.ask_pairs.ensures.outside (λ ascii.
+    now k h (record { ascii = ascii; yen = yen; overline = overline; minus = minus; katakana = katakana }))))))

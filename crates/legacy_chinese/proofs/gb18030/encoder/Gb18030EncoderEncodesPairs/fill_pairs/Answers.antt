@@ -1,10 +1,9 @@
 use Rattle.std.proofs.Common.{◌∙◌}
-use Rattle.legacy_tables.specs.declared.tables.packed.PackedPart.TheVariants as parts
-use Rattle.legacy_encoder_engine.proofs.CachedPairs.{all-right}
+use Rattle.legacy_encoder_engine.specs.CachedPairs.{IsRightEntry}
+use Rattle.legacy_encoder_engine.proofs.CachedPairs.{asked, all-right}
 use Rattle.legacy_encoder_engine.proofs.WalkedPairs.{walked-right}
 use Rattle.legacy_chinese.specs.Gb18030Codec.{gb18030_codec}
-use Rattle.legacy_chinese.specs.Gb18030List.{goes_by_pointer, or_in_rows, gb18030_mark}
-use Rattle.legacy_chinese.proofs.Gb18030Walk.{goes-by-pointers, ascii_asked, euro_asked, e5e5_asked, all-asked}
+use Rattle.legacy_chinese.proofs.Gb18030Walk.{goes-by-pointers, rows-asked}
 use Rattle.legacy_chinese.proofs.gb18030.encoder.Gb18030EncoderEncodesPairs.fill_pairs.Goals as goal
 
 pub returns : goal.returns
@@ -12,11 +11,14 @@ returns c =
     let tables = c.args.self.now.tables.now in
     let extended = c.args.self.now.extended_range in
     let codec = gb18030_codec tables.flat extended in
-    let rows = tables.flat.gb18030_pua in
-    let index = tables.flat.gb18030 in
-    let walked = walked-right codec parts.Gb18030Order gb18030_mark index (goes_by_pointer rows) (goes-by-pointers tables.flat tables.accepted extended) c.fill.new.entries (c.fill.auto.entries ∙ c.requires) c.fill.ensures in
-    let ascii = c.ask_pairs.ensures (goes_by_pointer rows) walked in
-    let euro = c.ask_pairs-2.ensures (ascii_asked rows) ascii in
-    let e5e5 = c.ask_pairs-3.ensures (euro_asked rows) euro in
-    let all = rw c.gb18030_rows.ensures at (c.ask_rows.ensures (e5e5_asked rows) e5e5) in
-    all-right codec (or_in_rows (e5e5_asked rows) rows) c.ask_rows.new.pairs all (λ k h. all-asked rows k)
+    let right = IsRightEntry codec in
+    let long = c.fill.auto.entries ∙ c.requires in
+    let walked = walked-right _ _ _ _ _ (goes-by-pointers tables.flat tables.accepted extended) c.fill.new.entries long c.fill.ensures in
+    let rows = rw c.gb18030_rows.ensures at c.ask_rows.ensures in
+    let all = c.ask_rows.auto.pairs ∙ c.ask_pairs-3.auto.pairs ∙ c.ask_pairs-2.auto.pairs ∙ c.ask_pairs.auto.pairs ∙ long in
+    all-right codec c.ask_rows.new.pairs all (λ k h.
+    rows-asked right tables.flat.gb18030_pua _ _ k rows.inside rows.outside (λ no_row.
+    asked right _ _ 0xE5E5 0xE5E6 k c.ask_pairs-3.ensures.inside c.ask_pairs-3.ensures.outside (λ e5e5.
+    asked right _ _ 0x20AC 0x20AD k c.ask_pairs-2.ensures.inside c.ask_pairs-2.ensures.outside (λ euro.
+    asked right _ _ 0 0x80 k c.ask_pairs.ensures.inside c.ask_pairs.ensures.outside (λ ascii.
+    walked k h (record { ascii = ascii; euro = euro; e5e5 = e5e5; no_row = no_row }))))))
