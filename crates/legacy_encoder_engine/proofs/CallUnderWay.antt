@@ -1,6 +1,7 @@
 -- The moves of an encoder make a call.
 use Rattle.std.proofs.Common.{◌≡◌, ◌∙◌, ℕ, ◌+◌, ◌-◌, ◌≤◌, ◌<◌, List, [], ◌∷◌, ◌++◌, length, get_or, take, drop, map, refl, sym}
-use Rattle.std.proofs.Common.{ap, subst, arith, append_assoc, append-nil, length-append, length-take, add-zero, inl, inr, Bool, true, false, IsTrue, Some, None, slice_get, not, ◌⊎◌}
+use Rattle.std.proofs.Common.{ap, subst, arith, append_assoc, append-nil, length-append, length-take, add-zero}
+use Rattle.std.proofs.Common.{inl, inr, Bool, true, false, IsTrue, Some, None, slice_get, not, ◌⊎◌}
 use Rattle.std.proofs.lemmas.Bool.{cases_lt}
 use Rattle.std.proofs.lemmas.List.{take-append-le, get_or_append_left}
 use Rattle.std.proofs.Math.Nat.{sub-zero}
@@ -14,7 +15,8 @@ use Rattle.legacy_base.specs.Beginnings.{BeginsWith}
 use Rattle.legacy_base.specs.EncodeEvents.{byte_count, code_length}
 use Rattle.legacy_base.specs.Profile.{is_empty}
 use Rattle.legacy_base.specs.EncoderProfile.{EncoderMode, in_ascii, in_roman, in_two_byte}
-use Rattle.legacy_base.specs.Encoders.{EncoderState, encoder_profile, code, encoded, end_bytes, is_pending, scalar_room, encoder_need, encoder_formula, encoder_answer, encoder_room}
+use Rattle.legacy_base.specs.Encoders.{EncoderState, encoder_profile, code, encoded, end_bytes, is_pending, scalar_room}
+use Rattle.legacy_base.specs.Encoders.{encoder_need, encoder_formula, encoder_answer, encoder_room}
 use Rattle.legacy_base.specs.EncoderCalls.{EncoderCall, EncoderLacksRoom, bytes_before}
 use Rattle.legacy_base.proofs.Enough.{answer-value}
 use Rattle.legacy_base.proofs.Beginnings.{begins_later}
@@ -127,7 +129,8 @@ module _ (before : EncoderState) (source : List ℕ) (last : Bool) (free : ℕ) 
     lowers = inl (record { low = λ form t. omega arith });
   }
 
-  module _ (now : EncoderState) (left bytes : List ℕ) (under : Underway before source last free now left bytes) (serves : Serves (encoder_profile now.codec)) where
+  module _ (now : EncoderState) (left bytes : List ℕ) (under : Underway before source last free now left bytes)
+      (serves : Serves (encoder_profile now.codec)) where
     served_before : Serves (encoder_profile before.codec)
     served_before = subst (λ codec. Serves (encoder_profile codec)) under.same serves
 
@@ -138,7 +141,8 @@ module _ (before : EncoderState) (source : List ℕ) (last : Bool) (free : ℕ) 
         ∙ under.events (drop 1 left ++ more) ended
         ∙ ap (λ l. map Byte bytes ++ encoded now l ended) (sym (first_rest left more))
 
-    pub call_full : EncoderLacksRoom now left last (free - length bytes) → ((form : EncodingForm) → encoder_room form before (total_unit_count form source) ≤ free → ⊥)
+    pub call_full : EncoderLacksRoom now left last (free - length bytes)
+        → ((form : EncodingForm) → encoder_room form before (total_unit_count form source) ≤ free → ⊥)
         → EncoderCall before source last free now OutputFull left bytes
     call_full l never = record {
       taken = under.taken;
@@ -203,7 +207,8 @@ module _ (before : EncoderState) (source : List ℕ) (last : Bool) (free : ℕ) 
 
         -- the events of the text, with those of the move for the scalar
         moved : (more : List ℕ) (ended : Bool)
-            → encoded before (under.taken ++ (c ∷ more)) ended ≡ map Byte (bytes ++ move_bytes move) ++ (move_report move ++ encoded next (unread_scalar move c ++ more) ended)
+            → encoded before (under.taken ++ (c ∷ more)) ended
+            ≡ map Byte (bytes ++ move_bytes move) ++ (move_report move ++ encoded next (unread_scalar move c ++ more) ended)
         moved more ended =
             next_events more ended
             ∙ ap (λ l. map Byte bytes ++ l) (f.events more ended)
@@ -219,14 +224,16 @@ module _ (before : EncoderState) (source : List ℕ) (last : Bool) (free : ℕ) 
             let count : byte_count (encoded before (under.taken ++ c ∷ []) false) ≡ length bytes + length (move_bytes move) =
             ap byte_count (moved [] false)
             ∙ byte_count-append (map Byte (bytes ++ move_bytes move)) (move_report move ++ encoded next (unread_scalar move c ++ []) false)
-            ∙ ap (λ n. n + byte_count (move_report move ++ encoded next (unread_scalar move c ++ []) false)) (byte_count-bytes (bytes ++ move_bytes move) ∙ length-append bytes (move_bytes move))
+            ∙ ap (λ n. n + byte_count (move_report move ++ encoded next (unread_scalar move c ++ []) false))
+            (byte_count-bytes (bytes ++ move_bytes move) ∙ length-append bytes (move_bytes move))
             ∙ ap (λ n. length bytes + length (move_bytes move) + n) (no_more next served_next move c e)
             ∙ add-zero (length bytes + length (move_bytes move)) in
             let own : code_length (code before c) ≡ length (move_bytes move) = sym (code_same now before c under.same) ∙ f.own e in
             omega arith
 
         read_room : is_escape move ≡ false → (k : ℕ) → k < length (under.taken ++ c ∷ []) →
-            bytes_before before (take k (under.taken ++ c ∷ [])) (get_or (under.taken ++ c ∷ []) k 0) + scalar_room before (get_or (under.taken ++ c ∷ []) k 0) ≤ free
+            bytes_before before (take k (under.taken ++ c ∷ [])) (get_or (under.taken ++ c ∷ []) k 0) + scalar_room before
+            (get_or (under.taken ++ c ∷ []) k 0) ≤ free
         read_room e k h = elim (cases_lt k (length under.taken)) [
           | inl a ↦
               let t : take k (under.taken ++ c ∷ []) ≡ take k under.taken = take-append-le k under.taken (c ∷ []) (omega arith) in
@@ -247,7 +254,8 @@ module _ (before : EncoderState) (source : List ℕ) (last : Bool) (free : ℕ) 
         stays e = f.goes ∙ state_stays now c (sym f.asks ∙ e)
 
         read_low : is_escape move ≡ false → (form : EncodingForm) (t : ℕ)
-            → encoder_room form next (total_unit_count form rest + t) + length (bytes ++ move_bytes move) ≤ encoder_room form before (total_unit_count form source + t)
+            → encoder_room form next (total_unit_count form rest + t) + length (bytes ++ move_bytes move)
+            ≤ encoder_room form before (total_unit_count form source + t)
         read_low e form t =
             let own = f.own e in
             let n = length-append bytes (move_bytes move) in
@@ -342,7 +350,8 @@ module _ (before : EncoderState) (source : List ℕ) (last : Bool) (free : ℕ) 
         output_full = λ e. cc;
         full_at_once = λ l. absurd (not_once room l);
         had_room = read_room next (moves.Unmappable r) f room refl;
-        lowers = λ form more g. subst (λ l. encoder_room form next (total_unit_count form rest + more) + length l ≤ encoder_room form before (total_unit_count form source + more))
+        lowers = λ form more g. subst (λ l. encoder_room form next (total_unit_count form rest + more) + length l
+            ≤ encoder_room form before (total_unit_count form source + more))
             (append-nil bytes) (read_low next (moves.Unmappable r) f room refl form more);
         ends = λ form e. cc;
         suffices = λ form h x. cc;
@@ -392,7 +401,8 @@ module _ (before : EncoderState) (source : List ℕ) (last : Bool) (free : ℕ) 
             call_full (let n = end_need in omega arith)
             (λ form r. let e = end_room_low form in let n = three in let f = under.fits in omega arith)
 
-        pub call_finish : (next : EncoderState) → Finishes now next → 3 ≤ free - length bytes → EncoderCall before source last free next InputEmpty left (bytes ++ 0x1B ∷ 0x28 ∷ 0x42 ∷ [])
+        pub call_finish : (next : EncoderState) → Finishes now next → 3 ≤ free - length bytes
+            → EncoderCall before source last free next InputEmpty left (bytes ++ 0x1B ∷ 0x28 ∷ 0x42 ∷ [])
         call_finish next f room = record {
           taken = under.taken;
           cut = under.cut;
@@ -458,6 +468,7 @@ pub front_length : (n : ℕ) (xs : List ℕ) → n ≤ length xs → length (tak
 front_length n xs h = omega (arith, length-take n xs)
 
 -- the code units of a text are those of its first scalar and of the others
-pub first_units : (form : EncodingForm) (left : List ℕ) (c : ℕ) → left ≡ c ∷ drop 1 left → total_unit_count form left ≡ unit_count form (get_or left 0 0) + total_unit_count form (drop 1 left)
+pub first_units : (form : EncodingForm) (left : List ℕ) (c : ℕ) → left ≡ c ∷ drop 1 left
+    → total_unit_count form left ≡ unit_count form (get_or left 0 0) + total_unit_count form (drop 1 left)
 first_units form [] c e = cc
 first_units form (x ∷ xs) c e = length-append (code_units form x) (all_code_units form xs)

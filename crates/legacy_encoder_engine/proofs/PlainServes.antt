@@ -14,7 +14,7 @@ use Rattle.legacy_text.proofs.CodeUnits.{encode_2, encode_3, encode_4}
 use Rattle.legacy_base.proofs.SameUnits.{some_unit}
 use Rattle.legacy_encoder_engine.specs.declared.moves.EncoderMove.{EncoderMove}
 use Rattle.legacy_encoder_engine.specs.declared.moves.EncoderMove.TheVariants.{One, Two, Four, Escape, Unmappable}
-use Rattle.legacy_encoder_engine.specs.Moves.{differs, Moves, IsCode, is_escape, move_bytes, move_report, wants_escape, state_for}
+use Rattle.legacy_encoder_engine.specs.Moves.{differs, Moves, IsCode, is_escape, move_bytes, move_report, unread_scalar, wants_escape, state_for}
 use Rattle.legacy_encoder_engine.specs.Serves.{mode_room, Serves}
 use Rattle.legacy_encoder_engine.specs.UnderWay.{PutsCode, ReadsByte}
 use Rattle.legacy_encoder_engine.specs.UnitTurns.{HasUnitCode, ReadsUnit}
@@ -22,7 +22,7 @@ use Rattle.legacy_encoder_engine.proofs.ReadingAhead.{IsSame}
 use Rattle.legacy_text.specs.UnitCodes.{IsNoSurrogate}
 use Rattle.legacy_encoder_engine.specs.PlainCodecs.{HasPlainLengths, IsPlainCodec, HasByte}
 
-differs-same : (m : EncoderMode) → differs m m ≡ false
+pub differs-same : (m : EncoderMode) → differs m m ≡ false
 differs-same in_ascii = refl
 differs-same in_roman = refl
 differs-same in_two_byte = refl
@@ -31,7 +31,7 @@ never : {A : Type 0} (m : EncoderMode) → differs m m ≡ true → A
 never m e = let no : true ≡ false = sym e ∙ differs-same m in absurd (cc)
 
 -- a scalar past ASCII has at least two bytes in UTF-8
-two_units : (c : ℕ) → 128 ≤ c → 2 ≤ unit_count Utf8 c
+pub two_units : (c : ℕ) → 128 ≤ c → 2 ≤ unit_count Utf8 c
 two_units c a = elim (cases_lt c 2048) [
   | inl b ↦ rw (encode_2 c a b) (omega arith)
   | inr b ↦ elim (cases_lt c 65536) [ inl d ↦ rw (encode_3 c b d) (omega arith) | inr d ↦ rw (encode_4 c d) (omega arith) ]
@@ -40,14 +40,16 @@ two_units c a = elim (cases_lt c 2048) [
 -- ---- the profile
 
 module _ (code : ℕ → Option (List ℕ)) (past most : ℕ) (from_utf8 from_utf16 : Formula → Formula)
-    (same : (c : ℕ) → c < 128 → code c ≡ Some (c ∷ [])) (short : (c : ℕ) → 128 ≤ c → code_length (code c) ≤ most) (f : HasPlainLengths past most from_utf8 from_utf16) where
+    (same : (c : ℕ) → c < 128 → code c ≡ Some (c ∷ [])) (short : (c : ℕ) → 128 ≤ c → code_length (code c) ≤ most)
+    (f : HasPlainLengths past most from_utf8 from_utf16) where
   abbrev P : EncoderProfile
   P = plain_encoder code past from_utf8 from_utf16
 
   one : (c : ℕ) → c < 128 → code_length (code c) ≤ 1
   one c a = let e = ap code_length (same c a) in omega arith
 
-  low : (mode : EncoderMode) (c : ℕ) (form : EncodingForm) (t : ℕ) → mode_room P form mode t + code_length (code c) ≤ mode_room P form mode (unit_count form c + t)
+  low : (mode : EncoderMode) (c : ℕ) (form : EncodingForm) (t : ℕ)
+      → mode_room P form mode t + code_length (code c) ≤ mode_room P form mode (unit_count form c + t)
   low mode c Utf16 t = elim (cases_lt c 128) [
     | inl a ↦ let l = f.low16 (unit_count Utf16 c) t (code_length (code c)) (some_unit Utf16 c) (omega (arith, one c a, f.fits.0)) in omega arith
     | inr a ↦ let l = f.low16 (unit_count Utf16 c) t (code_length (code c)) (some_unit Utf16 c) (short c a) in omega arith
@@ -143,36 +145,31 @@ module _ (codec : Codec) (past : ℕ) (p : IsPlainCodec codec past) where
   asks c = rw (acts_plainly.mode c) refl
 
   -- a move that writes the code of its scalar is correct
-  pub plain_moves : (c : ℕ) (move : EncoderMove) → IsCode (code S c) c move → Moves S c S move
-  plain_moves c (One x) e = record {
-    events = λ more ended. acts_plainly.law c more ended ∙ ap (λ o. code_events c o ++ encoded S more ended) e;
-    own = λ h. ap code_length e;
-    fits = rw e at (fits c);
-    asks = asks c;
-    goes = stays c;
-  }
-  plain_moves c (Two x y) e = record {
-    events = λ more ended. acts_plainly.law c more ended ∙ ap (λ o. code_events c o ++ encoded S more ended) e;
-    own = λ h. ap code_length e;
-    fits = rw e at (fits c);
-    asks = asks c;
-    goes = stays c;
-  }
-  plain_moves c (Four x y z w) e = record {
-    events = λ more ended. acts_plainly.law c more ended ∙ ap (λ o. code_events c o ++ encoded S more ended) e;
-    own = λ h. ap code_length e;
-    fits = rw e at (fits c);
-    asks = asks c;
-    goes = stays c;
-  }
-  plain_moves c (Escape x y) e = absurd e
-  plain_moves c (Unmappable r) e = record {
-    events = λ more ended. acts_plainly.law c more ended ∙ ap (λ o. code_events c o ++ encoded S more ended) e.0 ∙ ap (λ x. events.Unmappable x ∷ encoded S more ended) (sym e.1);
-    own = λ h. ap code_length e.0;
-    fits = omega arith;
-    asks = asks c;
-    goes = stays c;
-  }
+  module _ (c : ℕ) where
+    written : (move : EncoderMove) → code S c ≡ Some (move_bytes move) → is_escape move ≡ false
+        → move_report move ≡ [] → unread_scalar move c ≡ [] → Moves S c S move
+    written move e reads silent read = record {
+      events = λ more ended. rw (silent, read) (acts_plainly.law c more ended ∙ ap (λ o. code_events c o ++ encoded S more ended) e);
+      own = λ h. ap code_length e;
+      fits = rw e at (fits c);
+      asks = reads ∙ asks c;
+      goes = stays c;
+    }
+
+    pub plain_moves : (move : EncoderMove) → IsCode (code S c) c move → Moves S c S move
+    plain_moves (One x) e = written (One x) e refl refl refl
+    plain_moves (Two x y) e = written (Two x y) e refl refl refl
+    plain_moves (Four x y z w) e = written (Four x y z w) e refl refl refl
+    plain_moves (Escape x y) e = absurd e
+    plain_moves (Unmappable r) e = record {
+      events = λ more ended.
+          acts_plainly.law c more ended ∙ ap (λ o. code_events c o ++ encoded S more ended) e.0
+          ∙ ap (λ x. events.Unmappable x ∷ encoded S more ended) (sym e.1);
+      own = λ h. ap code_length e.0;
+      fits = omega arith;
+      asks = asks c;
+      goes = stays c;
+    }
 
   pub plain_code : (c : ℕ) → c < 128 → code S c ≡ Some (c ∷ [])
   plain_code c low = code_is c ∙ p.ascii c low
@@ -189,22 +186,20 @@ module _ (codec : Codec) (past : ℕ) (p : IsPlainCodec codec past) where
   -- the bytes of a code unit
   module _ (c both : ℕ) (lone : IsNoSurrogate c) (own : HasUnitCode codec c both) where
     pub plain_one : c < 128 → ReadsUnit S c both 1
-    plain_one l = record { lone = lone; move = One (both % 256); moves = plain_moves c (One (both % 256)) (own.ascii l); reads = refl; silent = refl; bytes = refl }
+    plain_one l =
+        record { lone = lone; move = One (both % 256); moves = plain_moves c (One (both % 256)) (own.ascii l); reads = refl; silent = refl; bytes = refl }
 
     pub plain_two : 128 ≤ c → ReadsUnit S c both 2
-    plain_two l = record {
-      lone = lone;
-      move = Two (both % 256) (both / 256);
-      moves = plain_moves c (Two (both % 256) (both / 256)) (own.past l);
-      reads = refl;
-      silent = refl;
-      bytes = refl;
-    }
+    plain_two l =
+        let move = Two (both % 256) (both / 256) in
+        record { lone = lone; move = move; moves = plain_moves c move (own.past l); reads = refl; silent = refl; bytes = refl }
 
   -- a code that was written
-  pub plain_puts : (c : ℕ) (move : EncoderMove) → IsCode (code S c) c move → is_escape move ≡ false → move_report move ≡ [] → (old new : List ℕ) (at end : ℕ) → new ≡ old ++ move_bytes move
+  pub plain_puts : (c : ℕ) (move : EncoderMove) → IsCode (code S c) c move → is_escape move ≡ false
+      → move_report move ≡ [] → (old new : List ℕ) (at end : ℕ) → new ≡ old ++ move_bytes move
       → end ≡ at + length (move_bytes move) → PutsCode S c old at new end
-  plain_puts c move is reads silent old new at end bytes ends = record { move = move; moves = plain_moves c move is; reads = reads; silent = silent; bytes = bytes; ends = ends }
+  plain_puts c move is reads silent old new at end bytes ends =
+      record { move = move; moves = plain_moves c move is; reads = reads; silent = silent; bytes = bytes; ends = ends }
 
   -- the bytes of a code fit
   pub plain_fits : (c : ℕ) (move : EncoderMove) → IsCode (code S c) c move → length (move_bytes move) ≤ past

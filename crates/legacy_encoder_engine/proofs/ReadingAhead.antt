@@ -1,5 +1,6 @@
 -- Reading ahead of the moves.
-use Rattle.std.proofs.Common.{◌≡◌, ◌∙◌, ℕ, suc, ◌+◌, ◌-◌, ◌≤◌, ◌<◌, List, [], ◌∷◌, ◌++◌, length, get_or, slice_index, take, drop, refl, sym, ap, subst, arith, append_assoc, append-nil, length-append, false, IsAscii}
+use Rattle.std.proofs.Common.{◌≡◌, ◌∙◌, ℕ, suc, ◌+◌, ◌-◌, ◌≤◌, ◌<◌, List, [], ◌∷◌, ◌++◌, length, get_or, slice_index, take}
+use Rattle.std.proofs.Common.{drop, refl, sym, ap, subst, arith, append_assoc, append-nil, length-append, false, IsAscii}
 use Rattle.std.proofs.lemmas.List.{get_or-take, length-take-le, take-append-drop}
 use Rattle.legacy_text.specs.EncodingForm.{EncodingForm, code_units, all_code_units, unit_count, total_unit_count}
 use Rattle.legacy_text.specs.NextScalars.{IsFirst}
@@ -13,7 +14,8 @@ use Rattle.legacy_encoder_engine.specs.Serves.{Serves}
 use Rattle.legacy_encoder_engine.specs.UnderWay.{KeepsOn, Encodes, PutsCode, ReadsByte}
 use Rattle.legacy_encoder_engine.proofs.CallUnderWay.{underway_read, first_units}
 
-pub keeps_then : {state : EncoderState} {free : ℕ} {left bytes left' bytes' left'' bytes'' : List ℕ} → KeepsOn state free left bytes left' bytes' → KeepsOn state free left' bytes' left'' bytes''
+pub keeps_then : {state : EncoderState} {free : ℕ} {left bytes left' bytes' left'' bytes'' : List ℕ}
+    → KeepsOn state free left bytes left' bytes' → KeepsOn state free left' bytes' left'' bytes''
     → KeepsOn state free left bytes left'' bytes''
 keeps_then first second = record { keeps = λ before source last u. second.keeps before source last (first.keeps before source last u) }
 
@@ -22,7 +24,8 @@ module _ (state : EncoderState) (free : ℕ) where
   keeps_none left bytes = record { keeps = λ before source last u. u }
 
   module _ (serves : Serves (encoder_profile state.codec)) where
-    pub keeps_move : (left bytes : List ℕ) (c : ℕ) (rest : List ℕ) (move : EncoderMove) → left ≡ c ∷ rest → Moves state c state move → is_escape move ≡ false → move_report move ≡ []
+    pub keeps_move : (left bytes : List ℕ) (c : ℕ) (rest : List ℕ) (move : EncoderMove)
+        → left ≡ c ∷ rest → Moves state c state move → is_escape move ≡ false → move_report move ≡ []
         → scalar_room state c ≤ free - length bytes → KeepsOn state free left bytes rest (bytes ++ move_bytes move)
     keeps_move left bytes c rest move at f plain silent room = record {
       keeps = λ before source last u. underway_read before source last free state left bytes u serves c rest at state move f room plain silent;
@@ -30,7 +33,8 @@ module _ (state : EncoderState) (free : ℕ) where
 
     -- scalars are read with one byte each, if `room` bytes more are free
     module _ (room : ℕ) where
-      bytes_on : (front bytes left old rest : List ℕ) → length bytes ≡ length front → ((k : ℕ) → k < length front → ReadsByte state room (get_or front k 0) (get_or bytes k 0))
+      bytes_on : (front bytes left old rest : List ℕ) → length bytes ≡ length front
+          → ((k : ℕ) → k < length front → ReadsByte state room (get_or front k 0) (get_or bytes k 0))
           → left ≡ front ++ rest → length old + length front + room ≤ free → KeepsOn state free left old rest (old ++ bytes)
       bytes_on [] [] left old rest same codes at fits = rw (append-nil old, at) (keeps_none rest old)
       bytes_on [] (b ∷ bytes) left old rest same codes at fits = absurd (omega arith)
@@ -42,7 +46,8 @@ module _ (state : EncoderState) (free : ℕ) where
           let others = bytes_on front bytes (front ++ rest) (old ++ b ∷ []) rest (omega arith) (λ k h. codes (suc k) (omega arith)) refl (omega arith) in
           subst (λ l. KeepsOn state free left old rest l) (append_assoc old (b ∷ []) bytes) (keeps_then first others)
 
-      pub keeps_codes : (gives : ℕ → ℕ → Type 0) → ((c byte : ℕ) → gives c byte → ReadsByte state room c byte) → (left : List ℕ) (n : ℕ) (old new : List ℕ) → n ≤ length left
+      pub keeps_codes : (gives : ℕ → ℕ → Type 0) → ((c byte : ℕ) → gives c byte → ReadsByte state room c byte)
+          → (left : List ℕ) (n : ℕ) (old new : List ℕ) → n ≤ length left
           → length old + n + room ≤ free → WritesCodes gives left n old new → KeepsOn state free left old (drop n left) new
       keeps_codes gives reads left n old new within fits w =
           let long = length-take-le n left within in
@@ -84,9 +89,10 @@ pub encodes_none : (state : EncoderState) (form : EncodingForm) (free : ℕ) (le
     → Encodes state form free left passed bytes at left passed bytes at
 encodes_none state form free left passed bytes at within = record { keeps = keeps_none state free left bytes; start = omega arith; end = within; units = refl }
 
-pub encodes_then : {state : EncoderState} {form : EncodingForm} {free free' : ℕ} {left : List ℕ} {passed : ℕ} {bytes : List ℕ} {at : ℕ} {left' : List ℕ} {passed' : ℕ} {bytes' : List ℕ} {at' : ℕ}
-    {left'' : List ℕ} {passed'' : ℕ} {bytes'' : List ℕ} {at'' : ℕ} → Encodes state form free left passed bytes at left' passed' bytes' at'
-    → Encodes state form free' left' passed' bytes' at' left'' passed'' bytes'' at'' → free' ≡ free → Encodes state form free left passed bytes at left'' passed'' bytes'' at''
+pub encodes_then : {state : EncoderState} {form : EncodingForm} {free free' passed passed' passed'' at at' at'' : ℕ}
+    {left left' left'' bytes bytes' bytes'' : List ℕ}
+    → Encodes state form free left passed bytes at left' passed' bytes' at' → Encodes state form free' left' passed' bytes' at' left'' passed'' bytes'' at''
+    → free' ≡ free → Encodes state form free left passed bytes at left'' passed'' bytes'' at''
 encodes_then first second same =
     let second' = rw same at second in
     record {
@@ -99,7 +105,8 @@ encodes_then first second same =
 -- scalars with one byte each
 pub encodes_codes : {state : EncoderState} (form : EncodingForm) (free room : ℕ) {gives : ℕ → ℕ → Type 0} (serves : Serves (encoder_profile state.codec))
     → ((c byte : ℕ) → gives c byte → ReadsByte state room c byte) → {left : List ℕ} (passed : ℕ) {old new left' : List ℕ} {n passed' at : ℕ}
-    → n ≤ length left → left' ≡ drop n left → passed' ≡ passed + total_unit_count form (take n left) → WritesCodes gives left n old new → length old ≡ at → at + n + room ≤ free
+    → n ≤ length left → left' ≡ drop n left → passed' ≡ passed + total_unit_count form (take n left)
+    → WritesCodes gives left n old new → length old ≡ at → at + n + room ≤ free
     → Encodes state form free left passed old at left' passed' new (at + n)
 encodes_codes form free room serves reads passed within rest units writes long fits =
     record {
@@ -109,33 +116,25 @@ encodes_codes form free room serves reads passed within rest units writes long f
       units = counted form _ _ passed _ rest units;
     }
   where
-    counted : (form : EncodingForm) (left : List ℕ) (n passed : ℕ) {left' : List ℕ} (passed' : ℕ) → left' ≡ drop n left → passed' ≡ passed + total_unit_count form (take n left)
+    counted : (form : EncodingForm) (left : List ℕ) (n passed : ℕ) {left' : List ℕ} (passed' : ℕ)
+        → left' ≡ drop n left → passed' ≡ passed + total_unit_count form (take n left)
         → passed' + total_unit_count form left' ≡ passed + total_unit_count form left
     counted form left n passed passed' rest units =
         let both = total_unit_count-append form (take n left) (drop n left) in
         let whole = take-append-drop n left in
         rw rest (omega (arith, units, rw whole at both))
 
--- the place after a code is after its place
-pub puts_some : {state : EncoderState} {c : ℕ} {old : List ℕ} {at : ℕ} {new : List ℕ} {end : ℕ} → PutsCode state c old at new end → at < end
-puts_some put = let some = some_bytes put.move put.reads put.silent in omega (arith, put.ends)
-  where
-    some_bytes : (move : EncoderMove) → is_escape move ≡ false → move_report move ≡ [] → 0 < length (move_bytes move)
-    some_bytes (moves.One a) e f = omega arith
-    some_bytes (moves.Two a b) e f = omega arith
-    some_bytes (moves.Four a b x d) e f = omega arith
-    some_bytes (moves.Escape a b) e f = cc
-    some_bytes (moves.Unmappable r) e f = cc
-
 first_count : (form : EncodingForm) (left : List ℕ) (c n : ℕ) → IsFirst form left c n → n ≡ unit_count form (get_or left 0 0)
 first_count form [] c n is = let e = is.0 in cc
 first_count form (x ∷ xs) c n is = let e = is.0 in let same : x ≡ c = cc in sym is.1 ∙ ap (unit_count form) (sym same)
 
 -- one more scalar
-pub encodes_put : {state : EncoderState} (form : EncodingForm) {free : ℕ} {left : List ℕ} {passed : ℕ} {bytes : List ℕ} {start : ℕ} {left' : List ℕ} {passed' : ℕ} {bytes' : List ℕ} {at : ℕ}
-    {c n room : ℕ} {left'' : List ℕ} {passed'' : ℕ} {bytes'' : List ℕ} {end : ℕ} (serves : Serves (encoder_profile state.codec)) → scalar_room state c ≤ room
+pub encodes_put : {state : EncoderState} (form : EncodingForm) {free passed passed' passed'' start at end c n room : ℕ}
+    {left left' left'' bytes bytes' bytes'' : List ℕ}
+    (serves : Serves (encoder_profile state.codec)) → scalar_room state c ≤ room
     → Encodes state form free left passed bytes start left' passed' bytes' at → IsFirst form left' c n → PutsCode state c bytes' at bytes'' end
-    → left'' ≡ drop 1 left' → passed'' ≡ passed' + n → length bytes' ≡ at → at + room ≤ free → Encodes state form free left passed bytes start left'' passed'' bytes'' end
+    → left'' ≡ drop 1 left' → passed'' ≡ passed' + n → length bytes' ≡ at → at + room ≤ free
+    → Encodes state form free left passed bytes start left'' passed'' bytes'' end
 encodes_put form serves fits before is put next units long room =
     let own = put.moves.fits in
     let one = keeps_move _ _ serves _ _ _ _ put.move is.0 put.moves put.reads put.silent (omega (arith, fits)) in

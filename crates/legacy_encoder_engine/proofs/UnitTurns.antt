@@ -1,5 +1,5 @@
 -- Writing the codes of several UTF-16 code units at a time.
-use Rattle.std.proofs.Common.{◌≡◌, ◌∙◌, ℕ, suc, ◌+◌, ◌<◌, ◌≤◌, List, [], ◌∷◌, ◌++◌, length, take, get_or, refl, sym, ap, subst, arith, append_assoc, inl, inr, Bool, true, false, ◌&&◌}
+use Rattle.std.proofs.Common.{◌≡◌, ◌∙◌, ℕ, suc, ◌+◌, ◌<◌, ◌≤◌, List, [], ◌∷◌, ◌++◌, length, take, get_or, refl, sym, ap, subst, arith, append_assoc, inl, inr}
 use Rattle.std.proofs.Math.Seq.{take-suc, take-append-add}
 use Rattle.std.proofs.lemmas.Bool.{cases_lt}
 use Rattle.std.proofs.lemmas.List.{get_or-take, length-take-le, take-append-le, take-take}
@@ -9,20 +9,19 @@ use Rattle.legacy_encoder_engine.specs.Serves.{Serves}
 use Rattle.legacy_encoder_engine.specs.UnitTurns.{PutsUnits, ReadsUnit, two_bytes}
 use Rattle.legacy_encoder_engine.proofs.ReadingAhead.{keeps_none, keeps_then, keeps_move}
 
-pub both_set : (a b : Bool) → (a && b) ≡ true → (a ≡ true) × (b ≡ true)
-both_set true true e = (refl, refl)
-both_set true false e = cc
-both_set false b e = cc
-
 -- two bytes were written after the old bytes, and the first `count` of them are kept
-pub kept : (at count : ℕ) (old new bytes : List ℕ) → length old ≡ at → count ≤ 2 → take (at + 2) new ≡ old ++ bytes → take (at + count) new ≡ old ++ take count bytes
+pub kept : (at count : ℕ) (old new bytes : List ℕ) → length old ≡ at → count ≤ 2
+    → take (at + 2) new ≡ old ++ bytes → take (at + count) new ≡ old ++ take count bytes
 kept at count old new bytes long few e =
-    sym (take-take (at + count) (at + 2) new (omega arith)) ∙ ap (take (at + count)) e ∙ subst (λ n. take (n + count) (old ++ bytes) ≡ old ++ take count bytes) long (take-append-add old bytes count)
+    sym (take-take (at + count) (at + 2) new (omega arith)) ∙ ap (take (at + count)) e
+    ∙ subst (λ n. take (n + count) (old ++ bytes) ≡ old ++ take count bytes) long (take-append-add old bytes count)
 
 -- the earlier bytes are unchanged
-pub stays : (start at : ℕ) (old new bytes : List ℕ) (end : ℕ) → start ≤ at → at ≤ length old → at ≤ end → take end new ≡ take at old ++ bytes → take start new ≡ take start old
+pub stays : (start at : ℕ) (old new bytes : List ℕ) (end : ℕ) → start ≤ at → at ≤ length old
+    → at ≤ end → take end new ≡ take at old ++ bytes → take start new ≡ take start old
 stays start at old new bytes end within fits le e =
-    sym (take-take start end new (omega arith)) ∙ ap (take start) e ∙ take-append-le start (take at old) bytes (omega (arith, length-take-le at old fits)) ∙ take-take start at old within
+    sym (take-take start end new (omega arith)) ∙ ap (take start) e ∙ take-append-le start (take at old) bytes (omega (arith, length-take-le at old fits))
+    ∙ take-take start at old within
 
 module _ (state : EncoderState) (free : ℕ) where
   pub units_none : (units old new : List ℕ) → new ≡ old → PutsUnits state free (take 0 units) old new
@@ -32,8 +31,10 @@ module _ (state : EncoderState) (free : ℕ) where
   }
 
   -- one more code unit
-  pub units_more : (serves : Serves (encoder_profile state.codec)) (units old bytes new : List ℕ) (k c both count : ℕ) → PutsUnits state free (take k units) old bytes
-      → k < length units → get_or units k 0 ≡ c → ReadsUnit state c both count → length bytes + scalar_room state c ≤ free → new ≡ bytes ++ take count (two_bytes both)
+  pub units_more : (serves : Serves (encoder_profile state.codec)) (units old bytes new : List ℕ) (k c both count : ℕ)
+      → PutsUnits state free (take k units) old bytes
+      → k < length units → get_or units k 0 ≡ c → ReadsUnit state c both count
+      → length bytes + scalar_room state c ≤ free → new ≡ bytes ++ take count (two_bytes both)
       → PutsUnits state free (take (k + 1) units) old new
   units_more serves units old bytes new k c both count before within is own room new_is =
       let units_are : take (suc k) units ≡ take k units ++ c ∷ [] = take-suc units k 0 within ∙ ap (λ x. take k units ++ x ∷ []) is in
@@ -43,7 +44,8 @@ module _ (state : EncoderState) (free : ℕ) where
         lone = λ j h. elim (cases_lt j k) [
           | inl l ↦
               let below : j < length (take k units) = omega arith in
-              let same : get_or (take k units) j 0 ≡ get_or (take (suc k) units) j 0 = get_or-take k units j 0 l ∙ sym (get_or-take (suc k) units j 0 (omega arith)) in
+              let same : get_or (take k units) j 0 ≡ get_or (take (suc k) units) j 0 = get_or-take k units j 0 l
+              ∙ sym (get_or-take (suc k) units j 0 (omega arith)) in
               subst IsNoSurrogate same (before.lone j below)
           | inr l ↦
               let all : length (take (suc k) units) ≡ suc k = length-take-le (suc k) units (omega arith) in
@@ -53,5 +55,6 @@ module _ (state : EncoderState) (free : ℕ) where
         ];
         keeps = λ rest.
             let second = keeps_move state free serves (c ∷ rest) bytes c rest own.move refl own.moves own.reads own.silent (omega arith) in
-            rw (new_is ∙ ap (λ l. bytes ++ l) (sym own.bytes), units_are, append_assoc (take k units) (c ∷ []) rest) (keeps_then (before.keeps (c ∷ rest)) second);
+            rw (new_is ∙ ap (λ l. bytes ++ l) (sym own.bytes), units_are, append_assoc (take k units) (c ∷ []) rest)
+            (keeps_then (before.keeps (c ∷ rest)) second);
       })

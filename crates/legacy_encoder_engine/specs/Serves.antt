@@ -22,12 +22,14 @@ pub record Serves (p : EncoderProfile) : Type 0 where
   -- after its escape a scalar needs no other escape
   pub settled : (mode : EncoderMode) (c : ℕ) → wants p (p.mode_for mode c) c ≡ false
   -- the bytes of a scalar, written in the current mode, lower the room by their number, and the scalar's room was free
-  pub low : (mode : EncoderMode) (c : ℕ) (form : EncodingForm) (t : ℕ) → mode_room p form mode t + code_length (p.code c) ≤ mode_room p form mode (unit_count form c + t)
+  pub low : (mode : EncoderMode) (c : ℕ) (form : EncodingForm) (t : ℕ)
+      → mode_room p form mode t + code_length (p.code c) ≤ mode_room p form mode (unit_count form c + t)
   pub enough : (mode : EncoderMode) (c : ℕ) (form : EncodingForm) (t : ℕ) → p.scalar_room c ≤ mode_room p form mode (unit_count form c + t)
   -- so do an escape and the scalar after it
   pub escape_low : (mode : EncoderMode) (c : ℕ) → wants p mode c ≡ true → (form : EncodingForm) (t : ℕ)
       → mode_room p form (p.mode_for mode c) t + (3 + code_length (p.code c)) ≤ mode_room p form mode (unit_count form c + t)
-  pub escape_enough : (mode : EncoderMode) (c : ℕ) → wants p mode c ≡ true → (form : EncodingForm) (t : ℕ) → 3 + p.scalar_room c ≤ mode_room p form mode (unit_count form c + t)
+  pub escape_enough : (mode : EncoderMode) (c : ℕ) → wants p mode c ≡ true
+      → (form : EncodingForm) (t : ℕ) → 3 + p.scalar_room c ≤ mode_room p form mode (unit_count form c + t)
   -- and the bytes of the end
   pub end : (mode : EncoderMode) (form : EncodingForm) → length (p.end_bytes mode) ≤ mode_room p form mode 0
   -- the end writes an escape or nothing

@@ -13,7 +13,8 @@ use Rattle.legacy_encoder_engine.specs.declared.moves.EncoderMove.TheVariants.{O
 
 -- the bytes written lower the room that is still needed
 pub record Lowers (before : EncoderState) (source : List ℕ) (now : EncoderState) (left bytes : List ℕ) : Type 0 where
-  pub low : (form : EncodingForm) (more : ℕ) → encoder_room form now (total_unit_count form left + more) + length bytes ≤ encoder_room form before (total_unit_count form source + more)
+  pub low : (form : EncodingForm) (more : ℕ)
+      → encoder_room form now (total_unit_count form left + more) + length bytes ≤ encoder_room form before (total_unit_count form source + more)
 
 -- the same after an escape, counting the scalar that it was written for
 pub record LowersEscaped (before : EncoderState) (source : List ℕ) (now : EncoderState) (left bytes : List ℕ) : Type 0 where
@@ -22,7 +23,8 @@ pub record LowersEscaped (before : EncoderState) (source : List ℕ) (now : Enco
   pub at : left ≡ c ∷ rest
   pub settled : wants_escape now c ≡ false
   pub low : (form : EncodingForm) (more : ℕ)
-      → encoder_room form now (total_unit_count form rest + more) + code_length (code now c) + length bytes ≤ encoder_room form before (total_unit_count form source + more)
+      → encoder_room form now (total_unit_count form rest + more) + code_length (code now c) + length bytes
+      ≤ encoder_room form before (total_unit_count form source + more)
   pub enough : (form : EncodingForm) → scalar_room now c + length bytes ≤ encoder_room form before (total_unit_count form source)
 
 -- A call began in the state `before`, with the scalars `source` and `free` free bytes. It is now in the state `now`,
@@ -31,7 +33,8 @@ pub record LowersEscaped (before : EncoderState) (source : List ℕ) (now : Enco
 pub record Underway (before : EncoderState) (source : List ℕ) (last : Bool) (free : ℕ) (now : EncoderState) (left bytes : List ℕ) : Type 0 where
   pub taken : List ℕ
   pub cut : source ≡ taken ++ left
-  pub events : (more : List ℕ) (ended : Bool) → encoded before (taken ++ (take 1 left ++ more)) ended ≡ map Byte bytes ++ encoded now (take 1 left ++ more) ended
+  pub events : (more : List ℕ) (ended : Bool)
+      → encoded before (taken ++ (take 1 left ++ more)) ended ≡ map Byte bytes ++ encoded now (take 1 left ++ more) ended
   pub same : now.codec ≡ before.codec
   pub had_room : (k : ℕ) → k < length taken → bytes_before before (take k taken) (slice_index taken k) + scalar_room before (slice_index taken k) ≤ free
   pub fits : length bytes ≤ free
@@ -42,7 +45,8 @@ pub record Underway (before : EncoderState) (source : List ℕ) (last : Bool) (f
 -- In this state, with `free` free bytes, any call under way with the first scalars left and bytes written continues
 -- with the second ones.
 pub record KeepsOn (state : EncoderState) (free : ℕ) (left_before bytes_before left_after bytes_after : List ℕ) : Type 0 where
-  pub keeps : (before : EncoderState) (source : List ℕ) (last : Bool) → Underway before source last free state left_before bytes_before → Underway before source last free state left_after bytes_after
+  pub keeps : (before : EncoderState) (source : List ℕ) (last : Bool)
+      → Underway before source last free state left_before bytes_before → Underway before source last free state left_after bytes_after
 
 -- A loop reads ahead in this state, with `free` bytes of output in all. It relates the scalars left, the code units
 -- passed, the bytes written and the end of these bytes, before and after.

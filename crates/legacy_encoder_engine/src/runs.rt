@@ -1,7 +1,8 @@
 //! The loops that read ahead of the moves: blocks, turns of ten scalars, and single scalars.
 //!
 //! They leave scalars without bytes and small outputs to the moves.
-ghost use Rattle.std.specs.Prelude.{◌≡◌, ℕ, ◌+◌, ◌≤◌, length, take, MatchOption};
+ghost use Rattle.std.specs.Prelude.{◌≡◌, ℕ, ◌+◌, ◌<◌, ◌≤◌, length, take, IfSome, MatchOption};
+ghost use Rattle.legacy_text.specs.NextScalars.{IsFirst};
 ghost use Rattle.legacy_base.specs.Encoders.{encoder_profile, scalar_room};
 ghost use Rattle.legacy_encoder_engine.specs.Near.{IsNear};
 ghost use Rattle.legacy_encoder_engine.specs.Serves.{Serves};
@@ -102,6 +103,39 @@ fn read_first_tens<C: AheadCodes, S: TextCursor>(
     start
 }
 
+/// Writes the bytes of the scalar at the front, which is past ASCII and has `count` code units.
+///
+/// Goes past the scalar, and returns the place after its bytes. The result is `None` if the scalar
+/// is left to the moves.
+#[inline(always)]
+fn read_past_ascii<C: AheadCodes, S: TextCursor>(
+    codes: &C,
+    near: &mut RangePart,
+    src: &mut S,
+    dst: &mut [u8],
+    at: usize,
+    c: char,
+    count: usize,
+) -> Option<usize>
+    requires room { at + C.room ≤ length dst.old }
+    requires fits { scalar_room (C.state codes.now) c ≤ C.room }
+    requires serves { Serves (encoder_profile (C.state codes.now).codec) }
+    requires past { 0x80 ≤ c }
+    requires front { IsFirst S.form (S.left src.old) c count }
+    requires near { IsNear (C.state codes.now).codec near.old }
+    ensures ahead { MatchOption result
+        (EncodesBy S.TextCursor (C.state codes.now) src.old dst.old at src.new dst.new at)
+        (EncodesBy S.TextCursor (C.state codes.now) src.old dst.old at src.new dst.new) }
+    ensures some { IfSome result (λ end. at < end) }
+    ensures near { IsNear (C.state codes.now).codec near.new }
+{
+    let Some(end) = codes.put_past_ascii(near, dst, at, c) else {
+        return None;
+    };
+    src.pass(count);
+    Some(end)
+}
+
 /// Reads single scalars while any scalar fits, and returns the place after their bytes.
 ///
 /// The bytes begin at `start`. It stops before a block, and before a scalar that is left to the
@@ -143,23 +177,19 @@ fn read_scalars<C: AheadCodes, S: TextCursor>(
                 }
             }
             Next::Two(c) => {
-                let Some(end) = codes.put_past_ascii(near, dst, at, c) else {
+                let Some(end) = read_past_ascii(codes, near, src, dst, at, c, 2) else {
                     return at;
                 };
                 let goes_on = at > start;
                 at = end;
-                src.pass(2);
                 if goes_on {
                     at = codes.read_turns(src, dst, end);
                 }
             }
-            Next::Three(c) => {
-                let Some(end) = codes.put_past_ascii(near, dst, at, c) else {
-                    return at;
-                };
-                at = end;
-                src.pass(3);
-            }
+            Next::Three(c) => match read_past_ascii(codes, near, src, dst, at, c, 3) {
+                Some(end) => at = end,
+                None => return at,
+            },
             Next::Four(_) | Next::End => return at,
         }
     }

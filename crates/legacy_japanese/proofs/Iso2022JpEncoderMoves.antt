@@ -1,5 +1,6 @@
 -- The moves of the ISO-2022-JP encoder.
-use Rattle.std.proofs.Common.{◌≡◌, ◌∙◌, ℕ, ◌+◌, subst, ◌/◌, ◌%◌, List, [], ◌∷◌, ◌++◌, length, refl, sym, ap, arith, Bool, true, false, IsTrue, ◌||◌, not, Option, Some, None, eqb, option_map, map, ◌⊎◌, inl, inr}
+use Rattle.std.proofs.Common.{◌≡◌, ◌∙◌, ℕ, ◌+◌, subst, ◌/◌, ◌%◌, List, [], ◌∷◌, ◌++◌, ◌≤◌, length, refl, sym, ap, arith, Bool}
+use Rattle.std.proofs.Common.{true, false, IsTrue, ◌||◌, not, Option, Some, None, eqb, option_map, map, ◌⊎◌, inl, inr}
 use Rattle.std.proofs.lemmas.Bool.{lt-ltb, cond_both, false≢true}
 use Rattle.std.specs.Char.{is_ascii}
 use Rattle.legacy_base.specs.declared.results.EncodeEvent.{EncodeEvent}
@@ -9,25 +10,23 @@ use Rattle.legacy_base.specs.EncodeEvents.{code_events, code_length}
 use Rattle.legacy_base.specs.EncoderProfile.{EncoderMode, in_ascii, in_roman, in_two_byte}
 use Rattle.legacy_base.specs.Encoders.{EncoderState, encoded, encoder_profile, iso_2022_jp, is_pending}
 use Rattle.legacy_base.specs.Profile.{is_empty}
-use Rattle.legacy_base.specs.Iso2022Jp.{is_mode_control, iso_2022_jp_code, iso_2022_jp_reported, iso_2022_jp_pointer_of, iso_2022_jp_pair, escape_to, escape_between, roman_or_ascii}
-use Rattle.legacy_base.proofs.Iso2022JpEncoding.{text_events, text_events-here, text_events-escape, text_events-end, text_events-open, mode_for, mode_for-twice, code-short}
+use Rattle.legacy_base.specs.Iso2022Jp.{is_mode_control, iso_2022_jp_code, iso_2022_jp_reported, iso_2022_jp_pointer_of}
+use Rattle.legacy_base.specs.Iso2022Jp.{iso_2022_jp_pair, escape_to, escape_between, roman_or_ascii}
+use Rattle.legacy_base.proofs.Iso2022JpEncoding.{text_events, text_events-here, text_events-escape, text_events-end}
+use Rattle.legacy_base.proofs.Iso2022JpEncoding.{text_events-open, mode_for, mode_for-twice, code-short}
 use Rattle.legacy_base.proofs.Iso2022JpEncoding.{at_control, at_special, at_neutral, at_yen, at_overline, at_pair, at_none}
-use Rattle.legacy_encoder_engine.specs.Moves.{Moves, Finishes, IsCode, differs}
+use Rattle.legacy_encoder_engine.specs.Moves.{Moves, Finishes, IsCode, differs, is_escape, move_bytes, move_report, unread_scalar}
 use Rattle.legacy_encoder_engine.specs.Serves.{Serves}
 use Rattle.legacy_encoder_engine.specs.UnderWay.{ReadsByte}
 use Rattle.legacy_encoder_engine.specs.declared.moves.EncoderMove.{EncoderMove}
 use Rattle.legacy_encoder_engine.specs.declared.moves.EncoderMove.TheVariants.{One, Two, Four, Escape, Unmappable}
+use Rattle.legacy_encoder_engine.proofs.PlainServes.{differs-same}
 use Rattle.legacy_japanese.specs.declared.iso_2022_jp.encoder.Mode.{Mode}
 use Rattle.legacy_japanese.specs.declared.iso_2022_jp.encoder.Mode.TheVariants as modes
 use Rattle.legacy_japanese.specs.Iso2022JpEncoder.{mode_of, state_in, is_same_mode, escape_move, Asks, IsOwnByte}
 use Rattle.legacy_japanese.proofs.Iso2022JpEncoderRooms.{scalar_low, scalar_enough, escape_low, escape_enough, end_enough, formula_rises}
 
 -- ---- modes
-
-differs-same : (mode : EncoderMode) → differs mode mode ≡ false
-differs-same in_ascii = refl
-differs-same in_roman = refl
-differs-same in_two_byte = refl
 
 differs-true : (mode new : EncoderMode) → differs mode new ≡ true → mode ≡ new → ⊥
 differs-true mode new d e = let f : differs mode mode ≡ true = ap (differs mode) e ∙ d in let g = differs-same mode in cc
@@ -76,7 +75,8 @@ module _ (jis0208 katakana_index : List ℕ) where
   pub serves : Serves (encoder_profile (iso_2022_jp jis0208 katakana_index))
   serves = record {
     nothing = text_events-open jis0208 katakana_index;
-    settled = λ mode c. ap (differs (mode_for jis0208 katakana_index mode c)) (mode_for-twice jis0208 katakana_index mode c) ∙ differs-same (mode_for jis0208 katakana_index mode c);
+    settled = λ mode c. ap (differs (mode_for jis0208 katakana_index mode c)) (mode_for-twice jis0208 katakana_index mode c)
+        ∙ differs-same (mode_for jis0208 katakana_index mode c);
     low = scalar_low jis0208 katakana_index;
     enough = scalar_enough jis0208 katakana_index;
     escape_low = λ mode c w. escape_low jis0208 katakana_index mode c (differs-true mode (mode_for jis0208 katakana_index mode c) w);
@@ -100,22 +100,22 @@ module _ (jis0208 katakana_index : List ℕ) where
       goes = ap (λ m. record { codec = iso_2022_jp jis0208 katakana_index; mode = m }) (sym stays)
 
       -- the current mode encodes the scalar
+      written : (move : EncoderMove) → iso_2022_jp_code jis0208 katakana_index c ≡ Some (move_bytes move) → is_escape move ≡ false → move_report move ≡ []
+          → unread_scalar move c ≡ [] → length (move_bytes move) ≤ 3 → Moves state c state move
+      written move e here silent read fits = record {
+        events = λ more ended. rw (silent, read) (text_events-here jis0208 katakana_index (mode_of mode) c stays more ended
+            ∙ ap (λ o. code_events (iso_2022_jp_reported c) o ++ encoded state more ended) e);
+        own = λ x. ap code_length e;
+        fits = fits;
+        asks = here ∙ asks;
+        goes = goes;
+      }
+
       pub reads : (move : EncoderMove) → IsCode (iso_2022_jp_code jis0208 katakana_index c) (iso_2022_jp_reported c) move → Moves state c state move
-      reads (One a) e = record {
-        events = λ more ended. text_events-here jis0208 katakana_index (mode_of mode) c stays more ended ∙ ap (λ o. code_events (iso_2022_jp_reported c) o ++ encoded state more ended) e;
-        own = λ x. ap code_length e;
-        fits = omega arith;
-        asks = asks;
-        goes = goes;
-      }
-      reads (Two a b) e = record {
-        events = λ more ended. text_events-here jis0208 katakana_index (mode_of mode) c stays more ended ∙ ap (λ o. code_events (iso_2022_jp_reported c) o ++ encoded state more ended) e;
-        own = λ x. ap code_length e;
-        fits = omega arith;
-        asks = asks;
-        goes = goes;
-      }
-      reads (Four x y z w) e = let s = code-short jis0208 katakana_index c in let f : code_length (iso_2022_jp_code jis0208 katakana_index c) ≡ 4 = ap code_length e in absurd (omega arith)
+      reads (One a) e = written (One a) e refl refl refl (omega arith)
+      reads (Two a b) e = written (Two a b) e refl refl refl (omega arith)
+      reads (Four x y z w) e = let s = code-short jis0208 katakana_index c in
+          let f : code_length (iso_2022_jp_code jis0208 katakana_index c) ≡ 4 = ap code_length e in absurd (omega arith)
       reads (Escape a b) e = absurd e
       reads (Unmappable r) e = record {
         events = λ more ended.
@@ -169,7 +169,8 @@ module _ (jis0208 katakana_index : List ℕ) where
   unfolding iso_2022_jp_code
   code_plain c =
       cond_both (is_mode_control c) None _ StartsPlain (λ _. tt) (λ f.
-      cond_both (is_ascii c) (Some (c ∷ [])) _ StartsPlain (λ _ e. let f' : is_mode_control 0x1B ≡ false = subst (λ x. is_mode_control x ≡ false) e f in cc) (λ _.
+      cond_both (is_ascii c) (Some (c ∷ [])) _ StartsPlain
+      (λ _ e. let f' : is_mode_control 0x1B ≡ false = subst (λ x. is_mode_control x ≡ false) e f in cc) (λ _.
       cond_both (eqb c 0xA5) (Some (0x5C ∷ [])) _ StartsPlain (λ _ e. cc) (λ _.
       cond_both (eqb c 0x203E) (Some (0x7E ∷ [])) _ StartsPlain (λ _ e. cc) (λ _. pair_plain (iso_2022_jp_pointer_of jis0208 katakana_index c)))))
 
@@ -232,13 +233,15 @@ module _ (jis0208 katakana_index : List ℕ) where
         | inr s ↦ no_other new _ g.0 n (sym (text_events-escape jis0208 katakana_index mode new c e s more ended) ∙ g.1)
       ]
 
-      by_mode : (new : EncoderMode) → mode_for jis0208 katakana_index mode c ≡ new → BeginsWith (text_events jis0208 katakana_index mode (c ∷ more) ended) to_ascii
+      by_mode : (new : EncoderMode) → mode_for jis0208 katakana_index mode c ≡ new
+          → BeginsWith (text_events jis0208 katakana_index mode (c ∷ more) ended) to_ascii
           → text_events jis0208 katakana_index mode (c ∷ more) ended ≡ to_ascii ++ text_events jis0208 katakana_index in_ascii (c ∷ more) ended
       by_mode in_ascii e g = text_events-escape jis0208 katakana_index mode in_ascii c e other more ended
       by_mode in_roman e g = absurd (elsewhere in_roman e (λ f. cc) g)
       by_mode in_two_byte e g = absurd (elsewhere in_two_byte e (λ f. cc) g)
 
-  pub finishes : (mode : Mode) → is_pending (state_in jis0208 katakana_index mode) ≡ true → Finishes (state_in jis0208 katakana_index mode) (state_in jis0208 katakana_index modes.Ascii)
+  pub finishes : (mode : Mode) → is_pending (state_in jis0208 katakana_index mode) ≡ true
+      → Finishes (state_in jis0208 katakana_index mode) (state_in jis0208 katakana_index modes.Ascii)
   finishes modes.Ascii p = cc
   finishes modes.Roman p = record { events = escape_first in_roman (λ e. cc) refl; done = refl }
   finishes modes.TwoByte p = record { events = escape_first in_two_byte (λ e. cc) refl; done = refl }
@@ -246,13 +249,17 @@ module _ (jis0208 katakana_index : List ℕ) where
   -- ---- the mode and move of a scalar, by the tests of its rules
 
   module _ (mode : Mode) (c : ℕ) where
-    pub asks_control : (new : Mode) → is_mode_control c ≡ true → mode_of new ≡ roman_or_ascii (mode_of mode) → Asks jis0208 katakana_index mode c new (Unmappable 0xFFFD)
-    asks_control new t s = let w = at_control jis0208 katakana_index (mode_of mode) c t in record { mode_is = w.mode_is ∙ sym s; code_is = (w.code_is, rw t refl) }
+    pub asks_control : (new : Mode) → is_mode_control c ≡ true → mode_of new ≡ roman_or_ascii (mode_of mode)
+        → Asks jis0208 katakana_index mode c new (Unmappable 0xFFFD)
+    asks_control new t s = let w = at_control jis0208 katakana_index (mode_of mode) c t in
+        record { mode_is = w.mode_is ∙ sym s; code_is = (w.code_is, rw t refl) }
 
-    pub asks_special : is_mode_control c ≡ false → is_ascii c ≡ true → (eqb c 0x5C || eqb c 0x7E) ≡ true → Asks jis0208 katakana_index mode c modes.Ascii (One c)
+    pub asks_special : is_mode_control c ≡ false → is_ascii c ≡ true
+        → (eqb c 0x5C || eqb c 0x7E) ≡ true → Asks jis0208 katakana_index mode c modes.Ascii (One c)
     asks_special f t s = let w = at_special jis0208 katakana_index (mode_of mode) c f t s in record { mode_is = w.mode_is; code_is = w.code_is }
 
-    pub asks_neutral : (new : Mode) → is_mode_control c ≡ false → is_ascii c ≡ true → (eqb c 0x5C || eqb c 0x7E) ≡ false → mode_of new ≡ roman_or_ascii (mode_of mode)
+    pub asks_neutral : (new : Mode) → is_mode_control c ≡ false → is_ascii c ≡ true
+        → (eqb c 0x5C || eqb c 0x7E) ≡ false → mode_of new ≡ roman_or_ascii (mode_of mode)
         → Asks jis0208 katakana_index mode c new (One c)
     asks_neutral new f t s g = let w = at_neutral jis0208 katakana_index (mode_of mode) c f t s in record { mode_is = w.mode_is ∙ sym g; code_is = w.code_is }
 
@@ -263,11 +270,14 @@ module _ (jis0208 katakana_index : List ℕ) where
     asks_overline e = let w = at_overline jis0208 katakana_index (mode_of mode) c e in record { mode_is = w.mode_is; code_is = w.code_is }
 
     module _ (f : is_mode_control c ≡ false) (a : is_ascii c ≡ false) (y : c ≡ 0xA5 → ⊥) (o : c ≡ 0x203E → ⊥) where
-      pub asks_pair : (p : ℕ) → iso_2022_jp_pointer_of jis0208 katakana_index c ≡ Some p → Asks jis0208 katakana_index mode c modes.TwoByte (Two (p / 94 + 0x21) (p % 94 + 0x21))
+      pub asks_pair : (p : ℕ) → iso_2022_jp_pointer_of jis0208 katakana_index c ≡ Some p
+          → Asks jis0208 katakana_index mode c modes.TwoByte (Two (p / 94 + 0x21) (p % 94 + 0x21))
       asks_pair p e = let w = at_pair jis0208 katakana_index (mode_of mode) c p f a y o e in record { mode_is = w.mode_is; code_is = w.code_is }
 
-      pub asks_none : (new : Mode) → iso_2022_jp_pointer_of jis0208 katakana_index c ≡ None → mode_of new ≡ roman_or_ascii (mode_of mode) → Asks jis0208 katakana_index mode c new (Unmappable c)
-      asks_none new e s = let w = at_none jis0208 katakana_index (mode_of mode) c f a y o e in record { mode_is = w.mode_is ∙ sym s; code_is = (w.code_is, rw f refl) }
+      pub asks_none : (new : Mode) → iso_2022_jp_pointer_of jis0208 katakana_index c ≡ None
+          → mode_of new ≡ roman_or_ascii (mode_of mode) → Asks jis0208 katakana_index mode c new (Unmappable c)
+      asks_none new e s = let w = at_none jis0208 katakana_index (mode_of mode) c f a y o e in
+          record { mode_is = w.mode_is ∙ sym s; code_is = (w.code_is, rw f refl) }
 
   -- ---- the scalars that are encoded in the current mode
 

@@ -5,20 +5,14 @@ use Rattle.legacy_text.specs.EncodingForm.{EncodingForm, Utf8, Utf16, unit_count
 use Rattle.legacy_base.specs.EncodeEvents.{code_length}
 use Rattle.legacy_base.specs.EncoderProfile.{EncoderProfile, EncoderMode, in_ascii, in_roman, in_two_byte}
 use Rattle.legacy_base.specs.Lengths.{number, value}
-use Rattle.legacy_base.specs.Iso2022Jp.{iso_2022_jp_encoder, iso_2022_jp_code, is_mode_control, is_pair, is_two_byte_scalar, keeps_mode, is_roman_scalar, escape_between}
-use Rattle.legacy_text.proofs.CodeUnits.{encode_2, encode_3, encode_4}
+use Rattle.legacy_base.specs.Iso2022Jp.{iso_2022_jp_encoder, iso_2022_jp_code, is_mode_control, is_pair, is_two_byte_scalar}
+use Rattle.legacy_base.specs.Iso2022Jp.{keeps_mode, is_roman_scalar, escape_between}
 use Rattle.legacy_base.proofs.SameUnits.{some_unit}
 use Rattle.legacy_base.proofs.Iso2022JpEncoding.{mode_by, mode_for-by, code-short}
-
--- a scalar from U+0080 on has at least two bytes in UTF-8
-two_bytes : (c : ℕ) → 128 ≤ c → 2 ≤ unit_count Utf8 c
-two_bytes c a = elim (cases_lt c 2048) [
-  | inl b ↦ rw (encode_2 c a b) (omega arith)
-  | inr b ↦ elim (cases_lt c 65536) [ inl d ↦ rw (encode_3 c b d) (omega arith) | inr d ↦ rw (encode_4 c d) (omega arith) ]
-]
+use Rattle.legacy_encoder_engine.proofs.PlainServes.{two_units}
 
 two_bytes_in : (form : EncodingForm) (c : ℕ) → 128 ≤ c → form ≡ Utf8 → 2 ≤ unit_count form c
-two_bytes_in form c h e = rw e (two_bytes c h)
+two_bytes_in form c h e = rw e (two_units c h)
 
 short_by : (own : Option (List ℕ)) → is_pair own ≡ false → code_length own ≤ 2 → code_length own ≤ 1
 short_by None e h = omega arith
@@ -66,7 +60,8 @@ module _ (jis0208 katakana_index : List ℕ) where
   formula_rises Utf16 m n h = omega arith
 
   -- an escape to the mode that the scalar needs, and then the scalar's bytes
-  low_by : (pair keeps romans : Bool) (mode : EncoderMode) (form : EncodingForm) (t u own : ℕ) → (mode ≡ mode_by pair keeps romans mode → ⊥) → own ≤ 2 → (pair ≡ false → own ≤ 1) → 1 ≤ u →
+  low_by : (pair keeps romans : Bool) (mode : EncoderMode) (form : EncodingForm) (t u own : ℕ)
+      → (mode ≡ mode_by pair keeps romans mode → ⊥) → own ≤ 2 → (pair ≡ false → own ≤ 1) → 1 ≤ u →
       (form ≡ Utf8 → pair ≡ true → 2 ≤ u) → (form ≡ Utf8 → romans ≡ true → 2 ≤ u) →
       room form (mode_by pair keeps romans mode) t + (3 + own) ≤ room form mode (u + t)
   low_by true keeps romans in_ascii Utf8 t u own e o n p q r = let w = q refl refl in omega arith
@@ -118,10 +113,12 @@ module _ (jis0208 katakana_index : List ℕ) where
   roman_past : (c : ℕ) → is_roman_scalar c ≡ true → 128 ≤ c
   roman_past c e = elim (cases_lt c 128) [
     | inr a ↦ a
-    | inl a ↦ let y : eqb c 0xA5 ≡ false = ne_eqb c 0xA5 (λ z. omega arith) in let o : eqb c 0x203E ≡ false = ne_eqb c 0x203E (λ z. omega arith) in let f = rw (y, o) at e in cc
+    | inl a ↦ let y : eqb c 0xA5 ≡ false = ne_eqb c 0xA5 (λ z. omega arith) in
+        let o : eqb c 0x203E ≡ false = ne_eqb c 0x203E (λ z. omega arith) in let f = rw (y, o) at e in cc
   ]
 
-  pub scalar_low : (mode : EncoderMode) (c : ℕ) (form : EncodingForm) (t : ℕ) → room form mode t + code_length (encoder.code c) ≤ room form mode (unit_count form c + t)
+  pub scalar_low : (mode : EncoderMode) (c : ℕ) (form : EncodingForm) (t : ℕ)
+      → room form mode t + code_length (encoder.code c) ≤ room form mode (unit_count form c + t)
   scalar_low mode c form t = own_low mode form t (unit_count form c) (code_length (encoder.code c)) (code-short jis0208 katakana_index c) (some_unit form c)
 
   pub scalar_enough : (mode : EncoderMode) (c : ℕ) (form : EncodingForm) (t : ℕ) → encoder.scalar_room c ≤ room form mode (unit_count form c + t)
@@ -133,7 +130,8 @@ module _ (jis0208 katakana_index : List ℕ) where
       let own = encoder.code c in
       let is = mode_for-by jis0208 katakana_index mode c in
       let short = code-short jis0208 katakana_index c in
-      let low = low_by (is_pair own) (keeps_mode jis0208 katakana_index c) (is_roman_scalar c) mode form t (unit_count form c) (code_length own) (λ e. n (e ∙ sym is)) short
+      let low = low_by (is_pair own) (keeps_mode jis0208 katakana_index c) (is_roman_scalar c) mode form t (unit_count form c) (code_length own)
+      (λ e. n (e ∙ sym is)) short
       (λ e. short_by own e short) (some_unit form c) (λ f e. two_bytes_in form c (pair_past c e) f) (λ f e. two_bytes_in form c (roman_past c e) f) in
       rw is low
 

@@ -6,7 +6,8 @@ use Rattle.legacy_text.specs.UnitCodes.{WritesCodes}
 use Rattle.legacy_base.specs.Iso2022Jp.{is_mode_control}
 use Rattle.legacy_japanese.specs.Iso2022JpEncoder.{IsOwnByte}
 
-module _ (start n limit : ℕ) (dst new more : List ℕ) (from : start ≤ limit) (within : limit ≤ length dst) (same : length new ≡ length (take limit dst)) (fits : start + n ≤ length (take limit dst))
+module _ (start n limit : ℕ) (dst new more : List ℕ) (from : start ≤ limit) (within : limit ≤ length dst) (same : length new ≡ length (take limit dst))
+    (fits : start + n ≤ length (take limit dst))
     (bytes : take (start + n) new ≡ take start (take limit dst) ++ more) where
   all : List ℕ
   all = new ++ drop limit dst
@@ -32,7 +33,8 @@ module _ (start n limit : ℕ) (dst new more : List ℕ) (from : start ≤ limit
       ∙ subst (λ k. drop k (take start dst ++ more) ≡ more) old_length (drop-append_seam (take start dst) more))
 
 -- ASCII without controls is written as itself
-pub own_bytes : (left old : List ℕ) (n : ℕ) → n ≤ length left → ((k : ℕ) → slice_index (take n left) k < 0x80) → ((k : ℕ) → k < length (take n left) → is_mode_control (slice_index (take n left) k) ≡ false) →
+pub own_bytes : (left old : List ℕ) (n : ℕ) → n ≤ length left → ((k : ℕ) → slice_index (take n left) k < 0x80)
+    → ((k : ℕ) → k < length (take n left) → is_mode_control (slice_index (take n left) k) ≡ false) →
     WritesCodes IsOwnByte left n old (old ++ take n left)
 own_bytes left old n within ascii none =
     let long = length-take-le n left within in
@@ -51,5 +53,6 @@ pub front_without : (n m : ℕ) (bytes : List ℕ) → n ≤ m → ((k : ℕ) �
 front_without n m bytes within none k h =
     let short = length-take n bytes in
     let long = length-take m bytes in
-    let same : slice_index (take m bytes) k ≡ slice_index (take n bytes) k = get_or-take m bytes k 0 (omega (arith, short)) ∙ sym (get_or-take n bytes k 0 (omega (arith, short))) in
+    let same : slice_index (take m bytes) k ≡ slice_index (take n bytes) k = get_or-take m bytes k 0 (omega (arith, short))
+    ∙ sym (get_or-take n bytes k 0 (omega (arith, short))) in
     subst (λ b. is_mode_control b ≡ false) same (none k (omega (arith, short, long)))

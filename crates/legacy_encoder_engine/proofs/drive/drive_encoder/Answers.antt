@@ -9,7 +9,12 @@ use Rattle.legacy_encoder_engine.proofs.drive.drive_encoder.Goals as goal
 use Rattle.legacy_encoder_engine.proofs.drive.drive_encoder.Goals.{else-is_pending-via-then-is_pending+else-last, else-is_pending-via-else-is_pending}
 
 pub loop-c-init : goal.loop-c-init
-loop-c-init g c = (underway_start (g.E.EncoderMoves.state c.args.encoder.now) (g.S.Source.left c.args.src.now) c.args.last (length c.args.dst.now), omega arith, refl)
+loop-c-init g c = (
+  underway_start (g.E.EncoderMoves.state c.args.encoder.now) (g.S.Source.left c.args.src.now) c.args.last
+      (length c.args.dst.now),
+  omega arith,
+  refl,
+)
 
 pub returns-then-dst-written-clause-call : goal.returns-then-dst-written-clause-call
 returns-then-dst-written-clause-call g c =
@@ -66,7 +71,8 @@ loop-c-preserved-in-Escape g c =
     let f = c.next-step.ensures.fits in
     let cons = first_cons _ _ c.in-Some.ensures in (
       rw c.put_move-written.ensures.bytes
-          (underway_escape _ _ _ _ _ _ _ under c.room.ensures.serves c.in-Some.c _ cons _ c.next-step.result c.next-step.ensures (omega arith) (ap is_escape c.in-Escape.is)),
+          (underway_escape _ _ _ _ _ _ _ under c.room.ensures.serves c.in-Some.c _ cons _ c.next-step.result c.next-step.ensures (omega arith)
+          (ap is_escape c.in-Escape.is)),
       omega arith,
       omega (arith, a.ensures.units, c.loop-c.invariant.2),
     )
@@ -86,4 +92,5 @@ returns-else-dst-written-lt3-clause-call g c =
     let n = front_length a.result a.new.dst (omega (arith, a.ensures.end)) in
     let pending = sym c.is_pending.ensures.is ∙ c.if-is_pending.true in
     rw c.put_move-written-then-last.ensures.bytes
-    (call_finish _ _ _ _ _ _ _ under c.is_pending.ensures.serves (first_nil _ (sym c.peek.ensures ∙ c.in_default.is)) c.if-last.true pending _ (c.finish.ensures pending) (omega arith))
+    (call_finish _ _ _ _ _ _ _ under c.is_pending.ensures.serves (first_nil _ (sym c.peek.ensures ∙ c.in_default.is)) c.if-last.true pending _
+    (c.finish.ensures pending) (omega arith))

@@ -8,35 +8,34 @@ loop-dst-init g c = (encodes_none _ _ _ _ _ _ _ c.requires.start, c.requires.nea
 
 pub loop-dst-preserved-else-by_turns : goal.loop-dst-preserved-else-by_turns
 loop-dst-preserved-else-by_turns g c =
-    let put = c.in-Some.ensures.puts in
-    let one = encodes_put g.S.TextCursor.form c.widest-widest.ensures.serves (c.widest-widest.ensures.fits _) c.loop-dst.invariant.0 c.in-One.ensures put
-    c.pass.ensures.left c.pass.ensures.passed (length-take-le _ _ (omega (arith, c.loop-dst.invariant.0.end))) (omega (arith, c.loop-dst-test.true, c.widest-widest.ensures.is)) in
+    let widest = c.widest-widest.ensures in
+    let before = c.loop-dst.invariant.0 in
+    let one = encodes_put g.S.TextCursor.form widest.serves (widest.fits _) before c.in-One.ensures
+    c.in-Some.ensures.puts c.pass.ensures.left c.pass.ensures.passed
+    (length-take-le _ _ (omega (arith, before.end))) (omega (arith, c.loop-dst-test.true, widest.is)) in
     (one, c.in-Some.ensures.near)
 
 pub loop-dst-preserved-then-has_tens : goal.loop-dst-preserved-then-has_tens
 loop-dst-preserved-then-has_tens g c =
-    let put = c.in-Some.ensures.puts in
-    let one = encodes_put g.S.TextCursor.form c.widest-widest.ensures.serves (c.widest-widest.ensures.fits _) c.loop-dst.invariant.0 c.in-One.ensures put
-    c.pass.ensures.left c.pass.ensures.passed (length-take-le _ _ (omega (arith, c.loop-dst.invariant.0.end))) (omega (arith, c.loop-dst-test.true, c.widest-widest.ensures.is)) in
+    let widest = c.widest-widest.ensures in
+    let before = c.loop-dst.invariant.0 in
+    let one = encodes_put g.S.TextCursor.form widest.serves (widest.fits _) before c.in-One.ensures
+    c.in-Some.ensures.puts c.pass.ensures.left c.pass.ensures.passed
+    (length-take-le _ _ (omega (arith, before.end))) (omega (arith, c.loop-dst-test.true, widest.is)) in
     (encodes_then one c.read_tens-at.ensures (omega arith), c.in-Some.ensures.near)
 
 pub loop-dst-preserved-else-goes_on : goal.loop-dst-preserved-else-goes_on
 loop-dst-preserved-else-goes_on g c =
-    let put = c.in-Some-put_past_ascii.ensures.puts in
-    let one = encodes_put g.S.TextCursor.form c.widest-widest.ensures.serves (c.widest-widest.ensures.fits _) c.loop-dst.invariant.0 c.in-Two.ensures put
-    c.pass-in-Two.ensures.left c.pass-in-Two.ensures.passed (length-take-le _ _ (omega (arith, c.loop-dst.invariant.0.end))) (omega (arith, c.loop-dst-test.true, c.widest-widest.ensures.is)) in
-    (one, c.in-Some-put_past_ascii.ensures.near)
+    let read = c.in-Some-read_past_ascii.ensures in
+    (encodes_then c.loop-dst.invariant.0 read.ahead (omega arith), read.near)
 
 pub loop-dst-preserved-then-goes_on : goal.loop-dst-preserved-then-goes_on
 loop-dst-preserved-then-goes_on g c =
-    let put = c.in-Some-put_past_ascii.ensures.puts in
-    let one = encodes_put g.S.TextCursor.form c.widest-widest.ensures.serves (c.widest-widest.ensures.fits _) c.loop-dst.invariant.0 c.in-Two.ensures put
-    c.pass-in-Two.ensures.left c.pass-in-Two.ensures.passed (length-take-le _ _ (omega (arith, c.loop-dst.invariant.0.end))) (omega (arith, c.loop-dst-test.true, c.widest-widest.ensures.is)) in
-    (encodes_then one c.read_turns-at.ensures (omega arith), c.in-Some-put_past_ascii.ensures.near)
+    let read = c.in-Some-read_past_ascii.ensures in
+    let one = encodes_then c.loop-dst.invariant.0 read.ahead (omega arith) in
+    (encodes_then one c.read_turns-at.ensures (omega arith), read.near)
 
 pub loop-dst-preserved : goal.loop-dst-preserved
 loop-dst-preserved g c =
-    let put = c.in-Some-put_past_ascii-2.ensures.puts in
-    let one = encodes_put g.S.TextCursor.form c.widest-widest.ensures.serves (c.widest-widest.ensures.fits _) c.loop-dst.invariant.0 c.in-Three.ensures put
-    c.pass-in-Three.ensures.left c.pass-in-Three.ensures.passed (length-take-le _ _ (omega (arith, c.loop-dst.invariant.0.end))) (omega (arith, c.loop-dst-test.true, c.widest-widest.ensures.is)) in
-    (one, c.in-Some-put_past_ascii-2.ensures.near)
+    let read = c.in-Some-read_past_ascii-2.ensures in
+    (encodes_then c.loop-dst.invariant.0 read.ahead (omega arith), read.near)

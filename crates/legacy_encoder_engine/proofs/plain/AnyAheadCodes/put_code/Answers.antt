@@ -11,4 +11,5 @@ put_move-requires g c =
 pub returns-then-c-lt128-clause-puts : goal.returns-then-c-lt128-clause-puts
 returns-then-c-lt128-clause-puts g c =
     let plain = g.C.PlainCodes.plain c.args.self.now in
-    plain_puts _ _ plain c.args.c (One c.args.c) (plain_code _ _ plain c.args.c c.if-c-lt128.true) refl refl _ _ _ _ c.put_move.ensures.bytes c.put_move.ensures.end
+    plain_puts _ _ plain c.args.c (One c.args.c)
+    (plain_code _ _ plain c.args.c c.if-c-lt128.true) refl refl _ _ _ _ c.put_move.ensures.bytes c.put_move.ensures.end

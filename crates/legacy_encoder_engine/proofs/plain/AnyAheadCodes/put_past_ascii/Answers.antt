@@ -1,39 +1,29 @@
 use Rattle.std.proofs.Common.{arith, refl}
-use Rattle.legacy_base.specs.Encoders.{encoder_profile}
-use Rattle.legacy_encoder_engine.specs.Moves.{IsCode}
 use Rattle.legacy_encoder_engine.specs.declared.moves.EncoderMove.TheVariants.{Two, Four}
 use Rattle.legacy_encoder_engine.proofs.PlainServes.{plain_fits, plain_puts}
 use Rattle.legacy_encoder_engine.proofs.plain.AnyAheadCodes.put_past_ascii.Goals as goal
 
 pub put_two-requires : goal.put_two-requires
 put_two-requires g c =
-    let codec = g.C.PlainCodes.codec c.args.self.now in
     let move = Two c.in-Some.lead c.in-Some.trail in
-    let is : IsCode ((encoder_profile codec).code c.args.c) c.args.c move = rw c.in-Some.is at c.pair_of.ensures in
-    omega (arith, plain_fits _ _ (g.C.PlainCodes.plain c.args.self.now) c.args.c move is, c.requires.room)
+    omega (arith, plain_fits _ _ (g.C.PlainCodes.plain c.args.self.now) c.args.c move c.in-Some.ensures, c.requires.room)
 
 pub returns-in-Some-clause-puts : goal.returns-in-Some-clause-puts
 returns-in-Some-clause-puts g c =
-    let codec = g.C.PlainCodes.codec c.args.self.now in
     let move = Two c.in-Some.lead c.in-Some.trail in
-    let is : IsCode ((encoder_profile codec).code c.args.c) c.args.c move = rw c.in-Some.is at c.pair_of.ensures in
-    plain_puts _ _ (g.C.PlainCodes.plain c.args.self.now) c.args.c move is refl refl _ _ _ _ c.put_two.ensures refl
+    plain_puts _ _ (g.C.PlainCodes.plain c.args.self.now) c.args.c move c.in-Some.ensures refl refl _ _ _ _ c.put_two.ensures refl
 
 pub put_four-requires : goal.put_four-requires
 put_four-requires g c =
-    let codec = g.C.PlainCodes.codec c.args.self.now in
     let four = c.in-Some-four_of.four in
     let move = Four four.0 four.1 four.2 four.3 in
-    let is : IsCode ((encoder_profile codec).code c.args.c) c.args.c move = rw c.in-Some-four_of.is at c.four_of.ensures.code in
-    omega (arith, plain_fits _ _ (g.C.PlainCodes.plain c.args.self.now) c.args.c move is, c.requires.room)
+    omega (arith, plain_fits _ _ (g.C.PlainCodes.plain c.args.self.now) c.args.c move c.in-Some-four_of.ensures.code, c.requires.room)
 
 pub returns-in-Some-four_of-clause-puts : goal.returns-in-Some-four_of-clause-puts
 returns-in-Some-four_of-clause-puts g c =
-    let codec = g.C.PlainCodes.codec c.args.self.now in
     let four = c.in-Some-four_of.four in
     let move = Four four.0 four.1 four.2 four.3 in
-    let is : IsCode ((encoder_profile codec).code c.args.c) c.args.c move = rw c.in-Some-four_of.is at c.four_of.ensures.code in
-    plain_puts _ _ (g.C.PlainCodes.plain c.args.self.now) c.args.c move is refl refl _ _ _ _ c.put_four.ensures refl
+    plain_puts _ _ (g.C.PlainCodes.plain c.args.self.now) c.args.c move c.in-Some-four_of.ensures.code refl refl _ _ _ _ c.put_four.ensures refl
 
 pub put_move-requires : goal.put_move-requires
 put_move-requires g c =

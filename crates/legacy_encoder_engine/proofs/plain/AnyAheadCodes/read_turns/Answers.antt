@@ -8,7 +8,8 @@ pub returns-then-has_turns : goal.returns-then-has_turns
 returns-then-has_turns g c =
     let plain = g.C.PlainCodes.plain c.args.self.now in
     let e = c.copy_codes.ensures in
-    encodes_codes g.S.TextCursor.form (length c.args.dst.now) 0 (plain_serves _ _ plain) (plain_byte _ _ plain) _ e.read e.left e.passed e.writes (length-take-le _ _ c.requires) (omega (arith, e.fits))
+    encodes_codes g.S.TextCursor.form (length c.args.dst.now) 0 (plain_serves _ _ plain) (plain_byte _ _ plain) _ e.read e.left e.passed e.writes
+    (length-take-le _ _ c.requires) (omega (arith, e.fits))
 
 pub returns : goal.returns
 returns g c = encodes_none _ _ _ _ _ _ _ c.requires

@@ -6,8 +6,11 @@ use Rattle.legacy_encoder_engine.proofs.runs.RunsReadingLoop.read.Goals as goal
 
 pub loop-at-init : goal.loop-at-init
 loop-at-init g c =
-    let none = c.none-near.ensures in
-    (c.read_first_tens-at.ensures, no-part (codec_ranges (g.C.AheadCodes.state c.args.self.now.codes.now).codec) c.none-near.result none.first none.count none.scalar)
+    let none = c.none-near.ensures in (
+      c.read_first_tens-at.ensures,
+      no-part
+          (codec_ranges (g.C.AheadCodes.state c.args.self.now.codes.now).codec) c.none-near.result none.first none.count none.scalar,
+    )
 
 pub loop-at-preserved : goal.loop-at-preserved
 loop-at-preserved g c =

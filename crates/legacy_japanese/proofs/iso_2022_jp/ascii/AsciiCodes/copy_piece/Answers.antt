@@ -10,7 +10,8 @@ returns-then-has_any_control g c =
     let e = c.copy_ascii-count.ensures in
     let dst = c.args.dst.now in
     let within : c.args.limit ≤ length dst = omega (arith, c.requires.to) in
-    rw (front_same c.args.start c.copy_ascii-count.result c.args.limit dst c.copy_ascii-count.new.dst _ c.requires.from within c.copy_ascii-count.auto.dst e.fits e.bytes)
+    rw (front_same c.args.start c.copy_ascii-count.result c.args.limit dst c.copy_ascii-count.new.dst _ c.requires.from within c.copy_ascii-count.auto.dst
+    e.fits e.bytes)
     (encodes_none _ _ _ _ _ _ _ (omega (arith, c.requires.from, within)))
 
 pub returns : goal.returns
@@ -29,7 +30,8 @@ returns g c =
     let within : limit ≤ length dst = omega (arith, c.requires.to) in
     let inside : length (take limit dst) ≡ limit = length-take-le limit dst within in
     let is = piece_is start n limit dst new (take n left) c.requires.from within c.copy_ascii-count.auto.dst e.fits e.bytes in
-    let none = rw is at (front_without (start + n - start) (tested - start) (drop start (new ++ drop limit dst)) (omega (arith, more.from)) (c.has_any_control.ensures c.if-has_any_control.false)) in
+    let none = rw is at (front_without (start + n - start) (tested - start) (drop start (new ++ drop limit dst)) (omega (arith, more.from))
+    (c.has_any_control.ensures c.if-has_any_control.false)) in
     let long = length-take-le start dst (omega (arith, c.requires.from, within)) in
     let units = e.passed ∙ ap (λ k. g.S.TextCursor.passed c.args.src.now + k) (sym (ascii_count form left n e.read e.ascii)) in
     rw (piece_behind start n limit dst new (take n left) c.requires.from within c.copy_ascii-count.auto.dst e.fits e.bytes)

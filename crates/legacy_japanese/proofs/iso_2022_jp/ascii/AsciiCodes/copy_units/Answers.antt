@@ -14,5 +14,6 @@ returns g c =
     let within : length (take limit dst) ≡ limit = length-take-le limit dst (omega arith) in
     let same : take start (take limit dst) ≡ take start dst = take-take start limit dst (omega (arith, c.requires)) in
     let front = take-append-le (start + c.copy_codes.result) c.copy_codes.new.dst (drop limit dst) (omega (arith, within, e.fits, c.copy_codes.auto.dst)) in
-    rw front (encodes_codes g.S.TextCursor.form (length dst) 2 (serves flat.jis0208 flat.katakana) (own_byte flat.jis0208 flat.katakana) _ e.read e.left e.passed
+    rw front (encodes_codes g.S.TextCursor.form (length dst) 2 (serves flat.jis0208 flat.katakana)
+    (own_byte flat.jis0208 flat.katakana) _ e.read e.left e.passed
     (rw same at e.writes) (length-take-le start dst (omega (arith, c.requires))) (omega (arith, within, e.fits, c.requires)))
