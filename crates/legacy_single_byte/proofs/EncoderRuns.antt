@@ -1,5 +1,6 @@
 -- The facts that the check of an encoder's run proves, and the codes that follow from a table's places.
-use Rattle.std.proofs.Common.{◌≡◌, ◌↔◌, ◌∙◌, IfSome, ℕ, ◌+◌, ◌-◌, ◌≤◌, ◌<◌, ◌==◌, List, ◌∷◌, [], length, get_or, refl, sym, ap, subst, arith, Some, None, Option, Bool, true, false, not, position, inl, inr}
+use Rattle.std.proofs.Common.{◌≡◌, ◌↔◌, ◌∙◌, IfSome, ℕ, ◌+◌, ◌-◌, ◌≤◌, ◌<◌, ◌==◌, List, ◌∷◌, [], length, get_or, refl}
+use Rattle.std.proofs.Common.{sym, ap, subst, arith, Some, None, Option, Bool, true, false, not, position, inl, inr}
 use Rattle.std.proofs.lemmas.Bool.{ne_eqb, lt-ltb, le-ltb, eqb-true, cases_lt}
 use Rattle.std.proofs.lemmas.Bool.Decides.{nat_tests}
 use Rattle.std.proofs.lemmas.List.{get_or_past}
@@ -24,7 +25,8 @@ run_holds table scalar start count e k h =
     eqb-true (get_or table (start + k) 0) (scalar + k) (not_false _ same)
 
 pub mismatch_within : (table : List ℕ) (scalar start count k : ℕ) → first_mismatch table scalar start count ≡ Some k → k < count
-mismatch_within table scalar start count k e = let first = find-first (λ k. not (get_or table (start + k) 0 == scalar + k)) 0 count k e in let w = first.within in omega arith
+mismatch_within table scalar start count k e = let first = find-first (λ k. not (get_or table (start + k) 0 == scalar + k)) 0 count k e in
+    let w = first.within in omega arith
 
 -- each entry of an accepted table is below U+10000
 entry_below : (table : List ℕ) → IsAcceptedTable table → (p : ℕ) → get_or table p 0 < 0x1_0000
@@ -33,7 +35,8 @@ entry_below table accepted p = elim (cases_lt p (length table)) [
   | inr past ↦ let none = get_or_past table p 0 past in omega (arith, none)
 ]
 
-pub run_below : (table : List ℕ) → IsAcceptedTable table → (scalar start count : ℕ) → scalar < 0x1_0000 → IsRun table scalar start count → scalar + count ≤ 0x1_0000
+pub run_below : (table : List ℕ) → IsAcceptedTable table → (scalar start count : ℕ)
+    → scalar < 0x1_0000 → IsRun table scalar start count → scalar + count ≤ 0x1_0000
 run_below table accepted scalar start count low is = elim (cases_lt 0 count) [
   | inl some ↦
       let last : get_or table (start + (count - 1)) 0 ≡ scalar + (count - 1) = is (count - 1) (omega arith) in

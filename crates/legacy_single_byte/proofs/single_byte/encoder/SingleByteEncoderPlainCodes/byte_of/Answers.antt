@@ -17,6 +17,9 @@ returns c = λ known.
           let k = unit - e.run_bmp_offset in
           let entry : get_or table (e.run_byte_offset + k) 0 ≡ e.run_bmp_offset + k = e.is_run k (omega (arith, place.1)) in
           let is : get_or table (e.run_byte_offset + k) 0 ≡ unit = omega (arith, place.0) in
-          let byte : 128 + (e.run_byte_offset + k) ≡ c.ascii_or-byte.result = omega (arith, c.ascii_or-byte.ensures.past high, c.run_byte.ensures within, place.1) in
-          (lone_at table e.table.now.accepted unit high (e.run_byte_offset + k) is, (refl, code_at table e.table.now.accepted unit high (e.run_byte_offset + k) is ∙ ap (λ b. Some (b ∷ [])) byte))
+          let byte : 128 + (e.run_byte_offset + k) ≡ c.ascii_or-byte.result =
+          omega (arith, c.ascii_or-byte.ensures.past high, c.run_byte.ensures within, place.1) in (
+            lone_at table e.table.now.accepted unit high (e.run_byte_offset + k) is,
+            (refl, code_at table e.table.now.accepted unit high (e.run_byte_offset + k) is ∙ ap (λ b. Some (b ∷ [])) byte),
+          )
     ]
