@@ -1,5 +1,6 @@
 -- Laws of event lines.
-use Rattle.std.proofs.Common.{◌≡◌, ◌∙◌, ℕ, zero, suc, zero-add, ◌+◌, ◌*◌, ◌-◌, ◌/◌, ◌%◌, ◌≤◌, ◌<◌, ◌^◌, List, [], ◌∷◌, ◌++◌, length, take, drop, set, map, get_or, refl, sym, ap, arith, append_assoc, append-nil}
+use Rattle.std.proofs.Common.{◌≡◌, ◌∙◌, ℕ, zero, suc, zero-add, ◌+◌, ◌*◌, ◌-◌, ◌/◌, ◌%◌, ◌≤◌, ◌<◌, ◌^◌, List, [], ◌∷◌, ◌++◌, length, take, drop, set, map}
+use Rattle.std.proofs.Common.{get_or, refl, sym, ap, arith, append_assoc, append-nil}
 use Rattle.std.proofs.Common.{length-append, take-suc, add-one, decimal}
 use Rattle.std.proofs.lemmas.List.{drop-set, map-append}
 use Rattle.std.proofs.lemmas.Fmt.{decimal_step, decimal_digit, length-decimal-le}
@@ -16,7 +17,8 @@ pub line_of_five : (c : ℕ) → 0x1_0000 ≤ c → c < 0x10_0000 → event_line
 unfolding event_line
 line_of_five c k h = rw (hexadecimal_5 c k h) refl
 
-pub line_of_six : (c : ℕ) → 0x10_0000 ≤ c → c < 0x100_0000 → event_line (Scalar c) ≡ 85 ∷ 43 ∷ glyph (c / 0x10_0000) ∷ glyph (c / 0x1_0000) ∷ (last_four c ++ 10 ∷ [])
+pub line_of_six : (c : ℕ) → 0x10_0000 ≤ c → c < 0x100_0000
+    → event_line (Scalar c) ≡ 85 ∷ 43 ∷ glyph (c / 0x10_0000) ∷ glyph (c / 0x1_0000) ∷ (last_four c ++ 10 ∷ [])
 unfolding event_line
 line_of_six c k h = rw (hexadecimal_6 c k h) refl
 
@@ -138,7 +140,8 @@ lone_line o {a} {b} number rest some few within p q r =
     let hundreds : (number * 100 + rest) / 100 ≡ number = omega arith in
     let others : (number * 100 + rest) % 100 ≡ rest = omega arith in
     let last : List ℕ = (48 + rest / 10) ∷ (48 + rest % 10) ∷ [] in
-    let digits : decimal (number * 100 + rest) ≡ decimal number ++ last = decimal_of_hundreds (number * 100 + rest) (omega arith) within ∙ rw (hundreds, others) refl in
+    let digits : decimal (number * 100 + rest) ≡ decimal number ++ last =
+    decimal_of_hundreds (number * 100 + rest) (omega arith) within ∙ rw (hundreds, others) refl in
     let place : b ++ last ≡ a ++ decimal (number * 100 + rest) = rw (q, digits) (append_assoc a (decimal number) last) in
     let one : ((b ++ last) ++ 32 ∷ []) ++ 49 ∷ [] ≡ ((b ++ last) ++ 32 ∷ []) ++ decimal 1 = rw (decimal_digit 1 (omega arith)) refl in
     let parts : (((b ++ last) ++ 32 ∷ []) ++ 49 ∷ []) ++ 10 ∷ [] ≡ b ++ (48 + rest / 10) ∷ (48 + rest % 10) ∷ 32 ∷ 49 ∷ 10 ∷ [] = simp append_assoc in

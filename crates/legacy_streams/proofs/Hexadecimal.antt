@@ -45,11 +45,14 @@ zero_glyph n e = rw e refl
 pub hexadecimal_4 : (n : ℕ) → n < 0x1_0000 → hexadecimal n ≡ last_four n
 unfolding hexadecimal
 hexadecimal_4 n h = elim (cases_lt n 0x10) [
-  | inl a ↦ rw (digits_are 0 n (omega arith) a, zero_glyph (n / 0x1000) (omega arith), zero_glyph (n / 0x100) (omega arith), zero_glyph (n / 0x10) (omega arith)) refl
+  | inl a ↦
+      rw (digits_are 0 n (omega arith) a, zero_glyph (n / 0x1000) (omega arith), zero_glyph (n / 0x100) (omega arith), zero_glyph (n / 0x10) (omega arith)) refl
   | inr a ↦ elim (cases_lt n 0x100) [
     | inl b ↦ rw (digits_are 1 n (omega arith) (a, omega arith), zero_glyph (n / 0x1000) (omega arith), zero_glyph (n / 0x100) (omega arith)) refl
     | inr b ↦ elim (cases_lt n 0x1000) [
-      | inl d ↦ let e : n / 16 / 16 ≡ n / 0x100 = omega arith in rw (digits_are 2 n (omega arith) (omega arith, (omega arith, omega arith)), zero_glyph (n / 0x1000) (omega arith), e) refl
+      | inl d ↦
+          let e : n / 16 / 16 ≡ n / 0x100 = omega arith in
+          rw (digits_are 2 n (omega arith) (omega arith, (omega arith, omega arith)), zero_glyph (n / 0x1000) (omega arith), e) refl
       | inr d ↦ let e : n / 16 / 16 ≡ n / 0x100 = omega arith in let f : n / 16 / 16 / 16 ≡ n / 0x1000 = omega arith in
           rw (digits_are 3 n (omega arith) (omega arith, (omega arith, (omega arith, omega arith))), f, e) refl
     ]

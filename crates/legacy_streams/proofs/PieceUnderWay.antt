@@ -1,5 +1,6 @@
 -- Decoding one piece: what holds after each step.
-use Rattle.std.proofs.Common.{◌≡◌, ◌∙◌, ℕ, zero, suc, ◌+◌, ◌-◌, ◌≤◌, ◌<◌, List, [], ◌∷◌, ◌++◌, length, take, drop, take-append-drop, refl, sym, ap, arith, append_assoc, append-nil, length-append}
+use Rattle.std.proofs.Common.{◌≡◌, ◌∙◌, ℕ, zero, suc, ◌+◌, ◌-◌, ◌≤◌, ◌<◌, List, [], ◌∷◌, ◌++◌, length, take, drop, take-append-drop, refl, sym, ap, arith}
+use Rattle.std.proofs.Common.{append_assoc, append-nil, length-append}
 use Rattle.std.proofs.Common.{length-drop, map, get_or, Bool, true, false, Option, inl}
 use Rattle.std.proofs.lemmas.List.{drop-drop, drop_more, get_or-drop}
 use Rattle.std.proofs.Math.ListN.{drop_of_length-le}
@@ -111,13 +112,15 @@ module _ {before : DecoderState} {piece : List ℕ} {last : Bool} {total : ℕ} 
         let t = f.within in
         let k = u.progress.counts in
         let within = u.within in
-        let p : total + (u.passed + (length now.held + read - b - a)) - length before.held ≡ total + offset + read - b - a = omega (arith, length-drop offset piece) in
+        let p : total + (u.passed + (length now.held + read - b - a)) - length before.held ≡ total + offset + read - b - a =
+        omega (arith, length-drop offset piece) in
         ap (λ n. Bad n a ∷ []) p
 
     given_is : input_events total (length before.held) (shift u.passed given) ≡ map Scalar scalars ++ reported_events (total + offset + read) answer
     given_is =
         let reported = reported_events (length now.held + read) answer in
-        rw (shift-append u.passed (map Scalar scalars) reported, shift-scalars u.passed scalars, input_events-append, input_events-scalars, fault_is answer refl) refl
+        rw (shift-append u.passed (map Scalar scalars) reported, shift-scalars u.passed scalars, input_events-append, input_events-scalars)
+        (ap (λ l. map Scalar scalars ++ l) (fault_is answer refl))
 
     pub piece_step : IsUnderWay before piece last total after (offset + read) more old mid
     piece_step =
@@ -127,7 +130,9 @@ module _ {before : DecoderState} {piece : List ℕ} {last : Bool} {total : ℕ} 
           within = let r = c.within in let v = u.within in omega (arith, length-drop offset piece);
           passed = u.passed + c.passed;
           events = u.events ++ shift u.passed given;
-          progress = rw (← drop-drop read offset piece) (after_that _ _ _ _ _ _ _ _ _ _ _ u.progress (at_less _ last (end_report-last last answer _) _ _ _ _ _ _ c.progress));
+          progress =
+              rw (← drop-drop read offset piece)
+              (after_that _ _ _ _ _ _ _ _ _ _ _ u.progress (at_less _ last (end_report-last last answer _) _ _ _ _ _ _ c.progress));
           sent = u.sent;
           written = u.written;
           lines =
@@ -197,9 +202,12 @@ piece_lone_byte {before} {piece} {last} {total} {now} {offset} {pending} {more} 
       sent = u.sent;
       written = u.written;
       lines =
-          ap event_lines (input_events-append total (length before.held) u.events (shift u.passed (Bad 0 1 ∷ [])) ∙ ap (λ l. input_events total (length before.held) u.events ++ l) given)
-          ∙ event_lines-append (input_events total (length before.held) u.events) (Bad (total + offset) 1 ∷ []) ∙ ap (λ l. l ++ event_lines (Bad (total + offset) 1 ∷ [])) u.lines
-          ∙ append_assoc u.sent pending (event_lines (Bad (total + offset) 1 ∷ [])) ∙ ap (λ l. u.sent ++ (pending ++ l)) (event_lines-one (Bad (total + offset) 1)) ∙ ap (λ l. u.sent ++ l) (sym w);
+          ap event_lines (input_events-append total (length before.held) u.events (shift u.passed (Bad 0 1 ∷ []))
+          ∙ ap (λ l. input_events total (length before.held) u.events ++ l) given)
+          ∙ event_lines-append (input_events total (length before.held) u.events) (Bad (total + offset) 1 ∷ [])
+          ∙ ap (λ l. l ++ event_lines (Bad (total + offset) 1 ∷ [])) u.lines
+          ∙ append_assoc u.sent pending (event_lines (Bad (total + offset) 1 ∷ []))
+          ∙ ap (λ l. u.sent ++ (pending ++ l)) (event_lines-one (Bad (total + offset) 1)) ∙ ap (λ l. u.sent ++ l) (sym w);
     }
 
 -- Adds the lines of `count` bytes that are malformed one by one.
@@ -216,9 +224,20 @@ piece_lone (suc count) {before} {piece} {last} {total} {now} {offset} {pending} 
     let one = piece_lone_byte u (omega arith) (rw here at first) refl in
     let there : offset + 1 + count ≡ offset + suc count = omega arith in
     let place : total + (offset + 1) ≡ total + offset + 1 = omega arith in
-    let rest = piece_lone count {more = more} one (omega arith) (λ k f. let e : offset + 1 + k ≡ offset + suc k = omega arith in rw e (lone (suc k) (omega arith)))
+    let rest =
+    piece_lone count {more = more} one (omega arith) (λ k f. let e : offset + 1 + k ≡ offset + suc k = omega arith in rw e (lone (suc k) (omega arith)))
     (rw place (w ∙ two_lone_lines pending (total + offset) count)) in
     rw there at rest
+
+-- Lines are written, so that room is made, and then those of bytes that are malformed one by one are added.
+pub piece_ahead : (count : ℕ) {before : DecoderState} {piece : List ℕ} {last : Bool} {total : ℕ} {now : DecoderState} {offset : ℕ}
+    {pending kept more unread : List ℕ} {old mid new : Option (List ℕ)} → IsUnderWay before piece last total now offset pending old mid
+    → (sent : List ℕ) × Appends mid new sent × (pending ≡ sent ++ kept) → unread ≡ drop offset piece → count ≤ length unread
+    → ((k : ℕ) → k < count → IsLoneFault now (get_or unread k 0)) → more ≡ kept ++ event_lines (lone_faults (total + offset) count)
+    → IsUnderWay before piece last total now (offset + count) more old new
+piece_ahead count {piece = piece} {now = now} {offset = offset} {unread = unread} u sent e within lone w =
+    let alone = lone_bytes piece unread offset count now e u.within within lone in
+    piece_lone count (piece_sent u sent.0 sent.1 sent.2) alone.0 alone.1 w
 
 -- After these bytes no more events are left than before.
 pub piece_lone_less : (count : ℕ) (now : DecoderState) (piece : List ℕ) (offset : ℕ) → offset + count ≤ length piece
@@ -232,6 +251,8 @@ piece_lone_less (suc count) now piece offset h lone =
     let one = rw here at first in
     let all = ap length (one.progress.events (drop (offset + 1) piece) (λ f. absurd (let no : false ≡ true = f in cc))) in
     let more = rw (length-shift, ← drop_more piece offset 0 (omega arith)) at all in
-    let rest = piece_lone_less count now piece (offset + 1) (omega arith) (λ k f. let e : offset + 1 + k ≡ offset + suc k = omega arith in rw e (lone (suc k) (omega arith))) in
+    let rest =
+    piece_lone_less count now piece (offset + 1) (omega arith)
+    (λ k f. let e : offset + 1 + k ≡ offset + suc k = omega arith in rw e (lone (suc k) (omega arith))) in
     let rest' = rw there at rest in
     omega (arith, more, rest')

@@ -1,5 +1,6 @@
 -- The lines of scalars of one code unit, and the scalars of code units.
-use Rattle.std.proofs.Common.{◌≡◌, ◌∙◌, ℕ, suc, ◌+◌, ◌*◌, ◌-◌, ◌/◌, ◌%◌, ◌≤◌, ◌<◌, List, [], ◌∷◌, ◌++◌, length, take, drop, map, get_or, refl, sym, ap, arith, inl, inr, ◌⊎◌, All, Some, slice_get}
+use Rattle.std.proofs.Common.{◌≡◌, ◌∙◌, ℕ, suc, ◌+◌, ◌*◌, ◌-◌, ◌/◌, ◌%◌, ◌≤◌, ◌<◌, List, [], ◌∷◌, ◌++◌, length, take, drop, map, get_or, refl, sym, ap, arith}
+use Rattle.std.proofs.Common.{inl, inr, ◌⊎◌, All, Some, slice_get}
 use Rattle.std.proofs.Common.{append_assoc, append-nil, take-suc, add-one, zero, None, ◌^◌}
 use Rattle.std.proofs.lemmas.Bool.{cases_lt}
 use Rattle.std.proofs.lemmas.Bool.Decides.{nat_tests}
@@ -108,7 +109,8 @@ plain_more units at u h e plain given =
     let lone = rw (← e) at (scalars_lone units at h) in
     let next : unit_scalars (drop at units) ≡ u ∷ unit_scalars (drop (at + 1) units) =
     lone (apart u (get_or units (at + 1) 0) plain) ∙ ap (λ c. c ∷ unit_scalars (drop (at + 1) units)) (replaced_unit u plain) in
-    let more : take (at + 1) units ≡ take at units ++ u ∷ [] = ap (λ n. take n units) (add-one at) ∙ take-suc units at 0 h ∙ ap (λ c. take at units ++ c ∷ []) (sym e) in
+    let more : take (at + 1) units ≡ take at units ++ u ∷ [] =
+    ap (λ n. take n units) (add-one at) ∙ take-suc units at 0 h ∙ ap (λ c. take at units ++ c ∷ []) (sym e) in
     given ∙ ap (λ l. take at units ++ l) next ∙ sym (append_assoc (take at units) (u ∷ []) (unit_scalars (drop (at + 1) units)))
     ∙ ap (λ l. l ++ unit_scalars (drop (at + 1) units)) (sym more)
 
@@ -170,11 +172,13 @@ scalars_of_units (c ∷ cs) all =
     elim (cases_lt c 0x1_0000) [
       | inl short ↦
           let plain : (c < 0xD800) ⊎ (0xE000 ≤ c) = grind (arith, nat_tests) in
-          rw (utf16_1 c short) (ap (map replaced) (utf16_chars_lone c units (apart c (get_or units 0 0) plain)) ∙ ap (λ d. d ∷ unit_scalars units) (replaced_unit c plain) ∙ ap (λ l. c ∷ l) rest)
+          rw (utf16_1 c short) (ap (map replaced) (utf16_chars_lone c units (apart c (get_or units 0 0) plain))
+          ∙ ap (λ d. d ∷ unit_scalars units) (replaced_unit c plain) ∙ ap (λ l. c ∷ l) rest)
       | inr long ↦
           let most : c < 0x11_0000 = grind (arith, nat_tests) in
           let high = 55296 + (c - 65536) / 1024 in
           let low = 56320 + (c - 65536) % 1024 in
           let value : surrogate_pair_char high low ≡ c = omega arith in
-          rw (utf16_2 c long) (ap (map replaced) (utf16_chars_pair high low units (omega arith, omega arith, omega arith, omega arith)) ∙ ap (λ d. d ∷ unit_scalars units) value ∙ ap (λ l. c ∷ l) rest)
+          rw (utf16_2 c long) (ap (map replaced) (utf16_chars_pair high low units (omega arith, omega arith, omega arith, omega arith))
+          ∙ ap (λ d. d ∷ unit_scalars units) value ∙ ap (λ l. c ∷ l) rest)
     ]

@@ -1,5 +1,6 @@
 -- Decoding an input to text: what holds after each step.
-use Rattle.std.proofs.Common.{◌≡◌, ◌∙◌, ℕ, ◌+◌, ◌-◌, ◌≤◌, ◌<◌, List, [], ◌∷◌, ◌++◌, length, take, drop, take-append-drop, refl, sym, ap, arith, append_assoc, append-nil}
+use Rattle.std.proofs.Common.{◌≡◌, ◌∙◌, ℕ, ◌+◌, ◌-◌, ◌≤◌, ◌<◌, List, [], ◌∷◌, ◌++◌, length, take, drop, take-append-drop, refl, sym, ap, arith, append_assoc}
+use Rattle.std.proofs.Common.{append-nil}
 use Rattle.std.proofs.Common.{length-append, length-drop, Bool, true, false, ◌||◌, IsTrue, Option, inl}
 use Rattle.std.specs.Io.KnownBytes.{Appends, Consumes, IsAtEnd, Keeps}
 use Rattle.std.proofs.KnownBytes.{Appends-nil, Appends-trans, Consumes-nil, Consumes-trans, Consumes-kept}
@@ -75,7 +76,8 @@ module _ {before : DecoderState} {piece : List ℕ} {last : Bool} {now : Decoder
     (c : ReplacingDecoderCall Utf8 now (drop offset piece) last free after answer read written more) where
   -- the progress up to the end of the call
   way_of_call : Progress last before piece (u.passed + c.passed) after (drop (offset + read) piece) (u.events ++ shift u.passed c.out)
-  way_of_call = rw (← drop-drop read offset piece) (after_that _ _ _ _ _ _ _ _ _ _ _ u.progress (at_less _ last (end_found-last last more _) _ _ _ _ _ _ c.progress))
+  way_of_call =
+      rw (← drop-drop read offset piece) (after_that _ _ _ _ _ _ _ _ _ _ _ u.progress (at_less _ last (end_found-last last more _) _ _ _ _ _ _ c.progress))
 
   -- if only a front of the text of the call is written, the piece was decoded in part
   pub text_front : {new : Option (List ℕ)} (count : ℕ) → Appends mid new (take count written) → WritesFront before piece last after old new
@@ -172,7 +174,8 @@ module _ {before now : DecoderState} {found : Bool} {left_old left_mid old mid :
   joined_found p = rw (found-append s.events p.events s.passed, ← s.found_is, ← p.found_is) refl
 
   module _ {left : Option (List ℕ)} (r : Consumes left_mid left piece) where
-    pub so_far_step : {last more : Bool} → last ≡ false → WritesPiece now piece last after more mid new → TextSoFar before after (found || more) left_old left old new
+    pub so_far_step : {last more : Bool} → last ≡ false → WritesPiece now piece last after more mid new
+        → TextSoFar before after (found || more) left_old left old new
     so_far_step e given =
         let p = rw e at given in
         record {
@@ -191,7 +194,8 @@ module _ {before now : DecoderState} {found : Bool} {left_old left_mid old mid :
         let p = rw is_last at given in
         let all = s.events ++ shift s.passed p.events in
         let e : events_of before.grammar (before.held ++ (s.bytes ++ piece)) ≡ all =
-        ap (λ l. events_of before.grammar (before.held ++ l)) (sym (append-nil (s.bytes ++ piece))) ∙ (way_on true piece s.progress p.progress).events [] (λ _. inl refl)
+        ap (λ l. events_of before.grammar (before.held ++ l)) (sym (append-nil (s.bytes ++ piece)))
+        ∙ (way_on true piece s.progress p.progress).events [] (λ _. inl refl)
         ∙ ap (λ l. all ++ shift (s.passed + p.passed) l) (ap (events_of after.grammar) (append-nil after.held) ∙ p.ended refl) ∙ append-nil all in
         record {
           bytes = s.bytes ++ piece;
@@ -203,7 +207,8 @@ module _ {before now : DecoderState} {found : Bool} {left_old left_mid old mid :
         }
 
     -- what holds after a failed write
-    pub so_far_partly : (last : Bool) → (IsTrue last → IsAtEnd left) → WritesFront now piece last after mid new → WritesPartly before after left_old left old new
+    pub so_far_partly : (last : Bool) → (IsTrue last → IsAtEnd left) → WritesFront now piece last after mid new
+        → WritesPartly before after left_old left old new
     so_far_partly last at_end p =
         let first = text_of s.events in
         let way = way_on last piece s.progress p.progress in

@@ -1,18 +1,23 @@
 -- The text of bytes in UTF-8 that come in pieces.
-use Rattle.std.proofs.Common.{◌≡◌, ◌≢◌, ◌⊎◌, ◌∙◌, ℕ, zero, suc, ◌+◌, ◌-◌, ◌/◌, ◌%◌, ◌<◌, ◌≤◌, Bool, true, false, List, [], ◌∷◌, ◌++◌, length, take, drop, Option, Some, None, IsUtf8, encode_utf8_all, refl, sym, ap, subst, arith, inl, inr, ⊎_elim, true≢false, append_assoc, append-nil, length-append, length-drop, take_all, drop-drop, drop_at, take-add, zero-add}
+use Rattle.std.proofs.Common.{◌≡◌, ◌≢◌, ◌⊎◌, ◌∙◌, ℕ, zero, suc, ◌+◌, ◌-◌, ◌/◌, ◌%◌, ◌<◌, ◌≤◌, Bool, true, false, List, [], ◌∷◌, ◌++◌, length, take, drop}
+use Rattle.std.proofs.Common.{Option, Some, None, IsUtf8, encode_utf8_all, refl, sym, ap, subst, arith, inl, inr, ⊎_elim, true≢false, append_assoc, append-nil}
+use Rattle.std.proofs.Common.{length-append, length-drop, take_all, drop-drop, drop_at, take-add, zero-add}
 use Rattle.std.specs.Prelude.{nat_lt}
 use Rattle.std.proofs.lemmas.Bool.{ne_eqb, cases_Bool, cases_lt, cond-true, cond-false, and_parts}
 use Rattle.std.proofs.lemmas.Bool.Decides.{nat_tests}
 use Rattle.std.proofs.lemmas.List.{take_at, take-append-le, drop-append-le, take-take, length-take, drop_all}
-use Rattle.std.proofs.lemmas.Str.{IsUtf8-from_is_utf8, is_utf8-from_IsUtf8, IsUtf8-append, IsUtf8-drop, IsCharBoundary-from_take, utf8_lossy-IsUtf8, utf8_lossy_step, utf8_valid_len-IsValidUpTo, utf8_valid_len-IsUtf8, utf8_lossy_empty, chars-append, chars-nil, IsUtf8-encode, length-encode, len_utf8_bounds}
+use Rattle.std.proofs.lemmas.Str.{IsUtf8-from_is_utf8, is_utf8-from_IsUtf8, IsUtf8-append, IsUtf8-drop, IsCharBoundary-from_take, utf8_lossy-IsUtf8}
+use Rattle.std.proofs.lemmas.Str.{utf8_lossy_step, utf8_valid_len-IsValidUpTo, utf8_valid_len-IsUtf8, utf8_lossy_empty, chars-append, chars-nil, IsUtf8-encode}
+use Rattle.std.proofs.lemmas.Str.{length-encode, len_utf8_bounds}
 use Rattle.std.specs.Char.{encode_utf8}
 use Rattle.std.specs.Int.{is_in_range}
 use Rattle.std.specs.Option.{unwrap_or}
 use Rattle.std.specs.Str.{IsValidUpTo, is_utf8, chars}
-use Rattle.std.specs.Str.Lossy.{valid_len_up_to, utf8_valid_len, second_byte_min, second_byte_max, utf8_error_len, utf8_invalid_len, after_first_chunk, utf8_lossy, replacement_bytes}
+use Rattle.std.specs.Str.Lossy.{valid_len_up_to, utf8_valid_len, second_byte_min, second_byte_max, utf8_error_len, utf8_invalid_len, after_first_chunk}
+use Rattle.std.specs.Str.Lossy.{utf8_lossy, replacement_bytes}
 use lib.Dec.{ltb}
 use lib.Utf8.{scalar, scalars, scalar_cases}
-use Rattle.legacy_streams.specs.Utf8Texts.{utf8_text}
+use Rattle.legacy_streams.specs.Utf8Texts.{utf8_text, IsChunk}
 
 -- ---- the longest text at the front
 
@@ -160,7 +165,8 @@ module _ (c n : ℕ) (some : 0 < n) where
   cut_of_two : 128 ≤ c → c < 2048 → n < 2 → utf8_error_len (take n ((192 + c / 64) ∷ (128 + c % 64) ∷ [])) ≡ None
   cut_of_two low high less = fronts_two (192 + c / 64) (128 + c % 64) n (grind (arith, nat_tests)) some less
 
-  cut_of_three : 2048 ≤ c → c < 65536 → (c < 55296) ⊎ (57344 ≤ c) → n < 3 → utf8_error_len (take n ((224 + c / 4096) ∷ (128 + (c / 64) % 64) ∷ (128 + c % 64) ∷ [])) ≡ None
+  cut_of_three : 2048 ≤ c → c < 65536 → (c < 55296) ⊎ (57344 ≤ c) → n < 3
+      → utf8_error_len (take n ((224 + c / 4096) ∷ (128 + (c / 64) % 64) ∷ (128 + c % 64) ∷ [])) ≡ None
   cut_of_three low high apart less =
       let b = 224 + c / 4096 in
       let d = 128 + (c / 64) % 64 in
@@ -168,7 +174,8 @@ module _ (c n : ℕ) (some : 0 < n) where
       let second : is_in_range (second_byte_min b) (second_byte_max b) d ≡ true = grind (arith, nat_tests) in
       fronts_three b d (128 + c % 64) n first second some less
 
-  cut_of_four : 65536 ≤ c → c < 1114112 → n < 4 → utf8_error_len (take n ((240 + c / 262144) ∷ (128 + (c / 4096) % 64) ∷ (128 + (c / 64) % 64) ∷ (128 + c % 64) ∷ [])) ≡ None
+  cut_of_four : 65536 ≤ c → c < 1114112 → n < 4
+      → utf8_error_len (take n ((240 + c / 262144) ∷ (128 + (c / 4096) % 64) ∷ (128 + (c / 64) % 64) ∷ (128 + c % 64) ∷ [])) ≡ None
   cut_of_four low high less =
       let b = 240 + c / 262144 in
       let d = 128 + (c / 4096) % 64 in
@@ -192,7 +199,8 @@ cut_character c n is some less =
     let not_one : ltb c 128 ≡ false = grind (arith, nat_tests) in
     ⊎_elim
     (λ two.
-    let e : encode_utf8 c ≡ (192 + c / 64) ∷ (128 + c % 64) ∷ [] = cond-false _ _ _ not_one ∙ cond-true _ _ _ (by (ltb c 2048 ≡ true) (grind (arith, nat_tests))) in
+    let e : encode_utf8 c ≡ (192 + c / 64) ∷ (128 + c % 64) ∷ [] =
+    cond-false _ _ _ not_one ∙ cond-true _ _ _ (by (ltb c 2048 ≡ true) (grind (arith, nat_tests))) in
     subst P (sym e) (cut_of_two c n some more two) less)
     (λ most.
     let not_two : ltb c 2048 ≡ false = grind (arith, nat_tests) in
@@ -218,7 +226,8 @@ module _ (more : List ℕ) (k : ℕ) where
   longer_one a true h e = let e' = rw h at e in cc
   longer_one a false h e = let e' = rw h at e in rw (h, ne_eqb (length (a ∷ more)) 0 (omega arith)) e'
 
-  longer_two : (a b : ℕ) (x y : Bool) → is_in_range 0xC2 0xF4 a ≡ x → is_in_range (second_byte_min a) (second_byte_max a) b ≡ y → utf8_error_len (a ∷ b ∷ []) ≡ Some k
+  longer_two : (a b : ℕ) (x y : Bool) → is_in_range 0xC2 0xF4 a ≡ x → is_in_range (second_byte_min a) (second_byte_max a) b ≡ y
+      → utf8_error_len (a ∷ b ∷ []) ≡ Some k
       → utf8_error_len (a ∷ b ∷ more) ≡ Some k
   unfolding utf8_error_len
   longer_two a b true true h i e = let e' = rw (h, i) at e in cc
@@ -230,7 +239,8 @@ module _ (more : List ℕ) (k : ℕ) where
       let l = a ∷ b ∷ more in
       let e' = rw h at e in rw (ne_eqb (length l) 0 (omega arith), h) e'
 
-  longer_three : (a b d : ℕ) (x y z : Bool) → is_in_range 0xC2 0xF4 a ≡ x → is_in_range (second_byte_min a) (second_byte_max a) b ≡ y → is_in_range 0x80 0xBF d ≡ z
+  longer_three : (a b d : ℕ) (x y z : Bool) → is_in_range 0xC2 0xF4 a ≡ x → is_in_range (second_byte_min a) (second_byte_max a) b ≡ y
+      → is_in_range 0x80 0xBF d ≡ z
       → utf8_error_len (a ∷ b ∷ d ∷ []) ≡ Some k → utf8_error_len (a ∷ b ∷ d ∷ more) ≡ Some k
   unfolding utf8_error_len
   longer_three a b d true true true h i j e = let e' = rw (h, i, j) at e in cc
@@ -349,41 +359,48 @@ pub text_of_cut : (bad : List ℕ) → IsValidUpTo bad 0 → utf8_error_len bad 
 unfolding utf8_text
 text_of_cut bad valid e =
     let none : drop (utf8_invalid_len bad) bad ≡ [] = ap (λ n. drop n bad) (invalid_of_none bad e) ∙ drop_all (length bad) bad (omega arith) in
-    ap chars (lossy_past_none bad valid ∙ ap (λ l. replacement_bytes ++ utf8_lossy l) none ∙ ap (λ l. replacement_bytes ++ l) (utf8_lossy_empty [] refl) ∙ append-nil replacement_bytes)
+    ap chars (lossy_past_none bad valid ∙ ap (λ l. replacement_bytes ++ utf8_lossy l) none ∙ ap (λ l. replacement_bytes ++ l) (utf8_lossy_empty [] refl)
+    ∙ append-nil replacement_bytes)
     ∙ replacement_chars
 
 pub text_of_none : utf8_text [] ≡ []
 unfolding utf8_text
 text_of_none = ap chars (utf8_lossy_empty [] refl) ∙ chars-nil
 
--- ---- a chunk: the longest text at the front, and the bytes after it that are malformed together
+-- ---- a chunk
 
-module _ (rest valid invalid after : List ℕ) (utf8 : IsUtf8 valid) (parts : rest ≡ valid ++ (invalid ++ after))
-    (valid_len : length valid ≡ utf8_valid_len rest) (invalid_len : length invalid ≡ utf8_invalid_len (drop (utf8_valid_len rest) rest)) (some : 0 < length invalid) where
-  back : drop (utf8_valid_len rest) rest ≡ invalid ++ after
-  back = ap (drop (utf8_valid_len rest)) parts ∙ drop_at valid (invalid ++ after) _ valid_len
-
-  pub faulty_back : IsValidUpTo (invalid ++ after) 0
-  faulty_back = ⊎_elim
-      (λ w. let whole = utf8_valid_len-IsUtf8 rest w in
-      let total = ap length parts ∙ length-append valid (invalid ++ after) in absurd (omega (arith, whole, total, length-append invalid after)))
-      (λ v. subst (λ l. IsValidUpTo l 0) back (behind_text rest (utf8_valid_len rest) v))
-      (utf8_cases rest)
-
+module _ {rest valid invalid : List ℕ} (k : IsChunk rest valid invalid) where
   -- it is not malformed yet if the end cuts it
-  pub cut_chunk : (more : List ℕ) → utf8_text (rest ++ more) ≡ chars valid ++ utf8_text ((invalid ++ after) ++ more)
-  cut_chunk more = ap (λ l. utf8_text (l ++ more)) parts ∙ ap utf8_text (append_assoc valid (invalid ++ after) more) ∙ text_past valid ((invalid ++ after) ++ more) utf8
+  pub cut_chunk : (more : List ℕ) → utf8_text (rest ++ more) ≡ chars valid ++ utf8_text ((invalid ++ k.later) ++ more)
+  cut_chunk more =
+      ap (λ l. utf8_text (l ++ more)) k.parts ∙ ap utf8_text (append_assoc valid (invalid ++ k.later) more)
+      ∙ text_past valid ((invalid ++ k.later) ++ more) k.utf8
 
-  fault_is : (o : Option ℕ) → utf8_error_len (invalid ++ after) ≡ o → (0 < length after) ⊎ (o ≢ None) → utf8_error_len (invalid ++ after) ≡ Some (length invalid)
-  fault_is None e h =
-      let len = invalid_len ∙ ap utf8_invalid_len back ∙ invalid_of_none (invalid ++ after) e in
-      ⊎_elim (λ (long : 0 < length after). absurd (omega (arith, len, length-append invalid after))) (λ no. absurd (no refl)) h
-  fault_is (Some k) e h = let len = invalid_len ∙ ap utf8_invalid_len back ∙ invalid_of_some (invalid ++ after) k e in e ∙ ap Some (sym len)
+  module _ (some : 0 < length invalid) where
+    back : drop (utf8_valid_len rest) rest ≡ invalid ++ k.later
+    back = ap (drop (utf8_valid_len rest)) k.parts ∙ drop_at valid (invalid ++ k.later) _ k.valid_len
 
-  pub fault_chunk : (0 < length after) ⊎ (utf8_error_len (invalid ++ after) ≢ None) → (more : List ℕ) → utf8_text (rest ++ more) ≡ (chars valid ++ 0xFFFD ∷ []) ++ utf8_text (after ++ more)
-  fault_chunk h more =
-      let e = fault_is (utf8_error_len (invalid ++ after)) refl h in
-      let within : length invalid ≤ length (invalid ++ after) = omega (arith, length-append invalid after) in
-      let rest_is : drop (length invalid) (invalid ++ after) ≡ after = drop_at invalid after _ refl in
-      cut_chunk more ∙ ap (λ l. chars valid ++ l) (text_past_fault (invalid ++ after) more (length invalid) faulty_back e within ∙ ap (λ l. 0xFFFD ∷ utf8_text (l ++ more)) rest_is)
-      ∙ sym (append_assoc (chars valid) (0xFFFD ∷ []) (utf8_text (after ++ more)))
+    pub faulty_back : IsValidUpTo (invalid ++ k.later) 0
+    faulty_back = ⊎_elim
+        (λ w. let whole = utf8_valid_len-IsUtf8 rest w in
+        let len = k.valid_len in
+        let total = ap length k.parts ∙ length-append valid (invalid ++ k.later) in absurd (omega (arith, whole, total, length-append invalid k.later)))
+        (λ v. subst (λ l. IsValidUpTo l 0) back (behind_text rest (utf8_valid_len rest) v))
+        (utf8_cases rest)
+
+    fault_is : (o : Option ℕ) → utf8_error_len (invalid ++ k.later) ≡ o → (0 < length k.later) ⊎ (o ≢ None)
+        → utf8_error_len (invalid ++ k.later) ≡ Some (length invalid)
+    fault_is None e h =
+        let len = k.invalid_len ∙ ap utf8_invalid_len back ∙ invalid_of_none (invalid ++ k.later) e in
+        ⊎_elim (λ (long : 0 < length k.later). absurd (omega (arith, len, length-append invalid k.later))) (λ no. absurd (no refl)) h
+    fault_is (Some n) e h = let len = k.invalid_len ∙ ap utf8_invalid_len back ∙ invalid_of_some (invalid ++ k.later) n e in e ∙ ap Some (sym len)
+
+    pub fault_chunk : (0 < length k.later) ⊎ (utf8_error_len (invalid ++ k.later) ≢ None) → (more : List ℕ)
+        → utf8_text (rest ++ more) ≡ (chars valid ++ 0xFFFD ∷ []) ++ utf8_text (k.later ++ more)
+    fault_chunk h more =
+        let e = fault_is (utf8_error_len (invalid ++ k.later)) refl h in
+        let within : length invalid ≤ length (invalid ++ k.later) = omega (arith, length-append invalid k.later) in
+        let rest_is : drop (length invalid) (invalid ++ k.later) ≡ k.later = drop_at invalid k.later _ refl in
+        let past = text_past_fault (invalid ++ k.later) more (length invalid) faulty_back e within in
+        cut_chunk more ∙ ap (λ l. chars valid ++ l) (past ∙ ap (λ l. 0xFFFD ∷ utf8_text (l ++ more)) rest_is)
+        ∙ sym (append_assoc (chars valid) (0xFFFD ∷ []) (utf8_text (k.later ++ more)))

@@ -1,5 +1,6 @@
 -- Recoding a whole input: what holds after each piece.
-use Rattle.std.proofs.Common.{◌≡◌, ◌∙◌, ℕ, ◌+◌, ◌-◌, List, [], ◌∷◌, ◌++◌, length, refl, sym, ap, arith, append-nil, length-append, Bool, true, false, IsTrue, Option, inl, append_assoc}
+use Rattle.std.proofs.Common.{◌≡◌, ◌∙◌, ℕ, ◌+◌, ◌-◌, List, [], ◌∷◌, ◌++◌, length, refl, sym, ap, arith, append-nil, length-append, Bool, true, false, IsTrue}
+use Rattle.std.proofs.Common.{Option, inl, append_assoc}
 use Rattle.std.specs.Io.KnownBytes.{Appends, Consumes, IsAtEnd, Keeps}
 use Rattle.legacy_base.specs.declared.results.DecodeEvent.{DecodeEvent}
 use Rattle.legacy_base.specs.declared.results.DecodeEvent.TheVariants.{Scalar, Bad}
@@ -65,7 +66,8 @@ module _ {before now : DecoderState} {total : ℕ} {left_old left_mid old mid : 
   joined_lines events =
       let h = length before.held in
       let k : w.passed + length now.held ≡ h + total = omega (arith, w.progress.counts, w.count) in
-      ap event_lines (placed-append h w.events (shift w.passed events) ∙ ap (λ l. placed h w.events ++ l) (placed-shift h w.passed total (length now.held) events k))
+      ap event_lines (placed-append h w.events (shift w.passed events)
+      ∙ ap (λ l. placed h w.events ++ l) (placed-shift h w.passed total (length now.held) events k))
       ∙ event_lines-append (placed h w.events) (input_events total (length now.held) events)
 
   pub whole_step : (piece : List ℕ) {last : Bool} {after : DecoderState} {left new : Option (List ℕ)} → Consumes left_mid left piece → last ≡ false
@@ -88,7 +90,8 @@ module _ {before now : DecoderState} {total : ℕ} {left_old left_mid old mid : 
       let p = rw is_last at given in
       let all = w.events ++ shift w.passed p.events in
       let e : events_of before.grammar (before.held ++ (w.bytes ++ piece)) ≡ all =
-      ap (λ l. events_of before.grammar (before.held ++ l)) (sym (append-nil (w.bytes ++ piece))) ∙ (joined_progress true piece p.progress).events [] (λ _. inl refl)
+      ap (λ l. events_of before.grammar (before.held ++ l)) (sym (append-nil (w.bytes ++ piece)))
+      ∙ (joined_progress true piece p.progress).events [] (λ _. inl refl)
       ∙ ap (λ l. all ++ shift (w.passed + p.passed) l) (ap (events_of after.grammar) (append-nil after.held) ∙ p.ended refl) ∙ append-nil all in
       record {
         bytes = w.bytes ++ piece;

@@ -12,24 +12,34 @@ pub record GoesOn (last : Bool) (before : EncoderState) (text : List ℕ) (event
   pub gives : (more : List ℕ) (ended : Bool) → (IsTrue last → (more ≡ []) × IsTrue ended) →
       encoded before (text ++ more) ended ≡ events ++ encoded after (left ++ more) ended
 
+-- ---- bytes that wait
+
+-- `bytes` came after those that waited. All were written except for those that wait now, which are the last.
+pub record Sends (waited bytes waiting : List ℕ) (old new : Option (List ℕ)) : Type 0 where
+  pub sent : List ℕ
+  pub parts : waited ++ bytes ≡ sent ++ waiting
+  pub written : Appends old new sent
+
 -- ---- a text
 
--- The whole text was encoded, and its bytes and references were written; after the last text the encoder's end too.
-pub record EncodesText (before : EncoderState) (text : List ℕ) (last : Bool) (after : EncoderState) (old new : Option (List ℕ)) : Type 0 where
+-- The whole text was encoded; after the last text the encoder's end too. Its bytes and references were written after
+-- those that waited, except for those that wait now.
+pub record EncodesText (before : EncoderState) (text : List ℕ) (last : Bool) (after : EncoderState) (waited waiting : List ℕ)
+    (old new : Option (List ℕ)) : Type 0 where
   pub events : List EncodeEvent
   pub goes_on : GoesOn last before text events after []
-  pub written : Appends old new (referenced_bytes events)
+  pub sends : Sends waited (referenced_bytes events) waiting old new
   pub ended : IsTrue last → end_bytes after ≡ []
 
--- Some of the text was encoded, and of its bytes and references a front was written, which may end inside a sequence.
-pub record EncodesFront (before : EncoderState) (text : List ℕ) (last : Bool) (after : EncoderState) (old new : Option (List ℕ)) : Type 0 where
+-- Some of the text was encoded. Of the bytes that waited and its bytes and references a front was written, which may end
+-- inside a sequence.
+pub record EncodesFront (before : EncoderState) (text : List ℕ) (last : Bool) (after : EncoderState) (waited : List ℕ)
+    (old new : Option (List ℕ)) : Type 0 where
   pub events : List EncodeEvent
   pub left : List ℕ
   pub goes_on : GoesOn last before text events after left
-  pub sent : List ℕ
   pub unsent : List ℕ
-  pub bytes : referenced_bytes events ≡ sent ++ unsent
-  pub written : Appends old new sent
+  pub sends : Sends waited (referenced_bytes events) unsent old new
 
 -- ---- one piece of the input
 
@@ -42,24 +52,22 @@ end_scalars (suc n) = 0xFFFD ∷ []
 pub record DecodesTo (piece scalars left : List ℕ) : Type 0 where
   pub text : (more : List ℕ) → utf8_text (piece ++ more) ≡ scalars ++ utf8_text (left ++ more)
 
--- The piece was encoded except for its last `held` bytes, which are a beginning of one character, and its bytes and
--- references were written.
-pub record EncodesPiece (before : EncoderState) (piece : List ℕ) (held : ℕ) (after : EncoderState) (old new : Option (List ℕ)) : Type 0 where
+-- The piece was encoded except for its last `held` bytes, which are a beginning of one character. Its bytes and
+-- references were written, except for those that wait.
+pub record EncodesPiece (before : EncoderState) (piece : List ℕ) (held : ℕ) (after : EncoderState) (waiting : List ℕ) (old new : Option (List ℕ)) : Type 0 where
   pub within : held ≤ length piece
   pub short : held < 4
   pub scalars : List ℕ
   pub decodes : DecodesTo piece scalars (drop (length piece - held) piece)
   pub cut : utf8_text (drop (length piece - held) piece) ≡ end_scalars held
-  pub events : List EncodeEvent
-  pub goes_on : GoesOn false before scalars events after []
-  pub written : Appends old new (referenced_bytes events)
+  pub text : EncodesText before scalars false after [] waiting old new
 
 -- Some of the piece was encoded, and of its bytes and references a front was written, which may end inside a sequence.
 pub record EncodesPieceFront (before : EncoderState) (piece : List ℕ) (after : EncoderState) (old new : Option (List ℕ)) : Type 0 where
   pub scalars : List ℕ
   pub rest : List ℕ
   pub decodes : DecodesTo piece scalars rest
-  pub front : EncodesFront before scalars false after old new
+  pub front : EncodesFront before scalars false after [] old new
 
 -- ---- the whole input
 
@@ -96,4 +104,4 @@ pub record EncodesPartly (before after : EncoderState) (input_old input_new outp
   pub at_end : IsTrue last → IsAtEnd input_new
   pub text : List ℕ
   pub is_text : (more : List ℕ) → (IsTrue last → more ≡ []) → (later : List ℕ) × (utf8_text (bytes ++ more) ≡ text ++ later) × (IsTrue last → later ≡ [])
-  pub front : EncodesFront before text last after output_old output_new
+  pub front : EncodesFront before text last after [] output_old output_new

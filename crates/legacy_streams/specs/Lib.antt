@@ -5,3 +5,4 @@ pub mod Recoding
 pub mod Text
 pub mod Utf8Texts
 pub mod Encoding
+pub mod Waiting

@@ -73,4 +73,5 @@ pub record RecodesPartly (before after : DecoderState) (input_old input_new outp
   pub unsent : List ℕ
   pub lines : event_lines (placed (length before.held) events) ≡ sent ++ unsent
   pub written : Appends output_old output_new sent
-  pub beginning : (more : List ℕ) → (IsTrue last → more ≡ []) → (rest : List DecodeEvent) × (events_of before.grammar (before.held ++ (bytes ++ more)) ≡ events ++ rest)
+  pub beginning : (more : List ℕ) → (IsTrue last → more ≡ [])
+      → (rest : List DecodeEvent) × (events_of before.grammar (before.held ++ (bytes ++ more)) ≡ events ++ rest)

@@ -74,4 +74,5 @@ pub record WritesPartly (before after : DecoderState) (input_old input_new outpu
   pub unsent : List ℕ
   pub text : text_of events ≡ sent ++ unsent
   pub written : Appends output_old output_new sent
-  pub beginning : (more : List ℕ) → (IsTrue last → more ≡ []) → (rest : List DecodeEvent) × (events_of before.grammar (before.held ++ (bytes ++ more)) ≡ events ++ rest)
+  pub beginning : (more : List ℕ) → (IsTrue last → more ≡ [])
+      → (rest : List DecodeEvent) × (events_of before.grammar (before.held ++ (bytes ++ more)) ≡ events ++ rest)

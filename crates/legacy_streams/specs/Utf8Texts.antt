@@ -1,8 +1,17 @@
 -- The text of bytes that should be UTF-8.
-use Rattle.std.specs.Prelude.{ℕ, List}
+use Rattle.std.specs.Prelude.{◌≡◌, ℕ, List, ◌++◌, length, drop, IsUtf8}
 use Rattle.std.specs.Str.{chars}
-use Rattle.std.specs.Str.Lossy.{utf8_lossy}
+use Rattle.std.specs.Str.Lossy.{utf8_lossy, utf8_valid_len, utf8_invalid_len}
 
 -- the scalars of bytes in UTF-8, with U+FFFD for each malformed sequence ("UTF-8 decoder", error mode "replacement")
 unfoldable pub utf8_text : List ℕ → List ℕ
 utf8_text bytes = chars (utf8_lossy bytes)
+
+-- The first chunk of bytes: the longest text at their front, and the sequence after it that is malformed or cut.
+pub record IsChunk (bytes valid invalid : List ℕ) : Type 0 where
+  pub later : List ℕ
+  pub parts : bytes ≡ valid ++ (invalid ++ later)
+  pub utf8 : IsUtf8 valid
+  pub valid_len : length valid ≡ utf8_valid_len bytes
+  pub invalid_len : length invalid ≡ utf8_invalid_len (drop (utf8_valid_len bytes) bytes)
+  pub whole : length invalid ≡ 0 → length later ≡ 0

@@ -1,44 +1,45 @@
 //! Encodes a stream of text in UTF-8 to bytes of an encoding.
-ghost use Rattle.std.specs.Prelude.{◌≡◌, ◌≢◌, not, is_some, ℕ, List, ◌+◌, ◌-◌, ◌^◌, ◌<◌, ◌≤◌, ◌⊎◌, ◌++◌, length, take, drop, false, true, IsTrue, None, Err, IfOk, IfSome, IfNone, OnOk, OnErr};
+ghost use Rattle.std.specs.Prelude.{◌≡◌, ◌≢◌, not, is_some, ℕ, List, [], ◌+◌, ◌-◌, ◌^◌, ◌<◌, ◌≤◌, ◌⊎◌, ◌++◌, length, take, drop, false, true, IsTrue, None, Err, IfOk, IfSome, IfNone, OnOk, OnErr, MatchOption};
 ghost use Rattle.std.specs.Str.{chars, IsValidUpTo};
 ghost use Rattle.std.specs.Str.Lossy.{utf8_error_len};
 ghost use Rattle.std.specs.Io.KnownBytes.{Consumes, IsAtEnd, Keeps};
 ghost use Rattle.legacy_streams.specs.Encoding.{EncodesText, EncodesFront, EncodesPiece, EncodesPieceFront};
 ghost use Rattle.legacy_streams.specs.Encoding.{EncodesAll, EncodesBeginning, EncodesPartly, end_scalars};
+ghost use Rattle.legacy_streams.specs.Utf8Texts.{IsChunk};
+ghost use Rattle.legacy_streams.specs.Waiting.{waiting_bytes};
 
-use crate::pieces::{PIECE, read_piece, rest_of, write_whole};
+use crate::encoded::EncodedBytes;
+use crate::pieces::{PIECE, read_piece, rest_of};
 use crate::recode::RecodeError;
-use legacy_codecs::{CoderResult, RawEncoder, encode_replacing_utf8};
+use legacy_codecs::{CoderResult, RawEncoder};
 use std::io::{self, Read, Write};
-
-/// The maximum number of bytes that are made before a write.
-const BYTES: usize = 2 * PIECE;
 
 /// The text that replaces a malformed sequence.
 const REPLACEMENT: &str = "\u{FFFD}";
 
-/// Encodes a text and writes its bytes, and the encoder's end if `last` is set.
+/// Encodes a text, and the encoder's end if `last` is set.
 ///
-/// Returns the error of a failed write. The contents of `bytes` are lost.
-fn write_text<E: RawEncoder, W: Write>(
+/// The bytes wait in `encoded`, which is written when it is full. Returns the error of a failed
+/// write.
+fn push_text<E: RawEncoder, W: Write>(
     encoder: &mut E,
     text: &str,
     last: bool,
-    bytes: &mut [u8],
+    encoded: &mut EncodedBytes,
     output: &mut W,
 ) -> io::Result<()>
-    requires { 14 ≤ length bytes.old }
     ensures text { OnOk result (EncodesText
         (E.state encoder.old) (chars text.now) last (E.state encoder.new)
+        (waiting_bytes encoded.old) (waiting_bytes encoded.new)
         (W.contents output.old) (W.contents output.new)) }
     ensures err { OnErr result (EncodesFront
         (E.state encoder.old) (chars text.now) last (E.state encoder.new)
-        (W.contents output.old) (W.contents output.new)) }
+        (waiting_bytes encoded.old) (W.contents output.old) (W.contents output.new)) }
 {
     let mut rest = text;
     'calls: loop {
-        let (answer, read, written, _) = encode_replacing_utf8(encoder, rest, bytes, last);
-        write_whole(output, &bytes[..written])?;
+        encoded.make_room(output)?;
+        let (answer, read) = encoded.encode(encoder, rest, last);
         match answer {
             CoderResult::InputEmpty => return Ok(()),
             CoderResult::OutputFull => rest = &rest[read..],
@@ -67,43 +68,76 @@ fn is_held(invalid: &[u8], at_end: bool) -> bool
     at_end && is_cut(invalid)
 }
 
-/// Encodes the text of a piece and writes its bytes.
+/// Returns the longest text at the beginning of the bytes, and what is malformed or cut after it.
 ///
-/// Returns the number of bytes at the end of the piece that may begin a character, and are not
-/// encoded, or the error of a failed write. The contents of `bytes` are lost.
-fn write_piece<E: RawEncoder, W: Write>(
+/// Returns `None` if there are no bytes.
+fn first_chunk(bytes: &[u8]) -> Option<(&str, &[u8])>
+    ensures { MatchOption result (length bytes.now ≡ 0)
+        (λ chunk. IsChunk bytes.now chunk.0.now chunk.1.now) }
+{
+    let chunk = bytes.utf8_chunks().next()?;
+    Some((chunk.valid(), chunk.invalid()))
+}
+
+/// Encodes the text of a piece.
+///
+/// The bytes wait in `encoded`, which is written when it is full. Returns the number of bytes at
+/// the end of the piece that may begin a character, and are not encoded, or the error of a failed
+/// write.
+fn push_piece<E: RawEncoder, W: Write>(
     encoder: &mut E,
     piece: &[u8],
-    bytes: &mut [u8],
+    encoded: &mut EncodedBytes,
     output: &mut W,
 ) -> io::Result<usize>
-    requires { 14 ≤ length bytes.old }
+    requires { waiting_bytes encoded.old ≡ [] }
     ensures piece { IfOk result (λ held. EncodesPiece
         (E.state encoder.old) piece.now held (E.state encoder.new)
-        (W.contents output.old) (W.contents output.new)) }
+        (waiting_bytes encoded.new) (W.contents output.old) (W.contents output.new)) }
     ensures err { OnErr result (EncodesPieceFront
         (E.state encoder.old) piece.now (E.state encoder.new)
         (W.contents output.old) (W.contents output.new)) }
 {
     let mut passed: usize = 0;
     'chunks: loop {
-        let rest = rest_of(piece, passed);
-        let Some(chunk) = rest.utf8_chunks().next() else {
+        let Some((text, invalid)) = first_chunk(rest_of(piece, passed)) else {
             return Ok(0);
         };
-        write_text(encoder, chunk.valid(), false, bytes, output)?;
-        passed += chunk.valid().len();
-        let invalid = chunk.invalid();
+        push_text(encoder, text, false, encoded, output)?;
+        passed += text.len() + invalid.len();
         if invalid.is_empty() {
             return Ok(0);
         }
-        let end = passed + invalid.len();
-        if is_held(invalid, end == piece.len()) {
+        if is_held(invalid, passed == piece.len()) {
             return Ok(invalid.len());
         }
-        write_text(encoder, REPLACEMENT, false, bytes, output)?;
-        passed = end;
+        push_text(encoder, REPLACEMENT, false, encoded, output)?;
     }
+}
+
+/// Encodes the text of a piece and writes its bytes.
+///
+/// Returns the number of bytes at the end of the piece that may begin a character, and are not
+/// encoded, or the error of a failed write. `encoded` is empty before the call, and after it unless
+/// a write fails.
+fn write_piece<E: RawEncoder, W: Write>(
+    encoder: &mut E,
+    piece: &[u8],
+    encoded: &mut EncodedBytes,
+    output: &mut W,
+) -> io::Result<usize>
+    requires { waiting_bytes encoded.old ≡ [] }
+    ensures piece { IfOk result (λ held. EncodesPiece
+        (E.state encoder.old) piece.now held (E.state encoder.new)
+        [] (W.contents output.old) (W.contents output.new)) }
+    ensures empty { OnOk result (waiting_bytes encoded.new ≡ []) }
+    ensures err { OnErr result (EncodesPieceFront
+        (E.state encoder.old) piece.now (E.state encoder.new)
+        (W.contents output.old) (W.contents output.new)) }
+{
+    let held = push_piece(encoder, piece, encoded, output)?;
+    encoded.write_to(output)?;
+    Ok(held)
 }
 
 /// Reads a piece into the buffer, after the `held` bytes at its front.
@@ -136,22 +170,23 @@ fn end_text(held: usize) -> &'static str
 
 /// Writes U+FFFD if the end of the input cuts a character, and the encoder's end.
 ///
-/// Returns the error of a failed write.
+/// Returns the error of a failed write. `encoded` is empty before the call.
 fn write_end<E: RawEncoder, W: Write>(
     encoder: &mut E,
     held: usize,
-    bytes: &mut [u8],
+    encoded: &mut EncodedBytes,
     output: &mut W,
 ) -> io::Result<()>
-    requires { 14 ≤ length bytes.old }
+    requires { waiting_bytes encoded.old ≡ [] }
     ensures text { OnOk result (EncodesText
         (E.state encoder.old) (end_scalars held) true (E.state encoder.new)
-        (W.contents output.old) (W.contents output.new)) }
+        [] [] (W.contents output.old) (W.contents output.new)) }
     ensures err { OnErr result (EncodesFront
         (E.state encoder.old) (end_scalars held) true (E.state encoder.new)
-        (W.contents output.old) (W.contents output.new)) }
+        [] (W.contents output.old) (W.contents output.new)) }
 {
-    write_text(encoder, end_text(held), true, bytes, output)
+    push_text(encoder, end_text(held), true, encoded, output)?;
+    encoded.write_to(output)
 }
 
 /// Moves the last `left` of the first `filled` bytes to the front of the buffer.
@@ -195,7 +230,7 @@ pub fn encode_text<E: RawEncoder, R: Read, W: Write>(
         (W.contents output.old) (W.contents output.new) }
 {
     let mut buffer = [0u8; PIECE];
-    let mut bytes = [0u8; BYTES];
+    let mut encoded = EncodedBytes::new();
     let mut held: usize = 0;
     let mut total: usize = 0;
     'pieces: loop {
@@ -203,13 +238,13 @@ pub fn encode_text<E: RawEncoder, R: Read, W: Write>(
             return Err(RecodeError::Read);
         };
         if count == 0 {
-            return match write_end(encoder, held, &mut bytes, output) {
+            return match write_end(encoder, held, &mut encoded, output) {
                 Ok(()) => Ok(()),
                 Err(_) => Err(RecodeError::Write),
             };
         }
         let filled = held + count;
-        let Ok(left) = write_piece(encoder, &buffer[..filled], &mut bytes, output) else {
+        let Ok(left) = write_piece(encoder, &buffer[..filled], &mut encoded, output) else {
             return Err(RecodeError::Write);
         };
         keep_end(&mut buffer, filled, left);

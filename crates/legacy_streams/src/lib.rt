@@ -5,6 +5,7 @@
 #![tactic(auto)]
 
 pub mod encode;
+mod encoded;
 mod line_parts;
 mod lines;
 mod pieces;

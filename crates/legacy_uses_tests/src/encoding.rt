@@ -2,6 +2,7 @@
 //! stream or memory fails.
 use crate::programs::{
     Failure, Refused, Request, UNREAD, UNWRITTEN, answers, fails, lacks_memory, refuses,
+    writes_once,
 };
 use legacy_command::host::Program;
 
@@ -158,6 +159,17 @@ fn tells_that_a_stream_fails_while_it_encodes(rt: HostRuntime) {
         Program::Encode,
         (b"a\xEF\x9E\x80\xC2\xA5", 3),
         FAILURES,
+    );
+}
+
+// The bytes of a piece are written together, however many malformed sequences it has.
+#[test]
+fn writes_malformed_sequences_together(rt: HostRuntime) {
+    writes_once(
+        &rt,
+        Program::Encode,
+        (WORD, b"\xFFa\xE3\x81\xFF"),
+        b"&#65533;a&#65533;&#65533;",
     );
 }
 

@@ -151,6 +151,26 @@ pub(crate) fn fails(
     }
 }
 
+/// Asserts that one write is enough for the program if one read gives the whole input.
+pub(crate) fn writes_once(
+    rt: &(impl AllocGlobal + Abort),
+    program: Program,
+    (line, input): (&str, &[u8]),
+    output: &[u8],
+) {
+    let streams = Streams {
+        read: (9999, 2),
+        written: (9999, 1, true),
+        errors: 0,
+    };
+    let given = (line, [].as_slice(), input);
+    holds(
+        rt,
+        line,
+        gives(rt.alloc(), program, given, &streams, (0, output, b"")),
+    );
+}
+
 /// Returns the status of a run for EUC-KR with a file, and what it wrote.
 ///
 /// The output has room for `N` bytes, and errors have room for seven.

@@ -1,32 +1,26 @@
-use Rattle.std.proofs.Common.{◌≡◌, ◌∙◌, ◌+◌, ◌-◌, ◌++◌, [], length, take, drop, arith, sym, ap, refl}
+use Rattle.std.proofs.Common.{◌≡◌, ◌≤◌, ◌∙◌, ◌+◌, ◌-◌, ◌++◌, [], length, take, drop, arith, sym, ap, refl}
 use Rattle.std.proofs.lemmas.List.{length-take-le}
 use Rattle.legacy_streams.proofs.EncodingUnderWay.{input_start, input_step, input_partly, input_end, input_end_partly, read_nothing}
 use Rattle.legacy_streams.proofs.encode.encode_text.Goals as goal
 
 pub pieces-init : goal.pieces-init
-pieces-init g c = record { so_far = input_start _ _ _; short = omega arith; long = refl; small = omega arith }
+pieces-init g c = record { so_far = input_start _ _ _; short = omega arith; empty = c.new-encoded.ensures; long = refl; small = omega arith }
 
 pub returns-in-Ok-clause-ok : goal.returns-in-Ok-clause-ok
 returns-in-Ok-clause-ok g c =
     let i = c.pieces.invariant in
-    let long = i.long in
-    let short = i.short in
+    let within : c.pieces.held ≤ length c.pieces.buffer = let long = i.long in let short = i.short in omega arith in
     let bytes = c.in-Some.ensures.bytes in
-    let len : length (take c.pieces.held c.pieces.buffer) ≡ c.pieces.held = length-take-le c.pieces.held c.pieces.buffer (omega arith) in
-    let none : bytes.0 ≡ [] = read_nothing c.pieces.held c.in-Some.count c.pieces.buffer c.read_after.new.buffer bytes.0 (omega arith) c.if-count-eq0.true bytes.2 in
-    let read = rw none at bytes.1 in
-    input_end i.so_far _ read (bytes.3 c.if-count-eq0.true) _ _ (rw (← len) at c.in-Ok.ensures.text)
+    let none = read_nothing c.pieces.held c.in-Some.count c.pieces.buffer c.read_after.new.buffer bytes.0 within c.if-count-eq0.true bytes.2 in
+    input_end i.so_far _ (rw none.0 at bytes.1) (bytes.3 c.if-count-eq0.true) _ _ (rw (← none.1) at c.in-Ok.ensures.text)
 
 pub returns-in-Err-clause-write : goal.returns-in-Err-clause-write
 returns-in-Err-clause-write g c e =
     let i = c.pieces.invariant in
-    let long = i.long in
-    let short = i.short in
+    let within : c.pieces.held ≤ length c.pieces.buffer = let long = i.long in let short = i.short in omega arith in
     let bytes = c.in-Some.ensures.bytes in
-    let len : length (take c.pieces.held c.pieces.buffer) ≡ c.pieces.held = length-take-le c.pieces.held c.pieces.buffer (omega arith) in
-    let none : bytes.0 ≡ [] = read_nothing c.pieces.held c.in-Some.count c.pieces.buffer c.read_after.new.buffer bytes.0 (omega arith) c.if-count-eq0.true bytes.2 in
-    let read = rw none at bytes.1 in
-    input_end_partly i.so_far _ read (bytes.3 c.if-count-eq0.true) _ _ (rw (← len) at c.in-Err.ensures.err)
+    let none = read_nothing c.pieces.held c.in-Some.count c.pieces.buffer c.read_after.new.buffer bytes.0 within c.if-count-eq0.true bytes.2 in
+    input_end_partly i.so_far _ (rw none.0 at bytes.1) (bytes.3 c.if-count-eq0.true) _ _ (rw (← none.1) at c.in-Err.ensures.err)
 
 pub returns-in_default-write_piece-clause-write : goal.returns-in_default-write_piece-clause-write
 returns-in_default-write_piece-clause-write g c e =
@@ -49,6 +43,7 @@ pieces-preserved g c =
     record {
       so_far = input_step i.so_far bytes.0 bytes.1 (take left c.keep_end.new.buffer) piece kept;
       short = piece.short;
+      empty = c.in-Ok-write_piece.ensures.empty;
       long = omega (arith, c.keep_end.auto.buffer, c.read_after.auto.buffer, long);
       small = count.1;
     }

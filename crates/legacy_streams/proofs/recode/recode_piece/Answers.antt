@@ -1,6 +1,6 @@
 use Rattle.std.proofs.Common.{arith}
 use Rattle.std.proofs.lemmas.Result.{on_ok_weaker, on_err_weaker, err_from_is_err_and}
-use Rattle.legacy_streams.proofs.PieceUnderWay.{piece_start, piece_step, piece_sent, piece_front, piece_end, piece_less, lone_bytes, piece_lone, piece_lone_less}
+use Rattle.legacy_streams.proofs.PieceUnderWay.{piece_start, piece_step, piece_front, piece_end, piece_less, lone_bytes, piece_ahead, piece_lone_less}
 use Rattle.legacy_streams.proofs.recode.recode_piece.Goals as goal
 
 pub calls-init : goal.calls-init
@@ -13,42 +13,40 @@ returns-in_err-make_room-clause-err g c =
 
 pub returns-in-InputEmpty-clause-piece : goal.returns-in-InputEmpty-clause-piece
 returns-in-InputEmpty-clause-piece g c =
-    let sent = c.in_ok-make_room.ensures.written in
-    let told = c.lines_of_lone-offset.ensures in
-    let alone = lone_bytes c.args.piece.now _ c.calls.offset _ _ c.rest_of.ensures c.calls.invariant.within told.count told.lone in
+    let room = c.in_ok-make_room.ensures.written in
+    let lone = c.lines_of_lone-offset.ensures in
+    let ahead = piece_ahead c.lines_of_lone-offset.result c.calls.invariant room c.rest_of.ensures lone.count lone.lone lone.text in
     let call = c.lines_of_one_call-answer.ensures in
     let one = rw c.rest_of-unread.ensures at call.1 in
-    on_ok_weaker c.write_to.result
-    (λ w. piece_end (piece_lone c.lines_of_lone-offset.result (piece_sent c.calls.invariant sent.0 sent.1 sent.2) alone.0 alone.1 told.text) one call.2 c.in-InputEmpty.is w)
-    c.write_to.ensures.written
+    on_ok_weaker c.write_to.result (λ w. piece_end ahead one call.2 c.in-InputEmpty.is w) c.write_to.ensures.written
 
 pub returns-in-InputEmpty-clause-err : goal.returns-in-InputEmpty-clause-err
 returns-in-InputEmpty-clause-err g c =
-    let sent = c.in_ok-make_room.ensures.written in
-    let told = c.lines_of_lone-offset.ensures in
-    let alone = lone_bytes c.args.piece.now _ c.calls.offset _ _ c.rest_of.ensures c.calls.invariant.within told.count told.lone in
+    let room = c.in_ok-make_room.ensures.written in
+    let lone = c.lines_of_lone-offset.ensures in
+    let ahead = piece_ahead c.lines_of_lone-offset.result c.calls.invariant room c.rest_of.ensures lone.count lone.lone lone.text in
     let call = c.lines_of_one_call-answer.ensures in
     let one = rw c.rest_of-unread.ensures at call.1 in
-    on_err_weaker c.write_to.result
-    (λ w. piece_front (piece_step (piece_lone c.lines_of_lone-offset.result (piece_sent c.calls.invariant sent.0 sent.1 sent.2) alone.0 alone.1 told.text) one call.2) w.0 w.1)
-    c.write_to.ensures.err
+    on_err_weaker c.write_to.result (λ w. piece_front (piece_step ahead one call.2) w.0 w.1) c.write_to.ensures.err
 
 pub calls-preserved : goal.calls-preserved
 calls-preserved g c =
-    let sent = c.in_ok-make_room.ensures.written in
-    let told = c.lines_of_lone-offset.ensures in
-    let alone = lone_bytes c.args.piece.now _ c.calls.offset _ _ c.rest_of.ensures c.calls.invariant.within told.count told.lone in
+    let room = c.in_ok-make_room.ensures.written in
+    let lone = c.lines_of_lone-offset.ensures in
+    let ahead = piece_ahead c.lines_of_lone-offset.result c.calls.invariant room c.rest_of.ensures lone.count lone.lone lone.text in
     let call = c.lines_of_one_call-answer.ensures in
     let one = rw c.rest_of-unread.ensures at call.1 in
-    piece_step (piece_lone c.lines_of_lone-offset.result (piece_sent c.calls.invariant sent.0 sent.1 sent.2) alone.0 alone.1 told.text) one call.2
+    piece_step ahead one call.2
 
 pub calls-smaller : goal.calls-smaller
 calls-smaller g c =
-    let sent = c.in_ok-make_room.ensures.written in
-    let told = c.lines_of_lone-offset.ensures in
-    let alone = lone_bytes c.args.piece.now _ c.calls.offset _ _ c.rest_of.ensures c.calls.invariant.within told.count told.lone in
+    let room = c.in_ok-make_room.ensures.written in
+    let lone = c.lines_of_lone-offset.ensures in
+    let ahead = piece_ahead c.lines_of_lone-offset.result c.calls.invariant room c.rest_of.ensures lone.count lone.lone lone.text in
     let call = c.lines_of_one_call-answer.ensures in
     let one = rw c.rest_of-unread.ensures at call.1 in
-    let less = piece_less (piece_lone c.lines_of_lone-offset.result (piece_sent c.calls.invariant sent.0 sent.1 sent.2) alone.0 alone.1 told.text) one call.2 c.in_default.not-InputEmpty in
-    let most = piece_lone_less c.lines_of_lone-offset.result (g.D.RawDecoder.state c.calls.decoder) c.args.piece.now c.calls.offset alone.0 alone.1 in
+    let less = piece_less ahead one call.2 c.in_default.not-InputEmpty in
+    let piece = c.args.piece.now in
+    let alone = lone_bytes piece _ c.calls.offset _ _ c.rest_of.ensures c.calls.invariant.within lone.count lone.lone in
+    let most = piece_lone_less c.lines_of_lone-offset.result (g.D.RawDecoder.state c.calls.decoder) piece c.calls.offset alone.0 alone.1 in
     omega (arith, less, most)

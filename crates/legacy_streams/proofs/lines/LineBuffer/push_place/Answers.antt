@@ -19,4 +19,12 @@ returns-clause-room c =
     let place = c.args.place in
     let digits = ap length (decimal_of_hundreds place (omega arith) (omega arith)) in
     let kept = rw c.keep_hundreds.ensures.number at c.push_hundreds.ensures.room in
-    omega (arith, digits, kept, c.keep_hundreds.ensures.room, c.push_all.ensures.room, length-append (decimal (place / 100)) ((48 + place % 100 / 10) ∷ (48 + place % 100 % 10) ∷ []))
+    omega (
+      arith,
+      digits,
+      kept,
+      c.keep_hundreds.ensures.room,
+      c.push_all.ensures.room,
+      length-append (decimal (place / 100))
+          ((48 + place % 100 / 10) ∷ (48 + place % 100 % 10) ∷ []),
+    )

@@ -1,0 +1,56 @@
+use Rattle.std.proofs.Common.{◌≡◌, ◌∙◌, length, refl, sym, arith, inl, inr, ⊎_elim}
+use Rattle.std.proofs.lemmas.Bool.{eqb-true}
+use Rattle.std.proofs.lemmas.Result.{err_from_is_err_and}
+use Rattle.legacy_streams.proofs.Utf8Pieces.{replacement_chars}
+use Rattle.legacy_streams.proofs.EncodingUnderWay.{piece_start, piece_end, chunk_front, chunk_end, fault_front, fault_step, held_valid, held_nothing}
+use Rattle.legacy_streams.proofs.EncodingUnderWay.{text_of_held, some_of, unequal, end_of_none_text}
+use Rattle.legacy_streams.proofs.encode.push_piece.Goals as goal
+
+pub chunks-init : goal.chunks-init
+chunks-init g c = piece_start _ c.args.piece.now _ c.requires
+
+pub returns-in_default-clause-piece : goal.returns-in_default-clause-piece
+returns-in_default-clause-piece g c = piece_end c.chunks.invariant (rw c.rest_of.ensures at c.in_default.ensures)
+
+pub returns-in_err-push_text-clause-err : goal.returns-in_err-push_text-clause-err
+returns-in_err-push_text-clause-err g c =
+    let k = rw c.rest_of.ensures at c.in-Some.ensures in
+    rw (err_from_is_err_and c.from_residual.result c.from_residual.ensures.1).1 (chunk_front c.chunks.invariant k c.in_err-push_text.ensures.err)
+
+pub returns-then-is_empty-clause-piece : goal.returns-then-is_empty-clause-piece
+returns-then-is_empty-clause-piece g c =
+    let k = rw c.rest_of.ensures at c.in-Some.ensures in
+    let none = eqb-true _ _ (sym c.is_empty.ensures ∙ c.if-is_empty.true) in
+    chunk_end c.chunks.invariant k 0 c.in_ok-push_text.ensures.text none (k.whole none) (omega arith) (end_of_none_text _ none)
+
+pub is_held-requires : goal.is_held-requires
+is_held-requires g c t =
+    let k = rw c.rest_of.ensures at c.in-Some.ensures in
+    let some = some_of _ (sym c.is_empty.ensures ∙ c.if-is_empty.false) in
+    held_valid c.chunks.invariant k some (eqb-true _ _ t)
+
+pub returns-then-is_held-clause-piece : goal.returns-then-is_held-clause-piece
+returns-then-is_held-clause-piece g c =
+    let k = rw c.rest_of.ensures at c.in-Some.ensures in
+    let some = some_of _ (sym c.is_empty.ensures ∙ c.if-is_empty.false) in
+    let held = c.is_held.ensures.held c.if-is_held.true in
+    let e = eqb-true _ _ held.0 in
+    chunk_end c.chunks.invariant k _ c.in_ok-push_text.ensures.text refl (held_nothing c.chunks.invariant k some e) held.2
+    (text_of_held _ (held_valid c.chunks.invariant k some e) held.1)
+
+pub returns-in_err-push_text-2-clause-err : goal.returns-in_err-push_text-2-clause-err
+returns-in_err-push_text-2-clause-err g c =
+    let k = rw c.rest_of.ensures at c.in-Some.ensures in
+    let some = some_of _ (sym c.is_empty.ensures ∙ c.if-is_empty.false) in
+    let told = ⊎_elim (λ ne. inl (unequal _ _ ne)) (λ f. inr f) (c.is_held.ensures.fault c.if-is_held.false) in
+    let second = rw replacement_chars at c.in_err-push_text-2.ensures.err in
+    rw (err_from_is_err_and c.from_residual-in_err-push_text-2.result c.from_residual-in_err-push_text-2.ensures.1).1
+    (fault_front c.chunks.invariant k some told c.in_ok-push_text.ensures.text second)
+
+pub chunks-preserved : goal.chunks-preserved
+chunks-preserved g c =
+    let k = rw c.rest_of.ensures at c.in-Some.ensures in
+    let some = some_of _ (sym c.is_empty.ensures ∙ c.if-is_empty.false) in
+    let told = ⊎_elim (λ ne. inl (unequal _ _ ne)) (λ f. inr f) (c.is_held.ensures.fault c.if-is_held.false) in
+    let second = rw replacement_chars at c.in_ok-push_text-2.ensures.text in
+    fault_step c.chunks.invariant k some told c.in_ok-push_text.ensures.text second
