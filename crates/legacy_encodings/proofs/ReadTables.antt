@@ -29,7 +29,8 @@ read_values text before after read = go read.table read.is_table read.place
 module _ {T : Type 0} (text : List ℕ) (result : Result T IndexFileError)
     (line : (n : ℕ) → (result ≡ Err (Line n)) ↔ (first_malformed SingleByte 1 (lines text) ≡ Some n)) where
   -- the file that was read
-  pub single_byte_file : (before after : OwnedIndexes) → HoldsFile SingleByte text before after → (x : T) → result ≡ Ok x → IsSingleByteFile text after.single_byte
+  pub single_byte_file : (before after : OwnedIndexes) → HoldsFile SingleByte text before after → (x : T) → result ≡ Ok x
+      → IsSingleByteFile text after.single_byte
   single_byte_file before after read x e = record {
     well_formed = well_formed_ok (Of SingleByte) text result line x e;
     says = read_values text before after read;
