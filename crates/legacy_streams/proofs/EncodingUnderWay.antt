@@ -5,7 +5,7 @@ use Rattle.std.proofs.Common.{length-append, length-drop, Bool, true, false, Opt
 use Rattle.std.proofs.Common.{is_some, take-add, zero-add, eq-eqb}
 use Rattle.std.specs.Str.{chars, IsValidUpTo, IsErrorLen}
 use Rattle.std.proofs.lemmas.Str.{utf8_valid_len-IsValidUpTo}
-use Rattle.std.specs.Str.Lossy.{utf8_valid_len, utf8_error_len, utf8_invalid_len}
+use Rattle.std.specs.Str.Lossy.{utf8_valid_len, utf8_error_len}
 use Rattle.std.specs.Io.KnownBytes.{Appends, Consumes, IsAtEnd, Keeps}
 use Rattle.std.proofs.KnownBytes.{Appends-nil, Appends-trans, Consumes-nil, Consumes-trans, Consumes-kept}
 use Rattle.std.proofs.lemmas.Grind.{flat_map-append}

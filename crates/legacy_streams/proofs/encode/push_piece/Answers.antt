@@ -1,4 +1,4 @@
-use Rattle.std.proofs.Common.{◌≡◌, ◌∙◌, length, refl, sym, arith, inl, inr, ⊎_elim}
+use Rattle.std.proofs.Common.{◌∙◌, refl, sym, arith, inl, inr, ⊎_elim}
 use Rattle.std.proofs.lemmas.Bool.{eqb-true}
 use Rattle.std.proofs.lemmas.Result.{err_from_is_err_and}
 use Rattle.legacy_streams.proofs.Utf8Pieces.{replacement_chars}
