@@ -18,9 +18,11 @@ few_words tables (w ∷ []) files h k = k
 few_words tables (v ∷ w ∷ words) files h k = absurd (omega arith)
 
 -- the texts with one more INDEX and FILE before the others
-pub one_more_file : (tables : OwnedIndexes) (words : List (Bor (List ℕ))) (name : FileIndex) (text : Bor (List ℕ)) (later files : List (Option (Bor (List ℕ)))) →
+pub one_more_file : (tables : OwnedIndexes) (words : List (Bor (List ℕ))) (name : FileIndex) (text : Bor (List ℕ))
+    (later files : List (Option (Bor (List ℕ)))) →
     2 ≤ length words → first_index_named (texts_of words) ≡ Some name → files ≡ Some text ∷ later →
-    HoldsTexts (with_text (text_given (texts_of (drop 2 words)) (contents_of later)) name text.now) tables → HoldsTexts (text_given (texts_of words) (contents_of files)) tables
+    HoldsTexts (with_text (text_given (texts_of (drop 2 words)) (contents_of later)) name text.now) tables
+    → HoldsTexts (text_given (texts_of words) (contents_of files)) tables
 one_more_file tables [] name text later files h n f k = absurd (omega arith)
 one_more_file tables (w ∷ []) name text later files h n f k = absurd (omega arith)
 one_more_file tables (v ∷ w ∷ words) name text later files h n f k =
@@ -31,7 +33,8 @@ one_more_file tables (v ∷ w ∷ words) name text later files h n f k =
     rw f (subst P (λ i. λ other. same other i) k)
 
 -- with no INDEX and FILE there is no malformed line
-pub few_well_formed : (words : List (Bor (List ℕ))) (files : List (Option (Bor (List ℕ)))) → length words < 2 → AreWellFormed (texts_of words) (contents_of files)
+pub few_well_formed : (words : List (Bor (List ℕ))) (files : List (Option (Bor (List ℕ)))) → length words < 2
+    → AreWellFormed (texts_of words) (contents_of files)
 few_well_formed [] files h = tt
 few_well_formed (w ∷ []) files h = tt
 few_well_formed (v ∷ w ∷ words) files h = absurd (omega arith)

@@ -2,3 +2,4 @@
 pub mod Words
 pub mod IndexTexts
 pub mod Program
+pub mod Host

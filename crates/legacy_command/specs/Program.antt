@@ -36,7 +36,8 @@ flat_of tables =
 
 -- All indexes passed the check, also those that the codec does not use, and the input was recoded by a new decoder of
 -- the codec over them.
-pub record RecodesByTables (kind : OutputKind) (codec : Codec) (tables : OwnedIndexes) (input_old input_new output_old output_new : Option (List ℕ)) : Type 0 where
+pub record RecodesByTables (kind : OutputKind) (codec : Codec) (tables : OwnedIndexes)
+    (input_old input_new output_old output_new : Option (List ℕ)) : Type 0 where
   pub accepted : AreAccepted (flat_of tables)
   pub accepted_table : IsAcceptedTable tables.single_byte
   pub before : DecoderState
@@ -44,7 +45,8 @@ pub record RecodesByTables (kind : OutputKind) (codec : Codec) (tables : OwnedIn
   pub recodes : RecodesInput kind before input_old input_new output_old output_new
 
 -- The same over the indexes of these texts.
-pub record RecodesByTexts (kind : OutputKind) (codec : Codec) (texts : FileIndex → List ℕ) (input_old input_new output_old output_new : Option (List ℕ)) : Type 0 where
+pub record RecodesByTexts (kind : OutputKind) (codec : Codec) (texts : FileIndex → List ℕ)
+    (input_old input_new output_old output_new : Option (List ℕ)) : Type 0 where
   pub tables : OwnedIndexes
   pub holds : HoldsTexts texts tables
   pub recodes : RecodesByTables kind codec tables input_old input_new output_old output_new

@@ -1,8 +1,9 @@
 //! The words after the program's name.
-ghost use Rattle.std.specs.Prelude.{◌≡◌};
+ghost use Rattle.std.specs.Prelude.{◌≡◌, drop, IfOk};
+ghost use Rattle.std.specs.Vec.Iter.{into_iter_items};
 
-use std::alloc::Alloc;
-use std::env::{self, Env};
+use std::alloc::{Alloc, AllocError, Allocator};
+use std::env::{self, Args, Env};
 use std::io::ErrorKind;
 use thiserror::Error;
 
@@ -35,12 +36,24 @@ pub fn status_of(error: &ArgumentsError) -> u8
 }
 
 /// Returns the error that an I/O error of this kind means for the words.
-fn fault_of(kind: ErrorKind) -> ArgumentsError {
+fn fault_of(kind: ErrorKind) -> ArgumentsError
+    ensures not_text { kind ≡ ErrorKind.InvalidData → result ≡ ArgumentsError.NotText }
+    ensures memory { kind ≡ ErrorKind.OutOfMemory → result ≡ ArgumentsError.Memory }
+{
     match kind {
         ErrorKind::InvalidData => ArgumentsError::NotText,
         ErrorKind::OutOfMemory => ArgumentsError::Memory,
         _ => ArgumentsError::Unread,
     }
+}
+
+/// Returns the words after the first one, which is the program's name.
+fn after_name<A: Allocator>(alloc: A, all: Args<A>) -> Result<Vec<String<A>, A>, AllocError>
+    ensures { IfOk result (λ words. words.items ≡ drop 1 (into_iter_items all)) }
+{
+    let mut words = all;
+    let _name = words.next();
+    words.collect(alloc)
 }
 
 /// Returns the words after the program's name, in their order.
@@ -52,11 +65,8 @@ pub fn arguments<R: Env + Alloc>(rt: &R) -> Result<Vec<String<R::A>, R::A>, Argu
         Ok(all) => all,
         Err(error) => return Err(fault_of(error.kind())),
     };
-    let mut words = Vec::new(rt.alloc());
-    for word in all.skip(1) {
-        let Ok(()) = words.push(word) else {
-            return Err(ArgumentsError::Memory);
-        };
+    match after_name(rt.alloc(), all) {
+        Ok(words) => Ok(words),
+        Err(_) => Err(ArgumentsError::Memory),
     }
-    Ok(words)
 }

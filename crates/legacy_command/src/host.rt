@@ -1,9 +1,10 @@
 //! The programs on a host: their words as texts, the contents of the files that these name, and the
 //! streams.
-ghost use Rattle.std.specs.Prelude.{◌≡◌, ◌≤◌, map, string_bytes, IfOk};
+ghost use Rattle.std.specs.Prelude.{◌≡◌, ◌↔◌, ◌≤◌, ◌-◌, ◌/◌, [], None, length, map, string_bytes, IfOk, OnErr};
 ghost use Rattle.std.specs.Option.{option_map};
 ghost use Rattle.legacy_command.specs.Words.{texts_of};
 ghost use Rattle.legacy_command.specs.IndexTexts.{contents_of};
+ghost use Rattle.legacy_command.specs.Host.{codec_asked, IsDoneBy, IsDone};
 
 use crate::arguments::{ArgumentsError, arguments, status_of};
 use crate::encoding::{encoder_in, run_encode};
@@ -54,12 +55,17 @@ fn files_of<R: Files + Alloc>(
     rt: &R,
     alloc: Global,
     words: &[&str],
-) -> io::Result<Vec<Option<Vec<u8, R::A>>>> {
+) -> io::Result<Vec<Option<Vec<u8, R::A>>>>
+    ensures { IfOk result (λ files. length files.items ≡ (length words.now - 1) / 2) }
+{
     let mut files = Vec::new(alloc);
-    for (place, word) in words.iter().enumerate() {
-        if place > 0 && place % 2 == 0 {
-            files.push(contents(rt, word)?)?;
-        }
+    let [_codec, indexes @ ..] = words else {
+        return Ok(files);
+    };
+    let mut rest = indexes;
+    'pairs: while let [_index, file, later @ ..] = rest {
+        files.push(contents(rt, file)?)?;
+        rest = later;
     }
     Ok(files)
 }
@@ -91,7 +97,10 @@ fn files_named<R: Files + Alloc>(
     alloc: Global,
     program: Program,
     words: &[&str],
-) -> io::Result<Vec<Option<Vec<u8, R::A>>>> {
+) -> io::Result<Vec<Option<Vec<u8, R::A>>>>
+    ensures { codec_asked program (texts_of words.now) ≡ None
+        → IfOk result (λ files. files.items ≡ []) }
+{
     let (plain, codec) = match program {
         Program::Recode => (request(words), codec_in(request(words))),
         Program::Encode => (words, encoder_in(words)),
@@ -102,16 +111,47 @@ fn files_named<R: Files + Alloc>(
     Ok(Vec::new(alloc))
 }
 
-/// Runs the program, if its words are available and allocation succeeds.
-fn status<R: Env + Files + Alloc>(
-    rt: &R,
+/// Runs the program on its words, without its name, as `run` and `run_encode` do.
+pub fn run_program<R: Read, W: Write, E: Write>(
     alloc: Global,
     program: Program,
-    input: &mut impl Read,
-    output: &mut impl Write,
-    errors: &mut impl Write,
+    words: &[&str],
+    files: &[Option<&[u8]>],
+    input: &mut R,
+    output: &mut W,
+    errors: &mut E,
+) -> u8
+    ensures statuses { result ≤ 2 }
+    ensures usage { (result ≡ 2) ↔ (codec_asked program (texts_of words.now) ≡ None) }
+    ensures unread { result ≡ 2 → (input.new ≡ input.old) × (output.new ≡ output.old) }
+    ensures done { result ≡ 0 → IsDoneBy program (texts_of words.now) (contents_of files.now)
+        (R.remaining input.old) (R.remaining input.new)
+        (W.contents output.old) (W.contents output.new) }
+    ensures silent { result ≡ 0 → errors.new ≡ errors.old }
+{
+    match program {
+        Program::Recode => run(alloc, words, files, input, output, errors),
+        Program::Encode => run_encode(alloc, words, files, input, output, errors),
+    }
+}
+
+/// Runs the program, if its words are available and allocation succeeds.
+fn status<H: Env + Files + Alloc, R: Read, W: Write, E: Write>(
+    rt: &H,
+    alloc: Global,
+    program: Program,
+    input: &mut R,
+    output: &mut W,
+    errors: &mut E,
 ) -> Result<u8, ArgumentsError>
-    ensures { IfOk result (λ status. status ≤ 2) }
+    ensures statuses { IfOk result (λ status. status ≤ 2) }
+    ensures unread { IfOk result (λ status. status ≡ 2
+        → (input.new ≡ input.old) × (output.new ≡ output.old)) }
+    ensures done { IfOk result (λ status. status ≡ 0 → IsDone program
+        (R.remaining input.old) (R.remaining input.new)
+        (W.contents output.old) (W.contents output.new)) }
+    ensures silent { IfOk result (λ status. status ≡ 0 → errors.new ≡ errors.old) }
+    ensures err { OnErr result ((input.new ≡ input.old) × (output.new ≡ output.old)) }
 {
     let arguments = arguments(rt)?;
     let Ok(words) = words_of(alloc, arguments.as_slice()) else {
@@ -125,21 +165,28 @@ fn status<R: Env + Files + Alloc>(
         return Err(ArgumentsError::Memory);
     };
     let texts = texts.as_slice();
-    Ok(match program {
-        Program::Recode => run(alloc, words, texts, input, output, errors),
-        Program::Encode => run_encode(alloc, words, texts, input, output, errors),
-    })
+    Ok(run_program(alloc, program, words, texts, input, output, errors))
 }
 
 /// Runs the program on the host, and returns its exit status.
-pub fn exit_status<R: Env + Files + Alloc>(
-    rt: &R,
+///
+/// It is 0 if the program did its task, and 2 if the words do not have its form or are not UTF-8
+/// text: then nothing is read or written. Otherwise it is 1.
+pub fn exit_status<H: Env + Files + Alloc, R: Read, W: Write, E: Write>(
+    rt: &H,
     alloc: Global,
     program: Program,
-    input: &mut impl Read,
-    output: &mut impl Write,
-    errors: &mut impl Write,
-) -> u8 {
+    input: &mut R,
+    output: &mut W,
+    errors: &mut E,
+) -> u8
+    ensures statuses { result ≤ 2 }
+    ensures unread { result ≡ 2 → (input.new ≡ input.old) × (output.new ≡ output.old) }
+    ensures done { result ≡ 0 → IsDone program
+        (R.remaining input.old) (R.remaining input.new)
+        (W.contents output.old) (W.contents output.new) }
+    ensures silent { result ≡ 0 → errors.new ≡ errors.old }
+{
     match status(rt, alloc, program, input, output, errors) {
         Ok(status) => status,
         Err(error) => {

@@ -2,11 +2,8 @@
 use crate::compared::holds;
 use crate::streams::{FailingReader, FailingWriter};
 use crate::words::words_in;
-use legacy_command::encoding::run_encode;
-use legacy_command::host::Program;
-use legacy_command::program::run;
+use legacy_command::host::{Program, run_program};
 use std::alloc::Global;
-use std::io::{Read, Write};
 use std::process::Abort;
 
 pub(crate) const UNREAD: &[u8] = b"input: cannot be read\n";
@@ -41,22 +38,6 @@ struct Streams {
 /// The status, the output and the error.
 type Wanted<'a> = (u8, &'a [u8], &'a [u8]);
 
-/// Runs the program and returns its status.
-fn ran(
-    program: Program,
-    alloc: Global,
-    words: &[&str],
-    files: &[Option<&[u8]>],
-    input: &mut impl Read,
-    output: &mut impl Write,
-    errors: &mut impl Write,
-) -> u8 {
-    match program {
-        Program::Recode => run(alloc, words, files, input, output, errors),
-        Program::Encode => run_encode(alloc, words, files, input, output, errors),
-    }
-}
-
 /// Returns a writer with these limits.
 fn writer(alloc: Global, (most, writes, flushes): (usize, usize, bool)) -> FailingWriter {
     FailingWriter {
@@ -83,9 +64,9 @@ fn gives(
     let mut out = writer(alloc, streams.written);
     let mut errors = writer(alloc, (99, streams.errors, true));
     let words = words.as_slice();
-    let came = ran(
-        program,
+    let came = run_program(
         alloc,
+        program,
         words,
         files,
         &mut input,
@@ -185,9 +166,9 @@ fn ran_without_memory<const N: usize>(
     let words = ["euc-kr", "euc-kr", "FILE"];
     let file: &[u8] = b"0 0xAC02\n";
     let files = [Some(file)];
-    let status = ran(
-        program,
+    let status = run_program(
         alloc,
+        program,
         &words,
         &files,
         &mut input,

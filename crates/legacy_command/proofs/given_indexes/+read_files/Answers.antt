@@ -6,7 +6,8 @@ use Rattle.legacy_command.proofs.GivenFiles.{few_words, one_more_file, few_well_
 use Rattle.legacy_command.proofs.given_indexes.+read_files.Goals as goal
 
 pub read_files-requires : goal.read_files-requires
-read_files-requires t c = (search rules, rw (later_words c.args.words.now c.in-len2-up.len_at_least) (later_indexes c.args.words.now c.in-len2-up.len_at_least c.requires))
+read_files-requires t c =
+    (search rules, rw (later_words c.args.words.now c.in-len2-up.len_at_least) (later_indexes c.args.words.now c.in-len2-up.len_at_least c.requires))
 
 pub returns-in_default-clause-texts : goal.returns-in_default-clause-texts
 returns-in_default-clause-texts t c = few_words _ _ c.args.files.now c.in_default.len_below c.new.ensures.empty

@@ -1,0 +1,23 @@
+-- The programs on a host.
+use Rattle.std.specs.Prelude.{ℕ, List, Option}
+use Rattle.legacy_index_files.specs.declared.codec.Codec.{Codec}
+use Rattle.legacy_command.specs.declared.host.Program.{Program}
+use Rattle.legacy_command.specs.declared.host.Program.TheVariants.{Recode, Encode}
+use Rattle.legacy_command.specs.Words.{plain_words, codec_of_words}
+use Rattle.legacy_command.specs.Program.{with_encoder, RecodesByWords, EncodesByWords}
+
+-- the codec of words that have the program's form
+abbrev pub codec_asked : Program → List (List ℕ) → Option Codec
+codec_asked Recode words = codec_of_words (plain_words words)
+codec_asked Encode words = with_encoder (codec_of_words words)
+
+-- the whole input was recoded, or encoded, as the words and files ask
+abbrev pub IsDoneBy : Program → List (List ℕ) → List (Option (List ℕ)) → Option (List ℕ) → Option (List ℕ) → Option (List ℕ) → Option (List ℕ) → Type 0
+IsDoneBy Recode words files input_old input_new output_old output_new = RecodesByWords words files input_old input_new output_old output_new
+IsDoneBy Encode words files input_old input_new output_old output_new = EncodesByWords words files input_old input_new output_old output_new
+
+-- The same by some words and files. No clause of std says which ones a host has.
+pub record IsDone (program : Program) (input_old input_new output_old output_new : Option (List ℕ)) : Type 0 where
+  pub words : List (List ℕ)
+  pub files : List (Option (List ℕ))
+  pub by : IsDoneBy program words files input_old input_new output_old output_new
