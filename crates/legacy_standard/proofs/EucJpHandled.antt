@@ -1,6 +1,6 @@
 -- The EUC-JP decoder's handler gives the events of its grammar.
-use Rattle.std.proofs.Common.{◌≡◌, ℕ, zero, suc, ◌+◌, ◌-◌, ◌*◌, Bool, cond, List, [], ◌∷◌, Some, None, refl, true, false, arith}
-use Rattle.std.specs.Prelude.{option_to_list, ◌==◌, ◌&&◌}
+use Rattle.std.proofs.Common.{◌≡◌, ℕ, zero, suc, ◌+◌, ◌-◌, ◌*◌, cond, List, [], ◌∷◌, Some, None, refl, true, false, arith}
+use Rattle.std.specs.Prelude.{◌==◌, ◌&&◌}
 use Rattle.std.specs.Int.{is_in_range}
 use Rattle.std.specs.Char.{is_ascii}
 use Rattle.std.proofs.lemmas.Bool.{eqb-true}
@@ -16,7 +16,7 @@ use Rattle.legacy_standard.specs.Queue.{return_or_error}
 use Rattle.legacy_standard.specs.Processing.{process}
 use Rattle.legacy_standard.specs.EucJp.{euc_jp_state, euc_jp_initial, euc_jp_handler}
 use Rattle.legacy_standard.proofs.Turns.{goes_on, error_at_end}
-use Rattle.legacy_standard.proofs.Fronts.{Reads, whole, by_test, one, bad_one, returns_scalars, scalars-of, trailing, third_trailing, lead_alone, pair}
+use Rattle.legacy_standard.proofs.Fronts.{Reads, whole, by_test, one, bad_one, returns_scalars, trailing, third_trailing, lead_alone, pair}
 use Rattle.legacy_standard.proofs.OneResult.{Runs, IsDecodedBy}
 
 lead-some : (b : ℕ) → is_euc_jp_lead b ≡ true → (b == 0) ≡ false
@@ -36,12 +36,7 @@ module _ (jis0208 jis0212 : List ℕ) where
   code-is : (index : List ℕ) (lead t : ℕ) → is_euc_jp_lead lead ≡ true →
       return_or_error (cond (is_in_range 0xA1 0xFE lead && is_in_range 0xA1 0xFE t) (idx index ((lead - 0xA1) * 94 + (t - 0xA1))) None) t euc_jp_initial
       ≡ returns_scalars euc_jp_initial (euc_jp_scalars index lead t) t
-  code-is index lead t l = rw l (by_trail (is_in_range 0xA1 0xFE t))
-    where
-      by_trail : (s : Bool) → return_or_error (cond s (idx index ((lead - 0xA1) * 94 + (t - 0xA1))) None) t euc_jp_initial
-          ≡ returns_scalars euc_jp_initial (cond s (option_to_list (idx index ((lead - 0xA1) * 94 + (t - 0xA1)))) []) t
-      by_trail true = scalars-of euc_jp_initial (idx index ((lead - 0xA1) * 94 + (t - 0xA1))) t
-      by_trail false = refl
+  code-is index lead t l = grind arith
 
   -- at the end of the queue the jis0212 flag does not matter
   flag_at_end : (place : ℕ) (es : List DecodeEvent) → Runs (euc_jp_handler jis0208 jis0212) euc_jp_initial place 0 [] es →

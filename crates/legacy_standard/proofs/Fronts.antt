@@ -1,6 +1,5 @@
 -- A handler that reads each front of a list gives the events of the list.
-use Rattle.std.proofs.Common.{◌≡◌, ℕ, zero, suc, ◌+◌, ◌≤◌, Bool, true, false, cond, List, [], ◌∷◌, ◌++◌, drop, length, Option, Some, None, refl, arith}
-use Rattle.std.specs.Prelude.{option_to_list}
+use Rattle.std.proofs.Common.{◌≡◌, ℕ, zero, suc, ◌+◌, ◌≤◌, Bool, true, false, cond, List, [], ◌∷◌, ◌++◌, drop, length, None, refl, arith}
 use Rattle.std.specs.Char.{is_ascii}
 use Rattle.std.proofs.lemmas.Bool.{cond_both}
 use Rattle.std.proofs.lemmas.List.{length-drop}
@@ -17,10 +16,6 @@ use Rattle.legacy_standard.proofs.OneResult.{Runs, steady}
 abbrev pub returns_scalars : {S : Type 0} → S → List ℕ → ℕ → Handled S
 returns_scalars initial [] t = return_or_error None t initial
 returns_scalars initial (c ∷ cs) t = returns (code_points (c ∷ cs)) initial
-
-pub scalars-of : {S : Type 0} (initial : S) (o : Option ℕ) (t : ℕ) → return_or_error o t initial ≡ returns_scalars initial (option_to_list o) t
-scalars-of initial None t = refl
-scalars-of initial (Some c) t = refl
 
 module _ {S : Type 0} (handler : S → Item → Handled S) (initial : S) where
   -- the handler reads a front from its first byte

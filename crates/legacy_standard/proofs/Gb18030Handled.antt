@@ -1,9 +1,7 @@
 -- The gb18030 decoder's handler gives the events of its grammar.
-use Rattle.std.proofs.Common.{◌≡◌, ℕ, ◌+◌, ◌-◌, ◌*◌, Bool, cond, List, [], ◌∷◌, Option, Some, None, refl, true, false, arith}
-use Rattle.std.specs.Prelude.{option_to_list, ◌==◌, ◌||◌, nat_lt}
-use Rattle.std.specs.Int.{is_in_range}
+use Rattle.std.proofs.Common.{◌≡◌, ℕ, ◌+◌, ◌-◌, ◌*◌, List, [], ◌∷◌, Option, Some, None, refl, true, false, arith}
+use Rattle.std.specs.Prelude.{option_to_list, ◌==◌}
 use Rattle.std.specs.Char.{is_ascii, is_ascii_digit}
-use Rattle.std.specs.Option.{option_and_then}
 use Rattle.std.proofs.lemmas.Bool.Decides.{nat_tests}
 use Rattle.legacy_base.specs.declared.results.DecodeEvent.{DecodeEvent}
 use Rattle.legacy_base.specs.Fronts.{Front, malformed, reads_or}
@@ -11,32 +9,16 @@ use Rattle.legacy_base.specs.Profile.{is_lead}
 use Rattle.legacy_base.specs.Gb18030.{gb18030_scalars, gb18030_range_pointer, gb18030_fourth, gb18030_third, gb18030_second, gb18030_front}
 use Rattle.legacy_base.specs.Grammar.{gb18030, events_of}
 use Rattle.legacy_base.proofs.FrontLaws.{gb18030_front-of}
-use Rattle.legacy_tables.specs.Indexes.{idx, range}
-use Rattle.legacy_standard.specs.Queue.{Item, byte, end_of_queue, Handled, returns, restores, continue, error, return_or_error, code_point_or_error}
+use Rattle.legacy_tables.specs.Indexes.{range}
+use Rattle.legacy_standard.specs.Queue.{Item, byte, end_of_queue, Handled, returns, restores, continue, error, code_point_or_error}
 use Rattle.legacy_standard.specs.Gb18030.{Gb18030, gb18030_state, gb18030_initial, gb18030_handler}
 use Rattle.legacy_standard.proofs.LeadHandled.{lead-some}
 use Rattle.legacy_standard.proofs.Turns.{goes_on, gives, error_at, error_at_end}
-use Rattle.legacy_standard.proofs.Fronts.{Reads, whole, by_test, one, bad_one, returns_scalars, scalars-of, trailing, lead_alone}
+use Rattle.legacy_standard.proofs.Fronts.{Reads, whole, by_test, one, bad_one, returns_scalars, trailing, lead_alone}
 use Rattle.legacy_standard.proofs.OneResult.{Runs, IsDecodedBy}
 
 digit-some : (b : ℕ) → is_ascii_digit b ≡ true → (b == 0) ≡ false
 digit-some b h = grind (arith, nat_tests)
-
--- the scalar of a lead and a trail is the handler's code point, if the trail is no digit
-pair-code : (index : List ℕ) (n t : ℕ) →
-    option_and_then (idx index) (cond (is_in_range 0x40 0x7E t || is_in_range 0x80 0xFE t) (Some (n + (t - cond (nat_lt t 0x7F) 0x40 0x41))) None)
-    ≡ cond (is_in_range 0x40 0x7E t) (idx index (n + (t - 0x40))) (cond (is_in_range 0x80 0xFE t) (idx index (n + (t - 0x41))) None)
-pair-code index n t = rw pointer (by_tests (is_in_range 0x40 0x7E t) (is_in_range 0x80 0xFE t))
-  where
-    pointer : cond (is_in_range 0x40 0x7E t || is_in_range 0x80 0xFE t) (Some (n + (t - cond (nat_lt t 0x7F) 0x40 0x41))) None
-        ≡ cond (is_in_range 0x40 0x7E t) (Some (n + (t - 0x40))) (cond (is_in_range 0x80 0xFE t) (Some (n + (t - 0x41))) None)
-    pointer = grind (arith, nat_tests)
-
-    by_tests : (s u : Bool) → option_and_then (idx index) (cond s (Some (n + (t - 0x40))) (cond u (Some (n + (t - 0x41))) None))
-        ≡ cond s (idx index (n + (t - 0x40))) (cond u (idx index (n + (t - 0x41))) None)
-    by_tests true u = refl
-    by_tests false true = refl
-    by_tests false false = refl
 
 module _ (index : List ℕ) (ranges : List (ℕ × ℕ)) where
   abbrev handler : Gb18030 → Item → Handled Gb18030
@@ -114,13 +96,7 @@ module _ (index : List ℕ) (ranges : List (ℕ × ℕ)) where
     -- a second byte that is no digit
     pair-does : (t : ℕ) → is_ascii_digit t ≡ false → handler (gb18030_state b 0 0) (byte t) ≡ returns_scalars gb18030_initial (gb18030_scalars index b t) t
     unfolding gb18030_handler
-    pair-does t d = rw (lead-some b l, d, pair-code index ((b - 0x81) * 190) t) (by_tests _ _ (is_in_range 0x40 0x7E t) (is_in_range 0x80 0xFE t))
-      where
-        by_tests : (x y : Option ℕ) (s u : Bool) → return_or_error (cond s x (cond u y None)) t gb18030_initial
-            ≡ returns_scalars gb18030_initial (cond s (option_to_list x) (cond u (option_to_list y) [])) t
-        by_tests x y true u = scalars-of gb18030_initial x t
-        by_tests x y false true = scalars-of gb18030_initial y t
-        by_tests x y false false = refl
+    pair-does t d = rw (lead-some b l, d) (grind (arith, nat_tests))
 
     second-reads : (rest : List ℕ) → Has (b ∷ rest) (gb18030_second index ranges b rest)
     unfolding gb18030_second

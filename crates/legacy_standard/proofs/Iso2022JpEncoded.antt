@@ -1,11 +1,10 @@
 -- The ISO-2022-JP encoder's handler gives the events of its definition.
-use Rattle.std.proofs.Common.{◌≡◌, ◌∙◌, ℕ, ◌+◌, ◌/◌, ◌%◌, Bool, cond, List, [], ◌∷◌, Option, Some, None, refl, sym, ap, subst, true, false, arith}
-use Rattle.std.specs.Prelude.{is_some, ◌==◌, ◌||◌, not}
+use Rattle.std.proofs.Common.{◌≡◌, ◌∙◌, ℕ, ◌+◌, ◌/◌, ◌%◌, Bool, cond, List, [], ◌∷◌, Option, Some, None, inl, inr, refl, sym, ap, subst, true, false, arith}
+use Rattle.std.specs.Prelude.{◌==◌, ◌||◌}
 use Rattle.std.specs.Int.{is_in_range}
 use Rattle.std.specs.Char.{is_ascii}
-use Rattle.std.proofs.lemmas.Bool.{false≢true, eqb-true, eqb-false}
+use Rattle.std.proofs.lemmas.Bool.{cases_Bool, false≢true, eqb-true, eqb-false}
 use Rattle.std.proofs.lemmas.Bool.Decides.{nat_tests}
-use Rattle.std.proofs.lemmas.Option.{none-some}
 use Rattle.legacy_base.specs.declared.results.EncodeEvent.{EncodeEvent}
 use Rattle.legacy_base.specs.EncoderProfile.{EncoderMode, in_ascii, in_roman, in_two_byte}
 use Rattle.legacy_base.specs.Iso2022Jp.{is_mode_control, iso_2022_jp_pointer_of, iso_2022_jp_reported, roman_or_ascii, escape_to}
@@ -34,17 +33,11 @@ same-mode : (a b : EncoderMode) → same_mode a b ≡ true → a ≡ b
 same-mode in_ascii in_ascii e = refl
 same-mode in_roman in_roman e = refl
 same-mode in_two_byte in_two_byte e = refl
-same-mode in_ascii in_roman e = cc
-same-mode in_ascii in_two_byte e = cc
-same-mode in_roman in_ascii e = cc
-same-mode in_roman in_two_byte e = cc
-same-mode in_two_byte in_ascii e = cc
-same-mode in_two_byte in_roman e = cc
+same-mode _ _ e = cc
 
 other-mode : (a b : EncoderMode) → same_mode a b ≡ false → a ≡ b → ⊥
 other-mode in_ascii b e is = let f = rw (← is) at e in cc
-other-mode in_roman b e is = let f = rw (← is) at e in cc
-other-mode in_two_byte b e is = let f = rw (← is) at e in cc
+other-mode _ b e is = let f = rw (← is) at e in cc
 
 module _ (index katakana_index : List ℕ) where
   abbrev handler : EncoderState → TextItem → TextHandled EncoderState
@@ -80,80 +73,50 @@ module _ (index katakana_index : List ℕ) where
       (does : (mode : EncoderMode) → handler (state_of mode) (scalar c) ≡ acts mode (home mode) c d o)
       (again : (mode : EncoderMode) → handler (state_of (home mode)) (scalar d) ≡ here (home mode) c o) (goes : Goes more) where
     goes_on : (mode : EncoderMode) → Gives mode (c ∷ more)
-    goes_on mode = by_mode (same_mode mode (home mode)) refl
-      where
-        by_mode : (t : Bool) → same_mode mode (home mode) ≡ t → Gives mode (c ∷ more)
-        by_mode true e =
-            let is = same-mode mode (home mode) e in
-            at_home mode c c more o (subst (λ m. IsWritten index katakana_index mode c m o) (sym is) (written mode)) (does mode ∙ rw e refl) (goes mode)
-        by_mode false e =
-            rw (text_events-escape index katakana_index mode (home mode) c (written mode).mode_is (other-mode mode (home mode) e) more true)
-            (gives_escape (escape_to (home mode)) (does mode ∙ rw e refl)
-            (at_home (home mode) c d more o (subst (λ m. IsWritten index katakana_index (home mode) c m o) (twice mode) (written (home mode)))
-            (again mode) (goes (home mode))))
+    goes_on mode = elim (cases_Bool (same_mode mode (home mode))) [
+      | inl e ↦
+          let is = same-mode mode (home mode) e in
+          at_home mode c c more o (subst (λ m. IsWritten index katakana_index mode c m o) (sym is) (written mode)) (does mode ∙ rw e refl) (goes mode)
+      | inr e ↦
+          rw (text_events-escape index katakana_index mode (home mode) c (written mode).mode_is (other-mode mode (home mode) e) more true)
+          (gives_escape (escape_to (home mode)) (does mode ∙ rw e refl)
+          (at_home (home mode) c d more o (rw (twice mode) at (written (home mode))) (again mode) (goes (home mode))))
+    ]
 
   roman_or_ascii-twice : (mode : EncoderMode) → roman_or_ascii (roman_or_ascii mode) ≡ roman_or_ascii mode
   roman_or_ascii-twice in_ascii = refl
-  roman_or_ascii-twice in_roman = refl
-  roman_or_ascii-twice in_two_byte = refl
+  roman_or_ascii-twice _ = refl
 
   control : (c : ℕ) (more : List ℕ) → is_mode_control c ≡ true → Goes more → Goes (c ∷ more)
   unfolding iso_2022_jp_encodes
-  control c more k = goes_on c c more roman_or_ascii None roman_or_ascii-twice (λ mode. at_control index katakana_index mode c k) does again
-    where
-      does : (mode : EncoderMode) → handler (state_of mode) (scalar c) ≡ acts mode (roman_or_ascii mode) c c None
-      does in_ascii = rw k refl
-      does in_roman = rw k refl
-      does in_two_byte = let a : is_ascii c ≡ true = grind (arith, nat_tests) in rw a refl
-
-      again : (mode : EncoderMode) → handler (state_of (roman_or_ascii mode)) (scalar c) ≡ here (roman_or_ascii mode) c None
-      again in_ascii = rw k refl
-      again in_roman = rw k refl
-      again in_two_byte = rw k refl
+  control c more k =
+      let a : is_ascii c ≡ true = grind (arith, nat_tests) in
+      goes_on c c more roman_or_ascii None roman_or_ascii-twice (λ mode. at_control index katakana_index mode c k)
+      (elim [ in_two_byte ↦ rw a refl | _ ↦ rw k refl ]) (elim [ in_ascii ↦ rw k refl | _ ↦ rw k refl ])
 
   special : (c : ℕ) (more : List ℕ) → is_mode_control c ≡ false → is_ascii c ≡ true → (c == 0x5C || c == 0x7E) ≡ true → Goes more → Goes (c ∷ more)
   unfolding iso_2022_jp_encodes
   special c more k a s =
-      goes_on c c more (λ mode. in_ascii) (Some (c ∷ [])) (λ mode. refl) (λ mode. at_special index katakana_index mode c k a s) does (λ mode. rw (k, a) refl)
-    where
-      does : (mode : EncoderMode) → handler (state_of mode) (scalar c) ≡ acts mode in_ascii c c (Some (c ∷ []))
-      does in_ascii = rw (k, a) refl
-      does in_roman = let yen : (c == 0xA5 || c == 0x203E) ≡ false = grind (arith, nat_tests) in rw (k, a, s, yen) refl
-      does in_two_byte = rw a refl
+      let yen : (c == 0xA5 || c == 0x203E) ≡ false = grind (arith, nat_tests) in
+      goes_on c c more (λ mode. in_ascii) (Some (c ∷ [])) (λ mode. refl) (λ mode. at_special index katakana_index mode c k a s)
+      (elim [ in_ascii ↦ rw (k, a) refl | in_roman ↦ rw (k, a, s, yen) refl | in_two_byte ↦ rw a refl ]) (λ mode. rw (k, a) refl)
 
   neutral : (c : ℕ) (more : List ℕ) → is_mode_control c ≡ false → is_ascii c ≡ true → (c == 0x5C || c == 0x7E) ≡ false → Goes more → Goes (c ∷ more)
   unfolding iso_2022_jp_encodes
   neutral c more k a s =
-      goes_on c c more roman_or_ascii (Some (c ∷ [])) roman_or_ascii-twice (λ mode. at_neutral index katakana_index mode c k a s) does again
-    where
-      does : (mode : EncoderMode) → handler (state_of mode) (scalar c) ≡ acts mode (roman_or_ascii mode) c c (Some (c ∷ []))
-      does in_ascii = rw (k, a) refl
-      does in_roman = rw (k, a, s) refl
-      does in_two_byte = rw a refl
-
-      again : (mode : EncoderMode) → handler (state_of (roman_or_ascii mode)) (scalar c) ≡ here (roman_or_ascii mode) c (Some (c ∷ []))
-      again in_ascii = rw (k, a) refl
-      again in_roman = rw (k, a, s) refl
-      again in_two_byte = rw (k, a) refl
+      goes_on c c more roman_or_ascii (Some (c ∷ [])) roman_or_ascii-twice (λ mode. at_neutral index katakana_index mode c k a s)
+      (elim [ in_ascii ↦ rw (k, a) refl | in_roman ↦ rw (k, a, s) refl | in_two_byte ↦ rw a refl ]) (elim [ in_roman ↦ rw (k, a, s) refl | _ ↦ rw (k, a) refl ])
 
   -- the yen sign and the overline
   yen : (more : List ℕ) → Goes more → Goes (0xA5 ∷ more)
   unfolding iso_2022_jp_encodes
-  yen more = goes_on 0xA5 0xA5 more (λ mode. in_roman) _ (λ mode. refl) (λ mode. at_yen index katakana_index mode 0xA5 refl) does (λ mode. refl)
-    where
-      does : (mode : EncoderMode) → handler (state_of mode) (scalar 0xA5) ≡ acts mode in_roman 0xA5 0xA5 (Some (0x5C ∷ []))
-      does in_ascii = refl
-      does in_roman = refl
-      does in_two_byte = refl
+  yen more = goes_on 0xA5 0xA5 more (λ mode. in_roman) (Some (0x5C ∷ [])) (λ mode. refl) (λ mode. at_yen index katakana_index mode 0xA5 refl)
+      (elim [ in_ascii ↦ refl | _ ↦ refl ]) (λ mode. refl)
 
   overline : (more : List ℕ) → Goes more → Goes (0x203E ∷ more)
   unfolding iso_2022_jp_encodes
-  overline more = goes_on 0x203E 0x203E more (λ mode. in_roman) _ (λ mode. refl) (λ mode. at_overline index katakana_index mode 0x203E refl) does (λ mode. refl)
-    where
-      does : (mode : EncoderMode) → handler (state_of mode) (scalar 0x203E) ≡ acts mode in_roman 0x203E 0x203E (Some (0x7E ∷ []))
-      does in_ascii = refl
-      does in_roman = refl
-      does in_two_byte = refl
+  overline more = goes_on 0x203E 0x203E more (λ mode. in_roman) (Some (0x7E ∷ [])) (λ mode. refl) (λ mode. at_overline index katakana_index mode 0x203E refl)
+      (elim [ in_ascii ↦ refl | _ ↦ refl ]) (λ mode. refl)
 
   -- ---- scalars that are looked up
 
@@ -167,9 +130,8 @@ module _ (index katakana_index : List ℕ) where
   -- then the handler replaces the scalar if needed, and looks it up
   past : (c : ℕ) → Past c → (mode : EncoderMode) → handler (state_of mode) (scalar c) ≡ at_set index (state_of mode) (set_scalar katakana_index c) c
   unfolding iso_2022_jp_encodes
-  past c p in_ascii = rw (p.past_control, p.past_ascii, p.past_yen, p.past_overline) refl
-  past c p in_roman = rw (p.past_control, p.past_ascii, p.past_yen, p.past_overline) refl
   past c p in_two_byte = rw (p.past_ascii, p.past_yen, p.past_overline) refl
+  past c p _ = rw (p.past_control, p.past_ascii, p.past_yen, p.past_overline) refl
 
   -- the scalar that replaces c in the handler, which is not replaced again
   record Looked (c : ℕ) : Type 0 where
@@ -180,10 +142,6 @@ module _ (index katakana_index : List ℕ) where
     set_again : set_scalar katakana_index set ≡ Some set
     same : euc_jp_pointer_of index set ≡ None → set ≡ c
 
-  no_none : (o : Option ℕ) → is_some o ≡ true → o ≡ None → ⊥
-  no_none None h e = false≢true h
-  no_none (Some p) h e = none-some p (sym e)
-
   module _ (rows : HasRows index) (folds : HasFolds index katakana_index) where
     looked_minus : Looked 0x2212
     looked_minus = record {
@@ -192,14 +150,15 @@ module _ (index katakana_index : List ℕ) where
       pointer_is = refl;
       again = record { past_control = refl; past_ascii = refl; past_yen = refl; past_overline = refl };
       set_again = refl;
-      same = λ e. absurd (no_none (euc_jp_pointer_of index 0xFF0D) (rows.hyphen) e);
+      same = λ e. absurd (false≢true (rw e at (rows.hyphen)));
     }
 
     looked_fold : (c : ℕ) → (c == 0x2212) ≡ false → is_in_range 0xFF61 0xFF9F c ≡ true → Looked c
     looked_fold c m r =
         let f = folds c r in
         let d = f.entry in
-        let tests = all_false (is_ascii d) (is_in_range 0xFF61 0xFF9F d) (d == 0xA5) (d == 0x203E) (d == 0x2212) (f.looked_up) in
+        let tests : (is_ascii d ≡ false) × (is_in_range 0xFF61 0xFF9F d ≡ false) × ((d == 0xA5) ≡ false) × ((d == 0x203E) ≡ false) × ((d == 0x2212) ≡ false) =
+        grind (arith, f.looked_up) in
         let a : is_ascii d ≡ false = tests.0 in
         let k : is_mode_control d ≡ false = grind (arith, nat_tests) in
         record {
@@ -208,17 +167,8 @@ module _ (index katakana_index : List ℕ) where
           pointer_is = rw (r, f.entry_is) refl;
           again = record { past_control = k; past_ascii = a; past_yen = tests.2; past_overline = tests.3 };
           set_again = rw (tests.4, tests.1) refl;
-          same = λ e. absurd (no_none (euc_jp_pointer_of index d) (f.has_pointer) e);
+          same = λ e. absurd (false≢true (rw e at (f.has_pointer)));
         }
-      where
-        all_false : (s t u v w : Bool) → not ((s || t) || ((u || v) || w)) ≡ true →
-            (s ≡ false) × (t ≡ false) × (u ≡ false) × (v ≡ false) × (w ≡ false)
-        all_false true _ _ _ _ h = absurd (false≢true h)
-        all_false false true _ _ _ h = absurd (false≢true h)
-        all_false false false true _ _ h = absurd (false≢true h)
-        all_false false false false true _ h = absurd (false≢true h)
-        all_false false false false false true h = absurd (false≢true h)
-        all_false false false false false false h = (refl, refl, refl, refl, refl)
 
     looked_other : (c : ℕ) → Past c → (c == 0x2212) ≡ false → is_in_range 0xFF61 0xFF9F c ≡ false → Looked c
     looked_other c p m r = record {
@@ -257,31 +207,23 @@ module _ (index katakana_index : List ℕ) where
       pair : (l : Looked c) (q : ℕ) → euc_jp_pointer_of index l.set ≡ Some q → Goes (c ∷ more)
       pair l q e = goes_on c (l.set) more (λ mode. in_two_byte) (Some ((q / 94 + 0x21) ∷ (q % 94 + 0x21) ∷ [])) (λ mode. refl)
           (λ mode. at_pair index katakana_index mode c q p.past_control p.past_ascii no_yen no_overline (l.pointer_is ∙ e))
-          (λ mode. does l (Some q) e mode ∙ escapes mode) (λ mode. does_again l (Some q) e in_two_byte) goes
-        where
-          escapes : (mode : EncoderMode) →
-              at_pointer (state_of mode) (Some q) (l.set) ≡ acts mode in_two_byte c (l.set) (Some ((q / 94 + 0x21) ∷ (q % 94 + 0x21) ∷ []))
-          escapes in_ascii = refl
-          escapes in_roman = refl
-          escapes in_two_byte = refl
+          (elim [ in_ascii ↦ does l (Some q) e in_ascii | in_roman ↦ does l (Some q) e in_roman | in_two_byte ↦ does l (Some q) e in_two_byte ])
+          (λ mode. does_again l (Some q) e in_two_byte) goes
 
       none : (l : Looked c) → euc_jp_pointer_of index l.set ≡ None → Goes (c ∷ more)
       none l e = goes_on c c more roman_or_ascii None roman_or_ascii-twice
           (λ mode. at_none index katakana_index mode c p.past_control p.past_ascii no_yen no_overline (l.pointer_is ∙ e))
-          (λ mode. does_none mode ∙ escapes mode) (λ mode. does_none (roman_or_ascii mode) ∙ stays mode) goes
+          (elim [ in_ascii ↦ ascii_none | in_roman ↦ roman_none | in_two_byte ↦ does_none in_two_byte ])
+          (elim [ in_roman ↦ roman_none | _ ↦ ascii_none ]) goes
         where
           does_none : (mode : EncoderMode) → handler (state_of mode) (scalar c) ≡ at_pointer (state_of mode) None c
           does_none mode = does l None e mode ∙ ap (at_pointer (state_of mode) None) (l.same e)
 
-          escapes : (mode : EncoderMode) → at_pointer (state_of mode) None c ≡ acts mode (roman_or_ascii mode) c c None
-          escapes in_ascii = rw p.past_control refl
-          escapes in_roman = rw p.past_control refl
-          escapes in_two_byte = refl
+          ascii_none : handler ascii (scalar c) ≡ here in_ascii c None
+          ascii_none = does_none in_ascii ∙ rw p.past_control refl
 
-          stays : (mode : EncoderMode) → at_pointer (state_of (roman_or_ascii mode)) None c ≡ here (roman_or_ascii mode) c None
-          stays in_ascii = rw p.past_control refl
-          stays in_roman = rw p.past_control refl
-          stays in_two_byte = rw p.past_control refl
+          roman_none : handler roman (scalar c) ≡ here in_roman c None
+          roman_none = does_none in_roman ∙ rw p.past_control refl
 
       any_past : Goes (c ∷ more)
       any_past = let l = looked c p in by_pointer l (euc_jp_pointer_of index l.set) refl
@@ -293,27 +235,19 @@ module _ (index katakana_index : List ℕ) where
     -- ---- any scalar, and any text
 
     any : (c : ℕ) (more : List ℕ) → Goes more → (mode : EncoderMode) → Gives mode (c ∷ more)
-    any c more goes mode = by_control (is_mode_control c) refl
-      where
-        by_overline : (t : Bool) → (c == 0x203E) ≡ t → (c == 0xA5) ≡ false → is_ascii c ≡ false → is_mode_control c ≡ false → Gives mode (c ∷ more)
-        by_overline true o y a k = let is = eqb-true c 0x203E o in rw is (overline more goes mode)
-        by_overline false o y a k = any_past c more (record { past_control = k; past_ascii = a; past_yen = y; past_overline = o }) goes mode
-
-        by_yen : (t : Bool) → (c == 0xA5) ≡ t → is_ascii c ≡ false → is_mode_control c ≡ false → Gives mode (c ∷ more)
-        by_yen true y a k = let is = eqb-true c 0xA5 y in rw is (yen more goes mode)
-        by_yen false y a k = by_overline (c == 0x203E) refl y a k
-
-        by_special : (t : Bool) → (c == 0x5C || c == 0x7E) ≡ t → is_ascii c ≡ true → is_mode_control c ≡ false → Gives mode (c ∷ more)
-        by_special true s a k = special c more k a s goes mode
-        by_special false s a k = neutral c more k a s goes mode
-
-        by_ascii : (t : Bool) → is_ascii c ≡ t → is_mode_control c ≡ false → Gives mode (c ∷ more)
-        by_ascii true a k = by_special (c == 0x5C || c == 0x7E) refl a k
-        by_ascii false a k = by_yen (c == 0xA5) refl a k
-
-        by_control : (t : Bool) → is_mode_control c ≡ t → Gives mode (c ∷ more)
-        by_control true k = control c more k goes mode
-        by_control false k = by_ascii (is_ascii c) refl k
+    any c more goes mode = elim (cases_Bool (is_mode_control c)) [
+      | inl k ↦ control c more k goes mode
+      | inr k ↦ elim (cases_Bool (is_ascii c)) [
+        | inl a ↦ elim (cases_Bool (c == 0x5C || c == 0x7E)) [ inl s ↦ special c more k a s goes mode | inr s ↦ neutral c more k a s goes mode ]
+        | inr a ↦ elim (cases_Bool (c == 0xA5)) [
+          | inl y ↦ rw (eqb-true c 0xA5 y) (yen more goes mode)
+          | inr y ↦ elim (cases_Bool (c == 0x203E)) [
+            | inl o ↦ rw (eqb-true c 0x203E o) (overline more goes mode)
+            | inr o ↦ any_past c more (record { past_control = k; past_ascii = a; past_yen = y; past_overline = o }) goes mode
+          ]
+        ]
+      ]
+    ]
 
     nothing : (mode : EncoderMode) → Gives mode []
     unfolding iso_2022_jp_encodes

@@ -1,12 +1,11 @@
 -- The ISO-2022-JP decoder's handler reads a list from first to last, as the laws of the grammar do. Its errors end as
 -- late as `lateness` says.
-use Rattle.std.proofs.Common.{◌≡◌, ℕ, zero, suc, ◌+◌, ◌-◌, ◌*◌, ◌≤◌, Bool, cond, List, [], ◌∷◌, ◌++◌, length, Option, Some, None, refl, sym, ap, subst, ◌∙◌}
-use Rattle.std.proofs.Common.{take, drop, add-zero, zero-add, true, false, arith}
-use Rattle.std.specs.Prelude.{option_to_list, option_map, is_some, ◌==◌, ◌||◌, ◌&&◌, not}
+use Rattle.std.proofs.Common.{◌≡◌, ℕ, zero, suc, ◌+◌, ◌-◌, ◌*◌, ◌≤◌, Bool, cond, List, [], ◌∷◌, ◌++◌, length, Option, Some, None, refl, ap, subst, ◌∙◌}
+use Rattle.std.proofs.Common.{take, drop, add-zero, zero-add, true, false, inl, inr, arith}
+use Rattle.std.specs.Prelude.{option_to_list, option_map, is_some, ◌==◌, ◌||◌, not}
 use Rattle.std.specs.Int.{is_in_range}
 use Rattle.std.specs.Char.{is_ascii}
-use Rattle.std.proofs.lemmas.Bool.{cond_both, or_parts, eqb-true, ne_eqb, false≢true}
-use Rattle.std.proofs.lemmas.Option.{none-some}
+use Rattle.std.proofs.lemmas.Bool.{cond_both, or_parts, cases_Bool, cases_eq, ne_eqb, false≢true}
 use Rattle.std.proofs.lemmas.Bool.Decides.{nat_tests}
 use Rattle.legacy_base.specs.declared.results.DecodeEvent.{DecodeEvent}
 use Rattle.legacy_base.specs.declared.results.DecodeEvent.TheVariants.{Scalar, Bad}
@@ -123,31 +122,13 @@ event pos n (Some c) = Scalar c
 
 -- the states of escapes correspond to the modes
 escape-is : (a b : ℕ) → escape_state a b ≡ option_map state_of (escape_mode a b)
-escape-is a b = by_tests (a == 0x28 && b == 0x42) (a == 0x28 && b == 0x4A) (a == 0x28 && b == 0x49) (a == 0x24 && (b == 0x40 || b == 0x42))
-  where
-    by_tests : (s t u v : Bool) → cond s (Some ascii) (cond t (Some roman) (cond u (Some katakana) (cond v (Some leading_byte) None)))
-        ≡ option_map state_of (cond s (Some iso.ascii) (cond t (Some iso.roman) (cond u (Some iso.katakana) (cond v (Some iso.two_byte) None))))
-    by_tests true _ _ _ = refl
-    by_tests false true _ _ = refl
-    by_tests false false true _ = refl
-    by_tests false false false true = refl
-    by_tests false false false false = refl
+escape-is a b = grind arith
 
 -- ---- how late errors end
 
 -- the lateness of the malformed sequence that begins k bytes into these bytes, which are read in the mode
 abbrev late_at : Mode → List ℕ → ℕ → ℕ → ℕ
 late_at m bytes k n = bytes_after (mode_after m (take k bytes)) (drop k bytes) n
-
--- the second and third bytes of a valid escape are not escape bytes
-no_second : (a b : ℕ) (new : Mode) → escape_mode a b ≡ Some new → (a == esc) ≡ false
-no_second a b new valid = ne_eqb a esc (λ is. let same = rw is at valid in cc)
-
-no_third : (a b : ℕ) (new : Mode) → escape_mode a b ≡ Some new → (b == esc) ≡ false
-no_third a b new valid = ne_eqb b esc (λ is. none-some new (sym (none a) ∙ (rw is at valid)))
-  where
-    none : (a : ℕ) → escape_mode a esc ≡ None
-    none a = grind (arith, nat_tests)
 
 -- if bytes begin with no valid escape, neither does a shorter beginning of them
 part_mode-cut : (k : ℕ) (rest : List ℕ) → part_mode (esc ∷ rest) ≡ None → part_mode (esc ∷ take k rest) ≡ None
@@ -175,45 +156,41 @@ after-no_escape m bytes none = rw none refl
 after-escape : (m new : Mode) (a b : ℕ) (bytes : List ℕ) → escape_mode a b ≡ Some new → mode_after m (esc ∷ a ∷ b ∷ bytes) ≡ mode_after new bytes
 unfolding mode_after
 after-escape m new a b bytes valid =
-    rw (escape_ahead a b new bytes valid) (after-plain new a (b ∷ bytes) (no_second a b new valid) ∙ after-plain new b bytes (no_third a b new valid))
+    let second : (a == esc) ≡ false = grind (arith, nat_tests) in
+    let third : (b == esc) ≡ false = grind (arith, nat_tests) in
+    rw (escape_ahead a b new bytes valid) (after-plain new a (b ∷ bytes) second ∙ after-plain new b bytes third)
 
 -- an error for an escape byte that begins no valid escape is not late
 escape_byte_late : (m : Mode) (rest : List ℕ) → bytes_after m (esc ∷ rest) 1 ≡ 0
 escape_byte_late m [] = refl
-escape_byte_late iso.ascii (a ∷ rest) = refl
-escape_byte_late iso.roman (a ∷ rest) = refl
-escape_byte_late iso.katakana (a ∷ rest) = refl
-escape_byte_late iso.two_byte (a ∷ rest) = refl
+escape_byte_late m (a ∷ rest) = grind arith
 
 module _ (jis0208 : List ℕ) (late : ℕ → ℕ → ℕ) (third_late : (p : ℕ) → late p 3 ≡ 3) where
   -- from this position on, the lateness of a malformed sequence depends only on these bytes
   record Fits (m : Mode) (pos : ℕ) (bytes : List ℕ) : Type 0 where
     late_is : (k n : ℕ) → late (pos + k) n ≡ late_at m bytes k n
 
+  -- the same of the bytes after `size` bytes
+  fits-behind : {m new : Mode} {pos : ℕ} {bytes more : List ℕ} (size : ℕ) (at : ℕ → ℕ) → ((k : ℕ) → at k ≡ size + k) → Fits m pos bytes →
+      ((k n : ℕ) → late_at m bytes (at k) n ≡ late_at new more k n) → Fits new (pos + size) more
+  fits-behind {pos = pos} size at is fits same =
+      record { late_is = λ k n. let place : pos + size + k ≡ pos + at k = omega (arith, is k) in rw place (fits.late_is (at k) n ∙ same k n) }
+
   fits-plain : {m : Mode} {pos b : ℕ} {more : List ℕ} → (b == esc) ≡ false → Fits m pos (b ∷ more) → Fits m (pos + 1) more
-  fits-plain {m} {pos} {b} {more} plain fits = record {
-    late_is = λ k n.
-        let same : pos + 1 + k ≡ pos + suc k = omega arith in
-        rw same (fits.late_is (suc k) n ∙ ap (λ mode. bytes_after mode (drop k more) n) (after-plain m b (take k more) plain));
-  }
+  fits-plain {m} {b = b} {more} plain fits =
+      fits-behind 1 suc (λ k. omega arith) fits (λ k n. ap (λ mode. bytes_after mode (drop k more) n) (after-plain m b (take k more) plain))
 
   fits-two : {m : Mode} {pos b t : ℕ} {more : List ℕ} → (b == esc) ≡ false → (t == esc) ≡ false → Fits m pos (b ∷ t ∷ more) → Fits m (pos + 2) more
   fits-two {m} {pos} {more = more} plain plain_t fits =
       let two : pos + 1 + 1 ≡ pos + 2 = omega arith in subst (λ p. Fits m p more) two (fits-plain plain_t (fits-plain plain fits))
 
   fits-no_escape : {m : Mode} {pos : ℕ} {rest : List ℕ} → part_mode (esc ∷ rest) ≡ None → Fits m pos (esc ∷ rest) → Fits m (pos + 1) rest
-  fits-no_escape {m} {pos} {rest} none fits = record {
-    late_is = λ k n.
-        let same : pos + 1 + k ≡ pos + suc k = omega arith in
-        rw same (fits.late_is (suc k) n ∙ ap (λ mode. bytes_after mode (drop k rest) n) (after-no_escape m (take k rest) (part_mode-cut k rest none)));
-  }
+  fits-no_escape {m} {rest = rest} none fits = fits-behind 1 suc (λ k. omega arith) fits
+      (λ k n. ap (λ mode. bytes_after mode (drop k rest) n) (after-no_escape m (take k rest) (part_mode-cut k rest none)))
 
   fits-escape : {m new : Mode} {pos a b : ℕ} {more : List ℕ} → escape_mode a b ≡ Some new → Fits m pos (esc ∷ a ∷ b ∷ more) → Fits new (pos + 3) more
-  fits-escape {m} {new} {pos} {a} {b} {more} valid fits = record {
-    late_is = λ k n.
-        let same : pos + 3 + k ≡ pos + suc (suc (suc k)) = omega arith in
-        rw same (fits.late_is (suc (suc (suc k))) n ∙ ap (λ mode. bytes_after mode (drop k more) n) (after-escape m new a b (take k more) valid));
-  }
+  fits-escape {m} {new} {a = a} {b} {more} valid fits = fits-behind 3 (λ k. suc (suc (suc k))) (λ k. omega arith) fits
+      (λ k n. ap (λ mode. bytes_after mode (drop k more) n) (after-escape m new a b (take k more) valid))
 
   -- the lateness of a malformed sequence at the beginning of the bytes
   late_here : {m : Mode} {pos : ℕ} {bytes : List ℕ} (n : ℕ) → Fits m pos bytes → late pos n ≡ bytes_after m bytes n
@@ -313,7 +290,14 @@ module _ (jis0208 : List ℕ) (late : ℕ → ℕ → ℕ) (third_late : (p : �
       let r = bad_escape l below stands refl in
       let z : late pos 1 ≡ 0 = r.0 in
       rw (none-outs m flag pos [] refl) (out-error_at_end r.1 refl (omega arith) (omega arith) (omega arith))
-  behind_escape_byte m l flag pos (a ∷ rest) below stands = by_second (a == 0x24 || a == 0x28) refl
+  behind_escape_byte m l flag pos (a ∷ rest) below stands = elim (cases_Bool (a == 0x24 || a == 0x28)) [
+    | inl h ↦ out-continue (second rest below stands) (rw h refl) (omega arith) (omega arith)
+    | inr h ↦
+        let none = part_mode-none a rest h in
+        let r = bad_escape l below stands none in
+        let z : late pos 1 ≡ 0 = r.0 in
+        rw (none-outs m flag pos (a ∷ rest) none) (out-error (a ∷ []) r.1 (rw h refl) (omega arith) (omega arith) (omega arith))
+  ]
     where
       second : (rest : List ℕ) → Below (length (a ∷ rest)) → Stands m flag pos (esc ∷ a ∷ rest) →
           Gives (behind_two m a flag) 1 (pos + 2) rest (again flag pos (esc ∷ a ∷ rest) ++ events m pos (esc ∷ a ∷ rest))
@@ -323,25 +307,12 @@ module _ (jis0208 : List ℕ) (late : ℕ → ℕ → ℕ) (third_late : (p : �
           rw (none-outs m flag pos (a ∷ []) refl) (out-error_at_end r.1 refl (omega arith) (omega arith) (omega arith))
       second (b ∷ more) below stands = third m flag pos a b more below stands (escape_mode a b) refl
 
-      by_second : (t : Bool) → (a == 0x24 || a == 0x28) ≡ t →
-          Gives (started m l flag) 0 (pos + 1) (a ∷ rest) (again flag pos (esc ∷ a ∷ rest) ++ events m pos (esc ∷ a ∷ rest))
-      by_second true h = out-continue (second rest below stands) (rw h refl) (omega arith) (omega arith)
-      by_second false h =
-          let none = part_mode-none a rest h in
-          let r = bad_escape l below stands none in
-          let z : late pos 1 ≡ 0 = r.0 in
-          rw (none-outs m flag pos (a ∷ rest) none) (out-error (a ∷ []) r.1 (rw h refl) (omega arith) (omega arith) (omega arith))
-
   -- ---- bodies
 
   -- a front of one byte that gives this scalar, or is malformed
   abbrev single : Option ℕ → Front
   single None = malformed 1
   single (Some c) = reads 1 (c ∷ [])
-
-  single-cond : (t : Bool) (x y : Option ℕ) → cond t (single x) (single y) ≡ single (cond t x y)
-  single-cond true x y = refl
-  single-cond false x y = refl
 
   again-none : (flag : Bool) (pos b : ℕ) (more : List ℕ) → (b == esc) ≡ false → again flag pos (b ∷ more) ≡ []
   again-none flag pos b more plain = rw (no_escape b more plain) refl
@@ -394,29 +365,17 @@ module _ (jis0208 : List ℕ) (late : ℕ → ℕ → ℕ) (third_late : (p : �
   never_late b [] = (refl, refl, refl)
   never_late b (t ∷ more) = (refl, refl, refl)
 
-  is_short : (b : ℕ) → is_in_range 0x00 0x7F b ≡ is_ascii b
-  is_short b = grind (arith, nat_tests)
-
   -- the decoder reads a byte that is no escape byte in a mode
   abbrev Reads : Mode → Type 0
   Reads m =
       (l : ℕ) (flag : Bool) (pos b : ℕ) (more : List ℕ) → (b == esc) ≡ false → Fits m pos (b ∷ more) → Below (length more) → Decodes m l flag pos (b ∷ more)
-
-  -- the handler's result for a byte that is none of its own characters
-  returns_byte : (d : Iso2022Jp) (b : ℕ) (s t : Bool) →
-      cond (t && not s) (returns (code_point b) d) (returns error d) ≡ returns (code_point_or_error (cond (s || not t) None (Some b))) d
-  returns_byte d b true true = refl
-  returns_byte d b true false = refl
-  returns_byte d b false true = refl
-  returns_byte d b false false = refl
 
   -- a byte in ASCII mode
   ascii_byte : Reads iso.ascii
   unfolding iso_2022_jp_handler iso_2022_jp_front
   ascii_byte l flag pos b more plain fits below =
       let bad : Bool = (b == 0x0E || b == 0x0F) || not (is_ascii b) in
-      one_byte iso.ascii l flag (cond bad None (Some b)) plain fits below (single-cond bad None (Some b))
-      (rw (plain, is_short b) (returns_byte (at_rest iso.ascii l false) b (b == 0x0E || b == 0x0F) (is_ascii b))) (never_late b more).0
+      one_byte iso.ascii l flag (cond bad None (Some b)) plain fits below (grind arith) (grind (arith, nat_tests)) (never_late b more).0
 
   -- a byte in Roman mode
   roman_byte : Reads iso.roman
@@ -424,35 +383,14 @@ module _ (jis0208 : List ℕ) (late : ℕ → ℕ → ℕ) (third_late : (p : �
   roman_byte l flag pos b more plain fits below =
       let bad : Bool = (b == 0x0E || b == 0x0F) || not (is_ascii b) in
       one_byte iso.roman l flag (cond bad None (cond (b == 0x5C) (Some 0xA5) (cond (b == 0x7E) (Some 0x203E) (Some b)))) plain fits below
-      (front_is bad (b == 0x5C) (b == 0x7E)) (rw (plain, is_short b) (by_tests (b == 0x5C) (b == 0x7E) refl refl)) (never_late b more).1
-    where
-      front_is : (t u v : Bool) → cond t (malformed 1) (cond u (reads 1 (0xA5 ∷ [])) (cond v (reads 1 (0x203E ∷ [])) (reads 1 (b ∷ []))))
-          ≡ single (cond t None (cond u (Some 0xA5) (cond v (Some 0x203E) (Some b))))
-      front_is true u v = refl
-      front_is false true v = refl
-      front_is false false v = single-cond v (Some 0x203E) (Some b)
-
-      by_tests : (u v : Bool) → (b == 0x5C) ≡ u → (b == 0x7E) ≡ v →
-          cond u (returns (code_point 0xA5) (at_rest iso.roman l false)) (cond v (returns (code_point 0x203E) (at_rest iso.roman l false))
-          (cond (is_ascii b && not (b == 0x0E || b == 0x0F)) (returns (code_point b) (at_rest iso.roman l false)) (returns error (at_rest iso.roman l false))))
-          ≡ returns (code_point_or_error (cond ((b == 0x0E || b == 0x0F) || not (is_ascii b)) None (cond u (Some 0xA5) (cond v (Some 0x203E) (Some b)))))
-          (at_rest iso.roman l false)
-      by_tests true v h k = let is = eqb-true b 0x5C h in rw is refl
-      by_tests false true h k = let is = eqb-true b 0x7E k in rw is refl
-      by_tests false false h k = returns_byte (at_rest iso.roman l false) b (b == 0x0E || b == 0x0F) (is_ascii b)
+      (grind arith) (grind (arith, nat_tests)) (never_late b more).1
 
   -- a byte in katakana mode
   katakana_byte : Reads iso.katakana
   unfolding iso_2022_jp_handler iso_2022_jp_front
   katakana_byte l flag pos b more plain fits below =
       let scalar : Option ℕ = Some (0xFF61 + (b - 0x21)) in
-      one_byte iso.katakana l flag (cond (is_in_range 0x21 0x5F b) scalar None) plain fits below (single-cond (is_in_range 0x21 0x5F b) scalar None)
-      (rw plain (does (is_in_range 0x21 0x5F b))) (never_late b more).2
-    where
-      does : (t : Bool) → cond t (returns (code_point (0xFF61 + (b - 0x21))) (at_rest iso.katakana l false)) (returns error (at_rest iso.katakana l false))
-          ≡ returns (code_point_or_error (cond t (Some (0xFF61 + (b - 0x21))) None)) (at_rest iso.katakana l false)
-      does true = refl
-      does false = refl
+      one_byte iso.katakana l flag (cond (is_in_range 0x21 0x5F b) scalar None) plain fits below (grind arith) (grind arith) (never_late b more).2
 
   -- a lead byte and the byte after it
   reads-double : (o : Option ℕ) → reads_or 2 (option_to_list o) (malformed 2) ≡ double o
@@ -466,7 +404,16 @@ module _ (jis0208 : List ℕ) (late : ℕ → ℕ → ℕ) (third_late : (p : �
       let z : late pos 1 ≡ 0 = late_here 1 fits in
       rw (one-outs iso.two_byte flag pos b [] None plain refl)
       (out-error_at_end (unset b below (fits-plain plain fits) (omega arith)) refl (omega arith) (omega arith) (omega arith))
-  behind_lead_byte flag pos b (t ∷ rest) plain lead fits below = by_test (t == esc) refl
+  behind_lead_byte flag pos b (t ∷ rest) plain lead fits below = elim (cases_eq t esc) [
+    | inl is ↦ rw (one-outs iso.two_byte flag pos b (t ∷ rest) None plain (rw is refl), is) (escaped (rw is at fits))
+    | inr other ↦
+        let plain_t = ne_eqb t esc other in
+        let o : Option ℕ = idx jis0208 ((b - 0x21) * 94 + (t - 0x21)) in
+        elim (cases_Bool (is_in_range 0x21 0x7E t)) [
+          | inl h ↦ pair_is o plain_t (rw (lead, h) (reads-double o)) (rw (plain_t, h) refl)
+          | inr h ↦ pair_is None plain_t (rw (lead, h) refl) (rw (plain_t, h) refl)
+        ]
+  ]
     where
       pair_is : (o : Option ℕ) → (t == esc) ≡ false → iso_2022_jp_front jis0208 iso.two_byte b (t ∷ first_part rest) ≡ double o →
           iso_2022_jp_handler jis0208 (behind_lead b) (byte t) ≡ returns (code_point_or_error o) (at_rest iso.two_byte b false) →
@@ -475,12 +422,6 @@ module _ (jis0208 : List ℕ) (late : ℕ → ℕ → ℕ) (third_late : (p : �
           rw (two-outs iso.two_byte flag pos b t rest o plain plain_t front)
           (returned iso.two_byte b pos 2 o (unset b below (fits-two plain plain_t fits) (omega arith)) does (omega arith) refl
           (λ e. late_here 2 fits ∙ rw (lead, plain_t) refl))
-
-      pair_byte : (s : Bool) → is_in_range 0x21 0x7E t ≡ s → (t == esc) ≡ false →
-          Gives (behind_lead b) 1 (pos + 1) (t ∷ rest) (again flag pos (b ∷ t ∷ rest) ++ events iso.two_byte pos (b ∷ t ∷ rest))
-      pair_byte true h plain_t =
-          let o : Option ℕ = idx jis0208 ((b - 0x21) * 94 + (t - 0x21)) in pair_is o plain_t (rw (lead, h) (reads-double o)) (rw (plain_t, h) refl)
-      pair_byte false h plain_t = pair_is None plain_t (rw (lead, h) refl) (rw (plain_t, h) refl)
 
       behind : Fits iso.two_byte (pos + 1) (esc ∷ rest) → Gives (started iso.two_byte b false) 0 (pos + 2) rest (events iso.two_byte (pos + 1) (esc ∷ rest))
       behind next =
@@ -494,16 +435,12 @@ module _ (jis0208 : List ℕ) (late : ℕ → ℕ → ℕ) (third_late : (p : �
           let one_late : late pos 1 ≡ 1 = late_here 1 fits ∙ rw lead refl in
           out-error [] (behind (fits-plain plain fits)) refl (omega arith) (omega arith) (omega arith)
 
-      by_test : (s : Bool) → (t == esc) ≡ s →
-          Gives (behind_lead b) 1 (pos + 1) (t ∷ rest) (again flag pos (b ∷ t ∷ rest) ++ events iso.two_byte pos (b ∷ t ∷ rest))
-      by_test true h =
-          let is = eqb-true t esc h in
-          rw (one-outs iso.two_byte flag pos b (t ∷ rest) None plain (rw h refl), is) (escaped (subst (λ t. Fits iso.two_byte pos (b ∷ t ∷ rest)) is fits))
-      by_test false h = pair_byte (is_in_range 0x21 0x7E t) refl h
-
   two_byte_byte : Reads iso.two_byte
   unfolding iso_2022_jp_handler iso_2022_jp_front
-  two_byte_byte l flag pos b more plain fits below = by_test (is_in_range 0x21 0x7E b) refl
+  two_byte_byte l flag pos b more plain fits below = elim (cases_Bool (is_in_range 0x21 0x7E b)) [
+    | inl h ↦ out-continue (behind_lead_byte flag pos b more plain h fits below) (rw (plain, h) refl) (omega arith) refl
+    | inr h ↦ one_byte iso.two_byte l flag None plain fits below (front_is (first_part more) h) (rw (plain, h) refl) (no_lead more h)
+  ]
     where
       front_is : (rest : List ℕ) → is_in_range 0x21 0x7E b ≡ false → iso_2022_jp_front jis0208 iso.two_byte b rest ≡ malformed 1
       front_is [] h = refl
@@ -512,10 +449,6 @@ module _ (jis0208 : List ℕ) (late : ℕ → ℕ → ℕ) (third_late : (p : �
       no_lead : (rest : List ℕ) → is_in_range 0x21 0x7E b ≡ false → bytes_after iso.two_byte (b ∷ rest) 1 ≡ 0
       no_lead [] h = refl
       no_lead (t ∷ rest) h = rw h refl
-
-      by_test : (t : Bool) → is_in_range 0x21 0x7E b ≡ t → Decodes iso.two_byte l flag pos (b ∷ more)
-      by_test true h = out-continue (behind_lead_byte flag pos b more plain h fits below) (rw (plain, h) refl) (omega arith) refl
-      by_test false h = one_byte iso.two_byte l flag None plain fits below (front_is (first_part more) h) (rw (plain, h) refl) (no_lead more h)
 
   -- ---- whole lists
 
@@ -529,30 +462,22 @@ module _ (jis0208 : List ℕ) (late : ℕ → ℕ → ℕ) (third_late : (p : �
   escape_byte : (m : Mode) (l : ℕ) (flag : Bool) → iso_2022_jp_handler jis0208 (at_rest m l flag) (byte esc) ≡ returns continue (started m l flag)
   unfolding iso_2022_jp_handler
   escape_byte iso.ascii l flag = refl
-  escape_byte iso.roman l flag = refl
-  escape_byte iso.katakana l flag = refl
-  escape_byte iso.two_byte l flag = refl
+  escape_byte _ l flag = refl
 
   finishes : (m : Mode) (l : ℕ) (flag : Bool) → iso_2022_jp_handler jis0208 (at_rest m l flag) end_of_queue ≡ returns finished (at_rest m l flag)
   unfolding iso_2022_jp_handler
   finishes iso.ascii l flag = refl
-  finishes iso.roman l flag = refl
-  finishes iso.katakana l flag = refl
-  finishes iso.two_byte l flag = refl
+  finishes _ l flag = refl
 
   nothing : (m : Mode) (l : ℕ) (flag : Bool) (pos : ℕ) → Decodes m l flag pos []
   unfolding part_mode
   nothing m l flag pos = rw (step_end jis0208 m) (out-end (finishes m l flag))
 
   first : (m : Mode) (l : ℕ) (flag : Bool) (pos b : ℕ) (more : List ℕ) → Stands m flag pos (b ∷ more) → Below (length more) → Decodes m l flag pos (b ∷ more)
-  first m l flag pos b more stands below = by_test (b == esc) refl
-    where
-      by_test : (t : Bool) → (b == esc) ≡ t → Decodes m l flag pos (b ∷ more)
-      by_test true e =
-          let is = eqb-true b esc e in
-          let here : Stands m flag pos (esc ∷ more) = subst (λ b. Stands m flag pos (b ∷ more)) is stands in
-          rw is (out-continue (behind_escape_byte m l flag pos more below here) (escape_byte m l flag) (omega arith) refl)
-      by_test false e = any_byte m l flag pos b more e stands.fits below
+  first m l flag pos b more stands below = elim (cases_eq b esc) [
+    | inl is ↦ rw is (out-continue (behind_escape_byte m l flag pos more below (rw is at stands)) (escape_byte m l flag) (omega arith) refl)
+    | inr other ↦ any_byte m l flag pos b more (ne_eqb b esc other) stands.fits below
+  ]
 
   below_all : (n : ℕ) → Below n
   below_all n = record { decodes = λ {m} {flag} {pos} {bytes} l stands h. all n m flag pos bytes l stands h }

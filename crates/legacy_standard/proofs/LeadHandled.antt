@@ -1,7 +1,7 @@
 -- The handlers of EUC-KR, Big5 and Shift_JIS, with a leading byte and a trailing byte, give the events of their
 -- grammars.
-use Rattle.std.proofs.Common.{◌≡◌, ℕ, ◌+◌, ◌-◌, ◌*◌, Bool, cond, List, [], ◌∷◌, Option, Some, None, refl, true, false, arith}
-use Rattle.std.specs.Prelude.{option_to_list, ◌==◌, ◌||◌, nat_lt}
+use Rattle.std.proofs.Common.{◌≡◌, ℕ, ◌+◌, ◌-◌, ◌*◌, cond, List, [], ◌∷◌, Option, Some, None, refl, true, false, arith}
+use Rattle.std.specs.Prelude.{◌==◌, ◌||◌, nat_lt}
 use Rattle.std.specs.Int.{is_in_range}
 use Rattle.std.specs.Char.{is_ascii}
 use Rattle.std.specs.Option.{option_map_or, option_and_then}
@@ -10,16 +10,16 @@ use Rattle.legacy_base.specs.LeadForms.{lead_front, lead_pair, pair_scalars, poi
 use Rattle.legacy_base.specs.EucKr.{euc_kr, euc_kr_pointer}
 use Rattle.legacy_base.specs.Profile.{is_lead}
 use Rattle.legacy_base.specs.Big5.{big5_front, big5_pair, big5_pointer, big5_scalars}
-use Rattle.legacy_base.specs.ShiftJis.{shift_jis_front, shift_jis_pair, shift_jis_pointer, shift_jis_scalars, is_shift_jis_lead, shift_jis_lead_part}
+use Rattle.legacy_base.specs.ShiftJis.{shift_jis_front, shift_jis_pair, shift_jis_pointer, shift_jis_scalars, is_shift_jis_lead}
 use Rattle.legacy_base.specs.Grammar.{big5, shift_jis, events_of}
 use Rattle.legacy_base.proofs.FrontLaws.{lead_front-of, big5_front-of, shift_jis_front-of}
 use Rattle.legacy_tables.specs.Indexes.{idx}
 use Rattle.legacy_tables.specs.Unicode.{is_katakana_byte}
-use Rattle.legacy_standard.specs.Queue.{returns, code_point, code_points, return_or_error}
+use Rattle.legacy_standard.specs.Queue.{return_or_error}
 use Rattle.legacy_standard.specs.EucKr.{euc_kr_handler}
 use Rattle.legacy_standard.specs.Big5.{big5_handler, big5_pointer_returns}
 use Rattle.legacy_standard.specs.ShiftJis.{shift_jis_handler, shift_jis_pointer_returns}
-use Rattle.legacy_standard.proofs.Fronts.{Reads, whole, by_test, one, bad_one, returns_scalars, scalars-of, pair}
+use Rattle.legacy_standard.proofs.Fronts.{Reads, whole, by_test, one, bad_one, returns_scalars, pair}
 use Rattle.legacy_standard.proofs.OneResult.{IsDecodedBy}
 
 -- ---- EUC-KR
@@ -30,8 +30,7 @@ lead-some b h = grind (arith, nat_tests)
 module _ (index : List ℕ) where
   euc_kr-returns : (pointer : Option ℕ) (t : ℕ) →
       return_or_error {State = ℕ} (option_and_then (idx index) pointer) t 0 ≡ returns_scalars 0 (pointer_scalars index pointer) t
-  euc_kr-returns None t = refl
-  euc_kr-returns (Some p) t = scalars-of 0 (idx index p) t
+  euc_kr-returns pointer t = grind arith
 
   euc_kr-reads : (b : ℕ) (rest : List ℕ) → Reads (euc_kr_handler index) 0 (b ∷ rest) (lead_front is_lead euc_kr_pointer index b rest)
   unfolding lead_front lead_pair euc_kr_handler
@@ -57,19 +56,7 @@ big5-pointer n t = grind (arith, nat_tests)
 module _ (index : List ℕ) where
   big5-returns : (pointer : Option ℕ) (t : ℕ) →
       big5_pointer_returns index pointer t ≡ returns_scalars 0 (option_map_or (big5_scalars index) pointer []) t
-  big5-returns None t = refl
-  big5-returns (Some p) t = by_tests (p == 1133) (p == 1135) (p == 1164) (p == 1166)
-    where
-      by_tests : (s u v w : Bool) →
-          cond s (returns {State = ℕ} (code_points (0xCA ∷ 0x304 ∷ [])) 0) (cond u (returns (code_points (0xCA ∷ 0x30C ∷ [])) 0)
-          (cond v (returns (code_points (0xEA ∷ 0x304 ∷ [])) 0) (cond w (returns (code_points (0xEA ∷ 0x30C ∷ [])) 0) (return_or_error (idx index p) t 0))))
-          ≡ returns_scalars 0 (cond s (0xCA ∷ 0x304 ∷ []) (cond u (0xCA ∷ 0x30C ∷ [])
-          (cond v (0xEA ∷ 0x304 ∷ []) (cond w (0xEA ∷ 0x30C ∷ []) (option_to_list (idx index p)))))) t
-      by_tests true u v w = refl
-      by_tests false true v w = refl
-      by_tests false false true w = refl
-      by_tests false false false true = refl
-      by_tests false false false false = scalars-of 0 (idx index p) t
+  big5-returns pointer t = grind arith
 
   big5-reads : (b : ℕ) (rest : List ℕ) → Reads (big5_handler index) 0 (b ∷ rest) (big5_front index b rest)
   unfolding big5_front big5_pair big5_handler
@@ -90,13 +77,7 @@ module _ (index : List ℕ) where
 shift_jis-pointer : (b t : ℕ) → is_shift_jis_lead b ≡ true →
     cond (is_in_range 0x40 0x7E t || is_in_range 0x80 0xFC t) (Some ((b - cond (nat_lt b 0xA0) 0x81 0xC1) * 188 + (t - cond (nat_lt t 0x7F) 0x40 0x41))) None
     ≡ shift_jis_pointer b t
-shift_jis-pointer b t h =
-    let part : b - cond (nat_lt b 0xA0) 0x81 0xC1 ≡ shift_jis_lead_part b = grind (arith, nat_tests) in
-    rw part (at_trailing (shift_jis_lead_part b * 188))
-  where
-    at_trailing : (n : ℕ) → cond (is_in_range 0x40 0x7E t || is_in_range 0x80 0xFC t) (Some (n + (t - cond (nat_lt t 0x7F) 0x40 0x41))) None
-        ≡ cond (is_in_range 0x40 0x7E t) (Some (n + (t - 0x40))) (cond (is_in_range 0x80 0xFC t) (Some (n + (t - 0x41))) None)
-    at_trailing n = grind (arith, nat_tests)
+shift_jis-pointer b t h = grind (arith, nat_tests)
 
 shift_jis-some : (b : ℕ) → is_shift_jis_lead b ≡ true → (b == 0) ≡ false
 shift_jis-some b h = grind (arith, nat_tests)
@@ -104,13 +85,7 @@ shift_jis-some b h = grind (arith, nat_tests)
 module _ (jis0208 : List ℕ) where
   shift_jis-returns : (pointer : Option ℕ) (t : ℕ) →
       shift_jis_pointer_returns jis0208 pointer t ≡ returns_scalars 0 (option_map_or (shift_jis_scalars jis0208) pointer []) t
-  shift_jis-returns None t = refl
-  shift_jis-returns (Some p) t = by_test (is_in_range 8836 10715 p)
-    where
-      by_test : (s : Bool) → cond s (returns {State = ℕ} (code_point (0xE000 + (p - 8836))) 0) (return_or_error (idx jis0208 p) t 0)
-          ≡ returns_scalars 0 (cond s ((0xE000 + (p - 8836)) ∷ []) (option_to_list (idx jis0208 p))) t
-      by_test true = refl
-      by_test false = scalars-of 0 (idx jis0208 p) t
+  shift_jis-returns pointer t = grind arith
 
   shift_jis-reads : (b : ℕ) (rest : List ℕ) → Reads (shift_jis_handler jis0208) 0 (b ∷ rest) (shift_jis_front jis0208 b rest)
   unfolding shift_jis_front shift_jis_pair shift_jis_handler

@@ -1,29 +1,23 @@
 -- The UTF-16 decoders' handlers give the events of their grammars.
-use Rattle.std.proofs.Common.{◌≡◌, ℕ, zero, suc, ◌+◌, ◌*◌, ◌/◌, ◌%◌, ◌≤◌, Bool, List, [], ◌∷◌, ◌++◌, length, Option, Some, None, refl, true, false, arith}
+use Rattle.std.proofs.Common.{◌≡◌, ℕ, zero, suc, ◌+◌, ◌*◌, ◌≤◌, Bool, List, [], ◌∷◌, ◌++◌, length, Some, None, inl, inr, refl, true, false, arith}
 use Rattle.std.specs.Prelude.{◌&&◌}
 use Rattle.std.specs.Char.Utf16.{is_high_surrogate, is_low_surrogate, surrogate_pair_char}
-use Rattle.std.proofs.lemmas.Bool.{cond_both, and_from, and_left, and_right}
+use Rattle.std.proofs.lemmas.Bool.{cases_Bool, cond_both, and_from, and_left, and_right}
 use Rattle.std.proofs.lemmas.List.Elements.{All-head, All-tail}
 use Rattle.legacy_base.specs.declared.results.DecodeEvent.{DecodeEvent}
 use Rattle.legacy_base.specs.declared.results.DecodeEvent.TheVariants.{Scalar, Bad}
 use Rattle.legacy_base.specs.Utf16.{unit_of, units_of, has_odd_byte, lone_unit_events, units_events, utf16_events}
 use Rattle.legacy_base.specs.Grammar.{utf16, events_of}
 use Rattle.legacy_tables.specs.Unicode.{IsByte, AreBytes}
-use Rattle.legacy_standard.specs.Queue.{Item, byte, end_of_queue, Handled, returns, continue, finished, error}
-use Rattle.legacy_standard.specs.Utf16.{Utf16, utf16_state, utf16_initial, unit_bytes, utf16_unit, utf16_handler}
+use Rattle.legacy_standard.specs.Queue.{Item, Handled}
+use Rattle.legacy_standard.specs.Utf16.{Utf16, utf16_state, utf16_initial, unit_bytes, utf16_handler}
 use Rattle.legacy_standard.proofs.Turns.{at_end, goes_on, gives, error_at, error_at_end}
 use Rattle.legacy_standard.proofs.OneResult.{Runs, steady, IsDecodedBy}
 
 -- the bytes of a code unit are those that it was made from
 bytes-back : (is_utf16be : Bool) (a b : ℕ) → IsByte a → IsByte b → unit_bytes is_utf16be (unit_of is_utf16be a b) ≡ a ∷ b ∷ []
-bytes-back true a b p q =
-    let high : (a * 0x100 + b) / 0x100 ≡ a = omega arith in
-    let low : (a * 0x100 + b) % 0x100 ≡ b = omega arith in
-    rw (high, low) refl
-bytes-back false a b p q =
-    let high : (b * 0x100 + a) / 0x100 ≡ b = omega arith in
-    let low : (b * 0x100 + a) % 0x100 ≡ a = omega arith in
-    rw (high, low) refl
+bytes-back true a b p q = grind arith
+bytes-back false a b p q = grind arith
 
 module _ (is_utf16be : Bool) where
   abbrev handler : Utf16 → Item → Handled Utf16
@@ -31,26 +25,6 @@ module _ (is_utf16be : Bool) where
 
   abbrev unit : ℕ → ℕ → ℕ
   unit a b = unit_of is_utf16be a b
-
-  first : (a : ℕ) (surrogate : Option ℕ) → handler (utf16_state None surrogate) (byte a) ≡ returns continue (utf16_state (Some a) surrogate)
-  unfolding utf16_handler
-  first a surrogate = refl
-
-  second : (a b : ℕ) (surrogate : Option ℕ) → handler (utf16_state (Some a) surrogate) (byte b) ≡ utf16_unit is_utf16be surrogate (unit a b)
-  unfolding utf16_handler
-  second a b surrogate = refl
-
-  ends : handler utf16_initial end_of_queue ≡ returns finished utf16_initial
-  unfolding utf16_handler
-  ends = refl
-
-  end_odd : (a : ℕ) (surrogate : Option ℕ) → handler (utf16_state (Some a) surrogate) end_of_queue ≡ returns error utf16_initial
-  unfolding utf16_handler
-  end_odd a surrogate = refl
-
-  end_high : (u : ℕ) → handler (utf16_state None (Some u)) end_of_queue ≡ returns error utf16_initial
-  unfolding utf16_handler
-  end_high u = refl
 
   -- the events of the bytes that begin with the code unit with the index i
   abbrev events : ℕ → List ℕ → List DecodeEvent
@@ -91,48 +65,47 @@ module _ (is_utf16be : Bool) where
   high-events i u v units odd h l = rw (unpaired-events i u v units odd (and_right (is_high_surrogate u) (is_low_surrogate v) l), h) refl
 
   lone : (i a b : ℕ) (rest : List ℕ) → is_high_surrogate (unit a b) ≡ false → Gives (i + 1) rest → Gives i (a ∷ b ∷ rest)
-  unfolding units_of has_odd_byte
+  unfolding units_of has_odd_byte utf16_handler
   lone i a b rest h after =
       rw (lone-events i (unit a b) (units_of is_utf16be rest) (has_odd_byte rest) h, h)
       (cond_both (is_low_surrogate (unit a b)) (Bad (2 * i) 2 ∷ []) (Scalar (unit a b) ∷ [])
       (λ es. Runs handler utf16_initial (2 * i) 0 (a ∷ b ∷ rest) (es ++ events (i + 1) rest))
-      (λ l. goes_on (first a None) (error_at {t = utf16_initial} [] (rw (second a b None, h, l) refl) (rw (next i) after)))
-      (λ l. goes_on (first a None) (gives {t = utf16_initial} (unit a b ∷ []) (rw (second a b None, h, l) refl) (rw (next i) after))))
+      (λ l. goes_on refl (error_at {t = utf16_initial} [] (rw (h, l) refl) (rw (next i) after)))
+      (λ l. goes_on refl (gives {t = utf16_initial} (unit a b ∷ []) (rw (h, l) refl) (rw (next i) after))))
 
   -- the handler's steps for a high surrogate
   over_high : {place a b : ℕ} {rest : List ℕ} {es : List DecodeEvent} → is_high_surrogate (unit a b) ≡ true →
       Runs handler (utf16_state None (Some (unit a b))) place 2 rest es → Runs handler utf16_initial place 0 (a ∷ b ∷ rest) es
-  over_high {a = a} {b = b} h after = goes_on (first a None) (goes_on (rw (second a b None, h) refl) after)
+  unfolding utf16_handler
+  over_high h after = goes_on refl (goes_on (rw h refl) after)
 
   nothing : (i : ℕ) → Gives i []
-  unfolding units_of has_odd_byte units_events
-  nothing i = at_end ends
+  unfolding units_of has_odd_byte units_events utf16_handler
+  nothing i = at_end refl
 
   odd_byte : (i a : ℕ) → Gives i (a ∷ [])
-  unfolding units_of has_odd_byte units_events
-  odd_byte i a = goes_on (first a None) (error_at_end (end_odd a None) (at_end ends))
+  unfolding units_of has_odd_byte units_events utf16_handler
+  odd_byte i a = goes_on refl (error_at_end refl (at_end refl))
 
   high_alone : (i a b : ℕ) → is_high_surrogate (unit a b) ≡ true → Gives i (a ∷ b ∷ [])
-  unfolding units_of has_odd_byte units_events
-  high_alone i a b h = rw h (over_high h (error_at_end (end_high (unit a b)) (at_end ends)))
+  unfolding units_of has_odd_byte units_events utf16_handler
+  high_alone i a b h = rw h (over_high h (error_at_end refl (at_end refl)))
 
   high_odd : (i a b c : ℕ) → is_high_surrogate (unit a b) ≡ true → Gives i (a ∷ b ∷ c ∷ [])
-  unfolding units_of has_odd_byte units_events
-  high_odd i a b c h = rw h (over_high h (goes_on (first c (Some (unit a b))) (error_at_end (end_odd c (Some (unit a b))) (at_end ends))))
+  unfolding units_of has_odd_byte units_events utf16_handler
+  high_odd i a b c h = rw h (over_high h (goes_on refl (error_at_end refl (at_end refl))))
 
   high_more : (i a b c d : ℕ) (rest : List ℕ) → IsByte c → IsByte d → is_high_surrogate (unit a b) ≡ true → Gives (i + 2) rest →
       Gives (i + 1) (c ∷ d ∷ rest) → Gives i (a ∷ b ∷ c ∷ d ∷ rest)
-  unfolding units_of has_odd_byte
-  high_more i a b c d rest p q h after other = over_high h (goes_on (first c (Some (unit a b))) (by_low (is_low_surrogate (unit c d)) refl))
-    where
-      by_low : (t : Bool) → is_low_surrogate (unit c d) ≡ t → Runs handler (utf16_state (Some c) (Some (unit a b))) (2 * i) 3 (d ∷ rest)
-          (units_events i (unit a b ∷ unit c d ∷ units_of is_utf16be rest) (has_odd_byte rest))
-      by_low true l =
-          rw (pair-events i (unit a b) (unit c d) (units_of is_utf16be rest) (has_odd_byte rest) h l)
-          (gives {t = utf16_initial} (surrogate_pair_char (unit a b) (unit c d) ∷ []) (rw (second c d (Some (unit a b)), l) refl) (rw (over_next i) after))
-      by_low false l =
-          rw (high-events i (unit a b) (unit c d) (units_of is_utf16be rest) (has_odd_byte rest) h l)
-          (error_at {t = utf16_initial} (c ∷ d ∷ []) (rw (second c d (Some (unit a b)), l, bytes-back is_utf16be c d p q) refl) (rw (next i) other))
+  unfolding units_of has_odd_byte utf16_handler
+  high_more i a b c d rest p q h after other = over_high h (goes_on refl (elim (cases_Bool (is_low_surrogate (unit c d))) [
+    | inl l ↦
+        rw (pair-events i (unit a b) (unit c d) (units_of is_utf16be rest) (has_odd_byte rest) h l)
+        (gives {t = utf16_initial} (surrogate_pair_char (unit a b) (unit c d) ∷ []) (rw l refl) (rw (over_next i) after))
+    | inr l ↦
+        rw (high-events i (unit a b) (unit c d) (units_of is_utf16be rest) (has_odd_byte rest) h l)
+        (error_at {t = utf16_initial} (c ∷ d ∷ []) (rw (l, bytes-back is_utf16be c d p q) refl) (rw (next i) other))
+  ]))
 
   -- by the first code unit's kind
   by_high : (i a b : ℕ) (rest : List ℕ) → (is_high_surrogate (unit a b) ≡ true → Gives i (a ∷ b ∷ rest)) → Gives (i + 1) rest → Gives i (a ∷ b ∷ rest)
