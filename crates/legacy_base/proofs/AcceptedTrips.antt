@@ -1,12 +1,11 @@
 -- Facts about accepted indexes for round trips. The jis0208 entries that Shift_JIS decodes to private use are empty.
 -- Each private-use row has a private-use scalar, a lead and a trail.
-use Rattle.std.proofs.Common.{◌≡◌, ℕ, zero, suc, ◌+◌, List, [], ◌∷◌, Bool, true, false, cond, not, ◌==◌, Option, Some, None, slice_index, refl, ap, arith}
+use Rattle.std.proofs.Common.{◌≡◌, ℕ, zero, suc, ◌+◌, List, [], ◌∷◌, Bool, true, false, cond, ◌==◌, Option, Some, None, slice_index, refl, ap, arith}
 use Rattle.std.proofs.Common.{find, option_map, eqb-true}
 use Rattle.legacy_tables.specs.declared.tables.IndexName.{IndexName}
 use Rattle.legacy_tables.specs.declared.tables.IndexName.TheVariants as names
-use Rattle.legacy_tables.specs.declared.tables.TableError.TheVariants.{BadEntry, NotEmpty, PuaOrder, PuaScalar, PuaBytes}
 use Rattle.legacy_tables.specs.Indexes.{FlatIndexes, gb18030_pua_of}
-use Rattle.legacy_tables.specs.TableChecks.{AreAccepted, is_entry, must_be_empty, entry_fault, entries_fault, follows_scalar, is_row_scalar, are_row_bytes}
+use Rattle.legacy_tables.specs.TableChecks.{AreAccepted, must_be_empty, entry_fault, entries_fault, is_row_scalar, are_row_bytes}
 use Rattle.legacy_tables.specs.TableChecks.{row_fault, rows_fault}
 use Rattle.legacy_tables.proofs.Accepted.{or_none, parts}
 use Rattle.legacy_base.proofs.TwoByteTrips.{PrivateUseIsEmpty}
@@ -30,12 +29,7 @@ each_entry name p (e ∷ entries) h (suc j) =
 
 -- if an entry must be empty and has no fault, it is empty
 empty_entry : (name : IndexName) (p entry : ℕ) → must_be_empty name p ≡ true → entry_fault name p entry ≡ None → (entry == 0) ≡ true
-empty_entry name p entry must h = by_tests (entry == 0) (is_entry name entry) refl (rw must at h)
-  where
-    by_tests : (t u : Bool) → (entry == 0) ≡ t → cond t None (cond (not u) (Some (BadEntry name p)) (Some (NotEmpty name p))) ≡ None → (entry == 0) ≡ true
-    by_tests true u e h = e
-    by_tests false true e h = cc
-    by_tests false false e h = cc
+empty_entry name p entry must h = let fault = rw must at h in grind arith
 
 pub private_use-empty : (flat : FlatIndexes) → AreAccepted flat → PrivateUseIsEmpty flat.jis0208
 private_use-empty flat accepted = record {
@@ -48,15 +42,7 @@ private_use-empty flat accepted = record {
 -- ---- private-use rows
 
 good_row : (place : ℕ) (before : Option ℕ) (r : ℕ × ℕ × ℕ) → row_fault place before r ≡ None → (is_row_scalar r.0 ≡ true) × (are_row_bytes r.1 r.2 ≡ true)
-good_row place before r h = by_tests (follows_scalar before r.0) (is_row_scalar r.0) (are_row_bytes r.1 r.2) h
-  where
-    by_tests : (t u v : Bool) →
-        cond (not t) (Some (PuaOrder place)) (cond (not u) (Some (PuaScalar place)) (cond (not v) (Some (PuaBytes place)) None)) ≡ None →
-        (u ≡ true) × (v ≡ true)
-    by_tests true true true h = (refl, refl)
-    by_tests true true false h = cc
-    by_tests true false v h = cc
-    by_tests false u v h = cc
+good_row place before r h = grind arith
 
 same_pair : (a b x y : ℕ) → ◌≡◌ {A = Option (ℕ × ℕ)} (Some (a, x)) (Some (b, y)) → (a ≡ b) × (x ≡ y)
 same_pair a b x y h = let same : ◌≡◌ {A = ℕ × ℕ} (a, x) (b, y) = cc in (ap (λ (p : ℕ × ℕ). p.0) same, ap (λ (p : ℕ × ℕ). p.1) same)

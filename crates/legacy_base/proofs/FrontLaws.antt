@@ -1,6 +1,6 @@
 -- Each front of each codec has one to four bytes of its list, so every list has events. A front gives one or two
 -- scalars, or is malformed.
-use Rattle.std.proofs.Common.{◌≡◌, ℕ, suc, ◌+◌, ◌-◌, ◌*◌, ◌≤◌, ◌<◌, List, [], ◌∷◌, Bool, true, false, not, cond, length, ◌||◌, ◌==◌, Option, Some, None}
+use Rattle.std.proofs.Common.{◌≡◌, ℕ, suc, ◌+◌, ◌-◌, ◌≤◌, ◌<◌, List, [], ◌∷◌, Bool, true, false, not, cond, length, ◌||◌, ◌==◌, Option, Some, None}
 use Rattle.std.proofs.Common.{option_to_list, refl, arith}
 use Rattle.std.specs.Option.{option_map_or}
 use Rattle.std.specs.Int.{is_in_range}
@@ -242,29 +242,8 @@ module _ {P : Type 0} (jis0208 : List ℕ) (checked : P → AreScalars jis0208) 
       (front_of-cond _ (is_in_range 0x21 0x7E t) _ _ (λ _. front_of-reads_or _ 2 _ _ (omega arith) (omega arith) (omega arith)
       (give-idx jis0208 checked _) two) two)
 
--- both fronts have at most two bytes
-short_cond : (t : Bool) (f g : Front) → front_length f ≤ 2 → front_length g ≤ 2 → front_length (cond t f g) ≤ 2
-short_cond true f g h k = h
-short_cond false f g h k = k
-
-short_pair : (o : Option ℕ) → front_length (reads_or 2 (option_to_list o) (malformed 2)) ≤ 2
-short_pair None = omega arith
-short_pair (Some c) = omega arith
-
 pub iso_2022_jp_front-short : (jis0208 : List ℕ) (mode : Mode) (b : ℕ) (rest : List ℕ) → front_length (iso_2022_jp_front jis0208 mode b rest) ≤ 2
 unfolding iso_2022_jp_front
-iso_2022_jp_front-short jis0208 ascii b rest =
-    short_cond ((b == 0x0E || b == 0x0F) || not (is_ascii b)) (malformed 1) (reads 1 (b ∷ [])) (omega arith) (omega arith)
-iso_2022_jp_front-short jis0208 roman b rest =
-    let plain : Front = reads 1 (b ∷ []) in
-    let overline : Front = cond (b == 0x7E) (reads 1 (0x203E ∷ [])) plain in
-    short_cond ((b == 0x0E || b == 0x0F) || not (is_ascii b)) (malformed 1) (cond (b == 0x5C) (reads 1 (0xA5 ∷ [])) overline) (omega arith)
-    (short_cond (b == 0x5C) (reads 1 (0xA5 ∷ [])) overline (omega arith) (short_cond (b == 0x7E) (reads 1 (0x203E ∷ [])) plain (omega arith) (omega arith)))
-iso_2022_jp_front-short jis0208 katakana b rest =
-    short_cond (is_in_range 0x21 0x5F b) (reads 1 ((0xFF61 + (b - 0x21)) ∷ [])) (malformed 1) (omega arith) (omega arith)
 iso_2022_jp_front-short jis0208 two_byte b [] = omega arith
-iso_2022_jp_front-short jis0208 two_byte b (t ∷ rest) =
-    let entry = idx jis0208 ((b - 0x21) * 94 + (t - 0x21)) in
-    let pair : Front = reads_or 2 (option_to_list entry) (malformed 2) in
-    short_cond (not (is_in_range 0x21 0x7E b)) (malformed 1) (cond (is_in_range 0x21 0x7E t) pair (malformed 2)) (omega arith)
-    (short_cond (is_in_range 0x21 0x7E t) pair (malformed 2) (short_pair entry) (omega arith))
+iso_2022_jp_front-short jis0208 two_byte b (t ∷ rest) = grind arith
+iso_2022_jp_front-short jis0208 _ b rest = grind arith

@@ -1,7 +1,7 @@
 -- The codes of GB18030 and GBK decode to their scalars. The codes of private-use rows decode to the scalars of the
 -- rows' bytes.
 use Rattle.std.proofs.Common.{◌≡◌, ℕ, ◌+◌, ◌-◌, ◌*◌, ◌/◌, ◌%◌, ◌<◌, ◌≤◌, List, [], ◌∷◌, length, get_or, Bool, true}
-use Rattle.std.proofs.Common.{false, cond, not, ◌||◌, ◌==◌, nat_lt, Option, Some, None, option_map, option_to_list, refl, sym, ◌∙◌, arith, if◌then◌else◌}
+use Rattle.std.proofs.Common.{false, cond, not, ◌||◌, ◌==◌, nat_lt, Option, Some, None, option_map, refl, sym, ◌∙◌, arith, if◌then◌else◌}
 use Rattle.std.proofs.Common.{eqb-true}
 use Rattle.std.proofs.lemmas.Bool.{false≢true}
 use Rattle.std.proofs.lemmas.Bool.Decides.{nat_tests}
@@ -99,17 +99,7 @@ pub record AreGoodRows (pua : List (ℕ × ℕ × ℕ)) : Type 0 where
 -- if a lead and a trail have a scalar, they decode to it
 pub pair_has : (index : List ℕ) (lead trail c : ℕ) → is_empty (gb18030_scalars index lead trail) ≡ false
     → gb18030_scalars index lead trail ≡ get_or (gb18030_scalars index lead trail) 0 c ∷ []
-pair_has index lead trail c h = by_tests _ _ (is_in_range 0x40 0x7E trail) (is_in_range 0x80 0xFE trail) h
-  where
-    alone : (o : Option ℕ) → is_empty (option_to_list o) ≡ false → option_to_list o ≡ get_or (option_to_list o) 0 c ∷ []
-    alone None h = cc
-    alone (Some s) h = refl
-
-    by_tests : (x y : Option ℕ) (t u : Bool) → is_empty (cond t (option_to_list x) (cond u (option_to_list y) [])) ≡ false
-        → cond t (option_to_list x) (cond u (option_to_list y) []) ≡ get_or (cond t (option_to_list x) (cond u (option_to_list y) [])) 0 c ∷ []
-    by_tests x y true u h = alone x h
-    by_tests x y false true h = alone y h
-    by_tests x y false false h = cc
+pair_has index lead trail c h = grind arith
 
 -- a row whose bytes have a scalar decodes to it
 row_back : (index : List ℕ) (ranges : List (ℕ × ℕ)) (lead trail c : ℕ) (more : List ℕ) → are_row_bytes lead trail ≡ true →
@@ -206,9 +196,6 @@ module _ (index : List ℕ) (ranges : List (ℕ × ℕ)) (pua : List (ℕ × ℕ
   or_nothing None = refl
   or_nothing (Some pair) = refl
 
-  nothing_else : (c : ℕ) (bytes : List ℕ) → None ≡ Some bytes → Decodes (gb18030_front index ranges) bytes c
-  nothing_else c bytes h = cc
-
   pub gbk-decodes : (c : ℕ) (bytes : List ℕ) → has_lost_row index pua c ≡ false
       → gbk_code index pua c ≡ Some bytes → Decodes (gb18030_front index ranges) bytes (private_use_scalar index pua c)
   unfolding gbk_code gb18030_front
@@ -223,4 +210,4 @@ module _ (index : List ℕ) (ranges : List (ℕ × ℕ)) (pua : List (ℕ × ℕ
           let c_is = eqb-true c 0x20AC f in
           let plain : is_row_scalar c ≡ false = rw c_is refl in
           rw (no_row c plain) (one_byte (gb18030_front index ranges) 0x80 c bytes (cc) (λ more. rw c_is refl))
-      by_tests false false false e f h = pair_or c bytes None kept (nothing_else c bytes) (or_nothing (gb18030_pair_code pua index c) ∙ h)
+      by_tests false false false e f h = pair_or c bytes None kept (λ n. cc) (or_nothing (gb18030_pair_code pua index c) ∙ h)

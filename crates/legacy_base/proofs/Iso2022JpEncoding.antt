@@ -1,100 +1,61 @@
 -- The events of a text in ISO-2022-JP, scalar by scalar: the escape to the scalar's mode, its own bytes, and then the
 -- rest of the text from that mode.
 use Rattle.std.proofs.Common.{◌≡◌, ◌∙◌, ℕ, ◌/◌, ◌%◌, ◌+◌, ◌≤◌, List, [], ◌∷◌, ◌++◌, map, refl, sym, ap}
-use Rattle.std.proofs.Common.{arith, append_assoc, Bool, true, false, ◌||◌, ◌&&◌, not, Some, None, Option, cond, eqb, option_map, is_none}
+use Rattle.std.proofs.Common.{arith, append_assoc, Bool, true, false, ◌||◌, Some, None, Option, cond, eqb, option_map}
 use Rattle.std.specs.Char.{is_ascii}
-use Rattle.std.proofs.lemmas.Bool.{ne_eqb}
+use Rattle.std.proofs.lemmas.Bool.{cond_both, ne_eqb}
 use borrow.Author.Tests.{ltb-true}
 use Rattle.legacy_base.specs.declared.results.EncodeEvent.{EncodeEvent}
 use Rattle.legacy_base.specs.declared.results.EncodeEvent.TheVariants.{Byte}
 use Rattle.legacy_base.specs.EncodeEvents.{code_events, code_length}
 use Rattle.legacy_base.specs.EncoderProfile.{EncoderMode, in_ascii, in_roman, in_two_byte}
 use Rattle.legacy_base.specs.Iso2022Jp.{is_mode_control, iso_2022_jp_pointer_of, iso_2022_jp_pair, iso_2022_jp_code, iso_2022_jp_reported, is_roman_scalar}
-use Rattle.legacy_base.specs.Iso2022Jp.{is_pair}
 use Rattle.legacy_base.specs.Iso2022Jp.{is_two_byte_scalar, keeps_mode, roman_or_ascii, settled_mode, mode_behind, escape_to, escape_between}
 use Rattle.legacy_base.specs.Iso2022Jp.{iso_2022_jp_text_events}
 
--- ---- the rules for the code of a scalar c
-
-abbrev by_rules : ℕ → (control is_ascii_byte yen overline : Bool) → Option (List ℕ) → Option (List ℕ)
-by_rules c control is_ascii_byte yen overline pair =
-    cond control None (cond is_ascii_byte (Some (c ∷ [])) (cond yen (Some (0x5C ∷ [])) (cond overline (Some (0x7E ∷ [])) pair)))
-
-pair_settles_by : (c : ℕ) (control is_ascii_byte yen overline special : Bool) (pair : Option (List ℕ))
-    → is_pair (by_rules c control is_ascii_byte yen overline pair) ≡ true
-    → (((is_ascii_byte && not (special || control)) || is_none (by_rules c control is_ascii_byte yen overline pair)) ≡ false) × ((yen || overline) ≡ false)
-pair_settles_by c true is_ascii_byte yen overline special pair h = cc
-pair_settles_by c false true yen overline special pair h = cc
-pair_settles_by c false false true overline special pair h = cc
-pair_settles_by c false false false true special pair h = cc
-pair_settles_by c false false false false special None h = cc
-pair_settles_by c false false false false special (Some bytes) h = (refl, refl)
-
 -- ---- modes
-
--- a settled mode is Roman or ASCII
-settled_twice : (keeps romans : Bool) (mode : EncoderMode) → roman_or_ascii mode ≡ mode
-    → roman_or_ascii (cond keeps mode (cond romans in_roman in_ascii)) ≡ cond keeps mode (cond romans in_roman in_ascii)
-settled_twice true romans mode e = e
-settled_twice false true mode e = refl
-settled_twice false false mode e = refl
 
 roman_or_ascii-twice : (mode : EncoderMode) → roman_or_ascii (roman_or_ascii mode) ≡ roman_or_ascii mode
 roman_or_ascii-twice in_ascii = refl
-roman_or_ascii-twice in_roman = refl
-roman_or_ascii-twice in_two_byte = refl
+roman_or_ascii-twice _ = refl
 
 pub escape_between-same : (mode : EncoderMode) → escape_between mode mode ≡ []
 escape_between-same in_ascii = refl
-escape_between-same in_roman = refl
-escape_between-same in_two_byte = refl
+escape_between-same _ = refl
 
 pub escape_between-other : (mode new : EncoderMode) → (mode ≡ new → ⊥) → escape_between mode new ≡ escape_to new
 escape_between-other in_ascii in_ascii n = absurd (n refl)
-escape_between-other in_ascii in_roman n = refl
-escape_between-other in_ascii in_two_byte n = refl
-escape_between-other in_roman in_ascii n = refl
 escape_between-other in_roman in_roman n = absurd (n refl)
-escape_between-other in_roman in_two_byte n = refl
-escape_between-other in_two_byte in_ascii n = refl
-escape_between-other in_two_byte in_roman n = refl
 escape_between-other in_two_byte in_two_byte n = absurd (n refl)
+escape_between-other _ _ n = refl
 
 -- the mode after one scalar, by three tests of the scalar
 abbrev pub mode_by : (pair keeps romans : Bool) → EncoderMode → EncoderMode
 mode_by pair keeps romans mode = cond pair in_two_byte (cond keeps (roman_or_ascii mode) (cond romans in_roman in_ascii))
 
 mode_by-twice : (pair keeps romans : Bool) (mode : EncoderMode) → mode_by pair keeps romans (mode_by pair keeps romans mode) ≡ mode_by pair keeps romans mode
-mode_by-twice true keeps romans mode = refl
-mode_by-twice false true romans mode = roman_or_ascii-twice mode
-mode_by-twice false false romans mode = refl
+mode_by-twice pair keeps romans mode = grind (arith, roman_or_ascii-twice mode)
 
 module _ (jis0208 katakana_index : List ℕ) where
   -- a scalar written as a pair determines the mode, and is not a scalar of Roman mode
   pair_settles : (c : ℕ) → is_two_byte_scalar jis0208 katakana_index c ≡ true → (keeps_mode jis0208 katakana_index c ≡ false) × (is_roman_scalar c ≡ false)
   unfolding iso_2022_jp_code
-  pair_settles c h =
-      pair_settles_by c (is_mode_control c) (is_ascii c) (eqb c 0xA5) (eqb c 0x203E) (eqb c 0x5C || eqb c 0x7E)
-      (option_map iso_2022_jp_pair (iso_2022_jp_pointer_of jis0208 katakana_index c)) h
+  pair_settles c h = grind arith
 
   settled_mode-settled : (mode : EncoderMode) (before : List ℕ)
       → roman_or_ascii (settled_mode jis0208 katakana_index mode before) ≡ settled_mode jis0208 katakana_index mode before
   unfolding settled_mode
   settled_mode-settled mode [] = roman_or_ascii-twice mode
-  settled_mode-settled mode (c ∷ before) =
-      settled_twice (keeps_mode jis0208 katakana_index c) (is_roman_scalar c) (settled_mode jis0208 katakana_index mode before)
-      (settled_mode-settled mode before)
+  settled_mode-settled mode (c ∷ before) = let settled = settled_mode-settled mode before in grind arith
 
   settled_mode-behind : (mode : EncoderMode) (before : List ℕ)
       → settled_mode jis0208 katakana_index mode before ≡ roman_or_ascii (mode_behind jis0208 katakana_index mode before)
   unfolding mode_behind settled_mode
   settled_mode-behind mode [] = refl
-  settled_mode-behind mode (c ∷ before) = go (is_two_byte_scalar jis0208 katakana_index c) refl
-    where
-      go : (t : Bool) → is_two_byte_scalar jis0208 katakana_index c ≡ t → settled_mode jis0208 katakana_index mode (c ∷ before)
-          ≡ roman_or_ascii (cond t in_two_byte (settled_mode jis0208 katakana_index mode (c ∷ before)))
-      go true h = let settles = pair_settles c h in rw (settles.0, settles.1) refl
-      go false h = sym (settled_mode-settled mode (c ∷ before))
+  settled_mode-behind mode (c ∷ before) =
+      let settled : EncoderMode = settled_mode jis0208 katakana_index mode (c ∷ before) in
+      cond_both (is_two_byte_scalar jis0208 katakana_index c) in_two_byte settled (λ m. settled ≡ roman_or_ascii m)
+      (λ h. let settles = pair_settles c h in rw (settles.0, settles.1) refl) (λ h. sym (settled_mode-settled mode (c ∷ before)))
 
   -- the mode after two parts is the mode after the second, begun in the mode after the first
   settled_mode-append : (mode : EncoderMode) (second first : List ℕ) → settled_mode jis0208 katakana_index mode (second ++ first)
@@ -199,30 +160,17 @@ module _ (jis0208 katakana_index : List ℕ) where
 
   pub at_control : (mode : EncoderMode) (c : ℕ) → is_mode_control c ≡ true → IsWritten mode c (roman_or_ascii mode) None
   unfolding iso_2022_jp_code
-  at_control mode c t = record {
-    mode_is = mode_for-by mode c ∙ rw t (keeping _ _);
-    code_is = rw t refl;
-  }
-    where
-      keeping : (n : Bool) (x : EncoderMode) → cond (n || true) (roman_or_ascii mode) x ≡ roman_or_ascii mode
-      keeping true x = refl
-      keeping false x = refl
+  at_control mode c t = record { mode_is = mode_for-by mode c ∙ rw t (grind arith); code_is = rw t refl }
 
   pub at_special : (mode : EncoderMode) (c : ℕ) → is_mode_control c ≡ false → is_ascii c ≡ true → (eqb c 0x5C || eqb c 0x7E) ≡ true
       → IsWritten mode c in_ascii (Some (c ∷ []))
   unfolding iso_2022_jp_code
-  at_special mode c f t s = let a = ascii_apart c t in record {
-    mode_is = mode_for-by mode c ∙ rw (f, t, s, a.0, a.1) refl;
-    code_is = rw (f, t) refl;
-  }
+  at_special mode c f t s = let a = ascii_apart c t in record { mode_is = mode_for-by mode c ∙ rw (f, t, s, a.0, a.1) refl; code_is = rw (f, t) refl }
 
   pub at_neutral : (mode : EncoderMode) (c : ℕ) → is_mode_control c ≡ false → is_ascii c ≡ true → (eqb c 0x5C || eqb c 0x7E) ≡ false
       → IsWritten mode c (roman_or_ascii mode) (Some (c ∷ []))
   unfolding iso_2022_jp_code
-  at_neutral mode c f t s = record {
-    mode_is = mode_for-by mode c ∙ rw (f, t, s) refl;
-    code_is = rw (f, t) refl;
-  }
+  at_neutral mode c f t s = record { mode_is = mode_for-by mode c ∙ rw (f, t, s) refl; code_is = rw (f, t) refl }
 
   pub at_yen : (mode : EncoderMode) (c : ℕ) → c ≡ 0xA5 → IsWritten mode c in_roman (Some (0x5C ∷ []))
   unfolding iso_2022_jp_code
@@ -239,30 +187,16 @@ module _ (jis0208 katakana_index : List ℕ) where
 
   pub at_pair : (mode : EncoderMode) (c p : ℕ) → is_mode_control c ≡ false → is_ascii c ≡ false → (c ≡ 0xA5 → ⊥) → (c ≡ 0x203E → ⊥)
       → iso_2022_jp_pointer_of jis0208 katakana_index c ≡ Some p → IsWritten mode c in_two_byte (Some ((p / 94 + 0x21) ∷ (p % 94 + 0x21) ∷ []))
-  at_pair mode c p f a y o e = let k = code-looked_up c f a y o ∙ ap (option_map iso_2022_jp_pair) e in record {
-    mode_is = mode_for-by mode c ∙ rw k refl;
-    code_is = k;
-  }
+  at_pair mode c p f a y o e =
+      let k = code-looked_up c f a y o ∙ ap (option_map iso_2022_jp_pair) e in record { mode_is = mode_for-by mode c ∙ rw k refl; code_is = k }
 
   pub at_none : (mode : EncoderMode) (c : ℕ) → is_mode_control c ≡ false → is_ascii c ≡ false → (c ≡ 0xA5 → ⊥) → (c ≡ 0x203E → ⊥)
       → iso_2022_jp_pointer_of jis0208 katakana_index c ≡ None → IsWritten mode c (roman_or_ascii mode) None
-  at_none mode c f a y o e = let k = code-looked_up c f a y o ∙ ap (option_map iso_2022_jp_pair) e in record {
-    mode_is = mode_for-by mode c ∙ rw (k, a) refl;
-    code_is = k;
-  }
+  at_none mode c f a y o e =
+      let k = code-looked_up c f a y o ∙ ap (option_map iso_2022_jp_pair) e in record { mode_is = mode_for-by mode c ∙ rw (k, a) refl; code_is = k }
 
   -- ---- the lengths of codes
 
-  if_short : (t : Bool) (a b : Option (List ℕ)) (n : ℕ) → code_length a ≤ n → code_length b ≤ n → code_length (cond t a b) ≤ n
-  if_short true a b n p q = p
-  if_short false a b n p q = q
-
-  pair_short : (o : Option ℕ) → code_length (option_map iso_2022_jp_pair o) ≤ 2
-  pair_short None = omega arith
-  pair_short (Some p) = omega arith
-
   pub code-short : (c : ℕ) → code_length (iso_2022_jp_code jis0208 katakana_index c) ≤ 2
   unfolding iso_2022_jp_code
-  code-short c =
-      if_short (is_mode_control c) _ _ 2 (omega arith) (if_short (is_ascii c) _ _ 2 (omega arith) (if_short (eqb c 0xA5) _ _ 2 (omega arith)
-      (if_short (eqb c 0x203E) _ _ 2 (omega arith) (pair_short (iso_2022_jp_pointer_of jis0208 katakana_index c)))))
+  code-short c = grind arith

@@ -1,12 +1,11 @@
 -- The parts of a list that is cut before its escape bytes: the bytes up to the first escape byte, and the parts after
 -- them. The events of a list are given by these two.
-use Rattle.std.proofs.Common.{◌≡◌, ℕ, ◌+◌, Bool, true, false, cond, None, List, [], ◌∷◌, ◌++◌, drop, length, refl, add_assoc, zero-add, add-zero}
-use Rattle.std.specs.Prelude.{◌==◌, ◌&&◌, unwrap_or, is_some}
+use Rattle.std.proofs.Common.{arith, ◌≡◌, ℕ, ◌+◌, true, false, cond, None, List, [], ◌∷◌, ◌++◌, drop, length, refl, add_assoc, zero-add, add-zero}
+use Rattle.std.specs.Prelude.{◌==◌, unwrap_or}
 use Rattle.std.proofs.lemmas.Bool.{cond_both}
-use Rattle.legacy_base.specs.declared.results.DecodeEvent.TheVariants.{Bad}
 use Rattle.legacy_base.specs.Events.{shift}
 use Rattle.legacy_base.specs.Fronts.{cut}
-use Rattle.legacy_base.specs.Iso2022Jp.{Mode, esc, parts_of, part_mode, escape_length, begins_valid, iso_2022_jp_front, escape_events, part_events}
+use Rattle.legacy_base.specs.Iso2022Jp.{Mode, esc, parts_of, part_mode, escape_length, iso_2022_jp_front, escape_events, part_events}
 use Rattle.legacy_base.specs.Iso2022Jp.{parts_events, iso_2022_jp_events}
 use Rattle.legacy_base.proofs.Shifts.{shift-append}
 use Rattle.legacy_base.proofs.Cuts.{cut-place}
@@ -59,13 +58,7 @@ first_events jis0208 mode place bytes next =
 escape_events-shift : (k place : ℕ) (part : List ℕ) (next : List (List ℕ)) → escape_events (k + place) part next ≡ shift k (escape_events place part next)
 unfolding escape_events
 escape_events-shift k place [] next = refl
-escape_events-shift k place (b ∷ part) next = by_tests (is_some (part_mode (b ∷ part))) (b == esc) (length (b ∷ part) == 3 && begins_valid next)
-  where
-    by_tests : (valid escapes bare : Bool) → cond valid (cond bare (Bad (k + place) 3 ∷ []) []) (cond escapes (Bad (k + place) 1 ∷ []) [])
-        ≡ shift k (cond valid (cond bare (Bad place 3 ∷ []) []) (cond escapes (Bad place 1 ∷ []) []))
-    by_tests true _ true = refl
-    by_tests false true _ = refl
-    by_tests _ _ _ = refl
+escape_events-shift k place (b ∷ part) next = grind arith
 
 part_events-shift : (jis0208 : List ℕ) (mode : Mode) (k place : ℕ) (part : List ℕ) (next : List (List ℕ))
     → part_events jis0208 mode (k + place) part next ≡ shift k (part_events jis0208 mode place part next)

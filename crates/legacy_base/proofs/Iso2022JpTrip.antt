@@ -1,9 +1,9 @@
 -- The output of an ISO-2022-JP encoder decodes to its text. The escapes give no events, and each code is read in the
 -- mode in which it was written.
 use Rattle.std.proofs.Common.{◌≡◌, ℕ, ◌+◌, ◌-◌, ◌*◌, ◌/◌, ◌%◌, ◌<◌, List, [], ◌∷◌, ◌++◌, map, length, Bool, true, false}
-use Rattle.std.proofs.Common.{cond, ◌||◌, ◌&&◌, ◌==◌, Option, Some, None, is_some, option_and_then, inl, inr, refl, sym, ap, ◌∙◌, append_assoc, length-append}
+use Rattle.std.proofs.Common.{cond, ◌||◌, ◌==◌, Option, Some, None, is_some, option_and_then, inl, inr, refl, sym, ap, ◌∙◌, append_assoc, length-append}
 use Rattle.std.proofs.Common.{arith}
-use Rattle.std.proofs.lemmas.Bool.{or_parts, cases_eq, true≢false}
+use Rattle.std.proofs.lemmas.Bool.{and_right, or_parts, cases_eq, true≢false}
 use Rattle.std.proofs.lemmas.Bool.Decides.{nat_tests}
 use Rattle.std.proofs.Math.Nat.{div-add-mod}
 use Rattle.std.proofs.lemmas.Nat.{mod_below}
@@ -20,7 +20,7 @@ use Rattle.legacy_tables.specs.Pointers.{is_jis0208_pointer, euc_jp_pointer_of}
 use Rattle.legacy_base.specs.EncoderProfile.{EncoderMode, in_ascii, in_roman, in_two_byte}
 use Rattle.legacy_base.specs.Iso2022Jp.{Mode, ascii, roman, two_byte, esc, escape_mode, part_mode, iso_2022_jp_front, iso_2022_jp_events, is_whole_escape}
 use Rattle.legacy_base.specs.Iso2022Jp.{is_mode_control, iso_2022_jp_fold, iso_2022_jp_pointer_of, iso_2022_jp_pair, iso_2022_jp_code, iso_2022_jp_reported}
-use Rattle.legacy_base.specs.Iso2022Jp.{is_neutral_scalar, is_roman_scalar, roman_or_ascii, escape_between}
+use Rattle.legacy_base.specs.Iso2022Jp.{roman_or_ascii, escape_between}
 use Rattle.legacy_base.specs.Encoders.{iso_2022_jp}
 use Rattle.legacy_base.specs.RoundTrips.{is_fold, read_as, bytes_of, holds_adjacent_escapes}
 use Rattle.legacy_base.proofs.Shifts.{shift-zero, shift-append, shift-shift, shift-scalars}
@@ -50,11 +50,7 @@ unfolding part_mode
 escape_begins [] = refl
 escape_begins (e ∷ []) = refl
 escape_begins (e ∷ a ∷ []) = refl
-escape_begins (e ∷ a ∷ b ∷ bytes) = by_test (e == esc)
-  where
-    by_test : (t : Bool) → is_some (cond t (escape_mode a b) None) ≡ (t && is_some (escape_mode a b))
-    by_test true = refl
-    by_test false = refl
+escape_begins (e ∷ a ∷ b ∷ bytes) = grind arith
 
 -- A property of the bytes between two modes, which are none or one escape.
 between : (P : EncoderMode → EncoderMode → List ℕ → Type 0) → ((mode : EncoderMode) → P mode mode [])
@@ -97,14 +93,6 @@ module _ (jis0208 : List ℕ) where
   unfolding iso_2022_jp_front
   front-roman c rest a m e f = rw (a, m, e, f) refl
 
-  front-yen : (rest : List ℕ) → iso_2022_jp_front jis0208 roman 0x5C rest ≡ reads 1 (0xA5 ∷ [])
-  unfolding iso_2022_jp_front
-  front-yen rest = refl
-
-  front-overline : (rest : List ℕ) → iso_2022_jp_front jis0208 roman 0x7E rest ≡ reads 1 (0x203E ∷ [])
-  unfolding iso_2022_jp_front
-  front-overline rest = refl
-
   -- the facts about the two bytes of pointer p, which decode to c
   record IsPair (p c : ℕ) : Type 0 where
     first_plain : ((p / 94 + 0x21) == esc) ≡ false
@@ -139,11 +127,7 @@ adjacent-escape : (a b : ℕ) (rest : List ℕ) → (a == esc) ≡ false → (b 
     → holds_adjacent_escapes (esc ∷ a ∷ b ∷ rest) ≡ holds_adjacent_escapes rest
 unfolding holds_adjacent_escapes
 adjacent-escape a b rest ha hb h =
-    rw (h, plain_start a (b ∷ rest) ha, plain_start b rest hb) (by_test (is_some (escape_mode a b)))
-  where
-    by_test : (t : Bool) → ((t && false) || holds_adjacent_escapes rest) ≡ holds_adjacent_escapes rest
-    by_test true = refl
-    by_test false = refl
+    rw (h, plain_start a (b ∷ rest) ha, plain_start b rest hb, and_right (is_some (escape_mode a b)) false refl) refl
 
 escape_adjacent : (old new : EncoderMode) (rest : List ℕ) → is_whole_escape rest ≡ false →
     holds_adjacent_escapes (escape_between old new ++ rest) ≡ holds_adjacent_escapes rest
@@ -201,10 +185,7 @@ module _ (jis0208 katakana_index : List ℕ) where
   -- a scalar with a known mode and code
   own_written : (mode new : EncoderMode) (c scalar : ℕ) (own bytes : List ℕ) → IsWritten jis0208 katakana_index mode c new (Some own)
       → code c ≡ Some bytes → OwnRead new scalar own → OwnRead (mode_of mode c) scalar bytes
-  own_written mode new c scalar own bytes w is o = let same = same_code (sym w.code_is ∙ is) in rw (w.mode_is, ← same) o
-    where
-      same_code : Some own ≡ Some bytes → own ≡ bytes
-      same_code h = cc
+  own_written mode new c scalar own bytes w is o = let code_is = sym w.code_is ∙ is in let same : own ≡ bytes = cc in rw (w.mode_is, ← same) o
 
   -- a scalar known to have no code
   no_code : (mode new : EncoderMode) (c : ℕ) (bytes : List ℕ) → IsWritten jis0208 katakana_index mode c new None → code c ≡ Some bytes → ⊥
@@ -238,6 +219,7 @@ module _ (jis0208 katakana_index : List ℕ) where
 
   -- the code of a scalar decodes to `own_scalar`, in the scalar's mode
   own_read : (mode : EncoderMode) (c : ℕ) (bytes : List ℕ) → code c ≡ Some bytes → OwnRead (mode_of mode c) (own_scalar c) bytes
+  unfolding iso_2022_jp_front
   own_read mode c bytes is = by_tests (is_mode_control c) (is_ascii c) (c == 0x5C || c == 0x7E) refl refl refl
     where
       by_pointer : (o : Option ℕ) → is_mode_control c ≡ false → is_ascii c ≡ false → (c ≡ 0xA5 → ⊥) → (c ≡ 0x203E → ⊥)
@@ -252,10 +234,10 @@ module _ (jis0208 katakana_index : List ℕ) where
       past_ascii : is_mode_control c ≡ false → is_ascii c ≡ false → OwnRead (mode_of mode c) (own_scalar c) bytes
       past_ascii m a = elim (cases_eq c 0xA5) [
         | inl e ↦ own_written mode in_roman c (own_scalar c) _ bytes (at_yen jis0208 katakana_index mode c e) is
-            (rw e (own_byte in_roman 0xA5 0x5C refl (λ rest. front-yen jis0208 rest)))
+            (rw e (own_byte in_roman 0xA5 0x5C refl (λ rest. refl)))
         | inr y ↦ elim (cases_eq c 0x203E) [
           | inl e ↦ own_written mode in_roman c (own_scalar c) _ bytes (at_overline jis0208 katakana_index mode c e) is
-              (rw e (own_byte in_roman 0x203E 0x7E refl (λ rest. front-overline jis0208 rest)))
+              (rw e (own_byte in_roman 0x203E 0x7E refl (λ rest. refl)))
           | inr v ↦ by_pointer (iso_2022_jp_pointer_of jis0208 katakana_index c) m a y v refl
         ]
       ]
@@ -274,11 +256,7 @@ module _ (jis0208 katakana_index : List ℕ) where
 
   -- the mode for a scalar without a code
   pub none_keeps : (mode : EncoderMode) (c : ℕ) → code c ≡ None → mode_of mode c ≡ roman_or_ascii mode
-  none_keeps mode c none = mode_for-by jis0208 katakana_index mode c ∙ rw none (kept (is_neutral_scalar c))
-    where
-      kept : (t : Bool) → cond (t || true) (roman_or_ascii mode) (cond (is_roman_scalar c) in_roman in_ascii) ≡ roman_or_ascii mode
-      kept true = refl
-      kept false = refl
+  none_keeps mode c none = mode_for-by jis0208 katakana_index mode c ∙ rw none (grind arith)
 
   -- ---- texts
 
@@ -442,8 +420,7 @@ module _ (jis0208 katakana_index : List ℕ) where
   apart-end : (mode : EncoderMode) → holds_adjacent_escapes (escape_between mode in_ascii) ≡ false
   unfolding holds_adjacent_escapes
   apart-end in_ascii = refl
-  apart-end in_roman = refl
-  apart-end in_two_byte = refl
+  apart-end _ = refl
 
   pub text_apart : (mode : EncoderMode) (text bytes : List ℕ) → sent mode text ≡ map Byte bytes → IsApart text bytes
   text_apart mode [] bytes e =

@@ -1,8 +1,10 @@
 -- The text that encoded bytes decode to is encoded as the same bytes.
-use Rattle.std.proofs.Common.{◌≡◌, ◌∙◌, ℕ, suc, List, [], ◌∷◌, ◌++◌, map, refl, sym, ap, arith, All}
+use Rattle.std.proofs.Common.{◌≡◌, ◌∙◌, ℕ, List, [], ◌∷◌, ◌++◌, map, refl, sym, ap, arith, All}
 use Rattle.std.proofs.Common.{Bool, true, false, cond, ◌==◌, Option, Some, None, is_some, option_map, eqb-true}
 use Rattle.std.proofs.lemmas.Bool.{true≢false}
+use Rattle.std.proofs.lemmas.Bool.Decides.{nat_tests}
 use Rattle.std.proofs.lemmas.List.{map-append}
+use Rattle.std.proofs.lemmas.List.Elements.{All-head, All-tail}
 use Rattle.std.specs.Char.{is_ascii}
 use Rattle.legacy_base.specs.declared.results.EncodeEvent.{EncodeEvent}
 use Rattle.legacy_base.specs.declared.results.EncodeEvent.TheVariants.{Byte}
@@ -22,18 +24,10 @@ use Rattle.legacy_base.specs.Encoders.{Codec, single_byte, user_defined, big5, e
 use Rattle.legacy_base.specs.RoundTrips.{japanese_scalar, private_use_scalar, read_as, read_back, bytes_of, written, holds_adjacent_escapes, IsSound}
 use Rattle.legacy_base.specs.RoundTrips.{KeepsCodes, HasSameCode, ReencodesAnyText}
 use Rattle.legacy_base.proofs.Trips.{coded, bytes_of-nothing, bytes_of-behind, bytes_of-unmappable}
-use Rattle.legacy_base.proofs.TwoByteTrips.{no_japanese_fold}
 use Rattle.legacy_base.proofs.Iso2022JpEncoding.{mode_by, mode_for, mode_for-by, text_events, text_events-scalar, text_events-escape, text_events-end}
 use Rattle.legacy_base.proofs.Iso2022JpTrip.{own_scalar, ascii_stands, none_keeps, coded_here, text_back, text_bytes, scalar_bytes, text_bytes-scalar}
 use Rattle.legacy_base.proofs.Iso2022JpTrip.{text_bytes-end, apart_behind, escape_apart}
 use Rattle.legacy_base.proofs.RoundTrips.{same_scalars, encodes_well_formed}
-
--- a property of all scalars of a text holds for the first one and for the rest
-first_of : (P : ℕ → Type 0) (c : ℕ) (text : List ℕ) → All P (c ∷ text) → P c
-first_of P c text all = all 0 0 (omega arith)
-
-others_of : (P : ℕ → Type 0) (c : ℕ) (text : List ℕ) → All P (c ∷ text) → All P text
-others_of P c text all = λ k d h. all (suc k) d (omega arith)
 
 -- ---- codecs without modes
 
@@ -43,7 +37,7 @@ unfolding plain_events
 plain-again code read [] same = rw bytes_of-nothing refl
 plain-again code read (c ∷ text) same =
     let P : ℕ → Type 0 = λ c. (bytes : List ℕ) → code c ≡ Some bytes → code (read c) ≡ Some bytes in
-    by_code (code c) refl (first_of P c text same) (plain-again code read text (others_of P c text same))
+    by_code (code c) refl (All-head P c text same) (plain-again code read text (All-tail P c text same))
   where
     by_code : (o : Option (List ℕ)) → code c ≡ o → ((bytes : List ℕ) → code c ≡ Some bytes → code (read c) ≡ Some bytes)
         → plain_events code (map read (coded code text)) ≡ map Byte (bytes_of (plain_events code text))
@@ -57,13 +51,7 @@ plain-again code read (c ∷ text) same =
 -- the scalar that a fold decodes to has the code of the fold
 folded-same : (code : ℕ → Option (List ℕ)) → code 0x5C ≡ code 0xA5 → code 0x7E ≡ code 0x203E → code 0xFF0D ≡ code 0x2212 → (c : ℕ) →
     code (japanese_scalar c) ≡ code c
-folded-same code yen overline minus c = by_tests (c == 0xA5) (c == 0x203E) (c == 0x2212) refl refl refl
-  where
-    by_tests : (y o m : Bool) → (c == 0xA5) ≡ y → (c == 0x203E) ≡ o → (c == 0x2212) ≡ m → code (japanese_scalar c) ≡ code c
-    by_tests true o m e f g = rw (eqb-true c 0xA5 e) yen
-    by_tests false true m e f g = rw (eqb-true c 0x203E f) overline
-    by_tests false false true e f g = rw (eqb-true c 0x2212 g) minus
-    by_tests false false false e f g = ap code (no_japanese_fold c (rw (e, f, g) refl))
+folded-same code yen overline minus c = grind (arith, nat_tests)
 
 shift_jis-same : (jis0208 : List ℕ) (c : ℕ) → shift_jis_code jis0208 (japanese_scalar c) ≡ shift_jis_code jis0208 c
 unfolding shift_jis_code
@@ -77,10 +65,7 @@ euc_jp-same jis0208 = folded-same (euc_jp_code jis0208) refl refl refl
 
 -- a scalar that is written in ASCII mode after ASCII mode is also written in ASCII mode after two-byte mode
 back_to_ascii : (pair keeps romans : Bool) → mode_by pair keeps romans in_ascii ≡ in_ascii → mode_by pair keeps romans in_two_byte ≡ in_ascii
-back_to_ascii true keeps romans h = cc
-back_to_ascii false true romans h = refl
-back_to_ascii false false true h = cc
-back_to_ascii false false false h = refl
+back_to_ascii pair keeps romans h = grind arith
 
 module _ (jis0208 katakana_index : List ℕ) where
   abbrev code : ℕ → Option (List ℕ)
@@ -150,8 +135,8 @@ module _ (jis0208 katakana_index : List ℕ) where
   late_escape [] same h =
       rw (text_events-end jis0208 katakana_index in_two_byte, text_events-end jis0208 katakana_index in_ascii) refl
   late_escape (c ∷ text) same h =
-      by_code (code c) refl (mode_of in_ascii c) refl (first_of SameHere c text same)
-      (late_escape text (others_of SameHere c text same))
+      by_code (code c) refl (mode_of in_ascii c) refl (All-head SameHere c text same)
+      (late_escape text (All-tail SameHere c text same))
       (rw (text_bytes-scalar jis0208 katakana_index in_ascii c text) at h)
     where
       by_code : (o : Option (List ℕ)) → code c ≡ o → (new : EncoderMode) → mode_of in_ascii c ≡ new → SameHere c
@@ -179,9 +164,9 @@ module _ (jis0208 katakana_index : List ℕ) where
       → sent mode (back text) ≡ map Byte (bytes_from mode text)
   iso_2022_jp-again mode [] same h = rw (text_bytes-end jis0208 katakana_index mode) (text_events-end jis0208 katakana_index mode)
   iso_2022_jp-again mode (c ∷ text) same h =
-      let others = others_of SameHere c text same in
+      let others = All-tail SameHere c text same in
       rw (text_bytes-scalar jis0208 katakana_index mode c text)
-      (by_code (code c) refl (mode_of mode c) refl (first_of SameHere c text same) others
+      (by_code (code c) refl (mode_of mode c) refl (All-head SameHere c text same) others
       (iso_2022_jp-again (mode_of mode c) text others)
       (rw (text_bytes-scalar jis0208 katakana_index mode c text) at h))
     where

@@ -123,15 +123,12 @@ coded_all (iso_2022_jp jis0208 katakana_index) text bytes h = (text_apart jis020
 
 -- a scalar that is no fold decodes to itself
 stands : (codec : Codec) (c : ℕ) → is_fold codec c ≡ false → read_as codec c ≡ c
-stands (single_byte table) c h = refl
-stands user_defined c h = refl
-stands (big5 index) c h = refl
-stands (euc_kr index) c h = refl
 stands (shift_jis jis0208) c h = no_japanese_fold c h
 stands (euc_jp jis0208 jis0212) c h = no_japanese_fold c h
 stands (gb18030 index ranges pua) c h = (no_private_use_fold index pua c h).0
 stands (gbk index ranges pua) c h = (no_private_use_fold index pua c h).0
 stands (iso_2022_jp jis0208 katakana_index) c h = no_fold jis0208 katakana_index c h
+stands _ c h = refl
 
 all_stand : (codec : Codec) (text : List ℕ) → list_any (is_fold codec) text ≡ false → map (read_as codec) text ≡ text
 all_stand codec [] none = refl
@@ -158,16 +155,11 @@ pub escapes_stay_apart : EscapesStayApart
 escapes_stay_apart jis0208 katakana_index text bytes h = (text_apart jis0208 katakana_index in_ascii text bytes h).apart
 
 sound : (codec : Codec) (text bytes : List ℕ) → IsEncodedAs codec text bytes → IsSound codec text
-sound (single_byte table) text bytes t = tt
-sound user_defined text bytes t = tt
-sound (big5 index) text bytes t = tt
-sound (euc_kr index) text bytes t = tt
-sound (shift_jis jis0208) text bytes t = tt
-sound (euc_jp jis0208 jis0212) text bytes t = tt
 sound (gb18030 index ranges pua) text bytes t = none_has_lost_row index pua text t.unfolded
 sound (gbk index ranges pua) text bytes t = none_has_lost_row index pua text t.unfolded
 sound (iso_2022_jp jis0208 katakana_index) text bytes t =
     rw (written_is (iso_2022_jp jis0208 katakana_index) text bytes t.whole) (escapes_stay_apart jis0208 katakana_index text bytes t.whole)
+sound _ text bytes t = tt
 
 pub round_trips : RoundTrips
 round_trips codec accepted text bytes t =

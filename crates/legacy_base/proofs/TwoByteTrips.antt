@@ -1,9 +1,9 @@
 -- The codes of Big5, EUC-KR, Shift_JIS, EUC-JP, the single-byte codecs and x-user-defined decode to their scalars. The
 -- codes of folds decode to other scalars (`read_as`).
 use Rattle.std.proofs.Common.{◌≡◌, ◌≢◌, ℕ, ◌+◌, ◌-◌, ◌*◌, ◌/◌, ◌%◌, ◌<◌, ◌≤◌, List, [], ◌∷◌, length, Bool, true, false}
-use Rattle.std.proofs.Common.{cond, ◌||◌, ◌==◌, nat_lt, nat_le, Option, Some, None, option_map, option_to_list, position, get_or, refl, sym, ap, ◌∙◌, arith}
-use Rattle.std.proofs.Common.{if◌then◌else◌}
-use Rattle.std.proofs.lemmas.Bool.{and_parts, or_parts, leb-true, ne_eqb, eqb-true, true≢false}
+use Rattle.std.proofs.Common.{cond, ◌||◌, ◌==◌, nat_lt, Option, Some, None, option_map, option_to_list, position, get_or, refl, sym, ◌∙◌, arith}
+use Rattle.std.proofs.Common.{if◌then◌else◌, inl, inr}
+use Rattle.std.proofs.lemmas.Bool.{cases_Bool, cond_both, or_parts, leb-true, ne_eqb, eqb-true, true≢false}
 use Rattle.std.proofs.lemmas.Bool.Decides.{nat_tests}
 use Rattle.std.proofs.lemmas.List.Quantifiers.{position-Some}
 use Rattle.std.proofs.Math.Nat.{div-add-mod}
@@ -51,30 +51,19 @@ ascii_or_mapped : (front : ℕ → List ℕ → Front) (c : ℕ) (bytes : List �
     → (is_ascii c ≡ true → (more : List ℕ) → front c more ≡ reads 1 (c ∷ []))
     → (is_ascii c ≡ false → (p : ℕ) → pointer ≡ Some p → bytes ≡ made p → Decodes front bytes c)
     → cond (is_ascii c) (Some (c ∷ [])) (option_map made pointer) ≡ Some bytes → Decodes front bytes c
-ascii_or_mapped front c bytes made pointer one mapping = by_test (is_ascii c) refl
-  where
-    by_test : (t : Bool) → is_ascii c ≡ t → cond t (Some (c ∷ [])) (option_map made pointer) ≡ Some bytes → Decodes front bytes c
-    by_test true e h = one_byte front c c bytes (same_bytes c bytes h) (one e)
-    by_test false e h = let m = mapped made pointer bytes h in mapping e m.0 m.1 m.2
+ascii_or_mapped front c bytes made pointer one mapping h = elim (cases_Bool (is_ascii c)) [
+  | inl e ↦ one_byte front c c bytes (same_bytes c bytes (rw e at h)) (one e)
+  | inr e ↦ let m = mapped made pointer bytes (rw e at h) in mapping e m.0 m.1 m.2
+]
 
 -- ---- Big5
 
 big5_back : (q r : ℕ) → r < 157 → (t : Bool) → nat_lt r 0x3F ≡ t → big5_pointer (q + 0x81) (r + cond t 0x40 0x62) ≡ Some (157 * q + r)
-big5_back q r h true e =
-    let low : is_in_range 0x40 0x7E (r + 0x40) ≡ true = grind (arith, nat_tests) in
-    rw low (ap Some (omega arith))
-big5_back q r h false e =
-    let low : is_in_range 0x40 0x7E (r + 0x62) ≡ false = grind (arith, nat_tests) in
-    let high : is_in_range 0xA1 0xFE (r + 0x62) ≡ true = grind (arith, nat_tests) in
-    rw (low, high) (ap Some (omega arith))
+big5_back q r h true e = grind (arith, nat_tests)
+big5_back q r h false e = grind (arith, nat_tests)
 
 big5_scalar : (index : List ℕ) (p c : ℕ) → 5024 ≤ p → idx index p ≡ Some c → big5_scalars index p ≡ c ∷ []
-big5_scalar index p c h has =
-    let a : (p == 1133) ≡ false = grind (arith, nat_tests) in
-    let b : (p == 1135) ≡ false = grind (arith, nat_tests) in
-    let d : (p == 1164) ≡ false = grind (arith, nat_tests) in
-    let e : (p == 1166) ≡ false = grind (arith, nat_tests) in
-    rw (a, b, d, e, has) refl
+big5_scalar index p c h has = grind (arith, nat_tests)
 
 big5_pair_back : (index : List ℕ) (p c : ℕ) (more : List ℕ) → length index ≤ 19782 → LeadsBack is_big5_pointer index c p
     → big5_front index (p / 157 + 0x81) ((p % 157 + (if nat_lt (p % 157) 0x3F then 0x40 else 0x62)) ∷ more) ≡ reads 2 (c ∷ [])
@@ -128,34 +117,21 @@ shift_jis_lead_back : (q : ℕ) → q < 60 → (t : Bool) → nat_lt q 0x1F ≡ 
     × (is_in_range 0xA1 0xDF (q + cond t 0x81 0xC1) ≡ false)
     × (is_shift_jis_lead (q + cond t 0x81 0xC1) ≡ true)
     × (shift_jis_lead_part (q + cond t 0x81 0xC1) ≡ q)
-shift_jis_lead_back q h true e =
-    let low : is_in_range 0x81 0x9F (q + 0x81) ≡ true = grind (arith, nat_tests) in
-    (grind (arith, nat_tests), grind (arith, nat_tests), rw low refl, rw low (omega arith))
-shift_jis_lead_back q h false e =
-    let low : is_in_range 0x81 0x9F (q + 0xC1) ≡ false = grind (arith, nat_tests) in
-    let high : is_in_range 0xE0 0xFC (q + 0xC1) ≡ true = grind (arith, nat_tests) in
-    (grind (arith, nat_tests), grind (arith, nat_tests), rw (low, high) refl, rw low (omega arith))
+shift_jis_lead_back q h true e = grind (arith, nat_tests)
+shift_jis_lead_back q h false e = grind (arith, nat_tests)
 
 shift_jis_back : (lead q r : ℕ) → r < 188 → shift_jis_lead_part lead ≡ q → (t : Bool) → nat_lt r 0x3F ≡ t
     → shift_jis_pointer lead (r + cond t 0x40 0x41) ≡ Some (188 * q + r)
-shift_jis_back lead q r h part true e =
-    let low : is_in_range 0x40 0x7E (r + 0x40) ≡ true = grind (arith, nat_tests) in
-    rw (low, part) (ap Some (omega arith))
-shift_jis_back lead q r h part false e =
-    let low : is_in_range 0x40 0x7E (r + 0x41) ≡ false = grind (arith, nat_tests) in
-    let high : is_in_range 0x80 0xFC (r + 0x41) ≡ true = grind (arith, nat_tests) in
-    rw (low, high, part) (ap Some (omega arith))
+shift_jis_back lead q r h part true e = rw part (grind (arith, nat_tests))
+shift_jis_back lead q r h part false e = rw part (grind (arith, nat_tests))
 
 -- the pointers that decode to private use have empty entries
 pub record PrivateUseIsEmpty (jis0208 : List ℕ) : Type 0 where
   pub empty : (p : ℕ) → is_in_range 8836 10715 p ≡ true → idx jis0208 p ≡ None
 
 shift_jis_scalar : (jis0208 : List ℕ) (p c : ℕ) → PrivateUseIsEmpty jis0208 → idx jis0208 p ≡ Some c → shift_jis_scalars jis0208 p ≡ c ∷ []
-shift_jis_scalar jis0208 p c empty has = by_test (is_in_range 8836 10715 p) refl
-  where
-    by_test : (t : Bool) → is_in_range 8836 10715 p ≡ t → cond t ((0xE000 + (p - 8836)) ∷ []) (option_to_list (idx jis0208 p)) ≡ c ∷ []
-    by_test true e = let none = empty.empty p e in cc
-    by_test false e = rw has refl
+shift_jis_scalar jis0208 p c empty has =
+    cond_both (is_in_range 8836 10715 p) _ (option_to_list (idx jis0208 p)) (λ l. l ≡ c ∷ []) (λ e. let none = empty.empty p e in cc) (λ e. rw has refl)
 
 shift_jis_pair_back : (jis0208 : List ℕ) (p c : ℕ) (more : List ℕ) → length jis0208 ≤ 11280 → PrivateUseIsEmpty jis0208 →
     LeadsBack is_shift_jis_pointer jis0208 c p
@@ -178,10 +154,6 @@ no_japanese_fold c h =
     let q = or_parts (c == 0xA5) (c == 0x203E) p.0 in
     rw (q.0, q.1, p.1) refl
 
--- half-width katakana
-half_width : (c : ℕ) → is_in_range 0xFF61 0xFF9F c ≡ true → (0xFF61 ≤ c) × (c ≤ 0xFF9F)
-half_width c h = let p = and_parts (nat_le 0xFF61 c) (nat_le c 0xFF9F) h in (leb-true 0xFF61 c p.0, leb-true c 0xFF9F p.1)
-
 pub shift_jis-decodes : (jis0208 : List ℕ) (c : ℕ) (bytes : List ℕ) → length jis0208 ≤ 11280 → PrivateUseIsEmpty jis0208
     → shift_jis_code jis0208 c ≡ Some bytes → Decodes (shift_jis_front jis0208) bytes (japanese_scalar c)
 unfolding shift_jis_code shift_jis_front
@@ -198,11 +170,10 @@ shift_jis-decodes jis0208 c bytes short empty h =
     by_tests false true o u e f g k h = rw f (one_byte (shift_jis_front jis0208) 0x5C 0x5C bytes (same_bytes 0x5C bytes h) (λ more. refl))
     by_tests false false true u e f g k h = rw (f, g) (one_byte (shift_jis_front jis0208) 0x7E 0x7E bytes (same_bytes 0x7E bytes h) (λ more. refl))
     by_tests false false false true e f g k h =
-        let within = half_width c k in
         let plain : is_japanese_fold c ≡ false = grind (arith, nat_tests) in
         let a : (is_ascii (0xA1 + (c - 0xFF61)) || (0xA1 + (c - 0xFF61)) == 0x80) ≡ false = grind (arith, nat_tests) in
         let b : is_in_range 0xA1 0xDF (0xA1 + (c - 0xFF61)) ≡ true = grind (arith, nat_tests) in
-        let c_is : 0xFF61 + (0xA1 + (c - 0xFF61) - 0xA1) ≡ c = omega arith in
+        let c_is : 0xFF61 + (0xA1 + (c - 0xFF61) - 0xA1) ≡ c = grind (arith, nat_tests) in
         rw (no_japanese_fold c plain) (one_byte (shift_jis_front jis0208) (0xA1 + (c - 0xFF61)) c bytes (same_bytes _ bytes h) (λ more. rw (a, b, c_is) refl))
     by_tests false false false false e f g k h =
         let looked_up = minus_as_hyphen c in
@@ -245,10 +216,9 @@ euc_jp-decodes jis0208 jis0212 c bytes h =
     by_tests false true o u e f g k h = rw f (one_byte (euc_jp_front jis0208 jis0212) 0x5C 0x5C bytes (same_bytes 0x5C bytes h) (λ more. refl))
     by_tests false false true u e f g k h = rw (f, g) (one_byte (euc_jp_front jis0208 jis0212) 0x7E 0x7E bytes (same_bytes 0x7E bytes h) (λ more. refl))
     by_tests false false false true e f g k h =
-        let within = half_width c k in
         let plain : is_japanese_fold c ≡ false = grind (arith, nat_tests) in
         let b : is_in_range 0xA1 0xDF (0xA1 + (c - 0xFF61)) ≡ true = grind (arith, nat_tests) in
-        let c_is : 0xFF61 + (0xA1 + (c - 0xFF61) - 0xA1) ≡ c = omega arith in
+        let c_is : 0xFF61 + (0xA1 + (c - 0xFF61) - 0xA1) ≡ c = grind (arith, nat_tests) in
         let bytes_are : bytes ≡ 0x8E ∷ (0xA1 + (c - 0xFF61)) ∷ [] = cc in
         rw (no_japanese_fold c plain) (two_bytes (euc_jp_front jis0208 jis0212) 0x8E (0xA1 + (c - 0xFF61)) c bytes bytes_are (λ more. rw (b, c_is) refl))
     by_tests false false false false e f g k h =
@@ -284,9 +254,7 @@ user_defined-decodes c bytes h = by_tests (is_ascii c) (is_in_range 0xF780 0xF7F
         → cond t (Some (c ∷ [])) (cond u (Some ((0x80 + (c - 0xF780)) ∷ [])) None) ≡ Some bytes → Decodes user_defined_front bytes c
     by_tests true u e f h = one_byte user_defined_front c c bytes (same_bytes c bytes h) (λ more. rw e refl)
     by_tests false true e f h =
-        let p = and_parts (nat_le 0xF780 c) (nat_le c 0xF7FF) f in
-        let low = leb-true 0xF780 c p.0 in
         let a : is_ascii (0x80 + (c - 0xF780)) ≡ false = grind (arith, nat_tests) in
-        let c_is : 0xF780 + (0x80 + (c - 0xF780) - 0x80) ≡ c = omega arith in
+        let c_is : 0xF780 + (0x80 + (c - 0xF780) - 0x80) ≡ c = grind (arith, nat_tests) in
         one_byte user_defined_front (0x80 + (c - 0xF780)) c bytes (same_bytes _ bytes h) (λ more. rw (a, c_is) refl)
     by_tests false false e f h = cc

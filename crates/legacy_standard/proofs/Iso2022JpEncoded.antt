@@ -171,14 +171,7 @@ module _ (index katakana_index : List ℕ) where
         }
 
     looked_other : (c : ℕ) → Past c → (c == 0x2212) ≡ false → is_in_range 0xFF61 0xFF9F c ≡ false → Looked c
-    looked_other c p m r = record {
-      set = c;
-      set_is = rw (m, r) refl;
-      pointer_is = rw (r, m) refl;
-      again = p;
-      set_again = rw (m, r) refl;
-      same = λ e. refl;
-    }
+    looked_other c p m r = record { set = c; set_is = rw (m, r) refl; pointer_is = rw (r, m) refl; again = p; set_again = rw (m, r) refl; same = λ e. refl }
 
     looked : (c : ℕ) → Past c → Looked c
     looked c p = by_tests (c == 0x2212) (is_in_range 0xFF61 0xFF9F c) refl refl

@@ -1,10 +1,10 @@
-use Rattle.std.proofs.Common.{◌≡◌, ◌∙◌, ℕ, ◌+◌, ◌-◌, ◌/◌, ◌%◌, ◌≤◌, ◌<◌, Bool, true, false, List, [], ◌∷◌, ◌++◌, length, Some, None, nat_lt, inl, inr, refl}
+use Rattle.std.proofs.Common.{◌≡◌, ◌∙◌, ℕ, ◌+◌, ◌-◌, ◌/◌, ◌%◌, ◌≤◌, ◌<◌, true, false, List, [], ◌∷◌, ◌++◌, length, Some, None, nat_lt, inl, inr, refl}
 use Rattle.std.proofs.Common.{sym, ap, subst, arith}
-use Rattle.std.specs.Prelude.{replicate, slice_index, option_map, ◌&&◌}
+use Rattle.std.specs.Prelude.{replicate, slice_index, option_map}
 use Rattle.std.specs.Int.{is_in_range}
 use Rattle.std.proofs.lemmas.List.{get_or-replicate, get_or-append_right, length-replicate, length-append}
 use Rattle.std.proofs.Math.ListN.{get_or-append}
-use Rattle.std.proofs.lemmas.Bool.{cases_lt}
+use Rattle.std.proofs.lemmas.Bool.{and_right, cases_lt}
 use Rattle.std.proofs.lemmas.Bool.Decides.{nat_tests}
 use borrow.Author.Tests.{lt-ltb, le-ltb}
 use Rattle.legacy_base.specs.declared.results.EncodeEvent.{EncodeEvent}
@@ -78,13 +78,9 @@ entry_pointer n =
 
 entry_past : (n : ℕ) → 8836 ≤ n → euc_jp_pointer_of (entry_at n 0x4E00) 0x4E00 ≡ None
 entry_past n past = first-none is_jis0208_pointer (entry_at n 0x4E00) 0x4E00 (λ k h. elim (cases_lt k n) [
-  | inl l ↦ let empty = slice-before n 0x4E00 k l in rw empty (and-false (is_jis0208_pointer k))
+  | inl l ↦ let empty = slice-before n 0x4E00 k l in rw empty (and_right (is_jis0208_pointer k) false refl)
   | inr r ↦ let out : nat_lt k 8836 ≡ false = le-ltb k 8836 (omega arith) in rw out refl
 ])
-  where
-    and-false : (t : Bool) → (t && false) ≡ false
-    and-false true = refl
-    and-false false = refl
 
 past_rows : (n : ℕ) → 8836 ≤ n → Parts (by_scalar (euc_jp_encodes (entry_at n 0x4E00))) tt (codecs.euc_jp (entry_at n 0x4E00) []) 0x4E00
     (Byte (n / 94 + 0xA1) ∷ Byte (n % 94 + 0xA1) ∷ []) (Unmappable 0x4E00 ∷ [])
