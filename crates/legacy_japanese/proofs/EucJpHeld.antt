@@ -1,5 +1,6 @@
 -- The EUC-JP decoder holds back only what its machine may hold back, and its moves are the machine's.
-use Rattle.std.proofs.Common.{◌≡◌, ◌≢◌, ◌∙◌, ℕ, ◌+◌, ◌-◌, ◌*◌, ◌/◌, ◌%◌, ◌^◌, ◌<◌, ◌≤◌, ◌&&◌, List, [], ◌∷◌, length, get_or, option_to_list, Bool, true, false, cond, ◌==◌, refl, ap, arith}
+use Rattle.std.proofs.Common.{◌≡◌, ◌≢◌, ℕ, ◌+◌, ◌-◌, ◌*◌, ◌/◌, ◌%◌, ◌^◌, ◌<◌, List, [], ◌∷◌, length, get_or, true, false}
+use Rattle.std.proofs.Common.{◌==◌, refl, arith}
 use Rattle.std.proofs.lemmas.Bool.{cond_both}
 use Rattle.std.proofs.lemmas.Bool.Decides.{nat_tests}
 use Rattle.std.proofs.lemmas.List.{nil_from_length}
@@ -7,7 +8,6 @@ use Rattle.std.proofs.lemmas.List.Elements.{All-nil, All-cons}
 use Rattle.std.specs.{Int.is_in_range, Char.IsScalar, Char.is_ascii}
 use Rattle.legacy_base.specs.EucJp.{euc_jp_scalars}
 use Rattle.legacy_tables.specs.AcceptedTables.{AcceptedIndexes}
-use Rattle.legacy_tables.specs.Indexes.{idx}
 use Rattle.legacy_tables.specs.Unicode.{IsByte, AreBytes}
 use Rattle.legacy_base.specs.Fronts.{malformed}
 use Rattle.legacy_base.specs.Calls.{IsLoneFault}
@@ -16,7 +16,8 @@ use Rattle.legacy_base.specs.Grammar.{Grammar, euc_jp, events_of}
 use Rattle.legacy_base.specs.States.{is_euc_jp_lead, euc_jp_may_hold, state_of}
 use Rattle.legacy_tables.proofs.Accepted.{jis0208-below, jis0212-below, jis0208-scalars, length-jis0208}
 use Rattle.legacy_decoder_engine.specs.Moves.{IsCovered, Feeds, Reports}
-use Rattle.legacy_decoder_engine.specs.{declared.moves.Fed.Fed, Costs.IsNarrowIndex, Feeding.Took, Shown.IsShown, Ahead.Runs, Ahead.HasAscii, Ahead.IsPair, LaneRows.row_place}
+use Rattle.legacy_decoder_engine.specs.{declared.moves.Fed.Fed, Costs.IsNarrowIndex, Feeding.Took, Shown.IsShown, Ahead.Runs, Ahead.HasAscii, Ahead.IsPair}
+use Rattle.legacy_decoder_engine.specs.{LaneRows.row_place}
 use Rattle.legacy_decoder_engine.proofs.Feeding as moves
 use Rattle.legacy_decoder_engine.proofs.{RunForms.pair_runs, RunForms.has_ascii, RunForms.ascii_is, Widths.idx_below, LanePlaces.entry_is}
 use Rattle.legacy_japanese.specs.declared.euc_jp.{decoder.Held.Held, lead.EucJpLead.EucJpLead}
@@ -24,11 +25,8 @@ use Rattle.legacy_japanese.specs.declared.euc_jp.decoder.Held.TheVariants.{Nothi
 use Rattle.legacy_japanese.specs.{EucJpHeld.held_bytes, EucJpMachine.euc_jp_first, EucJpMachine.euc_jp_step, EucJpMachine.euc_jp_machine}
 use Rattle.legacy_japanese.proofs.EucJpShown.{euc_jp_shown}
 
-lead_is : (b : ℕ) → 0xA1 ≤ b → b ≤ 0xFE → (is_euc_jp_lead b ≡ true) × ((b == 0x8E) ≡ false) × ((b == 0x8F) ≡ false) × (b < 2 ^ 8)
-lead_is b low high = (grind (arith, nat_tests), grind (arith, nat_tests), grind (arith, nat_tests), omega arith)
-
 of_lead : (lead : EucJpLead) → (is_euc_jp_lead lead.byte ≡ true) × ((lead.byte == 0x8E) ≡ false) × ((lead.byte == 0x8F) ≡ false) × (lead.byte < 2 ^ 8)
-of_lead lead = lead_is lead.byte lead.low lead.high
+of_lead lead = grind (arith, nat_tests)
 
 may : (held : Held) → euc_jp_may_hold (held_bytes held) ≡ true
 may (Lead lead) = rw ((of_lead lead).0, (of_lead lead).1, (of_lead lead).2) refl
@@ -48,7 +46,7 @@ are_bytes (Jis0212Lead lead) = All-cons IsByte 0x8F (lead.byte ∷ []) (omega ar
 -- ---- pairs
 
 lead_other : (b : ℕ) → is_euc_jp_lead b ≡ true → (is_ascii b ≡ false) × ((b == 0x8E) ≡ false) × ((b == 0x8F) ≡ false)
-lead_other b is = (grind (arith, nat_tests), grind (arith, nat_tests), grind (arith, nat_tests))
+lead_other b is = grind (arith, nat_tests)
 
 pair_below : (index : List ℕ) (lead trail c : ℕ) → IsNarrowIndex index → euc_jp_scalars index lead trail ≡ c ∷ [] → c < 0x1_0000
 pair_below index lead trail c narrow e =
@@ -72,7 +70,8 @@ module _ (tables : AcceptedIndexes) where
   covered held = moves.covered shown (held_bytes held) (may held) (are_bytes held)
 
   pub feeds : (held : Held) (b : ℕ) → IsByte b → (fed : Fed) (kept : List ℕ) →
-      Took (euc_jp_step tables.flat.jis0208 tables.flat.jis0212 (held_bytes held) b) (held_bytes held) b fed kept → Feeds (state_of g (held_bytes held)) b (state_of g kept) fed
+      Took (euc_jp_step tables.flat.jis0208 tables.flat.jis0212 (held_bytes held) b) (held_bytes held) b fed kept →
+      Feeds (state_of g (held_bytes held)) b (state_of g kept) fed
   feeds held b byte fed kept took = moves.feeds shown (held_bytes held) (may held) (are_bytes held) b byte refl fed kept took
 
   pub reports : (held : Held) → held_bytes held ≢ [] → Reports (state_of g (held_bytes held)) (state_of g []) (length (held_bytes held)) 0
@@ -91,7 +90,8 @@ module _ (tables : AcceptedIndexes) where
   ascii = has_ascii shown (λ b. refl) (λ b h. let a = ascii_is b h in rw a refl)
 
   -- a pair of JIS X 0208 that gives one scalar
-  pub pair : (lead trail c : ℕ) → IsByte lead → IsByte trail → IsScalar c → is_euc_jp_lead lead ≡ true → euc_jp_scalars tables.flat.jis0208 lead trail ≡ c ∷ [] →
+  pub pair : (lead trail c : ℕ) → IsByte lead → IsByte trail → IsScalar c → is_euc_jp_lead lead ≡ true →
+      euc_jp_scalars tables.flat.jis0208 lead trail ≡ c ∷ [] →
       (c < 0x1_0000) × Runs g (lead ∷ trail ∷ []) (c ∷ [])
   pair lead trail c byte byte' scalar is e =
       let other = lead_other lead is in (
@@ -101,23 +101,14 @@ module _ (tables : AcceptedIndexes) where
       )
 
   -- the same of a code of two bytes, by the entry at its place
-  pub lane_pair : (code : ℕ) → code < 0x1_0000 → row_place 0xA1 0x5D 0xA1 0x5D 94 code < length tables.flat.jis0208 → get_or tables.flat.jis0208 (row_place 0xA1 0x5D 0xA1 0x5D 94 code) 0 ≢ 0
-      → IsScalar (get_or tables.flat.jis0208 (row_place 0xA1 0x5D 0xA1 0x5D 94 code) 0) × IsPair g (code % 0x100) (code / 0x100) (get_or tables.flat.jis0208 (row_place 0xA1 0x5D 0xA1 0x5D 94 code) 0)
-  lane_pair code small within some = go (is_in_range 0xA1 0xFE (code % 256)) (is_in_range 0xA1 0xFE (code / 256)) refl refl within some
-    where
-      index : List ℕ
-      index = tables.flat.jis0208
-
-      p : ℕ
-      p = (code % 256 - 0xA1) * 94 + (code / 256 - 0xA1)
-
-      short : length tables.flat.jis0208 ≤ 11280
-      short = length-jis0208 tables.flat tables.accepted
-
-      go : (s t : Bool) → is_in_range 0xA1 0xFE (code % 256) ≡ s → is_in_range 0xA1 0xFE (code / 256) ≡ t → cond (s && t) p 65535 < length index → get_or index (cond (s && t) p 65535) 0 ≢ 0
-          → IsScalar (get_or index (cond (s && t) p 65535) 0) × IsPair g (code % 256) (code / 256) (get_or index (cond (s && t) p 65535) 0)
-      go true true e f within some =
-          let scalar : IsScalar (get_or index p 0) = jis0208-scalars tables.flat tables.accepted p 0 within in
-          (scalar, pair (code % 256) (code / 256) (get_or index p 0) (omega arith) (omega arith) scalar e (ap (λ t. cond t (option_to_list (idx index p)) []) f ∙ entry_is (get_or index p 0) some))
-      go true false e f within some = absurd (omega (arith, within, short))
-      go false t e f within some = absurd (omega (arith, within, short))
+  pub lane_pair : (code : ℕ) → code < 0x1_0000 → row_place 0xA1 0x5D 0xA1 0x5D 94 code < length tables.flat.jis0208 →
+      get_or tables.flat.jis0208 (row_place 0xA1 0x5D 0xA1 0x5D 94 code) 0 ≢ 0 → IsScalar (get_or tables.flat.jis0208 (row_place 0xA1 0x5D 0xA1 0x5D 94 code) 0)
+      × IsPair g (code % 0x100) (code / 0x100) (get_or tables.flat.jis0208 (row_place 0xA1 0x5D 0xA1 0x5D 94 code) 0)
+  lane_pair code small within some =
+      let short = length-jis0208 tables.flat tables.accepted in
+      let both : (is_in_range 0xA1 0xFE (code % 256) ≡ true) × (is_in_range 0xA1 0xFE (code / 256) ≡ true) = grind (arith, short) in
+      let p : ℕ = (code % 256 - 0xA1) * 94 + (code / 256 - 0xA1) in
+      let scalar : IsScalar (get_or tables.flat.jis0208 p 0) = jis0208-scalars tables.flat tables.accepted p 0 (rw (both.0, both.1) at within) in
+      let found = entry_is (get_or tables.flat.jis0208 p 0) (rw (both.0, both.1) at some) in
+      let runs = pair (code % 256) (code / 256) (get_or tables.flat.jis0208 p 0) (omega arith) (omega arith) scalar both.0 (rw both.1 found) in
+      rw (both.0, both.1) (scalar, runs)

@@ -11,15 +11,15 @@ use Rattle.legacy_base.specs.{Acts.act_room, Acts.takes, Lengths.to_utf16}
 use Rattle.legacy_base.specs.States.{is_euc_jp_lead, euc_jp_may_hold, state_of}
 use Rattle.legacy_base.proofs.Cuts.{cut-nil}
 use Rattle.legacy_base.proofs.FrontLaws.{euc_jp_front-of}
-use Rattle.legacy_decoder_engine.specs.Steps.{Step, finish, leave, end_events, trail_step, Meets}
+use Rattle.legacy_decoder_engine.specs.Steps.{Step, end_events, trail_step, Meets}
 use Rattle.legacy_decoder_engine.specs.Costs.{units, IsWidth, IsNarrowIndex, Cost}
 use Rattle.legacy_decoder_engine.specs.Settling.{IsOneOrMarked, Settles}
 use Rattle.legacy_decoder_engine.specs.Shown.{IsShown}
 use Rattle.legacy_decoder_engine.proofs.FrontMoves.{Fits, fits_trail, fits_meets, end_meets, report_meets}
 use Rattle.legacy_decoder_engine.proofs.{CallUnderWay.same_rooms, Widths.narrow_idx_units}
 use Rattle.legacy_decoder_engine.proofs.RoomMoves.{first_room, held_room_is, HasCosts, IsSloped, sloped_rooms}
-use Rattle.legacy_decoder_engine.proofs.TwoByteCosts.{units_test, katakana_below}
-use Rattle.legacy_decoder_engine.proofs.SettledSteps.{one_test, one_option, trail_settles}
+use Rattle.legacy_decoder_engine.proofs.TwoByteCosts.{katakana_below}
+use Rattle.legacy_decoder_engine.proofs.SettledSteps.{one_option, trail_settles}
 use Rattle.legacy_japanese.specs.EucJpMachine.{euc_jp_first, euc_jp_second_step, euc_jp_step, euc_jp_machine}
 
 -- ---- the scalars of a sequence
@@ -33,25 +33,19 @@ none_small : IsSmall []
 none_small = record { one = tt; fits = λ len narrow wide w. omega arith }
 
 pair_small : (index : List ℕ) (lead b : ℕ) → IsNarrowIndex index → IsSmall (euc_jp_scalars index lead b)
-pair_small index lead b h = record {
-  one = one_test false (is_in_range 0xA1 0xFE b) _ [] (one_option false _) tt;
-  fits = λ len narrow wide w. units_test len narrow wide w narrow (is_in_range 0xA1 0xFE b) _ []
-      (λ e. narrow_idx_units len narrow wide w index ((lead - 0xA1) * 94 + (b - 0xA1)) h) (λ e. omega arith);
-}
+pair_small index lead b h = cond_both (is_in_range 0xA1 0xFE b) _ [] IsSmall
+    (λ e. record { one = one_option false _; fits = λ len narrow wide w. narrow_idx_units len narrow wide w index ((lead - 0xA1) * 94 + (b - 0xA1)) h })
+    (λ e. none_small)
 
 one_cost : (len : ℕ → ℕ) (narrow lead b : ℕ) (scalars : List ℕ) → narrow ≤ 3 → units len scalars ≤ narrow
     → Cost len narrow narrow euc_jp_weight 3 (lead ∷ []) b (trail_step 1 scalars b)
 one_cost len narrow lead b (c ∷ scalars) m h = record { fits = h; pays = omega arith; pays_without = omega arith }
-one_cost len narrow lead b [] m h = cond_both (is_ascii b) (leave 1) (finish (malformed 2)) (Cost len narrow narrow euc_jp_weight 3 (lead ∷ []) b)
-    (λ a. record { fits = omega arith; pays = omega arith; pays_without = omega arith })
-    (λ a. record { fits = omega arith; pays = omega arith; pays_without = omega arith })
+one_cost len narrow lead b [] m h = record { fits = grind arith; pays = grind arith; pays_without = grind arith }
 
 two_cost : (len : ℕ → ℕ) (narrow first lead b : ℕ) (scalars : List ℕ) → narrow ≤ 3 → units len scalars ≤ narrow
     → Cost len narrow narrow euc_jp_weight 3 (first ∷ lead ∷ []) b (trail_step 2 scalars b)
 two_cost len narrow first lead b (c ∷ scalars) m h = record { fits = h; pays = omega arith; pays_without = omega arith }
-two_cost len narrow first lead b [] m h = cond_both (is_ascii b) (leave 2) (finish (malformed 3)) (Cost len narrow narrow euc_jp_weight 3 (first ∷ lead ∷ []) b)
-    (λ a. record { fits = omega arith; pays = omega arith; pays_without = omega arith })
-    (λ a. record { fits = omega arith; pays = omega arith; pays_without = omega arith })
+two_cost len narrow first lead b [] m h = record { fits = grind arith; pays = grind arith; pays_without = grind arith }
 
 -- the room that a byte needs
 abbrev most : List ℕ → ℕ → ℕ → ℕ
@@ -65,17 +59,10 @@ module _ (jis0208 jis0212 : List ℕ) where
     settles : Settles (euc_jp jis0208 jis0212) held b s
     costs : (len : ℕ → ℕ) (narrow wide : ℕ) → IsWidth len narrow wide → Cost len narrow (most held b narrow) euc_jp_weight 3 held b s
 
-  -- ---- the first front after each byte that may be held back
+  -- ---- the front after a lead
 
-  front_katakana : (b : ℕ) (rest : List ℕ) → (b == 0x8E) ≡ true → euc_jp_front jis0208 jis0212 b rest ≡ euc_jp_katakana rest
-  unfolding euc_jp_front
-  front_katakana b rest e = rw (eqb-true b 0x8E e)
-
-  front_second : (b : ℕ) (rest : List ℕ) → (b == 0x8F) ≡ true → euc_jp_front jis0208 jis0212 b rest ≡ euc_jp_second jis0212 rest
-  unfolding euc_jp_front
-  front_second b rest f = rw (eqb-true b 0x8F f)
-
-  front_pair : (b : ℕ) (rest : List ℕ) → (b == 0x8E) ≡ false → (b == 0x8F) ≡ false → is_euc_jp_lead b ≡ true → euc_jp_front jis0208 jis0212 b rest ≡ euc_jp_pair jis0208 b rest
+  front_pair : (b : ℕ) (rest : List ℕ) → (b == 0x8E) ≡ false → (b == 0x8F) ≡ false → is_euc_jp_lead b ≡ true →
+      euc_jp_front jis0208 jis0212 b rest ≡ euc_jp_pair jis0208 b rest
   unfolding euc_jp_front
   front_pair b rest e f l = let a : is_ascii b ≡ false = grind (arith, nat_tests) in rw (a, e, f, l)
 
@@ -87,7 +74,8 @@ module _ (jis0208 jis0212 : List ℕ) where
       (λ a. record {
         fits = (λ more. rw a, omega arith, omega arith, refl);
         settles = (refl, tt);
-        costs = λ len narrow wide w. let e : len b ≡ 1 = w.ascii b (ltb-true b 0x80 a) in record { fits = rw a (omega arith); pays = omega arith; pays_without = omega arith };
+        costs = λ len narrow wide w. let e : len b ≡ 1 = w.ascii b (ltb-true b 0x80 a) in
+            record { fits = rw a (omega arith); pays = omega arith; pays_without = omega arith };
       })
       (λ a. cond_both ((b == 0x8E || b == 0x8F) || is_euc_jp_lead b) _ _ (Shows [] b)
       (λ l. record {
@@ -112,16 +100,16 @@ module _ (jis0208 jis0212 : List ℕ) where
 
   -- a byte after one held-back byte
   second_shows : IsNarrowIndex jis0208 → (lead b : ℕ) → euc_jp_may_hold (lead ∷ []) ≡ true → Shows (lead ∷ []) b (euc_jp_second_step jis0208 lead b)
-  unfolding euc_jp_katakana euc_jp_second euc_jp_pair
+  unfolding euc_jp_front euc_jp_katakana euc_jp_second euc_jp_pair
   second_shows narrow_index lead b h = cond_both (lead == 0x8E) _ _ (Shows (lead ∷ []) b)
       (λ e. cond_both (is_katakana_byte b) _ _ (Shows (lead ∷ []) b)
       (λ k. record {
-        fits = (λ more. front_katakana lead (b ∷ more) e ∙ rw k, omega arith, omega arith, refl);
+        fits = (λ more. rw (eqb-true lead 0x8E e, k), omega arith, omega arith, refl);
         settles = (refl, tt);
         costs = λ len narrow wide w. let l = katakana_below b k in let q : len (katakana_of b) ≤ narrow = w.bmp (katakana_of b) (omega arith) in
             record { fits = omega arith; pays = omega arith; pays_without = omega arith };
       })
-      (λ k. one_shows lead b [] none_small (λ more. front_katakana lead (b ∷ more) e ∙ rw k)))
+      (λ k. one_shows lead b [] none_small (λ more. rw (eqb-true lead 0x8E e, k))))
       (λ e. cond_both (lead == 0x8F) _ _ (Shows (lead ∷ []) b)
       (λ f. cond_both (is_euc_jp_lead b) _ _ (Shows (lead ∷ []) b)
       (λ l. record {
@@ -129,22 +117,25 @@ module _ (jis0208 jis0212 : List ℕ) where
         settles = refl;
         costs = λ len narrow wide w. record { fits = omega arith; pays = omega arith; pays_without = omega arith };
       })
-      (λ l. one_shows lead b [] none_small (λ more. front_second lead (b ∷ more) f ∙ rw l)))
-      (λ f. one_shows lead b (euc_jp_scalars jis0208 lead b) (pair_small jis0208 lead b narrow_index) (λ more. front_pair lead (b ∷ more) e f (rw (e, f) at h))))
+      (λ l. one_shows lead b [] none_small (λ more. rw (eqb-true lead 0x8F f, l))))
+      (λ f. one_shows lead b (euc_jp_scalars jis0208 lead b) (pair_small jis0208 lead b narrow_index)
+      (λ more. front_pair lead (b ∷ more) e f (rw (e, f) at h))))
 
   -- a byte after two held-back bytes
-  third_shows : IsNarrowIndex jis0212 → (first lead b : ℕ) → euc_jp_may_hold (first ∷ lead ∷ []) ≡ true → Shows (first ∷ lead ∷ []) b (trail_step 2 (euc_jp_scalars jis0212 lead b) b)
-  unfolding euc_jp_second euc_jp_third
+  third_shows : IsNarrowIndex jis0212 → (first lead b : ℕ) → euc_jp_may_hold (first ∷ lead ∷ []) ≡ true →
+      Shows (first ∷ lead ∷ []) b (trail_step 2 (euc_jp_scalars jis0212 lead b) b)
+  unfolding euc_jp_front euc_jp_second euc_jp_third
   third_shows narrow_index first lead b h =
       let p = and_parts (first == 0x8F) (is_euc_jp_lead lead) h in
       let small = pair_small jis0212 lead b narrow_index in record {
         fits = fits_trail (euc_jp_front jis0208 jis0212) euc_jp_may_hold (first ∷ lead ∷ []) (euc_jp_scalars jis0212 lead b) b refl (omega arith)
-            (λ more. front_second first (lead ∷ b ∷ more) p.0 ∙ rw p.1);
+            (λ more. rw (eqb-true first 0x8F p.0, p.1));
         settles = trail_settles (euc_jp jis0208 jis0212) (first ∷ lead ∷ []) b (euc_jp_scalars jis0212 lead b) small.one;
         costs = λ len narrow wide w. two_cost len narrow first lead b (euc_jp_scalars jis0212 lead b) w.most (small.fits len narrow wide w);
       }
 
-  step_shows : IsNarrowIndex jis0208 → IsNarrowIndex jis0212 → (held : List ℕ) (b : ℕ) → euc_jp_may_hold held ≡ true → Shows held b (euc_jp_step jis0208 jis0212 held b)
+  step_shows : IsNarrowIndex jis0208 → IsNarrowIndex jis0212 → (held : List ℕ) (b : ℕ) → euc_jp_may_hold held ≡ true →
+      Shows held b (euc_jp_step jis0208 jis0212 held b)
   step_shows n m [] b h = first_shows b
   step_shows n m (lead ∷ []) b h = second_shows n lead b h
   step_shows n m (first ∷ lead ∷ []) b h = third_shows m first lead b h
@@ -162,14 +153,14 @@ module _ (jis0208 jis0212 : List ℕ) where
 
   -- held-back bytes have a front at the end of the input
   one_ends : (b : ℕ) → euc_jp_may_hold (b ∷ []) ≡ true → (e f : Bool) → (b == 0x8E) ≡ e → (b == 0x8F) ≡ f → euc_jp_front jis0208 jis0212 b [] ≡ malformed 1
-  unfolding euc_jp_katakana euc_jp_second euc_jp_pair
-  one_ends b h true f is_e is_f = front_katakana b [] is_e
-  one_ends b h false true is_e is_f = front_second b [] is_f
+  unfolding euc_jp_front euc_jp_katakana euc_jp_second euc_jp_pair
+  one_ends b h true f is_e is_f = rw (eqb-true b 0x8E is_e)
+  one_ends b h false true is_e is_f = rw (eqb-true b 0x8F is_f)
   one_ends b h false false is_e is_f = front_pair b [] is_e is_f (rw (is_e, is_f) at h)
 
   two_end : (first lead : ℕ) → euc_jp_may_hold (first ∷ lead ∷ []) ≡ true → euc_jp_front jis0208 jis0212 first (lead ∷ []) ≡ malformed 2
-  unfolding euc_jp_second euc_jp_third
-  two_end first lead h = let p = and_parts (first == 0x8F) (is_euc_jp_lead lead) h in front_second first (lead ∷ []) p.0 ∙ rw p.1
+  unfolding euc_jp_front euc_jp_second euc_jp_third
+  two_end first lead h = let p = and_parts (first == 0x8F) (is_euc_jp_lead lead) h in rw (eqb-true first 0x8F p.0, p.1)
 
   all_end : (held : List ℕ) → euc_jp_may_hold held ≡ true → events_of (euc_jp jis0208 jis0212) held ≡ end_events held
   all_end [] h = ev_is [] ∙ cut-nil (euc_jp_front jis0208 jis0212)
@@ -179,7 +170,8 @@ module _ (jis0208 jis0212 : List ℕ) where
 
   -- ---- all steps together
 
-  room_is : (len : ℕ → ℕ) (narrow wide : ℕ) (held : List ℕ) (b : ℕ) → act_room narrow wide (state_of (euc_jp jis0208 jis0212) held) (takes b) ≡ most held b narrow
+  room_is : (len : ℕ → ℕ) (narrow wide : ℕ) (held : List ℕ) (b : ℕ) →
+      act_room narrow wide (state_of (euc_jp jis0208 jis0212) held) (takes b) ≡ most held b narrow
   room_is len narrow wide [] b = first_room (is_ascii b) 1 narrow
   room_is len narrow wide (a ∷ held) b = held_room_is (is_ascii b) true 1 narrow
 
@@ -197,7 +189,8 @@ module _ (jis0208 jis0212 : List ℕ) where
       let meets : Meets (euc_jp jis0208 jis0212) (euc_jp_machine jis0208 jis0212) = record {
         writes = λ held h. refl;
         steps = λ held b h r. let s = step_shows n m held b h in
-            fits_meets (euc_jp jis0208 jis0212) (euc_jp_front jis0208 jis0212) ev_is euc_jp_may_hold (λ held'. refl) held b (euc_jp_step jis0208 jis0212 held b) (few_held held h) s.fits;
+            fits_meets (euc_jp jis0208 jis0212) (euc_jp_front jis0208 jis0212) ev_is euc_jp_may_hold (λ held'. refl) held b (euc_jp_step jis0208 jis0212 held b)
+            (few_held held h) s.fits;
         ends = λ held h r. all_end held h;
         reports = λ held more h r. report_meets (euc_jp jis0208 jis0212) (euc_jp_front jis0208 jis0212) ev_is held more
             (λ b rest e. (euc_jp_front-of {P = ⊥} jis0208 jis0212 (λ n. absurd n) (λ n. absurd n) b rest).some);

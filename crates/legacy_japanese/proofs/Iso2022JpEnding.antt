@@ -1,14 +1,14 @@
 -- Writing a held-back scalar and ending the input, as the decoders' loop sees them.
-use Rattle.std.proofs.Common.{◌≡◌, ◌≢◌, ◌∙◌, ℕ, ◌-◌, ◌+◌, ◌*◌, ◌++◌, ◌⊎◌, cond, option_to_list, Bool, true, false, Option, Some, None, List, [], ◌∷◌, inl, inr, length, refl, sym, ap, arith, append-nil}
+use Rattle.std.proofs.Common.{◌≡◌, ◌≢◌, ◌∙◌, ℕ, ◌++◌, ◌⊎◌, cond, Bool, true, false, Option, Some, None, List, [], ◌∷◌, inl, inr}
+use Rattle.std.proofs.Common.{length, refl, sym, ap, arith, append-nil}
 use Rattle.std.specs.Prelude.{◌==◌, is_some}
-use Rattle.std.proofs.lemmas.Bool.{eqb-true, or_cases}
+use Rattle.std.proofs.lemmas.Bool.{cases_Bool, cond_both, eqb-true, or_cases}
 use Rattle.std.specs.Int.{is_in_range}
 use Rattle.legacy_base.specs.declared.results.DecodeEvent.{DecodeEvent, TheVariants.Scalar, TheVariants.Bad}
 use Rattle.legacy_base.specs.Beginnings.{BeginsWith}
 use Rattle.legacy_text.specs.EncodingForm.{unit_count}
 use Rattle.legacy_base.specs.{Events.shift, Grammar.iso_2022_jp, Grammar.events_of}
-use Rattle.legacy_base.specs.Fronts.{Front, reads, malformed, reads_or, front_length, front_events}
-use Rattle.legacy_tables.specs.Indexes.{idx}
+use Rattle.legacy_base.specs.Fronts.{Front, reads, malformed, front_length, front_events}
 use Rattle.legacy_base.specs.Iso2022Jp as iso
 use Rattle.legacy_base.specs.Iso2022Jp.{esc, escape_mode, part_mode, iso_2022_jp_events}
 use Rattle.legacy_base.specs.Lengths.{query_form, replacement_units}
@@ -21,7 +21,8 @@ use Rattle.legacy_decoder_engine.specs.Moves.{Releases, Reports}
 use Rattle.legacy_japanese.specs.declared.iso_2022_jp.steps.{Mode.Mode, Mode.TheVariants.TwoByte, Escape.Escape, Start.Start, Held.Held}
 use Rattle.legacy_japanese.specs.declared.iso_2022_jp.steps.Start.TheVariants.{Nothing, EscapeByte, Dollar, Paren}
 use Rattle.legacy_japanese.specs.declared.iso_2022_jp.steps.Held.TheVariants.{Byte, Begun, Whole}
-use Rattle.legacy_japanese.specs.Iso2022JpMachine.{mode_meaning, bytes_of, finish, finish_start, is_held, is_resting, mode_of, pending, second_of, single, start_bytes, third_of}
+use Rattle.legacy_japanese.specs.Iso2022JpMachine.{mode_meaning, bytes_of, finish, finish_start, is_held, is_resting, mode_of, pending, second_of, single}
+use Rattle.legacy_japanese.specs.Iso2022JpMachine.{start_bytes, third_of}
 use Rattle.legacy_japanese.specs.Iso2022JpMoves.{state_in, IsNarrowScalar}
 use Rattle.legacy_japanese.proofs.Iso2022JpLaw.{MeetsEnd, ended, events_in, front_in}
 use Rattle.legacy_japanese.proofs.Iso2022JpStep.{front-lone, front-single, front-trail, front_of, escape_alone, in_range_plain, valid}
@@ -52,7 +53,8 @@ module _ (jis0208 : List ℕ) where
   -- a byte that is a scalar by itself gives it, whatever bytes follow
   write_law : (mode : Mode) (b c : ℕ) (more : List ℕ) → is_held mode (Byte b) ≡ true → single mode b ≡ Some c
       → events_in jis0208 mode (b ∷ more) ≡ Scalar c ∷ shift 1 (events_in jis0208 mode more)
-  write_law mode b c more held is = step_one jis0208 (mode_meaning mode) b more (reads 1 (c ∷ [])) (byte_plain mode b held) (write_front mode b c (first_part more) is) refl
+  write_law mode b c more held is =
+      step_one jis0208 (mode_meaning mode) b more (reads 1 (c ∷ [])) (byte_plain mode b held) (write_front mode b c (first_part more) is) refl
 
   -- so the byte has an event
   write_some : (mode : Mode) (b : ℕ) → is_held mode (Byte b) ≡ true → is_resting mode (Byte b) ≡ false → events_in jis0208 mode (b ∷ []) ≢ []
@@ -101,7 +103,8 @@ module _ (jis0208 : List ℕ) where
       by_mode : (o : Option iso.Mode) → escape_mode a b ≡ o → o ≡ None
       by_mode None e = refl
       by_mode (Some next) e =
-          absurd (no_lone (is_some (part_mode more)) (iso_2022_jp_events jis0208 next more) g.0 (sym (step_escape jis0208 (mode_meaning mode) next a b more e) ∙ g.1))
+          absurd (no_lone (is_some (part_mode more)) (iso_2022_jp_events jis0208 next more) g.0
+          (sym (step_escape jis0208 (mode_meaning mode) next a b more e) ∙ g.1))
 
   -- an escape byte, and the bytes held back after it, at the end
   escape_end : (mode : Mode) (rest more : List ℕ) → part_mode (esc ∷ rest) ≡ None
@@ -125,35 +128,31 @@ module _ (jis0208 : List ℕ) where
   no_lone_pair (malformed n) items rest two e = cc
 
   pair_two : (l t : ℕ) (rest : List ℕ) → is_in_range 0x21 0x7E l ≡ true → front_length (front_in jis0208 TwoByte l (t ∷ rest)) ≡ 2
-  pair_two l t rest lead = rw (front-trail jis0208 l t rest lead) (by_trail (is_in_range 0x21 0x7E t) (idx jis0208 ((l - 0x21) * 94 + (t - 0x21))))
-    where
-      by_trail : (r : Bool) (o : Option ℕ) → front_length (cond r (reads_or 2 (option_to_list o) (malformed 2)) (malformed 2)) ≡ 2
-      by_trail true None = refl
-      by_trail true (Some c) = refl
-      by_trail false o = refl
+  pair_two l t rest lead = rw (front-trail jis0208 l t rest lead) (grind arith)
 
   -- a lead at the end, or a lead that is reported alone, has no trail
   lone_lead : (l : ℕ) (more : List ℕ) → is_in_range 0x21 0x7E l ≡ true → (more ≡ []) ⊎ BeginsWith (events_in jis0208 TwoByte (l ∷ more)) (Bad 0 1 ∷ [])
       → first_part more ≡ []
   lone_lead l [] lead h = refl
-  lone_lead l (t ∷ more) lead h = elim h [ inl z ↦ absurd (let n : t ∷ more ≡ [] = z in cc) | inr g ↦ by_test (t == esc) refl g ]
-    where
-      by_test : (e : Bool) → (t == esc) ≡ e → BeginsWith (events_in jis0208 TwoByte (l ∷ t ∷ more)) (Bad 0 1 ∷ []) → cond e [] (t ∷ first_part more) ≡ []
-      by_test true e g = refl
-      by_test false e g =
-          let f = front_in jis0208 TwoByte l (t ∷ first_part more) in
-          let two = pair_two l t (first_part more) lead in
-          absurd (no_lone_pair f (events_in jis0208 TwoByte more) g.0 two
-          (sym (step_two jis0208 (mode_meaning TwoByte) l t more f (in_range_plain l lead) e refl two) ∙ g.1))
+  lone_lead l (t ∷ more) lead h = elim h [
+    | inl z ↦ absurd (let n : t ∷ more ≡ [] = z in cc)
+    | inr g ↦ cond_both (t == esc) [] (t ∷ first_part more) (λ bytes. bytes ≡ []) (λ e. refl) (λ e.
+        let f = front_in jis0208 TwoByte l (t ∷ first_part more) in
+        let two = pair_two l t (first_part more) lead in
+        absurd (no_lone_pair f (events_in jis0208 TwoByte more) g.0 two
+        (sym (step_two jis0208 (mode_meaning TwoByte) l t more f (in_range_plain l lead) e refl two) ∙ g.1)))
+  ]
 
-  lead_end : (mode : Mode) (l : ℕ) → is_held mode (Byte l) ≡ true → is_two_byte_mode (mode_meaning mode) ≡ true → MeetsEnd jis0208 mode (Byte l) (finish mode (Byte l))
+  lead_end : (mode : Mode) (l : ℕ) → is_held mode (Byte l) ≡ true → is_two_byte_mode (mode_meaning mode) ≡ true →
+      MeetsEnd jis0208 mode (Byte l) (finish mode (Byte l))
   lead_end TwoByte l held two = λ more h.
       step_one jis0208 (mode_meaning TwoByte) l more (malformed 1) (in_range_plain l held)
       (ap (front_in jis0208 TwoByte l) (lone_lead l more held h) ∙ front-lone jis0208 l) refl
   lead_end _ l held two = cc
 
   -- if an escape byte after a whole escape is reported alone, the whole escape is not malformed
-  whole_alone : (mode : Mode) (e : Escape) (items rest : List DecodeEvent) (o : Option iso.Mode) → cond (is_some o) (Bad 0 3 ∷ []) [] ++ items ≡ Bad 3 1 ∷ rest → o ≡ None
+  whole_alone : (mode : Mode) (e : Escape) (items rest : List DecodeEvent) (o : Option iso.Mode) →
+      cond (is_some o) (Bad 0 3 ∷ []) [] ++ items ≡ Bad 3 1 ∷ rest → o ≡ None
   whole_alone mode e items rest None h = refl
   whole_alone mode e items rest (Some next) h = cc
 
@@ -232,15 +231,15 @@ module _ (jis0208 : List ℕ) where
   from_facts mode held (Some o) facts = (λ e. facts.1, λ e. cc)
 
   resting_rest : (mode : Mode) (held : Held) → is_held mode held ≡ true → is_resting mode held ≡ true → HasRest mode held (is_some (finish mode held))
-  resting_rest mode held sound resting = from_facts mode held (finish mode held) (ends mode held (finish mode held) sound (held_rests jis0208 mode held sound ∙ resting) refl)
+  resting_rest mode held sound resting =
+      from_facts mode held (finish mode held) (ends mode held (finish mode held) sound (held_rests jis0208 mode held sound ∙ resting) refl)
 
   rest_is : (mode : Mode) (held : Held) → is_held mode held ≡ true → HasRest mode held (is_some (finish mode held))
   unfolding events_of
-  rest_is mode (Byte b) sound = by_test (is_resting mode (Byte b)) refl
-    where
-      by_test : (t : Bool) → is_resting mode (Byte b) ≡ t → HasRest mode (Byte b) true
-      by_test true e = resting_rest mode (Byte b) sound e
-      by_test false e = (λ t. write_some mode b sound e, λ f. cc)
+  rest_is mode (Byte b) sound = elim (cases_Bool (is_resting mode (Byte b))) [
+    | inl e ↦ resting_rest mode (Byte b) sound e
+    | inr e ↦ (λ t. write_some mode b sound e, λ f. cc)
+  ]
   rest_is mode held sound = resting_rest mode held sound refl
 
   pub rest_known : (mode : Mode) (held : Held) (t : Bool) → is_held mode held ≡ true → t ≡ is_some (finish mode held) → HasRest mode held t

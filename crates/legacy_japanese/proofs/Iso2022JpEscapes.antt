@@ -1,5 +1,6 @@
 -- The runs of ISO-2022-JP before and after an escape.
-use Rattle.std.proofs.Common.{◌≡◌, ◌≢◌, ◌∙◌, ℕ, suc, ◌+◌, ◌-◌, ◌<◌, List, ◌∷◌, ◌++◌, length, map, take, drop, get_or, refl, sym, ap, subst, arith, append-nil, length-drop}
+use Rattle.std.proofs.Common.{◌≡◌, ◌≢◌, ◌∙◌, ℕ, suc, ◌+◌, ◌-◌, ◌<◌, List, ◌∷◌, ◌++◌, length, map, take, drop, get_or, refl, sym, ap, subst, arith, append-nil}
+use Rattle.std.proofs.Common.{length-drop}
 use Rattle.std.proofs.lemmas.Bool.{ne_eqb}
 use Rattle.std.proofs.lemmas.List.{drop-drop}
 use Rattle.std.proofs.Math.Seq.{drop-cons, take-add}
@@ -27,7 +28,8 @@ use Rattle.legacy_japanese.proofs.Iso2022JpLaw.{events_in}
 use Rattle.legacy_japanese.proofs.Iso2022JpStep.{escape_alone}
 
 -- an escape before a run of its mode; the run does not begin with an escape byte
-escape_runs : (jis0208 : List ℕ) (mode : Mode) (e : Escape) (x : ℕ) (bytes ds : List ℕ) → x ≢ esc → Runs (iso_2022_jp jis0208 (mode_meaning (mode_of e))) (x ∷ bytes) ds
+escape_runs : (jis0208 : List ℕ) (mode : Mode) (e : Escape) (x : ℕ) (bytes ds : List ℕ) → x ≢ esc →
+    Runs (iso_2022_jp jis0208 (mode_meaning (mode_of e))) (x ∷ bytes) ds
     → RunsTo (iso_2022_jp jis0208 (mode_meaning mode)) (iso_2022_jp jis0208 (mode_meaning (mode_of e))) (esc ∷ second_of e ∷ third_of e ∷ x ∷ bytes) ds
 unfolding events_of
 escape_runs jis0208 mode e x bytes ds alone runs = record {
@@ -42,7 +44,8 @@ escape_runs jis0208 mode e x bytes ds alone runs = record {
   scalar = runs.scalar;
   lowers = λ query n.
       let inner = runs.lowers query n in
-      let outer = room-falls query jis0208 mode (mode_of e) (Begun Nothing) (Begun Nothing) (n + suc (suc (suc (suc (length bytes))))) (n + suc (length bytes)) 3 0 (omega arith) (omega arith) in
+      let outer = room-falls query jis0208 mode (mode_of e) (Begun Nothing) (Begun Nothing) (n + suc (suc (suc (suc (length bytes))))) (n + suc (length bytes))
+      3 0 (omega arith) (omega arith) in
       omega arith;
 }
 
@@ -61,7 +64,8 @@ escape_bytes e source read has some =
 module _ {D : Type 0} {T : Ghosts D} where
   -- an escape and a run of its mode
   reads_escape : (jis0208 : List ℕ) (mode : Mode) (e : Escape) (source : List ℕ) (old new : D) (read : ℕ) → HasEscape e source → 0 < read
-      → ReadsAhead T (run_state jis0208 (mode_of e)) (drop 3 source) read old new → ReadsTo T (run_state jis0208 mode) (run_state jis0208 (mode_of e)) source (3 + read) old new
+      → ReadsAhead T (run_state jis0208 (mode_of e)) (drop 3 source) read old new →
+      ReadsTo T (run_state jis0208 mode) (run_state jis0208 (mode_of e)) source (3 + read) old new
   reads_escape jis0208 mode e source old new read has some reads = record {
     within = let w = reads.within in let l = length-drop 3 source in let k = has.within in omega arith;
     idle = λ h. refl;
@@ -73,7 +77,8 @@ module _ {D : Type 0} {T : Ghosts D} where
       runs =
           let g = iso_2022_jp jis0208 (mode_meaning (mode_of e)) in
           let ds : List ℕ = reads.writes.scalars in
-          let run : Runs g (get_or source 3 0 ∷ take (read - 1) (drop 4 source)) ds = subst (λ bytes. Runs g bytes ds) (run_bytes source read has.within some) reads.writes.runs in
+          let run : Runs g (get_or source 3 0 ∷ take (read - 1) (drop 4 source)) ds =
+          subst (λ bytes. Runs g bytes ds) (run_bytes source read has.within some) reads.writes.runs in
           subst (λ bytes. RunsTo (iso_2022_jp jis0208 (mode_meaning mode)) g bytes ds) (sym (escape_bytes e source read has some))
           (escape_runs jis0208 mode e (get_or source 3 0) (take (read - 1) (drop 4 source)) ds has.alone run);
       written = reads.writes.written;
@@ -92,14 +97,18 @@ module _ {D : Type 0} {T : Ghosts D} where
       → ReadsTo T (run_state jis0208 first) (run_state jis0208 next) source (at + (3 + read)) old new
   reads_on jis0208 first mode next e source {old} {mid} {new} at read is has some runs reads =
       let S : List ℕ = take (length source - at) (drop at source) in
-      let rest : take (length source - (at + 3)) (drop (at + 3) source) ≡ drop 3 S = rest_of source (at + 3) ∙ sym (drop-drop 3 at source) ∙ ap (drop 3) (sym (rest_of source at)) in
+      let rest : take (length source - (at + 3)) (drop (at + 3) source) ≡ drop 3 S = rest_of source (at + 3) ∙ sym (drop-drop 3 at source)
+      ∙ ap (drop 3) (sym (rest_of source at)) in
       let run : ReadsAhead T (run_state jis0208 (mode_of e)) (drop 3 S) read mid new =
-      subst (λ m. ReadsAhead T (run_state jis0208 m) (drop 3 S) read mid new) is (subst (λ bytes. ReadsAhead T (run_state jis0208 next) bytes read mid new) rest reads)
+      subst (λ m. ReadsAhead T (run_state jis0208 m) (drop 3 S) read mid new) is
+      (subst (λ bytes. ReadsAhead T (run_state jis0208 next) bytes read mid new) rest reads)
       in
-      subst (λ m. ReadsTo T (run_state jis0208 first) (run_state jis0208 m) source (at + (3 + read)) old new) (sym is) (reads_then runs (reads_escape jis0208 mode e S mid new read has some run))
+      subst (λ m. ReadsTo T (run_state jis0208 first) (run_state jis0208 m) source (at + (3 + read)) old new) (sym is)
+      (reads_then runs (reads_escape jis0208 mode e S mid new read has some run))
 
   -- runs, after which nothing was read
-  pub reads_end : {before after other : DecoderState} {source behind : List ℕ} {old mid new : D} {at read : ℕ} → read ≡ 0 → ReadsTo T before after source at old mid
+  pub reads_end : {before after other : DecoderState} {source behind : List ℕ} {old mid new : D} {at read : ℕ} → read ≡ 0 →
+      ReadsTo T before after source at old mid
       → ReadsAhead T other behind read mid new
       → ReadsTo T before after source at old new
   reads_end {mid = mid} none runs reads =

@@ -4,7 +4,8 @@ use Rattle.std.specs.Prelude.{◌==◌}
 use Rattle.std.proofs.lemmas.Bool.{or_right}
 use Rattle.legacy_base.specs.{Grammar.iso_2022_jp, Iso2022Jp.esc, Lengths.weight}
 use Rattle.legacy_base.specs.States.{is_escape_start, is_two_byte_mode, may_hold, rests}
-use Rattle.legacy_japanese.specs.declared.iso_2022_jp.steps.{Mode.Mode, Mode.TheVariants.TwoByte, Start.Start, Start.TheVariants.Nothing, Start.TheVariants.EscapeByte, Held.Held}
+use Rattle.legacy_japanese.specs.declared.iso_2022_jp.steps.{Mode.Mode, Mode.TheVariants.TwoByte, Start.Start, Start.TheVariants.Nothing}
+use Rattle.legacy_japanese.specs.declared.iso_2022_jp.steps.{Start.TheVariants.EscapeByte, Held.Held}
 use Rattle.legacy_japanese.specs.declared.iso_2022_jp.steps.Held.TheVariants.{Byte, Begun, Whole}
 use Rattle.legacy_japanese.specs.Iso2022JpMachine.{mode_meaning, bytes_of, finish, is_held, is_resting, mode_of, start_bytes}
 use Rattle.legacy_japanese.specs.Iso2022JpMoves.{weight_of}
@@ -18,18 +19,21 @@ start_allowed Nothing = refl
 start_allowed _ = refl
 
 -- the grammar may hold back these bytes
-pub held_allowed : (jis0208 : List ℕ) (mode : Mode) (held : Held) → is_held mode held ≡ true → may_hold (iso_2022_jp jis0208 (mode_meaning mode)) (bytes_of held) ≡ true
+pub held_allowed : (jis0208 : List ℕ) (mode : Mode) (held : Held) → is_held mode held ≡ true →
+    may_hold (iso_2022_jp jis0208 (mode_meaning mode)) (bytes_of held) ≡ true
 held_allowed jis0208 mode (Byte b) h = or_right (b == esc) (is_held mode (Byte b)) h
 held_allowed jis0208 mode (Whole e s) h = rw (valid e, start_allowed s)
 held_allowed jis0208 mode (Begun Nothing) h = refl
 held_allowed jis0208 mode _ h = refl
 
-byte_rests : (jis0208 : List ℕ) (mode : Mode) (b : ℕ) → is_held mode (Byte b) ≡ true → rests (iso_2022_jp jis0208 (mode_meaning mode)) (b ∷ []) ≡ is_two_byte_mode (mode_meaning mode)
+byte_rests : (jis0208 : List ℕ) (mode : Mode) (b : ℕ) → is_held mode (Byte b) ≡ true →
+    rests (iso_2022_jp jis0208 (mode_meaning mode)) (b ∷ []) ≡ is_two_byte_mode (mode_meaning mode)
 byte_rests jis0208 TwoByte b h = refl
 byte_rests jis0208 _ b h = rw h
 
 -- they rest exactly if the machine reads on
-pub held_rests : (jis0208 : List ℕ) (mode : Mode) (held : Held) → is_held mode held ≡ true → rests (iso_2022_jp jis0208 (mode_meaning mode)) (bytes_of held) ≡ is_resting mode held
+pub held_rests : (jis0208 : List ℕ) (mode : Mode) (held : Held) → is_held mode held ≡ true →
+    rests (iso_2022_jp jis0208 (mode_meaning mode)) (bytes_of held) ≡ is_resting mode held
 held_rests jis0208 mode (Byte b) h = byte_rests jis0208 mode b h
 held_rests jis0208 mode (Begun EscapeByte) h = or_right (is_two_byte_mode (mode_meaning mode)) true refl
 held_rests jis0208 mode _ h = refl
@@ -57,5 +61,6 @@ EndsSound held (Some o) = SoundEnd held o.0 o.1
 pub finish_sound : (mode : Mode) (held : Held) → EndsSound held (finish mode held)
 finish_sound mode (Begun Nothing) = tt
 finish_sound mode (Whole e Nothing) = tt
-finish_sound mode (Whole e _) = record { kept = first_of (cc, assumption (second_kept (mode_of e))); suffix = refl; fits = lit≤ tt; short = lit≤ tt; room = lit≤ tt }
+finish_sound mode (Whole e _) =
+    record { kept = first_of (cc, assumption (second_kept (mode_of e))); suffix = refl; fits = lit≤ tt; short = lit≤ tt; room = lit≤ tt }
 finish_sound mode _ = record { kept = first_of (cc, assumption (second_kept mode)); suffix = refl; fits = lit≤ tt; short = lit≤ tt; room = lit≤ tt }

@@ -50,5 +50,7 @@ module _ (form : EncodingForm) (free : ℕ) (enough : bmp_room form ≤ free) (j
       (holds_byte (second_start e) (third_of e) (Whole e Nothing) [] (Whole e Nothing) (third_read jis0208 mode e) refl))
 
   -- the escape at the beginning of the source
-  pub holds_escape : (e : Escape) (source : List ℕ) → HasEscape e source → HoldsBytes form free (run_state jis0208 mode) (take 3 source) (state_in jis0208 mode (Whole e Nothing))
-  holds_escape e source has = subst (λ bytes. HoldsBytes form free (run_state jis0208 mode) bytes (state_in jis0208 mode (Whole e Nothing))) (sym has.begins) (holds_whole e)
+  pub holds_escape : (e : Escape) (source : List ℕ) → HasEscape e source →
+      HoldsBytes form free (run_state jis0208 mode) (take 3 source) (state_in jis0208 mode (Whole e Nothing))
+  holds_escape e source has = subst (λ bytes. HoldsBytes form free (run_state jis0208 mode) bytes (state_in jis0208 mode (Whole e Nothing))) (sym has.begins)
+      (holds_whole e)

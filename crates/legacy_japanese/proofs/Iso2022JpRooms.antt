@@ -13,6 +13,7 @@ use Rattle.legacy_decoder_engine.specs.Moves.{IsCovered, SameRooms, read_room}
 use Rattle.legacy_japanese.specs.declared.iso_2022_jp.steps.{Mode.Mode, Start.TheVariants.Nothing, Held.Held, Held.TheVariants.Begun}
 use Rattle.legacy_japanese.specs.Iso2022JpMachine.{mode_meaning, bytes_of}
 use Rattle.legacy_japanese.specs.Iso2022JpMoves.{state_in, weight_of}
+use Rattle.legacy_decoder_engine.proofs.RoomMoves.{no_short_room}
 use Rattle.legacy_japanese.proofs.Iso2022JpHeld.{held_weight}
 
 -- ---- the room of an act
@@ -21,13 +22,10 @@ use Rattle.legacy_japanese.proofs.Iso2022JpHeld.{held_weight}
 pub same_rooms : (jis0208 : List ℕ) (before after : Mode) → SameRooms (iso_2022_jp jis0208 (mode_meaning before)) (iso_2022_jp jis0208 (mode_meaning after))
 same_rooms jis0208 before after = record { full = λ form. refl; report = λ form. refl; wants = λ previous c. refl }
 
-no_short : (t : Bool) (x : ℕ) → cond (t && false) 1 x ≡ x
-no_short true x = refl
-no_short false x = refl
-
 -- each byte needs the room of a scalar up to U+FFFF
-pub read_room-is : (form : EncodingForm) (jis0208 : List ℕ) (mode : Mode) (held : Held) (byte : ℕ) → read_room form (state_in jis0208 mode held) byte ≡ bmp_room form
-read_room-is form jis0208 mode held byte = no_short (is_ascii byte && is_empty (bytes_of held)) (bmp_room form)
+pub read_room-is : (form : EncodingForm) (jis0208 : List ℕ) (mode : Mode) (held : Held) (byte : ℕ) →
+    read_room form (state_in jis0208 mode held) byte ≡ bmp_room form
+read_room-is form jis0208 mode held byte = no_short_room (is_ascii byte && is_empty (bytes_of held)) 1 (bmp_room form)
 
 -- such a scalar fits
 pub one_fits : (form : EncodingForm) (c : ℕ) → c < 0x1_0000 → total_unit_count form (c ∷ []) ≤ bmp_room form
@@ -36,11 +34,13 @@ one_fits form c h = let l = length-code_units-bmp form c h in let a = length-app
 -- ---- the room of a state
 
 -- the room of the input bytes and the held-back bytes: for each a scalar up to U+FFFF
-pub room-is : (query : LengthQuery) (jis0208 : List ℕ) (mode : Mode) (held : Held) (n : ℕ) → room query (state_in jis0208 mode held) n ≡ bmp_room (query_form query) * (n + weight_of held)
+pub room-is : (query : LengthQuery) (jis0208 : List ℕ) (mode : Mode) (held : Held) (n : ℕ) →
+    room query (state_in jis0208 mode held) n ≡ bmp_room (query_form query) * (n + weight_of held)
 room-is to_utf16 jis0208 mode held n = rw (held_weight jis0208 mode held) (omega arith)
 room-is _ jis0208 mode held n = rw (held_weight jis0208 mode held) refl
 
-falls : (query : LengthQuery) (x y r u : ℕ) → x + r ≤ y → u ≤ bmp_room (query_form query) * r → bmp_room (query_form query) * x + u ≤ bmp_room (query_form query) * y
+falls : (query : LengthQuery) (x y r u : ℕ) → x + r ≤ y → u ≤ bmp_room (query_form query) * r →
+    bmp_room (query_form query) * x + u ≤ bmp_room (query_form query) * y
 falls to_utf16 x y r u h k = omega arith
 falls _ x y r u h k = omega arith
 
@@ -74,7 +74,8 @@ module _ (query : LengthQuery) (jis0208 : List ℕ) (mode : Mode) where
       (cond resting (act_at_rest (state_in jis0208 mode held) unread last) (Some writes))
 
   end_most : (held : Held) (events : List DecodeEvent) (last : Bool)
-      → room_of_act (bmp_room (query_form query)) (wide_room (query_form query)) (state_in jis0208 mode held) (act_at_end events last) ≤ bmp_room (query_form query)
+      → room_of_act (bmp_room (query_form query)) (wide_room (query_form query)) (state_in jis0208 mode held) (act_at_end events last) ≤ bmp_room
+      (query_form query)
   end_most held [] last = omega arith
   end_most held (event ∷ events) true = omega arith
   end_most held (event ∷ events) false = omega arith
@@ -90,7 +91,8 @@ module _ (query : LengthQuery) (jis0208 : List ℕ) (mode : Mode) where
   none last = rw (step_end jis0208 (mode_meaning mode)) refl
 
   enough : (unread : List ℕ) (last : Bool) (held : Held)
-      → needed held unread last (rests (iso_2022_jp jis0208 (mode_meaning mode)) (bytes_of held)) ≤ bmp_room (query_form query) * (length unread + weight_of held)
+      → needed held unread last (rests (iso_2022_jp jis0208 (mode_meaning mode)) (bytes_of held)) ≤ bmp_room
+      (query_form query) * (length unread + weight_of held)
   enough [] last (Begun Nothing) = let n = none last in omega arith
   enough unread last held =
       let m = most held unread last (rests (iso_2022_jp jis0208 (mode_meaning mode)) (bytes_of held)) in
@@ -100,4 +102,5 @@ module _ (query : LengthQuery) (jis0208 : List ℕ) (mode : Mode) where
 -- the room of a length query is enough for the next act
 pub covered : (jis0208 : List ℕ) (mode : Mode) (held : Held) → IsCovered (state_in jis0208 mode held)
 unfolding needed
-covered jis0208 mode held = record { covers = λ query unread last. rw (room-is query jis0208 mode held (length unread)) (enough query jis0208 mode unread last held) }
+covered jis0208 mode held =
+    record { covers = λ query unread last. rw (room-is query jis0208 mode held (length unread)) (enough query jis0208 mode unread last held) }

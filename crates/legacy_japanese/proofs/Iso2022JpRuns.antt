@@ -1,7 +1,8 @@
 -- The runs of ISO-2022-JP.
-use Rattle.std.proofs.Common.{◌≡◌, ◌∙◌, ℕ, suc, ◌+◌, ◌-◌, ◌*◌, ◌<◌, ◌≤◌, Bool, true, false, cond, Option, Some, None, List, [], ◌∷◌, ◌++◌, length, take, get_or, refl, sym, ap, subst, arith}
+use Rattle.std.proofs.Common.{inl, inr, ◌≡◌, ◌∙◌, ℕ, suc, ◌+◌, ◌-◌, ◌*◌, ◌<◌, ◌≤◌, true, Option, Some, None, List, [], ◌∷◌, ◌++◌, length}
+use Rattle.std.proofs.Common.{take, get_or, refl, sym, ap, subst, arith}
 use Rattle.std.specs.Prelude.{All, IsAscii, IfSome}
-use Rattle.std.proofs.lemmas.Bool.{ne_eqb}
+use Rattle.std.proofs.lemmas.Bool.{cases_lt, ne_eqb}
 use Rattle.std.proofs.lemmas.Bool.Decides.{nat_tests}
 use Rattle.std.proofs.lemmas.List.{length-take, length-take-le, take-take, get_or-take}
 use Rattle.std.proofs.lemmas.List.Elements.{All-nil, All-cons, All-get_or}
@@ -29,17 +30,13 @@ use Rattle.legacy_decoder_engine.proofs.WrittenRuns.{runs_none, runs_more, code_
 
 -- ---- a plain byte
 
-plain_ascii : (b : ℕ) → b < 0x80 → is_ascii b ≡ true
-plain_ascii b h = grind (arith, nat_tests)
-
-plain_scalar : (b : ℕ) → b < 0x80 → IsScalar b
-plain_scalar b h = grind (arith, nat_tests)
-
 plain_runs : (jis0208 : List ℕ) (b : ℕ) → IsPlain b → Runs (iso_2022_jp jis0208 ascii) (b ∷ []) (b ∷ [])
 unfolding events_of iso_2022_jp_front
 plain_runs jis0208 b h = record {
-  events = λ more. step_one jis0208 ascii b more (reads 1 (b ∷ [])) (ne_eqb b esc h.3) (rw (ne_eqb b 0x0E h.1, ne_eqb b 0x0F h.2, plain_ascii b h.0) refl) refl;
-  scalar = All-cons IsScalar b [] (plain_scalar b h.0) (All-nil IsScalar);
+  events = λ more.
+      let ascii_byte : is_ascii b ≡ true = grind (arith, nat_tests) in
+      step_one jis0208 ascii b more (reads 1 (b ∷ [])) (ne_eqb b esc h.3) (rw (ne_eqb b 0x0E h.1, ne_eqb b 0x0F h.2, ascii_byte) refl) refl;
+  scalar = All-cons IsScalar b [] (grind (arith, nat_tests)) (All-nil IsScalar);
   lowers = λ query n.
       room-falls query jis0208 Ascii Ascii (Begun Nothing) (Begun Nothing) (n + 1) n 1 (total_unit_count (query_form query) (b ∷ [])) (omega arith)
       (times_one query (total_unit_count (query_form query) (b ∷ [])) (one_fits (query_form query) b (omega (arith, h.0))));
@@ -52,17 +49,17 @@ plain_bytes jis0208 (b ∷ bytes) h = runs_more (iso_2022_jp jis0208 ascii) (b �
 
 -- ---- a pair
 
-in_range : (b : ℕ) → 0x21 ≤ b → b ≤ 0x7E → is_in_range 0x21 0x7E b ≡ true
-in_range b h k = grind (arith, nat_tests)
-
 pub pair_run : (jis0208 : List ℕ) (a b c : ℕ) → 0x21 ≤ a → a ≤ 0x7E → 0x21 ≤ b → b ≤ 0x7E → c < 0x1_0000 → IsScalar c
     → idx jis0208 ((a - 0x21) * 94 + (b - 0x21)) ≡ Some c → IsPair (iso_2022_jp jis0208 two_byte) a b c
 unfolding events_of iso_2022_jp_front
 pair_run jis0208 a b c low high low' high' narrow scalar is = (
   narrow,
   record {
-    events = λ more. step_two jis0208 two_byte a b more (reads 2 (c ∷ [])) (ne_eqb a esc (λ e. omega arith)) (ne_eqb b esc (λ e. omega arith))
-        (rw (in_range a low high, in_range b low' high', is) refl) refl;
+    events = λ more.
+        let lead : is_in_range 0x21 0x7E a ≡ true = grind (arith, nat_tests) in
+        let trail : is_in_range 0x21 0x7E b ≡ true = grind (arith, nat_tests) in
+        step_two jis0208 two_byte a b more (reads 2 (c ∷ [])) (ne_eqb a esc (λ e. omega arith)) (ne_eqb b esc (λ e. omega arith)) (rw (lead, trail, is) refl)
+        refl;
     scalar = All-cons IsScalar c [] scalar (All-nil IsScalar);
     lowers = λ query n.
         room-falls query jis0208 TwoByte TwoByte (Begun Nothing) (Begun Nothing) (n + 2) n 1 (total_unit_count (query_form query) (c ∷ [])) (omega arith)
@@ -77,33 +74,24 @@ pair_scalar jis0208 a b low high low' high' pointer at None is narrow = tt
 pair_scalar jis0208 a b low high low' high' pointer at (Some c) is narrow =
     pair_run jis0208 a b c low high low' high' narrow.0 narrow.1 (ap (λ p. idx jis0208 p) (sym at) ∙ sym is)
 
-in_94 : (b : ℕ) → is_in_range 0x21 0x7E b ≡ true → (0x21 ≤ b) × (b ≤ 0x7E)
-in_94 b is = (grind (arith, nat_tests), grind (arith, nat_tests))
-
 -- the scalar of two bytes, by the sum of their places
 pub placed_scalar : (jis0208 : List ℕ) → length jis0208 ≤ 65535 → (a b : ℕ) (found : Option ℕ) → found ≡ idx jis0208 (jis_lead_place a + jis_trail_place b)
     → IfSome found IsNarrowScalar → IfSome found (λ c. IsPair (iso_2022_jp jis0208 two_byte) a b c)
 unfolding jis_lead_place jis_trail_place
-placed_scalar jis0208 short a b found is narrow = go (is_in_range 0x21 0x7E a) (is_in_range 0x21 0x7E b) refl refl is
-  where
-    none : (p : ℕ) → 65535 ≤ p → found ≡ idx jis0208 p → IfSome found (λ c. IsPair (iso_2022_jp jis0208 two_byte) a b c)
-    none p h e = rw (e, idx_past jis0208 p (omega arith)) tt
-
-    go : (l t : Bool) → is_in_range 0x21 0x7E a ≡ l → is_in_range 0x21 0x7E b ≡ t → found ≡ idx jis0208 (cond l ((a - 0x21) * 94) 65535 + cond t (b - 0x21) 65535)
-        → IfSome found (λ c. IsPair (iso_2022_jp jis0208 two_byte) a b c)
-    go true true u v e = pair_scalar jis0208 a b (in_94 a u).0 (in_94 a u).1 (in_94 b v).0 (in_94 b v).1 ((a - 0x21) * 94 + (b - 0x21)) refl found e narrow
-    go true false u v e = none ((a - 0x21) * 94 + 65535) (omega arith) e
-    go false true u v e = none (65535 + (b - 0x21)) (omega arith) e
-    go false false u v e = none (65535 + 65535) (omega arith) e
+placed_scalar jis0208 short a b found is narrow = elim (cases_lt (jis_lead_place a + jis_trail_place b) 65535) [
+  | inl h ↦
+      let both : (0x21 ≤ a) × (a ≤ 0x7E) × (0x21 ≤ b) × (b ≤ 0x7E) = grind (arith, nat_tests) in
+      pair_scalar jis0208 a b both.0 both.1 both.2 both.3 (jis_lead_place a + jis_trail_place b) (grind (arith, nat_tests)) found is narrow
+  | inr h ↦ rw (is, idx_past jis0208 (jis_lead_place a + jis_trail_place b) (omega arith)) tt
+]
 
 -- ---- a run of plain bytes
 
 -- a front of a front
-pub plain_front : (source : List ℕ) (n count : ℕ) → count ≤ length (take n source) → All IsPlain (take count (take n source)) → (count ≤ length source) × (count ≤ n) × All IsPlain (take count source)
+pub plain_front : (source : List ℕ) (n count : ℕ) → count ≤ length (take n source) → All IsPlain (take count (take n source)) →
+    (count ≤ length source) × (count ≤ n) × All IsPlain (take count source)
 plain_front source n count within plain =
-    let l = length-take n source in
-    let le : count ≤ n = omega arith in
-    (omega arith, le, subst (λ bytes. All IsPlain bytes) (take-take count n source le) plain)
+    let l = length-take n source in let le : count ≤ n = omega arith in (omega arith, le, rw (take-take count n source le) at plain)
 
 plain_at : (source : List ℕ) (count at : ℕ) → count ≤ length source → All IsPlain (take count source) → at < count → IsPlain (get_or source at 0)
 plain_at source count at within plain h =

@@ -1,5 +1,5 @@
 -- Each step of the machine meets its law, and leaves only what may be held back.
-use Rattle.std.proofs.Common.{◌≡◌, ℕ, suc, ◌+◌, ◌-◌, ◌*◌, ◌≤◌, Bool, true, false, cond, leb, Option, Some, None}
+use Rattle.std.proofs.Common.{◌≡◌, ℕ, suc, ◌+◌, ◌-◌, ◌*◌, ◌≤◌, true, false, leb, Option, Some, None}
 use Rattle.std.proofs.Common.{List, [], ◌∷◌, ◌++◌, length, refl, sym, ap, ◌∙◌, append_assoc, length-append, arith, lit≤}
 use Rattle.std.specs.Prelude.{◌==◌, if◌then◌else◌, option_to_list}
 use Rattle.std.specs.Int.{is_in_range}
@@ -13,12 +13,14 @@ use Rattle.legacy_base.specs.Iso2022Jp.{esc, escape_mode, part_mode, iso_2022_jp
 use Rattle.legacy_base.proofs.Shifts.{shift-append, shift-shift, shift-zero}
 use Rattle.legacy_base.proofs.Iso2022JpParts.{first_part, no_escape}
 use Rattle.legacy_base.proofs.Iso2022JpFronts.{step_one, step_two, step_no_escape, step_escape, escape_ahead}
-use Rattle.legacy_japanese.specs.declared.iso_2022_jp.steps.{Mode.Mode, Escape.Escape, Escape.TheVariants.ToAscii, Start.Start, Held.Held, Action.Action, Outcome.Outcome}
-use Rattle.legacy_japanese.specs.declared.iso_2022_jp.steps.Mode.TheVariants.{Ascii, Roman, Katakana, TwoByte}
+use Rattle.legacy_japanese.specs.declared.iso_2022_jp.steps.{Mode.Mode, Escape.Escape, Escape.TheVariants.ToAscii, Start.Start, Held.Held, Action.Action}
+use Rattle.legacy_japanese.specs.declared.iso_2022_jp.steps.{Outcome.Outcome}
+use Rattle.legacy_japanese.specs.declared.iso_2022_jp.steps.Mode.TheVariants.{TwoByte}
 use Rattle.legacy_japanese.specs.declared.iso_2022_jp.steps.Start.TheVariants.{Nothing, EscapeByte, Dollar, Paren}
 use Rattle.legacy_japanese.specs.declared.iso_2022_jp.steps.Held.TheVariants.{Byte, Begun, Whole}
 use Rattle.legacy_japanese.specs.declared.iso_2022_jp.steps.Action.TheVariants.{Holds, Reports, Leaves}
-use Rattle.legacy_japanese.specs.Iso2022JpMachine.{mode_meaning, bytes_of, completes, is_held, is_resting, mode_of, moves, read, read_next_third, read_pair, read_plain}
+use Rattle.legacy_japanese.specs.Iso2022JpMachine.{mode_meaning, bytes_of, completes, is_held, is_resting, mode_of, moves, read, read_next_third, read_pair}
+use Rattle.legacy_japanese.specs.Iso2022JpMachine.{read_plain}
 use Rattle.legacy_japanese.specs.Iso2022JpMachine.{read_single, read_start, read_third, read_trail, read_whole, second_of, single, start_bytes, third_of}
 use Rattle.legacy_japanese.specs.Iso2022JpMoves.{is_left, move_events, weight_of}
 use Rattle.legacy_japanese.proofs.Iso2022JpLaw.{HasSizes, MeetsLaw, Sound, done, events_in, front_in}
@@ -50,10 +52,6 @@ three_further k _ held h = (refl, tt)
 abbrev pub front_of : Option ℕ → Front
 front_of (Some c) = reads 1 (c ∷ [])
 front_of None = malformed 1
-
-front_cond : (t : Bool) (x y : Option ℕ) → cond t (front_of x) (front_of y) ≡ front_of (cond t x y)
-front_cond true x y = refl
-front_cond false x y = refl
 
 module _ (jis0208 : List ℕ) where
   -- a step meets its law and is sound
@@ -94,8 +92,10 @@ module _ (jis0208 : List ℕ) where
       let sound = step.sound in
       let other = three_further k o.action (bytes_of o.held) sound.sizes in
       let more_done : 3 + k ≡ suc (suc (suc k)) = omega arith in
-      let further : done (Whole e s) o ≡ suc (suc (suc k)) = three_done (length (start_bytes s)) (length (bytes_of o.held)) (if is_left o.action then 0 else 1) sound.fits in record {
-        law = λ more. rw (further, escape_alone mode e (start_bytes s ++ b ∷ more) (alone more), step.law more, shift-append, other.0, shift-shift 3 k, more_done);
+      let further : done (Whole e s) o ≡ suc (suc (suc k)) = three_done (length (start_bytes s)) (length (bytes_of o.held)) (if is_left o.action then 0 else 1)
+      sound.fits in record {
+        law = λ more.
+            rw (further, escape_alone mode e (start_bytes s ++ b ∷ more) (alone more), step.law more, shift-append, other.0, shift-shift 3 k, more_done);
         sound = record {
           kept = sound.kept;
           suffix = λ more. rw further (sound.suffix more);
@@ -108,12 +108,19 @@ module _ (jis0208 : List ℕ) where
 
   -- ---- a byte outside two-byte mode
 
-  pub front-single : (mode : Mode) (b : ℕ) (rest : List ℕ) → is_two_byte_mode (mode_meaning mode) ≡ false → front_in jis0208 mode b rest ≡ front_of (single mode b)
+  pub front-single : (mode : Mode) (b : ℕ) (rest : List ℕ) → is_two_byte_mode (mode_meaning mode) ≡ false →
+      front_in jis0208 mode b rest ≡ front_of (single mode b)
   unfolding iso_2022_jp_front
-  front-single Ascii b rest h = front_cond _ None (Some b)
-  front-single Roman b rest h = rw (front_cond (b == 0x7E) (Some 0x203E) (Some b), front_cond (b == 0x5C) (Some 0xA5) _, front_cond _ None _) refl
-  front-single Katakana b rest h = front_cond (is_in_range 0x21 0x5F b) (Some (0xFF61 + (b - 0x21))) None
   front-single TwoByte b rest h = cc
+  front-single _ b rest h = grind arith
+
+  -- a byte that is malformed alone
+  alone_step : (mode : Mode) (b : ℕ) → (b == esc) ≡ false → ((rest : List ℕ) → front_in jis0208 mode b rest ≡ malformed 1)
+      → IsStep mode (Begun Nothing) b (moves (Reports 1) mode (Begun Nothing))
+  alone_step mode b plain is = record {
+    law = λ more. step_one jis0208 (mode_meaning mode) b more (malformed 1) plain (is (first_part more)) refl;
+    sound = record { kept = refl; suffix = λ more. refl; sizes = (lit≤ tt, lit≤ tt, lit≤ tt, lit≤ tt); room = lit≤ tt; fits = lit≤ tt; rest = tt };
+  }
 
   single_step : (mode : Mode) (b : ℕ) (c : Option ℕ) → (b == esc) ≡ false → ((rest : List ℕ) → front_in jis0208 mode b rest ≡ front_of c)
       → IsStep mode (Begun Nothing) b (read_single mode c)
@@ -121,10 +128,7 @@ module _ (jis0208 : List ℕ) where
     law = λ more. step_one jis0208 (mode_meaning mode) b more (reads 1 (c ∷ [])) plain (is (first_part more)) refl;
     sound = record { kept = refl; suffix = λ more. refl; sizes = tt; room = lit≤ tt; fits = lit≤ tt; rest = refl };
   }
-  single_step mode b None plain is = record {
-    law = λ more. step_one jis0208 (mode_meaning mode) b more (malformed 1) plain (is (first_part more)) refl;
-    sound = record { kept = refl; suffix = λ more. refl; sizes = (lit≤ tt, lit≤ tt, lit≤ tt, lit≤ tt); room = lit≤ tt; fits = lit≤ tt; rest = tt };
-  }
+  single_step mode b None plain is = alone_step mode b plain is
 
   -- ---- two-byte mode
 
@@ -146,37 +150,32 @@ module _ (jis0208 : List ℕ) where
   plain_step : (mode : Mode) (b : ℕ) → (b == esc) ≡ false → IsStep mode (Begun Nothing) b (read_plain mode b)
   plain_step TwoByte b plain = cond_both (is_in_range 0x21 0x7E b) _ _ (IsStep TwoByte (Begun Nothing) b)
       (λ h. hold_step TwoByte (Begun Nothing) (Byte b) b refl h refl (lit≤ tt))
-      (λ h. record {
-        law = λ more. step_one jis0208 (mode_meaning TwoByte) b more (malformed 1) plain (front-no_lead b (first_part more) h) refl;
-        sound = record { kept = refl; suffix = λ more. refl; sizes = (lit≤ tt, lit≤ tt, lit≤ tt, lit≤ tt); room = lit≤ tt; fits = lit≤ tt; rest = tt };
-      })
+      (λ h. alone_step TwoByte b plain (λ rest. front-no_lead b rest h))
   plain_step mode b plain = single_step mode b (single mode b) plain (λ rest. front-single mode b rest refl)
 
-  -- a byte after a lead, by the entry of the index
-  pair_step : (l b : ℕ) (o : Option ℕ) → is_in_range 0x21 0x7E l ≡ true → (b == esc) ≡ false → is_in_range 0x21 0x7E b ≡ true
-      → idx jis0208 ((l - 0x21) * 94 + (b - 0x21)) ≡ o → IsStep TwoByte (Byte l) b (read_pair o)
-  pair_step l b (Some c) lead plain trail is = record {
-    law = λ more. step_two jis0208 (mode_meaning TwoByte) l b more (reads 2 (c ∷ [])) (in_range_plain l lead) plain (front-trail l b (first_part more) lead ∙ rw (trail, is)) refl;
+  -- a lead and another byte, which give one scalar or none
+  pair_step : (l b : ℕ) (o : Option ℕ) → is_in_range 0x21 0x7E l ≡ true → (b == esc) ≡ false
+      → ((rest : List ℕ) → front_in jis0208 TwoByte l (b ∷ rest) ≡ reads_or 2 (option_to_list o) (malformed 2)) → IsStep TwoByte (Byte l) b (read_pair o)
+  pair_step l b (Some c) lead plain is = record {
+    law = λ more. step_two jis0208 (mode_meaning TwoByte) l b more (reads 2 (c ∷ [])) (in_range_plain l lead) plain (is (first_part more)) refl;
     sound = record { kept = refl; suffix = λ more. refl; sizes = tt; room = lit≤ tt; fits = lit≤ tt; rest = refl };
   }
-  pair_step l b None lead plain trail is = record {
-    law = λ more. step_two jis0208 (mode_meaning TwoByte) l b more (malformed 2) (in_range_plain l lead) plain (front-trail l b (first_part more) lead ∙ rw (trail, is)) refl;
+  pair_step l b None lead plain is = record {
+    law = λ more. step_two jis0208 (mode_meaning TwoByte) l b more (malformed 2) (in_range_plain l lead) plain (is (first_part more)) refl;
     sound = record { kept = refl; suffix = λ more. refl; sizes = (lit≤ tt, lit≤ tt, lit≤ tt, lit≤ tt); room = lit≤ tt; fits = lit≤ tt; rest = tt };
   }
 
   -- a byte after a lead that is held back alone
-  lead_step : (mode : Mode) (l b : ℕ) → is_held mode (Byte l) ≡ true → is_two_byte_mode (mode_meaning mode) ≡ true → IsStep mode (Byte l) b (read_trail jis0208 l b)
+  lead_step : (mode : Mode) (l b : ℕ) → is_held mode (Byte l) ≡ true → is_two_byte_mode (mode_meaning mode) ≡ true →
+      IsStep mode (Byte l) b (read_trail jis0208 l b)
   lead_step TwoByte l b lead two = cond_both (b == esc) _ _ (IsStep TwoByte (Byte l) b)
       (λ h. rw (eqb-true b esc h) (record {
         law = λ more. step_one jis0208 (mode_meaning TwoByte) l (esc ∷ more) (malformed 1) (in_range_plain l lead) (front-lone l) refl;
         sound = record { kept = refl; suffix = λ more. refl; sizes = (lit≤ tt, lit≤ tt, lit≤ tt, lit≤ tt); room = lit≤ tt; fits = lit≤ tt; rest = tt };
       }))
       (λ h. cond_both (is_in_range 0x21 0x7E b) _ _ (IsStep TwoByte (Byte l) b)
-      (λ k. pair_step l b (idx jis0208 ((l - 0x21) * 94 + (b - 0x21))) lead h k refl)
-      (λ k. record {
-        law = λ more. step_two jis0208 (mode_meaning TwoByte) l b more (malformed 2) (in_range_plain l lead) h (front-trail l b (first_part more) lead ∙ rw k) refl;
-        sound = record { kept = refl; suffix = λ more. refl; sizes = (lit≤ tt, lit≤ tt, lit≤ tt, lit≤ tt); room = lit≤ tt; fits = lit≤ tt; rest = tt };
-      }))
+      (λ k. pair_step l b (idx jis0208 ((l - 0x21) * 94 + (b - 0x21))) lead h (λ rest. front-trail l b rest lead ∙ rw k))
+      (λ k. pair_step l b None lead h (λ rest. front-trail l b rest lead ∙ rw k)))
   lead_step _ l b lead two = cc
 
   -- ---- the start of an escape
@@ -197,15 +196,12 @@ module _ (jis0208 : List ℕ) where
   Completed a b None = escape_mode a b ≡ None
 
   completed_dollar : (b : ℕ) → Completed 0x24 b (completes Dollar b)
-  completed_dollar b = cond_both (b == 0x40) _ _ (Completed 0x24 b)
-      (λ h. (refl, sym (eqb-true b 0x40 h)))
+  completed_dollar b = cond_both (b == 0x40) _ _ (Completed 0x24 b) (λ h. (refl, sym (eqb-true b 0x40 h)))
       (λ h. cond_both (b == 0x42) _ _ (Completed 0x24 b) (λ k. (refl, sym (eqb-true b 0x42 k))) (λ k. rw (h, k)))
 
   completed_paren : (b : ℕ) → Completed 0x28 b (completes Paren b)
-  completed_paren b = cond_both (b == 0x42) _ _ (Completed 0x28 b)
-      (λ h. (refl, sym (eqb-true b 0x42 h)))
-      (λ h. cond_both (b == 0x4A) _ _ (Completed 0x28 b)
-      (λ k. (refl, sym (eqb-true b 0x4A k)))
+  completed_paren b = cond_both (b == 0x42) _ _ (Completed 0x28 b) (λ h. (refl, sym (eqb-true b 0x42 h)))
+      (λ h. cond_both (b == 0x4A) _ _ (Completed 0x28 b) (λ k. (refl, sym (eqb-true b 0x4A k)))
       (λ k. cond_both (b == 0x49) _ _ (Completed 0x28 b) (λ l. (refl, sym (eqb-true b 0x49 l))) (λ l. rw (h, k, l))))
 
   lone_step : (mode : Mode) (b : ℕ) → (b == 0x24) ≡ false → (b == 0x28) ≡ false → IsStep mode (Begun EscapeByte) b (moves Leaves mode (Begun Nothing))
@@ -218,7 +214,15 @@ module _ (jis0208 : List ℕ) where
       → IsStep mode (Begun s) b (moves Leaves mode (Byte a))
   broken_step mode s a b is kept h = record {
     law = λ more. rw is (step_no_escape jis0208 (mode_meaning mode) (a ∷ b ∷ more) (no_third a b more h));
-    sound = record { kept = kept; suffix = λ more. rw is; sizes = rw is (lit≤ tt, lit≤ tt, lit≤ tt, lit≤ tt); room = rw is (lit≤ tt); fits = rw is (lit≤ tt); rest = tt };
+    sound = record {
+      kept = kept;
+      suffix = λ more. rw is;
+      sizes = rw is (lit≤ tt, lit≤ tt, lit≤ tt, lit≤ tt);
+      room = rw is (lit≤ tt);
+      fits =
+          rw is (lit≤ tt);
+      rest = tt;
+    };
   }
 
   -- a byte after an escape byte and a second byte
@@ -248,13 +252,22 @@ module _ (jis0208 : List ℕ) where
       let bytes : start_bytes s ≡ esc ∷ second_of next ∷ [] = is ∙ ap (λ x. esc ∷ x ∷ []) (sym second) in record {
         law = λ more. rw bytes (escape_again mode (mode_meaning (mode_of next)) e (esc ∷ second_of next ∷ third_of next ∷ more)
             (escape_ahead (second_of next) (third_of next) (mode_meaning (mode_of next)) more (valid next)));
-        sound = record { kept = refl; suffix = λ more. rw bytes; sizes = rw bytes (lit≤ tt, lit≤ tt, lit≤ tt, lit≤ tt); room = rw bytes (lit≤ tt); fits = rw bytes (lit≤ tt); rest = tt };
+        sound = record {
+          kept = refl;
+          suffix = λ more. rw bytes;
+          sizes = rw bytes (lit≤ tt, lit≤ tt, lit≤ tt, lit≤ tt);
+          room = rw bytes (lit≤ tt);
+          fits =
+              rw bytes (lit≤ tt);
+          rest = tt;
+        };
       })
 
   next_third_step : (mode : Mode) (e : Escape) (s : Start) (a b : ℕ) (o : Option Escape) → start_bytes s ≡ esc ∷ a ∷ []
       → is_held (mode_of e) (Byte a) ≡ true → Completed a b o → IsStep mode (Whole e s) b (read_next_third (mode_of e) a o)
   next_third_step mode e s a b (Some next) is kept c = again_step mode e next s a b is c.0 c.1
-  next_third_step mode e s a b None is kept c = behind_step mode e s b (moves Leaves (mode_of e) (Byte a)) (λ more. rw is (no_third a b more c)) (broken_step (mode_of e) s a b is kept c)
+  next_third_step mode e s a b None is kept c = behind_step mode e s b (moves Leaves (mode_of e) (Byte a)) (λ more. rw is (no_third a b more c))
+      (broken_step (mode_of e) s a b is kept c)
 
   whole_step : (mode : Mode) (e : Escape) (s : Start) (b : ℕ) → IsStep mode (Whole e s) b (read_whole mode e s b)
   whole_step mode e Nothing b = cond_both (b == esc) _ _ (IsStep mode (Whole e Nothing) b)

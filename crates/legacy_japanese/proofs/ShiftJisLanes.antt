@@ -1,6 +1,8 @@
 -- Eight codes of Shift_JIS, lane by lane, and the pairs of those that have an entry.
-use Rattle.std.proofs.Common.{◌≡◌, ◌≢◌, ◌∙◌, ℕ, ◌+◌, ◌-◌, ◌*◌, ◌/◌, ◌%◌, ◌<◌, ◌≤◌, ◌||◌, ◌&&◌, ◌==◌, min, Bool, true, false, cond, leb, List, [], ◌∷◌, length, get_or, map, replicate, refl, sym, ap, arith, w16, Fits}
-use Rattle.std.proofs.lemmas.Bool.{agree_below_at, eqb-true, leb-true, and_parts}
+use Rattle.std.proofs.Common.{◌≡◌, ◌≢◌, ◌∙◌, ℕ, ◌+◌, ◌-◌, ◌*◌, ◌/◌, ◌%◌, ◌<◌, ◌≤◌, ◌||◌, ◌&&◌, ◌==◌, min, Bool, true, false, cond, leb, List, [], ◌∷◌, length}
+use Rattle.std.proofs.Common.{get_or, map, replicate, refl, sym, ap, arith, w16, Fits}
+use Rattle.std.proofs.lemmas.Bool.{agree_below_at}
+use Rattle.std.proofs.lemmas.Bool.Decides.{nat_tests}
 use Rattle.std.proofs.lemmas.Nat.{xor_mod}
 use Rattle.std.specs.Char.{IsScalar}
 use Rattle.std.specs.Int.{is_in_range}
@@ -53,31 +55,22 @@ unfolding shift_jis_trail_place
 trail_of code = refl
 
 -- a place within the leads up to EF is the sum of the places of both bytes
-placed : (l t m s : ℕ) → ((l == 65535) || ((l == m) && leb l 8648)) ≡ true → ((t == 65535) || leb t 187) ≡ true → min (l + t) 65535 ≡ s → s < 65535 → (s ≡ m + t) × (s ≤ 8835)
-placed l t m s e f is below = go (l == 65535) (t == 65535) refl refl e f
-  where
-    go : (u v : Bool) → (l == 65535) ≡ u → (t == 65535) ≡ v → (u || ((l == m) && leb l 8648)) ≡ true → (v || leb t 187) ≡ true → (s ≡ m + t) × (s ≤ 8835)
-    go true v a b e f = absurd (omega (arith, eqb-true l 65535 a))
-    go false true a b e f = absurd (omega (arith, eqb-true t 65535 b))
-    go false false a b e f =
-        let both = and_parts (l == m) (leb l 8648) e in
-        (omega (arith, eqb-true l m both.0, leb-true l 8648 both.1, leb-true t 187 f), omega (arith, leb-true l 8648 both.1, leb-true t 187 f))
+placed : (l t m s : ℕ) → ((l == 65535) || ((l == m) && leb l 8648)) ≡ true → ((t == 65535) || leb t 187) ≡ true → min (l + t) 65535 ≡ s → s < 65535 →
+    (s ≡ m + t) × (s ≤ 8835)
+placed l t m s e f is below = grind (arith, nat_tests)
 
 -- ---- eight codes
 
-pub changed_leads : (codes : List ℕ) → length codes ≡ 8 → Each1 (Fits w16) codes
-    → map (lead_place_of 0x21 0x2E 188) (zip2 bit_xor codes (replicate 8 0xA0)) ≡ map (λ code. lead_place_of 0x21 0x2E 188 (bit_xor code 0xA0)) codes
-changed_leads = of_eight (λ v. map (lead_place_of 0x21 0x2E 188) (zip2 bit_xor v (replicate 8 0xA0)) ≡ map (λ code. lead_place_of 0x21 0x2E 188 (bit_xor code 0xA0)) v)
+pub changed_leads : (codes : List ℕ) → length codes ≡ 8 → Each1 (Fits w16) codes →
+    map (lead_place_of 0x21 0x2E 188) (zip2 bit_xor codes (replicate 8 0xA0)) ≡ map (λ code. lead_place_of 0x21 0x2E 188 (bit_xor code 0xA0)) codes
+changed_leads = of_eight (λ v. map (lead_place_of 0x21 0x2E 188) (zip2 bit_xor v (replicate 8 0xA0))
+    ≡ map (λ code. lead_place_of 0x21 0x2E 188 (bit_xor code 0xA0)) v)
     (λ a b c d e f g h sa sb sc sd se sf sg sh. refl)
 
 -- ---- pairs
 
 not_private : (p : ℕ) → p ≤ 8835 → is_in_range 8836 10715 p ≡ false
-not_private p h = go (leb 8836 p) refl
-  where
-    go : (t : Bool) → leb 8836 p ≡ t → (t && leb p 10715) ≡ false
-    go true e = absurd (omega (arith, leb-true 8836 p e))
-    go false e = refl
+not_private p h = grind (arith, nat_tests)
 
 module _ (tables : AcceptedIndexes) where
   abbrev index : List ℕ
@@ -86,8 +79,9 @@ module _ (tables : AcceptedIndexes) where
   pub ascii : HasAscii (shift_jis tables.flat.jis0208)
   ascii = held.ascii shift_jis_codec tables
 
-  pub lane_pair : (code : ℕ) → code < 0x1_0000 → shift_jis_place code < length tables.flat.jis0208 → get_or tables.flat.jis0208 (shift_jis_place code) 0 ≢ 0
-      → IsScalar (get_or tables.flat.jis0208 (shift_jis_place code) 0) × IsPair (shift_jis tables.flat.jis0208) (code % 0x100) (code / 0x100) (get_or tables.flat.jis0208 (shift_jis_place code) 0)
+  pub lane_pair : (code : ℕ) → code < 0x1_0000 → shift_jis_place code < length tables.flat.jis0208 → get_or tables.flat.jis0208 (shift_jis_place code) 0 ≢ 0 →
+      IsScalar (get_or tables.flat.jis0208 (shift_jis_place code) 0)
+      × IsPair (shift_jis tables.flat.jis0208) (code % 0x100) (code / 0x100) (get_or tables.flat.jis0208 (shift_jis_place code) 0)
   lane_pair code small within some =
       let short = length-jis0208 tables.flat tables.accepted in
       let p = shift_jis_place code in
@@ -95,8 +89,8 @@ module _ (tables : AcceptedIndexes) where
       let lead = code % 256 in
       let trail = code / 256 in
       let below : p < 65535 = omega (arith, within, short) in
-      let place : min (changed_place lead + shift_jis_trail_place trail) 65535 ≡ p = ap (λ l. min (l + shift_jis_trail_place trail) 65535) (sym (lead_of code)) ∙ ap (λ t. min (lead_place_of 0x21 0x2E 188 (bit_xor code 0xA0) + t) 65535) (sym (trail_of code)) in
-      let is = placed (changed_place lead) (shift_jis_trail_place trail) (shift_jis_lead_place lead) p (lead_tests lead (omega arith)) (trail_tests trail (omega arith)) place below in
+      let place : min (changed_place lead + shift_jis_trail_place trail) 65535 ≡ p = rw (← lead_of code, ← trail_of code) refl in
+      let is = placed _ _ (shift_jis_lead_place lead) p (lead_tests lead (omega arith)) (trail_tests trail (omega arith)) place below in
       let scalar : IsScalar c = jis0208-scalars tables.flat tables.accepted p 0 within in
       let scalars : shift_jis_scalars index p ≡ c ∷ [] = rw (not_private p is.1) (entry_is c some) in
       let found : c ∷ [] ≡ cond (is_shift_jis_lead lead) (shift_jis_pair_scalars index lead trail) [] =

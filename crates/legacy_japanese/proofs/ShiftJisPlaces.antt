@@ -1,5 +1,5 @@
 -- The tables contain the places of leads and trails; index jis0208 is read at their sum.
-use Rattle.std.proofs.Common.{◌≡◌, ◌∙◌, ℕ, ◌+◌, ◌-◌, ◌*◌, ◌≤◌, List, [], length, Bool, true, false, cond, Some, None, refl, ap, arith}
+use Rattle.std.proofs.Common.{◌≡◌, ◌∙◌, ℕ, ◌+◌, ◌-◌, ◌*◌, ◌≤◌, List, [], length, Bool, false, cond, Some, None, refl, ap, arith}
 use Rattle.std.proofs.lemmas.Bool.Decides.{nat_tests}
 use Rattle.std.specs.Int.{is_in_range}
 use Rattle.std.specs.Option.{option_map_or}
@@ -18,23 +18,20 @@ pub shift_jis_trails_are : IsTableOf shift_jis_trail_place TRAILS
 unfolding shift_jis_trail_place
 shift_jis_trails_are = refl
 
-past_private : (p : ℕ) → 65535 ≤ p → is_in_range 8836 10715 p ≡ false
-past_private p h = grind (arith, nat_tests)
-
 -- the scalars of a pointer, if there is a pointer
 of_pointer : (scalars : ℕ → List ℕ) (a b : Bool) (low high : ℕ) →
     cond a (scalars low) (cond b (scalars high) []) ≡ option_map_or scalars (cond a (Some low) (cond b (Some high) None)) []
-of_pointer scalars true b low high = refl
-of_pointer scalars false true low high = refl
-of_pointer scalars false false low high = refl
+of_pointer scalars a b low high = grind arith
 
 pub shift_jis_entry : (index : List ℕ) → length index ≤ 65535 → (lead trail : ℕ) →
-    shift_jis_scalars index (shift_jis_lead_place lead + shift_jis_trail_place trail) ≡ cond (is_shift_jis_lead lead) (shift_jis_pair_scalars index lead trail) []
+    shift_jis_scalars index (shift_jis_lead_place lead + shift_jis_trail_place trail)
+    ≡ cond (is_shift_jis_lead lead) (shift_jis_pair_scalars index lead trail) []
 unfolding shift_jis_lead_place shift_jis_trail_place
 shift_jis_entry index short lead trail =
     let base = shift_jis_lead_part lead * 188 in
     let low = is_in_range 0x40 0x7E trail in
     let high = is_in_range 0x80 0xFC trail in
-    pair_entry (shift_jis_scalars index) (λ p h. let other : is_in_range 8836 10715 p ≡ false = past_private p h in rw (other, none_past index short p h) refl)
+    pair_entry (shift_jis_scalars index) (λ p h. let other : is_in_range 8836 10715 p ≡ false = grind (arith, nat_tests) in
+    rw (other, none_past index short p h) refl)
     (is_shift_jis_lead lead) low high base (trail - 0x40) (trail - 0x41)
     ∙ ap (λ found. cond (is_shift_jis_lead lead) found []) (of_pointer (shift_jis_scalars index) low high (base + (trail - 0x40)) (base + (trail - 0x41)))

@@ -25,7 +25,7 @@ scalar_below jis0208 (Some p) c narrow e = cond_both (is_in_range 8836 10715 p) 
     (λ scalars. scalars ≡ c ∷ [] → c < 0x1_0000) (private_use_below p c) (λ t. idx_below jis0208 p c narrow) e
 
 katakana_tests : (b : ℕ) → 0xA1 ≤ b → b ≤ 0xDF → (is_ascii b ≡ false) × ((b == 0x80) ≡ false) × (is_katakana_byte b ≡ true)
-katakana_tests b low high = (grind (arith, nat_tests), grind (arith, nat_tests), grind (arith, nat_tests))
+katakana_tests b low high = grind (arith, nat_tests)
 
 module _ (tables : AcceptedIndexes) where
   -- a lead and a trail

@@ -11,5 +11,9 @@ loop-at-preserved c =
     let at = c.loop-at.at in
     let i = c.loop-at.invariant in
     let long : 16 ≤ length src - at = omega (arith, c.loop-at-test.true) in
-    let block : All IsPlain (take 16 (drop at src)) = subst (λ bytes. All IsPlain bytes) (take-take 16 (length src - at) (drop at src) long) (c.are_plain.ensures c.if-are_plain.true) in
-    (omega (arith, c.loop-at-test.true), subst (λ bytes. All IsPlain bytes) (sym (take-add at 16 src)) (All-append IsPlain (take at src) (take 16 (drop at src)) i.1 block))
+    let block : All IsPlain (take 16 (drop at src)) = subst (λ bytes. All IsPlain bytes) (take-take 16 (length src - at) (drop at src) long)
+    (c.are_plain.ensures c.if-are_plain.true) in (
+      omega (arith, c.loop-at-test.true),
+      subst (λ bytes. All IsPlain bytes) (sym (take-add at 16 src))
+          (All-append IsPlain (take at src) (take 16 (drop at src)) i.1 block),
+    )

@@ -41,5 +41,6 @@ returns g c jis0208 =
     let i = c.loop-at.invariant in
     let front = plain_front src c.min-most.result c.plain_count-count.result e.within e.plain in
     let same : c.loop-at.at ≡ c.plain_count-count.result = omega (arith, i.0, c.loop-at-test.false) in
-    reads_plain T jis0208 src c.args.dst.now c.loop-at.dst c.plain_count-count.result front.0 front.2 (i.1 ∙ ap (λ n. T.contents c.args.dst.now ++ take n src) same) (omega (arith, i.2, same)) i.3
+    reads_plain T jis0208 src c.args.dst.now c.loop-at.dst c.plain_count-count.result front.0 front.2
+    (i.1 ∙ ap (λ n. T.contents c.args.dst.now ++ take n src) same) (omega (arith, i.2, same)) i.3
     (λ h. omega (arith, front.1, c.min-most.ensures, c.saturating_sub.ensures, c.free.ensures))
