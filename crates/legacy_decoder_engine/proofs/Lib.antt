@@ -8,6 +8,7 @@ pub mod JoinedRuns
 pub mod RunForms
 pub mod LeadHeld
 pub mod OneByteMeets
+pub mod OneByteShown
 pub mod PairPlaces
 pub mod Widths
 pub mod RoomMoves

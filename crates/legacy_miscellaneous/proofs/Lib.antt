@@ -2,12 +2,10 @@
 pub mod ReplacementMeets
 pub mod ReplacementShown
 pub mod ReplacementSteps
-pub mod UserDefinedMeets
 pub mod UserDefinedShown
 pub mod UserDefinedRuns
 pub mod Utf16Cut
 pub mod Utf16Meets
-pub mod Utf16Settles
 pub mod Utf16Shown
 pub mod Utf16Held
 pub mod Utf16Runs

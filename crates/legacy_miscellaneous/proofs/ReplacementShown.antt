@@ -42,7 +42,8 @@ rooms false query = record {
   step_pays = λ held b n h r bytes byte. let f = fault_fits query in let o = one_fits query held (n + 1) in omega arith;
   write_pays = λ held h r bytes. tt;
   report_pays = λ b held h r. absurd (false≢true h);
-  reads_covered = λ held b n h p. let w = (width_of (query_form query)).some in let o = one_fits query held n in cond_most _ 1 (bmp_room (query_form query)) _ (omega arith) o;
+  reads_covered = λ held b n h p. let w = (width_of (query_form query)).some in let o = one_fits query held n in
+      cond_most _ 1 (bmp_room (query_form query)) _ (omega arith) o;
   holds_covered = λ held n h p. let none = none_held held h in absurd (omega arith);
 }
 

@@ -25,5 +25,5 @@ module _ (reported : Bool) where
   pub covered : IsCovered (state_of (replacement reported) [])
   covered = moves.covered (replacement_shown reported) [] refl (All-nil IsByte)
 
-  pub events-none : events_of (replacement reported) [] ≡ []
-  events-none = moves.ends_none (replacement_shown reported) [] refl (All-nil IsByte) refl refl
+  pub ends_none : events_of (replacement reported) [] ≡ []
+  ends_none = moves.ends_none (replacement_shown reported) [] refl (All-nil IsByte) refl refl

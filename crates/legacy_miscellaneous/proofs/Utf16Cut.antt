@@ -1,11 +1,11 @@
 -- The units of UTF-16 give the same events as its fronts.
-use Rattle.std.proofs.Common.{◌≡◌, ℕ, ◌+◌, ◌*◌, List, [], ◌∷◌, ◌++◌, Bool, true, false, cond, refl, sym, ap, ◌∙◌, ◌||◌, ◌&&◌, arith}
-use Rattle.std.proofs.lemmas.Bool.{and_left, and_right}
+use Rattle.std.proofs.Common.{◌≡◌, ℕ, ◌+◌, ◌*◌, List, [], ◌∷◌, ◌++◌, Bool, true, false, inl, inr, refl, sym, ap, ◌∙◌, ◌||◌, ◌&&◌, arith}
+use Rattle.std.proofs.lemmas.Bool.{and_left, and_right, cases_Bool, cond_both}
 use Rattle.std.specs.Char.Utf16.{is_high_surrogate, is_low_surrogate, surrogate_pair_char}
 use Rattle.legacy_base.specs.declared.results.DecodeEvent.{DecodeEvent}
-use Rattle.legacy_base.specs.declared.results.DecodeEvent.TheVariants.{Scalar, Bad}
+use Rattle.legacy_base.specs.declared.results.DecodeEvent.TheVariants.{Scalar}
 use Rattle.legacy_base.specs.Fronts.{Front, reads, malformed, cut}
-use Rattle.legacy_base.specs.Utf16.{unit_of, units_of, has_odd_byte, lone_unit_events, last_unit_events, units_events}
+use Rattle.legacy_base.specs.Utf16.{unit_of, units_of, has_odd_byte, lone_unit_events, units_events}
 use Rattle.legacy_miscellaneous.specs.Utf16Fronts.{lone_unit_front, utf16_front}
 use Rattle.legacy_base.proofs.Cuts.{cut_at}
 
@@ -26,15 +26,12 @@ unpaired i u v units odd e = rw (e, units_events)
 -- two bytes of an unpaired unit
 cut_lone : (front : ℕ → List ℕ → Front) (i u a b : ℕ) (rest : List ℕ) → front a (b ∷ rest) ≡ lone_unit_front u →
     cut front 0 (2 * i) (a ∷ b ∷ rest) ≡ lone_unit_events i u ++ cut front 0 (2 * (i + 1)) rest
-cut_lone front i u a b rest h = go (is_high_surrogate u || is_low_surrogate u) h
-  where
-    place : 2 * i + 2 ≡ 2 * (i + 1)
-    place = omega arith
-
-    go : (t : Bool) → front a (b ∷ rest) ≡ cond t (malformed 2) (reads 2 (u ∷ [])) →
-        cut front 0 (2 * i) (a ∷ b ∷ rest) ≡ cond t (Bad (2 * i) 2 ∷ []) (Scalar u ∷ []) ++ cut front 0 (2 * (i + 1)) rest
-    go true h = rw (← place) (cut_at front (2 * i) a (b ∷ rest) (malformed 2) h (omega arith))
-    go false h = rw (← place) (cut_at front (2 * i) a (b ∷ rest) (reads 2 (u ∷ [])) h (omega arith))
+cut_lone front i u a b rest h =
+    let place : 2 * i + 2 ≡ 2 * (i + 1) = omega arith in
+    elim (cases_Bool (is_high_surrogate u || is_low_surrogate u)) [
+      | inl t ↦ rw (← place, t) (cut_at front (2 * i) a (b ∷ rest) (malformed 2) (rw t at h) (omega arith))
+      | inr t ↦ rw (← place, t) (cut_at front (2 * i) a (b ∷ rest) (reads 2 (u ∷ [])) (rw t at h) (omega arith))
+    ]
 
 -- ---- both
 
@@ -45,27 +42,21 @@ utf16_cut be i (a ∷ []) = refl
 utf16_cut be i (a ∷ b ∷ []) =
     let e : (is_high_surrogate (unit_of be a b) && false) ≡ false = and_right (is_high_surrogate (unit_of be a b)) false refl in
     rw e (sym (cut_lone (utf16_front be) i (unit_of be a b) a b [] refl))
-utf16_cut be i (a ∷ b ∷ c ∷ []) = three (is_high_surrogate (unit_of be a b)) refl
-  where
-    three : (t : Bool) → is_high_surrogate (unit_of be a b) ≡ t → last_unit_events i (unit_of be a b) true ≡ cut (utf16_front be) 0 (2 * i) (a ∷ b ∷ c ∷ [])
-    three true e = rw e
-    three false e =
-        let f : (is_high_surrogate (unit_of be a b) && true) ≡ false = and_left (is_high_surrogate (unit_of be a b)) true e in
-        rw f (sym (cut_lone (utf16_front be) i (unit_of be a b) a b (c ∷ []) (rw e)))
-utf16_cut be i (a ∷ b ∷ c ∷ d ∷ rest) = four (utf16_cut be (i + 2) rest) (utf16_cut be (i + 1) (c ∷ d ∷ rest)) (is_high_surrogate (unit_of be a b) && is_low_surrogate (unit_of be c d)) refl
-  where
-    place : 2 * i + 4 ≡ 2 * (i + 2)
-    place = omega arith
-
-    four : units_events (i + 2) (units_of be rest) (has_odd_byte rest) ≡ cut (utf16_front be) 0 (2 * (i + 2)) rest →
-        units_events (i + 1) (units_of be (c ∷ d ∷ rest)) (has_odd_byte (c ∷ d ∷ rest)) ≡ cut (utf16_front be) 0 (2 * (i + 1)) (c ∷ d ∷ rest) →
-        (t : Bool) → (is_high_surrogate (unit_of be a b) && is_low_surrogate (unit_of be c d)) ≡ t →
-        units_events i (unit_of be a b ∷ unit_of be c d ∷ units_of be rest) (has_odd_byte rest) ≡ cut (utf16_front be) 0 (2 * i) (a ∷ b ∷ c ∷ d ∷ rest)
-    four h₂ h₁ true e =
-        paired i (unit_of be a b) (unit_of be c d) (units_of be rest) (has_odd_byte rest) e
-        ∙ (ap (λ (es : List DecodeEvent). Scalar (surrogate_pair_char (unit_of be a b) (unit_of be c d)) ∷ es) (h₂ ∙ ap (λ (p : ℕ). cut (utf16_front be) 0 p rest) (sym place))
-        ∙ sym (cut_at (utf16_front be) (2 * i) a (b ∷ c ∷ d ∷ rest) (reads 4 (surrogate_pair_char (unit_of be a b) (unit_of be c d) ∷ [])) (rw e) (omega arith)))
-    four h₂ h₁ false e =
-        unpaired i (unit_of be a b) (unit_of be c d) (units_of be rest) (has_odd_byte rest) e
-        ∙ (ap (λ (es : List DecodeEvent). lone_unit_events i (unit_of be a b) ++ es) h₁
-        ∙ sym (cut_lone (utf16_front be) i (unit_of be a b) a b (c ∷ d ∷ rest) (rw e)))
+utf16_cut be i (a ∷ b ∷ c ∷ []) = elim (cases_Bool (is_high_surrogate (unit_of be a b))) [
+  | inl e ↦ rw e
+  | inr e ↦ rw (and_left _ true e) (sym (cut_lone (utf16_front be) i (unit_of be a b) a b (c ∷ []) (rw e)))
+]
+utf16_cut be i (a ∷ b ∷ c ∷ d ∷ rest) =
+    let u : ℕ = unit_of be a b in
+    let v : ℕ = unit_of be c d in
+    let place : 2 * i + 4 ≡ 2 * (i + 2) = omega arith in
+    let first : (t : Bool) → Type 0 = λ t. units_events i (u ∷ v ∷ units_of be rest) (has_odd_byte rest)
+    ≡ cut (utf16_front be) 0 (2 * i) (a ∷ b ∷ c ∷ d ∷ rest) in
+    cond_both (is_high_surrogate u && is_low_surrogate v) true false first
+    (λ e. paired i u v (units_of be rest) (has_odd_byte rest) e
+    ∙ (ap (λ (es : List DecodeEvent). Scalar (surrogate_pair_char u v) ∷ es)
+    (utf16_cut be (i + 2) rest ∙ ap (λ (p : ℕ). cut (utf16_front be) 0 p rest) (sym place))
+    ∙ sym (cut_at (utf16_front be) (2 * i) a (b ∷ c ∷ d ∷ rest) (reads 4 (surrogate_pair_char u v ∷ [])) (rw e) (omega arith))))
+    (λ e. unpaired i u v (units_of be rest) (has_odd_byte rest) e
+    ∙ (ap (λ (es : List DecodeEvent). lone_unit_events i u ++ es) (utf16_cut be (i + 1) (c ∷ d ∷ rest))
+    ∙ sym (cut_lone (utf16_front be) i u a b (c ∷ d ∷ rest) (rw e))))

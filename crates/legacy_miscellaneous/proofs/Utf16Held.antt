@@ -18,32 +18,27 @@ use Rattle.legacy_decoder_engine.specs.Feeding.{Took}
 use Rattle.legacy_miscellaneous.specs.Utf16Machine.{utf16_step, utf16_pending}
 use Rattle.legacy_miscellaneous.specs.Utf16Decoder.{first_byte, second_byte, held_bytes}
 use Rattle.legacy_decoder_engine.proofs.Feeding as moves
-use Rattle.legacy_miscellaneous.proofs.Utf16Shown.{utf16_shown}
+use Rattle.legacy_miscellaneous.proofs.{Utf16Meets.high_not_low, Utf16Shown.utf16_shown}
 
 -- the two bytes of a unit give the unit
 pub unit_of-bytes : (be : Bool) (u : ℕ) → unit_of be (first_byte be u) (second_byte be u) ≡ u
 unit_of-bytes true u = omega arith
 unit_of-bytes false u = omega arith
 
-first_below : (be : Bool) (u : ℕ) → u < 0x1_0000 → IsByte (first_byte be u)
-first_below true u h = omega arith
-first_below false u h = omega arith
-
-second_below : (be : Bool) (u : ℕ) → u < 0x1_0000 → IsByte (second_byte be u)
-second_below true u h = omega arith
-second_below false u h = omega arith
+bytes_below : (be : Bool) (u : ℕ) → u < 0x1_0000 → IsByte (first_byte be u) × IsByte (second_byte be u)
+bytes_below true u h = (omega arith, omega arith)
+bytes_below false u h = (omega arith, omega arith)
 
 high_below : (u : ℕ) → is_high_surrogate u ≡ true → u < 0x1_0000
 high_below u h = grind (arith, nat_tests)
-
-high_not_low : (u : ℕ) → is_high_surrogate u ≡ true → is_low_surrogate u ≡ false
-high_not_low u h = grind (arith, nat_tests)
 
 scalar_is : (u : ℕ) → u < 0x1_0000 → is_high_surrogate u ≡ false → is_low_surrogate u ≡ false → IsScalar u
 scalar_is u h k l = grind (arith, nat_tests)
 
 are_two : (be : Bool) (u : ℕ) → u < 0x1_0000 → (bytes : List ℕ) → AreBytes bytes → AreBytes (first_byte be u ∷ second_byte be u ∷ bytes)
-are_two be u h bytes all = All-cons IsByte (first_byte be u) (second_byte be u ∷ bytes) (first_below be u h) (All-cons IsByte (second_byte be u) bytes (second_below be u h) all)
+are_two be u h bytes all =
+    let below = bytes_below be u h in All-cons IsByte (first_byte be u) (second_byte be u ∷ bytes) below.0
+    (All-cons IsByte (second_byte be u) bytes below.1 all)
 
 module _ (be : Bool) where
   may : (h : Held) → utf16_may_hold be (held_bytes be h) ≡ true
@@ -78,7 +73,8 @@ module _ (be : Bool) where
       moves.releases (utf16_shown be) (held_bytes be (Pending p)) (may (Pending p)) (bytes (Pending p)) 2 p.scalar (resting (Pending p) p refl) (pending_is p)
       (scalar_is p.scalar p.is_unit p.is_not_high p.is_not_low)
 
-  pub reports : (h : Held) → rests (utf16 be) (held_bytes be h) ≡ true → held_bytes be h ≢ [] → Reports (state_of (utf16 be) (held_bytes be h)) (state_of (utf16 be) []) (length (held_bytes be h)) 0
+  pub reports : (h : Held) → rests (utf16 be) (held_bytes be h) ≡ true → held_bytes be h ≢ [] →
+      Reports (state_of (utf16 be) (held_bytes be h)) (state_of (utf16 be) []) (length (held_bytes be h)) 0
   reports h r some = moves.reports_all (utf16_shown be) (held_bytes be h) (may h) (bytes h) r some
 
   -- there is something to report exactly if bytes are held back

@@ -1,20 +1,20 @@
 -- The machine of UTF-16 keeps to its grammar.
-use Rattle.std.proofs.Common.{◌≡◌, ℕ, ◌≤◌, ◌<◌, List, [], ◌∷◌, length, Bool, true, false, cond, Some, None, refl, ◌∙◌, ◌||◌, ◌&&◌, arith}
-use Rattle.std.proofs.lemmas.Bool.{false≢true, not-true, not_from_false, and_left, or_left}
+use Rattle.std.proofs.Common.{◌≡◌, ℕ, ◌≤◌, ◌<◌, List, [], ◌∷◌, length, Bool, true, false, refl, ◌∙◌, arith}
+use Rattle.std.proofs.lemmas.Bool.{cond_both, false≢true, not-true, not_from_false, or_left}
 use Rattle.std.proofs.lemmas.Bool.Decides.{nat_tests}
-use Rattle.std.specs.Char.Utf16.{is_high_surrogate, is_low_surrogate, surrogate_pair_char}
-use Rattle.legacy_base.specs.Fronts.{Front, reads, malformed, front_length, cut}
+use Rattle.std.specs.Char.Utf16.{is_high_surrogate, is_low_surrogate}
+use Rattle.legacy_base.specs.Fronts.{front_length, cut}
 use Rattle.legacy_base.specs.Grammar.{utf16, events_of}
 use Rattle.legacy_base.specs.Utf16.{unit_of, utf16_events}
-use Rattle.legacy_miscellaneous.specs.Utf16Fronts.{lone_unit_front, unit_front, utf16_front}
+use Rattle.legacy_miscellaneous.specs.Utf16Fronts.{lone_unit_front, utf16_front}
 use Rattle.legacy_base.specs.States.{utf16_may_hold, rests}
-use Rattle.legacy_decoder_engine.specs.Steps.{hold, finish, PendingMeets, end_events, Meets}
+use Rattle.legacy_decoder_engine.specs.Steps.{PendingMeets, end_events, Meets}
 use Rattle.legacy_miscellaneous.specs.Utf16Machine.{utf16_pending, utf16_step, utf16_machine}
 use Rattle.legacy_base.proofs.Cuts.{cut-nil}
-use Rattle.legacy_decoder_engine.proofs.FrontMoves.{Fits, fits_test, fits_meets, write_meets, end_meets, report_meets}
+use Rattle.legacy_decoder_engine.proofs.FrontMoves.{Fits, fits_meets, write_meets, end_meets, report_meets}
 use Rattle.legacy_miscellaneous.proofs.Utf16Cut.{utf16_cut}
 
-high_not_low : (u : ℕ) → is_high_surrogate u ≡ true → is_low_surrogate u ≡ false
+pub high_not_low : (u : ℕ) → is_high_surrogate u ≡ true → is_low_surrogate u ≡ false
 high_not_low u h = grind (arith, nat_tests)
 
 module _ (be : Bool) where
@@ -27,38 +27,21 @@ module _ (be : Bool) where
   unfolding utf16_front
   front_lone a b [] h = refl
   front_lone a b (c ∷ []) h = rw h
-  front_lone a b (c ∷ d ∷ rest) h = let e : (is_high_surrogate (unit_of be a b) && is_low_surrogate (unit_of be c d)) ≡ false =
-      and_left (is_high_surrogate (unit_of be a b)) (is_low_surrogate (unit_of be c d)) h in rw e
+  front_lone a b (c ∷ d ∷ rest) h = grind arith
 
-  front_low : (a b : ℕ) (more : List ℕ) → is_high_surrogate (unit_of be a b) ≡ false → is_low_surrogate (unit_of be a b) ≡ true → utf16_front be a (b ∷ more) ≡ malformed 2
-  front_low a b more h l = front_lone a b more h ∙ rw (h, l)
-
-  front_scalar : (a b : ℕ) (more : List ℕ) → is_high_surrogate (unit_of be a b) ≡ false → is_low_surrogate (unit_of be a b) ≡ false → utf16_front be a (b ∷ more) ≡ reads 2 (unit_of be a b ∷ [])
-  front_scalar a b more h l = front_lone a b more h ∙ rw (h, l)
-
-  front_pair : (a b c d : ℕ) (more : List ℕ) → is_high_surrogate (unit_of be a b) ≡ true → is_low_surrogate (unit_of be c d) ≡ true →
-      utf16_front be a (b ∷ c ∷ d ∷ more) ≡ reads 4 (surrogate_pair_char (unit_of be a b) (unit_of be c d) ∷ [])
+  fits : (held : List ℕ) (b : ℕ) → utf16_may_hold be held ≡ true → rests (utf16 be) held ≡ true →
+      Fits (utf16_front be) (utf16_may_hold be) held b (utf16_step be held b)
   unfolding utf16_front
-  front_pair a b c d more h l = rw (h, l)
-
-  front_unpaired : (a b c d : ℕ) (more : List ℕ) → is_high_surrogate (unit_of be a b) ≡ true → is_low_surrogate (unit_of be c d) ≡ false → utf16_front be a (b ∷ c ∷ d ∷ more) ≡ malformed 2
-  unfolding utf16_front
-  front_unpaired a b c d more h l = rw (h, l)
-
-  fits : (held : List ℕ) (b : ℕ) → utf16_may_hold be held ≡ true → rests (utf16 be) held ≡ true → Fits (utf16_front be) (utf16_may_hold be) held b (utf16_step be held b)
   fits [] b h r = (omega arith, refl)
-  fits (a ∷ []) b h r =
-      fits_test (utf16_front be) (utf16_may_hold be) (a ∷ []) b (is_high_surrogate (unit_of be a b)) hold _
+  fits (a ∷ []) b h r = cond_both (is_high_surrogate (unit_of be a b)) _ _ (Fits (utf16_front be) (utf16_may_hold be) (a ∷ []) b)
       (λ k. (omega arith, not_from_false (is_low_surrogate (unit_of be a b)) (high_not_low (unit_of be a b) k)))
-      (λ k. fits_test (utf16_front be) (utf16_may_hold be) (a ∷ []) b (is_low_surrogate (unit_of be a b)) (finish (malformed 2)) (finish (reads 2 (unit_of be a b ∷ [])))
-      (λ l. (λ more. front_low a b more k l, omega arith, omega arith, refl))
-      (λ l. (λ more. front_scalar a b more k l, omega arith, omega arith, refl)))
+      (λ k. cond_both (is_low_surrogate (unit_of be a b)) _ _ (Fits (utf16_front be) (utf16_may_hold be) (a ∷ []) b)
+      (λ l. (λ more. front_lone a b more k ∙ rw (k, l), omega arith, omega arith, refl))
+      (λ l. (λ more. front_lone a b more k ∙ rw (k, l), omega arith, omega arith, refl)))
   fits (a ∷ b ∷ []) c h r = (omega arith, r)
-  fits (a ∷ b ∷ c ∷ []) d h r =
-      fits_test (utf16_front be) (utf16_may_hold be) (a ∷ b ∷ c ∷ []) d (is_low_surrogate (unit_of be c d)) (finish (reads 4 (surrogate_pair_char (unit_of be a b) (unit_of be c d) ∷ [])))
-      (finish (malformed 2))
-      (λ l. (λ more. front_pair a b c d more h l, omega arith, omega arith, refl))
-      (λ l. (λ more. front_unpaired a b c d more h l, omega arith, omega arith, not_from_false (is_low_surrogate (unit_of be c d)) l))
+  fits (a ∷ b ∷ c ∷ []) d h r = cond_both (is_low_surrogate (unit_of be c d)) _ _ (Fits (utf16_front be) (utf16_may_hold be) (a ∷ b ∷ c ∷ []) d)
+      (λ l. (λ more. rw (h, l), omega arith, omega arith, refl))
+      (λ l. (λ more. rw (h, l), omega arith, omega arith, not_from_false (is_low_surrogate (unit_of be c d)) l))
   fits (a ∷ b ∷ c ∷ d ∷ held) e h r = absurd (false≢true h)
 
   few_held : (held : List ℕ) → utf16_may_hold be held ≡ true → length held ≤ 3
@@ -67,19 +50,15 @@ module _ (be : Bool) where
 
   -- ---- a held-back unit
 
-  pending : (a b : ℕ) → utf16_may_hold be (a ∷ b ∷ []) ≡ true → (t : Bool) → is_high_surrogate (unit_of be a b) ≡ t →
-      PendingMeets (utf16 be) (a ∷ b ∷ []) (cond t None (Some (2, unit_of be a b)))
-  pending a b h true k = k
-  pending a b h false k = (
-    k,
-    write_meets (utf16 be) (utf16_front be) ev_is (a ∷ b ∷ []) 2 (unit_of be a b)
-        (λ more. front_scalar a b more k (not-true (is_low_surrogate (unit_of be a b)) h)) (omega arith) (omega arith) refl,
-  )
-
   writes : (held : List ℕ) → utf16_may_hold be held ≡ true → PendingMeets (utf16 be) held (utf16_pending be held)
   writes [] h = refl
   writes (a ∷ []) h = refl
-  writes (a ∷ b ∷ []) h = pending a b h (is_high_surrogate (unit_of be a b)) refl
+  writes (a ∷ b ∷ []) h = cond_both (is_high_surrogate (unit_of be a b)) _ _ (PendingMeets (utf16 be) (a ∷ b ∷ [])) (λ k. k)
+      (λ k. (
+        k,
+        write_meets (utf16 be) (utf16_front be) ev_is (a ∷ b ∷ []) 2 (unit_of be a b)
+            (λ more. front_lone a b more k ∙ rw (k, not-true (is_low_surrogate (unit_of be a b)) h)) (omega arith) (omega arith) refl,
+      ))
   writes (a ∷ b ∷ c ∷ held) h = refl
 
   -- ---- the end
@@ -88,34 +67,23 @@ module _ (be : Bool) where
   unfolding utf16_front
   all_end [] h r = ev_is [] ∙ cut-nil (utf16_front be)
   all_end (a ∷ []) h r = end_meets (utf16 be) (utf16_front be) ev_is a [] refl
-  all_end (a ∷ b ∷ []) h r =
-      let e : (is_high_surrogate (unit_of be a b) || is_low_surrogate (unit_of be a b)) ≡ true = or_left (is_high_surrogate (unit_of be a b)) (is_low_surrogate (unit_of be a b)) r in
-      end_meets (utf16 be) (utf16_front be) ev_is a (b ∷ []) (rw e)
+  all_end (a ∷ b ∷ []) h r = end_meets (utf16 be) (utf16_front be) ev_is a (b ∷ []) (rw (or_left _ (is_low_surrogate (unit_of be a b)) r))
   all_end (a ∷ b ∷ c ∷ []) h r = end_meets (utf16 be) (utf16_front be) ev_is a (b ∷ c ∷ []) (rw h)
   all_end (a ∷ b ∷ c ∷ d ∷ held) h r = absurd (false≢true h)
 
   -- each front has at least one byte
-  some_cond : (t : Bool) (f g : Front) → 0 < front_length f → 0 < front_length g → 0 < front_length (cond t f g)
-  some_cond true f g h k = h
-  some_cond false f g h k = k
-
-  some_lone : (u : ℕ) → 0 < front_length (lone_unit_front u)
-  some_lone u = some_cond (is_high_surrogate u || is_low_surrogate u) (malformed 2) (reads 2 (u ∷ [])) (omega arith) (omega arith)
-
-  some_unit : (u : ℕ) (rest : List ℕ) → 0 < front_length (unit_front be u rest)
-  some_unit u [] = some_lone u
-  some_unit u (c ∷ []) = some_cond (is_high_surrogate u) (malformed 3) (lone_unit_front u) (omega arith) (some_lone u)
-  some_unit u (c ∷ d ∷ rest) = some_cond _ (reads 4 (surrogate_pair_char u (unit_of be c d) ∷ [])) (lone_unit_front u) (omega arith) (some_lone u)
-
   some_front : (b : ℕ) (rest : List ℕ) → 0 < front_length (utf16_front be b rest)
   unfolding utf16_front
   some_front a [] = omega arith
-  some_front a (b ∷ rest) = some_unit (unit_of be a b) rest
+  some_front a (b ∷ []) = grind arith
+  some_front a (b ∷ c ∷ []) = grind arith
+  some_front a (b ∷ c ∷ d ∷ rest) = grind arith
 
   pub utf16_meets : Meets (utf16 be) (utf16_machine be)
   utf16_meets = record {
     writes = writes;
-    steps = λ held b h r. fits_meets (utf16 be) (utf16_front be) ev_is (utf16_may_hold be) (λ held'. refl) held b (utf16_step be held b) (few_held held h) (fits held b h r);
+    steps = λ held b h r.
+        fits_meets (utf16 be) (utf16_front be) ev_is (utf16_may_hold be) (λ held'. refl) held b (utf16_step be held b) (few_held held h) (fits held b h r);
     ends = all_end;
     reports = λ held more h r. report_meets (utf16 be) (utf16_front be) ev_is held more (λ b rest e. some_front b rest);
     few = few_held;

@@ -1,5 +1,6 @@
 -- The runs of UTF-16.
-use Rattle.std.proofs.Common.{rules, ◌≡◌, ◌∙◌, ℕ, zero, suc, ◌+◌, ◌-◌, ◌*◌, ◌<◌, ◌≤◌, List, [], ◌∷◌, ◌++◌, Bool, true, false, Option, Some, None, length, take, drop, get_or, sym, ap, subst, arith, refl}
+use Rattle.std.proofs.Common.{rules, ◌≡◌, ◌∙◌, ℕ, zero, suc, ◌+◌, ◌-◌, ◌*◌, ◌<◌, ◌≤◌, List, [], ◌∷◌, ◌++◌, Bool, false, Option, Some, None, length, take}
+use Rattle.std.proofs.Common.{drop, get_or, sym, ap, subst, arith, refl}
 use Rattle.std.specs.Prelude.{IfSome, IsAscii}
 use Rattle.std.specs.Option.{SomeIff}
 use Rattle.std.specs.Char.{IsScalar}
@@ -19,37 +20,26 @@ use Rattle.legacy_miscellaneous.specs.Utf16Decoder.{HasAsciiUnits, AreUnitsBelow
 use Rattle.legacy_decoder_engine.proofs.RunForms.{pair_runs}
 use Rattle.legacy_decoder_engine.proofs.JoinedRuns.{reads_written}
 use Rattle.legacy_decoder_engine.proofs.WrittenRuns.{runs_none, runs_more, take_two, writes_two, rest_of, writes_run, all_code_units_ascii, all_short}
-use Rattle.legacy_miscellaneous.proofs.Utf16Shown.{utf16_shown}
-
-not_high : (u : ℕ) → IsScalar u → is_high_surrogate u ≡ false
-not_high u h = grind (arith, nat_tests)
-
-not_low : (u : ℕ) → IsScalar u → is_low_surrogate u ≡ false
-not_low u h = grind (arith, nat_tests)
-
-unit_below : (be : Bool) (a b : ℕ) → IsByte a → IsByte b → unit_of be a b < 0x1_0000
-unit_below true a b h k = omega arith
-unit_below false a b h k = omega arith
+use Rattle.legacy_miscellaneous.proofs.Utf16Shown.{unit_below, utf16_shown}
 
 -- a unit that is not a surrogate is a run of its own
 pub unit_pair : (be : Bool) (a b : ℕ) → IsByte a → IsByte b → IsScalar (unit_of be a b) → IsPair (utf16 be) a b (unit_of be a b)
 unit_pair be a b byte byte' scalar =
-    let high = not_high (unit_of be a b) scalar in
-    let low = not_low (unit_of be a b) scalar in
+    let high : is_high_surrogate (unit_of be a b) ≡ false = grind (arith, nat_tests) in
+    let low : is_low_surrogate (unit_of be a b) ≡ false = grind (arith, nat_tests) in
     (unit_below be a b byte byte', pair_runs (utf16_shown be) a b (unit_of be a b) byte byte' scalar refl refl refl refl refl (rw (high, low) refl))
 
 -- a unit's scalar, if it is one
-pub unit_scalar : (be : Bool) (a b code : ℕ) → IsByte a → IsByte b → code ≡ unit_of be a b → (found : Option ℕ) → SomeIff found (IsScalar code) code → IfSome found (λ c. IsPair (utf16 be) a b c)
+pub unit_scalar : (be : Bool) (a b code : ℕ) → IsByte a → IsByte b → code ≡ unit_of be a b → (found : Option ℕ) → SomeIff found (IsScalar code) code →
+    IfSome found (λ c. IsPair (utf16 be) a b c)
 unit_scalar be a b code byte byte' is None h = tt
-unit_scalar be a b code byte byte' is (Some c) h =
-    let same : c ≡ unit_of be a b = cc in
-    rw same (unit_pair be a b byte byte' (subst IsScalar is h.0))
+unit_scalar be a b code byte byte' is (Some c) h = let same : c ≡ unit_of be a b = cc in rw same (unit_pair be a b byte byte' (rw is at h.0))
 
 -- ---- units of a vector, none of them a surrogate
 
 -- the first units of the source are these scalars
-units_run : (be : Bool) (source units : List ℕ) (r : ℕ) → ((k : ℕ) → IsByte (get_or source k 0)) → 2 * r ≤ length source → r ≤ length units
-    → ((k : ℕ) → k < r → (get_or units k 0 ≡ unit_at be source k) × IsScalar (get_or units k 0)) → Runs (utf16 be) (take (2 * r) source) (take r units)
+units_run : (be : Bool) (source units : List ℕ) (r : ℕ) → ((k : ℕ) → IsByte (get_or source k 0)) → 2 * r ≤ length source → r ≤ length units →
+    ((k : ℕ) → k < r → (get_or units k 0 ≡ unit_at be source k) × IsScalar (get_or units k 0)) → Runs (utf16 be) (take (2 * r) source) (take r units)
 units_run be source units zero bytes within room are = runs_none (utf16 be)
 units_run be source units (suc r) bytes within room are =
     let u : ℕ = get_or units r 0 in
@@ -57,19 +47,18 @@ units_run be source units (suc r) bytes within room are =
     let b : ℕ = get_or source (2 * r + 1) 0 in
     let is = are r (omega arith) in
     let before = units_run be source units r bytes (omega arith) (omega arith) (λ k h. are k (omega arith)) in
-    let one = subst (λ x. Runs (utf16 be) (a ∷ b ∷ []) (x ∷ [])) (sym is.0) ((unit_pair be a b (bytes (2 * r)) (bytes (2 * r + 1)) (subst IsScalar is.0 is.1)).1) in
+    let one = subst (λ x. Runs (utf16 be) (a ∷ b ∷ []) (x ∷ [])) (sym is.0)
+    ((unit_pair be a b (bytes (2 * r)) (bytes (2 * r + 1)) (subst IsScalar is.0 is.1)).1) in
     let place : 2 * suc r ≡ 2 * r + 2 = omega arith in
     let more : suc r ≡ r + 1 = omega arith in
-    let taken : take (2 * suc r) source ≡ take (2 * r) source ++ a ∷ b ∷ [] = ap (λ n. take n source) place ∙ take_two source (2 * r) (omega arith) in
-    let scalars : take (suc r) units ≡ take r units ++ u ∷ [] = ap (λ n. take n units) more ∙ take_more units r 0 (omega arith) in
-    subst (λ l. Runs (utf16 be) l (take (suc r) units)) (sym taken) (subst (λ l. Runs (utf16 be) (take (2 * r) source ++ a ∷ b ∷ []) l) (sym scalars)
-    (runs_more (utf16 be) (take (2 * r) source) (a ∷ b ∷ []) (take r units) (u ∷ []) before one))
+    rw (place, more, take_two source (2 * r) (omega arith), take_more units r 0 (omega arith))
+    (runs_more (utf16 be) (take (2 * r) source) (a ∷ b ∷ []) (take r units) (u ∷ []) before one)
 
 -- these scalars were written
-pub writes_units : {D : Type 0} (T : Ghosts D) (be : Bool) (source units : List ℕ) {old new : D} (r : ℕ) → ((k : ℕ) → IsByte (get_or source k 0)) → 2 * r ≤ length source → r ≤ length units
-    → ((k : ℕ) → k < r → (get_or units k 0 ≡ unit_at be source k) × IsScalar (get_or units k 0))
-    → T.contents new ≡ T.contents old ++ all_code_units T.form (take r units) → T.room new + total_unit_count T.form (take r units) ≡ T.room old → T.loan new ≡ T.loan old
-    → Writes T (utf16 be) (take (2 * r) source) old new
+pub writes_units : {D : Type 0} (T : Ghosts D) (be : Bool) (source units : List ℕ) {old new : D} (r : ℕ) → ((k : ℕ) → IsByte (get_or source k 0)) →
+    2 * r ≤ length source → r ≤ length units → ((k : ℕ) → k < r → (get_or units k 0 ≡ unit_at be source k) × IsScalar (get_or units k 0)) →
+    T.contents new ≡ T.contents old ++ all_code_units T.form (take r units) → T.room new + total_unit_count T.form (take r units) ≡ T.room old →
+    T.loan new ≡ T.loan old → Writes T (utf16 be) (take (2 * r) source) old new
 writes_units T be source units r bytes within room are contents room' loan = record {
   scalars = take r units;
   runs = units_run be source units r bytes within room are;
@@ -83,37 +72,48 @@ pub below_scalar : (c : ℕ) → c < 0x800 → IsScalar c
 below_scalar c h = search rules
 
 -- a block of which `r` units of ASCII were written
-pub reads_block : {D : Type 0} (T : Ghosts D) (be : Bool) (source block : List ℕ) (old new : D) (r : ℕ) → ((k : ℕ) → IsByte (get_or source k 0))
-    → 32 ≤ length source → length block ≡ 16 → HasAsciiUnits be source block 16 → r ≤ length block → IsAscii (take r block)
-    → T.contents new ≡ T.contents old ++ take r block → T.room new + r ≡ T.room old → T.loan new ≡ T.loan old → 19 ≤ T.room old → ReadsAhead T (new_state (utf16 be)) source (2 * r) old new
+pub reads_block : {D : Type 0} (T : Ghosts D) (be : Bool) (source block : List ℕ) (old new : D) (r : ℕ) → ((k : ℕ) → IsByte (get_or source k 0)) →
+    32 ≤ length source → length block ≡ 16 → HasAsciiUnits be source block 16 → r ≤ length block → IsAscii (take r block) →
+    T.contents new ≡ T.contents old ++ take r block → T.room new + r ≡ T.room old → T.loan new ≡ T.loan old → 19 ≤ T.room old →
+    ReadsAhead T (new_state (utf16 be)) source (2 * r) old new
 reads_block T be source block old new r bytes within long narrow count ascii contents room loan enough =
     let all = All-from_ascii (take r block) ascii in
     let l : length (take r block) ≡ r = length-take-le r block count in
     let same = all_code_units_ascii T.form (take r block) ascii in
-    let low : (k : ℕ) → k < r → get_or block k 0 < 0x80 = λ k h. subst (λ u. u < 0x80) (get_or-take r block k 0 h) (All-get_or (λ u. u < 0x80) (take r block) k 0 (omega arith) all) in
-    reads_written {D = _} {T = T} {g = utf16 be} {source = source} {old = old} {new = new} {r = 2 * r} (omega arith)
-    (writes_units T be source block r bytes (omega arith) count (λ k h. (sym (narrow k (omega arith) (low k h)), below_scalar (get_or block k 0) (omega (arith, low k h))))
+    let low : (k : ℕ) → k < r → get_or block k 0 < 0x80 = λ k h.
+    rw (← get_or-take r block k 0 h) (All-get_or (λ u. u < 0x80) (take r block) k 0 (omega arith) all) in
+    reads_written (omega arith)
+    (writes_units T be source block r bytes (omega arith) count
+    (λ k h. (sym (narrow k (omega arith) (low k h)), below_scalar (get_or block k 0) (omega (arith, low k h))))
     (contents ∙ ap (λ units. T.contents old ++ units) (sym same)) (omega (arith, ap length same, l, room)) loan) (omega arith) (omega arith)
 
 -- ---- eight more units
 
 -- each byte of the rest of a source is a byte
-pub rest_bytes : (source : List ℕ) (at : ℕ) → ((k : ℕ) → IsByte (get_or source k 0)) → (k : ℕ) → IsByte (get_or (take (length source - at) (drop at source)) k 0)
-rest_bytes source at bytes k = subst (λ l. IsByte (get_or l k 0)) (sym (rest_of source at)) (subst IsByte (sym (get_or-drop at source k 0)) (bytes (at + k)))
+rest_bytes : (source : List ℕ) (at : ℕ) → ((k : ℕ) → IsByte (get_or source k 0)) → (k : ℕ) →
+    IsByte (get_or (take (length source - at) (drop at source)) k 0)
+rest_bytes source at bytes k = rw (rest_of source at, get_or-drop at source k 0) (bytes (at + k))
 
 -- a unit of the rest of a source
-pub rest_unit : (be : Bool) (source : List ℕ) (group k : ℕ) → unit_at be (take (length source - 16 * group) (drop (16 * group) source)) k ≡ unit_at be source (8 * group + k)
+pub rest_unit : (be : Bool) (source : List ℕ) (group k : ℕ) →
+    unit_at be (take (length source - 16 * group) (drop (16 * group) source)) k ≡ unit_at be source (8 * group + k)
 rest_unit be source group k =
     let first : 16 * group + 2 * k ≡ 2 * (8 * group + k) = omega arith in
     let second : 16 * group + (2 * k + 1) ≡ 2 * (8 * group + k) + 1 = omega arith in
     rw (rest_of source (16 * group), get_or-drop (16 * group) source (2 * k) 0, get_or-drop (16 * group) source (2 * k + 1) 0, first, second) refl
 
-pub writes_eight : {D : Type 0} (T : Ghosts D) (be : Bool) (source units : List ℕ) {old mid new : D} (group : ℕ) → ((k : ℕ) → IsByte (get_or source k 0)) → 16 * group + 16 ≤ length source
-    → length units ≡ 8 → Writes T (utf16 be) (take (16 * group) source) old mid
-    → ((k : ℕ) → k < 8 → (get_or units k 0 ≡ unit_at be (take (length source - 16 * group) (drop (16 * group) source)) k) × IsScalar (get_or units k 0))
-    → T.contents new ≡ T.contents mid ++ all_code_units T.form units → T.room new + total_unit_count T.form units ≡ T.room mid → T.loan new ≡ T.loan mid
-    → Writes T (utf16 be) (take (16 * (group + 1)) source) old new
-writes_eight T be source units {old} {mid} {new} group bytes within long before are contents room loan =
+-- eight units have at most three code units each
+few_units : (form : EncodingForm) (be : Bool) (source units : List ℕ) → ((k : ℕ) → IsByte (get_or source k 0)) → length units ≡ 8 →
+    ((k : ℕ) → k < 8 → (get_or units k 0 ≡ unit_at be source k) × IsScalar (get_or units k 0)) → total_unit_count form units ≤ 24
+few_units form be source units bytes long are =
+    omega (arith, long, all_short form units (λ k h. rw ((are k (omega arith)).0) (unit_below be _ _ (bytes (2 * k)) (bytes (2 * k + 1)))))
+
+pub eight_more : {D : Type 0} (T : Ghosts D) (be : Bool) (source units : List ℕ) {old mid new : D} (group : ℕ) → ((k : ℕ) → IsByte (get_or source k 0)) →
+    16 * group + 16 ≤ length source → length units ≡ 8 → T.room old ≤ T.room mid + 24 * group → Writes T (utf16 be) (take (16 * group) source) old mid →
+    ((k : ℕ) → k < 8 → (get_or units k 0 ≡ unit_at be (take (length source - 16 * group) (drop (16 * group) source)) k) × IsScalar (get_or units k 0)) →
+    T.contents new ≡ T.contents mid ++ all_code_units T.form units → T.room new + total_unit_count T.form units ≡ T.room mid → T.loan new ≡ T.loan mid →
+    (T.room old ≤ T.room new + 24 * (group + 1)) × Writes T (utf16 be) (take (16 * (group + 1)) source) old new
+eight_more T be source units {old} {mid} {new} group bytes within long less before are contents room loan =
     let at = 16 * group in
     let rest : List ℕ = take (length source - at) (drop at source) in
     let longer : length rest ≡ length source - at = length-take-le (length source - at) (drop at source) (omega (arith, length-drop at source)) in
@@ -121,27 +121,24 @@ writes_eight T be source units {old} {mid} {new} group bytes within long before 
     let place : at + 16 ≡ 16 * (group + 1) = omega arith in
     let enough : 2 * 8 ≤ length rest = omega arith in
     let room' : T.room new + total_unit_count T.form (take 8 units) ≡ T.room mid = omega (arith, ap (total_unit_count T.form) all, room) in
-    subst (λ n. Writes T (utf16 be) (take n source) old new) place
-    (writes_run T source at 16 before (writes_units T be rest units 8 (rest_bytes source at bytes) enough (omega arith) are
-    (contents ∙ ap (λ l. T.contents mid ++ all_code_units T.form l) (sym all)) room' loan))
-
--- eight units have at most three code units each
-pub few_units : (form : EncodingForm) (be : Bool) (source units : List ℕ) → ((k : ℕ) → IsByte (get_or source k 0)) → length units ≡ 8 → ((k : ℕ) → k < 8 → get_or units k 0 ≡ unit_at be source k)
-    → total_unit_count form units ≤ 24
-few_units form be source units bytes long are =
-    omega (arith, long, all_short form units (λ k h. subst (λ u. u < 65536) (sym (are k (omega arith))) (unit_below be (get_or source (2 * k) 0) (get_or source (2 * k + 1) 0) (bytes (2 * k)) (bytes (2 * k + 1)))))
+    let few = few_units T.form be rest units (rest_bytes source at bytes) long are in (
+      omega (arith, less, few, room),
+      subst (λ n. Writes T (utf16 be) (take n source) old new) place
+          (writes_run T source at 16 before (writes_units T be rest units 8 (rest_bytes source at bytes) enough (omega arith) are
+          (contents ∙ ap (λ l. T.contents mid ++ all_code_units T.form l) (sym all)) room' loan)),
+    )
 
 -- eight units of a source that is below U+0800 are below it
 pub short_eight : (be : Bool) (source units : List ℕ) (group : ℕ) → AreUnitsBelow be source 64 0x800 → group < 8
-    → ((k : ℕ) → k < 8 → get_or units k 0 ≡ unit_at be (take (length source - 16 * group) (drop (16 * group) source)) k) → (k : ℕ) → k < 8 → get_or units k 0 < 0x800
-short_eight be source units group below h are k l = subst (λ u. u < 0x800) (sym (are k l ∙ rest_unit be source group k)) (below (8 * group + k) (omega arith))
+    → ((k : ℕ) → k < 8 → get_or units k 0 ≡ unit_at be (take (length source - 16 * group) (drop (16 * group) source)) k) → (k : ℕ) → k < 8 →
+    get_or units k 0 < 0x800
+short_eight be source units group below h are k l = rw (are k l ∙ rest_unit be source group k) (below (8 * group + k) (omega arith))
 
 -- one more unit is written
-pub writes_unit : {D : Type 0} (T : Ghosts D) (be : Bool) (source : List ℕ) {old mid new : D} (at c : ℕ) → ((k : ℕ) → IsByte (get_or source k 0)) → 2 * at + 1 < length source
-    → Writes T (utf16 be) (take (2 * at) source) old mid
-    → IsScalar (unit_at be source at) → c ≡ unit_at be source at → T.contents new ≡ T.contents mid ++ code_units T.form c
-    → T.room new + length (code_units T.form c) ≡ T.room mid → T.loan new ≡ T.loan mid
-    → Writes T (utf16 be) (take (2 * (at + 1)) source) old new
+pub writes_unit : {D : Type 0} (T : Ghosts D) (be : Bool) (source : List ℕ) {old mid new : D} (at c : ℕ) → ((k : ℕ) → IsByte (get_or source k 0)) →
+    2 * at + 1 < length source → Writes T (utf16 be) (take (2 * at) source) old mid → IsScalar (unit_at be source at) → c ≡ unit_at be source at →
+    T.contents new ≡ T.contents mid ++ code_units T.form c → T.room new + length (code_units T.form c) ≡ T.room mid → T.loan new ≡ T.loan mid →
+    Writes T (utf16 be) (take (2 * (at + 1)) source) old new
 writes_unit T be source at c bytes within before scalar is contents room loan =
     let place : 2 * (at + 1) ≡ 2 * at + 2 = omega arith in
     let a : ℕ = get_or source (2 * at) 0 in

@@ -1,9 +1,9 @@
 -- The steps of UTF-16 agree with its grammar.
-use Rattle.std.proofs.Common.{◌≡◌, ℕ, ◌+◌, ◌*◌, ◌<◌, ◌≤◌, List, [], ◌∷◌, length, get_or, Bool, true, false, cond, Some, None, refl, inl, arith}
-use Rattle.std.proofs.lemmas.Bool.{false≢true}
+use Rattle.std.proofs.Common.{◌≡◌, ℕ, ◌+◌, ◌*◌, ◌<◌, ◌≤◌, List, [], ◌∷◌, length, get_or, Bool, true, false, refl, inl, arith}
+use Rattle.std.proofs.lemmas.Bool.{cond_both, false≢true}
 use Rattle.std.specs.Char.Utf16.{is_high_surrogate, is_low_surrogate, surrogate_pair_char}
 use Rattle.legacy_tables.specs.Unicode.{IsByte, AreBytes}
-use Rattle.legacy_base.specs.Fronts.{reads, malformed}
+use Rattle.legacy_base.specs.Fronts.{malformed}
 use Rattle.legacy_base.specs.Grammar.{utf16}
 use Rattle.legacy_base.specs.Utf16.{unit_of}
 use Rattle.legacy_base.specs.States.{DecoderState, utf16_may_hold, rests}
@@ -15,10 +15,9 @@ use Rattle.legacy_decoder_engine.specs.Costs.{step_units, step_left, IsWidth, Wr
 use Rattle.legacy_base.specs.States.{state_of}
 use Rattle.legacy_miscellaneous.proofs.Utf16Meets.{utf16_meets}
 use Rattle.legacy_base.specs.Lengths.{LengthQuery, to_utf16, to_utf8, to_utf8_without_replacement, query_form, replacement_units, room}
+use Rattle.legacy_decoder_engine.specs.Settling.{Settles}
 use Rattle.legacy_decoder_engine.specs.Shown.{KeepsRooms, IsShown, WriteSettles}
 use Rattle.legacy_decoder_engine.proofs.CallUnderWay.{same_rooms}
-use Rattle.legacy_miscellaneous.proofs.Utf16Settles.{utf16_settles}
-use Rattle.legacy_decoder_engine.proofs.SettledSteps.{write_test}
 use Rattle.legacy_decoder_engine.proofs.Widths.{width_of}
 use Rattle.legacy_decoder_engine.proofs.RoomMoves.{no_short_room, cond_most}
 
@@ -29,12 +28,7 @@ record Halved (len : ℕ → ℕ) (narrow wide : ℕ) (held : List ℕ) (b : ℕ
   units_most : step_units len narrow s ≤ narrow * pairs
   fewer : (length (step_held s held b) + step_left s) + 2 * pairs ≤ length held + 1
 
-halved_test : (len : ℕ → ℕ) (narrow wide : ℕ) (held : List ℕ) (b : ℕ) (t : Bool) (s₁ s₂ : Step) →
-    (t ≡ true → Halved len narrow wide held b s₁) → (t ≡ false → Halved len narrow wide held b s₂) → Halved len narrow wide held b (cond t s₁ s₂)
-halved_test len narrow wide held b true s₁ s₂ f₁ f₂ = f₁ refl
-halved_test len narrow wide held b false s₁ s₂ f₁ f₂ = f₂ refl
-
-unit_below : (be : Bool) (a b : ℕ) → a < 0x100 → b < 0x100 → unit_of be a b < 0x1_0000
+pub unit_below : (be : Bool) (a b : ℕ) → a < 0x100 → b < 0x100 → unit_of be a b < 0x1_0000
 unit_below true a b h k = omega arith
 unit_below false a b h k = omega arith
 
@@ -48,20 +42,21 @@ IsHalved room be narrow = (held held' : List ℕ) (n n' u pairs : ℕ) → u ≤
 
 module _ (be : Bool) where
   module _ (len : ℕ → ℕ) (narrow wide : ℕ) (w : IsWidth len narrow wide) where
-    halved : (held : List ℕ) (b : ℕ) → utf16_may_hold be held ≡ true → rests (utf16 be) held ≡ true → AreBytes held → IsByte b → Halved len narrow wide held b (utf16_step be held b)
+    halved : (held : List ℕ) (b : ℕ) → utf16_may_hold be held ≡ true → rests (utf16 be) held ≡ true → AreBytes held → IsByte b →
+        Halved len narrow wide held b (utf16_step be held b)
     halved [] b h r bytes byte = record { pairs = 0; fits = omega arith; units_most = omega arith; fewer = omega arith }
     halved (a ∷ []) b h r bytes byte =
         let below : unit_of be a b < 0x1_0000 = unit_below be a b (byte_at (a ∷ []) 0 bytes (omega arith)) byte in
         let q : len (unit_of be a b) ≤ narrow = w.bmp (unit_of be a b) below in
-        halved_test len narrow wide (a ∷ []) b (is_high_surrogate (unit_of be a b)) hold _
+        cond_both (is_high_surrogate (unit_of be a b)) _ _ (Halved len narrow wide (a ∷ []) b)
         (λ k. record { pairs = 0; fits = omega arith; units_most = omega arith; fewer = omega arith })
-        (λ k. halved_test len narrow wide (a ∷ []) b (is_low_surrogate (unit_of be a b)) (finish (malformed 2)) (finish (reads 2 (unit_of be a b ∷ [])))
+        (λ k. cond_both (is_low_surrogate (unit_of be a b)) _ _ (Halved len narrow wide (a ∷ []) b)
         (λ l. record { pairs = 1; fits = omega arith; units_most = omega arith; fewer = omega arith })
         (λ l. record { pairs = 1; fits = omega arith; units_most = omega arith; fewer = omega arith }))
     halved (a ∷ b ∷ []) c h r bytes byte = record { pairs = 0; fits = omega arith; units_most = omega arith; fewer = omega arith }
     halved (a ∷ b ∷ c ∷ []) d h r bytes byte =
-        let q : len (surrogate_pair_char (unit_of be a b) (unit_of be c d)) ≤ wide = w.every (surrogate_pair_char (unit_of be a b) (unit_of be c d)) in
-        halved_test len narrow wide (a ∷ b ∷ c ∷ []) d (is_low_surrogate (unit_of be c d)) (finish (reads 4 (surrogate_pair_char (unit_of be a b) (unit_of be c d) ∷ []))) (finish (malformed 2))
+        let q = w.every (surrogate_pair_char (unit_of be a b) (unit_of be c d)) in
+        cond_both (is_low_surrogate (unit_of be c d)) _ _ (Halved len narrow wide (a ∷ b ∷ c ∷ []) d)
         (λ l. record { pairs = 2; fits = omega arith; units_most = omega arith; fewer = omega arith })
         (λ l. record { pairs = 1; fits = omega arith; units_most = omega arith; fewer = omega arith })
     halved (a ∷ b ∷ c ∷ d ∷ held) e h r bytes byte = absurd (false≢true h)
@@ -75,23 +70,19 @@ module _ (be : Bool) where
         (held : List ℕ) → utf16_may_hold be held ≡ true → AreBytes held → WritePays len narrow wide room (utf16 be) held (utf16_pending be held)
     unit_pays room falls [] h bytes = tt
     unit_pays room falls (a ∷ []) h bytes = tt
-    unit_pays room falls (a ∷ b ∷ []) h bytes = go (is_high_surrogate (unit_of be a b))
-      where
-        below : unit_of be a b < 0x1_0000
-        below = unit_below be a b (byte_at (a ∷ b ∷ []) 0 bytes (omega arith)) (byte_at (a ∷ b ∷ []) 1 bytes (omega arith))
-
-        go : (t : Bool) → WritePays len narrow wide room (utf16 be) (a ∷ b ∷ []) (cond t None (Some (2, unit_of be a b)))
-        go true = tt
-        go false = let q : len (unit_of be a b) ≤ narrow = w.bmp (unit_of be a b) below in (q, λ n. falls (a ∷ b ∷ []) [] n n (len (unit_of be a b)) 1 (omega arith) (omega arith))
+    unit_pays room falls (a ∷ b ∷ []) h bytes =
+        let q = w.bmp (unit_of be a b) (unit_below be a b (byte_at (a ∷ b ∷ []) 0 bytes (omega arith)) (byte_at (a ∷ b ∷ []) 1 bytes (omega arith))) in
+        cond_both (is_high_surrogate (unit_of be a b)) _ _ (WritePays len narrow wide room (utf16 be) (a ∷ b ∷ [])) (λ t. tt)
+        (λ t. (q, λ n. falls (a ∷ b ∷ []) [] n n (len (unit_of be a b)) 1 (omega arith) (omega arith)))
     unit_pays room falls (a ∷ b ∷ c ∷ held) h bytes = tt
 
-    step_pays : (room : DecoderState → ℕ → ℕ) → IsHalved room be narrow → (held : List ℕ) (b n : ℕ) → utf16_may_hold be held ≡ true → rests (utf16 be) held ≡ true → AreBytes held → IsByte b →
-        room (state_of (utf16 be) (step_held (utf16_step be held b) held b)) (n + step_left (utf16_step be held b)) + step_units len narrow (utf16_step be held b) ≤
-        room (state_of (utf16 be) held) (n + 1)
+    step_pays : (room : DecoderState → ℕ → ℕ) → IsHalved room be narrow → (held : List ℕ) (b n : ℕ) → utf16_may_hold be held ≡ true →
+        rests (utf16 be) held ≡ true →
+        AreBytes held → IsByte b → let s = utf16_step be held b in
+        room (state_of (utf16 be) (step_held s held b)) (n + step_left s) + step_units len narrow s ≤ room (state_of (utf16 be) held) (n + 1)
     step_pays room falls held b n h r bytes byte =
-        let c : Halved len narrow wide held b (utf16_step be held b) = halved held b h r bytes byte in
-        falls held (step_held (utf16_step be held b) held b) (n + 1) (n + step_left (utf16_step be held b)) (step_units len narrow (utf16_step be held b)) c.pairs c.units_most
-        (let f = c.fewer in omega arith)
+        let c = halved held b h r bytes byte in
+        falls held _ (n + 1) (n + step_left (utf16_step be held b)) _ c.pairs c.units_most (let f = c.fewer in omega arith)
 
   falls : (query : LengthQuery) → IsHalved (room query) be (bmp_room (query_form query))
   falls to_utf16 = λ held held' n n' u pairs h k. omega arith
@@ -114,7 +105,8 @@ module _ (be : Bool) where
   held_covered to_utf16 held n p = omega arith
   held_covered _ held n p = omega arith
 
-  report_pays : (query : LengthQuery) (b : ℕ) (held : List ℕ) → room query (state_of (utf16 be) []) 0 + replacement_units query ≤ room query (state_of (utf16 be) (b ∷ held)) 0
+  report_pays : (query : LengthQuery) (b : ℕ) (held : List ℕ) →
+      room query (state_of (utf16 be) []) 0 + replacement_units query ≤ room query (state_of (utf16 be) (b ∷ held)) 0
   report_pays to_utf16 b held = omega arith
   report_pays _ b held = omega arith
 
@@ -126,21 +118,30 @@ module _ (be : Bool) where
         let q = fewer_units query (unit_count form) (utf16_step be held b) in omega arith;
     write_pays = λ held h r bytes. unit_pays (unit_count form) (bmp_room form) (wide_room form) w (room query) (falls query) held h bytes;
     report_pays = λ b held h r. report_pays query b held;
-    reads_covered = λ held b n h p. let c = byte_covered query held n p in let s = w.some in let r = w.rises in cond_most _ 1 (wide_room form) _ (omega arith) c;
+    reads_covered = λ held b n h p.
+        let c = byte_covered query held n p in let s = w.some in let r = w.rises in cond_most _ 1 (wide_room form) _ (omega arith) c;
     holds_covered = λ held n h p. held_covered query held n p;
   }
+
+  settles : (held : List ℕ) (b : ℕ) → utf16_may_hold be held ≡ true → Settles (utf16 be) held b (utf16_step be held b)
+  settles [] b h = refl
+  settles (a ∷ []) b h = cond_both (is_high_surrogate (unit_of be a b)) _ _ (Settles (utf16 be) (a ∷ []) b) (λ k. k)
+      (λ k. cond_both (is_low_surrogate (unit_of be a b)) _ _ (Settles (utf16 be) (a ∷ []) b) (λ l. tt) (λ l. (refl, tt)))
+  settles (a ∷ b ∷ []) c h = refl
+  settles (a ∷ b ∷ c ∷ []) d h = cond_both (is_low_surrogate (unit_of be c d)) _ _ (Settles (utf16 be) (a ∷ b ∷ c ∷ []) d) (λ l. (refl, tt)) (λ l. tt)
+  settles (a ∷ b ∷ c ∷ d ∷ held) e h = absurd (false≢true h)
 
   write_settles : (held : List ℕ) → utf16_may_hold be held ≡ true → WriteSettles (utf16 be) held (utf16_pending be held)
   write_settles [] h = tt
   write_settles (a ∷ []) h = tt
-  write_settles (a ∷ b ∷ []) h = write_test (utf16 be) (a ∷ b ∷ []) (is_high_surrogate (unit_of be a b)) None (Some (2, unit_of be a b)) (λ k. tt) (λ k. refl)
+  write_settles (a ∷ b ∷ []) h = cond_both (is_high_surrogate (unit_of be a b)) _ _ (WriteSettles (utf16 be) (a ∷ b ∷ [])) (λ k. tt) (λ k. refl)
   write_settles (a ∷ b ∷ d ∷ held) h = tt
 
   pub utf16_shown : IsShown (utf16 be) (utf16_machine be)
   utf16_shown = record {
     meets = utf16_meets be;
     rooms = rooms;
-    settles = λ held b h r. utf16_settles be held b h r;
+    settles = λ held b h r. settles held b h;
     write_settles = write_settles;
     same_rooms = λ held b. same_rooms (utf16 be);
     same_marks = λ held b. refl;

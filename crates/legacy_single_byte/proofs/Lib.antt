@@ -2,7 +2,6 @@
 pub mod EncoderRuns
 pub mod Latin1Fronts
 pub mod LongestRuns
-pub mod SingleByteMeets
 pub mod SingleByteShown
 pub mod SingleByteRuns
 pub mod SingleByteSteps

@@ -1,18 +1,14 @@
 -- The longest run of letters: how one more place changes it, and that the encoder accepts it.
-use Rattle.std.proofs.Common.{◌≡◌, ◌≢◌, ℕ, zero, suc, ◌+◌, ◌-◌, ◌<◌, ◌≤◌, ◌==◌, List, get_or, refl, sym, ap, subst, arith, inl, inr, Some, None, Option, Bool, true, false, not, if◌then◌else◌, nat_lt, option_map}
-use Rattle.std.proofs.lemmas.Bool.{cases_lt, le-ltb, ltb-false}
+use Rattle.std.proofs.Common.{◌≡◌, ◌≢◌, ℕ, zero, suc, ◌+◌, ◌-◌, ◌<◌, ◌≤◌, ◌==◌, List, get_or, refl, sym, subst, arith, inl, inr, None}
+use Rattle.std.proofs.Common.{not}
+use Rattle.std.proofs.lemmas.Bool.{cases_lt, le-ltb}
 use Rattle.std.proofs.lemmas.Bool.Decides.{nat_tests}
 use Rattle.legacy_tables.proofs.FirstPlaces.{find-none}
-use Rattle.legacy_single_byte.specs.declared.single_byte.run.SingleByteRunError.TheVariants.{RunStart, RunPastEnd, RunMismatch}
 use Rattle.legacy_single_byte.specs.SingleByteRun.{IsRun, first_mismatch, single_byte_run_fault}
 use Rattle.legacy_single_byte.specs.LongestRun.{IsLetterRun, LongestToThe, LongestUpTo}
 use Rattle.legacy_single_byte.proofs.EncoderRuns.{run_holds}
 
 -- ---- runs that the encoder accepts
-
-no_mismatch : {A : Type 0} (f : ℕ → A) (o : Option ℕ) → option_map f o ≡ None → o ≡ None
-no_mismatch f None e = refl
-no_mismatch f (Some k) e = cc
 
 -- the facts about a run that is not refused
 pub record IsTaken (table : List ℕ) (scalar start count : ℕ) : Type 0 where
@@ -21,26 +17,17 @@ pub record IsTaken (table : List ℕ) (scalar start count : ℕ) : Type 0 where
   pub holds : IsRun table scalar start count
 
 pub taken : (table : List ℕ) (scalar start count : ℕ) → single_byte_run_fault table scalar start count ≡ None → IsTaken table scalar start count
-taken table scalar start count e = go (nat_lt start 32) (nat_lt 128 (start + count)) refl refl e
-  where
-    go : (early late : Bool) → nat_lt start 32 ≡ early → nat_lt 128 (start + count) ≡ late →
-        (if early then Some RunStart else if late then Some RunPastEnd else option_map (λ k. RunMismatch (start + k)) (first_mismatch table scalar start count)) ≡ None →
-        IsTaken table scalar start count
-    go true late p q z = cc
-    go false true p q z = cc
-    go false false p q z = record {
-      from = ltb-false start 32 p;
-      within = ltb-false 128 (start + count) q;
-      holds = run_holds table scalar start count (no_mismatch (λ k. RunMismatch (start + k)) _ z);
-    }
-
-same_test : (a b : ℕ) → a ≡ b → not (a == b) ≡ false
-same_test a b e = grind (arith, nat_tests)
+taken table scalar start count e = record {
+  from = grind (arith, nat_tests);
+  within = grind (arith, nat_tests);
+  holds = run_holds table scalar start count (grind arith);
+}
 
 pub not_refused : (table : List ℕ) (scalar start count : ℕ) → 32 ≤ start → start + count ≤ 128 → IsRun table scalar start count →
     single_byte_run_fault table scalar start count ≡ None
 not_refused table scalar start count from within holds =
-    let none : first_mismatch table scalar start count ≡ None = find-none (λ k. not (get_or table (start + k) 0 == scalar + k)) 0 count (λ k l m. same_test _ _ (holds k (omega arith))) in
+    let none : first_mismatch table scalar start count ≡ None =
+    find-none (λ k. not (get_or table (start + k) 0 == scalar + k)) 0 count (λ k l m. let same = holds k (omega arith) in grind (arith, nat_tests)) in
     rw (le-ltb start 32 from, le-ltb 128 (start + count) within, none) refl
 
 -- ---- one more place
@@ -87,15 +74,17 @@ module _ (table : List ℕ) where
         }
 
     -- the scalar at the place does not continue the run
-    apart : (value : ℕ) → get_or table place 0 ≡ value → value ≢ scalar + count → (c s n : ℕ) → IsLetterRun table c s (suc (suc n)) → s + suc (suc n) ≡ place + 1 → ⊥
+    apart : (value : ℕ) → get_or table place 0 ≡ value → value ≢ scalar + count → (c s n : ℕ) → IsLetterRun table c s (suc (suc n)) →
+        s + suc (suc n) ≡ place + 1
+        → ⊥
     apart value e other c s n run ends =
         let one : suc n ≤ count = before.longest c s (suc n) (front c s (suc n) run) (omega arith) in
         let until = before.ends in
         let same : start + (count - 1) ≡ s + n = omega arith in
-        let mine : get_or table (s + n) 0 ≡ scalar + (count - 1) = subst (λ p. get_or table p 0 ≡ scalar + (count - 1)) same (before.is.holds (count - 1) (omega arith)) in
-        let theirs : get_or table (s + n) 0 ≡ c + n = run.holds n (omega arith) in
+        let mine = rw same at (before.is.holds (count - 1) (omega arith)) in
+        let theirs = run.holds n (omega arith) in
         let at_place : s + (n + 1) ≡ place = omega arith in
-        let last : get_or table place 0 ≡ c + (n + 1) = subst (λ p. get_or table p 0 ≡ c + (n + 1)) at_place (run.holds (n + 1) (omega arith)) in
+        let last = rw at_place at (run.holds (n + 1) (omega arith)) in
         other (omega (arith, mine, theirs, last, e))
 
     few : (value : ℕ) → get_or table place 0 ≡ value → value ≢ scalar + count → (c s n : ℕ) → IsLetterRun table c s n → s + n ≡ place + 1 → n ≤ 1
@@ -112,7 +101,7 @@ module _ (table : List ℕ) where
             from = omega arith;
             low = omega arith;
             holds = λ k h. let first : 0 ≡ k = omega arith in
-                subst (λ j. get_or table (place + j) 0 ≡ value + j) first (let at : get_or table (place + 0) 0 ≡ get_or table place 0 = ap (λ p. get_or table p 0) (omega arith) in omega (arith, at, e));
+                let at : place + 0 ≡ place = omega arith in subst (λ j. get_or table (place + j) 0 ≡ value + j) first (rw at (omega (arith, e)));
           };
           ends = refl;
           longest = few value e other;
@@ -123,7 +112,7 @@ module _ (table : List ℕ) where
     nothing value e high c s zero run ends = omega arith
     nothing value e high c s (suc n) run ends =
         let at_place : s + n ≡ place = omega arith in
-        let last : get_or table place 0 ≡ c + n = subst (λ p. get_or table p 0 ≡ c + n) at_place (run.holds n (omega arith)) in
+        let last = rw at_place at (run.holds n (omega arith)) in
         let low = run.low in
         absurd (omega (arith, last, e))
 

@@ -40,6 +40,7 @@ impl DecoderMoves for ReplacementDecoder {
     }
 
     #[inline]
+    #[tactic(auto, using(crate::proofs::ReplacementSteps::covered))]
     fn room(&self, next: Move) -> Room {
         match next {
             Move::Read(_) => {
@@ -58,6 +59,7 @@ impl DecoderMoves for ReplacementDecoder {
     }
 
     #[inline]
+    #[tactic(auto, using(crate::proofs::ReplacementSteps::feeds_first, crate::proofs::ReplacementSteps::feeds_more))]
     fn feed(&mut self, _byte: u8) -> Fed {
         if self.has_reported {
             return Fed::Nothing;
@@ -71,10 +73,12 @@ impl DecoderMoves for ReplacementDecoder {
     }
 
     #[inline]
+    #[tactic(auto, using(crate::proofs::ReplacementSteps::ends_none))]
     fn has_rest(&self) -> bool {
         false
     }
 
+    #[tactic(auto, using(crate::proofs::ReplacementSteps::ends_none))]
     fn report(&mut self) -> Option<(u8, u8)> {
         None
     }

@@ -72,6 +72,7 @@ impl DecoderMoves for UserDefinedDecoder {
     }
 
     #[inline]
+    #[tactic(auto, using(crate::proofs::UserDefinedShown::covered))]
     fn room(&self, _next: Move) -> Room {
         Room::Narrow
     }
@@ -81,15 +82,18 @@ impl DecoderMoves for UserDefinedDecoder {
     }
 
     #[inline]
+    #[tactic(auto, using(crate::proofs::UserDefinedRuns::feeds))]
     fn feed(&mut self, byte: u8) -> Fed {
         Fed::One(scalar_of(byte))
     }
 
     #[inline]
+    #[tactic(auto, using(crate::proofs::UserDefinedShown::ends_none))]
     fn has_rest(&self) -> bool {
         false
     }
 
+    #[tactic(auto, using(crate::proofs::UserDefinedShown::ends_none))]
     fn report(&mut self) -> Option<(u8, u8)> {
         None
     }

@@ -80,6 +80,7 @@ impl DecoderMoves for Utf16Decoder {
     }
 
     #[inline]
+    #[tactic(auto, using(crate::proofs::Utf16Held::covered))]
     fn room(&self, next: Move) -> Room {
         match next {
             Move::Read(_) => Room::Wide,
@@ -87,6 +88,7 @@ impl DecoderMoves for Utf16Decoder {
         }
     }
 
+    #[tactic(auto, using(crate::proofs::Utf16Held::releases))]
     fn release(&mut self) -> Option<char> {
         let Held::Pending(pending) = self.held else {
             return None;
@@ -96,6 +98,7 @@ impl DecoderMoves for Utf16Decoder {
     }
 
     #[inline(always)]
+    #[tactic(auto, using(crate::proofs::Utf16Held::feeds))]
     fn feed(&mut self, byte: u8) -> Fed {
         let (fed, held) = read_byte(self.big_endian, self.held, byte);
         self.held = held;

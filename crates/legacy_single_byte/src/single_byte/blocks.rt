@@ -104,6 +104,7 @@ impl Parts for Fronts<'_> {
 
     /// Reads the ASCII of the first 64 bytes, and the byte after it if the next one is ASCII.
     #[inline(always)]
+    #[tactic(auto, using(crate::proofs::SingleByteRuns::reads_front))]
     fn read_part<T: Destination>(&self, src: &[u8], most: usize, dst: &mut T) -> (usize, bool) {
         let count = dst.put_front(src, most);
         if count == 64 {

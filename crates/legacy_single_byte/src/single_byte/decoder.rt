@@ -106,6 +106,7 @@ impl DecoderMoves for SingleByteDecoder<'_> {
     }
 
     #[inline]
+    #[tactic(auto, using(crate::proofs::SingleByteSteps::covered))]
     fn room(&self, next: Move) -> Room {
         match next {
             Move::Read(byte) => {
@@ -124,15 +125,18 @@ impl DecoderMoves for SingleByteDecoder<'_> {
     }
 
     #[inline]
+    #[tactic(auto, using(crate::proofs::SingleByteSteps::feeds))]
     fn feed(&mut self, byte: u8) -> Fed {
         read_byte(self.scalars.table, byte)
     }
 
     #[inline]
+    #[tactic(auto, using(crate::proofs::SingleByteSteps::ends_none))]
     fn has_rest(&self) -> bool {
         false
     }
 
+    #[tactic(auto, using(crate::proofs::SingleByteSteps::ends_none))]
     fn report(&mut self) -> Option<(u8, u8)> {
         None
     }

@@ -5,7 +5,8 @@ use Rattle.legacy_single_byte.proofs.single_byte.decoder.ascii_blocks.Goals as g
 pub loop-count-preserved : goal.loop-count-preserved
 loop-count-preserved c =
     let block : List ℕ = take 16 (drop c.loop-count.count c.args.bytes.now) in
-    let fits : 16 ≤ length (drop c.loop-count.count c.args.bytes.now) = omega (arith, c.loop-count-test.true, length-drop c.loop-count.count c.args.bytes.now) in
+    let fits : 16 ≤ length (drop c.loop-count.count c.args.bytes.now) = omega (arith, c.loop-count-test.true, length-drop c.loop-count.count c.args.bytes.now)
+    in
     let long : length block ≡ 16 = length-take-le 16 (drop c.loop-count.count c.args.bytes.now) fits in
     let same : 16 ≤ 16 = omega arith in (
       omega (arith, c.loop-count-test.true, c.loop-count.invariant.0),

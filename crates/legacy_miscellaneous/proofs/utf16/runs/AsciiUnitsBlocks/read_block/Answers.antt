@@ -12,5 +12,6 @@ pub returns-clause-ahead : goal.returns-clause-ahead
 returns-clause-ahead g c =
     let b = c.narrow_block-block in
     let e = c.copy_ascii-count.ensures in
-    reads_block g.T.Destination c.args.self.now.units.now.big_endian c.args.src.now b.result c.args.dst.now c.copy_ascii-count.new.self c.copy_ascii-count.result
+    reads_block g.T.Destination c.args.self.now.units.now.big_endian c.args.src.now b.result c.args.dst.now c.copy_ascii-count.new.self
+    c.copy_ascii-count.result
     (λ k. let f = c.type_inv.src k in omega arith) (omega arith) b.ensures.count b.ensures.narrow e.read e.ascii e.contents e.room e.loan (omega arith)

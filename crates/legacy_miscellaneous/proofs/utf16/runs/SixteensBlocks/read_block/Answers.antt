@@ -27,7 +27,8 @@ loop-at-preserved g c =
     let here : at < 16 = c.loop-at-test.true in
     let unit : ℕ = get_or c.sixteen_units.result at 0 in
     let is : unit ≡ unit_at be src at = c.sixteen_units.ensures at here in
-    let scalar : IsScalar (unit_at be src at) = subst IsScalar is (c.has_surrogate.ensures c.if-has_surrogate.false at (omega (arith, here, c.sixteen_units.type_inv))) in
+    let scalar : IsScalar (unit_at be src at) = subst IsScalar is
+    (c.has_surrogate.ensures c.if-has_surrogate.false at (omega (arith, here, c.sixteen_units.type_inv))) in
     let s = short T.form unit (omega (arith, c.loop-at-test.element_fits.fits)) in
     let bytes : (k : ℕ) → IsByte (get_or src k 0) = λ k. let f = c.type_inv.src k in omega arith in
     let within : 2 * at + 1 < length src = omega (arith, here) in

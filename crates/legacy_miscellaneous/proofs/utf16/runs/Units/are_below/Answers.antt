@@ -23,10 +23,12 @@ loop-group-preserved c = record {
             let j = k - 8 * c.loop-group.group in
             let small : j < 8 = omega (arith, h, l) in
             let place : 8 * c.loop-group.group + j ≡ k = omega (arith, l) in
-            let is = units.ensures j small ∙ rest_unit c.args.self.now.big_endian c.args.src.now c.loop-group.group j ∙ ap (unit_at c.args.self.now.big_endian c.args.src.now) place in
+            let is = units.ensures j small ∙ rest_unit c.args.self.now.big_endian c.args.src.now c.loop-group.group j
+            ∙ ap (unit_at c.args.self.now.big_endian c.args.src.now) place in
             subst (λ u. u < n) is (both.1 j (omega (arith, small, units.type_inv)))
       ];
 }
 
 pub returns : goal.returns
-returns c t k h = c.loop-group.invariant.below c.args.bound (λ j l. All-get_or (λ u. u < c.args.bound) c.loop-group.greatest j 0 l (c.are_all_below.ensures t)) k (omega (arith, h, c.loop-group-test.false, c.loop-group.invariant.within))
+returns c t k h = c.loop-group.invariant.below c.args.bound (λ j l. All-get_or (λ u. u < c.args.bound) c.loop-group.greatest j 0 l (c.are_all_below.ensures t))
+    k (omega (arith, h, c.loop-group-test.false, c.loop-group.invariant.within))

@@ -1,19 +1,7 @@
 use Rattle.std.proofs.Common.{arith}
 use Rattle.legacy_decoder_engine.proofs.WrittenRuns.{three_fit}
-use Rattle.legacy_single_byte.proofs.SingleByteRuns.{reads_front, reads_lone}
+use Rattle.legacy_single_byte.proofs.SingleByteRuns.{reads_lone}
 use Rattle.legacy_single_byte.proofs.single_byte.blocks.FrontsParts.read_part.Goals as goal
-
-pub returns-then-count-eq64-clause-ahead : goal.returns-then-count-eq64-clause-ahead
-returns-then-count-eq64-clause-ahead g c =
-    let e = c.put_front-count.ensures in
-    reads_front c.args.self.now.scalars.now.table.now g.T.Destination c.args.src.now c.put_front-count.result c.args.dst.now c.put_front-count.new.self e.read c.requires.source e.ascii c.requires.room
-    e.contents e.room e.loan
-
-pub returns-then-count-most-clause-ahead : goal.returns-then-count-most-clause-ahead
-returns-then-count-most-clause-ahead g c =
-    let e = c.put_front-count.ensures in
-    reads_front c.args.self.now.scalars.now.table.now g.T.Destination c.args.src.now c.put_front-count.result c.args.dst.now c.put_front-count.new.self e.read c.requires.source e.ascii c.requires.room
-    e.contents e.room e.loan
 
 pub put-requires : goal.put-requires
 put-requires g c =
@@ -24,11 +12,7 @@ pub returns-in-Some-clause-ahead : goal.returns-in-Some-clause-ahead
 returns-in-Some-clause-ahead g c =
     let e = c.put_front-count.ensures in
     let p = c.put.ensures in
-    reads_lone c.args.self.now.scalars.now.table.now g.T.Destination c.args.src.now c.put_front-count.result c.args.dst.now c.put_front-count.new.self e.read c.requires.source e.ascii c.requires.room
-    e.contents e.room e.loan c.put.new.self c.in-Some.scalar (omega (arith, e.read, c.if-count-eq64.false)) c.in-Some.ensures p.contents p.room p.loan
-
-pub returns-in-None-clause-ahead : goal.returns-in-None-clause-ahead
-returns-in-None-clause-ahead g c =
-    let e = c.put_front-count.ensures in
-    reads_front c.args.self.now.scalars.now.table.now g.T.Destination c.args.src.now c.put_front-count.result c.args.dst.now c.put_front-count.new.self e.read c.requires.source e.ascii c.requires.room
-    e.contents e.room e.loan
+    reads_lone c.args.self.now.scalars.now.table.now g.T.Destination c.args.src.now c.put_front-count.result c.args.dst.now c.put_front-count.new.self e.read
+    c.requires.source e.ascii c.requires.room e.contents e.room e.loan c.put.new.self c.in-Some.scalar (omega (arith, e.read, c.if-count-eq64.false))
+    c.in-Some.ensures
+    p.contents p.room p.loan

@@ -6,7 +6,11 @@ use Rattle.legacy_single_byte.proofs.single_byte.decoder.SingleByteDecoder.latin
 use borrow.Author.Count.{below_more}
 
 pub loop-count-init : goal.loop-count-init
-loop-count-init c = (c.ascii_blocks-count.ensures.within, latin1-ascii (single_byte_entries c.args.self.now) c.args.bytes.now c.ascii_blocks-count.result c.ascii_blocks-count.ensures.ascii)
+loop-count-init c = (
+  c.ascii_blocks-count.ensures.within,
+  latin1-ascii (single_byte_entries c.args.self.now) c.args.bytes.now c.ascii_blocks-count.result
+      c.ascii_blocks-count.ensures.ascii,
+)
 
 pub loop-count-preserved : goal.loop-count-preserved
 loop-count-preserved c = (

@@ -13,8 +13,10 @@ loop-place-preserved c =
     let to = c.run_to-run.ensures in (
       to,
       elim c.if-run-best.branch [
-        | then-run-best w ↦ rw w.best-is (replaced table best.scalar best.start best.count place until run.scalar run.start run.count to (let h = w.if-run-best.true in omega arith))
-        | else-run-best w ↦ rw w.best-is (kept table best.scalar best.start best.count place until run.scalar run.start run.count to (let h = w.if-run-best.false in omega arith))
+        | then-run-best w ↦ rw w.best-is (replaced table best.scalar best.start best.count place until run.scalar run.start run.count to
+            (let h = w.if-run-best.true in omega arith))
+        | else-run-best w ↦ rw w.best-is (kept table best.scalar best.start best.count place until run.scalar run.start run.count to
+            (let h = w.if-run-best.false in omega arith))
       ],
     )
 
@@ -28,4 +30,5 @@ returns-clause-accepted c =
 pub returns-clause-longest : goal.returns-clause-longest
 returns-clause-longest c =
     let best = c.loop-place.best in
-    none_longer c.args.table.now.entries best.scalar best.start best.count c.loop-place.place (let test = c.loop-place-test.false in omega arith) c.loop-place.invariant.1
+    none_longer c.args.table.now.entries best.scalar best.start best.count c.loop-place.place (let test = c.loop-place-test.false in omega arith)
+    c.loop-place.invariant.1

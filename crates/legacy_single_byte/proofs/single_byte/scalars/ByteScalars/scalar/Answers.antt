@@ -17,7 +17,8 @@ returns c =
     let byte : c.args.byte < 2 ^ 8 = omega arith in
     let below : c.args.byte < 256 = omega arith in
     let is = c.args.self.now.same c.args.byte below in
-    let at : get_or c.args.self.now.entries c.from.result 0 ≡ get_or c.args.self.now.entries c.args.byte 0 = ap (λ n. get_or c.args.self.now.entries n 0) c.from.ensures in
+    let at : get_or c.args.self.now.entries c.from.result 0 ≡ get_or c.args.self.now.entries c.args.byte 0 =
+    ap (λ n. get_or c.args.self.now.entries n 0) c.from.ensures in
     let same : get_or c.args.self.now.entries c.args.byte 0 ≡ c.from_u32_unchecked.result = sym at ∙ sym c.from-2.ensures ∙ sym c.from_u32_unchecked.ensures in
     subst (IsSingle (single_byte c.args.self.now.table.now.entries) c.args.byte) same
     (entry_runs c.args.self.now.table.now c.args.byte (get_or c.args.self.now.entries c.args.byte 0) byte is (λ z. c.if-entry-eq0.false (at ∙ z)))

@@ -10,7 +10,8 @@ loop-at-preserved c =
     let entries = c.args.self.now.table.now.entries in
     let src = c.args.src.now in
     let byte : get_or src c.loop-at.at 0 < 256 = let f = c.type_inv.src c.loop-at.at in omega arith in
-    let is = subst (λ n. IsByteEntry entries (get_or src c.loop-at.at 0) (get_or c.args.self.now.entries n 0)) (sym c.from.ensures) (c.args.self.now.same (get_or src c.loop-at.at 0) byte) in
+    let is = subst (λ n. IsByteEntry entries (get_or src c.loop-at.at 0) (get_or c.args.self.now.entries n 0)) (sym c.from.ensures)
+    (c.args.self.now.same (get_or src c.loop-at.at 0) byte) in
     record {
       within = omega (arith, c.loop-at-test.true);
       count = length-set c.loop-at.units c.loop-at.at _ ∙ i.count;

@@ -1,0 +1,119 @@
+-- The proof for the decoders of single bytes, which hold nothing back, from the few facts that each shows.
+use Rattle.std.proofs.Common.{◌≡◌, ℕ, ◌+◌, ◌*◌, ◌<◌, ◌≤◌, ◌&&◌, List, [], ◌∷◌, Bool, true, false, cond, Option, Some, None, option_to_list, refl, inl, ap, arith}
+use Rattle.std.proofs.lemmas.Bool.{cond_both, false≢true, ltb-true}
+use Rattle.std.specs.{Char.is_ascii, Option.IfSome}
+use Rattle.legacy_tables.specs.Unicode.{IsByte, AreBytes}
+use Rattle.legacy_base.specs.Fronts.{Front, reads, malformed, reads_or, cut}
+use Rattle.legacy_base.specs.Profile.{Profile, narrow_acts, is_empty, always_rests, weightless}
+use Rattle.legacy_base.specs.Formulas.{to_come, constant, ◌⊠◌}
+use Rattle.legacy_base.specs.Grammar.{Grammar, profile, events_of}
+use Rattle.legacy_base.specs.States.{may_hold, state_of}
+use Rattle.legacy_base.specs.Acts.{act_room, takes, has_marks}
+use Rattle.legacy_base.specs.Lengths.{to_utf16}
+use Rattle.legacy_base.proofs.Cuts.{cut-nil}
+use Rattle.legacy_decoder_engine.specs.Steps.{Step, finish, no_pending, end_events, StepMeets, DecoderMachine, Meets}
+use Rattle.legacy_decoder_engine.specs.Costs.{IsWidth, Cost}
+use Rattle.legacy_decoder_engine.specs.{Settling.Settles, Shown.IsShown}
+use Rattle.legacy_decoder_engine.proofs.CallUnderWay.{same_rooms}
+use Rattle.legacy_decoder_engine.proofs.FrontMoves.{Fits, fits_meets}
+use Rattle.legacy_decoder_engine.proofs.OneByteMeets.{few_held, no_report, one_fits}
+use Rattle.legacy_decoder_engine.proofs.RoomMoves.{HasCosts, IsSloped, sloped_rooms}
+use Rattle.legacy_decoder_engine.proofs.SettledSteps.{one_option, or_settles}
+
+-- the profile of such a decoder
+abbrev pub one_byte_profile : (ℕ → List ℕ → Front) → Bool → Profile
+one_byte_profile front short = record {
+  events = cut front 0 0;
+  may_hold = is_empty;
+  rests = always_rests;
+  begins_in_ascii = true;
+  rooms = narrow_acts;
+  short_ascii = short;
+  reported = false;
+  marks = false;
+  weight = weightless;
+  utf16_length = to_come;
+  utf8_length = constant 3 ⊠ to_come;
+  utf8_length_without_replacement = constant 3 ⊠ to_come;
+}
+
+-- its profile, and its front by the scalar of each byte past ASCII, which is at most U+FFFF
+pub record IsOneByte (g : Grammar) (front : ℕ → List ℕ → Front) (found : ℕ → Option ℕ) (short : Bool) : Type 0 where
+  pub profile_is : profile g ≡ one_byte_profile front short
+  pub front_is : (b : ℕ) (rest : List ℕ) → front b rest ≡ cond (is_ascii b) (reads 1 (b ∷ [])) (reads_or 1 (option_to_list (found b)) (malformed 1))
+  pub below : (b : ℕ) → IsByte b → IfSome (found b) (λ c. c < 0x1_0000)
+
+module _ (g : Grammar) (front : ℕ → List ℕ → Front) (found : ℕ → Option ℕ) (short : Bool) (is : IsOneByte g front found short) where
+  abbrev first : ℕ → Step
+  first b = cond (is_ascii b) (finish (reads 1 (b ∷ []))) (finish (reads_or 1 (option_to_list (found b)) (malformed 1)))
+
+  abbrev machine : DecoderMachine
+  machine = record { pending = no_pending; step = λ held b. first b; to = λ held b. g }
+
+  may_is : (held : List ℕ) → may_hold g held ≡ is_empty held
+  may_is held = ap (λ p. p.may_hold held) is.profile_is
+
+  ev_is : (bytes : List ℕ) → events_of g bytes ≡ cut front 0 0 bytes
+  unfolding events_of
+  ev_is bytes = ap (λ p. p.events bytes) is.profile_is
+
+  fits : (b : ℕ) → Fits front is_empty [] b (first b)
+  fits b = cond_both (is_ascii b) _ _ (Fits front is_empty [] b)
+      (λ a. (λ more. rw (is.front_is b more, a) refl, omega arith, omega arith, refl))
+      (λ a. one_fits front b (option_to_list (found b)) (λ more. rw (is.front_is b more, a) refl))
+
+  steps : (held : List ℕ) (b : ℕ) → is_empty held ≡ true → StepMeets g held b (first b) g
+  steps [] b h = fits_meets g front ev_is is_empty may_is [] b (first b) (omega arith) (fits b)
+  steps (c ∷ held) b h = absurd (false≢true h)
+
+  ends : (held : List ℕ) → is_empty held ≡ true → events_of g held ≡ end_events held
+  ends [] h = rw (ev_is []) (cut-nil front)
+  ends (b ∷ held) h = absurd (false≢true h)
+
+  meets : Meets g machine
+  meets = record {
+    writes = λ held h. ap (λ p. p.rests held) is.profile_is;
+    steps = λ held b h r. steps held b (rw (may_is held) at h);
+    ends = λ held h r. ends held (rw (may_is held) at h);
+    reports = λ held more h r. no_report g held more (rw (may_is held) at h);
+    few = λ held h. few_held held (rw (may_is held) at h);
+  }
+
+  cost : (len : ℕ → ℕ) (narrow wide : ℕ) → IsWidth len narrow wide → (held : List ℕ) (b : ℕ) → is_empty held ≡ true → IsByte b →
+      Cost len narrow (act_room narrow wide (state_of g held) (takes b)) weightless 6 held b (first b)
+  cost len narrow wide w (c ∷ held) b h byte = absurd (false≢true h)
+  cost len narrow wide w [] b h byte = rw is.profile_is (cond_both (is_ascii b) _ _ (Cost len narrow (cond ((is_ascii b && true) && short) 1 narrow) weightless 6 [] b)
+      (λ a. let e = w.ascii b (ltb-true b 0x80 a) in let some = w.some in record { fits = grind arith; pays = omega arith; pays_without = omega arith })
+      (λ a. rw a (by_found (found b) (is.below b byte))))
+    where
+      by_found : (o : Option ℕ) → IfSome o (λ c. c < 0x1_0000) → Cost len narrow narrow weightless 6 [] b (finish (reads_or 1 (option_to_list o) (malformed 1)))
+      by_found None below = record { fits = omega arith; pays = omega arith; pays_without = omega arith }
+      by_found (Some c) below = let n = w.bmp c below in let most = w.most in record { fits = omega arith; pays = omega arith; pays_without = omega arith }
+
+  costs : HasCosts g machine weightless 6
+  costs = record { to_is = λ held b. refl; cost = λ len narrow wide w held b h r bytes byte. cost len narrow wide w held b (rw (may_is held) at h) byte }
+
+  sloped : IsSloped g machine weightless 6
+  sloped = record {
+    heavy = λ b held h. absurd (false≢true (rw (may_is (b ∷ held)) at h));
+    falls = elim [ to_utf16 ↦ λ held held' n n' u h. rw is.profile_is (omega arith) | _ ↦ λ held held' n n' u h. rw is.profile_is (omega arith) ];
+    writes = λ query held h r bytes. tt;
+    reads = elim [ to_utf16 ↦ λ held. rw is.profile_is (omega arith) | _ ↦ λ held. rw is.profile_is (omega arith) ];
+    holds = λ query b held h. absurd (false≢true (rw (may_is (b ∷ held)) at h));
+  }
+
+  settles : (held : List ℕ) (b : ℕ) → is_empty held ≡ true → Settles g held b (first b)
+  settles [] b h = cond_both (is_ascii b) _ _ (Settles g [] b) (λ a. (refl, tt)) (λ a. or_settles g [] b (option_to_list (found b)) (one_option (has_marks g) (found b)))
+  settles (a ∷ held) b h = absurd (false≢true h)
+
+  pub one_byte_shown : IsShown g machine
+  one_byte_shown = record {
+    meets = meets;
+    rooms = λ query. sloped_rooms g machine weightless 6 meets costs sloped query;
+    settles = λ held b h r. settles held b (rw (may_is held) at h);
+    write_settles = λ held h. tt;
+    same_rooms = λ held b. same_rooms g;
+    same_marks = λ held b. refl;
+    ascii_first = λ s b a. rw a refl;
+    swallows = inl (ap (λ p. p.reported) is.profile_is);
+  }
