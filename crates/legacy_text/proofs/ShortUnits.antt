@@ -1,7 +1,7 @@
 -- Code units below 0x800.
 use Rattle.std.proofs.Common.{◌≡◌, ℕ, zero, suc, ◌+◌, ◌-◌, ◌*◌, ◌/◌, ◌%◌, ◌^◌, ◌<◌, ◌≤◌, Bool, true, false, cond, ltb, leb, eqb, List, [], ◌∷◌, ◌++◌, length}
 use Rattle.std.proofs.Common.{get_or, map, take, replicate, bit_and, refl, sym, ap, ap₂, ◌∙◌, arith, w8, w16, Fits, All}
-use Rattle.std.proofs.lemmas.Bool.{ltb-true, ltb-false, leb-true, eqb-true, agree_below_at}
+use Rattle.std.proofs.lemmas.Bool.{ltb-true, ltb-false, lt-ltb, leb-true, eqb-true, agree_below_at}
 use Rattle.std.proofs.lemmas.List.{map-append, length-map, take-take, take-map}
 use Rattle.std.proofs.lemmas.List.Elements.{All-from_get_or}
 use Rattle.std.proofs.Math.Seq.{take-append_seam}
@@ -207,3 +207,14 @@ units_below n xs long whole = All-from_get_or (λ x. x < n) xs 0 (λ k h.
     bit_of [] j l = absurd (omega arith)
     bit_of (y ∷ ys) zero l = refl
     bit_of (y ∷ ys) (suc j) l = bit_of ys j (omega arith)
+
+pub units_all_below : (n : ℕ) (xs : List ℕ) → length xs ≡ 8 → All (λ x. x < n) xs
+    → eqb (mask_l (map (top 15) (zip2 (λ a b. cond (ltb a b) (2 ^ 16 - 1) 0) xs (replicate 8 n))) % 2 ^ 64) 255 ≡ true
+units_all_below n xs long all =
+    let same : mask_l (map (top 15) (zip2 (λ a b. cond (ltb a b) (2 ^ 16 - 1) 0) xs (replicate 8 n))) % 2 ^ 64 ≡ mask_l (map (λ x. ltb x n) xs) =
+    bitmask_splat w16 ltb xs 8 n long (omega arith) in
+    ap (λ m. eqb m 255) (same ∙ ap mask_l (set xs all) ∙ ap (λ k. mask_l (replicate k true)) long)
+  where
+    set : (ys : List ℕ) → All (λ y. y < n) ys → map (λ x. ltb x n) ys ≡ replicate (length ys) true
+    set [] h = refl
+    set (y ∷ ys) h = ap₂ (λ b bs. b ∷ bs) (lt-ltb y n (h 0 0 (omega arith))) (set ys (λ k d l. h (suc k) d (omega (arith, l))))

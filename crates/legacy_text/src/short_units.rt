@@ -2,7 +2,7 @@
 //!
 //! Lanes make two bytes of each code unit, and one shuffle keeps those of its text.
 // Functions that run for each vector are always inlined, because a call would pass the vectors through memory.
-ghost use Rattle.std.specs.Prelude.{◌≡◌, ◌+◌, ◌<◌, ◌≤◌, ◌++◌, All, length, take, true};
+ghost use Rattle.std.specs.Prelude.{◌≡◌, ◌↔◌, ◌+◌, ◌<◌, ◌≤◌, ◌++◌, All, length, take, true};
 ghost use Rattle.legacy_text.specs.UnitBytes.{short_lanes, short_pattern, AreShort, utf8_bytes};
 
 use crate::eight_units::{row_of, store};
@@ -47,10 +47,10 @@ pub(crate) fn put_short_units(dst: &mut [u8], at: usize, units: u16x8) -> usize
     at + 16 - ones.count_ones() as usize
 }
 
-/// Returns whether each code unit is below the bound.
+/// Checks whether each code unit is below the bound.
 #[inline(always)]
 pub fn are_all_below(units: u16x8, bound: u16) -> bool
-    ensures { result ≡ true → All (λ u. u < bound) units }
+    ensures { (result ≡ true) ↔ All (λ u. u < bound) units }
 {
     units.simd_lt(u16x8::splat(bound)).all()
 }
