@@ -1,18 +1,30 @@
 -- What a mail reader reports of a message.
-use Rattle.std.specs.Prelude.{◌≡◌, ℕ, List, ◌++◌, length, Bool, ◌==◌}
+use Rattle.std.specs.Prelude.{◌≡◌, ◌≢◌, ℕ, List, ◌++◌, length, Bool, ◌==◌, None}
 use Rattle.legacy_base.specs.Grammar.{events_of}
 use Rattle.legacy_base.specs.States.{DecoderState}
+use Rattle.legacy_base.specs.Lengths.{query_answer, to_utf8_without_replacement}
 use Rattle.legacy_tables.specs.Indexes.{FlatIndexes}
 use Rattle.legacy_codecs.specs.declared.malformed.MalformedSequence.{MalformedSequence}
 use Rattle.legacy_codecs.specs.MalformedSequences.{malformed_of}
 use Rattle.legacy_encodings.specs.declared.registry.EncodingTable.{EncodingTable}
-use Rattle.legacy_encodings.specs.Registries.{IsDecoderOf}
+use Rattle.legacy_encodings.specs.declared.registry.RegistryError.{RegistryError}
+use Rattle.legacy_encodings.specs.declared.registry.RegistryError.TheVariants.{Sized}
+use Rattle.legacy_codecs.specs.declared.whole.SizedError.TheVariants.{TooLong, Memory}
+use Rattle.legacy_encodings.specs.Registries.{IsDecoderOf, IsNameError}
 
 -- these are the malformed sequences of the message, by the encoding of the name
 pub record AreMalformedIn (flat : FlatIndexes) (tables : List EncodingTable) (name message : List ℕ) (found : List MalformedSequence) : Type 0 where
   pub state : DecoderState
   pub decoder : IsDecoderOf flat tables name state
   pub found_is : found ≡ malformed_of (length state.held) (events_of state.grammar (state.held ++ message))
+
+-- The error if no malformed sequences are returned. An allocation can fail if there is a decoder and a length.
+abbrev pub IsMailError : FlatIndexes → List EncodingTable → List ℕ → List ℕ → RegistryError → Type 0
+IsMailError flat tables name message (Sized TooLong) =
+    (state : DecoderState) × IsDecoderOf flat tables name state × (query_answer to_utf8_without_replacement state (length message) ≡ None)
+IsMailError flat tables name message (Sized Memory) =
+    (state : DecoderState) × IsDecoderOf flat tables name state × (query_answer to_utf8_without_replacement state (length message) ≢ None)
+IsMailError flat tables name message error = IsNameError tables name error
 
 -- `is_so` is whether the message has no malformed sequence
 pub record IsChecked (flat : FlatIndexes) (tables : List EncodingTable) (name message : List ℕ) (is_so : Bool) : Type 0 where

@@ -1,14 +1,15 @@
 //! A page that a browser shows while it arrives.
-ghost use Rattle.std.specs.Prelude.{◌≡◌, List, ℕ, ◌++◌, [], OnOk, OnErr, IsTrue};
+ghost use Rattle.std.specs.Prelude.{◌≡◌, ◌↔◌, List, ℕ, ◌++◌, [], Err, OnOk, OnErr, IsTrue};
 ghost use Rattle.legacy_base.specs.Lengths.{query_form, to_utf8};
 ghost use Rattle.legacy_codecs.specs.WholeTexts.{text_of, TextGoesOn};
+ghost use Rattle.legacy_uses.specs.Pages.{IsPageTooLong};
 
 use legacy_codecs::{RawDecoder, SizedError, decode_piece};
 
 /// Decodes the next piece of a page, and appends its text in UTF-8 to the page.
 ///
 /// Each malformed sequence becomes U+FFFD. Set `last` if no piece follows. After an error the page and
-/// the decoder are unchanged.
+/// the decoder are unchanged. `TooLong` is returned if the page could exceed `usize::MAX` bytes.
 pub fn show_piece<D: RawDecoder>(
     decoder: &mut D,
     piece: &[u8],
@@ -19,6 +20,8 @@ pub fn show_piece<D: RawDecoder>(
         × TextGoesOn (query_form to_utf8) last (D.state decoder.old) piece.now (D.state decoder.new) written
         × (page.new.items ≡ page.old.items ++ written)) }
     ensures end { OnOk result (IsTrue last → text_of (D.state decoder.new) [] ≡ []) }
+    ensures too_long { (result ≡ Err SizedError.TooLong)
+        ↔ IsPageTooLong (D.state decoder.old) piece.now page.old.items }
     ensures unchanged { OnErr result ((decoder.new ≡ decoder.old) × (page.new.items ≡ page.old.items)) }
 {
     let Some(length) = decoder.max_utf8_buffer_length(piece.len()) else {

@@ -1,6 +1,6 @@
 //! A checker that returns whether an input is well formed.
-ghost use Rattle.std.specs.Prelude.{IfOk};
-ghost use Rattle.legacy_uses.specs.Mail.{IsChecked};
+ghost use Rattle.std.specs.Prelude.{MatchResult};
+ghost use Rattle.legacy_uses.specs.Mail.{IsChecked, IsMailError};
 
 use crate::mail::faults_of_message;
 use legacy_encodings::{Coders, RegistryError};
@@ -13,8 +13,10 @@ pub fn is_well_formed(
     name: &str,
     input: &[u8],
 ) -> Result<bool, RegistryError>
-    ensures { IfOk result (λ is_so. IsChecked
-        coders.now.tables.flat coders.now.single_bytes.now name.now input.now is_so) }
+    ensures { MatchResult result
+        (λ is_so. IsChecked coders.now.tables.flat coders.now.single_bytes.now name.now input.now is_so)
+        (λ error. IsMailError coders.now.tables.flat coders.now.single_bytes.now name.now input.now
+        error) }
 {
     let found = faults_of_message(alloc, coders, name, input)?;
     Ok(found.is_empty())

@@ -1,6 +1,6 @@
 //! A mail reader that reports the malformed sequences of a message.
-ghost use Rattle.std.specs.Prelude.{◌≡◌, IfOk};
-ghost use Rattle.legacy_uses.specs.Mail.{AreMalformedIn};
+ghost use Rattle.std.specs.Prelude.{◌≡◌, MatchResult};
+ghost use Rattle.legacy_uses.specs.Mail.{AreMalformedIn, IsMailError};
 
 use legacy_codecs::{MalformedSequence, malformed_sequences};
 use legacy_encodings::{Coders, RegistryError};
@@ -13,8 +13,11 @@ pub fn faults_of_message(
     name: &str,
     message: &[u8],
 ) -> Result<Vec<MalformedSequence>, RegistryError>
-    ensures { IfOk result (λ found. AreMalformedIn
-        coders.now.tables.flat coders.now.single_bytes.now name.now message.now found.items) }
+    ensures { MatchResult result
+        (λ found. AreMalformedIn coders.now.tables.flat coders.now.single_bytes.now name.now message.now
+        found.items)
+        (λ error. IsMailError coders.now.tables.flat coders.now.single_bytes.now name.now message.now
+        error) }
 {
     let mut decoder = coders.decoder(name)?;
     Ok(malformed_sequences(alloc, &mut decoder, message)?)
