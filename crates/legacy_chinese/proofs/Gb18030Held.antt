@@ -187,13 +187,6 @@ module _ (tables : AcceptedIndexes) where
       (rw first.0 refl) (rw (first.0, second.0) refl) (rw (first.0, second.0, third.0) refl) (rw first.1 refl) (rw first.1 refl) (rw first.1 refl) (λ held byte. refl)
       (rw (other.0, other.1, first.0) refl) (rw second.0 refl) (rw third.0 refl) (rw (fourth.0, ← e) refl)
 
-  -- the scalar, if any, of the pointer of four bytes
-  pub four_if : (a b c d p : ℕ) → 0x81 ≤ a → a ≤ 0xFE → 0x30 ≤ b → b ≤ 0x39 → 0x81 ≤ c → c ≤ 0xFE → 0x30 ≤ d → d ≤ 0x39 → p ≡ gb18030_range_pointer a b c d →
-      (found : Option ℕ) → found ≡ range tables.flat.ranges p →
-      IfSome found (λ x. Runs g (a ∷ b ∷ c ∷ d ∷ []) (x ∷ []))
-  four_if a b c d p a_low a_high b_low b_high c_low c_high d_low d_high is None e = tt
-  four_if a b c d p a_low a_high b_low b_high c_low c_high d_low d_high is (Some x) e = four a b c d x a_low a_high b_low b_high c_low c_high d_low d_high (e ∙ ap (range tables.flat.ranges) is)
-
 -- a decoder that holds nothing back is idle
 pub idle : (decoder : Gb18030Decoder) → is_neutral (gb18030_state decoder) ≡ true → IsIdle (gb18030_state decoder)
 idle decoder neutral = record { empty = neutral_empty (held_bytes decoder.held) neutral; ascii = ascii decoder.tables.now }

@@ -1,17 +1,17 @@
--- The places of the bytes of a four-byte sequence of gb18030. The pointer is their sum. A byte that is not allowed
--- there has a place past all pointers.
-use Rattle.std.specs.Prelude.{ℕ, ◌-◌, ◌*◌, if◌then◌else◌}
+-- The pointer of a four-byte sequence of gb18030, as a sum of parts of its bytes (Encoding Standard, "gb18030 decoder").
+-- A byte that is not allowed there has a part past all pointers.
+use Rattle.std.specs.Prelude.{ℕ, ◌+◌, ◌-◌, ◌*◌, if◌then◌else◌}
 use Rattle.std.specs.Char.{is_ascii_digit}
 use Rattle.legacy_base.specs.States.{is_lead}
 
-unfoldable pub first_place : ℕ → ℕ
-first_place byte = if is_lead byte then 12600 * (byte - 0x81) else 2_000_000
+-- the part of a first or a third byte
+unfoldable pub lead_part : ℕ → ℕ
+lead_part byte = if is_lead byte then 10 * (byte - 0x81) else 1_240_000
 
-unfoldable pub second_place : ℕ → ℕ
-second_place byte = if is_ascii_digit byte then 1260 * (byte - 0x30) else 2_000_000
+-- the part of a second or a fourth byte
+unfoldable pub digit_part : ℕ → ℕ
+digit_part byte = if is_ascii_digit byte then byte - 0x30 else 1_240_000
 
-unfoldable pub third_place : ℕ → ℕ
-third_place byte = if is_lead byte then 10 * (byte - 0x81) else 2_000_000
-
-unfoldable pub fourth_place : ℕ → ℕ
-fourth_place byte = if is_ascii_digit byte then byte - 0x30 else 2_000_000
+-- the pointer
+abbrev pub four_place : ℕ → ℕ → ℕ → ℕ → ℕ
+four_place first second third fourth = 1260 * (lead_part first + digit_part second) + (lead_part third + digit_part fourth)

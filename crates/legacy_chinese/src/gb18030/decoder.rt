@@ -12,7 +12,7 @@ ghost use Rattle.legacy_decoder_engine.specs.Feeding.{Took};
 ghost use Rattle.legacy_chinese.specs.Gb18030Held.{held_bytes, is_resting};
 
 use super::digit::Digit;
-use super::fours::read_flat;
+use super::fours::{guessed_scalar, read_flat};
 use super::pair_places::TRAILS;
 use legacy_base::{DecoderResult, Destination, IndexName, RawDecoder, Tables};
 use legacy_decoder_engine::drive::{count_lone, drive_decoder};
@@ -126,7 +126,14 @@ fn read_third(first: Lead, second: Digit, byte: u8) -> (Fed, Held)
 
 /// Returns what a byte leads to after a lead, a digit and a lead.
 #[inline]
-fn read_fourth(tables: &Tables, first: Lead, second: Digit, third: Lead, byte: u8) -> (Fed, Held)
+fn read_fourth(
+    tables: &Tables,
+    guess: &Cell<usize>,
+    first: Lead,
+    second: Digit,
+    third: Lead,
+    byte: u8,
+) -> (Fed, Held)
     ensures { Took (gb18030_step [] tables.now.flat.ranges
         (first.byte ∷ second.byte ∷ third.byte ∷ []) byte)
         (first.byte ∷ second.byte ∷ third.byte ∷ []) byte result.0 (held_bytes result.1) }
@@ -145,7 +152,7 @@ fn read_fourth(tables: &Tables, first: Lead, second: Digit, third: Lead, byte: u
         + 1260 * usize::from(second.byte - 0x30)
         + 10 * usize::from(third.byte - 0x81)
         + usize::from(byte - 0x30);
-    let fed = match tables.range(pointer) {
+    let fed = match guessed_scalar(tables.ranges(), guess, pointer) {
         Some(scalar) => Fed::One(scalar),
         None => fault_through(4),
     };
@@ -154,7 +161,7 @@ fn read_fourth(tables: &Tables, first: Lead, second: Digit, third: Lead, byte: u
 
 /// Returns what a byte leads to, and what is held back after it.
 #[inline]
-fn read(tables: &Tables, held: Held, byte: u8) -> (Fed, Held)
+fn read(tables: &Tables, guess: &Cell<usize>, held: Held, byte: u8) -> (Fed, Held)
     requires { is_resting held ≡ true }
     ensures { Took (gb18030_step tables.now.flat.gb18030 tables.now.flat.ranges
         (held_bytes held) byte)
@@ -164,7 +171,9 @@ fn read(tables: &Tables, held: Held, byte: u8) -> (Fed, Held)
         Held::Nothing => read_first(byte),
         Held::First(first) => read_second(tables, first, byte),
         Held::Second(first, second) => read_third(first, second, byte),
-        Held::Third(first, second, third) => read_fourth(tables, first, second, third, byte),
+        Held::Third(first, second, third) => {
+            read_fourth(tables, guess, first, second, third, byte)
+        }
         Held::Digit(_) | Held::DigitLead(_, _) => unreachable!(),
     }
 }
@@ -259,7 +268,7 @@ impl DecoderMoves for Gb18030Decoder<'_> {
 
     #[inline(always)]
     fn feed(&mut self, byte: u8) -> Fed {
-        let (fed, held) = read(self.tables, self.held, byte);
+        let (fed, held) = read(self.tables, &self.guess, self.held, byte);
         self.held = held;
         fed
     }

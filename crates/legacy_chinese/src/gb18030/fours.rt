@@ -1,9 +1,8 @@
 //! Decodes blocks of GB18030: sequences of four bytes with ASCII bytes between them, and common sequences.
 // Functions that run for each sequence or block are always inlined. A call would pass vectors through memory, and keep
 // the destination's place there.
-ghost use Rattle.std.specs.Prelude.{◌≡◌, ◌<◌, [], ◌∷◌, IfSome};
+ghost use Rattle.std.specs.Prelude.{◌≡◌, ◌<◌, ◌≤◌, [], ◌∷◌, length, take, true, IfSome};
 ghost use Rattle.legacy_tables.specs.Indexes.{range};
-ghost use Rattle.legacy_tables.specs.RangeParts.{IsRangePart};
 ghost use Rattle.legacy_base.specs.Grammar.{gb18030};
 ghost use Rattle.legacy_base.specs.States.{new_state};
 ghost use Rattle.legacy_decoder_engine.specs.Ahead.{ReadsAhead, Runs};
@@ -16,106 +15,46 @@ use legacy_decoder_engine::common_forms::CommonForm;
 use legacy_decoder_engine::held::Lead;
 use legacy_decoder_engine::lanes::{LaneCodec, LaneForms, narrow_entries, read_common};
 use legacy_decoder_engine::places::{ROWS_OF_190, pair_pointer};
-use legacy_decoder_engine::runs::{Blocks, Forms, read_ascii, read_run};
+use legacy_decoder_engine::runs::{Blocks, read_ascii};
 use legacy_decoder_engine::split_rows::{lead_places, place_sums, trail_places};
-use legacy_tables::{DecoderTables, FlatTables, RangePart};
+use legacy_tables::{DecoderTables, FlatTables, Ranges};
 use std::cell::Cell;
 use std::simd::prelude::*;
 
-/// Returns the scalar of a pointer outside the range in `part`.
+/// Returns the scalar of a pointer that is not in the range at the guess, by a search.
 ///
-/// `part` becomes the range of the pointer, and the guess becomes the place of this range.
-fn far_scalar(blocks: &Gb18030Blocks<'_, '_>, part: &mut RangePart, pointer: usize) -> Option<char>
+/// The place of the pointer's range becomes the guess.
+#[inline(never)]
+fn far_scalar(ranges: Ranges<'_>, guess: &Cell<usize>, pointer: usize) -> Option<char>
     requires { pointer < 0x1_0000_0000 }
-    ensures scalar { result ≡ range blocks.now.tables.now.flat.ranges pointer }
-    ensures part { IsRangePart blocks.now.tables.now.flat.ranges part.new }
+    ensures { result ≡ range ranges.entry.list.now pointer }
 {
-    let ranges = blocks.tables.ranges();
+    if pointer > 1237575 {
+        return None;
+    }
     let place = ranges.place_of(pointer);
-    blocks.guess.set(place);
-    *part = ranges.part_at(place);
-    match ranges.scalar_in(*part, pointer) {
-        Some(scalar) => Some(scalar),
+    match ranges.scalar_in(ranges.part_at(place), pointer) {
+        Some(scalar) => {
+            guess.set(place);
+            Some(scalar)
+        }
         None => ranges.scalar(pointer),
     }
 }
 
-/// Returns the scalar of a pointer, and keeps its range in `part`.
-#[inline(always)]
-fn near_scalar(blocks: &Gb18030Blocks<'_, '_>, part: &mut RangePart, pointer: usize) -> Option<char>
-    requires part { IsRangePart blocks.now.tables.now.flat.ranges part.old }
-    requires small { pointer < 0x1_0000_0000 }
-    ensures scalar { result ≡ range blocks.now.tables.now.flat.ranges pointer }
-    ensures part { IsRangePart blocks.now.tables.now.flat.ranges part.new }
-{
-    match blocks.tables.ranges().scalar_in(*part, pointer) {
-        Some(scalar) => Some(scalar),
-        None => far_scalar(blocks, part, pointer),
-    }
-}
-
-/// Returns the scalar of four bytes, or `None` if they have none, and keeps its range in `part`.
-#[inline(always)]
-fn four_scalar(
-    blocks: &Gb18030Blocks<'_, '_>,
-    part: &mut RangePart,
-    first: u8,
-    second: u8,
-    third: u8,
-    fourth: u8,
+/// Returns the scalar of a pointer, or `None` if it has none. It tries the range at the guess first.
+#[inline]
+pub(super) fn guessed_scalar(
+    ranges: Ranges<'_>,
+    guess: &Cell<usize>,
+    pointer: usize,
 ) -> Option<char>
-    requires { IsRangePart blocks.now.tables.now.flat.ranges part.old }
-    ensures scalar { let flat = blocks.now.tables.now.flat in
-        IfSome result (λ c. Runs (gb18030 flat.gb18030 flat.ranges)
-        (first ∷ second ∷ third ∷ fourth ∷ []) (c ∷ [])) }
-    ensures part { IsRangePart blocks.now.tables.now.flat.ranges part.new }
+    requires { pointer < 0x1_0000_0000 }
+    ensures { result ≡ range ranges.entry.list.now pointer }
 {
-    let pointer = four_pointer(first, second, third, fourth);
-    near_scalar(blocks, part, pointer)
-}
-
-/// Sequences of four bytes, and ASCII bytes.
-impl Forms for Gb18030Blocks<'_, '_> {
-    ghost grammar = { λ blocks. gb18030 blocks.tables.now.flat.gb18030
-        blocks.tables.now.flat.ranges };
-
-    ghost most_bytes = { 4 };
-
-    ghost most_units = { 4 };
-
-    const FOUR_AT_LEAST: usize = 4;
-
-    #[inline(always)]
-    fn fitting(&self, bytes: usize, units: usize) -> usize {
-        (bytes / 4).min(units / 4)
-    }
-
-    /// Reads at most `most` sequences. It also stops at two ASCII bytes in a row.
-    #[inline(always)]
-    fn read_forms<T: Destination>(&self, src: &[u8], dst: &mut T, most: usize) -> usize {
-        let mut part = self.tables.ranges().part_at(self.guess.get());
-        let mut at = 0;
-        let mut left = most;
-        while left > 0 {
-            let byte = src[at];
-            let next = src[at + 1];
-            if byte < 0x80 {
-                dst.put(char::from(byte));
-                at += 1;
-                if next < 0x80 {
-                    return at;
-                }
-            } else {
-                let (third, fourth) = (src[at + 2], src[at + 3]);
-                match four_scalar(self, &mut part, byte, next, third, fourth) {
-                    Some(scalar) => dst.put(scalar),
-                    None => return at,
-                }
-                at += 4;
-            }
-            left -= 1;
-        }
-        at
+    match ranges.scalar_in(ranges.part_at(guess.get()), pointer) {
+        Some(scalar) => Some(scalar),
+        None => far_scalar(ranges, guess, pointer),
     }
 }
 
@@ -178,18 +117,109 @@ fn begins_four(src: &[u8]) -> bool {
 }
 
 impl Gb18030Blocks<'_, '_> {
-    /// Reads a run of sequences of four bytes, or a block of common sequences.
+    /// Reads sequences of four bytes and ASCII bytes from the front, up to two ASCII bytes in a row.
+    ///
+    /// It reads whole sequences while at least four bytes are left. Returns the number of bytes read, which may be 0.
     #[inline(always)]
-    fn read_forms_ahead<T: Destination>(&self, src: &[u8], dst: &mut T) -> usize
+    fn read_fours<T: Destination>(&self, src: &[u8], dst: &mut T) -> usize
         ensures { ReadsAhead T.Destination (new_state (gb18030 self.now.tables.now.flat.gb18030
             self.now.tables.now.flat.ranges)) src.now result dst.old dst.new }
     {
-        if begins_four(src) {
-            return read_run(self, src, dst);
+        let most = src.len().min(dst.free().saturating_sub(3));
+        let ranges = self.tables.ranges();
+        let mut part = ranges.part_at(self.guess.get());
+        let mut at = 0;
+        while most - at >= 4 {
+            let byte = src[at];
+            if byte < 0x80 {
+                dst.put(char::from(byte));
+                at += 1;
+                if src[at] < 0x80 {
+                    return at;
+                }
+            } else {
+                let pointer = four_pointer(byte, src[at + 1], src[at + 2], src[at + 3]);
+                if let Some(scalar) = ranges.scalar_in(part, pointer) {
+                    dst.put(scalar);
+                } else {
+                    let Some(scalar) = far_scalar(ranges, self.guess, pointer) else {
+                        return at;
+                    };
+                    dst.put(scalar);
+                    part = ranges.part_at(self.guess.get());
+                }
+                at += 4;
+            }
         }
-        LaneForms::<Gb18030>::new(self.tables)
-            .read_block(src, dst)
-            .0
+        at
+    }
+
+    /// Returns the scalar at the front of the input, and the number of its bytes, or `None` if the front is rare.
+    #[inline(always)]
+    fn form_at(&self, src: &[u8]) -> Option<(char, usize)>
+        requires { 0 < length src.now }
+        ensures { IfSome result (λ form. (0 < form.1) × (form.1 ≤ length src.now)
+            × Runs (gb18030 self.now.tables.now.flat.gb18030 self.now.tables.now.flat.ranges)
+            (take form.1 src.now) (form.0 ∷ [])) }
+    {
+        let byte = src[0];
+        if byte < 0x80 {
+            return Some((char::from(byte), 1));
+        }
+        if src.len() < 2 {
+            return None;
+        }
+        if let CommonForm::Pair(scalar) = Gb18030::front(self.tables, byte, src[1]) {
+            return Some((scalar, 2));
+        }
+        if src.len() < 4 {
+            return None;
+        }
+        let pointer = four_pointer(byte, src[1], src[2], src[3]);
+        let Some(scalar) = guessed_scalar(self.tables.ranges(), self.guess, pointer) else {
+            return None;
+        };
+        Some((scalar, 4))
+    }
+
+    /// Reads the last bytes of the input, up to a rare sequence. Returns the number of bytes read, which may be 0.
+    // A block of lanes or of ASCII is longer, so one loop reads every form.
+    #[inline(always)]
+    fn read_last<T: Destination>(&self, src: &[u8], dst: &mut T) -> usize
+        ensures { ReadsAhead T.Destination (new_state (gb18030 self.now.tables.now.flat.gb18030
+            self.now.tables.now.flat.ranges)) src.now result dst.old dst.new }
+    {
+        let mut at = 0;
+        while at < src.len() && dst.free() >= 7 {
+            match self.form_at(&src[at..]) {
+                Some((scalar, length)) => {
+                    dst.put(scalar);
+                    at += length;
+                }
+                None => return at,
+            }
+        }
+        at
+    }
+
+    /// Reads from the front, which is past ASCII or fewer than 16 bytes from the end.
+    /// Returns the number of bytes read, and whether another block may follow.
+    #[inline(always)]
+    fn read_forms_ahead<T: Destination>(&self, src: &[u8], dst: &mut T) -> (usize, bool)
+        ensures ahead { ReadsAhead T.Destination (new_state (gb18030 self.now.tables.now.flat.gb18030
+            self.now.tables.now.flat.ranges)) src.now result.0 dst.old dst.new }
+        ensures goes_on { result.1 ≡ true → 0 < result.0 }
+    {
+        if src.len() < 16 {
+            return (self.read_last(src, dst), false);
+        }
+        // A sequence of four bytes is tested for first, because a block of lanes cannot read it.
+        if begins_four(src) {
+            let read = self.read_fours(src, dst);
+            return (read, read > 0);
+        }
+        let (read, goes_on) = LaneForms::<Gb18030>::new(self.tables).read_block(src, dst);
+        (read, goes_on || read > 0 && begins_four(&src[read..]))
     }
 }
 
@@ -197,12 +227,11 @@ impl Blocks for Gb18030Blocks<'_, '_> {
     ghost grammar = { λ blocks. gb18030 blocks.tables.now.flat.gb18030
         blocks.tables.now.flat.ranges };
 
-    // A sequence of four bytes is tested for first, because a block of lanes cannot read it.
     #[inline(always)]
     fn read_block<T: Destination>(&self, src: &[u8], dst: &mut T) -> (usize, bool) {
         let front = read_ascii(src, dst);
-        let read = self.read_forms_ahead(&src[front..], dst);
-        (front + read, read > 0)
+        let (read, goes_on) = self.read_forms_ahead(&src[front..], dst);
+        (front + read, goes_on)
     }
 }
 

@@ -6,4 +6,4 @@ use Rattle.legacy_chinese.proofs.gb18030.fours.Gb18030BlocksBlocks.read_block.Go
 pub returns-clause-ahead : goal.returns-clause-ahead
 returns-clause-ahead g c =
     let tables = c.args.self.now.tables.now in
-    reads_more (c.read_ascii-front.ensures.ahead (gb18030 tables.flat.gb18030 tables.flat.ranges) (ascii tables)) c.read_forms_ahead-read.ensures
+    reads_more (c.read_ascii-front.ensures.ahead (gb18030 tables.flat.gb18030 tables.flat.ranges) (ascii tables)) c.read_forms_ahead-read.ensures.ahead
