@@ -11,7 +11,8 @@ grown_front page grown behind start end is h e =
     ∙ take-append_seam page behind
 
 -- what is kept is the page, and then what was written
-pub kept_page : (page front output behind rest : List ℕ) (start written whole : ℕ) → start ≡ length page → front ≡ page → written ≤ length output → start + written ≤ whole →
+pub kept_page : (page front output behind rest : List ℕ) (start written whole : ℕ) → start ≡ length page → front ≡ page → written ≤ length output
+    → start + written ≤ whole →
     take (start + written) (take whole ((front ++ (output ++ behind)) ++ rest)) ≡ page ++ take written output
 kept_page page front output behind rest start written whole is same h in_whole =
     let grown = page ++ (output ++ behind) in

@@ -20,7 +20,8 @@ use Rattle.legacy_codecs.specs.WholeTexts.{text_of}
 some_same : {A : Type 0} (a b : A) → Some a ≡ Some b → a ≡ b
 some_same a b e = cc
 
-named_is : (name : List ℕ) (known : Encoding) → find (λ e. bytes_eq (encoding_name e) name) ENCODINGS ≡ Some known → (e : Encoding) → encoding_name e ≡ name → e ≡ known
+named_is : (name : List ℕ) (known : Encoding) → find (λ e. bytes_eq (encoding_name e) name) ENCODINGS ≡ Some known → (e : Encoding) → encoding_name e ≡ name
+    → e ≡ known
 named_is name known k e h =
     some_same e known (sym ((named name (find (λ e. bytes_eq (encoding_name e) name) ENCODINGS) refl e).1 h) ∙ k)
 
@@ -30,7 +31,8 @@ is_euc_kr = named_is (codes "EUC-KR") encoding.EucKr refl
 module _ (flat : FlatIndexes) (tables : List EncodingTable) (input : List ℕ) where
   euc_kr_state : (state : DecoderState) → IsDecoderOf flat tables (codes "EUC-KR") state → state ≡ new_state (euc_kr flat.euc_kr)
   euc_kr_state state is =
-      let made : Some (new_state (euc_kr flat.euc_kr)) ≡ Some state = subst (λ e. decoder_for flat tables e ≡ Some state) (is_euc_kr is.encoding is.named) is.made in
+      let made : Some (new_state (euc_kr flat.euc_kr)) ≡ Some state =
+      subst (λ e. decoder_for flat tables e ≡ Some state) (is_euc_kr is.encoding is.named) is.made in
       sym (some_same (new_state (euc_kr flat.euc_kr)) state made)
 
   pub euc_kr_by_file : (file index text : List ℕ) → IsEucKrFile file index → AreAccepted flat → flat ≡ only_euc_kr index →

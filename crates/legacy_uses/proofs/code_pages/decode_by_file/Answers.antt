@@ -30,7 +30,8 @@ returns-in_err-decode_whole c =
     let h = holds_euc_kr c.args.file.now _ _ c.new-owned.ensures.empty c.new-owned.ensures.katakana c.in_ok-read.ensures.table
     (well_formed_ok (Of EucKr) c.args.file.now _ c.in_ok-read.ensures.line _ refl) in
     let flat = c.in_ok-tables.ensures ∙ h.only in
-    let is : IsEucKrIndex c.args.file.now c.read.new.self.euc_kr.items = record { of_file = h.of_file; accepted = subst AreAccepted flat c.in_ok-tables.tables.accepted } in
+    let is : IsEucKrIndex c.args.file.now c.read.new.self.euc_kr.items =
+    record { of_file = h.of_file; accepted = subst AreAccepted flat c.in_ok-tables.tables.accepted } in
     let same = c.new-decoder.ensures ∙ ap (λ f. new_state (euc_kr f.euc_kr)) flat in
     rw (p.1, p.2) (not_decoded_by_file c.args.file.now c.args.input.now c.read.new.self.euc_kr.items is _ same _ c.in_err-decode_whole.ensures.too_long _ refl)
 
@@ -43,6 +44,7 @@ returns c =
     record {
       index = c.read.new.self.euc_kr.items;
       is_index = record { of_file = h.of_file; accepted = subst AreAccepted flat c.in_ok-tables.tables.accepted };
-      short = λ none. let e = c.in_ok-decode_whole.ensures.too_long.1 (subst (λ s. query_answer to_utf8 s (length c.args.input.now) ≡ None) (sym same) none) in cc;
+      short = λ none.
+          let e = c.in_ok-decode_whole.ensures.too_long.1 (subst (λ s. query_answer to_utf8 s (length c.args.input.now) ≡ None) (sym same) none) in cc;
       decodes = c.in_ok-decode_whole.ensures.text ∙ ap (λ s. text_of s c.args.input.now) same;
     }
