@@ -1,20 +1,27 @@
 -- The units of eight codes, lane by lane, are the scalars of their forms.
-use Rattle.std.proofs.Common.{◌≡◌, ◌≢◌, ◌∙◌, ℕ, suc, ◌+◌, ◌-◌, ◌*◌, ◌/◌, ◌%◌, ◌^◌, ◌<◌, ◌≤◌, min, Bool, true, false, cond, ltb, leb, List, [], ◌∷◌, ◌++◌}
-use Rattle.std.proofs.Common.{length, get_or, map, take, drop, replicate, bit_and, bit_or, refl, sym, ap, subst, arith, w16, Fits, length-append, ◌⊎◌, inl, inr}
-use Rattle.std.proofs.lemmas.List.{flat_map_more, take_more, take-take, take-append-drop, length-take-le, length-drop, length-map, get_or-take, get_or-drop}
-use Rattle.std.proofs.lemmas.List.{get_or-map}
-use Rattle.std.proofs.lemmas.Simd.{tops_compared, length-zip2, get_or-zip2, get_or-sel_l, get_or-replicate, bitmask_splat, ones-mask_l, length-chunk}
-use Rattle.std.proofs.lemmas.Simd.{get_or-chunk, get_or-put_chunk_below, get_or-put_chunk_at}
-use Rattle.std.proofs.lemmas.Bool.{ltb-true, ltb-false, cases_lt}
-use Rattle.std.proofs.{lemmas.Bool.Decides.nat_tests, lemmas.Nat.and_mask, lemmas.List.Sums.sum_by-cons, lemmas.List.Sums.count_by-le-length}
-use Rattle.std.proofs.{lemmas.Grind.flat_map-append, Math.Seq.take-append_seam, Math.Seq.take-add}
-use Rattle.std.specs.{Char.IsScalar, List.count_by, Int.RustNames.count_ones}
+use Rattle.std.proofs.Common.{◌≡◌, ◌≢◌, ◌∙◌, ℕ, suc, ◌+◌, ◌-◌, ◌*◌, ◌/◌, ◌%◌, ◌^◌, ◌<◌, ◌≤◌, ◌||◌, min, Bool, true, false, cond, ltb, leb, eqb, List, [], ◌∷◌, ◌++◌, length, get_or, map, take, drop, replicate, bit_and, bit_or, refl, sym, ap, subst, arith, w16, Fits, length-append, ◌⊎◌, inl, inr}
+use Rattle.std.proofs.lemmas.Bool.{ltb-true, ltb-false, leb-true, cases_lt}
+use Rattle.std.proofs.lemmas.Nat.{and_mask}
+use Rattle.std.proofs.lemmas.List.{take-take, take-append-drop, length-take-le, length-map, get_or-take, get_or-drop, get_or-map}
+use Rattle.std.proofs.lemmas.List.Sums.{sum_by-cons, sum_by-append, count_by-le-length}
+use Rattle.std.proofs.lemmas.List.Folds.{sum_by-replicate}
+use Rattle.std.proofs.lemmas.Grind.{flat_map-append}
+use Rattle.std.proofs.Math.Seq.{take-append_seam, take-add}
+use Rattle.std.proofs.lemmas.Simd.{tops_compared, length-zip2, get_or-zip2, get_or-sel_l, get_or-replicate, bitmask_splat, bit_mask_l, ones-mask_l, length-chunk, get_or-chunk, get_or-put_chunk_below, get_or-put_chunk_at}
+use Rattle.std.specs.Char.{IsScalar}
+use Rattle.std.specs.List.{count_by}
+use Rattle.std.specs.Int.{bit_at}
+use Rattle.std.specs.Int.RustNames.{count_ones}
 use lib.Lanes.{Each1, zip2, sel_l, top, mask_l, chunk, put_chunk}
+use Rattle.legacy_text.specs.declared.destination.Destination.{Ghosts}
+use Rattle.legacy_text.specs.EncodingForm.{EncodingForm, all_code_units, total_unit_count}
 use Rattle.legacy_text.proofs.UnitLanes.{of_eight}
+use Rattle.legacy_text.proofs.VectorUnits.{unit-below}
 use Rattle.legacy_base.specs.Grammar.{Grammar}
+use Rattle.legacy_decoder_engine.specs.Ahead.{HasAscii, Runs, Writes}
 use Rattle.legacy_decoder_engine.specs.LaneCodes.{kept_of, place_of, unit_at, ArePairs, IsLane, IsForm}
-use Rattle.legacy_decoder_engine.specs.{Ahead.HasAscii, Ahead.Runs, PickedForms.form_of, PickedForms.forms_of, PickedForms.IsFront}
-use Rattle.legacy_decoder_engine.proofs.{LanePlaces.mask_if, WrittenRuns.runs_none, WrittenRuns.runs_more}
+use Rattle.legacy_decoder_engine.specs.PickedForms.{form_of, forms_of, IsFront}
+use Rattle.legacy_decoder_engine.proofs.WrittenRuns.{runs_none, runs_more, writes_then, all_short}
 
 -- ---- one lane
 
@@ -119,23 +126,17 @@ module _ (g : Grammar) where
         omega (arith, length-append (form_of c) (forms_of cs), n, one.counted, more.1),
       )
 
-  -- eight codes at a place, of which no unit is 0
-  pub eight_forms : (codes kept units : List ℕ) (at : ℕ) → at + 8 ≤ length codes → length kept ≡ 8 → length units ≡ 8
-      → ((k : ℕ) → k < 8 → get_or units k 0 ≢ 0 → IsForm g (get_or codes (at + k) 0) (get_or kept k 0) (get_or units k 0))
-      → ((k : ℕ) → k < 8 → get_or units k 0 ≢ 0)
-      → Runs g (forms_of (take 8 (drop at codes))) units × (length (forms_of (take 8 (drop at codes))) + count_by (λ k. ltb k 128) kept ≡ 16)
-  eight_forms codes kept units at room n m forms some =
-      let long : length (take 8 (drop at codes)) ≡ 8 = length-take-le 8 (drop at codes) (omega (arith, length-drop at codes)) in
-      let both = forms_all (take 8 (drop at codes)) kept units (long ∙ sym m) (n ∙ sym m) (λ k h. lane k (omega (arith, h, m))) in
-      (both.0, both.1 ∙ ap (λ m. 2 * m) long)
-    where
-      lane : (k : ℕ) → k < 8 → IsForm g (get_or (take 8 (drop at codes)) k 0) (get_or kept k 0) (get_or units k 0)
-      lane k h = rw (get_from at 8 codes k h) (forms k h (some k h))
-
--- one form more
-pub form_more : (count : ℕ) (codes : List ℕ) → count < length codes
-    → forms_of (take count codes) ++ form_of (get_or codes count 0) ≡ forms_of (take (count + 1) codes)
-form_more count codes within = flat_map_more form_of [] (take count codes) (get_or codes count 0) ∙ ap forms_of (sym (take_more codes count 0 within))
+  -- the first codes
+  pub first_forms : (n : ℕ) (cs ks us : List ℕ) → n ≤ length cs → n ≤ length ks → n ≤ length us → ((k : ℕ) → k < n → IsForm g (get_or cs k 0) (get_or ks k 0) (get_or us k 0))
+      → Runs g (forms_of (take n cs)) (take n us) × (length (forms_of (take n cs)) + count_by (λ k. ltb k 128) (take n ks) ≡ 2 * n)
+  first_forms n cs ks us p q r each =
+      let a = length-take-le n cs p in
+      let b = length-take-le n ks q in
+      let c = length-take-le n us r in
+      let both = forms_all (take n cs) (take n ks) (take n us) (a ∙ sym c) (b ∙ sym c) (λ k h.
+      let below : k < n = omega (arith, h, c) in
+      rw (get_or-take n cs k 0 below, get_or-take n ks k 0 below, get_or-take n us k 0 below) (each k below)) in
+      (both.0, both.1 ∙ ap (λ m. 2 * m) a)
 
 -- ---- the front of a block
 
@@ -164,6 +165,27 @@ ascii_lanes ks long = (
   omega (arith, count_by-le-length (λ k. ltb k 128) ks, long),
 )
 
+-- the first ones, with zeros after them
+pub ascii_first : (n : ℕ) (ks : List ℕ) → n ≤ length ks
+    → (count_by (λ k. ltb k 128) (take n ks ++ replicate (8 - n) 0) ≡ count_by (λ k. ltb k 128) (take n ks) + (8 - n)) × (count_by (λ k. ltb k 128) (take n ks) ≤ n)
+ascii_first n ks within = (
+  omega (
+    arith,
+    sum_by-append (λ k. cond (ltb k 128) 1 0) (take n ks) (replicate (8 - n) 0),
+    sum_by-replicate (λ k. cond (ltb k 128) 1 0) (8 - n) 0,
+  ),
+  omega (arith, count_by-le-length (λ k. ltb k 128) (take n ks), length-take-le n ks within),
+)
+
+-- ---- units that are 0
+
+pub unit_known : (us : List ℕ) → length us ≡ 8 → (k : ℕ) → k < 8
+    → bit_at (mask_l (map (top 15) (zip2 (λ a b. mask_if (eqb a b)) us (replicate 8 0))) % 2 ^ 64) k ≡ 0 → get_or us k 0 ≢ 0
+unit_known us long k h unset none =
+    let bit = ap (λ n. bit_at n k) (bitmask_splat w16 eqb us 8 0 long (omega arith)) ∙ bit_mask_l (map (λ u. eqb u 0) us) k
+    ∙ ap (λ t. cond t 1 0) (get_or-map (λ u. eqb u 0) us k 0 false (omega (arith, h, long)) ∙ ap (λ u. eqb u 0) none) in
+    omega (arith, unset, bit)
+
 -- ---- groups of eight that are stored
 
 -- eight more entries, each a function of the code at its place
@@ -188,3 +210,35 @@ next_eight_stored f group codes old found is room room' before k h = go (cases_l
 -- the codes before a place, and the first ones from there on
 pub forms_at : (at few : ℕ) (codes : List ℕ) → forms_of (take at codes) ++ forms_of (take few (drop at codes)) ≡ forms_of (take (at + few) codes)
 forms_at at few codes = sym (flat_map-append form_of (take at codes) (take few (drop at codes))) ∙ ap forms_of (sym (take-add at few codes))
+
+-- the codes so far and the next ones are written
+pub codes_more : {D : Type 0} (T : Ghosts D) (g : Grammar) (codes : List ℕ) (at count bytes read : ℕ) {x y z : D} → bytes ≡ length (forms_of (take at codes))
+    → Writes T g (forms_of (take at codes)) x y → (read ≡ length (forms_of (take count (drop at codes)))) × Writes T g (forms_of (take count (drop at codes))) y z
+    → (bytes + read ≡ length (forms_of (take (at + count) codes))) × Writes T g (forms_of (take (at + count) codes)) x z
+codes_more T g codes at count bytes read {x} {y} {z} so_far written next =
+    let more = forms_at at count codes in (
+      omega (arith, so_far, next.0, ap length more, length-append (forms_of (take at codes)) (forms_of (take count (drop at codes)))),
+      subst (λ l. Writes T g l x z) more (writes_then T written next.1),
+    )
+
+-- ---- units that a destination writes
+
+-- the first of eight units, which take 24 code units at most
+pub few_units : (form : EncodingForm) (few : ℕ) (us : List ℕ) → length us ≡ 8 → Each1 (Fits w16) us → few ≤ 8 → total_unit_count form (take few us) ≤ 24
+few_units form few us long fits most =
+    let n = length-take-le few us (omega (arith, long, most)) in
+    omega (
+      arith,
+      n,
+      most,
+      all_short form (take few us) (λ k h. subst (λ u. u < 65536) (sym (get_or-take few us k 0 (omega (arith, h, n)))) (unit-below us k fits)),
+    )
+
+pub units_written : {D : Type 0} (T : Ghosts D) (few : ℕ) (us ks : List ℕ) {bytes : ℕ} {x y : D} → length us ≡ 8 → length ks ≡ 8 → few ≤ 8
+    → bytes + count_by (λ k. ltb k 128) (take few ks) ≡ 2 * few → T.contents y ≡ T.contents x ++ all_code_units T.form (take few us)
+    → T.room y + total_unit_count T.form (take few us) ≡ T.room x → T.loan y ≡ T.loan x
+    → (g : Grammar) (codes : List ℕ) → few ≤ length codes → ((k : ℕ) → k < few → IsForm g (get_or codes k 0) (get_or ks k 0) (get_or us k 0))
+    → (bytes ≡ length (forms_of (take few codes))) × Writes T g (forms_of (take few codes)) x y
+units_written T few us ks long long' most counted contents room loan g codes within each =
+    let forms = first_forms g few codes ks us within (omega (arith, most, long')) (omega (arith, most, long)) each in
+    (omega (arith, forms.1, counted), record { scalars = take few us; runs = forms.0; written = contents; room = room; loan = loan })

@@ -1,7 +1,7 @@
 //! Blocks with many bytes past ASCII: their forms are picked out, and looked up eight at a time.
 // The functions that run for each block are always inlined: a call would pass vectors through memory, and would store
 // the destination's place there for each block.
-ghost use Rattle.std.specs.Prelude.{◌≡◌, ◌≢◌, ℕ, ◌+◌, ◌*◌, ◌<◌, ◌≤◌, List, false, true, length, map, take, get_or, count_by, cond, ltb};
+ghost use Rattle.std.specs.Prelude.{◌≡◌, ◌≢◌, ℕ, ◌+◌, ◌*◌, ◌<◌, ◌≤◌, List, All, true, length, map, take, get_or, count_by, ltb};
 ghost use Rattle.std.specs.Char.{IsScalar};
 ghost use Rattle.legacy_tables.specs.AcceptedTables.{AcceptedIndexes};
 ghost use Rattle.legacy_tables.specs.Indexes.{FlatIndexes};
@@ -16,6 +16,7 @@ use crate::picks::{past_ascii, pick_forms};
 use crate::runs::{Blocks, read_ascii, read_blocks, read_one};
 use legacy_base::Destination;
 use legacy_tables::FlatTables;
+use legacy_text::first_units;
 use std::marker::PhantomData;
 use std::simd::prelude::*;
 
@@ -150,18 +151,17 @@ fn byte_count(kept: u16x8) -> usize
     16 - kept.simd_lt(u16x8::splat(0x80)).to_bitmask().count_ones() as usize
 }
 
-/// Returns whether one of the units is 0.
+/// Returns the number of units before the first that is 0.
 #[inline(always)]
-fn has_zero(units: &[u16]) -> bool
-    ensures { result ≡ false → (k : ℕ) → k < length units.now → get_or units.now k 0 ≢ 0 }
+fn known_count(units: u16x8) -> usize
+    ensures most { result ≤ 8 }
+    ensures known { (k : ℕ) → k < result → get_or units k 0 ≢ 0 }
 {
-    let mut found = false;
-    let mut at = 0;
-    while at < units.len() {
-        found = found || units[at] == 0;
-        at += 1;
+    let zeros = units.simd_eq(u16x8::splat(0)).to_bitmask();
+    if zeros == 0 {
+        return 8;
     }
-    found
+    (zeros.trailing_zeros() as usize).min(8)
 }
 
 /// Returns what is kept of eight codes from a place on, and their units, with 0 for a rare code.
@@ -179,7 +179,6 @@ fn units_at<C: LaneCodec>(
         (get_or lanes.now.kept (at + k) 0) (get_or lanes.now.places (at + k) 0) }
     requires within { (k : ℕ) → k < 8 →
         get_or lanes.now.places (at + k) 0 < length (C.entries tables.now.flat) }
-    ensures small { (k : ℕ) → k < 8 → get_or result.1 k 0 < 0x1_0000 }
     ensures forms { (k : ℕ) → k < 8 → get_or result.1 k 0 ≢ 0 →
         IsForm (C.grammar tables.now.flat) (get_or codes.now (at + k) 0) (get_or result.0 k 0)
         (get_or result.1 k 0) }
@@ -192,51 +191,42 @@ fn units_at<C: LaneCodec>(
     )
 }
 
-/// Returns the number of bytes of a form, given what is kept of its code.
-#[inline(always)]
-fn form_length(kept: u16) -> usize
-    ensures { result + cond (ltb kept 128) 1 0 ≡ 2 }
-{
-    if kept < 0x80 { 1 } else { 2 }
-}
-
-/// Writes the first `most` of eight units one by one, up to one that is 0 or whose form ends past `limit` bytes.
+/// Writes the first `few` of eight units, or none if their forms have more than `limit` bytes.
 /// Returns the number of units written, and the number of bytes of their forms.
 #[inline(always)]
-fn put_few<T: Destination>(
-    units: &[u16],
-    kept: &[u16],
-    most: usize,
+fn put_units<T: Destination>(
+    units: u16x8,
+    kept: u16x8,
+    few: usize,
     limit: usize,
     dst: &mut T,
 ) -> (usize, usize)
-    requires most { most ≤ 8 }
-    requires units { 8 ≤ length units.now }
-    requires kept { 8 ≤ length kept.now }
-    requires scalars { (k : ℕ) → k < 8 → get_or units.now k 0 ≢ 0 →
-        IsScalar (get_or units.now k 0) }
-    requires room { 24 ≤ T.room dst.old }
-    ensures most { result.0 ≤ most }
+    requires few { few ≤ 8 }
+    requires scalars { All IsScalar units }
+    requires room { 32 ≤ T.room dst.old }
+    ensures few { result.0 ≤ few }
     ensures limit { result.1 ≤ limit }
-    ensures writes { (grammar : Grammar) (codes : List ℕ) → 8 ≤ length codes →
-        ((k : ℕ) → k < 8 → get_or units.now k 0 ≢ 0 →
-        IsForm grammar (get_or codes k 0) (get_or kept.now k 0) (get_or units.now k 0)) →
+    ensures writes { (grammar : Grammar) (codes : List ℕ) → few ≤ length codes →
+        ((k : ℕ) → k < few →
+        IsForm grammar (get_or codes k 0) (get_or kept k 0) (get_or units k 0)) →
         (result.1 ≡ length (forms_of (take result.0 codes)))
         × Writes T.Destination grammar (forms_of (take result.0 codes)) dst.old dst.new }
     ensures slack { T.room dst.old ≤ T.room dst.new + 24 }
 {
-    let mut count = 0;
-    let mut bytes = 0;
-    while count < most && units[count] != 0 {
-        let long = form_length(kept[count]);
-        if bytes + long > limit {
-            return (count, bytes);
+    if few < 8 {
+        let bytes = byte_count(first_units(kept, few)) - (8 - few);
+        if bytes > limit {
+            return (0, 0);
         }
-        dst.put(unsafe { char::from_u32_unchecked(u32::from(units[count])) });
-        bytes += long;
-        count += 1;
+        dst.put_first(units, few);
+        return (few, bytes);
     }
-    (count, bytes)
+    let bytes = byte_count(kept);
+    if bytes > limit {
+        return (0, 0);
+    }
+    dst.put_eight(units);
+    (8, bytes)
 }
 
 /// Writes the first `most` codes, up to one that is rare or whose form ends past `limit` bytes.
@@ -274,20 +264,12 @@ fn put_codes<C: LaneCodec, T: Destination>(
     while 8 * group < most && dst.free() >= 32 {
         let at = 8 * group;
         let (kept, units) = units_at::<C>(tables, codes, lanes, at);
-        let long = byte_count(kept);
-        if at + 8 > most || bytes + long > limit || has_zero(&units.to_array()) {
-            let left = (most - at).min(8);
-            let (few, more) = put_few(
-                &units.to_array(),
-                &kept.to_array(),
-                left,
-                limit - bytes,
-                dst,
-            );
-            return (at + few, bytes + more);
+        let few = known_count(units).min(most - at);
+        let (count, read) = put_units(units, kept, few, limit - bytes, dst);
+        bytes += read;
+        if count < 8 {
+            return (at + count, bytes);
         }
-        dst.put_eight(units);
-        bytes += long;
         group += 1;
     }
     (8 * group, bytes)
@@ -475,6 +457,9 @@ impl<C: LaneCodec> Blocks for LaneForms<'_, '_, C> {
             return (0, false);
         }
         let front = read_ascii(src, dst);
+        if front == src.len() {
+            return (front, false);
+        }
         let at = front + read_lanes::<C, T>(self.tables, &src[front..], dst);
         let few = read_forms(self, &src[at..], 256, dst);
         (at + few, few > 0)

@@ -109,7 +109,7 @@ pub fn read_blocks<B: Blocks, T: Destination>(blocks: &B, src: &[u8], dst: &mut 
     loop {
         let (read, goes_on) = blocks.read_block(&src[at..], dst);
         at += read;
-        if !goes_on {
+        if !goes_on || at == src.len() {
             return at;
         }
     }

@@ -1,8 +1,8 @@
 -- Vectors lane by lane: a vector is written out as the list of its lanes.
 use Rattle.std.proofs.Common.{◌≡◌, ℕ, zero, suc, ◌+◌, ◌-◌, ◌*◌, ◌/◌, ◌%◌, ◌^◌, ◌<◌, ◌≤◌, Bool, true, false, cond, ltb, leb, eqb, List, [], ◌∷◌, ◌++◌, length}
-use Rattle.std.proofs.Common.{get_or, map, take, drop, replicate, bit_and, refl, sym, ap, ap₂, ◌∙◌, arith, w8, w16, Fits, ◌&&◌, mod-lt, zero-lt-suc, mul_assoc}
+use Rattle.std.proofs.Common.{get_or, map, take, drop, replicate, bit_and, refl, sym, ap, ap₂, ◌∙◌, arith, w8, w16, Fits, ◌&&◌, mod-lt, zero-lt-suc, mul_assoc, length-append}
 use Rattle.std.proofs.lemmas.Bool.{ltb-true, ltb-false, leb-true, eqb-true, lt-leb, and_parts, agree_below_at}
-use Rattle.std.proofs.lemmas.List.{map-append, append_assoc, length-take-le, length-drop, take-take, take-append-drop, take-append-le, take-map}
+use Rattle.std.proofs.lemmas.List.{map-append, append_assoc, length-replicate, length-take-le, length-drop, take-take, take-append-drop, take-append-le, take-map}
 use Rattle.std.proofs.Math.Seq.{take-append_seam, take-append-add}
 use Rattle.std.proofs.lemmas.Nat.{and_mask}
 use Rattle.std.proofs.lemmas.Nat.Bits.{and_high}
@@ -410,3 +410,47 @@ both_stored old old_front front back p q v new long fits fe be pe qe first secon
     ∙ ap (λ (l : List ℕ). old ++ l)
     (ap₂ (λ (x y : List ℕ). x ++ y) ((λ i. map (λ k. get_or (fe i) k 0) (places 0 4 (pe i))) ∙ t.0)
     ((λ i. map (λ k. get_or (be i) k 0) (places 0 4 (qe i))) ∙ t.1) ∙ joined_text v)
+
+-- ---- the first code units, with U+0000 for the others
+
+abbrev pub vector_first : ℕ → List ℕ → List ℕ
+vector_first n v =
+    sel_l (map (top 15) (zip2 (λ a b. cond (ltb a b) (2 ^ 16 - 1) 0) (0 ∷ 1 ∷ 2 ∷ 3 ∷ 4 ∷ 5 ∷ 6 ∷ 7 ∷ []) (replicate 8 n))) v (replicate 8 0)
+
+pub first_are : (n : ℕ) → n ≤ 8 → (v : List ℕ) → length v ≡ 8 → Each1 (Fits w16) v → vector_first n v ≡ take n v ++ replicate (8 - n) 0
+first_are n most =
+    of_eight (λ v. vector_first n v ≡ take n v ++ replicate (8 - n) 0) (λ a b c d e f g h sa sb sc sd se sf sg sh. go n most a b c d e f g h)
+  where
+    go : (n : ℕ) → n ≤ 8 → (a b c d e f g h : ℕ)
+        → vector_first n (a ∷ b ∷ c ∷ d ∷ e ∷ f ∷ g ∷ h ∷ []) ≡ take n (a ∷ b ∷ c ∷ d ∷ e ∷ f ∷ g ∷ h ∷ []) ++ replicate (8 - n) 0
+    go zero m a b c d e f g h = refl
+    go (suc zero) m a b c d e f g h = refl
+    go (suc (suc zero)) m a b c d e f g h = refl
+    go (suc (suc (suc zero))) m a b c d e f g h = refl
+    go (suc (suc (suc (suc zero)))) m a b c d e f g h = refl
+    go (suc (suc (suc (suc (suc zero))))) m a b c d e f g h = refl
+    go (suc (suc (suc (suc (suc (suc zero)))))) m a b c d e f g h = refl
+    go (suc (suc (suc (suc (suc (suc (suc zero))))))) m a b c d e f g h = refl
+    go (suc (suc (suc (suc (suc (suc (suc (suc zero)))))))) m a b c d e f g h = refl
+    go (suc (suc (suc (suc (suc (suc (suc (suc (suc n))))))))) m a b c d e f g h = absurd (omega arith)
+
+zeros_text : (n : ℕ) → utf8_bytes (replicate n 0) ≡ replicate n 0
+unfolding encode_utf8
+zeros_text zero = refl
+zeros_text (suc n) = ap (λ (l : List ℕ). 0 ∷ l) (zeros_text n)
+
+-- the text of the first code units is the stored text without its last bytes
+pub first_stored : (at end n : ℕ) (old new us : List ℕ) → at ≤ length old → end ≤ length new → take end new ≡ take at old ++ utf8_bytes (us ++ replicate n 0)
+    → (n ≤ end) × (take (end - n) new ≡ take at old ++ utf8_bytes us)
+first_stored at end n old new us within room e =
+    let front = take at old ++ utf8_bytes us in
+    let text : take end new ≡ front ++ replicate n 0 =
+    e ∙ ap (λ (l : List ℕ). take at old ++ l) (flat_map-append encode_utf8 us (replicate n 0) ∙ ap (λ (l : List ℕ). utf8_bytes us ++ l) (zeros_text n))
+    ∙ sym (append_assoc (take at old) (utf8_bytes us) (replicate n 0)) in
+    let long : end ≡ length front + n =
+    omega (arith, ap length text, length-take-le end new room, length-append front (replicate n 0), length-replicate {A = ℕ} n 0) in
+    let cut : end - n ≡ length front = omega arith in (
+      omega arith,
+      sym (take-take (end - n) end new (omega arith)) ∙ ap (take (end - n)) text ∙ ap (λ k. take k (front ++ replicate n 0)) cut
+          ∙ take-append_seam front (replicate n 0),
+    )

@@ -17,10 +17,11 @@ free-after at result old new units same before after written =
     let c : length (take result new) ≡ length (take at old) + length units = ap length written ∙ length-append (take at old) units in
     omega arith
 
--- code units of 16 bits are their own code units in UTF-16
-pub own-units : (units : List ℕ) → Each1 (Fits w16) units → all_code_units Utf16 units ≡ units
-own-units [] fits = refl
-own-units (u ∷ units) fits = ap₂ (λ (x y : List ℕ). x ++ y) (utf16_1 u fits.0.fits) (own-units units fits.1)
+-- the first code units of 16 bits are their own code units in UTF-16
+pub own-units : (n : ℕ) (units : List ℕ) → Each1 (Fits w16) units → all_code_units Utf16 (take n units) ≡ take n units
+own-units zero units fits = refl
+own-units (suc n) [] fits = refl
+own-units (suc n) (u ∷ units) fits = ap₂ (λ (x y : List ℕ). x ++ y) (utf16_1 u fits.0.fits) (own-units n units fits.1)
 
 -- one more code unit
 pub taken-more : (units : List ℕ) (k : ℕ) → k < length units → take (k + 1) units ≡ take k units ++ get_or units k 0 ∷ []

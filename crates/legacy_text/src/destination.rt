@@ -9,7 +9,7 @@ ghost use Rattle.legacy_text.specs.UnitBytes.{AreShort};
 ghost use Rattle.legacy_text.specs.EncodingForm.{bmp_room, wide_room};
 
 use crate::blocks::{ascii_count, wide_ascii_count};
-use crate::eight_units::put_eight_units;
+use crate::eight_units::{put_eight_units, put_first_units};
 use crate::short_units::put_short_units;
 use std::simd::prelude::*;
 
@@ -94,6 +94,27 @@ pub trait Destination {
         self.copy_ascii(&bytes[..most.min(64)])
     }
 
+    /// Writes the code units of the first `count` of eight scalar values up to U+FFFF.
+    ///
+    /// At least 32 code units must be free: a destination may store the code units of all eight,
+    /// and later output overwrites those that do not count.
+    #[inline(always)]
+    fn put_first(&mut self, units: u16x8, count: usize)
+        requires count { count ≤ 8 }
+        requires scalars { All IsScalar units }
+        requires room { 32 ≤ room self.old }
+        ensures contents { contents self.new ≡ contents self.old ++ all_code_units form (take count units) }
+        ensures room { room self.new + total_unit_count form (take count units) ≡ room self.old }
+        ensures loan { loan self.new ≡ loan self.old }
+    {
+        let scalars = units.to_array();
+        let mut at = 0;
+        while at < count {
+            self.put(unsafe { char::from_u32_unchecked(u32::from(scalars[at])) });
+            at += 1;
+        }
+    }
+
     /// Writes the code units of eight scalar values up to U+FFFF. At least 32 code units must be free.
     #[inline(always)]
     fn put_eight(&mut self, units: u16x8)
@@ -103,12 +124,7 @@ pub trait Destination {
         ensures room { room self.new + total_unit_count form units ≡ room self.old }
         ensures loan { loan self.new ≡ loan self.old }
     {
-        let scalars = units.to_array();
-        let mut at = 0;
-        while at < 8 {
-            self.put(unsafe { char::from_u32_unchecked(u32::from(scalars[at])) });
-            at += 1;
-        }
+        self.put_first(units, 8);
     }
 
     /// Writes the code units of eight scalar values below U+0800. At least 32 code units must be free.
@@ -301,6 +317,11 @@ impl Destination for Utf8Destination<'_> {
     }
 
     #[inline(always)]
+    fn put_first(&mut self, units: u16x8, count: usize) {
+        self.filled = put_first_units(self.buffer, self.filled, units, count);
+    }
+
+    #[inline(always)]
     fn put_eight(&mut self, units: u16x8) {
         self.filled = put_eight_units(self.buffer, self.filled, units);
     }
@@ -455,8 +476,8 @@ impl Destination for Utf16Destination<'_> {
     }
 
     #[inline(always)]
-    fn put_eight(&mut self, units: u16x8) {
+    fn put_first(&mut self, units: u16x8, count: usize) {
         units.copy_to_slice(&mut self.buffer[self.filled..]);
-        self.filled += 8;
+        self.filled += count;
     }
 }

@@ -2,7 +2,7 @@
 //!
 //! Lanes make four bytes of each code unit, and a shuffle keeps those of its text.
 // Functions that run for each vector are always inlined, because a call would pass the vectors through memory.
-ghost use Rattle.std.specs.Prelude.{◌≡◌, ℕ, ◌+◌, ◌<◌, ◌≤◌, ◌++◌, List, length, map, take, drop, get_or};
+ghost use Rattle.std.specs.Prelude.{◌≡◌, ℕ, ◌+◌, ◌-◌, ◌<◌, ◌≤◌, ◌++◌, List, length, map, take, drop, get_or, replicate};
 ghost use Rattle.std.specs.List.{range_with_len};
 ghost use Rattle.legacy_text.specs.UnitBytes.{last_byte, front_bytes, lanes, pattern, places, utf8_bytes};
 
@@ -117,4 +117,29 @@ pub(crate) fn put_eight_units(dst: &mut [u8], at: usize, units: u16x8) -> usize
     let (first, second) = patterns(units);
     let middle = put_four(dst, at, front, first);
     put_four(dst, middle, back, second)
+}
+
+/// Returns the first `count` of eight code units, and 0 in place of each of the others.
+#[inline(always)]
+pub fn first_units(units: u16x8, count: usize) -> u16x8
+    requires { count ≤ 8 }
+    ensures { result ≡ take count units ++ replicate (8 - count) 0 }
+{
+    u16x8::from_array([0, 1, 2, 3, 4, 5, 6, 7])
+        .simd_lt(u16x8::splat(count as u16))
+        .select(units, u16x8::splat(0))
+}
+
+/// Stores the text of the first `count` of eight code units from the place `at` on, with other bytes after it.
+///
+/// Returns the place after the text.
+// The text of each of the others is one byte, of U+0000.
+#[inline(always)]
+pub(crate) fn put_first_units(dst: &mut [u8], at: usize, units: u16x8, count: usize) -> usize
+    requires room { at + 32 ≤ length dst.old }
+    requires count { count ≤ 8 }
+    ensures most { result ≤ at + 24 }
+    ensures written { take result dst.new ≡ take at dst.old ++ utf8_bytes (take count units) }
+{
+    put_eight_units(dst, at, first_units(units, count)) - (8 - count)
 }

@@ -16,6 +16,7 @@ mod unit_codes;
 mod unit_rows;
 
 pub use destination::{Destination, Utf8Destination, Utf16Destination};
+pub use eight_units::first_units;
 pub use short_units::are_all_below;
 pub use source::ByteSource;
 pub use text_cursor::{Next, ReadingLoop, TextCursor};

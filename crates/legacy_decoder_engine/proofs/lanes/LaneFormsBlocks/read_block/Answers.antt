@@ -6,6 +6,9 @@ pub returns-then-begins_rare-clause-ahead : goal.returns-then-begins_rare-clause
 returns-then-begins_rare-clause-ahead g c =
     reads_none g.T.Destination (new_state (g.C.LaneCodec.grammar c.args.self.now.tables.now.flat)) c.args.src.now c.args.dst.now
 
+pub returns-then-front-src-clause-ahead : goal.returns-then-front-src-clause-ahead
+returns-then-front-src-clause-ahead g c = c.read_ascii-front.ensures.ahead _ (c.begins_rare.ensures c.args.self.now.tables.now)
+
 pub read_lanes-requires : goal.read_lanes-requires
 read_lanes-requires g c = c.begins_rare.ensures c.args.self.now.tables.now
 
