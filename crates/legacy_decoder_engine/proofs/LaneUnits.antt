@@ -1,5 +1,5 @@
 -- The units of eight codes, lane by lane, are the scalars of their forms.
-use Rattle.std.proofs.Common.{◌≡◌, ◌≢◌, ◌∙◌, ℕ, suc, ◌+◌, ◌-◌, ◌*◌, ◌/◌, ◌%◌, ◌^◌, ◌<◌, ◌≤◌, ◌||◌, min, Bool, true, false, cond, ltb, leb, eqb, List, [], ◌∷◌, ◌++◌, length, get_or, map, take, drop, replicate, bit_and, bit_or, refl, sym, ap, subst, arith, w16, Fits, length-append, ◌⊎◌, inl, inr}
+use Rattle.std.proofs.Common.{◌≡◌, ◌≢◌, ◌∙◌, ℕ, zero, suc, ◌+◌, ◌-◌, ◌*◌, ◌/◌, ◌%◌, ◌^◌, ◌<◌, ◌≤◌, ◌||◌, min, Bool, true, false, cond, ltb, leb, eqb, All, List, [], ◌∷◌, ◌++◌, length, get_or, map, take, drop, replicate, bit_and, bit_or, refl, sym, ap, subst, arith, w16, Fits, length-append, ◌⊎◌, inl, inr}
 use Rattle.std.proofs.lemmas.Bool.{ltb-true, ltb-false, leb-true, cases_lt}
 use Rattle.std.proofs.lemmas.Nat.{and_mask}
 use Rattle.std.proofs.lemmas.List.{take-take, take-append-drop, length-take-le, length-map, get_or-take, get_or-drop, get_or-map}
@@ -10,6 +10,7 @@ use Rattle.std.proofs.Math.Seq.{take-append_seam, take-add}
 use Rattle.std.proofs.lemmas.Simd.{tops_compared, length-zip2, get_or-zip2, get_or-sel_l, get_or-replicate, bitmask_splat, bit_mask_l, ones-mask_l, length-chunk, get_or-chunk, get_or-put_chunk_below, get_or-put_chunk_at}
 use Rattle.std.specs.Char.{IsScalar}
 use Rattle.std.specs.List.{count_by}
+use Rattle.std.proofs.lemmas.List.Elements.{All-from_get_or}
 use Rattle.std.specs.Int.{bit_at}
 use Rattle.std.specs.Int.RustNames.{count_ones}
 use lib.Lanes.{Each1, zip2, sel_l, top, mask_l, chunk, put_chunk}
@@ -185,6 +186,14 @@ unit_known us long k h unset none =
     let bit = ap (λ n. bit_at n k) (bitmask_splat w16 eqb us 8 0 long (omega arith)) ∙ bit_mask_l (map (λ u. eqb u 0) us) k
     ∙ ap (λ t. cond t 1 0) (get_or-map (λ u. eqb u 0) us k 0 false (omega (arith, h, long)) ∙ ap (λ u. eqb u 0) none) in
     omega (arith, unset, bit)
+
+-- units that are 0 or scalars are scalars
+pub all_scalars : (us : List ℕ) → ((k : ℕ) → k < length us → get_or us k 0 ≢ 0 → IsScalar (get_or us k 0)) → All IsScalar us
+all_scalars us known = All-from_get_or IsScalar us 0 (λ k h. go (get_or us k 0) (known k h))
+  where
+    go : (u : ℕ) → (u ≢ 0 → IsScalar u) → IsScalar u
+    go zero h = refl
+    go (suc u) h = h (λ e. absurd (omega (arith, e)))
 
 -- ---- groups of eight that are stored
 

@@ -179,6 +179,7 @@ fn units_at<C: LaneCodec>(
         (get_or lanes.now.kept (at + k) 0) (get_or lanes.now.places (at + k) 0) }
     requires within { (k : ℕ) → k < 8 →
         get_or lanes.now.places (at + k) 0 < length (C.entries tables.now.flat) }
+    ensures small { (k : ℕ) → k < 8 → get_or result.1 k 0 < 0x1_0000 }
     ensures forms { (k : ℕ) → k < 8 → get_or result.1 k 0 ≢ 0 →
         IsForm (C.grammar tables.now.flat) (get_or codes.now (at + k) 0) (get_or result.0 k 0)
         (get_or result.1 k 0) }
@@ -213,20 +214,12 @@ fn put_units<T: Destination>(
         × Writes T.Destination grammar (forms_of (take result.0 codes)) dst.old dst.new }
     ensures slack { T.room dst.old ≤ T.room dst.new + 24 }
 {
-    if few < 8 {
-        let bytes = byte_count(first_units(kept, few)) - (8 - few);
-        if bytes > limit {
-            return (0, 0);
-        }
-        dst.put_first(units, few);
-        return (few, bytes);
-    }
-    let bytes = byte_count(kept);
+    let bytes = byte_count(first_units(kept, few)) - (8 - few);
     if bytes > limit {
         return (0, 0);
     }
-    dst.put_eight(units);
-    (8, bytes)
+    dst.put_first(units, few);
+    (few, bytes)
 }
 
 /// Writes the first `most` codes, up to one that is rare or whose form ends past `limit` bytes.
@@ -264,12 +257,15 @@ fn put_codes<C: LaneCodec, T: Destination>(
     while 8 * group < most && dst.free() >= 32 {
         let at = 8 * group;
         let (kept, units) = units_at::<C>(tables, codes, lanes, at);
-        let few = known_count(units).min(most - at);
-        let (count, read) = put_units(units, kept, few, limit - bytes, dst);
-        bytes += read;
-        if count < 8 {
-            return (at + count, bytes);
+        let long = byte_count(kept);
+        let known = known_count(units);
+        if at + 8 > most || bytes + long > limit || known < 8 {
+            let few = known.min(most - at);
+            let (count, read) = put_units(units, kept, few, limit - bytes, dst);
+            return (at + count, bytes + read);
         }
+        dst.put_eight(units);
+        bytes += long;
         group += 1;
     }
     (8 * group, bytes)

@@ -9,8 +9,8 @@ entries_at-requires-clause-within g c k h =
     let at = c.args.at in
     rw (get_from at (64 - at) c.args.lanes.now.places k (omega (arith, h, c.requires.eight))) (c.requires.within k h)
 
-pub returns : goal.returns
-returns g c k h some =
+pub returns-clause-forms : goal.returns-clause-forms
+returns-clause-forms g c k h some =
     let lanes = c.args.lanes.now in
     let entries = g.C.LaneCodec.entries c.args.tables.now.flat in
     let at = c.args.at in
