@@ -128,7 +128,8 @@ module _ (g : Grammar) where
       )
 
   -- the first codes
-  pub first_forms : (n : ℕ) (cs ks us : List ℕ) → n ≤ length cs → n ≤ length ks → n ≤ length us → ((k : ℕ) → k < n → IsForm g (get_or cs k 0) (get_or ks k 0) (get_or us k 0))
+  pub first_forms : (n : ℕ) (cs ks us : List ℕ) → n ≤ length cs → n ≤ length ks → n ≤ length us
+      → ((k : ℕ) → k < n → IsForm g (get_or cs k 0) (get_or ks k 0) (get_or us k 0))
       → Runs g (forms_of (take n cs)) (take n us) × (length (forms_of (take n cs)) + count_by (λ k. ltb k 128) (take n ks) ≡ 2 * n)
   first_forms n cs ks us p q r each =
       let a = length-take-le n cs p in
@@ -168,7 +169,8 @@ ascii_lanes ks long = (
 
 -- the first ones, with zeros after them
 pub ascii_first : (n : ℕ) (ks : List ℕ) → n ≤ length ks
-    → (count_by (λ k. ltb k 128) (take n ks ++ replicate (8 - n) 0) ≡ count_by (λ k. ltb k 128) (take n ks) + (8 - n)) × (count_by (λ k. ltb k 128) (take n ks) ≤ n)
+    → (count_by (λ k. ltb k 128) (take n ks ++ replicate (8 - n) 0) ≡ count_by (λ k. ltb k 128) (take n ks) + (8 - n))
+    × (count_by (λ k. ltb k 128) (take n ks) ≤ n)
 ascii_first n ks within = (
   omega (
     arith,
@@ -222,7 +224,8 @@ forms_at at few codes = sym (flat_map-append form_of (take at codes) (take few (
 
 -- the codes so far and the next ones are written
 pub codes_more : {D : Type 0} (T : Ghosts D) (g : Grammar) (codes : List ℕ) (at count bytes read : ℕ) {x y z : D} → bytes ≡ length (forms_of (take at codes))
-    → Writes T g (forms_of (take at codes)) x y → (read ≡ length (forms_of (take count (drop at codes)))) × Writes T g (forms_of (take count (drop at codes))) y z
+    → Writes T g (forms_of (take at codes)) x y
+    → (read ≡ length (forms_of (take count (drop at codes)))) × Writes T g (forms_of (take count (drop at codes))) y z
     → (bytes + read ≡ length (forms_of (take (at + count) codes))) × Writes T g (forms_of (take (at + count) codes)) x z
 codes_more T g codes at count bytes read {x} {y} {z} so_far written next =
     let more = forms_at at count codes in (

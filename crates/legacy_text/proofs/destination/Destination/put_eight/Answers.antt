@@ -6,7 +6,8 @@ use Rattle.legacy_text.proofs.destination.Destination.put_eight.Goals as goal
 pub returns-clause-contents : goal.returns-clause-contents
 returns-clause-contents g c =
     c.put_first.ensures.contents
-    ∙ ap (λ (l : List ℕ). g.Self.Destination.contents c.args.self.now ++ all_code_units g.Self.Destination.form l) (take_all 8 c.args.units (omega (arith, c.fits-units.0)))
+    ∙ ap (λ (l : List ℕ). g.Self.Destination.contents c.args.self.now ++ all_code_units g.Self.Destination.form l)
+    (take_all 8 c.args.units (omega (arith, c.fits-units.0)))
 
 pub returns-clause-room : goal.returns-clause-room
 returns-clause-room g c =

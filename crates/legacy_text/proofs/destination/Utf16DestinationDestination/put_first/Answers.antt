@@ -7,7 +7,8 @@ use Rattle.legacy_text.proofs.destination.Utf16DestinationDestination.put_first.
 pub returns-clause-contents : goal.returns-clause-contents
 returns-clause-contents c =
     let buffer = c.args.self.now.buffer.now in
-    stored c.args.self.now.filled c.args.count buffer c.args.units (omega (arith, c.fits-units.0, c.requires.room)) (omega (arith, c.fits-units.0, c.requires.count))
+    stored c.args.self.now.filled c.args.count buffer c.args.units (omega (arith, c.fits-units.0, c.requires.room))
+    (omega (arith, c.fits-units.0, c.requires.count))
     ∙ ap (λ (l : List ℕ). take c.args.self.now.filled buffer ++ l) (sym (own-units c.args.count c.args.units c.fits-units.1))
 
 pub returns-clause-room : goal.returns-clause-room
