@@ -1,3 +1,4 @@
 -- Laws of the command line's words, and of the files that they name.
 pub mod CommandLine
 pub mod GivenFiles
+pub mod Stopping

@@ -4,7 +4,7 @@ use Rattle.legacy_index_files.specs.declared.codec.Codec.{Codec}
 use Rattle.legacy_command.specs.declared.host.Program.{Program}
 use Rattle.legacy_command.specs.declared.host.Program.TheVariants.{Recode, Encode}
 use Rattle.legacy_command.specs.Words.{plain_words, codec_of_words}
-use Rattle.legacy_command.specs.Program.{with_encoder, RecodesByWords, EncodesByWords}
+use Rattle.legacy_command.specs.Program.{with_encoder, RecodesByWords, RecodingStops, EncodesByWords, EncodingStops}
 
 -- the codec of words that have the program's form
 abbrev pub codec_asked : Program → List (List ℕ) → Option Codec
@@ -21,3 +21,14 @@ pub record IsDone (program : Program) (input_old input_new output_old output_new
   pub words : List (List ℕ)
   pub files : List (Option (List ℕ))
   pub by : IsDoneBy program words files input_old input_new output_old output_new
+
+-- nothing was read or written, or what was written is a beginning of what the words and files ask
+abbrev pub IsStoppedBy : Program → List (List ℕ) → List (Option (List ℕ)) → Option (List ℕ) → Option (List ℕ) → Option (List ℕ) → Option (List ℕ) → Type 0
+IsStoppedBy Recode words files input_old input_new output_old output_new = RecodingStops words files input_old input_new output_old output_new
+IsStoppedBy Encode words files input_old input_new output_old output_new = EncodingStops words files input_old input_new output_old output_new
+
+-- The same by some words and files.
+pub record IsStopped (program : Program) (input_old input_new output_old output_new : Option (List ℕ)) : Type 0 where
+  pub words : List (List ℕ)
+  pub files : List (Option (List ℕ))
+  pub by : IsStoppedBy program words files input_old input_new output_old output_new

@@ -1,5 +1,5 @@
 -- The work of the programs.
-use Rattle.std.specs.Prelude.{◌≡◌, ℕ, List, [], drop, Bool, Option, Some, None, if◌then◌else◌}
+use Rattle.std.specs.Prelude.{◌≡◌, ◌⊎◌, ℕ, List, [], drop, Bool, Option, Some, None, if◌then◌else◌}
 use Rattle.legacy_base.specs.States.{DecoderState}
 use Rattle.legacy_base.specs.Encoders.{EncoderState}
 use Rattle.legacy_tables.specs.Indexes.{FlatIndexes}
@@ -16,9 +16,9 @@ use Rattle.legacy_command.specs.declared.words.OutputKind.{OutputKind}
 use Rattle.legacy_command.specs.declared.words.OutputKind.TheVariants.{Lines, Text}
 use Rattle.legacy_command.specs.Words.{output_kind, plain_words, codec_of_words}
 use Rattle.legacy_command.specs.IndexTexts.{text_given, AreWellFormed}
-use Rattle.legacy_streams.specs.Recoding.{RecodesAll}
-use Rattle.legacy_streams.specs.Text.{WritesAll}
-use Rattle.legacy_streams.specs.Encoding.{EncodesAll}
+use Rattle.legacy_streams.specs.Recoding.{RecodesAll, RecodesBeginning, RecodesPartly}
+use Rattle.legacy_streams.specs.Text.{WritesAll, WritesBeginning, WritesPartly}
+use Rattle.legacy_streams.specs.Encoding.{EncodesAll, EncodesBeginning, EncodesPartly}
 
 -- The input was read to its end, and the lines of all its events, or its text, were written, from a decoder in this
 -- state.
@@ -28,36 +28,58 @@ RecodesInput Lines before input_old input_new output_old output_new =
 RecodesInput Text before input_old input_new output_old output_new =
     (after : DecoderState) × ((found : Bool) × WritesAll before after found input_old input_new output_old output_new)
 
+-- What was written is a beginning of that, which may end inside a line or a scalar, or all of it.
+abbrev pub RecodesSome : OutputKind → DecoderState → Option (List ℕ) → Option (List ℕ) → Option (List ℕ) → Option (List ℕ) → Type 0
+RecodesSome Lines before input_old input_new output_old output_new =
+    (after : DecoderState) × (RecodesAll before after input_old input_new output_old output_new
+    ⊎ (RecodesBeginning before after input_old input_new output_old output_new ⊎ RecodesPartly before after input_old input_new output_old output_new))
+RecodesSome Text before input_old input_new output_old output_new =
+    (after : DecoderState) × (((found : Bool) × WritesAll before after found input_old input_new output_old output_new)
+    ⊎ (WritesBeginning before after input_old input_new output_old output_new ⊎ WritesPartly before after input_old input_new output_old output_new))
+
+-- nothing was read or written
+abbrev pub Untouched : Option (List ℕ) → Option (List ℕ) → Option (List ℕ) → Option (List ℕ) → Type 0
+Untouched input_old input_new output_old output_new = (input_new ≡ input_old) × (output_new ≡ output_old)
+
 -- the flat lists of indexes; without a file the katakana index is empty, and the private-use rows are the fixed ones
 abbrev pub flat_of : OwnedIndexes → FlatIndexes
 flat_of tables =
     flat_lists tables.big5.items tables.euc_kr.items tables.jis0208.items tables.jis0212.items tables.gb18030.items [] tables.ranges.items
     GB18030_2022_PUA
 
--- All indexes passed the check, also those that the codec does not use, and the input was recoded by a new decoder of
--- the codec over them.
-pub record RecodesByTables (kind : OutputKind) (codec : Codec) (tables : OwnedIndexes)
-    (input_old input_new output_old output_new : Option (List ℕ)) : Type 0 where
+-- All indexes passed the check, also those that the codec does not use, and `Work` is true of a new decoder of the codec
+-- over them.
+pub record DecodesByTables (codec : Codec) (tables : OwnedIndexes) (Work : DecoderState → Type 0) : Type 0 where
   pub accepted : AreAccepted (flat_of tables)
   pub accepted_table : IsAcceptedTable tables.single_byte
   pub before : DecoderState
   pub made : decoder_of codec (flat_of tables) (Some tables.single_byte) ≡ Some before
-  pub recodes : RecodesInput kind before input_old input_new output_old output_new
+  pub works : Work before
 
 -- The same over the indexes of these texts.
-pub record RecodesByTexts (kind : OutputKind) (codec : Codec) (texts : FileIndex → List ℕ)
-    (input_old input_new output_old output_new : Option (List ℕ)) : Type 0 where
+pub record DecodesByTexts (codec : Codec) (texts : FileIndex → List ℕ) (Work : DecoderState → Type 0) : Type 0 where
   pub tables : OwnedIndexes
   pub holds : HoldsTexts texts tables
-  pub recodes : RecodesByTables kind codec tables input_old input_new output_old output_new
+  pub by : DecodesByTables codec tables Work
 
--- The input was recoded by the codec and the index files that the command line names. Each of these files could be read
--- and has no malformed line.
-pub record RecodesByWords (words : List (List ℕ)) (files : List (Option (List ℕ))) (input_old input_new output_old output_new : Option (List ℕ)) : Type 0 where
+-- The same by the codec and the index files that the command line names. Each of these files could be read and has no
+-- malformed line.
+pub record DecodesWith (words : List (List ℕ)) (files : List (Option (List ℕ))) (Work : OutputKind → DecoderState → Type 0) : Type 0 where
   pub codec : Codec
   pub named : codec_of_words (plain_words words) ≡ Some codec
   pub well_formed : AreWellFormed (drop 1 (plain_words words)) files
-  pub recodes : RecodesByTexts (output_kind words) codec (text_given (drop 1 (plain_words words)) files) input_old input_new output_old output_new
+  pub by : DecodesByTexts codec (text_given (drop 1 (plain_words words)) files) (Work (output_kind words))
+
+-- the whole input was recoded as the words and files ask
+abbrev pub RecodesByWords : List (List ℕ) → List (Option (List ℕ)) → Option (List ℕ) → Option (List ℕ) → Option (List ℕ) → Option (List ℕ) → Type 0
+RecodesByWords words files input_old input_new output_old output_new =
+    DecodesWith words files (λ kind before. RecodesInput kind before input_old input_new output_old output_new)
+
+-- nothing was read or written, or what was written is a beginning of what the words and files ask
+abbrev pub RecodingStops : List (List ℕ) → List (Option (List ℕ)) → Option (List ℕ) → Option (List ℕ) → Option (List ℕ) → Option (List ℕ) → Type 0
+RecodingStops words files input_old input_new output_old output_new =
+    Untouched input_old input_new output_old output_new
+    ⊎ DecodesWith words files (λ kind before. RecodesSome kind before input_old input_new output_old output_new)
 
 -- ---- encoding
 
@@ -70,25 +92,42 @@ with_encoder (Some codec) = if has_encoder codec then Some codec else None
 abbrev pub EncodesInput : EncoderState → Option (List ℕ) → Option (List ℕ) → Option (List ℕ) → Option (List ℕ) → Type 0
 EncodesInput before input_old input_new output_old output_new = (after : EncoderState) × EncodesAll before after input_old input_new output_old output_new
 
--- All indexes passed the check, also those that the codec does not use, and the input was encoded by a new encoder of
--- the codec over them.
-pub record EncodesByTables (codec : Codec) (tables : OwnedIndexes) (input_old input_new output_old output_new : Option (List ℕ)) : Type 0 where
+-- What was written is a beginning of that, which may end inside a sequence, or all of it.
+abbrev pub EncodesSome : EncoderState → Option (List ℕ) → Option (List ℕ) → Option (List ℕ) → Option (List ℕ) → Type 0
+EncodesSome before input_old input_new output_old output_new =
+    (after : EncoderState) × (EncodesAll before after input_old input_new output_old output_new
+    ⊎ (EncodesBeginning before after input_old input_new output_old output_new ⊎ EncodesPartly before after input_old input_new output_old output_new))
+
+-- All indexes passed the check, also those that the codec does not use, and `Work` is true of a new encoder of the codec
+-- over them.
+pub record EncodesByTables (codec : Codec) (tables : OwnedIndexes) (Work : EncoderState → Type 0) : Type 0 where
   pub accepted : AreAccepted (flat_of tables)
   pub accepted_table : IsAcceptedTable tables.single_byte
   pub before : EncoderState
   pub made : encoder_of codec (flat_of tables) (Some tables.single_byte) ≡ Some before
-  pub encodes : EncodesInput before input_old input_new output_old output_new
+  pub works : Work before
 
 -- The same over the indexes of these texts.
-pub record EncodesByTexts (codec : Codec) (texts : FileIndex → List ℕ) (input_old input_new output_old output_new : Option (List ℕ)) : Type 0 where
+pub record EncodesByTexts (codec : Codec) (texts : FileIndex → List ℕ) (Work : EncoderState → Type 0) : Type 0 where
   pub tables : OwnedIndexes
   pub holds : HoldsTexts texts tables
-  pub encodes : EncodesByTables codec tables input_old input_new output_old output_new
+  pub by : EncodesByTables codec tables Work
 
 -- The same by the codec and the index files that the program's words name. Each of these could be read and has no
 -- malformed line.
-pub record EncodesByWords (words : List (List ℕ)) (files : List (Option (List ℕ))) (input_old input_new output_old output_new : Option (List ℕ)) : Type 0 where
+pub record EncodesWith (words : List (List ℕ)) (files : List (Option (List ℕ))) (Work : EncoderState → Type 0) : Type 0 where
   pub codec : Codec
   pub named : with_encoder (codec_of_words words) ≡ Some codec
   pub well_formed : AreWellFormed (drop 1 words) files
-  pub encodes : EncodesByTexts codec (text_given (drop 1 words) files) input_old input_new output_old output_new
+  pub by : EncodesByTexts codec (text_given (drop 1 words) files) Work
+
+-- the whole input was encoded as the words and files ask
+abbrev pub EncodesByWords : List (List ℕ) → List (Option (List ℕ)) → Option (List ℕ) → Option (List ℕ) → Option (List ℕ) → Option (List ℕ) → Type 0
+EncodesByWords words files input_old input_new output_old output_new =
+    EncodesWith words files (λ before. EncodesInput before input_old input_new output_old output_new)
+
+-- nothing was read or written, or what was written is a beginning of what the words and files ask
+abbrev pub EncodingStops : List (List ℕ) → List (Option (List ℕ)) → Option (List ℕ) → Option (List ℕ) → Option (List ℕ) → Option (List ℕ) → Type 0
+EncodingStops words files input_old input_new output_old output_new =
+    Untouched input_old input_new output_old output_new
+    ⊎ EncodesWith words files (λ before. EncodesSome before input_old input_new output_old output_new)

@@ -1,9 +1,9 @@
 //! Runs the program that encodes, by its words, files and streams.
-ghost use Rattle.std.specs.Prelude.{◌≡◌, ◌↔◌, ◌≤◌, [], OnOk, None, Some, IsTrue};
+ghost use Rattle.std.specs.Prelude.{◌≡◌, ◌↔◌, ◌≤◌, ◌⊎◌, [], OnErr, OnOk, None, Some, IsTrue};
 ghost use Rattle.legacy_command.specs.Words.{texts_of, are_indexes, codec_of_words};
 ghost use Rattle.legacy_command.specs.IndexTexts.{contents_of, text_given, AreWellFormed};
-ghost use Rattle.legacy_command.specs.Program.{with_encoder, EncodesInput, EncodesByTables};
-ghost use Rattle.legacy_command.specs.Program.{EncodesByTexts, EncodesByWords};
+ghost use Rattle.legacy_command.specs.Program.{with_encoder, EncodesInput, EncodesSome, Untouched};
+ghost use Rattle.legacy_command.specs.Program.{EncodesByTables, EncodesByTexts, EncodesByWords, EncodingStops};
 
 use crate::given_indexes::read_files;
 use crate::program::{Fault, check};
@@ -36,8 +36,14 @@ fn encode_input<'a, R: Read, W: Write>(
     input: &mut R,
     output: &mut W,
 ) -> Result<(), Fault<'a>>
-    ensures { OnOk result (EncodesInput
+    ensures done { OnOk result (EncodesInput
         (⟦<AnyEncoder<'static> as RawEncoder>⟧.state encoder.old)
+        (R.remaining input.old) (R.remaining input.new)
+        (W.contents output.old) (W.contents output.new)) }
+    ensures stops { OnErr result (
+        Untouched (R.remaining input.old) (R.remaining input.new)
+        (W.contents output.old) (W.contents output.new)
+        ⊎ EncodesSome (⟦<AnyEncoder<'static> as RawEncoder>⟧.state encoder.old)
         (R.remaining input.old) (R.remaining input.new)
         (W.contents output.old) (W.contents output.new)) }
 {
@@ -58,7 +64,10 @@ fn encode_by<'a, E: RawEncoder, R: Read, W: Write>(
     input: &mut R,
     output: &mut W,
 ) -> Result<(), Fault<'a>>
-    ensures { OnOk result (EncodesInput (E.state encoder.old)
+    ensures done { OnOk result (EncodesInput (E.state encoder.old)
+        (R.remaining input.old) (R.remaining input.new)
+        (W.contents output.old) (W.contents output.new)) }
+    ensures stops { OnErr result (EncodesSome (E.state encoder.old)
         (R.remaining input.old) (R.remaining input.new)
         (W.contents output.old) (W.contents output.new)) }
 {
@@ -83,9 +92,15 @@ fn check_and_encode<'a, R: Read, W: Write>(
 ) -> Result<(), Fault<'a>>
     requires katakana { indexes.now.katakana.items ≡ [] }
     requires encoder { with_encoder (Some codec) ≡ Some codec }
-    ensures { OnOk result (EncodesByTables codec indexes.now
+    ensures done { OnOk result (EncodesByTables codec indexes.now (λ before. EncodesInput before
         (R.remaining input.old) (R.remaining input.new)
-        (W.contents output.old) (W.contents output.new)) }
+        (W.contents output.old) (W.contents output.new))) }
+    ensures stops { OnErr result (
+        Untouched (R.remaining input.old) (R.remaining input.new)
+        (W.contents output.old) (W.contents output.new)
+        ⊎ EncodesByTables codec indexes.now (λ before. EncodesSome before
+        (R.remaining input.old) (R.remaining input.new)
+        (W.contents output.old) (W.contents output.new))) }
 {
     let checked = check(indexes)?;
     let Some(mut encoder) = AnyEncoder::new(codec, &checked.tables, Some(&checked.single_byte))
@@ -109,9 +124,17 @@ fn read_and_encode<'a, R: Read, W: Write>(
     ensures well_formed { OnOk result
         (AreWellFormed (texts_of indexes.now) (contents_of files.now)) }
     ensures encoded { OnOk result (EncodesByTexts codec
-        (text_given (texts_of indexes.now) (contents_of files.now))
+        (text_given (texts_of indexes.now) (contents_of files.now)) (λ before. EncodesInput before
         (R.remaining input.old) (R.remaining input.new)
-        (W.contents output.old) (W.contents output.new)) }
+        (W.contents output.old) (W.contents output.new))) }
+    ensures stops { OnErr result (
+        Untouched (R.remaining input.old) (R.remaining input.new)
+        (W.contents output.old) (W.contents output.new)
+        ⊎ (AreWellFormed (texts_of indexes.now) (contents_of files.now)
+        × EncodesByTexts codec (text_given (texts_of indexes.now) (contents_of files.now))
+        (λ before. EncodesSome before
+        (R.remaining input.old) (R.remaining input.new)
+        (W.contents output.old) (W.contents output.new)))) }
 {
     let indexes = read_files(alloc, indexes, files)?;
     check_and_encode(alloc, codec, &indexes, input, output)
@@ -131,8 +154,8 @@ fn read_and_encode<'a, R: Read, W: Write>(
 ///   not change the status.
 /// - 2: the words do not have that form; nothing is read.
 /// - 1: a file cannot be read or has a malformed line; an index is refused; the input cannot be
-///   read; the output cannot be written or flushed; or allocation failed. What was written before
-///   remains.
+///   read; the output cannot be written or flushed; or allocation failed. What was written is a
+///   beginning of the whole output.
 ///
 /// With 1 and 2 a line on `errors` gives the reason. If it cannot be written, the status is the
 /// same.
@@ -148,6 +171,9 @@ pub fn run_encode<R: Read, W: Write, E: Write>(
     ensures usage { (result ≡ 2) ↔ (with_encoder (codec_of_words (texts_of words.now)) ≡ None) }
     ensures unread { result ≡ 2 → (input.new ≡ input.old) × (output.new ≡ output.old) }
     ensures encoded { result ≡ 0 → EncodesByWords (texts_of words.now) (contents_of files.now)
+        (R.remaining input.old) (R.remaining input.new)
+        (W.contents output.old) (W.contents output.new) }
+    ensures stops { result ≡ 1 → EncodingStops (texts_of words.now) (contents_of files.now)
         (R.remaining input.old) (R.remaining input.new)
         (W.contents output.old) (W.contents output.new) }
     ensures silent { result ≡ 0 → errors.new ≡ errors.old }

@@ -4,7 +4,7 @@ ghost use Rattle.std.specs.Prelude.{◌≡◌, ◌↔◌, ◌≤◌, ◌-◌, �
 ghost use Rattle.std.specs.Option.{option_map};
 ghost use Rattle.legacy_command.specs.Words.{texts_of};
 ghost use Rattle.legacy_command.specs.IndexTexts.{contents_of};
-ghost use Rattle.legacy_command.specs.Host.{codec_asked, IsDoneBy, IsDone};
+ghost use Rattle.legacy_command.specs.Host.{codec_asked, IsDoneBy, IsDone, IsStoppedBy, IsStopped};
 
 use crate::arguments::{ArgumentsError, arguments, status_of};
 use crate::encoding::{encoder_in, run_encode};
@@ -127,6 +127,9 @@ pub fn run_program<R: Read, W: Write, E: Write>(
     ensures done { result ≡ 0 → IsDoneBy program (texts_of words.now) (contents_of files.now)
         (R.remaining input.old) (R.remaining input.new)
         (W.contents output.old) (W.contents output.new) }
+    ensures stops { result ≡ 1 → IsStoppedBy program (texts_of words.now) (contents_of files.now)
+        (R.remaining input.old) (R.remaining input.new)
+        (W.contents output.old) (W.contents output.new) }
     ensures silent { result ≡ 0 → errors.new ≡ errors.old }
 {
     match program {
@@ -150,6 +153,9 @@ fn status<H: Env + Files + Alloc, R: Read, W: Write, E: Write>(
     ensures done { IfOk result (λ status. status ≡ 0 → IsDone program
         (R.remaining input.old) (R.remaining input.new)
         (W.contents output.old) (W.contents output.new)) }
+    ensures stops { IfOk result (λ status. status ≡ 1 → IsStopped program
+        (R.remaining input.old) (R.remaining input.new)
+        (W.contents output.old) (W.contents output.new)) }
     ensures silent { IfOk result (λ status. status ≡ 0 → errors.new ≡ errors.old) }
     ensures err { OnErr result ((input.new ≡ input.old) × (output.new ≡ output.old)) }
 {
@@ -171,7 +177,8 @@ fn status<H: Env + Files + Alloc, R: Read, W: Write, E: Write>(
 /// Runs the program on the host, and returns its exit status.
 ///
 /// It is 0 if the program did its task, and 2 if the words do not have its form or are not UTF-8
-/// text: then nothing is read or written. Otherwise it is 1.
+/// text: then nothing is read or written. Otherwise it is 1, and what was written is a beginning
+/// of the whole output.
 pub fn exit_status<H: Env + Files + Alloc, R: Read, W: Write, E: Write>(
     rt: &H,
     alloc: Global,
@@ -183,6 +190,9 @@ pub fn exit_status<H: Env + Files + Alloc, R: Read, W: Write, E: Write>(
     ensures statuses { result ≤ 2 }
     ensures unread { result ≡ 2 → (input.new ≡ input.old) × (output.new ≡ output.old) }
     ensures done { result ≡ 0 → IsDone program
+        (R.remaining input.old) (R.remaining input.new)
+        (W.contents output.old) (W.contents output.new) }
+    ensures stops { result ≡ 1 → IsStopped program
         (R.remaining input.old) (R.remaining input.new)
         (W.contents output.old) (W.contents output.new) }
     ensures silent { result ≡ 0 → errors.new ≡ errors.old }

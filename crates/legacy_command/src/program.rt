@@ -1,9 +1,9 @@
 //! Runs the program that decodes, by its words, files and streams.
-ghost use Rattle.std.specs.Prelude.{◌≡◌, ◌↔◌, ◌≤◌, [], IfOk, OnOk, None, Some, IsTrue};
+ghost use Rattle.std.specs.Prelude.{◌≡◌, ◌↔◌, ◌≤◌, ◌⊎◌, [], IfOk, OnErr, OnOk, None, Some, IsTrue};
 ghost use Rattle.legacy_command.specs.Words.{texts_of, are_indexes, plain_words, codec_of_words};
 ghost use Rattle.legacy_command.specs.IndexTexts.{contents_of, text_given, AreWellFormed};
-ghost use Rattle.legacy_command.specs.Program.{flat_of, RecodesInput, RecodesByTables};
-ghost use Rattle.legacy_command.specs.Program.{RecodesByTexts, RecodesByWords};
+ghost use Rattle.legacy_command.specs.Program.{flat_of, RecodesInput, RecodesSome, Untouched};
+ghost use Rattle.legacy_command.specs.Program.{DecodesByTables, DecodesByTexts, RecodesByWords, RecodingStops};
 
 use crate::given_indexes::read_files;
 use crate::words::{OutputKind, codec_in, output_asked, request};
@@ -43,7 +43,11 @@ fn recode_input<R: Read, W: Write>(
     input: &mut R,
     output: &mut W,
 ) -> Result<(), RecodeError>
-    ensures { OnOk result (RecodesInput kind
+    ensures done { OnOk result (RecodesInput kind
+        (⟦<AnyDecoder<'static> as RawDecoder>⟧.state decoder.old)
+        (R.remaining input.old) (R.remaining input.new)
+        (W.contents output.old) (W.contents output.new)) }
+    ensures stops { OnErr result (RecodesSome kind
         (⟦<AnyDecoder<'static> as RawDecoder>⟧.state decoder.old)
         (R.remaining input.old) (R.remaining input.new)
         (W.contents output.old) (W.contents output.new)) }
@@ -64,7 +68,11 @@ fn recode_and_flush<R: Read, W: Write>(
     input: &mut R,
     output: &mut W,
 ) -> Result<(), RecodeError>
-    ensures { OnOk result (RecodesInput kind
+    ensures done { OnOk result (RecodesInput kind
+        (⟦<AnyDecoder<'static> as RawDecoder>⟧.state decoder.old)
+        (R.remaining input.old) (R.remaining input.new)
+        (W.contents output.old) (W.contents output.new)) }
+    ensures stops { OnErr result (RecodesSome kind
         (⟦<AnyDecoder<'static> as RawDecoder>⟧.state decoder.old)
         (R.remaining input.old) (R.remaining input.new)
         (W.contents output.old) (W.contents output.new)) }
@@ -113,9 +121,15 @@ fn check_and_recode<'a, R: Read, W: Write>(
     output: &mut W,
 ) -> Result<(), Fault<'a>>
     requires { indexes.now.katakana.items ≡ [] }
-    ensures { OnOk result (RecodesByTables kind codec indexes.now
+    ensures done { OnOk result (DecodesByTables codec indexes.now (λ before. RecodesInput kind before
         (R.remaining input.old) (R.remaining input.new)
-        (W.contents output.old) (W.contents output.new)) }
+        (W.contents output.old) (W.contents output.new))) }
+    ensures stops { OnErr result (
+        Untouched (R.remaining input.old) (R.remaining input.new)
+        (W.contents output.old) (W.contents output.new)
+        ⊎ DecodesByTables codec indexes.now (λ before. RecodesSome kind before
+        (R.remaining input.old) (R.remaining input.new)
+        (W.contents output.old) (W.contents output.new))) }
 {
     let checked = check(indexes)?;
     let Some(mut decoder) = AnyDecoder::new(codec, &checked.tables, Some(&checked.single_byte))
@@ -141,10 +155,18 @@ fn read_and_recode<'a, R: Read, W: Write>(
     requires { IsTrue (are_indexes (texts_of indexes.now)) }
     ensures well_formed { OnOk result
         (AreWellFormed (texts_of indexes.now) (contents_of files.now)) }
-    ensures recoded { OnOk result (RecodesByTexts kind codec
-        (text_given (texts_of indexes.now) (contents_of files.now))
+    ensures recoded { OnOk result (DecodesByTexts codec
+        (text_given (texts_of indexes.now) (contents_of files.now)) (λ before. RecodesInput kind before
         (R.remaining input.old) (R.remaining input.new)
-        (W.contents output.old) (W.contents output.new)) }
+        (W.contents output.old) (W.contents output.new))) }
+    ensures stops { OnErr result (
+        Untouched (R.remaining input.old) (R.remaining input.new)
+        (W.contents output.old) (W.contents output.new)
+        ⊎ (AreWellFormed (texts_of indexes.now) (contents_of files.now)
+        × DecodesByTexts codec (text_given (texts_of indexes.now) (contents_of files.now))
+        (λ before. RecodesSome kind before
+        (R.remaining input.old) (R.remaining input.new)
+        (W.contents output.old) (W.contents output.new)))) }
 {
     let indexes = read_files(alloc, indexes, files)?;
     check_and_recode(kind, codec, &indexes, input, output)
@@ -164,8 +186,8 @@ fn read_and_recode<'a, R: Read, W: Write>(
 ///   written. Malformed sequences in the input do not change the status.
 /// - 2: the words do not have that form; nothing is read.
 /// - 1: a file cannot be read or has a malformed line; an index is refused; the input cannot be
-///   read; the output cannot be written or flushed; or allocation failed. What was written before
-///   remains.
+///   read; the output cannot be written or flushed; or allocation failed. What was written is a
+///   beginning of the whole output.
 ///
 /// With 1 and 2 a line on `errors` gives the reason. If it cannot be written, the status is the
 /// same.
@@ -181,6 +203,9 @@ pub fn run<R: Read, W: Write, E: Write>(
     ensures usage { (result ≡ 2) ↔ (codec_of_words (plain_words (texts_of words.now)) ≡ None) }
     ensures unread { result ≡ 2 → (input.new ≡ input.old) × (output.new ≡ output.old) }
     ensures recoded { result ≡ 0 → RecodesByWords (texts_of words.now) (contents_of files.now)
+        (R.remaining input.old) (R.remaining input.new)
+        (W.contents output.old) (W.contents output.new) }
+    ensures stops { result ≡ 1 → RecodingStops (texts_of words.now) (contents_of files.now)
         (R.remaining input.old) (R.remaining input.new)
         (W.contents output.old) (W.contents output.new) }
     ensures silent { result ≡ 0 → errors.new ≡ errors.old }

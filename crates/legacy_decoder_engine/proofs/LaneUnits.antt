@@ -1,13 +1,17 @@
 -- The units of eight codes, lane by lane, are the scalars of their forms.
-use Rattle.std.proofs.Common.{◌≡◌, ◌≢◌, ◌∙◌, ℕ, zero, suc, ◌+◌, ◌-◌, ◌*◌, ◌/◌, ◌%◌, ◌^◌, ◌<◌, ◌≤◌, ◌||◌, min, Bool, true, false, cond, ltb, leb, eqb, All, List, [], ◌∷◌, ◌++◌, length, get_or, map, take, drop, replicate, bit_and, bit_or, refl, sym, ap, subst, arith, w16, Fits, length-append, ◌⊎◌, inl, inr}
-use Rattle.std.proofs.lemmas.Bool.{ltb-true, ltb-false, leb-true, cases_lt}
+use Rattle.std.proofs.Common.{◌≡◌, ◌≢◌, ◌∙◌, ℕ, zero, suc, ◌+◌, ◌-◌, ◌*◌, ◌/◌, ◌%◌, ◌^◌, ◌<◌, ◌≤◌, min, Bool, true, false, cond, ltb, leb, eqb, All}
+use Rattle.std.proofs.Common.{List, [], ◌∷◌, ◌++◌, length, get_or, map, take, drop, replicate, bit_and, bit_or, refl, sym, ap, subst, arith, w16, Fits}
+use Rattle.std.proofs.Common.{length-append, ◌⊎◌, inl, inr}
+use Rattle.std.proofs.lemmas.Bool.{ltb-true, ltb-false, cases_lt}
+use Rattle.std.proofs.lemmas.Bool.Decides.{nat_tests}
 use Rattle.std.proofs.lemmas.Nat.{and_mask}
 use Rattle.std.proofs.lemmas.List.{take-take, take-append-drop, length-take-le, length-map, get_or-take, get_or-drop, get_or-map}
 use Rattle.std.proofs.lemmas.List.Sums.{sum_by-cons, sum_by-append, count_by-le-length}
 use Rattle.std.proofs.lemmas.List.Folds.{sum_by-replicate}
 use Rattle.std.proofs.lemmas.Grind.{flat_map-append}
 use Rattle.std.proofs.Math.Seq.{take-append_seam, take-add}
-use Rattle.std.proofs.lemmas.Simd.{tops_compared, length-zip2, get_or-zip2, get_or-sel_l, get_or-replicate, bitmask_splat, bit_mask_l, ones-mask_l, length-chunk, get_or-chunk, get_or-put_chunk_below, get_or-put_chunk_at}
+use Rattle.std.proofs.lemmas.Simd.{tops_compared, length-zip2, get_or-zip2, get_or-sel_l, get_or-replicate, bitmask_splat, bit_mask_l, ones-mask_l}
+use Rattle.std.proofs.lemmas.Simd.{length-chunk, get_or-chunk, get_or-put_chunk_below, get_or-put_chunk_at}
 use Rattle.std.specs.Char.{IsScalar}
 use Rattle.std.specs.List.{count_by}
 use Rattle.std.proofs.lemmas.List.Elements.{All-from_get_or}
@@ -19,6 +23,7 @@ use Rattle.legacy_text.specs.EncodingForm.{EncodingForm, all_code_units, total_u
 use Rattle.legacy_text.proofs.UnitLanes.{of_eight}
 use Rattle.legacy_text.proofs.VectorUnits.{unit-below}
 use Rattle.legacy_base.specs.Grammar.{Grammar}
+use Rattle.legacy_decoder_engine.proofs.LanePlaces.{mask_if}
 use Rattle.legacy_decoder_engine.specs.Ahead.{HasAscii, Runs, Writes}
 use Rattle.legacy_decoder_engine.specs.LaneCodes.{kept_of, place_of, unit_at, ArePairs, IsLane, IsForm}
 use Rattle.legacy_decoder_engine.specs.PickedForms.{form_of, forms_of, IsFront}

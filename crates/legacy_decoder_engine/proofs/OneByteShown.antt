@@ -1,8 +1,8 @@
 -- The proof for the decoders of single bytes, which hold nothing back, from the few facts that each shows.
-use Rattle.std.proofs.Common.{◌≡◌, ℕ, ◌+◌, ◌*◌, ◌<◌, ◌≤◌, ◌&&◌, List, [], ◌∷◌, Bool, true, false, cond, Option, Some, None, option_to_list, refl, inl, ap, arith}
+use Rattle.std.proofs.Common.{◌≡◌, ℕ, ◌<◌, ◌&&◌, List, [], ◌∷◌, Bool, true, false, cond, Option, Some, None, option_to_list, refl, inl, ap, arith}
 use Rattle.std.proofs.lemmas.Bool.{cond_both, false≢true, ltb-true}
 use Rattle.std.specs.{Char.is_ascii, Option.IfSome}
-use Rattle.legacy_tables.specs.Unicode.{IsByte, AreBytes}
+use Rattle.legacy_tables.specs.Unicode.{IsByte}
 use Rattle.legacy_base.specs.Fronts.{Front, reads, malformed, reads_or, cut}
 use Rattle.legacy_base.specs.Profile.{Profile, narrow_acts, is_empty, always_rests, weightless}
 use Rattle.legacy_base.specs.Formulas.{to_come, constant, ◌⊠◌}
