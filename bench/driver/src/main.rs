@@ -195,7 +195,7 @@ const KEPT: [(Kept, &str); 3] = [(Kept::Flat, "flat"), (Kept::Packed, "packed"),
 
 /// Prints the table of two builds beside each other.
 ///
-/// It has decoding over flat tables and over packed ones. It has encoding over packed ones if the codec can have them,
+/// It has decoding over flat tables and, without the word `flat`, over packed ones. It has encoding over packed ones if the codec can have them,
 /// and with cached pairs.
 fn compared(builds: &Builds, words: Vec<String>, times: usize) -> Result<(), String> {
     let (wanted, mut codecs) = (Wanted::new(words), Codecs::default());
@@ -203,6 +203,9 @@ fn compared(builds: &Builds, words: Vec<String>, times: usize) -> Result<(), Str
     println!("{}", compare::heading());
     each_line(&wanted, &mut codecs, |corpus, codec, long, short| {
         for ((kept, tables), so_far) in KEPT.into_iter().zip(&mut ratios) {
+            if kept == Kept::Packed && wanted.tables.contains(&Table::Flat) {
+                continue;
+            }
             let (ours, encodes) = match kept {
                 Kept::Flat => (Some(&codec.flat), codec.packed.is_none() && wanted.has_table(Table::Encode)),
                 Kept::Packed => (codec.packed.as_ref(), wanted.has_table(Table::Encode)),
