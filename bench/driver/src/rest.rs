@@ -12,9 +12,9 @@ use std::time::{Duration, Instant};
 /// The greatest ratio of the time of the additions to their best time at which the core counts as at rest.
 const REST: f64 = 1.1;
 
-/// How long a call waits for rest, and how long all calls of a build do together.
+/// How long a call waits for rest, and how long all calls of a build do together for each time that a call is timed.
 const PATIENCE_OF_CALL: Duration = Duration::from_millis(50);
-const PATIENCE_OF_ALL: Duration = Duration::from_secs(240);
+const PATIENCE_OF_TIME: Duration = Duration::from_secs(12);
 
 /// How long the core is watched before the first call, so that its best time is known.
 const WATCHED: Duration = Duration::from_secs(2);
@@ -38,10 +38,11 @@ fn additions() -> Duration {
     thread_time() - start
 }
 
-/// What is known of the core: the best time of the additions, and the time spent waiting for rest.
+/// What is known of the core: the best time of the additions, the time spent waiting for rest, and the time that is allowed for it.
 struct Core {
     least: Duration,
     waited: Duration,
+    allowed: Duration,
 }
 
 impl Core {
@@ -53,7 +54,7 @@ impl Core {
             least = least.min(additions());
             sleep(Duration::from_millis(1));
         }
-        Core { least, waited: Duration::ZERO }
+        Core { least, waited: Duration::ZERO, allowed: Duration::ZERO }
     }
 
     fn is_at_rest(&mut self) -> bool {
@@ -67,7 +68,7 @@ impl Core {
         loop {
             let is_at_rest = self.is_at_rest();
             let waited = self.waited + start.elapsed();
-            if is_at_rest || start.elapsed() >= PATIENCE_OF_CALL || waited >= PATIENCE_OF_ALL {
+            if is_at_rest || start.elapsed() >= PATIENCE_OF_CALL || waited >= self.allowed {
                 self.waited = waited;
                 return is_at_rest;
             }
@@ -78,6 +79,11 @@ impl Core {
 
 thread_local! {
     static CORE: RefCell<Core> = RefCell::new(Core::new());
+}
+
+/// Allows time to wait for rest, in proportion to how often each call is timed.
+pub fn allow(times: usize) {
+    CORE.with_borrow_mut(|core| core.allowed = PATIENCE_OF_TIME * times as u32);
 }
 
 /// Checks whether the core is at rest.
