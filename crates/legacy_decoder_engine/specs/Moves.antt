@@ -11,7 +11,7 @@ use Rattle.legacy_base.specs.{declared.results.DecodeEvent.TheVariants.Bad, decl
 use Rattle.legacy_base.specs.{Calls.Progress, Calls.IsFault}
 use Rattle.legacy_text.specs.EncodingForm.{EncodingForm, unit_count, total_unit_count, bmp_room, wide_room}
 use Rattle.legacy_decoder_engine.specs.declared.moves.Fed.TheVariants.{Nothing, One, Two, Fault}
-use Rattle.legacy_decoder_engine.specs.{declared.moves.Move.TheVariants.Read, declared.moves.Room.Room, declared.moves.Move.Move, declared.moves.Fed.Fed}
+use Rattle.legacy_decoder_engine.specs.{declared.moves.Room.Room, declared.moves.Fed.Fed}
 use Rattle.legacy_base.specs.Acts as acts
 use Rattle.legacy_decoder_engine.specs.declared.moves.Room.TheVariants.{Nothing as NoRoom, Unit as OneUnit, Narrow, Wide}
 
@@ -25,11 +25,6 @@ room_units form Wide = wide_room form
 -- the room for reading a byte
 abbrev pub read_room : EncodingForm → DecoderState → ℕ → ℕ
 read_room form state byte = act_room (bmp_room form) (wide_room form) state (acts.takes byte)
-
--- the room that an act needs
-abbrev pub move_units : EncodingForm → DecoderState → Move → ℕ
-move_units form state (Read byte) = read_room form state byte
-move_units form state next = release_room_in form state.grammar
 
 -- the room of a length query is enough for the next act
 pub record IsCovered (state : DecoderState) : Type 0 where

@@ -3,19 +3,18 @@ ghost use Rattle.std.specs.Prelude.{◌≡◌, ℕ, ◌+◌, ◌<◌, ◌≤◌,
 ghost use Rattle.legacy_text.specs.EncodingForm.{all_code_units, total_unit_count};
 ghost use Rattle.legacy_base.specs.States.{rests};
 ghost use Rattle.legacy_base.specs.Calls.{IsDecoderCall, IsLoneFault};
-ghost use Rattle.legacy_decoder_engine.specs.Moves.{move_units, fed_scalars, Finishes, IsCovered};
+ghost use Rattle.legacy_decoder_engine.specs.Moves.{room_units, fed_scalars, Finishes};
 
-use crate::moves::{DecoderMoves, Fed, Move, Room};
+use crate::moves::{DecoderMoves, Fed, Room};
 use legacy_base::{DecoderResult, Destination};
 
-/// Returns whether the output has the room for an act.
+/// Returns whether the output has this room.
 #[inline(always)]
-fn has_room<D: DecoderMoves, T: Destination>(decoder: &D, dst: &T, next: Move) -> bool
-    ensures some { result ≡ true → move_units T.form (D.state decoder.now) next ≤ T.room dst.now }
-    ensures none { result ≡ false → T.room dst.now < move_units T.form (D.state decoder.now) next }
-    ensures covered { IsCovered (D.state decoder.now) }
+fn has_room<T: Destination>(dst: &T, room: Room) -> bool
+    ensures some { result ≡ true → room_units T.form room ≤ T.room dst.now }
+    ensures none { result ≡ false → T.room dst.now < room_units T.form room }
 {
-    match decoder.room(next) {
+    match room {
         Room::Nothing => true,
         Room::Unit => dst.free() >= 1,
         Room::Narrow => dst.free() >= T::narrow(),
@@ -51,7 +50,7 @@ fn finish<D: DecoderMoves, T: Destination>(decoder: &mut D, dst: &T, last: bool)
     if !last || !decoder.has_rest() {
         return DecoderResult::InputEmpty;
     }
-    if !has_room(decoder, dst, Move::Report) {
+    if !has_room(dst, decoder.release_room()) {
         return DecoderResult::OutputFull;
     }
     match decoder.report() {
@@ -82,7 +81,7 @@ pub fn drive_decoder<D: DecoderMoves, T: Destination>(
     ensures loan { T.loan dst.new ≡ T.loan dst.old }
 {
     if !decoder.rests() {
-        if !has_room(decoder, dst, Move::Release) {
+        if !has_room(dst, decoder.release_room()) {
             return (DecoderResult::OutputFull, 0);
         }
         let Some(scalar) = decoder.release() else {
@@ -98,7 +97,7 @@ pub fn drive_decoder<D: DecoderMoves, T: Destination>(
             break;
         }
         let byte = src[read];
-        if !has_room(decoder, dst, Move::Read(byte)) {
+        if !has_room(dst, decoder.reading_room(byte)) {
             return (DecoderResult::OutputFull, read);
         }
         let fed = decoder.feed(byte);

@@ -14,7 +14,7 @@ ghost use Rattle.legacy_decoder_engine.specs.LeadCodecs.{IsLeadCodec, held_bytes
 
 use crate::drive::{count_lone, drive_decoder};
 use crate::lanes::{LaneCodec, LaneForms, read_common};
-use crate::moves::{DecoderMoves, Fed, Move, Room};
+use crate::moves::{DecoderMoves, Fed, Room};
 use crate::runs::read_ascii;
 use legacy_base::{DecoderResult, Destination, RawDecoder, Tables};
 use legacy_tables::DecoderTables;
@@ -132,12 +132,16 @@ impl<'a, C: LeadCodec> DecoderMoves for LeadDecoder<'a, C> {
     }
 
     #[inline]
-    fn room(&self, next: Move) -> Room {
-        match next {
-            Move::Read(byte) if byte < 0x80 && self.held.is_none() => Room::Unit,
-            Move::Read(_) => C::room(),
-            Move::Release | Move::Report => C::room(),
+    fn reading_room(&self, byte: u8) -> Room {
+        if byte < 0x80 && self.held.is_none() {
+            return Room::Unit;
         }
+        C::room()
+    }
+
+    #[inline]
+    fn release_room(&self) -> Room {
+        C::room()
     }
 
     #[inline]

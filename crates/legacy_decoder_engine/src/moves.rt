@@ -4,7 +4,8 @@ ghost use Rattle.legacy_text.specs.EncodingForm.{EncodingForm};
 ghost use Rattle.legacy_base.specs.Grammar.{events_of};
 ghost use Rattle.legacy_base.specs.States.{DecoderState, may_hold, rests};
 ghost use Rattle.legacy_base.specs.Calls.{IsLoneFault};
-ghost use Rattle.legacy_decoder_engine.specs.Moves.{room_units, move_units, IsCovered, Releases, Feeds, Reports};
+ghost use Rattle.legacy_base.specs.Acts.{release_room_in};
+ghost use Rattle.legacy_decoder_engine.specs.Moves.{room_units, read_room, IsCovered, Releases, Feeds, Reports};
 ghost use Rattle.legacy_decoder_engine.specs.Moves.{HoldsBytes};
 ghost use Rattle.legacy_decoder_engine.specs.Ahead.{ReadsTo, ReadsAhead};
 
@@ -21,17 +22,6 @@ pub enum Room {
     Narrow,
     /// Room for any scalar.
     Wide,
-}
-
-/// The next act of a decoder.
-#[derive(Clone, Copy)]
-pub enum Move {
-    /// It writes a held-back scalar.
-    Release,
-    /// It reads this byte.
-    Read(u8),
-    /// It reports the held-back bytes at the end of the input.
-    Report,
 }
 
 /// The result of reading a byte.
@@ -64,10 +54,18 @@ pub trait DecoderMoves {
         ensures is { result ≡ rests (state self.now).grammar (state self.now).held }
         ensures allowed { may_hold (state self.now).grammar (state self.now).held ≡ true };
 
-    /// Returns the room that an act needs, whatever its result. Nothing changes.
-    fn room(&self, next: Move) -> Room
-        ensures units { (form : EncodingForm) → room_units form result ≡ move_units form
-            (state self.now) next }
+    /// Returns the room that reading a byte needs, whatever its result. Nothing changes.
+    fn reading_room(&self, byte: u8) -> Room
+        ensures units { (form : EncodingForm) → room_units form result ≡ read_room form
+            (state self.now) byte }
+        ensures covered { IsCovered (state self.now) };
+
+    /// Returns the room that writing a held-back scalar needs, or a report at the end of the input.
+    ///
+    /// Nothing changes.
+    fn release_room(&self) -> Room
+        ensures units { (form : EncodingForm) → room_units form result
+            ≡ release_room_in form (state self.now).grammar }
         ensures covered { IsCovered (state self.now) };
 
     /// Removes and returns the held-back scalar that is to be written first.

@@ -7,7 +7,7 @@ ghost use Rattle.legacy_base.specs.Grammar.{gb18030};
 ghost use Rattle.legacy_base.specs.States.{is_neutral, new_state};
 ghost use Rattle.legacy_chinese.specs.Gb18030Machine.{gb18030_step};
 ghost use Rattle.legacy_base.specs.States.{state_of};
-ghost use Rattle.legacy_decoder_engine.specs.Moves.{move_units, room_units};
+ghost use Rattle.legacy_decoder_engine.specs.Moves.{read_room, room_units};
 ghost use Rattle.legacy_decoder_engine.specs.Feeding.{Took};
 ghost use Rattle.legacy_chinese.specs.Gb18030Held.{held_bytes, is_resting};
 
@@ -17,7 +17,7 @@ use super::pair_places::TRAILS;
 use legacy_base::{DecoderResult, Destination, IndexName, RawDecoder, Tables};
 use legacy_decoder_engine::drive::{count_lone, drive_decoder};
 use legacy_decoder_engine::held::Lead;
-use legacy_decoder_engine::moves::{DecoderMoves, Fed, Move, Room};
+use legacy_decoder_engine::moves::{DecoderMoves, Fed, Room};
 use legacy_decoder_engine::places::{ROWS_OF_190, pair_pointer};
 use legacy_decoder_engine::runs::read_ascii;
 use legacy_decoder_engine::trail::unmapped;
@@ -180,14 +180,15 @@ fn read(tables: &Tables, guess: &Cell<usize>, held: Held, byte: u8) -> (Fed, Hel
 
 /// Returns the room that an act needs.
 #[inline]
-fn room_of(held: Held, next: Move) -> Room
+fn room_of(held: Held, byte: u8) -> Room
     ensures { (index : List ℕ) (ranges : List (ℕ × ℕ)) (form : EncodingForm) →
         room_units form result
-        ≡ move_units form (state_of (gb18030 index ranges) (held_bytes held)) next }
+        ≡ read_room form (state_of (gb18030 index ranges) (held_bytes held)) byte }
 {
-    match next {
-        Move::Read(byte) if byte < 0x80 && matches!(held, Held::Nothing) => Room::Unit,
-        _ => Room::Wide,
+    if byte < 0x80 && matches!(held, Held::Nothing) {
+        Room::Unit
+    } else {
+        Room::Wide
     }
 }
 
@@ -247,8 +248,13 @@ impl DecoderMoves for Gb18030Decoder<'_> {
     }
 
     #[inline]
-    fn room(&self, next: Move) -> Room {
-        room_of(self.held, next)
+    fn reading_room(&self, byte: u8) -> Room {
+        room_of(self.held, byte)
+    }
+
+    #[inline]
+    fn release_room(&self) -> Room {
+        Room::Wide
     }
 
     #[inline]

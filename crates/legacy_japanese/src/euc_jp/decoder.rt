@@ -10,7 +10,7 @@ ghost use Rattle.legacy_base.specs.States.{state_of};
 ghost use Rattle.legacy_base.specs.Fronts.{malformed};
 ghost use Rattle.legacy_decoder_engine.specs.Steps.{finish};
 ghost use Rattle.legacy_japanese.specs.EucJpMachine.{euc_jp_step};
-ghost use Rattle.legacy_decoder_engine.specs.Moves.{move_units, room_units};
+ghost use Rattle.legacy_decoder_engine.specs.Moves.{read_room, room_units};
 ghost use Rattle.legacy_decoder_engine.specs.Feeding.{Took};
 ghost use Rattle.legacy_decoder_engine.specs.LaneRows.{row_place};
 ghost use Rattle.legacy_japanese.specs.EucJpHeld.{held_bytes};
@@ -20,7 +20,7 @@ use legacy_base::{DecoderResult, Destination, IndexName, RawDecoder, Tables};
 use legacy_decoder_engine::common_forms::CommonForm;
 use legacy_decoder_engine::drive::{count_lone, drive_decoder};
 use legacy_decoder_engine::lanes::{LaneCodec, LaneForms, narrow_entries, read_common};
-use legacy_decoder_engine::moves::{DecoderMoves, Fed, Move, Room};
+use legacy_decoder_engine::moves::{DecoderMoves, Fed, Room};
 use legacy_decoder_engine::rows::row_pointers;
 use legacy_decoder_engine::runs::read_ascii;
 use legacy_decoder_engine::trail::unmapped;
@@ -177,14 +177,15 @@ fn read(tables: &Tables, held: Held, byte: u8) -> (Fed, Held)
 
 /// Returns the room that an act needs.
 #[inline]
-fn room_of(held: Held, next: Move) -> Room
+fn room_of(held: Held, byte: u8) -> Room
     ensures { (jis0208 jis0212 : List ℕ) (form : EncodingForm) →
         room_units form result
-        ≡ move_units form (state_of (euc_jp jis0208 jis0212) (held_bytes held)) next }
+        ≡ read_room form (state_of (euc_jp jis0208 jis0212) (held_bytes held)) byte }
 {
-    match next {
-        Move::Read(byte) if byte < 0x80 && matches!(held, Held::Nothing) => Room::Unit,
-        _ => Room::Narrow,
+    if byte < 0x80 && matches!(held, Held::Nothing) {
+        Room::Unit
+    } else {
+        Room::Narrow
     }
 }
 
@@ -246,8 +247,14 @@ impl DecoderMoves for EucJpDecoder<'_> {
 
     #[inline]
     #[tactic(auto, using(crate::proofs::EucJpHeld::covered))]
-    fn room(&self, next: Move) -> Room {
-        room_of(self.held, next)
+    fn reading_room(&self, byte: u8) -> Room {
+        room_of(self.held, byte)
+    }
+
+    #[inline]
+    #[tactic(auto, using(crate::proofs::EucJpHeld::covered))]
+    fn release_room(&self) -> Room {
+        Room::Narrow
     }
 
     fn release(&mut self) -> Option<char> {

@@ -10,7 +10,7 @@ use super::runs::{escape_at, read_modes};
 use super::steps::{Held, Mode, Start, finish, pending, read};
 use legacy_base::{DecoderResult, Destination, RawDecoder, Tables};
 use legacy_decoder_engine::drive::drive_decoder;
-use legacy_decoder_engine::moves::{DecoderMoves, Fed, Move, Room};
+use legacy_decoder_engine::moves::{DecoderMoves, Fed, Room};
 
 /// The decoder of ISO-2022-JP (Encoding Standard, "ISO-2022-JP decoder").
 ///
@@ -74,7 +74,13 @@ impl<'a> DecoderMoves for Iso2022JpDecoder<'a> {
 
     #[inline]
     #[tactic(auto, using(crate::proofs::Iso2022JpRooms::covered))]
-    fn room(&self, _next: Move) -> Room {
+    fn reading_room(&self, _byte: u8) -> Room {
+        Room::Narrow
+    }
+
+    #[inline]
+    #[tactic(auto, using(crate::proofs::Iso2022JpRooms::covered))]
+    fn release_room(&self) -> Room {
         Room::Narrow
     }
 

@@ -5,7 +5,7 @@ ghost use Rattle.legacy_base.specs.States.{new_state};
 
 use legacy_base::{DecoderResult, Destination, RawDecoder};
 use legacy_decoder_engine::drive::drive_decoder;
-use legacy_decoder_engine::moves::{DecoderMoves, Fed, Move, Room};
+use legacy_decoder_engine::moves::{DecoderMoves, Fed, Room};
 
 /// The replacement decoder (Encoding Standard, "replacement decoder").
 ///
@@ -41,17 +41,18 @@ impl DecoderMoves for ReplacementDecoder {
 
     #[inline]
     #[tactic(auto, using(crate::proofs::ReplacementSteps::covered))]
-    fn room(&self, next: Move) -> Room {
-        match next {
-            Move::Read(_) => {
-                if self.has_reported {
-                    Room::Nothing
-                } else {
-                    Room::Narrow
-                }
-            }
-            Move::Release | Move::Report => Room::Narrow,
+    fn reading_room(&self, _byte: u8) -> Room {
+        if self.has_reported {
+            Room::Nothing
+        } else {
+            Room::Narrow
         }
+    }
+
+    #[inline]
+    #[tactic(auto, using(crate::proofs::ReplacementSteps::covered))]
+    fn release_room(&self) -> Room {
+        Room::Narrow
     }
 
     fn release(&mut self) -> Option<char> {

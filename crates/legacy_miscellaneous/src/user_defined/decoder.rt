@@ -11,7 +11,7 @@ ghost use Rattle.legacy_decoder_engine.specs.Ahead.{ReadsAhead};
 use legacy_base::{DecoderResult, Destination, RawDecoder};
 use legacy_decoder_engine::common_forms::{CommonForm, CommonForms, read_forms};
 use legacy_decoder_engine::drive::drive_decoder;
-use legacy_decoder_engine::moves::{DecoderMoves, Fed, Move, Room};
+use legacy_decoder_engine::moves::{DecoderMoves, Fed, Room};
 use legacy_decoder_engine::runs::{Blocks, read_ascii, read_blocks};
 
 /// The decoder of x-user-defined (Encoding Standard, "x-user-defined decoder").
@@ -73,7 +73,13 @@ impl DecoderMoves for UserDefinedDecoder {
 
     #[inline]
     #[tactic(auto, using(crate::proofs::UserDefinedShown::covered))]
-    fn room(&self, _next: Move) -> Room {
+    fn reading_room(&self, _byte: u8) -> Room {
+        Room::Narrow
+    }
+
+    #[inline]
+    #[tactic(auto, using(crate::proofs::UserDefinedShown::covered))]
+    fn release_room(&self) -> Room {
         Room::Narrow
     }
 

@@ -9,7 +9,7 @@ use super::runs::Units;
 use super::units::read_byte;
 use legacy_base::{DecoderResult, Destination, RawDecoder};
 use legacy_decoder_engine::drive::drive_decoder;
-use legacy_decoder_engine::moves::{DecoderMoves, Fed, Move, Room};
+use legacy_decoder_engine::moves::{DecoderMoves, Fed, Room};
 use legacy_decoder_engine::runs::read_blocks;
 
 /// The decoder of UTF-16 in either byte order (Encoding Standard, "shared UTF-16 decoder").
@@ -81,11 +81,14 @@ impl DecoderMoves for Utf16Decoder {
 
     #[inline]
     #[tactic(auto, using(crate::proofs::Utf16Held::covered))]
-    fn room(&self, next: Move) -> Room {
-        match next {
-            Move::Read(_) => Room::Wide,
-            Move::Release | Move::Report => Room::Narrow,
-        }
+    fn reading_room(&self, _byte: u8) -> Room {
+        Room::Wide
+    }
+
+    #[inline]
+    #[tactic(auto, using(crate::proofs::Utf16Held::covered))]
+    fn release_room(&self) -> Room {
+        Room::Narrow
     }
 
     #[tactic(auto, using(crate::proofs::Utf16Held::releases))]

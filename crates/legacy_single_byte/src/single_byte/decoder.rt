@@ -10,7 +10,7 @@ use super::blocks::read_text;
 use super::scalars::ByteScalars;
 use legacy_base::{DecoderResult, Destination, RawDecoder, SingleByteTable};
 use legacy_decoder_engine::drive::drive_decoder;
-use legacy_decoder_engine::moves::{DecoderMoves, Fed, Move, Room};
+use legacy_decoder_engine::moves::{DecoderMoves, Fed, Room};
 use std::simd::prelude::*;
 
 /// The decoder of a single-byte encoding (Encoding Standard, "single-byte decoder").
@@ -107,17 +107,18 @@ impl DecoderMoves for SingleByteDecoder<'_> {
 
     #[inline]
     #[tactic(auto, using(crate::proofs::SingleByteSteps::covered))]
-    fn room(&self, next: Move) -> Room {
-        match next {
-            Move::Read(byte) => {
-                if byte < 0x80 {
-                    Room::Unit
-                } else {
-                    Room::Narrow
-                }
-            }
-            Move::Release | Move::Report => Room::Narrow,
+    fn reading_room(&self, byte: u8) -> Room {
+        if byte < 0x80 {
+            Room::Unit
+        } else {
+            Room::Narrow
         }
+    }
+
+    #[inline]
+    #[tactic(auto, using(crate::proofs::SingleByteSteps::covered))]
+    fn release_room(&self) -> Room {
+        Room::Narrow
     }
 
     fn release(&mut self) -> Option<char> {

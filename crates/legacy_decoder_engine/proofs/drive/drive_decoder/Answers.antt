@@ -23,25 +23,26 @@ finish-requires g c =
 pub returns-then-not-has_room-2-clause-call : goal.returns-then-not-has_room-2-clause-call
 returns-then-not-has_room-2-clause-call g c =
     let i = front_going c.args.dst.now c.loop-read.invariant c.read_runs-read.ensures.runs c.hold_back-read.ensures.within c.hold_back-read.ensures.holds in
-    let h = c.has_room-in-loop-read.ensures in
-    (i.0, call_lacks i.1 _ i.3 (omega (arith, i.1.within, c.if-read-src.false)) h.covered (h.none c.if-not-has_room-2.true), i.2)
+    let needs = c.reading_room.ensures in
+    let lacks = rw (needs.units g.T.Destination.form) at (c.has_room-in-loop-read.ensures.none c.if-not-has_room-2.true) in
+    (i.0, call_lacks i.1 _ i.3 (omega (arith, i.1.within, c.if-read-src.false)) needs.covered lacks, i.2)
 
 pub returns-then-unread-clause-call : goal.returns-then-unread-clause-call
 returns-then-unread-clause-call g c =
     let i = front_going c.args.dst.now c.loop-read.invariant c.read_runs-read.ensures.runs c.hold_back-read.ensures.within c.hold_back-read.ensures.holds in
-    let enough = c.has_room-in-loop-read.ensures.some c.if-not-has_room-2.false in
+    let enough = rw (c.reading_room.ensures.units g.T.Destination.form) at (c.has_room-in-loop-read.ensures.some c.if-not-has_room-2.false) in
     (i.0, call_unread i.1 _ i.3 (omega (arith, i.1.within, c.if-read-src.false)) enough (rw c.if-unread.true at c.in-Fault.ensures), i.2)
 
 pub returns-in-Fault-clause-call : goal.returns-in-Fault-clause-call
 returns-in-Fault-clause-call g c =
     let i = front_going c.args.dst.now c.loop-read.invariant c.read_runs-read.ensures.runs c.hold_back-read.ensures.within c.hold_back-read.ensures.holds in
-    let enough = c.has_room-in-loop-read.ensures.some c.if-not-has_room-2.false in
+    let enough = rw (c.reading_room.ensures.units g.T.Destination.form) at (c.has_room-in-loop-read.ensures.some c.if-not-has_room-2.false) in
     (i.0, call_read i.1 _ i.3 (omega (arith, i.1.within, c.if-read-src.false)) enough (rw c.if-unread.false at c.in-Fault.ensures), i.2)
 
 pub loop-read-preserved : goal.loop-read-preserved
 loop-read-preserved g c =
     let i = front_going c.args.dst.now c.loop-read.invariant c.read_runs-read.ensures.runs c.hold_back-read.ensures.within c.hold_back-read.ensures.holds in
-    let enough = c.has_room-in-loop-read.ensures.some c.if-not-has_room-2.false in
+    let enough = rw (c.reading_room.ensures.units g.T.Destination.form) at (c.has_room-in-loop-read.ensures.some c.if-not-has_room-2.false) in
     let fed = c.feed-fed.result in
     let e = c.put_fed.ensures in (
       i.0 ++ fed_scalars fed,
@@ -58,7 +59,7 @@ loop-read-init g c =
       | then-not-rests+else-not-has_room+in-Some w ↦
           rw (w.decoder-is, w.dst-is) (
             w.in-Some.scalar ∷ [],
-            going_release (sym c.rests.ensures.is ∙ w.if-not-rests.true) (w.has_room.ensures.some w.if-not-has_room.false) w.in-Some.ensures,
+            going_release (sym c.rests.ensures.is ∙ w.if-not-rests.true) (rw (w.release_room.ensures.units T.form) at (w.has_room.ensures.some w.if-not-has_room.false)) w.in-Some.ensures,
             w.put.ensures.contents ∙ ap (λ l. T.contents c.args.dst.now ++ l) (sym (append-nil (code_units T.form w.in-Some.scalar))),
             simp length-append (omega (arith, w.put.ensures.room)),
             w.put.ensures.loan,
@@ -75,9 +76,10 @@ loop-read-init g c =
 
 pub returns-then-not-has_room-clause-call : goal.returns-then-not-has_room-clause-call
 returns-then-not-has_room-clause-call g c =
-    let h = c.has_room.ensures in (
+    let needs = c.release_room.ensures in
+    let lacks = rw (needs.units g.T.Destination.form) at (c.has_room.ensures.none c.if-not-has_room.true) in (
       [],
-      call_full_release h.covered c.rests.ensures.allowed (sym c.rests.ensures.is ∙ c.if-not-rests.true) (h.none c.if-not-has_room.true),
+      call_full_release needs.covered c.rests.ensures.allowed (sym c.rests.ensures.is ∙ c.if-not-rests.true) lacks,
       sym (append-nil (g.T.Destination.contents c.args.dst.now)),
     )
 
