@@ -1,7 +1,9 @@
 -- Facts about indexes and single-byte tables that passed their check.
-use Rattle.std.proofs.Common.{◌≡◌, ◌≢◌, ◌∙◌, ℕ, zero, suc, ◌+◌, ◌-◌, ◌≤◌, ◌<◌, List, [], ◌∷◌, length, get_or, add-one, refl}
-use Rattle.std.proofs.Common.{sym, arith, Some, None, Option, true, false, Bool, ◌&&◌, ◌||◌, not, cond, eq-eqb, nat_le, nat_lt, subst, ◌==◌}
-use Rattle.std.proofs.lemmas.Bool.{eqb-true, false≢true}
+use Rattle.std.proofs.Common.{◌≡◌, ◌≢◌, ◌∙◌, ◌⊎◌, ℕ, zero, suc, ◌+◌, ◌-◌, ◌≤◌, ◌<◌, List, [], ◌∷◌, length}
+use Rattle.std.proofs.Common.{get_or, add-one, refl, inl, inr}
+use Rattle.std.proofs.Common.{sym, arith, Some, None, Option, true, false, Bool, ◌&&◌, ◌||◌, not, cond, eq-eqb, nat_le, subst, ◌==◌}
+use Rattle.std.proofs.lemmas.Bool.{and_parts, cases_eq, ne_eqb, eqb-false, false≢true, not-false}
+use Rattle.std.proofs.lemmas.Option.{cond_some, same_Some}
 use Rattle.std.proofs.lemmas.Bool.Decides.{nat_tests}
 use Rattle.std.proofs.lemmas.List.Elements.{All-nil, All-cons}
 use Rattle.std.proofs.lemmas.List.Sorted.{IsNonDecreasingBy-from_all_adjacent}
@@ -16,30 +18,31 @@ use Rattle.legacy_tables.specs.declared.tables.IndexName.TheVariants as names
 use Rattle.legacy_tables.specs.declared.tables.TableError.{TableError}
 use Rattle.legacy_tables.specs.declared.tables.TableError.TheVariants.{TooLong, BadEntry, NotEmpty, KatakanaLength, RangeOrder, RangeValue}
 use Rattle.legacy_tables.specs.declared.tables.packed.PackedPart.{PackedPart}
-use Rattle.legacy_tables.specs.declared.tables.packed.PackedPart.TheVariants as packed
 use Rattle.legacy_tables.specs.Indexes.{FlatIndexes, entry_scalar, idx, range, last_range_scalar}
 use Rattle.legacy_tables.specs.Walks.{order_index}
 use Rattle.legacy_tables.specs.Unicode.{AreScalars}
-use Rattle.legacy_tables.proofs.FirstPlaces.{both_true, taken}
+use Rattle.legacy_tables.proofs.FirstPlaces.{taken}
 use Rattle.legacy_tables.specs.Tables.{index_list, is_narrow_index}
-use Rattle.legacy_tables.specs.TableChecks.{is_narrow_entry, is_entry, must_be_empty, entry_fault, entries_fault, index_fault, katakana_fault, range_order_fault, AreAccepted}
+use Rattle.legacy_tables.specs.TableChecks.{is_narrow_entry, is_entry, must_be_empty, entry_fault, entries_fault, index_fault, katakana_fault}
+use Rattle.legacy_tables.specs.TableChecks.{range_order_fault, AreAccepted}
 use Rattle.legacy_tables.specs.TableChecks.{follows_range, next_pointer, has_range_scalars, range_value_fault, rows_fault, table_fault}
 
 -- ---- no fault of two parts, and of a test
 
-pub or_none : (a b : Option TableError) → option_or a b ≡ None → (a ≡ None) × (b ≡ None)
+pub or_none : {A : Type 0} (a b : Option A) → option_or a b ≡ None → (a ≡ None) × (b ≡ None)
 or_none None b e = (refl, e)
 or_none (Some x) b e = cc
+
+pub untaken : {A : Type 0} (t : Bool) (fault : A) (a : Option A) → cond t (Some fault) a ≡ None → (t ≡ false) × (a ≡ None)
+untaken true fault a e = cc
+untaken false fault a e = (refl, e)
 
 -- ---- the parts of the check
 
 -- an index without a fault is not too long, and its entries have no fault
-pub index_parts : (name : IndexName) (limit : ℕ) (index : List ℕ) → index_fault name limit index ≡ None → (length index ≤ limit) × (entries_fault name 0 index ≡ None)
-index_parts name limit index e = go (nat_lt limit (length index)) refl e
-  where
-    go : (t : Bool) → nat_lt limit (length index) ≡ t → cond t (Some (TooLong name)) (entries_fault name 0 index) ≡ None → (length index ≤ limit) × (entries_fault name 0 index ≡ None)
-    go true h e = cc
-    go false h e = (ltb-false limit (length index) h, e)
+index_parts : (name : IndexName) (limit : ℕ) (index : List ℕ) → index_fault name limit index ≡ None
+    → (length index ≤ limit) × (entries_fault name 0 index ≡ None)
+index_parts name limit index e = let t = untaken _ (TooLong name) _ e in (ltb-false limit (length index) t.0, t.1)
 
 pub record Parts (flat : FlatIndexes) : Type 0 where
   pub big5 : (length flat.big5 ≤ 19782) × (entries_fault names.Big5 0 flat.big5 ≡ None)
@@ -79,38 +82,32 @@ parts flat e =
 
 -- no index of pairs is longer than 23940 entries
 pub order_index-short : (flat : FlatIndexes) → AreAccepted flat → (part : PackedPart) → length (order_index flat part) ≤ 23940
-order_index-short flat accepted packed.Big5 = let short = (parts flat accepted).big5.0 in omega arith
-order_index-short flat accepted packed.EucKr = let short = (parts flat accepted).euc_kr.0 in omega arith
-order_index-short flat accepted packed.Jis0208 = let short = (parts flat accepted).jis0208.0 in omega arith
-order_index-short flat accepted packed.Jis0212 = let short = (parts flat accepted).jis0212.0 in omega arith
-order_index-short flat accepted packed.Gb18030 = let short = (parts flat accepted).gb18030.0 in omega arith
-order_index-short flat accepted packed.Big5Order = let short = (parts flat accepted).big5.0 in omega arith
-order_index-short flat accepted packed.EucKrOrder = let short = (parts flat accepted).euc_kr.0 in omega arith
-order_index-short flat accepted packed.ShiftJisOrder = let short = (parts flat accepted).jis0208.0 in omega arith
-order_index-short flat accepted packed.EucJpOrder = let short = (parts flat accepted).jis0208.0 in omega arith
-order_index-short flat accepted packed.Gb18030Order = let short = (parts flat accepted).gb18030.0 in omega arith
+order_index-short flat accepted part =
+    let p = parts flat accepted in
+    grind (arith, p.big5.0, p.euc_kr.0, p.jis0208.0, p.jis0212.0, p.gb18030.0)
 
 -- ---- entries: 0, and the others that are allowed
 
 -- an entry that is 0, or passes its test
-pub entry_has : (P : ℕ → Type 0) (entry : ℕ) (test : Bool) (fault : TableError) (other : Option TableError) → P 0 → (test ≡ true → P entry) →
-    cond (entry == 0) None (cond (not test) (Some fault) other) ≡ None → P entry
-entry_has P entry test fault other at_zero good e = go (entry == 0) test refl good e
-  where
-    go : (z t : Bool) → (entry == 0) ≡ z → (t ≡ true → P entry) → cond z None (cond (not t) (Some fault) other) ≡ None → P entry
-    go true t h good e = subst P (sym (eqb-true entry 0 h)) at_zero
-    go false true h good e = good refl
-    go false false h good e = cc
+pub entry_has : (P : ℕ → Type 0) (entry : ℕ) (test : Bool) (fault : TableError) (other : Option TableError) → P 0
+    → (test ≡ true → P entry) → cond (entry == 0) None (cond (not test) (Some fault) other) ≡ None → P entry
+entry_has P entry test fault other at_zero good e = elim (cases_eq entry 0) [
+  | inl zero_there ↦ subst P (sym zero_there) at_zero
+  | inr some ↦ good (not-false test (untaken (not test) fault other (rw (ne_eqb entry 0 some) at e)).0)
+]
 
-pub all_entries : (P : ℕ → Type 0) (name : IndexName) → P 0 → ((e : ℕ) → is_entry name e ≡ true → P e) → (place : ℕ) (index : List ℕ) → entries_fault name place index ≡ None → All P index
+pub all_entries : (P : ℕ → Type 0) (name : IndexName) → P 0 → ((e : ℕ) → is_entry name e ≡ true → P e) → (place : ℕ) (index : List ℕ)
+    → entries_fault name place index ≡ None → All P index
 unfolding entries_fault
 all_entries P name at_zero good place [] e = All-nil P
 all_entries P name at_zero good place (x ∷ xs) e =
     let h = or_none (entry_fault name place x) _ e in
-    All-cons P x xs (entry_has P x (is_entry name x) (BadEntry name place) _ at_zero (good x) h.0) (all_entries P name at_zero good (place + 1) xs h.1)
+    All-cons P x xs (entry_has P x (is_entry name x) (BadEntry name place) _ at_zero (good x) h.0)
+    (all_entries P name at_zero good (place + 1) xs h.1)
 
 -- each of the entries without a fault has none, and 0 has none
-pub entry_at : (name : IndexName) (place : ℕ) (index : List ℕ) → entries_fault name place index ≡ None → (k : ℕ) → entry_fault name (place + k) (get_or index k 0) ≡ None
+pub entry_at : (name : IndexName) (place : ℕ) (index : List ℕ) → entries_fault name place index ≡ None → (k : ℕ)
+    → entry_fault name (place + k) (get_or index k 0) ≡ None
 unfolding entries_fault
 entry_at name place [] e k = refl
 entry_at name place (x ∷ xs) e zero =
@@ -169,13 +166,12 @@ module _ (flat : FlatIndexes) (accepted : AreAccepted flat) where
   big5-used p c e =
       let same : 0 + p ≡ p = omega arith in
       let fine = rw same at (entry_at names.Big5 0 flat.big5 (parts flat accepted).big5.1 p) in
-      go (get_or flat.big5 p 0 == 0) (is_entry names.Big5 (get_or flat.big5 p 0)) (must_be_empty names.Big5 p) e fine
-    where
-      go : (z t m : Bool) → Some c ≡ cond z None (Some (get_or flat.big5 p 0)) → cond z None (cond (not t) (Some (BadEntry names.Big5 p)) (cond m (Some (NotEmpty names.Big5 p)) None)) ≡ None → m ≡ false
-      go true t m s f = cc
-      go false true false s f = refl
-      go false true true s f = cc
-      go false false m s f = cc
+      elim (cases_eq (get_or flat.big5 p 0) 0) [
+        | inl none ↦ let no = rw (eq-eqb (get_or flat.big5 p 0) 0 none) at e in cc
+        | inr some ↦
+            (untaken _ (NotEmpty names.Big5 p) None
+            (untaken _ (BadEntry names.Big5 p) _ (rw (ne_eqb (get_or flat.big5 p 0) 0 some) at fine)).1).0
+      ]
 
   pub length-big5 : length flat.big5 ≤ 19782
   length-big5 = (parts flat accepted).big5.0
@@ -200,7 +196,8 @@ module _ (flat : FlatIndexes) (accepted : AreAccepted flat) where
   index-scalars names.Katakana = katakana-scalars
   index-scalars names.Ranges = All-nil IsScalar
 
-  pub narrow_index : (name : IndexName) → is_narrow_index name ≡ true → All (λ c. c < 0x1_0000) (index_list flat name) × (length (index_list flat name) ≤ 65535)
+  pub narrow_index : (name : IndexName) → is_narrow_index name ≡ true
+      → All (λ c. c < 0x1_0000) (index_list flat name) × (length (index_list flat name) ≤ 65535)
   narrow_index names.EucKr e = (euc_kr-below, let most = length-euc_kr in omega arith)
   narrow_index names.Jis0208 e = (jis0208-below, let most = length-jis0208 in omega arith)
   narrow_index names.Jis0212 e = (jis0212-below, let most = (parts flat accepted).jis0212.0 in omega arith)
@@ -211,31 +208,13 @@ module _ (flat : FlatIndexes) (accepted : AreAccepted flat) where
 
 -- ---- accepted ranges
 
--- a range that follows another starts after it
-next_up : (before r : ℕ × ℕ) → (nat_le r.0 39419 && follows_range (Some before) r) ≡ true → before.0 < r.0
-next_up before r h = ltb-true before.0 r.0 (both_true _ _ (both_true _ _ h).1).0
-
-adjacent : (place : ℕ) (before : Option (ℕ × ℕ)) (ranges : List (ℕ × ℕ)) → range_order_fault place before ranges ≡ None → AllAdjacentBelow (λ r s. r.0 ≤ s.0) ranges (length ranges)
-unfolding range_order_fault
-adjacent place before [] e k d h = absurd (omega arith)
-adjacent place before (r ∷ []) e k d h = absurd (omega arith)
-adjacent place before (r ∷ s ∷ ranges) e zero d h =
-    let t = taken _ (RangeOrder place) (range_order_fault (place + 1) (Some r) (s ∷ ranges)) e in
-    let up = next_up r s (taken _ (RangeOrder (place + 1)) (range_order_fault (place + 1 + 1) (Some s) ranges) t.1).0 in
-    omega arith
-adjacent place before (r ∷ s ∷ ranges) e (suc k) d h =
-    let t = taken _ (RangeOrder place) (range_order_fault (place + 1) (Some r) (s ∷ ranges)) e in
-    rw (add-one (suc k)) (rw (add-one k) at (adjacent (place + 1) (Some r) (s ∷ ranges) t.1 k d (omega arith)))
-
-pub rising : (place : ℕ) (before : Option (ℕ × ℕ)) (ranges : List (ℕ × ℕ)) → range_order_fault place before ranges ≡ None → IsNonDecreasingBy (λ r. r.0) ranges
-rising place before ranges e = IsNonDecreasingBy-from_all_adjacent (λ r. r.0) ranges (adjacent place before ranges e)
-
 -- a range that follows another begins after all scalars of that one
-next_above : (before r : ℕ × ℕ) → (nat_le r.0 39419 && follows_range (Some before) r) ≡ true → (before.0 < r.0) × (before.1 + (r.0 - before.0) ≤ r.1)
-next_above before r h = let b = both_true _ _ (both_true _ _ h).1 in (ltb-true before.0 r.0 b.0, leb-true _ r.1 b.1)
+next_above : (before r : ℕ × ℕ) → (nat_le r.0 39419 && follows_range (Some before) r) ≡ true
+    → (before.0 < r.0) × (before.1 + (r.0 - before.0) ≤ r.1)
+next_above before r h = let b = and_parts _ _ (and_parts _ _ h).1 in (ltb-true before.0 r.0 b.0, leb-true _ r.1 b.1)
 
 -- pointers and scalars rise together, and pointers do not rise by more
-climb : (place : ℕ) (before : Option (ℕ × ℕ)) (ranges : List (ℕ × ℕ)) → range_order_fault place before ranges ≡ None →
+pub climb : (place : ℕ) (before : Option (ℕ × ℕ)) (ranges : List (ℕ × ℕ)) → range_order_fault place before ranges ≡ None →
     AllAdjacentBelow (λ r s. (r.0 < s.0) × (r.1 + (s.0 - r.0) ≤ s.1)) ranges (length ranges)
 unfolding range_order_fault
 climb place before [] e k d h = absurd (omega arith)
@@ -247,52 +226,67 @@ climb place before (r ∷ s ∷ ranges) e (suc k) d h =
     let t = taken _ (RangeOrder place) (range_order_fault (place + 1) (Some r) (s ∷ ranges)) e in
     rw (add-one (suc k)) (rw (add-one k) at (climb (place + 1) (Some r) (s ∷ ranges) t.1 k d (omega arith)))
 
-pub rising_scalars : (place : ℕ) (before : Option (ℕ × ℕ)) (ranges : List (ℕ × ℕ)) → range_order_fault place before ranges ≡ None → IsNonDecreasingBy (λ r. r.1) ranges
-rising_scalars place before ranges e =
-    IsNonDecreasingBy-from_all_adjacent (λ r. r.1) ranges (λ k d h. let up = climb place before ranges e k d h in let low = up.0 in let high = up.1 in omega arith)
-
--- a range begins after all scalars that the range before it gives to pointers up to its own
-pub rise : (ranges : List (ℕ × ℕ)) → range_order_fault 0 None ranges ≡ None → (i : ℕ) → i + 1 < length ranges →
-    ((get_or ranges i (0, 0)).0 < (get_or ranges (i + 1) (0, 0)).0) × ((get_or ranges i (0, 0)).1 + ((get_or ranges (i + 1) (0, 0)).0 - (get_or ranges i (0, 0)).0) ≤ (get_or ranges (i + 1) (0, 0)).1)
-rise ranges e i h = climb 0 None ranges e i (0, 0) h
-
 -- each range starts at 39419 or before
-started_from : (place : ℕ) (before : Option (ℕ × ℕ)) (ranges : List (ℕ × ℕ)) → range_order_fault place before ranges ≡ None → (k : ℕ) → k < length ranges → (get_or ranges k (0, 0)).0 ≤ 39419
+pub started_by : (place : ℕ) (before : Option (ℕ × ℕ)) (ranges : List (ℕ × ℕ)) → range_order_fault place before ranges ≡ None
+    → (k : ℕ) → k < length ranges → (get_or ranges k (0, 0)).0 ≤ 39419
 unfolding range_order_fault
-started_from place before [] e k h = absurd (omega arith)
-started_from place before (r ∷ ranges) e zero h =
-    let t = taken _ (RangeOrder place) (range_order_fault (place + 1) (Some r) ranges) e in
-    leb-true r.0 39419 (both_true _ _ t.0).0
-started_from place before (r ∷ ranges) e (suc k) h =
-    started_from (place + 1) (Some r) ranges (taken _ (RangeOrder place) (range_order_fault (place + 1) (Some r) ranges) e).1 k (omega arith)
+started_by place before [] e k h = absurd (omega arith)
+started_by place before (r ∷ ranges) e zero h =
+    leb-true r.0 39419 (and_parts _ _ (taken _ (RangeOrder place) (range_order_fault (place + 1) (Some r) ranges) e).0).0
+started_by place before (r ∷ ranges) e (suc k) h =
+    started_by (place + 1) (Some r) ranges (taken _ (RangeOrder place) (range_order_fault (place + 1) (Some r) ranges) e).1 k (omega arith)
 
-pub started_by : (ranges : List (ℕ × ℕ)) → range_order_fault 0 None ranges ≡ None → (k : ℕ) → k < length ranges → (get_or ranges k (0, 0)).0 ≤ 39419
-started_by ranges e k h = started_from 0 None ranges e k h
+module _ (ranges : List (ℕ × ℕ)) (ordered : range_order_fault 0 None ranges ≡ None) where
+  pub rising : IsNonDecreasingBy (λ r. r.0) ranges
+  rising = IsNonDecreasingBy-from_all_adjacent (λ r. r.0) ranges (λ k d h. let up = (climb 0 None ranges ordered k d h).0 in omega arith)
 
--- the last range that starts at or before p
-pub last-none : (ranges : List (ℕ × ℕ)) (p : ℕ) → ((k : ℕ) → k < length ranges → p < (get_or ranges k (0, 0)).0) → last_range_scalar ranges p ≡ None
+  pub rising_scalars : IsNonDecreasingBy (λ r. r.1) ranges
+  rising_scalars =
+      IsNonDecreasingBy-from_all_adjacent (λ r. r.1) ranges
+      (λ k d h. let low = (climb 0 None ranges ordered k d h).0 in let high = (climb 0 None ranges ordered k d h).1 in omega arith)
+
+-- the last range that starts at or before p, at place n
+pub record IsGiven (ranges : List (ℕ × ℕ)) (p n : ℕ) : Type 0 where
+  pub within : n < length ranges
+  pub started : (get_or ranges n (0, 0)).0 ≤ p
+  pub ahead : (k : ℕ) → n < k → k < length ranges → p < (get_or ranges k (0, 0)).0
+
+pub last-none : (ranges : List (ℕ × ℕ)) (p : ℕ) → ((k : ℕ) → k < length ranges → p < (get_or ranges k (0, 0)).0)
+    → last_range_scalar ranges p ≡ None
 last-none [] p ahead = refl
 last-none (r ∷ ranges) p ahead =
     let first : p < r.0 = ahead 0 (omega arith) in
     rw (last-none ranges p (λ k h. ahead (suc k) (omega arith)), lt-leb r.0 p first) refl
 
-pub last-at : (ranges : List (ℕ × ℕ)) (p n : ℕ) → n < length ranges → (get_or ranges n (0, 0)).0 ≤ p → ((k : ℕ) → n < k → k < length ranges → p < (get_or ranges k (0, 0)).0) →
-    last_range_scalar ranges p ≡ Some ((get_or ranges n (0, 0)).1 + (p - (get_or ranges n (0, 0)).0))
-last-at [] p n h l ahead = absurd (omega arith)
-last-at (r ∷ ranges) p zero h l ahead = rw (last-none ranges p (λ k m. ahead (suc k) (omega arith) (omega arith)), le-leb r.0 p l) refl
-last-at (r ∷ ranges) p (suc n) h l ahead =
-    let below : n < length ranges = omega arith in
-    rw (last-at ranges p n below l (λ k m g. ahead (suc k) (omega arith) (omega arith))) refl
+pub last-at : (ranges : List (ℕ × ℕ)) (p n : ℕ) → IsGiven ranges p n
+    → last_range_scalar ranges p ≡ Some ((get_or ranges n (0, 0)).1 + (p - (get_or ranges n (0, 0)).0))
+last-at [] p n is = let h = is.within in absurd (omega arith)
+last-at (r ∷ ranges) p zero is =
+    rw (last-none ranges p (λ k h. is.ahead (suc k) (omega arith) (omega arith)), le-leb r.0 p is.started) refl
+last-at (r ∷ ranges) p (suc n) is =
+    let h = is.within in
+    rw (last-at ranges p n (record { within = omega arith; started = is.started; ahead = λ k m l. is.ahead (suc k) (omega arith) (omega arith) })) refl
 
--- if no range starts at or before p, the first one starts after it
+-- if no range starts at or before p, all start after it
+pub none-ahead : (ranges : List (ℕ × ℕ)) (p : ℕ) → last_range_scalar ranges p ≡ None → (k : ℕ) → k < length ranges
+    → p < (get_or ranges k (0, 0)).0
+none-ahead [] p e k h = absurd (omega arith)
+none-ahead (r ∷ ranges) p e zero h = leb-false r.0 p (untaken _ (r.1 + (p - r.0)) None (or_none (last_range_scalar ranges p) _ e).1).0
+none-ahead (r ∷ ranges) p e (suc k) h = none-ahead ranges p (or_none (last_range_scalar ranges p) _ e).0 k (omega arith)
+
 next-above : (ranges : List (ℕ × ℕ)) (p : ℕ) → p ≤ 39419 → last_range_scalar ranges p ≡ None → p < next_pointer ranges
 next-above [] p h e = omega arith
-next-above (r ∷ ranges) p h e = go (last_range_scalar ranges p) (nat_le r.0 p) refl e
+next-above (r ∷ ranges) p h e = none-ahead (r ∷ ranges) p e 0 (omega arith)
+
+-- a range gives p its scalar, or is the last that starts at or before p
+pub last-cases : (r : ℕ × ℕ) (ranges : List (ℕ × ℕ)) (p c : ℕ) → last_range_scalar (r ∷ ranges) p ≡ Some c
+    → (last_range_scalar ranges p ≡ Some c) ⊎ ((last_range_scalar ranges p ≡ None) × (r.0 ≤ p) × (r.1 + (p - r.0) ≡ c))
+last-cases r ranges p c e = go (last_range_scalar ranges p) e
   where
-    go : (o : Option ℕ) (t : Bool) → nat_le r.0 p ≡ t → option_or o (cond t (Some (r.1 + (p - r.0))) None) ≡ None → p < r.0
-    go None true q z = cc
-    go None false q z = leb-false r.0 p q
-    go (Some x) t q z = cc
+    go : (o : Option ℕ) → option_or o (cond (nat_le r.0 p) (Some (r.1 + (p - r.0))) None) ≡ Some c
+        → (o ≡ Some c) ⊎ ((o ≡ None) × (r.0 ≤ p) × (r.1 + (p - r.0) ≡ c))
+    go (Some x) z = inl z
+    go None z = let t = cond_some _ _ c z in inr (refl, leb-true r.0 p t.0, t.1)
 
 in_range-narrow : (r0 r1 end p : ℕ) → has_range_scalars (r0, r1) end ≡ true → r0 ≤ p → p < end → r1 + (p - r0) < 0x1_0000
 in_range-narrow r0 r1 end p h l g = grind (arith, nat_tests)
@@ -301,34 +295,27 @@ in_range-scalar : (r0 r1 end p : ℕ) → has_range_scalars (r0, r1) end ≡ tru
 in_range-scalar r0 r1 end p h l g = grind (arith, nat_tests)
 
 -- ranges give only scalars below U+10000
-pub last_range-narrow : (place : ℕ) (ranges : List (ℕ × ℕ)) → range_value_fault place ranges ≡ None → (p c : ℕ) → p ≤ 39419 → last_range_scalar ranges p ≡ Some c → IsScalar c × (c < 0x1_0000)
+pub last_range-narrow : (place : ℕ) (ranges : List (ℕ × ℕ)) → range_value_fault place ranges ≡ None
+    → (p c : ℕ) → p ≤ 39419 → last_range_scalar ranges p ≡ Some c → IsScalar c × (c < 0x1_0000)
 unfolding range_value_fault
 last_range-narrow place [] e p c h is = cc
 last_range-narrow place (r ∷ ranges) e p c h is =
-    go (last_range_scalar ranges p) (nat_le r.0 p) refl refl is (last_range-narrow (place + 1) ranges t.1 p c h)
-  where
-    t : (has_range_scalars r (next_pointer ranges) ≡ true) × (range_value_fault (place + 1) ranges ≡ None)
-    t = taken _ (RangeValue place) (range_value_fault (place + 1) ranges) e
-
-    go : (o : Option ℕ) (b : Bool) → last_range_scalar ranges p ≡ o → nat_le r.0 p ≡ b → option_or o (cond b (Some (r.1 + (p - r.0))) None) ≡ Some c →
-        (last_range_scalar ranges p ≡ Some c → IsScalar c × (c < 0x1_0000)) → IsScalar c × (c < 0x1_0000)
-    go (Some x) b q s z more = more (q ∙ z)
-    go None false q s z more = cc
-    go None true q s z more =
-        let low = leb-true r.0 p s in
-        let high = next-above ranges p h q in
-        let same : r.1 + (p - r.0) ≡ c = cc in
-        subst (λ c. IsScalar c × (c < 0x1_0000)) same (in_range-scalar r.0 r.1 _ p t.0 low high, in_range-narrow r.0 r.1 _ p t.0 low high)
+    let t = taken _ (RangeValue place) (range_value_fault (place + 1) ranges) e in
+    elim (last-cases r ranges p c is) [
+      | inl later ↦ last_range-narrow (place + 1) ranges t.1 p c h later
+      | inr here ↦
+          let high = next-above ranges p h here.0 in
+          rw (← here.2) (in_range-scalar r.0 r.1 _ p t.0 here.1 high, in_range-narrow r.0 r.1 _ p t.0 here.1 high)
+    ]
 
 -- ---- look-ups
 
 -- the scalar of an entry is the entry, which is not 0
 pub entry_scalar-is : (e c : ℕ) → entry_scalar e ≡ Some c → (c ≢ 0) × (e ≡ c)
-entry_scalar-is e c h = go (e == 0) refl h
-  where
-    go : (t : Bool) → (e == 0) ≡ t → cond t None (Some e) ≡ Some c → (c ≢ 0) × (e ≡ c)
-    go true f z = cc
-    go false f z = let same : e ≡ c = cc in (λ n. let k = eq-eqb e 0 (same ∙ n) in cc, same)
+entry_scalar-is e c h = elim (cases_eq e 0) [
+  | inl none ↦ let no = rw (eq-eqb e 0 none) at h in cc
+  | inr some ↦ let same = same_Some e c (rw (ne_eqb e 0 some) at h) in (λ n. some (same ∙ n), same)
+]
 
 -- a property of all entries of an index holds for the scalar of each pointer
 pub idx-all : (P : ℕ → Type 0) (index : List ℕ) → All P index → (p c : ℕ) → idx index p ≡ Some c → P c
@@ -339,14 +326,28 @@ idx-all P (x ∷ xs) all (suc p) c e = idx-all P xs (λ k d l. all (suc k) d (om
 wide-scalar : (p : ℕ) → is_in_range 189000 1237575 p ≡ true → IsScalar (0x1_0000 + (p - 189000))
 wide-scalar p h = grind (arith, nat_tests)
 
+-- the three ways in which `range` gives a scalar
+pub range-cases : (ranges : List (ℕ × ℕ)) (p c : ℕ) → range ranges p ≡ Some c → (c ≡ 0xE7C7)
+    ⊎ (((is_in_range 189000 1237575 p ≡ true) × (0x1_0000 + (p - 189000) ≡ c))
+    ⊎ ((p ≢ 7457) × (p ≤ 39419) × (last_range_scalar ranges p ≡ Some c)))
+unfolding range
+range-cases ranges p c e = go (p == 7457) (is_in_range 189000 1237575 p) (nat_le p 39419) refl refl e
+  where
+    go : (a b t : Bool) → (p == 7457) ≡ a → nat_le p 39419 ≡ t
+        → cond a (Some 0xE7C7) (cond b (Some (0x1_0000 + (p - 189000))) (cond t (last_range_scalar ranges p) None)) ≡ Some c
+        → (c ≡ 0xE7C7) ⊎ (((b ≡ true) × (0x1_0000 + (p - 189000) ≡ c))
+        ⊎ ((p ≢ 7457) × (p ≤ 39419) × (last_range_scalar ranges p ≡ Some c)))
+    go true b t q s z = inl (sym (same_Some 0xE7C7 c z))
+    go false true t q s z = inr (inl (refl, same_Some _ c z))
+    go false false true q s z = inr (inr (eqb-false p 7457 q, leb-true p 39419 s, z))
+    go false false false q s z = cc
+
 -- `range` gives only scalars for accepted ranges
 pub range-scalar : (flat : FlatIndexes) → AreAccepted flat → (p c : ℕ) → range flat.ranges p ≡ Some c → IsScalar c
-unfolding range
-range-scalar flat accepted p c e = go (p == 7457) (is_in_range 189000 1237575 p) (nat_le p 39419) refl refl e
-  where
-    go : (a b t : Bool) → is_in_range 189000 1237575 p ≡ b → nat_le p 39419 ≡ t
-        → cond a (Some 0xE7C7) (cond b (Some (0x1_0000 + (p - 189000))) (cond t (last_range_scalar flat.ranges p) None)) ≡ Some c → IsScalar c
-    go true b t q s z = let same : 0xE7C7 ≡ c = cc in subst IsScalar same refl
-    go false true t q s z = let same : 0x1_0000 + (p - 189000) ≡ c = cc in subst IsScalar same (wide-scalar p q)
-    go false false true q s z = (last_range-narrow 0 flat.ranges (parts flat accepted).valued p c (leb-true p 39419 s) z).0
-    go false false false q s z = cc
+range-scalar flat accepted p c e = elim (range-cases flat.ranges p c e) [
+  | inl fixed ↦ rw fixed refl
+  | inr other ↦ elim other [
+    | inl wide ↦ rw (← wide.1) (wide-scalar p wide.0)
+    | inr g ↦ (last_range-narrow 0 flat.ranges (parts flat accepted).valued p c g.1 g.2).0
+  ]
+]

@@ -1,7 +1,7 @@
 -- Facts about single-byte tables that passed their check.
 use Rattle.std.proofs.Common.{◌≡◌, ◌≢◌, ◌∙◌, ℕ, zero, suc, ◌+◌, ◌<◌, List, [], ◌∷◌, length, get_or, refl, sym, one-add, arith}
 use Rattle.std.proofs.Common.{Some, None, true, false, Bool, ◌||◌, ◌↔◌, not, cond, eqb, eq-eqb, ◌==◌, position, inl, inr, subst}
-use Rattle.std.proofs.lemmas.Bool.{eqb-true, ne_eqb, cases_lt, lt-ltb}
+use Rattle.std.proofs.lemmas.Bool.{eqb-true, ne_eqb, or_parts, cases_lt, lt-ltb}
 use Rattle.std.proofs.lemmas.Bool.Decides.{nat_tests}
 use Rattle.std.proofs.lemmas.List.{get_or_past}
 use Rattle.std.proofs.lemmas.List.Elements.{All-nil, All-cons}
@@ -12,37 +12,30 @@ use Rattle.legacy_tables.specs.declared.tables.TableError.TheVariants.{BadByteEn
 use Rattle.legacy_tables.specs.Indexes.{idx}
 use Rattle.legacy_tables.specs.Unicode.{AreScalars}
 use Rattle.legacy_tables.specs.TableChecks.{is_byte_entry, byte_entry_fault, byte_entries_fault, IsAcceptedTable}
-use Rattle.legacy_tables.proofs.Accepted.{or_none, entry_has, entry_scalar-is}
-
-or_false : (a b : Bool) → (a || b) ≡ false → (a ≡ false) × (b ≡ false)
-or_false true b e = cc
-or_false false b e = (refl, e)
+use Rattle.legacy_tables.proofs.Accepted.{or_none, untaken, entry_has, entry_scalar-is}
 
 -- an accepted entry that is not 0 is not among the entries before it
 once : (place : ℕ) (before : List ℕ) (c : ℕ) → byte_entry_fault place before c ≡ None → c ≢ 0 → list_any (λ x. eqb x c) before ≡ false
-once place before c f n = go (is_byte_entry c) (list_any (λ x. eqb x c) before) (rw (ne_eqb c 0 n) at f)
-  where
-    go : (good any : Bool) → cond (not good) (Some (BadByteEntry place)) (cond any (Some (Repeated place)) None) ≡ None → any ≡ false
-    go good false e = refl
-    go true true e = cc
-    go false true e = cc
+once place before c f n = (untaken _ (Repeated place) None (untaken _ (BadByteEntry place) _ (rw (ne_eqb c 0 n) at f)).1).0
 
-apart : (place : ℕ) (before entries : List ℕ) (k c : ℕ) → byte_entries_fault place before entries ≡ None → get_or entries k 0 ≡ c → c ≢ 0 → list_any (λ x. eqb x c) before ≡ false
+apart : (place : ℕ) (before entries : List ℕ) (k c : ℕ) → byte_entries_fault place before entries ≡ None → get_or entries k 0 ≡ c → c ≢ 0
+    → list_any (λ x. eqb x c) before ≡ false
 unfolding byte_entries_fault
 apart place before [] k c f e n = absurd (n (sym e))
-apart place before (x ∷ xs) zero c f e n = once place before c (subst (λ y. byte_entry_fault place before y ≡ None) e (or_none (byte_entry_fault place before x) _ f).0) n
+apart place before (x ∷ xs) zero c f e n = once place before c (rw e at (or_none (byte_entry_fault place before x) _ f).0) n
 apart place before (x ∷ xs) (suc k) c f e n =
-    (or_false (eqb x c) (list_any (λ z. eqb z c) before) (apart (place + 1) (x ∷ before) xs k c (or_none (byte_entry_fault place before x) _ f).1 e n)).1
+    (or_parts (eqb x c) _ (apart (place + 1) (x ∷ before) xs k c (or_none (byte_entry_fault place before x) _ f).1 e n)).1
 
 -- the place of a scalar is its first place
-first_place : (place : ℕ) (before entries : List ℕ) (k c : ℕ) → byte_entries_fault place before entries ≡ None → get_or entries k 0 ≡ c → c ≢ 0 → position_or_len (λ x. x == c) entries ≡ k
+first_place : (place : ℕ) (before entries : List ℕ) (k c : ℕ) → byte_entries_fault place before entries ≡ None → get_or entries k 0 ≡ c
+    → c ≢ 0
+    → position_or_len (λ x. x == c) entries ≡ k
 unfolding byte_entries_fault
 first_place place before [] k c f e n = absurd (n (sym e))
 first_place place before (x ∷ xs) zero c f e n = rw (e, eq-eqb c c refl) refl
 first_place place before (x ∷ xs) (suc k) c f e n =
     let rest = (or_none (byte_entry_fault place before x) _ f).1 in
-    let other = (or_false (eqb x c) (list_any (λ z. eqb z c) before) (apart (place + 1) (x ∷ before) xs k c rest e n)).0 in
-    rw (other, first_place (place + 1) (x ∷ before) xs k c rest e n) (one-add k)
+    rw ((or_parts (eqb x c) _ (apart (place + 1) (x ∷ before) xs k c rest e n)).0, first_place (place + 1) (x ∷ before) xs k c rest e n) (one-add k)
 
 byte-scalar : (e : ℕ) → is_byte_entry e ≡ true → IsScalar e
 byte-scalar e h = grind (arith, nat_tests)
@@ -50,12 +43,14 @@ byte-scalar e h = grind (arith, nat_tests)
 byte-below : (e : ℕ) → is_byte_entry e ≡ true → e < 0x1_0000
 byte-below e h = grind (arith, nat_tests)
 
-all_bytes : (P : ℕ → Type 0) → P 0 → ((e : ℕ) → is_byte_entry e ≡ true → P e) → (place : ℕ) (before entries : List ℕ) → byte_entries_fault place before entries ≡ None → All P entries
+all_bytes : (P : ℕ → Type 0) → P 0 → ((e : ℕ) → is_byte_entry e ≡ true → P e) → (place : ℕ) (before entries : List ℕ)
+    → byte_entries_fault place before entries ≡ None → All P entries
 unfolding byte_entries_fault
 all_bytes P at_zero good place before [] e = All-nil P
 all_bytes P at_zero good place before (x ∷ xs) e =
     let h = or_none (byte_entry_fault place before x) _ e in
-    All-cons P x xs (entry_has P x (is_byte_entry x) (BadByteEntry place) _ at_zero (good x) h.0) (all_bytes P at_zero good (place + 1) (x ∷ before) xs h.1)
+    All-cons P x xs (entry_has P x (is_byte_entry x) (BadByteEntry place) _ at_zero (good x) h.0)
+    (all_bytes P at_zero good (place + 1) (x ∷ before) xs h.1)
 
 module _ (table : List ℕ) (accepted : IsAcceptedTable table) where
   -- the entries of the table are scalars of the Basic Multilingual Plane

@@ -1,18 +1,20 @@
 -- Runs in order, and the scalars that they give.
-use Rattle.std.proofs.Common.{◌≡◌, ◌∙◌, ℕ, zero, suc, ◌+◌, ◌-◌, ◌≤◌, ◌<◌, List, [], ◌∷◌, length, map, get_or, drop, drop-cons, add-one, refl, sym, ap, arith, Some, None}
-use Rattle.std.proofs.Common.{Option, true, false, Bool, ◌&&◌, cond, nat_le, nat_lt, inl, inr}
-use Rattle.std.proofs.lemmas.Bool.{cases_lt}
+use Rattle.std.proofs.Common.{◌≡◌, ◌∙◌, ℕ, zero, suc, ◌+◌, ◌-◌, ◌≤◌, ◌<◌, List, [], ◌∷◌, length, get_or, drop, drop-cons}
+use Rattle.std.proofs.Common.{add-one, refl}
+use Rattle.std.proofs.Common.{sym, ap, arith, Some, None, true, false, ◌&&◌, cond, nat_le, inl, inr}
+use Rattle.std.proofs.Math.Bool.{and-false}
+use Rattle.std.proofs.Math.ListN.{drop_of_length-le}
+use Rattle.std.proofs.lemmas.Bool.{and_parts, cases_lt}
 use Rattle.std.proofs.lemmas.List.{get_or_past}
 use Rattle.std.proofs.lemmas.List.FromFn.{get_or-map-range_with_len, length-map-range_with_len}
-use Rattle.std.proofs.Math.ListN.{drop_of_length-le}
-use Rattle.std.specs.List.{range_with_len}
 use Rattle.std.specs.List.Sorted.{IsNonDecreasingBy}
 use Rattle.std.specs.Option.{option_map_or}
 use borrow.Author.Tests.{ltb-true, leb-true, le-leb, lt-leb, lt-ltb, le-ltb}
 use Rattle.legacy_tables.specs.declared.tables.packed.Run.{Run}
 use Rattle.legacy_tables.specs.Packed.{differs_at}
-use Rattle.legacy_tables.proofs.FirstPlaces.{both_true, taken, less}
-use Rattle.legacy_tables.specs.Runs.{run_at, HasPointer, run_end, run_scalar, runs_scalar, runs_entry, runs_end, runs_list, is_run_in_order, run_fault_from, run_fault, AreInOrder, IsFirstBehind}
+use Rattle.legacy_tables.specs.Runs.{run_at, HasPointer, run_end, run_scalar, runs_scalar, runs_entry, runs_end, runs_list, is_run_in_order}
+use Rattle.legacy_tables.specs.Runs.{run_fault_from, run_fault, AreInOrder, IsFirstBehind}
+use Rattle.legacy_tables.proofs.FirstPlaces.{taken}
 
 -- a run without pointers
 abbrev pub no_run : Run
@@ -20,60 +22,54 @@ no_run = record { pointer = 0; scalar = 0; length = 0 }
 
 -- ---- the order of runs, as a loop reads it
 
-module _ (limit : ℕ) (runs : List Run) (place before : ℕ) (d : Run) (all : Option ℕ) (so_far : all ≡ run_fault_from place before limit (drop place runs)) where
-  pub run-pass : place < length runs → is_run_in_order before limit (get_or runs place d) ≡ true → all ≡ run_fault_from (place + 1) (run_end (get_or runs place d)) limit (drop (place + 1) runs)
+module _ (limit : ℕ) (runs : List Run) (place before : ℕ) where
+  pub runs_next : place < length runs → run_fault_from place before limit (drop place runs)
+      ≡ cond (is_run_in_order before limit (run_at runs place)) (run_fault_from (place + 1) (run_end (run_at runs place)) limit (drop (place + 1) runs))
+      (Some place)
   unfolding run_fault_from
-  run-pass h f = so_far ∙ rw (drop-cons runs place d h, f, add-one) refl
+  runs_next h = rw (drop-cons runs place no_run h, add-one) refl
 
-  pub run-fail : place < length runs → is_run_in_order before limit (get_or runs place d) ≡ false → all ≡ Some place
+  pub runs_over : length runs ≤ place → run_fault_from place before limit (drop place runs) ≡ None
   unfolding run_fault_from
-  run-fail h f = so_far ∙ rw (drop-cons runs place d h, f) refl
-
-  pub run-done : length runs ≤ place → all ≡ None
-  unfolding run_fault_from
-  run-done h = so_far ∙ rw (drop_of_length-le runs h) refl
+  runs_over h = rw (drop_of_length-le runs h) refl
 
 -- ---- runs in order, one by one
 
 -- a run that begins at or after a pointer
-record IsBehind (before limit : ℕ) (run : Run) : Type 0 where
-  full : 0 < run.length
-  behind : before ≤ run.pointer
-  reach : run_end run ≤ limit
-  scalars : run.scalar + run.length ≤ 0x11_0000
+pub record IsBehind (before limit : ℕ) (run : Run) : Type 0 where
+  pub full : 0 < run.length
+  pub behind : before ≤ run.pointer
+  pub reach : run_end run ≤ limit
+  pub scalars : run.scalar + run.length ≤ 0x11_0000
 
-in_order-behind : (before limit : ℕ) (run : Run) → is_run_in_order before limit run ≡ true → IsBehind before limit run
-in_order-behind before limit run e =
-    let a = both_true _ _ e in
-    let b = both_true _ _ a.0 in
-    let c = both_true _ _ a.1 in
-    record { full = ltb-true 0 run.length b.0; behind = leb-true before run.pointer b.1; reach = leb-true (run_end run) limit c.0; scalars = leb-true (run.scalar + run.length) 0x11_0000 c.1 }
+pub in_order : (before limit : ℕ) (run : Run) → is_run_in_order before limit run ≡ true → IsBehind before limit run
+in_order before limit run e =
+    let a = and_parts _ _ e in
+    let b = and_parts _ _ a.0 in
+    let c = and_parts _ _ a.1 in
+    record { full = ltb-true 0 _ b.0; behind = leb-true before _ b.1; reach = leb-true (run_end run) limit c.0; scalars = leb-true _ 0x11_0000 c.1 }
 
-pub in_order-reach : (before limit : ℕ) (run : Run) → is_run_in_order before limit run ≡ true → run_end run ≤ limit
-in_order-reach before limit run e = (in_order-behind before limit run e).reach
-
-behind_all : (place before limit : ℕ) (runs : List Run) → run_fault_from place before limit runs ≡ None → (i : ℕ) (d : Run) → i < length runs → IsBehind before limit (get_or runs i d)
+behind_all : (place before limit : ℕ) (runs : List Run) → run_fault_from place before limit runs ≡ None
+    → (i : ℕ) (d : Run) → i < length runs → IsBehind before limit (get_or runs i d)
 unfolding run_fault_from
 behind_all place before limit [] e i d h = absurd (omega arith)
 behind_all place before limit (run ∷ runs) e zero d h =
-    in_order-behind before limit run (taken _ place (run_fault_from (place + 1) (run_end run) limit runs) e).0
+    in_order before limit run (taken _ place (run_fault_from (place + 1) (run_end run) limit runs) e).0
 behind_all place before limit (run ∷ runs) e (suc i) d h =
-    let t = taken _ place (run_fault_from (place + 1) (run_end run) limit runs) e in
-    let first = in_order-behind before limit run t.0 in
-    further first (behind_all (place + 1) (run_end run) limit runs t.1 i d (less i (length runs) h))
-  where
-    further : {r : Run} → IsBehind before limit run → IsBehind (run_end run) limit r → IsBehind before limit r
-    further {r} first next = record { full = next.full; behind = let a = first.behind in let b = next.behind in omega arith; reach = next.reach; scalars = next.scalars }
+    let t = taken (is_run_in_order before limit run) place (run_fault_from (place + 1) (run_end run) limit runs) e in
+    let first = (in_order before limit run t.0).behind in
+    let next = behind_all (place + 1) (run_end run) limit runs t.1 i d (omega arith) in
+    record { full = next.full; behind = let later = next.behind in omega arith; reach = next.reach; scalars = next.scalars }
 
-rising_ends : (place before limit : ℕ) (runs : List Run) → run_fault_from place before limit runs ≡ None → (i j : ℕ) (d : Run) → i < j → j < length runs →
-    run_end (get_or runs i d) ≤ (get_or runs j d).pointer
+rising_ends : (place before limit : ℕ) (runs : List Run) → run_fault_from place before limit runs ≡ None
+    → (i j : ℕ) (d : Run) → i < j → j < length runs → run_end (get_or runs i d) ≤ (get_or runs j d).pointer
 unfolding run_fault_from
 rising_ends place before limit [] e i j d h l = absurd (omega arith)
 rising_ends place before limit (run ∷ runs) e i zero d h l = absurd (omega arith)
 rising_ends place before limit (run ∷ runs) e zero (suc j) d h l =
-    (behind_all (place + 1) (run_end run) limit runs (taken _ place (run_fault_from (place + 1) (run_end run) limit runs) e).1 j d (less j (length runs) l)).behind
+    (behind_all (place + 1) (run_end run) limit runs (taken _ place (run_fault_from (place + 1) (run_end run) limit runs) e).1 j d (omega arith)).behind
 rising_ends place before limit (run ∷ runs) e (suc i) (suc j) d h l =
-    rising_ends (place + 1) (run_end run) limit runs (taken _ place (run_fault_from (place + 1) (run_end run) limit runs) e).1 i j d (less i j h) (less j (length runs) l)
+    rising_ends (place + 1) (run_end run) limit runs (taken _ place (run_fault_from (place + 1) (run_end run) limit runs) e).1 i j d (omega arith) (omega arith)
 
 -- runs without a fault are in order
 pub are_in_order : (limit : ℕ) (runs : List Run) → run_fault limit runs ≡ None → AreInOrder limit runs
@@ -83,10 +79,6 @@ are_in_order limit runs e = record {
   scalars = λ i d h. (behind_all 0 0 limit runs e i d h).scalars;
   rising = rising_ends 0 0 limit runs e;
 }
-
--- each run ends within the limit
-pub run-reach : (limit : ℕ) (runs : List Run) → run_fault limit runs ≡ None → (i : ℕ) (d : Run) → i < length runs → run_end (get_or runs i d) ≤ limit
-run-reach limit runs e i d h = (behind_all 0 0 limit runs e i d h).reach
 
 -- ---- the first pointers of runs rise
 
@@ -102,57 +94,44 @@ pub outside-before : (run : Run) (p : ℕ) → p < run.pointer → run_scalar ru
 outside-before run p h = rw (lt-leb run.pointer p h) refl
 
 pub outside-behind : (run : Run) (p : ℕ) → run_end run ≤ p → run_scalar run p ≡ None
-outside-behind run p h = go (nat_le run.pointer p)
-  where
-    go : (t : Bool) → cond (t && nat_lt p (run_end run)) (Some (run.scalar + (p - run.pointer))) None ≡ None
-    go true = rw (le-ltb p (run_end run) h) refl
-    go false = refl
+outside-behind run p h = rw (le-ltb p (run_end run) h, and-false (nat_le run.pointer p)) refl
 
-pub inside : (run : Run) (p : ℕ) → run.pointer ≤ p → p < run_end run → run_scalar run p ≡ Some (run.scalar + (p - run.pointer))
-inside run p h l = rw (le-leb run.pointer p h, lt-ltb p (run_end run) l) refl
-
-pub scalar-none : (runs : List Run) (p : ℕ) → ((k : ℕ) → k < length runs → run_scalar (get_or runs k no_run) p ≡ None) → runs_scalar runs p ≡ None
+pub scalar-none : (runs : List Run) (p : ℕ) → ((k : ℕ) → k < length runs → run_scalar (run_at runs k) p ≡ None) → runs_scalar runs p ≡ None
 scalar-none [] p all = refl
-scalar-none (run ∷ runs) p all =
-    let here : run_scalar run p ≡ None = all 0 (omega arith) in
-    rw here (scalar-none runs p (λ k h. all (suc k) (omega arith)))
+scalar-none (run ∷ runs) p all = rw (all 0 (omega arith)) (scalar-none runs p (λ k h. all (suc k) (omega arith)))
 
-pub scalar-some : (runs : List Run) (p n c : ℕ) → n < length runs → run_scalar (get_or runs n no_run) p ≡ Some c → ((k : ℕ) → k < n → run_scalar (get_or runs k no_run) p ≡ None) →
-    runs_scalar runs p ≡ Some c
+scalar-some : (runs : List Run) (p n c : ℕ) → n < length runs → run_scalar (run_at runs n) p ≡ Some c
+    → ((k : ℕ) → k < n → run_scalar (run_at runs k) p ≡ None) → runs_scalar runs p ≡ Some c
 scalar-some [] p n c h is before = absurd (omega arith)
 scalar-some (run ∷ runs) p zero c h is before = let here : run_scalar run p ≡ Some c = is in rw here refl
 scalar-some (run ∷ runs) p (suc n) c h is before =
-    let here : run_scalar run p ≡ None = before 0 (omega arith) in
-    rw here (scalar-some runs p n c (less n (length runs) h) is (λ k l. before (suc k) (omega arith)))
+    rw (before 0 (omega arith)) (scalar-some runs p n c (omega arith) is (λ k l. before (suc k) (omega arith)))
 
 module _ {limit : ℕ} (runs : List Run) (ordered : AreInOrder limit runs) (p : ℕ) where
   -- a run that has the pointer gives its scalar
   pub scalar-had : (n : ℕ) → HasPointer runs n p → runs_scalar runs p ≡ Some ((run_at runs n).scalar + (p - (run_at runs n).pointer))
-  scalar-had n has = scalar-some runs p n _ has.within (inside (run_at runs n) p has.from has.before)
-      (λ k h.
-      let end = ordered.rising k n no_run h has.within in
-      let from = has.from in
-      outside-behind (run_at runs k) p (omega arith))
+  scalar-had n has =
+      scalar-some runs p n _ has.within (rw (le-leb (run_at runs n).pointer p has.from, lt-ltb p (run_end (run_at runs n)) has.before) refl)
+      (λ k h. let end = ordered.rising k n no_run h has.within in let from = has.from in outside-behind (run_at runs k) p (omega arith))
 
   -- no run has a pointer after the last run that starts at or before it
-  pub none-has : (n : ℕ) → ((k : ℕ) → n ≤ k → k < length runs → p < (run_at runs k).pointer) → (0 < n → run_end (run_at runs (n - 1)) ≤ p) → n ≤ length runs → runs_scalar runs p ≡ None
+  pub none-has : (n : ℕ) → ((k : ℕ) → n ≤ k → k < length runs → p < (run_at runs k).pointer)
+      → (0 < n → run_end (run_at runs (n - 1)) ≤ p) → n ≤ length runs → runs_scalar runs p ≡ None
   none-has n ahead behind within = scalar-none runs p (λ k l. elim (cases_lt k n) [
-    | inl h ↦ outside-behind (run_at runs k) p (up_to k h (behind (omega arith)))
+    | inl h ↦ outside-behind (run_at runs k) p (elim (cases_lt k (n - 1)) [
+      | inl m ↦ let last = behind (omega arith) in let end = ordered.rising k (n - 1) no_run m (omega arith) in omega arith
+      | inr m ↦ let same : k ≡ n - 1 = omega arith in rw same (behind (omega arith))
+    ])
     | inr h ↦ outside-before (run_at runs k) p (ahead k h l)
   ])
-    where
-      up_to : (k : ℕ) → k < n → run_end (run_at runs (n - 1)) ≤ p → run_end (run_at runs k) ≤ p
-      up_to k h e = elim (cases_lt k (n - 1)) [
-        | inl m ↦ let end = ordered.rising k (n - 1) no_run m (omega arith) in omega arith
-        | inr m ↦ let same : k ≡ n - 1 = omega arith in rw same e
-      ]
 
 -- ---- the first run that ends after a pointer
 
 module _ {limit : ℕ} (runs : List Run) (ordered : AreInOrder limit runs) where
   -- for pointer 0 it is the first run
   pub first-behind : IsFirstBehind runs 0 0
-  first-behind = record { within = omega arith; ended = λ k h. absurd (omega arith); behind = λ h. let full = ordered.full 0 no_run h in omega arith }
+  first-behind =
+      record { within = omega arith; ended = λ k h. absurd (omega arith); behind = λ h. let full = ordered.full 0 no_run h in omega arith }
 
   module _ (n p : ℕ) (first : IsFirstBehind runs n p) where
     -- a pointer before it has no scalar
@@ -160,13 +139,14 @@ module _ {limit : ℕ} (runs : List Run) (ordered : AreInOrder limit runs) where
     scalar-before before = scalar-none runs p (λ k h. elim (cases_lt k n) [
       | inl l ↦ outside-behind (run_at runs k) p (first.ended k l)
       | inr l ↦ elim (cases_lt n k) [
-        | inl m ↦ let low = before (omega arith) in let full = ordered.rising n k no_run m h in outside-before (run_at runs k) p (omega arith)
-        | inr m ↦ let same : k ≡ n = omega arith in let low = before (omega arith) in outside-before (run_at runs k) p (rw same low)
+        | inl m ↦ let low = before (omega arith) in let up = ordered.rising n k no_run m h in outside-before (run_at runs k) p (omega arith)
+        | inr m ↦ let same : k ≡ n = omega arith in outside-before (run_at runs k) p (rw same (before (omega arith)))
       ]
     ])
 
     -- a pointer from its start on has the scalar that it gives
-    pub scalar-within : (within : n < length runs) → (run_at runs n).pointer ≤ p → runs_scalar runs p ≡ Some ((run_at runs n).scalar + (p - (run_at runs n).pointer))
+    pub scalar-within : n < length runs → (run_at runs n).pointer ≤ p
+        → runs_scalar runs p ≡ Some ((run_at runs n).scalar + (p - (run_at runs n).pointer))
     scalar-within within from = scalar-had runs ordered p n (record { within = within; from = from; before = first.behind within })
 
 -- if neither runs nor an index have a pointer, they do not differ there
@@ -175,12 +155,12 @@ same-behind runs index p h e = rw (get_or_past index p 0 h, e) refl
 
 -- ---- the flat list of runs
 
-pub end_most : (runs : List Run) (k : ℕ) → k < length runs → run_end (get_or runs k no_run) ≤ runs_end runs
+pub end_most : (runs : List Run) (k : ℕ) → k < length runs → run_end (run_at runs k) ≤ runs_end runs
 end_most [] k h = absurd (omega arith)
 end_most (run ∷ runs) zero h = omega arith
-end_most (run ∷ runs) (suc k) h = let m = end_most runs k (less k (length runs) h) in omega arith
+end_most (run ∷ runs) (suc k) h = let m = end_most runs k (omega arith) in omega arith
 
-pub runs_end-within : (limit : ℕ) (runs : List Run) → ((k : ℕ) → k < length runs → run_end (get_or runs k no_run) ≤ limit) → runs_end runs ≤ limit
+pub runs_end-within : (limit : ℕ) (runs : List Run) → ((k : ℕ) → k < length runs → run_end (run_at runs k) ≤ limit) → runs_end runs ≤ limit
 runs_end-within limit [] all = omega arith
 runs_end-within limit (run ∷ runs) all =
     let first : run_end run ≤ limit = all 0 (omega arith) in
@@ -191,38 +171,35 @@ pub runs_list-length : (runs : List Run) → length (runs_list runs) ≡ runs_en
 unfolding runs_list
 runs_list-length runs = length-map-range_with_len (runs_entry runs) 0 (runs_end runs)
 
--- the flat list has the entry that the runs give each pointer
-pub runs_list-entry : (runs : List Run) (p : ℕ) → get_or (runs_list runs) p 0 ≡ runs_entry runs p
-unfolding runs_list
-runs_list-entry runs p = elim (cases_lt p (runs_end runs)) [
-  | inl h ↦ get_or-map-range_with_len (runs_entry runs) 0 (runs_end runs) p p 0 h (omega arith)
-  | inr h ↦
-      let past : length (map (runs_entry runs) (range_with_len 0 (runs_end runs))) ≤ p = rw (length-map-range_with_len (runs_entry runs) 0 (runs_end runs)) h in
-      let none = scalar-none runs p (λ k l. let m = end_most runs k l in outside-behind (get_or runs k no_run) p (omega arith)) in
-      get_or_past (map (runs_entry runs) (range_with_len 0 (runs_end runs))) p 0 past ∙ sym (ap (λ o. option_map_or (λ c. c) o 0) none)
-]
-
--- the flat list ends with the last run
-pub runs_end-last : {limit : ℕ} (runs : List Run) → AreInOrder limit runs → (n : ℕ) → n + 1 ≡ length runs → run_end (run_at runs n) ≡ length (runs_list runs)
-runs_end-last runs ordered n last =
-    let most = end_most runs n (omega arith) in
-    let least = runs_end-within (run_end (run_at runs n)) runs (λ k h. up_to k h) in
-    rw (runs_list-length runs) (omega arith)
-  where
-    up_to : (k : ℕ) → k < length runs → run_end (run_at runs k) ≤ run_end (run_at runs n)
-    up_to k h = elim (cases_lt k n) [
-      | inl m ↦ let end = ordered.rising k n no_run m (omega arith) in omega arith
-      | inr m ↦ let same : k ≡ n = omega arith in rw same (omega arith)
-    ]
-
--- the flat list is empty if there are no runs
-pub runs_end-none : (runs : List Run) → length runs ≡ 0 → 0 ≡ length (runs_list runs)
-runs_end-none runs none =
-    let least = runs_end-within 0 runs (λ k h. absurd (omega arith)) in
-    rw (runs_list-length runs) (omega arith)
-
 -- no run has a pointer past the flat list
 pub scalar-past_list : (runs : List Run) (p : ℕ) → length (runs_list runs) ≤ p → runs_scalar runs p ≡ None
 scalar-past_list runs p h =
     let past : runs_end runs ≤ p = rw (← runs_list-length runs) h in
-    scalar-none runs p (λ k l. let m = end_most runs k l in outside-behind (get_or runs k no_run) p (omega arith))
+    scalar-none runs p (λ k l. let m = end_most runs k l in outside-behind (run_at runs k) p (omega arith))
+
+list_entry : (runs : List Run) (p : ℕ) → p < runs_end runs → get_or (runs_list runs) p 0 ≡ runs_entry runs p
+unfolding runs_list
+list_entry runs p h = get_or-map-range_with_len (runs_entry runs) 0 (runs_end runs) p p 0 h (omega arith)
+
+-- the flat list has the entry that the runs give each pointer
+pub runs_list-entry : (runs : List Run) (p : ℕ) → get_or (runs_list runs) p 0 ≡ runs_entry runs p
+runs_list-entry runs p = elim (cases_lt p (length (runs_list runs))) [
+  | inl h ↦ list_entry runs p (rw runs_list-length at h)
+  | inr h ↦ get_or_past (runs_list runs) p 0 h ∙ sym (ap (λ o. option_map_or (λ c. c) o 0) (scalar-past_list runs p h))
+]
+
+-- the flat list ends with the last run, and is empty if there are no runs
+pub runs_end-last : {limit : ℕ} (runs : List Run) → AreInOrder limit runs → (n : ℕ) → n + 1 ≡ length runs
+    → run_end (run_at runs n) ≡ length (runs_list runs)
+runs_end-last runs ordered n last =
+    let most = end_most runs n (omega arith) in
+    let least = runs_end-within (run_end (run_at runs n)) runs (λ k h. elim (cases_lt k n) [
+      | inl m ↦ let end = ordered.rising k n no_run m (omega arith) in omega arith
+      | inr m ↦ let same : k ≡ n = omega arith in rw same (omega arith)
+    ]) in
+    rw (runs_list-length runs) (omega arith)
+
+pub runs_end-none : (runs : List Run) → length runs ≡ 0 → 0 ≡ length (runs_list runs)
+runs_end-none runs none =
+    let least = runs_end-within 0 runs (λ k h. absurd (omega arith)) in
+    rw (runs_list-length runs) (omega arith)

@@ -1,31 +1,31 @@
 -- The greatest pointers that encoders use in accepted indexes.
-use Rattle.std.proofs.Common.{◌≡◌, ℕ, ◌<◌, ◌≤◌, List, refl, arith, Some, None, Option}
+use Rattle.std.proofs.Common.{◌≡◌, ℕ, ◌<◌, ◌≤◌, Bool, List, length, refl, arith, Some, None, Option}
+use Rattle.std.proofs.lemmas.Option.{IfSome_then}
 use Rattle.std.specs.Option.{IfSome}
 use borrow.Author.Tests.{ltb-true}
 use Rattle.legacy_tables.specs.Indexes.{FlatIndexes}
 use Rattle.legacy_tables.specs.TableChecks.{AreAccepted}
 use Rattle.legacy_tables.specs.Pointers.{every_pointer, is_shift_jis_pointer, is_jis0208_pointer, big5_pointer_of}
 use Rattle.legacy_tables.specs.Pointers.{euc_kr_pointer_of, shift_jis_pointer_of, euc_jp_pointer_of, gb18030_pointer_of, range_pointer_of}
-use Rattle.legacy_tables.proofs.Accepted.{parts, length-euc_kr, length-jis0208, length-gb18030}
+use Rattle.legacy_tables.proofs.Accepted.{parts}
 use Rattle.legacy_tables.proofs.Pointers.{IsTaken, taken-within, first-taken, big5-taken, range-taken}
 
-within_limit : (o : Option ℕ) (count limit : ℕ) → count ≤ limit → IfSome o (λ p. p < count) → IfSome o (λ p. p < limit)
-within_limit None count limit l h = tt
-within_limit (Some p) count limit l h = omega arith
-
 module _ (flat : FlatIndexes) (accepted : AreAccepted flat) (c : ℕ) where
+  bound : (may : ℕ → Bool) (index : List ℕ) (o : Option ℕ) (limit : ℕ) → length index ≤ limit → IsTaken may index c o
+      → IfSome o (λ p. p < limit)
+  bound may index o limit short taken = IfSome_then o (taken-within may index c o taken) (λ p h. omega arith)
+
   pub big5-bound : IfSome (big5_pointer_of flat.big5 c) (λ p. p < 19782)
-  big5-bound = within_limit (big5_pointer_of flat.big5 c) _ 19782 (parts flat accepted).big5.0 (taken-within _ flat.big5 c _ (big5-taken flat.big5 c))
+  big5-bound = bound _ flat.big5 _ 19782 (parts flat accepted).big5.0 (big5-taken flat.big5 c)
 
   pub euc-kr-bound : IfSome (euc_kr_pointer_of flat.euc_kr c) (λ p. p < 23940)
-  euc-kr-bound = within_limit (euc_kr_pointer_of flat.euc_kr c) _ 23940 (length-euc_kr flat accepted) (taken-within _ flat.euc_kr c _ (first-taken every_pointer flat.euc_kr c))
+  euc-kr-bound = bound _ flat.euc_kr _ 23940 (parts flat accepted).euc_kr.0 (first-taken every_pointer flat.euc_kr c)
 
   pub shift-jis-bound : IfSome (shift_jis_pointer_of flat.jis0208 c) (λ p. p < 11280)
-  shift-jis-bound =
-      within_limit (shift_jis_pointer_of flat.jis0208 c) _ 11280 (length-jis0208 flat accepted) (taken-within _ flat.jis0208 c _ (first-taken is_shift_jis_pointer flat.jis0208 c))
+  shift-jis-bound = bound _ flat.jis0208 _ 11280 (parts flat accepted).jis0208.0 (first-taken is_shift_jis_pointer flat.jis0208 c)
 
   pub gb18030-bound : IfSome (gb18030_pointer_of flat.gb18030 c) (λ p. p < 23940)
-  gb18030-bound = within_limit (gb18030_pointer_of flat.gb18030 c) _ 23940 (length-gb18030 flat accepted) (taken-within _ flat.gb18030 c _ (first-taken every_pointer flat.gb18030 c))
+  gb18030-bound = bound _ flat.gb18030 _ 23940 (parts flat accepted).gb18030.0 (first-taken every_pointer flat.gb18030 c)
 
 -- bounds by the pointers that the codec may use, and by the last pointer that has a scalar
 module _ (c : ℕ) where

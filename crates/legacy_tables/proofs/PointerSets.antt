@@ -1,5 +1,6 @@
 -- Growing sets of pointers.
-use Rattle.std.proofs.Common.{◌≡◌, ◌≢◌, ℕ, ◌*◌, ◌/◌, ◌%◌, ◌^◌, ◌<◌, ◌==◌, List, length, replicate, slice_index, slice_set, get_or-set_other, get_or-set_same, bit_or, w64, arith, true, inl, inr}
+use Rattle.std.proofs.Common.{◌≡◌, ◌≢◌, ℕ, ◌*◌, ◌/◌, ◌%◌, ◌^◌, ◌<◌, ◌==◌, List, length, replicate, slice_index, slice_set}
+use Rattle.std.proofs.Common.{get_or-set_other, get_or-set_same, bit_or, w64, arith, true, inl, inr}
 use Rattle.std.proofs.lemmas.Bool.{cases_eq, cases_lt, eqb-true}
 use Rattle.std.proofs.lemmas.List.{get_or-replicate, get_or_past, length-replicate}
 use Rattle.std.proofs.lemmas.Nat.Bits.{bit_at-zero, bit_at_set_other}
@@ -9,7 +10,12 @@ use Rattle.legacy_tables.specs.PointerSets.{HasOnly, is_in_blocks}
 
 -- an empty set
 pub none-yet : (count : ℕ) (order : List ℕ) → HasOnly (replicate count 0) order
-none-yet count order = record { only = λ p e. let clear = bit_at-zero (p % 64) in let set : bit_at 0 (p % 64) ≡ 1 = eqb-true _ 1 (rw (zeros (p / 64)) at e) in absurd (omega arith) }
+none-yet count order = record {
+  only = λ p e.
+      let clear = bit_at-zero (p % 64) in
+      let set : bit_at 0 (p % 64) ≡ 1 = eqb-true _ 1 (rw (zeros (p / 64)) at e) in
+      absurd (omega arith);
+}
   where
     zeros : (i : ℕ) → slice_index (replicate count 0) i ≡ 0
     zeros i = elim (cases_lt i count) [
@@ -31,7 +37,8 @@ only-more blocks order p now within held = record { only = λ q e. go q e }
       | inr other ↦ elim (cases_eq (q / 64) (p / 64)) [
         | inl block ↦
             let bit : q % 64 ≢ p % 64 = λ is. other (omega arith) in
-            now.only q (rw block (rw (block, get_or-set_same blocks (p / 64) word 0 within, bit_at_set_other w64 (slice_index blocks (p / 64)) (p % 64) (omega arith) (q % 64) bit) at e))
+            let kept = bit_at_set_other w64 (slice_index blocks (p / 64)) (p % 64) (omega arith) (q % 64) bit in
+            now.only q (rw block (rw (block, get_or-set_same blocks (p / 64) word 0 within, kept) at e))
         | inr apart ↦ now.only q (rw (get_or-set_other blocks (p / 64) (q / 64) word 0 apart) at e)
       ]
     ]

@@ -1,20 +1,25 @@
 -- The pointer that an encoder uses: a usable pointer of the scalar, either the first or the last one.
 use Rattle.std.proofs.Common.{◌≡◌, ◌≢◌, ◌∙◌, ℕ, ◌≤◌, ◌<◌, List, length, slice_index, refl, sym, ap, arith, Some, None}
-use Rattle.std.proofs.Common.{Option, true, false, Bool, ◌&&◌, ◌||◌, cond, find, min, nat_le, nat_lt, eqb, eq-eqb, ◌==◌, inl, inr}
-use Rattle.std.proofs.Math.Bool.{and-true, or-true}
-use Rattle.std.proofs.lemmas.Bool.{cases_lt, cases_eq, ne_eqb, eqb-true, true≢false}
+use Rattle.std.proofs.Common.{Option, true, false, Bool, ◌&&◌, ◌||◌, cond, find, min, nat_le, nat_lt, eq-eqb, ◌==◌, inl, inr}
+use Rattle.std.proofs.lemmas.Bool.{cases_lt, cases_eq, ne_eqb, eqb-true, true≢false, and_parts, cond_both, false_from_ne_true}
+use Rattle.std.proofs.lemmas.Bool.Decides.{nat_tests}
 use Rattle.std.proofs.lemmas.List.{get_or_past}
+use Rattle.std.proofs.lemmas.Option.{same_Some}
 use Rattle.std.specs.Option.{IfSome, option_map_or, option_or}
 use Rattle.std.specs.List.{range_with_len}
-use borrow.Author.Tests.{ltb-true, leb-true, lt-ltb, le-ltb, le-leb, lt-leb}
+use borrow.Author.Tests.{ltb-true, leb-true, lt-ltb, le-leb}
 use Rattle.legacy_tables.specs.Indexes.{range}
 use Rattle.legacy_tables.specs.Pointers.{every_pointer, is_shift_jis_pointer, is_pointer_of, first_pointer, last_pointer}
 use Rattle.legacy_tables.specs.Pointers.{big5_pointer_of, takes_last_big5_pointer, is_big5_pointer, is_range_pointer_of, first_range_pointer, range_pointer_of}
-use Rattle.legacy_tables.proofs.FirstPlaces.{both_true, find-some, find-none, find-none-at, find-first, last-some, last-none, last-none-at, last-passes, find-same, find-either}
+use Rattle.legacy_tables.proofs.FirstPlaces.{find-some, find-none, find-none-at, find-first, last-some, last-none, last-is, find-same, find-either}
 
 module _ (may : ℕ → Bool) (index : List ℕ) (c : ℕ) where
   hits : (p : ℕ) → may p ≡ true → slice_index index p ≡ c → is_pointer_of may index c p ≡ true
   hits p u e = rw (u, eq-eqb (slice_index index p) c e) refl
+
+  -- a pointer that is not the scalar's or is not usable
+  not_hit : (k : ℕ) → (may k ≡ true → slice_index index k ≢ c) → is_pointer_of may index c k ≡ false
+  not_hit k n = false_from_ne_true _ (λ e. let b = and_parts (may k) _ e in n b.0 (eqb-true (slice_index index k) c b.1))
 
   -- a pointer of a scalar that is not 0 is within the index
   within : (p : ℕ) → c ≢ 0 → slice_index index p ≡ c → p < length index
@@ -23,198 +28,134 @@ module _ (may : ℕ → Bool) (index : List ℕ) (c : ℕ) where
     | inr h ↦ absurd (n (sym e ∙ get_or_past index p 0 h))
   ]
 
-  pub first-zero : c ≡ 0 → first_pointer may index c ≡ None
+  pub first-is : c ≢ 0 → (p : ℕ) → p < length index → may p ≡ true → slice_index index p ≡ c
+      → ((k : ℕ) → k < p → is_pointer_of may index c k ≡ false) → first_pointer may index c ≡ Some p
   unfolding first_pointer
-  first-zero e = rw (eq-eqb c 0 e) refl
-
-  pub first-is : c ≢ 0 → (p : ℕ) → p < length index → may p ≡ true → slice_index index p ≡ c → ((k : ℕ) → k < p → is_pointer_of may index c k ≡ false) → first_pointer may index c ≡ Some p
-  unfolding first_pointer
-  first-is n p h u e before = rw (ne_eqb c 0 n) (find-some (is_pointer_of may index c) 0 (length index) p (omega arith) (omega arith) (hits p u e) (λ k l m. before k m))
+  first-is n p h u e before =
+      rw (ne_eqb c 0 n) (find-some (is_pointer_of may index c) 0 (length index) p (omega arith) (omega arith) (hits p u e) (λ k l m. before k m))
 
   pub first-none : ((k : ℕ) → k < length index → is_pointer_of may index c k ≡ false) → first_pointer may index c ≡ None
   unfolding first_pointer
-  first-none all = elim (cases_eq c 0) [
-    | inl e ↦ rw (eq-eqb c 0 e) refl
-    | inr n ↦ rw (ne_eqb c 0 n) (find-none (is_pointer_of may index c) 0 (length index) (λ k l m. all k (omega arith)))
-  ]
-
-  pub last-zero : c ≡ 0 → last_pointer may index c ≡ None
-  unfolding last_pointer
-  last-zero e = rw (eq-eqb c 0 e) refl
-
-  pub last-is : c ≢ 0 → (p : ℕ) → p < length index → may p ≡ true → slice_index index p ≡ c → ((k : ℕ) → p < k → k < length index → is_pointer_of may index c k ≡ false) →
-      last_pointer may index c ≡ Some p
-  unfolding last_pointer
-  last-is n p h u e after = rw (ne_eqb c 0 n) (last-some (is_pointer_of may index c) (length index) p h (hits p u e) after)
+  first-none all = grind (arith, find-none (is_pointer_of may index c) 0 (length index) (λ k l m. all k (omega arith)))
 
   pub last-is-none : ((k : ℕ) → k < length index → is_pointer_of may index c k ≡ false) → last_pointer may index c ≡ None
   unfolding last_pointer
-  last-is-none all = elim (cases_eq c 0) [
-    | inl e ↦ rw (eq-eqb c 0 e) refl
-    | inr n ↦ rw (ne_eqb c 0 n) (last-none (is_pointer_of may index c) (length index) all)
-  ]
+  last-is-none all = grind (arith, last-none (is_pointer_of may index c) (length index) all)
 
   -- the pointer used is a usable pointer of the scalar; if none is used, there is none
   pub record IsTaken (o : Option ℕ) : Type 0 where
     pub chosen : (p : ℕ) → o ≡ Some p → (may p ≡ true) × (slice_index index p ≡ c) × (c ≢ 0)
     pub missing : o ≡ None → (p : ℕ) → may p ≡ true → slice_index index p ≡ c → c ≢ 0 → ⊥
 
-  pub first-taken : IsTaken (first_pointer may index c)
-  unfolding first_pointer
-  first-taken = elim (cases_eq c 0) [
+  taken_by : (o : Option ℕ) → ((p : ℕ) → o ≡ Some p → is_pointer_of may index c p ≡ true)
+      → (o ≡ None → (p : ℕ) → p < length index → is_pointer_of may index c p ≡ false) → IsTaken (cond (c == 0) None o)
+  taken_by o some none = elim (cases_eq c 0) [
     | inl e ↦ rw (eq-eqb c 0 e) (record { chosen = λ p z. cc; missing = λ z p u is n. n e })
     | inr n ↦ rw (ne_eqb c 0 n) (record {
-      chosen = λ p z.
-          let f = find-first (is_pointer_of may index c) 0 (length index) p z in
-          let b = both_true (may p) (eqb (slice_index index p) c) f.passes in
-          (b.0, eqb-true (slice_index index p) c b.1, n);
-      missing = λ z p u is m. true≢false (sym (hits p u is) ∙ find-none-at (is_pointer_of may index c) 0 (length index) z p (omega arith) (let w = within p m is in omega arith));
+      chosen = λ p z. let b = and_parts (may p) _ (some p z) in (b.0, eqb-true (slice_index index p) c b.1, n);
+      missing = λ z p u is m. true≢false (sym (hits p u is) ∙ none z p (within p m is));
     })
   ]
 
+  pub first-taken : IsTaken (first_pointer may index c)
+  unfolding first_pointer
+  first-taken =
+      taken_by _ (λ p e. (find-first (is_pointer_of may index c) 0 (length index) p e).passes)
+      (λ e p h. find-none-at (is_pointer_of may index c) 0 (length index) e p (omega arith) (omega arith))
+
   pub last-taken : IsTaken (last_pointer may index c)
   unfolding last_pointer
-  last-taken = elim (cases_eq c 0) [
-    | inl e ↦ rw (eq-eqb c 0 e) (record { chosen = λ p z. cc; missing = λ z p u is n. n e })
-    | inr n ↦ rw (ne_eqb c 0 n) (record {
-      chosen = λ p z.
-          let f = last-passes (is_pointer_of may index c) (length index) p z in
-          let b = both_true (may p) (eqb (slice_index index p) c) f.1 in
-          (b.0, eqb-true (slice_index index p) c b.1, n);
-      missing = λ z p u is m. true≢false (sym (hits p u is) ∙ last-none-at (is_pointer_of may index c) (length index) z p (within p m is));
-    })
-  ]
+  last-taken = let last = last-is (is_pointer_of may index c) (length index) in taken_by _ last.passes last.none
 
   -- the first pointer is the least
   pub first-least : (s p : ℕ) → first_pointer may index c ≡ Some s → may p ≡ true → slice_index index p ≡ c → c ≢ 0 → s ≤ p
   unfolding first_pointer
-  first-least s p e u is n =
-      let z = rw (ne_eqb c 0 n) at e in
-      let f = find-first (is_pointer_of may index c) 0 (length index) s z in
-      elim (cases_lt p s) [
-        | inl h ↦ absurd (true≢false (sym (hits p u is) ∙ f.first p (omega arith) h))
-        | inr h ↦ h
-      ]
+  first-least s p e u is n = elim (cases_lt p s) [
+    | inl h ↦
+        let f = find-first (is_pointer_of may index c) 0 (length index) s (rw (ne_eqb c 0 n) at e) in
+        absurd (true≢false (sym (hits p u is) ∙ f.first p (omega arith) h))
+    | inr h ↦ h
+  ]
 
 -- only the usable pointers within the index matter
 module _ (may other : ℕ → Bool) (index : List ℕ) (c : ℕ) where
   pub first-alike : ((k : ℕ) → k < length index → may k ≡ other k) → first_pointer may index c ≡ first_pointer other index c
   unfolding first_pointer
   first-alike same =
-      ap (cond (c == 0) None) (find-same (is_pointer_of may index c) (is_pointer_of other index c) 0 (length index) (λ k l m. ap (λ b. b && slice_index index k == c) (same k (omega arith))))
+      ap (cond (c == 0) None) (find-same (is_pointer_of may index c) (is_pointer_of other index c) 0 (length index)
+      (λ k l m. ap (λ b. b && slice_index index k == c) (same k (omega arith))))
 
   either_and : (a b t : Bool) → ((a || b) && t) ≡ (a && t || b && t)
-  either_and true true true = refl
-  either_and true true false = refl
-  either_and true false true = refl
-  either_and true false false = refl
-  either_and false b t = refl
+  either_and a b t = grind arith
 
   -- if all of some pointers are before others, they are used first
-  pub first-either : ((j k : ℕ) → may j ≡ true → other k ≡ true → j < k) → first_pointer (λ k. may k || other k) index c ≡ option_or (first_pointer may index c) (first_pointer other index c)
+  pub first-either : ((j k : ℕ) → may j ≡ true → other k ≡ true → j < k)
+      → first_pointer (λ k. may k || other k) index c ≡ option_or (first_pointer may index c) (first_pointer other index c)
   unfolding first_pointer
-  first-either apart = go (c == 0)
-    where
-      both : find (is_pointer_of (λ k. may k || other k) index c) (range_with_len 0 (length index))
-          ≡ option_or (find (is_pointer_of may index c) (range_with_len 0 (length index))) (find (is_pointer_of other index c) (range_with_len 0 (length index)))
-      both =
-          find-same (is_pointer_of (λ k. may k || other k) index c) (λ k. is_pointer_of may index c k || is_pointer_of other index c k) 0 (length index)
-          (λ k l m. either_and (may k) (other k) (slice_index index k == c))
-          ∙ find-either (is_pointer_of may index c) (is_pointer_of other index c) 0 (length index)
-          (λ j k p q. apart j k (both_true (may j) _ p).0 (both_true (other k) _ q).0)
-
-      go : (z : Bool) → cond z None (find (is_pointer_of (λ k. may k || other k) index c) (range_with_len 0 (length index)))
-          ≡ option_or (cond z None (find (is_pointer_of may index c) (range_with_len 0 (length index)))) (cond z None (find (is_pointer_of other index c) (range_with_len 0 (length index))))
-      go true = refl
-      go false = both
+  first-either apart = elim (cases_eq c 0) [
+    | inl e ↦ rw (eq-eqb c 0 e) refl
+    | inr n ↦ rw (ne_eqb c 0 n) (
+        find-same (is_pointer_of (λ k. may k || other k) index c) (λ k. is_pointer_of may index c k || is_pointer_of other index c k) 0 (length index)
+        (λ k l m. either_and (may k) (other k) (slice_index index k == c))
+        ∙ find-either (is_pointer_of may index c) (is_pointer_of other index c) 0 (length index)
+        (λ j k p q. apart j k (and_parts (may j) _ p).0 (and_parts (other k) _ q).0))
+  ]
 
 -- ---- the pointers that look-ups search
 
-module _ (may : ℕ → Bool) (index : List ℕ) (c : ℕ) where
-  -- a pointer that is not the scalar's or is not usable
-  not_hit : (k : ℕ) → (may k ≡ true → slice_index index k ≢ c) → is_pointer_of may index c k ≡ false
-  not_hit k n = go (is_pointer_of may index c k) refl
-    where
-      go : (t : Bool) → is_pointer_of may index c k ≡ t → t ≡ false
-      go true e = let b = both_true (may k) (slice_index index k == c) e in absurd (n b.0 (eqb-true (slice_index index k) c b.1))
-      go false e = refl
-
 module _ (start end : ℕ) (index : List ℕ) (c : ℕ) where
-  inside : (k : ℕ) → start ≤ k → k < end → (nat_le start k && nat_lt k end) ≡ true
-  inside k l h = rw (le-leb start k l, lt-ltb k end h) refl
+  abbrev Between : ℕ → Bool
+  Between p = nat_le start p && nat_lt p end
 
   -- the first pointer found from one pointer up to another
-  pub first-between : c ≢ 0 → end ≤ length index → (p : ℕ) → start ≤ p → p < end → slice_index index p ≡ c → ((k : ℕ) → start ≤ k → k < p → slice_index index k ≢ c) →
-      Some p ≡ first_pointer (λ p. nat_le start p && nat_lt p end) index c
+  pub first-between : c ≢ 0 → end ≤ length index → (p : ℕ) → start ≤ p → p < end → slice_index index p ≡ c
+      → ((k : ℕ) → start ≤ k → k < p → slice_index index k ≢ c) → Some p ≡ first_pointer Between index c
   first-between n within p l h e before =
-      sym (first-is (λ p. nat_le start p && nat_lt p end) index c n p (omega arith) (inside p l h) e
-      (λ k m. not_hit (λ p. nat_le start p && nat_lt p end) index c k (λ u. before k (leb-true start k (both_true _ _ u).0) m)))
+      sym (first-is Between index c n p (omega arith) (rw (le-leb start p l, lt-ltb p end h) refl) e
+      (λ k m. not_hit Between index c k (λ u. before k (leb-true start k (and_parts _ _ u).0) m)))
 
-  pub none-between : ((k : ℕ) → start ≤ k → k < end → slice_index index k ≢ c) → None ≡ first_pointer (λ p. nat_le start p && nat_lt p end) index c
+  pub none-between : ((k : ℕ) → start ≤ k → k < end → slice_index index k ≢ c) → None ≡ first_pointer Between index c
   none-between all =
-      sym (first-none (λ p. nat_le start p && nat_lt p end) index c
-      (λ k h. not_hit (λ p. nat_le start p && nat_lt p end) index c k (λ u. let b = both_true _ _ u in all k (leb-true start k b.0) (ltb-true k end b.1))))
+      sym (first-none Between index c (λ k h. not_hit Between index c k
+      (λ u. let b = and_parts _ _ u in all k (leb-true start k b.0) (ltb-true k end b.1))))
 
 module _ (start : ℕ) (index : List ℕ) (c : ℕ) where
   -- the first pointer found from the end down to another
-  pub last-from : c ≢ 0 → (p : ℕ) → start ≤ p → p < length index → slice_index index p ≡ c → ((k : ℕ) → p < k → k < length index → slice_index index k ≢ c) →
-      Some p ≡ last_pointer (nat_le start) index c
-  last-from n p l h e after = sym (last-is (nat_le start) index c n p h (le-leb start p l) e (λ k m g. not_hit (nat_le start) index c k (λ u. after k m g)))
+  pub last-from : c ≢ 0 → (p : ℕ) → start ≤ p → p < length index → slice_index index p ≡ c
+      → ((k : ℕ) → p < k → k < length index → slice_index index k ≢ c) → Some p ≡ last_pointer (nat_le start) index c
+  unfolding last_pointer
+  last-from n p l h e after =
+      sym (rw (ne_eqb c 0 n) (last-some (is_pointer_of (nat_le start) index c) (length index) p h
+      (hits (nat_le start) index c p (le-leb start p l) e) (λ k m g. not_hit (nat_le start) index c k (λ u. after k m g))))
 
   pub none-from : ((k : ℕ) → start ≤ k → k < length index → slice_index index k ≢ c) → None ≡ last_pointer (nat_le start) index c
   none-from all = sym (last-is-none (nat_le start) index c (λ k h. not_hit (nat_le start) index c k (λ u. all k (leb-true start k u) h)))
 
-below_both : (a b k : ℕ) → k < a → (nat_le 0 k && nat_lt k (min a b)) ≡ nat_lt k b
-below_both a b k h = elim (cases_lt k b) [
-  | inl l ↦ rw (le-leb 0 k (omega arith), lt-ltb k (min a b) (omega arith), lt-ltb k b l) refl
-  | inr l ↦ rw (le-leb 0 k (omega arith), le-ltb k (min a b) (omega arith), le-ltb k b l) refl
-]
+pub below_both : (a b k : ℕ) → k < a → (nat_le 0 k && nat_lt k (min a b)) ≡ nat_lt k b
+below_both a b k h = grind (arith, nat_tests)
 
-from_on : (start a k : ℕ) → k < a → (nat_le start k && nat_lt k a) ≡ nat_le start k
-from_on start a k h = rw (lt-ltb k a h) (and-true (nat_le start k))
+pub from_on : (start a k : ℕ) → k < a → (nat_le start k && nat_lt k a) ≡ nat_le start k
+from_on start a k h = grind (arith, nat_tests)
+
+pub all_below : (a k : ℕ) → k < a → (nat_le 0 k && nat_lt k a) ≡ true
+all_below a k h = grind (arith, nat_tests)
 
 shift_jis : (k : ℕ) → (nat_lt k 8272 || nat_le 8836 k) ≡ is_shift_jis_pointer k
-shift_jis k = elim (cases_lt k 8272) [
-  | inl l ↦ rw (lt-ltb k 8272 l, lt-leb 8272 k l) refl
-  | inr l ↦ elim (cases_lt k 8836) [
-    | inl m ↦ rw (le-ltb k 8272 l, lt-leb 8836 k m, le-leb 8272 k l, le-leb k 8835 (omega arith)) refl
-    | inr m ↦ rw (le-leb 8836 k m, le-leb 8272 k l, lt-leb k 8835 (omega arith)) (or-true (nat_lt k 8272))
-  ]
-]
+shift_jis k = grind (arith, nat_tests)
 
-module _ (index : List ℕ) (c : ℕ) where
-  -- all pointers
-  pub first-of-all : first_pointer (λ p. nat_le 0 p && nat_lt p (length index)) index c ≡ first_pointer every_pointer index c
-  first-of-all = first-alike _ _ index c (λ k h. from_on 0 (length index) k h ∙ le-leb 0 k (omega arith))
-
-  -- the pointers from `start` on
-  pub first-from : (start : ℕ) → first_pointer (λ p. nat_le start p && nat_lt p (length index)) index c ≡ first_pointer (nat_le start) index c
-  first-from start = first-alike _ _ index c (λ k h. from_on start (length index) k h)
-
-  -- the pointers below `end`
-  pub first-below : (end : ℕ) → first_pointer (λ p. nat_le 0 p && nat_lt p (min (length index) end)) index c ≡ first_pointer (λ p. nat_lt p end) index c
-  first-below end = first-alike _ _ index c (λ k h. below_both (length index) end k h)
-
-  -- in Shift_JIS the pointers below 8272, and then those from 8836 on
-  shift_jis_first : first_pointer is_shift_jis_pointer index c ≡ option_or (first_pointer (λ p. nat_lt p 8272) index c) (first_pointer (nat_le 8836) index c)
-  shift_jis_first =
-      sym (first-alike (λ k. nat_lt k 8272 || nat_le 8836 k) is_shift_jis_pointer index c (λ k h. shift_jis k))
-      ∙ first-either (λ p. nat_lt p 8272) (nat_le 8836) index c (λ j k p q. let low = ltb-true j 8272 p in let high = leb-true 8836 k q in omega arith)
-
-  pub shift-jis-low : (p : ℕ) → first_pointer (λ p. nat_le 0 p && nat_lt p (min (length index) 8272)) index c ≡ Some p → Some p ≡ first_pointer is_shift_jis_pointer index c
-  shift-jis-low p e = sym (shift_jis_first ∙ ap (λ o. option_or o (first_pointer (nat_le 8836) index c)) (sym (first-below 8272) ∙ e))
-
-  pub shift-jis-high : first_pointer (λ p. nat_le 0 p && nat_lt p (min (length index) 8272)) index c ≡ None →
-      first_pointer (λ p. nat_le 8836 p && nat_lt p (length index)) index c ≡ first_pointer is_shift_jis_pointer index c
-  shift-jis-high e = first-from 8836 ∙ sym (shift_jis_first ∙ ap (λ o. option_or o (first_pointer (nat_le 8836) index c)) (sym (first-below 8272) ∙ e))
+-- in Shift_JIS the pointers below 8272, and then those from 8836 on
+pub shift-jis-first : (index : List ℕ) (c : ℕ) → option_or (first_pointer (λ p. nat_le 0 p && nat_lt p (min (length index) 8272)) index c)
+    (first_pointer (λ p. nat_le 8836 p && nat_lt p (length index)) index c) ≡ first_pointer is_shift_jis_pointer index c
+shift-jis-first index c =
+    rw (first-alike _ _ index c (below_both (length index) 8272), first-alike _ _ index c (from_on 8836 (length index)))
+    (sym (first-either (λ p. nat_lt p 8272) (nat_le 8836) index c (λ j k p q. let low = ltb-true j 8272 p in let high = leb-true 8836 k q in omega arith))
+    ∙ first-alike (λ k. nat_lt k 8272 || nat_le 8836 k) is_shift_jis_pointer index c (λ k h. shift_jis k))
 
 -- the pointer that Big5 uses
 pub big5-taken : (index : List ℕ) (c : ℕ) → IsTaken is_big5_pointer index c (big5_pointer_of index c)
-big5-taken index c = go (takes_last_big5_pointer c)
-  where
-    go : (t : Bool) → IsTaken is_big5_pointer index c (cond t (last_pointer is_big5_pointer index c) (first_pointer is_big5_pointer index c))
-    go true = last-taken is_big5_pointer index c
-    go false = first-taken is_big5_pointer index c
+big5-taken index c =
+    cond_both (takes_last_big5_pointer c) _ _ (IsTaken is_big5_pointer index c)
+    (λ e. last-taken is_big5_pointer index c) (λ e. first-taken is_big5_pointer index c)
 
 -- the pointer used is within the index
 pub taken-within : (may : ℕ → Bool) (index : List ℕ) (c : ℕ) (o : Option ℕ) → IsTaken may index c o → IfSome o (λ p. p < length index)
@@ -223,28 +164,20 @@ taken-within may index c (Some p) t = let is = t.chosen p refl in within may ind
 
 -- ---- pointers of four bytes
 
-some_is : (a b : ℕ) → Some a ≡ Some b → a ≡ b
-some_is a b e = cc
-
 module _ (ranges : List (ℕ × ℕ)) (c : ℕ) where
-  is_of : (p : ℕ) → range ranges p ≡ Some c → is_range_pointer_of ranges c p ≡ true
-  is_of p e = rw e (eq-eqb c c refl)
-
   of_is : (o : Option ℕ) → option_map_or (λ s. s == c) o false ≡ true → o ≡ Some c
   of_is None e = cc
   of_is (Some s) e = ap Some (eqb-true s c e)
 
   not_of : (p : ℕ) → (range ranges p ≡ Some c → ⊥) → is_range_pointer_of ranges c p ≡ false
-  not_of p n = go (is_range_pointer_of ranges c p) refl
-    where
-      go : (t : Bool) → is_range_pointer_of ranges c p ≡ t → t ≡ false
-      go true e = absurd (n (of_is (range ranges p) e))
-      go false e = refl
+  not_of p n = false_from_ne_true _ (λ e. n (of_is (range ranges p) e))
 
   -- the least pointer of the scalar below n, or none
-  least_is : (n p : ℕ) → p < n → range ranges p ≡ Some c → ((k : ℕ) → k < p → range ranges k ≡ Some c → ⊥) → first_range_pointer ranges c n ≡ Some p
+  least_is : (n p : ℕ) → p < n → range ranges p ≡ Some c → ((k : ℕ) → k < p → range ranges k ≡ Some c → ⊥)
+      → first_range_pointer ranges c n ≡ Some p
   unfolding first_range_pointer
-  least_is n p h e before = find-some (is_range_pointer_of ranges c) 0 n p (omega arith) (omega arith) (is_of p e) (λ k l m. not_of k (before k m))
+  least_is n p h e before =
+      find-some (is_range_pointer_of ranges c) 0 n p (omega arith) (omega arith) (rw e (eq-eqb c c refl)) (λ k l m. not_of k (before k m))
 
   least_none : (n : ℕ) → ((p : ℕ) → range ranges p ≡ Some c → ⊥) → first_range_pointer ranges c n ≡ None
   unfolding first_range_pointer
@@ -252,10 +185,11 @@ module _ (ranges : List (ℕ × ℕ)) (c : ℕ) where
 
   least_taken : (n p : ℕ) → first_range_pointer ranges c n ≡ Some p → (range ranges p ≡ Some c) × (p < n)
   unfolding first_range_pointer
-  least_taken n p e = let f = find-first (is_range_pointer_of ranges c) 0 n p e in (of_is (range ranges p) f.passes, let w = f.within in omega arith)
+  least_taken n p e = let f = find-first (is_range_pointer_of ranges c) 0 n p e in let w = f.within in (of_is (range ranges p) f.passes, omega arith)
 
   -- the least pointer of the scalar
-  pub range-first : c ≢ 0xE7C7 → (p : ℕ) → p < 1237576 → range ranges p ≡ Some c → ((k : ℕ) → k < p → range ranges k ≡ Some c → ⊥) → range_pointer_of ranges c ≡ Some p
+  pub range-first : c ≢ 0xE7C7 → (p : ℕ) → p < 1237576 → range ranges p ≡ Some c → ((k : ℕ) → k < p → range ranges k ≡ Some c → ⊥)
+      → range_pointer_of ranges c ≡ Some p
   unfolding range_pointer_of
   range-first n p h e before = rw (ne_eqb c 0xE7C7 n) (least_is 1237576 p h e before)
 
@@ -277,7 +211,7 @@ module _ (ranges : List (ℕ × ℕ)) (c : ℕ) where
   unfolding range_pointer_of
   range-taken p e = elim (cases_eq c 0xE7C7) [
     | inl is ↦
-        let same : 7457 ≡ p = some_is 7457 p (rw (eq-eqb c 0xE7C7 is) at e) in
+        let same = same_Some 7457 p (sym (range-fixed is) ∙ e) in
         rw (is, ← same) (at_7457, omega arith)
     | inr n ↦ least_taken 1237576 p (rw (ne_eqb c 0xE7C7 n) at e)
   ]

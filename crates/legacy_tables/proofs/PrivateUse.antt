@@ -1,34 +1,34 @@
 -- Private-use rows that passed their check, and the search in them.
-use Rattle.std.proofs.Common.{◌≡◌, ◌≢◌, ◌⊎◌, inl, inr, ℕ, zero, suc, ◌+◌, ◌≤◌, ◌<◌, List, [], ◌∷◌, length}
-use Rattle.std.proofs.Common.{◌∙◌, ◌&&◌, sym, ap, get_or, add-one, refl, arith, Some, None, Option, true, false, Bool, not, cond, eq-eqb, ◌==◌}
-use Rattle.std.proofs.lemmas.Bool.{ne_eqb, cases_lt, true≢false}
+use Rattle.std.proofs.Common.{◌≡◌, ◌≢◌, inl, inr, ℕ, zero, suc, ◌+◌, ◌≤◌, ◌<◌, List, [], ◌∷◌, length, ◌∙◌, sym, ap}
+use Rattle.std.proofs.Common.{get_or, add-one}
+use Rattle.std.proofs.Common.{refl, arith, Some, None, Option, true, false, not, eq-eqb, ◌==◌}
+use Rattle.std.proofs.lemmas.Bool.{and_parts, not-false, ne_eqb, cases_lt, true≢false}
 use Rattle.std.specs.Int.{is_in_range}
 use Rattle.std.proofs.lemmas.List.Sorted.{IsNonDecreasingBy-from_all_adjacent}
 use Rattle.std.specs.List.{AllAdjacentBelow}
 use Rattle.std.specs.List.Sorted.{IsNonDecreasingBy}
 use borrow.Author.Tests.{ltb-true}
-use Rattle.legacy_tables.specs.declared.tables.TableError.{TableError}
 use Rattle.legacy_tables.specs.declared.tables.TableError.TheVariants.{PuaOrder, PuaScalar}
 use Rattle.legacy_tables.specs.Indexes.{gb18030_pua_of}
-use Rattle.legacy_tables.specs.TableChecks.{follows_scalar, row_fault, rows_fault}
-use Rattle.legacy_tables.proofs.Accepted.{or_none}
+use Rattle.legacy_tables.specs.TableChecks.{follows_scalar, is_row_scalar, row_fault, rows_fault}
+use Rattle.legacy_tables.proofs.Accepted.{or_none, untaken}
 use Rattle.legacy_tables.proofs.FirstPlaces.{find-at, find-absent}
 
--- a row without a fault follows the row before it
-follows : (place : ℕ) (before : Option ℕ) (r : ℕ × ℕ × ℕ) → row_fault place before r ≡ None → follows_scalar before r.0 ≡ true
-follows place before r e = go (follows_scalar before r.0) _ e
-  where
-    go : (t : Bool) (other : Option TableError) → cond (not t) (Some (PuaOrder place)) other ≡ None → t ≡ true
-    go true other z = refl
-    go false other z = cc
+-- a row without a fault follows the row before it, and its scalar is for private use
+fine : (place : ℕ) (before : Option ℕ) (r : ℕ × ℕ × ℕ) → row_fault place before r ≡ None
+    → (follows_scalar before r.0 ≡ true) × (is_in_range 0xE000 0xF8FF r.0 ≡ true)
+fine place before r e =
+    let t = untaken (not (follows_scalar before r.0)) (PuaOrder place) _ e in
+    (not-false _ t.0, (and_parts _ _ (not-false _ (untaken (not (is_row_scalar r.0)) (PuaScalar place) _ t.1).0)).0)
 
-adjacent : (place : ℕ) (before : Option ℕ) (rows : List (ℕ × ℕ × ℕ)) → rows_fault place before rows ≡ None → AllAdjacentBelow (λ r s. r.0 ≤ s.0) rows (length rows)
+adjacent : (place : ℕ) (before : Option ℕ) (rows : List (ℕ × ℕ × ℕ)) → rows_fault place before rows ≡ None
+    → AllAdjacentBelow (λ r s. r.0 ≤ s.0) rows (length rows)
 unfolding rows_fault
 adjacent place before [] e k d h = absurd (omega arith)
 adjacent place before (r ∷ []) e k d h = absurd (omega arith)
 adjacent place before (r ∷ s ∷ rows) e zero d h =
     let rest = (or_none (row_fault place before r) _ e).1 in
-    let up = ltb-true r.0 s.0 (follows (place + 1) (Some r.0) s (or_none (row_fault (place + 1) (Some r.0) s) _ rest).0) in
+    let up = ltb-true r.0 s.0 (fine (place + 1) (Some r.0) s (or_none (row_fault (place + 1) (Some r.0) s) _ rest).0).0 in
     omega arith
 adjacent place before (r ∷ s ∷ rows) e (suc k) d h =
     let rest = (or_none (row_fault place before r) _ e).1 in
@@ -37,45 +37,40 @@ adjacent place before (r ∷ s ∷ rows) e (suc k) d h =
 pub rows-rising : (rows : List (ℕ × ℕ × ℕ)) → rows_fault 0 None rows ≡ None → IsNonDecreasingBy (λ r. r.0) rows
 rows-rising rows e = IsNonDecreasingBy-from_all_adjacent (λ r. r.0) rows (adjacent 0 None rows e)
 
--- its scalar is for private use
-private_use : (place : ℕ) (before : Option ℕ) (r : ℕ × ℕ × ℕ) → row_fault place before r ≡ None → is_in_range 0xE000 0xF8FF r.0 ≡ true
-private_use place before r e = go (follows_scalar before r.0) (is_in_range 0xE000 0xF8FF r.0) (not (r.0 == 0xE5E5)) _ e
-  where
-    go : (t a b : Bool) (other : Option TableError) → cond (not t) (Some (PuaOrder place)) (cond (not (a && b)) (Some (PuaScalar place)) other) ≡ None → a ≡ true
-    go true true b other z = refl
-    go true false b other z = cc
-    go false a b other z = cc
-
-all_private : (place : ℕ) (before : Option ℕ) (rows : List (ℕ × ℕ × ℕ)) → rows_fault place before rows ≡ None → (k : ℕ) → k < length rows →
-    is_in_range 0xE000 0xF8FF (get_or rows k (0, 0, 0)).0 ≡ true
+all_private : (place : ℕ) (before : Option ℕ) (rows : List (ℕ × ℕ × ℕ)) → rows_fault place before rows ≡ None → (k : ℕ) → k < length rows
+    → is_in_range 0xE000 0xF8FF (get_or rows k (0, 0, 0)).0 ≡ true
 unfolding rows_fault
 all_private place before [] e k h = absurd (omega arith)
-all_private place before (r ∷ rows) e zero h = private_use place before r (or_none (row_fault place before r) _ e).0
-all_private place before (r ∷ rows) e (suc k) h = all_private (place + 1) (Some r.0) rows (or_none (row_fault place before r) _ e).1 k (omega arith)
+all_private place before (r ∷ rows) e zero h = (fine place before r (or_none (row_fault place before r) _ e).0).1
+all_private place before (r ∷ rows) e (suc k) h =
+    all_private (place + 1) (Some r.0) rows (or_none (row_fault place before r) _ e).1 k (omega arith)
 
 module _ (c : ℕ) where
   -- no row has a scalar outside of private use
-  pub row-outside : (rows : List (ℕ × ℕ × ℕ)) → rows_fault 0 None rows ≡ None → is_in_range 0xE000 0xF8FF c ≡ false → None ≡ gb18030_pua_of rows c
+  pub row-outside : (rows : List (ℕ × ℕ × ℕ)) → rows_fault 0 None rows ≡ None → is_in_range 0xE000 0xF8FF c ≡ false
+      → None ≡ gb18030_pua_of rows c
   row-outside rows none outside =
       rw (find-absent (λ r. r.0 == c) (0, 0, 0) rows (λ k h. ne_eqb _ c (λ e.
       true≢false (sym (all_private 0 None rows none k h) ∙ ap (is_in_range 0xE000 0xF8FF) e ∙ outside)))) refl
 
   -- the first `count` rows have lower scalars
   module _ (rows : List (ℕ × ℕ × ℕ)) (count : ℕ) (below : (k : ℕ) → k < count → (get_or rows k (0, 0, 0)).0 < c) where
+    lower : (k : ℕ) → k < count → ((get_or rows k (0, 0, 0)).0 == c) ≡ false
+    lower k h = ne_eqb _ c (λ e. let low = below k h in absurd (omega arith))
+
     pub row-end : length rows ≤ count → None ≡ gb18030_pua_of rows c
-    row-end h = rw (find-absent (λ r. r.0 == c) (0, 0, 0) rows (λ k l. ne_eqb _ c (λ e. let low = below k (omega arith) in absurd (omega arith)))) refl
+    row-end h = rw (find-absent (λ r. r.0 == c) (0, 0, 0) rows (λ k l. lower k (omega arith))) refl
 
-    pub row-other : rows_fault 0 None rows ≡ None → (ahead : (k : ℕ) → count ≤ k → k < length rows → c ≤ (get_or rows k (0, 0, 0)).0) → count < length rows
-        → (get_or rows count (0, 0, 0)).0 ≢ c → None ≡ gb18030_pua_of rows c
-    row-other rises ahead h n = rw (find-absent (λ r. r.0 == c) (0, 0, 0) rows (λ k l. ne_eqb _ c (λ e. elsewhere k l e (cases_lt k count)))) refl
-      where
-        elsewhere : (k : ℕ) → k < length rows → (get_or rows k (0, 0, 0)).0 ≡ c → (k < count) ⊎ (count ≤ k) → ⊥
-        elsewhere k l e (inl m) = let low = below k m in absurd (omega arith)
-        elsewhere k l e (inr m) =
-            let here = ahead count (omega arith) h in
-            let up = rows-rising rows rises count k (0, 0, 0) m l in
-            n (omega arith)
+    pub row-other : rows_fault 0 None rows ≡ None → (ahead : (k : ℕ) → count ≤ k → k < length rows → c ≤ (get_or rows k (0, 0, 0)).0)
+        → count < length rows → (get_or rows count (0, 0, 0)).0 ≢ c → None ≡ gb18030_pua_of rows c
+    row-other rises ahead h n = rw (find-absent (λ r. r.0 == c) (0, 0, 0) rows (λ k l. elim (cases_lt k count) [
+      | inl m ↦ lower k m
+      | inr m ↦ ne_eqb _ c (λ e.
+          let here = ahead count (omega arith) h in
+          let up = rows-rising rows rises count k (0, 0, 0) m l in
+          n (omega arith))
+    ])) refl
 
-    pub row-found : count < length rows → (get_or rows count (0, 0, 0)).0 ≡ c → Some ((get_or rows count (0, 0, 0)).1, (get_or rows count (0, 0, 0)).2) ≡ gb18030_pua_of rows c
-    row-found h e =
-        rw (find-at (λ r. r.0 == c) (0, 0, 0) rows count h (eq-eqb _ c e) (λ k m. ne_eqb _ c (λ same. let low = below k m in absurd (omega arith)))) refl
+    pub row-found : count < length rows → (get_or rows count (0, 0, 0)).0 ≡ c
+        → Some ((get_or rows count (0, 0, 0)).1, (get_or rows count (0, 0, 0)).2) ≡ gb18030_pua_of rows c
+    row-found h e = rw (find-at (λ r. r.0 == c) (0, 0, 0) rows count h (eq-eqb _ c e) lower) refl

@@ -1,13 +1,10 @@
 -- The entries that a search by blocks passes over.
-use Rattle.std.proofs.Common.{refl, ◌≡◌, ◌≢◌, ◌∙◌, ℕ, ◌+◌, ◌-◌, ◌≤◌, ◌<◌, List, length, take, drop, get_or, slice_index, sym, arith, true, false, Bool, not, eq-eqb, ◌==◌}
-use Rattle.std.proofs.lemmas.Bool.{true≢false}
+use Rattle.std.proofs.Common.{refl, ◌≡◌, ◌≢◌, ◌∙◌, ℕ, ◌+◌, ◌-◌, ◌≤◌, ◌<◌, List, length, take, drop, get_or, slice_index}
+use Rattle.std.proofs.Common.{sym, arith, true, false, Bool, not, eq-eqb, ◌==◌}
+use Rattle.std.proofs.lemmas.Bool.{not-true, true≢false}
 use Rattle.std.proofs.lemmas.List.{length-take-le, length-drop, get_or-take, get_or-drop}
 use Rattle.std.proofs.lemmas.List.Folds.{list_any_at}
 use Rattle.std.specs.List.{list_any}
-
-not_true : (b : Bool) → not b ≡ true → b ≡ false
-not_true true e = cc
-not_true false e = refl
 
 module _ (index : List ℕ) (from end entry : ℕ) (within : end ≤ length index) where
   length_of : (k : ℕ) → from ≤ k → k < end → k - from < length (take (end - from) (drop from index))
@@ -22,6 +19,8 @@ module _ (index : List ℕ) (from end entry : ℕ) (within : end ≤ length inde
       get_or-take (end - from) (drop from index) (k - from) 0 (omega arith) ∙ get_or-drop from index (k - from) 0 ∙ rw e refl
 
   -- an entry that a part of an index does not contain
-  pub not-contained : (found : Bool) → found ≡ list_any (λ y. y == entry) (take (end - from) (drop from index)) → not found ≡ true → (k : ℕ) → from ≤ k → k < end → slice_index index k ≢ entry
+  pub not-contained : (found : Bool) → found ≡ list_any (λ y. y == entry) (take (end - from) (drop from index)) → not found ≡ true
+      → (k : ℕ) → from ≤ k → k < end → slice_index index k ≢ entry
   not-contained found is none k l h e =
-      true≢false (sym (list_any_at (λ y. y == entry) (take (end - from) (drop from index)) (k - from) 0 (length_of k l h) (eq-eqb _ entry (at k l h ∙ e))) ∙ sym is ∙ not_true found none)
+      let there = list_any_at (λ y. y == entry) (take (end - from) (drop from index)) (k - from) 0 (length_of k l h) (eq-eqb _ entry (at k l h ∙ e)) in
+      true≢false (sym there ∙ sym is ∙ not-true found none)

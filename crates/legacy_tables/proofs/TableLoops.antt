@@ -17,7 +17,8 @@ use Rattle.legacy_tables.specs.TableChecks.{has_range_scalars, range_value_fault
 -- ---- the entries of an index
 
 module _ (name : IndexName) (index : List ℕ) (p : ℕ) where
-  pub entries_next : p < length index → entries_fault name p (drop p index) ≡ option_or (entry_fault name p (get_or index p 0)) (entries_fault name (p + 1) (drop (p + 1) index))
+  pub entries_next : p < length index → entries_fault name p (drop p index)
+      ≡ option_or (entry_fault name p (get_or index p 0)) (entries_fault name (p + 1) (drop (p + 1) index))
   unfolding entries_fault
   entries_next h = rw (drop-cons index p 0 h, add-one) refl
 
@@ -45,7 +46,8 @@ module _ (ranges : List (ℕ × ℕ)) (place : ℕ) where
 
   pub value_next : place < length ranges →
       range_value_fault place (drop place ranges)
-      ≡ cond (has_range_scalars (get_or ranges place (0, 0)) (next_pointer (drop (place + 1) ranges))) (range_value_fault (place + 1) (drop (place + 1) ranges)) (Some (RangeValue place))
+      ≡ cond (has_range_scalars (get_or ranges place (0, 0)) (next_pointer (drop (place + 1) ranges)))
+      (range_value_fault (place + 1) (drop (place + 1) ranges)) (Some (RangeValue place))
   unfolding range_value_fault
   value_next h = rw (drop-cons ranges place (0, 0) h, add-one) refl
 
@@ -58,7 +60,8 @@ module _ (ranges : List (ℕ × ℕ)) (place : ℕ) where
 module _ (rows : List (ℕ × ℕ × ℕ)) (place : ℕ) (before : Option ℕ) where
   pub rows_next : place < length rows →
       rows_fault place before (drop place rows)
-      ≡ option_or (row_fault place before (get_or rows place (0, 0, 0))) (rows_fault (place + 1) (Some (get_or rows place (0, 0, 0)).0) (drop (place + 1) rows))
+      ≡ option_or (row_fault place before (get_or rows place (0, 0, 0)))
+      (rows_fault (place + 1) (Some (get_or rows place (0, 0, 0)).0) (drop (place + 1) rows))
   unfolding rows_fault
   rows_next h = rw (drop-cons rows place (0, 0, 0) h, add-one) refl
 
@@ -74,9 +77,12 @@ list_any-reverse test xs = sym (list_any-IsPermutation test xs (reverse xs) (IsP
 module _ (table : List ℕ) (place : ℕ) where
   pub bytes_next : place < length table →
       byte_entries_fault place (reverse (take place table)) (drop place table)
-      ≡ option_or (byte_entry_fault place (take place table) (get_or table place 0)) (byte_entries_fault (place + 1) (reverse (take (place + 1) table)) (drop (place + 1) table))
+      ≡ option_or (byte_entry_fault place (take place table) (get_or table place 0))
+      (byte_entries_fault (place + 1) (reverse (take (place + 1) table)) (drop (place + 1) table))
   unfolding byte_entries_fault
-  bytes_next h = rw (drop-cons table place 0 h, list_any-reverse (λ e. eqb e (get_or table place 0)) (take place table), add-one, take-suc table place 0 h, reverse-append) refl
+  bytes_next h =
+      let same = list_any-reverse (λ e. eqb e (get_or table place 0)) (take place table) in
+      rw (drop-cons table place 0 h, same, add-one, take-suc table place 0 h, reverse-append) refl
 
   pub bytes_end : length table ≤ place → byte_entries_fault place (reverse (take place table)) (drop place table) ≡ None
   unfolding byte_entries_fault

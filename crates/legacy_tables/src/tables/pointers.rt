@@ -29,6 +29,7 @@ fn first_block<N: Blocks>(index: &N, start: usize, end: usize, entry: usize) -> 
 }
 
 /// Returns the first pointer from `start` on and before `end` that has the scalar.
+#[tactic(auto, unfolding(crate::specs::Pointers::first_pointer))]
 fn first_between<N: Blocks>(index: &N, start: usize, end: usize, scalar: char) -> Option<usize>
     requires { end ≤ length (N.numbers index.now) }
     ensures { result
@@ -67,6 +68,7 @@ fn last_block<N: Blocks>(index: &N, start: usize, entry: usize) -> usize
 }
 
 /// Returns the last pointer from `start` on that has the entry.
+#[tactic(auto, unfolding(crate::specs::Pointers::last_pointer))]
 pub(super) fn last_from<N: Blocks>(index: &N, start: usize, entry: usize) -> Option<usize>
     ensures { result ≡ last_pointer (nat_le start) (N.numbers index.now) entry }
 {

@@ -1,5 +1,6 @@
 //! The ranges of gb18030, and the pointers of one range, which a run of four-byte sequences keeps.
 ghost use Rattle.std.specs.Prelude.{◌≡◌, ◌≢◌, ℕ, ◌+◌, ◌<◌, ◌≤◌, None, IfSome};
+ghost use Rattle.std.specs.Prelude.{length, slice_index_or};
 ghost use Rattle.legacy_tables.specs.Indexes.{range};
 ghost use Rattle.legacy_tables.specs.Pointers.{range_pointer_of};
 ghost use Rattle.legacy_tables.specs.RangeParts.{IsRangePart};
@@ -101,7 +102,12 @@ impl<'a> Ranges<'a> {
 
     /// Returns the place of the last range that starts at or before a pointer, or 0 if there is none.
     #[inline]
-    pub fn place_of(&self, pointer: usize) -> usize {
+    pub fn place_of(&self, pointer: usize) -> usize
+        ensures within { 0 < result → result < length self.now.list.now }
+        ensures started { 0 < result → (slice_index_or self.now.list.now result (0, 0)).0 ≤ pointer }
+        ensures ahead { (k : ℕ) → result < k → k < length self.now.list.now →
+            pointer < (slice_index_or self.now.list.now k (0, 0)).0 }
+    {
         started_count(self.list, pointer).saturating_sub(1)
     }
 

@@ -7,7 +7,8 @@ returns-then-not-has_scalars c =
     c.loop-place.invariant ∙ value_next _ _ c.loop-place-test.true ∙ rw (← c.end_of.ensures, ← c.has_scalars.ensures, c.if-not-has_scalars.true) refl
 
 pub loop-place-preserved : goal.loop-place-preserved
-loop-place-preserved c = c.loop-place.invariant ∙ value_next _ _ c.loop-place-test.true ∙ rw (← c.end_of.ensures, ← c.has_scalars.ensures, c.if-not-has_scalars.false) refl
+loop-place-preserved c = c.loop-place.invariant ∙ value_next _ _ c.loop-place-test.true
+    ∙ rw (← c.end_of.ensures, ← c.has_scalars.ensures, c.if-not-has_scalars.false) refl
 
 pub returns : goal.returns
 returns c = c.loop-place.invariant ∙ value_end _ _ c.loop-place-test.false

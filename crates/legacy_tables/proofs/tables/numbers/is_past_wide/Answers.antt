@@ -8,6 +8,7 @@ returns-then-number-gt4294967295 c = λ _ k l h e. let most : slice_index c.args
 
 pub returns : goal.returns
 returns c = λ is k l h. elim (cases_lt k (c.args.from + 16)) [
-  | inl m ↦ not-contained c.args.index.now c.args.from (c.args.from + 16) _ (omega (arith, c.requires)) c.contains.result c.contains.ensures.value (ap not c.if-contains.false) k l m
+  | inl m ↦ not-contained c.args.index.now c.args.from (c.args.from + 16) _ (omega (arith, c.requires)) c.contains.result c.contains.ensures.value
+      (ap not c.if-contains.false) k l m
   | inr m ↦ not-contained c.args.index.now (c.args.from + 16) (c.args.from + 32) _ c.requires c.contains-2.result c.contains-2.ensures.value is k m h
 ]

@@ -7,6 +7,9 @@ use Rattle.legacy_tables.proofs.tables.order.count_below.Goals as goal
 pub returns : goal.returns
 returns g c =
     let index = g.N.Numbers.numbers c.args.index.now in
-    let point = IsPartitionPoint-from_clause (λ (p : ℕ). nat_lt (slice_index index p) c.args.scalar) c.args.order.now c.partition_point.result c.partition_point.ensures.partitioned
-    (IsPartitionedBy-ltb (λ (p : ℕ). slice_index index p) c.args.order.now c.args.scalar (order-rising index c.args.order.now c.requires)) (λ a r q k. search rules) in
+    let point =
+    IsPartitionPoint-from_clause (λ (p : ℕ). nat_lt (slice_index index p) c.args.scalar) c.args.order.now
+    c.partition_point.result c.partition_point.ensures.partitioned
+    (IsPartitionedBy-ltb (λ (p : ℕ). slice_index index p) c.args.order.now c.args.scalar (order-rising index c.args.order.now c.requires))
+    (λ a r q k. search rules) in
     record { within = search rules; below = λ k h. ltb-true _ _ (point.0 k 0 (omega arith) h); from = λ k h l. ltb-false _ _ (point.1 k 0 h l) }

@@ -3,7 +3,8 @@ use Rattle.legacy_tables.proofs.Orders.{order-at, order-absent}
 use Rattle.legacy_tables.proofs.tables.order.pointer_in_order.Goals as goal
 
 pub returns-then-place-order : goal.returns-then-place-order
-returns-then-place-order g c = sym (order-absent _ _ c.requires _ c.count_below-place.result c.count_below-place.ensures.below c.count_below-place.ensures.from (λ h. absurd (omega arith)))
+returns-then-place-order g c = sym (order-absent _ _ c.requires _ c.count_below-place.result c.count_below-place.ensures.below c.count_below-place.ensures.from
+    (λ h. absurd (omega arith)))
 
 pub returns-then-number_at-scalar : goal.returns-then-number_at-scalar
 returns-then-number_at-scalar g c =

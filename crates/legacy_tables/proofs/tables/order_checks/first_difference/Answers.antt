@@ -7,7 +7,8 @@ use Rattle.legacy_tables.proofs.tables.order_checks.first_difference.Goals as go
 pub returns-then-lacks : goal.returns-then-lacks
 unfolding order_difference
 returns-then-lacks g c =
-    sym (find-some (is_lacking c.args.part (g.N.Numbers.numbers c.args.index.now) c.args.order.now) 0 (length (g.N.Numbers.numbers c.args.index.now)) c.loop-pointer.pointer
+    sym (find-some (is_lacking c.args.part (g.N.Numbers.numbers c.args.index.now) c.args.order.now) 0
+    (length (g.N.Numbers.numbers c.args.index.now)) c.loop-pointer.pointer
     (omega arith) (omega arith)
     (sym c.lacks.ensures ∙ c.if-lacks.true) (λ k l h. c.loop-pointer.invariant k h))
 

@@ -1,19 +1,17 @@
-use Rattle.std.proofs.Common.{◌∙◌, sym}
-use Rattle.legacy_tables.proofs.Orders.{order-pass, order-fail, order-done}
+use Rattle.std.proofs.Common.{◌∙◌, sym, refl}
+use Rattle.legacy_tables.proofs.Orders.{pointers_next, pointers_end}
 use Rattle.legacy_tables.proofs.tables.order_checks.first_out_of_order.Goals as goal
 
 pub returns-then-not-is_in_order : goal.returns-then-not-is_in_order
 returns-then-not-is_in_order g c =
-    let is = rw c.from.ensures at c.is_in_order.ensures in
-    sym (order-fail c.args.part (g.N.Numbers.numbers c.args.index.now) c.args.order.now c.loop-place.place c.loop-place.above _ c.loop-place.invariant c.loop-place-test.true (sym is
-    ∙ c.if-not-is_in_order.true))
+    let out = sym (rw c.from.ensures at c.is_in_order.ensures) ∙ c.if-not-is_in_order.true in
+    sym (c.loop-place.invariant ∙ pointers_next _ _ _ _ _ c.loop-place-test.true ∙ rw out refl)
 
 pub loop-place-preserved : goal.loop-place-preserved
 loop-place-preserved g c =
-    let is = rw c.from.ensures at c.is_in_order.ensures in
+    let is = sym (rw c.from.ensures at c.is_in_order.ensures) ∙ c.if-not-is_in_order.false in
     rw (c.number_at-above.ensures, c.from-in-loop-place.ensures)
-    (order-pass c.args.part (g.N.Numbers.numbers c.args.index.now) c.args.order.now c.loop-place.place c.loop-place.above _ c.loop-place.invariant c.loop-place-test.true (sym is
-    ∙ c.if-not-is_in_order.false))
+    (c.loop-place.invariant ∙ pointers_next _ _ _ _ _ c.loop-place-test.true ∙ rw is refl)
 
 pub returns : goal.returns
-returns g c = sym (order-done c.args.part (g.N.Numbers.numbers c.args.index.now) c.args.order.now c.loop-place.place c.loop-place.above _ c.loop-place.invariant c.loop-place-test.false)
+returns g c = sym (c.loop-place.invariant ∙ pointers_end _ _ _ _ _ c.loop-place-test.false)

@@ -12,7 +12,8 @@ pub returns-then-differ : goal.returns-then-differ
 unfolding run_difference
 returns-then-differ g c =
     let told = rw (c.flat_scalar.ensures, c.scalar_at.ensures) at c.differ.ensures in
-    sym (find-some (differs_at c.args.runs.now.runs.now (g.N.Numbers.numbers c.args.index.now)) 0 c.args.limit c.loop-pointer.pointer (omega arith) (omega arith)
+    sym (find-some (differs_at c.args.runs.now.runs.now (g.N.Numbers.numbers c.args.index.now)) 0 c.args.limit c.loop-pointer.pointer (omega arith)
+    (omega arith)
     (sym told ∙ c.if-differ.true) (λ k l h. c.loop-pointer.invariant.none k h))
 
 pub loop-pointer-preserved : goal.loop-pointer-preserved
@@ -32,5 +33,6 @@ returns g c =
     sym (find-none (differs_at c.args.runs.now.runs.now (g.N.Numbers.numbers c.args.index.now)) 0 c.args.limit
     (λ k l h. elim (cases_lt k c.loop-pointer.pointer) [
       | inl m ↦ c.loop-pointer.invariant.none k m
-      | inr m ↦ same-behind c.args.runs.now.runs.now (g.N.Numbers.numbers c.args.index.now) k (omega arith) (scalar-past_list c.args.runs.now.runs.now k (omega (arith, c.end.ensures)))
+      | inr m ↦ same-behind c.args.runs.now.runs.now (g.N.Numbers.numbers c.args.index.now) k (omega arith)
+          (scalar-past_list c.args.runs.now.runs.now k (omega (arith, c.end.ensures)))
     ]))

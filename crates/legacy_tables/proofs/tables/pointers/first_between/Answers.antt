@@ -1,9 +1,6 @@
 use Rattle.std.proofs.Common.{◌∙◌, sym, arith}
-use Rattle.legacy_tables.proofs.Pointers.{first-zero, first-between, none-between}
+use Rattle.legacy_tables.proofs.Pointers.{first-between, none-between}
 use Rattle.legacy_tables.proofs.tables.pointers.first_between.Goals as goal
-
-pub returns-then-entry-eq0 : goal.returns-then-entry-eq0
-returns-then-entry-eq0 g c = sym (first-zero _ _ _ c.if-entry-eq0.true)
 
 pub returns-then-number-entry : goal.returns-then-number-entry
 returns-then-number-entry g c =

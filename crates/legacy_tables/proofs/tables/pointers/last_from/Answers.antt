@@ -1,9 +1,6 @@
 use Rattle.std.proofs.Common.{◌≤◌, ◌∙◌, length, arith, sym}
-use Rattle.legacy_tables.proofs.Pointers.{last-zero, last-from, none-from}
+use Rattle.legacy_tables.proofs.Pointers.{last-from, none-from}
 use Rattle.legacy_tables.proofs.tables.pointers.last_from.Goals as goal
-
-pub returns-then-entry-eq0 : goal.returns-then-entry-eq0
-returns-then-entry-eq0 g c = sym (last-zero _ _ _ c.if-entry-eq0.true)
 
 pub returns-then-number-entry : goal.returns-then-number-entry
 returns-then-number-entry g c =

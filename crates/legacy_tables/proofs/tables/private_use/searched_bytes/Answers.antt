@@ -3,7 +3,8 @@ use Rattle.legacy_tables.proofs.PrivateUse.{row-end, row-other, row-found}
 use Rattle.legacy_tables.proofs.tables.private_use.searched_bytes.Goals as goal
 
 pub returns-then-place-rows : goal.returns-then-place-rows
-returns-then-place-rows c = row-end c.args.scalar c.args.rows.now c.rows_below-place.result (rw c.from.ensures at c.rows_below-place.ensures.below) (omega arith)
+returns-then-place-rows c = row-end c.args.scalar c.args.rows.now c.rows_below-place.result (rw c.from.ensures at c.rows_below-place.ensures.below)
+    (omega arith)
 
 pub returns-then-from : goal.returns-then-from
 returns-then-from c =

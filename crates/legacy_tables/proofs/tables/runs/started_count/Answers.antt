@@ -7,6 +7,7 @@ use Rattle.legacy_tables.proofs.tables.runs.started_count.Goals as goal
 
 pub returns : goal.returns
 returns g c =
-    let point = IsPartitionPoint-from_clause (λ (r : Run). nat_le r.pointer c.args.pointer) c.args.runs.now c.partition_point.result c.partition_point.ensures.partitioned
+    let point =
+    IsPartitionPoint-from_clause (λ (r : Run). nat_le r.pointer c.args.pointer) c.args.runs.now c.partition_point.result c.partition_point.ensures.partitioned
     (IsPartitionedBy-leb (λ (r : Run). r.pointer) c.args.runs.now c.args.pointer (starts-rise c.args.runs.now c.requires)) (λ a r q k. search rules) in
     record { within = search rules; started = λ k h. leb-true _ _ (point.0 k no_run (omega arith) h); ahead = λ k h l. leb-false _ _ (point.1 k no_run h l) }

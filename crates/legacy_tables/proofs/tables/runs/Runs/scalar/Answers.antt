@@ -6,7 +6,8 @@ use Rattle.legacy_tables.proofs.tables.runs.Runs.scalar.Goals as goal
 pub returns-then-count-eq0 : goal.returns-then-count-eq0
 returns-then-count-eq0 g c =
     let none = c.if-count-eq0.true in
-    sym (none-has c.args.self.now.runs.now c.args.self.now.ordered c.args.pointer c.started_count-count.result c.started_count-count.ensures.ahead (λ h. absurd (omega arith))
+    sym (none-has c.args.self.now.runs.now c.args.self.now.ordered c.args.pointer c.started_count-count.result c.started_count-count.ensures.ahead
+    (λ h. absurd (omega arith))
     c.started_count-count.ensures.within)
 
 pub overflow_sub-at : goal.overflow_sub-at
@@ -19,7 +20,8 @@ returns-then-at-from g c =
     let from : (run_at runs n).pointer ≤ c.args.pointer = c.started_count-count.ensures.started n (omega arith) in
     let past : (run_at runs n).length ≤ c.args.pointer - (run_at runs n).pointer = rw (c.from.ensures, c.from-2.ensures) at c.if-at-from.true in
     let behind : run_end (run_at runs n) ≤ c.args.pointer = omega arith in
-    sym (none-has runs c.args.self.now.ordered c.args.pointer c.started_count-count.result c.started_count-count.ensures.ahead (λ h. behind) c.started_count-count.ensures.within)
+    sym (none-has runs c.args.self.now.ordered c.args.pointer c.started_count-count.result c.started_count-count.ensures.ahead
+    (λ h. behind) c.started_count-count.ensures.within)
 
 pub returns : goal.returns
 returns g c =

@@ -4,7 +4,8 @@ use Rattle.legacy_tables.proofs.PackedRuns.{scalar-before, scalar-within}
 use Rattle.legacy_tables.proofs.tables.runs.Runs.scalar_at.Goals as goal
 
 pub returns-then-place-self : goal.returns-then-place-self
-returns-then-place-self g c = sym (scalar-before c.args.self.now.runs.now c.args.self.now.ordered c.args.place c.args.pointer c.requires (λ h. absurd (omega arith)))
+returns-then-place-self g c = sym (scalar-before c.args.self.now.runs.now c.args.self.now.ordered c.args.place c.args.pointer c.requires
+    (λ h. absurd (omega arith)))
 
 pub returns-then-pointer-from : goal.returns-then-pointer-from
 returns-then-pointer-from g c =
