@@ -1,7 +1,7 @@
 -- Facts about indexes and single-byte tables that passed their check.
 use Rattle.std.proofs.Common.{◌≡◌, ◌≢◌, ◌∙◌, ◌⊎◌, ℕ, zero, suc, ◌+◌, ◌-◌, ◌≤◌, ◌<◌, List, [], ◌∷◌, length}
 use Rattle.std.proofs.Common.{get_or, add-one, refl, inl, inr}
-use Rattle.std.proofs.Common.{sym, arith, Some, None, Option, true, false, Bool, ◌&&◌, ◌||◌, not, cond, eq-eqb, nat_le, subst, ◌==◌}
+use Rattle.std.proofs.Common.{sym, arith, Some, None, Option, true, false, Bool, ◌||◌, not, cond, eq-eqb, nat_le, nat_lt, subst, ◌==◌}
 use Rattle.std.proofs.lemmas.Bool.{and_parts, cases_eq, ne_eqb, eqb-false, false≢true, not-false}
 use Rattle.std.proofs.lemmas.Option.{cond_some, same_Some}
 use Rattle.std.proofs.lemmas.Bool.Decides.{nat_tests}
@@ -25,7 +25,7 @@ use Rattle.legacy_tables.proofs.FirstPlaces.{taken}
 use Rattle.legacy_tables.specs.Tables.{index_list, is_narrow_index}
 use Rattle.legacy_tables.specs.TableChecks.{is_narrow_entry, is_entry, must_be_empty, entry_fault, entries_fault, index_fault, katakana_fault}
 use Rattle.legacy_tables.specs.TableChecks.{range_order_fault, AreAccepted}
-use Rattle.legacy_tables.specs.TableChecks.{follows_range, next_pointer, has_range_scalars, range_value_fault, rows_fault, table_fault}
+use Rattle.legacy_tables.specs.TableChecks.{next_pointer, has_range_scalars, range_value_fault, rows_fault, table_fault}
 
 -- ---- no fault of two parts, and of a test
 
@@ -208,11 +208,6 @@ module _ (flat : FlatIndexes) (accepted : AreAccepted flat) where
 
 -- ---- accepted ranges
 
--- a range that follows another begins after all scalars of that one
-next_above : (before r : ℕ × ℕ) → (nat_le r.0 39419 && follows_range (Some before) r) ≡ true
-    → (before.0 < r.0) × (before.1 + (r.0 - before.0) ≤ r.1)
-next_above before r h = let b = and_parts _ _ (and_parts _ _ h).1 in (ltb-true before.0 r.0 b.0, leb-true _ r.1 b.1)
-
 -- pointers and scalars rise together, and pointers do not rise by more
 pub climb : (place : ℕ) (before : Option (ℕ × ℕ)) (ranges : List (ℕ × ℕ)) → range_order_fault place before ranges ≡ None →
     AllAdjacentBelow (λ r s. (r.0 < s.0) × (r.1 + (s.0 - r.0) ≤ s.1)) ranges (length ranges)
@@ -221,7 +216,9 @@ climb place before [] e k d h = absurd (omega arith)
 climb place before (r ∷ []) e k d h = absurd (omega arith)
 climb place before (r ∷ s ∷ ranges) e zero d h =
     let t = taken _ (RangeOrder place) (range_order_fault (place + 1) (Some r) (s ∷ ranges)) e in
-    next_above r s (taken _ (RangeOrder (place + 1)) (range_order_fault (place + 1 + 1) (Some s) ranges) t.1).0
+    let next = taken _ (RangeOrder (place + 1)) (range_order_fault (place + 1 + 1) (Some s) ranges) t.1 in
+    let b = and_parts (nat_lt r.0 s.0) _ (and_parts _ _ next.0).1 in
+    (ltb-true r.0 s.0 b.0, leb-true _ s.1 b.1)
 climb place before (r ∷ s ∷ ranges) e (suc k) d h =
     let t = taken _ (RangeOrder place) (range_order_fault (place + 1) (Some r) (s ∷ ranges)) e in
     rw (add-one (suc k)) (rw (add-one k) at (climb (place + 1) (Some r) (s ∷ ranges) t.1 k d (omega arith)))
@@ -288,11 +285,8 @@ last-cases r ranges p c e = go (last_range_scalar ranges p) e
     go (Some x) z = inl z
     go None z = let t = cond_some _ _ c z in inr (refl, leb-true r.0 p t.0, t.1)
 
-in_range-narrow : (r0 r1 end p : ℕ) → has_range_scalars (r0, r1) end ≡ true → r0 ≤ p → p < end → r1 + (p - r0) < 0x1_0000
-in_range-narrow r0 r1 end p h l g = grind (arith, nat_tests)
-
-in_range-scalar : (r0 r1 end p : ℕ) → has_range_scalars (r0, r1) end ≡ true → r0 ≤ p → p < end → IsScalar (r1 + (p - r0))
-in_range-scalar r0 r1 end p h l g = grind (arith, nat_tests)
+in_range : (r0 r1 end p : ℕ) → has_range_scalars (r0, r1) end ≡ true → r0 ≤ p → p < end → IsScalar (r1 + (p - r0)) × (r1 + (p - r0) < 0x1_0000)
+in_range r0 r1 end p h l g = (grind (arith, nat_tests), grind (arith, nat_tests))
 
 -- ranges give only scalars below U+10000
 pub last_range-narrow : (place : ℕ) (ranges : List (ℕ × ℕ)) → range_value_fault place ranges ≡ None
@@ -305,7 +299,7 @@ last_range-narrow place (r ∷ ranges) e p c h is =
       | inl later ↦ last_range-narrow (place + 1) ranges t.1 p c h later
       | inr here ↦
           let high = next-above ranges p h here.0 in
-          rw (← here.2) (in_range-scalar r.0 r.1 _ p t.0 here.1 high, in_range-narrow r.0 r.1 _ p t.0 here.1 high)
+          rw (← here.2) (in_range r.0 r.1 _ p t.0 here.1 high)
     ]
 
 -- ---- look-ups

@@ -1,6 +1,6 @@
 -- Facts about single-byte tables that passed their check.
 use Rattle.std.proofs.Common.{◌≡◌, ◌≢◌, ◌∙◌, ℕ, zero, suc, ◌+◌, ◌<◌, List, [], ◌∷◌, length, get_or, refl, sym, one-add, arith}
-use Rattle.std.proofs.Common.{Some, None, true, false, Bool, ◌||◌, ◌↔◌, not, cond, eqb, eq-eqb, ◌==◌, position, inl, inr, subst}
+use Rattle.std.proofs.Common.{Some, None, true, false, ◌↔◌, eqb, eq-eqb, ◌==◌, position, inl, inr}
 use Rattle.std.proofs.lemmas.Bool.{eqb-true, ne_eqb, or_parts, cases_lt, lt-ltb}
 use Rattle.std.proofs.lemmas.Bool.Decides.{nat_tests}
 use Rattle.std.proofs.lemmas.List.{get_or_past}

@@ -204,15 +204,7 @@ module _ (part : PackedPart) (index order : List ℕ) (lookup : ℕ → Option �
           let at = there.1 in
           absurd ((pointer-taken part index c).missing z q (is.usable q there.0) there.1 (λ n. absurd (omega arith)))
 
--- it is an order of the codec
-pub is-order : (part : PackedPart) (index order : List ℕ) → order_fault part index order ≡ None → order_difference part index order ≡ None
-    → IsOrder part index order
-is-order part index order none all = record {
-  rises = order-rises part index order none;
-  answers = order-answers part index order (order_pointer index order) (order-lookup part index order none) all;
-}
-
--- it is also an order for an index with the same entries
+-- an order of the codec is also one for an index with the same entries
 pub order-same : (part : PackedPart) (a b order : List ℕ) → ((p : ℕ) → slice_index a p ≡ slice_index b p) → IsOrder part b order
     → IsOrder part a order
 unfolding order_pointer

@@ -18,10 +18,10 @@ use Rattle.legacy_tables.specs.declared.tables.packed.PackedPart.TheVariants as 
 use Rattle.legacy_tables.specs.Unicode.{AreScalars}
 use Rattle.legacy_tables.specs.Indexes.{FlatIndexes, idx, entry_scalar}
 use Rattle.legacy_tables.specs.TableChecks.{entry_fault, entries_fault, index_fault, table_fault, AreAccepted}
-use Rattle.legacy_tables.specs.Runs.{run_at, run_end, runs_scalar, runs_entry, runs_list, run_fault}
+use Rattle.legacy_tables.specs.Runs.{run_at, run_end, runs_scalar, runs_list, run_fault}
 use Rattle.legacy_tables.specs.Tables.{index_list}
 use Rattle.legacy_tables.specs.Packed.{part_fault, differs_at, run_difference, runs_fault, all_runs_fault, all_orders_fault}
-use Rattle.legacy_tables.specs.Packed.{packed_lists, AnswerAlike, ArePackedTables}
+use Rattle.legacy_tables.specs.Packed.{packed_lists, ArePackedTables}
 use Rattle.legacy_tables.proofs.Accepted.{parts, or_none, entry_at}
 use Rattle.legacy_tables.specs.PackedTables.{lists_of_runs, AreRunsOf, AnswerPointersOf}
 use Rattle.legacy_tables.specs.declared.tables.packed_checks.CheckedRuns.{CheckedRuns}

@@ -1,8 +1,8 @@
 -- The pointer that the codec of an order uses, which is the same in indexes with the same entries.
-use Rattle.std.proofs.Common.{◌≡◌, ◌∙◌, ℕ, zero, suc, ◌+◌, List, length, slice_index, sym, arith, true, false, Bool, cond}
+use Rattle.std.proofs.Common.{◌≡◌, ◌∙◌, ℕ, zero, suc, ◌+◌, List, length, slice_index, sym, arith}
+use Rattle.std.proofs.lemmas.Bool.{cond_both}
 use Rattle.std.proofs.lemmas.List.{get_or_past}
 use Rattle.legacy_tables.specs.declared.tables.packed.PackedPart.{PackedPart}
-use Rattle.legacy_tables.specs.Pointers.{first_pointer, last_pointer}
 use Rattle.legacy_tables.specs.Packed.{may_use, pointer_of, takes_last}
 use Rattle.legacy_tables.specs.Walks.{taken_below}
 use Rattle.legacy_tables.proofs.Pointers.{IsTaken, first-taken, last-taken}
@@ -10,11 +10,9 @@ use Rattle.legacy_tables.proofs.Walks.{none-taken, taken-more, taken-empty, take
 
 -- the pointer that a codec uses
 pub pointer-taken : (part : PackedPart) (index : List ℕ) (c : ℕ) → IsTaken (may_use part) index c (pointer_of part index c)
-pointer-taken part index c = go (takes_last part c)
-  where
-    go : (t : Bool) → IsTaken (may_use part) index c (cond t (last_pointer (may_use part) index c) (first_pointer (may_use part) index c))
-    go true = last-taken (may_use part) index c
-    go false = first-taken (may_use part) index c
+pointer-taken part index c =
+    cond_both (takes_last part c) _ _ (IsTaken (may_use part) index c)
+    (λ e. last-taken (may_use part) index c) (λ e. first-taken (may_use part) index c)
 
 module _ (part : PackedPart) (c : ℕ) where
   -- numbers past an index are no pointers

@@ -1,7 +1,7 @@
 -- Runs in order, and the scalars that they give.
 use Rattle.std.proofs.Common.{◌≡◌, ◌∙◌, ℕ, zero, suc, ◌+◌, ◌-◌, ◌≤◌, ◌<◌, List, [], ◌∷◌, length, get_or, drop, drop-cons}
 use Rattle.std.proofs.Common.{add-one, refl}
-use Rattle.std.proofs.Common.{sym, ap, arith, Some, None, true, false, ◌&&◌, cond, nat_le, inl, inr}
+use Rattle.std.proofs.Common.{sym, ap, arith, Some, None, true, cond, nat_le, inl, inr}
 use Rattle.std.proofs.Math.Bool.{and-false}
 use Rattle.std.proofs.Math.ListN.{drop_of_length-le}
 use Rattle.std.proofs.lemmas.Bool.{and_parts, cases_lt}
@@ -11,7 +11,6 @@ use Rattle.std.specs.List.Sorted.{IsNonDecreasingBy}
 use Rattle.std.specs.Option.{option_map_or}
 use borrow.Author.Tests.{ltb-true, leb-true, le-leb, lt-leb, lt-ltb, le-ltb}
 use Rattle.legacy_tables.specs.declared.tables.packed.Run.{Run}
-use Rattle.legacy_tables.specs.Packed.{differs_at}
 use Rattle.legacy_tables.specs.Runs.{run_at, HasPointer, run_end, run_scalar, runs_scalar, runs_entry, runs_end, runs_list, is_run_in_order}
 use Rattle.legacy_tables.specs.Runs.{run_fault_from, run_fault, AreInOrder, IsFirstBehind}
 use Rattle.legacy_tables.proofs.FirstPlaces.{taken}
@@ -143,15 +142,6 @@ module _ {limit : ℕ} (runs : List Run) (ordered : AreInOrder limit runs) where
         | inr m ↦ let same : k ≡ n = omega arith in outside-before (run_at runs k) p (rw same (before (omega arith)))
       ]
     ])
-
-    -- a pointer from its start on has the scalar that it gives
-    pub scalar-within : n < length runs → (run_at runs n).pointer ≤ p
-        → runs_scalar runs p ≡ Some ((run_at runs n).scalar + (p - (run_at runs n).pointer))
-    scalar-within within from = scalar-had runs ordered p n (record { within = within; from = from; before = first.behind within })
-
--- if neither runs nor an index have a pointer, they do not differ there
-pub same-behind : (runs : List Run) (index : List ℕ) (p : ℕ) → length index ≤ p → runs_scalar runs p ≡ None → differs_at runs index p ≡ false
-same-behind runs index p h e = rw (get_or_past index p 0 h, e) refl
 
 -- ---- the flat list of runs
 

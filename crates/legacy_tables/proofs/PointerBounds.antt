@@ -1,5 +1,5 @@
 -- The greatest pointers that encoders use in accepted indexes.
-use Rattle.std.proofs.Common.{◌≡◌, ℕ, ◌<◌, ◌≤◌, Bool, List, length, refl, arith, Some, None, Option}
+use Rattle.std.proofs.Common.{ℕ, ◌<◌, ◌≤◌, Bool, List, length, arith, Option}
 use Rattle.std.proofs.lemmas.Option.{IfSome_then}
 use Rattle.std.specs.Option.{IfSome}
 use borrow.Author.Tests.{ltb-true}
@@ -8,7 +8,7 @@ use Rattle.legacy_tables.specs.TableChecks.{AreAccepted}
 use Rattle.legacy_tables.specs.Pointers.{every_pointer, is_shift_jis_pointer, is_jis0208_pointer, big5_pointer_of}
 use Rattle.legacy_tables.specs.Pointers.{euc_kr_pointer_of, shift_jis_pointer_of, euc_jp_pointer_of, gb18030_pointer_of, range_pointer_of}
 use Rattle.legacy_tables.proofs.Accepted.{parts}
-use Rattle.legacy_tables.proofs.Pointers.{IsTaken, taken-within, first-taken, big5-taken, range-taken}
+use Rattle.legacy_tables.proofs.Pointers.{IsTaken, if_some, taken-within, first-taken, big5-taken, range-taken}
 
 module _ (flat : FlatIndexes) (accepted : AreAccepted flat) (c : ℕ) where
   bound : (may : ℕ → Bool) (index : List ℕ) (o : Option ℕ) (limit : ℕ) → length index ≤ limit → IsTaken may index c o
@@ -30,15 +30,8 @@ module _ (flat : FlatIndexes) (accepted : AreAccepted flat) (c : ℕ) where
 -- bounds by the pointers that the codec may use, and by the last pointer that has a scalar
 module _ (c : ℕ) where
   pub euc-jp-bound : (jis0208 : List ℕ) → IfSome (euc_jp_pointer_of jis0208 c) (λ p. p < 8836)
-  euc-jp-bound jis0208 = go (euc_jp_pointer_of jis0208 c) (first-taken is_jis0208_pointer jis0208 c)
-    where
-      go : (o : Option ℕ) → IsTaken is_jis0208_pointer jis0208 c o → IfSome o (λ p. p < 8836)
-      go None t = tt
-      go (Some p) t = ltb-true p 8836 (t.chosen p refl).0
+  euc-jp-bound jis0208 =
+      if_some (euc_jp_pointer_of jis0208 c) _ (λ p e. ltb-true p 8836 ((first-taken is_jis0208_pointer jis0208 c).chosen p e).0)
 
   pub range-bound : (ranges : List (ℕ × ℕ)) → IfSome (range_pointer_of ranges c) (λ p. p < 1237576)
-  range-bound ranges = go (range_pointer_of ranges c) refl
-    where
-      go : (o : Option ℕ) → range_pointer_of ranges c ≡ o → IfSome o (λ p. p < 1237576)
-      go None e = tt
-      go (Some p) e = (range-taken ranges c p e).1
+  range-bound ranges = if_some (range_pointer_of ranges c) _ (λ p e. (range-taken ranges c p e).1)

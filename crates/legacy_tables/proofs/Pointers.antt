@@ -1,15 +1,14 @@
 -- The pointer that an encoder uses: a usable pointer of the scalar, either the first or the last one.
 use Rattle.std.proofs.Common.{◌≡◌, ◌≢◌, ◌∙◌, ℕ, ◌≤◌, ◌<◌, List, length, slice_index, refl, sym, ap, arith, Some, None}
-use Rattle.std.proofs.Common.{Option, true, false, Bool, ◌&&◌, ◌||◌, cond, find, min, nat_le, nat_lt, eq-eqb, ◌==◌, inl, inr}
+use Rattle.std.proofs.Common.{Option, true, false, Bool, ◌&&◌, ◌||◌, cond, min, nat_le, nat_lt, eq-eqb, ◌==◌, inl, inr}
 use Rattle.std.proofs.lemmas.Bool.{cases_lt, cases_eq, ne_eqb, eqb-true, true≢false, and_parts, cond_both, false_from_ne_true}
 use Rattle.std.proofs.lemmas.Bool.Decides.{nat_tests}
 use Rattle.std.proofs.lemmas.List.{get_or_past}
 use Rattle.std.proofs.lemmas.Option.{same_Some}
 use Rattle.std.specs.Option.{IfSome, option_map_or, option_or}
-use Rattle.std.specs.List.{range_with_len}
 use borrow.Author.Tests.{ltb-true, leb-true, lt-ltb, le-leb}
 use Rattle.legacy_tables.specs.Indexes.{range}
-use Rattle.legacy_tables.specs.Pointers.{every_pointer, is_shift_jis_pointer, is_pointer_of, first_pointer, last_pointer}
+use Rattle.legacy_tables.specs.Pointers.{is_shift_jis_pointer, is_pointer_of, first_pointer, last_pointer}
 use Rattle.legacy_tables.specs.Pointers.{big5_pointer_of, takes_last_big5_pointer, is_big5_pointer, is_range_pointer_of, first_range_pointer, range_pointer_of}
 use Rattle.legacy_tables.proofs.FirstPlaces.{find-some, find-none, find-none-at, find-first, last-some, last-none, last-is, find-same, find-either}
 
@@ -157,10 +156,13 @@ big5-taken index c =
     cond_both (takes_last_big5_pointer c) _ _ (IsTaken is_big5_pointer index c)
     (λ e. last-taken is_big5_pointer index c) (λ e. first-taken is_big5_pointer index c)
 
+pub if_some : (o : Option ℕ) (P : ℕ → Type 0) → ((p : ℕ) → o ≡ Some p → P p) → IfSome o P
+if_some None P all = tt
+if_some (Some p) P all = all p refl
+
 -- the pointer used is within the index
 pub taken-within : (may : ℕ → Bool) (index : List ℕ) (c : ℕ) (o : Option ℕ) → IsTaken may index c o → IfSome o (λ p. p < length index)
-taken-within may index c None t = tt
-taken-within may index c (Some p) t = let is = t.chosen p refl in within may index c p is.2 is.1
+taken-within may index c o t = if_some o _ (λ p e. let is = t.chosen p e in within may index c p is.2 is.1)
 
 -- ---- pointers of four bytes
 

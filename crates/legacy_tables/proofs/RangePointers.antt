@@ -1,7 +1,7 @@
 -- The pointer of four bytes that has a scalar. Ranges in order give each scalar of the Basic Multilingual Plane at most
 -- one pointer.
 use Rattle.std.proofs.Common.{◌≡◌, ◌≢◌, ◌∙◌, ℕ, zero, suc, ◌+◌, ◌-◌, ◌≤◌, ◌<◌, List, [], ◌∷◌, length, get_or, drop}
-use Rattle.std.proofs.Common.{drop-cons, refl, sym, ap, subst, arith, Some, None, Option, nat_le, inl, inr}
+use Rattle.std.proofs.Common.{drop-cons, refl, sym, ap, subst, arith, Some, None, inl, inr}
 use Rattle.std.proofs.lemmas.Bool.{cases_lt, ne_eqb}
 use Rattle.std.proofs.lemmas.Bool.Decides.{nat_tests}
 use Rattle.std.proofs.Math.ListN.{drop_of_length-le}

@@ -1,5 +1,5 @@
 use Rattle.std.proofs.Common.{sym, refl}
-use Rattle.legacy_tables.proofs.Orders.{is-order, order-rises, order-lookup}
+use Rattle.legacy_tables.proofs.Orders.{order-answers, order-rises, order-lookup}
 use Rattle.legacy_tables.proofs.tables.order_checks.check_order.Goals as goal
 
 pub first_difference-requires : goal.first_difference-requires
@@ -9,8 +9,9 @@ first_difference-requires g c =
 
 pub returns-in-None : goal.returns-in-None
 returns-in-None g c =
-    let ordered = c.in_default.ensures in
-    let none = c.in-None.ensures in (
-      is-order c.args.part (g.N.Numbers.numbers c.args.index.now) c.args.order.now (sym ordered) (sym none),
-      rw (← ordered, ← none) refl,
+    let ordered = sym c.in_default.ensures in
+    let none = sym c.in-None.ensures in
+    let lookup = order-lookup c.args.part _ c.args.order.now ordered in (
+      record { rises = order-rises c.args.part _ c.args.order.now ordered; answers = order-answers c.args.part _ _ _ lookup none },
+      rw (ordered, none) refl,
     )

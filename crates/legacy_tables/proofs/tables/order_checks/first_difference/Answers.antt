@@ -1,5 +1,5 @@
-use Rattle.std.proofs.Common.{◌≡◌, ◌∙◌, sym, arith, length, inl, inr}
-use Rattle.std.proofs.lemmas.Bool.{cases_lt}
+use Rattle.std.proofs.Common.{◌≡◌, ◌∙◌, sym, arith, false, length}
+use borrow.Author.Count.{below_more}
 use Rattle.legacy_tables.specs.Packed.{is_lacking, order_difference}
 use Rattle.legacy_tables.proofs.FirstPlaces.{find-some, find-none}
 use Rattle.legacy_tables.proofs.tables.order_checks.first_difference.Goals as goal
@@ -9,15 +9,12 @@ unfolding order_difference
 returns-then-lacks g c =
     sym (find-some (is_lacking c.args.part (g.N.Numbers.numbers c.args.index.now) c.args.order.now) 0
     (length (g.N.Numbers.numbers c.args.index.now)) c.loop-pointer.pointer
-    (omega arith) (omega arith)
-    (sym c.lacks.ensures ∙ c.if-lacks.true) (λ k l h. c.loop-pointer.invariant k h))
+    (omega arith) (omega arith) (sym c.lacks.ensures ∙ c.if-lacks.true) (λ k l h. c.loop-pointer.invariant k h))
 
 pub loop-pointer-preserved : goal.loop-pointer-preserved
 loop-pointer-preserved g c =
-    λ k h. elim (cases_lt k c.loop-pointer.pointer) [
-      | inl l ↦ c.loop-pointer.invariant k l
-      | inr l ↦ let same : k ≡ c.loop-pointer.pointer = omega arith in rw same (sym c.lacks.ensures ∙ c.if-lacks.false)
-    ]
+    below_more (λ k. is_lacking c.args.part (g.N.Numbers.numbers c.args.index.now) c.args.order.now k ≡ false) c.loop-pointer.pointer
+    c.loop-pointer.invariant (sym c.lacks.ensures ∙ c.if-lacks.false)
 
 pub returns : goal.returns
 unfolding order_difference

@@ -1,8 +1,10 @@
-use Rattle.std.proofs.Common.{◌≡◌, ◌∙◌, sym, arith, inl, inr}
+use Rattle.std.proofs.Common.{◌≡◌, ◌∙◌, sym, refl, arith, false, inl, inr}
 use Rattle.std.proofs.lemmas.Bool.{cases_lt}
+use borrow.Author.Count.{below_more}
 use Rattle.legacy_tables.specs.Packed.{differs_at, run_difference}
 use Rattle.legacy_tables.proofs.FirstPlaces.{find-some, find-none}
-use Rattle.legacy_tables.proofs.PackedRuns.{first-behind, same-behind, scalar-past_list}
+use Rattle.std.proofs.lemmas.List.{get_or_past}
+use Rattle.legacy_tables.proofs.PackedRuns.{first-behind, scalar-past_list}
 use Rattle.legacy_tables.proofs.tables.packed_checks.first_difference.Goals as goal
 
 pub loop-pointer-init : goal.loop-pointer-init
@@ -13,17 +15,14 @@ unfolding run_difference
 returns-then-differ g c =
     let told = rw (c.flat_scalar.ensures, c.scalar_at.ensures) at c.differ.ensures in
     sym (find-some (differs_at c.args.runs.now.runs.now (g.N.Numbers.numbers c.args.index.now)) 0 c.args.limit c.loop-pointer.pointer (omega arith)
-    (omega arith)
-    (sym told ∙ c.if-differ.true) (λ k l h. c.loop-pointer.invariant.none k h))
+    (omega arith) (sym told ∙ c.if-differ.true) (λ k l h. c.loop-pointer.invariant.none k h))
 
 pub loop-pointer-preserved : goal.loop-pointer-preserved
 loop-pointer-preserved g c =
     let told = rw (c.flat_scalar.ensures, c.scalar_at.ensures) at c.differ.ensures in
     record {
-      none = λ k h. elim (cases_lt k c.loop-pointer.pointer) [
-        | inl l ↦ c.loop-pointer.invariant.none k l
-        | inr l ↦ let same : k ≡ c.loop-pointer.pointer = omega arith in rw same (sym told ∙ c.if-differ.false)
-      ];
+      none = below_more (λ k. differs_at c.args.runs.now.runs.now (g.N.Numbers.numbers c.args.index.now) k ≡ false) c.loop-pointer.pointer
+          c.loop-pointer.invariant.none (sym told ∙ c.if-differ.false);
       place = c.next_place-place.ensures;
     }
 
@@ -33,6 +32,7 @@ returns g c =
     sym (find-none (differs_at c.args.runs.now.runs.now (g.N.Numbers.numbers c.args.index.now)) 0 c.args.limit
     (λ k l h. elim (cases_lt k c.loop-pointer.pointer) [
       | inl m ↦ c.loop-pointer.invariant.none k m
-      | inr m ↦ same-behind c.args.runs.now.runs.now (g.N.Numbers.numbers c.args.index.now) k (omega arith)
-          (scalar-past_list c.args.runs.now.runs.now k (omega (arith, c.end.ensures)))
+      | inr m ↦
+          let past = scalar-past_list c.args.runs.now.runs.now k (omega (arith, c.end.ensures)) in
+          rw (get_or_past (g.N.Numbers.numbers c.args.index.now) k 0 (omega arith), past) refl
     ]))

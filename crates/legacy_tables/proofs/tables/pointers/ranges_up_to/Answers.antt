@@ -1,4 +1,4 @@
-use Rattle.std.proofs.Common.{ℕ, None, rules, arith, nat_le}
+use Rattle.std.proofs.Common.{ℕ, rules, arith, nat_le}
 use Rattle.std.proofs.lemmas.List.Sorted.{IsPartitionPoint-from_clause, IsPartitionedBy-leb}
 use borrow.Author.Tests.{leb-true, leb-false}
 use Rattle.legacy_tables.proofs.Accepted.{rising_scalars}

@@ -1,6 +1,6 @@
 use Rattle.std.proofs.Common.{◌≤◌, ◌<◌, length, sym, arith}
 use Rattle.legacy_tables.specs.Runs.{run_at}
-use Rattle.legacy_tables.proofs.PackedRuns.{scalar-before, scalar-within}
+use Rattle.legacy_tables.proofs.PackedRuns.{scalar-before, scalar-had}
 use Rattle.legacy_tables.proofs.tables.runs.Runs.scalar_at.Goals as goal
 
 pub returns-then-place-self : goal.returns-then-place-self
@@ -18,4 +18,5 @@ returns g c =
     let runs = c.args.self.now.runs.now in
     let within : c.args.place < length runs = omega (arith, c.requires.within) in
     let from : (run_at runs c.args.place).pointer ≤ c.args.pointer = rw c.from.ensures at c.if-pointer-from.false in
-    rw c.from-2.ensures (sym (scalar-within runs c.args.self.now.ordered c.args.place c.args.pointer c.requires within from))
+    rw c.from-2.ensures (sym (scalar-had runs c.args.self.now.ordered c.args.pointer c.args.place
+    (record { within = within; from = from; before = c.requires.behind within })))
