@@ -1,8 +1,8 @@
 -- Each encoding is found by its name.
-use Rattle.std.proofs.Common.{◌≡◌, ◌↔◌, ◌∙◌, ℕ, List, [], ◌∷◌, Bool, true, false, Option, Some, cond, refl, sym, subst, find, bytes_eq}
+use Rattle.std.proofs.Common.{◌≡◌, ◌↔◌, ◌∙◌, ℕ, List, [], ◌∷◌, Bool, true, false, Option, Some, cond, refl, sym, subst, find}
+use Rattle.std.proofs.Common.{bytes_eq, arith}
 use Rattle.std.proofs.lemmas.Slice.Eq.{bytes_eq-Decides}
 use Rattle.legacy_index_files.specs.declared.encodings.Encoding.{Encoding}
-use Rattle.legacy_index_files.specs.declared.encodings.Encoding.TheVariants as encoding
 use Rattle.legacy_index_files.specs.declared.encodings.TheConstants.{ENCODINGS}
 use Rattle.legacy_index_files.specs.Encodings.{encoding_name}
 
@@ -21,45 +21,7 @@ found test (y ∷ list) x e = go (test y) refl e (found test list x)
 
 -- no two encodings have the same name
 only : (e : Encoding) → find (has_name (encoding_name e)) ENCODINGS ≡ Some e
-only encoding.Ibm866 = refl
-only encoding.Iso8859_2 = refl
-only encoding.Iso8859_3 = refl
-only encoding.Iso8859_4 = refl
-only encoding.Iso8859_5 = refl
-only encoding.Iso8859_6 = refl
-only encoding.Iso8859_7 = refl
-only encoding.Iso8859_8 = refl
-only encoding.Iso8859_8I = refl
-only encoding.Iso8859_10 = refl
-only encoding.Iso8859_13 = refl
-only encoding.Iso8859_14 = refl
-only encoding.Iso8859_15 = refl
-only encoding.Iso8859_16 = refl
-only encoding.Koi8R = refl
-only encoding.Koi8U = refl
-only encoding.Macintosh = refl
-only encoding.Windows874 = refl
-only encoding.Windows1250 = refl
-only encoding.Windows1251 = refl
-only encoding.Windows1252 = refl
-only encoding.Windows1253 = refl
-only encoding.Windows1254 = refl
-only encoding.Windows1255 = refl
-only encoding.Windows1256 = refl
-only encoding.Windows1257 = refl
-only encoding.Windows1258 = refl
-only encoding.MacCyrillic = refl
-only encoding.Gbk = refl
-only encoding.Gb18030 = refl
-only encoding.Big5 = refl
-only encoding.EucJp = refl
-only encoding.Iso2022Jp = refl
-only encoding.ShiftJis = refl
-only encoding.EucKr = refl
-only encoding.Replacement = refl
-only encoding.Utf16Be = refl
-only encoding.Utf16Le = refl
-only encoding.UserDefined = refl
+only e = grind arith
 
 pub named : (name : List ℕ) (result : Option Encoding) → result ≡ find (λ e. bytes_eq (encoding_name e) name) ENCODINGS →
     (e : Encoding) → (result ≡ Some e) ↔ (encoding_name e ≡ name)

@@ -1,10 +1,12 @@
 -- The parser of lines agrees with the grammar.
-use Rattle.std.proofs.Common.{◌≡◌, ℕ, ◌≤◌, Bool, true, false, cond, ◌&&◌, ◌||◌, List, [], ◌∷◌, ◌++◌, length, Option, Some, None, nat_eq, nat_le, refl, sym, ◌∙◌, ap, subst, inl, inr, arith}
-use Rattle.std.proofs.lemmas.Bool.{and_parts, or_cases, eqb-true, leb-true, le-leb}
+use Rattle.std.proofs.Common.{◌≡◌, ℕ, ◌≤◌, Bool, true, false, cond, ◌&&◌, List, [], ◌∷◌, ◌++◌, length, Option, Some, None}
+use Rattle.std.proofs.Common.{nat_eq, nat_le, refl, sym, ◌∙◌, ap, subst, inl, inr, arith}
+use Rattle.std.proofs.lemmas.Bool.{and_parts, cond_both, false_from_ne_true, or_cases, eqb-true, leb-true, le-leb}
 use Rattle.std.proofs.lemmas.Option.{cond_some}
 use Rattle.legacy_index_files.specs.declared.index_line.LineKind.{LineKind}
 use Rattle.legacy_index_files.specs.declared.index_line.LineKind.TheVariants.{Skipped, Entry}
-use Rattle.legacy_index_files.specs.IndexLine.{run_of, behind_run, is_blank, past_blanks, says_nothing, is_digit, digits_at, past_digits, number_behind, number_at, past_mark, value_digits}
+use Rattle.legacy_index_files.specs.IndexLine.{run_of, behind_run, is_blank, past_blanks, says_nothing, is_digit, digits_at, past_digits, number_behind}
+use Rattle.legacy_index_files.specs.IndexLine.{number_at, past_mark, value_digits}
 use Rattle.legacy_index_files.specs.IndexLine.{entry_with, entry_behind, entry_at, kind_of_entry, line_kind}
 use Rattle.legacy_index_files.specs.IndexGrammar.{Passes, EndsRun, IsNumber, HasValue, HasEntry, IsEntryLine, SaysNothing, IsSkippedLine, IsOfKind}
 
@@ -22,21 +24,13 @@ run_parts test (b ∷ bs) =
     let P : Bool → Type 0 = λ t. b ∷ bs ≡ cond t (b ∷ run_of test bs) [] ++ cond t (behind_run test bs) (b ∷ bs) in
     elim (test b) as P [ true ↦ ap (λ xs. b ∷ xs) (run_parts test bs) | false ↦ refl ]
 
-run_passes_at : (test : ℕ → Bool) (b : ℕ) (run : List ℕ) (t : Bool) → test b ≡ t → Passes test run → Passes test (cond t (b ∷ run) [])
-run_passes_at test b run true is h = (is, h)
-run_passes_at test b run false is h = tt
-
 pub run_passes : (test : ℕ → Bool) (bs : List ℕ) → Passes test (run_of test bs)
 run_passes test [] = tt
-run_passes test (b ∷ bs) = run_passes_at test b (run_of test bs) (test b) refl (run_passes test bs)
-
-run_ends_at : (test : ℕ → Bool) (b : ℕ) (bs behind : List ℕ) (t : Bool) → test b ≡ t → EndsRun test behind → EndsRun test (cond t behind (b ∷ bs))
-run_ends_at test b bs behind true is h = h
-run_ends_at test b bs behind false is h = is
+run_passes test (b ∷ bs) = cond_both (test b) (b ∷ run_of test bs) [] (Passes test) (λ is. (is, run_passes test bs)) (λ is. tt)
 
 pub run_ends : (test : ℕ → Bool) (bs : List ℕ) → EndsRun test (behind_run test bs)
 run_ends test [] = tt
-run_ends test (b ∷ bs) = run_ends_at test b bs (behind_run test bs) (test b) refl (run_ends test bs)
+run_ends test (b ∷ bs) = cond_both (test b) (behind_run test bs) (b ∷ bs) (EndsRun test) (λ is. run_ends test bs) (λ is. is)
 
 pub run_of-append : (test : ℕ → Bool) (xs ys : List ℕ) → Passes test xs → EndsRun test ys → run_of test (xs ++ ys) ≡ xs
 run_of-append test [] [] h e = refl
@@ -68,15 +62,15 @@ number_sound radix bs n h =
     )
 
 counted : {A : Type 0} (count : ℕ) (x : A) → 1 ≤ count → count ≤ 6 → cond (nat_le 1 count && nat_le count 6) (Some x) None ≡ Some x
-counted count x some few =
-    ap (λ t. cond (t && nat_le count 6) (Some x) None) (le-leb 1 count some) ∙ ap (λ t. cond t (Some x) None) (le-leb count 6 few)
+counted count x some few = rw (le-leb 1 count some, le-leb count 6 few) refl
 
 pub number_complete : (radix : ℕ) (digits behind : List ℕ) (n : ℕ) → IsNumber radix digits n → EndsRun (is_digit radix) behind
     → number_at radix (digits ++ behind) ≡ Some (n, behind)
 number_complete radix digits behind n h e =
     let run = run_of-append (is_digit radix) digits behind h.are_digits e in
     let rest = behind_run-append (is_digit radix) digits behind h.are_digits e in
-    let at : List ℕ → List ℕ → Option (ℕ × List ℕ) = λ ds r. cond (nat_le 1 (length ds) && nat_le (length ds) 6) (Some (number_behind radix 0 ds, r)) None in
+    let at : List ℕ → List ℕ → Option (ℕ × List ℕ) =
+    λ ds r. cond (nat_le 1 (length ds) && nat_le (length ds) 6) (Some (number_behind radix 0 ds, r)) None in
     ap (λ ds. at ds (past_digits radix (digits ++ behind))) run ∙ ap (at digits) rest
     ∙ counted (length digits) (number_behind radix 0 digits, behind) h.some h.few ∙ ap (λ m. Some (m, behind)) (sym h.number)
 
@@ -111,7 +105,8 @@ digits_sound (b ∷ bs) digits h =
       are_blanks = (found.0, run_passes is_blank bs);
     }
 
-digits_complete : (blanks digits : List ℕ) → 1 ≤ length blanks → Passes is_blank blanks → value_digits (blanks ++ (0x30 ∷ 0x78 ∷ digits)) ≡ Some digits
+digits_complete : (blanks digits : List ℕ) → 1 ≤ length blanks → Passes is_blank blanks
+    → value_digits (blanks ++ (0x30 ∷ 0x78 ∷ digits)) ≡ Some digits
 digits_complete [] digits some blank = absurd (omega arith)
 digits_complete (b ∷ bs) digits some blank =
     ap (λ t. cond t (past_mark (past_blanks (bs ++ (0x30 ∷ 0x78 ∷ digits)))) None) blank.0
@@ -135,13 +130,17 @@ value_sound bytes digits n marked numbered =
       ends = run_ends (is_digit 16) digits;
     }
 
-entry_with_sound : (pointer : ℕ) (bytes digits : List ℕ) (found : Option (ℕ × List ℕ)) (entry : ℕ × ℕ) → value_digits bytes ≡ Some digits → number_at 16 digits ≡ found
+entry_with_sound : (pointer : ℕ) (bytes digits : List ℕ) (found : Option (ℕ × List ℕ)) (entry : ℕ × ℕ) → value_digits bytes ≡ Some digits
+    → number_at 16 digits ≡ found
     → (elim found as (λ _. Option (ℕ × ℕ)) [ None ↦ None | Some value ↦ Some (pointer, value.0) ]) ≡ Some entry
     → (entry.0 ≡ pointer) × HasValue bytes entry.1
 entry_with_sound pointer bytes digits None entry marked is h = absurd (cc)
 entry_with_sound pointer bytes digits (Some n) entry marked is h =
-    let same : (pointer, n.0) ≡ entry = (cc) in
-    (sym (ap (λ (e : ℕ × ℕ). e.0) same), subst (λ (value : ℕ). HasValue bytes value) (ap (λ (e : ℕ × ℕ). e.1) same) (value_sound bytes digits n marked is))
+    let same : (pointer, n.0) ≡ entry = (cc) in (
+      sym (ap (λ (e : ℕ × ℕ). e.0) same),
+      subst (λ (value : ℕ). HasValue bytes value) (ap (λ (e : ℕ × ℕ). e.1) same)
+          (value_sound bytes digits n marked is),
+    )
 
 entry_behind_sound : (pointer : ℕ) (bytes : List ℕ) (found : Option (List ℕ)) (entry : ℕ × ℕ) → value_digits bytes ≡ found
     → (elim found as (λ _. Option (ℕ × ℕ)) [ None ↦ None | Some digits ↦ entry_with pointer digits ]) ≡ Some entry
@@ -173,35 +172,35 @@ blank_ends b h = elim (or_cases (nat_eq b 0x20) (nat_eq b 0x09) h) [
   | inr tab ↦ ap (is_digit 10) (eqb-true b 0x09 tab)
 ]
 
-not_both : (b : ℕ) (t : Bool) → is_blank b ≡ t → is_digit 10 b ≡ true → t ≡ false
-not_both b true is h = absurd (let other = blank_ends b is in cc)
-not_both b false is h = refl
-
 digit_ends : (b : ℕ) → is_digit 10 b ≡ true → is_blank b ≡ false
-digit_ends b h = not_both b (is_blank b) refl h
+digit_ends b h = false_from_ne_true (is_blank b) (λ is. let other = blank_ends b is in cc)
 
-not_that : (b other : ℕ) (t : Bool) → nat_eq b other ≡ t → is_digit 10 b ≡ true → is_digit 10 other ≡ false → t ≡ false
-not_that b other true is h differs = absurd (let same = ap (is_digit 10) (eqb-true b other is) in cc)
-not_that b other false is h differs = refl
+not_that : (b other : ℕ) → is_digit 10 b ≡ true → is_digit 10 other ≡ false → nat_eq b other ≡ false
+not_that b other h differs = false_from_ne_true (nat_eq b other) (λ is. let same = ap (is_digit 10) (eqb-true b other is) in cc)
 
-value_ends : (bytes : List ℕ) (blanks behind : List ℕ) → bytes ≡ blanks ++ behind → 1 ≤ length blanks → Passes is_blank blanks → EndsRun (is_digit 10) bytes
+value_ends : (bytes : List ℕ) (blanks behind : List ℕ) → bytes ≡ blanks ++ behind → 1 ≤ length blanks → Passes is_blank blanks
+    → EndsRun (is_digit 10) bytes
 value_ends bytes [] behind parts some blank = absurd (omega arith)
 value_ends bytes (b ∷ bs) behind parts some blank = subst (EndsRun (is_digit 10)) (sym parts) (blank_ends b blank.0)
 
 value_complete : (bytes : List ℕ) (value pointer : ℕ) → HasValue bytes value → entry_behind (pointer, bytes) ≡ Some (pointer, value)
 value_complete bytes value pointer h =
-    let with : Option (List ℕ) → Option (ℕ × ℕ) = λ found. elim found as (λ _. Option (ℕ × ℕ)) [ None ↦ None | Some digits ↦ entry_with pointer digits ] in
-    let valued : Option (ℕ × List ℕ) → Option (ℕ × ℕ) = λ found. elim found as (λ _. Option (ℕ × ℕ)) [ None ↦ None | Some n ↦ Some (pointer, n.0) ] in
+    let with : Option (List ℕ) → Option (ℕ × ℕ) =
+    λ found. elim found as (λ _. Option (ℕ × ℕ)) [ None ↦ None | Some digits ↦ entry_with pointer digits ] in
+    let valued : Option (ℕ × List ℕ) → Option (ℕ × ℕ) =
+    λ found. elim found as (λ _. Option (ℕ × ℕ)) [ None ↦ None | Some n ↦ Some (pointer, n.0) ] in
     ap (λ bs. with (value_digits bs)) h.parts
     ∙ ap with (digits_complete h.blanks (h.digits ++ h.behind) h.some h.are_blanks)
     ∙ ap valued (number_complete 16 h.digits h.behind value h.number h.ends)
 
 entry_complete : (bytes : List ℕ) (pointer value : ℕ) → HasEntry bytes pointer value → entry_at bytes ≡ Some (pointer, value)
 entry_complete bytes pointer value h =
-    let with : Option (ℕ × List ℕ) → Option (ℕ × ℕ) = λ found. elim found as (λ _. Option (ℕ × ℕ)) [ None ↦ None | Some n ↦ entry_behind n ] in
+    let with : Option (ℕ × List ℕ) → Option (ℕ × ℕ) =
+    λ found. elim found as (λ _. Option (ℕ × ℕ)) [ None ↦ None | Some n ↦ entry_behind n ] in
     let v = h.has_value in
     ap (λ bs. with (number_at 10 bs)) h.parts
-    ∙ ap with (number_complete 10 h.digits h.behind pointer h.number (value_ends h.behind v.blanks (0x30 ∷ 0x78 ∷ (v.digits ++ v.behind)) v.parts v.some v.are_blanks))
+    ∙ ap with (number_complete 10 h.digits h.behind pointer h.number
+    (value_ends h.behind v.blanks (0x30 ∷ 0x78 ∷ (v.digits ++ v.behind)) v.parts v.some v.are_blanks))
     ∙ value_complete h.behind value pointer v
 
 -- ---- a line
@@ -218,38 +217,31 @@ comment_says : (comment : List ℕ) → says_nothing (0x23 ∷ comment) ≡ true
 comment_says [] = refl
 comment_says (c ∷ more) = refl
 
--- the bytes after the blanks of a line that is skipped
-record NothingHere (bytes : List ℕ) : Type 0 where
+-- the bytes after the blanks of a line that is skipped, or of another
+record IsBody (skipped : Bool) (bytes : List ℕ) : Type 0 where
   ends : EndsRun is_blank bytes
-  says : says_nothing bytes ≡ true
+  says : says_nothing bytes ≡ skipped
 
-nothing_here : (bytes : List ℕ) → SaysNothing bytes → NothingHere bytes
-nothing_here bytes (inl empty) = subst NothingHere (sym empty) (record { ends = tt; says = refl })
-nothing_here bytes (inr (inl return)) = subst NothingHere (sym return) (record { ends = refl; says = refl })
-nothing_here bytes (inr (inr comment)) = subst NothingHere (sym comment.1) (record { ends = refl; says = comment_says comment.0 })
+nothing_here : (bytes : List ℕ) → SaysNothing bytes → IsBody true bytes
+nothing_here bytes (inl empty) = subst (IsBody true) (sym empty) (record { ends = tt; says = refl })
+nothing_here bytes (inr (inl return)) = subst (IsBody true) (sym return) (record { ends = refl; says = refl })
+nothing_here bytes (inr (inr comment)) = subst (IsBody true) (sym comment.1) (record { ends = refl; says = comment_says comment.0 })
 
--- the bytes after the blanks of a line that is not skipped
-record EntryHere (bytes : List ℕ) : Type 0 where
-  ends : EndsRun is_blank bytes
-  says : says_nothing bytes ≡ false
+digit_here : (b : ℕ) (bs : List ℕ) → is_digit 10 b ≡ true → IsBody false (b ∷ bs)
+digit_here b [] h = record { ends = digit_ends b h; says = rw (not_that b 0x0D h refl, not_that b 0x23 h refl) refl }
+digit_here b (c ∷ more) h = record { ends = digit_ends b h; says = not_that b 0x23 h refl }
 
-digit_here : (b : ℕ) (bs : List ℕ) → is_digit 10 b ≡ true → EntryHere (b ∷ bs)
-digit_here b [] h = record {
-  ends = digit_ends b h;
-  says = ap (λ t. t || nat_eq b 0x23) (not_that b 0x0D (nat_eq b 0x0D) refl h refl) ∙ not_that b 0x23 (nat_eq b 0x23) refl h refl;
-}
-digit_here b (c ∷ more) h = record { ends = digit_ends b h; says = not_that b 0x23 (nat_eq b 0x23) refl h refl }
-
-entry_here : (bytes digits behind : List ℕ) → bytes ≡ digits ++ behind → 1 ≤ length digits → Passes (is_digit 10) digits → EntryHere bytes
+entry_here : (bytes digits behind : List ℕ) → bytes ≡ digits ++ behind → 1 ≤ length digits → Passes (is_digit 10) digits → IsBody false bytes
 entry_here bytes [] behind parts some h = absurd (omega arith)
-entry_here bytes (b ∷ bs) behind parts some h = subst EntryHere (sym parts) (digit_here b (bs ++ behind) h.0)
+entry_here bytes (b ∷ bs) behind parts some h = subst (IsBody false) (sym parts) (digit_here b (bs ++ behind) h.0)
 
 kind_skipped : (t : Bool) (o : Option (ℕ × ℕ)) → cond t Skipped (kind_of_entry o) ≡ Skipped → t ≡ true
 kind_skipped true o h = refl
 kind_skipped false None h = absurd (cc)
 kind_skipped false (Some e) h = absurd (cc)
 
-kind_entry : (t : Bool) (o : Option (ℕ × ℕ)) (pointer value : ℕ) → cond t Skipped (kind_of_entry o) ≡ Entry pointer value → o ≡ Some (pointer, value)
+kind_entry : (t : Bool) (o : Option (ℕ × ℕ)) (pointer value : ℕ) → cond t Skipped (kind_of_entry o) ≡ Entry pointer value
+    → o ≡ Some (pointer, value)
 kind_entry true o pointer value h = absurd (cc)
 kind_entry false None pointer value h = absurd (cc)
 kind_entry false (Some e) pointer value h =
@@ -290,7 +282,8 @@ entry_line_complete line pointer value h =
     let entry = h.entry in
     let here = entry_here h.behind entry.digits entry.behind entry.parts entry.number.some entry.number.are_digits in
     let rest : past_blanks line ≡ h.behind = ap past_blanks h.parts ∙ behind_run-append is_blank h.blanks h.behind h.are_blanks here.ends in
-    ap kind_behind rest ∙ ap (λ t. cond t Skipped (kind_of_entry (entry_at h.behind))) here.says ∙ ap kind_of_entry (entry_complete h.behind pointer value entry)
+    ap kind_behind rest ∙ ap (λ t. cond t Skipped (kind_of_entry (entry_at h.behind))) here.says
+    ∙ ap kind_of_entry (entry_complete h.behind pointer value entry)
 
 pub kind_by_grammar : (line : List ℕ) → IsOfKind line (line_kind line)
 kind_by_grammar line = record {

@@ -1,5 +1,6 @@
 -- The steps and bounds of numbers with at most six digits.
-use Rattle.std.proofs.Common.{◌≡◌, ℕ, ◌+◌, ◌*◌, ◌^◌, ◌<◌, ◌≤◌, cond, List, [], ◌∷◌, length, ◌∙◌, ap, add-one, lt-ltb, arith}
+use Rattle.std.proofs.Common.{◌≡◌, ℕ, ◌+◌, ◌*◌, ◌^◌, ◌<◌, ◌≤◌, cond, List, [], ◌∷◌, length, ◌∙◌, ap, add-one, lt-ltb}
+use Rattle.std.proofs.Common.{arith}
 use Rattle.std.specs.Char.{digit_value}
 use Rattle.legacy_index_files.specs.IndexLine.{digits_at, past_digits, number_behind}
 use Rattle.std.proofs.Math.Nat.{mul-le-mul_left, pow-le-pow_right, pow-suc}
@@ -26,7 +27,8 @@ digits_at-cons radix b bs below = ap (λ t. cond t (b ∷ digits_at radix bs) []
 past_digits-cons : (radix b : ℕ) (bs : List ℕ) → digit_value b < radix → past_digits radix (b ∷ bs) ≡ past_digits radix bs
 past_digits-cons radix b bs below = ap (λ t. cond t (past_digits radix bs) (b ∷ bs)) (lt-ltb (digit_value b) radix below)
 
-pub takes_digit : (radix value digit first : ℕ) (rest behind : List ℕ) → rest ≡ first ∷ behind → digit_value first < radix → digit ≡ digit_value first
+pub takes_digit : (radix value digit first : ℕ) (rest behind : List ℕ) → rest ≡ first ∷ behind → digit_value first < radix
+    → digit ≡ digit_value first
     → TakesDigit radix value digit rest behind
 takes_digit radix value digit first rest behind split below is = record {
   counted = rw split (ap length (digits_at-cons radix first behind below) ∙ omega arith);

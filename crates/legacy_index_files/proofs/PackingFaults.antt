@@ -1,11 +1,7 @@
 -- The packed parts of accepted indexes are accepted.
-use Rattle.std.proofs.Common.{◌≡◌, ℕ, ◌≤◌, ◌<◌, List, length, refl, arith, Some, None, Option, true, ◌||◌, inl, inr}
-use Rattle.std.proofs.lemmas.Bool.{cases_lt}
+use Rattle.std.proofs.Common.{◌≡◌, ℕ, ◌≤◌, ◌<◌, List, length, refl, arith, Some, None, Option, true, ◌||◌}
 use Rattle.std.proofs.lemmas.Bool.Decides.{nat_tests}
-use Rattle.std.proofs.lemmas.List.{get_or_past}
-use Rattle.std.proofs.lemmas.List.Elements.{All-get_or}
 use Rattle.std.specs.Int.{is_in_range}
-use Rattle.std.specs.List.{All}
 use Rattle.std.specs.Option.{option_or}
 use Rattle.legacy_tables.specs.declared.tables.IndexName.TheVariants as names
 use Rattle.legacy_tables.specs.declared.tables.packed.Packed.{Packed}
@@ -18,18 +14,11 @@ use Rattle.legacy_tables.specs.TableChecks.{AreAccepted, is_narrow_entry, table_
 use Rattle.legacy_tables.specs.Packed.{all_runs_fault, all_orders_fault, runs_fault}
 use Rattle.legacy_tables.specs.Walks.{order_index}
 use Rattle.legacy_tables.proofs.Accepted.{parts, all_entries, order_index-short, euc_kr-below, jis0208-below, jis0212-below, gb18030-below}
+use Rattle.legacy_tables.proofs.PackedAccepted.{entry_all, entry-narrow}
 use Rattle.legacy_index_files.specs.declared.packing.OwnedPacked.{OwnedPacked}
 use Rattle.legacy_index_files.specs.Packing.{AreBelow, GivesIndex, GiveRuns, IsOrderOf, HasParts, IsPackOf}
 
 -- ---- the entries of accepted indexes
-
-below_of : (limit : ℕ) (index : List ℕ) → 0 < limit → All (λ e. e < limit) index → AreBelow limit index
-below_of limit index some all = record {
-  at = λ p. elim (cases_lt p (length index)) [
-    | inl h ↦ All-get_or (λ e. e < limit) index p 0 h all
-    | inr h ↦ rw (get_or_past index p 0 h) some
-  ];
-}
 
 wider : (limit : ℕ) (index : List ℕ) → limit ≤ 0x11_0000 → AreBelow limit index → AreBelow 0x11_0000 index
 wider limit index h below = record { at = λ p. let l = below.at p in omega arith }
@@ -48,8 +37,8 @@ pub record GiveOrders (flat : FlatIndexes) (owned : OwnedPacked) : Type 0 where
   pub gb18030 : IsOrderOf parts.Gb18030Order 0x1_0000 flat owned.gb18030_order.items
 
 -- the runs of an index whose entries are less than `scalars`
-runs_none : (part : PackedPart) (limit scalars : ℕ) (index : List ℕ) (runs shown : List Run) → shown ≡ runs → GivesIndex limit index runs → length index ≤ limit
-    → scalars ≤ 0x11_0000 → AreBelow scalars index → runs_fault part limit shown index ≡ None
+runs_none : (part : PackedPart) (limit scalars : ℕ) (index : List ℕ) (runs shown : List Run) → shown ≡ runs → GivesIndex limit index runs
+    → length index ≤ limit → scalars ≤ 0x11_0000 → AreBelow scalars index → runs_fault part limit shown index ≡ None
 runs_none part limit scalars index runs shown same given short few below = rw same (given.accepted short (wider scalars index few below) part)
 
 module _ (flat : FlatIndexes) (owned : OwnedPacked) (runs : GiveRuns flat owned) (orders : GiveOrders flat owned)
@@ -59,21 +48,22 @@ module _ (flat : FlatIndexes) (owned : OwnedPacked) (runs : GiveRuns flat owned)
     short part = order_index-short flat accepted part
 
     big5_below : AreBelow 0x3_0000 flat.big5
-    big5_below =
-        let all = all_entries (λ e. e < 0x3_0000) names.Big5 (omega arith) is_wide-below 0 flat.big5 (parts flat accepted).big5.1 in
-        below_of 0x3_0000 flat.big5 (omega arith) all
+    big5_below = record {
+      at = entry_all (λ e. e < 0x3_0000) flat.big5 (omega arith)
+          (all_entries (λ e. e < 0x3_0000) names.Big5 (omega arith) is_wide-below 0 flat.big5 (parts flat accepted).big5.1);
+    }
 
     euc_kr_below : AreBelow 0x1_0000 flat.euc_kr
-    euc_kr_below = below_of 0x1_0000 flat.euc_kr (omega arith) (euc_kr-below flat accepted)
+    euc_kr_below = record { at = entry-narrow flat.euc_kr (euc_kr-below flat accepted) }
 
     jis0208_below : AreBelow 0x1_0000 flat.jis0208
-    jis0208_below = below_of 0x1_0000 flat.jis0208 (omega arith) (jis0208-below flat accepted)
+    jis0208_below = record { at = entry-narrow flat.jis0208 (jis0208-below flat accepted) }
 
     jis0212_below : AreBelow 0x1_0000 flat.jis0212
-    jis0212_below = below_of 0x1_0000 flat.jis0212 (omega arith) (jis0212-below flat accepted)
+    jis0212_below = record { at = entry-narrow flat.jis0212 (jis0212-below flat accepted) }
 
     gb18030_below : AreBelow 0x1_0000 flat.gb18030
-    gb18030_below = below_of 0x1_0000 flat.gb18030 (omega arith) (gb18030-below flat accepted)
+    gb18030_below = record { at = entry-narrow flat.gb18030 (gb18030-below flat accepted) }
 
     runs_whole : all_runs_fault flat packed ≡ None
     unfolding all_runs_fault
@@ -98,7 +88,8 @@ module _ (flat : FlatIndexes) (owned : OwnedPacked) (runs : GiveRuns flat owned)
       orders.euc_jp.accepted (short parts.EucJpOrder) jis0208_below,
     ) (orders.gb18030.accepted (short parts.Gb18030Order) gb18030_below)
 
-  no_more_faults : (o : Option TableError) → table_fault flat ≡ o → option_or o (option_or (all_runs_fault flat packed) (all_orders_fault flat packed)) ≡ o
+  no_more_faults : (o : Option TableError) → table_fault flat ≡ o
+      → option_or o (option_or (all_runs_fault flat packed) (all_orders_fault flat packed)) ≡ o
   no_more_faults (Some fault) e = refl
   no_more_faults None e = rw (runs_whole e) (orders_whole e)
 

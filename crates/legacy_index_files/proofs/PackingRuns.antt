@@ -1,5 +1,6 @@
 -- The runs of the first pointers of an index. At the end of the index they are accepted.
-use Rattle.std.proofs.Common.{◌≡◌, ◌≢◌, ◌∙◌, ℕ, ◌+◌, ◌-◌, ◌≤◌, ◌<◌, List, [], ◌∷◌, ◌++◌, length, get_or, refl, sym, ap, arith, Some, None, Option, true, false, Bool, cond, not, ◌==◌, inl, inr}
+use Rattle.std.proofs.Common.{◌≡◌, ◌≢◌, ◌∙◌, ℕ, ◌+◌, ◌-◌, ◌≤◌, ◌<◌, List, [], ◌∷◌, ◌++◌, length, get_or, refl}
+use Rattle.std.proofs.Common.{sym, ap, arith, Some, None, Option, true, false, not, ◌==◌, inl, inr}
 use Rattle.std.proofs.lemmas.Bool.{cases_lt, ne_eqb}
 use Rattle.std.proofs.lemmas.List.{get_or_past, get_or_append_left, get_or_push, length_push}
 use Rattle.std.proofs.Common.{eq-eqb}
@@ -10,7 +11,7 @@ use Rattle.legacy_tables.specs.declared.tables.packed.Run.{Run}
 use Rattle.legacy_tables.specs.Indexes.{idx}
 use Rattle.legacy_tables.specs.Runs.{run_end, run_scalar, runs_scalar, is_run_in_order, run_fault_from, run_fault}
 use Rattle.legacy_tables.specs.Packed.{differs_at, run_difference, runs_fault}
-use Rattle.legacy_tables.proofs.FirstPlaces.{find-none}
+use Rattle.legacy_tables.proofs.FirstPlaces.{taken, find-none}
 use Rattle.legacy_tables.proofs.PackedRuns.{outside-before, outside-behind}
 use Rattle.legacy_index_files.specs.Packing.{AreBelow, AreLongest}
 
@@ -21,12 +22,9 @@ unfoldable pub end_from : ℕ → List Run → ℕ
 end_from before [] = before
 end_from before (run ∷ runs) = end_from (run_end run) runs
 
-taken : (t : Bool) (place : ℕ) (a : Option ℕ) → cond t a (Some place) ≡ None → (t ≡ true) × (a ≡ None)
-taken true place a e = (refl, e)
-taken false place a e = cc
-
-fault-push : (place before limit : ℕ) (runs : List Run) (run : Run) → run_fault_from place before limit runs ≡ None → is_run_in_order (end_from before runs) limit run ≡ true →
-    run_fault_from place before limit (runs ++ run ∷ []) ≡ None
+fault-push : (place before limit : ℕ) (runs : List Run) (run : Run) → run_fault_from place before limit runs ≡ None
+    → is_run_in_order (end_from before runs) limit run ≡ true
+    → run_fault_from place before limit (runs ++ run ∷ []) ≡ None
 unfolding run_fault_from end_from
 fault-push place before limit [] run e h = rw h refl
 fault-push place before limit (r ∷ runs) run e h =
@@ -109,7 +107,8 @@ unfolding run_fault_from end_from
 no-runs limit index = record { ordered = λ b. refl; ends = omega arith; gives = λ k h. absurd (omega arith); nothing_more = λ k h. refl }
 
 module _ (limit p : ℕ) (index : List ℕ) (runs : List Run) (so_far : AreRunsBelow limit p index runs) where
-  module _ (run : Run) (starts : run.pointer ≡ p) (scalar : run.scalar ≡ get_or index p 0) (mapped : get_or index p 0 ≢ 0) (some : 0 < run.length) (reach : p + run.length ≤ limit)
+  module _ (run : Run) (starts : run.pointer ≡ p) (scalar : run.scalar ≡ get_or index p 0) (mapped : get_or index p 0 ≢ 0) (some : 0 < run.length)
+      (reach : p + run.length ≤ limit)
       (row : (k : ℕ) → k < run.length → get_or index (p + k) 0 ≡ get_or index p 0 + k) where
     in_order : AreBelow 0x11_0000 index → is_run_in_order (end_from 0 runs) limit run ≡ true
     in_order below =
@@ -119,7 +118,12 @@ module _ (limit p : ℕ) (index : List ℕ) (runs : List Run) (so_far : AreRunsB
         let small = below.at (p + (run.length - 1)) in
         let within : run.scalar + run.length ≤ 0x11_0000 = omega arith in
         let fits : run_end run ≤ limit = omega arith in
-        rw (lt-ltb 0 run.length some, le-leb (end_from 0 runs) run.pointer behind, le-leb (run_end run) limit fits, le-leb (run.scalar + run.length) 0x11_0000 within) refl
+        rw (
+          lt-ltb 0 run.length some,
+          le-leb (end_from 0 runs) run.pointer behind,
+          le-leb (run_end run) limit fits,
+          le-leb (run.scalar + run.length) 0x11_0000 within,
+        ) refl
 
     entry_some : (k : ℕ) → p ≤ k → k < p + run.length → idx index k ≡ Some (run.scalar + (k - run.pointer))
     entry_some k h l =
@@ -135,9 +139,11 @@ module _ (limit p : ℕ) (index : List ℕ) (runs : List Run) (so_far : AreRunsB
       ends = let e = end-push 0 runs run in omega arith;
       gives = λ k h. elim (cases_lt k p) [
         | inl l ↦
-            scalar-push runs run k ∙ ap (option_or (runs_scalar runs k)) (outside-before run k (omega arith)) ∙ or_none (runs_scalar runs k) ∙ so_far.gives k l
+            scalar-push runs run k ∙ ap (option_or (runs_scalar runs k)) (outside-before run k (omega arith)) ∙ or_none (runs_scalar runs k)
+            ∙ so_far.gives k l
         | inr l ↦
-            scalar-push runs run k ∙ ap (λ o. option_or o (run_scalar run k)) (so_far.nothing_more k l) ∙ inside run k (omega arith) (omega arith) ∙ sym (entry_some k l h)
+            scalar-push runs run k ∙ ap (λ o. option_or o (run_scalar run k)) (so_far.nothing_more k l) ∙ inside run k (omega arith) (omega arith)
+            ∙ sym (entry_some k l h)
       ];
       nothing_more = λ k h.
           scalar-push runs run k ∙ ap (λ o. option_or o (run_scalar run k)) (so_far.nothing_more k (omega arith)) ∙ outside-behind run k (omega arith);

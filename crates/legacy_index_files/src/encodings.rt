@@ -161,6 +161,26 @@ impl Encoding {
         ensures { result.now ≡ encoding_name self }
     {
         match self {
+            Encoding::Gbk => "GBK",
+            Encoding::Gb18030 => "gb18030",
+            Encoding::Big5 => "Big5",
+            Encoding::EucJp => "EUC-JP",
+            Encoding::Iso2022Jp => "ISO-2022-JP",
+            Encoding::ShiftJis => "Shift_JIS",
+            Encoding::EucKr => "EUC-KR",
+            Encoding::Replacement => "replacement",
+            Encoding::Utf16Be => "UTF-16BE",
+            Encoding::Utf16Le => "UTF-16LE",
+            Encoding::UserDefined => "x-user-defined",
+            _ => self.single_byte_name(),
+        }
+    }
+
+    /// Returns the name of a single-byte encoding.
+    fn single_byte_name(self) -> &'static str
+        ensures { codec_of self ≡ Codec.SingleByte → result.now ≡ encoding_name self }
+    {
+        match self {
             Encoding::Ibm866 => "IBM866",
             Encoding::Iso8859_2 => "ISO-8859-2",
             Encoding::Iso8859_3 => "ISO-8859-3",
@@ -189,17 +209,7 @@ impl Encoding {
             Encoding::Windows1257 => "windows-1257",
             Encoding::Windows1258 => "windows-1258",
             Encoding::MacCyrillic => "x-mac-cyrillic",
-            Encoding::Gbk => "GBK",
-            Encoding::Gb18030 => "gb18030",
-            Encoding::Big5 => "Big5",
-            Encoding::EucJp => "EUC-JP",
-            Encoding::Iso2022Jp => "ISO-2022-JP",
-            Encoding::ShiftJis => "Shift_JIS",
-            Encoding::EucKr => "EUC-KR",
-            Encoding::Replacement => "replacement",
-            Encoding::Utf16Be => "UTF-16BE",
-            Encoding::Utf16Le => "UTF-16LE",
-            Encoding::UserDefined => "x-user-defined",
+            _ => "",
         }
     }
 

@@ -11,7 +11,8 @@ use Rattle.legacy_index_files.specs.OwnedIndexes.{owned_lists}
 use Rattle.legacy_index_files.specs.Packing.{HasParts, IsPackOf, AreTablesOf}
 use Rattle.legacy_index_files.proofs.packed_indexes.PackedIndexes.tables.Goals as goal
 
-module _ {T : Type 0} (lists : T → FlatIndexes) (flat : FlatIndexes) (owned : OwnedPacked) (packed : Packed) (has : HasParts owned packed) (made : IsPackOf flat owned) where
+module _ {T : Type 0} (lists : T → FlatIndexes) (flat : FlatIndexes) (owned : OwnedPacked) (packed : Packed) (has : HasParts owned packed)
+    (made : IsPackOf flat owned) where
   answered : (r : Result T TableError) → MatchResult r (λ t. ArePackedTables flat packed (lists t)) (λ fault. packed_fault flat packed ≡ Some fault) →
       MatchResult r (λ t. AreTablesOf flat owned (lists t)) (λ fault. table_fault flat ≡ Some fault)
   answered (Ok t) h = record { packed = packed; parts = has; tables = h }
@@ -20,4 +21,5 @@ module _ {T : Type 0} (lists : T → FlatIndexes) (flat : FlatIndexes) (owned : 
 pub returns : goal.returns
 returns c =
     let owned = c.args.self.now in
-    answered (λ (t : Tables). t.flat) (owned_lists owned.indexes) owned.parts c.packed.result c.packed.ensures owned.made c.packed_of.result (rw c.indexes.ensures at c.packed_of.ensures)
+    answered (λ (t : Tables). t.flat) (owned_lists owned.indexes) owned.parts c.packed.result c.packed.ensures owned.made c.packed_of.result
+    (rw c.indexes.ensures at c.packed_of.ensures)
