@@ -1,17 +1,15 @@
 -- A list of codes after one of its ranges was looked up.
 use Rattle.std.proofs.Common.{◌≡◌, ℕ, ◌+◌, ◌<◌, ◌≤◌, List, length, slice_index, false, ◌==◌, arith, inl, inr}
-use Rattle.std.proofs.lemmas.Bool.{cases_lt, ne_eqb}
+use Rattle.std.proofs.lemmas.{Bool.cases_lt, Bool.Decides.nat_tests}
 use Rattle.legacy_base.specs.Encoders.{Codec}
 use Rattle.legacy_encoder_engine.specs.CachedPairs.{AreAllPairsOf, IsOutside, IsRightEntry}
 
 -- a scalar outside one scalar is another
 pub outside-one : (first c : ℕ) → IsOutside first (first + 1) c → (c == first) ≡ false
-outside-one first c (inl l) = ne_eqb c first (λ e. omega arith)
-outside-one first c (inr h) = ne_eqb c first (λ e. omega arith)
+outside-one first c out = grind (arith, nat_tests)
 
 pub outside-first : (end c : ℕ) → IsOutside 0 end c → end ≤ c
-outside-first end c (inl l) = absurd (omega arith)
-outside-first end c (inr h) = h
+outside-first end c out = grind arith
 
 -- an entry has the property after a range was looked up, if it had it before or is in the range
 pub asked : (Is : ℕ → ℕ → Type 0) (old new : List ℕ) (first end c : ℕ) → ((k : ℕ) → first ≤ k → k < end → Is k (slice_index new k))

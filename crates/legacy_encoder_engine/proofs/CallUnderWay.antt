@@ -1,118 +1,58 @@
 -- The moves of an encoder make a call.
-use Rattle.std.proofs.Common.{◌≡◌, ◌∙◌, ℕ, ◌+◌, ◌-◌, ◌≤◌, ◌<◌, List, [], ◌∷◌, ◌++◌, length, get_or, take, drop, map, refl, sym}
-use Rattle.std.proofs.Common.{ap, subst, arith, append_assoc, append-nil, length-append, length-take, add-zero}
-use Rattle.std.proofs.Common.{inl, inr, Bool, true, false, IsTrue, Some, None, slice_get, not, ◌⊎◌}
-use Rattle.std.proofs.lemmas.Bool.{cases_lt}
-use Rattle.std.proofs.lemmas.List.{take-append-le, get_or_append_left}
+use Rattle.std.proofs.Common.{◌≡◌, ◌∙◌, ℕ, ◌+◌, ◌-◌, ◌≤◌, ◌<◌, List, [], ◌∷◌, ◌++◌, length, get_or, take, drop, map, refl, sym, ap, subst, arith, append_assoc}
+use Rattle.std.proofs.Common.{append-nil, length-append, add-zero, inl, inr, Bool, true, false, IsTrue, Some, not, ◌⊎◌}
 use Rattle.std.proofs.Math.Nat.{sub-zero}
-use Rattle.std.proofs.Math.Seq.{take-append_seam}
-use Rattle.legacy_base.specs.declared.results.EncodeEvent.{EncodeEvent}
-use Rattle.legacy_base.specs.declared.results.EncodeEvent.TheVariants.{Byte}
-use Rattle.legacy_base.specs.declared.results.EncodeEvent.TheVariants as events
+use Rattle.std.proofs.lemmas.{Bool.cases_lt, List.map-append, List.take-append-drop, Grind.common_steps}
 use Rattle.legacy_base.specs.declared.results.EncoderResult.TheVariants.{InputEmpty, OutputFull, Unmappable}
+use Rattle.legacy_base.specs.declared.results.{EncodeEvent.EncodeEvent, EncodeEvent.TheVariants.Byte}
 use Rattle.legacy_text.specs.EncodingForm.{EncodingForm, code_units, unit_count, all_code_units, total_unit_count}
-use Rattle.legacy_base.specs.Beginnings.{BeginsWith}
-use Rattle.legacy_base.specs.EncodeEvents.{byte_count, code_length}
-use Rattle.legacy_base.specs.Profile.{is_empty}
-use Rattle.legacy_base.specs.EncoderProfile.{EncoderMode, in_ascii, in_roman, in_two_byte}
-use Rattle.legacy_base.specs.Encoders.{EncoderState, encoder_profile, code, encoded, end_bytes, is_pending, scalar_room}
-use Rattle.legacy_base.specs.Encoders.{encoder_need, encoder_formula, encoder_answer, encoder_room}
+use Rattle.legacy_base.specs.Encoders.{EncoderState, encoder_profile, code, encoded, end_bytes, is_pending, scalar_room, encoder_need, encoder_formula}
+use Rattle.legacy_base.specs.Encoders.{encoder_answer, encoder_room}
+use Rattle.legacy_base.specs.{Beginnings.BeginsWith, EncodeEvents.byte_count, EncodeEvents.code_length, Profile.is_empty, EncoderProfile.EncoderMode}
 use Rattle.legacy_base.specs.EncoderCalls.{EncoderCall, EncoderLacksRoom, bytes_before}
-use Rattle.legacy_base.proofs.Enough.{answer-value}
-use Rattle.legacy_base.proofs.Beginnings.{begins_later}
+use Rattle.legacy_base.proofs.{Enough.answer-value, Beginnings.begins_later}
 use Rattle.legacy_encoder_engine.specs.declared.moves.EncoderMove.{EncoderMove}
-use Rattle.legacy_encoder_engine.specs.declared.moves.EncoderMove.TheVariants as moves
 use Rattle.legacy_encoder_engine.specs.Moves.{Moves, Finishes, move_bytes, move_report, unread_scalar, is_escape, differs, wants_escape, state_for}
-use Rattle.legacy_encoder_engine.specs.UnderWay.{LowersEscaped, Underway}
-use Rattle.legacy_encoder_engine.specs.Serves.{Serves}
+use Rattle.legacy_encoder_engine.specs.{UnderWay.LowersEscaped, UnderWay.Underway, Serves.Serves}
+use Rattle.legacy_base.specs.declared.results.EncodeEvent.TheVariants as events
+use Rattle.legacy_encoder_engine.specs.declared.moves.EncoderMove.TheVariants as moves
 
 -- ---- small laws
 
-byte_count-append : (xs ys : List EncodeEvent) → byte_count (xs ++ ys) ≡ byte_count xs + byte_count ys
+byte_count-behind : (bytes : List ℕ) (rest : List EncodeEvent) → byte_count (map Byte bytes ++ rest) ≡ length bytes + byte_count rest
 unfolding byte_count
-byte_count-append [] ys = omega arith
-byte_count-append (Byte b ∷ xs) ys = let h = byte_count-append xs ys in omega arith
-byte_count-append (events.Unmappable c ∷ xs) ys = byte_count-append xs ys
-
-byte_count-bytes : (bytes : List ℕ) → byte_count (map Byte bytes) ≡ length bytes
-unfolding byte_count
-byte_count-bytes [] = refl
-byte_count-bytes (b ∷ bytes) = let h = byte_count-bytes bytes in omega arith
-
-map_bytes-append : (xs ys : List ℕ) → map Byte (xs ++ ys) ≡ map Byte xs ++ map Byte ys
-map_bytes-append [] ys = refl
-map_bytes-append (x ∷ xs) ys = ap (λ l. Byte x ∷ l) (map_bytes-append xs ys)
+byte_count-behind [] rest = omega arith
+byte_count-behind (b ∷ bytes) rest = let h = byte_count-behind bytes rest in omega arith
 
 -- if no escape is needed, the mode is unchanged
 same_mode : (m n : EncoderMode) → differs m n ≡ false → n ≡ m
-same_mode in_ascii in_ascii e = refl
-same_mode in_ascii in_roman e = cc
-same_mode in_ascii in_two_byte e = cc
-same_mode in_roman in_ascii e = cc
-same_mode in_roman in_roman e = refl
-same_mode in_roman in_two_byte e = cc
-same_mode in_two_byte in_ascii e = cc
-same_mode in_two_byte in_roman e = cc
-same_mode in_two_byte in_two_byte e = refl
+same_mode m n e = grind arith
 
-state_stays : (state : EncoderState) (c : ℕ) → wants_escape state c ≡ false → state_for state c ≡ state
+pub state_stays : (state : EncoderState) (c : ℕ) → wants_escape state c ≡ false → state_for state c ≡ state
 state_stays state c e = ap (λ m. record { codec = state.codec; mode = m }) (same_mode state.mode ((encoder_profile state.codec).mode_for state.mode c) e)
 
 -- a list whose test says that it is empty has no items
 no_bytes : (bytes : List ℕ) → not (is_empty bytes) ≡ false → bytes ≡ []
-no_bytes [] e = refl
-no_bytes (b ∷ bytes) e = cc
+no_bytes bytes e = grind (arith, common_steps)
 
 no_need : (state : EncoderState) (last : Bool) → (IsTrue last → end_bytes state ≡ []) → encoder_need state [] last ≡ 0
 no_need state false p = refl
 no_need state true p = ap length (p refl)
 
 first_rest : (left more : List ℕ) → left ++ more ≡ take 1 left ++ (drop 1 left ++ more)
-first_rest [] more = refl
-first_rest (x ∷ xs) more = refl
-
-get_or-append_at : (xs : List ℕ) (y : ℕ) (ys : List ℕ) → get_or (xs ++ y ∷ ys) (length xs) 0 ≡ y
-get_or-append_at [] y ys = refl
-get_or-append_at (x ∷ xs) y ys = get_or-append_at xs y ys
+first_rest left more = grind (arith, common_steps, take-append-drop 1 left)
 
 -- after a move that reads a scalar, an empty text that continues gives no bytes
 no_more : (next : EncoderState) → Serves (encoder_profile next.codec) → (move : EncoderMove) (c : ℕ) → is_escape move ≡ false
     → byte_count (move_report move ++ encoded next (unread_scalar move c ++ []) false) ≡ 0
 unfolding byte_count
-no_more next serves (moves.One a) c e = ap byte_count (serves.nothing next.mode)
-no_more next serves (moves.Two a b) c e = ap byte_count (serves.nothing next.mode)
-no_more next serves (moves.Four a b x d) c e = ap byte_count (serves.nothing next.mode)
 no_more next serves (moves.Escape a b) c e = cc
-no_more next serves (moves.Unmappable r) c e = ap byte_count (serves.nothing next.mode)
-
-none_unread : (move : EncoderMove) (c : ℕ) → is_escape move ≡ false → unread_scalar move c ≡ []
-none_unread (moves.One a) c e = refl
-none_unread (moves.Two a b) c e = refl
-none_unread (moves.Four a b x d) c e = refl
-none_unread (moves.Escape a b) c e = cc
-none_unread (moves.Unmappable r) c e = refl
+no_more next serves _ c e = ap byte_count (serves.nothing next.mode)
 
 escaped : (next : EncoderState) (move : EncoderMove) (c : ℕ) (more : List ℕ) (ended : Bool) → is_escape move ≡ true
     → move_report move ++ encoded next (unread_scalar move c ++ more) ended ≡ encoded next (c ∷ more) ended
-escaped next (moves.One a) c more ended e = cc
-escaped next (moves.Two a b) c more ended e = cc
-escaped next (moves.Four a b x d) c more ended e = cc
 escaped next (moves.Escape a b) c more ended e = refl
-escaped next (moves.Unmappable r) c more ended e = cc
-
-escape_three : (move : EncoderMove) → is_escape move ≡ true → length (move_bytes move) ≡ 3
-escape_three (moves.One a) e = cc
-escape_three (moves.Two a b) e = cc
-escape_three (moves.Four a b x d) e = cc
-escape_three (moves.Escape a b) e = refl
-escape_three (moves.Unmappable r) e = cc
-
--- the code of a scalar and its room depend only on the codec
-code_same : (now before : EncoderState) (c : ℕ) → now.codec ≡ before.codec → code_length (code now c) ≡ code_length (code before c)
-code_same now before c e = ap (λ k. code_length ((encoder_profile k).code c)) e
-
-room_same : (now before : EncoderState) (c : ℕ) → now.codec ≡ before.codec → scalar_room now c ≡ scalar_room before c
-room_same now before c e = ap (λ k. (encoder_profile k).scalar_room c) e
+escaped next _ c more ended e = cc
 
 -- ---- a call under way
 
@@ -213,7 +153,7 @@ module _ (before : EncoderState) (source : List ℕ) (last : Bool) (free : ℕ) 
             next_events more ended
             ∙ ap (λ l. map Byte bytes ++ l) (f.events more ended)
             ∙ sym (append_assoc (map Byte bytes) (map Byte (move_bytes move)) (move_report move ++ encoded next (unread_scalar move c ++ more) ended))
-            ∙ ap (λ l. l ++ (move_report move ++ encoded next (unread_scalar move c ++ more) ended)) (sym (map_bytes-append bytes (move_bytes move)))
+            ∙ ap (λ l. l ++ (move_report move ++ encoded next (unread_scalar move c ++ more) ended)) (sym (map-append Byte bytes (move_bytes move)))
 
         -- the scalar is read
         read_cut : source ≡ (under.taken ++ c ∷ []) ++ rest
@@ -223,12 +163,10 @@ module _ (before : EncoderState) (source : List ℕ) (last : Bool) (free : ℕ) 
         before_it e =
             let count : byte_count (encoded before (under.taken ++ c ∷ []) false) ≡ length bytes + length (move_bytes move) =
             ap byte_count (moved [] false)
-            ∙ byte_count-append (map Byte (bytes ++ move_bytes move)) (move_report move ++ encoded next (unread_scalar move c ++ []) false)
-            ∙ ap (λ n. n + byte_count (move_report move ++ encoded next (unread_scalar move c ++ []) false))
-            (byte_count-bytes (bytes ++ move_bytes move) ∙ length-append bytes (move_bytes move))
-            ∙ ap (λ n. length bytes + length (move_bytes move) + n) (no_more next served_next move c e)
-            ∙ add-zero (length bytes + length (move_bytes move)) in
-            let own : code_length (code before c) ≡ length (move_bytes move) = sym (code_same now before c under.same) ∙ f.own e in
+            ∙ byte_count-behind (bytes ++ move_bytes move) (move_report move ++ encoded next (unread_scalar move c ++ []) false)
+            ∙ omega (arith, length-append bytes (move_bytes move), no_more next served_next move c e) in
+            let own : code_length (code before c) ≡ length (move_bytes move) =
+            ap (λ k. code_length ((encoder_profile k).code c)) (sym under.same) ∙ f.own e in
             omega arith
 
         read_room : is_escape move ≡ false → (k : ℕ) → k < length (under.taken ++ c ∷ []) →
@@ -236,17 +174,16 @@ module _ (before : EncoderState) (source : List ℕ) (last : Bool) (free : ℕ) 
             (get_or (under.taken ++ c ∷ []) k 0) ≤ free
         read_room e k h = elim (cases_lt k (length under.taken)) [
           | inl a ↦
-              let t : take k (under.taken ++ c ∷ []) ≡ take k under.taken = take-append-le k under.taken (c ∷ []) (omega arith) in
-              let g : get_or (under.taken ++ c ∷ []) k 0 ≡ get_or under.taken k 0 = get_or_append_left under.taken (c ∷ []) 0 k a in
-              rw (t, g) (under.had_room k a)
+              let same : (take k (under.taken ++ c ∷ []) ≡ take k under.taken) × (get_or (under.taken ++ c ∷ []) k 0 ≡ get_or under.taken k 0) =
+              grind (arith, common_steps) in
+              rw (same.0, same.1) (under.had_room k a)
           | inr a ↦
               let l : k ≡ length under.taken = omega (arith, length-append under.taken (c ∷ [])) in
-              let t : take k (under.taken ++ c ∷ []) ≡ under.taken = ap (λ n. take n (under.taken ++ c ∷ [])) l ∙ take-append_seam under.taken (c ∷ []) in
-              let g : get_or (under.taken ++ c ∷ []) k 0 ≡ c = ap (λ n. get_or (under.taken ++ c ∷ []) n 0) l ∙ get_or-append_at under.taken c [] in
+              let last : (take k (under.taken ++ c ∷ []) ≡ under.taken) × (get_or (under.taken ++ c ∷ []) k 0 ≡ c) = grind (arith, common_steps) in
               let b : bytes_before before under.taken c ≡ length bytes = before_it e in
-              let r : scalar_room now c ≡ scalar_room before c = room_same now before c under.same in
+              let r : scalar_room now c ≡ scalar_room before c = ap (λ k. (encoder_profile k).scalar_room c) under.same in
               let fit = under.fits in
-              rw (t, g) (omega arith)
+              rw (last.0, last.1) (omega arith)
         ]
 
         -- a move that reads the scalar leaves the state unchanged
@@ -284,7 +221,7 @@ module _ (before : EncoderState) (source : List ℕ) (last : Bool) (free : ℕ) 
           | inl s ↦
               let w : wants_escape now c ≡ true = sym f.asks ∙ e in
               let n = length-append bytes (move_bytes move) in
-              let three = escape_three move e in
+              let three : length (move_bytes move) ≡ 3 = grind arith in
               record {
                 c = c;
                 rest = rest;
@@ -311,7 +248,7 @@ module _ (before : EncoderState) (source : List ℕ) (last : Bool) (free : ℕ) 
               ap (λ l. encoded before l ended) (append_assoc under.taken (c ∷ []) (take 1 rest ++ more))
               ∙ moved (take 1 rest ++ more) ended
               ∙ ap (λ l. map Byte (bytes ++ move_bytes move) ++ (l ++ encoded next (unread_scalar move c ++ (take 1 rest ++ more)) ended)) r
-              ∙ ap (λ l. map Byte (bytes ++ move_bytes move) ++ encoded next (l ++ (take 1 rest ++ more)) ended) (none_unread move c e);
+              ∙ ap (λ l. map Byte (bytes ++ move_bytes move) ++ encoded next (l ++ (take 1 rest ++ more)) ended) (let read : unread_scalar move c ≡ [] = grind arith in read);
           same = next_same ∙ under.same;
           had_room = read_room e;
           fits = let n = f.fits in let g = under.fits in omega (arith, length-append bytes (move_bytes move));
@@ -423,7 +360,7 @@ module _ (before : EncoderState) (source : List ℕ) (last : Bool) (free : ℕ) 
 
             -- the bytes written, and then the escape
             written : map Byte (bytes ++ escape) ++ [] ≡ map Byte bytes ++ map Byte escape
-            written = append-nil (map Byte (bytes ++ escape)) ∙ map_bytes-append bytes escape
+            written = append-nil (map Byte (bytes ++ escape)) ∙ map-append Byte bytes escape
 
             here : (more : List ℕ) (ended : Bool) → encoded before (source ++ more) ended ≡ map Byte bytes ++ encoded now more ended
             here more ended = whole more ended ∙ ap (λ l. map Byte bytes ++ encoded now (l ++ more) ended) none
@@ -441,31 +378,16 @@ module _ (before : EncoderState) (source : List ℕ) (last : Bool) (free : ℕ) 
                 here more ended
                 ∙ ap (λ l. map Byte bytes ++ l) (f.events more ended is)
                 ∙ sym (append_assoc (map Byte bytes) (map Byte escape) (encoded next more ended))
-                ∙ ap (λ l. l ++ encoded next more ended) (sym (map_bytes-append bytes escape))
+                ∙ ap (λ l. l ++ encoded next more ended) (sym (map-append Byte bytes escape))
                 ∙ ap (λ l. map Byte (bytes ++ escape) ++ encoded next (l ++ more) ended) (sym none)
 
 -- ---- lemmas for the loop
 
 pub no_report : (m : EncoderMove) → ((r : ℕ) → m ≡ moves.Unmappable r → ⊥) → move_report m ≡ []
-no_report (moves.One a) h = refl
-no_report (moves.Two a b) h = refl
-no_report (moves.Four a b c d) h = refl
-no_report (moves.Escape a b) h = refl
-no_report (moves.Unmappable r) h = absurd (h r refl)
+no_report m h = grind arith
 
 pub no_escape : (m : EncoderMove) → ((a b : ℕ) → m ≡ moves.Escape a b → ⊥) → is_escape m ≡ false
-no_escape (moves.One a) h = refl
-no_escape (moves.Two a b) h = refl
-no_escape (moves.Four a b c d) h = refl
-no_escape (moves.Escape a b) h = absurd (h a b refl)
-no_escape (moves.Unmappable r) h = refl
-
-pub first_nil : (xs : List ℕ) → slice_get xs 0 ≡ None → xs ≡ []
-first_nil [] e = refl
-first_nil (x ∷ xs) e = cc
-
-pub front_length : (n : ℕ) (xs : List ℕ) → n ≤ length xs → length (take n xs) ≡ n
-front_length n xs h = omega (arith, length-take n xs)
+no_escape m h = grind arith
 
 -- the code units of a text are those of its first scalar and of the others
 pub first_units : (form : EncodingForm) (left : List ℕ) (c : ℕ) → left ≡ c ∷ drop 1 left

@@ -1,41 +1,31 @@
 -- The codecs without modes: their rooms are enough for their scalars, and each move writes the code of its scalar.
-use Rattle.std.proofs.Common.{◌/◌, ◌%◌, ◌≡◌, ◌∙◌, ℕ, ◌+◌, ◌-◌, ◌≤◌, ◌<◌, List, [], ◌∷◌}
-use Rattle.std.proofs.Common.{◌++◌, length, not, refl, sym, ap, subst, arith, Bool, true, false, Some, None, Option, cond, option_map, ltb, inl, inr}
-use Rattle.std.proofs.lemmas.Bool.{cases_lt, lt-ltb, le-ltb}
+use Rattle.std.proofs.Common.{◌/◌, ◌%◌, ◌≡◌, ◌∙◌, ℕ, ◌+◌, ◌-◌, ◌≤◌, ◌<◌, List, [], ◌∷◌, ◌++◌, length, refl, sym, ap, subst, arith, Bool, true, false, Some}
+use Rattle.std.proofs.Common.{Option, cond, option_map, ltb, inl, inr}
+use Rattle.std.proofs.lemmas.{Bool.cases_lt, Bool.lt-ltb, Bool.le-ltb, Bool.Decides.nat_tests}
 use Rattle.std.specs.Option.{option_or}
-use Rattle.legacy_base.specs.declared.results.EncodeEvent.TheVariants as events
 use Rattle.legacy_text.specs.EncodingForm.{EncodingForm, Utf8, Utf16, unit_count}
-use Rattle.legacy_base.specs.EncodeEvents.{code_events, code_length, plain_events}
-use Rattle.legacy_base.specs.EncoderProfile.{EncoderMode, in_ascii, in_roman, in_two_byte, EncoderProfile, plain_encoder}
-use Rattle.legacy_base.specs.Encoders.{Codec, encoder_profile, EncoderState, new_encoder, code, encoded, is_pending, scalar_room}
-use Rattle.legacy_base.specs.Profile.{is_empty}
-use Rattle.legacy_base.specs.Lengths.{Formula, number, value}
-use Rattle.legacy_text.proofs.CodeUnits.{encode_2, encode_3, encode_4}
-use Rattle.legacy_base.proofs.SameUnits.{some_unit}
-use Rattle.legacy_encoder_engine.specs.declared.moves.EncoderMove.{EncoderMove}
-use Rattle.legacy_encoder_engine.specs.declared.moves.EncoderMove.TheVariants.{One, Two, Four, Escape, Unmappable}
-use Rattle.legacy_encoder_engine.specs.Moves.{differs, Moves, IsCode, is_escape, move_bytes, move_report, unread_scalar, wants_escape, state_for}
-use Rattle.legacy_encoder_engine.specs.Serves.{mode_room, Serves}
-use Rattle.legacy_encoder_engine.specs.UnderWay.{PutsCode, ReadsByte}
-use Rattle.legacy_encoder_engine.specs.UnitTurns.{HasUnitCode, ReadsUnit}
-use Rattle.legacy_encoder_engine.proofs.ReadingAhead.{IsSame}
 use Rattle.legacy_text.specs.UnitCodes.{IsNoSurrogate}
+use Rattle.legacy_base.specs.Encoders.{Codec, encoder_profile, EncoderState, new_encoder, code, encoded, scalar_room}
+use Rattle.legacy_base.specs.EncoderProfile.{EncoderMode, in_ascii, EncoderProfile, plain_encoder}
+use Rattle.legacy_base.specs.{EncodeEvents.code_events, EncodeEvents.code_length, EncodeEvents.plain_events, Lengths.Formula, Lengths.number, Lengths.value}
+use Rattle.legacy_text.proofs.CodeUnits.{encoding}
+use Rattle.legacy_base.proofs.SameUnits.{some_unit}
+use Rattle.legacy_encoder_engine.specs.declared.moves.EncoderMove.TheVariants.{One, Two, Four, Escape, Unmappable}
+use Rattle.legacy_encoder_engine.specs.declared.moves.EncoderMove.{EncoderMove}
+use Rattle.legacy_encoder_engine.specs.Moves.{differs, Moves, IsCode, is_escape, move_bytes, move_report, unread_scalar, wants_escape}
+use Rattle.legacy_encoder_engine.specs.{Serves.mode_room, Serves.Serves, UnderWay.PutsCode, UnderWay.ReadsByte, UnitTurns.HasUnitCode, UnitTurns.ReadsUnit}
 use Rattle.legacy_encoder_engine.specs.PlainCodecs.{HasPlainLengths, IsPlainCodec, HasByte}
+use Rattle.legacy_encoder_engine.proofs.{ReadingAhead.IsSame, CallUnderWay.state_stays}
 
 pub differs-same : (m : EncoderMode) → differs m m ≡ false
-differs-same in_ascii = refl
-differs-same in_roman = refl
-differs-same in_two_byte = refl
+differs-same m = grind arith
 
 never : {A : Type 0} (m : EncoderMode) → differs m m ≡ true → A
 never m e = let no : true ≡ false = sym e ∙ differs-same m in absurd (cc)
 
 -- a scalar past ASCII has at least two bytes in UTF-8
 pub two_units : (c : ℕ) → 128 ≤ c → 2 ≤ unit_count Utf8 c
-two_units c a = elim (cases_lt c 2048) [
-  | inl b ↦ rw (encode_2 c a b) (omega arith)
-  | inr b ↦ elim (cases_lt c 65536) [ inl d ↦ rw (encode_3 c b d) (omega arith) | inr d ↦ rw (encode_4 c d) (omega arith) ]
-]
+two_units c a = grind (arith, nat_tests, encoding)
 
 -- ---- the profile
 
@@ -51,31 +41,29 @@ module _ (code : ℕ → Option (List ℕ)) (past most : ℕ) (from_utf8 from_ut
   low : (mode : EncoderMode) (c : ℕ) (form : EncodingForm) (t : ℕ)
       → mode_room P form mode t + code_length (code c) ≤ mode_room P form mode (unit_count form c + t)
   low mode c Utf16 t = elim (cases_lt c 128) [
-    | inl a ↦ let l = f.low16 (unit_count Utf16 c) t (code_length (code c)) (some_unit Utf16 c) (omega (arith, one c a, f.fits.0)) in omega arith
-    | inr a ↦ let l = f.low16 (unit_count Utf16 c) t (code_length (code c)) (some_unit Utf16 c) (short c a) in omega arith
+    | inl a ↦ omega (arith, f.low16 (unit_count Utf16 c) t (code_length (code c)) (some_unit Utf16 c) (omega (arith, one c a, f.fits.0)))
+    | inr a ↦ omega (arith, f.low16 (unit_count Utf16 c) t (code_length (code c)) (some_unit Utf16 c) (short c a))
   ]
   low mode c Utf8 t = elim (cases_lt c 128) [
-    | inl a ↦ let l = f.ascii8 (unit_count Utf8 c) t (code_length (code c)) (some_unit Utf8 c) (one c a) in omega arith
-    | inr a ↦ let l = f.low8 (unit_count Utf8 c) t (code_length (code c)) (two_units c a) (short c a) in omega arith
+    | inl a ↦ omega (arith, f.ascii8 (unit_count Utf8 c) t (code_length (code c)) (some_unit Utf8 c) (one c a))
+    | inr a ↦ omega (arith, f.low8 (unit_count Utf8 c) t (code_length (code c)) (two_units c a) (short c a))
   ]
 
   enough : (mode : EncoderMode) (c : ℕ) (form : EncodingForm) (t : ℕ) → cond (ltb c 128) 1 past ≤ mode_room P form mode (unit_count form c + t)
-  enough mode c Utf16 t = elim (cases_lt c 128) [
-    | inl a ↦ let l = f.enough16 (unit_count Utf16 c) t (some_unit Utf16 c) in let s = f.fits.0 in let m = f.fits.1 in rw (lt-ltb c 128 a) (omega arith)
-    | inr a ↦ let l = f.enough16 (unit_count Utf16 c) t (some_unit Utf16 c) in rw (le-ltb c 128 a) (omega arith)
-  ]
+  enough mode c Utf16 t =
+      let l = f.enough16 (unit_count Utf16 c) t (some_unit Utf16 c) in let s = f.fits in grind arith
   enough mode c Utf8 t = elim (cases_lt c 128) [
     | inl a ↦ let l = f.ascii8 (unit_count Utf8 c) t 1 (some_unit Utf8 c) (omega arith) in rw (lt-ltb c 128 a) (omega arith)
-    | inr a ↦ let l = f.enough8 (unit_count Utf8 c) t (two_units c a) in rw (le-ltb c 128 a) (omega arith)
+    | inr a ↦ rw (le-ltb c 128 a) (omega (arith, f.enough8 (unit_count Utf8 c) t (two_units c a)))
   ]
 
   rises : (form : EncodingForm) (m k : ℕ) → m ≤ k → value (P.formula form (number m)) ≤ value (P.formula form (number k))
-  rises Utf16 m k h = elim (cases_lt m k) [
-    | inl l ↦ let r = f.low16 (k - m) m 0 (omega arith) (omega arith) in let e : k - m + m ≡ k = omega arith in let r' = rw e at r in omega arith
-    | inr l ↦ let e : m ≡ k = omega arith in rw e (omega arith)
-  ]
-  rises Utf8 m k h = elim (cases_lt m k) [
-    | inl l ↦ let r = f.ascii8 (k - m) m 0 (omega arith) (omega arith) in let e : k - m + m ≡ k = omega arith in let r' = rw e at r in omega arith
+  rises form m k h = elim (cases_lt m k) [
+    | inl l ↦
+        let e : k - m + m ≡ k = omega arith in
+        let r16 = f.low16 (k - m) m 0 (omega arith) (omega arith) in
+        let r8 = f.ascii8 (k - m) m 0 (omega arith) (omega arith) in
+        rw (← e) (grind arith)
     | inr l ↦ let e : m ≡ k = omega arith in rw e (omega arith)
   ]
 
@@ -95,16 +83,46 @@ module _ (code : ℕ → Option (List ℕ)) (past most : ℕ) (from_utf8 from_ut
 
 -- ---- the moves
 
+-- the state writes the scalar c as its code, or reports r
+pub record WritesHere (state : EncoderState) (r c : ℕ) : Type 0 where
+  pub law : (more : List ℕ) (ended : Bool) → encoded state (c ∷ more) ended ≡ code_events r (code state c) ++ encoded state more ended
+  pub fits : code_length (code state c) ≤ scalar_room state c
+  pub asks : wants_escape state c ≡ false
+
+module _ (state : EncoderState) (r c : ℕ) (here : WritesHere state r c) where
+  written : (move : EncoderMove) → code state c ≡ Some (move_bytes move) → is_escape move ≡ false
+      → move_report move ≡ [] → unread_scalar move c ≡ [] → Moves state c state move
+  written move e reads silent read = record {
+    events = λ more ended. rw (silent, read) (here.law more ended ∙ ap (λ o. code_events r o ++ encoded state more ended) e);
+    own = λ h. ap code_length e;
+    fits = rw e at here.fits;
+    asks = reads ∙ sym here.asks;
+    goes = sym (state_stays state c here.asks);
+  }
+
+  -- then a move that writes the code is correct
+  pub here_moves : (move : EncoderMove) → IsCode (code state c) r move → Moves state c state move
+  here_moves (One x) e = written (One x) e refl refl refl
+  here_moves (Two x y) e = written (Two x y) e refl refl refl
+  here_moves (Four x y z w) e = written (Four x y z w) e refl refl refl
+  here_moves (Escape x y) e = absurd e
+  here_moves (Unmappable q) e = record {
+    events = λ more ended. rw e.1 (here.law more ended ∙ ap (λ o. code_events r o ++ encoded state more ended) e.0);
+    own = λ h. ap code_length e.0;
+    fits = omega arith;
+    asks = sym here.asks;
+    goes = sym (state_stays state c here.asks);
+  }
+
 -- a profile without modes, with `past` bytes of room for a scalar past ASCII
 record ActsPlainly (p : EncoderProfile) (past : ℕ) : Type 0 where
   law : (c : ℕ) (more : List ℕ) (ended : Bool) → p.events in_ascii (c ∷ more) ended ≡ code_events c (p.code c) ++ p.events in_ascii more ended
   mode : (c : ℕ) → p.mode_for in_ascii c ≡ in_ascii
   room : (c : ℕ) → p.scalar_room c ≡ cond (ltb c 128) 1 past
-  never_ends : p.end_bytes in_ascii ≡ []
 
 acts : (code : ℕ → Option (List ℕ)) (past : ℕ) (from_utf8 from_utf16 : Formula → Formula) → ActsPlainly (plain_encoder code past from_utf8 from_utf16) past
 unfolding plain_events
-acts code past from_utf8 from_utf16 = record { law = λ c more ended. refl; mode = λ c. refl; room = λ c. refl; never_ends = refl }
+acts code past from_utf8 from_utf16 = record { law = λ c more ended. refl; mode = λ c. refl; room = λ c. refl }
 
 module _ (codec : Codec) (past : ℕ) (p : IsPlainCodec codec past) where
   abbrev S : EncoderState
@@ -138,38 +156,9 @@ module _ (codec : Codec) (past : ℕ) (p : IsPlainCodec codec past) where
     | inr a ↦ let e = room_past_ascii c a in let o = ap code_length (code_is c) in let s = p.short c a in let f = p.lengths.fits.1 in omega arith
   ]
 
-  stays : (c : ℕ) → S ≡ state_for S c
-  stays c = ap (λ m. record { codec = codec; mode = m }) (sym (acts_plainly.mode c))
-
-  asks : (c : ℕ) → false ≡ wants_escape S c
-  asks c = rw (acts_plainly.mode c) refl
-
   -- a move that writes the code of its scalar is correct
-  module _ (c : ℕ) where
-    written : (move : EncoderMove) → code S c ≡ Some (move_bytes move) → is_escape move ≡ false
-        → move_report move ≡ [] → unread_scalar move c ≡ [] → Moves S c S move
-    written move e reads silent read = record {
-      events = λ more ended. rw (silent, read) (acts_plainly.law c more ended ∙ ap (λ o. code_events c o ++ encoded S more ended) e);
-      own = λ h. ap code_length e;
-      fits = rw e at (fits c);
-      asks = reads ∙ asks c;
-      goes = stays c;
-    }
-
-    pub plain_moves : (move : EncoderMove) → IsCode (code S c) c move → Moves S c S move
-    plain_moves (One x) e = written (One x) e refl refl refl
-    plain_moves (Two x y) e = written (Two x y) e refl refl refl
-    plain_moves (Four x y z w) e = written (Four x y z w) e refl refl refl
-    plain_moves (Escape x y) e = absurd e
-    plain_moves (Unmappable r) e = record {
-      events = λ more ended.
-          acts_plainly.law c more ended ∙ ap (λ o. code_events c o ++ encoded S more ended) e.0
-          ∙ ap (λ x. events.Unmappable x ∷ encoded S more ended) (sym e.1);
-      own = λ h. ap code_length e.0;
-      fits = omega arith;
-      asks = asks c;
-      goes = stays c;
-    }
+  pub plain_moves : (c : ℕ) (move : EncoderMove) → IsCode (code S c) c move → Moves S c S move
+  plain_moves c = here_moves S c c (record { law = acts_plainly.law c; fits = fits c; asks = rw (acts_plainly.mode c) refl })
 
   pub plain_code : (c : ℕ) → c < 128 → code S c ≡ Some (c ∷ [])
   plain_code c low = code_is c ∙ p.ascii c low
@@ -205,23 +194,16 @@ module _ (codec : Codec) (past : ℕ) (p : IsPlainCodec codec past) where
   pub plain_fits : (c : ℕ) (move : EncoderMove) → IsCode (code S c) c move → length (move_bytes move) ≤ past
   plain_fits c move is = let room = widest_room c in let moves = plain_moves c move is in omega (arith, moves.fits)
 
-  -- the end of a text writes no bytes
-  pub never_pending : is_pending S ≡ false
-  never_pending = ap (λ l. not (is_empty l)) acts_plainly.never_ends
-
 -- ---- the lengths of codes
 
 pub short_if : (t : Bool) (a b : Option (List ℕ)) (n : ℕ) → code_length a ≤ n → code_length b ≤ n → code_length (cond t a b) ≤ n
-short_if true a b n p q = p
-short_if false a b n p q = q
+short_if t a b n p q = grind arith
 
 pub short_map : {A : Type 0} (f : A → List ℕ) (o : Option A) (n : ℕ) → ((p : A) → length (f p) ≤ n) → code_length (option_map f o) ≤ n
-short_map f None n h = omega arith
-short_map f (Some p) n h = h p
+short_map f o n h = grind arith
 
 pub short_or : (a b : Option (List ℕ)) (n : ℕ) → code_length a ≤ n → code_length b ≤ n → code_length (option_or a b) ≤ n
-short_or None b n p q = q
-short_or (Some x) b n p q = p
+short_or a b n p q = grind arith
 
 -- the code of a scalar past ASCII
 pub short_past : (c : ℕ) (a b : Option (List ℕ)) (n : ℕ) → 128 ≤ c → code_length b ≤ n → code_length (cond (ltb c 128) a b) ≤ n

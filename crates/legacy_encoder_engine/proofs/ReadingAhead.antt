@@ -1,18 +1,17 @@
 -- Reading ahead of the moves.
-use Rattle.std.proofs.Common.{◌≡◌, ◌∙◌, ℕ, suc, ◌+◌, ◌-◌, ◌≤◌, ◌<◌, List, [], ◌∷◌, ◌++◌, length, get_or, slice_index, take}
-use Rattle.std.proofs.Common.{drop, refl, sym, ap, subst, arith, append_assoc, append-nil, length-append, false, IsAscii}
+use Rattle.std.proofs.Common.{◌≡◌, ◌∙◌, ℕ, suc, ◌+◌, ◌-◌, ◌≤◌, ◌<◌, List, [], ◌∷◌, ◌++◌, length, get_or, slice_index, take, drop, refl, sym, ap, subst, arith}
+use Rattle.std.proofs.Common.{append_assoc, append-nil, length-append, false, IsAscii}
 use Rattle.std.proofs.lemmas.List.{get_or-take, length-take-le, take-append-drop}
 use Rattle.legacy_text.specs.EncodingForm.{EncodingForm, code_units, all_code_units, unit_count, total_unit_count}
-use Rattle.legacy_text.specs.NextScalars.{IsFirst}
-use Rattle.legacy_text.specs.UnitCodes.{WritesCodes}
+use Rattle.legacy_text.specs.{NextScalars.IsFirst, UnitCodes.WritesCodes}
 use Rattle.legacy_text.proofs.CodeUnits.{length-code_units-ascii, total_unit_count-append}
 use Rattle.legacy_base.specs.Encoders.{EncoderState, encoder_profile, scalar_room}
 use Rattle.legacy_encoder_engine.specs.declared.moves.EncoderMove.{EncoderMove}
-use Rattle.legacy_encoder_engine.specs.declared.moves.EncoderMove.TheVariants as moves
 use Rattle.legacy_encoder_engine.specs.Moves.{Moves, move_bytes, move_report, is_escape}
-use Rattle.legacy_encoder_engine.specs.Serves.{Serves}
 use Rattle.legacy_encoder_engine.specs.UnderWay.{KeepsOn, Encodes, PutsCode, ReadsByte}
+use Rattle.legacy_encoder_engine.specs.Serves.{Serves}
 use Rattle.legacy_encoder_engine.proofs.CallUnderWay.{underway_read, first_units}
+use Rattle.legacy_encoder_engine.specs.declared.moves.EncoderMove.TheVariants as moves
 
 pub keeps_then : {state : EncoderState} {free : ℕ} {left bytes left' bytes' left'' bytes'' : List ℕ}
     → KeepsOn state free left bytes left' bytes' → KeepsOn state free left' bytes' left'' bytes''

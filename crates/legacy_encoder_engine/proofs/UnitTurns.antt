@@ -1,27 +1,21 @@
 -- Writing the codes of several UTF-16 code units at a time.
 use Rattle.std.proofs.Common.{◌≡◌, ◌∙◌, ℕ, suc, ◌+◌, ◌<◌, ◌≤◌, List, [], ◌∷◌, ◌++◌, length, take, get_or, refl, sym, ap, subst, arith, append_assoc, inl, inr}
 use Rattle.std.proofs.Math.Seq.{take-suc, take-append-add}
-use Rattle.std.proofs.lemmas.Bool.{cases_lt}
-use Rattle.std.proofs.lemmas.List.{get_or-take, length-take-le, take-append-le, take-take}
+use Rattle.std.proofs.lemmas.{Bool.cases_lt, List.get_or-take, List.length-take-le, List.take-take, Grind.common_steps}
 use Rattle.legacy_base.specs.Encoders.{EncoderState, encoder_profile, scalar_room}
 use Rattle.legacy_text.specs.UnitCodes.{IsNoSurrogate}
-use Rattle.legacy_encoder_engine.specs.Serves.{Serves}
-use Rattle.legacy_encoder_engine.specs.UnitTurns.{PutsUnits, ReadsUnit, two_bytes}
+use Rattle.legacy_encoder_engine.specs.{Serves.Serves, UnitTurns.PutsUnits, UnitTurns.ReadsUnit, UnitTurns.two_bytes}
 use Rattle.legacy_encoder_engine.proofs.ReadingAhead.{keeps_none, keeps_then, keeps_move}
 
 -- two bytes were written after the old bytes, and the first `count` of them are kept
 pub kept : (at count : ℕ) (old new bytes : List ℕ) → length old ≡ at → count ≤ 2
     → take (at + 2) new ≡ old ++ bytes → take (at + count) new ≡ old ++ take count bytes
-kept at count old new bytes long few e =
-    sym (take-take (at + count) (at + 2) new (omega arith)) ∙ ap (take (at + count)) e
-    ∙ subst (λ n. take (n + count) (old ++ bytes) ≡ old ++ take count bytes) long (take-append-add old bytes count)
+kept at count old new bytes long few e = grind (arith, common_steps, take-take (at + count) (at + 2) new, take-append-add old bytes count)
 
 -- the earlier bytes are unchanged
 pub stays : (start at : ℕ) (old new bytes : List ℕ) (end : ℕ) → start ≤ at → at ≤ length old
     → at ≤ end → take end new ≡ take at old ++ bytes → take start new ≡ take start old
-stays start at old new bytes end within fits le e =
-    sym (take-take start end new (omega arith)) ∙ ap (take start) e ∙ take-append-le start (take at old) bytes (omega (arith, length-take-le at old fits))
-    ∙ take-take start at old within
+stays start at old new bytes end within fits le e = grind (arith, common_steps, take-take start end new, take-take start at old)
 
 module _ (state : EncoderState) (free : ℕ) where
   pub units_none : (units old new : List ℕ) → new ≡ old → PutsUnits state free (take 0 units) old new
@@ -44,8 +38,7 @@ module _ (state : EncoderState) (free : ℕ) where
         lone = λ j h. elim (cases_lt j k) [
           | inl l ↦
               let below : j < length (take k units) = omega arith in
-              let same : get_or (take k units) j 0 ≡ get_or (take (suc k) units) j 0 = get_or-take k units j 0 l
-              ∙ sym (get_or-take (suc k) units j 0 (omega arith)) in
+              let same : get_or (take k units) j 0 ≡ get_or (take (suc k) units) j 0 = grind (arith, common_steps) in
               subst IsNoSurrogate same (before.lone j below)
           | inr l ↦
               let all : length (take (suc k) units) ≡ suc k = length-take-le (suc k) units (omega arith) in

@@ -1,19 +1,14 @@
 -- The list of codes after a walk over an index.
-use Rattle.std.proofs.Common.{◌≡◌, ◌≢◌, ◌∙◌, ℕ, ◌+◌, ◌*◌, ◌/◌, ◌%◌, ◌<◌, ◌≤◌, List, [], ◌∷◌, length, slice_index}
-use Rattle.std.proofs.Common.{Option, Some, None, option_map, ap, sym, refl, subst, arith}
+use Rattle.std.proofs.Common.{◌≡◌, ◌≢◌, ◌∙◌, ℕ, ◌+◌, ◌*◌, ◌<◌, ◌≤◌, List, [], ◌∷◌, length, slice_index, Option, Some, None, option_map, ap, sym, refl, subst}
+use Rattle.std.proofs.Common.{arith}
 use Rattle.std.proofs.lemmas.Bool.Decides.{nat_tests}
-use Rattle.std.specs.Char.{IsScalar}
-use Rattle.std.specs.Option.{IfSome}
+use Rattle.std.specs.{Char.IsScalar, Option.IfSome}
 use Rattle.legacy_tables.specs.declared.tables.packed.PackedPart.{PackedPart}
-use Rattle.legacy_tables.specs.Packed.{pointer_of}
-use Rattle.legacy_tables.specs.Unicode.{AreScalars}
-use Rattle.legacy_tables.specs.Walks.{marked, IsFilled}
-use Rattle.legacy_tables.proofs.PackedAccepted.{entry-scalar}
-use Rattle.legacy_tables.proofs.PackedPointers.{pointer-taken}
+use Rattle.legacy_tables.specs.{Packed.pointer_of, Unicode.AreScalars, Walks.marked, Walks.IsFilled}
+use Rattle.legacy_tables.proofs.{PackedAccepted.entry-scalar, PackedPointers.pointer-taken}
 use Rattle.legacy_text.specs.UnitCodes.{IsNoSurrogate}
 use Rattle.legacy_base.specs.Encoders.{Codec, encoder_profile}
-use Rattle.legacy_encoder_engine.specs.UnitTurns.{two_bytes}
-use Rattle.legacy_encoder_engine.specs.CachedPairs.{IsNoPair, IsRightEntry}
+use Rattle.legacy_encoder_engine.specs.{UnitTurns.two_bytes, CachedPairs.IsNoPair, CachedPairs.IsRightEntry}
 
 -- a scalar value is not a surrogate
 no-surrogate : (c : ℕ) → IsScalar c → IsNoSurrogate c
@@ -21,10 +16,7 @@ no-surrogate c scalar high = grind (arith, nat_tests)
 
 -- a lead and a trail are the bytes of their number
 pub halves : (lead trail : ℕ) → lead < 256 → lead ∷ trail ∷ [] ≡ two_bytes (lead + 256 * trail)
-halves lead trail h =
-    let low : lead ≡ (lead + 256 * trail) % 256 = omega arith in
-    let high : trail ≡ (lead + 256 * trail) / 256 = omega arith in
-    ap (λ (l : ℕ). l ∷ trail ∷ []) low ∙ ap (λ (t : ℕ). (lead + 256 * trail) % 256 ∷ t ∷ []) high
+halves lead trail h = grind arith
 
 module _ (codec : Codec) (part : PackedPart) (mark : ℕ → ℕ) (index : List ℕ) (Done : ℕ → Type 0) where
   -- the codes of the scalars with the property are those of their pointers

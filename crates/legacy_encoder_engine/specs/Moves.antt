@@ -1,14 +1,12 @@
 -- The moves of an encoder, of which its calls consist.
 use Rattle.std.specs.Prelude.{◌≡◌, ℕ, ◌≤◌, List, [], ◌∷◌, ◌++◌, length, map, Bool, true, false, IsTrue, Option, Some, None, ◌⊎◌}
-use Rattle.legacy_base.specs.declared.results.EncodeEvent.{EncodeEvent}
-use Rattle.legacy_base.specs.declared.results.EncodeEvent.TheVariants.{Byte}
-use Rattle.legacy_base.specs.declared.results.EncodeEvent.TheVariants as events
-use Rattle.legacy_base.specs.Beginnings.{BeginsWith}
-use Rattle.legacy_base.specs.EncodeEvents.{code_length}
-use Rattle.legacy_base.specs.EncoderProfile.{EncoderMode, in_ascii, in_roman, in_two_byte}
+use Rattle.legacy_base.specs.declared.results.{EncodeEvent.EncodeEvent, EncodeEvent.TheVariants.Byte}
 use Rattle.legacy_base.specs.Encoders.{EncoderState, encoder_profile, code, encoded, end_bytes, scalar_room}
-use Rattle.legacy_encoder_engine.specs.declared.moves.EncoderMove.{EncoderMove}
+use Rattle.legacy_base.specs.EncoderProfile.{EncoderMode, in_ascii, in_roman, in_two_byte}
+use Rattle.legacy_base.specs.{Beginnings.BeginsWith, EncodeEvents.code_length}
 use Rattle.legacy_encoder_engine.specs.declared.moves.EncoderMove.TheVariants.{One, Two, Four, Escape, Unmappable}
+use Rattle.legacy_encoder_engine.specs.declared.moves.EncoderMove.{EncoderMove}
+use Rattle.legacy_base.specs.declared.results.EncodeEvent.TheVariants as events
 
 -- the bytes of a move
 abbrev pub move_bytes : EncoderMove → List ℕ

@@ -1,13 +1,10 @@
 -- The requirements of the common encoder of codecs with ASCII and pairs.
-use Rattle.std.proofs.Common.{◌≡◌, ℕ, ◌<◌, ◌≤◌, List, [], ◌∷◌, Option, Some}
-use Rattle.legacy_tables.specs.Indexes.{FlatIndexes}
-use Rattle.legacy_tables.specs.AcceptedTables.{AcceptedIndexes}
-use Rattle.legacy_base.specs.EncodeEvents.{code_length}
-use Rattle.legacy_base.specs.EncoderProfile.{plain_encoder}
+use Rattle.legacy_base.specs.Lengths.{◌⊕◌, ◌⊗◌, number}
 use Rattle.legacy_base.specs.Encoders.{Codec, EncoderState, encoder_profile, new_encoder}
-use Rattle.legacy_base.specs.Lengths.{number, ◌⊕◌, ◌⊗◌}
-use Rattle.legacy_encoder_engine.specs.PlainCodecs.{IsPlainCodec}
-use Rattle.legacy_encoder_engine.specs.PlainLengths.{pair_lengths}
+use Rattle.legacy_base.specs.{EncodeEvents.code_length, EncoderProfile.plain_encoder}
+use Rattle.std.proofs.Common.{◌≡◌, ℕ, ◌<◌, ◌≤◌, List, [], ◌∷◌, Option, Some}
+use Rattle.legacy_tables.specs.{Indexes.FlatIndexes, AcceptedTables.AcceptedIndexes}
+use Rattle.legacy_encoder_engine.specs.{PlainCodecs.IsPlainCodec, PlainLengths.pair_lengths}
 
 -- the state of such an encoder between two calls, which never changes
 abbrev pub pair_encoder_state : (FlatIndexes → Codec) → AcceptedIndexes → EncoderState

@@ -1,8 +1,6 @@
 -- The requirements of the common encoder of codecs without modes.
 use Rattle.std.specs.Prelude.{◌≡◌, ℕ, ◌+◌, ◌<◌, ◌≤◌, List, [], ◌∷◌, Option, Some}
-use Rattle.legacy_base.specs.EncodeEvents.{code_length}
-use Rattle.legacy_base.specs.EncoderProfile.{plain_encoder}
-use Rattle.legacy_base.specs.Encoders.{Codec, encoder_profile}
+use Rattle.legacy_base.specs.{EncodeEvents.code_length, EncoderProfile.plain_encoder, Encoders.Codec, Encoders.encoder_profile}
 use Rattle.legacy_base.specs.Lengths.{Formula, number, value}
 
 -- Two length formulas are enough for codes of at most `most` bytes, one byte for ASCII, and `past` bytes of room past

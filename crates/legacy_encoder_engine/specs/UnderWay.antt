@@ -1,15 +1,13 @@
 -- An encoder call that is under way.
 use Rattle.std.specs.Prelude.{◌≡◌, ℕ, suc, ◌+◌, ◌<◌, ◌≤◌, List, [], ◌∷◌, ◌++◌, length, map, take, slice_index, Bool, false, ◌⊎◌}
 use Rattle.legacy_base.specs.declared.results.EncodeEvent.TheVariants.{Byte}
+use Rattle.legacy_text.specs.EncodingForm.{EncodingForm, total_unit_count}
+use Rattle.legacy_base.specs.Encoders.{EncoderState, code, encoded, scalar_room, encoder_room}
+use Rattle.legacy_base.specs.{EncodeEvents.code_length, EncoderCalls.EncoderLacksRoom, EncoderCalls.bytes_before}
+use Rattle.legacy_encoder_engine.specs.Moves.{Moves, wants_escape, is_escape, move_report, move_bytes}
+use Rattle.legacy_encoder_engine.specs.declared.moves.{EncoderMove.EncoderMove, EncoderMove.TheVariants.One}
 use Rattle.legacy_text.specs.declared.text_cursor.TextCursor as cursors
 use Rattle.legacy_text.specs.declared.text_source.Source as sources
-use Rattle.legacy_text.specs.EncodingForm.{EncodingForm, total_unit_count}
-use Rattle.legacy_base.specs.EncodeEvents.{code_length}
-use Rattle.legacy_base.specs.Encoders.{EncoderState, code, encoded, scalar_room, encoder_room}
-use Rattle.legacy_base.specs.EncoderCalls.{EncoderLacksRoom, bytes_before}
-use Rattle.legacy_encoder_engine.specs.Moves.{Moves, wants_escape, is_escape, move_report, move_bytes}
-use Rattle.legacy_encoder_engine.specs.declared.moves.EncoderMove.{EncoderMove}
-use Rattle.legacy_encoder_engine.specs.declared.moves.EncoderMove.TheVariants.{One}
 
 -- the bytes written lower the room that is still needed
 pub record Lowers (before : EncoderState) (source : List ℕ) (now : EncoderState) (left bytes : List ℕ) : Type 0 where

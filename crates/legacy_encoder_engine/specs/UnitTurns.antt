@@ -1,8 +1,7 @@
 -- Writing several UTF-16 code units at a time.
 use Rattle.std.specs.Prelude.{◌≡◌, ℕ, ◌/◌, ◌%◌, ◌<◌, ◌≤◌, List, [], ◌∷◌, ◌++◌, take, Some, false}
 use Rattle.legacy_base.specs.Encoders.{Codec, EncoderState, encoder_profile}
-use Rattle.legacy_text.specs.UnitCodes.{IsNoSurrogate}
-use Rattle.legacy_text.specs.UnitTurns.{AreLone}
+use Rattle.legacy_text.specs.{UnitCodes.IsNoSurrogate, UnitTurns.AreLone}
 use Rattle.legacy_encoder_engine.specs.declared.moves.EncoderMove.{EncoderMove}
 use Rattle.legacy_encoder_engine.specs.Moves.{Moves, is_escape, move_bytes, move_report}
 use Rattle.legacy_encoder_engine.specs.UnderWay.{KeepsOn}

@@ -1,12 +1,12 @@
 use Rattle.std.proofs.Common.{◌≡◌, ◌∙◌, length, false, IsTrue, refl, sym, ap, arith}
-use Rattle.std.proofs.lemmas.Bool.{false≢true}
+use Rattle.std.proofs.lemmas.{Bool.false≢true, List.length-take-le}
 use Rattle.legacy_base.specs.Encoders.{is_pending}
-use Rattle.legacy_text.proofs.Texts.{first_cons}
+use Rattle.legacy_text.proofs.Texts.{first_cons, none_left}
 use Rattle.legacy_encoder_engine.specs.Moves.{is_escape}
 use Rattle.legacy_encoder_engine.proofs.CallUnderWay.{underway_start, underway_read, underway_escape, call_full_scalar, call_full_end, call_unmappable}
-use Rattle.legacy_encoder_engine.proofs.CallUnderWay.{call_done, call_finish, no_report, no_escape, first_nil, front_length, first_units}
-use Rattle.legacy_encoder_engine.proofs.drive.drive_encoder.Goals as goal
+use Rattle.legacy_encoder_engine.proofs.CallUnderWay.{call_done, call_finish, no_report, no_escape, first_units}
 use Rattle.legacy_encoder_engine.proofs.drive.drive_encoder.Goals.{else-is_pending-via-then-is_pending+else-last, else-is_pending-via-else-is_pending}
+use Rattle.legacy_encoder_engine.proofs.drive.drive_encoder.Goals as goal
 
 pub loop-c-init : goal.loop-c-init
 loop-c-init g c = (
@@ -20,14 +20,14 @@ pub returns-then-dst-written-clause-call : goal.returns-then-dst-written-clause-
 returns-then-dst-written-clause-call g c =
     let a = c.read_ahead-written in
     let under = (rw c.loop-c.auto.dst at a.ensures.keeps).keeps _ _ _ c.loop-c.invariant.0 in
-    let n = front_length a.result a.new.dst (omega (arith, a.ensures.end)) in
+    let n = length-take-le a.result a.new.dst (omega (arith, a.ensures.end)) in
     call_full_scalar _ _ _ _ _ _ _ under c.room.ensures.serves c.in-Some.c _ (first_cons _ _ c.in-Some.ensures) (omega arith)
 
 pub returns-in-Unmappable-clause-call : goal.returns-in-Unmappable-clause-call
 returns-in-Unmappable-clause-call g c =
     let a = c.read_ahead-written in
     let under = (rw c.loop-c.auto.dst at a.ensures.keeps).keeps _ _ _ c.loop-c.invariant.0 in
-    let n = front_length a.result a.new.dst (omega (arith, a.ensures.end)) in
+    let n = length-take-le a.result a.new.dst (omega (arith, a.ensures.end)) in
     rw c.advance.ensures.left
     (call_unmappable _ _ _ _ _ _ _ under c.room.ensures.serves c.in-Some.c _ (first_cons _ _ c.in-Some.ensures) _ c.in-Unmappable.reported
     (rw c.in-Unmappable.is at c.next-step.ensures) (omega arith))
@@ -36,7 +36,7 @@ pub loop-c-preserved : goal.loop-c-preserved
 loop-c-preserved g c =
     let a = c.read_ahead-written in
     let under = (rw c.loop-c.auto.dst at a.ensures.keeps).keeps _ _ _ c.loop-c.invariant.0 in
-    let n = front_length a.result a.new.dst (omega (arith, a.ensures.end)) in
+    let n = length-take-le a.result a.new.dst (omega (arith, a.ensures.end)) in
     let f = c.next-step.ensures.fits in
     let cons = first_cons _ _ c.in-Some.ensures in (
       rw (c.advance-in-loop-c.ensures.left, c.put_move-written.ensures.bytes)
@@ -61,13 +61,13 @@ returns-else-is_pending-clause-call g c =
       | else-is_pending-via-then-is_pending+else-last w ↦ λ l. absurd (false≢true (sym w.if-last.false ∙ l))
       | else-is_pending-via-else-is_pending w ↦ λ l. sym c.is_pending.ensures.is ∙ w.if-is_pending.false
     ] in
-    call_done _ _ _ _ _ _ _ under c.is_pending.ensures.serves (first_nil _ (sym c.peek.ensures ∙ c.in_default.is)) none
+    call_done _ _ _ _ _ _ _ under c.is_pending.ensures.serves (none_left _ (sym c.in_default.is ∙ c.peek.ensures)) none
 
 pub loop-c-preserved-in-Escape : goal.loop-c-preserved-in-Escape
 loop-c-preserved-in-Escape g c =
     let a = c.read_ahead-written in
     let under = (rw c.loop-c.auto.dst at a.ensures.keeps).keeps _ _ _ c.loop-c.invariant.0 in
-    let n = front_length a.result a.new.dst (omega (arith, a.ensures.end)) in
+    let n = length-take-le a.result a.new.dst (omega (arith, a.ensures.end)) in
     let f = c.next-step.ensures.fits in
     let cons = first_cons _ _ c.in-Some.ensures in (
       rw c.put_move-written.ensures.bytes
@@ -81,16 +81,16 @@ pub returns-then-dst-written-lt3-clause-call : goal.returns-then-dst-written-lt3
 returns-then-dst-written-lt3-clause-call g c =
     let a = c.read_ahead-written in
     let under = (rw c.loop-c.auto.dst at a.ensures.keeps).keeps _ _ _ c.loop-c.invariant.0 in
-    let n = front_length a.result a.new.dst (omega (arith, a.ensures.end)) in
+    let n = length-take-le a.result a.new.dst (omega (arith, a.ensures.end)) in
     let pending = sym c.is_pending.ensures.is ∙ c.if-is_pending.true in
-    call_full_end _ _ _ _ _ _ _ under c.is_pending.ensures.serves (first_nil _ (sym c.peek.ensures ∙ c.in_default.is)) c.if-last.true pending (omega arith)
+    call_full_end _ _ _ _ _ _ _ under c.is_pending.ensures.serves (none_left _ (sym c.in_default.is ∙ c.peek.ensures)) c.if-last.true pending (omega arith)
 
 pub returns-else-dst-written-lt3-clause-call : goal.returns-else-dst-written-lt3-clause-call
 returns-else-dst-written-lt3-clause-call g c =
     let a = c.read_ahead-written in
     let under = (rw c.loop-c.auto.dst at a.ensures.keeps).keeps _ _ _ c.loop-c.invariant.0 in
-    let n = front_length a.result a.new.dst (omega (arith, a.ensures.end)) in
+    let n = length-take-le a.result a.new.dst (omega (arith, a.ensures.end)) in
     let pending = sym c.is_pending.ensures.is ∙ c.if-is_pending.true in
     rw c.put_move-written-then-last.ensures.bytes
-    (call_finish _ _ _ _ _ _ _ under c.is_pending.ensures.serves (first_nil _ (sym c.peek.ensures ∙ c.in_default.is)) c.if-last.true pending _
+    (call_finish _ _ _ _ _ _ _ under c.is_pending.ensures.serves (none_left _ (sym c.in_default.is ∙ c.peek.ensures)) c.if-last.true pending _
     (c.finish.ensures pending) (omega arith))

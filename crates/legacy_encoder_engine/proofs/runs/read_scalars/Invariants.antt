@@ -1,6 +1,5 @@
 use Rattle.std.proofs.Common.{◌-◌, length}
-use Rattle.legacy_encoder_engine.specs.Near.{IsNear}
-use Rattle.legacy_encoder_engine.specs.UnderWay.{EncodesBy}
+use Rattle.legacy_encoder_engine.specs.{Near.IsNear, UnderWay.EncodesBy}
 use Rattle.legacy_encoder_engine.proofs.runs.read_scalars.Given as goal
 
 -- the codes of the scalars read are written
